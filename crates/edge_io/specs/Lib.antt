@@ -1,0 +1,4 @@
+pub mod Fails
+pub mod Faults
+pub mod Memory
+pub mod Text

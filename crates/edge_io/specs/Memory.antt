@@ -1,0 +1,13 @@
+-- What contracts see of the source and the sink in memory.
+use Rattle.std.specs.Prelude.{ℕ, List}
+use Rattle.edge_io.specs.Fails.{Calls}
+
+-- a source: the bytes that are left, and its reads
+pub record SourceState : Type 0 where
+  pub left : List ℕ
+  pub reads : Calls
+
+-- a sink: the bytes that it holds, and its writes
+pub record SinkState : Type 0 where
+  pub held : List ℕ
+  pub writes : Calls

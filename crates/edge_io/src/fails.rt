@@ -1,0 +1,53 @@
+ghost use Rattle.std.specs.Prelude.{◌≡◌, ◌<◌, ◌≤◌, ◌+◌, ◌↔◌, IfOk, IsTrue};
+ghost use Rattle.edge_io.specs.Fails.{Calls, FailsNext, CountsCall, IsFresh};
+
+use std::alloc::{AllocError, Global};
+use std::marker::Model;
+
+// Counts the calls of an object in memory, and tells which of them fail. Both counts end at 2^64 - 1:
+// calls from there on don't fail.
+#[derive(Drop)]
+pub(crate) struct Fails {
+    numbers: Vec<u64>,
+    made: u64,
+    faults: u64,
+}
+
+impl Model for Fails {
+    ghost Value = { Calls };
+
+    ghost view = { λ f. record { numbers = f.numbers.items; made = f.made; faults = f.faults } };
+
+    ghost invariant = { λ f. f.faults ≤ f.made };
+}
+
+impl Fails {
+    // The numbers, from 1, are those of the calls that fail. AllocError where they can't be kept.
+    pub(crate) fn new(alloc: Global, numbers: &[u64]) -> Result<Fails, AllocError>
+        ensures { IfOk result (λ f. IsFresh f numbers.now) }
+    {
+        Ok(Fails {
+            numbers: numbers.to_vec(alloc)?,
+            made: 0,
+            faults: 0,
+        })
+    }
+
+    // Counts a call, and says whether it fails.
+    pub(crate) fn next(&mut self) -> bool
+        ensures fails { IsTrue result ↔ FailsNext self.old }
+        ensures risen { IsTrue result → self.new.faults ≡ self.old.faults + 1 }
+        ensures later { self.old.faults ≤ self.new.faults }
+        ensures counts { CountsCall self.old self.new }
+    {
+        let Some(call) = self.made.checked_add(1) else {
+            return false;
+        };
+        self.made = call;
+        if self.numbers.contains(&call) {
+            self.faults += 1;
+            return true;
+        }
+        false
+    }
+}

@@ -1,0 +1,163 @@
+-- What the stages of a wait say of its task, and what the events of others do to it.
+use Rattle.std.proofs.Common.{refl, sym, ◌∙◌, ap, subst, inl, inr}
+use Rattle.std.specs.Prelude.{ℕ, ◌≡◌, ◌≢◌, ◌⊎◌, Bool, true, false, if◌then◌else◌, is_some, Option, List}
+use Rattle.wait_model.specs.declared.watches.Watch.{Watch}
+use Rattle.wait_model.specs.declared.watches.Watch.TheVariants as watch
+use Rattle.wait_model.specs.declared.watches.Entry.{Entry}
+use Rattle.wait_model.specs.declared.tasks.Task.{Task}
+use Rattle.wait_model.specs.declared.steps.Step.{Step}
+use Rattle.wait_model.specs.declared.steps.Step.TheVariants as step
+use Rattle.wait_model.specs.declared.calls.Call.{Call}
+use Rattle.wait_model.specs.declared.calls.Call.TheVariants as calls
+use Rattle.wait_model.specs.declared.calls.Event.{Event}
+use Rattle.wait_model.specs.declared.calls.Event.TheVariants as event
+use Rattle.wait_model.specs.declared.points.Point.{Point}
+use Rattle.wait_model.specs.declared.points.Point.TheVariants as at
+use Rattle.wait_model.specs.declared.points.PreparePoint.TheVariants as preparing
+use Rattle.wait_model.specs.declared.points.WokenPoint.TheVariants as hearing
+use Rattle.wait_model.specs.declared.points.Progress.{Progress}
+use Rattle.wait_model.specs.declared.points.Progress.TheVariants as now
+use Rattle.wait_model.specs.declared.points.Given.{Given}
+use Rattle.wait_model.specs.Tasks.{meets, woken, raised}
+use Rattle.wait_model.specs.Words.{head_word}
+use Rattle.wait_model.specs.Tables.{next}
+use Rattle.wait_model.specs.Points.{call_watch}
+use Rattle.wait_model.specs.Readings.{FailedLoad}
+use Rattle.wait_model.specs.Runs.{State, after_event}
+use Rattle.wait_model.proofs.Functions.{put_at, put_same, put_other}
+use Rattle.wait_model.proofs.Looks.{looks_same}
+
+-- how far a wait is: outside, in the hold in which it stores its state, before the load, between the load
+-- and the sleep, behind the sleep; and a wait for a flag behind its sleep
+pub data Stage : Type 0 where
+  outside : Stage
+  inside : Stage
+  testing : Stage
+  failed : Stage
+  dozing : Stage
+  napping : Stage
+
+abbrev pub stage : Point → Stage
+stage (at.Prepare preparing.Lock) = dozing
+stage (at.Prepare preparing.State) = inside
+stage (at.Prepare preparing.Unlock) = inside
+stage at.Test = testing
+stage at.Sleep = failed
+stage (at.Woken hearing.Run) = napping
+stage _ = outside
+
+abbrev pub IsAt : Stage → Task → Option Entry → List Step → ℕ → Watch → Type 0
+IsAt outside t o es x c = t.runnable ≡ true
+IsAt inside t o es x c = (t.runnable ≡ true) × (is_some o ≡ true)
+IsAt testing t o es x c = (t.runnable ≡ true) × (t.state ≢ 0 → is_some o ≡ true)
+IsAt failed t o es x c = (t.runnable ≡ true) × (t.state ≢ 0 → is_some o ≡ true) × FailedLoad es x c
+IsAt dozing t o es x c = t.runnable ≡ false → (is_some o ≡ true) × FailedLoad es x c
+IsAt napping t o es x c = Unit {0}
+
+abbrev pub IsStaged : Progress → Task → Option Entry → List Step → ℕ → Type 0
+IsStaged (now.Open call p) t o es x = IsAt (stage p) t o es x (call_watch call)
+IsStaged now.Idle t o es x = IsAt outside t o es x (watch.Plain 0)
+IsStaged now.Fresh t o es x = IsAt outside t o es x (watch.Plain 0)
+
+-- only a wait for a flag stands at such a point
+abbrev pub IsListening : Call → Type 0
+IsListening (calls.Woken st) = Unit {0}
+IsListening _ = ⊥
+
+abbrev pub Fits : Progress → Type 0
+Fits (now.Open call (at.Woken p)) = IsListening call
+Fits _ = Unit {0}
+
+-- a task after an event of another: it stands as before, or it was woken
+abbrev pub IsUp : Task → Type 0
+IsUp t = (t.state ≡ 0) × (t.runnable ≡ true)
+
+abbrev pub IsRoused : Task → Task → Type 0
+IsRoused t u = ((u.state ≡ t.state) × (u.runnable ≡ t.runnable)) ⊎ IsUp u
+
+-- its entry as before, or it is off and the task was woken, outside of its own hold
+abbrev pub IsLeft : Stage → Task → Option Entry → Option Entry → Type 0
+IsLeft g u o p = (p ≡ o) ⊎ (IsUp u × (g ≡ inside → ⊥))
+
+not_down : (u : Task) {A : Type 0} → IsUp u → u.runnable ≡ false → A
+not_down u h d = absurd (let z : u.runnable ≡ true = h.1 in cc)
+
+not_low : (u : Task) {A : Type 0} → IsUp u → u.state ≢ 0 → A
+not_low u h d = absurd (d h.0)
+
+roused_up : (t u : Task) → IsRoused t u → t.runnable ≡ true → u.runnable ≡ true
+roused_up t u (inl s) h = s.1 ∙ h
+roused_up t u (inr s) h = s.1
+
+queued_still : (g : Stage) (t u : Task) (o p : Option Entry) → IsRoused t u → IsLeft g u o p
+    → (t.state ≢ 0 → is_some o ≡ true) → u.state ≢ 0 → is_some p ≡ true
+queued_still g t u o p (inr s) l q d = not_low u s d
+queued_still g t u o p (inl s) (inr l) q d = not_low u l.0 d
+queued_still g t u o p (inl s) (inl l) q d = ap (λ (k : Option Entry). is_some k) l ∙ q (λ z. d (s.0 ∙ z))
+
+pub staged_still : (g : Stage) (t u : Task) (o p : Option Entry) (es : List Step) (x : ℕ) (c : Watch)
+    → IsRoused t u → IsLeft g u o p → IsAt g t o es x c → IsAt g u p es x c
+staged_still outside t u o p es x c r l a = roused_up t u r a
+staged_still inside t u o p es x c r (inl l) a = (
+  roused_up t u r a.0,
+  ap (λ (k : Option Entry). is_some k) l ∙ a.1,
+)
+staged_still inside t u o p es x c r (inr l) a = absurd (l.1 refl)
+staged_still testing t u o p es x c r l a = (roused_up t u r a.0, queued_still testing t u o p r l a.1)
+staged_still failed t u o p es x c r l a = (roused_up t u r a.0, queued_still failed t u o p r l a.1, a.2)
+staged_still dozing t u o p es x c (inr r) l a = λ d. not_down u r d
+staged_still dozing t u o p es x c (inl r) (inr l) a = λ d. not_down u l.0 d
+staged_still dozing t u o p es x c (inl r) (inl l) a = λ d.
+    let b = a (sym r.1 ∙ d) in (ap (λ (k : Option Entry). is_some k) l ∙ b.0, b.1)
+staged_still napping t u o p es x c r l a = tt
+
+-- what an event does to the tasks
+woken_roused : (mask : ℕ) (t : Task) → IsRoused t (woken mask t)
+woken_roused mask t = by (meets mask t.state)
+  where
+    by : (b : Bool) → IsRoused t (if b then record t { state = 0; runnable = true } else t)
+    by true = inr (refl, refl)
+    by false = inl (refl, refl)
+
+same_roused : (t u : Task) → u ≡ t → IsRoused t u
+same_roused t u e = inl (ap (λ (k : Task). k.state) e, ap (λ (k : Task). k.runnable) e)
+
+module _ (s : State) (me : ℕ) (g : Given) where
+  pub others_roused : (e : Event) (t : ℕ) → t ≢ me
+      → IsRoused (s.table.task t) ((after_event s me g e).table.task t)
+  others_roused (event.State v) t ne = same_roused _ _ (put_other s.table.task me _ t ne)
+  others_roused (event.Sleep x) t ne = same_roused _ _ (put_other s.table.task me _ t ne)
+  others_roused (event.Accept x) t ne = same_roused _ _ (put_other s.table.task me _ t ne)
+  others_roused (event.Wake who hit) t ne = put_at (IsRoused (s.table.task t)) s.table.task who _ t
+      (λ q. subst (λ (i : ℕ). IsRoused (s.table.task t) (woken g.mask (s.table.task i))) q
+      (woken_roused g.mask (s.table.task t))) (λ _. inl (refl, refl))
+  others_roused (event.Signal who fatal) t ne = put_at (IsRoused (s.table.task t)) s.table.task who _ t
+      (λ q. subst (λ (i : ℕ). IsRoused (s.table.task t) (raised fatal (s.table.task i))) q
+      (inl (refl, refl)))
+      (λ _. inl (refl, refl))
+  others_roused (event.Lock h) t ne = same_roused _ _ (ap (λ (f : ℕ → Task). f t)
+      (looks_same (next s.table me (step.Lock h g.walk (head_word (s.table.holder h) (s.table.spent h))))
+      s.table.entry me).task)
+  others_roused e t ne = inl (refl, refl)
+
+  -- an event that is no sleep leaves its task runnable
+  abbrev pub IsAwake : Event → Type 0
+  IsAwake (event.Sleep x) = ⊥
+  IsAwake _ = Unit {0}
+
+  pub own_up : (e : Event) → IsAwake e → (s.table.task me).runnable ≡ true
+      → ((after_event s me g e).table.task me).runnable ≡ true
+  own_up (event.Sleep x) a h = absurd a
+  own_up (event.State v) a h = ap (λ (k : Task). k.runnable) (put_same s.table.task me _) ∙ h
+  own_up (event.Accept x) a h = ap (λ (k : Task). k.runnable) (put_same s.table.task me _) ∙ h
+  own_up (event.Wake who hit) a h = put_at (λ (k : Task). k.runnable ≡ true) s.table.task who _ me
+      (λ q. subst (λ (i : ℕ). (woken g.mask (s.table.task i)).runnable ≡ true) q
+      (roused_up (s.table.task me) (woken g.mask (s.table.task me))
+      (woken_roused g.mask (s.table.task me)) h))
+      (λ _. h)
+  own_up (event.Signal who fatal) a h = put_at (λ (k : Task). k.runnable ≡ true) s.table.task who _ me
+      (λ q. subst (λ (i : ℕ). (raised fatal (s.table.task i)).runnable ≡ true) q h) (λ _. h)
+  own_up (event.Lock k) a h = ap (λ (f : ℕ → Task). (f me).runnable)
+      (looks_same (next s.table me (step.Lock k g.walk (head_word (s.table.holder k) (s.table.spent k))))
+      s.table.entry me).task ∙ h
+  own_up e a h = h

@@ -1,0 +1,73 @@
+-- That views tell what the histories do: the law in terms of views says the same as the one in terms of
+-- histories. (To be believed only by who reads the laws in terms of views.)
+use Rattle.std.specs.Prelude.{ℕ, ◌≡◌, Bool, true, false, ◌&&◌, ◌||◌, Option, Some, None, List, [], ◌∷◌, ◌++◌}
+use Rattle.wait_model.specs.declared.watches.Watch.{Watch}
+use Rattle.wait_model.specs.declared.watches.Entry.{Entry}
+use Rattle.wait_model.specs.declared.steps.Step.{Step}
+use Rattle.wait_model.specs.declared.steps.Step.TheVariants as step
+use Rattle.wait_model.specs.declared.calls.Ran.{Ran}
+use Rattle.wait_model.specs.Watches.{head_of}
+use Rattle.wait_model.specs.Words.{entry_of}
+use Rattle.wait_model.specs.Views.{View, Walk, all_passed, all_cleared, concerns, covers}
+use Rattle.wait_model.specs.Fold.{after, view_of, peeks}
+use Rattle.wait_model.specs.Runs.{state_of}
+use Rattle.wait_model.specs.Readings.{FailedLoad}
+use Rattle.wait_model.specs.Histories.{Lacks, is_mark, publishes}
+use Rattle.wait_model.specs.Owed.{Owes}
+use Rattle.wait_model.specs.Coverings.{Covering}
+
+-- the unlock ends the walk that the view is in: the book shows all entries as passed, or the count is used up
+abbrev pub ends_walk : Option Walk → Bool → View → Watch → ℕ → Bool
+ends_walk None spent v c σ = false
+ends_walk (Some w) spent v c σ = (spent || all_passed v w (λ _. false)) && concerns w c σ
+
+-- the step ends a wake of c for tasks of state σ: such an unlock, or the last load of a look that found no
+-- member
+abbrev pub ends : Step → View → Watch → ℕ → Bool
+ends (step.Unlock h spent) v c σ = ends_walk v.walk spent v c σ
+ends (step.Peek x w) v c σ = all_cleared (peeks v.duty.cleared x (entry_of w) c)
+ends _ v c σ = false
+
+-- no wake of c for tasks of state σ ends in these steps of a task that had the view v
+abbrev pub Unended : Watch → ℕ → View → List Step → Type 0
+Unended c σ v [] = Unit {0}
+Unended c σ v (e ∷ es) = (ends e v c σ ≡ false) × Unended c σ (after e v) es
+
+-- the task has published c, and no wake of it for this state has ended since
+pub record Owing (es : List Step) (c : Watch) (σ : ℕ) : Type 0 where
+  pub before : List Step
+  pub publish : Step
+  pub later : List Step
+  pub split : es ≡ before ++ publish ∷ later
+  pub is_publish : publishes publish c ≡ true
+  pub unended : Unended c σ (view_of (before ++ publish ∷ [])) later
+
+-- the view has a failed load exactly where the history has one, and keeps the spent count that the last
+-- lock before it found
+abbrev pub FailedTold : Type 0
+FailedTold = (es : List Step) (x : ℕ) (c : Watch) →
+    ((n : ℕ) → (view_of es).checks.failed x c ≡ Some n → (l : FailedLoad es x c)
+    × (n ≡ (view_of l.before).checks.found (head_of c)))
+    × ((l : FailedLoad es x c)
+    → (view_of es).checks.failed x c ≡ Some ((view_of l.before).checks.found (head_of c)))
+
+-- the view owes a wake exactly where the history does
+abbrev pub OwingTold : Type 0
+OwingTold = (es : List Step) (c : Watch) (σ : ℕ) → ((view_of es).duty.owes c σ ≡ true → Owing es c σ)
+    × (Owing es c σ → (view_of es).duty.owes c σ ≡ true)
+
+-- what is owing by the view is owed by the history, and without bookmarks the other way round too
+abbrev pub OwesTold : Type 0
+OwesTold = (es : List Step) (c : Watch) (σ : ℕ) → (Owing es c σ → Owes es c σ)
+    × (Lacks is_mark es → Owes es c σ → Owing es c σ)
+
+-- where the view covers an entry the history does, and without bookmarks the other way round too
+abbrev pub CoveringTold : Type 0
+CoveringTold = (es : List Step) (x : ℕ) (e : Entry) (σ : ℕ)
+    → (covers (view_of es) x e σ ≡ true → Covering es x e σ)
+    × (Lacks is_mark es → Covering es x e σ → covers (view_of es) x e σ ≡ true)
+
+-- in every state that a run reaches, each task's view is that of its history
+abbrev pub ViewsTold : Type 0
+ViewsTold = (run : List Ran) (a : ℕ) → (state_of run).table.view a
+    ≡ view_of ((state_of run).table.history a)

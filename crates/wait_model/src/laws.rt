@@ -1,0 +1,104 @@
+//! The laws of wait queues, on pure tables.
+
+ghost use Rattle.wait_model.specs.Facts.{StepKeeps, StartKept};
+ghost use Rattle.wait_model.specs.Selections.{RunsAreOrderly};
+ghost use Rattle.wait_model.specs.Openings.{FreshTold};
+ghost use Rattle.wait_model.specs.PlainWakes.{NoRunLosesPlainWake};
+ghost use Rattle.wait_model.specs.Told.{CoveringTold, FailedTold, OwesTold, OwingTold, ViewsTold};
+ghost use Rattle.wait_model.specs.Waiters.{NoRunLosesWaiter};
+ghost use Rattle.wait_model.specs.Worked.{ReplaysRun, WorkedScripts};
+ghost use Rattle.wait_model.specs.WorkedForms.{WorkedForms};
+ghost use Rattle.wait_model.specs.SignalCounts.{SignalsStartRaised, SignalsStayRaised, NoRunInventsSignals};
+ghost use Rattle.wait_model.specs.BitKeepers.{KeepsTold, BitsStartKept, BitsStayKept, EveryRunKeepsBits};
+ghost use Rattle.wait_model.specs.DoneCounts.{CountsStartBalanced, CountsStayBalanced, TakesAreCompleted};
+
+/// Each step that a task may make leads from a table that meets the laws to such a table again.
+pub fn step_keeps()
+    ensures { StepKeeps }
+{}
+
+/// The table in which nothing has been done yet meets the laws.
+pub fn start_kept()
+    ensures { StartKept }
+{}
+
+/// A view tells a failed load exactly where its history has one.
+pub fn failed_told()
+    ensures { FailedTold }
+{}
+
+/// A view owes a wake exactly where its history does.
+pub fn owing_told()
+    ensures { OwingTold }
+{}
+
+/// In every state that a run reaches, each task's view is that of its history.
+pub fn views_told()
+    ensures { ViewsTold }
+{}
+
+/// A view covers an entry only where its history does, and without bookmarks the other way round too.
+pub fn covering_told()
+    ensures { CoveringTold }
+{}
+
+/// No run loses a wakeup for a plain condition, in the words of histories.
+pub fn no_plain_wake_lost()
+    ensures { NoRunLosesPlainWake }
+{}
+
+/// A task is fresh in the state of a run exactly where the run has opened no call of it.
+pub fn fresh_told()
+    ensures { FreshTold }
+{}
+
+/// What the definitions say of three orders of one wait and one wake, event by event, and of four scripts
+/// with other forms of waits. Each such replay is a run.
+pub fn worked_scripts()
+    ensures told { WorkedScripts }
+    ensures forms { WorkedForms }
+    ensures runs { ReplaysRun }
+{}
+
+/// No walk selects more than its count, no wait is interrupted but behind a failed load of its last turn,
+/// and no signal is accepted that was not raised, in any run.
+pub fn runs_are_orderly()
+    ensures { RunsAreOrderly }
+{}
+
+/// What is owing by a view is owed by its history, and without bookmarks the other way round too.
+pub fn owes_told()
+    ensures { OwesTold }
+{}
+
+/// No run loses a waiter: who is asleep in a wait sleeps on its condition, and where that is set it is
+/// covered, or a walk used up its count on others.
+pub fn no_waiter_lost()
+    ensures { NoRunLosesWaiter }
+{}
+
+/// No task takes a signal that nobody raised at it: true at the start, kept by every step, and so true in
+/// every state that a run reaches.
+pub fn no_signal_invented()
+    ensures start { SignalsStartRaised }
+    ensures step { SignalsStayRaised }
+    ensures run { NoRunInventsSignals }
+{}
+
+/// A bit is set exactly where one task keeps it: by an exchange that found it clear, and not cleared by that
+/// task since. True at the start, kept by every step, and so true in every state that a run reaches.
+pub fn bits_are_kept()
+    ensures told { KeepsTold }
+    ensures start { BitsStartKept }
+    ensures step { BitsStayKept }
+    ensures run { EveryRunKeepsBits }
+{}
+
+/// A completion's count is balanced over all histories: raised and granted are lowered, thrown away and what
+/// stands. True at the start and kept by every step whose stores in counts are such as the calls make. Before
+/// any store of the end otherwise than by raising, the takes are at most the completes.
+pub fn counts_are_balanced()
+    ensures start { CountsStartBalanced }
+    ensures step { CountsStayBalanced }
+    ensures takes { TakesAreCompleted }
+{}

@@ -1,0 +1,347 @@
+-- The answers of a step and of a start, by what the code read.
+use Rattle.std.specs.Prelude.{
+  ◌≡◌,
+  ℕ,
+  ◌+◌,
+  ◌*◌,
+  ◌<◌,
+  ◌≤◌,
+  Bool,
+  true,
+  false,
+  ◌==◌,
+  if◌then◌else◌,
+  List,
+  [],
+  ◌∷◌,
+  ◌++◌,
+  slice_get,
+  slice_set,
+  length,
+  not,
+  nat_lt,
+}
+use Rattle.std.specs.declared.option.Option.{Option}
+use Rattle.std.specs.declared.option.Option.TheVariants.{Some, None}
+use Rattle.std.proofs.Common.{refl, arith, ap, sym, ◌∙◌, subst, get_or}
+use Rattle.std.proofs.lemmas.Option.{slice_get_read}
+use Rattle.wait_model.specs.declared.calls.Call.{Call}
+use Rattle.wait_model.specs.declared.calls.Event.{Event}
+use Rattle.wait_model.specs.declared.tasks.Task.{Task}
+use Rattle.wait_model.specs.declared.points.Planned.{Planned}
+use Rattle.wait_model.specs.declared.points.Point.{Point}
+use Rattle.wait_model.specs.declared.points.Point.TheVariants as at
+use Rattle.wait_model.specs.declared.points.WalkPoint.TheVariants as walking
+use Rattle.wait_model.specs.declared.queues.Walking.{Walking}
+use Rattle.wait_model.specs.declared.watches.Entry.{Entry}
+use Rattle.wait_model.specs.declared.points.Progress.{Progress}
+use Rattle.wait_model.specs.declared.points.Progress.TheVariants as now
+use Rattle.wait_model.specs.declared.calls.Ran.{Ran}
+use Rattle.wait_model.specs.declared.calls.Ran.TheVariants as ran
+use Rattle.wait_model.specs.Programs.{program_start}
+use Rattle.wait_model.specs.Points.{cond_of, given_at, IsNamed, IsReachable}
+use Rattle.wait_model.specs.Programs.{IsFitting, IsFittingWalk}
+use Rattle.wait_model.specs.Admission.{is_in_range, is_queued_twice, lacks_entry, IsListed}
+use Rattle.wait_model.proofs.EveryRun.{admits_parts}
+use Rattle.wait_model.specs.Shown.{IsInRange}
+use Rattle.wait_model.specs.Locations.{Shows}
+use Rattle.wait_model.specs.Reached.{IsSoundCall, IsCallSound, IsCounted, Allows, Joins}
+use Rattle.wait_model.specs.Runs.{
+  State,
+  after_event,
+  planned,
+  progress_at,
+  found_by,
+  own,
+  state_of,
+  busy_head,
+  made_in,
+  is_open,
+}
+use Rattle.std.proofs.lemmas.Bool.Decides.{nat_tests}
+use Rattle.wait_core.specs.declared.engine.Stepped.{Stepped}
+use Rattle.wait_core.specs.declared.engine.Stepped.TheVariants as answers
+use Rattle.wait_core.specs.Ended.{answer_of}
+use Rattle.wait_core.specs.Stepped.{stepped, tried, checked, started}
+use Rattle.wait_core.specs.declared.engine.StartFault.TheVariants as faults
+use Rattle.std.specs.declared.result.Result.TheVariants.{Ok, Err}
+use Rattle.wait_core.specs.Core.{IsCore, open_calls}
+use Rattle.wait_core.proofs.Kept.{
+  calls_few,
+  MayOpen,
+  allowed_in_range,
+  open_is,
+  allowed,
+  joins,
+  made_core,
+  opened_core,
+}
+
+-- what is read at a task's place
+pub read_progress : (points : List Progress) (me slot : ℕ) (r : Progress) → length points ≡ 64 → me < 64
+    → slot ≡ me → r ≡ get_or points slot r → slice_get points me ≡ Some r
+read_progress points me slot r l inside same is =
+    slice_get_read points (length points) me r refl (omega arith)
+    (subst (λ (j : ℕ). r ≡ get_or points j r) same is)
+
+-- the answers of a step
+module _ (words : List ℕ) (points : List Progress) (items : List Ran) (count capacity : ℕ)
+    (core : IsCore words points items count capacity) (me : ℕ) (mine : me < 64) (v : List Ran)
+    (view : items ≡ v) where
+  -- the run as callers see it
+  told : (x : Stepped) → x ≡ stepped (state_of items) (made_in items) me ((state_of items).progress me)
+      → x ≡ stepped (state_of v) (made_in v) me ((state_of v).progress me)
+  told x h = subst (λ (w : List Ran). x ≡ stepped (state_of w) (made_in w) me ((state_of w).progress me)) view
+      h
+
+  closed_answer : (x : Progress) → ((call : Call) (p : Point) → x ≡ now.Open call p → ⊥)
+      → stepped (state_of items) (made_in items) me x ≡ answers.NoCall
+  closed_answer now.Fresh h = refl
+  closed_answer now.Idle h = refl
+  closed_answer (now.Open call p) h = absurd (h call p refl)
+
+  pub no_call : (r : Progress) → slice_get points me ≡ Some r
+      → ((call : Call) (p : Point) → r ≡ now.Open call p → ⊥)
+      → answers.NoCall ≡ stepped (state_of v) (made_in v) me ((state_of v).progress me)
+  no_call r is h =
+      let e : Some ((state_of items).progress me) ≡ Some r = sym (core.progress me mine) ∙ is in
+      let s : (state_of items).progress me ≡ r = cc in
+      told answers.NoCall (sym (ap (stepped (state_of items) (made_in items) me) s ∙ closed_answer r h))
+
+  module _ (call : Call) (p : Point) (stands : slice_get points me ≡ Some (now.Open call p)) where
+    S : State
+    S = state_of items
+
+    here : stepped (state_of items) (made_in items) me ((state_of items).progress me) ≡ stepped
+        (state_of items) (made_in items) me (now.Open call p)
+    here = ap (stepped (state_of items) (made_in items) me)
+        (open_is words points items count capacity core me mine call p stands)
+
+    pub asleep : ((state_of items).table.task me).runnable ≡ false
+        → answers.Asleep ≡ stepped (state_of v) (made_in v) me ((state_of v).progress me)
+    asleep r =
+        told answers.Asleep
+        (sym (here
+        ∙ ap (λ b. if b then tried (made_in items) (planned (state_of items) me call p)
+        (busy_head (state_of items) (planned (state_of items) me call p).event) else answers.Asleep) r))
+
+    runs_here : ((state_of items).table.task me).runnable ≡ true
+        → stepped (state_of items) (made_in items) me ((state_of items).progress me) ≡ tried (made_in items)
+        (planned (state_of items) me call p)
+        (busy_head (state_of items) (planned (state_of items) me call p).event)
+    runs_here r = here
+        ∙ ap (λ b. if b then tried (made_in items) (planned (state_of items) me call p)
+        (busy_head (state_of items) (planned (state_of items) me call p).event) else answers.Asleep) r
+
+    pub busy : (head : ℕ) → ((state_of items).table.task me).runnable ≡ true
+        → Some head ≡ busy_head (state_of items) (planned (state_of items) me call p).event
+        → answers.Busy head ≡ stepped (state_of v) (made_in v) me ((state_of v).progress me)
+    busy head r b =
+        told (answers.Busy head)
+        (sym (runs_here r ∙ ap (tried (made_in items) (planned (state_of items) me call p)) (sym b)))
+
+    free_here : ((state_of items).table.task me).runnable ≡ true
+        → None ≡ busy_head (state_of items) (planned (state_of items) me call p).event
+        → stepped (state_of items) (made_in items) me ((state_of items).progress me) ≡ tried (made_in items)
+        (planned (state_of items) me call p) None
+    free_here r b = runs_here r ∙ ap (tried (made_in items) (planned (state_of items) me call p)) (sym b)
+
+    pub full : ((state_of items).table.task me).runnable ≡ true
+        → None ≡ busy_head (state_of items) (planned (state_of items) me call p).event → count ≡ 1000000
+        → answers.Full ≡ stepped (state_of v) (made_in v) me ((state_of v).progress me)
+    full r b n =
+        let m : count ≡ made_in items = core.made in
+        let t : (made_in items == 1000000) ≡ true = grind (arith, nat_tests) in
+        told answers.Full
+        (sym (free_here r b
+        ∙ ap (λ b. if b then answers.Full else answers.Made (planned (state_of items) me call p).event
+        (answer_of (planned (state_of items) me call p).next)) t))
+
+    pub made : ((state_of items).table.task me).runnable ≡ true
+        → None ≡ busy_head (state_of items) (planned (state_of items) me call p).event → (count ≡ 1000000 → ⊥)
+        → answers.Made (planned (state_of items) me call p).event
+        (answer_of (planned (state_of items) me call p).next) ≡ stepped (state_of v) (made_in v) me
+        ((state_of v).progress me)
+    made r b n =
+        let m : count ≡ made_in items = core.made in
+        let ne : (made_in items ≡ 1000000) → ⊥ = λ k. n (m ∙ k) in
+        let t : (made_in items == 1000000) ≡ false = grind (arith, nat_tests) in
+        told (answers.Made (planned (state_of items) me call p).event
+        (answer_of (planned (state_of items) me call p).next))
+        (sym (free_here r b
+        ∙ ap (λ b. if b then answers.Full else answers.Made (planned (state_of items) me call p).event
+        (answer_of (planned (state_of items) me call p).next)) t))
+
+-- small steps between what the code read and what the state has
+pub opened_at : (words : List ℕ) (points : List Progress) (items : List Ran) (count capacity : ℕ)
+    → IsCore words points items count capacity → (me slot : ℕ) (r : Progress) (call : Call) (p : Point)
+    → me < 64 → slot ≡ me → r ≡ get_or points slot r → r ≡ now.Open call p
+    → slice_get points me ≡ Some (now.Open call p)
+opened_at words points items count capacity core me slot r call p mine same read is =
+    read_progress points me slot r core.tasks mine same read ∙ ap (λ (x : Progress). Some x) is
+
+pub shown_in : (now' words : List ℕ) (s : State) → now' ≡ words → Shows words s.table → Shows now' s.table
+shown_in now' words s e h = subst (λ (w : List ℕ). Shows w s.table) (sym e) h
+
+pub stopped : (t u : Task) → t ≡ u → not t.runnable ≡ true → u.runnable ≡ false
+stopped t u e h = subst (λ (x : Task). x.runnable ≡ false) e (turned t.runnable h)
+  where
+    turned : (b : Bool) → not b ≡ true → b ≡ false
+    turned true h = cc
+    turned false h = refl
+
+pub running : (t u : Task) → t ≡ u → not t.runnable ≡ false → u.runnable ≡ true
+running t u e h = subst (λ (x : Task). x.runnable ≡ true) e (turned t.runnable h)
+  where
+    turned : (b : Bool) → not b ≡ false → b ≡ true
+    turned true h = refl
+    turned false h = cc
+
+-- what a sound call says of its point's numbers
+pub call_limit : (n : ℕ) (call : Call) (p : Point) → IsSoundCall n (now.Open call p) → cond_of call < 64
+call_limit n call p k = k.cond
+
+pub call_reaches : (n : ℕ) (call : Call) (p : Point) → IsSoundCall n (now.Open call p) → IsReachable call p
+call_reaches n call p k = (k.who, named p k)
+  where
+    named : (p : Point) → IsCallSound n call p → IsNamed p
+    named (at.Walk (walking.Wake w c)) k = k.walk.1
+    named p k = tt
+
+counted_fits : (n : ℕ) (w : Walking) → n ≤ 1000000 → IsCounted n w → IsFittingWalk w
+counted_fits n w few k = record {
+  woken = (let l : w.woken ≤ n = k.woken in omega arith);
+  selected = (let l : w.woken ≤ n = k.woken in let m : w.selected ≤ w.woken = k.selected in omega arith);
+}
+
+pub call_fits : (n : ℕ) (call : Call) (p : Point) → n ≤ 1000000 → IsSoundCall n (now.Open call p) → IsFitting p
+call_fits n call (at.Walk (walking.Call w)) few k = counted_fits n w few k.walk
+call_fits n call (at.Walk (walking.Wake w c)) few k = (counted_fits n w few k.walk.0, k.walk.2)
+call_fits n call p few k = tt
+
+pub plan_in_range : (words : List ℕ) (points : List Progress) (items : List Ran) (count capacity : ℕ)
+    (core : IsCore words points items count capacity) (me : ℕ) (mine : me < 64) (call : Call) (p : Point)
+    (stands : slice_get points me ≡ Some (now.Open call p))
+    → (plan : Planned) → plan ≡ planned (state_of items) me call p → IsInRange plan.event
+plan_in_range words points items count capacity core me mine call p stands plan is =
+    subst (λ (x : Planned). IsInRange x.event) (sym is)
+    (allowed_in_range (state_of items) me (planned (state_of items) me call p).event
+    (allowed words points items count capacity core me mine call p stands))
+
+pub room_left : (words : List ℕ) (points : List Progress) (items : List Ran) (count capacity : ℕ)
+    → IsCore words points items count capacity → length items < capacity
+room_left words points items count capacity core =
+    let r : length items ≤ 2 * count + open_calls points = core.room in
+    let f : open_calls points ≤ length points = calls_few points in
+    let t : length points ≡ 64 = core.tasks in
+    let n : count ≤ 1000000 = core.few in
+    let k : 2000128 ≤ capacity = core.reserved in
+    omega arith
+
+module _ (words : List ℕ) (points : List Progress) (items : List Ran) (count capacity : ℕ)
+    (core : IsCore words points items count capacity) (me : ℕ) (mine : me < 64) (call : Call) (p : Point)
+    (stands : slice_get points me ≡ Some (now.Open call p))
+    (plan : Planned) (is : plan ≡ planned (state_of items) me call p) where
+  pub plan_allowed : Allows (state_of items) me plan.event
+  plan_allowed = subst (λ (x : Planned). Allows (state_of items) me x.event) (sym is)
+      (allowed words points items count capacity core me mine call p stands)
+
+  pub plan_joins : Joins (given_at call p) plan.event
+  plan_joins = subst (λ (x : Planned). Joins (given_at call p) x.event) (sym is)
+      (joins words points items count capacity core me mine call p stands)
+
+  -- the core behind what the code did
+  pub stepped_core : (found : ℕ) → found ≡ found_by (state_of items) me plan.event
+      → ((state_of items).table.task me).runnable ≡ true → None ≡ busy_head (state_of items) plan.event
+      → (count ≡ 1000000 → ⊥)
+      → (after : List ℕ) → Shows after (after_event (state_of items) me (given_at call p) plan.event).table
+      → (x : Progress) → x ≡ progress_at call plan.next → (slot : ℕ) → slot ≡ me
+      → (items' : List Ran) → items' ≡ items ++ ran.Made me plan.event found ∷ [] → (capacity' : ℕ)
+      → capacity ≤ capacity' → IsCore after (slice_set points slot x) items' (count + 1) capacity'
+  stepped_core found was runs free few after shown x goes slot same items' grown capacity' more =
+      let fewer : count < 1000000 = let n : count ≤ 1000000 = core.few in omega arith in
+      let k = made_core words points items count capacity core me mine call p stands found capacity' after x
+      (was ∙ ap (λ (y : Planned). found_by (state_of items) me y.event) is) runs
+      (sym (free ∙ ap (λ (y : Planned). busy_head (state_of items) y.event) is)) fewer more
+      (subst (λ (y : Planned). Shows after (after_event (state_of items) me (given_at call p) y.event).table)
+      is shown) (sym (goes ∙ ap (λ (y : Planned). progress_at call y.next) is)) in
+      let g : items' ≡ items ++ ran.Made me (planned (state_of items) me call p).event found ∷ [] = grown
+      ∙ ap (λ (y : Planned). items ++ ran.Made me y.event found ∷ []) is in
+      rw (same, g) k
+
+pub grown_run : (items v items' : List Ran) (me : ℕ) (e : Event) (found : ℕ) → items ≡ v
+    → found ≡ found_by (state_of items) me e → items' ≡ items ++ ran.Made me e found ∷ [] → items' ≡ v
+    ++ ran.Made me e (found_by (state_of v) me e) ∷ []
+grown_run items v items' me e found view was grown =
+    grown ∙ ap (λ n. items ++ ran.Made me e n ∷ []) was
+    ∙ ap (λ (w : List Ran). w ++ ran.Made me e (found_by (state_of w) me e) ∷ []) view
+
+-- an opening that is refused for the own entry, by what the code read
+module _ (words : List ℕ) (points : List Progress) (items : List Ran) (count capacity : ℕ)
+    (core : IsCore words points items count capacity) (me : ℕ) (mine : me < 64) (slot : ℕ) (same : slot ≡ me)
+    (r : Progress) (read : r ≡ get_or points slot r) (t : Bool) (test : t ≡ is_open r) (shut : t ≡ false)
+    (call : Call) (v : List Ran) (view : items ≡ v) (fits : Bool) (fit : fits ≡ is_in_range me call)
+    (fitting : fits ≡ true) (entry : Option Entry) (is : entry ≡ (state_of items).table.entry (own me)) where
+  entry_checked : checked true (is_queued_twice call entry) (lacks_entry call entry) ≡ started (state_of v) me
+      call
+  entry_checked = subst (λ (w : List Ran). checked true (is_queued_twice call entry) (lacks_entry call entry)
+      ≡ started (state_of w) me call) view (sym (rw (within, closed_is, sym fit ∙ fitting, ← is) refl))
+    where
+      within : nat_lt me 64 ≡ true
+      within = grind (arith, nat_tests)
+
+      closed_is : is_open ((state_of items).progress me) ≡ false
+      closed_is =
+          let a : slice_get points me ≡ Some r = read_progress points me slot r core.tasks mine same read in
+          let b : Some ((state_of items).progress me) ≡ Some r = sym (core.progress me mine) ∙ a in
+          let d : (state_of items).progress me ≡ r = cc in
+          ap is_open d ∙ sym test ∙ shut
+
+  pub queued_refused : (twice : Bool) → twice ≡ is_queued_twice call entry → twice ≡ true
+      → Err faults.EntryQueued ≡ started (state_of v) me call
+  queued_refused twice k y =
+      ap (λ b. checked true b (lacks_entry call entry)) (sym y ∙ k) ∙ entry_checked
+
+  pub lacking_refused : (twice lacks : Bool) → twice ≡ is_queued_twice call entry → twice ≡ false
+      → lacks ≡ lacks_entry call entry → lacks ≡ true → Err faults.NoEntry ≡ started (state_of v) me call
+  lacking_refused twice lacks k n l y =
+      ap (λ b. checked true b true) (sym n ∙ k)
+      ∙ ap (λ b. checked true (is_queued_twice call entry) b) (sym y ∙ l) ∙ entry_checked
+
+-- what the code found lets the call be opened
+pub may_open : (s : State) (me : ℕ) (call : Call) (entry : Option Entry) → entry ≡ s.table.entry (own me)
+    → (a b d : Bool) → a ≡ is_in_range me call → a ≡ true → b ≡ is_queued_twice call entry → b ≡ false
+    → d ≡ lacks_entry call entry → d ≡ false → IsListed call → MayOpen s me call
+may_open s me call entry is a b d fits fit twice once lacks has listed = rw (
+  ← is,
+  sym fits ∙ fit,
+  sym twice ∙ once,
+  sym lacks ∙ has,
+  listed,
+) refl
+
+-- an opening, by what the code read
+module _ (words : List ℕ) (points : List Progress) (items : List Ran) (count capacity : ℕ)
+    (core : IsCore words points items count capacity) (me : ℕ) (mine : me < 64) (slot : ℕ) (same : slot ≡ me)
+    (r : Progress) (read : r ≡ get_or points slot r) (t : Bool) (test : t ≡ is_open r) (no : t ≡ false)
+    (call : Call) (may : MayOpen (state_of items) me call) where
+  closed_is : is_open ((state_of items).progress me) ≡ false
+  closed_is =
+      let a : slice_get points me ≡ Some r = read_progress points me slot r core.tasks mine same read in
+      let b : Some ((state_of items).progress me) ≡ Some r = sym (core.progress me mine) ∙ a in
+      let d : (state_of items).progress me ≡ r = cc in
+      ap is_open d ∙ sym test ∙ no
+
+  pub started_core : (p : Point) → p ≡ program_start call → (items' : List Ran) → items' ≡ items
+      ++ ran.Opened me call ∷ [] → (capacity' : ℕ) → capacity ≤ capacity'
+      → IsCore words (slice_set points slot (now.Open call p)) items' count capacity'
+  started_core p begins items' grown capacity' more =
+      rw (same, begins, grown) (opened_core words points items count capacity core me mine call closed_is
+      may capacity' more)
+
+  pub started_ok : (v : List Ran) → items ≡ v → Ok tt ≡ started (state_of v) me call
+  started_ok v view = subst (λ (w : List Ran). Ok tt ≡ started (state_of w) me call) view
+      (sym (rw (within, closed_is, (admits_parts me call _ may).0, (admits_parts me call _ may).1, (admits_parts me call _ may).2) refl))
+    where
+      within : nat_lt me 64 ≡ true
+      within = grind (arith, nat_tests)

@@ -1,0 +1,15 @@
+use Rattle.wait_model.specs.Runs.{state_of}
+use Rattle.wait_core.proofs.Kept.{sound}
+use Rattle.wait_core.proofs.Answered.{shown_in}
+use Rattle.wait_core.proofs.engine.Core.member_from.Goals as goal
+
+pub returns-clause-member : goal.returns-clause-member
+returns-clause-member c =
+    let core = c.self.invariant.core in
+    let s = state_of c.self.inside.run.items in
+    rw (← c.self.view_is) (c.member_at.ensures.member s _ (shown_in _ _ s c.deref.ensures.value core.shown)
+    (sound _ _ _ _ _ core))
+
+pub returns-clause-order : goal.returns-clause-order
+returns-clause-order c =
+    rw (← c.self.view_is) ((sound _ _ _ _ _ c.self.invariant.core).linked.order c.args.head)

@@ -1,0 +1,62 @@
+-- What a step answers, and what it adds to the run.
+use Rattle.std.specs.Prelude.{ℕ, Bool, true, false, ◌==◌, nat_lt, if◌then◌else◌, List, [], ◌∷◌}
+use Rattle.std.specs.declared.option.Option.{Option}
+use Rattle.std.specs.declared.option.Option.TheVariants.{Some, None}
+use Rattle.std.specs.declared.result.Result.{Result}
+use Rattle.std.specs.declared.result.Result.TheVariants.{Ok, Err}
+use Rattle.wait_model.specs.declared.calls.Call.{Call}
+use Rattle.wait_model.specs.declared.points.Planned.{Planned}
+use Rattle.wait_model.specs.declared.points.Progress.{Progress}
+use Rattle.wait_model.specs.declared.points.Progress.TheVariants as now
+use Rattle.wait_model.specs.declared.calls.Ran.{Ran}
+use Rattle.wait_model.specs.declared.calls.Ran.TheVariants as ran
+use Rattle.wait_model.specs.Runs.{State, own, planned, found_by, is_open, busy_head}
+use Rattle.wait_model.specs.Admission.{is_in_range, is_queued_twice, lacks_entry}
+use Rattle.wait_core.specs.Ended.{answer_of}
+use Rattle.wait_core.specs.declared.engine.Stepped.{Stepped}
+use Rattle.wait_core.specs.declared.engine.Stepped.TheVariants as answers
+use Rattle.wait_core.specs.declared.engine.StartFault.{StartFault}
+use Rattle.wait_core.specs.declared.engine.StartFault.TheVariants as faults
+
+-- an event is made unless its lock is held or the run is full
+abbrev pub tried : ℕ → Planned → Option ℕ → Stepped
+tried made p (Some head) = answers.Busy head
+tried made p None = if made == 1000000 then answers.Full else answers.Made p.event (answer_of p.next)
+
+-- the answer of a step of a task that stands at this progress, when so many events were made
+abbrev pub stepped : State → ℕ → ℕ → Progress → Stepped
+stepped s made me now.Fresh = answers.NoCall
+stepped s made me now.Idle = answers.NoCall
+stepped s made me (now.Open call p) =
+    if (s.table.task me).runnable
+    then tried made (planned s me call p) (busy_head s (planned s me call p).event) else answers.Asleep
+
+-- what a step adds to the run
+abbrev pub items_of : State → ℕ → Stepped → List Ran
+items_of s me (answers.Made e ended) = ran.Made me e (found_by s me e) ∷ []
+items_of s me _ = []
+
+-- the first refusal that stands
+abbrev pub checked : Bool → Bool → Bool → Result (Unit {0}) StartFault
+checked fits twice lacks =
+    if fits
+    then (if twice then Err faults.EntryQueued else if lacks then Err faults.NoEntry else Ok tt)
+    else Err faults.NoSuchCond
+
+abbrev pub started : State → ℕ → Call → Result (Unit {0}) StartFault
+started s me call =
+    if nat_lt me 64
+    then (if is_open (s.progress me) then Err faults.CallOpen
+    else checked (is_in_range me call) (is_queued_twice call (s.table.entry (own me)))
+    (lacks_entry call (s.table.entry (own me))))
+    else Err faults.NoSuchTask
+
+abbrev pub opened_by : ℕ → Call → Result (Unit {0}) StartFault → List Ran
+opened_by me call (Ok x) = ran.Opened me call ∷ []
+opened_by me call (Err e) = []
+
+-- whether a call is open, where there ever was one
+abbrev pub call_shown : Progress → Option Bool
+call_shown now.Fresh = None
+call_shown now.Idle = Some false
+call_shown (now.Open call p) = Some true

@@ -1,0 +1,108 @@
+//! How an event changes its word.
+
+ghost use Rattle.std.specs.Prelude.{◌≡◌, ℕ, ◌+◌, ◌*◌, ◌<◌, ◌≤◌, ◌^◌, length, slice_set};
+ghost use Rattle.wait_model.specs.Runs.{State, after_event, found_by, left_of, entry_for};
+ghost use Rattle.wait_model.specs.Queues.{place_for};
+ghost use Rattle.wait_model.specs.Shown.{IsInRange};
+ghost use Rattle.wait_model.specs.Locations.{Shows};
+ghost use Rattle.wait_model.specs.Reached.{IsSound, Allows, Joins};
+ghost use Rattle.wait_model.specs.Words.{entry_word};
+ghost use Rattle.wait_core.specs.Scan.{IsReach};
+
+use crate::reads::{spent_at, task_at};
+use crate::scan::place_at;
+use wait_model::calls::Event;
+use wait_model::points::Given;
+use wait_model::queues::Form;
+use wait_model::tasks::{Task, accepted, raised, slept, woken, word_of};
+use wait_model::watches::Entry;
+use wait_model::words::{entry_word_of, flag_word_of, head_word_of, position, raised_spent};
+
+/// The word of the entry that an add queues.
+fn added_word_at(words: &[u64], reach: u8, given: Given, head: u16, form: Form) -> u64
+    requires count { length words.now ≡ 9873 }
+    requires reach { IsReach words.now reach }
+    ensures { (s : State) (n : ℕ) → Shows words.now s.table → IsSound s n
+        → result ≡ entry_word (Some (entry_for given form (place_for form (s.queue head)))) }
+{
+    entry_word_of(Entry {
+        watch: given.watch,
+        place: place_at(words, reach, head, form),
+        exclusive: form.is_exclusive(),
+        priority: form.is_priority(),
+        kind: given.kind,
+    })
+}
+
+/// A task in another state.
+fn in_state(task: Task, state: u32) -> Task
+    ensures { result ≡ record task { state = state } }
+{
+    Task {
+        state,
+        runnable: task.runnable,
+        signal: task.signal,
+        fatal: task.fatal,
+    }
+}
+
+/// The word that an event leaves.
+#[tactic(auto, using(crate::proofs::Found::plain_word_is, crate::proofs::Found::entry_word_is, crate::proofs::Found::task_word_is, crate::proofs::Found::flag_is))]
+pub fn left_by(words: &[u64], reach: u8, me: u8, given: Given, event: Event) -> u64
+    requires count { length words.now ≡ 9873 }
+    requires reach { IsReach words.now reach }
+    requires me { me < 64 }
+    requires event { IsInRange event }
+    ensures { (s : State) (n : ℕ) → Shows words.now s.table → IsSound s n → Allows s me event
+        → result ≡ left_of s me given event }
+{
+    match event {
+        Event::State { state } => word_of(in_state(task_at(words, me), state)),
+        Event::Sleep { .. } => word_of(slept(task_at(words, me)).0),
+        Event::Wake { who, .. } => word_of(woken(task_at(words, who), given.mask).0),
+        Event::Signal { who, fatal } => word_of(raised(task_at(words, who), fatal)),
+        Event::Accept { .. } => word_of(accepted(task_at(words, me)).0),
+        Event::Look { .. } => words[1 + usize::from(me)],
+        Event::Lock { head } => head_word_of(true, spent_at(words, head)),
+        Event::Unlock { head, spent } => {
+            head_word_of(false, raised_spent(spent, spent_at(words, head)))
+        }
+        Event::Queue { head, form } => added_word_at(words, reach, given, head, form),
+        Event::Unqueue { .. } => 0,
+        Event::Queued { .. } => words[129 + 2 * usize::from(me)],
+        Event::Load { cond, .. } => words[1153 + usize::from(cond)],
+        Event::Set { value, .. } => value,
+        Event::Take { .. } => 0,
+        Event::Woken { .. } => flag_word_of(true),
+        Event::Flag { .. } => words[385 + 2 * usize::from(me)],
+        Event::Unflag => flag_word_of(false),
+    }
+}
+
+/// The word that an event changes.
+#[derive(Clone, Copy)]
+pub struct Change {
+    pub at: usize,
+    pub found: u64,
+    pub left: u64,
+}
+
+/// How an event changes its word.
+pub fn change_by(words: &[u64], reach: u8, me: u8, given: Given, event: Event) -> Change
+    requires count { length words.now ≡ 9873 }
+    requires reach { IsReach words.now reach }
+    requires me { me < 64 }
+    requires event { IsInRange event }
+    ensures at { result.at < 9873 }
+    ensures found { (s : State) → Shows words.now s.table → Allows s me event → result.found ≡ found_by s me event }
+    ensures shown { (s : State) (n : ℕ) → Shows words.now s.table → IsSound s n → Allows s me event
+        → Joins given event
+        → Shows (slice_set words.now result.at result.left) (after_event s me given event).table }
+{
+    let at = position(me, event);
+    Change {
+        at,
+        found: words[at],
+        left: left_by(words, reach, me, given, event),
+    }
+}

@@ -1,0 +1,308 @@
+//! A core: the words of tasks, heads and conditions, the open calls, and the run that led to them.
+
+ghost use Rattle.std.specs.Prelude.{◌≡◌, ◌+◌, ◌<◌, ◌≤◌, ◌++◌, ◌∷◌, ◌^◌, [], IfOk, IfSome, IsTrue, ◌↔◌, length, vec_capacity, nat_lt, ◌*◌, ℕ, slice_index, slice_get};
+ghost use Rattle.wait_model.specs.Locations.{Shows};
+ghost use Rattle.wait_model.specs.Tables.{start};
+ghost use Rattle.wait_model.specs.Runs.{is_open, progress_at};
+ghost use Rattle.wait_model.specs.Admission.{IsListed};
+ghost use Rattle.wait_core.specs.Ended.{answer_of};
+
+use crate::changes::change_by;
+use crate::reads::{entry_at, held_head, plan, task_at};
+use crate::scan::{TASKS, member_at};
+use std::alloc::{AllocError, Global};
+use std::marker::Model;
+use wait_model::admission::{is_in_range, is_queued_twice, lacks_entry};
+use wait_model::calls::{Answer, Call, Event, Ran};
+use wait_model::points::{Next, Progress, given_at};
+use wait_model::programs::start_of;
+use wait_model::queues::Member;
+use wait_model::tasks::Task;
+use wait_model::words::WORDS;
+
+/// How many events a core makes.
+pub const EVENTS: u32 = 1_000_000;
+/// How many items its run has room for.
+pub const ITEMS: usize = 2_000_128;
+
+/// What a step did.
+#[derive(Clone, Copy)]
+pub enum Stepped {
+    Made { event: Event, ended: Option<Answer> },
+    NoCall,
+    Asleep,
+    Busy { head: u16 },
+    Full,
+}
+
+/// Why a call was not opened.
+#[derive(Clone, Copy)]
+pub enum StartFault {
+    NoSuchTask = 1,
+    CallOpen = 2,
+    NoSuchCond = 3,
+    EntryQueued = 5,
+    NoEntry = 6,
+}
+
+/// The words, the open calls and the run.
+#[derive(Drop)]
+pub struct Core {
+    words: Vec<u64>,
+    progress: Vec<Progress>,
+    run: Vec<Ran>,
+    made: u32,
+    /// No task from this number on ever had a call opened, so no scan has to go further.
+    reach: u8,
+}
+
+impl Model for Core {
+    ghost use Rattle.std.specs.Prelude.{List, vec_capacity};
+    ghost use Rattle.wait_model.specs.declared.calls.Ran.{Ran};
+    ghost use Rattle.wait_core.specs.Core.{IsBoundedCore};
+
+    ghost Value = { List Ran };
+
+    ghost view = { λ c. c.run.items };
+
+    ghost invariant = { λ c. IsBoundedCore c.words.items c.progress.items c.run.items c.made (vec_capacity c.run) c.reach };
+}
+
+impl Core {
+    ghost use Rattle.wait_model.specs.Runs.{state_of, made_in};
+    ghost use Rattle.std.specs.Prelude.{IsNone};
+    ghost use Rattle.wait_model.specs.Openings.{IsOpened};
+    ghost use Rattle.wait_model.specs.Laws.{NoLostWake, NoLostFlag};
+    ghost use Rattle.wait_model.specs.Selections.{IsOrderly};
+    ghost use Rattle.wait_model.specs.Queues.{member_from, IsInOrder};
+    ghost use Rattle.wait_model.specs.Locations.{Location, IsLocation, position_of, word_in};
+    ghost use Rattle.wait_model.specs.PlainWakes.{NoLostPlainWake};
+    ghost use Rattle.wait_model.specs.Waiters.{NoWaiterIsLost};
+    ghost use Rattle.wait_core.specs.Stepped.{stepped, items_of, started, opened_by, call_shown};
+
+    /// The run: the calls that were opened and the events that were made.
+    pub fn ran(&self) -> &[Ran]
+        ensures { result.now ≡ self.now }
+    {
+        self.run.as_slice()
+    }
+
+    /// All words as at the start of a Domain, no call open, and an empty run with its room.
+    pub fn new(alloc: Global) -> Result<Core, AllocError>
+        ensures { IfOk result (λ core. core ≡ []) }
+    {
+        let words = first_words(alloc)?;
+        let progress = nobody(alloc, usize::from(TASKS))?;
+        let run = Vec::with_capacity(alloc, ITEMS)?;
+        Ok(Core {
+            words,
+            progress,
+            run,
+            made: 0,
+            reach: 0,
+        })
+    }
+
+    /// Whether a task's call is open; `None` where it never had one, that is, where the run has opened none.
+    pub fn call_of(&self, task: u8) -> Option<bool>
+        requires { task < 64 }
+        ensures call { result ≡ call_shown ((state_of self.now).progress task) }
+        ensures never { IsNone result ↔ (IsOpened task self.now → ⊥) }
+    {
+        match self.progress[usize::from(task)] {
+            Progress::Fresh => None,
+            Progress::Idle => Some(false),
+            Progress::Open { .. } => Some(true),
+        }
+    }
+
+    /// How many events were made, at most 1,000,000.
+    pub fn made(&self) -> u32
+        ensures { result ≡ made_in self.now }
+    {
+        self.made
+    }
+
+    /// A task's record.
+    pub fn task_of(&self, task: u8) -> Task
+        requires { task < 64 }
+        ensures { result ≡ (state_of self.now).table.task task }
+    {
+        task_at(&self.words, task)
+    }
+
+    /// The first member of a head's queue from a place on. The queue stands by rising place, so going on
+    /// behind each member's place meets them all in order.
+    pub fn member_from(&self, head: u16, least: u64) -> Option<Member>
+        ensures member { result ≡ member_from least ((state_of self.now).queue head) }
+        ensures fits { IfSome result (λ m. (m.at < 128) × (least ≤ m.place) × (m.place < 2 ^ 40)) }
+        ensures order { IsInOrder ((state_of self.now).queue head) }
+    {
+        member_at(&self.words, self.reach, head, least)
+    }
+
+    /// The word at a position.
+    pub fn word_at(&self, position: u32) -> u64
+        requires { position < 9873 }
+        ensures { (l : Location) → IsLocation l → position_of l ≡ position → result ≡ word_in (state_of self.now).table l }
+    {
+        self.words[position as usize]
+    }
+
+    /// No wake is lost in the state of any core: whoever sleeps on a set condition is covered by a
+    /// task that owes it, or a walk has used up its count on others since. `plain` says so for plain
+    /// conditions by the tasks' histories alone, and `waiters` that it holds for each task that is asleep
+    /// in a wait.
+    pub fn no_lost_wake(&self)
+        ensures wake { NoLostWake (state_of self.now).table }
+        ensures flag { NoLostFlag (state_of self.now).table }
+        ensures plain { NoLostPlainWake (state_of self.now).table }
+        ensures waiters { NoWaiterIsLost (state_of self.now) }
+    {
+        let _ = &self.run;
+    }
+
+    /// The run of any core is orderly. A walk with a count above 0 has selected at most that count, and its
+    /// answer tells how many. A wait that ends with -512 does so by a load of its condition that found 0,
+    /// in a turn that a signal ended, with its entry off. And each task has accepted, or has pending, at
+    /// most the signals that were raised at it, and the same of fatal ones.
+    pub fn is_orderly(&self)
+        ensures { IsOrderly self.now }
+    {
+        let _ = &self.run;
+    }
+
+    /// Opens a call of a task; it makes no event. Refused by the first of these that stands, and then
+    /// nothing changes: there is no such task; its call has not ended; a number or a condition is out of
+    /// its range; a call that queues finds the own entry queued; `remove` or `woken` finds none, or `woken`
+    /// one of another kind.
+    pub fn start(&mut self, task: u8, call: Call) -> Result<(), StartFault>
+        requires { IsListed call }
+        ensures answer { result ≡ started (state_of self.old) task call }
+        ensures run { self.new ≡ self.old ++ opened_by task call result }
+    {
+        if task >= TASKS {
+            return Err(StartFault::NoSuchTask);
+        }
+        let slot = usize::from(task);
+        if is_open_at(self.progress[slot]) {
+            return Err(StartFault::CallOpen);
+        }
+        if !is_in_range(task, call) {
+            return Err(StartFault::NoSuchCond);
+        }
+        let entry = entry_at(&self.words, task);
+        if is_queued_twice(call, entry) {
+            return Err(StartFault::EntryQueued);
+        }
+        if lacks_entry(call, entry) {
+            return Err(StartFault::NoEntry);
+        }
+        self.progress[slot] = Progress::Open {
+            call,
+            point: start_of(call),
+        };
+        self.reach = self.reach.max(task + 1);
+        log(&mut self.run, Ran::Opened { task, call });
+        Ok(())
+    }
+
+    /// Makes a task's next event.
+    pub fn step(&mut self, task: u8) -> Stepped
+        requires { task < 64 }
+        ensures answer { result ≡ stepped (state_of self.old) (made_in self.old) task ((state_of self.old).progress task) }
+        ensures run { self.new ≡ self.old ++ items_of (state_of self.old) task result }
+    {
+        let slot = usize::from(task);
+        let Progress::Open { call, point } = self.progress[slot] else {
+            return Stepped::NoCall;
+        };
+        if !task_at(&self.words, task).runnable {
+            return Stepped::Asleep;
+        }
+        let planned = plan(&self.words, self.reach, task, call, point);
+        if let Some(head) = held_head(&self.words, planned.event) {
+            return Stepped::Busy { head };
+        }
+        if self.made == EVENTS {
+            return Stepped::Full;
+        }
+        let event = planned.event;
+        let change = change_by(&self.words, self.reach, task, given_at(call, point), event);
+        let found = change.found;
+        self.words[change.at] = change.left;
+        self.progress[slot] = progress_of(call, planned.next);
+        log(&mut self.run, Ran::Made { task, event, found });
+        self.made += 1;
+        Stepped::Made {
+            event,
+            ended: ended(planned.next),
+        }
+    }
+}
+
+/// Where a call stands after an event.
+fn progress_of(call: Call, next: Next) -> Progress
+    ensures { result ≡ progress_at call next }
+{
+    match next {
+        Next::Go(point) => Progress::Open { call, point },
+        Next::Ends(_) => Progress::Idle,
+    }
+}
+
+/// The answer of a call that ended.
+fn ended(next: Next) -> Option<Answer>
+    ensures { result ≡ answer_of next }
+{
+    match next {
+        Next::Go(_) => None,
+        Next::Ends(answer) => Some(answer),
+    }
+}
+
+/// Adds an item to a run with room for it.
+fn log(run: &mut Vec<Ran>, item: Ran)
+    requires { length run.old.items < vec_capacity run.old }
+    ensures items { run.new.items ≡ run.old.items ++ item ∷ [] }
+    ensures capacity { vec_capacity run.old ≤ vec_capacity run.new }
+{
+    let _ = run.push(item);
+}
+
+/// Whether a call is open.
+fn is_open_at(progress: Progress) -> bool
+    ensures { result ≡ is_open progress }
+{
+    match progress {
+        Progress::Fresh | Progress::Idle => false,
+        Progress::Open { .. } => true,
+    }
+}
+
+/// So many words of 0.
+fn zeros(alloc: Global, count: usize) -> Result<Vec<u64>, AllocError>
+    ensures count { IfOk result (λ words. length words.items ≡ count) }
+    ensures zero { IfOk result (λ words. (k : ℕ) → slice_index words.items k ≡ 0) }
+{
+    vec![in alloc; 0; count]
+}
+
+/// So many tasks that never had a call.
+fn nobody(alloc: Global, count: usize) -> Result<Vec<Progress>, AllocError>
+    ensures count { IfOk result (λ points. length points.items ≡ count) }
+    ensures fresh { IfOk result (λ points. (k : ℕ) → k < count → slice_get points.items k ≡ Some Progress.Fresh) }
+{
+    vec![in alloc; Progress::Fresh; count]
+}
+
+/// The words at the start.
+fn first_words(alloc: Global) -> Result<Vec<u64>, AllocError>
+    ensures { IfOk result (λ words. Shows words.items start) }
+{
+    let mut words = zeros(alloc, WORDS)?;
+    for task in 1..129usize {
+        words[task] = 0x1_0000;
+    }
+    Ok(words)
+}

@@ -1,0 +1,53 @@
+-- Lines that were read before others.
+use Rattle.std.proofs.Common.{
+  ◌≡◌,
+  ℕ,
+  ◌+◌,
+  List,
+  [],
+  ◌∷◌,
+  ◌++◌,
+  Result,
+  Ok,
+  Err,
+  refl,
+  ap,
+  sym,
+  ◌∙◌,
+  append_assoc,
+}
+use Rattle.wait_script.specs.declared.line.Line.{Line}
+use Rattle.wait_script.specs.Lines.{line_at}
+use Rattle.wait_script.specs.Script.{parts_of, lines_from, and_lines}
+use Rattle.wait_script.proofs.Parts.{lines_from-step}
+
+abbrev pub carried : List Line → Result (List Line) (ℕ × ℕ) → Result (List Line) (ℕ × ℕ)
+carried front (Ok lines) = Ok (front ++ lines)
+carried front (Err bad) = Err bad
+
+pub carried-more : (front : List Line) (line : Line) (number : ℕ) (more : Result (List Line) (ℕ × ℕ))
+    → carried (front ++ line ∷ []) more ≡ carried front (and_lines number (Ok line) more)
+carried-more front line number (Ok lines) = ap Ok (append_assoc front (line ∷ []) lines)
+carried-more front line number (Err bad) = refl
+
+-- a bad line ends the reading
+pub stops : (bytes rest line more : List ℕ) (front : List Line) (number why : ℕ)
+    → carried front (lines_from number (parts_of rest)) ≡ lines_from 2 (parts_of bytes)
+    → parts_of rest ≡ line ∷ parts_of more → line_at line ≡ Err why
+    → lines_from 2 (parts_of bytes) ≡ Err (number, why)
+stops bytes rest line more front number why same cut bad =
+    sym same ∙ ap (λ p. carried front (lines_from number p)) cut
+    ∙ ap (carried front) (lines_from-step number line more)
+    ∙ ap (λ r. carried front (and_lines number r (lines_from (number + 1) (parts_of more)))) bad
+
+-- a good line goes onto those in front
+pub goes-on : (bytes rest line more : List ℕ) (front : List Line) (number : ℕ) (l : Line)
+    → carried front (lines_from number (parts_of rest)) ≡ lines_from 2 (parts_of bytes)
+    → parts_of rest ≡ line ∷ parts_of more → line_at line ≡ Ok l
+    → carried (front ++ l ∷ []) (lines_from (number + 1) (parts_of more)) ≡ lines_from 2 (parts_of bytes)
+goes-on bytes rest line more front number l same cut good =
+    carried-more front l number (lines_from (number + 1) (parts_of more))
+    ∙ sym (ap (λ p. carried front (lines_from number p)) cut
+    ∙ ap (carried front) (lines_from-step number line more)
+    ∙ ap (λ r. carried front (and_lines number r (lines_from (number + 1) (parts_of more)))) good)
+    ∙ same

@@ -1,0 +1,14 @@
+pub mod Carried
+pub mod Conditions
+pub mod Counts
+pub mod Endings
+pub mod Numbers
+pub mod Parts
+pub mod Read
+pub mod ReadFields
+pub mod ReadForms
+pub mod ReadLines
+pub mod Shown
+pub mod SpelledForms
+pub mod SpelledLines
+pub mod SpelledWords

@@ -1,0 +1,110 @@
+-- Where bytes are cut into lines.
+use Rattle.std.proofs.Common.{
+  ◌≡◌,
+  ℕ,
+  ◌+◌,
+  ◌-◌,
+  ◌<◌,
+  Bool,
+  true,
+  false,
+  cond,
+  not,
+  List,
+  [],
+  ◌∷◌,
+  Some,
+  None,
+  Err,
+  length,
+  take,
+  drop,
+  refl,
+  ap,
+  sym,
+  ◌∙◌,
+  arith,
+  nat_lt,
+  position,
+  Ok,
+}
+use Rattle.std.proofs.lemmas.Bool.Decides.{nat_tests}
+use Rattle.std.proofs.lemmas.Grind.{common_steps}
+use Rattle.std.proofs.lemmas.List.Splits.{slice_split_first, length-slice_split}
+use Rattle.std.specs.List.{onto_first, position_or_len}
+use Rattle.wait_script.specs.declared.line.Line.{Line}
+use Rattle.wait_script.specs.Lines.{header_at, line_at}
+use Rattle.wait_script.specs.Script.{is_end, parts_of, lines_from, and_lines, under, headed, script_of}
+
+chosen : (b : Bool) (m n : ℕ) → cond b (Some m) None ≡ Some n → (b ≡ true) × (m ≡ n)
+chosen true m n e = (refl, cc)
+chosen false m n e = cc
+
+unchosen : (b : Bool) (m : ℕ) → cond b (Some m) None ≡ None → b ≡ false
+unchosen true m e = cc
+unchosen false m e = refl
+
+-- `&xs[n..]`
+take-rest : (xs : List ℕ) (n : ℕ) → take (length xs - n) (drop n xs) ≡ drop n xs
+take-rest xs n = grind (arith, common_steps)
+
+pub parts-at : (bytes : List ℕ) (n : ℕ) → position is_end bytes ≡ Some n
+    → parts_of bytes ≡ take n bytes ∷ parts_of (take (length bytes - (n + 1)) (drop (n + 1) bytes))
+parts-at bytes n e =
+    let at = chosen (nat_lt (position_or_len is_end bytes) (length bytes)) (position_or_len is_end bytes) n e
+    in
+    let lt : position_or_len is_end bytes < length bytes = grind (arith, nat_tests, at.0) in
+    slice_split_first is_end bytes 0 lt ∙ ap (λ k. take k bytes ∷ parts_of (drop (k + 1) bytes)) at.1
+    ∙ ap (λ r. take n bytes ∷ parts_of r) (sym (take-rest bytes (n + 1)))
+
+not_empty : (x : ℕ) (xs : List ℕ) → nat_lt 0 (length (x ∷ xs)) ≡ false → ⊥
+not_empty x xs e = grind (arith, nat_tests)
+
+one : (b : Bool) (x : ℕ) (xs : List ℕ) (parts : List (List ℕ)) (n : ℕ)
+    → nat_lt (cond (not b) (1 + n) 0) (length (x ∷ xs)) ≡ false
+    → (nat_lt n (length xs) ≡ false → parts ≡ xs ∷ [])
+    → cond b ([] ∷ parts) (onto_first x parts) ≡ (x ∷ xs) ∷ []
+one true x xs parts n e h = absurd (not_empty x xs e)
+one false x xs parts n e h = ap (onto_first x) (h (grind (arith, nat_tests)))
+
+whole : (bytes : List ℕ) → nat_lt (position_or_len is_end bytes) (length bytes) ≡ false
+    → parts_of bytes ≡ bytes ∷ []
+whole [] e = refl
+whole (x ∷ xs) e = one (is_end x) x xs (parts_of xs) (position_or_len is_end xs) e (whole xs)
+
+pub parts-none : (bytes : List ℕ) → position is_end bytes ≡ None → parts_of bytes ≡ bytes ∷ []
+parts-none bytes e = whole bytes (unchosen _ (position_or_len is_end bytes) e)
+
+some_parts : (bytes : List ℕ) → 0 < length (parts_of bytes)
+some_parts bytes = omega (arith, length-slice_split is_end bytes)
+
+step : (number : ℕ) (line : List ℕ) (parts : List (List ℕ)) → 0 < length parts
+    → lines_from number (line ∷ parts) ≡ and_lines number (line_at line) (lines_from (number + 1) parts)
+step number line [] some = absurd (omega arith)
+step number line (part ∷ more) some = refl
+
+pub lines_from-step : (number : ℕ) (line rest : List ℕ)
+    → lines_from number (line ∷ parts_of rest) ≡ and_lines number (line_at line)
+    (lines_from (number + 1) (parts_of rest))
+lines_from-step number line rest = step number line (parts_of rest) (some_parts rest)
+
+head_step : (header : List ℕ) (parts : List (List ℕ)) → 0 < length parts
+    → headed (header ∷ parts) ≡ under (header_at header) (lines_from 2 parts)
+head_step header [] some = absurd (omega arith)
+head_step header (part ∷ more) some = refl
+
+-- what stands behind line 1, under what line 1 says
+pub behind_header : (bytes header rest : List ℕ) → parts_of bytes ≡ header ∷ parts_of rest
+    → script_of bytes ≡ under (header_at header) (lines_from 2 (parts_of rest))
+behind_header bytes header rest cut = ap headed cut ∙ head_step header (parts_of rest) (some_parts rest)
+
+pub odd_header : (bytes header rest : List ℕ) (why : ℕ) → parts_of bytes ≡ header ∷ parts_of rest
+    → header_at header ≡ Err why → script_of bytes ≡ Err (1, why)
+odd_header bytes header rest why cut e =
+    behind_header bytes header rest cut ∙ ap (λ h. under h (lines_from 2 (parts_of rest))) e
+
+pub good_header : (bytes header rest : List ℕ) (x : Unit {0}) (lines : List Line)
+    → parts_of bytes ≡ header ∷ parts_of rest
+    → header_at header ≡ Ok x → lines_from 2 (parts_of rest) ≡ Ok lines → script_of bytes ≡ Ok lines
+good_header bytes header rest x lines cut e read =
+    behind_header bytes header rest cut ∙ ap (λ h. under h (lines_from 2 (parts_of rest))) e ∙ read

@@ -1,0 +1,116 @@
+-- The forms of the calls: for each name what its words say, or the first why. (To be believed.)
+use Rattle.std.specs.Prelude.{ℕ, List, [], ◌∷◌, Result, Ok, Err, Bool, false, ◌&&◌, if◌then◌else◌, codes}
+use Rattle.std.specs.List.{list_any}
+use Rattle.std.specs.Str.{bytes_eq}
+use Rattle.wait_model.specs.declared.calls.Call.{Call}
+use Rattle.wait_model.specs.declared.calls.Call.TheVariants as call
+use Rattle.wait_script.specs.Words.{both_of, made_of}
+use Rattle.wait_script.specs.Fields.{
+  number_at,
+  value_at,
+  cond_at,
+  how_at,
+  state_at,
+  mode_at,
+  kind_at,
+  form_at,
+  fatal_at,
+  last_task,
+  last_priority_task,
+}
+
+-- so many fields, each in its place
+abbrev pub form0 : Call → List (List ℕ) → Result Call ℕ
+form0 made [] = Ok made
+form0 made words = Err 6
+
+abbrev pub form1 : {A : Type 0} → (List ℕ → Result A ℕ) → (A → Call) → List (List ℕ) → Result Call ℕ
+form1 f make (a ∷ []) = made_of make (f a)
+form1 f make words = Err 6
+
+abbrev pub form2 : {A B : Type 0} → (List ℕ → Result A ℕ) → (List ℕ → Result B ℕ) → (A → B → Call)
+    → List (List ℕ) → Result Call ℕ
+form2 f g make (a ∷ b ∷ []) = made_of (λ x. make x.0 x.1) (both_of (f a) (g b))
+form2 f g make words = Err 6
+
+abbrev pub form3 : {A B C : Type 0} → (List ℕ → Result A ℕ) → (List ℕ → Result B ℕ) → (List ℕ → Result C ℕ)
+    → (A → B → C → Call) → List (List ℕ) → Result Call ℕ
+form3 f g h make (a ∷ b ∷ c ∷ []) = made_of (λ x. make x.0 x.1.0 x.1.1) (both_of (f a) (both_of (g b) (h c)))
+form3 f g h make words = Err 6
+
+abbrev pub wait_at : List (List ℕ) → Result Call ℕ
+wait_at words = form2 (cond_at 47) how_at (λ cond how. call.Wait cond how) words
+
+abbrev pub set_at : List (List ℕ) → Result Call ℕ
+set_at words = form2 (cond_at 63) value_at (λ cond value. call.Set cond value) words
+
+abbrev pub take_at : List (List ℕ) → Result Call ℕ
+take_at words = form1 (cond_at 63) (λ cond. call.Take cond) words
+
+abbrev pub read_at : List (List ℕ) → Result Call ℕ
+read_at words = form1 (cond_at 63) (λ cond. call.Read cond) words
+
+abbrev pub wake_at : List (List ℕ) → Result Call ℕ
+wake_at words = form3 (cond_at 47) mode_at (number_at 0 127) (λ cond mode count. call.Wake cond mode count)
+    words
+
+abbrev pub add_at : List (List ℕ) → Result Call ℕ
+add_at words = form3 (cond_at 47) kind_at form_at (λ cond kind form. call.Add cond kind form) words
+
+abbrev pub remove_at : List (List ℕ) → Result Call ℕ
+remove_at words = form0 call.Remove words
+
+abbrev pub woken_at : List (List ℕ) → Result Call ℕ
+woken_at words = form1 state_at (λ state. call.Woken state) words
+
+abbrev pub signal_at : List (List ℕ) → Result Call ℕ
+signal_at words = form2 (number_at 0 last_task) fatal_at (λ who fatal. call.Signal who fatal) words
+
+abbrev pub accept_at : List (List ℕ) → Result Call ℕ
+accept_at words = form0 call.Accept words
+
+abbrev pub kick_at : List (List ℕ) → Result Call ℕ
+kick_at words = form1 (number_at 0 last_task) (λ who. call.Kick who) words
+
+-- the calls by their names
+abbrev pub calls : List (List ℕ × (List (List ℕ) → Result Call ℕ))
+calls =
+    (codes "wait", wait_at)
+    ∷ (codes "set", set_at)
+    ∷ (codes "take", take_at)
+    ∷ (codes "read", read_at)
+    ∷ (codes "wake", wake_at)
+    ∷ (codes "add", add_at)
+    ∷ (codes "remove", remove_at)
+    ∷ (codes "woken", woken_at)
+    ∷ (codes "signal", signal_at)
+    ∷ (codes "accept", accept_at)
+    ∷ (codes "kick", kick_at)
+    ∷ []
+
+-- the names of the calls that are not built yet
+abbrev pub later : List (List ℕ)
+later =
+    codes "swait" ∷ codes "swake" ∷ codes "complete" ∷ codes "completeall" ∷ codes "reinit" ∷ codes "waitfor"
+    ∷ codes "trywait" ∷ codes "isdone" ∷ codes "trybit" ∷ codes "waitbit" ∷ codes "lockbit" ∷ codes "clearbit"
+    ∷ codes "waitvar" ∷ codes "setvar" ∷ []
+
+abbrev pub is_later : List ℕ → Bool
+is_later name = list_any (bytes_eq name) later
+
+-- a call by a table of names
+abbrev pub call_in : List (List ℕ × (List (List ℕ) → Result Call ℕ)) → List ℕ → List (List ℕ) → Result Call ℕ
+call_in [] name rest = Err 5
+call_in (entry ∷ table) name rest = if bytes_eq name entry.0 then entry.1 rest else call_in table name rest
+
+abbrev pub named_at : List ℕ → List (List ℕ) → Result Call ℕ
+named_at name rest = call_in calls name rest
+
+-- an `add` with `prio` in its place
+abbrev pub is_priority_add : List ℕ → List (List ℕ) → Bool
+is_priority_add name (cond ∷ kind ∷ form ∷ more) = bytes_eq name (codes "add") && bytes_eq form (codes "prio")
+is_priority_add name words = false
+
+-- the last task that may make a call: priority entries belong to the first tasks alone
+abbrev pub last_of : List ℕ → List (List ℕ) → ℕ
+last_of name rest = if is_priority_add name rest then last_priority_task else last_task

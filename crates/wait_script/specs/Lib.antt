@@ -1,0 +1,10 @@
+pub mod Ending
+pub mod Fields
+pub mod Forms
+pub mod Lines
+pub mod Number
+pub mod Replay
+pub mod Script
+pub mod Spelling
+pub mod Text
+pub mod Words

@@ -1,0 +1,124 @@
+//! The end lines of a text.
+
+ghost use Rattle.std.specs.Prelude.{◌≤◌, ◌<◌, IsErrOf};
+ghost use Rattle.edge_io.specs.Faults.{HasRisen};
+ghost use Rattle.edge_io.specs.Text.{WritesText};
+ghost use Rattle.wait_model.specs.Runs.{state_of};
+ghost use Rattle.wait_script.specs.Fields.{last_task};
+ghost use Rattle.wait_script.specs.Ending.{line_of_task, line_of_head, line_of_word, tasks_text, heads_text, words_text, end_text};
+
+use crate::fields::LAST_TASK;
+use crate::summary::{EventsText, HeadText, MemberText, TaskText, WordText};
+use crate::writer::write_shown;
+use edge_io::{Sink, SinkFault};
+use wait_core::engine::Core;
+
+/// How many tasks there are.
+const TASKS: u8 = LAST_TASK + 1;
+/// How many heads there are.
+const HEADS: u16 = 384;
+/// How many condition words there are, and where they stand.
+const CONDS: u16 = 384;
+
+const FIRST_COND: u32 = 1_153;
+
+/// Writes the line of a task that ever had a call opened.
+fn write_task<K: Sink>(out: &mut K, core: &Core, task: u8) -> Result<(), SinkFault>
+    requires { task ≤ last_task }
+    ensures text { WritesText (K.held out.old) (K.held out.new) (line_of_task (state_of core.now) task) result }
+    ensures cause { IsErrOf result SinkFault.Failed → HasRisen (K.faults out.old) (K.faults out.new) }
+    ensures later { K.faults out.old ≤ K.faults out.new }
+{
+    let Some(is_open) = core.call_of(task) else {
+        return Ok(());
+    };
+    let shown = core.task_of(task);
+    write_shown(
+        out,
+        &TaskText {
+            task,
+            is_open,
+            shown,
+        },
+    )
+}
+
+/// Writes the lines of the tasks.
+fn write_tasks<K: Sink>(out: &mut K, core: &Core) -> Result<(), SinkFault>
+    ensures text { WritesText (K.held out.old) (K.held out.new) (tasks_text (state_of core.now)) result }
+    ensures cause { IsErrOf result SinkFault.Failed → HasRisen (K.faults out.old) (K.faults out.new) }
+    ensures later { K.faults out.old ≤ K.faults out.new }
+{
+    for task in 0..TASKS {
+        write_task(out, core, task)?;
+    }
+    Ok(())
+}
+
+/// Writes the line of a head that has members: piece by piece, since it may be long.
+fn write_head<K: Sink>(out: &mut K, core: &Core, head: u16) -> Result<(), SinkFault>
+    ensures text { WritesText (K.held out.old) (K.held out.new) (line_of_head (state_of core.now) head) result }
+    ensures cause { IsErrOf result SinkFault.Failed → HasRisen (K.faults out.old) (K.faults out.new) }
+    ensures later { K.faults out.old ≤ K.faults out.new }
+{
+    let mut next = core.member_from(head, 0);
+    if next.is_none() {
+        return Ok(());
+    }
+    write_shown(out, &HeadText(head))?;
+    'members: while let Some(member) = next {
+        write_shown(out, &MemberText(member.owner()))?;
+        next = core.member_from(head, member.place + 1);
+    }
+    write_shown(out, &"\n")
+}
+
+/// Writes the lines of the heads.
+fn write_heads<K: Sink>(out: &mut K, core: &Core) -> Result<(), SinkFault>
+    ensures text { WritesText (K.held out.old) (K.held out.new) (heads_text (state_of core.now)) result }
+    ensures cause { IsErrOf result SinkFault.Failed → HasRisen (K.faults out.old) (K.faults out.new) }
+    ensures later { K.faults out.old ≤ K.faults out.new }
+{
+    for head in 0..HEADS {
+        write_head(out, core, head)?;
+    }
+    Ok(())
+}
+
+/// Writes the line of a condition word that is not 0.
+#[tactic(auto, using(crate::proofs::Endings::word_value))]
+fn write_word<K: Sink>(out: &mut K, core: &Core, cond: u16) -> Result<(), SinkFault>
+    requires { cond < 384 }
+    ensures text { WritesText (K.held out.old) (K.held out.new) (line_of_word (state_of core.now) cond) result }
+    ensures cause { IsErrOf result SinkFault.Failed → HasRisen (K.faults out.old) (K.faults out.new) }
+    ensures later { K.faults out.old ≤ K.faults out.new }
+{
+    let value = core.word_at(FIRST_COND + u32::from(cond));
+    write_shown(out, &WordText { cond, value })
+}
+
+/// Writes the lines of the condition words.
+fn write_words<K: Sink>(out: &mut K, core: &Core) -> Result<(), SinkFault>
+    ensures text { WritesText (K.held out.old) (K.held out.new) (words_text (state_of core.now)) result }
+    ensures cause { IsErrOf result SinkFault.Failed → HasRisen (K.faults out.old) (K.faults out.new) }
+    ensures later { K.faults out.old ≤ K.faults out.new }
+{
+    for cond in 0..CONDS {
+        write_word(out, core, cond)?;
+    }
+    Ok(())
+}
+
+/// Writes the end lines: the number of events, each task that ever had a call opened, each head that has
+/// members, and each condition word that is not 0, each kind by rising number.
+pub fn write_end<K: Sink>(out: &mut K, core: &Core) -> Result<(), SinkFault>
+    ensures text { WritesText (K.held out.old) (K.held out.new) (end_text core.now) result }
+    ensures cause { IsErrOf result SinkFault.Failed → HasRisen (K.faults out.old) (K.faults out.new) }
+    ensures later { K.faults out.old ≤ K.faults out.new }
+{
+    write_shown(out, &EventsText(core.made()))?;
+    write_tasks(out, core)?;
+    write_heads(out, core)?;
+    write_words(out, core)?;
+    write_shown(out, &"end\n")
+}

@@ -1,0 +1,136 @@
+//! The fields of a line: what a word says in its place, or why it says nothing there.
+
+ghost use Rattle.std.specs.Prelude.{◌≡◌, ◌<◌};
+ghost use Rattle.wait_script.specs.Fields as spec;
+
+use crate::number::number;
+use crate::why::{BAD_CONDITION, BAD_FORM, BAD_NUMBER};
+use wait_model::queues::Form;
+use wait_model::tasks::{How, SleepState};
+use wait_model::watches::{Kind, Mode};
+
+/// The last task of a script; the first is 0.
+pub const LAST_TASK: u8 = 63;
+
+/// The last task that adds an entry with priority.
+pub const LAST_PRIORITY_TASK: u8 = 63;
+
+/// A task, 0 to `most`.
+pub fn task(word: &str, most: u8) -> Result<u8, u8>
+    ensures { result ≡ spec.number_at 0 most word.now }
+{
+    match number(word) {
+        Some(n) if n <= u64::from(most) => Ok(n as u8),
+        _ => Err(BAD_NUMBER),
+    }
+}
+
+/// A number from `low` to `most`.
+pub fn count(word: &str, low: u32, most: u32) -> Result<u32, u8>
+    ensures { result ≡ spec.number_at low most word.now }
+{
+    match number(word) {
+        Some(n) if u64::from(low) <= n && n <= u64::from(most) => Ok(n as u32),
+        _ => Err(BAD_NUMBER),
+    }
+}
+
+/// A value of a condition word: any number of 64 bits.
+pub fn value(word: &str) -> Result<u64, u8>
+    ensures { result ≡ spec.value_at word.now }
+{
+    number(word).ok_or(BAD_NUMBER)
+}
+
+/// A letter and a number from 0 to `most` behind it.
+fn numbered(word: &str, letter: char, most: u8) -> Result<u8, u8>
+    requires { letter < 128 }
+    ensures { result ≡ spec.numbered_at letter most word.now }
+{
+    let Some(digits) = word.strip_prefix(letter) else {
+        return Err(BAD_CONDITION);
+    };
+    match number(digits) {
+        Some(n) if n <= u64::from(most) => Ok(n as u8),
+        _ => Err(BAD_CONDITION),
+    }
+}
+
+/// A plain condition, `c` and a number from 0 to `most`.
+pub fn condition(word: &str, most: u8) -> Result<u8, u8>
+    ensures { result ≡ spec.cond_at most word.now }
+{
+    numbered(word, 'c', most)
+}
+
+/// How a wait sleeps: `plain`, `int`, `kill`, and exclusive as `int-ex`, `kill-ex`.
+pub fn how(word: &str) -> Result<How, u8>
+    ensures { result ≡ spec.how_at word.now }
+{
+    let (state, exclusive) = match word {
+        "plain" => (SleepState::Uninterruptible, false),
+        "int" => (SleepState::Interruptible, false),
+        "kill" => (SleepState::Killable, false),
+        "int-ex" => (SleepState::Interruptible, true),
+        "kill-ex" => (SleepState::Killable, true),
+        _ => return Err(BAD_FORM),
+    };
+    Ok(How { state, exclusive })
+}
+
+/// The state in which a task sleeps: `plain`, `int` or `kill`.
+pub fn state(word: &str) -> Result<SleepState, u8>
+    ensures { result ≡ spec.state_at word.now }
+{
+    match word {
+        "plain" => Ok(SleepState::Uninterruptible),
+        "int" => Ok(SleepState::Interruptible),
+        "kill" => Ok(SleepState::Killable),
+        _ => Err(BAD_FORM),
+    }
+}
+
+/// Which states a wake meets: `normal` or `int`.
+pub fn mode(word: &str) -> Result<Mode, u8>
+    ensures { result ≡ spec.mode_at word.now }
+{
+    match word {
+        "normal" => Ok(Mode::Normal),
+        "int" => Ok(Mode::Interruptible),
+        _ => Err(BAD_FORM),
+    }
+}
+
+/// The kind of an entry that is added: `default` or `woken`.
+pub fn kind(word: &str) -> Result<Kind, u8>
+    ensures { result ≡ spec.kind_at word.now }
+{
+    match word {
+        "default" => Ok(Kind::Default),
+        "woken" => Ok(Kind::Woken),
+        _ => Err(BAD_FORM),
+    }
+}
+
+/// Where an entry is added: `front`, `tail` or `prio`.
+pub fn form(word: &str) -> Result<Form, u8>
+    ensures { result ≡ spec.form_at word.now }
+{
+    match word {
+        "front" => Ok(Form::Front),
+        "tail" => Ok(Form::Tail),
+        "prio" => Ok(Form::Priority),
+        _ => Err(BAD_FORM),
+    }
+}
+
+/// Whether a signal is fatal: `plain` or `fatal`.
+pub fn fatal(word: &str) -> Result<bool, u8>
+    ensures { result ≡ spec.fatal_at word.now }
+{
+    match word {
+        "plain" => Ok(false),
+        "fatal" => Ok(true),
+        _ => Err(BAD_FORM),
+    }
+}

@@ -1,0 +1,194 @@
+//! The forms of the calls: for each name, what the words behind it say.
+
+ghost use Rattle.std.specs.Prelude.{◌≡◌, map};
+ghost use Rattle.wait_script.specs.Forms as spec;
+
+use crate::fields::{
+    LAST_PRIORITY_TASK, LAST_TASK, condition, count, fatal, form, how, kind, mode, state, task,
+    value,
+};
+use crate::why::{UNKNOWN_WORD, WORD_COUNT};
+use crate::words::both;
+use wait_model::calls::Call;
+
+/// The last condition of a full wait queue, and the last of all.
+const LAST_FULL: u8 = 47;
+
+const LAST_COND: u8 = 63;
+/// The most exclusive entries that a wake counts.
+const MOST_WOKEN: u32 = 127;
+
+/// `remove` and `accept`, which have no words behind their names.
+fn alone(words: &[&str], call: Call) -> Result<Call, u8>
+    ensures { result ≡ spec.form0 call (map (λ w. w.now) words.now) }
+{
+    if words.is_empty() {
+        Ok(call)
+    } else {
+        Err(WORD_COUNT)
+    }
+}
+
+/// `wait CONDITION HOW`, by the words behind the name.
+#[tactic(auto, using(crate::proofs::Counts::few2))]
+fn wait(words: &[&str]) -> Result<Call, u8>
+    ensures { result ≡ spec.wait_at (map (λ w. w.now) words.now) }
+{
+    let [cond, form] = words else {
+        return Err(WORD_COUNT);
+    };
+    let (cond, how) = both(condition(cond, LAST_FULL), how(form))?;
+    Ok(Call::Wait { cond, how })
+}
+
+/// `set CONDITION VALUE`, by the words behind the name.
+#[tactic(auto, using(crate::proofs::Counts::few2))]
+fn set(words: &[&str]) -> Result<Call, u8>
+    ensures { result ≡ spec.set_at (map (λ w. w.now) words.now) }
+{
+    let [cond, number] = words else {
+        return Err(WORD_COUNT);
+    };
+    let (cond, value) = both(condition(cond, LAST_COND), value(number))?;
+    Ok(Call::Set { cond, value })
+}
+
+/// `take CONDITION`, by the words behind the name.
+#[tactic(auto, using(crate::proofs::Counts::few1))]
+fn take(words: &[&str]) -> Result<Call, u8>
+    ensures { result ≡ spec.take_at (map (λ w. w.now) words.now) }
+{
+    let [cond] = words else {
+        return Err(WORD_COUNT);
+    };
+    let cond = condition(cond, LAST_COND)?;
+    Ok(Call::Take { cond })
+}
+
+/// `read CONDITION`, by the words behind the name.
+#[tactic(auto, using(crate::proofs::Counts::few1))]
+fn read(words: &[&str]) -> Result<Call, u8>
+    ensures { result ≡ spec.read_at (map (λ w. w.now) words.now) }
+{
+    let [cond] = words else {
+        return Err(WORD_COUNT);
+    };
+    let cond = condition(cond, LAST_COND)?;
+    Ok(Call::Read { cond })
+}
+
+/// `wake CONDITION MODE COUNT`, by the words behind the name.
+#[tactic(auto, using(crate::proofs::Counts::few3))]
+fn wake(words: &[&str]) -> Result<Call, u8>
+    ensures { result ≡ spec.wake_at (map (λ w. w.now) words.now) }
+{
+    let [cond, by, number] = words else {
+        return Err(WORD_COUNT);
+    };
+    let (cond, (mode, count)) = both(
+        condition(cond, LAST_FULL),
+        both(mode(by), count(number, 0, MOST_WOKEN)),
+    )?;
+    Ok(Call::Wake { cond, mode, count })
+}
+
+/// `add CONDITION KIND FORM`, by the words behind the name.
+#[tactic(auto, using(crate::proofs::Counts::few3))]
+fn add(words: &[&str]) -> Result<Call, u8>
+    ensures { result ≡ spec.add_at (map (λ w. w.now) words.now) }
+{
+    let [cond, of, place] = words else {
+        return Err(WORD_COUNT);
+    };
+    let (cond, (kind, form)) = both(condition(cond, LAST_FULL), both(kind(of), form(place)))?;
+    Ok(Call::Add { cond, kind, form })
+}
+
+/// `woken STATE`, by the words behind the name.
+#[tactic(auto, using(crate::proofs::Counts::few1))]
+fn woken(words: &[&str]) -> Result<Call, u8>
+    ensures { result ≡ spec.woken_at (map (λ w. w.now) words.now) }
+{
+    let [word] = words else {
+        return Err(WORD_COUNT);
+    };
+    let state = state(word)?;
+    Ok(Call::Woken { state })
+}
+
+/// `signal TASK FORM`, by the words behind the name.
+#[tactic(auto, using(crate::proofs::Counts::few2))]
+fn signal(words: &[&str]) -> Result<Call, u8>
+    ensures { result ≡ spec.signal_at (map (λ w. w.now) words.now) }
+{
+    let [to, form] = words else {
+        return Err(WORD_COUNT);
+    };
+    let (who, fatal) = both(task(to, LAST_TASK), fatal(form))?;
+    Ok(Call::Signal { who, fatal })
+}
+
+/// `kick TASK`, by the words behind the name.
+#[tactic(auto, using(crate::proofs::Counts::few1))]
+fn kick(words: &[&str]) -> Result<Call, u8>
+    ensures { result ≡ spec.kick_at (map (λ w. w.now) words.now) }
+{
+    let [to] = words else {
+        return Err(WORD_COUNT);
+    };
+    let who = task(to, LAST_TASK)?;
+    Ok(Call::Kick { who })
+}
+
+/// Whether a name is that of a call that is not built yet.
+pub fn is_later(name: &str) -> bool
+    ensures { result ≡ spec.is_later name.now }
+{
+    matches!(
+        name,
+        "swait"
+            | "swake"
+            | "complete"
+            | "completeall"
+            | "reinit"
+            | "waitfor"
+            | "trywait"
+            | "isdone"
+            | "trybit"
+            | "waitbit"
+            | "lockbit"
+            | "clearbit"
+            | "waitvar"
+            | "setvar"
+    )
+}
+
+/// A call by its name and the words behind it.
+pub fn named(name: &str, rest: &[&str]) -> Result<Call, u8>
+    ensures { result ≡ spec.named_at name.now (map (λ w. w.now) rest.now) }
+{
+    match name {
+        "wait" => wait(rest),
+        "set" => set(rest),
+        "take" => take(rest),
+        "read" => read(rest),
+        "wake" => wake(rest),
+        "add" => add(rest),
+        "remove" => alone(rest, Call::Remove),
+        "woken" => woken(rest),
+        "signal" => signal(rest),
+        "accept" => alone(rest, Call::Accept),
+        "kick" => kick(rest),
+        _ => Err(UNKNOWN_WORD),
+    }
+}
+
+/// The last task that may make a call: an `add` with priority is for the first tasks alone.
+pub fn last_of(name: &str, rest: &[&str]) -> u8
+    ensures { result ≡ spec.last_of name.now (map (λ w. w.now) rest.now) }
+{
+    match rest {
+        [_, _, form, ..] if name == "add" && *form == "prio" => LAST_PRIORITY_TASK,
+        _ => LAST_TASK,
+    }
+}

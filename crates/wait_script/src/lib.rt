@@ -1,0 +1,24 @@
+//! Scripts and the texts of their replays: the grammar of scripts, how each event, answer and refusal is spelled, and
+//! the lines at the end.
+#![tactic(auto)]
+
+mod ending;
+mod fields;
+mod forms;
+mod line;
+mod number;
+mod reader;
+mod script;
+mod summary;
+#[cfg(test)]
+mod tests;
+mod text;
+pub mod why;
+mod words;
+mod writer;
+
+pub use ending::write_end;
+pub use line::Line;
+pub use reader::{asked, read_script};
+pub use script::{ReadScript, Script};
+pub use writer::{LINE_ROOM, write_refused, write_shown, write_step};

@@ -1,0 +1,102 @@
+//! Scripts by their bytes.
+
+ghost use Rattle.std.specs.Prelude.{◌≡◌, ◌<◌, ◌≤◌, ◌∷◌, [], length, IfSome, IfNone, position, IfOk, All, List, sum_by};
+ghost use Rattle.wait_script.specs.declared.line.Line.{Line};
+ghost use Rattle.wait_script.specs.Lines.{count_of};
+ghost use Rattle.wait_script.specs.Spelling.{script_text, IsFit};
+ghost use Rattle.wait_script.specs.Script.{is_end, parts_of, lines_from, script_of, AnswersAs, IsReadAs};
+
+use crate::line::{Line, read_header, read_line};
+use crate::script::{ReadScript, Script};
+use crate::why::{CUT_LINE, NO_HEADER};
+use std::alloc::Global;
+
+/// Where the first line ends, if it has an end.
+fn line_end(bytes: &[u8]) -> Option<usize>
+    ensures { result ≡ position is_end bytes.now }
+{
+    bytes.iter().position(|b| *b == b'\n')
+}
+
+/// The first line and what follows its end, if it has an end.
+fn first_line(bytes: &[u8]) -> Option<(&[u8], &[u8])>
+    ensures some { IfSome result (λ p. parts_of bytes.now ≡ p.0.now ∷ parts_of p.1.now) }
+    ensures shorter { IfSome result (λ p. length p.1.now < length bytes.now) }
+    ensures none { IfNone result (parts_of bytes.now ≡ bytes.now ∷ []) }
+{
+    let end = line_end(bytes)?;
+    Some((&bytes[..end], &bytes[end + 1..]))
+}
+
+/// The lines behind the header.
+fn read_lines(alloc: Global, bytes: &[u8]) -> Result<Vec<Line>, ReadScript>
+    requires { length bytes.now ≤ 1048576 }
+    ensures { AnswersAs (λ v. v.items) result (lines_from 2 (parts_of bytes.now)) }
+{
+    let mut lines = Vec::new(alloc);
+    let mut number = 2;
+    let mut rest = bytes;
+    'lines: while let Some((line, more)) = first_line(rest) {
+        match read_line(alloc, line)? {
+            Ok(line) => lines.push(line)?,
+            Err(why) => return Err(ReadScript::Bad { line: number, why }),
+        }
+        rest = more;
+        number += 1;
+    }
+    if !rest.is_empty() {
+        return Err(ReadScript::Bad {
+            line: number,
+            why: CUT_LINE,
+        });
+    }
+    Ok(lines)
+}
+
+/// Reads the header and the lines behind it.
+fn read_headed(alloc: Global, bytes: &[u8]) -> Result<Script, ReadScript>
+    requires { length bytes.now ≤ 1048576 }
+    ensures { AnswersAs (λ s. s) result (script_of bytes.now) }
+{
+    let Some((header, rest)) = first_line(bytes) else {
+        let why = if bytes.is_empty() {
+            NO_HEADER
+        } else {
+            CUT_LINE
+        };
+        return Err(ReadScript::Bad { line: 1, why });
+    };
+    if let Err(why) = read_header(header) {
+        return Err(ReadScript::Bad { line: 1, why });
+    }
+    let lines = read_lines(alloc, rest)?;
+    Ok(Script { lines })
+}
+
+/// Reads a script of at most 1,048,576 bytes, or answers the first bad line and the first reason that stands there,
+/// or that memory ran out. What is read has its numbers in their ranges and is spelled just so; and whatever is
+/// spelled so, with its numbers in their ranges, is read.
+#[tactic(auto, using(crate::proofs::Read::spelled, crate::proofs::Read::fits, crate::proofs::Read::again))]
+pub fn read_script(alloc: Global, bytes: &[u8]) -> Result<Script, ReadScript>
+    requires { length bytes.now ≤ 1048576 }
+    ensures script { AnswersAs (λ s. s) result (script_of bytes.now) }
+    ensures spelled { IfOk result (λ s. bytes.now ≡ script_text s) }
+    ensures fits { IfOk result (λ s. All IsFit s) }
+    ensures read { (lines : List Line) → All IsFit lines → bytes.now ≡ script_text lines → IsReadAs lines result }
+{
+    read_headed(alloc, bytes)
+}
+
+/// How many events a script asks for: the sum of its step counts.
+pub fn asked(script: &Script) -> u128
+    ensures { result ≡ sum_by count_of script.now }
+{
+    let mut total = 0;
+    for line in &script.lines {
+        total += match line {
+            Line::Call { .. } => 0,
+            Line::Step { count, .. } => u128::from(*count),
+        };
+    }
+    total
+}

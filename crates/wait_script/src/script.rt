@@ -1,0 +1,50 @@
+//! Scripts, and why bytes are none.
+
+ghost use Rattle.std.specs.Prelude.{◌≡◌, List};
+ghost use Rattle.wait_script.specs.declared.line.Line.{Line};
+
+use crate::line::Line;
+use std::alloc::{AllocError, AllocFailed, Global};
+use std::marker::Model;
+
+/// A script: the lines behind its header.
+#[derive(Drop)]
+pub struct Script {
+    pub lines: Vec<Line>,
+}
+
+impl Model for Script {
+    ghost Value = { List Line };
+
+    ghost view = { λ s. s.lines.items };
+}
+
+/// Why there is no script.
+#[derive(Clone, Copy, Debug, PartialEq, Eq)]
+pub enum ReadScript {
+    /// The bytes are none: the first bad line, from 1, and the first reason that stands there, by the numbers
+    /// of the module `why`.
+    Bad { line: u32, why: u8 },
+    /// The list of lines, or of a line's words, can't be had.
+    OutOfMemory,
+}
+
+impl From<AllocError> for ReadScript {
+    ghost use Rattle.wait_script.specs.declared.script.ReadScript.TheVariants.{OutOfMemory};
+
+    ghost from_gives = { λ _ e. e ≡ OutOfMemory };
+
+    fn from(_error: AllocError) -> ReadScript {
+        ReadScript::OutOfMemory
+    }
+}
+
+impl<T: Drop> From<AllocFailed<T>> for ReadScript {
+    ghost use Rattle.wait_script.specs.declared.script.ReadScript.TheVariants.{OutOfMemory};
+
+    ghost from_gives = { λ _ e. e ≡ OutOfMemory };
+
+    fn from(_error: AllocFailed<T>) -> ReadScript {
+        ReadScript::OutOfMemory
+    }
+}

@@ -1,0 +1,418 @@
+use crate::{Line, ReadScript, asked, read_script, write_refused, write_step};
+use edge_io::MemSink;
+use std::alloc::Global;
+use std::test::Fail;
+use wait_core::engine::{StartFault, Stepped};
+use wait_model::calls::{Answer, Call, Event};
+use wait_model::queues::{End, Form, Walked};
+use wait_model::tasks::{How, Sleep, SleepState, Taken};
+use wait_model::watches::Mode;
+
+#[test]
+fn the_first_bad_line_and_its_first_reason(rt: HostRuntime) -> Result<(), Fail> {
+    let rows: [(&[u8], u32, u8); 12] = [
+        (b"", 1, 4),
+        (b"\n", 1, 4),
+        (b"waitq 1", 1, 1),
+        (b"waitq 2", 1, 1),
+        (b"waitq 2\nstep 1", 1, 4),
+        (b"waitq 1 \n", 1, 4),
+        (b"waitq\t1\n", 1, 3),
+        (b"waitq 1\nstep 1 1", 2, 1),
+        (b"waitq 1\nhop", 2, 1),
+        (b"waitq 1\nhop\nstep 1 1", 2, 5),
+        (b"waitq 1\nstep 1 1\nhop\n", 3, 5),
+        (b"waitq 1\nstep 1 1\n\nhop\n", 3, 5),
+    ];
+    for (bytes, line, why) in rows {
+        let read = read_script(rt.alloc(), bytes).map(|script| script.lines.len());
+        assert_eq!(rt; read, Err(ReadScript::Bad { line, why }));
+    }
+    Ok(())
+}
+
+/// What reading a header and one line behind it gives: the number of lines, or the first reason.
+fn read_behind_header(alloc: Global, line: &[u8]) -> Result<Result<usize, ReadScript>, Fail> {
+    let mut bytes = Vec::new(alloc);
+    bytes.extend_from_slice(b"waitq 1\n")?;
+    bytes.extend_from_slice(line)?;
+    bytes.push(b'\n')?;
+    if bytes.len() > 1_048_576 {
+        return Ok(Err(ReadScript::OutOfMemory));
+    }
+    Ok(read_script(alloc, &bytes).map(|script| script.lines.len()))
+}
+
+#[test]
+fn a_line_has_at_most_200_bytes(rt: HostRuntime) -> Result<(), Fail> {
+    let mut line = vec![in rt.alloc(); b'x'; 200]?;
+    let read = read_behind_header(rt.alloc(), &line)?;
+    assert_eq!(rt; read, Err(ReadScript::Bad { line: 2, why: 5 }));
+    line.push(7)?;
+    let read = read_behind_header(rt.alloc(), &line)?;
+    assert_eq!(rt; read, Err(ReadScript::Bad { line: 2, why: 2 }));
+    assert_eq!(rt;
+        read_script(rt.alloc(), &line).map(|script| script.lines.len()),
+        Err(ReadScript::Bad { line: 1, why: 1 })
+    );
+    line.push(b'\n')?;
+    assert_eq!(rt;
+        read_script(rt.alloc(), &line).map(|script| script.lines.len()),
+        Err(ReadScript::Bad { line: 1, why: 2 })
+    );
+    Ok(())
+}
+
+/// Bad lines, each behind its first reason and a space.
+const BAD_LINES: &str = "\
+3 step\t1 1\n\
+3 call 1 hop\x7f\n\
+3 \u{e9}\n\
+5 \n\
+5  \n\
+5 hop\n\
+5 Step 1 1\n\
+5  step 1 1\n\
+5 call 1 \n\
+5 call 1 hop c0\n\
+5 call 999 hop\n\
+5 call  1 accept\n\
+5 call 1 waits c0 plain\n\
+5 call 1 lockpage b0 int\n\
+10 call 1 swake c48 one\n\
+10 call 200 swake\n\
+10 call 1 swait\n\
+10 call 1 complete d0\n\
+10 call 1 completeall d0 x\n\
+10 call 1 reinit c99\n\
+10 call 1 waitfor\n\
+10 call 1 trywait\n\
+10 call 1 isdone\n\
+10 call 1 trybit\n\
+10 call 1 waitbit\n\
+10 call 1 lockbit\n\
+10 call 1 clearbit\n\
+10 call 1 waitvar\n\
+10 call 1 setvar v0 1\n\
+6 call\n\
+6 call 200\n\
+6 step\n\
+6 step 200\n\
+6 step  1 1\n\
+6 step 1 1 \n\
+6 step 1 1 1\n\
+6 call 200 wait\n\
+6 call 1 wait c0\n\
+6 call 1 wait c0 plain 1\n\
+6 call 1 wait c99 bad 1\n\
+6 call 1 set c0\n\
+6 call 1 take c0 1\n\
+6 call 1 read\n\
+6 call 1 wake c0 normal\n\
+6 call 1 add c0 woken\n\
+6 call 64 add c0 woken prio 1\n\
+6 call 1 remove \n\
+6 call 1 woken\n\
+6 call 1 signal 2\n\
+6 call 999 accept now\n\
+6 call 1 kick\n\
+7 step 64 1\n\
+7 step 200 1\n\
+7 step 1 0\n\
+7 step 1 1000001\n\
+7 step 01 1\n\
+7 step +1 1\n\
+7 step -1 1\n\
+7 step 1 ten\n\
+7 call 64 accept\n\
+7 call 64 wait c99 bad\n\
+7 call 1 set c0 18446744073709551616\n\
+7 call 1 set c99 00\n\
+7 call 1 wake c0 normal 128\n\
+7 call 1 wake c99 bad 128\n\
+7 call 64 add c99 bad prio\n\
+7 call 1 signal 64 plain\n\
+7 call 1 signal x bad\n\
+7 call 1 kick 64\n\
+8 call 1 wait c0 plain-ex\n\
+8 call 1 wait c99 bad\n\
+8 call 1 wait c0 Plain\n\
+8 call 1 wait c0 normal\n\
+8 call 1 wake c0 kill 0\n\
+8 call 1 add c0 autoremove front\n\
+8 call 1 add c99 default back\n\
+8 call 1 woken int-ex\n\
+8 call 1 signal 2 kill\n\
+9 call 1 wait c50 plain\n\
+9 call 1 wait c48 int\n\
+9 call 1 wait c00 plain\n\
+9 call 1 wait d0 plain\n\
+9 call 1 wait c plain\n\
+9 call 1 wait  plain\n\
+9 call 1 wake c48 normal 0\n\
+9 call 1 add c48 default front\n\
+9 call 63 add c99 woken prio\n\
+9 call 1 set c64 1\n\
+9 call 1 take c64\n\
+9 call 1 read c18446744073709551616";
+
+#[test]
+fn each_line_is_bad_for_its_first_reason(rt: HostRuntime) -> Result<(), Fail> {
+    for row in BAD_LINES.split('\n') {
+        let Some((number, line)) = row.split_once(' ') else {
+            continue;
+        };
+        let why = number.parse()?;
+        let read = read_behind_header(rt.alloc(), line.as_bytes())?;
+        assert_eq!(rt; read, Err(ReadScript::Bad { line: 2, why }), "{line}");
+    }
+    Ok(())
+}
+
+#[test]
+fn a_script_is_its_lines(rt: HostRuntime) -> Result<(), Fail> {
+    let bytes = b"waitq 1\n\
+        call 63 wait c47 kill-ex\n\
+        step 63 1000000\n\
+        call 5 wake c0 int 127\n\
+        step 0 1\n";
+    let script = read_script(rt.alloc(), bytes)?;
+    assert_eq!(rt; asked(&script), 1_000_001);
+    assert_eq!(rt; script.lines.len(), 4);
+    assert!(rt;
+        matches!(
+            script.lines[0],
+            Line::Call {
+                task: 63,
+                call: Call::Wait {
+                    cond: 47,
+                    how: How {
+                        state: SleepState::Killable,
+                        exclusive: true
+                    }
+                }
+            }
+        )
+    );
+    assert!(rt;
+        matches!(
+            script.lines[1],
+            Line::Step {
+                task: 63,
+                count: 1_000_000
+            }
+        )
+    );
+    assert!(rt;
+        matches!(
+            script.lines[2],
+            Line::Call {
+                task: 5,
+                call: Call::Wake {
+                    cond: 0,
+                    mode: Mode::Interruptible,
+                    count: 127
+                }
+            }
+        )
+    );
+    Ok(())
+}
+
+/// A line of each call.
+const CALLS: &str = "\
+call 0 wait c0 plain\n\
+call 0 wait c0 int\n\
+call 0 wait c0 kill\n\
+call 0 wait c0 int-ex\n\
+call 0 set c63 18446744073709551615\n\
+call 0 take c63\n\
+call 0 read c63\n\
+call 0 wake c47 normal 0\n\
+call 63 add c47 default front\n\
+call 63 add c47 woken tail\n\
+call 63 add c47 default prio\n\
+call 0 remove\n\
+call 0 woken plain\n\
+call 0 woken int\n\
+call 0 woken kill\n\
+call 0 signal 63 plain\n\
+call 0 signal 63 fatal\n\
+call 0 accept\n\
+call 0 kick 63";
+
+#[test]
+fn each_call_is_read(rt: HostRuntime) -> Result<(), Fail> {
+    for line in CALLS.split('\n') {
+        let read = read_behind_header(rt.alloc(), line.as_bytes())?;
+        assert_eq!(rt; read, Ok(1), "{line}");
+    }
+    Ok(())
+}
+
+/// An event that ended no call.
+fn made(event: Event) -> Stepped {
+    Stepped::Made { event, ended: None }
+}
+
+/// The longest lines of a step: a load and a walk's answer, each with the greatest numbers.
+fn longest() -> Stepped {
+    Stepped::Made {
+        event: Event::Load {
+            cond: 383,
+            value: u64::MAX,
+        },
+        ended: Some(Answer::Walk(Walked {
+            selected: u32::MAX,
+            woken: u32::MAX,
+            holds: u32::MAX,
+            end: End::Stopped,
+        })),
+    }
+}
+
+#[test]
+fn each_event_and_answer_has_its_text(rt: HostRuntime) -> Result<(), Fail> {
+    let ended = Stepped::Made {
+        event: Event::Queued { yes: false },
+        ended: Some(Answer::Number(-512)),
+    };
+    let rows: [(Stepped, &str); 30] = [
+        (made(Event::State { state: 0 }), "t7 state run\n"),
+        (made(Event::State { state: 1 }), "t7 state int\n"),
+        (made(Event::State { state: 2 }), "t7 state unint\n"),
+        (made(Event::State { state: 0x102 }), "t7 state kill\n"),
+        (
+            made(Event::Sleep {
+                sleep: Sleep::Signal,
+            }),
+            "t7 sleep signal\n",
+        ),
+        (
+            made(Event::Wake { who: 63, yes: true }),
+            "t7 wake t63 yes\n",
+        ),
+        (made(Event::Lock { head: 0 }), "t7 lock h0\n"),
+        (
+            made(Event::Unlock {
+                head: 303,
+                spent: true,
+            }),
+            "t7 unlock h303 spent\n",
+        ),
+        (
+            made(Event::Unlock {
+                head: 303,
+                spent: false,
+            }),
+            "t7 unlock h303\n",
+        ),
+        (
+            made(Event::Queue {
+                head: 256,
+                form: Form::Tail,
+            }),
+            "t7 queue h256 tail\n",
+        ),
+        (
+            made(Event::Queue {
+                head: 256,
+                form: Form::Priority,
+            }),
+            "t7 queue h256 prio\n",
+        ),
+        (
+            made(Event::Load {
+                cond: 127,
+                value: 3,
+            }),
+            "t7 load d63 3\n",
+        ),
+        (
+            made(Event::Set {
+                cond: 255,
+                value: 0,
+            }),
+            "t7 set b127 0\n",
+        ),
+        (
+            made(Event::Signal {
+                who: 63,
+                fatal: false,
+            }),
+            "t7 signal t63 plain\n",
+        ),
+        (
+            made(Event::Signal {
+                who: 0,
+                fatal: true,
+            }),
+            "t7 signal t0 fatal\n",
+        ),
+        (
+            made(Event::Accept {
+                taken: Taken::Nothing,
+            }),
+            "t7 accept none\n",
+        ),
+        (
+            made(Event::Accept {
+                taken: Taken::Plain,
+            }),
+            "t7 accept plain\n",
+        ),
+        (
+            made(Event::Accept {
+                taken: Taken::Fatal,
+            }),
+            "t7 accept fatal\n",
+        ),
+        (made(Event::Look { yes: true }), "t7 look yes\n"),
+        (made(Event::Look { yes: false }), "t7 look no\n"),
+        (
+            made(Event::Take {
+                cond: 63,
+                found: u64::MAX,
+            }),
+            "t7 take c63 18446744073709551615\n",
+        ),
+        (made(Event::Woken { who: 63 }), "t7 woken t63\n"),
+        (made(Event::Flag { yes: true }), "t7 flag yes\n"),
+        (made(Event::Flag { yes: false }), "t7 flag no\n"),
+        (made(Event::Unflag), "t7 unflag\n"),
+        (ended, "t7 queued no\nt7 = -512\n"),
+        (
+            longest(),
+            "t7 load v127 18446744073709551615\n\
+            t7 = woken 4294967295 selected 4294967295 holds 4294967295 stopped\n",
+        ),
+        (Stepped::Asleep, "t7 asleep\n"),
+        (Stepped::Busy { head: 256 }, "t7 busy h256\n"),
+        (Stepped::Full, ""),
+    ];
+    for (stepped, text) in rows {
+        let mut out = MemSink::new(rt.alloc(), &[])?;
+        assert_eq!(rt; write_step(&mut out, 7, &stepped), Ok(()));
+        assert_eq!(rt; out.bytes(), text.as_bytes());
+    }
+    Ok(())
+}
+
+#[test]
+fn a_refused_call_has_its_number(rt: HostRuntime) -> Result<(), Fail> {
+    let mut out = MemSink::new(rt.alloc(), &[])?;
+    assert_eq!(rt;
+        write_refused(&mut out, 255, StartFault::NoSuchTask),
+        Ok(())
+    );
+    assert_eq!(rt; write_refused(&mut out, 7, StartFault::CallOpen), Ok(()));
+    assert_eq!(rt; write_refused(&mut out, 0, StartFault::NoSuchCond), Ok(()));
+    assert_eq!(rt;
+        write_refused(&mut out, 63, StartFault::EntryQueued),
+        Ok(())
+    );
+    assert_eq!(rt; write_refused(&mut out, 1, StartFault::NoEntry), Ok(()));
+    let text = b"t255 refused 1\nt7 refused 2\nt0 refused 3\nt63 refused 5\nt1 refused 6\n";
+    assert_eq!(rt; out.bytes(), text.as_slice());
+    Ok(())
+}

@@ -1,0 +1,57 @@
+//! Texts on their way to a sink. A whole text is made first, so that of what a fault breaks off a front was written.
+
+ghost use Rattle.std.specs.Prelude.{◌≤◌, IfSome, IfOk, IsErrOf, ◌≡◌};
+ghost use Rattle.edge_io.specs.Faults.{HasRisen};
+ghost use Rattle.edge_io.specs.Text.{WritesText};
+ghost use Rattle.wait_script.specs.Text.{step_text, refused_text};
+
+use crate::text::{RefusedText, StepText};
+use arrayvec::ArrayString;
+use edge_io::{Sink, SinkFault, write_all};
+use std::fmt;
+use std::fmt::{Display, Write};
+use wait_core::engine::{StartFault, Stepped};
+
+/// The most bytes of a text that is written at once: the lines of one step, or one other line.
+pub const LINE_ROOM: usize = 160;
+
+/// What a value shows, of at most `LINE_ROOM` bytes.
+fn text_of<D: Display>(shown: &D) -> Result<ArrayString<LINE_ROOM>, fmt::Error>
+    ensures { IfOk result (λ s. IfSome (D.output shown.now) (λ text. s.bytes ≡ text)) }
+{
+    let mut text = ArrayString::new();
+    write!(text, "{shown}")?;
+    Ok(text)
+}
+
+/// Writes what a value shows. No text of this crate is longer than `LINE_ROOM`, which is what OutOfMemory would
+/// be answered for; all other faults are the sink's.
+pub fn write_shown<K: Sink, D: Display>(out: &mut K, shown: &D) -> Result<(), SinkFault>
+    ensures text { IfSome (D.output shown.now) (λ text. WritesText (K.held out.old) (K.held out.new) text result) }
+    ensures cause { IsErrOf result SinkFault.Failed → HasRisen (K.faults out.old) (K.faults out.new) }
+    ensures later { K.faults out.old ≤ K.faults out.new }
+{
+    let Ok(text) = text_of(shown) else {
+        return Err(SinkFault::OutOfMemory);
+    };
+    write_all(out, text.as_str().as_bytes())
+}
+
+/// Writes the lines of a task's step: its event or why there was none, and the answer of a call that ended.
+/// Nothing is written for a full run.
+pub fn write_step<K: Sink>(out: &mut K, task: u8, stepped: &Stepped) -> Result<(), SinkFault>
+    ensures text { WritesText (K.held out.old) (K.held out.new) (step_text task stepped.now) result }
+    ensures cause { IsErrOf result SinkFault.Failed → HasRisen (K.faults out.old) (K.faults out.new) }
+    ensures later { K.faults out.old ≤ K.faults out.new }
+{
+    write_shown(out, &StepText(task, *stepped))
+}
+
+/// Writes the line of a call that isn't opened.
+pub fn write_refused<K: Sink>(out: &mut K, task: u8, fault: StartFault) -> Result<(), SinkFault>
+    ensures text { WritesText (K.held out.old) (K.held out.new) (refused_text task fault) result }
+    ensures cause { IsErrOf result SinkFault.Failed → HasRisen (K.faults out.old) (K.faults out.new) }
+    ensures later { K.faults out.old ≤ K.faults out.new }
+{
+    write_shown(out, &RefusedText(task, fault))
+}

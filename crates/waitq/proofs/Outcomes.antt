@@ -1,0 +1,132 @@
+-- The verdicts of bytes and of lines.
+use Rattle.std.proofs.Common.{
+  ◌≡◌,
+  ℕ,
+  ◌<◌,
+  ◌≤◌,
+  List,
+  length,
+  Option,
+  Some,
+  None,
+  Result,
+  Ok,
+  Err,
+  true,
+  IfSome,
+  refl,
+  ap,
+  sym,
+  ◌∙◌,
+  subst,
+  arith,
+  sum_by,
+}
+use Rattle.std.proofs.lemmas.Bool.Decides.{nat_tests}
+use Rattle.edge_io.specs.Text.{HoldsPrefix}
+use Rattle.edge_io.specs.declared.sink.SinkFault.{SinkFault}
+use Rattle.edge_io.specs.declared.sink.SinkFault.TheVariants as sink
+use Rattle.wait_script.specs.declared.line.Line.{Line}
+use Rattle.wait_script.specs.Lines.{count_of}
+use Rattle.wait_script.specs.Script.{script_of}
+use Rattle.waitq.specs.Fault.{sink_fault, script_fault, status_of}
+use Rattle.wait_script.specs.Replay.{replay_text}
+use Rattle.waitq.specs.Outcome.{
+  Verdict,
+  TooLong,
+  BadLine,
+  Text,
+  lines_verdict,
+  verdict_of,
+  Refuses,
+  Answers,
+  LeavesUnwritten,
+  IsBad,
+}
+use Rattle.waitq.specs.Run.{is_quiet}
+use Rattle.waitq.specs.declared.fault.Fault.{Fault}
+use Rattle.waitq.specs.declared.fault.Fault.TheVariants as fault
+use Rattle.wait_script.specs.Script as script
+use Rattle.wait_script.specs.declared.script.ReadScript.{ReadScript}
+use Rattle.wait_script.specs.declared.script.ReadScript.TheVariants as read
+use Rattle.edge_io.proofs.Prefix.{nothing}
+
+pub at : (v w : Verdict) (old new : Option (List ℕ)) (r : Result (Unit {0}) Fault) → v ≡ w
+    → Answers w old new r → Answers v old new r
+at v w old new r e h = subst (λ (u : Verdict). Answers u old new r) (sym e) h
+
+pub too_many : (lines : List Line) → 1000000 < sum_by count_of lines → lines_verdict (Ok lines) ≡ TooLong
+too_many lines h = grind (arith, nat_tests)
+
+pub few : (lines : List Line) → sum_by count_of lines ≤ 1000000
+    → lines_verdict (Ok lines) ≡ Text (replay_text lines)
+few lines h = grind (arith, nat_tests)
+
+pub too_long : (bytes : List ℕ) → 1048576 < length bytes → verdict_of bytes ≡ TooLong
+too_long bytes h = grind (arith, nat_tests)
+
+pub short : (bytes : List ℕ) → length bytes ≤ 1048576 → verdict_of bytes ≡ lines_verdict (script_of bytes)
+short bytes h = grind (arith, nat_tests)
+
+pub broken : (old new : Option (List ℕ)) (text : List ℕ) (e : SinkFault) → HoldsPrefix old new text
+    → Refuses (Text text) old new (sink_fault e)
+broken old new text sink.Failed p = p
+broken old new text sink.OutOfMemory p = p
+
+-- want of memory before anything was written
+pub quiet : (v : Verdict) (old : Option (List ℕ)) → Refuses v old old fault.Memory
+quiet TooLong old = refl
+quiet (BadLine line why) old = refl
+quiet (Text text) old = nothing old text
+
+pub refused : (bytes : List ℕ) (old : Option (List ℕ)) (e : ReadScript) → length bytes ≤ 1048576
+    → script.Refuses e (script_of bytes) → Refuses (verdict_of bytes) old old (script_fault e)
+refused bytes old (read.Bad line why) le h =
+    let e : verdict_of bytes ≡ BadLine line why = short bytes le ∙ ap lines_verdict h in
+    subst (λ (u : Verdict). Refuses u old old (fault.Script line why)) (sym e) (refl, refl, refl)
+refused bytes old read.OutOfMemory le h = quiet (verdict_of bytes) old
+
+bad : (v : Verdict) (old new : Option (List ℕ)) (f : Fault) → Refuses v old new f → status_of f ≡ 3 → IsBad v
+bad (BadLine line why) old new f h e = tt
+bad TooLong old new fault.Usage h e = absurd (omega arith)
+bad TooLong old new (fault.Script l w) h e = absurd h
+bad TooLong old new fault.Read h e = absurd (omega arith)
+bad TooLong old new fault.Write h e = absurd h
+bad TooLong old new fault.Memory h e = absurd (omega arith)
+bad TooLong old new fault.Long h e = absurd (omega arith)
+bad (Text text) old new fault.Usage h e = absurd (omega arith)
+bad (Text text) old new (fault.Script l w) h e = absurd h
+bad (Text text) old new fault.Read h e = absurd (omega arith)
+bad (Text text) old new fault.Write h e = absurd (omega arith)
+bad (Text text) old new fault.Memory h e = absurd (omega arith)
+bad (Text text) old new fault.Long h e = absurd h
+
+pub script_status : (input old new : Option (List ℕ)) (f : Fault)
+    → IfSome input (λ bytes. Refuses (verdict_of bytes) old new f) → status_of f ≡ 3
+    → IfSome input (λ bytes. IsBad (verdict_of bytes))
+script_status None old new f h e = tt
+script_status (Some bytes) old new f h e = bad (verdict_of bytes) old new f h e
+
+-- nothing was written
+pub untouched : (old : Option (List ℕ)) (f : Fault) → LeavesUnwritten old old (Err f)
+untouched old fault.Usage = refl
+untouched old (fault.Script line why) = refl
+untouched old fault.Read = refl
+untouched old fault.Long = refl
+untouched old fault.Write = tt
+untouched old fault.Memory = tt
+
+-- a sink failed
+pub touched : (old new : Option (List ℕ)) (e : SinkFault) → LeavesUnwritten old new (Err (sink_fault e))
+touched old new sink.Failed = tt
+touched old new sink.OutOfMemory = tt
+
+-- by the status
+pub quiet_status : (old new : Option (List ℕ)) (f : Fault) (status : ℕ) → LeavesUnwritten old new (Err f)
+    → status ≡ status_of f → is_quiet status ≡ true → new ≡ old
+quiet_status old new fault.Usage status h e q = h
+quiet_status old new (fault.Script line why) status h e q = h
+quiet_status old new fault.Read status h e q = h
+quiet_status old new fault.Long status h e q = h
+quiet_status old new fault.Write status h e q = absurd (cc (sym q ∙ ap is_quiet e))
+quiet_status old new fault.Memory status h e q = absurd (cc (sym q ∙ ap is_quiet e))

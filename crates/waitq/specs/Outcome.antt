@@ -1,0 +1,70 @@
+-- What becomes of an input. (To be believed.)
+use Rattle.std.specs.Prelude.{◌≡◌, ℕ, List, length, Option, Result, Ok, Err, nat_lt, if◌then◌else◌, sum_by}
+use Rattle.std.specs.Io.KnownBytes.{append_known}
+use Rattle.edge_io.specs.Text.{HoldsPrefix}
+use Rattle.wait_script.specs.declared.line.Line.{Line}
+use Rattle.wait_script.specs.Lines.{count_of}
+use Rattle.wait_script.specs.Script.{script_of}
+use Rattle.wait_script.specs.Replay.{replay_text}
+use Rattle.waitq.specs.declared.fault.Fault.{Fault}
+use Rattle.waitq.specs.declared.fault.Fault.TheVariants as fault
+
+-- too long, a script with a bad line and its why, or the text of its replay
+pub data Verdict : Type 0 where
+  TooLong : Verdict
+  BadLine : ℕ → ℕ → Verdict
+  Text : List ℕ → Verdict
+
+abbrev pub lines_verdict : Result (List Line) (ℕ × ℕ) → Verdict
+lines_verdict (Ok lines) = if nat_lt 1000000 (sum_by count_of lines) then TooLong
+    else Text (replay_text lines)
+lines_verdict (Err (line, why)) = BadLine line why
+
+abbrev pub verdict_of : List ℕ → Verdict
+verdict_of bytes = if nat_lt 1048576 (length bytes) then TooLong else lines_verdict (script_of bytes)
+
+-- What an answer says of the verdict, and of what a sink held before and holds now.
+abbrev pub Refuses : Verdict → Option (List ℕ) → Option (List ℕ) → Fault → Type 0
+Refuses verdict old new fault.Usage = new ≡ old
+Refuses verdict old new fault.Read = new ≡ old
+Refuses (BadLine line why) old new (fault.Script l w) = (l ≡ line) × (w ≡ why) × (new ≡ old)
+Refuses TooLong old new (fault.Script l w) = ⊥
+Refuses (Text text) old new (fault.Script l w) = ⊥
+Refuses TooLong old new fault.Long = new ≡ old
+Refuses (BadLine line why) old new fault.Long = ⊥
+Refuses (Text text) old new fault.Long = ⊥
+Refuses (Text text) old new fault.Write = HoldsPrefix old new text
+Refuses TooLong old new fault.Write = ⊥
+Refuses (BadLine line why) old new fault.Write = ⊥
+Refuses (Text text) old new fault.Memory = HoldsPrefix old new text
+Refuses TooLong old new fault.Memory = new ≡ old
+Refuses (BadLine line why) old new fault.Memory = new ≡ old
+
+abbrev pub Writes : Verdict → Option (List ℕ) → Option (List ℕ) → Type 0
+Writes (Text text) old new = new ≡ append_known old text
+Writes TooLong old new = ⊥
+Writes (BadLine line why) old new = ⊥
+
+abbrev pub Answers : Verdict → Option (List ℕ) → Option (List ℕ) → Result (Unit {0}) Fault → Type 0
+Answers verdict old new (Ok x) = Writes verdict old new
+Answers verdict old new (Err fault) = Refuses verdict old new fault
+
+-- Where words, a script or an input is refused, or the input can't be read, nothing was written.
+abbrev pub LeavesUnwritten : Option (List ℕ) → Option (List ℕ) → Result (Unit {0}) Fault → Type 0
+LeavesUnwritten old new (Ok x) = Unit {0}
+LeavesUnwritten old new (Err fault.Usage) = new ≡ old
+LeavesUnwritten old new (Err (fault.Script line why)) = new ≡ old
+LeavesUnwritten old new (Err fault.Read) = new ≡ old
+LeavesUnwritten old new (Err fault.Long) = new ≡ old
+LeavesUnwritten old new (Err fault.Write) = Unit {0}
+LeavesUnwritten old new (Err fault.Memory) = Unit {0}
+
+abbrev pub IsBad : Verdict → Type 0
+IsBad (BadLine line why) = Unit {0}
+IsBad TooLong = ⊥
+IsBad (Text text) = ⊥
+
+abbrev pub IsLong : Verdict → Type 0
+IsLong TooLong = Unit {0}
+IsLong (BadLine line why) = ⊥
+IsLong (Text text) = ⊥

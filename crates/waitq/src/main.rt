@@ -1,0 +1,41 @@
+//! The program that replays scripts.
+#![tactic(auto)]
+
+mod fault;
+mod play;
+mod replay;
+#[cfg(test)]
+mod rows;
+mod run;
+mod streams;
+#[cfg(test)]
+mod tests;
+
+use fault::Fault;
+use std::process::ExitCode;
+use std::{env, io};
+use streams::{Reading, Writing};
+use wait_script::write_shown;
+
+/// The words behind the program's name.
+fn words(rt: &HostRuntime) -> io::Result<Vec<String>> {
+    let words = env::args(rt)?.skip(1).collect(rt.alloc())?;
+    Ok(words)
+}
+
+fn main(rt: HostRuntime) -> ExitCode {
+    let alloc = rt.alloc();
+    let mut err = Writing::new(rt.stderr());
+    let words = match words(&rt) {
+        Ok(words) => words,
+        // A word that is no text is in no command.
+        Err(error) if error.kind() == io::ErrorKind::InvalidData => Vec::new(alloc),
+        Err(_) => {
+            let _ = write_shown(&mut err, &Fault::Memory);
+            return ExitCode::from(Fault::Memory.status());
+        }
+    };
+    let mut input = Reading::new(rt.stdin());
+    let mut out = Writing::new(rt.stdout());
+    ExitCode::from(run::run(alloc, &words, &mut input, &mut out, &mut err))
+}

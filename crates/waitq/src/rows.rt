@@ -1,0 +1,529 @@
+//! Scripts and what replaying them gives. The texts were written by hand from the rules, not by this program.
+
+/// A script and what replaying it gives.
+#[derive(Clone, Copy)]
+pub struct Row {
+    pub name: &'static str,
+    pub script: &'static str,
+    pub status: u8,
+    pub text: &'static str,
+    pub line: &'static str,
+}
+
+pub const WAIT_SET_WAKE: Row = Row {
+    name: "wait_set_wake",
+    script: "\
+waitq 1\n\
+call 1 wait c0 plain\n\
+step 1 99\n\
+call 2 set c0 1\n\
+step 2 1\n\
+call 2 wake c0 normal 0\n\
+step 2 99\n\
+step 1 99\n",
+    status: 0,
+    text: "\
+t1 load c0 0\n\
+t1 lock h256\n\
+t1 queue h256 front\n\
+t1 state unint\n\
+t1 unlock h256\n\
+t1 load c0 0\n\
+t1 sleep asleep\n\
+t2 set c0 1\n\
+t2 = 0\n\
+t2 lock h256\n\
+t2 wake t1 yes\n\
+t2 unqueue t1\n\
+t2 unlock h256\n\
+t2 = woken 1 selected 0 holds 1 end\n\
+t1 lock h256\n\
+t1 queue h256 front\n\
+t1 state unint\n\
+t1 unlock h256\n\
+t1 load c0 1\n\
+t1 state run\n\
+t1 queued yes\n\
+t1 lock h256\n\
+t1 unqueue t1\n\
+t1 unlock h256\n\
+t1 = 0\n\
+events 22\n\
+task 1 run none idle\n\
+task 2 run none idle\n\
+word c0 1\n\
+end\n",
+    line: "",
+};
+
+pub const WAKE_BEFORE_LOAD: Row = Row {
+    name: "wake_before_load",
+    script: "\
+waitq 1\n\
+call 1 wait c0 plain\n\
+step 1 5\n\
+call 2 set c0 1\n\
+step 2 1\n\
+call 2 wake c0 normal 0\n\
+step 2 99\n\
+step 1 99\n",
+    status: 0,
+    text: "\
+t1 load c0 0\n\
+t1 lock h256\n\
+t1 queue h256 front\n\
+t1 state unint\n\
+t1 unlock h256\n\
+t2 set c0 1\n\
+t2 = 0\n\
+t2 lock h256\n\
+t2 wake t1 yes\n\
+t2 unqueue t1\n\
+t2 unlock h256\n\
+t2 = woken 1 selected 0 holds 1 end\n\
+t1 load c0 1\n\
+t1 state run\n\
+t1 queued no\n\
+t1 = 0\n\
+events 13\n\
+task 1 run none idle\n\
+task 2 run none idle\n\
+word c0 1\n\
+end\n",
+    line: "",
+};
+
+pub const WAKE_BEFORE_SLEEP: Row = Row {
+    name: "wake_before_sleep",
+    script: "\
+waitq 1\n\
+call 1 wait c0 plain\n\
+step 1 6\n\
+call 2 set c0 1\n\
+step 2 1\n\
+call 2 wake c0 normal 0\n\
+step 2 99\n\
+step 1 99\n",
+    status: 0,
+    text: "\
+t1 load c0 0\n\
+t1 lock h256\n\
+t1 queue h256 front\n\
+t1 state unint\n\
+t1 unlock h256\n\
+t1 load c0 0\n\
+t2 set c0 1\n\
+t2 = 0\n\
+t2 lock h256\n\
+t2 wake t1 yes\n\
+t2 unqueue t1\n\
+t2 unlock h256\n\
+t2 = woken 1 selected 0 holds 1 end\n\
+t1 sleep stay\n\
+t1 lock h256\n\
+t1 queue h256 front\n\
+t1 state unint\n\
+t1 unlock h256\n\
+t1 load c0 1\n\
+t1 state run\n\
+t1 queued yes\n\
+t1 lock h256\n\
+t1 unqueue t1\n\
+t1 unlock h256\n\
+t1 = 0\n\
+events 22\n\
+task 1 run none idle\n\
+task 2 run none idle\n\
+word c0 1\n\
+end\n",
+    line: "",
+};
+
+pub const NOTHING: Row = Row {
+    name: "nothing",
+    script: "\
+waitq 1\n",
+    status: 0,
+    text: "\
+events 0\n\
+end\n",
+    line: "",
+};
+
+pub const REFUSED_OPEN: Row = Row {
+    name: "refused_open",
+    script: "\
+waitq 1\n\
+step 1 1\n\
+call 1 wait c0 plain\n\
+call 1 set c0 1\n",
+    status: 0,
+    text: "\
+t1 nocall\n\
+t1 refused 2\n\
+events 0\n\
+task 1 run none open\n\
+end\n",
+    line: "",
+};
+
+pub const NOT_BUILT_SWAKE: Row = Row {
+    name: "not_built_swake",
+    script: "\
+waitq 1\n\
+call 1 swake c48 one\n",
+    status: 3,
+    text: "",
+    line: "waitq: line 2: not built\n",
+};
+
+pub const NO_HEADER: Row = Row {
+    name: "no_header",
+    script: "",
+    status: 3,
+    text: "",
+    line: "waitq: line 1: no header\n",
+};
+
+pub const TOO_MANY_EVENTS: Row = Row {
+    name: "too_many_events",
+    script: "\
+waitq 1\n\
+step 1 1000000\n\
+step 1 1\n",
+    status: 8,
+    text: "",
+    line: "waitq: input too long\n",
+};
+
+pub const WAKE_ONE_EXCLUSIVE: Row = Row {
+    name: "wake_one_exclusive",
+    script: "\
+waitq 1\n\
+call 1 wait c0 int-ex\n\
+step 1 99\n\
+call 2 wait c0 int-ex\n\
+step 2 99\n\
+call 3 wait c0 plain\n\
+step 3 99\n\
+call 4 wake c0 normal 1\n\
+step 4 99\n",
+    status: 0,
+    text: "\
+t1 load c0 0\n\
+t1 lock h256\n\
+t1 look no\n\
+t1 queue h256 tail\n\
+t1 state int\n\
+t1 unlock h256\n\
+t1 load c0 0\n\
+t1 sleep asleep\n\
+t2 load c0 0\n\
+t2 lock h256\n\
+t2 look no\n\
+t2 queue h256 tail\n\
+t2 state int\n\
+t2 unlock h256\n\
+t2 load c0 0\n\
+t2 sleep asleep\n\
+t3 load c0 0\n\
+t3 lock h256\n\
+t3 queue h256 front\n\
+t3 state unint\n\
+t3 unlock h256\n\
+t3 load c0 0\n\
+t3 sleep asleep\n\
+t4 lock h256\n\
+t4 wake t3 yes\n\
+t4 unqueue t3\n\
+t4 wake t1 yes\n\
+t4 unqueue t1\n\
+t4 unlock h256 spent\n\
+t4 = woken 2 selected 1 holds 1 spent\n\
+events 29\n\
+task 1 run none open\n\
+task 2 int none asleep\n\
+task 3 run none open\n\
+task 4 run none idle\n\
+head h256 t2\n\
+end\n",
+    line: "",
+};
+
+pub const PRIORITY_FIRST: Row = Row {
+    name: "priority_first",
+    script: "\
+waitq 1\n\
+call 1 wait c0 plain\n\
+step 1 99\n\
+call 2 add c0 woken prio\n\
+step 2 99\n\
+call 2 read c0\n\
+step 2 1\n\
+call 2 woken int\n\
+step 2 99\n\
+call 3 set c0 1\n\
+step 3 1\n\
+call 3 wake c0 normal 1\n\
+step 3 99\n\
+step 2 99\n",
+    status: 0,
+    text: "\
+t1 load c0 0\n\
+t1 lock h256\n\
+t1 queue h256 front\n\
+t1 state unint\n\
+t1 unlock h256\n\
+t1 load c0 0\n\
+t1 sleep asleep\n\
+t2 lock h256\n\
+t2 queue h256 prio\n\
+t2 unlock h256\n\
+t2 = 0\n\
+t2 load c0 0\n\
+t2 = 0\n\
+t2 state int\n\
+t2 flag no\n\
+t2 sleep asleep\n\
+t3 set c0 1\n\
+t3 = 0\n\
+t3 lock h256\n\
+t3 woken t2\n\
+t3 wake t2 yes\n\
+t3 unlock h256 spent\n\
+t3 = woken 1 selected 1 holds 1 spent\n\
+t2 state run\n\
+t2 unflag\n\
+t2 = 0\n\
+events 21\n\
+task 1 unint none asleep\n\
+task 2 run none idle\n\
+task 3 run none idle\n\
+head h256 t2 t1\n\
+word c0 1\n\
+end\n",
+    line: "",
+};
+
+pub const SELECTED_THEN_SIGNALLED: Row = Row {
+    name: "selected_then_signalled",
+    script: "\
+waitq 1\n\
+call 1 wait c0 int-ex\n\
+step 1 99\n\
+call 2 set c0 1\n\
+step 2 1\n\
+call 2 wake c0 normal 1\n\
+step 2 99\n\
+call 3 signal 1 plain\n\
+step 3 99\n\
+step 1 99\n",
+    status: 0,
+    text: "\
+t1 load c0 0\n\
+t1 lock h256\n\
+t1 look no\n\
+t1 queue h256 tail\n\
+t1 state int\n\
+t1 unlock h256\n\
+t1 load c0 0\n\
+t1 sleep asleep\n\
+t2 set c0 1\n\
+t2 = 0\n\
+t2 lock h256\n\
+t2 wake t1 yes\n\
+t2 unqueue t1\n\
+t2 unlock h256 spent\n\
+t2 = woken 1 selected 1 holds 1 spent\n\
+t3 signal t1 plain\n\
+t3 wake t1 no\n\
+t3 = 0\n\
+t1 lock h256\n\
+t1 look yes\n\
+t1 unlock h256\n\
+t1 load c0 1\n\
+t1 state run\n\
+t1 queued no\n\
+t1 = 0\n\
+events 21\n\
+task 1 run plain idle\n\
+task 2 run none idle\n\
+task 3 run none idle\n\
+word c0 1\n\
+end\n",
+    line: "",
+};
+
+pub const SELECTED_CONDITION_TAKEN: Row = Row {
+    name: "selected_condition_taken",
+    script: "\
+waitq 1\n\
+call 1 wait c0 int-ex\n\
+step 1 99\n\
+call 2 set c0 1\n\
+step 2 1\n\
+call 2 wake c0 normal 1\n\
+step 2 99\n\
+call 3 signal 1 plain\n\
+step 3 99\n\
+call 4 take c0\n\
+step 4 1\n\
+step 1 99\n",
+    status: 0,
+    text: "\
+t1 load c0 0\n\
+t1 lock h256\n\
+t1 look no\n\
+t1 queue h256 tail\n\
+t1 state int\n\
+t1 unlock h256\n\
+t1 load c0 0\n\
+t1 sleep asleep\n\
+t2 set c0 1\n\
+t2 = 0\n\
+t2 lock h256\n\
+t2 wake t1 yes\n\
+t2 unqueue t1\n\
+t2 unlock h256 spent\n\
+t2 = woken 1 selected 1 holds 1 spent\n\
+t3 signal t1 plain\n\
+t3 wake t1 no\n\
+t3 = 0\n\
+t4 take c0 1\n\
+t4 = 1\n\
+t1 lock h256\n\
+t1 look yes\n\
+t1 unlock h256\n\
+t1 load c0 0\n\
+t1 = -512\n\
+events 20\n\
+task 1 run plain idle\n\
+task 2 run none idle\n\
+task 3 run none idle\n\
+task 4 run none idle\n\
+end\n",
+    line: "",
+};
+
+pub const MODE_MISSES: Row = Row {
+    name: "mode_misses",
+    script: "\
+waitq 1\n\
+call 1 wait c0 plain\n\
+step 1 99\n\
+call 2 wake c0 int 0\n\
+step 2 99\n",
+    status: 0,
+    text: "\
+t1 load c0 0\n\
+t1 lock h256\n\
+t1 queue h256 front\n\
+t1 state unint\n\
+t1 unlock h256\n\
+t1 load c0 0\n\
+t1 sleep asleep\n\
+t2 lock h256\n\
+t2 wake t1 no\n\
+t2 unlock h256\n\
+t2 = woken 0 selected 0 holds 1 end\n\
+events 10\n\
+task 1 unint none asleep\n\
+task 2 run none idle\n\
+head h256 t1\n\
+end\n",
+    line: "",
+};
+
+pub const WOKEN_FLAG_BEFORE_STATE: Row = Row {
+    name: "woken_flag_before_state",
+    script: "\
+waitq 1\n\
+call 1 add c0 woken front\n\
+step 1 9\n\
+call 1 read c0\n\
+step 1 1\n\
+call 2 wake c0 normal 0\n\
+step 2 9\n\
+call 1 woken int\n\
+step 1 9\n\
+call 1 remove\n\
+step 1 9\n",
+    status: 0,
+    text: "\
+t1 lock h256\n\
+t1 queue h256 front\n\
+t1 unlock h256\n\
+t1 = 0\n\
+t1 load c0 0\n\
+t1 = 0\n\
+t2 lock h256\n\
+t2 woken t1\n\
+t2 wake t1 no\n\
+t2 unlock h256\n\
+t2 = woken 0 selected 0 holds 1 end\n\
+t1 state int\n\
+t1 flag yes\n\
+t1 state run\n\
+t1 unflag\n\
+t1 = 0\n\
+t1 lock h256\n\
+t1 unqueue t1\n\
+t1 unlock h256\n\
+t1 = 0\n\
+events 15\n\
+task 1 run none idle\n\
+task 2 run none idle\n\
+end\n",
+    line: "",
+};
+
+pub const BAD_NUMBER: Row = Row {
+    name: "bad_number",
+    script: "\
+waitq 1\n\
+step 200 1\n",
+    status: 3,
+    text: "",
+    line: "waitq: line 2: bad number\n",
+};
+
+pub const BAD_CONDITION: Row = Row {
+    name: "bad_condition",
+    script: "\
+waitq 1\n\
+call 1 wait c50 plain\n",
+    status: 3,
+    text: "",
+    line: "waitq: line 2: bad condition\n",
+};
+
+pub const CUT_LINE: Row = Row {
+    name: "cut_line",
+    script: "\
+waitq 1\n\
+step 1",
+    status: 3,
+    text: "",
+    line: "waitq: line 2: cut line\n",
+};
+
+pub const LONG_LINE: Row = Row {
+    name: "long_line",
+    script: "\
+waitq 1\n\
+xxxxxxxxxxxxxxxxxxxxxxxxxxxxxxxxxxxxxxxxxxxxxxxxxxxxxxxxxxxxxxxxxxxxxxxxxxxxxxxxxxxxxxxxxxxxxxxxxxxx\
+xxxxxxxxxxxxxxxxxxxxxxxxxxxxxxxxxxxxxxxxxxxxxxxxxxxxxxxxxxxxxxxxxxxxxxxxxxxxxxxxxxxxxxxxxxxxxxxxxxxxx\n",
+    status: 3,
+    text: "",
+    line: "waitq: line 2: long line\n",
+};
+
+pub const UNKNOWN_WORD: Row = Row {
+    name: "unknown_word",
+    script: "\
+waitq 1\n\
+call 1 hop c0\n",
+    status: 3,
+    text: "",
+    line: "waitq: line 2: unknown word\n",
+};

@@ -1,0 +1,176 @@
+//! Worked scripts, refusals and faults through `run`.
+
+use crate::rows::{
+    BAD_CONDITION, BAD_NUMBER, CUT_LINE, LONG_LINE, MODE_MISSES, NO_HEADER, NOT_BUILT_SWAKE,
+    NOTHING, PRIORITY_FIRST, REFUSED_OPEN, Row, SELECTED_CONDITION_TAKEN, SELECTED_THEN_SIGNALLED,
+    TOO_MANY_EVENTS, UNKNOWN_WORD, WAIT_SET_WAKE, WAKE_BEFORE_LOAD, WAKE_BEFORE_SLEEP,
+    WAKE_ONE_EXCLUSIVE, WOKEN_FLAG_BEFORE_STATE,
+};
+use crate::run::run;
+use edge_io::{MemSink, MemSource};
+use std::process::Abort;
+use std::test::Fail;
+
+/// What a run answered, and what it wrote to its output and to its error stream.
+#[derive(Drop)]
+struct Answered {
+    status: u8,
+    text: String,
+    line: String,
+}
+
+/// Runs the program on words and a script, with the numbers of the calls that fail.
+fn run_on(
+    rt: &HostRuntime,
+    words: &[&str],
+    script: &[u8],
+    reads: &[u64],
+    writes: &[u64],
+    errs: &[u64],
+) -> Result<Answered, Fail> {
+    let alloc = rt.alloc();
+    let mut list = Vec::new(alloc);
+    for word in words {
+        list.push(String::from_str(alloc, word)?)?;
+    }
+    let mut input = MemSource::new(alloc, script, reads)?;
+    let mut out = MemSink::new(alloc, writes)?;
+    let mut err = MemSink::new(alloc, errs)?;
+    let status = run(alloc, &list, &mut input, &mut out, &mut err);
+    let text = String::from_utf8_lossy(alloc, out.bytes())?;
+    let line = String::from_utf8_lossy(alloc, err.bytes())?;
+    Ok(Answered { status, text, line })
+}
+
+/// Compares what a run gave with a row.
+fn meets(rt: &impl Abort, row: Row, ran: &Answered) {
+    let name = row.name;
+    assert_eq!(rt; ran.status, row.status, "status of {name}");
+    assert_eq!(rt; ran.text.as_str(), row.text, "text of {name}");
+    assert_eq!(rt; ran.line.as_str(), row.line, "line of {name}");
+}
+
+#[test]
+fn worked_scripts_have_their_texts(rt: HostRuntime) -> Result<(), Fail> {
+    for row in [
+        NOTHING,
+        REFUSED_OPEN,
+        WAIT_SET_WAKE,
+        WAKE_BEFORE_LOAD,
+        WAKE_BEFORE_SLEEP,
+        MODE_MISSES,
+        WAKE_ONE_EXCLUSIVE,
+        PRIORITY_FIRST,
+        SELECTED_THEN_SIGNALLED,
+        SELECTED_CONDITION_TAKEN,
+        WOKEN_FLAG_BEFORE_STATE,
+    ] {
+        let ran = run_on(&rt, &["replay"], row.script.as_bytes(), &[], &[], &[])?;
+        meets(&rt, row, &ran);
+    }
+    Ok(())
+}
+
+#[test]
+fn bad_scripts_have_their_lines(rt: HostRuntime) -> Result<(), Fail> {
+    for row in [
+        NO_HEADER,
+        CUT_LINE,
+        LONG_LINE,
+        UNKNOWN_WORD,
+        NOT_BUILT_SWAKE,
+        BAD_NUMBER,
+        BAD_CONDITION,
+        TOO_MANY_EVENTS,
+    ] {
+        let ran = run_on(&rt, &["replay"], row.script.as_bytes(), &[], &[], &[])?;
+        meets(&rt, row, &ran);
+    }
+    Ok(())
+}
+
+#[test]
+fn other_words_are_refused_with_the_usage(rt: HostRuntime) -> Result<(), Fail> {
+    let usage =
+        "waitq: usage: waitq replay | waitq copy SRC DST [EVENT]... | waitq drill SEED COUNT\n";
+    let script = NOTHING.script.as_bytes();
+    for words in [
+        &[] as &[&str],
+        &["replay", "x"],
+        &["Replay"],
+        &[""],
+        &["-x"],
+    ] {
+        let ran = run_on(&rt, words, script, &[], &[], &[])?;
+        assert_eq!(rt; ran.status, 2, "{} words", words.len());
+        assert_eq!(rt; ran.text.as_str(), "");
+        assert_eq!(rt; ran.line.as_str(), usage);
+    }
+    Ok(())
+}
+
+#[test]
+fn an_input_above_one_mebibyte_is_too_long(rt: HostRuntime) -> Result<(), Fail> {
+    let bytes = vec![in rt.alloc(); b' '; 1_048_577]?;
+    let ran = run_on(&rt, &["replay"], &bytes, &[], &[], &[])?;
+    assert_eq!(rt; ran.status, 8);
+    assert_eq!(rt; ran.text.as_str(), "");
+    assert_eq!(rt; ran.line.as_str(), "waitq: input too long\n");
+    Ok(())
+}
+
+#[test]
+fn a_read_that_fails_ends_with_its_status(rt: HostRuntime) -> Result<(), Fail> {
+    // The first call reads the script, and the second would find the end.
+    for fails in [1, 2] {
+        let script = WAIT_SET_WAKE.script.as_bytes();
+        let ran = run_on(&rt, &["replay"], script, &[fails], &[], &[])?;
+        assert_eq!(rt; ran.status, 4, "at call {fails}");
+        assert_eq!(rt; ran.text.as_str(), "");
+        assert_eq!(rt; ran.line.as_str(), "waitq: read failed\n");
+    }
+    Ok(())
+}
+
+#[test]
+fn a_write_that_fails_leaves_a_front_of_the_text(rt: HostRuntime) -> Result<(), Fail> {
+    let row = WAIT_SET_WAKE;
+    for fails in [1, 2, 3] {
+        let ran = run_on(&rt, &["replay"], row.script.as_bytes(), &[], &[fails], &[])?;
+        assert_eq!(rt; ran.status, 5, "at call {fails}");
+        assert!(rt; row.text.starts_with(ran.text.as_str()), "at call {fails}");
+        assert!(rt; ran.text.len() < row.text.len(), "at call {fails}");
+        assert_eq!(rt; ran.line.as_str(), "waitq: write failed\n");
+    }
+    Ok(())
+}
+
+#[test]
+fn a_write_that_fails_in_mid_stream_leaves_the_lines_before_it(
+    rt: HostRuntime,
+) -> Result<(), Fail> {
+    let alloc = rt.alloc();
+    let mut script = String::from_str(alloc, "waitq 1\n")?;
+    let mut text = String::new(alloc);
+    for _ in 0..7_000 {
+        script.push_str("step 1 1\n")?;
+        text.push_str("t1 nocall\n")?;
+    }
+    let whole = run_on(&rt, &["replay"], script.as_bytes(), &[], &[], &[])?;
+    assert_eq!(rt; whole.status, 0);
+    assert!(rt; whole.text.starts_with(text.as_str()));
+    let broken = run_on(&rt, &["replay"], script.as_bytes(), &[], &[2], &[])?;
+    assert_eq!(rt; broken.status, 5);
+    assert!(rt; !broken.text.is_empty());
+    assert!(rt; broken.text.len() < text.len());
+    assert!(rt; text.starts_with(broken.text.as_str()));
+    Ok(())
+}
+
+#[test]
+fn a_fault_of_the_error_stream_changes_no_status(rt: HostRuntime) -> Result<(), Fail> {
+    let ran = run_on(&rt, &["replay"], b"", &[], &[], &[1])?;
+    assert_eq!(rt; ran.status, 3);
+    assert_eq!(rt; ran.line.as_str(), "");
+    Ok(())
+}

@@ -2,6 +2,8 @@
 #![tactic(auto)]
 
 pub mod changes;
+#[cfg(test)]
+mod completion_tests;
 pub mod engine;
 pub mod reads;
 pub mod scan;

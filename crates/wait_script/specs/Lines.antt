@@ -31,8 +31,7 @@ step_at (task ∷ count ∷ []) =
     made_of (λ f. line.Step f.0 f.1) (both_of (number_at 0 last_task task) (number_at 1 1000000 count))
 step_at words = Err 6
 
--- `call TASK NAME ..`, by the words behind the first. A call that is not built yet is that whatever stands
--- in its other words.
+-- `call TASK NAME ..`, by the words behind the first
 abbrev pub call_at : List (List ℕ) → Result Line ℕ
 call_at (task ∷ name ∷ rest) =
     if is_later name then Err 10

@@ -89,6 +89,8 @@ event_text (event.Unlock head spent) = codes "unlock h" ++ decimal head
     ++ (if spent then codes " spent" else [])
 event_text (event.Queue head form) = codes "queue h" ++ decimal head ++ codes " " ++ form_text form
 event_text (event.Unqueue who) = codes "unqueue t" ++ decimal who
+event_text (event.Mark head) = codes "mark h" ++ decimal head
+event_text (event.Unmark head) = codes "unmark h" ++ decimal head
 event_text (event.Queued there) = codes "queued " ++ yes_text there
 event_text (event.Load cond value) = codes "load " ++ cond_text cond ++ codes " " ++ decimal value
 event_text (event.Set cond value) = codes "set " ++ cond_text cond ++ codes " " ++ decimal value

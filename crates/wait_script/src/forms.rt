@@ -1,8 +1,12 @@
-//! The forms of the calls: for each name, what the words behind it say.
+//! The forms of the calls on plain conditions and tasks, and the calls by their names: for each name, what the
+//! words behind it say.
 
 ghost use Rattle.std.specs.Prelude.{◌≡◌, map};
 ghost use Rattle.wait_script.specs.Forms as spec;
 
+use crate::cells::{
+    complete, complete_all, is_done, reinit, simple_wait, simple_wake, try_wait, wait_for,
+};
 use crate::fields::{
     LAST_PRIORITY_TASK, LAST_TASK, condition, count, fatal, form, how, kind, mode, state, task,
     value,
@@ -37,7 +41,7 @@ fn wait(words: &[&str]) -> Result<Call, u8>
     let [cond, form] = words else {
         return Err(WORD_COUNT);
     };
-    let (cond, how) = both(condition(cond, LAST_FULL), how(form))?;
+    let (cond, how) = both(condition(cond, 0, LAST_FULL), how(form))?;
     Ok(Call::Wait { cond, how })
 }
 
@@ -49,7 +53,7 @@ fn set(words: &[&str]) -> Result<Call, u8>
     let [cond, number] = words else {
         return Err(WORD_COUNT);
     };
-    let (cond, value) = both(condition(cond, LAST_COND), value(number))?;
+    let (cond, value) = both(condition(cond, 0, LAST_COND), value(number))?;
     Ok(Call::Set { cond, value })
 }
 
@@ -61,7 +65,7 @@ fn take(words: &[&str]) -> Result<Call, u8>
     let [cond] = words else {
         return Err(WORD_COUNT);
     };
-    let cond = condition(cond, LAST_COND)?;
+    let cond = condition(cond, 0, LAST_COND)?;
     Ok(Call::Take { cond })
 }
 
@@ -73,7 +77,7 @@ fn read(words: &[&str]) -> Result<Call, u8>
     let [cond] = words else {
         return Err(WORD_COUNT);
     };
-    let cond = condition(cond, LAST_COND)?;
+    let cond = condition(cond, 0, LAST_COND)?;
     Ok(Call::Read { cond })
 }
 
@@ -86,7 +90,7 @@ fn wake(words: &[&str]) -> Result<Call, u8>
         return Err(WORD_COUNT);
     };
     let (cond, (mode, count)) = both(
-        condition(cond, LAST_FULL),
+        condition(cond, 0, LAST_FULL),
         both(mode(by), count(number, 0, MOST_WOKEN)),
     )?;
     Ok(Call::Wake { cond, mode, count })
@@ -100,7 +104,7 @@ fn add(words: &[&str]) -> Result<Call, u8>
     let [cond, of, place] = words else {
         return Err(WORD_COUNT);
     };
-    let (cond, (kind, form)) = both(condition(cond, LAST_FULL), both(kind(of), form(place)))?;
+    let (cond, (kind, form)) = both(condition(cond, 0, LAST_FULL), both(kind(of), form(place)))?;
     Ok(Call::Add { cond, kind, form })
 }
 
@@ -146,20 +150,7 @@ pub fn is_later(name: &str) -> bool
 {
     matches!(
         name,
-        "swait"
-            | "swake"
-            | "complete"
-            | "completeall"
-            | "reinit"
-            | "waitfor"
-            | "trywait"
-            | "isdone"
-            | "trybit"
-            | "waitbit"
-            | "lockbit"
-            | "clearbit"
-            | "waitvar"
-            | "setvar"
+        "trybit" | "waitbit" | "lockbit" | "clearbit" | "waitvar" | "setvar"
     )
 }
 
@@ -179,6 +170,14 @@ pub fn named(name: &str, rest: &[&str]) -> Result<Call, u8>
         "signal" => signal(rest),
         "accept" => alone(rest, Call::Accept),
         "kick" => kick(rest),
+        "swait" => simple_wait(rest),
+        "swake" => simple_wake(rest),
+        "complete" => complete(rest),
+        "completeall" => complete_all(rest),
+        "reinit" => reinit(rest),
+        "waitfor" => wait_for(rest),
+        "trywait" => try_wait(rest),
+        "isdone" => is_done(rest),
         _ => Err(UNKNOWN_WORD),
     }
 }

@@ -110,6 +110,8 @@ impl fmt::Display for EventText {
             Event::Unlock { head, spent: false } => write!(f, "unlock h{head}"),
             Event::Queue { head, form } => write!(f, "queue h{head} {}", FormText(form)),
             Event::Unqueue { who } => write!(f, "unqueue t{who}"),
+            Event::Mark { head } => write!(f, "mark h{head}"),
+            Event::Unmark { head } => write!(f, "unmark h{head}"),
             Event::Queued { yes: true } => write!(f, "queued yes"),
             Event::Queued { yes: false } => write!(f, "queued no"),
             Event::Load { cond, value } => write!(f, "load {} {value}", CondText(cond)),

@@ -16,17 +16,24 @@ use Rattle.std.proofs.Common.{
   List,
   [],
   ◌∷◌,
+  ◌++◌,
   Option,
   Some,
   None,
   Result,
   Ok,
   Err,
+  codes,
   decimal,
+  append_assoc,
+  drop,
+  length,
+  get_or,
   ◌^◌,
   refl,
   ap,
   sym,
+  ◌∙◌,
   subst,
   arith,
   nat_le,
@@ -35,6 +42,9 @@ use Rattle.std.proofs.Common.{
 }
 use mathlib.Core.Bool.{◌&&◌, ◌||◌, not}
 use Rattle.std.proofs.lemmas.Bool.Decides.{nat_tests}
+use Rattle.std.proofs.lemmas.Grind.{common_steps}
+use Rattle.std.proofs.lemmas.List.Sums.{split_at_first, passes_at_first}
+use Rattle.std.specs.List.{position_or_len, before_first, after_first}
 use Rattle.std.specs.Str.{bytes_eq}
 use Rattle.std.specs.Cmp.Lexicographic.{same_text}
 use Rattle.wait_model.specs.declared.tasks.How.{How}
@@ -53,6 +63,9 @@ use Rattle.wait_script.specs.Fields.{
   numbered_at,
   cond_at,
   cell_at,
+  var_at,
+  is_dot,
+  bit_at,
   keyword_at,
   hows,
   states,
@@ -71,10 +84,11 @@ use Rattle.wait_script.specs.Fields.{
   fatal_at,
   all_at,
 }
-use Rattle.wait_script.specs.Text.{form_text}
+use Rattle.wait_script.specs.Text.{form_text, bit_text}
 use Rattle.wait_script.specs.Spelling.{
   cond_word,
   cell_word,
+  var_word,
   how_word,
   state_word,
   mode_word,
@@ -175,11 +189,65 @@ simple_between word n e =
 pub cell_below : (word : List ℕ) (n : ℕ) → cell_at word ≡ Ok n → nat_lt n 64 ≡ true
 cell_below word n e = below 63 n (numbered_fits 100 0 63 word n e).1
 
+pub var_below : (word : List ℕ) (n : ℕ) → var_at word ≡ Ok n → nat_lt n 128 ≡ true
+var_below word n e = below 127 n (numbered_fits 118 0 127 word n e).1
+
 pub cond_ok : (low most : ℕ) (word : List ℕ) (n : ℕ) → cond_at low most word ≡ Ok n → word ≡ cond_word n
 cond_ok low most word n e = numbered_ok 99 low most word n e
 
 pub cell_ok : (word : List ℕ) (n : ℕ) → cell_at word ≡ Ok n → word ≡ cell_word n
 cell_ok word n e = numbered_ok 100 0 63 word n e
+
+pub var_ok : (word : List ℕ) (n : ℕ) → var_at word ≡ Ok n → word ≡ var_word n
+var_ok word n e = numbered_ok 118 0 127 word n e
+
+-- behind the last byte there is no number
+no_dot : (word : List ℕ) (n : ℕ) → nat_lt (position_or_len is_dot word) (length word) ≡ false
+    → within 9 0 63 (number_of (after_first is_dot word)) ≡ Ok n → ⊥
+no_dot word n h e =
+    let none : after_first is_dot word ≡ [] = past word (position_or_len is_dot word) h in
+    let f : within 9 0 63 (number_of []) ≡ Ok n = sym (ap (λ w. within 9 0 63 (number_of w)) none) ∙ e in
+    cc (f)
+  where
+    past : (word : List ℕ) (k : ℕ) → nat_lt k (length word) ≡ false → drop (k + 1) word ≡ []
+    past word k h = grind (arith, common_steps, nat_tests)
+
+cut_at : (word front back : List ℕ) (c : ℕ) (w b : ℕ) → word ≡ front ++ (c ∷ back) → is_dot c ≡ true
+    → front ≡ 98 ∷ decimal w → back ≡ decimal b → word ≡ bit_text w b
+cut_at word front back c w b cut dot f g =
+    let d : c ≡ 46 = grind (arith, nat_tests) in
+    cut ∙ ap (λ x. x ++ (c ∷ back)) f ∙ ap (λ x. (98 ∷ decimal w) ++ (x ∷ back)) d
+    ∙ ap (λ x. (98 ∷ decimal w) ++ (46 ∷ x)) g
+    ∙ sym (append_assoc (codes "b" ++ decimal w) (codes ".") (decimal b))
+
+pub bit_ok : (word : List ℕ) (p : ℕ × ℕ) → bit_at word ≡ Ok p → word ≡ bit_text p.0 p.1
+bit_ok word p e =
+    let f = both_ok (numbered_at 98 0 127 (before_first is_dot word))
+    (within 9 0 63 (number_of (after_first is_dot word))) p e in
+    found (nat_lt (position_or_len is_dot word) (length word)) refl f
+  where
+    found : (r : Bool) → nat_lt (position_or_len is_dot word) (length word) ≡ r
+        → (numbered_at 98 0 127 (before_first is_dot word) ≡ Ok p.0)
+        × (within 9 0 63 (number_of (after_first is_dot word)) ≡ Ok p.1)
+        → word ≡ bit_text p.0 p.1
+    found true h f =
+        let lt : position_or_len is_dot word < length word = grind (arith, nat_tests) in
+        cut_at word (before_first is_dot word) (after_first is_dot word)
+        (get_or word (position_or_len is_dot word) 0) p.0 p.1
+        (split_at_first is_dot word 0 lt) (passes_at_first is_dot word 0 lt)
+        (numbered_ok 98 0 127 (before_first is_dot word) p.0 f.0)
+        (number_is (after_first is_dot word) p.1
+        (within_ok 9 0 63 (number_of (after_first is_dot word)) p.1 f.1).0)
+    found false h f = absurd (no_dot word p.1 h f.1)
+
+pub bit_below : (word : List ℕ) (p : ℕ × ℕ) → bit_at word ≡ Ok p
+    → (nat_lt p.0 128 && nat_lt p.1 64) ≡ true
+bit_below word p e =
+    let f = both_ok (numbered_at 98 0 127 (before_first is_dot word))
+    (within 9 0 63 (number_of (after_first is_dot word))) p e in
+    both_true (nat_lt p.0 128) (nat_lt p.1 64)
+    (below 127 p.0 (numbered_fits 98 0 127 (before_first is_dot word) p.0 f.0).1)
+    (below 63 p.1 (within_ok 9 0 63 (number_of (after_first is_dot word)) p.1 f.1).1.1)
 
 -- something stands of each keyword of a table and its value
 abbrev AreAll : {A : Type 0} → (List ℕ → A → Type 0) → List (List ℕ × A) → Type 0

@@ -32,6 +32,8 @@ use Rattle.wait_script.specs.Fields.{
   value_at,
   cond_at,
   cell_at,
+  var_at,
+  bit_at,
   how_at,
   state_at,
   simple_state_at,
@@ -66,6 +68,12 @@ use Rattle.wait_script.specs.Forms.{
   wait_for_at,
   try_wait_at,
   is_done_at,
+  try_bit_at,
+  wait_bit_at,
+  lock_bit_at,
+  clear_bit_at,
+  wait_var_at,
+  set_var_at,
   calls,
   call_in,
   named_at,
@@ -85,6 +93,10 @@ use Rattle.wait_script.proofs.ReadFields.{
   simple_between,
   cell_ok,
   cell_below,
+  var_ok,
+  var_below,
+  bit_ok,
+  bit_below,
   how_ok,
   how_listed,
   state_ok,
@@ -292,6 +304,50 @@ is_done_ok words c e =
     met1 cell_at (λ cell. call.IsDone cell) (IsRead (codes "isdone"))
     (λ a x p. (words1 (codes "isdone") a _ (cell_ok a x p), (cell_below a x p, refl, none))) words c e
 
+try_bit_ok : (words : List (List ℕ)) (c : Call) → try_bit_at words ≡ Ok c → IsRead (codes "trybit") words c
+try_bit_ok words c e =
+    met1 bit_at (λ b. call.TryBit b.0 b.1) (IsRead (codes "trybit"))
+    (λ a x p. (words1 (codes "trybit") a _ (bit_ok a x p), (bit_below a x p, refl, none))) words c e
+
+wait_bit_ok : (words : List (List ℕ)) (c : Call) → wait_bit_at words ≡ Ok c → IsRead (codes "waitbit") words c
+wait_bit_ok words c e =
+    met2 bit_at state_at (λ b state. call.WaitBit b.0 b.1 state) (IsRead (codes "waitbit"))
+    (λ a b x y p q. (
+      words2 (codes "waitbit") a b _ _ (bit_ok a x p) (state_ok b y q),
+      (bit_below a x p, refl, none),
+    )) words c e
+
+lock_bit_ok : (words : List (List ℕ)) (c : Call) → lock_bit_at words ≡ Ok c → IsRead (codes "lockbit") words c
+lock_bit_ok words c e =
+    met2 bit_at state_at (λ b state. call.LockBit b.0 b.1 state) (IsRead (codes "lockbit"))
+    (λ a b x y p q. (
+      words2 (codes "lockbit") a b _ _ (bit_ok a x p) (state_ok b y q),
+      (bit_below a x p, refl, none),
+    )) words c e
+
+clear_bit_ok : (words : List (List ℕ)) (c : Call) → clear_bit_at words ≡ Ok c
+    → IsRead (codes "clearbit") words c
+clear_bit_ok words c e =
+    met1 bit_at (λ b. call.ClearBit b.0 b.1) (IsRead (codes "clearbit"))
+    (λ a x p. (words1 (codes "clearbit") a _ (bit_ok a x p), (bit_below a x p, refl, none))) words c e
+
+wait_var_ok : (words : List (List ℕ)) (c : Call) → wait_var_at words ≡ Ok c → IsRead (codes "waitvar") words c
+wait_var_ok words c e =
+    met3 var_at value_at state_at (λ var old state. call.WaitVar var old state) (IsRead (codes "waitvar"))
+    (λ a b d x y z p q r. (
+      words3 (codes "waitvar") a b d _ _ _ (var_ok a x p) (value_ok b y q) (state_ok d z r),
+      (var_below a x p, refl, value_below b y q),
+    ))
+    words c e
+
+set_var_ok : (words : List (List ℕ)) (c : Call) → set_var_at words ≡ Ok c → IsRead (codes "setvar") words c
+set_var_ok words c e =
+    met2 var_at value_at (λ var value. call.SetVar var value) (IsRead (codes "setvar"))
+    (λ a b x y p q. (
+      words2 (codes "setvar") a b _ _ (var_ok a x p) (value_ok b y q),
+      (var_below a x p, refl, value_below b y q),
+    )) words c e
+
 -- the forms of a table read what they say under their names
 abbrev AreRead : List (List ℕ × (List (List ℕ) → Result Call ℕ)) → Type 0
 AreRead [] = Unit {0}
@@ -334,7 +390,28 @@ all_read = (
                         simple_wait_ok,
                         (
                           simple_wake_ok,
-                          (complete_ok, (complete_all_ok, (reinit_ok, (wait_for_ok, (try_wait_ok, (is_done_ok, tt)))))),
+                          (
+                            complete_ok,
+                            (
+                              complete_all_ok,
+                              (
+                                reinit_ok,
+                                (
+                                  wait_for_ok,
+                                  (
+                                    try_wait_ok,
+                                    (
+                                      is_done_ok,
+                                      (
+                                        try_bit_ok,
+                                        (wait_bit_ok, (lock_bit_ok, (clear_bit_ok, (wait_var_ok, (set_var_ok, tt))))),
+                                      ),
+                                    ),
+                                  ),
+                                ),
+                              ),
+                            ),
+                          ),
                         ),
                       ),
                     ),

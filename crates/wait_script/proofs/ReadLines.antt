@@ -44,7 +44,7 @@ use Rattle.wait_script.specs.declared.line.Line.{Line}
 use Rattle.wait_script.specs.declared.line.Line.TheVariants as line
 use Rattle.wait_script.specs.Words.{words_of, both_of, made_of}
 use Rattle.wait_script.specs.Fields.{number_at, last_task, last_priority_task}
-use Rattle.wait_script.specs.Forms.{is_later, named_at, is_priority_add, last_of}
+use Rattle.wait_script.specs.Forms.{named_at, is_priority_add, last_of}
 use Rattle.wait_script.specs.Lines.{
   step_at,
   call_at,
@@ -121,15 +121,17 @@ for_task (call.Reinit d) task h r = r
 for_task (call.WaitFor d st) task h r = r
 for_task (call.TryWait d) task h r = r
 for_task (call.IsDone d) task h r = r
+for_task (call.TryBit w b) task h r = r
+for_task (call.WaitBit w b st) task h r = r
+for_task (call.LockBit w b st) task h r = r
+for_task (call.ClearBit w b) task h r = r
+for_task (call.WaitVar v o st) task h r = r
+for_task (call.SetVar v x) task h r = r
 
--- a call that is built
-abbrev built_at : List ℕ → List ℕ → List (List ℕ) → Result Line ℕ
-built_at task name rest =
-    made_of (λ f. line.Call f.0 f.1) (both_of (number_at 0 (last_of name rest) task) (named_at name rest))
-
-built_ok : (a name : List ℕ) (rest : List (List ℕ)) (l : Line) → built_at a name rest ≡ Ok l
-    → IsReadAs (codes "call" ∷ a ∷ name ∷ rest) l
-built_ok a name rest l e =
+call_ok : (words : List (List ℕ)) (l : Line) → call_at words ≡ Ok l → IsReadAs (codes "call" ∷ words) l
+call_ok [] l e = absurd (cc (e))
+call_ok (a ∷ []) l e = absurd (cc (e))
+call_ok (a ∷ name ∷ rest) l e =
     let task = number_at 0 (last_of name rest) a in
     let m = made_ok (λ f. line.Call f.0 f.1) (both_of task (named_at name rest)) l e in
     let f = both_ok task (named_at name rest) m.0 m.1 in
@@ -143,15 +145,6 @@ built_ok a name rest l e =
         (for_task m.0.1 m.0.0 (subst (λ ws. m.0.0 ≤ last_by ws) n.0 most) fit.0, fit.1, fit.2),
       ),
     )
-
-call_ok : (words : List (List ℕ)) (l : Line) → call_at words ≡ Ok l → IsReadAs (codes "call" ∷ words) l
-call_ok [] l e = absurd (cc (e))
-call_ok (a ∷ []) l e = absurd (cc (e))
-call_ok (a ∷ name ∷ rest) l e =
-    ⊎_elim
-    (λ p. absurd (cc (p.1)))
-    (λ p. built_ok a name rest l p.1)
-    (chosen (is_later name) (Err 10) (built_at a name rest) (Ok l) e)
 
 words_ok : (words : List (List ℕ)) (l : Line) → words_at words ≡ Ok l → IsReadAs words l
 words_ok [] l e = absurd (cc (e))

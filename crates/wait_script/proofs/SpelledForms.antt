@@ -1,28 +1,5 @@
 -- The words of a line that fits say that line.
-use Rattle.std.proofs.Common.{
-  ◌≡◌,
-  ℕ,
-  ◌+◌,
-  ◌≤◌,
-  Bool,
-  true,
-  false,
-  List,
-  [],
-  ◌∷◌,
-  Result,
-  Ok,
-  Err,
-  length,
-  codes,
-  decimal,
-  refl,
-  arith,
-  nat_lt,
-  cond,
-  ap,
-  ◌∙◌,
-}
+use Rattle.std.proofs.Common.{◌≡◌, ℕ, ◌+◌, ◌≤◌, Bool, true, false, List, [], ◌∷◌, Result, Ok, Err, length, codes, decimal, refl, arith, nat_lt}
 use mathlib.Core.Bool.{◌&&◌, ◌||◌, not}
 use Rattle.std.proofs.lemmas.Bool.Decides.{nat_tests}
 use Rattle.wait_model.specs.declared.calls.Call.{Call}
@@ -33,8 +10,8 @@ use Rattle.wait_script.specs.declared.line.Line.{Line}
 use Rattle.wait_script.specs.declared.line.Line.TheVariants as line
 use Rattle.wait_script.specs.Words.{both_of, made_of}
 use Rattle.wait_script.specs.Fields.{last_task, number_at}
-use Rattle.wait_script.specs.Forms.{is_later, named_at, last_of}
-use Rattle.wait_script.specs.Lines.{call_at, words_at}
+use Rattle.wait_script.specs.Forms.{named_at, last_of}
+use Rattle.wait_script.specs.Lines.{words_at}
 use Rattle.wait_script.specs.Spelling.{call_words, line_words, IsFitCall, IsFit}
 use Rattle.wait_script.proofs.SpelledWords.{
   parts_true,
@@ -42,9 +19,11 @@ use Rattle.wait_script.proofs.SpelledWords.{
   AreWords,
   number_word,
   letter_word,
+  bit_word,
   number_read,
   value_read,
   numbered_read,
+  bit_read,
   state_is_word,
   state_read,
   simple_state_read,
@@ -91,7 +70,6 @@ from_simple n h =
 abbrev Says : List (List ℕ) → Call → Type 0
 Says [] c = ⊥
 Says (name ∷ rest) c = (named_at name rest ≡ Ok c) × IsWord name × AreWords rest × (length rest ≤ 3)
-    × (is_later name ≡ false)
 
 call_said : (c : Call) (task : ℕ) → IsFitCall task c → Says (call_words c) c
 call_said (call.Wait cond how) task h =
@@ -101,7 +79,6 @@ call_said (call.Wait cond how) task h =
       refl,
       (letter_word 99 cond refl (omega (arith, m)), (how_is_word how, tt)),
       omega arith,
-      refl,
     )
 call_said (call.Set cond value) task h =
     let m = upto 63 cond h.0 in (
@@ -110,7 +87,6 @@ call_said (call.Set cond value) task h =
       refl,
       (letter_word 99 cond refl (omega (arith, m)), (number_word value h.2, tt)),
       omega arith,
-      refl,
     )
 call_said (call.Take cond) task h =
     let m = upto 63 cond h.0 in (
@@ -119,7 +95,6 @@ call_said (call.Take cond) task h =
       refl,
       (letter_word 99 cond refl (omega (arith, m)), tt),
       omega arith,
-      refl,
     )
 call_said (call.Read cond) task h =
     let m = upto 63 cond h.0 in (
@@ -128,7 +103,6 @@ call_said (call.Read cond) task h =
       refl,
       (letter_word 99 cond refl (omega (arith, m)), tt),
       omega arith,
-      refl,
     )
 call_said (call.Wake cond mode count) task h =
     let p = parts_true (nat_lt cond 48) (nat_lt count 128) h.0 in
@@ -144,7 +118,6 @@ call_said (call.Wake cond mode count) task h =
         (mode_is_word mode, (number_word count (omega (arith, n)), tt)),
       ),
       omega arith,
-      refl,
     )
 call_said (call.Add cond kind form) task h =
     let p = parts_true (nat_lt cond 48) (not (is_priority form) || nat_lt task 64) h.0 in
@@ -156,12 +129,11 @@ call_said (call.Add cond kind form) task h =
       refl,
       (letter_word 99 cond refl (omega (arith, m)), (kind_is_word kind h.1, (form_is_word form, tt))),
       omega arith,
-      refl,
     )
 call_said call.Remove task h =
-    (refl, refl, tt, omega arith, refl)
+    (refl, refl, tt, omega arith)
 call_said (call.Woken state) task h =
-    (made1 (λ f. call.Woken f) _ state (state_read state), refl, (state_is_word state, tt), omega arith, refl)
+    (made1 (λ f. call.Woken f) _ state (state_read state), refl, (state_is_word state, tt), omega arith)
 call_said (call.Signal who fatal) task h =
     let m = upto 127 who h.0 in (
       made2 (λ f. call.Signal f.0 f.1) _ _ who fatal
@@ -170,17 +142,15 @@ call_said (call.Signal who fatal) task h =
       refl,
       (number_word who (omega (arith, m)), (fatal_is_word fatal, tt)),
       omega arith,
-      refl,
     )
 call_said call.Accept task h =
-    (refl, refl, tt, omega arith, refl)
+    (refl, refl, tt, omega arith)
 call_said (call.Kick who) task h =
     let m = upto 127 who h.0 in (
       made1 (λ f. call.Kick f) _ who (number_read 0 127 who (omega arith) m (omega (arith, m))),
       refl,
       (number_word who (omega (arith, m)), tt),
       omega arith,
-      refl,
     )
 call_said (call.SimpleWait cond state) task h =
     let p = from_simple cond h.0 in (
@@ -189,7 +159,6 @@ call_said (call.SimpleWait cond state) task h =
       refl,
       (letter_word 99 cond refl (omega (arith, p.1)), (state_is_word state, tt)),
       omega arith,
-      refl,
     )
 call_said (call.SimpleWake cond all) task h =
     let p = from_simple cond h.0 in (
@@ -198,7 +167,6 @@ call_said (call.SimpleWake cond all) task h =
       refl,
       (letter_word 99 cond refl (omega (arith, p.1)), (all_is_word all, tt)),
       omega arith,
-      refl,
     )
 call_said (call.Complete cell) task h =
     let m = upto 63 cell h.0 in (
@@ -206,7 +174,6 @@ call_said (call.Complete cell) task h =
       refl,
       (letter_word 100 cell refl (omega (arith, m)), tt),
       omega arith,
-      refl,
     )
 call_said (call.CompleteAll cell) task h =
     let m = upto 63 cell h.0 in (
@@ -214,7 +181,6 @@ call_said (call.CompleteAll cell) task h =
       refl,
       (letter_word 100 cell refl (omega (arith, m)), tt),
       omega arith,
-      refl,
     )
 call_said (call.Reinit cell) task h =
     let m = upto 63 cell h.0 in (
@@ -222,7 +188,6 @@ call_said (call.Reinit cell) task h =
       refl,
       (letter_word 100 cell refl (omega (arith, m)), tt),
       omega arith,
-      refl,
     )
 call_said (call.WaitFor cell state) task h =
     let m = upto 63 cell h.0 in (
@@ -234,7 +199,6 @@ call_said (call.WaitFor cell state) task h =
         (state_is_word state, tt),
       ),
       omega arith,
-      refl,
     )
 call_said (call.TryWait cell) task h =
     let m = upto 63 cell h.0 in (
@@ -242,7 +206,6 @@ call_said (call.TryWait cell) task h =
       refl,
       (letter_word 100 cell refl (omega (arith, m)), tt),
       omega arith,
-      refl,
     )
 call_said (call.IsDone cell) task h =
     let m = upto 63 cell h.0 in (
@@ -250,7 +213,62 @@ call_said (call.IsDone cell) task h =
       refl,
       (letter_word 100 cell refl (omega (arith, m)), tt),
       omega arith,
+    )
+call_said (call.TryBit w b) task h =
+    let p = parts_true (nat_lt w 128) (nat_lt b 64) h.0 in
+    let m = upto 127 w p.0 in
+    let n = upto 63 b p.1 in (
+      made1 (λ f. call.TryBit f.0 f.1) _ (w, b) (bit_read w b m n),
       refl,
+      (bit_word w b (omega (arith, m)) (omega (arith, n)), tt),
+      omega arith,
+    )
+call_said (call.WaitBit w b state) task h =
+    let p = parts_true (nat_lt w 128) (nat_lt b 64) h.0 in
+    let m = upto 127 w p.0 in
+    let n = upto 63 b p.1 in (
+      made2 (λ f. call.WaitBit f.0.0 f.0.1 f.1) _ _ (w, b) state (bit_read w b m n) (state_read state),
+      refl,
+      (bit_word w b (omega (arith, m)) (omega (arith, n)), (state_is_word state, tt)),
+      omega arith,
+    )
+call_said (call.LockBit w b state) task h =
+    let p = parts_true (nat_lt w 128) (nat_lt b 64) h.0 in
+    let m = upto 127 w p.0 in
+    let n = upto 63 b p.1 in (
+      made2 (λ f. call.LockBit f.0.0 f.0.1 f.1) _ _ (w, b) state (bit_read w b m n) (state_read state),
+      refl,
+      (bit_word w b (omega (arith, m)) (omega (arith, n)), (state_is_word state, tt)),
+      omega arith,
+    )
+call_said (call.ClearBit w b) task h =
+    let p = parts_true (nat_lt w 128) (nat_lt b 64) h.0 in
+    let m = upto 127 w p.0 in
+    let n = upto 63 b p.1 in (
+      made1 (λ f. call.ClearBit f.0 f.1) _ (w, b) (bit_read w b m n),
+      refl,
+      (bit_word w b (omega (arith, m)) (omega (arith, n)), tt),
+      omega arith,
+    )
+call_said (call.WaitVar var old state) task h =
+    let m = upto 127 var h.0 in (
+      made3 (λ f. call.WaitVar f.0 f.1.0 f.1.1) _ _ _ var old state
+          (numbered_read 118 0 127 var (omega arith) m (omega (arith, m))) (value_read old h.2)
+          (state_read state),
+      refl,
+      (letter_word 118 var refl (omega (arith, m)), (number_word old h.2, (state_is_word state, tt))),
+      omega arith,
+    )
+call_said (call.SetVar var value) task h =
+    let m = upto 127 var h.0 in (
+      made2 (λ f. call.SetVar f.0 f.1) _ _ var value (numbered_read 118 0 127 var (omega arith) m
+          (omega (arith, m))) (value_read value h.2),
+      refl,
+      (
+        letter_word 118 var refl (omega (arith, m)),
+        (number_word value h.2, tt),
+      ),
+      omega arith,
     )
 
 -- the last task of a call, by its words
@@ -282,22 +300,17 @@ for_task (call.Reinit cell) task h f = h
 for_task (call.WaitFor cell state) task h f = h
 for_task (call.TryWait cell) task h f = h
 for_task (call.IsDone cell) task h f = h
+for_task (call.TryBit w b) task h f = h
+for_task (call.WaitBit w b state) task h f = h
+for_task (call.LockBit w b state) task h f = h
+for_task (call.ClearBit w b) task h f = h
+for_task (call.WaitVar var old state) task h f = h
+for_task (call.SetVar var value) task h f = h
 
 -- the words of a line are a first one and others, at most five, and say it
 abbrev pub IsSaid : Line → Type 0
 IsSaid l = (word : List ℕ) × (words : List (List ℕ)) × (line_words l ≡ word ∷ words) × IsWord word
     × AreWords words × (length words ≤ 5) × (words_at (word ∷ words) ≡ Ok l)
-
--- a call that is built
-built : (name a : List ℕ) (rest : List (List ℕ)) (l : Line) → is_later name ≡ false
-    → made_of (λ f. line.Call f.0 f.1) (both_of (number_at 0 (last_of name rest) a) (named_at name rest)) ≡ Ok
-    l
-    → call_at (a ∷ name ∷ rest) ≡ Ok l
-built name a rest l later p =
-    ap (λ b. cond b (Err 10)
-    (made_of (λ f. line.Call f.0 f.1) (both_of (number_at 0 (last_of name rest) a) (named_at name rest))))
-    later
-    ∙ p
 
 said_call : (task : ℕ) (c : Call) (words : List (List ℕ)) → call_words c ≡ words → Says words c
     → task ≤ last_by words → task ≤ last_task → IsSaid (line.Call task c)
@@ -309,8 +322,8 @@ said_call task c (name ∷ rest) is s fit most = (
   refl,
   (number_word task (omega (arith, most)), (s.1, s.2)),
   omega (arith, s.3),
-  built name (decimal task) rest (line.Call task c) s.4 (made2 (λ f. line.Call f.0 f.1) _ _ task c
-      (number_read 0 (last_of name rest) task (omega arith) fit (omega (arith, most))) s.0),
+  made2 (λ f. line.Call f.0 f.1) _ _ task c
+      (number_read 0 (last_of name rest) task (omega arith) fit (omega (arith, most))) s.0,
 )
 
 pub line_said : (l : Line) → IsFit l → IsSaid l

@@ -1,33 +1,11 @@
 -- Words, and what they say in their places.
-use Rattle.std.proofs.Common.{
-  ◌≡◌,
-  ℕ,
-  ◌^◌,
-  ◌<◌,
-  ◌≤◌,
-  Bool,
-  true,
-  false,
-  cond,
-  eqb,
-  List,
-  [],
-  ◌∷◌,
-  Ok,
-  Err,
-  length,
-  decimal,
-  refl,
-  ap,
-  ◌∙◌,
-  arith,
-  nat_le,
-  nat_lt,
-}
+use Rattle.std.proofs.Common.{◌≡◌, ℕ, ◌+◌, ◌^◌, ◌<◌, ◌≤◌, Bool, true, false, cond, eqb, List, [], ◌∷◌, ◌++◌, Ok, Err, length, take, drop, codes, decimal, refl, ap, ◌∙◌, arith, append_assoc, nat_le, nat_lt, length-append}
 use mathlib.Core.Bool.{◌&&◌, ◌||◌, not}
 use Rattle.std.proofs.lemmas.Bool.Decides.{nat_tests}
+use Rattle.std.proofs.lemmas.List.Folds.{list_all-append}
 use Rattle.std.proofs.lemmas.Fmt.{length-decimal-le}
-use Rattle.std.specs.List.{list_all}
+use Rattle.std.proofs.Math.Seq.{take-append_seam, drop-append-add}
+use Rattle.std.specs.List.{list_all, position_or_len, before_first, after_first}
 use Rattle.std.specs.Str.{all_ascii_digits}
 use Rattle.std.specs.Char.{is_ascii_digit}
 use Rattle.wait_model.specs.declared.tasks.How.{How}
@@ -42,11 +20,14 @@ use Rattle.wait_model.specs.declared.queues.Form.TheVariants as form
 use Rattle.wait_model.specs.Tasks.{looks_in, is_killable}
 use Rattle.wait_model.specs.Admission.{is_standing}
 use Rattle.wait_script.specs.Number.{number_of}
+use Rattle.wait_script.specs.Words.{both_of}
 use Rattle.wait_script.specs.Fields.{
   within,
   number_at,
   value_at,
   numbered_at,
+  is_dot,
+  bit_at,
   how_at,
   state_at,
   simple_state_at,
@@ -56,7 +37,7 @@ use Rattle.wait_script.specs.Fields.{
   fatal_at,
   all_at,
 }
-use Rattle.wait_script.specs.Text.{form_text}
+use Rattle.wait_script.specs.Text.{form_text, bit_text}
 use Rattle.wait_script.specs.Spelling.{how_word, state_word, mode_word, kind_word, fatal_word, extent_word}
 use Rattle.wait_script.proofs.Numbers.{number_again, decimal_digits}
 
@@ -114,6 +95,25 @@ letter_word letter n l h =
     (digits_in_word (decimal n) (decimal_digits n (omega (arith, h)))))
     (omega (arith, few))
 
+bit_parts : (w b : ℕ) → bit_text w b ≡ (98 ∷ decimal w) ++ (46 ∷ decimal b)
+bit_parts w b = append_assoc (codes "b" ++ decimal w) (codes ".") (decimal b)
+
+pub bit_word : (w b : ℕ) → w < 1000 → b < 1000 → IsWord (bit_text w b)
+bit_word w b h k =
+    ap is_word (bit_parts w b)
+    ∙ word_by ((98 ∷ decimal w) ++ (46 ∷ decimal b))
+    (list_all-append in_word (98 ∷ decimal w) (46 ∷ decimal b)
+    ∙ both_true (list_all in_word (decimal w)) (list_all in_word (decimal b))
+    (digits_in_word (decimal w) (decimal_digits w (omega (arith, h))))
+    (digits_in_word (decimal b) (decimal_digits b (omega (arith, k)))))
+    few
+  where
+    few : length ((98 ∷ decimal w) ++ (46 ∷ decimal b)) ≤ 20
+    few =
+        let m = short_number w h in
+        let n = short_number b k in
+        rw (length-append) (omega (arith, m, n))
+
 -- numbers in their ranges
 within_read : (why low most n : ℕ) → low ≤ n → n ≤ most → n < 2 ^ 64
     → within why low most (number_of (decimal n)) ≡ Ok n
@@ -132,6 +132,47 @@ pub numbered_read : (letter low most n : ℕ) → low ≤ n → n ≤ most → n
 numbered_read letter low most n a b h =
     let same : eqb letter letter ≡ true = grind (arith, nat_tests) in
     ap (λ b. cond b (within 9 low most (number_of (decimal n))) (Err 9)) same ∙ within_read 9 low most n a b h
+
+-- no digit is a dot
+at_dot : (front back : List ℕ) → all_ascii_digits front ≡ true
+    → position_or_len is_dot (front ++ (46 ∷ back)) ≡ length front
+at_dot [] back h = refl
+at_dot (c ∷ cs) back h =
+    let p = parts_true (is_ascii_digit c) (all_ascii_digits cs) h in
+    ap (λ b. cond (not b) (1 + position_or_len is_dot (cs ++ (46 ∷ back))) 0) (no_dot c p.0)
+    ∙ one (position_or_len is_dot (cs ++ (46 ∷ back))) (at_dot cs back p.1)
+  where
+    no_dot : (c : ℕ) → is_ascii_digit c ≡ true → is_dot c ≡ false
+    no_dot c h = grind (arith, nat_tests)
+
+    one : (n : ℕ) → n ≡ length cs → 1 + n ≡ length (c ∷ cs)
+    one n e = omega (arith, e)
+
+module _ (w b : ℕ) (h : w ≤ 127) (k : b ≤ 63) where
+  abbrev text : List ℕ
+  text = (98 ∷ decimal w) ++ (46 ∷ decimal b)
+
+  stands : position_or_len is_dot text ≡ length (98 ∷ decimal w)
+  stands = one (position_or_len is_dot (decimal w ++ (46 ∷ decimal b))) (decimal w)
+      (at_dot (decimal w) (decimal b) (decimal_digits w (omega (arith, h))))
+    where
+      one : (n : ℕ) (ds : List ℕ) → n ≡ length ds → 1 + n ≡ length (98 ∷ ds)
+      one n ds e = omega (arith, e)
+
+  front : before_first is_dot text ≡ 98 ∷ decimal w
+  front = ap (λ n. take n text) stands ∙ take-append_seam (98 ∷ decimal w) (46 ∷ decimal b)
+
+  back : after_first is_dot text ≡ decimal b
+  back = ap (λ n. drop (n + 1) text) stands ∙ drop-append-add (98 ∷ decimal w) (46 ∷ decimal b) 1
+
+  pub bit_read : bit_at (bit_text w b) ≡ Ok (w, b)
+  bit_read =
+      ap bit_at (bit_parts w b)
+      ∙ ap (λ f. both_of (numbered_at 98 0 127 f) (within 9 0 63 (number_of (after_first is_dot text)))) front
+      ∙ ap (λ g. both_of (numbered_at 98 0 127 (98 ∷ decimal w)) (within 9 0 63 (number_of g))) back
+      ∙ ap (λ r. both_of r (within 9 0 63 (number_of (decimal b))))
+      (numbered_read 98 0 127 w (omega arith) h (omega (arith, h)))
+      ∙ ap (λ r. both_of (Ok w) r) (within_read 9 0 63 b (omega arith) k (omega (arith, k)))
 
 -- keywords
 pub state_is_word : (s : SleepState) → IsWord (state_word s)

@@ -20,6 +20,7 @@ use Rattle.std.specs.Prelude.{
   ◌==◌,
   codes,
 }
+use Rattle.std.specs.List.{before_first, after_first}
 use Rattle.std.specs.Str.{bytes_eq}
 use Rattle.wait_model.specs.declared.tasks.How.{How}
 use Rattle.wait_model.specs.declared.tasks.SleepState.{SleepState}
@@ -31,6 +32,7 @@ use Rattle.wait_model.specs.declared.watches.Kind.TheVariants as kind
 use Rattle.wait_model.specs.declared.queues.Form.{Form}
 use Rattle.wait_model.specs.declared.queues.Form.TheVariants as form
 use Rattle.wait_script.specs.Number.{number_of}
+use Rattle.wait_script.specs.Words.{both_of}
 
 -- the last task of a script, and the last that adds with priority
 abbrev pub last_task : ℕ
@@ -56,12 +58,23 @@ abbrev pub numbered_at : ℕ → ℕ → ℕ → List ℕ → Result ℕ ℕ
 numbered_at letter low most [] = Err 9
 numbered_at letter low most (c ∷ digits) = if c == letter then within 9 low most (number_of digits) else Err 9
 
--- a plain condition, `c`; a completion, `d`
+-- a plain condition, `c`; a completion, `d`; a variable, `v`
 abbrev pub cond_at : ℕ → ℕ → List ℕ → Result ℕ ℕ
 cond_at low most word = numbered_at 99 low most word
 
 abbrev pub cell_at : List ℕ → Result ℕ ℕ
 cell_at word = numbered_at 100 0 63 word
+
+abbrev pub var_at : List ℕ → Result ℕ ℕ
+var_at word = numbered_at 118 0 127 word
+
+-- a bit of a bit word: `b` and the word's number before the first dot, the bit's number behind it
+abbrev pub is_dot : ℕ → Bool
+is_dot b = b == 46
+
+abbrev pub bit_at : List ℕ → Result (ℕ × ℕ) ℕ
+bit_at word = both_of (numbered_at 98 0 127 (before_first is_dot word))
+    (within 9 0 63 (number_of (after_first is_dot word)))
 
 -- the value that a table of keywords has at a word
 abbrev pub keyword_at : {A : Type 0} → List (List ℕ × A) → List ℕ → Result A ℕ

@@ -1,6 +1,5 @@
 -- The forms of the calls: for each name what its words say, or the first why. (To be believed.)
 use Rattle.std.specs.Prelude.{ℕ, List, [], ◌∷◌, Result, Ok, Err, Bool, false, ◌&&◌, if◌then◌else◌, codes}
-use Rattle.std.specs.List.{list_any}
 use Rattle.std.specs.Str.{bytes_eq}
 use Rattle.wait_model.specs.declared.calls.Call.{Call}
 use Rattle.wait_model.specs.declared.calls.Call.TheVariants as call
@@ -10,6 +9,8 @@ use Rattle.wait_script.specs.Fields.{
   value_at,
   cond_at,
   cell_at,
+  var_at,
+  bit_at,
   how_at,
   state_at,
   simple_state_at,
@@ -99,6 +100,24 @@ try_wait_at words = form1 cell_at (λ cell. call.TryWait cell) words
 abbrev pub is_done_at : List (List ℕ) → Result Call ℕ
 is_done_at words = form1 cell_at (λ cell. call.IsDone cell) words
 
+abbrev pub try_bit_at : List (List ℕ) → Result Call ℕ
+try_bit_at words = form1 bit_at (λ b. call.TryBit b.0 b.1) words
+
+abbrev pub wait_bit_at : List (List ℕ) → Result Call ℕ
+wait_bit_at words = form2 bit_at state_at (λ b state. call.WaitBit b.0 b.1 state) words
+
+abbrev pub lock_bit_at : List (List ℕ) → Result Call ℕ
+lock_bit_at words = form2 bit_at state_at (λ b state. call.LockBit b.0 b.1 state) words
+
+abbrev pub clear_bit_at : List (List ℕ) → Result Call ℕ
+clear_bit_at words = form1 bit_at (λ b. call.ClearBit b.0 b.1) words
+
+abbrev pub wait_var_at : List (List ℕ) → Result Call ℕ
+wait_var_at words = form3 var_at value_at state_at (λ var old state. call.WaitVar var old state) words
+
+abbrev pub set_var_at : List (List ℕ) → Result Call ℕ
+set_var_at words = form2 var_at value_at (λ var value. call.SetVar var value) words
+
 -- the calls by their names
 abbrev pub calls : List (List ℕ × (List (List ℕ) → Result Call ℕ))
 calls =
@@ -121,16 +140,13 @@ calls =
     ∷ (codes "waitfor", wait_for_at)
     ∷ (codes "trywait", try_wait_at)
     ∷ (codes "isdone", is_done_at)
+    ∷ (codes "trybit", try_bit_at)
+    ∷ (codes "waitbit", wait_bit_at)
+    ∷ (codes "lockbit", lock_bit_at)
+    ∷ (codes "clearbit", clear_bit_at)
+    ∷ (codes "waitvar", wait_var_at)
+    ∷ (codes "setvar", set_var_at)
     ∷ []
-
--- the names of the calls that are not built yet
-abbrev pub later : List (List ℕ)
-later =
-    codes "trybit" ∷ codes "waitbit" ∷ codes "lockbit" ∷ codes "clearbit" ∷ codes "waitvar" ∷ codes "setvar" ∷
-    []
-
-abbrev pub is_later : List ℕ → Bool
-is_later name = list_any (bytes_eq name) later
 
 -- a call by a table of names
 abbrev pub call_in : List (List ℕ × (List (List ℕ) → Result Call ℕ)) → List ℕ → List (List ℕ) → Result Call ℕ

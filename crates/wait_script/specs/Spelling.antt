@@ -28,7 +28,7 @@ use Rattle.wait_model.specs.declared.watches.Kind.{Kind}
 use Rattle.wait_model.specs.declared.watches.Kind.TheVariants as kind
 use Rattle.wait_model.specs.Admission.{is_in_range, IsListed}
 use Rattle.wait_script.specs.Fields.{last_task}
-use Rattle.wait_script.specs.Text.{form_text}
+use Rattle.wait_script.specs.Text.{form_text, bit_text}
 use Rattle.wait_script.specs.declared.line.Line.{Line}
 use Rattle.wait_script.specs.declared.line.Line.TheVariants as line
 
@@ -37,6 +37,9 @@ cond_word cond = codes "c" ++ decimal cond
 
 abbrev pub cell_word : ℕ → List ℕ
 cell_word cell = codes "d" ++ decimal cell
+
+abbrev pub var_word : ℕ → List ℕ
+var_word var = codes "v" ++ decimal var
 
 abbrev pub state_word : SleepState → List ℕ
 state_word Uninterruptible = codes "plain"
@@ -85,6 +88,12 @@ call_words (call.Reinit cell) = codes "reinit" ∷ cell_word cell ∷ []
 call_words (call.WaitFor cell state) = codes "waitfor" ∷ cell_word cell ∷ state_word state ∷ []
 call_words (call.TryWait cell) = codes "trywait" ∷ cell_word cell ∷ []
 call_words (call.IsDone cell) = codes "isdone" ∷ cell_word cell ∷ []
+call_words (call.TryBit word bit) = codes "trybit" ∷ bit_text word bit ∷ []
+call_words (call.WaitBit word bit state) = codes "waitbit" ∷ bit_text word bit ∷ state_word state ∷ []
+call_words (call.LockBit word bit state) = codes "lockbit" ∷ bit_text word bit ∷ state_word state ∷ []
+call_words (call.ClearBit word bit) = codes "clearbit" ∷ bit_text word bit ∷ []
+call_words (call.WaitVar var old state) = codes "waitvar" ∷ var_word var ∷ decimal old ∷ state_word state ∷ []
+call_words (call.SetVar var value) = codes "setvar" ∷ var_word var ∷ decimal value ∷ []
 
 abbrev pub line_words : Line → List (List ℕ)
 line_words (line.Call task call) = codes "call" ∷ decimal task ∷ call_words call
@@ -100,6 +109,8 @@ script_text lines = codes "waitq 1\n" ++ flat_map (λ l. line_text l ++ 10 ∷ [
 -- the number of 64 bits in a call
 abbrev pub value_of : Call → ℕ
 value_of (call.Set cond value) = value
+value_of (call.WaitVar var old state) = old
+value_of (call.SetVar var value) = value
 value_of call = 0
 
 -- the call is one that there is, and its numbers are in their ranges

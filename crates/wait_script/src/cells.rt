@@ -1,10 +1,10 @@
-//! The forms of the calls on simple queues and completions: for each name, what the words behind
+//! The forms of the calls on simple queues, completions, bits and variables: for each name, what the words behind
 //! it say.
 
 ghost use Rattle.std.specs.Prelude.{◌≡◌, map};
 ghost use Rattle.wait_script.specs.Forms as spec;
 
-use crate::fields::{all, cell, condition, simple_state, state};
+use crate::fields::{all, bit, cell, condition, simple_state, state, value, variable};
 use crate::why::WORD_COUNT;
 use crate::words::both;
 use wait_model::calls::Call;
@@ -111,4 +111,76 @@ pub fn is_done(words: &[&str]) -> Result<Call, u8>
     };
     let cell = cell(word)?;
     Ok(Call::IsDone { cell })
+}
+
+/// `trybit BIT`, by the words behind the name.
+#[tactic(auto, using(crate::proofs::Counts::few1))]
+pub fn try_bit(words: &[&str]) -> Result<Call, u8>
+    ensures { result ≡ spec.try_bit_at (map (λ w. w.now) words.now) }
+{
+    let [text] = words else {
+        return Err(WORD_COUNT);
+    };
+    let (word, bit) = bit(text)?;
+    Ok(Call::TryBit { word, bit })
+}
+
+/// `waitbit BIT STATE`, by the words behind the name.
+#[tactic(auto, using(crate::proofs::Counts::few2))]
+pub fn wait_bit(words: &[&str]) -> Result<Call, u8>
+    ensures { result ≡ spec.wait_bit_at (map (λ w. w.now) words.now) }
+{
+    let [text, how] = words else {
+        return Err(WORD_COUNT);
+    };
+    let ((word, bit), state) = both(bit(text), state(how))?;
+    Ok(Call::WaitBit { word, bit, state })
+}
+
+/// `lockbit BIT STATE`, by the words behind the name.
+#[tactic(auto, using(crate::proofs::Counts::few2))]
+pub fn lock_bit(words: &[&str]) -> Result<Call, u8>
+    ensures { result ≡ spec.lock_bit_at (map (λ w. w.now) words.now) }
+{
+    let [text, how] = words else {
+        return Err(WORD_COUNT);
+    };
+    let ((word, bit), state) = both(bit(text), state(how))?;
+    Ok(Call::LockBit { word, bit, state })
+}
+
+/// `clearbit BIT`, by the words behind the name.
+#[tactic(auto, using(crate::proofs::Counts::few1))]
+pub fn clear_bit(words: &[&str]) -> Result<Call, u8>
+    ensures { result ≡ spec.clear_bit_at (map (λ w. w.now) words.now) }
+{
+    let [text] = words else {
+        return Err(WORD_COUNT);
+    };
+    let (word, bit) = bit(text)?;
+    Ok(Call::ClearBit { word, bit })
+}
+
+/// `waitvar VARIABLE OLD STATE`, by the words behind the name.
+#[tactic(auto, using(crate::proofs::Counts::few3))]
+pub fn wait_var(words: &[&str]) -> Result<Call, u8>
+    ensures { result ≡ spec.wait_var_at (map (λ w. w.now) words.now) }
+{
+    let [text, number, how] = words else {
+        return Err(WORD_COUNT);
+    };
+    let (var, (old, state)) = both(variable(text), both(value(number), state(how)))?;
+    Ok(Call::WaitVar { var, old, state })
+}
+
+/// `setvar VARIABLE VALUE`, by the words behind the name.
+#[tactic(auto, using(crate::proofs::Counts::few2))]
+pub fn set_var(words: &[&str]) -> Result<Call, u8>
+    ensures { result ≡ spec.set_var_at (map (λ w. w.now) words.now) }
+{
+    let [text, number] = words else {
+        return Err(WORD_COUNT);
+    };
+    let (var, value) = both(variable(text), value(number))?;
+    Ok(Call::SetVar { var, value })
 }

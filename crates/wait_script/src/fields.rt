@@ -7,6 +7,7 @@ ghost use Rattle.wait_script.specs.Number.{number_of};
 
 use crate::number::number;
 use crate::why::{BAD_CONDITION, BAD_FORM, BAD_NUMBER};
+use crate::words::both;
 use wait_model::queues::Form;
 use wait_model::tasks::{How, SleepState};
 use wait_model::watches::{Kind, Mode};
@@ -77,6 +78,23 @@ pub fn cell(word: &str) -> Result<u8, u8>
     ensures { result ≡ spec.cell_at word.now }
 {
     numbered(word, 'd', 0, 63)
+}
+
+/// A variable, `v` and a number from 0 to 127.
+pub fn variable(word: &str) -> Result<u8, u8>
+    ensures { result ≡ spec.var_at word.now }
+{
+    numbered(word, 'v', 0, 127)
+}
+
+/// A bit of a bit word, as `b127.63`: the word's number and the bit's.
+pub fn bit(text: &str) -> Result<(u8, u8), u8>
+    ensures { result ≡ spec.bit_at text.now }
+{
+    let Some((word, bit)) = text.split_once('.') else {
+        return Err(BAD_CONDITION);
+    };
+    both(numbered(word, 'b', 0, 127), number_of_condition(bit, 0, 63))
 }
 
 /// How a wait sleeps: `plain`, `int`, `kill`, and exclusive as `int-ex`, `kill-ex`.

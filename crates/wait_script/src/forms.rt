@@ -5,7 +5,8 @@ ghost use Rattle.std.specs.Prelude.{◌≡◌, map};
 ghost use Rattle.wait_script.specs.Forms as spec;
 
 use crate::cells::{
-    complete, complete_all, is_done, reinit, simple_wait, simple_wake, try_wait, wait_for,
+    clear_bit, complete, complete_all, is_done, lock_bit, reinit, set_var, simple_wait,
+    simple_wake, try_bit, try_wait, wait_bit, wait_for, wait_var,
 };
 use crate::fields::{
     LAST_PRIORITY_TASK, LAST_TASK, condition, count, fatal, form, how, kind, mode, state, task,
@@ -144,16 +145,6 @@ fn kick(words: &[&str]) -> Result<Call, u8>
     Ok(Call::Kick { who })
 }
 
-/// Whether a name is that of a call that is not built yet.
-pub fn is_later(name: &str) -> bool
-    ensures { result ≡ spec.is_later name.now }
-{
-    matches!(
-        name,
-        "trybit" | "waitbit" | "lockbit" | "clearbit" | "waitvar" | "setvar"
-    )
-}
-
 /// A call by its name and the words behind it.
 pub fn named(name: &str, rest: &[&str]) -> Result<Call, u8>
     ensures { result ≡ spec.named_at name.now (map (λ w. w.now) rest.now) }
@@ -178,6 +169,12 @@ pub fn named(name: &str, rest: &[&str]) -> Result<Call, u8>
         "waitfor" => wait_for(rest),
         "trywait" => try_wait(rest),
         "isdone" => is_done(rest),
+        "trybit" => try_bit(rest),
+        "waitbit" => wait_bit(rest),
+        "lockbit" => lock_bit(rest),
+        "clearbit" => clear_bit(rest),
+        "waitvar" => wait_var(rest),
+        "setvar" => set_var(rest),
         _ => Err(UNKNOWN_WORD),
     }
 }

@@ -32,7 +32,6 @@ use Rattle.wait_model.specs.declared.points.Planned.{Planned}
 use Rattle.wait_model.specs.declared.points.Point.{Point}
 use Rattle.wait_model.specs.declared.points.Point.TheVariants as at
 use Rattle.wait_model.specs.declared.points.WalkPoint.TheVariants as walking
-use Rattle.wait_model.specs.declared.points.SelectPoint.TheVariants as selecting
 use Rattle.wait_model.specs.declared.queues.Walking.{Walking}
 use Rattle.wait_model.specs.declared.watches.Entry.{Entry}
 use Rattle.wait_model.specs.declared.points.Progress.{Progress}
@@ -40,15 +39,13 @@ use Rattle.wait_model.specs.declared.points.Progress.TheVariants as now
 use Rattle.wait_model.specs.declared.calls.Ran.{Ran}
 use Rattle.wait_model.specs.declared.calls.Ran.TheVariants as ran
 use Rattle.wait_model.specs.Programs.{program_start}
-use Rattle.wait_model.specs.Points.{call_watch, given_at, IsNamed, IsReachable}
-use Rattle.wait_model.specs.Watches.{IsThere}
+use Rattle.wait_model.specs.Points.{cond_of, given_at, IsNamed, IsReachable}
 use Rattle.wait_model.specs.Programs.{IsFitting, IsFittingWalk}
 use Rattle.wait_model.specs.Admission.{is_in_range, is_queued_twice, lacks_entry, IsListed}
 use Rattle.wait_model.proofs.EveryRun.{admits_parts}
 use Rattle.wait_model.specs.Shown.{IsInRange}
 use Rattle.wait_model.specs.Locations.{Shows}
 use Rattle.wait_model.specs.Reached.{IsSoundCall, IsCallSound, IsCounted, Allows, Joins}
-use Rattle.wait_model.specs.Tasks.{task_count}
 use Rattle.wait_model.specs.Runs.{
   State,
   after_event,
@@ -77,12 +74,11 @@ use Rattle.wait_core.proofs.Kept.{
   allowed,
   joins,
   made_core,
-  opened_room,
   opened_core,
 }
 
 -- what is read at a task's place
-pub read_progress : (points : List Progress) (me slot : ℕ) (r : Progress) → length points ≡ task_count → me < task_count
+pub read_progress : (points : List Progress) (me slot : ℕ) (r : Progress) → length points ≡ 64 → me < 64
     → slot ≡ me → r ≡ get_or points slot r → slice_get points me ≡ Some r
 read_progress points me slot r l inside same is =
     slice_get_read points (length points) me r refl (omega arith)
@@ -90,7 +86,7 @@ read_progress points me slot r l inside same is =
 
 -- the answers of a step
 module _ (words : List ℕ) (points : List Progress) (items : List Ran) (count capacity : ℕ)
-    (core : IsCore words points items count capacity) (me : ℕ) (mine : me < task_count) (v : List Ran)
+    (core : IsCore words points items count capacity) (me : ℕ) (mine : me < 64) (v : List Ran)
     (view : items ≡ v) where
   -- the run as callers see it
   told : (x : Stepped) → x ≡ stepped (state_of items) (made_in items) me ((state_of items).progress me)
@@ -179,7 +175,7 @@ module _ (words : List ℕ) (points : List Progress) (items : List Ran) (count c
 -- small steps between what the code read and what the state has
 pub opened_at : (words : List ℕ) (points : List Progress) (items : List Ran) (count capacity : ℕ)
     → IsCore words points items count capacity → (me slot : ℕ) (r : Progress) (call : Call) (p : Point)
-    → me < task_count → slot ≡ me → r ≡ get_or points slot r → r ≡ now.Open call p
+    → me < 64 → slot ≡ me → r ≡ get_or points slot r → r ≡ now.Open call p
     → slice_get points me ≡ Some (now.Open call p)
 opened_at words points items count capacity core me slot r call p mine same read is =
     read_progress points me slot r core.tasks mine same read ∙ ap (λ (x : Progress). Some x) is
@@ -202,9 +198,8 @@ running t u e h = subst (λ (x : Task). x.runnable ≡ true) e (turned t.runnabl
     turned false h = cc
 
 -- what a sound call says of its point's numbers
-pub call_limit : (n : ℕ) (call : Call) (p : Point) → IsSoundCall n (now.Open call p)
-    → IsThere (call_watch call)
-call_limit n call p k = k.watch
+pub call_limit : (n : ℕ) (call : Call) (p : Point) → IsSoundCall n (now.Open call p) → cond_of call < 64
+call_limit n call p k = k.cond
 
 pub call_reaches : (n : ℕ) (call : Call) (p : Point) → IsSoundCall n (now.Open call p) → IsReachable call p
 call_reaches n call p k = (k.who, named p k)
@@ -217,19 +212,15 @@ counted_fits : (n : ℕ) (w : Walking) → n ≤ 1000000 → IsCounted n w → I
 counted_fits n w few k = record {
   woken = (let l : w.woken ≤ n = k.woken in omega arith);
   selected = (let l : w.woken ≤ n = k.woken in let m : w.selected ≤ w.woken = k.selected in omega arith);
-  calls = (let l : w.calls ≤ n = k.calls in omega arith);
-  holds = (let l : w.holds ≤ n = k.holds in omega arith);
 }
 
 pub call_fits : (n : ℕ) (call : Call) (p : Point) → n ≤ 1000000 → IsSoundCall n (now.Open call p) → IsFitting p
 call_fits n call (at.Walk (walking.Call w)) few k = counted_fits n w few k.walk
-call_fits n call (at.Walk (walking.BreakLock w)) few k = counted_fits n w few k.walk
 call_fits n call (at.Walk (walking.Wake w c)) few k = (counted_fits n w few k.walk.0, k.walk.2)
-call_fits n call (at.Select (selecting.Next j)) few k = let l : j ≤ n = k.walk in omega arith
 call_fits n call p few k = tt
 
 pub plan_in_range : (words : List ℕ) (points : List Progress) (items : List Ran) (count capacity : ℕ)
-    (core : IsCore words points items count capacity) (me : ℕ) (mine : me < task_count) (call : Call) (p : Point)
+    (core : IsCore words points items count capacity) (me : ℕ) (mine : me < 64) (call : Call) (p : Point)
     (stands : slice_get points me ≡ Some (now.Open call p))
     → (plan : Planned) → plan ≡ planned (state_of items) me call p → IsInRange plan.event
 plan_in_range words points items count capacity core me mine call p stands plan is =
@@ -238,17 +229,17 @@ plan_in_range words points items count capacity core me mine call p stands plan 
     (allowed words points items count capacity core me mine call p stands))
 
 pub room_left : (words : List ℕ) (points : List Progress) (items : List Ran) (count capacity : ℕ)
-    → IsCore words points items count capacity → (count ≡ 1000000 → ⊥) → length items < capacity
-room_left words points items count capacity core more =
+    → IsCore words points items count capacity → length items < capacity
+room_left words points items count capacity core =
     let r : length items ≤ 2 * count + open_calls points = core.room in
     let f : open_calls points ≤ length points = calls_few points in
-    let t : length points ≡ task_count = core.tasks in
-    let n : count < 1000000 = (let m : count ≤ 1000000 = core.few in omega arith) in
+    let t : length points ≡ 64 = core.tasks in
+    let n : count ≤ 1000000 = core.few in
     let k : 2000128 ≤ capacity = core.reserved in
     omega arith
 
 module _ (words : List ℕ) (points : List Progress) (items : List Ran) (count capacity : ℕ)
-    (core : IsCore words points items count capacity) (me : ℕ) (mine : me < task_count) (call : Call) (p : Point)
+    (core : IsCore words points items count capacity) (me : ℕ) (mine : me < 64) (call : Call) (p : Point)
     (stands : slice_get points me ≡ Some (now.Open call p))
     (plan : Planned) (is : plan ≡ planned (state_of items) me call p) where
   pub plan_allowed : Allows (state_of items) me plan.event
@@ -287,7 +278,7 @@ grown_run items v items' me e found view was grown =
 
 -- an opening that is refused for the own entry, by what the code read
 module _ (words : List ℕ) (points : List Progress) (items : List Ran) (count capacity : ℕ)
-    (core : IsCore words points items count capacity) (me : ℕ) (mine : me < task_count) (slot : ℕ) (same : slot ≡ me)
+    (core : IsCore words points items count capacity) (me : ℕ) (mine : me < 64) (slot : ℕ) (same : slot ≡ me)
     (r : Progress) (read : r ≡ get_or points slot r) (t : Bool) (test : t ≡ is_open r) (shut : t ≡ false)
     (call : Call) (v : List Ran) (view : items ≡ v) (fits : Bool) (fit : fits ≡ is_in_range me call)
     (fitting : fits ≡ true) (entry : Option Entry) (is : entry ≡ (state_of items).table.entry (own me)) where
@@ -296,7 +287,7 @@ module _ (words : List ℕ) (points : List Progress) (items : List Ran) (count c
   entry_checked = subst (λ (w : List Ran). checked true (is_queued_twice call entry) (lacks_entry call entry)
       ≡ started (state_of w) me call) view (sym (rw (within, closed_is, sym fit ∙ fitting, ← is) refl))
     where
-      within : nat_lt me task_count ≡ true
+      within : nat_lt me 64 ≡ true
       within = grind (arith, nat_tests)
 
       closed_is : is_open ((state_of items).progress me) ≡ false
@@ -331,7 +322,7 @@ may_open s me call entry is a b d fits fit twice once lacks has listed = rw (
 
 -- an opening, by what the code read
 module _ (words : List ℕ) (points : List Progress) (items : List Ran) (count capacity : ℕ)
-    (core : IsCore words points items count capacity) (me : ℕ) (mine : me < task_count) (slot : ℕ) (same : slot ≡ me)
+    (core : IsCore words points items count capacity) (me : ℕ) (mine : me < 64) (slot : ℕ) (same : slot ≡ me)
     (r : Progress) (read : r ≡ get_or points slot r) (t : Bool) (test : t ≡ is_open r) (no : t ≡ false)
     (call : Call) (may : MayOpen (state_of items) me call) where
   closed_is : is_open ((state_of items).progress me) ≡ false
@@ -340,14 +331,6 @@ module _ (words : List ℕ) (points : List Progress) (items : List Ran) (count c
       let b : Some ((state_of items).progress me) ≡ Some r = sym (core.progress me mine) ∙ a in
       let d : (state_of items).progress me ≡ r = cc in
       ap is_open d ∙ sym test ∙ no
-
-  pub room_to_open : length items < capacity
-  room_to_open =
-      let r : length items < 2 * count + task_count =
-      opened_room words points items count capacity core me mine call closed_is may in
-      let n : count ≤ 1000000 = core.few in
-      let k : 2000128 ≤ capacity = core.reserved in
-      omega arith
 
   pub started_core : (p : Point) → p ≡ program_start call → (items' : List Ran) → items' ≡ items
       ++ ran.Opened me call ∷ [] → (capacity' : ℕ) → capacity ≤ capacity'
@@ -360,5 +343,5 @@ module _ (words : List ℕ) (points : List Progress) (items : List Ran) (count c
   started_ok v view = subst (λ (w : List Ran). Ok tt ≡ started (state_of w) me call) view
       (sym (rw (within, closed_is, (admits_parts me call _ may).0, (admits_parts me call _ may).1, (admits_parts me call _ may).2) refl))
     where
-      within : nat_lt me task_count ≡ true
+      within : nat_lt me 64 ≡ true
       within = grind (arith, nat_tests)

@@ -1,50 +1,25 @@
--- How far a core's scans go: only a task that had a call opened has an entry queued or a bookmark out.
-use Rattle.std.specs.Prelude.{
-  ◌≡◌,
-  ◌≢◌,
-  ℕ,
-  ◌+◌,
-  ◌*◌,
-  ◌<◌,
-  ◌≤◌,
-  ◌⊎◌,
-  true,
-  false,
-  ◌==◌,
-  max,
-  List,
-  slice_index,
-  slice_get,
-  slice_set,
-  length,
-  Option,
-  Some,
-  None,
-}
+-- How far a core's scans go: only a task that had a call opened has an entry queued.
+use Rattle.std.specs.Prelude.{◌≡◌, ◌≢◌, ℕ, ◌+◌, ◌<◌, ◌≤◌, ◌⊎◌, true, false, ◌==◌, max, List, slice_get, slice_set, length, Option, Some, None}
 use Rattle.std.proofs.lemmas.Bool.Decides.{eqb_tells}
 use Rattle.std.proofs.Common.{refl, arith, ap, sym, ◌∙◌, subst, inl, inr}
 use Rattle.wait_model.specs.declared.watches.Entry as entries
-use Rattle.wait_model.specs.declared.queues.Mark as marks
 use Rattle.wait_model.specs.declared.points.Given.{Given}
 use Rattle.wait_model.specs.declared.points.Progress.{Progress}
 use Rattle.wait_model.specs.declared.points.Progress.TheVariants as now
 use Rattle.wait_model.specs.declared.calls.Event.{Event}
 use Rattle.wait_model.specs.declared.calls.Event.TheVariants as event
 use Rattle.wait_model.specs.declared.steps.Step.TheVariants as step
-use Rattle.wait_model.specs.Tasks.{task_count}
-use Rattle.wait_model.specs.Functions.{put}
 use Rattle.wait_model.specs.Words.{entry_word, entry_of, head_word}
-use Rattle.wait_model.specs.Tables.{Table, mark_of, next, start, value_of}
-use Rattle.wait_model.proofs.Conditions.{set_rest}
-use Rattle.wait_model.specs.Locations.{Location, Entry, Bookmark, Shows, word_in, mark_word}
+use Rattle.wait_model.specs.Tables.{next, start}
+use Rattle.wait_model.specs.Locations.{Entry, Shows}
 use Rattle.wait_model.specs.Runs.{State, own, after_event}
 use Rattle.wait_model.specs.Reached.{IsSound}
 use Rattle.wait_model.proofs.Functions.{put_at, put_other}
 use Rattle.wait_model.proofs.Looks.{looks_same}
-use Rattle.wait_model.proofs.Decoded.{none_read, no_mark_read}
-use Rattle.wait_core.specs.Scan.{IsReach, shown_entry, shown_mark}
+use Rattle.wait_model.proofs.Decoded.{none_read}
+use Rattle.wait_core.specs.Scan.{IsReach}
 use Rattle.wait_core.specs.Core.{IsBounded}
-use Rattle.wait_core.proofs.Found.{entry_shown_is, mark_shown_is}
+use Rattle.wait_core.proofs.Found.{entry_shown_is}
 use Rattle.wait_core.proofs.Kept.{get_set_other}
 
 -- an event queues no entry but the own one
@@ -57,47 +32,27 @@ entry_stays_off s me g (event.Lock h) x ne off =
     ap (λ (f : ℕ → Option entries.Entry). f x)
     (looks_same (next s.table me (step.Lock h g.walk (head_word (s.table.holder h) (s.table.spent h))))
     s.table.entry me).entry ∙ off
-entry_stays_off s me g (event.Set c v) x ne off =
-    ap (λ (f : ℕ → Option entries.Entry). f x)
-    (set_rest s.table me g.watch v (value_of s.table.words g.watch)).entry ∙ off
 entry_stays_off s me g e x ne off = off
-
--- an event puts no bookmark but the own one
-mark_stays_off : (s : State) (me : ℕ) (g : Given) (e : Event) (t : ℕ) → t ≢ me → s.table.mark t ≡ None
-    → (after_event s me g e).table.mark t ≡ None
-mark_stays_off s me g (event.Mark h) t ne off = put_other s.table.mark me _ t ne ∙ off
-mark_stays_off s me g (event.Unmark h) t ne off =
-    put_at (λ (o : Option marks.Mark). o ≡ None) s.table.mark me None t (λ _. refl) (λ _. off)
-mark_stays_off s me g (event.Lock h) t ne off =
-    ap (λ (f : ℕ → Option marks.Mark). f t)
-    (looks_same (next s.table me (step.Lock h g.walk (head_word (s.table.holder h) (s.table.spent h))))
-    s.table.entry me).mark ∙ off
-mark_stays_off s me g (event.Set c v) t ne off =
-    ap (λ (f : ℕ → Option marks.Mark). f t)
-    (set_rest s.table me g.watch v (value_of s.table.words g.watch)).mark ∙ off
-mark_stays_off s me g e t ne off = off
 
 -- at the start nobody has had a call
 pub start_bounded : (words : List ℕ) (points : List Progress) → Shows words start
-    → ((t : ℕ) → t < 128 → slice_get points t ≡ Some now.Fresh) → IsBounded words points 0
+    → ((t : ℕ) → t < 64 → slice_get points t ≡ Some now.Fresh) → IsBounded words points 0
 start_bounded words points shown fresh = record {
   reaches = record {
     most = omega arith;
-    entries = λ x low inside. shown.each (Entry x) inside;
-    marks = λ t low inside. shown.each (Bookmark t) inside;
+    entries = λ x low inside. shown.each (Entry x) (omega arith);
   };
   fresh = λ t low inside. fresh t inside;
 }
 
 -- a call is opened
 pub opened_bounded : (words : List ℕ) (points : List Progress) (reach me slot : ℕ) (p : Progress)
-    → IsBounded words points reach → length points ≡ task_count → me < task_count → slot ≡ me → (new : ℕ)
+    → IsBounded words points reach → length points ≡ 64 → me < 64 → slot ≡ me → (new : ℕ)
     → new ≡ max reach (me + 1) → IsBounded words (slice_set points slot p) new
 opened_bounded words points reach me slot p k tasks mine same new is = record {
   reaches = record {
-    most = (let m : reach ≤ 128 = k.reaches.most in omega arith);
+    most = (let m : reach ≤ 64 = k.reaches.most in omega arith);
     entries = λ x low inside. k.reaches.entries x (omega arith) inside;
-    marks = λ t low inside. k.reaches.marks t (omega arith) inside;
   };
   fresh = λ t low inside. rw same (get_set_other points me t p (omega arith) (λ e. absurd (omega arith))
       ∙ k.fresh t (omega arith) inside);
@@ -106,7 +61,7 @@ opened_bounded words points reach me slot p k tasks mine same new is = record {
 -- an event is made
 module _ (words after : List ℕ) (s : State) (n : ℕ) (shown : Shows words s.table) (sound : IsSound s n)
     (points : List Progress) (reach me slot : ℕ) (p q : Progress) (g : Given) (e : Event)
-    (k : IsBounded words points reach) (tasks : length points ≡ task_count) (mine : me < task_count)
+    (k : IsBounded words points reach) (tasks : length points ≡ 64) (mine : me < 64)
     (same : slot ≡ me) (stands : slice_get points me ≡ Some q) (open' : q ≡ now.Fresh → ⊥)
     (later : Shows after (after_event s me g e).table) where
   below : me < reach
@@ -124,14 +79,10 @@ module _ (words after : List ℕ) (s : State) (n : ℕ) (shown : Shows words s.t
   made_bounded = record {
     reaches = record {
       most = k.reaches.most;
-      entries = λ x low inside. later.each (Entry x) inside
+      entries = λ x low inside. later.each (Entry x) (omega arith)
           ∙ ap entry_word (entry_stays_off s me g e x (λ h. absurd (omega (arith, below)))
-          (sym (entry_shown_is words s n shown sound x inside)
+          (sym (entry_shown_is words s n shown sound x (omega arith))
           ∙ ap entry_of (k.reaches.entries x low inside) ∙ none_read));
-      marks = λ t low inside. later.each (Bookmark t) inside
-          ∙ ap mark_word (mark_stays_off s me g e t (λ h. absurd (omega (arith, below)))
-          (sym (mark_shown_is words s n shown sound t inside)
-          ∙ ap mark_of (k.reaches.marks t low inside) ∙ no_mark_read));
     };
     fresh = λ t low inside. rw same (get_set_other points me t p (omega arith)
         (λ h. absurd (omega (arith, below))) ∙ k.fresh t low inside);

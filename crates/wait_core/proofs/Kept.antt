@@ -49,8 +49,7 @@ use Rattle.wait_model.specs.Points.{given_at}
 use Rattle.wait_model.specs.Admission.{admits}
 use Rattle.wait_model.specs.Shown.{IsInRange}
 use Rattle.wait_model.specs.Locations.{Shows}
-use Rattle.wait_model.specs.Tasks.{task_count}
-use Rattle.wait_model.specs.Reached.{marked_at, IsSound, IsSoundCall, IsPlaced, Allows, Joins}
+use Rattle.wait_model.specs.Reached.{IsSound, IsSoundCall, IsPlaced, Allows, Joins}
 use Rattle.wait_model.specs.Runs.{
   State,
   start_state,
@@ -90,8 +89,6 @@ allowed_in_range s me (event.Lock head) a = a
 allowed_in_range s me (event.Unlock head used) a = a
 allowed_in_range s me (event.Queue head form) a = a.0
 allowed_in_range s me (event.Unqueue who) a = a
-allowed_in_range s me (event.Mark h) a = a
-allowed_in_range s me (event.Unmark h) a = a
 allowed_in_range s me (event.Load c v) a = a
 allowed_in_range s me (event.Set c v) a = a
 allowed_in_range s me (event.Take c v) a = a
@@ -146,7 +143,7 @@ module _ (words : List ℕ) (points : List Progress) (items : List Ran) (count c
       (sound_of items core.run (let m : count ≡ made_in items = core.made in let f : count ≤ 1000000 =
       core.few in omega arith))
 
-  module _ (me : ℕ) (mine : me < task_count) (call : Call) (p : Point)
+  module _ (me : ℕ) (mine : me < 64) (call : Call) (p : Point)
       (stands : slice_get points me ≡ Some (now.Open call p)) where
     pub open_is : (state_of items).progress me ≡ now.Open call p
     open_is = let e : Some ((state_of items).progress me) ≡ Some (now.Open call p) =
@@ -159,7 +156,7 @@ module _ (words : List ℕ) (points : List Progress) (items : List Ran) (count c
         (planned (state_of items) me call p)
     fine = program_fine (state_of items) count me call sound mine p call_sound
         (subst (λ (x : Progress). IsPlaced (state_of items).table.entry ((state_of items).table.view me) me x)
-        open_is (sound.placed me)) (sound.marked me ∙ ap marked_at open_is)
+        open_is (sound.placed me))
 
     pub allowed : Allows (state_of items) me (planned (state_of items) me call p).event
     allowed = fine.allows
@@ -180,7 +177,7 @@ module _ (words : List ℕ) (points : List Progress) (items : List Ran) (count c
 
     -- the core after an event
     made_points : (found : ℕ) (x : Progress) → progress_at call (planned (state_of items) me call p).next ≡ x
-        → (t : ℕ) → t < task_count
+        → (t : ℕ) → t < 64
         → slice_get (slice_set points me x) t ≡ Some
         ((happens (state_of items) (ran.Made me (planned (state_of items) me call p).event found)).progress t)
     made_points found x is t inside = put_at (λ v. slice_get (slice_set points me x) t ≡ Some v)
@@ -222,9 +219,9 @@ module _ (words : List ℕ) (points : List Progress) (items : List Ran) (count c
         }
 
   -- the core after an opening
-  module _ (me : ℕ) (mine : me < task_count) (call : Call) (closed : is_open ((state_of items).progress me) ≡ false)
+  module _ (me : ℕ) (mine : me < 64) (call : Call) (closed : is_open ((state_of items).progress me) ≡ false)
       (may : MayOpen (state_of items) me call) where
-    opened_points : (t : ℕ) → t < task_count
+    opened_points : (t : ℕ) → t < 64
         → slice_get (slice_set points me (now.Open call (program_start call))) t ≡ Some
         ((happens (state_of items) (ran.Opened me call)).progress t)
     opened_points t inside =
@@ -236,7 +233,7 @@ module _ (words : List ℕ) (points : List Progress) (items : List Ran) (count c
     was_closed : one_if_open ((state_of items).progress me) ≡ 0
     was_closed = ap (λ b. if b then 1 else 0) closed
 
-    pub opened_room : length items < 2 * count + task_count
+    pub opened_room : length items < 2 * count + 64
     opened_room =
         let r : length items ≤ 2 * count + open_calls points = core.room in
         let c : open_calls (slice_set points me (now.Open call (program_start call))) + one_if_open
@@ -244,7 +241,7 @@ module _ (words : List ℕ) (points : List Progress) (items : List Ran) (count c
         calls_set points me (now.Open call (program_start call)) ((state_of items).progress me)
         (core.progress me mine) in
         let z : one_if_open ((state_of items).progress me) ≡ 0 = was_closed in
-        let f : open_calls (slice_set points me (now.Open call (program_start call))) ≤ task_count =
+        let f : open_calls (slice_set points me (now.Open call (program_start call))) ≤ 64 =
         (let l = calls_few (slice_set points me (now.Open call (program_start call)))
         in omega (arith, l, length-set points me (now.Open call (program_start call)), core.tasks)) in
         omega arith

@@ -1,5 +1,5 @@
 pub mod Scanned
-pub mod Bounds
 pub mod Found
 pub mod Kept
 pub mod Answered
+pub mod Bounds

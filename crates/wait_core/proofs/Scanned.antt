@@ -1,47 +1,13 @@
--- One more member of a scan.
-use Rattle.std.specs.Prelude.{
-  ◌≡◌,
-  ℕ,
-  ◌+◌,
-  ◌<◌,
-  ◌≤◌,
-  Bool,
-  true,
-  false,
-  ◌&&◌,
-  ◌==◌,
-  if◌then◌else◌,
-  nat_lt,
-  nat_le,
-  List,
-  ◌⊎◌,
-  ◌≢◌,
-  ◌*◌,
-  ◌-◌,
-  Option,
-  Some,
-  None,
-}
+-- One more entry word of a scan.
+use Rattle.std.specs.Prelude.{◌≡◌, ℕ, ◌+◌, ◌<◌, ◌≤◌, Bool, true, false, if◌then◌else◌, nat_lt, List, ◌⊎◌, ◌≢◌, Option, Some, None, ◌*◌}
 use Rattle.std.proofs.Common.{refl, arith, ap, sym, ◌∙◌, subst, inl, inr}
 use Rattle.std.proofs.lemmas.Bool.Decides.{nat_tests, eqb_tells}
-use Rattle.wait_model.specs.declared.queues.Mark.{Mark}
+use Rattle.wait_model.specs.declared.watches.Entry.{Entry}
 use Rattle.wait_model.specs.declared.queues.Member.{Member}
 use Rattle.wait_core.specs.declared.scan.Span.{Span}
-use Rattle.wait_model.specs.Queues.{rank, stand_by}
 use Rattle.wait_model.specs.Words.{entry_of}
-use Rattle.wait_model.specs.Tables.{mark_of}
-use Rattle.wait_model.proofs.Decoded.{none_read, no_mark_read}
-use Rattle.wait_core.specs.Scan.{
-  member_of,
-  counts,
-  prefers,
-  IsPick,
-  IsPicked,
-  preferred,
-  picked_of,
-  shown_stand,
-  IsReach,
-}
+use Rattle.wait_model.proofs.Decoded.{none_read}
+use Rattle.wait_core.specs.Scan.{counts, prefers, IsPick, IsPicked, preferred, picked_of, shown_entry, IsReach}
 
 -- below n + 1 is below n, or n
 split : (x n : ℕ) → x < n + 1 → (x < n) ⊎ (x ≡ n)
@@ -64,100 +30,95 @@ not_itself span p = by span.last
     by true = grind (arith, nat_tests)
     by false = grind (arith, nat_tests)
 
-module _ (f : ℕ → Option Mark) (n : ℕ) (span : Span) where
-  -- a member at n that does not count
-  more_passed : (b : Option Member) → ((k : Mark) → f n ≡ Some k → counts span n k ≡ false)
+module _ (f : ℕ → Option Entry) (n : ℕ) (span : Span) where
+  -- an entry at n that does not count
+  more_passed : (b : Option Member) → ((e : Entry) → f n ≡ Some e → counts span e ≡ false)
       → IsPicked f n span b → IsPicked f (n + 1) span b
-  more_passed None out h = λ x k lt s. elim (split x n lt) [
-    | inl l ↦ h x k l s
-    | inr l ↦ subst (λ (j : ℕ). counts span j k ≡ false) (sym l)
-        (out k (subst (λ (j : ℕ). f j ≡ Some k) l s))
+  more_passed None out h = λ x e lt s. elim (split x n lt) [
+    | inl k ↦ h x e k s
+    | inr k ↦ out e (subst (λ (j : ℕ). f j ≡ Some e) k s)
   ]
   more_passed (Some b) out h = record {
-    stand = h.stand;
+    entry = h.entry;
     stands = h.stands;
     place = h.place;
     inside = (let lt : b.at < n = h.inside in omega arith);
     counted = h.counted;
-    best = λ x k lt s c. elim (split x n lt) [
-      | inl l ↦ h.best x k l s c
-      | inr l ↦ let never : counts span x k ≡ false = subst (λ (j : ℕ). counts span j k ≡ false) (sym l)
-          (out k (subst (λ (j : ℕ). f j ≡ Some k) l s)) in
+    best = λ x e lt s c. elim (split x n lt) [
+      | inl k ↦ h.best x e k s c
+      | inr k ↦ let never : counts span e ≡ false = out e (subst (λ (j : ℕ). f j ≡ Some e) k s) in
           let z : true ≡ false = sym c ∙ never in absurd (cc)
     ];
   }
 
-  module _ (d : Mark) (z : f n ≡ Some d) where
-    -- the member at n
-    here : (x : ℕ) (k : Mark) → x ≡ n → f x ≡ Some k → k ≡ d
-    here x k e s = let p : f n ≡ Some k = subst (λ (j : ℕ). f j ≡ Some k) e s in let q : Some k ≡ Some d =
+  module _ (d : Entry) (z : f n ≡ Some d) where
+    -- the entry at n
+    here : (x : ℕ) (e : Entry) → x ≡ n → f x ≡ Some e → e ≡ d
+    here x e k s = let p : f n ≡ Some e = subst (λ (j : ℕ). f j ≡ Some e) k s in let q : Some e ≡ Some d =
         sym p ∙ z in cc
 
-    same_rank : (x : ℕ) (k : Mark) → x ≡ n → f x ≡ Some k → rank (member_of x k) ≡ rank (member_of n d)
-    same_rank x k e s = ap (λ (j : Mark). rank (member_of x j)) (here x k e s)
-        ∙ ap (λ (j : ℕ). rank (member_of j d)) e
+    same_place : (x : ℕ) (e : Entry) → x ≡ n → f x ≡ Some e → e.place ≡ d.place
+    same_place x e k s = ap (λ (y : Entry). y.place) (here x e k s)
 
-    -- a member at n that is preferred
-    new_best : counts span n d ≡ true → ((x : ℕ) (k : Mark) → x < n → f x ≡ Some k → counts span x k ≡ true
-        → prefers span (rank (member_of x k)) (rank (member_of n d)) ≡ false)
-        → IsPick f (n + 1) span (member_of n d)
+    -- an entry at n that is preferred
+    new_best : counts span d ≡ true → ((x : ℕ) (e : Entry) → x < n → f x ≡ Some e → counts span e ≡ true
+        → prefers span e.place d.place ≡ false) → IsPick f (n + 1) span (record { at = n; place = d.place })
     new_best c h = record {
-      stand = d;
+      entry = d;
       stands = z;
       place = refl;
       inside = omega arith;
       counted = c;
-      best = λ x k lt s t. elim (split x n lt) [
-        | inl l ↦ h x k l s t
-        | inr l ↦ subst (λ (p : ℕ). prefers span p (rank (member_of n d)) ≡ false) (sym (same_rank x k l s))
-            (not_itself span (rank (member_of n d)))
+      best = λ x e lt s k. elim (split x n lt) [
+        | inl l ↦ h x e l s k
+        | inr l ↦ subst (λ (p : ℕ). prefers span p d.place ≡ false) (sym (same_place x e l s))
+            (not_itself span d.place)
       ];
     }
 
-    kept_best : (b : Member) → prefers span (rank (member_of n d)) (rank b) ≡ false → IsPick f n span b
+    kept_best : (b : Member) → prefers span d.place b.place ≡ false → IsPick f n span b
         → IsPick f (n + 1) span b
     kept_best b never h = record {
-      stand = h.stand;
+      entry = h.entry;
       stands = h.stands;
       place = h.place;
       inside = (let lt : b.at < n = h.inside in omega arith);
       counted = h.counted;
-      best = λ x k lt s c. elim (split x n lt) [
-        | inl l ↦ h.best x k l s c
-        | inr l ↦ subst (λ (p : ℕ). prefers span p (rank b) ≡ false) (sym (same_rank x k l s)) never
+      best = λ x e lt s c. elim (split x n lt) [
+        | inl k ↦ h.best x e k s c
+        | inr k ↦ subst (λ (p : ℕ). prefers span p b.place ≡ false) (sym (same_place x e k s)) never
       ];
     }
 
-    more_preferred : (b : Option Member) → counts span n d ≡ true → IsPicked f n span b
-        → IsPicked f (n + 1) span (preferred span b (member_of n d))
-    more_preferred None c h = new_best c (λ x k lt s t. let never : counts span x k ≡ false = h x k lt s in
-        let w : true ≡ false = sym t ∙ never in absurd (cc))
-    more_preferred (Some b) c h = by (prefers span (rank (member_of n d)) (rank b)) refl
+    more_preferred : (b : Option Member) → counts span d ≡ true → IsPicked f n span b
+        → IsPicked f (n + 1) span (preferred span b (record { at = n; place = d.place }))
+    more_preferred None c h = new_best c (λ x e lt s k. let never : counts span e ≡ false = h x e lt s in
+        let w : true ≡ false = sym k ∙ never in absurd (cc))
+    more_preferred (Some b) c h = by (prefers span d.place b.place) refl
       where
-        by : (test : Bool) → prefers span (rank (member_of n d)) (rank b) ≡ test
-            → IsPicked f (n + 1) span (if test then Some (member_of n d) else Some b)
-        by true t = new_best c (λ x k lt s y. still_better span (rank (member_of n d)) (rank b)
-            (rank (member_of x k)) t (h.best x k lt s y))
+        by : (test : Bool) → prefers span d.place b.place ≡ test
+            → IsPicked f (n + 1) span (if test then Some (record { at = n; place = d.place }) else Some b)
+        by true t = new_best c (λ x e lt s k. still_better span d.place b.place e.place t (h.best x e lt s k))
         by false t = kept_best b t h
 
-    by_count : (b : Option Member) (test : Bool) → counts span n d ≡ test → IsPicked f n span b
-        → IsPicked f (n + 1) span (if test then preferred span b (member_of n d) else b)
+    by_count : (b : Option Member) (test : Bool) → counts span d ≡ test → IsPicked f n span b
+        → IsPicked f (n + 1) span (if test then preferred span b (record { at = n; place = d.place }) else b)
     by_count b true t h = more_preferred b t h
-    by_count b false t h = more_passed b (λ k s. ap (counts span n) (here n k refl s) ∙ t) h
+    by_count b false t h = more_passed b (λ e s. ap (counts span) (here n e refl s) ∙ t) h
 
   pub more : (b : Option Member) → IsPicked f n span b → IsPicked f (n + 1) span (picked_of span n b (f n))
   more b h = found_cases (f n) refl
     where
-      found_cases : (o : Option Mark) → f n ≡ o → IsPicked f (n + 1) span (picked_of span n b o)
-      found_cases None z = more_passed b (λ k s. absurd (let q : None ≡ Some k = sym z ∙ s in cc)) h
-      found_cases (Some d) z = by_count d z b (counts span n d) refl h
+      found_cases : (o : Option Entry) → f n ≡ o → IsPicked f (n + 1) span (picked_of span n b o)
+      found_cases None z = more_passed b (λ e s. absurd (let q : None ≡ Some e = sym z ∙ s in cc)) h
+      found_cases (Some d) z = by_count d z b (counts span d) refl h
 
 pub more_shown : (words : List ℕ) (n : ℕ) (span : Span) (b : Option Member)
-    → IsPicked (shown_stand words) n span b
-    → IsPicked (shown_stand words) (n + 1) span (picked_of span n b (shown_stand words n))
-more_shown words n span b h = more (shown_stand words) n span b h
+    → IsPicked (shown_entry words) n span b
+    → IsPicked (shown_entry words) (n + 1) span (picked_of span n b (shown_entry words n))
+more_shown words n span b h = more (shown_entry words) n span b h
 
--- members that do not stand change no pick
+-- entries that do not stand change no pick
 before : (x n : ℕ) → (x < n) ⊎ (n ≤ x)
 before x n = by (nat_lt x n) refl
   where
@@ -165,50 +126,31 @@ before x n = by (nat_lt x n) refl
     by true h = inl (grind (arith, nat_tests))
     by false h = inr (grind (arith, nat_tests))
 
-module _ (f : ℕ → Option Mark) (span : Span) (n m : ℕ) (le : n ≤ m)
+module _ (f : ℕ → Option Entry) (span : Span) (n m : ℕ) (le : n ≤ m)
     (gone : (x : ℕ) → n ≤ x → x < m → f x ≡ None) where
-  never : (x : ℕ) (k : Mark) → n ≤ x → x < m → f x ≡ Some k → ⊥
-  never x k low high s = let z : None ≡ Some k = sym (gone x low high) ∙ s in cc
+  never : (x : ℕ) (e : Entry) → n ≤ x → x < m → f x ≡ Some e → ⊥
+  never x e low high s = let z : None ≡ Some e = sym (gone x low high) ∙ s in cc
 
   pub skipped : (b : Option Member) → IsPicked f n span b → IsPicked f m span b
-  skipped None h = λ x k lt s. elim (before x n) [
-    | inl l ↦ h x k l s
-    | inr l ↦ absurd (never x k l lt s)
+  skipped None h = λ x e lt s. elim (before x n) [
+    | inl l ↦ h x e l s
+    | inr l ↦ absurd (never x e l lt s)
   ]
   skipped (Some b) h = record {
-    stand = h.stand;
+    entry = h.entry;
     stands = h.stands;
     place = h.place;
     inside = (let lt : b.at < n = h.inside in omega arith);
     counted = h.counted;
-    best = λ x k lt s c. elim (before x n) [
-      | inl l ↦ h.best x k l s c
-      | inr l ↦ absurd (never x k l lt s)
+    best = λ x e lt s c. elim (before x n) [
+      | inl l ↦ h.best x e l s c
+      | inr l ↦ absurd (never x e l lt s)
     ];
   }
 
--- behind the reach nothing stands
-module _ (words : List ℕ) (reach : ℕ) (bound : IsReach words reach) where
-  no_entry : (x : ℕ) → 2 * reach ≤ x → x < 256 → shown_stand words x ≡ None
-  no_entry x low high =
-      rw (let t : nat_lt x 256 ≡ true = grind (arith, nat_tests) in t)
-      (ap (λ (w : ℕ). stand_by (entry_of w)) (bound.entries x low high) ∙ ap stand_by none_read)
-
-  no_mark : (x : ℕ) → 256 + reach ≤ x → x < 384 → shown_stand words x ≡ None
-  no_mark x low high =
-      rw (let t : nat_lt x 256 ≡ false = grind (arith, nat_tests) in t)
-      (ap mark_of (bound.marks (x - 256) (omega arith) (omega arith)) ∙ no_mark_read)
-
-  pub entries_reached : (span : Span) (b : Option Member) → IsPicked (shown_stand words) (2 * reach) span b
-      → IsPicked (shown_stand words) 256 span b
-  entries_reached span b h = skipped (shown_stand words) span (2 * reach) 256
-      (let most : reach ≤ 128 = bound.most in omega arith) no_entry b h
-
-  pub marks_reached : (span : Span) (b : Option Member) → IsPicked (shown_stand words) (256 + reach) span b
-      → IsPicked (shown_stand words) 384 span b
-  marks_reached span b h = skipped (shown_stand words) span (256 + reach) 384
-      (let most : reach ≤ 128 = bound.most in omega arith) no_mark b h
-
--- nothing is picked from no members
-pub none_picked : (words : List ℕ) (span : Span) → IsPicked (shown_stand words) 0 span None
-none_picked words span = λ x k lt s. absurd (omega arith)
+-- behind the reach no entry stands
+pub all_reached : (words : List ℕ) (reach : ℕ) (span : Span) (b : Option Member) → IsReach words reach
+    → IsPicked (shown_entry words) (2 * reach) span b → IsPicked (shown_entry words) 128 span b
+all_reached words reach span b bound h = skipped (shown_entry words) span (2 * reach) 128
+    (let most : reach ≤ 64 = bound.most in omega arith)
+    (λ x low high. ap entry_of (bound.entries x low high) ∙ none_read) b h

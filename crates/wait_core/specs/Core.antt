@@ -6,7 +6,6 @@ use Rattle.wait_model.specs.declared.points.Progress.TheVariants as now
 use Rattle.wait_core.specs.Scan.{IsReach}
 use Rattle.wait_model.specs.declared.calls.Ran.{Ran}
 use Rattle.wait_model.specs.Runs.{IsRun, state_of, made_in, is_open}
-use Rattle.wait_model.specs.Tasks.{task_count}
 use Rattle.wait_model.specs.Locations.{Shows}
 
 -- how many calls are open
@@ -21,8 +20,8 @@ pub record IsCore (words : List ℕ) (points : List Progress) (items : List Ran)
   where
     pub run : IsRun items
     pub shown : Shows words (state_of items).table
-    pub tasks : length points ≡ task_count
-    pub progress : (t : ℕ) → t < task_count → slice_get points t ≡ Some ((state_of items).progress t)
+    pub tasks : length points ≡ 64
+    pub progress : (t : ℕ) → t < 64 → slice_get points t ≡ Some ((state_of items).progress t)
     pub made : count ≡ made_in items
     pub few : count ≤ 1000000
     pub room : length items ≤ 2 * count + open_calls points
@@ -31,7 +30,7 @@ pub record IsCore (words : List ℕ) (points : List Progress) (items : List Ran)
 -- a task from the reach on has never had a call
 pub record IsBounded (words : List ℕ) (points : List Progress) (reach : ℕ) : Type 0 where
   pub reaches : IsReach words reach
-  pub fresh : (t : ℕ) → reach ≤ t → t < task_count → slice_get points t ≡ Some now.Fresh
+  pub fresh : (t : ℕ) → reach ≤ t → t < 64 → slice_get points t ≡ Some now.Fresh
 
 -- the parts of a core, and how far its scans go
 pub record IsBoundedCore (words : List ℕ) (points : List Progress) (items : List Ran) (count capacity reach : ℕ)

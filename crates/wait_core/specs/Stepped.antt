@@ -12,7 +12,6 @@ use Rattle.wait_model.specs.declared.calls.Ran.{Ran}
 use Rattle.wait_model.specs.declared.calls.Ran.TheVariants as ran
 use Rattle.wait_model.specs.Runs.{State, own, planned, found_by, is_open, busy_head}
 use Rattle.wait_model.specs.Admission.{is_in_range, is_queued_twice, lacks_entry}
-use Rattle.wait_model.specs.Tasks.{task_count}
 use Rattle.wait_core.specs.Ended.{answer_of}
 use Rattle.wait_core.specs.declared.engine.Stepped.{Stepped}
 use Rattle.wait_core.specs.declared.engine.Stepped.TheVariants as answers
@@ -46,7 +45,7 @@ checked fits twice lacks =
 
 abbrev pub started : State → ℕ → Call → Result (Unit {0}) StartFault
 started s me call =
-    if nat_lt me task_count
+    if nat_lt me 64
     then (if is_open (s.progress me) then Err faults.CallOpen
     else checked (is_in_range me call) (is_queued_twice call (s.table.entry (own me)))
     (lacks_entry call (s.table.entry (own me))))

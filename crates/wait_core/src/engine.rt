@@ -3,14 +3,13 @@
 ghost use Rattle.std.specs.Prelude.{◌≡◌, ◌+◌, ◌<◌, ◌≤◌, ◌++◌, ◌∷◌, ◌^◌, [], IfOk, IfSome, IsTrue, ◌↔◌, length, vec_capacity, nat_lt, ◌*◌, ℕ, slice_index, slice_get};
 ghost use Rattle.wait_model.specs.Locations.{Shows};
 ghost use Rattle.wait_model.specs.Tables.{start};
-ghost use Rattle.wait_model.specs.Tasks.{task_count};
 ghost use Rattle.wait_model.specs.Runs.{is_open, progress_at};
 ghost use Rattle.wait_model.specs.Admission.{IsListed};
 ghost use Rattle.wait_core.specs.Ended.{answer_of};
 
 use crate::changes::change_by;
 use crate::reads::{entry_at, held_head, plan, task_at};
-use crate::scan::member_ranked;
+use crate::scan::{TASKS, member_at};
 use std::alloc::{AllocError, Global};
 use std::marker::Model;
 use wait_model::admission::{is_in_range, is_queued_twice, lacks_entry};
@@ -18,7 +17,7 @@ use wait_model::calls::{Answer, Call, Event, Ran};
 use wait_model::points::{Next, Progress, given_at};
 use wait_model::programs::start_of;
 use wait_model::queues::Member;
-use wait_model::tasks::{TASKS, Task};
+use wait_model::tasks::Task;
 use wait_model::words::WORDS;
 
 /// How many events a core makes.
@@ -74,9 +73,8 @@ impl Core {
     ghost use Rattle.std.specs.Prelude.{IsNone};
     ghost use Rattle.wait_model.specs.Openings.{IsOpened};
     ghost use Rattle.wait_model.specs.Laws.{NoLostWake, NoLostFlag};
-    ghost use Rattle.wait_model.specs.Completions.{CountsAreBalanced};
     ghost use Rattle.wait_model.specs.Selections.{IsOrderly};
-    ghost use Rattle.wait_model.specs.Queues.{member_from, rank, IsInOrder};
+    ghost use Rattle.wait_model.specs.Queues.{member_from, IsInOrder};
     ghost use Rattle.wait_model.specs.Locations.{Location, IsLocation, position_of, word_in};
     ghost use Rattle.wait_model.specs.PlainWakes.{NoLostPlainWake};
     ghost use Rattle.wait_model.specs.Waiters.{NoWaiterIsLost};
@@ -107,7 +105,7 @@ impl Core {
 
     /// Whether a task's call is open; `None` where it never had one, that is, where the run has opened none.
     pub fn call_of(&self, task: u8) -> Option<bool>
-        requires { task < task_count }
+        requires { task < 64 }
         ensures call { result ≡ call_shown ((state_of self.now).progress task) }
         ensures never { IsNone result ↔ (IsOpened task self.now → ⊥) }
     {
@@ -127,20 +125,20 @@ impl Core {
 
     /// A task's record.
     pub fn task_of(&self, task: u8) -> Task
-        requires { task < task_count }
+        requires { task < 64 }
         ensures { result ≡ (state_of self.now).table.task task }
     {
         task_at(&self.words, task)
     }
 
-    /// The first member of a head's queue from a rank on. The queue stands by rising rank, so going on
-    /// behind each member's rank meets them all in order.
+    /// The first member of a head's queue from a place on. The queue stands by rising place, so going on
+    /// behind each member's place meets them all in order.
     pub fn member_from(&self, head: u16, least: u64) -> Option<Member>
         ensures member { result ≡ member_from least ((state_of self.now).queue head) }
-        ensures fits { IfSome result (λ m. (m.at < 384) × (least ≤ rank m) × (m.place < 2 ^ 40)) }
+        ensures fits { IfSome result (λ m. (m.at < 128) × (least ≤ m.place) × (m.place < 2 ^ 40)) }
         ensures order { IsInOrder ((state_of self.now).queue head) }
     {
-        member_ranked(&self.words, self.reach, head, least)
+        member_at(&self.words, self.reach, head, least)
     }
 
     /// The word at a position.
@@ -170,14 +168,6 @@ impl Core {
     /// most the signals that were raised at it, and the same of fatal ones.
     pub fn is_orderly(&self)
         ensures { IsOrderly self.now }
-    {
-        let _ = &self.run;
-    }
-
-    /// Every completion of any core is accounted for: what its stores raised and granted is what they lowered,
-    /// what they threw away, and what stands now.
-    pub fn counts_are_balanced(&self)
-        ensures { CountsAreBalanced (state_of self.now).table }
     {
         let _ = &self.run;
     }
@@ -219,7 +209,7 @@ impl Core {
 
     /// Makes a task's next event.
     pub fn step(&mut self, task: u8) -> Stepped
-        requires { task < task_count }
+        requires { task < 64 }
         ensures answer { result ≡ stepped (state_of self.old) (made_in self.old) task ((state_of self.old).progress task) }
         ensures run { self.new ≡ self.old ++ items_of (state_of self.old) task result }
     {

@@ -2,8 +2,6 @@
 #![tactic(auto)]
 
 pub mod changes;
-#[cfg(test)]
-mod completion_tests;
 pub mod engine;
 pub mod reads;
 pub mod scan;

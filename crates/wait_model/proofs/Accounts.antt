@@ -22,34 +22,14 @@ use Rattle.wait_model.specs.declared.points.WalkPoint.TheVariants as walking
 use Rattle.wait_model.specs.declared.points.AddPoint.TheVariants as adding
 use Rattle.wait_model.specs.declared.points.RemovePoint.TheVariants as removing
 use Rattle.wait_model.specs.declared.points.WokenPoint.TheVariants as hearing
-use Rattle.wait_model.specs.declared.points.SelectPoint.TheVariants as selecting
-use Rattle.wait_model.specs.declared.points.AwaitPoint.TheVariants as awaiting
-use Rattle.wait_model.specs.declared.points.CountPoint.TheVariants as counting
 use Rattle.wait_model.specs.declared.points.Planned.{Planned}
 use Rattle.wait_model.specs.declared.points.Progress.{Progress}
 use Rattle.wait_model.specs.declared.points.Progress.TheVariants as now
-use Rattle.wait_model.specs.Tasks.{meets, pending, sleep_of, state_mask, looks_in}
+use Rattle.wait_model.specs.Tasks.{meets, pending, state_mask, looks_in}
 use Rattle.wait_model.specs.Watches.{owner, mask_of}
-use Rattle.wait_model.specs.Points.{
-  call_watch,
-  call_number,
-  call_head,
-  is_await,
-  state_in,
-  mode_of,
-  count_of,
-  called_task,
-}
-use Rattle.wait_model.specs.Tables.{value_of}
+use Rattle.wait_model.specs.Points.{cond_of, call_head, state_in, mode_of, count_of, called_task}
 use Rattle.wait_model.specs.Programs.{
   program_start,
-  signalled_at,
-  prepared_at,
-  slept_at,
-  is_at_end,
-  is_enough,
-  select_next,
-  await_behind,
   looked,
   past,
   onward,
@@ -57,16 +37,13 @@ use Rattle.wait_model.specs.Programs.{
   wakes_off,
   call_entry,
   call_next,
-  resumed,
 }
-use Rattle.wait_model.specs.declared.queues.Mark.{Mark}
-use Rattle.wait_model.specs.Queues.{entry_count, is_entry, rank_at, entry_from}
-use Rattle.wait_model.specs.Runs.{State, own, called_as, called_by, called_at, breaks_at, planned, progress_at}
-use Rattle.wait_model.specs.Reached.{IsFitted, IsMember, IsQueued, IsPlaced, IsFlagged, IsSound}
+use Rattle.wait_model.specs.Queues.{member_from}
+use Rattle.wait_model.specs.Runs.{State, own, called_as, called_by, planned, progress_at}
+use Rattle.wait_model.specs.Reached.{IsMember, IsQueued, IsPlaced, IsTaken, IsSound}
 use Rattle.wait_model.specs.Accounts.{is_exclusive_entry, one_if, selects}
-use Rattle.wait_model.specs.Selections.{IsSignalledTurn, signalled_hold}
-use Rattle.wait_model.proofs.QueueOrder.{IsFirstFrom, first_is}
-use Rattle.wait_model.proofs.Stands.{member_is}
+use Rattle.wait_model.specs.Selections.{IsSignalledTurn}
+use Rattle.wait_model.proofs.QueueOrder.{IsFirstFrom, first_from}
 use Rattle.wait_model.proofs.Decoded.{owner_own}
 
 -- what holds of both answers of a test
@@ -78,25 +55,10 @@ pub both : (P : Bool → Type 0) (b : Bool) → P true → P false → P b
 both P true h k = h
 both P false h k = k
 
--- what a task's latest events are where it looks for a signal: it took the lock, and a wait for a completion
--- loaded the done count as 0
-abbrev pub IsLooking : Call → List Event → Type 0
-IsLooking call trail =
-    ((is_await call ≡ false) × (rest : List Event) × (trail ≡ event.Lock (call_head call) ∷ rest))
-    ⊎ ((is_await call ≡ true) × (rest : List Event)
-    × (trail ≡ event.Load (call_number call) 0 ∷ event.Lock (call_head call) ∷ rest))
-
 -- what a task's latest events are at the places of a signalled turn
 abbrev pub IsTurn : Call → Point → ℕ → List Event → Type 0
-IsTurn call (at.Prepare preparing.Look) me trail = IsLooking call trail
-IsTurn call (at.Await (awaiting.Load waited)) me trail = (rest : List Event)
+IsTurn call (at.Prepare preparing.Look) me trail = (rest : List Event)
     × (trail ≡ event.Lock (call_head call) ∷ rest)
-IsTurn call (at.Await (awaiting.Run true)) me trail = (rest : List Event)
-    × (trail ≡ event.Look true ∷ event.Load (call_number call) 0 ∷ event.Lock (call_head call) ∷ rest)
-IsTurn call (at.Await (awaiting.Off true)) me trail = (rest : List Event)
-    × (trail ≡ signalled_hold (call_head call) (call_number call) rest)
-IsTurn call (at.Await (awaiting.Last true)) me trail = (rest : List Event)
-    × (trail ≡ event.Unqueue me ∷ signalled_hold (call_head call) (call_number call) rest)
 IsTurn call (at.Leave leaving.Queue) me trail = (rest : List Event)
     × (trail ≡ event.Look true ∷ event.Lock (call_head call) ∷ rest)
 IsTurn call (at.Leave leaving.Unlock) me trail = (rest : List Event)
@@ -129,117 +91,50 @@ module _ (s : State) (me : ℕ) (call : Call) (trail : List Event) where
   turn_next w None hit = tt
   turn_next w (Some c) hit = turn_walk w c c.entry.kind hit
 
-  turn_signalled : (c : Call) → IsLooking c trail → IsTurn c (signalled_at c) me (event.Look true ∷ trail)
-  turn_signalled (calls.WaitFor d st) (inl h) = absurd (let z : true ≡ false = h.0 in cc)
-  turn_signalled (calls.WaitFor d st) (inr h) = (h.1, ap (λ l. event.Look true ∷ l) h.2)
-  turn_signalled calls.Remove (inl h) = (h.1, ap (λ l. event.Look true ∷ l) h.2)
-  turn_signalled calls.Remove (inr h) = absurd (let z : false ≡ true = h.0 in cc)
-  turn_signalled c (inl h) = (h.1, ap (λ l. event.Look true ∷ l) h.2)
-  turn_signalled c (inr h) = absurd (let z : false ≡ true = h.0 in cc)
-
-  turn_prepared : (c : Call) (l : List Event) → IsTurn c (prepared_at c) me l
-  turn_prepared (calls.WaitFor d st) l = tt
-  turn_prepared calls.Remove l = tt
-  turn_prepared c l = tt
-
-  turn_slept : (c : Call) (l : List Event) → IsTurn c (slept_at c) me l
-  turn_slept (calls.WaitFor d st) l = tt
-  turn_slept calls.Remove l = tt
-  turn_slept c l = tt
-
-  turn_select : (j : ℕ) (o : Option Called) (hit : Bool) → T (select_next call j o hit)
-  turn_select j None hit = tt
-  turn_select j (Some c) hit = tt
-
-  -- the load of a wait for a completion in its hold
-  turn_load : (waited zero : Bool) (v : ℕ) → (v == 0) ≡ zero → is_await call ≡ true
-      → (rest : List Event) → trail ≡ event.Lock (call_head call) ∷ rest
-      → IsTurn call (await_behind call waited zero) me (event.Load (call_number call) v ∷ trail)
-  turn_load waited true v z w rest h = either (λ q. Led (event.Load (call_number call) v) (at.Prepare q))
-      (looks_in (state_in call)) preparing.Look preparing.Queue
-      (inr (
-        w,
-        rest,
-        ap (λ (k : ℕ). event.Load (call_number call) k ∷ trail) zero_is
-            ∙ ap (λ l. event.Load (call_number call) 0 ∷ l) h,
-      )) tt
-    where
-      zero_is : v ≡ 0
-      zero_is = grind (arith, nat_tests, z)
-  turn_load true false v z w rest h = tt
-  turn_load false false v z w rest h = tt
-
-  pub turn_step : (p : Point) → IsFitted call p → IsTurn call p me trail → T (planned s me call p)
-  turn_step at.First f h = either T (value_of s.table.words (call_watch call) == 0) _ _ tt tt
-  turn_step (at.Prepare preparing.Lock) f h = either (λ q. Led (event.Lock (call_head call)) (at.Prepare q))
-      (looks_in (state_in call)) preparing.Look preparing.Queue (inl (f, trail, refl)) tt
-  turn_step (at.Prepare preparing.Look) f h = both (λ b. T (looked call b))
-      (pending (state_mask (state_in call)) (s.table.task me)) (turn_signalled call h) tt
-  turn_step (at.Prepare preparing.Queue) f h = either T (is_some (s.table.entry (own me))) _ _ tt tt
-  turn_step (at.Prepare preparing.State) f h = tt
-  turn_step (at.Prepare preparing.Unlock) f h = turn_prepared call (event.Unlock (call_head call) false ∷ trail)
-  turn_step at.Test f h = either (Led (event.Load (call_number call) (value_of s.table.words (call_watch call))))
-      (value_of s.table.words (call_watch call) == 0) _ _ tt tt
-  turn_step at.Sleep f h = turn_slept call (event.Sleep (sleep_of (s.table.task me)) ∷ trail)
-  turn_step (at.Leave leaving.Queue) f h = either T (is_some (s.table.entry (own me))) _ _
+  pub turn_step : (p : Point) → IsTurn call p me trail → T (planned s me call p)
+  turn_step at.First h = either T (s.table.words.plains (cond_of call) == 0) _ _ tt tt
+  turn_step (at.Prepare preparing.Lock) h = either (λ q. Led (event.Lock (call_head call)) (at.Prepare q))
+      (looks_in (state_in call)) preparing.Look preparing.Queue (trail, refl) tt
+  turn_step (at.Prepare preparing.Look) h = both (λ b. T (looked b))
+      (pending (state_mask (state_in call)) (s.table.task me))
+      (h.0, ap (λ l. event.Look true ∷ l) h.1) tt
+  turn_step (at.Prepare preparing.Queue) h = either T (is_some (s.table.entry (own me))) _ _ tt tt
+  turn_step (at.Prepare preparing.State) h = tt
+  turn_step (at.Prepare preparing.Unlock) h = tt
+  turn_step at.Test h = either (Led (event.Load (cond_of call) (s.table.words.plains (cond_of call))))
+      (s.table.words.plains (cond_of call) == 0) _ _ tt tt
+  turn_step at.Sleep h = tt
+  turn_step (at.Leave leaving.Queue) h = either T (is_some (s.table.entry (own me))) _ _
       (h.0, ap (λ l. event.Unqueue me ∷ l) h.1)
       (record { earlier = h.0; turn = inl (ap (λ l. event.Unlock (call_head call) false ∷ l) h.1) })
-  turn_step (at.Leave leaving.Unlock) f h = record {
+  turn_step (at.Leave leaving.Unlock) h = record {
     earlier = h.0;
     turn = inr (ap (λ l. event.Unlock (call_head call) false ∷ l) h.1);
   }
-  turn_step (at.Leave leaving.Load) f h = either T (value_of s.table.words (call_watch call) == 0) _ _ tt tt
-  turn_step (at.Finish finishing.State) f h = tt
-  turn_step (at.Finish finishing.Look) f h = either T (is_some (s.table.entry (own me))) _ _ tt tt
-  turn_step (at.Finish finishing.Lock) f h = tt
-  turn_step (at.Finish finishing.Queue) f h = either T (is_some (s.table.entry (own me))) _ _ tt tt
-  turn_step (at.Finish finishing.Unlock) f h = tt
-  turn_step (at.Walk walking.Lock) f h = tt
-  turn_step (at.Walk (walking.Call w)) f h = either T (breaks_at (at.Walk (walking.Call w)) (s.queue (call_head call))) _ _ tt
-      (turn_next w (called_at s call (at.Walk (walking.Call w)))
-      (meets (mask_of (mode_of call)) (s.table.task (called_task (called_at s call (at.Walk (walking.Call w))))).state))
-  turn_step (at.Walk (walking.Wake w c)) f h = turn_wakes w c
+  turn_step (at.Leave leaving.Load) h = either T (s.table.words.plains (cond_of call) == 0) _ _ tt tt
+  turn_step (at.Finish finishing.State) h = tt
+  turn_step (at.Finish finishing.Look) h = either T (is_some (s.table.entry (own me))) _ _ tt tt
+  turn_step (at.Finish finishing.Lock) h = tt
+  turn_step (at.Finish finishing.Queue) h = either T (is_some (s.table.entry (own me))) _ _ tt tt
+  turn_step (at.Finish finishing.Unlock) h = tt
+  turn_step (at.Walk walking.Lock) h = tt
+  turn_step (at.Walk (walking.Call w)) h = turn_next w _ _
+  turn_step (at.Walk (walking.Wake w c)) h = turn_wakes w c
       (meets (mask_of (mode_of call)) (s.table.task c.who).state)
-  turn_step (at.Walk (walking.Unqueue w who)) f h = either (Led (event.Unqueue who)) w.spent _ _ tt tt
-  turn_step (at.Walk (walking.Spent w)) f h = tt
-  turn_step (at.Walk (walking.BreakUnlock w)) f h = tt
-  turn_step (at.Walk (walking.BreakLock w)) f h = tt
-  turn_step (at.Walk (walking.Unmark w)) f h = tt
-  turn_step (at.Add adding.Lock) f h = tt
-  turn_step (at.Add adding.Queue) f h = tt
-  turn_step (at.Add adding.Unlock) f h = tt
-  turn_step (at.Remove removing.Lock) f h = tt
-  turn_step (at.Remove (removing.Queue c)) f h = tt
-  turn_step (at.Remove (removing.Unlock c)) f h = tt
-  turn_step (at.Woken hearing.State) f h = tt
-  turn_step (at.Woken hearing.Flag) f h = tt
-  turn_step (at.Woken hearing.Sleep) f h = tt
-  turn_step (at.Woken hearing.Run) f h = tt
-  turn_step (at.Woken hearing.Clear) f h = tt
-  turn_step (at.Select selecting.Lock) f h = tt
-  turn_step (at.Select selecting.Load) f h = tt
-  turn_step (at.Select selecting.Store) f h = tt
-  turn_step (at.Select (selecting.Next j)) f h = either T (is_enough call j) _ _ tt (turn_select j _ _)
-  turn_step (at.Select (selecting.Off j who)) f h = tt
-  turn_step (at.Await (awaiting.Lock waited)) f h = (trail, refl)
-  turn_step (at.Await (awaiting.Load waited)) f h = turn_load waited (value_of s.table.words (call_watch call) == 0)
-      (value_of s.table.words (call_watch call)) refl f h.0 h.1
-  turn_step (at.Await (awaiting.Run true)) f h = (h.0, ap (λ l. event.State 0 ∷ l) h.1)
-  turn_step (at.Await (awaiting.Run false)) f h = tt
-  turn_step (at.Await (awaiting.Off true)) f h = either T (is_some (s.table.entry (own me))) _ _
-      (h.0, ap (λ l. event.Unqueue me ∷ l) h.1) tt
-  turn_step (at.Await (awaiting.Off false)) f h = either T (is_some (s.table.entry (own me))) _ _ tt
-      (either T (is_at_end (value_of s.table.words (call_watch call))) _ _ tt tt)
-  turn_step (at.Await (awaiting.Last true)) f h = tt
-  turn_step (at.Await (awaiting.Last false)) f h = either T (is_at_end (value_of s.table.words (call_watch call))) _
-      _ tt tt
-  turn_step (at.Await awaiting.Unlock) f h = tt
-  turn_step (at.Count counting.Peek) f h = either T (value_of s.table.words (call_watch call) == 0) _ _ tt tt
-  turn_step (at.Count counting.Lock) f h = tt
-  turn_step (at.Count counting.Load) f h = tt
-  turn_step (at.Count counting.Store) f h = tt
-  turn_step (at.Count (counting.Unlock hit)) f h = tt
-  turn_step p f h = tt
+  turn_step (at.Walk (walking.Unqueue w who)) h = either (Led (event.Unqueue who)) w.spent _ _ tt tt
+  turn_step (at.Walk (walking.Spent w)) h = tt
+  turn_step (at.Add adding.Lock) h = tt
+  turn_step (at.Add adding.Queue) h = tt
+  turn_step (at.Add adding.Unlock) h = tt
+  turn_step (at.Remove removing.Lock) h = tt
+  turn_step (at.Remove (removing.Queue c)) h = tt
+  turn_step (at.Remove (removing.Unlock c)) h = tt
+  turn_step (at.Woken hearing.State) h = tt
+  turn_step (at.Woken hearing.Flag) h = tt
+  turn_step (at.Woken hearing.Sleep) h = tt
+  turn_step (at.Woken hearing.Run) h = tt
+  turn_step (at.Woken hearing.Clear) h = tt
+  turn_step p h = tt
 
 -- what is left of a walk's count, with what it has selected, is the count
 abbrev pub IsSum : Call → Walking → Type 0
@@ -257,9 +152,6 @@ IsChosen call (at.Walk (walking.Call w)) k = (k ≡ w.selected) × IsOn call w
 IsChosen call (at.Walk (walking.Wake w c)) k = (k ≡ w.selected) × IsOn call w
 IsChosen call (at.Walk (walking.Unqueue w who)) k = (k ≡ w.selected) × IsBehind call w
 IsChosen call (at.Walk (walking.Spent w)) k = (k ≡ w.selected) × IsSum call w
-IsChosen call (at.Walk (walking.BreakUnlock w)) k = (k ≡ w.selected) × IsOn call w
-IsChosen call (at.Walk (walking.BreakLock w)) k = (k ≡ w.selected) × IsOn call w
-IsChosen call (at.Walk (walking.Unmark w)) k = (k ≡ w.selected) × IsOn call w
 IsChosen call _ k = Unit {0}
 
 abbrev pub ChosenAt : Progress → ℕ → Type 0
@@ -280,8 +172,6 @@ module _ (call : Call) where
         selected = if a && b then w.selected + 1 else w.selected;
         left = if a && b then w.left - 1 else w.left;
         spent = (a && b) && (w.left == 1);
-        calls = w.calls + 1;
-        holds = w.holds;
       })
       by true true = inr (
         omega (arith, on.0, on.1),
@@ -352,15 +242,13 @@ module _ (s : State) (n me : ℕ) (call : Call) (k : ℕ) (sound : IsSound s n) 
 
   -- the entry of the next member
   next_chosen : (w : Walking) (m : Option Member) → k ≡ w.selected → IsOn call w
-      → IsFirstFrom is_entry (rank_at w.place) (s.queue (call_head call)) m
+      → IsFirstFrom w.place (s.queue (call_head call)) m
       → C (call_next (call_head call) w (called_by s.table.entry m)
       (meets (mask_of (mode_of call)) (s.table.task (called_task (called_by s.table.entry m))).state))
   next_chosen w None e on f = tt
   next_chosen w (Some m) e on f =
-      let small : m.at < entry_count = (let t : is_entry m ≡ true = f.1 in grind (arith, nat_tests)) in
-      let it : IsMember s.table.entry (call_head call) m =
-      member_is s.table.entry s.table.mark s.queue n (call_head call) m sound.linked.ordered small f.0 in
-      let q : IsQueued n m.at it.entry = sound.linked.entries m.at it.entry it.stands in
+      let it : IsMember s.table.entry (call_head call) m = sound.linked.members (call_head call) m f.0 in
+      let q : IsQueued s.queue n m.at it.entry = sound.linked.entries m.at it.entry it.stands in
       let whose : owner m.at ≡ q.task = ap owner q.is_own ∙ owner_own q.task in
       let there : s.table.entry (own (owner m.at)) ≡ Some it.entry = ap (λ (j : ℕ). s.table.entry (own j)) whose
       ∙ ap s.table.entry (sym q.is_own) ∙ it.stands in
@@ -378,62 +266,26 @@ module _ (s : State) (n me : ℕ) (call : Call) (k : ℕ) (sound : IsSound s n) 
   walk_chosen : (p : WalkPoint) → IsPlaced s.table.entry (s.table.view me) me (now.Open call (at.Walk p))
       → IsChosen call (at.Walk p) k → C (planned s me call (at.Walk p))
   walk_chosen walking.Lock pl h = (omega (arith, h), start_on)
-  walk_chosen (walking.Call w) pl h = either C (breaks_at (at.Walk (walking.Call w)) (s.queue (call_head call))) _ _
-      (omega (arith, h.0), h.1)
-      (next_chosen w (entry_from (rank_at w.place) (s.queue (call_head call))) h.0 h.1
-      (first_is is_entry (rank_at w.place) (s.queue (call_head call))
-      (sound.linked.ordered.order (call_head call))))
+  walk_chosen (walking.Call w) pl h = next_chosen w (member_from w.place (s.queue (call_head call))) h.0 h.1
+      (first_from w.place (s.queue (call_head call)) (sound.linked.order (call_head call)))
   walk_chosen (walking.Wake w c) pl h =
-      let t : IsFlagged s.table.entry c (Some (call_head call)) = pl.flagged c refl in
-      wakes_chosen w c _ h.0 h.1 (exclusive_is c.who c.entry t.stands)
+      let t : IsTaken s.table.entry c.who (now.Open call (at.Walk (walking.Wake w c))) = pl.taken c.who refl in
+      wakes_chosen w c _ h.0 h.1 (exclusive_is c.who t.it t.stands ∙ ap (λ (y : Entry). y.exclusive) t.right)
   walk_chosen (walking.Unqueue w who) pl h = onward_chosen call w _ (omega (arith, h.0)) h.1
   walk_chosen (walking.Spent w) pl h = tt
-  walk_chosen (walking.BreakUnlock w) pl h = (omega (arith, h.0), h.1)
-  walk_chosen (walking.BreakLock w) pl h = (omega (arith, h.0), h.1)
-  walk_chosen (walking.Unmark w) pl h = by (s.table.mark me)
-    where
-      by : (o : Option Mark) → IsChosen call (at.Walk (walking.Call (resumed w o))) (k + 0)
-      by None = (omega (arith, h.0), h.1)
-      by (Some j) = (omega (arith, h.0), h.1)
-
-  chosen_signalled : (c : Call) (j : ℕ) → IsChosen c (signalled_at c) j
-  chosen_signalled (calls.WaitFor d st) j = tt
-  chosen_signalled calls.Remove j = tt
-  chosen_signalled c j = tt
-
-  chosen_prepared : (c : Call) (j : ℕ) → IsChosen c (prepared_at c) j
-  chosen_prepared (calls.WaitFor d st) j = tt
-  chosen_prepared calls.Remove j = tt
-  chosen_prepared c j = tt
-
-  chosen_slept : (c : Call) (j : ℕ) → IsChosen c (slept_at c) j
-  chosen_slept (calls.WaitFor d st) j = tt
-  chosen_slept calls.Remove j = tt
-  chosen_slept c j = tt
-
-  chosen_select : (i : ℕ) (o : Option Called) (hit : Bool) → C (select_next call i o hit)
-  chosen_select i None hit = tt
-  chosen_select i (Some c) hit = tt
-
-  chosen_await : (waited zero : Bool) (j : ℕ) → IsChosen call (await_behind call waited zero) j
-  chosen_await waited true j = tt
-  chosen_await true false j = tt
-  chosen_await false false j = tt
 
   pub chosen_step : (p : Point) → IsPlaced s.table.entry (s.table.view me) me (now.Open call p)
       → IsChosen call p k → C (planned s me call p)
   chosen_step (at.Walk p) pl h = walk_chosen p pl h
-  chosen_step at.First pl h = either C (value_of s.table.words (call_watch call) == 0) _ _ tt tt
-  chosen_step (at.Prepare preparing.Look) pl h = both (λ b. C (looked call b))
-      (pending (state_mask (state_in call)) (s.table.task me)) (chosen_signalled call _) tt
+  chosen_step at.First pl h = either C (s.table.words.plains (cond_of call) == 0) _ _ tt tt
+  chosen_step (at.Prepare preparing.Look) pl h = both (λ b. C (looked b))
+      (pending (state_mask (state_in call)) (s.table.task me)) tt tt
   chosen_step (at.Prepare preparing.Queue) pl h = either C (is_some (s.table.entry (own me))) _ _ tt tt
-  chosen_step (at.Prepare preparing.Unlock) pl h = chosen_prepared call _
   chosen_step (at.Prepare p) pl h = tt
-  chosen_step at.Sleep pl h = chosen_slept call _
-  chosen_step at.Test pl h = either (λ q. IsChosen call q (k + 0)) (value_of s.table.words (call_watch call) == 0) _ _
+  chosen_step at.Test pl h = either (λ q. IsChosen call q (k + 0)) (s.table.words.plains (cond_of call) == 0) _ _
       tt tt
   chosen_step (at.Leave leaving.Queue) pl h = either C (is_some (s.table.entry (own me))) _ _ tt tt
-  chosen_step (at.Leave leaving.Load) pl h = either C (value_of s.table.words (call_watch call) == 0) _ _ tt tt
+  chosen_step (at.Leave leaving.Load) pl h = either C (s.table.words.plains (cond_of call) == 0) _ _ tt tt
   chosen_step (at.Leave leaving.Unlock) pl h = tt
   chosen_step (at.Finish finishing.Look) pl h = either C (is_some (s.table.entry (own me))) _ _ tt tt
   chosen_step (at.Finish finishing.Queue) pl h = either C (is_some (s.table.entry (own me))) _ _ tt tt
@@ -446,26 +298,6 @@ module _ (s : State) (n me : ℕ) (call : Call) (k : ℕ) (sound : IsSound s n) 
   chosen_step (at.Remove (removing.Unlock c)) pl h = tt
   chosen_step (at.Woken hearing.State) pl h = tt
   chosen_step (at.Woken p) pl h = tt
-  chosen_step (at.Select selecting.Lock) pl h = tt
-  chosen_step (at.Select selecting.Load) pl h = tt
-  chosen_step (at.Select selecting.Store) pl h = tt
-  chosen_step (at.Select (selecting.Next i)) pl h = either C (is_enough call i) _ _ tt (chosen_select i _ _)
-  chosen_step (at.Select (selecting.Off i who)) pl h = tt
-  chosen_step (at.Await (awaiting.Lock waited)) pl h = tt
-  chosen_step (at.Await (awaiting.Load waited)) pl h = chosen_await waited _ _
-  chosen_step (at.Await (awaiting.Run stopped)) pl h = tt
-  chosen_step (at.Await (awaiting.Off true)) pl h = either C (is_some (s.table.entry (own me))) _ _ tt tt
-  chosen_step (at.Await (awaiting.Off false)) pl h = either C (is_some (s.table.entry (own me))) _ _ tt
-      (either C (is_at_end (value_of s.table.words (call_watch call))) _ _ tt tt)
-  chosen_step (at.Await (awaiting.Last true)) pl h = tt
-  chosen_step (at.Await (awaiting.Last false)) pl h =
-      either C (is_at_end (value_of s.table.words (call_watch call))) _ _ tt tt
-  chosen_step (at.Await awaiting.Unlock) pl h = tt
-  chosen_step (at.Count counting.Peek) pl h = either C (value_of s.table.words (call_watch call) == 0) _ _ tt tt
-  chosen_step (at.Count counting.Lock) pl h = tt
-  chosen_step (at.Count counting.Load) pl h = tt
-  chosen_step (at.Count counting.Store) pl h = tt
-  chosen_step (at.Count (counting.Unlock hit)) pl h = tt
   chosen_step p pl h = tt
 
 -- a call that is opened has selected nobody yet, and is in no turn

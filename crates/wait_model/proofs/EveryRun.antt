@@ -16,7 +16,6 @@ use Rattle.std.specs.Prelude.{
   not,
   ◌&&◌,
   nat_lt,
-  if◌then◌else◌,
   List,
   [],
   ◌∷◌,
@@ -54,15 +53,12 @@ use Rattle.wait_model.specs.Reached.{
   IsHome,
   HomeAt,
   taken_off,
-  flagged,
   held_at,
   prepares,
   IsPlaced,
   IsWalkSound,
-  IsFitted,
+  IsAdding,
   IsSoundCall,
-  mark_head,
-  marked_at,
   IsSound,
   Allows,
   Joins,
@@ -71,8 +67,7 @@ use Rattle.wait_model.specs.Views.{View}
 use Rattle.wait_model.specs.Fold.{after_all}
 use Rattle.wait_model.specs.Tables.{steps}
 use Rattle.wait_model.specs.Laws.{NoLostWake, NoLostFlag}
-use Rattle.wait_model.specs.Points.{call_watch, call_head, who_of, head_at, given_at}
-use Rattle.wait_model.specs.Watches.{IsThere}
+use Rattle.wait_model.specs.Points.{cond_of, call_head, who_of, head_at, given_at}
 use Rattle.wait_model.specs.Programs.{program_start}
 use Rattle.wait_model.specs.Rows.{AllAllowed}
 use Rattle.wait_model.proofs.Placed.{Changes, others_placed}
@@ -80,19 +75,12 @@ use Rattle.wait_model.proofs.Lawful.{event_lawful, event_linked}
 use Rattle.wait_model.proofs.Walked.{counted_later, program_fine}
 use Rattle.wait_model.proofs.Looks.{steps_own, steps_other, steps_keep}
 use Rattle.wait_model.proofs.Fines.{Fine}
-use Rattle.wait_model.proofs.Programmed.{stands_suited}
-use Rattle.wait_model.proofs.Conditions.{head_below}
-use Rattle.wait_model.proofs.Marked.{marks_other, program_marked, start_marked, closed_marked}
-use Rattle.wait_model.specs.declared.queues.Mark.{Mark}
-use Rattle.wait_model.specs.Tasks.{task_count}
-use Rattle.wait_model.specs.Queues.{entry_count, stand_by}
 use Rattle.wait_model.proofs.Functions.{put_at}
 use Rattle.wait_model.proofs.StartKept.{start_kept}
 use Rattle.wait_model.specs.declared.calls.Call.TheVariants as calls
 use Rattle.wait_model.specs.declared.calls.Ran.TheVariants as ran
 use Rattle.wait_model.specs.declared.points.Point.TheVariants as at
 use Rattle.wait_model.specs.declared.points.WalkPoint.TheVariants as walking
-use Rattle.wait_model.specs.declared.points.SelectPoint.TheVariants as selecting
 use Rattle.wait_model.specs.declared.points.Progress.TheVariants as now
 use Rattle.wait_model.specs.declared.watches.Watch.TheVariants as watch
 
@@ -101,20 +89,15 @@ walk_later n (at.Walk (walking.Call w)) k = counted_later n w k
 walk_later n (at.Walk (walking.Wake w c)) k = (counted_later n w k.0, k.1, k.2)
 walk_later n (at.Walk (walking.Unqueue w who)) k = (counted_later n w k.0, k.1)
 walk_later n (at.Walk (walking.Spent w)) k = counted_later n w k
-walk_later n (at.Select (selecting.Next j)) k = omega (arith, k)
-walk_later n (at.Select (selecting.Off j who)) k = (omega (arith, k.0), k.1)
-walk_later n (at.Walk (walking.BreakUnlock w)) k = counted_later n w k
-walk_later n (at.Walk (walking.BreakLock w)) k = counted_later n w k
-walk_later n (at.Walk (walking.Unmark w)) k = counted_later n w k
 walk_later n p k = tt
 
 call_later : (n : ℕ) (p : Progress) → IsSoundCall n p → IsSoundCall (n + 1) p
 call_later n (now.Open call p) k = record {
-  watch = k.watch;
+  cond = k.cond;
   who = k.who;
   head = k.head;
   walk = walk_later n p k.walk;
-  fitted = k.fitted;
+  adds = k.adds;
 }
 call_later n now.Idle k = tt
 call_later n now.Fresh k = tt
@@ -138,29 +121,19 @@ admits_parts me call o = by (is_in_range me call) (is_queued_twice call o) (lack
     by true true d e h = absurd (cc)
     by false b d e h = absurd (cc)
 
-both_right : (a b : Bool) → (a && b) ≡ true → b ≡ true
-both_right true b h = h
-both_right false b h = absurd (cc)
-
-begins : (n : ℕ) (call : Call) → IsThere (call_watch call) → who_of call < task_count
-    → IsFitted call (program_start call) → head_at call (program_start call) ≡ call_head call
-    → IsWalkSound n (program_start call) → IsSoundCall n (now.Open call (program_start call))
-begins n call c w f h k = record {
-  watch = c;
-  who = w;
-  head = subst (λ (i : ℕ). i < 384) (sym h) (head_below (call_watch call) c);
-  walk = k;
-  fitted = f;
-}
+begins : (n : ℕ) (call : Call) → cond_of call < 64 → who_of call < 64 → IsAdding call (program_start call)
+    → head_at call (program_start call) ≡ call_head call → IsWalkSound n (program_start call)
+    → IsSoundCall n (now.Open call (program_start call))
+begins n call c w a h k = record { cond = c; who = w; head = omega (arith, h); walk = k; adds = a }
 
 start_sound_call : (n me : ℕ) (call : Call) → is_in_range me call ≡ true → IsListed call
     → IsSoundCall n (now.Open call (program_start call))
 start_sound_call n me (calls.Wait c how) h l = begins n (calls.Wait c how)
-    (grind (arith, nat_tests, h)) (omega arith) refl refl tt
+    (grind (arith, nat_tests, h)) (omega arith) tt refl tt
 start_sound_call n me (calls.Set c v) h l = begins n (calls.Set c v)
     (grind (arith, nat_tests, h)) (omega arith) tt refl tt
 start_sound_call n me (calls.Take c) h l = begins n (calls.Take c)
-    (grind (arith, nat_tests, h)) (omega arith) refl refl tt
+    (grind (arith, nat_tests, h)) (omega arith) tt refl tt
 start_sound_call n me (calls.Read c) h l = begins n (calls.Read c)
     (grind (arith, nat_tests, h)) (omega arith) tt refl tt
 start_sound_call n me (calls.Wake c m k) h l =
@@ -168,8 +141,7 @@ start_sound_call n me (calls.Wake c m k) h l =
     begins n (calls.Wake c m k) (grind (arith, nat_tests)) (omega arith) tt refl tt
 start_sound_call n me (calls.Add c k f) h l =
     let small : nat_lt c 48 ≡ true = both_left (nat_lt c 48) _ h in
-    let below : c < 48 = grind (arith, nat_tests) in
-    begins n (calls.Add c k f) (omega arith) (omega arith) (l, stands_suited c k below l) refl tt
+    begins n (calls.Add c k f) (grind (arith, nat_tests)) (omega arith) l refl tt
 start_sound_call n me calls.Remove h l = begins n calls.Remove (omega arith) (omega arith) tt refl tt
 start_sound_call n me (calls.Woken st) h l = begins n (calls.Woken st) (omega arith) (omega arith) tt refl tt
 start_sound_call n me (calls.Signal u deadly) h l = begins n (calls.Signal u deadly) (omega arith)
@@ -177,26 +149,6 @@ start_sound_call n me (calls.Signal u deadly) h l = begins n (calls.Signal u dea
 start_sound_call n me calls.Accept h l = begins n calls.Accept (omega arith) (omega arith) tt refl tt
 start_sound_call n me (calls.Kick u) h l = begins n (calls.Kick u) (omega arith)
     (grind (arith, nat_tests, h)) tt refl tt
-start_sound_call n me (calls.SimpleWait c st) h l =
-    let small : nat_lt c 64 ≡ true = both_right (not (nat_lt c 48)) _ h in
-    begins n (calls.SimpleWait c st) (grind (arith, nat_tests)) (omega arith) refl refl tt
-start_sound_call n me (calls.SimpleWake c all) h l =
-    let small : nat_lt c 64 ≡ true = both_right (not (nat_lt c 48)) _ h in
-    let large : not (nat_lt c 48) ≡ true = both_left (not (nat_lt c 48)) _ h in
-    begins n (calls.SimpleWake c all) (grind (arith, nat_tests)) (omega arith)
-    (grind (arith, nat_tests)) refl tt
-start_sound_call n me (calls.Complete d) h l = begins n (calls.Complete d)
-    (grind (arith, nat_tests, h)) (omega arith) tt refl tt
-start_sound_call n me (calls.CompleteAll d) h l = begins n (calls.CompleteAll d)
-    (grind (arith, nat_tests, h)) (omega arith) tt refl tt
-start_sound_call n me (calls.Reinit d) h l = begins n (calls.Reinit d)
-    (grind (arith, nat_tests, h)) (omega arith) refl refl tt
-start_sound_call n me (calls.WaitFor d st) h l = begins n (calls.WaitFor d st)
-    (grind (arith, nat_tests, h)) (omega arith) refl refl tt
-start_sound_call n me (calls.TryWait d) h l = begins n (calls.TryWait d)
-    (grind (arith, nat_tests, h)) (omega arith) refl refl tt
-start_sound_call n me (calls.IsDone d) h l = begins n (calls.IsDone d)
-    (grind (arith, nat_tests, h)) (omega arith) refl refl tt
 
 -- what stands at a call's beginning: an entry that stays, but none where the call queues, and one where the
 -- call removes it
@@ -211,10 +163,6 @@ start_home (calls.Wait c how) None h q k = tt
 start_home (calls.Wait c how) (Some e) h q k = absurd (cc)
 start_home (calls.Add c j f) None h q k = tt
 start_home (calls.Add c j f) (Some e) h q k = absurd (cc)
-start_home (calls.SimpleWait c st) None h q k = tt
-start_home (calls.SimpleWait c st) (Some e) h q k = absurd (cc)
-start_home (calls.WaitFor d st) None h q k = tt
-start_home (calls.WaitFor d st) (Some e) h q k = absurd (cc)
 start_home calls.Remove None h q k = absurd (cc)
 start_home calls.Remove (Some e) h q k = h
 start_home call None h q k = tt
@@ -233,10 +181,6 @@ start_takes : (call : Call) → taken_off (program_start call) ≡ None
 start_takes calls.Remove = refl
 start_takes call = refl
 
-start_flags : (call : Call) → flagged (program_start call) ≡ None
-start_flags calls.Remove = refl
-start_flags call = refl
-
 begun_placed : (entry : ℕ → Option Entry) (v : View) (me : ℕ) (call : Call) (p : Progress) → is_open p ≡ false
     → is_queued_twice call (entry (own me)) ≡ false → lacks_entry call (entry (own me)) ≡ false
     → IsPlaced entry v me p → IsPlaced entry v me (now.Open call (program_start call))
@@ -245,7 +189,6 @@ begun_placed entry v me call p closed twice lacks pl = record {
   home = start_home call (entry (own me)) (idle_home p (entry (own me)) closed pl.home) twice lacks;
   off_book = λ pr z. absurd (let c : true ≡ false = sym pr ∙ start_calm call in cc);
   taken = λ who t. absurd (let c : None ≡ Some who = sym (start_takes call) ∙ t in cc);
-  flagged = λ c t. absurd (let d : None ≡ Some c = sym (start_flags call) ∙ t in cc);
 }
   where
     no_hold_at : (q : Progress) → is_open q ≡ false → held_at q ≡ None
@@ -262,10 +205,6 @@ opened_sound s n me call sound item =
       linked = sound.linked;
       calls = λ t. put_at (IsSoundCall n) s.progress me _ t (λ _. start_sound_call n me call a.0 a.3)
           (λ _. sound.calls t);
-      marked = λ t. put_at (λ p. mark_head (s.table.mark t) ≡ marked_at p) s.progress me _ t
-          (λ q. sound.marked t ∙ ap (λ i. marked_at (s.progress i)) q ∙ closed_marked (s.progress me) item.1
-          ∙ sym (start_marked call))
-          (λ _. sound.marked t);
       placed = λ t. put_at (λ p. IsPlaced s.table.entry (s.table.view t) t p) s.progress me _ t
           (λ q. subst (λ (i : ℕ). IsPlaced s.table.entry (s.table.view i) i
           (now.Open call (program_start call))) (sym q)
@@ -285,21 +224,16 @@ pub record IsMade (s : State) (n me : ℕ) (q : Progress) (e : Event) : Type 0 w
   pub made : AllAllowed s.table me (steps_of s me (given_by q) e)
   pub placed : IsPlaced (steps s.table me (steps_of s me (given_by q) e)).entry
       (after_all (s.table.view me) (steps_of s me (given_by q) e)) me (progress_after s me q)
-  pub marked : mark_head ((steps s.table me (steps_of s me (given_by q) e)).mark me)
-      ≡ marked_at (progress_after s me q)
   pub runs : (s.table.task me).runnable ≡ true
 
-pub made_of : (s : State) (n me : ℕ) (e : Event) (found : ℕ) → IsSound s n → me < task_count → (q : Progress)
+pub made_of : (s : State) (n me : ℕ) (e : Event) (found : ℕ) → IsSound s n → me < 64 → (q : Progress)
     → s.progress me ≡ q → Continues s me q e found → IsMade s n me q e
 made_of s n me e found sound mine now.Fresh is c = absurd c
 made_of s n me e found sound mine now.Idle is c = absurd c
 made_of s n me e found sound mine (now.Open call p) is c =
     of_fine (program_fine s n me call sound mine p (subst (IsSoundCall n) is (sound.calls me))
-    (subst (λ (x : Progress). IsPlaced s.table.entry (s.table.view me) me x) is (sound.placed me)) mk)
+    (subst (λ (x : Progress). IsPlaced s.table.entry (s.table.view me) me x) is (sound.placed me)))
   where
-    mk : mark_head (s.table.mark me) ≡ marked_at (now.Open call p)
-    mk = sound.marked me ∙ ap marked_at is
-
     of_fine : Fine s n me call sound mine (given_at call p) (planned s me call p)
         → IsMade s n me (now.Open call p) e
     of_fine f = subst (IsMade s n me (now.Open call p)) (sym c.0)
@@ -310,7 +244,6 @@ made_of s n me e found sound mine (now.Open call p) is c =
           next_call = f.next_call;
           made = f.made (sym (ap (busy_head s) c.0) ∙ c.3);
           placed = f.placed;
-          marked = program_marked s me call p mk;
           runs = c.2;
         })
 
@@ -322,8 +255,7 @@ made_sound s n me e found sound few item =
     let es : List Step = steps_of s me (given_by (s.progress me)) e in
     record {
       lawful = event_lawful s me (given_by (s.progress me)) e sound.lawful m.runs m.allows;
-      linked = event_linked s me (given_by (s.progress me)) e n few sound.linked item.0 m.allows
-          m.changes m.joins;
+      linked = event_linked s me (given_by (s.progress me)) e n few sound.linked m.allows m.changes m.joins;
       calls = λ t. put_at (IsSoundCall (n + 1)) s.progress me _ t (λ _. m.next_call)
           (λ _. call_later n (s.progress t) (sound.calls t));
       placed = λ t. put_at (λ p. IsPlaced (steps s.table me es).entry ((steps s.table me es).view t) t p)
@@ -335,10 +267,6 @@ made_sound s n me e found sound few item =
           (λ ne. subst (λ (v : View). IsPlaced (steps s.table me es).entry v t (s.progress t))
           (sym (steps_other s.table me t es ne))
           (others_placed s me (given_by (s.progress me)) e t ne m.changes sound.kept.facts (sound.placed t)));
-      marked = λ t. put_at (λ p. mark_head ((steps s.table me es).mark t) ≡ marked_at p) s.progress me _ t
-          (λ q. subst (λ (i : ℕ). mark_head ((steps s.table me es).mark i)
-          ≡ marked_at (progress_after s me (s.progress me))) (sym q) m.marked)
-          (λ ne. ap mark_head (marks_other s me (given_by (s.progress me)) e t ne) ∙ sound.marked t);
       kept = steps_keep s.table me es sound.kept m.made;
       few = omega arith;
     }
@@ -354,31 +282,16 @@ reached s (ran.Made me e found ∷ items) n r sound few =
     (reached (happens s (ran.Made me e found)) items (n + 1) r.1
     (made_sound s n me e found sound (omega arith) r.0) (omega arith))
 
--- nothing stands at the start
-nothing : (b : Bool) (k : Mark) → (if b then stand_by None else None) ≡ Some k → ⊥
-nothing true k h = cc
-nothing false k h = cc
-
 pub start_sound : IsSound start_state 0
 start_sound = record {
   lawful = λ t. record { state = inl refl; fatal = λ h. absurd (cc); runnable = λ _. refl };
-  linked = record {
-    entries = λ x e h. absurd (cc);
-    marks = λ t k h. absurd (cc);
-    ordered = record {
-      inside = λ x k h. absurd (nothing (nat_lt x entry_count) k h);
-      members = λ h m i. absurd i;
-      order = λ h. tt;
-    };
-  };
-  marked = λ t. refl;
+  linked = record { entries = λ x e h. absurd (cc); members = λ h m i. absurd i; order = λ h. tt };
   calls = λ t. tt;
   placed = λ t. record {
     head = refl;
     home = tt;
     off_book = λ pr z. absurd (cc);
     taken = λ who t. absurd (cc);
-    flagged = λ c t. absurd (cc);
   };
   kept = start_kept;
   few = omega arith;

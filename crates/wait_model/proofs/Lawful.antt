@@ -6,18 +6,16 @@ use Rattle.wait_model.specs.declared.calls.Event.{Event}
 use Rattle.wait_model.specs.declared.watches.Entry.{Entry}
 use Rattle.wait_model.specs.declared.tasks.Task.{Task}
 use Rattle.wait_model.specs.declared.queues.Member.{Member}
-use Rattle.wait_model.specs.declared.queues.Mark.{Mark}
 use Rattle.wait_model.specs.Runs.{State, own, looks, after_event}
 use Rattle.wait_model.specs.declared.points.Given.{Given}
 use Rattle.wait_model.specs.Reached.{IsLinked, IsState, Allows, Joins}
-use Rattle.wait_model.specs.Tasks.{task_count, meets, pending, woken, slept, raised, accepted, IsLawful}
-use Rattle.wait_model.specs.Tables.{Table, next, steps, value_of}
+use Rattle.wait_model.specs.Tasks.{meets, pending, woken, slept, raised, accepted, IsLawful}
+use Rattle.wait_model.specs.Tables.{Table, next, steps}
 use Rattle.wait_model.specs.Words.{head_word}
 use Rattle.wait_model.proofs.Looks.{looks_same}
 use Rattle.wait_model.proofs.Functions.{put_at}
-use Rattle.wait_model.proofs.Linked.{later, form_linked, linked_removed, mark_linked, unmark_linked}
+use Rattle.wait_model.proofs.Linked.{later, form_linked, linked_removed}
 use Rattle.wait_model.proofs.Placed.{Changes}
-use Rattle.wait_model.proofs.Conditions.{set_rest}
 use Rattle.wait_model.specs.declared.calls.Event.TheVariants as event
 use Rattle.wait_model.specs.declared.steps.Step.TheVariants as step
 
@@ -72,36 +70,22 @@ event_lawful s me g (event.Accept x) l r a t = put_at IsLawful s.table.task me (
 event_lawful s me g (event.Lock h) l r a t =
     looks_task (next s.table me (step.Lock h g.walk (head_word (s.table.holder h) (s.table.spent h))))
     s.table.entry me t (l t)
-event_lawful s me g (event.Set c v) l r a t =
-    subst (λ (f : ℕ → Task). IsLawful (f t))
-    (sym (set_rest s.table me g.watch v (value_of s.table.words g.watch)).task) (l t)
 event_lawful s me g e l r a t = l t
 
 -- the queues after an event
 looks_linked : (t : Table) (f : ℕ → Option Entry) (a : ℕ) (queue : ℕ → List Member) (n : ℕ)
-    → IsLinked t.entry t.mark queue n → IsLinked (steps t a (looks f)).entry (steps t a (looks f)).mark queue n
-looks_linked t f a queue n l = subst (λ (g : ℕ → Option Entry). IsLinked g (steps t a (looks f)).mark queue n)
-    (sym (looks_same t f a).entry)
-    (subst (λ (g : ℕ → Option Mark). IsLinked t.entry g queue n) (sym (looks_same t f a).mark) l)
+    → IsLinked t.entry queue n → IsLinked (steps t a (looks f)).entry queue n
+looks_linked t f a queue n l = subst (λ (g : ℕ → Option Entry). IsLinked g queue n)
+    (sym (looks_same t f a).entry) l
 
 pub event_linked : (s : State) (me : ℕ) (g : Given) (e : Event) (n : ℕ) → n < 1000000
-    → IsLinked s.table.entry s.table.mark s.queue n → me < task_count → Allows s me e → Changes s me e
-    → Joins g e → IsLinked (after_event s me g e).table.entry (after_event s me g e).table.mark
-    (after_event s me g e).queue (n + 1)
-event_linked s me g (event.Lock h) n few l mine a c j =
+    → IsLinked s.table.entry s.queue n → Allows s me e → Changes s me e → Joins g e
+    → IsLinked (after_event s me g e).table.entry (after_event s me g e).queue (n + 1)
+event_linked s me g (event.Lock h) n few l a c j =
     looks_linked (next s.table me (step.Lock h g.walk (head_word (s.table.holder h) (s.table.spent h))))
-    s.table.entry me s.queue (n + 1) (later s.table.entry s.table.mark s.queue n l)
-event_linked s me g (event.Queue h form) n few l mine a c j =
-    form_linked s.table.entry s.table.mark s.queue n l few me h a.2 a.1 g j.0 j.1 form
-event_linked s me g (event.Unqueue who) n few l mine a c j =
-    rw c.stands (linked_removed s.table.entry s.table.mark s.queue n l (own who) c.it c.stands)
-event_linked s me g (event.Mark h) n few l mine a c j =
-    mark_linked s.table.entry s.table.mark s.queue n l few me h c mine a g
-event_linked s me g (event.Unmark h) n few l mine a c j =
-    rw (← c.2) (unmark_linked s.table.entry s.table.mark s.queue n l me c.0 c.1)
-event_linked s me g (event.Set c v) n few l mine a h j =
-    let u = set_rest s.table me g.watch v (value_of s.table.words g.watch) in
-    subst (λ (k : ℕ → Option Mark). IsLinked (after_event s me g (event.Set c v)).table.entry k s.queue (n + 1))
-    (sym u.mark) (subst (λ (f : ℕ → Option Entry). IsLinked f s.table.mark s.queue (n + 1)) (sym u.entry)
-    (later s.table.entry s.table.mark s.queue n l))
-event_linked s me g e n few l mine a c j = later s.table.entry s.table.mark s.queue n l
+    s.table.entry me s.queue (n + 1) (later s.table.entry s.queue n l)
+event_linked s me g (event.Queue h form) n few l a c j =
+    form_linked s.table.entry s.queue n few l me h a.2 a.1 g j.0 j.1 form
+event_linked s me g (event.Unqueue who) n few l a c j =
+    rw c.stands (linked_removed s.table.entry s.queue n (own who) c.it l c.stands)
+event_linked s me g e n few l a c j = later s.table.entry s.queue n l

@@ -20,21 +20,16 @@ pub mod Picked
 pub mod Kept
 pub mod QueueOrder
 pub mod QueueEnds
-pub mod QueueMarks
 pub mod QueuePlaces
 pub mod Decoded
-pub mod Conditions
 pub mod TaskWords
 pub mod Looks
-pub mod Stands
 pub mod Linked
 pub mod Placed
 pub mod Lawful
 pub mod Fines
 pub mod Programmed
-pub mod Completed
 pub mod Walked
-pub mod Marked
 pub mod StartKept
 pub mod EveryRun
 pub mod ShownSteps
@@ -62,4 +57,3 @@ pub mod SignalCounts
 pub mod BitKeepers
 pub mod DoneCounts
 pub mod BitWords
-pub mod DoneStores

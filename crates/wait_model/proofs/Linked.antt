@@ -1,246 +1,185 @@
--- Entries, bookmarks and queues keep agreeing after each event that changes them.
-use Rattle.std.proofs.lemmas.Bool.Decides.{nat_tests}
-use Rattle.std.proofs.Common.{refl, sym, ◌∙◌, ap, subst, arith}
-use Rattle.std.specs.Prelude.{ℕ, ◌≡◌, ◌≢◌, ◌+◌, ◌-◌, ◌*◌, ◌^◌, ◌<◌, ◌≤◌, nat_lt, if◌then◌else◌, Option, Some, None, Bool, true, false, List}
+-- Entries and queues keep agreeing where an entry is queued and where one is taken off.
+use Rattle.std.proofs.Common.{refl, sym, ◌∙◌, ap, subst, arith, inl, inr}
+use Rattle.std.specs.Prelude.{ℕ, ◌≡◌, ◌≢◌, ◌+◌, ◌*◌, ◌^◌, ◌<◌, ◌≤◌, Option, Some, None, Bool, true, false, List}
 use Rattle.wait_model.specs.declared.watches.Entry.{Entry}
 use Rattle.wait_model.specs.declared.queues.Member.{Member}
-use Rattle.wait_model.specs.declared.queues.Mark.{Mark}
-use Rattle.wait_model.specs.Runs.{own, own_mark, entry_for, mark_for}
-use Rattle.wait_model.specs.Tasks.{task_count}
-use Rattle.wait_model.specs.Reached.{first_of, IsNear, IsQueued, IsBookmark, IsOrdered, IsLinked}
-use Rattle.wait_model.specs.Watches.{head_of, bare}
+use Rattle.wait_model.specs.Runs.{own, entry_for}
+use Rattle.wait_model.specs.Reached.{first_of, IsQueued, IsMember, IsLinked}
+use Rattle.wait_model.specs.Watches.{head_of}
 use Rattle.wait_model.specs.Words.{entry_word, Suited, entry_of}
 use Rattle.wait_model.specs.declared.queues.Form.{Form}
 use Rattle.wait_model.specs.declared.points.Given.{Given}
-use Rattle.wait_model.specs.Queues.{
-  entry_count,
-  stand_by,
-  stand_of,
-  rank,
-  rank_at,
-  member_from,
-  mark_place,
-  mark_add,
-  place_for,
-  add_to,
-  is_priority,
-  is_entry,
-  without,
-  IsIn,
-}
+use Rattle.wait_model.specs.Queues.{place_for, add_to, is_priority, without, IsIn, IsInOrder}
 use Rattle.wait_model.specs.Functions.{put}
-use Rattle.wait_model.proofs.QueueOrder.{IsFirstFrom, first_is}
-use Rattle.wait_model.proofs.QueueMarks.{marked_in, mark_in, unmarked_in, order_marked}
-use Rattle.wait_model.proofs.QueuePlaces.{Adds, IsPlaceFor, form_adds}
-use Rattle.wait_model.proofs.Stands.{ordered_later, ordered_added, ordered_removed, entry_stands, mark_stands, some_stands}
+use Rattle.wait_model.proofs.QueueOrder.{kept_in, stays_in, order_removed}
+use Rattle.wait_model.proofs.QueuePlaces.{IsNear, Adds, IsPlaceFor, form_adds}
 use Rattle.wait_model.proofs.Decoded.{entry_read, none_read}
 use Rattle.wait_model.proofs.Functions.{put_at, put_same, put_other}
 
-nothing : (k : Mark) → None ≡ Some k → ⊥
-nothing k e = cc
-
--- one more event
-queued_later : (n x : ℕ) (e : Entry) → IsQueued n x e → IsQueued (n + 1) x e
-queued_later n x e q = record {
+-- one more event, and perhaps another queue that has the member still
+queued_moved : (queue queue2 : ℕ → List Member) (n x : ℕ) (e : Entry) → IsQueued queue n x e
+    → IsIn (record { at = x; place = e.place }) (queue2 (head_of e.watch)) → IsQueued queue2 (n + 1) x e
+queued_moved queue queue2 n x e q i = record {
   task = q.task;
   is_own = q.is_own;
   number = q.number;
   lawful = q.lawful;
   above = (let above : first_of e.priority ≤ e.place + 2 * n = q.above in omega arith);
   below = (let below : e.place ≤ first_of e.priority + 2 * n = q.below in omega arith);
+  inside = i;
 }
 
-module _ (entry : ℕ → Option Entry) (mark : ℕ → Option Mark) (queue : ℕ → List Member) (n : ℕ)
-    (l : IsLinked entry mark queue n) where
-  pub later : IsLinked entry mark queue (n + 1)
-  later = record {
-    entries = λ x e s. queued_later n x e (l.entries x e s);
-    marks = l.marks;
-    ordered = ordered_later (stand_of entry mark) queue n l.ordered;
+pub later : (entry : ℕ → Option Entry) (queue : ℕ → List Member) (n : ℕ) → IsLinked entry queue n
+    → IsLinked entry queue (n + 1)
+later entry queue n l = record {
+  entries = λ x e s. let q = l.entries x e s in queued_moved queue queue n x e q q.inside;
+  members = l.members;
+  order = l.order;
+}
+
+-- the same member of another table's entries
+member_kept : (entry entry2 : ℕ → Option Entry) (h : ℕ) (m : Member) → entry2 m.at ≡ entry m.at
+    → IsMember entry h m → IsMember entry2 h m
+member_kept entry entry2 h m same i = record {
+  entry = i.entry;
+  stands = same ∙ i.stands;
+  place = i.place;
+  head = i.head;
+}
+
+module _ (entry : ℕ → Option Entry) (queue : ℕ → List Member) (n : ℕ) (l : IsLinked entry queue n) (x : ℕ)
+    (off : entry x ≡ None) where
+  -- a member is another entry
+  another : (m : Member) (h : ℕ) → IsIn m (queue h) → m.at ≢ x
+  another m h i s = let k : IsMember entry h m = l.members h m i in let p : entry x ≡ Some k.entry =
+      subst (λ (t : ℕ). entry t ≡ Some k.entry) s k.stands in let z : Some k.entry ≡ None = sym p ∙ off in cc
+
+  module _ (e : Entry) (h : ℕ) (r : List Member) (at_head : head_of e.watch ≡ h)
+      (fits : (queue2 : ℕ → List Member)
+      → IsIn (record { at = x; place = e.place }) (queue2 (head_of e.watch)) → IsQueued queue2 (n + 1) x e)
+      (adds : Adds (record { at = x; place = e.place }) (queue h) r) where
+    still_in : (m : Member) (i : ℕ) → IsIn m (queue i) → IsIn m (put queue h r i)
+    still_in m i k = put_at (λ q. IsIn m q) queue h r i (λ s. adds.old m (subst (λ j. IsIn m (queue j)) s k))
+        (λ ne. k)
+
+    new_entry : (y : ℕ) (d : Entry) → y ≡ x → Some e ≡ Some d → IsQueued (put queue h r) (n + 1) y d
+    new_entry y d w s =
+        let same : e ≡ d = cc in
+        subst (λ (i : ℕ). IsQueued (put queue h r) (n + 1) i d) (sym w)
+        (subst (λ (c : Entry). IsQueued (put queue h r) (n + 1) x c) same
+        (fits (put queue h r) (rw (at_head, put_same queue h r) adds.new)))
+
+    old_entry : (y : ℕ) (d : Entry) → entry y ≡ Some d → IsQueued (put queue h r) (n + 1) y d
+    old_entry y d s = let q : IsQueued queue n y d = l.entries y d s in
+        queued_moved queue (put queue h r) n y d q (still_in _ (head_of d.watch) q.inside)
+
+    old_member : (i : ℕ) (m : Member) → IsIn m (queue i) → IsMember (put entry x (Some e)) i m
+    old_member i m k = member_kept entry (put entry x (Some e)) i m
+        (put_other entry x (Some e) m.at (another m i k)) (l.members i m k)
+
+    new_member : (i : ℕ) (m : Member) → i ≡ h → m ≡ record { at = x; place = e.place }
+        → IsMember (put entry x (Some e)) i m
+    new_member i m s k = record {
+      entry = e;
+      stands = put_at (λ o. o ≡ Some e) entry x (Some e) m.at (λ _. refl)
+          (λ ne. absurd (ne (ap (λ (y : Member). y.at) k)));
+      place = sym (ap (λ (y : Member). y.place) k);
+      head = at_head ∙ sym s;
+    }
+
+    pub linked_added : IsLinked (put entry x (Some e)) (put queue h r) (n + 1)
+    linked_added = record {
+      entries = λ y d. put_at (λ o. o ≡ Some d → IsQueued (put queue h r) (n + 1) y d) entry x (Some e) y
+          (new_entry y d) (λ ne. old_entry y d);
+      members = λ i m. put_at (λ q. IsIn m q → IsMember (put entry x (Some e)) i m) queue h r i
+          (λ s k. elim (adds.added m k) [
+            | inl y ↦ new_member i m s y
+            | inr y ↦ old_member i m (subst (λ j. IsIn m (queue j)) (sym s) y)
+          ])
+          (λ ne k. old_member i m k);
+      order = λ i. put_at (λ q. IsInOrder q) queue h r i (λ _. adds.order) (λ _. l.order i);
+    }
+
+-- an add of any form
+module _ (entry : ℕ → Option Entry) (queue : ℕ → List Member) (n : ℕ) (few : n < 1000000)
+    (l : IsLinked entry queue n) (me h : ℕ) (off : entry (own me) ≡ None) (number : me < 64) (g : Given)
+    (at_head : head_of g.watch ≡ h) (suited : Suited g.watch g.kind) (form : Form) where
+  near : (m : Member) → IsIn m (queue h) → IsNear n m.place
+  near m i =
+      let k : IsMember entry h m = l.members h m i in
+      let q : IsQueued queue n m.at k.entry = l.entries m.at k.entry k.stands in
+      let above : first_of k.entry.priority ≤ k.entry.place + 2 * n = q.above in
+      let below : k.entry.place ≤ first_of k.entry.priority + 2 * n = q.below in
+      let place : k.entry.place ≡ m.place = k.place in
+      (k.entry.priority, omega arith, omega arith)
+
+  placed : IsPlaceFor form (queue h) n (own me)
+  placed = form_adds (queue h) n (own me) few (l.order h) near form
+
+  fits : (b : Bool) → place_for form (queue h) ≤ first_of b + 2 * (n + 1) → place_for form (queue h) < 2 ^ 40
+  fits true f = omega arith
+  fits false f = omega arith
+
+  pub form_linked : IsLinked (put entry (own me) (Some (entry_for g form (place_for form (queue h)))))
+      (put queue h (add_to form (record { at = own me; place = place_for form (queue h) }) (queue h))) (n + 1)
+  form_linked = linked_added entry queue n l (own me) off (entry_for g form (place_for form (queue h))) h
+      (add_to form (record { at = own me; place = place_for form (queue h) }) (queue h)) at_head
+      (λ queue2 i. record {
+        task = me;
+        is_own = refl;
+        number = number;
+        lawful = record { place = fits (is_priority form) placed.below; suited = suited };
+        above = placed.above;
+        below = placed.below;
+        inside = i;
+      }) placed.adds
+
+-- an entry is taken off
+module _ (entry : ℕ → Option Entry) (queue : ℕ → List Member) (n x : ℕ) (e : Entry)
+    (l : IsLinked entry queue n) (was : entry x ≡ Some e) where
+  abbrev left : ℕ → List Member
+  left = put queue (head_of e.watch) (without x (queue (head_of e.watch)))
+
+  -- another entry stays a member
+  stays : (m : Member) (h : ℕ) → m.at ≢ x → IsIn m (queue h) → IsIn m (left h)
+  stays m h other i = put_at (λ q. IsIn m q) queue (head_of e.watch) (without x (queue (head_of e.watch))) h
+      (λ s. stays_in x m (queue (head_of e.watch)) other (subst (λ k. IsIn m (queue k)) s i)) (λ ne. i)
+
+  kept_entry : (y : ℕ) (d : Entry) → y ≢ x → entry y ≡ Some d → IsQueued left (n + 1) y d
+  kept_entry y d other s = let q : IsQueued queue n y d = l.entries y d s in
+      queued_moved queue left n y d q (stays _ (head_of d.watch) other q.inside)
+
+  kept_member : (h : ℕ) (m : Member) → m.at ≢ x → IsIn m (queue h) → IsMember (put entry x None) h m
+  kept_member h m other i = member_kept entry (put entry x None) h m (put_other entry x None m.at other)
+      (l.members h m i)
+
+  -- a member of another head is another entry
+  elsewhere_at : (h : ℕ) (m : Member) → h ≢ head_of e.watch → IsIn m (queue h) → m.at ≢ x
+  elsewhere_at h m ne i k =
+      let j : IsMember entry h m = l.members h m i in
+      let p : entry x ≡ Some j.entry = subst (λ (t : ℕ). entry t ≡ Some j.entry) k j.stands in
+      let q : Some j.entry ≡ Some e = sym p ∙ was in
+      let r : j.entry ≡ e = cc in
+      ne (sym j.head ∙ ap (λ (y : Entry). head_of y.watch) r)
+
+  pub linked_removed : IsLinked (put entry x None) left (n + 1)
+  linked_removed = record {
+    entries = λ y d. put_at (λ o. o ≡ Some d → IsQueued left (n + 1) y d) entry x None y (λ s z. absurd (cc))
+        (λ ne. kept_entry y d ne);
+    members = λ h m. put_at (λ q. IsIn m q → IsMember (put entry x None) h m) queue (head_of e.watch)
+        (without x (queue (head_of e.watch))) h
+        (λ s i. let k = kept_in x m (queue (head_of e.watch)) i
+        in kept_member h m k.1 (subst (λ j. IsIn m (queue j)) (sym s) k.0))
+        (λ ne i. kept_member h m (elsewhere_at h m ne i) i);
+    order = λ h. put_at (λ q. IsInOrder q) queue (head_of e.watch) (without x (queue (head_of e.watch))) h
+        (λ _. order_removed x (queue (head_of e.watch)) (l.order (head_of e.watch))) (λ _. l.order h);
   }
 
-  pub member_near : (m : Member) (h : ℕ) → IsIn m (queue h) → IsNear n m.place
-  member_near m h i = (l.ordered.inside m.at (record { head = h; place = m.place }) (l.ordered.members h m i)).near
-
-  pub member_small : (m : Member) (h : ℕ) → IsIn m (queue h) → m.at < 512
-  member_small m h i =
-      (l.ordered.inside m.at (record { head = h; place = m.place }) (l.ordered.members h m i)).number
-
-  -- what another entry word, or another bookmark, leaves of what stands
-  entry_other : (x : ℕ) (f : Option Entry) (y : ℕ) → y ≢ x
-      → stand_of (put entry x f) mark y ≡ stand_of entry mark y
-  entry_other x f y ne = ap (λ (j : Option Entry). if nat_lt y entry_count then stand_by j else mark
-      (y - entry_count)) (put_other entry x f y ne)
-
-  mark_other : (t : ℕ) (f : Option Mark) (y : ℕ) → y ≢ own_mark t
-      → stand_of entry (put mark t f) y ≡ stand_of entry mark y
-  mark_other t f y ne = by (nat_lt y entry_count) refl
-    where
-      by : (b : Bool) → nat_lt y entry_count ≡ b
-          → (if b then stand_by (entry y) else put mark t f (y - entry_count)) ≡ (if b then stand_by (entry y)
-          else mark (y - entry_count))
-      by true h = refl
-      by false h =
-          let u : entry_count ≤ y = grind (arith, nat_tests) in
-          let d : y - entry_count ≢ t = λ e. ne (omega (arith, e)) in
-          put_other mark t f (y - entry_count) d
-
-  -- an add of any form
-  module _ (few : n < 1000000) (me h : ℕ) (off : entry (own me) ≡ None) (number : me < task_count) (g : Given)
-      (at_head : head_of (bare g.watch) ≡ h) (suited : Suited (bare g.watch) g.kind) (form : Form) where
-    placed : IsPlaceFor form (queue h) n (own me)
-    placed = form_adds (queue h) n (own me) few (l.ordered.order h) (λ m i. member_near m h i)
-        (λ m i. member_small m h i) (omega arith) form
-
-    fits : (b : Bool) → place_for form (queue h) ≤ first_of b + 2 * (n + 1) → place_for form (queue h) < 2 ^ 40
-    fits true f = omega arith
-    fits false f = omega arith
-
-    abbrev it : Entry
-    it = entry_for g form (place_for form (queue h))
-
-    queued : IsQueued (n + 1) (own me) it
-    queued = record {
-      task = me;
-      is_own = refl;
-      number = number;
-      lawful = record { place = fits (is_priority form) placed.below; suited = suited };
-      above = placed.above;
-      below = placed.below;
-    }
-
-    new_entry : (y : ℕ) (d : Entry) → y ≡ own me → Some it ≡ Some d → IsQueued (n + 1) y d
-    new_entry y d w s =
-        let same : it ≡ d = cc in
-        subst (λ (i : ℕ). IsQueued (n + 1) i d) (sym w)
-        (subst (λ (c : Entry). IsQueued (n + 1) (own me) c) same queued)
-
-    pub form_linked : IsLinked (put entry (own me) (Some it)) mark
-        (put queue h (add_to form (record { at = own me; place = place_for form (queue h) }) (queue h))) (n + 1)
-    form_linked = record {
-      entries = λ y d. put_at (λ o. o ≡ Some d → IsQueued (n + 1) y d) entry (own me) (Some it) y
-          (new_entry y d) (λ ne s. queued_later n y d (l.entries y d s));
-      marks = l.marks;
-      ordered = subst (λ (i : ℕ). IsOrdered (stand_of (put entry (own me) (Some it)) mark)
-          (put queue i (add_to form (record { at = own me; place = place_for form (queue h) }) (queue h)))
-          (n + 1)) at_head
-          (ordered_added (stand_of entry mark) (stand_of (put entry (own me) (Some it)) mark) queue n (own me)
-          l.ordered (entry_other (own me) (Some it))
-          (entry_stands entry mark (own me) (omega arith) ∙ ap stand_by off)
-          (record { head = head_of (bare g.watch); place = place_for form (queue h) })
-          (some_stands (put entry (own me) (Some it)) mark (own me) it (omega arith)
-          (put_same entry (own me) (Some it)))
-          (omega arith) (is_priority form, placed.above, placed.below)
-          (add_to form (record { at = own me; place = place_for form (queue h) }) (queue h))
-          (subst (λ (i : ℕ). Adds (record { at = own me; place = place_for form (queue h) }) (queue i)
-          (add_to form (record { at = own me; place = place_for form (queue h) }) (queue h))) (sym at_head)
-          placed.adds));
-    }
-
-  -- an entry is taken off
-  module _ (x : ℕ) (e : Entry) (was : entry x ≡ Some e) where
-    small : x < entry_count
-    small =
-        let q = l.entries x e was in
-        let number : q.task < task_count = q.number in
-        let is : x ≡ own q.task = q.is_own in
-        omega arith
-
-    pub linked_removed : IsLinked (put entry x None) mark
-        (put queue (head_of e.watch) (without x (queue (head_of e.watch)))) (n + 1)
-    linked_removed = record {
-      entries = λ y d. put_at (λ o. o ≡ Some d → IsQueued (n + 1) y d) entry x None y (λ s z. absurd (cc))
-          (λ ne s. queued_later n y d (l.entries y d s));
-      marks = l.marks;
-      ordered = ordered_removed (stand_of entry mark) (stand_of (put entry x None) mark) queue n x l.ordered
-          (entry_other x None) (record { head = head_of e.watch; place = e.place })
-          (some_stands entry mark x e small was)
-          (entry_stands (put entry x None) mark x small ∙ ap stand_by (put_same entry x None));
-    }
-
-  -- a bookmark goes before the next member
-  module _ (few : n < 1000000) (me h : ℕ) (off : mark me ≡ None) (number : me < task_count) (exists : h < 384)
-      (g : Given) where
-    abbrev put_down : Mark
-    put_down = mark_for g h (queue h)
-
-    abbrev as_member : Member
-    as_member = record { at = own_mark me; place = put_down.place }
-
-    -- before an entry, or before a bookmark
-    near_before : (m : Member) (b : Bool) → IsNear n m.place
-        → IsNear (n + 1) (if b then m.place - 1 else m.place)
-    near_before m true (true, low, high) = (true, omega (arith, low), omega (arith, high))
-    near_before m true (false, low, high) = (false, omega (arith, low), omega (arith, high))
-    near_before m false (b, low, high) = (b, omega (arith, low), omega (arith, high))
-
-    near_place : (r : Option Member) → IsFirstFrom (λ _. true) (rank_at g.from) (queue h) r
-        → IsNear (n + 1) (mark_place r)
-    near_place None f = (false, omega arith, omega arith)
-    near_place (Some m) f = near_before m (is_entry m) (member_near m h f.0)
-
-    near : IsNear (n + 1) put_down.place
-    near = near_place (member_from (rank_at g.from) (queue h))
-        (first_is (λ _. true) (rank_at g.from) (queue h) (l.ordered.order h))
-
-    fits_near : (p : ℕ) → IsNear (n + 1) p → p < 2 ^ 40
-    fits_near p (true, low, high) = omega (arith, high)
-    fits_near p (false, low, high) = omega (arith, high)
-
-    -- no member has the bookmark's rank
-    other_rank : (x : Member) → IsIn x (queue h) → rank x ≢ rank as_member
-    other_rank x i s =
-        let small : x.at < 512 = member_small x h i in
-        let at : x.at ≡ own_mark me = omega arith in
-        let p : stand_of entry mark (own_mark me) ≡ Some (record { head = h; place = x.place }) =
-        subst (λ (j : ℕ). stand_of entry mark j ≡ Some (record { head = h; place = x.place })) at
-        (l.ordered.members h x i) in
-        nothing (record { head = h; place = x.place }) (sym off ∙ sym (mark_stands entry mark me) ∙ p)
-
-    marked_adds : Adds as_member (queue h) (mark_add as_member (queue h))
-    marked_adds = record {
-      added = λ y. marked_in as_member y (queue h);
-      new = mark_in as_member (queue h);
-      old = λ y. unmarked_in as_member y (queue h);
-      order = order_marked as_member (queue h) (l.ordered.order h) other_rank;
-    }
-
-    new_mark : (y : ℕ) (d : Mark) → y ≡ me → Some put_down ≡ Some d → IsBookmark y d
-    new_mark y d w s =
-        let same : put_down ≡ d = cc in
-        subst (λ (i : ℕ). IsBookmark i d) (sym w)
-        (subst (λ (c : Mark). IsBookmark me c) same
-        (record { number = number; head = exists; place = fits_near put_down.place near }))
-
-    pub mark_linked : IsLinked entry (put mark me (Some put_down)) (put queue h (mark_add as_member (queue h)))
-        (n + 1)
-    mark_linked = record {
-      entries = λ x e s. queued_later n x e (l.entries x e s);
-      marks = λ y d. put_at (λ o. o ≡ Some d → IsBookmark y d) mark me (Some put_down) y (new_mark y d)
-          (λ ne s. l.marks y d s);
-      ordered = ordered_added (stand_of entry mark) (stand_of entry (put mark me (Some put_down))) queue n
-          (own_mark me) l.ordered (mark_other me (Some put_down)) (mark_stands entry mark me ∙ off) put_down
-          (mark_stands entry (put mark me (Some put_down)) me ∙ put_same mark me (Some put_down)) (omega arith)
-          near (mark_add as_member (queue h)) marked_adds;
-    }
-
-  -- a bookmark is taken out
-  module _ (me : ℕ) (k : Mark) (was : mark me ≡ Some k) where
-    pub unmark_linked : IsLinked entry (put mark me None)
-        (put queue k.head (without (own_mark me) (queue k.head))) (n + 1)
-    unmark_linked = record {
-      entries = λ x e s. queued_later n x e (l.entries x e s);
-      marks = λ y d. put_at (λ o. o ≡ Some d → IsBookmark y d) mark me None y (λ s z. absurd (cc))
-          (λ ne s. l.marks y d s);
-      ordered = ordered_removed (stand_of entry mark) (stand_of entry (put mark me None)) queue n (own_mark me)
-          l.ordered (mark_other me None) k (mark_stands entry mark me ∙ was)
-          (mark_stands entry (put mark me None) me ∙ put_same mark me None);
-    }
-
-  -- an entry that is queued is lawful, so its word shows it
-  pub queued_read : (x : ℕ) → entry_of (entry_word (entry x)) ≡ entry x
-  queued_read x = by_entry (entry x) refl
-    where
-      by_entry : (o : Option Entry) → entry x ≡ o → entry_of (entry_word o) ≡ o
-      by_entry None is = none_read
-      by_entry (Some e) is = entry_read e (l.entries x e is).lawful
+-- an entry that is queued is lawful, so its word shows it
+pub queued_read : (entry : ℕ → Option Entry) (queue : ℕ → List Member) (n : ℕ) → IsLinked entry queue n
+    → (x : ℕ) → entry_of (entry_word (entry x)) ≡ entry x
+queued_read entry queue n l x = by_entry (entry x) refl
+  where
+    by_entry : (o : Option Entry) → entry x ≡ o → entry_of (entry_word o) ≡ o
+    by_entry None is = none_read
+    by_entry (Some e) is = entry_read e (l.entries x e is).lawful

@@ -3,8 +3,6 @@ use Rattle.std.proofs.lemmas.Bool.Decides.{nat_tests}
 use Rattle.std.proofs.Common.{refl, sym, ◌∙◌, ap, subst, arith, inl, inr}
 use Rattle.std.specs.Prelude.{ℕ, ◌≡◌, ◌<◌, ◌≤◌, Bool, true, false, ◌==◌, if◌then◌else◌, is_some, negsuc, List, Option, Some, None}
 use Rattle.wait_model.specs.declared.calls.Call.{Call}
-use Rattle.wait_model.specs.declared.calls.Call.TheVariants as calls
-use Rattle.wait_model.specs.declared.calls.Event.{Event}
 use Rattle.wait_model.specs.declared.calls.Event.TheVariants as event
 use Rattle.wait_model.specs.declared.calls.Answer.TheVariants as answer
 use Rattle.wait_model.specs.declared.calls.Ran.{Ran}
@@ -31,19 +29,13 @@ use Rattle.wait_model.specs.declared.points.WalkPoint.TheVariants as walking
 use Rattle.wait_model.specs.declared.points.AddPoint.TheVariants as adding
 use Rattle.wait_model.specs.declared.points.RemovePoint.TheVariants as removing
 use Rattle.wait_model.specs.declared.points.WokenPoint.TheVariants as hearing
-use Rattle.wait_model.specs.Tasks.{meets, taken_of}
-use Rattle.wait_model.specs.Watches.{mask_of}
-use Rattle.wait_model.specs.Points.{call_watch, call_number, call_head, mode_of, count_of, who_of, called_task}
-use Rattle.wait_model.specs.Programs.{go, ends_with, signalled, selected_answer, select_next, is_enough, is_at_end, call_entry, call_next, taken_number, kicked}
-use Rattle.wait_model.specs.Runs.{State, own, called_at, breaks_at, planned, state_of, made_in}
-use Rattle.wait_model.specs.Tables.{value_of}
-use Rattle.wait_model.proofs.Fines.{none_there}
-use Rattle.wait_model.specs.declared.points.SelectPoint.TheVariants as selecting
-use Rattle.wait_model.specs.declared.points.AwaitPoint.TheVariants as awaiting
-use Rattle.wait_model.specs.declared.points.CountPoint.TheVariants as counting
+use Rattle.wait_model.specs.Tasks.{taken_of}
+use Rattle.wait_model.specs.Points.{cond_of, call_watch, call_head, count_of, who_of}
+use Rattle.wait_model.specs.Programs.{go, ends_with, signalled, call_entry, call_next, taken_number, kicked}
+use Rattle.wait_model.specs.Runs.{State, own, called_at, planned, state_of, made_in}
 use Rattle.wait_model.specs.Reached.{absent, IsHome, HomeAt, IsSound}
 use Rattle.wait_model.specs.Accounts.{Account, account_of}
-use Rattle.wait_model.specs.Selections.{IsSignalledHold, IsStopped, IsInterrupted, InterruptsRightly, RunsAreOrderly}
+use Rattle.wait_model.specs.Selections.{IsInterrupted, InterruptsRightly, RunsAreOrderly}
 use Rattle.wait_model.proofs.EveryRun.{sound_of}
 use Rattle.wait_model.proofs.Accounts.{
   either,
@@ -84,12 +76,6 @@ chosen_below call (walking.Wake w d) k h c = let b : w.selected ≤ count_of cal
     sum_below call w (on_sum call w h.1) c in omega (arith, h.0)
 chosen_below call (walking.Unqueue w who) k h c = let b : w.selected ≤ count_of call =
     sum_below call w (behind_sum call w h.1) c in omega (arith, h.0)
-chosen_below call (walking.BreakUnlock w) k h c = let b : w.selected ≤ count_of call =
-    sum_below call w (on_sum call w h.1) c in omega (arith, h.0)
-chosen_below call (walking.BreakLock w) k h c = let b : w.selected ≤ count_of call =
-    sum_below call w (on_sum call w h.1) c in omega (arith, h.0)
-chosen_below call (walking.Unmark w) k h c = let b : w.selected ≤ count_of call =
-    sum_below call w (on_sum call w h.1) c in omega (arith, h.0)
 chosen_below call (walking.Spent w) k h c = let b : w.selected ≤ count_of call =
     sum_below call w h.1 c in omega (arith, h.0)
 
@@ -108,26 +94,13 @@ next_told : (h : ℕ) (w : Walking) (o : Option Called) (hit : Bool) (x : Walked
 next_told h w None hit x e = sym (ap walked_of e)
 next_told h w (Some c) hit x e = absurd (goes_on _ x (entry_goes_on w c c.entry.kind hit) e)
 
--- a walk that breaks goes on
-call_told : (h : ℕ) (w : Walking) (b : Bool) (o : Option Called) (hit : Bool) (x : Walked)
-    → (if b then go (event.Mark h) (at.Walk (walking.BreakUnlock w)) else call_next h w o hit).next
-    ≡ next.Ends (answer.Walk x) → x.selected ≡ w.selected
-call_told h w true o hit x e = absurd (goes_on _ x refl e)
-call_told h w false o hit x e = next_told h w o hit x e
-
 walk_told : (s : State) (me : ℕ) (call : Call) (p : WalkPoint) (k : ℕ) (x : Walked) → IsChosen call (at.Walk p) k
     → (planned s me call (at.Walk p)).next ≡ next.Ends (answer.Walk x) → x.selected ≡ k
 walk_told s me call walking.Lock k x h e = absurd (goes_on _ x refl e)
-walk_told s me call (walking.Call w) k x h e = call_told (call_head call) w
-    (breaks_at (at.Walk (walking.Call w)) (s.queue (call_head call)))
-    (called_at s call (at.Walk (walking.Call w)))
-    (meets (mask_of (mode_of call)) (s.table.task (called_task (called_at s call (at.Walk (walking.Call w))))).state) x e ∙ sym h.0
+walk_told s me call (walking.Call w) k x h e = next_told _ w _ _ x e ∙ sym h.0
 walk_told s me call (walking.Wake w c) k x h e = absurd (goes_on _ x refl e)
 walk_told s me call (walking.Unqueue w who) k x h e = absurd (goes_on _ x refl e)
 walk_told s me call (walking.Spent w) k x h e = sym (ap walked_of e) ∙ sym h.0
-walk_told s me call (walking.BreakUnlock w) k x h e = absurd (goes_on _ x refl e)
-walk_told s me call (walking.BreakLock w) k x h e = absurd (goes_on _ x refl e)
-walk_told s me call (walking.Unmark w) k x h e = absurd (goes_on _ x refl e)
 
 module _ (s : State) (me : ℕ) (call : Call) where
   -- no event but the last load of a signalled turn ends a call with -512
@@ -150,21 +123,10 @@ module _ (s : State) (me : ℕ) (call : Call) where
 
   abbrev IsOther : Point → Type 0
   IsOther (at.Leave leaving.Load) = ⊥
-  IsOther (at.Await (awaiting.Off true)) = ⊥
-  IsOther (at.Await (awaiting.Last true)) = ⊥
   IsOther _ = Unit {0}
 
-  selected_other : (c : Call) (n : ℕ) → is_signalled (next.Ends (selected_answer c n)) ≡ false
-  selected_other (calls.SimpleWake c all) n = refl
-  selected_other calls.Remove n = refl
-  selected_other c n = refl
-
-  select_other : (n : ℕ) (o : Option Called) (hit : Bool) → Other (select_next call n o hit)
-  select_other n None hit = selected_other call n
-  select_other n (Some c) hit = refl
-
   other : (p : Point) → IsOther p → Other (planned s me call p)
-  other at.First i = either Other (value_of s.table.words (call_watch call) == 0) _ _ refl refl
+  other at.First i = either Other (s.table.words.plains (cond_of call) == 0) _ _ refl refl
   other (at.Prepare preparing.Look) i = refl
   other (at.Prepare preparing.Queue) i = either Other (is_some (s.table.entry (own me))) _ _ refl refl
   other (at.Prepare p) i = refl
@@ -177,9 +139,7 @@ module _ (s : State) (me : ℕ) (call : Call) where
   other (at.Finish finishing.Queue) i = either Other (is_some (s.table.entry (own me))) _ _ refl refl
   other (at.Finish p) i = refl
   other (at.Walk walking.Lock) i = refl
-  other (at.Walk (walking.Call w)) i = either Other (breaks_at (at.Walk (walking.Call w)) (s.queue (call_head call))) _ _ refl
-      (other_next w (called_at s call (at.Walk (walking.Call w)))
-      (meets (mask_of (mode_of call)) (s.table.task (called_task (called_at s call (at.Walk (walking.Call w))))).state))
+  other (at.Walk (walking.Call w)) i = other_next w (called_at s call (at.Walk (walking.Call w))) _
   other (at.Walk p) i = refl
   other (at.Add adding.Lock) i = refl
   other (at.Add p) i = refl
@@ -187,22 +147,6 @@ module _ (s : State) (me : ℕ) (call : Call) where
   other (at.Remove p) i = refl
   other (at.Woken hearing.State) i = refl
   other (at.Woken p) i = refl
-  other (at.Select selecting.Lock) i = refl
-  other (at.Select (selecting.Next n)) i = either Other (is_enough call n) _ _ (selected_other call n)
-      (select_other n _ _)
-  other (at.Select p) i = refl
-  other (at.Await (awaiting.Off true)) i = absurd i
-  other (at.Await (awaiting.Off false)) i = either Other (is_some (s.table.entry (own me))) _ _ refl
-      (either Other (is_at_end (value_of s.table.words (call_watch call))) _ _ refl refl)
-  other (at.Await (awaiting.Last true)) i = absurd i
-  other (at.Await (awaiting.Last false)) i =
-      either Other (is_at_end (value_of s.table.words (call_watch call))) _ _ refl refl
-  other (at.Await (awaiting.Lock waited)) i = refl
-  other (at.Await p) i = refl
-  other (at.Count counting.Peek) i = either Other (value_of s.table.words (call_watch call) == 0) _ _ refl refl
-  other (at.Count (counting.Unlock true)) i = refl
-  other (at.Count (counting.Unlock false)) i = refl
-  other (at.Count p) i = refl
   other at.Accept i = taken_other (taken_of (s.table.task me))
   other at.Kick i = both (λ b. Other (kicked (who_of call) b)) _ refl refl
   other p i = refl
@@ -215,15 +159,15 @@ module _ (s : State) (me : ℕ) (call : Call) where
   is_off (Some e) c h = absurd h
 
   -- that load
-  loaded : (a : Account) (v : ℕ) → value_of s.table.words (call_watch call) ≡ v → (b : Bool) → (v == 0) ≡ b
+  loaded : (a : Account) (v : ℕ) → s.table.words.plains (cond_of call) ≡ v → (b : Bool) → (v == 0) ≡ b
       → IsTurn call (at.Leave leaving.Load) me (a.trail me) → s.table.entry (own me) ≡ None
-      → ((x : Planned) → x ≡ (if b then ends_with (event.Load (call_number call) v) signalled
-      else go (event.Load (call_number call) v) (at.Finish finishing.State))
+      → ((x : Planned) → x ≡ (if b then ends_with (event.Load (cond_of call) v) signalled
+      else go (event.Load (cond_of call) v) (at.Finish finishing.State))
       → x.next ≡ next.Ends signalled → IsInterrupted s a me call x.event)
   loaded a v is true q turn off x e z = record {
     turn = turn;
     off = off;
-    load = ap (λ (y : Planned). y.event) e ∙ ap (λ n. event.Load (call_number call) n) zero_is;
+    load = ap (λ (y : Planned). y.event) e ∙ ap (λ n. event.Load (cond_of call) n) zero_is;
     unset = is ∙ zero_is;
   }
     where
@@ -231,20 +175,6 @@ module _ (s : State) (me : ℕ) (call : Call) where
       zero_is = grind (arith, nat_tests, q)
   loaded a v is false q turn off x e z =
       absurd (let w : false ≡ true = sym (ap (λ (y : Planned). is_signalled y.next) e) ∙ ap is_signalled z in cc)
-
-  -- the unlock of a hold in which a wait for a completion was signalled
-  stopped : (a : Account) (b : Bool) → is_some (s.table.entry (own me)) ≡ b
-      → IsTurn call (at.Await (awaiting.Off true)) me (a.trail me)
-      → ((x : Planned) → x ≡ (if b then go (event.Unqueue me) (at.Await (awaiting.Last true))
-      else ends_with (event.Unlock (call_head call) false) signalled)
-      → x.next ≡ next.Ends signalled → IsStopped s a me call x.event)
-  stopped a true there turn x e z =
-      absurd (let w : false ≡ true = sym (ap (λ (y : Planned). is_signalled y.next) e) ∙ ap is_signalled z in cc)
-  stopped a false there turn x e z = record {
-    hold = record { earlier = turn.0; hold = inl turn.1 };
-    off = none_there (s.table.entry (own me)) there;
-    unlock = ap (λ (y : Planned). y.event) e;
-  }
 
 pub orderly : RunsAreOrderly
 orderly run r few =
@@ -263,28 +193,13 @@ orderly run r few =
   where
     interrupted : (run : List Ran) → IsAccounted (state_of run) (account_of run)
         → IsSound (state_of run) (made_in run) → InterruptsRightly (state_of run) (account_of run)
-    interrupted run h sound me call (at.Leave leaving.Load) is e = inr (
+    interrupted run h sound me call (at.Leave leaving.Load) is e =
         loaded (state_of run) me call (account_of run)
-        (value_of (state_of run).table.words (call_watch call)) refl
-        (value_of (state_of run).table.words (call_watch call) == 0) refl
+        ((state_of run).table.words.plains (cond_of call)) refl
+        ((state_of run).table.words.plains (cond_of call) == 0) refl
         (subst (λ (q : Progress). TurnAt q me ((account_of run).trail me)) is (h.turn me))
         (is_off (state_of run) me call ((state_of run).table.entry (own me)) (call_watch call)
         (subst (λ (q : Progress). HomeAt q ((state_of run).table.entry (own me))) is (sound.placed me).home))
-        (planned (state_of run) me call (at.Leave leaving.Load)) refl e)
-    interrupted run h sound me call (at.Await (awaiting.Off true)) is e = inl (
-        stopped (state_of run) me call (account_of run) (is_some ((state_of run).table.entry (own me))) refl
-        (subst (λ (q : Progress). TurnAt q me ((account_of run).trail me)) is (h.turn me))
-        (planned (state_of run) me call (at.Await (awaiting.Off true))) refl e)
-    interrupted run h sound me call (at.Await (awaiting.Last true)) is e = inl (record {
-      hold = hold_of ((account_of run).trail me)
-          (subst (λ (q : Progress). TurnAt q me ((account_of run).trail me)) is (h.turn me));
-      off = is_off (state_of run) me call ((state_of run).table.entry (own me)) (call_watch call)
-          (subst (λ (q : Progress). HomeAt q ((state_of run).table.entry (own me))) is (sound.placed me).home);
-      unlock = refl;
-    })
-      where
-        hold_of : (l : List Event) → IsTurn call (at.Await (awaiting.Last true)) me l
-            → IsSignalledHold me (call_head call) (call_number call) l
-        hold_of l t = record { earlier = t.0; hold = inr t.1 }
+        (planned (state_of run) me call (at.Leave leaving.Load)) refl e
     interrupted run h sound me call at.First is e = absurd (not_other (state_of run) me call at.First tt e)
     interrupted run h sound me call p is e = absurd (not_other (state_of run) me call p tt e)

@@ -1,7 +1,6 @@
 -- Each event of a wait, of a call on an entry that stands, and of a call of one event is fine.
-use Rattle.wait_model.specs.Reached.{is_between}
 use Rattle.std.proofs.Common.{refl, sym, ◌∙◌, ap, subst, arith, inl, inr}
-use Rattle.std.specs.Prelude.{ℕ, ◌≡◌, ◌<◌, ◌≤◌, ◌+◌, Option, Some, None, Bool, true, false, ◌==◌, if◌then◌else◌, is_some}
+use Rattle.std.specs.Prelude.{ℕ, ◌≡◌, ◌<◌, ◌+◌, Option, Some, None, Bool, true, false, ◌==◌, if◌then◌else◌, is_some}
 use Rattle.wait_model.specs.declared.calls.Call.{Call}
 use Rattle.wait_model.specs.declared.points.Point.{Point}
 use Rattle.wait_model.specs.declared.points.PreparePoint.{PreparePoint}
@@ -17,37 +16,23 @@ use Rattle.wait_model.specs.declared.watches.Entry.{Entry}
 use Rattle.wait_model.specs.declared.tasks.SleepState.{SleepState}
 use Rattle.wait_model.specs.Runs.{State, own, planned}
 use Rattle.wait_model.specs.Admission.{is_standing, IsStanding}
-use Rattle.wait_model.specs.Reached.{Zone, absent, waits, free, stands, parts, IsHome, HomeAt, holds, zone, IsPlaced, IsCallSound, IsWalkSound, IsFitted, IsPlain, prepares, IsState, IsSound}
-use Rattle.wait_model.specs.Tasks.{task_count, pending, state_mask, looks_in, task_word, task_of}
+use Rattle.wait_model.specs.Reached.{absent, waits, free, stands, parts, IsHome, HomeAt, holds, IsPlaced, IsCallSound, IsWalkSound, IsAdding, IsState, IsSound}
+use Rattle.wait_model.specs.Tasks.{pending, state_mask, looks_in, task_word, task_of}
 use Rattle.wait_model.specs.Words.{Suited}
-use Rattle.wait_model.specs.Watches.{head_of, IsThere, number_of}
-use Rattle.wait_model.specs.Points.{call_watch, call_number, taken_cond, stored, call_head, state_in, form_of, who_of, head_at, given_at}
+use Rattle.wait_model.specs.Watches.{head_of}
+use Rattle.wait_model.specs.Points.{cond_of, call_watch, call_head, state_in, form_of, kind_of, who_of, head_at, given_at}
 use Rattle.wait_model.specs.Programs.{
   go,
   ends_with,
   zero_answer,
   signalled,
   looked,
-  signalled_at,
-  prepared_at,
-  slept_at,
   plain_cond,
   cond_in,
 }
-use Rattle.wait_model.specs.Rows.{MaySpend, Reads}
-use Rattle.wait_model.specs.Tables.{value_of}
+use Rattle.wait_model.specs.Rows.{MaySpend}
 use Rattle.wait_model.specs.Functions.{put}
 use Rattle.wait_model.proofs.Decoded.{task_read, head_plain, flag_read_back, owner_own}
-use Rattle.wait_model.proofs.Conditions.{
-  head_of_bare,
-  head_below,
-  number_below,
-  head_counted,
-  reads_value,
-  waits_suited,
-  plain_store,
-  take_store,
-}
 use Rattle.wait_model.proofs.Fines.{
   Fine,
   Leads,
@@ -55,8 +40,6 @@ use Rattle.wait_model.proofs.Fines.{
   inside,
   outside,
   still_fine,
-  still_on,
-  store_fine,
   lock_fine,
   unlock_fine,
   queue_fine,
@@ -67,7 +50,6 @@ use Rattle.wait_model.proofs.Fines.{
 }
 use Rattle.wait_model.proofs.Placed.{IsGone}
 use Rattle.wait_model.proofs.Functions.{put_same}
-use Rattle.wait_model.specs.declared.calls.Call.TheVariants as calls
 use Rattle.wait_model.specs.declared.calls.Event.TheVariants as event
 use Rattle.wait_model.specs.declared.points.Point.TheVariants as at
 use Rattle.wait_model.specs.declared.points.PreparePoint.TheVariants as preparing
@@ -83,18 +65,18 @@ use Rattle.wait_model.specs.declared.watches.Watch.TheVariants as watch
 use Rattle.wait_model.specs.declared.tasks.SleepState.TheVariants as states
 
 -- an entry that is off may be off wherever it may be
-pub off_waits : (c : Watch) (o : Option Entry) → IsHome absent c o → IsHome waits c o
+off_waits : (c : Watch) (o : Option Entry) → IsHome absent c o → IsHome waits c o
 off_waits c None h = tt
 off_waits c (Some e) h = absurd h
 
-pub off_free : (c d : Watch) (o : Option Entry) → IsHome absent c o → IsHome free d o
+off_free : (c d : Watch) (o : Option Entry) → IsHome absent c o → IsHome free d o
 off_free c d None h = tt
 off_free c d (Some e) h = absurd h
 
-pub none_free : (d : Watch) (o : Option Entry) → o ≡ None → IsHome free d o
+none_free : (d : Watch) (o : Option Entry) → o ≡ None → IsHome free d o
 none_free d o e = subst (IsHome free d) (sym e) tt
 
-pub none_absent : (d : Watch) (o : Option Entry) → o ≡ None → IsHome absent d o
+none_absent : (d : Watch) (o : Option Entry) → o ≡ None → IsHome absent d o
 none_absent d o e = subst (IsHome absent d) (sym e) tt
 
 is_off : (c : Watch) (o : Option Entry) → IsHome absent c o → o ≡ None
@@ -106,9 +88,9 @@ mask_state states.Uninterruptible = inr (inr (inl refl))
 mask_state states.Interruptible = inr (inl refl)
 mask_state states.Killable = inr (inr (inr refl))
 
-pub stands_suited : (c : ℕ) (k : Kind) → c < 48 → IsStanding k → Suited (watch.Plain c) k
-stands_suited c kind.Default h s = (omega (arith, h), inl refl, λ l. absurd (omega (arith, h)))
-stands_suited c kind.Woken h s = (omega (arith, h), inr (inr (inl refl)), λ l. absurd (omega (arith, h)))
+stands_suited : (c : ℕ) (k : Kind) → c < 64 → IsStanding k → Suited (watch.Plain c) k
+stands_suited c kind.Default h s = (h, inl refl)
+stands_suited c kind.Woken h s = (h, inr (inr (inl refl)))
 stands_suited c kind.Autoremove h s = absurd (cc)
 stands_suited c kind.Bit h s = absurd (cc)
 stands_suited c kind.Var h s = absurd (cc)
@@ -125,141 +107,39 @@ stands_plain (watch.Done d) k h s = absurd (not_standing k kind.Simple h.1 refl 
 stands_plain (watch.Bit i b) k h s = absurd (not_standing k kind.Bit h.2 refl s)
 stands_plain (watch.Var v o) k h s = absurd (not_standing k kind.Var h.2 refl s)
 
--- the points outside walks, selections and completions
+-- the points outside walks
 abbrev pub IsPlainPoint : Point → Type 0
 IsPlainPoint (at.Walk p) = ⊥
-IsPlainPoint (at.Select p) = ⊥
-IsPlainPoint (at.Await p) = ⊥
-IsPlainPoint (at.Count p) = ⊥
 IsPlainPoint _ = Unit {0}
 
--- the next place of a wait, inside a hold or outside, where its entry may be queued
-record IsWaitingAt (call : Call) (q : Point) (within : Bool) : Type 0 where
-  head : head_at call q ≡ call_head call
-  home : zone q ≡ waits
-  held : holds q ≡ within
-  calm : prepares (now.Open call q) ≡ false
-  taken : is_between q ≡ false
-  numbers : (n : ℕ) → IsWalkSound n q
-  fitted : IsFitted call q
-
-signalled_waits : (call : Call) → IsWaitingAt call (signalled_at call) true
-signalled_waits (calls.WaitFor d st) = record {
-  head = refl;
-  home = refl;
-  held = refl;
-  calm = refl;
-  taken = refl;
-  numbers = λ n. tt;
-  fitted = refl;
-}
-signalled_waits call = record {
-  head = refl;
-  home = refl;
-  held = refl;
-  calm = refl;
-  taken = refl;
-  numbers = λ n. tt;
-  fitted = tt;
-}
-
-prepared_waits : (call : Call) → IsWaitingAt call (prepared_at call) false
-prepared_waits (calls.WaitFor d st) = record {
-  head = refl;
-  home = refl;
-  held = refl;
-  calm = refl;
-  taken = refl;
-  numbers = λ n. tt;
-  fitted = tt;
-}
-prepared_waits call = record {
-  head = refl;
-  home = refl;
-  held = refl;
-  calm = refl;
-  taken = refl;
-  numbers = λ n. tt;
-  fitted = tt;
-}
-
-slept_waits : (call : Call) → IsWaitingAt call (slept_at call) false
-slept_waits (calls.WaitFor d st) = record {
-  head = refl;
-  home = refl;
-  held = refl;
-  calm = refl;
-  taken = refl;
-  numbers = λ n. tt;
-  fitted = refl;
-}
-slept_waits call = record {
-  head = refl;
-  home = refl;
-  held = refl;
-  calm = refl;
-  taken = refl;
-  numbers = λ n. tt;
-  fitted = refl;
-}
-
--- a plain condition has the number of no done count
-plain_number : {A : Type 0} (c : Watch) → IsThere c → IsPlain c → 64 ≤ number_of c → number_of c < 128 → A
-plain_number (watch.Plain c) h p l u = absurd (omega (arith, h, l))
-plain_number (watch.Done d) h p l u = absurd p
-plain_number (watch.Bit i b) h p l u = absurd p
-plain_number (watch.Var v o) h p l u = absurd p
-
-module _ (s : State) (n me : ℕ) (call : Call) (sound : IsSound s n) (mine : me < task_count) where
+module _ (s : State) (n me : ℕ) (call : Call) (sound : IsSound s n) (mine : me < 64) where
   abbrev F : Point → Planned → Type 0
   F p x = Fine s n me call sound mine (given_at call p) x
 
   abbrev P : Point → Type 0
   P p = IsPlaced s.table.entry (s.table.view me) me (now.Open call p)
 
-  pub own_read : task_of (task_word (s.table.task me)) ≡ s.table.task me
+  own_read : task_of (task_word (s.table.task me)) ≡ s.table.task me
   own_read = task_read (s.table.task me) (sound.lawful me)
 
-  pub no_spend : MaySpend (s.table.view me) false
+  no_spend : MaySpend (s.table.view me) false
   no_spend w i q = absurd (cc)
 
-  pub may_spend : IsThere (call_watch call) → (s.table.view me).hold.head ≡ Some (call_head call)
-      → MaySpend (s.table.view me) true
-  may_spend c held w i q = inl (head_counted w.watch (call_watch call) c
-      ((sound.kept.facts.views me).hold.aimed (call_head call) w held i))
-
   -- from one place of a call to another, or to its end
-  pub to : (p q : Point) → IsCallSound n call p → head_at call q ≡ call_head call → IsWalkSound (n + 1) q
-      → IsFitted call q → IsCallSound (n + 1) call q
+  to : (p q : Point) → IsCallSound n call p → head_at call q ≡ call_head call → IsWalkSound (n + 1) q
+      → IsAdding call q → IsCallSound (n + 1) call q
   to p q k at w a = goes s n me call sound mine p q k at w a
 
-  pub head_small : (p : Point) → IsCallSound n call p → call_head call < 384
-  head_small p k = head_below (call_watch call) k.watch
-
-  -- a load of the call's condition
-  pub loads : (p : Point) → IsCallSound n call p → Reads s.table.words (call_watch call) (value_of s.table.words (call_watch call))
-  loads p k = reads_value s.table.words (call_watch call) k.watch
-
-  pub load_small : (p : Point) → IsCallSound n call p → call_number call < 384
-  load_small p k = number_below (call_watch call) k.watch
-
-  -- where a call goes that was signalled, that has prepared, that has slept
-  to_waiting : (p q : Point) (within : Bool) → IsCallSound n call p → IsWaitingAt call q within
-      → IsCallSound (n + 1) call q
-  to_waiting p q within k w = to p q k w.head (w.numbers (n + 1)) w.fitted
-
-  waiting_home : (q : Point) (within : Bool) → IsWaitingAt call q within
-      → IsHome waits (call_watch call) (s.table.entry (own me)) → HomeAt (now.Open call q) (s.table.entry (own me))
-  waiting_home q within w h = subst (λ (z : Zone). IsHome z (call_watch call) (s.table.entry (own me)))
-      (sym w.home) h
+  head_small : (p : Point) → IsCallSound n call p → call_head call < 384
+  head_small p k = let c : cond_of call < 64 = k.cond in omega arith
 
   -- a store of the own state
-  pub state_fine : (p q : Point) (v : ℕ) → P p → IsState v → IsCallSound (n + 1) call q
+  state_fine : (p q : Point) (v : ℕ) → P p → IsState v → IsCallSound (n + 1) call q
       → Leads s n me call sound mine p (now.Open call q) → F p (go (event.State v) q)
   state_fine p q v pl h k l = still_fine s n me call sound mine p pl (go (event.State v) q) tt h tt (tt, tt) k l
 
   -- the own entry of a wait stands at the head that the task holds
-  pub own_gone : (p : Point) → P p → IsHome waits (call_watch call) (s.table.entry (own me)) → holds p ≡ true
+  own_gone : (p : Point) → P p → IsHome waits (call_watch call) (s.table.entry (own me)) → holds p ≡ true
       → head_at call p ≡ call_head call → is_some (s.table.entry (own me)) ≡ true → IsGone s me me
   own_gone p pl home within at there =
       let e = one_there (s.table.entry (own me)) there in
@@ -268,24 +148,22 @@ module _ (s : State) (n me : ℕ) (call : Call) (sound : IsSound s n) (mine : me
         it = e.0;
         stands = e.1;
         head = inside s n me call sound mine p pl within
-            ∙ ap (λ i. Some i) (at ∙ sym (head_of_bare (call_watch call)) ∙ ap head_of (sym h.0));
+            ∙ ap (λ i. Some i) (at ∙ sym (head_plain (cond_of call)) ∙ ap head_of (sym h.0));
         goes = inl refl;
       }
 
-  pub gone_home : (q : Point) → HomeAt (now.Open call q) None
+  gone_home : (q : Point) → HomeAt (now.Open call q) None
       → HomeAt (now.Open call q) (put s.table.entry (own me) None (own me))
   gone_home q h = subst (HomeAt (now.Open call q)) (sym (put_same s.table.entry (own me) None)) h
 
   -- a wait: the first load
   first_fine : (b : Bool) → IsCallSound n call at.First → P at.First → F at.First (if b
-      then go (event.Load (call_number call) (value_of s.table.words (call_watch call))) (at.Prepare preparing.Lock)
-      else ends_with (event.Load (call_number call) (value_of s.table.words (call_watch call))) zero_answer)
-  first_fine true k pl = still_fine s n me call sound mine at.First pl _ tt (load_small at.First k) tt
-      (loads at.First k, tt)
-      (to at.First (at.Prepare preparing.Lock) k refl tt k.fitted)
+      then go (event.Load (cond_of call) (s.table.words.plains (cond_of call))) (at.Prepare preparing.Lock)
+      else ends_with (event.Load (cond_of call) (s.table.words.plains (cond_of call))) zero_answer)
+  first_fine true k pl = still_fine s n me call sound mine at.First pl _ tt k.cond refl (refl, tt)
+      (to at.First (at.Prepare preparing.Lock) k refl tt tt)
       (record { same = refl; home = off_waits (call_watch call) (s.table.entry (own me)) pl.home; calm = refl; taken = refl })
-  first_fine false k pl = still_fine s n me call sound mine at.First pl _ tt (load_small at.First k) tt
-      (loads at.First k, tt) tt
+  first_fine false k pl = still_fine s n me call sound mine at.First pl _ tt k.cond refl (refl, tt) tt
       (record { same = refl; home = off_free (call_watch call) (watch.Plain 0) (s.table.entry (own me)) pl.home; calm = refl; taken = refl })
 
   -- preparing
@@ -300,21 +178,23 @@ module _ (s : State) (n me : ℕ) (call : Call) (sound : IsSound s n) (mine : me
       (to (at.Prepare preparing.Lock) (at.Prepare preparing.Queue) k refl tt tt) pl.home refl
 
   look_fine : (b : Bool) → IsCallSound n call (at.Prepare preparing.Look) → P (at.Prepare preparing.Look)
-      → F (at.Prepare preparing.Look) (looked call b)
-  look_fine true k pl =
-      let w : IsWaitingAt call (signalled_at call) true = signalled_waits call in
-      still_fine s n me call sound mine (at.Prepare preparing.Look) pl (looked call true) tt tt tt
-      (own_read, tt) (to_waiting (at.Prepare preparing.Look) (signalled_at call) true k w)
-      (record {
-        same = ap (λ h. Some h) (sym w.head)
-            ∙ sym (ap (λ b. if b then Some (head_at call (signalled_at call)) else None) w.held);
-        home = waiting_home (signalled_at call) true w pl.home;
-        calm = w.calm;
-        taken = w.taken;
-      })
-  look_fine false k pl = still_on s n me call sound mine (at.Prepare preparing.Look) pl (looked call false) tt tt
-      tt (own_read, tt) (to (at.Prepare preparing.Look) (at.Prepare preparing.Queue) k refl tt tt)
-      (record { same = refl; home = pl.home; prepared = refl; taken = refl })
+      → F (at.Prepare preparing.Look) (looked b)
+  look_fine true k pl = still_fine s n me call sound mine (at.Prepare preparing.Look) pl (looked true) tt tt tt
+      (own_read, tt) (to (at.Prepare preparing.Look) (at.Leave leaving.Queue) k refl tt tt)
+      (record { same = refl; home = pl.home; calm = refl; taken = refl })
+  look_fine false k pl = record {
+    allows = tt;
+    joins = tt;
+    changes = tt;
+    next_call = to (at.Prepare preparing.Look) (at.Prepare preparing.Queue) k refl tt tt;
+    made = λ _. (own_read, tt);
+    placed = record {
+      head = pl.head;
+      home = pl.home;
+      off_book = λ pr none. pl.off_book refl none;
+      taken = λ who t. absurd (cc);
+    };
+  }
 
   queue_at : (b : Bool) → is_some (s.table.entry (own me)) ≡ b → IsCallSound n call (at.Prepare preparing.Queue)
       → P (at.Prepare preparing.Queue) → F (at.Prepare preparing.Queue) (if b
@@ -324,8 +204,8 @@ module _ (s : State) (n me : ℕ) (call : Call) (sound : IsSound s n) (mine : me
       (mask_state (state_in call)) (to (at.Prepare preparing.Queue) (at.Prepare preparing.Unlock) k refl tt tt)
       (record { same = refl; home = pl.home; calm = refl; taken = refl })
   queue_at false there k pl = queue_fine s n me call sound mine (at.Prepare preparing.Queue) pl
-      (at.Prepare preparing.State) refl refl refl refl k.watch refl (none_there (s.table.entry (own me)) there)
-      (waits_suited (call_watch call) k.watch) (to (at.Prepare preparing.Queue) (at.Prepare preparing.State) k refl tt tt)
+      (at.Prepare preparing.State) refl refl refl refl k.cond refl (none_there (s.table.entry (own me)) there)
+      (k.cond, inr (inl refl)) (to (at.Prepare preparing.Queue) (at.Prepare preparing.State) k refl tt tt)
       (λ e w j. (w, j)) refl refl
 
   prepare_fine : (p : PreparePoint) → IsCallSound n call (at.Prepare p) → P (at.Prepare p)
@@ -336,39 +216,26 @@ module _ (s : State) (n me : ℕ) (call : Call) (sound : IsSound s n) (mine : me
   prepare_fine preparing.State k pl = state_fine (at.Prepare preparing.State) (at.Prepare preparing.Unlock) _ pl
       (mask_state (state_in call)) (to (at.Prepare preparing.State) (at.Prepare preparing.Unlock) k refl tt tt)
       (record { same = refl; home = pl.home; calm = refl; taken = refl })
-  prepare_fine preparing.Unlock k pl =
-      let w : IsWaitingAt call (prepared_at call) false = prepared_waits call in
-      unlock_fine s n me call sound mine (at.Prepare preparing.Unlock) pl (call_head call) false
-      (next.Go (prepared_at call)) refl refl (head_small (at.Prepare preparing.Unlock) k) no_spend
-      (to_waiting (at.Prepare preparing.Unlock) (prepared_at call) false k w)
-      (ap (λ b. if b then Some (head_at call (prepared_at call)) else None) w.held)
-      (waiting_home (prepared_at call) false w pl.home) w.calm w.taken
+  prepare_fine preparing.Unlock k pl = unlock_fine s n me call sound mine (at.Prepare preparing.Unlock) pl
+      (call_head call) false (next.Go at.Test) refl refl (head_small (at.Prepare preparing.Unlock) k) no_spend
+      (to (at.Prepare preparing.Unlock) at.Test k refl tt tt) refl pl.home refl refl
 
   -- the load after preparing, and the sleep
   test_fine : (b : Bool) → IsCallSound n call at.Test → P at.Test → F at.Test
-      (go (event.Load (call_number call) (value_of s.table.words (call_watch call)))
+      (go (event.Load (cond_of call) (s.table.words.plains (cond_of call)))
       (if b then at.Sleep else at.Finish finishing.State))
-  test_fine true k pl = still_fine s n me call sound mine at.Test pl _ tt (load_small at.Test k) tt
-      (loads at.Test k, tt)
+  test_fine true k pl = still_fine s n me call sound mine at.Test pl _ tt k.cond refl (refl, tt)
       (to at.Test at.Sleep k refl tt tt)
       (record { same = refl; home = pl.home; calm = refl; taken = refl })
-  test_fine false k pl = still_fine s n me call sound mine at.Test pl _ tt (load_small at.Test k) tt
-      (loads at.Test k, tt)
+  test_fine false k pl = still_fine s n me call sound mine at.Test pl _ tt k.cond refl (refl, tt)
       (to at.Test (at.Finish finishing.State) k refl tt tt)
       (record { same = refl; home = pl.home; calm = refl; taken = refl })
 
   sleep_fine : IsCallSound n call at.Sleep → P at.Sleep → F at.Sleep (planned s me call at.Sleep)
-  sleep_fine k pl =
-      let w : IsWaitingAt call (slept_at call) false = slept_waits call in
-      still_fine s n me call sound mine at.Sleep pl _ tt tt tt
+  sleep_fine k pl = still_fine s n me call sound mine at.Sleep pl _ tt tt tt
       ((own_read, outside s n me call sound mine at.Sleep pl refl), tt)
-      (to_waiting at.Sleep (slept_at call) false k w)
-      (record {
-        same = sym (ap (λ b. if b then Some (head_at call (slept_at call)) else None) w.held);
-        home = waiting_home (slept_at call) false w pl.home;
-        calm = w.calm;
-        taken = w.taken;
-      })
+      (to at.Sleep (at.Prepare preparing.Lock) k refl tt tt)
+      (record { same = refl; home = pl.home; calm = refl; taken = refl })
 
   -- a signalled turn
   leave_off : (b : Bool) → is_some (s.table.entry (own me)) ≡ b → IsCallSound n call (at.Leave leaving.Queue)
@@ -387,12 +254,12 @@ module _ (s : State) (n me : ℕ) (call : Call) (sound : IsSound s n) (mine : me
 
   leave_load : (b : Bool) → IsCallSound n call (at.Leave leaving.Load) → P (at.Leave leaving.Load)
       → F (at.Leave leaving.Load) (if b
-      then ends_with (event.Load (call_number call) (value_of s.table.words (call_watch call))) signalled
-      else go (event.Load (call_number call) (value_of s.table.words (call_watch call))) (at.Finish finishing.State))
-  leave_load true k pl = still_fine s n me call sound mine (at.Leave leaving.Load) pl _ tt (load_small (at.Leave leaving.Load) k) tt
-      (loads (at.Leave leaving.Load) k, tt) tt (record { same = refl; home = off_free (call_watch call) (watch.Plain 0) (s.table.entry (own me)) pl.home; calm = refl; taken = refl })
-  leave_load false k pl = still_fine s n me call sound mine (at.Leave leaving.Load) pl _ tt (load_small (at.Leave leaving.Load) k) tt
-      (loads (at.Leave leaving.Load) k, tt) (to (at.Leave leaving.Load) (at.Finish finishing.State) k refl tt tt)
+      then ends_with (event.Load (cond_of call) (s.table.words.plains (cond_of call))) signalled
+      else go (event.Load (cond_of call) (s.table.words.plains (cond_of call))) (at.Finish finishing.State))
+  leave_load true k pl = still_fine s n me call sound mine (at.Leave leaving.Load) pl _ tt k.cond refl
+      (refl, tt) tt (record { same = refl; home = off_free (call_watch call) (watch.Plain 0) (s.table.entry (own me)) pl.home; calm = refl; taken = refl })
+  leave_load false k pl = still_fine s n me call sound mine (at.Leave leaving.Load) pl _ tt k.cond refl
+      (refl, tt) (to (at.Leave leaving.Load) (at.Finish finishing.State) k refl tt tt)
       (record { same = refl; home = off_waits (call_watch call) (s.table.entry (own me)) pl.home; calm = refl; taken = refl })
 
   leave_fine : (p : LeavePoint) → IsCallSound n call (at.Leave p) → P (at.Leave p)
@@ -402,7 +269,7 @@ module _ (s : State) (n me : ℕ) (call : Call) (sound : IsSound s n) (mine : me
       (call_head call) false (next.Go (at.Leave leaving.Load)) refl refl
       (head_small (at.Leave leaving.Unlock) k) no_spend
       (to (at.Leave leaving.Unlock) (at.Leave leaving.Load) k refl tt tt) refl pl.home refl refl
-  leave_fine leaving.Load k pl = leave_load (value_of s.table.words (call_watch call) == 0) k pl
+  leave_fine leaving.Load k pl = leave_load (s.table.words.plains (cond_of call) == 0) k pl
 
   -- finishing
   finish_look : (b : Bool) → is_some (s.table.entry (own me)) ≡ b
@@ -455,11 +322,12 @@ module _ (s : State) (n me : ℕ) (call : Call) (sound : IsSound s n) (mine : me
       → F (at.Add p) (planned s me call (at.Add p))
   add_fine adding.Lock k pl = lock_fine s n me call sound mine (at.Add adding.Lock) pl (call_head call) refl
       (at.Add adding.Queue) (head_small (at.Add adding.Lock) k) tt refl refl
-      (to (at.Add adding.Lock) (at.Add adding.Queue) k refl tt k.fitted) pl.home refl
+      (to (at.Add adding.Lock) (at.Add adding.Queue) k refl tt k.adds) pl.home refl
   add_fine adding.Queue k pl = queue_fine s n me call sound mine (at.Add adding.Queue) pl (at.Add adding.Unlock)
-      refl refl refl refl k.watch refl (is_off (call_watch call) (s.table.entry (own me)) pl.home) k.fitted.1
-      (to (at.Add adding.Queue) (at.Add adding.Unlock) k refl tt k.fitted)
-      (λ e w j. subst IsStanding (sym j) k.fitted.0) refl refl
+      refl refl refl refl k.cond refl (is_off (call_watch call) (s.table.entry (own me)) pl.home)
+      (stands_suited (cond_of call) (kind_of call) k.cond k.adds)
+      (to (at.Add adding.Queue) (at.Add adding.Unlock) k refl tt k.adds)
+      (λ e w j. subst IsStanding (sym j) k.adds) refl refl
   add_fine adding.Unlock k pl = unlock_fine s n me call sound mine (at.Add adding.Unlock) pl (call_head call)
       false (next.Ends zero_answer) refl refl (head_small (at.Add adding.Unlock) k) no_spend tt refl pl.home refl
       refl
@@ -476,7 +344,7 @@ module _ (s : State) (n me : ℕ) (call : Call) (sound : IsSound s n) (mine : me
       let small : 256 + plain_cond e.watch < 384 = omega (arith, w.1) in
       lock_fine s n me call sound mine (at.Remove removing.Lock) pl (256 + plain_cond e.watch) refl
       (at.Remove (removing.Queue (plain_cond e.watch))) small tt refl refl
-      (record { watch = k.watch; who = k.who; head = small; walk = tt; fitted = tt })
+      (record { cond = k.cond; who = k.who; head = small; walk = tt; adds = tt })
       (subst (IsHome (parts (plain_cond e.watch)) (call_watch call)) (sym is)
       (standing, w.0)) refl
 
@@ -495,7 +363,7 @@ module _ (s : State) (n me : ℕ) (call : Call) (sound : IsSound s n) (mine : me
             refl ∙ ap (λ i. Some i) (sym (head_plain c) ∙ ap head_of (sym h.1));
         goes = inl refl;
       })
-      (record { watch = k.watch; who = k.who; head = k.head; walk = tt; fitted = tt }) refl refl refl
+      (record { cond = k.cond; who = k.who; head = k.head; walk = tt; adds = tt }) refl refl refl
       (gone_home (at.Remove (removing.Unlock c)) tt)
 
   remove_fine : (p : RemovePoint) → IsCallSound n call (at.Remove p) → P (at.Remove p)
@@ -540,29 +408,22 @@ module _ (s : State) (n me : ℕ) (call : Call) (sound : IsSound s n) (mine : me
 
   -- the calls of one or two events
   pub plain_fine : (p : Point) → IsCallSound n call p → P p → IsPlainPoint p → F p (planned s me call p)
-  plain_fine at.First k pl i = first_fine (value_of s.table.words (call_watch call) == 0) k pl
+  plain_fine at.First k pl i = first_fine (s.table.words.plains (cond_of call) == 0) k pl
   plain_fine (at.Prepare p) k pl i = prepare_fine p k pl
-  plain_fine at.Test k pl i = test_fine (value_of s.table.words (call_watch call) == 0) k pl
+  plain_fine at.Test k pl i = test_fine (s.table.words.plains (cond_of call) == 0) k pl
   plain_fine at.Sleep k pl i = sleep_fine k pl
   plain_fine (at.Leave p) k pl i = leave_fine p k pl
   plain_fine (at.Finish p) k pl i = finish_fine p k pl
   plain_fine (at.Walk p) k pl i = absurd i
-  plain_fine (at.Select p) k pl i = absurd i
-  plain_fine (at.Await p) k pl i = absurd i
-  plain_fine (at.Count p) k pl i = absurd i
   plain_fine (at.Add p) k pl i = add_fine p k pl
   plain_fine (at.Remove p) k pl i = remove_fine p k pl
   plain_fine (at.Woken p) k pl i = woken_fine p k pl
-  plain_fine at.Store k pl i = store_fine s n me call sound mine at.Store pl (stored call) (next.Ends zero_answer)
-      k.watch (plain_number (call_watch call) k.watch k.fitted)
-      (plain_store s.table me (call_watch call) k.fitted (outside s n me call sound mine at.Store pl refl)
-      (stored call)) tt
+  plain_fine at.Store k pl i = still_fine s n me call sound mine at.Store pl _ tt k.cond refl
+      ((outside s n me call sound mine at.Store pl refl, (λ b. absurd (cc)), refl), tt) tt
       (record { same = refl; home = pl.home; calm = refl; taken = refl })
-  plain_fine at.Take k pl i = still_fine s n me call sound mine at.Take pl _ tt
-      (subst IsThere k.fitted k.watch) k.fitted
-      (take_store s.table me (call_watch call) (taken_cond call) k.fitted, tt) tt
-      (record { same = refl; home = pl.home; calm = refl; taken = refl })
-  plain_fine at.Read k pl i = still_fine s n me call sound mine at.Read pl _ tt (load_small at.Read k) tt (loads at.Read k, tt) tt
+  plain_fine at.Take k pl i = still_fine s n me call sound mine at.Take pl _ tt k.cond refl
+      ((tt, tt, refl), tt) tt (record { same = refl; home = pl.home; calm = refl; taken = refl })
+  plain_fine at.Read k pl i = still_fine s n me call sound mine at.Read pl _ tt k.cond refl (refl, tt) tt
       (record { same = refl; home = pl.home; calm = refl; taken = refl })
   plain_fine at.Accept k pl i = still_fine s n me call sound mine at.Accept pl _ tt refl tt (own_read, tt) tt
       (record { same = refl; home = pl.home; calm = refl; taken = refl })

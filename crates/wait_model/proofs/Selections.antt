@@ -15,11 +15,10 @@ use Rattle.wait_model.specs.declared.points.Progress.{Progress}
 use Rattle.wait_model.specs.declared.points.Progress.TheVariants as now
 use Rattle.wait_model.specs.Tasks.{meets, pending, woken, slept, raised, taken_of, IsLawful}
 use Rattle.wait_model.specs.Functions.{put}
-use Rattle.wait_model.specs.Tables.{next as next_table, value_of}
-use Rattle.wait_model.proofs.Conditions.{set_rest}
+use Rattle.wait_model.specs.Tables.{next as next_table}
 use Rattle.wait_model.specs.Words.{head_word}
 use Rattle.wait_model.specs.Runs.{State, given_by, progress_after, after_event, happens, start_state, state_after, state_of, Continues, IsItem, IsRunFrom, IsRun, made_in}
-use Rattle.wait_model.specs.Reached.{IsPlaced, IsSoundCall, IsSound, Allows}
+use Rattle.wait_model.specs.Reached.{IsPlaced, IsSound, Allows}
 use Rattle.wait_model.specs.Accounts.{
   Account,
   one_if,
@@ -90,8 +89,6 @@ silent_signals s me g (event.Accept x) t i = absurd i
 silent_signals s me g (event.Lock h) t i = subst (λ (f : ℕ → Task). SameSignals (f t) (s.table.task t))
     (sym (looks_same (next_table s.table me (step.Lock h g.walk (head_word (s.table.holder h)
     (s.table.spent h)))) s.table.entry me).task) (refl, refl)
-silent_signals s me g (event.Set c v) t i = subst (λ (f : ℕ → Task). SameSignals (f t) (s.table.task t))
-    (sym (set_rest s.table me g.watch v (value_of s.table.words g.watch)).task) (refl, refl)
 silent_signals s me g e t i = (refl, refl)
 
 silent_adds : (e : Event) (t : ℕ) → IsSilent e → (accepts e ≡ 0) × (accepts_fatal e ≡ 0) × (raises t e ≡ 0)
@@ -198,13 +195,13 @@ opened_accounted s a me call h = record {
 }
 
 module _ (s : State) (n me : ℕ) (e : Event) (found : ℕ) (a : Account) (sound : IsSound s n) where
-  own_turn : (q : Progress) → s.progress me ≡ q → Continues s me q e found → TurnAt q me (a.trail me)
+  own_turn : (q : Progress) → Continues s me q e found → TurnAt q me (a.trail me)
       → TurnAt (progress_after s me q) me (e ∷ a.trail me)
-  own_turn now.Fresh is c h = absurd c
-  own_turn now.Idle is c h = absurd c
-  own_turn (now.Open call p) is c h =
+  own_turn now.Fresh c h = absurd c
+  own_turn now.Idle c h = absurd c
+  own_turn (now.Open call p) c h =
       subst (λ (x : Event). TurnAt (progress_after s me (now.Open call p)) me (x ∷ a.trail me)) (sym c.0)
-      (turn_step s me call (a.trail me) p (subst (IsSoundCall n) is (sound.calls me)).fitted h)
+      (turn_step s me call (a.trail me) p h)
 
   own_chosen : (q : Progress) → s.progress me ≡ q → Continues s me q e found → ChosenAt q (a.selected me)
       → ChosenAt (progress_after s me q) (a.selected me + selects s e)
@@ -224,7 +221,7 @@ module _ (s : State) (n me : ℕ) (e : Event) (found : ℕ) (a : Account) (sound
       record {
         turn = λ t. two_puts (λ (p : Progress) (l : List Event). TurnAt p t l) s.progress a.trail me _ _ t
             (λ q. subst (λ (i : ℕ). TurnAt (progress_after s me (s.progress me)) i (e ∷ a.trail me)) (sym q)
-            (own_turn (s.progress me) refl item.1 (h.turn me))) (λ _. h.turn t);
+            (own_turn (s.progress me) item.1 (h.turn me))) (λ _. h.turn t);
         chosen = λ t. two_puts ChosenAt s.progress a.selected me _ _ t
             (λ _. own_chosen (s.progress me) refl item.1 (h.chosen me)) (λ _. h.chosen t);
         signals = record { signals = sig.signals; fatals = sig.fatals };

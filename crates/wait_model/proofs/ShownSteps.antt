@@ -33,20 +33,16 @@ use Rattle.std.specs.Prelude.{
   length,
   slice_set,
   slice_index,
-  if◌then◌else◌,
 }
 use Rattle.wait_model.specs.declared.calls.Event.{Event}
 use Rattle.wait_model.specs.declared.points.Given.{Given}
 use Rattle.wait_model.specs.declared.watches.Entry as entries
-use Rattle.wait_model.specs.declared.queues.Mark.{Mark}
 use Rattle.wait_model.specs.declared.steps.Step.{Step}
 use Rattle.wait_model.specs.declared.tasks.Task as tasks
-use Rattle.wait_model.specs.declared.watches.Watch.{Watch}
-use Rattle.wait_model.specs.Watches.{IsThere, number_of}
-use Rattle.wait_model.specs.Runs.{State, is_publish, set_step, after_event, found_by, left_of}
+use Rattle.wait_model.specs.Runs.{State, after_event, found_by, left_of}
 use Rattle.wait_model.specs.Reached.{Allows, Joins}
-use Rattle.wait_model.specs.Tasks.{task_count, task_word}
-use Rattle.wait_model.specs.Tables.{Words, Table, next, value_of, start}
+use Rattle.wait_model.specs.Tasks.{task_word}
+use Rattle.wait_model.specs.Tables.{Words, Table, next, start}
 use Rattle.wait_model.specs.Words.{entry_word, head_word, bit_word, flag_word}
 use Rattle.wait_model.specs.Locations.{
   Location,
@@ -67,7 +63,6 @@ use Rattle.wait_model.specs.Locations.{
   position_of,
   word_in,
   location_of,
-  cond_at,
   mark_word,
   Shows,
   word_count,
@@ -76,7 +71,6 @@ use Rattle.wait_model.specs.Views.{View}
 use Rattle.wait_model.specs.Functions.{put}
 use Rattle.wait_model.proofs.Looks.{SameWords, looks_same}
 use Rattle.wait_model.proofs.Functions.{put_same, put_other}
-use Rattle.wait_model.proofs.Conditions.{cond_located, plain_at, done_at}
 use Rattle.wait_model.specs.declared.calls.Event.TheVariants as event
 use Rattle.wait_model.specs.declared.steps.Step.TheVariants as step
 use Rattle.wait_model.specs.declared.watches.Watch.TheVariants as watch
@@ -146,7 +140,7 @@ shows_same words t u same h = record {
   each = λ l is. h.each l is ∙ same_word t u same l;
 }
 
--- what one changed record, entry, head, plain condition or done count leaves of the words
+-- what one changed record, entry, head or plain condition leaves of the words
 module _ (t : Table) (k : ℕ) (history : ℕ → List Step) (view : ℕ → View) where
   task_others : (x : tasks.Task) (l : Location) → l ≢ Task k
       → word_in (record t { task = put t.task k x; history = history; view = view }) l ≡ word_in t l
@@ -185,20 +179,6 @@ module _ (t : Table) (k : ℕ) (history : ℕ → List Step) (view : ℕ → Vie
   plain_others n (Plain i) ne = put_other t.words.plains k n i (λ e. ne (ap Plain e))
   plain_others n l ne = refl
 
-  done_others : (n : ℕ) (l : Location) → l ≢ Done k
-      → word_in (record t {
-        words = record (t.words) { dones = put t.words.dones k n };
-        history = history;
-        view = view;
-      }) l ≡ word_in t l
-  done_others n (Done i) ne = put_other t.words.dones k n i (λ e. ne (ap Done e))
-  done_others n l ne = refl
-
-  mark_others : (o : Option Mark) (l : Location) → l ≢ Bookmark k
-      → word_in (record t { mark = put t.mark k o; history = history; view = view }) l ≡ word_in t l
-  mark_others o (Bookmark i) ne = ap mark_word (put_other t.mark k o i (λ e. ne (ap Bookmark e)))
-  mark_others o l ne = refl
-
   flag_others : (b : Bool) (l : Location) → l ≢ Flag k
       → word_in (record t { flag = put t.flag k b; history = history; view = view }) l ≡ word_in t l
   flag_others b (Flag i) ne = ap flag_word (put_other t.flag k b i (λ e. ne (ap Flag e)))
@@ -213,62 +193,31 @@ written_as words t u k v shown is left same =
 
 -- the one word of an event
 module _ (words : List ℕ) (s : State) (shown : Shows words s.table) (me : ℕ) (g : Given)
-    (mine : me < task_count) where
+    (mine : me < 64) where
   pub event_located : (e : Event) → Allows s me e → IsLocation (location_of me e)
   event_located (event.Wake who hit) a = omega (arith, a)
   event_located (event.Signal who fatal) a = omega (arith, a)
   event_located (event.Lock h) a = a
   event_located (event.Unlock h used) a = a
   event_located (event.Unqueue who) a = omega (arith, a)
-  event_located (event.Mark h) a = mine
-  event_located (event.Unmark h) a = mine
-  event_located (event.Load c v) a = cond_located c a
-  event_located (event.Set c v) a = cond_located c a
+  event_located (event.Load c v) a = a
+  event_located (event.Set c v) a = a
   event_located (event.Take c v) a = a
   event_located (event.Woken who) a = omega (arith, a)
   event_located e a = omega arith
 
   -- a record that an event changes, and a flag
-  own_record : (who : ℕ) (x : tasks.Task) (history : ℕ → List Step) (view : ℕ → View)
-      → who < task_count → Shows (slice_set words (position_of (Task who)) (task_word x))
+  own_record : (who : ℕ) (x : tasks.Task) (history : ℕ → List Step) (view : ℕ → View) → who < 64
+      → Shows (slice_set words (position_of (Task who)) (task_word x))
       (record s.table { task = put s.table.task who x; history = history; view = view })
   own_record who x history view small = written_as words s.table _ (Task who) _ shown (omega arith)
       (ap task_word (put_same s.table.task who x)) (task_others s.table who history view x)
 
-  flag_record : (who : ℕ) (b : Bool) (history : ℕ → List Step) (view : ℕ → View)
-      → who < task_count → Shows (slice_set words (position_of (Flag (2 * who))) (flag_word b))
+  flag_record : (who : ℕ) (b : Bool) (history : ℕ → List Step) (view : ℕ → View) → who < 64
+      → Shows (slice_set words (position_of (Flag (2 * who))) (flag_word b))
       (record s.table { flag = put s.table.flag (2 * who) b; history = history; view = view })
   flag_record who b history view small = written_as words s.table _ (Flag (2 * who)) _ shown (omega arith)
       (ap flag_word (put_same s.table.flag (2 * who) b)) (flag_others s.table (2 * who) history view b)
-
-  -- a store of a plain condition or a done count
-  set_shown : (c : Watch) (v : ℕ) → IsThere c → Shows (slice_set words (position_of (cond_at (number_of c))) v)
-      (next s.table me (set_step c v (value_of s.table.words c)))
-  set_shown (watch.Plain c) v h =
-      let u : Table = next s.table me (step.Publish (watch.Plain c) v (s.table.words.plains c)) in
-      rw (plain_at c h) (written_as words s.table u (Plain c) _ shown h (put_same s.table.words.plains c v)
-      (plain_others s.table c u.history u.view v))
-  set_shown (watch.Done d) v h = rw (done_at d h) (by (is_publish (watch.Done d) (s.table.words.dones d) v))
-    where
-      by : (b : Bool) → Shows (slice_set words (position_of (Done d)) v)
-          (next s.table me (if b then step.Publish (watch.Done d) v (s.table.words.dones d)
-          else step.Consume (watch.Done d) v (s.table.words.dones d)))
-      by true =
-          let u : Table = next s.table me (step.Publish (watch.Done d) v (s.table.words.dones d)) in
-          written_as words s.table u (Done d) _ shown h (put_same s.table.words.dones d v)
-          (done_others s.table d u.history u.view v)
-      by false =
-          let u : Table = next s.table me (step.Consume (watch.Done d) v (s.table.words.dones d)) in
-          written_as words s.table u (Done d) _ shown h (put_same s.table.words.dones d v)
-          (done_others s.table d u.history u.view v)
-  set_shown (watch.Bit i b) v h = absurd h
-  set_shown (watch.Var i o) v h = absurd h
-
-  own_mark_word : (o : Option Mark) (history : ℕ → List Step) (view : ℕ → View)
-      → Shows (slice_set words (position_of (Bookmark me)) (mark_word o))
-      (record s.table { mark = put s.table.mark me o; history = history; view = view })
-  own_mark_word o history view = written_as words s.table _ (Bookmark me) _ shown mine
-      (ap mark_word (put_same s.table.mark me o)) (mark_others s.table me history view o)
 
   pub event_shown : (e : Event) → Allows s me e → Joins g e
       → Shows (slice_set words (position_of (location_of me e)) (left_of s me g e)) (after_event s me g e).table
@@ -303,14 +252,11 @@ module _ (words : List ℕ) (s : State) (shown : Shows words s.table) (me : ℕ)
       (entry_others s.table (2 * who) u.history u.view _)
   event_shown (event.Queued hit) a j = written_as words s.table _ (Entry (2 * me)) _ shown (omega arith) refl
       (λ l ne. refl)
-  event_shown (event.Mark h) a j = own_mark_word _ _ _
-  event_shown (event.Unmark h) a j = own_mark_word _ _ _
-  event_shown (event.Load c v) a j =
-      let u : Table = (after_event s me g (event.Load c v)).table in
-      let same = same_word u s.table (record { task = refl; entry = refl; mark = refl; flag = refl; holder = refl; spent = refl; words = refl }) in
-      written_as words s.table u (cond_at c) _ shown (cond_located c a) (sym (same (cond_at c)))
-      (λ l ne. sym (same l))
-  event_shown (event.Set c v) a j = rw j.0 (set_shown g.watch v j.1)
+  event_shown (event.Load c v) a j = written_as words s.table _ (Plain c) _ shown a refl (λ l ne. refl)
+  event_shown (event.Set c v) a j =
+      let u : Table = next s.table me (step.Publish (watch.Plain c) v (s.table.words.plains c)) in
+      rw j (written_as words s.table u (Plain c) _ shown a (put_same s.table.words.plains c v)
+      (plain_others s.table c u.history u.view v))
   event_shown (event.Take c v) a j =
       let u : Table = next s.table me (step.Consume (watch.Plain c) 0 (s.table.words.plains c)) in
       rw j (written_as words s.table u (Plain c) _ shown a (put_same s.table.words.plains c 0)

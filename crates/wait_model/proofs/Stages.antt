@@ -20,17 +20,15 @@ use Rattle.wait_model.specs.declared.points.Progress.TheVariants as now
 use Rattle.wait_model.specs.declared.points.Given.{Given}
 use Rattle.wait_model.specs.Tasks.{meets, woken, raised}
 use Rattle.wait_model.specs.Words.{head_word}
-use Rattle.wait_model.specs.Tables.{next, value_of}
-use Rattle.wait_model.specs.Points.{call_watch, is_await}
-use Rattle.wait_model.proofs.Conditions.{set_rest}
+use Rattle.wait_model.specs.Tables.{next}
+use Rattle.wait_model.specs.Points.{call_watch}
 use Rattle.wait_model.specs.Readings.{FailedLoad}
 use Rattle.wait_model.specs.Runs.{State, after_event}
 use Rattle.wait_model.proofs.Functions.{put_at, put_same, put_other}
 use Rattle.wait_model.proofs.Looks.{looks_same}
 
 -- how far a wait is: outside, in the hold in which it stores its state, before the load, between the load
--- and
--- the sleep, behind the sleep; and a wait for a flag behind its sleep
+-- and the sleep, behind the sleep; and a wait for a flag behind its sleep
 pub data Stage : Type 0 where
   outside : Stage
   inside : Stage
@@ -56,9 +54,8 @@ IsAt failed t o es x c = (t.runnable ≡ true) × (t.state ≢ 0 → is_some o �
 IsAt dozing t o es x c = t.runnable ≡ false → (is_some o ≡ true) × FailedLoad es x c
 IsAt napping t o es x c = Unit {0}
 
--- what the stage says of a wait that loads its condition outside of its holds
 abbrev pub IsStaged : Progress → Task → Option Entry → List Step → ℕ → Type 0
-IsStaged (now.Open call p) t o es x = is_await call ≡ false → IsAt (stage p) t o es x (call_watch call)
+IsStaged (now.Open call p) t o es x = IsAt (stage p) t o es x (call_watch call)
 IsStaged now.Idle t o es x = IsAt outside t o es x (watch.Plain 0)
 IsStaged now.Fresh t o es x = IsAt outside t o es x (watch.Plain 0)
 
@@ -141,8 +138,6 @@ module _ (s : State) (me : ℕ) (g : Given) where
   others_roused (event.Lock h) t ne = same_roused _ _ (ap (λ (f : ℕ → Task). f t)
       (looks_same (next s.table me (step.Lock h g.walk (head_word (s.table.holder h) (s.table.spent h))))
       s.table.entry me).task)
-  others_roused (event.Set c v) t ne = same_roused _ _ (ap (λ (f : ℕ → Task). f t)
-      (set_rest s.table me g.watch v (value_of s.table.words g.watch)).task)
   others_roused e t ne = inl (refl, refl)
 
   -- an event that is no sleep leaves its task runnable
@@ -165,6 +160,4 @@ module _ (s : State) (me : ℕ) (g : Given) where
   own_up (event.Lock k) a h = ap (λ (f : ℕ → Task). (f me).runnable)
       (looks_same (next s.table me (step.Lock k g.walk (head_word (s.table.holder k) (s.table.spent k))))
       s.table.entry me).task ∙ h
-  own_up (event.Set c v) a h = ap (λ (f : ℕ → Task). (f me).runnable)
-      (set_rest s.table me g.watch v (value_of s.table.words g.watch)).task ∙ h
   own_up e a h = h

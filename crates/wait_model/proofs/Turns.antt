@@ -1,23 +1,4 @@
 -- A task's own event takes its wait to the next stage.
-use Rattle.wait_model.specs.Programs.{is_enough}
-use Rattle.wait_model.specs.Programs.{is_at_end}
-use Rattle.wait_model.specs.Admission.{IsGoing}
-use Rattle.wait_model.proofs.Conditions.{head_of_bare}
-use Rattle.wait_model.specs.Tables.{value_of}
-use Rattle.wait_model.specs.Counts.{taken_done}
-use Rattle.wait_model.specs.Programs.{done_in}
-use Rattle.wait_model.specs.Programs.{signalled_at}
-use Rattle.wait_model.specs.Programs.{select_from}
-use Rattle.wait_model.specs.Watches.{bare}
-use Rattle.wait_model.specs.Points.{call_number}
-use Rattle.wait_model.specs.Programs.{signalled}
-use Rattle.wait_model.specs.Watches.{IsThere}
-use Rattle.wait_model.specs.Programs.{select_next}
-use Rattle.wait_model.specs.Tasks.{IsLawful}
-use Rattle.wait_model.specs.Tasks.{sleep_of}
-use Rattle.wait_model.specs.Programs.{slept_at}
-use Rattle.wait_model.specs.Points.{is_await}
-use Rattle.wait_model.specs.Programs.{prepared_at}
 use Rattle.std.proofs.lemmas.List.{append_assoc}
 use Rattle.std.proofs.Common.{refl, sym, ◌∙◌, ap, subst, arith, inl, inr}
 use Rattle.std.specs.Prelude.{ℕ, ◌≡◌, ◌≢◌, ◌⊎◌, Bool, true, false, ◌==◌, if◌then◌else◌, is_some, Option, Some, None, List, [], ◌∷◌, ◌++◌}
@@ -34,14 +15,6 @@ use Rattle.wait_model.specs.declared.steps.Step.TheVariants as step
 use Rattle.wait_model.specs.declared.calls.Call.{Call}
 use Rattle.wait_model.specs.declared.calls.Event.{Event}
 use Rattle.wait_model.specs.declared.calls.Event.TheVariants as event
-use Rattle.wait_model.specs.declared.points.SelectPoint.{SelectPoint}
-use Rattle.wait_model.specs.declared.points.SelectPoint.TheVariants as selecting
-use Rattle.wait_model.specs.declared.points.AwaitPoint.{AwaitPoint}
-use Rattle.wait_model.specs.declared.points.AwaitPoint.TheVariants as awaiting
-use Rattle.wait_model.specs.declared.points.CountPoint.{CountPoint}
-use Rattle.wait_model.specs.declared.points.CountPoint.TheVariants as counting
-use Rattle.wait_model.specs.declared.calls.Call.TheVariants as calls
-use Rattle.wait_model.specs.declared.watches.Mode.TheVariants as mode
 use Rattle.wait_model.specs.declared.points.Planned.{Planned}
 use Rattle.wait_model.specs.declared.points.Point.{Point}
 use Rattle.wait_model.specs.declared.points.Point.TheVariants as at
@@ -71,11 +44,10 @@ use Rattle.wait_model.specs.Tasks.{
   state_mask,
   looks_in,
 }
-use Rattle.wait_model.specs.Watches.{head_of, mask_of, failing}
+use Rattle.wait_model.specs.Watches.{head_of, mask_of}
 use Rattle.wait_model.specs.Readings.{Quiet, FailedLoad}
 use Rattle.wait_model.specs.Points.{
-  call_number,
-  is_await,
+  cond_of,
   call_watch,
   call_head,
   form_of,
@@ -101,15 +73,25 @@ use Rattle.wait_model.specs.Runs.{
   own,
   entry_for,
   called_at,
-  breaks_at,
   planned,
   progress_at,
   after_event,
 }
-use Rattle.wait_model.specs.Reached.{held_at, taken_off, taken_by, HomeAt}
+use Rattle.wait_model.specs.Reached.{held_at, HomeAt}
 use Rattle.wait_model.proofs.Functions.{put_same}
+use Rattle.wait_model.proofs.Decoded.{head_plain}
 use Rattle.wait_model.proofs.Placed.{goes_not_stands}
 use Rattle.wait_model.proofs.Stages.{Stage, outside, stage, IsAt, IsStaged, Fits, IsAwake, own_up}
+
+-- whose entry a walk takes off by its next event
+abbrev pub parting : Point → Option ℕ
+parting (at.Walk (walking.Unqueue w who)) = Some who
+parting _ = None
+
+abbrev pub parted_by : Progress → Option ℕ
+parted_by (now.Open call p) = parting p
+parted_by now.Idle = None
+parted_by now.Fresh = None
 
 abbrev pub stage_in : Progress → Stage
 stage_in (now.Open call p) = stage p
@@ -119,7 +101,7 @@ stage_in now.Fresh = outside
 outside_staged : (q : Progress) (t : Task) (o : Option Entry) (es : List Step) (x : ℕ)
     → stage_in q ≡ outside
     → t.runnable ≡ true → IsStaged q t o es x
-outside_staged (now.Open call p) t o es x e h = λ w. subst (λ (g : Stage). IsAt g t o es x (call_watch call))
+outside_staged (now.Open call p) t o es x e h = subst (λ (g : Stage). IsAt g t o es x (call_watch call))
     (sym e) h
 outside_staged now.Idle t o es x e h = h
 outside_staged now.Fresh t o es x e h = h
@@ -159,30 +141,30 @@ module _ (s : State) (me : ℕ) (call : Call) (p : Point) where
 
   -- whom an event takes off, and what it stores
   abbrev pub Takes : Event → Type 0
-  Takes (event.Unqueue who) = (who ≡ me) ⊎ (taken_off p ≡ Some who)
+  Takes (event.Unqueue who) = (who ≡ me) ⊎ (parting p ≡ Some who)
   Takes _ = Unit {0}
 
   abbrev pub Stores : Event → Type 0
   Stores (event.State v) = (v ≡ 0) ⊎ ((e : Entry) → s.table.entry (own me) ≡ Some e
-      → IsGoing e.kind
+      → e.kind ≡ kind.Autoremove
       → (s.table.view me).hold.head ≡ Some (head_of e.watch))
   Stores _ = Unit {0}
 
   pub record IsGood (x : Planned) : Type 0 where
     pub staged : IsStaged (progress_at call x.next) ((then_by x.event).table.task me)
         ((then_by x.event).table.entry (own me)) ((then_by x.event).table.history me) (own me)
-    pub taken : (who : ℕ) → taken_by (progress_at call x.next) ≡ Some who
+    pub taken : (who : ℕ) → parted_by (progress_at call x.next) ≡ Some who
         → ((then_by x.event).table.task who).state ≡ 0
     pub takes : Takes x.event
     pub stores : Stores x.event
     pub fits : Fits (progress_at call x.next)
 
   module _ (up : (s.table.task me).runnable ≡ true) where
-    nobody : (q : Progress) (who : ℕ) → taken_by q ≡ None → taken_by q ≡ Some who → ⊥
+    nobody : (q : Progress) (who : ℕ) → parted_by q ≡ None → parted_by q ≡ Some who → ⊥
     nobody q who none some = let z : None ≡ Some who = sym none ∙ some in cc
 
     pub calm : (x : Planned) → IsAwake s me (given_at call p) x.event → Takes x.event → Stores x.event
-        → stage_in (progress_at call x.next) ≡ outside → taken_by (progress_at call x.next) ≡ None
+        → stage_in (progress_at call x.next) ≡ outside → parted_by (progress_at call x.next) ≡ None
         → Fits (progress_at call x.next) → IsGood x
     calm x a t st out none f = record {
       staged = outside_staged (progress_at call x.next) _ _ _ (own me) out
@@ -220,7 +202,7 @@ module _ (s : State) (me : ℕ) (call : Call) (p : Point) where
         by : (b : Bool) → meets m (s.table.task c.who).state ≡ b → IsGood (wakes_off w c b)
         by false h = calm _ tt tt tt refl refl tt
         by true h = record {
-          staged = λ w. own_up s me (given_at call p) (event.Wake c.who true) tt up;
+          staged = own_up s me (given_at call p) (event.Wake c.who true) tt up;
           taken = λ who some. let z : c.who ≡ who = cc in
               subst (λ (i : ℕ). ((then_by (event.Wake c.who true)).table.task i).state ≡ 0) z (roused h);
           takes = tt;
@@ -242,108 +224,27 @@ module _ (s : State) (me : ℕ) (call : Call) (p : Point) where
 -- where a wait stores a state that is not RUNNING it holds its entry's head
 store_held : (s : State) (me : ℕ) (call : Call) (e : Entry)
     → (s.table.view me).hold.head ≡ Some (call_head call)
-    → e.watch ≡ bare (call_watch call) → (s.table.view me).hold.head ≡ Some (head_of e.watch)
-store_held s me call e held is = held ∙ ap (λ n. Some n) (sym (head_of_bare (call_watch call))
+    → e.watch ≡ call_watch call → (s.table.view me).hold.head ≡ Some (head_of e.watch)
+store_held s me call e held is = held ∙ ap (λ n. Some n) (sym (head_plain (cond_of call))
     ∙ ap head_of (sym is))
 
--- where a call goes behind its look, its unlock and its sleep
-signalled_stage : (c : Call) → stage (signalled_at c) ≡ outside
-signalled_stage (calls.WaitFor d st) = refl
-signalled_stage calls.Remove = refl
-signalled_stage c = refl
-
-signalled_takes : (c : Call) → taken_off (signalled_at c) ≡ None
-signalled_takes (calls.WaitFor d st) = refl
-signalled_takes calls.Remove = refl
-signalled_takes c = refl
-
-signalled_fits : (c : Call) → Fits (now.Open c (signalled_at c))
-signalled_fits (calls.WaitFor d st) = tt
-signalled_fits calls.Remove = tt
-signalled_fits c = tt
-
-prepared_plain : (c : Call) → is_await c ≡ false → prepared_at c ≡ at.Test
-prepared_plain (calls.WaitFor d st) w = absurd (cc)
-prepared_plain calls.Remove w = refl
-prepared_plain c w = refl
-
-prepared_takes : (c : Call) → taken_off (prepared_at c) ≡ None
-prepared_takes (calls.WaitFor d st) = refl
-prepared_takes calls.Remove = refl
-prepared_takes c = refl
-
-prepared_fits : (c : Call) → Fits (now.Open c (prepared_at c))
-prepared_fits (calls.WaitFor d st) = tt
-prepared_fits calls.Remove = tt
-prepared_fits c = tt
-
-slept_plain : (c : Call) → is_await c ≡ false → slept_at c ≡ at.Prepare preparing.Lock
-slept_plain (calls.WaitFor d st) w = absurd (cc)
-slept_plain calls.Remove w = refl
-slept_plain c w = refl
-
-slept_takes : (c : Call) → taken_off (slept_at c) ≡ None
-slept_takes (calls.WaitFor d st) = refl
-slept_takes calls.Remove = refl
-slept_takes c = refl
-
-slept_fits : (c : Call) → Fits (now.Open c (slept_at c))
-slept_fits (calls.WaitFor d st) = tt
-slept_fits calls.Remove = tt
-slept_fits c = tt
-
 -- a Load that found 0 is a failed load
-zero_fails : (c : Watch) → IsThere c → failing c 0 c ≡ true
-zero_fails (watch.Plain c) h = grind arith
-zero_fails (watch.Done d) h = grind arith
-zero_fails (watch.Bit i b) h = absurd h
-zero_fails (watch.Var i o) h = absurd h
-
-load_failed : (es : List Step) (x : ℕ) (c : Watch) (v : ℕ) → IsThere c → v ≡ 0
-    → FailedLoad (es ++ step.Load c v ∷ []) x c
-load_failed es x c v h z = record {
+load_failed : (es : List Step) (x c : ℕ) (v : ℕ) → v ≡ 0
+    → FailedLoad (es ++ step.Load (watch.Plain c) v ∷ []) x (watch.Plain c)
+load_failed es x c v z = record {
   before = es;
-  load = step.Load c v;
+  load = step.Load (watch.Plain c) v;
   later = [];
   split = refl;
-  is_load = rw z (zero_fails c h);
+  is_load = rw z (grind arith);
   is_no_store = refl;
   quiet = tt;
 }
-
-select_takes : (c : Call) → taken_off (at.Select (select_from c)) ≡ None
-select_takes (calls.Complete d) = refl
-select_takes (calls.CompleteAll d) = refl
-select_takes calls.Remove = refl
-select_takes c = refl
-
--- behind a wake with NORMAL a task is RUNNING
-meets_normal : (meets 3 1 ≡ true) × (meets 3 2 ≡ true) × (meets 3 0x102 ≡ true)
-unfolding meets
-meets_normal = (refl, refl, refl)
-
-low_woken : (t : Task) → IsLawful t → (woken (mask_of mode.Normal) t).state ≡ 0
-low_woken t l = elim l.state [
-  | inl z ↦ stays (meets 3 t.state) z
-  | inr b ↦ elim b [
-    | inl z ↦ rw (ap (meets 3) z ∙ meets_normal.0) refl
-    | inr d ↦ elim d [
-      | inl z ↦ rw (ap (meets 3) z ∙ meets_normal.1) refl
-      | inr z ↦ rw (ap (meets 3) z ∙ meets_normal.2) refl
-    ]
-  ]
-]
-  where
-    stays : (b : Bool) → t.state ≡ 0 → (if b then record t { state = 0; runnable = true } else t).state ≡ 0
-    stays true z = refl
-    stays false z = z
 
 module _ (s : State) (me : ℕ) (call : Call) where
   -- what is known of the task at a point
   pub record Known (p : Point) : Type 0 where
     pub up : (s.table.task me).runnable ≡ true
-    pub watch : IsThere (call_watch call)
-    pub lawful : (t : ℕ) → IsLawful (s.table.task t)
     pub home : HomeAt (now.Open call p) (s.table.entry (own me))
     pub held : (s.table.view me).hold.head ≡ held_at (now.Open call p)
     pub fits : Fits (now.Open call p)
@@ -358,7 +259,7 @@ module _ (s : State) (me : ℕ) (call : Call) where
       → IsGood s me call p (go (event.State (state_mask (state_in call))) (at.Prepare preparing.Unlock))
   state_good p None is up h home held = absurd (cc)
   state_good p (Some d) is up h home held = record {
-    staged = λ w. (
+    staged = (
       own_up s me (given_at call p) (event.State (state_mask (state_in call))) tt up,
       ap (λ (k : Option Entry). is_some k) is,
     );
@@ -366,7 +267,7 @@ module _ (s : State) (me : ℕ) (call : Call) where
     takes = tt;
     stores = inr (λ e q k. store_held s me call e held
         (let z : Some d ≡ Some e = sym is ∙ q in let y : d ≡ e = cc in
-        subst (λ (g : Entry). g.watch ≡ bare (call_watch call)) y home.0));
+        subst (λ (g : Entry). g.watch ≡ call_watch call) y home.0));
     fits = tt;
   }
 
@@ -379,7 +280,7 @@ module _ (s : State) (me : ℕ) (call : Call) where
       else go (event.Queue (call_head call) (form_of call)) (at.Prepare preparing.State))
   queue_good p (Some d) is up home held = state_good p (Some d) is up refl home held
   queue_good p None is up home held = record {
-    staged = λ w. (
+    staged = (
       own_up s me (given_at call p) (event.Queue (call_head call) (form_of call)) tt up,
       ap (λ (k : Option Entry). is_some k)
           (put_same s.table.entry (own me) (Some (entry_for (given_at call p)
@@ -392,15 +293,15 @@ module _ (s : State) (me : ℕ) (call : Call) where
   }
 
   test_good : (v : ℕ) (b : Bool) → (v == 0) ≡ b → Known at.Test
-      → IsGood s me call at.Test (go (event.Load (call_number call) v) (if b then at.Sleep
+      → IsGood s me call at.Test (go (event.Load (cond_of call) v) (if b then at.Sleep
       else at.Finish finishing.State))
   test_good v true h k = record {
-    staged = λ w. (
+    staged = (
       k.up,
-      (k.old w).1,
+      k.old.1,
       subst (λ (t : List Step). FailedLoad t (own me) (call_watch call))
           (sym (put_same s.table.history me (s.table.history me ++ step.Load (call_watch call) v ∷ [])))
-          (load_failed (s.table.history me) (own me) (call_watch call) v k.watch (grind arith)),
+          (load_failed (s.table.history me) (own me) (cond_of call) v (grind arith)),
     );
     taken = λ who some. absurd (cc);
     takes = tt;
@@ -411,38 +312,32 @@ module _ (s : State) (me : ℕ) (call : Call) where
 
   doze_good : (k : Known at.Sleep) → IsGood s me call at.Sleep (planned s me call at.Sleep)
   doze_good k = record {
-    staged = λ w. subst (λ (q : Point). IsAt (stage q) ((then_by s me call at.Sleep e).table.task me)
-        ((then_by s me call at.Sleep e).table.entry (own me)) ((then_by s me call at.Sleep e).table.history me)
-        (own me) (call_watch call)) (sym (slept_plain call w))
-        (λ d. by w (slept_down (s.table.task me) k.up
-        (ap (λ (t : Task). t.runnable) (sym (put_same s.table.task me (slept (s.table.task me)))) ∙ d)));
-    taken = λ who some. absurd (let z : None ≡ Some who = sym (slept_takes call) ∙ some in cc);
+    staged = λ d. by (slept_down (s.table.task me) k.up
+        (ap (λ (t : Task). t.runnable) (sym (put_same s.table.task me (slept (s.table.task me)))) ∙ d));
+    taken = λ who some. absurd (cc);
     takes = tt;
     stores = tt;
-    fits = slept_fits call;
+    fits = tt;
   }
     where
-      e : Event
-      e = event.Sleep (sleep_of (s.table.task me))
-
-      by : is_await call ≡ false → ((s.table.task me).state ≢ 0) × ((slept (s.table.task me)).state ≡ (s.table.task me).state)
+      by : ((s.table.task me).state ≢ 0) × ((slept (s.table.task me)).state ≡ (s.table.task me).state)
           → (is_some (s.table.entry (own me)) ≡ true) × FailedLoad (put s.table.history me
           (s.table.history me ++ step.Sleep (task_word (s.table.task me)) ∷ []) me) (own me)
           (call_watch call)
-      by w h = (
-        (k.old w).1 h.0,
+      by h = (
+        k.old.1 h.0,
         subst (λ (t : List Step). FailedLoad t (own me) (call_watch call))
             (sym (put_same s.table.history me (s.table.history me
             ++ step.Sleep (task_word (s.table.task me)) ∷ [])))
             (failed_more (s.table.history me) (own me) (call_watch call) (task_word (s.table.task me))
-            (k.old w).2),
+            k.old.2),
       )
 
   first_good : (k : Known at.First) (b : Bool) (v : ℕ) → IsGood s me call at.First
-      (if b then go (event.Load (call_number call) v) (at.Prepare preparing.Lock)
-      else ends_with (event.Load (call_number call) v) zero_answer)
+      (if b then go (event.Load (cond_of call) v) (at.Prepare preparing.Lock)
+      else ends_with (event.Load (cond_of call) v) zero_answer)
   first_good k true v = record {
-    staged = λ w d. absurd (let z : true ≡ false = sym k.up ∙ d in cc);
+    staged = λ d. absurd (let z : true ≡ false = sym k.up ∙ d in cc);
     taken = λ who some. absurd (cc);
     takes = tt;
     stores = tt;
@@ -457,9 +352,8 @@ module _ (s : State) (me : ℕ) (call : Call) where
   lock_good k false = calm s me call (at.Prepare preparing.Lock) k.up _ tt tt tt refl refl tt
 
   look_good : (k : Known (at.Prepare preparing.Look)) (b : Bool)
-      → IsGood s me call (at.Prepare preparing.Look) (looked call b)
-  look_good k true = calm s me call (at.Prepare preparing.Look) k.up _ tt tt tt (signalled_stage call)
-      (signalled_takes call) (signalled_fits call)
+      → IsGood s me call (at.Prepare preparing.Look) (looked b)
+  look_good k true = calm s me call (at.Prepare preparing.Look) k.up _ tt tt tt refl refl tt
   look_good k false = calm s me call (at.Prepare preparing.Look) k.up _ tt tt tt refl refl tt
 
   prepare_good : (p : PreparePoint) → Known (at.Prepare p)
@@ -470,10 +364,10 @@ module _ (s : State) (me : ℕ) (call : Call) where
       k.up k.home
       k.held
   prepare_good preparing.State k = record {
-    staged = λ w. (
+    staged = (
       own_up s me (given_at call (at.Prepare preparing.State))
           (event.State (state_mask (state_in call))) tt k.up,
-      (k.old w).1,
+      k.old.1,
     );
     taken = λ who some. absurd (cc);
     takes = tt;
@@ -482,13 +376,11 @@ module _ (s : State) (me : ℕ) (call : Call) where
     fits = tt;
   }
   prepare_good preparing.Unlock k = record {
-    staged = λ w. subst (λ (q : Point). IsAt (stage q) (s.table.task me) (s.table.entry (own me))
-        ((then_by s me call (at.Prepare preparing.Unlock) (event.Unlock (call_head call) false)).table.history me)
-        (own me) (call_watch call)) (sym (prepared_plain call w)) (k.up, λ d. (k.old w).1);
-    taken = λ who some. absurd (let z : None ≡ Some who = sym (prepared_takes call) ∙ some in cc);
+    staged = (k.up, λ d. k.old.1);
+    taken = λ who some. absurd (cc);
     takes = tt;
     stores = tt;
-    fits = prepared_fits call;
+    fits = tt;
   }
 
   leave_good : (p : LeavePoint) → Known (at.Leave p)
@@ -499,7 +391,7 @@ module _ (s : State) (me : ℕ) (call : Call) where
       (calm s me call (at.Leave leaving.Queue) k.up _ tt tt tt refl refl tt)
   leave_good leaving.Unlock k = calm s me call (at.Leave leaving.Unlock) k.up _ tt tt tt refl refl tt
   leave_good leaving.Load k = either s me call (at.Leave leaving.Load) k.up
-      (value_of s.table.words (call_watch call) == 0) _ _
+      (s.table.words.plains (cond_of call) == 0) _ _
       (calm s me call (at.Leave leaving.Load) k.up _ tt tt tt refl refl tt)
       (calm s me call (at.Leave leaving.Load) k.up _ tt tt tt refl refl tt)
 
@@ -521,20 +413,13 @@ module _ (s : State) (me : ℕ) (call : Call) where
   walk_good : (p : WalkPoint) → Known (at.Walk p)
       → IsGood s me call (at.Walk p) (planned s me call (at.Walk p))
   walk_good walking.Lock k = calm s me call (at.Walk walking.Lock) k.up _ tt tt tt refl refl tt
-  walk_good (walking.Call w) k = either s me call (at.Walk (walking.Call w)) k.up
-      (breaks_at (at.Walk (walking.Call w)) (s.queue (call_head call))) _ _
-      (calm s me call (at.Walk (walking.Call w)) k.up _ tt tt tt refl refl tt)
-      (next_good s me call (at.Walk (walking.Call w)) k.up (call_head call) w
-      (called_at s call (at.Walk (walking.Call w))) (mask_of (mode_of call)) refl)
+  walk_good (walking.Call w) k = next_good s me call (at.Walk (walking.Call w)) k.up (call_head call) w
+      (called_at s call (at.Walk (walking.Call w))) (mask_of (mode_of call)) refl
   walk_good (walking.Wake w c) k = onward_good s me call (at.Walk (walking.Wake w c)) k.up _
       (past w c (meets (mask_of (mode_of call)) (s.table.task c.who).state)) tt tt tt
   walk_good (walking.Unqueue w who) k = onward_good s me call (at.Walk (walking.Unqueue w who)) k.up _ w tt
       (inr refl) tt
   walk_good (walking.Spent w) k = calm s me call (at.Walk (walking.Spent w)) k.up _ tt tt tt refl refl tt
-  walk_good (walking.BreakUnlock w) k = calm s me call (at.Walk (walking.BreakUnlock w)) k.up _ tt tt tt refl
-      refl tt
-  walk_good (walking.BreakLock w) k = calm s me call (at.Walk (walking.BreakLock w)) k.up _ tt tt tt refl refl tt
-  walk_good (walking.Unmark w) k = calm s me call (at.Walk (walking.Unmark w)) k.up _ tt tt tt refl refl tt
 
   add_good : (p : AddPoint) → Known (at.Add p) → IsGood s me call (at.Add p) (planned s me call (at.Add p))
   add_good adding.Lock k = calm s me call (at.Add adding.Lock) k.up _ tt tt tt refl refl tt
@@ -549,102 +434,10 @@ module _ (s : State) (me : ℕ) (call : Call) where
   remove_good (removing.Unlock c) k = calm s me call (at.Remove (removing.Unlock c)) k.up _ tt tt tt refl
       refl tt
 
-  -- a selection: its task is RUNNING behind the wake, whatever that answered
-  chosen_good : (j : ℕ) (k : Known (at.Select (selecting.Next j))) (o : Option Called)
-      → IsGood s me call (at.Select (selecting.Next j)) (select_next call j o
-      (meets (mask_of mode.Normal) (s.table.task (called_task o)).state))
-  chosen_good j k None = calm s me call (at.Select (selecting.Next j)) k.up _ tt tt tt refl refl tt
-  chosen_good j k (Some c) = record {
-    staged = λ w. own_up s me (given_at call (at.Select (selecting.Next j))) (event.Wake c.who hit) tt k.up;
-    taken = λ who some. let z : c.who ≡ who = cc in
-        subst (λ (i : ℕ). ((then_by s me call (at.Select (selecting.Next j))
-        (event.Wake c.who hit)).table.task i).state ≡ 0) z
-        (ap (λ (x : Task). x.state) (put_same s.table.task c.who _)
-        ∙ low_woken (s.table.task c.who) (k.lawful c.who));
-    takes = tt;
-    stores = tt;
-    fits = tt;
-  }
-    where
-      hit : Bool
-      hit = meets (mask_of mode.Normal) (s.table.task c.who).state
-
-  select_good : (p : SelectPoint) → Known (at.Select p)
-      → IsGood s me call (at.Select p) (planned s me call (at.Select p))
-  select_good selecting.Lock k = calm s me call (at.Select selecting.Lock) k.up _ tt tt tt refl
-      (select_takes call) tt
-  select_good selecting.Load k = by (is_at_end (value_of s.table.words (call_watch call)))
-    where
-      by : (b : Bool) → IsGood s me call (at.Select selecting.Load)
-          (go (event.Load (call_number call) (value_of s.table.words (call_watch call)))
-          (at.Select (if b then selecting.Next 0 else selecting.Store)))
-      by true = calm s me call (at.Select selecting.Load) k.up _ tt tt tt refl refl tt
-      by false = calm s me call (at.Select selecting.Load) k.up _ tt tt tt refl refl tt
-  select_good selecting.Store k = calm s me call (at.Select selecting.Store) k.up _ tt tt tt refl refl tt
-  select_good (selecting.Next j) k = either s me call (at.Select (selecting.Next j)) k.up (is_enough call j) _ _
-      (calm s me call (at.Select (selecting.Next j)) k.up _ tt tt tt refl refl tt)
-      (chosen_good j k (called_at s call (at.Select (selecting.Next j))))
-  select_good (selecting.Off j who) k = calm s me call (at.Select (selecting.Off j who)) k.up _ tt (inr refl) tt
-      refl refl tt
-
-  -- a wait for a completion
-  ends_good : (p : Point) → (s.table.task me).runnable ≡ true → (b e : Bool) → IsGood s me call p (if b
-      then ends_with (event.Unlock (call_head call) false) signalled
-      else (if e then ends_with (event.Unlock (call_head call) false) zero_answer
-      else go (event.Set (call_number call) (taken_done (done_in (value_of s.table.words (call_watch call)))))
-      (at.Await awaiting.Unlock)))
-  ends_good p up true e = calm s me call p up _ tt tt tt refl refl tt
-  ends_good p up false true = calm s me call p up _ tt tt tt refl refl tt
-  ends_good p up false false = calm s me call p up _ tt tt tt refl refl tt
-
-  await_load_good : (waited zero b : Bool) → Known (at.Await (awaiting.Load waited))
-      → IsGood s me call (at.Await (awaiting.Load waited))
-      (go (event.Load (call_number call) (value_of s.table.words (call_watch call))) (if zero
-      then at.Prepare (if b then preparing.Look else preparing.Queue)
-      else at.Await (if waited then awaiting.Run false else awaiting.Last false)))
-  await_load_good waited true true k = calm s me call (at.Await (awaiting.Load waited)) k.up _ tt tt tt refl refl tt
-  await_load_good waited true false k = calm s me call (at.Await (awaiting.Load waited)) k.up _ tt tt tt refl refl tt
-  await_load_good true false b k = calm s me call (at.Await (awaiting.Load true)) k.up _ tt tt tt refl refl tt
-  await_load_good false false b k = calm s me call (at.Await (awaiting.Load false)) k.up _ tt tt tt refl refl tt
-
-  await_good : (p : AwaitPoint) → Known (at.Await p)
-      → IsGood s me call (at.Await p) (planned s me call (at.Await p))
-  await_good (awaiting.Lock waited) k = calm s me call (at.Await (awaiting.Lock waited)) k.up _ tt tt tt refl refl
-      tt
-  await_good (awaiting.Load waited) k = await_load_good waited
-      (value_of s.table.words (call_watch call) == 0) (looks_in (state_in call)) k
-  await_good (awaiting.Run stopped) k = calm s me call (at.Await (awaiting.Run stopped)) k.up _ tt tt (inl refl)
-      refl refl tt
-  await_good (awaiting.Off true) k = either s me call (at.Await (awaiting.Off true)) k.up
-      (is_some (s.table.entry (own me))) _ _
-      (calm s me call (at.Await (awaiting.Off true)) k.up _ tt (inl refl) tt refl refl tt)
-      (ends_good (at.Await (awaiting.Off true)) k.up true (is_at_end (value_of s.table.words (call_watch call))))
-  await_good (awaiting.Off false) k = either s me call (at.Await (awaiting.Off false)) k.up
-      (is_some (s.table.entry (own me))) _ _
-      (calm s me call (at.Await (awaiting.Off false)) k.up _ tt (inl refl) tt refl refl tt)
-      (ends_good (at.Await (awaiting.Off false)) k.up false (is_at_end (value_of s.table.words (call_watch call))))
-  await_good (awaiting.Last true) k = ends_good (at.Await (awaiting.Last true)) k.up true
-      (is_at_end (value_of s.table.words (call_watch call)))
-  await_good (awaiting.Last false) k = ends_good (at.Await (awaiting.Last false)) k.up false
-      (is_at_end (value_of s.table.words (call_watch call)))
-  await_good awaiting.Unlock k = calm s me call (at.Await awaiting.Unlock) k.up _ tt tt tt refl refl tt
-
-  -- a look at a done count
-  count_good : (p : CountPoint) → Known (at.Count p)
-      → IsGood s me call (at.Count p) (planned s me call (at.Count p))
-  count_good counting.Peek k = either s me call (at.Count counting.Peek) k.up
-      (value_of s.table.words (call_watch call) == 0) _ _
-      (calm s me call (at.Count counting.Peek) k.up _ tt tt tt refl refl tt)
-      (calm s me call (at.Count counting.Peek) k.up _ tt tt tt refl refl tt)
-  count_good counting.Lock k = calm s me call (at.Count counting.Lock) k.up _ tt tt tt refl refl tt
-  count_good counting.Load k = calm s me call (at.Count counting.Load) k.up _ tt tt tt refl refl tt
-  count_good counting.Store k = calm s me call (at.Count counting.Store) k.up _ tt tt tt refl refl tt
-  count_good (counting.Unlock hit) k = calm s me call (at.Count (counting.Unlock hit)) k.up _ tt tt tt refl refl tt
-
   flag_good : (k : Known (at.Woken hearing.Flag)) (b : Bool) → IsGood s me call (at.Woken hearing.Flag)
       (go (event.Flag b) (at.Woken (if b then hearing.Run else hearing.Sleep)))
   flag_good k true = record {
-    staged = λ w. tt;
+    staged = tt;
     taken = λ who some. absurd (cc);
     takes = tt;
     stores = tt;
@@ -660,7 +453,7 @@ module _ (s : State) (me : ℕ) (call : Call) where
       refl k.fits
   woken_good hearing.Flag k = flag_good k (s.table.flag (own me))
   woken_good hearing.Sleep k = record {
-    staged = λ w. tt;
+    staged = tt;
     taken = λ who some. absurd (cc);
     takes = tt;
     stores = tt;
@@ -670,11 +463,11 @@ module _ (s : State) (me : ℕ) (call : Call) where
   woken_good hearing.Clear k = calm s me call (at.Woken hearing.Clear) k.up _ tt tt tt refl refl tt
 
   pub good : (p : Point) → Known p → IsGood s me call p (planned s me call p)
-  good at.First k = first_good k (value_of s.table.words (call_watch call) == 0)
-      (value_of s.table.words (call_watch call))
+  good at.First k = first_good k (s.table.words.plains (cond_of call) == 0)
+      (s.table.words.plains (cond_of call))
   good (at.Prepare p) k = prepare_good p k
-  good at.Test k = test_good (value_of s.table.words (call_watch call))
-      (value_of s.table.words (call_watch call) == 0) refl k
+  good at.Test k = test_good (s.table.words.plains (cond_of call))
+      (s.table.words.plains (cond_of call) == 0) refl k
   good at.Sleep k = doze_good k
   good (at.Leave p) k = leave_good p k
   good (at.Finish p) k = finish_good p k
@@ -682,8 +475,5 @@ module _ (s : State) (me : ℕ) (call : Call) where
   good (at.Add p) k = add_good p k
   good (at.Remove p) k = remove_good p k
   good (at.Woken p) k = woken_good p k
-  good (at.Select p) k = select_good p k
-  good (at.Await p) k = await_good p k
-  good (at.Count p) k = count_good p k
   good at.Raise k = calm s me call at.Raise k.up _ tt tt tt refl refl tt
   good p k = calm s me call p k.up _ tt tt tt refl refl tt

@@ -1,10 +1,4 @@
 -- Whoever is asleep in a wait sleeps on its condition.
-use Rattle.wait_model.specs.Tables.{value_of}
-use Rattle.wait_model.specs.Admission.{IsGoing}
-use Rattle.wait_model.proofs.Conditions.{head_of_bare, set_rest}
-use Rattle.std.specs.Prelude.{nat_lt}
-use Rattle.wait_model.specs.Reached.{IsSoundCall}
-use Rattle.wait_model.specs.Watches.{kind_for}
 use Rattle.std.proofs.lemmas.Bool.Decides.{eqb_tells}
 use Rattle.std.proofs.Common.{refl, sym, ◌∙◌, ap, subst, arith, inl, inr}
 use Rattle.std.specs.Prelude.{ℕ, ◌≡◌, ◌≢◌, ◌+◌, ◌≤◌, ◌⊎◌, Bool, true, false, ◌==◌, if◌then◌else◌, is_some, Option, Some, None, List, [], ◌∷◌, ◌++◌}
@@ -35,15 +29,15 @@ use Rattle.wait_model.specs.Tasks.{IsLawful, meets, pending, woken, slept}
 use Rattle.wait_model.specs.Words.{head_word}
 use Rattle.wait_model.specs.Watches.{head_of, is_woken, owner}
 use Rattle.wait_model.specs.Tables.{Table, next, steps}
-use Rattle.wait_model.specs.Points.{call_watch}
+use Rattle.wait_model.specs.Points.{cond_of, call_watch}
 use Rattle.wait_model.specs.Programs.{program_start}
 use Rattle.wait_model.specs.Runs.{State, given_by, own, steps_of, planned, progress_after, after_event, happens, start_state, state_after, state_of, is_open, Continues, IsItem, IsRunFrom, made_in}
-use Rattle.wait_model.specs.Reached.{held_at, taken_by, HomeAt, IsTaken, IsPlaced, IsSound}
+use Rattle.wait_model.specs.Reached.{held_at, taken_by, TakenAs, HomeAt, IsTaken, IsPlaced, IsSound}
 use Rattle.wait_model.specs.Readings.{FailedLoad, FailedBy}
 use Rattle.wait_model.specs.PlainWakes.{Sleeps}
 use Rattle.wait_model.specs.Waiters.{WaitsFor, NoRunLosesWaiter}
 use Rattle.wait_model.proofs.Functions.{put_at, put_case, put_same, put_other}
-use Rattle.wait_model.proofs.Decoded.{owner_own}
+use Rattle.wait_model.proofs.Decoded.{head_plain, owner_own}
 use Rattle.wait_model.proofs.Looks.{looks_same}
 use Rattle.wait_model.proofs.Placed.{own_one, Changes}
 use Rattle.wait_model.proofs.Fines.{one_there}
@@ -67,23 +61,24 @@ use Rattle.wait_model.proofs.Stages.{
   staged_still,
   others_roused,
 }
-use Rattle.wait_model.proofs.Turns.{stage_in, Takes, Stores, IsGood, good}
+use Rattle.wait_model.specs.declared.points.WalkPoint.TheVariants as walking
+use Rattle.wait_model.proofs.Turns.{stage_in, parting, parted_by, Takes, Stores, IsGood, good}
 
 -- what holds of the waits in every state of a run
 record IsAlert (s : State) : Type 0 where
   staged : (t : ℕ) → IsStaged (s.progress t) (s.table.task t) (s.table.entry (own t)) (s.table.history t)
       (own t)
   fits : (t : ℕ) → Fits (s.progress t)
-  taken : (t who : ℕ) → taken_by (s.progress t) ≡ Some who → (s.table.task who).state ≡ 0
+  taken : (t who : ℕ) → parted_by (s.progress t) ≡ Some who → (s.table.task who).state ≡ 0
 
 -- what an event of a task says of it
 abbrev pub TakesAt : State → ℕ → Progress → Event → Type 0
-TakesAt s me q (event.Unqueue who) = (who ≡ me) ⊎ (taken_by q ≡ Some who)
+TakesAt s me q (event.Unqueue who) = (who ≡ me) ⊎ (parted_by q ≡ Some who)
 TakesAt s me q _ = Unit {0}
 
 abbrev pub StoresAt : State → ℕ → Event → Type 0
 StoresAt s me (event.State v) = (v ≡ 0) ⊎ ((e : Entry) → s.table.entry (own me) ≡ Some e
-    → IsGoing e.kind → (s.table.view me).hold.head ≡ Some (head_of e.watch))
+    → e.kind ≡ kind.Autoremove → (s.table.view me).hold.head ≡ Some (head_of e.watch))
 StoresAt s me _ = Unit {0}
 
 record IsTurn (s : State) (me : ℕ) (q : Progress) (e : Event) : Type 0 where
@@ -91,7 +86,7 @@ record IsTurn (s : State) (me : ℕ) (q : Progress) (e : Event) : Type 0 where
       ((after_event s me (given_by q) e).table.entry (own me))
       ((after_event s me (given_by q) e).table.history me) (own me)
   fits : Fits (progress_after s me q)
-  taken : (who : ℕ) → taken_by (progress_after s me q) ≡ Some who
+  taken : (who : ℕ) → parted_by (progress_after s me q) ≡ Some who
       → ((after_event s me (given_by q) e).table.task who).state ≡ 0
   takes : TakesAt s me q e
   stores : StoresAt s me e
@@ -106,16 +101,14 @@ stores_at : (s : State) (me : ℕ) (call : Call) (p : Point) (e : Event) → Sto
 stores_at s me call p (event.State v) t = t
 stores_at s me call p e t = tt
 
-turn_of : (s : State) (n me : ℕ) (e : Event) (found : ℕ) → IsSound s n → IsAlert s → (q : Progress)
+turn_of : (s : State) (me : ℕ) (e : Event) (found : ℕ) → IsAlert s → (q : Progress)
     → s.progress me ≡ q → IsPlaced s.table.entry (s.table.view me) me q → Continues s me q e found
     → IsTurn s me q e
-turn_of s n me e found sound al now.Fresh is pl c = absurd c
-turn_of s n me e found sound al now.Idle is pl c = absurd c
-turn_of s n me e found sound al (now.Open call p) is pl c =
+turn_of s me e found al now.Fresh is pl c = absurd c
+turn_of s me e found al now.Idle is pl c = absurd c
+turn_of s me e found al (now.Open call p) is pl c =
     by (good s me call p (record {
       up = c.2;
-      watch = (subst (IsSoundCall n) is (sound.calls me)).watch;
-      lawful = sound.lawful;
       home = pl.home;
       held = pl.head;
       fits = subst Fits is (al.fits me);
@@ -144,16 +137,16 @@ woken_not hearing.Clear g = cc
 inside_held : (q : Progress) (it : Entry) → stage_in q ≡ inside → HomeAt q (Some it)
     → held_at q ≡ Some (head_of it.watch)
 inside_held (now.Open call (at.Prepare preparing.State)) it g h = ap (λ n. Some n)
-    (sym (head_of_bare (call_watch call)) ∙ ap head_of (sym h.0))
+    (sym (head_plain (cond_of call)) ∙ ap head_of (sym h.0))
 inside_held (now.Open call (at.Prepare preparing.Unlock)) it g h = ap (λ n. Some n)
-    (sym (head_of_bare (call_watch call)) ∙ ap head_of (sym h.0))
+    (sym (head_plain (cond_of call)) ∙ ap head_of (sym h.0))
 inside_held (now.Open call (at.Woken p)) it g h = absurd (woken_not p g)
 inside_held q it g h = absurd (cc)
 
 -- what an event of one task does to another's entry
 module _ (s : State) (me : ℕ) (q : Progress) (t : ℕ) (ne : t ≢ me) (lawful : IsLawful (s.table.task t))
   where
-    others_left : (g : Given) (e : Event) → (taken_by q ≡ Some t → (s.table.task t).state ≡ 0)
+    others_left : (g : Given) (e : Event) → (parted_by q ≡ Some t → (s.table.task t).state ≡ 0)
         → TakesAt s me q e
         → Changes s me e → ((it : Entry) → s.table.entry (own t) ≡ Some it
         → (s.table.view me).hold.head ≡ Some (head_of it.watch) → stage_in (s.progress t) ≡ inside → ⊥)
@@ -162,7 +155,7 @@ module _ (s : State) (me : ℕ) (q : Progress) (t : ℕ) (ne : t ≢ me) (lawful
     others_left g (event.Unqueue who) low takes c apart =
         by (put_case s.table.entry (own who) None (own t)) takes
       where
-        gone : own t ≡ own who → (who ≡ me) ⊎ (taken_by q ≡ Some who)
+        gone : own t ≡ own who → (who ≡ me) ⊎ (parted_by q ≡ Some who)
             → IsUp (s.table.task t) × (stage_in (s.progress t) ≡ inside → ⊥)
         gone h (inl m) = absurd (ne (own_one t who h ∙ m))
         gone h (inr k) =
@@ -171,7 +164,7 @@ module _ (s : State) (me : ℕ) (q : Progress) (t : ℕ) (ne : t ≢ me) (lawful
 
         by : ((own t ≡ own who) × (put s.table.entry (own who) None (own t) ≡ None))
             ⊎ ((own t ≢ own who) × (put s.table.entry (own who) None (own t) ≡ s.table.entry (own t)))
-            → (who ≡ me) ⊎ (taken_by q ≡ Some who)
+            → (who ≡ me) ⊎ (parted_by q ≡ Some who)
             → IsLeft (stage_in (s.progress t)) (s.table.task t) (s.table.entry (own t))
             (put s.table.entry (own who) None (own t))
         by (inl h) k = inr (gone h.0 k)
@@ -181,14 +174,12 @@ module _ (s : State) (me : ℕ) (q : Progress) (t : ℕ) (ne : t ≢ me) (lawful
     others_left g (event.Lock h) low takes c apart = inl (ap (λ (f : ℕ → Option Entry). f (own t))
         (looks_same (next s.table me (step.Lock h g.walk (head_word (s.table.holder h) (s.table.spent h))))
         s.table.entry me).entry)
-    others_left g (event.Set c v) low takes h apart = inl (ap (λ (f : ℕ → Option Entry). f (own t))
-        (set_rest s.table me g.watch v (value_of s.table.words g.watch)).entry)
     others_left g e low takes c apart = inl refl
 
 still_staged : (q : Progress) (t u : Task) (o p : Option Entry) (es : List Step) (x : ℕ) → IsRoused t u
     → IsLeft (stage_in q) u o p → IsStaged q t o es x → IsStaged q u p es x
-still_staged (now.Open call at) t u o p es x r l a = λ w. staged_still (stage at) t u o p es x
-    (call_watch call) r l (a w)
+still_staged (now.Open call at) t u o p es x r l a = staged_still (stage at) t u o p es x
+    (call_watch call) r l a
 still_staged now.Idle t u o p es x r l a = staged_still outside t u o p es x (watch.Plain 0) r l a
 still_staged now.Fresh t u o p es x r l a = staged_still outside t u o p es x (watch.Plain 0) r l a
 
@@ -232,9 +223,20 @@ own_zero s me g (event.Signal who fatal) z h = put_at (λ (k : Task). k.state �
 own_zero s me g (event.Lock k) z h = ap (λ (f : ℕ → Task). (f me).state)
     (looks_same (next s.table me (step.Lock k g.walk (head_word (s.table.holder k) (s.table.spent k))))
     s.table.entry me).task ∙ z
-own_zero s me g (event.Set c v) z h = ap (λ (f : ℕ → Task). (f me).state)
-    (set_rest s.table me g.watch v (value_of s.table.words g.watch)).task ∙ z
 own_zero s me g e z h = z
+
+-- whose entry a walk takes off by its next event is taken by it, and that entry goes when it is woken
+part_of : (p : Point) (who : ℕ) (call : Call) → parting p ≡ Some who
+    → (taken_by (now.Open call p) ≡ Some who)
+    × ((e : Entry) → TakenAs (now.Open call p) e → e.kind ≡ kind.Autoremove)
+part_of (at.Walk (walking.Unqueue w u)) who call h = (h, λ e k. k)
+part_of p who call h = absurd (let z : None ≡ Some who = h in cc)
+
+parted_off : (p : Progress) (who : ℕ) → parted_by p ≡ Some who
+    → (taken_by p ≡ Some who) × ((e : Entry) → TakenAs p e → e.kind ≡ kind.Autoremove)
+parted_off (now.Open call p) who h = part_of p who call h
+parted_off now.Idle who h = absurd (cc)
+parted_off now.Fresh who h = absurd (cc)
 
 -- who is to be taken off stays RUNNING: it stores no other state while its entry's head is held by another
 module _ (s : State) (n : ℕ) (sound : IsSound s n) (al : IsAlert s) (me : ℕ) (e : Event)
@@ -242,20 +244,24 @@ module _ (s : State) (n : ℕ) (sound : IsSound s n) (al : IsAlert s) (me : ℕ)
   abbrev after : State
   after = after_event s me (given_by (s.progress me)) e
 
-  stored_zero : (t : ℕ) → t ≢ me → taken_by (s.progress t) ≡ Some me → (d : Event) → StoresAt s me d
+  stored_zero : (t : ℕ) → t ≢ me → parted_by (s.progress t) ≡ Some me → (d : Event) → StoresAt s me d
       → (v : ℕ)
       → d ≡ event.State v → v ≡ 0
   stored_zero t ne k d st v is = by (subst (StoresAt s me) is st)
     where
-      it : IsTaken s.table.entry me (held_at (s.progress t))
-      it = (sound.placed t).taken me k
+      off : (taken_by (s.progress t) ≡ Some me)
+          × ((d : Entry) → TakenAs (s.progress t) d → d.kind ≡ kind.Autoremove)
+      off = parted_off (s.progress t) me k
+
+      it : IsTaken s.table.entry me (s.progress t)
+      it = (sound.placed t).taken me off.0
 
       by : StoresAt s me (event.State v) → v ≡ 0
       by (inl z) = z
       by (inr f) = absurd (ne (sound.kept.facts.one_holder t me (head_of it.it.watch)
-          ((sound.placed t).head ∙ it.head) (f it.it it.stands it.kind)))
+          ((sound.placed t).head ∙ it.head) (f it.it it.stands (off.1 it.it it.right))))
 
-  still_zero : (t who : ℕ) → t ≢ me → taken_by (s.progress t) ≡ Some who → (after.table.task who).state ≡ 0
+  still_zero : (t who : ℕ) → t ≢ me → parted_by (s.progress t) ≡ Some who → (after.table.task who).state ≡ 0
   still_zero t who ne k = by (eqb_tells who me)
     where
       by : (((who == me) ≡ true) × (who ≡ me)) ⊎ (((who == me) ≡ false) × (who ≢ me))
@@ -295,7 +301,7 @@ made_alert : (s : State) (n me : ℕ) (e : Event) (found : ℕ) → IsSound s n 
 made_alert s n me e found sound al item =
     let m : IsMade s n me (s.progress me) e = made_of s n me e found sound item.0
     (s.progress me) refl item.1 in
-    let turn : IsTurn s me (s.progress me) e = turn_of s n me e found sound al (s.progress me) refl
+    let turn : IsTurn s me (s.progress me) e = turn_of s me e found al (s.progress me) refl
     (sound.placed me)
     item.1 in
     record {
@@ -309,7 +315,7 @@ made_alert s n me e found sound al item =
           (sym q) turn.staged)
           (λ ne. others_staged s n sound al me e m turn t ne);
       fits = λ t. put_at Fits s.progress me _ t (λ _. turn.fits) (λ _. al.fits t);
-      taken = λ t who. put_at (λ q. taken_by q ≡ Some who
+      taken = λ t who. put_at (λ q. parted_by q ≡ Some who
           → ((after_event s me (given_by (s.progress me)) e).table.task who).state ≡ 0) s.progress me _ t
           (λ _. turn.taken who) (λ ne k. still_zero s n sound al me e m turn t who ne k);
     }
@@ -322,7 +328,7 @@ start_fits : (call : Call) → Fits (now.Open call (program_start call))
 start_fits (calls.Woken st) = tt
 start_fits call = tt
 
-start_takes : (call : Call) → taken_by (now.Open call (program_start call)) ≡ None
+start_takes : (call : Call) → parted_by (now.Open call (program_start call)) ≡ None
 start_takes calls.Remove = refl
 start_takes call = refl
 
@@ -340,7 +346,7 @@ opened_alert s me call al item = record {
       s.progress me _ t
       (λ q. subst (λ (i : ℕ). IsStaged (now.Open call (program_start call)) (s.table.task i)
       (s.table.entry (own i)) (s.table.history i) (own i)) (sym q)
-      (λ w. subst (λ (g : Stage). IsAt g (s.table.task me) (s.table.entry (own me)) (s.table.history me)
+      (subst (λ (g : Stage). IsAt g (s.table.task me) (s.table.entry (own me)) (s.table.history me)
       (own me)
       (call_watch call)) (sym (start_stage call))
       (closed_up (s.progress me) (s.table.task me) (s.table.entry (own me)) (s.table.history me)
@@ -348,7 +354,7 @@ opened_alert s me call al item = record {
       item.1 (al.staged me))))
       (λ _. al.staged t);
   fits = λ t. put_at Fits s.progress me _ t (λ _. start_fits call) (λ _. al.fits t);
-  taken = λ t who. put_at (λ q. taken_by q ≡ Some who → (s.table.task who).state ≡ 0) s.progress me _ t
+  taken = λ t who. put_at (λ q. parted_by q ≡ Some who → (s.table.task who).state ≡ 0) s.progress me _ t
       (λ _ k. absurd (let z : None ≡ Some who = sym (start_takes call) ∙ k in cc)) (λ _. al.taken t who);
 }
 
@@ -390,17 +396,10 @@ not_napping d how p f g = cc
 
 dozing_home : (d : ℕ) (how : How) (p : Point) (e : Entry) → Fits (now.Open (calls.Wait d how) p)
     → stage p ≡ dozing → HomeAt (now.Open (calls.Wait d how) p) (Some e)
-    → (e.watch ≡ watch.Plain d) × (e.kind ≡ kind_for (watch.Plain d))
+    → (e.watch ≡ watch.Plain d) × (e.kind ≡ kind.Autoremove)
 dozing_home d how (at.Woken p) e f g h = absurd f
 dozing_home d how (at.Prepare p) e f g h = h
 dozing_home d how p e f g h = absurd (cc)
-
-never_woken : (c : ℕ) → is_woken (kind_for (watch.Plain c)) ≡ false
-never_woken c = by (nat_lt c 48)
-  where
-    by : (b : Bool) → is_woken (if b then kind.Autoremove else kind.Simple) ≡ false
-    by true = refl
-    by false = refl
 
 -- who is asleep in a wait
 asleep_sleeps : (s : State) (n t c : ℕ) → IsSound s n → IsAlert s → (q : Progress) → s.progress t ≡ q
@@ -410,7 +409,7 @@ asleep_sleeps s n t c sound al (now.Open (calls.Wait d how) p) is w down =
     (watch.Plain d)
     (subst (λ (q : Progress). IsStaged q (s.table.task t) (s.table.entry (own t)) (s.table.history t)
     (own t))
-    is (al.staged t) refl) (not_napping d how p fits) down)
+    is (al.staged t)) (not_napping d how p fits) down)
   where
     fits : Fits (now.Open (calls.Wait d how) p)
     fits = subst Fits is (al.fits t)
@@ -430,7 +429,7 @@ asleep_sleeps s n t c sound al (now.Open (calls.Wait d how) p) is w down =
           down = subst (λ (i : ℕ). (s.table.task i).state ≢ 0) (sym (owner_own t)) low;
           failed = subst (λ (b : Bool). FailedBy b (s.table.history (owner (own t))) (own t)
               (watch.Plain c))
-              (sym (ap (λ k. is_woken k) home.1 ∙ never_woken d))
+              (sym (ap (λ k. is_woken k) home.1))
               (subst (λ (i : ℕ). FailedLoad (s.table.history i) (own t) (watch.Plain c)) (sym (owner_own t))
               (subst (λ (i : ℕ). FailedLoad (s.table.history t) (own t) (watch.Plain i)) w l));
         }
@@ -450,14 +449,6 @@ asleep_sleeps s n t c sound al (now.Open (calls.Woken st) p) is w down = absurd 
 asleep_sleeps s n t c sound al (now.Open (calls.Signal u deadly) p) is w down = absurd w
 asleep_sleeps s n t c sound al (now.Open calls.Accept p) is w down = absurd w
 asleep_sleeps s n t c sound al (now.Open (calls.Kick u) p) is w down = absurd w
-asleep_sleeps s n t c sound al (now.Open (calls.SimpleWait d st) p) is w down = absurd w
-asleep_sleeps s n t c sound al (now.Open (calls.SimpleWake d all) p) is w down = absurd w
-asleep_sleeps s n t c sound al (now.Open (calls.Complete d) p) is w down = absurd w
-asleep_sleeps s n t c sound al (now.Open (calls.CompleteAll d) p) is w down = absurd w
-asleep_sleeps s n t c sound al (now.Open (calls.Reinit d) p) is w down = absurd w
-asleep_sleeps s n t c sound al (now.Open (calls.WaitFor d st) p) is w down = absurd w
-asleep_sleeps s n t c sound al (now.Open (calls.TryWait d) p) is w down = absurd w
-asleep_sleeps s n t c sound al (now.Open (calls.IsDone d) p) is w down = absurd w
 
 pub no_run_loses_waiter : NoRunLosesWaiter
 no_run_loses_waiter run r few t c a =

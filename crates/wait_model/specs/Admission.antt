@@ -19,12 +19,12 @@ use Rattle.wait_model.specs.declared.calls.Call.TheVariants as calls
 use Rattle.wait_model.specs.declared.watches.Entry.{Entry}
 use Rattle.wait_model.specs.declared.watches.Kind.{Kind}
 use Rattle.wait_model.specs.declared.watches.Kind.TheVariants as kind
-use Rattle.wait_model.specs.Tasks.{task_count, looks_in, is_killable}
+use Rattle.wait_model.specs.Tasks.{looks_in}
 use Rattle.wait_model.specs.Watches.{is_woken}
 use Rattle.wait_model.specs.Queues.{is_priority}
 
--- the numbers of a call that a task opens are in their ranges: full heads have conditions 0 to 47, simple ones
--- 48 to 63, and only tasks below 64 add with priority
+-- the numbers of a call that a task opens are in their ranges: full heads have conditions 0 to 47, and only
+-- tasks below 64 add with priority
 abbrev pub is_in_range : ℕ → Call → Bool
 is_in_range me (calls.Wait c how) = nat_lt c 48
 is_in_range me (calls.Set c v) = nat_lt c 64
@@ -32,24 +32,14 @@ is_in_range me (calls.Take c) = nat_lt c 64
 is_in_range me (calls.Read c) = nat_lt c 64
 is_in_range me (calls.Wake c m n) = nat_lt c 48 && nat_lt n 128
 is_in_range me (calls.Add c k f) = nat_lt c 48 && (not (is_priority f) || nat_lt me 64)
-is_in_range me (calls.Signal u deadly) = nat_lt u task_count
-is_in_range me (calls.Kick u) = nat_lt u task_count
-is_in_range me (calls.SimpleWait c st) = not (nat_lt c 48) && nat_lt c 64
-is_in_range me (calls.SimpleWake c all) = not (nat_lt c 48) && nat_lt c 64
-is_in_range me (calls.Complete d) = nat_lt d 64
-is_in_range me (calls.CompleteAll d) = nat_lt d 64
-is_in_range me (calls.Reinit d) = nat_lt d 64
-is_in_range me (calls.WaitFor d st) = nat_lt d 64
-is_in_range me (calls.TryWait d) = nat_lt d 64
-is_in_range me (calls.IsDone d) = nat_lt d 64
+is_in_range me (calls.Signal u deadly) = nat_lt u 64
+is_in_range me (calls.Kick u) = nat_lt u 64
 is_in_range me _ = true
 
 -- a call that queues is opened while the own entry is queued
 abbrev pub queues : Call → Bool
 queues (calls.Wait c how) = true
 queues (calls.Add c k f) = true
-queues (calls.SimpleWait c st) = true
-queues (calls.WaitFor d st) = true
 queues _ = false
 
 abbrev pub is_queued_twice : Call → Option Entry → Bool
@@ -74,16 +64,11 @@ is_standing _ = false
 abbrev pub IsStanding : Kind → Type 0
 IsStanding k = is_standing k ≡ true
 
--- every other kind goes when it is woken
-abbrev pub IsGoing : Kind → Type 0
-IsGoing k = is_standing k ≡ false
-
--- the forms of calls that there are: only default and woken entries are added, and an uninterruptible wait is
--- not exclusive; a simple wait is uninterruptible or interruptible
+-- the forms of calls that there are: only default and woken entries are added, and an uninterruptible wait
+-- is not exclusive
 abbrev pub is_listed : Call → Bool
 is_listed (calls.Wait c how) = not how.exclusive || looks_in how.state
 is_listed (calls.Add c k f) = is_standing k
-is_listed (calls.SimpleWait c st) = not (is_killable st)
 is_listed _ = true
 
 abbrev pub IsListed : Call → Type 0

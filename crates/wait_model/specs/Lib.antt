@@ -33,5 +33,4 @@ pub mod Totals
 pub mod SignalCounts
 pub mod BitKeepers
 pub mod DoneCounts
-pub mod Completions
 pub mod Counts

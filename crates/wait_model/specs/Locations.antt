@@ -1,27 +1,10 @@
 -- The words of a domain: what each word is for, where it stands, and what stands in it. (To be believed.)
-use Rattle.std.specs.Prelude.{
-  ◌≡◌,
-  ℕ,
-  ◌+◌,
-  ◌-◌,
-  ◌*◌,
-  ◌^◌,
-  ◌<◌,
-  nat_lt,
-  if◌then◌else◌,
-  List,
-  slice_index,
-  length,
-  Option,
-  Some,
-  None,
-}
+use Rattle.std.specs.Prelude.{◌≡◌, ℕ, ◌+◌, ◌*◌, ◌^◌, ◌<◌, List, slice_index, length, Option, Some, None}
 use Rattle.wait_model.specs.declared.calls.Event.{Event}
 use Rattle.wait_model.specs.declared.calls.Event.TheVariants as event
 use Rattle.wait_model.specs.Tasks.{task_word}
 use Rattle.wait_model.specs.Words.{entry_word, head_word, flag_word, bit_word}
-use Rattle.wait_model.specs.declared.queues.Mark.{Mark}
-use Rattle.wait_model.specs.Tables.{Table}
+use Rattle.wait_model.specs.Tables.{Table, Mark}
 
 -- what a word is for: entries and flags go by their index, two times the task's number and the slot
 pub data Location : Type 0 where
@@ -75,12 +58,7 @@ position_of (Tally p) = 1537 + p
 position_of (Cell k) = 1665 + k
 position_of (Claim k) = 9857 + k
 
--- the condition word of a number: plain conditions, done counts, bit words, variables
-abbrev pub cond_at : ℕ → Location
-cond_at c = if nat_lt c 64 then Plain c else if nat_lt c 128 then Done (c - 64)
-    else if nat_lt c 256 then Bits (c - 128) else Var (c - 256)
-
--- the word of a bookmark: its head and its place
+-- the word of a bookmark: the head and the place before which it stands
 abbrev pub mark_word : Option Mark → ℕ
 mark_word None = 0
 mark_word (Some m) = 2 ^ 63 + 2 ^ 40 * m.head + m.place
@@ -119,10 +97,8 @@ location_of me (event.Unlock h spent) = Head h
 location_of me (event.Queue h form) = Entry (2 * me)
 location_of me (event.Unqueue who) = Entry (2 * who)
 location_of me (event.Queued there) = Entry (2 * me)
-location_of me (event.Mark h) = Bookmark me
-location_of me (event.Unmark h) = Bookmark me
-location_of me (event.Load c value) = cond_at c
-location_of me (event.Set c value) = cond_at c
+location_of me (event.Load c value) = Plain c
+location_of me (event.Set c value) = Plain c
 location_of me (event.Take c value) = Plain c
 location_of me (event.Woken who) = Flag (2 * who)
 location_of me (event.Flag hit) = Flag (2 * me)

@@ -1,6 +1,5 @@
 -- No lost wakeup for plain conditions, in terms of the tasks' histories alone: what is promised of every
--- run.
--- (To be believed.)
+-- run. (To be believed.)
 use Rattle.std.specs.Prelude.{ℕ, ◌≡◌, ◌≢◌, ◌+◌, ◌<◌, ◌≤◌, ◌⊎◌, ◌-◌, ◌^◌, Some, List}
 use Rattle.wait_model.specs.declared.watches.Watch.TheVariants as watch
 use Rattle.wait_model.specs.declared.watches.Entry.{Entry}
@@ -13,10 +12,8 @@ use Rattle.wait_model.specs.Coverings.{Covering}
 use Rattle.wait_model.specs.Runs.{IsRun, state_of, made_in}
 
 -- The owner of entry x sleeps on plain condition c: it is not running, the entry is queued for c, and it
--- loaded
--- c and found 0 since its last store of a state and of the entry, or, for an entry of kind Woken, since it
--- was
--- queued and its flag cleared.
+-- loaded c and found 0 since its last store of a state and of the entry, or, for an entry of kind Woken,
+-- since it was queued and its flag cleared.
 pub record Sleeps (s : Table) (x : ℕ) (e : Entry) (c : ℕ) : Type 0 where
   pub queued : s.entry x ≡ Some e
   pub watches : e.watch ≡ watch.Plain c

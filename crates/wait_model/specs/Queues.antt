@@ -28,14 +28,11 @@ use Rattle.std.specs.Prelude.{
 }
 use Rattle.std.specs.List.{filter}
 use Rattle.wait_model.specs.declared.queues.Member.{Member}
-use Rattle.wait_model.specs.declared.queues.Mark.{Mark}
-use Rattle.wait_model.specs.declared.watches.Entry.{Entry}
-use Rattle.wait_model.specs.Watches.{head_of}
 use Rattle.wait_model.specs.declared.queues.Form.{Form}
 use Rattle.wait_model.specs.declared.queues.Form.TheVariants as forms
 
--- where priority entries end, the end of the places, and the place of a first entry with priority and of one
--- without
+-- where priority entries end, the end of the places, and the place of a first entry with priority and of
+-- one without
 abbrev pub middle : ℕ
 middle = 2 ^ 39
 
@@ -55,50 +52,18 @@ even_below p = 2 * ((p - 1) / 2)
 abbrev pub even_above : ℕ → ℕ
 even_above p = 2 * (p / 2 + 1)
 
--- Entries have the numbers below 256, two times the task's number and the slot, and the bookmark of task t the
--- number 256 + t.
-abbrev pub entry_count : ℕ
-entry_count = 256
-
-abbrev pub is_entry : Member → Bool
-is_entry m = nat_lt m.at entry_count
-
--- the head and the place of an entry or a bookmark that stands, by its number
-abbrev pub stand_by : Option Entry → Option Mark
-stand_by None = None
-stand_by (Some e) = Some (record { head = head_of e.watch; place = e.place })
-
-abbrev pub stand_of : (ℕ → Option Entry) → (ℕ → Option Mark) → ℕ → Option Mark
-stand_of entry mark x = if nat_lt x entry_count then stand_by (entry x) else mark (x - entry_count)
-
--- the order of members: by place, and by number those of one place
-abbrev pub rank : Member → ℕ
-rank m = 512 * m.place + m.at
-
--- whoever stands at a place or behind it has at least this rank
-abbrev pub rank_at : ℕ → ℕ
-rank_at place = 512 * place
-
--- the first member from a rank on that passes a test, the first of all, and the first entry
-abbrev pub first_from : (Member → Bool) → ℕ → List Member → Option Member
-first_from test least [] = None
-first_from test least (m ∷ ms) = if test m && nat_le least (rank m) then Some m else first_from test least ms
-
+-- the first member from a place on
 abbrev pub member_from : ℕ → List Member → Option Member
-member_from least queue = first_from (λ _. true) least queue
+member_from place [] = None
+member_from place (m ∷ ms) = if nat_le place m.place then Some m else member_from place ms
 
-abbrev pub entry_from : ℕ → List Member → Option Member
-entry_from least queue = first_from is_entry least queue
-
--- An add at the front goes behind the leading members below the middle: its place, and the queue after it.
--- These are priority entries, and a bookmark at the last place below the middle, which a head comes to only
--- after some 2^37 adds.
+-- an add at the front goes behind the leading priority entries: its place, and the queue after it
 abbrev pub place_before : Option Member → ℕ
 place_before None = first_place
 place_before (Some m) = even_below m.place
 
 abbrev pub front_place : List Member → ℕ
-front_place queue = place_before (member_from (rank_at middle) queue)
+front_place queue = place_before (member_from middle queue)
 
 abbrev pub front_add : Member → List Member → List Member
 front_add e [] = e ∷ []
@@ -148,16 +113,7 @@ is_priority forms.Front = false
 is_priority forms.Tail = false
 is_priority forms.Priority = true
 
--- a bookmark goes before a member: to the place below an entry, or to another bookmark's place
-abbrev pub mark_place : Option Member → ℕ
-mark_place None = first_place
-mark_place (Some m) = if is_entry m then m.place - 1 else m.place
-
-abbrev pub mark_add : Member → List Member → List Member
-mark_add b [] = b ∷ []
-mark_add b (m ∷ ms) = if nat_lt (rank m) (rank b) then m ∷ mark_add b ms else b ∷ m ∷ ms
-
--- the queue without one member
+-- the queue without one entry
 abbrev pub without : ℕ → List Member → List Member
 without x queue = filter (λ m. not (m.at == x)) queue
 
@@ -165,11 +121,11 @@ abbrev pub IsIn : Member → List Member → Type 0
 IsIn e [] = ⊥
 IsIn e (m ∷ ms) = (e ≡ m) ⊎ IsIn e ms
 
--- by rising rank: each member stands before all behind it
+-- by rising place: each member stands before all behind it
 abbrev pub IsBefore : ℕ → List Member → Type 0
-IsBefore low [] = Unit {0}
-IsBefore low (m ∷ ms) = (low < rank m) × IsBefore low ms
+IsBefore place [] = Unit {0}
+IsBefore place (m ∷ ms) = (place < m.place) × IsBefore place ms
 
 abbrev pub IsInOrder : List Member → Type 0
 IsInOrder [] = Unit {0}
-IsInOrder (m ∷ ms) = IsBefore (rank m) ms × IsInOrder ms
+IsInOrder (m ∷ ms) = IsBefore m.place ms × IsInOrder ms

@@ -52,10 +52,8 @@ outdates x (step.Flag y w) = x == y
 outdates x _ = false
 
 -- for an entry of kind Woken: since it was queued and its flag cleared the task loaded c's word and the
--- test
--- failed, and since its last store of a state it read the flag as not set; `before` is what it had done
--- before
--- the last such load
+-- test failed, and since its last store of a state it read the flag as not set; `before` is what it had
+-- done before the last such load
 pub record UnheardLoad (es : List Step) (x : ℕ) (c : Watch) : Type 0 where
   pub before : List Step
   pub load : Step

@@ -11,8 +11,7 @@ use Rattle.wait_model.specs.declared.points.Point.TheVariants as at
 use Rattle.wait_model.specs.declared.points.WalkPoint.{WalkPoint}
 use Rattle.wait_model.specs.declared.points.Next.TheVariants as next
 use Rattle.wait_model.specs.declared.points.Progress.TheVariants as now
-use Rattle.wait_model.specs.Points.{call_watch, call_number, call_head, count_of}
-use Rattle.wait_model.specs.Tables.{value_of}
+use Rattle.wait_model.specs.Points.{cond_of, call_head, count_of}
 use Rattle.wait_model.specs.Programs.{signalled}
 use Rattle.wait_model.specs.Runs.{State, own, planned, IsRun, state_of, made_in}
 use Rattle.wait_model.specs.Accounts.{Account, one_if, account_of}
@@ -31,36 +30,18 @@ pub record IsSignalledTurn (me head : ℕ) (trail : List Event) : Type 0 where
   pub turn : (trail ≡ event.Unlock head false ∷ event.Look true ∷ event.Lock head ∷ earlier)
       ⊎ (trail ≡ event.Unlock head false ∷ event.Unqueue me ∷ event.Look true ∷ event.Lock head ∷ earlier)
 
--- the task's latest events are those of the last hold of a wait for a completion that a signal ended: it took
--- the head's lock, loaded the done count as 0, found an admissible signal, ran again, and took its entry off if
--- that was queued
-abbrev pub signalled_hold : ℕ → ℕ → List Event → List Event
-signalled_hold head number earlier =
-    event.State 0 ∷ event.Look true ∷ event.Load number 0 ∷ event.Lock head ∷ earlier
-
-pub record IsSignalledHold (me head number : ℕ) (trail : List Event) : Type 0 where
-  pub earlier : List Event
-  pub hold : (trail ≡ signalled_hold head number earlier)
-      ⊎ (trail ≡ event.Unqueue me ∷ signalled_hold head number earlier)
-
--- such a wait ends with -512 by the unlock of this hold, with the entry off
-pub record IsStopped (s : State) (a : Account) (me : ℕ) (call : Call) (e : Event) : Type 0 where
-  pub hold : IsSignalledHold me (call_head call) (call_number call) (a.trail me)
-  pub off : s.table.entry (own me) ≡ None
-  pub unlock : e ≡ event.Unlock (call_head call) false
-
--- another call ends with -512 behind such a turn, with the entry off, by a load of the condition that found 0
+-- the call ends with -512: behind such a turn, with the entry off, by a load of the condition that found 0
 pub record IsInterrupted (s : State) (a : Account) (me : ℕ) (call : Call) (e : Event) : Type 0 where
   pub turn : IsSignalledTurn me (call_head call) (a.trail me)
   pub off : s.table.entry (own me) ≡ None
-  pub load : e ≡ event.Load (call_number call) 0
-  pub unset : value_of s.table.words (call_watch call) ≡ 0
+  pub load : e ≡ event.Load (cond_of call) 0
+  pub unset : s.table.words.plains (cond_of call) ≡ 0
 
--- each event that ends a call with -512 is such an unlock or such a load
+-- each event that ends a call with -512 is such a load
 abbrev pub InterruptsRightly : State → Account → Type 0
 InterruptsRightly s a = (me : ℕ) (call : Call) (p : Point) → s.progress me ≡ now.Open call p
     → (planned s me call p).next ≡ next.Ends signalled
-    → IsStopped s a me call (planned s me call p).event ⊎ IsInterrupted s a me call (planned s me call p).event
+    → IsInterrupted s a me call (planned s me call p).event
 
 -- each signal that a task accepted or has pending was raised at it, and so was each fatal one
 pub record AcceptsRaised (s : State) (a : Account) : Type 0 where

@@ -42,8 +42,8 @@ pub record Owing (es : List Step) (c : Watch) (σ : ℕ) : Type 0 where
   pub is_publish : publishes publish c ≡ true
   pub unended : Unended c σ (view_of (before ++ publish ∷ [])) later
 
--- the view has a failed load exactly where the history has one, and keeps the spent count that the last lock
--- before it found
+-- the view has a failed load exactly where the history has one, and keeps the spent count that the last
+-- lock before it found
 abbrev pub FailedTold : Type 0
 FailedTold = (es : List Step) (x : ℕ) (c : Watch) →
     ((n : ℕ) → (view_of es).checks.failed x c ≡ Some n → (l : FailedLoad es x c)

@@ -128,8 +128,8 @@ abbrev pub ahead : Option Walk → Bool → Watch → ℕ → ℕ → Bool
 ahead None g c σ p = true
 ahead (Some w) g c σ p = not (concerns w c σ) || (nat_le w.from p && not g)
 
--- the task owes the entry's watch for this state and will still call the entry; a simple entry is passed only
--- by being taken off
+-- the task owes the entry's watch for this state and will still call the entry; a simple entry is passed
+-- only by being taken off
 abbrev pub covers : View → ℕ → Entry → ℕ → Bool
 covers v x e σ = v.duty.owes e.watch σ
     && (not (v.duty.cleared e.watch x) && (is_simple e.kind || ahead v.walk (gone v x e) e.watch σ e.place))

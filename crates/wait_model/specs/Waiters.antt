@@ -19,8 +19,7 @@ pub record IsAsleep (s : State) (t c : ℕ) : Type 0 where
   pub down : (s.table.task t).runnable ≡ false
 
 -- who is asleep in a wait sleeps on its condition, and where that is set it is covered, or a walk used up
--- its
--- count on others
+-- its count on others
 pub record IsSafe (s : State) (t c : ℕ) : Type 0 where
   pub entry : Entry
   pub sleeps : Sleeps s.table (own t) entry c

@@ -6,15 +6,12 @@ use Rattle.std.specs.Prelude.{
   ◌/◌,
   ◌%◌,
   ◌^◌,
-  ◌<◌,
-  nat_lt,
   Bool,
   true,
   false,
   not,
   ◌&&◌,
   ◌==◌,
-  if◌then◌else◌,
   Option,
   Some,
   None,
@@ -46,34 +43,6 @@ head_of (watch.Plain c) = 256 + c
 head_of (watch.Done d) = 320 + d
 head_of (watch.Bit w b) = hashed (w * 64 + b)
 head_of (watch.Var v o) = hashed (128 + v)
-
--- the numbers of a watch that a call names are in their ranges
-abbrev pub IsThere : Watch → Type 0
-IsThere (watch.Plain c) = c < 64
-IsThere (watch.Done d) = d < 64
-IsThere (watch.Bit w b) = ⊥
-IsThere (watch.Var v o) = ⊥
-
--- the number of a watch's word among the condition words
-abbrev pub number_of : Watch → ℕ
-number_of (watch.Plain c) = c
-number_of (watch.Done d) = 64 + d
-number_of (watch.Bit w b) = 128 + w
-number_of (watch.Var v o) = 256 + v
-
--- what an entry word shows of a watch: the old value of a variable stands in no word
-abbrev pub bare : Watch → Watch
-bare (watch.Plain c) = watch.Plain c
-bare (watch.Done d) = watch.Done d
-bare (watch.Bit w b) = watch.Bit w b
-bare (watch.Var v o) = watch.Var v 0
-
--- the kind of entry by which a call waits: conditions 0 to 47 have full heads, 48 to 63 simple ones
-abbrev pub kind_for : Watch → Kind
-kind_for (watch.Plain c) = if nat_lt c 48 then kind.Autoremove else kind.Simple
-kind_for (watch.Done d) = kind.Simple
-kind_for (watch.Bit w b) = kind.Bit
-kind_for (watch.Var v o) = kind.Var
 
 -- the spent count of the head excuses this watch
 abbrev pub counted : Watch → Bool

@@ -40,7 +40,6 @@ use Rattle.wait_model.specs.declared.points.Progress.TheVariants as now
 use Rattle.wait_model.specs.declared.points.Planned.{Planned}
 use Rattle.wait_model.specs.declared.points.Next.{Next}
 use Rattle.wait_model.specs.declared.points.Next.TheVariants as next
-use Rattle.wait_model.specs.Tasks.{task_count}
 use Rattle.wait_model.specs.Admission.{admits}
 use Rattle.wait_model.specs.Runs.{
   State,
@@ -73,7 +72,7 @@ pub record Replay : Type 0 where
 
 -- a call that the task may open is opened
 abbrev pub may_open : State → ℕ → Call → Bool
-may_open s me c = nat_lt me task_count && (not (is_open (s.progress me))
+may_open s me c = nat_lt me 64 && (not (is_open (s.progress me))
     && admits me c (s.table.entry (own me)))
 
 abbrev pub opened : Replay → ℕ → Call → Replay
@@ -85,7 +84,7 @@ opened r me c = if may_open r.state me c then record {
 
 -- the event that a task makes next: its call is open, it is runnable, and no lock that it wants is held
 abbrev pub may_make : State → ℕ → Planned → Option Planned
-may_make s me p = if nat_lt me task_count && ((s.table.task me).runnable && is_none (busy_head s p.event)) then Some p
+may_make s me p = if nat_lt me 64 && ((s.table.task me).runnable && is_none (busy_head s p.event)) then Some p
     else None
 
 abbrev pub next_of : State → ℕ → Progress → Option Planned
@@ -132,8 +131,8 @@ ReplaysRun = (lines : List Line) → IsRun (replay lines).run
 abbrev pub plainly : How
 plainly = record { state = states.Uninterruptible; exclusive = false }
 
--- Task 1 waits for condition 0 and makes so many events. Then task 2 sets the condition and wakes, and task 1
--- goes on.
+-- Task 1 waits for condition 0 and makes so many events. Then task 2 sets the condition and wakes, and task
+-- 1 goes on.
 abbrev pub script : ℕ → List Line
 script n = opens 1 (calls.Wait 0 plainly) ∷ (runs 1 n ∷ (opens 2 (calls.Set 0 1) ∷ (runs 2 1
     ∷ (opens 2 (calls.Wake 0 modes.Normal 0) ∷ (runs 2 99 ∷ (runs 1 99 ∷ []))))))

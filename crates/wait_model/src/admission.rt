@@ -4,12 +4,10 @@ ghost use Rattle.std.specs.Prelude.{◌≡◌};
 ghost use Rattle.wait_model.specs.Admission as spec;
 
 use crate::calls::Call;
-use crate::tasks::TASKS;
 use crate::watches::{Entry, Kind};
 
-/// Whether the numbers of a call are in their ranges: conditions 0 to 47 have full heads, 48 to 63 simple
-/// ones; completions are below 64; tasks are below 128, and those that add with priority below 64; counts
-/// are below 128.
+/// Whether the numbers of a call are in their ranges: conditions 0 to 47 have full heads, 0 to 63 are
+/// there; tasks are below 64, as are those that add with priority; counts are below 128.
 pub fn is_in_range(me: u8, call: Call) -> bool
     ensures { result ≡ spec.is_in_range me call }
 {
@@ -20,11 +18,8 @@ pub fn is_in_range(me: u8, call: Call) -> bool
         Call::Read { cond } => cond < 64,
         Call::Wake { cond, count, .. } => cond < 48 && count < 128,
         Call::Add { cond, form, .. } => cond < 48 && (!form.is_priority() || me < 64),
-        Call::Signal { who, .. } => who < TASKS,
-        Call::Kick { who } => who < TASKS,
-        Call::SimpleWait { cond, .. } | Call::SimpleWake { cond, .. } => cond >= 48 && cond < 64,
-        Call::Complete { cell } | Call::CompleteAll { cell } | Call::Reinit { cell } => cell < 64,
-        Call::WaitFor { cell, .. } | Call::TryWait { cell } | Call::IsDone { cell } => cell < 64,
+        Call::Signal { who, .. } => who < 64,
+        Call::Kick { who } => who < 64,
         _ => true,
     }
 }
@@ -36,8 +31,6 @@ fn queues(call: Call) -> bool
     match call {
         Call::Wait { .. } => true,
         Call::Add { .. } => true,
-        Call::SimpleWait { .. } => true,
-        Call::WaitFor { .. } => true,
         _ => false,
     }
 }

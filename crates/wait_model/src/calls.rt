@@ -29,26 +29,9 @@ pub enum Call {
     Accept,
     /// `wake_up_process`, which meets the states of ordinary waits.
     Kick { who: u8 },
-    /// `swait_event` and its interruptible form.
-    SimpleWait { cond: u8, state: SleepState },
-    /// `swake_up_one`, or `swake_up_all` in one hold.
-    SimpleWake { cond: u8, all: bool },
-    /// `complete`: the done count is raised by one, and one waiter is woken.
-    Complete { cell: u8 },
-    /// `complete_all`: the done count goes to its end, and all waiters are woken.
-    CompleteAll { cell: u8 },
-    /// `reinit_completion`, under the lock.
-    Reinit { cell: u8 },
-    /// `wait_for_completion` and its interruptible and killable forms.
-    WaitFor { cell: u8, state: SleepState },
-    /// `try_wait_for_completion`.
-    TryWait { cell: u8 },
-    /// `completion_done`.
-    IsDone { cell: u8 },
 }
 
-/// One atomic step of a task. A load and a store name their condition word by its number: 0 to 63 are plain
-/// conditions, 64 to 127 done counts, 128 to 255 bit words, 256 to 383 variables.
+/// One atomic step of a task.
 #[derive(Clone, Copy)]
 pub enum Event {
     State { state: u32 },
@@ -62,8 +45,6 @@ pub enum Event {
     Queue { head: u16, form: Form },
     Unqueue { who: u8 },
     Queued { yes: bool },
-    Mark { head: u16 },
-    Unmark { head: u16 },
     Load { cond: u16, value: u64 },
     Set { cond: u16, value: u64 },
     Take { cond: u8, found: u64 },

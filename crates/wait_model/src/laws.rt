@@ -1,6 +1,5 @@
 //! The laws of wait queues, on pure tables.
 
-ghost use Rattle.wait_model.specs.Completions.{NoRunMiscounts};
 ghost use Rattle.wait_model.specs.Facts.{StepKeeps, StartKept};
 ghost use Rattle.wait_model.specs.Selections.{RunsAreOrderly};
 ghost use Rattle.wait_model.specs.Openings.{FreshTold};
@@ -96,12 +95,10 @@ pub fn bits_are_kept()
 {}
 
 /// A completion's count is balanced over all histories: raised and granted are lowered, thrown away and what
-/// stands. True at the start, kept by every step whose stores in counts are such as the calls make, and so true
-/// in every state that a run reaches. Before any store of the end otherwise than by raising, the takes are at
-/// most the completes.
+/// stands. True at the start and kept by every step whose stores in counts are such as the calls make. Before
+/// any store of the end otherwise than by raising, the takes are at most the completes.
 pub fn counts_are_balanced()
     ensures start { CountsStartBalanced }
     ensures step { CountsStayBalanced }
     ensures takes { TakesAreCompleted }
-    ensures run { NoRunMiscounts }
 {}

@@ -2,11 +2,9 @@
 
 ghost use Rattle.std.specs.Prelude.{◌≡◌, ◌<◌, IfSome};
 ghost use Rattle.wait_model.specs.Points as spec;
-ghost use Rattle.wait_model.specs.Tasks.{task_count};
 
 use crate::calls::{Answer, Call, Event};
-use crate::heads::head_of;
-use crate::queues::{Called, Form, Mark, Walking};
+use crate::queues::{Called, Form, Walking};
 use crate::tasks::{SleepState, Task, raise_mask};
 use crate::watches::{Aim, Entry, Kind, Mode, Watch};
 
@@ -39,8 +37,7 @@ pub enum FinishPoint {
 }
 
 /// A walk: lock, call each entry's function, unlock. Behind the flag of a woken entry its task is woken;
-/// an entry that takes itself off is unqueued; a walk whose count is used up unlocks with `spent`. A walk
-/// that breaks, behind its bookmark's store, gives the lock back, takes it again, and takes the bookmark out.
+/// an entry that takes itself off is unqueued; a walk whose count is used up unlocks with `spent`.
 #[derive(Clone, Copy)]
 pub enum WalkPoint {
     Lock,
@@ -48,9 +45,6 @@ pub enum WalkPoint {
     Wake(Walking, Called),
     Unqueue(Walking, u8),
     Spent(Walking),
-    BreakUnlock(Walking),
-    BreakLock(Walking),
-    Unmark(Walking),
 }
 
 /// Adding an entry.
@@ -79,40 +73,6 @@ pub enum WokenPoint {
     Clear,
 }
 
-/// Selecting from a simple queue: lock; load and store of the done count; then each entry that is selected has
-/// its task woken and is taken off, and the unlock ends it. The numbers say how many were selected.
-#[derive(Clone, Copy)]
-pub enum SelectPoint {
-    Lock,
-    Load,
-    Store,
-    Next(u32),
-    Off(u32, u8),
-}
-
-/// Waiting for a completion: lock and load, whether or not the call has waited before; and behind the wait,
-/// whether or not a signal stopped it: running again, off the queue, and the count is taken or not.
-#[derive(Clone, Copy)]
-pub enum AwaitPoint {
-    Lock(bool),
-    Load(bool),
-    Run(bool),
-    Off(bool),
-    Last(bool),
-    Unlock,
-}
-
-/// Looking at a done count without waiting: a load without the lock, lock, load, store, and the unlock with
-/// its answer.
-#[derive(Clone, Copy)]
-pub enum CountPoint {
-    Peek,
-    Lock,
-    Load,
-    Store,
-    Unlock(bool),
-}
-
 /// The place in a program at which its next event is made.
 #[derive(Clone, Copy)]
 pub enum Point {
@@ -128,9 +88,6 @@ pub enum Point {
     Add(AddPoint),
     Remove(RemovePoint),
     Woken(WokenPoint),
-    Select(SelectPoint),
-    Await(AwaitPoint),
-    Count(CountPoint),
     /// The one event of `set`, `take`, `read`, `accept` and `kick`, and the two of `signal`.
     Store,
     Take,
@@ -166,10 +123,6 @@ pub struct Seen {
     pub value: u64,
     /// The entry at which the walk stands, if there is one.
     pub called: Option<Called>,
-    /// Whether the walk breaks here.
-    pub breaks: bool,
-    /// The own bookmark.
-    pub mark: Option<Mark>,
     /// The record of the task that the event is about.
     pub other: Task,
 }
@@ -194,56 +147,29 @@ pub struct Given {
     pub watch: Watch,
     /// The kind of an entry.
     pub kind: Kind,
-    /// The place from which on a bookmark is put before the next member.
-    pub from: u64,
 }
 
 impl Call {
-    /// What the call is about.
-    pub fn watch(self) -> Watch
-        ensures { result ≡ spec.call_watch self }
+    /// The number of the plain condition; 0 where the call has none.
+    pub fn cond(self) -> u8
+        ensures { result ≡ spec.cond_of self }
     {
         match self {
-            Call::Wait { cond, .. }
-            | Call::Set { cond, .. }
-            | Call::Take { cond }
-            | Call::Read { cond }
-            | Call::Wake { cond, .. }
-            | Call::Add { cond, .. }
-            | Call::SimpleWait { cond, .. }
-            | Call::SimpleWake { cond, .. } => Watch::Plain { cond },
-            Call::Complete { cell }
-            | Call::CompleteAll { cell }
-            | Call::Reinit { cell }
-            | Call::WaitFor { cell, .. }
-            | Call::TryWait { cell }
-            | Call::IsDone { cell } => Watch::Done { cell },
-            _ => Watch::Plain { cond: 0 },
+            Call::Wait { cond, .. } => cond,
+            Call::Set { cond, .. } => cond,
+            Call::Take { cond } => cond,
+            Call::Read { cond } => cond,
+            Call::Wake { cond, .. } => cond,
+            Call::Add { cond, .. } => cond,
+            _ => 0,
         }
     }
 
-    /// The head at which the call queues or wakes.
+    /// The head of the condition.
     pub fn head(self) -> u16
         ensures { result ≡ spec.call_head self }
     {
-        head_of(self.watch())
-    }
-
-    /// The number of the call's condition word.
-    pub fn number(self) -> u16
-        ensures { result ≡ spec.call_number self }
-    {
-        self.watch().number()
-    }
-
-    /// The plain condition that a `take` takes.
-    pub fn taken_cond(self) -> u8
-        ensures { result ≡ spec.taken_cond self }
-    {
-        match self {
-            Call::Take { cond } => cond,
-            _ => 0,
-        }
+        256 + u16::from(self.cond())
     }
 
     /// What a `set` stores.
@@ -263,8 +189,6 @@ impl Call {
         match self {
             Call::Wait { how, .. } => how.state,
             Call::Woken { state } => state,
-            Call::SimpleWait { state, .. } => state,
-            Call::WaitFor { state, .. } => state,
             _ => SleepState::Uninterruptible,
         }
     }
@@ -280,7 +204,6 @@ impl Call {
                 Form::Front
             },
             Call::Add { form, .. } => form,
-            Call::SimpleWait { .. } | Call::WaitFor { .. } => Form::Tail,
             _ => Form::Front,
         }
     }
@@ -305,14 +228,12 @@ impl Call {
         }
     }
 
-    /// How many entries the call's walk selects; 0 is all.
+    /// How many exclusive entries the call's walk selects; 0 is all.
     pub fn count(self) -> u32
         ensures { result ≡ spec.count_of self }
     {
         match self {
             Call::Wake { count, .. } => count,
-            Call::SimpleWake { all, .. } => if all { 0 } else { 1 },
-            Call::Complete { .. } => 1,
             _ => 0,
         }
     }
@@ -341,9 +262,9 @@ impl Call {
 /// The task that an event is about, where it is not the own one.
 pub fn about(call: Call, point: Point, called: Option<Called>) -> u8
     requires call { spec.IsReachable call point }
-    requires called { IfSome called (λ c. c.who < task_count) }
+    requires called { IfSome called (λ c. c.who < 64) }
     ensures task { result ≡ spec.about call point called }
-    ensures below { result < task_count }
+    ensures below { result < 64 }
 {
     match point {
         Point::Walk(WalkPoint::Call(_)) => match called {
@@ -351,10 +272,6 @@ pub fn about(call: Call, point: Point, called: Option<Called>) -> u8
             Some(called) => called.who,
         },
         Point::Walk(WalkPoint::Wake(_, called)) => called.who,
-        Point::Select(SelectPoint::Next(_)) => match called {
-            None => 0,
-            Some(called) => called.who,
-        },
         _ => call.who(),
     }
 }
@@ -364,15 +281,10 @@ fn aim_at(call: Call, point: Point) -> Option<Aim>
     ensures { result ≡ spec.aim_at call point }
 {
     match point {
-        Point::Walk(WalkPoint::Lock) | Point::Select(SelectPoint::Lock) => Some(Aim {
-            watch: call.watch(),
+        Point::Walk(WalkPoint::Lock) => Some(Aim {
+            watch: Watch::Plain { cond: call.cond() },
             mode: call.mode(),
             count: call.count(),
-        }),
-        Point::Walk(WalkPoint::BreakLock(walk)) => Some(Aim {
-            watch: call.watch(),
-            mode: call.mode(),
-            count: walk.left,
         }),
         _ => None,
     }
@@ -384,7 +296,6 @@ fn mask_at(call: Call, point: Point) -> u32
 {
     match point {
         Point::RaiseWake => raise_mask(call.fatal()),
-        Point::Select(_) => Mode::Normal.mask(),
         _ => call.mode().mask(),
     }
 }
@@ -395,17 +306,7 @@ fn kind_at(call: Call, point: Point) -> Kind
 {
     match point {
         Point::Add(_) => call.kind(),
-        _ => call.watch().kind(),
-    }
-}
-
-/// The place from which on a bookmark is put before the next member.
-fn from_at(point: Point) -> u64
-    ensures { result ≡ spec.from_at point }
-{
-    match point {
-        Point::Walk(WalkPoint::Call(walk)) => walk.place,
-        _ => 0,
+        _ => Kind::Autoremove,
     }
 }
 
@@ -416,8 +317,7 @@ pub fn given_at(call: Call, point: Point) -> Given
     Given {
         walk: aim_at(call, point),
         mask: mask_at(call, point),
-        watch: call.watch(),
+        watch: Watch::Plain { cond: call.cond() },
         kind: kind_at(call, point),
-        from: from_at(point),
     }
 }

@@ -1,8 +1,6 @@
 //! Programs: which event a call makes next, by what its task finds.
 
-mod counting;
 mod entries;
-mod selecting;
 mod waiting;
 mod walking;
 
@@ -12,14 +10,12 @@ ghost use Rattle.wait_model.specs.Programs.{IsFitting, IsFittingEntry};
 
 use crate::calls::{Answer, Call, Event};
 use crate::points::{
-    AddPoint, AwaitPoint, CountPoint, Next, Planned, Point, RemovePoint, Seen, SelectPoint,
-    WalkPoint, WokenPoint,
+    AddPoint, FinishPoint, Next, Planned, Point, PreparePoint, RemovePoint, Seen, WalkPoint,
+    WokenPoint,
 };
-use crate::programs::counting::{await_event, count_event};
 use crate::programs::entries::{add_event, remove_event, woken_event};
-use crate::programs::selecting::select_event;
 use crate::programs::waiting::{
-    finish_event, first_event, leave_event, prepare_event, sleep_event, slept_at, test_event,
+    finish_event, first_event, leave_event, prepare_event, sleep_event, test_event,
 };
 use crate::programs::walking::walk_event;
 use crate::tasks::{Taken, accepted, raise_mask, woken};
@@ -40,13 +36,6 @@ pub fn start_of(call: Call) -> Point
         Call::Signal { .. } => Point::Raise,
         Call::Accept => Point::Accept,
         Call::Kick { .. } => Point::Kick,
-        Call::SimpleWait { .. } => Point::First,
-        Call::SimpleWake { .. } | Call::Complete { .. } | Call::CompleteAll { .. } => {
-            Point::Select(SelectPoint::Lock)
-        }
-        Call::Reinit { .. } => Point::Count(CountPoint::Lock),
-        Call::WaitFor { .. } => Point::Await(AwaitPoint::Lock(false)),
-        Call::TryWait { .. } | Call::IsDone { .. } => Point::Count(CountPoint::Peek),
     }
 }
 
@@ -82,18 +71,8 @@ fn load(call: Call, seen: Seen) -> Event
     ensures { result ≡ spec.load call seen }
 {
     Event::Load {
-        cond: call.number(),
+        cond: u16::from(call.cond()),
         value: seen.value,
-    }
-}
-
-/// A store of the call's condition.
-fn store(call: Call, value: u64) -> Event
-    ensures { result ≡ spec.store call value }
-{
-    Event::Set {
-        cond: call.number(),
-        value,
     }
 }
 
@@ -149,20 +128,20 @@ pub fn next_event(me: u8, call: Call, point: Point, seen: Seen) -> Planned
         Point::First => first_event(call, seen),
         Point::Prepare(point) => prepare_event(call, point, seen),
         Point::Test => test_event(call, seen),
-        Point::Sleep => sleep_event(seen, slept_at(call)),
+        Point::Sleep => sleep_event(seen, Point::Prepare(PreparePoint::Lock)),
         Point::Leave(point) => leave_event(me, call, point, seen),
         Point::Finish(point) => finish_event(me, call, point, seen),
         Point::Walk(point) => walk_event(call, point, seen),
         Point::Add(point) => add_event(call, point),
         Point::Remove(point) => remove_event(me, point, seen),
         Point::Woken(point) => woken_event(call, point, seen),
-        Point::Select(point) => select_event(call, point, seen),
-        Point::Await(point) => await_event(me, call, point, seen),
-        Point::Count(point) => count_event(call, point, seen),
-        Point::Store => ends(store(call, call.value())),
+        Point::Store => ends(Event::Set {
+            cond: u16::from(call.cond()),
+            value: call.value(),
+        }),
         Point::Take => ends_with(
             Event::Take {
-                cond: call.taken_cond(),
+                cond: call.cond(),
                 found: seen.value,
             },
             Answer::Value(seen.value),

@@ -2,7 +2,8 @@
 
 ghost use Rattle.std.specs.Prelude.{◌≡◌};
 ghost use Rattle.wait_model.specs.Watches.{mask_of};
-ghost use Rattle.wait_model.specs.Watches as spec;
+
+use crate::tasks::{INTERRUPTIBLE, NORMAL};
 
 /// A condition that a task waits for. `Plain` and `Done` are set where the word is not 0, `Bit` where
 /// the bit is clear, `Var` where the word differs from `old`.
@@ -14,48 +15,6 @@ pub enum Watch {
     Var { var: u8, old: u64 },
 }
 
-impl Watch {
-    /// The number of its word among the condition words.
-    pub fn number(self) -> u16
-        ensures { result ≡ spec.number_of self }
-    {
-        match self {
-            Watch::Plain { cond } => u16::from(cond),
-            Watch::Done { cell } => 64 + u16::from(cell),
-            Watch::Bit { word, .. } => 128 + u16::from(word),
-            Watch::Var { var, .. } => 256 + u16::from(var),
-        }
-    }
-
-    /// What an entry word shows of it: no old value.
-    pub fn bare(self) -> Watch
-        ensures { result ≡ spec.bare self }
-    {
-        match self {
-            Watch::Var { var, .. } => Watch::Var { var, old: 0 },
-            _ => self,
-        }
-    }
-
-    /// The kind of entry by which a call waits for it.
-    pub fn kind(self) -> Kind
-        ensures { result ≡ spec.kind_for self }
-    {
-        match self {
-            Watch::Plain { cond } => {
-                if cond < 48 {
-                    Kind::Autoremove
-                } else {
-                    Kind::Simple
-                }
-            }
-            Watch::Done { .. } => Kind::Simple,
-            Watch::Bit { .. } => Kind::Bit,
-            Watch::Var { .. } => Kind::Var,
-        }
-    }
-}
-
 /// The function of a wait entry.
 #[derive(Clone, Copy)]
 pub enum Kind {
@@ -65,18 +24,6 @@ pub enum Kind {
     Bit,
     Var,
     Simple,
-}
-
-impl Kind {
-    /// Whether it is that of entries of simple queues.
-    pub fn is_simple(self) -> bool
-        ensures { result ≡ spec.is_simple self }
-    {
-        match self {
-            Kind::Simple => true,
-            _ => false,
-        }
-    }
 }
 
 /// A wait entry that is queued. The `old` of a `Var` watch stands in no word; an entry that was read
@@ -103,8 +50,8 @@ impl Mode {
         ensures { result ≡ mask_of self }
     {
         match self {
-            Mode::Interruptible => 1,
-            Mode::Normal => 3,
+            Mode::Interruptible => INTERRUPTIBLE,
+            Mode::Normal => NORMAL,
         }
     }
 }

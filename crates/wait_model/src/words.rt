@@ -4,11 +4,9 @@ ghost use Rattle.std.specs.Prelude.{◌≡◌, ◌<◌, ◌^◌, Some};
 ghost use Rattle.wait_model.specs.Words as spec;
 ghost use Rattle.wait_model.specs.Tables as tables;
 ghost use Rattle.wait_model.specs.Shown.{IsInRange};
-ghost use Rattle.wait_model.specs.Locations.{position_of, location_of, mark_word};
-ghost use Rattle.wait_model.specs.Tasks.{task_count};
+ghost use Rattle.wait_model.specs.Locations.{position_of, location_of};
 
 use crate::calls::Event;
-use crate::queues::Mark;
 use crate::watches::{Entry, Kind, Watch};
 
 /// How many words a Domain has.
@@ -148,30 +146,6 @@ pub fn raised_spent(rises: bool, spent: u64) -> u64
     }
 }
 
-/// The word of a bookmark that stands.
-pub fn mark_word_of(mark: Mark) -> u64
-    requires head { mark.head < 2 ^ 9 }
-    requires place { mark.place < 2 ^ 40 }
-    ensures { result ≡ mark_word (Some mark) }
-{
-    0x8000_0000_0000_0000 + 0x100_0000_0000 * u64::from(mark.head) + mark.place
-}
-
-/// The bookmark that a word shows.
-#[tactic(auto, unfolding(crate::specs::Tables::mark_of))]
-pub fn mark_of(word: u64) -> Option<Mark>
-    ensures { result ≡ tables.mark_of word }
-{
-    if word == 0 {
-        None
-    } else {
-        Some(Mark {
-            head: (word / 0x100_0000_0000 % 0x200) as u16,
-            place: word % 0x100_0000_0000,
-        })
-    }
-}
-
 /// The word of a flag.
 pub fn flag_word_of(woken: bool) -> u64
     ensures { result ≡ spec.flag_word woken }
@@ -188,7 +162,6 @@ pub fn flag_of(word: u64) -> bool
 }
 
 /// The position of an event's word.
-#[tactic(auto, using(crate::proofs::Conditions::cond_position))]
 pub fn position(me: u8, event: Event) -> usize
     requires { IsInRange event }
     ensures { result ≡ position_of (location_of me event) }
@@ -204,7 +177,6 @@ pub fn position(me: u8, event: Event) -> usize
         Event::Load { cond, .. } | Event::Set { cond, .. } => 1153 + usize::from(cond),
         Event::Take { cond, .. } => 1153 + usize::from(cond),
         Event::Woken { who } => 385 + 2 * usize::from(who),
-        Event::Mark { .. } | Event::Unmark { .. } => 641 + usize::from(me),
         Event::Flag { .. } | Event::Unflag => 385 + 2 * usize::from(me),
     }
 }

@@ -2,7 +2,6 @@
 //! the lines at the end.
 #![tactic(auto)]
 
-mod cells;
 mod ending;
 mod fields;
 mod forms;

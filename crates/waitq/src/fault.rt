@@ -59,7 +59,8 @@ impl fmt::Display for WhyText {
             why::WORD_COUNT => write!(f, "word count"),
             why::BAD_NUMBER => write!(f, "bad number"),
             why::BAD_FORM => write!(f, "bad form"),
-            _ => write!(f, "bad condition"),
+            why::BAD_CONDITION => write!(f, "bad condition"),
+            _ => write!(f, "not built"),
         }
     }
 }

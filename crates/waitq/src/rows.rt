@@ -167,14 +167,14 @@ end\n",
     line: "",
 };
 
-pub const SIMPLE_WAKE_ON_A_FULL_QUEUE: Row = Row {
-    name: "simple_wake_on_a_full_queue",
+pub const NOT_BUILT_SWAKE: Row = Row {
+    name: "not_built_swake",
     script: "\
 waitq 1\n\
-call 1 swake c47 one\n",
+call 1 swake c48 one\n",
     status: 3,
     text: "",
-    line: "waitq: line 2: bad condition\n",
+    line: "waitq: line 2: not built\n",
 };
 
 pub const NO_HEADER: Row = Row {

@@ -4,7 +4,7 @@ ghost use Rattle.std.specs.Prelude.{◌≡◌};
 ghost use Rattle.wait_model.specs.Programs as spec;
 
 use crate::calls::{Answer, Call, Event};
-use crate::points::{AwaitPoint, FinishPoint, LeavePoint, Planned, Point, PreparePoint, Seen};
+use crate::points::{FinishPoint, LeavePoint, Planned, Point, PreparePoint, Seen};
 use crate::programs::{ends, ends_with, go, load};
 use crate::tasks::{RUNNING, pending_state, slept};
 
@@ -18,47 +18,6 @@ pub fn first_event(call: Call, seen: Seen) -> Planned
     }
 }
 
-/// Behind its lock: a wait in a state that admits signals looks for one first.
-pub fn prepares_from(call: Call) -> Point
-    ensures { result ≡ spec.prepares_from call }
-{
-    if call.state().looks() {
-        Point::Prepare(PreparePoint::Look)
-    } else {
-        Point::Prepare(PreparePoint::Queue)
-    }
-}
-
-/// Where a call goes that was signalled while it prepared.
-fn signalled_at(call: Call) -> Point
-    ensures { result ≡ spec.signalled_at call }
-{
-    match call {
-        Call::WaitFor { .. } => Point::Await(AwaitPoint::Run(true)),
-        _ => Point::Leave(LeavePoint::Queue),
-    }
-}
-
-/// Where a call goes that has prepared.
-fn prepared_at(call: Call) -> Point
-    ensures { result ≡ spec.prepared_at call }
-{
-    match call {
-        Call::WaitFor { .. } => Point::Sleep,
-        _ => Point::Test,
-    }
-}
-
-/// Where a call goes that has slept.
-pub fn slept_at(call: Call) -> Point
-    ensures { result ≡ spec.slept_at call }
-{
-    match call {
-        Call::WaitFor { .. } => Point::Await(AwaitPoint::Lock(true)),
-        _ => Point::Prepare(PreparePoint::Lock),
-    }
-}
-
 pub fn prepare_event(call: Call, point: PreparePoint, seen: Seen) -> Planned
     ensures { result ≡ spec.prepare_event call point seen }
 {
@@ -67,11 +26,18 @@ pub fn prepare_event(call: Call, point: PreparePoint, seen: Seen) -> Planned
         state: call.state().mask(),
     };
     match point {
-        PreparePoint::Lock => go(Event::Lock { head }, prepares_from(call)),
+        PreparePoint::Lock => {
+            let point = if call.state().looks() {
+                PreparePoint::Look
+            } else {
+                PreparePoint::Queue
+            };
+            go(Event::Lock { head }, Point::Prepare(point))
+        }
         PreparePoint::Look => {
             let yes = pending_state(call.state().mask(), seen.own);
             let point = if yes {
-                signalled_at(call)
+                Point::Leave(LeavePoint::Queue)
             } else {
                 Point::Prepare(PreparePoint::Queue)
             };
@@ -89,7 +55,7 @@ pub fn prepare_event(call: Call, point: PreparePoint, seen: Seen) -> Planned
             }
         }
         PreparePoint::State => go(state, Point::Prepare(PreparePoint::Unlock)),
-        PreparePoint::Unlock => go(Event::Unlock { head, spent: false }, prepared_at(call)),
+        PreparePoint::Unlock => go(Event::Unlock { head, spent: false }, Point::Test),
     }
 }
 

@@ -7,7 +7,7 @@ ghost use Rattle.wait_model.specs.Programs.{IsFitting, IsFittingWalk, IsFittingE
 use crate::calls::{Answer, Call, Event};
 use crate::points::{Planned, Point, Seen, WalkPoint};
 use crate::programs::{ends_with, go};
-use crate::queues::{Called, End, Mark, Walked, Walking};
+use crate::queues::{Called, End, Walked, Walking};
 use crate::tasks::woken;
 use crate::watches::Kind;
 
@@ -39,8 +39,6 @@ fn past(walk: Walking, called: Called, yes: bool) -> Walking
             walk.left
         },
         spent: selects && walk.left == 1,
-        calls: walk.calls + 1,
-        holds: walk.holds,
     }
 }
 
@@ -65,7 +63,7 @@ fn walk_ends(head: u16, walk: Walking, spent: bool) -> Planned
         Answer::Walk(Walked {
             selected: walk.selected,
             woken: walk.woken,
-            holds: walk.holds,
+            holds: 1,
             end,
         }),
     )
@@ -113,57 +111,6 @@ fn call_entry(walk: Walking, called: Called, yes: bool) -> Planned
     }
 }
 
-/// A walk in its next hold.
-fn again(walk: Walking) -> Walking
-    requires { IsFittingWalk walk }
-    ensures { result ≡ spec.again walk }
-{
-    Walking {
-        place: walk.place,
-        woken: walk.woken,
-        selected: walk.selected,
-        left: walk.left,
-        spent: walk.spent,
-        calls: 0,
-        holds: walk.holds + 1,
-    }
-}
-
-/// A walk that goes on where its bookmark stood.
-fn resumed(walk: Walking, mark: Option<Mark>) -> Walking
-    ensures { result ≡ spec.resumed walk mark }
-{
-    match mark {
-        None => walk,
-        Some(mark) => Walking {
-            place: mark.place,
-            woken: walk.woken,
-            selected: walk.selected,
-            left: walk.left,
-            spent: walk.spent,
-            calls: walk.calls,
-            holds: walk.holds,
-        },
-    }
-}
-
-/// A walk that has called enough entries in its hold breaks before a further member, else it calls the next
-/// entry, and ends behind the last.
-fn call_or_break(head: u16, walk: Walking, seen: Seen, yes: bool) -> Planned
-    requires walk { IsFittingWalk walk }
-    requires entry { IsFittingEntry seen.called }
-    ensures { result ≡ spec.call_or_break head walk seen yes }
-{
-    if seen.breaks {
-        let point = Point::Walk(WalkPoint::BreakUnlock(walk));
-        return go(Event::Mark { head }, point);
-    }
-    match seen.called {
-        None => walk_ends(head, walk, false),
-        Some(called) => call_entry(walk, called, yes),
-    }
-}
-
 pub fn walk_event(call: Call, point: WalkPoint, seen: Seen) -> Planned
     requires point { IsFitting (Point.Walk point) }
     requires entry { IsFittingEntry seen.called }
@@ -179,26 +126,15 @@ pub fn walk_event(call: Call, point: WalkPoint, seen: Seen) -> Planned
                 selected: 0,
                 left: call.count(),
                 spent: false,
-                calls: 0,
-                holds: 1,
             };
             go(Event::Lock { head }, Point::Walk(WalkPoint::Call(walk)))
         }
-        WalkPoint::Call(walk) => call_or_break(head, walk, seen, yes),
+        WalkPoint::Call(walk) => match seen.called {
+            None => walk_ends(head, walk, false),
+            Some(called) => call_entry(walk, called, yes),
+        },
         WalkPoint::Wake(walk, called) => wakes(walk, called, yes),
         WalkPoint::Unqueue(walk, who) => go(Event::Unqueue { who }, onward(walk)),
         WalkPoint::Spent(walk) => walk_ends(head, walk, true),
-        WalkPoint::BreakUnlock(walk) => go(
-            Event::Unlock { head, spent: false },
-            Point::Walk(WalkPoint::BreakLock(walk)),
-        ),
-        WalkPoint::BreakLock(walk) => go(
-            Event::Lock { head },
-            Point::Walk(WalkPoint::Unmark(again(walk))),
-        ),
-        WalkPoint::Unmark(walk) => go(
-            Event::Unmark { head },
-            Point::Walk(WalkPoint::Call(resumed(walk, seen.mark))),
-        ),
     }
 }

@@ -1,4 +1,4 @@
-use Rattle.std.proofs.Common.{rules, ◌≡◌, arith}
+use Rattle.std.proofs.Common.{rules, arith}
 use Rattle.wait_core.proofs.Bounds.{start_bounded}
 use Rattle.wait_core.proofs.engine.Core.new.Goals as goal
 

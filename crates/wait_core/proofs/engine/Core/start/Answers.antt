@@ -1,10 +1,9 @@
 use Rattle.std.proofs.Common.{◌<◌, arith}
 use Rattle.wait_model.specs.Runs.{state_of}
-use Rattle.wait_model.specs.Tasks.{task_count}
 use Rattle.wait_core.proofs.Kept.{sound}
 use Rattle.wait_core.proofs.Answered.{
   shown_in,
-  room_to_open,
+  room_left,
   queued_refused,
   lacking_refused,
   may_open,
@@ -15,22 +14,12 @@ use Rattle.wait_core.proofs.Bounds.{opened_bounded}
 use Rattle.wait_core.proofs.engine.Core.start.Goals as goal
 
 pub log-requires : goal.log-requires
-log-requires c =
-    let core = c.self.invariant.core in
-    let mine : c.args.task < task_count = omega arith in
-    let entry = c.entry_at-entry.ensures (state_of c.self.inside.run.items) _
-    (shown_in _ _ (state_of c.self.inside.run.items) c.deref.ensures.value core.shown)
-    (sound _ _ _ _ _ core) in
-    let may = may_open (state_of c.self.inside.run.items) c.args.task c.args.call _ entry _ _ _
-    c.is_in_range.ensures c.if-not-is_in_range.false c.is_queued_twice.ensures c.if-is_queued_twice.false
-    c.lacks_entry.ensures c.if-lacks_entry.false c.requires in
-    room_to_open _ _ _ _ _ core c.args.task mine _ c.from-slot.ensures _ c.index.ensures _
-    c.is_open_at.ensures c.if-is_open_at.false c.args.call may
+log-requires c = room_left _ _ _ _ _ c.self.invariant.core
 
 pub invariant_of-self : goal.invariant_of-self
 invariant_of-self c =
     let core = c.self.invariant.core in
-    let mine : c.args.task < task_count = omega arith in
+    let mine : c.args.task < 64 = omega arith in
     let entry = c.entry_at-entry.ensures (state_of c.self.inside.run.items) _
     (shown_in _ _ (state_of c.self.inside.run.items) c.deref.ensures.value core.shown)
     (sound _ _ _ _ _ core) in
@@ -48,7 +37,7 @@ invariant_of-self c =
 pub returns-clause-answer : goal.returns-clause-answer
 returns-clause-answer c =
     let core = c.self.invariant.core in
-    let mine : c.args.task < task_count = omega arith in
+    let mine : c.args.task < 64 = omega arith in
     let entry = c.entry_at-entry.ensures (state_of c.self.inside.run.items) _
     (shown_in _ _ (state_of c.self.inside.run.items) c.deref.ensures.value core.shown)
     (sound _ _ _ _ _ core) in
@@ -61,7 +50,7 @@ returns-clause-answer c =
 pub returns-then-is_queued_twice-clause-answer : goal.returns-then-is_queued_twice-clause-answer
 returns-then-is_queued_twice-clause-answer c =
     let core = c.self.invariant.core in
-    let mine : c.args.task < task_count = omega arith in
+    let mine : c.args.task < 64 = omega arith in
     let entry = c.entry_at-entry.ensures (state_of c.self.inside.run.items) _
     (shown_in _ _ (state_of c.self.inside.run.items) c.deref.ensures.value core.shown)
     (sound _ _ _ _ _ core) in
@@ -73,7 +62,7 @@ returns-then-is_queued_twice-clause-answer c =
 pub returns-then-lacks_entry-clause-answer : goal.returns-then-lacks_entry-clause-answer
 returns-then-lacks_entry-clause-answer c =
     let core = c.self.invariant.core in
-    let mine : c.args.task < task_count = omega arith in
+    let mine : c.args.task < 64 = omega arith in
     let entry = c.entry_at-entry.ensures (state_of c.self.inside.run.items) _
     (shown_in _ _ (state_of c.self.inside.run.items) c.deref.ensures.value core.shown)
     (sound _ _ _ _ _ core) in

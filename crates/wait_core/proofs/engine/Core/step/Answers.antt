@@ -25,7 +25,7 @@ use Rattle.wait_core.proofs.Answered.{
   plan_in_range,
 }
 use Rattle.wait_model.specs.Points.{given_at}
-use Rattle.wait_core.proofs.Bounds.{made_bounded, reach_in}
+use Rattle.wait_core.proofs.Bounds.{made_bounded}
 use Rattle.wait_core.proofs.engine.Core.step.Goals as goal
 
 pub returns-in_default : goal.returns-in_default
@@ -124,7 +124,7 @@ change_by-change-requires-clause-event c =
     plan_in_range _ _ _ _ _ core c.args.task c.requires c.in-Open.call c.in-Open.point stands _ is
 
 pub log-requires : goal.log-requires
-log-requires c = room_left _ _ _ _ _ c.self.invariant.core c.if-self-eq-EVENTS.false
+log-requires c = room_left _ _ _ _ _ c.self.invariant.core
 
 pub invariant_of-self : goal.invariant_of-self
 invariant_of-self c =

@@ -2,8 +2,11 @@
 # Measures the replay of a long script: instructions an event, and how time and memory grow with the
 # events.
 #
-# usage: bench/measure.sh [EVENTS]        (300000 if it isn't given; a script of a tenth is measured
-# beside it)
+# usage: bench/measure.sh [EVENTS]                                  (300000 if it isn't given)
+#        bench/measure.sh --heavy [CALLS [SEED]] [--no-bits]        (12000 and 1 if they aren't given)
+#
+# The first measures the script of make_script.py, the second that of make_heavy_script.py; a script of a
+# tenth is measured beside it.
 #
 # The instructions are counted by valgrind's callgrind, and are of the whole program: reading and
 # parsing the script, making the events, and writing the text to a file. Nothing here passes or fails.
@@ -11,7 +14,17 @@ set -eu
 
 root=$(cd "$(dirname "$(readlink -f "${BASH_SOURCE[0]}")")/.." && pwd)
 program=$root/crates/waitq/out/waitq
-many=${1:-300000}
+writer=$root/bench/make_script.py
+many=300000
+if [ "${1:-}" = --heavy ]; then
+    writer=$root/bench/make_heavy_script.py
+    many=12000
+    shift
+fi
+if [[ ${1:-} =~ ^[0-9]+$ ]]; then
+    many=$1
+    shift
+fi
 few=$((many / 10))
 
 if ! command -v valgrind >/dev/null; then
@@ -29,7 +42,7 @@ trap 'rm -rf "$work"' EXIT
 "$root/waitq" replay <"$root/examples/wait_set_wake.waitq" | cmp - "$root/examples/wait_set_wake.text"
 
 for size in few many; do
-    python3 "$root/bench/make_script.py" "${!size}" >"$work/$size.waitq"
+    python3 "$writer" "${!size}" "$@" >"$work/$size.waitq"
 done
 
 valgrind --tool=callgrind --callgrind-out-file="$work/callgrind.out" --log-file="$work/valgrind.log" \

@@ -32,6 +32,7 @@ use Rattle.wait_model.specs.declared.points.Planned.{Planned}
 use Rattle.wait_model.specs.declared.points.Point.{Point}
 use Rattle.wait_model.specs.declared.points.Point.TheVariants as at
 use Rattle.wait_model.specs.declared.points.WalkPoint.TheVariants as walking
+use Rattle.wait_model.specs.declared.points.SelectPoint.TheVariants as selecting
 use Rattle.wait_model.specs.declared.queues.Walking.{Walking}
 use Rattle.wait_model.specs.declared.watches.Entry.{Entry}
 use Rattle.wait_model.specs.declared.points.Progress.{Progress}
@@ -39,16 +40,23 @@ use Rattle.wait_model.specs.declared.points.Progress.TheVariants as now
 use Rattle.wait_model.specs.declared.calls.Ran.{Ran}
 use Rattle.wait_model.specs.declared.calls.Ran.TheVariants as ran
 use Rattle.wait_model.specs.Programs.{program_start}
-use Rattle.wait_model.specs.Points.{cond_of, given_at, IsNamed, IsReachable}
+use Rattle.wait_model.specs.Points.{call_watch, given_at, IsNamed, IsReachable}
+use Rattle.wait_model.specs.Watches.{IsThere}
 use Rattle.wait_model.specs.Programs.{IsFitting, IsFittingWalk}
-use Rattle.wait_model.specs.Admission.{is_in_range, is_queued_twice, lacks_entry, IsListed}
-use Rattle.wait_model.proofs.EveryRun.{admits_parts}
+use Rattle.wait_model.specs.declared.calls.Call.TheVariants as calls
+use Rattle.wait_model.specs.Admission.{is_in_range, lacks_bit, is_queued_twice, lacks_entry, IsListed}
+use Rattle.wait_model.specs.Queues.{break_count}
+use Rattle.wait_model.proofs.Functions.{both_left, both_right}
+use Rattle.wait_model.proofs.EveryRun.{admits_parts, state_after-push}
 use Rattle.wait_model.specs.Shown.{IsInRange}
 use Rattle.wait_model.specs.Locations.{Shows}
 use Rattle.wait_model.specs.Reached.{IsSoundCall, IsCallSound, IsCounted, Allows, Joins}
+use Rattle.wait_model.specs.Tasks.{task_count}
 use Rattle.wait_model.specs.Runs.{
   State,
+  start_state,
   after_event,
+  given_by,
   planned,
   progress_at,
   found_by,
@@ -66,6 +74,7 @@ use Rattle.wait_core.specs.Stepped.{stepped, tried, checked, started}
 use Rattle.wait_core.specs.declared.engine.StartFault.TheVariants as faults
 use Rattle.std.specs.declared.result.Result.TheVariants.{Ok, Err}
 use Rattle.wait_core.specs.Core.{IsCore, open_calls}
+use Rattle.wait_core.specs.Keepers.{ShowsKeepers, keeps_shown, kept_after}
 use Rattle.wait_core.proofs.Kept.{
   calls_few,
   MayOpen,
@@ -74,11 +83,13 @@ use Rattle.wait_core.proofs.Kept.{
   allowed,
   joins,
   made_core,
+  keepers_kept,
+  opened_room,
   opened_core,
 }
 
 -- what is read at a task's place
-pub read_progress : (points : List Progress) (me slot : ℕ) (r : Progress) → length points ≡ 64 → me < 64
+pub read_progress : (points : List Progress) (me slot : ℕ) (r : Progress) → length points ≡ task_count → me < task_count
     → slot ≡ me → r ≡ get_or points slot r → slice_get points me ≡ Some r
 read_progress points me slot r l inside same is =
     slice_get_read points (length points) me r refl (omega arith)
@@ -86,7 +97,7 @@ read_progress points me slot r l inside same is =
 
 -- the answers of a step
 module _ (words : List ℕ) (points : List Progress) (items : List Ran) (count capacity : ℕ)
-    (core : IsCore words points items count capacity) (me : ℕ) (mine : me < 64) (v : List Ran)
+    (core : IsCore words points items count capacity) (me : ℕ) (mine : me < task_count) (v : List Ran)
     (view : items ≡ v) where
   -- the run as callers see it
   told : (x : Stepped) → x ≡ stepped (state_of items) (made_in items) me ((state_of items).progress me)
@@ -175,7 +186,7 @@ module _ (words : List ℕ) (points : List Progress) (items : List Ran) (count c
 -- small steps between what the code read and what the state has
 pub opened_at : (words : List ℕ) (points : List Progress) (items : List Ran) (count capacity : ℕ)
     → IsCore words points items count capacity → (me slot : ℕ) (r : Progress) (call : Call) (p : Point)
-    → me < 64 → slot ≡ me → r ≡ get_or points slot r → r ≡ now.Open call p
+    → me < task_count → slot ≡ me → r ≡ get_or points slot r → r ≡ now.Open call p
     → slice_get points me ≡ Some (now.Open call p)
 opened_at words points items count capacity core me slot r call p mine same read is =
     read_progress points me slot r core.tasks mine same read ∙ ap (λ (x : Progress). Some x) is
@@ -198,67 +209,92 @@ running t u e h = subst (λ (x : Task). x.runnable ≡ true) e (turned t.runnabl
     turned false h = cc
 
 -- what a sound call says of its point's numbers
-pub call_limit : (n : ℕ) (call : Call) (p : Point) → IsSoundCall n (now.Open call p) → cond_of call < 64
-call_limit n call p k = k.cond
+pub call_limit : (n : ℕ) (call : Call) (p : Point) → IsSoundCall n (now.Open call p)
+    → IsThere (call_watch call)
+call_limit n call p k = k.watch
 
 pub call_reaches : (n : ℕ) (call : Call) (p : Point) → IsSoundCall n (now.Open call p) → IsReachable call p
 call_reaches n call p k = (k.who, named p k)
   where
     named : (p : Point) → IsCallSound n call p → IsNamed p
     named (at.Walk (walking.Wake w c)) k = k.walk.1
+    named (at.Walk (walking.Bit w c)) k = k.walk.1
     named p k = tt
 
 counted_fits : (n : ℕ) (w : Walking) → n ≤ 1000000 → IsCounted n w → IsFittingWalk w
 counted_fits n w few k = record {
   woken = (let l : w.woken ≤ n = k.woken in omega arith);
   selected = (let l : w.woken ≤ n = k.woken in let m : w.selected ≤ w.woken = k.selected in omega arith);
+  calls = (let l : w.calls ≤ break_count + 1 = k.calls in omega arith);
+  holds = (let l : w.holds ≤ n = k.holds in omega arith);
 }
 
 pub call_fits : (n : ℕ) (call : Call) (p : Point) → n ≤ 1000000 → IsSoundCall n (now.Open call p) → IsFitting p
 call_fits n call (at.Walk (walking.Call w)) few k = counted_fits n w few k.walk
+call_fits n call (at.Walk (walking.BreakLock w)) few k = counted_fits n w few k.walk
 call_fits n call (at.Walk (walking.Wake w c)) few k = (counted_fits n w few k.walk.0, k.walk.2)
+call_fits n call (at.Walk (walking.Bit w c)) few k = (counted_fits n w few k.walk.0, k.walk.2)
+call_fits n call (at.Select (selecting.Next j)) few k = let l : j ≤ n = k.walk in omega arith
 call_fits n call p few k = tt
 
 pub plan_in_range : (words : List ℕ) (points : List Progress) (items : List Ran) (count capacity : ℕ)
-    (core : IsCore words points items count capacity) (me : ℕ) (mine : me < 64) (call : Call) (p : Point)
+    (core : IsCore words points items count capacity) (me : ℕ) (mine : me < task_count) (call : Call) (p : Point)
     (stands : slice_get points me ≡ Some (now.Open call p))
-    → (plan : Planned) → plan ≡ planned (state_of items) me call p → IsInRange plan.event
-plan_in_range words points items count capacity core me mine call p stands plan is =
+    → ((state_of items).table.task me).runnable ≡ true → (plan : Planned) → plan ≡ planned (state_of items) me call p
+    → IsInRange plan.event
+plan_in_range words points items count capacity core me mine call p stands runs plan is =
     subst (λ (x : Planned). IsInRange x.event) (sym is)
     (allowed_in_range (state_of items) me (planned (state_of items) me call p).event
-    (allowed words points items count capacity core me mine call p stands))
+    (allowed words points items count capacity core me mine call p stands runs))
 
 pub room_left : (words : List ℕ) (points : List Progress) (items : List Ran) (count capacity : ℕ)
-    → IsCore words points items count capacity → length items < capacity
-room_left words points items count capacity core =
+    → IsCore words points items count capacity → (count ≡ 1000000 → ⊥) → length items < capacity
+room_left words points items count capacity core more =
     let r : length items ≤ 2 * count + open_calls points = core.room in
     let f : open_calls points ≤ length points = calls_few points in
-    let t : length points ≡ 64 = core.tasks in
-    let n : count ≤ 1000000 = core.few in
+    let t : length points ≡ task_count = core.tasks in
+    let n : count < 1000000 = (let m : count ≤ 1000000 = core.few in omega arith) in
     let k : 2000128 ≤ capacity = core.reserved in
     omega arith
 
 module _ (words : List ℕ) (points : List Progress) (items : List Ran) (count capacity : ℕ)
-    (core : IsCore words points items count capacity) (me : ℕ) (mine : me < 64) (call : Call) (p : Point)
-    (stands : slice_get points me ≡ Some (now.Open call p))
+    (core : IsCore words points items count capacity) (me : ℕ) (mine : me < task_count) (call : Call) (p : Point)
+    (stands : slice_get points me ≡ Some (now.Open call p)) (runs : ((state_of items).table.task me).runnable ≡ true)
     (plan : Planned) (is : plan ≡ planned (state_of items) me call p) where
   pub plan_allowed : Allows (state_of items) me plan.event
   plan_allowed = subst (λ (x : Planned). Allows (state_of items) me x.event) (sym is)
-      (allowed words points items count capacity core me mine call p stands)
+      (allowed words points items count capacity core me mine call p stands runs)
 
   pub plan_joins : Joins (given_at call p) plan.event
   plan_joins = subst (λ (x : Planned). Joins (given_at call p) x.event) (sym is)
-      (joins words points items count capacity core me mine call p stands)
+      (joins words points items count capacity core me mine call p stands runs)
+
+  -- who keeps each bit behind it, and the core behind what the code did
+  pub stepped_keepers : (keepers : List ℕ) → ShowsKeepers keepers (state_of items).table.view
+      → None ≡ busy_head (state_of items) plan.event → (found : ℕ) → (items' : List Ran)
+      → items' ≡ items ++ ran.Made me plan.event found ∷ [] → (keepers' : List ℕ)
+      → keepers' ≡ kept_after me plan.event keepers → ShowsKeepers keepers' (state_of items').table.view
+  stepped_keepers keepers shown free found items' grown keepers' noted =
+      subst (λ (w : List Ran). ShowsKeepers keepers' (state_of w).table.view) (sym grown)
+      (subst (λ (t : State). ShowsKeepers keepers' t.table.view)
+      (sym (state_after-push start_state items (ran.Made me plan.event found)))
+      (subst (λ (x : Progress). ShowsKeepers keepers'
+      (after_event (state_of items) me (given_by x) plan.event).table.view)
+      (sym (open_is words points items count capacity core me mine call p stands))
+      (subst (λ (k : List ℕ). ShowsKeepers k
+      (after_event (state_of items) me (given_at call p) plan.event).table.view) (sym noted)
+      (subst (λ (x : Planned). ShowsKeepers (kept_after me x.event keepers)
+      (after_event (state_of items) me (given_at call p) x.event).table.view) (sym is)
+      (keepers_kept words points items count capacity core me mine call p stands runs keepers shown
+      (sym (free ∙ ap (λ (y : Planned). busy_head (state_of items) y.event) is)))))))
 
   -- the core behind what the code did
   pub stepped_core : (found : ℕ) → found ≡ found_by (state_of items) me plan.event
-      → ((state_of items).table.task me).runnable ≡ true → None ≡ busy_head (state_of items) plan.event
-      → (count ≡ 1000000 → ⊥)
-      → (after : List ℕ) → Shows after (after_event (state_of items) me (given_at call p) plan.event).table
+      → None ≡ busy_head (state_of items) plan.event → (count ≡ 1000000 → ⊥) → (after : List ℕ) → Shows after (after_event (state_of items) me (given_at call p) plan.event).table
       → (x : Progress) → x ≡ progress_at call plan.next → (slot : ℕ) → slot ≡ me
       → (items' : List Ran) → items' ≡ items ++ ran.Made me plan.event found ∷ [] → (capacity' : ℕ)
       → capacity ≤ capacity' → IsCore after (slice_set points slot x) items' (count + 1) capacity'
-  stepped_core found was runs free few after shown x goes slot same items' grown capacity' more =
+  stepped_core found was free few after shown x goes slot same items' grown capacity' more =
       let fewer : count < 1000000 = let n : count ≤ 1000000 = core.few in omega arith in
       let k = made_core words points items count capacity core me mine call p stands found capacity' after x
       (was ∙ ap (λ (y : Planned). found_by (state_of items) me y.event) is) runs
@@ -276,45 +312,79 @@ grown_run items v items' me e found view was grown =
     grown ∙ ap (λ n. items ++ ran.Made me e n ∷ []) was
     ∙ ap (λ (w : List Ran). w ++ ran.Made me e (found_by (state_of w) me e) ∷ []) view
 
--- an opening that is refused for the own entry, by what the code read
+-- whether the task lacks the bit that it would clear, by the list of keepers
+pub lacks_shown : (s : State) (me : ℕ) (call : Call) (keepers : List ℕ) → ShowsKeepers keepers s.table.view
+    → me < task_count → is_in_range me call ≡ true
+    → lacks_bit call (keeps_shown keepers me call) ≡ lacks_bit call ((s.table.view me).bits.keeps (call_watch call))
+lacks_shown s me (calls.ClearBit w b) keepers shown mine fits =
+    let lw : w < 128 = grind (arith, nat_tests, both_left (nat_lt w 128) (nat_lt b 64) fits) in
+    let lb : b < 64 = grind (arith, nat_tests, both_right (nat_lt w 128) (nat_lt b 64) fits) in
+    ap not (sym (shown.each me w b mine lw lb))
+lacks_shown s me call keepers shown mine fits = refl
+
+-- an opening that is refused for a bit or for the own entry, by what the code read
 module _ (words : List ℕ) (points : List Progress) (items : List Ran) (count capacity : ℕ)
-    (core : IsCore words points items count capacity) (me : ℕ) (mine : me < 64) (slot : ℕ) (same : slot ≡ me)
+    (core : IsCore words points items count capacity) (me : ℕ) (mine : me < task_count) (slot : ℕ) (same : slot ≡ me)
     (r : Progress) (read : r ≡ get_or points slot r) (t : Bool) (test : t ≡ is_open r) (shut : t ≡ false)
     (call : Call) (v : List Ran) (view : items ≡ v) (fits : Bool) (fit : fits ≡ is_in_range me call)
-    (fitting : fits ≡ true) (entry : Option Entry) (is : entry ≡ (state_of items).table.entry (own me)) where
-  entry_checked : checked true (is_queued_twice call entry) (lacks_entry call entry) ≡ started (state_of v) me
-      call
-  entry_checked = subst (λ (w : List Ran). checked true (is_queued_twice call entry) (lacks_entry call entry)
-      ≡ started (state_of w) me call) view (sym (rw (within, closed_is, sym fit ∙ fitting, ← is) refl))
-    where
-      within : nat_lt me 64 ≡ true
-      within = grind (arith, nat_tests)
+    (fitting : fits ≡ true) (keepers : List ℕ) (shown : ShowsKeepers keepers (state_of items).table.view)
+    (keeps : Bool) (keep : keeps ≡ keeps_shown keepers me call) (loose : Bool) (lack : loose ≡ lacks_bit call keeps)
+  where
+    abbrev twice_in : Bool
+    twice_in = is_queued_twice call ((state_of items).table.entry (own me))
 
-      closed_is : is_open ((state_of items).progress me) ≡ false
-      closed_is =
-          let a : slice_get points me ≡ Some r = read_progress points me slot r core.tasks mine same read in
-          let b : Some ((state_of items).progress me) ≡ Some r = sym (core.progress me mine) ∙ a in
-          let d : (state_of items).progress me ≡ r = cc in
-          ap is_open d ∙ sym test ∙ shut
+    abbrev lacks_in : Bool
+    lacks_in = lacks_entry call ((state_of items).table.entry (own me))
 
-  pub queued_refused : (twice : Bool) → twice ≡ is_queued_twice call entry → twice ≡ true
-      → Err faults.EntryQueued ≡ started (state_of v) me call
-  queued_refused twice k y =
-      ap (λ b. checked true b (lacks_entry call entry)) (sym y ∙ k) ∙ entry_checked
+    bit_checked : checked true loose twice_in lacks_in ≡ started (state_of v) me call
+    bit_checked = subst (λ (w : List Ran). checked true loose twice_in lacks_in ≡ started (state_of w) me call) view
+        (sym (rw (within, closed_is, sym fit ∙ fitting) (ap (λ b. checked true b twice_in lacks_in) (sym loose_is))))
+      where
+        within : nat_lt me task_count ≡ true
+        within = grind (arith, nat_tests)
 
-  pub lacking_refused : (twice lacks : Bool) → twice ≡ is_queued_twice call entry → twice ≡ false
-      → lacks ≡ lacks_entry call entry → lacks ≡ true → Err faults.NoEntry ≡ started (state_of v) me call
-  lacking_refused twice lacks k n l y =
-      ap (λ b. checked true b true) (sym n ∙ k)
-      ∙ ap (λ b. checked true (is_queued_twice call entry) b) (sym y ∙ l) ∙ entry_checked
+        closed_is : is_open ((state_of items).progress me) ≡ false
+        closed_is =
+            let a : slice_get points me ≡ Some r = read_progress points me slot r core.tasks mine same read in
+            let b : Some ((state_of items).progress me) ≡ Some r = sym (core.progress me mine) ∙ a in
+            let d : (state_of items).progress me ≡ r = cc in
+            ap is_open d ∙ sym test ∙ shut
+
+        loose_is : loose ≡ lacks_bit call (((state_of items).table.view me).bits.keeps (call_watch call))
+        loose_is = lack ∙ ap (lacks_bit call) keep
+            ∙ lacks_shown (state_of items) me call keepers shown mine (sym fit ∙ fitting)
+
+    pub loose_refused : loose ≡ true → Err faults.NotHeld ≡ started (state_of v) me call
+    loose_refused y = ap (λ b. checked true b twice_in lacks_in) (sym y) ∙ bit_checked
+
+    module _ (held : loose ≡ false) (entry : Option Entry) (is : entry ≡ (state_of items).table.entry (own me)) where
+      entry_checked : checked true false (is_queued_twice call entry) (lacks_entry call entry) ≡ started (state_of v)
+          me call
+      entry_checked = ap (λ (o : Option Entry). checked true false (is_queued_twice call o) (lacks_entry call o)) is
+          ∙ ap (λ b. checked true b twice_in lacks_in) (sym held) ∙ bit_checked
+
+      pub queued_refused : (twice : Bool) → twice ≡ is_queued_twice call entry → twice ≡ true
+          → Err faults.EntryQueued ≡ started (state_of v) me call
+      queued_refused twice k y =
+          ap (λ b. checked true false b (lacks_entry call entry)) (sym y ∙ k) ∙ entry_checked
+
+      pub lacking_refused : (twice lacks : Bool) → twice ≡ is_queued_twice call entry → twice ≡ false
+          → lacks ≡ lacks_entry call entry → lacks ≡ true → Err faults.NoEntry ≡ started (state_of v) me call
+      lacking_refused twice lacks k n l y =
+          ap (λ b. checked true false b true) (sym n ∙ k)
+          ∙ ap (λ b. checked true false (is_queued_twice call entry) b) (sym y ∙ l) ∙ entry_checked
 
 -- what the code found lets the call be opened
-pub may_open : (s : State) (me : ℕ) (call : Call) (entry : Option Entry) → entry ≡ s.table.entry (own me)
-    → (a b d : Bool) → a ≡ is_in_range me call → a ≡ true → b ≡ is_queued_twice call entry → b ≡ false
-    → d ≡ lacks_entry call entry → d ≡ false → IsListed call → MayOpen s me call
-may_open s me call entry is a b d fits fit twice once lacks has listed = rw (
+pub may_open : (s : State) (me : ℕ) (call : Call) (keepers : List ℕ) → ShowsKeepers keepers s.table.view
+    → me < task_count → (entry : Option Entry) → entry ≡ s.table.entry (own me) → (keeps : Bool)
+    → keeps ≡ keeps_shown keepers me call → (a l b d : Bool) → a ≡ is_in_range me call → a ≡ true
+    → l ≡ lacks_bit call keeps → l ≡ false → b ≡ is_queued_twice call entry → b ≡ false → d ≡ lacks_entry call entry
+    → d ≡ false → IsListed call → MayOpen s me call
+may_open s me call keepers shown mine entry is keeps keep a l b d fits fit loose held twice once lacks has listed = rw (
   ← is,
   sym fits ∙ fit,
+  sym (lacks_shown s me call keepers shown mine (sym fits ∙ fit)) ∙ ap (lacks_bit call) (sym keep) ∙ sym loose
+      ∙ held,
   sym twice ∙ once,
   sym lacks ∙ has,
   listed,
@@ -322,7 +392,7 @@ may_open s me call entry is a b d fits fit twice once lacks has listed = rw (
 
 -- an opening, by what the code read
 module _ (words : List ℕ) (points : List Progress) (items : List Ran) (count capacity : ℕ)
-    (core : IsCore words points items count capacity) (me : ℕ) (mine : me < 64) (slot : ℕ) (same : slot ≡ me)
+    (core : IsCore words points items count capacity) (me : ℕ) (mine : me < task_count) (slot : ℕ) (same : slot ≡ me)
     (r : Progress) (read : r ≡ get_or points slot r) (t : Bool) (test : t ≡ is_open r) (no : t ≡ false)
     (call : Call) (may : MayOpen (state_of items) me call) where
   closed_is : is_open ((state_of items).progress me) ≡ false
@@ -332,6 +402,14 @@ module _ (words : List ℕ) (points : List Progress) (items : List Ran) (count c
       let d : (state_of items).progress me ≡ r = cc in
       ap is_open d ∙ sym test ∙ no
 
+  pub room_to_open : length items < capacity
+  room_to_open =
+      let r : length items < 2 * count + task_count =
+      opened_room words points items count capacity core me mine call closed_is may in
+      let n : count ≤ 1000000 = core.few in
+      let k : 2000128 ≤ capacity = core.reserved in
+      omega arith
+
   pub started_core : (p : Point) → p ≡ program_start call → (items' : List Ran) → items' ≡ items
       ++ ran.Opened me call ∷ [] → (capacity' : ℕ) → capacity ≤ capacity'
       → IsCore words (slice_set points slot (now.Open call p)) items' count capacity'
@@ -339,9 +417,23 @@ module _ (words : List ℕ) (points : List Progress) (items : List Ran) (count c
       rw (same, begins, grown) (opened_core words points items count capacity core me mine call closed_is
       may capacity' more)
 
+  pub started_keepers : (keepers : List ℕ) → ShowsKeepers keepers (state_of items).table.view → (items' : List Ran)
+      → items' ≡ items ++ ran.Opened me call ∷ [] → ShowsKeepers keepers (state_of items').table.view
+  started_keepers keepers shown items' grown =
+      subst (λ (w : List Ran). ShowsKeepers keepers (state_of w).table.view) (sym grown)
+      (subst (λ (t : State). ShowsKeepers keepers t.table.view)
+      (sym (state_after-push start_state items (ran.Opened me call))) shown)
+
   pub started_ok : (v : List Ran) → items ≡ v → Ok tt ≡ started (state_of v) me call
   started_ok v view = subst (λ (w : List Ran). Ok tt ≡ started (state_of w) me call) view
-      (sym (rw (within, closed_is, (admits_parts me call _ may).0, (admits_parts me call _ may).1, (admits_parts me call _ may).2) refl))
+      (sym (rw (
+        within,
+        closed_is,
+        (admits_parts me call _ _ may).0,
+        (admits_parts me call _ _ may).4,
+        (admits_parts me call _ _ may).1,
+        (admits_parts me call _ _ may).2,
+      ) refl))
     where
-      within : nat_lt me 64 ≡ true
+      within : nat_lt me task_count ≡ true
       within = grind (arith, nat_tests)

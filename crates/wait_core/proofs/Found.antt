@@ -1,23 +1,59 @@
 -- What the scan finds is the queue's member, and what the words show is what the task sees.
-use Rattle.std.specs.Prelude.{◌≡◌, ℕ, ◌+◌, ◌-◌, ◌*◌, Bool, true, false, ◌&&◌, nat_lt, nat_le, ◌^◌, ◌<◌, ◌≤◌, ◌==◌, List, slice_index, IfSome, Option, Some, None}
+use Rattle.std.specs.Prelude.{◌≡◌, ℕ, ◌+◌, ◌-◌, ◌*◌, Bool, true, false, ◌&&◌, nat_lt, nat_le, ◌^◌, ◌<◌, ◌≤◌, ◌==◌, if◌then◌else◌, min, List, slice_index, IfSome, Option, Some, None}
 use Rattle.std.proofs.Common.{refl, arith, ap, sym, ◌∙◌, subst}
 use Rattle.wait_model.specs.declared.watches.Entry.{Entry}
 use Rattle.wait_model.specs.declared.queues.Member.{Member}
-use Rattle.wait_model.specs.Tasks.{task_word, task_of}
-use Rattle.wait_model.specs.Watches.{head_of}
+use Rattle.wait_model.specs.Tasks.{task_count, task_word, task_of}
+use Rattle.wait_model.specs.Watches.{head_of, IsThere, number_of}
 use Rattle.wait_model.specs.Words.{entry_word, entry_of, head_word, held_of, spent_of, flag_word, flag_of}
-use Rattle.wait_model.specs.Queues.{places, member_from, last_within, IsIn}
-use Rattle.wait_model.specs.Runs.{State, own}
-use Rattle.wait_model.specs.Reached.{first_of, IsSound, IsQueued, IsMember}
-use Rattle.wait_model.specs.Locations.{Shows, Task as TaskWord, Entry as EntryWord, Flag as FlagWord, Head, Plain}
-use Rattle.wait_model.specs.Tables.{Table}
-use Rattle.wait_model.proofs.Decoded.{task_read, held_read, spent_read, flag_read_back}
+use Rattle.wait_model.specs.declared.queues.Mark.{Mark}
+use Rattle.wait_model.specs.Tables.{mark_of}
+use Rattle.wait_model.specs.Queues.{
+  places,
+  entry_count,
+  stand_by,
+  stand_of,
+  is_entry,
+  rank,
+  rank_at,
+  first_from,
+  member_from,
+  entry_from,
+  last_within,
+  IsIn,
+}
+use Rattle.wait_model.specs.Runs.{State}
+use Rattle.wait_model.specs.Reached.{IsSound, IsBookmark, IsInside, IsNear}
+use Rattle.wait_model.specs.Locations.{
+  Shows,
+  Task as TaskWord,
+  Entry as EntryWord,
+  Bookmark as BookmarkWord,
+  Flag as FlagWord,
+  Head,
+  cond_at,
+  word_in,
+  mark_word,
+}
+use Rattle.wait_model.specs.declared.watches.Watch.{Watch}
+use Rattle.wait_model.specs.Tables.{Table, value_of}
+use Rattle.wait_model.proofs.Decoded.{task_read, held_read, spent_read, flag_read_back, mark_read, no_mark_read}
+use Rattle.wait_model.proofs.Conditions.{cond_located, cond_position, number_below, number_value}
 use Rattle.wait_model.proofs.Linked.{queued_read}
-use Rattle.wait_model.proofs.QueueOrder.{IsFirstFrom, first_from, one_first}
+use Rattle.wait_model.proofs.QueueOrder.{IsFirstFrom, first_is, one_first}
 use Rattle.wait_model.proofs.QueueEnds.{IsLastWithin, last_of, one_last}
 use Rattle.std.proofs.lemmas.Bool.Decides.{nat_tests}
 use Rattle.wait_core.specs.declared.scan.Span.{Span}
-use Rattle.wait_core.specs.Scan.{counts, prefers, IsPick, IsPicked, shown_entry}
+use Rattle.wait_core.specs.Scan.{
+  member_of,
+  counts,
+  prefers,
+  IsPick,
+  IsPicked,
+  shown_entry,
+  shown_mark,
+  shown_stand,
+}
 
 -- what stands at a location of each class
 pub entry_word_is : (words : List ℕ) (t : Table) (x : ℕ) → Shows words t → x < 256
@@ -38,150 +74,257 @@ pub spent_word_is : (words : List ℕ) (t : Table) (h : ℕ) → Shows words t �
 spent_word_is words t h shown inside = ap spent_of (head_word_is words t h shown inside)
     ∙ spent_read (t.holder h) (t.spent h)
 
-pub plain_word_is : (words : List ℕ) (t : Table) (c : ℕ) → Shows words t → c < 64
-    → slice_index words (1153 + c) ≡ t.words.plains c
-plain_word_is words t c shown inside = shown.each (Plain c) inside
+pub cond_word_is : (words : List ℕ) (t : Table) (c : ℕ) → Shows words t → c < 384
+    → slice_index words (1153 + c) ≡ word_in t (cond_at c)
+cond_word_is words t c shown inside = ap (slice_index words) (sym (cond_position c inside))
+    ∙ shown.each (cond_at c) (cond_located c inside)
+
+pub number_small : (c : Watch) → IsThere c → number_of c < 384
+number_small c there = number_below c there
+
+pub value_is : (words : List ℕ) (t : Table) (c : Watch) → Shows words t → IsThere c
+    → slice_index words (1153 + number_of c) ≡ value_of t.words c
+value_is words t c shown there = cond_word_is words t (number_of c) shown (number_below c there)
+    ∙ number_value t c there
 
 module _ (words : List ℕ) (s : State) (n : ℕ) (shown : Shows words s.table) (sound : IsSound s n) where
   -- each entry word shows the entry
   pub entry_shown_is : (x : ℕ) → x < 256 → shown_entry words x ≡ s.table.entry x
   entry_shown_is x inside = ap entry_of (shown.each (EntryWord x) inside)
-      ∙ queued_read s.table.entry s.queue n sound.linked x
+      ∙ queued_read s.table.entry s.table.mark s.queue n sound.linked x
 
-  member_shown : (h : ℕ) (m : Member) → IsIn m (s.queue h) → (e : Entry) × (m.at < 128)
-      × (shown_entry words m.at ≡ Some e) × (e.place ≡ m.place) × (head_of e.watch ≡ h)
+  -- the words show what stands
+  pub mark_shown_is : (t : ℕ) → t < task_count → shown_mark words t ≡ s.table.mark t
+  mark_shown_is t inside = ap mark_of (shown.each (BookmarkWord t) inside) ∙ read (s.table.mark t) refl
+    where
+      read : (o : Option Mark) → s.table.mark t ≡ o → mark_of (mark_word o) ≡ o
+      read None is = no_mark_read
+      read (Some k) is =
+          let b : IsBookmark t k = sound.linked.marks t k is in
+          let h : k.head < 384 = b.head in
+          mark_read k (omega arith) b.place
+
+  abbrev stands : ℕ → Option Mark
+  stands = stand_of s.table.entry s.table.mark
+
+  stand_shown_is : (x : ℕ) → x < 384 → shown_stand words x ≡ stands x
+  stand_shown_is x inside = by (nat_lt x entry_count) refl
+    where
+      by : (b : Bool) → nat_lt x entry_count ≡ b
+          → (if b then stand_by (shown_entry words x) else shown_mark words (x - entry_count))
+          ≡ (if b then stand_by (s.table.entry x) else s.table.mark (x - entry_count))
+      by true h = ap stand_by (entry_shown_is x (grind (arith, nat_tests)))
+      by false h = mark_shown_is (x - entry_count) (let u : entry_count ≤ x = grind (arith, nat_tests) in
+          omega arith)
+
+  -- no member has a number from 384 on
+  member_number : (x : ℕ) (k : Mark) → stands x ≡ Some k → x < 384
+  member_number x k is = by (nat_lt x entry_count) refl is
+    where
+      by : (b : Bool) → nat_lt x entry_count ≡ b
+          → (if b then stand_by (s.table.entry x) else s.table.mark (x - entry_count)) ≡ Some k → x < 384
+      by true h q = let u : x < entry_count = grind (arith, nat_tests) in omega arith
+      by false h q =
+          let b : IsBookmark (x - entry_count) k = sound.linked.marks (x - entry_count) k q in
+          let u : x - entry_count < task_count = b.number in
+          omega arith
+
+  abbrev there : ℕ → Member → Mark
+  there h m = record { head = h; place = m.place }
+
+  member_shown : (h : ℕ) (m : Member) → IsIn m (s.queue h) → (m.at < 384)
+      × (shown_stand words m.at ≡ Some (there h m))
   member_shown h m i =
-      let k : IsMember s.table.entry h m = sound.linked.members h m i in
-      let q : IsQueued s.queue n m.at k.entry = sound.linked.entries m.at k.entry k.stands in
-      let number : q.task < 64 = q.number in
-      let is : m.at ≡ own q.task = q.is_own in
-      (k.entry, omega arith, entry_shown_is m.at (omega arith) ∙ k.stands, k.place, k.head)
+      let is : stands m.at ≡ Some (there h m) = sound.linked.ordered.members h m i in
+      let small : m.at < 384 = member_number m.at (there h m) is in
+      (small, stand_shown_is m.at small ∙ is)
 
   -- a member that a scan looks at, and one that it picked
-  counted_of : (span : Span) (e : Entry) → counts span e ≡ true → (head_of e.watch ≡ span.head)
-      × (span.low ≤ e.place) × (e.place < span.high)
-  counted_of span e = by (head_of e.watch == span.head) (nat_le span.low e.place) (nat_lt e.place span.high) refl
-      refl refl
+  counted_of : (span : Span) (x : ℕ) (k : Mark) → counts span x k ≡ true → (k.head ≡ span.head)
+      × (span.low ≤ rank (member_of x k)) × (rank (member_of x k) < span.high)
+  counted_of span x k = by (k.head == span.head) (nat_le span.low (rank (member_of x k)))
+      (nat_lt (rank (member_of x k)) span.high) refl refl refl
     where
-      by : (a b c : Bool) → (head_of e.watch == span.head) ≡ a → nat_le span.low e.place ≡ b
-          → nat_lt e.place span.high ≡ c → (a && (b && c)) ≡ true → (head_of e.watch ≡ span.head)
-          × (span.low ≤ e.place) × (e.place < span.high)
+      by : (a b c : Bool) → (k.head == span.head) ≡ a → nat_le span.low (rank (member_of x k)) ≡ b
+          → nat_lt (rank (member_of x k)) span.high ≡ c → (a && (b && c)) ≡ true → (k.head ≡ span.head)
+          × (span.low ≤ rank (member_of x k)) × (rank (member_of x k) < span.high)
       by true true true p q r h = (grind (arith, nat_tests), grind (arith, nat_tests), grind (arith, nat_tests))
       by true true false p q r h = absurd (cc)
       by true false c p q r h = absurd (cc)
       by false b c p q r h = absurd (cc)
 
-  counts_is : (span : Span) (e : Entry) → head_of e.watch ≡ span.head → span.low ≤ e.place
-      → e.place < span.high → counts span e ≡ true
-  counts_is span e h l u =
-      let a : (head_of e.watch == span.head) ≡ true = grind (arith, nat_tests) in
-      let b : nat_le span.low e.place ≡ true = grind (arith, nat_tests) in
-      let c : nat_lt e.place span.high ≡ true = grind (arith, nat_tests) in
+  counts_is : (span : Span) (m : Member) → span.low ≤ rank m → rank m < span.high
+      → counts span m.at (there span.head m) ≡ true
+  counts_is span m l u =
+      let a : (span.head == span.head) ≡ true = grind (arith, nat_tests) in
+      let b : nat_le span.low (rank m) ≡ true = grind (arith, nat_tests) in
+      let c : nat_lt (rank m) span.high ≡ true = grind (arith, nat_tests) in
       rw (a, b, c) refl
 
-  pick_in : (span : Span) (b : Member) (h : IsPick (shown_entry words) 128 span b) → IsIn b (s.queue span.head)
-      × (span.low ≤ b.place) × (b.place < span.high)
-  pick_in span b h =
-      let inside : b.at < 128 = h.inside in
-      let is : s.table.entry b.at ≡ Some h.entry = sym (entry_shown_is b.at (omega arith)) ∙ h.stands in
-      let q : IsQueued s.queue n b.at h.entry = sound.linked.entries b.at h.entry is in
-      let c = counted_of span h.entry h.counted in
-      let p : h.entry.place ≡ b.place = h.place in (
-        subst (λ (j : ℕ). IsIn b (s.queue j)) c.0
-            (subst (λ (p : ℕ). IsIn (record { at = b.at; place = p }) (s.queue (head_of h.entry.watch)))
-            h.place q.inside),
-        omega (arith, c.1),
-        omega (arith, c.2),
-      )
+  module _ (count : ℕ) (few : count ≤ 384) where
+    pick_in : (span : Span) (b : Member) (h : IsPick (shown_stand words) count span b)
+        → IsIn b (s.queue span.head) × (span.low ≤ rank b) × (rank b < span.high)
+    pick_in span b h =
+        let inside : b.at < count = h.inside in
+        let is : stands b.at ≡ Some h.stand = sym (stand_shown_is b.at (omega arith)) ∙ h.stands in
+        let q : IsInside s.queue n b.at h.stand = sound.linked.ordered.inside b.at h.stand is in
+        let c = counted_of span b.at h.stand h.counted in
+        let p : h.stand.place ≡ b.place = h.place in (
+          subst (λ (j : ℕ). IsIn b (s.queue j)) c.0
+              (subst (λ (p : ℕ). IsIn (record { at = b.at; place = p }) (s.queue h.stand.head)) h.place
+              q.inside),
+          omega (arith, c.1),
+          omega (arith, c.2),
+        )
 
-  picked_best : (span : Span) (b m : Member) → IsPick (shown_entry words) 128 span b → IsIn m (s.queue span.head)
-      → span.low ≤ m.place → m.place < span.high → prefers span m.place b.place ≡ false
-  picked_best span b m h i l u =
-      let k = member_shown span.head m i in
-      let same : k.0.place ≡ m.place = k.3 in
-      subst (λ (p : ℕ). prefers span p b.place ≡ false) same
-      (h.best m.at k.0 k.1 k.2 (counts_is span k.0 k.4 (omega arith) (omega arith)))
+    picked_best : (span : Span) (b m : Member) → IsPick (shown_stand words) count span b
+        → IsIn m (s.queue span.head) → m.at < count → span.low ≤ rank m → rank m < span.high
+        → prefers span (rank m) (rank b) ≡ false
+    picked_best span b m h i small l u =
+        let k = member_shown span.head m i in
+        h.best m.at (there span.head m) small k.1 (counts_is span m l u)
 
-  picked_none : (span : Span) (m : Member) → IsPicked (shown_entry words) 128 span None
-      → IsIn m (s.queue span.head) → span.low ≤ m.place → m.place < span.high → ⊥
-  picked_none span m h i l u =
-      let k = member_shown span.head m i in
-      let same : k.0.place ≡ m.place = k.3 in
-      let never : counts span k.0 ≡ false = h m.at k.0 k.1 k.2 in
-      let is_counted : counts span k.0 ≡ true = counts_is span k.0 k.4 (omega arith) (omega arith) in
-      let z : true ≡ false = sym is_counted ∙ never in cc
-
-  -- every place is below the end of the places
-  below_end : (h : ℕ) (m : Member) → IsIn m (s.queue h) → m.place < places
-  below_end h m i =
-      let k : IsMember s.table.entry h m = sound.linked.members h m i in
-      let q : IsQueued s.queue n m.at k.entry = sound.linked.entries m.at k.entry k.stands in
-      let fits : k.entry.place < 2 ^ 40 = q.lawful.place in
-      let same : k.entry.place ≡ m.place = k.place in
-      omega arith
-
-  abbrev first_span : ℕ → ℕ → Span
-  first_span head least = record { head = head; low = least; high = places; last = false }
-
-  abbrev last_span : ℕ → ℕ → ℕ → Span
-  last_span head low high = record { head = head; low = low; high = high; last = true }
-
-  first_shown : (head least : ℕ) (r : Option Member) → IsPicked (shown_entry words) 128 (first_span head least) r
-      → IsFirstFrom least (s.queue head) r
-  first_shown head least None h = λ m i.
-      let never : (least ≤ m.place) → ⊥ = λ l. picked_none (first_span head least) m h i l (below_end head m i) in omega arith
-  first_shown head least (Some b) h =
-      let p = pick_in (first_span head least) b h in (
-        p.0,
-        p.1,
-        λ m i l.
-            let never : nat_lt m.place b.place ≡ false = picked_best (first_span head least) b m h i l (below_end head m i) in
-            grind (arith, nat_tests),
-      )
-
-  pub first_found : (head least : ℕ) (r : Option Member) → IsPicked (shown_entry words) 128
-      (record { head = head; low = least; high = places; last = false }) r → r ≡ member_from least (s.queue head)
-  first_found head least r h = one_first least (s.queue head) r (member_from least (s.queue head))
-      (sound.linked.order head) (first_shown head least r h)
-      (first_from least (s.queue head) (sound.linked.order head))
-
-  last_shown : (head low high : ℕ) (r : Option Member) → IsPicked (shown_entry words) 128
-      (record { head = head; low = low; high = high; last = true }) r → IsLastWithin low high (s.queue head) r
-  last_shown head low high None h = λ m i l u. picked_none (last_span head low high) m h i l u
-  last_shown head low high (Some b) h =
-      let p = pick_in (last_span head low high) b h in (
-        p.0,
-        p.1,
-        p.2,
-        λ m i l u.
-            let never : nat_lt b.place m.place ≡ false = picked_best (last_span head low high) b m h i l u in grind (arith, nat_tests),
-      )
-
-  pub last_found : (head low high : ℕ) (r : Option Member) → IsPicked (shown_entry words) 128
-      (record { head = head; low = low; high = high; last = true }) r
-      → r ≡ last_within low high (s.queue head)
-  last_found head low high r h = one_last low high (s.queue head) r (last_within low high (s.queue head))
-      (sound.linked.order head) (last_shown head low high r h)
-      (last_of low high (s.queue head) (sound.linked.order head))
+    picked_none : (span : Span) (m : Member) → IsPicked (shown_stand words) count span None
+        → IsIn m (s.queue span.head) → m.at < count → span.low ≤ rank m → rank m < span.high → ⊥
+    picked_none span m h i small l u =
+        let k = member_shown span.head m i in
+        let never : counts span m.at (there span.head m) ≡ false = h m.at (there span.head m) small k.1 in
+        let is_counted : counts span m.at (there span.head m) ≡ true = counts_is span m l u in
+        let z : true ≡ false = sym is_counted ∙ never in cc
 
   -- a member stands far from the end of the places
   pub last_room : (h : ℕ) (m : Member) → IsIn m (s.queue h) → m.place < 2 ^ 40 - 3
   last_room h m i =
-      let k : IsMember s.table.entry h m = sound.linked.members h m i in
-      let q : IsQueued s.queue n m.at k.entry = sound.linked.entries m.at k.entry k.stands in
-      let below : k.entry.place ≤ first_of k.entry.priority + 2 * n = q.below in
-      let same : k.entry.place ≡ m.place = k.place in
+      let is : stands m.at ≡ Some (there h m) = sound.linked.ordered.members h m i in
       let few : n ≤ 1000000 = sound.few in
-      by k.entry.priority (omega arith)
+      by (sound.linked.ordered.inside m.at (there h m) is).near few
     where
-      by : (b : Bool) → m.place ≤ first_of b + 2000000 → m.place < 2 ^ 40 - 3
-      by true l = omega arith
-      by false l = omega arith
+      by : IsNear n m.place → n ≤ 1000000 → m.place < 2 ^ 40 - 3
+      by (true, low, high) few = omega (arith, high, few)
+      by (false, low, high) few = omega (arith, high, few)
+
+  -- every rank is below that of the end of the places
+  pub below_end : (h : ℕ) (m : Member) → IsIn m (s.queue h) → rank m < rank_at places
+  below_end h m i =
+      let p : m.place < 2 ^ 40 - 3 = last_room h m i in
+      let k : m.at < 384 = (member_shown h m i).0 in
+      omega arith
+
+  abbrev first_span : ℕ → ℕ → Span
+  first_span head least = record { head = head; low = least; high = rank_at places; last = false }
+
+  abbrev last_span : ℕ → ℕ → ℕ → Span
+  last_span head low high = record { head = head; low = rank_at low; high = rank_at high; last = true }
+
+  -- the first member from a rank on, of those below a number
+  module _ (test : Member → Bool) (count : ℕ) (few : count ≤ 384)
+      (tells : (m : Member) → m.at < 384 → (test m ≡ true → m.at < count) × (m.at < count → test m ≡ true)) where
+    first_shown : (head least : ℕ) (r : Option Member)
+        → IsPicked (shown_stand words) count (first_span head least) r
+        → IsFirstFrom test least (s.queue head) r
+    first_shown head least None h = λ m i t.
+        let small : m.at < count = (tells m (member_shown head m i).0).0 t in
+        let never : (least ≤ rank m) → ⊥ = λ l. picked_none count few (first_span head least) m h i small l
+        (below_end head m i) in omega arith
+    first_shown head least (Some b) h =
+        let p = pick_in count few (first_span head least) b h in (
+          p.0,
+          (tells b (member_shown head b p.0).0).1 h.inside,
+          p.1,
+          λ m i t l.
+              let small : m.at < count = (tells m (member_shown head m i).0).0 t in
+              let never : nat_lt (rank m) (rank b) ≡ false = picked_best count few (first_span head least) b m h i
+              small l (below_end head m i) in
+              grind (arith, nat_tests),
+        )
+
+    first_as : (head least : ℕ) (r : Option Member)
+        → IsPicked (shown_stand words) count (first_span head least) r → r ≡ first_from test least (s.queue head)
+    first_as head least r h = one_first test least (s.queue head) r (first_from test least (s.queue head))
+        (sound.linked.ordered.order head) (first_shown head least r h)
+        (first_is test least (s.queue head) (sound.linked.ordered.order head))
+
+    -- a place from 2^40 on has no members behind it
+    first_low : (head place least : ℕ) (r : Option Member) → least ≡ 512 * min place (2 ^ 40)
+        → IsFirstFrom test least (s.queue head) r → IsFirstFrom test (rank_at place) (s.queue head) r
+    first_low head place least None is h = λ m i t.
+        let low : rank m < least = h m i t in
+        omega (arith, is)
+    first_low head place least (Some b) is h =
+        let low : least ≤ rank b = h.2 in
+        let high : rank b < rank_at places = below_end head b h.0 in (
+          h.0,
+          h.1,
+          omega (arith, is),
+          λ m i t l. h.3 m i t (omega (arith, is)),
+        )
+
+    first_placed : (head place least : ℕ) (r : Option Member) → least ≡ 512 * min place (2 ^ 40)
+        → IsPicked (shown_stand words) count (first_span head least) r
+        → r ≡ first_from test (rank_at place) (s.queue head)
+    first_placed head place least r is h = one_first test (rank_at place) (s.queue head) r
+        (first_from test (rank_at place) (s.queue head)) (sound.linked.ordered.order head)
+        (first_low head place least r is (first_shown head least r h))
+        (first_is test (rank_at place) (s.queue head) (sound.linked.ordered.order head))
+
+  any_number : (m : Member) → m.at < 384 → (true ≡ true → m.at < 384) × (m.at < 384 → true ≡ true)
+  any_number m small = (λ _. small, λ _. refl)
+
+  entry_number : (m : Member) → m.at < 384 → (is_entry m ≡ true → m.at < 256) × (m.at < 256 → is_entry m ≡ true)
+  entry_number m small = (λ t. grind (arith, nat_tests), λ l. grind (arith, nat_tests))
+
+  pub first_found : (head least : ℕ) (r : Option Member) → IsPicked (shown_stand words) 384
+      (record { head = head; low = least; high = rank_at (2 ^ 40); last = false }) r
+      → r ≡ member_from least (s.queue head)
+  first_found head least r h = first_as (λ _. true) 384 (omega arith) any_number head least r h
+
+  pub member_placed : (head place least : ℕ) (r : Option Member) → least ≡ 512 * min place (2 ^ 40)
+      → IsPicked (shown_stand words) 384
+      (record { head = head; low = least; high = rank_at (2 ^ 40); last = false }) r
+      → r ≡ member_from (rank_at place) (s.queue head)
+  member_placed head place least r is h = first_placed (λ _. true) 384 (omega arith) any_number head place least r
+      is h
+
+  pub entry_found : (head least : ℕ) (r : Option Member) → IsPicked (shown_stand words) 256
+      (record { head = head; low = least; high = rank_at (2 ^ 40); last = false }) r
+      → r ≡ entry_from least (s.queue head)
+  entry_found head least r h = first_as is_entry 256 (omega arith) entry_number head least r h
+
+  -- whoever stands within places has a rank within theirs
+  within_ranks : (head low high : ℕ) (m : Member) → IsIn m (s.queue head) → low ≤ m.place → m.place < high
+      → (rank_at low ≤ rank m) × (rank m < rank_at high)
+  within_ranks head low high m i l u =
+      let k : m.at < 384 = (member_shown head m i).0 in
+      (omega arith, omega arith)
+
+  last_shown : (head low high : ℕ) (r : Option Member) → IsPicked (shown_stand words) 384
+      (last_span head low high) r → IsLastWithin low high (s.queue head) r
+  last_shown head low high None h = λ m i l u.
+      let w = within_ranks head low high m i l u in
+      picked_none 384 (omega arith) (last_span head low high) m h i (member_shown head m i).0 w.0 w.1
+  last_shown head low high (Some b) h =
+      let p = pick_in 384 (omega arith) (last_span head low high) b h in
+      let k : b.at < 384 = (member_shown head b p.0).0 in (
+        p.0,
+        omega (arith, p.1),
+        omega (arith, p.2),
+        λ m i l u.
+            let w = within_ranks head low high m i l u in
+            let never : nat_lt (rank b) (rank m) ≡ false = picked_best 384 (omega arith)
+            (last_span head low high) b m h i (member_shown head m i).0 w.0 w.1 in grind (arith, nat_tests),
+      )
+
+  pub last_found : (head low high : ℕ) (r : Option Member) → IsPicked (shown_stand words) 384
+      (record { head = head; low = 512 * low; high = 512 * high; last = true }) r
+      → r ≡ last_within low high (s.queue head)
+  last_found head low high r h = one_last low high (s.queue head) r (last_within low high (s.queue head))
+      (sound.linked.ordered.order head) (last_shown head low high r h)
+      (last_of low high (s.queue head) (sound.linked.ordered.order head))
 
   pub last_small : (h low high : ℕ) (r : Option Member) → r ≡ last_within low high (s.queue h)
       → IfSome r (λ m. m.place < 2 ^ 40 - 3)
   last_small h low high r is = subst (λ (o : Option Member). IfSome o (λ m. m.place < 2 ^ 40 - 3)) (sym is)
-      (small (last_within low high (s.queue h)) (last_of low high (s.queue h) (sound.linked.order h)))
+      (small (last_within low high (s.queue h)) (last_of low high (s.queue h) (sound.linked.ordered.order h)))
     where
       small : (o : Option Member) → IsLastWithin low high (s.queue h) o → IfSome o (λ m. m.place < 2 ^ 40 - 3)
       small None l = tt
@@ -210,20 +353,50 @@ unfolding entry_of
 entry_small w None h = tt
 entry_small w (Some e) h = grind arith
 
-pub pick_fits : (words : List ℕ) (span : Span) (r : Option Member) → IsPicked (shown_entry words) 128 span r
-    → IfSome r (λ m. (m.at < 128) × (span.low ≤ m.place) × (m.place < 2 ^ 40))
-pick_fits words span None h = tt
-pick_fits words span (Some b) h = (
-  h.inside,
-  (let c = low_of span h.entry h.counted in let same : h.entry.place ≡ b.place = h.place in omega arith),
-  (let small : h.entry.place < 2 ^ 40 = entry_small (slice_index words (129 + b.at)) (Some h.entry)
-      (sym h.stands) in let same : h.entry.place ≡ b.place = h.place in omega arith),
-)
+pub mark_small : (w : ℕ) (o : Option Mark) → o ≡ mark_of w → IfSome o (λ k. k.place < 2 ^ 40)
+unfolding mark_of
+mark_small w None h = tt
+mark_small w (Some k) h = grind arith
+
+stand_small : (words : List ℕ) (x : ℕ) (k : Mark) → shown_stand words x ≡ Some k → k.place < 2 ^ 40
+stand_small words x k = by (nat_lt x entry_count)
   where
-    low_of : (span : Span) (e : Entry) → counts span e ≡ true → span.low ≤ e.place
-    low_of span e = by (head_of e.watch == span.head) (nat_le span.low e.place) (nat_lt e.place span.high) refl
+    entry_case : (o : Option Entry) → IfSome o (λ e. e.place < 2 ^ 40) → stand_by o ≡ Some k → k.place < 2 ^ 40
+    entry_case None h s = absurd (cc)
+    entry_case (Some e) h s =
+        let r : record { head = head_of e.watch; place = e.place } ≡ k = cc in
+        let p : e.place ≡ k.place = ap (λ (c : Mark). c.place) r in
+        omega (arith, h)
+
+    mark_case : (o : Option Mark) → IfSome o (λ c. c.place < 2 ^ 40) → o ≡ Some k → k.place < 2 ^ 40
+    mark_case None h s = absurd (cc)
+    mark_case (Some c) h s = let r : c ≡ k = cc in let p : c.place ≡ k.place = ap (λ (d : Mark). d.place) r in
+        omega (arith, h)
+
+    by : (b : Bool) → (if b then stand_by (shown_entry words x) else shown_mark words (x - entry_count)) ≡ Some k
+        → k.place < 2 ^ 40
+    by true s = entry_case (shown_entry words x)
+        (entry_small (slice_index words (129 + x)) (shown_entry words x) refl) s
+    by false s = mark_case (shown_mark words (x - entry_count))
+        (mark_small (slice_index words (641 + (x - entry_count))) (shown_mark words (x - entry_count)) refl) s
+
+pub pick_fits : (words : List ℕ) (count : ℕ) (span : Span) (r : Option Member)
+    → IsPicked (shown_stand words) count span r
+    → IfSome r (λ m. (m.at < count) × (span.low ≤ rank m) × (m.place < 2 ^ 40))
+pick_fits words count span None h = tt
+pick_fits words count span (Some b) h =
+    let same : h.stand.place ≡ b.place = h.place in (
+      h.inside,
+      (let c = low_of span b.at h.stand h.counted in omega (arith, c)),
+      (let small : h.stand.place < 2 ^ 40 = stand_small words b.at h.stand h.stands in omega arith),
+    )
+  where
+    low_of : (span : Span) (x : ℕ) (k : Mark) → counts span x k ≡ true → span.low ≤ rank (member_of x k)
+    low_of span x k = by (k.head == span.head) (nat_le span.low (rank (member_of x k)))
+        (nat_lt (rank (member_of x k)) span.high) refl
       where
-        by : (a b c : Bool) → nat_le span.low e.place ≡ b → (a && (b && c)) ≡ true → span.low ≤ e.place
+        by : (a b c : Bool) → nat_le span.low (rank (member_of x k)) ≡ b → (a && (b && c)) ≡ true
+            → span.low ≤ rank (member_of x k)
         by true true c q h = grind (arith, nat_tests)
         by true false c q h = absurd (cc)
         by false b c q h = absurd (cc)

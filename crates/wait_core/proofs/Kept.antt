@@ -45,16 +45,28 @@ use Rattle.wait_model.specs.declared.points.Progress.TheVariants as now
 use Rattle.wait_model.specs.declared.calls.Ran.{Ran}
 use Rattle.wait_model.specs.declared.calls.Ran.TheVariants as ran
 use Rattle.wait_model.specs.Programs.{program_start}
-use Rattle.wait_model.specs.Points.{given_at}
+use Rattle.wait_model.specs.Points.{call_watch, given_at}
 use Rattle.wait_model.specs.Admission.{admits}
 use Rattle.wait_model.specs.Shown.{IsInRange}
 use Rattle.wait_model.specs.Locations.{Shows}
-use Rattle.wait_model.specs.Reached.{IsSound, IsSoundCall, IsPlaced, Allows, Joins}
+use Rattle.wait_model.specs.Tasks.{task_count}
+use Rattle.wait_model.specs.Reached.{
+  marked_at,
+  IsSound,
+  IsSoundCall,
+  IsPlaced,
+  Allows,
+  Joins,
+  Rests,
+  KeepsCleared,
+  CountedBy,
+}
 use Rattle.wait_model.specs.Runs.{
   State,
   start_state,
   after_event,
   planned,
+  seen_by,
   progress_at,
   progress_after,
   given_by,
@@ -73,6 +85,9 @@ use Rattle.wait_model.proofs.Walked.{program_fine}
 use Rattle.wait_model.proofs.Fines.{Fine}
 use Rattle.wait_model.proofs.EveryRun.{sound_of, state_after-push, run_push, made_push, opened_push}
 use Rattle.wait_core.specs.Core.{IsCore, open_calls, one_if_open}
+use Rattle.wait_core.specs.Keepers.{ShowsKeepers, kept_after}
+use Rattle.wait_core.proofs.Noted.{noted}
+use Rattle.wait_core.proofs.KeptBits.{event_keepers}
 
 -- an allowed event's numbers are in range
 pub allowed_in_range : (s : State) (me : ℕ) (e : Event) → Allows s me e → IsInRange e
@@ -89,15 +104,21 @@ allowed_in_range s me (event.Lock head) a = a
 allowed_in_range s me (event.Unlock head used) a = a
 allowed_in_range s me (event.Queue head form) a = a.0
 allowed_in_range s me (event.Unqueue who) a = a
+allowed_in_range s me (event.Mark h) a = a
+allowed_in_range s me (event.Unmark h) a = a
 allowed_in_range s me (event.Load c v) a = a
 allowed_in_range s me (event.Set c v) a = a
 allowed_in_range s me (event.Take c v) a = a
+allowed_in_range s me (event.Tas w b v) a = a
+allowed_in_range s me (event.Clear w b) a = a
+allowed_in_range s me (event.Active h hit) a = a
 allowed_in_range s me (event.Woken who) a = a
 allowed_in_range s me e a = tt
 
 -- what the state has to let a call be opened
 abbrev pub MayOpen : State → ℕ → Call → Type 0
-MayOpen s me call = admits me call (s.table.entry (own me)) ≡ true
+MayOpen s me call = admits me call (s.table.entry (own me)) ((s.table.view me).bits.keeps (call_watch call))
+    ≡ true
 
 -- an element behind a write
 get_set_same : (points : List Progress) (me t : ℕ) (x : Progress) → me < length points → t ≡ me
@@ -143,7 +164,7 @@ module _ (words : List ℕ) (points : List Progress) (items : List Ran) (count c
       (sound_of items core.run (let m : count ≡ made_in items = core.made in let f : count ≤ 1000000 =
       core.few in omega arith))
 
-  module _ (me : ℕ) (mine : me < 64) (call : Call) (p : Point)
+  module _ (me : ℕ) (mine : me < task_count) (call : Call) (p : Point)
       (stands : slice_get points me ≡ Some (now.Open call p)) where
     pub open_is : (state_of items).progress me ≡ now.Open call p
     open_is = let e : Some ((state_of items).progress me) ≡ Some (now.Open call p) =
@@ -152,17 +173,31 @@ module _ (words : List ℕ) (points : List Progress) (items : List Ran) (count c
     pub call_sound : IsSoundCall count (now.Open call p)
     call_sound = subst (IsSoundCall count) open_is (sound.calls me)
 
-    fine : Fine (state_of items) count me call sound mine (given_at call p)
-        (planned (state_of items) me call p)
-    fine = program_fine (state_of items) count me call sound mine p call_sound
-        (subst (λ (x : Progress). IsPlaced (state_of items).table.entry ((state_of items).table.view me) me x)
-        open_is (sound.placed me))
+    module _ (runs : ((state_of items).table.task me).runnable ≡ true) where
+      fine : Fine (state_of items) count me call sound mine (given_at call p)
+          (planned (state_of items) me call p)
+      fine = program_fine (state_of items) count me call sound mine p call_sound
+          (subst (λ (x : Progress). IsPlaced (state_of items).table.entry ((state_of items).table.view me) me x)
+          open_is (sound.placed me)) (sound.marked me ∙ ap marked_at open_is)
+          (subst (CountedBy (state_of items).table.entry ((state_of items).table.view me)) open_is
+          (sound.counted me))
+          (subst (λ (x : Progress). KeepsCleared x ((state_of items).table.view me)) open_is (sound.keeps me))
+          (subst (λ (x : Progress). Rests x ((state_of items).table.task me)) open_is (sound.rests me)) runs
 
-    pub allowed : Allows (state_of items) me (planned (state_of items) me call p).event
-    allowed = fine.allows
+      pub allowed : Allows (state_of items) me (planned (state_of items) me call p).event
+      allowed = fine.allows
 
-    pub joins : Joins (given_at call p) (planned (state_of items) me call p).event
-    joins = fine.joins
+      pub joins : Joins (given_at call p) (planned (state_of items) me call p).event
+      joins = fine.joins
+
+      -- who keeps each bit behind the event
+      pub keepers_kept : (keepers : List ℕ) → ShowsKeepers keepers (state_of items).table.view
+          → busy_head (state_of items) (planned (state_of items) me call p).event ≡ None
+          → ShowsKeepers (kept_after me (planned (state_of items) me call p).event keepers)
+          (after_event (state_of items) me (given_at call p) (planned (state_of items) me call p).event).table.view
+      keepers_kept keepers shown free = event_keepers (state_of items) me (given_at call p) mine sound.kept keepers
+          shown (planned (state_of items) me call p).event allowed joins
+          (noted me call (seen_by (state_of items) me call p) p call_sound.fitted) (fine.made free)
 
     pub plan_is : (found : ℕ)
         → (found ≡ found_by (state_of items) me (planned (state_of items) me call p).event)
@@ -177,7 +212,7 @@ module _ (words : List ℕ) (points : List Progress) (items : List Ran) (count c
 
     -- the core after an event
     made_points : (found : ℕ) (x : Progress) → progress_at call (planned (state_of items) me call p).next ≡ x
-        → (t : ℕ) → t < 64
+        → (t : ℕ) → t < task_count
         → slice_get (slice_set points me x) t ≡ Some
         ((happens (state_of items) (ran.Made me (planned (state_of items) me call p).event found)).progress t)
     made_points found x is t inside = put_at (λ v. slice_get (slice_set points me x) t ≡ Some v)
@@ -219,9 +254,9 @@ module _ (words : List ℕ) (points : List Progress) (items : List Ran) (count c
         }
 
   -- the core after an opening
-  module _ (me : ℕ) (mine : me < 64) (call : Call) (closed : is_open ((state_of items).progress me) ≡ false)
+  module _ (me : ℕ) (mine : me < task_count) (call : Call) (closed : is_open ((state_of items).progress me) ≡ false)
       (may : MayOpen (state_of items) me call) where
-    opened_points : (t : ℕ) → t < 64
+    opened_points : (t : ℕ) → t < task_count
         → slice_get (slice_set points me (now.Open call (program_start call))) t ≡ Some
         ((happens (state_of items) (ran.Opened me call)).progress t)
     opened_points t inside =
@@ -233,7 +268,7 @@ module _ (words : List ℕ) (points : List Progress) (items : List Ran) (count c
     was_closed : one_if_open ((state_of items).progress me) ≡ 0
     was_closed = ap (λ b. if b then 1 else 0) closed
 
-    pub opened_room : length items < 2 * count + 64
+    pub opened_room : length items < 2 * count + task_count
     opened_room =
         let r : length items ≤ 2 * count + open_calls points = core.room in
         let c : open_calls (slice_set points me (now.Open call (program_start call))) + one_if_open
@@ -241,7 +276,7 @@ module _ (words : List ℕ) (points : List Progress) (items : List Ran) (count c
         calls_set points me (now.Open call (program_start call)) ((state_of items).progress me)
         (core.progress me mine) in
         let z : one_if_open ((state_of items).progress me) ≡ 0 = was_closed in
-        let f : open_calls (slice_set points me (now.Open call (program_start call))) ≤ 64 =
+        let f : open_calls (slice_set points me (now.Open call (program_start call))) ≤ task_count =
         (let l = calls_few (slice_set points me (now.Open call (program_start call)))
         in omega (arith, l, length-set points me (now.Open call (program_start call)), core.tasks)) in
         omega arith

@@ -1,5 +1,9 @@
 pub mod Scanned
+pub mod Indexed
+pub mod Arrived
 pub mod Found
+pub mod Bits
+pub mod Noted
+pub mod KeptBits
 pub mod Kept
 pub mod Answered
-pub mod Bounds

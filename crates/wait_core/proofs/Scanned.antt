@@ -1,156 +1,281 @@
--- One more entry word of a scan.
-use Rattle.std.specs.Prelude.{◌≡◌, ℕ, ◌+◌, ◌<◌, ◌≤◌, Bool, true, false, if◌then◌else◌, nat_lt, List, ◌⊎◌, ◌≢◌, Option, Some, None, ◌*◌}
+-- What a search in the list of members finds.
+use Rattle.std.specs.Prelude.{◌≡◌, ℕ, ◌+◌, ◌<◌, ◌≤◌, ◌^◌, Bool, true, false, ◌&&◌, ◌==◌, nat_lt, nat_le, List, length, slice_index_or, ◌⊎◌, ◌≢◌, ◌*◌, min, Option, Some, None}
 use Rattle.std.proofs.Common.{refl, arith, ap, sym, ◌∙◌, subst, inl, inr}
-use Rattle.std.proofs.lemmas.Bool.Decides.{nat_tests, eqb_tells}
-use Rattle.wait_model.specs.declared.watches.Entry.{Entry}
+use Rattle.std.proofs.lemmas.List.{get_or_default}
+use Rattle.std.proofs.lemmas.Bool.Decides.{nat_tests}
+use Rattle.wait_model.specs.declared.queues.Mark.{Mark}
 use Rattle.wait_model.specs.declared.queues.Member.{Member}
 use Rattle.wait_core.specs.declared.scan.Span.{Span}
-use Rattle.wait_model.specs.Words.{entry_of}
-use Rattle.wait_model.proofs.Decoded.{none_read}
-use Rattle.wait_core.specs.Scan.{counts, prefers, IsPick, IsPicked, preferred, picked_of, shown_entry, IsReach}
+use Rattle.wait_core.specs.declared.index.Standing.{Standing}
+use Rattle.wait_model.specs.Queues.{rank}
+use Rattle.wait_core.specs.Scan.{member_of, counts, prefers, IsPick, IsPicked}
+use Rattle.wait_core.specs.Index.{IsSorted, IsStanding, IsIndex, key, key_at, standing_of}
 
--- below n + 1 is below n, or n
-split : (x n : ℕ) → x < n + 1 → (x < n) ⊎ (x ≡ n)
-split x n h = elim (eqb_tells x n) [ inl e ↦ inr e.1 | inr e ↦ inl (let ne : x ≢ n = e.1 in omega arith) ]
+-- what a read past the end of the list gives
+abbrev pub none : Standing
+none = record { head = 0; rank = 0 }
 
--- what is not preferred to a place is not preferred to a better one
-still_better : (span : Span) (p q r : ℕ) → prefers span p q ≡ true → prefers span r q ≡ false
-    → prefers span r p ≡ false
-still_better span p q r = by span.last
+-- below, at or above
+pub sides : (i j : ℕ) → (i < j) ⊎ ((i ≡ j) ⊎ (j < i))
+sides i j = by (nat_lt i j) (nat_lt j i) refl refl
   where
-    by : (last : Bool) → (if last then nat_lt q p else nat_lt p q) ≡ true
-        → (if last then nat_lt q r else nat_lt r q) ≡ false → (if last then nat_lt p r else nat_lt r p) ≡ false
-    by true h k = grind (arith, nat_tests)
-    by false h k = grind (arith, nat_tests)
+    by : (a b : Bool) → nat_lt i j ≡ a → nat_lt j i ≡ b → (i < j) ⊎ ((i ≡ j) ⊎ (j < i))
+    by true b p q = inl (grind (arith, nat_tests))
+    by false true p q = inr (inr (grind (arith, nat_tests)))
+    by false false p q = inr (inl (grind (arith, nat_tests)))
 
-not_itself : (span : Span) (p : ℕ) → prefers span p p ≡ false
-not_itself span p = by span.last
+-- a member that counts, by its parts
+counted_of : (span : Span) (x : ℕ) (k : Mark) → counts span x k ≡ true → (k.head ≡ span.head)
+    × (span.low ≤ rank (member_of x k)) × (rank (member_of x k) < span.high)
+counted_of span x k = by (k.head == span.head) (nat_le span.low (rank (member_of x k)))
+    (nat_lt (rank (member_of x k)) span.high) refl refl refl
   where
-    by : (last : Bool) → (if last then nat_lt p p else nat_lt p p) ≡ false
-    by true = grind (arith, nat_tests)
-    by false = grind (arith, nat_tests)
+    by : (a b c : Bool) → (k.head == span.head) ≡ a → nat_le span.low (rank (member_of x k)) ≡ b
+        → nat_lt (rank (member_of x k)) span.high ≡ c → (a && (b && c)) ≡ true → (k.head ≡ span.head)
+        × (span.low ≤ rank (member_of x k)) × (rank (member_of x k) < span.high)
+    by true true true p q r h = (grind (arith, nat_tests), grind (arith, nat_tests), grind (arith, nat_tests))
+    by true true false p q r h = absurd (cc)
+    by true false c p q r h = absurd (cc)
+    by false b c p q r h = absurd (cc)
 
-module _ (f : ℕ → Option Entry) (n : ℕ) (span : Span) where
-  -- an entry at n that does not count
-  more_passed : (b : Option Member) → ((e : Entry) → f n ≡ Some e → counts span e ≡ false)
-      → IsPicked f n span b → IsPicked f (n + 1) span b
-  more_passed None out h = λ x e lt s. elim (split x n lt) [
-    | inl k ↦ h x e k s
-    | inr k ↦ out e (subst (λ (j : ℕ). f j ≡ Some e) k s)
-  ]
-  more_passed (Some b) out h = record {
-    entry = h.entry;
-    stands = h.stands;
-    place = h.place;
-    inside = (let lt : b.at < n = h.inside in omega arith);
-    counted = h.counted;
-    best = λ x e lt s c. elim (split x n lt) [
-      | inl k ↦ h.best x e k s c
-      | inr k ↦ let never : counts span e ≡ false = out e (subst (λ (j : ℕ). f j ≡ Some e) k s) in
-          let z : true ≡ false = sym c ∙ never in absurd (cc)
-    ];
-  }
+counts_is : (span : Span) (x : ℕ) (k : Mark) → k.head ≡ span.head → span.low ≤ rank (member_of x k)
+    → rank (member_of x k) < span.high → counts span x k ≡ true
+counts_is span x k e l u =
+    let a : (k.head == span.head) ≡ true = grind (arith, nat_tests) in
+    let b : nat_le span.low (rank (member_of x k)) ≡ true = grind (arith, nat_tests) in
+    let c : nat_lt (rank (member_of x k)) span.high ≡ true = grind (arith, nat_tests) in
+    rw (a, b, c) refl
 
-  module _ (d : Entry) (z : f n ≡ Some d) where
-    -- the entry at n
-    here : (x : ℕ) (e : Entry) → x ≡ n → f x ≡ Some e → e ≡ d
-    here x e k s = let p : f n ≡ Some e = subst (λ (j : ℕ). f j ≡ Some e) k s in let q : Some e ≡ Some d =
-        sym p ∙ z in cc
+-- an element of the list that a look takes
+pub record IsTaken (span : Span) (count : ℕ) (a : Standing) : Type 0 where
+  pub head : a.head ≡ span.head
+  pub low : span.low ≤ a.rank
+  pub high : a.rank < span.high
+  pub number : (x p : ℕ) → x < 512 → a.rank ≡ 512 * p + x → x < count
 
-    same_place : (x : ℕ) (e : Entry) → x ≡ n → f x ≡ Some e → e.place ≡ d.place
-    same_place x e k s = ap (λ (y : Entry). y.place) (here x e k s)
+module _ (f : ℕ → Option Mark) (index : List Standing) (h : IsIndex f index) (span : Span) (count : ℕ)
+    (few : count ≤ 384) where
+  -- a member that counts is in the list, and a look takes it
+  taken : (x : ℕ) (k : Mark) → x < count → counts span x k ≡ true → IsTaken span count (standing_of x k)
+  taken x k lt c =
+      let p = counted_of span x k c in record {
+        head = p.0;
+        low = p.1;
+        high = p.2;
+        number = λ y q small e. (let e' : 512 * k.place + x ≡ 512 * q + y = e in omega arith);
+      }
 
-    -- an entry at n that is preferred
-    new_best : counts span d ≡ true → ((x : ℕ) (e : Entry) → x < n → f x ≡ Some e → counts span e ≡ true
-        → prefers span e.place d.place ≡ false) → IsPick f (n + 1) span (record { at = n; place = d.place })
-    new_best c h = record {
-      entry = d;
-      stands = z;
-      place = refl;
-      inside = omega arith;
-      counted = c;
-      best = λ x e lt s k. elim (split x n lt) [
-        | inl l ↦ h x e l s k
-        | inr l ↦ subst (λ (p : ℕ). prefers span p d.place ≡ false) (sym (same_place x e l s))
-            (not_itself span d.place)
-      ];
-    }
-
-    kept_best : (b : Member) → prefers span d.place b.place ≡ false → IsPick f n span b
-        → IsPick f (n + 1) span b
-    kept_best b never h = record {
-      entry = h.entry;
-      stands = h.stands;
-      place = h.place;
-      inside = (let lt : b.at < n = h.inside in omega arith);
-      counted = h.counted;
-      best = λ x e lt s c. elim (split x n lt) [
-        | inl k ↦ h.best x e k s c
-        | inr k ↦ subst (λ (p : ℕ). prefers span p b.place ≡ false) (sym (same_place x e k s)) never
-      ];
-    }
-
-    more_preferred : (b : Option Member) → counts span d ≡ true → IsPicked f n span b
-        → IsPicked f (n + 1) span (preferred span b (record { at = n; place = d.place }))
-    more_preferred None c h = new_best c (λ x e lt s k. let never : counts span e ≡ false = h x e lt s in
-        let w : true ≡ false = sym k ∙ never in absurd (cc))
-    more_preferred (Some b) c h = by (prefers span d.place b.place) refl
-      where
-        by : (test : Bool) → prefers span d.place b.place ≡ test
-            → IsPicked f (n + 1) span (if test then Some (record { at = n; place = d.place }) else Some b)
-        by true t = new_best c (λ x e lt s k. still_better span d.place b.place e.place t (h.best x e lt s k))
-        by false t = kept_best b t h
-
-    by_count : (b : Option Member) (test : Bool) → counts span d ≡ test → IsPicked f n span b
-        → IsPicked f (n + 1) span (if test then preferred span b (record { at = n; place = d.place }) else b)
-    by_count b true t h = more_preferred b t h
-    by_count b false t h = more_passed b (λ e s. ap (counts span) (here n e refl s) ∙ t) h
-
-  pub more : (b : Option Member) → IsPicked f n span b → IsPicked f (n + 1) span (picked_of span n b (f n))
-  more b h = found_cases (f n) refl
+  -- nothing is found where no element is taken
+  pub none_taken : ((i : ℕ) (d : Standing) → i < length index → IsTaken span count (slice_index_or index i d) → ⊥)
+      → IsPicked f count span None
+  none_taken out = λ x k lt s. by x k lt s (counts span x k) refl
     where
-      found_cases : (o : Option Entry) → f n ≡ o → IsPicked f (n + 1) span (picked_of span n b o)
-      found_cases None z = more_passed b (λ e s. absurd (let q : None ≡ Some e = sym z ∙ s in cc)) h
-      found_cases (Some d) z = by_count d z b (counts span d) refl h
+      by : (x : ℕ) (k : Mark) → x < count → f x ≡ Some k → (b : Bool) → counts span x k ≡ b → counts span x k ≡ false
+      by x k lt s false c = c
+      by x k lt s true c =
+          let i = h.holds x k (omega arith) s in
+          absurd (out i.0 (standing_of x k) i.1
+          (subst (IsTaken span count) (sym i.2) (taken x k lt c)))
 
-pub more_shown : (words : List ℕ) (n : ℕ) (span : Span) (b : Option Member)
-    → IsPicked (shown_entry words) n span b
-    → IsPicked (shown_entry words) (n + 1) span (picked_of span n b (shown_entry words n))
-more_shown words n span b h = more (shown_entry words) n span b h
+  module _ (i : ℕ) (a : Standing) (inside : i < length index) (is : (d : Standing) → a ≡ slice_index_or index i d)
+      (b : Member) (small : b.at < count) (same : a.rank ≡ 512 * b.place + b.at) (t : IsTaken span count a)
+      (best : (x : ℕ) (k : Mark) → x < count → f x ≡ Some k → counts span x k ≡ true
+      → prefers span (rank (member_of x k)) (rank b) ≡ false) where
+    pub some_taken : IsPick f count span b
+    some_taken =
+        let q : IsStanding f a = subst (IsStanding f) (sym (is a)) (h.shown i a inside) in
+        let n : q.number ≡ b.at = (let r = q.rank in let s = q.small in omega arith) in
+        let p : q.stand.place ≡ b.place = (let r = q.rank in let s = q.small in omega arith) in
+        record {
+          stand = q.stand;
+          stands = subst (λ (x : ℕ). f x ≡ Some q.stand) n q.stands;
+          place = p;
+          inside = small;
+          counted = counts_is span b.at q.stand (sym q.head ∙ t.head)
+              (let l = t.low in omega arith) (let l = t.high in omega arith);
+          best = best;
+        }
 
--- entries that do not stand change no pick
-before : (x n : ℕ) → (x < n) ⊎ (n ≤ x)
-before x n = by (nat_lt x n) refl
-  where
-    by : (b : Bool) → nat_lt x n ≡ b → (x < n) ⊎ (n ≤ x)
-    by true h = inl (grind (arith, nat_tests))
-    by false h = inr (grind (arith, nat_tests))
-
-module _ (f : ℕ → Option Entry) (span : Span) (n m : ℕ) (le : n ≤ m)
-    (gone : (x : ℕ) → n ≤ x → x < m → f x ≡ None) where
-  never : (x : ℕ) (e : Entry) → n ≤ x → x < m → f x ≡ Some e → ⊥
-  never x e low high s = let z : None ≡ Some e = sym (gone x low high) ∙ s in cc
-
-  pub skipped : (b : Option Member) → IsPicked f n span b → IsPicked f m span b
-  skipped None h = λ x e lt s. elim (before x n) [
-    | inl l ↦ h x e l s
-    | inr l ↦ absurd (never x e l lt s)
+-- a look at one element of the list
+module _ (index : List Standing) (o : IsSorted index) (at : ℕ) (inside : at < length index) (a : Standing)
+    (is : (d : Standing) → a ≡ slice_index_or index at d) where
+  from_here : (i : ℕ) (d : Standing) → at ≤ i → i < length index → key a ≤ key (slice_index_or index i d)
+  from_here i d le lt = elim (sides at i) [
+    | inl l ↦ let up = o.rises at i d l lt in let e = ap key (is d) in omega arith
+    | inr r ↦ elim r [
+      | inl e ↦ subst (λ (j : ℕ). key a ≤ key (slice_index_or index j d)) e
+          (let z = ap key (is d) in omega arith)
+      | inr g ↦ absurd (omega arith)
+    ]
   ]
-  skipped (Some b) h = record {
-    entry = h.entry;
-    stands = h.stands;
-    place = h.place;
-    inside = (let lt : b.at < n = h.inside in omega arith);
-    counted = h.counted;
-    best = λ x e lt s c. elim (before x n) [
-      | inl l ↦ h.best x e l s c
-      | inr l ↦ absurd (never x e l lt s)
-    ];
-  }
 
--- behind the reach no entry stands
-pub all_reached : (words : List ℕ) (reach : ℕ) (span : Span) (b : Option Member) → IsReach words reach
-    → IsPicked (shown_entry words) (2 * reach) span b → IsPicked (shown_entry words) 128 span b
-all_reached words reach span b bound h = skipped (shown_entry words) span (2 * reach) 128
-    (let most : reach ≤ 64 = bound.most in omega arith)
-    (λ x low high. ap entry_of (bound.entries x low high) ∙ none_read) b h
+  to_here : (i : ℕ) (d : Standing) → i ≤ at → key (slice_index_or index i d) ≤ key a
+  to_here i d le = elim (sides i at) [
+    | inl l ↦ let up = o.rises i at d l inside in let e = ap key (is d) in omega arith
+    | inr r ↦ elim r [
+      | inl e ↦ subst (λ (j : ℕ). key (slice_index_or index j d) ≤ key a) (sym e)
+          (let z = ap key (is d) in omega arith)
+      | inr g ↦ absurd (omega arith)
+    ]
+  ]
+
+  small_rank : a.rank < 2 ^ 49
+  small_rank = let r = o.ranks at a inside in let e = ap (λ (x : Standing). x.rank) (is a) in omega arith
+
+  module _ (span : Span) (count : ℕ) where
+    -- an element whose number is too high is not taken
+    not_taken : (x p : ℕ) → x < 512 → a.rank ≡ 512 * p + x → count ≤ x → (i : ℕ) (d : Standing) → i ≡ at
+        → IsTaken span count (slice_index_or index i d) → ⊥
+    not_taken x p small e le i d same t =
+        let u : IsTaken span count a = subst (IsTaken span count) (sym (is d))
+        (subst (λ (j : ℕ). IsTaken span count (slice_index_or index j d)) same t) in
+        let n = u.number x p small e in
+        omega arith
+
+    module _ (passed : (i : ℕ) (d : Standing) → i < at → IsTaken span count (slice_index_or index i d) → ⊥)
+        (low : ℕ) (behind : (i : ℕ) (d : Standing) → at ≤ i → i < length index
+        → key_at span.head low ≤ key (slice_index_or index i d)) where
+      low_here : key_at span.head low ≤ key a
+      low_here = let b = behind at a (omega arith) inside in let e = ap key (is a) in omega arith
+
+      first_ends : (key_at span.head span.high ≤ key a) ⊎ (a.head ≢ span.head)
+          → (i : ℕ) (d : Standing) → i < length index → IsTaken span count (slice_index_or index i d) → ⊥
+      first_ends why i d lt t =
+          let r = o.ranks i d lt in
+          let h = t.head in
+          let u = t.high in
+          let l = low_here in
+          let s = small_rank in
+          elim (sides i at) [
+            | inl l ↦ passed i d l t
+            | inr r ↦
+                let le : at ≤ i = elim r [ inl e ↦ omega arith | inr g ↦ omega arith ] in
+                let f = from_here i d le lt in
+                elim why [ inl w ↦ omega arith | inr w ↦ omega arith ]
+          ]
+
+      pub first_ends_head : a.head ≢ span.head → (f : ℕ → Option Mark) → IsIndex f index → count ≤ 384
+          → IsPicked f count span None
+      first_ends_head ne f h few = none_taken f index h span count few (first_ends (inr ne))
+
+      pub first_ends_rank : a.head ≡ span.head → span.high ≤ a.rank → (f : ℕ → Option Mark) → IsIndex f index
+          → count ≤ 384 → IsPicked f count span None
+      first_ends_rank e le f h few = none_taken f index h span count few (first_ends (inl (omega arith)))
+
+      pub first_passes : (x p : ℕ) → x < 512 → a.rank ≡ 512 * p + x → count ≤ x → (i : ℕ) (d : Standing)
+          → i < at + 1 → IsTaken span count (slice_index_or index i d) → ⊥
+      first_passes x p small e le i d lt t = elim (sides i at) [
+        | inl l ↦ passed i d l t
+        | inr r ↦ elim r [
+          | inl z ↦ not_taken x p small e le i d z t
+          | inr g ↦ absurd (omega arith)
+        ]
+      ]
+
+      pub first_takes : span.last ≡ false → low ≡ min span.low (2 ^ 49) → a.head ≡ span.head → a.rank < span.high
+          → (b : Member) → a.rank ≡ 512 * b.place + b.at → b.at < count → (f : ℕ → Option Mark)
+          → IsIndex f index → count ≤ 384 → IsPick f count span b
+      first_takes first is_low e u b same small f h few =
+          some_taken f index h span count few at a inside is b small same (record {
+            head = e;
+            low = (let l = low_here in let s = small_rank in omega arith);
+            high = u;
+            number = λ y q lt z. omega arith;
+          }) (λ x k lt s c.
+          let t = taken f index h span count few x k lt c in
+          let i = h.holds x k (omega arith) s in
+          let never : nat_lt (rank (member_of x k)) (rank b) ≡ false = elim (sides i.0 at) [
+            | inl l ↦ absurd (passed i.0 (standing_of x k) l
+                (subst (IsTaken span count) (sym i.2) t))
+            | inr r ↦
+                let le : at ≤ i.0 = elim r [ inl z ↦ omega arith | inr g ↦ omega arith ] in
+                let up = from_here i.0 (standing_of x k) le i.1 in
+                let z = ap key i.2 in
+                let hd : k.head ≡ span.head = t.head in
+                let le' : rank b ≤ rank (member_of x k) = omega arith in
+                grind (arith, nat_tests)
+          ] in
+          rw first never)
+
+    module _ (passed : (i : ℕ) (d : Standing) → at + 1 ≤ i → i < length index
+        → IsTaken span count (slice_index_or index i d) → ⊥)
+        (high : ℕ) (most : high ≤ 2 ^ 49) (before : (i : ℕ) (d : Standing) → i < at + 1
+        → key (slice_index_or index i d) < key_at span.head high) where
+      high_here : key a < key_at span.head high
+      high_here = let b = before at a (omega arith) in let e = ap key (is a) in omega arith
+
+      last_ends : (key a < key_at span.head span.low) ⊎ (a.head ≢ span.head)
+          → (i : ℕ) (d : Standing) → i < length index → IsTaken span count (slice_index_or index i d) → ⊥
+      last_ends why i d lt t =
+          let h = t.head in
+          let u = t.low in
+          let l = high_here in
+          let s = small_rank in
+          elim (sides at i) [
+            | inl l ↦ passed i d (omega arith) lt t
+            | inr r ↦
+                let le : i ≤ at = elim r [ inl e ↦ omega arith | inr g ↦ omega arith ] in
+                let f = to_here i d le in
+                elim why [ inl w ↦ omega arith | inr w ↦ omega arith ]
+          ]
+
+      pub last_ends_head : a.head ≢ span.head → (f : ℕ → Option Mark) → IsIndex f index → count ≤ 384
+          → IsPicked f count span None
+      last_ends_head ne f h few = none_taken f index h span count few (last_ends (inr ne))
+
+      pub last_ends_rank : a.head ≡ span.head → a.rank < span.low → (f : ℕ → Option Mark) → IsIndex f index
+          → count ≤ 384 → IsPicked f count span None
+      last_ends_rank e lt f h few = none_taken f index h span count few (last_ends (inl (omega arith)))
+
+      pub last_passes : (x p : ℕ) → x < 512 → a.rank ≡ 512 * p + x → count ≤ x → (i : ℕ) (d : Standing)
+          → at ≤ i → i < length index → IsTaken span count (slice_index_or index i d) → ⊥
+      last_passes x p small e le i d ge lt t = elim (sides at i) [
+        | inl l ↦ passed i d (omega arith) lt t
+        | inr r ↦ elim r [
+          | inl z ↦ not_taken x p small e le i d (sym z) t
+          | inr g ↦ absurd (omega arith)
+        ]
+      ]
+
+      pub last_takes : span.last ≡ true → high ≡ min span.high (2 ^ 49) → a.head ≡ span.head → span.low ≤ a.rank
+          → (b : Member) → a.rank ≡ 512 * b.place + b.at → b.at < count → (f : ℕ → Option Mark)
+          → IsIndex f index → count ≤ 384 → IsPick f count span b
+      last_takes last is_high e u b same small f h few =
+          some_taken f index h span count few at a inside is b small same (record {
+            head = e;
+            low = u;
+            high = (let l = high_here in let s = small_rank in omega arith);
+            number = λ y q lt z. omega arith;
+          }) (λ x k lt s c.
+          let t = taken f index h span count few x k lt c in
+          let i = h.holds x k (omega arith) s in
+          let never : nat_lt (rank b) (rank (member_of x k)) ≡ false = elim (sides at i.0) [
+            | inl l ↦ absurd (passed i.0 (standing_of x k) (omega arith) i.1
+                (subst (IsTaken span count) (sym i.2) t))
+            | inr r ↦
+                let le : i.0 ≤ at = elim r [ inl z ↦ omega arith | inr g ↦ omega arith ] in
+                let up = to_here i.0 (standing_of x k) le in
+                let z = ap key i.2 in
+                let hd : k.head ≡ span.head = t.head in
+                let le' : rank (member_of x k) ≤ rank b = omega arith in
+                grind (arith, nat_tests)
+          ] in
+          rw last never)
+
+-- a test of one element says the same of all before it, or of all behind it
+module _ (index : List Standing) (o : IsSorted index) (at limit : ℕ) (inside : at < length index) (d : Standing) where
+  pub up_to : nat_lt (key (slice_index_or index at d)) limit ≡ true → (i : ℕ) (e : Standing) → i < at + 1
+      → key (slice_index_or index i e) < limit
+  up_to t i e lt =
+      let h : key (slice_index_or index at d) < limit = grind (arith, nat_tests) in
+      let le = to_here index o at inside (slice_index_or index at d)
+      (λ x. get_or_default index at d x inside) i e (omega arith) in
+      omega arith
+
+  pub down_to : nat_lt (key (slice_index_or index at d)) limit ≡ false → (i : ℕ) (e : Standing) → at ≤ i
+      → i < length index → limit ≤ key (slice_index_or index i e)
+  down_to t i e ge lt =
+      let h : limit ≤ key (slice_index_or index at d) = grind (arith, nat_tests) in
+      let le = from_here index o at inside (slice_index_or index at d)
+      (λ x. get_or_default index at d x inside) i e ge lt in
+      omega arith

@@ -11,7 +11,9 @@ use Rattle.wait_model.specs.declared.points.Progress.TheVariants as now
 use Rattle.wait_model.specs.declared.calls.Ran.{Ran}
 use Rattle.wait_model.specs.declared.calls.Ran.TheVariants as ran
 use Rattle.wait_model.specs.Runs.{State, own, planned, found_by, is_open, busy_head}
-use Rattle.wait_model.specs.Admission.{is_in_range, is_queued_twice, lacks_entry}
+use Rattle.wait_model.specs.Admission.{is_in_range, lacks_bit, is_queued_twice, lacks_entry}
+use Rattle.wait_model.specs.Points.{call_watch}
+use Rattle.wait_model.specs.Tasks.{task_count}
 use Rattle.wait_core.specs.Ended.{answer_of}
 use Rattle.wait_core.specs.declared.engine.Stepped.{Stepped}
 use Rattle.wait_core.specs.declared.engine.Stepped.TheVariants as answers
@@ -37,18 +39,19 @@ items_of s me (answers.Made e ended) = ran.Made me e (found_by s me e) ∷ []
 items_of s me _ = []
 
 -- the first refusal that stands
-abbrev pub checked : Bool → Bool → Bool → Result (Unit {0}) StartFault
-checked fits twice lacks =
+abbrev pub checked : Bool → Bool → Bool → Bool → Result (Unit {0}) StartFault
+checked fits loose twice lacks =
     if fits
-    then (if twice then Err faults.EntryQueued else if lacks then Err faults.NoEntry else Ok tt)
+    then (if loose then Err faults.NotHeld
+    else if twice then Err faults.EntryQueued else if lacks then Err faults.NoEntry else Ok tt)
     else Err faults.NoSuchCond
 
 abbrev pub started : State → ℕ → Call → Result (Unit {0}) StartFault
 started s me call =
-    if nat_lt me 64
+    if nat_lt me task_count
     then (if is_open (s.progress me) then Err faults.CallOpen
-    else checked (is_in_range me call) (is_queued_twice call (s.table.entry (own me)))
-    (lacks_entry call (s.table.entry (own me))))
+    else checked (is_in_range me call) (lacks_bit call ((s.table.view me).bits.keeps (call_watch call)))
+    (is_queued_twice call (s.table.entry (own me))) (lacks_entry call (s.table.entry (own me))))
     else Err faults.NoSuchTask
 
 abbrev pub opened_by : ℕ → Call → Result (Unit {0}) StartFault → List Ran

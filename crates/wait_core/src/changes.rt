@@ -7,8 +7,12 @@ ghost use Rattle.wait_model.specs.Shown.{IsInRange};
 ghost use Rattle.wait_model.specs.Locations.{Shows};
 ghost use Rattle.wait_model.specs.Reached.{IsSound, Allows, Joins};
 ghost use Rattle.wait_model.specs.Words.{entry_word};
-ghost use Rattle.wait_core.specs.Scan.{IsReach};
+ghost use Rattle.wait_model.specs.Tasks.{task_count};
+ghost use Rattle.wait_core.specs.Scan.{shown_stand};
+ghost use Rattle.wait_core.specs.Index.{IsIndex};
 
+use crate::arrivals::next_mark_at;
+use crate::index::Standing;
 use crate::reads::{spent_at, task_at};
 use crate::scan::place_at;
 use wait_model::calls::Event;
@@ -16,19 +20,21 @@ use wait_model::points::Given;
 use wait_model::queues::Form;
 use wait_model::tasks::{Task, accepted, raised, slept, woken, word_of};
 use wait_model::watches::Entry;
-use wait_model::words::{entry_word_of, flag_word_of, head_word_of, position, raised_spent};
+use wait_model::words::{
+    entry_word_of, flag_word_of, head_word_of, mark_word_of, position, raised_spent, with_bit,
+    without_bit,
+};
 
 /// The word of the entry that an add queues.
-fn added_word_at(words: &[u64], reach: u8, given: Given, head: u16, form: Form) -> u64
+fn added_word_at(words: &[u64], index: &[Standing], given: Given, head: u16, form: Form) -> u64
     requires count { length words.now ≡ 9873 }
-    requires reach { IsReach words.now reach }
-    ensures { (s : State) (n : ℕ) → Shows words.now s.table → IsSound s n
-        → result ≡ entry_word (Some (entry_for given form (place_for form (s.queue head)))) }
+    requires index { IsIndex (shown_stand words.now) index.now }
+    ensures { (s : State) (n : ℕ) → Shows words.now s.table → IsSound s n → result ≡ entry_word (Some (entry_for given form (place_for form (s.queue head)))) }
 {
     entry_word_of(Entry {
-        watch: given.watch,
-        place: place_at(words, reach, head, form),
-        exclusive: form.is_exclusive(),
+        watch: given.watch.bare(),
+        place: place_at(words, index, head, form),
+        exclusive: form.is_exclusive() && !given.kind.is_simple(),
         priority: form.is_priority(),
         kind: given.kind,
     })
@@ -47,14 +53,13 @@ fn in_state(task: Task, state: u32) -> Task
 }
 
 /// The word that an event leaves.
-#[tactic(auto, using(crate::proofs::Found::plain_word_is, crate::proofs::Found::entry_word_is, crate::proofs::Found::task_word_is, crate::proofs::Found::flag_is))]
-pub fn left_by(words: &[u64], reach: u8, me: u8, given: Given, event: Event) -> u64
+#[tactic(auto, using(crate::proofs::Found::cond_word_is, crate::proofs::Found::entry_word_is, crate::proofs::Found::task_word_is, crate::proofs::Found::flag_is))]
+pub fn left_by(words: &[u64], index: &[Standing], me: u8, given: Given, event: Event) -> u64
     requires count { length words.now ≡ 9873 }
-    requires reach { IsReach words.now reach }
-    requires me { me < 64 }
+    requires index { IsIndex (shown_stand words.now) index.now }
+    requires me { me < task_count }
     requires event { IsInRange event }
-    ensures { (s : State) (n : ℕ) → Shows words.now s.table → IsSound s n → Allows s me event
-        → result ≡ left_of s me given event }
+    ensures { (s : State) (n : ℕ) → Shows words.now s.table → IsSound s n → Allows s me event → Joins given event → result ≡ left_of s me given event }
 {
     match event {
         Event::State { state } => word_of(in_state(task_at(words, me), state)),
@@ -67,12 +72,17 @@ pub fn left_by(words: &[u64], reach: u8, me: u8, given: Given, event: Event) -> 
         Event::Unlock { head, spent } => {
             head_word_of(false, raised_spent(spent, spent_at(words, head)))
         }
-        Event::Queue { head, form } => added_word_at(words, reach, given, head, form),
+        Event::Queue { head, form } => added_word_at(words, index, given, head, form),
         Event::Unqueue { .. } => 0,
         Event::Queued { .. } => words[129 + 2 * usize::from(me)],
+        Event::Active { .. } => words[129],
+        Event::Mark { head } => mark_word_of(next_mark_at(words, index, given, head)),
+        Event::Unmark { .. } => 0,
         Event::Load { cond, .. } => words[1153 + usize::from(cond)],
         Event::Set { value, .. } => value,
         Event::Take { .. } => 0,
+        Event::Tas { word, bit, .. } => with_bit(words[1281 + usize::from(word)], bit),
+        Event::Clear { word, bit } => without_bit(words[1281 + usize::from(word)], bit),
         Event::Woken { .. } => flag_word_of(true),
         Event::Flag { .. } => words[385 + 2 * usize::from(me)],
         Event::Unflag => flag_word_of(false),
@@ -88,21 +98,19 @@ pub struct Change {
 }
 
 /// How an event changes its word.
-pub fn change_by(words: &[u64], reach: u8, me: u8, given: Given, event: Event) -> Change
+pub fn change_by(words: &[u64], index: &[Standing], me: u8, given: Given, event: Event) -> Change
     requires count { length words.now ≡ 9873 }
-    requires reach { IsReach words.now reach }
-    requires me { me < 64 }
+    requires index { IsIndex (shown_stand words.now) index.now }
+    requires me { me < task_count }
     requires event { IsInRange event }
     ensures at { result.at < 9873 }
     ensures found { (s : State) → Shows words.now s.table → Allows s me event → result.found ≡ found_by s me event }
-    ensures shown { (s : State) (n : ℕ) → Shows words.now s.table → IsSound s n → Allows s me event
-        → Joins given event
-        → Shows (slice_set words.now result.at result.left) (after_event s me given event).table }
+    ensures shown { (s : State) (n : ℕ) → Shows words.now s.table → IsSound s n → Allows s me event → Joins given event → Shows (slice_set words.now result.at result.left) (after_event s me given event).table }
 {
     let at = position(me, event);
     Change {
         at,
         found: words[at],
-        left: left_by(words, reach, me, given, event),
+        left: left_by(words, index, me, given, event),
     }
 }

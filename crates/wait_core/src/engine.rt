@@ -3,21 +3,24 @@
 ghost use Rattle.std.specs.Prelude.{◌≡◌, ◌+◌, ◌<◌, ◌≤◌, ◌++◌, ◌∷◌, ◌^◌, [], IfOk, IfSome, IsTrue, ◌↔◌, length, vec_capacity, nat_lt, ◌*◌, ℕ, slice_index, slice_get};
 ghost use Rattle.wait_model.specs.Locations.{Shows};
 ghost use Rattle.wait_model.specs.Tables.{start};
+ghost use Rattle.wait_model.specs.Tasks.{task_count};
 ghost use Rattle.wait_model.specs.Runs.{is_open, progress_at};
 ghost use Rattle.wait_model.specs.Admission.{IsListed};
 ghost use Rattle.wait_core.specs.Ended.{answer_of};
 
 use crate::changes::change_by;
+use crate::index::{MEMBERS, Standing, reindex};
+use crate::keepers::{keep, keeps_of, no_keepers};
 use crate::reads::{entry_at, held_head, plan, task_at};
-use crate::scan::{TASKS, member_at};
+use crate::scan::member_ranked;
 use std::alloc::{AllocError, Global};
 use std::marker::Model;
-use wait_model::admission::{is_in_range, is_queued_twice, lacks_entry};
+use wait_model::admission::{is_in_range, is_queued_twice, lacks_bit, lacks_entry};
 use wait_model::calls::{Answer, Call, Event, Ran};
 use wait_model::points::{Next, Progress, given_at};
 use wait_model::programs::start_of;
 use wait_model::queues::Member;
-use wait_model::tasks::Task;
+use wait_model::tasks::{TASKS, Task};
 use wait_model::words::WORDS;
 
 /// How many events a core makes.
@@ -41,6 +44,7 @@ pub enum StartFault {
     NoSuchTask = 1,
     CallOpen = 2,
     NoSuchCond = 3,
+    NotHeld = 4,
     EntryQueued = 5,
     NoEntry = 6,
 }
@@ -52,20 +56,22 @@ pub struct Core {
     progress: Vec<Progress>,
     run: Vec<Ran>,
     made: u32,
-    /// No task from this number on ever had a call opened, so no scan has to go further.
-    reach: u8,
+    /// The task that keeps each bit.
+    keepers: Vec<u8>,
+    /// The members of all queues, by rising head and rank.
+    index: Vec<Standing>,
 }
 
 impl Model for Core {
     ghost use Rattle.std.specs.Prelude.{List, vec_capacity};
     ghost use Rattle.wait_model.specs.declared.calls.Ran.{Ran};
-    ghost use Rattle.wait_core.specs.Core.{IsBoundedCore};
+    ghost use Rattle.wait_core.specs.Core.{IsIndexedCore};
 
     ghost Value = { List Ran };
 
     ghost view = { λ c. c.run.items };
 
-    ghost invariant = { λ c. IsBoundedCore c.words.items c.progress.items c.run.items c.made (vec_capacity c.run) c.reach };
+    ghost invariant = { λ c. IsIndexedCore c.words.items c.progress.items c.run.items c.made (vec_capacity c.run) c.keepers.items c.index.items (vec_capacity c.index) };
 }
 
 impl Core {
@@ -73,10 +79,12 @@ impl Core {
     ghost use Rattle.std.specs.Prelude.{IsNone};
     ghost use Rattle.wait_model.specs.Openings.{IsOpened};
     ghost use Rattle.wait_model.specs.Laws.{NoLostWake, NoLostFlag};
+    ghost use Rattle.wait_model.specs.Completions.{CountsAreBalanced};
+    ghost use Rattle.wait_model.specs.BitKeepers.{AreKept};
     ghost use Rattle.wait_model.specs.Selections.{IsOrderly};
-    ghost use Rattle.wait_model.specs.Queues.{member_from, IsInOrder};
+    ghost use Rattle.wait_model.specs.Queues.{member_from, rank, IsInOrder};
     ghost use Rattle.wait_model.specs.Locations.{Location, IsLocation, position_of, word_in};
-    ghost use Rattle.wait_model.specs.PlainWakes.{NoLostPlainWake};
+    ghost use Rattle.wait_model.specs.Wakes.{NoWakeIsLost};
     ghost use Rattle.wait_model.specs.Waiters.{NoWaiterIsLost};
     ghost use Rattle.wait_core.specs.Stepped.{stepped, items_of, started, opened_by, call_shown};
 
@@ -94,18 +102,21 @@ impl Core {
         let words = first_words(alloc)?;
         let progress = nobody(alloc, usize::from(TASKS))?;
         let run = Vec::with_capacity(alloc, ITEMS)?;
+        let keepers = no_keepers(alloc)?;
+        let index = Vec::with_capacity(alloc, MEMBERS)?;
         Ok(Core {
             words,
             progress,
             run,
             made: 0,
-            reach: 0,
+            keepers,
+            index,
         })
     }
 
     /// Whether a task's call is open; `None` where it never had one, that is, where the run has opened none.
     pub fn call_of(&self, task: u8) -> Option<bool>
-        requires { task < 64 }
+        requires { task < task_count }
         ensures call { result ≡ call_shown ((state_of self.now).progress task) }
         ensures never { IsNone result ↔ (IsOpened task self.now → ⊥) }
     {
@@ -125,20 +136,20 @@ impl Core {
 
     /// A task's record.
     pub fn task_of(&self, task: u8) -> Task
-        requires { task < 64 }
+        requires { task < task_count }
         ensures { result ≡ (state_of self.now).table.task task }
     {
         task_at(&self.words, task)
     }
 
-    /// The first member of a head's queue from a place on. The queue stands by rising place, so going on
-    /// behind each member's place meets them all in order.
+    /// The first member of a head's queue from a rank on. The queue stands by rising rank, so going on
+    /// behind each member's rank meets them all in order.
     pub fn member_from(&self, head: u16, least: u64) -> Option<Member>
         ensures member { result ≡ member_from least ((state_of self.now).queue head) }
-        ensures fits { IfSome result (λ m. (m.at < 128) × (least ≤ m.place) × (m.place < 2 ^ 40)) }
+        ensures fits { IfSome result (λ m. (m.at < 384) × (least ≤ rank m) × (m.place < 2 ^ 40)) }
         ensures order { IsInOrder ((state_of self.now).queue head) }
     {
-        member_at(&self.words, self.reach, head, least)
+        member_ranked(&self.words, &self.index, head, least)
     }
 
     /// The word at a position.
@@ -149,33 +160,51 @@ impl Core {
         self.words[position as usize]
     }
 
-    /// No wake is lost in the state of any core: whoever sleeps on a set condition is covered by a
-    /// task that owes it, or a walk has used up its count on others since. `plain` says so for plain
-    /// conditions by the tasks' histories alone, and `waiters` that it holds for each task that is asleep
-    /// in a wait.
+    /// No wake is lost in the state of any core. Whoever sleeps on a plain condition, a completion, a bit or a
+    /// variable that is set is covered by a task that owes the wake, or a walk has used up its count on others
+    /// since, or some task is trying the bit. `wake` and `flag` say so in terms of views, `told` by the tasks'
+    /// histories alone, and `waiters` that each task that is asleep in a wait sleeps in that sense.
     pub fn no_lost_wake(&self)
         ensures wake { NoLostWake (state_of self.now).table }
         ensures flag { NoLostFlag (state_of self.now).table }
-        ensures plain { NoLostPlainWake (state_of self.now).table }
+        ensures told { NoWakeIsLost (state_of self.now).table }
         ensures waiters { NoWaiterIsLost (state_of self.now) }
     {
         let _ = &self.run;
     }
 
     /// The run of any core is orderly. A walk with a count above 0 has selected at most that count, and its
-    /// answer tells how many. A wait that ends with -512 does so by a load of its condition that found 0,
-    /// in a turn that a signal ended, with its entry off. And each task has accepted, or has pending, at
-    /// most the signals that were raised at it, and the same of fatal ones.
+    /// answer tells how many. A wait that ends with -512 does so by a load of its condition that found it not
+    /// set, in a turn that a signal ended, with its entry off. A wait for a bit that ends with -4 found the bit
+    /// set in a turn that a signal ended, and one that takes the bit has tried once more and found it set. And
+    /// each task has accepted, or has pending, at most the signals that were raised at it, and the same of fatal
+    /// ones.
     pub fn is_orderly(&self)
         ensures { IsOrderly self.now }
     {
         let _ = &self.run;
     }
 
+    /// Every completion of any core is accounted for: what its stores raised and granted is what they lowered,
+    /// what they threw away, and what stands now.
+    pub fn counts_are_balanced(&self)
+        ensures { CountsAreBalanced (state_of self.now).table }
+    {
+        let _ = &self.run;
+    }
+
+    /// Each bit of any core is set exactly where one task keeps it: by an exchange that found it clear, and
+    /// not cleared by that task since.
+    pub fn bits_are_kept(&self)
+        ensures { AreKept (state_of self.now).table }
+    {
+        let _ = &self.run;
+    }
+
     /// Opens a call of a task; it makes no event. Refused by the first of these that stands, and then
     /// nothing changes: there is no such task; its call has not ended; a number or a condition is out of
-    /// its range; a call that queues finds the own entry queued; `remove` or `woken` finds none, or `woken`
-    /// one of another kind.
+    /// its range; the bit that it would clear is not one that the task keeps; a call that queues finds the own
+    /// entry queued; `remove` or `woken` finds none, or `woken` one of another kind.
     pub fn start(&mut self, task: u8, call: Call) -> Result<(), StartFault>
         requires { IsListed call }
         ensures answer { result ≡ started (state_of self.old) task call }
@@ -191,6 +220,9 @@ impl Core {
         if !is_in_range(task, call) {
             return Err(StartFault::NoSuchCond);
         }
+        if lacks_bit(call, keeps_of(&self.keepers, task, call)) {
+            return Err(StartFault::NotHeld);
+        }
         let entry = entry_at(&self.words, task);
         if is_queued_twice(call, entry) {
             return Err(StartFault::EntryQueued);
@@ -202,14 +234,13 @@ impl Core {
             call,
             point: start_of(call),
         };
-        self.reach = self.reach.max(task + 1);
         log(&mut self.run, Ran::Opened { task, call });
         Ok(())
     }
 
     /// Makes a task's next event.
     pub fn step(&mut self, task: u8) -> Stepped
-        requires { task < 64 }
+        requires { task < task_count }
         ensures answer { result ≡ stepped (state_of self.old) (made_in self.old) task ((state_of self.old).progress task) }
         ensures run { self.new ≡ self.old ++ items_of (state_of self.old) task result }
     {
@@ -220,7 +251,7 @@ impl Core {
         if !task_at(&self.words, task).runnable {
             return Stepped::Asleep;
         }
-        let planned = plan(&self.words, self.reach, task, call, point);
+        let planned = plan(&self.words, &self.index, task, call, point);
         if let Some(head) = held_head(&self.words, planned.event) {
             return Stepped::Busy { head };
         }
@@ -228,9 +259,11 @@ impl Core {
             return Stepped::Full;
         }
         let event = planned.event;
-        let change = change_by(&self.words, self.reach, task, given_at(call, point), event);
+        let change = change_by(&self.words, &self.index, task, given_at(call, point), event);
         let found = change.found;
+        reindex(&mut self.index, &self.words, change.at, change.left);
         self.words[change.at] = change.left;
+        keep(&mut self.keepers, task, event);
         self.progress[slot] = progress_of(call, planned.next);
         log(&mut self.run, Ran::Made { task, event, found });
         self.made += 1;

@@ -1,48 +1,44 @@
 //! What a task finds in the words, and the event that it makes next.
 
-ghost use Rattle.std.specs.Prelude.{◌≡◌, ℕ, ◌+◌, ◌*◌, ◌<◌, ◌≤◌, ◌^◌, IfSome, length};
-ghost use Rattle.wait_model.specs.Runs.{State, seen_by, walk_member, called_by, called_at, planned, busy_head, own};
+ghost use Rattle.std.specs.Prelude.{◌≡◌, ℕ, ◌+◌, ◌*◌, ◌<◌, ◌≤◌, ◌^◌, ◌-◌, IfSome, length, false};
+ghost use Rattle.wait_model.specs.Tasks.{task_count};
+ghost use Rattle.wait_model.specs.Runs.{State, seen_by, arrives_at, walk_member, members_at, called_by, planned, busy_head, own};
 ghost use Rattle.wait_model.specs.Shown.{IsInRange};
 ghost use Rattle.wait_model.specs.Locations.{Shows};
 ghost use Rattle.wait_model.specs.Reached.{IsSound};
-ghost use Rattle.wait_model.specs.Points.{cond_of, IsReachable};
+ghost use Rattle.wait_model.specs.Points.{call_watch, call_head, IsReachable};
+ghost use Rattle.wait_model.specs.Watches.{IsThere};
+ghost use Rattle.wait_model.specs.Tables.{value_of};
 ghost use Rattle.wait_model.specs.Programs.{IsFitting};
-ghost use Rattle.wait_core.specs.Scan.{IsReach, shown_entry};
+ghost use Rattle.wait_core.specs.Scan.{shown_stand};
+ghost use Rattle.wait_core.specs.Index.{IsIndex};
+ghost use Rattle.wait_core.specs.Arrivals.{arrived};
 
-use crate::scan::member_at;
+use crate::arrivals::{Arrived, arrive};
+use crate::index::Standing;
+use crate::scan::{entry_in, entry_ranked, mark_in, member_ranked};
 use wait_model::calls::{Call, Event};
-use wait_model::points::{Planned, Point, Seen, WalkPoint, about};
+use wait_model::points::{Planned, Point, Seen, SelectPoint, WalkPoint, about};
 use wait_model::programs::next_event;
-use wait_model::queues::{Called, Member};
+use wait_model::queues::{Called, Mark, Member};
 use wait_model::tasks::{Task, task_of};
-use wait_model::watches::Entry;
-use wait_model::words::{entry_of, flag_of, held_of, spent_of};
+use wait_model::watches::{Entry, Watch};
+use wait_model::words::{flag_of, held_of, spent_of};
 
 /// A task's record.
 pub fn task_at(words: &[u64], who: u8) -> Task
     requires count { length words.now ≡ 9873 }
-    requires who { who < 64 }
+    requires who { who < task_count }
     ensures { (s : State) (n : ℕ) → Shows words.now s.table → IsSound s n → result ≡ s.table.task who }
 {
     task_of(words[1 + usize::from(who)])
-}
-
-/// The entry that a word shows.
-#[tactic(auto, using(crate::proofs::Found::entry_small))]
-fn entry_in(words: &[u64], at: u16) -> Option<Entry>
-    requires count { length words.now ≡ 9873 }
-    requires at { at < 256 }
-    ensures entry { result ≡ shown_entry words.now at }
-    ensures fits { IfSome result (λ e. e.place < 2 ^ 40) }
-{
-    entry_of(words[129 + usize::from(at)])
 }
 
 /// A task's entry.
 #[tactic(auto, using(crate::proofs::Found::entry_shown_is))]
 pub fn entry_at(words: &[u64], who: u8) -> Option<Entry>
     requires count { length words.now ≡ 9873 }
-    requires who { who < 64 }
+    requires who { who < task_count }
     ensures { (s : State) (n : ℕ) → Shows words.now s.table → IsSound s n → result ≡ s.table.entry (own who) }
 {
     entry_in(words, 2 * u16::from(who))
@@ -52,20 +48,20 @@ pub fn entry_at(words: &[u64], who: u8) -> Option<Entry>
 #[tactic(auto, using(crate::proofs::Found::flag_word_is))]
 pub fn flag_at(words: &[u64], who: u8) -> bool
     requires count { length words.now ≡ 9873 }
-    requires who { who < 64 }
+    requires who { who < task_count }
     ensures { (s : State) → Shows words.now s.table → result ≡ s.table.flag (own who) }
 {
     flag_of(words[385 + 2 * usize::from(who)])
 }
 
-/// The value of a plain condition.
-#[tactic(auto, using(crate::proofs::Found::plain_word_is))]
-pub fn value_at(words: &[u64], cond: u8) -> u64
+/// The value of a condition's word.
+#[tactic(auto, using(crate::proofs::Found::value_is, crate::proofs::Found::number_small))]
+pub fn value_at(words: &[u64], watch: Watch) -> u64
     requires count { length words.now ≡ 9873 }
-    requires cond { cond < 64 }
-    ensures { (s : State) → Shows words.now s.table → result ≡ s.table.words.plains cond }
+    requires watch { IsThere watch }
+    ensures { (s : State) → Shows words.now s.table → result ≡ value_of s.table.words watch }
 {
-    words[1153 + usize::from(cond)]
+    words[1153 + usize::from(watch.number())]
 }
 
 /// Whether a head's lock is held.
@@ -89,26 +85,82 @@ pub fn spent_at(words: &[u64], head: u16) -> u64
     spent_of(words[769 + usize::from(head)])
 }
 
-/// The member that a walk calls next.
-fn walk_at(words: &[u64], reach: u8, head: u16, point: Point) -> Option<Member>
+/// Where the walk of a call goes on.
+fn arrived_at(words: &[u64], index: &[Standing], call: Call, point: Point) -> Arrived
     requires count { length words.now ≡ 9873 }
-    requires reach { IsReach words.now reach }
-    ensures member { (s : State) (n : ℕ) → Shows words.now s.table → IsSound s n → result ≡ walk_member point (s.queue head) }
-    ensures fits { IfSome result (λ m. m.at < 128) }
+    requires index { IsIndex (shown_stand words.now) index.now }
+    requires point { IsFitting point }
+    ensures arrived { (s : State) (n : ℕ) → Shows words.now s.table → IsSound s n → result ≡ arrived (arrives_at s.table.entry call point (s.queue (call_head call))) }
+    ensures entry { result.breaks ≡ false → IfSome result.member (λ m. m.at < 256) }
+    ensures calls { result.calls < 2 ^ 32 - 1 }
 {
     match point {
-        Point::Walk(WalkPoint::Call(walk)) => member_at(words, reach, head, walk.place),
+        Point::Walk(WalkPoint::Call(walk)) => arrive(
+            words,
+            index,
+            call.head(),
+            call.watch(),
+            walk.place,
+            walk.calls,
+        ),
+        _ => Arrived {
+            calls: 0,
+            member: None,
+            breaks: false,
+        },
+    }
+}
+
+/// The member that a walk calls next, or that a selection takes.
+fn walk_at(
+    words: &[u64],
+    index: &[Standing],
+    call: Call,
+    point: Point,
+    walk: Arrived,
+) -> Option<Member>
+    requires count { length words.now ≡ 9873 }
+    requires index { IsIndex (shown_stand words.now) index.now }
+    requires entry { walk.breaks ≡ false → IfSome walk.member (λ m. m.at < 256) }
+    ensures member { (s : State) (n : ℕ) → Shows words.now s.table → IsSound s n → walk ≡ arrived (arrives_at s.table.entry call point (s.queue (call_head call))) → result ≡ walk_member s.table.entry call point (s.queue (call_head call)) }
+    ensures fits { IfSome result (λ m. m.at < 256) }
+{
+    match point {
+        Point::Walk(WalkPoint::Call(_)) => if walk.breaks { None } else { walk.member },
+        Point::Select(SelectPoint::Next(_)) => entry_ranked(words, index, call.head(), 0),
         _ => None,
     }
+}
+
+/// Whether the head of a call has members, where the call looks for them.
+fn has_members(words: &[u64], index: &[Standing], call: Call, point: Point) -> bool
+    requires count { length words.now ≡ 9873 }
+    requires index { IsIndex (shown_stand words.now) index.now }
+    ensures { (s : State) (n : ℕ) → Shows words.now s.table → IsSound s n → result ≡ members_at point (s.queue (call_head call)) }
+{
+    match point {
+        Point::Active => member_ranked(words, index, call.head(), 0).is_some(),
+        _ => false,
+    }
+}
+
+/// A task's bookmark.
+#[tactic(auto, using(crate::proofs::Found::mark_shown_is))]
+fn own_mark_at(words: &[u64], who: u8) -> Option<Mark>
+    requires count { length words.now ≡ 9873 }
+    requires who { who < task_count }
+    ensures { (s : State) (n : ℕ) → Shows words.now s.table → IsSound s n → result ≡ s.table.mark who }
+{
+    mark_in(words, u16::from(who))
 }
 
 /// The entry of a member, and whose it is.
 #[tactic(auto, using(crate::proofs::Found::entry_shown_is))]
 fn called_in(words: &[u64], member: Option<Member>) -> Option<Called>
     requires count { length words.now ≡ 9873 }
-    requires member { IfSome member (λ m. m.at < 128) }
+    requires member { IfSome member (λ m. m.at < 256) }
     ensures called { (s : State) (n : ℕ) → Shows words.now s.table → IsSound s n → result ≡ called_by s.table.entry member }
-    ensures fits { IfSome result (λ c. (c.who < 64) × (c.entry.place < 2 ^ 40)) }
+    ensures fits { IfSome result (λ c. (c.who < task_count) × (c.entry.place < 2 ^ 40)) }
 {
     match member {
         None => None,
@@ -123,36 +175,42 @@ fn called_in(words: &[u64], member: Option<Member>) -> Option<Called>
 }
 
 /// What a task finds at its next event.
-pub fn seen_at(words: &[u64], reach: u8, me: u8, call: Call, point: Point) -> Seen
+pub fn seen_at(words: &[u64], index: &[Standing], me: u8, call: Call, point: Point) -> Seen
     requires count { length words.now ≡ 9873 }
-    requires reach { IsReach words.now reach }
-    requires me { me < 64 }
-    requires call { cond_of call < 64 }
-    requires point { IsReachable call point }
+    requires index { IsIndex (shown_stand words.now) index.now }
+    requires me { me < task_count }
+    requires call { IsThere (call_watch call) }
+    requires point { IsReachable call point × IsFitting point }
     ensures seen { (s : State) (n : ℕ) → Shows words.now s.table → IsSound s n → result ≡ seen_by s me call point }
     ensures called { IfSome result.called (λ c. c.entry.place < 2 ^ 40) }
+    ensures calls { result.calls < 2 ^ 32 - 1 }
 {
-    let called = called_in(words, walk_at(words, reach, call.head(), point));
+    let walk = arrived_at(words, index, call, point);
+    let called = called_in(words, walk_at(words, index, call, point, walk));
     Seen {
         own: task_at(words, me),
         entry: entry_at(words, me),
         flag: flag_at(words, me),
-        value: value_at(words, call.cond()),
+        value: value_at(words, call.watch()),
         called,
+        breaks: walk.breaks,
+        calls: walk.calls,
+        members: has_members(words, index, call, point),
+        mark: own_mark_at(words, me),
         other: task_at(words, about(call, point, called)),
     }
 }
 
 /// The next event of a task's open call, and where its program goes.
-pub fn plan(words: &[u64], reach: u8, me: u8, call: Call, point: Point) -> Planned
+pub fn plan(words: &[u64], index: &[Standing], me: u8, call: Call, point: Point) -> Planned
     requires count { length words.now ≡ 9873 }
-    requires reach { IsReach words.now reach }
-    requires me { me < 64 }
-    requires call { cond_of call < 64 }
+    requires index { IsIndex (shown_stand words.now) index.now }
+    requires me { me < task_count }
+    requires call { IsThere (call_watch call) }
     requires point { IsReachable call point × IsFitting point }
     ensures { (s : State) (n : ℕ) → Shows words.now s.table → IsSound s n → result ≡ planned s me call point }
 {
-    let seen = seen_at(words, reach, me, call, point);
+    let seen = seen_at(words, index, me, call, point);
     next_event(me, call, point, seen)
 }
 

@@ -1,39 +1,43 @@
 //! What the words show of a queue: its members by their places.
 
-ghost use Rattle.std.specs.Prelude.{◌≡◌, ℕ, ◌+◌, ◌*◌, ◌<◌, ◌≤◌, ◌^◌, ◌-◌, IfSome, length};
+ghost use Rattle.std.specs.Prelude.{◌≡◌, ℕ, ◌+◌, ◌*◌, ◌<◌, ◌≤◌, ◌^◌, ◌-◌, ◌⊎◌, IfSome, Option, length, true, false};
 ghost use Rattle.wait_model.specs.Runs.{State};
-ghost use Rattle.wait_model.specs.Queues.{member_from, last_within, front_place, tail_place, priority_place, place_for};
+ghost use Rattle.wait_model.specs.Queues.{member_from, entry_from, last_within, rank, rank_at, front_place, tail_place, priority_place, place_for};
 ghost use Rattle.wait_model.specs.Queues as queue;
 ghost use Rattle.wait_model.specs.Locations.{Shows};
 ghost use Rattle.wait_model.specs.Reached.{IsSound};
-ghost use Rattle.wait_core.specs.Scan.{IsReach, IsPicked, shown_entry};
-ghost use Rattle.wait_core.specs.Scan as spec;
+ghost use Rattle.wait_model.specs.declared.queues.Mark.{Mark};
+ghost use Rattle.wait_core.specs.Scan.{IsPicked, shown_entry, shown_mark, shown_stand};
+ghost use Rattle.wait_core.specs.Index.{IsSorted, IsIndex};
 
-use wait_model::heads::head_of;
-use wait_model::queues::{Form, Member};
+use crate::index::{RANKS, Standing, below};
+use wait_model::queues::{Form, Mark, Member};
 use wait_model::watches::Entry;
-use wait_model::words::entry_of;
+use wait_model::words::{entry_of, mark_of};
 
-/// How many tasks there are.
-pub const TASKS: u8 = 64;
-/// How many entries they have.
-const ENTRIES: u16 = 128;
+/// How many entries there are, and how many members with the bookmarks behind them.
+pub const ENTRIES: u16 = 256;
+
+const MEMBERS: u16 = 384;
+
+/// How many numbers of members a place has room for in the order of members.
+pub const NUMBERS: u64 = 512;
 
 /// Where priority entries end, and the end of the places.
 const MIDDLE: u64 = 1 << 39;
 
-const PLACES: u64 = 1 << 40;
+pub const PLACES: u64 = 1 << 40;
 
 /// The place of a first entry with priority, and of one without.
 const FIRST_PRIORITY: u64 = 1 << 38;
 
-const FIRST_PLACE: u64 = (1 << 39) + (1 << 38);
+pub const FIRST_PLACE: u64 = (1 << 39) + (1 << 38);
 
 /// The last place behind which there is one more; a million adds never come so far.
 const LAST_PLACE: u64 = (1 << 40) - 4;
 
-/// Which member a scan looks for: one of this head, at a place from `low` on and below `high`, the first
-/// or the last of these.
+/// Which member a scan looks for: one of this head, at a rank from `low` on and below `high`, the first or
+/// the last of these.
 #[derive(Clone, Copy)]
 pub struct Span {
     pub head: u16,
@@ -42,115 +46,167 @@ pub struct Span {
     pub last: bool,
 }
 
-/// Whether the scan looks at an entry.
-fn counts(span: Span, entry: Entry) -> bool
-    ensures { result ≡ spec.counts span entry }
-{
-    head_of(entry.watch) == span.head && (span.low <= entry.place && entry.place < span.high)
-}
-
-/// Whether the scan prefers the first of two places.
-fn prefers(span: Span, place: u64, other: u64) -> bool
-    ensures { result ≡ spec.prefers span place other }
-{
-    if span.last {
-        other < place
-    } else {
-        place < other
-    }
-}
-
-/// The better of what was found and one more member.
-fn preferred(span: Span, best: Option<Member>, member: Member) -> Option<Member>
-    ensures { result ≡ spec.preferred span best member }
-{
-    match best {
-        None => Some(member),
-        Some(other) => {
-            if prefers(span, member.place, other.place) {
-                Some(member)
-            } else {
-                Some(other)
-            }
-        }
-    }
-}
-
-/// What a scan has found behind one more entry word.
-fn picked_of(span: Span, at: u16, best: Option<Member>, found: Option<Entry>) -> Option<Member>
-    ensures { result ≡ spec.picked_of span at best found }
-{
-    match found {
-        None => best,
-        Some(entry) => {
-            if counts(span, entry) {
-                let place = entry.place;
-                preferred(span, best, Member { at, place })
-            } else {
-                best
-            }
-        }
-    }
-}
-
-/// The member that a scan over the entry words finds; it goes no further than the tasks that can have one queued.
-#[tactic(auto, using(crate::proofs::Scanned::more_shown))]
-pub fn member_in(words: &[u64], reach: u8, span: Span) -> Option<Member>
+/// The entry that a word shows.
+#[tactic(auto, using(crate::proofs::Found::entry_small))]
+pub fn entry_in(words: &[u64], at: u16) -> Option<Entry>
     requires count { length words.now ≡ 9873 }
-    requires reach { IsReach words.now reach }
-    ensures picked { IsPicked (shown_entry words.now) 128 span result }
-    ensures fits { IfSome result (λ m. (m.at < 128) × (span.low ≤ m.place) × (m.place < 2 ^ 40)) }
+    requires at { at < 256 }
+    ensures entry { result ≡ shown_entry words.now at }
+    ensures fits { IfSome result (λ e. e.place < 2 ^ 40) }
 {
-    let mut best = None;
-    for at in 0..2 * u16::from(reach) {
-        let word = words[129 + usize::from(at)];
-        best = picked_of(span, at, best, entry_of(word));
+    entry_of(words[129 + usize::from(at)])
+}
+
+/// The bookmark that a task's word shows.
+#[tactic(auto, using(crate::proofs::Found::mark_small))]
+pub fn mark_in(words: &[u64], task: u16) -> Option<Mark>
+    requires count { length words.now ≡ 9873 }
+    requires task { task < 128 }
+    ensures mark { result ≡ shown_mark words.now task }
+    ensures fits { IfSome result (λ k. k.place < 2 ^ 40) }
+{
+    mark_of(words[641 + usize::from(task)])
+}
+
+/// The first member that a look finds among those below a number.
+fn first_in(index: &[Standing], span: Span, count: u16) -> Option<Member>
+    requires index { IsSorted index.now }
+    requires first { span.last ≡ false }
+    requires count { count ≤ 384 }
+    ensures picked { (f : ℕ → Option Mark) → IsIndex f index.now → IsPicked f count span result }
+    ensures fits { IfSome result (λ m. (m.at < count) × (span.low ≤ rank m) × (m.place < 2 ^ 40)) }
+{
+    let mut at = below(index, span.head, span.low.min(RANKS));
+    while at < index.len() {
+        let standing = index[at];
+        if standing.head != span.head {
+            return None;
+        }
+        if standing.rank >= span.high {
+            return None;
+        }
+        let member = standing.member();
+        if member.at < count {
+            return Some(member);
+        }
+        at += 1;
     }
-    best
+    None
+}
+
+/// The last member that a look finds among those below a number.
+fn last_in(index: &[Standing], span: Span, count: u16) -> Option<Member>
+    requires index { IsSorted index.now }
+    requires last { span.last ≡ true }
+    requires count { count ≤ 384 }
+    ensures picked { (f : ℕ → Option Mark) → IsIndex f index.now → IsPicked f count span result }
+    ensures fits { IfSome result (λ m. (m.at < count) × (span.low ≤ rank m) × (m.place < 2 ^ 40)) }
+{
+    let mut end = below(index, span.head, span.high.min(RANKS));
+    while end > 0 {
+        let standing = index[end - 1];
+        if standing.head != span.head {
+            return None;
+        }
+        if standing.rank < span.low {
+            return None;
+        }
+        let member = standing.member();
+        if member.at < count {
+            return Some(member);
+        }
+        end -= 1;
+    }
+    None
+}
+
+/// The member that a look finds among the entries, or among the entries and the bookmarks.
+pub fn member_in(words: &[u64], index: &[Standing], span: Span, count: u16) -> Option<Member>
+    requires index { IsIndex (shown_stand words.now) index.now }
+    requires count { count ≤ 384 }
+    ensures picked { IsPicked (shown_stand words.now) count span result }
+    ensures fits { IfSome result (λ m. (m.at < count) × (span.low ≤ rank m) × (m.place < 2 ^ 40)) }
+{
+    let _ = words;
+    if span.last {
+        last_in(index, span, count)
+    } else {
+        first_in(index, span, count)
+    }
+}
+
+/// The ranks of a head from one on.
+fn ranks_from(head: u16, least: u64) -> Span
+    ensures { result ≡ record { head = head; low = least; high = rank_at (2 ^ 40); last = false } }
+{
+    Span {
+        head,
+        low: least,
+        high: NUMBERS * PLACES,
+        last: false,
+    }
+}
+
+/// The first member of a queue from a rank on.
+#[tactic(auto, using(crate::proofs::Found::first_found))]
+pub fn member_ranked(words: &[u64], index: &[Standing], head: u16, least: u64) -> Option<Member>
+    requires count { length words.now ≡ 9873 }
+    requires index { IsIndex (shown_stand words.now) index.now }
+    ensures member { (s : State) (n : ℕ) → Shows words.now s.table → IsSound s n → result ≡ member_from least (s.queue head) }
+    ensures fits { IfSome result (λ m. (m.at < 384) × (least ≤ rank m) × (m.place < 2 ^ 40)) }
+{
+    member_in(words, index, ranks_from(head, least), MEMBERS)
 }
 
 /// The first member of a queue from a place on.
-#[tactic(auto, using(crate::proofs::Found::first_found))]
-pub fn member_at(words: &[u64], reach: u8, head: u16, least: u64) -> Option<Member>
+#[tactic(auto, using(crate::proofs::Found::member_placed))]
+pub fn member_at(words: &[u64], index: &[Standing], head: u16, place: u64) -> Option<Member>
     requires count { length words.now ≡ 9873 }
-    requires reach { IsReach words.now reach }
-    ensures member { (s : State) (n : ℕ) → Shows words.now s.table → IsSound s n → result ≡ member_from least (s.queue head) }
-    ensures fits { IfSome result (λ m. (m.at < 128) × (least ≤ m.place) × (m.place < 2 ^ 40)) }
+    requires index { IsIndex (shown_stand words.now) index.now }
+    ensures member { (s : State) (n : ℕ) → Shows words.now s.table → IsSound s n → result ≡ member_from (rank_at place) (s.queue head) }
+    ensures fits { IfSome result (λ m. (m.at < 384) × (place ≤ m.place) × (m.place < 2 ^ 40)) }
 {
-    let span = Span {
-        head,
-        low: least,
-        high: PLACES,
-        last: false,
-    };
-    member_in(words, reach, span)
+    let least = NUMBERS * place.min(PLACES);
+    member_in(words, index, ranks_from(head, least), MEMBERS)
+}
+
+/// The first entry of a queue from a rank on.
+#[tactic(auto, using(crate::proofs::Found::entry_found))]
+pub fn entry_ranked(words: &[u64], index: &[Standing], head: u16, least: u64) -> Option<Member>
+    requires count { length words.now ≡ 9873 }
+    requires index { IsIndex (shown_stand words.now) index.now }
+    ensures member { (s : State) (n : ℕ) → Shows words.now s.table → IsSound s n → result ≡ entry_from least (s.queue head) }
+    ensures fits { IfSome result (λ m. (m.at < 256) × (m.place < 2 ^ 40)) }
+{
+    member_in(words, index, ranks_from(head, least), ENTRIES)
 }
 
 /// The last member of a queue from a place on and below another.
 #[tactic(auto, using(crate::proofs::Found::last_found))]
-pub fn last_at(words: &[u64], reach: u8, head: u16, low: u64, high: u64) -> Option<Member>
-    requires count { length words.now ≡ 9873 }
-    requires reach { IsReach words.now reach }
+pub fn last_at(words: &[u64], index: &[Standing], head: u16, low: u64, high: u64) -> Option<Member>
+    requires words { length words.now ≡ 9873 }
+    requires index { IsIndex (shown_stand words.now) index.now }
+    requires places { (low ≤ 2 ^ 40) × (high ≤ 2 ^ 40) }
     ensures member { (s : State) (n : ℕ) → Shows words.now s.table → IsSound s n → result ≡ last_within low high (s.queue head) }
-    ensures fits { IfSome result (λ m. (m.at < 128) × (m.place < 2 ^ 40)) }
+    ensures fits { IfSome result (λ m. (m.at < 384) × (m.place < 2 ^ 40)) }
 {
     let span = Span {
         head,
-        low,
-        high,
+        low: NUMBERS * low,
+        high: NUMBERS * high,
         last: true,
     };
-    member_in(words, reach, span)
+    member_in(words, index, span, MEMBERS)
 }
 
 /// The place that an add at the front takes.
-fn front_place_at(words: &[u64], reach: u8, head: u16) -> u64
+fn front_place_at(words: &[u64], index: &[Standing], head: u16) -> u64
     requires count { length words.now ≡ 9873 }
-    requires reach { IsReach words.now reach }
+    requires index { IsIndex (shown_stand words.now) index.now }
     ensures place { (s : State) (n : ℕ) → Shows words.now s.table → IsSound s n → result ≡ front_place (s.queue head) }
     ensures fits { result < 2 ^ 40 }
 {
-    match member_at(words, reach, head, MIDDLE) {
+    match member_at(words, index, head, MIDDLE) {
         None => FIRST_PLACE,
         Some(member) => (member.place - 1) / 2 * 2,
     }
@@ -169,35 +225,35 @@ fn place_behind(first: u64, member: Option<Member>) -> u64
 }
 
 /// The place that an add at the tail takes.
-fn tail_place_at(words: &[u64], reach: u8, head: u16) -> u64
+fn tail_place_at(words: &[u64], index: &[Standing], head: u16) -> u64
     requires count { length words.now ≡ 9873 }
-    requires reach { IsReach words.now reach }
+    requires index { IsIndex (shown_stand words.now) index.now }
     ensures place { (s : State) (n : ℕ) → Shows words.now s.table → IsSound s n → result ≡ tail_place (s.queue head) }
     ensures fits { result < 2 ^ 40 }
 {
-    place_behind(FIRST_PLACE, last_at(words, reach, head, MIDDLE, PLACES))
+    place_behind(FIRST_PLACE, last_at(words, index, head, MIDDLE, PLACES))
 }
 
 /// The place that an add with priority takes.
-fn priority_place_at(words: &[u64], reach: u8, head: u16) -> u64
+fn priority_place_at(words: &[u64], index: &[Standing], head: u16) -> u64
     requires count { length words.now ≡ 9873 }
-    requires reach { IsReach words.now reach }
+    requires index { IsIndex (shown_stand words.now) index.now }
     ensures place { (s : State) (n : ℕ) → Shows words.now s.table → IsSound s n → result ≡ priority_place (s.queue head) }
     ensures fits { result < 2 ^ 40 }
 {
-    place_behind(FIRST_PRIORITY, last_at(words, reach, head, 0, MIDDLE))
+    place_behind(FIRST_PRIORITY, last_at(words, index, head, 0, MIDDLE))
 }
 
 /// The place that an add takes.
-pub fn place_at(words: &[u64], reach: u8, head: u16, form: Form) -> u64
+pub fn place_at(words: &[u64], index: &[Standing], head: u16, form: Form) -> u64
     requires count { length words.now ≡ 9873 }
-    requires reach { IsReach words.now reach }
+    requires index { IsIndex (shown_stand words.now) index.now }
     ensures place { (s : State) (n : ℕ) → Shows words.now s.table → IsSound s n → result ≡ place_for form (s.queue head) }
     ensures fits { result < 2 ^ 40 }
 {
     match form {
-        Form::Front => front_place_at(words, reach, head),
-        Form::Tail => tail_place_at(words, reach, head),
-        Form::Priority => priority_place_at(words, reach, head),
+        Form::Front => front_place_at(words, index, head),
+        Form::Tail => tail_place_at(words, index, head),
+        Form::Priority => priority_place_at(words, index, head),
     }
 }

@@ -1,4 +1,4 @@
-ghost use Rattle.std.specs.Prelude.{◌<◌};
+ghost use Rattle.std.specs.Prelude.{◌<◌, ◌≤◌};
 ghost use Rattle.wait_model.specs.Admission.{IsListed};
 
 use crate::engine::{Core, StartFault, Stepped};
@@ -33,9 +33,16 @@ const ADD: Call = Call::Add {
     form: Form::Front,
 };
 
+/// A wake of all tasks of condition 0.
+const WAKE: Call = Call::Wake {
+    cond: 0,
+    mode: Mode::Normal,
+    count: 0,
+};
+
 /// Makes up to `most` events of a task, and answers how many it made.
 fn steps(core: &mut Core, task: u8, most: u32) -> u32
-    requires { task < 64 }
+    requires { task < 128 }
 {
     for before in 0..most {
         match core.step(task) {
@@ -59,7 +66,7 @@ fn steps(core: &mut Core, task: u8, most: u32) -> u32
 
 /// Makes one event of a task.
 fn made(core: &mut Core, task: u8) -> Option<Event>
-    requires { task < 64 }
+    requires { task < 128 }
 {
     match core.step(task) {
         Stepped::Made { event, .. } => Some(event),
@@ -69,7 +76,7 @@ fn made(core: &mut Core, task: u8) -> Option<Event>
 
 /// What a walk answers that ends with its next event.
 fn walked(core: &mut Core, task: u8) -> Option<Walked>
-    requires { task < 64 }
+    requires { task < 128 }
 {
     match core.step(task) {
         Stepped::Made {
@@ -87,17 +94,7 @@ fn one_waiter_set_and_wake(rt: HostRuntime) -> Result<(), Fail> {
     assert_eq!(rt; steps(&mut core, 1, 99), 7);
     assert!(rt; core.start(2, Call::Set { cond: 0, value: 1 }).is_ok());
     assert_eq!(rt; steps(&mut core, 2, 1), 1);
-    assert!(rt;
-        core.start(
-            2,
-            Call::Wake {
-                cond: 0,
-                mode: Mode::Normal,
-                count: 0
-            }
-        )
-        .is_ok()
-    );
+    assert!(rt; core.start(2, WAKE).is_ok());
     assert_eq!(rt; steps(&mut core, 2, 99), 4);
     assert_eq!(rt; steps(&mut core, 1, 99), 10);
     assert_eq!(rt; core.ran().len(), 25);
@@ -154,17 +151,7 @@ fn flag_that_was_set_before_the_state_is_found(rt: HostRuntime) -> Result<(), Fa
     let mut core = Core::new(rt.alloc())?;
     assert!(rt; core.start(1, ADD).is_ok());
     assert_eq!(rt; steps(&mut core, 1, 99), 3);
-    assert!(rt;
-        core.start(
-            2,
-            Call::Wake {
-                cond: 0,
-                mode: Mode::Normal,
-                count: 0
-            }
-        )
-        .is_ok()
-    );
+    assert!(rt; core.start(2, WAKE).is_ok());
     assert!(rt; matches!(made(&mut core, 2), Some(Event::Lock { head: 256 })));
     assert!(rt; matches!(made(&mut core, 2), Some(Event::Woken { who: 1 })));
     assert!(rt; matches!(made(&mut core, 2), Some(Event::Wake { who: 1, yes: false })));
@@ -209,9 +196,85 @@ fn calls_on_the_own_entry_are_refused_where_it_is_not_as_they_want(
     assert!(rt; matches!(core.start(1, PLAIN), Err(StartFault::EntryQueued)));
     assert!(rt;
         matches!(
-            core.start(1, Call::Kick { who: 64 }),
+            core.start(1, Call::Kick { who: 128 }),
             Err(StartFault::NoSuchCond)
         )
     );
+    Ok(())
+}
+
+/// Tasks below a number add an entry at the front of condition 0, one after another.
+fn add_many(core: &mut Core, count: u8)
+    requires { count ≤ 128 }
+{
+    for task in 0..count {
+        let call = Call::Add {
+            cond: 0,
+            kind: Kind::Default,
+            form: Form::Front,
+        };
+        let _ = core.start(task, call);
+        let _ = steps(core, task, 99);
+    }
+}
+
+/// Task 100 wakes condition 0 after so many tasks have added an entry. Answers the events of the wake, and
+/// what it did.
+fn walk_over(core: &mut Core, count: u8) -> (u32, Option<Answer>)
+    requires { count ≤ 128 }
+{
+    add_many(core, count);
+    let _ = core.start(100, WAKE);
+    for before in 0..999u32 {
+        match core.step(100) {
+            Stepped::Made { ended, .. } => {
+                if ended.is_some() {
+                    return (before + 1, ended);
+                }
+            }
+            _ => return (before, None),
+        }
+    }
+    (999, None)
+}
+
+/// In how many holds a walk was made; 0 for another answer.
+fn holds(answer: Option<Answer>) -> u32 {
+    match answer {
+        Some(Answer::Walk(walked)) => walked.holds,
+        _ => 0,
+    }
+}
+
+#[test]
+fn walk_of_65_does_not_break(rt: HostRuntime) -> Result<(), Fail> {
+    let mut core = Core::new(rt.alloc())?;
+    let (made, answer) = walk_over(&mut core, 65);
+    assert_eq!(rt; made, 67);
+    assert_eq!(rt; holds(answer), 1);
+    Ok(())
+}
+
+#[test]
+fn walk_of_66_breaks_once(rt: HostRuntime) -> Result<(), Fail> {
+    let mut core = Core::new(rt.alloc())?;
+    let (made, answer) = walk_over(&mut core, 66);
+    assert_eq!(rt; made, 72);
+    assert_eq!(rt; holds(answer), 2);
+    Ok(())
+}
+
+#[test]
+fn entry_that_moves_during_a_break_is_not_called(rt: HostRuntime) -> Result<(), Fail> {
+    let mut core = Core::new(rt.alloc())?;
+    add_many(&mut core, 66);
+    assert!(rt; core.start(100, WAKE).is_ok());
+    assert_eq!(rt; steps(&mut core, 100, 68), 68);
+    assert!(rt; core.word_at(741) != 0);
+    assert!(rt; core.start(0, Call::Remove).is_ok());
+    assert_eq!(rt; steps(&mut core, 0, 99), 3);
+    add_many(&mut core, 1);
+    assert_eq!(rt; steps(&mut core, 100, 999), 3);
+    assert_eq!(rt; core.word_at(741), 0);
     Ok(())
 }

@@ -35,8 +35,8 @@ pub back_view : (s : Table) (a : ℕ) (v : View) (P : View → Type 0) → (P v 
 back_view s a v P own b = put_at (λ (w : View). P w → P (s.view b)) s.view a v b
     (λ e h. subst (λ (i : ℕ). P (s.view i)) (sym e) (own h)) (λ _ h. h)
 
--- the part was there before, the step's own task keeps its cover of it, or the spent count rises, or the
--- walk for a bit ends that has picked
+-- the part was there before, the step's own task keeps its cover of it, or the spent count rises, or the walk
+-- for a bit ends that has picked
 pub record Carried (s : Table) (a : ℕ) (ev : Step) (x : ℕ) (e : Entry) (on : Watch) (m : ℕ) : Type 0 where
   pub old : Waits s x e on m
   pub same_state : ((next s a ev).task (owner x)).state ≡ (s.task (owner x)).state

@@ -1,14 +1,16 @@
 -- Another task's event leaves what a task's place in its program says.
 use Rattle.std.proofs.Common.{sym, ◌∙◌, ap, subst, arith, inl, inr}
-use Rattle.std.specs.Prelude.{ℕ, ◌≡◌, ◌≢◌, ◌⊎◌, Option, Some, None, true}
+use Rattle.std.specs.Prelude.{ℕ, ◌≡◌, ◌≢◌, ◌<◌, ◌≤◌, ◌⊎◌, Option, Some, None, true, false}
 use Rattle.wait_model.specs.declared.calls.Event.{Event}
 use Rattle.wait_model.specs.declared.points.Progress.{Progress}
+use Rattle.wait_model.specs.declared.queues.Called.{Called}
 use Rattle.wait_model.specs.declared.points.Given.{Given}
 use Rattle.wait_model.specs.declared.watches.Entry.{Entry}
+use Rattle.wait_model.specs.declared.queues.Mark.{Mark}
 use Rattle.wait_model.specs.declared.watches.Watch.{Watch}
 use Rattle.wait_model.specs.declared.watches.Kind.{Kind}
 use Rattle.wait_model.specs.Runs.{State, own, entry_for, after_event}
-use Rattle.wait_model.specs.Admission.{IsStanding}
+use Rattle.wait_model.specs.Admission.{IsStanding, IsGoing}
 use Rattle.wait_model.specs.Reached.{
   Zone,
   absent,
@@ -21,36 +23,40 @@ use Rattle.wait_model.specs.Reached.{
   held_at,
   prepares,
   IsTaken,
+  IsFlagged,
   IsPlaced,
 }
 use Rattle.wait_model.specs.Facts.{Facts}
 use Rattle.wait_model.specs.Views.{View}
 use Rattle.wait_model.specs.Watches.{head_of}
-use Rattle.wait_model.specs.Tables.{next}
+use Rattle.wait_model.specs.Tables.{next, value_of}
 use Rattle.wait_model.specs.Words.{head_word}
-use Rattle.wait_model.specs.Points.{cond_of}
+use Rattle.wait_model.specs.Points.{call_watch}
 use Rattle.wait_model.specs.Queues.{place_for}
 use Rattle.wait_model.specs.Functions.{put}
-use Rattle.wait_model.proofs.Decoded.{head_plain}
+use Rattle.wait_model.specs.DoneCounts.{IsStored}
+use Rattle.wait_model.specs.Locations.{cond_at, word_in}
+use Rattle.wait_model.proofs.Conditions.{head_of_bare, set_rest}
 use Rattle.wait_model.proofs.Looks.{looks_same}
+use Rattle.wait_model.proofs.Peeks.{peeks_same}
 use Rattle.wait_model.proofs.Functions.{put_at, put_other}
 use Rattle.wait_model.specs.declared.calls.Event.TheVariants as event
 use Rattle.wait_model.specs.declared.points.Point.TheVariants as at
 use Rattle.wait_model.specs.declared.points.PreparePoint.TheVariants as preparing
 use Rattle.wait_model.specs.declared.points.AddPoint.TheVariants as adding
+use Rattle.wait_model.specs.declared.points.AwaitPoint.TheVariants as awaiting
 use Rattle.wait_model.specs.declared.points.Progress.TheVariants as now
-use Rattle.wait_model.specs.declared.watches.Kind.TheVariants as kind
 use Rattle.wait_model.specs.declared.steps.Step.TheVariants as step
 
 pub own_one : (a b : ℕ) → own a ≡ own b → a ≡ b
 own_one a b e = omega arith
 
 -- an entry that goes when it is woken is none that stands
-pub goes_not_stands : (k : Kind) → k ≡ kind.Autoremove → IsStanding k → ⊥
-goes_not_stands k is s = let z : IsStanding kind.Autoremove = subst IsStanding is s in cc
+pub goes_not_stands : (k : Kind) → IsGoing k → IsStanding k → ⊥
+goes_not_stands k is s = let z : true ≡ false = sym s ∙ is in cc
 
 -- where such an entry may be queued, it may be off too
-home_dropped : (z : Zone) (c : Watch) (e : Entry) → e.kind ≡ kind.Autoremove → IsHome z c (Some e)
+home_dropped : (z : Zone) (c : Watch) (e : Entry) → IsGoing e.kind → IsHome z c (Some e)
     → IsHome z c None
 home_dropped absent c e k h = tt
 home_dropped waits c e k h = tt
@@ -58,7 +64,7 @@ home_dropped free c e k h = tt
 home_dropped stands c e k h = goes_not_stands e.kind k h
 home_dropped (parts n) c e k h = goes_not_stands e.kind k h.0
 
-home_dropped_at : (p : Progress) (e : Entry) → e.kind ≡ kind.Autoremove → HomeAt p (Some e) → HomeAt p None
+home_dropped_at : (p : Progress) (e : Entry) → IsGoing e.kind → HomeAt p (Some e) → HomeAt p None
 home_dropped_at (now.Open call p) e k h = home_dropped _ _ e k h
 home_dropped_at now.Idle e k h = tt
 home_dropped_at now.Fresh e k h = tt
@@ -67,10 +73,13 @@ home_dropped_at now.Fresh e k h = tt
 holds_home : (q : Progress) (e : Entry) → prepares q ≡ true → HomeAt q (Some e)
     → held_at q ≡ Some (head_of e.watch)
 holds_home (now.Open call (at.Prepare preparing.Look)) e pr h = ap (λ n. Some n)
-    (sym (head_plain (cond_of call)) ∙ ap head_of (sym h.0))
+    (sym (head_of_bare (call_watch call)) ∙ ap head_of (sym h.0))
 holds_home (now.Open call (at.Prepare preparing.Queue)) e pr h = ap (λ n. Some n)
-    (sym (head_plain (cond_of call)) ∙ ap head_of (sym h.0))
+    (sym (head_of_bare (call_watch call)) ∙ ap head_of (sym h.0))
 holds_home (now.Open call (at.Add adding.Queue)) e pr h = absurd h
+holds_home (now.Open call (at.Await (awaiting.Load true))) e pr h = ap (λ n. Some n)
+    (sym (head_of_bare (call_watch call)) ∙ ap head_of (sym h.0))
+holds_home (now.Open call (at.Await (awaiting.Load false))) e pr h = absurd h
 holds_home q e pr h = absurd (cc)
 
 module _ (entry : ℕ → Option Entry) (v : View) (b : ℕ) (p : Progress) (pl : IsPlaced entry v b p) where
@@ -82,23 +91,34 @@ module _ (entry : ℕ → Option Entry) (v : View) (b : ℕ) (p : Progress) (pl 
     home = subst (HomeAt p) (sym same_own) pl.home;
     off_book = λ pr q. pl.off_book pr (sym same_own ∙ q);
     taken = λ who t. kept who (pl.taken who t);
+    flagged = λ c t. kept_flagged c (pl.flagged c t);
   }
     where
       same_own : put entry (own me) (Some e) (own b) ≡ entry (own b)
       same_own = put_other entry (own me) (Some e) (own b) (λ q. ne (own_one b me q))
 
-      kept : (who : ℕ) → IsTaken entry who p → IsTaken (put entry (own me) (Some e)) who p
+      kept : (who : ℕ) → IsTaken entry who (held_at p)
+          → IsTaken (put entry (own me) (Some e)) who (held_at p)
       kept who k = record {
         it = k.it;
         stands = put_at (λ o. o ≡ Some k.it) entry (own me) (Some e) (own who)
             (λ q. absurd (let z : entry (own who) ≡ entry (own me) = ap entry q in
             let y : entry (own who) ≡ Some k.it = k.stands in cc (none))) (λ _. k.stands);
         head = k.head;
-        right = k.right;
+        kind = k.kind;
+      }
+
+      kept_flagged : (c : Called) → IsFlagged entry c (held_at p)
+          → IsFlagged (put entry (own me) (Some e)) c (held_at p)
+      kept_flagged c k = record {
+        stands = put_at (λ o. o ≡ Some c.entry) entry (own me) (Some e) (own c.who)
+            (λ q. absurd (let z : entry (own c.who) ≡ entry (own me) = ap entry q in
+            let y : entry (own c.who) ≡ Some c.entry = k.stands in cc (none))) (λ _. k.stands);
+        head = k.head;
       }
 
   -- a task that holds the entry's head takes it off: an entry that goes, or one that is not the task's own
-  pub placed_unqueued : (x : ℕ) (e : Entry) → entry x ≡ Some e → (own b ≡ x → e.kind ≡ kind.Autoremove)
+  pub placed_unqueued : (x : ℕ) (e : Entry) → entry x ≡ Some e → (own b ≡ x → IsGoing e.kind)
       → (held_at p ≡ Some (head_of e.watch) → ⊥) → IsPlaced (put entry x None) v b p
   placed_unqueued x e was goes apart = record {
     head = pl.head;
@@ -107,6 +127,7 @@ module _ (entry : ℕ → Option Entry) (v : View) (b : ℕ) (p : Progress) (pl 
     off_book = λ pr q. pl.off_book pr (put_at (λ o. o ≡ None → entry (own b) ≡ None) entry x None (own b)
         (λ s _. absurd (apart (holds_home p e pr (subst (HomeAt p) (mine s) pl.home)))) (λ _ z. z) q);
     taken = λ who t. kept who (pl.taken who t);
+    flagged = λ c t. kept_flagged c (pl.flagged c t);
   }
     where
       mine : own b ≡ x → entry (own b) ≡ Some e
@@ -119,13 +140,21 @@ module _ (entry : ℕ → Option Entry) (v : View) (b : ℕ) (p : Progress) (pl 
           let de : d ≡ e = cc in
           apart (subst (λ (g : Entry). held_at p ≡ Some (head_of g.watch)) de held)
 
-      kept : (who : ℕ) → IsTaken entry who p → IsTaken (put entry x None) who p
+      kept : (who : ℕ) → IsTaken entry who (held_at p)
+          → IsTaken (put entry x None) who (held_at p)
       kept who k = record {
         it = k.it;
         stands = put_at (λ o. o ≡ Some k.it) entry x None (own who)
             (λ s. absurd (theirs k.it (own who) s k.stands k.head)) (λ _. k.stands);
         head = k.head;
-        right = k.right;
+        kind = k.kind;
+      }
+
+      kept_flagged : (c : Called) → IsFlagged entry c (held_at p) → IsFlagged (put entry x None) c (held_at p)
+      kept_flagged c k = record {
+        stands = put_at (λ o. o ≡ Some c.entry) entry x None (own c.who)
+            (λ s. absurd (theirs c.entry (own c.who) s k.stands k.head)) (λ _. k.stands);
+        head = k.head;
       }
 
 -- the same entries
@@ -133,22 +162,25 @@ pub placed_same : (entry entry2 : ℕ → Option Entry) (v : View) (b : ℕ) (p 
     → IsPlaced entry v b p → IsPlaced entry2 v b p
 placed_same entry entry2 v b p same pl = subst (λ (f : ℕ → Option Entry). IsPlaced f v b p) (sym same) pl
 
--- an entry that a task takes off stands at the head that it holds, and is its own or one that goes when it
--- is woken
+-- an entry that a task takes off stands at the head that it holds, and is its own or one that goes when it is
+-- woken
 pub record IsGone (s : State) (me who : ℕ) : Type 0 where
   pub it : Entry
   pub stands : s.table.entry (own who) ≡ Some it
   pub head : (s.table.view me).hold.head ≡ Some (head_of it.watch)
-  pub goes : (who ≡ me) ⊎ (it.kind ≡ kind.Autoremove)
+  pub goes : (who ≡ me) ⊎ (IsGoing it.kind)
 
--- what an event says of the entry that it changes
+-- what an event says of the entry or the done count that it changes
 abbrev pub Changes : State → ℕ → Event → Type 0
 Changes s me (event.Queue h form) = s.table.entry (own me) ≡ None
 Changes s me (event.Unqueue who) = IsGone s me who
+Changes s me (event.Mark h) = s.table.mark me ≡ None
+Changes s me (event.Unmark h) = (k : Mark) × (s.table.mark me ≡ Some k) × (k.head ≡ h)
+Changes s me (event.Set c v) = 64 ≤ c → c < 128 → IsStored v (word_in s.table (cond_at c))
 Changes s me _ = Unit {0}
 
-goes_for : (me who b : ℕ) (k : Kind) → b ≢ me → (who ≡ me) ⊎ (k ≡ kind.Autoremove) → own b ≡ own who
-    → k ≡ kind.Autoremove
+goes_for : (me who b : ℕ) (k : Kind) → b ≢ me → (who ≡ me) ⊎ (IsGoing k) → own b ≡ own who
+    → IsGoing k
 goes_for me who b k ne (inl s) e = absurd (ne (own_one b who e ∙ s))
 goes_for me who b k ne (inr s) e = s
 
@@ -165,4 +197,10 @@ others_placed s me g (event.Lock h) b ne c k pl =
     (s.progress b)
     (looks_same (next s.table me (step.Lock h g.walk (head_word (s.table.holder h) (s.table.spent h))))
     s.table.entry me).entry pl
+others_placed s me g (event.Set c v) b ne h k pl =
+    placed_same s.table.entry (after_event s me g (event.Set c v)).table.entry (s.table.view b) b
+    (s.progress b) (set_rest s.table me g.watch v (value_of s.table.words g.watch)).entry pl
+others_placed s me g (event.Active h hit) b ne c k pl =
+    placed_same s.table.entry (after_event s me g (event.Active h hit)).table.entry (s.table.view b) b
+    (s.progress b) (peeks_same s.table s.table.entry me).entry pl
 others_placed s me g e b ne c k pl = pl

@@ -21,7 +21,8 @@ pub mod Histories
 pub mod Walks
 pub mod Owed
 pub mod Coverings
-pub mod PlainWakes
+pub mod Tryings
+pub mod Wakes
 pub mod Waiters
 pub mod Told
 pub mod Openings
@@ -29,8 +30,12 @@ pub mod Accounts
 pub mod Selections
 pub mod Worked
 pub mod WorkedForms
+pub mod WorkedBits
 pub mod Totals
 pub mod SignalCounts
 pub mod BitKeepers
 pub mod DoneCounts
+pub mod Completions
 pub mod Counts
+pub mod EntryWords
+pub mod Places

@@ -7,8 +7,8 @@ use Rattle.wait_model.specs.declared.steps.Step.TheVariants as step
 use Rattle.wait_model.specs.Histories.{Since, publishes}
 use Rattle.wait_model.specs.Walks.{WalkHold, HasPassed, GoneBy, finds_off, looks_anew}
 
--- a step after this history ends a wake of c for tasks of state σ: an unlock of a walk that used up its
--- count or is past all 256 entry words, or the last load of a look without the lock that found none
+-- a step after this history ends a wake of c for tasks of state σ: an unlock of a walk that used up its count
+-- or is past all 256 entry words, or the last load of a look without the lock that found none
 abbrev pub EndsWake : List Step → Step → Watch → ℕ → Type 0
 EndsWake es (step.Unlock h spent) c σ = (k : WalkHold es c σ)
     × ((spent ≡ true) ⊎ ((x : ℕ) → x < 256 → HasPassed (GoneBy es c σ) (λ _. ⊥) es c σ k x))

@@ -1,9 +1,11 @@
 -- Runs: openings of calls, and events that continue the program of their task's open call. (To be believed.)
-use Rattle.std.specs.Prelude.{◌≡◌, ℕ, zero, suc, ◌+◌, ◌*◌, ◌<◌, Bool, true, false, if◌then◌else◌, List, [], ◌∷◌, Option, Some, None}
+use Rattle.std.specs.Prelude.{◌≡◌, ℕ, zero, suc, ◌+◌, ◌*◌, ◌<◌, Bool, true, false, if◌then◌else◌, nat_lt, not, ◌&&◌, ◌||◌, ◌==◌, List, [], ◌∷◌, Option, Some, None}
+use Rattle.wait_model.specs.declared.watches.Watch.{Watch}
 use Rattle.wait_model.specs.declared.watches.Entry.{Entry}
 use Rattle.wait_model.specs.declared.steps.Step.{Step}
 use Rattle.wait_model.specs.declared.steps.Step.TheVariants as step
 use Rattle.wait_model.specs.declared.queues.Member.{Member}
+use Rattle.wait_model.specs.declared.queues.Mark.{Mark}
 use Rattle.wait_model.specs.declared.queues.Called.{Called}
 use Rattle.wait_model.specs.declared.queues.Form.{Form}
 use Rattle.wait_model.specs.declared.calls.Call.{Call}
@@ -23,15 +25,32 @@ use Rattle.wait_model.specs.declared.points.Planned.{Planned}
 use Rattle.wait_model.specs.declared.points.Next.{Next}
 use Rattle.wait_model.specs.declared.points.Next.TheVariants as next
 use Rattle.wait_model.specs.Functions.{put}
-use Rattle.wait_model.specs.Tasks.{task_word, woken, slept, raised, accepted}
-use Rattle.wait_model.specs.Watches.{head_of, owner}
+use Rattle.wait_model.specs.Tasks.{task_count, task_word, woken, slept, raised, accepted}
+use Rattle.wait_model.specs.Watches.{head_of, bare, is_simple, owner, is_for}
 use Rattle.wait_model.specs.Words.{entry_word, head_word, flag_word}
-use Rattle.wait_model.specs.Tables.{Table, steps, value_of, raised_spent}
+use Rattle.wait_model.specs.Tables.{Table, steps, value_of, publish, consume, raised_spent}
 use Rattle.wait_model.specs.Tables as tables
-use Rattle.wait_model.specs.Locations.{word_in, location_of}
-use Rattle.wait_model.specs.Queues.{place_for, add_to, is_exclusive, is_priority, without, member_from}
+use Rattle.wait_model.specs.Locations.{word_in, cond_at, location_of, mark_word}
+use Rattle.wait_model.specs.Queues.{
+  place_for,
+  add_to,
+  is_exclusive,
+  is_priority,
+  entry_count,
+  rank_at,
+  without,
+  entry_from,
+  members_from,
+  has_members,
+  Arrival,
+  arrive,
+  mark_place,
+  mark_add,
+}
 use Rattle.wait_model.specs.Points.{call_watch, call_head, about, given_at}
 use Rattle.wait_model.specs.Programs.{program, program_start}
+use Rattle.wait_model.specs.declared.watches.Watch.TheVariants as watch
+use Rattle.wait_model.specs.declared.points.SelectPoint.TheVariants as selecting
 use Rattle.wait_model.specs.Admission.{admits}
 
 -- a state of a run: the table, the queue of each head, and each task's open call
@@ -50,14 +69,28 @@ given_by now.Idle = given_at calls.Accept at.Accept
 abbrev pub own : ℕ → ℕ
 own t = 2 * t
 
--- the entry that an add queues
+-- the entry that an add queues; those of simple queues have no flags
 abbrev pub entry_for : Given → Form → ℕ → Entry
 entry_for g form place = record {
-  watch = g.watch;
+  watch = bare g.watch;
   place = place;
-  exclusive = is_exclusive form;
+  exclusive = is_exclusive form && not (is_simple g.kind);
   priority = is_priority form;
   kind = g.kind;
+}
+
+-- the number of a task's bookmark as a member, and the bookmark that goes before the next member
+abbrev pub own_mark : ℕ → ℕ
+own_mark t = entry_count + t
+
+-- where a walk for a watch goes on from a place, in a hold that has called so many entries
+abbrev pub arrives_from : (ℕ → Option Entry) → Watch → ℕ → ℕ → List Member → Arrival
+arrives_from entry c place calls queue = arrive (λ m. is_for c (entry m.at)) calls (members_from (rank_at place) queue)
+
+abbrev pub mark_for : (ℕ → Option Entry) → Given → ℕ → List Member → Mark
+mark_for entry g h queue = record {
+  head = h;
+  place = mark_place (arrives_from entry g.watch g.from g.calls queue).member;
 }
 
 -- looks at all entry words below n
@@ -68,8 +101,25 @@ looks_below entry (suc n) = step.Saw n (entry_word (entry n)) ∷ looks_below en
 unfoldable pub looks : (ℕ → Option Entry) → List Step
 looks entry = looks_below entry 256
 
--- the word steps that an event stands for: a lock is followed by looks at all entries, and each other event
--- is one step
+-- loads of all entry words below n without the lock
+abbrev pub peeks_below : (ℕ → Option Entry) → ℕ → List Step
+peeks_below entry zero = []
+peeks_below entry (suc n) = step.Peek n (entry_word (entry n)) ∷ peeks_below entry n
+
+unfoldable pub all_peeks : (ℕ → Option Entry) → List Step
+all_peeks entry = peeks_below entry 256
+
+-- a store of a done count that raises it or makes it 0xFFFFFFFF is a publish, and every other one a consume
+abbrev pub is_publish : Watch → ℕ → ℕ → Bool
+is_publish (watch.Done d) found value = nat_lt found value || value == 0xFFFFFFFF
+is_publish _ found value = true
+
+abbrev pub set_step : Watch → ℕ → ℕ → Step
+set_step c value found = if is_publish c found value then step.Publish c value found
+    else step.Consume c value found
+
+-- the word steps that an event stands for: a lock is followed by looks at all entries, a look for members is one
+-- load of each entry, and each other event is one step
 abbrev pub steps_of : State → ℕ → Given → Event → List Step
 steps_of s me g (event.State v) = step.State v ∷ []
 steps_of s me g (event.Sleep x) = step.Sleep (task_word (s.table.task me)) ∷ []
@@ -83,9 +133,14 @@ steps_of s me g (event.Unlock h used) = step.Unlock h used ∷ []
 steps_of s me g (event.Queue h form) = step.Queue (own me) (entry_for g form (place_for form (s.queue h))) ∷ []
 steps_of s me g (event.Unqueue who) = step.Unqueue (own who) ∷ []
 steps_of s me g (event.Queued hit) = step.Peek (own me) (entry_word (s.table.entry (own me))) ∷ []
+steps_of s me g (event.Active h hit) = all_peeks s.table.entry
+steps_of s me g (event.Mark h) = step.Mark h (mark_for s.table.entry g h (s.queue h)).place ∷ []
+steps_of s me g (event.Unmark h) = step.Unmark ∷ []
 steps_of s me g (event.Load c v) = step.Load g.watch v ∷ []
-steps_of s me g (event.Set c v) = step.Publish g.watch v (value_of s.table.words g.watch) ∷ []
+steps_of s me g (event.Set c v) = set_step g.watch v (value_of s.table.words g.watch) ∷ []
 steps_of s me g (event.Take c v) = step.Consume g.watch 0 (value_of s.table.words g.watch) ∷ []
+steps_of s me g (event.Tas w b v) = step.Consume g.watch 1 (value_of s.table.words g.watch) ∷ []
+steps_of s me g (event.Clear w b) = step.Publish g.watch 0 (value_of s.table.words g.watch) ∷ []
 steps_of s me g (event.Woken who) = step.Woken (own who) ∷ []
 steps_of s me g (event.Flag hit) = step.Flag (own me) (flag_word (s.table.flag (own me))) ∷ []
 steps_of s me g event.Unflag = step.Unflag (own me) ∷ []
@@ -96,16 +151,36 @@ leaves queue x None = queue
 leaves queue x (Some e) = put queue (head_of e.watch) (without x (queue (head_of e.watch)))
 
 -- what an event changes of the queues
-abbrev pub queue_after : State → ℕ → Event → ℕ → List Member
-queue_after s me (event.Queue h form) =
+abbrev pub queue_after : State → ℕ → Given → Event → ℕ → List Member
+queue_after s me g (event.Queue h form) =
     put s.queue h (add_to form (record { at = own me; place = place_for form (s.queue h) }) (s.queue h))
-queue_after s me (event.Unqueue who) = leaves s.queue (own who) (s.table.entry (own who))
-queue_after s me _ = s.queue
+queue_after s me g (event.Unqueue who) = leaves s.queue (own who) (s.table.entry (own who))
+queue_after s me g (event.Mark h) =
+    put s.queue h (mark_add (record { at = own_mark me; place = (mark_for s.table.entry g h (s.queue h)).place }) (s.queue h))
+queue_after s me g (event.Unmark h) = put s.queue h (without (own_mark me) (s.queue h))
+queue_after s me g _ = s.queue
 
--- the entry that a walk calls next
-abbrev pub walk_member : Point → List Member → Option Member
-walk_member (at.Walk (walking.Call w)) queue = member_from w.place queue
-walk_member _ queue = None
+-- where a walk goes on, and the entry that it calls or that a selection takes
+abbrev pub nowhere : Arrival
+nowhere = record { calls = 0; member = None; breaks = false }
+
+abbrev pub arrives_at : (ℕ → Option Entry) → Call → Point → List Member → Arrival
+arrives_at entry call (at.Walk (walking.Call w)) queue = arrives_from entry (call_watch call) w.place w.calls queue
+arrives_at entry call _ queue = nowhere
+
+abbrev pub called_member : Arrival → Option Member
+called_member r = if r.breaks then None else r.member
+
+abbrev pub walk_member : (ℕ → Option Entry) → Call → Point → List Member → Option Member
+walk_member entry call (at.Walk (walking.Call w)) queue =
+    called_member (arrives_from entry (call_watch call) w.place w.calls queue)
+walk_member entry call (at.Select (selecting.Next n)) queue = entry_from 0 queue
+walk_member entry call _ queue = None
+
+-- whether the head of the call has members, where the call looks for them
+abbrev pub members_at : Point → List Member → Bool
+members_at at.Active queue = has_members queue
+members_at _ queue = false
 
 abbrev pub called_as : ℕ → Option Entry → Option Called
 called_as who None = None
@@ -116,7 +191,7 @@ called_by entry None = None
 called_by entry (Some m) = called_as (owner m.at) (entry m.at)
 
 abbrev pub called_at : State → Call → Point → Option Called
-called_at s call p = called_by s.table.entry (walk_member p (s.queue (call_head call)))
+called_at s call p = called_by s.table.entry (walk_member s.table.entry call p (s.queue (call_head call)))
 
 -- what a task finds at its next event
 abbrev pub seen_by : State → ℕ → Call → Point → Seen
@@ -126,6 +201,10 @@ seen_by s me call p = record {
   flag = s.table.flag (own me);
   value = value_of s.table.words (call_watch call);
   called = called_at s call p;
+  breaks = (arrives_at s.table.entry call p (s.queue (call_head call))).breaks;
+  calls = (arrives_at s.table.entry call p (s.queue (call_head call))).calls;
+  members = members_at p (s.queue (call_head call));
+  mark = s.table.mark me;
   other = s.table.task (about call p (called_at s call p));
 }
 
@@ -144,7 +223,7 @@ progress_after s me now.Fresh = now.Fresh
 
 -- a state after an event of a task
 abbrev pub after_event : State → ℕ → Given → Event → State
-after_event s me g e = record s { table = steps s.table me (steps_of s me g e); queue = queue_after s me e }
+after_event s me g e = record s { table = steps s.table me (steps_of s me g e); queue = queue_after s me g e }
 
 -- the state after an item of a run
 abbrev pub happens : State → Ran → State
@@ -194,9 +273,14 @@ left_of s me g (event.Unlock h used) = head_word false (raised_spent used (s.tab
 left_of s me g (event.Queue h form) = entry_word (Some (entry_for g form (place_for form (s.queue h))))
 left_of s me g (event.Unqueue who) = entry_word None
 left_of s me g (event.Queued hit) = entry_word (s.table.entry (own me))
-left_of s me g (event.Load c v) = s.table.words.plains c
+left_of s me g (event.Active h hit) = entry_word (s.table.entry 0)
+left_of s me g (event.Mark h) = mark_word (Some (mark_for s.table.entry g h (s.queue h)))
+left_of s me g (event.Unmark h) = mark_word None
+left_of s me g (event.Load c v) = word_in s.table (cond_at c)
 left_of s me g (event.Set c v) = v
 left_of s me g (event.Take c v) = 0
+left_of s me g (event.Tas w b v) = value_of (consume s.table.words g.watch 1) g.watch
+left_of s me g (event.Clear w b) = value_of (publish s.table.words g.watch 0) g.watch
 left_of s me g (event.Woken who) = flag_word true
 left_of s me g (event.Flag hit) = flag_word (s.table.flag (own me))
 left_of s me g event.Unflag = flag_word false
@@ -209,9 +293,9 @@ Continues s me now.Idle e found = ⊥
 Continues s me now.Fresh e found = ⊥
 
 abbrev pub IsItem : State → Ran → Type 0
-IsItem s (ran.Opened me call) = (me < 64) × (is_open (s.progress me) ≡ false)
-    × (admits me call (s.table.entry (own me)) ≡ true)
-IsItem s (ran.Made me e found) = (me < 64) × Continues s me (s.progress me) e found
+IsItem s (ran.Opened me call) = (me < task_count) × (is_open (s.progress me) ≡ false)
+    × (admits me call (s.table.entry (own me)) ((s.table.view me).bits.keeps (call_watch call)) ≡ true)
+IsItem s (ran.Made me e found) = (me < task_count) × Continues s me (s.progress me) e found
 
 abbrev pub IsRunFrom : State → List Ran → Type 0
 IsRunFrom s [] = Unit {0}

@@ -24,6 +24,7 @@ use Rattle.wait_model.specs.declared.tasks.Task.{Task}
 use Rattle.wait_model.specs.declared.watches.Watch.{Watch}
 use Rattle.wait_model.specs.declared.watches.Watch.TheVariants as watch
 use Rattle.wait_model.specs.declared.watches.Entry.{Entry}
+use Rattle.wait_model.specs.declared.queues.Mark.{Mark}
 use Rattle.wait_model.specs.declared.steps.Step.{Step}
 use Rattle.wait_model.specs.declared.steps.Step.TheVariants as step
 use Rattle.wait_model.specs.Functions.{put}
@@ -38,11 +39,6 @@ pub record Words : Type 0 where
   pub dones : ℕ → ℕ
   pub bits : ℕ → ℕ → Bool
   pub vars : ℕ → ℕ
-
--- a bookmark: its head, and the place before which it stands
-pub record Mark : Type 0 where
-  pub head : ℕ
-  pub place : ℕ
 
 -- the bookmark that a word shows
 unfoldable pub mark_of : ℕ → Option Mark

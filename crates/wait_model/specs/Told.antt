@@ -2,16 +2,19 @@
 -- histories. (To be believed only by who reads the laws in terms of views.)
 use Rattle.std.specs.Prelude.{ℕ, ◌≡◌, Bool, true, false, ◌&&◌, ◌||◌, Option, Some, None, List, [], ◌∷◌, ◌++◌}
 use Rattle.wait_model.specs.declared.watches.Watch.{Watch}
+use Rattle.wait_model.specs.declared.watches.Watch.TheVariants as watch
 use Rattle.wait_model.specs.declared.watches.Entry.{Entry}
 use Rattle.wait_model.specs.declared.steps.Step.{Step}
 use Rattle.wait_model.specs.declared.steps.Step.TheVariants as step
 use Rattle.wait_model.specs.declared.calls.Ran.{Ran}
 use Rattle.wait_model.specs.Watches.{head_of}
-use Rattle.wait_model.specs.Words.{entry_of}
+use Rattle.wait_model.specs.Words.{entry_of, spent_of}
+use Rattle.wait_model.specs.Laws.{TryingBy}
 use Rattle.wait_model.specs.Views.{View, Walk, all_passed, all_cleared, concerns, covers}
 use Rattle.wait_model.specs.Fold.{after, view_of, peeks}
 use Rattle.wait_model.specs.Runs.{state_of}
-use Rattle.wait_model.specs.Readings.{FailedLoad}
+use Rattle.wait_model.specs.Readings.{FailedLoad, ZeroLoad}
+use Rattle.wait_model.specs.Tryings.{IsTrying}
 use Rattle.wait_model.specs.Histories.{Lacks, is_mark, publishes}
 use Rattle.wait_model.specs.Owed.{Owes}
 use Rattle.wait_model.specs.Coverings.{Covering}
@@ -42,14 +45,26 @@ pub record Owing (es : List Step) (c : Watch) (σ : ℕ) : Type 0 where
   pub is_publish : publishes publish c ≡ true
   pub unended : Unended c σ (view_of (before ++ publish ∷ [])) later
 
--- the view has a failed load exactly where the history has one, and keeps the spent count that the last
--- lock before it found
+-- the view has a failed load exactly where the history has one, and keeps the spent count that the last lock
+-- before it found
 abbrev pub FailedTold : Type 0
 FailedTold = (es : List Step) (x : ℕ) (c : Watch) →
     ((n : ℕ) → (view_of es).checks.failed x c ≡ Some n → (l : FailedLoad es x c)
     × (n ≡ (view_of l.before).checks.found (head_of c)))
     × ((l : FailedLoad es x c)
     → (view_of es).checks.failed x c ≡ Some ((view_of l.before).checks.found (head_of c)))
+
+-- the same of a load in the hold in which the state was stored, with the count that the hold's lock found
+abbrev pub ZeroTold : Type 0
+ZeroTold = (es : List Step) (x : ℕ) (c : Watch) →
+    ((n : ℕ) → (view_of es).checks.zero_failed x c ≡ Some n → (l : ZeroLoad es x c) × (n ≡ spent_of l.word))
+    × ((l : ZeroLoad es x c) → (view_of es).checks.zero_failed x c ≡ Some (spent_of l.word))
+
+-- the view tries a bit exactly where the history does
+abbrev pub TryingTold : Type 0
+TryingTold = (entry : ℕ → Option Entry) (a : ℕ) (es : List Step) (w b : ℕ)
+    → (TryingBy entry a (view_of es) (watch.Bit w b) → IsTrying entry a es w b)
+    × (IsTrying entry a es w b → TryingBy entry a (view_of es) (watch.Bit w b))
 
 -- the view owes a wake exactly where the history does
 abbrev pub OwingTold : Type 0

@@ -1,6 +1,6 @@
 -- What a task knows by its history, and what that says: what it has checked, whom its wakes cover, which
 -- entries its walk has passed. (To be believed by who reads the law in terms of views, in Laws. The one in
--- terms of histories, in PlainWakes, does without, and Told says how the two hang together.)
+-- terms of histories, in Wakes, does without, and Told says how the two hang together.)
 use Rattle.std.specs.Prelude.{
   ℕ,
   zero,
@@ -128,8 +128,8 @@ abbrev pub ahead : Option Walk → Bool → Watch → ℕ → ℕ → Bool
 ahead None g c σ p = true
 ahead (Some w) g c σ p = not (concerns w c σ) || (nat_le w.from p && not g)
 
--- the task owes the entry's watch for this state and will still call the entry; a simple entry is passed
--- only by being taken off
+-- the task owes the entry's watch for this state and will still call the entry; a simple entry is passed only
+-- by being taken off
 abbrev pub covers : View → ℕ → Entry → ℕ → Bool
 covers v x e σ = v.duty.owes e.watch σ
     && (not (v.duty.cleared e.watch x) && (is_simple e.kind || ahead v.walk (gone v x e) e.watch σ e.place))

@@ -1,5 +1,6 @@
 -- Walks, plainly over a task's history: the hold of a walk, the entries that it has called, and looks
--- without the lock. (To be believed.)
+-- without
+-- the lock. (To be believed.)
 use Rattle.std.specs.Prelude.{ℕ, zero, suc, ◌≡◌, ◌<◌, ◌≤◌, ◌⊎◌, Bool, true, false, not, ◌&&◌, ◌==◌, if◌then◌else◌, Option, Some, None, List, ◌∷◌, ◌++◌}
 use Rattle.wait_model.specs.declared.watches.Watch.{Watch}
 use Rattle.wait_model.specs.declared.watches.Entry.{Entry}
@@ -22,7 +23,8 @@ use Rattle.wait_model.specs.Words.{entry_of}
 use Rattle.wait_model.specs.Histories.{Lacks, Since, turns, is_publish, is_mark, marks}
 
 -- the task is in a hold whose lock it took for a walk of the watch that meets the state; `inside` is what
--- it has done in the hold
+-- it
+-- has done in the hold
 pub record WalkHold (es : List Step) (c : Watch) (σ : ℕ) : Type 0 where
   pub before : List Step
   pub head : ℕ
@@ -52,7 +54,8 @@ flags x (step.Woken y) = x == y
 flags x _ = false
 
 -- the entry was called in these steps of a hold, with no publish since; a Woken entry only where its flag
--- was set before the wake
+-- was
+-- set before the wake
 pub record RungBy (inside : List Step) (a : Aim) (x : ℕ) : Type 0 where
   pub wake : Since (wakes a x) is_publish inside
   pub flag : Since (flags x) is_publish wake.earlier
@@ -84,8 +87,9 @@ shown_by h (step.Queue y e) = Some e
 shown_by h _ = None
 
 -- The walk need not call what stands there, or has called it: there is no entry, or one of another watch,
--- or one that it has called in this hold, or one at a place that its earlier holds have gone by. An entry
--- of kind Simple is to be taken off. Entries at places at which the walk stops do not matter.
+-- or
+-- one that it has called in this hold, or one at a place that its earlier holds have gone by. An entry of
+-- kind Simple is to be taken off. Entries at places at which the walk stops do not matter.
 abbrev pub IsPast : (gone stop : ℕ → Type 0) → List Step → ℕ → Aim → ℕ → Option Entry → Type 0
 IsPast gone stop es σ a x None = Unit {0}
 IsPast gone stop es σ a x (Some e) = (same e.watch a.watch ≡ false)
@@ -107,7 +111,8 @@ leaves a (step.Publish c n r) = true
 leaves a _ = false
 
 -- The last unlock left the walk at the own bookmark, which stands behind this place. Before the bookmark
--- the walk was past all, in that hold or, as `gone` says, in earlier ones. It has not begun anew since.
+-- the
+-- walk was past all, in that hold or, as `gone` says, in earlier ones. It has not begun anew since.
 pub record LeftBehind (gone : List Step → ℕ → Type 0) (es : List Step) (c : Watch)
     (σ place : ℕ) : Type 0 where
   pub before : List Step

@@ -6,12 +6,15 @@ use Rattle.std.specs.Prelude.{
   ◌/◌,
   ◌%◌,
   ◌^◌,
+  ◌<◌,
+  nat_lt,
   Bool,
   true,
   false,
   not,
   ◌&&◌,
   ◌==◌,
+  if◌then◌else◌,
   Option,
   Some,
   None,
@@ -44,6 +47,41 @@ head_of (watch.Done d) = 320 + d
 head_of (watch.Bit w b) = hashed (w * 64 + b)
 head_of (watch.Var v o) = hashed (128 + v)
 
+-- the numbers of a watch that a call names are in their ranges
+abbrev pub IsThere : Watch → Type 0
+IsThere (watch.Plain c) = c < 64
+IsThere (watch.Done d) = d < 64
+IsThere (watch.Bit w b) = (w < 128) × (b < 64)
+IsThere (watch.Var v o) = v < 128
+
+-- a word of this value does not set the watch
+abbrev pub misses : Watch → ℕ → Bool
+misses (watch.Plain c) r = r == 0
+misses (watch.Done d) r = r == 0
+misses (watch.Bit w b) r = bit_at r b
+misses (watch.Var v old) r = r == old
+
+-- the number of a watch's word among the condition words
+abbrev pub number_of : Watch → ℕ
+number_of (watch.Plain c) = c
+number_of (watch.Done d) = 64 + d
+number_of (watch.Bit w b) = 128 + w
+number_of (watch.Var v o) = 256 + v
+
+-- what an entry word shows of a watch: the old value of a variable stands in no word
+abbrev pub bare : Watch → Watch
+bare (watch.Plain c) = watch.Plain c
+bare (watch.Done d) = watch.Done d
+bare (watch.Bit w b) = watch.Bit w b
+bare (watch.Var v o) = watch.Var v 0
+
+-- the kind of entry by which a call waits: conditions 0 to 47 have full heads, 48 to 63 simple ones
+abbrev pub kind_for : Watch → Kind
+kind_for (watch.Plain c) = if nat_lt c 48 then kind.Autoremove else kind.Simple
+kind_for (watch.Done d) = kind.Simple
+kind_for (watch.Bit w b) = kind.Bit
+kind_for (watch.Var v o) = kind.Var
+
 -- the spent count of the head excuses this watch
 abbrev pub counted : Watch → Bool
 counted (watch.Plain c) = true
@@ -58,6 +96,19 @@ is_done _ = false
 abbrev pub is_bit : Watch → Bool
 is_bit (watch.Bit w b) = true
 is_bit _ = false
+
+abbrev pub is_var : Watch → Bool
+is_var (watch.Var v o) = true
+is_var _ = false
+
+-- the word and the bit of a bit
+abbrev pub word_of : Watch → ℕ
+word_of (watch.Bit w b) = w
+word_of _ = 0
+
+abbrev pub bit_of : Watch → ℕ
+bit_of (watch.Bit w b) = b
+bit_of _ = 0
 
 abbrev pub is_woken : Kind → Bool
 is_woken kind.Woken = true
@@ -88,6 +139,11 @@ was_clear _ r = false
 -- whose entry has this index
 unfoldable pub owner : ℕ → ℕ
 owner x = x / 2
+
+-- the entry is one of this watch: a wake for the watch calls its function
+abbrev pub is_for : Watch → Option Entry → Bool
+is_for c None = false
+is_for c (Some e) = same e.watch c
 
 -- the entry is one of this head
 abbrev pub stands_at : Option Entry → ℕ → Bool

@@ -1,13 +1,15 @@
-//! The laws of wait queues, on pure tables.
+//! The laws of wait queues: of single steps over tables, and of whole runs.
 
+ghost use Rattle.wait_model.specs.Completions.{NoRunMiscounts};
 ghost use Rattle.wait_model.specs.Facts.{StepKeeps, StartKept};
 ghost use Rattle.wait_model.specs.Selections.{RunsAreOrderly};
 ghost use Rattle.wait_model.specs.Openings.{FreshTold};
-ghost use Rattle.wait_model.specs.PlainWakes.{NoRunLosesPlainWake};
-ghost use Rattle.wait_model.specs.Told.{CoveringTold, FailedTold, OwesTold, OwingTold, ViewsTold};
+ghost use Rattle.wait_model.specs.Wakes.{NoRunLosesWake};
+ghost use Rattle.wait_model.specs.Told.{CoveringTold, FailedTold, OwesTold, OwingTold, TryingTold, ViewsTold, ZeroTold};
 ghost use Rattle.wait_model.specs.Waiters.{NoRunLosesWaiter};
 ghost use Rattle.wait_model.specs.Worked.{ReplaysRun, WorkedScripts};
 ghost use Rattle.wait_model.specs.WorkedForms.{WorkedForms};
+ghost use Rattle.wait_model.specs.WorkedBits.{WorkedBits};
 ghost use Rattle.wait_model.specs.SignalCounts.{SignalsStartRaised, SignalsStayRaised, NoRunInventsSignals};
 ghost use Rattle.wait_model.specs.BitKeepers.{KeepsTold, BitsStartKept, BitsStayKept, EveryRunKeepsBits};
 ghost use Rattle.wait_model.specs.DoneCounts.{CountsStartBalanced, CountsStayBalanced, TakesAreCompleted};
@@ -42,9 +44,21 @@ pub fn covering_told()
     ensures { CoveringTold }
 {}
 
-/// No run loses a wakeup for a plain condition, in the words of histories.
-pub fn no_plain_wake_lost()
-    ensures { NoRunLosesPlainWake }
+/// A view tells a failed load in the hold of the last store of a state exactly where its history has one.
+pub fn zero_told()
+    ensures { ZeroTold }
+{}
+
+/// A view is that of a task that tries a bit exactly where the task does by its history.
+pub fn trying_told()
+    ensures { TryingTold }
+{}
+
+/// No run loses a wakeup, in the words of histories, for plain conditions, completions, bits and variables: whoever
+/// sleeps on a watch that is set is covered by a task that owes the wake, or, at a plain condition or a completion, a
+/// walk used up its count on others, or, at a bit, a task whose entry was taken off is trying it.
+pub fn no_wake_lost()
+    ensures { NoRunLosesWake }
 {}
 
 /// A task is fresh in the state of a run exactly where the run has opened no call of it.
@@ -52,16 +66,17 @@ pub fn fresh_told()
     ensures { FreshTold }
 {}
 
-/// What the definitions say of three orders of one wait and one wake, event by event, and of four scripts
-/// with other forms of waits. Each such replay is a run.
+/// What the definitions say of three orders of one wait and one wake, event by event, of four scripts with other
+/// forms of waits, and of three with bits, variables and completions. Each such replay is a run.
 pub fn worked_scripts()
     ensures told { WorkedScripts }
     ensures forms { WorkedForms }
+    ensures bits { WorkedBits }
     ensures runs { ReplaysRun }
 {}
 
-/// No walk selects more than its count, no wait is interrupted but behind a failed load of its last turn,
-/// and no signal is accepted that was not raised, in any run.
+/// No walk selects more than its count, no wait is interrupted but behind a failed load of its last turn, no wait
+/// for a bit is but behind a load that found the bit set and a sleep that a signal ended, and no signal is accepted that was not raised, in any run.
 pub fn runs_are_orderly()
     ensures { RunsAreOrderly }
 {}
@@ -71,8 +86,8 @@ pub fn owes_told()
     ensures { OwesTold }
 {}
 
-/// No run loses a waiter: who is asleep in a wait sleeps on its condition, and where that is set it is
-/// covered, or a walk used up its count on others.
+/// No run loses a waiter: who is asleep in a wait for a condition, a completion, a bit or a variable sleeps on it
+/// in that sense, and so its wakeup is not lost.
 pub fn no_waiter_lost()
     ensures { NoRunLosesWaiter }
 {}
@@ -95,10 +110,12 @@ pub fn bits_are_kept()
 {}
 
 /// A completion's count is balanced over all histories: raised and granted are lowered, thrown away and what
-/// stands. True at the start and kept by every step whose stores in counts are such as the calls make. Before
-/// any store of the end otherwise than by raising, the takes are at most the completes.
+/// stands. True at the start, kept by every step whose stores in counts are such as the calls make, and so true
+/// in every state that a run reaches. Before any store of the end otherwise than by raising, the takes are at
+/// most the completes.
 pub fn counts_are_balanced()
     ensures start { CountsStartBalanced }
     ensures step { CountsStayBalanced }
     ensures takes { TakesAreCompleted }
+    ensures run { NoRunMiscounts }
 {}

@@ -1,19 +1,35 @@
 //! Members of wait queues, and the walks of wakes.
 
-ghost use Rattle.std.specs.Prelude.{◌≡◌, ◌<◌, ◌≤◌, ◌*◌};
+ghost use Rattle.std.specs.Prelude.{◌≡◌, ◌<◌, ◌≤◌, ◌+◌, ◌*◌, ◌^◌};
 ghost use Rattle.wait_model.specs.Watches as spec;
 ghost use Rattle.wait_model.specs.Queues as queue;
 
 use crate::watches::Entry;
 
-/// A member of a queue: an entry by its index.
+/// A member of a queue and its place: an entry by its index, or the bookmark of a task by 256 and the
+/// task's number.
 #[derive(Clone, Copy)]
 pub struct Member {
     pub at: u16,
     pub place: u64,
 }
 
+/// A bookmark: its head and its place. A walk puts it before the member at which it goes on.
+#[derive(Clone, Copy)]
+pub struct Mark {
+    pub head: u16,
+    pub place: u64,
+}
+
 impl Member {
+    /// The order of members: by place, and by number those of one place.
+    pub fn rank(self) -> u64
+        requires { self.place < 2 ^ 40 }
+        ensures { result ≡ queue.rank self }
+    {
+        512 * self.place + u64::from(self.at)
+    }
+
     /// Whose entry it is.
     #[tactic(auto, unfolding(crate::specs::Watches::owner))]
     pub fn owner(self) -> u8
@@ -83,8 +99,9 @@ pub struct Walked {
     pub end: End,
 }
 
-/// A walk under way in a hold: it goes on with the first member from this place on. `left` is what is
-/// left of its count, and `spent` that the last call used it up.
+/// A walk under way in a hold: it goes on with the first entry from this place on. `left` is what is
+/// left of its count, and `spent` that the last call used it up. `calls` counts the entries that this hold
+/// has called, and `holds` the holds so far.
 #[derive(Clone, Copy)]
 pub struct Walking {
     pub place: u64,
@@ -92,4 +109,6 @@ pub struct Walking {
     pub selected: u32,
     pub left: u32,
     pub spent: bool,
+    pub calls: u32,
+    pub holds: u32,
 }

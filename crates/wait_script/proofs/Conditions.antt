@@ -31,10 +31,10 @@ use Rattle.wait_script.specs.Lines.{is_printable}
 odd : (c letter : ℕ) (x : Result ℕ ℕ) → c ≢ letter → Err 9 ≡ cond (eqb c letter) x (Err 9)
 odd c letter x h = grind (arith, nat_tests)
 
-pub no_letter : (letter most : ℕ) (word : List ℕ) → ((rest : List ℕ) → word ≢ letter ∷ rest)
-    → Err 9 ≡ numbered_at letter most word
-no_letter letter most [] h = refl
-no_letter letter most (c ∷ cs) h = odd c letter _ (λ e. h cs (ap (λ x. x ∷ cs) e))
+pub no_letter : (letter low most : ℕ) (word : List ℕ) → ((rest : List ℕ) → word ≢ letter ∷ rest)
+    → Err 9 ≡ numbered_at letter low most word
+no_letter letter low most [] h = refl
+no_letter letter low most (c ∷ cs) h = odd c letter _ (λ e. h cs (ap (λ x. x ∷ cs) e))
 
 -- plain text is ASCII
 pub printable_below : (line : List ℕ) → list_all is_printable line ≡ true → (i : ℕ) → get_or line i 0 < 128

@@ -36,8 +36,7 @@ use Rattle.std.proofs.lemmas.Bool.Decides.{nat_tests}
 use Rattle.std.specs.List.{flat_map}
 use Rattle.edge_io.specs.Text.{Midway}
 use Rattle.wait_model.specs.declared.queues.Member.{Member}
-use Rattle.wait_model.specs.Queues.{member_from, IsBefore, IsInOrder}
-use Rattle.wait_model.specs.Watches.{owner}
+use Rattle.wait_model.specs.Queues.{member_from, rank, IsBefore, IsInOrder}
 use Rattle.wait_model.specs.Tables.{Table}
 use Rattle.wait_model.specs.Locations.{Location, IsLocation, position_of, word_in}
 use Rattle.wait_script.specs.Ending.{texts_from, member_text, members_text, head_text, word_text, cond_at}
@@ -53,21 +52,21 @@ pub no_text : (text : ℕ → List ℕ) (n i : ℕ) → n ≤ i → texts_from t
 unfolding texts_from
 no_text text n i h = let none : n - i ≡ 0 = omega arith in ap (texts_from text i) none
 
--- the members from a place on
+-- the members from a rank on
 abbrev pub rest_from : ℕ → List Member → List Member
-rest_from place [] = []
-rest_from place (m ∷ ms) = cond (nat_le place m.place) (m ∷ ms) (rest_from place ms)
+rest_from least [] = []
+rest_from least (m ∷ ms) = cond (nat_le least (rank m)) (m ∷ ms) (rest_from least ms)
 
 abbrev pub first : List Member → Option Member
 first [] = None
 first (m ∷ ms) = Some m
 
-pub first_from : (place : ℕ) (queue : List Member) → member_from place queue ≡ first (rest_from place queue)
-first_from place [] = refl
-first_from place (m ∷ ms) = chosen (nat_le place m.place) m ms (first_from place ms)
+pub first_from : (least : ℕ) (queue : List Member) → member_from least queue ≡ first (rest_from least queue)
+first_from least [] = refl
+first_from least (m ∷ ms) = chosen (nat_le least (rank m)) m ms (first_from least ms)
   where
-    chosen : (b : Bool) (m : Member) (ms : List Member) → member_from place ms ≡ first (rest_from place ms)
-        → cond b (Some m) (member_from place ms) ≡ first (cond b (m ∷ ms) (rest_from place ms))
+    chosen : (b : Bool) (m : Member) (ms : List Member) → member_from least ms ≡ first (rest_from least ms)
+        → cond b (Some m) (member_from least ms) ≡ first (cond b (m ∷ ms) (rest_from least ms))
     chosen true m ms e = refl
     chosen false m ms e = e
 
@@ -75,8 +74,8 @@ first_from place (m ∷ ms) = chosen (nat_le place m.place) m ms (first_from pla
 all_behind : (p : ℕ) (ms : List Member) → IsBefore p ms → rest_from (p + 1) ms ≡ ms
 all_behind p [] h = refl
 all_behind p (m ∷ ms) h =
-    let lt : p < m.place = h.0 in
-    let e : nat_le (p + 1) m.place ≡ true = grind (arith, nat_tests) in
+    let lt : p < rank m = h.0 in
+    let e : nat_le (p + 1) (rank m) ≡ true = grind (arith, nat_tests) in
     ap (λ b. cond b (m ∷ ms) (rest_from (p + 1) ms)) e
 
 either : {A : Type 0} (b : Bool) → (b ≡ true → A) → (b ≡ false → A) → A
@@ -90,40 +89,40 @@ split false x y z e = (λ n. absurd (cc (n)), λ _. e)
 same_head : (x y : Member) (xs ys : List Member) → (x ∷ xs) ≡ (y ∷ ys) → (x ≡ y) × (xs ≡ ys)
 same_head x y xs ys e = (cc, cc)
 
--- the first from a place on stands behind what all stand behind
-behind_it : (p place : ℕ) (ms more : List Member) (m : Member) → IsBefore p ms
-    → rest_from place ms ≡ m ∷ more → p < m.place
-behind_it p place [] more m h e = absurd (cc (e))
-behind_it p place (x ∷ xs) more m h e =
-    either (nat_le place x.place)
+-- the first from a rank on stands behind what all stand behind
+behind_it : (p least : ℕ) (ms more : List Member) (m : Member) → IsBefore p ms
+    → rest_from least ms ≡ m ∷ more → p < rank m
+behind_it p least [] more m h e = absurd (cc (e))
+behind_it p least (x ∷ xs) more m h e =
+    either (nat_le least (rank x))
     (λ t. here (same_head x m xs more ((split _ _ _ _ e).0 t)).0)
-    (λ t. behind_it p place xs more m h.1 ((split _ _ _ _ e).1 t))
+    (λ t. behind_it p least xs more m h.1 ((split _ _ _ _ e).1 t))
   where
-    here : x ≡ m → p < m.place
+    here : x ≡ m → p < rank m
     here s =
-        let lt : p < x.place = h.0 in
-        let f : x.place ≡ m.place = ap (λ (y : Member). y.place) s in
+        let lt : p < rank x = h.0 in
+        let f : rank x ≡ rank m = ap rank s in
         omega arith
 
--- behind the first from a place on come the others
-pub rest_behind : (place : ℕ) (queue more : List Member) (m : Member) → IsInOrder queue
-    → rest_from place queue ≡ m ∷ more → rest_from (m.place + 1) queue ≡ more
-rest_behind place [] more m h e = absurd (cc (e))
-rest_behind place (x ∷ xs) more m h e =
-    either (nat_le place x.place)
+-- behind the first from a rank on come the others
+pub rest_behind : (least : ℕ) (queue more : List Member) (m : Member) → IsInOrder queue
+    → rest_from least queue ≡ m ∷ more → rest_from (rank m + 1) queue ≡ more
+rest_behind least [] more m h e = absurd (cc (e))
+rest_behind least (x ∷ xs) more m h e =
+    either (nat_le least (rank x))
     (λ t. here (same_head x m xs more ((split _ _ _ _ e).0 t)))
     (λ t. let f = (split _ _ _ _ e).1 t in
-    over (omega (arith, behind_it x.place place xs more m h.0 f)) ∙ rest_behind place xs more m h.1 f)
+    over (omega (arith, behind_it (rank x) least xs more m h.0 f)) ∙ rest_behind least xs more m h.1 f)
   where
-    over : x.place < m.place + 1 → rest_from (m.place + 1) (x ∷ xs) ≡ rest_from (m.place + 1) xs
+    over : rank x < rank m + 1 → rest_from (rank m + 1) (x ∷ xs) ≡ rest_from (rank m + 1) xs
     over lt =
-        let f : nat_le (m.place + 1) x.place ≡ false = grind (arith, nat_tests) in
-        ap (λ b. cond b (x ∷ xs) (rest_from (m.place + 1) xs)) f
+        let f : nat_le (rank m + 1) (rank x) ≡ false = grind (arith, nat_tests) in
+        ap (λ b. cond b (x ∷ xs) (rest_from (rank m + 1) xs)) f
 
-    here : (x ≡ m) × (xs ≡ more) → rest_from (m.place + 1) (x ∷ xs) ≡ more
+    here : (x ≡ m) × (xs ≡ more) → rest_from (rank m + 1) (x ∷ xs) ≡ more
     here s =
-        let f : x.place ≡ m.place = ap (λ (y : Member). y.place) s.0 in
-        over (omega arith) ∙ ap (λ p. rest_from (p + 1) xs) (sym f) ∙ all_behind x.place xs h.0 ∙ s.1
+        let f : rank x ≡ rank m = ap rank s.0 in
+        over (omega arith) ∙ ap (λ p. rest_from (p + 1) xs) (sym f) ∙ all_behind (rank x) xs h.0 ∙ s.1
 
 -- the members that are left, by the first of them
 some_rest : (ms : List Member) (m : Member) → first ms ≡ Some m → (more : List Member) × (ms ≡ m ∷ more)
@@ -134,22 +133,20 @@ none_rest : (ms : List Member) → ((m : Member) → first ms ≡ Some m → ⊥
 none_rest [] h = refl
 none_rest (x ∷ xs) h = absurd (h x refl)
 
-pub no_rest : (place : ℕ) (queue : List Member) (next : Option Member) → next ≡ member_from place queue
-    → ((m : Member) → next ≡ Some m → ⊥) → members_text (rest_from place queue) ≡ codes "\n"
-no_rest place queue next met h =
-    ap members_text (none_rest (rest_from place queue) (λ m e. h m (met ∙ first_from place queue ∙ e)))
+pub no_rest : (least : ℕ) (queue : List Member) (next : Option Member) → next ≡ member_from least queue
+    → ((m : Member) → next ≡ Some m → ⊥) → members_text (rest_from least queue) ≡ codes "\n"
+no_rest least queue next met h =
+    ap members_text (none_rest (rest_from least queue) (λ m e. h m (met ∙ first_from least queue ∙ e)))
 
 -- the next member's text, and the members behind it
-pub piece : (place who : ℕ) (queue : List Member) (next : Option Member) (m : Member) → IsInOrder queue
-    → next ≡ member_from place queue → next ≡ Some m → who ≡ owner m.at
-    → members_text (rest_from place queue)
-    ≡ (codes " t" ++ decimal who) ++ members_text (rest_from (m.place + 1) queue)
-piece place who queue next m order met is own =
-    let r = some_rest (rest_from place queue) m (sym (first_from place queue) ∙ sym met ∙ is) in
+pub piece : (least : ℕ) (queue : List Member) (next : Option Member) (m : Member) → IsInOrder queue
+    → next ≡ member_from least queue → next ≡ Some m
+    → members_text (rest_from least queue) ≡ member_text m ++ members_text (rest_from (rank m + 1) queue)
+piece least queue next m order met is =
+    let r = some_rest (rest_from least queue) m (sym (first_from least queue) ∙ sym met ∙ is) in
     ap members_text r.1
     ∙ append_assoc (member_text m) (flat_map member_text r.0) (codes "\n")
-    ∙ ap (λ w. (codes " t" ++ decimal w) ++ members_text r.0) (sym own)
-    ∙ ap (λ x. (codes " t" ++ decimal who) ++ members_text x) (sym (rest_behind place queue r.0 m order r.1))
+    ∙ ap (λ x. member_text m ++ members_text x) (sym (rest_behind least queue r.0 m order r.1))
 
 -- the line of a head that has a member
 pub head_line : (head : ℕ) (queue : List Member) (next : Option Member) → next ≡ member_from 0 queue
@@ -157,22 +154,22 @@ pub head_line : (head : ℕ) (queue : List Member) (next : Option Member) → ne
     → head_text head queue ≡ (codes "head h" ++ decimal head) ++ members_text (rest_from 0 queue)
 head_line head [] next met r is some = absurd (cc (sym (ap is_some met) ∙ is ∙ ap not some))
 head_line head (m ∷ ms) next met r is some =
-    let from : nat_le 0 m.place ≡ true = grind (arith, nat_tests) in
+    let from : nat_le 0 (rank m) ≡ true = grind (arith, nat_tests) in
     sym (append_assoc (codes "head h") (decimal head) (members_text (m ∷ ms)))
     ∙ ap (λ b. (codes "head h" ++ decimal head) ++ members_text (cond b (m ∷ ms) (rest_from 0 ms))) (sym from)
 
 pub fits_of : (least : ℕ) (next : Option Member)
-    → IfSome next (λ m. (m.at < 128) × (least ≤ m.place) × (m.place < 2 ^ 40))
-    → IfSome next (λ m. (m.at < 128) × (m.place < 2 ^ 40))
+    → IfSome next (λ m. (m.at < 384) × (least ≤ rank m) × (m.place < 2 ^ 40))
+    → IfSome next (λ m. (m.at < 384) × (m.place < 2 ^ 40))
 fits_of least None h = tt
 fits_of least (Some m) h = (h.0, h.2)
 
 -- A head's line of which a front is written; the next member is the first of those left.
 pub record Partway (old now : Option (List ℕ)) (queue : List Member) (next : Option Member) (text : List ℕ)
     : Type 0 where
-  pub place : ℕ
-  pub met : next ≡ member_from place queue
-  pub midway : Midway old now (members_text (rest_from place queue)) text
+  pub least : ℕ
+  pub met : next ≡ member_from least queue
+  pub midway : Midway old now (members_text (rest_from least queue)) text
 
 -- what stands at the place of a condition word
 pub word_value : (t : Table) (cond value : ℕ)

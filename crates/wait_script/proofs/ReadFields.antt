@@ -6,6 +6,8 @@ use Rattle.std.proofs.Common.{
   inr,
   ⊎_elim,
   ℕ,
+  ◌+◌,
+  ◌<◌,
   Bool,
   true,
   false,
@@ -14,25 +16,35 @@ use Rattle.std.proofs.Common.{
   List,
   [],
   ◌∷◌,
+  ◌++◌,
   Option,
   Some,
   None,
   Result,
   Ok,
   Err,
+  codes,
   decimal,
+  append_assoc,
+  drop,
+  length,
+  get_or,
+  ◌^◌,
   refl,
   ap,
   sym,
+  ◌∙◌,
   subst,
   arith,
   nat_le,
+  nat_lt,
   ◌≤◌,
-  ◌<◌,
-  ◌^◌,
 }
 use mathlib.Core.Bool.{◌&&◌, ◌||◌, not}
 use Rattle.std.proofs.lemmas.Bool.Decides.{nat_tests}
+use Rattle.std.proofs.lemmas.Grind.{common_steps}
+use Rattle.std.proofs.lemmas.List.Sums.{split_at_first, passes_at_first}
+use Rattle.std.specs.List.{position_or_len, before_first, after_first}
 use Rattle.std.specs.Str.{bytes_eq}
 use Rattle.std.specs.Cmp.Lexicographic.{same_text}
 use Rattle.wait_model.specs.declared.tasks.How.{How}
@@ -40,7 +52,7 @@ use Rattle.wait_model.specs.declared.tasks.SleepState.{SleepState}
 use Rattle.wait_model.specs.declared.watches.Mode.{Mode}
 use Rattle.wait_model.specs.declared.watches.Kind.{Kind}
 use Rattle.wait_model.specs.declared.queues.Form.{Form}
-use Rattle.wait_model.specs.Tasks.{looks_in}
+use Rattle.wait_model.specs.Tasks.{looks_in, is_killable}
 use Rattle.wait_model.specs.Admission.{IsStanding}
 use Rattle.wait_script.specs.Number.{number_of}
 use Rattle.wait_script.specs.Words.{both_of, made_of}
@@ -50,22 +62,40 @@ use Rattle.wait_script.specs.Fields.{
   value_at,
   numbered_at,
   cond_at,
+  cell_at,
+  var_at,
+  is_dot,
+  bit_at,
   keyword_at,
   hows,
   states,
+  simple_states,
   modes,
   kinds,
   forms,
   signals,
+  extents,
   how_at,
   state_at,
+  simple_state_at,
   mode_at,
   kind_at,
   form_at,
   fatal_at,
+  all_at,
 }
-use Rattle.wait_script.specs.Text.{form_text}
-use Rattle.wait_script.specs.Spelling.{cond_word, how_word, state_word, mode_word, kind_word, fatal_word}
+use Rattle.wait_script.specs.Text.{form_text, bit_text}
+use Rattle.wait_script.specs.Spelling.{
+  cond_word,
+  cell_word,
+  var_word,
+  how_word,
+  state_word,
+  mode_word,
+  kind_word,
+  fatal_word,
+  extent_word,
+}
 use Rattle.wait_script.proofs.Numbers.{number_is}
 
 pub chosen : {A : Type 0} (b : Bool) (x y z : A) → cond b x y ≡ z → ((b ≡ true) × (x ≡ z))
@@ -85,12 +115,12 @@ both_ok (Ok x) (Err v) p e = cc
 both_ok (Err u) (Ok y) p e = cc
 both_ok (Err u) (Err v) p e = cc
 
-within_ok : (why low most : ℕ) (o : Option ℕ) (n : ℕ) → within why low most o ≡ Ok n
-    → (o ≡ Some n) × (low ≤ n) × (n ≤ most)
+within_ok : (why low most : ℕ) (o : Option ℕ) (n : ℕ) → within why low most o ≡ Ok n → (o ≡ Some n)
+    × ((low ≤ n) × (n ≤ most))
 within_ok why low most None n e = absurd (cc (e))
 within_ok why low most (Some m) n e =
     ⊎_elim
-    (λ p. let f = fits m n p.0 (cc (p.1)) in (cc (p.1), f.0, f.1))
+    (λ p. (cc (p.1), fits m n p.0 (cc (p.1))))
     (λ p. absurd (cc (p.1)))
     (chosen (nat_le low m && nat_le m most) (Ok m) (Err why) (Ok n) e)
   where
@@ -100,41 +130,124 @@ within_ok why low most (Some m) n e =
 pub number_ok : (low most : ℕ) (word : List ℕ) (n : ℕ) → number_at low most word ≡ Ok n → word ≡ decimal n
 number_ok low most word n e = number_is word n (within_ok 7 low most (number_of word) n e).0
 
-pub number_fits : (low most : ℕ) (word : List ℕ) (n : ℕ) → number_at low most word ≡ Ok n → (low ≤ n)
-    × (n ≤ most)
-number_fits low most word n e = let f = within_ok 7 low most (number_of word) n e in (f.1, f.2)
+pub number_fits : (low most : ℕ) (word : List ℕ) (n : ℕ) → number_at low most word ≡ Ok n
+    → (low ≤ n) × (n ≤ most)
+number_fits low most word n e = (within_ok 7 low most (number_of word) n e).1
+
+below : (most n : ℕ) → n ≤ most → nat_lt n (most + 1) ≡ true
+below most n h = grind (arith, nat_tests)
+
+pub both_true : (a b : Bool) → a ≡ true → b ≡ true → (a && b) ≡ true
+both_true a b p q = rw (p, q) refl
+
+pub number_below : (low most : ℕ) (word : List ℕ) (n : ℕ) → number_at low most word ≡ Ok n
+    → nat_lt n (most + 1) ≡ true
+number_below low most word n e = below most n (number_fits low most word n e).1
 
 pub value_ok : (word : List ℕ) (n : ℕ) → value_at word ≡ Ok n → word ≡ decimal n
 value_ok word n e = number_ok 0 18446744073709551615 word n e
 
-pub value_fits : (word : List ℕ) (n : ℕ) → value_at word ≡ Ok n → n < 2 ^ 64
-value_fits word n e = few n (number_fits 0 18446744073709551615 word n e).1
-  where
-    few : (n : ℕ) → n ≤ 18446744073709551615 → n < 2 ^ 64
-    few n h = omega arith
+pub value_below : (word : List ℕ) (n : ℕ) → value_at word ≡ Ok n → n < 2 ^ 64
+value_below word n e =
+    let most : n ≤ 18446744073709551615 = (number_fits 0 18446744073709551615 word n e).1 in
+    omega (arith, most)
 
-numbered_ok : (letter most : ℕ) (word : List ℕ) (n : ℕ) → numbered_at letter most word ≡ Ok n
+numbered_ok : (letter low most : ℕ) (word : List ℕ) (n : ℕ) → numbered_at letter low most word ≡ Ok n
     → word ≡ letter ∷ decimal n
-numbered_ok letter most [] n e = cc
-numbered_ok letter most (c ∷ digits) n e =
+numbered_ok letter low most [] n e = cc
+numbered_ok letter low most (c ∷ digits) n e =
     ⊎_elim
-    (λ p. same c digits (decimal n) p.0 (number_is digits n (within_ok 9 0 most (number_of digits) n p.1).0))
+    (λ p. same c digits (decimal n) p.0
+    (number_is digits n (within_ok 9 low most (number_of digits) n p.1).0))
     (λ p. cc (p.1))
-    (chosen (eqb c letter) (within 9 0 most (number_of digits)) (Err 9) (Ok n) e)
+    (chosen (eqb c letter) (within 9 low most (number_of digits)) (Err 9) (Ok n) e)
   where
     same : (c : ℕ) (digits text : List ℕ) → eqb c letter ≡ true → digits ≡ text → c ∷ digits ≡ letter ∷ text
     same c digits text e d = let f : c ≡ letter = grind (arith, nat_tests) in cc
 
-pub cond_ok : (most : ℕ) (word : List ℕ) (n : ℕ) → cond_at most word ≡ Ok n → word ≡ cond_word n
-cond_ok most word n e = numbered_ok 99 most word n e
-
-pub cond_fits : (most : ℕ) (word : List ℕ) (n : ℕ) → cond_at most word ≡ Ok n → n ≤ most
-cond_fits most [] n e = absurd (cc (e))
-cond_fits most (c ∷ digits) n e =
+numbered_fits : (letter low most : ℕ) (word : List ℕ) (n : ℕ) → numbered_at letter low most word ≡ Ok n
+    → (low ≤ n) × (n ≤ most)
+numbered_fits letter low most [] n e = absurd (cc (e))
+numbered_fits letter low most (c ∷ digits) n e =
     ⊎_elim
-    (λ p. (within_ok 9 0 most (number_of digits) n p.1).2)
+    (λ p. (within_ok 9 low most (number_of digits) n p.1).1)
     (λ p. absurd (cc (p.1)))
-    (chosen (eqb c 99) (within 9 0 most (number_of digits)) (Err 9) (Ok n) e)
+    (chosen (eqb c letter) (within 9 low most (number_of digits)) (Err 9) (Ok n) e)
+
+pub cond_below : (low most : ℕ) (word : List ℕ) (n : ℕ) → cond_at low most word ≡ Ok n
+    → nat_lt n (most + 1) ≡ true
+cond_below low most word n e = below most n (numbered_fits 99 low most word n e).1
+
+-- the condition of a simple queue
+pub simple_between : (word : List ℕ) (n : ℕ) → cond_at 48 63 word ≡ Ok n
+    → (not (nat_lt n 48) && nat_lt n 64) ≡ true
+simple_between word n e =
+    let f = numbered_fits 99 48 63 word n e in
+    let from : nat_lt n 48 ≡ false = grind (arith, nat_tests, f.0) in
+    both_true (not (nat_lt n 48)) (nat_lt n 64) (ap not from) (below 63 n f.1)
+
+pub cell_below : (word : List ℕ) (n : ℕ) → cell_at word ≡ Ok n → nat_lt n 64 ≡ true
+cell_below word n e = below 63 n (numbered_fits 100 0 63 word n e).1
+
+pub var_below : (word : List ℕ) (n : ℕ) → var_at word ≡ Ok n → nat_lt n 128 ≡ true
+var_below word n e = below 127 n (numbered_fits 118 0 127 word n e).1
+
+pub cond_ok : (low most : ℕ) (word : List ℕ) (n : ℕ) → cond_at low most word ≡ Ok n → word ≡ cond_word n
+cond_ok low most word n e = numbered_ok 99 low most word n e
+
+pub cell_ok : (word : List ℕ) (n : ℕ) → cell_at word ≡ Ok n → word ≡ cell_word n
+cell_ok word n e = numbered_ok 100 0 63 word n e
+
+pub var_ok : (word : List ℕ) (n : ℕ) → var_at word ≡ Ok n → word ≡ var_word n
+var_ok word n e = numbered_ok 118 0 127 word n e
+
+-- behind the last byte there is no number
+no_dot : (word : List ℕ) (n : ℕ) → nat_lt (position_or_len is_dot word) (length word) ≡ false
+    → within 9 0 63 (number_of (after_first is_dot word)) ≡ Ok n → ⊥
+no_dot word n h e =
+    let none : after_first is_dot word ≡ [] = past word (position_or_len is_dot word) h in
+    let f : within 9 0 63 (number_of []) ≡ Ok n = sym (ap (λ w. within 9 0 63 (number_of w)) none) ∙ e in
+    cc (f)
+  where
+    past : (word : List ℕ) (k : ℕ) → nat_lt k (length word) ≡ false → drop (k + 1) word ≡ []
+    past word k h = grind (arith, common_steps, nat_tests)
+
+cut_at : (word front back : List ℕ) (c : ℕ) (w b : ℕ) → word ≡ front ++ (c ∷ back) → is_dot c ≡ true
+    → front ≡ 98 ∷ decimal w → back ≡ decimal b → word ≡ bit_text w b
+cut_at word front back c w b cut dot f g =
+    let d : c ≡ 46 = grind (arith, nat_tests) in
+    cut ∙ ap (λ x. x ++ (c ∷ back)) f ∙ ap (λ x. (98 ∷ decimal w) ++ (x ∷ back)) d
+    ∙ ap (λ x. (98 ∷ decimal w) ++ (46 ∷ x)) g
+    ∙ sym (append_assoc (codes "b" ++ decimal w) (codes ".") (decimal b))
+
+pub bit_ok : (word : List ℕ) (p : ℕ × ℕ) → bit_at word ≡ Ok p → word ≡ bit_text p.0 p.1
+bit_ok word p e =
+    let f = both_ok (numbered_at 98 0 127 (before_first is_dot word))
+    (within 9 0 63 (number_of (after_first is_dot word))) p e in
+    found (nat_lt (position_or_len is_dot word) (length word)) refl f
+  where
+    found : (r : Bool) → nat_lt (position_or_len is_dot word) (length word) ≡ r
+        → (numbered_at 98 0 127 (before_first is_dot word) ≡ Ok p.0)
+        × (within 9 0 63 (number_of (after_first is_dot word)) ≡ Ok p.1)
+        → word ≡ bit_text p.0 p.1
+    found true h f =
+        let lt : position_or_len is_dot word < length word = grind (arith, nat_tests) in
+        cut_at word (before_first is_dot word) (after_first is_dot word)
+        (get_or word (position_or_len is_dot word) 0) p.0 p.1
+        (split_at_first is_dot word 0 lt) (passes_at_first is_dot word 0 lt)
+        (numbered_ok 98 0 127 (before_first is_dot word) p.0 f.0)
+        (number_is (after_first is_dot word) p.1
+        (within_ok 9 0 63 (number_of (after_first is_dot word)) p.1 f.1).0)
+    found false h f = absurd (no_dot word p.1 h f.1)
+
+pub bit_below : (word : List ℕ) (p : ℕ × ℕ) → bit_at word ≡ Ok p
+    → (nat_lt p.0 128 && nat_lt p.1 64) ≡ true
+bit_below word p e =
+    let f = both_ok (numbered_at 98 0 127 (before_first is_dot word))
+    (within 9 0 63 (number_of (after_first is_dot word))) p e in
+    both_true (nat_lt p.0 128) (nat_lt p.1 64)
+    (below 127 p.0 (numbered_fits 98 0 127 (before_first is_dot word) p.0 f.0).1)
+    (below 63 p.1 (within_ok 9 0 63 (number_of (after_first is_dot word)) p.1 f.1).1.1)
 
 -- something stands of each keyword of a table and its value
 abbrev AreAll : {A : Type 0} → (List ℕ → A → Type 0) → List (List ℕ × A) → Type 0
@@ -172,6 +285,25 @@ how_listed word how e = (how_read word how e).1
 pub state_ok : (word : List ℕ) (state : SleepState) → state_at word ≡ Ok state → word ≡ state_word state
 state_ok word state e = keyword_ok (λ w s. w ≡ state_word s) states (refl, (refl, (refl, tt))) word state e
 
+-- a simple wait that is read is not killable
+abbrev IsSimpleState : List ℕ → SleepState → Type 0
+IsSimpleState word state = (word ≡ state_word state) × (not (is_killable state) ≡ true)
+
+simple_read : (word : List ℕ) (state : SleepState) → simple_state_at word ≡ Ok state
+    → IsSimpleState word state
+simple_read word state e = keyword_ok IsSimpleState simple_states (
+  (refl, refl),
+  ((refl, refl), tt),
+) word state e
+
+pub simple_state_ok : (word : List ℕ) (state : SleepState) → simple_state_at word ≡ Ok state
+    → word ≡ state_word state
+simple_state_ok word state e = (simple_read word state e).0
+
+pub simple_state_listed : (word : List ℕ) (state : SleepState) → simple_state_at word ≡ Ok state
+    → not (is_killable state) ≡ true
+simple_state_listed word state e = (simple_read word state e).1
+
 pub mode_ok : (word : List ℕ) (mode : Mode) → mode_at word ≡ Ok mode → word ≡ mode_word mode
 mode_ok word mode e = keyword_ok (λ w m. w ≡ mode_word m) modes (refl, (refl, tt)) word mode e
 
@@ -186,3 +318,6 @@ form_ok word form e = keyword_ok (λ w f. w ≡ form_text f) forms (refl, (refl,
 
 pub fatal_ok : (word : List ℕ) (fatal : Bool) → fatal_at word ≡ Ok fatal → word ≡ fatal_word fatal
 fatal_ok word fatal e = keyword_ok (λ w b. w ≡ fatal_word b) signals (refl, (refl, tt)) word fatal e
+
+pub all_ok : (word : List ℕ) (all : Bool) → all_at word ≡ Ok all → word ≡ extent_word all
+all_ok word all e = keyword_ok (λ w b. w ≡ extent_word b) extents (refl, (refl, tt)) word all e

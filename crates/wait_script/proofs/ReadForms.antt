@@ -1,8 +1,12 @@
--- A call that is read is spelled so, and its numbers are in their ranges: a lemma a form.
+-- A call that is read is spelled so, and is one that a core has: a lemma a form.
 use Rattle.std.proofs.Common.{
   ◌≡◌,
   ⊎_elim,
   ℕ,
+  ◌^◌,
+  ◌<◌,
+  true,
+  nat_lt,
   List,
   [],
   ◌∷◌,
@@ -12,30 +16,32 @@ use Rattle.std.proofs.Common.{
   refl,
   sym,
   subst,
-  Bool,
-  true,
-  ◌+◌,
-  ◌≤◌,
-  ◌<◌,
-  ◌^◌,
-  nat_lt,
   arith,
 }
+use mathlib.Core.Bool.{◌||◌, not}
 use Rattle.std.specs.Str.{bytes_eq}
 use Rattle.std.specs.Cmp.Lexicographic.{same_text}
 use Rattle.wait_model.specs.declared.calls.Call.{Call}
 use Rattle.wait_model.specs.declared.calls.Call.TheVariants as call
+use Rattle.wait_model.specs.declared.queues.Form.{Form}
+use Rattle.wait_model.specs.declared.queues.Form.TheVariants as form
+use Rattle.wait_model.specs.Queues.{is_priority}
 use Rattle.wait_script.specs.Words.{both_of}
 use Rattle.wait_script.specs.Fields.{
   number_at,
   value_at,
   cond_at,
+  cell_at,
+  var_at,
+  bit_at,
   how_at,
   state_at,
+  simple_state_at,
   mode_at,
   kind_at,
   form_at,
   fatal_at,
+  all_at,
   last_task,
 }
 use Rattle.wait_script.specs.Forms.{
@@ -54,38 +60,55 @@ use Rattle.wait_script.specs.Forms.{
   signal_at,
   accept_at,
   kick_at,
+  simple_wait_at,
+  simple_wake_at,
+  complete_at,
+  complete_all_at,
+  reinit_at,
+  wait_for_at,
+  try_wait_at,
+  is_done_at,
+  try_bit_at,
+  wait_bit_at,
+  lock_bit_at,
+  clear_bit_at,
+  wait_var_at,
+  set_var_at,
   calls,
   call_in,
   named_at,
-  last_of,
 }
 use Rattle.wait_script.specs.Spelling.{call_words, IsFitCall}
 use Rattle.wait_script.proofs.ReadFields.{
   chosen,
   made_ok,
   both_ok,
+  both_true,
   number_ok,
+  number_below,
   value_ok,
+  value_below,
   cond_ok,
+  cond_below,
+  simple_between,
+  cell_ok,
+  cell_below,
+  var_ok,
+  var_below,
+  bit_ok,
+  bit_below,
   how_ok,
   how_listed,
   state_ok,
+  simple_state_ok,
+  simple_state_listed,
   mode_ok,
   kind_ok,
   kind_listed,
   form_ok,
   fatal_ok,
-  cond_fits,
-  number_fits,
-  value_fits,
+  all_ok,
 }
-use Rattle.wait_model.specs.Admission.{is_in_range}
-use Rattle.wait_model.specs.declared.watches.Kind.{Kind}
-use Rattle.wait_model.specs.declared.queues.Form.{Form}
-use Rattle.wait_model.specs.declared.queues.Form.TheVariants as form
-use Rattle.wait_script.specs.Text.{form_text}
-use mathlib.Core.Bool.{◌&&◌}
-use Rattle.std.proofs.lemmas.Bool.Decides.{nat_tests}
 
 -- what stands of the right fields in their places stands of the words of a form and its call
 met0 : (made : Call) (P : List (List ℕ) → Call → Type 0) → P [] made
@@ -127,11 +150,9 @@ met3 f g k make P h (a ∷ b ∷ d ∷ []) c e =
     subst (λ y. P (a ∷ b ∷ d ∷ []) y) m.2 (h a b d m.0.0 m.0.1.0 m.0.1.1 p.0 q.0 q.1)
 met3 f g k make P h (a ∷ b ∷ d ∷ x ∷ more) c e = absurd (cc (e))
 
--- a name and the words behind it, and the call that they say: it is spelled so, and fits each task that may
--- make it
+-- a name and the words behind it, and the call that they say
 abbrev pub IsRead : List ℕ → List (List ℕ) → Call → Type 0
-IsRead name words c = (name ∷ words ≡ call_words c)
-    × ((task : ℕ) → task ≤ last_of name words → IsFitCall task c)
+IsRead name words c = (name ∷ words ≡ call_words c) × IsFitCall 0 c
 
 words1 : (name a x : List ℕ) → a ≡ x → name ∷ a ∷ [] ≡ name ∷ x ∷ []
 words1 name a x p = cc
@@ -142,124 +163,190 @@ words2 name a b x y p q = cc
 words3 : (name a b d x y z : List ℕ) → a ≡ x → b ≡ y → d ≡ z → name ∷ a ∷ b ∷ d ∷ [] ≡ name ∷ x ∷ y ∷ z ∷ []
 words3 name a b d x y z p q r = cc
 
-below : (most n : ℕ) → n ≤ most → nat_lt n (most + 1) ≡ true
-below most n h = grind (arith, nat_tests)
-
-both : (a b : Bool) → a ≡ true → b ≡ true → (a && b) ≡ true
-both a b p q = rw (p, q) refl
-
--- what a call that is no store stores
-small : 0 < 2 ^ 64
-small = omega arith
+-- a call without a number of 64 bits
+none : 0 < 2 ^ 64
+none = omega arith
 
 wait_ok : (words : List (List ℕ)) (c : Call) → wait_at words ≡ Ok c → IsRead (codes "wait") words c
 wait_ok words c e =
-    met2 (cond_at 47) how_at (λ cond how. call.Wait cond how) (IsRead (codes "wait"))
+    met2 (cond_at 0 47) how_at (λ cond how. call.Wait cond how) (IsRead (codes "wait"))
     (λ a b x y p q. (
-      words2 (codes "wait") a b _ _ (cond_ok 47 a x p) (how_ok b y q),
-      λ t h. (below 47 x (cond_fits 47 a x p), how_listed b y q, small),
-    ))
-    words c e
+      words2 (codes "wait") a b _ _ (cond_ok 0 47 a x p) (how_ok b y q),
+      (cond_below 0 47 a x p, how_listed b y q, none),
+    )) words
+    c e
 
 set_ok : (words : List (List ℕ)) (c : Call) → set_at words ≡ Ok c → IsRead (codes "set") words c
 set_ok words c e =
-    met2 (cond_at 63) value_at (λ cond value. call.Set cond value) (IsRead (codes "set"))
+    met2 (cond_at 0 63) value_at (λ cond value. call.Set cond value) (IsRead (codes "set"))
     (λ a b x y p q. (
-      words2 (codes "set") a b _ _ (cond_ok 63 a x p) (value_ok b y q),
-      λ t h. (below 63 x (cond_fits 63 a x p), refl, value_fits b y q),
-    ))
-    words c e
+      words2 (codes "set") a b _ _ (cond_ok 0 63 a x p) (value_ok b y q),
+      (cond_below 0 63 a x p, refl, value_below b y q),
+    )) words c e
 
 take_ok : (words : List (List ℕ)) (c : Call) → take_at words ≡ Ok c → IsRead (codes "take") words c
 take_ok words c e =
-    met1 (cond_at 63) (λ cond. call.Take cond) (IsRead (codes "take"))
-    (λ a x p. (
-      words1 (codes "take") a _ (cond_ok 63 a x p),
-      λ t h. (
-        below 63 x (cond_fits 63 a x p),
-        refl,
-        small,
-      ),
-    ))
-    words c e
+    met1 (cond_at 0 63) (λ cond. call.Take cond) (IsRead (codes "take"))
+    (λ a x p. (words1 (codes "take") a _ (cond_ok 0 63 a x p), (cond_below 0 63 a x p, refl, none))) words c e
 
 read_ok : (words : List (List ℕ)) (c : Call) → read_at words ≡ Ok c → IsRead (codes "read") words c
 read_ok words c e =
-    met1 (cond_at 63) (λ cond. call.Read cond) (IsRead (codes "read"))
-    (λ a x p. (
-      words1 (codes "read") a _ (cond_ok 63 a x p),
-      λ t h. (
-        below 63 x (cond_fits 63 a x p),
-        refl,
-        small,
-      ),
-    ))
-    words c e
+    met1 (cond_at 0 63) (λ cond. call.Read cond) (IsRead (codes "read"))
+    (λ a x p. (words1 (codes "read") a _ (cond_ok 0 63 a x p), (cond_below 0 63 a x p, refl, none))) words c e
 
 wake_ok : (words : List (List ℕ)) (c : Call) → wake_at words ≡ Ok c → IsRead (codes "wake") words c
 wake_ok words c e =
-    met3 (cond_at 47) mode_at (number_at 0 127) (λ cond mode count. call.Wake cond mode count)
+    met3 (cond_at 0 47) mode_at (number_at 0 127) (λ cond mode count. call.Wake cond mode count)
     (IsRead (codes "wake"))
     (λ a b d x y z p q r. (
-      words3 (codes "wake") a b d _ _ _ (cond_ok 47 a x p) (mode_ok b y q) (number_ok 0 127 d z r),
-      λ t h. (
-        both (nat_lt x 48) (nat_lt z 128) (below 47 x (cond_fits 47 a x p))
-            (below 127 z (number_fits 0 127 d z r).1),
+      words3 (codes "wake") a b d _ _ _ (cond_ok 0 47 a x p) (mode_ok b y q) (number_ok 0 127 d z r),
+      (
+        both_true (nat_lt x 48) (nat_lt z 128) (cond_below 0 47 a x p) (number_below 0 127 d z r),
         refl,
-        small,
+        none,
       ),
     ))
     words c e
 
--- an add with priority is for the first tasks alone
-add_fits : (task x : ℕ) (k : Kind) (z : Form) (a b d : List ℕ) → x ≤ 47 → d ≡ form_text z
-    → task ≤ last_of (codes "add") (a ∷ b ∷ d ∷ []) → is_in_range task (call.Add x k z) ≡ true
-add_fits task x k form.Front a b d few e h = both (nat_lt x 48) true (below 47 x few) refl
-add_fits task x k form.Tail a b d few e h = both (nat_lt x 48) true (below 47 x few) refl
-add_fits task x k form.Priority a b d few e h =
-    both (nat_lt x 48) (nat_lt task 64) (below 47 x few)
-    (below 63 task (subst (λ w. task ≤ last_of (codes "add") (a ∷ b ∷ w ∷ [])) e h))
+-- task 0 adds in each form
+any_form : (f : Form) → (not (is_priority f) || nat_lt 0 64) ≡ true
+any_form form.Front = refl
+any_form form.Tail = refl
+any_form form.Priority = refl
 
 add_ok : (words : List (List ℕ)) (c : Call) → add_at words ≡ Ok c → IsRead (codes "add") words c
 add_ok words c e =
-    met3 (cond_at 47) kind_at form_at (λ cond kind form. call.Add cond kind form) (IsRead (codes "add"))
+    met3 (cond_at 0 47) kind_at form_at (λ cond kind form. call.Add cond kind form) (IsRead (codes "add"))
     (λ a b d x y z p q r. (
-      words3 (codes "add") a b d _ _ _ (cond_ok 47 a x p) (kind_ok b y q) (form_ok d z r),
-      λ t h. (add_fits t x y z a b d (cond_fits 47 a x p) (form_ok d z r) h, kind_listed b y q, small),
+      words3 (codes "add") a b d _ _ _ (cond_ok 0 47 a x p) (kind_ok b y q) (form_ok d z r),
+      (both_true (nat_lt x 48) _ (cond_below 0 47 a x p) (any_form z), kind_listed b y q, none),
     ))
     words c e
 
 remove_ok : (words : List (List ℕ)) (c : Call) → remove_at words ≡ Ok c → IsRead (codes "remove") words c
-remove_ok words c e =
-    met0 call.Remove (IsRead (codes "remove")) (refl, λ t h. (refl, refl, small)) words c e
-
-accept_ok : (words : List (List ℕ)) (c : Call) → accept_at words ≡ Ok c → IsRead (codes "accept") words c
-accept_ok words c e =
-    met0 call.Accept (IsRead (codes "accept")) (refl, λ t h. (refl, refl, small)) words c e
+remove_ok words c e = met0 call.Remove (IsRead (codes "remove")) (refl, (refl, refl, none)) words c e
 
 woken_ok : (words : List (List ℕ)) (c : Call) → woken_at words ≡ Ok c → IsRead (codes "woken") words c
 woken_ok words c e =
     met1 state_at (λ state. call.Woken state) (IsRead (codes "woken"))
-    (λ a x p. (words1 (codes "woken") a _ (state_ok a x p), λ t h. (refl, refl, small)))
-    words c e
+    (λ a x p. (words1 (codes "woken") a _ (state_ok a x p), (refl, refl, none))) words c e
 
 signal_ok : (words : List (List ℕ)) (c : Call) → signal_at words ≡ Ok c → IsRead (codes "signal") words c
 signal_ok words c e =
     met2 (number_at 0 last_task) fatal_at (λ who fatal. call.Signal who fatal) (IsRead (codes "signal"))
     (λ a b x y p q. (
       words2 (codes "signal") a b _ _ (number_ok 0 last_task a x p) (fatal_ok b y q),
-      λ t h. (below last_task x (number_fits 0 last_task a x p).1, refl, small),
+      (number_below 0 last_task a x p, refl, none),
     ))
     words c e
+
+accept_ok : (words : List (List ℕ)) (c : Call) → accept_at words ≡ Ok c → IsRead (codes "accept") words c
+accept_ok words c e = met0 call.Accept (IsRead (codes "accept")) (refl, (refl, refl, none)) words c e
 
 kick_ok : (words : List (List ℕ)) (c : Call) → kick_at words ≡ Ok c → IsRead (codes "kick") words c
 kick_ok words c e =
     met1 (number_at 0 last_task) (λ who. call.Kick who) (IsRead (codes "kick"))
     (λ a x p. (
       words1 (codes "kick") a _ (number_ok 0 last_task a x p),
-      λ t h. (below last_task x (number_fits 0 last_task a x p).1, refl, small),
+      (number_below 0 last_task a x p, refl, none),
+    )) words c e
+
+simple_wait_ok : (words : List (List ℕ)) (c : Call) → simple_wait_at words ≡ Ok c
+    → IsRead (codes "swait") words c
+simple_wait_ok words c e =
+    met2 (cond_at 48 63) simple_state_at (λ cond state. call.SimpleWait cond state) (IsRead (codes "swait"))
+    (λ a b x y p q. (
+      words2 (codes "swait") a b _ _ (cond_ok 48 63 a x p) (simple_state_ok b y q),
+      (simple_between a x p, simple_state_listed b y q, none),
+    )) words c e
+
+simple_wake_ok : (words : List (List ℕ)) (c : Call) → simple_wake_at words ≡ Ok c
+    → IsRead (codes "swake") words c
+simple_wake_ok words c e =
+    met2 (cond_at 48 63) all_at (λ cond all. call.SimpleWake cond all) (IsRead (codes "swake"))
+    (λ a b x y p q. (
+      words2 (codes "swake") a b _ _ (cond_ok 48 63 a x p) (all_ok b y q),
+      (simple_between a x p, refl, none),
+    )) words c e
+
+complete_ok : (words : List (List ℕ)) (c : Call) → complete_at words ≡ Ok c
+    → IsRead (codes "complete") words c
+complete_ok words c e =
+    met1 cell_at (λ cell. call.Complete cell) (IsRead (codes "complete"))
+    (λ a x p. (words1 (codes "complete") a _ (cell_ok a x p), (cell_below a x p, refl, none))) words c e
+
+complete_all_ok : (words : List (List ℕ)) (c : Call) → complete_all_at words ≡ Ok c
+    → IsRead (codes "completeall") words c
+complete_all_ok words c e =
+    met1 cell_at (λ cell. call.CompleteAll cell) (IsRead (codes "completeall"))
+    (λ a x p. (words1 (codes "completeall") a _ (cell_ok a x p), (cell_below a x p, refl, none))) words c e
+
+reinit_ok : (words : List (List ℕ)) (c : Call) → reinit_at words ≡ Ok c → IsRead (codes "reinit") words c
+reinit_ok words c e =
+    met1 cell_at (λ cell. call.Reinit cell) (IsRead (codes "reinit"))
+    (λ a x p. (words1 (codes "reinit") a _ (cell_ok a x p), (cell_below a x p, refl, none))) words c e
+
+wait_for_ok : (words : List (List ℕ)) (c : Call) → wait_for_at words ≡ Ok c → IsRead (codes "waitfor") words c
+wait_for_ok words c e =
+    met2 cell_at state_at (λ cell state. call.WaitFor cell state) (IsRead (codes "waitfor"))
+    (λ a b x y p q. (
+      words2 (codes "waitfor") a b _ _ (cell_ok a x p) (state_ok b y q),
+      (cell_below a x p, refl, none),
+    )) words c e
+
+try_wait_ok : (words : List (List ℕ)) (c : Call) → try_wait_at words ≡ Ok c → IsRead (codes "trywait") words c
+try_wait_ok words c e =
+    met1 cell_at (λ cell. call.TryWait cell) (IsRead (codes "trywait"))
+    (λ a x p. (words1 (codes "trywait") a _ (cell_ok a x p), (cell_below a x p, refl, none))) words c e
+
+is_done_ok : (words : List (List ℕ)) (c : Call) → is_done_at words ≡ Ok c → IsRead (codes "isdone") words c
+is_done_ok words c e =
+    met1 cell_at (λ cell. call.IsDone cell) (IsRead (codes "isdone"))
+    (λ a x p. (words1 (codes "isdone") a _ (cell_ok a x p), (cell_below a x p, refl, none))) words c e
+
+try_bit_ok : (words : List (List ℕ)) (c : Call) → try_bit_at words ≡ Ok c → IsRead (codes "trybit") words c
+try_bit_ok words c e =
+    met1 bit_at (λ b. call.TryBit b.0 b.1) (IsRead (codes "trybit"))
+    (λ a x p. (words1 (codes "trybit") a _ (bit_ok a x p), (bit_below a x p, refl, none))) words c e
+
+wait_bit_ok : (words : List (List ℕ)) (c : Call) → wait_bit_at words ≡ Ok c → IsRead (codes "waitbit") words c
+wait_bit_ok words c e =
+    met2 bit_at state_at (λ b state. call.WaitBit b.0 b.1 state) (IsRead (codes "waitbit"))
+    (λ a b x y p q. (
+      words2 (codes "waitbit") a b _ _ (bit_ok a x p) (state_ok b y q),
+      (bit_below a x p, refl, none),
+    )) words c e
+
+lock_bit_ok : (words : List (List ℕ)) (c : Call) → lock_bit_at words ≡ Ok c → IsRead (codes "lockbit") words c
+lock_bit_ok words c e =
+    met2 bit_at state_at (λ b state. call.LockBit b.0 b.1 state) (IsRead (codes "lockbit"))
+    (λ a b x y p q. (
+      words2 (codes "lockbit") a b _ _ (bit_ok a x p) (state_ok b y q),
+      (bit_below a x p, refl, none),
+    )) words c e
+
+clear_bit_ok : (words : List (List ℕ)) (c : Call) → clear_bit_at words ≡ Ok c
+    → IsRead (codes "clearbit") words c
+clear_bit_ok words c e =
+    met1 bit_at (λ b. call.ClearBit b.0 b.1) (IsRead (codes "clearbit"))
+    (λ a x p. (words1 (codes "clearbit") a _ (bit_ok a x p), (bit_below a x p, refl, none))) words c e
+
+wait_var_ok : (words : List (List ℕ)) (c : Call) → wait_var_at words ≡ Ok c → IsRead (codes "waitvar") words c
+wait_var_ok words c e =
+    met3 var_at value_at state_at (λ var old state. call.WaitVar var old state) (IsRead (codes "waitvar"))
+    (λ a b d x y z p q r. (
+      words3 (codes "waitvar") a b d _ _ _ (var_ok a x p) (value_ok b y q) (state_ok d z r),
+      (var_below a x p, refl, value_below b y q),
     ))
     words c e
+
+set_var_ok : (words : List (List ℕ)) (c : Call) → set_var_at words ≡ Ok c → IsRead (codes "setvar") words c
+set_var_ok words c e =
+    met2 var_at value_at (λ var value. call.SetVar var value) (IsRead (codes "setvar"))
+    (λ a b x y p q. (
+      words2 (codes "setvar") a b _ _ (var_ok a x p) (value_ok b y q),
+      (var_below a x p, refl, value_below b y q),
+    )) words c e
 
 -- the forms of a table read what they say under their names
 abbrev AreRead : List (List ℕ × (List (List ℕ) → Result Call ℕ)) → Type 0
@@ -276,17 +363,69 @@ call_ok (entry ∷ table) all name rest c e =
     (λ p. call_ok table all.1 name rest c p.1)
     (chosen (bytes_eq name entry.0) (entry.1 rest) (call_in table name rest) (Ok c) e)
 
-pub named_ok : (name : List ℕ) (rest : List (List ℕ)) (c : Call) → named_at name rest ≡ Ok c
-    → IsRead name rest c
-named_ok name rest c e =
-    call_ok calls (
-      wait_ok,
+all_read : AreRead calls
+all_read = (
+  wait_ok,
+  (
+    set_ok,
+    (
+      take_ok,
       (
-        set_ok,
+        read_ok,
         (
-          take_ok,
-          (read_ok, (wake_ok, (add_ok, (remove_ok, (woken_ok, (signal_ok, (accept_ok, (kick_ok, tt)))))))),
+          wake_ok,
+          (
+            add_ok,
+            (
+              remove_ok,
+              (
+                woken_ok,
+                (
+                  signal_ok,
+                  (
+                    accept_ok,
+                    (
+                      kick_ok,
+                      (
+                        simple_wait_ok,
+                        (
+                          simple_wake_ok,
+                          (
+                            complete_ok,
+                            (
+                              complete_all_ok,
+                              (
+                                reinit_ok,
+                                (
+                                  wait_for_ok,
+                                  (
+                                    try_wait_ok,
+                                    (
+                                      is_done_ok,
+                                      (
+                                        try_bit_ok,
+                                        (wait_bit_ok, (lock_bit_ok, (clear_bit_ok, (wait_var_ok, (set_var_ok, tt))))),
+                                      ),
+                                    ),
+                                  ),
+                                ),
+                              ),
+                            ),
+                          ),
+                        ),
+                      ),
+                    ),
+                  ),
+                ),
+              ),
+            ),
+          ),
         ),
       ),
-    )
-    name rest c e
+    ),
+  ),
+)
+
+pub named_ok : (name : List ℕ) (rest : List (List ℕ)) (c : Call) → named_at name rest ≡ Ok c
+    → IsRead name rest c
+named_ok name rest c e = call_ok calls all_read name rest c e

@@ -1,4 +1,4 @@
--- What is read is spelled so, with its numbers in their ranges.
+-- What is read is spelled so, and has its numbers in their ranges.
 use Rattle.std.proofs.Common.{
   ◌≡◌,
   ⊎_elim,
@@ -29,88 +29,131 @@ use Rattle.std.proofs.Common.{
   ◌≤◌,
   All,
 }
+use mathlib.Core.Bool.{◌&&◌}
 use Rattle.std.proofs.lemmas.Bool.Decides.{nat_tests}
 use Rattle.std.proofs.lemmas.List.Elements.{All-nil, All-cons}
 use Rattle.std.proofs.lemmas.List.Splits.{join_with_byte-slice_split}
 use Rattle.std.specs.List.{join_with_byte, flat_map, list_all}
 use Rattle.std.specs.Str.{bytes_eq}
 use Rattle.std.specs.Cmp.Lexicographic.{same_text}
+use Rattle.wait_model.specs.declared.calls.Call.{Call}
+use Rattle.wait_model.specs.declared.calls.Call.TheVariants as call
+use Rattle.wait_model.specs.declared.queues.Form.TheVariants as form
+use Rattle.wait_model.specs.Admission.{is_in_range}
 use Rattle.wait_script.specs.declared.line.Line.{Line}
 use Rattle.wait_script.specs.declared.line.Line.TheVariants as line
-use Rattle.wait_script.specs.Words.{words_of, both_of, made_of}
+use Rattle.wait_script.specs.Words.{words_of, both_of}
 use Rattle.wait_script.specs.Fields.{number_at, last_task, last_priority_task}
-use Rattle.wait_script.specs.Forms.{is_later, named_at, is_priority_add, last_of}
-use Rattle.wait_script.specs.Lines.{step_at, call_at, words_at, plain_at, header_at, line_at, is_printable}
+use Rattle.wait_script.specs.Forms.{named_at, is_priority_add, last_of}
+use Rattle.wait_script.specs.Lines.{
+  step_at,
+  call_at,
+  words_at,
+  plain_at,
+  header_at,
+  line_at,
+  is_printable,
+}
 use Rattle.wait_script.specs.Script.{parts_of, and_lines, lines_from, under, headed, script_of}
-use Rattle.wait_script.specs.Spelling.{line_words, line_text, script_text, IsFit}
-use Rattle.wait_script.proofs.ReadFields.{chosen, made_ok, both_ok, number_ok, number_fits}
+use Rattle.wait_script.specs.Spelling.{call_words, line_words, line_text, script_text, IsFit}
+use Rattle.wait_script.proofs.ReadFields.{chosen, made_ok, both_ok, both_true, number_ok, number_fits}
 use Rattle.wait_script.proofs.ReadForms.{named_ok}
 
 -- the words of a line, and the line that they say
-abbrev IsLineOf : List (List ℕ) → Line → Type 0
-IsLineOf words l = (words ≡ line_words l) × IsFit l
+abbrev IsReadAs : List (List ℕ) → Line → Type 0
+IsReadAs words l = (words ≡ line_words l) × IsFit l
 
 words3 : (name a x : List ℕ) (b y : List (List ℕ)) → a ≡ x → b ≡ y → name ∷ a ∷ b ≡ name ∷ x ∷ y
 words3 name a x b y p q = cc
 
-step_ok : (words : List (List ℕ)) (l : Line) → step_at words ≡ Ok l → IsLineOf (codes "step" ∷ words) l
+step_ok : (words : List (List ℕ)) (l : Line) → step_at words ≡ Ok l → IsReadAs (codes "step" ∷ words) l
 step_ok [] l e = absurd (cc (e))
 step_ok (a ∷ []) l e = absurd (cc (e))
 step_ok (a ∷ b ∷ []) l e =
     let m = made_ok (λ f. line.Step f.0 f.1) (both_of (number_at 0 last_task a) (number_at 1 1000000 b)) l e
     in
     let f = both_ok (number_at 0 last_task a) (number_at 1 1000000 b) m.0 m.1 in
-    subst (λ x. IsLineOf (codes "step" ∷ a ∷ b ∷ []) x) m.2 (
+    let n = number_fits 1 1000000 b m.0.1 f.1 in
+    subst (λ x. IsReadAs (codes "step" ∷ a ∷ b ∷ []) x) m.2 (
       words3 (codes "step") a _ (b ∷ []) _ (number_ok 0 last_task a m.0.0 f.0)
           (ap (λ w. w ∷ []) (number_ok 1 1000000 b m.0.1 f.1)),
-      (
-        (number_fits 0 last_task a m.0.0 f.0).1,
-        (number_fits 1 1000000 b m.0.1 f.1).0,
-        (number_fits 1 1000000 b m.0.1 f.1).1,
-      ),
+      ((number_fits 0 last_task a m.0.0 f.0).1, n.0, n.1),
     )
 step_ok (a ∷ b ∷ d ∷ more) l e = absurd (cc (e))
+
+-- the last task that may make a call, by its words
+abbrev last_by : List (List ℕ) → ℕ
+last_by [] = last_task
+last_by (name ∷ rest) = last_of name rest
 
 -- no call is for a task above the last one
 last_fits : (b : Bool) (n : ℕ) → n ≤ cond b last_priority_task last_task → n ≤ last_task
 last_fits true n h = omega (arith, h)
 last_fits false n h = h
 
--- a call that is built
-abbrev built_at : List ℕ → List ℕ → List (List ℕ) → Result Line ℕ
-built_at task name rest =
-    made_of (λ f. line.Call f.0 f.1) (both_of (number_at 0 (last_of name rest) task) (named_at name rest))
+-- a call that task 0 may make is one of each task up to the last one
+for_task : (c : Call) (task : ℕ) → task ≤ last_by (call_words c) → is_in_range 0 c ≡ true
+    → is_in_range task c ≡ true
+for_task (call.Wait c how) task h r = r
+for_task (call.Set c v) task h r = r
+for_task (call.Take c) task h r = r
+for_task (call.Read c) task h r = r
+for_task (call.Wake c m n) task h r = r
+for_task (call.Add c k form.Front) task h r = r
+for_task (call.Add c k form.Tail) task h r = r
+for_task (call.Add c k form.Priority) task h r =
+    let few : nat_lt task 64 ≡ true = grind (arith, nat_tests) in
+    both_true (nat_lt c 48) (nat_lt task 64) (full (nat_lt c 48) r) few
+  where
+    full : (a : Bool) → (a && true) ≡ true → a ≡ true
+    full true r = refl
+    full false r = absurd (cc (r))
+for_task call.Remove task h r = r
+for_task (call.Woken st) task h r = r
+for_task (call.Signal u d) task h r = r
+for_task call.Accept task h r = r
+for_task (call.Kick u) task h r = r
+for_task (call.SimpleWait c st) task h r = r
+for_task (call.SimpleWake c all) task h r = r
+for_task (call.Complete d) task h r = r
+for_task (call.CompleteAll d) task h r = r
+for_task (call.Reinit d) task h r = r
+for_task (call.WaitFor d st) task h r = r
+for_task (call.TryWait d) task h r = r
+for_task (call.IsDone d) task h r = r
+for_task (call.TryBit w b) task h r = r
+for_task (call.WaitBit w b st) task h r = r
+for_task (call.LockBit w b st) task h r = r
+for_task (call.ClearBit w b) task h r = r
+for_task (call.WaitVar v o st) task h r = r
+for_task (call.SetVar v x) task h r = r
 
-built_ok : (a name : List ℕ) (rest : List (List ℕ)) (l : Line) → built_at a name rest ≡ Ok l
-    → IsLineOf (codes "call" ∷ a ∷ name ∷ rest) l
-built_ok a name rest l e =
+call_ok : (words : List (List ℕ)) (l : Line) → call_at words ≡ Ok l → IsReadAs (codes "call" ∷ words) l
+call_ok [] l e = absurd (cc (e))
+call_ok (a ∷ []) l e = absurd (cc (e))
+call_ok (a ∷ name ∷ rest) l e =
     let task = number_at 0 (last_of name rest) a in
     let m = made_ok (λ f. line.Call f.0 f.1) (both_of task (named_at name rest)) l e in
     let f = both_ok task (named_at name rest) m.0 m.1 in
     let n = named_ok name rest m.0.1 f.1 in
-    let few = (number_fits 0 (last_of name rest) a m.0.0 f.0).1 in
-    subst (λ x. IsLineOf (codes "call" ∷ a ∷ name ∷ rest) x) m.2 (
+    let most : m.0.0 ≤ last_of name rest = (number_fits 0 (last_of name rest) a m.0.0 f.0).1 in
+    let fit = n.1 in
+    subst (λ x. IsReadAs (codes "call" ∷ a ∷ name ∷ rest) x) m.2 (
       words3 (codes "call") a _ (name ∷ rest) _ (number_ok 0 (last_of name rest) a m.0.0 f.0) n.0,
-      (last_fits (is_priority_add name rest) m.0.0 few, n.1 m.0.0 few),
+      (
+        last_fits (is_priority_add name rest) m.0.0 most,
+        (for_task m.0.1 m.0.0 (subst (λ ws. m.0.0 ≤ last_by ws) n.0 most) fit.0, fit.1, fit.2),
+      ),
     )
 
-call_ok : (words : List (List ℕ)) (l : Line) → call_at words ≡ Ok l → IsLineOf (codes "call" ∷ words) l
-call_ok [] l e = absurd (cc (e))
-call_ok (a ∷ []) l e = absurd (cc (e))
-call_ok (a ∷ name ∷ rest) l e =
-    ⊎_elim
-    (λ p. absurd (cc (p.1)))
-    (λ p. built_ok a name rest l p.1)
-    (chosen (is_later name) (Err 10) (built_at a name rest) (Ok l) e)
-
-words_ok : (words : List (List ℕ)) (l : Line) → words_at words ≡ Ok l → IsLineOf words l
+words_ok : (words : List (List ℕ)) (l : Line) → words_at words ≡ Ok l → IsReadAs words l
 words_ok [] l e = absurd (cc (e))
 words_ok (verb ∷ rest) l e =
     ⊎_elim
-    (λ p. subst (λ n. IsLineOf (n ∷ rest) l) (sym (same_text verb (codes "call") (sym p.0)))
+    (λ p. subst (λ n. IsReadAs (n ∷ rest) l) (sym (same_text verb (codes "call") (sym p.0)))
     (call_ok rest l p.1))
     (λ p. ⊎_elim
-    (λ q. subst (λ n. IsLineOf (n ∷ rest) l) (sym (same_text verb (codes "step") (sym q.0)))
+    (λ q. subst (λ n. IsReadAs (n ∷ rest) l) (sym (same_text verb (codes "step") (sym q.0)))
     (step_ok rest l q.1))
     (λ q. absurd (cc (q.1)))
     (chosen (bytes_eq verb (codes "step")) (step_at rest) (Err 5) (Ok l) p.1))
@@ -214,7 +257,7 @@ headed_ok (header ∷ next ∷ more) lines e =
       r.1,
     )
 
--- what is read is spelled so, with its numbers in their ranges
+-- what is read is spelled so, and fits
 pub script_ok : (bytes : List ℕ) (lines : List Line) → script_of bytes ≡ Ok lines → IsScript bytes lines
 script_ok bytes lines e =
     let r = headed_ok (parts_of bytes) lines e in

@@ -1,95 +1,101 @@
--- A script that is spelled as lines in their ranges is read as those lines.
-use Rattle.std.proofs.Common.{◌≡◌, ℕ, ◌+◌, ◌*◌, ◌≤◌, true, false, cond, List, [], ◌∷◌, ◌++◌, Result, Ok, Err, All, length, codes, decimal, refl, ap, sym, ◌∙◌, arith, append_assoc, nat_lt}
+-- A script that is spelled as lines that fit is read as those lines.
+use Rattle.std.proofs.Common.{◌≡◌, ℕ, ◌+◌, ◌*◌, ◌≤◌, Bool, true, false, cond, eqb, List, [], ◌∷◌, ◌++◌, Ok, Err, All, length, codes, refl, ap, ◌∙◌, arith, append_assoc, nat_le, nat_lt, length-append}
 use Rattle.std.proofs.lemmas.Bool.Decides.{nat_tests}
-use Rattle.std.proofs.lemmas.List.Splits.{slice_split_at}
-use Rattle.std.proofs.lemmas.List.Elements.{All-head, All-tail}
+use Rattle.std.proofs.lemmas.List.Splits.{slice_split_at, slice_split_none}
+use Rattle.std.proofs.lemmas.List.Folds.{list_all-append}
+use Rattle.std.proofs.lemmas.List.Elements.{All-nil, All-cons, All-head, All-tail}
 use Rattle.std.specs.List.{join_with_byte, flat_map, list_all}
 use Rattle.wait_script.specs.declared.line.Line.{Line}
-use Rattle.wait_script.specs.declared.line.Line.TheVariants as line
-use Rattle.wait_script.specs.Words.{words_of, both_of, made_of}
-use Rattle.wait_script.specs.Fields.{number_at, last_task}
-use Rattle.wait_script.specs.Lines.{words_at, plain_at, line_at, is_printable}
+use Rattle.wait_script.specs.Words.{words_of}
+use Rattle.wait_script.specs.Lines.{words_at, line_at, is_printable}
 use Rattle.wait_script.specs.Script.{is_end, parts_of, and_lines, lines_from, script_of}
-use Rattle.wait_script.specs.Spelling.{call_words, line_text, script_text, IsFit}
+use Rattle.wait_script.specs.Spelling.{line_words, line_text, script_text, IsFit}
 use Rattle.wait_script.proofs.Parts.{lines_from-step, good_header}
-use Rattle.wait_script.proofs.SpelledWords.{
-  IsWord,
-  AreWords,
-  number_word,
-  ends_nowhere,
-  cut_words,
-  words_print,
-  words_length,
-}
-use Rattle.wait_script.proofs.SpelledForms.{number_read, call_read, are_words, few_words}
+use Rattle.wait_script.proofs.SpelledWords.{both_true, parts_true, in_word, IsWord, AreWords}
+use Rattle.wait_script.proofs.SpelledForms.{line_said}
 
--- the first word of a line, and those behind it
-abbrev verb_of : Line → List ℕ
-verb_of (line.Call task c) = codes "call"
-verb_of (line.Step task count) = codes "step"
+no_space : (x : ℕ) → in_word x ≡ true → eqb x 32 ≡ false
+no_space x h = grind (arith, nat_tests)
 
-abbrev behind_verb : Line → List (List ℕ)
-behind_verb (line.Call task c) = decimal task ∷ call_words c
-behind_verb (line.Step task count) = decimal task ∷ decimal count ∷ []
+prints : (x : ℕ) → in_word x ≡ true → is_printable x ≡ true
+prints x h = grind (arith, nat_tests)
 
-verb_word : (l : Line) → IsWord (verb_of l)
-verb_word (line.Call task c) = refl
-verb_word (line.Step task count) = refl
+no_end : (x : ℕ) → is_printable x ≡ true → is_end x ≡ false
+no_end x h = grind (arith, nat_tests)
 
-behind_words : (l : Line) → IsFit l → AreWords (behind_verb l)
-behind_words (line.Call task c) h = (number_word task (omega (arith, h.0)), are_words task c h.1)
-behind_words (line.Step task count) h =
-    (number_word task (omega (arith, h.0)), (number_word count (omega (arith, h.2)), tt))
+all_of : (p : ℕ → Bool) (P : ℕ → Type 0) → ((x : ℕ) → p x ≡ true → P x) → (xs : List ℕ) → list_all p xs ≡ true
+    → All P xs
+all_of p P f [] h = All-nil P
+all_of p P f (x ∷ xs) h =
+    let q = parts_true (p x) (list_all p xs) h in
+    All-cons P x xs (f x q.0) (all_of p P f xs q.1)
 
-joined : (l : Line) → join_with_byte 32 (verb_of l ∷ behind_verb l) ≡ line_text l
-joined (line.Call task c) = refl
-joined (line.Step task count) = refl
+bytes_of : (word : List ℕ) → IsWord word → list_all in_word word ≡ true
+bytes_of word h = (parts_true (list_all in_word word) (nat_le (length word) 20) h).0
 
-few : (l : Line) → length (verb_of l ∷ behind_verb l) ≤ 6
-few (line.Call task c) = omega (arith, few_words c)
-few (line.Step task count) = omega arith
-
-words_read : (l : Line) → IsFit l → words_at (verb_of l ∷ behind_verb l) ≡ Ok l
-words_read (line.Call task c) h = call_read task h.0 c h.1
-words_read (line.Step task count) h =
-    fields (number_at 0 last_task (decimal task)) (number_at 1 1000000 (decimal count))
-    (number_read 0 last_task task (omega arith) h.0 (omega (arith, h.0)))
-    (number_read 1 1000000 count h.1 h.2 (omega (arith, h.2)))
+few_of : (word : List ℕ) → IsWord word → length word ≤ 20
+few_of word h = at_most (length word) (parts_true (list_all in_word word) (nat_le (length word) 20) h).1
   where
-    fields : (a b : Result ℕ ℕ) → a ≡ Ok task → b ≡ Ok count
-        → made_of (λ f. line.Step f.0 f.1) (both_of a b) ≡ Ok (line.Step task count)
-    fields a b p q = rw (p, q) refl
+    at_most : (n : ℕ) → nat_le n 20 ≡ true → n ≤ 20
+    at_most n h = grind (arith, nat_tests)
 
-line_prints : (l : Line) → IsFit l → list_all is_printable (line_text l) ≡ true
-line_prints l h =
-    ap (list_all is_printable) (sym (joined l)) ∙ words_print (verb_of l) (behind_verb l) (verb_word l)
-    (behind_words l h)
+-- words that are joined by spaces are cut there
+cut_words : (word : List ℕ) (words : List (List ℕ)) → IsWord word → AreWords words
+    → words_of (join_with_byte 32 (word ∷ words)) ≡ word ∷ words
+cut_words word [] h hs =
+    slice_split_none (λ b. eqb b 32) word (all_of in_word _ no_space word (bytes_of word h))
+cut_words word (next ∷ words) h hs =
+    slice_split_at (λ b. eqb b 32) word 32 (join_with_byte 32 (next ∷ words))
+    (all_of in_word _ no_space word (bytes_of word h)) refl
+    ∙ ap (λ ws. word ∷ ws) (cut_words next words hs.0 hs.1)
 
-line_short : (l : Line) → IsFit l → length (line_text l) ≤ 200
-line_short l h =
-    let a : length (join_with_byte 32 (verb_of l ∷ behind_verb l)) ≤ 21 * length (verb_of l ∷ behind_verb l) =
-    words_length (verb_of l) (behind_verb l) (verb_word l) (behind_words l h) in
-    let b : length (join_with_byte 32 (verb_of l ∷ behind_verb l)) ≡ length (line_text l) =
-    ap length (joined l) in
-    omega (arith, a, b, few l)
+word_prints : (word : List ℕ) → list_all in_word word ≡ true → list_all is_printable word ≡ true
+word_prints [] h = refl
+word_prints (x ∷ xs) h =
+    let p = parts_true (in_word x) (list_all in_word xs) h in
+    both_true (is_printable x) (list_all is_printable xs) (prints x p.0) (word_prints xs p.1)
 
--- a text that is short and prints says what its bytes say
-plain_read : {A : Type 0} (says : List ℕ → Result A ℕ) (text : List ℕ) → length text ≤ 200
-    → list_all is_printable text ≡ true → plain_at says text ≡ says text
-plain_read says text short p =
-    ap (λ b. cond b (Err 2) (cond (list_all is_printable text) (says text) (Err 3)))
-    (fits (length text) short)
-    ∙ ap (λ b. cond b (says text) (Err 3)) p
+words_print : (word : List ℕ) (words : List (List ℕ)) → IsWord word → AreWords words
+    → list_all is_printable (join_with_byte 32 (word ∷ words)) ≡ true
+words_print word [] h hs = word_prints word (bytes_of word h)
+words_print word (next ∷ words) h hs =
+    list_all-append is_printable word (32 ∷ join_with_byte 32 (next ∷ words))
+    ∙ both_true (list_all is_printable word) _ (word_prints word (bytes_of word h))
+    (words_print next words hs.0 hs.1)
+
+-- so many words have no more than so many bytes
+short : (word : List ℕ) (words : List (List ℕ)) → IsWord word → AreWords words
+    → length (join_with_byte 32 (word ∷ words)) ≤ 20 + 21 * length words
+short word [] h hs = let n = few_of word h in omega (arith, n)
+short word (next ∷ words) h hs =
+    let n = few_of word h in
+    let m = short next words hs.0 hs.1 in
+    rw (length-append) (omega (arith, n, m))
+
+-- what is said by words is read from their text
+line_from : (l : Line) (word : List ℕ) (words : List (List ℕ)) → line_words l ≡ word ∷ words → IsWord word
+    → AreWords words → length words ≤ 5 → words_at (word ∷ words) ≡ Ok l
+    → (line_at (line_text l) ≡ Ok l) × (list_all is_printable (line_text l) ≡ true)
+line_from l word words is h hs few said =
+    let text : line_text l ≡ join_with_byte 32 (word ∷ words) = ap (join_with_byte 32) is in
+    let print = ap (list_all is_printable) text ∙ words_print word words h hs in
+    let cut : words_of (line_text l) ≡ word ∷ words = ap words_of text ∙ cut_words word words h hs in
+    let most : nat_lt 200 (length (line_text l)) ≡ false =
+    ap (λ t. nat_lt 200 (length t)) text
+    ∙ fits (length (join_with_byte 32 (word ∷ words))) (length words) (short word words h hs) few in (
+      ap (λ b. cond b (Err 2) (cond (list_all is_printable (line_text l)) (words_at (words_of (line_text l)))
+          (Err 3))) most
+          ∙ ap (λ b. cond b (words_at (words_of (line_text l))) (Err 3)) print
+          ∙ ap words_at cut ∙ said,
+      print,
+    )
   where
-    fits : (n : ℕ) → n ≤ 200 → nat_lt 200 n ≡ false
-    fits n h = grind (arith, nat_tests)
+    fits : (n m : ℕ) → n ≤ 20 + 21 * m → m ≤ 5 → nat_lt 200 n ≡ false
+    fits n m h few = let le : n ≤ 200 = omega (arith, h, few) in grind (arith, nat_tests)
 
-line_read : (l : Line) → IsFit l → line_at (line_text l) ≡ Ok l
-line_read l h =
-    plain_read (λ text. words_at (words_of text)) (line_text l) (line_short l h) (line_prints l h)
-    ∙ ap (λ text. words_at (words_of text)) (sym (joined l))
-    ∙ ap words_at (cut_words (verb_of l) (behind_verb l) (verb_word l) (behind_words l h))
-    ∙ words_read l h
+read_back : (l : Line) → IsFit l → (line_at (line_text l) ≡ Ok l)
+    × (list_all is_printable (line_text l) ≡ true)
+read_back l h = let s = line_said l h in line_from l s.0 s.1 s.2 s.3 s.4 s.5 s.6
 
 abbrev ended : Line → List ℕ
 ended l = line_text l ++ 10 ∷ []
@@ -99,7 +105,7 @@ next_part : (l : Line) (lines : List Line) → IsFit l
 next_part l lines h =
     ap parts_of (append_assoc (line_text l) (10 ∷ []) (flat_map ended lines))
     ∙ slice_split_at is_end (line_text l) 10 (flat_map ended lines)
-    (ends_nowhere (line_text l) (line_prints l h)) refl
+    (all_of is_printable _ no_end (line_text l) (read_back l h).1) refl
 
 lines_read : (number : ℕ) (lines : List Line) → All IsFit lines
     → lines_from number (parts_of (flat_map ended lines)) ≡ Ok lines
@@ -109,12 +115,12 @@ lines_read number (l ∷ lines) h =
     ap (lines_from number) (next_part l lines fit)
     ∙ lines_from-step number (line_text l) (flat_map ended lines)
     ∙ ap (λ r. and_lines number r (lines_from (number + 1) (parts_of (flat_map ended lines))))
-    (line_read l fit)
+    (read_back l fit).0
     ∙ ap (and_lines number (Ok l)) (lines_read (number + 1) lines (All-tail IsFit l lines h))
 
 pub script_read : (lines : List Line) → All IsFit lines → script_of (script_text lines) ≡ Ok lines
 script_read lines h =
     good_header (script_text lines) (codes "waitq 1") (flat_map ended lines) tt lines
-    (slice_split_at is_end (codes "waitq 1") 10 (flat_map ended lines) (ends_nowhere (codes "waitq 1") refl)
-    refl)
+    (slice_split_at is_end (codes "waitq 1") 10 (flat_map ended lines)
+    (all_of is_printable _ no_end (codes "waitq 1") refl) refl)
     refl (lines_read 2 lines h)

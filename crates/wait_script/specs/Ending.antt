@@ -24,6 +24,7 @@ use Rattle.wait_model.specs.declared.calls.Ran.{Ran}
 use Rattle.wait_model.specs.declared.queues.Member.{Member}
 use Rattle.wait_model.specs.declared.tasks.Task.{Task}
 use Rattle.wait_model.specs.Runs.{State, state_of, made_in}
+use Rattle.wait_model.specs.Queues.{entry_count, is_entry}
 use Rattle.wait_model.specs.Watches.{owner}
 use Rattle.wait_model.specs.Locations.{Location, word_in}
 use Rattle.wait_model.specs.Locations as location
@@ -54,8 +55,10 @@ task_text who None t = []
 task_text who (Some is_open) t = codes "task " ++ decimal who ++ codes " " ++ state_text t.state ++ codes " "
     ++ signal_text t ++ codes " " ++ act_text is_open t.runnable ++ codes "\n"
 
+-- an entry by the task whose it is, and a bookmark by its task behind a star
 abbrev pub member_text : Member → List ℕ
-member_text m = codes " t" ++ decimal (owner m.at)
+member_text m =
+    if is_entry m then codes " t" ++ decimal (owner m.at) else codes " *t" ++ decimal (m.at - entry_count)
 
 -- the members behind a head's number, and the end of the line
 abbrev pub members_text : List Member → List ℕ

@@ -1,6 +1,5 @@
 -- The forms of the calls: for each name what its words say, or the first why. (To be believed.)
 use Rattle.std.specs.Prelude.{ℕ, List, [], ◌∷◌, Result, Ok, Err, Bool, false, ◌&&◌, if◌then◌else◌, codes}
-use Rattle.std.specs.List.{list_any}
 use Rattle.std.specs.Str.{bytes_eq}
 use Rattle.wait_model.specs.declared.calls.Call.{Call}
 use Rattle.wait_model.specs.declared.calls.Call.TheVariants as call
@@ -9,12 +8,17 @@ use Rattle.wait_script.specs.Fields.{
   number_at,
   value_at,
   cond_at,
+  cell_at,
+  var_at,
+  bit_at,
   how_at,
   state_at,
+  simple_state_at,
   mode_at,
   kind_at,
   form_at,
   fatal_at,
+  all_at,
   last_task,
   last_priority_task,
 }
@@ -39,23 +43,23 @@ form3 f g h make (a ∷ b ∷ c ∷ []) = made_of (λ x. make x.0 x.1.0 x.1.1) (
 form3 f g h make words = Err 6
 
 abbrev pub wait_at : List (List ℕ) → Result Call ℕ
-wait_at words = form2 (cond_at 47) how_at (λ cond how. call.Wait cond how) words
+wait_at words = form2 (cond_at 0 47) how_at (λ cond how. call.Wait cond how) words
 
 abbrev pub set_at : List (List ℕ) → Result Call ℕ
-set_at words = form2 (cond_at 63) value_at (λ cond value. call.Set cond value) words
+set_at words = form2 (cond_at 0 63) value_at (λ cond value. call.Set cond value) words
 
 abbrev pub take_at : List (List ℕ) → Result Call ℕ
-take_at words = form1 (cond_at 63) (λ cond. call.Take cond) words
+take_at words = form1 (cond_at 0 63) (λ cond. call.Take cond) words
 
 abbrev pub read_at : List (List ℕ) → Result Call ℕ
-read_at words = form1 (cond_at 63) (λ cond. call.Read cond) words
+read_at words = form1 (cond_at 0 63) (λ cond. call.Read cond) words
 
 abbrev pub wake_at : List (List ℕ) → Result Call ℕ
-wake_at words = form3 (cond_at 47) mode_at (number_at 0 127) (λ cond mode count. call.Wake cond mode count)
+wake_at words = form3 (cond_at 0 47) mode_at (number_at 0 127) (λ cond mode count. call.Wake cond mode count)
     words
 
 abbrev pub add_at : List (List ℕ) → Result Call ℕ
-add_at words = form3 (cond_at 47) kind_at form_at (λ cond kind form. call.Add cond kind form) words
+add_at words = form3 (cond_at 0 47) kind_at form_at (λ cond kind form. call.Add cond kind form) words
 
 abbrev pub remove_at : List (List ℕ) → Result Call ℕ
 remove_at words = form0 call.Remove words
@@ -72,6 +76,48 @@ accept_at words = form0 call.Accept words
 abbrev pub kick_at : List (List ℕ) → Result Call ℕ
 kick_at words = form1 (number_at 0 last_task) (λ who. call.Kick who) words
 
+abbrev pub simple_wait_at : List (List ℕ) → Result Call ℕ
+simple_wait_at words = form2 (cond_at 48 63) simple_state_at (λ cond state. call.SimpleWait cond state) words
+
+abbrev pub simple_wake_at : List (List ℕ) → Result Call ℕ
+simple_wake_at words = form2 (cond_at 48 63) all_at (λ cond all. call.SimpleWake cond all) words
+
+abbrev pub complete_at : List (List ℕ) → Result Call ℕ
+complete_at words = form1 cell_at (λ cell. call.Complete cell) words
+
+abbrev pub complete_all_at : List (List ℕ) → Result Call ℕ
+complete_all_at words = form1 cell_at (λ cell. call.CompleteAll cell) words
+
+abbrev pub reinit_at : List (List ℕ) → Result Call ℕ
+reinit_at words = form1 cell_at (λ cell. call.Reinit cell) words
+
+abbrev pub wait_for_at : List (List ℕ) → Result Call ℕ
+wait_for_at words = form2 cell_at state_at (λ cell state. call.WaitFor cell state) words
+
+abbrev pub try_wait_at : List (List ℕ) → Result Call ℕ
+try_wait_at words = form1 cell_at (λ cell. call.TryWait cell) words
+
+abbrev pub is_done_at : List (List ℕ) → Result Call ℕ
+is_done_at words = form1 cell_at (λ cell. call.IsDone cell) words
+
+abbrev pub try_bit_at : List (List ℕ) → Result Call ℕ
+try_bit_at words = form1 bit_at (λ b. call.TryBit b.0 b.1) words
+
+abbrev pub wait_bit_at : List (List ℕ) → Result Call ℕ
+wait_bit_at words = form2 bit_at state_at (λ b state. call.WaitBit b.0 b.1 state) words
+
+abbrev pub lock_bit_at : List (List ℕ) → Result Call ℕ
+lock_bit_at words = form2 bit_at state_at (λ b state. call.LockBit b.0 b.1 state) words
+
+abbrev pub clear_bit_at : List (List ℕ) → Result Call ℕ
+clear_bit_at words = form1 bit_at (λ b. call.ClearBit b.0 b.1) words
+
+abbrev pub wait_var_at : List (List ℕ) → Result Call ℕ
+wait_var_at words = form3 var_at value_at state_at (λ var old state. call.WaitVar var old state) words
+
+abbrev pub set_var_at : List (List ℕ) → Result Call ℕ
+set_var_at words = form2 var_at value_at (λ var value. call.SetVar var value) words
+
 -- the calls by their names
 abbrev pub calls : List (List ℕ × (List (List ℕ) → Result Call ℕ))
 calls =
@@ -86,17 +132,21 @@ calls =
     ∷ (codes "signal", signal_at)
     ∷ (codes "accept", accept_at)
     ∷ (codes "kick", kick_at)
+    ∷ (codes "swait", simple_wait_at)
+    ∷ (codes "swake", simple_wake_at)
+    ∷ (codes "complete", complete_at)
+    ∷ (codes "completeall", complete_all_at)
+    ∷ (codes "reinit", reinit_at)
+    ∷ (codes "waitfor", wait_for_at)
+    ∷ (codes "trywait", try_wait_at)
+    ∷ (codes "isdone", is_done_at)
+    ∷ (codes "trybit", try_bit_at)
+    ∷ (codes "waitbit", wait_bit_at)
+    ∷ (codes "lockbit", lock_bit_at)
+    ∷ (codes "clearbit", clear_bit_at)
+    ∷ (codes "waitvar", wait_var_at)
+    ∷ (codes "setvar", set_var_at)
     ∷ []
-
--- the names of the calls that are not built yet
-abbrev pub later : List (List ℕ)
-later =
-    codes "swait" ∷ codes "swake" ∷ codes "complete" ∷ codes "completeall" ∷ codes "reinit" ∷ codes "waitfor"
-    ∷ codes "trywait" ∷ codes "isdone" ∷ codes "trybit" ∷ codes "waitbit" ∷ codes "lockbit" ∷ codes "clearbit"
-    ∷ codes "waitvar" ∷ codes "setvar" ∷ []
-
-abbrev pub is_later : List ℕ → Bool
-is_later name = list_any (bytes_eq name) later
 
 -- a call by a table of names
 abbrev pub call_in : List (List ℕ × (List (List ℕ) → Result Call ℕ)) → List ℕ → List (List ℕ) → Result Call ℕ

@@ -1,6 +1,5 @@
 -- What a line says, or the first reason why it says nothing: 2 a long line, 3 a bad byte, 4 no header, 5 an
--- unknown word, 10 a call that is not built, 6 the count of words, 7 a number, 8 a keyword, 9 a condition.
--- (To be believed.)
+-- unknown word, 6 the count of words, 7 a number, 8 a keyword, 9 a condition. (To be believed.)
 use Rattle.std.specs.Prelude.{
   ℕ,
   List,
@@ -22,7 +21,7 @@ use Rattle.std.specs.Str.{bytes_eq}
 use Rattle.wait_script.specs.declared.line.Line.{Line}
 use Rattle.wait_script.specs.declared.line.Line.TheVariants as line
 use Rattle.wait_script.specs.Fields.{number_at, last_task}
-use Rattle.wait_script.specs.Forms.{is_later, named_at, last_of}
+use Rattle.wait_script.specs.Forms.{named_at, last_of}
 use Rattle.wait_script.specs.Words.{words_of, both_of, made_of}
 
 -- `step TASK COUNT`, by the words behind the first
@@ -31,13 +30,10 @@ step_at (task ∷ count ∷ []) =
     made_of (λ f. line.Step f.0 f.1) (both_of (number_at 0 last_task task) (number_at 1 1000000 count))
 step_at words = Err 6
 
--- `call TASK NAME ..`, by the words behind the first. A call that is not built yet is that whatever stands
--- in its other words.
+-- `call TASK NAME ..`, by the words behind the first
 abbrev pub call_at : List (List ℕ) → Result Line ℕ
 call_at (task ∷ name ∷ rest) =
-    if is_later name then Err 10
-    else made_of (λ f. line.Call f.0 f.1) (both_of (number_at 0 (last_of name rest) task)
-    (named_at name rest))
+    made_of (λ f. line.Call f.0 f.1) (both_of (number_at 0 (last_of name rest) task) (named_at name rest))
 call_at words = Err 6
 
 -- a line by its words

@@ -26,15 +26,20 @@ use Rattle.wait_model.specs.declared.watches.Mode.{Mode}
 use Rattle.wait_model.specs.declared.watches.Mode.TheVariants as mode
 use Rattle.wait_model.specs.declared.watches.Kind.{Kind}
 use Rattle.wait_model.specs.declared.watches.Kind.TheVariants as kind
-use Rattle.wait_model.specs.Points.{stored}
 use Rattle.wait_model.specs.Admission.{is_in_range, IsListed}
 use Rattle.wait_script.specs.Fields.{last_task}
-use Rattle.wait_script.specs.Text.{form_text}
+use Rattle.wait_script.specs.Text.{form_text, bit_text}
 use Rattle.wait_script.specs.declared.line.Line.{Line}
 use Rattle.wait_script.specs.declared.line.Line.TheVariants as line
 
 abbrev pub cond_word : ℕ → List ℕ
 cond_word cond = codes "c" ++ decimal cond
+
+abbrev pub cell_word : ℕ → List ℕ
+cell_word cell = codes "d" ++ decimal cell
+
+abbrev pub var_word : ℕ → List ℕ
+var_word var = codes "v" ++ decimal var
 
 abbrev pub state_word : SleepState → List ℕ
 state_word Uninterruptible = codes "plain"
@@ -58,6 +63,10 @@ abbrev pub fatal_word : Bool → List ℕ
 fatal_word true = codes "fatal"
 fatal_word false = codes "plain"
 
+abbrev pub extent_word : Bool → List ℕ
+extent_word true = codes "all"
+extent_word false = codes "one"
+
 -- the words of a call
 abbrev pub call_words : Call → List (List ℕ)
 call_words (call.Wait cond how) = codes "wait" ∷ cond_word cond ∷ how_word how ∷ []
@@ -71,6 +80,20 @@ call_words (call.Woken state) = codes "woken" ∷ state_word state ∷ []
 call_words (call.Signal who fatal) = codes "signal" ∷ decimal who ∷ fatal_word fatal ∷ []
 call_words call.Accept = codes "accept" ∷ []
 call_words (call.Kick who) = codes "kick" ∷ decimal who ∷ []
+call_words (call.SimpleWait cond state) = codes "swait" ∷ cond_word cond ∷ state_word state ∷ []
+call_words (call.SimpleWake cond all) = codes "swake" ∷ cond_word cond ∷ extent_word all ∷ []
+call_words (call.Complete cell) = codes "complete" ∷ cell_word cell ∷ []
+call_words (call.CompleteAll cell) = codes "completeall" ∷ cell_word cell ∷ []
+call_words (call.Reinit cell) = codes "reinit" ∷ cell_word cell ∷ []
+call_words (call.WaitFor cell state) = codes "waitfor" ∷ cell_word cell ∷ state_word state ∷ []
+call_words (call.TryWait cell) = codes "trywait" ∷ cell_word cell ∷ []
+call_words (call.IsDone cell) = codes "isdone" ∷ cell_word cell ∷ []
+call_words (call.TryBit word bit) = codes "trybit" ∷ bit_text word bit ∷ []
+call_words (call.WaitBit word bit state) = codes "waitbit" ∷ bit_text word bit ∷ state_word state ∷ []
+call_words (call.LockBit word bit state) = codes "lockbit" ∷ bit_text word bit ∷ state_word state ∷ []
+call_words (call.ClearBit word bit) = codes "clearbit" ∷ bit_text word bit ∷ []
+call_words (call.WaitVar var old state) = codes "waitvar" ∷ var_word var ∷ decimal old ∷ state_word state ∷ []
+call_words (call.SetVar var value) = codes "setvar" ∷ var_word var ∷ decimal value ∷ []
 
 abbrev pub line_words : Line → List (List ℕ)
 line_words (line.Call task call) = codes "call" ∷ decimal task ∷ call_words call
@@ -83,9 +106,16 @@ line_text l = join_with_byte 32 (line_words l)
 abbrev pub script_text : List Line → List ℕ
 script_text lines = codes "waitq 1\n" ++ flat_map (λ l. line_text l ++ 10 ∷ []) lines
 
+-- the number of 64 bits in a call
+abbrev pub value_of : Call → ℕ
+value_of (call.Set cond value) = value
+value_of (call.WaitVar var old state) = old
+value_of (call.SetVar var value) = value
+value_of call = 0
+
 -- the call is one that there is, and its numbers are in their ranges
 abbrev pub IsFitCall : ℕ → Call → Type 0
-IsFitCall task c = (is_in_range task c ≡ true) × IsListed c × (stored c < 2 ^ 64)
+IsFitCall task c = (is_in_range task c ≡ true) × IsListed c × (value_of c < 2 ^ 64)
 
 -- the same of a line
 abbrev pub IsFit : Line → Type 0

@@ -38,6 +38,7 @@ use Rattle.wait_core.specs.declared.engine.StartFault.TheVariants.{
   NoSuchTask,
   CallOpen,
   NoSuchCond,
+  NotHeld,
   EntryQueued,
   NoEntry,
 }
@@ -76,6 +77,9 @@ abbrev pub yes_text : Bool → List ℕ
 yes_text true = codes "yes"
 yes_text false = codes "no"
 
+abbrev pub bit_text : ℕ → ℕ → List ℕ
+bit_text word bit = codes "b" ++ decimal word ++ codes "." ++ decimal bit
+
 abbrev pub event_text : Event → List ℕ
 event_text (event.State state) = codes "state " ++ state_text state
 event_text (event.Sleep sleep) = codes "sleep " ++ sleep_text sleep
@@ -89,10 +93,15 @@ event_text (event.Unlock head spent) = codes "unlock h" ++ decimal head
     ++ (if spent then codes " spent" else [])
 event_text (event.Queue head form) = codes "queue h" ++ decimal head ++ codes " " ++ form_text form
 event_text (event.Unqueue who) = codes "unqueue t" ++ decimal who
+event_text (event.Mark head) = codes "mark h" ++ decimal head
+event_text (event.Unmark head) = codes "unmark h" ++ decimal head
 event_text (event.Queued there) = codes "queued " ++ yes_text there
+event_text (event.Active head there) = codes "active h" ++ decimal head ++ codes " " ++ yes_text there
 event_text (event.Load cond value) = codes "load " ++ cond_text cond ++ codes " " ++ decimal value
 event_text (event.Set cond value) = codes "set " ++ cond_text cond ++ codes " " ++ decimal value
 event_text (event.Take cond found) = codes "take c" ++ decimal cond ++ codes " " ++ decimal found
+event_text (event.Tas word bit found) = codes "tas " ++ bit_text word bit ++ codes " " ++ decimal found
+event_text (event.Clear word bit) = codes "clear " ++ bit_text word bit
 event_text (event.Woken who) = codes "woken t" ++ decimal who
 event_text (event.Flag there) = codes "flag " ++ yes_text there
 event_text event.Unflag = codes "unflag"
@@ -129,6 +138,7 @@ abbrev pub fault_number : StartFault → ℕ
 fault_number NoSuchTask = 1
 fault_number CallOpen = 2
 fault_number NoSuchCond = 3
+fault_number NotHeld = 4
 fault_number EntryQueued = 5
 fault_number NoEntry = 6
 

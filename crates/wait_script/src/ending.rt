@@ -7,14 +7,12 @@ ghost use Rattle.wait_model.specs.Runs.{state_of};
 ghost use Rattle.wait_script.specs.Fields.{last_task};
 ghost use Rattle.wait_script.specs.Ending.{line_of_task, line_of_head, line_of_word, tasks_text, heads_text, words_text, end_text};
 
-use crate::fields::LAST_TASK;
 use crate::summary::{EventsText, HeadText, MemberText, TaskText, WordText};
 use crate::writer::write_shown;
 use edge_io::{Sink, SinkFault};
 use wait_core::engine::Core;
+use wait_model::tasks::TASKS;
 
-/// How many tasks there are.
-const TASKS: u8 = LAST_TASK + 1;
 /// How many heads there are.
 const HEADS: u16 = 384;
 /// How many condition words there are, and where they stand.
@@ -67,8 +65,8 @@ fn write_head<K: Sink>(out: &mut K, core: &Core, head: u16) -> Result<(), SinkFa
     }
     write_shown(out, &HeadText(head))?;
     'members: while let Some(member) = next {
-        write_shown(out, &MemberText(member.owner()))?;
-        next = core.member_from(head, member.place + 1);
+        write_shown(out, &MemberText(member))?;
+        next = core.member_from(head, member.rank() + 1);
     }
     write_shown(out, &"\n")
 }

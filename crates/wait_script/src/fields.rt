@@ -2,15 +2,18 @@
 
 ghost use Rattle.std.specs.Prelude.{◌≡◌, ◌<◌};
 ghost use Rattle.wait_script.specs.Fields as spec;
+ghost use Rattle.wait_script.specs.Fields.{within};
+ghost use Rattle.wait_script.specs.Number.{number_of};
 
 use crate::number::number;
 use crate::why::{BAD_CONDITION, BAD_FORM, BAD_NUMBER};
+use crate::words::both;
 use wait_model::queues::Form;
 use wait_model::tasks::{How, SleepState};
 use wait_model::watches::{Kind, Mode};
 
 /// The last task of a script; the first is 0.
-pub const LAST_TASK: u8 = 63;
+pub const LAST_TASK: u8 = 127;
 
 /// The last task that adds an entry with priority.
 pub const LAST_PRIORITY_TASK: u8 = 63;
@@ -42,25 +45,56 @@ pub fn value(word: &str) -> Result<u64, u8>
     number(word).ok_or(BAD_NUMBER)
 }
 
-/// A letter and a number from 0 to `most` behind it.
-fn numbered(word: &str, letter: char, most: u8) -> Result<u8, u8>
-    requires { letter < 128 }
-    ensures { result ≡ spec.numbered_at letter most word.now }
+/// The number of a condition, from `low` to `most`.
+fn number_of_condition(digits: &str, low: u8, most: u8) -> Result<u8, u8>
+    ensures { result ≡ within 9 low most (number_of digits.now) }
 {
-    let Some(digits) = word.strip_prefix(letter) else {
-        return Err(BAD_CONDITION);
-    };
     match number(digits) {
-        Some(n) if n <= u64::from(most) => Ok(n as u8),
+        Some(n) if u64::from(low) <= n && n <= u64::from(most) => Ok(n as u8),
         _ => Err(BAD_CONDITION),
     }
 }
 
-/// A plain condition, `c` and a number from 0 to `most`.
-pub fn condition(word: &str, most: u8) -> Result<u8, u8>
-    ensures { result ≡ spec.cond_at most word.now }
+/// A letter and a number from `low` to `most` behind it.
+fn numbered(word: &str, letter: char, low: u8, most: u8) -> Result<u8, u8>
+    requires { letter < 128 }
+    ensures { result ≡ spec.numbered_at letter low most word.now }
 {
-    numbered(word, 'c', most)
+    let Some(digits) = word.strip_prefix(letter) else {
+        return Err(BAD_CONDITION);
+    };
+    number_of_condition(digits, low, most)
+}
+
+/// A plain condition, `c` and a number from `low` to `most`.
+pub fn condition(word: &str, low: u8, most: u8) -> Result<u8, u8>
+    ensures { result ≡ spec.cond_at low most word.now }
+{
+    numbered(word, 'c', low, most)
+}
+
+/// A completion, `d` and a number from 0 to 63.
+pub fn cell(word: &str) -> Result<u8, u8>
+    ensures { result ≡ spec.cell_at word.now }
+{
+    numbered(word, 'd', 0, 63)
+}
+
+/// A variable, `v` and a number from 0 to 127.
+pub fn variable(word: &str) -> Result<u8, u8>
+    ensures { result ≡ spec.var_at word.now }
+{
+    numbered(word, 'v', 0, 127)
+}
+
+/// A bit of a bit word, as `b127.63`: the word's number and the bit's.
+pub fn bit(text: &str) -> Result<(u8, u8), u8>
+    ensures { result ≡ spec.bit_at text.now }
+{
+    let Some((word, bit)) = text.split_once('.') else {
+        return Err(BAD_CONDITION);
+    };
+    both(numbered(word, 'b', 0, 127), number_of_condition(bit, 0, 63))
 }
 
 /// How a wait sleeps: `plain`, `int`, `kill`, and exclusive as `int-ex`, `kill-ex`.
@@ -86,6 +120,17 @@ pub fn state(word: &str) -> Result<SleepState, u8>
         "plain" => Ok(SleepState::Uninterruptible),
         "int" => Ok(SleepState::Interruptible),
         "kill" => Ok(SleepState::Killable),
+        _ => Err(BAD_FORM),
+    }
+}
+
+/// The state in which a task sleeps on a simple queue: `plain` or `int`.
+pub fn simple_state(word: &str) -> Result<SleepState, u8>
+    ensures { result ≡ spec.simple_state_at word.now }
+{
+    match word {
+        "plain" => Ok(SleepState::Uninterruptible),
+        "int" => Ok(SleepState::Interruptible),
         _ => Err(BAD_FORM),
     }
 }
@@ -131,6 +176,17 @@ pub fn fatal(word: &str) -> Result<bool, u8>
     match word {
         "plain" => Ok(false),
         "fatal" => Ok(true),
+        _ => Err(BAD_FORM),
+    }
+}
+
+/// Whether a wake of a simple queue wakes all: `one` or `all`.
+pub fn all(word: &str) -> Result<bool, u8>
+    ensures { result ≡ spec.all_at word.now }
+{
+    match word {
+        "one" => Ok(false),
+        "all" => Ok(true),
         _ => Err(BAD_FORM),
     }
 }

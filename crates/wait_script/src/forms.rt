@@ -1,8 +1,13 @@
-//! The forms of the calls: for each name, what the words behind it say.
+//! The forms of the calls on plain conditions and tasks, and the calls by their names: for each name, what the
+//! words behind it say.
 
 ghost use Rattle.std.specs.Prelude.{◌≡◌, map};
 ghost use Rattle.wait_script.specs.Forms as spec;
 
+use crate::cells::{
+    clear_bit, complete, complete_all, is_done, lock_bit, reinit, set_var, simple_wait,
+    simple_wake, try_bit, try_wait, wait_bit, wait_for, wait_var,
+};
 use crate::fields::{
     LAST_PRIORITY_TASK, LAST_TASK, condition, count, fatal, form, how, kind, mode, state, task,
     value,
@@ -37,7 +42,7 @@ fn wait(words: &[&str]) -> Result<Call, u8>
     let [cond, form] = words else {
         return Err(WORD_COUNT);
     };
-    let (cond, how) = both(condition(cond, LAST_FULL), how(form))?;
+    let (cond, how) = both(condition(cond, 0, LAST_FULL), how(form))?;
     Ok(Call::Wait { cond, how })
 }
 
@@ -49,7 +54,7 @@ fn set(words: &[&str]) -> Result<Call, u8>
     let [cond, number] = words else {
         return Err(WORD_COUNT);
     };
-    let (cond, value) = both(condition(cond, LAST_COND), value(number))?;
+    let (cond, value) = both(condition(cond, 0, LAST_COND), value(number))?;
     Ok(Call::Set { cond, value })
 }
 
@@ -61,7 +66,7 @@ fn take(words: &[&str]) -> Result<Call, u8>
     let [cond] = words else {
         return Err(WORD_COUNT);
     };
-    let cond = condition(cond, LAST_COND)?;
+    let cond = condition(cond, 0, LAST_COND)?;
     Ok(Call::Take { cond })
 }
 
@@ -73,7 +78,7 @@ fn read(words: &[&str]) -> Result<Call, u8>
     let [cond] = words else {
         return Err(WORD_COUNT);
     };
-    let cond = condition(cond, LAST_COND)?;
+    let cond = condition(cond, 0, LAST_COND)?;
     Ok(Call::Read { cond })
 }
 
@@ -86,7 +91,7 @@ fn wake(words: &[&str]) -> Result<Call, u8>
         return Err(WORD_COUNT);
     };
     let (cond, (mode, count)) = both(
-        condition(cond, LAST_FULL),
+        condition(cond, 0, LAST_FULL),
         both(mode(by), count(number, 0, MOST_WOKEN)),
     )?;
     Ok(Call::Wake { cond, mode, count })
@@ -100,7 +105,7 @@ fn add(words: &[&str]) -> Result<Call, u8>
     let [cond, of, place] = words else {
         return Err(WORD_COUNT);
     };
-    let (cond, (kind, form)) = both(condition(cond, LAST_FULL), both(kind(of), form(place)))?;
+    let (cond, (kind, form)) = both(condition(cond, 0, LAST_FULL), both(kind(of), form(place)))?;
     Ok(Call::Add { cond, kind, form })
 }
 
@@ -140,29 +145,6 @@ fn kick(words: &[&str]) -> Result<Call, u8>
     Ok(Call::Kick { who })
 }
 
-/// Whether a name is that of a call that is not built yet.
-pub fn is_later(name: &str) -> bool
-    ensures { result ≡ spec.is_later name.now }
-{
-    matches!(
-        name,
-        "swait"
-            | "swake"
-            | "complete"
-            | "completeall"
-            | "reinit"
-            | "waitfor"
-            | "trywait"
-            | "isdone"
-            | "trybit"
-            | "waitbit"
-            | "lockbit"
-            | "clearbit"
-            | "waitvar"
-            | "setvar"
-    )
-}
-
 /// A call by its name and the words behind it.
 pub fn named(name: &str, rest: &[&str]) -> Result<Call, u8>
     ensures { result ≡ spec.named_at name.now (map (λ w. w.now) rest.now) }
@@ -179,6 +161,20 @@ pub fn named(name: &str, rest: &[&str]) -> Result<Call, u8>
         "signal" => signal(rest),
         "accept" => alone(rest, Call::Accept),
         "kick" => kick(rest),
+        "swait" => simple_wait(rest),
+        "swake" => simple_wake(rest),
+        "complete" => complete(rest),
+        "completeall" => complete_all(rest),
+        "reinit" => reinit(rest),
+        "waitfor" => wait_for(rest),
+        "trywait" => try_wait(rest),
+        "isdone" => is_done(rest),
+        "trybit" => try_bit(rest),
+        "waitbit" => wait_bit(rest),
+        "lockbit" => lock_bit(rest),
+        "clearbit" => clear_bit(rest),
+        "waitvar" => wait_var(rest),
+        "setvar" => set_var(rest),
         _ => Err(UNKNOWN_WORD),
     }
 }

@@ -2,6 +2,7 @@
 //! the lines at the end.
 #![tactic(auto)]
 
+mod cells;
 mod ending;
 mod fields;
 mod forms;

@@ -6,8 +6,8 @@ ghost use Rattle.std.specs.Str.{bytes_eq};
 ghost use Rattle.wait_script.specs.Lines.{step_at, call_at, words_at, is_printable, header_at, line_at};
 
 use crate::fields::{LAST_TASK, count, task};
-use crate::forms::{is_later, last_of, named};
-use crate::why::{BAD_BYTE, LONG_LINE, NO_HEADER, NOT_BUILT, UNKNOWN_WORD, WORD_COUNT};
+use crate::forms::{last_of, named};
+use crate::why::{BAD_BYTE, LONG_LINE, NO_HEADER, UNKNOWN_WORD, WORD_COUNT};
 use crate::words::{both, words};
 use std::alloc::{AllocError, Global};
 use std::str;
@@ -45,9 +45,6 @@ fn call(words: &[&str]) -> Result<Line, u8>
     let [who, name, rest @ ..] = words else {
         return Err(WORD_COUNT);
     };
-    if is_later(name) {
-        return Err(NOT_BUILT);
-    }
     let (task, call) = both(task(who, last_of(name, rest)), named(name, rest))?;
     Ok(Line::Call { task, call })
 }

@@ -2,10 +2,11 @@
 
 ghost use Rattle.std.specs.Prelude.{◌++◌, codes, decimal, Some};
 ghost use Rattle.std.specs.declared.option.Option.TheVariants as option;
-ghost use Rattle.wait_script.specs.Ending.{events_text, signal_text, act_text, task_text, word_text};
+ghost use Rattle.wait_script.specs.Ending.{events_text, signal_text, act_text, task_text, member_text, word_text};
 
 use crate::text::{CondText, StateText};
 use std::fmt;
+use wait_model::queues::Member;
 use wait_model::tasks::Task;
 
 /// The line of the number of events.
@@ -95,15 +96,22 @@ impl fmt::Display for HeadText {
     }
 }
 
-/// A member of a head's line, by the task of the entry.
+/// The members below this number are entries, two of each task; those from it on are bookmarks, one of each task.
+const FIRST_BOOKMARK: u16 = 256;
+
+/// A member of a head's line: an entry by the task whose it is, a bookmark by its task behind a star.
 #[derive(Clone, Copy)]
-pub struct MemberText(pub u8);
+pub struct MemberText(pub Member);
 
 impl fmt::Display for MemberText {
-    ghost output = { λ m. Some (codes " t" ++ decimal m.0) };
+    ghost output = { λ m. Some (member_text m.0) };
 
     fn fmt<W: fmt::Write>(&self, f: &mut fmt::Formatter<W>) -> fmt::Result {
-        write!(f, " t{}", self.0)
+        if self.0.at < FIRST_BOOKMARK {
+            write!(f, " t{}", self.0.owner())
+        } else {
+            write!(f, " *t{}", self.0.at - FIRST_BOOKMARK)
+        }
     }
 }
 

@@ -79,21 +79,7 @@ const BAD_LINES: &str = "\
 5 call  1 accept\n\
 5 call 1 waits c0 plain\n\
 5 call 1 lockpage b0 int\n\
-10 call 1 swake c48 one\n\
-10 call 200 swake\n\
-10 call 1 swait\n\
-10 call 1 complete d0\n\
-10 call 1 completeall d0 x\n\
-10 call 1 reinit c99\n\
-10 call 1 waitfor\n\
-10 call 1 trywait\n\
-10 call 1 isdone\n\
-10 call 1 trybit\n\
-10 call 1 waitbit\n\
-10 call 1 lockbit\n\
-10 call 1 clearbit\n\
-10 call 1 waitvar\n\
-10 call 1 setvar v0 1\n\
+5 call 999 complete_all d0\n\
 6 call\n\
 6 call 200\n\
 6 step\n\
@@ -111,29 +97,42 @@ const BAD_LINES: &str = "\
 6 call 1 wake c0 normal\n\
 6 call 1 add c0 woken\n\
 6 call 64 add c0 woken prio 1\n\
+6 call 200 swake\n\
+6 call 1 swait c48\n\
+6 call 1 complete\n\
+6 call 1 completeall d0 x\n\
+6 call 1 waitfor d99\n\
+6 call 1 trybit b0 0\n\
+6 call 1 lockbit b0.0\n\
+6 call 1 waitvar v0 int\n\
+6 call 1 setvar v0 1 plain\n\
 6 call 1 remove \n\
 6 call 1 woken\n\
 6 call 1 signal 2\n\
 6 call 999 accept now\n\
 6 call 1 kick\n\
-7 step 64 1\n\
-7 step 200 1\n\
+7 step 128 1\n\
+7 step 256 1\n\
 7 step 1 0\n\
 7 step 1 1000001\n\
 7 step 01 1\n\
 7 step +1 1\n\
 7 step -1 1\n\
 7 step 1 ten\n\
-7 call 64 accept\n\
-7 call 64 wait c99 bad\n\
+7 call 128 accept\n\
+7 call 128 wait c99 bad\n\
 7 call 1 set c0 18446744073709551616\n\
 7 call 1 set c99 00\n\
 7 call 1 wake c0 normal 128\n\
 7 call 1 wake c99 bad 128\n\
+7 call 64 add c0 default prio\n\
 7 call 64 add c99 bad prio\n\
-7 call 1 signal 64 plain\n\
+7 call 1 signal 128 plain\n\
 7 call 1 signal x bad\n\
-7 call 1 kick 64\n\
+7 call 1 kick 128\n\
+7 call 128 swake c0 bad\n\
+7 call 1 waitvar v0 18446744073709551616 bad\n\
+7 call 1 setvar v999 01\n\
 8 call 1 wait c0 plain-ex\n\
 8 call 1 wait c99 bad\n\
 8 call 1 wait c0 Plain\n\
@@ -143,6 +142,13 @@ const BAD_LINES: &str = "\
 8 call 1 add c99 default back\n\
 8 call 1 woken int-ex\n\
 8 call 1 signal 2 kill\n\
+8 call 64 add c0 default back\n\
+8 call 1 swait c48 kill\n\
+8 call 1 swait c0 kill\n\
+8 call 1 swake c48 1\n\
+8 call 1 waitfor d64 int-ex\n\
+8 call 1 waitbit b0 sleep\n\
+8 call 1 waitvar v0 0 normal\n\
 9 call 1 wait c50 plain\n\
 9 call 1 wait c48 int\n\
 9 call 1 wait c00 plain\n\
@@ -154,7 +160,25 @@ const BAD_LINES: &str = "\
 9 call 63 add c99 woken prio\n\
 9 call 1 set c64 1\n\
 9 call 1 take c64\n\
-9 call 1 read c18446744073709551616";
+9 call 1 read c18446744073709551616\n\
+9 call 1 swait c47 plain\n\
+9 call 1 swait c64 plain\n\
+9 call 1 swake d48 all\n\
+9 call 1 complete c0\n\
+9 call 1 waitfor d64 int\n\
+9 call 1 isdone d00\n\
+9 call 1 trybit b0\n\
+9 call 1 trybit b0.64\n\
+9 call 1 trybit b128.0\n\
+9 call 1 trybit b00.1\n\
+9 call 1 trybit b0.01\n\
+9 call 1 trybit b0.\n\
+9 call 1 trybit b.0\n\
+9 call 1 trybit b1.2.3\n\
+9 call 1 trybit 0.0\n\
+9 call 1 waitbit c0.0 int\n\
+9 call 1 waitvar v128 0 int\n\
+9 call 1 setvar b0 1";
 
 #[test]
 fn each_line_is_bad_for_its_first_reason(rt: HostRuntime) -> Result<(), Fail> {
@@ -175,10 +199,11 @@ fn a_script_is_its_lines(rt: HostRuntime) -> Result<(), Fail> {
         call 63 wait c47 kill-ex\n\
         step 63 1000000\n\
         call 5 wake c0 int 127\n\
+        call 127 lockbit b1.2 kill\n\
         step 0 1\n";
     let script = read_script(rt.alloc(), bytes)?;
     assert_eq!(rt; asked(&script), 1_000_001);
-    assert_eq!(rt; script.lines.len(), 4);
+    assert_eq!(rt; script.lines.len(), 5);
     assert!(rt;
         matches!(
             script.lines[0],
@@ -216,6 +241,19 @@ fn a_script_is_its_lines(rt: HostRuntime) -> Result<(), Fail> {
             }
         )
     );
+    assert!(rt;
+        matches!(
+            script.lines[3],
+            Line::Call {
+                task: 127,
+                call: Call::LockBit {
+                    word: 1,
+                    bit: 2,
+                    state: SleepState::Killable
+                }
+            }
+        )
+    );
     Ok(())
 }
 
@@ -236,10 +274,28 @@ call 0 remove\n\
 call 0 woken plain\n\
 call 0 woken int\n\
 call 0 woken kill\n\
-call 0 signal 63 plain\n\
-call 0 signal 63 fatal\n\
-call 0 accept\n\
-call 0 kick 63";
+call 127 add c0 woken tail\n\
+call 0 signal 127 plain\n\
+call 0 signal 127 fatal\n\
+call 127 accept\n\
+call 0 kick 127\n\
+call 0 swait c48 plain\n\
+call 0 swait c63 int\n\
+call 0 swake c48 one\n\
+call 0 swake c63 all\n\
+call 0 complete d63\n\
+call 0 completeall d63\n\
+call 0 reinit d63\n\
+call 0 waitfor d0 plain\n\
+call 0 waitfor d0 kill\n\
+call 0 trywait d0\n\
+call 0 isdone d0\n\
+call 0 trybit b127.63\n\
+call 0 waitbit b0.0 int\n\
+call 0 lockbit b0.0 plain\n\
+call 0 clearbit b127.0\n\
+call 0 waitvar v127 18446744073709551615 kill\n\
+call 0 setvar v0 0";
 
 #[test]
 fn each_call_is_read(rt: HostRuntime) -> Result<(), Fail> {
@@ -277,7 +333,7 @@ fn each_event_and_answer_has_its_text(rt: HostRuntime) -> Result<(), Fail> {
         event: Event::Queued { yes: false },
         ended: Some(Answer::Number(-512)),
     };
-    let rows: [(Stepped, &str); 30] = [
+    let rows: [(Stepped, &str); 36] = [
         (made(Event::State { state: 0 }), "t7 state run\n"),
         (made(Event::State { state: 1 }), "t7 state int\n"),
         (made(Event::State { state: 2 }), "t7 state unint\n"),
@@ -337,11 +393,33 @@ fn each_event_and_answer_has_its_text(rt: HostRuntime) -> Result<(), Fail> {
         ),
         (
             made(Event::Signal {
-                who: 63,
+                who: 127,
                 fatal: false,
             }),
-            "t7 signal t63 plain\n",
+            "t7 signal t127 plain\n",
         ),
+        (made(Event::Mark { head: 303 }), "t7 mark h303\n"),
+        (made(Event::Unmark { head: 0 }), "t7 unmark h0\n"),
+        (
+            made(Event::Active { head: 9, yes: true }),
+            "t7 active h9 yes\n",
+        ),
+        (
+            made(Event::Active {
+                head: 9,
+                yes: false,
+            }),
+            "t7 active h9 no\n",
+        ),
+        (
+            made(Event::Tas {
+                word: 127,
+                bit: 63,
+                found: 1,
+            }),
+            "t7 tas b127.63 1\n",
+        ),
+        (made(Event::Clear { word: 0, bit: 5 }), "t7 clear b0.5\n"),
         (
             made(Event::Signal {
                 who: 0,
@@ -407,12 +485,14 @@ fn a_refused_call_has_its_number(rt: HostRuntime) -> Result<(), Fail> {
     );
     assert_eq!(rt; write_refused(&mut out, 7, StartFault::CallOpen), Ok(()));
     assert_eq!(rt; write_refused(&mut out, 0, StartFault::NoSuchCond), Ok(()));
+    assert_eq!(rt; write_refused(&mut out, 2, StartFault::NotHeld), Ok(()));
     assert_eq!(rt;
         write_refused(&mut out, 63, StartFault::EntryQueued),
         Ok(())
     );
     assert_eq!(rt; write_refused(&mut out, 1, StartFault::NoEntry), Ok(()));
-    let text = b"t255 refused 1\nt7 refused 2\nt0 refused 3\nt63 refused 5\nt1 refused 6\n";
+    let text =
+        b"t255 refused 1\nt7 refused 2\nt0 refused 3\nt2 refused 4\nt63 refused 5\nt1 refused 6\n";
     assert_eq!(rt; out.bytes(), text.as_slice());
     Ok(())
 }

@@ -1,5 +1,4 @@
-//! Why a line of a script is bad, by numbers. A line is bad by the least number that stands, but `NOT_BUILT`
-//! comes directly behind `UNKNOWN_WORD`.
+//! Why a line of a script is bad, by numbers. A line is bad by the least number that stands.
 
 /// The last line has no line feed at its end.
 pub const CUT_LINE: u8 = 1;
@@ -19,5 +18,3 @@ pub const BAD_NUMBER: u8 = 7;
 pub const BAD_FORM: u8 = 8;
 /// A word in a condition's place is no condition of the kind that the call takes.
 pub const BAD_CONDITION: u8 = 9;
-/// The third word of a `call` is the name of a call that isn't built yet.
-pub const NOT_BUILT: u8 = 10;

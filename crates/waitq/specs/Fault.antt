@@ -24,7 +24,7 @@ why_text why =
     else if why == 3 then codes "bad byte" else if why == 4 then codes "no header"
     else if why == 5 then codes "unknown word" else if why == 6 then codes "word count"
     else if why == 7 then codes "bad number" else if why == 8 then codes "bad form"
-    else if why == 9 then codes "bad condition" else codes "not built"
+    else codes "bad condition"
 
 abbrev pub fault_text : Fault → List ℕ
 fault_text Usage =

@@ -59,8 +59,7 @@ impl fmt::Display for WhyText {
             why::WORD_COUNT => write!(f, "word count"),
             why::BAD_NUMBER => write!(f, "bad number"),
             why::BAD_FORM => write!(f, "bad form"),
-            why::BAD_CONDITION => write!(f, "bad condition"),
-            _ => write!(f, "not built"),
+            _ => write!(f, "bad condition"),
         }
     }
 }

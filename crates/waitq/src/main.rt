@@ -10,6 +10,8 @@ mod run;
 mod streams;
 #[cfg(test)]
 mod tests;
+#[cfg(test)]
+mod walks;
 
 use fault::Fault;
 use std::process::ExitCode;

@@ -1,12 +1,14 @@
 //! Worked scripts, refusals and faults through `run`.
 
 use crate::rows::{
-    BAD_CONDITION, BAD_NUMBER, CUT_LINE, LONG_LINE, MODE_MISSES, NO_HEADER, NOT_BUILT_SWAKE,
-    NOTHING, PRIORITY_FIRST, REFUSED_OPEN, Row, SELECTED_CONDITION_TAKEN, SELECTED_THEN_SIGNALLED,
-    TOO_MANY_EVENTS, UNKNOWN_WORD, WAIT_SET_WAKE, WAKE_BEFORE_LOAD, WAKE_BEFORE_SLEEP,
-    WAKE_ONE_EXCLUSIVE, WOKEN_FLAG_BEFORE_STATE,
+    BAD_CONDITION, BAD_NUMBER, BIT_LOCK_SIGNALLED, COMPLETIONS, CUT_LINE, LONG_LINE, MODE_MISSES,
+    NO_HEADER, NOTHING, PRIORITY_FIRST, REFUSED_OPEN, REFUSED_OPEN_READ, Row,
+    SELECTED_CONDITION_TAKEN, SELECTED_THEN_SIGNALLED, SIMPLE_WAKE_ON_A_FULL_QUEUE,
+    TOO_MANY_EVENTS, TWO_WAITERS_ONE_PERMIT, UNKNOWN_WORD, WAIT_SET_WAKE, WAKE_BEFORE_LOAD,
+    WAKE_BEFORE_SLEEP, WAKE_ONE_EXCLUSIVE, WOKEN_FLAG_BEFORE_STATE,
 };
 use crate::run::run;
+use crate::walks;
 use edge_io::{MemSink, MemSource};
 use std::process::Abort;
 use std::test::Fail;
@@ -55,6 +57,7 @@ fn worked_scripts_have_their_texts(rt: HostRuntime) -> Result<(), Fail> {
     for row in [
         NOTHING,
         REFUSED_OPEN,
+        REFUSED_OPEN_READ,
         WAIT_SET_WAKE,
         WAKE_BEFORE_LOAD,
         WAKE_BEFORE_SLEEP,
@@ -64,6 +67,9 @@ fn worked_scripts_have_their_texts(rt: HostRuntime) -> Result<(), Fail> {
         SELECTED_THEN_SIGNALLED,
         SELECTED_CONDITION_TAKEN,
         WOKEN_FLAG_BEFORE_STATE,
+        COMPLETIONS,
+        TWO_WAITERS_ONE_PERMIT,
+        BIT_LOCK_SIGNALLED,
     ] {
         let ran = run_on(&rt, &["replay"], row.script.as_bytes(), &[], &[], &[])?;
         meets(&rt, row, &ran);
@@ -78,7 +84,7 @@ fn bad_scripts_have_their_lines(rt: HostRuntime) -> Result<(), Fail> {
         CUT_LINE,
         LONG_LINE,
         UNKNOWN_WORD,
-        NOT_BUILT_SWAKE,
+        SIMPLE_WAKE_ON_A_FULL_QUEUE,
         BAD_NUMBER,
         BAD_CONDITION,
         TOO_MANY_EVENTS,
@@ -172,5 +178,56 @@ fn a_fault_of_the_error_stream_changes_no_status(rt: HostRuntime) -> Result<(), 
     let ran = run_on(&rt, &["replay"], b"", &[], &[], &[1])?;
     assert_eq!(rt; ran.status, 3);
     assert_eq!(rt; ran.line.as_str(), "");
+    Ok(())
+}
+
+#[test]
+fn walk_65(rt: HostRuntime) -> Result<(), Fail> {
+    let alloc = rt.alloc();
+    let script = walks::script(alloc, 65, "step 100 999\n")?;
+    let mut text = walks::front(alloc, 65)?;
+    text.push_str("t100 wake t0 no\nt100 unlock h256\nt100 = woken 0 selected 0 holds 1 end\n")?;
+    walks::push_end(alloc, &mut text, 262, 65, false)?;
+    let ran = run_on(&rt, &["replay"], script.as_bytes(), &[], &[], &[])?;
+    assert_eq!(rt; ran.status, 0);
+    assert_eq!(rt; ran.text.as_str(), text.as_str());
+    Ok(())
+}
+
+#[test]
+fn walk_66_breaks(rt: HostRuntime) -> Result<(), Fail> {
+    let alloc = rt.alloc();
+    let script = walks::script(alloc, 66, "step 100 999\n")?;
+    let mut text = walks::front(alloc, 66)?;
+    text.push_str("t100 mark h256\nt100 unlock h256\nt100 lock h256\nt100 unmark h256\n")?;
+    text.push_str("t100 wake t0 no\nt100 unlock h256\nt100 = woken 0 selected 0 holds 2 end\n")?;
+    walks::push_end(alloc, &mut text, 270, 66, false)?;
+    let ran = run_on(&rt, &["replay"], script.as_bytes(), &[], &[], &[])?;
+    assert_eq!(rt; ran.status, 0);
+    assert_eq!(rt; ran.text.as_str(), text.as_str());
+    let lines = ran
+        .text
+        .split('\n')
+        .filter(|line| line.starts_with("t100 "));
+    assert_eq!(rt; lines.count(), 72 + 1);
+    Ok(())
+}
+
+#[test]
+fn walk_break_and_move(rt: HostRuntime) -> Result<(), Fail> {
+    let alloc = rt.alloc();
+    let walk =
+        "step 100 68\ncall 0 remove\nstep 0 99\ncall 0 add c0 default front\nstep 0 99\nstep 100 999\n";
+    let script = walks::script(alloc, 66, walk)?;
+    let mut text = walks::front(alloc, 66)?;
+    text.push_str("t100 mark h256\nt100 unlock h256\n")?;
+    text.push_str("t0 lock h256\nt0 unqueue t0\nt0 unlock h256\nt0 = 0\n")?;
+    text.push_str("t0 lock h256\nt0 queue h256 front\nt0 unlock h256\nt0 = 0\n")?;
+    text.push_str("t100 lock h256\nt100 unmark h256\nt100 unlock h256\n")?;
+    text.push_str("t100 = woken 0 selected 0 holds 2 end\n")?;
+    walks::push_end(alloc, &mut text, 275, 66, true)?;
+    let ran = run_on(&rt, &["replay"], script.as_bytes(), &[], &[], &[])?;
+    assert_eq!(rt; ran.status, 0);
+    assert_eq!(rt; ran.text.as_str(), text.as_str());
     Ok(())
 }

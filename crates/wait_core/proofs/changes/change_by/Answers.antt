@@ -3,7 +3,7 @@ use Rattle.wait_core.proofs.changes.change_by.Goals as goal
 
 pub returns-clause-shown : goal.returns-clause-shown
 returns-clause-shown c = λ s n shown sound allowed joins.
-    rw (c.position-at.ensures, c.left_by.ensures s n shown sound allowed)
+    rw (c.position-at.ensures, c.left_by.ensures s n shown sound allowed joins)
     (event_shown c.args.words.now s shown c.args.me c.args.given c.requires.me c.args.event allowed joins)
 
 pub returns-clause-found : goal.returns-clause-found

@@ -1,6 +1,7 @@
 use Rattle.std.proofs.Common.{◌+◌, ◌++◌, ◌∙◌, ap, arith, codes}
 use Rattle.std.proofs.lemmas.Result.{err_from_is_err_and}
 use Rattle.edge_io.proofs.Prefix.{begun, broke_off, went_on, handed_on}
+use Rattle.wait_model.specs.Queues.{member_from, rank}
 use Rattle.wait_model.specs.Runs.{state_of}
 use Rattle.wait_script.proofs.Endings.{head_line, piece, no_rest, fits_of}
 use Rattle.wait_script.proofs.ending.write_head.Goals as goal
@@ -16,7 +17,7 @@ returns-in_err-write_shown-clause-text g c =
 pub members-init : goal.members-init
 members-init g c = record {
   partway = record {
-    place = 0;
+    least = 0;
     met = c.member_from-next.ensures.member;
     midway = went_on _ _ _ _ _ _ _ (begun (g.K.Sink.held c.args.out.now) _)
         (head_line c.args.head _ _ c.member_from-next.ensures.member c.is_none.result c.is_none.ensures
@@ -33,9 +34,9 @@ returns-in_err-write_shown-2-clause-text g c =
     let r = c.from_residual-in_err-write_shown-2 in
     let p = err_from_is_err_and r.result r.ensures.1 in
     rw p.1 (broke_off _ (g.K.Sink.held c.members.out) _ _ _ _ _ part.midway
-    (piece part.place c.owner.result ((state_of c.args.core.now).queue c.args.head) c.members.next
+    (piece part.least ((state_of c.args.core.now).queue c.args.head) c.members.next
     c.in-Some.member
-    c.member_from-next.ensures.order part.met c.in-Some.is c.owner.ensures.owner)
+    c.member_from-next.ensures.order part.met c.in-Some.is)
     c.in_err-write_shown-2.ensures.text)
 
 pub members-preserved : goal.members-preserved
@@ -44,15 +45,16 @@ members-preserved g c =
     let next = c.member_from-next-in-Some in
     record {
       partway = record {
-        place = c.in-Some.member.place + 1;
-        met = next.ensures.member;
+        least = rank c.in-Some.member + 1;
+        met = next.ensures.member
+            ∙ ap (λ r. member_from (r + 1) ((state_of c.args.core.now).queue c.args.head)) c.rank.ensures;
         midway = went_on _ (g.K.Sink.held c.members.out) _ _ _ _ _ part.midway
-            (piece part.place c.owner.result ((state_of c.args.core.now).queue c.args.head) c.members.next
+            (piece part.least ((state_of c.args.core.now).queue c.args.head) c.members.next
             c.in-Some.member
-            c.member_from-next.ensures.order part.met c.in-Some.is c.owner.ensures.owner)
+            c.member_from-next.ensures.order part.met c.in-Some.is)
             c.in_ok-write_shown-2.ensures.text;
       };
-      fits = fits_of (c.in-Some.member.place + 1) next.result next.ensures.fits;
+      fits = fits_of (c.rank.result + 1) next.result next.ensures.fits;
       later = omega (arith, c.members.invariant.later, c.write_shown-in-Some.ensures.later);
     }
 
@@ -60,7 +62,7 @@ pub returns-clause-text : goal.returns-clause-text
 returns-clause-text g c =
     let part = c.members.invariant.partway in
     let m = part.midway in
-    let left = no_rest part.place ((state_of c.args.core.now).queue c.args.head) c.members.next part.met
+    let left = no_rest part.least ((state_of c.args.core.now).queue c.args.head) c.members.next part.met
     c.in_default.not-Some in
     handed_on _ _ (g.K.Sink.held c.members.out) _ m.front (codes "\n") _ m.held c.write_shown-2.ensures.text
     (m.whole ∙ ap (λ x. m.front ++ x) left)

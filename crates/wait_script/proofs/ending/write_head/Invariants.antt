@@ -1,5 +1,6 @@
 use Rattle.std.proofs.Common.{ℕ, ◌-◌, ◌^◌, ◌<◌, ◌≤◌, Option, IfSome, Some, None}
 use Rattle.wait_model.specs.declared.queues.Member.{Member}
+use Rattle.wait_model.specs.Queues.{rank}
 use Rattle.wait_model.specs.Runs.{state_of}
 use Rattle.wait_script.specs.Ending.{head_text}
 use Rattle.wait_script.proofs.Endings.{Partway}
@@ -9,13 +10,13 @@ abbrev pub invariant-members : goal.invariant-members
 invariant-members g l = record {
   partway : Partway (g.K.Sink.held l.fn.out) (g.K.Sink.held l.out) ((state_of l.core).queue l.head) l.next
       (head_text l.head ((state_of l.core).queue l.head));
-  fits : IfSome l.next (λ m. (m.at < 128) × (m.place < 2 ^ 40));
+  fits : IfSome l.next (λ m. (m.at < 384) × (m.place < 2 ^ 40));
   later : g.K.Sink.faults l.fn.out ≤ g.K.Sink.faults l.out;
 }
 
 abbrev left : Option Member → ℕ
 left None = 0
-left (Some m) = 2 ^ 40 - m.place
+left (Some m) = 2 ^ 49 - rank m
 
 abbrev pub decreases-members : goal.decreases-members
 decreases-members g l = left l.next

@@ -7,6 +7,6 @@ use Rattle.wait_script.proofs.ending.write_tasks.Given as goal
 abbrev pub invariant-loop-task : goal.invariant-loop-task
 invariant-loop-task g l = record {
   midway : Midway (g.K.Sink.held l.initial.out) (g.K.Sink.held l.out)
-      (texts_from (line_of_task (state_of l.core)) l.task (64 - l.task)) (tasks_text (state_of l.core));
+      (texts_from (line_of_task (state_of l.core)) l.task (128 - l.task)) (tasks_text (state_of l.core));
   later : g.K.Sink.faults l.initial.out ≤ g.K.Sink.faults l.out;
 }

@@ -5,5 +5,5 @@ use Rattle.wait_script.proofs.fields.numbered.Goals as goal
 
 pub returns-in_default : goal.returns-in_default
 returns-in_default c =
-    no_letter c.args.letter c.args.most c.args.word.now
+    no_letter c.args.letter c.args.low c.args.most c.args.word.now
     (strip_prefix_char c.args.letter c.args.word.now None c.in_default.ensures.cases c.requires)

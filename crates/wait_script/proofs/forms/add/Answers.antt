@@ -12,5 +12,5 @@ returns c =
     ∙ ap (both_of _)
     (c.both.ensures ∙ ap (λ r. both_of r c.form.result) c.kind.ensures ∙ ap (both_of _) c.form.ensures) in
     ap (made_of (λ x. call.Add x.0 x.1.0 x.1.1)) fields
-    ∙ sym (at3 (cond_at 47) kind_at form_at (λ a b e. call.Add a b e) c.args.words.now _
+    ∙ sym (at3 (cond_at 0 47) kind_at form_at (λ a b e. call.Add a b e) c.args.words.now _
     c.in-len3.len_at_least (omega arith))

@@ -4,6 +4,7 @@ use Rattle.wait_model.specs.declared.calls.Ran.{Ran}
 use Rattle.wait_model.specs.declared.points.Progress.{Progress}
 use Rattle.wait_model.specs.declared.points.Progress.TheVariants as now
 use Rattle.wait_model.specs.Runs.{state_of}
+use Rattle.wait_model.specs.Tasks.{task_count}
 use Rattle.wait_model.specs.Openings.{IsOpened}
 use Rattle.wait_model.proofs.Openings.{fresh_told}
 use Rattle.wait_core.specs.Stepped.{call_shown}
@@ -11,7 +12,7 @@ use Rattle.wait_core.proofs.engine.Core.call_of.Goals as goal
 
 -- the stored progress is that of the run's state
 progress_is : (run seen : List Ran) (points : List Progress) (t i : ℕ) (p : Progress)
-    → ((k : ℕ) → k < 64 → slice_get points k ≡ Some ((state_of run).progress k)) → run ≡ seen → t < 64 → i ≡ t
+    → ((k : ℕ) → k < task_count → slice_get points k ≡ Some ((state_of run).progress k)) → run ≡ seen → t < task_count → i ≡ t
     → p ≡ slice_index_or points i p → (state_of seen).progress t ≡ p
 progress_is run seen points t i p has is lt at el =
     ap (λ (r : List Ran). (state_of r).progress t) (sym is)

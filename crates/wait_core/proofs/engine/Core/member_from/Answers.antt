@@ -7,9 +7,9 @@ pub returns-clause-member : goal.returns-clause-member
 returns-clause-member c =
     let core = c.self.invariant.core in
     let s = state_of c.self.inside.run.items in
-    rw (← c.self.view_is) (c.member_at.ensures.member s _ (shown_in _ _ s c.deref.ensures.value core.shown)
+    rw (← c.self.view_is) (c.member_ranked.ensures.member s _ (shown_in _ _ s c.deref.ensures.value core.shown)
     (sound _ _ _ _ _ core))
 
 pub returns-clause-order : goal.returns-clause-order
 returns-clause-order c =
-    rw (← c.self.view_is) ((sound _ _ _ _ _ c.self.invariant.core).linked.order c.args.head)
+    rw (← c.self.view_is) ((sound _ _ _ _ _ c.self.invariant.core).linked.ordered.order c.args.head)

@@ -1,5 +1,9 @@
-use Rattle.std.proofs.Common.{rules, arith}
-use Rattle.wait_core.proofs.Bounds.{start_bounded}
+use Rattle.std.proofs.Common.{List, rules, sym, subst, arith}
+use Rattle.wait_model.specs.declared.calls.Ran.{Ran}
+use Rattle.wait_model.specs.Runs.{state_of}
+use Rattle.wait_core.specs.Keepers.{ShowsKeepers}
+use Rattle.wait_core.proofs.Indexed.{start_index}
+use Rattle.wait_core.proofs.KeptBits.{start_keepers}
 use Rattle.wait_core.proofs.engine.Core.new.Goals as goal
 
 pub invariant_of-result : goal.invariant_of-result
@@ -7,6 +11,10 @@ invariant_of-result c =
     let tasks = c.from.ensures in
     record {
       core = search rules;
-      bounded = start_bounded c.in_ok-words.words.items c.in_ok-progress.progress.items c.in_ok-words.ensures
-          (λ t inside. c.in_ok-progress.ensures.fresh t (omega (arith, tasks)));
+      kept = subst (λ (items : List Ran). ShowsKeepers c.in_ok-keepers.keepers.items (state_of items).table.view)
+          (sym c.in_ok-run.ensures.items)
+          (start_keepers c.in_ok-keepers.keepers.items c.in_ok-keepers.ensures.count c.in_ok-keepers.ensures.none);
+      indexed = start_index c.in_ok-words.words.items c.in_ok-index.index.items c.in_ok-words.ensures
+          c.in_ok-index.ensures.items;
+      spacious = (let exact = c.in_ok-index.ensures.exact in omega arith);
     }

@@ -1,8 +1,8 @@
 use Rattle.std.proofs.Common.{◌≤◌, arith}
 use Rattle.wait_model.specs.Runs.{made_in}
 use Rattle.wait_model.proofs.EveryRun.{no_lost_wake, no_lost_flag}
-use Rattle.wait_model.proofs.PlainWakes.{no_run_loses_plain_wake}
-use Rattle.wait_model.proofs.Waiters.{no_run_loses_waiter}
+use Rattle.wait_model.proofs.Wakes.{no_run_loses_wake}
+use Rattle.wait_model.proofs.Sleepers.{no_run_loses_waiter}
 use Rattle.wait_core.proofs.engine.Core.no_lost_wake.Goals as goal
 
 pub returns-clause-wake : goal.returns-clause-wake
@@ -17,11 +17,11 @@ returns-clause-flag c =
     let few : made_in c.self.inside.run.items ≤ 1000000 = omega (arith, core.made, core.few) in
     rw (← c.self.view_is) (no_lost_flag c.self.inside.run.items core.run few)
 
-pub returns-clause-plain : goal.returns-clause-plain
-returns-clause-plain c =
+pub returns-clause-told : goal.returns-clause-told
+returns-clause-told c =
     let core = c.self.invariant.core in
     let few : made_in c.self.inside.run.items ≤ 1000000 = omega (arith, core.made, core.few) in
-    rw (← c.self.view_is) (no_run_loses_plain_wake c.self.inside.run.items core.run few)
+    rw (← c.self.view_is) (no_run_loses_wake c.self.inside.run.items core.run few)
 
 pub returns-clause-waiters : goal.returns-clause-waiters
 returns-clause-waiters c =

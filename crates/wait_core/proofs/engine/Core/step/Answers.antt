@@ -15,6 +15,7 @@ use Rattle.wait_core.proofs.Answered.{
   full,
   made,
   stepped_core,
+  stepped_keepers,
   grown_run,
   room_left,
   plan_allowed,
@@ -24,8 +25,6 @@ use Rattle.wait_core.proofs.Answered.{
   call_fits,
   plan_in_range,
 }
-use Rattle.wait_model.specs.Points.{given_at}
-use Rattle.wait_core.proofs.Bounds.{made_bounded}
 use Rattle.wait_core.proofs.engine.Core.step.Goals as goal
 
 pub returns-in_default : goal.returns-in_default
@@ -71,10 +70,14 @@ held_head-requires-clause-head c =
     let core = c.self.invariant.core in
     let stands = opened_at _ _ _ _ _ core _ _ _ _ _ c.requires c.from-slot.ensures c.index.ensures
     c.in-Open.is in
+    let record_is = c.task_at.ensures (state_of c.self.inside.run.items) _
+    (shown_in _ _ (state_of c.self.inside.run.items) c.deref.ensures.value core.shown)
+    (sound _ _ _ _ _ core) in
     let is = c.plan-planned.ensures (state_of c.self.inside.run.items) _
     (shown_in _ _ (state_of c.self.inside.run.items) c.deref-2.ensures.value core.shown)
     (sound _ _ _ _ _ core) in
-    plan_in_range _ _ _ _ _ core c.args.task c.requires c.in-Open.call c.in-Open.point stands _ is
+    plan_in_range _ _ _ _ _ core c.args.task c.requires c.in-Open.call c.in-Open.point stands
+    (running _ _ record_is c.if-not-task_at.false) _ is
 
 pub returns-in-Some-clause-answer : goal.returns-in-Some-clause-answer
 returns-in-Some-clause-answer c =
@@ -88,7 +91,7 @@ returns-in-Some-clause-answer c =
     (shown_in _ _ (state_of c.self.inside.run.items) c.deref-2.ensures.value core.shown)
     (sound _ _ _ _ _ core) in
     let held = c.in-Some.ensures (state_of c.self.inside.run.items)
-    (shown_in _ _ (state_of c.self.inside.run.items) c.deref-3.ensures.value core.shown) in
+    (shown_in _ _ (state_of c.self.inside.run.items) c.deref-4.ensures.value core.shown) in
     busy _ _ _ _ _ core c.args.task c.requires c.args.self.now c.self.view_is c.in-Open.call c.in-Open.point
     stands c.in-Some.head
     (running _ _ record_is c.if-not-task_at.false) (held
@@ -106,7 +109,7 @@ returns-then-self-eq-EVENTS-clause-answer c =
     (shown_in _ _ (state_of c.self.inside.run.items) c.deref-2.ensures.value core.shown)
     (sound _ _ _ _ _ core) in
     let free = c.in_default-held_head.ensures (state_of c.self.inside.run.items)
-    (shown_in _ _ (state_of c.self.inside.run.items) c.deref-3.ensures.value core.shown) in
+    (shown_in _ _ (state_of c.self.inside.run.items) c.deref-4.ensures.value core.shown) in
     full _ _ _ _ _ core c.args.task c.requires c.args.self.now c.self.view_is c.in-Open.call c.in-Open.point
     stands
     (running _ _ record_is c.if-not-task_at.false) (free
@@ -118,13 +121,31 @@ change_by-change-requires-clause-event c =
     let core = c.self.invariant.core in
     let stands = opened_at _ _ _ _ _ core _ _ _ _ _ c.requires c.from-slot.ensures c.index.ensures
     c.in-Open.is in
+    let record_is = c.task_at.ensures (state_of c.self.inside.run.items) _
+    (shown_in _ _ (state_of c.self.inside.run.items) c.deref.ensures.value core.shown)
+    (sound _ _ _ _ _ core) in
     let is = c.plan-planned.ensures (state_of c.self.inside.run.items) _
     (shown_in _ _ (state_of c.self.inside.run.items) c.deref-2.ensures.value core.shown)
     (sound _ _ _ _ _ core) in
-    plan_in_range _ _ _ _ _ core c.args.task c.requires c.in-Open.call c.in-Open.point stands _ is
+    plan_in_range _ _ _ _ _ core c.args.task c.requires c.in-Open.call c.in-Open.point stands
+    (running _ _ record_is c.if-not-task_at.false) _ is
+
+pub keep-requires-clause-event : goal.keep-requires-clause-event
+keep-requires-clause-event c =
+    let core = c.self.invariant.core in
+    let stands = opened_at _ _ _ _ _ core _ _ _ _ _ c.requires c.from-slot.ensures c.index.ensures
+    c.in-Open.is in
+    let record_is = c.task_at.ensures (state_of c.self.inside.run.items) _
+    (shown_in _ _ (state_of c.self.inside.run.items) c.deref.ensures.value core.shown)
+    (sound _ _ _ _ _ core) in
+    let is = c.plan-planned.ensures (state_of c.self.inside.run.items) _
+    (shown_in _ _ (state_of c.self.inside.run.items) c.deref-2.ensures.value core.shown)
+    (sound _ _ _ _ _ core) in
+    plan_in_range _ _ _ _ _ core c.args.task c.requires c.in-Open.call c.in-Open.point stands
+    (running _ _ record_is c.if-not-task_at.false) _ is
 
 pub log-requires : goal.log-requires
-log-requires c = room_left _ _ _ _ _ c.self.invariant.core
+log-requires c = room_left _ _ _ _ _ c.self.invariant.core c.if-self-eq-EVENTS.false
 
 pub invariant_of-self : goal.invariant_of-self
 invariant_of-self c =
@@ -138,23 +159,26 @@ invariant_of-self c =
     (shown_in _ _ (state_of c.self.inside.run.items) c.deref-2.ensures.value core.shown)
     (sound _ _ _ _ _ core) in
     let free = c.in_default-held_head.ensures (state_of c.self.inside.run.items)
-    (shown_in _ _ (state_of c.self.inside.run.items) c.deref-3.ensures.value core.shown) in
-    let may = plan_allowed _ _ _ _ _ core c.args.task c.requires c.in-Open.call c.in-Open.point stands _ is in
-    let shows = shown_in _ _ (state_of c.self.inside.run.items) c.deref-4.ensures.value core.shown in
+    (shown_in _ _ (state_of c.self.inside.run.items) c.deref-4.ensures.value core.shown) in
+    let may = plan_allowed _ _ _ _ _ core c.args.task c.requires c.in-Open.call c.in-Open.point stands
+    (running _ _ record_is c.if-not-task_at.false) _ is in
+    let shows = shown_in _ _ (state_of c.self.inside.run.items) c.deref-5.ensures.value core.shown in
     let was = c.change_by-change.ensures.found (state_of c.self.inside.run.items) shows may in
-    let joins = plan_joins _ _ _ _ _ core c.args.task c.requires c.in-Open.call c.in-Open.point stands _ is in
-    let left = rw (c.deref-4.ensures.value, c.given_at.ensures) at
+    let joins = plan_joins _ _ _ _ _ core c.args.task c.requires c.in-Open.call c.in-Open.point stands
+    (running _ _ record_is c.if-not-task_at.false) _ is in
+    let left = rw (c.deref-5.ensures.value, c.given_at.ensures) at
     (c.change_by-change.ensures.shown (state_of c.self.inside.run.items) c.self.inside.made
     shows (sound _ _ _ _ _ core) may (rw c.given_at.ensures joins)) in
     record {
-      core = stepped_core _ _ _ _ _ core c.args.task c.requires c.in-Open.call c.in-Open.point stands _ is
-          c.change_by-change.result.found was (running _ _ record_is c.if-not-task_at.false) free
+      core = stepped_core _ _ _ _ _ core c.args.task c.requires c.in-Open.call c.in-Open.point stands
+          (running _ _ record_is c.if-not-task_at.false) _ is c.change_by-change.result.found was free
           c.if-self-eq-EVENTS.false
           _ left _ c.progress_of.ensures _ c.from-slot.ensures _ c.log.ensures.items _ c.log.ensures.capacity;
-      bounded = made_bounded c.self.inside.words.items _ (state_of c.self.inside.run.items) c.self.inside.made
-          core.shown (sound _ _ _ _ _ core) c.self.inside.progress.items c.self.inside.reach c.args.task _ _ _
-          (given_at c.in-Open.call c.in-Open.point) c.plan-planned.result.event c.self.invariant.bounded core.tasks
-          c.requires c.from-slot.ensures stands (λ h. absurd (cc)) left;
+      kept = stepped_keepers _ _ _ _ _ core c.args.task c.requires c.in-Open.call c.in-Open.point stands
+          (running _ _ record_is c.if-not-task_at.false) _ is c.self.inside.keepers.items c.self.invariant.kept free
+          _ _ c.log.ensures.items _ c.keep.ensures;
+      indexed = rw (← c.deref-7.ensures.value) c.reindex.ensures.index;
+      spacious = c.reindex.ensures.room;
     }
 
 pub returns-clause-answer : goal.returns-clause-answer
@@ -169,7 +193,7 @@ returns-clause-answer c =
     (shown_in _ _ (state_of c.self.inside.run.items) c.deref-2.ensures.value core.shown)
     (sound _ _ _ _ _ core) in
     let free = c.in_default-held_head.ensures (state_of c.self.inside.run.items)
-    (shown_in _ _ (state_of c.self.inside.run.items) c.deref-3.ensures.value core.shown) in
+    (shown_in _ _ (state_of c.self.inside.run.items) c.deref-4.ensures.value core.shown) in
     rw (
       c.ended.ensures,
       is,
@@ -184,11 +208,15 @@ returns-clause-run c =
     let core = c.self.invariant.core in
     let stands = opened_at _ _ _ _ _ core _ _ _ _ _ c.requires c.from-slot.ensures c.index.ensures
     c.in-Open.is in
+    let record_is = c.task_at.ensures (state_of c.self.inside.run.items) _
+    (shown_in _ _ (state_of c.self.inside.run.items) c.deref.ensures.value core.shown)
+    (sound _ _ _ _ _ core) in
     let is = c.plan-planned.ensures (state_of c.self.inside.run.items) _
     (shown_in _ _ (state_of c.self.inside.run.items) c.deref-2.ensures.value core.shown)
     (sound _ _ _ _ _ core) in
-    let may = plan_allowed _ _ _ _ _ core c.args.task c.requires c.in-Open.call c.in-Open.point stands _ is in
+    let may = plan_allowed _ _ _ _ _ core c.args.task c.requires c.in-Open.call c.in-Open.point stands
+    (running _ _ record_is c.if-not-task_at.false) _ is in
     let was = c.change_by-change.ensures.found (state_of c.self.inside.run.items)
-    (shown_in _ _ (state_of c.self.inside.run.items) c.deref-4.ensures.value core.shown) may in
+    (shown_in _ _ (state_of c.self.inside.run.items) c.deref-5.ensures.value core.shown) may in
     grown_run c.self.inside.run.items c.args.self.now c.log.new.run.items c.args.task
     c.plan-planned.result.event c.change_by-change.result.found c.self.view_is was c.log.ensures.items

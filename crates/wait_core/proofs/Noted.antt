@@ -1,0 +1,239 @@
+-- What each event says of bits: a store is of no bit, and an exchange tells whether it found its bit set.
+use Rattle.std.proofs.Common.{refl}
+use Rattle.std.specs.Prelude.{
+  ◌≡◌,
+  ℕ,
+  ◌&&◌,
+  ◌==◌,
+  Bool,
+  true,
+  false,
+  is_some,
+  if◌then◌else◌,
+  Option,
+  Some,
+  None,
+}
+use Rattle.wait_model.specs.declared.watches.Watch.{Watch}
+use Rattle.wait_model.specs.declared.watches.Watch.TheVariants as watch
+use Rattle.wait_model.specs.declared.watches.Kind.{Kind}
+use Rattle.wait_model.specs.declared.watches.Kind.TheVariants as kind
+use Rattle.wait_model.specs.declared.watches.Mode.TheVariants as mode
+use Rattle.wait_model.specs.declared.queues.Called.{Called}
+use Rattle.wait_model.specs.declared.queues.Walking.{Walking}
+use Rattle.wait_model.specs.declared.calls.Call.{Call}
+use Rattle.wait_model.specs.declared.calls.Call.TheVariants as calls
+use Rattle.wait_model.specs.declared.calls.Event.{Event}
+use Rattle.wait_model.specs.declared.calls.Event.TheVariants as event
+use Rattle.wait_model.specs.declared.points.Planned.{Planned}
+use Rattle.wait_model.specs.declared.points.Seen.{Seen}
+use Rattle.wait_model.specs.declared.points.Point.{Point}
+use Rattle.wait_model.specs.declared.points.Point.TheVariants as at
+use Rattle.wait_model.specs.declared.points.PreparePoint.TheVariants as preparing
+use Rattle.wait_model.specs.declared.points.LeavePoint.TheVariants as leaving
+use Rattle.wait_model.specs.declared.points.FinishPoint.TheVariants as finishing
+use Rattle.wait_model.specs.declared.points.WalkPoint.{WalkPoint}
+use Rattle.wait_model.specs.declared.points.WalkPoint.TheVariants as walking
+use Rattle.wait_model.specs.declared.points.AddPoint.TheVariants as adding
+use Rattle.wait_model.specs.declared.points.RemovePoint.TheVariants as removing
+use Rattle.wait_model.specs.declared.points.WokenPoint.TheVariants as hearing
+use Rattle.wait_model.specs.declared.points.SelectPoint.TheVariants as selecting
+use Rattle.wait_model.specs.declared.points.AwaitPoint.{AwaitPoint}
+use Rattle.wait_model.specs.declared.points.AwaitPoint.TheVariants as awaiting
+use Rattle.wait_model.specs.declared.points.CountPoint.{CountPoint}
+use Rattle.wait_model.specs.declared.points.CountPoint.TheVariants as counting
+use Rattle.wait_model.specs.declared.points.BitPoint.{BitPoint}
+use Rattle.wait_model.specs.declared.points.BitPoint.TheVariants as biting
+use Rattle.wait_model.specs.Tasks.{meets, state_mask}
+use Rattle.wait_model.specs.Watches.{is_bit, is_done, mask_of}
+use Rattle.wait_model.specs.Words.{bit_at, flag}
+use Rattle.wait_model.specs.Points.{
+  call_watch,
+  call_head,
+  is_await,
+  is_publisher,
+  is_lock,
+  mode_of,
+  state_in,
+  form_of,
+}
+use Rattle.wait_model.specs.Counts.{taken_done}
+use Rattle.wait_model.specs.Programs.{
+  go,
+  ends_with,
+  zero_answer,
+  signalled,
+  interrupted,
+  fails,
+  load,
+  store,
+  exchange,
+  ask,
+  bit_event,
+  finished,
+  published,
+  active_event,
+  reached,
+  call_entry,
+  call_next,
+  walk_event,
+  done_in,
+  is_at_end,
+  is_enough,
+  select_ends,
+  select_next,
+  await_ends,
+  await_event,
+  count_event,
+  program,
+}
+use Rattle.wait_model.specs.Reached.{IsFitted, IsPlain}
+
+-- an event of a call about a watch, where the task finds this value of the watch's word
+abbrev pub Notes : Watch → ℕ → Event → Type 0
+Notes watch value (event.Set c v) = is_bit watch ≡ false
+Notes watch value (event.Tas w b found) = found ≡ flag (bit_at value b)
+Notes watch value _ = Unit {0}
+
+-- watches that are no bits
+plain_no_bit : (c : Watch) → IsPlain c → is_bit c ≡ false
+plain_no_bit (watch.Plain c) p = refl
+plain_no_bit (watch.Done d) p = absurd p
+plain_no_bit (watch.Bit w b) p = absurd p
+plain_no_bit (watch.Var v o) p = absurd p
+
+done_no_bit : (c : Watch) → is_done c ≡ true → is_bit c ≡ false
+done_no_bit (watch.Plain c) d = refl
+done_no_bit (watch.Done k) d = refl
+done_no_bit (watch.Bit w b) d = absurd (cc)
+done_no_bit (watch.Var v o) d = refl
+
+await_no_bit : (call : Call) → is_await call ≡ true → is_bit (call_watch call) ≡ false
+await_no_bit (calls.WaitFor d st) h = refl
+await_no_bit call h = absurd (cc)
+
+module _ (me : ℕ) (call : Call) (seen : Seen) where
+  abbrev N : Planned → Type 0
+  N p = Notes (call_watch call) seen.value p.event
+
+  either : (b : Bool) (x y : Planned) → N x → N y → N (if b then x else y)
+  either true x y h k = h
+  either false x y h k = k
+
+  -- what a wait for a bit asks by, and what ends a wait
+  asked : Notes (call_watch call) seen.value (ask call seen)
+  asked = by (is_lock call)
+    where
+      by : (b : Bool) → Notes (call_watch call) seen.value (if b then exchange call seen else load call seen)
+      by true = refl
+      by false = tt
+
+  ends_noted : (failed : Bool) (e : Event) → Notes (call_watch call) seen.value e → N (finished call failed e)
+  ends_noted failed e h = either (failed && is_lock call) (go e (at.Bit biting.Last))
+      (ends_with e (if failed then interrupted else zero_answer)) h h
+
+  -- the function of an entry
+  entry_noted : (w : Walking) (c : Called) (k : Kind) (hit : Bool) → N (call_entry call w c k seen hit)
+  entry_noted w c kind.Default hit = tt
+  entry_noted w c kind.Autoremove hit = tt
+  entry_noted w c kind.Woken hit = tt
+  entry_noted w c kind.Bit hit = tt
+  entry_noted w c kind.Var hit = tt
+  entry_noted w c kind.Simple hit = tt
+
+  next_noted : (w : Walking) (c : Option Called) (hit : Bool) → N (call_next call w c seen hit)
+  next_noted w None hit = tt
+  next_noted w (Some c) hit = entry_noted w c c.entry.kind hit
+
+  walk_noted : (p : WalkPoint) → N (walk_event call p seen)
+  walk_noted (walking.Call w) = either seen.breaks
+      (go (event.Mark (call_head call)) (at.Walk (walking.BreakUnlock (reached w seen.calls))))
+      (call_next call (reached w seen.calls) seen.called seen (meets (mask_of (mode_of call)) seen.other.state)) tt
+      (next_noted (reached w seen.calls) seen.called (meets (mask_of (mode_of call)) seen.other.state))
+  walk_noted p = tt
+
+  bit_noted : (p : BitPoint) → N (bit_event call p seen)
+  bit_noted biting.Try = refl
+  bit_noted biting.First = either (fails call seen) (go (ask call seen) (at.Prepare preparing.Lock))
+      (ends_with (ask call seen) zero_answer) asked asked
+  bit_noted (biting.Again failed) = asked
+  bit_noted biting.Last = refl
+  bit_noted p = tt
+
+  select_next_noted : (n : ℕ) (c : Option Called) (hit : Bool) → N (select_next call n c hit)
+  select_next_noted n None hit = tt
+  select_next_noted n (Some c) hit = tt
+
+  active_noted : (b : Bool) → N (active_event call b)
+  active_noted true = tt
+  active_noted false = tt
+
+  -- the end of a wait for a completion
+  module _ (other : is_bit (call_watch call) ≡ false) where
+    await_ends_noted : (stopped : Bool) → N (await_ends call stopped seen)
+    await_ends_noted true = tt
+    await_ends_noted false = either (is_at_end seen.value)
+        (ends_with (event.Unlock (call_head call) false) zero_answer)
+        (go (store call (taken_done (done_in seen.value))) (at.Await awaiting.Unlock)) tt other
+
+    await_noted : (p : AwaitPoint) → N (await_event me call p seen)
+    await_noted (awaiting.Off stopped) = either (is_some seen.entry)
+        (go (event.Unqueue me) (at.Await (awaiting.Last stopped))) (await_ends call stopped seen) tt
+        (await_ends_noted stopped)
+    await_noted (awaiting.Last stopped) = await_ends_noted stopped
+    await_noted p = tt
+
+    count_noted : (p : CountPoint) → N (count_event call p seen)
+    count_noted counting.Peek = either (seen.value == 0) (ends_with (load call seen) zero_answer)
+        (go (load call seen) (at.Count counting.Lock)) tt tt
+    count_noted counting.Store = other
+    count_noted p = tt
+
+  -- a publish clears a bit or stores a variable
+  publish_noted : (c : Call) → is_publisher c ≡ true → Notes (call_watch c) seen.value (published c)
+  publish_noted (calls.ClearBit w b) h = tt
+  publish_noted (calls.SetVar v x) h = refl
+  publish_noted c h = absurd (cc)
+
+  pub noted : (p : Point) → IsFitted call p → N (program me call p seen)
+  noted at.First fit = either (fails call seen) (go (load call seen) (at.Prepare preparing.Lock))
+      (ends_with (load call seen) zero_answer) tt tt
+  noted (at.Prepare preparing.Queue) fit = either (is_some seen.entry)
+      (go (event.State (state_mask (state_in call))) (at.Prepare preparing.Unlock))
+      (go (event.Queue (call_head call) (form_of call)) (at.Prepare preparing.State)) tt tt
+  noted (at.Leave leaving.Queue) fit = either (is_some seen.entry)
+      (go (event.Unqueue me) (at.Leave leaving.Unlock))
+      (go (event.Unlock (call_head call) false) (at.Leave leaving.Load)) tt tt
+  noted (at.Leave leaving.Load) fit = either (fails call seen) (ends_with (load call seen) signalled)
+      (go (load call seen) (at.Finish finishing.State false)) tt tt
+  noted (at.Finish finishing.Look failed) fit = either (is_some seen.entry)
+      (go (event.Queued true) (at.Finish finishing.Lock failed)) (finished call failed (event.Queued false)) tt
+      (ends_noted failed (event.Queued false) tt)
+  noted (at.Finish finishing.Queue failed) fit = either (is_some seen.entry)
+      (go (event.Unqueue me) (at.Finish finishing.Unlock failed))
+      (finished call failed (event.Unlock (call_head call) false)) tt
+      (ends_noted failed (event.Unlock (call_head call) false) tt)
+  noted (at.Finish finishing.Unlock failed) fit = ends_noted failed (event.Unlock (call_head call) false) tt
+  noted (at.Bit p) fit = bit_noted p
+  noted at.Publish fit = publish_noted call fit
+  noted at.Active fit = active_noted seen.members
+  noted (at.Walk p) fit = walk_noted p
+  noted (at.Add adding.Lock) fit = tt
+  noted (at.Add adding.Queue) fit = tt
+  noted (at.Add adding.Unlock) fit = tt
+  noted (at.Remove removing.Lock) fit = tt
+  noted (at.Remove (removing.Queue c)) fit = tt
+  noted (at.Remove (removing.Unlock c)) fit = tt
+  noted (at.Woken hearing.State) fit = tt
+  noted (at.Woken hearing.Flag) fit = tt
+  noted (at.Woken hearing.Sleep) fit = tt
+  noted (at.Woken hearing.Run) fit = tt
+  noted (at.Woken hearing.Clear) fit = tt
+  noted (at.Select selecting.Store) fit = done_no_bit (call_watch call) fit
+  noted (at.Select (selecting.Next n)) fit = either (is_enough call n) (select_ends call n true)
+      (select_next call n seen.called (meets (mask_of mode.Normal) seen.other.state)) tt
+      (select_next_noted n seen.called (meets (mask_of mode.Normal) seen.other.state))
+  noted (at.Await p) fit = await_noted (await_no_bit call fit) p
+  noted (at.Count p) fit = count_noted (done_no_bit (call_watch call) fit) p
+  noted at.Store fit = plain_no_bit (call_watch call) fit
+  noted p fit = tt

@@ -1,0 +1,17 @@
+use Rattle.std.specs.Prelude.{ℕ, ◌^◌, ◌<◌, ◌≤◌, length, min, slice_index_or}
+use Rattle.wait_core.specs.declared.index.Standing.{Standing}
+use Rattle.wait_core.specs.Index.{key, key_at}
+use Rattle.wait_core.proofs.Scanned.{IsTaken}
+use Rattle.wait_core.proofs.scan.last_in.Given as goal
+
+abbrev pub invariant-loop-end : goal.invariant-loop-end
+invariant-loop-end l = record {
+  within : l.end ≤ length l.index;
+  passed : (i : ℕ) (d : Standing) → l.end ≤ i → i < length l.index
+      → IsTaken l.span l.count (slice_index_or l.index i d) → ⊥;
+  before : (i : ℕ) (d : Standing) → i < l.end
+      → key (slice_index_or l.index i d) < key_at l.span.head (min l.span.high (2 ^ 49));
+}
+
+abbrev pub decreases-loop-end : goal.decreases-loop-end
+decreases-loop-end l = l.end

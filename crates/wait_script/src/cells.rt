@@ -1,0 +1,186 @@
+//! The forms of the calls on simple queues, completions, bits and variables: for each name, what the words behind
+//! it say.
+
+ghost use Rattle.std.specs.Prelude.{◌≡◌, map};
+ghost use Rattle.wait_script.specs.Forms as spec;
+
+use crate::fields::{all, bit, cell, condition, simple_state, state, value, variable};
+use crate::why::WORD_COUNT;
+use crate::words::both;
+use wait_model::calls::Call;
+
+/// The conditions of simple queues.
+const FIRST_SIMPLE: u8 = 48;
+
+const LAST_SIMPLE: u8 = 63;
+
+/// `swait CONDITION STATE`, by the words behind the name.
+#[tactic(auto, using(crate::proofs::Counts::few2))]
+pub fn simple_wait(words: &[&str]) -> Result<Call, u8>
+    ensures { result ≡ spec.simple_wait_at (map (λ w. w.now) words.now) }
+{
+    let [cond, word] = words else {
+        return Err(WORD_COUNT);
+    };
+    let (cond, state) = both(
+        condition(cond, FIRST_SIMPLE, LAST_SIMPLE),
+        simple_state(word),
+    )?;
+    Ok(Call::SimpleWait { cond, state })
+}
+
+/// `swake CONDITION one|all`, by the words behind the name.
+#[tactic(auto, using(crate::proofs::Counts::few2))]
+pub fn simple_wake(words: &[&str]) -> Result<Call, u8>
+    ensures { result ≡ spec.simple_wake_at (map (λ w. w.now) words.now) }
+{
+    let [cond, word] = words else {
+        return Err(WORD_COUNT);
+    };
+    let (cond, all) = both(condition(cond, FIRST_SIMPLE, LAST_SIMPLE), all(word))?;
+    Ok(Call::SimpleWake { cond, all })
+}
+
+/// `complete COMPLETION`, by the words behind the name.
+#[tactic(auto, using(crate::proofs::Counts::few1))]
+pub fn complete(words: &[&str]) -> Result<Call, u8>
+    ensures { result ≡ spec.complete_at (map (λ w. w.now) words.now) }
+{
+    let [word] = words else {
+        return Err(WORD_COUNT);
+    };
+    let cell = cell(word)?;
+    Ok(Call::Complete { cell })
+}
+
+/// `completeall COMPLETION`, by the words behind the name.
+#[tactic(auto, using(crate::proofs::Counts::few1))]
+pub fn complete_all(words: &[&str]) -> Result<Call, u8>
+    ensures { result ≡ spec.complete_all_at (map (λ w. w.now) words.now) }
+{
+    let [word] = words else {
+        return Err(WORD_COUNT);
+    };
+    let cell = cell(word)?;
+    Ok(Call::CompleteAll { cell })
+}
+
+/// `reinit COMPLETION`, by the words behind the name.
+#[tactic(auto, using(crate::proofs::Counts::few1))]
+pub fn reinit(words: &[&str]) -> Result<Call, u8>
+    ensures { result ≡ spec.reinit_at (map (λ w. w.now) words.now) }
+{
+    let [word] = words else {
+        return Err(WORD_COUNT);
+    };
+    let cell = cell(word)?;
+    Ok(Call::Reinit { cell })
+}
+
+/// `waitfor COMPLETION STATE`, by the words behind the name.
+#[tactic(auto, using(crate::proofs::Counts::few2))]
+pub fn wait_for(words: &[&str]) -> Result<Call, u8>
+    ensures { result ≡ spec.wait_for_at (map (λ w. w.now) words.now) }
+{
+    let [of, word] = words else {
+        return Err(WORD_COUNT);
+    };
+    let (cell, state) = both(cell(of), state(word))?;
+    Ok(Call::WaitFor { cell, state })
+}
+
+/// `trywait COMPLETION`, by the words behind the name.
+#[tactic(auto, using(crate::proofs::Counts::few1))]
+pub fn try_wait(words: &[&str]) -> Result<Call, u8>
+    ensures { result ≡ spec.try_wait_at (map (λ w. w.now) words.now) }
+{
+    let [word] = words else {
+        return Err(WORD_COUNT);
+    };
+    let cell = cell(word)?;
+    Ok(Call::TryWait { cell })
+}
+
+/// `isdone COMPLETION`, by the words behind the name.
+#[tactic(auto, using(crate::proofs::Counts::few1))]
+pub fn is_done(words: &[&str]) -> Result<Call, u8>
+    ensures { result ≡ spec.is_done_at (map (λ w. w.now) words.now) }
+{
+    let [word] = words else {
+        return Err(WORD_COUNT);
+    };
+    let cell = cell(word)?;
+    Ok(Call::IsDone { cell })
+}
+
+/// `trybit BIT`, by the words behind the name.
+#[tactic(auto, using(crate::proofs::Counts::few1))]
+pub fn try_bit(words: &[&str]) -> Result<Call, u8>
+    ensures { result ≡ spec.try_bit_at (map (λ w. w.now) words.now) }
+{
+    let [text] = words else {
+        return Err(WORD_COUNT);
+    };
+    let (word, bit) = bit(text)?;
+    Ok(Call::TryBit { word, bit })
+}
+
+/// `waitbit BIT STATE`, by the words behind the name.
+#[tactic(auto, using(crate::proofs::Counts::few2))]
+pub fn wait_bit(words: &[&str]) -> Result<Call, u8>
+    ensures { result ≡ spec.wait_bit_at (map (λ w. w.now) words.now) }
+{
+    let [text, how] = words else {
+        return Err(WORD_COUNT);
+    };
+    let ((word, bit), state) = both(bit(text), state(how))?;
+    Ok(Call::WaitBit { word, bit, state })
+}
+
+/// `lockbit BIT STATE`, by the words behind the name.
+#[tactic(auto, using(crate::proofs::Counts::few2))]
+pub fn lock_bit(words: &[&str]) -> Result<Call, u8>
+    ensures { result ≡ spec.lock_bit_at (map (λ w. w.now) words.now) }
+{
+    let [text, how] = words else {
+        return Err(WORD_COUNT);
+    };
+    let ((word, bit), state) = both(bit(text), state(how))?;
+    Ok(Call::LockBit { word, bit, state })
+}
+
+/// `clearbit BIT`, by the words behind the name.
+#[tactic(auto, using(crate::proofs::Counts::few1))]
+pub fn clear_bit(words: &[&str]) -> Result<Call, u8>
+    ensures { result ≡ spec.clear_bit_at (map (λ w. w.now) words.now) }
+{
+    let [text] = words else {
+        return Err(WORD_COUNT);
+    };
+    let (word, bit) = bit(text)?;
+    Ok(Call::ClearBit { word, bit })
+}
+
+/// `waitvar VARIABLE OLD STATE`, by the words behind the name.
+#[tactic(auto, using(crate::proofs::Counts::few3))]
+pub fn wait_var(words: &[&str]) -> Result<Call, u8>
+    ensures { result ≡ spec.wait_var_at (map (λ w. w.now) words.now) }
+{
+    let [text, number, how] = words else {
+        return Err(WORD_COUNT);
+    };
+    let (var, (old, state)) = both(variable(text), both(value(number), state(how)))?;
+    Ok(Call::WaitVar { var, old, state })
+}
+
+/// `setvar VARIABLE VALUE`, by the words behind the name.
+#[tactic(auto, using(crate::proofs::Counts::few2))]
+pub fn set_var(words: &[&str]) -> Result<Call, u8>
+    ensures { result ≡ spec.set_var_at (map (λ w. w.now) words.now) }
+{
+    let [text, number] = words else {
+        return Err(WORD_COUNT);
+    };
+    let (var, value) = both(variable(text), value(number))?;
+    Ok(Call::SetVar { var, value })
+}

@@ -1,0 +1,148 @@
+//! How fast the steps of a Domain are. Without words it makes a few of each and writes `done`; with a word it makes
+//! many, and writes how many nanoseconds each kind took in all, as `NAME COUNT NANOSECONDS`.
+#![tactic(auto)]
+
+ghost use Rattle.std.specs.Prelude.{◌≡◌, ◌<◌, IfOk};
+ghost use Rattle.wait_rule.specs.Says.{IsClean, IsUp};
+
+use std::hint::spin_loop;
+use std::sync::Wait;
+use std::thread::Threads;
+use std::time::{Duration, Instant};
+use std::{env, io, thread};
+use wait_model::tasks::UNINTERRUPTIBLE;
+use wait_model::watches::Mode;
+use wait_rule::tasks::{load_own, set_state, wake_exchange};
+use wait_rule::{Domain, Task, schedule, wake_task};
+
+/// Loads of the own word.
+fn loads(domain: &Domain, task: &mut Task, n: u64) -> u64
+    requires of { task.old.domain ≡ domain.now }
+    requires up { IsUp task.old }
+    ensures of { task.new.domain ≡ domain.now }
+    ensures up { IsUp task.new }
+{
+    let mut sum: u64 = 0;
+    for _ in 0..n {
+        sum ^= load_own(domain, task).0;
+    }
+    sum
+}
+
+/// Wakes of a task that is running: a load and a compare-exchange each, which change nothing.
+fn exchanges<R: Wait>(rt: &R, domain: &Domain, task: &mut Task, n: u64)
+    requires of { task.old.domain ≡ domain.now }
+    requires up { IsUp task.old }
+    ensures of { task.new.domain ≡ domain.now }
+    ensures up { IsUp task.new }
+{
+    for _ in 0..n {
+        wake_exchange(rt, domain, task, 0, 3);
+    }
+}
+
+/// Wakes a task as soon as it has gone to sleep.
+fn wake_up<R: Wait>(rt: &R, domain: &Domain, task: &mut Task, who: u8)
+    requires of { task.old.domain ≡ domain.now }
+    requires clean { IsClean task.old }
+    requires who { who < 128 }
+    ensures of { task.new.domain ≡ domain.now }
+    ensures clean { IsClean task.new }
+{
+    for _ in rt.forever() {
+        if wake_task(rt, domain, task, who, Mode::Normal) {
+            return;
+        }
+        spin_loop();
+    }
+    unreachable!()
+}
+
+/// Sleeps until woken.
+fn doze<R: Wait>(rt: &R, domain: &Domain, task: &mut Task)
+    requires of { task.old.domain ≡ domain.now }
+    requires clean { IsClean task.old }
+    ensures of { task.new.domain ≡ domain.now }
+    ensures clean { IsClean task.new }
+{
+    set_state(domain, task, UNINTERRUPTIBLE);
+    schedule(rt, domain, task);
+}
+
+/// One side of `n` round trips.
+fn side<R: Wait>(rt: &R, domain: &Domain, mut task: Task, other: u8, n: u64, first: bool) -> Task
+    requires of { task.domain ≡ domain.now }
+    requires clean { IsClean task }
+    requires other { other < 128 }
+    ensures of { result.domain ≡ domain.now }
+    ensures clean { IsClean result }
+{
+    for _ in 0..n {
+        if first {
+            wake_up(rt, domain, &mut task, other);
+        }
+        doze(rt, domain, &mut task);
+        if !first {
+            wake_up(rt, domain, &mut task, other);
+        }
+    }
+    task
+}
+
+/// Two threads that wake each other in turn.
+fn round_trips<R: Threads + Wait + Sync>(rt: &R, domain: &Domain, one: Task, two: Task, n: u64)
+    requires of { (one.domain ≡ domain.now) × (two.domain ≡ domain.now) }
+    requires clean { IsClean one × IsClean two }
+{
+    let a = one.number();
+    let b = two.number();
+    thread::join(
+        rt,
+        move ||
+            requires { (one.domain ≡ domain.now) × IsClean one × (b < 128) }
+        { drop(side(rt, domain, one, b, n, true)) },
+        move ||
+            requires { (two.domain ≡ domain.now) × IsClean two × (a < 128) }
+        { drop(side(rt, domain, two, a, n, false)) },
+    );
+}
+
+/// Writes a line of a measurement, where one was asked for.
+fn report(rt: &HostRuntime, asked: bool, name: &str, n: u64, time: Duration) -> io::Result<()> {
+    if asked {
+        println!(rt; "{name} {n} {}", time.as_nanos())?;
+    }
+    Ok(())
+}
+
+fn main(rt: HostRuntime) -> io::Result<()> {
+    let words: Vec<String> = env::args(&rt)?.skip(1).collect(rt.alloc())?;
+    let asked = !words.is_empty();
+    let (steps, trips): (u64, u64) = if asked {
+        (20_000_000, 100_000)
+    } else {
+        (100, 10)
+    };
+    let (domain, mut task) = Domain::new(rt.alloc())?;
+
+    let start = Instant::now(&rt)?;
+    let sum = loads(&domain, &mut task, steps);
+    let time = start.elapsed(&rt)?;
+    report(&rt, asked && sum < 0x8_0000, "load", steps, time)?;
+
+    let start = Instant::now(&rt)?;
+    exchanges(&rt, &domain, &mut task, steps);
+    let time = start.elapsed(&rt)?;
+    report(&rt, asked, "exchange", steps, time)?;
+
+    let (domain, mut task) = Domain::new(rt.alloc())?;
+    let Ok(other) = task.fork(&domain, 0) else {
+        return Ok(());
+    };
+    let start = Instant::now(&rt)?;
+    round_trips(&rt, &domain, task, other, trips);
+    let time = start.elapsed(&rt)?;
+    report(&rt, asked, "round_trip", trips, time)?;
+    println!(rt; "done")?;
+    Ok(())
+}

@@ -1,0 +1,4 @@
+pub mod Waits
+pub mod Seeing
+pub mod Ends
+pub mod Adding

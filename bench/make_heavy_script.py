@@ -311,67 +311,69 @@ class Scenes:
             script.step(task, numbers.pick((2, 4, 5, 6, 7, 8, 8, 8, 8, 8)))
         return getting
 
+    def strangers_of_a_head(self):
+        """The variable of a head, and three of its bits."""
+        head = self.numbers.pick(self.shared)
+        return self.variable_of[head], [self.numbers.pick(self.bits_of[head]) for _ in range(3)]
+
+    def hold(self, holders, bits):
+        for holder, bit in zip(holders, bits):
+            self.script.call(holder, f"trybit {bit}", 1)
+
+    def walk_and_wait(self, rounds, walkers, waiters, other, bits):
+        """Steps of walkers and waiters, each with their most steps a line; another signals, and takes bits
+        before a walk comes to them."""
+        for _ in range(rounds):
+            self.mixed_steps(walkers[0], 2, walkers[1])
+            self.mixed_steps(waiters[0], 1, waiters[1])
+            if self.numbers.one_in(3):
+                self.signal(other, self.numbers.pick(waiters[0]))
+            if self.numbers.one_in(4):
+                self.script.call(other, f"trybit {self.numbers.pick(bits)}", 1)
+
+    def end_strangers(self, variable, bits, keepers, waiters, tasks, count=SHORT):
+        self.help(f"setvar {variable} 2", LONG)
+        self.release(keepers, bits, count)
+        self.rouse(waiters)
+        self.take_back(tasks)
+        self.help(f"setvar {variable} 0", LONG)
+
     def strangers(self):
         numbers, script = self.numbers, self.script
-        head = numbers.pick(self.shared)
-        variable, bits = self.variable_of[head], [numbers.pick(self.bits_of[head]) for _ in range(3)]
+        variable, bits = self.strangers_of_a_head()
         tasks = self.actors(numbers.between(14, 24))
         holders, setters, other, waiters = tasks[:3], tasks[3:5], tasks[5], tasks[6:]
-        for holder, bit in zip(holders, bits):
-            script.call(holder, f"trybit {bit}", 1)
+        self.hold(holders, bits)
         getting = self.some_waiters(waiters, bits, variable, 6)
         for setter in setters:
             script.open(setter, f"setvar {variable} {numbers.pick((1, 1, 2, numbers.word()))}")
         for holder, bit in zip(holders, bits):
             script.open(holder, f"clearbit {bit}")
         walkers = holders + setters
-        for _ in range(8):
-            self.mixed_steps(walkers, 2, 5)
-            self.mixed_steps(waiters, 1, 6)
-            if numbers.one_in(3):
-                self.signal(other, numbers.pick(waiters))
-            if numbers.one_in(4):
-                # Another takes a bit before the walk comes to it.
-                script.call(other, f"trybit {numbers.pick(bits)}", 1)
+        self.walk_and_wait(8, (walkers, 5), (waiters, 6), other, bits)
         self.run_out(tasks, 80)
-        self.help(f"setvar {variable} 2", LONG)
-        self.release(holders + [other] + getting, bits)
-        self.rouse(waiters)
-        self.take_back(tasks)
-        self.help(f"setvar {variable} 0", LONG)
+        self.end_strangers(variable, bits, holders + [other] + getting, waiters, tasks)
 
     def crowd_of_strangers(self):
         """More waiters of several bits and a variable than one critical section calls."""
         numbers, script = self.numbers, self.script
-        head = numbers.pick(self.shared)
-        variable, bits = self.variable_of[head], [numbers.pick(self.bits_of[head]) for _ in range(3)]
+        variable, bits = self.strangers_of_a_head()
         tasks = self.actors(numbers.between(80, len(ACTORS)))
         holders, setters, other, waiters = tasks[:3], tasks[3:6], tasks[6], tasks[7:]
-        for holder, bit in zip(holders, bits):
-            script.call(holder, f"trybit {bit}", 1)
+        self.hold(holders, bits)
         getting = self.some_waiters(waiters, bits, variable, 5)
         walkers = holders + setters
         for setter in setters:
             script.call(setter, f"setvar {variable} {numbers.pick((1, 2, 3))}", numbers.between(1, 70))
         for holder, bit in zip(holders, bits):
             script.call(holder, f"clearbit {bit}", numbers.between(1, 70))
-        for _ in range(10):
-            self.mixed_steps(walkers, 2, 30)
-            self.mixed_steps(waiters, 1, 8)
-            if numbers.one_in(3):
-                self.signal(other, numbers.pick(waiters))
-            if numbers.one_in(4):
-                script.call(other, f"trybit {numbers.pick(bits)}", 1)
+        self.walk_and_wait(10, (walkers, 30), (waiters, 8), other, bits)
         for _ in range(2):
             for task in waiters:
                 script.step(task, SHORT)
             for task in walkers:
                 script.step(task, LONG)
-        self.help(f"setvar {variable} 2", LONG)
-        self.release(holders + [other] + getting, bits, LONG // 2)
-        self.rouse(waiters)
-        self.take_back(tasks)
-        self.help(f"setvar {variable} 0", LONG)
+        self.end_strangers(variable, bits, holders + [other] + getting, waiters, tasks, LONG // 2)
 
     def crowd_of_a_variable(self):
         """A walk that takes off all that it calls, stopped at its break, and others that find its bookmark."""

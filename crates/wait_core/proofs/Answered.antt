@@ -191,6 +191,13 @@ pub opened_at : (words : List ℕ) (points : List Progress) (items : List Ran) (
 opened_at words points items count capacity core me slot r call p mine same read is =
     read_progress points me slot r core.tasks mine same read ∙ ap (λ (x : Progress). Some x) is
 
+-- what is read again there is the same
+pub opened_again : (points : List Progress) (me slot : ℕ) (r : Progress) (call : Call) (p : Point)
+    → length points ≡ task_count → me < task_count → slot ≡ me → r ≡ get_or points slot r
+    → slice_get points me ≡ Some (now.Open call p) → r ≡ now.Open call p
+opened_again points me slot r call p l mine same read stands =
+    let a : Some r ≡ Some (now.Open call p) = sym (read_progress points me slot r l mine same read) ∙ stands in cc
+
 pub shown_in : (now' words : List ℕ) (s : State) → now' ≡ words → Shows words s.table → Shows now' s.table
 shown_in now' words s e h = subst (λ (w : List ℕ). Shows w s.table) (sym e) h
 

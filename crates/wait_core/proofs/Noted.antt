@@ -143,7 +143,7 @@ module _ (me : ℕ) (call : Call) (seen : Seen) where
 
   next_noted : (w : Walking) (c : Option Called) (hit : Bool) → N (call_next call w c seen hit)
   next_noted w None hit = tt
-  next_noted w (Some c) hit = entry_noted w c c.entry.kind hit
+  next_noted w (Some c) hit = entry_noted w c c.kind hit
 
   walk_noted : (p : WalkPoint) → N (walk_event call p seen)
   walk_noted (walking.Call w) = either seen.breaks

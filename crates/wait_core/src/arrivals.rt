@@ -4,6 +4,7 @@ ghost use Rattle.std.specs.Prelude.{◌≡◌, ℕ, ◌+◌, ◌*◌, ◌<◌, �
 ghost use Rattle.wait_model.specs.Runs.{State, arrives_from, mark_for};
 ghost use Rattle.wait_model.specs.Queues as queue;
 ghost use Rattle.wait_model.specs.Watches.{same, is_for};
+ghost use Rattle.wait_model.specs.Points.{given_at};
 ghost use Rattle.wait_model.specs.Locations.{Shows};
 ghost use Rattle.wait_model.specs.Reached.{IsSound};
 ghost use Rattle.wait_core.specs.Scan.{shown_stand};
@@ -12,7 +13,8 @@ ghost use Rattle.wait_core.specs.Arrivals.{arrived};
 
 use crate::index::Standing;
 use crate::scan::{ENTRIES, FIRST_PLACE, NUMBERS, PLACES, entry_in, entry_ranked, member_ranked};
-use wait_model::points::Given;
+use wait_model::calls::Call;
+use wait_model::points::{Point, calls_at, from_at};
 use wait_model::queues::{Mark, Member};
 use wait_model::watches::Watch;
 
@@ -123,14 +125,21 @@ fn place_before(member: Option<Member>) -> u64
 }
 
 /// The bookmark that goes before the member at which a walk breaks.
-pub fn next_mark_at(words: &[u64], index: &[Standing], given: Given, head: u16) -> Mark
+pub fn next_mark_at(words: &[u64], index: &[Standing], call: Call, point: Point, head: u16) -> Mark
     requires count { length words.now ≡ 9873 }
     requires index { IsIndex (shown_stand words.now) index.now }
-    ensures mark { (s : State) (n : ℕ) → Shows words.now s.table → IsSound s n → result ≡ mark_for s.table.entry given head (s.queue head) }
+    ensures mark { (s : State) (n : ℕ) → Shows words.now s.table → IsSound s n → result ≡ mark_for s.table.entry (given_at call point) head (s.queue head) }
     ensures head { result.head ≡ head }
     ensures fits { result.place < 2 ^ 40 }
 {
-    let arrived = arrive(words, index, head, given.watch, given.from, given.calls);
+    let arrived = arrive(
+        words,
+        index,
+        head,
+        call.watch(),
+        from_at(point),
+        calls_at(point),
+    );
     Mark {
         head,
         place: place_before(arrived.member),

@@ -6,6 +6,8 @@ ghost use Rattle.wait_model.specs.Tables.{start};
 ghost use Rattle.wait_model.specs.Tasks.{task_count};
 ghost use Rattle.wait_model.specs.Runs.{is_open, progress_at};
 ghost use Rattle.wait_model.specs.Admission.{IsListed};
+ghost use Rattle.wait_model.specs.declared.points.Point.{Point};
+ghost use Rattle.wait_model.specs.declared.points.Progress.TheVariants as now;
 ghost use Rattle.wait_core.specs.Ended.{answer_of};
 
 use crate::changes::change_by;
@@ -17,7 +19,7 @@ use std::alloc::{AllocError, Global};
 use std::marker::Model;
 use wait_model::admission::{is_in_range, is_queued_twice, lacks_bit, lacks_entry};
 use wait_model::calls::{Answer, Call, Event, Ran};
-use wait_model::points::{Next, Progress, given_at};
+use wait_model::points::{Next, Progress};
 use wait_model::programs::start_of;
 use wait_model::queues::Member;
 use wait_model::tasks::{TASKS, Task};
@@ -259,12 +261,12 @@ impl Core {
             return Stepped::Full;
         }
         let event = planned.event;
-        let change = change_by(&self.words, &self.index, task, given_at(call, point), event);
+        let change = change_by(&self.words, &self.index, task, call, point, event);
         let found = change.found;
         reindex(&mut self.index, &self.words, change.at, change.left);
         self.words[change.at] = change.left;
         keep(&mut self.keepers, task, event);
-        self.progress[slot] = progress_of(call, planned.next);
+        advance(&mut self.progress[slot], planned.next);
         log(&mut self.run, Ran::Made { task, event, found });
         self.made += 1;
         Stepped::Made {
@@ -274,13 +276,17 @@ impl Core {
     }
 }
 
-/// Where a call stands after an event.
-fn progress_of(call: Call, next: Next) -> Progress
-    ensures { result ≡ progress_at call next }
+/// Brings an open call along to where it stands after an event.
+fn advance(progress: &mut Progress, next: Next)
+    ensures { (call : Call) (p : Point) → progress.old ≡ now.Open call p → progress.new ≡ progress_at call next }
 {
     match next {
-        Next::Go(point) => Progress::Open { call, point },
-        Next::Ends(_) => Progress::Idle,
+        Next::Go(to) => {
+            if let Progress::Open { point, .. } = progress {
+                *point = to;
+            }
+        }
+        Next::Ends(_) => *progress = Progress::Idle,
     }
 }
 

@@ -160,15 +160,17 @@ fn called_in(words: &[u64], member: Option<Member>) -> Option<Called>
     requires count { length words.now ≡ 9873 }
     requires member { IfSome member (λ m. m.at < 256) }
     ensures called { (s : State) (n : ℕ) → Shows words.now s.table → IsSound s n → result ≡ called_by s.table.entry member }
-    ensures fits { IfSome result (λ c. (c.who < task_count) × (c.entry.place < 2 ^ 40)) }
+    ensures fits { IfSome result (λ c. (c.who < task_count) × (c.place < 2 ^ 40)) }
 {
     match member {
         None => None,
         Some(member) => match entry_in(words, member.at) {
             None => None,
             Some(entry) => Some(Called {
+                place: entry.place,
                 who: member.owner(),
-                entry,
+                exclusive: entry.exclusive,
+                kind: entry.kind,
             }),
         },
     }
@@ -182,7 +184,7 @@ pub fn seen_at(words: &[u64], index: &[Standing], me: u8, call: Call, point: Poi
     requires call { IsThere (call_watch call) }
     requires point { IsReachable call point × IsFitting point }
     ensures seen { (s : State) (n : ℕ) → Shows words.now s.table → IsSound s n → result ≡ seen_by s me call point }
-    ensures called { IfSome result.called (λ c. c.entry.place < 2 ^ 40) }
+    ensures called { IfSome result.called (λ c. c.place < 2 ^ 40) }
     ensures calls { result.calls < 2 ^ 32 - 1 }
 {
     let walk = arrived_at(words, index, call, point);

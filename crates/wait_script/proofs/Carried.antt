@@ -19,6 +19,7 @@ use Rattle.std.proofs.Common.{
 use Rattle.wait_script.specs.declared.line.Line.{Line}
 use Rattle.wait_script.specs.Lines.{line_at}
 use Rattle.wait_script.specs.Script.{parts_of, lines_from, and_lines}
+use Rattle.wait_script.specs.Reading.{IsFirst}
 use Rattle.wait_script.proofs.Parts.{lines_from-step}
 
 abbrev pub carried : List Line → Result (List Line) (ℕ × ℕ) → Result (List Line) (ℕ × ℕ)
@@ -30,24 +31,25 @@ pub carried-more : (front : List Line) (line : Line) (number : ℕ) (more : Resu
 carried-more front line number (Ok lines) = ap Ok (append_assoc front (line ∷ []) lines)
 carried-more front line number (Err bad) = refl
 
+-- the first line, by where it ends
+pub read_first : (bytes line more : List ℕ) (read : Result Line ℕ) → parts_of bytes ≡ line ∷ parts_of more
+    → read ≡ line_at line → IsFirst bytes read more
+read_first bytes line more read cut e = λ number.
+    ap (lines_from number) cut ∙ lines_from-step number line more
+    ∙ ap (λ r. and_lines number r (lines_from (number + 1) (parts_of more))) (sym e)
+
 -- a bad line ends the reading
-pub stops : (bytes rest line more : List ℕ) (front : List Line) (number why : ℕ)
+pub stops : (bytes rest more : List ℕ) (front : List Line) (number why : ℕ)
     → carried front (lines_from number (parts_of rest)) ≡ lines_from 2 (parts_of bytes)
-    → parts_of rest ≡ line ∷ parts_of more → line_at line ≡ Err why
+    → IsFirst rest (Err why) more
     → lines_from 2 (parts_of bytes) ≡ Err (number, why)
-stops bytes rest line more front number why same cut bad =
-    sym same ∙ ap (λ p. carried front (lines_from number p)) cut
-    ∙ ap (carried front) (lines_from-step number line more)
-    ∙ ap (λ r. carried front (and_lines number r (lines_from (number + 1) (parts_of more)))) bad
+stops bytes rest more front number why same first = sym same ∙ ap (carried front) (first number)
 
 -- a good line goes onto those in front
-pub goes-on : (bytes rest line more : List ℕ) (front : List Line) (number : ℕ) (l : Line)
+pub goes-on : (bytes rest more : List ℕ) (front : List Line) (number : ℕ) (l : Line)
     → carried front (lines_from number (parts_of rest)) ≡ lines_from 2 (parts_of bytes)
-    → parts_of rest ≡ line ∷ parts_of more → line_at line ≡ Ok l
+    → IsFirst rest (Ok l) more
     → carried (front ++ l ∷ []) (lines_from (number + 1) (parts_of more)) ≡ lines_from 2 (parts_of bytes)
-goes-on bytes rest line more front number l same cut good =
+goes-on bytes rest more front number l same first =
     carried-more front l number (lines_from (number + 1) (parts_of more))
-    ∙ sym (ap (λ p. carried front (lines_from number p)) cut
-    ∙ ap (carried front) (lines_from-step number line more)
-    ∙ ap (λ r. carried front (and_lines number r (lines_from (number + 1) (parts_of more)))) good)
-    ∙ same
+    ∙ sym (ap (carried front) (first number)) ∙ same

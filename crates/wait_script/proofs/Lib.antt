@@ -1,8 +1,11 @@
 pub mod Carried
-pub mod Conditions
 pub mod Counts
+pub mod Cuts
+pub mod Decimals
+pub mod Digits
 pub mod Endings
 pub mod Numbers
+pub mod OnePass
 pub mod Parts
 pub mod Read
 pub mod ReadFields

@@ -1,44 +1,9 @@
 -- What `parse` reads, in the grammar's words.
-use Rattle.std.proofs.Common.{
-  ◌≡◌,
-  ℕ,
-  ◌≢◌,
-  List,
-  [],
-  ◌∷◌,
-  Some,
-  None,
-  Result,
-  Ok,
-  Err,
-  true,
-  false,
-  length,
-  get_or,
-  arith,
-  refl,
-  sym,
-  ap,
-  ◌∙◌,
-  cond,
-  Bool,
-  nat_lt,
-  ◌^◌,
-  ◌<◌,
-  zero,
-  suc,
-  decimal,
-}
+use Rattle.std.proofs.Common.{◌≡◌, ℕ, List, [], ◌∷◌, Some, None, true, false, length, get_or, arith, refl, sym, ap, ◌∙◌, cond, Bool, nat_lt, ◌^◌, ◌<◌, zero, suc, decimal}
 use mathlib.Core.Bool.{◌&&◌}
 use Rattle.std.specs.Str.{all_ascii_digits}
-use Rattle.std.specs.Str.Parse.{digits_value, ParsesUnsigned}
-use Rattle.std.specs.Result.{result_ok}
-use Rattle.std.proofs.lemmas.Str.Parse.{
-  IsNumeralModel,
-  numerals_by_value,
-  tells_all_ascii_digits,
-  parse_plain,
-}
+use Rattle.std.specs.Str.Parse.{digits_value}
+use Rattle.std.proofs.lemmas.Str.Parse.{IsNumeralModel, numerals_by_value, tells_all_ascii_digits}
 use Rattle.std.proofs.lemmas.Fmt.{
   decimal-digits_value,
   digits_decimal,
@@ -52,20 +17,6 @@ use Rattle.wait_script.specs.Number.{is_plain, number_of}
 
 own : IsNumeralModel (λ ds. all_ascii_digits ds ≡ true) (digits_value 10)
 own = numerals_by_value _ tells_all_ascii_digits
-
-not_plus : (word : List ℕ) → is_plain word ≡ true → get_or word 0 0 ≢ 43
-not_plus [] p = omega arith
-not_plus (c ∷ cs) p = λ e. plus_odd c cs e p
-  where
-    plus_odd : (c : ℕ) (cs : List ℕ) → c ≡ 43 → is_plain (c ∷ cs) ≡ true → ⊥
-    plus_odd c cs e p = grind (arith, nat_tests)
-
-pub plain_number : {E : Type 0} (word : List ℕ) (r : Result ℕ E) → is_plain word ≡ true
-    → ParsesUnsigned 64 10 word r → result_ok r ≡ number_of word
-plain_number {E} word (Ok x) p h = let q = parse_plain own {E = E} 64 word (Ok x) h (not_plus word p)
-    in grind (arith, nat_tests)
-plain_number {E} word (Err e) p h = let q = parse_plain own {E = E} 64 word (Err e) h (not_plus word p)
-    in grind (arith, nat_tests)
 
 leading : (word : List ℕ) → is_plain word ≡ true → get_or word 0 0 ≡ 48 → length word ≡ 1
 leading [] p e = absurd (omega arith)

@@ -1,5 +1,5 @@
 -- A script that is spelled as lines that fit is read as those lines.
-use Rattle.std.proofs.Common.{◌≡◌, ℕ, ◌+◌, ◌*◌, ◌≤◌, Bool, true, false, cond, eqb, List, [], ◌∷◌, ◌++◌, Ok, Err, All, length, codes, refl, ap, ◌∙◌, arith, append_assoc, nat_le, nat_lt, length-append}
+use Rattle.std.proofs.Common.{◌≡◌, ℕ, ◌+◌, ◌*◌, ◌≤◌, ◌<◌, Bool, true, false, cond, eqb, List, [], ◌∷◌, ◌++◌, Ok, Err, All, length, codes, refl, ap, ◌∙◌, arith, append_assoc, nat_le, nat_lt, length-append}
 use Rattle.std.proofs.lemmas.Bool.Decides.{nat_tests}
 use Rattle.std.proofs.lemmas.List.Splits.{slice_split_at, slice_split_none}
 use Rattle.std.proofs.lemmas.List.Folds.{list_all-append}
@@ -9,6 +9,7 @@ use Rattle.wait_script.specs.declared.line.Line.{Line}
 use Rattle.wait_script.specs.Words.{words_of}
 use Rattle.wait_script.specs.Lines.{words_at, line_at, is_printable}
 use Rattle.wait_script.specs.Script.{is_end, parts_of, and_lines, lines_from, script_of}
+use Rattle.wait_script.specs.Reading.{IsFirst}
 use Rattle.wait_script.specs.Spelling.{line_words, line_text, script_text, IsFit}
 use Rattle.wait_script.proofs.Parts.{lines_from-step, good_header}
 use Rattle.wait_script.proofs.SpelledWords.{both_true, parts_true, in_word, IsWord, AreWords}
@@ -96,6 +97,20 @@ line_from l word words is h hs few said =
 read_back : (l : Line) → IsFit l → (line_at (line_text l) ≡ Ok l)
     × (list_all is_printable (line_text l) ≡ true)
 read_back l h = let s = line_said l h in line_from l s.0 s.1 s.2 s.3 s.4 s.5 s.6
+
+-- a line that is spelled so at the front is read first
+pub spelled_first : (bytes : List ℕ) (l : Line) (more : List ℕ) → IsFit l → bytes ≡ line_text l ++ 10 ∷ more
+    → IsFirst bytes (Ok l) more
+spelled_first bytes l more fit e = λ number.
+    ap (λ b. lines_from number (parts_of b)) e
+    ∙ ap (lines_from number) (slice_split_at is_end (line_text l) 10 more
+    (all_of is_printable _ no_end (line_text l) (read_back l fit).1) refl)
+    ∙ lines_from-step number (line_text l) more
+    ∙ ap (λ r. and_lines number r (lines_from (number + 1) (parts_of more))) (read_back l fit).0
+
+pub shorter : (bytes text more : List ℕ) → bytes ≡ text ++ 10 ∷ more → length more < length bytes
+shorter bytes text more e = let l = length-append text (10 ∷ more) in
+    let n : length bytes ≡ length (text ++ 10 ∷ more) = ap length e in omega (arith, l, n)
 
 abbrev ended : Line → List ℕ
 ended l = line_text l ++ 10 ∷ []

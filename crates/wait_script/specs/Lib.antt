@@ -3,6 +3,7 @@ pub mod Fields
 pub mod Forms
 pub mod Lines
 pub mod Number
+pub mod Reading
 pub mod Replay
 pub mod Script
 pub mod Spelling

@@ -16,7 +16,7 @@ const LAST_SIMPLE: u8 = 63;
 
 /// `swait CONDITION STATE`, by the words behind the name.
 #[tactic(auto, using(crate::proofs::Counts::few2))]
-pub fn simple_wait(words: &[&str]) -> Result<Call, u8>
+pub fn simple_wait(words: &[&[u8]]) -> Result<Call, u8>
     ensures { result ≡ spec.simple_wait_at (map (λ w. w.now) words.now) }
 {
     let [cond, word] = words else {
@@ -31,7 +31,7 @@ pub fn simple_wait(words: &[&str]) -> Result<Call, u8>
 
 /// `swake CONDITION one|all`, by the words behind the name.
 #[tactic(auto, using(crate::proofs::Counts::few2))]
-pub fn simple_wake(words: &[&str]) -> Result<Call, u8>
+pub fn simple_wake(words: &[&[u8]]) -> Result<Call, u8>
     ensures { result ≡ spec.simple_wake_at (map (λ w. w.now) words.now) }
 {
     let [cond, word] = words else {
@@ -43,7 +43,7 @@ pub fn simple_wake(words: &[&str]) -> Result<Call, u8>
 
 /// `complete COMPLETION`, by the words behind the name.
 #[tactic(auto, using(crate::proofs::Counts::few1))]
-pub fn complete(words: &[&str]) -> Result<Call, u8>
+pub fn complete(words: &[&[u8]]) -> Result<Call, u8>
     ensures { result ≡ spec.complete_at (map (λ w. w.now) words.now) }
 {
     let [word] = words else {
@@ -55,7 +55,7 @@ pub fn complete(words: &[&str]) -> Result<Call, u8>
 
 /// `completeall COMPLETION`, by the words behind the name.
 #[tactic(auto, using(crate::proofs::Counts::few1))]
-pub fn complete_all(words: &[&str]) -> Result<Call, u8>
+pub fn complete_all(words: &[&[u8]]) -> Result<Call, u8>
     ensures { result ≡ spec.complete_all_at (map (λ w. w.now) words.now) }
 {
     let [word] = words else {
@@ -67,7 +67,7 @@ pub fn complete_all(words: &[&str]) -> Result<Call, u8>
 
 /// `reinit COMPLETION`, by the words behind the name.
 #[tactic(auto, using(crate::proofs::Counts::few1))]
-pub fn reinit(words: &[&str]) -> Result<Call, u8>
+pub fn reinit(words: &[&[u8]]) -> Result<Call, u8>
     ensures { result ≡ spec.reinit_at (map (λ w. w.now) words.now) }
 {
     let [word] = words else {
@@ -79,7 +79,7 @@ pub fn reinit(words: &[&str]) -> Result<Call, u8>
 
 /// `waitfor COMPLETION STATE`, by the words behind the name.
 #[tactic(auto, using(crate::proofs::Counts::few2))]
-pub fn wait_for(words: &[&str]) -> Result<Call, u8>
+pub fn wait_for(words: &[&[u8]]) -> Result<Call, u8>
     ensures { result ≡ spec.wait_for_at (map (λ w. w.now) words.now) }
 {
     let [of, word] = words else {
@@ -91,7 +91,7 @@ pub fn wait_for(words: &[&str]) -> Result<Call, u8>
 
 /// `trywait COMPLETION`, by the words behind the name.
 #[tactic(auto, using(crate::proofs::Counts::few1))]
-pub fn try_wait(words: &[&str]) -> Result<Call, u8>
+pub fn try_wait(words: &[&[u8]]) -> Result<Call, u8>
     ensures { result ≡ spec.try_wait_at (map (λ w. w.now) words.now) }
 {
     let [word] = words else {
@@ -103,7 +103,7 @@ pub fn try_wait(words: &[&str]) -> Result<Call, u8>
 
 /// `isdone COMPLETION`, by the words behind the name.
 #[tactic(auto, using(crate::proofs::Counts::few1))]
-pub fn is_done(words: &[&str]) -> Result<Call, u8>
+pub fn is_done(words: &[&[u8]]) -> Result<Call, u8>
     ensures { result ≡ spec.is_done_at (map (λ w. w.now) words.now) }
 {
     let [word] = words else {
@@ -115,7 +115,7 @@ pub fn is_done(words: &[&str]) -> Result<Call, u8>
 
 /// `trybit BIT`, by the words behind the name.
 #[tactic(auto, using(crate::proofs::Counts::few1))]
-pub fn try_bit(words: &[&str]) -> Result<Call, u8>
+pub fn try_bit(words: &[&[u8]]) -> Result<Call, u8>
     ensures { result ≡ spec.try_bit_at (map (λ w. w.now) words.now) }
 {
     let [text] = words else {
@@ -127,7 +127,7 @@ pub fn try_bit(words: &[&str]) -> Result<Call, u8>
 
 /// `waitbit BIT STATE`, by the words behind the name.
 #[tactic(auto, using(crate::proofs::Counts::few2))]
-pub fn wait_bit(words: &[&str]) -> Result<Call, u8>
+pub fn wait_bit(words: &[&[u8]]) -> Result<Call, u8>
     ensures { result ≡ spec.wait_bit_at (map (λ w. w.now) words.now) }
 {
     let [text, how] = words else {
@@ -139,7 +139,7 @@ pub fn wait_bit(words: &[&str]) -> Result<Call, u8>
 
 /// `lockbit BIT STATE`, by the words behind the name.
 #[tactic(auto, using(crate::proofs::Counts::few2))]
-pub fn lock_bit(words: &[&str]) -> Result<Call, u8>
+pub fn lock_bit(words: &[&[u8]]) -> Result<Call, u8>
     ensures { result ≡ spec.lock_bit_at (map (λ w. w.now) words.now) }
 {
     let [text, how] = words else {
@@ -151,7 +151,7 @@ pub fn lock_bit(words: &[&str]) -> Result<Call, u8>
 
 /// `clearbit BIT`, by the words behind the name.
 #[tactic(auto, using(crate::proofs::Counts::few1))]
-pub fn clear_bit(words: &[&str]) -> Result<Call, u8>
+pub fn clear_bit(words: &[&[u8]]) -> Result<Call, u8>
     ensures { result ≡ spec.clear_bit_at (map (λ w. w.now) words.now) }
 {
     let [text] = words else {
@@ -163,7 +163,7 @@ pub fn clear_bit(words: &[&str]) -> Result<Call, u8>
 
 /// `waitvar VARIABLE OLD STATE`, by the words behind the name.
 #[tactic(auto, using(crate::proofs::Counts::few3))]
-pub fn wait_var(words: &[&str]) -> Result<Call, u8>
+pub fn wait_var(words: &[&[u8]]) -> Result<Call, u8>
     ensures { result ≡ spec.wait_var_at (map (λ w. w.now) words.now) }
 {
     let [text, number, how] = words else {
@@ -175,7 +175,7 @@ pub fn wait_var(words: &[&str]) -> Result<Call, u8>
 
 /// `setvar VARIABLE VALUE`, by the words behind the name.
 #[tactic(auto, using(crate::proofs::Counts::few2))]
-pub fn set_var(words: &[&str]) -> Result<Call, u8>
+pub fn set_var(words: &[&[u8]]) -> Result<Call, u8>
     ensures { result ≡ spec.set_var_at (map (λ w. w.now) words.now) }
 {
     let [text, number] = words else {

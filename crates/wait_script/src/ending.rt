@@ -1,16 +1,17 @@
 //! The end lines of a text.
 
-ghost use Rattle.std.specs.Prelude.{◌≤◌, ◌<◌, IsErrOf};
+ghost use Rattle.std.specs.Prelude.{◌≤◌, ◌<◌, ◌++◌, IsErrOf, codes, decimal};
 ghost use Rattle.edge_io.specs.Faults.{HasRisen};
 ghost use Rattle.edge_io.specs.Text.{WritesText};
 ghost use Rattle.wait_model.specs.Runs.{state_of};
 ghost use Rattle.wait_script.specs.Fields.{last_task};
-ghost use Rattle.wait_script.specs.Ending.{line_of_task, line_of_head, line_of_word, tasks_text, heads_text, words_text, end_text};
+ghost use Rattle.wait_script.specs.Ending.{events_text, member_text, line_of_task, line_of_head, line_of_word, tasks_text, heads_text, words_text, end_text};
 
-use crate::summary::{EventsText, HeadText, MemberText, TaskText, WordText};
-use crate::writer::write_shown;
-use edge_io::{Sink, SinkFault};
+use crate::pieces::LineText;
+use crate::summary::{push_events, push_head_front, push_member, push_task_end, push_word};
+use edge_io::{Sink, SinkFault, write_all};
 use wait_core::engine::Core;
+use wait_model::queues::Member;
 use wait_model::tasks::TASKS;
 
 /// How many heads there are.
@@ -19,6 +20,17 @@ const HEADS: u16 = 384;
 const CONDS: u16 = 384;
 
 const FIRST_COND: u32 = 1_153;
+
+/// Writes the line of the number of events.
+fn write_events<K: Sink>(out: &mut K, events: u32) -> Result<(), SinkFault>
+    ensures text { WritesText (K.held out.old) (K.held out.new) (events_text events) result }
+    ensures cause { IsErrOf result SinkFault.Failed → HasRisen (K.faults out.old) (K.faults out.new) }
+    ensures later { K.faults out.old ≤ K.faults out.new }
+{
+    let mut line = LineText::new();
+    push_events(&mut line, events);
+    write_all(out, line.as_slice())
+}
 
 /// Writes the line of a task that ever had a call opened.
 fn write_task<K: Sink>(out: &mut K, core: &Core, task: u8) -> Result<(), SinkFault>
@@ -30,15 +42,9 @@ fn write_task<K: Sink>(out: &mut K, core: &Core, task: u8) -> Result<(), SinkFau
     let Some(is_open) = core.call_of(task) else {
         return Ok(());
     };
-    let shown = core.task_of(task);
-    write_shown(
-        out,
-        &TaskText {
-            task,
-            is_open,
-            shown,
-        },
-    )
+    let mut line = LineText::new();
+    push_task_end(&mut line, task, is_open, &core.task_of(task));
+    write_all(out, line.as_slice())
 }
 
 /// Writes the lines of the tasks.
@@ -53,6 +59,28 @@ fn write_tasks<K: Sink>(out: &mut K, core: &Core) -> Result<(), SinkFault>
     Ok(())
 }
 
+/// Writes the front of a head's line.
+fn write_head_front<K: Sink>(out: &mut K, head: u16) -> Result<(), SinkFault>
+    ensures text { WritesText (K.held out.old) (K.held out.new) (codes "head h" ++ decimal head) result }
+    ensures cause { IsErrOf result SinkFault.Failed → HasRisen (K.faults out.old) (K.faults out.new) }
+    ensures later { K.faults out.old ≤ K.faults out.new }
+{
+    let mut line = LineText::new();
+    push_head_front(&mut line, head);
+    write_all(out, line.as_slice())
+}
+
+/// Writes a member of a head's line.
+fn write_member<K: Sink>(out: &mut K, member: &Member) -> Result<(), SinkFault>
+    ensures text { WritesText (K.held out.old) (K.held out.new) (member_text member.now) result }
+    ensures cause { IsErrOf result SinkFault.Failed → HasRisen (K.faults out.old) (K.faults out.new) }
+    ensures later { K.faults out.old ≤ K.faults out.new }
+{
+    let mut line = LineText::new();
+    push_member(&mut line, member);
+    write_all(out, line.as_slice())
+}
+
 /// Writes the line of a head that has members: piece by piece, since it may be long.
 fn write_head<K: Sink>(out: &mut K, core: &Core, head: u16) -> Result<(), SinkFault>
     ensures text { WritesText (K.held out.old) (K.held out.new) (line_of_head (state_of core.now) head) result }
@@ -63,12 +91,12 @@ fn write_head<K: Sink>(out: &mut K, core: &Core, head: u16) -> Result<(), SinkFa
     if next.is_none() {
         return Ok(());
     }
-    write_shown(out, &HeadText(head))?;
+    write_head_front(out, head)?;
     'members: while let Some(member) = next {
-        write_shown(out, &MemberText(member))?;
+        write_member(out, &member)?;
         next = core.member_from(head, member.rank() + 1);
     }
-    write_shown(out, &"\n")
+    write_all(out, b"\n")
 }
 
 /// Writes the lines of the heads.
@@ -92,7 +120,9 @@ fn write_word<K: Sink>(out: &mut K, core: &Core, cond: u16) -> Result<(), SinkFa
     ensures later { K.faults out.old ≤ K.faults out.new }
 {
     let value = core.word_at(FIRST_COND + u32::from(cond));
-    write_shown(out, &WordText { cond, value })
+    let mut line = LineText::new();
+    push_word(&mut line, cond, value);
+    write_all(out, line.as_slice())
 }
 
 /// Writes the lines of the condition words.
@@ -114,9 +144,9 @@ pub fn write_end<K: Sink>(out: &mut K, core: &Core) -> Result<(), SinkFault>
     ensures cause { IsErrOf result SinkFault.Failed → HasRisen (K.faults out.old) (K.faults out.new) }
     ensures later { K.faults out.old ≤ K.faults out.new }
 {
-    write_shown(out, &EventsText(core.made()))?;
+    write_events(out, core.made())?;
     write_tasks(out, core)?;
     write_heads(out, core)?;
     write_words(out, core)?;
-    write_shown(out, &"end\n")
+    write_all(out, b"end\n")
 }

@@ -1,6 +1,6 @@
 //! The fields of a line: what a word says in its place, or why it says nothing there.
 
-ghost use Rattle.std.specs.Prelude.{◌≡◌, ◌<◌};
+ghost use Rattle.std.specs.Prelude.{◌≡◌, position};
 ghost use Rattle.wait_script.specs.Fields as spec;
 ghost use Rattle.wait_script.specs.Fields.{within};
 ghost use Rattle.wait_script.specs.Number.{number_of};
@@ -19,7 +19,7 @@ pub const LAST_TASK: u8 = 127;
 pub const LAST_PRIORITY_TASK: u8 = 63;
 
 /// A task, 0 to `most`.
-pub fn task(word: &str, most: u8) -> Result<u8, u8>
+pub fn task(word: &[u8], most: u8) -> Result<u8, u8>
     ensures { result ≡ spec.number_at 0 most word.now }
 {
     match number(word) {
@@ -29,7 +29,7 @@ pub fn task(word: &str, most: u8) -> Result<u8, u8>
 }
 
 /// A number from `low` to `most`.
-pub fn count(word: &str, low: u32, most: u32) -> Result<u32, u8>
+pub fn count(word: &[u8], low: u32, most: u32) -> Result<u32, u8>
     ensures { result ≡ spec.number_at low most word.now }
 {
     match number(word) {
@@ -39,14 +39,14 @@ pub fn count(word: &str, low: u32, most: u32) -> Result<u32, u8>
 }
 
 /// A value of a condition word: any number of 64 bits.
-pub fn value(word: &str) -> Result<u64, u8>
+pub fn value(word: &[u8]) -> Result<u64, u8>
     ensures { result ≡ spec.value_at word.now }
 {
     number(word).ok_or(BAD_NUMBER)
 }
 
 /// The number of a condition, from `low` to `most`.
-fn number_of_condition(digits: &str, low: u8, most: u8) -> Result<u8, u8>
+fn number_of_condition(digits: &[u8], low: u8, most: u8) -> Result<u8, u8>
     ensures { result ≡ within 9 low most (number_of digits.now) }
 {
     match number(digits) {
@@ -56,137 +56,146 @@ fn number_of_condition(digits: &str, low: u8, most: u8) -> Result<u8, u8>
 }
 
 /// A letter and a number from `low` to `most` behind it.
-fn numbered(word: &str, letter: char, low: u8, most: u8) -> Result<u8, u8>
-    requires { letter < 128 }
+fn numbered(word: &[u8], letter: u8, low: u8, most: u8) -> Result<u8, u8>
     ensures { result ≡ spec.numbered_at letter low most word.now }
 {
-    let Some(digits) = word.strip_prefix(letter) else {
-        return Err(BAD_CONDITION);
-    };
-    number_of_condition(digits, low, most)
+    match word {
+        [first, digits @ ..] if *first == letter => number_of_condition(digits, low, most),
+        _ => Err(BAD_CONDITION),
+    }
 }
 
 /// A plain condition, `c` and a number from `low` to `most`.
-pub fn condition(word: &str, low: u8, most: u8) -> Result<u8, u8>
+pub fn condition(word: &[u8], low: u8, most: u8) -> Result<u8, u8>
     ensures { result ≡ spec.cond_at low most word.now }
 {
-    numbered(word, 'c', low, most)
+    numbered(word, b'c', low, most)
 }
 
 /// A completion, `d` and a number from 0 to 63.
-pub fn cell(word: &str) -> Result<u8, u8>
+pub fn cell(word: &[u8]) -> Result<u8, u8>
     ensures { result ≡ spec.cell_at word.now }
 {
-    numbered(word, 'd', 0, 63)
+    numbered(word, b'd', 0, 63)
 }
 
 /// A variable, `v` and a number from 0 to 127.
-pub fn variable(word: &str) -> Result<u8, u8>
+pub fn variable(word: &[u8]) -> Result<u8, u8>
     ensures { result ≡ spec.var_at word.now }
 {
-    numbered(word, 'v', 0, 127)
+    numbered(word, b'v', 0, 127)
+}
+
+/// Where the first dot of a word stands, if it has one.
+fn first_dot(text: &[u8]) -> Option<usize>
+    ensures { result ≡ position spec.is_dot text.now }
+{
+    text.iter().position(|b| *b == b'.')
 }
 
 /// A bit of a bit word, as `b127.63`: the word's number and the bit's.
-pub fn bit(text: &str) -> Result<(u8, u8), u8>
+pub fn bit(text: &[u8]) -> Result<(u8, u8), u8>
     ensures { result ≡ spec.bit_at text.now }
 {
-    let Some((word, bit)) = text.split_once('.') else {
+    let Some(dot) = first_dot(text) else {
         return Err(BAD_CONDITION);
     };
-    both(numbered(word, 'b', 0, 127), number_of_condition(bit, 0, 63))
+    both(
+        numbered(&text[..dot], b'b', 0, 127),
+        number_of_condition(&text[dot + 1..], 0, 63),
+    )
 }
 
 /// How a wait sleeps: `plain`, `int`, `kill`, and exclusive as `int-ex`, `kill-ex`.
-pub fn how(word: &str) -> Result<How, u8>
+pub fn how(word: &[u8]) -> Result<How, u8>
     ensures { result ≡ spec.how_at word.now }
 {
     let (state, exclusive) = match word {
-        "plain" => (SleepState::Uninterruptible, false),
-        "int" => (SleepState::Interruptible, false),
-        "kill" => (SleepState::Killable, false),
-        "int-ex" => (SleepState::Interruptible, true),
-        "kill-ex" => (SleepState::Killable, true),
+        b"plain" => (SleepState::Uninterruptible, false),
+        b"int" => (SleepState::Interruptible, false),
+        b"kill" => (SleepState::Killable, false),
+        b"int-ex" => (SleepState::Interruptible, true),
+        b"kill-ex" => (SleepState::Killable, true),
         _ => return Err(BAD_FORM),
     };
     Ok(How { state, exclusive })
 }
 
 /// The state in which a task sleeps: `plain`, `int` or `kill`.
-pub fn state(word: &str) -> Result<SleepState, u8>
+pub fn state(word: &[u8]) -> Result<SleepState, u8>
     ensures { result ≡ spec.state_at word.now }
 {
     match word {
-        "plain" => Ok(SleepState::Uninterruptible),
-        "int" => Ok(SleepState::Interruptible),
-        "kill" => Ok(SleepState::Killable),
+        b"plain" => Ok(SleepState::Uninterruptible),
+        b"int" => Ok(SleepState::Interruptible),
+        b"kill" => Ok(SleepState::Killable),
         _ => Err(BAD_FORM),
     }
 }
 
 /// The state in which a task sleeps on a simple queue: `plain` or `int`.
-pub fn simple_state(word: &str) -> Result<SleepState, u8>
+pub fn simple_state(word: &[u8]) -> Result<SleepState, u8>
     ensures { result ≡ spec.simple_state_at word.now }
 {
     match word {
-        "plain" => Ok(SleepState::Uninterruptible),
-        "int" => Ok(SleepState::Interruptible),
+        b"plain" => Ok(SleepState::Uninterruptible),
+        b"int" => Ok(SleepState::Interruptible),
         _ => Err(BAD_FORM),
     }
 }
 
 /// Which states a wake meets: `normal` or `int`.
-pub fn mode(word: &str) -> Result<Mode, u8>
+pub fn mode(word: &[u8]) -> Result<Mode, u8>
     ensures { result ≡ spec.mode_at word.now }
 {
     match word {
-        "normal" => Ok(Mode::Normal),
-        "int" => Ok(Mode::Interruptible),
+        b"normal" => Ok(Mode::Normal),
+        b"int" => Ok(Mode::Interruptible),
         _ => Err(BAD_FORM),
     }
 }
 
 /// The kind of an entry that is added: `default` or `woken`.
-pub fn kind(word: &str) -> Result<Kind, u8>
+pub fn kind(word: &[u8]) -> Result<Kind, u8>
     ensures { result ≡ spec.kind_at word.now }
 {
     match word {
-        "default" => Ok(Kind::Default),
-        "woken" => Ok(Kind::Woken),
+        b"default" => Ok(Kind::Default),
+        b"woken" => Ok(Kind::Woken),
         _ => Err(BAD_FORM),
     }
 }
 
 /// Where an entry is added: `front`, `tail` or `prio`.
-pub fn form(word: &str) -> Result<Form, u8>
+pub fn form(word: &[u8]) -> Result<Form, u8>
     ensures { result ≡ spec.form_at word.now }
 {
     match word {
-        "front" => Ok(Form::Front),
-        "tail" => Ok(Form::Tail),
-        "prio" => Ok(Form::Priority),
+        b"front" => Ok(Form::Front),
+        b"tail" => Ok(Form::Tail),
+        b"prio" => Ok(Form::Priority),
         _ => Err(BAD_FORM),
     }
 }
 
 /// Whether a signal is fatal: `plain` or `fatal`.
-pub fn fatal(word: &str) -> Result<bool, u8>
+pub fn fatal(word: &[u8]) -> Result<bool, u8>
     ensures { result ≡ spec.fatal_at word.now }
 {
     match word {
-        "plain" => Ok(false),
-        "fatal" => Ok(true),
+        b"plain" => Ok(false),
+        b"fatal" => Ok(true),
         _ => Err(BAD_FORM),
     }
 }
 
 /// Whether a wake of a simple queue wakes all: `one` or `all`.
-pub fn all(word: &str) -> Result<bool, u8>
+pub fn all(word: &[u8]) -> Result<bool, u8>
     ensures { result ≡ spec.all_at word.now }
 {
     match word {
-        "one" => Ok(false),
-        "all" => Ok(true),
+        b"one" => Ok(false),
+        b"all" => Ok(true),
         _ => Err(BAD_FORM),
     }
 }

@@ -1,7 +1,8 @@
 //! The forms of the calls on plain conditions and tasks, and the calls by their names: for each name, what the
 //! words behind it say.
 
-ghost use Rattle.std.specs.Prelude.{◌≡◌, map};
+ghost use Rattle.std.specs.Prelude.{◌≡◌, map, codes};
+ghost use Rattle.std.specs.Str.{bytes_eq};
 ghost use Rattle.wait_script.specs.Forms as spec;
 
 use crate::cells::{
@@ -24,7 +25,7 @@ const LAST_COND: u8 = 63;
 const MOST_WOKEN: u32 = 127;
 
 /// `remove` and `accept`, which have no words behind their names.
-fn alone(words: &[&str], call: Call) -> Result<Call, u8>
+fn alone(words: &[&[u8]], call: Call) -> Result<Call, u8>
     ensures { result ≡ spec.form0 call (map (λ w. w.now) words.now) }
 {
     if words.is_empty() {
@@ -36,7 +37,7 @@ fn alone(words: &[&str], call: Call) -> Result<Call, u8>
 
 /// `wait CONDITION HOW`, by the words behind the name.
 #[tactic(auto, using(crate::proofs::Counts::few2))]
-fn wait(words: &[&str]) -> Result<Call, u8>
+fn wait(words: &[&[u8]]) -> Result<Call, u8>
     ensures { result ≡ spec.wait_at (map (λ w. w.now) words.now) }
 {
     let [cond, form] = words else {
@@ -48,7 +49,7 @@ fn wait(words: &[&str]) -> Result<Call, u8>
 
 /// `set CONDITION VALUE`, by the words behind the name.
 #[tactic(auto, using(crate::proofs::Counts::few2))]
-fn set(words: &[&str]) -> Result<Call, u8>
+fn set(words: &[&[u8]]) -> Result<Call, u8>
     ensures { result ≡ spec.set_at (map (λ w. w.now) words.now) }
 {
     let [cond, number] = words else {
@@ -60,7 +61,7 @@ fn set(words: &[&str]) -> Result<Call, u8>
 
 /// `take CONDITION`, by the words behind the name.
 #[tactic(auto, using(crate::proofs::Counts::few1))]
-fn take(words: &[&str]) -> Result<Call, u8>
+fn take(words: &[&[u8]]) -> Result<Call, u8>
     ensures { result ≡ spec.take_at (map (λ w. w.now) words.now) }
 {
     let [cond] = words else {
@@ -72,7 +73,7 @@ fn take(words: &[&str]) -> Result<Call, u8>
 
 /// `read CONDITION`, by the words behind the name.
 #[tactic(auto, using(crate::proofs::Counts::few1))]
-fn read(words: &[&str]) -> Result<Call, u8>
+fn read(words: &[&[u8]]) -> Result<Call, u8>
     ensures { result ≡ spec.read_at (map (λ w. w.now) words.now) }
 {
     let [cond] = words else {
@@ -84,7 +85,7 @@ fn read(words: &[&str]) -> Result<Call, u8>
 
 /// `wake CONDITION MODE COUNT`, by the words behind the name.
 #[tactic(auto, using(crate::proofs::Counts::few3))]
-fn wake(words: &[&str]) -> Result<Call, u8>
+fn wake(words: &[&[u8]]) -> Result<Call, u8>
     ensures { result ≡ spec.wake_at (map (λ w. w.now) words.now) }
 {
     let [cond, by, number] = words else {
@@ -99,7 +100,7 @@ fn wake(words: &[&str]) -> Result<Call, u8>
 
 /// `add CONDITION KIND FORM`, by the words behind the name.
 #[tactic(auto, using(crate::proofs::Counts::few3))]
-fn add(words: &[&str]) -> Result<Call, u8>
+fn add(words: &[&[u8]]) -> Result<Call, u8>
     ensures { result ≡ spec.add_at (map (λ w. w.now) words.now) }
 {
     let [cond, of, place] = words else {
@@ -111,7 +112,7 @@ fn add(words: &[&str]) -> Result<Call, u8>
 
 /// `woken STATE`, by the words behind the name.
 #[tactic(auto, using(crate::proofs::Counts::few1))]
-fn woken(words: &[&str]) -> Result<Call, u8>
+fn woken(words: &[&[u8]]) -> Result<Call, u8>
     ensures { result ≡ spec.woken_at (map (λ w. w.now) words.now) }
 {
     let [word] = words else {
@@ -123,7 +124,7 @@ fn woken(words: &[&str]) -> Result<Call, u8>
 
 /// `signal TASK FORM`, by the words behind the name.
 #[tactic(auto, using(crate::proofs::Counts::few2))]
-fn signal(words: &[&str]) -> Result<Call, u8>
+fn signal(words: &[&[u8]]) -> Result<Call, u8>
     ensures { result ≡ spec.signal_at (map (λ w. w.now) words.now) }
 {
     let [to, form] = words else {
@@ -135,7 +136,7 @@ fn signal(words: &[&str]) -> Result<Call, u8>
 
 /// `kick TASK`, by the words behind the name.
 #[tactic(auto, using(crate::proofs::Counts::few1))]
-fn kick(words: &[&str]) -> Result<Call, u8>
+fn kick(words: &[&[u8]]) -> Result<Call, u8>
     ensures { result ≡ spec.kick_at (map (λ w. w.now) words.now) }
 {
     let [to] = words else {
@@ -146,45 +147,59 @@ fn kick(words: &[&str]) -> Result<Call, u8>
 }
 
 /// A call by its name and the words behind it.
-pub fn named(name: &str, rest: &[&str]) -> Result<Call, u8>
+pub fn named(name: &[u8], rest: &[&[u8]]) -> Result<Call, u8>
     ensures { result ≡ spec.named_at name.now (map (λ w. w.now) rest.now) }
 {
     match name {
-        "wait" => wait(rest),
-        "set" => set(rest),
-        "take" => take(rest),
-        "read" => read(rest),
-        "wake" => wake(rest),
-        "add" => add(rest),
-        "remove" => alone(rest, Call::Remove),
-        "woken" => woken(rest),
-        "signal" => signal(rest),
-        "accept" => alone(rest, Call::Accept),
-        "kick" => kick(rest),
-        "swait" => simple_wait(rest),
-        "swake" => simple_wake(rest),
-        "complete" => complete(rest),
-        "completeall" => complete_all(rest),
-        "reinit" => reinit(rest),
-        "waitfor" => wait_for(rest),
-        "trywait" => try_wait(rest),
-        "isdone" => is_done(rest),
-        "trybit" => try_bit(rest),
-        "waitbit" => wait_bit(rest),
-        "lockbit" => lock_bit(rest),
-        "clearbit" => clear_bit(rest),
-        "waitvar" => wait_var(rest),
-        "setvar" => set_var(rest),
+        b"wait" => wait(rest),
+        b"set" => set(rest),
+        b"take" => take(rest),
+        b"read" => read(rest),
+        b"wake" => wake(rest),
+        b"add" => add(rest),
+        b"remove" => alone(rest, Call::Remove),
+        b"woken" => woken(rest),
+        b"signal" => signal(rest),
+        b"accept" => alone(rest, Call::Accept),
+        b"kick" => kick(rest),
+        b"swait" => simple_wait(rest),
+        b"swake" => simple_wake(rest),
+        b"complete" => complete(rest),
+        b"completeall" => complete_all(rest),
+        b"reinit" => reinit(rest),
+        b"waitfor" => wait_for(rest),
+        b"trywait" => try_wait(rest),
+        b"isdone" => is_done(rest),
+        b"trybit" => try_bit(rest),
+        b"waitbit" => wait_bit(rest),
+        b"lockbit" => lock_bit(rest),
+        b"clearbit" => clear_bit(rest),
+        b"waitvar" => wait_var(rest),
+        b"setvar" => set_var(rest),
         _ => Err(UNKNOWN_WORD),
     }
 }
 
+/// Whether a call's name is `add`.
+fn is_add(name: &[u8]) -> bool
+    ensures { result ≡ bytes_eq name.now (codes "add") }
+{
+    matches!(name, b"add")
+}
+
+/// Whether a word is `prio`.
+fn is_prio(word: &[u8]) -> bool
+    ensures { result ≡ bytes_eq word.now (codes "prio") }
+{
+    matches!(word, b"prio")
+}
+
 /// The last task that may make a call: an `add` with priority is for the first tasks alone.
-pub fn last_of(name: &str, rest: &[&str]) -> u8
+pub fn last_of(name: &[u8], rest: &[&[u8]]) -> u8
     ensures { result ≡ spec.last_of name.now (map (λ w. w.now) rest.now) }
 {
     match rest {
-        [_, _, form, ..] if name == "add" && *form == "prio" => LAST_PRIORITY_TASK,
+        [_, _, form, ..] if is_add(name) && is_prio(form) => LAST_PRIORITY_TASK,
         _ => LAST_TASK,
     }
 }

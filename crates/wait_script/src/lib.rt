@@ -8,8 +8,10 @@ mod fields;
 mod forms;
 mod line;
 mod number;
+mod pieces;
 mod reader;
 mod script;
+mod steps;
 mod summary;
 #[cfg(test)]
 mod tests;
@@ -20,6 +22,7 @@ mod writer;
 
 pub use ending::write_end;
 pub use line::Line;
+pub use pieces::LINE_ROOM;
 pub use reader::{asked, read_script};
 pub use script::{ReadScript, Script};
-pub use writer::{LINE_ROOM, write_refused, write_shown, write_step};
+pub use writer::{write_refused, write_shown, write_step};

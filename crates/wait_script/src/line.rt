@@ -8,9 +8,8 @@ ghost use Rattle.wait_script.specs.Lines.{step_at, call_at, words_at, is_printab
 use crate::fields::{LAST_TASK, count, task};
 use crate::forms::{last_of, named};
 use crate::why::{BAD_BYTE, LONG_LINE, NO_HEADER, UNKNOWN_WORD, WORD_COUNT};
-use crate::words::{both, words};
-use std::alloc::{AllocError, Global};
-use std::str;
+use crate::words::{both, split};
+use std::alloc::AllocError;
 use wait_model::calls::Call;
 
 /// The most bytes of a line, without its line feed.
@@ -27,7 +26,7 @@ pub enum Line {
 
 /// `step TASK COUNT`, by the words behind the first.
 #[tactic(auto, using(crate::proofs::Counts::few_step))]
-fn step(words: &[&str]) -> Result<Line, u8>
+fn step(words: &[&[u8]]) -> Result<Line, u8>
     ensures { result ≡ step_at (map (λ w. w.now) words.now) }
 {
     let [who, number] = words else {
@@ -39,7 +38,7 @@ fn step(words: &[&str]) -> Result<Line, u8>
 
 /// `call TASK NAME ..`, by the words behind the first.
 #[tactic(auto, using(crate::proofs::Counts::few_call))]
-fn call(words: &[&str]) -> Result<Line, u8>
+fn call(words: &[&[u8]]) -> Result<Line, u8>
     ensures { result ≡ call_at (map (λ w. w.now) words.now) }
 {
     let [who, name, rest @ ..] = words else {
@@ -50,15 +49,15 @@ fn call(words: &[&str]) -> Result<Line, u8>
 }
 
 /// A line by its words.
-fn by_words(words: &[&str]) -> Result<Line, u8>
+fn by_words(words: &[&[u8]]) -> Result<Line, u8>
     ensures { result ≡ words_at (map (λ w. w.now) words.now) }
 {
     let [verb, rest @ ..] = words else {
         return Err(UNKNOWN_WORD);
     };
     match *verb {
-        "call" => call(rest),
-        "step" => step(rest),
+        b"call" => call(rest),
+        b"step" => step(rest),
         _ => Err(UNKNOWN_WORD),
     }
 }
@@ -77,14 +76,6 @@ fn is_header(line: &[u8]) -> bool
     line == b"waitq 1".as_slice()
 }
 
-/// The text of plain bytes.
-fn plain_text(line: &[u8]) -> &str
-    requires { IsTrue (list_all is_printable line.now) }
-    ensures { result.now ≡ line.now }
-{
-    str::from_utf8(line).unwrap()
-}
-
 /// Whether line 1 is the header, or the first reason why it is bad.
 pub fn read_header(line: &[u8]) -> Result<(), u8>
     ensures { result ≡ header_at line.now }
@@ -100,16 +91,18 @@ pub fn read_header(line: &[u8]) -> Result<(), u8>
     }
 }
 
-/// What a line behind the header says, or the first reason why it is bad.
-pub fn read_line(alloc: Global, line: &[u8]) -> Result<Result<Line, u8>, AllocError>
+/// What a line behind the header says, or the first reason why it is bad. `words` is room for its words.
+pub fn read_line<'a>(
+    words: &mut Vec<&'a [u8]>,
+    line: &'a [u8],
+) -> Result<Result<Line, u8>, AllocError>
     ensures { IfOk result (λ r. r ≡ line_at line.now) }
 {
     if line.len() > MAX_LINE {
         return Ok(Err(LONG_LINE));
     }
-    if !is_printable_line(line) {
+    if !split(words, line)? {
         return Ok(Err(BAD_BYTE));
     }
-    let words = words(alloc, plain_text(line))?;
-    Ok(by_words(&words))
+    Ok(by_words(words))
 }

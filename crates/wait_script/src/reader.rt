@@ -5,11 +5,13 @@ ghost use Rattle.wait_script.specs.declared.line.Line.{Line};
 ghost use Rattle.wait_script.specs.Lines.{count_of};
 ghost use Rattle.wait_script.specs.Spelling.{script_text, IsFit};
 ghost use Rattle.wait_script.specs.Script.{is_end, parts_of, lines_from, script_of, AnswersAs, IsReadAs};
+ghost use Rattle.wait_script.specs.Reading.{IsFirst};
 
 use crate::line::{Line, read_header, read_line};
 use crate::script::{ReadScript, Script};
+use crate::steps::first_step;
 use crate::why::{CUT_LINE, NO_HEADER};
-use std::alloc::Global;
+use std::alloc::{AllocError, Global};
 
 /// Where the first line ends, if it has an end.
 fn line_end(bytes: &[u8]) -> Option<usize>
@@ -28,16 +30,37 @@ fn first_line(bytes: &[u8]) -> Option<(&[u8], &[u8])>
     Some((&bytes[..end], &bytes[end + 1..]))
 }
 
+/// The first line, if it has an end, and what follows its end: what it says, or the first reason why it is bad.
+/// `words` is room for its words.
+fn next_line<'a>(
+    words: &mut Vec<&'a [u8]>,
+    bytes: &'a [u8],
+) -> Result<Option<(Result<Line, u8>, &'a [u8])>, AllocError>
+    ensures some { IfOk result (λ next. IfSome next (λ p. IsFirst bytes.now p.0 p.1.now)) }
+    ensures shorter { IfOk result (λ next. IfSome next (λ p. length p.1.now < length bytes.now)) }
+    ensures none { IfOk result (λ next. IfNone next (parts_of bytes.now ≡ bytes.now ∷ [])) }
+{
+    if let Some((line, more)) = first_step(bytes) {
+        return Ok(Some((Ok(line), more)));
+    }
+    let Some((line, more)) = first_line(bytes) else {
+        return Ok(None);
+    };
+    let line = read_line(words, line)?;
+    Ok(Some((line, more)))
+}
+
 /// The lines behind the header.
 fn read_lines(alloc: Global, bytes: &[u8]) -> Result<Vec<Line>, ReadScript>
     requires { length bytes.now ≤ 1048576 }
     ensures { AnswersAs (λ v. v.items) result (lines_from 2 (parts_of bytes.now)) }
 {
     let mut lines = Vec::new(alloc);
+    let mut words = Vec::new(alloc);
     let mut number = 2;
     let mut rest = bytes;
-    'lines: while let Some((line, more)) = first_line(rest) {
-        match read_line(alloc, line)? {
+    'lines: while let Some((line, more)) = next_line(&mut words, rest)? {
+        match line {
             Ok(line) => lines.push(line)?,
             Err(why) => return Err(ReadScript::Bad { line: number, why }),
         }

@@ -1,134 +1,112 @@
 //! The texts of end lines.
 
-ghost use Rattle.std.specs.Prelude.{◌++◌, codes, decimal, Some};
+ghost use Rattle.std.specs.Prelude.{◌≡◌, ◌+◌, ◌≤◌, ◌<◌, ◌^◌, ◌++◌, codes, decimal};
 ghost use Rattle.std.specs.declared.option.Option.TheVariants as option;
+ghost use Rattle.arrayvec.specs.ArrayVec.{array_vec_len};
 ghost use Rattle.wait_script.specs.Ending.{events_text, signal_text, act_text, task_text, member_text, word_text};
 
-use crate::text::{CondText, StateText};
-use std::fmt;
+use crate::pieces::{LineText, push_number, push_short, push_text};
+use crate::text::{push_cond, push_state};
 use wait_model::queues::Member;
 use wait_model::tasks::Task;
 
-/// The line of the number of events.
-#[derive(Clone, Copy)]
-pub struct EventsText(pub u32);
+/// Puts the line of the number of events behind a text.
+pub fn push_events(line: &mut LineText, events: u32)
+    requires { array_vec_len line.old + 28 ≤ 160 }
+    ensures text { line.new.items ≡ line.old.items ++ events_text events }
+    ensures len { array_vec_len line.new ≤ array_vec_len line.old + 28 }
+{
+    push_text(line, b"events ");
+    push_number(line, events.into());
+    push_text(line, b"\n");
+}
 
-impl fmt::Display for EventsText {
-    ghost output = { λ e. Some (events_text e.0) };
-
-    fn fmt<W: fmt::Write>(&self, f: &mut fmt::Formatter<W>) -> fmt::Result {
-        writeln!(f, "events {}", self.0)
+/// Puts the signal that a task has pending behind a text.
+fn push_signal(line: &mut LineText, shown: &Task)
+    requires { array_vec_len line.old + 5 ≤ 160 }
+    ensures text { line.new.items ≡ line.old.items ++ signal_text shown.now }
+    ensures len { array_vec_len line.new ≤ array_vec_len line.old + 5 }
+{
+    if shown.fatal {
+        push_text(line, b"fatal");
+    } else if shown.signal {
+        push_text(line, b"plain");
+    } else {
+        push_text(line, b"none");
     }
 }
 
-/// The signal that a task has pending.
-#[derive(Clone, Copy)]
-struct SignalText(Task);
-
-impl fmt::Display for SignalText {
-    ghost output = { λ s. Some (signal_text s.0) };
-
-    fn fmt<W: fmt::Write>(&self, f: &mut fmt::Formatter<W>) -> fmt::Result {
-        if self.0.fatal {
-            write!(f, "fatal")
-        } else if self.0.signal {
-            write!(f, "plain")
-        } else {
-            write!(f, "none")
-        }
+/// Puts behind a text what a task does: its call is ended, or open while it sleeps or can run.
+fn push_act(line: &mut LineText, is_open: bool, runnable: bool)
+    requires { array_vec_len line.old + 6 ≤ 160 }
+    ensures text { line.new.items ≡ line.old.items ++ act_text is_open runnable }
+    ensures len { array_vec_len line.new ≤ array_vec_len line.old + 6 }
+{
+    match (is_open, runnable) {
+        (true, true) => push_text(line, b"open"),
+        (true, false) => push_text(line, b"asleep"),
+        (false, _) => push_text(line, b"idle"),
     }
 }
 
-/// What a task does: its call is ended, or open while it sleeps or can run.
-#[derive(Clone, Copy)]
-struct ActText {
-    is_open: bool,
-    runnable: bool,
+/// Puts the end line of a task that had a call opened behind a text.
+pub fn push_task_end(line: &mut LineText, task: u8, is_open: bool, shown: &Task)
+    requires { array_vec_len line.old + 30 ≤ 160 }
+    ensures text { line.new.items ≡ line.old.items ++ task_text task (option.Some is_open) shown.now }
+    ensures len { array_vec_len line.new ≤ array_vec_len line.old + 30 }
+{
+    push_text(line, b"task ");
+    push_short(line, task.into());
+    push_text(line, b" ");
+    push_state(line, shown.state);
+    push_text(line, b" ");
+    push_signal(line, shown);
+    push_text(line, b" ");
+    push_act(line, is_open, shown.runnable);
+    push_text(line, b"\n");
 }
 
-impl fmt::Display for ActText {
-    ghost output = { λ s. Some (act_text s.is_open s.runnable) };
-
-    fn fmt<W: fmt::Write>(&self, f: &mut fmt::Formatter<W>) -> fmt::Result {
-        match (self.is_open, self.runnable) {
-            (true, true) => write!(f, "open"),
-            (true, false) => write!(f, "asleep"),
-            (false, _) => write!(f, "idle"),
-        }
-    }
-}
-
-/// The line of a task that had a call opened.
-#[derive(Clone, Copy)]
-pub struct TaskText {
-    pub task: u8,
-    pub is_open: bool,
-    pub shown: Task,
-}
-
-impl fmt::Display for TaskText {
-    ghost output = { λ s. Some (task_text s.task (option.Some s.is_open) s.shown) };
-
-    fn fmt<W: fmt::Write>(&self, f: &mut fmt::Formatter<W>) -> fmt::Result {
-        let state = StateText(self.shown.state);
-        let act = ActText {
-            is_open: self.is_open,
-            runnable: self.shown.runnable,
-        };
-        writeln!(
-            f,
-            "task {} {state} {} {act}",
-            self.task,
-            SignalText(self.shown)
-        )
-    }
-}
-
-/// The front of a head's line.
-#[derive(Clone, Copy)]
-pub struct HeadText(pub u16);
-
-impl fmt::Display for HeadText {
-    ghost output = { λ h. Some (codes "head h" ++ decimal h.0) };
-
-    fn fmt<W: fmt::Write>(&self, f: &mut fmt::Formatter<W>) -> fmt::Result {
-        write!(f, "head h{}", self.0)
-    }
+/// Puts the front of a head's line behind a text.
+pub fn push_head_front(line: &mut LineText, head: u16)
+    requires { array_vec_len line.old + 11 ≤ 160 }
+    ensures text { line.new.items ≡ line.old.items ++ codes "head h" ++ decimal head }
+    ensures len { array_vec_len line.new ≤ array_vec_len line.old + 11 }
+{
+    push_text(line, b"head h");
+    push_short(line, head);
 }
 
 /// The members below this number are entries, two of each task; those from it on are bookmarks, one of each task.
 const FIRST_BOOKMARK: u16 = 256;
 
-/// A member of a head's line: an entry by the task whose it is, a bookmark by its task behind a star.
-#[derive(Clone, Copy)]
-pub struct MemberText(pub Member);
-
-impl fmt::Display for MemberText {
-    ghost output = { λ m. Some (member_text m.0) };
-
-    fn fmt<W: fmt::Write>(&self, f: &mut fmt::Formatter<W>) -> fmt::Result {
-        if self.0.at < FIRST_BOOKMARK {
-            write!(f, " t{}", self.0.owner())
-        } else {
-            write!(f, " *t{}", self.0.at - FIRST_BOOKMARK)
-        }
+/// Puts a member of a head's line behind a text: an entry by the task whose it is, a bookmark by its task behind
+/// a star.
+pub fn push_member(line: &mut LineText, member: &Member)
+    requires { array_vec_len line.old + 8 ≤ 160 }
+    ensures text { line.new.items ≡ line.old.items ++ member_text member.now }
+    ensures len { array_vec_len line.new ≤ array_vec_len line.old + 8 }
+{
+    if member.at < FIRST_BOOKMARK {
+        push_text(line, b" t");
+        push_short(line, member.owner().into());
+    } else {
+        push_text(line, b" *t");
+        push_short(line, member.at - FIRST_BOOKMARK);
     }
 }
 
-/// The line of a condition word, or nothing where it is 0.
-#[derive(Clone, Copy)]
-pub struct WordText {
-    pub cond: u16,
-    pub value: u64,
-}
-
-impl fmt::Display for WordText {
-    ghost output = { λ w. Some (word_text w.cond w.value) };
-
-    fn fmt<W: fmt::Write>(&self, f: &mut fmt::Formatter<W>) -> fmt::Result {
-        if self.value == 0 {
-            return Ok(());
-        }
-        writeln!(f, "word {} {}", CondText(self.cond), self.value)
+/// Puts the line of a condition word behind a text, or nothing where the word is 0.
+pub fn push_word(line: &mut LineText, cond: u16, value: u64)
+    requires { array_vec_len line.old + 33 ≤ 160 }
+    ensures text { line.new.items ≡ line.old.items ++ word_text cond value }
+    ensures len { array_vec_len line.new ≤ array_vec_len line.old + 33 }
+{
+    if value == 0 {
+        return;
     }
+    push_text(line, b"word ");
+    push_cond(line, cond);
+    push_text(line, b" ");
+    push_number(line, value);
+    push_text(line, b"\n");
 }

@@ -5,15 +5,13 @@ ghost use Rattle.edge_io.specs.Faults.{HasRisen};
 ghost use Rattle.edge_io.specs.Text.{WritesText};
 ghost use Rattle.wait_script.specs.Text.{step_text, refused_text};
 
-use crate::text::{RefusedText, StepText};
+use crate::pieces::{LINE_ROOM, LineText};
+use crate::text::{push_refused, push_step};
 use arrayvec::ArrayString;
 use edge_io::{Sink, SinkFault, write_all};
 use std::fmt;
 use std::fmt::{Display, Write};
 use wait_core::engine::{StartFault, Stepped};
-
-/// The most bytes of a text that is written at once: the lines of one step, or one other line.
-pub const LINE_ROOM: usize = 160;
 
 /// What a value shows, of at most `LINE_ROOM` bytes.
 fn text_of<D: Display>(shown: &D) -> Result<ArrayString<LINE_ROOM>, fmt::Error>
@@ -47,7 +45,9 @@ pub fn write_step<K: Sink>(out: &mut K, task: u8, stepped: &Stepped) -> Result<(
     ensures cause { IsErrOf result SinkFault.Failed → HasRisen (K.faults out.old) (K.faults out.new) }
     ensures later { K.faults out.old ≤ K.faults out.new }
 {
-    write_shown(out, &StepText(task, *stepped))
+    let mut line = LineText::new();
+    push_step(&mut line, task, stepped);
+    write_all(out, line.as_slice())
 }
 
 /// Writes the line of a call that isn't opened.
@@ -56,5 +56,7 @@ pub fn write_refused<K: Sink>(out: &mut K, task: u8, fault: StartFault) -> Resul
     ensures cause { IsErrOf result SinkFault.Failed → HasRisen (K.faults out.old) (K.faults out.new) }
     ensures later { K.faults out.old ≤ K.faults out.new }
 {
-    write_shown(out, &RefusedText(task, fault))
+    let mut line = LineText::new();
+    push_refused(&mut line, task, fault);
+    write_all(out, line.as_slice())
 }

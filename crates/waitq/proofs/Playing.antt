@@ -1,38 +1,10 @@
 -- One step, and one line, of a replay's text.
-use Rattle.std.proofs.Common.{
-  ◌≡◌,
-  ℕ,
-  suc,
-  ◌+◌,
-  ◌-◌,
-  ◌<◌,
-  ◌≤◌,
-  Bool,
-  true,
-  false,
-  cond,
-  List,
-  [],
-  ◌∷◌,
-  ◌++◌,
-  length,
-  drop,
-  get_or,
-  Option,
-  refl,
-  ap,
-  sym,
-  ◌∙◌,
-  arith,
-  add-one,
-  drop-cons,
-  append_assoc,
-}
+use Rattle.std.proofs.Common.{◌≡◌, ℕ, suc, ◌+◌, ◌-◌, ◌<◌, ◌≤◌, Bool, true, false, cond, List, [], ◌∷◌, ◌++◌, length, drop, get_or, Option, Result, Ok, Err, OnOk, refl, ap, sym, ◌∙◌, arith, add-one, drop-cons}
 use Rattle.std.proofs.lemmas.List.{append-nil}
 use Rattle.std.proofs.lemmas.Grind.{common_steps}
-use Rattle.std.specs.Io.KnownBytes.{append_known}
-use Rattle.edge_io.specs.Text.{Midway}
-use Rattle.edge_io.proofs.Known.{append_known-twice}
+use Rattle.edge_io.specs.Text.{Midway, WritesText}
+use Rattle.edge_io.proofs.Prefix.{finished}
+use Rattle.edge_io.proofs.Sending.{emptied, stuck}
 use Rattle.wait_model.specs.declared.calls.Ran.{Ran}
 use Rattle.wait_core.specs.declared.engine.Stepped.{Stepped}
 use Rattle.wait_script.specs.declared.line.Line.{Line}
@@ -102,22 +74,19 @@ replay-at lines i d run lt =
     let cut : drop i lines ≡ get_or lines i d ∷ drop (i + 1) lines = rw (add-one) (drop-cons lines i d lt) in
     ap (replay_from run) cut
 
-pub no_lines : (lines : List Line) (i : ℕ) (run : List Ran) → length lines ≤ i
-    → replay_from run (drop i lines) ≡ end_text run
-no_lines lines i run le = let none : drop i lines ≡ [] = grind (arith, common_steps)
-    in ap (replay_from run) none
+-- behind the last line
+pub last_text : (lines : List Line) (i : ℕ) (run : List Ran) → length lines ≤ i
+    → replay_from run (drop i lines) ≡ end_text run ++ []
+last_text lines i run le = let none : drop i lines ≡ [] = grind (arith, common_steps)
+    in ap (replay_from run) none ∙ sym (append-nil (end_text run))
 
--- what was in the buffer went out, up to what is in it now
-pub sent_on : (old now new : Option (List ℕ)) (buffer after left text : List ℕ)
-    → Midway old now (buffer ++ left) text
-    → Midway now new after buffer → Midway old new (after ++ left) text
-sent_on old now new buffer after left text m sent = record {
-  front = m.front ++ sent.front;
-  whole = m.whole ∙ ap (λ xs. m.front ++ (xs ++ left)) sent.whole
-      ∙ ap (λ xs. m.front ++ xs) (append_assoc sent.front after left)
-      ∙ sym (append_assoc m.front sent.front (after ++ left));
-  held = sent.held ∙ ap (λ o. append_known o sent.front) m.held ∙ append_known-twice old m.front sent.front;
-}
+-- what was in the buffer goes out last
+pub drained : {T E : Type 0} (r : Result T E) (old now new : Option (List ℕ)) (buffer after text : List ℕ)
+    → Midway old now (buffer ++ []) text → Midway now new after buffer → OnOk r (after ≡ [])
+    → WritesText old new text r
+drained (Ok x) old now new buffer after text m sent empty =
+    finished old new [] text (emptied old now new buffer after [] text m sent empty) refl
+drained (Err e) old now new buffer after text m sent empty = stuck old now new buffer after [] text m sent
 
 -- nothing is to come any more
 pub all_sent : (old now : Option (List ℕ)) (buffer text : List ℕ) → Midway old now (buffer ++ []) text

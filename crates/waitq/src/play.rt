@@ -8,6 +8,7 @@ ghost use Rattle.wait_model.specs.Admission.{IsListed};
 ghost use Rattle.wait_script.specs.Fields.{last_task};
 ghost use Rattle.wait_script.specs.Spelling.{IsFit};
 ghost use Rattle.wait_script.specs.Text.{step_text, refused_text};
+ghost use Rattle.wait_script.specs.Ending.{end_text};
 ghost use Rattle.wait_script.specs.Replay.{stops, steps_of, opening_of, replay_line, replay_from};
 
 use edge_io::{Buffer, Sink, SinkFault};
@@ -125,6 +126,16 @@ fn play_line<K: Sink>(
     }
 }
 
+/// Puts the end lines into the buffer, after it was emptied: they always fit into an empty one.
+fn print_end<K: Sink>(core: &Core, out: &mut K, buffer: &mut Buffer) -> Result<(), SinkFault>
+    ensures text { BuffersText (K.held out.old) buffer.old (K.held out.new) buffer.new (end_text core.now) result }
+    ensures cause { IsErrOf result SinkFault.Failed → HasRisen (K.faults out.old) (K.faults out.new) }
+    ensures later { K.faults out.old ≤ K.faults out.new }
+{
+    buffer.flush(out)?;
+    write_end(buffer, core)
+}
+
 /// Plays the lines and writes their texts, behind what is in the buffer, and then the end lines.
 pub fn play<K: Sink>(
     core: &mut Core,
@@ -140,6 +151,6 @@ pub fn play<K: Sink>(
     for line in lines {
         play_line(core, out, buffer, *line)?;
     }
-    buffer.flush(out)?;
-    write_end(out, core)
+    print_end(core, out, buffer)?;
+    buffer.flush(out)
 }

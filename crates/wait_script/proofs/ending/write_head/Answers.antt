@@ -6,13 +6,13 @@ use Rattle.wait_model.specs.Runs.{state_of}
 use Rattle.wait_script.proofs.Endings.{head_line, piece, no_rest, fits_of}
 use Rattle.wait_script.proofs.ending.write_head.Goals as goal
 
-pub returns-in_err-write_shown-clause-text : goal.returns-in_err-write_shown-clause-text
-returns-in_err-write_shown-clause-text g c =
+pub returns-in_err-write_head_front-clause-text : goal.returns-in_err-write_head_front-clause-text
+returns-in_err-write_head_front-clause-text g c =
     let p = err_from_is_err_and c.from_residual.result c.from_residual.ensures.1 in
     rw p.1 (broke_off _ _ _ _ _ _ _ (begun (g.K.Sink.held c.args.out.now) _)
     (head_line c.args.head _ _ c.member_from-next.ensures.member c.is_none.result c.is_none.ensures
     c.if-is_none.false)
-    c.in_err-write_shown.ensures.text)
+    c.in_err-write_head_front.ensures.text)
 
 pub members-init : goal.members-init
 members-init g c = record {
@@ -22,22 +22,22 @@ members-init g c = record {
     midway = went_on _ _ _ _ _ _ _ (begun (g.K.Sink.held c.args.out.now) _)
         (head_line c.args.head _ _ c.member_from-next.ensures.member c.is_none.result c.is_none.ensures
         c.if-is_none.false)
-        c.in_ok-write_shown.ensures.text;
+        c.in_ok-write_head_front.ensures.text;
   };
   fits = fits_of 0 c.member_from-next.result c.member_from-next.ensures.fits;
-  later = omega (arith, c.write_shown.ensures.later);
+  later = omega (arith, c.write_head_front.ensures.later);
 }
 
-pub returns-in_err-write_shown-2-clause-text : goal.returns-in_err-write_shown-2-clause-text
-returns-in_err-write_shown-2-clause-text g c =
+pub returns-in_err-write_member-clause-text : goal.returns-in_err-write_member-clause-text
+returns-in_err-write_member-clause-text g c =
     let part = c.members.invariant.partway in
-    let r = c.from_residual-in_err-write_shown-2 in
+    let r = c.from_residual-in_err-write_member in
     let p = err_from_is_err_and r.result r.ensures.1 in
     rw p.1 (broke_off _ (g.K.Sink.held c.members.out) _ _ _ _ _ part.midway
     (piece part.least ((state_of c.args.core.now).queue c.args.head) c.members.next
     c.in-Some.member
     c.member_from-next.ensures.order part.met c.in-Some.is)
-    c.in_err-write_shown-2.ensures.text)
+    c.in_err-write_member.ensures.text)
 
 pub members-preserved : goal.members-preserved
 members-preserved g c =
@@ -52,10 +52,10 @@ members-preserved g c =
             (piece part.least ((state_of c.args.core.now).queue c.args.head) c.members.next
             c.in-Some.member
             c.member_from-next.ensures.order part.met c.in-Some.is)
-            c.in_ok-write_shown-2.ensures.text;
+            c.in_ok-write_member.ensures.text;
       };
       fits = fits_of (c.rank.result + 1) next.result next.ensures.fits;
-      later = omega (arith, c.members.invariant.later, c.write_shown-in-Some.ensures.later);
+      later = omega (arith, c.members.invariant.later, c.write_member.ensures.later);
     }
 
 pub returns-clause-text : goal.returns-clause-text
@@ -64,5 +64,5 @@ returns-clause-text g c =
     let m = part.midway in
     let left = no_rest part.least ((state_of c.args.core.now).queue c.args.head) c.members.next part.met
     c.in_default.not-Some in
-    handed_on _ _ (g.K.Sink.held c.members.out) _ m.front (codes "\n") _ m.held c.write_shown-2.ensures.text
+    handed_on _ _ (g.K.Sink.held c.members.out) _ m.front (codes "\n") _ m.held c.write_all.ensures.text
     (m.whole ∙ ap (λ x. m.front ++ x) left)

@@ -1,8 +1,8 @@
-use Rattle.std.proofs.Common.{◌∙◌}
-use Rattle.wait_script.proofs.Numbers.{plain_number}
+use Rattle.std.proofs.Common.{sym, ◌∙◌}
+use Rattle.wait_script.proofs.Digits.{plain_number}
 use Rattle.wait_script.proofs.number.number.Goals as goal
 
 pub returns : goal.returns
-returns c = c.ok.ensures.value
-    ∙ plain_number c.args.word.now c.parse.result
-    (rw (← c.as_bytes.ensures.value, ← c.plain.ensures) c.if-not-plain.false) c.parse.ensures.value.0
+returns c =
+    c.value_of.ensures
+    ∙ plain_number c.args.word.now c.if-is_empty.ensures (sym c.if-not-plain.ensures)

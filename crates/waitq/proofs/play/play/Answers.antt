@@ -1,10 +1,7 @@
-use Rattle.std.proofs.Common.{◌∙◌, ap, arith, ◌++◌, drop}
+use Rattle.std.proofs.Common.{arith}
 use Rattle.std.proofs.lemmas.Result.{err_from_is_err_and}
-use Rattle.edge_io.proofs.Prefix.{handed_on}
-use Rattle.edge_io.proofs.Sending.{goes_on, breaks_off, stuck}
-use Rattle.wait_script.specs.Ending.{end_text}
-use Rattle.wait_script.specs.Replay.{replay_from}
-use Rattle.waitq.proofs.Playing.{replay-at, no_lines, sent_on}
+use Rattle.edge_io.proofs.Sending.{goes_on, breaks_off}
+use Rattle.waitq.proofs.Playing.{replay-at, last_text, drained}
 use Rattle.waitq.proofs.play.play.Goals as goal
 
 pub returns-in_err-play_line-clause-text : goal.returns-in_err-play_line-clause-text
@@ -22,20 +19,19 @@ loop-line-preserved g c = record {
   later = omega (arith, c.play_line.ensures.later);
 }
 
-pub returns-in_err-flush-clause-text : goal.returns-in_err-flush-clause-text
-returns-in_err-flush-clause-text g c =
-    let r = c.from_residual-in_err-flush in
+pub returns-in_err-print_end-clause-text : goal.returns-in_err-print_end-clause-text
+returns-in_err-print_end-clause-text g c =
+    let r = c.from_residual-in_err-print_end in
     let p = err_from_is_err_and r.result r.ensures.1 in
-    rw p.1 (stuck _ (g.K.Sink.held c.loop-line.out) _ _ _ _ _ c.loop-line.invariant.midway
-    c.flush.ensures.sent)
+    rw p.1 (breaks_off _ (g.K.Sink.held c.loop-line.out) _ _ _ _ _ _ c.loop-line.invariant.midway
+    (last_text c.args.lines.now c.loop-line.line-index c.loop-line.core c.loop-line-test.false)
+    c.in_err-print_end.ensures.text)
 
 pub returns-clause-text : goal.returns-clause-text
 returns-clause-text g c =
-    let m = sent_on _ (g.K.Sink.held c.loop-line.out) (g.K.Sink.held c.flush.new.out) _ _ _ _
-    c.loop-line.invariant.midway c.flush.ensures.sent in
-    let left = no_lines c.args.lines.now c.loop-line.line-index c.loop-line.core c.loop-line-test.false in
-    handed_on _ _ (g.K.Sink.held c.flush.new.out) _ m.front (end_text c.loop-line.core) _ m.held
-    c.write_end.ensures.text
-    (m.whole ∙ ap (λ x. m.front
-    ++ x) (ap (λ b. b ++ replay_from c.loop-line.core (drop c.loop-line.line-index c.args.lines.now))
-    c.in_ok-flush.ensures.empty ∙ left))
+    let m = goes_on _ (g.K.Sink.held c.loop-line.out) (g.K.Sink.held c.print_end.new.out) _ _ _ _ _ _
+    c.loop-line.invariant.midway
+    (last_text c.args.lines.now c.loop-line.line-index c.loop-line.core c.loop-line-test.false)
+    c.in_ok-print_end.ensures.text in
+    drained c.flush.result _ (g.K.Sink.held c.print_end.new.out) _ _ _ _ m c.flush.ensures.sent
+    c.flush.ensures.empty

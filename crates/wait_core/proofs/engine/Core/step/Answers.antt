@@ -6,6 +6,7 @@ use Rattle.wait_core.proofs.Kept.{sound, call_sound}
 use Rattle.wait_core.proofs.Answered.{
   read_progress,
   opened_at,
+  opened_again,
   shown_in,
   stopped,
   running,
@@ -166,14 +167,16 @@ invariant_of-self c =
     let was = c.change_by-change.ensures.found (state_of c.self.inside.run.items) shows may in
     let joins = plan_joins _ _ _ _ _ core c.args.task c.requires c.in-Open.call c.in-Open.point stands
     (running _ _ record_is c.if-not-task_at.false) _ is in
-    let left = rw (c.deref-5.ensures.value, c.given_at.ensures) at
+    let left = rw c.deref-5.ensures.value at
     (c.change_by-change.ensures.shown (state_of c.self.inside.run.items) c.self.inside.made
-    shows (sound _ _ _ _ _ core) may (rw c.given_at.ensures joins)) in
+    shows (sound _ _ _ _ _ core) may joins) in
+    let there = opened_again _ c.args.task c.from-slot.result c.index_mut-2.result.now c.in-Open.call c.in-Open.point
+    core.tasks c.requires c.from-slot.ensures c.index_mut-2.ensures.value stands in
     record {
       core = stepped_core _ _ _ _ _ core c.args.task c.requires c.in-Open.call c.in-Open.point stands
           (running _ _ record_is c.if-not-task_at.false) _ is c.change_by-change.result.found was free
           c.if-self-eq-EVENTS.false
-          _ left _ c.progress_of.ensures _ c.from-slot.ensures _ c.log.ensures.items _ c.log.ensures.capacity;
+          _ left _ (c.advance.ensures c.in-Open.call c.in-Open.point there) _ c.from-slot.ensures _ c.log.ensures.items _ c.log.ensures.capacity;
       kept = stepped_keepers _ _ _ _ _ core c.args.task c.requires c.in-Open.call c.in-Open.point stands
           (running _ _ record_is c.if-not-task_at.false) _ is c.self.inside.keepers.items c.self.invariant.kept free
           _ _ c.log.ensures.items _ c.keep.ensures;

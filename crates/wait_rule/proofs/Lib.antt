@@ -2,14 +2,17 @@ pub mod Seen
 pub mod Steps
 pub mod Lists
 pub mod Links
+pub mod Placed
 pub mod Ruled
 pub mod TaskBits
 pub mod TaskKinds
 pub mod HeadKinds
 pub mod EntryKinds
+pub mod FlagKinds
 pub mod MarkKinds
 pub mod CondKinds
 pub mod Heads
+pub mod WornLate
 pub mod Started
 pub mod Moves
 pub mod QueueMoves
@@ -21,3 +24,4 @@ pub mod Queued
 pub mod Settled
 pub mod Histories
 pub mod Kin
+pub mod Selected

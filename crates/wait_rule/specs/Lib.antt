@@ -1,11 +1,13 @@
 pub mod Items
 pub mod Notes
 pub mod Members
+pub mod Places
 pub mod Views
 pub mod Known
 pub mod Rule
 pub mod Says
 pub mod Queues
+pub mod Worn
 pub mod Looking
 pub mod Plays
 pub mod QueuePlays

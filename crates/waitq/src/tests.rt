@@ -141,7 +141,8 @@ fn a_read_that_fails_ends_with_its_status(rt: HostRuntime) -> Result<(), Fail> {
 #[test]
 fn a_write_that_fails_leaves_a_front_of_the_text(rt: HostRuntime) -> Result<(), Fail> {
     let row = WAIT_SET_WAKE;
-    for fails in [1, 2, 3] {
+    // The first call writes the lines of the steps, and the second the end lines.
+    for fails in [1, 2] {
         let ran = run_on(&rt, &["replay"], row.script.as_bytes(), &[], &[fails], &[])?;
         assert_eq!(rt; ran.status, 5, "at call {fails}");
         assert!(rt; row.text.starts_with(ran.text.as_str()), "at call {fails}");

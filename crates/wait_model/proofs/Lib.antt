@@ -43,8 +43,27 @@ pub mod Lows
 pub mod Waited
 pub mod BitPrograms
 pub mod Programmed
+pub mod SentenceRests
+pub mod SentenceWaits
+pub mod MadeFindings
+pub mod MadeWaits
+pub mod SentenceAwaits
+pub mod MadeAwaits
+pub mod SentenceCounts
+pub mod Made
+pub mod MadeCounts
+pub mod MadeBits
+pub mod MadeWalks
+pub mod MadeCalls
+pub mod Followed
+pub mod SentenceWalks
+pub mod SentenceBits
+pub mod SentenceCalls
+pub mod SentenceEnds
+pub mod SentenceFindings
+pub mod Spoken
 pub mod Completed
-pub mod Walked
+pub mod WalkPrograms
 pub mod Marked
 pub mod Counted
 pub mod StartKept
@@ -72,6 +91,8 @@ pub mod Openings
 pub mod Aside
 pub mod Accounts
 pub mod Refusals
+mod Unworn
+pub mod TakenOff
 pub mod GivenUp
 pub mod Selections
 pub mod Orderly

@@ -13,8 +13,18 @@ pub mod Facts
 pub mod Queues
 pub mod Points
 pub mod Programs
+pub mod Phrases
 pub mod Admission
 pub mod Runs
+pub mod SentenceSteps
+pub mod SentenceWaits
+pub mod SentenceWalks
+pub mod SentenceBits
+pub mod SentenceCounts
+pub mod Sentences
+pub mod Findings
+pub mod Making
+pub mod Spoken
 pub mod Reached
 pub mod Shown
 pub mod Histories
@@ -26,6 +36,7 @@ pub mod Wakes
 pub mod Waiters
 pub mod Told
 pub mod Openings
+pub mod Unworn
 pub mod Accounts
 pub mod Selections
 pub mod Worked

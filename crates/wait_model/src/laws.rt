@@ -2,14 +2,18 @@
 
 ghost use Rattle.wait_model.specs.Completions.{NoRunMiscounts};
 ghost use Rattle.wait_model.specs.Facts.{StepKeeps, StartKept};
+ghost use Rattle.wait_model.specs.Programs.{WalksGoByAims};
 ghost use Rattle.wait_model.specs.Selections.{RunsAreOrderly};
 ghost use Rattle.wait_model.specs.Openings.{FreshTold};
 ghost use Rattle.wait_model.specs.Wakes.{NoRunLosesWake};
+ghost use Rattle.wait_model.specs.Making.{SentencesAreMade, ProgramsFollow};
+ghost use Rattle.wait_model.specs.Spoken.{CallsFollowSentences, OpenCallsBegin};
 ghost use Rattle.wait_model.specs.Told.{CoveringTold, FailedTold, OwesTold, OwingTold, TryingTold, ViewsTold, ZeroTold};
 ghost use Rattle.wait_model.specs.Waiters.{NoRunLosesWaiter};
 ghost use Rattle.wait_model.specs.Worked.{ReplaysRun, WorkedScripts};
 ghost use Rattle.wait_model.specs.WorkedForms.{WorkedForms};
 ghost use Rattle.wait_model.specs.WorkedBits.{WorkedBits};
+ghost use Rattle.wait_model.specs.Unworn.{NoRunWears};
 ghost use Rattle.wait_model.specs.SignalCounts.{SignalsStartRaised, SignalsStayRaised, NoRunInventsSignals};
 ghost use Rattle.wait_model.specs.BitKeepers.{KeepsTold, BitsStartKept, BitsStayKept, EveryRunKeepsBits};
 ghost use Rattle.wait_model.specs.DoneCounts.{CountsStartBalanced, CountsStayBalanced, TakesAreCompleted};
@@ -75,7 +79,8 @@ pub fn worked_scripts()
     ensures runs { ReplaysRun }
 {}
 
-/// No walk selects more than its count, no wait is interrupted but behind a failed load of its last turn, no wait
+/// No walk selects more than its count, a wake of one of a simple queue and a `complete` take off at most one entry and
+/// such a wake tells how many it took off, no wait is interrupted but behind a failed load of its last turn, no wait
 /// for a bit is but behind a load that found the bit set and a sleep that a signal ended, and no signal is accepted that was not raised, in any run.
 pub fn runs_are_orderly()
     ensures { RunsAreOrderly }
@@ -118,4 +123,30 @@ pub fn counts_are_balanced()
     ensures step { CountsStayBalanced }
     ensures takes { TakesAreCompleted }
     ensures run { NoRunMiscounts }
+{}
+
+/// In every run, what a task has made since it opened the call that it ends follows the sentence of the call, and the
+/// answer is the one that the sentence gives. What it has made of an open call follows the sentence so far.
+pub fn calls_follow_sentences()
+    ensures ended { CallsFollowSentences }
+    ensures begun { OpenCallsBegin }
+{}
+
+/// Whatever follows the sentence of a call is made by its program, for findings that a task may have: its entry is off
+/// until the call queues it, a count is as it was loaded, and a walk breaks above 64 calls. And the program makes
+/// nothing else for such findings; of a call about a completion `calls_follow_sentences` says so.
+pub fn sentences_are_made()
+    ensures made { SentencesAreMade }
+    ensures only { ProgramsFollow }
+{}
+
+/// A walk is the same whatever call makes it: its program, and what its events are given, go by its watch, its mode
+/// and its count.
+pub fn walks_go_by_aims()
+    ensures { WalksGoByAims }
+{}
+
+/// No run meets a head at which no place is left: no call answers Worn, or stands behind such an add.
+pub fn no_run_wears()
+    ensures { NoRunWears }
 {}

@@ -1,0 +1,34 @@
+-- The program of a call makes whatever follows its sentence, for findings that a task may have. (To be believed.)
+use Rattle.std.specs.Prelude.{ℕ, ◌≡◌, false, List, [], ◌∷◌}
+use Rattle.wait_model.specs.declared.calls.Call.{Call}
+use Rattle.wait_model.specs.declared.calls.Event.{Event}
+use Rattle.wait_model.specs.declared.calls.Answer.{Answer}
+use Rattle.wait_model.specs.declared.points.Next.{Next}
+use Rattle.wait_model.specs.declared.points.Next.TheVariants as next
+use Rattle.wait_model.specs.declared.points.Seen.{Seen}
+use Rattle.wait_model.specs.declared.points.Point.{Point}
+use Rattle.wait_model.specs.Watches.{is_done}
+use Rattle.wait_model.specs.Points.{call_watch}
+use Rattle.wait_model.specs.Programs.{program, program_start}
+use Rattle.wait_model.specs.Phrases.{Rest, ends}
+use Rattle.wait_model.specs.Sentences.{Follows}
+use Rattle.wait_model.specs.Findings.{Noted, blank, notes, MayFind}
+
+abbrev pub goes_to : (Point → Rest) → Next → Rest
+goes_to R (next.Go p) = R p
+goes_to R (next.Ends b) = ends b
+
+-- from this point on the program makes these events, for some findings, and gives this answer
+abbrev pub Makes : ℕ → Call → Noted → Point → Rest
+Makes me call m p [] a = ⊥
+Makes me call m p (e ∷ w) a = (seen : Seen) × MayFind call p m seen × (e ≡ (program me call p seen).event)
+    × goes_to (λ q v b. Makes me call (notes m e) q w b) (program me call p seen).next w a
+
+abbrev pub SentencesAreMade : Type 0
+SentencesAreMade = (me : ℕ) (call : Call) (w : List Event) (a : Answer) → Follows me call w a
+    → Makes me call blank (program_start call) w a
+
+-- and it makes nothing else for such findings; of a call about a completion the law on runs says so
+abbrev pub ProgramsFollow : Type 0
+ProgramsFollow = (me : ℕ) (call : Call) (w : List Event) (a : Answer) → is_done (call_watch call) ≡ false
+    → Makes me call blank (program_start call) w a → Follows me call w a

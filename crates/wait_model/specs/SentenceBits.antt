@@ -1,0 +1,63 @@
+-- Waits for a bit. (To be believed.)
+use Rattle.std.specs.Prelude.{ℕ, Bool, true, false, not, ◌&&◌, if◌then◌else◌}
+use Rattle.wait_model.specs.Phrases.{Phrase, ◌>>=◌, ◌>>◌, gives, finds, when◌then◌otherwise◌, Turn, leaves, repeat, repeats}
+use Rattle.wait_model.specs.SentenceSteps.{nothing, number, minus_4, is_met, prepares, finishes, acts}
+use Rattle.wait_model.specs.Words.{flag}
+use Rattle.wait_model.specs.declared.calls.Answer.{Answer}
+use Rattle.wait_model.specs.declared.calls.Answer.TheVariants as answer
+use Rattle.wait_model.specs.declared.tasks.SleepState.{SleepState}
+use Rattle.wait_model.specs.declared.watches.Watch.{Watch}
+use Rattle.wait_model.specs.declared.watches.Watch.TheVariants as watch
+use Rattle.wait_model.specs.declared.queues.Form.TheVariants as forms
+use Rattle.wait_model.specs.declared.calls.Event.TheVariants as event
+
+-- the exchange that sets a bit: was it clear? (`test_and_set_bit`)
+abbrev pub tries : ℕ → ℕ → Phrase Bool
+tries w b = do
+  was_set ← finds (λ (found : Bool). event.Tas w b (flag found))
+  gives (not was_set)
+
+-- what a wait does that was not queued: it asks once more
+abbrev pub ends_worn : ℕ → Watch → Bool → Phrase (Turn Bool Answer)
+ends_worn me c queued = do
+  met ← is_met c
+  when met then (do finishes me c queued; gives (leaves (number 0))) otherwise gives (leaves answer.Worn)
+
+-- A turn leads to one more, or leaves with the answer. It loads before and after its action.
+abbrev pub bit_turn : ℕ → Watch → SleepState → Bool → Phrase (Turn Bool Answer)
+bit_turn me c st queued = do
+  entered ← prepares c st forms.Front queued
+  when not entered then ends_worn me c queued otherwise do
+    met ← is_met c
+    failed ← when met then gives false otherwise acts st
+    met ← is_met c
+    when not met && not failed then gives (repeats true) otherwise do
+      finishes me c true
+      gives (leaves (if failed then minus_4 else number 0))
+
+-- `wait_on_bit`, `__wait_on_bit`
+abbrev pub waits_bit : ℕ → Watch → SleepState → Phrase Answer
+waits_bit me c st = do
+  met ← is_met c
+  when met then gives (number 0) otherwise repeat (bit_turn me c st) false
+
+-- it tries the bit in every turn, also in one whose action failed, which finishes before
+abbrev pub lock_turn : ℕ → ℕ → ℕ → SleepState → Bool → Phrase (Turn Bool Answer)
+lock_turn me w b st queued = do
+  entered ← prepares (watch.Bit w b) st forms.Tail queued
+  when not entered
+      then (do clear ← tries w b; gives (leaves (if clear then number 0 else answer.Worn)))
+      otherwise do
+        met ← is_met (watch.Bit w b)
+        failed ← when met then gives false otherwise acts st
+        when failed then finishes me (watch.Bit w b) true otherwise nothing
+        clear ← tries w b
+        when failed then gives (leaves (if clear then number 0 else minus_4))
+            otherwise when clear then (do finishes me (watch.Bit w b) true; gives (leaves (number 0)))
+            otherwise gives (repeats true)
+
+-- `wait_on_bit_lock`, `__wait_on_bit_lock`
+abbrev pub locks_bit : ℕ → ℕ → ℕ → SleepState → Phrase Answer
+locks_bit me w b st = do
+  clear ← tries w b
+  when clear then gives (number 0) otherwise repeat (lock_turn me w b st) false

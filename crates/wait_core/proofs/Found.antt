@@ -19,6 +19,7 @@ use Rattle.wait_model.specs.Queues.{
   first_from,
   member_from,
   entry_from,
+  entries_of,
   last_within,
   IsIn,
 }
@@ -41,7 +42,7 @@ use Rattle.wait_model.proofs.Decoded.{task_read, held_read, spent_read, flag_rea
 use Rattle.wait_model.proofs.Conditions.{cond_located, cond_position, number_below, number_value}
 use Rattle.wait_model.proofs.Linked.{queued_read}
 use Rattle.wait_model.proofs.QueueOrder.{IsFirstFrom, first_is, one_first}
-use Rattle.wait_model.proofs.QueueEnds.{IsLastWithin, last_of, one_last}
+use Rattle.wait_model.proofs.QueueEnds.{IsLastWithin, last_of, one_last, entry_in, in_entries, order_entries}
 use Rattle.std.proofs.lemmas.Bool.Decides.{nat_tests}
 use Rattle.wait_core.specs.declared.scan.Span.{Span}
 use Rattle.wait_core.specs.Scan.{
@@ -320,6 +321,47 @@ module _ (words : List ℕ) (s : State) (n : ℕ) (shown : Shows words s.table) 
   last_found head low high r h = one_last low high (s.queue head) r (last_within low high (s.queue head))
       (sound.linked.ordered.order head) (last_shown head low high r h)
       (last_of low high (s.queue head) (sound.linked.ordered.order head))
+
+  -- the same of the entries alone
+  last_entry_shown : (head low high : ℕ) (r : Option Member) → IsPicked (shown_stand words) 256
+      (last_span head low high) r → IsLastWithin low high (entries_of (s.queue head)) r
+  last_entry_shown head low high None h = λ m i l u.
+      let e = entry_in m (s.queue head) i in
+      let w = within_ranks head low high m e.0 l u in
+      picked_none 256 (omega arith) (last_span head low high) m h e.0
+      ((entry_number m (member_shown head m e.0).0).0 e.1) w.0 w.1
+  last_entry_shown head low high (Some b) h =
+      let p = pick_in 256 (omega arith) (last_span head low high) b h in
+      let k : b.at < 384 = (member_shown head b p.0).0 in (
+        in_entries b (s.queue head) ((entry_number b k).1 h.inside) p.0,
+        omega (arith, p.1),
+        omega (arith, p.2),
+        λ m i l u.
+            let e = entry_in m (s.queue head) i in
+            let w = within_ranks head low high m e.0 l u in
+            let never : nat_lt (rank b) (rank m) ≡ false = picked_best 256 (omega arith)
+            (last_span head low high) b m h e.0 ((entry_number m (member_shown head m e.0).0).0 e.1) w.0 w.1 in
+            grind (arith, nat_tests),
+      )
+
+  pub last_entry_found : (head low high : ℕ) (r : Option Member) → IsPicked (shown_stand words) 256
+      (record { head = head; low = 512 * low; high = 512 * high; last = true }) r
+      → r ≡ last_within low high (entries_of (s.queue head))
+  last_entry_found head low high r h = one_last low high (entries_of (s.queue head)) r
+      (last_within low high (entries_of (s.queue head))) (order_entries (s.queue head) (sound.linked.ordered.order head))
+      (last_entry_shown head low high r h) (last_of low high (entries_of (s.queue head))
+      (order_entries (s.queue head) (sound.linked.ordered.order head)))
+
+  pub last_entry_small : (h low high : ℕ) (r : Option Member) → r ≡ last_within low high (entries_of (s.queue h))
+      → IfSome r (λ m. m.place < 2 ^ 40 - 3)
+  last_entry_small h low high r is = subst (λ (o : Option Member). IfSome o (λ m. m.place < 2 ^ 40 - 3)) (sym is)
+      (small (last_within low high (entries_of (s.queue h))) (last_of low high (entries_of (s.queue h))
+      (order_entries (s.queue h) (sound.linked.ordered.order h))))
+    where
+      small : (o : Option Member) → IsLastWithin low high (entries_of (s.queue h)) o
+          → IfSome o (λ m. m.place < 2 ^ 40 - 3)
+      small None l = tt
+      small (Some m) l = last_room h m (entry_in m (s.queue h) l.0).0
 
   pub last_small : (h low high : ℕ) (r : Option Member) → r ≡ last_within low high (s.queue h)
       → IfSome r (λ m. m.place < 2 ^ 40 - 3)

@@ -81,7 +81,7 @@ use Rattle.wait_model.specs.Runs.{
   is_open,
 }
 use Rattle.wait_model.proofs.Functions.{put_at}
-use Rattle.wait_model.proofs.Walked.{program_fine}
+use Rattle.wait_model.proofs.WalkPrograms.{program_fine}
 use Rattle.wait_model.proofs.Fines.{Fine}
 use Rattle.wait_model.proofs.EveryRun.{sound_of, state_after-push, run_push, made_push, opened_push}
 use Rattle.wait_core.specs.Core.{IsCore, open_calls, one_if_open}

@@ -7,3 +7,5 @@ pub mod Noted
 pub mod KeptBits
 pub mod Kept
 pub mod Answered
+pub mod Spoken
+pub mod Members

@@ -22,6 +22,7 @@ use Rattle.wait_model.specs.declared.watches.Mode.TheVariants as mode
 use Rattle.wait_model.specs.declared.queues.Called.{Called}
 use Rattle.wait_model.specs.declared.queues.Walking.{Walking}
 use Rattle.wait_model.specs.declared.calls.Call.{Call}
+use Rattle.wait_model.specs.declared.calls.Answer.TheVariants as answer
 use Rattle.wait_model.specs.declared.calls.Call.TheVariants as calls
 use Rattle.wait_model.specs.declared.calls.Event.{Event}
 use Rattle.wait_model.specs.declared.calls.Event.TheVariants as event
@@ -48,6 +49,7 @@ use Rattle.wait_model.specs.Tasks.{meets, state_mask}
 use Rattle.wait_model.specs.Watches.{is_bit, is_done, mask_of}
 use Rattle.wait_model.specs.Words.{bit_at, flag}
 use Rattle.wait_model.specs.Points.{
+  call_aim,
   call_watch,
   call_head,
   is_await,
@@ -59,6 +61,7 @@ use Rattle.wait_model.specs.Points.{
 }
 use Rattle.wait_model.specs.Counts.{taken_done}
 use Rattle.wait_model.specs.Programs.{
+  worn_next,
   go,
   ends_with,
   zero_answer,
@@ -133,7 +136,7 @@ module _ (me : ℕ) (call : Call) (seen : Seen) where
       (ends_with e (if failed then interrupted else zero_answer)) h h
 
   -- the function of an entry
-  entry_noted : (w : Walking) (c : Called) (k : Kind) (hit : Bool) → N (call_entry call w c k seen hit)
+  entry_noted : (w : Walking) (c : Called) (k : Kind) (hit : Bool) → N (call_entry (call_aim call) w c k seen hit)
   entry_noted w c kind.Default hit = tt
   entry_noted w c kind.Autoremove hit = tt
   entry_noted w c kind.Woken hit = tt
@@ -141,14 +144,14 @@ module _ (me : ℕ) (call : Call) (seen : Seen) where
   entry_noted w c kind.Var hit = tt
   entry_noted w c kind.Simple hit = tt
 
-  next_noted : (w : Walking) (c : Option Called) (hit : Bool) → N (call_next call w c seen hit)
+  next_noted : (w : Walking) (c : Option Called) (hit : Bool) → N (call_next (call_aim call) w c seen hit)
   next_noted w None hit = tt
   next_noted w (Some c) hit = entry_noted w c c.kind hit
 
-  walk_noted : (p : WalkPoint) → N (walk_event call p seen)
+  walk_noted : (p : WalkPoint) → N (walk_event (call_aim call) p seen)
   walk_noted (walking.Call w) = either seen.breaks
       (go (event.Mark (call_head call)) (at.Walk (walking.BreakUnlock (reached w seen.calls))))
-      (call_next call (reached w seen.calls) seen.called seen (meets (mask_of (mode_of call)) seen.other.state)) tt
+      (call_next (call_aim call) (reached w seen.calls) seen.called seen (meets (mask_of (mode_of call)) seen.other.state)) tt
       (next_noted (reached w seen.calls) seen.called (meets (mask_of (mode_of call)) seen.other.state))
   walk_noted p = tt
 
@@ -200,7 +203,10 @@ module _ (me : ℕ) (call : Call) (seen : Seen) where
       (ends_with (load call seen) zero_answer) tt tt
   noted (at.Prepare preparing.Queue) fit = either (is_some seen.entry)
       (go (event.State (state_mask (state_in call))) (at.Prepare preparing.Unlock))
-      (go (event.Queue (call_head call) (form_of call)) (at.Prepare preparing.State)) tt tt
+      (if seen.worn then record { event = event.Unlock (call_head call) false; next = worn_next call }
+      else go (event.Queue (call_head call) (form_of call)) (at.Prepare preparing.State)) tt
+      (either seen.worn (record { event = event.Unlock (call_head call) false; next = worn_next call })
+      (go (event.Queue (call_head call) (form_of call)) (at.Prepare preparing.State)) tt tt)
   noted (at.Leave leaving.Queue) fit = either (is_some seen.entry)
       (go (event.Unqueue me) (at.Leave leaving.Unlock))
       (go (event.Unlock (call_head call) false) (at.Leave leaving.Load)) tt tt
@@ -215,11 +221,14 @@ module _ (me : ℕ) (call : Call) (seen : Seen) where
       (ends_noted failed (event.Unlock (call_head call) false) tt)
   noted (at.Finish finishing.Unlock failed) fit = ends_noted failed (event.Unlock (call_head call) false) tt
   noted (at.Bit p) fit = bit_noted p
+  noted at.Worn fit = absurd fit
   noted at.Publish fit = publish_noted call fit
   noted at.Active fit = active_noted seen.members
   noted (at.Walk p) fit = walk_noted p
   noted (at.Add adding.Lock) fit = tt
-  noted (at.Add adding.Queue) fit = tt
+  noted (at.Add adding.Queue) fit = either seen.worn
+      (ends_with (event.Unlock (call_head call) false) answer.Worn)
+      (go (event.Queue (call_head call) (form_of call)) (at.Add adding.Unlock)) tt tt
   noted (at.Add adding.Unlock) fit = tt
   noted (at.Remove removing.Lock) fit = tt
   noted (at.Remove (removing.Queue c)) fit = tt

@@ -3,7 +3,7 @@ ghost use Rattle.wait_model.specs.Admission.{IsListed};
 
 use crate::engine::{Core, StartFault, Stepped};
 use std::test::Fail;
-use wait_model::calls::{Answer, Call, Event};
+use wait_model::calls::{Answer, Call, Event, Ran};
 use wait_model::tasks::{Sleep, SleepState};
 
 /// Opens a call of a task and makes its events until the call ends or sleeps: how many there were, and the
@@ -84,5 +84,43 @@ fn a_clear_wakes_one_that_waits_to_take_the_bit(rt: HostRuntime) -> Result<(), F
     assert!(rt; matches!(core.start(1, CLEAR), Err(StartFault::NotHeld)));
     let (_, _) = ran(&mut core, 2, CLEAR);
     assert_eq!(rt; core.word_at(WORD), 0);
+    Ok(())
+}
+
+/// What the last look for members in a run found in its word, and what it answered.
+fn last_look(run: &[Ran]) -> Option<(u64, bool)> {
+    let mut last = None;
+    for item in run {
+        if let Ran::Made {
+            event: Event::Active { yes, .. },
+            found,
+            ..
+        } = *item
+        {
+            last = Some((found, yes));
+        }
+    }
+    last
+}
+
+#[test]
+fn a_look_for_members_names_no_word(rt: HostRuntime) -> Result<(), Fail> {
+    let mut core = Core::new(rt.alloc())?;
+    let wait = Call::WaitVar {
+        var: 0,
+        old: 0,
+        state: SleepState::Uninterruptible,
+    };
+    assert!(rt; core.start(0, wait).is_ok());
+    let (made, answer) = goes_on(&mut core, 0);
+    assert_eq!(rt; answer, None);
+    assert!(rt; made > 0);
+    assert!(rt; core.word_at(129) != 0);
+    assert_eq!(rt; ran(&mut core, 1, TRY), (1, Some(1)));
+    assert_eq!(rt; ran(&mut core, 1, CLEAR), (2, None));
+    assert_eq!(rt; last_look(core.ran()), Some((0, false)));
+    let (_, _) = ran(&mut core, 1, Call::SetVar { var: 0, value: 7 });
+    assert_eq!(rt; last_look(core.ran()), Some((0, true)));
+    assert_eq!(rt; core.word_at(0), 0);
     Ok(())
 }

@@ -91,7 +91,7 @@ pub fn left_by(
         Event::Queue { head, form } => added_word_at(words, index, call, point, head, form),
         Event::Unqueue { .. } => 0,
         Event::Queued { .. } => words[129 + 2 * usize::from(me)],
-        Event::Active { .. } => words[129],
+        Event::Active { .. } => 0,
         Event::Mark { head } => mark_word_of(next_mark_at(words, index, call, point, head)),
         Event::Unmark { .. } => 0,
         Event::Load { cond, .. } => words[1153 + usize::from(cond)],

@@ -9,6 +9,7 @@ ghost use Rattle.wait_model.specs.Admission.{IsListed};
 ghost use Rattle.wait_model.specs.declared.points.Point.{Point};
 ghost use Rattle.wait_model.specs.declared.points.Progress.TheVariants as now;
 ghost use Rattle.wait_core.specs.Ended.{answer_of};
+ghost use Rattle.wait_core.specs.Spoken.{EndsSentence};
 
 use crate::changes::change_by;
 use crate::index::{MEMBERS, Standing, reindex};
@@ -17,6 +18,7 @@ use crate::reads::{entry_at, held_head, plan, task_at};
 use crate::scan::member_ranked;
 use std::alloc::{AllocError, Global};
 use std::marker::Model;
+use thiserror::Error;
 use wait_model::admission::{is_in_range, is_queued_twice, lacks_bit, lacks_entry};
 use wait_model::calls::{Answer, Call, Event, Ran};
 use wait_model::points::{Next, Progress};
@@ -41,13 +43,19 @@ pub enum Stepped {
 }
 
 /// Why a call was not opened.
-#[derive(Clone, Copy)]
+#[derive(Clone, Copy, Debug, Error)]
 pub enum StartFault {
+    #[error("there is no such task")]
     NoSuchTask = 1,
+    #[error("the task's last call has not ended")]
     CallOpen = 2,
+    #[error("a number or a condition of the call is out of its range")]
     NoSuchCond = 3,
+    #[error("the task does not hold the bit")]
     NotHeld = 4,
+    #[error("the task's entry is queued already")]
     EntryQueued = 5,
+    #[error("the task has added no entry such as the call wants")]
     NoEntry = 6,
 }
 
@@ -84,10 +92,12 @@ impl Core {
     ghost use Rattle.wait_model.specs.Completions.{CountsAreBalanced};
     ghost use Rattle.wait_model.specs.BitKeepers.{AreKept};
     ghost use Rattle.wait_model.specs.Selections.{IsOrderly};
+    ghost use Rattle.wait_model.specs.Spoken.{BeginsOpen};
     ghost use Rattle.wait_model.specs.Queues.{member_from, rank, IsInOrder};
     ghost use Rattle.wait_model.specs.Locations.{Location, IsLocation, position_of, word_in};
     ghost use Rattle.wait_model.specs.Wakes.{NoWakeIsLost};
     ghost use Rattle.wait_model.specs.Waiters.{NoWaiterIsLost};
+    ghost use Rattle.wait_core.specs.Members.{IsNextAt};
     ghost use Rattle.wait_core.specs.Stepped.{stepped, items_of, started, opened_by, call_shown};
 
     /// The run: the calls that were opened and the events that were made.
@@ -144,9 +154,11 @@ impl Core {
         task_at(&self.words, task)
     }
 
-    /// The first member of a head's queue from a rank on. The queue stands by rising rank, so going on
-    /// behind each member's rank meets them all in order.
+    /// The next member of a head from a rank on, or `None` where it has none from there on. Its members are exactly
+    /// the entries and the bookmarks whose words name the head. They stand by rising rank, so going on with the rank
+    /// above each member's meets them all in order.
     pub fn member_from(&self, head: u16, least: u64) -> Option<Member>
+        ensures next { IsNextAt (state_of self.now).table head least result }
         ensures member { result ≡ member_from least ((state_of self.now).queue head) }
         ensures fits { IfSome result (λ m. (m.at < 384) × (least ≤ rank m) × (m.place < 2 ^ 40)) }
         ensures order { IsInOrder ((state_of self.now).queue head) }
@@ -175,12 +187,13 @@ impl Core {
         let _ = &self.run;
     }
 
-    /// The run of any core is orderly. A walk with a count above 0 has selected at most that count, and its
-    /// answer tells how many. A wait that ends with -512 does so by a load of its condition that found it not
-    /// set, in a turn that a signal ended, with its entry off. A wait for a bit that ends with -4 found the bit
-    /// set in a turn that a signal ended, and one that takes the bit has tried once more and found it set. And
-    /// each task has accepted, or has pending, at most the signals that were raised at it, and the same of fatal
-    /// ones.
+    /// The run of any core is orderly. A walk with a count above 0 has selected at most that count, and its answer
+    /// tells how many. A wake of one of a simple queue and a `complete` have taken off at most one entry, and the
+    /// answer of a wake of a simple queue tells how many it took off. A wait that ends with -512 does so by a load of
+    /// its condition that found it not set, in a turn that a signal ended, with its entry off. A wait for a bit that
+    /// ends with -4 found the bit set in a turn that a signal ended, and one that takes the bit has tried once more
+    /// and found it set. And each task has accepted, or has pending, at most the signals that were raised at it, and
+    /// the same of fatal ones.
     pub fn is_orderly(&self)
         ensures { IsOrderly self.now }
     {
@@ -191,6 +204,13 @@ impl Core {
     /// what they threw away, and what stands now.
     pub fn counts_are_balanced(&self)
         ensures { CountsAreBalanced (state_of self.now).table }
+    {
+        let _ = &self.run;
+    }
+
+    /// What a task of any core has made of its open call follows the call's sentence as far as it goes.
+    pub fn open_calls_begin(&self)
+        ensures { (t : ℕ) → BeginsOpen self.now t }
     {
         let _ = &self.run;
     }
@@ -207,6 +227,8 @@ impl Core {
     /// nothing changes: there is no such task; its call has not ended; a number or a condition is out of
     /// its range; the bit that it would clear is not one that the task keeps; a call that queues finds the own
     /// entry queued; `remove` or `woken` finds none, or `woken` one of another kind.
+    // A script is played in two ways; out of line an opening takes some 25 instructions more.
+    #[inline(always)]
     pub fn start(&mut self, task: u8, call: Call) -> Result<(), StartFault>
         requires { IsListed call }
         ensures answer { result ≡ started (state_of self.old) task call }
@@ -240,11 +262,13 @@ impl Core {
         Ok(())
     }
 
-    /// Makes a task's next event.
+    /// Makes a task's next event. What the task has made of a call when it ends follows the call's sentence, and the
+    /// call's answer is the one that the sentence gives.
     pub fn step(&mut self, task: u8) -> Stepped
         requires { task < task_count }
         ensures answer { result ≡ stepped (state_of self.old) (made_in self.old) task ((state_of self.old).progress task) }
         ensures run { self.new ≡ self.old ++ items_of (state_of self.old) task result }
+        ensures sentence { EndsSentence self.old task result }
     {
         let slot = usize::from(task);
         let Progress::Open { call, point } = self.progress[slot] else {
@@ -301,6 +325,7 @@ fn ended(next: Next) -> Option<Answer>
 }
 
 /// Adds an item to a run with room for it.
+#[inline(always)]
 fn log(run: &mut Vec<Ran>, item: Ran)
     requires { length run.old.items < vec_capacity run.old }
     ensures items { run.new.items ≡ run.old.items ++ item ∷ [] }

@@ -1,16 +1,18 @@
 //! Calls of tasks on wait queues, event by event.
 #![tactic(auto)]
 
-pub mod arrivals;
+mod arrivals;
 #[cfg(test)]
 mod bit_tests;
-pub mod changes;
+mod changes;
 #[cfg(test)]
 mod completion_tests;
-pub mod engine;
-pub mod index;
-pub mod keepers;
-pub mod reads;
-pub mod scan;
+mod engine;
+mod index;
+mod keepers;
+mod reads;
+mod scan;
 #[cfg(test)]
 mod tests;
+
+pub use engine::{Core, StartFault, Stepped};

@@ -198,6 +198,7 @@ pub fn seen_at(words: &[u64], index: &[Standing], me: u8, call: Call, point: Poi
         breaks: walk.breaks,
         calls: walk.calls,
         members: has_members(words, index, call, point),
+        worn: false,
         mark: own_mark_at(words, me),
         other: task_at(words, about(call, point, called)),
     }

@@ -2,7 +2,7 @@
 
 ghost use Rattle.std.specs.Prelude.{◌≡◌, ℕ, ◌+◌, ◌*◌, ◌<◌, ◌≤◌, ◌^◌, ◌-◌, ◌⊎◌, IfSome, Option, length, true, false};
 ghost use Rattle.wait_model.specs.Runs.{State};
-ghost use Rattle.wait_model.specs.Queues.{member_from, entry_from, last_within, rank, rank_at, front_place, tail_place, priority_place, place_for};
+ghost use Rattle.wait_model.specs.Queues.{member_from, entry_from, entries_of, last_within, rank, rank_at, front_place, tail_place, priority_place, place_for};
 ghost use Rattle.wait_model.specs.Queues as queue;
 ghost use Rattle.wait_model.specs.Locations.{Shows};
 ghost use Rattle.wait_model.specs.Reached.{IsSound};
@@ -121,7 +121,7 @@ fn last_in(index: &[Standing], span: Span, count: u16) -> Option<Member>
 }
 
 /// The member that a look finds among the entries, or among the entries and the bookmarks.
-pub fn member_in(words: &[u64], index: &[Standing], span: Span, count: u16) -> Option<Member>
+fn member_in(words: &[u64], index: &[Standing], span: Span, count: u16) -> Option<Member>
     requires index { IsIndex (shown_stand words.now) index.now }
     requires count { count ≤ 384 }
     ensures picked { IsPicked (shown_stand words.now) count span result }
@@ -183,7 +183,7 @@ pub fn entry_ranked(words: &[u64], index: &[Standing], head: u16, least: u64) ->
 
 /// The last member of a queue from a place on and below another.
 #[tactic(auto, using(crate::proofs::Found::last_found))]
-pub fn last_at(words: &[u64], index: &[Standing], head: u16, low: u64, high: u64) -> Option<Member>
+fn last_at(words: &[u64], index: &[Standing], head: u16, low: u64, high: u64) -> Option<Member>
     requires words { length words.now ≡ 9873 }
     requires index { IsIndex (shown_stand words.now) index.now }
     requires places { (low ≤ 2 ^ 40) × (high ≤ 2 ^ 40) }
@@ -197,6 +197,30 @@ pub fn last_at(words: &[u64], index: &[Standing], head: u16, low: u64, high: u64
         last: true,
     };
     member_in(words, index, span, MEMBERS)
+}
+
+/// The last entry of a queue from a place on and below another.
+#[tactic(auto, using(crate::proofs::Found::last_entry_found))]
+fn last_entry_at(
+    words: &[u64],
+    index: &[Standing],
+    head: u16,
+    low: u64,
+    high: u64,
+) -> Option<Member>
+    requires words { length words.now ≡ 9873 }
+    requires index { IsIndex (shown_stand words.now) index.now }
+    requires places { (low ≤ 2 ^ 40) × (high ≤ 2 ^ 40) }
+    ensures member { (s : State) (n : ℕ) → Shows words.now s.table → IsSound s n → result ≡ last_within low high (entries_of (s.queue head)) }
+    ensures fits { IfSome result (λ m. (m.at < 256) × (m.place < 2 ^ 40)) }
+{
+    let span = Span {
+        head,
+        low: NUMBERS * low,
+        high: NUMBERS * high,
+        last: true,
+    };
+    member_in(words, index, span, ENTRIES)
 }
 
 /// The place that an add at the front takes.
@@ -234,14 +258,14 @@ fn tail_place_at(words: &[u64], index: &[Standing], head: u16) -> u64
     place_behind(FIRST_PLACE, last_at(words, index, head, MIDDLE, PLACES))
 }
 
-/// The place that an add with priority takes.
+/// The place that an add with priority takes: behind the last entry with priority. No bookmark counts.
 fn priority_place_at(words: &[u64], index: &[Standing], head: u16) -> u64
     requires count { length words.now ≡ 9873 }
     requires index { IsIndex (shown_stand words.now) index.now }
     ensures place { (s : State) (n : ℕ) → Shows words.now s.table → IsSound s n → result ≡ priority_place (s.queue head) }
     ensures fits { result < 2 ^ 40 }
 {
-    place_behind(FIRST_PRIORITY, last_at(words, index, head, 0, MIDDLE))
+    place_behind(FIRST_PRIORITY, last_entry_at(words, index, head, 0, MIDDLE))
 }
 
 /// The place that an add takes.

@@ -1,4 +1,5 @@
-use Rattle.std.proofs.Common.{sym, ap, ◌∙◌, append-nil}
+use Rattle.std.specs.Prelude.{ℕ, ◌≤◌}
+use Rattle.std.proofs.Common.{sym, ap, subst, ◌∙◌, append-nil}
 use Rattle.wait_model.specs.Runs.{state_of}
 use Rattle.wait_model.specs.declared.points.Planned.{Planned}
 use Rattle.wait_model.specs.Runs.{busy_head}
@@ -26,6 +27,7 @@ use Rattle.wait_core.proofs.Answered.{
   call_fits,
   plan_in_range,
 }
+use Rattle.wait_core.proofs.Spoken.{ended_well}
 use Rattle.wait_core.proofs.engine.Core.step.Goals as goal
 
 pub returns-in_default : goal.returns-in_default
@@ -36,6 +38,7 @@ returns-in_default c = record {
       c.from-slot.ensures c.index.ensures)
       c.in_default.not-Open;
   run = sym (append-nil c.args.self.now);
+  sentence = λ call p e a q r. absurd (cc);
 }
 
 pub returns-then-not-task_at-clause-answer : goal.returns-then-not-task_at-clause-answer
@@ -223,3 +226,9 @@ returns-clause-run c =
     (shown_in _ _ (state_of c.self.inside.run.items) c.deref-5.ensures.value core.shown) may in
     grown_run c.self.inside.run.items c.args.self.now c.log.new.run.items c.args.task
     c.plan-planned.result.event c.change_by-change.result.found c.self.view_is was c.log.ensures.items
+
+pub returns-clause-sentence : goal.returns-clause-sentence
+returns-clause-sentence c =
+    let core = c.self.invariant.core in
+    ended_well c.args.self.now c.args.task _ (rw (← c.self.view_is) core.run)
+    (rw (← c.self.view_is) (subst (λ (n : ℕ). n ≤ 1000000) core.made core.few)) c.requires (returns-clause-answer c)

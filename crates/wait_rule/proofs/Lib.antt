@@ -3,9 +3,12 @@ pub mod Steps
 pub mod Lists
 pub mod Links
 pub mod Placed
+pub mod OwnEntries
+pub mod WornNotes
 pub mod Ruled
 pub mod TaskBits
 pub mod TaskKinds
+pub mod SimpleHeads
 pub mod HeadKinds
 pub mod EntryKinds
 pub mod FlagKinds
@@ -19,9 +22,12 @@ pub mod QueueMoves
 pub mod MemberMoves
 pub mod After
 pub mod Looks
+pub mod Going
+pub mod Staying
 pub mod Looked
 pub mod Queued
 pub mod Settled
 pub mod Histories
+pub mod WorkedHolds
 pub mod Kin
 pub mod Selected

@@ -79,12 +79,14 @@ module _ (L : Scene → Type 0) where
   pub learns : (slots id : ℕ) (v : View) (c : List (ℕ × Ask)) (p : ℕ) (tells : Type 0) → v.lives ≡ true
       → ((s : Scene) (n : ℕ) → L s → n ≡ slice_index s.words p → L (moved s v.number p n []))
       → ((s : Scene) → L s → ((t : ℕ) → 1 ≤ owns t v → s.items t ≡ has_of t v)
-      → ((t : ℕ) → task_count ≤ t → s.items t ≡ []) → tells)
+      → ((t : ℕ) → owns t v ≤ 1) → ((t : ℕ) → task_count ≤ t → s.items t ≡ []) → tells)
       → Allows (Holds L) slots id (v, c) p (λ n. n) (λ n m. (m ≡ (v, c)) × tells)
   learns slots id v c p tells lives still fact s r long at small =
       let a = allows slots id v c p (λ n. n) (λ n. []) (λ n. Unit {0}) lives
       (λ z law few own _. (still z (slice_index z.words p) law refl, tt)) s r long at small in
       let most = at_most s.views r.sole in
       let told : tells = fact (seen_as s.words s.views) r.law
-      (λ t mine. list_sole t s.views id v at (most t) mine) (nobody_else s.views r.sole) in
+      (λ t mine. list_sole t s.views id v at (most t) mine)
+      (λ t. let part : owns t v ≤ total (owns t) s.views = total_at (owns t) s.views id v at in
+      let all = most t in omega arith) (nobody_else s.views r.sole) in
       (a.0, a.1, a.2, a.3, (a.4.0 ∙ ap (λ w. (w, c)) (pushed_none v), told))

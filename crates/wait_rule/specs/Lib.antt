@@ -2,12 +2,17 @@ pub mod Items
 pub mod Notes
 pub mod Members
 pub mod Places
+pub mod Ends
 pub mod Views
 pub mod Known
 pub mod Rule
 pub mod Says
 pub mod Queues
+pub mod Stays
+pub mod Shown
+pub mod Transitions
 pub mod Worn
+pub mod WorkedHolds
 pub mod Looking
 pub mod Plays
 pub mod QueuePlays

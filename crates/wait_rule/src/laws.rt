@@ -2,7 +2,8 @@
 
 ghost use Rattle.std.specs.Prelude.{◌≡◌};
 ghost use Rattle.wait_rule.specs.Says.{MeetsLaw};
-ghost use Rattle.wait_rule.specs.Worn.{EntriesWearLate, MarksWearLate, HoldsWearLate};
+ghost use Rattle.wait_rule.specs.Worn.{EntriesWearLate, MarksWearLate, HoldsWearLate, HoldsNote, NotesStay, JoinKeepsNotes, OwnWearsLate, JoinedWearsLate};
+ghost use Rattle.wait_rule.specs.WorkedHolds.{SimpleHolds, CallsRightly, PausesRightly};
 
 use crate::domain::{Domain, Task};
 use crate::rule::Witness;
@@ -25,4 +26,24 @@ pub fn wears_late()
     ensures entries { EntriesWearLate }
     ensures marks { MarksWearLate }
     ensures holds { HoldsWearLate }
+{}
+
+/// That a hold of a task found a head without a place stays known after the hold: it stands in the task's list, and
+/// stays there when the list grows. In the table that the task sees with its list, and in the one that another task
+/// sees that joined it, at least 2^37 entries were queued at that head, by the histories of all tasks.
+pub fn worn_stays()
+    ensures notes { HoldsNote }
+    ensures stays { NotesStay }
+    ensures joins { JoinKeepsNotes }
+    ensures own { OwnWearsLate }
+    ensures joined { JoinedWearsLate }
+{}
+
+/// What the definitions say of small histories of holds. A hold of a simple head, which is given no walk, ends the wake
+/// that is owed of the head's watch where it finds the queue empty. A wake of a walk calls the first entry of its task
+/// that stands where the walk goes on or after it; what a hold selects is taken from the walk that goes on.
+pub fn worked_holds()
+    ensures simple { SimpleHolds }
+    ensures calls { CallsRightly }
+    ensures pauses { PausesRightly }
 {}

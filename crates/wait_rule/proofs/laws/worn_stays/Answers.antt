@@ -1,0 +1,17 @@
+use Rattle.wait_rule.proofs.WornNotes.{holds_note, notes_stay, join_keeps_notes, own_late, joined_late}
+use Rattle.wait_rule.proofs.laws.worn_stays.Goals as goal
+
+pub returns-clause-notes : goal.returns-clause-notes
+returns-clause-notes c = holds_note
+
+pub returns-clause-stays : goal.returns-clause-stays
+returns-clause-stays c = notes_stay
+
+pub returns-clause-own : goal.returns-clause-own
+returns-clause-own c = own_late
+
+pub returns-clause-joined : goal.returns-clause-joined
+returns-clause-joined c = joined_late
+
+pub returns-clause-joins : goal.returns-clause-joins
+returns-clause-joins c = join_keeps_notes

@@ -1,0 +1,239 @@
+-- A task of tests that waits with its entry of slot 0, and leaves.
+use Rattle.std.proofs.Common.{◌∙◌, ap, sym, refl, subst, inl, arith}
+use Rattle.std.specs.Prelude.{ℕ, ◌≡◌, ◌&&◌, ◌||◌, not, Bool, true, false, Option, Some, None}
+use Rattle.wait_model.specs.declared.watches.Entry.{Entry}
+use Rattle.wait_model.specs.declared.watches.Watch.TheVariants as watch
+use Rattle.wait_model.specs.declared.watches.Kind.{Kind}
+use Rattle.wait_model.specs.declared.watches.Kind.TheVariants as kind
+use Rattle.wait_model.specs.declared.watches.Watch.{Watch}
+use Rattle.wait_model.specs.declared.watches.Mode.TheVariants as mode
+use Rattle.wait_model.specs.declared.watches.Aim.{Aim}
+use Rattle.wait_model.specs.declared.queues.Mark.{Mark}
+use Rattle.wait_model.specs.declared.steps.Step.{Step}
+use Rattle.wait_model.specs.declared.steps.Step.TheVariants as step
+use Rattle.wait_model.specs.declared.tasks.Sleep.{Sleep}
+use Rattle.wait_model.specs.Tasks.{meets}
+use Rattle.wait_model.specs.Watches.{head_of, mask_of, same}
+use Rattle.wait_model.specs.Words.{entry_of}
+use Rattle.wait_model.specs.Views.{View as Told, Bits, blank, tries}
+use Rattle.wait_model.specs.Fold.{after, view_of}
+use Rattle.wait_model.proofs.Looks.{after_snoc}
+use Rattle.wait_model.proofs.Unlocked.{unlock_bits}
+use Rattle.wait_rule.specs.declared.view.Item.TheVariants as item
+use Rattle.wait_rule.specs.Known.{Known}
+use Rattle.wait_rule.specs.Notes.{Notes}
+use Rattle.wait_rule.specs.Says.{IsClean, IsFree, Excuse, OwesBut, OwesNothing, HasSlept, no_excuse, added, history_of, told_of, noted}
+use Rattle.wait_rule.specs.Queues.{IsIdle, IsTailPlace, KnewEntry, MayUnqueue, index, saw}
+use Rattle.wait_rule.specs.Stays.{TriesNone, Stays, StaysOwing, also, nothing}
+use Rattle.wait_rule.proofs.After.{told_added}
+use Rattle.wait_rule.proofs.Histories.{history_slept}
+use Rattle.wait_rule.proofs.Settled.{stays_settled, owes_after}
+use Rattle.wait_rule.proofs.Staying.{look_out, none_tried, owes_out}
+use Rattle.wq_head.specs.Holds.{HasLocked, HasUnlocked, IsHolding}
+use Rattle.wq_head.specs.Looks.{Looks}
+use Rattle.wq_head.specs.Adds.{HasAdded, HasRemoved, entry_for}
+use Rattle.wq_head.specs.Walks.{HasEnded, spares}
+use Rattle.wq_head.specs.Leaving.{HasEntry, HasLeft, IsBack, IsQueued}
+use Rattle.wq_head.proofs.Marked.{own_marked, place_marked}
+use Rattle.wq_head.proofs.Readying.{first_head, may_take_off}
+use Rattle.wq_head.proofs.Seeing.{saw_bits, saw_looks}
+use Rattle.wq_head.proofs.Waits.{locked_told}
+
+-- the entry stays where the number and the entries stay, and what is owed
+pub entry_on : (old new : Known) (kd : Kind) → new.view.number ≡ old.view.number
+    → (told_of new).bits.stored ≡ (told_of old).bits.stored → StaysOwing old new → HasEntry old kd → HasEntry new kd
+entry_on old new kd number stored owing h = record {
+  place = h.place;
+  queued = (λ i. stored i (index (number i) 0)) ∙ h.queued;
+  settled = subst (λ (n : ℕ). OwesBut (also (index n 0) no_excuse) (told_of new)) (sym number)
+      (owing (also (index old.view.number 0) no_excuse) h.settled);
+  tries = λ x c. ap (λ (f : ℕ → Option Entry). tries (f x) c) stored ∙ h.tries x c;
+}
+
+-- over a step on a task word, a sleep, and a lock
+pub entry_after : (old new : Known) (kd : Kind) (e : Step) → stays_settled e ≡ true
+    → (after e (told_of old)).bits.stored ≡ (told_of old).bits.stored → new ≡ added old (item.Made e) → HasEntry old kd
+    → HasEntry new kd
+entry_after old new kd e settles same is = entry_on old new kd (ap (λ (k : Known). k.view.number) is)
+    (ap (λ (k : Known). (told_of k).bits.stored) is ∙ (ap (λ (v : Told). v.bits.stored) (told_added old (item.Made e)) ∙ same))
+    (owes_after old new e settles is)
+
+slept_told : (old new : Known) (answer : Sleep) → HasSlept old new answer → told_of new ≡ told_of old
+slept_told old new answer h = ap view_of (history_slept old new answer h)
+    ∙ after_snoc blank (history_of old) (step.Sleep h.found)
+
+pub entry_slept : (old new : Known) (kd : Kind) (answer : Sleep) → HasSlept old new answer → HasEntry old kd → HasEntry new kd
+entry_slept old new kd answer h = entry_on old new kd (ap (λ (k : Known). k.view.number) h.is)
+    (ap (λ (v : Told). v.bits.stored) (slept_told old new answer h))
+    (λ x. subst (OwesBut x) (sym (slept_told old new answer h)))
+
+pub entry_locked : (old new : Known) (kd : Kind) (head : ℕ) (walk : Option Aim) → HasLocked old new head walk
+    → Stays nothing old new → StaysOwing old new → HasEntry old kd → HasEntry new kd
+entry_locked old new kd head walk l stays owing = entry_on old new kd stays.number
+    (ap (λ (v : Told). v.bits.stored) (locked_told old new head walk l)) owing
+
+unlocked_stored : (old new : Known) (spent : Bool) → HasUnlocked old new spent
+    → (told_of new).bits.stored ≡ (told_of old).bits.stored
+unlocked_stored old new spent u = ap (λ (k : Known). (told_of k).bits.stored) u.is
+    ∙ (ap (λ (v : Told). v.bits.stored) (told_added old (item.Made (step.Unlock old.at spent)))
+    ∙ ap (λ (b : Bits). b.stored) (unlock_bits (told_of old) (told_of old).walk spent))
+
+-- an add in a hold of its own
+pub entry_added : (old held queued new : Known) (kd : Kind) → IsClean old → Stays nothing old held → StaysOwing old held
+    → HasAdded IsTailPlace held queued 0 (watch.Plain 0) kd → HasUnlocked queued new false → IsBack new kd
+entry_added old held queued new kd clean stays owing a u = record {
+  running = u.stays.state ∙ (a.stays.state ∙ (stays.state ∙ clean.running));
+  queued = record {
+    up = u.stays.awake ∙ (a.stays.awake ∙ (stays.awake ∙ clean.up));
+    free = u.free;
+    entry = entry_on queued new kd u.stays.number (unlocked_stored queued new false u) u.settled (record {
+      place = a.place;
+      queued = ap (λ (n : ℕ). (told_of queued).bits.stored (index n 0)) a.stays.number ∙ a.queued;
+      settled = subst (λ (n : ℕ). OwesBut (also (index n 0) no_excuse) (told_of queued)) (sym a.stays.number)
+          (a.settled no_excuse none (owing no_excuse clean.settled));
+      tries = a.stays.tries_none none;
+    });
+  };
+}
+  where
+    none : TriesNone (told_of held)
+    none = none_tried (told_of held) (owing no_excuse clean.settled)
+
+-- a look at the own entry in a hold, and its removal
+module _ (old mid : Known) (n w : ℕ) (kd : Kind) (mine : n ≡ old.view.number) (held : IsHolding old) (at : old.at ≡ 256)
+    (h : HasEntry old kd) (is : mid ≡ added old (item.Made (saw old.book.head (index n 0) w))) (knew : KnewEntry old (index n 0) w) where
+  looks : Looks old mid
+  looks = saw_looks old mid (index n 0) w held is knew
+
+  here : index n 0 ≡ index old.view.number 0
+  here = ap (λ (m : ℕ). index m 0) mine
+
+  owing : OwesBut (also (index n 0) no_excuse) (told_of mid)
+  owing = looks.settled h.tries (also (index n 0) no_excuse)
+      (subst (λ (x : ℕ). OwesBut (also x no_excuse) (told_of old)) (sym here) h.settled)
+
+  pub off_left : entry_of w ≡ None → HasLeft old mid
+  off_left none = record {
+    hold = record {
+      domain = looks.stays.domain;
+      book = ap (λ (k : Known). k.book) looks.is;
+      at = ap (λ (k : Known). k.at) looks.is;
+    };
+    settled = owes_out (index n 0) no_excuse (told_of mid) owing
+        (look_out old mid (index n 0) w (saw_bits old mid (index n 0) w held is knew) none);
+  }
+
+  pub on_may : (e : Entry) → entry_of w ≡ Some e → MayUnqueue mid n 0
+  on_may e reads =
+      let stored = knew.own 0 (omega arith) here e reads in
+      let same : Some e ≡ Some (entry_for (watch.Plain 0) kd h.place) =
+      sym stored ∙ (ap (told_of old).bits.stored here ∙ h.queued) in
+      let is_it : e ≡ entry_for (watch.Plain 0) kd h.place = cc in
+      may_take_off old mid n w held is knew e mine reads (ap (λ (f : Entry). head_of f.watch) is_it ∙ (first_head ∙ sym at))
+
+  pub removed_left : (new : Known) → HasRemoved mid new n 0 → HasLeft old new
+  removed_left new r = record {
+    hold = record {
+      domain = r.stays.domain ∙ looks.stays.domain;
+      book = ap (λ (k : Known). k.book) r.is ∙ ap (λ (k : Known). k.book) looks.is;
+      at = ap (λ (k : Known). k.at) r.is ∙ ap (λ (k : Known). k.at) looks.is;
+    };
+    settled = r.settled no_excuse owing;
+  }
+
+-- an entry of kind Default stands
+pub default_reads : (old : Known) (n w : ℕ) → n ≡ old.view.number → (h : HasEntry old kind.Default) → KnewEntry old (index n 0) w
+    → entry_of w ≡ Some (entry_for (watch.Plain 0) kind.Default h.place)
+default_reads old n w mine h knew = knew.stands 0 (omega arith) (ap (λ (m : ℕ). index m 0) mine)
+    (entry_for (watch.Plain 0) kind.Default h.place)
+    (ap (λ (m : ℕ). (told_of old).bits.stored (index m 0)) mine ∙ h.queued) (inl refl)
+
+-- a task that has left and given the lock back is clean
+pub left_clean : (old held off new : Known) (kd : Kind) → IsBack old kd → Stays nothing old held → HasLeft held off
+    → HasUnlocked off new false → IsClean new
+left_clean old held off new kd back stays left u = record {
+  up = u.stays.awake ∙ (ap (λ (b : _). b.awake) left.hold.book ∙ (stays.awake ∙ back.queued.up));
+  running = u.stays.state ∙ (ap (λ (b : _). b.state) left.hold.book ∙ (stays.state ∙ back.running));
+  free = u.free;
+  settled = u.settled no_excuse left.settled;
+}
+
+none_marked : (o : Option Mark) → place_marked o ≡ None → o ≡ None
+none_marked None is = refl
+none_marked (Some m) is = absurd (cc)
+
+-- a task that is RUNNING, holds no lock and has no bookmark out, by what it owes
+pub idle_by : (k : Known) (x : Excuse) → k.book.state ≡ 0 → IsFree k → OwesBut x (told_of k) → IsIdle k
+idle_by k x running free o = record {
+  running = running;
+  free = free;
+  unmarked = none_marked (noted k).own (sym (own_marked k) ∙ o.unmarked);
+}
+
+-- a publish of a task that owed nothing, which a wake of all then excuses
+excused : (s o m : Bool) → (o && not (not m)) ≡ false → ((s || o) && not (not m || (s && m))) ≡ false
+excused false false m is = refl
+excused false true false is = refl
+excused false true true is = is
+excused true o false is = refl
+excused true o true is = refl
+
+abbrev pub all_of : Watch → Aim
+all_of c = record { watch = c; mode = mode.Normal; count = 0 }
+
+pub published_owes : (old new : Known) (c : Watch) (n r : ℕ) → new ≡ added old (item.Made (step.Publish c n r))
+    → OwesNothing (told_of old) → OwesBut (spares (all_of c) no_excuse) (told_of new)
+published_owes old new c n r is o = subst (OwesBut (spares (all_of c) no_excuse))
+    (sym (ap told_of is ∙ told_added old (item.Made (step.Publish c n r)))) (record {
+      unmarked = o.unmarked;
+      owes = λ d σ. excused (same d c) ((told_of old).duty.owes d σ) (meets (mask_of mode.Normal) σ) (o.owes d σ);
+      unqueued = o.unqueued;
+      holds = λ d. ap (λ (b : Bool). b && not (same d c)) (o.holds d);
+      tries = o.tries;
+    })
+
+pub clean_idle : (k : Known) → IsClean k → IsIdle k
+clean_idle k c = idle_by k no_excuse c.running c.free c.settled
+
+pub published_idle : (old new : Known) (c : Watch) (n r : ℕ) → new ≡ added old (item.Made (step.Publish c n r)) → IsClean old
+    → IsIdle new
+published_idle old new c n r is clean = idle_by new (spares (all_of c) no_excuse)
+    (ap (λ (k : Known). k.book.state) is ∙ clean.running) (ap (λ (k : Known). k.book.head) is ∙ clean.free)
+    (published_owes old new c n r is clean.settled)
+
+pub published_tries : (old new : Known) (c : Watch) (n r : ℕ) → new ≡ added old (item.Made (step.Publish c n r))
+    → OwesNothing (told_of old) → TriesNone (told_of new)
+published_tries old new c n r is o = subst TriesNone
+    (sym (ap told_of is ∙ told_added old (item.Made (step.Publish c n r)))) (none_tried (told_of old) o)
+
+-- a wake with the own entry queued
+pub back_idle : (k : Known) (kd : Kind) → IsBack k kd → IsIdle k
+back_idle k kd b = idle_by k (also (index k.view.number 0) no_excuse) b.running b.queued.free b.queued.entry.settled
+
+-- who owes nothing owes no more where wakes are excused
+spared : (w s o : Bool) → (o && not w) ≡ false → (o && not (w || s)) ≡ false
+spared w s false is = refl
+spared true s true is = refl
+spared false true true is = refl
+spared false false true is = is
+
+pub owes_spared : (a : Aim) (x : Excuse) (v : Told) → OwesBut x v → OwesBut (spares a x) v
+owes_spared a x v o = record {
+  unmarked = o.unmarked;
+  owes = λ c σ. spared (x.wakes c σ) (same c a.watch && meets (mask_of a.mode) σ) (v.duty.owes c σ) (o.owes c σ);
+  unqueued = o.unqueued;
+  holds = o.holds;
+  tries = o.tries;
+}
+
+pub entry_woken : (old new : Known) (a : Aim) → IsBack old kind.Default → HasEnded old new a → HasEntry new kind.Default
+entry_woken old new a b e =
+    let h = b.queued.entry in record {
+      place = h.place;
+      queued = ap (λ (n : ℕ). (told_of new).bits.stored (index n 0)) e.stays.number
+          ∙ e.stays.stands 0 (omega arith) refl (entry_for (watch.Plain 0) kind.Default h.place) h.queued (inl refl);
+      settled = subst (λ (n : ℕ). OwesBut (also (index n 0) no_excuse) (told_of new)) (sym e.stays.number)
+          (e.settled (also (index old.view.number 0) no_excuse) h.tries
+          (owes_spared a (also (index old.view.number 0) no_excuse) (told_of old) h.settled));
+      tries = e.stays.tries_none h.tries;
+    }

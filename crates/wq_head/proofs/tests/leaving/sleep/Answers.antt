@@ -1,0 +1,15 @@
+use Rattle.std.proofs.Common.{◌∙◌, ap}
+use Rattle.wait_rule.specs.Known.{Known}
+use Rattle.wq_head.proofs.Leaving.{entry_slept}
+use Rattle.wq_head.proofs.tests.leaving.sleep.Goals as goal
+
+pub returns-clause-back : goal.returns-clause-back
+returns-clause-back g c =
+    let s = c.schedule.ensures.step in record {
+      running = ap (λ (k : Known). k.book.state) s.is;
+      queued = record {
+        up = ap (λ (k : Known). k.book.awake) s.is;
+        free = ap (λ (k : Known). k.book.head) s.is ∙ c.requires.queued.free;
+        entry = entry_slept c.args.task.now c.schedule.new.task c.args.kind c.schedule.result s c.requires.queued.entry;
+      };
+    }

@@ -7,7 +7,8 @@ pub record SourceState : Type 0 where
   pub left : List ℕ
   pub reads : Calls
 
--- a sink: the bytes that it holds, and its writes
+-- a sink: the bytes that it holds, its writes, and how many of them wanted memory
 pub record SinkState : Type 0 where
   pub held : List ℕ
   pub writes : Calls
+  pub wants : ℕ

@@ -1,6 +1,6 @@
-ghost use Rattle.std.specs.Prelude.{◌≡◌, ◌+◌, ◌-◌, ◌<◌, ◌≤◌, [], ◌++◌, Some, Ok, Err, length, take, drop};
+ghost use Rattle.std.specs.Prelude.{◌≡◌, ◌+◌, ◌-◌, ◌^◌, ◌<◌, ◌≤◌, [], ◌++◌, Some, Ok, Err, length, take, drop};
 ghost use Rattle.std.specs.Prelude.{IfOk, OnOk, OnErr, IsErrOf, vec_len, vec_capacity};
-ghost use Rattle.edge_io.specs.Faults.{HasRisen};
+ghost use Rattle.edge_io.specs.Faults.{HasRisen, CountsFailed, CountsWanted};
 ghost use Rattle.edge_io.specs.Text.{Midway};
 
 use crate::sink::write_front;
@@ -54,13 +54,16 @@ impl Buffer {
 
     /// Sends all bytes on to `out`.
     ///
-    /// After a fault, which is that of the last write to `out`, a front of the bytes is in `out` and
-    /// the rest is still here: none is lost, and none is sent twice.
+    /// After a fault a front of the bytes is in `out` and the rest is still here: none is lost, and none
+    /// is sent twice. The fault is that of the last write to `out`: of all these writes that one alone was
+    /// counted, by the count of its kind.
     pub fn flush<K: Sink>(&mut self, out: &mut K) -> Result<(), SinkFault>
         ensures sent { Midway (K.held out.old) (K.held out.new) self.new self.old }
         ensures empty { OnOk result (self.new ≡ []) }
         ensures cause { IsErrOf result SinkFault.Failed → HasRisen (K.faults out.old) (K.faults out.new) }
         ensures later { K.faults out.old ≤ K.faults out.new }
+        ensures failed { CountsFailed (K.faults out.old) (K.faults out.new) result }
+        ensures wanted { CountsWanted (K.wants out.old) (K.wants out.new) result }
     {
         let (sent, result) = write_front(out, &self.bytes);
         remove_front(&mut self.bytes, sent);
@@ -78,6 +81,8 @@ impl Buffer {
         ensures spares { length self.old + room ≤ BUFFER_ROOM → self.new ≡ self.old }
         ensures cause { IsErrOf result SinkFault.Failed → HasRisen (K.faults out.old) (K.faults out.new) }
         ensures later { K.faults out.old ≤ K.faults out.new }
+        ensures failed { CountsFailed (K.faults out.old) (K.faults out.new) result }
+        ensures wanted { CountsWanted (K.wants out.old) (K.wants out.new) result }
     {
         if room <= BUFFER_ROOM - self.bytes.len() {
             return Ok(());
@@ -91,6 +96,8 @@ impl Sink for Buffer {
 
     ghost faults = { λ _. 0 };
 
+    ghost wants = { λ _. 2 ^ 64 - 1 };
+
     /// Takes the piece whole where it fits, and else nothing: OutOfMemory. It never answers Failed.
     fn write(&mut self, piece: &[u8]) -> Result<usize, SinkFault>
         ensures fits { IfOk result (λ n. n ≤ length piece.now) }
@@ -99,6 +106,8 @@ impl Sink for Buffer {
         ensures nothing { OnErr result (self.new ≡ self.old) }
         ensures cause { IsErrOf result SinkFault.Failed → HasRisen 0 0 }
         ensures later { 0 ≤ 0 }
+        ensures failed { CountsFailed 0 0 result }
+        ensures wanted { CountsWanted (2 ^ 64 - 1) (2 ^ 64 - 1) result }
         ensures whole { length self.old + length piece.now ≤ BUFFER_ROOM → result ≡ Ok (length piece.now) }
         ensures full { BUFFER_ROOM < length self.old + length piece.now → result ≡ Err SinkFault.OutOfMemory }
     {

@@ -1,4 +1,5 @@
-ghost use Rattle.std.specs.Prelude.{◌≡◌, ◌<◌, ◌≤◌, ◌+◌, ◌↔◌, IfOk, IsTrue};
+ghost use Rattle.std.specs.Prelude.{◌≡◌, ◌<◌, ◌≤◌, ◌+◌, ◌↔◌, IfOk, IsTrue, IsFalse};
+ghost use Rattle.edge_io.specs.Faults.{HasCounted};
 ghost use Rattle.edge_io.specs.Fails.{Calls, FailsNext, CountsCall, IsFresh};
 
 use std::alloc::{AllocError, Global};
@@ -37,6 +38,8 @@ impl Fails {
     pub(crate) fn next(&mut self) -> bool
         ensures fails { IsTrue result ↔ FailsNext self.old }
         ensures risen { IsTrue result → self.new.faults ≡ self.old.faults + 1 }
+        ensures counted { IsTrue result → HasCounted self.old.faults self.new.faults }
+        ensures kept { IsFalse result → self.new.faults ≡ self.old.faults }
         ensures later { self.old.faults ≤ self.new.faults }
         ensures counts { CountsCall self.old self.new }
     {

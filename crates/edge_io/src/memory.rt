@@ -1,6 +1,6 @@
 ghost use Rattle.std.specs.Prelude.{◌≡◌, ◌<◌, ◌≤◌, ◌+◌, ◌^◌, ◌-◌, ◌↔◌, ◌++◌, [], length, drop, take, min};
 ghost use Rattle.std.specs.Prelude.{Some, IfOk, IsErr, IsErrOf, OnErr};
-ghost use Rattle.edge_io.specs.Faults.{HasRisen};
+ghost use Rattle.edge_io.specs.Faults.{HasRisen, CountsFailed, CountsWanted};
 ghost use Rattle.edge_io.specs.Fails.{FailsNext, CountsCall, IsFresh};
 ghost use Rattle.edge_io.specs.Memory.{SourceState, SinkState};
 
@@ -86,12 +86,13 @@ fn hand_out(left: &[u8], buf: &mut [u8]) -> usize
 pub struct MemSink {
     bytes: Vec<u8>,
     fails: Fails,
+    wants: u64,
 }
 
 impl Model for MemSink {
     ghost Value = { SinkState };
 
-    ghost view = { λ s. record { held = s.bytes.items; writes = s.fails } };
+    ghost view = { λ s. record { held = s.bytes.items; writes = s.fails; wants = s.wants } };
 }
 
 impl MemSink {
@@ -105,6 +106,7 @@ impl MemSink {
         Ok(MemSink {
             bytes: Vec::new(alloc),
             fails: Fails::new(alloc, fails)?,
+            wants: 0,
         })
     }
 
@@ -121,6 +123,8 @@ impl Sink for MemSink {
 
     ghost faults = { λ s. s.writes.faults };
 
+    ghost wants = { λ s. s.wants };
+
     /// Takes the piece whole. Failed at just the numbers of its list, and OutOfMemory where the bytes
     /// can't be kept.
     fn write(&mut self, piece: &[u8]) -> Result<usize, SinkFault>
@@ -131,6 +135,8 @@ impl Sink for MemSink {
         ensures cause { IsErrOf result SinkFault.Failed
             → HasRisen self.old.writes.faults self.new.writes.faults }
         ensures later { self.old.writes.faults ≤ self.new.writes.faults }
+        ensures failed { CountsFailed self.old.writes.faults self.new.writes.faults result }
+        ensures wanted { CountsWanted self.old.wants self.new.wants result }
         ensures exact { IsErrOf result SinkFault.Failed ↔ FailsNext self.old.writes }
         ensures whole { IfOk result (λ n. n ≡ length piece.now) }
         ensures calls { CountsCall self.old.writes self.new.writes }
@@ -140,7 +146,10 @@ impl Sink for MemSink {
         }
         match self.bytes.extend_from_slice(piece) {
             Ok(()) => Ok(piece.len()),
-            Err(_) => Err(SinkFault::OutOfMemory),
+            Err(_) => {
+                self.wants = self.wants.saturating_add(1);
+                Err(SinkFault::OutOfMemory)
+            }
         }
     }
 }

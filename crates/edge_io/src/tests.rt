@@ -14,6 +14,8 @@ impl Sink for Sips {
 
     ghost faults = { λ s. s.sink.writes.faults };
 
+    ghost wants = { λ s. s.sink.wants };
+
     fn write(&mut self, piece: &[u8]) -> Result<usize, SinkFault> {
         let count = piece.len().min(3);
         self.sink.write(&piece[..count])

@@ -4,18 +4,22 @@ ghost use Rattle.edge_io.specs.declared.whole.ReadFault.TheVariants.{OutOfMemory
 
 use crate::{Failed, Source};
 use std::alloc::{AllocError, Global};
+use thiserror::Error;
 
 // The bytes of one read.
 const READ_SIZE: usize = 4096;
 
 /// Why a source couldn't be read whole.
-#[derive(Clone, Copy, Debug, PartialEq, Eq)]
+#[derive(Clone, Copy, Debug, PartialEq, Eq, Error)]
 pub enum ReadFault {
     /// A read failed.
+    #[error("a read failed")]
     Failed,
     /// There was no memory for the bytes.
+    #[error("there is no memory for the bytes that are read")]
     OutOfMemory,
     /// The source has more bytes than were asked for.
+    #[error("there are too many bytes to read")]
     Long,
 }
 

@@ -1,5 +1,5 @@
 -- One more piece of the text is held.
-use Rattle.std.proofs.Common.{arith}
+use Rattle.std.proofs.Common.{◌∙◌, arith}
 use Rattle.std.proofs.lemmas.Grind.{common_steps}
 use Rattle.edge_io.proofs.Known.{append_known-next}
 use Rattle.edge_io.proofs.sink.write_front.Goals as goal
@@ -12,4 +12,6 @@ loop-done-preserved g c =
       front = append_known-next _ _ _ c.args.text.now c.loop-done.done c.in-Ok.taken
           c.loop-done.invariant.front wrote.bytes;
       later = omega (arith, c.write.ensures.later);
+      failed = c.in-Ok.ensures.failed ∙ c.loop-done.invariant.failed;
+      wanted = c.in-Ok.ensures.wanted ∙ c.loop-done.invariant.wanted;
     }

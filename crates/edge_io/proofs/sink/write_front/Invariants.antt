@@ -8,6 +8,8 @@ invariant-loop-done g l = record {
   in_range : l.done ≤ length l.text;
   front : g.K.Sink.held l.out ≡ append_known (g.K.Sink.held l.initial.out) (take l.done l.text);
   later : g.K.Sink.faults l.initial.out ≤ g.K.Sink.faults l.out;
+  failed : g.K.Sink.faults l.out ≡ g.K.Sink.faults l.initial.out;
+  wanted : g.K.Sink.wants l.out ≡ g.K.Sink.wants l.initial.out;
 }
 
 abbrev pub decreases-loop-done : goal.decreases-loop-done

@@ -11,7 +11,6 @@ pub mod Read
 pub mod ReadFields
 pub mod ReadForms
 pub mod ReadLines
-pub mod Shown
 pub mod SpelledForms
 pub mod SpelledLines
 pub mod SpelledWords

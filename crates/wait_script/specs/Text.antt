@@ -30,7 +30,7 @@ use Rattle.wait_model.specs.declared.calls.Event.TheVariants as event
 use Rattle.wait_model.specs.declared.queues.End.{End}
 use Rattle.wait_model.specs.declared.queues.End.TheVariants as end
 use Rattle.wait_model.specs.declared.calls.Answer.{Answer}
-use Rattle.wait_model.specs.declared.calls.Answer.TheVariants.{Number, Value, Walk}
+use Rattle.wait_model.specs.declared.calls.Answer.TheVariants.{Number, Value, Walk, Worn}
 use Rattle.wait_core.specs.declared.engine.Stepped.{Stepped}
 use Rattle.wait_core.specs.declared.engine.Stepped.TheVariants.{Made, NoCall, Asleep, Busy, Full}
 use Rattle.wait_core.specs.declared.engine.StartFault.{StartFault}
@@ -111,11 +111,13 @@ end_text end.End = codes "end"
 end_text end.Spent = codes "spent"
 end_text end.Stopped = codes "stopped"
 
+-- what a call answers; no core answers `Worn`, so no replay writes it
 abbrev pub answer_text : Answer → List ℕ
 answer_text (Number n) = signed_decimal n
 answer_text (Value n) = decimal n
 answer_text (Walk w) = codes "woken " ++ decimal w.woken ++ codes " selected " ++ decimal w.selected
     ++ codes " holds " ++ decimal w.holds ++ codes " " ++ end_text w.end
+answer_text Worn = codes "worn"
 
 -- a line of a task
 abbrev pub task_line : ℕ → List ℕ → List ℕ

@@ -10,7 +10,7 @@ ghost use Rattle.wait_script.specs.Ending.{events_text, member_text, line_of_tas
 use crate::pieces::LineText;
 use crate::summary::{push_events, push_head_front, push_member, push_task_end, push_word};
 use edge_io::{Sink, SinkFault, write_all};
-use wait_core::engine::Core;
+use wait_core::Core;
 use wait_model::queues::Member;
 use wait_model::tasks::TASKS;
 

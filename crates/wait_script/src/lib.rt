@@ -22,7 +22,8 @@ mod writer;
 
 pub use ending::write_end;
 pub use line::Line;
-pub use pieces::LINE_ROOM;
+pub use number::number as read_number;
+pub use pieces::{LINE_ROOM, LineText, push_number, push_text};
 pub use reader::{asked, read_script};
 pub use script::{ReadScript, Script};
-pub use writer::{write_refused, write_shown, write_step};
+pub use writer::{write_refused, write_step};

@@ -6,6 +6,7 @@ ghost use Rattle.wait_script.specs.declared.line.Line.{Line};
 use crate::line::Line;
 use std::alloc::{AllocError, AllocFailed, Global};
 use std::marker::Model;
+use thiserror::Error;
 
 /// A script: the lines behind its header.
 #[derive(Drop)]
@@ -20,12 +21,14 @@ impl Model for Script {
 }
 
 /// Why there is no script.
-#[derive(Clone, Copy, Debug, PartialEq, Eq)]
+#[derive(Clone, Copy, Debug, PartialEq, Eq, Error)]
 pub enum ReadScript {
     /// The bytes are none: the first bad line, from 1, and the first reason that stands there, by the numbers
     /// of the module `why`.
+    #[error("line {line} is bad, for reason {why}")]
     Bad { line: u32, why: u8 },
     /// The list of lines, or of a line's words, can't be had.
+    #[error("there is no memory for the lines of a script")]
     OutOfMemory,
 }
 

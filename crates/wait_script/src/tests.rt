@@ -2,7 +2,7 @@ use crate::{Line, ReadScript, asked, read_script, write_refused, write_step};
 use edge_io::MemSink;
 use std::alloc::Global;
 use std::test::Fail;
-use wait_core::engine::{StartFault, Stepped};
+use wait_core::{StartFault, Stepped};
 use wait_model::calls::{Answer, Call, Event};
 use wait_model::queues::{End, Form, Walked};
 use wait_model::tasks::{How, Sleep, SleepState, Taken};
@@ -333,7 +333,14 @@ fn each_event_and_answer_has_its_text(rt: HostRuntime) -> Result<(), Fail> {
         event: Event::Queued { yes: false },
         ended: Some(Answer::Number(-512)),
     };
-    let rows: [(Stepped, &str); 36] = [
+    let worn = Stepped::Made {
+        event: Event::Unlock {
+            head: 256,
+            spent: false,
+        },
+        ended: Some(Answer::Worn),
+    };
+    let rows: [(Stepped, &str); 37] = [
         (made(Event::State { state: 0 }), "t7 state run\n"),
         (made(Event::State { state: 1 }), "t7 state int\n"),
         (made(Event::State { state: 2 }), "t7 state unint\n"),
@@ -459,6 +466,7 @@ fn each_event_and_answer_has_its_text(rt: HostRuntime) -> Result<(), Fail> {
         (made(Event::Flag { yes: false }), "t7 flag no\n"),
         (made(Event::Unflag), "t7 unflag\n"),
         (ended, "t7 queued no\nt7 = -512\n"),
+        (worn, "t7 unlock h256\nt7 = worn\n"),
         (
             longest(),
             "t7 load v127 18446744073709551615\n\

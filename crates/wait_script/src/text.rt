@@ -5,7 +5,7 @@ ghost use Rattle.arrayvec.specs.ArrayVec.{array_vec_len};
 ghost use Rattle.wait_script.specs.Text as spec;
 
 use crate::pieces::{LineText, push_number, push_short, push_signed, push_text};
-use wait_core::engine::{StartFault, Stepped};
+use wait_core::{StartFault, Stepped};
 use wait_model::calls::{Answer, Event};
 use wait_model::queues::{End, Form, Walked};
 use wait_model::tasks::{Sleep, Taken};
@@ -248,6 +248,7 @@ fn push_answer(line: &mut LineText, answer: &Answer)
         Answer::Number(n) => push_signed(line, *n),
         Answer::Value(n) => push_number(line, *n),
         Answer::Walk(walk) => push_walk(line, walk),
+        Answer::Worn => push_text(line, b"worn"),
     }
 }
 

@@ -101,11 +101,10 @@ bad (Text text) old new fault.Write h e = absurd (omega arith)
 bad (Text text) old new fault.Memory h e = absurd (omega arith)
 bad (Text text) old new fault.Long h e = absurd h
 
-pub script_status : (input old new : Option (List ℕ)) (f : Fault)
-    → IfSome input (λ bytes. Refuses (verdict_of bytes) old new f) → status_of f ≡ 3
-    → IfSome input (λ bytes. IsBad (verdict_of bytes))
+pub script_status : (verdict : Option Verdict) (old new : Option (List ℕ)) (f : Fault)
+    → IfSome verdict (λ v. Refuses v old new f) → status_of f ≡ 3 → IfSome verdict IsBad
 script_status None old new f h e = tt
-script_status (Some bytes) old new f h e = bad (verdict_of bytes) old new f h e
+script_status (Some v) old new f h e = bad v old new f h e
 
 -- nothing was written
 pub untouched : (old : Option (List ℕ)) (f : Fault) → LeavesUnwritten old old (Err f)

@@ -1,3 +1,5 @@
+pub mod Commands
+pub mod Drill
 pub mod Fault
 pub mod Outcome
 pub mod Run

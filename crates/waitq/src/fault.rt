@@ -1,13 +1,12 @@
-//! Statuses, and the line of each.
+//! Why a command ends early, and with which status.
 
-ghost use Rattle.std.specs.Prelude.{◌≡◌, Some};
-ghost use Rattle.waitq.specs.Fault.{fault_text, why_text, status_of, read_fault, script_fault, sink_fault};
+ghost use Rattle.std.specs.Prelude.{◌≡◌};
+ghost use Rattle.waitq.specs.Fault.{status_of, read_fault, script_fault, sink_fault};
 ghost use Rattle.waitq.specs.declared.fault.Fault.TheVariants.{Memory};
 
 use edge_io::{ReadFault, SinkFault};
 use std::alloc::AllocError;
-use std::fmt;
-use wait_script::{ReadScript, why};
+use wait_script::ReadScript;
 
 /// Why a command ends early: each has a status and a line of its own.
 #[derive(Clone, Copy, Debug, PartialEq, Eq)]
@@ -38,46 +37,6 @@ impl Fault {
             Fault::Write => 5,
             Fault::Memory => 7,
             Fault::Long => 8,
-        }
-    }
-}
-
-/// Why a line is bad, by its number.
-#[derive(Clone, Copy)]
-struct WhyText(u8);
-
-impl fmt::Display for WhyText {
-    ghost output = { λ w. Some (why_text w.0) };
-
-    fn fmt<W: fmt::Write>(&self, f: &mut fmt::Formatter<W>) -> fmt::Result {
-        match self.0 {
-            why::CUT_LINE => write!(f, "cut line"),
-            why::LONG_LINE => write!(f, "long line"),
-            why::BAD_BYTE => write!(f, "bad byte"),
-            why::NO_HEADER => write!(f, "no header"),
-            why::UNKNOWN_WORD => write!(f, "unknown word"),
-            why::WORD_COUNT => write!(f, "word count"),
-            why::BAD_NUMBER => write!(f, "bad number"),
-            why::BAD_FORM => write!(f, "bad form"),
-            _ => write!(f, "bad condition"),
-        }
-    }
-}
-
-impl fmt::Display for Fault {
-    ghost output = { λ f. Some (fault_text f) };
-
-    fn fmt<W: fmt::Write>(&self, f: &mut fmt::Formatter<W>) -> fmt::Result {
-        match self {
-            Fault::Usage => writeln!(
-                f,
-                "waitq: usage: waitq replay | waitq copy SRC DST [EVENT]... | waitq drill SEED COUNT"
-            ),
-            Fault::Script { line, why } => writeln!(f, "waitq: line {line}: {}", WhyText(*why)),
-            Fault::Read => writeln!(f, "waitq: read failed"),
-            Fault::Write => writeln!(f, "waitq: write failed"),
-            Fault::Memory => writeln!(f, "waitq: out of memory"),
-            Fault::Long => writeln!(f, "waitq: input too long"),
         }
     }
 }

@@ -1,12 +1,16 @@
-//! The program that replays scripts.
+//! The program that replays scripts, and drills.
 #![tactic(auto)]
 
+mod command;
+mod drill;
 mod fault;
 mod play;
 mod replay;
+mod report;
 #[cfg(test)]
 mod rows;
 mod run;
+mod silent;
 mod streams;
 #[cfg(test)]
 mod tests;
@@ -14,10 +18,10 @@ mod tests;
 mod walks;
 
 use fault::Fault;
+use report::report;
 use std::process::ExitCode;
 use std::{env, io};
 use streams::{Reading, Writing};
-use wait_script::write_shown;
 
 /// The words behind the program's name.
 fn words(rt: &HostRuntime) -> io::Result<Vec<String>> {
@@ -33,7 +37,7 @@ fn main(rt: HostRuntime) -> ExitCode {
         // A word that is no text is in no command.
         Err(error) if error.kind() == io::ErrorKind::InvalidData => Vec::new(alloc),
         Err(_) => {
-            let _ = write_shown(&mut err, &Fault::Memory);
+            let _ = report(&mut err, &Fault::Memory);
             return ExitCode::from(Fault::Memory.status());
         }
     };

@@ -12,13 +12,13 @@ ghost use Rattle.wait_script.specs.Ending.{end_text};
 ghost use Rattle.wait_script.specs.Replay.{stops, steps_of, opening_of, replay_line, replay_from};
 
 use edge_io::{Buffer, Sink, SinkFault};
-use wait_core::engine::{Core, StartFault, Stepped};
+use wait_core::{Core, StartFault, Stepped};
 use wait_model::calls::{Call, Event};
 use wait_model::tasks::Sleep;
 use wait_script::{LINE_ROOM, Line, write_end, write_refused, write_step};
 
 /// Whether a `step` line ends early.
-fn stops(stepped: &Stepped) -> bool
+pub fn stops(stepped: &Stepped) -> bool
     ensures { result ≡ stops stepped.now }
 {
     match stepped {

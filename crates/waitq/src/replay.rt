@@ -9,7 +9,7 @@ use crate::fault::Fault;
 use crate::play::play;
 use edge_io::{Buffer, Sink, Source, read_all};
 use std::alloc::Global;
-use wait_core::engine::Core;
+use wait_core::Core;
 use wait_script::{Script, asked, read_script};
 
 /// The most bytes of an input.

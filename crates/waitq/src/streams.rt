@@ -1,7 +1,7 @@
 //! The standard streams as a source and sinks: each failure is counted, and no bytes are told.
 ghost use Rattle.std.specs.Prelude.{◌≡◌, ◌<◌, ◌≤◌, None, IfOk, OnErr, IsErrOf, length};
 ghost use Rattle.std.specs.Io.KnownBytes.{ReadConsumes, WriteAppends};
-ghost use Rattle.edge_io.specs.Faults.{HasRisen};
+ghost use Rattle.edge_io.specs.Faults.{HasRisen, CountsFailed, CountsWanted};
 
 use edge_io::{Failed, Sink, SinkFault, Source};
 use std::io::{Read, Write};
@@ -58,11 +58,15 @@ impl<W: Write> Sink for Writing<W> {
 
     ghost faults = { λ s. s.faults };
 
+    ghost wants = { λ _. 0 };
+
     fn write(&mut self, piece: &[u8]) -> Result<usize, SinkFault>
         ensures fits { IfOk result (λ n. n ≤ length piece.now) }
         ensures progress { IfOk result (λ n. 0 < length piece.now → 0 < n) }
         ensures cause { IsErrOf result SinkFault.Failed → HasRisen self.old.faults self.new.faults }
         ensures later { self.old.faults ≤ self.new.faults }
+        ensures failed { CountsFailed self.old.faults self.new.faults result }
+        ensures wanted { CountsWanted 0 0 result }
 
         // The writer gets what is written.
         ensures handed { WriteAppends (W.contents self.old.writer) (W.contents self.new.writer) result piece.now }

@@ -106,6 +106,11 @@ fn other_words_are_refused_with_the_usage(rt: HostRuntime) -> Result<(), Fail> {
         &["Replay"],
         &[""],
         &["-x"],
+        &["drill", "7"],
+        &["drill", "01", "5"],
+        &["drill", "7", "20001"],
+        &["drill", "18446744073709551616", "5"],
+        &["drill", "-1", ""],
     ] {
         let ran = run_on(&rt, words, script, &[], &[], &[])?;
         assert_eq!(rt; ran.status, 2, "{} words", words.len());
@@ -179,6 +184,46 @@ fn a_fault_of_the_error_stream_changes_no_status(rt: HostRuntime) -> Result<(), 
     let ran = run_on(&rt, &["replay"], b"", &[], &[], &[1])?;
     assert_eq!(rt; ran.status, 3);
     assert_eq!(rt; ran.line.as_str(), "");
+    Ok(())
+}
+
+#[test]
+fn drills_have_their_summaries(rt: HostRuntime) -> Result<(), Fail> {
+    for (words, text) in [
+        (
+            ["drill", "0", "1"],
+            "drill 0 1\nevents 8\nrefused 0\nasleep 1\nend\n",
+        ),
+        (
+            ["drill", "7", "0"],
+            "drill 7 0\nevents 0\nrefused 0\nasleep 0\nend\n",
+        ),
+    ] {
+        let ran = run_on(&rt, &words, b"", &[1], &[], &[])?;
+        assert_eq!(rt; ran.status, 0);
+        assert_eq!(rt; ran.text.as_str(), text);
+        assert_eq!(rt; ran.line.as_str(), "");
+    }
+    Ok(())
+}
+
+#[test]
+fn a_long_drill_says_the_same_each_time(rt: HostRuntime) -> Result<(), Fail> {
+    for _ in 0..2 {
+        let ran = run_on(&rt, &["drill", "7", "20000"], b"", &[], &[], &[])?;
+        assert_eq!(rt; ran.status, 0);
+        let text = "drill 7 20000\nevents 5511\nrefused 18639\nasleep 16\nend\n";
+        assert_eq!(rt; ran.text.as_str(), text);
+    }
+    Ok(())
+}
+
+#[test]
+fn a_summary_that_cannot_be_written_ends_with_its_status(rt: HostRuntime) -> Result<(), Fail> {
+    let ran = run_on(&rt, &["drill", "0", "1"], b"", &[], &[1], &[])?;
+    assert_eq!(rt; ran.status, 5);
+    assert_eq!(rt; ran.text.as_str(), "");
+    assert_eq!(rt; ran.line.as_str(), "waitq: write failed\n");
     Ok(())
 }
 

@@ -1,0 +1,71 @@
+//! A script's lines played without their text.
+
+ghost use Rattle.std.specs.Prelude.{◌≡◌, ◌≤◌, ◌<◌, All, length};
+ghost use Rattle.wait_model.specs.Admission.{IsListed};
+ghost use Rattle.wait_model.specs.Runs.{state_of};
+ghost use Rattle.wait_model.specs.Tasks.{task_count};
+ghost use Rattle.wait_script.specs.Fields.{last_task};
+ghost use Rattle.wait_script.specs.Spelling.{IsFit};
+ghost use Rattle.wait_script.specs.Replay.{steps_of, replay_line};
+ghost use Rattle.waitq.specs.Drill.{run_behind, refuses, refused_in, asleep_below};
+
+use crate::play::stops;
+use wait_core::Core;
+use wait_model::tasks::TASKS;
+use wait_script::Line;
+
+/// Makes up to `count` events of a task.
+fn make_steps(core: &mut Core, task: u8, count: u32)
+    requires { task ≤ last_task }
+    ensures { core.new ≡ (steps_of count core.old task).1 }
+{
+    for _i in 0..count {
+        let stepped = core.step(task);
+        if stops(&stepped) {
+            return;
+        }
+    }
+}
+
+/// Plays one line, and answers whether it is a call that was refused.
+fn make_line(core: &mut Core, line: Line) -> bool
+    requires { IsFit line }
+    ensures run { core.new ≡ (replay_line core.old line).1 }
+    ensures refused { result ≡ refuses core.old line }
+{
+    match line {
+        Line::Call { task, call } => core.start(task, call).is_err(),
+        Line::Step { task, count } => {
+            make_steps(core, task, count);
+            false
+        }
+    }
+}
+
+/// Plays the lines, and answers how many calls were refused.
+pub fn make_lines(core: &mut Core, lines: &[Line]) -> u64
+    requires { All IsFit lines.now }
+    ensures run { core.new ≡ run_behind core.old lines.now }
+    ensures refused { result ≡ refused_in core.old lines.now }
+{
+    let mut refused = 0;
+    for line in lines {
+        if make_line(core, *line) {
+            refused += 1;
+        }
+    }
+    refused
+}
+
+/// How many tasks are not runnable.
+pub fn count_asleep(core: &Core) -> u64
+    ensures { result ≡ asleep_below (state_of core.now) task_count }
+{
+    let mut asleep = 0;
+    for task in 0..TASKS {
+        if !core.task_of(task).runnable {
+            asleep += 1;
+        }
+    }
+    asleep
+}

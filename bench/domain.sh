@@ -1,14 +1,43 @@
 #!/bin/sh
-# Times the steps of a Domain beside plain Rust, and writes the ratios of each run. It needs rustc, and the program
-# built by `rt run` in crates/bench_domain. RUNS: how many runs (5).
+# Times the steps of a Domain beside plain Rust. It writes the ratios of each run, and then of each name the middle one
+# with the least and the greatest. It needs rustc, and the program built by `rt run` in crates/bench_domain.
+# RUNS: how many runs (5). BUSY: how many loops keep processors busy meanwhile (0). WITH: a command that starts the
+# programs, as `chrt -f 50`, by which other work gives way to them.
 set -eu
 cd "$(dirname "$0")/.."
-plain=$(mktemp)
-trap 'rm -f "$plain"' EXIT
-rustc -O -o "$plain" bench/plain.rs
-for _ in $(seq "${RUNS:-5}"); do
-    { "$plain" | sed 's/^/plain /'; crates/bench_domain/out/bench_domain times | sed 's/^/domain /'; } | awk '
-        $1 == "plain" { plain[$2] = $4 }
-        $1 == "domain" && NF == 4 { printf "%s %.1f ns, ratio %.2f; ", $2, $4 / $3, $4 / plain[$2] }
-        END { print "" }'
+made=$(mktemp -d)
+loops=
+end() {
+    for loop in $loops; do kill "$loop"; done
+    rm -rf "$made"
+}
+trap end EXIT
+rustc -O -o "$made/plain" bench/plain.rs
+for _ in $(seq "${BUSY:-0}"); do
+    (while :; do :; done) &
+    loops="$loops $!"
 done
+
+# NAME NANOSECONDS RATIO of one run; and the round trip that parks at once beside two threads that tell each other a number.
+ratios() {
+    {
+        ${WITH:-} "$made/plain" | sed 's/^/plain /'
+        ${WITH:-} crates/bench_domain/out/bench_domain times | sed 's/^/domain /'
+    } | awk '
+        $1 == "plain" { plain[$2] = $4 / $3 }
+        $1 == "domain" && NF == 4 {
+            printf "%s %.1f %.2f\n", $2, $4 / $3, $4 / $3 / plain[$2]
+            if ($2 == "trip_parked") printf "trip_parked_to_told %.1f %.2f\n", $4 / $3, $4 / $3 / plain["trip_told"]
+        }'
+}
+
+for _ in $(seq "${RUNS:-5}"); do
+    ratios >"$made/run"
+    awk '{ printf "%s %s ns, ratio %s; ", $1, $2, $3 } END { print "" }' "$made/run"
+    cat "$made/run" >>"$made/all"
+done
+sort -k 1,1 -k 3,3g "$made/all" | awk '
+    function flush() { if (name != "") printf "%s: middle %s, from %s to %s\n", name, all[int((n + 1) / 2)], all[1], all[n] }
+    $1 != name { flush(); name = $1; n = 0 }
+    { all[++n] = $3 }
+    END { flush() }'

@@ -13,7 +13,6 @@
 set -eu
 
 root=$(cd "$(dirname "$(readlink -f "${BASH_SOURCE[0]}")")/.." && pwd)
-program=$root/crates/waitq/out/waitq
 writer=$root/bench/make_script.py
 many=300000
 if [ "${1:-}" = --heavy ]; then
@@ -40,6 +39,8 @@ trap 'rm -rf "$work"' EXIT
 
 # Builds the program where it isn't, and sees that it runs.
 "$root/waitq" replay <"$root/examples/wait_set_wake.waitq" | cmp - "$root/examples/wait_set_wake.text"
+programs=("$root"/out/waitq-*)
+program=${programs[0]}
 
 for size in few many; do
     python3 "$writer" "${!size}" "$@" >"$work/$size.waitq"

@@ -2,16 +2,18 @@
 //! many, and writes how many nanoseconds each kind took in all, as `NAME COUNT NANOSECONDS`.
 #![tactic(auto)]
 
-ghost use Rattle.std.specs.Prelude.{◌≡◌, ◌<◌, IfOk};
+ghost use Rattle.std.specs.Prelude.{◌≡◌, ◌<◌};
 ghost use Rattle.wait_rule.specs.Says.{IsClean, IsUp};
 
+use std::alloc::Global;
 use std::hint::spin_loop;
 use std::sync::Wait;
 use std::thread::Threads;
-use std::time::{Duration, Instant};
+use std::time::{Clock, Duration, Instant};
 use std::{env, io, thread};
 use wait_model::tasks::UNINTERRUPTIBLE;
 use wait_model::watches::Mode;
+use wait_rule::running::LOOKS;
 use wait_rule::tasks::{load_own, set_state, wake_exchange};
 use wait_rule::{Domain, Task, schedule, wake_task};
 
@@ -41,8 +43,15 @@ fn exchanges<R: Wait>(rt: &R, domain: &Domain, task: &mut Task, n: u64)
     }
 }
 
-/// Wakes a task as soon as it has gone to sleep.
-fn wake_up<R: Wait>(rt: &R, domain: &Domain, task: &mut Task, who: u8)
+/// What a waker does that finds nobody about to sleep: it pauses, or it yields its processor.
+#[derive(Clone, Copy)]
+enum Retry {
+    Pause,
+    Yield,
+}
+
+/// Wakes a task as soon as it is about to sleep.
+fn wake_up<R: Wait>(rt: &R, domain: &Domain, task: &mut Task, who: u8, retry: Retry)
     requires of { task.old.domain ≡ domain.now }
     requires clean { IsClean task.old }
     requires who { who < 128 }
@@ -53,7 +62,10 @@ fn wake_up<R: Wait>(rt: &R, domain: &Domain, task: &mut Task, who: u8)
         if wake_task(rt, domain, task, who, Mode::Normal) {
             return;
         }
-        spin_loop();
+        match retry {
+            Retry::Pause => spin_loop(),
+            Retry::Yield => thread::yield_now(),
+        }
     }
     unreachable!()
 }
@@ -70,27 +82,39 @@ fn doze<R: Wait>(rt: &R, domain: &Domain, task: &mut Task)
 }
 
 /// One side of `n` round trips.
-fn side<R: Wait>(rt: &R, domain: &Domain, mut task: Task, other: u8, n: u64, first: bool) -> Task
+fn side<R: Wait>(
+    rt: &R,
+    domain: &Domain,
+    mut task: Task,
+    other: u8,
+    first: bool,
+    n: u64,
+    retry: Retry,
+)
     requires of { task.domain ≡ domain.now }
     requires clean { IsClean task }
     requires other { other < 128 }
-    ensures of { result.domain ≡ domain.now }
-    ensures clean { IsClean result }
 {
     for _ in 0..n {
         if first {
-            wake_up(rt, domain, &mut task, other);
+            wake_up(rt, domain, &mut task, other, retry);
         }
         doze(rt, domain, &mut task);
         if !first {
-            wake_up(rt, domain, &mut task, other);
+            wake_up(rt, domain, &mut task, other, retry);
         }
     }
-    task
 }
 
 /// Two threads that wake each other in turn.
-fn round_trips<R: Threads + Wait + Sync>(rt: &R, domain: &Domain, one: Task, two: Task, n: u64)
+fn round_trips<R: Threads + Wait + Sync>(
+    rt: &R,
+    domain: &Domain,
+    one: Task,
+    two: Task,
+    n: u64,
+    retry: Retry,
+)
     requires of { (one.domain ≡ domain.now) × (two.domain ≡ domain.now) }
     requires clean { IsClean one × IsClean two }
 {
@@ -100,11 +124,28 @@ fn round_trips<R: Threads + Wait + Sync>(rt: &R, domain: &Domain, one: Task, two
         rt,
         move ||
             requires { (one.domain ≡ domain.now) × IsClean one × (b < 128) }
-        { drop(side(rt, domain, one, b, n, true)) },
+        { side(rt, domain, one, b, true, n, retry) },
         move ||
             requires { (two.domain ≡ domain.now) × IsClean two × (a < 128) }
-        { drop(side(rt, domain, two, a, n, false)) },
+        { side(rt, domain, two, a, false, n, retry) },
     );
+}
+
+/// How long `n` round trips take in a Domain whose tasks look so often before they park.
+fn time_trips<R: Clock + Threads + Wait + Sync>(
+    rt: &R,
+    alloc: Global,
+    looks: u32,
+    n: u64,
+    retry: Retry,
+) -> io::Result<Duration> {
+    let (domain, mut task) = Domain::with_looks(alloc, looks)?;
+    let Ok(other) = task.fork(&domain, 0) else {
+        unreachable!()
+    };
+    let start = Instant::now(rt)?;
+    round_trips(rt, &domain, task, other, n, retry);
+    start.elapsed(rt)
 }
 
 /// Writes a line of a measurement, where one was asked for.
@@ -119,7 +160,7 @@ fn main(rt: HostRuntime) -> io::Result<()> {
     let words: Vec<String> = env::args(&rt)?.skip(1).collect(rt.alloc())?;
     let asked = !words.is_empty();
     let (steps, trips): (u64, u64) = if asked {
-        (20_000_000, 100_000)
+        (20_000_000, 5_000)
     } else {
         (100, 10)
     };
@@ -135,14 +176,12 @@ fn main(rt: HostRuntime) -> io::Result<()> {
     let time = start.elapsed(&rt)?;
     report(&rt, asked, "exchange", steps, time)?;
 
-    let (domain, mut task) = Domain::new(rt.alloc())?;
-    let Ok(other) = task.fork(&domain, 0) else {
-        return Ok(());
-    };
-    let start = Instant::now(&rt)?;
-    round_trips(&rt, &domain, task, other, trips);
-    let time = start.elapsed(&rt)?;
-    report(&rt, asked, "round_trip", trips, time)?;
+    let parked = time_trips(&rt, rt.alloc(), 0, trips, Retry::Pause)?;
+    report(&rt, asked, "trip_parked", trips, parked)?;
+    let yielding = time_trips(&rt, rt.alloc(), 0, trips, Retry::Yield)?;
+    report(&rt, asked, "trip_yielding", trips, yielding)?;
+    let looked = time_trips(&rt, rt.alloc(), LOOKS, trips, Retry::Pause)?;
+    report(&rt, asked, "trip_looked", trips, looked)?;
     println!(rt; "done")?;
     Ok(())
 }

@@ -1,0 +1,33 @@
+#!/bin/sh
+# Runs the tests in which threads sleep and wake one another in many rounds, RUNS times each (20), and fails where one of
+# them fails or has not ended after LIMIT seconds (60). It needs the tests built by `rt test` in crates/wait_rule and
+# crates/wq_head. BUSY: how many loops keep processors busy meanwhile (0).
+set -eu
+cd "$(dirname "$0")/.."
+loops=
+end() {
+    for loop in $loops; do kill "$loop"; done
+}
+trap end EXIT
+for _ in $(seq "${BUSY:-0}"); do
+    (while :; do :; done) &
+    loops="$loops $!"
+done
+
+failed=0
+often() {
+    good=0
+    for _ in $(seq "${RUNS:-20}"); do
+        if timeout "${LIMIT:-60}" "crates/$1/out/$1_tests" "$2" >/dev/null 2>&1; then
+            good=$((good + 1))
+        fi
+    done
+    echo "$2: $good of ${RUNS:-20} runs ended well"
+    [ "$good" -eq "${RUNS:-20}" ] || failed=1
+}
+
+often wait_rule park_tests::sleeps_end
+often wait_rule park_tests::three_hand_on
+often wq_head tests::sleepers::walk_over_arrivals
+often wq_head tests::sleepers::walk_over_sleepers
+exit "$failed"

@@ -58,6 +58,7 @@ pub mod MadeCalls
 pub mod Followed
 pub mod SentenceWalks
 pub mod SentenceBits
+pub mod ShortCalls
 pub mod SentenceCalls
 pub mod SentenceEnds
 pub mod SentenceFindings

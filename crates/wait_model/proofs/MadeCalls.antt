@@ -31,6 +31,7 @@ use Rattle.wait_model.specs.Making.{goes_to, Makes, SentencesAreMade}
 use Rattle.wait_model.specs.Findings.{Noted, blank, notes}
 use Rattle.wait_model.proofs.SentenceWalks.{walk_rest}
 use Rattle.wait_model.proofs.SentenceEnds.{valued}
+use Rattle.wait_model.proofs.ShortCalls.{short_made}
 use Rattle.wait_model.proofs.MadeWaits.{loop_made}
 use Rattle.wait_model.proofs.MadeFindings.{sees, fair, shown, some_entry, sleeping}
 use Rattle.wait_model.proofs.MadeAwaits.{wait_for_made}
@@ -240,14 +241,6 @@ sentences_are_made me (calls.SimpleWait c st) w a h = loop_made me (calls.Simple
     (record { prepared = refl; slept = refl; signalled = refl; bit = refl; lock = refl; waits = refl; plain = refl; worn = refl }) w blank at.First a (tt, h)
 sentences_are_made me (calls.WaitVar v old st) w a h = loop_made me (calls.WaitVar v old st)
     (record { prepared = refl; slept = refl; signalled = refl; bit = refl; lock = refl; waits = refl; plain = refl; worn = refl }) w blank at.First a (tt, h)
-sentences_are_made me (calls.Set c v) [] a h = absurd h
-sentences_are_made me (calls.Set c v) (x ∷ w) a h = (sees blank, (fair (calls.Set c v) blank, tt), h.0, h.1)
-sentences_are_made me (calls.Take c) [] a h = absurd h.1
-sentences_are_made me (calls.Take c) (x ∷ w) a h =
-    (record (sees blank) { value = h.0 }, (shown (calls.Take c) blank h.0 refl, tt), h.1.0, h.1.1)
-sentences_are_made me (calls.Read c) [] a h = absurd h.1
-sentences_are_made me (calls.Read c) (x ∷ w) a h =
-    (record (sees blank) { value = h.0 }, (shown (calls.Read c) blank h.0 refl, tt), h.1.0, h.1.1)
 sentences_are_made me (calls.Wake c i n) w a h = all_made me (calls.Wake c i n) (Walking_left me c n i) (walking_none me c n i)
     (walking_back me c n i) w blank (at.Walk walking.Lock) a h
 sentences_are_made me (calls.Add c k f) w a h = add_made me c k f w a h
@@ -270,3 +263,4 @@ sentences_are_made me (calls.ClearBit i b) w a h = all_made me (calls.ClearBit i
     (clear_back me i b) w blank at.Publish a h
 sentences_are_made me (calls.SetVar i b) w a h = all_made me (calls.SetVar i b) (Publishing me (calls.SetVar i b)) (set_none me i b)
     (set_back me i b) w blank at.Publish a h
+sentences_are_made me call w a h = short_made me call refl w a h

@@ -35,6 +35,7 @@ use Rattle.wait_model.specs.SentenceWaits.{waits_woken}
 use Rattle.wait_model.specs.SentenceWalks.{wakes, wakes_one, walks}
 use Rattle.wait_model.specs.Findings.{Noted, blank}
 use Rattle.wait_model.proofs.SentenceRests.{Knows, Says, anything}
+use Rattle.wait_model.proofs.ShortCalls.{short_rest, short_said}
 use Rattle.wait_model.proofs.SentenceWaits.{loop_rest, loop_said}
 use Rattle.wait_model.proofs.SentenceAwaits.{await_rest, await_said}
 use Rattle.wait_model.proofs.SentenceCounts.{select_rest, select_said, count_rest, count_said}
@@ -87,9 +88,6 @@ rest_of me (calls.Reinit d) m p = count_rest (calls.Reinit d) m p
 rest_of me (calls.Wake c mode n) m (at.Walk p) = walk_rest (calls.Wake c mode n) p
 rest_of me (calls.ClearBit w b) m p = publish_rest (calls.ClearBit w b) p
 rest_of me (calls.SetVar v x) m p = publish_rest (calls.SetVar v x) p
-rest_of me (calls.Set c v) m at.Store = sentence me (calls.Set c v) ends
-rest_of me (calls.Take c) m at.Take = sentence me (calls.Take c) ends
-rest_of me (calls.Read c) m at.Read = sentence me (calls.Read c) ends
 rest_of me (calls.Add c kind form) m (at.Add p) = add_rest (calls.Add c kind form) c form p
 rest_of me calls.Remove m (at.Remove p) = remove_rest me p
 rest_of me (calls.Woken st) m (at.Woken p) = hear_rest st p
@@ -98,37 +96,14 @@ rest_of me (calls.Signal u fatal) m at.RaiseWake = wakes u (λ _. ends (number 0
 rest_of me calls.Accept m at.Accept = sentence me calls.Accept ends
 rest_of me (calls.Kick u) m at.Kick = sentence me (calls.Kick u) ends
 rest_of me (calls.TryBit w b) m (at.Bit biting.Try) = sentence me (calls.TryBit w b) ends
-rest_of me _ m p = anything
+rest_of me call m p = short_rest me call p
 
 -- at its start the whole sentence is left
 pub start_said : (me : ℕ) (call : Call) (w : List Event) (a : Answer) → rest_of me call blank (program_start call) w a
     → Follows me call w a
-start_said me (calls.Wait c how) w a h = h
-start_said me (calls.Set c v) w a h = h
-start_said me (calls.Take c) w a h = h
-start_said me (calls.Read c) w a h = h
-start_said me (calls.Wake c mode n) w a h = h
-start_said me (calls.Add c kind form) w a h = h
-start_said me calls.Remove w a h = h
-start_said me (calls.Woken st) w a h = h
-start_said me (calls.Signal u fatal) w a h = h
-start_said me calls.Accept w a h = h
-start_said me (calls.Kick u) w a h = h
-start_said me (calls.SimpleWait c st) w a h = h
 start_said me (calls.SimpleWake c false) w a h = h
 start_said me (calls.SimpleWake c true) w a h = h
-start_said me (calls.Complete d) w a h = h
-start_said me (calls.CompleteAll d) w a h = h
-start_said me (calls.Reinit d) w a h = h
-start_said me (calls.WaitFor d st) w a h = h
-start_said me (calls.TryWait d) w a h = h
-start_said me (calls.IsDone d) w a h = h
-start_said me (calls.TryBit w b) v a h = h
-start_said me (calls.WaitBit w b st) v a h = h
-start_said me (calls.LockBit w b st) v a h = h
-start_said me (calls.ClearBit w b) v a h = h
-start_said me (calls.WaitVar x old st) w a h = h
-start_said me (calls.SetVar x y) w a h = h
+start_said me _ w a h = h
 
 module _ (me : ℕ) (m : Noted) where
   flag_said : (st : SleepState) (flagged : Bool) → Says (rest_of me (calls.Woken st)) m
@@ -201,9 +176,6 @@ module _ (me : ℕ) (m : Noted) where
   says (calls.SetVar x y) at.Active seen k w a h = active_said (calls.SetVar x y) refl seen.members w a h
   says (calls.SetVar x y) (at.Walk p) seen k w a h = walk_said (calls.SetVar x y) (rest_of me (calls.SetVar x y)) m
       (λ n q v b x. x) p seen k.walk w a h
-  says (calls.Set c v) at.Store seen k w a h = (refl, h)
-  says (calls.Take c) at.Take seen k w a h = (seen.value, (refl, h))
-  says (calls.Read c) at.Read seen k w a h = (seen.value, (refl, h))
   says (calls.Add c kind form) (at.Add adding.Lock) seen k w a h = (refl, h)
   says (calls.Add c kind form) (at.Add adding.Queue) seen k w a h = add_said c kind form seen.worn w a h
   says (calls.Add c kind form) (at.Add adding.Unlock) seen k w a h = (refl, h)
@@ -214,4 +186,4 @@ module _ (me : ℕ) (m : Noted) where
   says calls.Accept at.Accept seen k w a h = accept_said (taken_of seen.own) w a h
   says (calls.Kick u) at.Kick seen k w a h = kick_said u (meets (mask_of (mode_of (calls.Kick u))) seen.other.state) w a h
   says (calls.TryBit w b) (at.Bit biting.Try) seen k v a h = bit_said w b (bit_at seen.value b) v a h
-  says _ p seen k w a h = tt
+  says call p seen k w a h = short_said me (rest_of me call) m call p seen w a h

@@ -3,10 +3,9 @@ use Rattle.std.proofs.lemmas.Nat.{pow_pos}
 use Rattle.std.proofs.lemmas.Nat.Bits.{bit_at-pow_same}
 use Rattle.std.proofs.Common.{ap, refl, sym, subst, arith, inl, inr}
 use Rattle.std.proofs.lemmas.Bool.Decides.{eqb_tells, nat_tests}
-use Rattle.std.specs.Prelude.{◌<◌, ◌/◌, ◌%◌, ◌^◌, ℕ, zero, suc, ◌≡◌, ◌≤◌, ◌+◌, ◌-◌, ◌==◌, Bool, true, false, not, ◌&&◌, if◌then◌else◌, List, [], ◌∷◌}
+use Rattle.std.specs.Prelude.{◌<◌, ◌/◌, ◌%◌, ◌^◌, ℕ, zero, suc, ◌≡◌, ◌+◌, ◌-◌, ◌==◌, Bool, true, false, not, if◌then◌else◌, [], ◌∷◌}
 use Rattle.wait_model.specs.declared.calls.Call.{Call}
 use Rattle.wait_model.specs.declared.calls.Call.TheVariants as calls
-use Rattle.wait_model.specs.declared.calls.Event.{Event}
 use Rattle.wait_model.specs.declared.calls.Event.TheVariants as event
 use Rattle.wait_model.specs.declared.calls.Answer.{Answer}
 use Rattle.wait_model.specs.declared.queues.Called.{Called}
@@ -43,15 +42,16 @@ use Rattle.wait_model.specs.Words.{flag, bit_at}
 use Rattle.wait_model.specs.Watches.{head_of, number_of, misses}
 use Rattle.wait_model.specs.Points.{call_watch, call_head, state_in, form_of, count_of}
 use Rattle.wait_model.specs.Programs.{no_walk, again as next_hold}
-use Rattle.wait_model.specs.Phrases.{Rest, makes, ◌>>◌, gives, finds, when◌then◌otherwise◌, ◌>>=◌, repeat, repeats, leaves, first_is, turns, ends}
+use Rattle.wait_model.specs.Phrases.{Rest, makes, ◌>>◌, gives, finds, when◌then◌otherwise◌, repeat, repeats, leaves, first_is, turns, ends}
 use Rattle.wait_model.specs.SentenceSteps.{Prepared, is_ready, is_signalled, is_worn, nothing, number, yes_or_no, minus_4, is_met, queues, enters, takes_off, unlocks, stores, looks, acts, finishes}
-use Rattle.wait_model.specs.SentenceWalks.{WalkTally, the_end, walks, walked, counted, wakes_off, wakes_one}
+use Rattle.wait_model.specs.SentenceWalks.{WalkTally, the_end, walked, counted, wakes_off, wakes_one}
 use Rattle.wait_model.specs.SentenceBits.{tries}
 use Rattle.wait_model.specs.SentenceWaits.{may_stand}
 use Rattle.wait_model.specs.declared.queues.End.TheVariants as end_as
 use Rattle.wait_model.specs.SentenceCounts.{counts, lowers, by_signal, by_count}
 use Rattle.wait_model.specs.Findings.{Noted}
-use Rattle.wait_model.proofs.SentenceRests.{AfterLoad, anything, Some_turns}
+use Rattle.wait_model.proofs.SentenceRests.{AfterLoad, Some_turns, CanEnd, over, unsaid, first, found}
+use Rattle.wait_model.proofs.ShortCalls.{short_end}
 use Rattle.wait_model.proofs.SentenceWaits.{entered_rest, finish_rest, loop_rest}
 use Rattle.wait_model.proofs.SentenceWaits as waiting
 use Rattle.wait_model.proofs.SentenceAwaits.{await_rest}
@@ -62,22 +62,6 @@ use Rattle.wait_model.proofs.SentenceWalks.{walk_rest, tally, passed}
 use Rattle.wait_model.proofs.SentenceWalks as walk
 use Rattle.wait_model.proofs.SentenceCounts.{one_rest, all_rest, select_rest, count_rest, more, over_by, taken}
 use Rattle.wait_model.proofs.SentenceCalls.{heard, rest_of}
-
--- some events are left
-abbrev pub CanEnd : Rest → Type 0
-CanEnd R = (w : List Event) × (a : Answer) × R w a
-
-over : (b : Answer) → CanEnd (ends b)
-over b = ([], b, refl)
-
-unsaid : CanEnd anything
-unsaid = ([], number 0, tt)
-
-first : (e : Event) (R : Rest) → CanEnd R → CanEnd (first_is e R)
-first e R (w, a, h) = (e ∷ w, a, (refl, h))
-
-found : {A : Type 0} (f : A → Event) (R : A → Rest) (x : A) → CanEnd (R x) → CanEnd (finds f R)
-found f R x (w, a, h) = (f x ∷ w, a, (x, (refl, h)))
 
 some : (R : ℕ → Rest) (n : ℕ) → CanEnd (R n) → CanEnd (Some_turns R)
 some R n (w, a, h) = (w, a, (n, h))
@@ -522,9 +506,6 @@ can_end me (calls.ClearBit w b) m (at.Walk p) = walk_end (calls.ClearBit w b) p
 can_end me (calls.SetVar v x) m at.Publish = first (event.Set (number_of (watch.Var v 0)) x) (wakes_one (watch.Var v 0) ends) (woken_end (calls.SetVar v x))
 can_end me (calls.SetVar v x) m at.Active = woken_end (calls.SetVar v x)
 can_end me (calls.SetVar v x) m (at.Walk p) = walk_end (calls.SetVar v x) p
-can_end me (calls.Set c v) m at.Store = first (event.Set (number_of (watch.Plain c)) v) (ends (number 0)) (over (number 0))
-can_end me (calls.Take c) m at.Take = found (event.Take c) (λ x. ends (answer.Value x)) 0 (over (answer.Value 0))
-can_end me (calls.Read c) m at.Read = found (event.Load (number_of (watch.Plain c))) (λ x. ends (answer.Value x)) 0 (over (answer.Value 0))
 can_end me (calls.Add c kind form) m (at.Add adding.Lock) =
     let (w, a, h) = plain_end c in
     (event.Lock (head_of (watch.Plain c)) ∷ event.Queue (head_of (watch.Plain c)) form ∷ w, a, (refl, (false, (refl, h))))
@@ -548,4 +529,4 @@ can_end me (calls.Signal u fatal) m at.RaiseWake = found (event.Wake u) (λ _. e
 can_end me calls.Accept m at.Accept = found event.Accept (λ what. ends (number (taken_number what))) taken.Nothing (over (number 0))
 can_end me (calls.Kick u) m at.Kick = found (event.Wake u) (λ hit. ends (yes_or_no hit)) false (over (number 0))
 can_end me (calls.TryBit w b) m (at.Bit biting.Try) = tried w b (λ clear. ends (yes_or_no clear)) (over (number 1))
-can_end me _ m p = unsaid
+can_end me call m p = short_end me call p

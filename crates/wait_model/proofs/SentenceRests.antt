@@ -1,24 +1,21 @@
 -- What is left of a sentence after its first events, and how an event of a program begins what is left.
-use Rattle.std.specs.Prelude.{ℕ, ◌≡◌, ◌<◌, ◌≤◌, Bool, true, false, List, [], ◌∷◌, Some, None, is_some}
+use Rattle.std.specs.Prelude.{ℕ, ◌≡◌, ◌≤◌, true, false, List, [], ◌∷◌, Some, None}
 use Rattle.wait_model.specs.declared.calls.Call.{Call}
-use Rattle.wait_model.specs.declared.calls.Call.TheVariants as calls
 use Rattle.wait_model.specs.declared.calls.Event.{Event}
-use Rattle.wait_model.specs.declared.calls.Event.TheVariants as event
 use Rattle.wait_model.specs.declared.calls.Answer.{Answer}
 use Rattle.wait_model.specs.declared.points.Planned.{Planned}
 use Rattle.wait_model.specs.declared.points.Next.{Next}
 use Rattle.wait_model.specs.declared.points.Next.TheVariants as next
 use Rattle.wait_model.specs.declared.points.Seen.{Seen}
 use Rattle.wait_model.specs.declared.points.Point.{Point}
-use Rattle.wait_model.specs.declared.points.Point.TheVariants as at
-use Rattle.wait_model.specs.declared.points.WalkPoint.TheVariants as walking
 use Rattle.wait_model.specs.DoneCounts.{done_end}
-use Rattle.wait_model.specs.Queues.{break_count}
 use Rattle.wait_model.specs.Watches.{is_done}
 use Rattle.wait_model.specs.Points.{call_watch, call_head}
 use Rattle.wait_model.specs.Reached.{held_at}
 use Rattle.wait_model.specs.declared.points.Progress.TheVariants as now
-use Rattle.wait_model.specs.Phrases.{Rest, first_is, ends}
+use Rattle.std.proofs.Common.{refl}
+use Rattle.wait_model.specs.SentenceSteps.{number}
+use Rattle.wait_model.specs.Phrases.{Rest, first_is, finds, ends}
 use Rattle.wait_model.specs.Findings.{Noted, notes, is_waiting, MayComeTo}
 
 -- what a call knows of what it finds: the own entry is off until the call queues it, a count is in its range, and it
@@ -56,3 +53,19 @@ pub first_more : (e : Event) (R S : Rest) → ((w : List Event) (a : Answer) →
     → first_is e R w a → first_is e S w a
 first_more e R S more [] a h = h
 first_more e R S more (x ∷ w) a h = (h.0, more w a h.1)
+
+-- some events are left
+abbrev pub CanEnd : Rest → Type 0
+CanEnd R = (w : List Event) × (a : Answer) × R w a
+
+pub over : (b : Answer) → CanEnd (ends b)
+over b = ([], b, refl)
+
+pub unsaid : CanEnd anything
+unsaid = ([], number 0, tt)
+
+pub first : (e : Event) (R : Rest) → CanEnd R → CanEnd (first_is e R)
+first e R (w, a, h) = (e ∷ w, a, (refl, h))
+
+pub found : {A : Type 0} (f : A → Event) (R : A → Rest) (x : A) → CanEnd (R x) → CanEnd (finds f R)
+found f R x (w, a, h) = (f x ∷ w, a, (x, (refl, h)))

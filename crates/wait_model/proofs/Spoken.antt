@@ -20,7 +20,8 @@ use Rattle.wait_model.specs.Spoken.{said_by, said_after, said_in, CallsFollowSen
 use Rattle.wait_model.specs.Findings.{Noted, blank, notes}
 use Rattle.wait_model.proofs.SentenceRests.{left_at}
 use Rattle.wait_model.proofs.SentenceFindings.{noted_by, KnowsBy, Known, knows_all}
-use Rattle.wait_model.proofs.SentenceEnds.{CanEnd, can_end}
+use Rattle.wait_model.proofs.SentenceEnds.{can_end}
+use Rattle.wait_model.proofs.SentenceRests.{CanEnd}
 use Rattle.wait_model.proofs.SentenceCalls.{rest_of, start_said, says}
 
 abbrev pub noted_after : ℕ → Noted → List Ran → Noted

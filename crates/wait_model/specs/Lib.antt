@@ -11,6 +11,7 @@ pub mod Rows
 pub mod Laws
 pub mod Facts
 pub mod Queues
+pub mod Calls
 pub mod Points
 pub mod Programs
 pub mod Phrases

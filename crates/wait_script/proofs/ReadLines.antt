@@ -94,11 +94,6 @@ last_fits false n h = h
 -- a call that task 0 may make is one of each task up to the last one
 for_task : (c : Call) (task : ℕ) → task ≤ last_by (call_words c) → is_in_range 0 c ≡ true
     → is_in_range task c ≡ true
-for_task (call.Wait c how) task h r = r
-for_task (call.Set c v) task h r = r
-for_task (call.Take c) task h r = r
-for_task (call.Read c) task h r = r
-for_task (call.Wake c m n) task h r = r
 for_task (call.Add c k form.Front) task h r = r
 for_task (call.Add c k form.Tail) task h r = r
 for_task (call.Add c k form.Priority) task h r =
@@ -108,25 +103,7 @@ for_task (call.Add c k form.Priority) task h r =
     full : (a : Bool) → (a && true) ≡ true → a ≡ true
     full true r = refl
     full false r = absurd (cc (r))
-for_task call.Remove task h r = r
-for_task (call.Woken st) task h r = r
-for_task (call.Signal u d) task h r = r
-for_task call.Accept task h r = r
-for_task (call.Kick u) task h r = r
-for_task (call.SimpleWait c st) task h r = r
-for_task (call.SimpleWake c all) task h r = r
-for_task (call.Complete d) task h r = r
-for_task (call.CompleteAll d) task h r = r
-for_task (call.Reinit d) task h r = r
-for_task (call.WaitFor d st) task h r = r
-for_task (call.TryWait d) task h r = r
-for_task (call.IsDone d) task h r = r
-for_task (call.TryBit w b) task h r = r
-for_task (call.WaitBit w b st) task h r = r
-for_task (call.LockBit w b st) task h r = r
-for_task (call.ClearBit w b) task h r = r
-for_task (call.WaitVar v o st) task h r = r
-for_task (call.SetVar v x) task h r = r
+for_task _ task h r = r
 
 call_ok : (words : List (List ℕ)) (l : Line) → call_at words ≡ Ok l → IsReadAs (codes "call" ∷ words) l
 call_ok [] l e = absurd (cc (e))

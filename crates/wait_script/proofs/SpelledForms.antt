@@ -278,34 +278,11 @@ last_by (name ∷ rest) = last_of name rest
 
 -- the task is one that may make the call
 for_task : (c : Call) (task : ℕ) → task ≤ last_task → IsFitCall task c → task ≤ last_by (call_words c)
-for_task (call.Wait cond how) task h f = h
-for_task (call.Set cond value) task h f = h
-for_task (call.Take cond) task h f = h
-for_task (call.Read cond) task h f = h
-for_task (call.Wake cond mode count) task h f = h
 for_task (call.Add cond kind form.Front) task h f = h
 for_task (call.Add cond kind form.Tail) task h f = h
 for_task (call.Add cond kind form.Priority) task h f =
     upto 63 task (parts_true (nat_lt cond 48) (nat_lt task 64) f.0).1
-for_task call.Remove task h f = h
-for_task (call.Woken state) task h f = h
-for_task (call.Signal who fatal) task h f = h
-for_task call.Accept task h f = h
-for_task (call.Kick who) task h f = h
-for_task (call.SimpleWait cond state) task h f = h
-for_task (call.SimpleWake cond all) task h f = h
-for_task (call.Complete cell) task h f = h
-for_task (call.CompleteAll cell) task h f = h
-for_task (call.Reinit cell) task h f = h
-for_task (call.WaitFor cell state) task h f = h
-for_task (call.TryWait cell) task h f = h
-for_task (call.IsDone cell) task h f = h
-for_task (call.TryBit w b) task h f = h
-for_task (call.WaitBit w b state) task h f = h
-for_task (call.LockBit w b state) task h f = h
-for_task (call.ClearBit w b) task h f = h
-for_task (call.WaitVar var old state) task h f = h
-for_task (call.SetVar var value) task h f = h
+for_task _ task h f = h
 
 -- the words of a line are a first one and others, at most five, and say it
 abbrev pub IsSaid : Line → Type 0

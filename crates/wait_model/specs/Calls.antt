@@ -1,5 +1,15 @@
 -- What each call is about, which calls a task may open by their numbers, and where their programs begin.
 use Rattle.std.specs.Prelude.{ℕ, Bool, true, false, not, ◌&&◌, ◌||◌, nat_lt}
+use Rattle.wait_model.specs.declared.layout.TheConstants.{
+  TASKS,
+  PLAIN_CONDITIONS,
+  FIRST_SIMPLE,
+  COMPLETIONS,
+  BIT_WORDS,
+  WORD_BITS,
+  VARIABLES,
+  PRIORITY_TASKS,
+}
 use Rattle.wait_model.specs.declared.calls.Call.{Call}
 use Rattle.wait_model.specs.declared.calls.Call.TheVariants as calls
 use Rattle.wait_model.specs.declared.points.Point.{Point}
@@ -14,7 +24,6 @@ use Rattle.wait_model.specs.declared.points.WalkPoint.TheVariants as walking
 use Rattle.wait_model.specs.declared.points.WokenPoint.TheVariants as hearing
 use Rattle.wait_model.specs.declared.watches.Watch.{Watch}
 use Rattle.wait_model.specs.declared.watches.Watch.TheVariants as watch
-use Rattle.wait_model.specs.Tasks.{task_count}
 use Rattle.wait_model.specs.Queues.{is_priority}
 
 -- what a call is about
@@ -41,31 +50,31 @@ call_watch (calls.WaitVar v old st) = watch.Var v old
 call_watch (calls.SetVar v x) = watch.Var v 0
 call_watch _ = watch.Plain 0
 
--- the numbers of a call that a task opens are in their ranges: full heads have conditions 0 to 47, simple ones
--- 48 to 63, and only tasks below 64 add with priority
+-- the numbers of a call that a task opens are in their ranges: conditions below `FIRST_SIMPLE` have full heads, all
+-- others simple ones, and only tasks below `PRIORITY_TASKS` add with priority
 abbrev pub is_in_range : ℕ → Call → Bool
-is_in_range me (calls.Wait c how) = nat_lt c 48
-is_in_range me (calls.Set c v) = nat_lt c 64
-is_in_range me (calls.Take c) = nat_lt c 64
-is_in_range me (calls.Read c) = nat_lt c 64
-is_in_range me (calls.Wake c m n) = nat_lt c 48 && nat_lt n 128
-is_in_range me (calls.Add c k f) = nat_lt c 48 && (not (is_priority f) || nat_lt me 64)
-is_in_range me (calls.Signal u deadly) = nat_lt u task_count
-is_in_range me (calls.Kick u) = nat_lt u task_count
-is_in_range me (calls.SimpleWait c st) = not (nat_lt c 48) && nat_lt c 64
-is_in_range me (calls.SimpleWake c all) = not (nat_lt c 48) && nat_lt c 64
-is_in_range me (calls.Complete d) = nat_lt d 64
-is_in_range me (calls.CompleteAll d) = nat_lt d 64
-is_in_range me (calls.Reinit d) = nat_lt d 64
-is_in_range me (calls.WaitFor d st) = nat_lt d 64
-is_in_range me (calls.TryWait d) = nat_lt d 64
-is_in_range me (calls.IsDone d) = nat_lt d 64
-is_in_range me (calls.TryBit w b) = nat_lt w 128 && nat_lt b 64
-is_in_range me (calls.WaitBit w b st) = nat_lt w 128 && nat_lt b 64
-is_in_range me (calls.LockBit w b st) = nat_lt w 128 && nat_lt b 64
-is_in_range me (calls.ClearBit w b) = nat_lt w 128 && nat_lt b 64
-is_in_range me (calls.WaitVar v old st) = nat_lt v 128
-is_in_range me (calls.SetVar v x) = nat_lt v 128
+is_in_range me (calls.Wait c how) = nat_lt c FIRST_SIMPLE
+is_in_range me (calls.Set c v) = nat_lt c PLAIN_CONDITIONS
+is_in_range me (calls.Take c) = nat_lt c PLAIN_CONDITIONS
+is_in_range me (calls.Read c) = nat_lt c PLAIN_CONDITIONS
+is_in_range me (calls.Wake c m n) = nat_lt c FIRST_SIMPLE && nat_lt n TASKS
+is_in_range me (calls.Add c k f) = nat_lt c FIRST_SIMPLE && (not (is_priority f) || nat_lt me PRIORITY_TASKS)
+is_in_range me (calls.Signal u deadly) = nat_lt u TASKS
+is_in_range me (calls.Kick u) = nat_lt u TASKS
+is_in_range me (calls.SimpleWait c st) = not (nat_lt c FIRST_SIMPLE) && nat_lt c PLAIN_CONDITIONS
+is_in_range me (calls.SimpleWake c all) = not (nat_lt c FIRST_SIMPLE) && nat_lt c PLAIN_CONDITIONS
+is_in_range me (calls.Complete d) = nat_lt d COMPLETIONS
+is_in_range me (calls.CompleteAll d) = nat_lt d COMPLETIONS
+is_in_range me (calls.Reinit d) = nat_lt d COMPLETIONS
+is_in_range me (calls.WaitFor d st) = nat_lt d COMPLETIONS
+is_in_range me (calls.TryWait d) = nat_lt d COMPLETIONS
+is_in_range me (calls.IsDone d) = nat_lt d COMPLETIONS
+is_in_range me (calls.TryBit w b) = nat_lt w BIT_WORDS && nat_lt b WORD_BITS
+is_in_range me (calls.WaitBit w b st) = nat_lt w BIT_WORDS && nat_lt b WORD_BITS
+is_in_range me (calls.LockBit w b st) = nat_lt w BIT_WORDS && nat_lt b WORD_BITS
+is_in_range me (calls.ClearBit w b) = nat_lt w BIT_WORDS && nat_lt b WORD_BITS
+is_in_range me (calls.WaitVar v old st) = nat_lt v VARIABLES
+is_in_range me (calls.SetVar v x) = nat_lt v VARIABLES
 is_in_range me _ = true
 
 -- where the program of a call begins

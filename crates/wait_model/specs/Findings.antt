@@ -1,5 +1,6 @@
 -- Findings: what a task may find at a point of its call, by what it has made of the call so far. (To be believed.)
 use Rattle.std.specs.Prelude.{ℕ, ◌≡◌, ◌<◌, ◌≤◌, Bool, true, false, None, is_some}
+use Rattle.wait_model.specs.declared.layout.TheConstants.{BREAK, ALL_DONE}
 use Rattle.wait_model.specs.declared.calls.Call.{Call}
 use Rattle.wait_model.specs.declared.calls.Call.TheVariants as calls
 use Rattle.wait_model.specs.declared.calls.Event.{Event}
@@ -8,8 +9,6 @@ use Rattle.wait_model.specs.declared.points.Seen.{Seen}
 use Rattle.wait_model.specs.declared.points.Point.{Point}
 use Rattle.wait_model.specs.declared.points.Point.TheVariants as at
 use Rattle.wait_model.specs.declared.points.WalkPoint.TheVariants as walking
-use Rattle.wait_model.specs.DoneCounts.{done_end}
-use Rattle.wait_model.specs.Queues.{break_count}
 use Rattle.wait_model.specs.Watches.{is_done}
 use Rattle.wait_model.specs.Points.{call_watch}
 use Rattle.wait_model.specs.SentenceWalks.{shares_head}
@@ -22,8 +21,8 @@ pub record Noted : Type 0 where
   pub loaded : Bool
   pub count : ℕ
 
-abbrev pub blank : Noted
-blank = record { queued = false; held = false; loaded = false; count = 0 }
+abbrev pub none_noted : Noted
+none_noted = record { queued = false; held = false; loaded = false; count = 0 }
 
 abbrev pub notes : Noted → Event → Noted
 notes m (event.Queue h form) = record m { queued = true; loaded = false }
@@ -50,21 +49,22 @@ IsOff call m seen = is_waiting call ≡ true → m.queued ≡ false → seen.ent
 
 -- a done count that is loaded has 32 bits, and in a hold it stays as it was loaded
 abbrev pub IsRanged : Call → Noted → Seen → Type 0
-IsRanged call m seen = is_done (call_watch call) ≡ true → m.loaded ≡ false → seen.value ≤ done_end
+IsRanged call m seen = is_done (call_watch call) ≡ true → m.loaded ≡ false → seen.value ≤ ALL_DONE
 
-abbrev pub Stays : Call → Noted → Seen → Type 0
-Stays call m seen = is_done (call_watch call) ≡ true → m.loaded ≡ true → m.held ≡ true → seen.value ≡ m.count
+abbrev pub CountStays : Call → Noted → Seen → Type 0
+CountStays call m seen = is_done (call_watch call) ≡ true → m.loaded ≡ true → m.held ≡ true → seen.value ≡ m.count
 
--- a walk breaks exactly where its hold has called more than 64 entries; at a head of one watch it passes no strangers
+-- a walk breaks exactly where its hold has called more than `BREAK` entries; at a head of one watch it passes no
+-- strangers
 abbrev pub MayComeTo : Call → Point → Seen → Type 0
 MayComeTo call (at.Walk (walking.Call w)) seen = (w.calls ≤ seen.calls)
     × (shares_head (call_watch call) ≡ false → seen.calls ≡ w.calls)
-    × (seen.breaks ≡ true → break_count < seen.calls)
-    × (seen.breaks ≡ false → is_some seen.called ≡ true → seen.calls ≤ break_count)
+    × (seen.breaks ≡ true → BREAK < seen.calls)
+    × (seen.breaks ≡ false → is_some seen.called ≡ true → seen.calls ≤ BREAK)
 MayComeTo call _ seen = Unit {0}
 
 abbrev pub Fair : Call → Noted → Seen → Type 0
-Fair call m seen = IsOff call m seen × IsRanged call m seen × Stays call m seen
+Fair call m seen = IsOff call m seen × IsRanged call m seen × CountStays call m seen
 
 abbrev pub MayFind : Call → Point → Noted → Seen → Type 0
 MayFind call p m seen = Fair call m seen × MayComeTo call p seen

@@ -41,7 +41,7 @@ use Rattle.wait_model.specs.Views.{
   all_passed,
   all_cleared,
   look_at,
-  tries,
+  is_trying_for,
 }
 
 -- a walk that stops at the own bookmark goes on there, if the book shows all before it as passed
@@ -78,14 +78,14 @@ hits None mask = false
 hits (Some w) mask = mask == w.mask
 
 -- a publish begins the walk anew
-abbrev pub again : Option Walk → Option Walk
-again None = None
-again (Some w) = Some (record w { from = 0 })
+abbrev pub begun_anew : Option Walk → Option Walk
+begun_anew None = None
+begun_anew (Some w) = Some (record w { from = 0 })
 
 -- the load found the bit of the walk set
-abbrev pub seeks : Option Walk → Watch → ℕ → Bool
-seeks None l r = false
-seeks (Some w) l r = is_bit w.watch && failing l r w.watch
+abbrev pub finds_bit_set : Option Walk → Watch → ℕ → Bool
+finds_bit_set None l r = false
+finds_bit_set (Some w) l r = is_bit w.watch && failing l r w.watch
 
 -- what a look without the lock has found off, after one more load; a member that it finds begins it anew
 abbrev pub peeks : (Watch → ℕ → Bool) → ℕ → Option Entry → Watch → ℕ → Bool
@@ -105,7 +105,7 @@ is_off (Some e) = false
 
 -- the bits to be tried, after a load of the own entry x that found f
 abbrev pub settled : View → ℕ → Option Entry → Watch → Bool
-settled v x f c = v.bits.pending c || (is_off f && (tries (v.bits.stored x) c && not (v.bits.keeps c)))
+settled v x f c = v.bits.pending c || (is_off f && (is_trying_for (v.bits.stored x) c && not (v.bits.keeps c)))
 
 abbrev pub forgotten : View → ℕ → Option Entry → ℕ → Option Entry
 forgotten v x f = if is_off f then put v.bits.stored x None else v.bits.stored
@@ -152,7 +152,7 @@ after_load l r v = record v {
   hold = record (v.hold) {
     zero = λ c. if holding v.hold.head (head_of c) && failing l r c then Some (v.checks.found (head_of c))
         else v.hold.zero c;
-    moot = v.hold.moot || seeks v.walk l r;
+    moot = v.hold.moot || finds_bit_set v.walk l r;
   };
   checks = record (v.checks) {
     failed = λ x c. if failing l r c then Some (v.checks.found (head_of c)) else v.checks.failed x c;
@@ -166,7 +166,7 @@ after_load l r v = record v {
 abbrev pub after_publish : Watch → View → View
 after_publish c v = record v {
   hold = record (v.hold) { called = λ _. false; rung = λ _. false; flagged = λ _. false; moot = false };
-  walk = again v.walk;
+  walk = begun_anew v.walk;
   duty = record {
     owes = λ d σ. same d c || v.duty.owes d σ;
     cleared = λ d x. not (same d c)

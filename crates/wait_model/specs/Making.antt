@@ -12,7 +12,7 @@ use Rattle.wait_model.specs.Points.{call_watch}
 use Rattle.wait_model.specs.Programs.{program, program_start}
 use Rattle.wait_model.specs.Phrases.{Rest, ends}
 use Rattle.wait_model.specs.Sentences.{Follows}
-use Rattle.wait_model.specs.Findings.{Noted, blank, notes, MayFind}
+use Rattle.wait_model.specs.Findings.{Noted, none_noted, notes, MayFind}
 
 abbrev pub goes_to : (Point → Rest) → Next → Rest
 goes_to R (next.Go p) = R p
@@ -26,9 +26,9 @@ Makes me call m p (e ∷ w) a = (seen : Seen) × MayFind call p m seen × (e ≡
 
 abbrev pub SentencesAreMade : Type 0
 SentencesAreMade = (me : ℕ) (call : Call) (w : List Event) (a : Answer) → Follows me call w a
-    → Makes me call blank (program_start call) w a
+    → Makes me call none_noted (program_start call) w a
 
 -- and it makes nothing else for such findings; of a call about a completion the law on runs says so
 abbrev pub ProgramsFollow : Type 0
 ProgramsFollow = (me : ℕ) (call : Call) (w : List Event) (a : Answer) → is_done (call_watch call) ≡ false
-    → Makes me call blank (program_start call) w a → Follows me call w a
+    → Makes me call none_noted (program_start call) w a → Follows me call w a

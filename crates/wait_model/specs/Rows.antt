@@ -1,6 +1,7 @@
 -- Which steps a task may make: a word that it found is what stands there, and each row's condition. (To be
 -- believed for steps outside of calls. That the steps of runs are such is proved.)
 use Rattle.std.specs.Prelude.{ℕ, ◌≡◌, ◌<◌, ◌⊎◌, Bool, true, false, Option, Some, None, List, [], ◌∷◌}
+use Rattle.wait_model.specs.declared.layout.TheConstants.{ENTRIES}
 use Rattle.wait_model.specs.declared.watches.Watch.{Watch}
 use Rattle.wait_model.specs.declared.watches.Watch.TheVariants as watch
 use Rattle.wait_model.specs.declared.watches.Entry.{Entry}
@@ -70,7 +71,7 @@ Allowed s a (step.Lock h aim w) = (s.holder h ≡ false) × ((s.view a).hold.hea
 Allowed s a (step.Unlock h sp) = ((s.view a).hold.head ≡ Some h) × MaySpend (s.view a) sp
 Allowed s a (step.Saw x w) = entry_of w ≡ s.entry x
 Allowed s a (step.Peek x w) = (entry_of w ≡ s.entry x) × ((s.view a).hold.head ≡ None)
-Allowed s a (step.Queue x e) = (owner x ≡ a) × (x < 256) × (s.entry x ≡ None)
+Allowed s a (step.Queue x e) = (owner x ≡ a) × (x < ENTRIES) × (s.entry x ≡ None)
     × ((s.view a).hold.head ≡ Some (head_of e.watch)) × Suits e × ((s.view a).hold.book x ≡ off)
 Allowed s a (step.Unqueue x) = MayChange s a x
 Allowed s a (step.Mark h q) = (s.view a).hold.head ≡ Some h

@@ -1,6 +1,17 @@
 -- Waits for a bit. (To be believed.)
 use Rattle.std.specs.Prelude.{ℕ, Bool, true, false, not, ◌&&◌, if◌then◌else◌}
-use Rattle.wait_model.specs.Phrases.{Phrase, ◌>>=◌, ◌>>◌, gives, finds, when◌then◌otherwise◌, Turn, leaves, repeat, repeats}
+use Rattle.wait_model.specs.Phrases.{
+  Phrase,
+  ◌>>=◌,
+  ◌>>◌,
+  gives,
+  finds,
+  when◌then◌otherwise◌,
+  Turn,
+  leaves,
+  repeat,
+  repeats,
+}
 use Rattle.wait_model.specs.SentenceSteps.{nothing, number, minus_4, is_met, prepares, finishes, acts}
 use Rattle.wait_model.specs.Words.{flag}
 use Rattle.wait_model.specs.declared.calls.Answer.{Answer}

@@ -1,8 +1,32 @@
 -- Completions: calls that raise a done count, and calls that lower it. (To be believed.)
 use Rattle.std.specs.Prelude.{ℕ, ◌+◌, ◌-◌, ◌≤◌, Bool, true, false, not, ◌==◌, if◌then◌else◌}
-use Rattle.wait_model.specs.DoneCounts.{done_end}
-use Rattle.wait_model.specs.Phrases.{Phrase, ◌>>=◌, ◌>>◌, gives, makes, given, when◌then◌otherwise◌, Turn, leaves, repeat, repeats}
-use Rattle.wait_model.specs.SentenceSteps.{nothing, number, minus_512, locks, unlocks, loads, stores, looks, sleeps, takes_off, enters}
+use Rattle.wait_model.specs.declared.layout.TheConstants.{ALL_DONE}
+use Rattle.wait_model.specs.Phrases.{
+  Phrase,
+  ◌>>=◌,
+  ◌>>◌,
+  gives,
+  makes,
+  given,
+  when◌then◌otherwise◌,
+  Turn,
+  leaves,
+  repeat,
+  repeats,
+}
+use Rattle.wait_model.specs.SentenceSteps.{
+  nothing,
+  number,
+  minus_512,
+  locks,
+  unlocks,
+  loads,
+  stores,
+  looks,
+  sleeps,
+  takes_off,
+  enters,
+}
 use Rattle.wait_model.specs.SentenceWalks.{selects, selects_all}
 use Rattle.wait_model.specs.Watches.{head_of}
 use Rattle.wait_model.specs.declared.calls.Answer.{Answer}
@@ -16,12 +40,12 @@ use Rattle.wait_model.specs.declared.calls.Event.TheVariants as event
 abbrev pub counts : Watch → Phrase ℕ
 counts c = do
   count ← loads c
-  given (count ≤ done_end)
+  given (count ≤ ALL_DONE)
   gives count
 
--- a hold ends with the count that was loaded in it less one; 4294967295 stays
+-- a hold ends with the count that was loaded in it less one; `ALL_DONE` stays
 abbrev pub lowers : Watch → ℕ → Phrase (Unit {0})
-lowers c count = when count == done_end
+lowers c count = when count == ALL_DONE
     then unlocks c
     otherwise (do stores c (count - 1); unlocks c)
 
@@ -91,12 +115,12 @@ is_completed c = do
     unlocks c
     gives (number 1)
 
--- `complete`: one more, unless it is 4294967295, and one waiter is selected
+-- `complete`: one more, unless it is `ALL_DONE`, and one waiter is selected
 abbrev pub completes : Watch → Phrase Answer
 completes c = do
   locks c
   count ← counts c
-  when count == done_end then nothing otherwise stores c (count + 1)
+  when count == ALL_DONE then nothing otherwise stores c (count + 1)
   some ← selects
   makes (event.Unlock (head_of c) some)
   gives (number 0)
@@ -105,7 +129,7 @@ completes c = do
 abbrev pub completes_all : Watch → Phrase Answer
 completes_all c = do
   locks c
-  stores c done_end
+  stores c ALL_DONE
   n ← selects_all
   unlocks c
   gives (number 0)

@@ -1,5 +1,6 @@
 -- Steps and stretches of events that the sentences of calls share. (To be believed.)
-use Rattle.std.specs.Prelude.{ℕ, Bool, true, false, not, if◌then◌else◌, pos, negsuc}
+use Rattle.std.specs.Prelude.{ℕ, Bool, true, false, not, if◌then◌else◌, pos}
+use Rattle.wait_model.specs.declared.layout.TheConstants.{RESTART, INTERRUPTED}
 use Rattle.wait_model.specs.Phrases.{any, Phrase, ◌>>=◌, ◌>>◌, gives, makes, finds, maybe, when◌then◌otherwise◌}
 use Rattle.wait_model.specs.Tasks.{state_mask, looks_in}
 use Rattle.wait_model.specs.Watches.{misses, head_of, number_of}
@@ -18,10 +19,10 @@ abbrev pub number : ℕ → Answer
 number n = answer.Number (pos n)
 
 abbrev pub minus_512 : Answer
-minus_512 = answer.Number (negsuc 511)
+minus_512 = answer.Number RESTART
 
 abbrev pub minus_4 : Answer
-minus_4 = answer.Number (negsuc 3)
+minus_4 = answer.Number INTERRUPTED
 
 abbrev pub yes_or_no : Bool → Answer
 yes_or_no b = if b then number 1 else number 0

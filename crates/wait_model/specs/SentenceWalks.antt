@@ -1,11 +1,25 @@
 -- Walks of wake-ups and selections of simple queues. (To be believed.)
 use Rattle.std.specs.Prelude.{ℕ, ◌+◌, ◌-◌, ◌<◌, ◌≤◌, Bool, true, false, ◌&&◌, ◌==◌, if◌then◌else◌}
-use Rattle.wait_model.specs.Phrases.{Phrase, ◌>>=◌, ◌>>◌, gives, makes, finds, any, given, when◌then◌otherwise◌, Turn, leaves, repeat, repeats}
-use Rattle.wait_model.specs.Queues.{break_count}
+use Rattle.wait_model.specs.declared.layout.TheConstants.{BREAK}
+use Rattle.wait_model.specs.Phrases.{
+  Phrase,
+  ◌>>=◌,
+  ◌>>◌,
+  gives,
+  makes,
+  finds,
+  any,
+  given,
+  when◌then◌otherwise◌,
+  Turn,
+  leaves,
+  repeat,
+  repeats,
+}
 use Rattle.wait_model.specs.SentenceSteps.{locks, unlocks, unlocks_spent, is_met}
 use Rattle.wait_model.specs.Watches.{head_of}
 use Rattle.wait_model.specs.declared.calls.Answer.{Answer}
-use Rattle.wait_model.specs.declared.queues.Called.{Called}
+use Rattle.wait_model.specs.declared.queues.CalledEntry.{CalledEntry}
 use Rattle.wait_model.specs.declared.queues.End.{End}
 use Rattle.wait_model.specs.declared.watches.Kind.{Kind}
 use Rattle.wait_model.specs.declared.watches.Watch.{Watch}
@@ -41,8 +55,8 @@ pub record WalkTally : Type 0 where
   pub holds : ℕ
   pub calls : ℕ
 
-abbrev pub counted : WalkTally → Bool → Bool → WalkTally
-counted t exclusive hit = record {
+abbrev pub tallied : WalkTally → Bool → Bool → WalkTally
+tallied t exclusive hit = record {
   woken = if hit then t.woken + 1 else t.woken;
   selected = if hit && exclusive then t.selected + 1 else t.selected;
   left = if hit && exclusive then t.left - 1 else t.left;
@@ -73,11 +87,11 @@ calls_function c kind.Bit who = do
 calls_function c kind.Var who = wakes_off who
 calls_function c kind.Simple who = wakes who
 
--- What a walk comes to next. Before a further member it breaks in a hold that has called more than 64 entries: it
+-- What a walk comes to next. Before a further member it breaks in a hold that has called more than `BREAK` entries: it
 -- puts its bookmark, gives the lock back, and goes on in a next hold.
 abbrev pub at_break : Watch → WalkTally → Phrase (Turn WalkTally Answer)
 at_break c t = do
-  given (break_count < t.calls)
+  given (BREAK < t.calls)
   makes (event.Mark (head_of c))
   unlocks c
   locks c
@@ -90,13 +104,13 @@ at_end c t = do
   gives (leaves (walked t end_as.End))
 
 -- an exclusive entry that it wakes lowers the count, and a count that comes to 0 ends the walk
-abbrev pub at_entry : Watch → WalkTally → Called → Phrase (Turn WalkTally Answer)
+abbrev pub at_entry : Watch → WalkTally → CalledEntry → Phrase (Turn WalkTally Answer)
 at_entry c t called = do
-  given (t.calls ≤ break_count)
+  given (t.calls ≤ BREAK)
   hit ← calls_function c called.kind called.who
   when (hit && called.exclusive) && (t.left == 1)
-      then (do unlocks_spent c; gives (leaves (walked (counted t called.exclusive hit) end_as.Spent)))
-      otherwise gives (repeats (counted t called.exclusive hit))
+      then (do unlocks_spent c; gives (leaves (walked (tallied t called.exclusive hit) end_as.Spent)))
+      otherwise gives (repeats (tallied t called.exclusive hit))
 
 -- The heads of bits and variables are shared. A walk passes the strangers there without an event, and each counts as
 -- one call.
@@ -117,7 +131,7 @@ passes c t = when shares_head c
 pub data Ahead : Type 0 where
   a_break : Ahead
   the_end : Ahead
-  an_entry : Called → Ahead
+  an_entry : CalledEntry → Ahead
 
 abbrev pub comes_to : Watch → WalkTally → Ahead → Phrase (Turn WalkTally Answer)
 comes_to c t a_break = at_break c t

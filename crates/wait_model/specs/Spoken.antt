@@ -1,6 +1,7 @@
 -- In every run, what a task has made since it opened the call that it ends follows the sentence of the call, and the
 -- answer is the one that the sentence gives. What it has made of an open call begins the sentence. (To be believed.)
 use Rattle.std.specs.Prelude.{ℕ, ◌≡◌, ◌≤◌, ◌==◌, if◌then◌else◌, List, [], ◌∷◌, ◌++◌}
+use Rattle.wait_model.specs.declared.layout.TheConstants.{EVENTS}
 use Rattle.wait_model.specs.declared.calls.Call.{Call}
 use Rattle.wait_model.specs.declared.calls.Event.{Event}
 use Rattle.wait_model.specs.declared.calls.Answer.{Answer}
@@ -25,7 +26,7 @@ abbrev pub said_in : List Ran → ℕ → List Event
 said_in run t = said_after t [] run
 
 -- the item, which the run allows next, ends the call with this answer
-pub record IsLast (run : List Ran) (me : ℕ) (call : Call) (e : Event) (found : ℕ) (a : Answer) : Type 0 where
+pub record IsLastEvent (run : List Ran) (me : ℕ) (call : Call) (e : Event) (found : ℕ) (a : Answer) : Type 0 where
   pub item : IsItem (state_of run) (ran.Made me e found)
   pub point : Point
   pub open_at : (state_of run).progress me ≡ now.Open call point
@@ -33,11 +34,13 @@ pub record IsLast (run : List Ran) (me : ℕ) (call : Call) (e : Event) (found :
 
 abbrev pub CallsFollowSentences : Type 0
 CallsFollowSentences = (run : List Ran) (me : ℕ) (call : Call) (e : Event) (found : ℕ) (a : Answer) → IsRun run
-    → made_in run ≤ 1000000 → IsLast run me call e found a → Follows me call (said_in (run ++ ran.Made me e found ∷ []) me) a
+    → made_in run ≤ EVENTS → IsLastEvent run me call e found a
+    → Follows me call (said_in (run ++ ran.Made me e found ∷ []) me) a
 
 -- what a task has made of its open call follows the sentence as far as it goes
 abbrev pub BeginsOpen : List Ran → ℕ → Type 0
-BeginsOpen run me = (call : Call) (p : Point) → (state_of run).progress me ≡ now.Open call p → Begins me call (said_in run me)
+BeginsOpen run me = (call : Call) (p : Point) → (state_of run).progress me ≡ now.Open call p
+    → Begins me call (said_in run me)
 
 abbrev pub OpenCallsBegin : Type 0
-OpenCallsBegin = (run : List Ran) (me : ℕ) → IsRun run → made_in run ≤ 1000000 → BeginsOpen run me
+OpenCallsBegin = (run : List Ran) (me : ℕ) → IsRun run → made_in run ≤ EVENTS → BeginsOpen run me

@@ -20,7 +20,8 @@ use Rattle.std.specs.Prelude.{
   ◌∷◌,
   ◌++◌,
 }
-use Rattle.wait_model.specs.declared.tasks.Task.{Task}
+use Rattle.wait_model.specs.declared.layout.TheConstants.{WORD_BITS}
+use Rattle.wait_model.specs.declared.tasks.TaskRecord.{TaskRecord}
 use Rattle.wait_model.specs.declared.watches.Watch.{Watch}
 use Rattle.wait_model.specs.declared.watches.Watch.TheVariants as watch
 use Rattle.wait_model.specs.declared.watches.Entry.{Entry}
@@ -45,7 +46,7 @@ unfoldable pub mark_of : ℕ → Option Mark
 mark_of w = if w == 0 then None else Some (record { head = (w / 2 ^ 40) % 2 ^ 9; place = w % 2 ^ 40 })
 
 pub record Table : Type 0 where
-  pub task : ℕ → Task
+  pub task : ℕ → TaskRecord
   pub entry : ℕ → Option Entry  -- by index
   pub mark : ℕ → Option Mark
   pub flag : ℕ → Bool  -- by the entry's index
@@ -66,7 +67,7 @@ met w (watch.Var v old) = not (w.vars v == old)
 abbrev pub value_of : Words → Watch → ℕ
 value_of w (watch.Plain c) = w.plains c
 value_of w (watch.Done d) = w.dones d
-value_of w (watch.Bit i b) = bit_word 64 (w.bits i)
+value_of w (watch.Bit i b) = bit_word WORD_BITS (w.bits i)
 value_of w (watch.Var v old) = w.vars v
 
 abbrev pub publish : Words → Watch → ℕ → Words

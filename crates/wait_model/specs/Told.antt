@@ -26,15 +26,15 @@ ends_walk (Some w) spent v c σ = (spent || all_passed v w (λ _. false)) && con
 
 -- the step ends a wake of c for tasks of state σ: such an unlock, or the last load of a look that found no
 -- member
-abbrev pub ends : Step → View → Watch → ℕ → Bool
-ends (step.Unlock h spent) v c σ = ends_walk v.walk spent v c σ
-ends (step.Peek x w) v c σ = all_cleared (peeks v.duty.cleared x (entry_of w) c)
-ends _ v c σ = false
+abbrev pub ends_wake : Step → View → Watch → ℕ → Bool
+ends_wake (step.Unlock h spent) v c σ = ends_walk v.walk spent v c σ
+ends_wake (step.Peek x w) v c σ = all_cleared (peeks v.duty.cleared x (entry_of w) c)
+ends_wake _ v c σ = false
 
 -- no wake of c for tasks of state σ ends in these steps of a task that had the view v
 abbrev pub Unended : Watch → ℕ → View → List Step → Type 0
 Unended c σ v [] = Unit {0}
-Unended c σ v (e ∷ es) = (ends e v c σ ≡ false) × Unended c σ (after e v) es
+Unended c σ v (e ∷ es) = (ends_wake e v c σ ≡ false) × Unended c σ (after e v) es
 
 -- the task has published c, and no wake of it for this state has ended since
 pub record Owing (es : List Step) (c : Watch) (σ : ℕ) : Type 0 where

@@ -1,5 +1,6 @@
 -- No run meets a head at which no place is left. (To be believed.)
 use Rattle.std.specs.Prelude.{ℕ, ◌≡◌, ◌≢◌, ◌≤◌, List}
+use Rattle.wait_model.specs.declared.layout.TheConstants.{EVENTS}
 use Rattle.wait_model.specs.declared.calls.Call.{Call}
 use Rattle.wait_model.specs.declared.calls.Ran.{Ran}
 use Rattle.wait_model.specs.declared.calls.Answer.TheVariants as answer
@@ -9,8 +10,8 @@ use Rattle.wait_model.specs.declared.points.Next.TheVariants as next
 use Rattle.wait_model.specs.declared.points.Progress.TheVariants as now
 use Rattle.wait_model.specs.Runs.{planned, IsRun, state_of, made_in}
 
--- no call stands behind a prepare for which no place was left, and none answers `Worn`
+-- no call stands after a prepare for which no place was left, and none answers `Worn`
 abbrev pub NoRunWears : Type 0
-NoRunWears = (run : List Ran) → IsRun run → made_in run ≤ 1000000 → (me : ℕ) (call : Call) (p : Point)
+NoRunWears = (run : List Ran) → IsRun run → made_in run ≤ EVENTS → (me : ℕ) (call : Call) (p : Point)
     → (state_of run).progress me ≡ now.Open call p
     → (p ≢ at.Worn) × ((planned (state_of run) me call p).next ≢ next.Ends answer.Worn)

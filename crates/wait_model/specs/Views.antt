@@ -19,6 +19,7 @@ use Rattle.std.specs.Prelude.{
   nat_le,
   nat_lt,
 }
+use Rattle.wait_model.specs.declared.layout.TheConstants.{ENTRIES}
 use Rattle.wait_model.specs.declared.watches.Watch.{Watch}
 use Rattle.wait_model.specs.declared.watches.Entry.{Entry}
 use Rattle.wait_model.specs.Tasks.{meets}
@@ -152,10 +153,10 @@ all_below zero p = true
 all_below (suc n) p = p n && all_below n p
 
 unfoldable pub all_passed : View → Walk → (ℕ → Bool) → Bool
-all_passed v w stop = all_below 256 (λ x. passed w v stop (v.hold.book x) x)
+all_passed v w stop = all_below ENTRIES (λ x. passed w v stop (v.hold.book x) x)
 
 unfoldable pub all_cleared : (ℕ → Bool) → Bool
-all_cleared f = all_below 256 f
+all_cleared f = all_below ENTRIES f
 
 abbrev pub look_at : Option ℕ → Option Entry → Look
 look_at None f = unseen
@@ -163,6 +164,6 @@ look_at (Some h) None = off
 look_at (Some h) (Some e) = if head_of e.watch == h then shown e else elsewhere
 
 -- an exclusive entry for this bit
-abbrev pub tries : Option Entry → Watch → Bool
-tries None c = false
-tries (Some e) c = e.exclusive && (is_bit e.watch && same c e.watch)
+abbrev pub is_trying_for : Option Entry → Watch → Bool
+is_trying_for None c = false
+is_trying_for (Some e) c = e.exclusive && (is_bit e.watch && same c e.watch)

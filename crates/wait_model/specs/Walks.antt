@@ -1,7 +1,29 @@
 -- Walks, plainly over a task's history: the hold of a walk, the entries that it has called, and looks
 -- without
 -- the lock. (To be believed.)
-use Rattle.std.specs.Prelude.{ℕ, zero, suc, ◌≡◌, ◌<◌, ◌≤◌, ◌⊎◌, Bool, true, false, not, ◌&&◌, ◌==◌, if◌then◌else◌, Option, Some, None, List, ◌∷◌, ◌++◌}
+use Rattle.std.specs.Prelude.{
+  ℕ,
+  zero,
+  suc,
+  ◌≡◌,
+  ◌<◌,
+  ◌≤◌,
+  ◌⊎◌,
+  Bool,
+  true,
+  false,
+  not,
+  ◌&&◌,
+  ◌==◌,
+  if◌then◌else◌,
+  Option,
+  Some,
+  None,
+  List,
+  ◌∷◌,
+  ◌++◌,
+}
+use Rattle.wait_model.specs.declared.layout.TheConstants.{ENTRIES}
 use Rattle.wait_model.specs.declared.watches.Watch.{Watch}
 use Rattle.wait_model.specs.declared.watches.Entry.{Entry}
 use Rattle.wait_model.specs.declared.watches.Aim.{Aim}
@@ -20,7 +42,7 @@ use Rattle.wait_model.specs.Watches.{
   stands_at,
 }
 use Rattle.wait_model.specs.Words.{entry_of}
-use Rattle.wait_model.specs.Histories.{Lacks, Since, turns, is_publish, is_mark, marks}
+use Rattle.wait_model.specs.Histories.{Lacks, Since, turns_lock, is_publish, is_mark, marks}
 
 -- the task is in a hold whose lock it took for a walk of the watch that meets the state; `inside` is what
 -- it
@@ -32,21 +54,21 @@ pub record WalkHold (es : List Step) (c : Watch) (σ : ℕ) : Type 0 where
   pub found : ℕ
   pub inside : List Step
   pub split : es ≡ before ++ step.Lock head (Some aim) found ∷ inside
-  pub within : Lacks turns inside
+  pub within : Lacks turns_lock inside
   pub watch : same c aim.watch ≡ true
   pub mode : meets (mask_of aim.mode) σ ≡ true
 
 -- the step is the walk's wake of the entry's owner, or a load that found the walk's bit set: then the walk
 -- calls no further entry
-abbrev pub calls : Aim → ℕ → Step → Bool
-calls a x (step.Wake who mask w) = (mask == mask_of a.mode) && (owner x == who)
-calls a x (step.Load l r) = is_bit a.watch && failing l r a.watch
-calls a x _ = false
+abbrev pub calls_entry : Aim → ℕ → Step → Bool
+calls_entry a x (step.Wake who mask w) = (mask == mask_of a.mode) && (owner x == who)
+calls_entry a x (step.Load l r) = is_bit a.watch && failing l r a.watch
+calls_entry a x _ = false
 
 -- the step is the walk's wake of the entry's owner
-abbrev pub wakes : Aim → ℕ → Step → Bool
-wakes a x (step.Wake who mask w) = (mask == mask_of a.mode) && (owner x == who)
-wakes a x _ = false
+abbrev pub wakes_entry : Aim → ℕ → Step → Bool
+wakes_entry a x (step.Wake who mask w) = (mask == mask_of a.mode) && (owner x == who)
+wakes_entry a x _ = false
 
 -- the step sets the flag of this entry
 abbrev pub flags : ℕ → Step → Bool
@@ -57,11 +79,11 @@ flags x _ = false
 -- was
 -- set before the wake
 pub record RungBy (inside : List Step) (a : Aim) (x : ℕ) : Type 0 where
-  pub wake : Since (wakes a x) is_publish inside
+  pub wake : Since (wakes_entry a x) is_publish inside
   pub flag : Since (flags x) is_publish wake.earlier
 
 abbrev pub CalledBy : Bool → List Step → Aim → ℕ → Type 0
-CalledBy false inside a x = Since (calls a x) is_publish inside
+CalledBy false inside a x = Since (calls_entry a x) is_publish inside
 CalledBy true inside a x = RungBy inside a x
 
 -- the walk under way has called the entry in this hold
@@ -77,12 +99,12 @@ tells x (step.Unqueue y) = x == y
 tells x _ = false
 
 -- the entry of head h that such a step of a hold of h shows
-abbrev pub entry_at : ℕ → Option Entry → Option Entry
-entry_at h None = None
-entry_at h (Some e) = if head_of e.watch == h then Some e else None
+abbrev pub entry_of_head : ℕ → Option Entry → Option Entry
+entry_of_head h None = None
+entry_of_head h (Some e) = if head_of e.watch == h then Some e else None
 
 abbrev pub shown_by : ℕ → Step → Option Entry
-shown_by h (step.Saw y w) = entry_at h (entry_of w)
+shown_by h (step.Saw y w) = entry_of_head h (entry_of w)
 shown_by h (step.Queue y e) = Some e
 shown_by h _ = None
 
@@ -122,7 +144,7 @@ pub record LeftBehind (gone : List Step → ℕ → Type 0) (es : List Step) (c 
   pub hold : WalkHold before c σ
   pub mark : ℕ
   pub marked : Since (marks mark) is_mark before
-  pub passed : (x : ℕ) → x < 256 → HasPassed (gone before) (λ p. mark ≤ p) before c σ hold x
+  pub passed : (x : ℕ) → x < ENTRIES → HasPassed (gone before) (λ p. mark ≤ p) before c σ hold x
   pub stays : Lacks (leaves hold.aim) later
   pub behind : place < mark
 
@@ -135,9 +157,9 @@ abbrev pub GoneBy : List Step → Watch → ℕ → ℕ → Type 0
 GoneBy es c σ place = (n : ℕ) × GoneIn n c σ es place
 
 -- the step is a look without the lock that finds entry x off the head of c
-abbrev pub finds_off : Watch → ℕ → Step → Bool
-finds_off c x (step.Peek y w) = (x == y) && not (stands_at (entry_of w) (head_of c))
-finds_off c x _ = false
+abbrev pub finds_off_head : Watch → ℕ → Step → Bool
+finds_off_head c x (step.Peek y w) = (x == y) && not (stands_at (entry_of w) (head_of c))
+finds_off_head c x _ = false
 
 -- with this step such a look is begun anew
 abbrev pub looks_anew : Watch → Step → Bool

@@ -19,6 +19,22 @@ use Rattle.std.specs.Prelude.{
   Some,
   None,
 }
+use Rattle.wait_model.specs.declared.layout.TheConstants.{
+  SLOTS,
+  PLAIN_CONDITIONS,
+  FIRST_SIMPLE,
+  COMPLETIONS,
+  BIT_WORDS,
+  WORD_BITS,
+  VARIABLES,
+  FIRST_DONE,
+  FIRST_BIT_WORD,
+  FIRST_VARIABLE,
+  FIRST_PLAIN_HEAD,
+  FIRST_DONE_HEAD,
+  INTERRUPTIBLE,
+  NORMAL,
+}
 use Rattle.wait_model.specs.declared.watches.Watch.{Watch}
 use Rattle.wait_model.specs.declared.watches.Watch.TheVariants as watch
 use Rattle.wait_model.specs.declared.watches.Entry.{Entry}
@@ -36,23 +52,23 @@ same (watch.Bit w b) (watch.Bit v a) = (w == v) && (b == a)
 same (watch.Var v o) (watch.Var u p) = v == u
 same _ _ = false
 
--- one of the 256 heads of bits and variables
+-- one of the heads of bits and variables
 unfoldable pub hashed : ℕ → ℕ
 hashed n = ((n * 0x61C8864680B583EB) % (2 ^ 64)) / (2 ^ 56)
 
 unfoldable pub head_of : Watch → ℕ
 unfolding hashed
-head_of (watch.Plain c) = 256 + c
-head_of (watch.Done d) = 320 + d
-head_of (watch.Bit w b) = hashed (w * 64 + b)
-head_of (watch.Var v o) = hashed (128 + v)
+head_of (watch.Plain c) = FIRST_PLAIN_HEAD + c
+head_of (watch.Done d) = FIRST_DONE_HEAD + d
+head_of (watch.Bit w b) = hashed (w * WORD_BITS + b)
+head_of (watch.Var v o) = hashed (BIT_WORDS + v)
 
 -- the numbers of a watch that a call names are in their ranges
 abbrev pub IsThere : Watch → Type 0
-IsThere (watch.Plain c) = c < 64
-IsThere (watch.Done d) = d < 64
-IsThere (watch.Bit w b) = (w < 128) × (b < 64)
-IsThere (watch.Var v o) = v < 128
+IsThere (watch.Plain c) = c < PLAIN_CONDITIONS
+IsThere (watch.Done d) = d < COMPLETIONS
+IsThere (watch.Bit w b) = (w < BIT_WORDS) × (b < WORD_BITS)
+IsThere (watch.Var v o) = v < VARIABLES
 
 -- a word of this value does not set the watch
 abbrev pub misses : Watch → ℕ → Bool
@@ -64,9 +80,9 @@ misses (watch.Var v old) r = r == old
 -- the number of a watch's word among the condition words
 abbrev pub number_of : Watch → ℕ
 number_of (watch.Plain c) = c
-number_of (watch.Done d) = 64 + d
-number_of (watch.Bit w b) = 128 + w
-number_of (watch.Var v o) = 256 + v
+number_of (watch.Done d) = FIRST_DONE + d
+number_of (watch.Bit w b) = FIRST_BIT_WORD + w
+number_of (watch.Var v o) = FIRST_VARIABLE + v
 
 -- what an entry word shows of a watch: the old value of a variable stands in no word
 abbrev pub bare : Watch → Watch
@@ -75,9 +91,9 @@ bare (watch.Done d) = watch.Done d
 bare (watch.Bit w b) = watch.Bit w b
 bare (watch.Var v o) = watch.Var v 0
 
--- the kind of entry by which a call waits: conditions 0 to 47 have full heads, 48 to 63 simple ones
+-- the kind of entry by which a call waits: conditions below `FIRST_SIMPLE` have full heads, all others simple ones
 abbrev pub kind_for : Watch → Kind
-kind_for (watch.Plain c) = if nat_lt c 48 then kind.Autoremove else kind.Simple
+kind_for (watch.Plain c) = if nat_lt c FIRST_SIMPLE then kind.Autoremove else kind.Simple
 kind_for (watch.Done d) = kind.Simple
 kind_for (watch.Bit w b) = kind.Bit
 kind_for (watch.Var v o) = kind.Var
@@ -120,8 +136,8 @@ is_simple _ = false
 
 -- the states that a wake of this mode meets
 abbrev pub mask_of : Mode → ℕ
-mask_of mode.Interruptible = 1
-mask_of mode.Normal = 3
+mask_of mode.Interruptible = INTERRUPTIBLE
+mask_of mode.Normal = NORMAL
 
 -- a load of the first watch's word that found r is one of the second's, and its test fails there
 abbrev pub failing : Watch → ℕ → Watch → Bool
@@ -138,7 +154,7 @@ was_clear _ r = false
 
 -- whose entry has this index
 unfoldable pub owner : ℕ → ℕ
-owner x = x / 2
+owner x = x / SLOTS
 
 -- the entry is one of this watch: a wake for the watch calls its function
 abbrev pub is_for : Watch → Option Entry → Bool

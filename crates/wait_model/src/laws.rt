@@ -80,8 +80,9 @@ pub fn worked_scripts()
 {}
 
 /// No walk selects more than its count, a wake of one of a simple queue and a `complete` take off at most one entry and
-/// such a wake tells how many it took off, no wait is interrupted but behind a failed load of its last turn, no wait
-/// for a bit is but behind a load that found the bit set and a sleep that a signal ended, and no signal is accepted that was not raised, in any run.
+/// such a wake tells how many it took off, no wait is interrupted but after a failed load of its last turn, no wait
+/// for a bit is but after a load that found the bit set and a sleep that a signal ended, and no signal is accepted
+/// that was not raised, in any run.
 pub fn runs_are_orderly()
     ensures { RunsAreOrderly }
 {}
@@ -133,7 +134,7 @@ pub fn calls_follow_sentences()
 {}
 
 /// Whatever follows the sentence of a call is made by its program, for findings that a task may have: its entry is off
-/// until the call queues it, a count is as it was loaded, and a walk breaks above 64 calls. And the program makes
+/// until the call queues it, a count is as it was loaded, and a walk breaks above `BREAK` calls. And the program makes
 /// nothing else for such findings; of a call about a completion `calls_follow_sentences` says so.
 pub fn sentences_are_made()
     ensures made { SentencesAreMade }
@@ -146,7 +147,7 @@ pub fn walks_go_by_aims()
     ensures { WalksGoByAims }
 {}
 
-/// No run meets a head at which no place is left: no call answers Worn, or stands behind such an add.
+/// No run meets a head at which no place is left: no call answers Worn, or stands after such an add.
 pub fn no_run_wears()
     ensures { NoRunWears }
 {}

@@ -1,4 +1,4 @@
-use Rattle.wait_model.proofs.Spoken.{calls_follow_sentences, open_calls_begin}
+use Rattle.wait_model.proofs.SentenceLaws.SpokenCalls.{calls_follow_sentences, open_calls_begin}
 use Rattle.wait_model.proofs.laws.calls_follow_sentences.Goals as goal
 
 pub returns : goal.returns

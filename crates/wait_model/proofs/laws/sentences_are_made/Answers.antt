@@ -1,5 +1,5 @@
-use Rattle.wait_model.proofs.Followed.{programs_follow}
-use Rattle.wait_model.proofs.MadeCalls.{sentences_are_made}
+use Rattle.wait_model.proofs.SentenceLaws.FollowedSentences.{programs_follow}
+use Rattle.wait_model.proofs.SentenceLaws.MadeCalls.{sentences_are_made}
 use Rattle.wait_model.proofs.laws.sentences_are_made.Goals as goal
 
 pub returns : goal.returns

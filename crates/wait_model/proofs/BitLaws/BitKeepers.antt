@@ -1,0 +1,191 @@
+-- A bit is set exactly where one task keeps it.
+use Rattle.std.proofs.Common.{refl, sym, ◌∙◌, ap, subst, arith, inl, inr}
+use Rattle.std.specs.Prelude.{ℕ, ◌≡◌, ◌⊎◌, Bool, true, false, not, ◌&&◌, ◌||◌, List}
+use Rattle.wait_model.specs.declared.watches.Watch.{Watch}
+use Rattle.wait_model.specs.declared.watches.Watch.TheVariants as watch
+use Rattle.wait_model.specs.declared.steps.Step.{Step}
+use Rattle.wait_model.specs.declared.steps.Step.TheVariants as step
+use Rattle.wait_model.specs.Words.{bit_at}
+use Rattle.wait_model.specs.Watches.{same, is_bit, was_clear}
+use Rattle.wait_model.specs.Views.{View, Bits, blank}
+use Rattle.wait_model.specs.Fold.{after, view_of}
+use Rattle.wait_model.specs.Histories.{Lacks}
+use Rattle.wait_model.specs.Tables.{Table, next, start}
+use Rattle.wait_model.specs.Rows.{Allowed}
+use Rattle.wait_model.specs.Facts.{Kept}
+use Rattle.wait_model.specs.BitKeepers.{
+  gets,
+  clears_bit,
+  KeepsBit,
+  AreKept,
+  KeepsTold,
+  BitsStayKept,
+  BitsStartKept,
+  EveryRunKeepsBits,
+}
+use Rattle.wait_model.proofs.Functions.{put_at}
+use Rattle.wait_model.proofs.StepLaws.KeptLaws.{step_keeps}
+use Rattle.wait_model.proofs.HistoryLaws.HoldLooks.{IsLookTold, told_next}
+use Rattle.wait_model.proofs.StepLaws.StartLaws.{start_kept}
+use Rattle.wait_model.proofs.HistoryLaws.Stretches.{Seen, IsSetBy, seen_in, set_at, kept_so}
+use Rattle.wait_model.proofs.StepLaws.UnlockSteps.{unlock_bits}
+use Rattle.wait_model.proofs.StepLaws.TableLaws.{table_law}
+
+-- what any step does to the bits that a task keeps
+keeps_after : (w b : ℕ) → IsSetBy (λ (v : View). v.bits.keeps (watch.Bit w b)) (λ e _. gets w b e)
+    (clears_bit w b)
+keeps_after w b (step.Publish c n r) v = refl
+keeps_after w b (step.Consume c n r) v = by c
+  where
+    by : (c : Watch)
+        → (v.bits.keeps (watch.Bit w b) || (is_bit c && (was_clear c r && same (watch.Bit w b) c)))
+        ≡ ((was_clear c r && same (watch.Bit w b) c) || (v.bits.keeps (watch.Bit w b) && not false))
+    by (watch.Bit i k) = grind arith
+    by (watch.Plain i) = grind arith
+    by (watch.Done i) = grind arith
+    by (watch.Var i o) = grind arith
+keeps_after w b (step.Unlock h sp) v =
+    ap (λ (k : Bits). k.keeps (watch.Bit w b)) (unlock_bits v v.walk sp)
+    ∙ kept_so (v.bits.keeps (watch.Bit w b))
+keeps_after w b e v = kept_so (v.bits.keeps (watch.Bit w b))
+
+pub keeps_told : KeepsTold
+keeps_told es w b = (
+  λ h. found (seen_in (λ (v : View). v.bits.keeps (watch.Bit w b)) (λ e _. gets w b e) (clears_bit w b)
+      (keeps_after w b)
+      es blank h),
+  λ k. ap (λ (fs : List Step). (view_of fs).bits.keeps (watch.Bit w b)) k.split
+      ∙ set_at (λ (v : View). v.bits.keeps (watch.Bit w b)) (λ e _. gets w b e) (clears_bit w b)
+      (keeps_after w b) k.earlier
+      k.it k.later blank k.passes k.none_since,
+)
+  where
+    found : Seen (λ e _. gets w b e) (clears_bit w b) blank es
+        ⊎ ((blank.bits.keeps (watch.Bit w b) ≡ true) × Lacks (clears_bit w b) es) → KeepsBit es w b
+    found (inl s) = record {
+      earlier = s.earlier;
+      it = s.it;
+      later = s.later;
+      split = s.split;
+      passes = s.sets;
+      none_since = s.none_since;
+    }
+    found (inr q) = absurd (let z : false ≡ true = q.0 in cc)
+
+-- the step sets the bit, whatever it found
+abbrev sets : ℕ → ℕ → Step → Bool
+sets w b (step.Consume c n r) = same (watch.Bit w b) c
+sets w b _ = false
+
+-- what any step does to the bit
+bits_after : (s : Table) (a : ℕ) (e : Step) (w b : ℕ)
+    → (next s a e).words.bits w b ≡ (sets w b e || (s.words.bits w b && not (clears_bit w b e)))
+bits_after s a (step.Publish (watch.Bit i k) n r) w b = grind arith
+bits_after s a (step.Consume (watch.Bit i k) n r) w b = grind arith
+bits_after s a (step.Publish (watch.Plain c) n r) w b = kept_so (s.words.bits w b)
+bits_after s a (step.Publish (watch.Done d) n r) w b = kept_so (s.words.bits w b)
+bits_after s a (step.Publish (watch.Var v o) n r) w b = kept_so (s.words.bits w b)
+bits_after s a (step.Consume (watch.Plain c) n r) w b = kept_so (s.words.bits w b)
+bits_after s a (step.Consume (watch.Done d) n r) w b = kept_so (s.words.bits w b)
+bits_after s a (step.Consume (watch.Var v o) n r) w b = kept_so (s.words.bits w b)
+bits_after s a e w b = kept_so (s.words.bits w b)
+
+-- a step that sets the bit found it clear, or it was set
+found_or : (s : Table) (a : ℕ) (e : Step) (w b : ℕ) → Allowed s a e → sets w b e ≡ true
+    → (gets w b e ≡ true) ⊎ ((s.words.bits w b ≡ true) × (clears_bit w b e ≡ false))
+found_or s a (step.Consume (watch.Bit i k) n r) w b al h = by (bit_at r k) refl
+  where
+    read : bit_at r k ≡ s.words.bits i k
+    read = al.2 k
+
+    by : (f : Bool) → bit_at r k ≡ f
+        → ((not (bit_at r k) && same (watch.Bit w b) (watch.Bit i k)) ≡ true)
+        ⊎ ((s.words.bits w b ≡ true) × (false ≡ false))
+    by true q = inr (grind (arith, q, read, h), refl)
+    by false q = inl (rw (q, h) refl)
+found_or s a (step.Consume (watch.Plain c) n r) w b al h = absurd (cc)
+found_or s a (step.Consume (watch.Done d) n r) w b al h = absurd (cc)
+found_or s a (step.Consume (watch.Var v o) n r) w b al h = absurd (cc)
+found_or s a e w b al h = absurd (cc)
+
+-- each set bit is one that a task keeps by its view
+abbrev HasKeeper : Table → ℕ → ℕ → Type 0
+HasKeeper s w b = (a : ℕ) × ((s.view a).bits.keeps (watch.Bit w b) ≡ true)
+
+-- who kept the bit keeps it, where the step does not clear it
+still_keeper : (s : Table) (a : ℕ) (e : Step) (w b : ℕ) → clears_bit w b e ≡ false → HasKeeper s w b
+    → HasKeeper (next s a e) w b
+still_keeper s a e w b unset h = (
+  h.0,
+  put_at (λ (v : View). v.bits.keeps (watch.Bit w b) ≡ true) s.view a (after e (s.view a)) h.0
+      (λ q. keeps_after w b e (s.view a) ∙ own q) (λ _. h.1),
+)
+  where
+    own : h.0 ≡ a → (gets w b e || ((s.view a).bits.keeps (watch.Bit w b) && not (clears_bit w b e))) ≡ true
+    own q = let k : (s.view a).bits.keeps (watch.Bit w b) ≡ true =
+        subst (λ (i : ℕ). (s.view i).bits.keeps (watch.Bit w b) ≡ true) q h.1
+        in rw (k, unset) (or_true (gets w b e))
+      where
+        or_true : (x : Bool) → (x || true) ≡ true
+        or_true true = refl
+        or_true false = refl
+
+next_keeper : (s : Table) (a : ℕ) (e : Step) (w b : ℕ) → Allowed s a e
+    → (s.words.bits w b ≡ true → HasKeeper s w b) → (next s a e).words.bits w b ≡ true
+    → HasKeeper (next s a e) w b
+next_keeper s a e w b al old h = by (sets w b e) refl (clears_bit w b e) refl (sym (bits_after s a e w b) ∙ h)
+  where
+    got : (gets w b e ≡ true) ⊎ ((s.words.bits w b ≡ true) × (clears_bit w b e ≡ false))
+        → HasKeeper (next s a e) w b
+    got (inl g) = (
+      a,
+      put_at (λ (v : View). v.bits.keeps (watch.Bit w b) ≡ true) s.view a (after e (s.view a)) a
+          (λ _. keeps_after w b e (s.view a) ∙ rw g refl) (λ ne. absurd (ne refl)),
+    )
+    got (inr q) = still_keeper s a e w b q.1 (old q.0)
+
+    by : (x : Bool) → sets w b e ≡ x → (y : Bool) → clears_bit w b e ≡ y
+        → (sets w b e || (s.words.bits w b && not (clears_bit w b e))) ≡ true → HasKeeper (next s a e) w b
+    by true p y q g = got (found_or s a e w b al p)
+    by false p true q g = absurd (grind arith)
+    by false p false q g = still_keeper s a e w b q (old (grind arith))
+
+-- the law in the words of views
+kept_from : (s : Table) → Kept s → IsLookTold s → ((w b : ℕ) → s.words.bits w b ≡ true → HasKeeper s w b)
+    → AreKept s
+kept_from s k told h = record {
+  keeper = λ w b q. (
+    (h w b q).0,
+    (keeps_told (s.history (h w b q).0) w b).0 (subst (λ (v : View). v.bits.keeps (watch.Bit w b) ≡ true)
+        (told (h w b q).0) (h w b q).1),
+  );
+  set = λ a w b q. not_not (s.words.bits w b) ((k.facts.views a).bits.kept (watch.Bit w b) refl
+      (by_view a w b q));
+  one = λ a d w b p q. k.bits.one_keeper a d (watch.Bit w b) refl (by_view a w b p) (by_view d w b q);
+}
+  where
+    by_view : (a w b : ℕ) → KeepsBit (s.history a) w b → (s.view a).bits.keeps (watch.Bit w b) ≡ true
+    by_view a w b q = subst (λ (v : View). v.bits.keeps (watch.Bit w b) ≡ true) (sym (told a))
+        ((keeps_told (s.history a) w b).1 q)
+
+    not_not : (x : Bool) → not x ≡ false → x ≡ true
+    not_not true e = refl
+    not_not false e = absurd (cc)
+
+keepers_of : (s : Table) → IsLookTold s → AreKept s → (w b : ℕ) → s.words.bits w b ≡ true → HasKeeper s w b
+keepers_of s told r w b q = (
+  (r.keeper w b q).0,
+  subst (λ (v : View). v.bits.keeps (watch.Bit w b) ≡ true) (sym (told (r.keeper w b q).0))
+      ((keeps_told (s.history (r.keeper w b q).0) w b).1 (r.keeper w b q).1),
+)
+
+pub bits_stay_kept : BitsStayKept
+bits_stay_kept s a e k told al r = kept_from (next s a e) (step_keeps s a e k al) (told_next s a e told)
+    (λ w b. next_keeper s a e w b al (keepers_of s told r w b))
+
+pub bits_start_kept : BitsStartKept
+bits_start_kept = kept_from start start_kept (λ b. refl) (λ w b q. absurd (cc))
+
+pub every_run_keeps_bits : EveryRunKeepsBits
+every_run_keeps_bits run r few = table_law AreKept bits_start_kept
+    (λ s a e lt k told al. bits_stay_kept s a e k told al) run r few

@@ -1,0 +1,533 @@
+-- Which entries a walk has called, by the fold and by the history.
+use Rattle.std.proofs.Common.{refl, sym, ◌∙◌, ap, subst, arith, inl, inr}
+use Rattle.std.specs.Prelude.{
+  ℕ,
+  ◌≡◌,
+  ◌⊎◌,
+  Option,
+  Some,
+  None,
+  Bool,
+  true,
+  false,
+  not,
+  ◌&&◌,
+  ◌||◌,
+  ◌==◌,
+  List,
+  ◌∷◌,
+  ◌++◌,
+  if◌then◌else◌,
+}
+use Rattle.wait_model.specs.declared.watches.Watch.{Watch}
+use Rattle.wait_model.specs.declared.watches.Watch.TheVariants as watch
+use Rattle.wait_model.specs.declared.watches.Entry.{Entry}
+use Rattle.wait_model.specs.declared.watches.Aim.{Aim}
+use Rattle.wait_model.specs.declared.steps.Step.{Step}
+use Rattle.wait_model.specs.declared.steps.Step.TheVariants as step
+use Rattle.wait_model.specs.Tasks.{meets}
+use Rattle.wait_model.specs.Watches.{same, is_bit, is_woken, mask_of, failing, owner}
+use Rattle.wait_model.specs.Views.{View, Walk, Hold, blank, no_hold, concerns, gone, ahead, all_passed}
+use Rattle.wait_model.specs.Fold.{after, after_all, after_unlock, view_of, hits, finds_bit_set, paused}
+use Rattle.wait_model.specs.Histories.{Lacks, Since, turns_lock, is_publish, is_mark}
+use Rattle.wait_model.specs.Walks.{WalkHold, calls_entry, wakes_entry, flags, CalledBy, CalledNow, finds_off_head}
+use Rattle.wait_model.specs.Walks.{looks_anew}
+use Rattle.wait_model.proofs.HistoryLaws.Stretches.{
+  after_append,
+  lacks_append,
+  lacks_left,
+  lacks_right,
+  lacks_more,
+  lacks_both,
+  Seen,
+  IsSetBy,
+  seen_in,
+  set_at,
+  kept_so,
+  append_split,
+}
+use Rattle.wait_model.proofs.HistoryLaws.HoldWalks.{
+  IsForWalk,
+  begun_for,
+  walks_for,
+  for_walks,
+  Locked,
+  HasWalk,
+  locked_of,
+  locked_for,
+}
+use Rattle.wait_model.proofs.StepLaws.UnlockSteps.{unlock_hold}
+use Rattle.wait_model.proofs.Sameness.{same_trans, same_bit, same_bit_failing}
+
+pub both : (a b : Bool) → (a && b) ≡ true → (a ≡ true) × (b ≡ true)
+both true b h = (refl, h)
+both false b h = absurd (cc)
+
+pub same_sym : (c d : Watch) → same c d ≡ true → same d c ≡ true
+same_sym (watch.Plain c) (watch.Plain d) h = grind arith
+same_sym (watch.Done c) (watch.Done d) h = grind arith
+same_sym (watch.Bit w b) (watch.Bit v a) h = grind arith
+same_sym (watch.Var v o) (watch.Var u p) h = grind arith
+same_sym _ _ h = absurd (cc)
+
+-- the steps that begin the calls of a walk anew
+renews : Step → Bool
+renews (step.Lock h aim w) = true
+renews (step.Unlock h spent) = true
+renews (step.Publish c n r) = true
+renews _ = false
+
+renews_of : (e : Step) → turns_lock e ≡ false → is_publish e ≡ false → renews e ≡ false
+unfolding renews
+renews_of (step.Lock h aim w) t p = absurd (cc)
+renews_of (step.Unlock h sp) t p = absurd (cc)
+renews_of (step.Publish c n r) t p = absurd (cc)
+renews_of e t p = refl
+
+turns_of : (e : Step) → renews e ≡ false → turns_lock e ≡ false
+unfolding renews
+turns_of (step.Lock h aim w) r = absurd (cc)
+turns_of (step.Unlock h sp) r = absurd (cc)
+turns_of e r = refl
+
+publish_of : (e : Step) → renews e ≡ false → is_publish e ≡ false
+unfolding renews
+publish_of (step.Publish c n r) q = absurd (cc)
+publish_of e q = refl
+
+-- a look without the lock
+unlock_cleared : (v : View) (o : Option Walk) (sp : Bool) (c : Watch) (x : ℕ)
+    → (after_unlock v o sp).duty.cleared c x ≡ v.duty.cleared c x
+unlock_cleared v None sp c x = refl
+unlock_cleared v (Some w) sp c x = by (sp || all_passed v w (λ _. false))
+  where
+    by : (b : Bool)
+        → (if b then record v {
+          hold = no_hold;
+          walk = None;
+          duty = record (v.duty) { owes = λ c σ. v.duty.owes c σ && not (concerns w c σ) };
+        }
+        else record v { hold = no_hold; walk = paused v w v.mark }).duty.cleared c x ≡ v.duty.cleared c x
+    by true = refl
+    by false = refl
+
+abbrev pub cleared : Watch → ℕ → View → Bool
+cleared c x v = v.duty.cleared c x
+
+cleared_by : (c : Watch) (x : ℕ) → IsSetBy (cleared c x) (λ e v. finds_off_head c x e) (looks_anew c)
+cleared_by c x (step.Lock h aim w) v = grind arith
+cleared_by c x (step.Publish d n r) v = grind arith
+cleared_by c x (step.Peek y w) v = grind arith
+cleared_by c x (step.Unlock h sp) v = unlock_cleared v v.walk sp c x ∙ kept_so (v.duty.cleared c x)
+cleared_by c x e v = kept_so (v.duty.cleared c x)
+
+-- calls of entries
+called : ℕ → View → Bool
+called x v = v.hold.called (owner x) || v.hold.moot
+
+sets_called : ℕ → Step → View → Bool
+sets_called x (step.Wake who mask w) v = hits v.walk mask && (owner x == who)
+sets_called x (step.Load l r) v = finds_bit_set v.walk l r
+sets_called x _ v = false
+
+called_by : (x : ℕ) → IsSetBy (called x) (sets_called x) renews
+unfolding called sets_called renews
+called_by x (step.Lock h aim w) v = grind arith
+called_by x (step.Unlock h sp) v =
+    ap (λ (k : Hold). k.called (owner x) || k.moot) (unlock_hold v v.walk sp) ∙ grind arith
+called_by x (step.Publish d n r) v = grind arith
+called_by x (step.Wake who mask w) v = grind arith
+called_by x (step.Load l r) v = grind arith
+called_by x e v = kept_so (v.hold.called (owner x) || v.hold.moot)
+
+flagged : ℕ → View → Bool
+flagged x v = v.hold.flagged x
+
+flagged_by : (x : ℕ) → IsSetBy (flagged x) (λ e v. flags x e) renews
+unfolding flagged renews
+flagged_by x (step.Lock h aim w) v = grind arith
+flagged_by x (step.Unlock h sp) v = ap (λ (k : Hold). k.flagged x) (unlock_hold v v.walk sp) ∙ grind arith
+flagged_by x (step.Publish d n r) v = grind arith
+flagged_by x (step.Woken y) v = grind arith
+flagged_by x e v = kept_so (v.hold.flagged x)
+
+rung : ℕ → View → Bool
+rung x v = v.hold.rung x
+
+sets_rung : ℕ → Step → View → Bool
+sets_rung x (step.Wake who mask w) v = hits v.walk mask && ((owner x == who) && v.hold.flagged x)
+sets_rung x _ v = false
+
+rung_by : (x : ℕ) → IsSetBy (rung x) (sets_rung x) renews
+unfolding rung sets_rung renews
+rung_by x (step.Lock h aim w) v = grind arith
+rung_by x (step.Unlock h sp) v = ap (λ (k : Hold). k.rung x) (unlock_hold v v.walk sp) ∙ grind arith
+rung_by x (step.Publish d n r) v = grind arith
+rung_by x (step.Wake who mask w) v = grind arith
+rung_by x e v = kept_so (v.hold.rung x)
+
+-- what the walk's own steps are, by the lock's aim
+sets_of_call : (a : Aim) (x : ℕ) (e : Step) (v : View) → IsForWalk a v.walk → calls_entry a x e ≡ true
+    → sets_called x e v ≡ true
+unfolding sets_called
+sets_of_call a x (step.Wake who mask w) v f h = rw f.is (rw f.mask h)
+sets_of_call a x (step.Load l r) v f h =
+    let b = both (is_bit a.watch) (failing l r a.watch) h in
+    let s : same f.walk.watch a.watch ≡ true = same_sym a.watch f.walk.watch f.watch in
+    rw f.is (rw (same_bit f.walk.watch a.watch s b.0) (same_bit_failing l r f.walk.watch a.watch s b.0 ∙ b.1))
+sets_of_call a x (step.State σ) v f h = absurd (cc)
+sets_of_call a x (step.Queue y d) v f h = absurd (cc)
+sets_of_call a x (step.Sleep w) v f h = absurd (cc)
+sets_of_call a x (step.Signal who fatal w) v f h = absurd (cc)
+sets_of_call a x (step.Accept w) v f h = absurd (cc)
+sets_of_call a x (step.Look w) v f h = absurd (cc)
+sets_of_call a x (step.Lock i aim w) v f h = absurd (cc)
+sets_of_call a x (step.Unlock i sp) v f h = absurd (cc)
+sets_of_call a x (step.Saw y w) v f h = absurd (cc)
+sets_of_call a x (step.Peek y w) v f h = absurd (cc)
+sets_of_call a x (step.Unqueue y) v f h = absurd (cc)
+sets_of_call a x (step.Mark i q) v f h = absurd (cc)
+sets_of_call a x step.Unmark v f h = absurd (cc)
+sets_of_call a x (step.Publish d n r) v f h = absurd (cc)
+sets_of_call a x (step.Consume d n r) v f h = absurd (cc)
+sets_of_call a x (step.Woken y) v f h = absurd (cc)
+sets_of_call a x (step.Unflag y) v f h = absurd (cc)
+sets_of_call a x (step.Flag y w) v f h = absurd (cc)
+
+sets_of_wake : (a : Aim) (x : ℕ) (e : Step) (v : View) → IsForWalk a v.walk → wakes_entry a x e ≡ true
+    → v.hold.flagged x ≡ true → sets_rung x e v ≡ true
+unfolding sets_rung
+sets_of_wake a x (step.Wake who mask w) v f h g = rw f.is (rw (f.mask, g) (grind (arith, h)))
+sets_of_wake a x e v f h g = absurd (cc)
+
+called_at : (k : Bool) (inside : List Step) (a : Aim) (x : ℕ) (e : Entry) (v : View) → is_woken e.kind ≡ k
+    → Lacks turns_lock inside → IsForWalk a v.walk → CalledBy k inside a x → gone (after_all v inside) x e ≡ true
+unfolding called rung flagged
+called_at false inside a x e v is l f c =
+    rw is (subst (λ (t : List Step). called x (after_all v t) ≡ true) (sym c.split)
+    (set_at (called x) (sets_called x) renews (called_by x) c.earlier c.it c.later v
+    (sets_of_call a x c.it (after_all v c.earlier)
+    (walks_for a c.earlier v (lacks_left turns_lock c.earlier (c.it ∷ c.later) all) f) c.passes)
+    (lacks_both turns_lock is_publish renews renews_of c.later
+    (lacks_right turns_lock c.earlier (c.it ∷ c.later) all).1 c.none_since)))
+  where
+    all : Lacks turns_lock (c.earlier ++ c.it ∷ c.later)
+    all = subst (Lacks turns_lock) c.split l
+called_at true inside a x e v is l f c =
+    rw is (subst (λ (t : List Step). rung x (after_all v t) ≡ true) (sym w.split)
+    (set_at (rung x) (sets_rung x) renews (rung_by x) w.earlier w.it w.later v
+    (sets_of_wake a x w.it (after_all v w.earlier)
+    (walks_for a w.earlier v before f) w.passes flag)
+    (lacks_both turns_lock is_publish renews renews_of w.later
+    (lacks_right turns_lock w.earlier (w.it ∷ w.later) all).1 w.none_since)))
+  where
+    w : Since (wakes_entry a x) is_publish inside
+    w = c.wake
+
+    all : Lacks turns_lock (c.wake.earlier ++ c.wake.it ∷ c.wake.later)
+    all = subst (Lacks turns_lock) c.wake.split l
+
+    before : Lacks turns_lock c.wake.earlier
+    before = lacks_left turns_lock c.wake.earlier (c.wake.it ∷ c.wake.later) all
+
+    flag : (after_all v c.wake.earlier).hold.flagged x ≡ true
+    flag =
+        subst (λ (t : List Step). (after_all v t).hold.flagged x ≡ true) (sym c.flag.split)
+        (set_at (flagged x) (λ d u. flags x d) renews (flagged_by x) c.flag.earlier c.flag.it c.flag.later v
+        c.flag.passes
+        (lacks_both turns_lock is_publish renews renews_of c.flag.later
+        (lacks_right turns_lock c.flag.earlier (c.flag.it ∷ c.flag.later) (subst (Lacks turns_lock) c.flag.split
+        before)).1 c.flag.none_since))
+
+-- the view of a history that is split
+pub view_at : (es before : List Step) (e : Step) (later : List Step) → es ≡ before ++ e ∷ later
+    → view_of es ≡ after_all (after e (view_of before)) later
+view_at es before e later h = ap view_of h ∙ after_append blank before (e ∷ later)
+
+passed_by : (a : Aim) (o : Option Walk) (g : Bool) (c : Watch) (σ p : ℕ) → IsForWalk a o → same c a.watch ≡ true
+    → meets (mask_of a.mode) σ ≡ true → g ≡ true → ahead o g c σ p ≡ false
+passed_by a o g c σ p f s m t =
+    rw f.is (let u : same c f.walk.watch ≡ true = sym (same_trans c a.watch f.walk.watch s) ∙ f.watch in
+    rw (f.mask, t, u, m) (grind arith))
+
+-- in a hold of a walk the view's walk is one of the hold's aim
+pub hold_view : (es : List Step) (c : Watch) (σ : ℕ) (k : WalkHold es c σ)
+    → view_of es ≡ after_all (after (step.Lock k.head (Some k.aim) k.found) (view_of k.before)) k.inside
+hold_view es c σ k = view_at es k.before (step.Lock k.head (Some k.aim) k.found) k.inside k.split
+
+pub hold_walk : (es : List Step) (c : Watch) (σ : ℕ) (k : WalkHold es c σ) → IsForWalk k.aim (view_of es).walk
+hold_walk es c σ k = subst (λ (v : View). IsForWalk k.aim v.walk) (sym (hold_view es c σ k))
+    (walks_for k.aim k.inside (after (step.Lock k.head (Some k.aim) k.found) (view_of k.before)) k.within
+    (begun_for k.aim (view_of k.before).walk))
+
+pub called_gone : (es : List Step) (x : ℕ) (e : Entry) (σ : ℕ) → CalledNow es x e σ
+    → gone (view_of es) x e ≡ true
+called_gone es x e σ c =
+    subst (λ (v : View). gone v x e ≡ true) (sym (hold_view es e.watch σ c.hold))
+    (called_at (is_woken e.kind) c.hold.inside c.hold.aim x e
+    (after (step.Lock c.hold.head (Some c.hold.aim) c.hold.found) (view_of c.hold.before)) refl
+    c.hold.within (begun_for c.hold.aim (view_of c.hold.before).walk) c.called)
+
+pub called_not : (es : List Step) (x : ℕ) (e : Entry) (σ : ℕ) → CalledNow es x e σ
+    → ahead (view_of es).walk (gone (view_of es) x e) e.watch σ e.place ≡ false
+called_not es x e σ c = passed_by c.hold.aim (view_of es).walk (gone (view_of es) x e) e.watch σ e.place
+    (hold_walk es e.watch σ c.hold) c.hold.watch c.hold.mode (called_gone es x e σ c)
+
+-- a look that found the entry off, both ways
+pub seen_off : (es : List Step) (c : Watch) (x : ℕ) → Since (finds_off_head c x) (looks_anew c) es
+    → (view_of es).duty.cleared c x ≡ true
+seen_off es c x s = subst (λ (t : List Step). (view_of t).duty.cleared c x ≡ true) (sym s.split)
+    (set_at (cleared c x) (λ e v. finds_off_head c x e) (looks_anew c) (cleared_by c x) s.earlier s.it s.later
+    blank
+    s.passes s.none_since)
+
+pub off_seen : (es : List Step) (c : Watch) (x : ℕ) → (view_of es).duty.cleared c x ≡ true
+    → Since (finds_off_head c x) (looks_anew c) es
+off_seen es c x h =
+    by (seen_in (cleared c x) (λ e v. finds_off_head c x e) (looks_anew c) (cleared_by c x) es blank h)
+  where
+    by : Seen (λ e v. finds_off_head c x e) (looks_anew c) blank es
+        ⊎ ((cleared c x blank ≡ true) × Lacks (looks_anew c) es) → Since (finds_off_head c x) (looks_anew c) es
+    by (inl s) = record {
+      earlier = s.earlier;
+      it = s.it;
+      later = s.later;
+      split = s.split;
+      passes = s.sets;
+      none_since = s.none_since;
+    }
+    by (inr q) = absurd (let z : false ≡ true = q.0 in cc)
+
+-- from here on the other way round, for histories without bookmarks
+hits_walk : (o : Option Walk) (mask : ℕ) → hits o mask ≡ true → HasWalk o
+hits_walk None mask h = absurd (cc)
+hits_walk (Some w) mask h = (w, refl)
+
+seeks_walk : (o : Option Walk) (l : Watch) (r : ℕ) → finds_bit_set o l r ≡ true → HasWalk o
+seeks_walk None l r h = absurd (cc)
+seeks_walk (Some w) l r h = (w, refl)
+
+-- a step that calls was made in a walk, and ends no hold
+call_walk : (x : ℕ) (e : Step) (v : View) → sets_called x e v ≡ true → HasWalk v.walk × (turns_lock e ≡ false)
+unfolding sets_called
+call_walk x (step.Wake who mask w) v h = (
+  hits_walk v.walk mask (both (hits v.walk mask) (owner x == who) h).0,
+  refl,
+)
+call_walk x (step.Load l r) v h = (seeks_walk v.walk l r h, refl)
+call_walk x (step.State σ) v h = absurd (cc)
+call_walk x (step.Queue y d) v h = absurd (cc)
+call_walk x (step.Sleep w) v h = absurd (cc)
+call_walk x (step.Signal who fatal w) v h = absurd (cc)
+call_walk x (step.Accept w) v h = absurd (cc)
+call_walk x (step.Look w) v h = absurd (cc)
+call_walk x (step.Lock i aim w) v h = absurd (cc)
+call_walk x (step.Unlock i sp) v h = absurd (cc)
+call_walk x (step.Saw y w) v h = absurd (cc)
+call_walk x (step.Peek y w) v h = absurd (cc)
+call_walk x (step.Unqueue y) v h = absurd (cc)
+call_walk x (step.Mark i q) v h = absurd (cc)
+call_walk x step.Unmark v h = absurd (cc)
+call_walk x (step.Publish d n r) v h = absurd (cc)
+call_walk x (step.Consume d n r) v h = absurd (cc)
+call_walk x (step.Woken y) v h = absurd (cc)
+call_walk x (step.Unflag y) v h = absurd (cc)
+call_walk x (step.Flag y w) v h = absurd (cc)
+
+call_of : (a : Aim) (x : ℕ) (e : Step) (v : View) → IsForWalk a v.walk → sets_called x e v ≡ true
+    → calls_entry a x e ≡ true
+unfolding sets_called
+call_of a x (step.Wake who mask w) v f h =
+    rw (← f.mask) (let g : (hits (Some f.walk) mask && (owner x == who))
+    ≡ true = (rw f.is at h) in g)
+call_of a x (step.Load l r) v f h =
+    let g : finds_bit_set (Some f.walk) l r ≡ true = (rw f.is at h) in
+    let b = both (is_bit f.walk.watch) (failing l r f.walk.watch) g in
+    rw (same_bit a.watch f.walk.watch f.watch b.0) (same_bit_failing l r a.watch f.walk.watch f.watch b.0
+    ∙ b.1)
+call_of a x (step.State σ) v f h = absurd (cc)
+call_of a x (step.Queue y d) v f h = absurd (cc)
+call_of a x (step.Sleep w) v f h = absurd (cc)
+call_of a x (step.Signal who fatal w) v f h = absurd (cc)
+call_of a x (step.Accept w) v f h = absurd (cc)
+call_of a x (step.Look w) v f h = absurd (cc)
+call_of a x (step.Lock i aim w) v f h = absurd (cc)
+call_of a x (step.Unlock i sp) v f h = absurd (cc)
+call_of a x (step.Saw y w) v f h = absurd (cc)
+call_of a x (step.Peek y w) v f h = absurd (cc)
+call_of a x (step.Unqueue y) v f h = absurd (cc)
+call_of a x (step.Mark i q) v f h = absurd (cc)
+call_of a x step.Unmark v f h = absurd (cc)
+call_of a x (step.Publish d n r) v f h = absurd (cc)
+call_of a x (step.Consume d n r) v f h = absurd (cc)
+call_of a x (step.Woken y) v f h = absurd (cc)
+call_of a x (step.Unflag y) v f h = absurd (cc)
+call_of a x (step.Flag y w) v f h = absurd (cc)
+
+-- a hold, and steps after it that do not end it
+abbrev pub further : (es earlier : List Step) (it : Step) (later : List Step) → es ≡ earlier ++ it ∷ later
+    → turns_lock it ≡ false → Lacks turns_lock later → Locked earlier → Locked es
+further es earlier it later split t l k = record {
+  before = k.before;
+  head = k.head;
+  aim = k.aim;
+  found = k.found;
+  inside = k.inside ++ it ∷ later;
+  split = split ∙ ap (λ (u : List Step). u ++ it ∷ later) k.split
+      ∙ append_split k.before (step.Lock k.head (Some k.aim) k.found) k.inside it later;
+  within = lacks_append turns_lock k.inside (it ∷ later) k.within (t, l);
+}
+
+abbrev pub hold_for : (es : List Step) (c : Watch) (σ : ℕ) (k : Locked es) → same c k.aim.watch ≡ true
+    → meets (mask_of k.aim.mode) σ ≡ true → WalkHold es c σ
+hold_for es c σ k s m = record {
+  before = k.before;
+  head = k.head;
+  aim = k.aim;
+  found = k.found;
+  inside = k.inside;
+  split = k.split;
+  within = k.within;
+  watch = s;
+  mode = m;
+}
+
+-- the hold's aim is that of the walk at its end
+pub aims : (es : List Step) (c : Watch) (σ : ℕ) (w : Walk) (k : Locked es) → (view_of es).walk ≡ Some w
+    → concerns w c σ ≡ true → (same c k.aim.watch ≡ true) × (meets (mask_of k.aim.mode) σ ≡ true)
+aims es c σ w k is con = by (locked_for es k)
+  where
+    by : IsForWalk k.aim (view_of es).walk → (same c k.aim.watch ≡ true) × (meets (mask_of k.aim.mode) σ ≡ true)
+    by f =
+        let e : f.walk ≡ w = (let z : Some f.walk ≡ Some w = sym f.is ∙ is in cc) in
+        let p = both (same c w.watch) (meets w.mask σ) con in
+        let s : same k.aim.watch w.watch ≡ true = subst (λ (u : Walk). same k.aim.watch u.watch ≡ true) e
+        f.watch in
+        let m : w.mask ≡ mask_of k.aim.mode = subst (λ (u : Walk). u.mask ≡ mask_of k.aim.mode) e f.mask in (
+          sym (same_trans c w.watch k.aim.watch p.0) ∙ same_sym k.aim.watch w.watch s,
+          ap (λ (n : ℕ). meets n σ) (sym m) ∙ p.1,
+        )
+
+-- the wake of a Woken entry, whose flag was set before
+rung_walk : (x : ℕ) (e : Step) (v : View) → sets_rung x e v ≡ true
+    → HasWalk v.walk × (turns_lock e ≡ false) × (v.hold.flagged x ≡ true)
+unfolding sets_rung
+rung_walk x (step.Wake who mask w) v h =
+    let b = both (hits v.walk mask) ((owner x == who) && v.hold.flagged x) h in
+    (hits_walk v.walk mask b.0, refl, (both (owner x == who) (v.hold.flagged x) b.1).1)
+rung_walk x e v h = absurd (cc)
+
+wake_of : (a : Aim) (x : ℕ) (e : Step) (v : View) → IsForWalk a v.walk → sets_rung x e v ≡ true
+    → wakes_entry a x e ≡ true
+unfolding sets_rung
+wake_of a x (step.Wake who mask w) v f h =
+    let g : (hits (Some f.walk) mask && ((owner x == who) && v.hold.flagged x)) ≡ true = (rw f.is at h) in
+    rw (← f.mask) (grind (arith, g))
+wake_of a x e v f h = absurd (cc)
+
+flag_ends_none : (x : ℕ) (e : Step) → flags x e ≡ true → turns_lock e ≡ false
+flag_ends_none x (step.Lock i aim w) h = absurd (cc)
+flag_ends_none x (step.Unlock i sp) h = absurd (cc)
+flag_ends_none x e h = refl
+
+flag_seen : (es : List Step) (x : ℕ) → (view_of es).hold.flagged x ≡ true
+    → Seen (λ e v. flags x e) renews blank es
+unfolding flagged
+flag_seen es x h = by (seen_in (flagged x) (λ e v. flags x e) renews (flagged_by x) es blank h)
+  where
+    by : Seen (λ e v. flags x e) renews blank es ⊎ ((flagged x blank ≡ true) × Lacks renews es)
+        → Seen (λ e v. flags x e) renews blank es
+    by (inl s) = s
+    by (inr q) = absurd (let z : false ≡ true = q.0 in cc)
+
+-- the walk has called the entry in this hold
+pub called_now : (es : List Step) (x : ℕ) (e : Entry) (σ : ℕ) (w : Walk) → Lacks is_mark es
+    → (view_of es).walk ≡ Some w → concerns w e.watch σ ≡ true → (k : Bool) → is_woken e.kind ≡ k
+    → gone (view_of es) x e ≡ true → CalledNow es x e σ
+unfolding called rung flagged
+called_now es x e σ w l is con false kind g =
+    by (seen_in (called x) (sets_called x) renews (called_by x) es blank
+    (let z : (if false then (view_of es).hold.rung x else ((view_of es).hold.called (owner x)
+    || (view_of es).hold.moot)) ≡ true = (rw kind at g) in z))
+  where
+    found : (s : Seen (sets_called x) renews blank es) → (k : Locked s.earlier) → turns_lock s.it ≡ false
+        → CalledNow es x e σ
+    found s k t =
+        let more : Locked es = further es s.earlier s.it s.later s.split t
+        (lacks_more renews turns_lock turns_of s.later s.none_since) k in
+        let a = aims es e.watch σ w more is con in
+        record {
+          hold = hold_for es e.watch σ more a.0 a.1;
+          called = subst (λ (b : Bool). CalledBy b (k.inside ++ s.it ∷ s.later) k.aim x) (sym kind)
+              (record {
+                earlier = k.inside;
+                it = s.it;
+                later = s.later;
+                split = refl;
+                passes = call_of k.aim x s.it (view_of s.earlier) (locked_for s.earlier k) s.sets;
+                none_since = lacks_more renews is_publish publish_of s.later s.none_since;
+              });
+        }
+
+    by : Seen (sets_called x) renews blank es ⊎ ((called x blank ≡ true) × Lacks renews es)
+        → CalledNow es x e σ
+    by (inl s) =
+        let c = call_walk x s.it (view_of s.earlier) s.sets in
+        found s (locked_of s.earlier (lacks_left is_mark s.earlier (s.it ∷ s.later)
+        (subst (Lacks is_mark) s.split l)) c.0) c.1
+    by (inr q) = absurd (let z : false ≡ true = q.0 in cc)
+called_now es x e σ w l is con true kind g =
+    by (seen_in (rung x) (sets_rung x) renews (rung_by x) es blank
+    (let z : (if true then (view_of es).hold.rung x else ((view_of es).hold.called (owner x)
+    || (view_of es).hold.moot)) ≡ true = (rw kind at g) in z))
+  where
+    found : (s : Seen (sets_rung x) renews blank es) → turns_lock s.it ≡ false → HasWalk (view_of s.earlier).walk
+        → Seen (λ e v. flags x e) renews blank s.earlier → CalledNow es x e σ
+    found s t has f =
+        let marks : Lacks is_mark s.earlier = lacks_left is_mark s.earlier (s.it ∷ s.later)
+        (subst (Lacks is_mark) s.split l) in
+        let k : Locked s.earlier = locked_of s.earlier marks has in
+        let quiet : Lacks turns_lock (f.it ∷ f.later) = (
+          flag_ends_none x f.it f.sets,
+          lacks_more renews turns_lock turns_of f.later f.none_since,
+        ) in
+        let at : IsForWalk k.aim (after_all (view_of f.earlier) (f.it ∷ f.later)).walk =
+        subst (λ (v : View). IsForWalk k.aim v.walk) (view_at s.earlier f.earlier f.it f.later f.split)
+        (locked_for s.earlier k) in
+        let old : IsForWalk k.aim (view_of f.earlier).walk =
+        for_walks k.aim (f.it ∷ f.later) (view_of f.earlier) quiet at in
+        let j : Locked f.earlier = locked_of f.earlier
+        (lacks_left is_mark f.earlier (f.it ∷ f.later) (subst (Lacks is_mark) f.split marks))
+        (old.walk, old.is) in
+        let m : Locked s.earlier = further s.earlier f.earlier f.it f.later f.split quiet.0 quiet.1 j in
+        let more : Locked es = further es s.earlier s.it s.later s.split t
+        (lacks_more renews turns_lock turns_of s.later s.none_since) m in
+        let a = aims es e.watch σ w more is con in
+        record {
+          hold = hold_for es e.watch σ more a.0 a.1;
+          called = subst (λ (b : Bool). CalledBy b (m.inside ++ s.it ∷ s.later) m.aim x) (sym kind)
+              (record {
+                wake = record {
+                  earlier = m.inside;
+                  it = s.it;
+                  later = s.later;
+                  split = refl;
+                  passes = wake_of m.aim x s.it (view_of s.earlier) (locked_for s.earlier m) s.sets;
+                  none_since = lacks_more renews is_publish publish_of s.later s.none_since;
+                };
+                flag = record {
+                  earlier = j.inside;
+                  it = f.it;
+                  later = f.later;
+                  split = refl;
+                  passes = f.sets;
+                  none_since = lacks_more renews is_publish publish_of f.later f.none_since;
+                };
+              });
+        }
+
+    by : Seen (sets_rung x) renews blank es ⊎ ((rung x blank ≡ true) × Lacks renews es) → CalledNow es x e σ
+    by (inl s) =
+        let r = rung_walk x s.it (view_of s.earlier) s.sets in
+        found s r.1 r.0 (flag_seen s.earlier x r.2)
+    by (inr q) = absurd (let z : false ≡ true = q.0 in cc)

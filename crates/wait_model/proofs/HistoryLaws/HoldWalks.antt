@@ -1,0 +1,236 @@
+-- The walk of a hold is the one for which its lock was taken.
+use Rattle.std.proofs.Common.{refl, sym, ◌∙◌, ap, subst, arith, inl, inr}
+use Rattle.std.specs.Prelude.{
+  ℕ,
+  ◌≡◌,
+  ◌⊎◌,
+  Option,
+  Some,
+  None,
+  Bool,
+  true,
+  false,
+  not,
+  ◌&&◌,
+  ◌||◌,
+  ◌==◌,
+  List,
+  [],
+  ◌∷◌,
+  ◌++◌,
+  if◌then◌else◌,
+}
+use Rattle.wait_model.specs.declared.watches.Aim.{Aim}
+use Rattle.wait_model.specs.declared.steps.Step.{Step}
+use Rattle.wait_model.specs.declared.steps.Step.TheVariants as step
+use Rattle.wait_model.specs.Watches.{same, mask_of}
+use Rattle.wait_model.specs.Views.{View, Walk, no_hold, blank, concerns, all_passed}
+use Rattle.wait_model.specs.Fold.{after, after_all, after_unlock, begun, begun_anew, paused}
+use Rattle.wait_model.specs.Histories.{Lacks, turns_lock, is_mark}
+use Rattle.wait_model.proofs.HistoryLaws.Stretches.{after_append}
+use Rattle.wait_model.proofs.Sameness.{same_refl}
+
+-- the walk under way is one of this aim
+pub record IsForWalk (a : Aim) (o : Option Walk) : Type 0 where
+  pub walk : Walk
+  pub is : o ≡ Some walk
+  pub watch : same a.watch walk.watch ≡ true
+  pub mask : walk.mask ≡ mask_of a.mode
+
+pub begun_for : (a : Aim) (o : Option Walk) → IsForWalk a (begun o (Some a))
+begun_for a None = record { walk = _; is = refl; watch = same_refl a.watch; mask = refl }
+begun_for a (Some w) = by (same a.watch w.watch && (w.mask == mask_of a.mode)) refl
+  where
+    by : (b : Bool) → (same a.watch w.watch && (w.mask == mask_of a.mode)) ≡ b
+        → IsForWalk a (if b then Some w else Some (record { watch = a.watch; mask = mask_of a.mode; from = 0 }))
+    by true h = record { walk = w; is = refl; watch = grind arith; mask = grind arith }
+    by false h = record { walk = _; is = refl; watch = same_refl a.watch; mask = refl }
+
+again_for : (a : Aim) (o : Option Walk) → IsForWalk a o → IsForWalk a (begun_anew o)
+again_for a None f = absurd (let z : None ≡ Some f.walk = f.is in cc)
+again_for a (Some w) f =
+    let e : w ≡ f.walk = (let z : Some w ≡ Some f.walk = f.is in cc) in
+    record {
+      walk = record w { from = 0 };
+      is = refl;
+      watch = subst (λ (u : Walk). same a.watch u.watch ≡ true) (sym e) f.watch;
+      mask = subst (λ (u : Walk). u.mask ≡ mask_of a.mode) (sym e) f.mask;
+    }
+
+pub walk_for : (a : Aim) (e : Step) (v : View) → turns_lock e ≡ false → IsForWalk a v.walk
+    → IsForWalk a (after e v).walk
+walk_for a (step.Publish c n r) v t f = again_for a v.walk f
+walk_for a (step.Lock h aim w) v t f = absurd (cc)
+walk_for a (step.Unlock h sp) v t f = absurd (cc)
+walk_for a e v t f = f
+
+pub walks_for : (a : Aim) (es : List Step) (v : View) → Lacks turns_lock es → IsForWalk a v.walk
+    → IsForWalk a (after_all v es).walk
+walks_for a [] v l f = f
+walks_for a (e ∷ es) v l f = walks_for a es (after e v) l.1 (walk_for a e v l.0 f)
+
+-- the walk before a step in a hold, and before several
+for_again : (a : Aim) (o : Option Walk) → IsForWalk a (begun_anew o) → IsForWalk a o
+for_again a None f = absurd (let z : None ≡ Some f.walk = f.is in cc)
+for_again a (Some w) f =
+    let e : record w { from = 0 } ≡ f.walk = (let z : Some (record w { from = 0 }) ≡ Some f.walk = f.is in cc)
+    in
+    record {
+      walk = w;
+      is = refl;
+      watch = subst (λ (u : Walk). same a.watch u.watch ≡ true) (sym e) f.watch;
+      mask = subst (λ (u : Walk). u.mask ≡ mask_of a.mode) (sym e) f.mask;
+    }
+
+for_walk : (a : Aim) (e : Step) (v : View) → turns_lock e ≡ false → IsForWalk a (after e v).walk → IsForWalk a v.walk
+for_walk a (step.Publish c n r) v t f = for_again a v.walk f
+for_walk a (step.Lock h aim w) v t f = absurd (cc)
+for_walk a (step.Unlock h sp) v t f = absurd (cc)
+for_walk a e v t f = f
+
+pub for_walks : (a : Aim) (es : List Step) (v : View) → Lacks turns_lock es → IsForWalk a (after_all v es).walk
+    → IsForWalk a v.walk
+for_walks a [] v l f = f
+for_walks a (e ∷ es) v l f = for_walk a e v l.0 (for_walks a es (after e v) l.1 f)
+
+unlock_mark : (v : View) (o : Option Walk) (sp : Bool) → (after_unlock v o sp).mark ≡ v.mark
+unlock_mark v None sp = refl
+unlock_mark v (Some w) sp = by (sp || all_passed v w (λ _. false))
+  where
+    by : (b : Bool)
+        → (if b then record v {
+          hold = no_hold;
+          walk = None;
+          duty = record (v.duty) { owes = λ c σ. v.duty.owes c σ && not (concerns w c σ) };
+        }
+        else record v { hold = no_hold; walk = paused v w v.mark }).mark ≡ v.mark
+    by true = refl
+    by false = refl
+
+pub mark_kept : (e : Step) (v : View) → is_mark e ≡ false → (after e v).mark ≡ v.mark
+mark_kept (step.Mark h q) v m = absurd (cc)
+mark_kept step.Unmark v m = absurd (cc)
+mark_kept (step.Unlock h sp) v m = unlock_mark v v.walk sp
+mark_kept e v m = refl
+
+-- without a bookmark an unlock leaves no walk
+unlock_walk : (v : View) (o : Option Walk) (sp : Bool) → v.mark ≡ None → (after_unlock v o sp).walk ≡ None
+unlock_walk v None sp m = refl
+unlock_walk v (Some w) sp m = by (sp || all_passed v w (λ _. false))
+  where
+    by : (b : Bool)
+        → (if b then record v {
+          hold = no_hold;
+          walk = None;
+          duty = record (v.duty) { owes = λ c σ. v.duty.owes c σ && not (concerns w c σ) };
+        }
+        else record v { hold = no_hold; walk = paused v w v.mark }).walk ≡ None
+    by true = refl
+    by false = ap (paused v w) m
+
+-- the last lock, taken for a walk
+pub record Locked (es : List Step) : Type 0 where
+  pub before : List Step
+  pub head : ℕ
+  pub aim : Aim
+  pub found : ℕ
+  pub inside : List Step
+  pub split : es ≡ before ++ step.Lock head (Some aim) found ∷ inside
+  pub within : Lacks turns_lock inside
+
+abbrev pub HasWalk : Option Walk → Type 0
+HasWalk o = (w : Walk) × (o ≡ Some w)
+
+again_has : (o : Option Walk) → HasWalk (begun_anew o) → HasWalk o
+again_has None h = h
+again_has (Some w) h = (w, refl)
+
+first_step : (e : Step) (es : List Step) (v : View) → v.mark ≡ None → Lacks turns_lock es
+    → HasWalk (after e v).walk
+    → Locked (e ∷ es) ⊎ (HasWalk v.walk × (turns_lock e ≡ false))
+first_step (step.Lock h None f) es v m l w = absurd (let z : None ≡ Some w.0 = w.1 in cc)
+first_step (step.Lock h (Some a) f) es v m l w = inl (record {
+  before = [];
+  head = h;
+  aim = a;
+  found = f;
+  inside = es;
+  split = refl;
+  within = l;
+})
+first_step (step.Unlock h sp) es v m l w =
+    absurd (let z : None ≡ Some w.0 = sym (unlock_walk v v.walk sp m) ∙ w.1 in cc)
+first_step (step.Publish c n r) es v m l w = inr (again_has v.walk w, refl)
+first_step e es v m l w = inr (w, refl)
+
+locked_in : (es : List Step) (v : View) → v.mark ≡ None → Lacks is_mark es → HasWalk (after_all v es).walk
+    → Locked es ⊎ (HasWalk v.walk × Lacks turns_lock es)
+locked_in [] v m l w = inr (w, tt)
+locked_in (e ∷ es) v m l w = by (locked_in es (after e v) (mark_kept e v l.0 ∙ m) l.1 w)
+  where
+    and : Lacks turns_lock es → Locked (e ∷ es) ⊎ (HasWalk v.walk × (turns_lock e ≡ false))
+        → Locked (e ∷ es) ⊎ (HasWalk v.walk × Lacks turns_lock (e ∷ es))
+    and t (inl k) = inl k
+    and t (inr k) = inr (k.0, (k.1, t))
+
+    by : Locked es ⊎ (HasWalk (after e v).walk × Lacks turns_lock es)
+        → Locked (e ∷ es) ⊎ (HasWalk v.walk × Lacks turns_lock (e ∷ es))
+    by (inl k) = inl (record {
+      before = e ∷ k.before;
+      head = k.head;
+      aim = k.aim;
+      found = k.found;
+      inside = k.inside;
+      split = ap (λ (t : List Step). e ∷ t) k.split;
+      within = k.within;
+    })
+    by (inr k) = and k.1 (first_step e es v m k.1 k.0)
+
+-- a walk under way, in a history without bookmarks, is one of the hold that the task is in
+pub locked_of : (es : List Step) → Lacks is_mark es → HasWalk (after_all blank es).walk → Locked es
+locked_of es l w = by (locked_in es blank refl l w)
+  where
+    by : Locked es ⊎ (HasWalk blank.walk × Lacks turns_lock es) → Locked es
+    by (inl k) = k
+    by (inr k) = absurd (let z : None ≡ Some k.0.0 = k.0.1 in cc)
+
+pub locked_for : (es : List Step) (k : Locked es) → IsForWalk k.aim (after_all blank es).walk
+locked_for es k =
+    subst (λ (t : List Step). IsForWalk k.aim (after_all blank t).walk) (sym k.split)
+    (subst (λ (v : View). IsForWalk k.aim v.walk)
+    (sym (after_append blank k.before (step.Lock k.head (Some k.aim) k.found ∷ k.inside)))
+    (walks_for k.aim k.inside (after (step.Lock k.head (Some k.aim) k.found) (after_all blank k.before))
+    k.within (begun_for k.aim (after_all blank k.before).walk)))
+
+-- without bookmarks a walk begins at place 0
+abbrev pub AtFirst : Option Walk → Type 0
+AtFirst None = Unit {0}
+AtFirst (Some w) = w.from ≡ 0
+
+again_first : (o : Option Walk) → AtFirst (begun_anew o)
+again_first None = tt
+again_first (Some w) = refl
+
+begun_first : (o : Option Walk) (a : Aim) → AtFirst o → AtFirst (begun o (Some a))
+begun_first None a f = refl
+begun_first (Some w) a f = by (same a.watch w.watch && (w.mask == mask_of a.mode))
+  where
+    by : (b : Bool) → AtFirst (if b then Some w else Some (record {
+      watch = a.watch;
+      mask = mask_of a.mode;
+      from = 0;
+    }))
+    by true = f
+    by false = refl
+
+first_kept : (e : Step) (v : View) → v.mark ≡ None → AtFirst v.walk → AtFirst (after e v).walk
+first_kept (step.Publish c n r) v m f = again_first v.walk
+first_kept (step.Lock h None w) v m f = tt
+first_kept (step.Lock h (Some a) w) v m f = begun_first v.walk a f
+first_kept (step.Unlock h sp) v m f = subst AtFirst (sym (unlock_walk v v.walk sp m)) tt
+first_kept e v m f = f
+
+pub first_in : (es : List Step) (v : View) → v.mark ≡ None → Lacks is_mark es → AtFirst v.walk
+    → AtFirst (after_all v es).walk
+first_in [] v m l f = f
+first_in (e ∷ es) v m l f = first_in es (after e v) (mark_kept e v l.0 ∙ m) l.1 (first_kept e v m f)

@@ -1,0 +1,64 @@
+-- No program answers Worn, or goes on after an add for which no place was left, by what a core's task finds.
+use Rattle.std.proofs.Common.{refl, sym, ◌∙◌, ap, subst, arith}
+use Rattle.std.specs.Prelude.{ℕ, ◌≡◌, ◌≢◌, Bool, true, false, is_some}
+use Rattle.wait_model.specs.declared.calls.Call.{Call}
+use Rattle.wait_model.specs.declared.calls.Answer.{Answer}
+use Rattle.wait_model.specs.declared.calls.Answer.TheVariants as answer
+use Rattle.wait_model.specs.declared.points.Planned.{Planned}
+use Rattle.wait_model.specs.declared.points.Next.{Next}
+use Rattle.wait_model.specs.declared.points.Next.TheVariants as next
+use Rattle.wait_model.specs.declared.points.Point.{Point}
+use Rattle.wait_model.specs.declared.points.Point.TheVariants as at
+use Rattle.wait_model.specs.declared.points.LeavePoint.TheVariants as leaving
+use Rattle.wait_model.specs.declared.points.FinishPoint.{FinishPoint}
+use Rattle.wait_model.specs.declared.points.FinishPoint.TheVariants as finishing
+use Rattle.wait_model.specs.declared.points.AwaitPoint.TheVariants as awaiting
+use Rattle.wait_model.specs.declared.points.BitPoint.TheVariants as biting
+use Rattle.wait_model.specs.Points.{is_lock}
+use Rattle.wait_model.specs.Programs.{interrupted, zero_answer}
+use Rattle.wait_model.specs.Runs.{State, own, planned, state_of, made_in}
+use Rattle.wait_model.specs.Reached.{IsFitted, IsSoundCall}
+use Rattle.wait_model.specs.Unworn.{NoRunWears}
+use Rattle.wait_model.proofs.WaitLaws.OutsideStages.{either, unset}
+use Rattle.wait_model.proofs.AccountLaws.Refusals.{refusal, IsOther, other}
+use Rattle.wait_model.proofs.RunLaws.EveryRun.{sound_of}
+
+abbrev is_worn : Next → Bool
+is_worn (next.Ends answer.Worn) = true
+is_worn _ = false
+
+module _ (s : State) (me : ℕ) (call : Call) where
+  abbrev U : Planned → Type 0
+  U x = is_worn x.next ≡ false
+
+  finish_unworn : (p : FinishPoint) → U (planned s me call (at.Finish p true))
+  finish_unworn finishing.State = refl
+  finish_unworn finishing.Look = either U (is_some (s.table.entry (own me))) _ _ refl
+      (either U (is_lock call) _ _ refl refl)
+  finish_unworn finishing.Lock = refl
+  finish_unworn finishing.Queue = either U (is_some (s.table.entry (own me))) _ _ refl
+      (either U (is_lock call) _ _ refl refl)
+  finish_unworn finishing.Unlock = either U (is_lock call) _ _ refl refl
+
+  told : (p : Point) → U (planned s me call p) → (planned s me call p).next ≢ next.Ends answer.Worn
+  told p u z = let y : false ≡ true = sym u ∙ ap is_worn z in cc
+
+  elsewhere : (p : Point) → IsOther p → (planned s me call p).next ≢ next.Ends answer.Worn
+  elsewhere p i z = let y : 0 ≡ 1 = sym (other s me call p i) ∙ ap refusal z in omega (arith, y)
+
+  unworn : (p : Point) → IsFitted call p → (planned s me call p).next ≢ next.Ends answer.Worn
+  unworn at.Worn f = absurd f
+  unworn (at.Finish p true) f = told (at.Finish p true) (finish_unworn p)
+  unworn (at.Leave leaving.Load) f = told (at.Leave leaving.Load) (either U (unset s call) _ _ refl refl)
+  unworn (at.Await (awaiting.Off true)) f = told (at.Await (awaiting.Off true))
+      (either U (is_some (s.table.entry (own me))) _ _ refl refl)
+  unworn (at.Await (awaiting.Last true)) f = told (at.Await (awaiting.Last true)) refl
+  unworn (at.Bit biting.Last) f = told (at.Bit biting.Last)
+      (either (λ (a : Answer). is_worn (next.Ends a) ≡ false) (unset s call) interrupted zero_answer refl refl)
+  unworn p f = elsewhere p tt
+
+pub no_run_wears : NoRunWears
+no_run_wears run r few me call p is = (λ z. subst (IsFitted call) z fit, unworn (state_of run) me call p fit)
+  where
+    fit : IsFitted call p
+    fit = (subst (IsSoundCall (made_in run)) is ((sound_of run r few).calls me)).fitted

@@ -1,0 +1,23 @@
+-- Programs follow the sentences of their calls, and make all that follows them.
+pub mod SentenceRests
+pub mod SentenceWaits
+pub mod SentenceAwaits
+pub mod SentenceCounts
+pub mod SentenceWalks
+pub mod SentenceBits
+pub mod SentenceCalls
+pub mod SentenceEnds
+pub mod SentenceFindings
+pub mod MadeFindings
+pub mod MadeWaits
+pub mod MadeAwaits
+pub mod MadeEvents
+pub mod MadeCounts
+pub mod MadeBits
+pub mod MadeWalks
+pub mod MadeCalls
+pub mod FollowedSentences
+pub mod ShortCalls
+pub mod SpokenCalls
+pub mod StepEnds
+pub mod WaitEnds

@@ -1,0 +1,166 @@
+-- Whoever is asleep in a wait sleeps on the watch of its call, whatever it waits for.
+use Rattle.std.proofs.lemmas.Bool.Decides.{nat_tests}
+use Rattle.std.proofs.Common.{refl, sym, ◌∙◌, ap, subst, arith}
+use Rattle.std.specs.Prelude.{ℕ, ◌≡◌, ◌≢◌, ◌≤◌, Bool, true, false, nat_lt, if◌then◌else◌, Some, List}
+use Rattle.wait_model.specs.declared.layout.TheConstants.{FIRST_SIMPLE, EVENTS}
+use Rattle.wait_model.specs.declared.watches.Watch.{Watch}
+use Rattle.wait_model.specs.declared.watches.Watch.TheVariants as watch
+use Rattle.wait_model.specs.declared.watches.Kind.TheVariants as kind
+use Rattle.wait_model.specs.declared.watches.Entry.{Entry}
+use Rattle.wait_model.specs.declared.steps.Step.{Step}
+use Rattle.wait_model.specs.declared.calls.Call.{Call}
+use Rattle.wait_model.specs.declared.calls.Call.TheVariants as calls
+use Rattle.wait_model.specs.declared.calls.Ran.{Ran}
+use Rattle.wait_model.specs.declared.points.Point.{Point}
+use Rattle.wait_model.specs.declared.points.Point.TheVariants as at
+use Rattle.wait_model.specs.declared.points.PreparePoint.TheVariants as preparing
+use Rattle.wait_model.specs.declared.points.WokenPoint.TheVariants as hearing
+use Rattle.wait_model.specs.declared.points.AwaitPoint.TheVariants as awaiting
+use Rattle.wait_model.specs.declared.points.BitPoint.TheVariants as biting
+use Rattle.wait_model.specs.declared.points.Progress.{Progress}
+use Rattle.wait_model.specs.declared.points.Progress.TheVariants as now
+use Rattle.wait_model.specs.Watches.{same, bare, kind_for, is_done, is_woken}
+use Rattle.wait_model.specs.Views.{View}
+use Rattle.wait_model.specs.Fold.{view_of}
+use Rattle.wait_model.specs.Points.{call_watch, is_await, is_bit_wait}
+use Rattle.wait_model.specs.Runs.{State, own, IsRun, state_of, made_in}
+use Rattle.wait_model.specs.Reached.{IsFitted, IsSoundCall}
+use Rattle.wait_model.specs.Readings.{FailedBy}
+use Rattle.wait_model.specs.Wakes.{Sleeps}
+use Rattle.wait_model.specs.Waiters.{is_wait, WaitsFor, IsSafe, NoRunLosesWaiter}
+use Rattle.wait_model.proofs.WordLaws.DecodedWords.{owner_own}
+use Rattle.wait_model.proofs.RunLaws.EveryRun.{sound_of}
+use Rattle.wait_model.proofs.HistoryLaws.ViewsTold.{views_told}
+use Rattle.wait_model.proofs.HistoryLaws.NoLostWake.{no_run_loses_wake}
+use Rattle.wait_model.proofs.HistoryLaws.ZeroLoads.{zero_told}
+use Rattle.wait_model.proofs.WaitLaws.WaitStages.{dozing, stage, IsTested, IsListening}
+use Rattle.wait_model.proofs.WaitLaws.Waiters.{IsDownInWait, down_of}
+use Rattle.wait_model.proofs.WaitLaws.ZeroCounts.{IsZero, ZeroAt, zero_of}
+
+-- the call of a task that waits
+waits_in : (q : Progress) (c : Watch) → WaitsFor q c
+    → (call : Call) × (p : Point) × (q ≡ now.Open call p) × (is_wait call ≡ true) × (c ≡ call_watch call)
+waits_in (now.Open call p) c w = (call, p, refl, w.0, w.1)
+waits_in now.Idle c w = absurd w
+waits_in now.Fresh c w = absurd w
+
+not_listening : (call : Call) → is_wait call ≡ true → IsListening call → ⊥
+not_listening (calls.Woken st) w l = cc
+not_listening calls.Remove w l = l
+not_listening call w l = l
+
+-- of those only the wait for a completion waits for one
+done_await : (call : Call) → is_wait call ≡ true → is_done (call_watch call) ≡ is_await call
+done_await (calls.Wait c how) w = refl
+done_await (calls.SimpleWait c st) w = refl
+done_await (calls.WaitFor d st) w = refl
+done_await (calls.WaitBit i b st) w = refl
+done_await (calls.LockBit i b st) w = refl
+done_await (calls.WaitVar v old st) w = refl
+done_await calls.Remove w = absurd (cc)
+done_await call w = absurd (cc)
+
+not_both : (call : Call) {A : Type 0} → is_bit_wait call ≡ true → is_await call ≡ true → A
+not_both (calls.WaitFor d st) b a = absurd (cc)
+not_both calls.Remove b a = absurd (cc)
+not_both call b a = absurd (cc)
+
+never_woken : (c : Watch) → is_woken (kind_for c) ≡ false
+never_woken (watch.Plain c) = by (nat_lt c FIRST_SIMPLE)
+  where
+    by : (b : Bool) → is_woken (if b then kind.Autoremove else kind.Simple) ≡ false
+    by true = refl
+    by false = refl
+never_woken (watch.Done d) = refl
+never_woken (watch.Bit w b) = refl
+never_woken (watch.Var v o) = refl
+
+same_bare : (c : Watch) → same c (bare c) ≡ true
+same_bare (watch.Plain c) = grind (arith, nat_tests)
+same_bare (watch.Done d) = grind (arith, nat_tests)
+same_bare (watch.Bit w b) = grind (arith, nat_tests)
+same_bare (watch.Var v o) = grind (arith, nat_tests)
+
+-- after its sleep a wait for a completion has found the count 0
+module _ (call : Call) (v : View) (x : ℕ) (w : is_await call ≡ true) where
+  abbrev Failed : Type 0
+  Failed = (n : ℕ) × (v.checks.zero_failed x (call_watch call) ≡ Some n)
+
+  dozing_zero : (p : Point) → stage p ≡ dozing → IsFitted call p → IsZero call p v x → Failed
+  dozing_zero (at.Prepare preparing.Lock) g f h = absurd (let z : false ≡ true = sym f ∙ w in cc)
+  dozing_zero (at.Prepare preparing.Look) g f h = absurd (cc)
+  dozing_zero (at.Prepare preparing.Queue) g f h = absurd (cc)
+  dozing_zero (at.Prepare preparing.State) g f h = absurd (cc)
+  dozing_zero (at.Prepare preparing.Unlock) g f h = absurd (cc)
+  dozing_zero (at.Bit biting.Look) g f h = not_both call f w
+  dozing_zero (at.Bit (biting.Again hit)) g f h = not_both call f w
+  dozing_zero (at.Bit p) g f h = absurd (cc)
+  dozing_zero (at.Await (awaiting.Lock true)) g f h = h w
+  dozing_zero (at.Await (awaiting.Lock false)) g f h = absurd (cc)
+  dozing_zero (at.Await p) g f h = absurd (cc)
+  dozing_zero (at.Woken hearing.State) g f h = absurd (cc)
+  dozing_zero (at.Woken hearing.Flag) g f h = absurd (cc)
+  dozing_zero (at.Woken hearing.Sleep) g f h = absurd (cc)
+  dozing_zero (at.Woken hearing.Run) g f h = absurd (cc)
+  dozing_zero (at.Woken hearing.Clear) g f h = absurd (cc)
+  dozing_zero p g f h = absurd (cc)
+
+-- the failed load of a task that is asleep
+module _ (call : Call) (es : List Step) (x : ℕ) (e : Entry) (wait : is_wait call ≡ true)
+    (kind : e.kind ≡ kind_for (call_watch call)) where
+  unwoken : is_woken e.kind ≡ false
+  unwoken = ap (λ k. is_woken k) kind ∙ never_woken (call_watch call)
+
+  load_by : (b : Bool) → is_await call ≡ b → FailedBy false b es x (call_watch call)
+      → FailedBy (is_woken e.kind) (is_done (call_watch call)) es x (call_watch call)
+  load_by b a l = rw (unwoken, done_await call wait, a) l
+
+  failed_load : (v : View) (p : Point) → v ≡ view_of es → stage p ≡ dozing → IsFitted call p → IsZero call p v x
+      → IsTested call es x → (b : Bool) → is_await call ≡ b
+      → FailedBy (is_woken e.kind) (is_done (call_watch call)) es x (call_watch call)
+  failed_load v p told g f z tested true a =
+      let k = dozing_zero call v x a p g f z in
+      load_by true a ((zero_told es x (call_watch call)).0 k.0
+      (sym (ap (λ (u : View). u.checks.zero_failed x (call_watch call)) told) ∙ k.1)).0
+  failed_load v p told g f z tested false a = load_by false a (tested a)
+
+-- the task of a wait that is down sleeps
+module _ (run : List Ran) (r : IsRun run) (few : made_in run ≤ EVENTS) (t : ℕ) where
+  abbrev s : State
+  s = state_of run
+
+  load : (call : Call) (p : Point) → s.progress t ≡ now.Open call p → is_wait call ≡ true
+      → (k : IsDownInWait s t call p) → FailedBy (is_woken k.entry.kind) (is_done (call_watch call)) (s.table.history t)
+      (own t) (call_watch call)
+  load call p is wait k = failed_load call (s.table.history t) (own t) k.entry wait k.kind (s.table.view t) p
+      (views_told run t) k.dozes
+      (subst (IsSoundCall (made_in run)) is ((sound_of run r few).calls t)).fitted
+      (subst (λ (q : Progress). ZeroAt q (s.table.view t) (own t)) is (zero_of run r few t)) k.tested
+      (is_await call) refl
+
+  sleeps : (call : Call) (p : Point) → s.progress t ≡ now.Open call p → is_wait call ≡ true
+      → (k : IsDownInWait s t call p) → Sleeps s.table (own t) k.entry (call_watch call)
+  sleeps call p is wait k = record {
+    queued = k.stands;
+    watches = rw k.watch (same_bare (call_watch call));
+    down = subst (λ (i : ℕ). (s.table.task i).state ≢ 0) (sym (owner_own t)) k.state;
+    failed = subst (λ (i : ℕ). FailedBy (is_woken k.entry.kind) (is_done (call_watch call)) (s.table.history i)
+        (own t) (call_watch call)) (sym (owner_own t)) (load call p is wait k);
+  }
+
+  safe : (call : Call) (p : Point) → s.progress t ≡ now.Open call p → is_wait call ≡ true → IsDownInWait s t call p
+      → IsSafe s t (call_watch call)
+  safe call p is wait k = record {
+    entry = k.entry;
+    sleeps = sleeps call p is wait k;
+    woken = no_run_loses_wake run r few (own t) k.entry (call_watch call) (sleeps call p is wait k);
+  }
+
+pub no_run_loses_waiter : NoRunLosesWaiter
+no_run_loses_waiter run r few t c a = by (waits_in ((state_of run).progress t) c a.waits)
+  where
+    by : (call : Call) × (p : Point) × ((state_of run).progress t ≡ now.Open call p) × (is_wait call ≡ true)
+        × (c ≡ call_watch call) → IsSafe (state_of run) t c
+    by w = subst (IsSafe (state_of run) t) (sym w.4)
+        (safe run r few t w.0 w.1 w.2 w.3
+        (down_of run r few t w.0 w.1 w.2 (not_listening w.0 w.3) a.down))

@@ -1,0 +1,4 @@
+-- The worked scripts, computed.
+pub mod FirstScripts
+pub mod WaitForms
+pub mod BitScripts

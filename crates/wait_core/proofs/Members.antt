@@ -1,14 +1,15 @@
 -- A queue is the members of its head, so the first of it from a rank on is the head's next member.
 use Rattle.std.proofs.lemmas.Bool.Decides.{nat_tests}
+use Rattle.wait_model.specs.declared.layout.TheConstants.{ENTRIES}
 use Rattle.std.proofs.Common.{refl, sym, ◌∙◌, ap, subst, arith, inl, inr}
 use Rattle.std.specs.Prelude.{ℕ, ◌≡◌, ◌+◌, ◌-◌, ◌<◌, ◌≤◌, Bool, true, false, nat_lt, Option, Some, None}
 use Rattle.wait_model.specs.declared.queues.Member.{Member}
 use Rattle.wait_model.specs.declared.queues.Mark.{Mark}
-use Rattle.wait_model.specs.Queues.{entry_count, stand_of, member_from, IsIn}
+use Rattle.wait_model.specs.Queues.{stand_of, member_from, IsIn}
 use Rattle.wait_model.specs.Runs.{State}
 use Rattle.wait_model.specs.Reached.{IsSound, IsMember, IsBookmark}
-use Rattle.wait_model.proofs.QueueOrder.{IsFirstFrom, first_is}
-use Rattle.wait_model.proofs.Stands.{some_stands, mark_stands, member_is}
+use Rattle.wait_model.proofs.QueueLaws.QueueOrder.{IsFirstFrom, first_is}
+use Rattle.wait_model.proofs.QueueLaws.MemberStands.{some_stands, mark_stands, member_is}
 use Rattle.wait_core.specs.Members.{IsMemberAt, IsNextAt}
 
 module _ (s : State) (n : ℕ) (sound : IsSound s n) (head : ℕ) where
@@ -33,21 +34,21 @@ module _ (s : State) (n : ℕ) (sound : IsSound s n) (head : ℕ) where
 
   -- and whatever is in its queue stands there
   is_member : (m : Member) → IsIn m (s.queue head) → IsMemberAt s.table head m
-  is_member m i = by (nat_lt m.at entry_count) refl (sound.linked.ordered.members head m i)
+  is_member m i = by (nat_lt m.at ENTRIES) refl (sound.linked.ordered.members head m i)
     where
-      by : (b : Bool) → nat_lt m.at entry_count ≡ b → stands m.at ≡ Some (there m) → IsMemberAt s.table head m
+      by : (b : Bool) → nat_lt m.at ENTRIES ≡ b → stands m.at ≡ Some (there m) → IsMemberAt s.table head m
       by true l is =
-          let small : m.at < entry_count = grind (arith, nat_tests) in
+          let small : m.at < ENTRIES = grind (arith, nat_tests) in
           let it : IsMember s.table.entry head m = member_is s.table.entry s.table.mark s.queue n head m
           sound.linked.ordered small i in
           inl (record { number = small; entry = it.entry; stands = it.stands; head = it.head; place = it.place })
       by false l is =
-          let large : entry_count ≤ m.at = grind (arith, nat_tests) in
-          let number : m.at ≡ entry_count + (m.at - entry_count) = omega arith in
-          let stand : s.table.mark (m.at - entry_count) ≡ Some (there m) =
-          sym (mark_stands s.table.entry s.table.mark (m.at - entry_count)) ∙ ap stands (sym number) ∙ is in
-          let k : IsBookmark (m.at - entry_count) (there m) = sound.linked.marks (m.at - entry_count) (there m) stand in
-          inr (record { task = m.at - entry_count; exists = k.number; number = number; stands = stand })
+          let large : ENTRIES ≤ m.at = grind (arith, nat_tests) in
+          let number : m.at ≡ ENTRIES + (m.at - ENTRIES) = omega arith in
+          let stand : s.table.mark (m.at - ENTRIES) ≡ Some (there m) =
+          sym (mark_stands s.table.entry s.table.mark (m.at - ENTRIES)) ∙ ap stands (sym number) ∙ is in
+          let k : IsBookmark (m.at - ENTRIES) (there m) = sound.linked.marks (m.at - ENTRIES) (there m) stand in
+          inr (record { task = m.at - ENTRIES; exists = k.number; number = number; stands = stand })
 
   next_of : (least : ℕ) (r : Option Member) → IsFirstFrom (λ _. true) least (s.queue head) r
       → IsNextAt s.table head least r

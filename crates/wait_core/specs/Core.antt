@@ -1,14 +1,15 @@
 -- What the parts of a core have in common: the words show the state of the stored run. (To be believed.)
 use Rattle.std.specs.Prelude.{◌≡◌, ℕ, ◌+◌, ◌*◌, ◌<◌, ◌≤◌, List, slice_get, length, sum_by, if◌then◌else◌}
+use Rattle.wait_model.specs.declared.layout.TheConstants.{TASKS, MEMBERS, EVENTS, RUN_ITEMS}
+use Rattle.std.specs.declared.option.Option.{Option}
 use Rattle.std.specs.declared.option.Option.TheVariants.{Some}
 use Rattle.wait_model.specs.declared.points.Progress.{Progress}
-use Rattle.wait_core.specs.declared.index.Standing.{Standing}
+use Rattle.wait_core.specs.declared.index.RankedMember.{RankedMember}
 use Rattle.wait_core.specs.Scan.{shown_stand}
 use Rattle.wait_core.specs.Index.{IsIndex}
 use Rattle.wait_core.specs.Keepers.{ShowsKeepers}
 use Rattle.wait_model.specs.declared.calls.Ran.{Ran}
 use Rattle.wait_model.specs.Runs.{IsRun, state_of, made_in, is_open}
-use Rattle.wait_model.specs.Tasks.{task_count}
 use Rattle.wait_model.specs.Locations.{Shows}
 
 -- how many calls are open
@@ -23,17 +24,17 @@ pub record IsCore (words : List ℕ) (points : List Progress) (items : List Ran)
   where
     pub run : IsRun items
     pub shown : Shows words (state_of items).table
-    pub tasks : length points ≡ task_count
-    pub progress : (t : ℕ) → t < task_count → slice_get points t ≡ Some ((state_of items).progress t)
+    pub tasks : length points ≡ TASKS
+    pub progress : (t : ℕ) → t < TASKS → slice_get points t ≡ Some ((state_of items).progress t)
     pub made : count ≡ made_in items
-    pub few : count ≤ 1000000
+    pub few : count ≤ EVENTS
     pub room : length items ≤ 2 * count + open_calls points
-    pub reserved : 2000128 ≤ capacity
+    pub reserved : RUN_ITEMS ≤ capacity
 
 -- the parts of a core, who keeps each bit, and the list of the members that stand, with room for them all
 pub record IsIndexedCore (words : List ℕ) (points : List Progress) (items : List Ran) (count capacity : ℕ)
-    (keepers : List ℕ) (index : List Standing) (room : ℕ) : Type 0 where
+    (keepers : List (Option ℕ)) (index : List RankedMember) (room : ℕ) : Type 0 where
   pub core : IsCore words points items count capacity
   pub kept : ShowsKeepers keepers (state_of items).table.view
   pub indexed : IsIndex (shown_stand words) index
-  pub spacious : 384 ≤ room
+  pub spacious : MEMBERS ≤ room

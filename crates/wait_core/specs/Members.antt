@@ -1,15 +1,15 @@
 -- The members of a head: the entries that are queued at it and the bookmarks that stand at it. (To be believed.)
 use Rattle.std.specs.Prelude.{◌≡◌, ℕ, ◌+◌, ◌<◌, ◌≤◌, ◌⊎◌, Option, Some, None}
+use Rattle.wait_model.specs.declared.layout.TheConstants.{TASKS, ENTRIES}
 use Rattle.wait_model.specs.declared.watches.Entry.{Entry}
 use Rattle.wait_model.specs.declared.queues.Member.{Member}
-use Rattle.wait_model.specs.Tasks.{task_count}
 use Rattle.wait_model.specs.Watches.{head_of}
-use Rattle.wait_model.specs.Queues.{entry_count, rank}
+use Rattle.wait_model.specs.Queues.{rank}
 use Rattle.wait_model.specs.Tables.{Table}
 
 -- an entry whose word names the head and this place
 pub record IsEntryAt (t : Table) (h : ℕ) (m : Member) : Type 0 where
-  pub number : m.at < entry_count
+  pub number : m.at < ENTRIES
   pub entry : Entry
   pub stands : t.entry m.at ≡ Some entry
   pub head : head_of entry.watch ≡ h
@@ -18,8 +18,8 @@ pub record IsEntryAt (t : Table) (h : ℕ) (m : Member) : Type 0 where
 -- a task's bookmark whose word names the head and this place
 pub record IsMarkAt (t : Table) (h : ℕ) (m : Member) : Type 0 where
   pub task : ℕ
-  pub exists : task < task_count
-  pub number : m.at ≡ entry_count + task
+  pub exists : task < TASKS
+  pub number : m.at ≡ ENTRIES + task
   pub stands : t.mark task ≡ Some (record { head = h; place = m.place })
 
 abbrev pub IsMemberAt : Table → ℕ → Member → Type 0

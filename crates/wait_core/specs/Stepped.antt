@@ -1,5 +1,6 @@
 -- What a step answers, and what it adds to the run.
-use Rattle.std.specs.Prelude.{ℕ, Bool, true, false, ◌==◌, nat_lt, if◌then◌else◌, List, [], ◌∷◌}
+use Rattle.std.specs.Prelude.{ℕ, Bool, true, false, ◌==◌, if◌then◌else◌, List, [], ◌∷◌}
+use Rattle.wait_model.specs.declared.layout.TheConstants.{EVENTS}
 use Rattle.std.specs.declared.option.Option.{Option}
 use Rattle.std.specs.declared.option.Option.TheVariants.{Some, None}
 use Rattle.std.specs.declared.result.Result.{Result}
@@ -13,7 +14,6 @@ use Rattle.wait_model.specs.declared.calls.Ran.TheVariants as ran
 use Rattle.wait_model.specs.Runs.{State, own, planned, found_by, is_open, busy_head}
 use Rattle.wait_model.specs.Admission.{is_in_range, lacks_bit, is_queued_twice, lacks_entry}
 use Rattle.wait_model.specs.Points.{call_watch}
-use Rattle.wait_model.specs.Tasks.{task_count}
 use Rattle.wait_core.specs.Ended.{answer_of}
 use Rattle.wait_core.specs.declared.engine.Stepped.{Stepped}
 use Rattle.wait_core.specs.declared.engine.Stepped.TheVariants as answers
@@ -21,9 +21,9 @@ use Rattle.wait_core.specs.declared.engine.StartFault.{StartFault}
 use Rattle.wait_core.specs.declared.engine.StartFault.TheVariants as faults
 
 -- an event is made unless its lock is held or the run is full
-abbrev pub tried : ℕ → Planned → Option ℕ → Stepped
-tried made p (Some head) = answers.Busy head
-tried made p None = if made == 1000000 then answers.Full else answers.Made p.event (answer_of p.next)
+abbrev pub event_or_refusal : ℕ → Planned → Option ℕ → Stepped
+event_or_refusal made p (Some head) = answers.Busy head
+event_or_refusal made p None = if made == EVENTS then answers.Full else answers.Made p.event (answer_of p.next)
 
 -- the answer of a step of a task that stands at this progress, when so many events were made
 abbrev pub stepped : State → ℕ → ℕ → Progress → Stepped
@@ -31,7 +31,7 @@ stepped s made me now.Fresh = answers.NoCall
 stepped s made me now.Idle = answers.NoCall
 stepped s made me (now.Open call p) =
     if (s.table.task me).runnable
-    then tried made (planned s me call p) (busy_head s (planned s me call p).event) else answers.Asleep
+    then event_or_refusal made (planned s me call p) (busy_head s (planned s me call p).event) else answers.Asleep
 
 -- what a step adds to the run
 abbrev pub items_of : State → ℕ → Stepped → List Ran
@@ -39,8 +39,8 @@ items_of s me (answers.Made e ended) = ran.Made me e (found_by s me e) ∷ []
 items_of s me _ = []
 
 -- the first refusal that stands
-abbrev pub checked : Bool → Bool → Bool → Bool → Result (Unit {0}) StartFault
-checked fits loose twice lacks =
+abbrev pub first_refusal : Bool → Bool → Bool → Bool → Result (Unit {0}) StartFault
+first_refusal fits loose twice lacks =
     if fits
     then (if loose then Err faults.NotHeld
     else if twice then Err faults.EntryQueued else if lacks then Err faults.NoEntry else Ok tt)
@@ -48,11 +48,9 @@ checked fits loose twice lacks =
 
 abbrev pub started : State → ℕ → Call → Result (Unit {0}) StartFault
 started s me call =
-    if nat_lt me task_count
-    then (if is_open (s.progress me) then Err faults.CallOpen
-    else checked (is_in_range me call) (lacks_bit call ((s.table.view me).bits.keeps (call_watch call)))
-    (is_queued_twice call (s.table.entry (own me))) (lacks_entry call (s.table.entry (own me))))
-    else Err faults.NoSuchTask
+    if is_open (s.progress me) then Err faults.CallOpen
+    else first_refusal (is_in_range me call) (lacks_bit call ((s.table.view me).bits.keeps (call_watch call)))
+    (is_queued_twice call (s.table.entry (own me))) (lacks_entry call (s.table.entry (own me)))
 
 abbrev pub opened_by : ℕ → Call → Result (Unit {0}) StartFault → List Ran
 opened_by me call (Ok x) = ran.Opened me call ∷ []

@@ -1,25 +1,21 @@
 //! Where a walk goes on: behind the entries of other watches, or at the member before which it breaks.
 
 ghost use Rattle.std.specs.Prelude.{◌≡◌, ℕ, ◌+◌, ◌*◌, ◌<◌, ◌≤◌, ◌^◌, ◌-◌, IfSome, length, false};
-ghost use Rattle.wait_model.specs.Runs.{State, arrives_from, mark_for};
+ghost use Rattle.wait_model.specs.declared.layout.TheConstants.{ENTRIES, WORDS, PLACES};
+ghost use Rattle.wait_model.specs.Runs.{State, arrives_from};
 ghost use Rattle.wait_model.specs.Queues as queue;
 ghost use Rattle.wait_model.specs.Watches.{same, is_for};
-ghost use Rattle.wait_model.specs.Points.{given_at};
 ghost use Rattle.wait_model.specs.Locations.{Shows};
 ghost use Rattle.wait_model.specs.Reached.{IsSound};
 ghost use Rattle.wait_core.specs.Scan.{shown_stand};
 ghost use Rattle.wait_core.specs.Index.{IsIndex};
 ghost use Rattle.wait_core.specs.Arrivals.{arrived};
 
-use crate::index::Standing;
-use crate::scan::{ENTRIES, FIRST_PLACE, NUMBERS, PLACES, entry_in, entry_ranked, member_ranked};
-use wait_model::calls::Call;
-use wait_model::points::{Point, calls_at, from_at};
-use wait_model::queues::{Mark, Member};
+use crate::index::RankedMember;
+use crate::scan::{entry_in, entry_ranked, member_ranked};
+use wait_model::layout::{BREAK, ENTRIES, FIRST_PLACE, INDEXES, PLACES};
+use wait_model::queues::Member;
 use wait_model::watches::Watch;
-
-/// How many entries a hold calls before its walk may break.
-const BREAK: u32 = 64;
 
 /// Where a walk goes on: the member before which it breaks, or the entry that it calls, or none; and how many
 /// entries its hold has called by then.
@@ -50,10 +46,10 @@ fn is_same(watch: Watch, other: Watch) -> bool
 }
 
 /// Whether a wake for the watch calls the function of an entry.
-#[tactic(auto, using(crate::proofs::Found::entry_shown_is))]
+#[tactic(auto, using(crate::proofs::FoundMembers::entry_shown_is))]
 fn is_called(words: &[u64], watch: Watch, at: u16) -> bool
-    requires count { length words.now ≡ 9873 }
-    requires at { at < 256 }
+    requires count { length words.now ≡ WORDS }
+    requires at { at < ENTRIES }
     ensures { (s : State) (n : ℕ) → Shows words.now s.table → IsSound s n → result ≡ is_for watch (s.table.entry at) }
 {
     match entry_in(words, at) {
@@ -65,20 +61,21 @@ fn is_called(words: &[u64], watch: Watch, at: u16) -> bool
 /// Where a walk for a watch goes on from a place, in a hold that has called so many entries.
 pub fn arrive(
     words: &[u64],
-    index: &[Standing],
+    index: &[RankedMember],
     head: u16,
     watch: Watch,
     place: u64,
     called: u32,
 ) -> Arrived
-    requires count { length words.now ≡ 9873 }
+    requires count { length words.now ≡ WORDS }
     requires index { IsIndex (shown_stand words.now) index.now }
-    ensures arrived { (s : State) (n : ℕ) → Shows words.now s.table → IsSound s n → result ≡ arrived (arrives_from s.table.entry watch place called (s.queue head)) }
-    ensures member { IfSome result.member (λ m. m.place < 2 ^ 40) }
-    ensures entry { result.breaks ≡ false → IfSome result.member (λ m. m.at < 256) }
+    ensures arrived { (s : State) (n : ℕ) → Shows words.now s.table → IsSound s n
+        → result ≡ arrived (arrives_from s.table.entry watch place called (s.queue head)) }
+    ensures member { IfSome result.member (λ m. m.place < PLACES) }
+    ensures entry { result.breaks ≡ false → IfSome result.member (λ m. m.at < ENTRIES) }
     ensures calls { called < 2 ^ 32 - 1 → result.calls < 2 ^ 32 - 1 }
 {
-    let mut least = NUMBERS * place.min(PLACES);
+    let mut least = INDEXES * place.min(PLACES);
     let mut calls = called;
     while calls <= BREAK {
         let Some(member) = entry_ranked(words, index, head, least) else {
@@ -107,10 +104,10 @@ pub fn arrive(
 }
 
 /// The place of a bookmark before a member: below an entry, or that of another bookmark.
-fn place_before(member: Option<Member>) -> u64
-    requires { IfSome member (λ m. m.place < 2 ^ 40) }
+pub fn place_before(member: Option<Member>) -> u64
+    requires { IfSome member (λ m. m.place < PLACES) }
     ensures place { result ≡ queue.mark_place member }
-    ensures fits { result < 2 ^ 40 }
+    ensures fits { result < PLACES }
 {
     match member {
         None => FIRST_PLACE,
@@ -121,27 +118,5 @@ fn place_before(member: Option<Member>) -> u64
                 member.place
             }
         }
-    }
-}
-
-/// The bookmark that goes before the member at which a walk breaks.
-pub fn next_mark_at(words: &[u64], index: &[Standing], call: Call, point: Point, head: u16) -> Mark
-    requires count { length words.now ≡ 9873 }
-    requires index { IsIndex (shown_stand words.now) index.now }
-    ensures mark { (s : State) (n : ℕ) → Shows words.now s.table → IsSound s n → result ≡ mark_for s.table.entry (given_at call point) head (s.queue head) }
-    ensures head { result.head ≡ head }
-    ensures fits { result.place < 2 ^ 40 }
-{
-    let arrived = arrive(
-        words,
-        index,
-        head,
-        call.watch(),
-        from_at(point),
-        calls_at(point),
-    );
-    Mark {
-        head,
-        place: place_before(arrived.member),
     }
 }

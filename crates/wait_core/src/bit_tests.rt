@@ -1,53 +1,16 @@
-ghost use Rattle.std.specs.Prelude.{◌<◌};
-ghost use Rattle.wait_model.specs.Admission.{IsListed};
-
 use crate::engine::{Core, StartFault, Stepped};
+use crate::test_steps::{goes_on, ran};
 use std::test::Fail;
 use wait_model::calls::{Answer, Call, Event, Ran};
+use wait_model::layout::{CONDITION_AT, ENTRY_AT, FIRST_BIT_WORD};
 use wait_model::tasks::{Sleep, SleepState};
-
-/// Opens a call of a task and makes its events until the call ends or sleeps: how many there were, and the
-/// number that it answered.
-fn ran(core: &mut Core, task: u8, call: Call) -> (u32, Option<i32>)
-    requires task { task < 128 }
-    requires call { IsListed call }
-{
-    if core.start(task, call).is_err() {
-        return (0, None);
-    }
-    goes_on(core, task)
-}
-
-/// Makes the events of a task until its call ends or sleeps.
-fn goes_on(core: &mut Core, task: u8) -> (u32, Option<i32>)
-    requires task { task < 128 }
-{
-    for before in 0..99u32 {
-        match core.step(task) {
-            Stepped::Made {
-                ended: Some(Answer::Number(number)),
-                ..
-            } => return (before + 1, Some(number)),
-            Stepped::Made { ended: Some(_), .. } => return (before + 1, None),
-            Stepped::Made {
-                event: Event::Sleep {
-                    sleep: Sleep::Asleep,
-                },
-                ..
-            } => return (before + 1, None),
-            Stepped::Made { .. } => {}
-            _ => return (before, None),
-        }
-    }
-    (99, None)
-}
 
 /// Bit 63 of the last bit word, and its word.
 const TRY: Call = Call::TryBit { word: 127, bit: 63 };
 
 const CLEAR: Call = Call::ClearBit { word: 127, bit: 63 };
 
-const WORD: u32 = 1281 + 127;
+const WORD: u32 = CONDITION_AT + FIRST_BIT_WORD as u32 + 127;
 
 #[test]
 fn a_bit_is_cleared_by_the_task_that_keeps_it(rt: HostRuntime) -> Result<(), Fail> {
@@ -60,6 +23,17 @@ fn a_bit_is_cleared_by_the_task_that_keeps_it(rt: HostRuntime) -> Result<(), Fai
     assert_eq!(rt; ran(&mut core, 1, CLEAR), (2, None));
     assert_eq!(rt; core.word_at(WORD), 0);
     assert!(rt; matches!(core.start(1, CLEAR), Err(StartFault::NotHeld)));
+    Ok(())
+}
+
+#[test]
+fn the_last_task_keeps_a_bit_until_it_clears_it(rt: HostRuntime) -> Result<(), Fail> {
+    let mut core = Core::new(rt.alloc())?;
+    assert!(rt; matches!(core.start(255, CLEAR), Err(StartFault::NotHeld)));
+    assert_eq!(rt; ran(&mut core, 255, TRY), (1, Some(1)));
+    assert!(rt; matches!(core.start(254, CLEAR), Err(StartFault::NotHeld)));
+    assert_eq!(rt; ran(&mut core, 255, CLEAR), (2, None));
+    assert!(rt; matches!(core.start(255, CLEAR), Err(StartFault::NotHeld)));
     Ok(())
 }
 
@@ -115,7 +89,7 @@ fn a_look_for_members_names_no_word(rt: HostRuntime) -> Result<(), Fail> {
     let (made, answer) = goes_on(&mut core, 0);
     assert_eq!(rt; answer, None);
     assert!(rt; made > 0);
-    assert!(rt; core.word_at(129) != 0);
+    assert!(rt; core.word_at(ENTRY_AT) != 0);
     assert_eq!(rt; ran(&mut core, 1, TRY), (1, Some(1)));
     assert_eq!(rt; ran(&mut core, 1, CLEAR), (2, None));
     assert_eq!(rt; last_look(core.ran()), Some((0, false)));

@@ -1,55 +1,9 @@
-ghost use Rattle.std.specs.Prelude.{◌<◌};
-ghost use Rattle.wait_model.specs.Admission.{IsListed};
-
 use crate::engine::{Core, StartFault, Stepped};
+use crate::test_steps::{goes_on, made, ran};
 use std::test::Fail;
 use wait_model::calls::{Answer, Call, Event};
+use wait_model::layout::{CONDITION_AT, ENTRY_AT, FIRST_DONE, FIRST_DONE_HEAD, HEAD_AT};
 use wait_model::tasks::{Sleep, SleepState};
-
-/// Opens a call of a task and makes its events until the call ends or sleeps: how many there were, and the
-/// number that it answered.
-fn ran(core: &mut Core, task: u8, call: Call) -> (u32, Option<i32>)
-    requires task { task < 64 }
-    requires call { IsListed call }
-{
-    if core.start(task, call).is_err() {
-        return (0, None);
-    }
-    goes_on(core, task)
-}
-
-/// Makes the events of a task until its call ends or sleeps.
-fn goes_on(core: &mut Core, task: u8) -> (u32, Option<i32>)
-    requires task { task < 64 }
-{
-    for before in 0..99u32 {
-        match core.step(task) {
-            Stepped::Made {
-                ended: Some(Answer::Number(number)),
-                ..
-            } => return (before + 1, Some(number)),
-            Stepped::Made {
-                event: Event::Sleep {
-                    sleep: Sleep::Asleep,
-                },
-                ..
-            } => return (before + 1, None),
-            Stepped::Made { .. } => {}
-            _ => return (before, None),
-        }
-    }
-    (99, None)
-}
-
-/// Makes one event of a task.
-fn made(core: &mut Core, task: u8) -> Option<Event>
-    requires { task < 64 }
-{
-    match core.step(task) {
-        Stepped::Made { event, .. } => Some(event),
-        _ => None,
-    }
-}
 
 /// An uninterruptible and an interruptible wait for completion 0.
 const WAIT: Call = Call::WaitFor {
@@ -63,9 +17,9 @@ const SIGNALLED_WAIT: Call = Call::WaitFor {
 };
 
 /// Where the done count of completion 0 stands, and the word of its head.
-const DONE: u32 = 1153 + 64;
+const DONE: u32 = CONDITION_AT + FIRST_DONE as u32;
 
-const HEAD: u32 = 769 + 320;
+const HEAD: u32 = HEAD_AT + FIRST_DONE_HEAD as u32;
 
 #[test]
 fn completions_are_counted(rt: HostRuntime) -> Result<(), Fail> {
@@ -105,8 +59,8 @@ fn one_permit_wakes_the_first_of_two_waiters(rt: HostRuntime) -> Result<(), Fail
     assert!(rt; matches!(made(&mut core, 3), Some(Event::Unqueue { who: 1 })));
     assert_eq!(rt; goes_on(&mut core, 3), (1, Some(0)));
     assert_eq!(rt; core.word_at(HEAD), 4);
-    assert_eq!(rt; core.word_at(129 + 2), 0);
-    assert!(rt; core.word_at(129 + 4) != 0);
+    assert_eq!(rt; core.word_at(ENTRY_AT + 2), 0);
+    assert!(rt; core.word_at(ENTRY_AT + 4) != 0);
     assert_eq!(rt; goes_on(&mut core, 1), (5, Some(0)));
     assert_eq!(rt; core.word_at(DONE), 0);
     Ok(())
@@ -153,7 +107,7 @@ fn simple_wakes_take_entries_off_whatever_they_answer(rt: HostRuntime) -> Result
     assert_eq!(rt; goes_on(&mut core, 4), (2, Some(1)));
     assert_eq!(rt; ran(&mut core, 4, all), (6, Some(2)));
     assert_eq!(rt; ran(&mut core, 4, one), (2, Some(0)));
-    assert_eq!(rt; core.word_at(769 + 306), 4);
+    assert_eq!(rt; core.word_at(HEAD_AT + 306), 4);
     Ok(())
 }
 

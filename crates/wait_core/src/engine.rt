@@ -1,9 +1,11 @@
 //! A core: the words of tasks, heads and conditions, the open calls, and the run that led to them.
 
-ghost use Rattle.std.specs.Prelude.{◌≡◌, ◌+◌, ◌<◌, ◌≤◌, ◌++◌, ◌∷◌, ◌^◌, [], IfOk, IfSome, IsTrue, ◌↔◌, length, vec_capacity, nat_lt, ◌*◌, ℕ, slice_index, slice_get};
+ghost use Rattle.std.specs.Prelude.{◌≡◌, ◌+◌, ◌<◌, ◌≤◌, ◌++◌, ◌∷◌, ◌^◌, [], IfOk, IfSome, IsTrue, ◌↔◌, length};
+ghost use Rattle.std.specs.Prelude.{vec_capacity, nat_lt};
+ghost use Rattle.std.specs.Prelude.{◌*◌, ℕ, slice_index, slice_get};
+ghost use Rattle.wait_model.specs.declared.layout.TheConstants.{MEMBERS, WORDS, PLACES};
 ghost use Rattle.wait_model.specs.Locations.{Shows};
 ghost use Rattle.wait_model.specs.Tables.{start};
-ghost use Rattle.wait_model.specs.Tasks.{task_count};
 ghost use Rattle.wait_model.specs.Runs.{is_open, progress_at};
 ghost use Rattle.wait_model.specs.Admission.{IsListed};
 ghost use Rattle.wait_model.specs.declared.points.Point.{Point};
@@ -11,26 +13,21 @@ ghost use Rattle.wait_model.specs.declared.points.Progress.TheVariants as now;
 ghost use Rattle.wait_core.specs.Ended.{answer_of};
 ghost use Rattle.wait_core.specs.Spoken.{EndsSentence};
 
-use crate::changes::change_by;
-use crate::index::{MEMBERS, Standing, reindex};
+use crate::changes::{change_by, class_at};
+use crate::index::{RankedMember, reindex};
 use crate::keepers::{keep, keeps_of, no_keepers};
-use crate::reads::{entry_at, held_head, plan, task_at};
+use crate::reads::{arrived_at, held_head, plan, read_entry, read_task};
 use crate::scan::member_ranked;
 use std::alloc::{AllocError, Global};
 use std::marker::Model;
 use thiserror::Error;
 use wait_model::admission::{is_in_range, is_queued_twice, lacks_bit, lacks_entry};
 use wait_model::calls::{Answer, Call, Event, Ran};
+use wait_model::layout::{ENTRY_AT, EVENTS, MEMBERS, RUN_ITEMS, RUNNABLE, TASK_AT, TASKS, WORDS};
 use wait_model::points::{Next, Progress};
 use wait_model::programs::start_of;
 use wait_model::queues::Member;
-use wait_model::tasks::{TASKS, Task};
-use wait_model::words::WORDS;
-
-/// How many events a core makes.
-pub const EVENTS: u32 = 1_000_000;
-/// How many items its run has room for.
-pub const ITEMS: usize = 2_000_128;
+use wait_model::tasks::TaskRecord;
 
 /// What a step did.
 #[derive(Clone, Copy)]
@@ -45,8 +42,6 @@ pub enum Stepped {
 /// Why a call was not opened.
 #[derive(Clone, Copy, Debug, Error)]
 pub enum StartFault {
-    #[error("there is no such task")]
-    NoSuchTask = 1,
     #[error("the task's last call has not ended")]
     CallOpen = 2,
     #[error("a number or a condition of the call is out of its range")]
@@ -67,9 +62,9 @@ pub struct Core {
     run: Vec<Ran>,
     made: u32,
     /// The task that keeps each bit.
-    keepers: Vec<u8>,
+    keepers: Vec<Option<u8>>,
     /// The members of all queues, by rising head and rank.
-    index: Vec<Standing>,
+    index: Vec<RankedMember>,
 }
 
 impl Model for Core {
@@ -81,7 +76,8 @@ impl Model for Core {
 
     ghost view = { λ c. c.run.items };
 
-    ghost invariant = { λ c. IsIndexedCore c.words.items c.progress.items c.run.items c.made (vec_capacity c.run) c.keepers.items c.index.items (vec_capacity c.index) };
+    ghost invariant = { λ c. IsIndexedCore c.words.items c.progress.items c.run.items c.made (vec_capacity c.run)
+        c.keepers.items c.index.items (vec_capacity c.index) };
 }
 
 impl Core {
@@ -113,9 +109,9 @@ impl Core {
     {
         let words = first_words(alloc)?;
         let progress = nobody(alloc, usize::from(TASKS))?;
-        let run = Vec::with_capacity(alloc, ITEMS)?;
+        let run = Vec::with_capacity(alloc, RUN_ITEMS)?;
         let keepers = no_keepers(alloc)?;
-        let index = Vec::with_capacity(alloc, MEMBERS)?;
+        let index = Vec::with_capacity(alloc, usize::from(MEMBERS))?;
         Ok(Core {
             words,
             progress,
@@ -128,7 +124,6 @@ impl Core {
 
     /// Whether a task's call is open; `None` where it never had one, that is, where the run has opened none.
     pub fn call_of(&self, task: u8) -> Option<bool>
-        requires { task < task_count }
         ensures call { result ≡ call_shown ((state_of self.now).progress task) }
         ensures never { IsNone result ↔ (IsOpened task self.now → ⊥) }
     {
@@ -139,7 +134,7 @@ impl Core {
         }
     }
 
-    /// How many events were made, at most 1,000,000.
+    /// How many events were made, at most `EVENTS`.
     pub fn made(&self) -> u32
         ensures { result ≡ made_in self.now }
     {
@@ -147,11 +142,10 @@ impl Core {
     }
 
     /// A task's record.
-    pub fn task_of(&self, task: u8) -> Task
-        requires { task < task_count }
+    pub fn task_of(&self, task: u8) -> TaskRecord
         ensures { result ≡ (state_of self.now).table.task task }
     {
-        task_at(&self.words, task)
+        read_task(&self.words, task)
     }
 
     /// The next member of a head from a rank on, or `None` where it has none from there on. Its members are exactly
@@ -160,7 +154,7 @@ impl Core {
     pub fn member_from(&self, head: u16, least: u64) -> Option<Member>
         ensures next { IsNextAt (state_of self.now).table head least result }
         ensures member { result ≡ member_from least ((state_of self.now).queue head) }
-        ensures fits { IfSome result (λ m. (m.at < 384) × (least ≤ rank m) × (m.place < 2 ^ 40)) }
+        ensures fits { IfSome result (λ m. (m.at < MEMBERS) × (least ≤ rank m) × (m.place < PLACES)) }
         ensures order { IsInOrder ((state_of self.now).queue head) }
     {
         member_ranked(&self.words, &self.index, head, least)
@@ -168,8 +162,9 @@ impl Core {
 
     /// The word at a position.
     pub fn word_at(&self, position: u32) -> u64
-        requires { position < 9873 }
-        ensures { (l : Location) → IsLocation l → position_of l ≡ position → result ≡ word_in (state_of self.now).table l }
+        requires { position < WORDS }
+        ensures { (l : Location) → IsLocation l → position_of l ≡ position
+            → result ≡ word_in (state_of self.now).table l }
     {
         self.words[position as usize]
     }
@@ -189,11 +184,11 @@ impl Core {
 
     /// The run of any core is orderly. A walk with a count above 0 has selected at most that count, and its answer
     /// tells how many. A wake of one of a simple queue and a `complete` have taken off at most one entry, and the
-    /// answer of a wake of a simple queue tells how many it took off. A wait that ends with -512 does so by a load of
-    /// its condition that found it not set, in a turn that a signal ended, with its entry off. A wait for a bit that
-    /// ends with -4 found the bit set in a turn that a signal ended, and one that takes the bit has tried once more
-    /// and found it set. And each task has accepted, or has pending, at most the signals that were raised at it, and
-    /// the same of fatal ones.
+    /// answer of a wake of a simple queue tells how many it took off. A wait that ends with `RESTART` does so by a load
+    /// of its condition that found it not set, in a turn that a signal ended, with its entry off. A wait for a bit that
+    /// ends with `INTERRUPTED` found the bit set in a turn that a signal ended, and one that takes the bit has tried
+    /// once more and found it set. And each task has accepted, or has pending, at most the signals that were raised at
+    /// it, and the same of fatal ones.
     pub fn is_orderly(&self)
         ensures { IsOrderly self.now }
     {
@@ -224,7 +219,7 @@ impl Core {
     }
 
     /// Opens a call of a task; it makes no event. Refused by the first of these that stands, and then
-    /// nothing changes: there is no such task; its call has not ended; a number or a condition is out of
+    /// nothing changes: the task's call has not ended; a number or a condition is out of
     /// its range; the bit that it would clear is not one that the task keeps; a call that queues finds the own
     /// entry queued; `remove` or `woken` finds none, or `woken` one of another kind.
     // A script is played in two ways; out of line an opening takes some 25 instructions more.
@@ -234,9 +229,6 @@ impl Core {
         ensures answer { result ≡ started (state_of self.old) task call }
         ensures run { self.new ≡ self.old ++ opened_by task call result }
     {
-        if task >= TASKS {
-            return Err(StartFault::NoSuchTask);
-        }
         let slot = usize::from(task);
         if is_open_at(self.progress[slot]) {
             return Err(StartFault::CallOpen);
@@ -247,7 +239,7 @@ impl Core {
         if lacks_bit(call, keeps_of(&self.keepers, task, call)) {
             return Err(StartFault::NotHeld);
         }
-        let entry = entry_at(&self.words, task);
+        let entry = read_entry(&self.words, task);
         if is_queued_twice(call, entry) {
             return Err(StartFault::EntryQueued);
         }
@@ -265,8 +257,8 @@ impl Core {
     /// Makes a task's next event. What the task has made of a call when it ends follows the call's sentence, and the
     /// call's answer is the one that the sentence gives.
     pub fn step(&mut self, task: u8) -> Stepped
-        requires { task < task_count }
-        ensures answer { result ≡ stepped (state_of self.old) (made_in self.old) task ((state_of self.old).progress task) }
+        ensures answer { result ≡ stepped (state_of self.old) (made_in self.old) task ((state_of self.old).progress
+            task) }
         ensures run { self.new ≡ self.old ++ items_of (state_of self.old) task result }
         ensures sentence { EndsSentence self.old task result }
     {
@@ -274,10 +266,13 @@ impl Core {
         let Progress::Open { call, point } = self.progress[slot] else {
             return Stepped::NoCall;
         };
-        if !task_at(&self.words, task).runnable {
+        if !read_task(&self.words, task).runnable {
             return Stepped::Asleep;
         }
-        let planned = plan(&self.words, &self.index, task, call, point);
+        // No record hands out where the walk goes on beside the plan, nor the class beside the change: together that
+        // takes some 40 instructions an event.
+        let walk = arrived_at(&self.words, &self.index, call, point);
+        let planned = plan(&self.words, &self.index, task, call, point, walk);
         if let Some(head) = held_head(&self.words, planned.event) {
             return Stepped::Busy { head };
         }
@@ -285,9 +280,10 @@ impl Core {
             return Stepped::Full;
         }
         let event = planned.event;
-        let change = change_by(&self.words, &self.index, task, call, point, event);
+        let change = change_by(&self.words, &self.index, task, call, point, event, walk);
         let found = change.found;
-        reindex(&mut self.index, &self.words, change.at, change.left);
+        let class = class_at(task, event);
+        reindex(&mut self.index, &self.words, class, change.left);
         self.words[change.at] = change.left;
         keep(&mut self.keepers, task, event);
         advance(&mut self.progress[slot], planned.next);
@@ -365,8 +361,8 @@ fn first_words(alloc: Global) -> Result<Vec<u64>, AllocError>
     ensures { IfOk result (λ words. Shows words.items start) }
 {
     let mut words = zeros(alloc, WORDS)?;
-    for task in 1..129usize {
-        words[task] = 0x1_0000;
+    for at in TASK_AT..ENTRY_AT {
+        words[at as usize] = RUNNABLE;
     }
     Ok(words)
 }

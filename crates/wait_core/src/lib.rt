@@ -13,6 +13,8 @@ mod keepers;
 mod reads;
 mod scan;
 #[cfg(test)]
+mod test_steps;
+#[cfg(test)]
 mod tests;
 
 pub use engine::{Core, StartFault, Stepped};

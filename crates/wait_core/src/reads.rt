@@ -1,8 +1,9 @@
 //! What a task finds in the words, and the event that it makes next.
 
 ghost use Rattle.std.specs.Prelude.{◌≡◌, ℕ, ◌+◌, ◌*◌, ◌<◌, ◌≤◌, ◌^◌, ◌-◌, IfSome, length, false};
-ghost use Rattle.wait_model.specs.Tasks.{task_count};
-ghost use Rattle.wait_model.specs.Runs.{State, seen_by, arrives_at, walk_member, members_at, called_by, planned, busy_head, own};
+ghost use Rattle.wait_model.specs.declared.layout.TheConstants.{TASKS, ENTRIES, HEADS, WORDS, PLACES};
+ghost use Rattle.wait_model.specs.Runs.{State, seen_by, arrives_at, walk_member, members_at, called_by, planned};
+ghost use Rattle.wait_model.specs.Runs.{busy_head, own};
 ghost use Rattle.wait_model.specs.Shown.{IsInRange};
 ghost use Rattle.wait_model.specs.Locations.{Shows};
 ghost use Rattle.wait_model.specs.Reached.{IsSound};
@@ -15,83 +16,73 @@ ghost use Rattle.wait_core.specs.Index.{IsIndex};
 ghost use Rattle.wait_core.specs.Arrivals.{arrived};
 
 use crate::arrivals::{Arrived, arrive};
-use crate::index::Standing;
+use crate::index::RankedMember;
 use crate::scan::{entry_in, entry_ranked, mark_in, member_ranked};
 use wait_model::calls::{Call, Event};
+use wait_model::layout::SLOTS;
 use wait_model::points::{Planned, Point, Seen, SelectPoint, WalkPoint, about};
+use wait_model::positions;
 use wait_model::programs::next_event;
-use wait_model::queues::{Called, Mark, Member};
-use wait_model::tasks::{Task, task_of};
+use wait_model::queues::{CalledEntry, Mark, Member};
+use wait_model::tasks::{TaskRecord, task_of};
 use wait_model::watches::{Entry, Watch};
-use wait_model::words::{flag_of, held_of, spent_of};
+use wait_model::words::{flag_of, held_of};
 
 /// A task's record.
-pub fn task_at(words: &[u64], who: u8) -> Task
-    requires count { length words.now ≡ 9873 }
-    requires who { who < task_count }
+pub fn read_task(words: &[u64], who: u8) -> TaskRecord
+    requires count { length words.now ≡ WORDS }
     ensures { (s : State) (n : ℕ) → Shows words.now s.table → IsSound s n → result ≡ s.table.task who }
 {
-    task_of(words[1 + usize::from(who)])
+    task_of(words[positions::task_at(who) as usize])
 }
 
 /// A task's entry.
-#[tactic(auto, using(crate::proofs::Found::entry_shown_is))]
-pub fn entry_at(words: &[u64], who: u8) -> Option<Entry>
-    requires count { length words.now ≡ 9873 }
-    requires who { who < task_count }
+#[tactic(auto, using(crate::proofs::FoundMembers::entry_shown_is))]
+pub fn read_entry(words: &[u64], who: u8) -> Option<Entry>
+    requires count { length words.now ≡ WORDS }
     ensures { (s : State) (n : ℕ) → Shows words.now s.table → IsSound s n → result ≡ s.table.entry (own who) }
 {
-    entry_in(words, 2 * u16::from(who))
+    entry_in(words, SLOTS * u16::from(who))
 }
 
 /// Whether the flag of a task's entry is set.
-#[tactic(auto, using(crate::proofs::Found::flag_word_is))]
-pub fn flag_at(words: &[u64], who: u8) -> bool
-    requires count { length words.now ≡ 9873 }
-    requires who { who < task_count }
+#[tactic(auto, using(crate::proofs::FoundMembers::flag_word_is))]
+pub fn read_flag(words: &[u64], who: u8) -> bool
+    requires count { length words.now ≡ WORDS }
     ensures { (s : State) → Shows words.now s.table → result ≡ s.table.flag (own who) }
 {
-    flag_of(words[385 + 2 * usize::from(who)])
+    flag_of(words[positions::flag_at(who, 0) as usize])
 }
 
 /// The value of a condition's word.
-#[tactic(auto, using(crate::proofs::Found::value_is, crate::proofs::Found::number_small))]
+#[tactic(auto, using(crate::proofs::FoundMembers::value_is, crate::proofs::FoundMembers::number_small))]
 pub fn value_at(words: &[u64], watch: Watch) -> u64
-    requires count { length words.now ≡ 9873 }
+    requires count { length words.now ≡ WORDS }
     requires watch { IsThere watch }
     ensures { (s : State) → Shows words.now s.table → result ≡ value_of s.table.words watch }
 {
-    words[1153 + usize::from(watch.number())]
+    words[positions::cond_at(watch) as usize]
 }
 
 /// Whether a head's lock is held.
-#[tactic(auto, using(crate::proofs::Found::held_word_is))]
+#[tactic(auto, using(crate::proofs::FoundMembers::held_word_is))]
 pub fn is_held(words: &[u64], head: u16) -> bool
-    requires count { length words.now ≡ 9873 }
-    requires head { head < 384 }
+    requires count { length words.now ≡ WORDS }
+    requires head { head < HEADS }
     ensures { (s : State) → Shows words.now s.table → result ≡ s.table.holder head }
 {
-    held_of(words[769 + usize::from(head)])
-}
-
-/// How often a walk of a head used up its count.
-#[tactic(auto, using(crate::proofs::Found::spent_word_is))]
-pub fn spent_at(words: &[u64], head: u16) -> u64
-    requires count { length words.now ≡ 9873 }
-    requires head { head < 384 }
-    ensures spent { (s : State) → Shows words.now s.table → result ≡ s.table.spent head }
-    ensures fits { result < 2 ^ 62 }
-{
-    spent_of(words[769 + usize::from(head)])
+    held_of(words[positions::head_at(head) as usize])
 }
 
 /// Where the walk of a call goes on.
-fn arrived_at(words: &[u64], index: &[Standing], call: Call, point: Point) -> Arrived
-    requires count { length words.now ≡ 9873 }
+pub fn arrived_at(words: &[u64], index: &[RankedMember], call: Call, point: Point) -> Arrived
+    requires count { length words.now ≡ WORDS }
     requires index { IsIndex (shown_stand words.now) index.now }
     requires point { IsFitting point }
-    ensures arrived { (s : State) (n : ℕ) → Shows words.now s.table → IsSound s n → result ≡ arrived (arrives_at s.table.entry call point (s.queue (call_head call))) }
-    ensures entry { result.breaks ≡ false → IfSome result.member (λ m. m.at < 256) }
+    ensures arrived { (s : State) (n : ℕ) → Shows words.now s.table → IsSound s n
+        → result ≡ arrived (arrives_at s.table.entry call point (s.queue (call_head call))) }
+    ensures member { IfSome result.member (λ m. m.place < PLACES) }
+    ensures entry { result.breaks ≡ false → IfSome result.member (λ m. m.at < ENTRIES) }
     ensures calls { result.calls < 2 ^ 32 - 1 }
 {
     match point {
@@ -114,16 +105,18 @@ fn arrived_at(words: &[u64], index: &[Standing], call: Call, point: Point) -> Ar
 /// The member that a walk calls next, or that a selection takes.
 fn walk_at(
     words: &[u64],
-    index: &[Standing],
+    index: &[RankedMember],
     call: Call,
     point: Point,
     walk: Arrived,
 ) -> Option<Member>
-    requires count { length words.now ≡ 9873 }
+    requires count { length words.now ≡ WORDS }
     requires index { IsIndex (shown_stand words.now) index.now }
-    requires entry { walk.breaks ≡ false → IfSome walk.member (λ m. m.at < 256) }
-    ensures member { (s : State) (n : ℕ) → Shows words.now s.table → IsSound s n → walk ≡ arrived (arrives_at s.table.entry call point (s.queue (call_head call))) → result ≡ walk_member s.table.entry call point (s.queue (call_head call)) }
-    ensures fits { IfSome result (λ m. m.at < 256) }
+    requires entry { walk.breaks ≡ false → IfSome walk.member (λ m. m.at < ENTRIES) }
+    ensures member { (s : State) (n : ℕ) → Shows words.now s.table → IsSound s n
+        → walk ≡ arrived (arrives_at s.table.entry call point (s.queue (call_head call)))
+        → result ≡ walk_member s.table.entry call point (s.queue (call_head call)) }
+    ensures fits { IfSome result (λ m. m.at < ENTRIES) }
 {
     match point {
         Point::Walk(WalkPoint::Call(_)) => if walk.breaks { None } else { walk.member },
@@ -133,10 +126,11 @@ fn walk_at(
 }
 
 /// Whether the head of a call has members, where the call looks for them.
-fn has_members(words: &[u64], index: &[Standing], call: Call, point: Point) -> bool
-    requires count { length words.now ≡ 9873 }
+fn has_members(words: &[u64], index: &[RankedMember], call: Call, point: Point) -> bool
+    requires count { length words.now ≡ WORDS }
     requires index { IsIndex (shown_stand words.now) index.now }
-    ensures { (s : State) (n : ℕ) → Shows words.now s.table → IsSound s n → result ≡ members_at point (s.queue (call_head call)) }
+    ensures { (s : State) (n : ℕ) → Shows words.now s.table → IsSound s n
+        → result ≡ members_at point (s.queue (call_head call)) }
 {
     match point {
         Point::Active => member_ranked(words, index, call.head(), 0).is_some(),
@@ -145,28 +139,28 @@ fn has_members(words: &[u64], index: &[Standing], call: Call, point: Point) -> b
 }
 
 /// A task's bookmark.
-#[tactic(auto, using(crate::proofs::Found::mark_shown_is))]
-fn own_mark_at(words: &[u64], who: u8) -> Option<Mark>
-    requires count { length words.now ≡ 9873 }
-    requires who { who < task_count }
+#[tactic(auto, using(crate::proofs::FoundMembers::mark_shown_is))]
+fn read_mark(words: &[u64], who: u8) -> Option<Mark>
+    requires count { length words.now ≡ WORDS }
     ensures { (s : State) (n : ℕ) → Shows words.now s.table → IsSound s n → result ≡ s.table.mark who }
 {
-    mark_in(words, u16::from(who))
+    mark_in(words, who)
 }
 
 /// The entry of a member, and whose it is.
-#[tactic(auto, using(crate::proofs::Found::entry_shown_is))]
-fn called_in(words: &[u64], member: Option<Member>) -> Option<Called>
-    requires count { length words.now ≡ 9873 }
-    requires member { IfSome member (λ m. m.at < 256) }
-    ensures called { (s : State) (n : ℕ) → Shows words.now s.table → IsSound s n → result ≡ called_by s.table.entry member }
-    ensures fits { IfSome result (λ c. (c.who < task_count) × (c.place < 2 ^ 40)) }
+#[tactic(auto, using(crate::proofs::FoundMembers::entry_shown_is))]
+fn called_in(words: &[u64], member: Option<Member>) -> Option<CalledEntry>
+    requires count { length words.now ≡ WORDS }
+    requires member { IfSome member (λ m. m.at < ENTRIES) }
+    ensures called { (s : State) (n : ℕ) → Shows words.now s.table → IsSound s n
+        → result ≡ called_by s.table.entry member }
+    ensures fits { IfSome result (λ c. (c.who < TASKS) × (c.place < PLACES)) }
 {
     match member {
         None => None,
         Some(member) => match entry_in(words, member.at) {
             None => None,
-            Some(entry) => Some(Called {
+            Some(entry) => Some(CalledEntry {
                 place: entry.place,
                 who: member.owner(),
                 exclusive: entry.exclusive,
@@ -176,50 +170,69 @@ fn called_in(words: &[u64], member: Option<Member>) -> Option<Called>
     }
 }
 
-/// What a task finds at its next event.
-pub fn seen_at(words: &[u64], index: &[Standing], me: u8, call: Call, point: Point) -> Seen
-    requires count { length words.now ≡ 9873 }
+/// What a task finds at its next event, by where its walk goes on.
+fn seen_at(
+    words: &[u64],
+    index: &[RankedMember],
+    me: u8,
+    call: Call,
+    point: Point,
+    walk: Arrived,
+) -> Seen
+    requires count { length words.now ≡ WORDS }
     requires index { IsIndex (shown_stand words.now) index.now }
-    requires me { me < task_count }
     requires call { IsThere (call_watch call) }
     requires point { IsReachable call point × IsFitting point }
-    ensures seen { (s : State) (n : ℕ) → Shows words.now s.table → IsSound s n → result ≡ seen_by s me call point }
-    ensures called { IfSome result.called (λ c. c.place < 2 ^ 40) }
+    requires entry { walk.breaks ≡ false → IfSome walk.member (λ m. m.at < ENTRIES) }
+    requires calls { walk.calls < 2 ^ 32 - 1 }
+    ensures seen { (s : State) (n : ℕ) → Shows words.now s.table → IsSound s n
+        → walk ≡ arrived (arrives_at s.table.entry call point (s.queue (call_head call)))
+        → result ≡ seen_by s me call point }
+    ensures called { IfSome result.called (λ c. c.place < PLACES) }
     ensures calls { result.calls < 2 ^ 32 - 1 }
 {
-    let walk = arrived_at(words, index, call, point);
     let called = called_in(words, walk_at(words, index, call, point, walk));
     Seen {
-        own: task_at(words, me),
-        entry: entry_at(words, me),
-        flag: flag_at(words, me),
+        own: read_task(words, me),
+        entry: read_entry(words, me),
+        flag: read_flag(words, me),
         value: value_at(words, call.watch()),
         called,
         breaks: walk.breaks,
         calls: walk.calls,
         members: has_members(words, index, call, point),
         worn: false,
-        mark: own_mark_at(words, me),
-        other: task_at(words, about(call, point, called)),
+        mark: read_mark(words, me),
+        other: read_task(words, about(call, point, called)),
     }
 }
 
-/// The next event of a task's open call, and where its program goes.
-pub fn plan(words: &[u64], index: &[Standing], me: u8, call: Call, point: Point) -> Planned
-    requires count { length words.now ≡ 9873 }
+/// The next event of a task's open call, and where its program goes, by where its walk goes on.
+pub fn plan(
+    words: &[u64],
+    index: &[RankedMember],
+    me: u8,
+    call: Call,
+    point: Point,
+    walk: Arrived,
+) -> Planned
+    requires count { length words.now ≡ WORDS }
     requires index { IsIndex (shown_stand words.now) index.now }
-    requires me { me < task_count }
     requires call { IsThere (call_watch call) }
     requires point { IsReachable call point × IsFitting point }
-    ensures { (s : State) (n : ℕ) → Shows words.now s.table → IsSound s n → result ≡ planned s me call point }
+    requires entry { walk.breaks ≡ false → IfSome walk.member (λ m. m.at < ENTRIES) }
+    requires calls { walk.calls < 2 ^ 32 - 1 }
+    ensures { (s : State) (n : ℕ) → Shows words.now s.table → IsSound s n
+        → walk ≡ arrived (arrives_at s.table.entry call point (s.queue (call_head call)))
+        → result ≡ planned s me call point }
 {
-    let seen = seen_at(words, index, me, call, point);
+    let seen = seen_at(words, index, me, call, point, walk);
     next_event(me, call, point, seen)
 }
 
 /// The head whose lock the event would take while it is held.
 pub fn held_head(words: &[u64], event: Event) -> Option<u16>
-    requires count { length words.now ≡ 9873 }
+    requires count { length words.now ≡ WORDS }
     requires head { IsInRange event }
     ensures { (s : State) → Shows words.now s.table → result ≡ busy_head s event }
 {

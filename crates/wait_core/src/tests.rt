@@ -1,9 +1,10 @@
-ghost use Rattle.std.specs.Prelude.{◌<◌, ◌≤◌};
 ghost use Rattle.wait_model.specs.Admission.{IsListed};
 
 use crate::engine::{Core, StartFault, Stepped};
+use crate::test_steps::made;
 use std::test::Fail;
 use wait_model::calls::{Answer, Call, Event};
+use wait_model::layout::{BOOKMARK_AT, CONDITION_AT, ENTRY_AT, FLAG_AT, HEAD_AT};
 use wait_model::queues::{End, Form, Walked};
 use wait_model::tasks::{How, Sleep, SleepState};
 use wait_model::watches::{Kind, Mode};
@@ -41,9 +42,7 @@ const WAKE: Call = Call::Wake {
 };
 
 /// Makes up to `most` events of a task, and answers how many it made.
-fn steps(core: &mut Core, task: u8, most: u32) -> u32
-    requires { task < 128 }
-{
+fn steps(core: &mut Core, task: u8, most: u32) -> u32 {
     for before in 0..most {
         match core.step(task) {
             Stepped::Made { event, ended } => {
@@ -64,20 +63,8 @@ fn steps(core: &mut Core, task: u8, most: u32) -> u32
     most
 }
 
-/// Makes one event of a task.
-fn made(core: &mut Core, task: u8) -> Option<Event>
-    requires { task < 128 }
-{
-    match core.step(task) {
-        Stepped::Made { event, .. } => Some(event),
-        _ => None,
-    }
-}
-
 /// What a walk answers that ends with its next event.
-fn walked(core: &mut Core, task: u8) -> Option<Walked>
-    requires { task < 128 }
-{
+fn walked(core: &mut Core, task: u8) -> Option<Walked> {
     match core.step(task) {
         Stepped::Made {
             ended: Some(Answer::Walk(walked)),
@@ -98,7 +85,7 @@ fn one_waiter_set_and_wake(rt: HostRuntime) -> Result<(), Fail> {
     assert_eq!(rt; steps(&mut core, 2, 99), 4);
     assert_eq!(rt; steps(&mut core, 1, 99), 10);
     assert_eq!(rt; core.ran().len(), 25);
-    assert_eq!(rt; core.word_at(1153), 1);
+    assert_eq!(rt; core.word_at(CONDITION_AT), 1);
     Ok(())
 }
 
@@ -140,9 +127,9 @@ fn wake_of_one_passes_plain_waiters_and_stops_behind_an_exclusive_one(
             })
         )
     );
-    assert_eq!(rt; core.word_at(769 + 256), 4);
-    assert_eq!(rt; core.word_at(129 + 2), 0);
-    assert!(rt; core.word_at(129 + 4) != 0);
+    assert_eq!(rt; core.word_at(HEAD_AT + 256), 4);
+    assert_eq!(rt; core.word_at(ENTRY_AT + 2), 0);
+    assert!(rt; core.word_at(ENTRY_AT + 4) != 0);
     Ok(())
 }
 
@@ -181,7 +168,7 @@ fn flag_that_was_set_before_the_state_is_found(rt: HostRuntime) -> Result<(), Fa
     assert!(rt; matches!(made(&mut core, 1), Some(Event::Unflag)));
     assert!(rt; core.start(1, Call::Remove).is_ok());
     assert_eq!(rt; steps(&mut core, 1, 99), 3);
-    assert_eq!(rt; core.word_at(385 + 2), 0);
+    assert_eq!(rt; core.word_at(FLAG_AT + 2), 0);
     Ok(())
 }
 
@@ -196,7 +183,7 @@ fn calls_on_the_own_entry_are_refused_where_it_is_not_as_they_want(
     assert!(rt; matches!(core.start(1, PLAIN), Err(StartFault::EntryQueued)));
     assert!(rt;
         matches!(
-            core.start(1, Call::Kick { who: 128 }),
+            core.start(1, Call::Set { cond: 64, value: 1 }),
             Err(StartFault::NoSuchCond)
         )
     );
@@ -204,9 +191,7 @@ fn calls_on_the_own_entry_are_refused_where_it_is_not_as_they_want(
 }
 
 /// Tasks below a number add an entry at the front of condition 0, one after another.
-fn add_many(core: &mut Core, count: u8)
-    requires { count ≤ 128 }
-{
+fn add_many(core: &mut Core, count: u8) {
     for task in 0..count {
         let call = Call::Add {
             cond: 0,
@@ -220,9 +205,7 @@ fn add_many(core: &mut Core, count: u8)
 
 /// Task 100 wakes condition 0 after so many tasks have added an entry. Answers the events of the wake, and
 /// what it did.
-fn walk_over(core: &mut Core, count: u8) -> (u32, Option<Answer>)
-    requires { count ≤ 128 }
-{
+fn walk_over(core: &mut Core, count: u8) -> (u32, Option<Answer>) {
     add_many(core, count);
     let _ = core.start(100, WAKE);
     for before in 0..999u32 {
@@ -270,11 +253,11 @@ fn entry_that_moves_during_a_break_is_not_called(rt: HostRuntime) -> Result<(), 
     add_many(&mut core, 66);
     assert!(rt; core.start(100, WAKE).is_ok());
     assert_eq!(rt; steps(&mut core, 100, 68), 68);
-    assert!(rt; core.word_at(741) != 0);
+    assert!(rt; core.word_at(BOOKMARK_AT + 100) != 0);
     assert!(rt; core.start(0, Call::Remove).is_ok());
     assert_eq!(rt; steps(&mut core, 0, 99), 3);
     add_many(&mut core, 1);
     assert_eq!(rt; steps(&mut core, 100, 999), 3);
-    assert_eq!(rt; core.word_at(741), 0);
+    assert_eq!(rt; core.word_at(BOOKMARK_AT + 100), 0);
     Ok(())
 }

@@ -1,5 +1,6 @@
 use Rattle.std.proofs.Common.{◌≤◌, arith}
-use Rattle.wait_core.proofs.Arrived.{walk_begins, walk_ends, walk_calls, walk_passes, walk_breaks}
+use Rattle.wait_model.specs.declared.layout.TheConstants.{BREAK}
+use Rattle.wait_core.proofs.ScannedArrivals.{walk_begins, walk_ends, walk_calls, walk_passes, walk_breaks}
 use Rattle.wait_core.proofs.arrivals.arrive.Goals as goal
 
 pub loop-calls-init : goal.loop-calls-init
@@ -28,7 +29,7 @@ loop-calls-preserved c = record {
       (c.loop-calls.invariant.goes_on s n shown sound) c.loop-calls-test.true c.in-Some.member
       (c.in-Some.ensures.member s n shown sound) _ (c.is_called.ensures s n shown sound) _
       (omega (arith, c.rank-least.ensures)) c.if-is_called.false;
-  fits = λ h. let few : c.loop-calls.calls ≤ 64 = c.loop-calls-test.true in omega arith;
+  fits = λ h. let few : c.loop-calls.calls ≤ BREAK = c.loop-calls-test.true in omega arith;
 }
 
 pub returns-clause-arrived : goal.returns-clause-arrived

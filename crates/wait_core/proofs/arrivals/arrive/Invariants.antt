@@ -1,4 +1,5 @@
-use Rattle.std.specs.Prelude.{◌≡◌, ◌<◌, ◌-◌, ◌^◌, ℕ}
+use Rattle.std.specs.Prelude.{◌≡◌, ◌<◌, ◌+◌, ◌-◌, ◌^◌, ℕ}
+use Rattle.wait_model.specs.declared.layout.TheConstants.{BREAK}
 use Rattle.wait_model.specs.Runs.{State, arrives_from}
 use Rattle.wait_model.specs.Watches.{is_for}
 use Rattle.wait_model.specs.Queues.{arrive, members_from}
@@ -6,7 +7,7 @@ use Rattle.wait_model.specs.Locations.{Shows}
 use Rattle.wait_model.specs.Reached.{IsSound}
 use Rattle.wait_core.proofs.arrivals.arrive.Given as goal
 
--- the walk goes on as from this rank on, behind so many calls
+-- the walk goes on as from this rank on, after so many calls
 abbrev pub invariant-loop-calls : goal.invariant-loop-calls
 invariant-loop-calls l = record {
   goes_on : (s : State) (n : ℕ) → Shows l.words s.table → IsSound s n
@@ -16,4 +17,4 @@ invariant-loop-calls l = record {
 }
 
 abbrev pub decreases-loop-calls : goal.decreases-loop-calls
-decreases-loop-calls l = 65 - l.calls
+decreases-loop-calls l = BREAK + 1 - l.calls

@@ -1,20 +1,22 @@
-use Rattle.std.proofs.Common.{ap, subst}
-use Rattle.std.specs.Prelude.{◌+◌, slice_index}
+use Rattle.std.proofs.Common.{ap, subst, ◌∙◌}
+use Rattle.std.specs.Prelude.{slice_index}
+use Rattle.wait_model.specs.declared.calls.Event.{Event}
+use Rattle.wait_model.specs.Locations.{position_of, location_of}
 use Rattle.wait_model.specs.Reached.{Allows, Joins}
-use Rattle.wait_core.proofs.Bits.{set_leaves, clear_leaves}
+use Rattle.wait_core.proofs.BitWords.{set_leaves, clear_leaves}
 use Rattle.wait_model.specs.Points.{given_at}
 use Rattle.wait_core.proofs.changes.left_by.Goals as goal
 
 pub returns-in-Tas : goal.returns-in-Tas
-returns-in-Tas c = λ s n shown sound a j.
-    let may = subst (Allows s c.args.me) c.in-Tas.is a in
+returns-in-Tas c = λ s n me mine was shown sound a j marked.
+    let may = subst (Allows s me) c.in-Tas.is a in
     rw c.in-Tas.is (set_leaves c.args.words.now s.table shown c.in-Tas.word c.in-Tas.bit _ may.0 may.1
-    (ap (λ i. slice_index c.args.words.now (1281 + i)) c.from-in-Tas.ensures) _ c.with_bit.ensures _
-    (subst (Joins (given_at c.args.call c.args.point)) c.in-Tas.is j))
+    (was ∙ ap (λ (e : Event). slice_index c.args.words.now (position_of (location_of me e))) c.in-Tas.is) _
+    c.with_bit.ensures _ (subst (Joins (given_at c.args.call c.args.point)) c.in-Tas.is j))
 
 pub returns-in-Clear : goal.returns-in-Clear
-returns-in-Clear c = λ s n shown sound a j.
-    let may = subst (Allows s c.args.me) c.in-Clear.is a in
+returns-in-Clear c = λ s n me mine was shown sound a j marked.
+    let may = subst (Allows s me) c.in-Clear.is a in
     rw c.in-Clear.is (clear_leaves c.args.words.now s.table shown c.in-Clear.word c.in-Clear.bit _ may.0 may.1
-    (ap (λ i. slice_index c.args.words.now (1281 + i)) c.from-in-Clear.ensures) _ c.without_bit.ensures _
-    (subst (Joins (given_at c.args.call c.args.point)) c.in-Clear.is j))
+    (was ∙ ap (λ (e : Event). slice_index c.args.words.now (position_of (location_of me e))) c.in-Clear.is) _
+    c.without_bit.ensures _ (subst (Joins (given_at c.args.call c.args.point)) c.in-Clear.is j))

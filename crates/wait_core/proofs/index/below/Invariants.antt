@@ -1,5 +1,5 @@
 use Rattle.std.specs.Prelude.{ℕ, ◌-◌, ◌<◌, ◌≤◌, length, slice_index_or}
-use Rattle.wait_core.specs.declared.index.Standing.{Standing}
+use Rattle.wait_core.specs.declared.index.RankedMember.{RankedMember}
 use Rattle.wait_core.specs.Index.{key, key_at}
 use Rattle.wait_core.proofs.index.below.Given as goal
 
@@ -7,8 +7,8 @@ abbrev pub invariant-loop-low : goal.invariant-loop-low
 invariant-loop-low l = record {
   order : l.low ≤ l.high;
   within : l.high ≤ length l.index;
-  before : (i : ℕ) (d : Standing) → i < l.low → key (slice_index_or l.index i d) < key_at l.head l.rank;
-  behind : (i : ℕ) (d : Standing) → l.high ≤ i → i < length l.index
+  before : (i : ℕ) (d : RankedMember) → i < l.low → key (slice_index_or l.index i d) < key_at l.head l.rank;
+  behind : (i : ℕ) (d : RankedMember) → l.high ≤ i → i < length l.index
       → key_at l.head l.rank ≤ key (slice_index_or l.index i d);
 }
 

@@ -1,57 +1,62 @@
-use Rattle.std.proofs.Common.{◌≡◌, ℕ, ◌+◌, ◌-◌, ◌<◌, ◌≤◌, ◌∙◌, ap, sym, arith, slice_index}
+use Rattle.std.proofs.Common.{◌≡◌, ◌+◌, ◌<◌, ◌∙◌, ap, sym, subst, arith, None}
+use Rattle.wait_model.specs.declared.layout.TheConstants.{TASKS, ENTRIES}
 use Rattle.wait_model.specs.Queues.{stand_by}
-use Rattle.wait_model.specs.Words.{entry_of}
-use Rattle.wait_model.specs.Tables.{mark_of}
 use Rattle.wait_model.specs.Functions.{put}
-use Rattle.std.proofs.Common.{None}
+use Rattle.wait_model.specs.Locations.{Entry, Bookmark, position_of}
 use Rattle.wait_core.specs.Scan.{shown_stand}
-use Rattle.wait_core.proofs.Indexed.{entry_changed, mark_changed, entry_stood, mark_stood, emptied}
+use Rattle.wait_core.specs.Index.{IsClass}
+use Rattle.wait_core.proofs.IndexChanges.{
+  entry_changed,
+  mark_changed,
+  entry_stood,
+  mark_stood,
+  emptied,
+  entry_class,
+  mark_class,
+  untouched,
+}
 use Rattle.wait_core.proofs.index.reindex.Goals as goal
 
 pub put_in-requires-clause-index : goal.put_in-requires-clause-index
 put_in-requires-clause-index c =
-    let n = c.args.at - 129 in
-    let a : 129 ≤ c.args.at = c.if-at-ge129.true in
-    let b : c.args.at < 385 = c.if-at-lt385.true in
-    let e : 129 + n ≡ c.args.at = omega arith in
+    let small : c.in-Entry.at < ENTRIES = subst IsClass c.in-Entry.is c.requires.class in
     (c.take_out.ensures.index (shown_stand c.args.words.now) c.requires.index
-    (entry_stood c.args.words.now c.requires.count c.args.at c.args.left c.args.index.now.items n (omega arith)
-    ∙ ap (λ (i : ℕ). stand_by (entry_of (slice_index c.args.words.now i))) e ∙ sym c.entry_stand.ensures.stand)).order
+    (entry_stood c.args.words.now c.in-Entry.at small ∙ ap stand_by (sym c.entry_in.ensures.entry)
+    ∙ sym c.entry_stand.ensures.stand)).order
 
-pub returns-then-at-lt385-clause-index : goal.returns-then-at-lt385-clause-index
-returns-then-at-lt385-clause-index c =
-    let n = c.args.at - 129 in
-    let a : 129 ≤ c.args.at = c.if-at-ge129.true in
-    let b : c.args.at < 385 = c.if-at-lt385.true in
-    let e : 129 + n ≡ c.args.at = omega arith in
+pub returns-in-Entry-clause-index : goal.returns-in-Entry-clause-index
+returns-in-Entry-clause-index c = λ l there is.
+    let x = c.in-Entry.at in
+    let small : x < ENTRIES = subst IsClass c.in-Entry.is c.requires.class in
     let out = c.take_out.ensures.index (shown_stand c.args.words.now) c.requires.index
-    (entry_stood c.args.words.now c.requires.count c.args.at c.args.left c.args.index.now.items n (omega arith)
-    ∙ ap (λ (i : ℕ). stand_by (entry_of (slice_index c.args.words.now i))) e ∙ sym c.entry_stand.ensures.stand) in
-    let new = c.put_in.ensures.index (put (shown_stand c.args.words.now) n None) out
-    (emptied (shown_stand c.args.words.now) n) in
-    entry_changed c.args.words.now c.requires.count c.args.at c.args.left c.put_in.new.index.items n
-    (omega arith) (omega arith) (rw c.entry_stand-then-at-lt385.ensures.stand at new)
+    (entry_stood c.args.words.now x small ∙ ap stand_by (sym c.entry_in.ensures.entry)
+    ∙ sym c.entry_stand.ensures.stand) in
+    let new = c.put_in.ensures.index (put (shown_stand c.args.words.now) x None) out
+    (emptied (shown_stand c.args.words.now) x) in
+    rw (entry_class l x (is ∙ c.in-Entry.is)) (entry_changed c.args.words.now c.requires.count
+    (position_of (Entry x)) c.args.left c.put_in.new.index.items x (omega arith) small
+    (rw (c.entry_stand-in-Entry.ensures.stand, c.entry_by.ensures.entry) at new))
 
-pub put_in-requires-then-at-lt769-clause-index : goal.put_in-requires-then-at-lt769-clause-index
-put_in-requires-then-at-lt769-clause-index c =
-    let n = c.args.at - 385 in
-    let a : 641 ≤ c.args.at = c.if-at-ge641.true in
-    let b : c.args.at < 769 = c.if-at-lt769.true in
-    let e : 641 + (n - 256) ≡ c.args.at = omega arith in
-    (c.take_out-then-at-lt769.ensures.index (shown_stand c.args.words.now) c.requires.index
-    (mark_stood c.args.words.now c.requires.count c.args.at c.args.left c.args.index.now.items n (omega arith)
-    ∙ ap (λ (i : ℕ). mark_of (slice_index c.args.words.now i)) e ∙ sym c.mark_stand.ensures.stand)).order
+pub put_in-requires-in-Bookmark-clause-index : goal.put_in-requires-in-Bookmark-clause-index
+put_in-requires-in-Bookmark-clause-index c =
+    (c.take_out-in-Bookmark.ensures.index (shown_stand c.args.words.now) c.requires.index
+    (mark_stood c.args.words.now (ENTRIES + c.from-number.result) c.in-Bookmark.task
+    (omega (arith, c.from-number.ensures)) ∙ sym c.mark_in.ensures.mark)).order
 
-pub returns-then-at-lt769-clause-index : goal.returns-then-at-lt769-clause-index
-returns-then-at-lt769-clause-index c =
-    let n = c.args.at - 385 in
-    let a : 641 ≤ c.args.at = c.if-at-ge641.true in
-    let b : c.args.at < 769 = c.if-at-lt769.true in
-    let e : 641 + (n - 256) ≡ c.args.at = omega arith in
-    let out = c.take_out-then-at-lt769.ensures.index (shown_stand c.args.words.now) c.requires.index
-    (mark_stood c.args.words.now c.requires.count c.args.at c.args.left c.args.index.now.items n (omega arith)
-    ∙ ap (λ (i : ℕ). mark_of (slice_index c.args.words.now i)) e ∙ sym c.mark_stand.ensures.stand) in
-    let new = c.put_in-then-at-lt769.ensures.index (put (shown_stand c.args.words.now) n None) out
+pub returns-in-Bookmark-clause-index : goal.returns-in-Bookmark-clause-index
+returns-in-Bookmark-clause-index c = λ l there is.
+    let t = c.in-Bookmark.task in
+    let n = ENTRIES + c.from-number.result in
+    let number : n ≡ ENTRIES + t = omega (arith, c.from-number.ensures) in
+    let small : t < TASKS = subst IsClass c.in-Bookmark.is c.requires.class in
+    let out = c.take_out-in-Bookmark.ensures.index (shown_stand c.args.words.now) c.requires.index
+    (mark_stood c.args.words.now n t number ∙ sym c.mark_in.ensures.mark) in
+    let new = c.put_in-in-Bookmark.ensures.index (put (shown_stand c.args.words.now) n None) out
     (emptied (shown_stand c.args.words.now) n) in
-    mark_changed c.args.words.now c.requires.count c.args.at c.args.left c.put_in-then-at-lt769.new.index.items n
-    (omega arith) (omega arith) (omega arith) (rw c.mark_stand-then-at-lt769.ensures.stand at new)
+    rw (mark_class l t (is ∙ c.in-Bookmark.is)) (mark_changed c.args.words.now c.requires.count
+    (position_of (Bookmark t)) c.args.left c.put_in-in-Bookmark.new.index.items n (omega arith)
+    (omega arith) (omega arith) (rw c.mark_by.ensures.mark at new))
+
+pub returns-in-Other-clause-index : goal.returns-in-Other-clause-index
+returns-in-Other-clause-index c = λ l there is. untouched c.args.words.now l c.args.left c.args.index.now.items
+    c.requires.index there (is ∙ c.in-Other.is)

@@ -1,5 +1,5 @@
 use Rattle.std.proofs.Common.{◌∙◌}
-use Rattle.wait_core.proofs.Indexed.{taken_out}
+use Rattle.wait_core.proofs.IndexChanges.{taken_out}
 use Rattle.wait_core.proofs.index.take_out.Goals as goal
 
 pub returns-then-at-len-clause-index : goal.returns-then-at-len-clause-index

@@ -1,6 +1,6 @@
 use Rattle.wait_model.specs.Runs.{state_of}
-use Rattle.wait_core.proofs.Kept.{sound}
-use Rattle.wait_core.proofs.Answered.{shown_in}
+use Rattle.wait_core.proofs.KeptCore.{sound}
+use Rattle.wait_core.proofs.StepAnswers.{shown_in}
 use Rattle.wait_core.proofs.Members.{next_member}
 use Rattle.wait_core.proofs.engine.Core.member_from.Goals as goal
 

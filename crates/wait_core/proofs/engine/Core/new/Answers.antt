@@ -2,7 +2,7 @@ use Rattle.std.proofs.Common.{List, rules, sym, subst, arith}
 use Rattle.wait_model.specs.declared.calls.Ran.{Ran}
 use Rattle.wait_model.specs.Runs.{state_of}
 use Rattle.wait_core.specs.Keepers.{ShowsKeepers}
-use Rattle.wait_core.proofs.Indexed.{start_index}
+use Rattle.wait_core.proofs.IndexChanges.{start_index}
 use Rattle.wait_core.proofs.KeptBits.{start_keepers}
 use Rattle.wait_core.proofs.engine.Core.new.Goals as goal
 

@@ -1,9 +1,9 @@
-use Rattle.std.proofs.Common.{ℕ, List, ◌<◌, ◌∙◌, ap, arith}
+use Rattle.std.proofs.Common.{ℕ, List, Option, ◌<◌, ◌∙◌, ap, arith}
+use Rattle.wait_model.specs.declared.layout.TheConstants.{TASKS}
 use Rattle.wait_model.specs.Runs.{state_of}
-use Rattle.wait_model.specs.Tasks.{task_count}
 use Rattle.wait_core.specs.Keepers.{keeps_shown}
-use Rattle.wait_core.proofs.Kept.{sound}
-use Rattle.wait_core.proofs.Answered.{
+use Rattle.wait_core.proofs.KeptCore.{sound}
+use Rattle.wait_core.proofs.StepAnswers.{
   shown_in,
   room_to_open,
   queued_refused,
@@ -19,10 +19,10 @@ use Rattle.wait_core.proofs.engine.Core.start.Goals as goal
 pub log-requires : goal.log-requires
 log-requires c =
     let core = c.self.invariant.core in
-    let mine : c.args.task < task_count = omega arith in
+    let mine : c.args.task < TASKS = omega arith in
     let keeps = c.keeps_of.ensures
-    ∙ ap (λ (k : List ℕ). keeps_shown k c.args.task c.args.call) c.deref.ensures.value in
-    let entry = c.entry_at-entry.ensures (state_of c.self.inside.run.items) _
+    ∙ ap (λ (k : List (Option ℕ)). keeps_shown k c.args.task c.args.call) c.deref.ensures.value in
+    let entry = c.read_entry-entry.ensures (state_of c.self.inside.run.items) _
     (shown_in _ _ (state_of c.self.inside.run.items) c.deref-2.ensures.value core.shown)
     (sound _ _ _ _ _ core) in
     let may = may_open (state_of c.self.inside.run.items) c.args.task c.args.call c.self.inside.keepers.items
@@ -35,10 +35,10 @@ log-requires c =
 pub invariant_of-self : goal.invariant_of-self
 invariant_of-self c =
     let core = c.self.invariant.core in
-    let mine : c.args.task < task_count = omega arith in
+    let mine : c.args.task < TASKS = omega arith in
     let keeps = c.keeps_of.ensures
-    ∙ ap (λ (k : List ℕ). keeps_shown k c.args.task c.args.call) c.deref.ensures.value in
-    let entry = c.entry_at-entry.ensures (state_of c.self.inside.run.items) _
+    ∙ ap (λ (k : List (Option ℕ)). keeps_shown k c.args.task c.args.call) c.deref.ensures.value in
+    let entry = c.read_entry-entry.ensures (state_of c.self.inside.run.items) _
     (shown_in _ _ (state_of c.self.inside.run.items) c.deref-2.ensures.value core.shown)
     (sound _ _ _ _ _ core) in
     let may = may_open (state_of c.self.inside.run.items) c.args.task c.args.call c.self.inside.keepers.items
@@ -59,10 +59,10 @@ invariant_of-self c =
 pub returns-clause-answer : goal.returns-clause-answer
 returns-clause-answer c =
     let core = c.self.invariant.core in
-    let mine : c.args.task < task_count = omega arith in
+    let mine : c.args.task < TASKS = omega arith in
     let keeps = c.keeps_of.ensures
-    ∙ ap (λ (k : List ℕ). keeps_shown k c.args.task c.args.call) c.deref.ensures.value in
-    let entry = c.entry_at-entry.ensures (state_of c.self.inside.run.items) _
+    ∙ ap (λ (k : List (Option ℕ)). keeps_shown k c.args.task c.args.call) c.deref.ensures.value in
+    let entry = c.read_entry-entry.ensures (state_of c.self.inside.run.items) _
     (shown_in _ _ (state_of c.self.inside.run.items) c.deref-2.ensures.value core.shown)
     (sound _ _ _ _ _ core) in
     let may = may_open (state_of c.self.inside.run.items) c.args.task c.args.call c.self.inside.keepers.items
@@ -75,10 +75,10 @@ returns-clause-answer c =
 pub returns-then-is_queued_twice-clause-answer : goal.returns-then-is_queued_twice-clause-answer
 returns-then-is_queued_twice-clause-answer c =
     let core = c.self.invariant.core in
-    let mine : c.args.task < task_count = omega arith in
+    let mine : c.args.task < TASKS = omega arith in
     let keeps = c.keeps_of.ensures
-    ∙ ap (λ (k : List ℕ). keeps_shown k c.args.task c.args.call) c.deref.ensures.value in
-    let entry = c.entry_at-entry.ensures (state_of c.self.inside.run.items) _
+    ∙ ap (λ (k : List (Option ℕ)). keeps_shown k c.args.task c.args.call) c.deref.ensures.value in
+    let entry = c.read_entry-entry.ensures (state_of c.self.inside.run.items) _
     (shown_in _ _ (state_of c.self.inside.run.items) c.deref-2.ensures.value core.shown)
     (sound _ _ _ _ _ core) in
     queued_refused _ _ _ _ _ core c.args.task mine _ c.from-slot.ensures _ c.index.ensures _
@@ -90,10 +90,10 @@ returns-then-is_queued_twice-clause-answer c =
 pub returns-then-lacks_entry-clause-answer : goal.returns-then-lacks_entry-clause-answer
 returns-then-lacks_entry-clause-answer c =
     let core = c.self.invariant.core in
-    let mine : c.args.task < task_count = omega arith in
+    let mine : c.args.task < TASKS = omega arith in
     let keeps = c.keeps_of.ensures
-    ∙ ap (λ (k : List ℕ). keeps_shown k c.args.task c.args.call) c.deref.ensures.value in
-    let entry = c.entry_at-entry.ensures (state_of c.self.inside.run.items) _
+    ∙ ap (λ (k : List (Option ℕ)). keeps_shown k c.args.task c.args.call) c.deref.ensures.value in
+    let entry = c.read_entry-entry.ensures (state_of c.self.inside.run.items) _
     (shown_in _ _ (state_of c.self.inside.run.items) c.deref-2.ensures.value core.shown)
     (sound _ _ _ _ _ core) in
     lacking_refused _ _ _ _ _ core c.args.task mine _ c.from-slot.ensures _ c.index.ensures _
@@ -105,9 +105,9 @@ returns-then-lacks_entry-clause-answer c =
 pub returns-then-lacks_bit-clause-answer : goal.returns-then-lacks_bit-clause-answer
 returns-then-lacks_bit-clause-answer c =
     let core = c.self.invariant.core in
-    let mine : c.args.task < task_count = omega arith in
+    let mine : c.args.task < TASKS = omega arith in
     let keeps = c.keeps_of.ensures
-    ∙ ap (λ (k : List ℕ). keeps_shown k c.args.task c.args.call) c.deref.ensures.value in
+    ∙ ap (λ (k : List (Option ℕ)). keeps_shown k c.args.task c.args.call) c.deref.ensures.value in
     loose_refused _ _ _ _ _ core c.args.task mine _ c.from-slot.ensures _ c.index.ensures _
     c.is_open_at.ensures c.if-is_open_at.false c.args.call c.args.self.now c.self.view_is _
     c.is_in_range.ensures c.if-not-is_in_range.false c.self.inside.keepers.items c.self.invariant.kept _

@@ -1,5 +1,46 @@
 -- The list of members when one is put in or taken out.
-use Rattle.std.specs.Prelude.{◌≡◌, ◌≢◌, ℕ, ◌+◌, ◌-◌, ◌*◌, ◌%◌, ◌<◌, ◌≤◌, ◌^◌, ◌⊎◌, ◌==◌, Bool, true, false, if◌then◌else◌, nat_lt, List, [], length, slice_index_or, slice_index, slice_set, Option, Some, None}
+use Rattle.std.specs.Prelude.{
+  ◌≡◌,
+  ◌≢◌,
+  ℕ,
+  ◌+◌,
+  ◌-◌,
+  ◌*◌,
+  ◌%◌,
+  ◌<◌,
+  ◌≤◌,
+  ◌⊎◌,
+  ◌==◌,
+  Bool,
+  true,
+  false,
+  if◌then◌else◌,
+  nat_lt,
+  List,
+  [],
+  length,
+  slice_index_or,
+  slice_index,
+  slice_set,
+  Option,
+  Some,
+  None,
+}
+use Rattle.wait_model.specs.declared.layout.TheConstants.{
+  TASKS,
+  ENTRIES,
+  MEMBERS,
+  PLAIN_CONDITIONS,
+  FIRST_DONE,
+  FIRST_BIT_WORD,
+  FIRST_VARIABLE,
+  ENTRY_AT,
+  BOOKMARK_AT,
+  WORDS,
+  PLACES,
+  INDEXES,
+}
+use Rattle.wait_core.specs.declared.index.TheConstants.{RANKS}
 use Rattle.std.specs.List.{Contains, insert, remove}
 use Rattle.std.proofs.Common.{zero, suc, refl, arith, ap, sym, ◌∙◌, subst, inl, inr}
 use Rattle.std.proofs.lemmas.Bool.Decides.{nat_tests, eqb_tells}
@@ -20,12 +61,25 @@ use Rattle.wait_model.proofs.Functions.{put_other}
 use Rattle.wait_model.specs.Queues.{stand_by}
 use Rattle.wait_model.specs.Words.{entry_of}
 use Rattle.wait_model.specs.Tables.{mark_of, start}
-use Rattle.wait_model.specs.Locations.{Entry, Bookmark, Shows}
-use Rattle.wait_model.proofs.Decoded.{none_read, no_mark_read}
-use Rattle.wait_core.specs.Scan.{shown_entry, shown_mark, shown_stand}
-use Rattle.wait_core.specs.declared.index.Standing.{Standing}
-use Rattle.wait_core.specs.Index.{IsStanding, IsIndex, key, key_at, standing_of}
-use Rattle.wait_core.proofs.Scanned.{sides, none}
+use Rattle.wait_model.specs.Locations.{
+  Location,
+  Entry,
+  Bookmark,
+  Plain,
+  Done,
+  Bits,
+  Var,
+  IsLocation,
+  Shows,
+  position_of,
+  cond_at,
+}
+use Rattle.wait_model.proofs.WordLaws.DecodedWords.{none_read, no_mark_read}
+use Rattle.wait_core.specs.Scan.{entry_in_words, shown_mark, shown_stand}
+use Rattle.wait_core.specs.declared.index.RankedMember.{RankedMember}
+use Rattle.wait_core.specs.declared.index.Class.TheVariants as class
+use Rattle.wait_core.specs.Index.{IsListedMember, IsIndex, class_of, key, key_at, standing_of}
+use Rattle.wait_core.proofs.IndexSearch.{sides, none}
 
 -- so many different numbers below m are at most m: the one that is m gives way to the last
 module _ (m n : ℕ) (g : ℕ → ℕ) where
@@ -76,7 +130,7 @@ few_apart (suc m) (suc n) g small apart =
     (moved_apart m n g small apart) in omega arith
 
 -- two elements of one member have one key
-same_key : (f : ℕ → Option Mark) (a b : Standing) (p : IsStanding f a) (q : IsStanding f b)
+same_key : (f : ℕ → Option Mark) (a b : RankedMember) (p : IsListedMember f a) (q : IsListedMember f b)
     → p.number ≡ q.number → key a ≡ key b
 same_key f a b p q e =
     let s : Some p.stand ≡ Some q.stand = sym p.stands ∙ ap f e ∙ q.stands in
@@ -90,17 +144,17 @@ same_key f a b p q e =
     omega arith
 
 -- the list has room for all members
-pub few_members : (f : ℕ → Option Mark) (index : List Standing) → IsIndex f index → length index ≤ 384
-few_members f index h = few_apart 384 (length index) (λ i. (slice_index_or index i none).rank % 512)
+pub few_members : (f : ℕ → Option Mark) (index : List RankedMember) → IsIndex f index → length index ≤ MEMBERS
+few_members f index h = few_apart MEMBERS (length index) (λ i. (slice_index_or index i none).rank % INDEXES)
     (λ i lt. let q = h.shown i none lt in
-    let small : q.number < 384 = q.small in
+    let small : q.number < MEMBERS = q.small in
     let r = q.rank in
     omega arith)
     (λ i j lt inside e.
     let p = h.shown i none (omega arith) in
     let q = h.shown j none inside in
-    let ps : p.number < 384 = p.small in
-    let qs : q.number < 384 = q.small in
+    let ps : p.number < MEMBERS = p.small in
+    let qs : q.number < MEMBERS = q.small in
     let pr = p.rank in
     let qr = q.rank in
     let same : p.number ≡ q.number = omega arith in
@@ -109,7 +163,7 @@ few_members f index h = few_apart 384 (length index) (λ i. (slice_index_or inde
     omega arith)
 
 -- only what stands matters
-pub index_same : (f g : ℕ → Option Mark) (index : List Standing) → ((x : ℕ) → x < 384 → f x ≡ g x)
+pub index_same : (f g : ℕ → Option Mark) (index : List RankedMember) → ((x : ℕ) → x < MEMBERS → f x ≡ g x)
     → IsIndex f index → IsIndex g index
 index_same f g index same h = record {
   order = h.order;
@@ -128,8 +182,8 @@ put_here : (f : ℕ → Option Mark) (n x : ℕ) (o : Option Mark) → x ≡ n �
 put_here f n x o e = let t : (x == n) ≡ true = grind (arith, nat_tests) in rw t refl
 
 -- another member's element
-other_standing : (f : ℕ → Option Mark) (n : ℕ) (o : Option Mark) (a : Standing) (q : IsStanding f a)
-    → q.number ≢ n → IsStanding (put f n o) a
+other_standing : (f : ℕ → Option Mark) (n : ℕ) (o : Option Mark) (a : RankedMember) (q : IsListedMember f a)
+    → q.number ≢ n → IsListedMember (put f n o) a
 other_standing f n o a q ne = record {
   number = q.number;
   small = q.small;
@@ -139,12 +193,13 @@ other_standing f n o a q ne = record {
   rank = q.rank;
 }
 
-module _ (f : ℕ → Option Mark) (index : List Standing) (h : IsIndex f index) (n : ℕ) (small : n < 384)
-    (k : Mark) (fits : k.place < 2 ^ 40) (at : ℕ) (within : at ≤ length index)
-    (before : (i : ℕ) (d : Standing) → i < at → key (slice_index_or index i d) < key_at k.head (512 * k.place + n))
-    (behind : (i : ℕ) (d : Standing) → at ≤ i → i < length index
-    → key_at k.head (512 * k.place + n) ≤ key (slice_index_or index i d)) where
-  abbrev own : Standing
+module _ (f : ℕ → Option Mark) (index : List RankedMember) (h : IsIndex f index) (n : ℕ) (small : n < MEMBERS)
+    (k : Mark) (fits : k.place < PLACES) (at : ℕ) (within : at ≤ length index)
+    (before : (i : ℕ) (d : RankedMember) → i < at
+    → key (slice_index_or index i d) < key_at k.head (INDEXES * k.place + n))
+    (behind : (i : ℕ) (d : RankedMember) → at ≤ i → i < length index
+    → key_at k.head (INDEXES * k.place + n) ≤ key (slice_index_or index i d)) where
+  abbrev own : RankedMember
   own = standing_of n k
 
   -- a member that stands is where the search ends
@@ -152,7 +207,7 @@ module _ (f : ℕ → Option Mark) (index : List Standing) (h : IsIndex f index)
     found : Contains index own
     found = h.holds n k small s
 
-    found_key : key (slice_index_or index found.0 own) ≡ key_at k.head (512 * k.place + n)
+    found_key : key (slice_index_or index found.0 own) ≡ key_at k.head (INDEXES * k.place + n)
     found_key = ap key found.2
 
     not_before : found.0 < at → ⊥
@@ -177,12 +232,12 @@ module _ (f : ℕ → Option Mark) (index : List Standing) (h : IsIndex f index)
       ]
     ]
 
-    at_key : (d : Standing) → key (slice_index_or index at d) ≡ key_at k.head (512 * k.place + n)
+    at_key : (d : RankedMember) → key (slice_index_or index at d) ≡ key_at k.head (INDEXES * k.place + n)
     at_key d = ap key (get_or_default index at d own stands_inside)
         ∙ ap (λ (j : ℕ). key (slice_index_or index j own)) (sym is_found) ∙ found_key
 
     -- no other element is of that member
-    other : (i : ℕ) (d : Standing) → i < length index → i ≢ at → (q : IsStanding f (slice_index_or index i d))
+    other : (i : ℕ) (d : RankedMember) → i < length index → i ≢ at → (q : IsListedMember f (slice_index_or index i d))
         → q.number ≢ n
     other i d lt ne q e =
         let p = h.shown at d stands_inside in
@@ -200,7 +255,7 @@ module _ (f : ℕ → Option Mark) (index : List Standing) (h : IsIndex f index)
           ]
         ]
 
-    rest : List Standing
+    rest : List RankedMember
     rest = remove index at
 
     abbrev from : ℕ → ℕ
@@ -214,7 +269,7 @@ module _ (f : ℕ → Option Mark) (index : List Standing) (h : IsIndex f index)
         by true e = inl (grind (arith, nat_tests), refl)
         by false e = inr (grind (arith, nat_tests), refl)
 
-    rest_is : (i : ℕ) (d : Standing) → slice_index_or (remove index at) i d ≡ slice_index_or index (from i) d
+    rest_is : (i : ℕ) (d : RankedMember) → slice_index_or (remove index at) i d ≡ slice_index_or index (from i) d
     rest_is i d = elim (rest_at i) [
       | inl e ↦ get_or-remove_below index at d i e.0 stands_inside
           ∙ ap (λ (j : ℕ). slice_index_or index j d) (sym e.1)
@@ -237,7 +292,7 @@ module _ (f : ℕ → Option Mark) (index : List Standing) (h : IsIndex f index)
       | inr e ↦ elim (rest_at j) [ inl g ↦ omega arith | inr g ↦ omega arith ]
     ]
 
-    still : (i : ℕ) (a : Standing) → i < length index → i ≢ at → slice_index_or index i a ≡ a
+    still : (i : ℕ) (a : RankedMember) → i < length index → i ≢ at → slice_index_or index i a ≡ a
         → Contains (remove index at) a
     still i a lt ne is = let z = shorter in let w = stands_inside in elim (sides i at) [
       | inl l ↦ (i, omega arith, get_or-remove_below index at a i l stands_inside ∙ is)
@@ -261,7 +316,7 @@ module _ (f : ℕ → Option Mark) (index : List Standing) (h : IsIndex f index)
       };
       shown = λ i d lt.
           let q = h.shown (from i) d (from_inside i lt) in
-          subst (IsStanding (put f n None)) (sym (rest_is i d))
+          subst (IsListedMember (put f n None)) (sym (rest_is i d))
           (other_standing f n None _ q (other (from i) d (from_inside i lt) (from_other i) q));
       holds = λ x m lt stands.
           let apart : x ≢ n = λ e.
@@ -273,7 +328,7 @@ module _ (f : ℕ → Option Mark) (index : List Standing) (h : IsIndex f index)
           let z : key (slice_index_or index at (standing_of x m)) ≡ key (standing_of x m) =
           ap (λ (j : ℕ). key (slice_index_or index j (standing_of x m))) (sym e) ∙ ap key i.2 in
           let rk = h.order.ranks i.0 (standing_of x m) i.1 in
-          let rk' : (standing_of x m).rank < 2 ^ 49 = subst (λ (a : Standing). a.rank < 2 ^ 49) i.2 rk in
+          let rk' : (standing_of x m).rank < RANKS = subst (λ (a : RankedMember). a.rank < RANKS) i.2 rk in
           apart (omega arith)) i.2;
     }
 
@@ -282,8 +337,8 @@ module _ (f : ℕ → Option Mark) (index : List Standing) (h : IsIndex f index)
     longer : length (insert index at own) ≡ length index + 1
     longer = length-insert index at own within
 
-    strictly : (i : ℕ) (d : Standing) → at ≤ i → i < length index
-        → key_at k.head (512 * k.place + n) < key (slice_index_or index i d)
+    strictly : (i : ℕ) (d : RankedMember) → at ≤ i → i < length index
+        → key_at k.head (INDEXES * k.place + n) < key (slice_index_or index i d)
     strictly i d le lt =
         let b = behind i d le lt in
         let q = h.shown i d lt in
@@ -294,7 +349,8 @@ module _ (f : ℕ → Option Mark) (index : List Standing) (h : IsIndex f index)
         (let z : None ≡ Some q.stand = sym s ∙ ap f (sym e) ∙ q.stands in absurd (cc)) in
         omega arith
 
-    new_at : (i : ℕ) (d : Standing) → ((i < at) × (slice_index_or (insert index at own) i d ≡ slice_index_or index i d))
+    new_at : (i : ℕ) (d : RankedMember)
+        → ((i < at) × (slice_index_or (insert index at own) i d ≡ slice_index_or index i d))
         ⊎ (((i ≡ at) × (slice_index_or (insert index at own) i d ≡ own))
         ⊎ ((at < i) × (slice_index_or (insert index at own) i d ≡ slice_index_or index (i - 1) d)))
     new_at i d = elim (sides i at) [
@@ -312,16 +368,16 @@ module _ (f : ℕ → Option Mark) (index : List Standing) (h : IsIndex f index)
       ]
     ]
 
-    new_key : (i : ℕ) (d : Standing) → i < length (insert index at own)
+    new_key : (i : ℕ) (d : RankedMember) → i < length (insert index at own)
         → ((i < at) × (key (slice_index_or (insert index at own) i d) ≡ key (slice_index_or index i d)))
-        ⊎ (((i ≡ at) × (key (slice_index_or (insert index at own) i d) ≡ key_at k.head (512 * k.place + n)))
+        ⊎ (((i ≡ at) × (key (slice_index_or (insert index at own) i d) ≡ key_at k.head (INDEXES * k.place + n)))
         ⊎ ((at < i) × (key (slice_index_or (insert index at own) i d) ≡ key (slice_index_or index (i - 1) d))))
     new_key i d lt = elim (new_at i d) [
       | inl e ↦ inl (e.0, ap key e.1)
       | inr r ↦ elim r [ inl e ↦ inr (inl (e.0, ap key e.1)) | inr e ↦ inr (inr (e.0, ap key e.1)) ]
     ]
 
-    new_rises : (i j : ℕ) (d : Standing) → i < j → j < length (insert index at own)
+    new_rises : (i j : ℕ) (d : RankedMember) → i < j → j < length (insert index at own)
         → key (slice_index_or (insert index at own) i d) < key (slice_index_or (insert index at own) j d)
     new_rises i j d lt inside = let z = longer in elim (new_key i d (omega arith)) [
       | inl e ↦ elim (new_key j d inside) [
@@ -352,7 +408,7 @@ module _ (f : ℕ → Option Mark) (index : List Standing) (h : IsIndex f index)
       ]
     ]
 
-    own_stands : IsStanding (put f n (Some k)) own
+    own_stands : IsListedMember (put f n (Some k)) own
     own_stands = record {
       number = n;
       small = small;
@@ -362,7 +418,8 @@ module _ (f : ℕ → Option Mark) (index : List Standing) (h : IsIndex f index)
       rank = refl;
     }
 
-    still_stands : (i : ℕ) (d : Standing) → i < length index → IsStanding (put f n (Some k)) (slice_index_or index i d)
+    still_stands : (i : ℕ) (d : RankedMember) → i < length index
+        → IsListedMember (put f n (Some k)) (slice_index_or index i d)
     still_stands i d lt =
         let q = h.shown i d lt in
         other_standing f n (Some k) _ q (λ e.
@@ -374,17 +431,17 @@ module _ (f : ℕ → Option Mark) (index : List Standing) (h : IsIndex f index)
         ranks = λ i d lt. let z = longer in elim (new_at i d) [
           | inl e ↦ rw e.1 (h.order.ranks i d (omega arith))
           | inr r ↦ elim r [
-            | inl e ↦ rw e.1 (let u : 512 * k.place + n < 2 ^ 49 = omega arith in u)
+            | inl e ↦ rw e.1 (let u : INDEXES * k.place + n < RANKS = omega arith in u)
             | inr e ↦ rw e.1 (h.order.ranks (i - 1) d (omega arith))
           ]
         ];
         rises = new_rises;
       };
       shown = λ i d lt. let z = longer in elim (new_at i d) [
-        | inl e ↦ subst (IsStanding (put f n (Some k))) (sym e.1) (still_stands i d (omega arith))
+        | inl e ↦ subst (IsListedMember (put f n (Some k))) (sym e.1) (still_stands i d (omega arith))
         | inr r ↦ elim r [
-          | inl e ↦ subst (IsStanding (put f n (Some k))) (sym e.1) own_stands
-          | inr e ↦ subst (IsStanding (put f n (Some k))) (sym e.1) (still_stands (i - 1) d (omega arith))
+          | inl e ↦ subst (IsListedMember (put f n (Some k))) (sym e.1) own_stands
+          | inr e ↦ subst (IsListedMember (put f n (Some k))) (sym e.1) (still_stands (i - 1) d (omega arith))
         ]
       ];
       holds = λ x m lt stands. let z = longer in elim (eqb_tells x n) [
@@ -414,11 +471,11 @@ module _ (f : ℕ → Option Mark) (index : List Standing) (h : IsIndex f index)
       ];
     }
 
-    pub room : length index < 384
+    pub room : length index < MEMBERS
     room = let few = few_members (put f n (Some k)) (insert index at own) put_in in let z = longer in omega arith
 
 -- nothing stands at the start
-pub start_index : (words : List ℕ) (index : List Standing) → Shows words start → index ≡ []
+pub start_index : (words : List ℕ) (index : List RankedMember) → Shows words start → index ≡ []
     → IsIndex (shown_stand words) index
 start_index words index shown empty = record {
   order = record {
@@ -429,15 +486,15 @@ start_index words index shown empty = record {
   holds = λ x k lt s. absurd (let z : None ≡ Some k = sym (nothing x lt) ∙ s in cc);
 }
   where
-    nothing : (x : ℕ) → x < 384 → shown_stand words x ≡ None
-    nothing x lt = by (nat_lt x 256) refl
+    nothing : (x : ℕ) → x < MEMBERS → shown_stand words x ≡ None
+    nothing x lt = by (nat_lt x ENTRIES) refl
       where
-        by : (b : Bool) → nat_lt x 256 ≡ b
-            → (if b then stand_by (shown_entry words x) else shown_mark words (x - 256)) ≡ None
+        by : (b : Bool) → nat_lt x ENTRIES ≡ b
+            → (if b then stand_by (entry_in_words words x) else shown_mark words (x - ENTRIES)) ≡ None
         by true e = ap (λ (w : ℕ). stand_by (entry_of w)) (shown.each (Entry x) (grind (arith, nat_tests)))
             ∙ ap stand_by none_read
-        by false e = ap mark_of (shown.each (Bookmark (x - 256))
-            (let u : 256 ≤ x = grind (arith, nat_tests) in omega arith)) ∙ no_mark_read
+        by false e = ap mark_of (shown.each (Bookmark (x - ENTRIES))
+            (let u : ENTRIES ≤ x = grind (arith, nat_tests) in omega arith)) ∙ no_mark_read
 
 -- a word that changes takes out what stood there, and puts in what stands there now
 set_other : (words : List ℕ) (at x left : ℕ) → x ≢ at → slice_index (slice_set words at left) x ≡ slice_index words x
@@ -448,40 +505,73 @@ set_here : (words : List ℕ) (at x left : ℕ) → x ≡ at → at < length wor
 set_here words at x left e inside = get_or-set_at words at x left 0 e inside
 
 -- what the words show, by whose word changed
-shown_other : (words : List ℕ) (at left x : ℕ) → (x < 256 → 129 + x ≢ at) → (256 ≤ x → 641 + (x - 256) ≢ at)
+shown_other : (words : List ℕ) (at left x : ℕ) → (x < ENTRIES → ENTRY_AT + x ≢ at) → (ENTRIES ≤ x
+    → BOOKMARK_AT + (x - ENTRIES) ≢ at)
     → shown_stand words x ≡ shown_stand (slice_set words at left) x
-shown_other words at left x entry mark = by (nat_lt x 256) refl
+shown_other words at left x entry mark = by (nat_lt x ENTRIES) refl
   where
-    by : (b : Bool) → nat_lt x 256 ≡ b
-        → (if b then stand_by (shown_entry words x) else shown_mark words (x - 256))
-        ≡ (if b then stand_by (shown_entry (slice_set words at left) x)
-        else shown_mark (slice_set words at left) (x - 256))
+    by : (b : Bool) → nat_lt x ENTRIES ≡ b
+        → (if b then stand_by (entry_in_words words x) else shown_mark words (x - ENTRIES))
+        ≡ (if b then stand_by (entry_in_words (slice_set words at left) x)
+        else shown_mark (slice_set words at left) (x - ENTRIES))
     by true e = ap (λ (w : ℕ). stand_by (entry_of w))
-        (sym (set_other words at (129 + x) left (entry (grind (arith, nat_tests)))))
-    by false e = ap mark_of (sym (set_other words at (641 + (x - 256)) left (mark (grind (arith, nat_tests)))))
+        (sym (set_other words at (ENTRY_AT + x) left (entry (grind (arith, nat_tests)))))
+    by false e = ap mark_of (sym (set_other words at (BOOKMARK_AT + (x - ENTRIES)) left (mark (grind (
+      arith,
+      nat_tests,
+    )))))
 
-pub untouched : (words : List ℕ) (at left : ℕ) (index : List Standing) → IsIndex (shown_stand words) index
-    → (129 ≤ at → at < 385 → ⊥) → (641 ≤ at → at < 769 → ⊥)
-    → IsIndex (shown_stand (slice_set words at left)) index
-untouched words at left index h entry mark = index_same (shown_stand words)
-    (shown_stand (slice_set words at left)) index
-    (λ x lt. shown_other words at left x (λ l e. entry (omega arith) (omega arith))
-    (λ l e. mark (omega arith) (omega arith))) h
+-- a word of another class shows no member
+other_at : (l : Location) → IsLocation l → class_of l ≡ class.Other
+    → ((x : ℕ) → x < ENTRIES → position_of (Entry x) ≢ position_of l)
+    × ((t : ℕ) → t < TASKS → position_of (Bookmark t) ≢ position_of l)
+other_at (Entry x) there is = absurd (cc)
+other_at (Bookmark t) there is = absurd (cc)
+other_at l there is = (λ x lt e. absurd (omega arith), λ t lt e. absurd (omega arith))
 
-module _ (words : List ℕ) (count : length words ≡ 9873) (at left : ℕ) (after : List Standing) (n : ℕ) where
-  pub entry_changed : n + 129 ≡ at → n < 256
+pub cond_class : (c : ℕ) → class_of (cond_at c) ≡ class.Other
+cond_class c = by (nat_lt c PLAIN_CONDITIONS) (nat_lt c FIRST_BIT_WORD) (nat_lt c FIRST_VARIABLE)
+  where
+    by : (p d b : Bool) → class_of (if p then Plain c else if d then Done (c - FIRST_DONE)
+        else if b then Bits (c - FIRST_BIT_WORD) else Var (c - FIRST_VARIABLE)) ≡ class.Other
+    by true d b = refl
+    by false true b = refl
+    by false false true = refl
+    by false false false = refl
+
+pub entry_class : (l : Location) (x : ℕ) → class_of l ≡ class.Entry x → l ≡ Entry x
+entry_class (Entry y) x is = let e : y ≡ x = cc in ap Entry e
+entry_class (Bookmark y) x is = absurd (cc)
+entry_class l x is = absurd (cc)
+
+pub mark_class : (l : Location) (t : ℕ) → class_of l ≡ class.Bookmark t → l ≡ Bookmark t
+mark_class (Entry y) t is = absurd (cc)
+mark_class (Bookmark y) t is = let e : y ≡ t = cc in ap Bookmark e
+mark_class l t is = absurd (cc)
+
+pub untouched : (words : List ℕ) (l : Location) (left : ℕ) (index : List RankedMember)
+    → IsIndex (shown_stand words) index → IsLocation l → class_of l ≡ class.Other
+    → IsIndex (shown_stand (slice_set words (position_of l) left)) index
+untouched words l left index h there is =
+    let away = other_at l there is in
+    index_same (shown_stand words) (shown_stand (slice_set words (position_of l) left)) index
+    (λ x lt. shown_other words (position_of l) left x (λ small. away.0 x small)
+    (λ big. away.1 (x - ENTRIES) (omega arith))) h
+
+module _ (words : List ℕ) (count : length words ≡ WORDS) (at left : ℕ) (after : List RankedMember) (n : ℕ) where
+  pub entry_changed : n + ENTRY_AT ≡ at → n < ENTRIES
       → IsIndex (put (put (shown_stand words) n None) n (stand_by (entry_of left))) after
       → IsIndex (shown_stand (slice_set words at left)) after
   entry_changed is small h = index_same (put (put (shown_stand words) n None) n (stand_by (entry_of left)))
       (shown_stand (slice_set words at left)) after same h
     where
-      same : (x : ℕ) → x < 384 → put (put (shown_stand words) n None) n (stand_by (entry_of left)) x
+      same : (x : ℕ) → x < MEMBERS → put (put (shown_stand words) n None) n (stand_by (entry_of left)) x
           ≡ shown_stand (slice_set words at left) x
       same x lt = elim (eqb_tells x n) [
         | inl e ↦ put_here (put (shown_stand words) n None) n x (stand_by (entry_of left)) e.1
-            ∙ rw (let t : nat_lt x 256 ≡ true = (let z : x ≡ n = e.1 in grind (arith, nat_tests)) in t)
+            ∙ rw (let t : nat_lt x ENTRIES ≡ true = (let z : x ≡ n = e.1 in grind (arith, nat_tests)) in t)
             (ap (λ (w : ℕ). stand_by (entry_of w))
-            (sym (set_here words at (129 + x) left (let z : x ≡ n = e.1 in omega arith) (omega arith))))
+            (sym (set_here words at (ENTRY_AT + x) left (let z : x ≡ n = e.1 in omega arith) (omega arith))))
         | inr e ↦
             let ne : x ≢ n = e.1 in
             put_other (put (shown_stand words) n None) n (stand_by (entry_of left)) x ne
@@ -489,19 +579,20 @@ module _ (words : List ℕ) (count : length words ≡ 9873) (at left : ℕ) (aft
             ∙ shown_other words at left x (λ l z. ne (omega arith)) (λ l z. omega arith)
       ]
 
-  pub mark_changed : n + 385 ≡ at → 256 ≤ n → n < 384
+  pub mark_changed : n + BOOKMARK_AT ≡ at + ENTRIES → ENTRIES ≤ n → n < MEMBERS
       → IsIndex (put (put (shown_stand words) n None) n (mark_of left)) after
       → IsIndex (shown_stand (slice_set words at left)) after
   mark_changed is big small h = index_same (put (put (shown_stand words) n None) n (mark_of left))
       (shown_stand (slice_set words at left)) after same h
     where
-      same : (x : ℕ) → x < 384 → put (put (shown_stand words) n None) n (mark_of left) x
+      same : (x : ℕ) → x < MEMBERS → put (put (shown_stand words) n None) n (mark_of left) x
           ≡ shown_stand (slice_set words at left) x
       same x lt = elim (eqb_tells x n) [
         | inl e ↦ put_here (put (shown_stand words) n None) n x (mark_of left) e.1
-            ∙ rw (let t : nat_lt x 256 ≡ false = (let z : x ≡ n = e.1 in grind (arith, nat_tests)) in t)
+            ∙ rw (let t : nat_lt x ENTRIES ≡ false = (let z : x ≡ n = e.1 in grind (arith, nat_tests)) in t)
             (ap mark_of
-            (sym (set_here words at (641 + (x - 256)) left (let z : x ≡ n = e.1 in omega arith) (omega arith))))
+            (sym (set_here words at (BOOKMARK_AT + (x - ENTRIES)) left (let z : x ≡ n = e.1 in omega arith) (omega
+            arith))))
         | inr e ↦
             let ne : x ≢ n = e.1 in
             put_other (put (shown_stand words) n None) n (mark_of left) x ne
@@ -509,15 +600,18 @@ module _ (words : List ℕ) (count : length words ≡ 9873) (at left : ℕ) (aft
             ∙ shown_other words at left x (λ l z. omega arith) (λ l z. ne (omega arith))
       ]
 
-  -- what stood there
-  pub entry_stood : n < 256 → shown_stand words n ≡ stand_by (entry_of (slice_index words (129 + n)))
-  entry_stood small = rw (let t : nat_lt n 256 ≡ true = grind (arith, nat_tests) in t) refl
+-- what stood there
+pub entry_stood : (words : List ℕ) (n : ℕ) → n < ENTRIES → shown_stand words n ≡ stand_by (entry_in_words words n)
+entry_stood words n small = rw (let t : nat_lt n ENTRIES ≡ true = grind (arith, nat_tests) in t) refl
 
-  pub mark_stood : 256 ≤ n → shown_stand words n ≡ mark_of (slice_index words (641 + (n - 256)))
-  mark_stood big = rw (let t : nat_lt n 256 ≡ false = grind (arith, nat_tests) in t) refl
+pub mark_stood : (words : List ℕ) (n t : ℕ) → n ≡ ENTRIES + t → shown_stand words n ≡ shown_mark words t
+mark_stood words n t is =
+    let b : nat_lt n ENTRIES ≡ false = grind (arith, nat_tests) in
+    let e : n - ENTRIES ≡ t = omega arith in
+    rw (b, e) refl
 
 -- what was not there changes nothing
-pub nothing_out : (f : ℕ → Option Mark) (n : ℕ) (index : List Standing) → IsIndex f index → f n ≡ None
+pub nothing_out : (f : ℕ → Option Mark) (n : ℕ) (index : List RankedMember) → IsIndex f index → f n ≡ None
     → IsIndex (put f n None) index
 nothing_out f n index h s = index_same f (put f n None) index (λ x lt. elim (eqb_tells x n) [
   | inl e ↦ ap f e.1 ∙ s ∙ sym (put_here f n x None e.1)

@@ -1,12 +1,12 @@
 -- Where a walk goes on, by the entries that a scan finds.
 use Rattle.std.proofs.lemmas.Bool.Decides.{nat_tests}
+use Rattle.wait_model.specs.declared.layout.TheConstants.{PLACES, INDEXES, BREAK}
 use Rattle.std.proofs.Common.{refl, sym, ◌∙◌, ap, subst, arith, inl, inr}
 use Rattle.std.specs.Prelude.{
   ℕ,
   ◌≡◌,
   ◌+◌,
   ◌*◌,
-  ◌^◌,
   ◌<◌,
   ◌≤◌,
   ◌&&◌,
@@ -30,13 +30,11 @@ use Rattle.wait_model.specs.declared.queues.Member.{Member}
 use Rattle.wait_model.specs.Queues.{
   rank,
   rank_at,
-  places,
   member_from,
   entry_from,
   members_from,
   has_members,
   is_entry,
-  break_count,
   Arrival,
   arrive,
   IsIn,
@@ -47,9 +45,9 @@ use Rattle.wait_model.specs.Watches.{is_for}
 use Rattle.wait_model.specs.Runs.{State, arrives_from}
 use Rattle.wait_model.specs.Reached.{IsSound}
 use Rattle.wait_model.specs.Locations.{Shows}
-use Rattle.wait_model.proofs.QueueOrder.{IsFirstFrom, before_in, first_is}
+use Rattle.wait_model.proofs.QueueLaws.QueueOrder.{IsFirstFrom, before_in, first_is}
 use Rattle.wait_core.specs.Arrivals.{arrived}
-use Rattle.wait_core.proofs.Found.{below_end}
+use Rattle.wait_core.proofs.FoundMembers.{below_end}
 
 -- no member has a rank from one on and below another
 between_here : (low high : ℕ) (m : Member) (ms : List Member) → low ≤ high → (low ≤ rank m → high ≤ rank m)
@@ -99,7 +97,7 @@ not_ahead m x ms l =
     ap (λ b. cond b (m ∷ members_from (rank x + 1) ms) (members_from (rank x + 1) ms)) f
 
 -- a walk that has called few enough entries in its hold passes what is no entry
-module _ (key : Member → Bool) (calls : ℕ) (few : nat_lt break_count calls ≡ false) where
+module _ (key : Member → Bool) (calls : ℕ) (few : nat_lt BREAK calls ≡ false) where
   abbrev at_end : Arrival
   at_end = record { calls = calls; member = None; breaks = false }
 
@@ -174,7 +172,7 @@ module _ (key : Member → Bool) (calls : ℕ) (few : nat_lt break_count calls �
       (some_ahead least ms x o.1) e
 
 -- a walk that has called enough entries breaks before any member
-module _ (key : Member → Bool) (calls : ℕ) (enough : nat_lt break_count calls ≡ true) where
+module _ (key : Member → Bool) (calls : ℕ) (enough : nat_lt BREAK calls ≡ true) where
   abbrev before : Option Member → Arrival
   before r = record { calls = calls; member = r; breaks = is_some r }
 
@@ -203,24 +201,24 @@ module _ (words : List ℕ) (s : State) (n : ℕ) (shown : Shows words s.table) 
     abbrev walks_on : ℕ → ℕ → Arrival
     walks_on calls least = arrive (λ m. is_for c (s.table.entry m.at)) calls (members_from least (s.queue head))
 
-    pub walk_begins : (place least called : ℕ) → least ≡ 512 * min place (2 ^ 40)
+    pub walk_begins : (place least called : ℕ) → least ≡ INDEXES * min place PLACES
         → arrives_from s.table.entry c place called (s.queue head) ≡ walks_on called least
     walk_begins place least called is = sym (ap (arrive (λ m. is_for c (s.table.entry m.at)) called)
         (between least (rank_at place) (s.queue head) (omega (arith, is))
-        (λ x i l. let u : rank x < rank_at places = below_end words s n shown sound head x i in omega (arith, is))))
+        (λ x i l. let u : rank x < rank_at PLACES = below_end words s n shown sound head x i in omega (arith, is))))
 
     module _ (calls least : ℕ) (all : Arrival) (goes : all ≡ walks_on calls least) where
-      few_calls : calls ≤ 64 → nat_lt break_count calls ≡ false
+      few_calls : calls ≤ BREAK → nat_lt BREAK calls ≡ false
       few_calls few = grind (arith, nat_tests)
 
       -- behind its last entry
-      pub walk_ends : calls ≤ 64 → None ≡ entry_from least (s.queue head)
+      pub walk_ends : calls ≤ BREAK → None ≡ entry_from least (s.queue head)
           → record { calls = calls; member = None; breaks = false } ≡ arrived all
       walk_ends few none = sym (ap arrived (goes ∙ none_ahead (λ m. is_for c (s.table.entry m.at)) calls
           (few_calls few) least (s.queue head) (sym none)))
 
       -- at an entry
-      module _ (few : calls ≤ 64) (m : Member) (first : Some m ≡ entry_from least (s.queue head)) (t : Bool)
+      module _ (few : calls ≤ BREAK) (m : Member) (first : Some m ≡ entry_from least (s.queue head)) (t : Bool)
           (test : t ≡ is_for c (s.table.entry m.at)) where
         comes : all ≡ (if t then record { calls = calls; member = Some m; breaks = false }
             else walks_on (calls + 1) (rank m + 1))
@@ -241,7 +239,7 @@ module _ (words : List ℕ) (s : State) (n : ℕ) (shown : Shows words s.table) 
             ∙ ap (walks_on (calls + 1)) (sym is)
 
       -- before a member
-      pub walk_breaks : 64 < calls → (r : Option Member) → r ≡ member_from least (s.queue head) → (b : Bool)
+      pub walk_breaks : BREAK < calls → (r : Option Member) → r ≡ member_from least (s.queue head) → (b : Bool)
           → b ≡ is_some r → record { calls = calls; member = r; breaks = b } ≡ arrived all
       walk_breaks enough r first b is = sym (ap arrived (goes
           ∙ breaks_ahead (λ m. is_for c (s.table.entry m.at)) calls (grind (arith, nat_tests)) least (s.queue head)

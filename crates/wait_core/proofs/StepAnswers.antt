@@ -21,13 +21,20 @@ use Rattle.std.specs.Prelude.{
   not,
   nat_lt,
 }
+use Rattle.wait_model.specs.declared.layout.TheConstants.{TASKS, BIT_WORDS, WORD_BITS, BREAK, EVENTS, RUN_ITEMS}
 use Rattle.std.specs.declared.option.Option.{Option}
 use Rattle.std.specs.declared.option.Option.TheVariants.{Some, None}
 use Rattle.std.proofs.Common.{refl, arith, ap, sym, ◌∙◌, subst, get_or}
 use Rattle.std.proofs.lemmas.Option.{slice_get_read}
 use Rattle.wait_model.specs.declared.calls.Call.{Call}
 use Rattle.wait_model.specs.declared.calls.Event.{Event}
-use Rattle.wait_model.specs.declared.tasks.Task.{Task}
+use Rattle.wait_model.specs.declared.calls.Event.TheVariants as events
+use Rattle.wait_model.specs.declared.points.Seen.{Seen}
+use Rattle.wait_model.specs.declared.points.WalkPoint.{WalkPoint}
+use Rattle.wait_model.specs.declared.queues.CalledEntry.{CalledEntry}
+use Rattle.wait_model.specs.declared.watches.Kind.{Kind}
+use Rattle.wait_model.specs.declared.watches.Kind.TheVariants as kind
+use Rattle.wait_model.specs.declared.tasks.TaskRecord.{TaskRecord}
 use Rattle.wait_model.specs.declared.points.Planned.{Planned}
 use Rattle.wait_model.specs.declared.points.Point.{Point}
 use Rattle.wait_model.specs.declared.points.Point.TheVariants as at
@@ -39,19 +46,21 @@ use Rattle.wait_model.specs.declared.points.Progress.{Progress}
 use Rattle.wait_model.specs.declared.points.Progress.TheVariants as now
 use Rattle.wait_model.specs.declared.calls.Ran.{Ran}
 use Rattle.wait_model.specs.declared.calls.Ran.TheVariants as ran
-use Rattle.wait_model.specs.Programs.{program_start}
-use Rattle.wait_model.specs.Points.{call_watch, given_at, IsNamed, IsReachable}
+use Rattle.wait_model.specs.Programs.{program, program_start, walk_event, call_entry, call_next, go}
+use Rattle.wait_model.specs.Points.{call_watch, call_head, call_aim, given_at, IsNamed, IsReachable}
 use Rattle.wait_model.specs.Watches.{IsThere}
 use Rattle.wait_model.specs.Programs.{IsFitting, IsFittingWalk}
 use Rattle.wait_model.specs.declared.calls.Call.TheVariants as calls
 use Rattle.wait_model.specs.Admission.{is_in_range, lacks_bit, is_queued_twice, lacks_entry, IsListed}
-use Rattle.wait_model.specs.Queues.{break_count}
 use Rattle.wait_model.proofs.Functions.{both_left, both_right}
-use Rattle.wait_model.proofs.EveryRun.{admits_parts, state_after-push}
+use Rattle.wait_model.proofs.RunLaws.EveryRun.{admits_parts, state_after-push}
+use Rattle.wait_model.proofs.QueueLaws.OutsideWalks.{IsUnmarked, program_away}
+use Rattle.wait_core.specs.declared.arrivals.Arrived.{Arrived}
+use Rattle.wait_core.specs.Arrivals.{arrived, IsMarkedBy}
 use Rattle.wait_model.specs.Shown.{IsInRange}
-use Rattle.wait_model.specs.Locations.{Shows}
+use Rattle.wait_model.specs.Locations.{Shows, IsLocation, location_of}
+use Rattle.wait_model.proofs.WordLaws.ShownSteps.{event_located}
 use Rattle.wait_model.specs.Reached.{IsSoundCall, IsCallSound, IsCounted, Allows, Joins}
-use Rattle.wait_model.specs.Tasks.{task_count}
 use Rattle.wait_model.specs.Runs.{
   State,
   start_state,
@@ -60,6 +69,9 @@ use Rattle.wait_model.specs.Runs.{
   planned,
   progress_at,
   found_by,
+  seen_by,
+  arrives_at,
+  arrives_from,
   own,
   state_of,
   busy_head,
@@ -70,12 +82,12 @@ use Rattle.std.proofs.lemmas.Bool.Decides.{nat_tests}
 use Rattle.wait_core.specs.declared.engine.Stepped.{Stepped}
 use Rattle.wait_core.specs.declared.engine.Stepped.TheVariants as answers
 use Rattle.wait_core.specs.Ended.{answer_of}
-use Rattle.wait_core.specs.Stepped.{stepped, tried, checked, started}
+use Rattle.wait_core.specs.Stepped.{stepped, event_or_refusal, first_refusal, started}
 use Rattle.wait_core.specs.declared.engine.StartFault.TheVariants as faults
 use Rattle.std.specs.declared.result.Result.TheVariants.{Ok, Err}
 use Rattle.wait_core.specs.Core.{IsCore, open_calls}
 use Rattle.wait_core.specs.Keepers.{ShowsKeepers, keeps_shown, kept_after}
-use Rattle.wait_core.proofs.Kept.{
+use Rattle.wait_core.proofs.KeptCore.{
   calls_few,
   MayOpen,
   allowed_in_range,
@@ -88,8 +100,60 @@ use Rattle.wait_core.proofs.Kept.{
   opened_core,
 }
 
+-- a bookmark is put only where a walk breaks, and then where it went on from its place
+module _ (s : State) (me : ℕ) (call : Call) (seen : Seen) (walk : Arrived) where
+  unmarked : (p : Point) (x e : Event) → IsUnmarked x → x ≡ e → IsMarkedBy s call p e walk
+  unmarked p x (events.Mark h) u is = absurd (subst IsUnmarked is u)
+  unmarked p x e u is = tt
+
+  entry_unmarked : (w : Walking) (c : CalledEntry) (k : Kind) (hit : Bool)
+      → IsUnmarked (call_entry (call_aim call) w c k seen hit).event
+  entry_unmarked w c kind.Default hit = tt
+  entry_unmarked w c kind.Autoremove hit = tt
+  entry_unmarked w c kind.Woken hit = tt
+  entry_unmarked w c kind.Bit hit = tt
+  entry_unmarked w c kind.Var hit = tt
+  entry_unmarked w c kind.Simple hit = tt
+
+  next_unmarked : (w : Walking) (o : Option CalledEntry) (hit : Bool)
+      → IsUnmarked (call_next (call_aim call) w o seen hit).event
+  next_unmarked w None hit = tt
+  next_unmarked w (Some c) hit = entry_unmarked w c c.kind hit
+
+  called_marked : (w v : Walking) (b hit : Bool) (e : Event)
+      → walk ≡ arrived (arrives_at s.table.entry call (at.Walk (walking.Call w)) (s.queue (call_head call)))
+      → (if b then go (events.Mark (call_head call)) (at.Walk (walking.BreakUnlock v))
+      else call_next (call_aim call) v seen.called seen hit).event ≡ e
+      → IsMarkedBy s call (at.Walk (walking.Call w)) e walk
+  called_marked w v true hit (events.Mark h) goes is =
+      let k : call_head call ≡ h = cc in
+      ap (λ (a : Arrived). a.member) goes ∙ ap (λ i. (arrives_from s.table.entry (call_watch call) w.place w.calls
+      (s.queue i)).member) k
+  called_marked w v true hit e goes is = tt
+  called_marked w v false hit e goes is = unmarked (at.Walk (walking.Call w)) _ e (next_unmarked v seen.called hit) is
+
+  walk_marked : (q : WalkPoint) (e : Event)
+      → walk ≡ arrived (arrives_at s.table.entry call (at.Walk q) (s.queue (call_head call)))
+      → (walk_event (call_aim call) q seen).event ≡ e → IsMarkedBy s call (at.Walk q) e walk
+  walk_marked (walking.Call w) e goes is = called_marked w _ seen.breaks _ e goes is
+  walk_marked (walking.Unmark w) (events.Mark h) goes is = absurd (cc)
+  walk_marked (walking.Unmark w) e goes is = tt
+  walk_marked walking.Lock e goes is = unmarked (at.Walk walking.Lock) _ e tt is
+  walk_marked (walking.Bit w c) e goes is = unmarked (at.Walk (walking.Bit w c)) _ e tt is
+  walk_marked (walking.Wake w c) e goes is = unmarked (at.Walk (walking.Wake w c)) _ e tt is
+  walk_marked (walking.Unqueue w who) e goes is = unmarked (at.Walk (walking.Unqueue w who)) _ e tt is
+  walk_marked (walking.Spent w) e goes is = unmarked (at.Walk (walking.Spent w)) _ e tt is
+  walk_marked (walking.BreakUnlock w) e goes is = unmarked (at.Walk (walking.BreakUnlock w)) _ e tt is
+  walk_marked (walking.BreakLock w) e goes is = unmarked (at.Walk (walking.BreakLock w)) _ e tt is
+
+  pub marked : (p : Point) (e : Event)
+      → walk ≡ arrived (arrives_at s.table.entry call p (s.queue (call_head call)))
+      → (program me call p seen).event ≡ e → IsMarkedBy s call p e walk
+  marked (at.Walk q) e goes is = walk_marked q e goes is
+  marked p e goes is = unmarked p _ e (program_away call me seen p tt).event is
+
 -- what is read at a task's place
-pub read_progress : (points : List Progress) (me slot : ℕ) (r : Progress) → length points ≡ task_count → me < task_count
+pub read_progress : (points : List Progress) (me slot : ℕ) (r : Progress) → length points ≡ TASKS → me < TASKS
     → slot ≡ me → r ≡ get_or points slot r → slice_get points me ≡ Some r
 read_progress points me slot r l inside same is =
     slice_get_read points (length points) me r refl (omega arith)
@@ -97,7 +161,7 @@ read_progress points me slot r l inside same is =
 
 -- the answers of a step
 module _ (words : List ℕ) (points : List Progress) (items : List Ran) (count capacity : ℕ)
-    (core : IsCore words points items count capacity) (me : ℕ) (mine : me < task_count) (v : List Ran)
+    (core : IsCore words points items count capacity) (me : ℕ) (mine : me < TASKS) (v : List Ran)
     (view : items ≡ v) where
   -- the run as callers see it
   told : (x : Stepped) → x ≡ stepped (state_of items) (made_in items) me ((state_of items).progress me)
@@ -133,15 +197,15 @@ module _ (words : List ℕ) (points : List Progress) (items : List Ran) (count c
     asleep r =
         told answers.Asleep
         (sym (here
-        ∙ ap (λ b. if b then tried (made_in items) (planned (state_of items) me call p)
+        ∙ ap (λ b. if b then event_or_refusal (made_in items) (planned (state_of items) me call p)
         (busy_head (state_of items) (planned (state_of items) me call p).event) else answers.Asleep) r))
 
     runs_here : ((state_of items).table.task me).runnable ≡ true
-        → stepped (state_of items) (made_in items) me ((state_of items).progress me) ≡ tried (made_in items)
+        → stepped (state_of items) (made_in items) me ((state_of items).progress me) ≡ event_or_refusal (made_in items)
         (planned (state_of items) me call p)
         (busy_head (state_of items) (planned (state_of items) me call p).event)
     runs_here r = here
-        ∙ ap (λ b. if b then tried (made_in items) (planned (state_of items) me call p)
+        ∙ ap (λ b. if b then event_or_refusal (made_in items) (planned (state_of items) me call p)
         (busy_head (state_of items) (planned (state_of items) me call p).event) else answers.Asleep) r
 
     pub busy : (head : ℕ) → ((state_of items).table.task me).runnable ≡ true
@@ -149,34 +213,34 @@ module _ (words : List ℕ) (points : List Progress) (items : List Ran) (count c
         → answers.Busy head ≡ stepped (state_of v) (made_in v) me ((state_of v).progress me)
     busy head r b =
         told (answers.Busy head)
-        (sym (runs_here r ∙ ap (tried (made_in items) (planned (state_of items) me call p)) (sym b)))
+        (sym (runs_here r ∙ ap (event_or_refusal (made_in items) (planned (state_of items) me call p)) (sym b)))
 
     free_here : ((state_of items).table.task me).runnable ≡ true
         → None ≡ busy_head (state_of items) (planned (state_of items) me call p).event
-        → stepped (state_of items) (made_in items) me ((state_of items).progress me) ≡ tried (made_in items)
+        → stepped (state_of items) (made_in items) me ((state_of items).progress me) ≡ event_or_refusal (made_in items)
         (planned (state_of items) me call p) None
-    free_here r b = runs_here r ∙ ap (tried (made_in items) (planned (state_of items) me call p)) (sym b)
+    free_here r b = runs_here r ∙ ap (event_or_refusal (made_in items) (planned (state_of items) me call p)) (sym b)
 
     pub full : ((state_of items).table.task me).runnable ≡ true
-        → None ≡ busy_head (state_of items) (planned (state_of items) me call p).event → count ≡ 1000000
+        → None ≡ busy_head (state_of items) (planned (state_of items) me call p).event → count ≡ EVENTS
         → answers.Full ≡ stepped (state_of v) (made_in v) me ((state_of v).progress me)
     full r b n =
         let m : count ≡ made_in items = core.made in
-        let t : (made_in items == 1000000) ≡ true = grind (arith, nat_tests) in
+        let t : (made_in items == EVENTS) ≡ true = grind (arith, nat_tests) in
         told answers.Full
         (sym (free_here r b
         ∙ ap (λ b. if b then answers.Full else answers.Made (planned (state_of items) me call p).event
         (answer_of (planned (state_of items) me call p).next)) t))
 
     pub made : ((state_of items).table.task me).runnable ≡ true
-        → None ≡ busy_head (state_of items) (planned (state_of items) me call p).event → (count ≡ 1000000 → ⊥)
+        → None ≡ busy_head (state_of items) (planned (state_of items) me call p).event → (count ≡ EVENTS → ⊥)
         → answers.Made (planned (state_of items) me call p).event
         (answer_of (planned (state_of items) me call p).next) ≡ stepped (state_of v) (made_in v) me
         ((state_of v).progress me)
     made r b n =
         let m : count ≡ made_in items = core.made in
-        let ne : (made_in items ≡ 1000000) → ⊥ = λ k. n (m ∙ k) in
-        let t : (made_in items == 1000000) ≡ false = grind (arith, nat_tests) in
+        let ne : (made_in items ≡ EVENTS) → ⊥ = λ k. n (m ∙ k) in
+        let t : (made_in items == EVENTS) ≡ false = grind (arith, nat_tests) in
         told (answers.Made (planned (state_of items) me call p).event
         (answer_of (planned (state_of items) me call p).next))
         (sym (free_here r b
@@ -186,14 +250,14 @@ module _ (words : List ℕ) (points : List Progress) (items : List Ran) (count c
 -- small steps between what the code read and what the state has
 pub opened_at : (words : List ℕ) (points : List Progress) (items : List Ran) (count capacity : ℕ)
     → IsCore words points items count capacity → (me slot : ℕ) (r : Progress) (call : Call) (p : Point)
-    → me < task_count → slot ≡ me → r ≡ get_or points slot r → r ≡ now.Open call p
+    → me < TASKS → slot ≡ me → r ≡ get_or points slot r → r ≡ now.Open call p
     → slice_get points me ≡ Some (now.Open call p)
 opened_at words points items count capacity core me slot r call p mine same read is =
     read_progress points me slot r core.tasks mine same read ∙ ap (λ (x : Progress). Some x) is
 
 -- what is read again there is the same
 pub opened_again : (points : List Progress) (me slot : ℕ) (r : Progress) (call : Call) (p : Point)
-    → length points ≡ task_count → me < task_count → slot ≡ me → r ≡ get_or points slot r
+    → length points ≡ TASKS → me < TASKS → slot ≡ me → r ≡ get_or points slot r
     → slice_get points me ≡ Some (now.Open call p) → r ≡ now.Open call p
 opened_again points me slot r call p l mine same read stands =
     let a : Some r ≡ Some (now.Open call p) = sym (read_progress points me slot r l mine same read) ∙ stands in cc
@@ -201,15 +265,15 @@ opened_again points me slot r call p l mine same read stands =
 pub shown_in : (now' words : List ℕ) (s : State) → now' ≡ words → Shows words s.table → Shows now' s.table
 shown_in now' words s e h = subst (λ (w : List ℕ). Shows w s.table) (sym e) h
 
-pub stopped : (t u : Task) → t ≡ u → not t.runnable ≡ true → u.runnable ≡ false
-stopped t u e h = subst (λ (x : Task). x.runnable ≡ false) e (turned t.runnable h)
+pub stopped : (t u : TaskRecord) → t ≡ u → not t.runnable ≡ true → u.runnable ≡ false
+stopped t u e h = subst (λ (x : TaskRecord). x.runnable ≡ false) e (turned t.runnable h)
   where
     turned : (b : Bool) → not b ≡ true → b ≡ false
     turned true h = cc
     turned false h = refl
 
-pub running : (t u : Task) → t ≡ u → not t.runnable ≡ false → u.runnable ≡ true
-running t u e h = subst (λ (x : Task). x.runnable ≡ true) e (turned t.runnable h)
+pub running : (t u : TaskRecord) → t ≡ u → not t.runnable ≡ false → u.runnable ≡ true
+running t u e h = subst (λ (x : TaskRecord). x.runnable ≡ true) e (turned t.runnable h)
   where
     turned : (b : Bool) → not b ≡ false → b ≡ true
     turned true h = refl
@@ -228,15 +292,15 @@ call_reaches n call p k = (k.who, named p k)
     named (at.Walk (walking.Bit w c)) k = k.walk.1
     named p k = tt
 
-counted_fits : (n : ℕ) (w : Walking) → n ≤ 1000000 → IsCounted n w → IsFittingWalk w
+counted_fits : (n : ℕ) (w : Walking) → n ≤ EVENTS → IsCounted n w → IsFittingWalk w
 counted_fits n w few k = record {
   woken = (let l : w.woken ≤ n = k.woken in omega arith);
   selected = (let l : w.woken ≤ n = k.woken in let m : w.selected ≤ w.woken = k.selected in omega arith);
-  calls = (let l : w.calls ≤ break_count + 1 = k.calls in omega arith);
+  calls = (let l : w.calls ≤ BREAK + 1 = k.calls in omega arith);
   holds = (let l : w.holds ≤ n = k.holds in omega arith);
 }
 
-pub call_fits : (n : ℕ) (call : Call) (p : Point) → n ≤ 1000000 → IsSoundCall n (now.Open call p) → IsFitting p
+pub call_fits : (n : ℕ) (call : Call) (p : Point) → n ≤ EVENTS → IsSoundCall n (now.Open call p) → IsFitting p
 call_fits n call (at.Walk (walking.Call w)) few k = counted_fits n w few k.walk
 call_fits n call (at.Walk (walking.BreakLock w)) few k = counted_fits n w few k.walk
 call_fits n call (at.Walk (walking.Wake w c)) few k = (counted_fits n w few k.walk.0, k.walk.2)
@@ -245,7 +309,7 @@ call_fits n call (at.Select (selecting.Next j)) few k = let l : j ≤ n = k.walk
 call_fits n call p few k = tt
 
 pub plan_in_range : (words : List ℕ) (points : List Progress) (items : List Ran) (count capacity : ℕ)
-    (core : IsCore words points items count capacity) (me : ℕ) (mine : me < task_count) (call : Call) (p : Point)
+    (core : IsCore words points items count capacity) (me : ℕ) (mine : me < TASKS) (call : Call) (p : Point)
     (stands : slice_get points me ≡ Some (now.Open call p))
     → ((state_of items).table.task me).runnable ≡ true → (plan : Planned) → plan ≡ planned (state_of items) me call p
     → IsInRange plan.event
@@ -255,17 +319,17 @@ plan_in_range words points items count capacity core me mine call p stands runs 
     (allowed words points items count capacity core me mine call p stands runs))
 
 pub room_left : (words : List ℕ) (points : List Progress) (items : List Ran) (count capacity : ℕ)
-    → IsCore words points items count capacity → (count ≡ 1000000 → ⊥) → length items < capacity
+    → IsCore words points items count capacity → (count ≡ EVENTS → ⊥) → length items < capacity
 room_left words points items count capacity core more =
     let r : length items ≤ 2 * count + open_calls points = core.room in
     let f : open_calls points ≤ length points = calls_few points in
-    let t : length points ≡ task_count = core.tasks in
-    let n : count < 1000000 = (let m : count ≤ 1000000 = core.few in omega arith) in
-    let k : 2000128 ≤ capacity = core.reserved in
+    let t : length points ≡ TASKS = core.tasks in
+    let n : count < EVENTS = (let m : count ≤ EVENTS = core.few in omega arith) in
+    let k : RUN_ITEMS ≤ capacity = core.reserved in
     omega arith
 
 module _ (words : List ℕ) (points : List Progress) (items : List Ran) (count capacity : ℕ)
-    (core : IsCore words points items count capacity) (me : ℕ) (mine : me < task_count) (call : Call) (p : Point)
+    (core : IsCore words points items count capacity) (me : ℕ) (mine : me < TASKS) (call : Call) (p : Point)
     (stands : slice_get points me ≡ Some (now.Open call p)) (runs : ((state_of items).table.task me).runnable ≡ true)
     (plan : Planned) (is : plan ≡ planned (state_of items) me call p) where
   pub plan_allowed : Allows (state_of items) me plan.event
@@ -276,10 +340,18 @@ module _ (words : List ℕ) (points : List Progress) (items : List Ran) (count c
   plan_joins = subst (λ (x : Planned). Joins (given_at call p) x.event) (sym is)
       (joins words points items count capacity core me mine call p stands runs)
 
-  -- who keeps each bit behind it, and the core behind what the code did
-  pub stepped_keepers : (keepers : List ℕ) → ShowsKeepers keepers (state_of items).table.view
+  pub plan_located : IsLocation (location_of me plan.event)
+  plan_located = event_located words (state_of items) core.shown me (given_at call p) mine plan.event plan_allowed
+
+  pub plan_marked : (walk : Arrived) → walk ≡ arrived (arrives_at (state_of items).table.entry call p
+      ((state_of items).queue (call_head call))) → IsMarkedBy (state_of items) call p plan.event walk
+  plan_marked walk goes = marked (state_of items) me call (seen_by (state_of items) me call p) walk p plan.event goes
+      (ap (λ (x : Planned). x.event) (sym is))
+
+  -- who keeps each bit after it, and the core after what the code did
+  pub stepped_keepers : (keepers : List (Option ℕ)) → ShowsKeepers keepers (state_of items).table.view
       → None ≡ busy_head (state_of items) plan.event → (found : ℕ) → (items' : List Ran)
-      → items' ≡ items ++ ran.Made me plan.event found ∷ [] → (keepers' : List ℕ)
+      → items' ≡ items ++ ran.Made me plan.event found ∷ [] → (keepers' : List (Option ℕ))
       → keepers' ≡ kept_after me plan.event keepers → ShowsKeepers keepers' (state_of items').table.view
   stepped_keepers keepers shown free found items' grown keepers' noted =
       subst (λ (w : List Ran). ShowsKeepers keepers' (state_of w).table.view) (sym grown)
@@ -288,21 +360,22 @@ module _ (words : List ℕ) (points : List Progress) (items : List Ran) (count c
       (subst (λ (x : Progress). ShowsKeepers keepers'
       (after_event (state_of items) me (given_by x) plan.event).table.view)
       (sym (open_is words points items count capacity core me mine call p stands))
-      (subst (λ (k : List ℕ). ShowsKeepers k
+      (subst (λ (k : List (Option ℕ)). ShowsKeepers k
       (after_event (state_of items) me (given_at call p) plan.event).table.view) (sym noted)
       (subst (λ (x : Planned). ShowsKeepers (kept_after me x.event keepers)
       (after_event (state_of items) me (given_at call p) x.event).table.view) (sym is)
       (keepers_kept words points items count capacity core me mine call p stands runs keepers shown
       (sym (free ∙ ap (λ (y : Planned). busy_head (state_of items) y.event) is)))))))
 
-  -- the core behind what the code did
+  -- the core after what the code did
   pub stepped_core : (found : ℕ) → found ≡ found_by (state_of items) me plan.event
-      → None ≡ busy_head (state_of items) plan.event → (count ≡ 1000000 → ⊥) → (after : List ℕ) → Shows after (after_event (state_of items) me (given_at call p) plan.event).table
+      → None ≡ busy_head (state_of items) plan.event → (count ≡ EVENTS → ⊥) → (after : List ℕ)
+      → Shows after (after_event (state_of items) me (given_at call p) plan.event).table
       → (x : Progress) → x ≡ progress_at call plan.next → (slot : ℕ) → slot ≡ me
       → (items' : List Ran) → items' ≡ items ++ ran.Made me plan.event found ∷ [] → (capacity' : ℕ)
       → capacity ≤ capacity' → IsCore after (slice_set points slot x) items' (count + 1) capacity'
   stepped_core found was free few after shown x goes slot same items' grown capacity' more =
-      let fewer : count < 1000000 = let n : count ≤ 1000000 = core.few in omega arith in
+      let fewer : count < EVENTS = let n : count ≤ EVENTS = core.few in omega arith in
       let k = made_core words points items count capacity core me mine call p stands found capacity' after x
       (was ∙ ap (λ (y : Planned). found_by (state_of items) me y.event) is) runs
       (sym (free ∙ ap (λ (y : Planned). busy_head (state_of items) y.event) is)) fewer more
@@ -320,21 +393,21 @@ grown_run items v items' me e found view was grown =
     ∙ ap (λ (w : List Ran). w ++ ran.Made me e (found_by (state_of w) me e) ∷ []) view
 
 -- whether the task lacks the bit that it would clear, by the list of keepers
-pub lacks_shown : (s : State) (me : ℕ) (call : Call) (keepers : List ℕ) → ShowsKeepers keepers s.table.view
-    → me < task_count → is_in_range me call ≡ true
+pub lacks_shown : (s : State) (me : ℕ) (call : Call) (keepers : List (Option ℕ)) → ShowsKeepers keepers s.table.view
+    → me < TASKS → is_in_range me call ≡ true
     → lacks_bit call (keeps_shown keepers me call) ≡ lacks_bit call ((s.table.view me).bits.keeps (call_watch call))
 lacks_shown s me (calls.ClearBit w b) keepers shown mine fits =
-    let lw : w < 128 = grind (arith, nat_tests, both_left (nat_lt w 128) (nat_lt b 64) fits) in
-    let lb : b < 64 = grind (arith, nat_tests, both_right (nat_lt w 128) (nat_lt b 64) fits) in
+    let lw : w < BIT_WORDS = grind (arith, nat_tests, both_left (nat_lt w BIT_WORDS) (nat_lt b WORD_BITS) fits) in
+    let lb : b < WORD_BITS = grind (arith, nat_tests, both_right (nat_lt w BIT_WORDS) (nat_lt b WORD_BITS) fits) in
     ap not (sym (shown.each me w b mine lw lb))
 lacks_shown s me call keepers shown mine fits = refl
 
 -- an opening that is refused for a bit or for the own entry, by what the code read
 module _ (words : List ℕ) (points : List Progress) (items : List Ran) (count capacity : ℕ)
-    (core : IsCore words points items count capacity) (me : ℕ) (mine : me < task_count) (slot : ℕ) (same : slot ≡ me)
+    (core : IsCore words points items count capacity) (me : ℕ) (mine : me < TASKS) (slot : ℕ) (same : slot ≡ me)
     (r : Progress) (read : r ≡ get_or points slot r) (t : Bool) (test : t ≡ is_open r) (shut : t ≡ false)
     (call : Call) (v : List Ran) (view : items ≡ v) (fits : Bool) (fit : fits ≡ is_in_range me call)
-    (fitting : fits ≡ true) (keepers : List ℕ) (shown : ShowsKeepers keepers (state_of items).table.view)
+    (fitting : fits ≡ true) (keepers : List (Option ℕ)) (shown : ShowsKeepers keepers (state_of items).table.view)
     (keeps : Bool) (keep : keeps ≡ keeps_shown keepers me call) (loose : Bool) (lack : loose ≡ lacks_bit call keeps)
   where
     abbrev twice_in : Bool
@@ -343,13 +416,11 @@ module _ (words : List ℕ) (points : List Progress) (items : List Ran) (count c
     abbrev lacks_in : Bool
     lacks_in = lacks_entry call ((state_of items).table.entry (own me))
 
-    bit_checked : checked true loose twice_in lacks_in ≡ started (state_of v) me call
-    bit_checked = subst (λ (w : List Ran). checked true loose twice_in lacks_in ≡ started (state_of w) me call) view
-        (sym (rw (within, closed_is, sym fit ∙ fitting) (ap (λ b. checked true b twice_in lacks_in) (sym loose_is))))
+    bit_checked : first_refusal true loose twice_in lacks_in ≡ started (state_of v) me call
+    bit_checked = subst (λ (w : List Ran). first_refusal true loose twice_in lacks_in
+        ≡ started (state_of w) me call) view
+        (sym (rw (closed_is, sym fit ∙ fitting) (ap (λ b. first_refusal true b twice_in lacks_in) (sym loose_is))))
       where
-        within : nat_lt me task_count ≡ true
-        within = grind (arith, nat_tests)
-
         closed_is : is_open ((state_of items).progress me) ≡ false
         closed_is =
             let a : slice_get points me ≡ Some r = read_progress points me slot r core.tasks mine same read in
@@ -362,28 +433,30 @@ module _ (words : List ℕ) (points : List Progress) (items : List Ran) (count c
             ∙ lacks_shown (state_of items) me call keepers shown mine (sym fit ∙ fitting)
 
     pub loose_refused : loose ≡ true → Err faults.NotHeld ≡ started (state_of v) me call
-    loose_refused y = ap (λ b. checked true b twice_in lacks_in) (sym y) ∙ bit_checked
+    loose_refused y = ap (λ b. first_refusal true b twice_in lacks_in) (sym y) ∙ bit_checked
 
     module _ (held : loose ≡ false) (entry : Option Entry) (is : entry ≡ (state_of items).table.entry (own me)) where
-      entry_checked : checked true false (is_queued_twice call entry) (lacks_entry call entry) ≡ started (state_of v)
+      entry_checked : first_refusal true false (is_queued_twice call entry) (lacks_entry call entry)
+          ≡ started (state_of v)
           me call
-      entry_checked = ap (λ (o : Option Entry). checked true false (is_queued_twice call o) (lacks_entry call o)) is
-          ∙ ap (λ b. checked true b twice_in lacks_in) (sym held) ∙ bit_checked
+      entry_checked = ap (λ (o : Option Entry). first_refusal true false (is_queued_twice call o)
+          (lacks_entry call o)) is
+          ∙ ap (λ b. first_refusal true b twice_in lacks_in) (sym held) ∙ bit_checked
 
       pub queued_refused : (twice : Bool) → twice ≡ is_queued_twice call entry → twice ≡ true
           → Err faults.EntryQueued ≡ started (state_of v) me call
       queued_refused twice k y =
-          ap (λ b. checked true false b (lacks_entry call entry)) (sym y ∙ k) ∙ entry_checked
+          ap (λ b. first_refusal true false b (lacks_entry call entry)) (sym y ∙ k) ∙ entry_checked
 
       pub lacking_refused : (twice lacks : Bool) → twice ≡ is_queued_twice call entry → twice ≡ false
           → lacks ≡ lacks_entry call entry → lacks ≡ true → Err faults.NoEntry ≡ started (state_of v) me call
       lacking_refused twice lacks k n l y =
-          ap (λ b. checked true false b true) (sym n ∙ k)
-          ∙ ap (λ b. checked true false (is_queued_twice call entry) b) (sym y ∙ l) ∙ entry_checked
+          ap (λ b. first_refusal true false b true) (sym n ∙ k)
+          ∙ ap (λ b. first_refusal true false (is_queued_twice call entry) b) (sym y ∙ l) ∙ entry_checked
 
 -- what the code found lets the call be opened
-pub may_open : (s : State) (me : ℕ) (call : Call) (keepers : List ℕ) → ShowsKeepers keepers s.table.view
-    → me < task_count → (entry : Option Entry) → entry ≡ s.table.entry (own me) → (keeps : Bool)
+pub may_open : (s : State) (me : ℕ) (call : Call) (keepers : List (Option ℕ)) → ShowsKeepers keepers s.table.view
+    → me < TASKS → (entry : Option Entry) → entry ≡ s.table.entry (own me) → (keeps : Bool)
     → keeps ≡ keeps_shown keepers me call → (a l b d : Bool) → a ≡ is_in_range me call → a ≡ true
     → l ≡ lacks_bit call keeps → l ≡ false → b ≡ is_queued_twice call entry → b ≡ false → d ≡ lacks_entry call entry
     → d ≡ false → IsListed call → MayOpen s me call
@@ -399,7 +472,7 @@ may_open s me call keepers shown mine entry is keeps keep a l b d fits fit loose
 
 -- an opening, by what the code read
 module _ (words : List ℕ) (points : List Progress) (items : List Ran) (count capacity : ℕ)
-    (core : IsCore words points items count capacity) (me : ℕ) (mine : me < task_count) (slot : ℕ) (same : slot ≡ me)
+    (core : IsCore words points items count capacity) (me : ℕ) (mine : me < TASKS) (slot : ℕ) (same : slot ≡ me)
     (r : Progress) (read : r ≡ get_or points slot r) (t : Bool) (test : t ≡ is_open r) (no : t ≡ false)
     (call : Call) (may : MayOpen (state_of items) me call) where
   closed_is : is_open ((state_of items).progress me) ≡ false
@@ -411,10 +484,10 @@ module _ (words : List ℕ) (points : List Progress) (items : List Ran) (count c
 
   pub room_to_open : length items < capacity
   room_to_open =
-      let r : length items < 2 * count + task_count =
+      let r : length items < 2 * count + TASKS =
       opened_room words points items count capacity core me mine call closed_is may in
-      let n : count ≤ 1000000 = core.few in
-      let k : 2000128 ≤ capacity = core.reserved in
+      let n : count ≤ EVENTS = core.few in
+      let k : RUN_ITEMS ≤ capacity = core.reserved in
       omega arith
 
   pub started_core : (p : Point) → p ≡ program_start call → (items' : List Ran) → items' ≡ items
@@ -424,7 +497,8 @@ module _ (words : List ℕ) (points : List Progress) (items : List Ran) (count c
       rw (same, begins, grown) (opened_core words points items count capacity core me mine call closed_is
       may capacity' more)
 
-  pub started_keepers : (keepers : List ℕ) → ShowsKeepers keepers (state_of items).table.view → (items' : List Ran)
+  pub started_keepers : (keepers : List (Option ℕ)) → ShowsKeepers keepers (state_of items).table.view
+      → (items' : List Ran)
       → items' ≡ items ++ ran.Opened me call ∷ [] → ShowsKeepers keepers (state_of items').table.view
   started_keepers keepers shown items' grown =
       subst (λ (w : List Ran). ShowsKeepers keepers (state_of w).table.view) (sym grown)
@@ -434,13 +508,9 @@ module _ (words : List ℕ) (points : List Progress) (items : List Ran) (count c
   pub started_ok : (v : List Ran) → items ≡ v → Ok tt ≡ started (state_of v) me call
   started_ok v view = subst (λ (w : List Ran). Ok tt ≡ started (state_of w) me call) view
       (sym (rw (
-        within,
         closed_is,
         (admits_parts me call _ _ may).0,
         (admits_parts me call _ _ may).4,
         (admits_parts me call _ _ may).1,
         (admits_parts me call _ _ may).2,
       ) refl))
-    where
-      within : nat_lt me task_count ≡ true
-      within = grind (arith, nat_tests)

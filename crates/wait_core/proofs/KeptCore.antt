@@ -18,7 +18,9 @@ use Rattle.std.specs.Prelude.{
   slice_set,
   length,
   ◌≢◌,
+  Option,
 }
+use Rattle.wait_model.specs.declared.layout.TheConstants.{TASKS, EVENTS, RUN_ITEMS}
 use Rattle.std.specs.declared.option.Option.TheVariants.{Some, None}
 use Rattle.std.proofs.Common.{
   refl,
@@ -49,7 +51,6 @@ use Rattle.wait_model.specs.Points.{call_watch, given_at}
 use Rattle.wait_model.specs.Admission.{admits}
 use Rattle.wait_model.specs.Shown.{IsInRange}
 use Rattle.wait_model.specs.Locations.{Shows}
-use Rattle.wait_model.specs.Tasks.{task_count}
 use Rattle.wait_model.specs.Reached.{
   marked_at,
   IsSound,
@@ -81,12 +82,12 @@ use Rattle.wait_model.specs.Runs.{
   is_open,
 }
 use Rattle.wait_model.proofs.Functions.{put_at}
-use Rattle.wait_model.proofs.WalkPrograms.{program_fine}
-use Rattle.wait_model.proofs.Fines.{Fine}
-use Rattle.wait_model.proofs.EveryRun.{sound_of, state_after-push, run_push, made_push, opened_push}
+use Rattle.wait_model.proofs.RunLaws.WalkEvents.{program_fine}
+use Rattle.wait_model.proofs.RunLaws.FineEvents.{Fine}
+use Rattle.wait_model.proofs.RunLaws.EveryRun.{sound_of, state_after-push, run_push, made_push, opened_push}
 use Rattle.wait_core.specs.Core.{IsCore, open_calls, one_if_open}
 use Rattle.wait_core.specs.Keepers.{ShowsKeepers, kept_after}
-use Rattle.wait_core.proofs.Noted.{noted}
+use Rattle.wait_core.proofs.NotedBits.{noted}
 use Rattle.wait_core.proofs.KeptBits.{event_keepers}
 
 -- an allowed event's numbers are in range
@@ -120,7 +121,7 @@ abbrev pub MayOpen : State → ℕ → Call → Type 0
 MayOpen s me call = admits me call (s.table.entry (own me)) ((s.table.view me).bits.keeps (call_watch call))
     ≡ true
 
--- an element behind a write
+-- an element after a write
 get_set_same : (points : List Progress) (me t : ℕ) (x : Progress) → me < length points → t ≡ me
     → slice_get (slice_set points me x) t ≡ Some x
 get_set_same points me t x inside same =
@@ -136,7 +137,7 @@ get_set_other points me t x inside ne =
     ∙ ap (λ (v : Progress). Some v) (get_or-set_other points me t x x ne)
     ∙ sym (slice_get-get_or points t x inside)
 
--- the open calls behind a write
+-- the open calls after a write
 calls_set : (points : List Progress) (me : ℕ) (x y : Progress) → slice_get points me ≡ Some y
     → open_calls (slice_set points me x) + one_if_open y ≡ open_calls points + one_if_open x
 calls_set points me x y is =
@@ -161,10 +162,10 @@ module _ (words : List ℕ) (points : List Progress) (items : List Ran) (count c
     (core : IsCore words points items count capacity) where
   pub sound : IsSound (state_of items) count
   sound = subst (IsSound (state_of items)) (sym core.made)
-      (sound_of items core.run (let m : count ≡ made_in items = core.made in let f : count ≤ 1000000 =
+      (sound_of items core.run (let m : count ≡ made_in items = core.made in let f : count ≤ EVENTS =
       core.few in omega arith))
 
-  module _ (me : ℕ) (mine : me < task_count) (call : Call) (p : Point)
+  module _ (me : ℕ) (mine : me < TASKS) (call : Call) (p : Point)
       (stands : slice_get points me ≡ Some (now.Open call p)) where
     pub open_is : (state_of items).progress me ≡ now.Open call p
     open_is = let e : Some ((state_of items).progress me) ≡ Some (now.Open call p) =
@@ -190,8 +191,8 @@ module _ (words : List ℕ) (points : List Progress) (items : List Ran) (count c
       pub joins : Joins (given_at call p) (planned (state_of items) me call p).event
       joins = fine.joins
 
-      -- who keeps each bit behind the event
-      pub keepers_kept : (keepers : List ℕ) → ShowsKeepers keepers (state_of items).table.view
+      -- who keeps each bit after the event
+      pub keepers_kept : (keepers : List (Option ℕ)) → ShowsKeepers keepers (state_of items).table.view
           → busy_head (state_of items) (planned (state_of items) me call p).event ≡ None
           → ShowsKeepers (kept_after me (planned (state_of items) me call p).event keepers)
           (after_event (state_of items) me (given_at call p) (planned (state_of items) me call p).event).table.view
@@ -212,7 +213,7 @@ module _ (words : List ℕ) (points : List Progress) (items : List Ran) (count c
 
     -- the core after an event
     made_points : (found : ℕ) (x : Progress) → progress_at call (planned (state_of items) me call p).next ≡ x
-        → (t : ℕ) → t < task_count
+        → (t : ℕ) → t < TASKS
         → slice_get (slice_set points me x) t ≡ Some
         ((happens (state_of items) (ran.Made me (planned (state_of items) me call p).event found)).progress t)
     made_points found x is t inside = put_at (λ v. slice_get (slice_set points me x) t ≡ Some v)
@@ -225,7 +226,7 @@ module _ (words : List ℕ) (points : List Progress) (items : List Ran) (count c
         → found ≡ found_by (state_of items) me (planned (state_of items) me call p).event
         → ((state_of items).table.task me).runnable ≡ true
         → busy_head (state_of items) (planned (state_of items) me call p).event ≡ None
-        → count < 1000000 → capacity ≤ capacity'
+        → count < EVENTS → capacity ≤ capacity'
         → Shows after (after_event (state_of items) me (given_at call p)
         (planned (state_of items) me call p).event).table
         → progress_at call (planned (state_of items) me call p).next ≡ x
@@ -250,13 +251,13 @@ module _ (words : List ℕ) (points : List Progress) (items : List Ran) (count c
               let c : open_calls (slice_set points me x) + 1 ≡ open_calls points + one_if_open x =
               calls_set points me x (now.Open call p) stands in
               rw length-append (omega arith);
-          reserved = let r : 2000128 ≤ capacity = core.reserved in omega arith;
+          reserved = let r : RUN_ITEMS ≤ capacity = core.reserved in omega arith;
         }
 
   -- the core after an opening
-  module _ (me : ℕ) (mine : me < task_count) (call : Call) (closed : is_open ((state_of items).progress me) ≡ false)
+  module _ (me : ℕ) (mine : me < TASKS) (call : Call) (closed : is_open ((state_of items).progress me) ≡ false)
       (may : MayOpen (state_of items) me call) where
-    opened_points : (t : ℕ) → t < task_count
+    opened_points : (t : ℕ) → t < TASKS
         → slice_get (slice_set points me (now.Open call (program_start call))) t ≡ Some
         ((happens (state_of items) (ran.Opened me call)).progress t)
     opened_points t inside =
@@ -268,7 +269,7 @@ module _ (words : List ℕ) (points : List Progress) (items : List Ran) (count c
     was_closed : one_if_open ((state_of items).progress me) ≡ 0
     was_closed = ap (λ b. if b then 1 else 0) closed
 
-    pub opened_room : length items < 2 * count + task_count
+    pub opened_room : length items < 2 * count + TASKS
     opened_room =
         let r : length items ≤ 2 * count + open_calls points = core.room in
         let c : open_calls (slice_set points me (now.Open call (program_start call))) + one_if_open
@@ -276,7 +277,7 @@ module _ (words : List ℕ) (points : List Progress) (items : List Ran) (count c
         calls_set points me (now.Open call (program_start call)) ((state_of items).progress me)
         (core.progress me mine) in
         let z : one_if_open ((state_of items).progress me) ≡ 0 = was_closed in
-        let f : open_calls (slice_set points me (now.Open call (program_start call))) ≤ task_count =
+        let f : open_calls (slice_set points me (now.Open call (program_start call))) ≤ TASKS =
         (let l = calls_few (slice_set points me (now.Open call (program_start call)))
         in omega (arith, l, length-set points me (now.Open call (program_start call)), core.tasks)) in
         omega arith
@@ -303,5 +304,5 @@ module _ (words : List ℕ) (points : List Progress) (items : List Ran) (count c
               (core.progress me mine) in
               let z : one_if_open ((state_of items).progress me) ≡ 0 = was_closed in
               rw length-append (omega arith);
-          reserved = let r : 2000128 ≤ capacity = core.reserved in omega arith;
+          reserved = let r : RUN_ITEMS ≤ capacity = core.reserved in omega arith;
         }

@@ -19,7 +19,7 @@ use Rattle.wait_model.specs.declared.watches.Watch.TheVariants as watch
 use Rattle.wait_model.specs.declared.watches.Kind.{Kind}
 use Rattle.wait_model.specs.declared.watches.Kind.TheVariants as kind
 use Rattle.wait_model.specs.declared.watches.Mode.TheVariants as mode
-use Rattle.wait_model.specs.declared.queues.Called.{Called}
+use Rattle.wait_model.specs.declared.queues.CalledEntry.{CalledEntry}
 use Rattle.wait_model.specs.declared.queues.Walking.{Walking}
 use Rattle.wait_model.specs.declared.calls.Call.{Call}
 use Rattle.wait_model.specs.declared.calls.Answer.TheVariants as answer
@@ -67,14 +67,14 @@ use Rattle.wait_model.specs.Programs.{
   zero_answer,
   signalled,
   interrupted,
-  fails,
+  call_fails,
   load,
   store,
   exchange,
   ask,
   bit_event,
   finished,
-  published,
+  publishing_event,
   active_event,
   reached,
   call_entry,
@@ -93,10 +93,10 @@ use Rattle.wait_model.specs.Programs.{
 use Rattle.wait_model.specs.Reached.{IsFitted, IsPlain}
 
 -- an event of a call about a watch, where the task finds this value of the watch's word
-abbrev pub Notes : Watch → ℕ → Event → Type 0
-Notes watch value (event.Set c v) = is_bit watch ≡ false
-Notes watch value (event.Tas w b found) = found ≡ flag (bit_at value b)
-Notes watch value _ = Unit {0}
+abbrev pub NotesBits : Watch → ℕ → Event → Type 0
+NotesBits watch value (event.Set c v) = is_bit watch ≡ false
+NotesBits watch value (event.Tas w b found) = found ≡ flag (bit_at value b)
+NotesBits watch value _ = Unit {0}
 
 -- watches that are no bits
 plain_no_bit : (c : Watch) → IsPlain c → is_bit c ≡ false
@@ -117,26 +117,26 @@ await_no_bit call h = absurd (cc)
 
 module _ (me : ℕ) (call : Call) (seen : Seen) where
   abbrev N : Planned → Type 0
-  N p = Notes (call_watch call) seen.value p.event
+  N p = NotesBits (call_watch call) seen.value p.event
 
   either : (b : Bool) (x y : Planned) → N x → N y → N (if b then x else y)
   either true x y h k = h
   either false x y h k = k
 
   -- what a wait for a bit asks by, and what ends a wait
-  asked : Notes (call_watch call) seen.value (ask call seen)
+  asked : NotesBits (call_watch call) seen.value (ask call seen)
   asked = by (is_lock call)
     where
-      by : (b : Bool) → Notes (call_watch call) seen.value (if b then exchange call seen else load call seen)
+      by : (b : Bool) → NotesBits (call_watch call) seen.value (if b then exchange call seen else load call seen)
       by true = refl
       by false = tt
 
-  ends_noted : (failed : Bool) (e : Event) → Notes (call_watch call) seen.value e → N (finished call failed e)
+  ends_noted : (failed : Bool) (e : Event) → NotesBits (call_watch call) seen.value e → N (finished call failed e)
   ends_noted failed e h = either (failed && is_lock call) (go e (at.Bit biting.Last))
       (ends_with e (if failed then interrupted else zero_answer)) h h
 
   -- the function of an entry
-  entry_noted : (w : Walking) (c : Called) (k : Kind) (hit : Bool) → N (call_entry (call_aim call) w c k seen hit)
+  entry_noted : (w : Walking) (c : CalledEntry) (k : Kind) (hit : Bool) → N (call_entry (call_aim call) w c k seen hit)
   entry_noted w c kind.Default hit = tt
   entry_noted w c kind.Autoremove hit = tt
   entry_noted w c kind.Woken hit = tt
@@ -144,26 +144,27 @@ module _ (me : ℕ) (call : Call) (seen : Seen) where
   entry_noted w c kind.Var hit = tt
   entry_noted w c kind.Simple hit = tt
 
-  next_noted : (w : Walking) (c : Option Called) (hit : Bool) → N (call_next (call_aim call) w c seen hit)
+  next_noted : (w : Walking) (c : Option CalledEntry) (hit : Bool) → N (call_next (call_aim call) w c seen hit)
   next_noted w None hit = tt
   next_noted w (Some c) hit = entry_noted w c c.kind hit
 
   walk_noted : (p : WalkPoint) → N (walk_event (call_aim call) p seen)
   walk_noted (walking.Call w) = either seen.breaks
       (go (event.Mark (call_head call)) (at.Walk (walking.BreakUnlock (reached w seen.calls))))
-      (call_next (call_aim call) (reached w seen.calls) seen.called seen (meets (mask_of (mode_of call)) seen.other.state)) tt
+      (call_next (call_aim call) (reached w seen.calls) seen.called seen (meets (mask_of (mode_of call))
+      seen.other.state)) tt
       (next_noted (reached w seen.calls) seen.called (meets (mask_of (mode_of call)) seen.other.state))
   walk_noted p = tt
 
   bit_noted : (p : BitPoint) → N (bit_event call p seen)
   bit_noted biting.Try = refl
-  bit_noted biting.First = either (fails call seen) (go (ask call seen) (at.Prepare preparing.Lock))
+  bit_noted biting.First = either (call_fails call seen) (go (ask call seen) (at.Prepare preparing.Lock))
       (ends_with (ask call seen) zero_answer) asked asked
   bit_noted (biting.Again failed) = asked
   bit_noted biting.Last = refl
   bit_noted p = tt
 
-  select_next_noted : (n : ℕ) (c : Option Called) (hit : Bool) → N (select_next call n c hit)
+  select_next_noted : (n : ℕ) (c : Option CalledEntry) (hit : Bool) → N (select_next call n c hit)
   select_next_noted n None hit = tt
   select_next_noted n (Some c) hit = tt
 
@@ -193,13 +194,13 @@ module _ (me : ℕ) (call : Call) (seen : Seen) where
     count_noted p = tt
 
   -- a publish clears a bit or stores a variable
-  publish_noted : (c : Call) → is_publisher c ≡ true → Notes (call_watch c) seen.value (published c)
+  publish_noted : (c : Call) → is_publisher c ≡ true → NotesBits (call_watch c) seen.value (publishing_event c)
   publish_noted (calls.ClearBit w b) h = tt
   publish_noted (calls.SetVar v x) h = refl
   publish_noted c h = absurd (cc)
 
   pub noted : (p : Point) → IsFitted call p → N (program me call p seen)
-  noted at.First fit = either (fails call seen) (go (load call seen) (at.Prepare preparing.Lock))
+  noted at.First fit = either (call_fails call seen) (go (load call seen) (at.Prepare preparing.Lock))
       (ends_with (load call seen) zero_answer) tt tt
   noted (at.Prepare preparing.Queue) fit = either (is_some seen.entry)
       (go (event.State (state_mask (state_in call))) (at.Prepare preparing.Unlock))
@@ -210,7 +211,7 @@ module _ (me : ℕ) (call : Call) (seen : Seen) where
   noted (at.Leave leaving.Queue) fit = either (is_some seen.entry)
       (go (event.Unqueue me) (at.Leave leaving.Unlock))
       (go (event.Unlock (call_head call) false) (at.Leave leaving.Load)) tt tt
-  noted (at.Leave leaving.Load) fit = either (fails call seen) (ends_with (load call seen) signalled)
+  noted (at.Leave leaving.Load) fit = either (call_fails call seen) (ends_with (load call seen) signalled)
       (go (load call seen) (at.Finish finishing.State false)) tt tt
   noted (at.Finish finishing.Look failed) fit = either (is_some seen.entry)
       (go (event.Queued true) (at.Finish finishing.Lock failed)) (finished call failed (event.Queued false)) tt

@@ -1,7 +1,0 @@
-use Rattle.std.proofs.Common.{◌∙◌, arith}
-use Rattle.wait_core.proofs.Found.{task_shown_is}
-use Rattle.wait_core.proofs.reads.task_at.Goals as goal
-
-pub returns : goal.returns
-returns c = λ s n shown sound. c.task_of.ensures
-    ∙ rw c.from.ensures (task_shown_is c.args.words.now s n shown sound c.args.who (omega arith))

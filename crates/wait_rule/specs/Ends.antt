@@ -1,17 +1,35 @@
 -- Where the members of a head stand in a hold, and at which places no place is left for an add. (To be believed.)
-use Rattle.std.specs.Prelude.{ℕ, ◌≡◌, ◌-◌, ◌<◌, ◌≤◌, ◌^◌, ◌⊎◌, Bool, true, false, nat_lt, if◌then◌else◌, Option, Some, None, List, ◌++◌}
-use Rattle.wait_model.specs.Queues.{middle, places}
+use Rattle.std.specs.Prelude.{
+  ◌/◌,
+  ℕ,
+  ◌≡◌,
+  ◌-◌,
+  ◌<◌,
+  ◌≤◌,
+  ◌⊎◌,
+  Bool,
+  true,
+  false,
+  nat_lt,
+  if◌then◌else◌,
+  Option,
+  Some,
+  None,
+  List,
+  ◌++◌,
+}
+use Rattle.wait_model.specs.declared.layout.TheConstants.{ENTRIES, MEMBERS, PLACES, MIDDLE, FIRST_PLACE}
 use Rattle.wait_model.specs.Places.{front_for, tail_for, priority_for}
 use Rattle.wait_model.specs.Views.{View as Told}
 use Rattle.wait_model.specs.Fold.{view_of}
-use Rattle.wait_rule.specs.declared.view.Item.{Item}
+use Rattle.wait_rule.specs.declared.journal.Item.{Item}
 use Rattle.wait_rule.specs.Items.{steps_of}
 use Rattle.wait_rule.specs.Notes.{Notes, notes_of, look_place, glance_place}
 
--- Members by number: entries by their index, and the bookmark of task t by 256 + t. The place at which the hold
+-- Members by number: entries by their index, and the bookmark of task t by `ENTRIES` + t. The place at which the hold
 -- shows a member of its head.
 abbrev pub place_in : Told → Notes → ℕ → Option ℕ
-place_in v n m = if nat_lt m 256 then look_place (v.hold.book m) else glance_place (n.marks (m - 256))
+place_in v n m = if nat_lt m ENTRIES then look_place (v.hold.book m) else glance_place (n.marks (m - ENTRIES))
 
 -- the hold shows one of the first members at this place, from `low` on and below `high`
 pub record StandsAt (v : Told) (n : Notes) (count low high p : ℕ) : Type 0 where
@@ -23,12 +41,12 @@ pub record StandsAt (v : Told) (n : Notes) (count low high p : ℕ) : Type 0 whe
 
 -- no place is left before a member that stands here, or after it; with priority, after an entry
 abbrev pub IsEnd : Bool → ℕ → Type 0
-IsEnd true p = (p < middle) × (priority_for (Some p) ≡ None)
-IsEnd false p = (middle ≤ p) × (p < places) × ((front_for (Some p) ≡ None) ⊎ (tail_for (Some p) ≡ None))
+IsEnd true p = (p < MIDDLE) × (priority_for (Some p) ≡ None)
+IsEnd false p = (MIDDLE ≤ p) × (p < PLACES) × ((front_for (Some p) ≡ None) ⊎ (tail_for (Some p) ≡ None))
 
 -- the hold shows a member at a place before or after which no place is left, or an entry with priority
 abbrev pub EndsAt : Told → Notes → ℕ → Type 0
-EndsAt v n p = (StandsAt v n 384 middle places p × IsEnd false p) ⊎ (StandsAt v n 256 0 middle p × IsEnd true p)
+EndsAt v n p = (StandsAt v n MEMBERS MIDDLE PLACES p × IsEnd false p) ⊎ (StandsAt v n ENTRIES 0 MIDDLE p × IsEnd true p)
 
 -- After some front of the list of task `me` the task held this head, and its hold showed such a place. It stays so
 -- when the list grows.
@@ -41,4 +59,4 @@ pub record WasWorn (me : ℕ) (items : List Item) (h p : ℕ) : Type 0 where
 
 -- so many entries were queued at a head at which no place is left
 abbrev pub worn_adds : ℕ
-worn_adds = 2 ^ 37
+worn_adds = (PLACES - FIRST_PLACE) / 2

@@ -3,7 +3,7 @@ pub mod Notes
 pub mod Members
 pub mod Places
 pub mod Ends
-pub mod Views
+pub mod Journals
 pub mod Known
 pub mod Rule
 pub mod Says

@@ -1,5 +1,6 @@
 -- The entries and the queue of a head, as a hold of it shows them. (To be believed.)
 use Rattle.std.specs.Prelude.{ℕ, zero, suc, Option, Some, None, List, []}
+use Rattle.wait_model.specs.declared.layout.TheConstants.{MEMBERS}
 use Rattle.wait_model.specs.declared.watches.Entry.{Entry}
 use Rattle.wait_model.specs.declared.queues.Member.{Member}
 use Rattle.wait_model.specs.Queues.{mark_add}
@@ -29,4 +30,4 @@ queue_below at (suc n) = queue_with n (at n) (queue_below at n)
 
 -- the queue of the head, as the hold shows it
 unfoldable pub shown_queue : Known → List Member
-shown_queue k = queue_below (place_by k) 384
+shown_queue k = queue_below (place_by k) MEMBERS

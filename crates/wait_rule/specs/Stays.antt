@@ -1,20 +1,25 @@
 -- What stays of a task while it looks, holds heads, queues and wakes. (To be believed.)
-use Rattle.std.specs.Prelude.{ℕ, ◌≡◌, ◌<◌, ◌⊎◌, ◌||◌, ◌==◌, Bool, true, false, Option, Some, None}
+use Rattle.std.specs.Prelude.{ℕ, ◌≡◌, ◌<◌, ◌⊎◌, ◌&&◌, ◌||◌, ◌==◌, not, Bool, true, false, Option, Some, None}
 use Rattle.wait_model.specs.declared.watches.Watch.{Watch}
 use Rattle.wait_model.specs.declared.watches.Entry.{Entry}
-use Rattle.wait_model.specs.Views.{View as Told, tries}
+use Rattle.wait_model.specs.declared.watches.Mode.{Mode}
+use Rattle.wait_model.specs.declared.watches.Mode.TheVariants as mode
+use Rattle.wait_model.specs.Tasks.{meets}
+use Rattle.wait_model.specs.Watches.{same, mask_of, head_of}
+use Rattle.wait_model.specs.Words.{entry_of}
+use Rattle.wait_model.specs.Views.{View as Told, is_trying_for}
 use Rattle.wait_rule.specs.Known.{Known}
 use Rattle.wait_rule.specs.Members.{IsOwnKind}
-use Rattle.wait_rule.specs.Says.{Excuse, OwesBut, told_of}
-use Rattle.wait_rule.specs.Queues.{index}
+use Rattle.wait_rule.specs.Says.{Excuse, OwesBut, OwesNothing, no_excuse, told_of}
+use Rattle.wait_rule.specs.Queues.{MayUnqueue, index}
 
 -- no entry that the history has stored is an exclusive one for a bit, by which a task that finds it off tries the bit
 abbrev pub TriesNone : Told → Type 0
-TriesNone v = (x : ℕ) (c : Watch) → tries (v.bits.stored x) c ≡ false
+TriesNone v = (x : ℕ) (c : Watch) → is_trying_for (v.bits.stored x) c ≡ false
 
 -- no entry word, and one
-abbrev pub nothing : ℕ → Bool
-nothing x = false
+abbrev pub no_entries : ℕ → Bool
+no_entries x = false
 
 abbrev pub only : ℕ → ℕ → Bool
 only x y = y == x
@@ -43,3 +48,121 @@ StaysOwing old new = (x : Excuse) → OwesBut x (told_of old) → OwesBut x (tol
 -- it is excused of an entry too
 abbrev pub also : ℕ → Excuse → Excuse
 also i x = record { wakes = x.wakes; entries = λ y. (y == i) || x.entries y }
+
+-- Each excuse is also one of wakes of tasks in states that no wake meets.
+abbrev pub least : Excuse → Excuse
+least x = record {
+  wakes = λ c σ. x.wakes c σ || not (meets (mask_of mode.Normal) σ);
+  entries = x.entries;
+}
+
+-- What a task owes, in one word that calls carry on: but for what it is excused of it owes nothing, and it tries no
+-- bit by an entry that it has stored.
+unfoldable pub Owes : Excuse → Known → Type 0
+Owes x k = OwesBut (least x) (told_of k) × TriesNone (told_of k)
+
+-- it is excused of an entry too, and of wakes of a watch in the states that a mode meets
+unfoldable pub with_entry : ℕ → Excuse → Excuse
+with_entry i x = also i x
+
+unfoldable pub with_wakes : Watch → Mode → Excuse → Excuse
+with_wakes c m x = record {
+  wakes = λ d σ. x.wakes d σ || (same d c && meets (mask_of m) σ);
+  entries = x.entries;
+}
+
+-- What a call changes of a task: what it owes, from an excuse before the call to one after it; which entry words,
+-- and whether it looks at others; its state; the head that it holds, and the one that it took last; and of which
+-- watches it may owe wakes anew.
+pub record Change : Type 0 where
+  pub from : Excuse → Excuse
+  pub to : Excuse → Excuse
+  pub but : ℕ → Bool
+  pub looks : Bool
+  pub state : ℕ → ℕ
+  pub head : Option ℕ → Option ℕ
+  pub at : ℕ → ℕ
+  pub publishes : Watch → Bool
+
+abbrev pub unchanged : Change
+unchanged = record {
+  from = λ x. x;
+  to = λ x. x;
+  but = no_entries;
+  looks = false;
+  state = λ σ. σ;
+  head = λ h. h;
+  at = λ h. h;
+  publishes = λ c. false;
+}
+
+-- the changes of the calls: a stored state, a lock and an unlock of a head, looks, an own entry that is queued, an
+-- entry that is taken off, a condition that is published, and a wake of all who wait for a watch in the states that a
+-- mode meets
+abbrev pub state_change : ℕ → Change
+state_change σ = record unchanged { state = λ _. σ }
+
+abbrev pub lock_change : ℕ → Change
+lock_change h = record unchanged { head = λ _. Some h; at = λ _. h }
+
+abbrev pub unlock_change : Change
+unlock_change = record unchanged { head = λ _. None }
+
+abbrev pub only_looks : Change
+only_looks = record unchanged { looks = true }
+
+abbrev pub queue_change : ℕ → Change
+queue_change i = record unchanged { to = with_entry i; but = only i; looks = true }
+
+abbrev pub take_off_change : ℕ → Change
+take_off_change i = record unchanged { from = with_entry i; but = only i }
+
+abbrev pub publish_change : Watch → Change
+publish_change c = record unchanged { to = with_wakes c mode.Normal; publishes = λ d. same d c }
+
+abbrev pub wake_all_change : Watch → Mode → ℕ → Change
+wake_all_change c m h = record unchanged { from = with_wakes c m; looks = true; head = λ _. None; at = λ _. h }
+
+-- What stays of a task over a call that changes no more than this. It is the same task of the same Domain, as awake,
+-- with the same bookmark out. It owes no wake that it did not owe, of any watch and state, but of what it published.
+-- What it had stored of an entry word stays, where the call looks at none; an own entry that no other task may take off
+-- stands in any case, and where none was stored, none is. What it owes is carried on for each excuse; `clean` and
+-- `settled` say what that means for a task that owes nothing.
+pub record Carries (c : Change) (old new : Known) : Type 0 where
+  pub domain : new.domain ≡ old.domain
+  pub number : new.view.number ≡ old.view.number
+  pub awake : new.book.awake ≡ old.book.awake
+  pub state : new.book.state ≡ c.state old.book.state
+  pub head : new.book.head ≡ c.head old.book.head
+  pub hold : (told_of new).hold.head ≡ c.head (told_of old).hold.head
+  pub at : new.at ≡ c.at old.at
+  pub mark : (told_of new).mark ≡ (told_of old).mark
+  pub fewer : (w : Watch) (σ : ℕ) → c.publishes w ≡ false → (told_of old).duty.owes w σ ≡ false
+      → (told_of new).duty.owes w σ ≡ false
+  pub stored : (x : ℕ) → c.looks ≡ false → c.but x ≡ false
+      → (told_of new).bits.stored x ≡ (told_of old).bits.stored x
+  pub out : (x : ℕ) → c.but x ≡ false → (told_of old).bits.stored x ≡ None → (told_of new).bits.stored x ≡ None
+  pub stands : (slot : ℕ) → slot < 2 → c.but (index old.view.number slot) ≡ false → (e : Entry)
+      → (told_of old).bits.stored (index old.view.number slot) ≡ Some e → IsOwnKind e.kind
+      → (told_of new).bits.stored (index old.view.number slot) ≡ Some e
+  pub owes : (x : Excuse) → Owes (c.from x) old → Owes (c.to x) new
+  pub clean : OwesNothing (told_of old) → Owes no_excuse old
+  pub settled : Owes no_excuse new → OwesNothing (told_of new)
+
+-- the head of a stored entry, and whether a word shows an entry
+abbrev pub head_stored : Option Entry → Option ℕ
+head_stored None = None
+head_stored (Some e) = Some (head_of e.watch)
+
+abbrev pub is_on : Option Entry → Bool
+is_on None = false
+is_on (Some e) = true
+
+-- What a load of an entry word tells: an own entry of the head that the task holds may be taken off where the word
+-- shows it, and one that was found off is owed no more.
+pub record FindsOwnWord (old new : Known) (who slot w : ℕ) : Type 0 where
+  pub may : who ≡ old.view.number → slot < 2 → (told_of old).hold.head ≡ Some old.at → old.book.head ≡ Some old.at
+      → head_stored ((told_of old).bits.stored (index who slot)) ≡ Some old.at → is_on (entry_of w) ≡ true
+      → MayUnqueue new who slot
+  pub gone : entry_of w ≡ None → (told_of new).bits.stored (index who slot) ≡ None
+  pub off : entry_of w ≡ None → (x : Excuse) → Owes (with_entry (index who slot) x) old → Owes x new

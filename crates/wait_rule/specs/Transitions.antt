@@ -1,7 +1,26 @@
 -- The transitions of a call on a Domain: the task goes through the program of the call, the same that a core runs. Each
--- event of the program is one step of its history, as a core would make it there; before it and behind the last the
+-- event of the program is one step of its history, as a core would make it there; before it and after the last the
 -- task looks at words. (To be believed.)
-use Rattle.std.specs.Prelude.{ℕ, ◌+◌, ◌≡◌, ◌<◌, ◌==◌, ◌||◌, not, Bool, true, false, if◌then◌else◌, Option, Some, None, List, [], ◌∷◌}
+use Rattle.std.specs.Prelude.{
+  ℕ,
+  ◌+◌,
+  ◌≡◌,
+  ◌<◌,
+  ◌==◌,
+  ◌||◌,
+  not,
+  Bool,
+  true,
+  false,
+  if◌then◌else◌,
+  Option,
+  Some,
+  None,
+  List,
+  [],
+  ◌∷◌,
+}
+use Rattle.wait_model.specs.declared.layout.TheConstants.{ENTRIES, MEMBERS, PLACES, MIDDLE}
 use Rattle.wait_model.specs.declared.watches.Watch.{Watch}
 use Rattle.wait_model.specs.declared.watches.Entry.{Entry}
 use Rattle.wait_model.specs.declared.watches.Aim.{Aim}
@@ -35,20 +54,21 @@ use Rattle.wait_model.specs.Watches.{head_of, owner, same}
 use Rattle.wait_model.specs.Words.{entry_of, flag_of}
 use Rattle.wait_model.specs.Views.{Look, unseen, off, elsewhere, shown}
 use Rattle.wait_model.specs.Tables.{mark_of}
-use Rattle.wait_model.specs.Queues.{Arrival, middle, places, is_within, place_for, entry_from}
+use Rattle.wait_model.specs.Queues.{Arrival, is_within, place_for, entry_from}
 use Rattle.wait_model.specs.Points.{form_of, given_at, walk_given}
 use Rattle.wait_model.specs.Programs.{walk_event}
 use Rattle.wait_model.specs.Programs as programs
-use Rattle.wait_model.specs.Runs.{entry_for, is_publish, arrives_from, called_of, called_member, called_by, mark_for}
-use Rattle.wait_rule.specs.declared.view.Item.{Item}
-use Rattle.wait_rule.specs.declared.view.Item.TheVariants as item
+use Rattle.wait_model.specs.Runs.{entry_for, is_publishing, arrives_from, called_of, called_member, called_by, mark_for}
+use Rattle.wait_rule.specs.declared.journal.Item.{Item}
+use Rattle.wait_rule.specs.declared.journal.Item.TheVariants as item
 use Rattle.wait_rule.specs.Items.{book_from}
 use Rattle.wait_rule.specs.Known.{Known}
 use Rattle.wait_rule.specs.Says.{told_of, history_of, noted, added, grown}
 use Rattle.wait_rule.specs.Queues.{IsWholeBook, IsWalkOfCall, at_head, index}
 use Rattle.wait_rule.specs.Shown.{shown_entry, shown_queue}
 
--- What is no event: loads in a hold, tries that find a lock held, and the loads by which a task that sleeps sees whether
+-- What is no event: loads in a hold, tries that find a lock held, and the loads by which a task that sleeps sees
+-- whether
 -- it was woken.
 abbrev pub IsLook : Item → Type 0
 IsLook (item.Made (step.Saw x w)) = Unit {0}
@@ -67,7 +87,8 @@ pub record OnlyLooks (old new : Known) : Type 0 where
   pub looks : AreLooks items
   pub is : new ≡ grown old items (book_from old.book items)
 
--- A program: the event at each point by what was found there, with the point behind it; what that event's step is given;
+-- A program: the event at each point by what was found there, with the point after it; what that event's step is
+-- given;
 -- and the own entry word with the form in which it is queued, where it has one. A call is a program.
 pub record Program : Type 0 where
   pub plan : Point → Seen → Planned
@@ -97,27 +118,27 @@ walk_program aim = record {
 }
 
 -- what a task makes for one event: a step, or, where it looks for members without the lock, loads of many words
-pub data Deed : Type 0 where
-  makes : Step → Deed
-  seeks : List Item → Deed
+pub data StepOrLook : Type 0 where
+  by_step : Step → StepOrLook
+  by_look : List Item → StepOrLook
 
 -- one event: what the program found, what the task knew before it, and what the task made
 pub record Transition : Type 0 where
   pub seen : Seen
   pub knew : Known
-  pub did : Deed
+  pub did : StepOrLook
 
 abbrev pub with_lock : Step → Known → Known
 with_lock (step.Lock h aim w) k = at_head h k
 with_lock _ k = k
 
--- what the task knows behind it
-abbrev pub after_deed : Deed → Known → Known
-after_deed (makes e) k = with_lock e (added k (item.Made e))
-after_deed (seeks xs) k = grown k xs (book_from k.book xs)
+-- what the task knows after it
+abbrev pub after_step_or_look : StepOrLook → Known → Known
+after_step_or_look (by_step e) k = with_lock e (added k (item.Made e))
+after_step_or_look (by_look xs) k = grown k xs (book_from k.book xs)
 
 abbrev pub after_transition : Transition → Known
-after_transition t = after_deed t.did t.knew
+after_transition t = after_step_or_look t.did t.knew
 
 -- The own entry is queued at the place that its form takes, by the queue that the hold's whole book shows.
 abbrev pub IsQueuing : Known → Option ℕ → Given → ℕ → Form → ℕ → Entry → Type 0
@@ -141,8 +162,8 @@ IsStepFor k own g (event.Queued hit) (step.Peek x w) = own ≡ Some x
 IsStepFor k own g (event.Mark h) (step.Mark i q) = (i ≡ h) × (q ≡ (mark_for (shown_entry k) g h (shown_queue k)).place)
 IsStepFor k own g (event.Unmark h) step.Unmark = k.at ≡ h
 IsStepFor k own g (event.Load c v) (step.Load l r) = l ≡ g.watch
-IsStepFor k own g (event.Set c v) (step.Publish l n r) = (l ≡ g.watch) × (n ≡ v) × (is_publish l r n ≡ true)
-IsStepFor k own g (event.Set c v) (step.Consume l n r) = (l ≡ g.watch) × (n ≡ v) × (is_publish l r n ≡ false)
+IsStepFor k own g (event.Set c v) (step.Publish l n r) = (l ≡ g.watch) × (n ≡ v) × (is_publishing l r n ≡ true)
+IsStepFor k own g (event.Set c v) (step.Consume l n r) = (l ≡ g.watch) × (n ≡ v) × (is_publishing l r n ≡ false)
 IsStepFor k own g (event.Take c v) (step.Consume l n r) = (l ≡ g.watch) × (n ≡ 0)
 IsStepFor k own g (event.Tas i b v) (step.Consume l n r) = (l ≡ g.watch) × (n ≡ 1)
 IsStepFor k own g (event.Clear i b) (step.Publish l n r) = (l ≡ g.watch) × (n ≡ 0)
@@ -152,14 +173,14 @@ IsStepFor k own g event.Unflag (step.Unflag x) = own ≡ Some x
 IsStepFor k own g _ _ = ⊥
 
 -- A look for members without the lock loads words of entries and bookmarks: all of them, where it finds no member.
-abbrev pub IsSought : Item → Type 0
-IsSought (item.Made (step.Peek x w)) = Unit {0}
-IsSought (item.Bookmark t w) = Unit {0}
-IsSought _ = ⊥
+abbrev pub IsMemberLook : Item → Type 0
+IsMemberLook (item.Made (step.Peek x w)) = Unit {0}
+IsMemberLook (item.Bookmark t w) = Unit {0}
+IsMemberLook _ = ⊥
 
-abbrev pub AreSought : List Item → Type 0
-AreSought [] = Unit {0}
-AreSought (x ∷ xs) = IsSought x × AreSought xs
+abbrev pub AreMemberLooks : List Item → Type 0
+AreMemberLooks [] = Unit {0}
+AreMemberLooks (x ∷ xs) = IsMemberLook x × AreMemberLooks xs
 
 abbrev pub is_entry_at : ℕ → Option Entry → Bool
 is_entry_at h None = false
@@ -181,18 +202,18 @@ has_member_at h (x ∷ xs) = is_member_at h x || has_member_at h xs
 -- the number of the member whose word was loaded, and which numbers a list has
 abbrev pub is_number : ℕ → Item → Bool
 is_number m (item.Made (step.Peek x w)) = x == m
-is_number m (item.Bookmark t w) = 256 + t == m
+is_number m (item.Bookmark t w) = ENTRIES + t == m
 is_number m _ = false
 
 abbrev pub has_number : ℕ → List Item → Bool
 has_number m [] = false
 has_number m (x ∷ xs) = is_number m x || has_number m xs
 
-abbrev pub IsDeedFor : Known → Option ℕ → Given → Event → Deed → Type 0
-IsDeedFor k own g e (makes s) = IsStepFor k own g e s
-IsDeedFor k own g (event.Active h hit) (seeks xs) = AreSought xs × (has_member_at h xs ≡ hit)
-    × (hit ≡ false → (m : ℕ) → m < 384 → has_number m xs ≡ true)
-IsDeedFor k own g _ (seeks xs) = ⊥
+abbrev pub IsMadeFor : Known → Option ℕ → Given → Event → StepOrLook → Type 0
+IsMadeFor k own g e (by_step s) = IsStepFor k own g e s
+IsMadeFor k own g (event.Active h hit) (by_look xs) = AreMemberLooks xs × (has_member_at h xs ≡ hit)
+    × (hit ≡ false → (m : ℕ) → m < MEMBERS → has_number m xs ≡ true)
+IsMadeFor k own g _ (by_look xs) = ⊥
 
 -- what the program found is what its step found
 abbrev pub FindsStep : Step → Seen → Type 0
@@ -246,9 +267,9 @@ FindsFirst k seen = IsWholeBook k × (seen.called ≡ called_by (shown_entry k) 
 
 -- whether no place is left for an entry of this form, by that queue
 abbrev pub is_worn : Form → List Member → Bool
-is_worn forms.Front queue = not (is_within middle places (place_for forms.Front queue))
-is_worn forms.Tail queue = not (is_within middle places (place_for forms.Tail queue))
-is_worn forms.Priority queue = not (is_within 0 middle (place_for forms.Priority queue))
+is_worn forms.Front queue = not (is_within MIDDLE PLACES (place_for forms.Front queue))
+is_worn forms.Tail queue = not (is_within MIDDLE PLACES (place_for forms.Tail queue))
+is_worn forms.Priority queue = not (is_within 0 MIDDLE (place_for forms.Priority queue))
 
 abbrev pub FindsPlace : Known → Option Form → Seen → Type 0
 FindsPlace k None seen = ⊥
@@ -264,7 +285,8 @@ FindsAt k own form g (at.Leave leaving.Queue) seen = FindsOwn k own seen
 FindsAt k own form g (at.Finish finishing.Queue failed) seen = FindsOwn k own seen
 FindsAt k own form g (at.Await (awaiting.Off stopped)) seen = FindsOwn k own seen × FindsValue k g.watch seen
 FindsAt k own form g (at.Await (awaiting.Last stopped)) seen = FindsValue k g.watch seen
-FindsAt k own form g (at.Remove removing.Lock) seen = (x : ℕ) × (own ≡ Some x) × (seen.entry ≡ (told_of k).bits.stored x)
+FindsAt k own form g (at.Remove removing.Lock) seen = (x : ℕ) × (own ≡ Some x)
+    × (seen.entry ≡ (told_of k).bits.stored x)
 FindsAt k own form g (at.Walk (walking.Call w)) seen =
     FindsNext k (arrives_from (shown_entry k) g.watch w.place w.calls (shown_queue k)) seen
 FindsAt k own form g (at.Walk (walking.Unmark w)) seen = seen.mark ≡ (noted k).own
@@ -283,17 +305,18 @@ IsAbout k own (at.Select (selecting.Off n who)) (step.Unqueue x) seen = (m : Mem
 IsAbout k own _ (step.Unqueue x) seen = own ≡ Some x
 IsAbout k own _ _ seen = Unit {0}
 
-abbrev pub Finds : Known → Program → Point → Deed → Seen → Type 0
-Finds k f p (makes e) seen = FindsStep e seen × FindsAt k f.own f.form (f.given p) p seen × IsAbout k f.own p e seen
-Finds k f p (seeks xs) seen = FindsAt k f.own f.form (f.given p) p seen
+abbrev pub Finds : Known → Program → Point → StepOrLook → Seen → Type 0
+Finds k f p (by_step e) seen = FindsStep e seen × FindsAt k f.own f.form (f.given p) p seen × IsAbout k f.own p e seen
+Finds k f p (by_look xs) seen = FindsAt k f.own f.form (f.given p) p seen
 
 -- Before the transition the task looked at some words. What it made is the program's event at this point.
 pub record IsTransition (program : Program) (p : Point) (old : Known) (t : Transition) : Type 0 where
   pub looks : OnlyLooks old t.knew
-  pub is : IsDeedFor t.knew program.own (program.given p) (program.plan p t.seen).event t.did
+  pub is : IsMadeFor t.knew program.own (program.given p) (program.plan p t.seen).event t.did
   pub finds : Finds t.knew program p t.did t.seen
 
--- by these transitions, and looks behind the last, the program goes from one place to another, and the task comes to know
+-- by these transitions, and looks after the last, the program goes from one place to another, and the task comes to
+-- know
 -- what it knows then
 abbrev pub Goes : Program → Known → Next → List Transition → Known → Next → Type 0
 Goes program old n [] new m = OnlyLooks old new × (m ≡ n)

@@ -2,7 +2,8 @@
 
 ghost use Rattle.std.specs.Prelude.{◌≡◌};
 ghost use Rattle.wait_rule.specs.Says.{MeetsLaw};
-ghost use Rattle.wait_rule.specs.Worn.{EntriesWearLate, MarksWearLate, HoldsWearLate, HoldsNote, NotesStay, JoinKeepsNotes, OwnWearsLate, JoinedWearsLate};
+ghost use Rattle.wait_rule.specs.Worn.{EntriesWearLate, MarksWearLate, HoldsWearLate, OwnWearsLate, JoinedWearsLate};
+ghost use Rattle.wait_rule.specs.Worn.{HoldsNote, NotesStay, JoinKeepsNotes};
 ghost use Rattle.wait_rule.specs.WorkedHolds.{SimpleHolds, CallsRightly, PausesRightly};
 
 use crate::domain::{Domain, Task};

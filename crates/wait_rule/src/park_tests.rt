@@ -1,6 +1,7 @@
-//! Threads that sleep and wake one another again and again, in Domains whose tasks park at once when they are put asleep.
+//! Threads that sleep and wake one another again and again, in Domains whose tasks park at once when they are put
+//! asleep.
 
-ghost use Rattle.std.specs.Prelude.{◌≡◌, ◌<◌};
+ghost use Rattle.std.specs.Prelude.{◌≡◌};
 ghost use Rattle.wait_rule.specs.Says.{IsClean};
 
 use crate::domain::{Domain, Task};
@@ -10,7 +11,7 @@ use std::sync::Wait;
 use std::test::Fail;
 use std::thread;
 use std::thread::Threads;
-use wait_model::tasks::UNINTERRUPTIBLE;
+use wait_model::layout::UNINTERRUPTIBLE;
 use wait_model::watches::Mode;
 
 /// How many batches a test makes, each in a Domain and by threads of its own: threads that wake each other for long
@@ -36,7 +37,6 @@ fn doze<R: Wait>(rt: &R, domain: &Domain, task: &mut Task)
 fn wake_soon<R: Wait>(rt: &R, domain: &Domain, task: &mut Task, who: u8) -> bool
     requires of { task.old.domain ≡ domain.now }
     requires clean { IsClean task.old }
-    requires who { who < 128 }
     ensures of { task.new.domain ≡ domain.now }
     ensures clean { IsClean task.new }
 {
@@ -52,7 +52,6 @@ fn wake_soon<R: Wait>(rt: &R, domain: &Domain, task: &mut Task, who: u8) -> bool
 fn wake_up<R: Wait>(rt: &R, domain: &Domain, task: &mut Task, who: u8)
     requires of { task.old.domain ≡ domain.now }
     requires clean { IsClean task.old }
-    requires who { who < 128 }
     ensures of { task.new.domain ≡ domain.now }
     ensures clean { IsClean task.new }
 {
@@ -79,7 +78,6 @@ fn sleeps<R: Wait>(rt: &R, domain: &Domain, mut task: Task)
 fn wakes<R: Wait>(rt: &R, domain: &Domain, mut task: Task, who: u8)
     requires of { task.domain ≡ domain.now }
     requires clean { IsClean task }
-    requires who { who < 128 }
 {
     for _ in 0..ROUNDS {
         wake_up(rt, domain, &mut task, who);
@@ -108,7 +106,7 @@ fn sleeps_end(rt: HostRuntime) -> Result<(), Fail> {
     for _ in 0..BATCHES {
         let (domain, mut task) = Domain::with_looks(rt.alloc(), 0)?;
         let Ok(one) = task.fork(&domain, 0) else {
-            panic!(rt; "127 numbers are spare")
+            panic!(rt; "a number is spare")
         };
         two_meet(&rt, &domain, task, one);
     }
@@ -119,7 +117,6 @@ fn sleeps_end(rt: HostRuntime) -> Result<(), Fail> {
 fn turn<R: Wait>(rt: &R, domain: &Domain, task: &mut Task, other: u8, first: bool)
     requires of { task.old.domain ≡ domain.now }
     requires clean { IsClean task.old }
-    requires other { other < 128 }
     ensures of { task.new.domain ≡ domain.now }
     ensures clean { IsClean task.new }
 {
@@ -137,7 +134,6 @@ fn turn<R: Wait>(rt: &R, domain: &Domain, task: &mut Task, other: u8, first: boo
 fn turns<R: Wait>(rt: &R, domain: &Domain, mut task: Task, next: u8, last: u8, first: bool)
     requires of { task.domain ≡ domain.now }
     requires clean { IsClean task }
-    requires others { (next < 128) × (last < 128) }
 {
     for _ in 0..ROUNDS {
         turn(rt, domain, &mut task, next, first);
@@ -184,7 +180,7 @@ fn three_hand_on(rt: HostRuntime) -> Result<(), Fail> {
     for _ in 0..BATCHES {
         let (domain, mut task) = Domain::with_looks(rt.alloc(), 0)?;
         let (Ok(one), Ok(two)) = (task.fork(&domain, 0), task.fork(&domain, 0)) else {
-            panic!(rt; "127 numbers are spare")
+            panic!(rt; "a number is spare")
         };
         three_turn(&rt, &domain, task, one, two);
     }

@@ -1,4 +1,4 @@
-use Rattle.wait_rule.proofs.WorkedHolds.{simple_holds, calls_rightly, pauses_rightly}
+use Rattle.wait_rule.proofs.WorkedTests.WorkedHolds.{simple_holds, calls_rightly, pauses_rightly}
 use Rattle.wait_rule.proofs.laws.worked_holds.Goals as goal
 
 pub returns-clause-simple : goal.returns-clause-simple

@@ -1,4 +1,4 @@
-use Rattle.wait_rule.proofs.WornNotes.{holds_note, notes_stay, join_keeps_notes, own_late, joined_late}
+use Rattle.wait_rule.proofs.WornHeads.WornNotes.{holds_note, notes_stay, join_keeps_notes, own_late, joined_late}
 use Rattle.wait_rule.proofs.laws.worn_stays.Goals as goal
 
 pub returns-clause-notes : goal.returns-clause-notes

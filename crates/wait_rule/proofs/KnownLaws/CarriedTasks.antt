@@ -1,0 +1,429 @@
+-- What calls carry on of a task.
+use Rattle.std.proofs.Common.{◌∙◌, ap, sym, refl, subst, inl, inr, append-nil, eq-eqb}
+use Rattle.std.specs.Prelude.{
+  ℕ,
+  ◌≡◌,
+  ◌<◌,
+  ◌⊎◌,
+  ◌&&◌,
+  ◌||◌,
+  not,
+  Bool,
+  true,
+  false,
+  Option,
+  Some,
+  None,
+  List,
+  ◌++◌,
+  if◌then◌else◌,
+}
+use Rattle.wait_model.specs.declared.watches.Watch.{Watch}
+use Rattle.wait_model.specs.declared.watches.Watch.TheVariants as watch
+use Rattle.wait_model.specs.declared.watches.Entry.{Entry}
+use Rattle.wait_model.specs.declared.watches.Mode.TheVariants as mode
+use Rattle.wait_model.specs.declared.steps.Step.{Step}
+use Rattle.wait_model.specs.declared.steps.Step.TheVariants as step
+use Rattle.wait_model.specs.declared.tasks.Sleep.{Sleep}
+use Rattle.wait_model.specs.declared.tasks.Sleep.TheVariants as sleep
+use Rattle.wait_model.specs.Tasks.{meets, task_of, sleep_of}
+use Rattle.wait_model.specs.Watches.{same, mask_of, failing, head_of}
+use Rattle.wait_model.specs.Words.{entry_of}
+use Rattle.wait_model.specs.Views.{View as Told, is_trying_for, shown, elsewhere, look_at, all_cleared}
+use Rattle.wait_model.specs.Fold.{after, after_look, peeks, view_of}
+use Rattle.wait_model.proofs.Functions.{put_same}
+use Rattle.wait_rule.specs.declared.journal.Item.TheVariants as item
+use Rattle.wait_rule.specs.Items.{Book, after_sleep, after_awake, learn_step, steps_of}
+use Rattle.wait_rule.specs.Known.{Known}
+use Rattle.wait_rule.specs.Says.{Excuse, IsOutBut, OwesBut, OwesNothing, IsAwakeAgain, no_excuse, added, told_of}
+use Rattle.wait_rule.specs.Queues.{KnewEntry, MayUnqueue, index, saw}
+use Rattle.wait_rule.specs.Stays.{
+  TriesNone,
+  Stays,
+  StaysOwing,
+  no_entries,
+  least,
+  Owes,
+  with_entry,
+  with_wakes,
+  Change,
+  Carries,
+  FindsOwnWord,
+  unchanged,
+  only_looks,
+  publish_change,
+  head_stored,
+  is_on,
+}
+use Rattle.wait_rule.proofs.KnownLaws.AfterSteps.{told_added}
+use Rattle.wait_rule.proofs.TableSteps.ItemLists.{steps_append}
+use Rattle.wait_rule.proofs.KnownLaws.SettledTasks.{owes_after, owes_looks}
+use Rattle.wait_rule.proofs.KnownLaws.StayingParts.{none_tried, stays_owing, look_stays, look_out, owes_out}
+
+-- whoever is excused of more owes no more
+covered : (o x y : Bool) → (x ≡ true → y ≡ true) → (o && not x) ≡ false → (o && not y) ≡ false
+covered false x y more is = refl
+covered true true y more is = ap not (more refl)
+covered true false y more is = absurd (cc)
+
+pub owes_more : (x y : Excuse) (v : Told) → ((c : Watch) (σ : ℕ) → x.wakes c σ ≡ true → y.wakes c σ ≡ true)
+    → y.entries ≡ x.entries → OwesBut x v → OwesBut y v
+owes_more x y v more same o = record {
+  unmarked = o.unmarked;
+  owes = λ c σ. covered (v.duty.owes c σ) (x.wakes c σ) (y.wakes c σ) (more c σ) (o.owes c σ);
+  unqueued = λ i. subst (λ (f : ℕ → Bool). IsOutBut (f i) (v.bits.stored i)) (sym same) (o.unqueued i);
+  holds = o.holds;
+  tries = o.tries;
+}
+
+or_left : (a b : Bool) → a ≡ true → (a || b) ≡ true
+or_left true b is = refl
+or_left false b is = absurd (cc)
+
+or_same : (b : Bool) → (b || b) ≡ true → b ≡ true
+or_same true is = refl
+or_same false is = is
+
+-- what the one word means for a task that owes nothing
+pub clean_owes : (k : Known) → OwesNothing (told_of k) → Owes no_excuse k
+unfolding Owes
+clean_owes k o = (
+  owes_more no_excuse (least no_excuse) (told_of k)
+      (λ c σ. or_left (not (meets (mask_of mode.Normal) σ)) (not (meets (mask_of mode.Normal) σ))) refl o,
+  none_tried (told_of k) o,
+)
+
+pub owes_clean : (k : Known) → Owes no_excuse k → OwesNothing (told_of k)
+unfolding Owes
+owes_clean k o = owes_more (least no_excuse) no_excuse (told_of k)
+    (λ c σ. or_same (not (meets (mask_of mode.Normal) σ))) refl o.0
+
+pub owes_on : (old new : Known) → (TriesNone (told_of old) → TriesNone (told_of new))
+    → (TriesNone (told_of old) → StaysOwing old new) → (x : Excuse) → Owes x old → Owes x new
+unfolding Owes
+owes_on old new none owing x o = (owing o.1 (least x) o.0, none o.1)
+
+-- where entries stay, but for the state and the head
+still_out : (now was : Option Entry) → (now ≡ was) ⊎ (now ≡ None) → was ≡ None → now ≡ None
+still_out now was (inl same) none = same ∙ none
+still_out now was (inr out) none = out
+
+-- a change of the state and the head alone
+abbrev pub moving : (ℕ → ℕ) → (Option ℕ → Option ℕ) → (ℕ → ℕ) → Change
+moving state head at = record unchanged { state = state; head = head; at = at }
+
+-- by what stays beside the state
+pub stays_carried : (head : Option ℕ → Option ℕ) (at : ℕ → ℕ) (looks : Bool) (old new : Known)
+    → Stays no_entries old new
+    → new.book.head ≡ head old.book.head → (told_of new).hold.head ≡ head (told_of old).hold.head → new.at ≡ at old.at
+    → (told_of new).mark ≡ (told_of old).mark
+    → ((c : Watch) (σ : ℕ) → (told_of old).duty.owes c σ ≡ false → (told_of new).duty.owes c σ ≡ false)
+    → ((x : ℕ) → looks ≡ false → (told_of new).bits.stored x ≡ (told_of old).bits.stored x)
+    → Carries (record unchanged { looks = looks; head = head; at = at }) old new
+stays_carried head at looks old new s held hold last mark fewer stored = record {
+  domain = s.domain;
+  number = s.number;
+  awake = s.awake;
+  state = s.state;
+  head = held;
+  hold = hold;
+  at = last;
+  mark = mark;
+  fewer = λ w σ _ is. fewer w σ is;
+  stored = λ x none _. stored x none;
+  out = λ x _ none. still_out _ _ (s.still x refl) none;
+  stands = λ slot few _ e is own. s.stands slot few refl e is own;
+  owes = owes_on old new s.tries_none (stays_owing old new s mark fewer);
+  clean = clean_owes old;
+  settled = owes_clean new;
+}
+
+-- by a history whose entries stay
+pub told_carried : (state : ℕ → ℕ) (old new : Known) → new.domain ≡ old.domain → new.view.number ≡ old.view.number
+    → new.book.awake ≡ old.book.awake → new.book.state ≡ state old.book.state → new.book.head ≡ old.book.head
+    → (told_of new).hold.head ≡ (told_of old).hold.head → new.at ≡ old.at → (told_of new).mark ≡ (told_of old).mark
+    → (told_of new).duty.owes ≡ (told_of old).duty.owes → (told_of new).bits.stored ≡ (told_of old).bits.stored
+    → StaysOwing old new → Carries (moving state (λ h. h) (λ h. h)) old new
+told_carried state old new domain number awake is_state head hold at mark duty stored owing = record {
+  domain = domain;
+  number = number;
+  awake = awake;
+  state = is_state;
+  head = head;
+  hold = hold;
+  at = at;
+  mark = mark;
+  fewer = λ w σ _ is. (λ i. duty i w σ) ∙ is;
+  stored = λ x _ _. λ i. stored i x;
+  out = λ x _ none. (λ i. stored i x) ∙ none;
+  stands = λ slot few _ e is own. (λ i. stored i (index old.view.number slot)) ∙ is;
+  owes = owes_on old new (λ none x c. ap (λ (f : ℕ
+      → Option Entry). is_trying_for (f x) c) stored ∙ none x c) (λ _. owing);
+  clean = clean_owes old;
+  settled = owes_clean new;
+}
+
+-- one step more
+pub step_carried : (state : ℕ → ℕ) (old new : Known) (e : Step) → new ≡ added old (item.Made e)
+    → new.book.awake ≡ old.book.awake → new.book.state ≡ state old.book.state → new.book.head ≡ old.book.head
+    → (after e (told_of old)).hold.head ≡ (told_of old).hold.head → (after e (told_of old)).mark ≡ (told_of old).mark
+    → (after e (told_of old)).duty.owes ≡ (told_of old).duty.owes
+    → (after e (told_of old)).bits.stored ≡ (told_of old).bits.stored → StaysOwing old new
+    → Carries (moving state (λ h. h) (λ h. h)) old new
+step_carried state old new e is awake now head hold mark duty stored owing = told_carried state old new
+    (ap (λ (k : Known). k.domain) is) (ap (λ (k : Known). k.view.number) is) awake now head
+    (ap (λ (v : Told). v.hold.head) told ∙ hold) (ap (λ (k : Known). k.at) is) (ap (λ (v : Told). v.mark) told ∙ mark)
+    (ap (λ (v : Told). v.duty.owes) told ∙ duty)
+    (ap (λ (v : Told). v.bits.stored) told ∙ stored) owing
+  where
+    told : told_of new ≡ after e (told_of old)
+    told = ap told_of is ∙ told_added old (item.Made e)
+
+-- over two calls that change nothing
+pub unchanged_on : (x y z : Known) → Carries unchanged x y → Carries unchanged y z → Carries unchanged x z
+unchanged_on x y z a b = record {
+  domain = b.domain ∙ a.domain;
+  number = b.number ∙ a.number;
+  awake = b.awake ∙ a.awake;
+  state = b.state ∙ a.state;
+  head = b.head ∙ a.head;
+  hold = b.hold ∙ a.hold;
+  at = b.at ∙ a.at;
+  mark = b.mark ∙ a.mark;
+  fewer = λ w σ p is. b.fewer w σ p (a.fewer w σ p is);
+  stored = λ i none p. b.stored i none p ∙ a.stored i none p;
+  out = λ i p is. b.out i p (a.out i p is);
+  stands = λ slot few p e is own.
+      subst (λ (m : ℕ). (told_of z).bits.stored (index m slot) ≡ Some e) a.number
+      (b.stands slot few refl e
+      (subst (λ (m : ℕ). (told_of y).bits.stored (index m slot) ≡ Some e) (sym a.number)
+      (a.stands slot few p e is own)) own);
+  owes = λ f o. b.owes f (a.owes f o);
+  clean = a.clean;
+  settled = b.settled;
+}
+
+-- a sleep
+slept_head : (s : Sleep) (b : Book) → (after_sleep s b).head ≡ b.head
+slept_head sleep.Stay b = refl
+slept_head sleep.Signal b = refl
+slept_head sleep.Asleep b = refl
+
+stays_awake : (s : Sleep) (b : Book) → (s ≡ sleep.Asleep → ⊥) → ((after_sleep s b).state ≡ 0) ×
+    ((after_sleep s b).awake ≡ b.awake)
+stays_awake sleep.Stay b is = (refl, refl)
+stays_awake sleep.Signal b is = (refl, refl)
+stays_awake sleep.Asleep b is = absurd (is refl)
+
+pub stayed_carried : (old new : Known) (w : ℕ) → new ≡ added old (item.Made (step.Sleep w))
+    → (sleep_of (task_of w) ≡ sleep.Asleep → ⊥) → Carries (moving (λ _. 0) (λ h. h) (λ h. h)) old new
+stayed_carried old new w is up =
+    let by = stays_awake (sleep_of (task_of w)) old.book up in
+    step_carried (λ _. 0) old new (step.Sleep w) is (ap (λ (k : Known). k.book.awake) is ∙ by.1)
+    (ap (λ (k : Known). k.book.state) is ∙ by.0)
+    (ap (λ (k : Known). k.book.head) is ∙ slept_head (sleep_of (task_of w)) old.book) refl refl refl refl
+    (owes_after old new (step.Sleep w) refl is)
+
+pub risen_owing : (old mid new : Known) (w : ℕ) → mid ≡ added old (item.Made (step.Sleep w)) → IsAwakeAgain mid new
+    → StaysOwing old new
+risen_owing old mid new w is h x o = owes_looks mid new h.looks (after_awake false true mid.book) h.no_steps h.is x
+    (owes_after old mid (step.Sleep w) refl is x o)
+
+pub risen_carried : (old mid new : Known) (w : ℕ) → old.book.awake ≡ true → mid ≡ added old (item.Made (step.Sleep w))
+    → IsAwakeAgain mid new → Carries (moving (λ _. 0) (λ h. h) (λ h. h)) old new
+risen_carried old mid new w up is h = told_carried (λ _. 0) old new
+    (ap (λ (k : Known). k.domain) h.is ∙ ap (λ (k : Known). k.domain) is)
+    (ap (λ (k : Known). k.view.number) h.is ∙ ap (λ (k : Known). k.view.number) is)
+    (ap (λ (k : Known). k.book.awake) h.is ∙ sym up)
+    (ap (λ (k : Known). k.book.state) h.is)
+    (ap (λ (k : Known). k.book.head) h.is
+    ∙ (ap (λ (k : Known). k.book.head) is ∙ slept_head (sleep_of (task_of w)) old.book))
+    (ap (λ (v : Told). v.hold.head) told) (ap (λ (k : Known). k.at) h.is ∙ ap (λ (k : Known). k.at) is)
+    (ap (λ (v : Told). v.mark) told) (ap (λ (v : Told). v.duty.owes) told) (ap (λ (v : Told). v.bits.stored) told)
+    (risen_owing old mid new w is h)
+  where
+    told : told_of new ≡ told_of old
+    told = ap told_of h.is ∙ (ap view_of (steps_append mid.view.items h.looks
+        ∙ (ap (λ (es : List Step). steps_of mid.view.items ++ es) h.no_steps ∙ append-nil (steps_of mid.view.items)))
+        ∙ (ap told_of is ∙ told_added old (item.Made (step.Sleep w))))
+
+-- loads and stores of conditions
+load_owing : (x : Excuse) (l : Watch) (r : ℕ) (v : Told) → OwesBut x v → OwesBut x (after (step.Load l r) v)
+load_owing x l r v o = record {
+  unmarked = o.unmarked;
+  owes = o.owes;
+  unqueued = o.unqueued;
+  holds = o.holds;
+  tries = λ c. ap (λ (b : Bool). b && not (failing l r c)) (o.tries c);
+}
+
+pub loaded_carried : (old new : Known) (l : Watch) (r : ℕ) → new ≡ added old (item.Made (step.Load l r))
+    → Carries unchanged old new
+loaded_carried old new l r is = step_carried (λ σ. σ) old new (step.Load l r) is (ap (λ (k : Known). k.book.awake) is)
+    (ap (λ (k : Known). k.book.state) is) (ap (λ (k : Known). k.book.head) is) refl refl refl refl
+    (λ x o. subst (OwesBut x) (sym (ap told_of is ∙ told_added old (item.Made (step.Load l r))))
+    (load_owing x l r (told_of old) o))
+
+consume_owing : (x : Excuse) (c n r : ℕ) (v : Told) → OwesBut x v → OwesBut x
+    (after (step.Consume (watch.Plain c) n r) v)
+consume_owing x c n r v o = record {
+  unmarked = o.unmarked;
+  owes = o.owes;
+  unqueued = o.unqueued;
+  holds = λ d. ap (λ (b : Bool). b || false) (o.holds d);
+  tries = λ d. ap (λ (b : Bool). b && true) (o.tries d);
+}
+
+pub consumed_carried : (old new : Known) (c n r : ℕ) → new ≡ added old (item.Made (step.Consume (watch.Plain c) n r))
+    → Carries unchanged old new
+consumed_carried old new c n r is = step_carried (λ σ. σ) old new (step.Consume (watch.Plain c) n r) is
+    (ap (λ (k : Known). k.book.awake) is) (ap (λ (k : Known). k.book.state) is) (ap (λ (k : Known). k.book.head) is)
+    refl refl refl refl
+    (λ x o. subst (OwesBut x) (sym (ap told_of is ∙ told_added old (item.Made (step.Consume (watch.Plain c) n r))))
+    (consume_owing x c n r (told_of old) o))
+
+-- a publish makes the task owe wakes of its watch, and no others
+published_duty : (s o x m : Bool) → (o && not (x || not m)) ≡ false → ((s || o) && not ((x || (s && m)) || not m))
+    ≡ false
+published_duty false o true m is = is
+published_duty false o false m is = is
+published_duty true o true m is = refl
+published_duty true o false true is = refl
+published_duty true o false false is = refl
+
+published_owes : (c : Watch) (n r : ℕ) (x : Excuse) (old new : Known) → told_of new ≡ after (step.Publish c n r)
+    (told_of old)
+    → Owes x old → Owes (with_wakes c mode.Normal x) new
+unfolding Owes with_wakes
+published_owes c n r x old new told o = subst (λ (v : Told). OwesBut (least (record {
+  wakes = λ d σ. x.wakes d σ || (same d c && meets (mask_of mode.Normal) σ);
+  entries = x.entries;
+})) v × TriesNone v) (sym told) (
+  record {
+    unmarked = o.0.unmarked;
+    owes = λ d σ. published_duty (same d c) ((told_of old).duty.owes d σ) (x.wakes d σ)
+        (meets (mask_of mode.Normal) σ) (o.0.owes d σ);
+    unqueued = o.0.unqueued;
+    holds = λ d. ap (λ (b : Bool). b && not (same d c)) (o.0.holds d);
+    tries = o.0.tries;
+  },
+  o.1,
+)
+
+pub published_carried : (old new : Known) (c : Watch) (n r : ℕ) → new ≡ added old (item.Made (step.Publish c n r))
+    → Carries (publish_change c) old new
+published_carried old new c n r is = record {
+  domain = ap (λ (k : Known). k.domain) is;
+  number = ap (λ (k : Known). k.view.number) is;
+  awake = ap (λ (k : Known). k.book.awake) is;
+  state = ap (λ (k : Known). k.book.state) is;
+  head = ap (λ (k : Known). k.book.head) is;
+  hold = ap (λ (v : Told). v.hold.head) told;
+  at = ap (λ (k : Known). k.at) is;
+  mark = ap (λ (v : Told). v.mark) told;
+  fewer = λ w σ other none. ap (λ (v : Told). v.duty.owes w σ) told
+      ∙ (ap (λ (b : Bool). b || (told_of old).duty.owes w σ) other ∙ none);
+  stored = λ x _ _. ap (λ (v : Told). v.bits.stored x) told;
+  out = λ x _ none. ap (λ (v : Told). v.bits.stored x) told ∙ none;
+  stands = λ slot few _ e at own. ap (λ (v : Told). v.bits.stored (index old.view.number slot)) told ∙ at;
+  owes = λ x. published_owes c n r x old new told;
+  clean = clean_owes old;
+  settled = owes_clean new;
+}
+  where
+    told : told_of new ≡ after (step.Publish c n r) (told_of old)
+    told = ap told_of is ∙ told_added old (item.Made (step.Publish c n r))
+
+-- a look at an entry word, in a hold or outside of one
+learn_saw : (o : Option ℕ) (x w : ℕ) (b : Book) → learn_step (saw o x w) b ≡ b
+learn_saw None x w b = refl
+learn_saw (Some h) x w b = refl
+
+saw_hold : (o : Option ℕ) (x w : ℕ) (v : Told) → (after (saw o x w) v).hold.head ≡ v.hold.head
+saw_hold None x w v = refl
+saw_hold (Some h) x w v = refl
+
+saw_mark : (o : Option ℕ) (x w : ℕ) (v : Told) → (after (saw o x w) v).mark ≡ v.mark
+saw_mark None x w v = refl
+saw_mark (Some h) x w v = refl
+
+saw_looks : (o : Option ℕ) (x w : ℕ) (v : Told) → (after (saw o x w) v).bits ≡ after_look x (entry_of w) v
+saw_looks None x w v = refl
+saw_looks (Some h) x w v = refl
+
+saw_fewer : (o : Option ℕ) (x w : ℕ) (v : Told) (c : Watch) (σ : ℕ) → v.duty.owes c σ ≡ false
+    → (after (saw o x w) v).duty.owes c σ ≡ false
+saw_fewer None x w v c σ none = ap (λ (b : Bool). b && not (all_cleared (peeks v.duty.cleared x (entry_of w) c))) none
+saw_fewer (Some h) x w v c σ none = none
+
+saw_book : (o : Option ℕ) (x w h : ℕ) (v : Told) → o ≡ Some h
+    → (after (saw o x w) v).hold.book x ≡ look_at v.hold.head (entry_of w)
+saw_book None x w h v is = absurd (cc)
+saw_book (Some i) x w h v is = put_same v.hold.book x (look_at v.hold.head (entry_of w))
+
+look_here : (h : ℕ) (e : Entry) → head_of e.watch ≡ h → look_at (Some h) (Some e) ≡ shown e
+look_here h e is = ap (λ (b : Bool). if b then shown e else elsewhere) (eq-eqb (head_of e.watch) h is)
+
+on_entry : (o : Option Entry) → is_on o ≡ true → (e : Entry) × (o ≡ Some e)
+on_entry None is = absurd (cc)
+on_entry (Some e) is = (e, refl)
+
+off_owes : (i : ℕ) (x : Excuse) (k : Known) → (told_of k).bits.stored i ≡ None → Owes (with_entry i x) k → Owes x k
+unfolding Owes with_entry
+off_owes i x k none o = (owes_out i (least x) (told_of k) o.0 none, o.1)
+
+pub entry_off : (i : ℕ) (x : Excuse) (k : Known) → (told_of k).bits.stored i ≡ None → Owes (with_entry i x) k → Owes x k
+entry_off i x k none o = off_owes i x k none o
+
+module _ (old new : Known) (who slot w : ℕ) (is : new ≡ added old (item.Made (saw old.book.head (index who slot) w)))
+    (knew : KnewEntry old (index who slot) w) where
+  entry_told : told_of new ≡ after (saw old.book.head (index who slot) w) (told_of old)
+  entry_told = ap told_of is ∙ told_added old (item.Made (saw old.book.head (index who slot) w))
+
+  entry_book : new.book ≡ old.book
+  entry_book = ap (λ (k : Known). k.book) is ∙ learn_saw old.book.head (index who slot) w old.book
+
+  entry_bits : (told_of new).bits ≡ after_look (index who slot) (entry_of w) (told_of old)
+  entry_bits = ap (λ (v : Told). v.bits) entry_told ∙ saw_looks old.book.head (index who slot) w (told_of old)
+
+  pub entry_carried : Carries only_looks old new
+  entry_carried = stays_carried (λ h. h) (λ h. h) true old new
+      (look_stays old new (index who slot) w knew (ap (λ (k : Known). k.domain) is)
+      (ap (λ (k : Known). k.view.number) is)
+      entry_book entry_bits)
+      (ap (λ (b : Book). b.head) entry_book)
+      (ap (λ (v : Told). v.hold.head) entry_told ∙ saw_hold old.book.head (index who slot) w (told_of old))
+      (ap (λ (k : Known). k.at) is)
+      (ap (λ (v : Told). v.mark) entry_told ∙ saw_mark old.book.head (index who slot) w (told_of old))
+      (λ c σ none. ap (λ (v : Told). v.duty.owes c σ) entry_told ∙ saw_fewer old.book.head (index who slot) w
+      (told_of old) c σ none)
+      (λ x none. absurd (cc))
+
+  entry_gone : entry_of w ≡ None → (told_of new).bits.stored (index who slot) ≡ None
+  entry_gone = look_out old new (index who slot) w entry_bits
+
+  entry_may : who ≡ old.view.number → slot < 2 → (told_of old).hold.head ≡ Some old.at → old.book.head ≡ Some old.at
+      → head_stored ((told_of old).bits.stored (index who slot)) ≡ Some old.at → is_on (entry_of w) ≡ true
+      → MayUnqueue new who slot
+  entry_may mine few held locked head on =
+      let z = on_entry (entry_of w) on in
+      let at : head_of z.0.watch ≡ old.at = head_at z.0
+      (sym (ap head_stored (knew.own slot few (ap (λ (m : ℕ). index m slot) mine) z.0 z.1)) ∙ head) in record {
+        entry = z.0;
+        shows = ap (λ (v : Told). v.hold.book (index who slot)) entry_told
+            ∙ (saw_book old.book.head (index who slot) w old.at (told_of old) locked
+            ∙ (ap (λ (h : Option ℕ). look_at h (entry_of w)) held ∙
+            (ap (look_at (Some old.at)) z.1 ∙ look_here old.at z.0 at)));
+        may = inl (mine ∙ sym (ap (λ (k : Known). k.view.number) is));
+      }
+    where
+      head_at : (e : Entry) → Some (head_of e.watch) ≡ Some old.at → head_of e.watch ≡ old.at
+      head_at e same = cc
+
+  pub entry_finds : FindsOwnWord old new who slot w
+  entry_finds = record {
+    may = entry_may;
+    gone = entry_gone;
+    off = λ none x o. entry_off (index who slot) x new (entry_gone none)
+        (entry_carried.owes (with_entry (index who slot) x) o);
+  }

@@ -1,0 +1,188 @@
+-- What stays of a task after looks and steps.
+use Rattle.std.proofs.Common.{◌∙◌, ap, sym, refl, subst, inl, inr, eqb-true}
+use Rattle.std.specs.Prelude.{ℕ, ◌≡◌, ◌⊎◌, ◌&&◌, ◌||◌, ◌==◌, not, Bool, true, false, if◌then◌else◌, Option, Some, None}
+use Rattle.wait_model.specs.declared.watches.Watch.{Watch}
+use Rattle.wait_model.specs.declared.watches.Entry.{Entry}
+use Rattle.wait_model.specs.Functions.{put}
+use Rattle.wait_model.specs.Words.{entry_of}
+use Rattle.wait_model.specs.Views.{View as Told, Bits, is_trying_for}
+use Rattle.wait_model.specs.Fold.{is_off, after_look}
+use Rattle.wait_model.proofs.Functions.{put_at, put_same}
+use Rattle.wait_rule.specs.Known.{Known}
+use Rattle.wait_rule.specs.Says.{Excuse, IsOutBut, OwesBut, OwesNothing, told_of}
+use Rattle.wait_rule.specs.Queues.{KnewEntry, index}
+use Rattle.wait_rule.specs.Stays.{TriesNone, Stays, StaysOwing, no_entries, also}
+
+pub stays_on : (but : ℕ → Bool) (x y z : Known) → Stays but x y → Stays but y z → Stays but x z
+stays_on but x y z one two = record {
+  domain = two.domain ∙ one.domain;
+  number = two.number ∙ one.number;
+  state = two.state ∙ one.state;
+  awake = two.awake ∙ one.awake;
+  still = λ i out. elim (two.still i out) [
+    | inl same ↦ elim (one.still i out) [ inl was ↦ inl (same ∙ was) | inr none ↦ inr (same ∙ none) ]
+    | inr none ↦ inr none
+  ];
+  stands = λ slot few out e is own.
+      let n = one.number in
+      subst (λ (m : ℕ). (told_of z).bits.stored (index m slot) ≡ Some e) n
+      (two.stands slot few (ap (λ (m : ℕ). but (index m slot)) n ∙ out) e
+      (subst (λ (m : ℕ). (told_of y).bits.stored (index m slot) ≡ Some e) (sym n)
+      (one.stands slot few out e is own)) own);
+  keeps = λ c. two.keeps c ∙ one.keeps c;
+  tries_none = λ none. two.tries_none (one.tries_none none);
+  tries = λ none c. two.tries (one.tries_none none) c ∙ one.tries none c;
+}
+
+-- but for no entry word is as but for some
+pub stays_but : (but : ℕ → Bool) (x y : Known) → Stays no_entries x y → Stays but x y
+stays_but but x y s = record {
+  domain = s.domain;
+  number = s.number;
+  state = s.state;
+  awake = s.awake;
+  still = λ i out. s.still i refl;
+  stands = λ slot few out e is own. s.stands slot few refl e is own;
+  keeps = s.keeps;
+  tries_none = s.tries_none;
+  tries = s.tries;
+}
+
+-- where the bits stay, all of this stays
+pub stays_bits : (x y : Known) → y.domain ≡ x.domain → y.view.number ≡ x.view.number → y.book.state ≡ x.book.state
+    → y.book.awake ≡ x.book.awake → (told_of y).bits ≡ (told_of x).bits → Stays no_entries x y
+stays_bits x y domain number state awake bits = record {
+  domain = domain;
+  number = number;
+  state = state;
+  awake = awake;
+  still = λ i out. inl (ap (λ (b : Bits). b.stored i) bits);
+  stands = λ slot few out e is own. ap (λ (b : Bits). b.stored (index x.view.number slot)) bits ∙ is;
+  keeps = λ c. ap (λ (b : Bits). b.keeps c) bits;
+  tries_none = λ none i c. ap (λ (b : Bits). is_trying_for (b.stored i) c) bits ∙ none i c;
+  tries = λ none c. ap (λ (b : Bits). b.pending c) bits;
+}
+
+pub stays_same : (k : Known) → Stays no_entries k k
+stays_same k = stays_bits k k refl refl refl refl refl
+
+-- a look at an entry word, in a hold or outside of one
+module _ (v : Told) (x : ℕ) (f : Option Entry) where
+  look_still_by : (y : ℕ) (b : Bool) → ((if b then put v.bits.stored x None else v.bits.stored) y ≡ v.bits.stored y)
+      ⊎ ((if b then put v.bits.stored x None else v.bits.stored) y ≡ None)
+  look_still_by y true = put_at (λ (s : Option Entry). (s ≡ v.bits.stored y) ⊎ (s ≡ None)) v.bits.stored x None y
+      (λ _. inr refl) (λ _. inl refl)
+  look_still_by y false = inl refl
+
+  look_stands_by : (y : ℕ) (e : Entry) → v.bits.stored y ≡ Some e → (y ≡ x → f ≡ Some e) → (b : Bool) → is_off f ≡ b
+      → (if b then put v.bits.stored x None else v.bits.stored) y ≡ Some e
+  look_stands_by y e is found true off = put_at (λ (s : Option Entry). s ≡ Some e) v.bits.stored x None y
+      (λ same. let off_too : false ≡ true = sym (ap is_off (found same)) ∙ off in absurd (cc)) (λ _. is)
+  look_stands_by y e is found false off = is
+
+  no_and : (b m : Bool) → (b && (false && m)) ≡ false
+  no_and true m = refl
+  no_and false m = refl
+
+  or_none : (b : Bool) → (b || false) ≡ b
+  or_none true = refl
+  or_none false = refl
+
+  none_tries : TriesNone v → (y : ℕ) (c : Watch) → is_trying_for ((after_look x f v).stored y) c ≡ false
+  none_tries none y c = elim (look_still_by y (is_off f)) [
+    | inl same ↦ ap (λ (s : Option Entry). is_trying_for s c) same ∙ none y c
+    | inr out ↦ ap (λ (s : Option Entry). is_trying_for s c) out
+  ]
+
+  same_tries : TriesNone v → (c : Watch) → (after_look x f v).pending c ≡ v.bits.pending c
+  same_tries none c = ap (λ (t : Bool). v.bits.pending c || (is_off f && (t && not (v.bits.keeps c)))) (none x c)
+      ∙ (ap (λ (t : Bool). v.bits.pending c || t) (no_and (is_off f) (not (v.bits.keeps c)))
+      ∙ or_none (v.bits.pending c))
+
+pub look_stays : (old new : Known) (x w : ℕ) → KnewEntry old x w → new.domain ≡ old.domain
+    → new.view.number ≡ old.view.number → new.book ≡ old.book
+    → (told_of new).bits ≡ after_look x (entry_of w) (told_of old) → Stays no_entries old new
+look_stays old new x w knew domain number book bits = record {
+  domain = domain;
+  number = number;
+  state = ap (λ (b : _). b.state) book;
+  awake = ap (λ (b : _). b.awake) book;
+  still = λ y out. subst (λ (b : Bits). (b.stored y ≡ (told_of old).bits.stored y) ⊎ (b.stored y ≡ None)) (sym bits)
+      (look_still_by (told_of old) x (entry_of w) y (is_off (entry_of w)));
+  stands = λ slot few out e is own. ap (λ (b : Bits). b.stored (index old.view.number slot)) bits
+      ∙ look_stands_by (told_of old) x (entry_of w) (index old.view.number slot) e is
+      (λ same. knew.stands slot few (sym same) e (ap (told_of old).bits.stored (sym same) ∙ is) own)
+      (is_off (entry_of w)) refl;
+  keeps = λ c. ap (λ (b : Bits). b.keeps c) bits;
+  tries_none = λ none y c. ap (λ (b : Bits). is_trying_for (b.stored y) c) bits
+      ∙ none_tries (told_of old) x (entry_of w) none y c;
+  tries = λ none c. ap (λ (b : Bits). b.pending c) bits ∙ same_tries (told_of old) x (entry_of w) none c;
+}
+
+-- an entry that was found off is stored no more
+pub look_out : (old new : Known) (x w : ℕ) → (told_of new).bits ≡ after_look x (entry_of w) (told_of old)
+    → entry_of w ≡ None → (told_of new).bits.stored x ≡ None
+look_out old new x w bits none = ap (λ (b : Bits). b.stored x) bits
+    ∙ (ap (λ (f : Option Entry). (if is_off f then put (told_of old).bits.stored x None else
+    (told_of old).bits.stored) x) none
+    ∙ put_same (told_of old).bits.stored x None)
+
+-- who owes nothing tries no bit
+pub none_tried : (v : Told) → OwesNothing v → TriesNone v
+none_tried v o x c = ap (λ (s : Option Entry). is_trying_for s c) (o.unqueued x)
+
+-- what a task owes, where it owes no wake more than before
+less : (p q n : Bool) → (p ≡ false → q ≡ false) → (p && n) ≡ false → (q && n) ≡ false
+less false q n f is = ap (λ (b : Bool). b && n) (f refl)
+less true false n f is = refl
+less true true n f is = is
+
+pub out_by : (b : Bool) (was now : Option Entry) → (now ≡ was) ⊎ (now ≡ None) → IsOutBut b was → IsOutBut b now
+out_by true was now s is = tt
+out_by false was now (inl same) is = same ∙ is
+out_by false was now (inr none) is = none
+
+pub stays_owing : (old new : Known) → Stays no_entries old new → (told_of new).mark ≡ (told_of old).mark
+    → ((c : Watch) (σ : ℕ) → (told_of old).duty.owes c σ ≡ false → (told_of new).duty.owes c σ ≡ false)
+    → TriesNone (told_of old) → StaysOwing old new
+stays_owing old new s mark fewer none x o = record {
+  unmarked = mark ∙ o.unmarked;
+  owes = λ c σ. less ((told_of old).duty.owes c σ) ((told_of new).duty.owes c σ) (not (x.wakes c σ)) (fewer c σ)
+      (o.owes c σ);
+  unqueued = λ i. out_by (x.entries i) ((told_of old).bits.stored i) ((told_of new).bits.stored i) (s.still i refl)
+      (o.unqueued i);
+  holds = λ c. s.keeps c ∙ o.holds c;
+  tries = λ c. s.tries none c ∙ o.tries c;
+}
+
+-- an entry that the task is excused of too, and then no more
+out_also : (i y : ℕ) (b : Bool) (s : Option Entry) → IsOutBut b s → (t : Bool) → IsOutBut (t || b) s
+out_also i y b s is true = tt
+out_also i y b s is false = is
+
+pub owes_also : (i : ℕ) (x : Excuse) (v : Told) → OwesBut x v → OwesBut (also i x) v
+owes_also i x v o = record {
+  unmarked = o.unmarked;
+  owes = o.owes;
+  unqueued = λ y. out_also i y (x.entries y) (v.bits.stored y) (o.unqueued y) (y == i);
+  holds = o.holds;
+  tries = o.tries;
+}
+
+pub owes_out : (i : ℕ) (x : Excuse) (v : Told) → OwesBut (also i x) v → v.bits.stored i ≡ None → OwesBut x v
+owes_out i x v o none = record {
+  unmarked = o.unmarked;
+  owes = o.owes;
+  unqueued = λ y. by y (y == i) refl (o.unqueued y);
+  holds = o.holds;
+  tries = o.tries;
+}
+  where
+    out : (y : ℕ) (b : Bool) → v.bits.stored y ≡ None → IsOutBut b (v.bits.stored y)
+    out y true is = tt
+    out y false is = is
+
+    by : (y : ℕ) (t : Bool) → (y == i) ≡ t → IsOutBut (t || x.entries y) (v.bits.stored y)
+        → IsOutBut (x.entries y) (v.bits.stored y)
+    by y true same is = out y (x.entries y) (ap v.bits.stored (eqb-true y i same) ∙ none)
+    by y false same is = is

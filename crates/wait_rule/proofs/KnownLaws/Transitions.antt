@@ -1,0 +1,112 @@
+-- Transitions one after another, and the looks between them.
+use Rattle.std.proofs.Common.{◌∙◌, ap, sym, refl, subst, append-nil, append_assoc}
+use Rattle.std.specs.Prelude.{◌≡◌, Bool, true, List, [], ◌∷◌, ◌++◌}
+use Rattle.wait_model.specs.Tasks.{task_of}
+use Rattle.wait_model.specs.declared.steps.Step.TheVariants as step
+use Rattle.wait_model.specs.declared.points.Point.{Point}
+use Rattle.wait_model.specs.declared.points.Next.{Next}
+use Rattle.wait_model.specs.declared.points.Next.TheVariants as next
+use Rattle.wait_rule.specs.declared.journal.Item.{Item}
+use Rattle.wait_rule.specs.declared.journal.Item.TheVariants as item
+use Rattle.wait_rule.specs.Items.{Book, steps_of, after_awake, book_from, book_of, first_book}
+use Rattle.wait_rule.specs.Known.{Known}
+use Rattle.wait_rule.specs.Says.{grown}
+use Rattle.wait_rule.specs.Queues.{IsTold}
+use Rattle.wait_rule.specs.Transitions.{AreLooks, OnlyLooks, Program, Transition, IsTransition, Goes, after_transition}
+use Rattle.wait_rule.proofs.TableSteps.ItemLists.{book_append}
+use Rattle.wait_rule.proofs.KnownLaws.SleepLooks.{listed}
+
+pub grown_none : (k : Known) → k ≡ grown k [] k.book
+grown_none k = ap (λ (l : List Item). listed k l k.book) (sym (append-nil k.view.items))
+
+pub grown_more : (old : Known) (xs ys : List Item) (b c : Book) → grown (grown old xs b) ys c ≡ grown old (xs ++ ys) c
+grown_more old xs ys b c = ap (λ (l : List Item). listed old l c) (append_assoc old.view.items xs ys)
+
+-- looks, and more of them
+pub looks_append : (xs ys : List Item) → AreLooks xs → AreLooks ys → AreLooks (xs ++ ys)
+looks_append [] ys a b = b
+looks_append (x ∷ xs) ys a b = (a.0, looks_append xs ys a.1 b)
+
+-- who made no step looked
+pub looks_of : (xs : List Item) → steps_of xs ≡ [] → AreLooks xs
+looks_of [] none = tt
+looks_of (item.Made e ∷ xs) none = absurd (cc)
+looks_of (item.Awake w ∷ xs) none = (tt, looks_of xs none)
+looks_of (item.Busy h w ∷ xs) none = (tt, looks_of xs none)
+looks_of (item.Bookmark t w ∷ xs) none = (tt, looks_of xs none)
+
+-- looks tell a task that is awake nothing of its own word
+pub book_awake : (b : Book) (xs : List Item) → b.awake ≡ true → AreLooks xs → book_from b xs ≡ b
+book_awake b [] up looks = refl
+book_awake b (item.Made (step.Saw x w) ∷ xs) up looks = book_awake b xs up looks.1
+book_awake b (item.Made e ∷ xs) up looks = absurd looks.0
+book_awake b (item.Awake w ∷ xs) up looks = ap (λ (c : Book). book_from c xs)
+    (ap (λ (a : Bool). after_awake a (task_of w).runnable b) up) ∙ book_awake b xs up looks.1
+book_awake b (item.Busy h w ∷ xs) up looks = book_awake b xs up looks.1
+book_awake b (item.Bookmark t w ∷ xs) up looks = book_awake b xs up looks.1
+
+-- what a task knows of its word is what its list tells
+pub book_told : (old new : Known) (xs : List Item) → IsTold old → IsTold new → new.view.items ≡ old.view.items ++ xs
+    → new.book ≡ book_from old.book xs
+book_told old new xs was is more = is.book ∙ (ap book_of more
+    ∙ (book_append first_book old.view.items xs ∙ ap (λ (b : Book). book_from b xs) (sym was.book)))
+
+pub only_none : (k : Known) → OnlyLooks k k
+only_none k = record { items = []; looks = tt; is = grown_none k }
+
+pub only_on : (old mid new : Known) → OnlyLooks old mid → OnlyLooks mid new → OnlyLooks old new
+only_on old mid new one two = record {
+  items = one.items ++ two.items;
+  looks = looks_append one.items two.items one.looks two.looks;
+  is = two.is ∙ ((λ i. grown (one.is i) two.items (book_from (one.is i).book two.items))
+      ∙ (grown_more old one.items two.items (book_from old.book one.items)
+      (book_from (book_from old.book one.items) two.items)
+      ∙ ap (grown old (one.items ++ two.items)) (sym (book_append old.book one.items two.items))));
+}
+
+-- looks of a task that is awake
+pub only_awake : (old new : Known) (xs : List Item) → old.book.awake ≡ true → AreLooks xs → new ≡ grown old xs old.book
+    → OnlyLooks old new
+only_awake old new xs up looks is = record {
+  items = xs;
+  looks = looks;
+  is = is ∙ ap (grown old xs) (sym (book_awake old.book xs up looks));
+}
+
+-- looks before a transition belong to it
+pub looks_first : (f : Program) (old mid new : Known) (n m : Next) (ts : List Transition) → OnlyLooks old mid
+    → Goes f mid n ts new m → Goes f old n ts new m
+looks_first f old mid new n m [] l g = (only_on old mid new l g.0, g.1)
+looks_first f old mid new (next.Ends a) m (t ∷ ts) l g = absurd g
+looks_first f old mid new (next.Go p) m (t ∷ ts) l g = (
+  record { looks = only_on old mid t.knew l g.0.looks; is = g.0.is; finds = g.0.finds },
+  g.1,
+)
+
+-- and looks after the last
+pub looks_last : (f : Program) (old mid new : Known) (n m : Next) (ts : List Transition) → Goes f old n ts mid m
+    → OnlyLooks mid new → Goes f old n ts new m
+looks_last f old mid new n m [] g l = (only_on old mid new g.0 l, g.1)
+looks_last f old mid new (next.Ends a) m (t ∷ ts) g l = absurd g
+looks_last f old mid new (next.Go p) m (t ∷ ts) g l = (
+  g.0,
+  looks_last f (after_transition t) mid new (f.plan p t.seen).next m ts g.1 l,
+)
+
+pub goes_on : (f : Program) (old mid new : Known) (n m k : Next) (ts us : List Transition) → Goes f old n ts mid m
+    → Goes f mid m us new k → Goes f old n (ts ++ us) new k
+goes_on f old mid new n m k [] us one two = looks_first f old mid new n k us one.0
+    (subst (λ (q : Next). Goes f mid q us new k) one.1 two)
+goes_on f old mid new (next.Ends a) m k (t ∷ ts) us one two = absurd one
+goes_on f old mid new (next.Go p) m k (t ∷ ts) us one two = (
+  one.0,
+  goes_on f (after_transition t) mid new (f.plan p t.seen).next m k ts us one.1 two,
+)
+
+-- no transition, and one
+pub goes_none : (f : Program) (old new : Known) (n : Next) → OnlyLooks old new → Goes f old n [] new n
+goes_none f old new n looks = (looks, refl)
+
+pub one_transition : (f : Program) (p : Point) (old : Known) (t : Transition) → IsTransition f p old t
+    → Goes f old (next.Go p) (t ∷ []) (after_transition t) (f.plan p t.seen).next
+one_transition f p old t transition = (transition, (only_none (after_transition t), refl))

@@ -1,0 +1,148 @@
+-- Each kind of step on a condition word keeps the law.
+use Rattle.std.proofs.Common.{refl, sym, ap, subst}
+use Rattle.std.specs.Prelude.{ℕ, ◌≡◌, ◌≢◌, None, List}
+use Rattle.wait_model.specs.declared.watches.Watch.{Watch}
+use Rattle.wait_model.specs.declared.watches.Watch.TheVariants as watch
+use Rattle.wait_model.specs.declared.steps.Step.{Step}
+use Rattle.wait_model.specs.declared.steps.Step.TheVariants as step
+use Rattle.wait_model.specs.Functions.{put}
+use Rattle.wait_model.specs.Watches.{IsThere, number_of}
+use Rattle.wait_model.specs.Views.{View as Told}
+use Rattle.wait_model.specs.Tables.{Table, next, value_of}
+use Rattle.wait_model.specs.Locations as place
+use Rattle.wait_model.specs.Locations.{Location, word_in, cond_at}
+use Rattle.wait_model.proofs.WordLaws.CondWords.{number_value, reads_value}
+use Rattle.wait_model.proofs.Functions.{put_same, put_other}
+use Rattle.wait_rule.specs.declared.journal.Item.{Item}
+use Rattle.wait_rule.specs.Items.{Book, Fits}
+use Rattle.wait_rule.specs.Rule.{IsLawfulTable, IsRuled}
+use Rattle.wait_rule.proofs.KnownLaws.HeadLinks.{quiet_links}
+use Rattle.wait_rule.proofs.KnownLaws.MemberPlaces.{still_places}
+use Rattle.wait_rule.proofs.TableSteps.KeptSteps.{Leaves, KeepsLaw}
+use Rattle.wait_rule.proofs.StepKinds.EntryKinds.{load_leaves}
+
+-- what a step on a plain condition leaves, and one on a variable
+plain_leaves : (s : Table) (a c n : ℕ) (b : Book) (history : ℕ → List Step) (view : ℕ → Told)
+    → IsLawfulTable s → Fits (s.task a) b
+    → Leaves s (record s {
+      words = record (s.words) { plains = put s.words.plains c n };
+      history = history;
+      view = view;
+    })
+    a (place.Plain c) n b
+plain_leaves s a c n b history view l f = record {
+  lawful = record { tasks = l.tasks; entries = l.entries; marks = l.marks; spent = l.spent; bits = l.bits };
+  own = f;
+  others = λ t ne d g. g;
+  left = put_same s.words.plains c n;
+  rest = rest_of;
+}
+  where
+    rest_of : (k : Location) → k ≢ place.Plain c
+        → word_in (record s {
+          words = record (s.words) { plains = put s.words.plains c n };
+          history = history;
+          view = view;
+        }) k
+        ≡ word_in s k
+    rest_of (place.Plain i) ne = put_other s.words.plains c n i (λ e. ne (ap place.Plain e))
+    rest_of k ne = refl
+
+var_leaves : (s : Table) (a v n : ℕ) (b : Book) (history : ℕ → List Step) (view : ℕ → Told)
+    → IsLawfulTable s → Fits (s.task a) b
+    → Leaves s (record s { words = record (s.words) { vars = put s.words.vars v n }; history = history; view = view })
+    a (place.Var v) n b
+var_leaves s a v n b history view l f = record {
+  lawful = record { tasks = l.tasks; entries = l.entries; marks = l.marks; spent = l.spent; bits = l.bits };
+  own = f;
+  others = λ t ne d g. g;
+  left = put_same s.words.vars v n;
+  rest = rest_of;
+}
+  where
+    rest_of : (k : Location) → k ≢ place.Var v
+        → word_in (record s {
+          words = record (s.words) { vars = put s.words.vars v n };
+          history = history;
+          view = view;
+        }) k
+        ≡ word_in s k
+    rest_of (place.Var i) ne = put_other s.words.vars v n i (λ e. ne (ap place.Var e))
+    rest_of k ne = refl
+
+module _ (s : Table) (items : ℕ → List Item) (ruled : IsRuled s items) (a : ℕ) (b : Book)
+    (fits : Fits (s.task a) b) where
+  pub cond_loads : (c : Watch) → IsThere c → KeepsLaw s a (cond_at (number_of c)) (word_in s (cond_at (number_of c)))
+      (step.Load c (word_in s (cond_at (number_of c)))) b
+  cond_loads c is = subst (λ (n : ℕ). KeepsLaw s a (cond_at (number_of c)) n (step.Load c n) b) (sym
+      (number_value s c is))
+      (record {
+        allowed = reads_value s.words ruled.lawful.bits c is;
+        stored = tt;
+        places = still_places s a (step.Load c (value_of s.words c)) refl refl;
+        links = quiet_links s a (step.Load c (value_of s.words c)) (record {
+          holder = refl;
+          spent = refl;
+          mark = refl;
+          head = λ v. refl;
+          found = λ v. refl;
+          own = λ v k. refl;
+          marks = λ v k. refl;
+        });
+        leaves = subst (λ (n : ℕ). Leaves s (next s a (step.Load c (value_of s.words c))) a (cond_at (number_of c)) n b)
+            (number_value s c is)
+            (load_leaves s a (cond_at (number_of c)) b _ _ ruled.lawful fits);
+      })
+
+  pub plain_publishes : (c n : ℕ) → (s.view a).hold.head ≡ None
+      → KeepsLaw s a (place.Plain c) n (step.Publish (watch.Plain c) n (s.words.plains c)) b
+  plain_publishes c n out = record {
+    allowed = (out, (λ q. absurd (cc)), refl);
+    stored = tt;
+    places = still_places s a (step.Publish (watch.Plain c) n (s.words.plains c)) refl refl;
+    links = quiet_links s a (step.Publish (watch.Plain c) n (s.words.plains c)) (record {
+      holder = refl;
+      spent = refl;
+      mark = refl;
+      head = λ v. refl;
+      found = λ v. refl;
+      own = λ v k. refl;
+      marks = λ v k. refl;
+    });
+    leaves = plain_leaves s a c n b _ _ ruled.lawful fits;
+  }
+
+  pub var_publishes : (v o n : ℕ) → (s.view a).hold.head ≡ None
+      → KeepsLaw s a (place.Var v) n (step.Publish (watch.Var v o) n (s.words.vars v)) b
+  var_publishes v o n out = record {
+    allowed = (out, (λ q. absurd (cc)), refl);
+    stored = tt;
+    places = still_places s a (step.Publish (watch.Var v o) n (s.words.vars v)) refl refl;
+    links = quiet_links s a (step.Publish (watch.Var v o) n (s.words.vars v)) (record {
+      holder = refl;
+      spent = refl;
+      mark = refl;
+      head = λ v. refl;
+      found = λ v. refl;
+      own = λ v k. refl;
+      marks = λ v k. refl;
+    });
+    leaves = var_leaves s a v n b _ _ ruled.lawful fits;
+  }
+
+  pub plain_consumes : (c : ℕ) → KeepsLaw s a (place.Plain c) 0 (step.Consume (watch.Plain c) 0 (s.words.plains c)) b
+  plain_consumes c = record {
+    allowed = (tt, tt, refl);
+    stored = tt;
+    places = still_places s a (step.Consume (watch.Plain c) 0 (s.words.plains c)) refl refl;
+    links = quiet_links s a (step.Consume (watch.Plain c) 0 (s.words.plains c)) (record {
+      holder = refl;
+      spent = refl;
+      mark = refl;
+      head = λ v. refl;
+      found = λ v. refl;
+      own = λ v k. refl;
+      marks = λ v k. refl;
+    });
+    leaves = plain_leaves s a c 0 b _ _ ruled.lawful fits;
+  }

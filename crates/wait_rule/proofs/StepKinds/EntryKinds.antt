@@ -1,0 +1,192 @@
+-- Each kind of step on an entry word keeps the law.
+use Rattle.std.proofs.Common.{refl, sym, ◌∙◌, ap, subst, inl, inr}
+use Rattle.std.specs.Prelude.{ℕ, ◌≡◌, ◌≢◌, ◌<◌, ◌⊎◌, Option, Some, None, List}
+use Rattle.wait_model.specs.declared.layout.TheConstants.{ENTRIES}
+use Rattle.wait_model.specs.declared.watches.Entry.{Entry}
+use Rattle.wait_model.specs.declared.steps.Step.{Step}
+use Rattle.wait_model.specs.declared.steps.Step.TheVariants as step
+use Rattle.wait_model.specs.Functions.{put}
+use Rattle.wait_model.specs.Watches.{head_of, owner}
+use Rattle.wait_model.specs.Words.{entry_word, entry_of, Suited}
+use Rattle.wait_model.specs.Views.{View as Told, Look, off, shown}
+use Rattle.wait_model.specs.Tables.{Table}
+use Rattle.wait_model.specs.Rows.{Suits}
+use Rattle.wait_model.specs.Facts.{Agrees}
+use Rattle.wait_model.specs.Locations as place
+use Rattle.wait_model.specs.Locations.{Location, word_in}
+use Rattle.wait_model.proofs.WordLaws.CondWords.{suits_of}
+use Rattle.wait_model.proofs.WordLaws.DecodedWords.{entry_read, none_read}
+use Rattle.wait_model.proofs.Functions.{put_at, put_same, put_other}
+use Rattle.wait_rule.specs.declared.journal.Item.{Item}
+use Rattle.wait_rule.specs.Items.{Book, Fits}
+use Rattle.wait_rule.specs.Members.{IsStanding, IsOwnKind, IsEntryWord}
+use Rattle.wait_rule.specs.Rule.{IsLawfulTable, IsRuled}
+use Rattle.wait_rule.specs.Queues.{saw}
+use Rattle.wait_rule.proofs.KnownLaws.HeadLinks.{quiet_links}
+use Rattle.wait_rule.proofs.KnownLaws.MemberPlaces.{KeepsPlaces, still_places, unqueue_places}
+use Rattle.wait_rule.proofs.KnownLaws.OwnEntries.{IsFair}
+use Rattle.wait_rule.proofs.TableSteps.KeptSteps.{Leaves, KeepsLaw}
+
+-- what a step on an entry word leaves
+entry_leaves : (s : Table) (a x : ℕ) (o : Option Entry) (b : Book) (history : ℕ → List Step) (view : ℕ → Told)
+    → IsLawfulTable s → Fits (s.task a) b → ((e : Entry) → o ≡ Some e → IsStanding x e)
+    → Leaves s (record s { entry = put s.entry x o; history = history; view = view }) a (place.Entry x) (entry_word o) b
+entry_leaves s a x o b history view l f standing = record {
+  lawful = record {
+    tasks = l.tasks;
+    entries = λ y e. put_at (λ (p : Option Entry). p ≡ Some e → IsStanding y e) s.entry x o y
+        (λ q is. subst (λ (i : ℕ). IsStanding i e) (sym q) (standing e is)) (λ _. l.entries y e);
+    marks = l.marks;
+    spent = l.spent;
+    bits = l.bits;
+  };
+  own = f;
+  others = λ t ne c g. g;
+  left = ap entry_word (put_same s.entry x o);
+  rest = rest_of;
+}
+  where
+    rest_of : (k : Location) → k ≢ place.Entry x
+        → word_in (record s { entry = put s.entry x o; history = history; view = view }) k ≡ word_in s k
+    rest_of (place.Entry i) ne = ap entry_word (put_other s.entry x o i (λ e. ne (ap place.Entry e)))
+    rest_of k ne = refl
+
+-- what a load leaves
+pub load_leaves : (s : Table) (a : ℕ) (l : Location) (b : Book) (history : ℕ → List Step) (view : ℕ → Told)
+    → IsLawfulTable s → Fits (s.task a) b
+    → Leaves s (record s { history = history; view = view }) a l (word_in s l) b
+load_leaves s a l b history view w f = record {
+  lawful = record { tasks = w.tasks; entries = w.entries; marks = w.marks; spent = w.spent; bits = w.bits };
+  own = f;
+  others = λ t ne c g. g;
+  left = same l;
+  rest = λ k ne. same k;
+}
+  where
+    same : (k : Location) → word_in (record s { history = history; view = view }) k ≡ word_in s k
+    same place.Base = refl
+    same k = refl
+
+-- a kind that suits its watch suits it as the laws ask
+pub suits : (e : Entry) → Suited e.watch e.kind → Suits e
+suits e h = suits_of e.watch e.kind h
+
+module _ (s : Table) (items : ℕ → List Item) (ruled : IsRuled s items) (x : ℕ) where
+  -- the word of a standing entry shows it
+  pub reads : entry_of (entry_word (s.entry x)) ≡ s.entry x
+  reads = by (s.entry x) refl
+    where
+      by : (o : Option Entry) → s.entry x ≡ o → entry_of (entry_word o) ≡ o
+      by None q = none_read
+      by (Some e) q = entry_read e (ruled.lawful.entries x e q).lawful
+
+  pub is_entry : IsEntryWord x (entry_word (s.entry x))
+  is_entry = record {
+    entry = s.entry x;
+    spells = refl;
+    reads = reads;
+    standing = λ e q. ruled.lawful.entries x e q;
+  }
+
+  module _ (a : ℕ) (b : Book) (fits : Fits (s.task a) b) where
+    pub sees : (o : Option ℕ) → (s.view a).hold.head ≡ o
+        → KeepsLaw s a (place.Entry x) (entry_word (s.entry x)) (saw o x (entry_word (s.entry x))) b
+    sees None out = record {
+      allowed = (reads, out);
+      stored = tt;
+      places = still_places s a (step.Peek x (entry_word (s.entry x))) refl refl;
+      links = quiet_links s a (step.Peek x (entry_word (s.entry x))) (record {
+        holder = refl;
+        spent = refl;
+        mark = refl;
+        head = λ v. refl;
+        found = λ v. refl;
+        own = λ v k. refl;
+        marks = λ v k. refl;
+      });
+      leaves = load_leaves s a (place.Entry x) b _ _ ruled.lawful fits;
+    }
+    sees (Some h) held = record {
+      allowed = reads;
+      stored = tt;
+      places = still_places s a (step.Saw x (entry_word (s.entry x))) refl refl;
+      links = quiet_links s a (step.Saw x (entry_word (s.entry x))) (record {
+        holder = refl;
+        spent = refl;
+        mark = refl;
+        head = λ v. refl;
+        found = λ v. refl;
+        own = λ v k. refl;
+        marks = λ v k. refl;
+      });
+      leaves = load_leaves s a (place.Entry x) b _ _ ruled.lawful fits;
+    }
+
+    -- an own entry that the hold shows off is off
+    own_off : (h : ℕ) → owner x ≡ a → (s.view a).hold.head ≡ Some h → (s.view a).hold.book x ≡ off → s.entry x ≡ None
+    own_off h mine held shows = by (s.entry x) refl
+      where
+        gone : (s.view a).bits.stored x ≡ None
+        gone = (ruled.whole.kept.facts.views a).bits.seen h x held shows
+
+        by : (o : Option Entry) → s.entry x ≡ o → o ≡ None
+        by None is = refl
+        by (Some e) is = absurd (let z : (s.view a).bits.stored x ≡ Some e =
+            subst (λ (u : ℕ). (s.view u).bits.stored x ≡ Some e) mine (ruled.whole.kept.bits.stored_is x e is) in
+            cc (gone))
+
+    pub queues : (e : Entry) → x < ENTRIES → owner x ≡ a → IsStanding x e
+        → (s.view a).hold.head ≡ Some (head_of e.watch) → (s.view a).hold.book x ≡ off
+        → KeepsPlaces s a (step.Queue x e)
+        → KeepsLaw s a (place.Entry x) (entry_word (Some e)) (step.Queue x e) b
+    queues e inside mine standing held shows places = record {
+      allowed = (
+        mine,
+        inside,
+        own_off (head_of e.watch) mine held shows,
+        held,
+        suits e standing.lawful.suited,
+        shows,
+      );
+      stored = tt;
+      places = places;
+      links = quiet_links s a (step.Queue x e) (record {
+        holder = refl;
+        spent = refl;
+        mark = refl;
+        head = λ v. refl;
+        found = λ v. refl;
+        own = λ v k. refl;
+        marks = λ v k. refl;
+      });
+      leaves = entry_leaves s a x (Some e) b _ _ ruled.lawful fits
+          (λ d is. subst (IsStanding x) (let z : e ≡ d = cc in z) standing);
+    }
+
+    pub unqueues : (h : ℕ) (e : Entry) → (s.view a).hold.head ≡ Some h → (s.view a).hold.book x ≡ shown e
+        → (owner x ≡ a) ⊎ (IsOwnKind e.kind → ⊥) → KeepsLaw s a (place.Entry x) 0 (step.Unqueue x) b
+    unqueues h e held shows may = record {
+      allowed = (e, agrees.0, held ∙ ap (λ (k : ℕ). Some k) (sym agrees.1));
+      stored = fair may;
+      places = unqueue_places s a x;
+      links = quiet_links s a (step.Unqueue x) (record {
+        holder = refl;
+        spent = refl;
+        mark = refl;
+        head = λ v. refl;
+        found = λ v. refl;
+        own = λ v k. refl;
+        marks = λ v k. refl;
+      });
+      leaves = entry_leaves s a x None b _ _ ruled.lawful fits (λ d is. absurd (cc));
+    }
+      where
+        agrees : Agrees h (shown e) (s.entry x)
+        agrees = subst (λ (l : Look). Agrees h l (s.entry x)) shows
+            ((ruled.whole.kept.facts.views a).hold.agrees h x held)
+
+        fair : (owner x ≡ a) ⊎ (IsOwnKind e.kind → ⊥) → IsFair s a (step.Unqueue x)
+        fair (inl mine) = inl mine
+        fair (inr other) = inr (λ d is own.
+            let same : d ≡ e = (let both : Some d ≡ Some e = sym is ∙ agrees.0 in cc) in
+            other (subst (λ (c : Entry). IsOwnKind c.kind) same own))

@@ -1,0 +1,62 @@
+-- The step on a flag word keeps the law.
+use Rattle.std.proofs.Common.{refl, ◌∙◌, ap, subst, sym}
+use Rattle.std.specs.Prelude.{ℕ, ◌≡◌, ◌≢◌, Bool, true, Some, List}
+use Rattle.wait_model.specs.declared.watches.Entry.{Entry}
+use Rattle.wait_model.specs.declared.steps.Step.{Step}
+use Rattle.wait_model.specs.declared.steps.Step.TheVariants as step
+use Rattle.wait_model.specs.Functions.{put}
+use Rattle.wait_model.specs.Words.{flag_word}
+use Rattle.wait_model.specs.Views.{View as Told, Look, shown}
+use Rattle.wait_model.specs.Tables.{Table}
+use Rattle.wait_model.specs.Facts.{Agrees}
+use Rattle.wait_model.specs.Locations as place
+use Rattle.wait_model.specs.Locations.{Location, word_in}
+use Rattle.wait_model.proofs.Functions.{put_same, put_other}
+use Rattle.wait_rule.specs.declared.journal.Item.{Item}
+use Rattle.wait_rule.specs.Items.{Book, Fits}
+use Rattle.wait_rule.specs.Rule.{IsLawfulTable, IsRuled}
+use Rattle.wait_rule.proofs.KnownLaws.HeadLinks.{quiet_links}
+use Rattle.wait_rule.proofs.KnownLaws.MemberPlaces.{still_places}
+use Rattle.wait_rule.proofs.TableSteps.KeptSteps.{Leaves, KeepsLaw}
+
+-- what a step on a flag word leaves
+flag_leaves : (s : Table) (a x : ℕ) (woken : Bool) (b : Book) (history : ℕ → List Step) (view : ℕ → Told)
+    → IsLawfulTable s → Fits (s.task a) b
+    → Leaves s (record s { flag = put s.flag x woken; history = history; view = view }) a (place.Flag x)
+    (flag_word woken) b
+flag_leaves s a x woken b history view l f = record {
+  lawful = record { tasks = l.tasks; entries = l.entries; marks = l.marks; spent = l.spent; bits = l.bits };
+  own = f;
+  others = λ t ne c g. g;
+  left = ap flag_word (put_same s.flag x woken);
+  rest = rest_of;
+}
+  where
+    rest_of : (k : Location) → k ≢ place.Flag x
+        → word_in (record s { flag = put s.flag x woken; history = history; view = view }) k ≡ word_in s k
+    rest_of (place.Flag i) ne = ap flag_word (put_other s.flag x woken i (λ e. ne (ap place.Flag e)))
+    rest_of k ne = refl
+
+-- in a hold that shows an entry, its flag may be set
+pub flags : (s : Table) (items : ℕ → List Item) → IsRuled s items → (x a : ℕ) (b : Book) → Fits (s.task a) b
+    → (h : ℕ) (e : Entry) → (s.view a).hold.head ≡ Some h → (s.view a).hold.book x ≡ shown e
+    → KeepsLaw s a (place.Flag x) (flag_word true) (step.Woken x) b
+flags s items ruled x a b fits h e held shows = record {
+  allowed = (e, agrees.0, held ∙ ap (λ (k : ℕ). Some k) (sym agrees.1));
+  stored = tt;
+  places = still_places s a (step.Woken x) refl refl;
+  links = quiet_links s a (step.Woken x) (record {
+    holder = refl;
+    spent = refl;
+    mark = refl;
+    head = λ v. refl;
+    found = λ v. refl;
+    own = λ v k. refl;
+    marks = λ v k. refl;
+  });
+  leaves = flag_leaves s a x true b _ _ ruled.lawful fits;
+}
+  where
+    agrees : Agrees h (shown e) (s.entry x)
+    agrees = subst (λ (l : Look). Agrees h l (s.entry x)) shows
+        ((ruled.whole.kept.facts.views a).hold.agrees h x held)

@@ -1,0 +1,10 @@
+-- From the law to what a step of the table of words asks.
+pub mod SeenStates
+pub mod StateLaws
+pub mod ItemLists
+pub mod KeptSteps
+pub mod TaskMoves
+pub mod QueueMoves
+pub mod MemberMoves
+pub mod StartRule
+pub mod ForksAndJoins

@@ -1,0 +1,370 @@
+-- From "this step keeps the law" to what a step of the table of words asks.
+use Rattle.std.proofs.Common.{refl, sym, ◌∙◌, ap, subst, arith, append-nil, eq-eqb, ne_eqb, inl, inr}
+use Rattle.std.specs.Prelude.{
+  ℕ,
+  ◌≡◌,
+  ◌≢◌,
+  ◌<◌,
+  Bool,
+  true,
+  false,
+  cond,
+  eqb,
+  List,
+  [],
+  ◌∷◌,
+  ◌++◌,
+  slice_set,
+  slice_index,
+  ◌⊎◌,
+}
+use native.Mathlib.Decide.{ℕ_discrete}
+use prog.Atomic.{either}
+use Rattle.atomic_table.specs.Table.{Allows}
+use Rattle.wait_model.specs.declared.layout.TheConstants.{TASKS}
+use Rattle.wait_model.specs.declared.steps.Step.{Step}
+use Rattle.wait_model.specs.Functions.{put}
+use Rattle.wait_model.specs.Fold.{view_of}
+use Rattle.wait_model.specs.Tables.{Table, next}
+use Rattle.wait_model.specs.Rows.{Allowed}
+use Rattle.wait_model.specs.Locations.{Location, IsLocation, position_of, word_in, Shows}
+use Rattle.wait_model.proofs.Functions.{put_at, put_same, put_other}
+use Rattle.wait_model.proofs.StepLaws.KeptLaws.{step_keeps}
+use Rattle.wait_model.proofs.HistoryLaws.HoldLooks.{told_next}
+use Rattle.wait_model.proofs.WordLaws.ShownSteps.{written}
+use Rattle.wait_model.proofs.AccountLaws.SignalCounts.{signals_stay_raised}
+use Rattle.wait_model.proofs.BitLaws.BitKeepers.{bits_stay_kept}
+use Rattle.wait_model.proofs.AccountLaws.DoneCounts.{counts_stay_balanced}
+use Rattle.wait_rule.specs.declared.journal.Item.{Item}
+use Rattle.wait_rule.specs.declared.journal.Item.TheVariants as item
+use Rattle.wait_rule.specs.Items.{Book, first_book, steps_of, learn_step, book_of, Fits}
+use Rattle.wait_rule.specs.Notes.{notes_of}
+use Rattle.wait_rule.specs.Journals.{Scene, moved, pushed}
+use Rattle.wait_rule.specs.Rule.{IsLawfulTable, IsWhole, AreLinked, all_notes, is_stepped, IsRuled, Law, Holds}
+use Rattle.wait_rule.specs.Plays.{Sat, seat_with, seat_tried}
+use Rattle.wait_rule.proofs.TableSteps.ItemLists.{steps_append, book_append}
+use Rattle.wait_rule.proofs.KnownLaws.AfterSteps.{notes_after}
+use Rattle.wait_rule.proofs.KnownLaws.HeadLinks.{KeepsLinks, noted_next, noted_seen, same_links}
+use Rattle.wait_rule.proofs.KnownLaws.MemberPlaces.{KeepsPlaces, queued_next}
+use Rattle.wait_rule.proofs.WornHeads.WornNotes.{IsShort, worn_next}
+use Rattle.wait_rule.proofs.KnownLaws.OwnEntries.{IsFair, done_store, own_next}
+use Rattle.wait_rule.proofs.TableSteps.StateLaws.{allows, pushed_none}
+
+-- What a step of task a leaves: from the table s it leads to z, where the word at l is n and all others are as
+-- they were, and b is what the task knows then.
+pub record Leaves (s z : Table) (a : ℕ) (l : Location) (n : ℕ) (b : Book) : Type 0 where
+  pub lawful : IsLawfulTable z
+  pub own : Fits (z.task a) b
+  pub others : (t : ℕ) → t ≢ a → (c : Book) → Fits (s.task t) c → Fits (z.task t) c
+  pub left : word_in z l ≡ n
+  pub rest : (k : Location) → k ≢ l → word_in z k ≡ word_in s k
+
+-- a step that keeps the law: the model allows it, and what it leaves is lawful
+pub record KeepsLaw (s : Table) (a : ℕ) (l : Location) (n : ℕ) (e : Step) (b : Book) : Type 0 where
+  pub allowed : Allowed s a e
+  pub stored : IsFair s a e
+  pub places : KeepsPlaces s a e
+  pub links : KeepsLinks s a e
+  pub leaves : Leaves s (next s a e) a l n (learn_step e b)
+
+pub whole_next : (s : Table) (a : ℕ) (e : Step) → a < TASKS → Allowed s a e → IsFair s a e → IsWhole s
+    → IsWhole (next s a e)
+whole_next s a e few al st w = record {
+  kept = step_keeps s a e w.kept al;
+  told = told_next s a e w.told;
+  signals = λ t. signals_stay_raised TASKS s a e t few al (w.signals t);
+  bits = bits_stay_kept s a e w.kept w.told al w.bits;
+  counts = λ d. counts_stay_balanced TASKS s a e d few al (done_store s a e st) (w.counts d);
+}
+
+not_stepped : (k l : Location) → is_stepped k ≡ false → is_stepped l ≡ true → k ≢ l
+not_stepped k l unset is e = let z : false ≡ true = sym unset ∙ (ap is_stepped e ∙ is) in cc
+
+-- a step that changes no word, as a load
+abbrev pub ChangesNone : ℕ → Step → Type 0
+ChangesNone a e = (s : Table) (k : Location) → word_in (next s a e) k ≡ word_in s k
+
+-- the step's word is one that some call changes, or the step changes none
+abbrev pub MayChangeWord : Location → ℕ → Step → Type 0
+MayChangeWord l a e = (is_stepped l ≡ true) ⊎ ChangesNone a e
+
+rest_untouched : (s z : Table) (a : ℕ) (l : Location) (n : ℕ) (b : Book) (e : Step) → z ≡ next s a e
+    → MayChangeWord l a e
+    → Leaves s z a l n b → (m : Location) → is_stepped m ≡ false → word_in z m ≡ word_in s m
+rest_untouched s z a l n b e here (inl is) k m unset = k.rest m (not_stepped m l unset is)
+rest_untouched s z a l n b e here (inr none) k m unset = ap (λ (t : Table). word_in t m) here ∙ none s m
+
+histories_next : (s : Table) (items : ℕ → List Item) (a : ℕ) (e : Step) → ((t : ℕ) → s.history t ≡ steps_of (items t))
+    → (t : ℕ) → (next s a e).history t ≡ steps_of (put items a (items a ++ item.Made e ∷ []) t)
+histories_next s items a e is t = put_at
+    (λ (xs : List Item). put s.history a (s.history a ++ e ∷ []) t ≡ steps_of xs) items a
+    (items a ++ item.Made e ∷ []) t
+    (λ q. ap (put s.history a (s.history a ++ e ∷ [])) q ∙ (put_same s.history a (s.history a ++ e ∷ [])
+    ∙ (ap (λ (es : List Step). es ++ e ∷ []) (is a) ∙ sym (steps_append (items a) (item.Made e ∷ [])))))
+    (λ ne. put_other s.history a (s.history a ++ e ∷ []) t ne ∙ is t)
+
+links_next : (s : Table) (items : ℕ → List Item) (a : ℕ) (e : Step) → IsRuled s items → KeepsLinks s a e
+    → AreLinked (next s a e) (all_notes (put items a (items a ++ item.Made e ∷ [])))
+links_next s items a e r links = subst (AreLinked (next s a e))
+    (sym (noted_next items a e (s.view a) (r.whole.told a ∙ ap view_of (r.histories a))))
+    (links (all_notes items) r.linked)
+
+pub ruled_next : (s : Table) (items : ℕ → List Item) (a : ℕ) (l : Location) (n : ℕ) (e : Step)
+    → a < TASKS → MayChangeWord l a e → IsRuled s items → KeepsLaw s a l n e (book_of (items a))
+    → IsRuled (next s a e) (put items a (items a ++ item.Made e ∷ []))
+ruled_next s items a l n e few is r k = record {
+  whole = whole_next s a e few k.allowed k.stored r.whole;
+  histories = histories_next s items a e r.histories;
+  lawful = k.leaves.lawful;
+  fits = λ t small. put_at (λ (xs : List Item). Fits ((next s a e).task t) (book_of xs)) items a
+      (items a ++ item.Made e ∷ []) t
+      (λ q. subst (λ (i : ℕ). Fits ((next s a e).task i) (book_of (items a ++ item.Made e ∷ []))) (sym q)
+      (subst (Fits ((next s a e).task a)) (sym (book_append first_book (items a) (item.Made e ∷ []))) k.leaves.own))
+      (λ ne. k.leaves.others t ne (book_of (items t)) (r.fits t small));
+  linked = links_next s items a e r k.links;
+  placed = k.places few r.placed;
+  own = own_next s a e k.allowed k.stored r.own;
+  worn = worn_next s (next s a e) items a (item.Made e ∷ []) tt r.worn
+      (λ h. let n = queued_next s a e h few in omega (arith, n)) (whole_next s a e few k.allowed k.stored r.whole)
+      (histories_next s items a e r.histories) k.leaves.lawful (links_next s items a e r k.links)
+      (k.places few r.placed);
+  untouched = λ m unset. rest_untouched s (next s a e) a l n (learn_step e
+      (book_of (items a))) e refl is k.leaves m unset
+      ∙ r.untouched m unset;
+}
+
+-- a step that keeps the law, on the words
+pub law_next : (c : Scene) (law : Law c) (a : ℕ) (l : Location) (n : ℕ) (e : Step) → a < TASKS
+    → IsLocation l → MayChangeWord l a e → KeepsLaw law.table a l n e (book_of (c.items a))
+    → Law (moved c a (position_of l) n (item.Made e ∷ []))
+law_next c law a l n e few there is k = record {
+  table = next law.table a e;
+  shown = subst (λ (m : ℕ). Shows (slice_set c.words (position_of l) m) (next law.table a e)) k.leaves.left
+      (written c.words law.table (next law.table a e) l law.shown there k.leaves.rest);
+  ruled = ruled_next law.table c.items a l n e few is law.ruled k;
+}
+
+-- items that are no steps, one at most, at a load
+module _ (c : Scene) (law : Law c) (a : ℕ) (xs : List Item) (none : steps_of xs ≡ []) where
+  abbrev grown_items : ℕ → List Item
+  grown_items = put c.items a (c.items a ++ xs)
+
+  histories_seen : (t : ℕ) → law.table.history t ≡ steps_of (grown_items t)
+  histories_seen t = put_at (λ (ys : List Item). law.table.history t ≡ steps_of ys) c.items a (c.items a ++ xs) t
+      (λ q. law.ruled.histories t ∙ (ap (λ (i : ℕ). steps_of (c.items i)) q
+      ∙ sym (steps_append (c.items a) xs ∙ (ap (λ (es : List Step). steps_of (c.items a) ++ es) none
+      ∙ append-nil (steps_of (c.items a))))))
+      (λ ne. law.ruled.histories t)
+
+  law_seen : (l : Location) (n : ℕ) → IsLocation l → n ≡ slice_index c.words (position_of l) → IsShort xs
+      → (a < TASKS → Fits (law.table.task a) (book_of (c.items a ++ xs)))
+      → AreLinked law.table (put (all_notes c.items) a (notes_of a (c.items a ++ xs)))
+      → Law (moved c a (position_of l) n xs)
+  law_seen l n there is short own links = record {
+    table = law.table;
+    shown = subst (λ (m : ℕ). Shows (slice_set c.words (position_of l) m) law.table)
+        (sym (is ∙ law.shown.each l there))
+        (written c.words law.table law.table l law.shown there (λ k ne. refl));
+    ruled = record {
+      whole = law.ruled.whole;
+      histories = histories_seen;
+      lawful = law.ruled.lawful;
+      fits = λ t small. put_at (λ (ys : List Item). Fits (law.table.task t) (book_of ys)) c.items a
+          (c.items a ++ xs) t
+          (λ q. subst (λ (i : ℕ). Fits (law.table.task i) (book_of (c.items a ++ xs))) (sym q)
+          (own (subst (λ (i : ℕ). i < TASKS) q small)))
+          (λ ne. law.ruled.fits t small);
+      linked = subst (AreLinked law.table) (sym (noted_seen c.items a xs)) links;
+      placed = law.ruled.placed;
+      own = law.ruled.own;
+      worn = worn_next law.table law.table c.items a xs short law.ruled.worn (λ h. omega arith) law.ruled.whole
+          histories_seen law.ruled.lawful (subst (AreLinked law.table) (sym (noted_seen c.items a xs)) links)
+          law.ruled.placed;
+      untouched = law.ruled.untouched;
+    };
+  }
+
+-- a load that adds nothing
+pub law_still : (c : Scene) (law : Law c) (a : ℕ) (l : Location) (n : ℕ) → IsLocation l
+    → n ≡ slice_index c.words (position_of l) → Law (moved c a (position_of l) n [])
+law_still c law a l n there is = law_seen c law a [] refl l n there is tt
+    (λ few. subst (λ (xs : List Item). Fits (law.table.task a) (book_of xs)) (sym (append-nil (c.items a)))
+    (law.ruled.fits a few))
+    (same_links law.table c.items a [] (ap (notes_of a) (append-nil (c.items a))) law.ruled.linked)
+
+-- a try that is no step
+pub law_busy : (c : Scene) (law : Law c) (a : ℕ) (l : Location) (h n : ℕ) → IsLocation l
+    → n ≡ slice_index c.words (position_of l) → Law (moved c a (position_of l) n (item.Busy h n ∷ []))
+law_busy c law a l h n there is = law_seen c law a (item.Busy h n ∷ []) refl l n there is tt
+    (λ few. subst (Fits (law.table.task a)) (sym (book_append first_book (c.items a) (item.Busy h n ∷ [])))
+    (law.ruled.fits a few))
+    (same_links law.table c.items a (item.Busy h n ∷ []) (notes_after a (c.items a) (item.Busy h n))
+    law.ruled.linked)
+
+-- what a task knows of itself in what is seen
+pub record IsOwn (s : Table) (items : ℕ → List Item) (me : Sat) : Type 0 where
+  pub told : s.view me.0.number ≡ view_of (steps_of me.0.items)
+  pub list : items me.0.number ≡ me.0.items
+
+module _ (slots id : ℕ) (me : Sat) (lives : me.0.lives ≡ true) (l : Location) (there : IsLocation l)
+    (p : ℕ) (at : p ≡ position_of l) where
+  -- a fact of each ruled table that fits what the task knows of itself
+  abbrev pub Always : (Table → ℕ → Type 0) → Type 0
+  Always P = (s : Table) (items : ℕ → List Item) → IsRuled s items → IsOwn s items me
+      → Fits (s.task me.0.number) (book_of me.0.items) → P s (word_in s l)
+
+  is_own : (c : Scene) (law : Law c) → c.items me.0.number ≡ me.0.items → IsOwn law.table c.items me
+  is_own c law own = record {
+    told = law.ruled.whole.told me.0.number ∙ (ap view_of (law.ruled.histories me.0.number)
+        ∙ ap (λ (xs : List Item). view_of (steps_of xs)) own);
+    list = own;
+  }
+
+  -- the table that is seen, where the own list is the seat's
+  apply : (P : Table → ℕ → Type 0) → Always P → (c : Scene) (law : Law c) → me.0.number < TASKS
+      → c.items me.0.number ≡ me.0.items → P law.table (word_in law.table l)
+  apply P always c law few own = always law.table c.items law.ruled (is_own c law own)
+      (subst (λ (xs : List Item). Fits (law.table.task me.0.number) (book_of xs)) own
+      (law.ruled.fits me.0.number few))
+
+  -- a step that always keeps the law
+  pub all_steps : (f : ℕ → ℕ) (x : ℕ → Step) (tells : ℕ → Type 0) → ((n : ℕ) → MayChangeWord l me.0.number (x n))
+      → Always (λ s n. KeepsLaw s me.0.number l (f n) (x n) (book_of me.0.items) × tells n)
+      → Allows (Holds Law) slots id me p f (λ n m. (m ≡ seat_with me (item.Made (x n))) × tells n)
+  all_steps f x tells may always = subst
+      (λ (k : ℕ). Allows (Holds Law) slots id me k f (λ n m. (m ≡ seat_with me (item.Made (x n))) × tells n)) (sym at)
+      (allows Law slots id me.0 me.1 (position_of l) f (λ n. item.Made (x n) ∷ []) tells lives
+      (λ c law few own small. by c law few own (slice_index c.words (position_of l)) (law.shown.each l there)))
+    where
+      by : (c : Scene) (law : Law c) → me.0.number < TASKS → c.items me.0.number ≡ me.0.items → (n : ℕ)
+          → n ≡ word_in law.table l
+          → Law (moved c me.0.number (position_of l) (f n) (item.Made (x n) ∷ [])) × tells n
+      by c law few own n reads =
+          let k = apply (λ s n. KeepsLaw s me.0.number l (f n) (x n) (book_of me.0.items) × tells n) always c law few
+          own in
+          subst (λ (n : ℕ). Law (moved c me.0.number (position_of l) (f n) (item.Made (x n) ∷ [])) × tells n)
+          (sym reads) (
+            law_next c law me.0.number l (f (word_in law.table l)) (x (word_in law.table l)) few there
+                (may (word_in law.table l))
+                (subst (λ (xs : List Item). KeepsLaw law.table me.0.number l (f (word_in law.table l))
+                (x (word_in law.table l)) (book_of xs)) (sym own) k.0),
+            k.1,
+          )
+
+  pub steps : is_stepped l ≡ true → (f : ℕ → ℕ) (x : ℕ → Step) (tells : ℕ → Type 0)
+      → Always (λ s n. KeepsLaw s me.0.number l (f n) (x n) (book_of me.0.items) × tells n)
+      → Allows (Holds Law) slots id me p f (λ n m. (m ≡ seat_with me (item.Made (x n))) × tells n)
+  steps is f x tells always = all_steps f x tells (λ n. inl is) always
+
+  -- a try that keeps the law, or that finds the head held and leaves its word as it was
+  pub tries_lock : is_stepped l ≡ true → (f : ℕ → ℕ) (x : ℕ → Item) (tells : ℕ → Type 0)
+      → Always (λ s n. (((e : Step) × (x n ≡ item.Made e)
+      × KeepsLaw s me.0.number l (f n) e (book_of me.0.items)) ⊎ ((h : ℕ) × (x n ≡ item.Busy h n) × (f n ≡ n)))
+      × tells n)
+      → Allows (Holds Law) slots id me p f (λ n m. (m ≡ seat_with me (x n)) × tells n)
+  tries_lock is f x tells always = subst
+      (λ (k : ℕ). Allows (Holds Law) slots id me k f (λ n m. (m ≡ seat_with me (x n)) × tells n)) (sym at)
+      (allows Law slots id me.0 me.1 (position_of l) f (λ n. x n ∷ []) tells lives
+      (λ c law few own small. by c law few own (slice_index c.words (position_of l)) refl))
+    where
+      P : Table → ℕ → Type 0
+      P s n = (((e : Step) × (x n ≡ item.Made e)
+          × KeepsLaw s me.0.number l (f n) e (book_of me.0.items)) ⊎ ((h : ℕ) × (x n ≡ item.Busy h n) × (f n ≡ n)))
+          × tells n
+
+      one : (c : Scene) (law : Law c) → me.0.number < TASKS → c.items me.0.number ≡ me.0.items → (n : ℕ)
+          → n ≡ slice_index c.words (position_of l)
+          → ((e : Step) × (x n ≡ item.Made e) × KeepsLaw law.table me.0.number l (f n) e (book_of me.0.items))
+          ⊎ ((h : ℕ) × (x n ≡ item.Busy h n) × (f n ≡ n))
+          → Law (moved c me.0.number (position_of l) (f n) (x n ∷ []))
+      one c law few own n reads (inl k) = subst
+          (λ (y : Item). Law (moved c me.0.number (position_of l) (f n) (y ∷ []))) (sym k.1)
+          (law_next c law me.0.number l (f n) k.0 few there (inl is)
+          (subst (λ (xs : List Item). KeepsLaw law.table me.0.number l (f n) k.0 (book_of xs)) (sym own) k.2))
+      one c law few own n reads (inr k) = subst
+          (λ (y : ℕ × Item). Law (moved c me.0.number (position_of l) y.0 (y.1 ∷ [])))
+          (λ i. (sym k.2 i, sym k.1 i)) (law_busy c law me.0.number l k.0 n there reads)
+
+      by : (c : Scene) (law : Law c) → me.0.number < TASKS → c.items me.0.number ≡ me.0.items → (n : ℕ)
+          → n ≡ slice_index c.words (position_of l)
+          → Law (moved c me.0.number (position_of l) (f n) (x n ∷ [])) × tells n
+      by c law few own n reads =
+          let k : P law.table n = subst (P law.table) (sym (reads ∙ law.shown.each l there))
+          (apply P always c law few own) in
+          (one c law few own n reads k.0, k.1)
+
+  -- a load that adds an item that is no step, or nothing
+  pub loads : (xs : ℕ → List Item) (tells : ℕ → Type 0) → ((n : ℕ) → IsShort (xs n)) → ((n : ℕ) → steps_of (xs n) ≡ [])
+      → Always (λ s n. Fits (s.task me.0.number) (book_of (me.0.items ++ xs n)) × tells n)
+      → ((s : Table) (items : ℕ → List Item) → IsRuled s items → IsOwn s items me → AreLinked s
+      (put (all_notes items) me.0.number (notes_of me.0.number (items me.0.number ++ xs (word_in s l)))))
+      → Allows (Holds Law) slots id me p (λ n. n) (λ n m. (m ≡ (pushed me.0 (xs n), me.1)) × tells n)
+  loads xs tells short none always links = subst
+      (λ (k : ℕ). Allows (Holds Law) slots id me k (λ n. n) (λ n m. (m ≡ (pushed me.0 (xs n), me.1)) × tells n))
+      (sym at)
+      (allows Law slots id me.0 me.1 (position_of l) (λ n. n) xs tells lives
+      (λ c law few own small. by c law few own (slice_index c.words (position_of l)) refl))
+    where
+      by : (c : Scene) (law : Law c) → me.0.number < TASKS → c.items me.0.number ≡ me.0.items → (n : ℕ)
+          → n ≡ slice_index c.words (position_of l)
+          → Law (moved c me.0.number (position_of l) n (xs n)) × tells n
+      by c law few own n reads =
+          let k : Fits (law.table.task me.0.number) (book_of (me.0.items ++ xs n)) × tells n =
+          subst (λ (n : ℕ). Fits (law.table.task me.0.number) (book_of (me.0.items ++ xs n)) × tells n)
+          (sym (reads ∙ law.shown.each l there))
+          (apply (λ s n. Fits (s.task me.0.number) (book_of (me.0.items ++ xs n)) × tells n) always c law few own)
+          in (
+            law_seen c law me.0.number (xs n) (none n) l n there reads (short n)
+                (λ _. subst (λ (ys : List Item). Fits (law.table.task me.0.number) (book_of (ys ++ xs n))) (sym own)
+                k.0)
+                (subst (λ (n : ℕ). AreLinked law.table (put (all_notes c.items) me.0.number
+                (notes_of me.0.number (c.items me.0.number ++ xs n)))) (sym (reads ∙ law.shown.each l there))
+                (links law.table c.items law.ruled (is_own c law own))),
+            k.1,
+          )
+
+  abbrev hit : (old : ℕ) (x : ℕ → Step) → ℕ → List Item
+  hit old x n = cond (eqb n old) (item.Made (x n) ∷ []) []
+
+  -- a compare-exchange that keeps the law where it finds what it expects
+  pub tries : is_stepped l ≡ true → (old new : ℕ) (x : ℕ → Step)
+      → Always (λ s n. n ≡ old → KeepsLaw s me.0.number l new (x n) (book_of me.0.items))
+      → Allows (Holds Law) slots id me p (λ n. either (eqb n old) new n)
+      (λ n m. m ≡ seat_tried me (item.Made (x n)) old n)
+  tries is old new x always s r long at_id small =
+      let a = all s r long at_id small in
+      (a.0, a.1, a.2, a.3, a.4.0 ∙ one_of (eqb (slice_index s.words p) old) (x (slice_index s.words p)))
+    where
+      one_of : (b : Bool) (e : Step) → ◌≡◌ {A = Sat} (pushed me.0 (cond b (item.Made e ∷ []) []), me.1)
+          (cond b (pushed me.0 (item.Made e ∷ [])) me.0, me.1)
+      one_of true e = refl
+      one_of false e = ap (λ v. (v, me.1)) (pushed_none me.0)
+
+      by : (c : Scene) (law : Law c) → me.0.number < TASKS → c.items me.0.number ≡ me.0.items → (n : ℕ)
+          → n ≡ slice_index c.words (position_of l) → Dec (n ≡ old)
+          → Law (moved c me.0.number (position_of l) (either (eqb n old) new n) (hit old x n))
+      by c law few own n reads (yes e) =
+          let k : n ≡ old → KeepsLaw law.table me.0.number l new (x n) (book_of me.0.items) =
+          subst (λ (n : ℕ). n ≡ old → KeepsLaw law.table me.0.number l new (x n) (book_of me.0.items))
+          (sym (reads ∙ law.shown.each l there))
+          (apply (λ s n. n ≡ old → KeepsLaw s me.0.number l new (x n) (book_of me.0.items)) always c law few own) in
+          subst (λ (b : Bool). Law (moved c me.0.number (position_of l) (either b new n)
+          (cond b (item.Made (x n) ∷ []) []))) (sym (eq-eqb n old e))
+          (law_next c law me.0.number l new (x n) few there (inl is)
+          (subst (λ (xs : List Item). KeepsLaw law.table me.0.number l new (x n) (book_of xs)) (sym own) (k e)))
+      by c law few own n reads (no ne) =
+          subst (λ (b : Bool). Law (moved c me.0.number (position_of l) (either b new n)
+          (cond b (item.Made (x n) ∷ []) []))) (sym (ne_eqb n old ne))
+          (law_still c law me.0.number l n there reads)
+
+      all : Allows (Holds Law) slots id me p (λ n. either (eqb n old) new n)
+          (λ n m. (m ≡ (pushed me.0 (hit old x n), me.1)) × Unit {0})
+      all = subst (λ (k : ℕ). Allows (Holds Law) slots id me k (λ n. either (eqb n old) new n)
+          (λ n m. (m ≡ (pushed me.0 (hit old x n), me.1)) × Unit {0})) (sym at)
+          (allows Law slots id me.0 me.1 (position_of l) (λ n. either (eqb n old) new n) (hit old x)
+          (λ _. Unit {0}) lives
+          (λ c law few own small. (
+            by c law few own (slice_index c.words (position_of l)) refl
+                (ℕ_discrete (slice_index c.words (position_of l)) old),
+            tt,
+          )))

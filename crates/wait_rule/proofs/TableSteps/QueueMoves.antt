@@ -1,0 +1,139 @@
+-- What each step on a head, an entry, a bookmark or a condition asks of the table of words, by the law of its kind.
+use Rattle.std.proofs.Common.{refl, sym, ◌∙◌, ap, subst, arith, inl, inr, bit_or, append-nil}
+use Rattle.std.specs.Prelude.{
+  ℕ,
+  ◌≡◌,
+  ◌+◌,
+  ◌-◌,
+  ◌<◌,
+  ◌⊎◌,
+  Bool,
+  true,
+  false,
+  if◌then◌else◌,
+  Option,
+  Some,
+  None,
+  List,
+  [],
+}
+use mathlib.Core.Option.{none}
+use Rattle.atomic_table.specs.Seated.{TableId}
+use Rattle.atomic_table.specs.Table.{step as move, Allows}
+use Rattle.wait_model.specs.declared.layout.TheConstants.{HEADS, HEAD_AT}
+use Rattle.wait_model.specs.declared.watches.Aim.{Aim}
+use Rattle.wait_model.specs.declared.steps.Step.{Step}
+use Rattle.wait_model.specs.declared.steps.Step.TheVariants as step
+use Rattle.wait_model.specs.Words.{head_word}
+use Rattle.wait_model.specs.Views.{View as Told}
+use Rattle.wait_model.specs.Tables.{Table, raised_spent}
+use Rattle.wait_model.specs.Rows.{AimsAt, MaySpend}
+use Rattle.wait_model.specs.Locations as place
+use Rattle.wait_model.specs.Locations.{word_in}
+use Rattle.wait_model.proofs.WordLaws.DecodedWords.{spent_read, held_read}
+use Rattle.wait_rule.specs.declared.journal.Item.{Item}
+use Rattle.wait_rule.specs.declared.journal.Item.TheVariants as item
+use Rattle.wait_rule.specs.Items.{book_of, Fits}
+use Rattle.wait_rule.specs.Known.{known}
+use Rattle.wait_rule.specs.Members.{IsHeadWord}
+use Rattle.wait_rule.specs.Rule.{IsRuled, Law, Holds}
+use Rattle.wait_rule.specs.Says.{told_of}
+use Rattle.wait_rule.specs.Queues.{walk_of_hold, lock_item}
+use Rattle.wait_rule.specs.Plays.{Sat, seat_with}
+use Rattle.wait_rule.specs.QueuePlays.{locked_play, head_load_play, unlocked_play}
+use Rattle.wait_rule.specs.Notes.{notes_of}
+use Rattle.wait_rule.proofs.KnownLaws.HeadLinks.{same_links}
+use Rattle.wait_rule.proofs.KnownLaws.HeldHeads.{head_told}
+use Rattle.wait_rule.proofs.TableSteps.StateLaws.{pushed_none}
+use Rattle.wait_rule.proofs.TableSteps.KeptSteps.{IsOwn, KeepsLaw, steps, loads, tries_lock}
+use Rattle.wait_rule.proofs.StepKinds.HeadKinds.{lock_word, locks, unlocks}
+use Rattle.wait_rule.proofs.StepKinds.HoldWalks.{aims_hold}
+
+-- the head that a seat's list says is held is held in what is seen
+pub head_seen : (s : Table) (items : ℕ → List Item) (me : Sat) (o : Option ℕ) → IsOwn s items me
+    → (book_of me.0.items).head ≡ o → (s.view me.0.number).hold.head ≡ o
+head_seen s items me o own is = ap (λ (v : Told). v.hold.head) own.told ∙ (sym (head_told me.0.items) ∙ is)
+
+module _ (slots id : ℕ) (me : Sat) (lives : me.0.lives ≡ true) (h p : ℕ) (small : h < HEADS)
+    (at : p ≡ HEAD_AT + h) where
+  head_there : h ≡ p - HEAD_AT
+  head_there = omega arith
+
+  pub lock_moves : (walk named : Option Aim) → walk ≡ named → (book_of me.0.items).head ≡ None → AimsAt walk h
+      → Allows (Holds Law) slots id me p (λ n. bit_or n 1) (locked_play named (move slots p 1 0 none) me)
+  lock_moves walk named is free aims = subst
+      (λ (k : ℕ × Option Aim). Allows (Holds Law) slots id me p (λ n. bit_or n 1)
+      (λ n m. (m ≡ seat_with me (lock_item k.0 k.1 n)) × IsHeadWord n)) (λ i. (head_there i, is i))
+      (tries_lock slots id me lives (place.Head h) small p at refl (λ n. bit_or n 1) (lock_item h walk) IsHeadWord
+      (λ s items ruled own fits. (
+        by s items ruled own fits (s.holder h) refl,
+        record { held = s.holder h; spent = s.spent h; spells = refl; small = ruled.lawful.spent h },
+      )))
+    where
+      by : (s : Table) (items : ℕ → List Item) → IsRuled s items → IsOwn s items me
+          → Fits (s.task me.0.number) (book_of me.0.items) → (b : Bool) → s.holder h ≡ b
+          → ((e : Step) × (lock_item h walk (head_word (s.holder h) (s.spent h)) ≡ item.Made e)
+          × KeepsLaw s me.0.number (place.Head h) (bit_or (head_word (s.holder h) (s.spent h)) 1) e
+          (book_of me.0.items))
+          ⊎ ((i : ℕ) × (lock_item h walk (head_word (s.holder h) (s.spent h))
+          ≡ item.Busy i (head_word (s.holder h) (s.spent h)))
+          × (bit_or (head_word (s.holder h) (s.spent h)) 1 ≡ head_word (s.holder h) (s.spent h)))
+      by s items ruled own fits true q = inr (
+        h,
+        ap (λ (b : Bool). if b then item.Busy h (head_word (s.holder h) (s.spent h))
+            else item.Made (step.Lock h (walk_of_hold h walk) (head_word (s.holder h) (s.spent h))))
+            (held_read (s.holder h) (s.spent h) ∙ q),
+        lock_word (s.holder h) (s.spent h) ∙ ap (λ (b : Bool). head_word b (s.spent h)) (sym q),
+      )
+      by s items ruled own fits false q = inl (
+        step.Lock h (walk_of_hold h walk) (head_word (s.holder h) (s.spent h)),
+        ap (λ (b : Bool). if b then item.Busy h (head_word (s.holder h) (s.spent h))
+            else item.Made (step.Lock h (walk_of_hold h walk) (head_word (s.holder h) (s.spent h))))
+            (held_read (s.holder h) (s.spent h) ∙ q),
+        subst (λ (n : ℕ). KeepsLaw s me.0.number (place.Head h) n
+            (step.Lock h (walk_of_hold h walk) (head_word (s.holder h) (s.spent h))) (book_of me.0.items))
+            (sym (lock_word (s.holder h) (s.spent h)))
+            (locks s me.0.number h (walk_of_hold h walk) (head_word (s.holder h) (s.spent h))
+            (head_seen s items me None own free)
+            (spent_read (s.holder h) (s.spent h)) (book_of me.0.items) ruled.lawful fits q (aims_hold h walk aims)),
+      )
+
+  -- what the task's list says of the head that it holds
+  mine : (s : Table) (items : ℕ → List Item) → IsOwn s items me → (book_of me.0.items).head ≡ Some h
+      → (s.view me.0.number).hold.head ≡ Some h
+  mine s items own held = head_seen s items me (Some h) own held
+
+  pub head_peek_moves : (book_of me.0.items).head ≡ Some h
+      → Allows (Holds Law) slots id me p (λ n. n) (head_load_play (move slots p 0 0 none) me)
+  head_peek_moves held s r long at_id few =
+      let a = loads slots id me lives (place.Head h) small p at (λ _. [])
+      (λ n. (d : TableId) → n ≡ head_word true ((told_of (known d me.0 0)).checks.found (p - HEAD_AT))) (λ _. tt)
+      (λ _. refl)
+      (λ s items ruled own fits. (
+        subst (λ (xs : List Item). Fits (s.task me.0.number) (book_of xs)) (sym (append-nil me.0.items)) fits,
+        λ d. (λ i. head_word ((ruled.whole.kept.facts.views me.0.number).hold.held h (mine s items own held) i)
+            ((ruled.linked.spent me.0.number h (mine s items own held)
+            ∙ (λ j. (own.told j).checks.found (head_there j))) i)),
+      ))
+      (λ s items ruled own. same_links s items me.0.number [] (ap (notes_of me.0.number)
+      (append-nil (items me.0.number)))
+      ruled.linked) s r long at_id few in
+      (a.0, a.1, a.2, a.3, (a.4.0 ∙ ap (λ w. (w, me.1)) (pushed_none me.0), a.4.1))
+
+  pub unlock_moves : (spent named : Bool) (d : TableId) (word : ℕ) → spent ≡ named → (book_of me.0.items).head ≡ Some h
+      → MaySpend (told_of (known d me.0 0)) spent
+      → word ≡ head_word false (raised_spent spent ((told_of (known d me.0 0)).checks.found h))
+      → Allows (Holds Law) slots id me p (λ _. word) (λ _. unlocked_play named (move slots p word 0 none) me word)
+  unlock_moves spent named d word same held may is s r long at_id few =
+      let a = steps slots id me lives (place.Head h) small p at refl (λ _. word) (λ w. step.Unlock h spent)
+      (λ _. Unit {0})
+      (λ s items ruled own fits. (
+        subst (λ (n : ℕ). KeepsLaw s me.0.number (place.Head h) n (step.Unlock h spent) (book_of me.0.items))
+            (ap (λ (k : ℕ). head_word false (raised_spent spent k))
+            (ruled.linked.spent me.0.number h (mine s items own held) ∙ ap (λ (v : Told). v.checks.found h) own.told)
+            ∙ sym is)
+            (unlocks s me.0.number h spent (mine s items own held) ruled.whole.kept.facts.one_holder
+            (book_of me.0.items) ruled.lawful fits (subst (λ (v : Told). MaySpend v spent) (sym own.told) may)),
+        tt,
+      )) s r long at_id few in
+      (a.0, a.1, a.2, a.3, a.4.0 ∙ (λ i. seat_with me (item.Made (step.Unlock (head_there i) (same i)))))

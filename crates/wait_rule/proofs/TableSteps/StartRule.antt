@@ -1,0 +1,119 @@
+-- The rule holds of the words at the start, with task 0 alone.
+use Rattle.std.proofs.Common.{refl, sym, ◌∙◌, ap, subst, arith, inl, le-ltb, lt-ltb, lt_of_not-le}
+use Rattle.std.specs.Prelude.{
+  ◌-◌,
+  ℕ,
+  zero,
+  suc,
+  ◌≡◌,
+  ◌<◌,
+  ◌≤◌,
+  ◌&&◌,
+  Bool,
+  true,
+  false,
+  cond,
+  eqb,
+  ltb,
+  if◌then◌else◌,
+  List,
+  [],
+  ◌∷◌,
+  ◌++◌,
+  length,
+  slice_index,
+}
+use native.Mathlib.Decide.{dec_le}
+use Rattle.atomic_table.specs.Table.{opening}
+use Rattle.wait_model.specs.declared.layout.TheConstants.{TASKS, ENTRY_AT, RUNNABLE}
+use Rattle.wait_model.specs.Tables.{start}
+use Rattle.wait_model.proofs.StepLaws.StartLaws.{start_kept}
+use Rattle.wait_model.proofs.WordLaws.ShownSteps.{start_shown}
+use Rattle.wait_model.proofs.AccountLaws.SignalCounts.{signals_start_raised}
+use Rattle.wait_model.proofs.BitLaws.BitKeepers.{bits_start_kept}
+use Rattle.wait_model.proofs.AccountLaws.DoneCounts.{counts_start_balanced}
+use Rattle.wait_rule.specs.declared.journal.Item.{Item}
+use Rattle.wait_rule.specs.Items.{steps_of, book_of, Fits}
+use Rattle.wait_rule.specs.Notes.{notes_of}
+use Rattle.wait_rule.specs.Journals.{fresh, seen_as}
+use Rattle.wait_rule.specs.Rule.{IsRuled, Law, Holds}
+use Rattle.wait_rule.specs.Start.{start_of, IsStart}
+use Rattle.wait_rule.proofs.TableSteps.ForksAndJoins.{alone}
+use Rattle.wait_rule.proofs.WornHeads.WornNotes.{none_worn}
+
+start_ruled : (items : ℕ → List Item) → ((t : ℕ) → items t ≡ []) → IsRuled start items
+start_ruled items none = record {
+  whole = record {
+    kept = start_kept;
+    told = λ a. refl;
+    signals = λ t. signals_start_raised TASKS t;
+    bits = bits_start_kept;
+    counts = λ d. counts_start_balanced TASKS d;
+  };
+  histories = λ a. ap steps_of (sym (none a));
+  lawful = record {
+    tasks = λ t. record { state = inl refl; fatal = λ h. absurd (cc); runnable = λ _. refl };
+    entries = λ x e h. absurd (cc);
+    marks = λ t m h. absurd (cc);
+    spent = λ h. omega arith;
+    bits = λ i k far. refl;
+  };
+  fits = λ t small. subst (λ (xs : List Item). Fits (start.task t) (book_of xs)) (sym (none t))
+      (record { up = λ _. refl; stored = inl refl; rose = λ h. absurd (cc) });
+  linked = record {
+    holder = λ h held. absurd (cc);
+    spent = λ a h held. absurd (cc);
+    own = λ t. ap (λ (xs : List Item). (notes_of t xs).own) (sym (none t));
+    shown = λ a h t held. absurd (cc);
+  };
+  placed = record {
+    apart = λ x y e f is. absurd (cc);
+    entries = λ x e is. absurd (cc);
+    marks = λ t m is. absurd (cc);
+  };
+  own = λ x e is. absurd (cc);
+  worn = λ t h p w. absurd (none_worn t h p (items t) (none t) w);
+  untouched = λ l unset. refl;
+}
+
+past_end : (ws : List ℕ) (p : ℕ) → length ws ≤ p → slice_index ws p ≡ 0
+past_end [] p far = refl
+past_end (w ∷ ws) zero far = absurd (omega arith)
+past_end (w ∷ ws) (suc p) far = past_end ws p (omega arith)
+
+start_task : (p : ℕ) → 1 ≤ p → p < ENTRY_AT → start_of p ≡ RUNNABLE
+start_task p some_place small = ap (λ b. if b then RUNNABLE else 0)
+    (ap (λ b. b && ltb p ENTRY_AT) (lt-ltb 0 p some_place) ∙ lt-ltb p ENTRY_AT small)
+
+start_rest : (p : ℕ) → ENTRY_AT ≤ p → start_of p ≡ 0
+start_rest p far = ap (λ b. if b then RUNNABLE else 0)
+    (ap (λ b. ltb 0 p && b) (le-ltb p ENTRY_AT far) ∙ and_false (ltb 0 p))
+  where
+    and_false : (b : Bool) → (b && false) ≡ false
+    and_false true = refl
+    and_false false = refl
+
+nothing : (b : Bool) → ◌≡◌ {A = List Item} (cond b [] []) []
+nothing true = refl
+nothing false = refl
+
+pub begins : (ws : List ℕ) → IsStart ws → Holds Law (opening ws [] (fresh 0 1 (TASKS - 1)))
+begins ws is = record {
+  sole = alone;
+  law = record {
+    table = start;
+    shown = start_shown ws is.0
+        (λ k low high. is.1 k (omega arith) ∙ start_task k low high)
+        (is.1 0 (omega arith))
+        (λ k far. by_size k far (dec_le (length ws) k));
+    ruled = start_ruled (seen_as ws (fresh 0 1 (TASKS - 1) ∷ [])).items
+        (λ t. ap (λ (l : List Item). (l ++ []) ++ []) (nothing (eqb 0 t)));
+  };
+}
+  where
+    by_size : (p : ℕ) → ENTRY_AT ≤ p → Dec (length ws ≤ p) → slice_index ws p ≡ 0
+    by_size p far (yes out) = past_end ws p out
+    by_size p far (no inside) =
+        let size = is.0 in
+        let within : p < length ws = lt_of_not-le inside in
+        is.1 p (omega arith) ∙ start_rest p far

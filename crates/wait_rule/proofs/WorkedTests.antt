@@ -1,0 +1,4 @@
+-- Worked histories, and what the tests of single steps show.
+pub mod QueuedEntry
+pub mod SelectedEntry
+pub mod WorkedHolds

@@ -1,0 +1,3 @@
+-- Heads at which no place is left.
+pub mod WornNotes
+pub mod WornLate

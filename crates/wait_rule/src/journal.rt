@@ -1,0 +1,42 @@
+//! What a task knows. No value of it is made: it exists in proofs alone.
+
+use std::collections::LinkedList;
+use wait_model::steps::Step;
+
+/// One thing that a task did or saw on one word, as its list keeps it.
+#[derive(Clone, Copy)]
+pub enum Item {
+    /// A step, which stands in the task's history.
+    Made { step: Step },
+    /// The own word, which a task that sleeps loaded to see whether it was woken. It is no step.
+    Awake { found: u64 },
+    /// A head's word, which a try to take its lock found held. It is no step.
+    Busy { head: u16, found: u64 },
+    /// The bookmark word of a task, which was loaded. It is no step.
+    Bookmark { who: u8, found: u64 },
+}
+
+/// The list of a task that was joined, with its number and the numbers that it gave up. They stay taken.
+pub struct Part {
+    pub number: u64,
+    pub next: u64,
+    pub spare: u64,
+    pub items: LinkedList<Item>,
+}
+
+/// A task's number, the numbers that it may give out (`spare` from `next` on), its list, oldest item first, and
+/// those of the tasks that it joined. `lives` is false once it was joined itself.
+pub struct Journal {
+    pub lives: bool,
+    pub number: u64,
+    pub next: u64,
+    pub spare: u64,
+    pub items: LinkedList<Item>,
+    pub joined: LinkedList<Part>,
+}
+
+/// A number that a call was given, which a step tells to the proof.
+#[derive(Clone, Copy, Drop)]
+pub struct Ask {
+    pub number: u64,
+}

@@ -2,7 +2,7 @@
 //! many, and writes how many nanoseconds each kind took in all, as `NAME COUNT NANOSECONDS`.
 #![tactic(auto)]
 
-ghost use Rattle.std.specs.Prelude.{◌≡◌, ◌<◌};
+ghost use Rattle.std.specs.Prelude.{◌≡◌};
 ghost use Rattle.wait_rule.specs.Says.{IsClean, IsUp};
 
 use std::alloc::Global;
@@ -11,7 +11,7 @@ use std::sync::Wait;
 use std::thread::Threads;
 use std::time::{Clock, Duration, Instant};
 use std::{env, io, thread};
-use wait_model::tasks::UNINTERRUPTIBLE;
+use wait_model::layout::{FATAL, NORMAL, UNINTERRUPTIBLE};
 use wait_model::watches::Mode;
 use wait_rule::running::LOOKS;
 use wait_rule::tasks::{load_own, set_state, wake_exchange};
@@ -39,7 +39,7 @@ fn exchanges<R: Wait>(rt: &R, domain: &Domain, task: &mut Task, n: u64)
     ensures up { IsUp task.new }
 {
     for _ in 0..n {
-        wake_exchange(rt, domain, task, 0, 3);
+        wake_exchange(rt, domain, task, 0, NORMAL);
     }
 }
 
@@ -54,7 +54,6 @@ enum Retry {
 fn wake_up<R: Wait>(rt: &R, domain: &Domain, task: &mut Task, who: u8, retry: Retry)
     requires of { task.old.domain ≡ domain.now }
     requires clean { IsClean task.old }
-    requires who { who < 128 }
     ensures of { task.new.domain ≡ domain.now }
     ensures clean { IsClean task.new }
 {
@@ -93,7 +92,6 @@ fn side<R: Wait>(
 )
     requires of { task.domain ≡ domain.now }
     requires clean { IsClean task }
-    requires other { other < 128 }
 {
     for _ in 0..n {
         if first {
@@ -123,10 +121,10 @@ fn round_trips<R: Threads + Wait + Sync>(
     thread::join(
         rt,
         move ||
-            requires { (one.domain ≡ domain.now) × IsClean one × (b < 128) }
+            requires { (one.domain ≡ domain.now) × IsClean one }
         { side(rt, domain, one, b, true, n, retry) },
         move ||
-            requires { (two.domain ≡ domain.now) × IsClean two × (a < 128) }
+            requires { (two.domain ≡ domain.now) × IsClean two }
         { side(rt, domain, two, a, false, n, retry) },
     );
 }
@@ -169,7 +167,7 @@ fn main(rt: HostRuntime) -> io::Result<()> {
     let start = Instant::now(&rt)?;
     let sum = loads(&domain, &mut task, steps);
     let time = start.elapsed(&rt)?;
-    report(&rt, asked && sum < 0x8_0000, "load", steps, time)?;
+    report(&rt, asked && sum < 2 * FATAL, "load", steps, time)?;
 
     let start = Instant::now(&rt)?;
     exchanges(&rt, &domain, &mut task, steps);

@@ -3,7 +3,7 @@ use Rattle.std.proofs.Common.{◌∙◌, ap, sym, inl, inr}
 use Rattle.std.specs.Prelude.{◌≡◌, Some}
 use Rattle.wait_rule.specs.Ends.{WasWorn}
 use Rattle.wait_rule.specs.Known.{Known}
-use Rattle.wait_rule.proofs.WornNotes.{holds_note}
+use Rattle.wait_rule.proofs.WornHeads.WornNotes.{holds_note}
 use Rattle.wq_head.specs.declared.adds.Worn.{Worn}
 use Rattle.wq_head.specs.Holds.{IsHolding}
 use Rattle.wq_head.specs.Looks.{Looks}

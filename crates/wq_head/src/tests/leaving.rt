@@ -1,10 +1,12 @@
-//! A task that queues its entry, sleeps, is woken and leaves: it is clean then, by what the calls promise, and is joined.
+//! A task that queues its entry, sleeps, is woken and leaves: it is clean then, by what the calls promise, and is
+//! joined.
 
 ghost use Rattle.std.specs.Prelude.{◌≡◌};
+ghost use Rattle.wait_model.specs.declared.layout.TheConstants.{FIRST_PLAIN_HEAD};
 ghost use Rattle.wait_model.specs.declared.watches.Kind.TheVariants as kind;
 ghost use Rattle.wait_rule.specs.Says.{IsClean, IsUp};
 ghost use Rattle.wq_head.specs.Holds.{IsHolding};
-ghost use Rattle.wq_head.specs.Leaving.{HasEntry, HasLeft, IsBack, IsQueued};
+ghost use Rattle.wq_head.specs.Leaving.{HasEntry, HasLeft, IsBack, StandsQueued};
 ghost use Rattle.wq_head.specs.Readied.{IsPlainKind};
 
 use crate::adds::{add_tail, remove};
@@ -13,14 +15,15 @@ use crate::walks::wake;
 use std::process::Abort;
 use std::sync::Wait;
 use std::test::Fail;
-use wait_model::tasks::{Sleep, UNINTERRUPTIBLE};
+use wait_model::layout::{FIRST_PLAIN_HEAD, UNINTERRUPTIBLE};
+use wait_model::tasks::Sleep;
 use wait_model::watches::{Kind, Mode, Watch};
 use wait_model::words::entry_of;
 use wait_rule::queues::{entry_load, publish};
 use wait_rule::tasks::set_state;
 use wait_rule::{Domain, Task, schedule};
 
-/// Queues the own entry at head 256.
+/// Queues the own entry at the head of condition 0.
 fn queue_own<R: Abort + Wait>(rt: &R, domain: &Domain, task: &mut Task, kind: Kind)
     requires of { task.old.domain ≡ domain.now }
     requires clean { IsClean task.old }
@@ -28,7 +31,7 @@ fn queue_own<R: Abort + Wait>(rt: &R, domain: &Domain, task: &mut Task, kind: Ki
     ensures of { task.new.domain ≡ domain.now }
     ensures queued { IsBack task.new kind }
 {
-    lock(rt, domain, task, 256);
+    lock(rt, domain, task, FIRST_PLAIN_HEAD);
     let watch = Watch::Plain { cond: 0 };
     let Ok(()) = add_tail(domain, task, 0, kind, false, watch) else {
         panic!(rt; "the queue is empty")
@@ -41,7 +44,7 @@ fn prepare(domain: &Domain, task: &mut Task, kind: Kind)
     requires of { task.old.domain ≡ domain.now }
     requires back { IsBack task.old kind }
     ensures of { task.new.domain ≡ domain.now }
-    ensures queued { IsQueued task.new kind }
+    ensures queued { StandsQueued task.new kind }
 {
     set_state(domain, task, UNINTERRUPTIBLE);
 }
@@ -49,7 +52,7 @@ fn prepare(domain: &Domain, task: &mut Task, kind: Kind)
 /// Sleeps until woken.
 fn sleep<R: Wait>(rt: &R, domain: &Domain, task: &mut Task, kind: Kind) -> Sleep
     requires of { task.old.domain ≡ domain.now }
-    requires queued { IsQueued task.old kind }
+    requires queued { StandsQueued task.old kind }
     ensures of { task.new.domain ≡ domain.now }
     ensures back { IsBack task.new kind }
 {
@@ -61,7 +64,7 @@ fn take_off(domain: &Domain, task: &mut Task, kind: Kind)
     requires of { task.old.domain ≡ domain.now }
     requires up { IsUp task.old }
     requires held { IsHolding task.old }
-    requires at { task.old.at ≡ 256 }
+    requires at { task.old.at ≡ FIRST_PLAIN_HEAD }
     requires entry { HasEntry task.old kind }
     ensures { HasLeft task.old task.new }
 {
@@ -78,7 +81,7 @@ fn take_default(domain: &Domain, task: &mut Task)
     requires of { task.old.domain ≡ domain.now }
     requires up { IsUp task.old }
     requires held { IsHolding task.old }
-    requires at { task.old.at ≡ 256 }
+    requires at { task.old.at ≡ FIRST_PLAIN_HEAD }
     requires entry { HasEntry task.old kind.Default }
     ensures { HasLeft task.old task.new }
 {
@@ -94,7 +97,7 @@ fn leave<R: Wait>(rt: &R, domain: &Domain, task: &mut Task, kind: Kind)
     ensures of { task.new.domain ≡ domain.now }
     ensures clean { IsClean task.new }
 {
-    lock(rt, domain, task, 256);
+    lock(rt, domain, task, FIRST_PLAIN_HEAD);
     take_off(domain, task, kind);
     unlock(rt, domain, task, false);
 }
@@ -106,7 +109,7 @@ fn leave_default<R: Wait>(rt: &R, domain: &Domain, task: &mut Task)
     ensures of { task.new.domain ≡ domain.now }
     ensures clean { IsClean task.new }
 {
-    lock(rt, domain, task, 256);
+    lock(rt, domain, task, FIRST_PLAIN_HEAD);
     take_default(domain, task);
     unlock(rt, domain, task, false);
 }

@@ -1,7 +1,8 @@
 use Rattle.std.proofs.Common.{◌∙◌, ap, refl}
+use Rattle.wait_model.specs.declared.layout.TheConstants.{UNINTERRUPTIBLE}
 use Rattle.wait_model.specs.declared.steps.Step.TheVariants as step
 use Rattle.wait_rule.specs.Known.{Known}
-use Rattle.wq_head.proofs.Leaving.{entry_after}
+use Rattle.wq_head.proofs.LeavingTask.{entry_after}
 use Rattle.wq_head.proofs.tests.leaving.prepare.Goals as goal
 
 pub returns-clause-queued : goal.returns-clause-queued
@@ -10,5 +11,6 @@ returns-clause-queued c =
     let b = c.requires.back.queued in record {
       up = ap (λ (k : Known). k.book.awake) s ∙ b.up;
       free = ap (λ (k : Known). k.book.head) s ∙ b.free;
-      entry = entry_after c.args.task.now c.set_state.new.task c.args.kind (step.State 2) refl refl s b.entry;
+      entry = entry_after c.args.task.now c.set_state.new.task c.args.kind
+          (step.State UNINTERRUPTIBLE) refl refl s b.entry;
     }

@@ -1,9 +1,6 @@
-use Rattle.std.proofs.Common.{ap, ◌∙◌}
 use Rattle.wait_model.specs.declared.watches.Watch.TheVariants as watch
-use Rattle.wait_rule.specs.Known.{Known}
 use Rattle.wait_rule.specs.Says.{no_excuse}
-use Rattle.wq_head.specs.Walks.{spares}
-use Rattle.wq_head.proofs.Leaving.{clean_idle, published_idle, published_owes, published_tries, all_of}
+use Rattle.wq_head.proofs.LeavingTask.{clean_idle, published_idle, published_owes, published_tries}
 use Rattle.wq_head.proofs.tests.leaving.set_and_wake.Goals as goal
 
 pub publish-requires-clause-idle : goal.publish-requires-clause-idle
@@ -11,11 +8,12 @@ publish-requires-clause-idle g c = clean_idle c.args.task.now c.requires.clean
 
 pub wake-requires-clause-idle : goal.wake-requires-clause-idle
 wake-requires-clause-idle g c =
-    let p = c.publish.ensures in published_idle c.args.task.now c.publish.new.task (watch.Plain 0) 1 p.0 p.1 c.requires.clean
+    let p = c.publish.ensures.step in published_idle c.args.task.now c.publish.new.task
+    (watch.Plain 0) 1 p.0 p.1 c.requires.clean
 
 pub returns-clause-clean : goal.returns-clause-clean
 returns-clause-clean g c =
-    let p = c.publish.ensures in
+    let p = c.publish.ensures.step in
     let w = c.wake.ensures in record {
       up = w.up;
       running = w.idle.running;

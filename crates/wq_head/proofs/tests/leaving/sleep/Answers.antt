@@ -1,6 +1,6 @@
 use Rattle.std.proofs.Common.{◌∙◌, ap}
 use Rattle.wait_rule.specs.Known.{Known}
-use Rattle.wq_head.proofs.Leaving.{entry_slept}
+use Rattle.wq_head.proofs.LeavingTask.{entry_slept}
 use Rattle.wq_head.proofs.tests.leaving.sleep.Goals as goal
 
 pub returns-clause-back : goal.returns-clause-back

@@ -1,6 +1,6 @@
 use Rattle.std.proofs.Common.{◌∙◌, sym}
-use Rattle.wq_head.proofs.Readying.{look_holds}
-use Rattle.wq_head.proofs.Leaving.{off_left, on_may, removed_left}
+use Rattle.wq_head.proofs.ReadyTasks.{look_holds}
+use Rattle.wq_head.proofs.LeavingTask.{off_left, on_may, removed_left}
 use Rattle.wq_head.proofs.tests.leaving.take_off.Goals as goal
 
 pub remove-requires-clause-held : goal.remove-requires-clause-held
@@ -28,4 +28,4 @@ returns-in-Some c =
     let s = c.entry_load-word.ensures in
     let q = c.requires in
     removed_left c.args.task.now c.entry_load-word.new.task c.number-who.result c.entry_load-word.result.0 c.args.kind
-    c.number-who.ensures.number q.held q.at q.entry s.step s.knew c.remove.new.task c.remove.ensures
+    c.number-who.ensures.number q.held q.at q.entry s.step s.knew c.remove.new.task c.remove.ensures.removed

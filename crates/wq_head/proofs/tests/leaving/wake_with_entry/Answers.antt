@@ -1,8 +1,5 @@
-use Rattle.std.proofs.Common.{◌∙◌}
-use Rattle.wait_model.specs.declared.watches.Watch.TheVariants as watch
-use Rattle.wait_model.specs.declared.watches.Mode.TheVariants as mode
 use Rattle.wait_model.specs.declared.watches.Kind.TheVariants as kind
-use Rattle.wq_head.proofs.Leaving.{back_idle, entry_woken}
+use Rattle.wq_head.proofs.LeavingTask.{back_idle, entry_woken}
 use Rattle.wq_head.proofs.tests.leaving.wake_with_entry.Goals as goal
 
 pub wake-requires-clause-idle : goal.wake-requires-clause-idle

@@ -6,13 +6,13 @@ use Rattle.wait_model.specs.declared.steps.Step.{Step}
 use Rattle.wait_model.specs.declared.steps.Step.TheVariants as step
 use Rattle.wait_model.specs.Views.{View as Told, Walk, all_passed, blank}
 use Rattle.wait_model.specs.Fold.{after, after_all, after_unlock, met_task}
-use Rattle.wait_rule.specs.declared.view.Item.{Item}
-use Rattle.wait_rule.specs.declared.view.Item.TheVariants as item
+use Rattle.wait_rule.specs.declared.journal.Item.{Item}
+use Rattle.wait_rule.specs.declared.journal.Item.TheVariants as item
 use Rattle.wait_rule.specs.Items.{steps_of}
 use Rattle.wait_rule.specs.Known.{Known}
 use Rattle.wait_rule.specs.Notes.{Notes, note, note_step, notes_from, no_notes}
 use Rattle.wait_rule.specs.Says.{told_of, noted}
-use Rattle.wait_rule.proofs.Links.{wake_own}
+use Rattle.wait_rule.proofs.KnownLaws.HeadLinks.{wake_own}
 
 -- the place of a bookmark
 abbrev pub place_marked : Option Mark → Option ℕ
@@ -33,7 +33,8 @@ unlock_mark v (Some w) spent = either (spent || all_passed v w (λ _. false)) _ 
 step_marked : (me : ℕ) (e : Step) (v : Told) (n : Notes) → IsMarked v n → IsMarked (after e v) (note_step me e v n)
 step_marked me (step.State σ) v n is = is
 step_marked me (step.Sleep w) v n is = is
-step_marked me (step.Wake who mask w) v n is = is ∙ ap place_marked (sym (wake_own n.walk who mask (met_task mask w) v n))
+step_marked me (step.Wake who mask w) v n is = is
+    ∙ ap place_marked (sym (wake_own n.walk who mask (met_task mask w) v n))
 step_marked me (step.Signal who fatal w) v n is = is
 step_marked me (step.Accept w) v n is = is
 step_marked me (step.Look w) v n is = is
@@ -62,3 +63,11 @@ list_marked me (item.Bookmark t w ∷ xs) v n is = list_marked me xs v (note me 
 
 pub own_marked : (k : Known) → (told_of k).mark ≡ place_marked (noted k).own
 own_marked k = list_marked k.view.number k.view.items blank no_notes refl
+
+-- no bookmark is out where the history says so
+pub own_clear : (k : Known) → (told_of k).mark ≡ None → (noted k).own ≡ None
+own_clear k none = by (noted k).own (sym (own_marked k) ∙ none)
+  where
+    by : (o : Option Mark) → place_marked o ≡ None → o ≡ None
+    by None is = refl
+    by (Some m) is = absurd (cc)

@@ -1,6 +1,7 @@
 -- A task of tests that waits with its entry of slot 0, and leaves.
 use Rattle.std.proofs.Common.{◌∙◌, ap, sym, refl, subst, inl, arith}
 use Rattle.std.specs.Prelude.{ℕ, ◌≡◌, ◌&&◌, ◌||◌, not, Bool, true, false, Option, Some, None}
+use Rattle.wait_model.specs.declared.layout.TheConstants.{FIRST_PLAIN_HEAD, RUNNING}
 use Rattle.wait_model.specs.declared.watches.Entry.{Entry}
 use Rattle.wait_model.specs.declared.watches.Watch.TheVariants as watch
 use Rattle.wait_model.specs.declared.watches.Kind.{Kind}
@@ -15,29 +16,40 @@ use Rattle.wait_model.specs.declared.tasks.Sleep.{Sleep}
 use Rattle.wait_model.specs.Tasks.{meets}
 use Rattle.wait_model.specs.Watches.{head_of, mask_of, same}
 use Rattle.wait_model.specs.Words.{entry_of}
-use Rattle.wait_model.specs.Views.{View as Told, Bits, blank, tries}
+use Rattle.wait_model.specs.Views.{View as Told, Bits, blank, is_trying_for}
 use Rattle.wait_model.specs.Fold.{after, view_of}
-use Rattle.wait_model.proofs.Looks.{after_snoc}
-use Rattle.wait_model.proofs.Unlocked.{unlock_bits}
-use Rattle.wait_rule.specs.declared.view.Item.TheVariants as item
+use Rattle.wait_model.proofs.HistoryLaws.HoldLooks.{after_snoc}
+use Rattle.wait_model.proofs.StepLaws.UnlockSteps.{unlock_bits}
+use Rattle.wait_rule.specs.declared.journal.Item.TheVariants as item
 use Rattle.wait_rule.specs.Known.{Known}
-use Rattle.wait_rule.specs.Notes.{Notes}
-use Rattle.wait_rule.specs.Says.{IsClean, IsFree, Excuse, OwesBut, OwesNothing, HasSlept, no_excuse, added, history_of, told_of, noted}
+use Rattle.wait_rule.specs.Says.{
+  IsClean,
+  IsFree,
+  Excuse,
+  OwesBut,
+  OwesNothing,
+  HasSlept,
+  no_excuse,
+  added,
+  history_of,
+  told_of,
+  noted,
+}
 use Rattle.wait_rule.specs.Queues.{IsIdle, IsTailPlace, KnewEntry, MayUnqueue, index, saw}
-use Rattle.wait_rule.specs.Stays.{TriesNone, Stays, StaysOwing, also, nothing}
-use Rattle.wait_rule.proofs.After.{told_added}
-use Rattle.wait_rule.proofs.Histories.{history_slept}
-use Rattle.wait_rule.proofs.Settled.{stays_settled, owes_after}
-use Rattle.wait_rule.proofs.Staying.{look_out, none_tried, owes_out}
+use Rattle.wait_rule.specs.Stays.{TriesNone, Stays, StaysOwing, also, no_entries}
+use Rattle.wait_rule.proofs.KnownLaws.AfterSteps.{told_added}
+use Rattle.wait_rule.proofs.KnownLaws.TaskHistories.{history_slept}
+use Rattle.wait_rule.proofs.KnownLaws.SettledTasks.{stays_settled, owes_after}
+use Rattle.wait_rule.proofs.KnownLaws.StayingParts.{look_out, none_tried, owes_out}
 use Rattle.wq_head.specs.Holds.{HasLocked, HasUnlocked, IsHolding}
 use Rattle.wq_head.specs.Looks.{Looks}
-use Rattle.wq_head.specs.Adds.{HasAdded, HasRemoved, entry_for}
+use Rattle.wq_head.specs.Adds.{HasAdded, HasRemoved, front_entry}
 use Rattle.wq_head.specs.Walks.{HasEnded, spares}
-use Rattle.wq_head.specs.Leaving.{HasEntry, HasLeft, IsBack, IsQueued}
-use Rattle.wq_head.proofs.Marked.{own_marked, place_marked}
-use Rattle.wq_head.proofs.Readying.{first_head, may_take_off}
-use Rattle.wq_head.proofs.Seeing.{saw_bits, saw_looks}
-use Rattle.wq_head.proofs.Waits.{locked_told}
+use Rattle.wq_head.specs.Leaving.{HasEntry, HasLeft, IsBack}
+use Rattle.wq_head.proofs.OwnBookmark.{own_marked, place_marked}
+use Rattle.wq_head.proofs.ReadyTasks.{first_head, may_take_off}
+use Rattle.wq_head.proofs.OneMoreLook.{saw_bits, saw_looks}
+use Rattle.wq_head.proofs.LockWaits.{locked_told}
 
 -- the entry stays where the number and the entries stay, and what is owed
 pub entry_on : (old new : Known) (kd : Kind) → new.view.number ≡ old.view.number
@@ -47,7 +59,7 @@ entry_on old new kd number stored owing h = record {
   queued = (λ i. stored i (index (number i) 0)) ∙ h.queued;
   settled = subst (λ (n : ℕ). OwesBut (also (index n 0) no_excuse) (told_of new)) (sym number)
       (owing (also (index old.view.number 0) no_excuse) h.settled);
-  tries = λ x c. ap (λ (f : ℕ → Option Entry). tries (f x) c) stored ∙ h.tries x c;
+  tries = λ x c. ap (λ (f : ℕ → Option Entry). is_trying_for (f x) c) stored ∙ h.tries x c;
 }
 
 -- over a step on a task word, a sleep, and a lock
@@ -55,20 +67,21 @@ pub entry_after : (old new : Known) (kd : Kind) (e : Step) → stays_settled e �
     → (after e (told_of old)).bits.stored ≡ (told_of old).bits.stored → new ≡ added old (item.Made e) → HasEntry old kd
     → HasEntry new kd
 entry_after old new kd e settles same is = entry_on old new kd (ap (λ (k : Known). k.view.number) is)
-    (ap (λ (k : Known). (told_of k).bits.stored) is ∙ (ap (λ (v : Told). v.bits.stored) (told_added old (item.Made e)) ∙ same))
-    (owes_after old new e settles is)
+    (ap (λ (k : Known). (told_of k).bits.stored) is ∙ (ap (λ (v : Told). v.bits.stored) (told_added old (item.Made e))
+    ∙ same)) (owes_after old new e settles is)
 
 slept_told : (old new : Known) (answer : Sleep) → HasSlept old new answer → told_of new ≡ told_of old
 slept_told old new answer h = ap view_of (history_slept old new answer h)
     ∙ after_snoc blank (history_of old) (step.Sleep h.found)
 
-pub entry_slept : (old new : Known) (kd : Kind) (answer : Sleep) → HasSlept old new answer → HasEntry old kd → HasEntry new kd
+pub entry_slept : (old new : Known) (kd : Kind) (answer : Sleep) → HasSlept old new answer → HasEntry old kd
+    → HasEntry new kd
 entry_slept old new kd answer h = entry_on old new kd (ap (λ (k : Known). k.view.number) h.is)
     (ap (λ (v : Told). v.bits.stored) (slept_told old new answer h))
     (λ x. subst (OwesBut x) (sym (slept_told old new answer h)))
 
 pub entry_locked : (old new : Known) (kd : Kind) (head : ℕ) (walk : Option Aim) → HasLocked old new head walk
-    → Stays nothing old new → StaysOwing old new → HasEntry old kd → HasEntry new kd
+    → Stays no_entries old new → StaysOwing old new → HasEntry old kd → HasEntry new kd
 entry_locked old new kd head walk l stays owing = entry_on old new kd stays.number
     (ap (λ (v : Told). v.bits.stored) (locked_told old new head walk l)) owing
 
@@ -79,7 +92,8 @@ unlocked_stored old new spent u = ap (λ (k : Known). (told_of k).bits.stored) u
     ∙ ap (λ (b : Bits). b.stored) (unlock_bits (told_of old) (told_of old).walk spent))
 
 -- an add in a hold of its own
-pub entry_added : (old held queued new : Known) (kd : Kind) → IsClean old → Stays nothing old held → StaysOwing old held
+pub entry_added : (old held queued new : Known) (kd : Kind) → IsClean old → Stays no_entries old held
+    → StaysOwing old held
     → HasAdded IsTailPlace held queued 0 (watch.Plain 0) kd → HasUnlocked queued new false → IsBack new kd
 entry_added old held queued new kd clean stays owing a u = record {
   running = u.stays.state ∙ (a.stays.state ∙ (stays.state ∙ clean.running));
@@ -100,8 +114,10 @@ entry_added old held queued new kd clean stays owing a u = record {
     none = none_tried (told_of held) (owing no_excuse clean.settled)
 
 -- a look at the own entry in a hold, and its removal
-module _ (old mid : Known) (n w : ℕ) (kd : Kind) (mine : n ≡ old.view.number) (held : IsHolding old) (at : old.at ≡ 256)
-    (h : HasEntry old kd) (is : mid ≡ added old (item.Made (saw old.book.head (index n 0) w))) (knew : KnewEntry old (index n 0) w) where
+module _ (old mid : Known) (n w : ℕ) (kd : Kind) (mine : n ≡ old.view.number) (held : IsHolding old)
+    (at : old.at ≡ FIRST_PLAIN_HEAD)
+    (h : HasEntry old kd) (is : mid ≡ added old (item.Made (saw old.book.head (index n 0) w)))
+    (knew : KnewEntry old (index n 0) w) where
   looks : Looks old mid
   looks = saw_looks old mid (index n 0) w held is knew
 
@@ -126,10 +142,11 @@ module _ (old mid : Known) (n w : ℕ) (kd : Kind) (mine : n ≡ old.view.number
   pub on_may : (e : Entry) → entry_of w ≡ Some e → MayUnqueue mid n 0
   on_may e reads =
       let stored = knew.own 0 (omega arith) here e reads in
-      let same : Some e ≡ Some (entry_for (watch.Plain 0) kd h.place) =
+      let same : Some e ≡ Some (front_entry (watch.Plain 0) kd h.place) =
       sym stored ∙ (ap (told_of old).bits.stored here ∙ h.queued) in
-      let is_it : e ≡ entry_for (watch.Plain 0) kd h.place = cc in
-      may_take_off old mid n w held is knew e mine reads (ap (λ (f : Entry). head_of f.watch) is_it ∙ (first_head ∙ sym at))
+      let is_it : e ≡ front_entry (watch.Plain 0) kd h.place = cc in
+      may_take_off old mid n w held is knew e mine reads (ap (λ (f : Entry). head_of f.watch) is_it
+      ∙ (first_head ∙ sym at))
 
   pub removed_left : (new : Known) → HasRemoved mid new n 0 → HasLeft old new
   removed_left new r = record {
@@ -142,14 +159,15 @@ module _ (old mid : Known) (n w : ℕ) (kd : Kind) (mine : n ≡ old.view.number
   }
 
 -- an entry of kind Default stands
-pub default_reads : (old : Known) (n w : ℕ) → n ≡ old.view.number → (h : HasEntry old kind.Default) → KnewEntry old (index n 0) w
-    → entry_of w ≡ Some (entry_for (watch.Plain 0) kind.Default h.place)
+pub default_reads : (old : Known) (n w : ℕ) → n ≡ old.view.number → (h : HasEntry old kind.Default)
+    → KnewEntry old (index n 0) w
+    → entry_of w ≡ Some (front_entry (watch.Plain 0) kind.Default h.place)
 default_reads old n w mine h knew = knew.stands 0 (omega arith) (ap (λ (m : ℕ). index m 0) mine)
-    (entry_for (watch.Plain 0) kind.Default h.place)
+    (front_entry (watch.Plain 0) kind.Default h.place)
     (ap (λ (m : ℕ). (told_of old).bits.stored (index m 0)) mine ∙ h.queued) (inl refl)
 
 -- a task that has left and given the lock back is clean
-pub left_clean : (old held off new : Known) (kd : Kind) → IsBack old kd → Stays nothing old held → HasLeft held off
+pub left_clean : (old held off new : Known) (kd : Kind) → IsBack old kd → Stays no_entries old held → HasLeft held off
     → HasUnlocked off new false → IsClean new
 left_clean old held off new kd back stays left u = record {
   up = u.stays.awake ∙ (ap (λ (b : _). b.awake) left.hold.book ∙ (stays.awake ∙ back.queued.up));
@@ -158,16 +176,12 @@ left_clean old held off new kd back stays left u = record {
   settled = u.settled no_excuse left.settled;
 }
 
-none_marked : (o : Option Mark) → place_marked o ≡ None → o ≡ None
-none_marked None is = refl
-none_marked (Some m) is = absurd (cc)
-
 -- a task that is RUNNING, holds no lock and has no bookmark out, by what it owes
-pub idle_by : (k : Known) (x : Excuse) → k.book.state ≡ 0 → IsFree k → OwesBut x (told_of k) → IsIdle k
+pub idle_by : (k : Known) (x : Excuse) → k.book.state ≡ RUNNING → IsFree k → OwesBut x (told_of k) → IsIdle k
 idle_by k x running free o = record {
   running = running;
   free = free;
-  unmarked = none_marked (noted k).own (sym (own_marked k) ∙ o.unmarked);
+  unmarked = o.unmarked;
 }
 
 -- a publish of a task that owed nothing, which a wake of all then excuses
@@ -195,7 +209,8 @@ published_owes old new c n r is o = subst (OwesBut (spares (all_of c) no_excuse)
 pub clean_idle : (k : Known) → IsClean k → IsIdle k
 clean_idle k c = idle_by k no_excuse c.running c.free c.settled
 
-pub published_idle : (old new : Known) (c : Watch) (n r : ℕ) → new ≡ added old (item.Made (step.Publish c n r)) → IsClean old
+pub published_idle : (old new : Known) (c : Watch) (n r : ℕ) → new ≡ added old (item.Made (step.Publish c n r))
+    → IsClean old
     → IsIdle new
 published_idle old new c n r is clean = idle_by new (spares (all_of c) no_excuse)
     (ap (λ (k : Known). k.book.state) is ∙ clean.running) (ap (λ (k : Known). k.book.head) is ∙ clean.free)
@@ -231,7 +246,7 @@ entry_woken old new a b e =
     let h = b.queued.entry in record {
       place = h.place;
       queued = ap (λ (n : ℕ). (told_of new).bits.stored (index n 0)) e.stays.number
-          ∙ e.stays.stands 0 (omega arith) refl (entry_for (watch.Plain 0) kind.Default h.place) h.queued (inl refl);
+          ∙ e.stays.stands 0 (omega arith) refl (front_entry (watch.Plain 0) kind.Default h.place) h.queued (inl refl);
       settled = subst (λ (n : ℕ). OwesBut (also (index n 0) no_excuse) (told_of new)) (sym e.stays.number)
           (e.settled (also (index old.view.number 0) no_excuse) h.tries
           (owes_spared a (also (index old.view.number 0) no_excuse) (told_of old) h.settled));

@@ -1,0 +1,476 @@
+-- The places of adds by a whole book, and the entries that stand there.
+use Rattle.std.proofs.Common.{◌∙◌, ap, sym, refl, subst, inl, inr, eq-eqb, arith}
+use Rattle.std.proofs.lemmas.Bool.Decides.{nat_tests}
+use Rattle.std.specs.Prelude.{ℕ, ◌≡◌, ◌%◌, ◌<◌, ◌≤◌, ◌⊎◌, ◌&&◌, ◌||◌, ◌==◌}
+use Rattle.std.specs.Prelude.{Bool, true, false, nat_lt, if◌then◌else◌, Option, Some, None}
+use Rattle.wait_model.specs.declared.layout.TheConstants.{SLOTS, MEMBERS, PLAIN_CONDITIONS, PLACES, MIDDLE, FIRST_PLACE}
+use Rattle.wait_model.specs.declared.watches.Watch.{Watch}
+use Rattle.wait_model.specs.declared.watches.Kind.{Kind}
+use Rattle.wait_model.specs.declared.watches.Kind.TheVariants as kind
+use Rattle.wait_model.specs.declared.watches.Entry.{Entry}
+use Rattle.wait_model.specs.declared.steps.Step.TheVariants as step
+use Rattle.wait_model.specs.Words.{entry_of}
+use Rattle.wait_model.specs.Watches.{is_simple, is_bit, head_of}
+use Rattle.wait_model.specs.Watches.{same as same_watch}
+use Rattle.wait_model.specs.Queues.{even_below, even_above}
+use Rattle.wait_model.specs.Places.{front_for, tail_for}
+use Rattle.wait_model.specs.Views.{View as Told, off, look_at, is_trying_for}
+use Rattle.wait_model.specs.Fold.{after}
+use Rattle.wait_model.proofs.Functions.{put_at, put_same}
+use Rattle.wait_rule.specs.declared.journal.Item.TheVariants as item
+use Rattle.wait_rule.specs.Known.{Known}
+use Rattle.wait_rule.specs.Members.{IsStanding}
+use Rattle.wait_rule.specs.Queues.{
+  place_by,
+  StandsIn,
+  IsLowest,
+  IsHighest,
+  IsFrontPlace,
+  IsTailPlace,
+  KnewEntry,
+  MayQueue,
+  IsPlaceFor,
+  IsWholeBook,
+  saw,
+  index,
+}
+use Rattle.wait_rule.specs.Says.{Excuse, IsOutBut, OwesBut, added, told_of}
+use Rattle.wait_rule.specs.Stays.{
+  Stays,
+  only,
+  also,
+  TriesNone,
+  least,
+  Owes,
+  with_entry,
+  Carries,
+  only_looks,
+  queue_change,
+  take_off_change,
+}
+use Rattle.wait_rule.proofs.KnownLaws.CarriedTasks.{clean_owes, owes_clean}
+use Rattle.wq_head.proofs.CarriedHolds.{looks_carried}
+use Rattle.wait_rule.proofs.KnownLaws.AfterSteps.{told_added}
+use Rattle.wait_rule.proofs.KnownLaws.StayingParts.{stays_on, stays_but, owes_also, owes_out}
+use Rattle.wq_head.specs.declared.looks.ShownMember.{ShownMember}
+use Rattle.wq_head.specs.Holds.{IsHolding}
+use Rattle.wq_head.specs.Looks.{Looks, AreSeen, IsBetween, IsFirst, IsLast, place_of}
+use Rattle.wq_head.specs.Adds.{IsFor, HasAdded, HasQueued, HasRemoved, front_entry}
+use Rattle.wq_head.proofs.OneMoreLook.{saw_told, saw_looks, whole_of, looks_on, holding_on}
+
+-- a member's place, in both words
+stand_of : (k : Known) (count low high p : ℕ) → (h : StandsIn k count low high p)
+    → IsBetween (place_by k) count low high (record { place = p; member = h.member })
+stand_of k count low high p h = record { counts = h.counts; stands = h.stands; above = h.above; below = h.below }
+
+stands_in : (k : Known) (count low high : ℕ) (s : ShownMember) → IsBetween (place_by k) count low high s
+    → StandsIn k count low high s.place
+stands_in k count low high s b = record {
+  member = s.member;
+  counts = b.counts;
+  stands = b.stands;
+  above = b.above;
+  below = b.below;
+}
+
+lowest_of : (k : Known) (low high : ℕ) (f : Option ShownMember) → IsFirst (place_by k) MEMBERS low high f
+    → IsLowest k MEMBERS low high (place_of f)
+lowest_of k low high None is = λ p h. is (record { place = p; member = h.member }) (stand_of k MEMBERS low high p h)
+lowest_of k low high (Some s) is = (
+  stands_in k MEMBERS low high s is.0,
+  λ p h. is.1 (record { place = p; member = h.member }) (stand_of k MEMBERS low high p h),
+)
+
+highest_of : (k : Known) (low high : ℕ) (f : Option ShownMember) → IsLast (place_by k) MEMBERS low high f
+    → IsHighest k MEMBERS low high (place_of f)
+highest_of k low high None is = λ p h. is (record { place = p; member = h.member }) (stand_of k MEMBERS low high p h)
+highest_of k low high (Some s) is = (
+  stands_in k MEMBERS low high s is.0,
+  λ p h. is.1 (record { place = p; member = h.member }) (stand_of k MEMBERS low high p h),
+)
+
+-- looks change no place that was seen
+module _ (old new : Known) (same : (m : ℕ) → m < MEMBERS → place_by new m ≡ place_by old m) where
+  there : (low high p : ℕ) → StandsIn old MEMBERS low high p → StandsIn new MEMBERS low high p
+  there low high p h = record {
+    member = h.member;
+    counts = h.counts;
+    stands = same h.member h.counts ∙ h.stands;
+    above = h.above;
+    below = h.below;
+  }
+
+  before : (low high p : ℕ) → StandsIn new MEMBERS low high p → StandsIn old MEMBERS low high p
+  before low high p h = record {
+    member = h.member;
+    counts = h.counts;
+    stands = sym (same h.member h.counts) ∙ h.stands;
+    above = h.above;
+    below = h.below;
+  }
+
+  lowest_same : (low high : ℕ) (o : Option ℕ) → IsLowest old MEMBERS low high o → IsLowest new MEMBERS low high o
+  lowest_same low high None is = λ p h. is p (before low high p h)
+  lowest_same low high (Some q) is = (there low high q is.0, λ p h. is.1 p (before low high p h))
+
+  highest_same : (low high : ℕ) (o : Option ℕ) → IsHighest old MEMBERS low high o → IsHighest new MEMBERS low high o
+  highest_same low high None is = λ p h. is p (before low high p h)
+  highest_same low high (Some q) is = (there low high q is.0, λ p h. is.1 p (before low high p h))
+
+  pub front_same : (place : ℕ) → IsFrontPlace old place → IsFrontPlace new place
+  front_same place is = (is.0, lowest_same MIDDLE PLACES is.0 is.1, is.2)
+
+  pub tail_same : (place : ℕ) → IsTailPlace old place → IsTailPlace new place
+  tail_same place is = (is.0, highest_same MIDDLE PLACES is.0 is.1, is.2)
+
+-- places of such adds are even, and lie from the middle on
+pub record IsAfter (p : ℕ) : Type 0 where
+  pub even : p % 2 ≡ 0
+  pub middle_on : MIDDLE ≤ p
+  pub small : p < PLACES
+
+within_after : (q p : ℕ) → q % 2 ≡ 0
+    → (if nat_lt q MIDDLE then None else if nat_lt q PLACES then Some q else None) ≡ Some p → IsAfter p
+within_after q p even = by (nat_lt q MIDDLE) (nat_lt q PLACES) refl refl
+  where
+    by : (a b : Bool) → nat_lt q MIDDLE ≡ a → nat_lt q PLACES ≡ b
+        → (if a then None else if b then Some q else None) ≡ Some p → IsAfter p
+    by true b x y is = absurd (cc)
+    by false true x y is =
+        let same : q ≡ p = cc in
+        let z : MIDDLE ≤ q = grind (arith, nat_tests) in
+        let s : q < PLACES = grind (arith, nat_tests) in
+        record { even = omega arith; middle_on = omega arith; small = omega arith }
+    by false false x y is = absurd (cc)
+
+first_after : (p : ℕ) → Some FIRST_PLACE ≡ Some p → IsAfter p
+first_after p is =
+    let same : FIRST_PLACE ≡ p = cc in
+    record { even = omega arith; middle_on = omega arith; small = omega arith }
+
+pub front_after : (o : Option ℕ) (p : ℕ) → front_for o ≡ Some p → IsAfter p
+front_after None p is = first_after p is
+front_after (Some l) p is = within_after (even_below l) p (omega arith) is
+
+pub tail_after : (o : Option ℕ) (p : ℕ) → tail_for o ≡ Some p → IsAfter p
+tail_after None p is = first_after p is
+tail_after (Some l) p is = within_after (even_above l) p (omega arith) is
+
+pub plain_stands : (x : ℕ) (w : Watch) (k : Kind) (p : ℕ) → IsFor w k → IsAfter p → IsStanding x (front_entry w k p)
+plain_stands x w k p is at = subst (λ (c : Watch). IsStanding x (front_entry c k p)) (sym is.1) (record {
+  lawful = record { place = at.small; suited = (few, or_kind is.3, λ far. absurd (omega (arith, is.2))) };
+  kind = λ _. kind_simple is.3;
+  even = at.even;
+  priority = λ e. absurd (cc);
+  plain = λ _. at.middle_on;
+})
+  where
+    few : is.0 < PLAIN_CONDITIONS
+    few = omega (arith, is.2)
+
+    or_kind : (k ≡ kind.Default) ⊎ (k ≡ kind.Autoremove) → (k ≡ kind.Default)
+        ⊎ ((k ≡ kind.Autoremove) ⊎ ((k ≡ kind.Woken) ⊎ (k ≡ kind.Simple)))
+    or_kind (inl a) = inl a
+    or_kind (inr b) = inr (inl b)
+
+    kind_simple : (k ≡ kind.Default) ⊎ (k ≡ kind.Autoremove) → is_simple k ≡ false
+    kind_simple (inl a) = ap is_simple a
+    kind_simple (inr b) = ap is_simple b
+
+-- an own entry that the history does not have stored is off
+none_shown : (o : Option Entry) (s : Option Entry) → s ≡ None → ((e : Entry) → o ≡ Some e → s ≡ Some e) → o ≡ None
+none_shown None s none own = refl
+none_shown (Some e) s none own = let is = own e refl in absurd (cc)
+
+pub own_off : (old new : Known) (slot w : ℕ) → slot < SLOTS → (held : IsHolding old)
+    → (is : new ≡ added old (item.Made (saw old.book.head (index old.view.number slot) w)))
+    → KnewEntry old (index old.view.number slot) w
+    → (told_of old).bits.stored (index old.view.number slot) ≡ None
+    → (told_of new).hold.book (index old.view.number slot) ≡ off
+own_off old new slot w few held is knew none =
+    let x = index old.view.number slot in
+    let empty : entry_of w ≡ None = none_shown (entry_of w) ((told_of old).bits.stored x) none
+    (knew.own slot few refl) in
+    ap (λ (u : Told). u.hold.book x) (saw_told old new x w held is knew)
+    ∙ (put_same (told_of old).hold.book x (look_at (told_of old).hold.head (entry_of w))
+    ∙ (ap (λ (h : Option ℕ). look_at h (entry_of w)) held.told ∙ ap (look_at (Some old.at)) empty))
+
+-- the own entry, which the hold has just seen off
+module _ (old mid : Known) (n slot w : ℕ) (e : Entry) (is_n : n ≡ old.view.number) (few : slot < SLOTS)
+    (held : IsHolding old)
+    (saw_it : mid ≡ added old (item.Made (saw old.book.head (index n slot) w))) (knew : KnewEntry old (index n slot) w)
+    (out : (told_of old).bits.stored (index old.view.number slot) ≡ None) (seen : AreSeen old MEMBERS) where
+  pub queue_looks : Looks old mid
+  queue_looks = saw_looks old mid (index n slot) w held saw_it knew
+
+  queue_same : (m : ℕ) → m < MEMBERS → place_by mid m ≡ place_by old m
+  queue_same m low = queue_looks.from.places m (seen m low)
+
+  pub queue_whole : IsWholeBook mid
+  queue_whole = whole_of mid (λ m low. queue_looks.from.still m (seen m low))
+
+  pub queue_number : mid.view.number ≡ old.view.number
+  queue_number = ap (λ (k : Known). k.view.number) saw_it
+
+  queue_off : (told_of mid).hold.book (index mid.view.number slot) ≡ off
+  queue_off = ap (λ (k : ℕ). (told_of mid).hold.book (index k slot)) queue_number
+      ∙ own_off old mid slot w few held
+      (subst (λ (k : ℕ). mid ≡ added old (item.Made (saw old.book.head (index k slot) w))) is_n saw_it)
+      (subst (λ (k : ℕ). KnewEntry old (index k slot) w) is_n knew) out
+
+  pub queue_front : (p : ℕ) → IsFrontPlace old p → IsFrontPlace mid p
+  queue_front p is = front_same old mid queue_same p is
+
+  pub queue_tail : (p : ℕ) → IsTailPlace old p → IsTailPlace mid p
+  queue_tail p is = tail_same old mid queue_same p is
+
+  either_place : IsFrontPlace old e.place ⊎ IsTailPlace old e.place → IsFrontPlace mid e.place ⊎ IsTailPlace mid e.place
+  either_place (inl a) = inl (queue_front e.place a)
+  either_place (inr b) = inr (queue_tail e.place b)
+
+  pub may_queue : head_of e.watch ≡ old.at → IsStanding (index old.view.number slot) e → e.priority ≡ false
+      → IsFrontPlace old e.place ⊎ IsTailPlace old e.place → MayQueue mid slot e
+  may_queue at standing plain place = record {
+    head = at ∙ ap (λ (k : Known). k.at) (sym saw_it);
+    standing = subst (λ (k : ℕ). IsStanding (index k slot) e) (sym queue_number) standing;
+    is_off = queue_off;
+    whole = queue_whole;
+    place = subst (λ (b : Bool). IsPlaceFor mid b e.place) (sym plain) (either_place place);
+  }
+
+-- where no place is left, a member shows it
+worn_at : (IsEnd : Option ℕ → Type 0) (place_for : Option ℕ → Option ℕ) → place_for None ≡ Some FIRST_PLACE
+    → (o l : Option ℕ) (w : ℕ) → l ≡ o → IsEnd o → place_for l ≡ None → ((p : ℕ) → l ≡ Some p → w ≡ p)
+    → IsEnd (Some w) × (place_for (Some w) ≡ None)
+worn_at IsEnd place_for starts None l w same is none at =
+    let never : Some FIRST_PLACE ≡ None = sym starts ∙ (ap place_for (sym same) ∙ none) in absurd (cc)
+worn_at IsEnd place_for starts (Some q) l w same is none at =
+    subst (λ (p : ℕ). IsEnd (Some p) × (place_for (Some p) ≡ None)) (sym (at q same))
+    (is, ap place_for (sym same) ∙ none)
+
+-- and where one is left, the entry has it
+placed_at : (place_for : Option ℕ → Option ℕ) (o l r : Option ℕ) (p : ℕ) (w : Watch) (k : Kind) (e : Entry)
+    → l ≡ o → r ≡ place_for l → r ≡ Some p → e ≡ front_entry w k p → place_for o ≡ Some e.place
+placed_at place_for o l r p w k e same gives left is = ap place_for (sym same)
+    ∙ (sym gives ∙ (left ∙ ap (λ (f : Entry). Some f.place) (sym is)))
+
+-- so at the front, and at the tail
+pub front_placed : (k : Known) (o : Option ShownMember) (l r : Option ℕ) (p : ℕ) (w : Watch) (kd : Kind) (e : Entry)
+    → IsFirst (place_by k) MEMBERS MIDDLE PLACES o → l ≡ place_of o → r ≡ front_for l → r ≡ Some p
+    → e ≡ front_entry w kd p
+    → IsFrontPlace k e.place
+front_placed k o l r p w kd e is same gives left made =
+    (place_of o, lowest_of k MIDDLE PLACES o is, placed_at front_for (place_of o) l r p w kd e same gives left made)
+
+pub front_worn : (k : Known) (o : Option ShownMember) (l r : Option ℕ) (w : ℕ)
+    → IsFirst (place_by k) MEMBERS MIDDLE PLACES o
+    → l ≡ place_of o → r ≡ front_for l → r ≡ None → ((p : ℕ) → l ≡ Some p → w ≡ p)
+    → IsLowest k MEMBERS MIDDLE PLACES (Some w) × (front_for (Some w) ≡ None)
+front_worn k o l r w is same gives none at = worn_at (IsLowest k MEMBERS MIDDLE PLACES) front_for refl (place_of o) l w
+    same (lowest_of k MIDDLE PLACES o is) (sym gives ∙ none) at
+
+pub tail_placed : (k : Known) (o : Option ShownMember) (l r : Option ℕ) (p : ℕ) (w : Watch) (kd : Kind) (e : Entry)
+    → IsLast (place_by k) MEMBERS MIDDLE PLACES o → l ≡ place_of o → r ≡ tail_for l → r ≡ Some p
+    → e ≡ front_entry w kd p
+    → IsTailPlace k e.place
+tail_placed k o l r p w kd e is same gives left made =
+    (place_of o, highest_of k MIDDLE PLACES o is, placed_at tail_for (place_of o) l r p w kd e same gives left made)
+
+pub tail_worn : (k : Known) (o : Option ShownMember) (l r : Option ℕ) (w : ℕ)
+    → IsLast (place_by k) MEMBERS MIDDLE PLACES o
+    → l ≡ place_of o → r ≡ tail_for l → r ≡ None → ((p : ℕ) → l ≡ Some p → w ≡ p)
+    → IsHighest k MEMBERS MIDDLE PLACES (Some w) × (tail_for (Some w) ≡ None)
+tail_worn k o l r w is same gives none at = worn_at (IsHighest k MEMBERS MIDDLE PLACES) tail_for refl (place_of o) l w
+    same (highest_of k MIDDLE PLACES o is) (sym gives ∙ none) at
+
+-- an entry that the task stores, and one that it takes off; the other ones stay
+other_is : (x y : ℕ) → (y == x) ≡ false → y ≡ x → ⊥
+other_is x y out same = let here = eq-eqb y x same in absurd (cc)
+
+module _ (seen new : Known) (x : ℕ) (e : Entry) (is : new ≡ added seen (item.Made (step.Queue x e))) where
+  queue_told : told_of new ≡ after (step.Queue x e) (told_of seen)
+  queue_told = ap told_of is ∙ told_added seen (item.Made (step.Queue x e))
+
+  pub queue_stored : (told_of new).bits.stored x ≡ Some e
+  queue_stored = ap (λ (v : Told). v.bits.stored x) queue_told ∙ put_same (told_of seen).bits.stored x (Some e)
+
+  queue_other : (y : ℕ) → (y == x) ≡ false → (told_of new).bits.stored y ≡ (told_of seen).bits.stored y
+  queue_other y out = ap (λ (v : Told). v.bits.stored y) queue_told
+      ∙ put_at (λ (s : Option Entry). s ≡ (told_of seen).bits.stored y) (told_of seen).bits.stored x (Some e) y
+      (λ same. absurd (other_is x y out same)) (λ _. refl)
+
+  pub queue_stays : e.exclusive ≡ false → Stays (only x) seen new
+  queue_stays shared = record {
+    domain = ap (λ (k : Known). k.domain) is;
+    number = ap (λ (k : Known). k.view.number) is;
+    state = ap (λ (k : Known). k.book.state) is;
+    awake = ap (λ (k : Known). k.book.awake) is;
+    still = λ y out. inl (queue_other y out);
+    stands = λ slot few out d at own. queue_other (index seen.view.number slot) out ∙ at;
+    keeps = λ c. ap (λ (v : Told). v.bits.keeps c) queue_told;
+    tries_none = λ none y c. ap (λ (v : Told). is_trying_for (v.bits.stored y) c) queue_told
+        ∙ put_at (λ (s : Option Entry). is_trying_for s c ≡ false) (told_of seen).bits.stored x (Some e) y
+        (λ _. ap (λ (b : Bool). b && (is_bit e.watch && same_watch c e.watch)) shared) (λ _. none y c);
+    tries = λ none c. ap (λ (v : Told). v.bits.pending c) queue_told;
+  }
+
+  pub queue_owes : (f : Excuse) → OwesBut f (told_of seen) → OwesBut (also x f) (told_of new)
+  queue_owes f o = subst (OwesBut (also x f)) (sym queue_told) (record {
+    unmarked = o.unmarked;
+    owes = o.owes;
+    unqueued = λ y. put_at (λ (s : Option Entry). IsOutBut ((y == x) || f.entries y) s) (told_of seen).bits.stored x
+        (Some e) y (λ here. subst (λ (b : Bool). IsOutBut (b || f.entries y) (Some e)) (sym (eq-eqb y x here)) tt)
+        (λ _. (owes_also x f (told_of seen) o).unqueued y);
+    holds = o.holds;
+    tries = o.tries;
+  })
+
+  queue_owing : e.exclusive ≡ false → (f : Excuse) → Owes f seen → Owes (with_entry x f) new
+  unfolding Owes with_entry
+  queue_owing shared f o = (queue_owes (least f) o.0, (queue_stays shared).tries_none o.1)
+
+  pub queue_carried : (old : Known) → e.exclusive ≡ false → Carries only_looks old seen
+      → Carries (queue_change x) old new
+  queue_carried old shared l = record {
+    domain = ap (λ (k : Known). k.domain) is ∙ l.domain;
+    number = ap (λ (k : Known). k.view.number) is ∙ l.number;
+    awake = ap (λ (k : Known). k.book.awake) is ∙ l.awake;
+    state = ap (λ (k : Known). k.book.state) is ∙ l.state;
+    head = ap (λ (k : Known). k.book.head) is ∙ l.head;
+    hold = ap (λ (v : Told). v.hold.head) queue_told ∙ l.hold;
+    at = ap (λ (k : Known). k.at) is ∙ l.at;
+    mark = ap (λ (v : Told). v.mark) queue_told ∙ l.mark;
+    fewer = λ w σ p none. ap (λ (v : Told). v.duty.owes w σ) queue_told ∙ l.fewer w σ p none;
+    stored = λ y none _. absurd (cc);
+    out = λ y away none. queue_other y away ∙ l.out y refl none;
+    stands = λ slot few away d at own. queue_other (index old.view.number slot) away ∙ l.stands slot few refl d at own;
+    owes = λ f o. queue_owing shared f (l.owes f o);
+    clean = l.clean;
+    settled = owes_clean new;
+  }
+
+module _ (old new : Known) (who slot : ℕ) (is : new ≡ added old (item.Made (step.Unqueue (index who slot)))) where
+  remove_told : told_of new ≡ after (step.Unqueue (index who slot)) (told_of old)
+  remove_told = ap told_of is ∙ told_added old (item.Made (step.Unqueue (index who slot)))
+
+  remove_out : (told_of new).bits.stored (index who slot) ≡ None
+  remove_out = ap (λ (v : Told). v.bits.stored (index who slot)) remove_told
+      ∙ put_same (told_of old).bits.stored (index who slot) None
+
+  remove_other : (y : ℕ) → (y == index who slot) ≡ false → (told_of new).bits.stored y ≡ (told_of old).bits.stored y
+  remove_other y away = ap (λ (v : Told). v.bits.stored y) remove_told
+      ∙ put_at (λ (s : Option Entry). s ≡ (told_of old).bits.stored y) (told_of old).bits.stored (index who slot) None y
+      (λ same. absurd (other_is (index who slot) y away same)) (λ _. refl)
+
+  remove_owes : (f : Excuse) → OwesBut (also (index who slot) f) (told_of old)
+      → OwesBut (also (index who slot) f) (told_of new)
+  remove_owes f o = subst (OwesBut (also (index who slot) f)) (sym remove_told) (record {
+    unmarked = o.unmarked;
+    owes = o.owes;
+    unqueued = λ y. put_at (IsOutBut ((y == index who slot) || f.entries y)) (told_of old).bits.stored
+        (index who slot) None y
+        (λ here. subst (λ (b : Bool). IsOutBut (b || f.entries y) None) (sym (eq-eqb y (index who slot) here)) tt)
+        (λ _. o.unqueued y);
+    holds = o.holds;
+    tries = o.tries;
+  })
+
+  remove_none : TriesNone (told_of old) → TriesNone (told_of new)
+  remove_none none y c = ap (λ (v : Told). is_trying_for (v.bits.stored y) c) remove_told
+      ∙ put_at (λ (s : Option Entry). is_trying_for s c ≡ false) (told_of old).bits.stored (index who slot) None y
+      (λ _. refl) (λ _. none y c)
+
+  remove_owing : (f : Excuse) → Owes (with_entry (index who slot) f) old → Owes f new
+  unfolding Owes with_entry
+  remove_owing f o = (
+    owes_out (index who slot) (least f) (told_of new)
+        (remove_owes (least f) o.0) remove_out,
+    remove_none o.1,
+  )
+
+  remove_carried : Carries (take_off_change (index who slot)) old new
+  remove_carried = record {
+    domain = ap (λ (k : Known). k.domain) is;
+    number = ap (λ (k : Known). k.view.number) is;
+    awake = ap (λ (k : Known). k.book.awake) is;
+    state = ap (λ (k : Known). k.book.state) is;
+    head = ap (λ (k : Known). k.book.head) is;
+    hold = ap (λ (v : Told). v.hold.head) remove_told;
+    at = ap (λ (k : Known). k.at) is;
+    mark = ap (λ (v : Told). v.mark) remove_told;
+    fewer = λ w σ _ none. ap (λ (v : Told). v.duty.owes w σ) remove_told ∙ none;
+    stored = λ y _ away. remove_other y away;
+    out = λ y away none. remove_other y away ∙ none;
+    stands = λ n few away d at own. remove_other (index old.view.number n) away ∙ at;
+    owes = remove_owing;
+    clean = clean_owes old;
+    settled = owes_clean new;
+  }
+
+  pub removed : HasRemoved old new who slot
+  removed = record {
+    is = is;
+    out = remove_out;
+    stays = record {
+      domain = ap (λ (k : Known). k.domain) is;
+      number = ap (λ (k : Known). k.view.number) is;
+      state = ap (λ (k : Known). k.book.state) is;
+      awake = ap (λ (k : Known). k.book.awake) is;
+      still = λ y away. inl (remove_other y away);
+      stands = λ n few away d at own. remove_other (index old.view.number n) away ∙ at;
+      keeps = λ c. ap (λ (v : Told). v.bits.keeps c) remove_told;
+      tries_none = λ none y c. ap (λ (v : Told). is_trying_for (v.bits.stored y) c) remove_told
+          ∙ put_at (λ (s : Option Entry). is_trying_for s c ≡ false) (told_of old).bits.stored (index who slot) None y
+          (λ _. refl) (λ _. none y c);
+      tries = λ none c. ap (λ (v : Told). v.bits.pending c) remove_told;
+    };
+    settled = λ f o. owes_out (index who slot) f (told_of new) (remove_owes f o) remove_out;
+    carries = remove_carried;
+  }
+
+-- the whole add
+module _ (IsPlace : Known → ℕ → Type 0) (old mid new : Known) (slot p : ℕ) (w : Watch) (k : Kind) (e : Entry)
+    (first : Looks old mid) (is : e ≡ front_entry w k p) (q : HasQueued mid new slot e) where
+  abbrev x : ℕ
+  x = index old.view.number slot
+
+  add_looks : Looks old q.seen
+  add_looks = looks_on old mid q.seen first q.looks
+
+  add_is : new ≡ added q.seen (item.Made (step.Queue x (front_entry w k p)))
+  add_is = q.is ∙ (λ i. added q.seen (item.Made (step.Queue (index ((first.is i).view.number) slot) (is i))))
+
+  pub added_at : IsPlace q.seen e.place → HasAdded IsPlace old new slot w k
+  added_at place = record {
+    place = p;
+    seen = q.seen;
+    looks = add_looks;
+    whole = q.whole;
+    sort = subst (IsPlace q.seen) (ap (λ (f : Entry). f.place) is) place;
+    is = add_is;
+    queued = queue_stored q.seen new x (front_entry w k p) add_is;
+    stays = stays_on (only x) old q.seen new (stays_but (only x) old q.seen add_looks.stays)
+        (queue_stays q.seen new x (front_entry w k p) add_is refl);
+    settled = λ f none o. queue_owes q.seen new x (front_entry w k p) add_is f (add_looks.settled none f o);
+    carries = queue_carried q.seen new x (front_entry w k p) add_is old refl (looks_carried old q.seen add_looks);
+  }
+
+queued_holds : (seen new : Known) (x : ℕ) (e : Entry) → IsHolding seen → new ≡ added seen (item.Made (step.Queue x e))
+    → IsHolding new
+queued_holds seen new x e held now = subst IsHolding (sym now) (record {
+  locked = held.locked;
+  told = ap (λ (u : Told). u.hold.head) (told_added seen (item.Made (step.Queue x e))) ∙ held.told;
+})
+
+pub added_holds : (old mid new : Known) (slot : ℕ) (e : Entry) → Looks old mid → HasQueued mid new slot e
+    → IsHolding old
+    → IsHolding new
+added_holds old mid new slot e first q held = queued_holds q.seen new _ e
+    (holding_on old q.seen (looks_on old mid q.seen first q.looks) held) q.is
+
+pub removed_holding : (old new : Known) (x : ℕ) → IsHolding old
+    → new ≡ added old (item.Made (step.Unqueue x)) → IsHolding new
+removed_holding old new x held now = subst IsHolding (sym now) (record {
+  locked = held.locked;
+  told = ap (λ (u : Told). u.hold.head) (told_added old (item.Made (step.Unqueue x))) ∙ held.told;
+})

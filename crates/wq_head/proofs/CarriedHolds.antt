@@ -1,0 +1,142 @@
+-- What the calls on heads carry on of a task.
+use Rattle.std.proofs.Common.{◌∙◌, ap, sym, refl, subst, inl, inr}
+use Rattle.std.specs.Prelude.{ℕ, ◌≡◌, ◌⊎◌, ◌==◌, ◌&&◌, ◌||◌, not, Bool, true, false, if◌then◌else◌, Option, Some, None}
+use Rattle.wait_model.specs.declared.watches.Watch.{Watch}
+use Rattle.wait_model.specs.declared.watches.Mode.{Mode}
+use Rattle.wait_model.specs.declared.watches.Mode.TheVariants as mode
+use Rattle.wait_model.specs.declared.watches.Entry.{Entry}
+use Rattle.wait_model.specs.declared.watches.Aim.{Aim}
+use Rattle.wait_model.specs.declared.steps.Step.TheVariants as step
+use Rattle.wait_model.specs.Tasks.{meets}
+use Rattle.wait_model.specs.Watches.{same, mask_of}
+use Rattle.wait_model.specs.Views.{View as Told, Hold, Walk, Bits, Duty, all_passed}
+use Rattle.wait_model.specs.Fold.{after, after_unlock}
+use Rattle.wait_model.proofs.StepLaws.UnlockSteps.{unlock_bits, unlock_hold}
+use Rattle.wait_rule.specs.declared.journal.Item.TheVariants as item
+use Rattle.wait_rule.specs.Known.{Known}
+use Rattle.wait_rule.specs.Says.{Excuse, OwesBut, IsUp, added, told_of}
+use Rattle.wait_rule.specs.Queues.{IsIdle, index}
+use Rattle.wait_rule.specs.Stays.{
+  TriesNone,
+  Stays,
+  least,
+  also,
+  Owes,
+  with_entry,
+  with_wakes,
+  Carries,
+  only_looks,
+  lock_change,
+  unlock_change,
+  queue_change,
+  take_off_change,
+  wake_all_change,
+}
+use Rattle.wait_rule.proofs.KnownLaws.AfterSteps.{told_added}
+use Rattle.wait_rule.proofs.KnownLaws.CarriedTasks.{clean_owes, owes_clean, owes_more, stays_carried}
+use Rattle.wq_head.specs.Holds.{HasLocked, IsHolding}
+use Rattle.wq_head.specs.Looks.{Looks}
+use Rattle.wq_head.specs.Walks.{HasEnded, spares}
+use Rattle.wq_head.proofs.LockWaits.{locked_told, locked_stays, unlocked_stays}
+
+pub still_out : (now was : Option Entry) → (now ≡ was) ⊎ (now ≡ None) → was ≡ None → now ≡ None
+still_out now was (inl same) none = same ∙ none
+still_out now was (inr out) none = out
+
+pub lock_carried : (old new : Known) (head : ℕ) (walk : Option Aim) → HasLocked old new head walk → Carries
+    (lock_change head) old new
+lock_carried old new head walk l = stays_carried (λ _. Some head) (λ _. head) false old new
+    (locked_stays old new head walk l)
+    (ap (λ (k : Known). k.book.head) l.is) (ap (λ (v : Told). v.hold.head) (locked_told old new head walk l))
+    (ap (λ (k : Known). k.at) l.is) (ap (λ (v : Told). v.mark) (locked_told old new head walk l))
+    (λ c σ none. ap (λ (v : Told). v.duty.owes c σ) (locked_told old new head walk l) ∙ none)
+    (λ x _. ap (λ (v : Told). v.bits.stored x) (locked_told old new head walk l))
+
+-- an unlock
+unlock_same : (v : Told) (o : Option Walk) (spent : Bool) → (after_unlock v o spent).mark ≡ v.mark
+unlock_same v None spent = refl
+unlock_same v (Some w) spent = either (spent || all_passed v w (λ _. false)) _ _ refl refl
+  where
+    either : (b : Bool) (x y : Told) → x.mark ≡ v.mark → y.mark ≡ v.mark → (if b then x else y).mark ≡ v.mark
+    either true x y one two = one
+    either false x y one two = two
+
+unlock_fewer : (v : Told) (o : Option Walk) (spent : Bool) (c : Watch) (σ : ℕ) → v.duty.owes c σ ≡ false
+    → (after_unlock v o spent).duty.owes c σ ≡ false
+unlock_fewer v None spent c σ none = none
+unlock_fewer v (Some w) spent c σ none = either (spent || all_passed v w (λ _. false)) _ _
+    (ap (λ (b : Bool). b && not (same c w.watch && meets w.mask σ)) none) none
+  where
+    either : (b : Bool) (x y : Told) → x.duty.owes c σ ≡ false → y.duty.owes c σ ≡ false
+        → (if b then x else y).duty.owes c σ ≡ false
+    either true x y one two = one
+    either false x y one two = two
+
+unlock_told : (old new : Known) (spent : Bool) → new ≡ added old (item.Made (step.Unlock old.at spent))
+    → told_of new ≡ after_unlock (told_of old) (told_of old).walk spent
+unlock_told old new spent is = ap told_of is ∙ told_added old (item.Made (step.Unlock old.at spent))
+
+pub unlock_free : (old new : Known) (spent : Bool) → new ≡ added old (item.Made (step.Unlock old.at spent))
+    → (told_of new).hold.head ≡ None
+unlock_free old new spent is = ap (λ (v : Told). v.hold.head) (unlock_told old new spent is)
+    ∙ ap (λ (h : Hold). h.head) (unlock_hold (told_of old) (told_of old).walk spent)
+
+pub unlock_carried : (old new : Known) (spent : Bool) → new ≡ added old (item.Made (step.Unlock old.at spent))
+    → Carries unlock_change old new
+unlock_carried old new spent is =
+    let told = unlock_told old new spent is in
+    stays_carried (λ _. None) (λ h. h) false old new (unlocked_stays old new spent is)
+    (ap (λ (k : Known). k.book.head) is) (unlock_free old new spent is) (ap (λ (k : Known). k.at) is)
+    (ap (λ (v : Told). v.mark) told ∙ unlock_same (told_of old) (told_of old).walk spent)
+    (λ c σ none. ap (λ (v : Told). v.duty.owes c σ) told ∙ unlock_fewer (told_of old) (told_of old).walk spent c σ none)
+    (λ x _. ap (λ (v : Told). v.bits.stored x) told ∙ ap (λ (b : Bits). b.stored x)
+    (unlock_bits (told_of old) (told_of old).walk spent))
+
+-- looks in a hold
+pub looks_carried : (old new : Known) → Looks old new → Carries only_looks old new
+looks_carried old new l = stays_carried (λ h. h) (λ h. h) true old new l.stays (ap (λ (k : Known). k.book.head) l.is)
+    (ap (λ (v : Told). v.hold.head) l.from.told) (ap (λ (k : Known). k.at) l.is) (ap (λ (v : Told). v.mark) l.from.told)
+    (λ c σ none. ap (λ (v : Told). v.duty.owes c σ) l.from.told ∙ none) (λ x none. absurd (cc))
+
+-- a wake
+ended_covers : (x s n : Bool) → ((x || s) || n) ≡ true → ((x || n) || s) ≡ true
+ended_covers true s n is = refl
+ended_covers false true true is = refl
+ended_covers false true false is = refl
+ended_covers false false n is = or_last n is
+  where
+    or_last : (n : Bool) → n ≡ true → (n || false) ≡ true
+    or_last true is = refl
+    or_last false is = absurd (cc)
+
+ended_owes : (a : Aim) (old new : Known) → HasEnded old new a → (x : Excuse) → Owes (with_wakes a.watch a.mode x) old
+    → Owes x new
+unfolding Owes with_wakes
+ended_owes a old new e x o = (
+  e.settled (least x) o.1 (owes_more (least (with_wakes a.watch a.mode x)) (spares a (least x)) (told_of old)
+      (λ c σ. ended_covers (x.wakes c σ) (same c a.watch && meets (mask_of a.mode) σ)
+      (not (meets (mask_of mode.Normal) σ)))
+      refl o.0),
+  e.stays.tries_none o.1,
+)
+
+pub wake_carried : (a : Aim) (old new : Known) → HasEnded old new a → IsIdle old → IsIdle new →
+    (told_of new).hold.head ≡ None
+    → Carries (wake_all_change a.watch a.mode new.at) old new
+wake_carried a old new e before behind hold = record {
+  domain = e.stays.domain;
+  number = e.stays.number;
+  awake = e.stays.awake;
+  state = e.stays.state;
+  head = behind.free;
+  hold = hold;
+  at = refl;
+  mark = behind.unmarked ∙ sym before.unmarked;
+  fewer = λ w σ _ none. e.owes w σ ∙ ap (λ (b : Bool). b && not (same w a.watch && meets (mask_of a.mode) σ)) none;
+  stored = λ x none _. absurd (cc);
+  out = λ x _ none. still_out _ _ (e.stays.still x refl) none;
+  stands = λ slot few _ d is own. e.stays.stands slot few refl d is own;
+  owes = ended_owes a old new e;
+  clean = clean_owes old;
+  settled = owes_clean new;
+}

@@ -10,11 +10,12 @@ use std::sync::Wait;
 use std::thread::Threads;
 use std::time::{Clock, Duration, Instant};
 use std::{env, io, thread};
+use wait_model::layout::FIRST_PLAIN_HEAD;
 use wait_rule::{Domain, Task};
 use wq_head::{has_members, lock, unlock};
 
 /// The head that all holds are of.
-const HEAD: u16 = 256;
+const HEAD: u16 = FIRST_PLAIN_HEAD;
 
 /// Holds in which nothing is done.
 fn holds<R: Wait>(rt: &R, domain: &Domain, task: &mut Task, n: u64)

@@ -1,0 +1,76 @@
+//! Holds of a head in which nothing is queued, and wakes, by a task that owes nothing.
+
+ghost use Rattle.std.specs.Prelude.{◌≡◌, ◌<◌};
+ghost use Rattle.wait_model.specs.declared.layout.TheConstants.{HEADS};
+ghost use Rattle.wait_rule.specs.Says.{IsClean};
+
+use std::sync::Wait;
+use wait_model::watches::{Mode, Watch};
+use wait_rule::queues::publish;
+use wait_rule::{Domain, Task};
+use wq_head::{has_members, lock, unlock, wake};
+
+/// Takes the lock of head `head`, below HEADS, and gives it back. The task owes nothing before and after it.
+pub fn pass<R: Wait>(rt: &R, domain: &Domain, task: &mut Task, head: u16)
+    requires of { task.old.domain ≡ domain.now }
+    requires clean { IsClean task.old }
+    requires head { head < HEADS }
+    ensures of { task.new.domain ≡ domain.now }
+    ensures clean { IsClean task.new }
+{
+    lock(rt, domain, task, head);
+    unlock(rt, domain, task, false);
+}
+
+/// Says whether head `head`, below HEADS, has members.
+pub fn look<R: Wait>(rt: &R, domain: &Domain, task: &mut Task, head: u16) -> bool
+    requires of { task.old.domain ≡ domain.now }
+    requires clean { IsClean task.old }
+    requires head { head < HEADS }
+    ensures of { task.new.domain ≡ domain.now }
+    ensures clean { IsClean task.new }
+{
+    lock(rt, domain, task, head);
+    let has = has_members(domain, task, head);
+    unlock(rt, domain, task, false);
+    has
+}
+
+/// Sets condition 0 and wakes all who wait for it: how many were woken.
+pub fn set_and_wake<R: Wait>(rt: &R, domain: &Domain, task: &mut Task) -> u32
+    requires of { task.old.domain ≡ domain.now }
+    requires clean { IsClean task.old }
+    ensures of { task.new.domain ≡ domain.now }
+    ensures clean { IsClean task.new }
+{
+    let watch = Watch::Plain { cond: 0 };
+    publish(domain, task, watch, 1);
+    wake(rt, domain, task, watch, Mode::Normal, 0).woken
+}
+
+/// Passes through a hold of head `head`, below HEADS, and then sets condition 0 and wakes all who wait for it.
+pub fn pass_and_wake<R: Wait>(rt: &R, domain: &Domain, task: &mut Task, head: u16) -> u32
+    requires of { task.old.domain ≡ domain.now }
+    requires clean { IsClean task.old }
+    requires head { head < HEADS }
+    ensures of { task.new.domain ≡ domain.now }
+    ensures clean { IsClean task.new }
+{
+    lock(rt, domain, task, head);
+    unlock(rt, domain, task, false);
+    let watch = Watch::Plain { cond: 0 };
+    publish(domain, task, watch, 1);
+    wake(rt, domain, task, watch, Mode::Normal, 0).woken
+}
+
+/// Sets condition 0, wakes all who wait for it, and is taken in by another task.
+pub fn wake_and_join<R: Wait>(rt: &R, domain: &Domain, into: &mut Task, task: Task) -> u32
+    requires of { (into.old.domain ≡ domain.now) × (task.domain ≡ domain.now) }
+    requires clean { IsClean task }
+    ensures of { into.new.domain ≡ domain.now }
+{
+    let mut task = task;
+    let woken = set_and_wake(rt, domain, &mut task);
+    into.join(domain, task);
+    woken
+}

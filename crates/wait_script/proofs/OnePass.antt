@@ -1,5 +1,37 @@
 -- Lines of steps that are read in one pass.
-use Rattle.std.proofs.Common.{◌≡◌, ℕ, ◌+◌, ◌-◌, ◌*◌, ◌<◌, ◌≤◌, ◌^◌, List, [], ◌∷◌, ◌++◌, Some, None, Bool, true, false, cond, nat_lt, length, take, drop, get_or, decimal, codes, append_assoc, arith, refl, sym, ap, ◌∙◌}
+use Rattle.std.proofs.Common.{
+  ◌≡◌,
+  ℕ,
+  ◌+◌,
+  ◌-◌,
+  ◌*◌,
+  ◌<◌,
+  ◌≤◌,
+  ◌^◌,
+  List,
+  [],
+  ◌∷◌,
+  ◌++◌,
+  Some,
+  None,
+  Bool,
+  true,
+  false,
+  cond,
+  nat_lt,
+  length,
+  take,
+  drop,
+  get_or,
+  decimal,
+  codes,
+  append_assoc,
+  arith,
+  refl,
+  sym,
+  ap,
+  ◌∙◌,
+}
 use mathlib.Core.Bool.{◌&&◌}
 use Rattle.std.specs.Char.{is_ascii_digit, digit_value}
 use Rattle.std.specs.Str.{all_ascii_digits}
@@ -7,11 +39,11 @@ use Rattle.std.specs.Str.Parse.{digits_value}
 use Rattle.std.proofs.lemmas.List.{drop_more, take_more, take-append-drop}
 use Rattle.std.proofs.lemmas.Int.Digits.{digits_value_more}
 use Rattle.std.proofs.lemmas.Bool.Decides.{nat_tests}
-use Rattle.wait_script.specs.Number.{number_of, is_plain}
+use Rattle.wait_script.specs.Number.{numeral_value, is_plain}
 use Rattle.wait_script.specs.declared.line.Line.TheVariants as line
 use Rattle.wait_script.specs.Spelling.{line_text}
-use Rattle.wait_script.proofs.Numbers.{number_is}
-use Rattle.wait_script.proofs.Digits.{value_is}
+use Rattle.wait_script.proofs.ReadNumbers.{number_is}
+use Rattle.wait_script.proofs.ReadDigits.{value_is}
 
 all_push : (xs : List ℕ) (c : ℕ) → all_ascii_digits xs ≡ true → is_ascii_digit c ≡ true
     → all_ascii_digits (xs ++ c ∷ []) ≡ true
@@ -45,7 +77,7 @@ module _ (bytes : List ℕ) (at value : ℕ) (inside : at < length bytes) (so_fa
       → (nat_lt 0 (length (take at bytes)) && is_plain (take at bytes)) ≡ true
       → bytes ≡ decimal value ++ end ∷ drop (at + 1) bytes
   number_ends end e whole =
-      let here : number_of (take at bytes) ≡ Some value =
+      let here : numeral_value (take at bytes) ≡ Some value =
       all (all_ascii_digits (take at bytes)) (nat_lt 0 (length (take at bytes))) (is_plain (take at bytes))
       (nat_lt (digits_value 10 (take at bytes)) (2 ^ 64)) (digits_value 10 (take at bytes)) so_far.0 whole
       (small (digits_value 10 (take at bytes)) value so_far.1 so_far.2) (sym so_far.1) in

@@ -29,18 +29,16 @@ use Rattle.std.proofs.Common.{
   ◌≤◌,
   All,
 }
-use mathlib.Core.Bool.{◌&&◌}
 use Rattle.std.proofs.lemmas.Bool.Decides.{nat_tests}
 use Rattle.std.proofs.lemmas.List.Elements.{All-nil, All-cons}
 use Rattle.std.proofs.lemmas.List.Splits.{join_with_byte-slice_split}
 use Rattle.std.specs.List.{join_with_byte, flat_map, list_all}
 use Rattle.std.specs.Str.{bytes_eq}
 use Rattle.std.specs.Cmp.Lexicographic.{same_text}
-use Rattle.wait_model.specs.declared.calls.Call.{Call}
-use Rattle.wait_model.specs.declared.calls.Call.TheVariants as call
-use Rattle.wait_model.specs.declared.queues.Form.TheVariants as form
-use Rattle.wait_model.specs.Admission.{is_in_range}
+use Rattle.wait_model.specs.declared.layout.TheConstants.{EVENTS, LINE_BYTES}
 use Rattle.wait_script.specs.declared.line.Line.{Line}
+use Rattle.wait_script.specs.declared.reason.Reason.{Reason}
+use Rattle.wait_script.specs.declared.reason.Reason.TheVariants.{CutLine, LongLine, BadByte, NoHeader, UnknownWord}
 use Rattle.wait_script.specs.declared.line.Line.TheVariants as line
 use Rattle.wait_script.specs.Words.{words_of, both_of}
 use Rattle.wait_script.specs.Fields.{number_at, last_task, last_priority_task}
@@ -55,57 +53,39 @@ use Rattle.wait_script.specs.Lines.{
   is_printable,
 }
 use Rattle.wait_script.specs.Script.{parts_of, and_lines, lines_from, under, headed, script_of}
-use Rattle.wait_script.specs.Spelling.{call_words, line_words, line_text, script_text, IsFit}
-use Rattle.wait_script.proofs.ReadFields.{chosen, made_ok, both_ok, both_true, number_ok, number_fits}
+use Rattle.wait_script.specs.Spelling.{line_words, line_text, script_text, IsFit}
+use Rattle.wait_script.proofs.Callers.{last_by, for_task}
+use Rattle.wait_script.proofs.ReadFields.{chosen, made_ok, both_ok, number_ok, number_fits}
 use Rattle.wait_script.proofs.ReadForms.{named_ok}
 
 -- the words of a line, and the line that they say
-abbrev IsReadAs : List (List ℕ) → Line → Type 0
-IsReadAs words l = (words ≡ line_words l) × IsFit l
+abbrev IsLineReadAs : List (List ℕ) → Line → Type 0
+IsLineReadAs words l = (words ≡ line_words l) × IsFit l
 
 words3 : (name a x : List ℕ) (b y : List (List ℕ)) → a ≡ x → b ≡ y → name ∷ a ∷ b ≡ name ∷ x ∷ y
 words3 name a x b y p q = cc
 
-step_ok : (words : List (List ℕ)) (l : Line) → step_at words ≡ Ok l → IsReadAs (codes "step" ∷ words) l
+step_ok : (words : List (List ℕ)) (l : Line) → step_at words ≡ Ok l → IsLineReadAs (codes "step" ∷ words) l
 step_ok [] l e = absurd (cc (e))
 step_ok (a ∷ []) l e = absurd (cc (e))
 step_ok (a ∷ b ∷ []) l e =
-    let m = made_ok (λ f. line.Step f.0 f.1) (both_of (number_at 0 last_task a) (number_at 1 1000000 b)) l e
+    let m = made_ok (λ f. line.Step f.0 f.1) (both_of (number_at 0 last_task a) (number_at 1 EVENTS b)) l e
     in
-    let f = both_ok (number_at 0 last_task a) (number_at 1 1000000 b) m.0 m.1 in
-    let n = number_fits 1 1000000 b m.0.1 f.1 in
-    subst (λ x. IsReadAs (codes "step" ∷ a ∷ b ∷ []) x) m.2 (
+    let f = both_ok (number_at 0 last_task a) (number_at 1 EVENTS b) m.0 m.1 in
+    let n = number_fits 1 EVENTS b m.0.1 f.1 in
+    subst (λ x. IsLineReadAs (codes "step" ∷ a ∷ b ∷ []) x) m.2 (
       words3 (codes "step") a _ (b ∷ []) _ (number_ok 0 last_task a m.0.0 f.0)
-          (ap (λ w. w ∷ []) (number_ok 1 1000000 b m.0.1 f.1)),
+          (ap (λ w. w ∷ []) (number_ok 1 EVENTS b m.0.1 f.1)),
       ((number_fits 0 last_task a m.0.0 f.0).1, n.0, n.1),
     )
 step_ok (a ∷ b ∷ d ∷ more) l e = absurd (cc (e))
-
--- the last task that may make a call, by its words
-abbrev last_by : List (List ℕ) → ℕ
-last_by [] = last_task
-last_by (name ∷ rest) = last_of name rest
 
 -- no call is for a task above the last one
 last_fits : (b : Bool) (n : ℕ) → n ≤ cond b last_priority_task last_task → n ≤ last_task
 last_fits true n h = omega (arith, h)
 last_fits false n h = h
 
--- a call that task 0 may make is one of each task up to the last one
-for_task : (c : Call) (task : ℕ) → task ≤ last_by (call_words c) → is_in_range 0 c ≡ true
-    → is_in_range task c ≡ true
-for_task (call.Add c k form.Front) task h r = r
-for_task (call.Add c k form.Tail) task h r = r
-for_task (call.Add c k form.Priority) task h r =
-    let few : nat_lt task 64 ≡ true = grind (arith, nat_tests) in
-    both_true (nat_lt c 48) (nat_lt task 64) (full (nat_lt c 48) r) few
-  where
-    full : (a : Bool) → (a && true) ≡ true → a ≡ true
-    full true r = refl
-    full false r = absurd (cc (r))
-for_task _ task h r = r
-
-call_ok : (words : List (List ℕ)) (l : Line) → call_at words ≡ Ok l → IsReadAs (codes "call" ∷ words) l
+call_ok : (words : List (List ℕ)) (l : Line) → call_at words ≡ Ok l → IsLineReadAs (codes "call" ∷ words) l
 call_ok [] l e = absurd (cc (e))
 call_ok (a ∷ []) l e = absurd (cc (e))
 call_ok (a ∷ name ∷ rest) l e =
@@ -114,36 +94,37 @@ call_ok (a ∷ name ∷ rest) l e =
     let f = both_ok task (named_at name rest) m.0 m.1 in
     let n = named_ok name rest m.0.1 f.1 in
     let most : m.0.0 ≤ last_of name rest = (number_fits 0 (last_of name rest) a m.0.0 f.0).1 in
+    let low = last_fits (is_priority_add name rest) m.0.0 most in
     let fit = n.1 in
-    subst (λ x. IsReadAs (codes "call" ∷ a ∷ name ∷ rest) x) m.2 (
+    subst (λ x. IsLineReadAs (codes "call" ∷ a ∷ name ∷ rest) x) m.2 (
       words3 (codes "call") a _ (name ∷ rest) _ (number_ok 0 (last_of name rest) a m.0.0 f.0) n.0,
       (
-        last_fits (is_priority_add name rest) m.0.0 most,
-        (for_task m.0.1 m.0.0 (subst (λ ws. m.0.0 ≤ last_by ws) n.0 most) fit.0, fit.1, fit.2),
+        low,
+        (for_task m.0.1 m.0.0 low (subst (λ ws. m.0.0 ≤ last_by ws) n.0 most) fit.0, fit.1, fit.2, fit.3),
       ),
     )
 
-words_ok : (words : List (List ℕ)) (l : Line) → words_at words ≡ Ok l → IsReadAs words l
+words_ok : (words : List (List ℕ)) (l : Line) → words_at words ≡ Ok l → IsLineReadAs words l
 words_ok [] l e = absurd (cc (e))
 words_ok (verb ∷ rest) l e =
     ⊎_elim
-    (λ p. subst (λ n. IsReadAs (n ∷ rest) l) (sym (same_text verb (codes "call") (sym p.0)))
+    (λ p. subst (λ n. IsLineReadAs (n ∷ rest) l) (sym (same_text verb (codes "call") (sym p.0)))
     (call_ok rest l p.1))
     (λ p. ⊎_elim
-    (λ q. subst (λ n. IsReadAs (n ∷ rest) l) (sym (same_text verb (codes "step") (sym q.0)))
+    (λ q. subst (λ n. IsLineReadAs (n ∷ rest) l) (sym (same_text verb (codes "step") (sym q.0)))
     (step_ok rest l q.1))
     (λ q. absurd (cc (q.1)))
-    (chosen (bytes_eq verb (codes "step")) (step_at rest) (Err 5) (Ok l) p.1))
+    (chosen (bytes_eq verb (codes "step")) (step_at rest) (Err UnknownWord) (Ok l) p.1))
     (chosen (bytes_eq verb (codes "call")) (call_at rest) _ (Ok l) e)
 
-plain_ok : {A : Type 0} (says : List ℕ → Result A ℕ) (text : List ℕ) (x : A) → plain_at says text ≡ Ok x
+plain_ok : {A : Type 0} (says : List ℕ → Result A Reason) (text : List ℕ) (x : A) → plain_at says text ≡ Ok x
     → says text ≡ Ok x
 plain_ok says text x e =
     ⊎_elim
     (λ p. cc (p.1))
-    (λ p. ⊎_elim (λ q. q.1) (λ q. cc (q.1)) (chosen (list_all is_printable text) (says text) (Err 3)
+    (λ p. ⊎_elim (λ q. q.1) (λ q. cc (q.1)) (chosen (list_all is_printable text) (says text) (Err BadByte)
     (Ok x) p.1))
-    (chosen (nat_lt 200 (length text)) (Err 2) _ (Ok x) e)
+    (chosen (nat_lt LINE_BYTES (length text)) (Err LongLine) _ (Ok x) e)
 
 -- the text of a line, and the line that it says
 abbrev IsLine : List ℕ → Line → Type 0
@@ -159,10 +140,10 @@ header_ok text x e =
     ⊎_elim
     (λ p. same_text text (codes "waitq 1") (sym p.0))
     (λ p. cc (p.1))
-    (chosen (bytes_eq text (codes "waitq 1")) (Ok tt) (Err 4) (Ok x)
-    (plain_ok (λ h. cond (bytes_eq h (codes "waitq 1")) (Ok tt) (Err 4)) text x e))
+    (chosen (bytes_eq text (codes "waitq 1")) (Ok tt) (Err NoHeader) (Ok x)
+    (plain_ok (λ h. cond (bytes_eq h (codes "waitq 1")) (Ok tt) (Err NoHeader)) text x e))
 
-and_ok : (number : ℕ) (a : Result Line ℕ) (b : Result (List Line) (ℕ × ℕ)) (lines : List Line)
+and_ok : (number : ℕ) (a : Result Line Reason) (b : Result (List Line) (ℕ × Reason)) (lines : List Line)
     → and_lines number a b ≡ Ok lines
     → (l : Line) × (more : List Line) × (a ≡ Ok l) × (b ≡ Ok more) × (l ∷ more ≡ lines)
 and_ok number (Ok l) (Ok more) lines e = (l, more, refl, refl, cc)
@@ -204,7 +185,7 @@ lines_ok number part [] lines e =
     ⊎_elim
     (λ p. no_lines part lines (empty part p.0) (cc (p.1)))
     (λ p. absurd (cc (p.1)))
-    (chosen (eqb (length part) 0) (Ok []) (Err (number, 1)) (Ok lines) e)
+    (chosen (eqb (length part) 0) (Ok []) (Err (number, CutLine)) (Ok lines) e)
 lines_ok number part (next ∷ more) lines e =
     let a = and_ok number (line_at part) (lines_from (number + 1) (next ∷ more)) lines e in
     one_more part (join_with_byte 10 (next ∷ more)) a.0 a.1 lines (line_ok part a.0 a.2)
@@ -214,7 +195,7 @@ lines_ok number part (next ∷ more) lines e =
 abbrev pub IsScript : List ℕ → List Line → Type 0
 IsScript bytes lines = (bytes ≡ script_text lines) × All IsFit lines
 
-under_ok : (h : Result (Unit {0}) ℕ) (r : Result (List Line) (ℕ × ℕ)) (lines : List Line)
+under_ok : (h : Result (Unit {0}) Reason) (r : Result (List Line) (ℕ × Reason)) (lines : List Line)
     → under h r ≡ Ok lines
     → (x : Unit {0}) × (h ≡ Ok x) × (r ≡ Ok lines)
 under_ok (Ok x) r lines e = (x, refl, e)
@@ -224,8 +205,8 @@ headed_ok : (parts : List (List ℕ)) (lines : List Line) → headed parts ≡ O
     → IsScript (join_with_byte 10 parts) lines
 headed_ok [] lines e = absurd (cc (e))
 headed_ok (header ∷ []) lines e =
-    ⊎_elim (λ p. absurd (cc (p.1))) (λ p. absurd (cc (p.1))) (chosen (eqb (length header) 0) (Err (1, 4))
-    (Err (1, 1)) (Ok lines) e)
+    ⊎_elim (λ p. absurd (cc (p.1))) (λ p. absurd (cc (p.1))) (chosen (eqb (length header) 0) (Err (1, NoHeader))
+    (Err (1, CutLine)) (Ok lines) e)
 headed_ok (header ∷ next ∷ more) lines e =
     let u = under_ok (header_at header) (lines_from 2 (next ∷ more)) lines e in
     let r = lines_ok 2 next more lines u.2 in (

@@ -1,18 +1,48 @@
 -- The words of a line that fits say that line.
-use Rattle.std.proofs.Common.{◌≡◌, ℕ, ◌+◌, ◌≤◌, Bool, true, false, List, [], ◌∷◌, Result, Ok, length, codes, decimal, refl, arith, nat_lt}
+use Rattle.std.proofs.Common.{
+  ◌≡◌,
+  ℕ,
+  ◌+◌,
+  ◌≤◌,
+  Bool,
+  true,
+  false,
+  List,
+  [],
+  ◌∷◌,
+  Result,
+  Ok,
+  length,
+  codes,
+  decimal,
+  refl,
+  arith,
+  nat_lt,
+}
 use mathlib.Core.Bool.{◌&&◌, ◌||◌, not}
 use Rattle.std.proofs.lemmas.Bool.Decides.{nat_tests}
 use Rattle.wait_model.specs.declared.calls.Call.{Call}
 use Rattle.wait_model.specs.declared.calls.Call.TheVariants as call
-use Rattle.wait_model.specs.declared.queues.Form.TheVariants as form
 use Rattle.wait_model.specs.Queues.{is_priority}
+use Rattle.wait_model.specs.declared.layout.TheConstants.{
+  BIT_WORDS,
+  EVENTS,
+  FIRST_SIMPLE,
+  PLAIN_CONDITIONS,
+  PRIORITY_TASKS,
+  SCRIPT_SELECTED,
+  TASKS,
+  WORD_BITS,
+}
+use Rattle.wait_script.specs.declared.reason.Reason.{Reason}
 use Rattle.wait_script.specs.declared.line.Line.{Line}
 use Rattle.wait_script.specs.declared.line.Line.TheVariants as line
 use Rattle.wait_script.specs.Words.{both_of, made_of}
-use Rattle.wait_script.specs.Fields.{last_task}
+use Rattle.wait_script.specs.Fields.{last_task, last_full, last_cond, last_cell, last_var, last_word, last_bit}
 use Rattle.wait_script.specs.Forms.{named_at, last_of}
 use Rattle.wait_script.specs.Lines.{words_at}
 use Rattle.wait_script.specs.Spelling.{call_words, line_words, IsFitCall, IsFit}
+use Rattle.wait_script.proofs.Callers.{last_by, is_caller}
 use Rattle.wait_script.proofs.SpelledWords.{
   parts_true,
   IsWord,
@@ -42,27 +72,28 @@ use Rattle.wait_script.proofs.SpelledWords.{
 }
 
 -- fields that are read make their call
-made1 : {A B : Type 0} (f : A → B) (r : Result A ℕ) (x : A) → r ≡ Ok x → made_of f r ≡ Ok (f x)
+made1 : {A B : Type 0} (f : A → B) (r : Result A Reason) (x : A) → r ≡ Ok x → made_of f r ≡ Ok (f x)
 made1 f r x p = rw p refl
 
-made2 : {A B C : Type 0} (f : A × B → C) (a : Result A ℕ) (b : Result B ℕ) (x : A) (y : B) → a ≡ Ok x
+made2 : {A B C : Type 0} (f : A × B → C) (a : Result A Reason) (b : Result B Reason) (x : A) (y : B) → a ≡ Ok x
     → b ≡ Ok y → made_of f (both_of a b) ≡ Ok (f (x, y))
 made2 f a b x y p q = rw (p, q) refl
 
-made3 : {A B C D : Type 0} (f : A × (B × C) → D) (a : Result A ℕ) (b : Result B ℕ) (d : Result C ℕ) (x : A)
-    (y : B) (z : C) → a ≡ Ok x → b ≡ Ok y → d ≡ Ok z
+made3 : {A B C D : Type 0} (f : A × (B × C) → D) (a : Result A Reason) (b : Result B Reason) (d : Result C Reason)
+    (x : A) (y : B) (z : C) → a ≡ Ok x → b ≡ Ok y → d ≡ Ok z
     → made_of f (both_of a (both_of b d)) ≡ Ok (f (x, (y, z)))
 made3 f a b d x y z p q r = rw (p, q, r) refl
 
 upto : (most n : ℕ) → nat_lt n (most + 1) ≡ true → n ≤ most
 upto most n h = grind (arith, nat_tests)
 
-from_simple : (n : ℕ) → (not (nat_lt n 48) && nat_lt n 64) ≡ true → (48 ≤ n) × (n ≤ 63)
+from_simple : (n : ℕ) → (not (nat_lt n FIRST_SIMPLE) && nat_lt n PLAIN_CONDITIONS) ≡ true
+    → (FIRST_SIMPLE ≤ n) × (n ≤ last_cond)
 from_simple n h =
-    let p = parts_true (not (nat_lt n 48)) (nat_lt n 64) h in
-    (at_least n (nat_lt n 48) p.0 refl, upto 63 n p.1)
+    let p = parts_true (not (nat_lt n FIRST_SIMPLE)) (nat_lt n PLAIN_CONDITIONS) h in
+    (at_least n (nat_lt n FIRST_SIMPLE) p.0 refl, upto last_cond n p.1)
   where
-    at_least : (n : ℕ) (b : Bool) → not b ≡ true → nat_lt n 48 ≡ b → 48 ≤ n
+    at_least : (n : ℕ) (b : Bool) → not b ≡ true → nat_lt n FIRST_SIMPLE ≡ b → FIRST_SIMPLE ≤ n
     at_least n true t e = absurd (cc (t))
     at_least n false t e = grind (arith, nat_tests)
 
@@ -73,45 +104,45 @@ Says (name ∷ rest) c = (named_at name rest ≡ Ok c) × IsWord name × AreWord
 
 call_said : (c : Call) (task : ℕ) → IsFitCall task c → Says (call_words c) c
 call_said (call.Wait cond how) task h =
-    let m = upto 47 cond h.0 in (
-      made2 (λ f. call.Wait f.0 f.1) _ _ cond how (numbered_read 99 0 47 cond (omega (arith, m))
+    let m = upto last_full cond h.0 in (
+      made2 (λ f. call.Wait f.0 f.1) _ _ cond how (numbered_read 99 0 last_full cond (omega (arith, m))
           (omega (arith, m)) (omega (arith, m))) (how_read how h.1),
       refl,
       (letter_word 99 cond refl (omega (arith, m)), (how_is_word how, tt)),
       omega arith,
     )
 call_said (call.Set cond value) task h =
-    let m = upto 63 cond h.0 in (
-      made2 (λ f. call.Set f.0 f.1) _ _ cond value (numbered_read 99 0 63 cond (omega (arith, m))
+    let m = upto last_cond cond h.0 in (
+      made2 (λ f. call.Set f.0 f.1) _ _ cond value (numbered_read 99 0 last_cond cond (omega (arith, m))
           (omega (arith, m)) (omega (arith, m))) (value_read value h.2),
       refl,
       (letter_word 99 cond refl (omega (arith, m)), (number_word value h.2, tt)),
       omega arith,
     )
 call_said (call.Take cond) task h =
-    let m = upto 63 cond h.0 in (
-      made1 (λ f. call.Take f) _ cond (numbered_read 99 0 63 cond (omega (arith, m)) (omega (arith, m))
+    let m = upto last_cond cond h.0 in (
+      made1 (λ f. call.Take f) _ cond (numbered_read 99 0 last_cond cond (omega (arith, m)) (omega (arith, m))
           (omega (arith, m))),
       refl,
       (letter_word 99 cond refl (omega (arith, m)), tt),
       omega arith,
     )
 call_said (call.Read cond) task h =
-    let m = upto 63 cond h.0 in (
-      made1 (λ f. call.Read f) _ cond (numbered_read 99 0 63 cond (omega (arith, m)) (omega (arith, m))
+    let m = upto last_cond cond h.0 in (
+      made1 (λ f. call.Read f) _ cond (numbered_read 99 0 last_cond cond (omega (arith, m)) (omega (arith, m))
           (omega (arith, m))),
       refl,
       (letter_word 99 cond refl (omega (arith, m)), tt),
       omega arith,
     )
 call_said (call.Wake cond mode count) task h =
-    let p = parts_true (nat_lt cond 48) (nat_lt count 128) h.0 in
-    let m = upto 47 cond p.0 in
-    let n = upto 127 count p.1 in (
+    let p = parts_true (nat_lt cond FIRST_SIMPLE) (nat_lt count TASKS) h.0 in
+    let m = upto last_full cond p.0 in
+    let n = h.3 in (
       made3 (λ f. call.Wake f.0 f.1.0 f.1.1) _ _ _ cond mode count
-          (numbered_read 99 0 47 cond (omega (arith, m)) (omega (arith, m)) (omega (arith, m)))
+          (numbered_read 99 0 last_full cond (omega (arith, m)) (omega (arith, m)) (omega (arith, m)))
           (mode_read mode)
-          (number_read 0 127 count (omega arith) n (omega (arith, n))),
+          (number_read 0 SCRIPT_SELECTED count (omega arith) n (omega (arith, n))),
       refl,
       (
         letter_word 99 cond refl (omega (arith, m)),
@@ -120,10 +151,10 @@ call_said (call.Wake cond mode count) task h =
       omega arith,
     )
 call_said (call.Add cond kind form) task h =
-    let p = parts_true (nat_lt cond 48) (not (is_priority form) || nat_lt task 64) h.0 in
-    let m = upto 47 cond p.0 in (
+    let p = parts_true (nat_lt cond FIRST_SIMPLE) (not (is_priority form) || nat_lt task PRIORITY_TASKS) h.0 in
+    let m = upto last_full cond p.0 in (
       made3 (λ f. call.Add f.0 f.1.0 f.1.1) _ _ _ cond kind form
-          (numbered_read 99 0 47 cond (omega (arith, m)) (omega (arith, m)) (omega (arith, m)))
+          (numbered_read 99 0 last_full cond (omega (arith, m)) (omega (arith, m)) (omega (arith, m)))
           (kind_read kind h.1)
           (form_read form),
       refl,
@@ -135,9 +166,9 @@ call_said call.Remove task h =
 call_said (call.Woken state) task h =
     (made1 (λ f. call.Woken f) _ state (state_read state), refl, (state_is_word state, tt), omega arith)
 call_said (call.Signal who fatal) task h =
-    let m = upto 127 who h.0 in (
+    let m = h.3 in (
       made2 (λ f. call.Signal f.0 f.1) _ _ who fatal
-          (number_read 0 127 who (omega arith) m (omega (arith, m)))
+          (number_read 0 last_task who (omega arith) m (omega (arith, m)))
           (fatal_read fatal),
       refl,
       (number_word who (omega (arith, m)), (fatal_is_word fatal, tt)),
@@ -146,8 +177,8 @@ call_said (call.Signal who fatal) task h =
 call_said call.Accept task h =
     (refl, refl, tt, omega arith)
 call_said (call.Kick who) task h =
-    let m = upto 127 who h.0 in (
-      made1 (λ f. call.Kick f) _ who (number_read 0 127 who (omega arith) m (omega (arith, m))),
+    let m = h.3 in (
+      made1 (λ f. call.Kick f) _ who (number_read 0 last_task who (omega arith) m (omega (arith, m))),
       refl,
       (number_word who (omega (arith, m)), tt),
       omega arith,
@@ -155,7 +186,7 @@ call_said (call.Kick who) task h =
 call_said (call.SimpleWait cond state) task h =
     let p = from_simple cond h.0 in (
       made2 (λ f. call.SimpleWait f.0 f.1) _ _ cond state
-          (numbered_read 99 48 63 cond p.0 p.1 (omega (arith, p.1))) (simple_state_read state h.1),
+          (numbered_read 99 FIRST_SIMPLE last_cond cond p.0 p.1 (omega (arith, p.1))) (simple_state_read state h.1),
       refl,
       (letter_word 99 cond refl (omega (arith, p.1)), (state_is_word state, tt)),
       omega arith,
@@ -163,35 +194,35 @@ call_said (call.SimpleWait cond state) task h =
 call_said (call.SimpleWake cond all) task h =
     let p = from_simple cond h.0 in (
       made2 (λ f. call.SimpleWake f.0 f.1) _ _ cond all
-          (numbered_read 99 48 63 cond p.0 p.1 (omega (arith, p.1))) (all_read all),
+          (numbered_read 99 FIRST_SIMPLE last_cond cond p.0 p.1 (omega (arith, p.1))) (all_read all),
       refl,
       (letter_word 99 cond refl (omega (arith, p.1)), (all_is_word all, tt)),
       omega arith,
     )
 call_said (call.Complete cell) task h =
-    let m = upto 63 cell h.0 in (
-      made1 (λ f. call.Complete f) _ cell (numbered_read 100 0 63 cell (omega arith) m (omega (arith, m))),
+    let m = upto last_cell cell h.0 in (
+      made1 (λ f. call.Complete f) _ cell (numbered_read 100 0 last_cell cell (omega arith) m (omega (arith, m))),
       refl,
       (letter_word 100 cell refl (omega (arith, m)), tt),
       omega arith,
     )
 call_said (call.CompleteAll cell) task h =
-    let m = upto 63 cell h.0 in (
-      made1 (λ f. call.CompleteAll f) _ cell (numbered_read 100 0 63 cell (omega arith) m (omega (arith, m))),
+    let m = upto last_cell cell h.0 in (
+      made1 (λ f. call.CompleteAll f) _ cell (numbered_read 100 0 last_cell cell (omega arith) m (omega (arith, m))),
       refl,
       (letter_word 100 cell refl (omega (arith, m)), tt),
       omega arith,
     )
 call_said (call.Reinit cell) task h =
-    let m = upto 63 cell h.0 in (
-      made1 (λ f. call.Reinit f) _ cell (numbered_read 100 0 63 cell (omega arith) m (omega (arith, m))),
+    let m = upto last_cell cell h.0 in (
+      made1 (λ f. call.Reinit f) _ cell (numbered_read 100 0 last_cell cell (omega arith) m (omega (arith, m))),
       refl,
       (letter_word 100 cell refl (omega (arith, m)), tt),
       omega arith,
     )
 call_said (call.WaitFor cell state) task h =
-    let m = upto 63 cell h.0 in (
-      made2 (λ f. call.WaitFor f.0 f.1) _ _ cell state (numbered_read 100 0 63 cell (omega arith) m
+    let m = upto last_cell cell h.0 in (
+      made2 (λ f. call.WaitFor f.0 f.1) _ _ cell state (numbered_read 100 0 last_cell cell (omega arith) m
           (omega (arith, m))) (state_read state),
       refl,
       (
@@ -201,67 +232,67 @@ call_said (call.WaitFor cell state) task h =
       omega arith,
     )
 call_said (call.TryWait cell) task h =
-    let m = upto 63 cell h.0 in (
-      made1 (λ f. call.TryWait f) _ cell (numbered_read 100 0 63 cell (omega arith) m (omega (arith, m))),
+    let m = upto last_cell cell h.0 in (
+      made1 (λ f. call.TryWait f) _ cell (numbered_read 100 0 last_cell cell (omega arith) m (omega (arith, m))),
       refl,
       (letter_word 100 cell refl (omega (arith, m)), tt),
       omega arith,
     )
 call_said (call.IsDone cell) task h =
-    let m = upto 63 cell h.0 in (
-      made1 (λ f. call.IsDone f) _ cell (numbered_read 100 0 63 cell (omega arith) m (omega (arith, m))),
+    let m = upto last_cell cell h.0 in (
+      made1 (λ f. call.IsDone f) _ cell (numbered_read 100 0 last_cell cell (omega arith) m (omega (arith, m))),
       refl,
       (letter_word 100 cell refl (omega (arith, m)), tt),
       omega arith,
     )
 call_said (call.TryBit w b) task h =
-    let p = parts_true (nat_lt w 128) (nat_lt b 64) h.0 in
-    let m = upto 127 w p.0 in
-    let n = upto 63 b p.1 in (
+    let p = parts_true (nat_lt w BIT_WORDS) (nat_lt b WORD_BITS) h.0 in
+    let m = upto last_word w p.0 in
+    let n = upto last_bit b p.1 in (
       made1 (λ f. call.TryBit f.0 f.1) _ (w, b) (bit_read w b m n),
       refl,
       (bit_word w b (omega (arith, m)) (omega (arith, n)), tt),
       omega arith,
     )
 call_said (call.WaitBit w b state) task h =
-    let p = parts_true (nat_lt w 128) (nat_lt b 64) h.0 in
-    let m = upto 127 w p.0 in
-    let n = upto 63 b p.1 in (
+    let p = parts_true (nat_lt w BIT_WORDS) (nat_lt b WORD_BITS) h.0 in
+    let m = upto last_word w p.0 in
+    let n = upto last_bit b p.1 in (
       made2 (λ f. call.WaitBit f.0.0 f.0.1 f.1) _ _ (w, b) state (bit_read w b m n) (state_read state),
       refl,
       (bit_word w b (omega (arith, m)) (omega (arith, n)), (state_is_word state, tt)),
       omega arith,
     )
 call_said (call.LockBit w b state) task h =
-    let p = parts_true (nat_lt w 128) (nat_lt b 64) h.0 in
-    let m = upto 127 w p.0 in
-    let n = upto 63 b p.1 in (
+    let p = parts_true (nat_lt w BIT_WORDS) (nat_lt b WORD_BITS) h.0 in
+    let m = upto last_word w p.0 in
+    let n = upto last_bit b p.1 in (
       made2 (λ f. call.LockBit f.0.0 f.0.1 f.1) _ _ (w, b) state (bit_read w b m n) (state_read state),
       refl,
       (bit_word w b (omega (arith, m)) (omega (arith, n)), (state_is_word state, tt)),
       omega arith,
     )
 call_said (call.ClearBit w b) task h =
-    let p = parts_true (nat_lt w 128) (nat_lt b 64) h.0 in
-    let m = upto 127 w p.0 in
-    let n = upto 63 b p.1 in (
+    let p = parts_true (nat_lt w BIT_WORDS) (nat_lt b WORD_BITS) h.0 in
+    let m = upto last_word w p.0 in
+    let n = upto last_bit b p.1 in (
       made1 (λ f. call.ClearBit f.0 f.1) _ (w, b) (bit_read w b m n),
       refl,
       (bit_word w b (omega (arith, m)) (omega (arith, n)), tt),
       omega arith,
     )
 call_said (call.WaitVar var old state) task h =
-    let m = upto 127 var h.0 in (
+    let m = upto last_var var h.0 in (
       made3 (λ f. call.WaitVar f.0 f.1.0 f.1.1) _ _ _ var old state
-          (numbered_read 118 0 127 var (omega arith) m (omega (arith, m))) (value_read old h.2)
+          (numbered_read 118 0 last_var var (omega arith) m (omega (arith, m))) (value_read old h.2)
           (state_read state),
       refl,
       (letter_word 118 var refl (omega (arith, m)), (number_word old h.2, (state_is_word state, tt))),
       omega arith,
     )
 call_said (call.SetVar var value) task h =
-    let m = upto 127 var h.0 in (
-      made2 (λ f. call.SetVar f.0 f.1) _ _ var value (numbered_read 118 0 127 var (omega arith) m
+    let m = upto last_var var h.0 in (
+      made2 (λ f. call.SetVar f.0 f.1) _ _ var value (numbered_read 118 0 last_var var (omega arith) m
           (omega (arith, m))) (value_read value h.2),
       refl,
       (
@@ -270,19 +301,6 @@ call_said (call.SetVar var value) task h =
       ),
       omega arith,
     )
-
--- the last task of a call, by its words
-abbrev last_by : List (List ℕ) → ℕ
-last_by [] = last_task
-last_by (name ∷ rest) = last_of name rest
-
--- the task is one that may make the call
-for_task : (c : Call) (task : ℕ) → task ≤ last_task → IsFitCall task c → task ≤ last_by (call_words c)
-for_task (call.Add cond kind form.Front) task h f = h
-for_task (call.Add cond kind form.Tail) task h f = h
-for_task (call.Add cond kind form.Priority) task h f =
-    upto 63 task (parts_true (nat_lt cond 48) (nat_lt task 64) f.0).1
-for_task _ task h f = h
 
 -- the words of a line are a first one and others, at most five, and say it
 abbrev pub IsSaid : Line → Type 0
@@ -305,7 +323,7 @@ said_call task c (name ∷ rest) is s fit most = (
 
 pub line_said : (l : Line) → IsFit l → IsSaid l
 line_said (line.Call task c) h =
-    said_call task c (call_words c) refl (call_said c task h.1) (for_task c task h.0 h.1) h.0
+    said_call task c (call_words c) refl (call_said c task h.1) (is_caller c task h.0 h.1.0) h.0
 line_said (line.Step task count) h = (
   codes "step",
   decimal task ∷ decimal count ∷ [],
@@ -315,5 +333,5 @@ line_said (line.Step task count) h = (
   omega arith,
   made2 (λ f. line.Step f.0 f.1) _ _ task count
       (number_read 0 last_task task (omega arith) h.0 (omega (arith, h.0)))
-      (number_read 1 1000000 count h.1 h.2 (omega (arith, h.2))),
+      (number_read 1 EVENTS count h.1 h.2 (omega (arith, h.2))),
 )

@@ -1,17 +1,48 @@
 -- A script that is spelled as lines that fit is read as those lines.
-use Rattle.std.proofs.Common.{◌≡◌, ℕ, ◌+◌, ◌*◌, ◌≤◌, ◌<◌, Bool, true, false, cond, eqb, List, [], ◌∷◌, ◌++◌, Ok, Err, All, length, codes, refl, ap, ◌∙◌, arith, append_assoc, nat_le, nat_lt, length-append}
+use Rattle.std.proofs.Common.{
+  ◌≡◌,
+  ℕ,
+  ◌+◌,
+  ◌*◌,
+  ◌≤◌,
+  ◌<◌,
+  Bool,
+  true,
+  false,
+  cond,
+  eqb,
+  List,
+  [],
+  ◌∷◌,
+  ◌++◌,
+  Ok,
+  Err,
+  All,
+  length,
+  codes,
+  refl,
+  ap,
+  ◌∙◌,
+  arith,
+  append_assoc,
+  nat_le,
+  nat_lt,
+  length-append,
+}
 use Rattle.std.proofs.lemmas.Bool.Decides.{nat_tests}
 use Rattle.std.proofs.lemmas.List.Splits.{slice_split_at, slice_split_none}
 use Rattle.std.proofs.lemmas.List.Folds.{list_all-append}
 use Rattle.std.proofs.lemmas.List.Elements.{All-nil, All-cons, All-head, All-tail}
 use Rattle.std.specs.List.{join_with_byte, flat_map, list_all}
+use Rattle.wait_model.specs.declared.layout.TheConstants.{LINE_BYTES}
 use Rattle.wait_script.specs.declared.line.Line.{Line}
+use Rattle.wait_script.specs.declared.reason.Reason.TheVariants.{LongLine, BadByte}
 use Rattle.wait_script.specs.Words.{words_of}
 use Rattle.wait_script.specs.Lines.{words_at, line_at, is_printable}
 use Rattle.wait_script.specs.Script.{is_end, parts_of, and_lines, lines_from, script_of}
-use Rattle.wait_script.specs.Reading.{IsFirst}
+use Rattle.wait_script.specs.Reading.{IsFirstLine}
 use Rattle.wait_script.specs.Spelling.{line_words, line_text, script_text, IsFit}
-use Rattle.wait_script.proofs.Parts.{lines_from-step, good_header}
+use Rattle.wait_script.proofs.LineParts.{lines_from-step, good_header}
 use Rattle.wait_script.proofs.SpelledWords.{both_true, parts_true, in_word, IsWord, AreWords}
 use Rattle.wait_script.proofs.SpelledForms.{line_said}
 
@@ -81,18 +112,18 @@ line_from l word words is h hs few said =
     let text : line_text l ≡ join_with_byte 32 (word ∷ words) = ap (join_with_byte 32) is in
     let print = ap (list_all is_printable) text ∙ words_print word words h hs in
     let cut : words_of (line_text l) ≡ word ∷ words = ap words_of text ∙ cut_words word words h hs in
-    let most : nat_lt 200 (length (line_text l)) ≡ false =
-    ap (λ t. nat_lt 200 (length t)) text
+    let most : nat_lt LINE_BYTES (length (line_text l)) ≡ false =
+    ap (λ t. nat_lt LINE_BYTES (length t)) text
     ∙ fits (length (join_with_byte 32 (word ∷ words))) (length words) (short word words h hs) few in (
-      ap (λ b. cond b (Err 2) (cond (list_all is_printable (line_text l)) (words_at (words_of (line_text l)))
-          (Err 3))) most
-          ∙ ap (λ b. cond b (words_at (words_of (line_text l))) (Err 3)) print
+      ap (λ b. cond b (Err LongLine) (cond (list_all is_printable (line_text l)) (words_at (words_of (line_text l)))
+          (Err BadByte))) most
+          ∙ ap (λ b. cond b (words_at (words_of (line_text l))) (Err BadByte)) print
           ∙ ap words_at cut ∙ said,
       print,
     )
   where
-    fits : (n m : ℕ) → n ≤ 20 + 21 * m → m ≤ 5 → nat_lt 200 n ≡ false
-    fits n m h few = let le : n ≤ 200 = omega (arith, h, few) in grind (arith, nat_tests)
+    fits : (n m : ℕ) → n ≤ 20 + 21 * m → m ≤ 5 → nat_lt LINE_BYTES n ≡ false
+    fits n m h few = let le : n ≤ LINE_BYTES = omega (arith, h, few) in grind (arith, nat_tests)
 
 read_back : (l : Line) → IsFit l → (line_at (line_text l) ≡ Ok l)
     × (list_all is_printable (line_text l) ≡ true)
@@ -100,7 +131,7 @@ read_back l h = let s = line_said l h in line_from l s.0 s.1 s.2 s.3 s.4 s.5 s.6
 
 -- a line that is spelled so at the front is read first
 pub spelled_first : (bytes : List ℕ) (l : Line) (more : List ℕ) → IsFit l → bytes ≡ line_text l ++ 10 ∷ more
-    → IsFirst bytes (Ok l) more
+    → IsFirstLine bytes (Ok l) more
 spelled_first bytes l more fit e = λ number.
     ap (λ b. lines_from number (parts_of b)) e
     ∙ ap (lines_from number) (slice_split_at is_end (line_text l) 10 more

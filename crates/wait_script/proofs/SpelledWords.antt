@@ -1,5 +1,37 @@
 -- Words, and what they say in their places.
-use Rattle.std.proofs.Common.{◌≡◌, ℕ, ◌+◌, ◌^◌, ◌<◌, ◌≤◌, Bool, true, false, cond, eqb, List, [], ◌∷◌, ◌++◌, Ok, Err, length, take, drop, codes, decimal, refl, ap, ◌∙◌, arith, append_assoc, nat_le, nat_lt, length-append}
+use Rattle.std.proofs.Common.{
+  ◌≡◌,
+  ℕ,
+  ◌+◌,
+  ◌-◌,
+  ◌^◌,
+  ◌<◌,
+  ◌≤◌,
+  Bool,
+  true,
+  false,
+  cond,
+  eqb,
+  List,
+  [],
+  ◌∷◌,
+  ◌++◌,
+  Ok,
+  Err,
+  length,
+  take,
+  drop,
+  codes,
+  decimal,
+  refl,
+  ap,
+  ◌∙◌,
+  arith,
+  append_assoc,
+  nat_le,
+  nat_lt,
+  length-append,
+}
 use mathlib.Core.Bool.{◌&&◌, ◌||◌, not}
 use Rattle.std.proofs.lemmas.Bool.Decides.{nat_tests}
 use Rattle.std.proofs.lemmas.List.Folds.{list_all-append}
@@ -19,10 +51,14 @@ use Rattle.wait_model.specs.declared.queues.Form.{Form}
 use Rattle.wait_model.specs.declared.queues.Form.TheVariants as form
 use Rattle.wait_model.specs.Tasks.{looks_in, is_killable}
 use Rattle.wait_model.specs.Admission.{is_standing}
-use Rattle.wait_script.specs.Number.{number_of}
+use Rattle.wait_script.specs.declared.reason.Reason.{Reason}
+use Rattle.wait_script.specs.declared.reason.Reason.TheVariants.{BadNumber, BadCondition}
+use Rattle.wait_script.specs.Number.{numeral_value}
 use Rattle.wait_script.specs.Words.{both_of}
 use Rattle.wait_script.specs.Fields.{
-  within,
+  last_word,
+  last_bit,
+  number_within,
   number_at,
   value_at,
   numbered_at,
@@ -32,22 +68,15 @@ use Rattle.wait_script.specs.Fields.{
   state_at,
   simple_state_at,
   mode_at,
-  kind_at,
+  kind_field,
   form_at,
   fatal_at,
   all_at,
 }
 use Rattle.wait_script.specs.Text.{form_text, bit_text}
 use Rattle.wait_script.specs.Spelling.{how_word, state_word, mode_word, kind_word, fatal_word, extent_word}
-use Rattle.wait_script.proofs.Numbers.{number_again, decimal_digits}
-
-pub parts_true : (a b : Bool) → (a && b) ≡ true → (a ≡ true) × (b ≡ true)
-parts_true true true h = (refl, refl)
-parts_true true false h = absurd (cc (h))
-parts_true false b h = absurd (cc (h))
-
-pub both_true : (a b : Bool) → a ≡ true → b ≡ true → (a && b) ≡ true
-both_true a b p q = rw (p, q) refl
+use Rattle.wait_script.proofs.ReadNumbers.{number_again, decimal_digits}
+pub use Rattle.wait_script.proofs.Truths.{both_true, parts_true}
 
 -- a word has at most 20 bytes, no space, no line feed, and is printable
 abbrev pub in_word : ℕ → Bool
@@ -115,23 +144,24 @@ bit_word w b h k =
         rw (length-append) (omega (arith, m, n))
 
 -- numbers in their ranges
-within_read : (why low most n : ℕ) → low ≤ n → n ≤ most → n < 2 ^ 64
-    → within why low most (number_of (decimal n)) ≡ Ok n
+within_read : (why : Reason) (low most n : ℕ) → low ≤ n → n ≤ most → n < 2 ^ 64
+    → number_within why low most (numeral_value (decimal n)) ≡ Ok n
 within_read why low most n a b h =
     let t : (nat_le low n && nat_le n most) ≡ true = grind (arith, nat_tests) in
-    ap (within why low most) (number_again n h) ∙ ap (λ b. cond b (Ok n) (Err why)) t
+    ap (number_within why low most) (number_again n h) ∙ ap (λ b. cond b (Ok n) (Err why)) t
 
 pub number_read : (low most n : ℕ) → low ≤ n → n ≤ most → n < 2 ^ 64 → number_at low most (decimal n) ≡ Ok n
-number_read low most n a b h = within_read 7 low most n a b h
+number_read low most n a b h = within_read BadNumber low most n a b h
 
 pub value_read : (n : ℕ) → n < 2 ^ 64 → value_at (decimal n) ≡ Ok n
-value_read n h = number_read 0 18446744073709551615 n (omega arith) (omega (arith, h)) h
+value_read n h = number_read 0 (2 ^ 64 - 1) n (omega arith) (omega (arith, h)) h
 
 pub numbered_read : (letter low most n : ℕ) → low ≤ n → n ≤ most → n < 2 ^ 64
     → numbered_at letter low most (letter ∷ decimal n) ≡ Ok n
 numbered_read letter low most n a b h =
     let same : eqb letter letter ≡ true = grind (arith, nat_tests) in
-    ap (λ b. cond b (within 9 low most (number_of (decimal n))) (Err 9)) same ∙ within_read 9 low most n a b h
+    ap (λ b. cond b (number_within BadCondition low most (numeral_value (decimal n))) (Err BadCondition)) same
+    ∙ within_read BadCondition low most n a b h
 
 -- no digit is a dot
 at_dot : (front back : List ℕ) → all_ascii_digits front ≡ true
@@ -148,7 +178,7 @@ at_dot (c ∷ cs) back h =
     one : (n : ℕ) → n ≡ length cs → 1 + n ≡ length (c ∷ cs)
     one n e = omega (arith, e)
 
-module _ (w b : ℕ) (h : w ≤ 127) (k : b ≤ 63) where
+module _ (w b : ℕ) (h : w ≤ last_word) (k : b ≤ last_bit) where
   abbrev text : List ℕ
   text = (98 ∷ decimal w) ++ (46 ∷ decimal b)
 
@@ -168,11 +198,13 @@ module _ (w b : ℕ) (h : w ≤ 127) (k : b ≤ 63) where
   pub bit_read : bit_at (bit_text w b) ≡ Ok (w, b)
   bit_read =
       ap bit_at (bit_parts w b)
-      ∙ ap (λ f. both_of (numbered_at 98 0 127 f) (within 9 0 63 (number_of (after_first is_dot text)))) front
-      ∙ ap (λ g. both_of (numbered_at 98 0 127 (98 ∷ decimal w)) (within 9 0 63 (number_of g))) back
-      ∙ ap (λ r. both_of r (within 9 0 63 (number_of (decimal b))))
-      (numbered_read 98 0 127 w (omega arith) h (omega (arith, h)))
-      ∙ ap (λ r. both_of (Ok w) r) (within_read 9 0 63 b (omega arith) k (omega (arith, k)))
+      ∙ ap (λ f. both_of (numbered_at 98 0 last_word f)
+      (number_within BadCondition 0 last_bit (numeral_value (after_first is_dot text)))) front
+      ∙ ap (λ g. both_of (numbered_at 98 0 last_word (98 ∷ decimal w))
+      (number_within BadCondition 0 last_bit (numeral_value g))) back
+      ∙ ap (λ r. both_of r (number_within BadCondition 0 last_bit (numeral_value (decimal b))))
+      (numbered_read 98 0 last_word w (omega arith) h (omega (arith, h)))
+      ∙ ap (λ r. both_of (Ok w) r) (within_read BadCondition 0 last_bit b (omega arith) k (omega (arith, k)))
 
 -- keywords
 pub state_is_word : (s : SleepState) → IsWord (state_word s)
@@ -232,7 +264,7 @@ kind_is_word kind.Bit h = absurd (cc (h))
 kind_is_word kind.Var h = absurd (cc (h))
 kind_is_word kind.Simple h = absurd (cc (h))
 
-pub kind_read : (k : Kind) → is_standing k ≡ true → kind_at (kind_word k) ≡ Ok k
+pub kind_read : (k : Kind) → is_standing k ≡ true → kind_field (kind_word k) ≡ Ok k
 kind_read kind.Default h = refl
 kind_read kind.Autoremove h = absurd (cc (h))
 kind_read kind.Woken h = refl

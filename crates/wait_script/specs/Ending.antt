@@ -21,15 +21,23 @@ use Rattle.std.specs.List.{flat_map}
 use Rattle.std.specs.declared.option.Option.{Option}
 use Rattle.std.specs.declared.option.Option.TheVariants.{Some, None}
 use Rattle.wait_model.specs.declared.calls.Ran.{Ran}
+use Rattle.wait_model.specs.declared.layout.TheConstants.{
+  CONDITIONS,
+  ENTRIES,
+  FIRST_BIT_WORD,
+  FIRST_DONE,
+  FIRST_VARIABLE,
+  HEADS,
+  SCRIPT_TASKS,
+}
 use Rattle.wait_model.specs.declared.queues.Member.{Member}
-use Rattle.wait_model.specs.declared.tasks.Task.{Task}
+use Rattle.wait_model.specs.declared.tasks.TaskRecord.{TaskRecord}
 use Rattle.wait_model.specs.Runs.{State, state_of, made_in}
-use Rattle.wait_model.specs.Queues.{entry_count, is_entry}
+use Rattle.wait_model.specs.Queues.{is_entry}
 use Rattle.wait_model.specs.Watches.{owner}
-use Rattle.wait_model.specs.Locations.{Location, word_in}
+use Rattle.wait_model.specs.Locations.{Location, word_in, cond_at}
 use Rattle.wait_model.specs.Locations as location
 use Rattle.wait_core.specs.Stepped.{call_shown}
-use Rattle.wait_script.specs.Fields.{last_task}
 use Rattle.wait_script.specs.Text.{state_text, cond_text}
 
 -- the texts of n numbers, from a number on
@@ -41,7 +49,7 @@ abbrev pub events_text : ℕ → List ℕ
 events_text events = codes "events " ++ decimal events ++ codes "\n"
 
 -- the signal that a task has pending
-abbrev pub signal_text : Task → List ℕ
+abbrev pub signal_text : TaskRecord → List ℕ
 signal_text t = if t.fatal then codes "fatal" else if t.signal then codes "plain" else codes "none"
 
 -- what a task does, by whether it has a call open, and whether it can run
@@ -50,17 +58,17 @@ act_text is_open runnable = if is_open then (if runnable then codes "open" else 
     else codes "idle"
 
 -- the line of a task, and none of one that never had a call
-abbrev pub task_text : ℕ → Option Bool → Task → List ℕ
+abbrev pub task_text : ℕ → Option Bool → TaskRecord → List ℕ
 task_text who None t = []
 task_text who (Some is_open) t = codes "task " ++ decimal who ++ codes " " ++ state_text t.state ++ codes " "
     ++ signal_text t ++ codes " " ++ act_text is_open t.runnable ++ codes "\n"
 
--- an entry by the task whose it is, and a bookmark by its task behind a star
+-- an entry by the task whose it is, and a bookmark by its task after a star
 abbrev pub member_text : Member → List ℕ
 member_text m =
-    if is_entry m then codes " t" ++ decimal (owner m.at) else codes " *t" ++ decimal (m.at - entry_count)
+    if is_entry m then codes " t" ++ decimal (owner m.at) else codes " *t" ++ decimal (m.at - ENTRIES)
 
--- the members behind a head's number, and the end of the line
+-- the members after a head's number, and the end of the line
 abbrev pub members_text : List Member → List ℕ
 members_text queue = flat_map member_text queue ++ codes "\n"
 
@@ -74,13 +82,6 @@ abbrev pub word_text : ℕ → ℕ → List ℕ
 word_text cond value =
     if value == 0 then [] else codes "word " ++ cond_text cond ++ codes " " ++ decimal value ++ codes "\n"
 
--- the location of a condition word by its number
-abbrev pub cond_at : ℕ → Location
-cond_at cond =
-    if nat_lt cond 64 then location.Plain cond
-    else if nat_lt cond 128 then location.Done (cond - 64)
-    else if nat_lt cond 256 then location.Bits (cond - 128) else location.Var (cond - 256)
-
 -- the lines of a task, a head and a condition word in a state
 abbrev pub line_of_task : State → ℕ → List ℕ
 line_of_task s task = task_text task (call_shown (s.progress task)) (s.table.task task)
@@ -91,17 +92,17 @@ line_of_head s head = head_text head (s.queue head)
 abbrev pub line_of_word : State → ℕ → List ℕ
 line_of_word s cond = word_text cond (word_in s.table (cond_at cond))
 
--- the lines of all tasks, heads and condition words, each by rising number
+-- the lines of all tasks of a script, of all heads and of all condition words, each by rising number
 abbrev pub tasks_text : State → List ℕ
-tasks_text s = texts_from (line_of_task s) 0 (last_task + 1)
+tasks_text s = texts_from (line_of_task s) 0 SCRIPT_TASKS
 
 abbrev pub heads_text : State → List ℕ
-heads_text s = texts_from (line_of_head s) 0 384
+heads_text s = texts_from (line_of_head s) 0 HEADS
 
 abbrev pub words_text : State → List ℕ
-words_text s = texts_from (line_of_word s) 0 384
+words_text s = texts_from (line_of_word s) 0 CONDITIONS
 
--- the end lines behind a run
-abbrev pub end_text : List Ran → List ℕ
-end_text run = events_text (made_in run) ++ (tasks_text (state_of run) ++ (heads_text (state_of run)
+-- the end lines after a run
+abbrev pub ending_text : List Ran → List ℕ
+ending_text run = events_text (made_in run) ++ (tasks_text (state_of run) ++ (heads_text (state_of run)
     ++ (words_text (state_of run) ++ codes "end\n")))

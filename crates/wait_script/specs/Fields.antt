@@ -1,7 +1,8 @@
--- What a word says in its place, or why not: 7 for a number, 8 for a keyword, 9 for a condition. (To be
--- believed.)
+-- What a word says in its place, or why not. (To be believed.)
 use Rattle.std.specs.Prelude.{
   ℕ,
+  ◌-◌,
+  ◌^◌,
   List,
   [],
   ◌∷◌,
@@ -31,54 +32,87 @@ use Rattle.wait_model.specs.declared.watches.Kind.{Kind}
 use Rattle.wait_model.specs.declared.watches.Kind.TheVariants as kind
 use Rattle.wait_model.specs.declared.queues.Form.{Form}
 use Rattle.wait_model.specs.declared.queues.Form.TheVariants as form
-use Rattle.wait_script.specs.Number.{number_of}
+use Rattle.wait_model.specs.declared.layout.TheConstants.{
+  BIT_WORDS,
+  COMPLETIONS,
+  FIRST_SIMPLE,
+  PLAIN_CONDITIONS,
+  PRIORITY_TASKS,
+  SCRIPT_TASKS,
+  VARIABLES,
+  WORD_BITS,
+}
+use Rattle.wait_script.specs.declared.reason.Reason.{Reason}
+use Rattle.wait_script.specs.declared.reason.Reason.TheVariants.{BadNumber, BadForm, BadCondition}
+use Rattle.wait_script.specs.Number.{numeral_value}
 use Rattle.wait_script.specs.Words.{both_of}
 
 -- the last task of a script, and the last that adds with priority
 abbrev pub last_task : ℕ
-last_task = 127
+last_task = SCRIPT_TASKS - 1
 
 abbrev pub last_priority_task : ℕ
-last_priority_task = 63
+last_priority_task = PRIORITY_TASKS - 1
+
+-- the last condition that has a full wait queue, and the last of all
+abbrev pub last_full : ℕ
+last_full = FIRST_SIMPLE - 1
+
+abbrev pub last_cond : ℕ
+last_cond = PLAIN_CONDITIONS - 1
+
+-- the last completion, variable, bit word and bit of a word
+abbrev pub last_cell : ℕ
+last_cell = COMPLETIONS - 1
+
+abbrev pub last_var : ℕ
+last_var = VARIABLES - 1
+
+abbrev pub last_word : ℕ
+last_word = BIT_WORDS - 1
+
+abbrev pub last_bit : ℕ
+last_bit = WORD_BITS - 1
 
 -- a number in a range
-abbrev pub within : ℕ → ℕ → ℕ → Option ℕ → Result ℕ ℕ
-within why low most None = Err why
-within why low most (Some n) = if nat_le low n && nat_le n most then Ok n else Err why
+abbrev pub number_within : Reason → ℕ → ℕ → Option ℕ → Result ℕ Reason
+number_within why low most None = Err why
+number_within why low most (Some n) = if nat_le low n && nat_le n most then Ok n else Err why
 
-abbrev pub number_at : ℕ → ℕ → List ℕ → Result ℕ ℕ
-number_at low most word = within 7 low most (number_of word)
+abbrev pub number_at : ℕ → ℕ → List ℕ → Result ℕ Reason
+number_at low most word = number_within BadNumber low most (numeral_value word)
 
 -- a value of a condition word
-abbrev pub value_at : List ℕ → Result ℕ ℕ
-value_at word = number_at 0 18446744073709551615 word
+abbrev pub value_at : List ℕ → Result ℕ Reason
+value_at word = number_at 0 (2 ^ 64 - 1) word
 
 -- a letter and a number
-abbrev pub numbered_at : ℕ → ℕ → ℕ → List ℕ → Result ℕ ℕ
-numbered_at letter low most [] = Err 9
-numbered_at letter low most (c ∷ digits) = if c == letter then within 9 low most (number_of digits) else Err 9
+abbrev pub numbered_at : ℕ → ℕ → ℕ → List ℕ → Result ℕ Reason
+numbered_at letter low most [] = Err BadCondition
+numbered_at letter low most (c ∷ digits) =
+    if c == letter then number_within BadCondition low most (numeral_value digits) else Err BadCondition
 
 -- a plain condition, `c`; a completion, `d`; a variable, `v`
-abbrev pub cond_at : ℕ → ℕ → List ℕ → Result ℕ ℕ
-cond_at low most word = numbered_at 99 low most word
+abbrev pub cond_field : ℕ → ℕ → List ℕ → Result ℕ Reason
+cond_field low most word = numbered_at 99 low most word
 
-abbrev pub cell_at : List ℕ → Result ℕ ℕ
-cell_at word = numbered_at 100 0 63 word
+abbrev pub cell_at : List ℕ → Result ℕ Reason
+cell_at word = numbered_at 100 0 last_cell word
 
-abbrev pub var_at : List ℕ → Result ℕ ℕ
-var_at word = numbered_at 118 0 127 word
+abbrev pub var_at : List ℕ → Result ℕ Reason
+var_at word = numbered_at 118 0 last_var word
 
--- a bit of a bit word: `b` and the word's number before the first dot, the bit's number behind it
+-- a bit of a bit word: `b` and the word's number before the first dot, the bit's number after it
 abbrev pub is_dot : ℕ → Bool
 is_dot b = b == 46
 
-abbrev pub bit_at : List ℕ → Result (ℕ × ℕ) ℕ
-bit_at word = both_of (numbered_at 98 0 127 (before_first is_dot word))
-    (within 9 0 63 (number_of (after_first is_dot word)))
+abbrev pub bit_at : List ℕ → Result (ℕ × ℕ) Reason
+bit_at word = both_of (numbered_at 98 0 last_word (before_first is_dot word))
+    (number_within BadCondition 0 last_bit (numeral_value (after_first is_dot word)))
 
 -- the value that a table of keywords has at a word
-abbrev pub keyword_at : {A : Type 0} → List (List ℕ × A) → List ℕ → Result A ℕ
-keyword_at [] word = Err 8
+abbrev pub keyword_at : {A : Type 0} → List (List ℕ × A) → List ℕ → Result A Reason
+keyword_at [] word = Err BadForm
 keyword_at (entry ∷ table) word = if bytes_eq word entry.0 then Ok entry.1 else keyword_at table word
 
 abbrev pub hows : List (List ℕ × How)
@@ -108,33 +142,33 @@ abbrev pub forms : List (List ℕ × Form)
 forms = (codes "front", form.Front) ∷ (codes "tail", form.Tail) ∷ (codes "prio", form.Priority) ∷ []
 
 -- whether a signal is fatal
-abbrev pub signals : List (List ℕ × Bool)
-signals = (codes "plain", false) ∷ (codes "fatal", true) ∷ []
+abbrev pub signal_words : List (List ℕ × Bool)
+signal_words = (codes "plain", false) ∷ (codes "fatal", true) ∷ []
 
 -- whether a wake of a simple queue wakes all
 abbrev pub extents : List (List ℕ × Bool)
 extents = (codes "one", false) ∷ (codes "all", true) ∷ []
 
-abbrev pub how_at : List ℕ → Result How ℕ
+abbrev pub how_at : List ℕ → Result How Reason
 how_at word = keyword_at hows word
 
-abbrev pub state_at : List ℕ → Result SleepState ℕ
+abbrev pub state_at : List ℕ → Result SleepState Reason
 state_at word = keyword_at states word
 
-abbrev pub simple_state_at : List ℕ → Result SleepState ℕ
+abbrev pub simple_state_at : List ℕ → Result SleepState Reason
 simple_state_at word = keyword_at simple_states word
 
-abbrev pub mode_at : List ℕ → Result Mode ℕ
+abbrev pub mode_at : List ℕ → Result Mode Reason
 mode_at word = keyword_at modes word
 
-abbrev pub kind_at : List ℕ → Result Kind ℕ
-kind_at word = keyword_at kinds word
+abbrev pub kind_field : List ℕ → Result Kind Reason
+kind_field word = keyword_at kinds word
 
-abbrev pub form_at : List ℕ → Result Form ℕ
+abbrev pub form_at : List ℕ → Result Form Reason
 form_at word = keyword_at forms word
 
-abbrev pub fatal_at : List ℕ → Result Bool ℕ
-fatal_at word = keyword_at signals word
+abbrev pub fatal_at : List ℕ → Result Bool Reason
+fatal_at word = keyword_at signal_words word
 
-abbrev pub all_at : List ℕ → Result Bool ℕ
+abbrev pub all_at : List ℕ → Result Bool Reason
 all_at word = keyword_at extents word

@@ -1,5 +1,21 @@
 -- The forms of the calls: for each name what its words say, or the first why. (To be believed.)
-use Rattle.std.specs.Prelude.{ℕ, List, [], ◌∷◌, ◌++◌, Result, Ok, Err, Bool, true, false, ◌&&◌, if◌then◌else◌, codes, decimal}
+use Rattle.std.specs.Prelude.{
+  ℕ,
+  List,
+  [],
+  ◌∷◌,
+  ◌++◌,
+  Result,
+  Ok,
+  Err,
+  Bool,
+  true,
+  false,
+  ◌&&◌,
+  if◌then◌else◌,
+  codes,
+  decimal,
+}
 use Rattle.std.specs.Str.{bytes_eq}
 use Rattle.wait_model.specs.declared.calls.Call.{Call}
 use Rattle.wait_model.specs.declared.calls.Call.TheVariants as call
@@ -10,12 +26,15 @@ use Rattle.wait_model.specs.declared.watches.Mode.{Mode}
 use Rattle.wait_model.specs.declared.watches.Mode.TheVariants as mode
 use Rattle.wait_model.specs.declared.watches.Kind.{Kind}
 use Rattle.wait_model.specs.declared.watches.Kind.TheVariants as kind
+use Rattle.wait_model.specs.declared.layout.TheConstants.{FIRST_SIMPLE, SCRIPT_SELECTED}
+use Rattle.wait_script.specs.declared.reason.Reason.{Reason}
+use Rattle.wait_script.specs.declared.reason.Reason.TheVariants.{UnknownWord, WordCount}
 use Rattle.wait_script.specs.Text.{form_text, bit_text}
 use Rattle.wait_script.specs.Words.{both_of, made_of}
 use Rattle.wait_script.specs.Fields.{
   number_at,
   value_at,
-  cond_at,
+  cond_field,
   cell_at,
   var_at,
   bit_at,
@@ -23,112 +42,118 @@ use Rattle.wait_script.specs.Fields.{
   state_at,
   simple_state_at,
   mode_at,
-  kind_at,
+  kind_field,
   form_at,
   fatal_at,
   all_at,
   last_task,
   last_priority_task,
+  last_full,
+  last_cond,
 }
 
 -- so many fields, each in its place
-abbrev pub form0 : Call → List (List ℕ) → Result Call ℕ
+abbrev pub form0 : Call → List (List ℕ) → Result Call Reason
 form0 made [] = Ok made
-form0 made words = Err 6
+form0 made words = Err WordCount
 
-abbrev pub form1 : {A : Type 0} → (List ℕ → Result A ℕ) → (A → Call) → List (List ℕ) → Result Call ℕ
+abbrev pub form1 : {A : Type 0} → (List ℕ → Result A Reason) → (A → Call) → List (List ℕ)
+    → Result Call Reason
 form1 f make (a ∷ []) = made_of make (f a)
-form1 f make words = Err 6
+form1 f make words = Err WordCount
 
-abbrev pub form2 : {A B : Type 0} → (List ℕ → Result A ℕ) → (List ℕ → Result B ℕ) → (A → B → Call)
-    → List (List ℕ) → Result Call ℕ
+abbrev pub form2 : {A B : Type 0} → (List ℕ → Result A Reason) → (List ℕ → Result B Reason) → (A → B → Call)
+    → List (List ℕ) → Result Call Reason
 form2 f g make (a ∷ b ∷ []) = made_of (λ x. make x.0 x.1) (both_of (f a) (g b))
-form2 f g make words = Err 6
+form2 f g make words = Err WordCount
 
-abbrev pub form3 : {A B C : Type 0} → (List ℕ → Result A ℕ) → (List ℕ → Result B ℕ) → (List ℕ → Result C ℕ)
-    → (A → B → C → Call) → List (List ℕ) → Result Call ℕ
+abbrev pub form3 : {A B C : Type 0} → (List ℕ → Result A Reason) → (List ℕ → Result B Reason)
+    → (List ℕ → Result C Reason) → (A → B → C → Call) → List (List ℕ) → Result Call Reason
 form3 f g h make (a ∷ b ∷ c ∷ []) = made_of (λ x. make x.0 x.1.0 x.1.1) (both_of (f a) (both_of (g b) (h c)))
-form3 f g h make words = Err 6
+form3 f g h make words = Err WordCount
 
-abbrev pub wait_at : List (List ℕ) → Result Call ℕ
-wait_at words = form2 (cond_at 0 47) how_at (λ cond how. call.Wait cond how) words
+abbrev pub wait_at : List (List ℕ) → Result Call Reason
+wait_at words = form2 (cond_field 0 last_full) how_at (λ cond how. call.Wait cond how) words
 
-abbrev pub set_at : List (List ℕ) → Result Call ℕ
-set_at words = form2 (cond_at 0 63) value_at (λ cond value. call.Set cond value) words
+abbrev pub set_at : List (List ℕ) → Result Call Reason
+set_at words = form2 (cond_field 0 last_cond) value_at (λ cond value. call.Set cond value) words
 
-abbrev pub take_at : List (List ℕ) → Result Call ℕ
-take_at words = form1 (cond_at 0 63) (λ cond. call.Take cond) words
+abbrev pub take_at : List (List ℕ) → Result Call Reason
+take_at words = form1 (cond_field 0 last_cond) (λ cond. call.Take cond) words
 
-abbrev pub read_at : List (List ℕ) → Result Call ℕ
-read_at words = form1 (cond_at 0 63) (λ cond. call.Read cond) words
+abbrev pub read_at : List (List ℕ) → Result Call Reason
+read_at words = form1 (cond_field 0 last_cond) (λ cond. call.Read cond) words
 
-abbrev pub wake_at : List (List ℕ) → Result Call ℕ
-wake_at words = form3 (cond_at 0 47) mode_at (number_at 0 127) (λ cond mode count. call.Wake cond mode count)
-    words
+abbrev pub wake_at : List (List ℕ) → Result Call Reason
+wake_at words =
+    form3 (cond_field 0 last_full) mode_at (number_at 0 SCRIPT_SELECTED)
+    (λ cond mode count. call.Wake cond mode count) words
 
-abbrev pub add_at : List (List ℕ) → Result Call ℕ
-add_at words = form3 (cond_at 0 47) kind_at form_at (λ cond kind form. call.Add cond kind form) words
+abbrev pub add_at : List (List ℕ) → Result Call Reason
+add_at words = form3 (cond_field 0 last_full) kind_field form_at (λ cond kind form. call.Add cond kind form) words
 
-abbrev pub remove_at : List (List ℕ) → Result Call ℕ
+abbrev pub remove_at : List (List ℕ) → Result Call Reason
 remove_at words = form0 call.Remove words
 
-abbrev pub woken_at : List (List ℕ) → Result Call ℕ
+abbrev pub woken_at : List (List ℕ) → Result Call Reason
 woken_at words = form1 state_at (λ state. call.Woken state) words
 
-abbrev pub signal_at : List (List ℕ) → Result Call ℕ
+abbrev pub signal_at : List (List ℕ) → Result Call Reason
 signal_at words = form2 (number_at 0 last_task) fatal_at (λ who fatal. call.Signal who fatal) words
 
-abbrev pub accept_at : List (List ℕ) → Result Call ℕ
+abbrev pub accept_at : List (List ℕ) → Result Call Reason
 accept_at words = form0 call.Accept words
 
-abbrev pub kick_at : List (List ℕ) → Result Call ℕ
+abbrev pub kick_at : List (List ℕ) → Result Call Reason
 kick_at words = form1 (number_at 0 last_task) (λ who. call.Kick who) words
 
-abbrev pub simple_wait_at : List (List ℕ) → Result Call ℕ
-simple_wait_at words = form2 (cond_at 48 63) simple_state_at (λ cond state. call.SimpleWait cond state) words
+abbrev pub simple_wait_at : List (List ℕ) → Result Call Reason
+simple_wait_at words =
+    form2 (cond_field FIRST_SIMPLE last_cond) simple_state_at (λ cond state. call.SimpleWait cond state) words
 
-abbrev pub simple_wake_at : List (List ℕ) → Result Call ℕ
-simple_wake_at words = form2 (cond_at 48 63) all_at (λ cond all. call.SimpleWake cond all) words
+abbrev pub simple_wake_at : List (List ℕ) → Result Call Reason
+simple_wake_at words =
+    form2 (cond_field FIRST_SIMPLE last_cond) all_at (λ cond all. call.SimpleWake cond all) words
 
-abbrev pub complete_at : List (List ℕ) → Result Call ℕ
+abbrev pub complete_at : List (List ℕ) → Result Call Reason
 complete_at words = form1 cell_at (λ cell. call.Complete cell) words
 
-abbrev pub complete_all_at : List (List ℕ) → Result Call ℕ
+abbrev pub complete_all_at : List (List ℕ) → Result Call Reason
 complete_all_at words = form1 cell_at (λ cell. call.CompleteAll cell) words
 
-abbrev pub reinit_at : List (List ℕ) → Result Call ℕ
+abbrev pub reinit_at : List (List ℕ) → Result Call Reason
 reinit_at words = form1 cell_at (λ cell. call.Reinit cell) words
 
-abbrev pub wait_for_at : List (List ℕ) → Result Call ℕ
+abbrev pub wait_for_at : List (List ℕ) → Result Call Reason
 wait_for_at words = form2 cell_at state_at (λ cell state. call.WaitFor cell state) words
 
-abbrev pub try_wait_at : List (List ℕ) → Result Call ℕ
+abbrev pub try_wait_at : List (List ℕ) → Result Call Reason
 try_wait_at words = form1 cell_at (λ cell. call.TryWait cell) words
 
-abbrev pub is_done_at : List (List ℕ) → Result Call ℕ
+abbrev pub is_done_at : List (List ℕ) → Result Call Reason
 is_done_at words = form1 cell_at (λ cell. call.IsDone cell) words
 
-abbrev pub try_bit_at : List (List ℕ) → Result Call ℕ
+abbrev pub try_bit_at : List (List ℕ) → Result Call Reason
 try_bit_at words = form1 bit_at (λ b. call.TryBit b.0 b.1) words
 
-abbrev pub wait_bit_at : List (List ℕ) → Result Call ℕ
+abbrev pub wait_bit_at : List (List ℕ) → Result Call Reason
 wait_bit_at words = form2 bit_at state_at (λ b state. call.WaitBit b.0 b.1 state) words
 
-abbrev pub lock_bit_at : List (List ℕ) → Result Call ℕ
+abbrev pub lock_bit_at : List (List ℕ) → Result Call Reason
 lock_bit_at words = form2 bit_at state_at (λ b state. call.LockBit b.0 b.1 state) words
 
-abbrev pub clear_bit_at : List (List ℕ) → Result Call ℕ
+abbrev pub clear_bit_at : List (List ℕ) → Result Call Reason
 clear_bit_at words = form1 bit_at (λ b. call.ClearBit b.0 b.1) words
 
-abbrev pub wait_var_at : List (List ℕ) → Result Call ℕ
+abbrev pub wait_var_at : List (List ℕ) → Result Call Reason
 wait_var_at words = form3 var_at value_at state_at (λ var old state. call.WaitVar var old state) words
 
-abbrev pub set_var_at : List (List ℕ) → Result Call ℕ
+abbrev pub set_var_at : List (List ℕ) → Result Call Reason
 set_var_at words = form2 var_at value_at (λ var value. call.SetVar var value) words
 
 -- the calls by their names
-abbrev pub calls : List (List ℕ × (List (List ℕ) → Result Call ℕ))
-calls =
+abbrev pub call_forms : List (List ℕ × (List (List ℕ) → Result Call Reason))
+call_forms =
     (codes "wait", wait_at)
     ∷ (codes "set", set_at)
     ∷ (codes "take", take_at)
@@ -157,12 +182,13 @@ calls =
     ∷ []
 
 -- a call by a table of names
-abbrev pub call_in : List (List ℕ × (List (List ℕ) → Result Call ℕ)) → List ℕ → List (List ℕ) → Result Call ℕ
-call_in [] name rest = Err 5
+abbrev pub call_in : List (List ℕ × (List (List ℕ) → Result Call Reason)) → List ℕ → List (List ℕ)
+    → Result Call Reason
+call_in [] name rest = Err UnknownWord
 call_in (entry ∷ table) name rest = if bytes_eq name entry.0 then entry.1 rest else call_in table name rest
 
-abbrev pub named_at : List ℕ → List (List ℕ) → Result Call ℕ
-named_at name rest = call_in calls name rest
+abbrev pub named_at : List ℕ → List (List ℕ) → Result Call Reason
+named_at name rest = call_in call_forms name rest
 
 -- an `add` with `prio` in its place
 abbrev pub is_priority_add : List ℕ → List (List ℕ) → Bool

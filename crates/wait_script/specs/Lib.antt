@@ -4,6 +4,7 @@ pub mod Forms
 pub mod Lines
 pub mod Number
 pub mod Reading
+pub mod Reasons
 pub mod Replay
 pub mod Script
 pub mod Spelling

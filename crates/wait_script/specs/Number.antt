@@ -30,6 +30,6 @@ abbrev pub is_numeral : List ℕ → Bool
 is_numeral word = all_ascii_digits word && nat_lt 0 (length word) && is_plain word
 
 -- a number of 64 bits
-abbrev pub number_of : List ℕ → Option ℕ
-number_of word = if is_numeral word && nat_lt (digits_value 10 word) (2 ^ 64) then Some (digits_value 10 word)
+abbrev pub numeral_value : List ℕ → Option ℕ
+numeral_value word = if is_numeral word && nat_lt (digits_value 10 word) (2 ^ 64) then Some (digits_value 10 word)
     else None

@@ -18,6 +18,7 @@ use Rattle.std.specs.Prelude.{
 use Rattle.std.specs.Str.{all_ascii_digits}
 use Rattle.std.specs.Str.Parse.{digits_value}
 use Rattle.wait_script.specs.declared.line.Line.{Line}
+use Rattle.wait_script.specs.declared.reason.Reason.{Reason}
 use Rattle.wait_script.specs.Script.{parts_of, and_lines, lines_from}
 
 -- what ends a word: the space, and a byte that is no plain text
@@ -32,8 +33,8 @@ fitting n = if nat_lt n (2 ^ 64) then Some n else None
 abbrev pub digits_of : List ℕ → Option ℕ
 digits_of word = if all_ascii_digits word then fitting (digits_value 10 word) else None
 
--- the first line that bytes have says this, and behind its end they go on so
-abbrev pub IsFirst : List ℕ → Result Line ℕ → List ℕ → Type 0
-IsFirst bytes line more =
+-- the first line that bytes have says this, and after its end they go on so
+abbrev pub IsFirstLine : List ℕ → Result Line Reason → List ℕ → Type 0
+IsFirstLine bytes line more =
     (number : ℕ) → lines_from number (parts_of bytes)
     ≡ and_lines number line (lines_from (number + 1) (parts_of more))

@@ -29,9 +29,9 @@ use Rattle.wait_core.specs.Stepped.{stepped, items_of, started, opened_by}
 use Rattle.wait_script.specs.declared.line.Line.{Line}
 use Rattle.wait_script.specs.declared.line.Line.TheVariants as line
 use Rattle.wait_script.specs.Text.{step_text, refused_text}
-use Rattle.wait_script.specs.Ending.{end_text}
+use Rattle.wait_script.specs.Ending.{ending_text}
 
--- what a task's next step answers behind a run, and the run behind that step
+-- what a task's next step answers after a run, and the run after that step
 abbrev pub answer_at : List Ran → ℕ → Stepped
 answer_at run task = stepped (state_of run) (made_in run) task ((state_of run).progress task)
 
@@ -49,18 +49,18 @@ stops (Made event (Some answer)) = true
 stops (Made event None) = is_asleep event
 stops _ = true
 
--- a text, the text behind it, and the run at the end
+-- a text, the text after it, and the run at the end
 abbrev pub then_text : List ℕ → List ℕ × List Ran → List ℕ × List Ran
 then_text text more = (text ++ more.0, more.1)
 
 -- up to so many steps of a task
-abbrev pub steps_of : ℕ → List Ran → ℕ → List ℕ × List Ran
-steps_of zero run task = ([], run)
-steps_of (suc n) run task =
+abbrev pub played_steps : ℕ → List Ran → ℕ → List ℕ × List Ran
+played_steps zero run task = ([], run)
+played_steps (suc n) run task =
     let answer = answer_at run task in
     if stops answer
     then (step_text task answer, run_after run task answer)
-    else then_text (step_text task answer) (steps_of n (run_after run task answer) task)
+    else then_text (step_text task answer) (played_steps n (run_after run task answer) task)
 
 -- what the opening of a call prints
 abbrev pub opened_text : ℕ → Result (Unit {0}) StartFault → List ℕ
@@ -72,14 +72,14 @@ opening_of run task call =
     let answer = started (state_of run) task call in
     (opened_text task answer, run ++ opened_by task call answer)
 
--- what a line prints, and the run behind it
+-- what a line prints, and the run after it
 abbrev pub replay_line : List Ran → Line → List ℕ × List Ran
 replay_line run (line.Call task call) = opening_of run task call
-replay_line run (line.Step task count) = steps_of count run task
+replay_line run (line.Step task count) = played_steps count run task
 
 -- the lines from a run on, and the end lines
 abbrev pub replay_from : List Ran → List Line → List ℕ
-replay_from run [] = end_text run
+replay_from run [] = ending_text run
 replay_from run (line ∷ lines) = (replay_line run line).0 ++ replay_from (replay_line run line).1 lines
 
 -- the text of a script in a fresh core

@@ -18,48 +18,50 @@ use Rattle.std.specs.List.{slice_split}
 use Rattle.wait_script.specs.declared.line.Line.{Line}
 use Rattle.wait_script.specs.declared.script.ReadScript.{ReadScript}
 use Rattle.wait_script.specs.declared.script.ReadScript.TheVariants.{Bad, OutOfMemory}
+use Rattle.wait_script.specs.declared.reason.Reason.{Reason}
+use Rattle.wait_script.specs.declared.reason.Reason.TheVariants.{CutLine, NoHeader}
 use Rattle.wait_script.specs.Lines.{header_at, line_at}
 
 abbrev pub is_end : ℕ → Bool
 is_end b = b == 10
 
--- the lines, and behind them what no 0x0A ends
+-- the lines, and after them what no 0x0A ends
 abbrev pub parts_of : List ℕ → List (List ℕ)
 parts_of bytes = slice_split is_end bytes
 
--- a line and those behind it
-abbrev pub and_lines : ℕ → Result Line ℕ → Result (List Line) (ℕ × ℕ) → Result (List Line) (ℕ × ℕ)
+-- a line and those after it
+abbrev pub and_lines : ℕ → Result Line Reason → Result (List Line) (ℕ × Reason) → Result (List Line) (ℕ × Reason)
 and_lines number (Err why) more = Err (number, why)
 and_lines number (Ok line) (Ok lines) = Ok (line ∷ lines)
 and_lines number (Ok line) (Err bad) = Err bad
 
 -- the lines from a number on
-abbrev pub lines_from : ℕ → List (List ℕ) → Result (List Line) (ℕ × ℕ)
+abbrev pub lines_from : ℕ → List (List ℕ) → Result (List Line) (ℕ × Reason)
 lines_from number [] = Ok []
-lines_from number (part ∷ []) = if length part == 0 then Ok [] else Err (number, 1)
+lines_from number (part ∷ []) = if length part == 0 then Ok [] else Err (number, CutLine)
 lines_from number (part ∷ next ∷ more) = and_lines number (line_at part)
     (lines_from (number + 1) (next ∷ more))
 
--- the lines behind line 1
-abbrev pub under : Result (Unit {0}) ℕ → Result (List Line) (ℕ × ℕ) → Result (List Line) (ℕ × ℕ)
+-- the lines after line 1
+abbrev pub under : Result (Unit {0}) Reason → Result (List Line) (ℕ × Reason) → Result (List Line) (ℕ × Reason)
 under (Ok x) lines = lines
 under (Err why) lines = Err (1, why)
 
--- the header, and the lines behind it
-abbrev pub headed : List (List ℕ) → Result (List Line) (ℕ × ℕ)
-headed [] = Err (1, 4)
-headed (header ∷ []) = if length header == 0 then Err (1, 4) else Err (1, 1)
+-- the header, and the lines after it
+abbrev pub headed : List (List ℕ) → Result (List Line) (ℕ × Reason)
+headed [] = Err (1, NoHeader)
+headed (header ∷ []) = if length header == 0 then Err (1, NoHeader) else Err (1, CutLine)
 headed (header ∷ next ∷ more) = under (header_at header) (lines_from 2 (next ∷ more))
 
-abbrev pub script_of : List ℕ → Result (List Line) (ℕ × ℕ)
+abbrev pub script_of : List ℕ → Result (List Line) (ℕ × Reason)
 script_of bytes = headed (parts_of bytes)
 
 -- An answer seen by a view is what reading gives, unless memory ran out.
-abbrev pub Refuses : ReadScript → Result (List Line) (ℕ × ℕ) → Type 0
+abbrev pub Refuses : ReadScript → Result (List Line) (ℕ × Reason) → Type 0
 Refuses (Bad line why) read = read ≡ Err (line, why)
 Refuses OutOfMemory read = Unit {0}
 
-abbrev pub AnswersAs : {S : Type 0} → (S → List Line) → Result S ReadScript → Result (List Line) (ℕ × ℕ)
+abbrev pub AnswersAs : {S : Type 0} → (S → List Line) → Result S ReadScript → Result (List Line) (ℕ × Reason)
     → Type 0
 AnswersAs view (Ok s) read = read ≡ Ok (view s)
 AnswersAs view (Err e) read = Refuses e read

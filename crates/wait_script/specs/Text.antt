@@ -19,6 +19,14 @@ use Rattle.std.specs.Prelude.{
   decimal,
 }
 use Rattle.std.specs.Fmt.{signed_decimal}
+use Rattle.wait_model.specs.declared.layout.TheConstants.{
+  FIRST_BIT_WORD,
+  FIRST_DONE,
+  FIRST_VARIABLE,
+  INTERRUPTIBLE,
+  RUNNING,
+  UNINTERRUPTIBLE,
+}
 use Rattle.wait_model.specs.declared.tasks.Sleep.{Sleep}
 use Rattle.wait_model.specs.declared.tasks.Sleep.TheVariants as sleep
 use Rattle.wait_model.specs.declared.tasks.Taken.{Taken}
@@ -35,7 +43,6 @@ use Rattle.wait_core.specs.declared.engine.Stepped.{Stepped}
 use Rattle.wait_core.specs.declared.engine.Stepped.TheVariants.{Made, NoCall, Asleep, Busy, Full}
 use Rattle.wait_core.specs.declared.engine.StartFault.{StartFault}
 use Rattle.wait_core.specs.declared.engine.StartFault.TheVariants.{
-  NoSuchTask,
   CallOpen,
   NoSuchCond,
   NotHeld,
@@ -46,16 +53,16 @@ use Rattle.wait_core.specs.declared.engine.StartFault.TheVariants.{
 -- the name of a task's state
 abbrev pub state_text : ℕ → List ℕ
 state_text state =
-    if state == 0 then codes "run" else if state == 1 then codes "int"
-    else if state == 2 then codes "unint" else codes "kill"
+    if state == RUNNING then codes "run" else if state == INTERRUPTIBLE then codes "int"
+    else if state == UNINTERRUPTIBLE then codes "unint" else codes "kill"
 
 -- a condition word by its number: plain conditions, completions, bit words and variables
 abbrev pub cond_text : ℕ → List ℕ
 cond_text cond =
-    if nat_lt cond 64 then codes "c" ++ decimal cond
-    else if nat_lt cond 128 then codes "d" ++ decimal (cond - 64)
-    else if nat_lt cond 256 then codes "b" ++ decimal (cond - 128)
-    else codes "v" ++ decimal (cond - 256)
+    if nat_lt cond FIRST_DONE then codes "c" ++ decimal cond
+    else if nat_lt cond FIRST_BIT_WORD then codes "d" ++ decimal (cond - FIRST_DONE)
+    else if nat_lt cond FIRST_VARIABLE then codes "b" ++ decimal (cond - FIRST_BIT_WORD)
+    else codes "v" ++ decimal (cond - FIRST_VARIABLE)
 
 abbrev pub sleep_text : Sleep → List ℕ
 sleep_text sleep.Stay = codes "stay"
@@ -137,7 +144,6 @@ step_text task Full = []
 
 -- refused openings by their numbers
 abbrev pub fault_number : StartFault → ℕ
-fault_number NoSuchTask = 1
 fault_number CallOpen = 2
 fault_number NoSuchCond = 3
 fault_number NotHeld = 4

@@ -4,22 +4,15 @@ ghost use Rattle.std.specs.Prelude.{◌≤◌, ◌<◌, ◌++◌, IsErrOf, codes
 ghost use Rattle.edge_io.specs.Faults.{HasRisen};
 ghost use Rattle.edge_io.specs.Text.{WritesText};
 ghost use Rattle.wait_model.specs.Runs.{state_of};
-ghost use Rattle.wait_script.specs.Fields.{last_task};
-ghost use Rattle.wait_script.specs.Ending.{events_text, member_text, line_of_task, line_of_head, line_of_word, tasks_text, heads_text, words_text, end_text};
+ghost use Rattle.wait_script.specs.Ending.{events_text, member_text, tasks_text, heads_text, words_text, ending_text};
+ghost use Rattle.wait_script.specs.Ending.{line_of_task, line_of_head, line_of_word};
 
 use crate::pieces::LineText;
 use crate::summary::{push_events, push_head_front, push_member, push_task_end, push_word};
 use edge_io::{Sink, SinkFault, write_all};
 use wait_core::Core;
+use wait_model::layout::{CONDITION_AT, CONDITIONS, HEADS, SCRIPT_TASKS};
 use wait_model::queues::Member;
-use wait_model::tasks::TASKS;
-
-/// How many heads there are.
-const HEADS: u16 = 384;
-/// How many condition words there are, and where they stand.
-const CONDS: u16 = 384;
-
-const FIRST_COND: u32 = 1_153;
 
 /// Writes the line of the number of events.
 fn write_events<K: Sink>(out: &mut K, events: u32) -> Result<(), SinkFault>
@@ -34,7 +27,7 @@ fn write_events<K: Sink>(out: &mut K, events: u32) -> Result<(), SinkFault>
 
 /// Writes the line of a task that ever had a call opened.
 fn write_task<K: Sink>(out: &mut K, core: &Core, task: u8) -> Result<(), SinkFault>
-    requires { task ≤ last_task }
+    requires { task < SCRIPT_TASKS }
     ensures text { WritesText (K.held out.old) (K.held out.new) (line_of_task (state_of core.now) task) result }
     ensures cause { IsErrOf result SinkFault.Failed → HasRisen (K.faults out.old) (K.faults out.new) }
     ensures later { K.faults out.old ≤ K.faults out.new }
@@ -47,13 +40,13 @@ fn write_task<K: Sink>(out: &mut K, core: &Core, task: u8) -> Result<(), SinkFau
     write_all(out, line.as_slice())
 }
 
-/// Writes the lines of the tasks.
+/// Writes the lines of the tasks that a script has.
 fn write_tasks<K: Sink>(out: &mut K, core: &Core) -> Result<(), SinkFault>
     ensures text { WritesText (K.held out.old) (K.held out.new) (tasks_text (state_of core.now)) result }
     ensures cause { IsErrOf result SinkFault.Failed → HasRisen (K.faults out.old) (K.faults out.new) }
     ensures later { K.faults out.old ≤ K.faults out.new }
 {
-    for task in 0..TASKS {
+    for task in 0..SCRIPT_TASKS as u8 {
         write_task(out, core, task)?;
     }
     Ok(())
@@ -112,14 +105,14 @@ fn write_heads<K: Sink>(out: &mut K, core: &Core) -> Result<(), SinkFault>
 }
 
 /// Writes the line of a condition word that is not 0.
-#[tactic(auto, using(crate::proofs::Endings::word_value))]
+#[tactic(auto, using(crate::proofs::EndLines::word_value))]
 fn write_word<K: Sink>(out: &mut K, core: &Core, cond: u16) -> Result<(), SinkFault>
-    requires { cond < 384 }
+    requires { cond < CONDITIONS }
     ensures text { WritesText (K.held out.old) (K.held out.new) (line_of_word (state_of core.now) cond) result }
     ensures cause { IsErrOf result SinkFault.Failed → HasRisen (K.faults out.old) (K.faults out.new) }
     ensures later { K.faults out.old ≤ K.faults out.new }
 {
-    let value = core.word_at(FIRST_COND + u32::from(cond));
+    let value = core.word_at(CONDITION_AT + u32::from(cond));
     let mut line = LineText::new();
     push_word(&mut line, cond, value);
     write_all(out, line.as_slice())
@@ -131,7 +124,7 @@ fn write_words<K: Sink>(out: &mut K, core: &Core) -> Result<(), SinkFault>
     ensures cause { IsErrOf result SinkFault.Failed → HasRisen (K.faults out.old) (K.faults out.new) }
     ensures later { K.faults out.old ≤ K.faults out.new }
 {
-    for cond in 0..CONDS {
+    for cond in 0..CONDITIONS {
         write_word(out, core, cond)?;
     }
     Ok(())
@@ -140,7 +133,7 @@ fn write_words<K: Sink>(out: &mut K, core: &Core) -> Result<(), SinkFault>
 /// Writes the end lines: the number of events, each task that ever had a call opened, each head that has
 /// members, and each condition word that is not 0, each kind by rising number.
 pub fn write_end<K: Sink>(out: &mut K, core: &Core) -> Result<(), SinkFault>
-    ensures text { WritesText (K.held out.old) (K.held out.new) (end_text core.now) result }
+    ensures text { WritesText (K.held out.old) (K.held out.new) (ending_text core.now) result }
     ensures cause { IsErrOf result SinkFault.Failed → HasRisen (K.faults out.old) (K.faults out.new) }
     ensures later { K.faults out.old ≤ K.faults out.new }
 {

@@ -1,5 +1,5 @@
 //! The forms of the calls on plain conditions and tasks, and the calls by their names: for each name, what the
-//! words behind it say.
+//! words after it say.
 
 ghost use Rattle.std.specs.Prelude.{◌≡◌, map, codes};
 ghost use Rattle.std.specs.Str.{bytes_eq};
@@ -13,141 +13,140 @@ use crate::fields::{
     LAST_PRIORITY_TASK, LAST_TASK, condition, count, fatal, form, how, kind, mode, state, task,
     value,
 };
-use crate::why::{UNKNOWN_WORD, WORD_COUNT};
+use crate::reason::Reason;
 use crate::words::both;
 use wait_model::calls::Call;
+use wait_model::layout::{FIRST_SIMPLE, PLAIN_CONDITIONS, SCRIPT_SELECTED};
 
 /// The last condition of a full wait queue, and the last of all.
-const LAST_FULL: u8 = 47;
+const LAST_FULL: u8 = FIRST_SIMPLE as u8 - 1;
 
-const LAST_COND: u8 = 63;
-/// The most exclusive entries that a wake counts.
-const MOST_WOKEN: u32 = 127;
+const LAST_COND: u8 = PLAIN_CONDITIONS as u8 - 1;
 
-/// `remove` and `accept`, which have no words behind their names.
-fn alone(words: &[&[u8]], call: Call) -> Result<Call, u8>
+/// `remove` and `accept`, which have no words after their names.
+fn alone(words: &[&[u8]], call: Call) -> Result<Call, Reason>
     ensures { result ≡ spec.form0 call (map (λ w. w.now) words.now) }
 {
     if words.is_empty() {
         Ok(call)
     } else {
-        Err(WORD_COUNT)
+        Err(Reason::WordCount)
     }
 }
 
-/// `wait CONDITION HOW`, by the words behind the name.
-#[tactic(auto, using(crate::proofs::Counts::few2))]
-fn wait(words: &[&[u8]]) -> Result<Call, u8>
+/// `wait CONDITION HOW`, by the words after the name.
+#[tactic(auto, using(crate::proofs::WordCounts::few2))]
+fn wait(words: &[&[u8]]) -> Result<Call, Reason>
     ensures { result ≡ spec.wait_at (map (λ w. w.now) words.now) }
 {
     let [cond, form] = words else {
-        return Err(WORD_COUNT);
+        return Err(Reason::WordCount);
     };
     let (cond, how) = both(condition(cond, 0, LAST_FULL), how(form))?;
     Ok(Call::Wait { cond, how })
 }
 
-/// `set CONDITION VALUE`, by the words behind the name.
-#[tactic(auto, using(crate::proofs::Counts::few2))]
-fn set(words: &[&[u8]]) -> Result<Call, u8>
+/// `set CONDITION VALUE`, by the words after the name.
+#[tactic(auto, using(crate::proofs::WordCounts::few2))]
+fn set(words: &[&[u8]]) -> Result<Call, Reason>
     ensures { result ≡ spec.set_at (map (λ w. w.now) words.now) }
 {
     let [cond, number] = words else {
-        return Err(WORD_COUNT);
+        return Err(Reason::WordCount);
     };
     let (cond, value) = both(condition(cond, 0, LAST_COND), value(number))?;
     Ok(Call::Set { cond, value })
 }
 
-/// `take CONDITION`, by the words behind the name.
-#[tactic(auto, using(crate::proofs::Counts::few1))]
-fn take(words: &[&[u8]]) -> Result<Call, u8>
+/// `take CONDITION`, by the words after the name.
+#[tactic(auto, using(crate::proofs::WordCounts::few1))]
+fn take(words: &[&[u8]]) -> Result<Call, Reason>
     ensures { result ≡ spec.take_at (map (λ w. w.now) words.now) }
 {
     let [cond] = words else {
-        return Err(WORD_COUNT);
+        return Err(Reason::WordCount);
     };
     let cond = condition(cond, 0, LAST_COND)?;
     Ok(Call::Take { cond })
 }
 
-/// `read CONDITION`, by the words behind the name.
-#[tactic(auto, using(crate::proofs::Counts::few1))]
-fn read(words: &[&[u8]]) -> Result<Call, u8>
+/// `read CONDITION`, by the words after the name.
+#[tactic(auto, using(crate::proofs::WordCounts::few1))]
+fn read(words: &[&[u8]]) -> Result<Call, Reason>
     ensures { result ≡ spec.read_at (map (λ w. w.now) words.now) }
 {
     let [cond] = words else {
-        return Err(WORD_COUNT);
+        return Err(Reason::WordCount);
     };
     let cond = condition(cond, 0, LAST_COND)?;
     Ok(Call::Read { cond })
 }
 
-/// `wake CONDITION MODE COUNT`, by the words behind the name.
-#[tactic(auto, using(crate::proofs::Counts::few3))]
-fn wake(words: &[&[u8]]) -> Result<Call, u8>
+/// `wake CONDITION MODE COUNT`, by the words after the name.
+#[tactic(auto, using(crate::proofs::WordCounts::few3))]
+fn wake(words: &[&[u8]]) -> Result<Call, Reason>
     ensures { result ≡ spec.wake_at (map (λ w. w.now) words.now) }
 {
     let [cond, by, number] = words else {
-        return Err(WORD_COUNT);
+        return Err(Reason::WordCount);
     };
     let (cond, (mode, count)) = both(
         condition(cond, 0, LAST_FULL),
-        both(mode(by), count(number, 0, MOST_WOKEN)),
+        both(mode(by), count(number, 0, SCRIPT_SELECTED)),
     )?;
     Ok(Call::Wake { cond, mode, count })
 }
 
-/// `add CONDITION KIND FORM`, by the words behind the name.
-#[tactic(auto, using(crate::proofs::Counts::few3))]
-fn add(words: &[&[u8]]) -> Result<Call, u8>
+/// `add CONDITION KIND FORM`, by the words after the name.
+#[tactic(auto, using(crate::proofs::WordCounts::few3))]
+fn add(words: &[&[u8]]) -> Result<Call, Reason>
     ensures { result ≡ spec.add_at (map (λ w. w.now) words.now) }
 {
     let [cond, of, place] = words else {
-        return Err(WORD_COUNT);
+        return Err(Reason::WordCount);
     };
     let (cond, (kind, form)) = both(condition(cond, 0, LAST_FULL), both(kind(of), form(place)))?;
     Ok(Call::Add { cond, kind, form })
 }
 
-/// `woken STATE`, by the words behind the name.
-#[tactic(auto, using(crate::proofs::Counts::few1))]
-fn woken(words: &[&[u8]]) -> Result<Call, u8>
+/// `woken STATE`, by the words after the name.
+#[tactic(auto, using(crate::proofs::WordCounts::few1))]
+fn woken(words: &[&[u8]]) -> Result<Call, Reason>
     ensures { result ≡ spec.woken_at (map (λ w. w.now) words.now) }
 {
     let [word] = words else {
-        return Err(WORD_COUNT);
+        return Err(Reason::WordCount);
     };
     let state = state(word)?;
     Ok(Call::Woken { state })
 }
 
-/// `signal TASK FORM`, by the words behind the name.
-#[tactic(auto, using(crate::proofs::Counts::few2))]
-fn signal(words: &[&[u8]]) -> Result<Call, u8>
+/// `signal TASK FORM`, by the words after the name.
+#[tactic(auto, using(crate::proofs::WordCounts::few2))]
+fn signal(words: &[&[u8]]) -> Result<Call, Reason>
     ensures { result ≡ spec.signal_at (map (λ w. w.now) words.now) }
 {
     let [to, form] = words else {
-        return Err(WORD_COUNT);
+        return Err(Reason::WordCount);
     };
     let (who, fatal) = both(task(to, LAST_TASK), fatal(form))?;
     Ok(Call::Signal { who, fatal })
 }
 
-/// `kick TASK`, by the words behind the name.
-#[tactic(auto, using(crate::proofs::Counts::few1))]
-fn kick(words: &[&[u8]]) -> Result<Call, u8>
+/// `kick TASK`, by the words after the name.
+#[tactic(auto, using(crate::proofs::WordCounts::few1))]
+fn kick(words: &[&[u8]]) -> Result<Call, Reason>
     ensures { result ≡ spec.kick_at (map (λ w. w.now) words.now) }
 {
     let [to] = words else {
-        return Err(WORD_COUNT);
+        return Err(Reason::WordCount);
     };
     let who = task(to, LAST_TASK)?;
     Ok(Call::Kick { who })
 }
 
-/// A call by its name and the words behind it.
-pub fn named(name: &[u8], rest: &[&[u8]]) -> Result<Call, u8>
+/// A call by its name and the words after it.
+pub fn named(name: &[u8], rest: &[&[u8]]) -> Result<Call, Reason>
     ensures { result ≡ spec.named_at name.now (map (λ w. w.now) rest.now) }
 {
     match name {
@@ -176,7 +175,7 @@ pub fn named(name: &[u8], rest: &[&[u8]]) -> Result<Call, u8>
         b"clearbit" => clear_bit(rest),
         b"waitvar" => wait_var(rest),
         b"setvar" => set_var(rest),
-        _ => Err(UNKNOWN_WORD),
+        _ => Err(Reason::UnknownWord),
     }
 }
 

@@ -7,58 +7,56 @@ ghost use Rattle.wait_script.specs.Lines.{step_at, call_at, words_at, is_printab
 
 use crate::fields::{LAST_TASK, count, task};
 use crate::forms::{last_of, named};
-use crate::why::{BAD_BYTE, LONG_LINE, NO_HEADER, UNKNOWN_WORD, WORD_COUNT};
+use crate::reason::Reason;
 use crate::words::{both, split};
 use std::alloc::AllocError;
 use wait_model::calls::Call;
+use wait_model::layout::{EVENTS, LINE_BYTES};
 
-/// The most bytes of a line, without its line feed.
-const MAX_LINE: usize = 200;
-
-/// A line of a script behind its header.
+/// A line of a script after its header.
 #[derive(Clone, Copy)]
 pub enum Line {
     /// A call of a task is opened.
     Call { task: u8, call: Call },
-    /// A task makes up to so many steps, 1 to 1,000,000.
+    /// A task makes up to so many steps, 1 to `EVENTS`.
     Step { task: u8, count: u32 },
 }
 
-/// `step TASK COUNT`, by the words behind the first.
-#[tactic(auto, using(crate::proofs::Counts::few_step))]
-fn step(words: &[&[u8]]) -> Result<Line, u8>
+/// `step TASK COUNT`, by the words after the first.
+#[tactic(auto, using(crate::proofs::WordCounts::few_step))]
+fn step(words: &[&[u8]]) -> Result<Line, Reason>
     ensures { result ≡ step_at (map (λ w. w.now) words.now) }
 {
     let [who, number] = words else {
-        return Err(WORD_COUNT);
+        return Err(Reason::WordCount);
     };
-    let (task, count) = both(task(who, LAST_TASK), count(number, 1, 1_000_000))?;
+    let (task, count) = both(task(who, LAST_TASK), count(number, 1, EVENTS))?;
     Ok(Line::Step { task, count })
 }
 
-/// `call TASK NAME ..`, by the words behind the first.
-#[tactic(auto, using(crate::proofs::Counts::few_call))]
-fn call(words: &[&[u8]]) -> Result<Line, u8>
+/// `call TASK NAME ..`, by the words after the first.
+#[tactic(auto, using(crate::proofs::WordCounts::few_call))]
+fn call(words: &[&[u8]]) -> Result<Line, Reason>
     ensures { result ≡ call_at (map (λ w. w.now) words.now) }
 {
     let [who, name, rest @ ..] = words else {
-        return Err(WORD_COUNT);
+        return Err(Reason::WordCount);
     };
     let (task, call) = both(task(who, last_of(name, rest)), named(name, rest))?;
     Ok(Line::Call { task, call })
 }
 
 /// A line by its words.
-fn by_words(words: &[&[u8]]) -> Result<Line, u8>
+fn by_words(words: &[&[u8]]) -> Result<Line, Reason>
     ensures { result ≡ words_at (map (λ w. w.now) words.now) }
 {
     let [verb, rest @ ..] = words else {
-        return Err(UNKNOWN_WORD);
+        return Err(Reason::UnknownWord);
     };
     match *verb {
         b"call" => call(rest),
         b"step" => step(rest),
-        _ => Err(UNKNOWN_WORD),
+        _ => Err(Reason::UnknownWord),
     }
 }
 
@@ -77,32 +75,32 @@ fn is_header(line: &[u8]) -> bool
 }
 
 /// Whether line 1 is the header, or the first reason why it is bad.
-pub fn read_header(line: &[u8]) -> Result<(), u8>
+pub fn read_header(line: &[u8]) -> Result<(), Reason>
     ensures { result ≡ header_at line.now }
 {
-    if line.len() > MAX_LINE {
-        Err(LONG_LINE)
+    if line.len() > LINE_BYTES {
+        Err(Reason::LongLine)
     } else if !is_printable_line(line) {
-        Err(BAD_BYTE)
+        Err(Reason::BadByte)
     } else if !is_header(line) {
-        Err(NO_HEADER)
+        Err(Reason::NoHeader)
     } else {
         Ok(())
     }
 }
 
-/// What a line behind the header says, or the first reason why it is bad. `words` is room for its words.
+/// What a line after the header says, or the first reason why it is bad. `words` is room for its words.
 pub fn read_line<'a>(
     words: &mut Vec<&'a [u8]>,
     line: &'a [u8],
-) -> Result<Result<Line, u8>, AllocError>
+) -> Result<Result<Line, Reason>, AllocError>
     ensures { IfOk result (λ r. r ≡ line_at line.now) }
 {
-    if line.len() > MAX_LINE {
-        return Ok(Err(LONG_LINE));
+    if line.len() > LINE_BYTES {
+        return Ok(Err(Reason::LongLine));
     }
     if !split(words, line)? {
-        return Ok(Err(BAD_BYTE));
+        return Ok(Err(Reason::BadByte));
     }
     Ok(by_words(words))
 }

@@ -1,7 +1,7 @@
 //! Numbers as a script spells them.
 
 ghost use Rattle.std.specs.Prelude.{◌≡◌, ◌+◌, ◌-◌, ◌*◌, ◌≤◌};
-ghost use Rattle.wait_script.specs.Number.{number_of, is_plain};
+ghost use Rattle.wait_script.specs.Number.{numeral_value, is_plain};
 ghost use Rattle.wait_script.specs.Reading.{fitting, digits_of};
 
 /// No sign, and no zero in front of more digits.
@@ -15,7 +15,7 @@ pub fn plain(word: &[u8]) -> bool
     }
 }
 
-/// A number with one more digit behind it, if it has 64 bits.
+/// A number with one more digit after it, if it has 64 bits.
 fn with_digit(value: u64, digit: u8) -> Option<u64>
     requires { (48 ≤ digit) × (digit ≤ 57) }
     ensures { result ≡ fitting (value * 10 + (digit - 48)) }
@@ -40,7 +40,7 @@ fn value_of(word: &[u8]) -> Option<u64>
 /// A number of 64 bits, in its one spelling: decimal digits, without a sign and without a leading zero but `0`
 /// itself.
 pub fn number(word: &[u8]) -> Option<u64>
-    ensures { result ≡ number_of word.now }
+    ensures { result ≡ numeral_value word.now }
 {
     if word.is_empty() || !plain(word) {
         return None;

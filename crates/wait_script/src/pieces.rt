@@ -1,5 +1,5 @@
-//! Texts of lines, put together piece by piece. Who puts a piece behind a text has seen to the room for it: a text has
-//! at most 160 bytes, and each contract says how many more there may be behind the call.
+//! Texts of lines, put together piece by piece. Who puts a piece after a text has seen to the room for it: a text has
+//! at most `TEXT_BYTES` bytes, and each contract says how many more there may be after the call.
 
 ghost use Rattle.std.specs.Prelude.{◌≡◌, ◌+◌, ◌<◌, ◌≤◌, ◌++◌, ◌∷◌, [], length, decimal};
 ghost use Rattle.std.specs.Fmt.{signed_decimal};
@@ -7,17 +7,15 @@ ghost use Rattle.arrayvec.specs.ArrayVec.{array_vec_len};
 
 use arrayvec::ArrayVec;
 use itoa::Buffer;
+use wait_model::layout::TEXT_BYTES;
 
-/// The most bytes of a text that is written at once: the lines of one step, or one other line.
-pub const LINE_ROOM: usize = 160;
+/// A text on its way: what is written at once, the lines of one step or one other line.
+pub type LineText = ArrayVec<u8, TEXT_BYTES>;
 
-/// A text on its way.
-pub type LineText = ArrayVec<u8, LINE_ROOM>;
-
-/// Puts a piece behind a text.
+/// Puts a piece after a text.
 #[inline(always)]
 pub fn push_text(line: &mut LineText, piece: &[u8])
-    requires { array_vec_len line.old + length piece.now ≤ 160 }
+    requires { array_vec_len line.old + length piece.now ≤ TEXT_BYTES }
     ensures text { line.new.items ≡ line.old.items ++ piece.now }
     ensures len { array_vec_len line.new ≡ array_vec_len line.old + length piece.now }
 {
@@ -26,23 +24,23 @@ pub fn push_text(line: &mut LineText, piece: &[u8])
     }
 }
 
-/// Puts the digit of a number below 10 behind a text.
+/// Puts the digit of a number below 10 after a text.
 #[inline(always)]
 fn push_digit(line: &mut LineText, digit: u64)
     requires digit { digit < 10 }
-    requires room { array_vec_len line.old < 160 }
+    requires room { array_vec_len line.old < TEXT_BYTES }
     ensures text { line.new.items ≡ line.old.items ++ (48 + digit) ∷ [] }
     ensures len { array_vec_len line.new ≡ array_vec_len line.old + 1 }
 {
     line.push(b'0' + digit as u8);
 }
 
-/// Puts a number from 10 to 99 behind a text.
+/// Puts a number from 10 to 99 after a text.
 #[inline(always)]
 fn push_two(line: &mut LineText, number: u64)
     requires from { 10 ≤ number }
     requires below { number < 100 }
-    requires room { array_vec_len line.old + 2 ≤ 160 }
+    requires room { array_vec_len line.old + 2 ≤ TEXT_BYTES }
     ensures text { line.new.items ≡ line.old.items ++ decimal number }
     ensures len { array_vec_len line.new ≡ array_vec_len line.old + 2 }
 {
@@ -50,10 +48,10 @@ fn push_two(line: &mut LineText, number: u64)
     push_digit(line, number % 10);
 }
 
-/// Puts a number behind a text. Most numbers have at most three digits.
+/// Puts a number after a text. Most numbers have at most three digits.
 #[inline(never)]
 fn push_decimal(line: &mut LineText, number: u64)
-    requires { array_vec_len line.old + length (decimal number) ≤ 160 }
+    requires { array_vec_len line.old + length (decimal number) ≤ TEXT_BYTES }
     ensures text { line.new.items ≡ line.old.items ++ decimal number }
 {
     match number {
@@ -67,39 +65,39 @@ fn push_decimal(line: &mut LineText, number: u64)
     }
 }
 
-/// Puts a number behind a text, whatever its length.
+/// Puts a number after a text, whatever its length.
 #[cold]
 #[inline(never)]
 fn push_long(line: &mut LineText, number: u64)
-    requires { array_vec_len line.old + length (decimal number) ≤ 160 }
+    requires { array_vec_len line.old + length (decimal number) ≤ TEXT_BYTES }
     ensures text { line.new.items ≡ line.old.items ++ decimal number }
 {
     push_text(line, Buffer::new().format(number).as_bytes());
 }
 
-/// Puts a number behind a text.
+/// Puts a number after a text.
 #[inline]
 pub fn push_number(line: &mut LineText, number: u64)
-    requires { array_vec_len line.old + 20 ≤ 160 }
+    requires { array_vec_len line.old + 20 ≤ TEXT_BYTES }
     ensures text { line.new.items ≡ line.old.items ++ decimal number }
     ensures len { array_vec_len line.new ≤ array_vec_len line.old + 20 }
 {
     push_decimal(line, number);
 }
 
-/// Puts a number of 16 bits behind a text.
+/// Puts a number of 16 bits after a text.
 #[inline]
 pub fn push_short(line: &mut LineText, number: u16)
-    requires { array_vec_len line.old + 5 ≤ 160 }
+    requires { array_vec_len line.old + 5 ≤ TEXT_BYTES }
     ensures text { line.new.items ≡ line.old.items ++ decimal number }
     ensures len { array_vec_len line.new ≤ array_vec_len line.old + 5 }
 {
     push_decimal(line, number.into());
 }
 
-/// Puts a number that may be below 0 behind a text.
+/// Puts a number that may be below 0 after a text.
 pub fn push_signed(line: &mut LineText, number: i32)
-    requires { array_vec_len line.old + 21 ≤ 160 }
+    requires { array_vec_len line.old + 21 ≤ TEXT_BYTES }
     ensures text { line.new.items ≡ line.old.items ++ signed_decimal number }
     ensures len { array_vec_len line.new ≤ array_vec_len line.old + 21 }
 {

@@ -1,17 +1,19 @@
 //! Scripts by their bytes.
 
-ghost use Rattle.std.specs.Prelude.{◌≡◌, ◌<◌, ◌≤◌, ◌∷◌, [], length, IfSome, IfNone, position, IfOk, All, List, sum_by};
+ghost use Rattle.std.specs.Prelude.{◌≡◌, ◌<◌, ◌≤◌, ◌∷◌, [], length, position, sum_by};
+ghost use Rattle.std.specs.Prelude.{IfSome, IfNone, IfOk, All, List};
 ghost use Rattle.wait_script.specs.declared.line.Line.{Line};
-ghost use Rattle.wait_script.specs.Lines.{count_of};
+ghost use Rattle.wait_script.specs.Lines.{events_asked};
 ghost use Rattle.wait_script.specs.Spelling.{script_text, IsFit};
 ghost use Rattle.wait_script.specs.Script.{is_end, parts_of, lines_from, script_of, AnswersAs, IsReadAs};
-ghost use Rattle.wait_script.specs.Reading.{IsFirst};
+ghost use Rattle.wait_script.specs.Reading.{IsFirstLine};
 
 use crate::line::{Line, read_header, read_line};
+use crate::reason::Reason;
 use crate::script::{ReadScript, Script};
 use crate::steps::first_step;
-use crate::why::{CUT_LINE, NO_HEADER};
 use std::alloc::{AllocError, Global};
+use wait_model::layout::INPUT_BYTES;
 
 /// Where the first line ends, if it has an end.
 fn line_end(bytes: &[u8]) -> Option<usize>
@@ -35,8 +37,8 @@ fn first_line(bytes: &[u8]) -> Option<(&[u8], &[u8])>
 fn next_line<'a>(
     words: &mut Vec<&'a [u8]>,
     bytes: &'a [u8],
-) -> Result<Option<(Result<Line, u8>, &'a [u8])>, AllocError>
-    ensures some { IfOk result (λ next. IfSome next (λ p. IsFirst bytes.now p.0 p.1.now)) }
+) -> Result<Option<(Result<Line, Reason>, &'a [u8])>, AllocError>
+    ensures some { IfOk result (λ next. IfSome next (λ p. IsFirstLine bytes.now p.0 p.1.now)) }
     ensures shorter { IfOk result (λ next. IfSome next (λ p. length p.1.now < length bytes.now)) }
     ensures none { IfOk result (λ next. IfNone next (parts_of bytes.now ≡ bytes.now ∷ [])) }
 {
@@ -50,9 +52,9 @@ fn next_line<'a>(
     Ok(Some((line, more)))
 }
 
-/// The lines behind the header.
+/// The lines after the header.
 fn read_lines(alloc: Global, bytes: &[u8]) -> Result<Vec<Line>, ReadScript>
-    requires { length bytes.now ≤ 1048576 }
+    requires { length bytes.now ≤ INPUT_BYTES }
     ensures { AnswersAs (λ v. v.items) result (lines_from 2 (parts_of bytes.now)) }
 {
     let mut lines = Vec::new(alloc);
@@ -70,22 +72,22 @@ fn read_lines(alloc: Global, bytes: &[u8]) -> Result<Vec<Line>, ReadScript>
     if !rest.is_empty() {
         return Err(ReadScript::Bad {
             line: number,
-            why: CUT_LINE,
+            why: Reason::CutLine,
         });
     }
     Ok(lines)
 }
 
-/// Reads the header and the lines behind it.
+/// Reads the header and the lines after it.
 fn read_headed(alloc: Global, bytes: &[u8]) -> Result<Script, ReadScript>
-    requires { length bytes.now ≤ 1048576 }
+    requires { length bytes.now ≤ INPUT_BYTES }
     ensures { AnswersAs (λ s. s) result (script_of bytes.now) }
 {
     let Some((header, rest)) = first_line(bytes) else {
         let why = if bytes.is_empty() {
-            NO_HEADER
+            Reason::NoHeader
         } else {
-            CUT_LINE
+            Reason::CutLine
         };
         return Err(ReadScript::Bad { line: 1, why });
     };
@@ -96,12 +98,12 @@ fn read_headed(alloc: Global, bytes: &[u8]) -> Result<Script, ReadScript>
     Ok(Script { lines })
 }
 
-/// Reads a script of at most 1,048,576 bytes, or answers the first bad line and the first reason that stands there,
+/// Reads a script of at most `INPUT_BYTES` bytes, or answers the first bad line and the first reason that stands there,
 /// or that memory ran out. What is read has its numbers in their ranges and is spelled just so; and whatever is
 /// spelled so, with its numbers in their ranges, is read.
-#[tactic(auto, using(crate::proofs::Read::spelled, crate::proofs::Read::fits, crate::proofs::Read::again))]
+#[tactic(auto, using(crate::proofs::Spelled::spelled, crate::proofs::Spelled::fits, crate::proofs::Spelled::again))]
 pub fn read_script(alloc: Global, bytes: &[u8]) -> Result<Script, ReadScript>
-    requires { length bytes.now ≤ 1048576 }
+    requires { length bytes.now ≤ INPUT_BYTES }
     ensures script { AnswersAs (λ s. s) result (script_of bytes.now) }
     ensures spelled { IfOk result (λ s. bytes.now ≡ script_text s) }
     ensures fits { IfOk result (λ s. All IsFit s) }
@@ -112,7 +114,7 @@ pub fn read_script(alloc: Global, bytes: &[u8]) -> Result<Script, ReadScript>
 
 /// How many events a script asks for: the sum of its step counts.
 pub fn asked(script: &Script) -> u128
-    ensures { result ≡ sum_by count_of script.now }
+    ensures { result ≡ sum_by events_asked script.now }
 {
     let mut total = 0;
     for line in &script.lines {

@@ -4,11 +4,12 @@ ghost use Rattle.std.specs.Prelude.{◌≡◌, List};
 ghost use Rattle.wait_script.specs.declared.line.Line.{Line};
 
 use crate::line::Line;
+use crate::reason::Reason;
 use std::alloc::{AllocError, AllocFailed, Global};
 use std::marker::Model;
 use thiserror::Error;
 
-/// A script: the lines behind its header.
+/// A script: the lines after its header.
 #[derive(Drop)]
 pub struct Script {
     pub lines: Vec<Line>,
@@ -23,10 +24,9 @@ impl Model for Script {
 /// Why there is no script.
 #[derive(Clone, Copy, Debug, PartialEq, Eq, Error)]
 pub enum ReadScript {
-    /// The bytes are none: the first bad line, from 1, and the first reason that stands there, by the numbers
-    /// of the module `why`.
+    /// The bytes are none: the first bad line, from 1, and the first reason that stands there.
     #[error("line {line} is bad, for reason {why}")]
-    Bad { line: u32, why: u8 },
+    Bad { line: u32, why: Reason },
     /// The list of lines, or of a line's words, can't be had.
     #[error("there is no memory for the lines of a script")]
     OutOfMemory,

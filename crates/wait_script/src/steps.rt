@@ -7,6 +7,7 @@ ghost use Rattle.wait_script.specs.Spelling.{line_text, IsFit};
 use crate::fields::LAST_TASK;
 use crate::line::Line;
 use crate::number::plain;
+use wait_model::layout::EVENTS;
 
 /// Whether digits are a number's: there are some, and no zero in front of more.
 fn is_whole(digits: &[u8]) -> bool
@@ -37,7 +38,7 @@ fn number_before(bytes: &[u8], end: u8) -> Option<(u32, &[u8])>
 }
 
 /// What follows `step` and a space.
-fn behind_step(bytes: &[u8]) -> Option<&[u8]>
+fn after_step(bytes: &[u8]) -> Option<&[u8]>
     ensures { IfSome result (λ rest. bytes.now ≡ codes "step " ++ rest.now) }
 {
     match bytes {
@@ -52,10 +53,10 @@ pub fn first_step(bytes: &[u8]) -> Option<(Line, &[u8])>
     ensures fits { IfSome result (λ p. IsFit p.0) }
     ensures spelled { IfSome result (λ p. bytes.now ≡ line_text p.0 ++ 10 ∷ p.1.now) }
 {
-    let rest = behind_step(bytes)?;
+    let rest = after_step(bytes)?;
     let (task, rest) = number_before(rest, b' ')?;
     let (count, rest) = number_before(rest, b'\n')?;
-    if task > u32::from(LAST_TASK) || count == 0 || count > 1_000_000 {
+    if task > u32::from(LAST_TASK) || count == 0 || count > EVENTS {
         return None;
     }
     let task = task as u8;

@@ -7,12 +7,13 @@ ghost use Rattle.wait_script.specs.Ending.{events_text, signal_text, act_text, t
 
 use crate::pieces::{LineText, push_number, push_short, push_text};
 use crate::text::{push_cond, push_state};
+use wait_model::layout::{ENTRIES, TEXT_BYTES};
 use wait_model::queues::Member;
-use wait_model::tasks::Task;
+use wait_model::tasks::TaskRecord;
 
-/// Puts the line of the number of events behind a text.
+/// Puts the line of the number of events after a text.
 pub fn push_events(line: &mut LineText, events: u32)
-    requires { array_vec_len line.old + 28 ≤ 160 }
+    requires { array_vec_len line.old + 28 ≤ TEXT_BYTES }
     ensures text { line.new.items ≡ line.old.items ++ events_text events }
     ensures len { array_vec_len line.new ≤ array_vec_len line.old + 28 }
 {
@@ -21,9 +22,9 @@ pub fn push_events(line: &mut LineText, events: u32)
     push_text(line, b"\n");
 }
 
-/// Puts the signal that a task has pending behind a text.
-fn push_signal(line: &mut LineText, shown: &Task)
-    requires { array_vec_len line.old + 5 ≤ 160 }
+/// Puts the signal that a task has pending after a text.
+fn push_signal(line: &mut LineText, shown: &TaskRecord)
+    requires { array_vec_len line.old + 5 ≤ TEXT_BYTES }
     ensures text { line.new.items ≡ line.old.items ++ signal_text shown.now }
     ensures len { array_vec_len line.new ≤ array_vec_len line.old + 5 }
 {
@@ -36,9 +37,9 @@ fn push_signal(line: &mut LineText, shown: &Task)
     }
 }
 
-/// Puts behind a text what a task does: its call is ended, or open while it sleeps or can run.
+/// Puts after a text what a task does: its call is ended, or open while it sleeps or can run.
 fn push_act(line: &mut LineText, is_open: bool, runnable: bool)
-    requires { array_vec_len line.old + 6 ≤ 160 }
+    requires { array_vec_len line.old + 6 ≤ TEXT_BYTES }
     ensures text { line.new.items ≡ line.old.items ++ act_text is_open runnable }
     ensures len { array_vec_len line.new ≤ array_vec_len line.old + 6 }
 {
@@ -49,9 +50,9 @@ fn push_act(line: &mut LineText, is_open: bool, runnable: bool)
     }
 }
 
-/// Puts the end line of a task that had a call opened behind a text.
-pub fn push_task_end(line: &mut LineText, task: u8, is_open: bool, shown: &Task)
-    requires { array_vec_len line.old + 30 ≤ 160 }
+/// Puts the end line of a task that had a call opened after a text.
+pub fn push_task_end(line: &mut LineText, task: u8, is_open: bool, shown: &TaskRecord)
+    requires { array_vec_len line.old + 30 ≤ TEXT_BYTES }
     ensures text { line.new.items ≡ line.old.items ++ task_text task (option.Some is_open) shown.now }
     ensures len { array_vec_len line.new ≤ array_vec_len line.old + 30 }
 {
@@ -66,9 +67,9 @@ pub fn push_task_end(line: &mut LineText, task: u8, is_open: bool, shown: &Task)
     push_text(line, b"\n");
 }
 
-/// Puts the front of a head's line behind a text.
+/// Puts the front of a head's line after a text.
 pub fn push_head_front(line: &mut LineText, head: u16)
-    requires { array_vec_len line.old + 11 ≤ 160 }
+    requires { array_vec_len line.old + 11 ≤ TEXT_BYTES }
     ensures text { line.new.items ≡ line.old.items ++ codes "head h" ++ decimal head }
     ensures len { array_vec_len line.new ≤ array_vec_len line.old + 11 }
 {
@@ -76,28 +77,25 @@ pub fn push_head_front(line: &mut LineText, head: u16)
     push_short(line, head);
 }
 
-/// The members below this number are entries, two of each task; those from it on are bookmarks, one of each task.
-const FIRST_BOOKMARK: u16 = 256;
-
-/// Puts a member of a head's line behind a text: an entry by the task whose it is, a bookmark by its task behind
+/// Puts a member of a head's line after a text: an entry by the task whose it is, a bookmark by its task after
 /// a star.
 pub fn push_member(line: &mut LineText, member: &Member)
-    requires { array_vec_len line.old + 8 ≤ 160 }
+    requires { array_vec_len line.old + 8 ≤ TEXT_BYTES }
     ensures text { line.new.items ≡ line.old.items ++ member_text member.now }
     ensures len { array_vec_len line.new ≤ array_vec_len line.old + 8 }
 {
-    if member.at < FIRST_BOOKMARK {
+    if member.at < ENTRIES {
         push_text(line, b" t");
         push_short(line, member.owner().into());
     } else {
         push_text(line, b" *t");
-        push_short(line, member.at - FIRST_BOOKMARK);
+        push_short(line, member.at - ENTRIES);
     }
 }
 
-/// Puts the line of a condition word behind a text, or nothing where the word is 0.
+/// Puts the line of a condition word after a text, or nothing where the word is 0.
 pub fn push_word(line: &mut LineText, cond: u16, value: u64)
-    requires { array_vec_len line.old + 33 ≤ 160 }
+    requires { array_vec_len line.old + 33 ≤ TEXT_BYTES }
     ensures text { line.new.items ≡ line.old.items ++ word_text cond value }
     ensures len { array_vec_len line.new ≤ array_vec_len line.old + 33 }
 {

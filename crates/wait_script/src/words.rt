@@ -6,9 +6,10 @@ ghost use Rattle.wait_script.specs.Lines.{is_printable};
 ghost use Rattle.wait_script.specs.Words.{words_of, both_of};
 ghost use Rattle.wait_script.specs.Reading.{is_stop};
 
+use crate::reason::Reason;
 use std::alloc::AllocError;
 
-/// Where the first word ends, if another byte than a word's stands behind it.
+/// Where the first word ends, if another byte than a word's stands after it.
 fn word_end(text: &[u8]) -> Option<usize>
     ensures first { result ≡ position is_stop text.now }
     ensures within { IfSome result (λ n. n < length text.now) }
@@ -36,12 +37,15 @@ pub fn split<'a>(words: &mut Vec<&'a [u8]>, line: &'a [u8]) -> Result<bool, Allo
 }
 
 /// Two fields, or the lesser of the reasons why they are none.
-pub fn both<A: Drop, B: Drop>(first: Result<A, u8>, second: Result<B, u8>) -> Result<(A, B), u8>
+pub fn both<A: Drop, B: Drop>(
+    first: Result<A, Reason>,
+    second: Result<B, Reason>,
+) -> Result<(A, B), Reason>
     ensures { result ≡ both_of first second }
 {
     match (first, second) {
         (Ok(a), Ok(b)) => Ok((a, b)),
-        (Err(u), Err(v)) => Err(u.min(v)),
+        (Err(u), Err(v)) => Err(u.first(v)),
         (Err(u), Ok(_)) => Err(u),
         (Ok(_), Err(v)) => Err(v),
     }

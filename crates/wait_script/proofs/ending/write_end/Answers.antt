@@ -3,7 +3,7 @@ use Rattle.std.proofs.lemmas.Result.{err_from_is_err_and}
 use Rattle.edge_io.specs.Text.{Midway}
 use Rattle.edge_io.proofs.Prefix.{begun, broke_off, went_on, handed_on}
 use Rattle.wait_model.specs.Runs.{state_of}
-use Rattle.wait_script.specs.Ending.{events_text, tasks_text, heads_text, words_text, end_text}
+use Rattle.wait_script.specs.Ending.{events_text, tasks_text, heads_text, words_text, ending_text}
 use Rattle.wait_script.proofs.ending.write_end.Goals as goal
 
 pub returns-in_err-write_events-clause-text : goal.returns-in_err-write_events-clause-text
@@ -12,7 +12,7 @@ returns-in_err-write_events-clause-text g c =
     let rest = tasks_text s ++ (heads_text s ++ (words_text s ++ codes "end\n")) in
     let p = err_from_is_err_and c.from_residual.result c.from_residual.ensures.1 in
     rw p.1 (broke_off _ _ _ (events_text c.made.result) rest _ _
-    (begun (g.K.Sink.held c.args.out.now) (end_text c.args.core.now))
+    (begun (g.K.Sink.held c.args.out.now) (ending_text c.args.core.now))
     (ap (λ n. events_text n ++ rest) (sym c.made.ensures)) c.in_err-write_events.ensures.text)
 
 pub returns-in_err-write_tasks-clause-text : goal.returns-in_err-write_tasks-clause-text
@@ -21,7 +21,7 @@ returns-in_err-write_tasks-clause-text g c =
     let words = words_text s ++ codes "end\n" in
     let heads = heads_text s ++ words in
     let one : Midway (g.K.Sink.held c.args.out.now) (g.K.Sink.held c.write_events.new.out) (tasks_text s
-    ++ heads) (end_text c.args.core.now) =
+    ++ heads) (ending_text c.args.core.now) =
     went_on _ _ _ (events_text c.made.result) _ _ _ (begun _ _)
     (ap (λ n. events_text n ++ (tasks_text s ++ heads)) (sym c.made.ensures)) c.in_ok-write_events.ensures.text
     in
@@ -36,7 +36,7 @@ returns-in_err-write_heads-clause-text g c =
     let words = words_text s ++ codes "end\n" in
     let heads = heads_text s ++ words in
     let one : Midway (g.K.Sink.held c.args.out.now) (g.K.Sink.held c.write_events.new.out) (tasks_text s
-    ++ heads) (end_text c.args.core.now) =
+    ++ heads) (ending_text c.args.core.now) =
     went_on _ _ _ (events_text c.made.result) _ _ _ (begun _ _)
     (ap (λ n. events_text n ++ (tasks_text s ++ heads)) (sym c.made.ensures)) c.in_ok-write_events.ensures.text
     in
@@ -53,7 +53,7 @@ returns-in_err-write_words-clause-text g c =
     let words = words_text s ++ codes "end\n" in
     let heads = heads_text s ++ words in
     let one : Midway (g.K.Sink.held c.args.out.now) (g.K.Sink.held c.write_events.new.out) (tasks_text s
-    ++ heads) (end_text c.args.core.now) =
+    ++ heads) (ending_text c.args.core.now) =
     went_on _ _ _ (events_text c.made.result) _ _ _ (begun _ _)
     (ap (λ n. events_text n ++ (tasks_text s ++ heads)) (sym c.made.ensures)) c.in_ok-write_events.ensures.text
     in
@@ -72,7 +72,7 @@ returns-clause-text g c =
     let words = words_text s ++ codes "end\n" in
     let heads = heads_text s ++ words in
     let one : Midway (g.K.Sink.held c.args.out.now) (g.K.Sink.held c.write_events.new.out) (tasks_text s
-    ++ heads) (end_text c.args.core.now) =
+    ++ heads) (ending_text c.args.core.now) =
     went_on _ _ _ (events_text c.made.result) _ _ _ (begun _ _)
     (ap (λ n. events_text n ++ (tasks_text s ++ heads)) (sym c.made.ensures)) c.in_ok-write_events.ensures.text
     in

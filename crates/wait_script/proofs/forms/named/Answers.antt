@@ -89,5 +89,6 @@ returns-in-clearbit c =
 
 pub returns-in-completeall : goal.returns-in-completeall
 returns-in-completeall c =
-    let e : c.args.name.now ≡ codes "completeall" = text_from_reads _ (codes "completeall") (omega arith) (search rules) in
+    let e : c.args.name.now ≡ codes "completeall" =
+    text_from_reads _ (codes "completeall") (omega arith) (search rules) in
     rw e c.complete_all.ensures

@@ -1,5 +1,5 @@
 use Rattle.std.proofs.Common.{sym, ◌∙◌}
-use Rattle.wait_script.proofs.Digits.{plain_number}
+use Rattle.wait_script.proofs.ReadDigits.{plain_number}
 use Rattle.wait_script.proofs.number.number.Goals as goal
 
 pub returns : goal.returns

@@ -1,5 +1,5 @@
 use Rattle.std.proofs.Common.{sym, ◌∙◌, arith}
-use Rattle.wait_script.proofs.Digits.{stops_at, next, fits, overflows, ended}
+use Rattle.wait_script.proofs.ReadDigits.{stops_at, next, fits, overflows, ended}
 use Rattle.wait_script.proofs.number.value_of.Goals as goal
 
 pub returns-then-not-is_ascii_digit : goal.returns-then-not-is_ascii_digit

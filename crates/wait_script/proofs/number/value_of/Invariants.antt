@@ -1,6 +1,6 @@
 use Rattle.std.proofs.Common.{◌≡◌, ◌<◌, ◌^◌, drop}
 use Rattle.wait_script.specs.Reading.{digits_of}
-use Rattle.wait_script.proofs.Digits.{reads_on}
+use Rattle.wait_script.proofs.ReadDigits.{reads_on}
 use Rattle.wait_script.proofs.number.value_of.Given as goal
 
 abbrev pub invariant-loop-b : goal.invariant-loop-b

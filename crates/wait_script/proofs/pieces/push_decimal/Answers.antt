@@ -1,6 +1,6 @@
 use Rattle.std.proofs.Common.{arith}
 use Rattle.std.proofs.lemmas.Fmt.{decimal_digit}
-use Rattle.wait_script.proofs.Decimals.{joined, three_digits, length_one, length_two, length_three}
+use Rattle.wait_script.proofs.DecimalDigits.{joined, three_digits, length_one, length_two, length_three}
 use Rattle.wait_script.proofs.pieces.push_decimal.Goals as goal
 
 pub push_digit-requires-clause-room : goal.push_digit-requires-clause-room

@@ -1,5 +1,5 @@
 use Rattle.std.proofs.Common.{ap, length, arith, length-append}
-use Rattle.wait_script.proofs.Decimals.{short_length}
+use Rattle.wait_script.proofs.DecimalDigits.{short_length}
 use Rattle.wait_script.proofs.pieces.push_short.Goals as goal
 
 pub push_decimal-requires : goal.push_decimal-requires
@@ -7,4 +7,8 @@ push_decimal-requires c = omega (arith, short_length c.into.result (omega (arith
 
 pub returns-clause-len : goal.returns-clause-len
 returns-clause-len c =
-    omega (arith, short_length c.into.result (omega (arith, c.into.ensures)), simp length-append at (ap length c.push_decimal.ensures.text))
+    omega (
+      arith,
+      short_length c.into.result (omega (arith, c.into.ensures)),
+      simp length-append at (ap length c.push_decimal.ensures.text),
+    )

@@ -1,4 +1,4 @@
-use Rattle.wait_script.proofs.Decimals.{joined, two_digits}
+use Rattle.wait_script.proofs.DecimalDigits.{joined, two_digits}
 use Rattle.wait_script.proofs.pieces.push_two.Goals as goal
 
 pub returns-clause-text : goal.returns-clause-text

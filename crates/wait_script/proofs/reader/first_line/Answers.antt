@@ -1,5 +1,5 @@
 use Rattle.std.proofs.Common.{sym, ◌∙◌}
-use Rattle.wait_script.proofs.Parts.{parts-at, parts-none}
+use Rattle.wait_script.proofs.LineParts.{parts-at, parts-none}
 use Rattle.wait_script.proofs.reader.first_line.Goals as goal
 
 pub returns-clause-some : goal.returns-clause-some

@@ -1,4 +1,4 @@
-use Rattle.wait_script.proofs.Carried.{read_first}
+use Rattle.wait_script.proofs.CarriedLines.{read_first}
 use Rattle.wait_script.proofs.SpelledLines.{spelled_first, shorter}
 use Rattle.wait_script.proofs.reader.next_line.Goals as goal
 

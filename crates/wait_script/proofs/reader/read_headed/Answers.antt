@@ -1,5 +1,5 @@
 use Rattle.std.proofs.Common.{sym, ◌∙◌}
-use Rattle.wait_script.proofs.Parts.{odd_header, good_header}
+use Rattle.wait_script.proofs.LineParts.{odd_header, good_header}
 use Rattle.wait_script.proofs.reader.read_headed.Goals as goal
 
 pub returns-in-Err : goal.returns-in-Err

@@ -1,7 +1,7 @@
 use Rattle.std.proofs.Common.{ap, arith, subst, ◌+◌, ◌∙◌}
 use Rattle.wait_script.specs.Script.{parts_of, lines_from}
-use Rattle.wait_script.specs.Reading.{IsFirst}
-use Rattle.wait_script.proofs.Carried.{carried, stops, goes-on}
+use Rattle.wait_script.specs.Reading.{IsFirstLine}
+use Rattle.wait_script.proofs.CarriedLines.{carried, stops, goes-on}
 use Rattle.wait_script.proofs.reader.read_lines.Goals as goal
 
 pub returns-in-Err : goal.returns-in-Err
@@ -9,7 +9,7 @@ returns-in-Err c =
     let first = rw c.in-Some.is at c.in_ok-line.ensures.some in
     stops c.args.bytes.now c.lines.rest.now c.in-Some.more.now c.lines.lines.items c.lines.number c.in-Err.why
     c.lines.invariant.same
-    (subst (λ r. IsFirst c.lines.rest.now r c.in-Some.more.now) c.in-Err.is first)
+    (subst (λ r. IsFirstLine c.lines.rest.now r c.in-Some.more.now) c.in-Err.is first)
 
 pub lines-preserved : goal.lines-preserved
 lines-preserved c =
@@ -17,7 +17,7 @@ lines-preserved c =
     let shorter = rw c.in-Some.is at c.in_ok-line.ensures.shorter in
     let on = goes-on c.args.bytes.now c.lines.rest.now c.in-Some.more.now c.lines.lines.items c.lines.number
     c.in-Ok.line c.lines.invariant.same
-    (subst (λ r. IsFirst c.lines.rest.now r c.in-Some.more.now) c.in-Ok.is first) in
+    (subst (λ r. IsFirstLine c.lines.rest.now r c.in-Some.more.now) c.in-Ok.is first) in
     record {
       same = ap (λ front. carried front (lines_from (c.lines.number + 1) (parts_of c.in-Some.more.now)))
           c.in_ok-push-in-Ok.ensures.items ∙ on;

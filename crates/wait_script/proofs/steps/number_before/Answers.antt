@@ -1,5 +1,5 @@
 use Rattle.std.proofs.Common.{sym, ap, ◌∙◌, ◌+◌, ◌∷◌, ◌++◌, decimal}
-use Rattle.wait_script.proofs.Cuts.{rest_from}
+use Rattle.wait_script.proofs.LineCuts.{rest_from}
 use Rattle.wait_script.proofs.OnePass.{one_digit, number_ends}
 use Rattle.wait_script.proofs.steps.number_before.Goals as goal
 

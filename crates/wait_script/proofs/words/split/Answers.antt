@@ -1,5 +1,5 @@
 use Rattle.std.proofs.Common.{sym, ◌+◌, arith, refl}
-use Rattle.wait_script.proofs.Cuts.{stops, one_more, all_words, rest_from}
+use Rattle.wait_script.proofs.LineCuts.{stops, one_more, all_words, rest_from}
 use Rattle.wait_script.proofs.words.split.Goals as goal
 
 pub returns-then-rest-end-ne32-clause-plain : goal.returns-then-rest-end-ne32-clause-plain

@@ -1,5 +1,5 @@
 use Rattle.std.proofs.Common.{◌≤◌, length}
-use Rattle.wait_script.proofs.Cuts.{IsSplit}
+use Rattle.wait_script.proofs.LineCuts.{IsSplit}
 use Rattle.wait_script.proofs.words.split.Given as goal
 
 abbrev pub invariant-words : goal.invariant-words

@@ -35,10 +35,10 @@ use Rattle.std.specs.Str.{all_ascii_digits}
 use Rattle.std.specs.Str.Parse.{digits_value_after, digits_value}
 use Rattle.std.proofs.lemmas.List.{drop_more, at_drop_all}
 use Rattle.std.proofs.lemmas.Bool.Decides.{nat_tests}
-use Rattle.wait_script.specs.Number.{number_of, is_plain}
+use Rattle.wait_script.specs.Number.{numeral_value, is_plain}
 use Rattle.wait_script.specs.Reading.{fitting, digits_of}
 
--- what digits say behind those of a number
+-- what digits say after those of a number
 abbrev pub reads_on : ℕ → List ℕ → Option ℕ
 reads_on n ds = cond (all_ascii_digits ds) (fitting (digits_value_after 10 n ds)) None
 
@@ -81,7 +81,8 @@ module _ (word : List ℕ) (i n : ℕ) (inside : i < length word) (same : reads_
       (more_digits (drop (i + 1) word) m) none) ∙ goes_on e
 
 -- a number that isn't empty, and is plain, is what its digits spell
-pub plain_number : (word : List ℕ) → false ≡ eqb (length word) 0 → is_plain word ≡ true → digits_of word ≡ number_of word
+pub plain_number : (word : List ℕ) → false ≡ eqb (length word) 0 → is_plain word ≡ true
+    → digits_of word ≡ numeral_value word
 plain_number word some plain = all (all_ascii_digits word) (nat_lt 0 (length word)) (is_plain word)
     (nat_lt (digits_value 10 word) (2 ^ 64)) (digits_value 10 word) (grind (arith, nat_tests)) plain
   where

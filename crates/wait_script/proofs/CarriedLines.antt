@@ -17,38 +17,39 @@ use Rattle.std.proofs.Common.{
   append_assoc,
 }
 use Rattle.wait_script.specs.declared.line.Line.{Line}
+use Rattle.wait_script.specs.declared.reason.Reason.{Reason}
 use Rattle.wait_script.specs.Lines.{line_at}
 use Rattle.wait_script.specs.Script.{parts_of, lines_from, and_lines}
-use Rattle.wait_script.specs.Reading.{IsFirst}
-use Rattle.wait_script.proofs.Parts.{lines_from-step}
+use Rattle.wait_script.specs.Reading.{IsFirstLine}
+use Rattle.wait_script.proofs.LineParts.{lines_from-step}
 
-abbrev pub carried : List Line → Result (List Line) (ℕ × ℕ) → Result (List Line) (ℕ × ℕ)
+abbrev pub carried : List Line → Result (List Line) (ℕ × Reason) → Result (List Line) (ℕ × Reason)
 carried front (Ok lines) = Ok (front ++ lines)
 carried front (Err bad) = Err bad
 
-pub carried-more : (front : List Line) (line : Line) (number : ℕ) (more : Result (List Line) (ℕ × ℕ))
+pub carried-more : (front : List Line) (line : Line) (number : ℕ) (more : Result (List Line) (ℕ × Reason))
     → carried (front ++ line ∷ []) more ≡ carried front (and_lines number (Ok line) more)
 carried-more front line number (Ok lines) = ap Ok (append_assoc front (line ∷ []) lines)
 carried-more front line number (Err bad) = refl
 
 -- the first line, by where it ends
-pub read_first : (bytes line more : List ℕ) (read : Result Line ℕ) → parts_of bytes ≡ line ∷ parts_of more
-    → read ≡ line_at line → IsFirst bytes read more
+pub read_first : (bytes line more : List ℕ) (read : Result Line Reason) → parts_of bytes ≡ line ∷ parts_of more
+    → read ≡ line_at line → IsFirstLine bytes read more
 read_first bytes line more read cut e = λ number.
     ap (lines_from number) cut ∙ lines_from-step number line more
     ∙ ap (λ r. and_lines number r (lines_from (number + 1) (parts_of more))) (sym e)
 
 -- a bad line ends the reading
-pub stops : (bytes rest more : List ℕ) (front : List Line) (number why : ℕ)
+pub stops : (bytes rest more : List ℕ) (front : List Line) (number : ℕ) (why : Reason)
     → carried front (lines_from number (parts_of rest)) ≡ lines_from 2 (parts_of bytes)
-    → IsFirst rest (Err why) more
+    → IsFirstLine rest (Err why) more
     → lines_from 2 (parts_of bytes) ≡ Err (number, why)
 stops bytes rest more front number why same first = sym same ∙ ap (carried front) (first number)
 
 -- a good line goes onto those in front
 pub goes-on : (bytes rest more : List ℕ) (front : List Line) (number : ℕ) (l : Line)
     → carried front (lines_from number (parts_of rest)) ≡ lines_from 2 (parts_of bytes)
-    → IsFirst rest (Ok l) more
+    → IsFirstLine rest (Ok l) more
     → carried (front ++ l ∷ []) (lines_from (number + 1) (parts_of more)) ≡ lines_from 2 (parts_of bytes)
 goes-on bytes rest more front number l same first =
     carried-more front l number (lines_from (number + 1) (parts_of more))

@@ -43,6 +43,7 @@ use mathlib.Core.Bool.{◌&&◌}
 use Rattle.wait_script.specs.Lines.{is_printable}
 use Rattle.wait_script.specs.Words.{words_of}
 use Rattle.wait_script.specs.Reading.{is_stop}
+use Rattle.wait_script.proofs.Truths.{some_by, none_by}
 
 -- the space ends a word, and stands in no word; another byte that ends a word is in no line
 space : (x : ℕ) → x ≡ 32 → (eqb x 32 ≡ true) × (is_printable x ≡ true)
@@ -54,7 +55,7 @@ graphic x e = (grind (arith, nat_tests), grind (arith, nat_tests))
 odd : (x : ℕ) → is_stop x ≡ true → x ≢ 32 → is_printable x ≡ false
 odd x e n = grind (arith, nat_tests)
 
--- the words and the bytes behind the first n, where a space stands at n
+-- the words and the bytes after the first n, where a space stands at n
 abbrev IsCut : List ℕ → ℕ → Type 0
 IsCut text n = (words_of text ≡ take n text ∷ words_of (drop (suc n) text))
     × (list_all is_printable text ≡ list_all is_printable (drop (suc n) text))
@@ -110,13 +111,13 @@ odd_at [] lt e = absurd (omega arith)
 odd_at (x ∷ xs) lt e = odd_step (is_stop x) x xs (position_or_len is_stop xs) refl lt e (odd_at xs)
 
 -- the words and the bytes, where nothing stops
-abbrev IsLast : List ℕ → Type 0
-IsLast text = (words_of text ≡ text ∷ []) × (list_all is_printable text ≡ true)
+abbrev IsLastCut : List ℕ → Type 0
+IsLastCut text = (words_of text ≡ text ∷ []) × (list_all is_printable text ≡ true)
 
 last_step : (b : Bool) (x : ℕ) (xs : List ℕ) (n : ℕ) → is_stop x ≡ b
     → nat_lt (far b n) (length (x ∷ xs)) ≡ false
-    → (nat_lt n (length xs) ≡ false → IsLast xs)
-    → IsLast (x ∷ xs)
+    → (nat_lt n (length xs) ≡ false → IsLastCut xs)
+    → IsLastCut (x ∷ xs)
 last_step true x xs n s e h = absurd (not_empty x xs e)
   where
     not_empty : (x : ℕ) (xs : List ℕ) → nat_lt 0 (length (x ∷ xs)) ≡ false → ⊥
@@ -128,17 +129,9 @@ last_step false x xs n s e h =
       ap (λ b. b && list_all is_printable xs) p.1 ∙ r.1,
     )
 
-whole : (text : List ℕ) → nat_lt (position_or_len is_stop text) (length text) ≡ false → IsLast text
+whole : (text : List ℕ) → nat_lt (position_or_len is_stop text) (length text) ≡ false → IsLastCut text
 whole [] e = (refl, refl)
 whole (x ∷ xs) e = last_step (is_stop x) x xs (position_or_len is_stop xs) refl e (whole xs)
-
-chosen : (b : Bool) (m n : ℕ) → cond b (Some m) None ≡ Some n → (b ≡ true) × (m ≡ n)
-chosen true m n e = (refl, cc)
-chosen false m n e = cc
-
-unchosen : (b : Bool) (m : ℕ) → cond b (Some m) None ≡ None → b ≡ false
-unchosen true m e = cc
-unchosen false m e = refl
 
 below : (m n : ℕ) → nat_lt m n ≡ true → m < n
 below m n e = grind (arith, nat_tests)
@@ -146,18 +139,18 @@ below m n e = grind (arith, nat_tests)
 word_at : (text : List ℕ) (n : ℕ) → position is_stop text ≡ Some n → get_or text n 0 ≡ 32 → IsCut text n
 word_at text n e s =
     let p = position_or_len is_stop text in
-    let at = chosen (nat_lt p (length text)) p n e in
+    let at = some_by (nat_lt p (length text)) p n e in
     subst (IsCut text) at.1 (cut text (below p (length text) at.0) (ap (λ k. get_or text k 0) at.1 ∙ s))
 
 odd_byte : (text : List ℕ) (n : ℕ) → position is_stop text ≡ Some n → get_or text n 0 ≢ 32
     → list_all is_printable text ≡ false
 odd_byte text n e s =
     let p = position_or_len is_stop text in
-    let at = chosen (nat_lt p (length text)) p n e in
+    let at = some_by (nat_lt p (length text)) p n e in
     odd_at text (below p (length text) at.0) (λ z. s (sym (ap (λ k. get_or text k 0) at.1) ∙ z))
 
-last : (text : List ℕ) → position is_stop text ≡ None → IsLast text
-last text e = whole text (unchosen _ (position_or_len is_stop text) e)
+last : (text : List ℕ) → position is_stop text ≡ None → IsLastCut text
+last text e = whole text (none_by _ (position_or_len is_stop text) e)
 
 -- what is cut so far: words, and what is left of the line
 abbrev pub IsSplit : List ℕ → List (Bor (List ℕ)) → List ℕ → Type 0

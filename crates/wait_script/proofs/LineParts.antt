@@ -29,33 +29,23 @@ use Rattle.std.proofs.Common.{
   Ok,
 }
 use Rattle.std.proofs.lemmas.Bool.Decides.{nat_tests}
-use Rattle.std.proofs.lemmas.Grind.{common_steps}
 use Rattle.std.proofs.lemmas.List.Splits.{slice_split_first, length-slice_split}
 use Rattle.std.specs.List.{onto_first, position_or_len}
 use Rattle.wait_script.specs.declared.line.Line.{Line}
+use Rattle.wait_script.specs.declared.reason.Reason.{Reason}
 use Rattle.wait_script.specs.Lines.{header_at, line_at}
 use Rattle.wait_script.specs.Script.{is_end, parts_of, lines_from, and_lines, under, headed, script_of}
-
-chosen : (b : Bool) (m n : ℕ) → cond b (Some m) None ≡ Some n → (b ≡ true) × (m ≡ n)
-chosen true m n e = (refl, cc)
-chosen false m n e = cc
-
-unchosen : (b : Bool) (m : ℕ) → cond b (Some m) None ≡ None → b ≡ false
-unchosen true m e = cc
-unchosen false m e = refl
-
--- `&xs[n..]`
-take-rest : (xs : List ℕ) (n : ℕ) → take (length xs - n) (drop n xs) ≡ drop n xs
-take-rest xs n = grind (arith, common_steps)
+use Rattle.wait_script.proofs.LineCuts.{rest_from}
+use Rattle.wait_script.proofs.Truths.{some_by, none_by}
 
 pub parts-at : (bytes : List ℕ) (n : ℕ) → position is_end bytes ≡ Some n
     → parts_of bytes ≡ take n bytes ∷ parts_of (take (length bytes - (n + 1)) (drop (n + 1) bytes))
 parts-at bytes n e =
-    let at = chosen (nat_lt (position_or_len is_end bytes) (length bytes)) (position_or_len is_end bytes) n e
+    let at = some_by (nat_lt (position_or_len is_end bytes) (length bytes)) (position_or_len is_end bytes) n e
     in
     let lt : position_or_len is_end bytes < length bytes = grind (arith, nat_tests, at.0) in
     slice_split_first is_end bytes 0 lt ∙ ap (λ k. take k bytes ∷ parts_of (drop (k + 1) bytes)) at.1
-    ∙ ap (λ r. take n bytes ∷ parts_of r) (sym (take-rest bytes (n + 1)))
+    ∙ ap (λ r. take n bytes ∷ parts_of r) (sym (rest_from bytes (n + 1)))
 
 not_empty : (x : ℕ) (xs : List ℕ) → nat_lt 0 (length (x ∷ xs)) ≡ false → ⊥
 not_empty x xs e = grind (arith, nat_tests)
@@ -73,7 +63,7 @@ whole [] e = refl
 whole (x ∷ xs) e = one (is_end x) x xs (parts_of xs) (position_or_len is_end xs) e (whole xs)
 
 pub parts-none : (bytes : List ℕ) → position is_end bytes ≡ None → parts_of bytes ≡ bytes ∷ []
-parts-none bytes e = whole bytes (unchosen _ (position_or_len is_end bytes) e)
+parts-none bytes e = whole bytes (none_by _ (position_or_len is_end bytes) e)
 
 some_parts : (bytes : List ℕ) → 0 < length (parts_of bytes)
 some_parts bytes = omega (arith, length-slice_split is_end bytes)
@@ -93,18 +83,18 @@ head_step : (header : List ℕ) (parts : List (List ℕ)) → 0 < length parts
 head_step header [] some = absurd (omega arith)
 head_step header (part ∷ more) some = refl
 
--- what stands behind line 1, under what line 1 says
-pub behind_header : (bytes header rest : List ℕ) → parts_of bytes ≡ header ∷ parts_of rest
+-- what stands after line 1, under what line 1 says
+pub after_header : (bytes header rest : List ℕ) → parts_of bytes ≡ header ∷ parts_of rest
     → script_of bytes ≡ under (header_at header) (lines_from 2 (parts_of rest))
-behind_header bytes header rest cut = ap headed cut ∙ head_step header (parts_of rest) (some_parts rest)
+after_header bytes header rest cut = ap headed cut ∙ head_step header (parts_of rest) (some_parts rest)
 
-pub odd_header : (bytes header rest : List ℕ) (why : ℕ) → parts_of bytes ≡ header ∷ parts_of rest
+pub odd_header : (bytes header rest : List ℕ) (why : Reason) → parts_of bytes ≡ header ∷ parts_of rest
     → header_at header ≡ Err why → script_of bytes ≡ Err (1, why)
 odd_header bytes header rest why cut e =
-    behind_header bytes header rest cut ∙ ap (λ h. under h (lines_from 2 (parts_of rest))) e
+    after_header bytes header rest cut ∙ ap (λ h. under h (lines_from 2 (parts_of rest))) e
 
 pub good_header : (bytes header rest : List ℕ) (x : Unit {0}) (lines : List Line)
     → parts_of bytes ≡ header ∷ parts_of rest
     → header_at header ≡ Ok x → lines_from 2 (parts_of rest) ≡ Ok lines → script_of bytes ≡ Ok lines
 good_header bytes header rest x lines cut e read =
-    behind_header bytes header rest cut ∙ ap (λ h. under h (lines_from 2 (parts_of rest))) e ∙ read
+    after_header bytes header rest cut ∙ ap (λ h. under h (lines_from 2 (parts_of rest))) e ∙ read

@@ -1,5 +1,30 @@
 -- What `parse` reads, in the grammar's words.
-use Rattle.std.proofs.Common.{◌≡◌, ℕ, List, [], ◌∷◌, Some, None, true, false, length, get_or, arith, refl, sym, ap, ◌∙◌, cond, Bool, nat_lt, ◌^◌, ◌<◌, zero, suc, decimal}
+use Rattle.std.proofs.Common.{
+  ◌≡◌,
+  ℕ,
+  List,
+  [],
+  ◌∷◌,
+  Some,
+  None,
+  true,
+  false,
+  length,
+  get_or,
+  arith,
+  refl,
+  sym,
+  ap,
+  ◌∙◌,
+  cond,
+  Bool,
+  nat_lt,
+  ◌^◌,
+  ◌<◌,
+  zero,
+  suc,
+  decimal,
+}
 use mathlib.Core.Bool.{◌&&◌}
 use Rattle.std.specs.Str.{all_ascii_digits}
 use Rattle.std.specs.Str.Parse.{digits_value}
@@ -13,7 +38,7 @@ use Rattle.std.proofs.lemmas.Fmt.{
   decimal_digit,
 }
 use Rattle.std.proofs.lemmas.Bool.Decides.{nat_tests}
-use Rattle.wait_script.specs.Number.{is_plain, number_of}
+use Rattle.wait_script.specs.Number.{is_plain, numeral_value}
 
 own : IsNumeralModel (λ ds. all_ascii_digits ds ≡ true) (digits_value 10)
 own = numerals_by_value _ tells_all_ascii_digits
@@ -23,7 +48,7 @@ leading [] p e = absurd (omega arith)
 leading (c ∷ cs) p e = grind (arith, nat_tests)
 
 -- a word that is a number is its decimal spelling
-pub number_is : (word : List ℕ) (n : ℕ) → number_of word ≡ Some n → word ≡ decimal n
+pub number_is : (word : List ℕ) (n : ℕ) → numeral_value word ≡ Some n → word ≡ decimal n
 number_is word n e =
     let f = parts (all_ascii_digits word) (nat_lt 0 (length word)) (is_plain word)
     (nat_lt (digits_value 10 word) (2 ^ 64)) (digits_value 10 word) n e in
@@ -47,7 +72,7 @@ plain_decimal zero h = ap is_plain (decimal_digit 0 (omega arith))
 plain_decimal (suc n) h = plain_above (decimal (suc n)) (first_decimal (suc n) (omega arith) h)
 
 -- each number of 64 bits is read from its decimal spelling
-pub number_again : (n : ℕ) → n < 2 ^ 64 → number_of (decimal n) ≡ Some n
+pub number_again : (n : ℕ) → n < 2 ^ 64 → numeral_value (decimal n) ≡ Some n
 number_again n h =
     all (all_ascii_digits (decimal n)) (nat_lt 0 (length (decimal n))) (is_plain (decimal n))
     (nat_lt (digits_value 10 (decimal n)) (2 ^ 64)) (digits_value 10 (decimal n)) n

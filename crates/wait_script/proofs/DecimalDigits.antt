@@ -1,4 +1,4 @@
--- Numbers as the digits that are put behind a text one by one, and how many they are.
+-- Numbers as the digits that are put after a text one by one, and how many they are.
 use Rattle.std.proofs.Common.{
   ◌≡◌,
   ℕ,
@@ -21,7 +21,7 @@ use Rattle.std.proofs.Common.{
 }
 use Rattle.std.proofs.lemmas.Fmt.{decimal_digit, decimal_step, length-decimal-le}
 
--- a piece and one behind it are a text
+-- a piece and one after it are a text
 pub joined : (old one two a b text : List ℕ) → one ≡ old ++ a → two ≡ one ++ b → text ≡ a ++ b → two ≡ old ++ text
 joined old one two a b text p q r = rw (q, p, r) (append_assoc old a b)
 

@@ -21,7 +21,6 @@ use Rattle.std.proofs.Common.{
   codes,
   nat_le,
   IfSome,
-  ◌^◌,
   is_some,
   not,
   refl,
@@ -36,10 +35,11 @@ use Rattle.std.proofs.lemmas.Bool.Decides.{nat_tests}
 use Rattle.std.specs.List.{flat_map}
 use Rattle.edge_io.specs.Text.{Midway}
 use Rattle.wait_model.specs.declared.queues.Member.{Member}
-use Rattle.wait_model.specs.Queues.{member_from, rank, IsBefore, IsInOrder}
+use Rattle.wait_model.specs.Queues.{member_from, rank, IsRisingFrom, IsInOrder}
 use Rattle.wait_model.specs.Tables.{Table}
-use Rattle.wait_model.specs.Locations.{Location, IsLocation, position_of, word_in}
-use Rattle.wait_script.specs.Ending.{texts_from, member_text, members_text, head_text, word_text, cond_at}
+use Rattle.wait_model.specs.declared.layout.TheConstants.{CONDITION_AT, CONDITIONS, MEMBERS, PLACES}
+use Rattle.wait_model.specs.Locations.{Location, IsLocation, position_of, word_in, cond_at}
+use Rattle.wait_script.specs.Ending.{texts_from, member_text, members_text, head_text, word_text}
 
 pub next_text : (text : ℕ → List ℕ) (n i : ℕ) → i < n
     → texts_from text i (n - i) ≡ text i ++ texts_from text (i + 1) (n - (i + 1))
@@ -71,7 +71,7 @@ first_from least (m ∷ ms) = chosen (nat_le least (rank m)) m ms (first_from le
     chosen false m ms e = e
 
 -- all stand behind
-all_behind : (p : ℕ) (ms : List Member) → IsBefore p ms → rest_from (p + 1) ms ≡ ms
+all_behind : (p : ℕ) (ms : List Member) → IsRisingFrom p ms → rest_from (p + 1) ms ≡ ms
 all_behind p [] h = refl
 all_behind p (m ∷ ms) h =
     let lt : p < rank m = h.0 in
@@ -90,7 +90,7 @@ same_head : (x y : Member) (xs ys : List Member) → (x ∷ xs) ≡ (y ∷ ys) �
 same_head x y xs ys e = (cc, cc)
 
 -- the first from a rank on stands behind what all stand behind
-behind_it : (p least : ℕ) (ms more : List Member) (m : Member) → IsBefore p ms
+behind_it : (p least : ℕ) (ms more : List Member) (m : Member) → IsRisingFrom p ms
     → rest_from least ms ≡ m ∷ more → p < rank m
 behind_it p least [] more m h e = absurd (cc (e))
 behind_it p least (x ∷ xs) more m h e =
@@ -159,8 +159,8 @@ head_line head (m ∷ ms) next met r is some =
     ∙ ap (λ b. (codes "head h" ++ decimal head) ++ members_text (cond b (m ∷ ms) (rest_from 0 ms))) (sym from)
 
 pub fits_of : (least : ℕ) (next : Option Member)
-    → IfSome next (λ m. (m.at < 384) × (least ≤ rank m) × (m.place < 2 ^ 40))
-    → IfSome next (λ m. (m.at < 384) × (m.place < 2 ^ 40))
+    → IfSome next (λ m. (m.at < MEMBERS) × (least ≤ rank m) × (m.place < PLACES))
+    → IfSome next (λ m. (m.at < MEMBERS) × (m.place < PLACES))
 fits_of least None h = tt
 fits_of least (Some m) h = (h.0, h.2)
 
@@ -173,13 +173,13 @@ pub record Partway (old now : Option (List ℕ)) (queue : List Member) (next : O
 
 -- what stands at the place of a condition word
 pub word_value : (t : Table) (cond value : ℕ)
-    → ((l : Location) → IsLocation l → position_of l ≡ 1153 + cond → value ≡ word_in t l) → cond < 384
+    → ((l : Location) → IsLocation l → position_of l ≡ CONDITION_AT + cond → value ≡ word_in t l) → cond < CONDITIONS
     → word_text cond value ≡ word_text cond (word_in t (cond_at cond))
 word_value t cond value shown fits =
     ap (word_text cond) (shown (cond_at cond) (is_location cond fits) (stands cond fits))
   where
-    is_location : (cond : ℕ) → cond < 384 → IsLocation (cond_at cond)
+    is_location : (cond : ℕ) → cond < CONDITIONS → IsLocation (cond_at cond)
     is_location cond fits = grind (arith, nat_tests)
 
-    stands : (cond : ℕ) → cond < 384 → position_of (cond_at cond) ≡ 1153 + cond
+    stands : (cond : ℕ) → cond < CONDITIONS → position_of (cond_at cond) ≡ CONDITION_AT + cond
     stands cond fits = grind (arith, nat_tests)

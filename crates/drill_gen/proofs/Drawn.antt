@@ -39,18 +39,23 @@ use Rattle.rand_xoshiro.specs.SplitMix64.{mix_u64}
 use Rattle.wait_model.specs.declared.calls.Call.{Call}
 use Rattle.wait_model.specs.declared.calls.Call.TheVariants as call
 use Rattle.wait_model.specs.declared.watches.Mode.TheVariants as mode
+use Rattle.wait_model.specs.declared.layout.TheConstants.{FIRST_SIMPLE, PLAIN_CONDITIONS, TASKS}
 use Rattle.wait_script.specs.declared.line.Line.{Line}
 use Rattle.wait_script.specs.declared.line.Line.TheVariants as line
 use Rattle.wait_script.specs.Fields.{last_task}
-use Rattle.wait_script.specs.Lines.{count_of}
+use Rattle.wait_script.specs.Lines.{events_asked}
 use Rattle.wait_script.specs.Spelling.{IsFit, IsFitCall}
 use Rattle.drill_gen.specs.Drill.{
+  callers,
+  call_kinds,
+  conds,
+  most_steps,
   plain,
   int,
   int_ex,
   task_in,
   kind_in,
-  cond_in,
+  drawn_cond,
   whom_in,
   call_of,
   drawn_call,
@@ -64,11 +69,12 @@ either : (task : ℕ) (test : Bool) (one other : Call) → IsFitCall task one �
 either task true one other fit more = fit
 either task false one other fit more = more
 
-fit_call : (task kind cond whom : ℕ) → cond < 4 → whom < 16 → IsFitCall task (call_of kind cond whom)
+fit_call : (task kind cond whom : ℕ) → cond < conds → whom < callers → IsFitCall task (call_of kind cond whom)
 fit_call task kind cond whom few near =
-    let full = lt-ltb cond 48 (omega arith) in
-    let any = lt-ltb cond 64 (omega arith) in
-    let there = lt-ltb whom 128 (omega arith) in
+    let full = lt-ltb cond FIRST_SIMPLE (omega arith) in
+    let any = lt-ltb cond PLAIN_CONDITIONS (omega arith) in
+    let there = lt-ltb whom TASKS (omega arith) in
+    let low : whom ≤ last_task = omega (arith, near) in
     let none : 0 < 2 ^ 64 = omega arith in
     let one : 1 < 2 ^ 64 = omega arith in
     let from_6 = if kind == 6 then call.Signal whom false else call.Accept in
@@ -77,28 +83,29 @@ fit_call task kind cond whom few near =
     let from_3 = if kind == 3 then call.Set cond 1 else from_4 in
     let from_2 = if kind == 2 then call.Wait cond int_ex else from_3 in
     let from_1 = if kind == 1 then call.Wait cond int else from_2 in
-    let fit_6 = either task (kind == 6) (call.Signal whom false) call.Accept (there, refl, none)
-    (refl, refl, none) in
-    let fit_5 = either task (kind == 5) (call.Take cond) from_6 (any, refl, none) fit_6 in
+    let fit_6 = either task (kind == 6) (call.Signal whom false) call.Accept (there, refl, none, low)
+    (refl, refl, none, tt) in
+    let fit_5 = either task (kind == 5) (call.Take cond) from_6 (any, refl, none, tt) fit_6 in
     let woken = ap (λ b. b && true) full in
-    let fit_4 = either task (kind == 4) (call.Wake cond mode.Normal 0) from_5 (woken, refl, none) fit_5 in
-    let fit_3 = either task (kind == 3) (call.Set cond 1) from_4 (any, refl, one) fit_4 in
-    let fit_2 = either task (kind == 2) (call.Wait cond int_ex) from_3 (full, refl, none) fit_3 in
-    let fit_1 = either task (kind == 1) (call.Wait cond int) from_2 (full, refl, none) fit_2 in
-    either task (kind == 0) (call.Wait cond plain) from_1 (full, refl, none) fit_1
+    let fit_4 = either task (kind == 4) (call.Wake cond mode.Normal 0) from_5 (woken, refl, none, omega arith) fit_5 in
+    let fit_3 = either task (kind == 3) (call.Set cond 1) from_4 (any, refl, one, tt) fit_4 in
+    let fit_2 = either task (kind == 2) (call.Wait cond int_ex) from_3 (full, refl, none, tt) fit_3 in
+    let fit_1 = either task (kind == 1) (call.Wait cond int) from_2 (full, refl, none, tt) fit_2 in
+    either task (kind == 0) (call.Wait cond plain) from_1 (full, refl, none, tt) fit_1
 
 nothing : All IsFit []
 nothing k d lt = absurd (omega arith)
 
 fit_lines : (word : ℕ) → All IsFit (drawn_lines word)
 fit_lines word =
-    let near : task_in word < 16 = mod_below word 16 (omega arith) in
-    let few : cond_in word < 4 = mod_below (word / 128) 4 (omega arith) in
-    let there : whom_in word < 16 = mod_below (word / 512) 16 (omega arith) in
+    let near : task_in word < callers = mod_below word callers (omega arith) in
+    let few : drawn_cond word < conds = mod_below (word / (callers * call_kinds)) conds (omega arith) in
+    let there : whom_in word < callers = mod_below (word / (callers * call_kinds * conds)) callers (omega arith) in
     let task : task_in word ≤ last_task = omega (arith, near) in
-    let opened = fit_call (task_in word) (kind_in word) (cond_in word) (whom_in word) few there in
-    All-cons IsFit (line.Call (task_in word) (drawn_call word)) (line.Step (task_in word) 40 ∷ []) (task, opened)
-    (All-cons IsFit (line.Step (task_in word) 40) [] (task, omega arith, omega arith) nothing)
+    let opened = fit_call (task_in word) (kind_in word) (drawn_cond word) (whom_in word) few there in
+    All-cons IsFit (line.Call (task_in word) (drawn_call word)) (line.Step (task_in word) most_steps ∷ [])
+    (task, opened)
+    (All-cons IsFit (line.Step (task_in word) most_steps) [] (task, omega arith, omega arith) nothing)
 
 fit_from : (state count : ℕ) → All IsFit (drawn_from state count)
 fit_from state zero = nothing
@@ -109,14 +116,14 @@ fit_from state (suc count) =
 pub fits : (seed count : ℕ) → All IsFit (drill_of seed count)
 fits seed count = fit_from seed count
 
-asks_from : (state count : ℕ) → sum_by count_of (drawn_from state count) ≡ 40 * count
+asks_from : (state count : ℕ) → sum_by events_asked (drawn_from state count) ≡ most_steps * count
 asks_from state zero = refl
 asks_from state (suc count) =
-    let here = sum_by-append count_of (drawn_lines (mix_u64 state).0) (drawn_from (mix_u64 state).1 count) in
+    let here = sum_by-append events_asked (drawn_lines (mix_u64 state).0) (drawn_from (mix_u64 state).1 count) in
     let more = asks_from (mix_u64 state).1 count in
     grind (arith, here, more)
 
-pub asks : (seed count : ℕ) → sum_by count_of (drill_of seed count) ≡ 40 * count
+pub asks : (seed count : ℕ) → sum_by events_asked (drill_of seed count) ≡ most_steps * count
 asks seed count = asks_from seed count
 
 -- the lines of one more word

@@ -1,5 +1,20 @@
 -- The drill: the script of a seed, by calls drawn from the words of a SplitMix64 generator. (To be believed.)
-use Rattle.std.specs.Prelude.{ℕ, zero, suc, ◌/◌, ◌%◌, List, [], ◌∷◌, ◌++◌, true, false, if◌then◌else◌, ◌==◌}
+use Rattle.std.specs.Prelude.{
+  ℕ,
+  zero,
+  suc,
+  ◌*◌,
+  ◌/◌,
+  ◌%◌,
+  List,
+  [],
+  ◌∷◌,
+  ◌++◌,
+  true,
+  false,
+  if◌then◌else◌,
+  ◌==◌,
+}
 use Rattle.rand_xoshiro.specs.SplitMix64.{mix_u64}
 use Rattle.wait_model.specs.declared.calls.Call.{Call}
 use Rattle.wait_model.specs.declared.calls.Call.TheVariants as call
@@ -19,18 +34,32 @@ int = record { state = Interruptible; exclusive = false }
 abbrev pub int_ex : How
 int_ex = record { state = Interruptible; exclusive = true }
 
+-- how many tasks make calls, kinds of calls there are, and conditions they speak of, each from 0 on
+abbrev pub callers : ℕ
+callers = 16
+
+abbrev pub call_kinds : ℕ
+call_kinds = 8
+
+abbrev pub conds : ℕ
+conds = 4
+
+-- up to how many steps a task makes after its call was opened
+abbrev pub most_steps : ℕ
+most_steps = 40
+
 -- a word gives the task of a call, the kind of the call, its condition, and the task that a signal goes to
 abbrev pub task_in : ℕ → ℕ
-task_in word = word % 16
+task_in word = word % callers
 
 abbrev pub kind_in : ℕ → ℕ
-kind_in word = word / 16 % 8
+kind_in word = word / callers % call_kinds
 
-abbrev pub cond_in : ℕ → ℕ
-cond_in word = word / 128 % 4
+abbrev pub drawn_cond : ℕ → ℕ
+drawn_cond word = word / (callers * call_kinds) % conds
 
 abbrev pub whom_in : ℕ → ℕ
-whom_in word = word / 512 % 16
+whom_in word = word / (callers * call_kinds * conds) % callers
 
 -- the calls by their kinds
 abbrev pub call_of : ℕ → ℕ → ℕ → Call
@@ -45,11 +74,11 @@ call_of kind cond whom =
     else call.Accept
 
 abbrev pub drawn_call : ℕ → Call
-drawn_call word = call_of (kind_in word) (cond_in word) (whom_in word)
+drawn_call word = call_of (kind_in word) (drawn_cond word) (whom_in word)
 
--- the lines of a word: the call of its task is opened, and the task makes up to 40 steps
+-- the lines of a word: the call of its task is opened, and the task makes its steps
 abbrev pub drawn_lines : ℕ → List Line
-drawn_lines word = line.Call (task_in word) (drawn_call word) ∷ line.Step (task_in word) 40 ∷ []
+drawn_lines word = line.Call (task_in word) (drawn_call word) ∷ line.Step (task_in word) most_steps ∷ []
 
 -- the lines of so many calls, drawn from a state of the generator on
 abbrev pub drawn_from : ℕ → ℕ → List Line

@@ -55,7 +55,7 @@ fn call_by(kind: u64, cond: u8, who: u8) -> Call
 /// The task whose call a word draws: 0 to 15.
 pub fn task_drawn(word: u64) -> u8
     ensures task { result ≡ task_in word }
-    ensures few { result < 16 }
+    ensures few { result < CALLERS }
 {
     (word % CALLERS) as u8
 }

@@ -2,7 +2,7 @@
 
 ghost use Rattle.std.specs.Prelude.{◌≡◌, ◌*◌, ◌≤◌, ◌++◌, IfOk, OnOk, All, sum_by};
 ghost use Rattle.rand_xoshiro.specs.SplitMix64.{mix_u64};
-ghost use Rattle.wait_script.specs.Lines.{count_of};
+ghost use Rattle.wait_script.specs.Lines.{events_asked};
 ghost use Rattle.wait_script.specs.Spelling.{IsFit};
 ghost use Rattle.drill_gen.specs.Drill.{drawn_lines, drill_of};
 
@@ -19,7 +19,7 @@ pub const MOST_CALLS: u32 = 20_000;
 /// Up to how many steps a task makes after its call was opened.
 const STEPS: u32 = 40;
 
-/// Puts the lines that a word draws behind the others.
+/// Puts the lines that a word draws after the others.
 fn push_drawn(lines: &mut Vec<Line>, word: u64) -> Result<(), AllocError>
     ensures { OnOk result (lines.new.items ≡ lines.old.items ++ drawn_lines word) }
 {
@@ -33,15 +33,15 @@ fn push_drawn(lines: &mut Vec<Line>, word: u64) -> Result<(), AllocError>
 }
 
 /// The script of a seed: `count` calls of tasks 0 to 15 on conditions 0 to 3, of at most 20,000, each with up to 40
-/// steps of its task behind it. The calls are drawn by a SplitMix64 generator whose seed is the eight bytes of `seed`,
+/// steps of its task after it. The calls are drawn by a SplitMix64 generator whose seed is the eight bytes of `seed`,
 /// the lowest first. AllocError: there is no memory for the lines.
 ///
 /// It soon has all sixteen tasks asleep, so it loads a core lightly.
 pub fn drill(alloc: Global, seed: u64, count: u32) -> Result<Script, AllocError>
-    requires { count ≤ 20000 }
+    requires { count ≤ MOST_CALLS }
     ensures lines { IfOk result (λ script. script ≡ drill_of seed count) }
     ensures fits { IfOk result (λ script. All IsFit script) }
-    ensures asked { IfOk result (λ script. sum_by count_of script ≡ 40 * count) }
+    ensures asked { IfOk result (λ script. sum_by events_asked script ≡ STEPS * count) }
 {
     let mut lines = Vec::with_capacity(alloc, 2 * count as usize)?;
     let mut generator = SplitMix64::seed_from_u64(seed);

@@ -1,5 +1,5 @@
 use Rattle.std.proofs.Common.{subst, All, sum_by, sym, ◌∙◌, ap}
-use Rattle.wait_script.specs.Lines.{count_of}
+use Rattle.wait_script.specs.Lines.{events_asked}
 use Rattle.wait_script.specs.Spelling.{IsFit}
 use Rattle.drill_gen.specs.Drill.{drill_of}
 use Rattle.drill_gen.proofs.Drawn.{fits, asks, goes_on, all_drawn}
@@ -20,6 +20,6 @@ returns-clause-fits c =
 
 pub returns-clause-asked : goal.returns-clause-asked
 returns-clause-asked c =
-    ap (sum_by count_of) (sym (all_drawn (drill_of c.args.seed c.args.count) c.loop-call.lines.items c.args.count
+    ap (sum_by events_asked) (sym (all_drawn (drill_of c.args.seed c.args.count) c.loop-call.lines.items c.args.count
     c.loop-call._call c.loop-call.generator c.loop-call-test.false c.loop-call.invariant.lines))
     ∙ asks c.args.seed c.args.count

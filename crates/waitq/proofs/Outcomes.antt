@@ -26,8 +26,9 @@ use Rattle.std.proofs.lemmas.Bool.Decides.{nat_tests}
 use Rattle.edge_io.specs.Text.{HoldsPrefix}
 use Rattle.edge_io.specs.declared.sink.SinkFault.{SinkFault}
 use Rattle.edge_io.specs.declared.sink.SinkFault.TheVariants as sink
+use Rattle.wait_model.specs.declared.layout.TheConstants.{EVENTS, INPUT_BYTES}
 use Rattle.wait_script.specs.declared.line.Line.{Line}
-use Rattle.wait_script.specs.Lines.{count_of}
+use Rattle.wait_script.specs.Lines.{events_asked}
 use Rattle.wait_script.specs.Script.{script_of}
 use Rattle.waitq.specs.Fault.{sink_fault, script_fault, status_of}
 use Rattle.wait_script.specs.Replay.{replay_text}
@@ -38,7 +39,7 @@ use Rattle.waitq.specs.Outcome.{
   Text,
   lines_verdict,
   verdict_of,
-  Refuses,
+  IsFaultOf,
   Answers,
   LeavesUnwritten,
   IsBad,
@@ -55,38 +56,38 @@ pub at : (v w : Verdict) (old new : Option (List ℕ)) (r : Result (Unit {0}) Fa
     → Answers w old new r → Answers v old new r
 at v w old new r e h = subst (λ (u : Verdict). Answers u old new r) (sym e) h
 
-pub too_many : (lines : List Line) → 1000000 < sum_by count_of lines → lines_verdict (Ok lines) ≡ TooLong
+pub too_many : (lines : List Line) → EVENTS < sum_by events_asked lines → lines_verdict (Ok lines) ≡ TooLong
 too_many lines h = grind (arith, nat_tests)
 
-pub few : (lines : List Line) → sum_by count_of lines ≤ 1000000
+pub few : (lines : List Line) → sum_by events_asked lines ≤ EVENTS
     → lines_verdict (Ok lines) ≡ Text (replay_text lines)
 few lines h = grind (arith, nat_tests)
 
-pub too_long : (bytes : List ℕ) → 1048576 < length bytes → verdict_of bytes ≡ TooLong
+pub too_long : (bytes : List ℕ) → INPUT_BYTES < length bytes → verdict_of bytes ≡ TooLong
 too_long bytes h = grind (arith, nat_tests)
 
-pub short : (bytes : List ℕ) → length bytes ≤ 1048576 → verdict_of bytes ≡ lines_verdict (script_of bytes)
+pub short : (bytes : List ℕ) → length bytes ≤ INPUT_BYTES → verdict_of bytes ≡ lines_verdict (script_of bytes)
 short bytes h = grind (arith, nat_tests)
 
 pub broken : (old new : Option (List ℕ)) (text : List ℕ) (e : SinkFault) → HoldsPrefix old new text
-    → Refuses (Text text) old new (sink_fault e)
+    → IsFaultOf (Text text) old new (sink_fault e)
 broken old new text sink.Failed p = p
 broken old new text sink.OutOfMemory p = p
 
 -- want of memory before anything was written
-pub quiet : (v : Verdict) (old : Option (List ℕ)) → Refuses v old old fault.Memory
+pub quiet : (v : Verdict) (old : Option (List ℕ)) → IsFaultOf v old old fault.Memory
 quiet TooLong old = refl
 quiet (BadLine line why) old = refl
 quiet (Text text) old = nothing old text
 
-pub refused : (bytes : List ℕ) (old : Option (List ℕ)) (e : ReadScript) → length bytes ≤ 1048576
-    → script.Refuses e (script_of bytes) → Refuses (verdict_of bytes) old old (script_fault e)
+pub refused : (bytes : List ℕ) (old : Option (List ℕ)) (e : ReadScript) → length bytes ≤ INPUT_BYTES
+    → script.Refuses e (script_of bytes) → IsFaultOf (verdict_of bytes) old old (script_fault e)
 refused bytes old (read.Bad line why) le h =
     let e : verdict_of bytes ≡ BadLine line why = short bytes le ∙ ap lines_verdict h in
-    subst (λ (u : Verdict). Refuses u old old (fault.Script line why)) (sym e) (refl, refl, refl)
+    subst (λ (u : Verdict). IsFaultOf u old old (fault.Script line why)) (sym e) (refl, refl, refl)
 refused bytes old read.OutOfMemory le h = quiet (verdict_of bytes) old
 
-bad : (v : Verdict) (old new : Option (List ℕ)) (f : Fault) → Refuses v old new f → status_of f ≡ 3 → IsBad v
+bad : (v : Verdict) (old new : Option (List ℕ)) (f : Fault) → IsFaultOf v old new f → status_of f ≡ 3 → IsBad v
 bad (BadLine line why) old new f h e = tt
 bad TooLong old new fault.Usage h e = absurd (omega arith)
 bad TooLong old new (fault.Script l w) h e = absurd h
@@ -102,7 +103,7 @@ bad (Text text) old new fault.Memory h e = absurd (omega arith)
 bad (Text text) old new fault.Long h e = absurd h
 
 pub script_status : (verdict : Option Verdict) (old new : Option (List ℕ)) (f : Fault)
-    → IfSome verdict (λ v. Refuses v old new f) → status_of f ≡ 3 → IfSome verdict IsBad
+    → IfSome verdict (λ v. IsFaultOf v old new f) → status_of f ≡ 3 → IfSome verdict IsBad
 script_status None old new f h e = tt
 script_status (Some v) old new f h e = bad v old new f h e
 

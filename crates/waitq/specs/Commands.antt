@@ -18,7 +18,8 @@ use Rattle.std.specs.Prelude.{
   codes,
 }
 use Rattle.std.specs.Str.{bytes_eq}
-use Rattle.wait_script.specs.Number.{number_of}
+use Rattle.wait_script.specs.Number.{numeral_value}
+use Rattle.drill_gen.specs.declared.lines.TheConstants.{MOST_CALLS}
 use Rattle.waitq.specs.Drill.{drill_text}
 use Rattle.waitq.specs.Outcome.{Verdict, Text, verdict_of}
 use Rattle.waitq.specs.declared.command.Command.{Command}
@@ -26,20 +27,20 @@ use Rattle.waitq.specs.declared.command.Command.TheVariants.{Replay, Drill}
 
 -- `drill SEED COUNT`, by its numbers
 abbrev pub drill_at : Option ℕ → Option ℕ → Option Command
-drill_at (Some seed) (Some count) = if nat_le count 20000 then Some (Drill seed count) else None
+drill_at (Some seed) (Some count) = if nat_le count MOST_CALLS then Some (Drill seed count) else None
 drill_at (Some seed) None = None
 drill_at None count = None
 
 abbrev pub command_of : List (List ℕ) → Option Command
 command_of (name ∷ []) = if bytes_eq name (codes "replay") then Some Replay else None
 command_of (name ∷ seed ∷ count ∷ []) =
-    if bytes_eq name (codes "drill") then drill_at (number_of seed) (number_of count) else None
+    if bytes_eq name (codes "drill") then drill_at (numeral_value seed) (numeral_value count) else None
 command_of words = None
 
--- a drill has at most 20,000 calls
+-- a drill has no more than so many calls
 abbrev pub IsFitCommand : Command → Type 0
 IsFitCommand Replay = Unit {0}
-IsFitCommand (Drill seed count) = count ≤ 20000
+IsFitCommand (Drill seed count) = count ≤ MOST_CALLS
 
 -- whether a command reads its input, and none reads where the words are no command
 abbrev pub reads_input : Option Command → Bool
@@ -58,8 +59,8 @@ verdict_at (Some (Drill seed count)) input = Some (Text (drill_text seed count))
 verdict_at None input = None
 
 -- the statuses of each command, and of words that are none
-abbrev pub ends_with : Option Command → ℕ → Bool
-ends_with (Some Replay) status =
+abbrev pub may_end_with : Option Command → ℕ → Bool
+may_end_with (Some Replay) status =
     status == 0 || status == 3 || status == 4 || status == 5 || status == 7 || status == 8
-ends_with (Some (Drill seed count)) status = status == 0 || status == 5 || status == 7
-ends_with None status = status == 2
+may_end_with (Some (Drill seed count)) status = status == 0 || status == 5 || status == 7
+may_end_with None status = status == 2

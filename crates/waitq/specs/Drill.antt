@@ -1,10 +1,25 @@
 -- The summary of a drill: what the run of its script says. (To be believed.)
-use Rattle.std.specs.Prelude.{ℕ, zero, suc, ◌+◌, List, [], ◌∷◌, ◌++◌, Bool, true, false, if◌then◌else◌, codes, decimal}
+use Rattle.std.specs.Prelude.{
+  ℕ,
+  zero,
+  suc,
+  ◌+◌,
+  List,
+  [],
+  ◌∷◌,
+  ◌++◌,
+  Bool,
+  true,
+  false,
+  if◌then◌else◌,
+  codes,
+  decimal,
+}
 use Rattle.std.specs.declared.result.Result.{Result}
 use Rattle.std.specs.declared.result.Result.TheVariants.{Ok, Err}
 use Rattle.wait_model.specs.declared.calls.Ran.{Ran}
 use Rattle.wait_model.specs.Runs.{State, state_of, made_in}
-use Rattle.wait_model.specs.Tasks.{task_count}
+use Rattle.wait_model.specs.declared.layout.TheConstants.{SCRIPT_TASKS}
 use Rattle.wait_core.specs.declared.engine.StartFault.{StartFault}
 use Rattle.wait_core.specs.Stepped.{started}
 use Rattle.wait_script.specs.declared.line.Line.{Line}
@@ -12,10 +27,10 @@ use Rattle.wait_script.specs.declared.line.Line.TheVariants as line
 use Rattle.wait_script.specs.Replay.{replay_line}
 use Rattle.drill_gen.specs.Drill.{drill_of}
 
--- the run behind lines that are replayed from a run on
-abbrev pub run_behind : List Ran → List Line → List Ran
-run_behind run [] = run
-run_behind run (line ∷ lines) = run_behind (replay_line run line).1 lines
+-- the run after lines that are replayed from a run on
+abbrev pub run_after_lines : List Ran → List Line → List Ran
+run_after_lines run [] = run
+run_after_lines run (line ∷ lines) = run_after_lines (replay_line run line).1 lines
 
 abbrev pub is_refused : Result (Unit {0}) StartFault → Bool
 is_refused (Ok x) = false
@@ -45,9 +60,10 @@ head_line seed count = codes "drill " ++ decimal seed ++ number_line (codes " ")
 
 abbrev pub summary_of : ℕ → ℕ → List Line → List ℕ
 summary_of seed count lines =
-    head_line seed count ++ number_line (codes "events ") (made_in (run_behind [] lines))
+    head_line seed count ++ number_line (codes "events ") (made_in (run_after_lines [] lines))
     ++ number_line (codes "refused ") (refused_in [] lines)
-    ++ number_line (codes "asleep ") (asleep_below (state_of (run_behind [] lines)) task_count) ++ codes "end\n"
+    ++ number_line (codes "asleep ") (asleep_below (state_of (run_after_lines [] lines)) SCRIPT_TASKS)
+    ++ codes "end\n"
 
 -- the summary of a seed's script in a fresh core
 abbrev pub drill_text : ℕ → ℕ → List ℕ

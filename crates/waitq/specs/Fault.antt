@@ -1,9 +1,11 @@
 -- Statuses and their lines. (To be believed.)
-use Rattle.std.specs.Prelude.{ℕ, List, ◌++◌, if◌then◌else◌, ◌==◌, codes, decimal}
+use Rattle.std.specs.Prelude.{ℕ, List, ◌++◌, codes, decimal}
 use Rattle.edge_io.specs.declared.sink.SinkFault.{SinkFault}
 use Rattle.edge_io.specs.declared.sink.SinkFault.TheVariants as sink
 use Rattle.edge_io.specs.declared.whole.ReadFault.{ReadFault}
 use Rattle.edge_io.specs.declared.whole.ReadFault.TheVariants as read
+use Rattle.wait_script.specs.declared.reason.Reason.{Reason}
+use Rattle.wait_script.specs.declared.reason.Reason.TheVariants as reason
 use Rattle.wait_script.specs.declared.script.ReadScript.{ReadScript}
 use Rattle.wait_script.specs.declared.script.ReadScript.TheVariants as script
 use Rattle.waitq.specs.declared.fault.Fault.{Fault}
@@ -17,14 +19,17 @@ status_of Write = 5
 status_of Memory = 7
 status_of Long = 8
 
--- why a line is bad, by its number
-abbrev pub why_text : ℕ → List ℕ
-why_text why =
-    if why == 1 then codes "cut line" else if why == 2 then codes "long line"
-    else if why == 3 then codes "bad byte" else if why == 4 then codes "no header"
-    else if why == 5 then codes "unknown word" else if why == 6 then codes "word count"
-    else if why == 7 then codes "bad number" else if why == 8 then codes "bad form"
-    else codes "bad condition"
+-- why a line is bad
+abbrev pub why_text : Reason → List ℕ
+why_text reason.CutLine = codes "cut line"
+why_text reason.LongLine = codes "long line"
+why_text reason.BadByte = codes "bad byte"
+why_text reason.NoHeader = codes "no header"
+why_text reason.UnknownWord = codes "unknown word"
+why_text reason.WordCount = codes "word count"
+why_text reason.BadNumber = codes "bad number"
+why_text reason.BadForm = codes "bad form"
+why_text reason.BadCondition = codes "bad condition"
 
 abbrev pub fault_text : Fault → List ℕ
 fault_text Usage =

@@ -1,9 +1,23 @@
 -- What becomes of an input. (To be believed.)
-use Rattle.std.specs.Prelude.{◌≡◌, ℕ, List, length, Option, Result, Ok, Err, nat_lt, if◌then◌else◌, sum_by}
+use Rattle.std.specs.Prelude.{
+  ◌≡◌,
+  ℕ,
+  List,
+  length,
+  Option,
+  Result,
+  Ok,
+  Err,
+  nat_lt,
+  if◌then◌else◌,
+  sum_by,
+}
 use Rattle.std.specs.Io.KnownBytes.{append_known}
 use Rattle.edge_io.specs.Text.{HoldsPrefix}
+use Rattle.wait_model.specs.declared.layout.TheConstants.{EVENTS, INPUT_BYTES}
 use Rattle.wait_script.specs.declared.line.Line.{Line}
-use Rattle.wait_script.specs.Lines.{count_of}
+use Rattle.wait_script.specs.declared.reason.Reason.{Reason}
+use Rattle.wait_script.specs.Lines.{events_asked}
 use Rattle.wait_script.specs.Script.{script_of}
 use Rattle.wait_script.specs.Replay.{replay_text}
 use Rattle.waitq.specs.declared.fault.Fault.{Fault}
@@ -12,33 +26,33 @@ use Rattle.waitq.specs.declared.fault.Fault.TheVariants as fault
 -- too long, a script with a bad line and its why, or the text of its replay
 pub data Verdict : Type 0 where
   TooLong : Verdict
-  BadLine : ℕ → ℕ → Verdict
+  BadLine : ℕ → Reason → Verdict
   Text : List ℕ → Verdict
 
-abbrev pub lines_verdict : Result (List Line) (ℕ × ℕ) → Verdict
-lines_verdict (Ok lines) = if nat_lt 1000000 (sum_by count_of lines) then TooLong
+abbrev pub lines_verdict : Result (List Line) (ℕ × Reason) → Verdict
+lines_verdict (Ok lines) = if nat_lt EVENTS (sum_by events_asked lines) then TooLong
     else Text (replay_text lines)
 lines_verdict (Err (line, why)) = BadLine line why
 
 abbrev pub verdict_of : List ℕ → Verdict
-verdict_of bytes = if nat_lt 1048576 (length bytes) then TooLong else lines_verdict (script_of bytes)
+verdict_of bytes = if nat_lt INPUT_BYTES (length bytes) then TooLong else lines_verdict (script_of bytes)
 
 -- What an answer says of the verdict, and of what a sink held before and holds now.
-abbrev pub Refuses : Verdict → Option (List ℕ) → Option (List ℕ) → Fault → Type 0
-Refuses verdict old new fault.Usage = new ≡ old
-Refuses verdict old new fault.Read = new ≡ old
-Refuses (BadLine line why) old new (fault.Script l w) = (l ≡ line) × (w ≡ why) × (new ≡ old)
-Refuses TooLong old new (fault.Script l w) = ⊥
-Refuses (Text text) old new (fault.Script l w) = ⊥
-Refuses TooLong old new fault.Long = new ≡ old
-Refuses (BadLine line why) old new fault.Long = ⊥
-Refuses (Text text) old new fault.Long = ⊥
-Refuses (Text text) old new fault.Write = HoldsPrefix old new text
-Refuses TooLong old new fault.Write = ⊥
-Refuses (BadLine line why) old new fault.Write = ⊥
-Refuses (Text text) old new fault.Memory = HoldsPrefix old new text
-Refuses TooLong old new fault.Memory = new ≡ old
-Refuses (BadLine line why) old new fault.Memory = new ≡ old
+abbrev pub IsFaultOf : Verdict → Option (List ℕ) → Option (List ℕ) → Fault → Type 0
+IsFaultOf verdict old new fault.Usage = new ≡ old
+IsFaultOf verdict old new fault.Read = new ≡ old
+IsFaultOf (BadLine line why) old new (fault.Script l w) = (l ≡ line) × (w ≡ why) × (new ≡ old)
+IsFaultOf TooLong old new (fault.Script l w) = ⊥
+IsFaultOf (Text text) old new (fault.Script l w) = ⊥
+IsFaultOf TooLong old new fault.Long = new ≡ old
+IsFaultOf (BadLine line why) old new fault.Long = ⊥
+IsFaultOf (Text text) old new fault.Long = ⊥
+IsFaultOf (Text text) old new fault.Write = HoldsPrefix old new text
+IsFaultOf TooLong old new fault.Write = ⊥
+IsFaultOf (BadLine line why) old new fault.Write = ⊥
+IsFaultOf (Text text) old new fault.Memory = HoldsPrefix old new text
+IsFaultOf TooLong old new fault.Memory = new ≡ old
+IsFaultOf (BadLine line why) old new fault.Memory = new ≡ old
 
 abbrev pub Writes : Verdict → Option (List ℕ) → Option (List ℕ) → Type 0
 Writes (Text text) old new = new ≡ append_known old text
@@ -47,7 +61,7 @@ Writes (BadLine line why) old new = ⊥
 
 abbrev pub Answers : Verdict → Option (List ℕ) → Option (List ℕ) → Result (Unit {0}) Fault → Type 0
 Answers verdict old new (Ok x) = Writes verdict old new
-Answers verdict old new (Err fault) = Refuses verdict old new fault
+Answers verdict old new (Err fault) = IsFaultOf verdict old new fault
 
 -- Where words, a script or an input is refused, or the input can't be read, nothing was written.
 abbrev pub LeavesUnwritten : Option (List ℕ) → Option (List ℕ) → Result (Unit {0}) Fault → Type 0

@@ -6,9 +6,9 @@ use Rattle.waitq.specs.Fault.{status_of, fault_text}
 use Rattle.waitq.specs.Outcome.{Verdict, Answers}
 use Rattle.waitq.specs.declared.fault.Fault.{Fault}
 
-abbrev pub number_of : Result (Unit {0}) Fault → ℕ
-number_of (Ok x) = 0
-number_of (Err fault) = status_of fault
+abbrev pub exit_status : Result (Unit {0}) Fault → ℕ
+exit_status (Ok x) = 0
+exit_status (Err fault) = status_of fault
 
 -- A fault's line, or a front of it, was written: the whole line where the counts of the stream have stayed.
 -- Nothing was written where there is no fault.
@@ -26,6 +26,6 @@ is_quiet status = status == 2 || status == 3 || status == 4 || status == 8
 pub record Finishes (verdict : Option Verdict) (out_old out_new err_old err_new : Option (List ℕ))
     (err_stayed : Type 0) (status : ℕ) : Type 0 where
   pub answer : Result (Unit {0}) Fault
-  pub number : status ≡ number_of answer
+  pub number : status ≡ exit_status answer
   pub outcome : IfSome verdict (λ v. Answers v out_old out_new answer)
   pub line : Reports err_old err_new err_stayed answer

@@ -1,7 +1,7 @@
-//! The commands, by the words behind the program's name.
+//! The commands, by the words after the program's name.
 
 ghost use Rattle.std.specs.Prelude.{◌≡◌, map, string_bytes, IfSome};
-ghost use Rattle.wait_script.specs.Number.{number_of};
+ghost use Rattle.wait_script.specs.Number.{numeral_value};
 ghost use Rattle.waitq.specs.Commands.{drill_at, command_of, IsFitCommand};
 
 use drill_gen::MOST_CALLS;
@@ -16,9 +16,9 @@ pub enum Command {
     Drill { seed: u64, count: u32 },
 }
 
-/// `drill SEED COUNT`, by the words behind the first.
+/// `drill SEED COUNT`, by the words after the first.
 fn read_drill(seed: &[u8], count: &[u8]) -> Option<Command>
-    ensures command { result ≡ drill_at (number_of seed.now) (number_of count.now) }
+    ensures command { result ≡ drill_at (numeral_value seed.now) (numeral_value count.now) }
     ensures fits { IfSome result IsFitCommand }
 {
     let seed = read_number(seed)?;

@@ -3,22 +3,24 @@
 ghost use Rattle.std.specs.Prelude.{◌≡◌, ◌+◌, ◌≤◌, ◌++◌, IsErrOf, IsTrue, Some, length};
 ghost use Rattle.arrayvec.specs.ArrayVec.{array_vec_len};
 ghost use Rattle.edge_io.specs.Faults.{HasRisen};
-ghost use Rattle.waitq.specs.Commands.{ends_with};
+ghost use Rattle.waitq.specs.Commands.{may_end_with};
 ghost use Rattle.waitq.specs.Drill.{number_line, head_line, drill_text};
 ghost use Rattle.waitq.specs.Outcome.{Text, Answers, LeavesUnwritten};
-ghost use Rattle.waitq.specs.Run.{number_of};
+ghost use Rattle.waitq.specs.Run.{exit_status};
 
 use crate::command::Command;
 use crate::fault::Fault;
 use crate::silent::{count_asleep, make_lines};
+use drill_gen::MOST_CALLS;
 use edge_io::{Sink, write_all};
 use std::alloc::Global;
 use wait_core::Core;
+use wait_model::layout::TEXT_BYTES;
 use wait_script::{LineText, push_number, push_text};
 
-/// Puts a line of a name and a number behind a text.
+/// Puts a line of a name and a number after a text.
 fn push_line(line: &mut LineText, name: &[u8], number: u64)
-    requires { array_vec_len line.old + length name.now + 21 ≤ 160 }
+    requires { array_vec_len line.old + length name.now + 21 ≤ TEXT_BYTES }
     ensures text { line.new.items ≡ line.old.items ++ number_line name.now number }
     ensures len { array_vec_len line.new ≤ array_vec_len line.old + length name.now + 21 }
 {
@@ -27,9 +29,9 @@ fn push_line(line: &mut LineText, name: &[u8], number: u64)
     push_text(line, b"\n");
 }
 
-/// Puts the first line of a summary behind a text.
+/// Puts the first line of a summary after a text.
 fn push_head(line: &mut LineText, seed: u64, count: u32)
-    requires { array_vec_len line.old + 48 ≤ 160 }
+    requires { array_vec_len line.old + 48 ≤ TEXT_BYTES }
     ensures text { line.new.items ≡ line.old.items ++ head_line seed count }
     ensures len { array_vec_len line.new ≤ array_vec_len line.old + 48 }
 {
@@ -42,10 +44,10 @@ fn push_head(line: &mut LineText, seed: u64, count: u32)
 /// events made, of calls refused, and of tasks that are not runnable at the end. The script has at most 20,000 calls,
 /// and so asks for at most 800,000 events.
 pub fn drill<O: Sink>(alloc: Global, seed: u64, count: u32, out: &mut O) -> Result<(), Fault>
-    requires { count ≤ 20000 }
+    requires { count ≤ MOST_CALLS }
     ensures outcome { Answers (Text (drill_text seed count)) (O.held out.old) (O.held out.new) result }
     ensures unwritten { LeavesUnwritten (O.held out.old) (O.held out.new) result }
-    ensures statuses { IsTrue (ends_with (Some (Command.Drill seed count)) (number_of result)) }
+    ensures statuses { IsTrue (may_end_with (Some (Command.Drill seed count)) (exit_status result)) }
     ensures write { IsErrOf result Fault.Write → HasRisen (O.faults out.old) (O.faults out.new) }
 {
     let script = drill_gen::drill(alloc, seed, count)?;

@@ -6,7 +6,7 @@ ghost use Rattle.waitq.specs.declared.fault.Fault.TheVariants.{Memory};
 
 use edge_io::{ReadFault, SinkFault};
 use std::alloc::AllocError;
-use wait_script::ReadScript;
+use wait_script::{ReadScript, Reason};
 
 /// Why a command ends early: each has a status and a line of its own.
 #[derive(Clone, Copy, Debug, PartialEq, Eq)]
@@ -14,14 +14,14 @@ pub enum Fault {
     /// The words are no command: status 2.
     Usage,
     /// The input is no script, with its first bad line and its first reason: status 3.
-    Script { line: u32, why: u8 },
+    Script { line: u32, why: Reason },
     /// The input can't be read: status 4.
     Read,
     /// The output can't be written: status 5.
     Write,
     /// Memory ran out: status 7.
     Memory,
-    /// The input has more than 1,048,576 bytes, or asks for more than 1,000,000 events: status 8.
+    /// The input has more than `INPUT_BYTES` bytes, or asks for more than `EVENTS` events: status 8.
     Long,
 }
 

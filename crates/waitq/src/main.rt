@@ -5,6 +5,8 @@ mod command;
 mod drill;
 mod fault;
 mod play;
+#[cfg(test)]
+mod refused_rows;
 mod replay;
 mod report;
 #[cfg(test)]
@@ -15,6 +17,8 @@ mod streams;
 #[cfg(test)]
 mod tests;
 #[cfg(test)]
+mod waiting_rows;
+#[cfg(test)]
 mod walks;
 
 use fault::Fault;
@@ -23,7 +27,7 @@ use std::process::ExitCode;
 use std::{env, io};
 use streams::{Reading, Writing};
 
-/// The words behind the program's name.
+/// The words after the program's name.
 fn words(rt: &HostRuntime) -> io::Result<Vec<String>> {
     let words = env::args(rt)?.skip(1).collect(rt.alloc())?;
     Ok(words)

@@ -8,14 +8,15 @@ ghost use Rattle.wait_model.specs.Admission.{IsListed};
 ghost use Rattle.wait_script.specs.Fields.{last_task};
 ghost use Rattle.wait_script.specs.Spelling.{IsFit};
 ghost use Rattle.wait_script.specs.Text.{step_text, refused_text};
-ghost use Rattle.wait_script.specs.Ending.{end_text};
-ghost use Rattle.wait_script.specs.Replay.{stops, steps_of, opening_of, replay_line, replay_from};
+ghost use Rattle.wait_script.specs.Ending.{ending_text};
+ghost use Rattle.wait_script.specs.Replay.{stops, played_steps, opening_of, replay_line, replay_from};
 
 use edge_io::{Buffer, Sink, SinkFault};
 use wait_core::{Core, StartFault, Stepped};
 use wait_model::calls::{Call, Event};
+use wait_model::layout::TEXT_BYTES;
 use wait_model::tasks::Sleep;
-use wait_script::{LINE_ROOM, Line, write_end, write_refused, write_step};
+use wait_script::{Line, write_end, write_refused, write_step};
 
 /// Whether a `step` line ends early.
 pub fn stops(stepped: &Stepped) -> bool
@@ -40,11 +41,12 @@ fn print_step<K: Sink>(
     task: u8,
     stepped: &Stepped,
 ) -> Result<(), SinkFault>
-    ensures text { BuffersText (K.held out.old) buffer.old (K.held out.new) buffer.new (step_text task stepped.now) result }
+    ensures text { BuffersText (K.held out.old) buffer.old (K.held out.new) buffer.new
+        (step_text task stepped.now) result }
     ensures cause { IsErrOf result SinkFault.Failed → HasRisen (K.faults out.old) (K.faults out.new) }
     ensures later { K.faults out.old ≤ K.faults out.new }
 {
-    buffer.make_room(out, LINE_ROOM)?;
+    buffer.make_room(out, TEXT_BYTES)?;
     write_step(buffer, task, stepped)
 }
 
@@ -55,11 +57,12 @@ fn print_refused<K: Sink>(
     task: u8,
     fault: StartFault,
 ) -> Result<(), SinkFault>
-    ensures text { BuffersText (K.held out.old) buffer.old (K.held out.new) buffer.new (refused_text task fault) result }
+    ensures text { BuffersText (K.held out.old) buffer.old (K.held out.new) buffer.new
+        (refused_text task fault) result }
     ensures cause { IsErrOf result SinkFault.Failed → HasRisen (K.faults out.old) (K.faults out.new) }
     ensures later { K.faults out.old ≤ K.faults out.new }
 {
-    buffer.make_room(out, LINE_ROOM)?;
+    buffer.make_room(out, TEXT_BYTES)?;
     write_refused(buffer, task, fault)
 }
 
@@ -72,8 +75,9 @@ fn play_steps<K: Sink>(
     count: u32,
 ) -> Result<(), SinkFault>
     requires { task ≤ last_task }
-    ensures text { BuffersText (K.held out.old) buffer.old (K.held out.new) buffer.new (steps_of count core.old task).0 result }
-    ensures run { OnOk result (core.new ≡ (steps_of count core.old task).1) }
+    ensures text { BuffersText (K.held out.old) buffer.old (K.held out.new) buffer.new
+        (played_steps count core.old task).0 result }
+    ensures run { OnOk result (core.new ≡ (played_steps count core.old task).1) }
     ensures cause { IsErrOf result SinkFault.Failed → HasRisen (K.faults out.old) (K.faults out.new) }
     ensures later { K.faults out.old ≤ K.faults out.new }
 {
@@ -96,7 +100,8 @@ fn play_call<K: Sink>(
     call: Call,
 ) -> Result<(), SinkFault>
     requires { IsListed call }
-    ensures text { BuffersText (K.held out.old) buffer.old (K.held out.new) buffer.new (opening_of core.old task call).0 result }
+    ensures text { BuffersText (K.held out.old) buffer.old (K.held out.new) buffer.new
+        (opening_of core.old task call).0 result }
     ensures run { core.new ≡ (opening_of core.old task call).1 }
     ensures cause { IsErrOf result SinkFault.Failed → HasRisen (K.faults out.old) (K.faults out.new) }
     ensures later { K.faults out.old ≤ K.faults out.new }
@@ -115,7 +120,8 @@ fn play_line<K: Sink>(
     line: Line,
 ) -> Result<(), SinkFault>
     requires { IsFit line }
-    ensures text { BuffersText (K.held out.old) buffer.old (K.held out.new) buffer.new (replay_line core.old line).0 result }
+    ensures text { BuffersText (K.held out.old) buffer.old (K.held out.new) buffer.new
+        (replay_line core.old line).0 result }
     ensures run { OnOk result (core.new ≡ (replay_line core.old line).1) }
     ensures cause { IsErrOf result SinkFault.Failed → HasRisen (K.faults out.old) (K.faults out.new) }
     ensures later { K.faults out.old ≤ K.faults out.new }
@@ -128,7 +134,7 @@ fn play_line<K: Sink>(
 
 /// Puts the end lines into the buffer, after it was emptied: they always fit into an empty one.
 fn print_end<K: Sink>(core: &Core, out: &mut K, buffer: &mut Buffer) -> Result<(), SinkFault>
-    ensures text { BuffersText (K.held out.old) buffer.old (K.held out.new) buffer.new (end_text core.now) result }
+    ensures text { BuffersText (K.held out.old) buffer.old (K.held out.new) buffer.new (ending_text core.now) result }
     ensures cause { IsErrOf result SinkFault.Failed → HasRisen (K.faults out.old) (K.faults out.new) }
     ensures later { K.faults out.old ≤ K.faults out.new }
 {
@@ -136,7 +142,7 @@ fn print_end<K: Sink>(core: &Core, out: &mut K, buffer: &mut Buffer) -> Result<(
     write_end(buffer, core)
 }
 
-/// Plays the lines and writes their texts, behind what is in the buffer, and then the end lines.
+/// Plays the lines and writes their texts, after what is in the buffer, and then the end lines.
 pub fn play<K: Sink>(
     core: &mut Core,
     out: &mut K,

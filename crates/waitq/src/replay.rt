@@ -10,13 +10,8 @@ use crate::play::play;
 use edge_io::{Buffer, Sink, Source, read_all};
 use std::alloc::Global;
 use wait_core::Core;
+use wait_model::layout::{EVENTS, INPUT_BYTES};
 use wait_script::{Script, asked, read_script};
-
-/// The most bytes of an input.
-const MAX_INPUT: usize = 1 << 20;
-
-/// The most events that a script may ask for.
-const MAX_EVENTS: u128 = 1_000_000;
 
 /// Runs a script in a fresh core.
 fn replay_script<O: Sink>(alloc: Global, script: &Script, out: &mut O) -> Result<(), Fault>
@@ -28,7 +23,7 @@ fn replay_script<O: Sink>(alloc: Global, script: &Script, out: &mut O) -> Result
     ensures write { IsErrOf result Fault.Write → HasRisen (O.faults out.old) (O.faults out.new) }
     ensures later { O.faults out.old ≤ O.faults out.new }
 {
-    if asked(script) > MAX_EVENTS {
+    if asked(script) > u128::from(EVENTS) {
         return Err(Fault::Long);
     }
     let mut core = Core::new(alloc)?;
@@ -39,7 +34,7 @@ fn replay_script<O: Sink>(alloc: Global, script: &Script, out: &mut O) -> Result
 
 /// Runs the script that the bytes are.
 fn replay_bytes<O: Sink>(alloc: Global, bytes: &[u8], out: &mut O) -> Result<(), Fault>
-    requires { length bytes.now ≤ 1048576 }
+    requires { length bytes.now ≤ INPUT_BYTES }
     ensures outcome { Answers (verdict_of bytes.now) (O.held out.old) (O.held out.new) result }
     ensures unwritten { LeavesUnwritten (O.held out.old) (O.held out.new) result }
     ensures no_read { IsErrOf result Fault.Read → ⊥ }
@@ -54,12 +49,13 @@ fn replay_bytes<O: Sink>(alloc: Global, bytes: &[u8], out: &mut O) -> Result<(),
 /// Runs the script of the input, and writes its text.
 pub fn replay<I: Source, O: Sink>(alloc: Global, input: &mut I, out: &mut O) -> Result<(), Fault>
     ensures drained { OnOk result (IfSome (I.left input.new) (λ bytes. bytes ≡ [])) }
-    ensures outcome { IfSome (I.left input.old) (λ bytes. Answers (verdict_of bytes) (O.held out.old) (O.held out.new) result) }
+    ensures outcome { IfSome (I.left input.old)
+        (λ bytes. Answers (verdict_of bytes) (O.held out.old) (O.held out.new) result) }
     ensures unwritten { LeavesUnwritten (O.held out.old) (O.held out.new) result }
     ensures no_usage { IsErrOf result Fault.Usage → ⊥ }
     ensures read { IsErrOf result Fault.Read → HasRisen (I.faults input.old) (I.faults input.new) }
     ensures write { IsErrOf result Fault.Write → HasRisen (O.faults out.old) (O.faults out.new) }
 {
-    let bytes = read_all(alloc, input, MAX_INPUT)?;
+    let bytes = read_all(alloc, input, INPUT_BYTES)?;
     replay_bytes(alloc, &bytes, out)
 }

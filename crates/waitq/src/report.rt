@@ -8,30 +8,31 @@ ghost use Rattle.waitq.specs.Fault.{fault_text, why_text};
 
 use crate::fault::Fault;
 use edge_io::{Sink, SinkFault, write_all};
-use wait_script::{LineText, push_number, push_text, why};
+use wait_model::layout::TEXT_BYTES;
+use wait_script::{LineText, Reason, push_number, push_text};
 
-/// Puts why a line is bad, by its number, behind a text.
-fn push_why(line: &mut LineText, why: u8)
-    requires { array_vec_len line.old + 13 ≤ 160 }
+/// Puts why a line is bad after a text.
+fn push_why(line: &mut LineText, why: Reason)
+    requires { array_vec_len line.old + 13 ≤ TEXT_BYTES }
     ensures text { line.new.items ≡ line.old.items ++ why_text why }
     ensures len { array_vec_len line.new ≤ array_vec_len line.old + 13 }
 {
     match why {
-        why::CUT_LINE => push_text(line, b"cut line"),
-        why::LONG_LINE => push_text(line, b"long line"),
-        why::BAD_BYTE => push_text(line, b"bad byte"),
-        why::NO_HEADER => push_text(line, b"no header"),
-        why::UNKNOWN_WORD => push_text(line, b"unknown word"),
-        why::WORD_COUNT => push_text(line, b"word count"),
-        why::BAD_NUMBER => push_text(line, b"bad number"),
-        why::BAD_FORM => push_text(line, b"bad form"),
-        _ => push_text(line, b"bad condition"),
+        Reason::CutLine => push_text(line, b"cut line"),
+        Reason::LongLine => push_text(line, b"long line"),
+        Reason::BadByte => push_text(line, b"bad byte"),
+        Reason::NoHeader => push_text(line, b"no header"),
+        Reason::UnknownWord => push_text(line, b"unknown word"),
+        Reason::WordCount => push_text(line, b"word count"),
+        Reason::BadNumber => push_text(line, b"bad number"),
+        Reason::BadForm => push_text(line, b"bad form"),
+        Reason::BadCondition => push_text(line, b"bad condition"),
     }
 }
 
-/// Puts the line of a bad script behind a text.
-fn push_bad(line: &mut LineText, number: u32, why: u8)
-    requires { array_vec_len line.old + 48 ≤ 160 }
+/// Puts the line of a bad script after a text.
+fn push_bad(line: &mut LineText, number: u32, why: Reason)
+    requires { array_vec_len line.old + 48 ≤ TEXT_BYTES }
     ensures { line.new.items ≡ line.old.items ++ fault_text (Fault.Script number why) }
 {
     push_text(line, b"waitq: line ");
@@ -41,9 +42,9 @@ fn push_bad(line: &mut LineText, number: u32, why: u8)
     push_text(line, b"\n");
 }
 
-/// Puts the line of a fault behind a text.
+/// Puts the line of a fault after a text.
 fn push_fault(line: &mut LineText, fault: &Fault)
-    requires { array_vec_len line.old + 96 ≤ 160 }
+    requires { array_vec_len line.old + 96 ≤ TEXT_BYTES }
     ensures { line.new.items ≡ line.old.items ++ fault_text fault.now }
 {
     match fault {

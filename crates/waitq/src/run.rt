@@ -1,10 +1,11 @@
 //! What the program does with its words.
 
-ghost use Rattle.std.specs.Prelude.{◌≡◌, ◌≤◌, ◌↔◌, [], IfSome, IsErrOf, OnOk, IsTrue, IsFalse, None, map, string_bytes};
+ghost use Rattle.std.specs.Prelude.{◌≡◌, ◌≤◌, ◌↔◌, [], map, string_bytes};
+ghost use Rattle.std.specs.Prelude.{IfSome, IsErrOf, OnOk, IsTrue, IsFalse, None};
 ghost use Rattle.edge_io.specs.Faults.{HasRisen, HasStayed};
-ghost use Rattle.waitq.specs.Commands.{command_of, reads_input, verdict_at, ends_with};
+ghost use Rattle.waitq.specs.Commands.{command_of, reads_input, verdict_at, may_end_with};
 ghost use Rattle.waitq.specs.Outcome.{Answers, Writes, IsBad, IsLong, LeavesUnwritten};
-ghost use Rattle.waitq.specs.Run.{number_of, is_quiet, Finishes};
+ghost use Rattle.waitq.specs.Run.{exit_status, is_quiet, Finishes};
 
 use crate::command::{Command, read_command};
 use crate::drill::drill;
@@ -21,11 +22,15 @@ fn answer<I: Source, O: Sink>(
     input: &mut I,
     out: &mut O,
 ) -> Result<(), Fault>
-    ensures statuses { IsTrue (ends_with (command_of (map string_bytes words.now)) (number_of result)) }
-    ensures drained { OnOk result (IsTrue (reads_input (command_of (map string_bytes words.now))) → IfSome (I.left input.new) (λ bytes. bytes ≡ [])) }
-    ensures outcome { IfSome (verdict_at (command_of (map string_bytes words.now)) (I.left input.old)) (λ v. Answers v (O.held out.old) (O.held out.new) result) }
+    ensures statuses { IsTrue (may_end_with (command_of (map string_bytes words.now)) (exit_status result)) }
+    ensures drained { OnOk result
+        (IsTrue (reads_input (command_of (map string_bytes words.now)))
+        → IfSome (I.left input.new) (λ bytes. bytes ≡ [])) }
+    ensures outcome { IfSome (verdict_at (command_of (map string_bytes words.now)) (I.left input.old))
+        (λ v. Answers v (O.held out.old) (O.held out.new) result) }
     ensures unwritten { LeavesUnwritten (O.held out.old) (O.held out.new) result }
-    ensures no_input { IsFalse (reads_input (command_of (map string_bytes words.now))) → I.left input.new ≡ I.left input.old }
+    ensures no_input { IsFalse (reads_input (command_of (map string_bytes words.now)))
+        → I.left input.new ≡ I.left input.old }
     ensures read { IsErrOf result Fault.Read → HasRisen (I.faults input.old) (I.faults input.new) }
     ensures write { IsErrOf result Fault.Write → HasRisen (O.faults out.old) (O.faults out.new) }
 {
@@ -53,23 +58,30 @@ pub fn run<I: Source, O: Sink, E: Sink>(
 ) -> u8
     // The words decide the command, and so which statuses there may be.
     ensures usage { (result ≡ 2) ↔ (command_of (map string_bytes words.now) ≡ None) }
-    ensures statuses { IsTrue (ends_with (command_of (map string_bytes words.now)) result) }
-    ensures no_input { IsFalse (reads_input (command_of (map string_bytes words.now))) → I.left input.new ≡ I.left input.old }
+    ensures statuses { IsTrue (may_end_with (command_of (map string_bytes words.now)) result) }
+    ensures no_input { IsFalse (reads_input (command_of (map string_bytes words.now)))
+        → I.left input.new ≡ I.left input.old }
     ensures no_text { IsTrue (is_quiet result) → O.held out.new ≡ O.held out.old }
 
     // What the status says of the command, and what was written. The line on err is whole where none of its writes was
     // counted as failed or in want of memory.
-    ensures finishes { Finishes (verdict_at (command_of (map string_bytes words.now)) (I.left input.old)) (O.held out.old) (O.held out.new) (E.held err.old) (E.held err.new) (HasStayed (E.faults err.old) (E.faults err.new) × HasStayed (E.wants err.old) (E.wants err.new)) result }
+    ensures finishes { Finishes (verdict_at (command_of (map string_bytes words.now)) (I.left input.old))
+        (O.held out.old) (O.held out.new) (E.held err.old) (E.held err.new)
+        (HasStayed (E.faults err.old) (E.faults err.new) × HasStayed (E.wants err.old) (E.wants err.new)) result }
 
     // A fault is answered only where one was counted.
     ensures read { result ≡ 4 → HasRisen (I.faults input.old) (I.faults input.new) }
     ensures write { result ≡ 5 → HasRisen (O.faults out.old) (O.faults out.new) }
 
     // Status 0 says that an input that is read was read to its end, and that the text was written whole.
-    ensures drained { result ≡ 0 → IsTrue (reads_input (command_of (map string_bytes words.now))) → IfSome (I.left input.new) (λ bytes. bytes ≡ []) }
-    ensures done { result ≡ 0 → IfSome (verdict_at (command_of (map string_bytes words.now)) (I.left input.old)) (λ v. Writes v (O.held out.old) (O.held out.new)) }
-    ensures script { result ≡ 3 → IfSome (verdict_at (command_of (map string_bytes words.now)) (I.left input.old)) IsBad }
-    ensures long { result ≡ 8 → IfSome (verdict_at (command_of (map string_bytes words.now)) (I.left input.old)) IsLong }
+    ensures drained { result ≡ 0 → IsTrue (reads_input (command_of (map string_bytes words.now)))
+        → IfSome (I.left input.new) (λ bytes. bytes ≡ []) }
+    ensures done { result ≡ 0 → IfSome (verdict_at (command_of (map string_bytes words.now)) (I.left input.old))
+        (λ v. Writes v (O.held out.old) (O.held out.new)) }
+    ensures script { result ≡ 3
+        → IfSome (verdict_at (command_of (map string_bytes words.now)) (I.left input.old)) IsBad }
+    ensures long { result ≡ 8
+        → IfSome (verdict_at (command_of (map string_bytes words.now)) (I.left input.old)) IsLong }
 {
     match answer(alloc, words, input, out) {
         Ok(()) => 0,

@@ -3,21 +3,20 @@
 ghost use Rattle.std.specs.Prelude.{◌≡◌, ◌≤◌, ◌<◌, All, length};
 ghost use Rattle.wait_model.specs.Admission.{IsListed};
 ghost use Rattle.wait_model.specs.Runs.{state_of};
-ghost use Rattle.wait_model.specs.Tasks.{task_count};
 ghost use Rattle.wait_script.specs.Fields.{last_task};
 ghost use Rattle.wait_script.specs.Spelling.{IsFit};
-ghost use Rattle.wait_script.specs.Replay.{steps_of, replay_line};
-ghost use Rattle.waitq.specs.Drill.{run_behind, refuses, refused_in, asleep_below};
+ghost use Rattle.wait_script.specs.Replay.{played_steps, replay_line};
+ghost use Rattle.waitq.specs.Drill.{run_after_lines, refuses, refused_in, asleep_below};
 
 use crate::play::stops;
 use wait_core::Core;
-use wait_model::tasks::TASKS;
+use wait_model::layout::SCRIPT_TASKS;
 use wait_script::Line;
 
 /// Makes up to `count` events of a task.
 fn make_steps(core: &mut Core, task: u8, count: u32)
     requires { task ≤ last_task }
-    ensures { core.new ≡ (steps_of count core.old task).1 }
+    ensures { core.new ≡ (played_steps count core.old task).1 }
 {
     for _i in 0..count {
         let stepped = core.step(task);
@@ -45,7 +44,7 @@ fn make_line(core: &mut Core, line: Line) -> bool
 /// Plays the lines, and answers how many calls were refused.
 pub fn make_lines(core: &mut Core, lines: &[Line]) -> u64
     requires { All IsFit lines.now }
-    ensures run { core.new ≡ run_behind core.old lines.now }
+    ensures run { core.new ≡ run_after_lines core.old lines.now }
     ensures refused { result ≡ refused_in core.old lines.now }
 {
     let mut refused = 0;
@@ -57,12 +56,12 @@ pub fn make_lines(core: &mut Core, lines: &[Line]) -> u64
     refused
 }
 
-/// How many tasks are not runnable.
+/// How many of the tasks that a script has are not runnable.
 pub fn count_asleep(core: &Core) -> u64
-    ensures { result ≡ asleep_below (state_of core.now) task_count }
+    ensures { result ≡ asleep_below (state_of core.now) SCRIPT_TASKS }
 {
     let mut asleep = 0;
-    for task in 0..TASKS {
+    for task in 0..SCRIPT_TASKS as u8 {
         if !core.task_of(task).runnable {
             asleep += 1;
         }

@@ -46,7 +46,8 @@ pub fn front(alloc: Global, count: u8) -> Result<String, AllocError> {
     Ok(text)
 }
 
-/// The end lines: so many events, the tasks, and the head's members, of which task 0 stands first where it moved, and else last.
+/// The end lines: so many events, the tasks, and the head's members, of which task 0 stands first where it moved, and
+/// else last.
 pub fn push_end(
     alloc: Global,
     text: &mut String,

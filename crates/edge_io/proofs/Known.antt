@@ -58,7 +58,7 @@ append_known-next old now new text n m first then_ =
     append_known-more old now new text n m first (then_
     ∙ ap (λ r. append_known now (take m r)) (take-rest text n))
 
--- what was copied to the front of a buffer, and what is left behind it
+-- what was copied to the front of a buffer, and what is left after it
 pub handed-rest : (bytes buf : List ℕ) (next n : ℕ)
     → take n buf ≡ take n (take (length bytes - next) (drop next bytes)) → drop next bytes ≡ take n buf
     ++ drop (next + n) bytes

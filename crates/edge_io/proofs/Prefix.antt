@@ -75,7 +75,7 @@ sooner old new a b text p e = record {
   held = p.held;
 }
 
--- a text behind another
+-- a text after another
 pub behind : (old mid new : Option (List ℕ)) (a b text : List ℕ) → mid ≡ append_known old a
     → new ≡ append_known mid b → text ≡ a ++ b → new ≡ append_known old text
 behind old mid new a b text first second e = second ∙ ap (λ o. append_known o b) first

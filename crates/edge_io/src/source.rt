@@ -20,7 +20,7 @@ pub trait Source {
 
     /// Puts the next bytes at the front of `buf` and answers how many, from 0 to the length of `buf`.
     ///
-    /// 0 for a `buf` with room says that nothing is left. What stands in `buf` behind the bytes that
+    /// 0 for a `buf` with room says that nothing is left. What stands in `buf` after the bytes that
     /// were handed out isn't told. Failed comes only with a fault that is counted, and leaves all bytes
     /// where they were.
     fn read(&mut self, buf: &mut [u8]) -> Result<usize, Failed>

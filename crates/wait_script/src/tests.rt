@@ -204,7 +204,7 @@ call 0 setvar v0 0";
 #[test]
 fn each_call_is_read(rt: HostRuntime) -> Result<(), Fail> {
     for line in CALLS.split('\n') {
-        let read = read_behind_header(rt.alloc(), line.as_bytes())?;
+        let read = read_after_header(rt.alloc(), line.as_bytes())?;
         assert_eq!(rt; read, Ok(1), "{line}");
     }
     Ok(())

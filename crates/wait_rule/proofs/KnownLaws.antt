@@ -10,4 +10,8 @@ pub mod OwnEntries
 pub mod HeadLinks
 pub mod MemberPlaces
 pub mod HeldHeads
+pub mod MemberSteps
+pub mod MemberBits
+pub mod TicketSteps
+pub mod Turns
 pub mod CarriedTasks

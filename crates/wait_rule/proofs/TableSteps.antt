@@ -6,5 +6,8 @@ pub mod KeptSteps
 pub mod TaskMoves
 pub mod QueueMoves
 pub mod MemberMoves
+pub mod BitMoves
+pub mod TicketMoves
+pub mod ClearBits
 pub mod StartRule
 pub mod ForksAndJoins

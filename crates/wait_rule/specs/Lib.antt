@@ -1,10 +1,14 @@
+pub mod Tickets
 pub mod Items
 pub mod Notes
 pub mod Members
+pub mod MemberWords
+pub mod TicketWords
 pub mod Places
 pub mod Ends
 pub mod Journals
 pub mod Known
+pub mod MemberLooks
 pub mod Rule
 pub mod Says
 pub mod Queues

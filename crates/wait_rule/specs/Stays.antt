@@ -9,6 +9,7 @@ use Rattle.wait_model.specs.Watches.{same, mask_of, head_of}
 use Rattle.wait_model.specs.Words.{entry_of}
 use Rattle.wait_model.specs.Views.{View as Told, is_trying_for}
 use Rattle.wait_rule.specs.Known.{Known}
+use Rattle.wait_rule.specs.Tickets.{Ticket, no_ticket, taken}
 use Rattle.wait_rule.specs.Members.{IsOwnKind}
 use Rattle.wait_rule.specs.Says.{Excuse, OwesBut, OwesNothing, no_excuse, told_of}
 use Rattle.wait_rule.specs.Queues.{MayUnqueue, index}
@@ -72,8 +73,8 @@ with_wakes c m x = record {
 }
 
 -- What a call changes of a task: what it owes, from an excuse before the call to one after it; which entry words,
--- and whether it looks at others; its state; the head that it holds, and the one that it took last; and of which
--- watches it may owe wakes anew.
+-- and whether it looks at others; its state; the head that it holds, the ticket that it has out, and the head that it
+-- took last; and of which watches it may owe wakes anew.
 pub record Change : Type 0 where
   pub from : Excuse → Excuse
   pub to : Excuse → Excuse
@@ -81,6 +82,7 @@ pub record Change : Type 0 where
   pub looks : Bool
   pub state : ℕ → ℕ
   pub head : Option ℕ → Option ℕ
+  pub ticket : Ticket → Ticket
   pub at : ℕ → ℕ
   pub publishes : Watch → Bool
 
@@ -92,6 +94,7 @@ unchanged = record {
   looks = false;
   state = λ σ. σ;
   head = λ h. h;
+  ticket = λ t. t;
   at = λ h. h;
   publishes = λ c. false;
 }
@@ -103,10 +106,10 @@ abbrev pub state_change : ℕ → Change
 state_change σ = record unchanged { state = λ _. σ }
 
 abbrev pub lock_change : ℕ → Change
-lock_change h = record unchanged { head = λ _. Some h; at = λ _. h }
+lock_change h = record unchanged { head = λ _. Some h; ticket = λ _. taken h; at = λ _. h }
 
 abbrev pub unlock_change : Change
-unlock_change = record unchanged { head = λ _. None }
+unlock_change = record unchanged { head = λ _. None; ticket = λ _. no_ticket }
 
 abbrev pub only_looks : Change
 only_looks = record unchanged { looks = true }
@@ -121,7 +124,13 @@ abbrev pub publish_change : Watch → Change
 publish_change c = record unchanged { to = with_wakes c mode.Normal; publishes = λ d. same d c }
 
 abbrev pub wake_all_change : Watch → Mode → ℕ → Change
-wake_all_change c m h = record unchanged { from = with_wakes c m; looks = true; head = λ _. None; at = λ _. h }
+wake_all_change c m h = record unchanged {
+  from = with_wakes c m;
+  looks = true;
+  head = λ _. None;
+  ticket = λ _. no_ticket;
+  at = λ _. h;
+}
 
 -- What stays of a task over a call that changes no more than this. It is the same task of the same Domain, as awake,
 -- with the same bookmark out. It owes no wake that it did not owe, of any watch and state, but of what it published.
@@ -134,6 +143,7 @@ pub record Carries (c : Change) (old new : Known) : Type 0 where
   pub awake : new.book.awake ≡ old.book.awake
   pub state : new.book.state ≡ c.state old.book.state
   pub head : new.book.head ≡ c.head old.book.head
+  pub ticket : new.book.ticket ≡ c.ticket old.book.ticket
   pub hold : (told_of new).hold.head ≡ c.head (told_of old).hold.head
   pub at : new.at ≡ c.at old.at
   pub mark : (told_of new).mark ≡ (told_of old).mark

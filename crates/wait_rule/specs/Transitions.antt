@@ -67,21 +67,23 @@ use Rattle.wait_rule.specs.Says.{told_of, history_of, noted, added, grown}
 use Rattle.wait_rule.specs.Queues.{IsWholeBook, IsWalkOfCall, at_head, index}
 use Rattle.wait_rule.specs.Shown.{shown_entry, shown_queue}
 
--- What is no event: loads in a hold, tries that find a lock held, and the loads by which a task that sleeps sees
--- whether
--- it was woken.
+-- What is no event: loads in a hold, the steps on tickets by which a task waits for a lock and passes it on, and the
+-- loads by which a task that sleeps sees whether it was woken.
 abbrev pub IsLook : Item → Type 0
 IsLook (item.Made (step.Saw x w)) = Unit {0}
 IsLook (item.Made _) = ⊥
 IsLook (item.Awake w) = Unit {0}
-IsLook (item.Busy h w) = Unit {0}
 IsLook (item.Bookmark t w) = Unit {0}
+IsLook item.Member = Unit {0}
+IsLook (item.Drawn h w) = Unit {0}
+IsLook (item.Serving h w) = Unit {0}
+IsLook item.Served = Unit {0}
 
 abbrev pub AreLooks : List Item → Type 0
 AreLooks [] = Unit {0}
 AreLooks (x ∷ xs) = IsLook x × AreLooks xs
 
--- the task looked at words, and made no event
+-- the task looked at words, waited for a lock or passed it on, and made no event
 pub record OnlyLooks (old new : Known) : Type 0 where
   pub items : List Item
   pub looks : AreLooks items

@@ -10,10 +10,16 @@ pub enum Item {
     Made { step: Step },
     /// The own word, which a task that sleeps loaded to see whether it was woken. It is no step.
     Awake { found: u64 },
-    /// A head's word, which a try to take its lock found held. It is no step.
-    Busy { head: u16, found: u64 },
     /// The bookmark word of a task, which was loaded. It is no step.
     Bookmark { who: u8, found: u64 },
+    /// The member bit of the entry or bookmark whose word the task stored last, which it set or cleared. It is no step.
+    Member,
+    /// A ticket of a head, which the task drew: its number is the one that was found. It is no step.
+    Drawn { head: u16, found: u64 },
+    /// The number of a head that is served, which was loaded. It is no step.
+    Serving { head: u16, found: u64 },
+    /// The serve of the next ticket, after the lock that the own one took was given back. It is no step.
+    Served,
 }
 
 /// The list of a task that was joined, with its number and the numbers that it gave up. They stay taken.

@@ -34,6 +34,7 @@ use Rattle.wait_model.specs.Fold.{after, after_look, peeks, view_of}
 use Rattle.wait_model.proofs.Functions.{put_same}
 use Rattle.wait_rule.specs.declared.journal.Item.TheVariants as item
 use Rattle.wait_rule.specs.Items.{Book, after_sleep, after_awake, learn_step, steps_of}
+use Rattle.wait_rule.specs.Tickets.{Ticket}
 use Rattle.wait_rule.specs.Known.{Known}
 use Rattle.wait_rule.specs.Says.{Excuse, IsOutBut, OwesBut, OwesNothing, IsAwakeAgain, no_excuse, added, told_of}
 use Rattle.wait_rule.specs.Queues.{KnewEntry, MayUnqueue, index, saw}
@@ -113,19 +114,21 @@ abbrev pub moving : (ℕ → ℕ) → (Option ℕ → Option ℕ) → (ℕ → �
 moving state head at = record unchanged { state = state; head = head; at = at }
 
 -- by what stays beside the state
-pub stays_carried : (head : Option ℕ → Option ℕ) (at : ℕ → ℕ) (looks : Bool) (old new : Known)
-    → Stays no_entries old new
-    → new.book.head ≡ head old.book.head → (told_of new).hold.head ≡ head (told_of old).hold.head → new.at ≡ at old.at
+pub stays_carried : (head : Option ℕ → Option ℕ) (ticket : Ticket → Ticket) (at : ℕ → ℕ) (looks : Bool)
+    (old new : Known) → Stays no_entries old new
+    → new.book.head ≡ head old.book.head → new.book.ticket ≡ ticket old.book.ticket → (told_of new).hold.head ≡ head
+    (told_of old).hold.head → new.at ≡ at old.at
     → (told_of new).mark ≡ (told_of old).mark
     → ((c : Watch) (σ : ℕ) → (told_of old).duty.owes c σ ≡ false → (told_of new).duty.owes c σ ≡ false)
     → ((x : ℕ) → looks ≡ false → (told_of new).bits.stored x ≡ (told_of old).bits.stored x)
-    → Carries (record unchanged { looks = looks; head = head; at = at }) old new
-stays_carried head at looks old new s held hold last mark fewer stored = record {
+    → Carries (record unchanged { looks = looks; head = head; ticket = ticket; at = at }) old new
+stays_carried head ticket at looks old new s held out hold last mark fewer stored = record {
   domain = s.domain;
   number = s.number;
   awake = s.awake;
   state = s.state;
   head = held;
+  ticket = out;
   hold = hold;
   at = last;
   mark = mark;
@@ -141,15 +144,17 @@ stays_carried head at looks old new s held hold last mark fewer stored = record 
 -- by a history whose entries stay
 pub told_carried : (state : ℕ → ℕ) (old new : Known) → new.domain ≡ old.domain → new.view.number ≡ old.view.number
     → new.book.awake ≡ old.book.awake → new.book.state ≡ state old.book.state → new.book.head ≡ old.book.head
+    → new.book.ticket ≡ old.book.ticket
     → (told_of new).hold.head ≡ (told_of old).hold.head → new.at ≡ old.at → (told_of new).mark ≡ (told_of old).mark
     → (told_of new).duty.owes ≡ (told_of old).duty.owes → (told_of new).bits.stored ≡ (told_of old).bits.stored
     → StaysOwing old new → Carries (moving state (λ h. h) (λ h. h)) old new
-told_carried state old new domain number awake is_state head hold at mark duty stored owing = record {
+told_carried state old new domain number awake is_state head ticket hold at mark duty stored owing = record {
   domain = domain;
   number = number;
   awake = awake;
   state = is_state;
   head = head;
+  ticket = ticket;
   hold = hold;
   at = at;
   mark = mark;
@@ -166,12 +171,14 @@ told_carried state old new domain number awake is_state head hold at mark duty s
 -- one step more
 pub step_carried : (state : ℕ → ℕ) (old new : Known) (e : Step) → new ≡ added old (item.Made e)
     → new.book.awake ≡ old.book.awake → new.book.state ≡ state old.book.state → new.book.head ≡ old.book.head
+    → (learn_step e old.book).ticket ≡ old.book.ticket
     → (after e (told_of old)).hold.head ≡ (told_of old).hold.head → (after e (told_of old)).mark ≡ (told_of old).mark
     → (after e (told_of old)).duty.owes ≡ (told_of old).duty.owes
     → (after e (told_of old)).bits.stored ≡ (told_of old).bits.stored → StaysOwing old new
     → Carries (moving state (λ h. h) (λ h. h)) old new
-step_carried state old new e is awake now head hold mark duty stored owing = told_carried state old new
+step_carried state old new e is awake now head ticket hold mark duty stored owing = told_carried state old new
     (ap (λ (k : Known). k.domain) is) (ap (λ (k : Known). k.view.number) is) awake now head
+    (ap (λ (k : Known). k.book.ticket) is ∙ ticket)
     (ap (λ (v : Told). v.hold.head) told ∙ hold) (ap (λ (k : Known). k.at) is) (ap (λ (v : Told). v.mark) told ∙ mark)
     (ap (λ (v : Told). v.duty.owes) told ∙ duty)
     (ap (λ (v : Told). v.bits.stored) told ∙ stored) owing
@@ -187,6 +194,7 @@ unchanged_on x y z a b = record {
   awake = b.awake ∙ a.awake;
   state = b.state ∙ a.state;
   head = b.head ∙ a.head;
+  ticket = b.ticket ∙ a.ticket;
   hold = b.hold ∙ a.hold;
   at = b.at ∙ a.at;
   mark = b.mark ∙ a.mark;
@@ -215,13 +223,19 @@ stays_awake sleep.Stay b is = (refl, refl)
 stays_awake sleep.Signal b is = (refl, refl)
 stays_awake sleep.Asleep b is = absurd (is refl)
 
+slept_ticket : (s : Sleep) (b : Book) → (after_sleep s b).ticket ≡ b.ticket
+slept_ticket sleep.Stay b = refl
+slept_ticket sleep.Signal b = refl
+slept_ticket sleep.Asleep b = refl
+
 pub stayed_carried : (old new : Known) (w : ℕ) → new ≡ added old (item.Made (step.Sleep w))
     → (sleep_of (task_of w) ≡ sleep.Asleep → ⊥) → Carries (moving (λ _. 0) (λ h. h) (λ h. h)) old new
 stayed_carried old new w is up =
     let by = stays_awake (sleep_of (task_of w)) old.book up in
     step_carried (λ _. 0) old new (step.Sleep w) is (ap (λ (k : Known). k.book.awake) is ∙ by.1)
     (ap (λ (k : Known). k.book.state) is ∙ by.0)
-    (ap (λ (k : Known). k.book.head) is ∙ slept_head (sleep_of (task_of w)) old.book) refl refl refl refl
+    (ap (λ (k : Known). k.book.head) is ∙ slept_head (sleep_of (task_of w)) old.book)
+    (slept_ticket (sleep_of (task_of w)) old.book) refl refl refl refl
     (owes_after old new (step.Sleep w) refl is)
 
 pub risen_owing : (old mid new : Known) (w : ℕ) → mid ≡ added old (item.Made (step.Sleep w)) → IsAwakeAgain mid new
@@ -238,6 +252,8 @@ risen_carried old mid new w up is h = told_carried (λ _. 0) old new
     (ap (λ (k : Known). k.book.state) h.is)
     (ap (λ (k : Known). k.book.head) h.is
     ∙ (ap (λ (k : Known). k.book.head) is ∙ slept_head (sleep_of (task_of w)) old.book))
+    (ap (λ (k : Known). k.book.ticket) h.is
+    ∙ (ap (λ (k : Known). k.book.ticket) is ∙ slept_ticket (sleep_of (task_of w)) old.book))
     (ap (λ (v : Told). v.hold.head) told) (ap (λ (k : Known). k.at) h.is ∙ ap (λ (k : Known). k.at) is)
     (ap (λ (v : Told). v.mark) told) (ap (λ (v : Told). v.duty.owes) told) (ap (λ (v : Told). v.bits.stored) told)
     (risen_owing old mid new w is h)
@@ -260,7 +276,7 @@ load_owing x l r v o = record {
 pub loaded_carried : (old new : Known) (l : Watch) (r : ℕ) → new ≡ added old (item.Made (step.Load l r))
     → Carries unchanged old new
 loaded_carried old new l r is = step_carried (λ σ. σ) old new (step.Load l r) is (ap (λ (k : Known). k.book.awake) is)
-    (ap (λ (k : Known). k.book.state) is) (ap (λ (k : Known). k.book.head) is) refl refl refl refl
+    (ap (λ (k : Known). k.book.state) is) (ap (λ (k : Known). k.book.head) is) refl refl refl refl refl
     (λ x o. subst (OwesBut x) (sym (ap told_of is ∙ told_added old (item.Made (step.Load l r))))
     (load_owing x l r (told_of old) o))
 
@@ -278,7 +294,7 @@ pub consumed_carried : (old new : Known) (c n r : ℕ) → new ≡ added old (it
     → Carries unchanged old new
 consumed_carried old new c n r is = step_carried (λ σ. σ) old new (step.Consume (watch.Plain c) n r) is
     (ap (λ (k : Known). k.book.awake) is) (ap (λ (k : Known). k.book.state) is) (ap (λ (k : Known). k.book.head) is)
-    refl refl refl refl
+    refl refl refl refl refl
     (λ x o. subst (OwesBut x) (sym (ap told_of is ∙ told_added old (item.Made (step.Consume (watch.Plain c) n r))))
     (consume_owing x c n r (told_of old) o))
 
@@ -318,6 +334,7 @@ published_carried old new c n r is = record {
   awake = ap (λ (k : Known). k.book.awake) is;
   state = ap (λ (k : Known). k.book.state) is;
   head = ap (λ (k : Known). k.book.head) is;
+  ticket = ap (λ (k : Known). k.book.ticket) is;
   hold = ap (λ (v : Told). v.hold.head) told;
   at = ap (λ (k : Known). k.at) is;
   mark = ap (λ (v : Told). v.mark) told;
@@ -387,11 +404,11 @@ module _ (old new : Known) (who slot w : ℕ) (is : new ≡ added old (item.Made
   entry_bits = ap (λ (v : Told). v.bits) entry_told ∙ saw_looks old.book.head (index who slot) w (told_of old)
 
   pub entry_carried : Carries only_looks old new
-  entry_carried = stays_carried (λ h. h) (λ h. h) true old new
+  entry_carried = stays_carried (λ h. h) (λ t. t) (λ h. h) true old new
       (look_stays old new (index who slot) w knew (ap (λ (k : Known). k.domain) is)
       (ap (λ (k : Known). k.view.number) is)
       entry_book entry_bits)
-      (ap (λ (b : Book). b.head) entry_book)
+      (ap (λ (b : Book). b.head) entry_book) (ap (λ (b : Book). b.ticket) entry_book)
       (ap (λ (v : Told). v.hold.head) entry_told ∙ saw_hold old.book.head (index who slot) w (told_of old))
       (ap (λ (k : Known). k.at) is)
       (ap (λ (v : Told). v.mark) entry_told ∙ saw_mark old.book.head (index who slot) w (told_of old))

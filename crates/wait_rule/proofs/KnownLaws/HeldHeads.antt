@@ -33,6 +33,16 @@ awake_head true y b = refl
 awake_head false true b = refl
 awake_head false false b = refl
 
+pub awake_differs : (x y : Bool) (b : Book) → (after_awake x y b).differs ≡ b.differs
+awake_differs true y b = refl
+awake_differs false true b = refl
+awake_differs false false b = refl
+
+pub awake_ticket : (x y : Bool) (b : Book) → (after_awake x y b).ticket ≡ b.ticket
+awake_ticket true y b = refl
+awake_ticket false true b = refl
+awake_ticket false false b = refl
+
 step_head : (e : Step) (b : Book) (v : View) → b.head ≡ v.hold.head → (learn_step e b).head ≡ (after e v).hold.head
 step_head (step.Sleep w) b v h = asleep_head (sleep_of (task_of w)) b ∙ h
 step_head (step.Lock k aim w) b v h = refl
@@ -43,8 +53,11 @@ from_head : (xs : List Item) (b : Book) (v : View) → b.head ≡ v.hold.head
     → (book_from b xs).head ≡ (after_all v (steps_of xs)).hold.head
 from_head [] b v h = h
 from_head (item.Made e ∷ xs) b v h = from_head xs (learn_step e b) (after e v) (step_head e b v h)
-from_head (item.Busy k w ∷ xs) b v h = from_head xs b v h
 from_head (item.Bookmark t w ∷ xs) b v h = from_head xs b v h
+from_head (item.Member ∷ xs) b v h = from_head xs (learn item.Member b) v h
+from_head (item.Drawn k w ∷ xs) b v h = from_head xs (learn (item.Drawn k w) b) v h
+from_head (item.Serving k w ∷ xs) b v h = from_head xs (learn (item.Serving k w) b) v h
+from_head (item.Served ∷ xs) b v h = from_head xs (learn item.Served b) v h
 from_head (item.Awake w ∷ xs) b v h = from_head xs (learn (item.Awake w) b) v
     (awake_head b.awake (task_of w).runnable b ∙ h)
 

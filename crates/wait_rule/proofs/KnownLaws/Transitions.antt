@@ -8,7 +8,17 @@ use Rattle.wait_model.specs.declared.points.Next.{Next}
 use Rattle.wait_model.specs.declared.points.Next.TheVariants as next
 use Rattle.wait_rule.specs.declared.journal.Item.{Item}
 use Rattle.wait_rule.specs.declared.journal.Item.TheVariants as item
-use Rattle.wait_rule.specs.Items.{Book, steps_of, after_awake, book_from, book_of, first_book}
+use Rattle.wait_rule.specs.Items.{
+  Difference,
+  nothing,
+  Book,
+  steps_of,
+  with_difference,
+  after_awake,
+  book_from,
+  book_of,
+  first_book,
+}
 use Rattle.wait_rule.specs.Known.{Known}
 use Rattle.wait_rule.specs.Says.{grown}
 use Rattle.wait_rule.specs.Queues.{IsTold}
@@ -32,18 +42,11 @@ pub looks_of : (xs : List Item) → steps_of xs ≡ [] → AreLooks xs
 looks_of [] none = tt
 looks_of (item.Made e ∷ xs) none = absurd (cc)
 looks_of (item.Awake w ∷ xs) none = (tt, looks_of xs none)
-looks_of (item.Busy h w ∷ xs) none = (tt, looks_of xs none)
 looks_of (item.Bookmark t w ∷ xs) none = (tt, looks_of xs none)
-
--- looks tell a task that is awake nothing of its own word
-pub book_awake : (b : Book) (xs : List Item) → b.awake ≡ true → AreLooks xs → book_from b xs ≡ b
-book_awake b [] up looks = refl
-book_awake b (item.Made (step.Saw x w) ∷ xs) up looks = book_awake b xs up looks.1
-book_awake b (item.Made e ∷ xs) up looks = absurd looks.0
-book_awake b (item.Awake w ∷ xs) up looks = ap (λ (c : Book). book_from c xs)
-    (ap (λ (a : Bool). after_awake a (task_of w).runnable b) up) ∙ book_awake b xs up looks.1
-book_awake b (item.Busy h w ∷ xs) up looks = book_awake b xs up looks.1
-book_awake b (item.Bookmark t w ∷ xs) up looks = book_awake b xs up looks.1
+looks_of (item.Member ∷ xs) none = (tt, looks_of xs none)
+looks_of (item.Drawn h w ∷ xs) none = (tt, looks_of xs none)
+looks_of (item.Serving h w ∷ xs) none = (tt, looks_of xs none)
+looks_of (item.Served ∷ xs) none = (tt, looks_of xs none)
 
 -- what a task knows of its word is what its list tells
 pub book_told : (old new : Known) (xs : List Item) → IsTold old → IsTold new → new.view.items ≡ old.view.items ++ xs
@@ -64,13 +67,13 @@ only_on old mid new one two = record {
       ∙ ap (grown old (one.items ++ two.items)) (sym (book_append old.book one.items two.items))));
 }
 
--- looks of a task that is awake
-pub only_awake : (old new : Known) (xs : List Item) → old.book.awake ≡ true → AreLooks xs → new ≡ grown old xs old.book
-    → OnlyLooks old new
-only_awake old new xs up looks is = record {
+-- looks that tell nothing of the own word
+pub only_looked : (old new : Known) (xs : List Item) → book_from old.book xs ≡ old.book → AreLooks xs
+    → new ≡ grown old xs old.book → OnlyLooks old new
+only_looked old new xs same looks is = record {
   items = xs;
   looks = looks;
-  is = is ∙ ap (grown old xs) (sym (book_awake old.book xs up looks));
+  is = is ∙ ap (grown old xs) (sym same);
 }
 
 -- looks before a transition belong to it

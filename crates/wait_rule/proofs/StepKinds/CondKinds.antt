@@ -79,6 +79,7 @@ module _ (s : Table) (items : ℕ → List Item) (ruled : IsRuled s items) (a : 
       (record {
         allowed = reads_value s.words ruled.lawful.bits c is;
         stored = tt;
+        orderly = tt;
         places = still_places s a (step.Load c (value_of s.words c)) refl refl;
         links = quiet_links s a (step.Load c (value_of s.words c)) (record {
           holder = refl;
@@ -99,6 +100,7 @@ module _ (s : Table) (items : ℕ → List Item) (ruled : IsRuled s items) (a : 
   plain_publishes c n out = record {
     allowed = (out, (λ q. absurd (cc)), refl);
     stored = tt;
+    orderly = tt;
     places = still_places s a (step.Publish (watch.Plain c) n (s.words.plains c)) refl refl;
     links = quiet_links s a (step.Publish (watch.Plain c) n (s.words.plains c)) (record {
       holder = refl;
@@ -117,6 +119,7 @@ module _ (s : Table) (items : ℕ → List Item) (ruled : IsRuled s items) (a : 
   var_publishes v o n out = record {
     allowed = (out, (λ q. absurd (cc)), refl);
     stored = tt;
+    orderly = tt;
     places = still_places s a (step.Publish (watch.Var v o) n (s.words.vars v)) refl refl;
     links = quiet_links s a (step.Publish (watch.Var v o) n (s.words.vars v)) (record {
       holder = refl;
@@ -134,6 +137,7 @@ module _ (s : Table) (items : ℕ → List Item) (ruled : IsRuled s items) (a : 
   plain_consumes c = record {
     allowed = (tt, tt, refl);
     stored = tt;
+    orderly = tt;
     places = still_places s a (step.Consume (watch.Plain c) 0 (s.words.plains c)) refl refl;
     links = quiet_links s a (step.Consume (watch.Plain c) 0 (s.words.plains c)) (record {
       holder = refl;

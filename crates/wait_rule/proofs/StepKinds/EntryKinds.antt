@@ -1,10 +1,11 @@
 -- Each kind of step on an entry word keeps the law.
 use Rattle.std.proofs.Common.{refl, sym, ◌∙◌, ap, subst, inl, inr}
-use Rattle.std.specs.Prelude.{ℕ, ◌≡◌, ◌≢◌, ◌<◌, ◌⊎◌, Option, Some, None, List}
+use Rattle.std.specs.Prelude.{ℕ, ◌≡◌, ◌≢◌, ◌<◌, ◌⊎◌, true, false, Option, Some, None, List}
 use Rattle.wait_model.specs.declared.layout.TheConstants.{ENTRIES}
 use Rattle.wait_model.specs.declared.watches.Entry.{Entry}
 use Rattle.wait_model.specs.declared.steps.Step.{Step}
 use Rattle.wait_model.specs.declared.steps.Step.TheVariants as step
+use Rattle.wait_model.specs.declared.tasks.TaskRecord.{TaskRecord}
 use Rattle.wait_model.specs.Functions.{put}
 use Rattle.wait_model.specs.Watches.{head_of, owner}
 use Rattle.wait_model.specs.Words.{entry_word, entry_of, Suited}
@@ -18,7 +19,7 @@ use Rattle.wait_model.proofs.WordLaws.CondWords.{suits_of}
 use Rattle.wait_model.proofs.WordLaws.DecodedWords.{entry_read, none_read}
 use Rattle.wait_model.proofs.Functions.{put_at, put_same, put_other}
 use Rattle.wait_rule.specs.declared.journal.Item.{Item}
-use Rattle.wait_rule.specs.Items.{Book, Fits}
+use Rattle.wait_rule.specs.Items.{Difference, nothing, at_entry, Book, with_difference, Fits}
 use Rattle.wait_rule.specs.Members.{IsStanding, IsOwnKind, IsEntryWord}
 use Rattle.wait_rule.specs.Rule.{IsLawfulTable, IsRuled}
 use Rattle.wait_rule.specs.Queues.{saw}
@@ -26,6 +27,10 @@ use Rattle.wait_rule.proofs.KnownLaws.HeadLinks.{quiet_links}
 use Rattle.wait_rule.proofs.KnownLaws.MemberPlaces.{KeepsPlaces, still_places, unqueue_places}
 use Rattle.wait_rule.proofs.KnownLaws.OwnEntries.{IsFair}
 use Rattle.wait_rule.proofs.TableSteps.KeptSteps.{Leaves, KeepsLaw}
+
+-- what a task names as different says nothing of its own word
+pub fits_difference : (t : TaskRecord) (b : Book) (d : Difference) → Fits t b → Fits t (with_difference d b)
+fits_difference t b d f = record { up = f.up; stored = f.stored; rose = f.rose }
 
 -- what a step on an entry word leaves
 entry_leaves : (s : Table) (a x : ℕ) (o : Option Entry) (b : Book) (history : ℕ → List Step) (view : ℕ → Told)
@@ -94,6 +99,7 @@ module _ (s : Table) (items : ℕ → List Item) (ruled : IsRuled s items) (x : 
     sees None out = record {
       allowed = (reads, out);
       stored = tt;
+      orderly = tt;
       places = still_places s a (step.Peek x (entry_word (s.entry x))) refl refl;
       links = quiet_links s a (step.Peek x (entry_word (s.entry x))) (record {
         holder = refl;
@@ -109,6 +115,7 @@ module _ (s : Table) (items : ℕ → List Item) (ruled : IsRuled s items) (x : 
     sees (Some h) held = record {
       allowed = reads;
       stored = tt;
+      orderly = tt;
       places = still_places s a (step.Saw x (entry_word (s.entry x))) refl refl;
       links = quiet_links s a (step.Saw x (entry_word (s.entry x))) (record {
         holder = refl;
@@ -137,9 +144,9 @@ module _ (s : Table) (items : ℕ → List Item) (ruled : IsRuled s items) (x : 
 
     pub queues : (e : Entry) → x < ENTRIES → owner x ≡ a → IsStanding x e
         → (s.view a).hold.head ≡ Some (head_of e.watch) → (s.view a).hold.book x ≡ off
-        → KeepsPlaces s a (step.Queue x e)
+        → KeepsPlaces s a (step.Queue x e) → b.differs ≡ nothing
         → KeepsLaw s a (place.Entry x) (entry_word (Some e)) (step.Queue x e) b
-    queues e inside mine standing held shows places = record {
+    queues e inside mine standing held shows places clear = record {
       allowed = (
         mine,
         inside,
@@ -149,6 +156,7 @@ module _ (s : Table) (items : ℕ → List Item) (ruled : IsRuled s items) (x : 
         shows,
       );
       stored = tt;
+      orderly = clear;
       places = places;
       links = quiet_links s a (step.Queue x e) (record {
         holder = refl;
@@ -159,15 +167,18 @@ module _ (s : Table) (items : ℕ → List Item) (ruled : IsRuled s items) (x : 
         own = λ v k. refl;
         marks = λ v k. refl;
       });
-      leaves = entry_leaves s a x (Some e) b _ _ ruled.lawful fits
+      leaves = entry_leaves s a x (Some e) (with_difference (at_entry x true) b) _ _ ruled.lawful
+          (fits_difference (s.task a) b (at_entry x true) fits)
           (λ d is. subst (IsStanding x) (let z : e ≡ d = cc in z) standing);
     }
 
     pub unqueues : (h : ℕ) (e : Entry) → (s.view a).hold.head ≡ Some h → (s.view a).hold.book x ≡ shown e
-        → (owner x ≡ a) ⊎ (IsOwnKind e.kind → ⊥) → KeepsLaw s a (place.Entry x) 0 (step.Unqueue x) b
-    unqueues h e held shows may = record {
+        → (owner x ≡ a) ⊎ (IsOwnKind e.kind → ⊥) → (b.differs ≡ nothing) × (x < ENTRIES)
+        → KeepsLaw s a (place.Entry x) 0 (step.Unqueue x) b
+    unqueues h e held shows may clear = record {
       allowed = (e, agrees.0, held ∙ ap (λ (k : ℕ). Some k) (sym agrees.1));
       stored = fair may;
+      orderly = clear;
       places = unqueue_places s a x;
       links = quiet_links s a (step.Unqueue x) (record {
         holder = refl;
@@ -178,7 +189,8 @@ module _ (s : Table) (items : ℕ → List Item) (ruled : IsRuled s items) (x : 
         own = λ v k. refl;
         marks = λ v k. refl;
       });
-      leaves = entry_leaves s a x None b _ _ ruled.lawful fits (λ d is. absurd (cc));
+      leaves = entry_leaves s a x None (with_difference (at_entry x false) b) _ _ ruled.lawful
+          (fits_difference (s.task a) b (at_entry x false) fits) (λ d is. absurd (cc));
     }
       where
         agrees : Agrees h (shown e) (s.entry x)

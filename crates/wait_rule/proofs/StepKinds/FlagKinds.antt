@@ -44,6 +44,7 @@ pub flags : (s : Table) (items : ℕ → List Item) → IsRuled s items → (x a
 flags s items ruled x a b fits h e held shows = record {
   allowed = (e, agrees.0, held ∙ ap (λ (k : ℕ). Some k) (sym agrees.1));
   stored = tt;
+  orderly = tt;
   places = still_places s a (step.Woken x) refl refl;
   links = quiet_links s a (step.Woken x) (record {
     holder = refl;

@@ -38,7 +38,8 @@ use Rattle.wait_model.specs.Locations as place
 use Rattle.wait_model.specs.Locations.{Location, word_in}
 use Rattle.wait_model.proofs.Functions.{put_at, put_same, put_other}
 use Rattle.wait_model.proofs.StepLaws.UnlockSteps.{unlock_hold}
-use Rattle.wait_rule.specs.Items.{Book, with_head, Fits}
+use Rattle.wait_rule.specs.Tickets.{Ticket, served, taken, given}
+use Rattle.wait_rule.specs.Items.{Book, nothing, with_head, Fits}
 use Rattle.wait_rule.specs.Notes.{Notes, note_step}
 use Rattle.wait_rule.specs.Members.{MarkAgrees}
 use Rattle.wait_rule.specs.Rule.{IsLawfulTable}
@@ -67,8 +68,8 @@ raised_small true n small = by (n == 2 ^ 62 - 1) refl
     by true q = small
     by false q = let ne : n ≢ 2 ^ 62 - 1 = grind (arith, nat_tests) in omega arith
 
-fits_head : (t : TaskRecord) (b : Book) (h : Option ℕ) → Fits t b → Fits t (with_head h b)
-fits_head t b h f = record { up = f.up; stored = f.stored; rose = f.rose }
+fits_head : (t : TaskRecord) (b : Book) (h : Option ℕ) (o : Ticket) → Fits t b → Fits t (with_head h o b)
+fits_head t b h o f = record { up = f.up; stored = f.stored; rose = f.rose }
 
 -- what a step on a head word leaves
 head_leaves : (s : Table) (a h : ℕ) (held : Bool) (n : ℕ) (b : Book) (history : ℕ → List Step) (view : ℕ → Told)
@@ -146,15 +147,18 @@ module _ (s : Table) (a h : ℕ) where
             (λ _ held. old i held)
 
     pub locks : (b : Book) → IsLawfulTable s → Fits (s.task a) b → s.holder h ≡ false → AimsAt walk h
+        → (n : ℕ) × (b.ticket ≡ served h n)
         → KeepsLaw s a (place.Head h) (head_word true (s.spent h)) (step.Lock h walk w) b
-    locks b l f free aims = record {
+    locks b l f free aims turn = record {
       allowed = (free, out, reads, aims);
       stored = tt;
+      orderly = turn;
       places = still_places s a (step.Lock h walk w) refl refl;
       links = lock_links;
       leaves = subst (λ (g : ℕ → ℕ). Leaves s (record (next s a (step.Lock h walk w)) { spent = g }) a (place.Head h)
-          (head_word true (s.spent h)) (with_head (Some h) b)) (put_again s.spent h)
-          (head_leaves s a h true (s.spent h) (with_head (Some h) b) _ _ l (fits_head (s.task a) b (Some h) f)
+          (head_word true (s.spent h)) (with_head (Some h) (taken h) b)) (put_again s.spent h)
+          (head_leaves s a h true (s.spent h) (with_head (Some h) (taken h) b) _ _ l
+          (fits_head (s.task a) b (Some h) (taken h) f)
           (l.spent h));
     }
 
@@ -196,13 +200,14 @@ module _ (s : Table) (a h : ℕ) where
                   (λ _. d.1),
             )
 
-    pub unlocks : (b : Book) → IsLawfulTable s → Fits (s.task a) b → MaySpend (s.view a) sp
+    pub unlocks : (b : Book) → IsLawfulTable s → Fits (s.task a) b → MaySpend (s.view a) sp → b.differs ≡ nothing
         → KeepsLaw s a (place.Head h) (head_word false (raised_spent sp (s.spent h))) (step.Unlock h sp) b
-    unlocks b l f may = record {
+    unlocks b l f may clear = record {
       allowed = (held, may);
       stored = tt;
+      orderly = clear;
       places = still_places s a (step.Unlock h sp) refl refl;
       links = unlock_links;
-      leaves = head_leaves s a h false (raised_spent sp (s.spent h)) (with_head None b) _ _ l
-          (fits_head (s.task a) b None f) (raised_small sp (s.spent h) (l.spent h));
+      leaves = head_leaves s a h false (raised_spent sp (s.spent h)) (with_head None (given h) b) _ _ l
+          (fits_head (s.task a) b None (given h) f) (raised_small sp (s.spent h) (l.spent h));
     }

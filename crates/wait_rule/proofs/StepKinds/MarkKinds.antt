@@ -1,6 +1,6 @@
 -- Each kind of step on a bookmark word keeps the law.
 use Rattle.std.proofs.Common.{refl, sym, ◌∙◌, ap, subst, arith}
-use Rattle.std.specs.Prelude.{ℕ, ◌≡◌, ◌≢◌, Option, Some, None, List}
+use Rattle.std.specs.Prelude.{ℕ, ◌≡◌, ◌≢◌, true, false, Option, Some, None, List}
 use Rattle.wait_model.specs.declared.queues.Mark.{Mark}
 use Rattle.wait_model.specs.declared.steps.Step.{Step}
 use Rattle.wait_model.specs.declared.steps.Step.TheVariants as step
@@ -13,7 +13,8 @@ use Rattle.wait_model.specs.Locations.{Location, word_in, mark_word}
 use Rattle.wait_model.proofs.WordLaws.DecodedWords.{mark_read, no_mark_read}
 use Rattle.wait_model.proofs.Functions.{put_at, put_same, put_other}
 use Rattle.wait_rule.specs.declared.journal.Item.{Item}
-use Rattle.wait_rule.specs.Items.{Book, Fits}
+use Rattle.wait_rule.specs.Items.{nothing, at_mark, Book, with_difference, Fits}
+use Rattle.wait_rule.proofs.StepKinds.EntryKinds.{fits_difference}
 use Rattle.wait_rule.specs.Notes.{Notes, Glance, unknown, away, there, note_step}
 use Rattle.wait_rule.specs.Members.{IsStandingMark, IsMarkWord, MarkAgrees}
 use Rattle.wait_rule.specs.Rule.{IsLawfulTable, IsRuled, AreLinked}
@@ -150,25 +151,29 @@ module _ (s : Table) (items : ℕ → List Item) (ruled : IsRuled s items) where
 
   module _ (a h : ℕ) (b : Book) (fits : Fits (s.task a) b) (held : (s.view a).hold.head ≡ Some h) where
     pub marks : (q : ℕ) → s.mark a ≡ None → IsStandingMark (record { head = h; place = q })
-        → KeepsPlaces s a (step.Mark h q)
+        → KeepsPlaces s a (step.Mark h q) → b.differs ≡ nothing
         → KeepsLaw s a (place.Bookmark a) (mark_word (Some (record { head = h; place = q }))) (step.Mark h q) b
-    marks q none standing places = record {
+    marks q none standing places clear = record {
       allowed = held;
       stored = tt;
+      orderly = (clear, none);
       places = places;
       links = mark_links s a h None (Some q) (step.Mark h q) held none ruled.whole.kept.facts.one_holder refl
           (λ v. refl) (λ v. refl) (λ v k. refl) (λ v k. refl);
-      leaves = mark_leaves s a (Some (record { head = h; place = q })) b _ _ ruled.lawful fits
+      leaves = mark_leaves s a (Some (record { head = h; place = q })) (with_difference (at_mark true) b) _ _
+          ruled.lawful (fits_difference (s.task a) b (at_mark true) fits)
           (λ m e. subst IsStandingMark (let z : record { head = h; place = q } ≡ m = cc in z) standing);
     }
 
-    pub unmarks : (q : ℕ) → s.mark a ≡ Some (record { head = h; place = q })
+    pub unmarks : (q : ℕ) → s.mark a ≡ Some (record { head = h; place = q }) → b.differs ≡ nothing
         → KeepsLaw s a (place.Bookmark a) 0 step.Unmark b
-    unmarks q was = record {
+    unmarks q was clear = record {
       allowed = (h, held);
       stored = tt;
+      orderly = (clear, (h, q, held, was));
       places = unmark_places s a;
       links = mark_links s a h (Some q) None step.Unmark held was ruled.whole.kept.facts.one_holder refl
           (λ v. refl) (λ v. refl) (λ v k. refl) (λ v k. refl);
-      leaves = mark_leaves s a None b _ _ ruled.lawful fits (λ m e. absurd (cc));
+      leaves = mark_leaves s a None (with_difference (at_mark false) b) _ _ ruled.lawful
+          (fits_difference (s.task a) b (at_mark false) fits) (λ m e. absurd (cc));
     }

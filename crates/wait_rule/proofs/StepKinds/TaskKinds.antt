@@ -149,6 +149,7 @@ module _ (s : Table) (items : ℕ → List Item) (ruled : IsRuled s items) (u : 
     wakes mask = record {
       allowed = reads;
       stored = tt;
+      orderly = tt;
       places = still_places s a (step.Wake u mask (task_word (s.task u))) refl refl;
       links = wake_links s a u mask (task_word (s.task u));
       leaves = subst (λ (x : TaskRecord). Leaves s (next s a (step.Wake u mask (task_word (s.task u)))) a (place.Task u)
@@ -163,6 +164,7 @@ module _ (s : Table) (items : ℕ → List Item) (ruled : IsRuled s items) (u : 
     signals fatal n is = record {
       allowed = reads;
       stored = tt;
+      orderly = tt;
       places = still_places s a (step.Signal u fatal (task_word (s.task u))) refl refl;
       links = quiet_links s a (step.Signal u fatal (task_word (s.task u)))
           (record {
@@ -195,6 +197,7 @@ module _ (s : Table) (items : ℕ → List Item) (ruled : IsRuled s items) (a : 
   looks = record {
     allowed = own;
     stored = tt;
+    orderly = tt;
     places = still_places s a (step.Look (task_word (s.task a))) refl refl;
     links = quiet_links s a (step.Look (task_word (s.task a)))
         (record {
@@ -214,6 +217,7 @@ module _ (s : Table) (items : ℕ → List Item) (ruled : IsRuled s items) (a : 
   accepts n is = record {
     allowed = own;
     stored = tt;
+    orderly = tt;
     places = still_places s a (step.Accept (task_word (s.task a))) refl refl;
     links = quiet_links s a (step.Accept (task_word (s.task a)))
         (record {
@@ -237,6 +241,7 @@ module _ (s : Table) (items : ℕ → List Item) (ruled : IsRuled s items) (a : 
   sleeps up free = record {
     allowed = (own, free);
     stored = tt;
+    orderly = tt;
     places = still_places s a (step.Sleep (task_word (s.task a))) refl refl;
     links = quiet_links s a (step.Sleep (task_word (s.task a)))
         (record {
@@ -262,6 +267,7 @@ module _ (s : Table) (items : ℕ → List Item) (ruled : IsRuled s items) (a : 
   stores v n up is_state is = record {
     allowed = tt;
     stored = tt;
+    orderly = tt;
     places = still_places s a (step.State v) refl refl;
     links = quiet_links s a (step.State v)
         (record {

@@ -1,5 +1,21 @@
 -- From "this step keeps the law" to what a step of the table of words asks.
-use Rattle.std.proofs.Common.{refl, sym, ◌∙◌, ap, subst, arith, append-nil, eq-eqb, ne_eqb, inl, inr}
+use Rattle.std.proofs.Common.{
+  refl,
+  sym,
+  ◌∙◌,
+  ap,
+  subst,
+  arith,
+  append-nil,
+  eq-eqb,
+  ne_eqb,
+  inl,
+  inr,
+  get_or-set_other,
+  get_or-set_same,
+  length-set,
+}
+use Rattle.std.proofs.lemmas.Bool.Decides.{eqb_tells}
 use Rattle.std.specs.Prelude.{
   ℕ,
   ◌≡◌,
@@ -10,6 +26,9 @@ use Rattle.std.specs.Prelude.{
   false,
   cond,
   eqb,
+  ◌==◌,
+  if◌then◌else◌,
+  length,
   List,
   [],
   ◌∷◌,
@@ -27,23 +46,29 @@ use Rattle.wait_model.specs.Functions.{put}
 use Rattle.wait_model.specs.Fold.{view_of}
 use Rattle.wait_model.specs.Tables.{Table, next}
 use Rattle.wait_model.specs.Rows.{Allowed}
-use Rattle.wait_model.specs.Locations.{Location, IsLocation, position_of, word_in, Shows}
+use Rattle.wait_model.specs.Locations.{Location, IsLocation, position_of, word_in}
+use Rattle.wait_model.specs.Locations as place
 use Rattle.wait_model.proofs.Functions.{put_at, put_same, put_other}
 use Rattle.wait_model.proofs.StepLaws.KeptLaws.{step_keeps}
 use Rattle.wait_model.proofs.HistoryLaws.HoldLooks.{told_next}
-use Rattle.wait_model.proofs.WordLaws.ShownSteps.{written}
+use Rattle.wait_model.proofs.WordLaws.ShownSteps.{one_location, position_fits}
 use Rattle.wait_model.proofs.AccountLaws.SignalCounts.{signals_stay_raised}
 use Rattle.wait_model.proofs.BitLaws.BitKeepers.{bits_stay_kept}
 use Rattle.wait_model.proofs.AccountLaws.DoneCounts.{counts_stay_balanced}
 use Rattle.wait_rule.specs.declared.journal.Item.{Item}
 use Rattle.wait_rule.specs.declared.journal.Item.TheVariants as item
-use Rattle.wait_rule.specs.Items.{Book, first_book, steps_of, learn_step, book_of, Fits}
+use Rattle.wait_rule.specs.Items.{Book, Difference, first_book, steps_of, learn_step, book_from, book_of, Fits}
 use Rattle.wait_rule.specs.Notes.{notes_of}
+use Rattle.wait_rule.specs.MemberWords.{is_beside, word_with, ShowsWith, all_differences, AreMembers}
+use Rattle.wait_rule.specs.Tickets.{Ticket}
+use Rattle.wait_rule.specs.TicketWords.{all_tickets, AreTickets}
 use Rattle.wait_rule.specs.Journals.{Scene, moved, pushed}
 use Rattle.wait_rule.specs.Rule.{IsLawfulTable, IsWhole, AreLinked, all_notes, is_stepped, IsRuled, Law, Holds}
 use Rattle.wait_rule.specs.Plays.{Sat, seat_with, seat_tried}
 use Rattle.wait_rule.proofs.TableSteps.ItemLists.{steps_append, book_append}
 use Rattle.wait_rule.proofs.KnownLaws.AfterSteps.{notes_after}
+use Rattle.wait_rule.proofs.KnownLaws.MemberSteps.{IsOrderly, differences_next, differences_same, members_next}
+use Rattle.wait_rule.proofs.KnownLaws.TicketSteps.{tickets_next, tickets_same, tickets_after}
 use Rattle.wait_rule.proofs.KnownLaws.HeadLinks.{KeepsLinks, noted_next, noted_seen, same_links}
 use Rattle.wait_rule.proofs.KnownLaws.MemberPlaces.{KeepsPlaces, queued_next}
 use Rattle.wait_rule.proofs.WornHeads.WornNotes.{IsShort, worn_next}
@@ -63,6 +88,7 @@ pub record Leaves (s z : Table) (a : ℕ) (l : Location) (n : ℕ) (b : Book) : 
 pub record KeepsLaw (s : Table) (a : ℕ) (l : Location) (n : ℕ) (e : Step) (b : Book) : Type 0 where
   pub allowed : Allowed s a e
   pub stored : IsFair s a e
+  pub orderly : IsOrderly s a e b
   pub places : KeepsPlaces s a e
   pub links : KeepsLinks s a e
   pub leaves : Leaves s (next s a e) a l n (learn_step e b)
@@ -133,16 +159,77 @@ ruled_next s items a l n e few is r k = record {
       ∙ r.untouched m unset;
 }
 
+-- A table and words beside it that differ from what is shown at a single word are shown by the words with that word
+-- written.
+pub written : (words : List ℕ) (s t : Table) (old new : Location → ℕ) (k : Location) → ShowsWith words s old
+    → IsLocation k → ((l : Location) → l ≢ k → word_with t new l ≡ word_with s old l)
+    → ShowsWith (slice_set words (position_of k) (word_with t new k)) t new
+written words s t old new k shown is same = record {
+  count = length-set words (position_of k) (word_with t new k) ∙ shown.count;
+  each = λ l h. by l h (eqb_tells (position_of l) (position_of k));
+}
+  where
+    inside : position_of k < length words
+    inside = rw shown.count (position_fits k is)
+
+    by : (l : Location) → IsLocation l
+        → (((position_of l == position_of k) ≡ true) × (position_of l ≡ position_of k))
+        ⊎ (((position_of l == position_of k) ≡ false) × (position_of l ≢ position_of k))
+        → slice_index (slice_set words (position_of k) (word_with t new k)) (position_of l) ≡ word_with t new l
+    by l h (inl q) =
+        subst (λ (j : Location). slice_index (slice_set words (position_of k) (word_with t new k)) (position_of j)
+        ≡ word_with t new j) (sym (one_location l k h is q.1))
+        (get_or-set_same words (position_of k) (word_with t new k) 0 inside)
+    by l h (inr q) =
+        get_or-set_other words (position_of k) (position_of l) (word_with t new k) 0 q.1 ∙ shown.each l h
+        ∙ sym (same l (λ e. q.1 (ap position_of e)))
+
+-- a word of the table
+pub table_word : (s : Table) (beside : Location → ℕ) (l : Location) → is_beside l ≡ false
+    → word_with s beside l ≡ word_in s l
+table_word s beside l plain = ap (λ (b : Bool). if b then beside l else word_in s l) plain
+
+-- a word that some call changes by a step is one of the table
+pub stepped_plain : (l : Location) → is_stepped l ≡ true → is_beside l ≡ false
+stepped_plain (place.Member k) is = absurd (cc)
+stepped_plain (place.Next h) is = absurd (cc)
+stepped_plain (place.Serving h) is = absurd (cc)
+stepped_plain l is = refl
+
+-- the tickets after a step
+pub tickets_on : (c : Scene) (law : Law c) (a : ℕ) (e : Step) → Allowed law.table a e
+    → IsOrderly law.table a e (book_of (c.items a))
+    → AreTickets (next law.table a e) (all_tickets (put c.items a (c.items a ++ item.Made e ∷ []))) law.beside
+tickets_on c law a e may orderly = subst (λ (f : ℕ → Ticket). AreTickets (next law.table a e) f law.beside)
+    (sym (tickets_next c.items a (item.Made e ∷ [])))
+    (tickets_after law.table a e (book_of (c.items a)) (all_tickets c.items) law.beside may orderly refl law.tickets)
+
 -- a step that keeps the law, on the words
 pub law_next : (c : Scene) (law : Law c) (a : ℕ) (l : Location) (n : ℕ) (e : Step) → a < TASKS
-    → IsLocation l → MayChangeWord l a e → KeepsLaw law.table a l n e (book_of (c.items a))
+    → IsLocation l → is_beside l ≡ false → MayChangeWord l a e → KeepsLaw law.table a l n e (book_of (c.items a))
     → Law (moved c a (position_of l) n (item.Made e ∷ []))
-law_next c law a l n e few there is k = record {
+law_next c law a l n e few there plain is k = record {
   table = next law.table a e;
-  shown = subst (λ (m : ℕ). Shows (slice_set c.words (position_of l) m) (next law.table a e)) k.leaves.left
-      (written c.words law.table (next law.table a e) l law.shown there k.leaves.rest);
+  beside = law.beside;
+  shown = subst (λ (m : ℕ). ShowsWith (slice_set c.words (position_of l) m) (next law.table a e) law.beside)
+      (table_word (next law.table a e) law.beside l plain ∙ k.leaves.left)
+      (written c.words law.table (next law.table a e) law.beside law.beside l law.shown there
+      (λ j ne. ap (λ (w : ℕ). if is_beside j then law.beside j else w) (k.leaves.rest j ne)));
   ruled = ruled_next law.table c.items a l n e few is law.ruled k;
+  members = subst (λ (d : ℕ → Difference). AreMembers (next law.table a e) d law.beside)
+      (sym (differences_next c.items a (item.Made e ∷ [])))
+      (members_next law.table a (book_of (c.items a)) (all_differences c.items) law.beside
+      law.ruled.whole.kept.facts.one_holder refl e k.allowed k.orderly law.members);
+  tickets = tickets_on c law a e k.allowed k.orderly;
 }
+
+-- items that store no word and no bit
+abbrev pub KeepsDifference : List Item → Type 0
+KeepsDifference xs = (b : Book) → (book_from b xs).differs ≡ b.differs
+
+-- items that change no ticket
+abbrev pub KeepsTicket : List Item → Type 0
+KeepsTicket xs = (b : Book) → (book_from b xs).ticket ≡ b.ticket
 
 -- items that are no steps, one at most, at a load
 module _ (c : Scene) (law : Law c) (a : ℕ) (xs : List Item) (none : steps_of xs ≡ []) where
@@ -156,50 +243,51 @@ module _ (c : Scene) (law : Law c) (a : ℕ) (xs : List Item) (none : steps_of x
       ∙ append-nil (steps_of (c.items a))))))
       (λ ne. law.ruled.histories t)
 
-  law_seen : (l : Location) (n : ℕ) → IsLocation l → n ≡ slice_index c.words (position_of l) → IsShort xs
+  pub ruled_seen : IsShort xs → (a < TASKS → Fits (law.table.task a) (book_of (c.items a ++ xs)))
+      → AreLinked law.table (put (all_notes c.items) a (notes_of a (c.items a ++ xs))) → IsRuled law.table grown_items
+  ruled_seen short own links = record {
+    whole = law.ruled.whole;
+    histories = histories_seen;
+    lawful = law.ruled.lawful;
+    fits = λ t small. put_at (λ (ys : List Item). Fits (law.table.task t) (book_of ys)) c.items a
+        (c.items a ++ xs) t
+        (λ q. subst (λ (i : ℕ). Fits (law.table.task i) (book_of (c.items a ++ xs))) (sym q)
+        (own (subst (λ (i : ℕ). i < TASKS) q small)))
+        (λ ne. law.ruled.fits t small);
+    linked = subst (AreLinked law.table) (sym (noted_seen c.items a xs)) links;
+    placed = law.ruled.placed;
+    own = law.ruled.own;
+    worn = worn_next law.table law.table c.items a xs short law.ruled.worn (λ h. omega arith) law.ruled.whole
+        histories_seen law.ruled.lawful (subst (AreLinked law.table) (sym (noted_seen c.items a xs)) links)
+        law.ruled.placed;
+    untouched = law.ruled.untouched;
+  }
+
+  law_seen : (l : Location) (n : ℕ) → IsLocation l → is_beside l ≡ false → n ≡ slice_index c.words (position_of l)
+      → IsShort xs → KeepsDifference xs → KeepsTicket xs
       → (a < TASKS → Fits (law.table.task a) (book_of (c.items a ++ xs)))
       → AreLinked law.table (put (all_notes c.items) a (notes_of a (c.items a ++ xs)))
       → Law (moved c a (position_of l) n xs)
-  law_seen l n there is short own links = record {
+  law_seen l n there plain is short agreed ticket own links = record {
     table = law.table;
-    shown = subst (λ (m : ℕ). Shows (slice_set c.words (position_of l) m) law.table)
+    beside = law.beside;
+    shown = subst (λ (m : ℕ). ShowsWith (slice_set c.words (position_of l) m) law.table law.beside)
         (sym (is ∙ law.shown.each l there))
-        (written c.words law.table law.table l law.shown there (λ k ne. refl));
-    ruled = record {
-      whole = law.ruled.whole;
-      histories = histories_seen;
-      lawful = law.ruled.lawful;
-      fits = λ t small. put_at (λ (ys : List Item). Fits (law.table.task t) (book_of ys)) c.items a
-          (c.items a ++ xs) t
-          (λ q. subst (λ (i : ℕ). Fits (law.table.task i) (book_of (c.items a ++ xs))) (sym q)
-          (own (subst (λ (i : ℕ). i < TASKS) q small)))
-          (λ ne. law.ruled.fits t small);
-      linked = subst (AreLinked law.table) (sym (noted_seen c.items a xs)) links;
-      placed = law.ruled.placed;
-      own = law.ruled.own;
-      worn = worn_next law.table law.table c.items a xs short law.ruled.worn (λ h. omega arith) law.ruled.whole
-          histories_seen law.ruled.lawful (subst (AreLinked law.table) (sym (noted_seen c.items a xs)) links)
-          law.ruled.placed;
-      untouched = law.ruled.untouched;
-    };
+        (written c.words law.table law.table law.beside law.beside l law.shown there (λ k ne. refl));
+    ruled = ruled_seen short own links;
+    members = subst (λ (d : ℕ → Difference). AreMembers law.table d law.beside)
+        (sym (differences_same c.items a xs (agreed (book_of (c.items a))))) law.members;
+    tickets = subst (λ (f : ℕ → Ticket). AreTickets law.table f law.beside)
+        (sym (tickets_same c.items a xs (ticket (book_of (c.items a))))) law.tickets;
   }
 
 -- a load that adds nothing
-pub law_still : (c : Scene) (law : Law c) (a : ℕ) (l : Location) (n : ℕ) → IsLocation l
+pub law_still : (c : Scene) (law : Law c) (a : ℕ) (l : Location) (n : ℕ) → IsLocation l → is_beside l ≡ false
     → n ≡ slice_index c.words (position_of l) → Law (moved c a (position_of l) n [])
-law_still c law a l n there is = law_seen c law a [] refl l n there is tt
+law_still c law a l n there plain is = law_seen c law a [] refl l n there plain is tt (λ b. refl) (λ b. refl)
     (λ few. subst (λ (xs : List Item). Fits (law.table.task a) (book_of xs)) (sym (append-nil (c.items a)))
     (law.ruled.fits a few))
     (same_links law.table c.items a [] (ap (notes_of a) (append-nil (c.items a))) law.ruled.linked)
-
--- a try that is no step
-pub law_busy : (c : Scene) (law : Law c) (a : ℕ) (l : Location) (h n : ℕ) → IsLocation l
-    → n ≡ slice_index c.words (position_of l) → Law (moved c a (position_of l) n (item.Busy h n ∷ []))
-law_busy c law a l h n there is = law_seen c law a (item.Busy h n ∷ []) refl l n there is tt
-    (λ few. subst (Fits (law.table.task a)) (sym (book_append first_book (c.items a) (item.Busy h n ∷ [])))
-    (law.ruled.fits a few))
-    (same_links law.table c.items a (item.Busy h n ∷ []) (notes_after a (c.items a) (item.Busy h n))
-    law.ruled.linked)
 
 -- what a task knows of itself in what is seen
 pub record IsOwn (s : Table) (items : ℕ → List Item) (me : Sat) : Type 0 where
@@ -227,14 +315,20 @@ module _ (slots id : ℕ) (me : Sat) (lives : me.0.lives ≡ true) (l : Location
       (subst (λ (xs : List Item). Fits (law.table.task me.0.number) (book_of xs)) own
       (law.ruled.fits me.0.number few))
 
+  -- the word that is read, where it is one of the table
+  reads_word : (c : Scene) (law : Law c) → is_beside l ≡ false
+      → slice_index c.words (position_of l) ≡ word_in law.table l
+  reads_word c law plain = law.shown.each l there ∙ table_word law.table law.beside l plain
+
   -- a step that always keeps the law
-  pub all_steps : (f : ℕ → ℕ) (x : ℕ → Step) (tells : ℕ → Type 0) → ((n : ℕ) → MayChangeWord l me.0.number (x n))
+  pub all_steps : is_beside l ≡ false → (f : ℕ → ℕ) (x : ℕ → Step) (tells : ℕ → Type 0)
+      → ((n : ℕ) → MayChangeWord l me.0.number (x n))
       → Always (λ s n. KeepsLaw s me.0.number l (f n) (x n) (book_of me.0.items) × tells n)
       → Allows (Holds Law) slots id me p f (λ n m. (m ≡ seat_with me (item.Made (x n))) × tells n)
-  all_steps f x tells may always = subst
+  all_steps plain f x tells may always = subst
       (λ (k : ℕ). Allows (Holds Law) slots id me k f (λ n m. (m ≡ seat_with me (item.Made (x n))) × tells n)) (sym at)
       (allows Law slots id me.0 me.1 (position_of l) f (λ n. item.Made (x n) ∷ []) tells lives
-      (λ c law few own small. by c law few own (slice_index c.words (position_of l)) (law.shown.each l there)))
+      (λ c law few own small. by c law few own (slice_index c.words (position_of l)) (reads_word c law plain)))
     where
       by : (c : Scene) (law : Law c) → me.0.number < TASKS → c.items me.0.number ≡ me.0.items → (n : ℕ)
           → n ≡ word_in law.table l
@@ -244,7 +338,7 @@ module _ (slots id : ℕ) (me : Sat) (lives : me.0.lives ≡ true) (l : Location
           own in
           subst (λ (n : ℕ). Law (moved c me.0.number (position_of l) (f n) (item.Made (x n) ∷ [])) × tells n)
           (sym reads) (
-            law_next c law me.0.number l (f (word_in law.table l)) (x (word_in law.table l)) few there
+            law_next c law me.0.number l (f (word_in law.table l)) (x (word_in law.table l)) few there plain
                 (may (word_in law.table l))
                 (subst (λ (xs : List Item). KeepsLaw law.table me.0.number l (f (word_in law.table l))
                 (x (word_in law.table l)) (book_of xs)) (sym own) k.0),
@@ -254,52 +348,16 @@ module _ (slots id : ℕ) (me : Sat) (lives : me.0.lives ≡ true) (l : Location
   pub steps : is_stepped l ≡ true → (f : ℕ → ℕ) (x : ℕ → Step) (tells : ℕ → Type 0)
       → Always (λ s n. KeepsLaw s me.0.number l (f n) (x n) (book_of me.0.items) × tells n)
       → Allows (Holds Law) slots id me p f (λ n m. (m ≡ seat_with me (item.Made (x n))) × tells n)
-  steps is f x tells always = all_steps f x tells (λ n. inl is) always
-
-  -- a try that keeps the law, or that finds the head held and leaves its word as it was
-  pub tries_lock : is_stepped l ≡ true → (f : ℕ → ℕ) (x : ℕ → Item) (tells : ℕ → Type 0)
-      → Always (λ s n. (((e : Step) × (x n ≡ item.Made e)
-      × KeepsLaw s me.0.number l (f n) e (book_of me.0.items)) ⊎ ((h : ℕ) × (x n ≡ item.Busy h n) × (f n ≡ n)))
-      × tells n)
-      → Allows (Holds Law) slots id me p f (λ n m. (m ≡ seat_with me (x n)) × tells n)
-  tries_lock is f x tells always = subst
-      (λ (k : ℕ). Allows (Holds Law) slots id me k f (λ n m. (m ≡ seat_with me (x n)) × tells n)) (sym at)
-      (allows Law slots id me.0 me.1 (position_of l) f (λ n. x n ∷ []) tells lives
-      (λ c law few own small. by c law few own (slice_index c.words (position_of l)) refl))
-    where
-      P : Table → ℕ → Type 0
-      P s n = (((e : Step) × (x n ≡ item.Made e)
-          × KeepsLaw s me.0.number l (f n) e (book_of me.0.items)) ⊎ ((h : ℕ) × (x n ≡ item.Busy h n) × (f n ≡ n)))
-          × tells n
-
-      one : (c : Scene) (law : Law c) → me.0.number < TASKS → c.items me.0.number ≡ me.0.items → (n : ℕ)
-          → n ≡ slice_index c.words (position_of l)
-          → ((e : Step) × (x n ≡ item.Made e) × KeepsLaw law.table me.0.number l (f n) e (book_of me.0.items))
-          ⊎ ((h : ℕ) × (x n ≡ item.Busy h n) × (f n ≡ n))
-          → Law (moved c me.0.number (position_of l) (f n) (x n ∷ []))
-      one c law few own n reads (inl k) = subst
-          (λ (y : Item). Law (moved c me.0.number (position_of l) (f n) (y ∷ []))) (sym k.1)
-          (law_next c law me.0.number l (f n) k.0 few there (inl is)
-          (subst (λ (xs : List Item). KeepsLaw law.table me.0.number l (f n) k.0 (book_of xs)) (sym own) k.2))
-      one c law few own n reads (inr k) = subst
-          (λ (y : ℕ × Item). Law (moved c me.0.number (position_of l) y.0 (y.1 ∷ [])))
-          (λ i. (sym k.2 i, sym k.1 i)) (law_busy c law me.0.number l k.0 n there reads)
-
-      by : (c : Scene) (law : Law c) → me.0.number < TASKS → c.items me.0.number ≡ me.0.items → (n : ℕ)
-          → n ≡ slice_index c.words (position_of l)
-          → Law (moved c me.0.number (position_of l) (f n) (x n ∷ [])) × tells n
-      by c law few own n reads =
-          let k : P law.table n = subst (P law.table) (sym (reads ∙ law.shown.each l there))
-          (apply P always c law few own) in
-          (one c law few own n reads k.0, k.1)
+  steps is f x tells always = all_steps (stepped_plain l is) f x tells (λ n. inl is) always
 
   -- a load that adds an item that is no step, or nothing
-  pub loads : (xs : ℕ → List Item) (tells : ℕ → Type 0) → ((n : ℕ) → IsShort (xs n)) → ((n : ℕ) → steps_of (xs n) ≡ [])
+  pub loads : is_beside l ≡ false → (xs : ℕ → List Item) (tells : ℕ → Type 0) → ((n : ℕ) → IsShort (xs n))
+      → ((n : ℕ) → steps_of (xs n) ≡ []) → ((n : ℕ) → KeepsDifference (xs n)) → ((n : ℕ) → KeepsTicket (xs n))
       → Always (λ s n. Fits (s.task me.0.number) (book_of (me.0.items ++ xs n)) × tells n)
       → ((s : Table) (items : ℕ → List Item) → IsRuled s items → IsOwn s items me → AreLinked s
       (put (all_notes items) me.0.number (notes_of me.0.number (items me.0.number ++ xs (word_in s l)))))
       → Allows (Holds Law) slots id me p (λ n. n) (λ n m. (m ≡ (pushed me.0 (xs n), me.1)) × tells n)
-  loads xs tells short none always links = subst
+  loads plain xs tells short none agreed ticket always links = subst
       (λ (k : ℕ). Allows (Holds Law) slots id me k (λ n. n) (λ n m. (m ≡ (pushed me.0 (xs n), me.1)) × tells n))
       (sym at)
       (allows Law slots id me.0 me.1 (position_of l) (λ n. n) xs tells lives
@@ -311,14 +369,14 @@ module _ (slots id : ℕ) (me : Sat) (lives : me.0.lives ≡ true) (l : Location
       by c law few own n reads =
           let k : Fits (law.table.task me.0.number) (book_of (me.0.items ++ xs n)) × tells n =
           subst (λ (n : ℕ). Fits (law.table.task me.0.number) (book_of (me.0.items ++ xs n)) × tells n)
-          (sym (reads ∙ law.shown.each l there))
+          (sym (reads ∙ reads_word c law plain))
           (apply (λ s n. Fits (s.task me.0.number) (book_of (me.0.items ++ xs n)) × tells n) always c law few own)
           in (
-            law_seen c law me.0.number (xs n) (none n) l n there reads (short n)
+            law_seen c law me.0.number (xs n) (none n) l n there plain reads (short n) (agreed n) (ticket n)
                 (λ _. subst (λ (ys : List Item). Fits (law.table.task me.0.number) (book_of (ys ++ xs n))) (sym own)
                 k.0)
                 (subst (λ (n : ℕ). AreLinked law.table (put (all_notes c.items) me.0.number
-                (notes_of me.0.number (c.items me.0.number ++ xs n)))) (sym (reads ∙ law.shown.each l there))
+                (notes_of me.0.number (c.items me.0.number ++ xs n)))) (sym (reads ∙ reads_word c law plain))
                 (links law.table c.items law.ruled (is_own c law own))),
             k.1,
           )
@@ -346,16 +404,16 @@ module _ (slots id : ℕ) (me : Sat) (lives : me.0.lives ≡ true) (l : Location
       by c law few own n reads (yes e) =
           let k : n ≡ old → KeepsLaw law.table me.0.number l new (x n) (book_of me.0.items) =
           subst (λ (n : ℕ). n ≡ old → KeepsLaw law.table me.0.number l new (x n) (book_of me.0.items))
-          (sym (reads ∙ law.shown.each l there))
+          (sym (reads ∙ reads_word c law (stepped_plain l is)))
           (apply (λ s n. n ≡ old → KeepsLaw s me.0.number l new (x n) (book_of me.0.items)) always c law few own) in
           subst (λ (b : Bool). Law (moved c me.0.number (position_of l) (either b new n)
           (cond b (item.Made (x n) ∷ []) []))) (sym (eq-eqb n old e))
-          (law_next c law me.0.number l new (x n) few there (inl is)
+          (law_next c law me.0.number l new (x n) few there (stepped_plain l is) (inl is)
           (subst (λ (xs : List Item). KeepsLaw law.table me.0.number l new (x n) (book_of xs)) (sym own) (k e)))
       by c law few own n reads (no ne) =
           subst (λ (b : Bool). Law (moved c me.0.number (position_of l) (either b new n)
           (cond b (item.Made (x n) ∷ []) []))) (sym (ne_eqb n old ne))
-          (law_still c law me.0.number l n there reads)
+          (law_still c law me.0.number l n there (stepped_plain l is) reads)
 
       all : Allows (Holds Law) slots id me p (λ n. either (eqb n old) new n)
           (λ n m. (m ≡ (pushed me.0 (hit old x n), me.1)) × Unit {0})

@@ -14,6 +14,7 @@ use Rattle.std.specs.Prelude.{
   true,
   false,
   ◌==◌,
+  nat_lt,
   if◌then◌else◌,
   Option,
   Some,
@@ -34,6 +35,9 @@ use Rattle.wait_model.specs.declared.layout.TheConstants.{
   ENTRIES,
   PLAIN_CONDITIONS,
   CLAIMS,
+  FIRST_DONE,
+  FIRST_BIT_WORD,
+  FIRST_VARIABLE,
   ENTRY_AT,
   FLAG_AT,
   BOOKMARK_AT,
@@ -58,9 +62,10 @@ use Rattle.wait_model.proofs.WordLaws.DecodedWords.{entry_read, mark_read, no_ma
 use Rattle.wait_model.proofs.Functions.{put_at}
 use Rattle.wait_rule.specs.declared.journal.Item.{Item}
 use Rattle.wait_rule.specs.declared.journal.Item.TheVariants as item
-use Rattle.wait_rule.specs.Items.{book_of, first_book, Fits}
+use Rattle.wait_rule.specs.Items.{nothing, book_of, first_book, Fits}
 use Rattle.wait_rule.specs.Notes.{Notes, Glance, away, there, glance_at, notes_of}
 use Rattle.wait_rule.specs.Members.{IsStanding, IsStandingMark, IsOwnKind, IsEntryWord, IsMarkWord, MarkAgrees}
+use Rattle.wait_rule.specs.MemberWords.{is_beside}
 use Rattle.wait_rule.specs.Known.{known}
 use Rattle.wait_rule.specs.Rule.{IsRuled, is_stepped, AreLinked, all_notes, Law, Holds}
 use Rattle.wait_rule.specs.Says.{told_of, noted}
@@ -107,7 +112,7 @@ unfolding owner
 own_index u slot small = omega arith
 
 -- what the task knew of an entry word
-knew_entry : (s : Table) (items : ℕ → List Item) (me : Sat) (x : ℕ) → IsRuled s items → IsOwn s items me
+pub knew_entry : (s : Table) (items : ℕ → List Item) (me : Sat) (x : ℕ) → IsRuled s items → IsOwn s items me
     → (d : TableId) → KnewEntry (known d me.0 0) x (entry_word (s.entry x))
 knew_entry s items me x ruled own d = record {
   shown = λ h held. subst (Agrees h ((told_of (known d me.0 0)).hold.book x)) (sym (reads s items ruled x))
@@ -148,9 +153,9 @@ module _ (slots id : ℕ) (me : Sat) (lives : me.0.lives ≡ true) (x p : ℕ) (
   pub queue_moves : (e : Entry) (word at_last : ℕ) (d : TableId) → word ≡ entry_word (Some e) → owner x ≡ me.0.number
       → IsStanding x e → (book_of me.0.items).head ≡ Some (head_of e.watch)
       → (told_of (known d me.0 0)).hold.book x ≡ off → IsWholeBook (known d me.0 at_last)
-      → IsPlaceFor (known d me.0 at_last) e.priority e.place
+      → IsPlaceFor (known d me.0 at_last) e.priority e.place → (book_of me.0.items).differs ≡ nothing
       → Allows (Holds Law) slots id me p (λ _. word) (λ _. queued_play (move slots p word 0 none) me word)
-  queue_moves e word at_last d is mine standing held shows whole front s r long at_id few =
+  queue_moves e word at_last d is mine standing held shows whole front clear s r long at_id few =
       let a = steps slots id me lives (place.Entry x) small p at refl (λ _. word) (λ w. step.Queue x e)
       (λ _. Unit {0})
       (λ s items ruled own fits. (
@@ -160,7 +165,7 @@ module _ (slots id : ℕ) (me : Sat) (lives : me.0.lives ≡ true) (x p : ℕ) (
             (ap (λ (v : Told). v.hold.book x) own.told ∙ shows)
             (queue_keeps s items ruled me.0.number (head_of e.watch) (known d me.0 at_last)
             (head_seen s items me (Some (head_of e.watch)) own held) own.told
-            (ap (notes_of me.0.number) own.list) x e whole refl front)),
+            (ap (notes_of me.0.number) own.list) x e whole refl front) clear),
         tt,
       )) s r long at_id few in (
         a.0,
@@ -176,13 +181,14 @@ module _ (slots id : ℕ) (me : Sat) (lives : me.0.lives ≡ true) (x p : ℕ) (
 
   pub unqueue_moves : (h : ℕ) (e : Entry) (d : TableId) → (book_of me.0.items).head ≡ Some h
       → (told_of (known d me.0 0)).hold.book x ≡ shown e → (owner x ≡ me.0.number) ⊎ (IsOwnKind e.kind → ⊥)
-      → Allows (Holds Law) slots id me p (λ _. 0) (λ _. unqueued_play (move slots p 0 0 none) me 0)
-  unqueue_moves h e d held shows may s r long at_id few =
+      → (book_of me.0.items).differs ≡ nothing → Allows (Holds Law) slots id me p (λ _. 0)
+      (λ _. unqueued_play (move slots p 0 0 none) me 0)
+  unqueue_moves h e d held shows may clear s r long at_id few =
       let a = steps slots id me lives (place.Entry x) small p at refl (λ _. 0) (λ w. step.Unqueue x)
       (λ _. Unit {0})
       (λ s items ruled own fits. (
         unqueues s items ruled x me.0.number (book_of me.0.items) fits h e (head_seen s items me (Some h) own held)
-            (ap (λ (v : Told). v.hold.book x) own.told ∙ shows) may,
+            (ap (λ (v : Told). v.hold.book x) own.told ∙ shows) may (clear, small),
         tt,
       )) s r long at_id few in
       (a.0, a.1, a.2, a.3, a.4.0 ∙ ap (λ (k : ℕ). seat_with me (item.Made (step.Unqueue k))) entry_there)
@@ -217,7 +223,7 @@ glance_agrees h (Some m) = by (m.head == h) refl
         let ne : m.head ≢ h = grind (arith, nat_tests) in
         ne here
 
-seen_links : (s : Table) (notes : ℕ → Notes) (a t : ℕ) → AreLinked s notes
+pub seen_links : (s : Table) (notes : ℕ → Notes) (a t : ℕ) → AreLinked s notes
     → AreLinked s (put notes a (record (notes a) {
       marks = put (notes a).marks t
           (glance_at (s.view a).hold.head (s.mark t));
@@ -242,7 +248,7 @@ seen_links s notes a t r = record {
     K = record (notes a) { marks = put (notes a).marks t (glance_at (s.view a).hold.head (s.mark t)) }
 
 -- what the task knew of a bookmark word
-knew_mark : (s : Table) (items : ℕ → List Item) (me : Sat) (t : ℕ) → IsRuled s items → IsOwn s items me
+pub knew_mark : (s : Table) (items : ℕ → List Item) (me : Sat) (t : ℕ) → IsRuled s items → IsOwn s items me
     → (d : TableId) → KnewMark (known d me.0 0) t (mark_word (s.mark t))
 knew_mark s items me t ruled own d = record {
   shown = λ h held. subst (MarkAgrees h ((noted (known d me.0 0)).marks t)) (sym (mark_reads s items ruled t))
@@ -262,8 +268,9 @@ module _ (slots id : ℕ) (me : Sat) (lives : me.0.lives ≡ true) (t p : ℕ) (
       (λ (k : ℕ). Allows (Holds Law) slots id me p (λ n. n)
       (λ n m. (m ≡ seat_with me (item.Bookmark k n))
       × (IsMarkWord n × ((d : TableId) → KnewMark (known d me.0 0) k n)))) mark_there
-      (loads slots id me lives (place.Bookmark t) small p at (λ w. item.Bookmark t w ∷ [])
-      (λ n. IsMarkWord n × ((d : TableId) → KnewMark (known d me.0 0) t n)) (λ _. tt) (λ _. refl)
+      (loads slots id me lives (place.Bookmark t) small p at refl (λ w. item.Bookmark t w ∷ [])
+      (λ n. IsMarkWord n × ((d : TableId) → KnewMark (known d me.0 0) t n)) (λ _. tt) (λ _. refl) (λ _ b. refl)
+      (λ _ b. refl)
       (λ s items ruled own fits. (
         subst (Fits (s.task me.0.number))
             (sym (book_append first_book me.0.items (item.Bookmark t (mark_word (s.mark t)) ∷ []))) fits,
@@ -286,7 +293,8 @@ module _ (slots id : ℕ) (me : Sat) (lives : me.0.lives ≡ true) (t p : ℕ) (
 
 -- stores of the own bookmark
 module _ (slots id : ℕ) (me : Sat) (lives : me.0.lives ≡ true) (u p : ℕ) (mine : me.0.number ≡ u) (small : u < TASKS)
-    (at : p ≡ BOOKMARK_AT + u) (h : ℕ) (d : TableId) (held : (book_of me.0.items).head ≡ Some h) where
+    (at : p ≡ BOOKMARK_AT + u) (h : ℕ) (d : TableId) (held : (book_of me.0.items).head ≡ Some h)
+    (clear : (book_of me.0.items).differs ≡ nothing) where
   own_mark_at : p ≡ BOOKMARK_AT + me.0.number
   own_mark_at = omega arith
 
@@ -302,16 +310,16 @@ module _ (slots id : ℕ) (me : Sat) (lives : me.0.lives ≡ true) (u p : ℕ) (
       → (noted (known d me.0 0)).own ≡ None → IsStandingMark (record { head = h; place = q })
       → (m : ℕ) → IsBefore (known d me.0 h) q m
       → Allows (Holds Law) slots id me p (λ _. word) (λ _. mark_stored_play (move slots p word 0 none) me word)
-  put_moves q word is clear standing m before s r long at_id few =
+  put_moves q word is none_out standing m before s r long at_id few =
       let a = steps slots id me lives (place.Bookmark me.0.number) own_mark_small p own_mark_at refl (λ _. word)
       (λ w. step.Mark h q) (λ _. Unit {0})
       (λ s items ruled own fits. (
         subst (λ (n : ℕ). KeepsLaw s me.0.number (place.Bookmark me.0.number) n (step.Mark h q) (book_of me.0.items))
             (sym is)
             (marks s items ruled me.0.number h (book_of me.0.items) fits (head_seen s items me (Some h) own held) q
-            (own_mark s items None ruled own clear) standing
+            (own_mark s items None ruled own none_out) standing
             (mark_keeps s items ruled me.0.number h (known d me.0 h) (head_seen s items me (Some h) own held) own.told
-            (ap (notes_of me.0.number) own.list) q m standing.low before)),
+            (ap (notes_of me.0.number) own.list) q m standing.low before) clear),
         tt,
       )) s r long at_id few in
       let k = standing.head in (
@@ -330,7 +338,7 @@ module _ (slots id : ℕ) (me : Sat) (lives : me.0.lives ≡ true) (u p : ℕ) (
       (λ w. step.Unmark) (λ _. Unit {0})
       (λ s items ruled own fits. (
         unmarks s items ruled me.0.number h (book_of me.0.items) fits (head_seen s items me (Some h) own held) q
-            (own_mark s items (Some (record { head = h; place = q })) ruled own was),
+            (own_mark s items (Some (record { head = h; place = q })) ruled own was) clear,
         tt,
       )) s r long at_id few in
       (a.0, a.1, a.2, a.3, a.4.0 ∙ ap (λ (o : Option Mark). seat_with me (item.Made (marked o))) (sym no_mark_read))
@@ -350,6 +358,16 @@ module _ (slots id : ℕ) (me : Sat) (lives : me.0.lives ≡ true) (u p : ℕ) (
       (subst IsStandingMark is k.2.standing) k.2.member k.2.before
 
 -- steps on condition words
+cond_plain : (c : ℕ) → is_beside (cond_at c) ≡ false
+cond_plain c = by (nat_lt c FIRST_DONE) (nat_lt c FIRST_BIT_WORD) (nat_lt c FIRST_VARIABLE)
+  where
+    by : (x y z : Bool) → is_beside (if x then place.Plain c else if y then place.Done (c - FIRST_DONE)
+        else if z then place.Bits (c - FIRST_BIT_WORD) else place.Var (c - FIRST_VARIABLE)) ≡ false
+    by true y z = refl
+    by false true z = refl
+    by false false true = refl
+    by false false false = refl
+
 load_changes : (c : Watch) (w a : ℕ) → ChangesNone a (step.Load c w)
 load_changes c w a s place.Base = refl
 load_changes c w a s k = refl
@@ -359,7 +377,7 @@ module _ (slots id : ℕ) (me : Sat) (lives : me.0.lives ≡ true) (p : ℕ) whe
       → Allows (Holds Law) slots id me p (λ n. n) (cond_loaded_play named (move slots p 0 0 none) me)
   load_moves c named same is at s r long at_id few =
       let a = all_steps slots id me lives (cond_at (number_of c)) (cond_located (number_of c) (number_below c is)) p at
-      (λ n. n) (λ w. step.Load c w) (λ _. Unit {0}) (λ w. inr (load_changes c w me.0.number))
+      (cond_plain (number_of c)) (λ n. n) (λ w. step.Load c w) (λ _. Unit {0}) (λ w. inr (load_changes c w me.0.number))
       (λ z items ruled own fits. (
         cond_loads z items ruled me.0.number (book_of me.0.items) fits c is,
         tt,

@@ -16,15 +16,17 @@ use Rattle.std.specs.Prelude.{
   None,
   List,
   [],
+  ◌∷◌,
+  slice_index,
 }
 use mathlib.Core.Option.{none}
 use Rattle.atomic_table.specs.Seated.{TableId}
 use Rattle.atomic_table.specs.Table.{step as move, Allows}
-use Rattle.wait_model.specs.declared.layout.TheConstants.{HEADS, HEAD_AT}
+use Rattle.wait_model.specs.declared.layout.TheConstants.{TASKS, HEADS, HEAD_AT}
 use Rattle.wait_model.specs.declared.watches.Aim.{Aim}
 use Rattle.wait_model.specs.declared.steps.Step.{Step}
 use Rattle.wait_model.specs.declared.steps.Step.TheVariants as step
-use Rattle.wait_model.specs.Words.{head_word}
+use Rattle.wait_model.specs.Words.{head_word, held_of, spent_of}
 use Rattle.wait_model.specs.Views.{View as Told}
 use Rattle.wait_model.specs.Tables.{Table, raised_spent}
 use Rattle.wait_model.specs.Rows.{AimsAt, MaySpend}
@@ -33,10 +35,10 @@ use Rattle.wait_model.specs.Locations.{word_in}
 use Rattle.wait_model.proofs.WordLaws.DecodedWords.{spent_read, held_read}
 use Rattle.wait_rule.specs.declared.journal.Item.{Item}
 use Rattle.wait_rule.specs.declared.journal.Item.TheVariants as item
-use Rattle.wait_rule.specs.Items.{book_of, Fits}
+use Rattle.wait_rule.specs.Items.{nothing, book_of, Fits}
 use Rattle.wait_rule.specs.Known.{known}
 use Rattle.wait_rule.specs.Members.{IsHeadWord}
-use Rattle.wait_rule.specs.Rule.{IsRuled, Law, Holds}
+use Rattle.wait_rule.specs.Rule.{IsRuled, all_notes, Law, Holds}
 use Rattle.wait_rule.specs.Says.{told_of}
 use Rattle.wait_rule.specs.Queues.{walk_of_hold, lock_item}
 use Rattle.wait_rule.specs.Plays.{Sat, seat_with}
@@ -44,8 +46,12 @@ use Rattle.wait_rule.specs.QueuePlays.{locked_play, head_load_play, unlocked_pla
 use Rattle.wait_rule.specs.Notes.{notes_of}
 use Rattle.wait_rule.proofs.KnownLaws.HeadLinks.{same_links}
 use Rattle.wait_rule.proofs.KnownLaws.HeldHeads.{head_told}
-use Rattle.wait_rule.proofs.TableSteps.StateLaws.{pushed_none}
-use Rattle.wait_rule.proofs.TableSteps.KeptSteps.{IsOwn, KeepsLaw, steps, loads, tries_lock}
+use Rattle.wait_rule.proofs.TableSteps.StateLaws.{allows, pushed_none}
+use Rattle.wait_rule.specs.Tickets.{served}
+use Rattle.wait_rule.specs.TicketWords.{all_tickets}
+use Rattle.wait_rule.specs.Journals.{Scene, moved}
+use Rattle.wait_rule.proofs.KnownLaws.TicketSteps.{free_head, holds_none}
+use Rattle.wait_rule.proofs.TableSteps.KeptSteps.{IsOwn, KeepsLaw, steps, loads, law_next}
 use Rattle.wait_rule.proofs.StepKinds.HeadKinds.{lock_word, locks, unlocks}
 use Rattle.wait_rule.proofs.StepKinds.HoldWalks.{aims_hold}
 
@@ -59,44 +65,53 @@ module _ (slots id : ℕ) (me : Sat) (lives : me.0.lives ≡ true) (h p : ℕ) (
   head_there : h ≡ p - HEAD_AT
   head_there = omega arith
 
-  pub lock_moves : (walk named : Option Aim) → walk ≡ named → (book_of me.0.items).head ≡ None → AimsAt walk h
+  pub lock_moves : (walk named : Option Aim) → walk ≡ named → (n : ℕ) → (book_of me.0.items).ticket ≡ served h n
+      → AimsAt walk h
       → Allows (Holds Law) slots id me p (λ n. bit_or n 1) (locked_play named (move slots p 1 0 none) me)
-  lock_moves walk named is free aims = subst
+  lock_moves walk named is turn mine aims = subst
       (λ (k : ℕ × Option Aim). Allows (Holds Law) slots id me p (λ n. bit_or n 1)
-      (λ n m. (m ≡ seat_with me (lock_item k.0 k.1 n)) × IsHeadWord n)) (λ i. (head_there i, is i))
-      (tries_lock slots id me lives (place.Head h) small p at refl (λ n. bit_or n 1) (lock_item h walk) IsHeadWord
-      (λ s items ruled own fits. (
-        by s items ruled own fits (s.holder h) refl,
-        record { held = s.holder h; spent = s.spent h; spells = refl; small = ruled.lawful.spent h },
-      )))
+      (λ n m. (m ≡ seat_with me (lock_item k.0 k.1 n)) × IsHeadWord n × (held_of n ≡ false)))
+      (λ i. (head_there i, is i))
+      (subst (λ (k : ℕ). Allows (Holds Law) slots id me k (λ n. bit_or n 1)
+      (λ n m. (m ≡ seat_with me (lock_item h walk n)) × IsHeadWord n × (held_of n ≡ false))) (sym at)
+      (tells_more
+      (allows Law slots id me.0 me.1 (place.position_of (place.Head h)) (λ n. bit_or n 1)
+      (λ n. lock_item h walk n ∷ []) (λ n. IsHeadWord n × (held_of n ≡ false)) lives
+      (λ c law few own less. by c law few own (slice_index c.words (place.position_of (place.Head h)))
+      (law.shown.each (place.Head h) small)))))
     where
-      by : (s : Table) (items : ℕ → List Item) → IsRuled s items → IsOwn s items me
-          → Fits (s.task me.0.number) (book_of me.0.items) → (b : Bool) → s.holder h ≡ b
-          → ((e : Step) × (lock_item h walk (head_word (s.holder h) (s.spent h)) ≡ item.Made e)
-          × KeepsLaw s me.0.number (place.Head h) (bit_or (head_word (s.holder h) (s.spent h)) 1) e
-          (book_of me.0.items))
-          ⊎ ((i : ℕ) × (lock_item h walk (head_word (s.holder h) (s.spent h))
-          ≡ item.Busy i (head_word (s.holder h) (s.spent h)))
-          × (bit_or (head_word (s.holder h) (s.spent h)) 1 ≡ head_word (s.holder h) (s.spent h)))
-      by s items ruled own fits true q = inr (
-        h,
-        ap (λ (b : Bool). if b then item.Busy h (head_word (s.holder h) (s.spent h))
-            else item.Made (step.Lock h (walk_of_hold h walk) (head_word (s.holder h) (s.spent h))))
-            (held_read (s.holder h) (s.spent h) ∙ q),
-        lock_word (s.holder h) (s.spent h) ∙ ap (λ (b : Bool). head_word b (s.spent h)) (sym q),
-      )
-      by s items ruled own fits false q = inl (
-        step.Lock h (walk_of_hold h walk) (head_word (s.holder h) (s.spent h)),
-        ap (λ (b : Bool). if b then item.Busy h (head_word (s.holder h) (s.spent h))
-            else item.Made (step.Lock h (walk_of_hold h walk) (head_word (s.holder h) (s.spent h))))
-            (held_read (s.holder h) (s.spent h) ∙ q),
-        subst (λ (n : ℕ). KeepsLaw s me.0.number (place.Head h) n
-            (step.Lock h (walk_of_hold h walk) (head_word (s.holder h) (s.spent h))) (book_of me.0.items))
-            (sym (lock_word (s.holder h) (s.spent h)))
-            (locks s me.0.number h (walk_of_hold h walk) (head_word (s.holder h) (s.spent h))
-            (head_seen s items me None own free)
-            (spent_read (s.holder h) (s.spent h)) (book_of me.0.items) ruled.lawful fits q (aims_hold h walk aims)),
-      )
+      tells_more : Allows (Holds Law) slots id me (place.position_of (place.Head h)) (λ n. bit_or n 1)
+          (λ n m. (m ≡ seat_with me (lock_item h walk n)) × (IsHeadWord n × (held_of n ≡ false)))
+          → Allows (Holds Law) slots id me (place.position_of (place.Head h)) (λ n. bit_or n 1)
+          (λ n m. (m ≡ seat_with me (lock_item h walk n)) × IsHeadWord n × (held_of n ≡ false))
+      tells_more all s r long at_id less =
+          let a = all s r long at_id less in (a.0, a.1, a.2, a.3, (a.4.0, a.4.1.0, a.4.1.1))
+
+      by : (c : Scene) (law : Law c) → me.0.number < TASKS → c.items me.0.number ≡ me.0.items → (n : ℕ)
+          → n ≡ head_word (law.table.holder h) (law.table.spent h)
+          → Law (moved c me.0.number (place.position_of (place.Head h)) (bit_or n 1) (lock_item h walk n ∷ []))
+          × (IsHeadWord n × (held_of n ≡ false))
+      by c law few own n reads =
+          let s = law.table in
+          let now : all_tickets c.items me.0.number ≡ served h turn =
+          ap (λ (xs : List Item). (book_of xs).ticket) own ∙ mine in
+          let free = free_head s (all_notes c.items) law.ruled.linked (all_tickets c.items) law.beside law.tickets
+          me.0.number h turn now in
+          let out = holds_none s (all_notes c.items) law.ruled.linked (all_tickets c.items) law.beside law.tickets
+          me.0.number h turn now in
+          let spent_is = ap spent_of reads ∙ spent_read (s.holder h) (s.spent h) in (
+            law_next c law me.0.number (place.Head h) (bit_or n 1) (step.Lock h (walk_of_hold h walk) n) few small refl
+                (inl refl)
+                (subst (λ (w : ℕ). KeepsLaw s me.0.number (place.Head h) w (step.Lock h (walk_of_hold h walk) n)
+                (book_of (c.items me.0.number)))
+                (sym (ap (λ (w : ℕ). bit_or w 1) reads ∙ lock_word (s.holder h) (s.spent h)))
+                (locks s me.0.number h (walk_of_hold h walk) n out spent_is (book_of (c.items me.0.number))
+                law.ruled.lawful (law.ruled.fits me.0.number few) free (aims_hold h walk aims) (turn, now))),
+            (
+              record { held = s.holder h; spent = s.spent h; spells = reads; small = law.ruled.lawful.spent h },
+              ap held_of reads ∙ (held_read (s.holder h) (s.spent h) ∙ free),
+            ),
+          )
 
   -- what the task's list says of the head that it holds
   mine : (s : Table) (items : ℕ → List Item) → IsOwn s items me → (book_of me.0.items).head ≡ Some h
@@ -106,9 +121,9 @@ module _ (slots id : ℕ) (me : Sat) (lives : me.0.lives ≡ true) (h p : ℕ) (
   pub head_peek_moves : (book_of me.0.items).head ≡ Some h
       → Allows (Holds Law) slots id me p (λ n. n) (head_load_play (move slots p 0 0 none) me)
   head_peek_moves held s r long at_id few =
-      let a = loads slots id me lives (place.Head h) small p at (λ _. [])
+      let a = loads slots id me lives (place.Head h) small p at refl (λ _. [])
       (λ n. (d : TableId) → n ≡ head_word true ((told_of (known d me.0 0)).checks.found (p - HEAD_AT))) (λ _. tt)
-      (λ _. refl)
+      (λ _. refl) (λ _ b. refl) (λ _ b. refl)
       (λ s items ruled own fits. (
         subst (λ (xs : List Item). Fits (s.task me.0.number) (book_of xs)) (sym (append-nil me.0.items)) fits,
         λ d. (λ i. head_word ((ruled.whole.kept.facts.views me.0.number).hold.held h (mine s items own held) i)
@@ -123,8 +138,9 @@ module _ (slots id : ℕ) (me : Sat) (lives : me.0.lives ≡ true) (h p : ℕ) (
   pub unlock_moves : (spent named : Bool) (d : TableId) (word : ℕ) → spent ≡ named → (book_of me.0.items).head ≡ Some h
       → MaySpend (told_of (known d me.0 0)) spent
       → word ≡ head_word false (raised_spent spent ((told_of (known d me.0 0)).checks.found h))
+      → (book_of me.0.items).differs ≡ nothing
       → Allows (Holds Law) slots id me p (λ _. word) (λ _. unlocked_play named (move slots p word 0 none) me word)
-  unlock_moves spent named d word same held may is s r long at_id few =
+  unlock_moves spent named d word same held may is clear s r long at_id few =
       let a = steps slots id me lives (place.Head h) small p at refl (λ _. word) (λ w. step.Unlock h spent)
       (λ _. Unit {0})
       (λ s items ruled own fits. (
@@ -133,7 +149,7 @@ module _ (slots id : ℕ) (me : Sat) (lives : me.0.lives ≡ true) (h p : ℕ) (
             (ruled.linked.spent me.0.number h (mine s items own held) ∙ ap (λ (v : Told). v.checks.found h) own.told)
             ∙ sym is)
             (unlocks s me.0.number h spent (mine s items own held) ruled.whole.kept.facts.one_holder
-            (book_of me.0.items) ruled.lawful fits (subst (λ (v : Told). MaySpend v spent) (sym own.told) may)),
+            (book_of me.0.items) ruled.lawful fits (subst (λ (v : Told). MaySpend v spent) (sym own.told) may) clear),
         tt,
       )) s r long at_id few in
       (a.0, a.1, a.2, a.3, a.4.0 ∙ (λ i. seat_with me (item.Made (step.Unlock (head_there i) (same i)))))

@@ -2,6 +2,7 @@
 use Rattle.std.proofs.Common.{refl, sym, ◌∙◌, ap, subst, arith, inl, le-ltb, lt-ltb, lt_of_not-le}
 use Rattle.std.specs.Prelude.{
   ◌-◌,
+  ◌+◌,
   ℕ,
   zero,
   suc,
@@ -15,6 +16,7 @@ use Rattle.std.specs.Prelude.{
   cond,
   eqb,
   ltb,
+  nat_lt,
   if◌then◌else◌,
   List,
   [],
@@ -25,8 +27,13 @@ use Rattle.std.specs.Prelude.{
 }
 use native.Mathlib.Decide.{dec_le}
 use Rattle.atomic_table.specs.Table.{opening}
-use Rattle.wait_model.specs.declared.layout.TheConstants.{TASKS, ENTRY_AT, RUNNABLE}
+use Rattle.wait_model.specs.declared.layout.TheConstants.{TASKS, ENTRIES, WORD_BITS, ENTRY_AT, RUNNABLE}
 use Rattle.wait_model.specs.Tables.{start}
+use Rattle.wait_model.specs.Words.{bit_word, flag}
+use Rattle.wait_model.specs.Locations.{Location, Shows, word_in}
+use Rattle.wait_model.specs.Locations as place
+use Rattle.wait_rule.specs.Items.{Difference}
+use Rattle.wait_rule.specs.MemberWords.{word_with, ShowsWith, all_differences, AreMembers}
 use Rattle.wait_model.proofs.StepLaws.StartLaws.{start_kept}
 use Rattle.wait_model.proofs.WordLaws.ShownSteps.{start_shown}
 use Rattle.wait_model.proofs.AccountLaws.SignalCounts.{signals_start_raised}
@@ -36,6 +43,8 @@ use Rattle.wait_rule.specs.declared.journal.Item.{Item}
 use Rattle.wait_rule.specs.Items.{steps_of, book_of, Fits}
 use Rattle.wait_rule.specs.Notes.{notes_of}
 use Rattle.wait_rule.specs.Journals.{fresh, seen_as}
+use Rattle.wait_rule.specs.Tickets.{Ticket, no_ticket, is_of, ShowsNumber, out_below}
+use Rattle.wait_rule.specs.TicketWords.{all_tickets, AreTickets}
 use Rattle.wait_rule.specs.Rule.{IsRuled, Law, Holds}
 use Rattle.wait_rule.specs.Start.{start_of, IsStart}
 use Rattle.wait_rule.proofs.TableSteps.ForksAndJoins.{alone}
@@ -76,6 +85,59 @@ start_ruled items none = record {
   untouched = λ l unset. refl;
 }
 
+-- no entry stands, and all member words and tickets are 0
+start_shows : (ws : List ℕ) → Shows ws start → ShowsWith ws start (λ l. 0)
+start_shows ws shown = record { count = shown.count; each = λ l is. shown.each l is ∙ by l }
+  where
+    by : (l : Location) → word_in start l ≡ word_with start (λ k. 0) l
+    by (place.Member k) = refl
+    by l = refl
+
+none_set : (n : ℕ) → bit_word n (λ k. false) ≡ 0
+unfolding bit_word
+none_set zero = refl
+none_set (suc n) = let ih = none_set n in omega (arith, ih)
+
+start_members : (differs : ℕ → Difference) → AreMembers start differs (λ l. 0)
+start_members differs = record {
+  bits = λ h x. false;
+  spells = λ h i small. sym (none_set WORD_BITS);
+  agrees = λ h x far. by h x (nat_lt x ENTRIES);
+  named = λ a h x held. absurd (cc);
+}
+  where
+    by : (h x : ℕ) (b : Bool) → false ≡ (if b then false else false)
+    by h x true = refl
+    by h x false = refl
+
+-- no ticket is out
+none_out : (tickets : ℕ → Ticket) → ((t : ℕ) → tickets t ≡ no_ticket) → (h n : ℕ) → out_below tickets h n ≡ 0
+none_out tickets none h zero = refl
+none_out tickets none h (suc n) =
+    let here : flag (is_of h (tickets n)) ≡ 0 = ap (λ (t : Ticket). flag (is_of h t)) (none n) in
+    let rest = none_out tickets none h n in
+    omega arith
+
+start_tickets : (tickets : ℕ → Ticket) → ((t : ℕ) → tickets t ≡ no_ticket) → AreTickets start tickets (λ l. 0)
+start_tickets tickets none = record {
+  draws = λ h. 0;
+  serves = λ h. 0;
+  number = λ a. 0;
+  next = λ h. refl;
+  serving = λ h. refl;
+  within = λ a h out. not_out a h out;
+  each = λ h n low high. absurd (omega arith);
+  once = λ a b h one two same. not_out a h one;
+  count = λ h. let n : out_below tickets h TASKS ≡ 0 = none_out tickets none h TASKS in
+      sym (ap (λ (k : ℕ). 0 + k) n);
+  shown = λ a. subst (λ (t : Ticket). ShowsNumber t 0) (sym (none a)) tt;
+  turn = λ a h out is. not_out a h out;
+  held = λ a h held. absurd (cc);
+}
+  where
+    not_out : {A : Type 0} (a h : ℕ) → is_of h (tickets a) ≡ true → A
+    not_out a h out = absurd (let z : false ≡ true = sym (ap (is_of h) (none a)) ∙ out in cc)
+
 past_end : (ws : List ℕ) (p : ℕ) → length ws ≤ p → slice_index ws p ≡ 0
 past_end [] p far = refl
 past_end (w ∷ ws) zero far = absurd (omega arith)
@@ -102,10 +164,14 @@ begins ws is = record {
   sole = alone;
   law = record {
     table = start;
-    shown = start_shown ws is.0
+    beside = λ l. 0;
+    shown = start_shows ws (start_shown ws is.0
         (λ k low high. is.1 k (omega arith) ∙ start_task k low high)
         (is.1 0 (omega arith))
-        (λ k far. by_size k far (dec_le (length ws) k));
+        (λ k far. by_size k far (dec_le (length ws) k)));
+    members = start_members (all_differences (seen_as ws (fresh 0 1 (TASKS - 1) ∷ [])).items);
+    tickets = start_tickets (all_tickets (seen_as ws (fresh 0 1 (TASKS - 1) ∷ [])).items)
+        (λ t. ap (λ (l : List Item). (book_of ((l ++ []) ++ [])).ticket) (nothing (eqb 0 t)));
     ruled = start_ruled (seen_as ws (fresh 0 1 (TASKS - 1) ∷ [])).items
         (λ t. ap (λ (l : List Item). (l ++ []) ++ []) (nothing (eqb 0 t)));
   };

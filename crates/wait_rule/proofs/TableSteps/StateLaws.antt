@@ -87,18 +87,24 @@ module _ (L : Scene → Type 0) where
       → L (moved s v.number p (f (slice_index s.words p)) (xs (slice_index s.words p)))
       × tells (slice_index s.words p)
 
+  -- the same, where the items follow from more than the word found
+  abbrev pub MovesSome : Journal → ℕ → (ℕ → ℕ) → (ℕ → List Item → Type 0) → Type 0
+  MovesSome v p f tells = (s : Scene) → L s → v.number < TASKS → s.items v.number ≡ v.items
+      → slice_index s.words p < 18446744073709551616
+      → (xs : List Item) × L (moved s v.number p (f (slice_index s.words p)) xs) × tells (slice_index s.words p) xs
+
   -- the generic lemma: such a move is what a step of the table asks
-  pub allows : (slots id : ℕ) (v : Journal) (c : List (ℕ × Ask)) (p : ℕ) (f : ℕ → ℕ) (xs : ℕ → List Item)
-      (tells : ℕ → Type 0) → v.lives ≡ true → Moves v p f xs tells
-      → Allows (Holds L) slots id (v, c) p f (λ n m. (m ≡ (pushed v (xs n), c)) × tells n)
-  allows slots id v c p f xs tells lives moves s r _ at small =
+  pub allows_some : (slots id : ℕ) (v : Journal) (c : List (ℕ × Ask)) (p : ℕ) (f : ℕ → ℕ)
+      (tells : ℕ → List Item → Type 0) → v.lives ≡ true → MovesSome v p f tells
+      → Allows (Holds L) slots id (v, c) p f (λ n m. (xs : List Item) × (m ≡ (pushed v xs, c)) × tells n xs)
+  allows_some slots id v c p f tells lives moves s r _ at small =
       let n : ℕ = slice_index s.words p in
       let most = at_most s.views r.sole in
       let m = moves (seen_as s.words s.views) r.law (own_small s.views id v at lives r.sole)
-      (list_own s.words s.views id p n v (xs n) at lives (most v.number)) small in
-      let now : L (seen_as (set s.words p (f n)) (set s.views id (pushed v (xs n)))) =
-      subst L (sym (seen_step s.words s.views id p (f n) v (xs n) at lives most)) m.0 in
-      (pushed v (xs n), keeps, tt, record { sole = λ t. same t (xs n); law = now }, (refl, m.1))
+      (list_own s.words s.views id p n v [] at lives (most v.number)) small in
+      let now : L (seen_as (set s.words p (f n)) (set s.views id (pushed v m.0))) =
+      subst L (sym (seen_step s.words s.views id p (f n) v m.0 at lives most)) m.1 in
+      (pushed v m.0, keeps, tt, record { sole = λ t. same t m.0; law = now }, (m.0, refl, m.2))
     where
       same : (t : ℕ) (ys : List Item) → sum_over (owns t) (set s.views id (pushed v ys)) ≡ flag (ltb t TASKS)
       same t ys =
@@ -106,6 +112,17 @@ module _ (L : Scene → Type 0) where
           total_set (owns t) s.views id v (pushed v ys) at in
           let o = r.sole t in
           omega arith
+
+  -- where they follow from the word alone
+  pub allows : (slots id : ℕ) (v : Journal) (c : List (ℕ × Ask)) (p : ℕ) (f : ℕ → ℕ) (xs : ℕ → List Item)
+      (tells : ℕ → Type 0) → v.lives ≡ true → Moves v p f xs tells
+      → Allows (Holds L) slots id (v, c) p f (λ n m. (m ≡ (pushed v (xs n), c)) × tells n)
+  allows slots id v c p f xs tells lives moves s r long at small =
+      let n : ℕ = slice_index s.words p in
+      let a = allows_some slots id v c p f (λ k ys. (ys ≡ xs k) × tells k) lives
+      (λ z law few own less. let m = moves z law few own less in
+      (xs (slice_index z.words p), m.0, (refl, m.1))) s r long at small in
+      (a.0, a.1, a.2, a.3, (a.4.1 ∙ ap (λ (ys : List Item). (pushed v ys, c)) a.4.2.0, a.4.2.1))
 
   -- a load that adds nothing, and by which a task learns of the lists that it has
   pub learns : (slots id : ℕ) (v : Journal) (c : List (ℕ × Ask)) (p : ℕ) (tells : Type 0) → v.lives ≡ true

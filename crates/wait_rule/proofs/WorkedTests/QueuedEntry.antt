@@ -19,6 +19,7 @@ use Rattle.wait_rule.specs.Says.{added, told_of, noted}
 use Rattle.wait_rule.specs.Queues.{index, place_by, MayFlag, MayQueue, MayMark, MayUnmark}
 use Rattle.wait_rule.specs.Looking.{ShowsNone}
 use Rattle.wait_rule.proofs.KnownLaws.AfterSteps.{told_added, noted_added}
+use Rattle.wait_rule.proofs.KnownLaws.MemberBits.{bit_told, bit_noted, bit_at}
 
 -- the only entry of a queue
 abbrev pub lone : Bool → Kind → Entry
@@ -87,12 +88,13 @@ may_queue_lone exclusive form lawful plain k s at few = record {
 pub may_queue : (k : Known) → ShowsNone k → k.at ≡ FIRST_PLAIN_HEAD → k.view.number < TASKS → MayQueue k 0 first
 may_queue = may_queue_lone false kind.Woken first_lawful refl
 
-module _ (k q : Known) (x : ℕ) (at : k.at ≡ FIRST_PLAIN_HEAD) (few : x < ENTRIES) (clear : (noted k).own ≡ None)
-    (is : q ≡ added k (item.Made (step.Queue x first))) where
+module _ (k p q : Known) (x : ℕ) (at : k.at ≡ FIRST_PLAIN_HEAD) (few : x < ENTRIES) (clear : (noted k).own ≡ None)
+    (is : p ≡ added k (item.Made (step.Queue x first))) (bit : q ≡ added p item.Member) where
   shows_first : (told_of q).hold.book x ≡ shown first
-  shows_first = ap (λ (z : Known). (told_of z).hold.book x) is
+  shows_first = ap (λ (v : Told). v.hold.book x) (bit_told p q bit)
+      ∙ (ap (λ (z : Known). (told_of z).hold.book x) is
       ∙ (ap (λ (v : Told). v.hold.book x) (told_added k (item.Made (step.Queue x first)))
-      ∙ put_same (told_of k).hold.book x (shown first))
+      ∙ put_same (told_of k).hold.book x (shown first)))
 
   pub may_flag : (who : ℕ) → index who 0 ≡ x → MayFlag q who 0
   may_flag who mine = record {
@@ -103,7 +105,7 @@ module _ (k q : Known) (x : ℕ) (at : k.at ≡ FIRST_PLAIN_HEAD) (few : x < ENT
 
   module _ (f : Known) (rung : f ≡ added q (item.Made (step.Woken x))) where
     at_f : f.at ≡ FIRST_PLAIN_HEAD
-    at_f = ap (λ (z : Known). z.at) rung ∙ (ap (λ (z : Known). z.at) is ∙ at)
+    at_f = ap (λ (z : Known). z.at) rung ∙ (bit_at p q bit ∙ (ap (λ (z : Known). z.at) is ∙ at))
 
     shows_rung : (told_of f).hold.book x ≡ shown first
     shows_rung = ap (λ (z : Known). (told_of z).hold.book x) rung
@@ -120,27 +122,32 @@ module _ (k q : Known) (x : ℕ) (at : k.at ≡ FIRST_PLAIN_HEAD) (few : x < ENT
       standing = record { head = omega arith; odd = omega arith; low = omega arith; high = omega arith };
       none = ap (λ (z : Known). (noted z).own) rung
           ∙ (ap (λ (n : Notes). n.own) (noted_added q (item.Made (step.Woken x)))
+          ∙ (ap (λ (n : Notes). n.own) (bit_noted p q bit)
           ∙ (ap (λ (z : Known). (noted z).own) is
-          ∙ (ap (λ (n : Notes). n.own) (noted_added k (item.Made (step.Queue x first))) ∙ clear)));
+          ∙ (ap (λ (n : Notes). n.own) (noted_added k (item.Made (step.Queue x first))) ∙ clear))));
       member = x;
       before = inl (few, stands_first);
     }
 
-    module _ (m : Known) (then_is : m ≡ added f (item.Made (step.Mark FIRST_PLAIN_HEAD (FIRST_PLACE - 1)))) where
+    module _ (l m : Known) (then_is : l ≡ added f (item.Made (step.Mark FIRST_PLAIN_HEAD (FIRST_PLACE - 1))))
+        (then_bit : m ≡ added l item.Member) where
       at_m : m.at ≡ FIRST_PLAIN_HEAD
-      at_m = ap (λ (z : Known). z.at) then_is ∙ at_f
+      at_m = bit_at l m then_bit ∙ (ap (λ (z : Known). z.at) then_is ∙ at_f)
 
       pub may_unmark : MayUnmark m
       may_unmark = record {
         mark = record { head = FIRST_PLAIN_HEAD; place = FIRST_PLACE - 1 };
-        own = ap (λ (z : Known). (noted z).own) then_is
-            ∙ ap (λ (n : Notes). n.own) (noted_added f (item.Made (step.Mark FIRST_PLAIN_HEAD (FIRST_PLACE - 1))));
+        own = ap (λ (n : Notes). n.own) (bit_noted l m then_bit) ∙ (ap (λ (z : Known). (noted z).own) then_is
+            ∙ ap (λ (n : Notes). n.own) (noted_added f (item.Made (step.Mark FIRST_PLAIN_HEAD (FIRST_PLACE - 1)))));
         head = sym at_m;
       }
 
-      pub still_first : (u : Known) → u ≡ added m (item.Made step.Unmark) → (told_of u).hold.book x ≡ shown first
-      still_first u last = ap (λ (z : Known). (told_of z).hold.book x) last
+      pub still_first : (t u : Known) → t ≡ added m (item.Made step.Unmark) → u ≡ added t item.Member
+          → (told_of u).hold.book x ≡ shown first
+      still_first t u last last_bit = ap (λ (v : Told). v.hold.book x) (bit_told t u last_bit)
+          ∙ (ap (λ (z : Known). (told_of z).hold.book x) last
           ∙ (ap (λ (v : Told). v.hold.book x) (told_added m (item.Made step.Unmark))
+          ∙ (ap (λ (v : Told). v.hold.book x) (bit_told l m then_bit)
           ∙ (ap (λ (z : Known). (told_of z).hold.book x) then_is
           ∙ (ap (λ (v : Told). v.hold.book x) (told_added f (item.Made (step.Mark FIRST_PLAIN_HEAD (FIRST_PLACE - 1))))
-          ∙ shows_rung)))
+          ∙ shows_rung)))))

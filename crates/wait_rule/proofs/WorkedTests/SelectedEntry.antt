@@ -33,6 +33,7 @@ use Rattle.wait_rule.specs.Says.{added, told_of, noted}
 use Rattle.wait_rule.specs.Queues.{index, MayQueue, MayRise}
 use Rattle.wait_rule.specs.Looking.{ShowsNone, IsSelectingHold, for_one}
 use Rattle.wait_rule.proofs.KnownLaws.AfterSteps.{told_added, noted_added}
+use Rattle.wait_rule.proofs.KnownLaws.MemberBits.{bit_told, bit_noted}
 use Rattle.wait_rule.proofs.WorkedTests.QueuedEntry.{lone, shown_lone, may_queue_lone}
 
 abbrev pub chosen : Entry
@@ -77,13 +78,14 @@ module _ (v : Told) (k : Notes) (who found : ℕ) (aim : k.walk ≡ Some for_one
   used_up me = ap (λ (o : Option Aim). (notes_after_wake o who NORMAL (met_task NORMAL found) v k).used) aim
       ∙ (ap (λ (o : Option ℕ). (after_call for_one o (met_task NORMAL found) v k).used) calls ∙ used_last)
 
-module _ (k q s w : Known) (few : k.view.number < TASKS) (none : ShowsNone k) (selecting : IsSelectingHold k)
-    (queued : q ≡ added k (item.Made (step.Queue (index k.view.number 0) chosen)))
+module _ (k p q s w : Known) (few : k.view.number < TASKS) (none : ShowsNone k) (selecting : IsSelectingHold k)
+    (queued : p ≡ added k (item.Made (step.Queue (index k.view.number 0) chosen))) (bit : q ≡ added p item.Member)
     (stored : s ≡ added q (item.Made (step.State 2))) (n found : ℕ) (me : n ≡ k.view.number)
     (woke : w ≡ added s (item.Made (step.Wake n 3 found))) where
-  book_is : (x : ℕ) → (told_of s).hold.book x ≡ (told_of q).hold.book x
+  book_is : (x : ℕ) → (told_of s).hold.book x ≡ (told_of p).hold.book x
   book_is x = ap (λ (z : Known). (told_of z).hold.book x) stored
-      ∙ ap (λ (v : Told). v.hold.book x) (told_added q (item.Made (step.State 2)))
+      ∙ (ap (λ (v : Told). v.hold.book x) (told_added q (item.Made (step.State 2)))
+      ∙ ap (λ (v : Told). v.hold.book x) (bit_told p q bit))
 
   shows_own : (told_of s).hold.book (SLOTS * n) ≡ shown chosen
   shows_own = book_is (SLOTS * n)
@@ -106,15 +108,17 @@ module _ (k q s w : Known) (few : k.view.number < TASKS) (none : ShowsNone k) (s
 
   noted_is : noted s ≡ noted k
   noted_is = ap noted stored ∙ (noted_added q (item.Made (step.State 2))
-      ∙ (ap noted queued ∙ noted_added k (item.Made (step.Queue (index k.view.number 0) chosen))))
+      ∙ (bit_noted p q bit ∙ (ap noted queued
+      ∙ noted_added k (item.Made (step.Queue (index k.view.number 0) chosen)))))
 
   walk_is : (told_of w).walk ≡ (told_of k).walk
   walk_is = ap (λ (z : Known). (told_of z).walk) woke
       ∙ (ap (λ (v : Told). v.walk) (told_added s (item.Made (step.Wake n 3 found)))
       ∙ (ap (λ (z : Known). (told_of z).walk) stored
       ∙ (ap (λ (v : Told). v.walk) (told_added q (item.Made (step.State 2)))
+      ∙ (ap (λ (v : Told). v.walk) (bit_told p q bit)
       ∙ (ap (λ (z : Known). (told_of z).walk) queued
-      ∙ ap (λ (v : Told). v.walk) (told_added k (item.Made (step.Queue (index k.view.number 0) chosen)))))))
+      ∙ ap (λ (v : Told). v.walk) (told_added k (item.Made (step.Queue (index k.view.number 0) chosen))))))))
 
   counts : (u : Walk) → (told_of w).walk ≡ Some u → counted u.watch ≡ true
   counts u is =

@@ -1,0 +1,358 @@
+-- What a step does to the members that heads know.
+use Rattle.std.proofs.Common.{refl, sym, ◌∙◌, ap, subst, arith, inl, inr}
+use Rattle.std.specs.Prelude.{
+  ℕ,
+  ◌≡◌,
+  ◌≢◌,
+  ◌+◌,
+  ◌-◌,
+  ◌<◌,
+  ◌⊎◌,
+  Bool,
+  true,
+  false,
+  ◌==◌,
+  nat_lt,
+  if◌then◌else◌,
+  Option,
+  Some,
+  None,
+  List,
+  ◌++◌,
+  ◌∷◌,
+  [],
+}
+use Rattle.std.proofs.lemmas.Bool.Decides.{eqb_tells, nat_tests}
+use mathlib.Core.Path.{fun_ext}
+use Rattle.wait_model.specs.declared.layout.TheConstants.{ENTRIES}
+use Rattle.wait_model.specs.declared.watches.Entry.{Entry}
+use Rattle.wait_model.specs.declared.queues.Mark.{Mark}
+use Rattle.wait_model.specs.declared.steps.Step.{Step}
+use Rattle.wait_model.specs.declared.steps.Step.TheVariants as step
+use Rattle.wait_model.specs.declared.tasks.Sleep.{Sleep}
+use Rattle.wait_model.specs.declared.tasks.Sleep.TheVariants as sleep
+use Rattle.wait_model.specs.Tasks.{task_of, sleep_of}
+use Rattle.wait_model.specs.Functions.{put}
+use Rattle.wait_model.specs.Watches.{head_of}
+use Rattle.wait_model.specs.Views.{View as Told, Hold}
+use Rattle.wait_model.specs.Fold.{after}
+use Rattle.wait_model.specs.Tables.{Table, next}
+use Rattle.wait_model.specs.Rows.{Allowed}
+use Rattle.wait_model.specs.Locations as place
+use Rattle.wait_model.proofs.Functions.{put_case, put_at, put_same, put_other}
+use Rattle.wait_model.proofs.StepLaws.UnlockSteps.{unlock_hold}
+use Rattle.wait_rule.specs.declared.journal.Item.{Item}
+use Rattle.wait_rule.specs.declared.journal.Item.TheVariants as item
+use Rattle.wait_rule.specs.Items.{
+  Difference,
+  nothing,
+  at_entry,
+  at_mark,
+  Book,
+  first_book,
+  learn_step,
+  after_sleep,
+  book_from,
+  book_of,
+}
+use Rattle.wait_rule.specs.Notes.{is_at}
+use Rattle.wait_rule.specs.Tickets.{served}
+use Rattle.wait_rule.specs.MemberWords.{is_for_head, names, index_named, is_put, all_differences, AreMembers}
+use Rattle.wait_rule.proofs.TableSteps.ItemLists.{book_append}
+
+-- What the calls' steps keep of members and tickets: a word is stored, and a lock given back, where no word differs
+-- from its bit; a bookmark that is put or taken out is of the head that the task holds; and a lock is taken by a ticket
+-- that was read as served.
+abbrev pub IsOrderly : Table → ℕ → Step → Book → Type 0
+IsOrderly s a (step.Lock h aim w) b = (n : ℕ) × (b.ticket ≡ served h n)
+IsOrderly s a (step.Unlock h sp) b = b.differs ≡ nothing
+IsOrderly s a (step.Queue x e) b = b.differs ≡ nothing
+IsOrderly s a (step.Unqueue x) b = (b.differs ≡ nothing) × (x < ENTRIES)
+IsOrderly s a (step.Mark h q) b = (b.differs ≡ nothing) × (s.mark a ≡ None)
+IsOrderly s a step.Unmark b = (b.differs ≡ nothing) × ((h : ℕ) × (q : ℕ) × ((s.view a).hold.head ≡ Some h)
+    × (s.mark a ≡ Some (record { head = h; place = q })))
+IsOrderly s a e b = Unit {0}
+
+-- lists with more items
+pub differences_next : (items : ℕ → List Item) (a : ℕ) (xs : List Item)
+    → all_differences (put items a (items a ++ xs))
+    ≡ put (all_differences items) a (book_from (book_of (items a)) xs).differs
+differences_next items a xs = fun_ext (λ t. by t (put_case items a (items a ++ xs) t))
+  where
+    D : ℕ → Difference
+    D = put (all_differences items) a (book_from (book_of (items a)) xs).differs
+
+    by : (t : ℕ) → ((t ≡ a) × (put items a (items a ++ xs) t ≡ items a ++ xs))
+        ⊎ ((t ≢ a) × (put items a (items a ++ xs) t ≡ items t))
+        → (book_of (put items a (items a ++ xs) t)).differs ≡ D t
+    by t (inl q) = ap (λ (ys : List Item). (book_of ys).differs) q.1
+        ∙ (ap (λ (b : Book). b.differs) (book_append first_book (items a) xs)
+        ∙ sym (ap D q.0 ∙ put_same (all_differences items) a (book_from (book_of (items a)) xs).differs))
+    by t (inr q) = ap (λ (ys : List Item). (book_of ys).differs) q.1
+        ∙ sym (put_other (all_differences items) a (book_from (book_of (items a)) xs).differs t q.0)
+
+pub put_again : {A : Type 0} (f : ℕ → A) (k : ℕ) (v : A) → v ≡ f k → put f k v ≡ f
+put_again f k v is = fun_ext (λ i. put_at (λ y. y ≡ f i) f k v i (λ e. is ∙ ap f (sym e)) (λ _. refl))
+
+-- items that store no word and no bit
+pub differences_same : (items : ℕ → List Item) (a : ℕ) (xs : List Item)
+    → (book_from (book_of (items a)) xs).differs ≡ (book_of (items a)).differs
+    → all_differences (put items a (items a ++ xs)) ≡ all_differences items
+differences_same items a xs same = differences_next items a xs
+    ∙ put_again (all_differences items) a (book_from (book_of (items a)) xs).differs same
+
+asleep_differs : (z : Sleep) (b : Book) → (after_sleep z b).differs ≡ b.differs
+asleep_differs sleep.Stay b = refl
+asleep_differs sleep.Signal b = refl
+asleep_differs sleep.Asleep b = refl
+
+none_is : {A : Type 0} (x : ℕ) → ◌≡◌ {A = Option ℕ} None (Some x) → A
+none_is x e = absurd (cc)
+
+pub nothing_named : (a : ℕ) (d : Difference) (x : ℕ) → d ≡ nothing → index_named a d ≢ Some x
+nothing_named a d x is e = none_is x (sym (ap (index_named a) is) ∙ e)
+
+-- the same words and heads
+quiet_members : (s t : Table) (differs : ℕ → Difference) (beside : place.Location → ℕ) → t.entry ≡ s.entry
+    → t.mark ≡ s.mark → ((a : ℕ) → (t.view a).hold.head ≡ (s.view a).hold.head)
+    → AreMembers s differs beside → AreMembers t differs beside
+quiet_members s t differs beside entry mark head r = record {
+  bits = r.bits;
+  spells = r.spells;
+  agrees = λ h x far. r.agrees h x (λ a held. far a (head a ∙ held)) ∙ sym (same h x);
+  named = λ a h x held is. same h x ∙ r.named a h x (sym (head a) ∙ held) is;
+}
+  where
+    same : (h x : ℕ) → names t h x ≡ names s h x
+    same h x = λ i. if nat_lt x ENTRIES then is_for_head h (entry i x) else is_at h (mark i (x - ENTRIES))
+
+-- Task a takes a lock or gives one back: it names nothing then, and named nothing before.
+module _ (s t : Table) (differs : ℕ → Difference) (beside : place.Location → ℕ) (a : ℕ) (entry : t.entry ≡ s.entry)
+    (mark : t.mark ≡ s.mark) (others : (b : ℕ) → b ≢ a → (t.view b).hold.head ≡ (s.view b).hold.head)
+    (was : (h x : ℕ) → (s.view a).hold.head ≡ Some h → index_named a (differs a) ≢ Some x) where
+  same_names : (h x : ℕ) → names t h x ≡ names s h x
+  same_names h x = λ i. if nat_lt x ENTRIES then is_for_head h (entry i x) else is_at h (mark i (x - ENTRIES))
+
+  lock_members : AreMembers s differs beside → AreMembers t (put differs a nothing) beside
+  lock_members r = record {
+    bits = r.bits;
+    spells = r.spells;
+    agrees = λ h x far. r.agrees h x (λ b held. by h x far b held (eqb_tells b a)) ∙ sym (same_names h x);
+    named = λ b h x held is. named_by b h x held is (eqb_tells b a);
+  }
+    where
+      by : (h x : ℕ) → ((b : ℕ) → (t.view b).hold.head ≡ Some h → index_named b (put differs a nothing b) ≢ Some x)
+          → (b : ℕ) → (s.view b).hold.head ≡ Some h
+          → (((b == a) ≡ true) × (b ≡ a)) ⊎ (((b == a) ≡ false) × (b ≢ a))
+          → index_named b (differs b) ≢ Some x
+      by h x far b held (inl q) = subst (λ (i : ℕ). index_named i (differs i) ≢ Some x) (sym q.1)
+          (was h x (subst (λ (i : ℕ). (s.view i).hold.head ≡ Some h) q.1 held))
+      by h x far b held (inr q) = subst (λ (d : Difference). index_named b d ≢ Some x)
+          (put_other differs a nothing b q.1) (far b (others b q.1 ∙ held))
+
+      named_by : (b h x : ℕ) → (t.view b).hold.head ≡ Some h → index_named b (put differs a nothing b) ≡ Some x
+          → (((b == a) ≡ true) × (b ≡ a)) ⊎ (((b == a) ≡ false) × (b ≢ a))
+          → names t h x ≡ is_put (put differs a nothing b)
+      named_by b h x held is (inl q) = absurd (nothing_named b (put differs a nothing b) x
+          (ap (put differs a nothing) q.1 ∙ put_same differs a nothing) is)
+      named_by b h x held is (inr q) = same_names h x ∙ (r.named b h x (sym (others b q.1) ∙ held)
+          (sym (ap (index_named b) (put_other differs a nothing b q.1)) ∙ is)
+          ∙ ap is_put (sym (put_other differs a nothing b q.1)))
+
+-- Task a stores the word of index i in a hold of head g, where it named nothing before; it names i then.
+module _ (s t : Table) (differs : ℕ → Difference) (beside : place.Location → ℕ) (a g i : ℕ) (d : Difference)
+    (held : (s.view a).hold.head ≡ Some g) (clear : differs a ≡ nothing) (index : index_named a d ≡ Some i)
+    (one : (x y h : ℕ) → (s.view x).hold.head ≡ Some h → (s.view y).hold.head ≡ Some h → x ≡ y)
+    (heads : (b : ℕ) → (t.view b).hold.head ≡ (s.view b).hold.head)
+    (there : names t g i ≡ is_put d)
+    (words : (h x : ℕ) → x ≢ i → names t h x ≡ names s h x)
+    (elsewhere : (h : ℕ) → h ≢ g → names t h i ≡ names s h i) where
+  some_same : (x y : ℕ) → ◌≡◌ {A = Option ℕ} (Some x) (Some y) → x ≡ y
+  some_same x y e = cc
+
+  store_members : AreMembers s differs beside → AreMembers t (put differs a d) beside
+  store_members r = record {
+    bits = r.bits;
+    spells = r.spells;
+    agrees = λ h x far. agrees_by h x far (eqb_tells h g);
+    named = λ b h x holds is. named_by b h x holds is (eqb_tells b a);
+  }
+    where
+      D : ℕ → Difference
+      D = put differs a d
+
+      other_heads : (h x : ℕ) → h ≢ g → names t h x ≡ names s h x
+      other_heads h x ne = elim (eqb_tells x i) [
+        | inl q ↦ subst (λ (j : ℕ). names t h j ≡ names s h j) (sym q.1) (elsewhere h ne)
+        | inr q ↦ words h x q.1
+      ]
+
+      -- nobody else named the index before
+      far_before : (h x : ℕ) → ((b : ℕ) → (t.view b).hold.head ≡ Some h → index_named b (D b) ≢ Some x)
+          → (b : ℕ) → (s.view b).hold.head ≡ Some h
+          → (((b == a) ≡ true) × (b ≡ a)) ⊎ (((b == a) ≡ false) × (b ≢ a)) → index_named b (differs b) ≢ Some x
+      far_before h x far b holds (inl q) = nothing_named b (differs b) x (ap differs q.1 ∙ clear)
+      far_before h x far b holds (inr q) = subst (λ (e : Difference). index_named b e ≢ Some x)
+          (put_other differs a d b q.1) (far b (heads b ∙ holds))
+
+      old : (h x : ℕ) → ((b : ℕ) → (t.view b).hold.head ≡ Some h → index_named b (D b) ≢ Some x)
+          → r.bits h x ≡ names s h x
+      old h x far = r.agrees h x (λ b holds. far_before h x far b holds (eqb_tells b a))
+
+      agrees_by : (h x : ℕ) → ((b : ℕ) → (t.view b).hold.head ≡ Some h → index_named b (D b) ≢ Some x)
+          → (((h == g) ≡ true) × (h ≡ g)) ⊎ (((h == g) ≡ false) × (h ≢ g)) → r.bits h x ≡ names t h x
+      agrees_by h x far (inl q) = old h x far ∙ sym (words h x (λ e. far a
+          (heads a ∙ (held ∙ ap (λ (j : ℕ). Some j) (sym q.1)))
+          (ap (index_named a) (put_same differs a d) ∙ (index ∙ ap (λ (j : ℕ). Some j) (sym e)))))
+      agrees_by h x far (inr q) = old h x far ∙ sym (other_heads h x q.1)
+
+      named_by : (b h x : ℕ) → (t.view b).hold.head ≡ Some h → index_named b (D b) ≡ Some x
+          → (((b == a) ≡ true) × (b ≡ a)) ⊎ (((b == a) ≡ false) × (b ≢ a)) → names t h x ≡ is_put (D b)
+      named_by b h x holds is (inl q) =
+          let now : D b ≡ d = ap D q.1 ∙ put_same differs a d in
+          let head : h ≡ g = some_same h g (sym holds ∙ (heads b ∙ (ap (λ (j : ℕ). (s.view j).hold.head) q.1
+          ∙ held))) in
+          let at : x ≡ i = some_same x i (sym is ∙ ((λ j. index_named (q.1 j) (now j)) ∙ index)) in
+          (λ j. names t (head j) (at j)) ∙ (there ∙ ap is_put (sym now))
+      named_by b h x holds is (inr q) =
+          let now : D b ≡ differs b = put_other differs a d b q.1 in
+          other_heads h x (λ e. q.1 (one b a g (sym (heads b) ∙ (holds ∙ ap (λ (j : ℕ). Some j) e)) held))
+          ∙ (r.named b h x (sym (heads b) ∙ holds) (sym (ap (index_named b) now) ∙ is) ∙ ap is_put (sym now))
+
+-- which words a store of an entry's or a bookmark's word changes
+entry_test : (x : ℕ) → x < ENTRIES → nat_lt x ENTRIES ≡ true
+entry_test x small = grind (arith, nat_tests)
+
+mark_test : (t : ℕ) → nat_lt (ENTRIES + t) ENTRIES ≡ false
+mark_test t = let far : (ENTRIES + t < ENTRIES) → ⊥ = λ h. omega arith in grind (arith, nat_tests)
+
+mark_back : (t : ℕ) → ENTRIES + t - ENTRIES ≡ t
+mark_back t = omega arith
+
+pub entry_names : (s : Table) (h x : ℕ) → x < ENTRIES → names s h x ≡ is_for_head h (s.entry x)
+entry_names s h x small = ap (λ (b : Bool). if b then is_for_head h (s.entry x) else is_at h (s.mark (x - ENTRIES)))
+    (entry_test x small)
+
+pub mark_names : (s : Table) (h t : ℕ) → names s h (ENTRIES + t) ≡ is_at h (s.mark t)
+mark_names s h t = ap (λ (b : Bool). if b then is_for_head h (s.entry (ENTRIES + t))
+    else is_at h (s.mark (ENTRIES + t - ENTRIES))) (mark_test t) ∙ ap (λ (u : ℕ). is_at h (s.mark u)) (mark_back t)
+
+other_entry : (s : Table) (x : ℕ) (o : Option Entry) (z : Table) → z.entry ≡ put s.entry x o → z.mark ≡ s.mark
+    → (h y : ℕ) → y ≢ x → names z h y ≡ names s h y
+other_entry s x o z entry mark h y ne = λ i. if nat_lt y ENTRIES
+    then is_for_head h ((ap (λ (f : ℕ → Option Entry). f y) entry ∙ put_other s.entry x o y ne) i)
+    else is_at h (mark i (y - ENTRIES))
+
+other_mark : (s : Table) (t : ℕ) (o : Option Mark) (z : Table) → z.mark ≡ put s.mark t o → z.entry ≡ s.entry
+    → (h y : ℕ) → y ≢ ENTRIES + t → names z h y ≡ names s h y
+other_mark s t o z mark entry h y ne = by (nat_lt y ENTRIES) refl
+  where
+    by : (b : Bool) → nat_lt y ENTRIES ≡ b → (if b then is_for_head h (z.entry y) else is_at h (z.mark (y - ENTRIES)))
+        ≡ (if b then is_for_head h (s.entry y) else is_at h (s.mark (y - ENTRIES)))
+    by true q = ap (λ (f : ℕ → Option Entry). is_for_head h (f y)) entry
+    by false q =
+        let from : (y < ENTRIES) → ⊥ = grind (arith, nat_tests) in
+        let far : y - ENTRIES ≢ t = (λ e. ne (omega arith)) in
+        ap (is_at h) (ap (λ (f : ℕ → Option Mark). f (y - ENTRIES)) mark ∙ put_other s.mark t o (y - ENTRIES) far)
+
+same_test : (h : ℕ) → (h == h) ≡ true
+same_test h = grind (arith, nat_tests)
+
+other_test : (g h : ℕ) → h ≢ g → (g == h) ≡ false
+other_test g h ne = grind (arith, nat_tests)
+
+-- a step that changes no entry, bookmark or lock
+still_step : (s : Table) (a : ℕ) (e : Step) (b : Book) (differs : ℕ → Difference) (beside : place.Location → ℕ)
+    → (next s a e).entry ≡ s.entry → (next s a e).mark ≡ s.mark
+    → (after e (s.view a)).hold.head ≡ (s.view a).hold.head → (learn_step e b).differs ≡ b.differs
+    → differs a ≡ b.differs → AreMembers s differs beside
+    → AreMembers (next s a e) (put differs a (learn_step e b).differs) beside
+still_step s a e b differs beside entry mark head kept same r =
+    subst (λ (f : ℕ → Difference). AreMembers (next s a e) f beside)
+    (sym (put_again differs a (learn_step e b).differs (kept ∙ sym same)))
+    (quiet_members s (next s a e) differs beside entry mark
+    (λ d. put_at (λ (v : Told). v.hold.head ≡ (s.view d).hold.head) s.view a (after e (s.view a)) d
+    (λ q. head ∙ ap (λ (i : ℕ). (s.view i).hold.head) (sym q)) (λ _. refl)) r)
+
+module _ (s : Table) (a : ℕ) (b : Book) (differs : ℕ → Difference) (beside : place.Location → ℕ)
+    (one : (x y h : ℕ) → (s.view x).hold.head ≡ Some h → (s.view y).hold.head ≡ Some h → x ≡ y)
+    (same : differs a ≡ b.differs) where
+  same_heads : (e : Step) → (after e (s.view a)).hold.head ≡ (s.view a).hold.head → (d : ℕ)
+      → ((next s a e).view d).hold.head ≡ (s.view d).hold.head
+  same_heads e head d = put_at (λ (v : Told). v.hold.head ≡ (s.view d).hold.head) s.view a (after e (s.view a)) d
+      (λ q. head ∙ ap (λ (i : ℕ). (s.view i).hold.head) (sym q)) (λ _. refl)
+
+  queue_members : (x : ℕ) (e : Entry) → Allowed s a (step.Queue x e) → b.differs ≡ nothing
+      → AreMembers s differs beside
+      → AreMembers (next s a (step.Queue x e)) (put differs a (at_entry x true)) beside
+  queue_members x e may clear = store_members s z differs beside a g x (at_entry x true) may.3 (same ∙ clear) refl one
+      (same_heads (step.Queue x e) refl)
+      (entry_names z g x may.1 ∙ (ap (is_for_head g) (put_same s.entry x (Some e)) ∙ same_test g))
+      (other_entry s x (Some e) z refl refl)
+      (λ h ne. entry_names z h x may.1 ∙ (ap (is_for_head h) (put_same s.entry x (Some e)) ∙ (other_test g h ne
+      ∙ (ap (is_for_head h) (sym may.2) ∙ sym (entry_names s h x may.1)))))
+    where
+      z : Table
+      z = next s a (step.Queue x e)
+
+      g : ℕ
+      g = head_of e.watch
+
+  unqueue_members : (x : ℕ) → Allowed s a (step.Unqueue x) → (b.differs ≡ nothing) × (x < ENTRIES)
+      → AreMembers s differs beside → AreMembers (next s a (step.Unqueue x)) (put differs a (at_entry x false)) beside
+  unqueue_members x may clear = store_members s z differs beside a g x (at_entry x false) may.2 (same ∙ clear.0) refl
+      one (same_heads (step.Unqueue x) refl)
+      (entry_names z g x clear.1 ∙ ap (is_for_head g) (put_same s.entry x None))
+      (other_entry s x None z refl refl)
+      (λ h ne. entry_names z h x clear.1 ∙ (ap (is_for_head h) (put_same s.entry x None) ∙ (sym (other_test g h ne)
+      ∙ (ap (is_for_head h) (sym may.1) ∙ sym (entry_names s h x clear.1)))))
+    where
+      z : Table
+      z = next s a (step.Unqueue x)
+
+      g : ℕ
+      g = head_of may.0.watch
+
+  mark_members : (g q : ℕ) → Allowed s a (step.Mark g q) → (b.differs ≡ nothing) × (s.mark a ≡ None)
+      → AreMembers s differs beside → AreMembers (next s a (step.Mark g q)) (put differs a (at_mark true)) beside
+  mark_members g q may clear = store_members s z differs beside a g (ENTRIES + a) (at_mark true) may (same ∙ clear.0)
+      refl one (same_heads (step.Mark g q) refl)
+      (mark_names z g a ∙ (ap (is_at g) (put_same s.mark a (Some (record { head = g; place = q }))) ∙ same_test g))
+      (other_mark s a (Some (record { head = g; place = q })) z refl refl)
+      (λ h ne. mark_names z h a ∙ (ap (is_at h) (put_same s.mark a (Some (record { head = g; place = q })))
+      ∙ (other_test g h ne ∙ (ap (is_at h) (sym clear.1) ∙ sym (mark_names s h a)))))
+    where
+      z : Table
+      z = next s a (step.Mark g q)
+
+  unmark_members : IsOrderly s a step.Unmark b → AreMembers s differs beside
+      → AreMembers (next s a step.Unmark) (put differs a (at_mark false)) beside
+  unmark_members clear = store_members s z differs beside a g (ENTRIES + a) (at_mark false) clear.1.2
+      (same ∙ clear.0) refl one (same_heads step.Unmark refl)
+      (mark_names z g a ∙ ap (is_at g) (put_same s.mark a None))
+      (other_mark s a None z refl refl)
+      (λ h ne. mark_names z h a ∙ (ap (is_at h) (put_same s.mark a None)
+      ∙ (sym (other_test g h ne) ∙ (ap (is_at h) (sym clear.1.3) ∙ sym (mark_names s h a)))))
+    where
+      z : Table
+      z = next s a step.Unmark
+
+      g : ℕ
+      g = clear.1.0
+
+  pub members_next : (e : Step) → Allowed s a e → IsOrderly s a e b → AreMembers s differs beside
+      → AreMembers (next s a e) (put differs a (learn_step e b).differs) beside
+  members_next (step.Queue x e) may clear r = queue_members x e may clear r
+  members_next (step.Unqueue x) may clear r = unqueue_members x may clear r
+  members_next (step.Mark h q) may clear r = mark_members h q may clear r
+  members_next step.Unmark may clear r = unmark_members clear r
+  members_next (step.Lock g aim w) may clear r = lock_members s
+      (next s a (step.Lock g aim w)) differs beside a refl refl
+      (λ d ne. ap (λ (v : Told). v.hold.head) (put_other s.view a (after (step.Lock g aim w) (s.view a)) d ne))
+      (λ h x held. absurd (none_is h (sym may.1 ∙ held))) r
+  members_next (step.Unlock g sp) may clear r = lock_members s (next s a (step.Unlock g sp)) differs beside a refl refl
+      (λ d ne. ap (λ (v : Told). v.hold.head) (put_other s.view a (after (step.Unlock g sp) (s.view a)) d ne))
+      (λ h x held. nothing_named a (differs a) x (same ∙ clear)) r
+  members_next (step.Sleep w) may clear r = still_step s a (step.Sleep w) b differs beside refl refl refl
+      (asleep_differs (sleep_of (task_of w)) b) same r
+  members_next e may clear r = still_step s a e b differs beside refl refl refl refl same r

@@ -1,0 +1,12 @@
+use Rattle.std.proofs.Common.{◌∙◌, true, false, refl, ap, sym, arith}
+use Rattle.std.specs.Prelude.{ℕ, Some}
+use Rattle.wait_rule.specs.Known.{Known}
+use Rattle.wait_rule.proofs.KnownLaws.MemberBits.{may_store, mark_head, mark_index, mark_put}
+use Rattle.wait_rule.proofs.members.queue_member.Goals as goal
+
+pub member_store-requires-clause-may : goal.member_store-requires-clause-may
+member_store-requires-clause-may c =
+    let n = c.number.ensures in
+    may_store c.args.task.now c.queue_store.new.task c.task.inside.head _ true _ c.queue_store.ensures.2
+    (c.requires.held ∙ ap (λ (k : Known). Some k.at) (sym c.task.view_is))
+    (ap (λ (x : ℕ). Some x) (omega (arith, n.number, c.from.ensures, c.from-2.ensures))) refl

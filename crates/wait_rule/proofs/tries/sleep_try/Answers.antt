@@ -1,0 +1,21 @@
+use Rattle.std.proofs.Common.{◌∙◌, refl, ap}
+use Rattle.wait_model.specs.declared.steps.Step.TheVariants as step
+use Rattle.wait_rule.specs.declared.journal.Item.TheVariants as item
+use Rattle.wait_rule.specs.Known.{Known}
+use Rattle.wait_rule.specs.Says.{added}
+use Rattle.wait_rule.proofs.KnownLaws.SettledTasks.{settled_after, owes_after}
+use Rattle.wait_rule.proofs.tries.sleep_try.Goals as goal
+
+pub returns-then-try_sleep-clause-settled : goal.returns-then-try_sleep-clause-settled
+returns-then-try_sleep-clause-settled c =
+    settled_after c.args.task.now _ (step.Sleep c.load_word-found.result) refl
+    (c.if-try_sleep.ensures
+    ∙ ap (λ (k : Known). added k (item.Made (step.Sleep c.load_word-found.result)))
+    (c.load_word-found.ensures.same))
+
+pub returns-then-try_sleep-clause-owing : goal.returns-then-try_sleep-clause-owing
+returns-then-try_sleep-clause-owing c =
+    owes_after c.args.task.now _ (step.Sleep c.load_word-found.result) refl
+    (c.if-try_sleep.ensures
+    ∙ ap (λ (k : Known). added k (item.Made (step.Sleep c.load_word-found.result)))
+    (c.load_word-found.ensures.same))

@@ -1,0 +1,66 @@
+//! The steps on tickets: the holds of a head come in the order in which their tickets were drawn. No step here is one
+//! of a history.
+
+ghost use Rattle.std.specs.Prelude.{◌≡◌, ◌<◌};
+ghost use Rattle.wait_model.specs.declared.layout.TheConstants.{HEADS};
+ghost use Rattle.wait_rule.specs.declared.journal.Item.TheVariants as item;
+ghost use Rattle.wait_rule.specs.Says.{IsFree, added};
+ghost use Rattle.wait_rule.specs.Queues.{HasGiven};
+
+use crate::domain::{Domain, Task};
+use crate::queue_plays::{Draw, LoadServing, Serve};
+use std::sync::Wait;
+use wait_model::positions::{next_at, serving_at};
+
+/// Draws a ticket of head `head`, below `HEADS`: its number, modulo 2^64. The task has it out from then on.
+pub fn draw(domain: &Domain, task: &mut Task, head: u16) -> u64
+    requires of { task.old.domain ≡ domain.now }
+    requires free { IsFree task.old }
+    requires head { head < HEADS }
+    ensures { task.new ≡ added task.old (item.Drawn head result) }
+{
+    let at = next_at(head) as usize;
+    domain.table.shared.fetch_add::<Draw>(&mut task.seat, at, 1)
+}
+
+/// The number of head `head`, below `HEADS`, that is served, modulo 2^64. Where it is the one that the task drew of
+/// this head, the task knows from then on that its ticket is served.
+pub fn serving_load(domain: &Domain, task: &mut Task, head: u16) -> u64
+    requires of { task.old.domain ≡ domain.now }
+    requires head { head < HEADS }
+    ensures { task.new ≡ added task.old (item.Serving head result) }
+{
+    let at = serving_at(head) as usize;
+    domain.table.shared.load::<LoadServing>(&mut task.seat, at)
+}
+
+/// Serves the next ticket of the head whose lock the task has given back. It has no ticket out from then on. Where
+/// another one is out, all threads are woken that park until another number of this head is served: one of them alone
+/// might not be the one whose ticket is served now.
+pub fn serve(domain: &Domain, task: &mut Task)
+    requires of { task.old.domain ≡ domain.now }
+    requires given { HasGiven task.old }
+    ensures { task.new ≡ added task.old item.Served }
+{
+    let at = serving_at(task.head) as usize;
+    let found = domain
+        .table
+        .shared
+        .fetch_add::<Serve>(&mut task.seat, at, 1);
+    let drawn = domain.table.shared.peek(next_at(task.head) as usize);
+    if drawn != found.wrapping_add(1) {
+        domain.table.shared.wake_all(at);
+    }
+}
+
+/// Parks the thread while head `head`, below `HEADS`, serves the number `found`. It may return for no reason. At most
+/// `TASKS` tickets are out, so two numbers that a waiting task finds there differ in their lower 32 bits.
+pub fn park_until_next<R: Wait>(rt: &R, domain: &Domain, head: u16, found: u64)
+    requires { head < HEADS }
+{
+    let at = serving_at(head) as usize;
+    domain
+        .table
+        .shared
+        .park(rt, at, (found & 0xffff_ffff) as u32);
+}

@@ -57,6 +57,8 @@ use Rattle.wq_head.specs.Holds.{IsHolding}
 use Rattle.wq_head.specs.Looks.{Looks, AreSeen, IsBetween, IsFirst, IsLast, place_of}
 use Rattle.wq_head.specs.Adds.{IsFor, HasAdded, HasQueued, HasRemoved, front_entry}
 use Rattle.wq_head.proofs.OneMoreLook.{saw_told, saw_looks, whole_of, looks_on, holding_on}
+use Rattle.wait_rule.specs.Says.{stored_with}
+use Rattle.wait_rule.proofs.KnownLaws.MemberBits.{told_stored}
 
 -- a member's place, in both words
 stand_of : (k : Known) (count low high p : ℕ) → (h : StandsIn k count low high p)
@@ -287,12 +289,12 @@ tail_worn k o l r w is same gives none at = worn_at (IsHighest k MEMBERS MIDDLE 
 other_is : (x y : ℕ) → (y == x) ≡ false → y ≡ x → ⊥
 other_is x y out same = let here = eq-eqb y x same in absurd (cc)
 
-module _ (seen new : Known) (x : ℕ) (e : Entry) (is : new ≡ added seen (item.Made (step.Queue x e))) where
+module _ (seen new : Known) (x : ℕ) (e : Entry) (is : new ≡ stored_with seen (step.Queue x e)) where
   queue_told : told_of new ≡ after (step.Queue x e) (told_of seen)
-  queue_told = ap told_of is ∙ told_added seen (item.Made (step.Queue x e))
+  queue_told = ap told_of is ∙ told_stored seen (step.Queue x e)
 
-  pub queue_stored : (told_of new).bits.stored x ≡ Some e
-  queue_stored = ap (λ (v : Told). v.bits.stored x) queue_told ∙ put_same (told_of seen).bits.stored x (Some e)
+  pub queue_memberd : (told_of new).bits.stored x ≡ Some e
+  queue_memberd = ap (λ (v : Told). v.bits.stored x) queue_told ∙ put_same (told_of seen).bits.stored x (Some e)
 
   queue_other : (y : ℕ) → (y == x) ≡ false → (told_of new).bits.stored y ≡ (told_of seen).bits.stored y
   queue_other y out = ap (λ (v : Told). v.bits.stored y) queue_told
@@ -337,6 +339,7 @@ module _ (seen new : Known) (x : ℕ) (e : Entry) (is : new ≡ added seen (item
     awake = ap (λ (k : Known). k.book.awake) is ∙ l.awake;
     state = ap (λ (k : Known). k.book.state) is ∙ l.state;
     head = ap (λ (k : Known). k.book.head) is ∙ l.head;
+    ticket = ap (λ (k : Known). k.book.ticket) is ∙ l.ticket;
     hold = ap (λ (v : Told). v.hold.head) queue_told ∙ l.hold;
     at = ap (λ (k : Known). k.at) is ∙ l.at;
     mark = ap (λ (v : Told). v.mark) queue_told ∙ l.mark;
@@ -349,9 +352,9 @@ module _ (seen new : Known) (x : ℕ) (e : Entry) (is : new ≡ added seen (item
     settled = owes_clean new;
   }
 
-module _ (old new : Known) (who slot : ℕ) (is : new ≡ added old (item.Made (step.Unqueue (index who slot)))) where
+module _ (old new : Known) (who slot : ℕ) (is : new ≡ stored_with old (step.Unqueue (index who slot))) where
   remove_told : told_of new ≡ after (step.Unqueue (index who slot)) (told_of old)
-  remove_told = ap told_of is ∙ told_added old (item.Made (step.Unqueue (index who slot)))
+  remove_told = ap told_of is ∙ told_stored old (step.Unqueue (index who slot))
 
   remove_out : (told_of new).bits.stored (index who slot) ≡ None
   remove_out = ap (λ (v : Told). v.bits.stored (index who slot)) remove_told
@@ -395,6 +398,7 @@ module _ (old new : Known) (who slot : ℕ) (is : new ≡ added old (item.Made (
     awake = ap (λ (k : Known). k.book.awake) is;
     state = ap (λ (k : Known). k.book.state) is;
     head = ap (λ (k : Known). k.book.head) is;
+    ticket = ap (λ (k : Known). k.book.ticket) is;
     hold = ap (λ (v : Told). v.hold.head) remove_told;
     at = ap (λ (k : Known). k.at) is;
     mark = ap (λ (v : Told). v.mark) remove_told;
@@ -437,8 +441,8 @@ module _ (IsPlace : Known → ℕ → Type 0) (old mid new : Known) (slot p : �
   add_looks : Looks old q.seen
   add_looks = looks_on old mid q.seen first q.looks
 
-  add_is : new ≡ added q.seen (item.Made (step.Queue x (front_entry w k p)))
-  add_is = q.is ∙ (λ i. added q.seen (item.Made (step.Queue (index ((first.is i).view.number) slot) (is i))))
+  add_is : new ≡ stored_with q.seen (step.Queue x (front_entry w k p))
+  add_is = q.is ∙ (λ i. stored_with q.seen (step.Queue (index ((first.is i).view.number) slot) (is i)))
 
   pub added_at : IsPlace q.seen e.place → HasAdded IsPlace old new slot w k
   added_at place = record {
@@ -448,18 +452,19 @@ module _ (IsPlace : Known → ℕ → Type 0) (old mid new : Known) (slot p : �
     whole = q.whole;
     sort = subst (IsPlace q.seen) (ap (λ (f : Entry). f.place) is) place;
     is = add_is;
-    queued = queue_stored q.seen new x (front_entry w k p) add_is;
+    queued = queue_memberd q.seen new x (front_entry w k p) add_is;
     stays = stays_on (only x) old q.seen new (stays_but (only x) old q.seen add_looks.stays)
         (queue_stays q.seen new x (front_entry w k p) add_is refl);
     settled = λ f none o. queue_owes q.seen new x (front_entry w k p) add_is f (add_looks.settled none f o);
     carries = queue_carried q.seen new x (front_entry w k p) add_is old refl (looks_carried old q.seen add_looks);
   }
 
-queued_holds : (seen new : Known) (x : ℕ) (e : Entry) → IsHolding seen → new ≡ added seen (item.Made (step.Queue x e))
+queued_holds : (seen new : Known) (x : ℕ) (e : Entry) → IsHolding seen → new ≡ stored_with seen (step.Queue x e)
     → IsHolding new
 queued_holds seen new x e held now = subst IsHolding (sym now) (record {
   locked = held.locked;
-  told = ap (λ (u : Told). u.hold.head) (told_added seen (item.Made (step.Queue x e))) ∙ held.told;
+  agreed = refl;
+  told = ap (λ (u : Told). u.hold.head) (told_stored seen (step.Queue x e)) ∙ held.told;
 })
 
 pub added_holds : (old mid new : Known) (slot : ℕ) (e : Entry) → Looks old mid → HasQueued mid new slot e
@@ -469,8 +474,9 @@ added_holds old mid new slot e first q held = queued_holds q.seen new _ e
     (holding_on old q.seen (looks_on old mid q.seen first q.looks) held) q.is
 
 pub removed_holding : (old new : Known) (x : ℕ) → IsHolding old
-    → new ≡ added old (item.Made (step.Unqueue x)) → IsHolding new
+    → new ≡ stored_with old (step.Unqueue x) → IsHolding new
 removed_holding old new x held now = subst IsHolding (sym now) (record {
   locked = held.locked;
-  told = ap (λ (u : Told). u.hold.head) (told_added old (item.Made (step.Unqueue x))) ∙ held.told;
+  agreed = refl;
+  told = ap (λ (u : Told). u.hold.head) (told_stored old (step.Unqueue x)) ∙ held.told;
 })

@@ -14,7 +14,8 @@ use Rattle.wait_model.specs.Fold.{after, after_unlock}
 use Rattle.wait_model.proofs.StepLaws.UnlockSteps.{unlock_bits, unlock_hold}
 use Rattle.wait_rule.specs.declared.journal.Item.TheVariants as item
 use Rattle.wait_rule.specs.Known.{Known}
-use Rattle.wait_rule.specs.Says.{Excuse, OwesBut, IsUp, added, told_of}
+use Rattle.wait_rule.specs.Tickets.{no_ticket, taken}
+use Rattle.wait_rule.specs.Says.{Excuse, OwesBut, IsUp, told_of, unlocked_with}
 use Rattle.wait_rule.specs.Queues.{IsIdle, index}
 use Rattle.wait_rule.specs.Stays.{
   TriesNone,
@@ -32,7 +33,7 @@ use Rattle.wait_rule.specs.Stays.{
   take_off_change,
   wake_all_change,
 }
-use Rattle.wait_rule.proofs.KnownLaws.AfterSteps.{told_added}
+use Rattle.wait_rule.proofs.KnownLaws.Turns.{told_unlocked}
 use Rattle.wait_rule.proofs.KnownLaws.CarriedTasks.{clean_owes, owes_clean, owes_more, stays_carried}
 use Rattle.wq_head.specs.Holds.{HasLocked, IsHolding}
 use Rattle.wq_head.specs.Looks.{Looks}
@@ -45,9 +46,10 @@ still_out now was (inr out) none = out
 
 pub lock_carried : (old new : Known) (head : ℕ) (walk : Option Aim) → HasLocked old new head walk → Carries
     (lock_change head) old new
-lock_carried old new head walk l = stays_carried (λ _. Some head) (λ _. head) false old new
+lock_carried old new head walk l = stays_carried (λ _. Some head) (λ _. taken head) (λ _. head) false old new
     (locked_stays old new head walk l)
-    (ap (λ (k : Known). k.book.head) l.is) (ap (λ (v : Told). v.hold.head) (locked_told old new head walk l))
+    (ap (λ (k : Known). k.book.head) l.is) (ap (λ (k : Known). k.book.ticket) l.is)
+    (ap (λ (v : Told). v.hold.head) (locked_told old new head walk l))
     (ap (λ (k : Known). k.at) l.is) (ap (λ (v : Told). v.mark) (locked_told old new head walk l))
     (λ c σ none. ap (λ (v : Told). v.duty.owes c σ) (locked_told old new head walk l) ∙ none)
     (λ x _. ap (λ (v : Told). v.bits.stored x) (locked_told old new head walk l))
@@ -72,21 +74,22 @@ unlock_fewer v (Some w) spent c σ none = either (spent || all_passed v w (λ _.
     either true x y one two = one
     either false x y one two = two
 
-unlock_told : (old new : Known) (spent : Bool) → new ≡ added old (item.Made (step.Unlock old.at spent))
+unlock_told : (old new : Known) (spent : Bool) → new ≡ unlocked_with old old.at spent
     → told_of new ≡ after_unlock (told_of old) (told_of old).walk spent
-unlock_told old new spent is = ap told_of is ∙ told_added old (item.Made (step.Unlock old.at spent))
+unlock_told old new spent is = ap told_of is ∙ told_unlocked old old.at spent
 
-pub unlock_free : (old new : Known) (spent : Bool) → new ≡ added old (item.Made (step.Unlock old.at spent))
+pub unlock_free : (old new : Known) (spent : Bool) → new ≡ unlocked_with old old.at spent
     → (told_of new).hold.head ≡ None
 unlock_free old new spent is = ap (λ (v : Told). v.hold.head) (unlock_told old new spent is)
     ∙ ap (λ (h : Hold). h.head) (unlock_hold (told_of old) (told_of old).walk spent)
 
-pub unlock_carried : (old new : Known) (spent : Bool) → new ≡ added old (item.Made (step.Unlock old.at spent))
+pub unlock_carried : (old new : Known) (spent : Bool) → new ≡ unlocked_with old old.at spent
     → Carries unlock_change old new
 unlock_carried old new spent is =
     let told = unlock_told old new spent is in
-    stays_carried (λ _. None) (λ h. h) false old new (unlocked_stays old new spent is)
-    (ap (λ (k : Known). k.book.head) is) (unlock_free old new spent is) (ap (λ (k : Known). k.at) is)
+    stays_carried (λ _. None) (λ _. no_ticket) (λ h. h) false old new (unlocked_stays old new spent is)
+    (ap (λ (k : Known). k.book.head) is) (ap (λ (k : Known). k.book.ticket) is) (unlock_free old new spent is)
+    (ap (λ (k : Known). k.at) is)
     (ap (λ (v : Told). v.mark) told ∙ unlock_same (told_of old) (told_of old).walk spent)
     (λ c σ none. ap (λ (v : Told). v.duty.owes c σ) told ∙ unlock_fewer (told_of old) (told_of old).walk spent c σ none)
     (λ x _. ap (λ (v : Told). v.bits.stored x) told ∙ ap (λ (b : Bits). b.stored x)
@@ -94,7 +97,8 @@ unlock_carried old new spent is =
 
 -- looks in a hold
 pub looks_carried : (old new : Known) → Looks old new → Carries only_looks old new
-looks_carried old new l = stays_carried (λ h. h) (λ h. h) true old new l.stays (ap (λ (k : Known). k.book.head) l.is)
+looks_carried old new l = stays_carried (λ h. h) (λ t. t) (λ h. h) true old new l.stays
+    (ap (λ (k : Known). k.book.head) l.is) (ap (λ (k : Known). k.book.ticket) l.is)
     (ap (λ (v : Told). v.hold.head) l.from.told) (ap (λ (k : Known). k.at) l.is) (ap (λ (v : Told). v.mark) l.from.told)
     (λ c σ none. ap (λ (v : Told). v.duty.owes c σ) l.from.told ∙ none) (λ x none. absurd (cc))
 
@@ -128,7 +132,8 @@ wake_carried a old new e before behind hold = record {
   number = e.stays.number;
   awake = e.stays.awake;
   state = e.stays.state;
-  head = behind.free;
+  head = behind.free.head;
+  ticket = behind.free.ticket;
   hold = hold;
   at = refl;
   mark = behind.unmarked ∙ sym before.unmarked;

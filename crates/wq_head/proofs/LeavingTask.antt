@@ -38,6 +38,9 @@ use Rattle.wait_rule.specs.Says.{
 use Rattle.wait_rule.specs.Queues.{IsIdle, IsTailPlace, KnewEntry, MayUnqueue, index, saw}
 use Rattle.wait_rule.specs.Stays.{TriesNone, Stays, StaysOwing, also, no_entries}
 use Rattle.wait_rule.proofs.KnownLaws.AfterSteps.{told_added}
+use Rattle.wait_rule.proofs.KnownLaws.Turns.{told_unlocked}
+use Rattle.wait_rule.specs.declared.journal.Item.{Item}
+use Rattle.wait_rule.specs.Items.{learn}
 use Rattle.wait_rule.proofs.KnownLaws.TaskHistories.{history_slept}
 use Rattle.wait_rule.proofs.KnownLaws.SettledTasks.{stays_settled, owes_after}
 use Rattle.wait_rule.proofs.KnownLaws.StayingParts.{look_out, none_tried, owes_out}
@@ -50,6 +53,7 @@ use Rattle.wq_head.proofs.OwnBookmark.{own_marked, place_marked}
 use Rattle.wq_head.proofs.ReadyTasks.{first_head, may_take_off}
 use Rattle.wq_head.proofs.OneMoreLook.{saw_bits, saw_looks}
 use Rattle.wq_head.proofs.LockWaits.{locked_told}
+use Rattle.wait_rule.specs.Items.{Difference, with_difference}
 
 -- the entry stays where the number and the entries stay, and what is owed
 pub entry_on : (old new : Known) (kd : Kind) → new.view.number ≡ old.view.number
@@ -88,7 +92,7 @@ entry_locked old new kd head walk l stays owing = entry_on old new kd stays.numb
 unlocked_stored : (old new : Known) (spent : Bool) → HasUnlocked old new spent
     → (told_of new).bits.stored ≡ (told_of old).bits.stored
 unlocked_stored old new spent u = ap (λ (k : Known). (told_of k).bits.stored) u.is
-    ∙ (ap (λ (v : Told). v.bits.stored) (told_added old (item.Made (step.Unlock old.at spent)))
+    ∙ (ap (λ (v : Told). v.bits.stored) (told_unlocked old old.at spent)
     ∙ ap (λ (b : Bits). b.stored) (unlock_bits (told_of old) (told_of old).walk spent))
 
 -- an add in a hold of its own
@@ -152,7 +156,8 @@ module _ (old mid : Known) (n w : ℕ) (kd : Kind) (mine : n ≡ old.view.number
   removed_left new r = record {
     hold = record {
       domain = r.stays.domain ∙ looks.stays.domain;
-      book = ap (λ (k : Known). k.book) r.is ∙ ap (λ (k : Known). k.book) looks.is;
+      book = ap (λ (k : Known). k.book) r.is ∙ (ap (λ (d : Difference). with_difference d mid.book)
+          (sym ((λ i. (looks.is i).book.differs) ∙ held.agreed)) ∙ ap (λ (k : Known). k.book) looks.is);
       at = ap (λ (k : Known). k.at) r.is ∙ ap (λ (k : Known). k.at) looks.is;
     };
     settled = r.settled no_excuse owing;
@@ -184,6 +189,14 @@ idle_by k x running free o = record {
   unmarked = o.unmarked;
 }
 
+-- a step that takes no lock and no ticket
+pub free_added : (old new : Known) (x : Item) → new ≡ added old x → (learn x old.book).head ≡ old.book.head
+    → (learn x old.book).ticket ≡ old.book.ticket → IsFree old → IsFree new
+free_added old new x is head ticket free = subst IsFree (sym is) (record {
+  head = head ∙ free.head;
+  ticket = ticket ∙ free.ticket;
+})
+
 -- a publish of a task that owed nothing, which a wake of all then excuses
 excused : (s o m : Bool) → (o && not (not m)) ≡ false → ((s || o) && not (not m || (s && m))) ≡ false
 excused false false m is = refl
@@ -213,7 +226,8 @@ pub published_idle : (old new : Known) (c : Watch) (n r : ℕ) → new ≡ added
     → IsClean old
     → IsIdle new
 published_idle old new c n r is clean = idle_by new (spares (all_of c) no_excuse)
-    (ap (λ (k : Known). k.book.state) is ∙ clean.running) (ap (λ (k : Known). k.book.head) is ∙ clean.free)
+    (ap (λ (k : Known). k.book.state) is ∙ clean.running) (free_added old new (item.Made
+    (step.Publish c n r)) is refl refl clean.free)
     (published_owes old new c n r is clean.settled)
 
 pub published_tries : (old new : Known) (c : Watch) (n r : ℕ) → new ≡ added old (item.Made (step.Publish c n r))

@@ -58,7 +58,10 @@ list_marked : (me : ℕ) (xs : List Item) (v : Told) (n : Notes) → IsMarked v 
 list_marked me [] v n is = is
 list_marked me (item.Made e ∷ xs) v n is = list_marked me xs (after e v) (note_step me e v n) (step_marked me e v n is)
 list_marked me (item.Awake w ∷ xs) v n is = list_marked me xs v n is
-list_marked me (item.Busy h w ∷ xs) v n is = list_marked me xs v n is
+list_marked me (item.Drawn h w ∷ xs) v n is = list_marked me xs v n is
+list_marked me (item.Serving h w ∷ xs) v n is = list_marked me xs v n is
+list_marked me (item.Served ∷ xs) v n is = list_marked me xs v n is
+list_marked me (item.Member ∷ xs) v n is = list_marked me xs v n is
 list_marked me (item.Bookmark t w ∷ xs) v n is = list_marked me xs v (note me (item.Bookmark t w) v n) is
 
 pub own_marked : (k : Known) → (told_of k).mark ≡ place_marked (noted k).own

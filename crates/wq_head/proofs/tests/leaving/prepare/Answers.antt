@@ -10,7 +10,10 @@ returns-clause-queued c =
     let s = c.set_state.ensures.step in
     let b = c.requires.back.queued in record {
       up = ap (λ (k : Known). k.book.awake) s ∙ b.up;
-      free = ap (λ (k : Known). k.book.head) s ∙ b.free;
+      free = record {
+        head = ap (λ (k : Known). k.book.head) s ∙ b.free.head;
+        ticket = ap (λ (k : Known). k.book.ticket) s ∙ b.free.ticket;
+      };
       entry = entry_after c.args.task.now c.set_state.new.task c.args.kind
           (step.State UNINTERRUPTIBLE) refl refl s b.entry;
     }

@@ -9,7 +9,10 @@ returns-clause-back g c =
       running = ap (λ (k : Known). k.book.state) s.is;
       queued = record {
         up = ap (λ (k : Known). k.book.awake) s.is;
-        free = ap (λ (k : Known). k.book.head) s.is ∙ c.requires.queued.free;
+        free = record {
+          head = ap (λ (k : Known). k.book.head) s.is ∙ c.requires.queued.free.head;
+          ticket = ap (λ (k : Known). k.book.ticket) s.is ∙ c.requires.queued.free.ticket;
+        };
         entry = entry_slept c.args.task.now c.schedule.new.task c.args.kind c.schedule.result s c.requires.queued.entry;
       };
     }

@@ -1,0 +1,16 @@
+use Rattle.wq_head.proofs.LockWaits.{waited_more, turn_more, if_true, if_false}
+use Rattle.wq_head.proofs.locks.await_turn.Goals as goal
+
+pub returns-then-look_often : goal.returns-then-look_often
+returns-then-look_often g c = if_true _ _ c.look_often.result c.if-look_often.true c.look_often.ensures
+
+pub loop-init : goal.loop-init
+loop-init g c = if_false _ _ c.look_often.result c.if-look_often.false c.look_often.ensures
+
+pub loop-preserved : goal.loop-preserved
+loop-preserved g c = waited_more c.args.task.now c.loop.task c.serving_load-found.new.task c.args.head c.args.ticket
+    c.serving_load-found.result c.requires.drawn c.loop.invariant c.serving_load-found.ensures c.if-found-ticket.false
+
+pub returns-then-found-ticket : goal.returns-then-found-ticket
+returns-then-found-ticket g c = turn_more c.args.task.now c.loop.task c.serving_load-found.new.task c.args.head
+    c.args.ticket c.serving_load-found.result c.loop.invariant c.serving_load-found.ensures c.if-found-ticket.true

@@ -1,0 +1,16 @@
+use Rattle.std.proofs.Common.{◌∙◌, ap, sym}
+use Rattle.wait_rule.specs.declared.journal.Item.TheVariants as item
+use Rattle.wait_rule.specs.Tickets.{given}
+use Rattle.wait_rule.specs.Known.{Known}
+use Rattle.wait_rule.specs.Says.{added}
+use Rattle.wq_head.proofs.locks.give_back.Goals as goal
+
+pub serve-requires-clause-given : goal.serve-requires-clause-given
+serve-requires-clause-given c = ap (λ (k : Known). k.book.ticket) c.unlock_step.ensures
+    ∙ sym (ap (λ (k : Known). given k.at) c.unlock_step.ensures)
+
+pub serve-requires-clause-of : goal.serve-requires-clause-of
+serve-requires-clause-of c = ap (λ (k : Known). k.domain) c.unlock_step.ensures ∙ c.requires.of
+
+pub returns : goal.returns
+returns c = c.serve.ensures ∙ ap (λ (k : Known). added k item.Served) c.unlock_step.ensures

@@ -1,7 +1,8 @@
 #!/bin/sh
-# Times holds of a head's lock beside a std Mutex, and writes the figures of each run. It needs rustc, and the program
-# built by `rt run` in crates/bench_head. RUNS: how many runs (7). In a run each program makes many short rounds, three
-# times in turn with the other. Of one thread's holds the least round counts; where threads share a lock, the middle one.
+# Times holds of a head's lock beside a std Mutex and a ticket lock in plain Rust, and writes the figures of each run. It
+# needs rustc, and the program built by `rt run` in crates/bench_head. RUNS: how many runs (7). In a run each program
+# makes many short rounds, three times in turn with the other. Of one thread's holds the least round counts; where
+# threads share a lock, the middle one. The first ratio is to the Mutex, the second to the plain ticket lock.
 set -eu
 cd "$(dirname "$0")/.."
 made=$(mktemp -d)
@@ -27,10 +28,12 @@ for _ in $(seq "${RUNS:-7}"); do
     { rounds plain; rounds head; } | awk '
         { least[$1, $2] = $3; middle[$1, $2] = $4 }
         function shared(name) {
-            printf "%s %.1f ns, ratio %.2f; ", name, middle["head", name], middle["head", name] / middle["plain", name]
+            printf "%s %.1f ns, ratios %.2f and %.2f; ", name, middle["head", name],
+                middle["head", name] / middle["plain", name], middle["head", name] / middle["plain", "ticket_" name]
         }
         END {
-            printf "lock %.1f ns, ratio %.2f; ", least["head", "lock"], least["head", "lock"] / least["plain", "lock"]
+            printf "lock %.1f ns, ratios %.2f and %.2f; ", least["head", "lock"],
+                least["head", "lock"] / least["plain", "lock"], least["head", "lock"] / least["plain", "ticket"]
             shared("two")
             shared("four")
             printf "look %.0f ns\n", least["head", "look"]

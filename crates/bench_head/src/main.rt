@@ -32,7 +32,7 @@ fn holds<R: Wait>(rt: &R, domain: &Domain, task: &mut Task, n: u64)
     }
 }
 
-/// Holds that look at all words of entries and bookmarks: 0 where none of them found a member.
+/// Holds that look for members of the head: 0 where none of them found one.
 fn looks<R: Wait>(rt: &R, domain: &Domain, task: &mut Task, n: u64) -> u64
     requires of { task.old.domain ≡ domain.now }
     requires up { IsUp task.old }
@@ -114,7 +114,7 @@ fn time_holds<R: Clock + Wait>(rt: &R, alloc: Global, n: u64) -> io::Result<Dura
     start.elapsed(rt)
 }
 
-/// How long `n` holds that look at all words take, and what they found.
+/// How long `n` holds that look for members take, and what they found.
 fn time_looks<R: Clock + Wait>(rt: &R, alloc: Global, n: u64) -> io::Result<(Duration, u64)> {
     let (domain, mut task) = Domain::new(alloc)?;
     let start = Instant::now(rt)?;
@@ -167,7 +167,7 @@ fn main(rt: HostRuntime) -> io::Result<()> {
     let words: Vec<String> = env::args(&rt)?.skip(1).collect(rt.alloc())?;
     let asked = !words.is_empty();
     let (rounds, steps, turns, surveys): (u32, u64, u64, u64) = if asked {
-        (40, 100_000, 200_000, 2_000)
+        (40, 100_000, 20_000, 2_000)
     } else {
         (1, 100, 100, 10)
     };

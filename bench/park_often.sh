@@ -30,4 +30,5 @@ often wait_rule park_tests::sleeps_end
 often wait_rule park_tests::three_hand_on
 often wq_head tests::sleepers::walk_over_arrivals
 often wq_head tests::sleepers::walk_over_sleepers
+often wq_head tests::tickets::tickets
 exit "$failed"

@@ -6,6 +6,7 @@ pub mod CalledEntries
 pub mod HoldBooks
 pub mod PassedPlaces
 pub mod OwedWakes
+pub mod HeadScans
 pub mod Coverings
 pub mod ViewsTold
 pub mod ZeroLoads

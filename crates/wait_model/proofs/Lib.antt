@@ -8,5 +8,6 @@ pub mod HistoryLaws
 pub mod RunLaws
 pub mod WaitLaws
 pub mod AccountLaws
+pub mod FollowedLaws
 pub mod SentenceLaws
 pub mod WorkedScripts

@@ -9,3 +9,5 @@ pub mod LinkedQueues
 pub mod FoundEntries
 pub mod OwnBookmarks
 pub mod OutsideWalks
+pub mod PlacesApart
+pub mod CalledFirst

@@ -10,6 +10,7 @@ pub mod UnlockSteps
 pub mod FlagSteps
 pub mod OwnSteps
 pub mod OwnViews
+pub mod ScanSteps
 pub mod OtherViews
 pub mod FactSteps
 pub mod CombinedLaws

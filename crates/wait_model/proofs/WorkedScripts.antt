@@ -2,3 +2,4 @@
 pub mod FirstScripts
 pub mod WaitForms
 pub mod BitScripts
+pub mod FollowedScripts

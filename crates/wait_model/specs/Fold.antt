@@ -25,7 +25,7 @@ use Rattle.wait_model.specs.declared.steps.Step.{Step}
 use Rattle.wait_model.specs.declared.steps.Step.TheVariants as step
 use Rattle.wait_model.specs.Functions.{put}
 use Rattle.wait_model.specs.Tasks.{meets, task_of}
-use Rattle.wait_model.specs.Watches.{same, head_of, is_bit, mask_of, failing, was_clear, owner, stands_at}
+use Rattle.wait_model.specs.Watches.{same, head_of, is_bit, mask_of, failing, was_clear, owner, stands_at, part_of}
 use Rattle.wait_model.specs.Words.{entry_of, spent_of, flag_of}
 use Rattle.wait_model.specs.Views.{
   View,
@@ -90,6 +90,12 @@ finds_bit_set (Some w) l r = is_bit w.watch && failing l r w.watch
 -- what a look without the lock has found off, after one more load; a member that it finds begins it anew
 abbrev pub peeks : (Watch → ℕ → Bool) → ℕ → Option Entry → Watch → ℕ → Bool
 peeks cleared x f c y = if stands_at f (head_of c) then false else (cleared c y || (y == x))
+
+-- the same after a load of member word i of head h: where no bit is set the look is past the entries of its
+-- indexes, and a bit that is set begins it anew
+abbrev pub scanned : (Watch → ℕ → Bool) → ℕ → ℕ → ℕ → Watch → ℕ → Bool
+scanned cleared h i w c y =
+    if head_of c == h then (if w == 0 then cleared c y || (part_of y == i) else false) else cleared c y
 
 abbrev pub is_held : Option ℕ → Bool
 is_held None = false
@@ -214,6 +220,13 @@ after (step.Peek x w) v = record v {
         && not (all_cleared (peeks v.duty.cleared x (entry_of w) c));
   };
   bits = after_look x (entry_of w) v;
+}
+after (step.Scan h i w) v = record v {
+  duty = record {
+    cleared = scanned v.duty.cleared h i w;
+    owes = λ c σ. v.duty.owes c σ
+        && not (all_cleared (scanned v.duty.cleared h i w c));
+  };
 }
 after (step.Queue x e) v = after_queue x e v
 after (step.Unqueue x) v = record v {

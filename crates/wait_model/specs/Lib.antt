@@ -31,9 +31,11 @@ pub mod Shown
 pub mod Histories
 pub mod Walks
 pub mod Owed
+pub mod Scans
 pub mod Coverings
 pub mod Tryings
 pub mod Wakes
+pub mod Followed
 pub mod Waiters
 pub mod Told
 pub mod Openings
@@ -43,6 +45,7 @@ pub mod Selections
 pub mod Worked
 pub mod WorkedForms
 pub mod WorkedBits
+pub mod WorkedFollowed
 pub mod Totals
 pub mod SignalCounts
 pub mod BitKeepers

@@ -15,6 +15,8 @@ EndsWake es (step.Unlock h spent) c σ = (k : WalkHold es c σ)
     × ((spent ≡ true) ⊎ ((x : ℕ) → x < ENTRIES → HasPassed (GoneBy es c σ) (λ _. ⊥) es c σ k x))
 EndsWake es (step.Peek y w) c σ = (x : ℕ) → x < ENTRIES
     → Since (finds_off_head c x) (looks_anew c) (es ++ step.Peek y w ∷ [])
+EndsWake es (step.Scan h i w) c σ = (x : ℕ) → x < ENTRIES
+    → Since (finds_off_head c x) (looks_anew c) (es ++ step.Scan h i w ∷ [])
 EndsWake es _ c σ = ⊥
 
 -- the task has published c, and no wake of it for this state has ended since

@@ -9,7 +9,7 @@ use Rattle.wait_model.specs.declared.watches.Aim.{Aim}
 use Rattle.wait_model.specs.declared.steps.Step.{Step}
 use Rattle.wait_model.specs.declared.steps.Step.TheVariants as step
 use Rattle.wait_model.specs.Tasks.{task_of}
-use Rattle.wait_model.specs.Watches.{head_of, counted, is_done, is_bit, is_woken, is_simple, owner}
+use Rattle.wait_model.specs.Watches.{head_of, counted, is_done, is_bit, is_woken, is_simple, owner, part_of}
 use Rattle.wait_model.specs.Words.{bit_at, entry_of, spent_of, flag_of}
 use Rattle.wait_model.specs.Views.{View, Walk, off}
 use Rattle.wait_model.specs.Tables.{Words, Table, next}
@@ -59,6 +59,20 @@ MayClear s a c = is_bit c ≡ true → ((s.task a).state ≡ 0) × ((s.view a).b
 abbrev pub MayChange : Table → ℕ → ℕ → Type 0
 MayChange s a x = (e : Entry) × (s.entry x ≡ Some e) × ((s.view a).hold.head ≡ Some (head_of e.watch))
 
+-- The owner of entry x holds head h and has tested no watch since it queued the entry. Where it had stored its state
+-- in the same hold before, it may have found a done count 0 before, too.
+pub record IsUntested (v : View) (h x : ℕ) : Type 0 where
+  pub held : v.hold.head ≡ Some h
+  pub failed : (c : Watch) → v.checks.failed x c ≡ None
+  pub low : (c : Watch) → v.checks.low x c ≡ None
+  pub zero_failed : (v.hold.prepared ≡ true) ⊎ ((c : Watch) → v.checks.zero_failed x c ≡ None)
+
+-- Where member word i of head h shows no bit: each entry of these indexes is off the head, or it is untested, since
+-- its bit is set in the hold in which its word was stored, before a watch is tested.
+abbrev pub AreUntested : Table → ℕ → ℕ → Type 0
+AreUntested s h i = (x : ℕ) (e : Entry) → part_of x ≡ i → s.entry x ≡ Some e → head_of e.watch ≡ h
+    → IsUntested (s.view (owner x)) h x
+
 abbrev pub Allowed : Table → ℕ → Step → Type 0
 Allowed s a (step.State σ) = Unit {0}
 Allowed s a (step.Sleep w) = (task_of w ≡ s.task a) × ((s.view a).hold.head ≡ None)
@@ -71,6 +85,7 @@ Allowed s a (step.Lock h aim w) = (s.holder h ≡ false) × ((s.view a).hold.hea
 Allowed s a (step.Unlock h sp) = ((s.view a).hold.head ≡ Some h) × MaySpend (s.view a) sp
 Allowed s a (step.Saw x w) = entry_of w ≡ s.entry x
 Allowed s a (step.Peek x w) = (entry_of w ≡ s.entry x) × ((s.view a).hold.head ≡ None)
+Allowed s a (step.Scan h i w) = ((s.view a).hold.head ≡ None) × (w ≡ 0 → AreUntested s h i)
 Allowed s a (step.Queue x e) = (owner x ≡ a) × (x < ENTRIES) × (s.entry x ≡ None)
     × ((s.view a).hold.head ≡ Some (head_of e.watch)) × Suits e × ((s.view a).hold.book x ≡ off)
 Allowed s a (step.Unqueue x) = MayChange s a x

@@ -102,6 +102,7 @@ word_step s a (step.Unlock h sp) = record s {
 }
 word_step s a (step.Saw x w) = s
 word_step s a (step.Peek x w) = s
+word_step s a (step.Scan h i w) = s
 word_step s a (step.Queue x e) = record s { entry = put s.entry x (Some e) }
 word_step s a (step.Unqueue x) = record s { entry = put s.entry x None }
 word_step s a (step.Mark h q) = record s { mark = put s.mark a (Some (record { head = h; place = q })) }

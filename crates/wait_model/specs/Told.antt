@@ -11,7 +11,7 @@ use Rattle.wait_model.specs.Watches.{head_of}
 use Rattle.wait_model.specs.Words.{entry_of, spent_of}
 use Rattle.wait_model.specs.Laws.{TryingBy}
 use Rattle.wait_model.specs.Views.{View, Walk, all_passed, all_cleared, concerns, covers}
-use Rattle.wait_model.specs.Fold.{after, view_of, peeks}
+use Rattle.wait_model.specs.Fold.{after, view_of, peeks, scanned}
 use Rattle.wait_model.specs.Runs.{state_of}
 use Rattle.wait_model.specs.Readings.{FailedLoad, ZeroLoad}
 use Rattle.wait_model.specs.Tryings.{IsTrying}
@@ -24,11 +24,12 @@ abbrev pub ends_walk : Option Walk → Bool → View → Watch → ℕ → Bool
 ends_walk None spent v c σ = false
 ends_walk (Some w) spent v c σ = (spent || all_passed v w (λ _. false)) && concerns w c σ
 
--- the step ends a wake of c for tasks of state σ: such an unlock, or the last load of a look that found no
--- member
+-- the step ends a wake of c for tasks of state σ: such an unlock, or the last load of a look that found
+-- no member
 abbrev pub ends_wake : Step → View → Watch → ℕ → Bool
 ends_wake (step.Unlock h spent) v c σ = ends_walk v.walk spent v c σ
 ends_wake (step.Peek x w) v c σ = all_cleared (peeks v.duty.cleared x (entry_of w) c)
+ends_wake (step.Scan h i w) v c σ = all_cleared (scanned v.duty.cleared h i w c)
 ends_wake _ v c σ = false
 
 -- no wake of c for tasks of state σ ends in these steps of a task that had the view v
@@ -45,8 +46,8 @@ pub record Owing (es : List Step) (c : Watch) (σ : ℕ) : Type 0 where
   pub is_publish : publishes publish c ≡ true
   pub unended : Unended c σ (view_of (before ++ publish ∷ [])) later
 
--- the view has a failed load exactly where the history has one, and keeps the spent count that the last lock
--- before it found
+-- the view has a failed load exactly where the history has one, and keeps the spent count that the last
+-- lock before it found
 abbrev pub FailedTold : Type 0
 FailedTold = (es : List Step) (x : ℕ) (c : Watch) →
     ((n : ℕ) → (view_of es).checks.failed x c ≡ Some n → (l : FailedLoad es x c)

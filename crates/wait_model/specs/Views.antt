@@ -54,7 +54,7 @@ pub record Hold : Type 0 where
 -- wakes that the task owes
 pub record Duty : Type 0 where
   pub owes : Watch → ℕ → Bool  -- by watch and state
-  pub cleared : Watch → ℕ → Bool  -- entries that a look without the lock found off
+  pub cleared : Watch → ℕ → Bool  -- entries that a look without the lock is past
 
 -- failed loads, each with the spent count that the last lock of the head before it found
 pub record Checks : Type 0 where

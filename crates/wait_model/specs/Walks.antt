@@ -1,6 +1,5 @@
 -- Walks, plainly over a task's history: the hold of a walk, the entries that it has called, and looks
--- without
--- the lock. (To be believed.)
+-- without the lock. (To be believed.)
 use Rattle.std.specs.Prelude.{
   ℕ,
   zero,
@@ -40,13 +39,13 @@ use Rattle.wait_model.specs.Watches.{
   failing,
   owner,
   stands_at,
+  part_of,
 }
 use Rattle.wait_model.specs.Words.{entry_of}
 use Rattle.wait_model.specs.Histories.{Lacks, Since, turns_lock, is_publish, is_mark, marks}
 
 -- the task is in a hold whose lock it took for a walk of the watch that meets the state; `inside` is what
--- it
--- has done in the hold
+-- it has done in the hold
 pub record WalkHold (es : List Step) (c : Watch) (σ : ℕ) : Type 0 where
   pub before : List Step
   pub head : ℕ
@@ -58,8 +57,8 @@ pub record WalkHold (es : List Step) (c : Watch) (σ : ℕ) : Type 0 where
   pub watch : same c aim.watch ≡ true
   pub mode : meets (mask_of aim.mode) σ ≡ true
 
--- the step is the walk's wake of the entry's owner, or a load that found the walk's bit set: then the walk
--- calls no further entry
+-- the step is the walk's wake of the entry's owner, or a load that found the walk's bit set: then the
+-- walk calls no further entry
 abbrev pub calls_entry : Aim → ℕ → Step → Bool
 calls_entry a x (step.Wake who mask w) = (mask == mask_of a.mode) && (owner x == who)
 calls_entry a x (step.Load l r) = is_bit a.watch && failing l r a.watch
@@ -76,8 +75,7 @@ flags x (step.Woken y) = x == y
 flags x _ = false
 
 -- the entry was called in these steps of a hold, with no publish since; a Woken entry only where its flag
--- was
--- set before the wake
+-- was set before the wake
 pub record RungBy (inside : List Step) (a : Aim) (x : ℕ) : Type 0 where
   pub wake : Since (wakes_entry a x) is_publish inside
   pub flag : Since (flags x) is_publish wake.earlier
@@ -109,9 +107,8 @@ shown_by h (step.Queue y e) = Some e
 shown_by h _ = None
 
 -- The walk need not call what stands there, or has called it: there is no entry, or one of another watch,
--- or
--- one that it has called in this hold, or one at a place that its earlier holds have gone by. An entry of
--- kind Simple is to be taken off. Entries at places at which the walk stops do not matter.
+-- or one that it has called in this hold, or one at a place that its earlier holds have gone by. An entry
+-- of kind Simple is to be taken off. Entries at places at which the walk stops do not matter.
 abbrev pub IsPast : (gone stop : ℕ → Type 0) → List Step → ℕ → Aim → ℕ → Option Entry → Type 0
 IsPast gone stop es σ a x None = Unit {0}
 IsPast gone stop es σ a x (Some e) = (same e.watch a.watch ≡ false)
@@ -133,8 +130,7 @@ leaves a (step.Publish c n r) = true
 leaves a _ = false
 
 -- The last unlock left the walk at the own bookmark, which stands behind this place. Before the bookmark
--- the
--- walk was past all, in that hold or, as `gone` says, in earlier ones. It has not begun anew since.
+-- the walk was past all, in that hold or, as `gone` says, in earlier ones. It has not begun anew since.
 pub record LeftBehind (gone : List Step → ℕ → Type 0) (es : List Step) (c : Watch)
     (σ place : ℕ) : Type 0 where
   pub before : List Step
@@ -156,9 +152,10 @@ GoneIn (suc n) c σ es place = LeftBehind (GoneIn n c σ) es c σ place
 abbrev pub GoneBy : List Step → Watch → ℕ → ℕ → Type 0
 GoneBy es c σ place = (n : ℕ) × GoneIn n c σ es place
 
--- the step is a look without the lock that finds entry x off the head of c
+-- the step is a look without the lock that finds entry x off the head of c, or no bit for it there
 abbrev pub finds_off_head : Watch → ℕ → Step → Bool
 finds_off_head c x (step.Peek y w) = (x == y) && not (stands_at (entry_of w) (head_of c))
+finds_off_head c x (step.Scan h i w) = (head_of c == h) && ((w == 0) && (part_of x == i))
 finds_off_head c x _ = false
 
 -- with this step such a look is begun anew
@@ -166,4 +163,5 @@ abbrev pub looks_anew : Watch → Step → Bool
 looks_anew c (step.Lock h aim w) = true
 looks_anew c (step.Publish d n r) = same c d
 looks_anew c (step.Peek y w) = stands_at (entry_of w) (head_of c)
+looks_anew c (step.Scan h i w) = (head_of c == h) && not (w == 0)
 looks_anew c _ = false

@@ -152,6 +152,10 @@ abbrev pub was_clear : Watch → ℕ → Bool
 was_clear (watch.Bit w b) r = not (bit_at r b)
 was_clear _ r = false
 
+-- which member word of a head has the bit of the member of this index
+unfoldable pub part_of : ℕ → ℕ
+part_of x = x / WORD_BITS
+
 -- whose entry has this index
 unfoldable pub owner : ℕ → ℕ
 owner x = x / SLOTS

@@ -2,7 +2,9 @@
 
 ghost use Rattle.wait_model.specs.Completions.{NoRunMiscounts};
 ghost use Rattle.wait_model.specs.Facts.{StepKeeps, StartKept};
+ghost use Rattle.wait_model.specs.Followed.{SettersLeaveNobody};
 ghost use Rattle.wait_model.specs.Programs.{WalksGoByAims};
+ghost use Rattle.wait_model.specs.Scans.{EmptyLooksEnd, FoundBitsEndNothing, WorkedScans};
 ghost use Rattle.wait_model.specs.Selections.{RunsAreOrderly};
 ghost use Rattle.wait_model.specs.Openings.{FreshTold};
 ghost use Rattle.wait_model.specs.Wakes.{NoRunLosesWake};
@@ -13,6 +15,7 @@ ghost use Rattle.wait_model.specs.Waiters.{NoRunLosesWaiter};
 ghost use Rattle.wait_model.specs.Worked.{ReplaysRun, WorkedScripts};
 ghost use Rattle.wait_model.specs.WorkedForms.{WorkedForms};
 ghost use Rattle.wait_model.specs.WorkedBits.{WorkedBits};
+ghost use Rattle.wait_model.specs.WorkedFollowed.{WorkedFollowed};
 ghost use Rattle.wait_model.specs.Unworn.{NoRunWears};
 ghost use Rattle.wait_model.specs.SignalCounts.{SignalsStartRaised, SignalsStayRaised, NoRunInventsSignals};
 ghost use Rattle.wait_model.specs.BitKeepers.{KeepsTold, BitsStartKept, BitsStayKept, EveryRunKeepsBits};
@@ -71,11 +74,13 @@ pub fn fresh_told()
 {}
 
 /// What the definitions say of three orders of one wait and one wake, event by event, of four scripts with other
-/// forms of waits, and of three with bits, variables and completions. Each such replay is a run.
+/// forms of waits, and of three with bits, variables and completions. Each such replay is a run. `followed` has three
+/// more, of which `law_r` speaks.
 pub fn worked_scripts()
     ensures told { WorkedScripts }
     ensures forms { WorkedForms }
     ensures bits { WorkedBits }
+    ensures followed { WorkedFollowed }
     ensures runs { ReplaysRun }
 {}
 
@@ -90,6 +95,14 @@ pub fn runs_are_orderly()
 /// What is owing by a view is owed by its history, and without bookmarks the other way round too.
 pub fn owes_told()
     ensures { OwesTold }
+{}
+
+/// After any history, a look at all member words of a head without the lock that finds no bit ends what is owed of the
+/// watches of that head, and nothing else. A load that finds a bit ends nothing, and begins the look anew.
+pub fn empty_looks_end()
+    ensures ended { EmptyLooksEnd }
+    ensures found { FoundBitsEndNothing }
+    ensures worked { WorkedScans }
 {}
 
 /// No run loses a waiter: who is asleep in a wait for a condition, a completion, a bit or a variable sleeps on it
@@ -150,4 +163,10 @@ pub fn walks_go_by_aims()
 /// No run meets a head at which no place is left: no call answers Worn, or stands after such an add.
 pub fn no_run_wears()
     ensures { NoRunWears }
+{}
+
+/// A setter followed through time: a task publishes a watch, and then ends a wake of it at the end of the queue, with
+/// no count used up. Then nobody sleeps on the watch for whom it was set at each moment since the publish, in any run.
+pub fn law_r()
+    ensures { SettersLeaveNobody }
 {}

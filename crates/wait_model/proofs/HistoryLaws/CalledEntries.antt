@@ -26,7 +26,7 @@ use Rattle.wait_model.specs.declared.watches.Aim.{Aim}
 use Rattle.wait_model.specs.declared.steps.Step.{Step}
 use Rattle.wait_model.specs.declared.steps.Step.TheVariants as step
 use Rattle.wait_model.specs.Tasks.{meets}
-use Rattle.wait_model.specs.Watches.{same, is_bit, is_woken, mask_of, failing, owner}
+use Rattle.wait_model.specs.Watches.{same, head_of, is_bit, is_woken, mask_of, failing, owner, part_of}
 use Rattle.wait_model.specs.Views.{View, Walk, Hold, blank, no_hold, concerns, gone, ahead, all_passed}
 use Rattle.wait_model.specs.Fold.{after, after_all, after_unlock, view_of, hits, finds_bit_set, paused}
 use Rattle.wait_model.specs.Histories.{Lacks, Since, turns_lock, is_publish, is_mark}
@@ -118,6 +118,12 @@ cleared_by : (c : Watch) (x : ℕ) → IsSetBy (cleared c x) (λ e v. finds_off_
 cleared_by c x (step.Lock h aim w) v = grind arith
 cleared_by c x (step.Publish d n r) v = grind arith
 cleared_by c x (step.Peek y w) v = grind arith
+cleared_by c x (step.Scan h i w) v = by_scan (head_of c == h) (w == 0) (part_of x == i) (v.duty.cleared c x)
+  where
+    by_scan : (at clear has old : Bool)
+        → (if at then (if clear then old || has else false) else old)
+        ≡ ((at && (clear && has)) || (old && not (at && not clear)))
+    by_scan at clear has old = grind arith
 cleared_by c x (step.Unlock h sp) v = unlock_cleared v v.walk sp c x ∙ kept_so (v.duty.cleared c x)
 cleared_by c x e v = kept_so (v.duty.cleared c x)
 
@@ -193,6 +199,7 @@ sets_of_call a x (step.Consume d n r) v f h = absurd (cc)
 sets_of_call a x (step.Woken y) v f h = absurd (cc)
 sets_of_call a x (step.Unflag y) v f h = absurd (cc)
 sets_of_call a x (step.Flag y w) v f h = absurd (cc)
+sets_of_call a x (step.Scan i p w) v f h = absurd (cc)
 
 sets_of_wake : (a : Aim) (x : ℕ) (e : Step) (v : View) → IsForWalk a v.walk → wakes_entry a x e ≡ true
     → v.hold.flagged x ≡ true → sets_rung x e v ≡ true
@@ -333,6 +340,7 @@ call_walk x (step.Consume d n r) v h = absurd (cc)
 call_walk x (step.Woken y) v h = absurd (cc)
 call_walk x (step.Unflag y) v h = absurd (cc)
 call_walk x (step.Flag y w) v h = absurd (cc)
+call_walk x (step.Scan i p w) v h = absurd (cc)
 
 call_of : (a : Aim) (x : ℕ) (e : Step) (v : View) → IsForWalk a v.walk → sets_called x e v ≡ true
     → calls_entry a x e ≡ true
@@ -363,6 +371,7 @@ call_of a x (step.Consume d n r) v f h = absurd (cc)
 call_of a x (step.Woken y) v f h = absurd (cc)
 call_of a x (step.Unflag y) v f h = absurd (cc)
 call_of a x (step.Flag y w) v f h = absurd (cc)
+call_of a x (step.Scan i p w) v f h = absurd (cc)
 
 -- a hold, and steps after it that do not end it
 abbrev pub further : (es earlier : List Step) (it : Step) (later : List Step) → es ≡ earlier ++ it ∷ later

@@ -176,6 +176,10 @@ sleeper_waits s x e on told sleeps set = record {
   is_set = set;
 }
 
+pub sleeper_found : (s : Table) (x : ℕ) (e : Entry) (on : Watch) → IsLookTold s → Sleeps s x e on
+    → met s.words on ≡ true → (n : ℕ) × Waits s x e on n
+sleeper_found s x e on told sleeps set = (found_by s x e on sleeps, sleeper_waits s x e on told sleeps set)
+
 -- what the law in terms of views finds, in the words of histories
 covered_plainly : (s : Table) (x : ℕ) (e : Entry) → IsLookTold s → Covered s x e → IsCovered s x e
 covered_plainly s x e told k = (

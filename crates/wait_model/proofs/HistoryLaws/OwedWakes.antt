@@ -46,7 +46,7 @@ use Rattle.wait_model.specs.Views.{
   all_passed,
   look_at,
 }
-use Rattle.wait_model.specs.Fold.{after, after_all, view_of, peeks}
+use Rattle.wait_model.specs.Fold.{after, after_all, view_of, peeks, scanned}
 use Rattle.wait_model.specs.Histories.{Lacks, Since, is_mark}
 use Rattle.wait_model.specs.Walks.{WalkHold, tells, entry_of_head, shown_by, IsPast, HasPassed, GoneBy}
 use Rattle.wait_model.specs.Owed.{EndsWake, Owes}
@@ -94,6 +94,9 @@ ends_fold es (step.Unlock h spent) c σ owes k = by (hold_walk es c σ k.0) k.1
 ends_fold es (step.Peek y w) c σ owes k = all_cleared_of (peeks (view_of es).duty.cleared y (entry_of w) c)
     (λ x lt. sym (ap (λ (v : View). v.duty.cleared c x) (after_snoc blank es (step.Peek y w)))
     ∙ seen_off (es ++ step.Peek y w ∷ []) c x (k x lt))
+ends_fold es (step.Scan h i w) c σ owes k = all_cleared_of (scanned (view_of es).duty.cleared h i w c)
+    (λ x lt. sym (ap (λ (v : View). v.duty.cleared c x) (after_snoc blank es (step.Scan h i w)))
+    ∙ seen_off (es ++ step.Scan h i w ∷ []) c x (k x lt))
 ends_fold es e c σ owes k = absurd k
 
 -- the view after the publish and some steps more
@@ -238,6 +241,9 @@ ends_plain es (step.Unlock h spent) c σ l p = unlock_plain es h spent c σ (vie
 ends_plain es (step.Peek y w) c σ l p = λ x lt. off_seen (es ++ step.Peek y w ∷ []) c x
     (ap (λ (v : View). v.duty.cleared c x) (after_snoc blank es (step.Peek y w))
     ∙ cleared_at (peeks (view_of es).duty.cleared y (entry_of w) c) x p lt)
+ends_plain es (step.Scan h i w) c σ l p = λ x lt. off_seen (es ++ step.Scan h i w ∷ []) c x
+    (ap (λ (v : View). v.duty.cleared c x) (after_snoc blank es (step.Scan h i w))
+    ∙ cleared_at (scanned (view_of es).duty.cleared h i w c) x p lt)
 ends_plain es e c σ l p = absurd (cc)
 
 -- no wake ends in the steps after a publish, one by one

@@ -58,6 +58,7 @@ failed_after (step.Consume d n r) v x c = refl
 failed_after (step.Woken y) v x c = refl
 failed_after (step.Unflag y) v x c = refl
 failed_after (step.Flag y w) v x c = refl
+failed_after (step.Scan h i w) v x c = refl
 
 -- a failed load of the steps, or one from before them
 abbrev Found : View → List Step → ℕ → Watch → ℕ → Type 0
@@ -143,6 +144,7 @@ pub owes_after : (e : Step) (v : View) (c : Watch) (σ : ℕ) → (after e v).du
 owes_after (step.Publish d n r) v c σ = grind arith
 owes_after (step.Unlock h sp) v c σ = owes_unlocked v v.walk sp c σ
 owes_after (step.Peek y w) v c σ = refl
+owes_after (step.Scan h i w) v c σ = refl
 owes_after (step.State τ) v c σ = stays (v.duty.owes c σ)
 owes_after (step.Queue y d) v c σ = stays (v.duty.owes c σ)
 owes_after (step.Load l r) v c σ = stays (v.duty.owes c σ)

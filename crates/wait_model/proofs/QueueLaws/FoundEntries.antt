@@ -58,14 +58,14 @@ module _ (entry : ℕ → Option Entry) (mark : ℕ → Option Mark) (queue : �
     abbrev key : Member → Bool
     key m = is_for c (entry m.at)
 
-    arrived : IsReached key (members_from (rank_at place) (queue (head_of c))) reach
+    pub arrived : IsReached key (members_from (rank_at place) (queue (head_of c))) reach
     arrived = arrives key calls (members_from (rank_at place) (queue (head_of c))) few
         (ordered_from (rank_at place) (queue (head_of c)) (l.ordered.order (head_of c)))
 
     pub reach_calls : reach.calls ≤ BREAK + 1
     reach_calls = arrived.calls
 
-    inside : (m : Member) → reach.member ≡ Some m → IsIn m (queue (head_of c))
+    pub inside : (m : Member) → reach.member ≡ Some m → IsIn m (queue (head_of c))
     inside m e = (from_in (rank_at place) m (queue (head_of c))
         (arrives_in key calls (members_from (rank_at place) (queue (head_of c))) m e)).0
 

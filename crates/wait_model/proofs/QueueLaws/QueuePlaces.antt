@@ -44,17 +44,17 @@ use Rattle.wait_model.proofs.QueueLaws.QueueEnds.{
 }
 use Rattle.wait_model.proofs.QueueLaws.QueueMarks.{marked_in, mark_in, unmarked_in, order_marked}
 
-near_low : (n p : ℕ) → n < EVENTS → IsWithinAdds n p → p < MIDDLE → (FIRST_PRIORITY ≤ p + 2 * n)
+pub near_low : (n p : ℕ) → n < EVENTS → IsWithinAdds n p → p < MIDDLE → (FIRST_PRIORITY ≤ p + 2 * n)
     × (p ≤ FIRST_PRIORITY + 2 * n)
 near_low n p few (true, a, b) low = (a, b)
 near_low n p few (false, a, b) low = absurd (omega arith)
 
-near_high : (n p : ℕ) → n < EVENTS → IsWithinAdds n p → MIDDLE ≤ p → (FIRST_PLACE ≤ p + 2 * n)
+pub near_high : (n p : ℕ) → n < EVENTS → IsWithinAdds n p → MIDDLE ≤ p → (FIRST_PLACE ≤ p + 2 * n)
     × (p ≤ FIRST_PLACE + 2 * n)
 near_high n p few (true, a, b) high = absurd (omega arith)
 near_high n p few (false, a, b) high = (a, b)
 
-split : (p : ℕ) → (p < MIDDLE) ⊎ (MIDDLE ≤ p)
+pub split : (p : ℕ) → (p < MIDDLE) ⊎ (MIDDLE ≤ p)
 split p = by (nat_lt p MIDDLE) refl
   where
     by : (b : Bool) → nat_lt p MIDDLE ≡ b → (p < MIDDLE) ⊎ (MIDDLE ≤ p)

@@ -167,7 +167,7 @@ kind_counted (watch.Bit w b) d k s h i = absurd (let z : true ≡ false = sym (a
 kind_counted (watch.Var v o) d k s h i = absurd (let z : true ≡ false = sym (ap is_keyed s.2) ∙ i in cc)
 kind_counted _ _ k s h i = absurd (cc)
 
-one_of_bits : (c d : Watch) → same c d ≡ true → is_bit c ≡ true → is_bit d ≡ true
+pub one_of_bits : (c d : Watch) → same c d ≡ true → is_bit c ≡ true → is_bit d ≡ true
 one_of_bits (watch.Bit w b) (watch.Bit v a) s h = refl
 one_of_bits (watch.Plain c) d s h = absurd (cc)
 one_of_bits (watch.Done c) d s h = absurd (cc)
@@ -187,7 +187,7 @@ not_var (watch.Plain c) h = refl
 not_var (watch.Done d) h = refl
 not_var (watch.Bit w b) h = refl
 
-bit_kind : (c : Watch) → Suited c kind.Bit → is_bit c ≡ true
+pub bit_kind : (c : Watch) → Suited c kind.Bit → is_bit c ≡ true
 bit_kind (watch.Bit w b) s = refl
 bit_kind (watch.Var v o) s = absurd (let z : kind.Bit ≡ kind.Var = s.2 in cc)
 bit_kind (watch.Done d) s = absurd (let z : kind.Bit ≡ kind.Simple = s.1 in cc)

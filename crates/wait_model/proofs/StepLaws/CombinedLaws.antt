@@ -7,7 +7,7 @@ use Rattle.wait_model.specs.declared.steps.Step.{Step}
 use Rattle.wait_model.specs.Facts.{Facts, Roused, Selected, Kept}
 use Rattle.wait_model.specs.Views.{Walk, View, covers}
 use Rattle.wait_model.specs.Fold.{after}
-use Rattle.wait_model.specs.Watches.{same, head_of, is_bit, is_woken, owner}
+use Rattle.wait_model.specs.Watches.{same, head_of, is_bit, owner}
 use Rattle.wait_model.specs.Tables.{Table, met, next}
 use Rattle.wait_model.specs.Laws.{Waits, Covered, Spent, Tried, Excused, NoLostWake, Others}
 use Rattle.wait_model.specs.Functions.{put}
@@ -117,8 +117,7 @@ selected_from s a ev k k2 moves tried holds pick b h w x e on m hold walk bitw p
               f.0,
         )
     from_old c cb g ho wa gw pi (inr (inr f)) =
-        absurd (let nw : is_woken e.kind ≡ false = (k2.suits x e z.stands).1 bite
-        in let wo : is_woken e.kind ≡ true = f.0 in cc)
+        absurd (let off : is_bit e.watch ≡ false = f.0 in let is : is_bit e.watch ≡ true = bite in cc)
 
     go : ((b ≡ a) × (put s.view a (after ev (s.view a)) b ≡ after ev (s.view a)))
         ⊎ ((b ≢ a) × (put s.view a (after ev (s.view a)) b ≡ s.view b)) → Others (next s a ev) b x e
@@ -182,8 +181,7 @@ roused_from s a ev k k2 moves holds rouse gots b u h w x e on m hold walk bitw r
               f.0,
         )
     from_old c cb g ho wa gw ro (inr (inr f)) =
-        absurd (let nw : is_woken e.kind ≡ false = (k2.suits x e z.stands).1 bite
-        in let wo : is_woken e.kind ≡ true = f.0 in cc)
+        absurd (let off : is_bit e.watch ≡ false = f.0 in let is : is_bit e.watch ≡ true = bite in cc)
 
     go : ((b ≡ a) × (put s.view a (after ev (s.view a)) b ≡ after ev (s.view a)))
         ⊎ ((b ≢ a) × (put s.view a (after ev (s.view a)) b ≡ s.view b))

@@ -40,7 +40,7 @@ use Rattle.wait_model.proofs.Functions.{put_case, put_at, bool_or}
 use Rattle.wait_model.proofs.StepLaws.PastEntries.{all_cleared_not}
 use Rattle.wait_model.specs.declared.steps.Step.TheVariants as step
 
-back_unheard : (s : Table) (a : ℕ) (ev : Step) (x : ℕ) (e : Entry) (on : Watch) (m : ℕ)
+pub back_unheard : (s : Table) (a : ℕ) (ev : Step) (x : ℕ) (e : Entry) (on : Watch) (m : ℕ)
     → ((after ev (s.view a)).checks.low x on ≡ Some m → (s.view a).checks.low x on ≡ Some m)
     → ((next s a ev).entry x ≡ Some e → s.entry x ≡ Some e)
     → ((next s a ev).flag x ≡ false → s.flag x ≡ false)
@@ -160,11 +160,11 @@ peek_flags s a y w k law al x e on m z =
     (λ q. q) (λ q. q) z) (λ q. q) (λ σ. warns_peeked s a y w x e σ (k.named x e z.stands) al z.stands)
 
 -- an entry with no failed load since it was queued, or since its flag was cleared
-low_put : (f : ℕ → Watch → Option ℕ) (y x : ℕ) (on : Watch) (m : ℕ) → put f y (λ _. None) x on ≡ Some m
+pub low_put : (f : ℕ → Watch → Option ℕ) (y x : ℕ) (on : Watch) (m : ℕ) → put f y (λ _. None) x on ≡ Some m
     → (x ≢ y) × (f x on ≡ Some m)
 low_put f y x on m h = (grind arith, grind arith)
 
-own_low : (s : Table) (a y x : ℕ) (on : Watch) (m : ℕ) (v : View) → owner y ≡ a
+pub own_low : (s : Table) (a y x : ℕ) (on : Watch) (m : ℕ) (v : View) → owner y ≡ a
     → v.checks.low ≡ put (s.view a).checks.low y (λ _. None)
     → (put s.view a v (owner x)).checks.low x on ≡ Some m → x ≢ y
 own_low s a y x on m v own is h q =

@@ -78,6 +78,7 @@ use Rattle.wait_model.proofs.StepLaws.FlagSteps.{
   unflag_flags,
   woken_flags,
 }
+use Rattle.wait_model.proofs.StepLaws.ScanSteps.{of_scan, scan_moves, scan_flags, scan_bits}
 use Rattle.wait_model.proofs.StepLaws.UnlockSteps.{unlock_moves, unlock_flags}
 use Rattle.wait_model.proofs.StepLaws.FactSteps.{
   quiet_facts,
@@ -167,6 +168,10 @@ step_keeps s a (step.Peek x w) k al = quiet_from s a (step.Peek x w) k refl refl
     (of_peek s.holder s.entry s.spent s.words (s.view a) (k.facts.views a) x w al.1)
     (peek_moves s a x w k.facts al.0) (tried_peeked s a x w k.facts al.0)
     (peek_flags s a x w k.facts k.no_lost_flag al.0) (peek_bits s a x w k.bits al.0)
+step_keeps s a (step.Scan h i w) k al = quiet_from s a (step.Scan h i w) k refl refl refl refl refl
+    (of_scan s.holder s.entry s.spent s.words (s.view a) (k.facts.views a) h i w al.0)
+    (scan_moves s a h i w k.facts al) (tried_quiet s a (step.Scan h i w) (λ c t. t) (λ j q. q))
+    (scan_flags s a h i w k.facts k.no_lost_flag al) (scan_bits s a h i w k.bits)
 step_keeps s a (step.Queue x e) k al = kept_from s a (step.Queue x e) k (queue_facts s a x e k.facts al)
     (queue_moves s a x e k.facts (queue_facts s a x e k.facts al) al) (tried_queued s a x e k.facts al)
     (queue_flags s a x e k.no_lost_flag al.0) (queue_bits s a x e k.bits al.0)

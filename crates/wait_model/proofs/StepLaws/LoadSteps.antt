@@ -35,7 +35,7 @@ use Rattle.wait_model.proofs.Functions.{bool_or}
 use Rattle.wait_model.proofs.StepLaws.PastEntries.{all_cleared_not}
 use Rattle.wait_model.specs.declared.steps.Step.TheVariants as step
 
-loaded_checked : (v : View) (l : Watch) (r x : ℕ) (e : Entry) (on : Watch) (m : ℕ) → failing l r on ≡ false
+pub loaded_checked : (v : View) (l : Watch) (r x : ℕ) (e : Entry) (on : Watch) (m : ℕ) → failing l r on ≡ false
     → checked (after (step.Load l r) v) x e on ≡ Some m → checked v x e on ≡ Some m
 loaded_checked v l r x e on m nope h = grind arith
 

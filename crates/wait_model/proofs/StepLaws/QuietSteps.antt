@@ -104,7 +104,7 @@ consume_moves s a c n r al x e on m z =
     framed s a (step.Consume c n r) x e on m (back_waits s a (step.Consume c n r) x e on m (λ q. q) (λ q. q)
     (λ q. q) (consume_sets_none s.words on c n al) z) refl (λ q. q) (λ q. q)
 
-unflag_checked : (v : View) (y x : ℕ) (e : Entry) (on : Watch) (m : ℕ)
+pub unflag_checked : (v : View) (y x : ℕ) (e : Entry) (on : Watch) (m : ℕ)
     → checked (after (step.Unflag y) v) x e on ≡ Some m → checked v x e on ≡ Some m
 unflag_checked v y x e on m h = grind arith
 

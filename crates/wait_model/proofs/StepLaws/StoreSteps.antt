@@ -23,7 +23,7 @@ use Rattle.wait_model.specs.declared.tasks.TaskRecord.{TaskRecord}
 use Rattle.wait_model.specs.Facts.{Facts, Kept}
 use Rattle.wait_model.specs.Views.{Walk, View, checked, gone, ahead, covers, warns}
 use Rattle.wait_model.specs.Fold.{after}
-use Rattle.wait_model.specs.Watches.{same, head_of, is_done, is_woken, is_simple, owner}
+use Rattle.wait_model.specs.Watches.{same, head_of, is_done, is_bit, is_woken, is_simple, owner}
 use Rattle.wait_model.specs.Tables.{Table, met, next}
 use Rattle.wait_model.specs.Words.{flag_of}
 use Rattle.wait_model.specs.Laws.{Unheard}
@@ -31,11 +31,11 @@ use Rattle.wait_model.specs.Rows.{Allowed}
 use Rattle.wait_model.proofs.StepLaws.QuietSteps.{back_waits}
 use Rattle.wait_model.proofs.StepLaws.UntouchedParts.{Free, Moves, framed, own_view, own_now, at_view}
 use Rattle.wait_model.proofs.Sameness.{same_bit, same_done_is, not_both}
-use Rattle.wait_model.proofs.Functions.{put_case, put_at}
+use Rattle.wait_model.proofs.Functions.{put_case, put_at, bool_or}
 use Rattle.wait_model.specs.declared.steps.Step.TheVariants as step
 
 -- the own store of a state leaves only what a hold of a completion's head found
-stored_own : (v : View) (σ x : ℕ) (e : Entry) (on : Watch) (m : ℕ)
+pub stored_own : (v : View) (σ x : ℕ) (e : Entry) (on : Watch) (m : ℕ)
     → checked (after (step.State σ) v) x e on ≡ Some m → (is_done on ≡ true) × (v.hold.zero on ≡ Some m)
 stored_own v σ x e on m h = (grind arith, grind arith)
 
@@ -61,7 +61,7 @@ free_of_done : (s : Table) (a : ℕ) (ev : Step) (e : Entry) (on : Watch) → sa
     → is_done on ≡ true → Free s a ev e
 free_of_done s a ev e on sa co i = absurd (not_both on co (same_bit on e.watch sa i))
 
-stored_task : (s : Table) (a σ i : ℕ) → i ≢ a → ((next s a (step.State σ)).task i) ≡ s.task i
+pub stored_task : (s : Table) (a σ i : ℕ) → i ≢ a → ((next s a (step.State σ)).task i) ≡ s.task i
 stored_task s a σ i ne = put_at (λ t. t ≡ s.task i) s.task a (record (s.task a) { state = σ }) i
     (λ q. absurd (ne q)) (λ _. refl)
 
@@ -87,12 +87,12 @@ state_moves s a σ k x e on m z = elim (put_case s.view a (after (step.State σ)
       (ap (λ (t : TaskRecord). t.state) same_task) (λ h. h) (λ h. h)
 ]
 
-queued_own : (v : View) (y : ℕ) (d : Entry) (x : ℕ) (e : Entry) (on : Watch) (m : ℕ) → x ≡ y
+pub queued_own : (v : View) (y : ℕ) (d : Entry) (x : ℕ) (e : Entry) (on : Watch) (m : ℕ) → x ≡ y
     → checked (after (step.Queue y d) v) x e on ≡ Some m → (is_done on ≡ true) × (v.hold.prepared ≡ true)
     × (v.checks.zero_failed x on ≡ Some m)
 queued_own v y d x e on m q h = (grind arith, grind arith, grind arith)
 
-queued_other : (v : View) (y : ℕ) (d : Entry) (x : ℕ) (e : Entry) (on : Watch) (m : ℕ) → x ≢ y
+pub queued_other : (v : View) (y : ℕ) (d : Entry) (x : ℕ) (e : Entry) (on : Watch) (m : ℕ) → x ≢ y
     → checked (after (step.Queue y d) v) x e on ≡ Some m → checked v x e on ≡ Some m
 queued_other v y d x e on m q h = grind arith
 
@@ -116,7 +116,7 @@ queue_moves s a y d k k2 al x e on m z = elim (put_case s.entry y (Some d) x) [
       ∙ h) (λ h. h) (λ h. h) z) refl (λ h. h) (λ h. h)
 ]
 
-flag_own : (v : View) (y w x : ℕ) (e : Entry) (on : Watch) (m : ℕ)
+pub flag_own : (v : View) (y w x : ℕ) (e : Entry) (on : Watch) (m : ℕ)
     → checked (after (step.Flag y w) v) x e on ≡ Some m → (checked v x e on ≡ Some m)
     ⊎ ((x ≡ y) × (flag_of w ≡ false) × (is_woken e.kind ≡ true) × (v.checks.low x on ≡ Some m))
 flag_own v y w x e on m h = grind arith
@@ -155,14 +155,14 @@ flag_moves s a y w k al x e on m z = elim (put_case s.view a (after (step.Flag y
             (s.task (owner x)).state) [
               | inl h ↦ inr
                   (inr (
-                    fresh.2,
+                    no_bit fresh.2,
                     inl (
                       h.0,
                       warns_kept h.0 (warns_covers (s.view h.0) x e (s.task (owner x)).state fresh.2
                           ((k.facts.views h.0).rung x) h.1),
                     ),
                   ))
-              | inr h ↦ inr (inr (fresh.2, inr h))
+              | inr h ↦ inr (inr (no_bit fresh.2, inr h))
             ]
       ]
   | inr q ↦ framed s a (step.Flag y w) x e on m
@@ -176,6 +176,12 @@ flag_moves s a y w k al x e on m z = elim (put_case s.view a (after (step.Flag y
       (λ h. h) (λ h. h)
 ]
   where
+    no_bit : is_woken e.kind ≡ true → is_bit e.watch ≡ false
+    no_bit wo = elim (bool_or (is_bit e.watch)) [
+      | inl b ↦ absurd (let nw : is_woken e.kind ≡ false = (k.facts.suits x e z.stands).1 b in cc)
+      | inr b ↦ b
+    ]
+
     unheard : owner x ≡ a → x ≡ y → flag_of w ≡ false → is_woken e.kind ≡ true
         → (s.view a).checks.low x on ≡ Some m → Unheard s x e on m
     unheard own xy no_flag wo lo = record {

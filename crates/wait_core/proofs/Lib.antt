@@ -8,4 +8,5 @@ pub mod KeptBits
 pub mod KeptCore
 pub mod StepAnswers
 pub mod SpokenCalls
+pub mod FollowedRuns
 pub mod Members

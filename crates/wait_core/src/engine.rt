@@ -6,6 +6,7 @@ ghost use Rattle.std.specs.Prelude.{◌*◌, ℕ, slice_index, slice_get};
 ghost use Rattle.wait_model.specs.declared.layout.TheConstants.{MEMBERS, WORDS, PLACES};
 ghost use Rattle.wait_model.specs.Locations.{Shows};
 ghost use Rattle.wait_model.specs.Tables.{start};
+ghost use Rattle.wait_model.specs.Followed.{LeavesNobody};
 ghost use Rattle.wait_model.specs.Runs.{is_open, progress_at};
 ghost use Rattle.wait_model.specs.Admission.{IsListed};
 ghost use Rattle.wait_model.specs.declared.points.Point.{Point};
@@ -255,12 +256,15 @@ impl Core {
     }
 
     /// Makes a task's next event. What the task has made of a call when it ends follows the call's sentence, and the
-    /// call's answer is the one that the sentence gives.
+    /// call's answer is the one that the sentence gives. After it, where a task of the run has published a watch and
+    /// then ended a wake of it at the end of the queue, nobody sleeps on the watch for whom it was set at each moment
+    /// since the publish.
     pub fn step(&mut self, task: u8) -> Stepped
         ensures answer { result ≡ stepped (state_of self.old) (made_in self.old) task ((state_of self.old).progress
             task) }
         ensures run { self.new ≡ self.old ++ items_of (state_of self.old) task result }
         ensures sentence { EndsSentence self.old task result }
+        ensures setters { LeavesNobody self.new }
     {
         let slot = usize::from(task);
         let Progress::Open { call, point } = self.progress[slot] else {

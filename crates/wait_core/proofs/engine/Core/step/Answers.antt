@@ -31,6 +31,7 @@ use Rattle.wait_core.proofs.StepAnswers.{
   plan_in_range,
 }
 use Rattle.wait_core.proofs.SpokenCalls.{ended_well}
+use Rattle.wait_core.proofs.FollowedRuns.{left_by, left_now}
 use Rattle.wait_core.proofs.engine.Core.step.Goals as goal
 
 pub returns-in_default : goal.returns-in_default
@@ -42,6 +43,7 @@ returns-in_default c = record {
       c.in_default.not-Open;
   run = sym (append-nil c.args.self.now);
   sentence = λ call p e a q r. absurd (cc);
+  setters = left_now c.self.inside.run.items c.args.self.now c.self.invariant.core c.self.view_is;
 }
 
 pub returns-then-not-read_task-clause-answer : goal.returns-then-not-read_task-clause-answer
@@ -305,3 +307,19 @@ returns-clause-sentence c =
     let mine : c.args.task < TASKS = omega arith in
     ended_well c.args.self.now c.args.task _ (rw (← c.self.view_is) core.run)
     (rw (← c.self.view_is) (subst (λ (n : ℕ). n ≤ EVENTS) core.made core.few)) mine (returns-clause-answer c)
+
+-- the run as it was where nothing was made, and as it has grown
+pub returns-then-not-read_task-clause-setters : goal.returns-then-not-read_task-clause-setters
+returns-then-not-read_task-clause-setters c =
+    left_now c.self.inside.run.items c.args.self.now c.self.invariant.core c.self.view_is
+
+pub returns-in-Some-clause-setters : goal.returns-in-Some-clause-setters
+returns-in-Some-clause-setters c =
+    left_now c.self.inside.run.items c.args.self.now c.self.invariant.core c.self.view_is
+
+pub returns-then-self-eq-EVENTS-clause-setters : goal.returns-then-self-eq-EVENTS-clause-setters
+returns-then-self-eq-EVENTS-clause-setters c =
+    left_now c.self.inside.run.items c.args.self.now c.self.invariant.core c.self.view_is
+
+pub returns-clause-setters : goal.returns-clause-setters
+returns-clause-setters c = left_by c.log.new.run.items (invariant_of-self c).core

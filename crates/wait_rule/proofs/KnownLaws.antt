@@ -4,6 +4,7 @@ pub mod SleepLooks
 pub mod Transitions
 pub mod StayingParts
 pub mod MemberLooks
+pub mod LookCounts
 pub mod SettledTasks
 pub mod TaskHistories
 pub mod OwnEntries
@@ -14,4 +15,5 @@ pub mod MemberSteps
 pub mod MemberBits
 pub mod TicketSteps
 pub mod Turns
+pub mod ServedUnlocks
 pub mod CarriedTasks

@@ -8,6 +8,7 @@ pub mod QueueMoves
 pub mod MemberMoves
 pub mod BitMoves
 pub mod TicketMoves
-pub mod ClearBits
+pub mod LookedBits
+pub mod ScanMoves
 pub mod StartRule
 pub mod ForksAndJoins

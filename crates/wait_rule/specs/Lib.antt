@@ -8,9 +8,11 @@ pub mod Places
 pub mod Ends
 pub mod Journals
 pub mod Known
+pub mod LookCounts
 pub mod MemberLooks
 pub mod Rule
 pub mod Says
+pub mod Unlocks
 pub mod Queues
 pub mod Stays
 pub mod Shown

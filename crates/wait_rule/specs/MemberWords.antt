@@ -11,7 +11,6 @@ use Rattle.std.specs.Prelude.{
   Bool,
   true,
   false,
-  ◌==◌,
   nat_lt,
   if◌then◌else◌,
   Option,
@@ -22,10 +21,10 @@ use Rattle.std.specs.Prelude.{
   slice_index,
 }
 use Rattle.wait_model.specs.declared.layout.TheConstants.{ENTRIES, WORD_BITS, MEMBER_WORDS, WORDS}
-use Rattle.wait_model.specs.declared.watches.Entry.{Entry}
-use Rattle.wait_model.specs.Watches.{head_of}
+use Rattle.wait_model.specs.Watches.{owner, stands_at}
 use Rattle.wait_model.specs.Words.{bit_word}
 use Rattle.wait_model.specs.Tables.{Table}
+use Rattle.wait_model.specs.Rows.{IsUntested}
 use Rattle.wait_model.specs.Locations as place
 use Rattle.wait_model.specs.Locations.{IsLocation, position_of, word_in}
 use Rattle.wait_rule.specs.declared.journal.Item.{Item}
@@ -48,14 +47,9 @@ pub record ShowsWith (words : List ℕ) (s : Table) (beside : place.Location →
   pub count : length words ≡ WORDS
   pub each : (l : place.Location) → IsLocation l → slice_index words (position_of l) ≡ word_with s beside l
 
--- the entry's watch is one of this head
-abbrev pub is_for_head : ℕ → Option Entry → Bool
-is_for_head h None = false
-is_for_head h (Some e) = head_of e.watch == h
-
 -- the word of an entry or a bookmark, by the member's index, names this head
 abbrev pub names : Table → ℕ → ℕ → Bool
-names s h x = if nat_lt x ENTRIES then is_for_head h (s.entry x) else is_at h (s.mark (x - ENTRIES))
+names s h x = if nat_lt x ENTRIES then stands_at (s.entry x) h else is_at h (s.mark (x - ENTRIES))
 
 -- the index of the word that a task names as different from its bit, and whether the word names the task's head
 abbrev pub index_named : ℕ → Difference → Option ℕ
@@ -78,7 +72,8 @@ all_differences items t = (book_of (items t)).differs
 
 -- Member words: a head's bit of an index is set exactly where that word names the head, but for the one index that a
 -- task which holds the head names. So all bits of a free head are true. Of the named index the task knows what its word
--- says.
+-- says; where it is that of an entry which stands there, it is the task's own, and the task has tested no watch since
+-- it queued it.
 pub record AreMembers (s : Table) (differs : ℕ → Difference) (beside : place.Location → ℕ) : Type 0 where
   pub bits : ℕ → ℕ → Bool
   pub spells : (h i : ℕ) → i < MEMBER_WORDS → beside (place.Member (MEMBER_WORDS * h + i)) ≡ member_word (bits h) i
@@ -86,3 +81,5 @@ pub record AreMembers (s : Table) (differs : ℕ → Difference) (beside : place
       → bits h x ≡ names s h x
   pub named : (a h x : ℕ) → (s.view a).hold.head ≡ Some h → index_named a (differs a) ≡ Some x
       → names s h x ≡ is_put (differs a)
+  pub untested : (a h x : ℕ) → (s.view a).hold.head ≡ Some h → differs a ≡ at_entry x true
+      → (owner x ≡ a) × IsUntested (s.view a) h x

@@ -1,5 +1,6 @@
 -- What stays of a task while it looks, holds heads, queues and wakes. (To be believed.)
 use Rattle.std.specs.Prelude.{ℕ, ◌≡◌, ◌<◌, ◌⊎◌, ◌&&◌, ◌||◌, ◌==◌, not, Bool, true, false, Option, Some, None}
+use Rattle.wait_model.specs.declared.layout.TheConstants.{SLOTS}
 use Rattle.wait_model.specs.declared.watches.Watch.{Watch}
 use Rattle.wait_model.specs.declared.watches.Entry.{Entry}
 use Rattle.wait_model.specs.declared.watches.Mode.{Mode}
@@ -35,7 +36,7 @@ pub record Stays (but : ℕ → Bool) (old new : Known) : Type 0 where
   pub awake : new.book.awake ≡ old.book.awake
   pub still : (x : ℕ) → but x ≡ false → ((told_of new).bits.stored x ≡ (told_of old).bits.stored x)
       ⊎ ((told_of new).bits.stored x ≡ None)
-  pub stands : (slot : ℕ) → slot < 2 → but (index old.view.number slot) ≡ false → (e : Entry)
+  pub stands : (slot : ℕ) → slot < SLOTS → but (index old.view.number slot) ≡ false → (e : Entry)
       → (told_of old).bits.stored (index old.view.number slot) ≡ Some e → IsOwnKind e.kind
       → (told_of new).bits.stored (index old.view.number slot) ≡ Some e
   pub keeps : (c : Watch) → (told_of new).bits.keeps c ≡ (told_of old).bits.keeps c
@@ -152,7 +153,7 @@ pub record Carries (c : Change) (old new : Known) : Type 0 where
   pub stored : (x : ℕ) → c.looks ≡ false → c.but x ≡ false
       → (told_of new).bits.stored x ≡ (told_of old).bits.stored x
   pub out : (x : ℕ) → c.but x ≡ false → (told_of old).bits.stored x ≡ None → (told_of new).bits.stored x ≡ None
-  pub stands : (slot : ℕ) → slot < 2 → c.but (index old.view.number slot) ≡ false → (e : Entry)
+  pub stands : (slot : ℕ) → slot < SLOTS → c.but (index old.view.number slot) ≡ false → (e : Entry)
       → (told_of old).bits.stored (index old.view.number slot) ≡ Some e → IsOwnKind e.kind
       → (told_of new).bits.stored (index old.view.number slot) ≡ Some e
   pub owes : (x : Excuse) → Owes (c.from x) old → Owes (c.to x) new
@@ -171,7 +172,7 @@ is_on (Some e) = true
 -- What a load of an entry word tells: an own entry of the head that the task holds may be taken off where the word
 -- shows it, and one that was found off is owed no more.
 pub record FindsOwnWord (old new : Known) (who slot w : ℕ) : Type 0 where
-  pub may : who ≡ old.view.number → slot < 2 → (told_of old).hold.head ≡ Some old.at → old.book.head ≡ Some old.at
+  pub may : who ≡ old.view.number → slot < SLOTS → (told_of old).hold.head ≡ Some old.at → old.book.head ≡ Some old.at
       → head_stored ((told_of old).bits.stored (index who slot)) ≡ Some old.at → is_on (entry_of w) ≡ true
       → MayUnqueue new who slot
   pub gone : entry_of w ≡ None → (told_of new).bits.stored (index who slot) ≡ None

@@ -1,20 +1,36 @@
 -- The tickets of heads: which are out, which is served, and what the two words of a head show. (To be believed.)
-use Rattle.std.specs.Prelude.{ℕ, ◌≡◌, ◌+◌, ◌%◌, ◌^◌, ◌<◌, ◌≤◌, Bool, true, Some, List}
+use Rattle.std.specs.Prelude.{ℕ, ◌≡◌, ◌+◌, ◌%◌, ◌^◌, ◌<◌, ◌≤◌, ◌==◌, true, Some, List}
 use Rattle.wait_model.specs.declared.layout.TheConstants.{TASKS}
+use Rattle.wait_model.specs.declared.steps.Step.{Step}
+use Rattle.wait_model.specs.declared.steps.Step.TheVariants as step
+use Rattle.wait_model.specs.Words.{flag}
+use Rattle.wait_model.specs.Totals.{sum_below, total_below}
 use Rattle.wait_model.specs.Tables.{Table}
 use Rattle.wait_model.specs.Locations as place
 use Rattle.wait_rule.specs.declared.journal.Item.{Item}
 use Rattle.wait_rule.specs.Items.{book_of}
-use Rattle.wait_rule.specs.Tickets.{Ticket, taken, is_of, is_served, ShowsNumber, out_below}
+use Rattle.wait_rule.specs.Tickets.{Ticket, taken, is_of, is_served, is_given, ShowsNumber, out_below}
 
 -- what each task has out, by its list
 abbrev pub all_tickets : (ℕ → List Item) → ℕ → Ticket
 all_tickets items t = (book_of (items t)).ticket
 
+-- how often the tasks gave the lock of a head back, by their histories
+abbrev pub unlocks_at : ℕ → Step → ℕ
+unlocks_at h (step.Unlock g spent) = flag (g == h)
+unlocks_at h _ = 0
+
+abbrev pub unlocked_at : ℕ → (ℕ → List Step) → ℕ
+unlocked_at h history = total_below TASKS (unlocks_at h) history
+
+-- how many tasks gave it back and have not made their serve yet: one at most (`one_unserved`)
+abbrev pub unserved : ℕ → (ℕ → Ticket) → ℕ
+unserved h tickets = sum_below TASKS (λ t. flag (is_given h (tickets t)))
+
 -- Of each head so many tickets were drawn, and so many served; its two words show these counts modulo 2^64. The numbers
 -- from the served one on and below the next one are out, each with one task, and no others. At most `TASKS` are out. A
 -- task that knows that its ticket is served has the served number, and a head is held only by a task that took it by
--- such a ticket.
+-- such a ticket. As many were served as locks of the head were given back, less the one whose serve is still to come.
 pub record AreTickets (s : Table) (tickets : ℕ → Ticket) (beside : place.Location → ℕ) : Type 0 where
   pub draws : ℕ → ℕ
   pub serves : ℕ → ℕ
@@ -28,3 +44,4 @@ pub record AreTickets (s : Table) (tickets : ℕ → Ticket) (beside : place.Loc
   pub shown : (a : ℕ) → ShowsNumber (tickets a) (number a)
   pub turn : (a h : ℕ) → is_of h (tickets a) ≡ true → is_served (tickets a) ≡ true → number a ≡ serves h
   pub held : (a h : ℕ) → (s.view a).hold.head ≡ Some h → tickets a ≡ taken h
+  pub unlocks : (h : ℕ) → unlocked_at h s.history ≡ serves h + unserved h tickets

@@ -35,6 +35,14 @@ is_served (served g n) = true
 is_served (taken g) = true
 is_served (given g) = true
 
+-- the task gave the lock of this head back, and its serve is still to come
+abbrev pub is_given : ℕ → Ticket → Bool
+is_given h no_ticket = false
+is_given h (drawn g n) = false
+is_given h (served g n) = false
+is_given h (taken g) = false
+is_given h (given g) = g == h
+
 -- the word that the task drew shows its number
 abbrev pub ShowsNumber : Ticket → ℕ → Type 0
 ShowsNumber no_ticket k = Unit {0}

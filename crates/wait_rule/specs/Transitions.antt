@@ -20,13 +20,12 @@ use Rattle.std.specs.Prelude.{
   [],
   ◌∷◌,
 }
-use Rattle.wait_model.specs.declared.layout.TheConstants.{ENTRIES, MEMBERS, PLACES, MIDDLE}
+use Rattle.wait_model.specs.declared.layout.TheConstants.{MEMBER_WORDS, PLACES, MIDDLE}
 use Rattle.wait_model.specs.declared.watches.Watch.{Watch}
 use Rattle.wait_model.specs.declared.watches.Entry.{Entry}
 use Rattle.wait_model.specs.declared.watches.Aim.{Aim}
 use Rattle.wait_model.specs.declared.queues.Form.{Form}
 use Rattle.wait_model.specs.declared.queues.Form.TheVariants as forms
-use Rattle.wait_model.specs.declared.queues.Mark.{Mark}
 use Rattle.wait_model.specs.declared.queues.Member.{Member}
 use Rattle.wait_model.specs.declared.calls.Call.{Call}
 use Rattle.wait_model.specs.declared.calls.Event.{Event}
@@ -50,10 +49,9 @@ use Rattle.wait_model.specs.declared.points.Next.TheVariants as next
 use Rattle.wait_model.specs.declared.steps.Step.{Step}
 use Rattle.wait_model.specs.declared.steps.Step.TheVariants as step
 use Rattle.wait_model.specs.Tasks.{task_of}
-use Rattle.wait_model.specs.Watches.{head_of, owner, same}
+use Rattle.wait_model.specs.Watches.{owner, same}
 use Rattle.wait_model.specs.Words.{entry_of, flag_of}
 use Rattle.wait_model.specs.Views.{Look, unseen, off, elsewhere, shown}
-use Rattle.wait_model.specs.Tables.{mark_of}
 use Rattle.wait_model.specs.Queues.{Arrival, is_within, place_for, entry_from}
 use Rattle.wait_model.specs.Points.{form_of, given_at, walk_given}
 use Rattle.wait_model.specs.Programs.{walk_event}
@@ -75,6 +73,7 @@ IsLook (item.Made _) = ⊥
 IsLook (item.Awake w) = Unit {0}
 IsLook (item.Bookmark t w) = Unit {0}
 IsLook item.Member = Unit {0}
+IsLook (item.Word w) = Unit {0}
 IsLook (item.Drawn h w) = Unit {0}
 IsLook (item.Serving h w) = Unit {0}
 IsLook item.Served = Unit {0}
@@ -119,7 +118,7 @@ walk_program aim = record {
   form = None;
 }
 
--- what a task makes for one event: a step, or, where it looks for members without the lock, loads of many words
+-- what a task makes for one event: a step, or, where it looks for members without the lock, loads of member words
 pub data StepOrLook : Type 0 where
   by_step : Step → StepOrLook
   by_look : List Item → StepOrLook
@@ -174,47 +173,36 @@ IsStepFor k own g (event.Flag hit) (step.Flag x w) = own ≡ Some x
 IsStepFor k own g event.Unflag (step.Unflag x) = own ≡ Some x
 IsStepFor k own g _ _ = ⊥
 
--- A look for members without the lock loads words of entries and bookmarks: all of them, where it finds no member.
-abbrev pub IsMemberLook : Item → Type 0
-IsMemberLook (item.Made (step.Peek x w)) = Unit {0}
-IsMemberLook (item.Bookmark t w) = Unit {0}
-IsMemberLook _ = ⊥
+-- A look for members without the lock loads the member words of its head: all of them, where it finds no bit.
+abbrev pub IsScanOf : ℕ → Item → Type 0
+IsScanOf h (item.Made (step.Scan g i w)) = g ≡ h
+IsScanOf h _ = ⊥
 
-abbrev pub AreMemberLooks : List Item → Type 0
-AreMemberLooks [] = Unit {0}
-AreMemberLooks (x ∷ xs) = IsMemberLook x × AreMemberLooks xs
+abbrev pub AreScansOf : ℕ → List Item → Type 0
+AreScansOf h [] = Unit {0}
+AreScansOf h (x ∷ xs) = IsScanOf h x × AreScansOf h xs
 
-abbrev pub is_entry_at : ℕ → Option Entry → Bool
-is_entry_at h None = false
-is_entry_at h (Some e) = head_of e.watch == h
+-- some load found a bit, and which words were loaded
+abbrev pub found_bit : Item → Bool
+found_bit (item.Made (step.Scan g i w)) = not (w == 0)
+found_bit _ = false
 
-abbrev pub is_mark_at : ℕ → Option Mark → Bool
-is_mark_at h None = false
-is_mark_at h (Some m) = m.head == h
+abbrev pub has_bit : List Item → Bool
+has_bit [] = false
+has_bit (x ∷ xs) = found_bit x || has_bit xs
 
-abbrev pub is_member_at : ℕ → Item → Bool
-is_member_at h (item.Made (step.Peek x w)) = is_entry_at h (entry_of w)
-is_member_at h (item.Bookmark t w) = is_mark_at h (mark_of w)
-is_member_at h _ = false
+abbrev pub loaded_word : ℕ → Item → Bool
+loaded_word i (item.Made (step.Scan g j w)) = j == i
+loaded_word i _ = false
 
-abbrev pub has_member_at : ℕ → List Item → Bool
-has_member_at h [] = false
-has_member_at h (x ∷ xs) = is_member_at h x || has_member_at h xs
-
--- the number of the member whose word was loaded, and which numbers a list has
-abbrev pub is_number : ℕ → Item → Bool
-is_number m (item.Made (step.Peek x w)) = x == m
-is_number m (item.Bookmark t w) = ENTRIES + t == m
-is_number m _ = false
-
-abbrev pub has_number : ℕ → List Item → Bool
-has_number m [] = false
-has_number m (x ∷ xs) = is_number m x || has_number m xs
+abbrev pub has_word : ℕ → List Item → Bool
+has_word i [] = false
+has_word i (x ∷ xs) = loaded_word i x || has_word i xs
 
 abbrev pub IsMadeFor : Known → Option ℕ → Given → Event → StepOrLook → Type 0
 IsMadeFor k own g e (by_step s) = IsStepFor k own g e s
-IsMadeFor k own g (event.Active h hit) (by_look xs) = AreMemberLooks xs × (has_member_at h xs ≡ hit)
-    × (hit ≡ false → (m : ℕ) → m < MEMBERS → has_number m xs ≡ true)
+IsMadeFor k own g (event.Active h hit) (by_look xs) = AreScansOf h xs × (has_bit xs ≡ hit)
+    × (hit ≡ false → (i : ℕ) → i < MEMBER_WORDS → has_word i xs ≡ true)
 IsMadeFor k own g _ (by_look xs) = ⊥
 
 -- what the program found is what its step found

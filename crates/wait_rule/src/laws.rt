@@ -5,6 +5,7 @@ ghost use Rattle.wait_rule.specs.Says.{MeetsLaw};
 ghost use Rattle.wait_rule.specs.Worn.{EntriesWearLate, MarksWearLate, HoldsWearLate, OwnWearsLate, JoinedWearsLate};
 ghost use Rattle.wait_rule.specs.Worn.{HoldsNote, NotesStay, JoinKeepsNotes};
 ghost use Rattle.wait_rule.specs.WorkedHolds.{SimpleHolds, CallsRightly, PausesRightly};
+ghost use Rattle.wait_rule.specs.Unlocks.{AllUnlocksCount};
 
 use crate::domain::{Domain, Task};
 use crate::rule::Witness;
@@ -47,4 +48,10 @@ pub fn worked_holds()
     ensures simple { SimpleHolds }
     ensures calls { CallsRightly }
     ensures pauses { PausesRightly }
+{}
+
+/// The number that a head serves, as a task loads it that has joined all others, is the number of unlocks of the head
+/// in the histories that it has then, less one while the serve of the last is still to come.
+pub fn unlocks_are_counted()
+    ensures { AllUnlocksCount }
 {}

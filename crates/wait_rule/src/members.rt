@@ -1,6 +1,6 @@
 //! The steps on the words by which a head knows its members.
 
-ghost use Rattle.std.specs.Prelude.{◌≡◌, ◌<◌, Some};
+ghost use Rattle.std.specs.Prelude.{◌≡◌, ◌<◌, Some, None};
 ghost use Rattle.wait_model.specs.declared.layout.TheConstants.{SLOTS};
 ghost use Rattle.wait_model.specs.declared.layout.TheConstants.{WORD_BITS, HEADS, MEMBERS, MEMBER_WORDS};
 ghost use Rattle.wait_rule.specs.declared.journal.Item.TheVariants as item;
@@ -11,10 +11,12 @@ ghost use Rattle.wait_model.specs.declared.watches.Entry.{Entry};
 ghost use Rattle.wait_model.specs.declared.steps.Step.TheVariants as step;
 ghost use Rattle.wait_model.specs.Tables.{mark_of};
 ghost use Rattle.wait_model.specs.Words.{entry_of, entry_word};
-ghost use Rattle.wait_rule.specs.MemberLooks.{SawClear};
+ghost use Rattle.wait_rule.specs.LookCounts.{Looked};
+ghost use Rattle.wait_rule.specs.MemberLooks.{SawWord};
+ghost use Rattle.wait_rule.specs.Stays.{Carries, unchanged};
 
 use crate::domain::{Domain, Task};
-use crate::queue_plays::{SeeMembers, StoreMember};
+use crate::queue_plays::{ScanMembers, SeeMembers, StoreMember};
 use crate::queues::{mark_store, queue_store, unqueue_store};
 use wait_model::entry_words::EntryWord;
 use wait_model::layout::{ENTRIES, SLOTS, WORD_BITS};
@@ -46,30 +48,37 @@ pub fn member_store(domain: &Domain, task: &mut Task, head: u16, index: u16, on:
 }
 
 /// Loads word `i`, below `MEMBER_WORDS`, of the members of the head that the task holds, where no word differs from its
-/// bit. Each index whose bit is clear stands for a look at that entry or bookmark, which found it not naming the head:
-/// it enters what the hold shows, and what the hold has shown before still stands. It is no event.
-pub fn member_load(domain: &Domain, task: &mut Task, head: u16, i: u8) -> u64
-    requires of { task.old.domain ≡ domain.now }
-    requires head { head < HEADS }
-    requires word { i < MEMBER_WORDS }
-    requires held { task.old.book.head ≡ Some head }
-    requires agreed { IsAgreed task.old }
-    ensures { SawClear head i result WORD_BITS task.old task.new }
-{
-    let at = member_at(head, i) as usize;
-    domain.table.shared.load::<SeeMembers>(&mut task.seat, at)
-}
-
-/// Loads word `i`, below `MEMBER_WORDS`, of the members of the head that the task holds, as `member_load` does.
+/// bit. Each bit stands for a look at the entry or bookmark of its index, which found it naming the head exactly where
+/// the bit is set: it enters what the hold shows, and what the hold has shown before still stands. It is no event, and
+/// one look.
 pub fn held_member_load(domain: &Domain, task: &mut Task, i: u8) -> u64
     requires of { task.old.domain ≡ domain.now }
     requires word { i < MEMBER_WORDS }
     requires held { IsLocked task.old }
     requires agreed { IsAgreed task.old }
-    ensures { SawClear task.old.at i result WORD_BITS task.old task.new }
+    ensures saw { SawWord task.old.at i result task.old task.new }
+    ensures looks { Looked 1 task.old task.new }
 {
-    let head = task.head;
-    member_load(domain, task, head, i)
+    let at = member_at(task.head, i) as usize;
+    domain.table.shared.load::<SeeMembers>(&mut task.seat, at)
+}
+
+/// Loads word `i`, below `MEMBER_WORDS`, of the members of head `head`, below `HEADS`, without its lock: the task holds
+/// none (`waitqueue_active` is a look at all of them). Where such a look finds no bit in any word, the task owes no
+/// wake of a watch of the head any more (`wait_model::laws::empty_looks_end`): who is not seen has tested no watch yet.
+/// A bit that is set ends nothing. One look.
+pub fn member_load(domain: &Domain, task: &mut Task, head: u16, i: u8) -> u64
+    requires of { task.old.domain ≡ domain.now }
+    requires up { IsUp task.old }
+    requires out { task.old.book.head ≡ None }
+    requires head { head < HEADS }
+    requires word { i < MEMBER_WORDS }
+    ensures step { task.new ≡ added task.old (item.Made (step.Scan head i result)) }
+    ensures looks { Looked 1 task.old task.new }
+    ensures carries { Carries unchanged task.old task.new }
+{
+    let at = member_at(head, i) as usize;
+    domain.table.shared.load::<ScanMembers>(&mut task.seat, at)
 }
 
 /// Queues the own entry of slot 0 or 1 as `queue_store` does, and sets its member bit.

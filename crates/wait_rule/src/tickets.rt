@@ -4,7 +4,7 @@
 ghost use Rattle.std.specs.Prelude.{◌≡◌, ◌<◌};
 ghost use Rattle.wait_model.specs.declared.layout.TheConstants.{HEADS};
 ghost use Rattle.wait_rule.specs.declared.journal.Item.TheVariants as item;
-ghost use Rattle.wait_rule.specs.Says.{IsFree, added};
+ghost use Rattle.wait_rule.specs.Says.{IsFree, ServesUnlocks, added};
 ghost use Rattle.wait_rule.specs.Queues.{HasGiven};
 
 use crate::domain::{Domain, Task};
@@ -24,11 +24,13 @@ pub fn draw(domain: &Domain, task: &mut Task, head: u16) -> u64
 }
 
 /// The number of head `head`, below `HEADS`, that is served, modulo 2^64. Where it is the one that the task drew of
-/// this head, the task knows from then on that its ticket is served.
+/// this head, the task knows from then on that its ticket is served. It counts the locks of the head that were given
+/// back, but for one whose serve is still to come: a task that has joined all others finds them in its histories.
 pub fn serving_load(domain: &Domain, task: &mut Task, head: u16) -> u64
     requires of { task.old.domain ≡ domain.now }
     requires head { head < HEADS }
-    ensures { task.new ≡ added task.old (item.Serving head result) }
+    ensures step { task.new ≡ added task.old (item.Serving head result) }
+    ensures counts { ServesUnlocks task.old.view head result }
 {
     let at = serving_at(head) as usize;
     domain.table.shared.load::<LoadServing>(&mut task.seat, at)
@@ -42,19 +44,21 @@ pub fn serve(domain: &Domain, task: &mut Task)
     requires given { HasGiven task.old }
     ensures { task.new ≡ added task.old item.Served }
 {
-    let at = serving_at(task.head) as usize;
+    let head = task.head;
+    let at = serving_at(head) as usize;
     let found = domain
         .table
         .shared
         .fetch_add::<Serve>(&mut task.seat, at, 1);
-    let drawn = domain.table.shared.peek(next_at(task.head) as usize);
+    let drawn = domain.table.shared.peek(next_at(head) as usize);
     if drawn != found.wrapping_add(1) {
         domain.table.shared.wake_all(at);
     }
 }
 
 /// Parks the thread while head `head`, below `HEADS`, serves the number `found`. It may return for no reason. At most
-/// `TASKS` tickets are out, so two numbers that a waiting task finds there differ in their lower 32 bits.
+/// `TASKS` tickets are out, so two numbers that a waiting task finds there differ in their lower 32 bits. It takes no
+/// task: no word changes, and no task knows more or less after it.
 pub fn park_until_next<R: Wait>(rt: &R, domain: &Domain, head: u16, found: u64)
     requires { head < HEADS }
 {

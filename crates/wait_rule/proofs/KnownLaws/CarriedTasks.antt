@@ -30,7 +30,7 @@ use Rattle.wait_model.specs.Tasks.{meets, task_of, sleep_of}
 use Rattle.wait_model.specs.Watches.{same, mask_of, failing, head_of}
 use Rattle.wait_model.specs.Words.{entry_of}
 use Rattle.wait_model.specs.Views.{View as Told, is_trying_for, shown, elsewhere, look_at, all_cleared}
-use Rattle.wait_model.specs.Fold.{after, after_look, peeks, view_of}
+use Rattle.wait_model.specs.Fold.{after, after_look, peeks, scanned, view_of}
 use Rattle.wait_model.proofs.Functions.{put_same}
 use Rattle.wait_rule.specs.declared.journal.Item.TheVariants as item
 use Rattle.wait_rule.specs.Items.{Book, after_sleep, after_awake, learn_step, steps_of}
@@ -59,7 +59,15 @@ use Rattle.wait_rule.specs.Stays.{
 use Rattle.wait_rule.proofs.KnownLaws.AfterSteps.{told_added}
 use Rattle.wait_rule.proofs.TableSteps.ItemLists.{steps_append}
 use Rattle.wait_rule.proofs.KnownLaws.SettledTasks.{owes_after, owes_looks}
-use Rattle.wait_rule.proofs.KnownLaws.StayingParts.{none_tried, stays_owing, look_stays, look_out, owes_out}
+use Rattle.wait_rule.proofs.KnownLaws.StayingParts.{
+  none_tried,
+  stays_bits,
+  stays_same,
+  stays_owing,
+  look_stays,
+  look_out,
+  owes_out,
+}
 
 -- whoever is excused of more owes no more
 covered : (o x y : Bool) → (x ≡ true → y ≡ true) → (o && not x) ≡ false → (o && not y) ≡ false
@@ -186,7 +194,11 @@ step_carried state old new e is awake now head ticket hold mark duty stored owin
     told : told_of new ≡ after e (told_of old)
     told = ap told_of is ∙ told_added old (item.Made e)
 
--- over two calls that change nothing
+-- over no call, and over two calls that change nothing
+pub unchanged_none : (k : Known) → Carries unchanged k k
+unchanged_none k = stays_carried (λ h. h) (λ t. t) (λ h. h) false k k (stays_same k) refl refl refl refl refl
+    (λ c σ none. none) (λ x _. refl)
+
 pub unchanged_on : (x y z : Known) → Carries unchanged x y → Carries unchanged y z → Carries unchanged x z
 unchanged_on x y z a b = record {
   domain = b.domain ∙ a.domain;
@@ -350,6 +362,21 @@ published_carried old new c n r is = record {
   where
     told : told_of new ≡ after (step.Publish c n r) (told_of old)
     told = ap told_of is ∙ told_added old (item.Made (step.Publish c n r))
+
+-- a load of a member word without the lock: wakes that are owed may end
+pub scan_carried : (old new : Known) (h i w : ℕ) → new ≡ added old (item.Made (step.Scan h i w))
+    → Carries unchanged old new
+scan_carried old new h i w is = stays_carried (λ o. o) (λ t. t) (λ o. o) false old new
+    (stays_bits old new (ap (λ (k : Known). k.domain) is) (ap (λ (k : Known). k.view.number) is)
+    (ap (λ (k : Known). k.book.state) is) (ap (λ (k : Known). k.book.awake) is) (ap (λ (v : Told). v.bits) told))
+    (ap (λ (k : Known). k.book.head) is) (ap (λ (k : Known). k.book.ticket) is)
+    (ap (λ (v : Told). v.hold.head) told) (ap (λ (k : Known). k.at) is) (ap (λ (v : Told). v.mark) told)
+    (λ c σ none. ap (λ (v : Told). v.duty.owes c σ) told
+    ∙ ap (λ (b : Bool). b && not (all_cleared (scanned (told_of old).duty.cleared h i w c))) none)
+    (λ x _. ap (λ (v : Told). v.bits.stored x) told)
+  where
+    told : told_of new ≡ after (step.Scan h i w) (told_of old)
+    told = ap told_of is ∙ told_added old (item.Made (step.Scan h i w))
 
 -- a look at an entry word, in a hold or outside of one
 learn_saw : (o : Option ℕ) (x w : ℕ) (b : Book) → learn_step (saw o x w) b ≡ b

@@ -55,6 +55,7 @@ from_head [] b v h = h
 from_head (item.Made e ∷ xs) b v h = from_head xs (learn_step e b) (after e v) (step_head e b v h)
 from_head (item.Bookmark t w ∷ xs) b v h = from_head xs b v h
 from_head (item.Member ∷ xs) b v h = from_head xs (learn item.Member b) v h
+from_head (item.Word w ∷ xs) b v h = from_head xs b v h
 from_head (item.Drawn k w ∷ xs) b v h = from_head xs (learn (item.Drawn k w) b) v h
 from_head (item.Serving k w ∷ xs) b v h = from_head xs (learn (item.Serving k w) b) v h
 from_head (item.Served ∷ xs) b v h = from_head xs (learn item.Served b) v h

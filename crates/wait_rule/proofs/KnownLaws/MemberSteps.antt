@@ -19,8 +19,6 @@ use Rattle.std.specs.Prelude.{
   None,
   List,
   ◌++◌,
-  ◌∷◌,
-  [],
 }
 use Rattle.std.proofs.lemmas.Bool.Decides.{eqb_tells, nat_tests}
 use mathlib.Core.Path.{fun_ext}
@@ -33,16 +31,15 @@ use Rattle.wait_model.specs.declared.tasks.Sleep.{Sleep}
 use Rattle.wait_model.specs.declared.tasks.Sleep.TheVariants as sleep
 use Rattle.wait_model.specs.Tasks.{task_of, sleep_of}
 use Rattle.wait_model.specs.Functions.{put}
-use Rattle.wait_model.specs.Watches.{head_of}
-use Rattle.wait_model.specs.Views.{View as Told, Hold}
-use Rattle.wait_model.specs.Fold.{after}
+use Rattle.wait_model.specs.declared.watches.Watch.{Watch}
+use Rattle.wait_model.specs.Watches.{head_of, owner, stands_at}
+use Rattle.wait_model.specs.Views.{View as Told}
+use Rattle.wait_model.specs.Fold.{after, is_held}
 use Rattle.wait_model.specs.Tables.{Table, next}
-use Rattle.wait_model.specs.Rows.{Allowed}
+use Rattle.wait_model.specs.Rows.{Allowed, IsUntested}
 use Rattle.wait_model.specs.Locations as place
 use Rattle.wait_model.proofs.Functions.{put_case, put_at, put_same, put_other}
-use Rattle.wait_model.proofs.StepLaws.UnlockSteps.{unlock_hold}
 use Rattle.wait_rule.specs.declared.journal.Item.{Item}
-use Rattle.wait_rule.specs.declared.journal.Item.TheVariants as item
 use Rattle.wait_rule.specs.Items.{
   Difference,
   nothing,
@@ -57,12 +54,12 @@ use Rattle.wait_rule.specs.Items.{
 }
 use Rattle.wait_rule.specs.Notes.{is_at}
 use Rattle.wait_rule.specs.Tickets.{served}
-use Rattle.wait_rule.specs.MemberWords.{is_for_head, names, index_named, is_put, all_differences, AreMembers}
+use Rattle.wait_rule.specs.MemberWords.{names, index_named, is_put, all_differences, AreMembers}
 use Rattle.wait_rule.proofs.TableSteps.ItemLists.{book_append}
 
 -- What the calls' steps keep of members and tickets: a word is stored, and a lock given back, where no word differs
--- from its bit; a bookmark that is put or taken out is of the head that the task holds; and a lock is taken by a ticket
--- that was read as served.
+-- from its bit; a bookmark that is put or taken out is of the head that the task holds; a watch is tested in a hold
+-- where no word differs from its bit; and a lock is taken by a ticket that was read as served.
 abbrev pub IsOrderly : Table → ℕ → Step → Book → Type 0
 IsOrderly s a (step.Lock h aim w) b = (n : ℕ) × (b.ticket ≡ served h n)
 IsOrderly s a (step.Unlock h sp) b = b.differs ≡ nothing
@@ -71,6 +68,7 @@ IsOrderly s a (step.Unqueue x) b = (b.differs ≡ nothing) × (x < ENTRIES)
 IsOrderly s a (step.Mark h q) b = (b.differs ≡ nothing) × (s.mark a ≡ None)
 IsOrderly s a step.Unmark b = (b.differs ≡ nothing) × ((h : ℕ) × (q : ℕ) × ((s.view a).hold.head ≡ Some h)
     × (s.mark a ≡ Some (record { head = h; place = q })))
+IsOrderly s a (step.Load c r) b = (h : ℕ) → (s.view a).hold.head ≡ Some h → b.differs ≡ nothing
 IsOrderly s a e b = Unit {0}
 
 -- lists with more items
@@ -112,26 +110,37 @@ none_is x e = absurd (cc)
 pub nothing_named : (a : ℕ) (d : Difference) (x : ℕ) → d ≡ nothing → index_named a d ≢ Some x
 nothing_named a d x is e = none_is x (sym (ap (index_named a) is) ∙ e)
 
+pub none_there : {A : Type 0} (x : ℕ) (on : Bool) → nothing ≡ at_entry x on → A
+none_there x on e = absurd (cc)
+
 -- the same words and heads
 quiet_members : (s t : Table) (differs : ℕ → Difference) (beside : place.Location → ℕ) → t.entry ≡ s.entry
     → t.mark ≡ s.mark → ((a : ℕ) → (t.view a).hold.head ≡ (s.view a).hold.head)
+    → ((a h x : ℕ) → (s.view a).hold.head ≡ Some h → differs a ≡ at_entry x true → IsUntested (s.view a) h x
+    → IsUntested (t.view a) h x)
     → AreMembers s differs beside → AreMembers t differs beside
-quiet_members s t differs beside entry mark head r = record {
+quiet_members s t differs beside entry mark head keeps r = record {
   bits = r.bits;
   spells = r.spells;
   agrees = λ h x far. r.agrees h x (λ a held. far a (head a ∙ held)) ∙ sym (same h x);
   named = λ a h x held is. same h x ∙ r.named a h x (sym (head a) ∙ held) is;
+  untested = λ a h x held is.
+      let u = r.untested a h x (sym (head a) ∙ held) is in
+      (u.0, keeps a h x (sym (head a) ∙ held) is u.1);
 }
   where
     same : (h x : ℕ) → names t h x ≡ names s h x
-    same h x = λ i. if nat_lt x ENTRIES then is_for_head h (entry i x) else is_at h (mark i (x - ENTRIES))
+    same h x = λ i. if nat_lt x ENTRIES then stands_at (entry i x) h else is_at h (mark i (x - ENTRIES))
 
 -- Task a takes a lock or gives one back: it names nothing then, and named nothing before.
 module _ (s t : Table) (differs : ℕ → Difference) (beside : place.Location → ℕ) (a : ℕ) (entry : t.entry ≡ s.entry)
-    (mark : t.mark ≡ s.mark) (others : (b : ℕ) → b ≢ a → (t.view b).hold.head ≡ (s.view b).hold.head)
+    (mark : t.mark ≡ s.mark) (others : (b : ℕ) → b ≢ a → t.view b ≡ s.view b)
     (was : (h x : ℕ) → (s.view a).hold.head ≡ Some h → index_named a (differs a) ≢ Some x) where
   same_names : (h x : ℕ) → names t h x ≡ names s h x
-  same_names h x = λ i. if nat_lt x ENTRIES then is_for_head h (entry i x) else is_at h (mark i (x - ENTRIES))
+  same_names h x = λ i. if nat_lt x ENTRIES then stands_at (entry i x) h else is_at h (mark i (x - ENTRIES))
+
+  other_heads : (b : ℕ) → b ≢ a → (t.view b).hold.head ≡ (s.view b).hold.head
+  other_heads b ne = ap (λ (v : Told). v.hold.head) (others b ne)
 
   lock_members : AreMembers s differs beside → AreMembers t (put differs a nothing) beside
   lock_members r = record {
@@ -139,6 +148,7 @@ module _ (s t : Table) (differs : ℕ → Difference) (beside : place.Location �
     spells = r.spells;
     agrees = λ h x far. r.agrees h x (λ b held. by h x far b held (eqb_tells b a)) ∙ sym (same_names h x);
     named = λ b h x held is. named_by b h x held is (eqb_tells b a);
+    untested = λ b h x held is. untested_by b h x held is (eqb_tells b a);
   }
     where
       by : (h x : ℕ) → ((b : ℕ) → (t.view b).hold.head ≡ Some h → index_named b (put differs a nothing b) ≢ Some x)
@@ -148,22 +158,32 @@ module _ (s t : Table) (differs : ℕ → Difference) (beside : place.Location �
       by h x far b held (inl q) = subst (λ (i : ℕ). index_named i (differs i) ≢ Some x) (sym q.1)
           (was h x (subst (λ (i : ℕ). (s.view i).hold.head ≡ Some h) q.1 held))
       by h x far b held (inr q) = subst (λ (d : Difference). index_named b d ≢ Some x)
-          (put_other differs a nothing b q.1) (far b (others b q.1 ∙ held))
+          (put_other differs a nothing b q.1) (far b (other_heads b q.1 ∙ held))
 
       named_by : (b h x : ℕ) → (t.view b).hold.head ≡ Some h → index_named b (put differs a nothing b) ≡ Some x
           → (((b == a) ≡ true) × (b ≡ a)) ⊎ (((b == a) ≡ false) × (b ≢ a))
           → names t h x ≡ is_put (put differs a nothing b)
       named_by b h x held is (inl q) = absurd (nothing_named b (put differs a nothing b) x
           (ap (put differs a nothing) q.1 ∙ put_same differs a nothing) is)
-      named_by b h x held is (inr q) = same_names h x ∙ (r.named b h x (sym (others b q.1) ∙ held)
+      named_by b h x held is (inr q) = same_names h x ∙ (r.named b h x (sym (other_heads b q.1) ∙ held)
           (sym (ap (index_named b) (put_other differs a nothing b q.1)) ∙ is)
           ∙ ap is_put (sym (put_other differs a nothing b q.1)))
+
+      untested_by : (b h x : ℕ) → (t.view b).hold.head ≡ Some h → put differs a nothing b ≡ at_entry x true
+          → (((b == a) ≡ true) × (b ≡ a)) ⊎ (((b == a) ≡ false) × (b ≢ a))
+          → (owner x ≡ b) × IsUntested (t.view b) h x
+      untested_by b h x held is (inl q) = none_there x true
+          (sym (ap (put differs a nothing) q.1 ∙ put_same differs a nothing) ∙ is)
+      untested_by b h x held is (inr q) = subst (λ (v : Told). (owner x ≡ b) × IsUntested v h x) (sym (others b q.1))
+          (r.untested b h x (sym (other_heads b q.1) ∙ held) (sym (put_other differs a nothing b q.1) ∙ is))
 
 -- Task a stores the word of index i in a hold of head g, where it named nothing before; it names i then.
 module _ (s t : Table) (differs : ℕ → Difference) (beside : place.Location → ℕ) (a g i : ℕ) (d : Difference)
     (held : (s.view a).hold.head ≡ Some g) (clear : differs a ≡ nothing) (index : index_named a d ≡ Some i)
     (one : (x y h : ℕ) → (s.view x).hold.head ≡ Some h → (s.view y).hold.head ≡ Some h → x ≡ y)
     (heads : (b : ℕ) → (t.view b).hold.head ≡ (s.view b).hold.head)
+    (others : (b : ℕ) → b ≢ a → t.view b ≡ s.view b)
+    (fresh : (x : ℕ) → d ≡ at_entry x true → (owner x ≡ a) × IsUntested (t.view a) g x)
     (there : names t g i ≡ is_put d)
     (words : (h x : ℕ) → x ≢ i → names t h x ≡ names s h x)
     (elsewhere : (h : ℕ) → h ≢ g → names t h i ≡ names s h i) where
@@ -176,6 +196,7 @@ module _ (s t : Table) (differs : ℕ → Difference) (beside : place.Location �
     spells = r.spells;
     agrees = λ h x far. agrees_by h x far (eqb_tells h g);
     named = λ b h x holds is. named_by b h x holds is (eqb_tells b a);
+    untested = λ b h x holds is. untested_by b h x holds is (eqb_tells b a);
   }
     where
       D : ℕ → Difference
@@ -219,6 +240,18 @@ module _ (s t : Table) (differs : ℕ → Difference) (beside : place.Location �
           other_heads h x (λ e. q.1 (one b a g (sym (heads b) ∙ (holds ∙ ap (λ (j : ℕ). Some j) e)) held))
           ∙ (r.named b h x (sym (heads b) ∙ holds) (sym (ap (index_named b) now) ∙ is) ∙ ap is_put (sym now))
 
+      untested_by : (b h x : ℕ) → (t.view b).hold.head ≡ Some h → D b ≡ at_entry x true
+          → (((b == a) ≡ true) × (b ≡ a)) ⊎ (((b == a) ≡ false) × (b ≢ a))
+          → (owner x ≡ b) × IsUntested (t.view b) h x
+      untested_by b h x holds is (inl q) =
+          let now : D b ≡ d = ap D q.1 ∙ put_same differs a d in
+          let head : h ≡ g = some_same h g (sym holds ∙ (heads b ∙ (ap (λ (j : ℕ). (s.view j).hold.head) q.1
+          ∙ held))) in
+          subst (λ (k : ℕ). (owner x ≡ k) × IsUntested (t.view k) h x) (sym q.1)
+          (subst (λ (j : ℕ). (owner x ≡ a) × IsUntested (t.view a) j x) (sym head) (fresh x (sym now ∙ is)))
+      untested_by b h x holds is (inr q) = subst (λ (v : Told). (owner x ≡ b) × IsUntested v h x) (sym (others b q.1))
+          (r.untested b h x (sym (heads b) ∙ holds) (sym (put_other differs a d b q.1) ∙ is))
+
 -- which words a store of an entry's or a bookmark's word changes
 entry_test : (x : ℕ) → x < ENTRIES → nat_lt x ENTRIES ≡ true
 entry_test x small = grind (arith, nat_tests)
@@ -229,27 +262,27 @@ mark_test t = let far : (ENTRIES + t < ENTRIES) → ⊥ = λ h. omega arith in g
 mark_back : (t : ℕ) → ENTRIES + t - ENTRIES ≡ t
 mark_back t = omega arith
 
-pub entry_names : (s : Table) (h x : ℕ) → x < ENTRIES → names s h x ≡ is_for_head h (s.entry x)
-entry_names s h x small = ap (λ (b : Bool). if b then is_for_head h (s.entry x) else is_at h (s.mark (x - ENTRIES)))
+pub entry_names : (s : Table) (h x : ℕ) → x < ENTRIES → names s h x ≡ stands_at (s.entry x) h
+entry_names s h x small = ap (λ (b : Bool). if b then stands_at (s.entry x) h else is_at h (s.mark (x - ENTRIES)))
     (entry_test x small)
 
 pub mark_names : (s : Table) (h t : ℕ) → names s h (ENTRIES + t) ≡ is_at h (s.mark t)
-mark_names s h t = ap (λ (b : Bool). if b then is_for_head h (s.entry (ENTRIES + t))
+mark_names s h t = ap (λ (b : Bool). if b then stands_at (s.entry (ENTRIES + t)) h
     else is_at h (s.mark (ENTRIES + t - ENTRIES))) (mark_test t) ∙ ap (λ (u : ℕ). is_at h (s.mark u)) (mark_back t)
 
 other_entry : (s : Table) (x : ℕ) (o : Option Entry) (z : Table) → z.entry ≡ put s.entry x o → z.mark ≡ s.mark
     → (h y : ℕ) → y ≢ x → names z h y ≡ names s h y
 other_entry s x o z entry mark h y ne = λ i. if nat_lt y ENTRIES
-    then is_for_head h ((ap (λ (f : ℕ → Option Entry). f y) entry ∙ put_other s.entry x o y ne) i)
+    then stands_at ((ap (λ (f : ℕ → Option Entry). f y) entry ∙ put_other s.entry x o y ne) i) h
     else is_at h (mark i (y - ENTRIES))
 
 other_mark : (s : Table) (t : ℕ) (o : Option Mark) (z : Table) → z.mark ≡ put s.mark t o → z.entry ≡ s.entry
     → (h y : ℕ) → y ≢ ENTRIES + t → names z h y ≡ names s h y
 other_mark s t o z mark entry h y ne = by (nat_lt y ENTRIES) refl
   where
-    by : (b : Bool) → nat_lt y ENTRIES ≡ b → (if b then is_for_head h (z.entry y) else is_at h (z.mark (y - ENTRIES)))
-        ≡ (if b then is_for_head h (s.entry y) else is_at h (s.mark (y - ENTRIES)))
-    by true q = ap (λ (f : ℕ → Option Entry). is_for_head h (f y)) entry
+    by : (b : Bool) → nat_lt y ENTRIES ≡ b → (if b then stands_at (z.entry y) h else is_at h (z.mark (y - ENTRIES)))
+        ≡ (if b then stands_at (s.entry y) h else is_at h (s.mark (y - ENTRIES)))
+    by true q = ap (λ (f : ℕ → Option Entry). stands_at (f y) h) entry
     by false q =
         let from : (y < ENTRIES) → ⊥ = grind (arith, nat_tests) in
         let far : y - ENTRIES ≢ t = (λ e. ne (omega arith)) in
@@ -265,14 +298,26 @@ other_test g h ne = grind (arith, nat_tests)
 still_step : (s : Table) (a : ℕ) (e : Step) (b : Book) (differs : ℕ → Difference) (beside : place.Location → ℕ)
     → (next s a e).entry ≡ s.entry → (next s a e).mark ≡ s.mark
     → (after e (s.view a)).hold.head ≡ (s.view a).hold.head → (learn_step e b).differs ≡ b.differs
-    → differs a ≡ b.differs → AreMembers s differs beside
+    → differs a ≡ b.differs
+    → ((h x : ℕ) → (s.view a).hold.head ≡ Some h → b.differs ≡ at_entry x true → IsUntested (s.view a) h x
+    → IsUntested (after e (s.view a)) h x)
+    → AreMembers s differs beside
     → AreMembers (next s a e) (put differs a (learn_step e b).differs) beside
-still_step s a e b differs beside entry mark head kept same r =
+still_step s a e b differs beside entry mark head kept same keeps r =
     subst (λ (f : ℕ → Difference). AreMembers (next s a e) f beside)
     (sym (put_again differs a (learn_step e b).differs (kept ∙ sym same)))
     (quiet_members s (next s a e) differs beside entry mark
     (λ d. put_at (λ (v : Told). v.hold.head ≡ (s.view d).hold.head) s.view a (after e (s.view a)) d
-    (λ q. head ∙ ap (λ (i : ℕ). (s.view i).hold.head) (sym q)) (λ _. refl)) r)
+    (λ q. head ∙ ap (λ (i : ℕ). (s.view i).hold.head) (sym q)) (λ _. refl))
+    (λ d h x held is u. put_at (λ (v : Told). IsUntested v h x) s.view a (after e (s.view a)) d
+    (λ q. keeps h x (ap (λ (i : ℕ). (s.view i).hold.head) (sym q) ∙ held) (sym same ∙ (ap differs (sym q) ∙ is))
+    (subst (λ (i : ℕ). IsUntested (s.view i) h x) q u)) (λ _. u)) r)
+
+taken_out : {A : Type 0} (x y : ℕ) → at_entry x false ≡ at_entry y true → A
+taken_out x y is = absurd (cc)
+
+no_entry : {A : Type 0} (on : Bool) (y : ℕ) → at_mark on ≡ at_entry y true → A
+no_entry on y is = absurd (cc)
 
 module _ (s : Table) (a : ℕ) (b : Book) (differs : ℕ → Difference) (beside : place.Location → ℕ)
     (one : (x y h : ℕ) → (s.view x).hold.head ≡ Some h → (s.view y).hold.head ≡ Some h → x ≡ y)
@@ -282,15 +327,42 @@ module _ (s : Table) (a : ℕ) (b : Book) (differs : ℕ → Difference) (beside
   same_heads e head d = put_at (λ (v : Told). v.hold.head ≡ (s.view d).hold.head) s.view a (after e (s.view a)) d
       (λ q. head ∙ ap (λ (i : ℕ). (s.view i).hold.head) (sym q)) (λ _. refl)
 
+  same_others : (e : Step) (d : ℕ) → d ≢ a → (next s a e).view d ≡ s.view d
+  same_others e d ne = put_other s.view a (after e (s.view a)) d ne
+
+  same_index : (x y : ℕ) → at_entry x true ≡ at_entry y true → x ≡ y
+  same_index x y is = cc
+
+  -- an entry that was just queued
+  fresh_entry : (x h : ℕ) (e : Entry) → (s.view a).hold.head ≡ Some h
+      → IsUntested (after (step.Queue x e) (s.view a)) h x
+  fresh_entry x h e held = record {
+    held = held;
+    failed = λ c. ap (λ (g : Watch → Option ℕ). g c) (put_same (s.view a).checks.failed x (λ _. None));
+    low = λ c. ap (λ (g : Watch → Option ℕ). g c) (put_same (s.view a).checks.low x (λ _. None));
+    zero_failed = by (s.view a).hold.prepared;
+  }
+    where
+      by : (p : Bool) → (p ≡ true) ⊎ ((c : Watch) → (if p then (s.view a).checks.zero_failed
+          else put (s.view a).checks.zero_failed x (λ _. None)) x c ≡ None)
+      by true = inl refl
+      by false = inr (λ c. ap (λ (g : Watch → Option ℕ). g c) (put_same (s.view a).checks.zero_failed x (λ _. None)))
+
   queue_members : (x : ℕ) (e : Entry) → Allowed s a (step.Queue x e) → b.differs ≡ nothing
       → AreMembers s differs beside
       → AreMembers (next s a (step.Queue x e)) (put differs a (at_entry x true)) beside
   queue_members x e may clear = store_members s z differs beside a g x (at_entry x true) may.3 (same ∙ clear) refl one
-      (same_heads (step.Queue x e) refl)
-      (entry_names z g x may.1 ∙ (ap (is_for_head g) (put_same s.entry x (Some e)) ∙ same_test g))
+      (same_heads (step.Queue x e) refl) (same_others (step.Queue x e))
+      (λ y at. subst (λ (i : ℕ). (owner i ≡ a) × IsUntested (z.view a) g i) (same_index x y at) (
+        may.0,
+        subst (λ (v : Told). IsUntested v g x) (sym (put_same s.view a (after (step.Queue x e) (s.view a))))
+            (fresh_entry x g e may.3),
+      ))
+      (entry_names z g x may.1 ∙ (ap (λ (o : Option Entry). stands_at o g) (put_same s.entry x (Some e)) ∙ same_test g))
       (other_entry s x (Some e) z refl refl)
-      (λ h ne. entry_names z h x may.1 ∙ (ap (is_for_head h) (put_same s.entry x (Some e)) ∙ (other_test g h ne
-      ∙ (ap (is_for_head h) (sym may.2) ∙ sym (entry_names s h x may.1)))))
+      (λ h ne. entry_names z h x may.1 ∙ (ap (λ (o : Option Entry). stands_at o h) (put_same s.entry x (Some e))
+      ∙ (other_test g h ne
+      ∙ (ap (λ (o : Option Entry). stands_at o h) (sym may.2) ∙ sym (entry_names s h x may.1)))))
     where
       z : Table
       z = next s a (step.Queue x e)
@@ -301,11 +373,12 @@ module _ (s : Table) (a : ℕ) (b : Book) (differs : ℕ → Difference) (beside
   unqueue_members : (x : ℕ) → Allowed s a (step.Unqueue x) → (b.differs ≡ nothing) × (x < ENTRIES)
       → AreMembers s differs beside → AreMembers (next s a (step.Unqueue x)) (put differs a (at_entry x false)) beside
   unqueue_members x may clear = store_members s z differs beside a g x (at_entry x false) may.2 (same ∙ clear.0) refl
-      one (same_heads (step.Unqueue x) refl)
-      (entry_names z g x clear.1 ∙ ap (is_for_head g) (put_same s.entry x None))
+      one (same_heads (step.Unqueue x) refl) (same_others (step.Unqueue x)) (λ y at. taken_out x y at)
+      (entry_names z g x clear.1 ∙ ap (λ (o : Option Entry). stands_at o g) (put_same s.entry x None))
       (other_entry s x None z refl refl)
-      (λ h ne. entry_names z h x clear.1 ∙ (ap (is_for_head h) (put_same s.entry x None) ∙ (sym (other_test g h ne)
-      ∙ (ap (is_for_head h) (sym may.1) ∙ sym (entry_names s h x clear.1)))))
+      (λ h ne. entry_names z h x clear.1 ∙ (ap (λ (o : Option Entry). stands_at o h) (put_same s.entry x None)
+      ∙ (sym (other_test g h ne)
+      ∙ (ap (λ (o : Option Entry). stands_at o h) (sym may.1) ∙ sym (entry_names s h x clear.1)))))
     where
       z : Table
       z = next s a (step.Unqueue x)
@@ -316,7 +389,7 @@ module _ (s : Table) (a : ℕ) (b : Book) (differs : ℕ → Difference) (beside
   mark_members : (g q : ℕ) → Allowed s a (step.Mark g q) → (b.differs ≡ nothing) × (s.mark a ≡ None)
       → AreMembers s differs beside → AreMembers (next s a (step.Mark g q)) (put differs a (at_mark true)) beside
   mark_members g q may clear = store_members s z differs beside a g (ENTRIES + a) (at_mark true) may (same ∙ clear.0)
-      refl one (same_heads (step.Mark g q) refl)
+      refl one (same_heads (step.Mark g q) refl) (same_others (step.Mark g q)) (λ y at. no_entry true y at)
       (mark_names z g a ∙ (ap (is_at g) (put_same s.mark a (Some (record { head = g; place = q }))) ∙ same_test g))
       (other_mark s a (Some (record { head = g; place = q })) z refl refl)
       (λ h ne. mark_names z h a ∙ (ap (is_at h) (put_same s.mark a (Some (record { head = g; place = q })))
@@ -328,7 +401,7 @@ module _ (s : Table) (a : ℕ) (b : Book) (differs : ℕ → Difference) (beside
   unmark_members : IsOrderly s a step.Unmark b → AreMembers s differs beside
       → AreMembers (next s a step.Unmark) (put differs a (at_mark false)) beside
   unmark_members clear = store_members s z differs beside a g (ENTRIES + a) (at_mark false) clear.1.2
-      (same ∙ clear.0) refl one (same_heads step.Unmark refl)
+      (same ∙ clear.0) refl one (same_heads step.Unmark refl) (same_others step.Unmark) (λ y at. no_entry false y at)
       (mark_names z g a ∙ ap (is_at g) (put_same s.mark a None))
       (other_mark s a None z refl refl)
       (λ h ne. mark_names z h a ∙ (ap (is_at h) (put_same s.mark a None)
@@ -348,11 +421,29 @@ module _ (s : Table) (a : ℕ) (b : Book) (differs : ℕ → Difference) (beside
   members_next step.Unmark may clear r = unmark_members clear r
   members_next (step.Lock g aim w) may clear r = lock_members s
       (next s a (step.Lock g aim w)) differs beside a refl refl
-      (λ d ne. ap (λ (v : Told). v.hold.head) (put_other s.view a (after (step.Lock g aim w) (s.view a)) d ne))
+      (same_others (step.Lock g aim w))
       (λ h x held. absurd (none_is h (sym may.1 ∙ held))) r
   members_next (step.Unlock g sp) may clear r = lock_members s (next s a (step.Unlock g sp)) differs beside a refl refl
-      (λ d ne. ap (λ (v : Told). v.hold.head) (put_other s.view a (after (step.Unlock g sp) (s.view a)) d ne))
+      (same_others (step.Unlock g sp))
       (λ h x held. nothing_named a (differs a) x (same ∙ clear)) r
   members_next (step.Sleep w) may clear r = still_step s a (step.Sleep w) b differs beside refl refl refl
-      (asleep_differs (sleep_of (task_of w)) b) same r
-  members_next e may clear r = still_step s a e b differs beside refl refl refl refl same r
+      (asleep_differs (sleep_of (task_of w)) b) same (λ h x held at u. u) r
+  members_next (step.Load c w) may clear r = still_step s a (step.Load c w) b differs beside refl refl refl refl same
+      (λ h x held at u. none_there x true (sym (clear h held) ∙ at)) r
+  members_next (step.State σ) may clear r = still_step s a (step.State σ) b differs beside refl refl refl refl same
+      (λ h x held at u. record {
+        held = u.held;
+        failed = λ c. refl;
+        low = u.low;
+        zero_failed = inl (ap is_held u.held);
+      }) r
+  members_next (step.Unflag y) may clear r = still_step s a (step.Unflag y) b differs beside refl refl refl refl same
+      (λ h x held at u. record {
+        held = u.held;
+        failed = u.failed;
+        low = λ c. put_at (λ (g : Watch → Option ℕ). g c ≡ None) (s.view a).checks.low y (λ _. None) x (λ _. refl)
+            (λ _. u.low c);
+        zero_failed = u.zero_failed;
+      }) r
+  members_next e may clear r = still_step s a e b differs beside refl refl refl refl same
+      (λ h x held at u. record { held = u.held; failed = u.failed; low = u.low; zero_failed = u.zero_failed }) r

@@ -116,6 +116,7 @@ own_next s a (step.Unlock h sp) al f r = same_stand s a (step.Unlock h sp) refl
     (unlock_forgets (s.view a) (s.view a).walk sp) r
 own_next s a (step.Saw x w) al f r = same_stand s a (step.Saw x w) refl (look_forgets (s.view a) x (entry_of w)) r
 own_next s a (step.Peek x w) al f r = same_stand s a (step.Peek x w) refl (look_forgets (s.view a) x (entry_of w)) r
+own_next s a (step.Scan h i w) al f r = same_stand s a (step.Scan h i w) refl (λ x d is. is) r
 own_next s a (step.Queue x e) al f r = queue_stand s a x e al.0 r
 own_next s a (step.Unqueue x) al f r = unqueue_stand s a x f r
 own_next s a (step.Mark h q) al f r = same_stand s a (step.Mark h q) refl (λ x d is. is) r

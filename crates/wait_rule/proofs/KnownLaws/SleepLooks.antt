@@ -6,8 +6,10 @@ use Rattle.wait_rule.specs.declared.journal.Item.{Item}
 use Rattle.wait_rule.specs.declared.journal.Item.TheVariants as item
 use Rattle.wait_rule.specs.Items.{Book, after_awake, learn, steps_of}
 use Rattle.wait_rule.specs.Known.{Known}
+use Rattle.wait_rule.specs.LookCounts.{looks_from}
 use Rattle.wait_rule.specs.Says.{added, grown}
 use Rattle.wait_rule.proofs.TableSteps.ItemLists.{steps_append}
+use Rattle.wait_rule.proofs.KnownLaws.LookCounts.{looks_append}
 
 -- the same task with this list and this book
 abbrev pub listed : Known → List Item → Book → Known
@@ -40,3 +42,7 @@ looked_on old mid new looks w runs before is down shows =
 
 pub none_more : (looks : List Item) (w : ℕ) → steps_of looks ≡ [] → steps_of (looks ++ item.Awake w ∷ []) ≡ []
 none_more looks w none = steps_append looks (item.Awake w ∷ []) ∙ ap (λ es. es ++ []) none
+
+pub none_counted : (looks : List Item) (w : ℕ) → ((n : ℕ) → looks_from n looks ≡ n) → (n : ℕ)
+    → looks_from n (looks ++ item.Awake w ∷ []) ≡ n
+none_counted looks w none n = looks_append n looks (item.Awake w ∷ []) ∙ none n

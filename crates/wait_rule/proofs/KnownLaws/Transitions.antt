@@ -1,24 +1,12 @@
 -- Transitions one after another, and the looks between them.
 use Rattle.std.proofs.Common.{◌∙◌, ap, sym, refl, subst, append-nil, append_assoc}
-use Rattle.std.specs.Prelude.{◌≡◌, Bool, true, List, [], ◌∷◌, ◌++◌}
-use Rattle.wait_model.specs.Tasks.{task_of}
-use Rattle.wait_model.specs.declared.steps.Step.TheVariants as step
+use Rattle.std.specs.Prelude.{◌≡◌, List, [], ◌∷◌, ◌++◌}
 use Rattle.wait_model.specs.declared.points.Point.{Point}
 use Rattle.wait_model.specs.declared.points.Next.{Next}
 use Rattle.wait_model.specs.declared.points.Next.TheVariants as next
 use Rattle.wait_rule.specs.declared.journal.Item.{Item}
 use Rattle.wait_rule.specs.declared.journal.Item.TheVariants as item
-use Rattle.wait_rule.specs.Items.{
-  Difference,
-  nothing,
-  Book,
-  steps_of,
-  with_difference,
-  after_awake,
-  book_from,
-  book_of,
-  first_book,
-}
+use Rattle.wait_rule.specs.Items.{Book, steps_of, book_from, book_of, first_book}
 use Rattle.wait_rule.specs.Known.{Known}
 use Rattle.wait_rule.specs.Says.{grown}
 use Rattle.wait_rule.specs.Queues.{IsTold}
@@ -44,6 +32,7 @@ looks_of (item.Made e ∷ xs) none = absurd (cc)
 looks_of (item.Awake w ∷ xs) none = (tt, looks_of xs none)
 looks_of (item.Bookmark t w ∷ xs) none = (tt, looks_of xs none)
 looks_of (item.Member ∷ xs) none = (tt, looks_of xs none)
+looks_of (item.Word w ∷ xs) none = (tt, looks_of xs none)
 looks_of (item.Drawn h w ∷ xs) none = (tt, looks_of xs none)
 looks_of (item.Serving h w ∷ xs) none = (tt, looks_of xs none)
 looks_of (item.Served ∷ xs) none = (tt, looks_of xs none)

@@ -1,8 +1,8 @@
 -- What a task knows after a load of the served number, and after an unlock with its serve.
 use Rattle.std.proofs.Common.{refl, sym, ◌∙◌, ap, subst}
-use Rattle.std.specs.Prelude.{ℕ, ◌≡◌, ◌≢◌, ◌&&◌, Bool, true, false, ◌==◌, if◌then◌else◌, [], ◌∷◌}
+use Rattle.std.specs.Prelude.{ℕ, ◌≡◌, ◌≢◌, ◌&&◌, Bool, ◌==◌, if◌then◌else◌, [], ◌∷◌}
 use Rattle.wait_rule.specs.declared.journal.Item.TheVariants as item
-use Rattle.wait_rule.specs.Tickets.{Ticket, drawn, served, after_serving}
+use Rattle.wait_rule.specs.Tickets.{drawn, served, after_serving}
 use Rattle.wait_rule.specs.Known.{Known}
 use Rattle.wait_model.specs.declared.steps.Step.TheVariants as step
 use Rattle.wait_model.specs.Fold.{after}

@@ -1,6 +1,6 @@
 -- Each kind of step on a condition word keeps the law.
 use Rattle.std.proofs.Common.{refl, sym, ap, subst}
-use Rattle.std.specs.Prelude.{ℕ, ◌≡◌, ◌≢◌, None, List}
+use Rattle.std.specs.Prelude.{ℕ, ◌≡◌, ◌≢◌, Some, None, List}
 use Rattle.wait_model.specs.declared.watches.Watch.{Watch}
 use Rattle.wait_model.specs.declared.watches.Watch.TheVariants as watch
 use Rattle.wait_model.specs.declared.steps.Step.{Step}
@@ -14,7 +14,7 @@ use Rattle.wait_model.specs.Locations.{Location, word_in, cond_at}
 use Rattle.wait_model.proofs.WordLaws.CondWords.{number_value, reads_value}
 use Rattle.wait_model.proofs.Functions.{put_same, put_other}
 use Rattle.wait_rule.specs.declared.journal.Item.{Item}
-use Rattle.wait_rule.specs.Items.{Book, Fits}
+use Rattle.wait_rule.specs.Items.{Book, nothing, Fits}
 use Rattle.wait_rule.specs.Rule.{IsLawfulTable, IsRuled}
 use Rattle.wait_rule.proofs.KnownLaws.HeadLinks.{quiet_links}
 use Rattle.wait_rule.proofs.KnownLaws.MemberPlaces.{still_places}
@@ -72,14 +72,15 @@ var_leaves s a v n b history view l f = record {
 
 module _ (s : Table) (items : ℕ → List Item) (ruled : IsRuled s items) (a : ℕ) (b : Book)
     (fits : Fits (s.task a) b) where
-  pub cond_loads : (c : Watch) → IsThere c → KeepsLaw s a (cond_at (number_of c)) (word_in s (cond_at (number_of c)))
+  pub cond_loads : (c : Watch) → IsThere c → ((h : ℕ) → (s.view a).hold.head ≡ Some h → b.differs ≡ nothing)
+      → KeepsLaw s a (cond_at (number_of c)) (word_in s (cond_at (number_of c)))
       (step.Load c (word_in s (cond_at (number_of c)))) b
-  cond_loads c is = subst (λ (n : ℕ). KeepsLaw s a (cond_at (number_of c)) n (step.Load c n) b) (sym
+  cond_loads c is clear = subst (λ (n : ℕ). KeepsLaw s a (cond_at (number_of c)) n (step.Load c n) b) (sym
       (number_value s c is))
       (record {
         allowed = reads_value s.words ruled.lawful.bits c is;
         stored = tt;
-        orderly = tt;
+        orderly = clear;
         places = still_places s a (step.Load c (value_of s.words c)) refl refl;
         links = quiet_links s a (step.Load c (value_of s.words c)) (record {
           holder = refl;

@@ -1,14 +1,12 @@
 -- Each kind of step on a head word keeps the law.
-use Rattle.std.proofs.Common.{refl, sym, ◌∙◌, ap, subst, arith, bit_or, mod-lt}
+use Rattle.std.proofs.Common.{refl, sym, ◌∙◌, ap, subst, arith}
 use Rattle.std.specs.Prelude.{
   ℕ,
   ◌≡◌,
   ◌≢◌,
   ◌+◌,
   ◌-◌,
-  ◌*◌,
   ◌%◌,
-  ◌/◌,
   ◌<◌,
   ◌^◌,
   Bool,
@@ -23,7 +21,6 @@ use Rattle.std.specs.Prelude.{
 }
 use Rattle.std.proofs.lemmas.Bool.Decides.{nat_tests}
 use mathlib.Core.Path.{fun_ext}
-use lib.Bits.{or_step, or_zero_r}
 use Rattle.wait_model.specs.declared.watches.Aim.{Aim}
 use Rattle.wait_model.specs.declared.steps.Step.{Step}
 use Rattle.wait_model.specs.declared.steps.Step.TheVariants as step
@@ -47,18 +44,13 @@ use Rattle.wait_rule.proofs.KnownLaws.HeadLinks.{KeepsLinks, both_at}
 use Rattle.wait_rule.proofs.KnownLaws.MemberPlaces.{still_places}
 use Rattle.wait_rule.proofs.TableSteps.KeptSteps.{Leaves, KeepsLaw}
 
--- bit 0 is set
-or_free : (w : ℕ) → w % 2 ≡ 0 → bit_or w 1 ≡ w + 1
-or_free w even = omega (arith, or_step w 1, or_zero_r (w / 2))
+-- one more in the word of a free head is the word of a held one
+pub lock_word : (n : ℕ) → n < 2 ^ 62 → (head_word false n + 1) % 2 ^ 64 ≡ head_word true n
+lock_word n small = omega arith
 
-or_held : (w : ℕ) → w % 2 ≢ 0 → bit_or w 1 ≡ w
-or_held w odd =
-    let below : w % 2 < 2 = mod-lt w (omega arith) in
-    omega (arith, or_step w 1, or_zero_r (w / 2))
-
-pub lock_word : (held : Bool) (n : ℕ) → bit_or (head_word held n) 1 ≡ head_word true n
-lock_word true n = or_held (1 + 4 * n) (omega arith)
-lock_word false n = or_free (0 + 4 * n) (omega arith) ∙ omega arith
+-- and one less in the word of a held head is the word of a free one
+pub unlock_word : (n : ℕ) → n < 2 ^ 62 → (head_word true n + (2 ^ 64 - 1)) % 2 ^ 64 ≡ head_word false n
+unlock_word n small = omega arith
 
 pub raised_small : (sp : Bool) (n : ℕ) → n < 2 ^ 62 → raised_spent sp n < 2 ^ 62
 raised_small false n small = small

@@ -21,11 +21,9 @@ use Rattle.std.specs.Prelude.{
   if◌then◌else◌,
   Option,
   Some,
-  None,
   List,
   [],
   ◌∷◌,
-  ◌++◌,
   bit_and,
   bit_or,
   slice_set,
@@ -34,25 +32,20 @@ use Rattle.std.specs.Prelude.{
 use Rattle.std.proofs.lemmas.Bool.Decides.{eqb_tells}
 use mathlib.Core.Option.{none}
 use Rattle.atomic_table.specs.Table.{step as move, Allows}
-use Rattle.wait_model.specs.declared.layout.TheConstants.{
-  TASKS,
-  HEADS,
-  MEMBERS,
-  MEMBER_WORDS,
-  WORD_BITS,
-  MEMBER_AT,
-}
+use Rattle.wait_model.specs.declared.layout.TheConstants.{HEADS, MEMBERS, MEMBER_WORDS, WORD_BITS}
 use Rattle.wait_model.specs.Functions.{put}
 use Rattle.wait_model.specs.Words.{bit_word}
 use Rattle.wait_model.specs.Fold.{view_of}
+use Rattle.wait_model.specs.Watches.{owner}
+use Rattle.wait_model.specs.Rows.{IsUntested}
 use Rattle.wait_model.specs.Tables.{Table}
 use Rattle.wait_model.specs.Locations as place
 use Rattle.wait_model.specs.Locations.{Location, IsLocation, position_of}
-use Rattle.wait_model.proofs.Functions.{put_case, put_at, put_same, put_other}
+use Rattle.wait_model.proofs.Functions.{put_at, put_same, put_other}
 use Rattle.wait_model.proofs.WordLaws.BitWords.{bit_word_set, bit_word_clear}
 use Rattle.wait_rule.specs.declared.journal.Item.{Item}
 use Rattle.wait_rule.specs.declared.journal.Item.TheVariants as item
-use Rattle.wait_rule.specs.Items.{Difference, nothing, first_book, steps_of, book_of, Fits}
+use Rattle.wait_rule.specs.Items.{Difference, nothing, at_entry, first_book, steps_of, book_of, Fits}
 use Rattle.wait_rule.specs.Journals.{Scene, moved}
 use Rattle.wait_rule.specs.MemberWords.{
   word_with,
@@ -72,7 +65,7 @@ use Rattle.wait_rule.specs.QueuePlays.{member_stored_play}
 use Rattle.wait_rule.proofs.TableSteps.ItemLists.{book_append}
 use Rattle.wait_rule.proofs.KnownLaws.AfterSteps.{notes_after}
 use Rattle.wait_rule.proofs.KnownLaws.HeadLinks.{same_links}
-use Rattle.wait_rule.proofs.KnownLaws.MemberSteps.{differences_next, nothing_named}
+use Rattle.wait_rule.proofs.KnownLaws.MemberSteps.{differences_next, nothing_named, none_there}
 use Rattle.wait_rule.proofs.KnownLaws.TicketSteps.{tickets_same, beside_tickets}
 use Rattle.wait_rule.proofs.StepKinds.EntryKinds.{fits_difference}
 use Rattle.wait_rule.proofs.TableSteps.StateLaws.{allows}
@@ -221,7 +214,20 @@ module _ (s : Table) (differs : ℕ → Difference) (beside : Location → ℕ) 
           r.named b g y holds (sym (ap (index_named b) now) ∙ at) ∙ ap is_put (sym now)
 
   bit_members : AreMembers s (put differs a nothing) (with_member beside m W)
-  bit_members = record { bits = B; spells = spells_by; agrees = agrees_by; named = named_by }
+  bit_members = record {
+    bits = B;
+    spells = spells_by;
+    agrees = agrees_by;
+    named = named_by;
+    untested = λ b g y holds at. untested_by b g y holds at (eqb_tells b a);
+  }
+    where
+      untested_by : (b g y : ℕ) → (s.view b).hold.head ≡ Some g → D b ≡ at_entry y true
+          → (((b == a) ≡ true) × (b ≡ a)) ⊎ (((b == a) ≡ false) × (b ≢ a))
+          → (owner y ≡ b) × IsUntested (s.view b) g y
+      untested_by b g y holds at (inl q) = none_there y true
+          (sym (ap D q.1 ∙ put_same differs a nothing) ∙ at)
+      untested_by b g y holds at (inr q) = r.untested b g y holds (sym (put_other differs a nothing b q.1) ∙ at)
 
 -- on the words
 module _ (c : Scene) (law : Law c) (a h i k : ℕ) (on : Bool) (head : h < HEADS) (few : i < MEMBER_WORDS)

@@ -12,6 +12,7 @@ steps_append (item.Made e ∷ xs) ys = ap (λ (es : List Step). e ∷ es) (steps
 steps_append (item.Awake w ∷ xs) ys = steps_append xs ys
 steps_append (item.Bookmark t w ∷ xs) ys = steps_append xs ys
 steps_append (item.Member ∷ xs) ys = steps_append xs ys
+steps_append (item.Word w ∷ xs) ys = steps_append xs ys
 steps_append (item.Drawn h w ∷ xs) ys = steps_append xs ys
 steps_append (item.Serving h w ∷ xs) ys = steps_append xs ys
 steps_append (item.Served ∷ xs) ys = steps_append xs ys

@@ -66,7 +66,6 @@ use Rattle.wait_rule.specs.Journals.{Scene, moved, pushed}
 use Rattle.wait_rule.specs.Rule.{IsLawfulTable, IsWhole, AreLinked, all_notes, is_stepped, IsRuled, Law, Holds}
 use Rattle.wait_rule.specs.Plays.{Sat, seat_with, seat_tried}
 use Rattle.wait_rule.proofs.TableSteps.ItemLists.{steps_append, book_append}
-use Rattle.wait_rule.proofs.KnownLaws.AfterSteps.{notes_after}
 use Rattle.wait_rule.proofs.KnownLaws.MemberSteps.{IsOrderly, differences_next, differences_same, members_next}
 use Rattle.wait_rule.proofs.KnownLaws.TicketSteps.{tickets_next, tickets_same, tickets_after}
 use Rattle.wait_rule.proofs.KnownLaws.HeadLinks.{KeepsLinks, noted_next, noted_seen, same_links}
@@ -197,12 +196,13 @@ stepped_plain (place.Serving h) is = absurd (cc)
 stepped_plain l is = refl
 
 -- the tickets after a step
-pub tickets_on : (c : Scene) (law : Law c) (a : ℕ) (e : Step) → Allowed law.table a e
+pub tickets_on : (c : Scene) (law : Law c) (a : ℕ) (e : Step) → a < TASKS → Allowed law.table a e
     → IsOrderly law.table a e (book_of (c.items a))
     → AreTickets (next law.table a e) (all_tickets (put c.items a (c.items a ++ item.Made e ∷ []))) law.beside
-tickets_on c law a e may orderly = subst (λ (f : ℕ → Ticket). AreTickets (next law.table a e) f law.beside)
+tickets_on c law a e few may orderly = subst (λ (f : ℕ → Ticket). AreTickets (next law.table a e) f law.beside)
     (sym (tickets_next c.items a (item.Made e ∷ [])))
-    (tickets_after law.table a e (book_of (c.items a)) (all_tickets c.items) law.beside may orderly refl law.tickets)
+    (tickets_after law.table a e (book_of (c.items a)) (all_tickets c.items) law.beside few may orderly refl
+    law.tickets)
 
 -- a step that keeps the law, on the words
 pub law_next : (c : Scene) (law : Law c) (a : ℕ) (l : Location) (n : ℕ) (e : Step) → a < TASKS
@@ -220,7 +220,7 @@ law_next c law a l n e few there plain is k = record {
       (sym (differences_next c.items a (item.Made e ∷ [])))
       (members_next law.table a (book_of (c.items a)) (all_differences c.items) law.beside
       law.ruled.whole.kept.facts.one_holder refl e k.allowed k.orderly law.members);
-  tickets = tickets_on c law a e k.allowed k.orderly;
+  tickets = tickets_on c law a e few k.allowed k.orderly;
 }
 
 -- items that store no word and no bit

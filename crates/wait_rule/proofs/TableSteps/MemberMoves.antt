@@ -374,12 +374,14 @@ load_changes c w a s k = refl
 
 module _ (slots id : ℕ) (me : Sat) (lives : me.0.lives ≡ true) (p : ℕ) where
   pub load_moves : (c named : Watch) → c ≡ named → IsThere c → p ≡ place.position_of (cond_at (number_of c))
+      → ((h : ℕ) → (book_of me.0.items).head ≡ Some h → (book_of me.0.items).differs ≡ nothing)
       → Allows (Holds Law) slots id me p (λ n. n) (cond_loaded_play named (move slots p 0 0 none) me)
-  load_moves c named same is at s r long at_id few =
+  load_moves c named same is at clear s r long at_id few =
       let a = all_steps slots id me lives (cond_at (number_of c)) (cond_located (number_of c) (number_below c is)) p at
       (cond_plain (number_of c)) (λ n. n) (λ w. step.Load c w) (λ _. Unit {0}) (λ w. inr (load_changes c w me.0.number))
       (λ z items ruled own fits. (
-        cond_loads z items ruled me.0.number (book_of me.0.items) fits c is,
+        cond_loads z items ruled me.0.number (book_of me.0.items) fits c is
+            (λ h held. clear h (sym (head_seen z items me (book_of me.0.items).head own refl) ∙ held)),
         tt,
       )) s r long at_id few in (
         a.0,

@@ -1,19 +1,18 @@
 -- What each step on a head, an entry, a bookmark or a condition asks of the table of words, by the law of its kind.
-use Rattle.std.proofs.Common.{refl, sym, ◌∙◌, ap, subst, arith, inl, inr, bit_or, append-nil}
+use Rattle.std.proofs.Common.{refl, sym, ◌∙◌, ap, subst, arith, inl, append-nil}
 use Rattle.std.specs.Prelude.{
   ℕ,
   ◌≡◌,
   ◌+◌,
   ◌-◌,
+  ◌%◌,
+  ◌^◌,
   ◌<◌,
-  ◌⊎◌,
   Bool,
   true,
   false,
-  if◌then◌else◌,
   Option,
   Some,
-  None,
   List,
   [],
   ◌∷◌,
@@ -24,7 +23,6 @@ use Rattle.atomic_table.specs.Seated.{TableId}
 use Rattle.atomic_table.specs.Table.{step as move, Allows}
 use Rattle.wait_model.specs.declared.layout.TheConstants.{TASKS, HEADS, HEAD_AT}
 use Rattle.wait_model.specs.declared.watches.Aim.{Aim}
-use Rattle.wait_model.specs.declared.steps.Step.{Step}
 use Rattle.wait_model.specs.declared.steps.Step.TheVariants as step
 use Rattle.wait_model.specs.Words.{head_word, held_of, spent_of}
 use Rattle.wait_model.specs.Views.{View as Told}
@@ -38,7 +36,7 @@ use Rattle.wait_rule.specs.declared.journal.Item.TheVariants as item
 use Rattle.wait_rule.specs.Items.{nothing, book_of, Fits}
 use Rattle.wait_rule.specs.Known.{known}
 use Rattle.wait_rule.specs.Members.{IsHeadWord}
-use Rattle.wait_rule.specs.Rule.{IsRuled, all_notes, Law, Holds}
+use Rattle.wait_rule.specs.Rule.{all_notes, Law, Holds}
 use Rattle.wait_rule.specs.Says.{told_of}
 use Rattle.wait_rule.specs.Queues.{walk_of_hold, lock_item}
 use Rattle.wait_rule.specs.Plays.{Sat, seat_with}
@@ -67,29 +65,29 @@ module _ (slots id : ℕ) (me : Sat) (lives : me.0.lives ≡ true) (h p : ℕ) (
 
   pub lock_moves : (walk named : Option Aim) → walk ≡ named → (n : ℕ) → (book_of me.0.items).ticket ≡ served h n
       → AimsAt walk h
-      → Allows (Holds Law) slots id me p (λ n. bit_or n 1) (locked_play named (move slots p 1 0 none) me)
+      → Allows (Holds Law) slots id me p (λ n. (n + 1) % 2 ^ 64) (locked_play named (move slots p 1 0 none) me)
   lock_moves walk named is turn mine aims = subst
-      (λ (k : ℕ × Option Aim). Allows (Holds Law) slots id me p (λ n. bit_or n 1)
+      (λ (k : ℕ × Option Aim). Allows (Holds Law) slots id me p (λ n. (n + 1) % 2 ^ 64)
       (λ n m. (m ≡ seat_with me (lock_item k.0 k.1 n)) × IsHeadWord n × (held_of n ≡ false)))
       (λ i. (head_there i, is i))
-      (subst (λ (k : ℕ). Allows (Holds Law) slots id me k (λ n. bit_or n 1)
+      (subst (λ (k : ℕ). Allows (Holds Law) slots id me k (λ n. (n + 1) % 2 ^ 64)
       (λ n m. (m ≡ seat_with me (lock_item h walk n)) × IsHeadWord n × (held_of n ≡ false))) (sym at)
       (tells_more
-      (allows Law slots id me.0 me.1 (place.position_of (place.Head h)) (λ n. bit_or n 1)
+      (allows Law slots id me.0 me.1 (place.position_of (place.Head h)) (λ n. (n + 1) % 2 ^ 64)
       (λ n. lock_item h walk n ∷ []) (λ n. IsHeadWord n × (held_of n ≡ false)) lives
       (λ c law few own less. by c law few own (slice_index c.words (place.position_of (place.Head h)))
       (law.shown.each (place.Head h) small)))))
     where
-      tells_more : Allows (Holds Law) slots id me (place.position_of (place.Head h)) (λ n. bit_or n 1)
+      tells_more : Allows (Holds Law) slots id me (place.position_of (place.Head h)) (λ n. (n + 1) % 2 ^ 64)
           (λ n m. (m ≡ seat_with me (lock_item h walk n)) × (IsHeadWord n × (held_of n ≡ false)))
-          → Allows (Holds Law) slots id me (place.position_of (place.Head h)) (λ n. bit_or n 1)
+          → Allows (Holds Law) slots id me (place.position_of (place.Head h)) (λ n. (n + 1) % 2 ^ 64)
           (λ n m. (m ≡ seat_with me (lock_item h walk n)) × IsHeadWord n × (held_of n ≡ false))
       tells_more all s r long at_id less =
           let a = all s r long at_id less in (a.0, a.1, a.2, a.3, (a.4.0, a.4.1.0, a.4.1.1))
 
       by : (c : Scene) (law : Law c) → me.0.number < TASKS → c.items me.0.number ≡ me.0.items → (n : ℕ)
           → n ≡ head_word (law.table.holder h) (law.table.spent h)
-          → Law (moved c me.0.number (place.position_of (place.Head h)) (bit_or n 1) (lock_item h walk n ∷ []))
+          → Law (moved c me.0.number (place.position_of (place.Head h)) ((n + 1) % 2 ^ 64) (lock_item h walk n ∷ []))
           × (IsHeadWord n × (held_of n ≡ false))
       by c law few own n reads =
           let s = law.table in
@@ -100,11 +98,13 @@ module _ (slots id : ℕ) (me : Sat) (lives : me.0.lives ≡ true) (h p : ℕ) (
           let out = holds_none s (all_notes c.items) law.ruled.linked (all_tickets c.items) law.beside law.tickets
           me.0.number h turn now in
           let spent_is = ap spent_of reads ∙ spent_read (s.holder h) (s.spent h) in (
-            law_next c law me.0.number (place.Head h) (bit_or n 1) (step.Lock h (walk_of_hold h walk) n) few small refl
+            law_next c law me.0.number (place.Head h) ((n + 1) % 2 ^ 64) (step.Lock h (walk_of_hold h walk) n)
+                few small refl
                 (inl refl)
                 (subst (λ (w : ℕ). KeepsLaw s me.0.number (place.Head h) w (step.Lock h (walk_of_hold h walk) n)
                 (book_of (c.items me.0.number)))
-                (sym (ap (λ (w : ℕ). bit_or w 1) reads ∙ lock_word (s.holder h) (s.spent h)))
+                (sym (ap (λ (w : ℕ). (w + 1) % 2 ^ 64) (reads ∙ (λ i. head_word (free i) (s.spent h)))
+                ∙ lock_word (s.spent h) (law.ruled.lawful.spent h)))
                 (locks s me.0.number h (walk_of_hold h walk) n out spent_is (book_of (c.items me.0.number))
                 law.ruled.lawful (law.ruled.fits me.0.number few) free (aims_hold h walk aims) (turn, now))),
             (
@@ -135,19 +135,22 @@ module _ (slots id : ℕ) (me : Sat) (lives : me.0.lives ≡ true) (h p : ℕ) (
       ruled.linked) s r long at_id few in
       (a.0, a.1, a.2, a.3, (a.4.0 ∙ ap (λ w. (w, me.1)) (pushed_none me.0), a.4.1))
 
-  pub unlock_moves : (spent named : Bool) (d : TableId) (word : ℕ) → spent ≡ named → (book_of me.0.items).head ≡ Some h
+  -- the word of the held head becomes that of a free one, by whatever change of the word that was found
+  pub unlock_moves : (spent named : Bool) (d : TableId) (f : ℕ → ℕ) → spent ≡ named → (book_of me.0.items).head ≡ Some h
       → MaySpend (told_of (known d me.0 0)) spent
-      → word ≡ head_word false (raised_spent spent ((told_of (known d me.0 0)).checks.found h))
-      → (book_of me.0.items).differs ≡ nothing
-      → Allows (Holds Law) slots id me p (λ _. word) (λ _. unlocked_play named (move slots p word 0 none) me word)
-  unlock_moves spent named d word same held may is clear s r long at_id few =
-      let a = steps slots id me lives (place.Head h) small p at refl (λ _. word) (λ w. step.Unlock h spent)
-      (λ _. Unit {0})
+      → ((n : ℕ) → n < 2 ^ 62 → n ≡ (told_of (known d me.0 0)).checks.found h
+      → f (head_word true n) ≡ head_word false (raised_spent spent n))
+      → (book_of me.0.items).differs ≡ nothing → (k : ℕ)
+      → Allows (Holds Law) slots id me p f (unlocked_play named (move slots p k 0 none) me)
+  unlock_moves spent named d f same held may frees clear k s r long at_id few =
+      let a = steps slots id me lives (place.Head h) small p at refl f (λ w. step.Unlock h spent) (λ _. Unit {0})
       (λ s items ruled own fits. (
         subst (λ (n : ℕ). KeepsLaw s me.0.number (place.Head h) n (step.Unlock h spent) (book_of me.0.items))
-            (ap (λ (k : ℕ). head_word false (raised_spent spent k))
-            (ruled.linked.spent me.0.number h (mine s items own held) ∙ ap (λ (v : Told). v.checks.found h) own.told)
-            ∙ sym is)
+            (sym (ap (λ (b : Bool). f (head_word b (s.spent h)))
+            ((ruled.whole.kept.facts.views me.0.number).hold.held h (mine s items own held))
+            ∙ frees (s.spent h) (ruled.lawful.spent h)
+            (ruled.linked.spent me.0.number h (mine s items own held)
+            ∙ ap (λ (v : Told). v.checks.found h) own.told)))
             (unlocks s me.0.number h spent (mine s items own held) ruled.whole.kept.facts.one_holder
             (book_of me.0.items) ruled.lawful fits (subst (λ (v : Told). MaySpend v spent) (sym own.told) may) clear),
         tt,

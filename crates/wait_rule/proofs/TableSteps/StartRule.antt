@@ -29,6 +29,8 @@ use native.Mathlib.Decide.{dec_le}
 use Rattle.atomic_table.specs.Table.{opening}
 use Rattle.wait_model.specs.declared.layout.TheConstants.{TASKS, ENTRIES, WORD_BITS, ENTRY_AT, RUNNABLE}
 use Rattle.wait_model.specs.Tables.{start}
+use Rattle.wait_model.specs.Totals.{total}
+use Rattle.wait_model.proofs.HistoryLaws.StepTotals.{sum_zero}
 use Rattle.wait_model.specs.Words.{bit_word, flag}
 use Rattle.wait_model.specs.Locations.{Location, Shows, word_in}
 use Rattle.wait_model.specs.Locations as place
@@ -43,8 +45,8 @@ use Rattle.wait_rule.specs.declared.journal.Item.{Item}
 use Rattle.wait_rule.specs.Items.{steps_of, book_of, Fits}
 use Rattle.wait_rule.specs.Notes.{notes_of}
 use Rattle.wait_rule.specs.Journals.{fresh, seen_as}
-use Rattle.wait_rule.specs.Tickets.{Ticket, no_ticket, is_of, ShowsNumber, out_below}
-use Rattle.wait_rule.specs.TicketWords.{all_tickets, AreTickets}
+use Rattle.wait_rule.specs.Tickets.{Ticket, no_ticket, is_of, is_given, ShowsNumber, out_below}
+use Rattle.wait_rule.specs.TicketWords.{all_tickets, unlocks_at, unlocked_at, unserved, AreTickets}
 use Rattle.wait_rule.specs.Rule.{IsRuled, Law, Holds}
 use Rattle.wait_rule.specs.Start.{start_of, IsStart}
 use Rattle.wait_rule.proofs.TableSteps.ForksAndJoins.{alone}
@@ -104,6 +106,7 @@ start_members differs = record {
   spells = λ h i small. sym (none_set WORD_BITS);
   agrees = λ h x far. by h x (nat_lt x ENTRIES);
   named = λ a h x held. absurd (cc);
+  untested = λ a h x held. absurd (cc);
 }
   where
     by : (h x : ℕ) (b : Bool) → false ≡ (if b then false else false)
@@ -133,6 +136,12 @@ start_tickets tickets none = record {
   shown = λ a. subst (λ (t : Ticket). ShowsNumber t 0) (sym (none a)) tt;
   turn = λ a h out is. not_out a h out;
   held = λ a h held. absurd (cc);
+  unlocks = λ h.
+      let made : unlocked_at h start.history ≡ 0 = sum_zero TASKS (λ a. total (unlocks_at h) (start.history a))
+      (λ a few. refl) in
+      let coming : unserved h tickets ≡ 0 = sum_zero TASKS (λ t. flag (is_given h (tickets t)))
+      (λ t few. ap (λ (x : Ticket). flag (is_given h x)) (none t)) in
+      omega arith;
 }
   where
     not_out : {A : Type 0} (a h : ℕ) → is_of h (tickets a) ≡ true → A

@@ -124,18 +124,28 @@ module _ (L : Scene → Type 0) where
       (xs (slice_index z.words p), m.0, (refl, m.1))) s r long at small in
       (a.0, a.1, a.2, a.3, (a.4.1 ∙ ap (λ (ys : List Item). (pushed v ys, c)) a.4.2.0, a.4.2.1))
 
-  -- a load that adds nothing, and by which a task learns of the lists that it has
+  -- a step by which a task learns of the lists that it has
+  pub learns_more : (slots id : ℕ) (v : Journal) (c : List (ℕ × Ask)) (p : ℕ) (f : ℕ → ℕ) (xs : ℕ → List Item)
+      (tells : ℕ → Type 0) → v.lives ≡ true → Moves v p f xs (λ _. Unit {0})
+      → ((s : Scene) → L s → ((t : ℕ) → 1 ≤ owns t v → s.items t ≡ has_of t v)
+      → ((t : ℕ) → owns t v ≤ 1) → ((t : ℕ) → TASKS ≤ t → s.items t ≡ []) → tells (slice_index s.words p))
+      → Allows (Holds L) slots id (v, c) p f (λ n m. (m ≡ (pushed v (xs n), c)) × tells n)
+  learns_more slots id v c p f xs tells lives moves fact s r long at small =
+      let a = allows slots id v c p f xs (λ _. Unit {0}) lives moves s r long at small in
+      let most = at_most s.views r.sole in
+      let told : tells (slice_index s.words p) = fact (seen_as s.words s.views) r.law
+      (λ t mine. list_sole t s.views id v at (most t) mine)
+      (λ t. let part : owns t v ≤ sum_over (owns t) s.views = total_at (owns t) s.views id v at in
+      let all = most t in omega arith) (nobody_else s.views r.sole) in
+      (a.0, a.1, a.2, a.3, (a.4.0, told))
+
+  -- and one that adds nothing
   pub learns : (slots id : ℕ) (v : Journal) (c : List (ℕ × Ask)) (p : ℕ) (tells : Type 0) → v.lives ≡ true
       → ((s : Scene) (n : ℕ) → L s → n ≡ slice_index s.words p → L (moved s v.number p n []))
       → ((s : Scene) → L s → ((t : ℕ) → 1 ≤ owns t v → s.items t ≡ has_of t v)
       → ((t : ℕ) → owns t v ≤ 1) → ((t : ℕ) → TASKS ≤ t → s.items t ≡ []) → tells)
       → Allows (Holds L) slots id (v, c) p (λ n. n) (λ n m. (m ≡ (v, c)) × tells)
   learns slots id v c p tells lives still fact s r long at small =
-      let a = allows slots id v c p (λ n. n) (λ n. []) (λ n. Unit {0}) lives
-      (λ z law few own _. (still z (slice_index z.words p) law refl, tt)) s r long at small in
-      let most = at_most s.views r.sole in
-      let told : tells = fact (seen_as s.words s.views) r.law
-      (λ t mine. list_sole t s.views id v at (most t) mine)
-      (λ t. let part : owns t v ≤ sum_over (owns t) s.views = total_at (owns t) s.views id v at in
-      let all = most t in omega arith) (nobody_else s.views r.sole) in
-      (a.0, a.1, a.2, a.3, (a.4.0 ∙ ap (λ w. (w, c)) (pushed_none v), told))
+      let a = learns_more slots id v c p (λ n. n) (λ n. []) (λ _. tells) lives
+      (λ z law few own _. (still z (slice_index z.words p) law refl, tt)) fact s r long at small in
+      (a.0, a.1, a.2, a.3, (a.4.0 ∙ ap (λ w. (w, c)) (pushed_none v), a.4.1))

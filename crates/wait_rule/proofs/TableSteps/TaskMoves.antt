@@ -1,6 +1,6 @@
 -- What each step on a task word asks of the table of words, by the law of its kind.
 use Rattle.std.proofs.Common.{refl, sym, ◌∙◌, ap, subst, arith, inl, inr, append-nil, bit_or}
-use Rattle.std.specs.Prelude.{ℕ, ◌≡◌, ◌+◌, ◌<◌, ◌⊎◌, Bool, true, false, eqb, None, [], ◌∷◌, List, bit_and}
+use Rattle.std.specs.Prelude.{ℕ, ◌≡◌, ◌+◌, ◌<◌, ◌≤◌, ◌⊎◌, Bool, true, false, eqb, None, [], ◌∷◌, List, bit_and}
 use mathlib.Core.Option.{none, some}
 use prog.Atomic.{either}
 use Rattle.atomic_table.specs.Table.{step as move, Allows}
@@ -15,8 +15,10 @@ use Rattle.wait_model.specs.Reached.{IsState}
 use Rattle.wait_rule.specs.declared.tasks.TheConstants.{NO_STATE, NO_SIGNAL}
 use Rattle.wait_rule.specs.declared.journal.Ask.{Ask}
 use Rattle.wait_rule.specs.declared.journal.Item.{Item}
+use Rattle.wait_rule.specs.declared.journal.Journal.{Journal}
 use Rattle.wait_rule.specs.declared.journal.Item.TheVariants as item
 use Rattle.wait_rule.specs.Items.{book_of, steps_of, first_book, Fits}
+use Rattle.wait_rule.specs.Journals.{Scene, owns, has_of}
 use Rattle.wait_rule.specs.Rule.{IsRuled, Law, Holds}
 use Rattle.wait_rule.specs.Says.{IsShown, MeetsLaw}
 use Rattle.wait_rule.specs.Plays.{
@@ -47,20 +49,25 @@ use Rattle.wait_rule.proofs.TableSteps.KeptSteps.{steps, loads, tries, law_still
 use Rattle.wait_rule.proofs.StepKinds.TaskKinds.{is_lawful, wakes, signals, looks, accepts, sleeps, stores, awakes}
 use Rattle.wait_rule.proofs.StepKinds.TaskBits.{run_word, state_word, raised_word, fatal_word, accepted_word}
 
+-- what is seen, as a journal that has some of the lists shows it
+abbrev pub shown_of : (v : Journal) (c : Scene) (law : Law c) → ((t : ℕ) → 1 ≤ owns t v → c.items t ≡ has_of t v)
+    → ((t : ℕ) → owns t v ≤ 1) → ((t : ℕ) → TASKS ≤ t → c.items t ≡ []) → IsShown v
+shown_of v c law knows sole nobody = record {
+  table = law.table;
+  items = c.items;
+  ruled = law.ruled;
+  sole = sole;
+  lists = knows;
+  history = λ t mine. law.ruled.histories t ∙ ap steps_of (knows t mine);
+  nobody = λ t far. law.ruled.histories t ∙ ap steps_of (nobody t far);
+}
+
 -- a load of the base word that tells a task that the law holds of the lists that it has
 pub audit_moves : (slots id : ℕ) (me : Sat) → me.0.lives ≡ true
     → Allows (Holds Law) slots id me 0 (λ n. n) (audited_play (move slots 0 0 0 none) me)
 audit_moves slots id me lives = learns Law slots id me.0 me.1 0 (IsShown me.0) lives
     (λ c n law is. law_still c law me.0.number place.Base n tt refl is)
-    (λ c law knows sole nobody. record {
-      table = law.table;
-      items = c.items;
-      ruled = law.ruled;
-      sole = sole;
-      lists = knows;
-      history = λ t mine. law.ruled.histories t ∙ ap steps_of (knows t mine);
-      nobody = λ t far. law.ruled.histories t ∙ ap steps_of (nobody t far);
-    })
+    (λ c law knows sole nobody. shown_of me.0 c law knows sole nobody)
 
 -- a load of the base word that tells a task that the law holds of its own list
 pub witness_moves : (slots id : ℕ) (me : Sat) → me.0.lives ≡ true

@@ -1,5 +1,5 @@
 -- What the steps on tickets ask of the table of words.
-use Rattle.std.proofs.Common.{refl, sym, ◌∙◌, ap, subst, arith, inl, inr}
+use Rattle.std.proofs.Common.{refl, sym, ◌∙◌, ap, subst, arith, inl, inr, add-zero}
 use Rattle.std.specs.Prelude.{
   ℕ,
   zero,
@@ -19,9 +19,7 @@ use Rattle.std.specs.Prelude.{
   false,
   ◌==◌,
   if◌then◌else◌,
-  Option,
   Some,
-  None,
   List,
   [],
   ◌∷◌,
@@ -39,6 +37,7 @@ use Rattle.wait_model.specs.Tables.{Table}
 use Rattle.wait_model.specs.Locations as place
 use Rattle.wait_model.specs.Locations.{Location, IsLocation, position_of}
 use Rattle.wait_model.proofs.Functions.{put_case, put_at, put_same, put_other, both_left, both_right}
+use Rattle.wait_model.proofs.HistoryLaws.StepTotals.{sum_same, sum_grown}
 use Rattle.wait_rule.specs.declared.journal.Item.{Item}
 use Rattle.wait_rule.specs.declared.journal.Item.TheVariants as item
 use Rattle.wait_rule.specs.Tickets.{
@@ -51,15 +50,17 @@ use Rattle.wait_rule.specs.Tickets.{
   after_serving,
   is_of,
   is_served,
+  is_given,
   ShowsNumber,
   out_below,
 }
-use Rattle.wait_rule.specs.TicketWords.{all_tickets, AreTickets}
+use Rattle.wait_rule.specs.TicketWords.{all_tickets, unlocked_at, unserved, AreTickets}
 use Rattle.wait_rule.specs.Items.{Difference, first_book, steps_of, book_from, book_of, Fits}
 use Rattle.wait_rule.specs.Notes.{notes_of}
-use Rattle.wait_rule.specs.Journals.{Scene, moved}
-use Rattle.wait_rule.specs.MemberWords.{word_with, ShowsWith, all_differences, AreMembers}
+use Rattle.wait_rule.specs.Journals.{Scene, moved, owns, has_of}
+use Rattle.wait_rule.specs.MemberWords.{word_with, ShowsWith, AreMembers}
 use Rattle.wait_rule.specs.Rule.{Law, Holds}
+use Rattle.wait_rule.specs.Says.{ServesUnlocks}
 use Rattle.wait_rule.specs.Plays.{Sat, seat_with}
 use Rattle.wait_rule.specs.QueuePlays.{drawn_play, serving_play, served_play}
 use Rattle.wait_rule.proofs.TableSteps.ItemLists.{book_append}
@@ -69,13 +70,17 @@ use Rattle.wait_rule.proofs.KnownLaws.MemberSteps.{differences_same}
 use Rattle.wait_rule.proofs.KnownLaws.TicketSteps.{
   tickets_next,
   same_line,
+  unserved_put,
+  one_unserved,
+  as_many,
   from_test,
   to_test,
   test_off,
   none_out,
 }
-use Rattle.wait_rule.proofs.TableSteps.StateLaws.{allows}
+use Rattle.wait_rule.proofs.TableSteps.StateLaws.{allows, learns_more}
 use Rattle.wait_rule.proofs.TableSteps.KeptSteps.{ruled_seen, written}
+use Rattle.wait_rule.proofs.TableSteps.TaskMoves.{shown_of}
 
 -- words beside the table with another next or served number
 pub with_next : (Location → ℕ) → ℕ → ℕ → Location → ℕ
@@ -332,6 +337,9 @@ module _ (s : Table) (tickets : ℕ → Ticket) (beside : Location → ℕ) (r :
     held = λ b g is. put_at (λ (t : Ticket). t ≡ taken g) tickets a (drawn h N) b
         (λ e. let both : no_ticket ≡ taken g = sym free ∙ (ap tickets (sym e) ∙ r.held b g is) in absurd (cc))
         (λ _. r.held b g is);
+    unlocks = λ g. as_many (unlocked_at g s.history) (unlocked_at g s.history) (r.serves g) (unserved g tickets)
+        (unserved g T) 0 (sym (add-zero (unlocked_at g s.history))) (r.unlocks g)
+        (unserved_put tickets a g 0 (drawn h N) small (sym (ap (λ (t : Ticket). flag (is_given g t) + 0) free)));
   }
 
 -- the serve of task a, which gave its lock back
@@ -425,6 +433,32 @@ module _ (s : Table) (tickets : ℕ → Ticket) (beside : Location → ℕ) (r :
       (λ e. absurd (far b o.0 (subst (λ (i : ℕ). is_of i (tickets b) ≡ true) e o.1) (t ∙ ap r.serves e)))
       (λ _. t)
 
+  -- the serve that was still to come was made
+  fewer : (g : ℕ) → unserved g tickets ≡ unserved g U + flag (h == g)
+  fewer g = sum_grown TASKS a (flag (h == g)) (λ i. flag (is_given g (U i))) (λ i. flag (is_given g (tickets i))) small
+      (let now : flag (is_given g (tickets a)) ≡ flag (h == g) = ap (λ (t : Ticket). flag (is_given g t)) is in
+      let none : flag (is_given g (U a)) ≡ 0 =
+      ap (λ (t : Ticket). flag (is_given g t)) (put_same tickets a no_ticket) in
+      omega arith)
+      (λ i ne. ap (λ (t : Ticket). flag (is_given g t)) (sym (put_other tickets a no_ticket i ne)))
+
+  more_served : (g : ℕ) → S g ≡ r.serves g + flag (h == g)
+  more_served g = by (put_case r.serves h (r.serves h + 1) g)
+    where
+      by : ((g ≡ h) × (S g ≡ r.serves h + 1)) ⊎ ((g ≢ h) × (S g ≡ r.serves g)) → S g ≡ r.serves g + flag (h == g)
+      by (inl q) = q.1 ∙ (λ i. r.serves (sym q.0 i) + flag (sym (ap (λ (j : ℕ). h == j) q.0 ∙ to_test h) i))
+      by (inr q) =
+          let none : flag (h == g) ≡ 0 = ap flag (test_off h g q.0) in
+          let same = q.1 in
+          omega arith
+
+  served_unlocks : (g : ℕ) → unlocked_at g s.history ≡ S g + unserved g U
+  served_unlocks g =
+      let less = fewer g in
+      let more = more_served g in
+      let all = r.unlocks g in
+      omega arith
+
   pub serve_tickets : AreTickets s (put tickets a no_ticket)
       (with_serving beside h ((beside (place.Serving h) + 1) % 2 ^ 64))
   serve_tickets = record {
@@ -442,6 +476,7 @@ module _ (s : Table) (tickets : ℕ → Ticket) (beside : Location → ℕ) (r :
     held = λ b g holds. put_at (λ (t : Ticket). t ≡ taken g) tickets a no_ticket b
         (λ e. let both : given h ≡ taken g = sym is ∙ (ap tickets (sym e) ∙ r.held b g holds) in absurd (cc))
         (λ _. r.held b g holds);
+    unlocks = served_unlocks;
   }
 
 -- a load of the served number: where it is the own one, the own ticket is served
@@ -457,16 +492,25 @@ module _ (s : Table) (tickets : ℕ → Ticket) (beside : Location → ℕ) (r :
   kept_held x keeps b g is = put_at (λ (t : Ticket). t ≡ taken g) tickets a x b
       (λ e. keeps g (ap tickets (sym e) ∙ r.held b g is)) (λ _. r.held b g is)
 
+  kept_unlocks : (x : Ticket) → ((g : ℕ) → flag (is_given g x) ≡ flag (is_given g (tickets a))) → (g : ℕ)
+      → unlocked_at g s.history ≡ r.serves g + unserved g (put tickets a x)
+  kept_unlocks x same g = r.unlocks g ∙ ap (λ (n : ℕ). r.serves g + n) (sym (sum_same TASKS
+      (λ i. flag (is_given g (tickets i))) (λ i. flag (is_given g (put tickets a x i)))
+      (λ i few. put_at (λ (t : Ticket). flag (is_given g t) ≡ flag (is_given g (tickets i))) tickets a x i
+      (λ e. same g ∙ ap (λ (j : ℕ). flag (is_given g (tickets j))) (sym e)) (λ _. refl))))
+
   kept_line : (x : Ticket) → tickets a ≡ x → AreTickets s (put tickets a x) beside
   kept_line x now = same_line s s tickets beside r a x (λ g. ap (is_of g) (sym now))
       (subst (λ (t : Ticket). ShowsNumber t (r.number a)) now (r.shown a))
       (λ g out sure. r.turn a g (ap (is_of g) now ∙ out) (ap is_served now ∙ sure))
       (kept_held x (λ g e. sym now ∙ e))
+      (kept_unlocks x (λ g. ap (λ (t : Ticket). flag (is_given g t)) (sym now)))
 
   served_line : (g n : ℕ) → tickets a ≡ drawn g n → g ≡ h → n ≡ M → AreTickets s (put tickets a (served g n)) beside
   served_line g n now head number = same_line s s tickets beside r a (served g n) (λ i. ap (is_of i) (sym now)) shows
       (λ i out _. own i (ap (is_of i) now ∙ out) (from_test g i out)) (kept_held (served g n) (λ i e.
       let both : drawn g n ≡ taken i = sym now ∙ e in absurd (cc)))
+      (kept_unlocks (served g n) (λ i. ap (λ (t : Ticket). flag (is_given i t)) (sym now)))
     where
       shows : n ≡ r.number a % 2 ^ 64
       shows = subst (λ (t : Ticket). ShowsNumber t (r.number a)) now (r.shown a)
@@ -519,6 +563,7 @@ module _ (c : Scene) (law : Law c) (a : ℕ) (x : Item) (none_made : steps_of (x
           spells = λ h i few. members _ ∙ law.members.spells h i few;
           agrees = law.members.agrees;
           named = law.members.named;
+          untested = law.members.untested;
         });
     tickets = subst (λ (f : ℕ → Ticket). AreTickets law.table f beside) (sym (tickets_next c.items a (x ∷ []))) tickets;
   }
@@ -595,15 +640,36 @@ module _ (slots id : ℕ) (me : Sat) (lives : me.0.lives ≡ true) (h p : ℕ) (
       s r long at_id less in
       (a.0, a.1, a.2, a.3, a.4.0 ∙ ap (λ (k : ℕ). seat_with me (item.Drawn k (slice_index s.words p))) there)
 
+  -- the served number counts the unlocks
+  serves_unlocks : (c : Scene) (law : Law c) → ((t : ℕ) → 1 ≤ owns t me.0 → c.items t ≡ has_of t me.0)
+      → ((t : ℕ) → owns t me.0 ≤ 1) → ((t : ℕ) → TASKS ≤ t → c.items t ≡ [])
+      → ServesUnlocks me.0 h (slice_index c.words (position_of (place.Serving h)))
+  serves_unlocks c law knows sole nobody = record {
+    shown = shown_of me.0 c law knows sole nobody;
+    serves = law.tickets.serves h;
+    word = law.shown.each (place.Serving h) head ∙ law.tickets.serving h;
+    unlocks = law.tickets.unlocks h;
+    one = one_unserved law.table (all_tickets c.items) law.beside law.tickets h;
+  }
+
   pub serving_moves : p ≡ position_of (place.Serving h)
       → Allows (Holds Law) slots id me p (λ n. n) (serving_play (move slots p 0 0 none) me)
   serving_moves at s r long at_id less =
       let there : h ≡ p - SERVING_AT = omega arith in
       let a = subst (λ (q : ℕ). Allows (Holds Law) slots id me q (λ n. n)
-      (λ n m. (m ≡ seat_with me (item.Serving h n)) × Unit {0})) (sym at)
-      (allows Law slots id me.0 me.1 (position_of (place.Serving h)) (λ n. n) (λ n. item.Serving h n ∷ [])
-      (λ _. Unit {0}) lives (λ c law few own _. (law_serving c law me.0.number h head, tt))) s r long at_id less in
-      (a.0, a.1, a.2, a.3, a.4.0 ∙ ap (λ (k : ℕ). seat_with me (item.Serving k (slice_index s.words p))) there)
+      (λ n m. (m ≡ seat_with me (item.Serving h n)) × ServesUnlocks me.0 h n)) (sym at)
+      (learns_more Law slots id me.0 me.1 (position_of (place.Serving h)) (λ n. n) (λ n. item.Serving h n ∷ [])
+      (λ n. ServesUnlocks me.0 h n) lives (λ c law few own _. (law_serving c law me.0.number h head, tt))
+      serves_unlocks) s r long at_id less in (
+        a.0,
+        a.1,
+        a.2,
+        a.3,
+        (
+          a.4.0 ∙ ap (λ (k : ℕ). seat_with me (item.Serving k (slice_index s.words p))) there,
+          subst (λ (k : ℕ). ServesUnlocks me.0 k (slice_index s.words p)) there a.4.1,
+        ),
+      )
 
   pub serve_moves : p ≡ position_of (place.Serving h) → (book_of me.0.items).ticket ≡ given h
       → Allows (Holds Law) slots id me p (λ n. (n + 1) % 2 ^ 64) (served_play (move slots p 1 0 none) me)

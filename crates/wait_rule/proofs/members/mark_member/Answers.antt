@@ -1,4 +1,4 @@
-use Rattle.std.proofs.Common.{◌∙◌, true, false, refl, ap, sym, arith}
+use Rattle.std.proofs.Common.{◌∙◌, ap, sym, arith}
 use Rattle.std.specs.Prelude.{ℕ, Some}
 use Rattle.wait_rule.specs.Known.{Known}
 use Rattle.wait_rule.proofs.KnownLaws.MemberBits.{may_store, mark_head, mark_index, mark_put}

@@ -1,7 +1,6 @@
 use Rattle.std.proofs.Common.{◌∙◌, ap, sym, subst, arith}
-use Rattle.std.specs.Prelude.{◌≡◌}
 use Rattle.wait_rule.specs.declared.journal.Item.TheVariants as item
-use Rattle.wait_rule.specs.Known.{Known, known}
+use Rattle.wait_rule.specs.Known.{Known}
 use Rattle.wait_rule.specs.Queues.{MayStoreMember}
 use Rattle.wait_rule.proofs.TableSteps.BitMoves.{bit_moves}
 use Rattle.wait_rule.proofs.KnownLaws.AfterSteps.{known_after}

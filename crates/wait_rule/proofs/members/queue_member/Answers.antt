@@ -1,7 +1,7 @@
-use Rattle.std.proofs.Common.{◌∙◌, true, false, refl, ap, sym, arith}
+use Rattle.std.proofs.Common.{◌∙◌, true, refl, ap, sym, arith}
 use Rattle.std.specs.Prelude.{ℕ, Some}
 use Rattle.wait_rule.specs.Known.{Known}
-use Rattle.wait_rule.proofs.KnownLaws.MemberBits.{may_store, mark_head, mark_index, mark_put}
+use Rattle.wait_rule.proofs.KnownLaws.MemberBits.{may_store}
 use Rattle.wait_rule.proofs.members.queue_member.Goals as goal
 
 pub member_store-requires-clause-may : goal.member_store-requires-clause-may

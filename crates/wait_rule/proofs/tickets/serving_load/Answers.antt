@@ -1,8 +1,10 @@
-use Rattle.std.proofs.Common.{◌∙◌, ap, sym, arith}
-use Rattle.std.specs.Prelude.{◌≡◌, ◌-◌}
+use Rattle.std.proofs.Common.{◌∙◌, ap, sym, subst, arith}
+use Rattle.std.specs.Prelude.{ℕ, ◌≡◌, ◌-◌}
 use Rattle.wait_model.specs.declared.layout.TheConstants.{SERVING_AT}
 use Rattle.wait_rule.specs.declared.journal.Item.TheVariants as item
 use Rattle.wait_rule.specs.Known.{Known}
+use Rattle.wait_rule.specs.declared.journal.Journal.{Journal}
+use Rattle.wait_rule.specs.Says.{ServesUnlocks}
 use Rattle.wait_rule.specs.Plays.{seat_with}
 use Rattle.wait_rule.proofs.TableSteps.TicketMoves.{serving_moves}
 use Rattle.wait_rule.proofs.KnownLaws.AfterSteps.{known_after}
@@ -20,11 +22,18 @@ load-requires c =
       serving_moves _ t.seat.id t.seat.me i.1 c.args.head _ head at,
     )
 
-pub returns : goal.returns
-returns c =
+pub returns-clause-step : goal.returns-clause-step
+returns-clause-step c =
     let e = c.load.ensures in
     let there : c.serving_at-at.result - SERVING_AT ≡ c.args.head =
     (let at = c.serving_at-at.ensures in omega arith) in
     known_after c.task.inside.seat.table_id c.load.new.seat.table_id c.task.inside.seat.me c.load.new.seat.me
     c.args.task.now (item.Serving c.args.head c.load.result) e.0
-    (e.2 ∙ (λ j. seat_with c.task.inside.seat.me (item.Serving (there j) c.load.result))) c.task.view_is
+    (e.2.0 ∙ (λ j. seat_with c.task.inside.seat.me (item.Serving (there j) c.load.result))) c.task.view_is
+
+pub returns-clause-counts : goal.returns-clause-counts
+returns-clause-counts c =
+    let there : c.serving_at-at.result - SERVING_AT ≡ c.args.head =
+    (let at = c.serving_at-at.ensures in omega arith) in
+    subst (λ (v : Journal). ServesUnlocks v c.args.head c.load.result) (ap (λ (k : Known). k.view) c.task.view_is)
+    (subst (λ (h : ℕ). ServesUnlocks c.task.inside.seat.me.0 h c.load.result) there c.load.ensures.2.1)

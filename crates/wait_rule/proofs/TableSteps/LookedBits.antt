@@ -1,4 +1,4 @@
--- What a load of a member word in a hold tells: looks at the words whose bits are clear.
+-- What a load of a member word in a hold tells: looks at the words of all its bits.
 use Rattle.std.proofs.Common.{refl, sym, ◌∙◌, ap, subst, arith, inl, inr, append-nil}
 use Rattle.std.specs.Prelude.{
   ℕ,
@@ -17,39 +17,31 @@ use Rattle.std.specs.Prelude.{
   Bool,
   true,
   false,
-  ◌==◌,
   nat_lt,
   if◌then◌else◌,
   Option,
   Some,
-  None,
   List,
   [],
   ◌∷◌,
   ◌++◌,
   slice_index,
+  slice_set,
 }
 use Rattle.std.proofs.lemmas.Bool.Decides.{nat_tests}
 use mathlib.Core.Path.{fun_ext}
-use lib.ListN.{get_elem?}
-use mathlib.Core.Option.{none, some}
+use mathlib.Core.Option.{none}
 use Rattle.atomic_table.specs.Seated.{TableId}
-use Rattle.atomic_table.specs.Table.{step as move, keeps, Allows}
-use Rattle.wait_model.specs.declared.layout.TheConstants.{
-  TASKS,
-  ENTRIES,
-  MEMBERS,
-  HEADS,
-  MEMBER_WORDS,
-  WORD_BITS,
-  MEMBER_AT,
-}
+use Rattle.atomic_table.specs.Table.{step as move, Allows}
+use Rattle.wait_model.specs.declared.layout.TheConstants.{TASKS, ENTRIES, HEADS, MEMBER_WORDS, WORD_BITS, MEMBER_AT}
+use Rattle.wait_model.specs.declared.watches.Entry.{Entry}
 use Rattle.wait_model.specs.declared.steps.Step.{Step}
 use Rattle.wait_model.specs.declared.steps.Step.TheVariants as step
 use Rattle.wait_model.specs.Functions.{put}
-use Rattle.wait_model.specs.Words.{bit_at, entry_word, entry_of}
+use Rattle.wait_model.specs.Watches.{stands_at}
+use Rattle.wait_model.specs.Words.{bit_at, entry_word}
 use Rattle.wait_model.specs.Fold.{view_of}
-use Rattle.wait_model.specs.Tables.{Table, next, mark_of}
+use Rattle.wait_model.specs.Tables.{next}
 use Rattle.wait_model.specs.Locations as place
 use Rattle.wait_model.specs.Locations.{Location, IsLocation, position_of, word_in, mark_word}
 use Rattle.wait_model.proofs.Functions.{put_case, put_at, put_same, put_other}
@@ -58,36 +50,25 @@ use Rattle.wait_rule.specs.declared.journal.Item.{Item}
 use Rattle.wait_rule.specs.declared.journal.Item.TheVariants as item
 use Rattle.wait_rule.specs.declared.journal.Journal.{Journal}
 use Rattle.wait_rule.specs.Items.{Book, Difference, nothing, first_book, steps_of, book_from, book_of, Fits}
-use Rattle.wait_rule.specs.Journals.{Scene, moved, pushed, seen_as}
+use Rattle.wait_rule.specs.Journals.{Scene, moved, pushed}
 use Rattle.wait_rule.specs.Notes.{Notes, is_at, glance_at, notes_of}
-use Rattle.wait_rule.specs.MemberWords.{
-  is_beside,
-  word_with,
-  ShowsWith,
-  is_for_head,
-  names,
-  index_named,
-  all_differences,
-  AreMembers,
-}
-use Rattle.wait_rule.specs.Members.{IsEntryWord, IsMarkWord}
+use Rattle.wait_rule.specs.MemberWords.{is_beside, ShowsWith, names, all_differences, AreMembers}
 use Rattle.wait_rule.specs.Known.{Known, known}
 use Rattle.wait_rule.specs.Says.{added}
-use Rattle.wait_rule.specs.Rule.{IsRuled, AreLinked, all_notes, Law, Holds}
-use Rattle.wait_rule.specs.Queues.{KnewEntry, KnewMark}
-use Rattle.wait_rule.specs.MemberLooks.{SawNoEntry, SawNoMark, SawNone, SawByBit, SawClear}
+use Rattle.wait_rule.specs.Rule.{AreLinked, all_notes, Law, Holds}
+use Rattle.wait_rule.specs.MemberLooks.{SawEntry, SawMark, SawKind, SawBits, SawWord}
 use Rattle.wait_rule.specs.Plays.{Sat}
 use Rattle.wait_rule.specs.QueuePlays.{member_seen_play}
 use Rattle.wait_rule.proofs.TableSteps.ItemLists.{book_append}
 use Rattle.wait_rule.proofs.TableSteps.StateLaws.{allows_some}
 use Rattle.wait_rule.proofs.KnownLaws.AfterSteps.{notes_after}
+use Rattle.wait_rule.proofs.KnownLaws.HeadLinks.{same_links}
 use Rattle.wait_rule.proofs.KnownLaws.MemberSteps.{
   differences_next,
   differences_same,
   members_next,
   nothing_named,
   entry_names,
-  mark_names,
 }
 use Rattle.wait_rule.specs.Tickets.{Ticket}
 use Rattle.wait_rule.specs.TicketWords.{AreTickets}
@@ -134,7 +115,7 @@ law_twice c a xs ys = subst (λ (f : ℕ → List Item). Law (record { words = c
     (items_twice c.items a xs ys)
 
 -- a step that changes no word
-look_law : (c : Scene) (law : Law c) (a : ℕ) (l : Location) (n : ℕ) (e : Step) → a < TASKS → ChangesNone a e
+pub look_law : (c : Scene) (law : Law c) (a : ℕ) (l : Location) (n : ℕ) (e : Step) → a < TASKS → ChangesNone a e
     → KeepsLaw law.table a l n e (book_of (c.items a)) → Law (with_items c a (item.Made e ∷ []))
 look_law c law a l n e few idle k = record {
   table = next law.table a e;
@@ -149,7 +130,7 @@ look_law c law a l n e few idle k = record {
       (sym (differences_next c.items a (item.Made e ∷ [])))
       (members_next law.table a (book_of (c.items a)) (all_differences c.items) law.beside
       law.ruled.whole.kept.facts.one_holder refl e k.allowed k.orderly law.members);
-  tickets = tickets_on c law a e k.allowed k.orderly;
+  tickets = tickets_on c law a e few k.allowed k.orderly;
 }
 
 saw_none : (a x w : ℕ) → ChangesNone a (step.Saw x w)
@@ -188,6 +169,36 @@ mark_law c law a t few = record {
               (mark_reads law.table c.items law.ruled t i));
         })
 
+-- with a member word written as it was
+pub word_back : (c : Scene) (a m : ℕ) (xs : List Item) → Law (with_items c a xs) → IsLocation (place.Member m)
+    → Law (moved c a (position_of (place.Member m)) (slice_index c.words (position_of (place.Member m))) xs)
+word_back c a m xs law there = record {
+  table = law.table;
+  beside = law.beside;
+  shown = subst (λ (n : ℕ). ShowsWith (slice_set c.words (position_of (place.Member m)) n) law.table law.beside)
+      (sym (law.shown.each (place.Member m) there))
+      (written c.words law.table law.table law.beside law.beside (place.Member m) law.shown there (λ k ne. refl));
+  ruled = law.ruled;
+  members = law.members;
+  tickets = law.tickets;
+}
+
+-- a note of the load of a member word
+word_law : (c : Scene) (law : Law c) (a w : ℕ) → Law (with_items c a (item.Word w ∷ []))
+word_law c law a w = record {
+  table = law.table;
+  beside = law.beside;
+  shown = record { count = law.shown.count; each = law.shown.each };
+  ruled = ruled_seen c law a (item.Word w ∷ []) refl tt
+      (λ less. subst (Fits (law.table.task a)) (sym (book_append first_book (c.items a) (item.Word w ∷ [])))
+      (law.ruled.fits a less))
+      (same_links law.table c.items a (item.Word w ∷ []) (notes_after a (c.items a) (item.Word w)) law.ruled.linked);
+  members = subst (λ (d : ℕ → Difference). AreMembers law.table d law.beside)
+      (sym (differences_same c.items a (item.Word w ∷ []) refl)) law.members;
+  tickets = subst (λ (f : ℕ → Ticket). AreTickets law.table f law.beside)
+      (sym (tickets_same c.items a (item.Word w ∷ []) refl)) law.tickets;
+}
+
 -- a seat with more items
 abbrev pub more : Sat → List Item → Sat
 more me xs = (pushed me.0 xs, me.1)
@@ -215,7 +226,7 @@ own_of c law me own = record {
   list = own;
 }
 
--- in a hold that names no index, a bit that is clear is one of a word that does not name the head
+-- in a hold that names no index, a bit is set exactly where its word names the head
 module _ (c : Scene) (law : Law c) (me : Sat) (h i : ℕ) (head : h < HEADS) (few : i < MEMBER_WORDS)
     (own : c.items me.0.number ≡ me.0.items) (held : (book_of me.0.items).head ≡ Some h)
     (clear : (book_of me.0.items).differs ≡ nothing) where
@@ -239,38 +250,39 @@ module _ (c : Scene) (law : Law c) (me : Sat) (h i : ℕ) (head : h < HEADS) (fe
       ∙ (bit_read (λ j. law.members.bits h (WORD_BITS * i + j)) k small ∙ true_bits (WORD_BITS * i + k))
 
   -- one look
-  pub entry_look : (x : ℕ) → me.0.number < TASKS → x < ENTRIES → names law.table h x ≡ false
+  pub entry_look : (x : ℕ) → me.0.number < TASKS
       → Law (with_items c me.0.number (item.Made (step.Saw x (entry_word (law.table.entry x))) ∷ []))
-  entry_look x less small off = look_law c law me.0.number (place.Entry x) (entry_word (law.table.entry x))
+  entry_look x less = look_law c law me.0.number (place.Entry x) (entry_word (law.table.entry x))
       (step.Saw x (entry_word (law.table.entry x))) less (saw_none me.0.number x (entry_word (law.table.entry x)))
       (sees law.table c.items law.ruled x me.0.number (book_of (c.items me.0.number))
       (law.ruled.fits me.0.number less) (Some h) held_here)
 
-  pub entry_told : (x : ℕ) (d : TableId) (at : ℕ) (new : Known) → x < ENTRIES → names law.table h x ≡ false
+  pub entry_told : (bit : Bool) (x : ℕ) (d : TableId) (at : ℕ) (new : Known) → x < ENTRIES
+      → names law.table h x ≡ bit
       → new ≡ added (known d me.0 at) (item.Made (step.Saw x (entry_word (law.table.entry x))))
-      → SawNoEntry h x (known d me.0 at) new
-  entry_told x d at new small off is =
+      → SawEntry bit h x (known d me.0 at) new
+  entry_told bit x d at new small tells is =
       let k = knew_entry law.table c.items me x law.ruled (own_of c law me own) d in
       record {
         found = entry_word (law.table.entry x);
         is = is;
         lawful = is_entry law.table c.items law.ruled x;
         knew = record { shown = k.shown; own = k.own; stands = k.stands; apart = k.apart };
-        none = ap (is_for_head h) (reads law.table c.items law.ruled x)
-            ∙ (sym (entry_names law.table h x small) ∙ off);
+        named = ap (λ (o : Option Entry). stands_at o h) (reads law.table c.items law.ruled x)
+            ∙ (sym (entry_names law.table h x small) ∙ tells);
       }
 
-  pub mark_told : (t : ℕ) (d : TableId) (at : ℕ) (new : Known) → is_at h (law.table.mark t) ≡ false
+  pub mark_told : (bit : Bool) (t : ℕ) (d : TableId) (at : ℕ) (new : Known) → is_at h (law.table.mark t) ≡ bit
       → new ≡ added (known d me.0 at) (item.Bookmark t (mark_word (law.table.mark t)))
-      → SawNoMark h t (known d me.0 at) new
-  mark_told t d at new off is =
+      → SawMark bit h t (known d me.0 at) new
+  mark_told bit t d at new tells is =
       let k = knew_mark law.table c.items me t law.ruled (own_of c law me own) d in
       record {
         found = mark_word (law.table.mark t);
         is = is;
         lawful = is_mark law.table c.items law.ruled t;
         knew = record { shown = k.shown; own = k.own };
-        none = ap (is_at h) (mark_reads law.table c.items law.ruled t) ∙ off;
+        named = ap (is_at h) (mark_reads law.table c.items law.ruled t) ∙ tells;
       }
 
 -- looks at the first n bits
@@ -283,7 +295,7 @@ module _ (c : Scene) (law : Law c) (me : Sat) (h i : ℕ) (head : h < HEADS) (fe
 
   abbrev Seen : ℕ → Type 0
   Seen n = (xs : List Item) × Law (with_items c me.0.number xs) × (book_of (me.0.items ++ xs) ≡ book_of me.0.items)
-      × ((d : TableId) (at : ℕ) → SawClear h i W n (known d me.0 at) (known d (pushed me.0 xs) at))
+      × ((d : TableId) (at : ℕ) → SawBits h i W n (known d me.0 at) (known d (pushed me.0 xs) at))
 
   own_more : (xs : List Item) → (with_items c me.0.number xs).items me.0.number ≡ (more me xs).0.items
   own_more xs = put_same c.items me.0.number (c.items me.0.number ++ xs) ∙ ap (λ (l : List Item). l ++ xs) own
@@ -294,8 +306,8 @@ module _ (c : Scene) (law : Law c) (me : Sat) (h i : ℕ) (head : h < HEADS) (fe
       ∙ (book_append first_book (me.0.items ++ xs) (y ∷ []) ∙ (keeps_it (book_of (me.0.items ++ xs)) ∙ same))
 
   one_more : (n : ℕ) → n < WORD_BITS → Seen n → Seen (suc n)
-  unfolding SawClear
-  one_more n small s = by (bit_at W n) refl
+  unfolding SawBits
+  one_more n small s = by (nat_lt x ENTRIES) refl
     where
       c2 : Scene
       c2 = with_items c me.0.number s.0
@@ -309,68 +321,47 @@ module _ (c : Scene) (law : Law c) (me : Sat) (h i : ℕ) (head : h < HEADS) (fe
       clear2 : (book_of (more me s.0).0.items).differs ≡ nothing
       clear2 = ap (λ (b : Book). b.differs) s.2 ∙ clear
 
-      bit : bit_at W n ≡ names s.1.table h x
-      bit = bit_names c2 s.1 (more me s.0) h i head few (own_more s.0) held2 clear2 n small
+      tells : names s.1.table h x ≡ bit_at W n
+      tells = sym (bit_names c2 s.1 (more me s.0) h i head few (own_more s.0) held2 clear2 n small)
 
-      by : (b : Bool) → bit_at W n ≡ b → Seen (suc n)
-      by true q = (
-        s.0,
-        s.1,
-        s.2,
-        λ d at. (
-          known d (pushed me.0 s.0) at,
-          s.3 d at,
-          subst (λ (b : Bool). SawByBit b h x (known d (pushed me.0 s.0) at) (known d (pushed me.0 s.0) at)) (sym q)
-              refl,
-        ),
-      )
-      by false q = by_kind (nat_lt x ENTRIES) refl
-        where
-          off : names s.1.table h x ≡ false
-          off = sym bit ∙ q
-
-          by_kind : (b : Bool) → nat_lt x ENTRIES ≡ b → Seen (suc n)
-          by_kind true e =
-              let less_x : x < ENTRIES = grind (arith, nat_tests) in
-              let y : Item = item.Made (step.Saw x (entry_word (s.1.table.entry x))) in (
-                s.0 ++ y ∷ [],
-                law_twice c me.0.number s.0 (y ∷ [])
-                    (entry_look c2 s.1 (more me s.0) h i head few (own_more s.0) held2 clear2 x less less_x off),
-                book_more s.0 y s.2 (λ b. refl),
-                λ d at. (
-                  known d (pushed me.0 s.0) at,
-                  s.3 d at,
-                  subst (λ (b : Bool). SawByBit b h x (known d (pushed me.0 s.0) at)
-                      (known d (pushed me.0 (s.0 ++ y ∷ [])) at)) (sym q)
-                      (subst (λ (b : Bool). SawNone b h x (known d (pushed me.0 s.0) at)
-                      (known d (pushed me.0 (s.0 ++ y ∷ [])) at)) (sym e)
-                      (entry_told c2 s.1 (more me s.0) h i head few (own_more s.0) held2 clear2 x d at
-                      (known d (pushed me.0 (s.0 ++ y ∷ [])) at) less_x off (known_more d me.0 at s.0 y))),
-                ),
-              )
-          by_kind false e =
-              let from : ENTRIES ≤ x = grind (arith, nat_tests) in
-              let y : Item = item.Bookmark (x - ENTRIES) (mark_word (s.1.table.mark (x - ENTRIES))) in
-              let none_there : is_at h (s.1.table.mark (x - ENTRIES)) ≡ false =
-              ap (λ (b : Bool). if b then is_for_head h (s.1.table.entry x) else is_at h (s.1.table.mark (x - ENTRIES)))
-              (sym e) ∙ off in (
-                s.0 ++ y ∷ [],
-                law_twice c me.0.number s.0 (y ∷ []) (mark_law c2 s.1 me.0.number (x - ENTRIES) less),
-                book_more s.0 y s.2 (λ b. refl),
-                λ d at. (
-                  known d (pushed me.0 s.0) at,
-                  s.3 d at,
-                  subst (λ (b : Bool). SawByBit b h x (known d (pushed me.0 s.0) at)
-                      (known d (pushed me.0 (s.0 ++ y ∷ [])) at)) (sym q)
-                      (subst (λ (b : Bool). SawNone b h x (known d (pushed me.0 s.0) at)
-                      (known d (pushed me.0 (s.0 ++ y ∷ [])) at)) (sym e)
-                      (mark_told c2 s.1 (more me s.0) h i head few (own_more s.0) held2 clear2 (x - ENTRIES) d at
-                      (known d (pushed me.0 (s.0 ++ y ∷ [])) at) none_there (known_more d me.0 at s.0 y))),
-                ),
-              )
+      by : (b : Bool) → nat_lt x ENTRIES ≡ b → Seen (suc n)
+      by true e =
+          let less_x : x < ENTRIES = grind (arith, nat_tests) in
+          let y : Item = item.Made (step.Saw x (entry_word (s.1.table.entry x))) in (
+            s.0 ++ y ∷ [],
+            law_twice c me.0.number s.0 (y ∷ [])
+                (entry_look c2 s.1 (more me s.0) h i head few (own_more s.0) held2 clear2 x less),
+            book_more s.0 y s.2 (λ b. refl),
+            λ d at. (
+              known d (pushed me.0 s.0) at,
+              s.3 d at,
+              subst (λ (b : Bool). SawKind b (bit_at W n) h x (known d (pushed me.0 s.0) at)
+                  (known d (pushed me.0 (s.0 ++ y ∷ [])) at)) (sym e)
+                  (entry_told c2 s.1 (more me s.0) h i head few (own_more s.0) held2 clear2 (bit_at W n) x d at
+                  (known d (pushed me.0 (s.0 ++ y ∷ [])) at) less_x tells (known_more d me.0 at s.0 y)),
+            ),
+          )
+      by false e =
+          let from : ENTRIES ≤ x = grind (arith, nat_tests) in
+          let y : Item = item.Bookmark (x - ENTRIES) (mark_word (s.1.table.mark (x - ENTRIES))) in
+          let there : is_at h (s.1.table.mark (x - ENTRIES)) ≡ bit_at W n =
+          ap (λ (b : Bool). if b then stands_at (s.1.table.entry x) h else is_at h (s.1.table.mark (x - ENTRIES)))
+          (sym e) ∙ tells in (
+            s.0 ++ y ∷ [],
+            law_twice c me.0.number s.0 (y ∷ []) (mark_law c2 s.1 me.0.number (x - ENTRIES) less),
+            book_more s.0 y s.2 (λ b. refl),
+            λ d at. (
+              known d (pushed me.0 s.0) at,
+              s.3 d at,
+              subst (λ (b : Bool). SawKind b (bit_at W n) h x (known d (pushed me.0 s.0) at)
+                  (known d (pushed me.0 (s.0 ++ y ∷ [])) at)) (sym e)
+                  (mark_told c2 s.1 (more me s.0) h i head few (own_more s.0) held2 clear2 (bit_at W n) (x - ENTRIES)
+                  d at (known d (pushed me.0 (s.0 ++ y ∷ [])) at) there (known_more d me.0 at s.0 y)),
+            ),
+          )
 
   none_yet : Seen 0
-  unfolding SawClear
+  unfolding SawBits
   none_yet = (
     [],
     subst (λ (f : ℕ → List Item). Law (record { words = c.words; items = f })) (sym still) law,
@@ -393,30 +384,22 @@ module _ (c : Scene) (law : Law c) (me : Sat) (h i : ℕ) (head : h < HEADS) (fe
   all_seen zero small = none_yet
   all_seen (suc n) small = one_more n (omega arith) (all_seen n (omega arith))
 
-  -- with the word written as it was
+  -- with the word written as it was, and the load noted after the looks
   pub word_seen : (xs : List Item) × Law (moved c me.0.number (position_of (place.Member (MEMBER_WORDS * h + i))) W xs)
-      × ((d : TableId) (at : ℕ) → SawClear h i W WORD_BITS (known d me.0 at) (known d (pushed me.0 xs) at))
+      × ((d : TableId) (at : ℕ) → SawWord h i W (known d me.0 at) (known d (pushed me.0 xs) at))
   word_seen =
       let s = all_seen WORD_BITS (omega arith) in
-      let l : Location = place.Member (MEMBER_WORDS * h + i) in
-      let there : IsLocation (place.Member (MEMBER_WORDS * h + i)) = omega arith in (
-        s.0,
-        record {
-          table = s.1.table;
-          beside = s.1.beside;
-          shown = subst (λ (n : ℕ). ShowsWith (slice_set_at n) s.1.table s.1.beside)
-              (sym (s.1.shown.each (place.Member (MEMBER_WORDS * h + i)) there))
-              (written c.words s.1.table s.1.table s.1.beside s.1.beside (place.Member (MEMBER_WORDS * h + i)) s.1.shown
-              there (λ k ne. refl));
-          ruled = s.1.ruled;
-          members = s.1.members;
-          tickets = s.1.tickets;
+      let law = law_twice c me.0.number s.0 (item.Word W ∷ [])
+      (word_law (with_items c me.0.number s.0) s.1 me.0.number W)
+      in (
+        s.0 ++ item.Word W ∷ [],
+        word_back c me.0.number (MEMBER_WORDS * h + i) (s.0 ++ item.Word W ∷ []) law (omega arith),
+        λ d at. record {
+          seen = known d (pushed me.0 s.0) at;
+          bits = s.3 d at;
+          is = known_more d me.0 at s.0 (item.Word W);
         },
-        s.3,
       )
-    where
-      slice_set_at : ℕ → List ℕ
-      slice_set_at n = (moved c me.0.number (position_of (place.Member (MEMBER_WORDS * h + i))) n []).words
 
 pub see_moves : (slots id : ℕ) (me : Sat) → me.0.lives ≡ true → (h i p : ℕ) → h < HEADS → i < MEMBER_WORDS
     → p ≡ position_of (place.Member (MEMBER_WORDS * h + i)) → (book_of me.0.items).head ≡ Some h
@@ -424,14 +407,14 @@ pub see_moves : (slots id : ℕ) (me : Sat) → me.0.lives ≡ true → (h i p :
     → Allows (Holds Law) slots id me p (λ n. n) (member_seen_play (move slots p 0 0 none) me)
 see_moves slots id me lives h i p head few at held clear = subst
     (λ (k : ℕ × ℕ). Allows (Holds Law) slots id me p (λ n. n) (λ n m. (xs : List Item) × (m ≡ (pushed me.0 xs, me.1))
-    × ((d : TableId) (last : ℕ) → SawClear k.0 k.1 n WORD_BITS (known d me.0 last) (known d (pushed me.0 xs) last))))
+    × ((d : TableId) (last : ℕ) → SawWord k.0 k.1 n (known d me.0 last) (known d (pushed me.0 xs) last))))
     (λ j. (head_is j, word_is j))
     (subst (λ (q : ℕ). Allows (Holds Law) slots id me q (λ n. n) (λ n m. (xs : List Item)
     × (m ≡ (pushed me.0 xs, me.1))
-    × ((d : TableId) (last : ℕ) → SawClear h i n WORD_BITS (known d me.0 last) (known d (pushed me.0 xs) last))))
+    × ((d : TableId) (last : ℕ) → SawWord h i n (known d me.0 last) (known d (pushed me.0 xs) last))))
     (sym at)
     (allows_some Law slots id me.0 me.1 (position_of (place.Member (MEMBER_WORDS * h + i))) (λ n. n)
-    (λ n xs. (d : TableId) (last : ℕ) → SawClear h i n WORD_BITS (known d me.0 last) (known d (pushed me.0 xs) last))
+    (λ n xs. (d : TableId) (last : ℕ) → SawWord h i n (known d me.0 last) (known d (pushed me.0 xs) last))
     lives (λ c law less own fits. word_seen c law me h i head few less own held clear)))
   where
     head_is : h ≡ (p - MEMBER_AT) / MEMBER_WORDS

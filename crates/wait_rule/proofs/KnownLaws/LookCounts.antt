@@ -1,0 +1,92 @@
+-- Counting the looks of a task.
+use Rattle.std.proofs.Common.{refl, ◌∙◌, ap, arith}
+use Rattle.std.specs.Prelude.{
+  ℕ,
+  zero,
+  suc,
+  ◌≡◌,
+  ◌+◌,
+  ◌-◌,
+  ◌*◌,
+  ◌≤◌,
+  Bool,
+  true,
+  false,
+  nat_lt,
+  Option,
+  Some,
+  None,
+  List,
+  [],
+  ◌∷◌,
+  ◌++◌,
+}
+use Rattle.wait_model.specs.declared.layout.TheConstants.{ENTRIES, WORD_BITS}
+use Rattle.wait_model.specs.Words.{bit_at}
+use Rattle.wait_rule.specs.declared.journal.Item.{Item}
+use Rattle.wait_rule.specs.declared.journal.Item.TheVariants as item
+use Rattle.wait_rule.specs.Items.{Book}
+use Rattle.wait_rule.specs.Known.{Known}
+use Rattle.wait_rule.specs.Says.{added, grown}
+use Rattle.wait_rule.specs.Queues.{saw}
+use Rattle.wait_rule.specs.LookCounts.{looks_with, looks_from, looks_made, Looked, LooksAtMost}
+use Rattle.wait_rule.specs.MemberLooks.{SawKind, SawBits, SawWord}
+
+pub looks_append : (n : ℕ) (xs ys : List Item) → looks_from n (xs ++ ys) ≡ looks_from (looks_from n xs) ys
+looks_append n [] ys = refl
+looks_append n (x ∷ xs) ys = looks_append (looks_with x n) xs ys
+
+-- with one item more, and with more of them
+pub looks_added : (k : Known) (x : Item) → looks_made (added k x) ≡ looks_with x (looks_made k)
+looks_added k x = looks_append 0 k.view.items (x ∷ [])
+
+pub looks_grown : (k : Known) (xs : List Item) (b : Book) → looks_made (grown k xs b) ≡ looks_from (looks_made k) xs
+looks_grown k xs b = looks_append 0 k.view.items xs
+
+-- one look, or none
+pub looked_one : (old new : Known) (x : Item) → ((n : ℕ) → looks_with x n ≡ n + 1) → new ≡ added old x
+    → Looked 1 old new
+looked_one old new x one is = ap looks_made is ∙ (looks_added old x ∙ one (looks_made old))
+
+pub looked_none : (old new : Known) (x : Item) → ((n : ℕ) → looks_with x n ≡ n) → new ≡ added old x
+    → looks_made new ≡ looks_made old
+looked_none old new x none is = ap looks_made is ∙ (looks_added old x ∙ none (looks_made old))
+
+pub saw_counts : (o : Option ℕ) (x w n : ℕ) → looks_with (item.Made (saw o x w)) n ≡ n + 1
+saw_counts None x w n = refl
+saw_counts (Some h) x w n = refl
+
+-- looks one after the other
+pub at_most_on : (m n : ℕ) (old mid new : Known) → LooksAtMost m old mid → LooksAtMost n mid new
+    → LooksAtMost (m + n) old new
+at_most_on m n old mid new one two = omega arith
+
+pub at_most_more : (m n : ℕ) (old new : Known) → m ≤ n → LooksAtMost m old new → LooksAtMost n old new
+at_most_more m n old new less one = omega arith
+
+pub at_most_of : (n : ℕ) (old new : Known) → Looked n old new → LooksAtMost n old new
+at_most_of n old new is = omega arith
+
+pub at_most_none : (n : ℕ) (old new : Known) → looks_made new ≡ looks_made old → LooksAtMost n old new
+at_most_none n old new is = omega arith
+
+-- the looks for which the bits of a member word stand
+kind_looked : (b bit : Bool) (h x : ℕ) (old new : Known) → SawKind b bit h x old new → Looked 1 old new
+kind_looked true bit h x old new s = looked_one old new _ (λ n. refl) s.is
+kind_looked false bit h x old new s = looked_one old new _ (λ n. refl) s.is
+
+bits_looked : (h i w n : ℕ) (old new : Known) → SawBits h i w n old new → Looked n old new
+unfolding SawBits
+bits_looked h i w zero old new s = let e : looks_made new ≡ looks_made old = ap looks_made s in omega arith
+bits_looked h i w (suc n) old new s =
+    let before = bits_looked h i w n old s.0 s.1 in
+    let last = kind_looked (nat_lt (WORD_BITS * i + n) ENTRIES) (bit_at w n) h (WORD_BITS * i + n) s.0 new s.2 in
+    omega arith
+
+in_place : (n c m k : ℕ) → m ≡ n + c → k ≡ m + 1 - c → k ≡ n + 1
+in_place n c m k one two = omega arith
+
+-- the load itself is one
+pub word_looked : (h i w : ℕ) (old new : Known) → SawWord h i w old new → Looked 1 old new
+word_looked h i w old new s = in_place (looks_made old) WORD_BITS (looks_made s.seen) (looks_made new)
+    (bits_looked h i w WORD_BITS old s.seen s.bits) (ap looks_made s.is ∙ looks_added s.seen (item.Word w))

@@ -2,7 +2,8 @@
 # Times holds of a head's lock beside a std Mutex and a ticket lock in plain Rust, and writes the figures of each run. It
 # needs rustc, and the program built by `rt run` in crates/bench_head. RUNS: how many runs (7). In a run each program
 # makes many short rounds, three times in turn with the other. Of one thread's holds the least round counts; where
-# threads share a lock, the middle one. The first ratio is to the Mutex, the second to the plain ticket lock.
+# threads share a lock, the middle one. The first ratio is to the Mutex, the second to the plain ticket lock. A wake goes
+# over entries of tasks that are awake: it calls each, and wakes no thread.
 set -eu
 cd "$(dirname "$0")/.."
 made=$(mktemp -d)
@@ -31,11 +32,14 @@ for _ in $(seq "${RUNS:-7}"); do
             printf "%s %.1f ns, ratios %.2f and %.2f; ", name, middle["head", name],
                 middle["head", name] / middle["plain", name], middle["head", name] / middle["plain", "ticket_" name]
         }
+        function woken(count) { return least["head", "wake_" count] }
         END {
             printf "lock %.1f ns, ratios %.2f and %.2f; ", least["head", "lock"],
                 least["head", "lock"] / least["plain", "lock"], least["head", "lock"] / least["plain", "ticket"]
             shared("two")
             shared("four")
-            printf "look %.0f ns\n", least["head", "look"]
+            printf "look %.0f ns; active %.1f ns; ", least["head", "look"], least["head", "active"]
+            printf "wake over 1, 8, 65 entries %.0f, %.0f, %.0f ns, a member %.1f, %.1f, %.1f ns\n", woken(1), woken(8),
+                woken(65), woken(1), woken(8) / 8, woken(65) / 65
         }'
 done

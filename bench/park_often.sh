@@ -1,7 +1,7 @@
 #!/bin/sh
 # Runs the tests in which threads sleep and wake one another in many rounds, RUNS times each (20), and fails where one of
-# them fails or has not ended after LIMIT seconds (60). It needs the tests built by `rt test` in crates/wait_rule and
-# crates/wq_head. BUSY: how many loops keep processors busy meanwhile (0).
+# them fails or has not ended after LIMIT seconds (60). It needs the tests built by `rt test` in crates/wait_rule,
+# crates/wq_head and crates/wait_event. JOBS: how many runs there are at once (1). BUSY: how many loops keep processors busy meanwhile (0).
 set -eu
 cd "$(dirname "$0")/.."
 loops=
@@ -16,12 +16,9 @@ done
 
 failed=0
 often() {
-    good=0
-    for _ in $(seq "${RUNS:-20}"); do
-        if timeout "${LIMIT:-60}" "crates/$1/out/$1_tests" "$2" >/dev/null 2>&1; then
-            good=$((good + 1))
-        fi
-    done
+    good=$(seq "${RUNS:-20}" | xargs -P "${JOBS:-1}" -I RUN \
+        sh -c 'timeout "$1" "$2" "$3" >/dev/null 2>&1 && echo well || :' RUN "${LIMIT:-60}" \
+        "crates/$1/out/$1_tests" "$2" | wc -l)
     echo "$2: $good of ${RUNS:-20} runs ended well"
     [ "$good" -eq "${RUNS:-20}" ] || failed=1
 }
@@ -31,4 +28,5 @@ often wait_rule park_tests::three_hand_on
 often wq_head tests::sleepers::walk_over_arrivals
 often wq_head tests::sleepers::walk_over_sleepers
 often wq_head tests::tickets::tickets
+often wait_event tests::threads::waiters_are_joined
 exit "$failed"

@@ -1,18 +1,25 @@
-//! How fast the lock of a head is. Without words it makes a few holds of each kind and writes `done`; with a word it
+//! How fast the lock of a head is. Without words it makes a few holds of each kind and writes `done`; with `times` it
 //! makes many, in some rounds, and writes how many nanoseconds each round took in all, as `NAME COUNT NANOSECONDS`.
+//! With
+//! `idle` two tasks wait for a second, and nothing else is done.
 #![tactic(auto)]
+
+mod idle;
 
 ghost use Rattle.std.specs.Prelude.{◌≡◌};
 ghost use Rattle.wait_rule.specs.Says.{IsUp, IsFree};
+ghost use Rattle.wq_head.specs.Readied.{IsAtRest, IsReady};
 
+use crate::idle::wait_a_second;
 use std::alloc::Global;
 use std::sync::Wait;
 use std::thread::Threads;
 use std::time::{Clock, Duration, Instant};
 use std::{env, io, thread};
 use wait_model::layout::FIRST_PLAIN_HEAD;
+use wait_model::watches::{Kind, Mode, Watch};
 use wait_rule::{Domain, Task};
-use wq_head::{has_members, lock, unlock};
+use wq_head::{active, add_tail, has_members, lock, unlock, wake};
 
 /// The head that all holds are of.
 const HEAD: u16 = FIRST_PLAIN_HEAD;
@@ -48,6 +55,66 @@ fn looks<R: Wait>(rt: &R, domain: &Domain, task: &mut Task, n: u64) -> u64
         unlock(rt, domain, task, false);
     }
     found
+}
+
+/// Looks for members of the head without its lock: 0 where none of them found one.
+fn unlocked_looks(domain: &Domain, task: &mut Task, n: u64) -> u64
+    requires of { task.old.domain ≡ domain.now }
+    requires up { IsUp task.old }
+    requires free { IsFree task.old }
+    ensures of { task.new.domain ≡ domain.now }
+    ensures up { IsUp task.new }
+    ensures free { IsFree task.new }
+{
+    let mut found: u64 = 0;
+    for _ in 0..n {
+        found |= u64::from(active(domain, task, HEAD));
+    }
+    found
+}
+
+/// A task that is awake queues its entry: false where there is no place.
+fn queue_own<R: Wait>(rt: &R, domain: &Domain, mut task: Task) -> bool
+    requires of { task.domain ≡ domain.now }
+    requires ready { IsReady task }
+{
+    lock(rt, domain, &mut task, HEAD);
+    let watch = Watch::Plain { cond: 0 };
+    let queued = add_tail(domain, &mut task, 0, Kind::Default, false, watch).is_ok();
+    unlock(rt, domain, &mut task, false);
+    queued
+}
+
+/// So many new tasks queue their entries: false where there is no number or no place left.
+fn queue_many<R: Wait>(rt: &R, domain: &Domain, task: &mut Task, count: u8) -> bool
+    requires of { task.old.domain ≡ domain.now }
+    requires ready { IsReady task.old }
+    ensures of { task.new.domain ≡ domain.now }
+    ensures ready { IsReady task.new }
+{
+    for _ in 0..count {
+        let Ok(other) = task.fork(domain, 0) else {
+            return false;
+        };
+        if !queue_own(rt, domain, other) {
+            return false;
+        }
+    }
+    true
+}
+
+/// Wakes of all who wait for condition 0: 0 where nobody was woken.
+fn wakes<R: Wait>(rt: &R, domain: &Domain, task: &mut Task, n: u64) -> u32
+    requires of { task.old.domain ≡ domain.now }
+    requires rests { IsAtRest task.old }
+    ensures of { task.new.domain ≡ domain.now }
+    ensures rests { IsAtRest task.new }
+{
+    let mut woken: u32 = 0;
+    for _ in 0..n {
+        woken |= wake(rt, domain, task, Watch::Plain { cond: 0 }, Mode::Normal, 0).woken;
+    }
+    woken
 }
 
 /// The holds of a thread that has its own task.
@@ -122,6 +189,24 @@ fn time_looks<R: Clock + Wait>(rt: &R, alloc: Global, n: u64) -> io::Result<(Dur
     Ok((start.elapsed(rt)?, found))
 }
 
+/// How long `n` looks without the lock take at a head without members, and what they found.
+fn time_unlocked_looks<R: Clock>(rt: &R, alloc: Global, n: u64) -> io::Result<(Duration, u64)> {
+    let (domain, mut task) = Domain::new(alloc)?;
+    let start = Instant::now(rt)?;
+    let found = unlocked_looks(&domain, &mut task, n);
+    Ok((start.elapsed(rt)?, found))
+}
+
+/// How long `n` wakes take that each call the entries of `count` tasks, which are awake: the walk alone, since no
+/// thread is woken.
+fn time_wakes<R: Clock + Wait>(rt: &R, alloc: Global, count: u8, n: u64) -> io::Result<Duration> {
+    let (domain, mut task) = Domain::new(alloc)?;
+    queue_many(rt, &domain, &mut task, count);
+    let start = Instant::now(rt)?;
+    wakes(rt, &domain, &mut task, n);
+    start.elapsed(rt)
+}
+
 /// How long two threads take that make `n` holds each.
 fn time_two<R: Clock + Threads + Wait + Sync>(
     rt: &R,
@@ -158,6 +243,16 @@ fn time_four<R: Clock + Threads + Wait + Sync>(
     start.elapsed(rt)
 }
 
+/// Two tasks wait for a second.
+fn wait_idly<R: Clock + Threads + Wait + Sync>(rt: &R, alloc: Global) -> io::Result<()> {
+    let (domain, mut task) = Domain::new(alloc)?;
+    let (Ok(sleeper), Ok(asker)) = (task.fork(&domain, 0), task.fork(&domain, 0)) else {
+        unreachable!()
+    };
+    wait_a_second(rt, &domain, task, sleeper, asker);
+    Ok(())
+}
+
 /// Writes a line of a measurement.
 fn report<R: Print>(rt: &R, name: &str, n: u64, time: Duration) -> io::Result<()> {
     println!(rt; "{name} {n} {}", time.as_nanos())
@@ -165,6 +260,9 @@ fn report<R: Print>(rt: &R, name: &str, n: u64, time: Duration) -> io::Result<()
 
 fn main(rt: HostRuntime) -> io::Result<()> {
     let words: Vec<String> = env::args(&rt)?.skip(1).collect(rt.alloc())?;
+    if words.first().is_some_and(|word| word.as_str() == "idle") {
+        return wait_idly(&rt, rt.alloc());
+    }
     let asked = !words.is_empty();
     let (rounds, steps, turns, surveys): (u32, u64, u64, u64) = if asked {
         (40, 100_000, 20_000, 2_000)
@@ -176,13 +274,21 @@ fn main(rt: HostRuntime) -> io::Result<()> {
         let two = time_two(&rt, rt.alloc(), turns)?;
         let four = time_four(&rt, rt.alloc(), turns)?;
         let (looks, found) = time_looks(&rt, rt.alloc(), surveys)?;
+        let (unlocked, seen) = time_unlocked_looks(&rt, rt.alloc(), surveys)?;
+        let one = time_wakes(&rt, rt.alloc(), 1, surveys)?;
+        let eight = time_wakes(&rt, rt.alloc(), 8, surveys)?;
+        let most = time_wakes(&rt, rt.alloc(), 65, surveys)?;
         if asked {
             report(&rt, "lock", steps, alone)?;
             report(&rt, "two", turns * 2, two)?;
             report(&rt, "four", turns * 4, four)?;
         }
-        if asked && found == 0 {
+        if asked && found == 0 && seen == 0 {
             report(&rt, "look", surveys, looks)?;
+            report(&rt, "active", surveys, unlocked)?;
+            report(&rt, "wake_1", surveys, one)?;
+            report(&rt, "wake_8", surveys, eight)?;
+            report(&rt, "wake_65", surveys, most)?;
         }
     }
     println!(rt; "done")?;

@@ -1,9 +1,17 @@
 -- The places of adds by a whole book, and the entries that stand there.
 use Rattle.std.proofs.Common.{◌∙◌, ap, sym, refl, subst, inl, inr, eq-eqb, arith}
 use Rattle.std.proofs.lemmas.Bool.Decides.{nat_tests}
-use Rattle.std.specs.Prelude.{ℕ, ◌≡◌, ◌%◌, ◌<◌, ◌≤◌, ◌⊎◌, ◌&&◌, ◌||◌, ◌==◌}
-use Rattle.std.specs.Prelude.{Bool, true, false, nat_lt, if◌then◌else◌, Option, Some, None}
-use Rattle.wait_model.specs.declared.layout.TheConstants.{SLOTS, MEMBERS, PLAIN_CONDITIONS, PLACES, MIDDLE, FIRST_PLACE}
+use Rattle.std.specs.Prelude.{ℕ, ◌≡◌, ◌+◌, ◌%◌, ◌<◌, ◌≤◌, ◌⊎◌, ◌&&◌, ◌||◌, ◌==◌}
+use Rattle.std.specs.Prelude.{Bool, true, false, nat_lt, if◌then◌else◌, Option, Some, None, length}
+use Rattle.wait_model.specs.declared.layout.TheConstants.{
+  SLOTS,
+  MEMBERS,
+  MEMBER_WORDS,
+  PLAIN_CONDITIONS,
+  PLACES,
+  MIDDLE,
+  FIRST_PLACE,
+}
 use Rattle.wait_model.specs.declared.watches.Watch.{Watch}
 use Rattle.wait_model.specs.declared.watches.Kind.{Kind}
 use Rattle.wait_model.specs.declared.watches.Kind.TheVariants as kind
@@ -19,6 +27,8 @@ use Rattle.wait_model.specs.Fold.{after}
 use Rattle.wait_model.proofs.Functions.{put_at, put_same}
 use Rattle.wait_rule.specs.declared.journal.Item.TheVariants as item
 use Rattle.wait_rule.specs.Known.{Known}
+use Rattle.wait_rule.specs.LookCounts.{LooksAtMost}
+use Rattle.wait_rule.specs.Shown.{shown_queue}
 use Rattle.wait_rule.specs.Members.{IsStanding}
 use Rattle.wait_rule.specs.Queues.{
   place_by,
@@ -50,11 +60,11 @@ use Rattle.wait_rule.specs.Stays.{
 }
 use Rattle.wait_rule.proofs.KnownLaws.CarriedTasks.{clean_owes, owes_clean}
 use Rattle.wq_head.proofs.CarriedHolds.{looks_carried}
-use Rattle.wait_rule.proofs.KnownLaws.AfterSteps.{told_added}
+use Rattle.wq_head.proofs.CountedLooks.{counted_add}
 use Rattle.wait_rule.proofs.KnownLaws.StayingParts.{stays_on, stays_but, owes_also, owes_out}
 use Rattle.wq_head.specs.declared.looks.ShownMember.{ShownMember}
 use Rattle.wq_head.specs.Holds.{IsHolding}
-use Rattle.wq_head.specs.Looks.{Looks, AreSeen, IsBetween, IsFirst, IsLast, place_of}
+use Rattle.wq_head.specs.Looks.{Looks, IsLow, AreLow, AreSeen, IsBetween, IsFirst, IsLast, place_of}
 use Rattle.wq_head.specs.Adds.{IsFor, HasAdded, HasQueued, HasRemoved, front_entry}
 use Rattle.wq_head.proofs.OneMoreLook.{saw_told, saw_looks, whole_of, looks_on, holding_on}
 use Rattle.wait_rule.specs.Says.{stored_with}
@@ -214,7 +224,7 @@ module _ (old mid : Known) (n slot w : ℕ) (e : Entry) (is_n : n ≡ old.view.n
   pub queue_number : mid.view.number ≡ old.view.number
   queue_number = ap (λ (k : Known). k.view.number) saw_it
 
-  queue_off : (told_of mid).hold.book (index mid.view.number slot) ≡ off
+  pub queue_off : (told_of mid).hold.book (index mid.view.number slot) ≡ off
   queue_off = ap (λ (k : ℕ). (told_of mid).hold.book (index k slot)) queue_number
       ∙ own_off old mid slot w few held
       (subst (λ (k : ℕ). mid ≡ added old (item.Made (saw old.book.head (index k slot) w))) is_n saw_it)
@@ -225,6 +235,9 @@ module _ (old mid : Known) (n slot w : ℕ) (e : Entry) (is_n : n ≡ old.view.n
 
   pub queue_tail : (p : ℕ) → IsTailPlace old p → IsTailPlace mid p
   queue_tail p is = tail_same old mid queue_same p is
+
+  pub queue_low : AreLow old MEMBERS → AreLow mid MEMBERS
+  queue_low low m few = subst IsLow (sym (queue_same m few)) (low m few)
 
   either_place : IsFrontPlace old e.place ⊎ IsTailPlace old e.place → IsFrontPlace mid e.place ⊎ IsTailPlace mid e.place
   either_place (inl a) = inl (queue_front e.place a)
@@ -444,18 +457,24 @@ module _ (IsPlace : Known → ℕ → Type 0) (old mid new : Known) (slot p : �
   add_is : new ≡ stored_with q.seen (step.Queue x (front_entry w k p))
   add_is = q.is ∙ (λ i. stored_with q.seen (step.Queue (index ((first.is i).view.number) slot) (is i)))
 
-  pub added_at : IsPlace q.seen e.place → HasAdded IsPlace old new slot w k
-  added_at place = record {
+  pub added_at : AreLow mid MEMBERS → AreSeen mid MEMBERS
+      → LooksAtMost (MEMBER_WORDS + length (shown_queue mid)) old mid → IsPlace q.seen e.place
+      → HasAdded IsPlace old new slot w k
+  added_at low seen counts place = record {
     place = p;
     seen = q.seen;
     looks = add_looks;
     whole = q.whole;
+    low = q.low low;
+    is_off = subst (λ (n : ℕ). (told_of q.seen).hold.book (index n slot) ≡ off)
+        (ap (λ (j : Known). j.view.number) first.is) q.is_off;
     sort = subst (IsPlace q.seen) (ap (λ (f : Entry). f.place) is) place;
     is = add_is;
     queued = queue_memberd q.seen new x (front_entry w k p) add_is;
     stays = stays_on (only x) old q.seen new (stays_but (only x) old q.seen add_looks.stays)
         (queue_stays q.seen new x (front_entry w k p) add_is refl);
     settled = λ f none o. queue_owes q.seen new x (front_entry w k p) add_is f (add_looks.settled none f o);
+    counts = counted_add old mid q.seen new x (front_entry w k p) q.looks seen counts q.one add_is;
     carries = queue_carried q.seen new x (front_entry w k p) add_is old refl (looks_carried old q.seen add_looks);
   }
 

@@ -1,41 +1,32 @@
 -- What the calls on heads carry on of a task.
-use Rattle.std.proofs.Common.{◌∙◌, ap, sym, refl, subst, inl, inr}
-use Rattle.std.specs.Prelude.{ℕ, ◌≡◌, ◌⊎◌, ◌==◌, ◌&&◌, ◌||◌, not, Bool, true, false, if◌then◌else◌, Option, Some, None}
+use Rattle.std.proofs.Common.{◌∙◌, ap, sym, refl, inl, inr}
+use Rattle.std.specs.Prelude.{ℕ, ◌≡◌, ◌⊎◌, ◌&&◌, ◌||◌, not, Bool, true, false, if◌then◌else◌, Option, Some, None}
 use Rattle.wait_model.specs.declared.watches.Watch.{Watch}
-use Rattle.wait_model.specs.declared.watches.Mode.{Mode}
 use Rattle.wait_model.specs.declared.watches.Mode.TheVariants as mode
 use Rattle.wait_model.specs.declared.watches.Entry.{Entry}
 use Rattle.wait_model.specs.declared.watches.Aim.{Aim}
-use Rattle.wait_model.specs.declared.steps.Step.TheVariants as step
 use Rattle.wait_model.specs.Tasks.{meets}
 use Rattle.wait_model.specs.Watches.{same, mask_of}
-use Rattle.wait_model.specs.Views.{View as Told, Hold, Walk, Bits, Duty, all_passed}
-use Rattle.wait_model.specs.Fold.{after, after_unlock}
+use Rattle.wait_model.specs.Views.{View as Told, Hold, Walk, Bits, all_passed}
+use Rattle.wait_model.specs.Fold.{after_unlock}
 use Rattle.wait_model.proofs.StepLaws.UnlockSteps.{unlock_bits, unlock_hold}
-use Rattle.wait_rule.specs.declared.journal.Item.TheVariants as item
 use Rattle.wait_rule.specs.Known.{Known}
 use Rattle.wait_rule.specs.Tickets.{no_ticket, taken}
-use Rattle.wait_rule.specs.Says.{Excuse, OwesBut, IsUp, told_of, unlocked_with}
-use Rattle.wait_rule.specs.Queues.{IsIdle, index}
+use Rattle.wait_rule.specs.Says.{Excuse, told_of, unlocked_with}
+use Rattle.wait_rule.specs.Queues.{IsIdle}
 use Rattle.wait_rule.specs.Stays.{
-  TriesNone,
-  Stays,
   least,
-  also,
   Owes,
-  with_entry,
   with_wakes,
   Carries,
   only_looks,
   lock_change,
   unlock_change,
-  queue_change,
-  take_off_change,
   wake_all_change,
 }
 use Rattle.wait_rule.proofs.KnownLaws.Turns.{told_unlocked}
 use Rattle.wait_rule.proofs.KnownLaws.CarriedTasks.{clean_owes, owes_clean, owes_more, stays_carried}
-use Rattle.wq_head.specs.Holds.{HasLocked, IsHolding}
+use Rattle.wq_head.specs.Holds.{HasLocked}
 use Rattle.wq_head.specs.Looks.{Looks}
 use Rattle.wq_head.specs.Walks.{HasEnded, spares}
 use Rattle.wq_head.proofs.LockWaits.{locked_told, locked_stays, unlocked_stays}

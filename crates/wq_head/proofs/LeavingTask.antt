@@ -9,7 +9,6 @@ use Rattle.wait_model.specs.declared.watches.Kind.TheVariants as kind
 use Rattle.wait_model.specs.declared.watches.Watch.{Watch}
 use Rattle.wait_model.specs.declared.watches.Mode.TheVariants as mode
 use Rattle.wait_model.specs.declared.watches.Aim.{Aim}
-use Rattle.wait_model.specs.declared.queues.Mark.{Mark}
 use Rattle.wait_model.specs.declared.steps.Step.{Step}
 use Rattle.wait_model.specs.declared.steps.Step.TheVariants as step
 use Rattle.wait_model.specs.declared.tasks.Sleep.{Sleep}
@@ -33,7 +32,6 @@ use Rattle.wait_rule.specs.Says.{
   added,
   history_of,
   told_of,
-  noted,
 }
 use Rattle.wait_rule.specs.Queues.{IsIdle, IsTailPlace, KnewEntry, MayUnqueue, index, saw}
 use Rattle.wait_rule.specs.Stays.{TriesNone, Stays, StaysOwing, also, no_entries}
@@ -49,7 +47,6 @@ use Rattle.wq_head.specs.Looks.{Looks}
 use Rattle.wq_head.specs.Adds.{HasAdded, HasRemoved, front_entry}
 use Rattle.wq_head.specs.Walks.{HasEnded, spares}
 use Rattle.wq_head.specs.Leaving.{HasEntry, HasLeft, IsBack}
-use Rattle.wq_head.proofs.OwnBookmark.{own_marked, place_marked}
 use Rattle.wq_head.proofs.ReadyTasks.{first_head, may_take_off}
 use Rattle.wq_head.proofs.OneMoreLook.{saw_bits, saw_looks}
 use Rattle.wq_head.proofs.LockWaits.{locked_told}

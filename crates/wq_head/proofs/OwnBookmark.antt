@@ -42,6 +42,7 @@ step_marked me (step.Lock h aim w) v n is = is
 step_marked me (step.Unlock h spent) v n is = unlock_mark v v.walk spent ∙ is
 step_marked me (step.Saw x w) v n is = is
 step_marked me (step.Peek x w) v n is = is
+step_marked me (step.Scan h i w) v n is = is
 step_marked me (step.Queue x e) v n is = is
 step_marked me (step.Unqueue x) v n is = is
 step_marked me (step.Mark h q) v n is = refl
@@ -62,6 +63,7 @@ list_marked me (item.Drawn h w ∷ xs) v n is = list_marked me xs v n is
 list_marked me (item.Serving h w ∷ xs) v n is = list_marked me xs v n is
 list_marked me (item.Served ∷ xs) v n is = list_marked me xs v n is
 list_marked me (item.Member ∷ xs) v n is = list_marked me xs v n is
+list_marked me (item.Word w ∷ xs) v n is = list_marked me xs v n is
 list_marked me (item.Bookmark t w ∷ xs) v n is = list_marked me xs v (note me (item.Bookmark t w) v n) is
 
 pub own_marked : (k : Known) → (told_of k).mark ≡ place_marked (noted k).own

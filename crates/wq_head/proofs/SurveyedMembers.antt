@@ -18,7 +18,7 @@ use Rattle.wq_head.specs.Looks.{
   last_with,
 }
 use Rattle.wq_head.proofs.FirstAndLast.{below_or, first_more, last_more}
-use Rattle.wq_head.proofs.ClearLooks.{IsClear}
+use Rattle.wq_head.specs.Looking.{IsClear}
 
 -- the outermost of some members stays that where no other one comes in
 module _ (old new : ℕ → Option ℕ) (i j low high : ℕ) (few : i ≤ j) (same : (m : ℕ) → m < i → new m ≡ old m)

@@ -14,10 +14,10 @@ stays_at old new l = ap (λ (k : Known). k.at) l.is
 
 pub front_note : (old new : Known) (w : Worn) → IsHolding new → IsFrontWorn old new w
     → WasWorn new.view.number new.view.items w.head w.place
-front_note old new w held (l, whole, head, low, none) = holds_note new w.head w.place
+front_note old new w held (l, whole, head, low, none, below) = holds_note new w.head w.place
     (held.told ∙ ap Some (stays_at old new l ∙ sym head)) (inl (low.0, (low.0.above, low.0.below, inl none)))
 
 pub tail_note : (old new : Known) (w : Worn) → IsHolding new → IsTailWorn old new w
     → WasWorn new.view.number new.view.items w.head w.place
-tail_note old new w held (l, whole, head, high, none) = holds_note new w.head w.place
+tail_note old new w held (l, whole, head, high, none, below) = holds_note new w.head w.place
     (held.told ∙ ap Some (stays_at old new l ∙ sym head)) (inl (high.0, (high.0.above, high.0.below, inr none)))

@@ -9,8 +9,9 @@ loop-init g c = if_false _ _ c.look_often.result c.if-look_often.false c.look_of
 
 pub loop-preserved : goal.loop-preserved
 loop-preserved g c = waited_more c.args.task.now c.loop.task c.serving_load-found.new.task c.args.head c.args.ticket
-    c.serving_load-found.result c.requires.drawn c.loop.invariant c.serving_load-found.ensures c.if-found-ticket.false
+    c.serving_load-found.result c.requires.drawn c.loop.invariant c.serving_load-found.ensures.step
+    c.if-found-ticket.false
 
 pub returns-then-found-ticket : goal.returns-then-found-ticket
 returns-then-found-ticket g c = turn_more c.args.task.now c.loop.task c.serving_load-found.new.task c.args.head
-    c.args.ticket c.serving_load-found.result c.loop.invariant c.serving_load-found.ensures c.if-found-ticket.true
+    c.args.ticket c.serving_load-found.result c.loop.invariant c.serving_load-found.ensures.step c.if-found-ticket.true

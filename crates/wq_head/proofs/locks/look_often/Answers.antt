@@ -3,8 +3,8 @@ use Rattle.wq_head.proofs.locks.look_often.Goals as goal
 
 pub loop-preserved : goal.loop-preserved
 loop-preserved c = waited_more c.args.task.now c.loop.task c.serving_load.new.task c.args.head c.args.ticket
-    c.serving_load.result c.requires.drawn c.loop.invariant c.serving_load.ensures c.if-serving_load-ticket.false
+    c.serving_load.result c.requires.drawn c.loop.invariant c.serving_load.ensures.step c.if-serving_load-ticket.false
 
 pub returns-then-serving_load-ticket : goal.returns-then-serving_load-ticket
 returns-then-serving_load-ticket c = turn_more c.args.task.now c.loop.task c.serving_load.new.task c.args.head
-    c.args.ticket c.serving_load.result c.loop.invariant c.serving_load.ensures c.if-serving_load-ticket.true
+    c.args.ticket c.serving_load.result c.loop.invariant c.serving_load.ensures.step c.if-serving_load-ticket.true

@@ -1,0 +1,189 @@
+-- A look at the member words of a head without its lock, one word after another.
+use Rattle.std.proofs.Common.{◌∙◌, ap, sym, refl, subst, inl, inr, arith, eq-eqb, eqb-true}
+use Rattle.std.specs.Prelude.{ℕ, zero, suc, ◌≡◌, ◌≢◌, ◌+◌, ◌<◌, ◌≤◌, ◌==◌, ◌&&◌, ◌||◌, not, Bool, true, false}
+use Rattle.std.specs.Prelude.{List, [], ◌∷◌, ◌++◌}
+use Rattle.std.proofs.lemmas.Bool.Decides.{nat_tests}
+use Rattle.wait_model.specs.declared.layout.TheConstants.{MEMBER_WORDS}
+use Rattle.wait_model.specs.declared.watches.Watch.{Watch}
+use Rattle.wait_model.specs.declared.steps.Step.{Step}
+use Rattle.wait_model.specs.declared.steps.Step.TheVariants as step
+use Rattle.wait_model.specs.Watches.{head_of}
+use Rattle.wait_model.specs.Scans.{empty_scans, empty_look}
+use Rattle.wait_model.specs.Views.{View as Told, Bits}
+use Rattle.wait_model.specs.Fold.{after, view_of}
+use Rattle.wait_model.proofs.HistoryLaws.HeadScans.{empty_looks_end}
+use Rattle.wait_rule.specs.declared.journal.Item.{Item}
+use Rattle.wait_rule.specs.declared.journal.Item.TheVariants as item
+use Rattle.wait_rule.specs.Items.{steps_of}
+use Rattle.wait_rule.specs.Known.{Known}
+use Rattle.wait_rule.specs.Says.{Excuse, IsOutBut, told_of, history_of, added, grown}
+use Rattle.wait_rule.specs.Stays.{Carries, unchanged}
+use Rattle.wait_rule.specs.LookCounts.{Looked, LooksAtMost}
+use Rattle.wait_rule.specs.Transitions.{AreScansOf, has_bit, has_word}
+use Rattle.wait_rule.proofs.KnownLaws.AfterSteps.{told_added}
+use Rattle.wait_rule.proofs.KnownLaws.Transitions.{grown_none, grown_more}
+use Rattle.wait_rule.proofs.KnownLaws.CarriedTasks.{unchanged_on, stays_carried}
+use Rattle.wait_rule.proofs.KnownLaws.StayingParts.{stays_same}
+use Rattle.wait_rule.proofs.TableSteps.ItemLists.{steps_append}
+use Rattle.wq_head.specs.Scanned.{HasScanned, HasEndedAt}
+use Rattle.wq_head.proofs.FirstAndLast.{below_or}
+
+-- loads of n words from word i on, each of which found no bit
+abbrev pub scans : ℕ → ℕ → ℕ → List Item
+scans h i zero = []
+scans h i (suc n) = item.Made (step.Scan h i 0) ∷ scans h (suc i) n
+
+abbrev load : ℕ → ℕ → ℕ → List Item
+load h i w = item.Made (step.Scan h i w) ∷ []
+
+scans_more : (h i n : ℕ) → scans h i (suc n) ≡ scans h i n ++ load h (i + n) 0
+scans_more h i zero = ap (λ (j : ℕ). load h j 0) (let e : i ≡ i + 0 = omega arith in e)
+scans_more h i (suc n) = ap (λ (xs : List Item). item.Made (step.Scan h i 0) ∷ xs) (scans_more h (suc i) n
+    ∙ ap (λ (j : ℕ). scans h (suc i) n ++ load h j 0) (let e : suc i + n ≡ i + suc n = omega arith in e))
+
+scans_of : (h i n : ℕ) → AreScansOf h (scans h i n)
+scans_of h i zero = tt
+scans_of h i (suc n) = (refl, scans_of h (suc i) n)
+
+scans_steps : (h i n : ℕ) → steps_of (scans h i n) ≡ empty_scans h i n
+scans_steps h i zero = refl
+scans_steps h i (suc n) = ap (λ (es : List Step). step.Scan h i 0 ∷ es) (scans_steps h (suc i) n)
+
+scans_none : (h i n : ℕ) → has_bit (scans h i n) ≡ false
+scans_none h i zero = refl
+scans_none h i (suc n) = scans_none h (suc i) n
+
+or_true : (b c : Bool) → c ≡ true → (b || c) ≡ true
+or_true true c is = refl
+or_true false c is = is
+
+true_or : (b c : Bool) → b ≡ true → (b || c) ≡ true
+true_or true c is = refl
+true_or false c is = absurd (cc)
+
+scans_all : (h i n j : ℕ) → i ≤ j → j < i + n → has_word j (scans h i n) ≡ true
+scans_all h i zero j low high = absurd (omega arith)
+scans_all h i (suc n) j low high = elim (below_or i j) [
+  | inl behind ↦ or_true (i == j) (has_word j (scans h (suc i) n))
+      (scans_all h (suc i) n j (omega arith) (omega arith))
+  | inr here ↦ true_or (i == j) (has_word j (scans h (suc i) n)) (eq-eqb i j (omega arith))
+]
+
+of_append : (h : ℕ) (xs ys : List Item) → AreScansOf h xs → AreScansOf h ys → AreScansOf h (xs ++ ys)
+of_append h [] ys one two = two
+of_append h (x ∷ xs) ys one two = (one.0, of_append h xs ys one.1 two)
+
+bit_append : (xs ys : List Item) → has_bit ys ≡ true → has_bit (xs ++ ys) ≡ true
+bit_append [] ys is = is
+bit_append (x ∷ xs) ys is = or_true _ (has_bit (xs ++ ys)) (bit_append xs ys is)
+
+-- the look has found no bit in the first n words
+pub record HasFoundNone (old now : Known) (h n : ℕ) : Type 0 where
+  pub is : now ≡ grown old (scans h 0 n) old.book
+  pub bits : (told_of now).bits ≡ (told_of old).bits
+  pub mark : (told_of now).mark ≡ (told_of old).mark
+  pub looked : Looked n old now
+  pub carries : Carries unchanged old now
+
+-- what one load more leaves
+module _ (old now new : Known) (h n w : ℕ) (s : HasFoundNone old now h n) (made : new ≡ added now (item.Made
+    (step.Scan h n w)))
+    (one : Looked 1 now new) (carry : Carries unchanged now new) where
+  told : told_of new ≡ after (step.Scan h n w) (told_of now)
+  told = ap told_of made ∙ told_added now (item.Made (step.Scan h n w))
+
+  all_items : new ≡ grown old (scans h 0 n ++ load h n w) old.book
+  all_items = made ∙ ((λ i. grown (s.is i) (load h n w) (s.is i).book)
+      ∙ grown_more old (scans h 0 n) (load h n w) old.book old.book)
+
+  pub none_more : w ≡ 0 → HasFoundNone old new h (n + 1)
+  none_more zero_is = record {
+    is = all_items ∙ ap (λ (xs : List Item). grown old xs old.book)
+        (ap (λ (v : ℕ). scans h 0 n ++ load h n v) zero_is
+        ∙ (ap (λ (j : ℕ). scans h 0 n ++ load h j 0) (let e : n ≡ 0 + n = omega arith in e)
+        ∙ (sym (scans_more h 0 n) ∙ ap (scans h 0) (let e : suc n ≡ n + 1 = omega arith in e))));
+    bits = ap (λ (v : Told). v.bits) told ∙ s.bits;
+    mark = ap (λ (v : Told). v.mark) told ∙ s.mark;
+    looked = let a = s.looked in omega (arith, one, a);
+    carries = unchanged_on old now new s.carries carry;
+  }
+
+  pub bit_found : w ≢ 0 → HasScanned old new h true
+  bit_found some = record {
+    items = scans h 0 n ++ load h n w;
+    loads = of_append h (scans h 0 n) (load h n w) (scans_of h 0 n) (refl, tt);
+    found = bit_append (scans h 0 n) (load h n w) (true_or (not (w == 0)) false (let t : not (w == 0) ≡ true =
+        grind (arith, nat_tests, some) in t));
+    all = λ no. absurd (cc);
+    is = all_items;
+  }
+
+  pub few_looks : n < MEMBER_WORDS → LooksAtMost MEMBER_WORDS old new
+  few_looks few = let a = s.looked in omega (arith, one, a, few)
+
+  pub carried : Carries unchanged old new
+  carried = unchanged_on old now new s.carries carry
+
+pub none_yet : (k : Known) (h : ℕ) → HasFoundNone k k h 0
+none_yet k h = record {
+  is = grown_none k;
+  bits = refl;
+  mark = refl;
+  looked = omega arith;
+  carries = stays_carried (λ o. o) (λ t. t) (λ o. o) false k k (stays_same k) refl refl refl refl refl (λ c σ none.
+      none)
+      (λ x _. refl);
+}
+
+-- a look that found no bit at all
+module _ (old new : Known) (h : ℕ) (s : HasFoundNone old new h MEMBER_WORDS) where
+  pub none_scanned : HasScanned old new h false
+  none_scanned = record {
+    items = scans h 0 MEMBER_WORDS;
+    loads = scans_of h 0 MEMBER_WORDS;
+    found = scans_none h 0 MEMBER_WORDS;
+    all = λ _ i few. scans_all h 0 MEMBER_WORDS i (omega arith) (omega arith);
+    is = s.is;
+  }
+
+  history : told_of new ≡ view_of (history_of old ++ empty_look h)
+  history = ap told_of s.is ∙ ap view_of (steps_append old.view.items (scans h 0 MEMBER_WORDS)
+      ∙ ap (λ (es : List Step). history_of old ++ es) (scans_steps h 0 MEMBER_WORDS))
+
+  here : (c : Watch) (σ : ℕ) → head_of c ≡ h → (told_of new).duty.owes c σ ≡ false
+  here c σ at = ap (λ (v : Told). v.duty.owes c σ) history ∙ (empty_looks_end (history_of old) h).here c σ at
+
+  elsewhere : (c : Watch) (σ : ℕ) → head_of c ≢ h → (told_of new).duty.owes c σ ≡ (told_of old).duty.owes c σ
+  elsewhere c σ away = ap (λ (v : Told). v.duty.owes c σ) history
+      ∙ (empty_looks_end (history_of old) h).elsewhere c σ away
+
+  -- an excuse of the wakes of this head is needed no more
+  spared : (x : Excuse) (c : Watch) (σ : ℕ) (b : Bool) → (head_of c == h) ≡ b
+      → ((told_of old).duty.owes c σ && not (x.wakes c σ || b)) ≡ false
+      → ((told_of new).duty.owes c σ && not (x.wakes c σ)) ≡ false
+  spared x c σ true at owes = ap (λ (o : Bool). o && not (x.wakes c σ)) (here c σ (eqb-true (head_of c) h at))
+  spared x c σ false away owes =
+      let far : head_of c ≢ h = λ e. (let t : (head_of c == h) ≡ true = eq-eqb (head_of c) h e in
+      let z : true ≡ false = sym t ∙ away in cc) in
+      ap (λ (o : Bool). o && not (x.wakes c σ)) (elsewhere c σ far)
+      ∙ (ap (λ (b : Bool). (told_of old).duty.owes c σ && not b) (sym (or_false (x.wakes c σ))) ∙ owes)
+    where
+      or_false : (b : Bool) → (b || false) ≡ b
+      or_false true = refl
+      or_false false = refl
+
+  pub none_ended : HasEndedAt old new h
+  none_ended = record {
+    here = here;
+    elsewhere = elsewhere;
+    settled = λ x o. record {
+      unmarked = s.mark ∙ o.unmarked;
+      owes = λ c σ. spared x c σ (head_of c == h) refl (o.owes c σ);
+      unqueued = λ i. subst (IsOutBut (x.entries i)) (ap (λ (b : Bits). b.stored i) (sym s.bits)) (o.unqueued i);
+      holds = λ c. ap (λ (b : Bits). b.keeps c) s.bits ∙ o.holds c;
+      tries = λ c. ap (λ (b : Bits). b.pending c) s.bits ∙ o.tries c;
+    };
+  }
+
+  pub none_looks : LooksAtMost MEMBER_WORDS old new
+  none_looks = let a = s.looked in omega (arith, a)

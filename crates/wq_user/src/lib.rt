@@ -2,6 +2,7 @@
 //! the calls alone. The crate has no proof of its own.
 #![tactic(auto)]
 
+pub mod events;
 pub mod holds;
 #[cfg(test)]
 mod tests;

@@ -4,13 +4,14 @@ ghost use Rattle.std.specs.Prelude.{◌≡◌};
 ghost use Rattle.wait_rule.specs.Says.{IsClean};
 ghost use Rattle.wq_user.specs.Waiting.{IsWaiting};
 
+use crate::events::{set_zero, take_zero, wait_and_join, wait_for_zero};
 use crate::holds::{look, pass, pass_and_wake, set_and_wake, wake_and_join};
 use crate::waits::{leave, prepare, queue, sleep};
 use std::sync::Wait;
 use std::test::Fail;
 use std::thread;
 use std::thread::Threads;
-use wait_model::tasks::Sleep;
+use wait_model::tasks::{Sleep, SleepState};
 use wait_model::watches::Kind;
 use wait_rule::{Domain, Task};
 
@@ -94,5 +95,20 @@ fn waiter_and_waker(rt: HostRuntime) -> Result<(), Fail> {
     prepare(&domain, &mut waiter);
     let (_stayed, woken) = both(&rt, &domain, waiter, task);
     assert_eq!(rt; woken, 1);
+    Ok(())
+}
+
+/// A condition that is set and taken, by two tasks that stay clean, and a wait that is taken in.
+#[test]
+fn condition_is_waited_for(rt: HostRuntime) -> Result<(), Fail> {
+    let (domain, mut task) = Domain::new(rt.alloc())?;
+    let Ok(mut other) = task.fork(&domain, 0) else {
+        panic!(rt; "numbers are spare")
+    };
+    assert_eq!(rt; set_zero(&rt, &domain, &mut task), 0);
+    assert!(rt; wait_for_zero(&rt, &domain, &mut other, SleepState::Interruptible));
+    assert_eq!(rt; take_zero(&domain, &mut other), 1);
+    assert_eq!(rt; set_zero(&rt, &domain, &mut task), 0);
+    wait_and_join(&rt, &domain, &mut task, other);
     Ok(())
 }

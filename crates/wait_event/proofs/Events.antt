@@ -1,0 +1,14 @@
+pub mod Turns
+pub mod Trails
+pub mod Loads
+pub mod Locks
+pub mod States
+pub mod Sleeps
+pub mod Peeks
+pub mod Pares
+pub mod WornPlaces
+pub mod Queues
+pub mod Parts
+pub mod Rising
+pub mod Falling
+pub mod Endings

@@ -1,0 +1,222 @@
+-- Whole waits: how they begin, and what they say at their end.
+use Rattle.std.proofs.Common.{◌∙◌, ap, sym, refl, subst}
+use Rattle.std.specs.Prelude.{
+  ℕ,
+  ◌≡◌,
+  ◌<◌,
+  ◌||◌,
+  ◌&&◌,
+  not,
+  Bool,
+  true,
+  false,
+  Option,
+  Some,
+  None,
+  Ok,
+  Err,
+  [],
+  ◌∷◌,
+  ◌++◌,
+}
+use Rattle.wait_model.specs.declared.layout.TheConstants.{FIRST_SIMPLE}
+use Rattle.wait_model.specs.declared.calls.Call.{Call}
+use Rattle.wait_model.specs.declared.calls.Call.TheVariants as calls
+use Rattle.wait_model.specs.declared.tasks.How.{How}
+use Rattle.wait_model.specs.declared.points.Point.{Point}
+use Rattle.wait_model.specs.declared.points.Point.TheVariants as at
+use Rattle.wait_model.specs.declared.points.PreparePoint.TheVariants as preparing
+use Rattle.wait_model.specs.declared.points.Next.TheVariants as next
+use Rattle.wait_model.specs.declared.points.Planned.{Planned}
+use Rattle.wait_model.specs.declared.steps.Step.TheVariants as step
+use Rattle.wait_model.specs.declared.watches.Entry.{Entry}
+use Rattle.wait_model.specs.declared.watches.Watch.{Watch}
+use Rattle.wait_model.specs.declared.watches.Watch.TheVariants as watch
+use Rattle.wait_model.specs.Programs.{program}
+use Rattle.wait_model.specs.Reached.{absent, IsHome}
+use Rattle.wait_model.specs.Tasks.{pending, state_mask, task_of}
+use Rattle.wait_model.specs.Watches.{head_of}
+use Rattle.wait_rule.specs.Ends.{WasWorn}
+use Rattle.wait_rule.specs.Known.{Known}
+use Rattle.wait_rule.specs.Says.{IsUp, told_of}
+use Rattle.wait_rule.specs.Queues.{IsIdle, IsTold, index}
+use Rattle.wait_rule.specs.Stays.{Carries}
+use Rattle.wait_rule.specs.Transitions.{Goes, Program, call_program}
+use Rattle.wait_rule.proofs.KnownLaws.CarriedTasks.{clean_owes, owes_clean, entry_off}
+use Rattle.wait_event.specs.Waits.{
+  Advances,
+  EndsWith,
+  IsAt,
+  IsFresh,
+  SameCall,
+  answer_in,
+  asked,
+  left_by,
+  own_of,
+  point_of,
+  queues,
+  wait_program,
+}
+use Rattle.wait_event.specs.Ends.{
+  EndsWait,
+  HasWaited,
+  IsOut,
+  end_in,
+  wait_change,
+}
+use Rattle.wait_event.specs.declared.wait_events.WaitEnd.TheVariants as wait_end
+use Rattle.wait_event.specs.declared.waits.WaitOutcome.{WaitOutcome}
+use Rattle.wait_event.specs.declared.waits.WaitOutcome.TheVariants as outcome
+use Rattle.wait_event.specs.declared.waits.WaitRun.{WaitRun}
+use Rattle.wait_event.specs.declared.waits.WaitStage.{WaitStage}
+use Rattle.wait_event.specs.declared.waits.WaitStage.TheVariants as stage
+use Rattle.wait_event.specs.declared.waits.WaitTurn.TheVariants as turn
+use Rattle.wait_event.proofs.Ground.Keeping.{excused}
+
+-- a task that is idle, with its entry off, may begin
+pub begins_at : (k : Known) (r : WaitRun) (c : ℕ) (how : How) → IsFresh r c how true → c < FIRST_SIMPLE
+    → how.exclusive ≡ false → IsTold k → IsUp k → IsIdle k → IsOut k → IsAt k r stage.First
+begins_at k r c how fresh full shared told up idle out = record {
+  runs = record {
+    full = subst (λ (n : ℕ). n < FIRST_SIMPLE) (sym fresh.cond) full;
+    shared = ap (λ (h : How). h.exclusive) fresh.how_is ∙ shared;
+  };
+  up = up;
+  stands = record {
+    head = idle.free.head;
+    at = λ h is. absurd (cc);
+    told = told.head ∙ idle.free.head;
+    ticket = idle.free.ticket;
+    agreed = λ h is. absurd (cc);
+    state = idle.running;
+    home = subst (IsHome absent (watch.Plain r.cond)) (sym out) tt;
+  };
+  trail = tt;
+}
+
+-- the program of a wait that asks for signals is that of the call
+asked_true : (p : Point) (e : Planned) → asked true p e ≡ e
+asked_true (at.Prepare preparing.Lock) e = refl
+asked_true p e = refl
+
+pub asks_program : (me : ℕ) (call : Call) → wait_program true me call ≡ call_program me 0 call
+asks_program me call i = record (call_program me 0 call) {
+  plan = λ p seen. asked_true p (program me call p seen) i;
+}
+
+pub none_of : (c : Watch) (o : Option Entry) → IsHome absent c o → o ≡ None
+none_of c None h = refl
+none_of c (Some e) h = absurd h
+
+module _ (old new : Known) (r q : WaitRun) (s : WaitStage) (o : WaitOutcome)
+    (a : Advances old new r q s (turn.Done o)) where
+  pub ends_up : IsUp new
+  ends_up = a.lands.up
+
+  pub ends_idle : (told_of old).mark ≡ None → IsIdle new
+  ends_idle unmarked = record {
+    running = a.lands.stands.state;
+    free = record { head = a.lands.stands.head; ticket = a.lands.stands.ticket };
+    unmarked = a.went.keeps.mark ∙ unmarked;
+  }
+
+  pub ends_out : IsOut new
+  ends_out = none_of (watch.Plain q.cond) ((told_of new).bits.stored (index new.view.number 0)) a.lands.stands.home
+
+  -- who began idle goes on as it was
+  pub ends_carried : IsUp old → IsIdle old → (told_of old).hold.head ≡ None
+      → Carries (wait_change (index old.view.number 0) new.at) old new
+  ends_carried up idle held =
+      let i = index old.view.number 0 in
+      let keeps = a.went.keeps in record {
+        domain = keeps.domain;
+        number = keeps.number;
+        awake = a.lands.up ∙ sym up;
+        state = a.lands.stands.state ∙ sym idle.running;
+        head = a.lands.stands.head ∙ sym idle.free.head;
+        ticket = a.lands.stands.ticket ∙ sym idle.free.ticket;
+        hold = a.lands.stands.told ∙ sym held;
+        at = refl;
+        mark = keeps.mark;
+        fewer = λ w σ none is. keeps.fewer w σ is;
+        stored = λ x none away. absurd (cc);
+        out = keeps.out;
+        stands = keeps.stands;
+        owes = λ x owes. entry_off i x new (ap (λ (n : ℕ). (told_of new).bits.stored (index n 0)) (sym keeps.number)
+            ∙ ends_out) (keeps.owes x (excused i x old owes));
+        clean = clean_owes old;
+        settled = owes_clean new;
+      }
+
+-- what it says at its end
+module _ (old new : Known) (r q : WaitRun) (c : ℕ) (how : How) (fresh : IsFresh r c how true) where
+  begun : (s : WaitStage) (o : WaitOutcome) (a : Advances old new r q s (turn.Done o))
+      → HasWaited old new c how (next.Go (point_of s)) (next.Ends (answer_in o)) (queues a.went.runs.transitions)
+  begun s o a = record {
+    runs = record {
+      transitions = a.went.runs.transitions;
+      goes = subst (λ (f : Program). Goes f old (next.Go (point_of s)) a.went.runs.transitions new
+          (next.Ends (answer_in o)))
+          ((λ i. wait_program (fresh.asks_is i) old.view.number (calls.Wait (fresh.cond i) (fresh.how_is i)))
+          ∙ asks_program old.view.number (calls.Wait c how)) a.went.runs.goes;
+    };
+    tells = refl;
+  }
+
+  queued_is : (s : WaitStage) (o : WaitOutcome) (a : Advances old new r q s (turn.Done o))
+      → q.queued ≡ queues a.went.runs.transitions
+  queued_is s o a = a.went.queued ∙ ap (λ (b : Bool). b || queues a.went.runs.transitions) fresh.queued
+
+  cond_is : SameCall r q → q.cond ≡ c
+  cond_is same = same.cond ∙ fresh.cond
+
+  how_is : SameCall r q → q.how ≡ how
+  how_is same = same.how ∙ fresh.how_is
+
+  pub ends_over : (a : Advances old new r q stage.First (turn.Done outcome.Over)) → EndsWait old new c how (Ok tt)
+  ends_over a = record {
+    queued = queues a.went.runs.transitions;
+    waited = begun stage.First outcome.Over a;
+    cause = tt;
+  }
+
+  pub ends_signalled : (a : Advances old new r q stage.First (turn.Done outcome.Signalled)) → (selected : Bool)
+      → selected ≡ (q.queued && not q.found) → EndsWait old new c how (Err (wait_end.Signal q.seen selected))
+  ends_signalled a selected tells =
+      let t = a.lands.trail.signal refl in record {
+        queued = queues a.went.runs.transitions;
+        waited = begun stage.First outcome.Signalled a;
+        cause = record {
+          look = t.0.look;
+          entry = t.0.entry;
+          showed = ap (λ (h : How). pending (state_mask h.state) (task_of t.0.look)) (sym (how_is a.same))
+              ∙ t.0.showed.pends;
+          ends = subst (λ (d : ℕ). EndsWith new (left_by (own_of new) (head_of (watch.Plain d)) t.0.look t.0.entry
+              ++ step.Load (watch.Plain d) q.seen ∷ [])) (cond_is a.same) t.0.ends;
+          unset = t.1;
+          selects = tells ∙ (λ i. queued_is stage.First outcome.Signalled a i && not (t.0.found i));
+        };
+      }
+
+  pub ends_worn : (a : Advances old new r q stage.First (turn.Done outcome.Worn)) → (h : ℕ)
+      → h ≡ head_of (watch.Plain q.cond) → EndsWait old new c how (Err (wait_end.Worn h q.place))
+  ends_worn a h here =
+      let t = a.lands.trail.worn refl in record {
+        queued = queues a.went.runs.transitions;
+        waited = begun stage.First outcome.Worn a;
+        cause = record {
+          head = here ∙ ap (λ (d : ℕ). head_of (watch.Plain d)) (cond_is a.same);
+          noted = subst (λ (i : ℕ). WasWorn new.view.number new.view.items i q.place) (sym here) t.0.noted;
+          ends = subst (λ (i : ℕ). EndsWith new (step.Unlock i false ∷ step.Load (watch.Plain c) 0 ∷ [])) (sym here)
+              (subst (λ (d : ℕ). EndsWith new (step.Unlock (head_of (watch.Plain q.cond)) false
+              ∷ step.Load (watch.Plain d) 0 ∷ [])) (cond_is a.same)
+              (subst (λ (v : ℕ). EndsWith new (step.Unlock (head_of (watch.Plain q.cond)) false
+              ∷ step.Load (watch.Plain q.cond) v ∷ [])) t.1 t.0.ends));
+        };
+      }
+
+  pub ends_wait : (o : WaitOutcome) → Advances old new r q stage.First (turn.Done o) → EndsWait old new c how (end_in
+      q o)
+  ends_wait outcome.Over a = ends_over a
+  ends_wait outcome.Signalled a = ends_signalled a (q.queued && not q.found) refl
+  ends_wait outcome.Worn a = ends_worn a (head_of (watch.Plain q.cond)) refl

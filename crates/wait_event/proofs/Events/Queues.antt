@@ -1,0 +1,382 @@
+-- The own entry is queued where it is off, and else the state stored. Where no place is left the head is given back.
+use Rattle.std.proofs.Common.{◌∙◌, ap, sym, refl, subst, inr, arith}
+use Rattle.std.proofs.lemmas.Bool.Decides.{nat_tests}
+use Rattle.std.specs.Prelude.{
+  ℕ,
+  ◌≡◌,
+  ◌<◌,
+  ◌&&◌,
+  not,
+  nat_lt,
+  Bool,
+  true,
+  false,
+  if◌then◌else◌,
+  is_some,
+  Option,
+  Some,
+  None,
+  [],
+  ◌∷◌,
+  ◌++◌,
+}
+use Rattle.wait_model.specs.declared.layout.TheConstants.{FIRST_SIMPLE}
+use Rattle.wait_model.specs.declared.points.Point.TheVariants as at
+use Rattle.wait_model.specs.declared.points.PreparePoint.TheVariants as preparing
+use Rattle.wait_model.specs.declared.points.Next.TheVariants as next
+use Rattle.wait_model.specs.declared.points.Seen.{Seen}
+use Rattle.wait_model.specs.declared.queues.Form.{Form}
+use Rattle.wait_model.specs.declared.queues.Form.TheVariants as forms
+use Rattle.wait_model.specs.declared.steps.Step.TheVariants as step
+use Rattle.wait_model.specs.declared.watches.Entry.{Entry}
+use Rattle.wait_model.specs.declared.watches.Kind.{Kind}
+use Rattle.wait_model.specs.declared.watches.Kind.TheVariants as kind
+use Rattle.wait_model.specs.declared.watches.Watch.{Watch}
+use Rattle.wait_model.specs.declared.watches.Watch.TheVariants as watch
+use Rattle.wait_model.specs.Points.{call_head}
+use Rattle.wait_model.specs.Queues.{is_exclusive, is_priority, place_for}
+use Rattle.wait_model.specs.Tasks.{state_mask}
+use Rattle.wait_model.specs.Watches.{is_simple}
+use Rattle.wait_model.specs.Reached.{absent, waits, IsHome}
+use Rattle.wait_rule.specs.declared.journal.Item.TheVariants as item
+use Rattle.wait_rule.specs.Known.{Known}
+use Rattle.wait_rule.specs.Says.{added, history_of, stored_with, told_of, unlocked_with}
+use Rattle.wait_rule.specs.Items.{Book}
+use Rattle.wait_rule.specs.Queues.{IsFrontPlace, IsWholeBook, index, saw}
+use Rattle.wait_rule.specs.Shown.{shown_queue}
+use Rattle.wait_rule.specs.Stays.{Carries, only_looks, state_change, queue_change, with_entry}
+use Rattle.wait_rule.specs.Transitions.{OnlyLooks, Program, IsSeenAs, by_step, is_worn}
+use Rattle.wait_rule.proofs.KnownLaws.Transitions.{only_on, only_looked}
+use Rattle.wq_head.specs.declared.adds.Worn.{Worn}
+use Rattle.wq_head.specs.Adds.{HasAdded, IsFrontWorn, front_entry}
+use Rattle.wq_head.specs.Holds.{IsHolding}
+use Rattle.wq_head.specs.Looks.{Looks}
+use Rattle.wq_head.proofs.CarriedHolds.{looks_carried}
+use Rattle.wait_event.specs.Posts.{HasSeenOwn, Keeps, Post, Stands, post_at}
+use Rattle.wait_event.specs.Waits.{
+  Advances,
+  IsAt,
+  QueuesAt,
+  wait_call,
+  wait_post,
+  wait_program,
+  with_entry as finds,
+  with_worn,
+}
+use Rattle.wait_event.specs.declared.waits.WaitRun.{WaitRun}
+use Rattle.wait_event.specs.declared.waits.WaitStage.{WaitStage}
+use Rattle.wait_event.specs.declared.waits.WaitStage.TheVariants as stage
+use Rattle.wait_event.specs.declared.waits.WaitTurn.TheVariants as turn
+use Rattle.wait_event.proofs.Ground.Standing.{
+  carried_stands,
+  seen_stands,
+  seen_book,
+  seen_home,
+  seen_is,
+  seen_looks,
+  seen_stored,
+  finds_own,
+}
+use Rattle.wait_event.proofs.Ground.Keeping.{keeps_on, keeps_queued, keeps_of}
+use Rattle.wait_event.proofs.Ground.Going.{runs_one}
+use Rattle.wait_event.proofs.Events.Turns.{GoesOn, advance_by, advance_same, or_none, or_queued}
+use Rattle.wait_event.proofs.Events.Trails.{unlocked_history}
+use Rattle.wait_rule.proofs.WornHeads.WornNotes.{notes_stay}
+use Rattle.wait_rule.specs.Ends.{WasWorn}
+use Rattle.wait_rule.specs.declared.journal.Item.{Item}
+use Rattle.wait_event.proofs.Events.Peeks.{own_keeps}
+use Rattle.wait_event.proofs.Events.Pares.{finds_it}
+use Rattle.wait_event.proofs.Events.States.{state_keeps, state_looks, state_stands, state_up}
+use Rattle.wait_event.proofs.Events.Locks.{back_keeps, back_looks, back_stands, back_up}
+use Rattle.wait_event.proofs.Events.WornPlaces.{front_is, front_left, front_worn, whole_seen, queue_same}
+use Rattle.wq_head.proofs.OneMoreLook.{saw_looks, whole_of}
+
+-- the form of an entry that is not exclusive
+form_by : (x : Bool) → x ≡ false → (if x then forms.Tail else forms.Front) ≡ forms.Front
+form_by true is = absurd (cc)
+form_by false is = refl
+
+-- the kind of an entry at a full head
+full_kind : (c : ℕ) → c < FIRST_SIMPLE → (if nat_lt c FIRST_SIMPLE then kind.Autoremove else kind.Simple)
+    ≡ kind.Autoremove
+full_kind c full = let yes : nat_lt c FIRST_SIMPLE ≡ true = grind (arith, nat_tests) in
+    ap (λ (b : Bool). if b then kind.Autoremove else kind.Simple) yes
+
+-- the entry that is queued
+abbrev given_entry : ℕ → Form → Kind → ℕ → Entry
+given_entry c form k place = record {
+  watch = watch.Plain c;
+  place = place;
+  exclusive = is_exclusive form && not (is_simple k);
+  priority = is_priority form;
+  kind = k;
+}
+
+no_entry : (o : Option Entry) → ((e : Entry) → o ≡ Some e → None ≡ Some e) → o ≡ None
+no_entry None never = refl
+no_entry (Some e) never = let no = never e refl in absurd (cc)
+
+none_some : (o : Option Entry) (e : Entry) → o ≡ None → o ≡ Some e → ⊥
+none_some o e none some = let no : None ≡ Some e = sym none ∙ some in absurd (cc)
+
+-- the note stays over the look and the unlock
+note_on : (mid2 mid3 new : Known) (w : Worn) (o : Option Entry) (own2 : HasSeenOwn mid2 mid3 o)
+    → new ≡ unlocked_with mid3 mid3.at false → WasWorn mid2.view.number mid2.view.items w.head w.place
+    → WasWorn new.view.number new.view.items w.head w.place
+note_on mid2 mid3 new w o own2 is noted =
+    let x : Item = item.Made (saw mid2.book.head (index mid2.view.number 0) own2.word) in
+    let u : Item = item.Made (step.Unlock mid3.at false) in
+    let one = notes_stay mid2.view.number mid2.view.items (x ∷ []) w.head w.place noted in
+    let two = notes_stay mid2.view.number (mid2.view.items ++ x ∷ []) (u ∷ []) w.head w.place one in
+    let three = notes_stay mid2.view.number ((mid2.view.items ++ x ∷ []) ++ u ∷ []) (item.Served ∷ []) w.head w.place
+    two in
+    subst (λ (k : Known). WasWorn k.view.number k.view.items w.head w.place)
+    (sym (is ∙ ap (λ (k : Known). unlocked_with k mid3.at false) own2.is)) three
+
+module _ (old mid : Known) (r : WaitRun) (a : IsAt old r stage.PrepareQueue) where
+  abbrev f : Program
+  f = wait_program r.asks old.view.number (wait_call r)
+
+  abbrev p : Post
+  p = wait_post r stage.PrepareQueue
+
+  abbrev h : ℕ
+  h = call_head (wait_call r)
+
+  -- it is queued still
+  stay_from : (o : Option Entry) (own : HasSeenOwn old mid o) (e : Entry) → o ≡ Some e → (new : Known) (σ : ℕ)
+      → σ ≡ state_mask r.how.state → new ≡ added mid (item.Made (step.State σ)) → Carries (state_change σ) mid new
+      → GoesOn old new r r stage.PrepareQueue (next.Go (at.Prepare preparing.Unlock))
+  stay_from o own e some new σ same is carries = record {
+    runs = runs_one f (at.Prepare preparing.Queue) old mid new (finds (Some e)) (by_step (step.State σ))
+        (seen_looks old mid o own h a.stands.head) same
+        (tt, (finds_it old mid r o own p a.stands refl refl refl (Some e) some, λ none. absurd (cc)), tt)
+        (state_looks mid new σ is carries);
+    keeps = keeps_on (index old.view.number 0) old mid new (own_keeps old mid o own)
+        (subst (λ (n : ℕ). Keeps (index n 0) mid new) own.carries.number (state_keeps mid new σ is carries));
+    queued = sym (or_none r.queued);
+    lands = (
+      state_up mid new σ is carries (own.carries.awake ∙ a.up),
+      state_stands mid new σ is carries p (post_at None (wait_call r) (at.Prepare preparing.Unlock))
+          (seen_stands old mid o own p waits a.stands (subst (IsHome waits p.watch) (sym some)
+          (seen_home old mid o own p a.stands e some))) refl refl (inr same) (λ u w. w),
+      record {
+        queued = ap (λ (n : ℕ). is_some ((told_of new).bits.stored (index n 0))) (carries.number ∙ own.carries.number)
+            ∙ ap (λ (u : Option Entry). is_some u)
+            (ap (told_of new).bits.stored (ap (λ (n : ℕ). index n 0) (sym own.carries.number))
+            ∙ (carries.stored (index mid.view.number 0) refl refl
+            ∙ (ap (told_of mid).bits.stored (ap (λ (n : ℕ). index n 0) own.carries.number)
+            ∙ (seen_is old mid o own ∙ some))));
+        state = carries.state ∙ same;
+      },
+    );
+  }
+
+  holds_old : IsHolding old
+  holds_old = record {
+    locked = a.stands.head ∙ ap Some (sym (a.stands.at h refl));
+    agreed = a.stands.agreed h refl;
+    told = a.stands.told ∙ ap Some (sym (a.stands.at h refl));
+  }
+
+  module _ (own : HasSeenOwn old mid None) where
+    mid_stands : Stands mid (record p { zone = absent })
+    mid_stands = seen_stands old mid None own p absent a.stands tt
+
+    -- it is queued
+    join_from : (new : Known) → IsHolding new
+        → HasAdded IsFrontPlace mid new 0 (watch.Plain r.cond) kind.Autoremove
+        → GoesOn old new r (record r { queued = true }) stage.PrepareQueue (next.Go (at.Prepare preparing.State))
+    join_from new held x =
+        let i = index old.view.number 0 in
+        let number = own.carries.number in
+        let same : index mid.view.number 0 ≡ i = ap (λ (n : ℕ). index n 0) number in
+        let seen_at : x.seen.at ≡ mid.at = ap (λ (k : Known). k.at) x.looks.is in
+        let e : Entry = front_entry (watch.Plain r.cond) kind.Autoremove x.place in
+        let form = form_by r.how.exclusive a.runs.shared in
+        let seen : Seen = finds None in
+        record {
+          runs = runs_one f (at.Prepare preparing.Queue) old x.seen new seen (by_step (step.Queue i e))
+              (only_on old mid x.seen (seen_looks old mid None own h a.stands.head)
+              (only_looked mid x.seen x.looks.items x.looks.same x.looks.looks x.looks.is)) (
+                refl,
+                sym (seen_at ∙ (own.carries.at ∙ a.stands.at h refl)),
+                x.whole,
+                λ j. given_entry r.cond (sym form j) (sym (full_kind r.cond a.runs.full) j)
+                    (placed x form j),
+              ) (
+                tt,
+                (
+                  subst (λ (n : ℕ). IsSeenAs ((told_of x.seen).hold.book (index n 0)) None) number
+                      (subst (λ l. IsSeenAs l None) (sym x.is_off) refl),
+                  λ none. (x.whole, left x form),
+                ),
+                tt,
+              )
+              (subst (OnlyLooks (added x.seen (item.Made (step.Queue i e))))
+              (sym (x.is ∙ ap (λ (n : ℕ). stored_with x.seen (step.Queue n e)) same))
+              (record { items = item.Member ∷ []; looks = (tt, tt); is = refl }));
+          keeps = keeps_on i old mid new (own_keeps old mid None own)
+              (subst (λ (n : ℕ). Keeps n mid new) same (keeps_queued (index mid.view.number 0) mid new x.carries));
+          queued = sym (or_queued r.queued);
+          lands = (
+            x.carries.awake ∙ (own.carries.awake ∙ a.up),
+            carried_stands (queue_change (index mid.view.number 0)) mid new (record p { zone = absent })
+                (post_at None (wait_call r) (at.Prepare preparing.State)) x.carries mid_stands
+                (λ j at. held.agreed) refl
+                mid_stands.at refl mid_stands.state
+                (subst (IsHome waits (watch.Plain r.cond)) (sym x.queued) (refl, sym (full_kind r.cond a.runs.full))),
+            ap (λ (n : ℕ). is_some ((told_of new).bits.stored (index n 0))) x.carries.number
+                ∙ ap (λ (u : Option Entry). is_some u) x.queued,
+          );
+        }
+      where
+        placed : (x : HasAdded IsFrontPlace mid new 0 (watch.Plain r.cond) kind.Autoremove)
+            → (if r.how.exclusive then forms.Tail else forms.Front) ≡ forms.Front
+            → x.place ≡ place_for (if r.how.exclusive then forms.Tail else forms.Front) (shown_queue x.seen)
+        placed x form = sym (ap (λ (g : Form). place_for g (shown_queue x.seen)) form ∙ front_is x.seen x.low x.place
+            x.sort)
+
+        left : (x : HasAdded IsFrontPlace mid new 0 (watch.Plain r.cond) kind.Autoremove)
+            → (if r.how.exclusive then forms.Tail else forms.Front) ≡ forms.Front
+            → false ≡ is_worn (if r.how.exclusive then forms.Tail else forms.Front) (shown_queue x.seen)
+        left x form = sym (ap (λ (g : Form). is_worn g (shown_queue x.seen)) form ∙ front_left x.seen x.low x.place
+            x.sort)
+
+    -- no place is left: behind one more look at the own entry the head is given back
+    worn_from : (mid2 mid3 new : Known) (w : Worn) → IsFrontWorn mid mid2 w → IsHolding mid2 → (o : Option Entry)
+        → HasSeenOwn mid2 mid3 o → new ≡ unlocked_with mid3 mid3.at false
+        → WasWorn mid2.view.number mid2.view.items w.head w.place
+        → GoesOn old new r (record r { place = w.place }) stage.PrepareQueue (next.Go at.Worn)
+    worn_from mid2 mid3 new w x held2 o own2 is noted =
+        let i = index old.view.number 0 in
+        let n1 = own.carries.number in
+        let carried = looks_carried mid mid2 x.0 in
+        let n2 : mid2.view.number ≡ old.view.number = carried.number ∙ n1 in
+        let out2 : (told_of mid2).bits.stored i ≡ None = carried.out i refl
+        (seen_is old mid None own) in
+        let stands2 : Stands mid2 (record p { zone = absent }) = carried_stands only_looks mid mid2
+        (record p { zone = absent }) (record p { zone = absent }) carried mid_stands (λ j at. held2.agreed) refl
+        mid_stands.at
+        refl mid_stands.state (subst (IsHome absent (watch.Plain r.cond))
+        (sym (ap (λ (n : ℕ). (told_of mid2).bits.stored (index n 0)) n1 ∙ out2)) tt) in
+        let none : o ≡ None = no_entry o (λ e some. sym (ap (λ (n : ℕ). (told_of mid2).bits.stored (index n 0)) n2 ∙
+        out2)
+        ∙ seen_stored mid2 mid3 o own2 e some) in
+        let looks3 : Looks mid2 mid3 = saw_looks mid2 mid3 (index mid2.view.number 0) own2.word held2 own2.is
+        own2.knew in
+        let seen2 = whole_seen mid2 x.1 in
+        let whole3 : IsWholeBook mid3 = whole_of mid3 (λ m low. looks3.from.still m (seen2 m low)) in
+        let queue3 : shown_queue mid3 ≡ shown_queue mid2 = queue_same mid3 mid2
+        (λ m low. looks3.from.places m (seen2 m low)) in
+        let form = form_by r.how.exclusive a.runs.shared in
+        let head2 : mid2.book.head ≡ Some h = stands2.head in
+        let stands3 : Stands mid3 (record p { zone = absent }) = seen_stands mid2 mid3 o own2
+        (record p { zone = absent }) absent stands2 (subst (IsHome absent (watch.Plain r.cond)) (sym none) tt) in
+        let number3 : mid3.view.number ≡ old.view.number = own2.carries.number ∙ n2 in
+        record {
+          runs = runs_one f (at.Prepare preparing.Queue) old mid3 new (with_worn true)
+              (by_step (step.Unlock mid3.at false))
+              (only_on old mid2 mid3 (only_on old mid mid2 (seen_looks old mid None own h a.stands.head)
+              (only_looked mid mid2 x.0.items x.0.same x.0.looks x.0.is))
+              (seen_looks mid2 mid3 o own2 h head2))
+              (stands3.at h refl, refl) (
+                tt,
+                (
+                  subst (λ (n : ℕ). IsSeenAs ((told_of mid3).hold.book (index n 0)) None) n2
+                      (finds_own mid2 mid3 o own2 h head2 stands2.told (λ e some. absurd (none_some o e none some))
+                      None none),
+                  λ _. (
+                    whole3,
+                    sym (ap (λ (g : Form). is_worn g (shown_queue mid3)) form
+                        ∙ (ap (is_worn forms.Front) queue3 ∙ front_worn mid2 x.5 w.place x.3 x.4)),
+                  ),
+                ),
+                tt,
+              )
+              (back_looks mid3 new r is);
+          keeps = keeps_on i old mid3 new
+              (keeps_on i old mid2 mid3 (keeps_on i old mid mid2 (own_keeps old mid None own)
+              (keeps_of i only_looks mid mid2 carried (λ c. refl) (λ y away. refl)
+              (λ y. carried.owes (with_entry i y))))
+              (subst (λ (n : ℕ). Keeps (index n 0) mid2 mid3) n2 (own_keeps mid2 mid3 o own2)))
+              (subst (λ (n : ℕ). Keeps (index n 0) mid3 new) number3 (back_keeps mid3 new r is));
+          queued = sym (or_none r.queued);
+          lands = (
+            back_up mid3 new r is (own2.carries.awake ∙ (carried.awake ∙ (own.carries.awake ∙ a.up))),
+            back_stands mid3 new r is (record p { zone = absent }) (post_at None (wait_call r) at.Worn) stands3 refl
+                refl stands3.state (λ u w. w),
+            record {
+              noted = subst (λ (i : ℕ). WasWorn new.view.number new.view.items i w.place)
+                  (x.2 ∙ (own.carries.at ∙ a.stands.at h refl))
+                  (note_on mid2 mid3 new w o own2 is noted);
+              ends = (
+                history_of mid3,
+                unlocked_history mid3 new is
+                    ∙ ap (λ (i : ℕ). history_of mid3 ++ step.Unlock i false ∷ []) (stands3.at h refl),
+              );
+            },
+          );
+        }
+
+-- for the code
+pub queue_holds : (old mid : Known) (r : WaitRun) (s : WaitStage) → QueuesAt s → IsAt old r s → (o : Option Entry)
+    → HasSeenOwn old mid o → IsHolding old
+queue_holds old mid r stage.PrepareQueue l a o own = holds_old old mid r a
+queue_holds old mid r s l a o own = absurd l
+
+pub queue_out : (old mid : Known) (o : Option Entry) → HasSeenOwn old mid o → is_some o ≡ false
+    → (told_of mid).bits.stored (index mid.view.number 0) ≡ None
+queue_out old mid None own none = ap (λ (n : ℕ). (told_of mid).bits.stored (index n 0)) own.carries.number
+    ∙ seen_is old mid None own
+queue_out old mid (Some e) own none = absurd (cc)
+
+pub queue_at : (old mid : Known) (r : WaitRun) (s : WaitStage) → QueuesAt s → IsAt old r s → (o : Option Entry)
+    → HasSeenOwn old mid o → call_head (wait_call r) ≡ mid.at
+queue_at old mid r stage.PrepareQueue l a o own = sym (own.carries.at ∙ a.stands.at (call_head (wait_call r)) refl)
+queue_at old mid r s l a o own = absurd l
+
+pub mid_holds : (old mid : Known) (r : WaitRun) (s : WaitStage) → QueuesAt s → IsAt old r s → (o : Option Entry)
+    → HasSeenOwn old mid o → IsHolding mid
+mid_holds old mid r stage.PrepareQueue l a o own =
+    let h = call_head (wait_call r) in record {
+      locked = own.carries.head ∙ (a.stands.head ∙ ap Some (sym (own.carries.at ∙ a.stands.at h refl)));
+      agreed = ap (λ (b : Book). b.differs) (seen_book old mid o own) ∙ a.stands.agreed h refl;
+      told = own.carries.hold ∙ (a.stands.told ∙ ap Some (sym (own.carries.at ∙ a.stands.at h refl)));
+    }
+mid_holds old mid r s l a o own = absurd l
+
+pub stay_advances : (old mid new : Known) (r : WaitRun) (s : WaitStage) → QueuesAt s → IsAt old r s
+    → (o : Option Entry) → HasSeenOwn old mid o → is_some o ≡ true → (σ : ℕ) → σ ≡ state_mask r.how.state
+    → new ≡ added mid (item.Made (step.State σ)) → Carries (state_change σ) mid new
+    → Advances old new r r s (turn.Again stage.PrepareUnlock)
+stay_advances old mid new r stage.PrepareQueue l a (Some e) own some σ same is carries =
+    advance_same old new r stage.PrepareQueue (turn.Again stage.PrepareUnlock) (next.Go (at.Prepare preparing.Unlock))
+    a.runs refl refl (stay_from old mid r a (Some e) own e refl new σ same is carries)
+stay_advances old mid new r stage.PrepareQueue l a None own some σ same is carries = absurd (cc)
+stay_advances old mid new r s l a o own some σ same is carries = absurd l
+
+pub join_advances : (old mid new : Known) (r : WaitRun) (s : WaitStage) → QueuesAt s → IsAt old r s
+    → (o : Option Entry) → HasSeenOwn old mid o → is_some o ≡ false → IsHolding new → (c : Watch)
+    → c ≡ watch.Plain r.cond → HasAdded IsFrontPlace mid new 0 c kind.Autoremove
+    → Advances old new r (record r { queued = true }) s (turn.Again stage.PrepareState)
+join_advances old mid new r stage.PrepareQueue l a None own none held c same x =
+    advance_by old new r (record r { queued = true }) stage.PrepareQueue (turn.Again stage.PrepareState)
+    (next.Go (at.Prepare preparing.State)) (record { cond = refl; how = refl; asks = refl })
+    (record { full = a.runs.full; shared = a.runs.shared }) refl refl (join_from old mid r a own new held
+    (subst (λ (d : Watch). HasAdded IsFrontPlace mid new 0 d kind.Autoremove) same x))
+join_advances old mid new r stage.PrepareQueue l a (Some e) own none held c same x = absurd (cc)
+join_advances old mid new r s l a o own none held c same x = absurd l
+
+pub worn_advances : (old mid mid2 mid3 new : Known) (r : WaitRun) (s : WaitStage) → QueuesAt s → IsAt old r s
+    → (o : Option Entry) → HasSeenOwn old mid o → is_some o ≡ false → (w : Worn) → IsFrontWorn mid mid2 w
+    → IsHolding mid2 → (u : Option Entry) → HasSeenOwn mid2 mid3 u → new ≡ unlocked_with mid3 mid3.at false
+    → WasWorn mid2.view.number mid2.view.items w.head w.place → Advances old new r (record r { place = w.place }) s
+    (turn.Again stage.Worn)
+worn_advances old mid mid2 mid3 new r stage.PrepareQueue l a None own none w x held2 u own2 is noted =
+    let g = worn_from old mid r a own mid2 mid3 new w x held2 u own2 is noted in
+    advance_by old new r (record r { place = w.place }) stage.PrepareQueue (turn.Again stage.Worn) (next.Go at.Worn)
+    (record { cond = refl; how = refl; asks = refl }) (record { full = a.runs.full; shared = a.runs.shared }) refl refl
+    g
+worn_advances old mid mid2 mid3 new r stage.PrepareQueue l a (Some e) own none w x held2 u own2 is noted = absurd (cc)
+worn_advances old mid mid2 mid3 new r s l a o own none w x held2 u own2 is noted = absurd l

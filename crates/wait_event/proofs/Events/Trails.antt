@@ -1,0 +1,122 @@
+-- What a task's history ends with, after more steps.
+use Rattle.wait_model.specs.declared.watches.Entry.{Entry}
+use Rattle.std.proofs.Common.{◌∙◌, ap, sym, refl, subst, append_assoc, append-nil}
+use Rattle.std.specs.Prelude.{
+  ℕ,
+  ◌≡◌,
+  false,
+  List,
+  [],
+  ◌∷◌,
+  ◌++◌,
+  is_some,
+  Option,
+  true,
+}
+use Rattle.wait_model.specs.declared.steps.Step.{Step}
+use Rattle.wait_model.specs.declared.steps.Step.TheVariants as step
+use Rattle.wait_model.specs.declared.calls.Answer.TheVariants as answer
+use Rattle.wait_model.specs.Programs.{zero_answer, signalled}
+use Rattle.wait_rule.specs.declared.journal.Item.{Item}
+use Rattle.wait_rule.specs.declared.journal.Item.TheVariants as item
+use Rattle.wait_rule.specs.Ends.{WasWorn}
+use Rattle.wait_rule.specs.Items.{steps_of}
+use Rattle.wait_rule.specs.Known.{Known}
+use Rattle.wait_rule.specs.Queues.{index}
+use Rattle.wait_rule.specs.Says.{
+  added,
+  history_of,
+  stored_with,
+  unlocked_with,
+  told_of,
+}
+use Rattle.wait_rule.proofs.KnownLaws.TaskHistories.{history_after}
+use Rattle.wait_rule.proofs.TableSteps.ItemLists.{steps_append}
+use Rattle.wait_rule.proofs.WornHeads.WornNotes.{notes_stay}
+use Rattle.wait_event.specs.Waits.{
+  EndsWith,
+  FoundWorn,
+  LeftQueue,
+  TrailEnd,
+  head_of_wait,
+  last_load,
+  left_by,
+  own_of,
+  IsQueuedIn,
+}
+use Rattle.wait_event.specs.declared.waits.WaitRun.{WaitRun}
+
+pub ends_more : (old new : Known) (es more : List Step) → EndsWith old es → history_of new ≡ history_of old ++ more
+    → EndsWith new (es ++ more)
+ends_more old new es more e is = (e.0, is ∙ (ap (λ (l : List Step). l ++ more) e.1 ∙ append_assoc e.0 es more))
+
+-- items that are no steps add nothing
+silent : (k : Known) (x : Item) → steps_of (x ∷ []) ≡ [] → history_of (added k x) ≡ history_of k
+silent k x none = steps_append k.view.items (x ∷ [])
+    ∙ (ap (λ (l : List Step). steps_of k.view.items ++ l) none ∙ append-nil (steps_of k.view.items))
+
+pub unlocked_history : (old new : Known) → new ≡ unlocked_with old old.at false
+    → history_of new ≡ history_of old ++ step.Unlock old.at false ∷ []
+unlocked_history old new is = ap history_of is
+    ∙ (silent (added old (item.Made (step.Unlock old.at false))) item.Served refl
+    ∙ history_after old (added old (item.Made (step.Unlock old.at false))) (step.Unlock old.at false) refl)
+
+pub stored_history : (old new : Known) (e : Step) → new ≡ stored_with old e → history_of new ≡ history_of old ++ e ∷ []
+stored_history old new e is = ap history_of is
+    ∙ (silent (added old (item.Made e)) item.Member refl ∙ history_after old (added old (item.Made e)) e refl)
+
+-- two more
+pub two_more : (old mid new : Known) (e d : Step) → history_of mid ≡ history_of old ++ e ∷ []
+    → history_of new ≡ history_of mid ++ d ∷ [] → history_of new ≡ history_of old ++ e ∷ d ∷ []
+two_more old mid new e d one two = two ∙ (ap (λ (l : List Step). l ++ d ∷ []) one
+    ∙ append_assoc (history_of old) (e ∷ []) (d ∷ []))
+
+-- the entry that is stored stays so
+pub queued_still : (old new : Known) (σ : ℕ) → new.view.number ≡ old.view.number
+    → (told_of new).bits.stored (own_of old) ≡ (told_of old).bits.stored (own_of old)
+    → is_some ((told_of old).bits.stored (own_of old)) ≡ true → new.book.state ≡ σ → IsQueuedIn new σ
+queued_still old new σ number same queued state = record {
+  queued = ap (λ (n : ℕ). is_some ((told_of new).bits.stored (index n 0))) number
+      ∙ (ap (λ (o : Option Entry). is_some o) same ∙ queued);
+  state = state;
+}
+
+-- an answer 0 says nothing
+pub over_trail : (k : Known) (r : WaitRun) → TrailEnd k r zero_answer
+over_trail k r = record { signal = λ is. absurd (cc); worn = λ is. absurd (cc) }
+
+-- the last load of a wait that was signalled, and of one that found no place
+module _ (old new : Known) (r : WaitRun) (v : ℕ) (number : new.view.number ≡ old.view.number)
+    (more : history_of new ≡ history_of old ++ last_load (record r { seen = v })) where
+  abbrev q : WaitRun
+  q = record r { seen = v }
+
+  left_more : LeftQueue old r [] → LeftQueue new q (last_load q)
+  left_more l = record {
+    look = l.look;
+    entry = l.entry;
+    showed = record { asks = l.showed.asks; pends = l.showed.pends };
+    found = l.found;
+    ends = subst (λ (x : ℕ). EndsWith new (left_by x (head_of_wait r) l.look l.entry ++ last_load q))
+        (ap (λ (n : ℕ). index n 0) (sym number))
+        (subst (EndsWith new) (append_assoc (left_by (own_of old) (head_of_wait r) l.look l.entry) [] (last_load q))
+        (ends_more old new (left_by (own_of old) (head_of_wait r) l.look l.entry ++ []) (last_load q) l.ends more));
+  }
+
+  pub signal_trail : LeftQueue old r [] → v ≡ 0 → TrailEnd new q signalled
+  signal_trail l zero = record { signal = λ is. (left_more l, zero); worn = λ is. absurd (cc) }
+
+  pub worn_trail : FoundWorn old r [] → (rest : List Item) → new.view.items ≡ old.view.items ++ rest → v ≡ 0
+      → TrailEnd new q answer.Worn
+  worn_trail w rest items zero = record {
+    signal = λ is. absurd (cc);
+    worn = λ is. (
+      record {
+        noted = subst (λ (l : List Item). WasWorn new.view.number l (head_of_wait r) r.place) (sym items)
+            (subst (λ (n : ℕ). WasWorn n (old.view.items ++ rest) (head_of_wait r) r.place) (sym number)
+            (notes_stay old.view.number old.view.items rest (head_of_wait r) r.place w.noted));
+        ends = ends_more old new (step.Unlock (head_of_wait r) false ∷ []) (last_load q) w.ends more;
+      },
+      zero,
+    );
+  }

@@ -1,0 +1,111 @@
+-- What stays of a task over the steps of a call.
+use Rattle.std.proofs.Common.{◌∙◌, ap, sym, refl, subst}
+use Rattle.std.specs.Prelude.{ℕ, ◌≡◌, ◌==◌, ◌||◌, Bool, true, false, Option, Some}
+use Rattle.wait_model.specs.declared.watches.Watch.{Watch}
+use Rattle.wait_model.specs.declared.watches.Entry.{Entry}
+use Rattle.wait_model.specs.Views.{View as Told, is_trying_for}
+use Rattle.wait_rule.specs.Known.{Known}
+use Rattle.wait_rule.specs.Says.{Excuse, IsOutBut, OwesBut, told_of}
+use Rattle.wait_rule.specs.Queues.{index}
+use Rattle.wait_rule.specs.Stays.{StaysOwing, Change, Carries, Owes, least, with_entry, queue_change, take_off_change}
+use Rattle.wait_rule.proofs.KnownLaws.StayingParts.{owes_also}
+use Rattle.wait_event.specs.Posts.{Keeps}
+
+pub keeps_none : (i : ℕ) (k : Known) → Keeps i k k
+keeps_none i k = record {
+  domain = refl;
+  number = refl;
+  mark = refl;
+  fewer = λ w σ is. is;
+  out = λ x away none. none;
+  stands = λ slot few away e is own. is;
+  owes = λ x o. o;
+}
+
+pub keeps_on : (i : ℕ) (old mid new : Known) → Keeps i old mid → Keeps i mid new → Keeps i old new
+keeps_on i old mid new a b = record {
+  domain = b.domain ∙ a.domain;
+  number = b.number ∙ a.number;
+  mark = b.mark ∙ a.mark;
+  fewer = λ w σ is. b.fewer w σ (a.fewer w σ is);
+  out = λ x away none. b.out x away (a.out x away none);
+  stands = λ slot few away e is own.
+      subst (λ (m : ℕ). (told_of new).bits.stored (index m slot) ≡ Some e) a.number
+      (b.stands slot few (ap (λ (m : ℕ). index m slot == i) a.number ∙ away) e
+      (subst (λ (m : ℕ). (told_of mid).bits.stored (index m slot) ≡ Some e) (sym a.number)
+      (a.stands slot few away e is own)) own);
+  owes = λ x o. b.owes x (a.owes x o);
+}
+
+-- of a history that tells the same of wakes and entries
+unfolding_owes : (old new : Known) → (told_of new).bits.stored ≡ (told_of old).bits.stored → StaysOwing old new
+    → (x : Excuse) → Owes x old → Owes x new
+unfolding Owes
+unfolding_owes old new stored owing x o = (
+  owing (least x) o.0,
+  λ y c. ap (λ (f : ℕ → Option Entry). is_trying_for (f y) c) stored ∙ o.1 y c,
+)
+
+pub keeps_told : (i : ℕ) (old new : Known) → new.domain ≡ old.domain → new.view.number ≡ old.view.number
+    → (told_of new).mark ≡ (told_of old).mark → (told_of new).duty.owes ≡ (told_of old).duty.owes
+    → (told_of new).bits.stored ≡ (told_of old).bits.stored → StaysOwing old new → Keeps i old new
+keeps_told i old new domain number mark duty stored owing = record {
+  domain = domain;
+  number = number;
+  mark = mark;
+  fewer = λ w σ is. (λ j. duty j w σ) ∙ is;
+  out = λ x away none. (λ j. stored j x) ∙ none;
+  stands = λ slot few away e is own. (λ j. stored j (index old.view.number slot)) ∙ is;
+  owes = λ x. unfolding_owes old new stored owing (with_entry i x);
+}
+
+-- of items that tell nothing
+pub keeps_same : (i : ℕ) (old new : Known) → new.domain ≡ old.domain → new.view.number ≡ old.view.number
+    → told_of new ≡ told_of old → Keeps i old new
+keeps_same i old new domain number told = keeps_told i old new domain number (ap (λ (v : Told). v.mark) told)
+    (ap (λ (v : Told). v.duty.owes) told) (ap (λ (v : Told). v.bits.stored) told)
+    (λ x. subst (OwesBut x) (sym told))
+
+-- of a call that changes no more than the own entry
+pub keeps_of : (i : ℕ) (c : Change) (old new : Known) → Carries c old new → ((w : Watch) → c.publishes w ≡ false)
+    → ((x : ℕ) → (x == i) ≡ false → c.but x ≡ false)
+    → ((x : Excuse) → Owes (with_entry i x) old → Owes (with_entry i x) new) → Keeps i old new
+keeps_of i c old new carries none but owes = record {
+  domain = carries.domain;
+  number = carries.number;
+  mark = carries.mark;
+  fewer = λ w σ is. carries.fewer w σ (none w) is;
+  out = λ x away is. carries.out x (but x away) is;
+  stands = λ slot few away e is own. carries.stands slot few (but (index old.view.number slot) away) e is own;
+  owes = owes;
+}
+
+-- an entry of which it is excused twice
+twice : (a b : Bool) (s : Option Entry) → IsOutBut (a || (a || b)) s → IsOutBut (a || b) s
+twice true b s o = o
+twice false b s o = o
+
+once : (i : ℕ) (x : Excuse) (k : Known) → Owes (with_entry i (with_entry i x)) k → Owes (with_entry i x) k
+unfolding Owes with_entry
+once i x k o = (
+  record {
+    unmarked = o.0.unmarked;
+    owes = o.0.owes;
+    unqueued = λ y. twice (y == i) (x.entries y) ((told_of k).bits.stored y) (o.0.unqueued y);
+    holds = o.0.holds;
+    tries = o.0.tries;
+  },
+  o.1,
+)
+
+pub excused : (i : ℕ) (x : Excuse) (k : Known) → Owes x k → Owes (with_entry i x) k
+unfolding Owes with_entry
+excused i x k o = (owes_also i (least x) (told_of k) o.0, o.1)
+
+pub keeps_queued : (i : ℕ) (old new : Known) → Carries (queue_change i) old new → Keeps i old new
+keeps_queued i old new c = keeps_of i (queue_change i) old new c (λ w. refl) (λ x away. away)
+    (λ x o. once i x new (c.owes (with_entry i x) o))
+
+pub keeps_taken : (i : ℕ) (old new : Known) → Carries (take_off_change i) old new → Keeps i old new
+keeps_taken i old new c = keeps_of i (take_off_change i) old new c (λ w. refl) (λ x away. away)
+    (λ x o. excused i x new (c.owes x o))

@@ -1,0 +1,4 @@
+pub mod Ground
+pub mod Events
+pub mod Setting
+pub mod Preparing

@@ -1,0 +1,272 @@
+-- Prepares and finishes: how they begin, and what they say at their end.
+use Rattle.std.proofs.Common.{◌∙◌, ap, sym, refl, subst, inr}
+use Rattle.std.specs.Prelude.{ℕ, ◌≡◌, ◌<◌, Bool, true, false, Option, Some, None, [], ◌++◌}
+use Rattle.wait_model.specs.declared.layout.TheConstants.{FIRST_SIMPLE}
+use Rattle.wait_model.specs.declared.calls.Call.TheVariants as calls
+use Rattle.wait_model.specs.declared.tasks.How.{How}
+use Rattle.wait_model.specs.declared.points.Point.TheVariants as at
+use Rattle.wait_model.specs.declared.points.PreparePoint.TheVariants as preparing
+use Rattle.wait_model.specs.declared.points.FinishPoint.TheVariants as finishing
+use Rattle.wait_model.specs.declared.points.Next.TheVariants as next
+use Rattle.wait_model.specs.declared.steps.Step.TheVariants as step
+use Rattle.wait_model.specs.declared.watches.Entry.{Entry}
+use Rattle.wait_model.specs.declared.watches.Watch.{Watch}
+use Rattle.wait_model.specs.declared.watches.Watch.TheVariants as watch
+use Rattle.wait_model.specs.Programs.{zero_answer}
+use Rattle.wait_model.specs.Reached.{absent, waits, IsHome}
+use Rattle.wait_model.specs.Tasks.{pending, state_mask, task_of}
+use Rattle.wait_model.specs.Watches.{head_of}
+use Rattle.wait_rule.specs.declared.journal.Item.TheVariants as item
+use Rattle.wait_rule.specs.Known.{Known}
+use Rattle.wait_rule.specs.Tickets.{no_ticket}
+use Rattle.wait_rule.specs.Says.{added, told_of}
+use Rattle.wait_rule.specs.Queues.{IsTold, index}
+use Rattle.wait_rule.specs.Stays.{Carries, state_change}
+use Rattle.wait_rule.specs.Transitions.{Goes, Program, by_step}
+use Rattle.wait_rule.proofs.KnownLaws.Transitions.{only_none}
+use Rattle.wait_event.specs.Posts.{HasSeenOwn, Keeps, Post, Runs, Stands, post_at}
+use Rattle.wait_event.specs.Prepares.{
+  EndsPrepare,
+  HasFinished,
+  IsFullWatch,
+  IsLeft,
+  MayFinish,
+  MayPrepare,
+  Prepares,
+  any_how,
+  cond_in,
+  prepared_in,
+}
+use Rattle.wait_event.specs.Waits.{
+  Advances,
+  EndsWith,
+  IsAt,
+  IsFresh,
+  IsQueuedIn,
+  SameCall,
+  is_prepared,
+  left_by,
+  nothing,
+  own_of,
+  point_of,
+  wait_call,
+  wait_post,
+  wait_program,
+}
+use Rattle.wait_event.specs.declared.waits.WaitOutcome.TheVariants as outcome
+use Rattle.wait_event.specs.declared.waits.WaitRun.{WaitRun}
+use Rattle.wait_event.specs.declared.waits.WaitStage.{WaitStage}
+use Rattle.wait_event.specs.declared.waits.WaitStage.TheVariants as stage
+use Rattle.wait_event.specs.declared.waits.WaitTurn.TheVariants as turn
+use Rattle.wait_event.proofs.Ground.Going.{runs_on, runs_one}
+use Rattle.wait_event.proofs.Ground.Keeping.{keeps_on}
+use Rattle.wait_event.proofs.Events.Endings.{none_of}
+use Rattle.wait_event.proofs.Events.Peeks.{peek_from, peek_some}
+use Rattle.wait_event.proofs.Events.Turns.{GoesOn}
+use Rattle.wait_event.proofs.Ground.Standing.{seen_home}
+use Rattle.wait_model.specs.declared.points.Next.{Next}
+use Rattle.wait_event.proofs.Events.States.{state_keeps, state_looks, state_stands, state_up}
+
+pub prepares_at : (k : Known) (r : WaitRun) (w : Watch) (c : ℕ) (how : How) (asks : Bool) → IsFresh r c how asks
+    → c ≡ cond_in w → IsFullWatch w → how.exclusive ≡ false → IsTold k → MayPrepare k w → IsAt k r stage.PrepareLock
+prepares_at k r w c how asks fresh same full shared told may = record {
+  runs = record {
+    full = subst (λ (n : ℕ). n < FIRST_SIMPLE) (sym (fresh.cond ∙ same)) full.1;
+    shared = ap (λ (h : How). h.exclusive) fresh.how_is ∙ shared;
+  };
+  up = may.up;
+  stands = record {
+    head = may.free.head;
+    at = λ h is. absurd (cc);
+    told = told.head ∙ may.free.head;
+    ticket = may.free.ticket;
+    agreed = λ h is. absurd (cc);
+    state = may.running;
+    home = subst (λ (n : ℕ). IsHome waits (watch.Plain n) ((told_of k).bits.stored (index k.view.number 0)))
+        (sym (fresh.cond ∙ same)) may.home;
+  };
+  trail = tt;
+}
+
+module _ (old new : Known) (r q : WaitRun) (w : Watch) (c : ℕ) (how : How) (asks : Bool)
+    (fresh : IsFresh r c how asks) (same : c ≡ cond_in w) where
+  is_cond : SameCall r q → q.cond ≡ cond_in w
+  is_cond s = s.cond ∙ (fresh.cond ∙ same)
+
+  is_how : SameCall r q → q.how ≡ how
+  is_how s = s.how ∙ fresh.how_is
+
+  gone : (s : WaitStage) (a : Advances old new r q stage.PrepareLock (turn.Again s))
+      → new.book.head ≡ None → new.book.ticket ≡ no_ticket → Prepares old new (cond_in w) how asks (point_of s)
+  gone s a head ticket = record {
+    runs = record {
+      transitions = a.went.runs.transitions;
+      goes = subst (λ (f : Program). Goes f old (next.Go (at.Prepare preparing.Lock)) a.went.runs.transitions new
+          (next.Go (point_of s)))
+          (λ i. wait_program (fresh.asks_is i) old.view.number (calls.Wait ((fresh.cond ∙ same) i) (fresh.how_is i)))
+          a.went.runs.goes;
+    };
+    keeps = a.went.keeps;
+    up = a.lands.up;
+    free = record { head = head; ticket = ticket };
+  }
+
+  left : (o : Option Entry) → (told_of new).bits.stored (index new.view.number 0) ≡ o
+      → IsHome absent (watch.Plain q.cond) ((told_of new).bits.stored (index new.view.number 0))
+      → new.book.state ≡ 0 → IsLeft new
+  left o is home running = record {
+    out = none_of (watch.Plain q.cond) ((told_of new).bits.stored (index new.view.number 0)) home;
+    running = running;
+  }
+
+  pub ends_prepare : (s : WaitStage) → is_prepared s ≡ true
+      → Advances old new r q stage.PrepareLock (turn.Again s) → EndsPrepare old new w how asks (prepared_in q s)
+  ends_prepare stage.Test over a = (
+    gone stage.Test a a.lands.stands.head a.lands.stands.ticket,
+    subst (λ (h : How). IsQueuedIn new (state_mask h.state)) (is_how a.same) a.lands.trail,
+  )
+  ends_prepare stage.LeaveLoad over a =
+      let t = a.lands.trail in (
+        gone stage.LeaveLoad a a.lands.stands.head a.lands.stands.ticket,
+        sym (a.same.asks ∙ fresh.asks_is) ∙ t.showed.asks,
+        left _ refl a.lands.stands.home a.lands.stands.state,
+        record {
+          look = t.look;
+          entry = t.entry;
+          showed = ap (λ (h : How). pending (state_mask h.state) (task_of t.look)) (sym (is_how a.same))
+              ∙ t.showed.pends;
+          ends = subst (λ (d : ℕ). EndsWith new (left_by (own_of new) (head_of (watch.Plain d)) t.look t.entry ++ []))
+              (is_cond a.same) t.ends;
+        },
+      )
+  ends_prepare stage.Worn over a =
+      let t = a.lands.trail in (
+        gone stage.Worn a a.lands.stands.head a.lands.stands.ticket,
+        left _ refl a.lands.stands.home a.lands.stands.state,
+        ap (λ (d : ℕ). head_of (watch.Plain d)) (is_cond a.same),
+        t.noted,
+      )
+  ends_prepare s over a = absurd (cc)
+
+-- a finish: the state, and the look
+module _ (old mid : Known) (may : MayFinish old) (told : IsTold old)
+    (is : mid ≡ added old (item.Made (step.State 0))) (carries : Carries (state_change 0) old mid) where
+  -- the wait that is finished
+  abbrev finished : WaitRun
+  finished = record {
+    cond = may.cond;
+    how = any_how;
+    asks = true;
+    ticket = 0;
+    served = 0;
+    place = 0;
+    seen = 0;
+    queued = false;
+    found = false;
+  }
+
+  abbrev f : Program
+  f = wait_program true old.view.number (wait_call finished)
+
+  abbrev before : Post
+  before = record (wait_post finished stage.FinishState) { stirs = true; state = old.book.state }
+
+  stands_before : Stands old before
+  stands_before = record {
+    head = may.free.head;
+    at = λ h at. absurd (cc);
+    told = told.head ∙ may.free.head;
+    ticket = may.free.ticket;
+    agreed = λ h at. absurd (cc);
+    state = inr refl;
+    home = may.home;
+  }
+
+  abbrev from : Next
+  from = next.Go (at.Finish finishing.State false)
+
+  stored : Runs f old mid from (next.Go (at.Finish finishing.Look false))
+  stored = runs_one f (at.Finish finishing.State false) old old mid nothing (by_step (step.State 0)) (only_none old)
+      refl (tt, tt, tt) (state_looks old mid 0 is carries)
+
+  looks_at : IsAt mid finished stage.FinishLook
+  looks_at = record {
+    runs = record { full = may.full; shared = refl };
+    up = state_up old mid 0 is carries may.up;
+    stands = state_stands old mid 0 is carries before (wait_post finished stage.FinishLook) stands_before refl refl refl
+        (λ o h. h);
+    trail = tt;
+  }
+
+  -- the rest goes through the same program
+  then_runs : (new : Known) (to : Next) → Runs f old mid from (next.Go (at.Finish finishing.Look false))
+      → Runs (wait_program true mid.view.number (wait_call finished)) mid new (next.Go (at.Finish finishing.Look
+      false)) to
+      → Runs f old new from to
+  then_runs new to a b = runs_on f old mid new from (next.Go (at.Finish finishing.Look false)) to a
+      (subst (λ (n : ℕ). Runs (wait_program true n (wait_call finished)) mid new
+      (next.Go (at.Finish finishing.Look false)) to) carries.number b)
+
+  then_keeps : (new : Known) → Keeps (index mid.view.number 0) mid new → Keeps (index old.view.number 0) old new
+  then_keeps new k = keeps_on (index old.view.number 0) old mid new (state_keeps old mid 0 is carries)
+      (subst (λ (n : ℕ). Keeps (index n 0) mid new) carries.number k)
+
+  -- it was off
+  pub finish_off : (k : Known) (o : Option Entry) → o ≡ None → HasSeenOwn mid k o → HasFinished old k
+  finish_off k (Some e) none h = absurd (cc)
+  finish_off k None none h =
+      let g = peek_from mid k finished looks_at None h in record {
+        cond = may.cond;
+        runs = then_runs k (next.Ends zero_answer) stored g.runs;
+        keeps = then_keeps k g.keeps;
+        up = g.lands.0;
+        free = record { head = g.lands.1.head; ticket = g.lands.1.ticket };
+        left = record {
+          out = none_of (watch.Plain may.cond) ((told_of k).bits.stored (index k.view.number 0)) g.lands.1.home;
+          running = g.lands.1.state;
+        };
+      }
+
+  -- it is queued, and its watch is that of the wait
+  module _ (k : Known) (o : Option Entry) (e : Entry) (some : o ≡ Some e) (h : HasSeenOwn mid k o) (q : WaitRun) (d : ℕ)
+      (fresh : IsFresh q d any_how true) (names : d ≡ cond_in e.watch) where
+    its_watch : e.watch ≡ watch.Plain may.cond
+    its_watch = (seen_home mid k o h (wait_post finished stage.FinishLook) looks_at.stands e some).0
+
+    its_cond : q.cond ≡ may.cond
+    its_cond = fresh.cond ∙ (names ∙ ap cond_in its_watch)
+
+    g_some : GoesOn mid k finished finished stage.FinishLook (next.Go (at.Finish finishing.Lock false))
+    g_some = peek_some mid k finished looks_at o e some h
+
+    pub lock_at : IsAt k q stage.FinishLock
+    lock_at = record {
+      runs = record {
+        full = subst (λ (n : ℕ). n < FIRST_SIMPLE) (sym its_cond) may.full;
+        shared = ap (λ (w : How). w.exclusive) fresh.how_is;
+      };
+      up = g_some.lands.0;
+      stands = subst (Stands k) (λ i. post_at None (calls.Wait (sym its_cond i) (sym fresh.how_is i))
+          (at.Finish finishing.Lock false)) g_some.lands.1;
+      trail = tt;
+    }
+
+    pub finish_on : (new : Known) (v : WaitRun) → Advances k new q v stage.FinishLock (turn.Done outcome.Over)
+        → HasFinished old new
+    finish_on new v a = record {
+      cond = may.cond;
+      runs = then_runs new (next.Ends zero_answer) stored
+          (runs_on (wait_program true mid.view.number (wait_call finished)) mid k new
+          (next.Go (at.Finish finishing.Look false)) (next.Go (at.Finish finishing.Lock false)) (next.Ends zero_answer)
+          g_some.runs (subst (λ (p : Program). Runs p k new (next.Go (at.Finish finishing.Lock false))
+          (next.Ends zero_answer)) (λ i. wait_program (fresh.asks_is i) (h.carries.number i)
+          (calls.Wait (its_cond i) (fresh.how_is i))) a.went.runs));
+      keeps = then_keeps new (keeps_on (index mid.view.number 0) mid k new g_some.keeps
+          (subst (λ (n : ℕ). Keeps (index n 0) k new) h.carries.number a.went.keeps));
+      up = a.lands.up;
+      free = record { head = a.lands.stands.head; ticket = a.lands.stands.ticket };
+      left = record {
+        out = none_of (watch.Plain v.cond) ((told_of new).bits.stored (index new.view.number 0)) a.lands.stands.home;
+        running = a.lands.stands.state;
+      };
+    }

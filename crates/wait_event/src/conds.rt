@@ -1,0 +1,58 @@
+//! Conditions that wakers set, and that waiters take.
+
+ghost use Rattle.std.specs.Prelude.{◌≡◌, ◌<◌};
+ghost use Rattle.wait_model.specs.declared.layout.TheConstants.{FIRST_SIMPLE, PLAIN_CONDITIONS};
+ghost use Rattle.wait_model.specs.declared.watches.Watch.TheVariants as watch;
+ghost use Rattle.wait_rule.specs.Says.{IsUp};
+ghost use Rattle.wait_rule.specs.Queues.{IsAgreedHold, IsIdle};
+ghost use Rattle.wait_rule.specs.Stays.{Carries, unchanged};
+ghost use Rattle.wait_event.specs.Conds.{HasSet, HasTaken, set_change};
+
+use std::sync::Wait;
+use wait_model::queues::Walked;
+use wait_model::watches::{Mode, Watch};
+use wait_rule::queues::{consume, publish};
+use wait_rule::{Domain, Task};
+use wq_head::wake;
+
+/// Takes condition `cond`, below `PLAIN_CONDITIONS`: exchanges 0 for its value, and answers what was there. It needs no
+/// idle task.
+pub fn take_cond(domain: &Domain, task: &mut Task, cond: u8) -> u64
+    requires of { task.old.domain ≡ domain.now }
+    requires up { IsUp task.old }
+    requires cond { cond < PLAIN_CONDITIONS }
+    requires agreed { IsAgreedHold task.old }
+    ensures took { HasTaken task.old task.new cond result }
+    ensures carries { Carries unchanged task.old task.new }
+{
+    consume(domain, task, cond)
+}
+
+/// Sets condition `cond`, below `FIRST_SIMPLE`, to a value, and wakes all who wait for it in the states of the mode
+/// (a store of the condition, and `__wake_up`). The count is 0, which stops at no entry. The task is idle, and so it is
+/// afterwards. With the Normal mode it owes nothing of the condition then; with the Interruptible one it owes what it
+/// owed of it to the others, and of all other conditions what it owed before.
+pub fn set_and_wake<R: Wait>(
+    rt: &R,
+    domain: &Domain,
+    task: &mut Task,
+    cond: u8,
+    value: u64,
+    mode: Mode,
+    count: u32,
+) -> Walked
+    requires of { task.old.domain ≡ domain.now }
+    requires up { IsUp task.old }
+    requires idle { IsIdle task.old }
+    requires full { cond < FIRST_SIMPLE }
+    requires all { count ≡ 0 }
+    ensures set { HasSet task.old task.new cond value mode count result }
+    ensures up { IsUp task.new }
+    ensures idle { IsIdle task.new }
+    ensures carries { Carries (set_change (watch.Plain cond) mode task.new.at) task.old task.new }
+{
+    task.told();
+    let watch = Watch::Plain { cond };
+    publish(domain, task, watch, value);
+    wake(rt, domain, task, watch, mode, count)
+}

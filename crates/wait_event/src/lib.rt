@@ -1,0 +1,10 @@
+//! Waits for plain conditions on real threads, and the calls of their wakers. A call that waits goes on in stretches.
+#![tactic(auto)]
+
+pub mod conds;
+pub mod prepares;
+#[cfg(test)]
+mod tests;
+pub mod wait_calls;
+pub mod wait_events;
+pub mod waits;

@@ -1,0 +1,213 @@
+//! Preparing to wait and finishing, for who puts a wait together from parts.
+
+ghost use Rattle.std.specs.Prelude.{◌≡◌, false, true};
+ghost use Rattle.wait_event.specs.declared.waits.WaitOutcome.TheVariants as outcome;
+ghost use Rattle.wait_event.specs.declared.waits.WaitStage.TheVariants as stage;
+ghost use Rattle.wait_event.specs.declared.waits.WaitTurn.TheVariants as turn;
+ghost use Rattle.wait_event.specs.Prepares.{EndsPrepare, HasFinished, IsFullWatch, IsPlainWait, MayFinish, MayPrepare};
+ghost use Rattle.wait_event.specs.Prepares.{cond_in, prepared_in, with_signal};
+ghost use Rattle.wait_event.specs.Waits.{Advances, IsAt, is_prepared};
+
+use crate::wait_calls::pause;
+use crate::waits::{WaitRun, WaitStage, WaitTurn, advance, own_entry};
+use std::sync::Wait;
+use wait_model::heads::head_of;
+use wait_model::layout::RUNNING;
+use wait_model::tasks::{How, SleepState};
+use wait_model::watches::{Kind, Watch};
+use wait_rule::tasks::set_state;
+use wait_rule::{Domain, Task};
+use wq_head::Worn;
+
+/// What a prepare that looks for a signal did: the entry is queued and the state stored, or a signal was pending that
+/// the state admits, and the entry is off.
+#[derive(Clone, Copy)]
+pub enum Prepared {
+    Queued,
+    Signal,
+}
+
+#[inline(always)]
+fn ends_prepare(stage: WaitStage) -> bool
+    ensures { result ≡ is_prepared stage }
+{
+    match stage {
+        WaitStage::Test => true,
+        WaitStage::Worn => true,
+        WaitStage::LeaveLoad => true,
+        _ => false,
+    }
+}
+
+/// Goes on with a prepare to its end: waits for the lock.
+fn run_prepare<R: Wait>(rt: &R, domain: &Domain, task: &mut Task, run: &mut WaitRun) -> WaitStage
+    requires of { task.old.domain ≡ domain.now }
+    requires at { IsAt task.old run.old stage.PrepareLock }
+    ensures advances { Advances task.old task.new run.old run.new stage.PrepareLock (turn.Again result) }
+    ensures prepared { is_prepared result ≡ true }
+{
+    let mut at = WaitStage::PrepareLock;
+    let mut looks = 0;
+    for _ in rt.forever() {
+        match advance(domain, task, run, at) {
+            WaitTurn::Again(next) => {
+                if ends_prepare(next) {
+                    return next;
+                }
+                looks = 0;
+                at = next;
+            }
+            WaitTurn::Locked(next) => {
+                looks = pause(rt, domain, run, looks);
+                at = next;
+            }
+            WaitTurn::Asleep(_next) => unreachable!(),
+            WaitTurn::Done(_outcome) => unreachable!(),
+        }
+    }
+    unreachable!()
+}
+
+/// Goes on with a finish from its lock to its end: waits for the lock.
+fn run_finish<R: Wait>(rt: &R, domain: &Domain, task: &mut Task, run: &mut WaitRun)
+    requires of { task.old.domain ≡ domain.now }
+    requires at { IsAt task.old run.old stage.FinishLock }
+    ensures { Advances task.old task.new run.old run.new stage.FinishLock (turn.Done outcome.Over) }
+{
+    let mut at = WaitStage::FinishLock;
+    let mut looks = 0;
+    for _ in rt.forever() {
+        match advance(domain, task, run, at) {
+            WaitTurn::Again(next) => {
+                looks = 0;
+                at = next;
+            }
+            WaitTurn::Locked(next) => {
+                looks = pause(rt, domain, run, looks);
+                at = next;
+            }
+            WaitTurn::Asleep(_next) => unreachable!(),
+            WaitTurn::Done(_outcome) => return,
+        }
+    }
+    unreachable!()
+}
+
+/// The condition that a watch names.
+fn cond_of(watch: Watch) -> u8
+    ensures { result ≡ cond_in watch }
+{
+    match watch {
+        Watch::Plain { cond } => cond,
+        _ => 0,
+    }
+}
+
+/// What a prepare did, by the stage at which it ended.
+fn answer_at(run: WaitRun, stage: WaitStage) -> Result<Prepared, Worn>
+    ensures { result ≡ prepared_in run stage }
+{
+    match stage {
+        WaitStage::Test => Ok(Prepared::Queued),
+        WaitStage::LeaveLoad => Ok(Prepared::Signal),
+        _ => Err(Worn {
+            head: head_of(run.watch()),
+            place: run.place,
+        }),
+    }
+}
+
+/// Prepares to wait in one hold, and looks for a signal in it where it asks for one.
+fn prepare<R: Wait>(
+    rt: &R,
+    domain: &Domain,
+    task: &mut Task,
+    watch: Watch,
+    how: How,
+    asks: bool,
+) -> Result<Prepared, Worn>
+    requires of { task.old.domain ≡ domain.now }
+    requires may { MayPrepare task.old watch }
+    requires full { IsFullWatch watch }
+    requires shared { how.exclusive ≡ false }
+    ensures { EndsPrepare task.old task.new watch how asks result }
+{
+    task.told();
+    let mut run = WaitRun::new(cond_of(watch), how, asks);
+    let stage = run_prepare(rt, domain, task, &mut run);
+    answer_at(run, stage)
+}
+
+/// Prepares to wait in one hold (`prepare_to_wait_event`): where a signal is pending that the state admits the own
+/// entry of slot 0 is taken off, and the answer is Signal; else it is queued at the front, unless it is queued, and the
+/// state stored, and the answer is Queued. Worn comes exactly where the entry was off and no place is left for it.
+/// After Signal and Worn the entry is off and the task RUNNING. The watch is a plain condition below `FIRST_SIMPLE`,
+/// the kind autoremove, and the wait not exclusive. The task holds no lock and is RUNNING.
+pub fn prepare_event<R: Wait>(
+    rt: &R,
+    domain: &Domain,
+    task: &mut Task,
+    kind: Kind,
+    watch: Watch,
+    how: How,
+) -> Result<Prepared, Worn>
+    requires of { task.old.domain ≡ domain.now }
+    requires may { MayPrepare task.old watch }
+    requires plain { IsPlainWait watch kind }
+    requires shared { how.exclusive ≡ false }
+    ensures { EndsPrepare task.old task.new watch how true result }
+{
+    let _ = kind;
+    prepare(rt, domain, task, watch, how, true)
+}
+
+/// Prepares to wait without a look for a signal (`prepare_to_wait`). The rest is as in `prepare_event`.
+pub fn prepare_to_wait<R: Wait>(
+    rt: &R,
+    domain: &Domain,
+    task: &mut Task,
+    kind: Kind,
+    watch: Watch,
+    state: SleepState,
+) -> Result<(), Worn>
+    requires of { task.old.domain ≡ domain.now }
+    requires may { MayPrepare task.old watch }
+    requires plain { IsPlainWait watch kind }
+    ensures { EndsPrepare task.old task.new watch (record { state = state; exclusive = false }) false
+        (with_signal result) }
+{
+    let _ = kind;
+    let how = How {
+        state,
+        exclusive: false,
+    };
+    match prepare(rt, domain, task, watch, how, false) {
+        Ok(Prepared::Queued) => Ok(()),
+        Ok(Prepared::Signal) => unreachable!(),
+        Err(worn) => Err(worn),
+    }
+}
+
+/// Finishes a wait that was put together from parts (`finish_wait`): stores RUNNING, looks at the own entry of slot 0
+/// without the lock, and takes it off in a hold only where it is queued. Afterwards the task is RUNNING, and the entry
+/// off.
+pub fn finish_wait<R: Wait>(rt: &R, domain: &Domain, task: &mut Task)
+    requires of { task.old.domain ≡ domain.now }
+    requires may { MayFinish task.old }
+    ensures { HasFinished task.old task.new }
+{
+    task.told();
+    set_state(domain, task, RUNNING);
+    let entry = own_entry(domain, task);
+    match entry {
+        None => {}
+        Some(entry) => {
+            let how = How {
+                state: SleepState::Uninterruptible,
+                exclusive: false,
+            };
+            let mut run = WaitRun::new(cond_of(entry.watch), how, true);
+            run_finish(rt, domain, task, &mut run);
+        }
+    }
+}

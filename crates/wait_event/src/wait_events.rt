@@ -1,0 +1,90 @@
+//! `wait_event`, and the parts of it that drivers call by themselves.
+
+ghost use Rattle.std.specs.Prelude.{◌≡◌, ◌<◌, false, true};
+ghost use Rattle.wait_model.specs.declared.layout.TheConstants.{FIRST_SIMPLE};
+ghost use Rattle.wait_rule.specs.Says.{IsUp};
+ghost use Rattle.wait_rule.specs.Queues.{IsIdle, IsTold, index};
+ghost use Rattle.wait_event.specs.declared.waits.WaitStage.TheVariants as stage;
+ghost use Rattle.wait_event.specs.Waits.{IsAt, IsFresh};
+ghost use Rattle.wait_rule.specs.Stays.{Carries};
+ghost use Rattle.wait_event.specs.Ends.{EndsWait, IsOut, end_in, wait_change};
+
+use crate::wait_calls::run_wait;
+use crate::waits::{WaitOutcome, WaitRun, WaitStage};
+use std::sync::Wait;
+use thiserror::Error;
+use wait_model::heads::head_of;
+use wait_model::tasks::How;
+use wait_rule::{Domain, Task};
+
+/// Why a wait ended though its condition was not set. Signal: the look in its last hold showed a signal that its state
+/// admits, its entry was off then, and the load of the condition after it found `seen`; `selected` is that this hold
+/// found the entry off that the call had queued, so that a wake had chosen it. Worn: no place was left for its entry at
+/// its head, where a member stands at `place`, and the load of the condition after it found it not set.
+#[derive(Clone, Copy, Debug, Drop, Error)]
+pub enum WaitEnd {
+    #[error("a signal ended the wait")]
+    Signal { seen: u64, selected: bool },
+    #[error("head {head} has no place left: a member stands at place {place}")]
+    Worn { head: u16, place: u64 },
+}
+
+/// A wait for condition `cond`, below `FIRST_SIMPLE`, that is about to begin: `stretch` goes on with it at
+/// `WaitStage::First`. The task is idle and has no entry queued.
+pub fn begin_wait(task: &Task, cond: u8, how: How) -> WaitRun
+    requires up { IsUp task.now }
+    requires idle { IsIdle task.now }
+    requires full { cond < FIRST_SIMPLE }
+    requires shared { how.exclusive ≡ false }
+    requires out { IsOut task.now }
+    ensures at { IsAt task.now result stage.First }
+    ensures fresh { IsFresh result cond how true }
+    ensures told { IsTold task.now }
+{
+    task.told();
+    WaitRun::new(cond, how, true)
+}
+
+/// Waits until condition `cond`, below `FIRST_SIMPLE`, is set (`wait_event`, `wait_event_interruptible`,
+/// `wait_event_killable`): a value other than 0. The task is idle and has no entry queued, and so it is afterwards; it
+/// owes what it owed.
+pub fn wait_event<R: Wait>(
+    rt: &R,
+    domain: &Domain,
+    task: &mut Task,
+    cond: u8,
+    how: How,
+) -> Result<(), WaitEnd>
+    requires of { task.old.domain ≡ domain.now }
+    requires up { IsUp task.old }
+    requires idle { IsIdle task.old }
+    requires full { cond < FIRST_SIMPLE }
+    requires shared { how.exclusive ≡ false }
+    requires out { IsOut task.old }
+    ensures waited { EndsWait task.old task.new cond how result }
+    ensures up { IsUp task.new }
+    ensures idle { IsIdle task.new }
+    ensures out { IsOut task.new }
+    ensures carries { Carries (wait_change (index task.old.view.number 0) task.new.at) task.old task.new }
+{
+    let mut run = begin_wait(task, cond, how);
+    let outcome = run_wait(rt, domain, task, &mut run, WaitStage::First);
+    end_of(run, outcome)
+}
+
+/// The answer of a wait that has ended.
+fn end_of(run: WaitRun, outcome: WaitOutcome) -> Result<(), WaitEnd>
+    ensures { result ≡ end_in run outcome }
+{
+    match outcome {
+        WaitOutcome::Over => Ok(()),
+        WaitOutcome::Signalled => Err(WaitEnd::Signal {
+            seen: run.seen,
+            selected: run.queued && !run.found,
+        }),
+        WaitOutcome::Worn => Err(WaitEnd::Worn {
+            head: head_of(run.watch()),
+            place: run.place,
+        }),
+    }
+}

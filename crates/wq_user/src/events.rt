@@ -1,0 +1,55 @@
+//! A task that waits for condition 0 by one call, and one that sets it: each owes nothing after it, and is taken in.
+
+ghost use Rattle.std.specs.Prelude.{◌≡◌};
+ghost use Rattle.wait_rule.specs.Says.{IsClean};
+
+use std::sync::Wait;
+use wait_event::conds::{set_and_wake, take_cond};
+use wait_event::wait_events::wait_event;
+use wait_model::tasks::{How, SleepState};
+use wait_model::watches::Mode;
+use wait_rule::{Domain, Task};
+
+/// Waits until condition 0 is set: true where it was, and false where a signal ended the wait, or no place was left.
+pub fn wait_for_zero<R: Wait>(rt: &R, domain: &Domain, task: &mut Task, state: SleepState) -> bool
+    requires of { task.old.domain ≡ domain.now }
+    requires clean { IsClean task.old }
+    ensures of { task.new.domain ≡ domain.now }
+    ensures clean { IsClean task.new }
+{
+    let how = How {
+        state,
+        exclusive: false,
+    };
+    wait_event(rt, domain, task, 0, how).is_ok()
+}
+
+/// Sets condition 0 and wakes all who wait for it: how many they were.
+pub fn set_zero<R: Wait>(rt: &R, domain: &Domain, task: &mut Task) -> u32
+    requires of { task.old.domain ≡ domain.now }
+    requires clean { IsClean task.old }
+    ensures of { task.new.domain ≡ domain.now }
+    ensures clean { IsClean task.new }
+{
+    set_and_wake(rt, domain, task, 0, 1, Mode::Normal, 0).woken
+}
+
+/// Takes condition 0.
+pub fn take_zero(domain: &Domain, task: &mut Task) -> u64
+    requires of { task.old.domain ≡ domain.now }
+    requires clean { IsClean task.old }
+    ensures of { task.new.domain ≡ domain.now }
+    ensures clean { IsClean task.new }
+{
+    take_cond(domain, task, 0)
+}
+
+/// Waits, and then is taken in by another task.
+pub fn wait_and_join<R: Wait>(rt: &R, domain: &Domain, task: &mut Task, mut other: Task)
+    requires of { (task.old.domain ≡ domain.now) × (other.domain ≡ domain.now) }
+    requires clean { IsClean other }
+    ensures of { task.new.domain ≡ domain.now }
+{
+    wait_for_zero(rt, domain, &mut other, SleepState::Killable);
+    task.join(domain, other);
+}

@@ -42,7 +42,8 @@ use Rattle.wait_model.specs.declared.watches.Mode.TheVariants as mode
 use Rattle.wait_model.specs.declared.layout.TheConstants.{FIRST_SIMPLE, PLAIN_CONDITIONS, TASKS}
 use Rattle.wait_script.specs.declared.line.Line.{Line}
 use Rattle.wait_script.specs.declared.line.Line.TheVariants as line
-use Rattle.wait_script.specs.Fields.{last_task}
+use Rattle.wait_script.specs.declared.version.Version.TheVariants.{One}
+use Rattle.wait_script.specs.Versions.{last_task}
 use Rattle.wait_script.specs.Lines.{events_asked}
 use Rattle.wait_script.specs.Spelling.{IsFit, IsFitCall}
 use Rattle.drill_gen.specs.Drill.{
@@ -64,17 +65,17 @@ use Rattle.drill_gen.specs.Drill.{
   drill_of,
 }
 
-either : (task : ℕ) (test : Bool) (one other : Call) → IsFitCall task one → IsFitCall task other
-    → IsFitCall task (if test then one else other)
+either : (task : ℕ) (test : Bool) (one other : Call) → IsFitCall One task one → IsFitCall One task other
+    → IsFitCall One task (if test then one else other)
 either task true one other fit more = fit
 either task false one other fit more = more
 
-fit_call : (task kind cond whom : ℕ) → cond < conds → whom < callers → IsFitCall task (call_of kind cond whom)
+fit_call : (task kind cond whom : ℕ) → cond < conds → whom < callers → IsFitCall One task (call_of kind cond whom)
 fit_call task kind cond whom few near =
     let full = lt-ltb cond FIRST_SIMPLE (omega arith) in
     let any = lt-ltb cond PLAIN_CONDITIONS (omega arith) in
     let there = lt-ltb whom TASKS (omega arith) in
-    let low : whom ≤ last_task = omega (arith, near) in
+    let low : whom ≤ last_task One = omega (arith, near) in
     let none : 0 < 2 ^ 64 = omega arith in
     let one : 1 < 2 ^ 64 = omega arith in
     let from_6 = if kind == 6 then call.Signal whom false else call.Accept in
@@ -93,27 +94,27 @@ fit_call task kind cond whom few near =
     let fit_1 = either task (kind == 1) (call.Wait cond int) from_2 (full, refl, none, tt) fit_2 in
     either task (kind == 0) (call.Wait cond plain) from_1 (full, refl, none, tt) fit_1
 
-nothing : All IsFit []
+nothing : All (IsFit One) []
 nothing k d lt = absurd (omega arith)
 
-fit_lines : (word : ℕ) → All IsFit (drawn_lines word)
+fit_lines : (word : ℕ) → All (IsFit One) (drawn_lines word)
 fit_lines word =
     let near : task_in word < callers = mod_below word callers (omega arith) in
     let few : drawn_cond word < conds = mod_below (word / (callers * call_kinds)) conds (omega arith) in
     let there : whom_in word < callers = mod_below (word / (callers * call_kinds * conds)) callers (omega arith) in
-    let task : task_in word ≤ last_task = omega (arith, near) in
+    let task : task_in word ≤ last_task One = omega (arith, near) in
     let opened = fit_call (task_in word) (kind_in word) (drawn_cond word) (whom_in word) few there in
-    All-cons IsFit (line.Call (task_in word) (drawn_call word)) (line.Step (task_in word) most_steps ∷ [])
+    All-cons (IsFit One) (line.Call (task_in word) (drawn_call word)) (line.Step (task_in word) most_steps ∷ [])
     (task, opened)
-    (All-cons IsFit (line.Step (task_in word) most_steps) [] (task, omega arith, omega arith) nothing)
+    (All-cons (IsFit One) (line.Step (task_in word) most_steps) [] (task, omega arith, omega arith) nothing)
 
-fit_from : (state count : ℕ) → All IsFit (drawn_from state count)
+fit_from : (state count : ℕ) → All (IsFit One) (drawn_from state count)
 fit_from state zero = nothing
 fit_from state (suc count) =
-    All-append IsFit (drawn_lines (mix_u64 state).0) (drawn_from (mix_u64 state).1 count)
+    All-append (IsFit One) (drawn_lines (mix_u64 state).0) (drawn_from (mix_u64 state).1 count)
     (fit_lines (mix_u64 state).0) (fit_from (mix_u64 state).1 count)
 
-pub fits : (seed count : ℕ) → All IsFit (drill_of seed count)
+pub fits : (seed count : ℕ) → All (IsFit One) (drill_of seed count)
 fits seed count = fit_from seed count
 
 asks_from : (state count : ℕ) → sum_by events_asked (drawn_from state count) ≡ most_steps * count

@@ -7,18 +7,20 @@ use Rattle.wait_model.specs.declared.calls.Call.TheVariants as call
 use Rattle.wait_model.specs.declared.queues.Form.TheVariants as form
 use Rattle.wait_model.specs.declared.layout.TheConstants.{FIRST_SIMPLE, PRIORITY_TASKS}
 use Rattle.wait_model.specs.Admission.{is_in_range}
-use Rattle.wait_script.specs.Fields.{last_task, last_priority_task}
+use Rattle.wait_script.specs.declared.version.Version.{Version}
+use Rattle.wait_script.specs.Fields.{last_priority_task}
 use Rattle.wait_script.specs.Forms.{last_of, call_words}
+use Rattle.wait_script.specs.Versions.{last_task}
 use Rattle.wait_script.proofs.Truths.{both_true, parts_true}
 
 -- the last task that may make a call
-abbrev pub last_by : List (List ℕ) → ℕ
-last_by [] = last_task
-last_by (name ∷ rest) = last_of name rest
+abbrev pub last_by : Version → List (List ℕ) → ℕ
+last_by v [] = last_task v
+last_by v (name ∷ rest) = last_of v name rest
 
-any_task : (b : Bool) (task : ℕ) → task ≤ last_task → b ≡ (b && nat_le task last_task)
-any_task true task h = grind (arith, nat_tests)
-any_task false task h = refl
+any_task : (b : Bool) (task last : ℕ) → task ≤ last → b ≡ (b && nat_le task last)
+any_task true task last h = grind (arith, nat_tests)
+any_task false task last h = refl
 
 first_tasks : (b : Bool) (task : ℕ) → (b && nat_lt task PRIORITY_TASKS)
     ≡ ((b && true) && nat_le task last_priority_task)
@@ -26,27 +28,27 @@ first_tasks true task = grind (arith, nat_tests)
 first_tasks false task = refl
 
 -- the ranges of a task are those of task 0, and that the task is none after the last
-ranged : (c : Call) (task : ℕ) → task ≤ last_task
-    → is_in_range task c ≡ (is_in_range 0 c && nat_le task (last_by (call_words c)))
-ranged (call.Add c k form.Front) task h = any_task (nat_lt c FIRST_SIMPLE && true) task h
-ranged (call.Add c k form.Tail) task h = any_task (nat_lt c FIRST_SIMPLE && true) task h
-ranged (call.Add c k form.Priority) task h = first_tasks (nat_lt c FIRST_SIMPLE) task
-ranged _ task h = any_task _ task h
+ranged : (v : Version) (c : Call) (task : ℕ) → task ≤ last_task v
+    → is_in_range task c ≡ (is_in_range 0 c && nat_le task (last_by v (call_words c)))
+ranged v (call.Add c k form.Front) task h = any_task (nat_lt c FIRST_SIMPLE && true) task (last_task v) h
+ranged v (call.Add c k form.Tail) task h = any_task (nat_lt c FIRST_SIMPLE && true) task (last_task v) h
+ranged v (call.Add c k form.Priority) task h = first_tasks (nat_lt c FIRST_SIMPLE) task
+ranged v _ task h = any_task _ task (last_task v) h
 
-pub for_task : (c : Call) (task : ℕ) → task ≤ last_task → task ≤ last_by (call_words c)
+pub for_task : (v : Version) (c : Call) (task : ℕ) → task ≤ last_task v → task ≤ last_by v (call_words c)
     → is_in_range 0 c ≡ true → is_in_range task c ≡ true
-for_task c task h most r =
-    let last = last_by (call_words c) in
-    ranged c task h ∙ both_true (is_in_range 0 c) (nat_le task last) r (test task last most)
+for_task v c task h most r =
+    let last = last_by v (call_words c) in
+    ranged v c task h ∙ both_true (is_in_range 0 c) (nat_le task last) r (test task last most)
   where
     test : (n m : ℕ) → n ≤ m → nat_le n m ≡ true
     test n m h = grind (arith, nat_tests)
 
-pub is_caller : (c : Call) (task : ℕ) → task ≤ last_task → is_in_range task c ≡ true
-    → task ≤ last_by (call_words c)
-is_caller c task h r =
-    let last = last_by (call_words c) in
-    at_most task last (parts_true (is_in_range 0 c) (nat_le task last) (sym (ranged c task h) ∙ r)).1
+pub is_caller : (v : Version) (c : Call) (task : ℕ) → task ≤ last_task v → is_in_range task c ≡ true
+    → task ≤ last_by v (call_words c)
+is_caller v c task h r =
+    let last = last_by v (call_words c) in
+    at_most task last (parts_true (is_in_range 0 c) (nat_le task last) (sym (ranged v c task h) ∙ r)).1
   where
     at_most : (n m : ℕ) → nat_le n m ≡ true → n ≤ m
     at_most n m h = grind (arith, nat_tests)

@@ -16,3 +16,4 @@ pub mod SpelledForms
 pub mod SpelledLines
 pub mod SpelledWords
 pub mod Truths
+pub mod Versions

@@ -31,10 +31,19 @@ use Rattle.std.proofs.Common.{
 use Rattle.std.proofs.lemmas.Bool.Decides.{nat_tests}
 use Rattle.std.proofs.lemmas.List.Splits.{slice_split_first, length-slice_split}
 use Rattle.std.specs.List.{onto_first, position_or_len}
-use Rattle.wait_script.specs.declared.line.Line.{Line}
 use Rattle.wait_script.specs.declared.reason.Reason.{Reason}
+use Rattle.wait_script.specs.declared.version.Version.{Version}
 use Rattle.wait_script.specs.Lines.{header_at, line_at}
-use Rattle.wait_script.specs.Script.{is_end, parts_of, lines_from, and_lines, under, headed, script_of}
+use Rattle.wait_script.specs.Script.{
+  is_end,
+  parts_of,
+  lines_from,
+  and_lines,
+  versioned,
+  under,
+  headed,
+  script_of,
+}
 use Rattle.wait_script.proofs.LineCuts.{rest_from}
 use Rattle.wait_script.proofs.Truths.{some_by, none_by}
 
@@ -68,33 +77,30 @@ parts-none bytes e = whole bytes (none_by _ (position_or_len is_end bytes) e)
 some_parts : (bytes : List ℕ) → 0 < length (parts_of bytes)
 some_parts bytes = omega (arith, length-slice_split is_end bytes)
 
-step : (number : ℕ) (line : List ℕ) (parts : List (List ℕ)) → 0 < length parts
-    → lines_from number (line ∷ parts) ≡ and_lines number (line_at line) (lines_from (number + 1) parts)
-step number line [] some = absurd (omega arith)
-step number line (part ∷ more) some = refl
+step : (v : Version) (number : ℕ) (line : List ℕ) (parts : List (List ℕ)) → 0 < length parts
+    → lines_from v number (line ∷ parts) ≡ and_lines number (line_at v line) (lines_from v (number + 1) parts)
+step v number line [] some = absurd (omega arith)
+step v number line (part ∷ more) some = refl
 
-pub lines_from-step : (number : ℕ) (line rest : List ℕ)
-    → lines_from number (line ∷ parts_of rest) ≡ and_lines number (line_at line)
-    (lines_from (number + 1) (parts_of rest))
-lines_from-step number line rest = step number line (parts_of rest) (some_parts rest)
+pub lines_from-step : (v : Version) (number : ℕ) (line rest : List ℕ)
+    → lines_from v number (line ∷ parts_of rest) ≡ and_lines number (line_at v line)
+    (lines_from v (number + 1) (parts_of rest))
+lines_from-step v number line rest = step v number line (parts_of rest) (some_parts rest)
 
 head_step : (header : List ℕ) (parts : List (List ℕ)) → 0 < length parts
-    → headed (header ∷ parts) ≡ under (header_at header) (lines_from 2 parts)
+    → headed (header ∷ parts) ≡ under (header_at header) parts
 head_step header [] some = absurd (omega arith)
 head_step header (part ∷ more) some = refl
 
 -- what stands after line 1, under what line 1 says
 pub after_header : (bytes header rest : List ℕ) → parts_of bytes ≡ header ∷ parts_of rest
-    → script_of bytes ≡ under (header_at header) (lines_from 2 (parts_of rest))
+    → script_of bytes ≡ under (header_at header) (parts_of rest)
 after_header bytes header rest cut = ap headed cut ∙ head_step header (parts_of rest) (some_parts rest)
 
 pub odd_header : (bytes header rest : List ℕ) (why : Reason) → parts_of bytes ≡ header ∷ parts_of rest
     → header_at header ≡ Err why → script_of bytes ≡ Err (1, why)
-odd_header bytes header rest why cut e =
-    after_header bytes header rest cut ∙ ap (λ h. under h (lines_from 2 (parts_of rest))) e
+odd_header bytes header rest why cut e = after_header bytes header rest cut ∙ ap (λ h. under h (parts_of rest)) e
 
-pub good_header : (bytes header rest : List ℕ) (x : Unit {0}) (lines : List Line)
-    → parts_of bytes ≡ header ∷ parts_of rest
-    → header_at header ≡ Ok x → lines_from 2 (parts_of rest) ≡ Ok lines → script_of bytes ≡ Ok lines
-good_header bytes header rest x lines cut e read =
-    after_header bytes header rest cut ∙ ap (λ h. under h (lines_from 2 (parts_of rest))) e ∙ read
+pub good_header : (bytes header rest : List ℕ) (v : Version) → parts_of bytes ≡ header ∷ parts_of rest
+    → header_at header ≡ Ok v → script_of bytes ≡ versioned v (lines_from v 2 (parts_of rest))
+good_header bytes header rest v cut e = after_header bytes header rest cut ∙ ap (λ h. under h (parts_of rest)) e

@@ -30,18 +30,19 @@ use Rattle.wait_model.specs.declared.layout.TheConstants.{
   FIRST_SIMPLE,
   PLAIN_CONDITIONS,
   PRIORITY_TASKS,
-  SCRIPT_SELECTED,
   TASKS,
   WORD_BITS,
 }
 use Rattle.wait_script.specs.declared.reason.Reason.{Reason}
 use Rattle.wait_script.specs.declared.line.Line.{Line}
 use Rattle.wait_script.specs.declared.line.Line.TheVariants as line
+use Rattle.wait_script.specs.declared.version.Version.{Version}
 use Rattle.wait_script.specs.Words.{both_of, made_of}
-use Rattle.wait_script.specs.Fields.{last_task, last_full, last_cond, last_cell, last_var, last_word, last_bit}
+use Rattle.wait_script.specs.Fields.{last_full, last_cond, last_cell, last_var, last_word, last_bit}
 use Rattle.wait_script.specs.Forms.{named_at, last_of}
 use Rattle.wait_script.specs.Lines.{words_at}
 use Rattle.wait_script.specs.Spelling.{call_words, line_words, IsFitCall, IsFit}
+use Rattle.wait_script.specs.Versions.{last_task, most_selected}
 use Rattle.wait_script.proofs.Callers.{last_by, is_caller}
 use Rattle.wait_script.proofs.SpelledWords.{
   parts_true,
@@ -70,6 +71,7 @@ use Rattle.wait_script.proofs.SpelledWords.{
   all_is_word,
   all_read,
 }
+use Rattle.wait_script.proofs.Versions.{few_tasks, few_selected}
 
 -- fields that are read make their call
 made1 : {A B : Type 0} (f : A → B) (r : Result A Reason) (x : A) → r ≡ Ok x → made_of f r ≡ Ok (f x)
@@ -98,12 +100,12 @@ from_simple n h =
     at_least n false t e = grind (arith, nat_tests)
 
 -- words say a call
-abbrev Says : List (List ℕ) → Call → Type 0
-Says [] c = ⊥
-Says (name ∷ rest) c = (named_at name rest ≡ Ok c) × IsWord name × AreWords rest × (length rest ≤ 3)
+abbrev Says : Version → List (List ℕ) → Call → Type 0
+Says v [] c = ⊥
+Says v (name ∷ rest) c = (named_at v name rest ≡ Ok c) × IsWord name × AreWords rest × (length rest ≤ 3)
 
-call_said : (c : Call) (task : ℕ) → IsFitCall task c → Says (call_words c) c
-call_said (call.Wait cond how) task h =
+call_said : (v : Version) (c : Call) (task : ℕ) → IsFitCall v task c → Says v (call_words c) c
+call_said v (call.Wait cond how) task h =
     let m = upto last_full cond h.0 in (
       made2 (λ f. call.Wait f.0 f.1) _ _ cond how (numbered_read 99 0 last_full cond (omega (arith, m))
           (omega (arith, m)) (omega (arith, m))) (how_read how h.1),
@@ -111,7 +113,7 @@ call_said (call.Wait cond how) task h =
       (letter_word 99 cond refl (omega (arith, m)), (how_is_word how, tt)),
       omega arith,
     )
-call_said (call.Set cond value) task h =
+call_said v (call.Set cond value) task h =
     let m = upto last_cond cond h.0 in (
       made2 (λ f. call.Set f.0 f.1) _ _ cond value (numbered_read 99 0 last_cond cond (omega (arith, m))
           (omega (arith, m)) (omega (arith, m))) (value_read value h.2),
@@ -119,7 +121,7 @@ call_said (call.Set cond value) task h =
       (letter_word 99 cond refl (omega (arith, m)), (number_word value h.2, tt)),
       omega arith,
     )
-call_said (call.Take cond) task h =
+call_said v (call.Take cond) task h =
     let m = upto last_cond cond h.0 in (
       made1 (λ f. call.Take f) _ cond (numbered_read 99 0 last_cond cond (omega (arith, m)) (omega (arith, m))
           (omega (arith, m))),
@@ -127,7 +129,7 @@ call_said (call.Take cond) task h =
       (letter_word 99 cond refl (omega (arith, m)), tt),
       omega arith,
     )
-call_said (call.Read cond) task h =
+call_said v (call.Read cond) task h =
     let m = upto last_cond cond h.0 in (
       made1 (λ f. call.Read f) _ cond (numbered_read 99 0 last_cond cond (omega (arith, m)) (omega (arith, m))
           (omega (arith, m))),
@@ -135,22 +137,23 @@ call_said (call.Read cond) task h =
       (letter_word 99 cond refl (omega (arith, m)), tt),
       omega arith,
     )
-call_said (call.Wake cond mode count) task h =
+call_said v (call.Wake cond mode count) task h =
     let p = parts_true (nat_lt cond FIRST_SIMPLE) (nat_lt count TASKS) h.0 in
     let m = upto last_full cond p.0 in
-    let n = h.3 in (
+    let n = h.3 in
+    let few = few_selected v in (
       made3 (λ f. call.Wake f.0 f.1.0 f.1.1) _ _ _ cond mode count
           (numbered_read 99 0 last_full cond (omega (arith, m)) (omega (arith, m)) (omega (arith, m)))
           (mode_read mode)
-          (number_read 0 SCRIPT_SELECTED count (omega arith) n (omega (arith, n))),
+          (number_read 0 (most_selected v) count (omega arith) n (omega (arith, n, few))),
       refl,
       (
         letter_word 99 cond refl (omega (arith, m)),
-        (mode_is_word mode, (number_word count (omega (arith, n)), tt)),
+        (mode_is_word mode, (number_word count (omega (arith, n, few)), tt)),
       ),
       omega arith,
     )
-call_said (call.Add cond kind form) task h =
+call_said v (call.Add cond kind form) task h =
     let p = parts_true (nat_lt cond FIRST_SIMPLE) (not (is_priority form) || nat_lt task PRIORITY_TASKS) h.0 in
     let m = upto last_full cond p.0 in (
       made3 (λ f. call.Add f.0 f.1.0 f.1.1) _ _ _ cond kind form
@@ -161,29 +164,29 @@ call_said (call.Add cond kind form) task h =
       (letter_word 99 cond refl (omega (arith, m)), (kind_is_word kind h.1, (form_is_word form, tt))),
       omega arith,
     )
-call_said call.Remove task h =
+call_said v call.Remove task h =
     (refl, refl, tt, omega arith)
-call_said (call.Woken state) task h =
+call_said v (call.Woken state) task h =
     (made1 (λ f. call.Woken f) _ state (state_read state), refl, (state_is_word state, tt), omega arith)
-call_said (call.Signal who fatal) task h =
+call_said v (call.Signal who fatal) task h =
     let m = h.3 in (
       made2 (λ f. call.Signal f.0 f.1) _ _ who fatal
-          (number_read 0 last_task who (omega arith) m (omega (arith, m)))
+          (number_read 0 (last_task v) who (omega arith) m (omega (arith, m, few_tasks v)))
           (fatal_read fatal),
       refl,
-      (number_word who (omega (arith, m)), (fatal_is_word fatal, tt)),
+      (number_word who (omega (arith, m, few_tasks v)), (fatal_is_word fatal, tt)),
       omega arith,
     )
-call_said call.Accept task h =
+call_said v call.Accept task h =
     (refl, refl, tt, omega arith)
-call_said (call.Kick who) task h =
+call_said v (call.Kick who) task h =
     let m = h.3 in (
-      made1 (λ f. call.Kick f) _ who (number_read 0 last_task who (omega arith) m (omega (arith, m))),
+      made1 (λ f. call.Kick f) _ who (number_read 0 (last_task v) who (omega arith) m (omega (arith, m, few_tasks v))),
       refl,
-      (number_word who (omega (arith, m)), tt),
+      (number_word who (omega (arith, m, few_tasks v)), tt),
       omega arith,
     )
-call_said (call.SimpleWait cond state) task h =
+call_said v (call.SimpleWait cond state) task h =
     let p = from_simple cond h.0 in (
       made2 (λ f. call.SimpleWait f.0 f.1) _ _ cond state
           (numbered_read 99 FIRST_SIMPLE last_cond cond p.0 p.1 (omega (arith, p.1))) (simple_state_read state h.1),
@@ -191,7 +194,7 @@ call_said (call.SimpleWait cond state) task h =
       (letter_word 99 cond refl (omega (arith, p.1)), (state_is_word state, tt)),
       omega arith,
     )
-call_said (call.SimpleWake cond all) task h =
+call_said v (call.SimpleWake cond all) task h =
     let p = from_simple cond h.0 in (
       made2 (λ f. call.SimpleWake f.0 f.1) _ _ cond all
           (numbered_read 99 FIRST_SIMPLE last_cond cond p.0 p.1 (omega (arith, p.1))) (all_read all),
@@ -199,28 +202,28 @@ call_said (call.SimpleWake cond all) task h =
       (letter_word 99 cond refl (omega (arith, p.1)), (all_is_word all, tt)),
       omega arith,
     )
-call_said (call.Complete cell) task h =
+call_said v (call.Complete cell) task h =
     let m = upto last_cell cell h.0 in (
       made1 (λ f. call.Complete f) _ cell (numbered_read 100 0 last_cell cell (omega arith) m (omega (arith, m))),
       refl,
       (letter_word 100 cell refl (omega (arith, m)), tt),
       omega arith,
     )
-call_said (call.CompleteAll cell) task h =
+call_said v (call.CompleteAll cell) task h =
     let m = upto last_cell cell h.0 in (
       made1 (λ f. call.CompleteAll f) _ cell (numbered_read 100 0 last_cell cell (omega arith) m (omega (arith, m))),
       refl,
       (letter_word 100 cell refl (omega (arith, m)), tt),
       omega arith,
     )
-call_said (call.Reinit cell) task h =
+call_said v (call.Reinit cell) task h =
     let m = upto last_cell cell h.0 in (
       made1 (λ f. call.Reinit f) _ cell (numbered_read 100 0 last_cell cell (omega arith) m (omega (arith, m))),
       refl,
       (letter_word 100 cell refl (omega (arith, m)), tt),
       omega arith,
     )
-call_said (call.WaitFor cell state) task h =
+call_said v (call.WaitFor cell state) task h =
     let m = upto last_cell cell h.0 in (
       made2 (λ f. call.WaitFor f.0 f.1) _ _ cell state (numbered_read 100 0 last_cell cell (omega arith) m
           (omega (arith, m))) (state_read state),
@@ -231,21 +234,21 @@ call_said (call.WaitFor cell state) task h =
       ),
       omega arith,
     )
-call_said (call.TryWait cell) task h =
+call_said v (call.TryWait cell) task h =
     let m = upto last_cell cell h.0 in (
       made1 (λ f. call.TryWait f) _ cell (numbered_read 100 0 last_cell cell (omega arith) m (omega (arith, m))),
       refl,
       (letter_word 100 cell refl (omega (arith, m)), tt),
       omega arith,
     )
-call_said (call.IsDone cell) task h =
+call_said v (call.IsDone cell) task h =
     let m = upto last_cell cell h.0 in (
       made1 (λ f. call.IsDone f) _ cell (numbered_read 100 0 last_cell cell (omega arith) m (omega (arith, m))),
       refl,
       (letter_word 100 cell refl (omega (arith, m)), tt),
       omega arith,
     )
-call_said (call.TryBit w b) task h =
+call_said v (call.TryBit w b) task h =
     let p = parts_true (nat_lt w BIT_WORDS) (nat_lt b WORD_BITS) h.0 in
     let m = upto last_word w p.0 in
     let n = upto last_bit b p.1 in (
@@ -254,7 +257,7 @@ call_said (call.TryBit w b) task h =
       (bit_word w b (omega (arith, m)) (omega (arith, n)), tt),
       omega arith,
     )
-call_said (call.WaitBit w b state) task h =
+call_said v (call.WaitBit w b state) task h =
     let p = parts_true (nat_lt w BIT_WORDS) (nat_lt b WORD_BITS) h.0 in
     let m = upto last_word w p.0 in
     let n = upto last_bit b p.1 in (
@@ -263,7 +266,7 @@ call_said (call.WaitBit w b state) task h =
       (bit_word w b (omega (arith, m)) (omega (arith, n)), (state_is_word state, tt)),
       omega arith,
     )
-call_said (call.LockBit w b state) task h =
+call_said v (call.LockBit w b state) task h =
     let p = parts_true (nat_lt w BIT_WORDS) (nat_lt b WORD_BITS) h.0 in
     let m = upto last_word w p.0 in
     let n = upto last_bit b p.1 in (
@@ -272,7 +275,7 @@ call_said (call.LockBit w b state) task h =
       (bit_word w b (omega (arith, m)) (omega (arith, n)), (state_is_word state, tt)),
       omega arith,
     )
-call_said (call.ClearBit w b) task h =
+call_said v (call.ClearBit w b) task h =
     let p = parts_true (nat_lt w BIT_WORDS) (nat_lt b WORD_BITS) h.0 in
     let m = upto last_word w p.0 in
     let n = upto last_bit b p.1 in (
@@ -281,7 +284,7 @@ call_said (call.ClearBit w b) task h =
       (bit_word w b (omega (arith, m)) (omega (arith, n)), tt),
       omega arith,
     )
-call_said (call.WaitVar var old state) task h =
+call_said v (call.WaitVar var old state) task h =
     let m = upto last_var var h.0 in (
       made3 (λ f. call.WaitVar f.0 f.1.0 f.1.1) _ _ _ var old state
           (numbered_read 118 0 last_var var (omega arith) m (omega (arith, m))) (value_read old h.2)
@@ -290,7 +293,7 @@ call_said (call.WaitVar var old state) task h =
       (letter_word 118 var refl (omega (arith, m)), (number_word old h.2, (state_is_word state, tt))),
       omega arith,
     )
-call_said (call.SetVar var value) task h =
+call_said v (call.SetVar var value) task h =
     let m = upto last_var var h.0 in (
       made2 (λ f. call.SetVar f.0 f.1) _ _ var value (numbered_read 118 0 last_var var (omega arith) m
           (omega (arith, m))) (value_read value h.2),
@@ -303,35 +306,35 @@ call_said (call.SetVar var value) task h =
     )
 
 -- the words of a line are a first one and others, at most five, and say it
-abbrev pub IsSaid : Line → Type 0
-IsSaid l = (word : List ℕ) × (words : List (List ℕ)) × (line_words l ≡ word ∷ words) × IsWord word
-    × AreWords words × (length words ≤ 5) × (words_at (word ∷ words) ≡ Ok l)
+abbrev pub IsSaid : Version → Line → Type 0
+IsSaid v l = (word : List ℕ) × (words : List (List ℕ)) × (line_words l ≡ word ∷ words) × IsWord word
+    × AreWords words × (length words ≤ 5) × (words_at v (word ∷ words) ≡ Ok l)
 
-said_call : (task : ℕ) (c : Call) (words : List (List ℕ)) → call_words c ≡ words → Says words c
-    → task ≤ last_by words → task ≤ last_task → IsSaid (line.Call task c)
-said_call task c [] is s fit most = absurd s
-said_call task c (name ∷ rest) is s fit most = (
+said_call : (v : Version) (task : ℕ) (c : Call) (words : List (List ℕ)) → call_words c ≡ words → Says v words c
+    → task ≤ last_by v words → task ≤ last_task v → IsSaid v (line.Call task c)
+said_call v task c [] is s fit most = absurd s
+said_call v task c (name ∷ rest) is s fit most = (
   codes "call",
   decimal task ∷ name ∷ rest,
   rw is refl,
   refl,
-  (number_word task (omega (arith, most)), (s.1, s.2)),
+  (number_word task (omega (arith, most, few_tasks v)), (s.1, s.2)),
   omega (arith, s.3),
   made2 (λ f. line.Call f.0 f.1) _ _ task c
-      (number_read 0 (last_of name rest) task (omega arith) fit (omega (arith, most))) s.0,
+      (number_read 0 (last_of v name rest) task (omega arith) fit (omega (arith, most, few_tasks v))) s.0,
 )
 
-pub line_said : (l : Line) → IsFit l → IsSaid l
-line_said (line.Call task c) h =
-    said_call task c (call_words c) refl (call_said c task h.1) (is_caller c task h.0 h.1.0) h.0
-line_said (line.Step task count) h = (
+pub line_said : (v : Version) (l : Line) → IsFit v l → IsSaid v l
+line_said v (line.Call task c) h =
+    said_call v task c (call_words c) refl (call_said v c task h.1) (is_caller v c task h.0 h.1.0) h.0
+line_said v (line.Step task count) h = (
   codes "step",
   decimal task ∷ decimal count ∷ [],
   refl,
   refl,
-  (number_word task (omega (arith, h.0)), (number_word count (omega (arith, h.2)), tt)),
+  (number_word task (omega (arith, h.0, few_tasks v)), (number_word count (omega (arith, h.2)), tt)),
   omega arith,
   made2 (λ f. line.Step f.0 f.1) _ _ task count
-      (number_read 0 last_task task (omega arith) h.0 (omega (arith, h.0)))
+      (number_read 0 (last_task v) task (omega arith) h.0 (omega (arith, h.0, few_tasks v)))
       (number_read 1 EVENTS count h.1 h.2 (omega (arith, h.2))),
 )

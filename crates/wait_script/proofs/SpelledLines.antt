@@ -19,7 +19,6 @@ use Rattle.std.proofs.Common.{
   Err,
   All,
   length,
-  codes,
   refl,
   ap,
   ◌∙◌,
@@ -37,11 +36,14 @@ use Rattle.std.specs.List.{join_with_byte, flat_map, list_all}
 use Rattle.wait_model.specs.declared.layout.TheConstants.{LINE_BYTES}
 use Rattle.wait_script.specs.declared.line.Line.{Line}
 use Rattle.wait_script.specs.declared.reason.Reason.TheVariants.{LongLine, BadByte}
+use Rattle.wait_script.specs.declared.version.Version.{Version}
+use Rattle.wait_script.specs.declared.version.Version.TheVariants.{One, Two}
 use Rattle.wait_script.specs.Words.{words_of}
-use Rattle.wait_script.specs.Lines.{words_at, line_at, is_printable}
-use Rattle.wait_script.specs.Script.{is_end, parts_of, and_lines, lines_from, script_of}
+use Rattle.wait_script.specs.Lines.{VersionedLines, words_at, header_at, line_at, is_printable}
+use Rattle.wait_script.specs.Script.{is_end, parts_of, and_lines, lines_from, versioned, script_of}
 use Rattle.wait_script.specs.Reading.{IsFirstLine}
-use Rattle.wait_script.specs.Spelling.{line_words, line_text, script_text, IsFit}
+use Rattle.wait_script.specs.Spelling.{line_words, line_text, script_text, IsFit, IsFitScript}
+use Rattle.wait_script.specs.Versions.{header_of}
 use Rattle.wait_script.proofs.LineParts.{lines_from-step, good_header}
 use Rattle.wait_script.proofs.SpelledWords.{both_true, parts_true, in_word, IsWord, AreWords}
 use Rattle.wait_script.proofs.SpelledForms.{line_said}
@@ -105,39 +107,39 @@ short word (next ∷ words) h hs =
     rw (length-append) (omega (arith, n, m))
 
 -- what is said by words is read from their text
-line_from : (l : Line) (word : List ℕ) (words : List (List ℕ)) → line_words l ≡ word ∷ words → IsWord word
-    → AreWords words → length words ≤ 5 → words_at (word ∷ words) ≡ Ok l
-    → (line_at (line_text l) ≡ Ok l) × (list_all is_printable (line_text l) ≡ true)
-line_from l word words is h hs few said =
+line_from : (v : Version) (l : Line) (word : List ℕ) (words : List (List ℕ)) → line_words l ≡ word ∷ words
+    → IsWord word → AreWords words → length words ≤ 5 → words_at v (word ∷ words) ≡ Ok l
+    → (line_at v (line_text l) ≡ Ok l) × (list_all is_printable (line_text l) ≡ true)
+line_from v l word words is h hs few said =
     let text : line_text l ≡ join_with_byte 32 (word ∷ words) = ap (join_with_byte 32) is in
     let print = ap (list_all is_printable) text ∙ words_print word words h hs in
     let cut : words_of (line_text l) ≡ word ∷ words = ap words_of text ∙ cut_words word words h hs in
     let most : nat_lt LINE_BYTES (length (line_text l)) ≡ false =
     ap (λ t. nat_lt LINE_BYTES (length t)) text
     ∙ fits (length (join_with_byte 32 (word ∷ words))) (length words) (short word words h hs) few in (
-      ap (λ b. cond b (Err LongLine) (cond (list_all is_printable (line_text l)) (words_at (words_of (line_text l)))
+      ap (λ b. cond b (Err LongLine) (cond (list_all is_printable (line_text l)) (words_at v (words_of (line_text l)))
           (Err BadByte))) most
-          ∙ ap (λ b. cond b (words_at (words_of (line_text l))) (Err BadByte)) print
-          ∙ ap words_at cut ∙ said,
+          ∙ ap (λ b. cond b (words_at v (words_of (line_text l))) (Err BadByte)) print
+          ∙ ap (words_at v) cut ∙ said,
       print,
     )
   where
     fits : (n m : ℕ) → n ≤ 20 + 21 * m → m ≤ 5 → nat_lt LINE_BYTES n ≡ false
     fits n m h few = let le : n ≤ LINE_BYTES = omega (arith, h, few) in grind (arith, nat_tests)
 
-read_back : (l : Line) → IsFit l → (line_at (line_text l) ≡ Ok l)
+read_back : (v : Version) (l : Line) → IsFit v l → (line_at v (line_text l) ≡ Ok l)
     × (list_all is_printable (line_text l) ≡ true)
-read_back l h = let s = line_said l h in line_from l s.0 s.1 s.2 s.3 s.4 s.5 s.6
+read_back v l h = let s = line_said v l h in line_from v l s.0 s.1 s.2 s.3 s.4 s.5 s.6
 
 -- a line that is spelled so at the front is read first
-pub spelled_first : (bytes : List ℕ) (l : Line) (more : List ℕ) → IsFit l → bytes ≡ line_text l ++ 10 ∷ more
-    → IsFirstLine bytes (Ok l) more
-spelled_first bytes l more fit e = λ number.
-    ap (λ b. lines_from number (parts_of b)) e
-    ∙ ap (lines_from number) (slice_split_at is_end (line_text l) 10 more
-    (all_of is_printable _ no_end (line_text l) (read_back l fit).1) refl)
-    ∙ lines_from-step number (line_text l) more
-    ∙ ap (λ r. and_lines number r (lines_from (number + 1) (parts_of more))) (read_back l fit).0
+pub spelled_first : (v : Version) (bytes : List ℕ) (l : Line) (more : List ℕ) → IsFit v l
+    → bytes ≡ line_text l ++ 10 ∷ more → IsFirstLine v bytes (Ok l) more
+spelled_first v bytes l more fit e = λ number.
+    ap (λ b. lines_from v number (parts_of b)) e
+    ∙ ap (lines_from v number) (slice_split_at is_end (line_text l) 10 more
+    (all_of is_printable _ no_end (line_text l) (read_back v l fit).1) refl)
+    ∙ lines_from-step v number (line_text l) more
+    ∙ ap (λ r. and_lines number r (lines_from v (number + 1) (parts_of more))) (read_back v l fit).0
 
 pub shorter : (bytes text more : List ℕ) → bytes ≡ text ++ 10 ∷ more → length more < length bytes
 shorter bytes text more e = let l = length-append text (10 ∷ more) in
@@ -146,27 +148,35 @@ shorter bytes text more e = let l = length-append text (10 ∷ more) in
 abbrev ended : Line → List ℕ
 ended l = line_text l ++ 10 ∷ []
 
-next_part : (l : Line) (lines : List Line) → IsFit l
+next_part : (v : Version) (l : Line) (lines : List Line) → IsFit v l
     → parts_of (flat_map ended (l ∷ lines)) ≡ line_text l ∷ parts_of (flat_map ended lines)
-next_part l lines h =
+next_part v l lines h =
     ap parts_of (append_assoc (line_text l) (10 ∷ []) (flat_map ended lines))
     ∙ slice_split_at is_end (line_text l) 10 (flat_map ended lines)
-    (all_of is_printable _ no_end (line_text l) (read_back l h).1) refl
+    (all_of is_printable _ no_end (line_text l) (read_back v l h).1) refl
 
-lines_read : (number : ℕ) (lines : List Line) → All IsFit lines
-    → lines_from number (parts_of (flat_map ended lines)) ≡ Ok lines
-lines_read number [] h = refl
-lines_read number (l ∷ lines) h =
-    let fit = All-head IsFit l lines h in
-    ap (lines_from number) (next_part l lines fit)
-    ∙ lines_from-step number (line_text l) (flat_map ended lines)
-    ∙ ap (λ r. and_lines number r (lines_from (number + 1) (parts_of (flat_map ended lines))))
-    (read_back l fit).0
-    ∙ ap (and_lines number (Ok l)) (lines_read (number + 1) lines (All-tail IsFit l lines h))
+lines_read : (v : Version) (number : ℕ) (lines : List Line) → All (IsFit v) lines
+    → lines_from v number (parts_of (flat_map ended lines)) ≡ Ok lines
+lines_read v number [] h = refl
+lines_read v number (l ∷ lines) h =
+    let fit = All-head (IsFit v) l lines h in
+    ap (lines_from v number) (next_part v l lines fit)
+    ∙ lines_from-step v number (line_text l) (flat_map ended lines)
+    ∙ ap (λ r. and_lines number r (lines_from v (number + 1) (parts_of (flat_map ended lines))))
+    (read_back v l fit).0
+    ∙ ap (and_lines number (Ok l)) (lines_read v (number + 1) lines (All-tail (IsFit v) l lines h))
 
-pub script_read : (lines : List Line) → All IsFit lines → script_of (script_text lines) ≡ Ok lines
-script_read lines h =
-    good_header (script_text lines) (codes "waitq 1") (flat_map ended lines) tt lines
-    (slice_split_at is_end (codes "waitq 1") 10 (flat_map ended lines)
-    (all_of is_printable _ no_end (codes "waitq 1") refl) refl)
-    refl (lines_read 2 lines h)
+-- the first line of a version names it, and is one line
+header_read : (v : Version) → (header_at (header_of v) ≡ Ok v) × (list_all is_printable (header_of v) ≡ true)
+header_read One = (refl, refl)
+header_read Two = (refl, refl)
+
+pub script_read : (s : VersionedLines) → IsFitScript s → script_of (script_text s) ≡ Ok s
+script_read s h =
+    let header = header_of s.version in
+    let more = flat_map ended s.lines in
+    let read = header_read s.version in
+    good_header (script_text s) header more s.version
+    (slice_split_at is_end header 10 more (all_of is_printable _ no_end header read.1) refl)
+    read.0
+    ∙ ap (versioned s.version) (lines_read s.version 2 s.lines h)

@@ -3,8 +3,8 @@ use Rattle.std.proofs.Common.{◌≡◌, ℕ, ◌<◌, ◌≤◌, List, [], ◌�
 use denote.Ref.{Bor}
 use Rattle.wait_model.specs.declared.calls.Call.{Call}
 use Rattle.wait_script.specs.declared.reason.Reason.{Reason}
-use Rattle.wait_script.specs.declared.reason.Reason.{Reason}
 use Rattle.wait_script.specs.declared.reason.Reason.TheVariants.{WordCount}
+use Rattle.wait_script.specs.declared.version.Version.{Version}
 use Rattle.wait_script.specs.Words.{both_of, made_of}
 use Rattle.wait_script.specs.Forms.{form1, form2, form3}
 use Rattle.wait_script.specs.Lines.{step_at, call_at}
@@ -52,12 +52,14 @@ at3 f g h make (a ∷ b ∷ []) d n m = absurd (omega arith)
 at3 f g h make (a ∷ b ∷ c ∷ []) d n m = refl
 at3 f g h make (a ∷ b ∷ c ∷ e ∷ more) d n m = absurd (omega arith)
 
-pub few_step : (words : List (Bor (List ℕ))) → length words < 2 → Err WordCount ≡ step_at (map (λ w. w.now) words)
-few_step [] n = refl
-few_step (a ∷ []) n = refl
-few_step (a ∷ b ∷ more) n = absurd (omega arith)
+pub few_step : (v : Version) (words : List (Bor (List ℕ))) → length words < 2
+    → Err WordCount ≡ step_at v (map (λ w. w.now) words)
+few_step v [] n = refl
+few_step v (a ∷ []) n = refl
+few_step v (a ∷ b ∷ more) n = absurd (omega arith)
 
-pub few_call : (words : List (Bor (List ℕ))) → length words < 2 → Err WordCount ≡ call_at (map (λ w. w.now) words)
-few_call [] n = refl
-few_call (a ∷ []) n = refl
-few_call (a ∷ b ∷ more) n = absurd (omega arith)
+pub few_call : (v : Version) (words : List (Bor (List ℕ))) → length words < 2
+    → Err WordCount ≡ call_at v (map (λ w. w.now) words)
+few_call v [] n = refl
+few_call v (a ∷ []) n = refl
+few_call v (a ∷ b ∷ more) n = absurd (omega arith)

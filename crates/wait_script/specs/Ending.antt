@@ -1,42 +1,17 @@
 -- The end lines of a text: the number of events, the tasks, the heads that have members, and the condition
 -- words that are not 0. (To be believed.)
-use Rattle.std.specs.Prelude.{
-  ℕ,
-  zero,
-  suc,
-  ◌+◌,
-  ◌-◌,
-  List,
-  [],
-  ◌∷◌,
-  ◌++◌,
-  Bool,
-  nat_lt,
-  if◌then◌else◌,
-  ◌==◌,
-  codes,
-  decimal,
-}
+use Rattle.std.specs.Prelude.{ℕ, zero, suc, ◌+◌, ◌-◌, List, [], ◌∷◌, ◌++◌, Bool, if◌then◌else◌, ◌==◌, codes, decimal}
 use Rattle.std.specs.List.{flat_map}
 use Rattle.std.specs.declared.option.Option.{Option}
 use Rattle.std.specs.declared.option.Option.TheVariants.{Some, None}
 use Rattle.wait_model.specs.declared.calls.Ran.{Ran}
-use Rattle.wait_model.specs.declared.layout.TheConstants.{
-  CONDITIONS,
-  ENTRIES,
-  FIRST_BIT_WORD,
-  FIRST_DONE,
-  FIRST_VARIABLE,
-  HEADS,
-  SCRIPT_TASKS,
-}
+use Rattle.wait_model.specs.declared.layout.TheConstants.{CONDITIONS, ENTRIES, HEADS, TASKS}
 use Rattle.wait_model.specs.declared.queues.Member.{Member}
 use Rattle.wait_model.specs.declared.tasks.TaskRecord.{TaskRecord}
 use Rattle.wait_model.specs.Runs.{State, state_of, made_in}
 use Rattle.wait_model.specs.Queues.{is_entry}
 use Rattle.wait_model.specs.Watches.{owner}
-use Rattle.wait_model.specs.Locations.{Location, word_in, cond_at}
-use Rattle.wait_model.specs.Locations as location
+use Rattle.wait_model.specs.Locations.{word_in, cond_at}
 use Rattle.wait_core.specs.Stepped.{call_shown}
 use Rattle.wait_script.specs.Text.{state_text, cond_text}
 
@@ -92,9 +67,9 @@ line_of_head s head = head_text head (s.queue head)
 abbrev pub line_of_word : State → ℕ → List ℕ
 line_of_word s cond = word_text cond (word_in s.table (cond_at cond))
 
--- the lines of all tasks of a script, of all heads and of all condition words, each by rising number
+-- the lines of all tasks, of all heads and of all condition words, each by rising number
 abbrev pub tasks_text : State → List ℕ
-tasks_text s = texts_from (line_of_task s) 0 SCRIPT_TASKS
+tasks_text s = texts_from (line_of_task s) 0 TASKS
 
 abbrev pub heads_text : State → List ℕ
 heads_text s = texts_from (line_of_head s) 0 HEADS

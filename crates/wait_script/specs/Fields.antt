@@ -38,7 +38,6 @@ use Rattle.wait_model.specs.declared.layout.TheConstants.{
   FIRST_SIMPLE,
   PLAIN_CONDITIONS,
   PRIORITY_TASKS,
-  SCRIPT_TASKS,
   VARIABLES,
   WORD_BITS,
 }
@@ -47,10 +46,7 @@ use Rattle.wait_script.specs.declared.reason.Reason.TheVariants.{BadNumber, BadF
 use Rattle.wait_script.specs.Number.{numeral_value}
 use Rattle.wait_script.specs.Words.{both_of}
 
--- the last task of a script, and the last that adds with priority
-abbrev pub last_task : ℕ
-last_task = SCRIPT_TASKS - 1
-
+-- the last task that adds with priority
 abbrev pub last_priority_task : ℕ
 last_priority_task = PRIORITY_TASKS - 1
 

@@ -26,10 +26,12 @@ use Rattle.wait_model.specs.declared.watches.Mode.{Mode}
 use Rattle.wait_model.specs.declared.watches.Mode.TheVariants as mode
 use Rattle.wait_model.specs.declared.watches.Kind.{Kind}
 use Rattle.wait_model.specs.declared.watches.Kind.TheVariants as kind
-use Rattle.wait_model.specs.declared.layout.TheConstants.{FIRST_SIMPLE, SCRIPT_SELECTED}
+use Rattle.wait_model.specs.declared.layout.TheConstants.{FIRST_SIMPLE}
 use Rattle.wait_script.specs.declared.reason.Reason.{Reason}
 use Rattle.wait_script.specs.declared.reason.Reason.TheVariants.{UnknownWord, WordCount}
+use Rattle.wait_script.specs.declared.version.Version.{Version}
 use Rattle.wait_script.specs.Text.{form_text, bit_text}
+use Rattle.wait_script.specs.Versions.{last_task, most_selected}
 use Rattle.wait_script.specs.Words.{both_of, made_of}
 use Rattle.wait_script.specs.Fields.{
   number_at,
@@ -46,7 +48,6 @@ use Rattle.wait_script.specs.Fields.{
   form_at,
   fatal_at,
   all_at,
-  last_task,
   last_priority_task,
   last_full,
   last_cond,
@@ -84,9 +85,9 @@ take_at words = form1 (cond_field 0 last_cond) (λ cond. call.Take cond) words
 abbrev pub read_at : List (List ℕ) → Result Call Reason
 read_at words = form1 (cond_field 0 last_cond) (λ cond. call.Read cond) words
 
-abbrev pub wake_at : List (List ℕ) → Result Call Reason
-wake_at words =
-    form3 (cond_field 0 last_full) mode_at (number_at 0 SCRIPT_SELECTED)
+abbrev pub wake_at : Version → List (List ℕ) → Result Call Reason
+wake_at version words =
+    form3 (cond_field 0 last_full) mode_at (number_at 0 (most_selected version))
     (λ cond mode count. call.Wake cond mode count) words
 
 abbrev pub add_at : List (List ℕ) → Result Call Reason
@@ -98,14 +99,14 @@ remove_at words = form0 call.Remove words
 abbrev pub woken_at : List (List ℕ) → Result Call Reason
 woken_at words = form1 state_at (λ state. call.Woken state) words
 
-abbrev pub signal_at : List (List ℕ) → Result Call Reason
-signal_at words = form2 (number_at 0 last_task) fatal_at (λ who fatal. call.Signal who fatal) words
+abbrev pub signal_at : Version → List (List ℕ) → Result Call Reason
+signal_at version words = form2 (number_at 0 (last_task version)) fatal_at (λ who fatal. call.Signal who fatal) words
 
 abbrev pub accept_at : List (List ℕ) → Result Call Reason
 accept_at words = form0 call.Accept words
 
-abbrev pub kick_at : List (List ℕ) → Result Call Reason
-kick_at words = form1 (number_at 0 last_task) (λ who. call.Kick who) words
+abbrev pub kick_at : Version → List (List ℕ) → Result Call Reason
+kick_at version words = form1 (number_at 0 (last_task version)) (λ who. call.Kick who) words
 
 abbrev pub simple_wait_at : List (List ℕ) → Result Call Reason
 simple_wait_at words =
@@ -152,19 +153,19 @@ abbrev pub set_var_at : List (List ℕ) → Result Call Reason
 set_var_at words = form2 var_at value_at (λ var value. call.SetVar var value) words
 
 -- the calls by their names
-abbrev pub call_forms : List (List ℕ × (List (List ℕ) → Result Call Reason))
-call_forms =
+abbrev pub call_forms : Version → List (List ℕ × (List (List ℕ) → Result Call Reason))
+call_forms version =
     (codes "wait", wait_at)
     ∷ (codes "set", set_at)
     ∷ (codes "take", take_at)
     ∷ (codes "read", read_at)
-    ∷ (codes "wake", wake_at)
+    ∷ (codes "wake", wake_at version)
     ∷ (codes "add", add_at)
     ∷ (codes "remove", remove_at)
     ∷ (codes "woken", woken_at)
-    ∷ (codes "signal", signal_at)
+    ∷ (codes "signal", signal_at version)
     ∷ (codes "accept", accept_at)
-    ∷ (codes "kick", kick_at)
+    ∷ (codes "kick", kick_at version)
     ∷ (codes "swait", simple_wait_at)
     ∷ (codes "swake", simple_wake_at)
     ∷ (codes "complete", complete_at)
@@ -187,8 +188,8 @@ abbrev pub call_in : List (List ℕ × (List (List ℕ) → Result Call Reason))
 call_in [] name rest = Err UnknownWord
 call_in (entry ∷ table) name rest = if bytes_eq name entry.0 then entry.1 rest else call_in table name rest
 
-abbrev pub named_at : List ℕ → List (List ℕ) → Result Call Reason
-named_at name rest = call_in call_forms name rest
+abbrev pub named_at : Version → List ℕ → List (List ℕ) → Result Call Reason
+named_at version name rest = call_in (call_forms version) name rest
 
 -- an `add` with `prio` in its place
 abbrev pub is_priority_add : List ℕ → List (List ℕ) → Bool
@@ -196,8 +197,8 @@ is_priority_add name (cond ∷ kind ∷ form ∷ more) = bytes_eq name (codes "a
 is_priority_add name words = false
 
 -- the last task that may make a call: priority entries belong to the first tasks alone
-abbrev pub last_of : List ℕ → List (List ℕ) → ℕ
-last_of name rest = if is_priority_add name rest then last_priority_task else last_task
+abbrev pub last_of : Version → List ℕ → List (List ℕ) → ℕ
+last_of version name rest = if is_priority_add name rest then last_priority_task else last_task version
 
 -- how each field and each call is spelled
 abbrev pub cond_word : ℕ → List ℕ

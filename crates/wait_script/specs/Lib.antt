@@ -9,4 +9,5 @@ pub mod Replay
 pub mod Script
 pub mod Spelling
 pub mod Text
+pub mod Versions
 pub mod Words

@@ -22,28 +22,37 @@ use Rattle.wait_script.specs.declared.line.Line.{Line}
 use Rattle.wait_script.specs.declared.line.Line.TheVariants as line
 use Rattle.wait_script.specs.declared.reason.Reason.{Reason}
 use Rattle.wait_script.specs.declared.reason.Reason.TheVariants.{LongLine, BadByte, NoHeader, UnknownWord, WordCount}
-use Rattle.wait_script.specs.Fields.{number_at, last_task}
+use Rattle.wait_script.specs.declared.version.Version.{Version}
+use Rattle.wait_script.specs.declared.version.Version.TheVariants.{One, Two}
+use Rattle.wait_script.specs.Fields.{number_at}
 use Rattle.wait_script.specs.Forms.{named_at, last_of}
+use Rattle.wait_script.specs.Versions.{header_of, last_task}
 use Rattle.wait_script.specs.Words.{words_of, both_of, made_of}
 
+-- a script: the version of its grammar, and the lines after its header
+pub record VersionedLines : Type 0 where
+  pub version : Version
+  pub lines : List Line
+
 -- `step TASK COUNT`, by the words after the first
-abbrev pub step_at : List (List ℕ) → Result Line Reason
-step_at (task ∷ count ∷ []) =
-    made_of (λ f. line.Step f.0 f.1) (both_of (number_at 0 last_task task) (number_at 1 EVENTS count))
-step_at words = Err WordCount
+abbrev pub step_at : Version → List (List ℕ) → Result Line Reason
+step_at version (task ∷ count ∷ []) =
+    made_of (λ f. line.Step f.0 f.1) (both_of (number_at 0 (last_task version) task) (number_at 1 EVENTS count))
+step_at version words = Err WordCount
 
 -- `call TASK NAME ..`, by the words after the first
-abbrev pub call_at : List (List ℕ) → Result Line Reason
-call_at (task ∷ name ∷ rest) =
-    made_of (λ f. line.Call f.0 f.1) (both_of (number_at 0 (last_of name rest) task) (named_at name rest))
-call_at words = Err WordCount
+abbrev pub call_at : Version → List (List ℕ) → Result Line Reason
+call_at version (task ∷ name ∷ rest) =
+    made_of (λ f. line.Call f.0 f.1)
+    (both_of (number_at 0 (last_of version name rest) task) (named_at version name rest))
+call_at version words = Err WordCount
 
 -- a line by its words
-abbrev pub words_at : List (List ℕ) → Result Line Reason
-words_at [] = Err UnknownWord
-words_at (verb ∷ rest) =
-    if bytes_eq verb (codes "call") then call_at rest else (if bytes_eq verb (codes "step") then step_at rest
-    else Err UnknownWord)
+abbrev pub words_at : Version → List (List ℕ) → Result Line Reason
+words_at version [] = Err UnknownWord
+words_at version (verb ∷ rest) =
+    if bytes_eq verb (codes "call") then call_at version rest
+    else (if bytes_eq verb (codes "step") then step_at version rest else Err UnknownWord)
 
 abbrev pub is_printable : ℕ → Bool
 is_printable b = nat_le 32 b && nat_le b 126
@@ -54,13 +63,18 @@ plain_at says line =
     if nat_lt LINE_BYTES (length line) then Err LongLine else (if list_all is_printable line then says line
     else Err BadByte)
 
+-- the version whose first line a text is
+abbrev pub version_at : List ℕ → Result Version Reason
+version_at text =
+    if bytes_eq text (header_of One) then Ok One else (if bytes_eq text (header_of Two) then Ok Two else Err NoHeader)
+
 -- line 1
-abbrev pub header_at : List ℕ → Result (Unit {0}) Reason
-header_at line = plain_at (λ text. if bytes_eq text (codes "waitq 1") then Ok tt else Err NoHeader) line
+abbrev pub header_at : List ℕ → Result Version Reason
+header_at line = plain_at version_at line
 
 -- a line after it
-abbrev pub line_at : List ℕ → Result Line Reason
-line_at line = plain_at (λ text. words_at (words_of text)) line
+abbrev pub line_at : Version → List ℕ → Result Line Reason
+line_at version line = plain_at (λ text. words_at version (words_of text)) line
 
 -- how many events a line asks for
 abbrev pub events_asked : Line → ℕ

@@ -19,6 +19,7 @@ use Rattle.std.specs.Str.{all_ascii_digits}
 use Rattle.std.specs.Str.Parse.{digits_value}
 use Rattle.wait_script.specs.declared.line.Line.{Line}
 use Rattle.wait_script.specs.declared.reason.Reason.{Reason}
+use Rattle.wait_script.specs.declared.version.Version.{Version}
 use Rattle.wait_script.specs.Script.{parts_of, and_lines, lines_from}
 
 -- what ends a word: the space, and a byte that is no plain text
@@ -34,7 +35,7 @@ abbrev pub digits_of : List ℕ → Option ℕ
 digits_of word = if all_ascii_digits word then fitting (digits_value 10 word) else None
 
 -- the first line that bytes have says this, and after its end they go on so
-abbrev pub IsFirstLine : List ℕ → Result Line Reason → List ℕ → Type 0
-IsFirstLine bytes line more =
-    (number : ℕ) → lines_from number (parts_of bytes)
-    ≡ and_lines number line (lines_from (number + 1) (parts_of more))
+abbrev pub IsFirstLine : Version → List ℕ → Result Line Reason → List ℕ → Type 0
+IsFirstLine version bytes line more =
+    (number : ℕ) → lines_from version number (parts_of bytes)
+    ≡ and_lines number line (lines_from version (number + 1) (parts_of more))

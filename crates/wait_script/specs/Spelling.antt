@@ -9,6 +9,7 @@ use Rattle.std.specs.Prelude.{
   [],
   ◌∷◌,
   ◌++◌,
+  All,
   true,
   codes,
   decimal,
@@ -17,7 +18,7 @@ use Rattle.std.specs.List.{flat_map, join_with_byte}
 use Rattle.wait_model.specs.declared.calls.Call.{Call}
 use Rattle.wait_model.specs.declared.calls.Call.TheVariants as call
 use Rattle.wait_model.specs.Admission.{is_in_range, IsListed}
-use Rattle.wait_model.specs.declared.layout.TheConstants.{EVENTS, SCRIPT_SELECTED}
+use Rattle.wait_model.specs.declared.layout.TheConstants.{EVENTS}
 pub use Rattle.wait_script.specs.Forms.{
   cond_word,
   cell_word,
@@ -30,9 +31,11 @@ pub use Rattle.wait_script.specs.Forms.{
   extent_word,
   call_words,
 }
-use Rattle.wait_script.specs.Fields.{last_task}
 use Rattle.wait_script.specs.declared.line.Line.{Line}
 use Rattle.wait_script.specs.declared.line.Line.TheVariants as line
+use Rattle.wait_script.specs.declared.version.Version.{Version}
+use Rattle.wait_script.specs.Lines.{VersionedLines}
+use Rattle.wait_script.specs.Versions.{header_of, last_task, most_selected}
 
 abbrev pub line_words : Line → List (List ℕ)
 line_words (line.Call task call) = codes "call" ∷ decimal task ∷ call_words call
@@ -42,8 +45,9 @@ line_words (line.Step task count) = codes "step" ∷ decimal task ∷ decimal co
 abbrev pub line_text : Line → List ℕ
 line_text l = join_with_byte 32 (line_words l)
 
-abbrev pub script_text : List Line → List ℕ
-script_text lines = codes "waitq 1\n" ++ flat_map (λ l. line_text l ++ 10 ∷ []) lines
+-- the header, and the lines after it
+abbrev pub script_text : VersionedLines → List ℕ
+script_text script = header_of script.version ++ 10 ∷ flat_map (λ l. line_text l ++ 10 ∷ []) script.lines
 
 -- the number of 64 bits in a call
 abbrev pub number_in_call : Call → ℕ
@@ -52,18 +56,28 @@ number_in_call (call.WaitVar var old state) = old
 number_in_call (call.SetVar var value) = value
 number_in_call call = 0
 
--- a script has fewer tasks than a core, and a wake of it selects fewer entries
-abbrev pub IsSmall : Call → Type 0
-IsSmall (call.Wake cond mode count) = count ≤ SCRIPT_SELECTED
-IsSmall (call.Signal who fatal) = who ≤ last_task
-IsSmall (call.Kick who) = who ≤ last_task
-IsSmall call = Unit {0}
+-- a version may have fewer tasks than a core, and wakes that select fewer entries
+abbrev pub IsOfVersion : Version → Call → Type 0
+IsOfVersion version (call.Wake cond mode count) = count ≤ most_selected version
+IsOfVersion version (call.Signal who fatal) = who ≤ last_task version
+IsOfVersion version (call.Kick who) = who ≤ last_task version
+IsOfVersion version call = Unit {0}
 
 -- the call is one that there is, and its numbers are in their ranges
-abbrev pub IsFitCall : ℕ → Call → Type 0
-IsFitCall task c = (is_in_range task c ≡ true) × IsListed c × (number_in_call c < 2 ^ 64) × IsSmall c
+abbrev pub IsFitCall : Version → ℕ → Call → Type 0
+IsFitCall version task c =
+    (is_in_range task c ≡ true) × IsListed c × (number_in_call c < 2 ^ 64) × IsOfVersion version c
 
 -- the same of a line
-abbrev pub IsFit : Line → Type 0
-IsFit (line.Call task c) = (task ≤ last_task) × IsFitCall task c
-IsFit (line.Step task count) = (task ≤ last_task) × (1 ≤ count) × (count ≤ EVENTS)
+abbrev pub IsFit : Version → Line → Type 0
+IsFit version (line.Call task c) = (task ≤ last_task version) × IsFitCall version task c
+IsFit version (line.Step task count) = (task ≤ last_task version) × (1 ≤ count) × (count ≤ EVENTS)
+
+-- and of a script
+abbrev pub IsFitScript : VersionedLines → Type 0
+IsFitScript script = All (IsFit script.version) script.lines
+
+-- what a core asks of a line
+abbrev pub IsPlayable : Line → Type 0
+IsPlayable (line.Call task c) = IsListed c
+IsPlayable (line.Step task count) = Unit {0}

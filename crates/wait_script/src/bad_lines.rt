@@ -1,6 +1,6 @@
 //! Lines that are bad, for the tests.
 
-/// Bad lines, each after its first reason and a space.
+/// Lines that are bad in version 1, each after its first reason and a space.
 pub const BAD_LINES: &str = "\
 3 step\t1 1\n\
 3 call 1 hop\x7f\n\
@@ -116,3 +116,25 @@ pub const BAD_LINES: &str = "\
 9 call 1 waitbit c0.0 int\n\
 9 call 1 waitvar v128 0 int\n\
 9 call 1 setvar b0 1";
+
+/// Lines that are bad in version 2, each after its first reason and a space.
+pub const BAD_LINES_OF_VERSION_2: &str = "\
+5 call 256 hop\n\
+6 step 256\n\
+6 call 255 add c0 woken prio 1\n\
+7 step 256 1\n\
+7 step 65536 1\n\
+7 step 255 1000001\n\
+7 call 256 accept\n\
+7 call 256 wait c99 bad\n\
+7 call 1 wake c0 normal 256\n\
+7 call 1 wake c99 bad 256\n\
+7 call 64 add c0 default prio\n\
+7 call 255 add c99 bad prio\n\
+7 call 1 signal 256 plain\n\
+7 call 1 kick 256\n\
+8 call 128 wait c99 bad\n\
+8 call 1 wake c99 bad 255\n\
+8 call 255 add c0 default back\n\
+9 call 255 wait c50 plain\n\
+9 call 63 add c99 woken prio";

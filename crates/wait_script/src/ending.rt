@@ -11,7 +11,7 @@ use crate::pieces::LineText;
 use crate::summary::{push_events, push_head_front, push_member, push_task_end, push_word};
 use edge_io::{Sink, SinkFault, write_all};
 use wait_core::Core;
-use wait_model::layout::{CONDITION_AT, CONDITIONS, HEADS, SCRIPT_TASKS};
+use wait_model::layout::{CONDITION_AT, CONDITIONS, HEADS, TASKS};
 use wait_model::queues::Member;
 
 /// Writes the line of the number of events.
@@ -27,7 +27,6 @@ fn write_events<K: Sink>(out: &mut K, events: u32) -> Result<(), SinkFault>
 
 /// Writes the line of a task that ever had a call opened.
 fn write_task<K: Sink>(out: &mut K, core: &Core, task: u8) -> Result<(), SinkFault>
-    requires { task < SCRIPT_TASKS }
     ensures text { WritesText (K.held out.old) (K.held out.new) (line_of_task (state_of core.now) task) result }
     ensures cause { IsErrOf result SinkFault.Failed → HasRisen (K.faults out.old) (K.faults out.new) }
     ensures later { K.faults out.old ≤ K.faults out.new }
@@ -40,14 +39,14 @@ fn write_task<K: Sink>(out: &mut K, core: &Core, task: u8) -> Result<(), SinkFau
     write_all(out, line.as_slice())
 }
 
-/// Writes the lines of the tasks that a script has.
+/// Writes the lines of the tasks.
 fn write_tasks<K: Sink>(out: &mut K, core: &Core) -> Result<(), SinkFault>
     ensures text { WritesText (K.held out.old) (K.held out.new) (tasks_text (state_of core.now)) result }
     ensures cause { IsErrOf result SinkFault.Failed → HasRisen (K.faults out.old) (K.faults out.new) }
     ensures later { K.faults out.old ≤ K.faults out.new }
 {
-    for task in 0..SCRIPT_TASKS as u8 {
-        write_task(out, core, task)?;
+    for task in 0..TASKS {
+        write_task(out, core, task as u8)?;
     }
     Ok(())
 }

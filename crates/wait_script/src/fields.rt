@@ -9,15 +9,10 @@ ghost use Rattle.wait_script.specs.declared.reason.Reason.TheVariants.{BadCondit
 use crate::number::number;
 use crate::reason::Reason;
 use crate::words::both;
-use wait_model::layout::{
-    BIT_WORDS, COMPLETIONS, PRIORITY_TASKS, SCRIPT_TASKS, VARIABLES, WORD_BITS,
-};
+use wait_model::layout::{BIT_WORDS, COMPLETIONS, PRIORITY_TASKS, VARIABLES, WORD_BITS};
 use wait_model::queues::Form;
 use wait_model::tasks::{How, SleepState};
 use wait_model::watches::{Kind, Mode};
-
-/// The last task of a script; the first is 0.
-pub const LAST_TASK: u8 = SCRIPT_TASKS as u8 - 1;
 
 /// The last task that adds an entry with priority.
 pub const LAST_PRIORITY_TASK: u8 = PRIORITY_TASKS as u8 - 1;

@@ -10,13 +10,13 @@ use crate::cells::{
     simple_wake, try_bit, try_wait, wait_bit, wait_for, wait_var,
 };
 use crate::fields::{
-    LAST_PRIORITY_TASK, LAST_TASK, condition, count, fatal, form, how, kind, mode, state, task,
-    value,
+    LAST_PRIORITY_TASK, condition, count, fatal, form, how, kind, mode, state, task, value,
 };
 use crate::reason::Reason;
+use crate::version::Version;
 use crate::words::both;
 use wait_model::calls::Call;
-use wait_model::layout::{FIRST_SIMPLE, PLAIN_CONDITIONS, SCRIPT_SELECTED};
+use wait_model::layout::{FIRST_SIMPLE, PLAIN_CONDITIONS};
 
 /// The last condition of a full wait queue, and the last of all.
 const LAST_FULL: u8 = FIRST_SIMPLE as u8 - 1;
@@ -84,15 +84,15 @@ fn read(words: &[&[u8]]) -> Result<Call, Reason>
 
 /// `wake CONDITION MODE COUNT`, by the words after the name.
 #[tactic(auto, using(crate::proofs::WordCounts::few3))]
-fn wake(words: &[&[u8]]) -> Result<Call, Reason>
-    ensures { result ≡ spec.wake_at (map (λ w. w.now) words.now) }
+fn wake(version: Version, words: &[&[u8]]) -> Result<Call, Reason>
+    ensures { result ≡ spec.wake_at version (map (λ w. w.now) words.now) }
 {
     let [cond, by, number] = words else {
         return Err(Reason::WordCount);
     };
     let (cond, (mode, count)) = both(
         condition(cond, 0, LAST_FULL),
-        both(mode(by), count(number, 0, SCRIPT_SELECTED)),
+        both(mode(by), count(number, 0, version.most_selected())),
     )?;
     Ok(Call::Wake { cond, mode, count })
 }
@@ -123,44 +123,44 @@ fn woken(words: &[&[u8]]) -> Result<Call, Reason>
 
 /// `signal TASK FORM`, by the words after the name.
 #[tactic(auto, using(crate::proofs::WordCounts::few2))]
-fn signal(words: &[&[u8]]) -> Result<Call, Reason>
-    ensures { result ≡ spec.signal_at (map (λ w. w.now) words.now) }
+fn signal(version: Version, words: &[&[u8]]) -> Result<Call, Reason>
+    ensures { result ≡ spec.signal_at version (map (λ w. w.now) words.now) }
 {
     let [to, form] = words else {
         return Err(Reason::WordCount);
     };
-    let (who, fatal) = both(task(to, LAST_TASK), fatal(form))?;
+    let (who, fatal) = both(task(to, version.last_task()), fatal(form))?;
     Ok(Call::Signal { who, fatal })
 }
 
 /// `kick TASK`, by the words after the name.
 #[tactic(auto, using(crate::proofs::WordCounts::few1))]
-fn kick(words: &[&[u8]]) -> Result<Call, Reason>
-    ensures { result ≡ spec.kick_at (map (λ w. w.now) words.now) }
+fn kick(version: Version, words: &[&[u8]]) -> Result<Call, Reason>
+    ensures { result ≡ spec.kick_at version (map (λ w. w.now) words.now) }
 {
     let [to] = words else {
         return Err(Reason::WordCount);
     };
-    let who = task(to, LAST_TASK)?;
+    let who = task(to, version.last_task())?;
     Ok(Call::Kick { who })
 }
 
-/// A call by its name and the words after it.
-pub fn named(name: &[u8], rest: &[&[u8]]) -> Result<Call, Reason>
-    ensures { result ≡ spec.named_at name.now (map (λ w. w.now) rest.now) }
+/// A call of a script of this version, by its name and the words after it.
+pub fn named(version: Version, name: &[u8], rest: &[&[u8]]) -> Result<Call, Reason>
+    ensures { result ≡ spec.named_at version name.now (map (λ w. w.now) rest.now) }
 {
     match name {
         b"wait" => wait(rest),
         b"set" => set(rest),
         b"take" => take(rest),
         b"read" => read(rest),
-        b"wake" => wake(rest),
+        b"wake" => wake(version, rest),
         b"add" => add(rest),
         b"remove" => alone(rest, Call::Remove),
         b"woken" => woken(rest),
-        b"signal" => signal(rest),
+        b"signal" => signal(version, rest),
         b"accept" => alone(rest, Call::Accept),
-        b"kick" => kick(rest),
+        b"kick" => kick(version, rest),
         b"swait" => simple_wait(rest),
         b"swake" => simple_wake(rest),
         b"complete" => complete(rest),
@@ -193,12 +193,12 @@ fn is_prio(word: &[u8]) -> bool
     matches!(word, b"prio")
 }
 
-/// The last task that may make a call: an `add` with priority is for the first tasks alone.
-pub fn last_of(name: &[u8], rest: &[&[u8]]) -> u8
-    ensures { result ≡ spec.last_of name.now (map (λ w. w.now) rest.now) }
+/// The last task that may make a call in a script of this version: an `add` with priority is for the first tasks alone.
+pub fn last_of(version: Version, name: &[u8], rest: &[&[u8]]) -> u8
+    ensures { result ≡ spec.last_of version name.now (map (λ w. w.now) rest.now) }
 {
     match rest {
         [_, _, form, ..] if is_add(name) && is_prio(form) => LAST_PRIORITY_TASK,
-        _ => LAST_TASK,
+        _ => version.last_task(),
     }
 }

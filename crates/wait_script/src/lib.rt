@@ -20,6 +20,7 @@ mod summary;
 #[cfg(test)]
 mod tests;
 mod text;
+mod version;
 mod words;
 mod writer;
 
@@ -30,4 +31,5 @@ pub use pieces::{LineText, push_number, push_text};
 pub use reader::{asked, read_script};
 pub use reason::Reason;
 pub use script::{ReadScript, Script};
+pub use version::Version;
 pub use writer::{write_refused, write_step};

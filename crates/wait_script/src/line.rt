@@ -1,13 +1,13 @@
 //! Lines: a call of a task is opened, or a task makes steps.
 
-ghost use Rattle.std.specs.Prelude.{◌≡◌, map, IfOk, IsTrue, codes};
+ghost use Rattle.std.specs.Prelude.{◌≡◌, map, IfOk, IsTrue};
 ghost use Rattle.std.specs.List.{list_all};
-ghost use Rattle.std.specs.Str.{bytes_eq};
-ghost use Rattle.wait_script.specs.Lines.{step_at, call_at, words_at, is_printable, header_at, line_at};
+ghost use Rattle.wait_script.specs.Lines.{step_at, call_at, words_at, is_printable, version_at, header_at, line_at};
 
-use crate::fields::{LAST_TASK, count, task};
+use crate::fields::{count, task};
 use crate::forms::{last_of, named};
 use crate::reason::Reason;
+use crate::version::Version;
 use crate::words::{both, split};
 use std::alloc::AllocError;
 use wait_model::calls::Call;
@@ -24,38 +24,41 @@ pub enum Line {
 
 /// `step TASK COUNT`, by the words after the first.
 #[tactic(auto, using(crate::proofs::WordCounts::few_step))]
-fn step(words: &[&[u8]]) -> Result<Line, Reason>
-    ensures { result ≡ step_at (map (λ w. w.now) words.now) }
+fn step(version: Version, words: &[&[u8]]) -> Result<Line, Reason>
+    ensures { result ≡ step_at version (map (λ w. w.now) words.now) }
 {
     let [who, number] = words else {
         return Err(Reason::WordCount);
     };
-    let (task, count) = both(task(who, LAST_TASK), count(number, 1, EVENTS))?;
+    let (task, count) = both(task(who, version.last_task()), count(number, 1, EVENTS))?;
     Ok(Line::Step { task, count })
 }
 
 /// `call TASK NAME ..`, by the words after the first.
 #[tactic(auto, using(crate::proofs::WordCounts::few_call))]
-fn call(words: &[&[u8]]) -> Result<Line, Reason>
-    ensures { result ≡ call_at (map (λ w. w.now) words.now) }
+fn call(version: Version, words: &[&[u8]]) -> Result<Line, Reason>
+    ensures { result ≡ call_at version (map (λ w. w.now) words.now) }
 {
     let [who, name, rest @ ..] = words else {
         return Err(Reason::WordCount);
     };
-    let (task, call) = both(task(who, last_of(name, rest)), named(name, rest))?;
+    let (task, call) = both(
+        task(who, last_of(version, name, rest)),
+        named(version, name, rest),
+    )?;
     Ok(Line::Call { task, call })
 }
 
 /// A line by its words.
-fn by_words(words: &[&[u8]]) -> Result<Line, Reason>
-    ensures { result ≡ words_at (map (λ w. w.now) words.now) }
+fn by_words(version: Version, words: &[&[u8]]) -> Result<Line, Reason>
+    ensures { result ≡ words_at version (map (λ w. w.now) words.now) }
 {
     let [verb, rest @ ..] = words else {
         return Err(Reason::UnknownWord);
     };
     match *verb {
-        b"call" => call(rest),
-        b"step" => step(rest),
+        b"call" => call(version, rest),
+        b"step" => step(version, rest),
         _ => Err(Reason::UnknownWord),
     }
 }
@@ -67,34 +70,39 @@ fn is_printable_line(line: &[u8]) -> bool
     line.iter().all(|b| 0x20 <= *b && *b <= 0x7E)
 }
 
-/// Whether a line is the header.
-fn is_header(line: &[u8]) -> bool
-    ensures { result ≡ bytes_eq line.now (codes "waitq 1") }
+/// The version whose first line this is, or that it is none.
+fn version_named(line: &[u8]) -> Result<Version, Reason>
+    ensures { result ≡ version_at line.now }
 {
-    line == b"waitq 1".as_slice()
+    if line == b"waitq 1".as_slice() {
+        Ok(Version::One)
+    } else if line == b"waitq 2".as_slice() {
+        Ok(Version::Two)
+    } else {
+        Err(Reason::NoHeader)
+    }
 }
 
-/// Whether line 1 is the header, or the first reason why it is bad.
-pub fn read_header(line: &[u8]) -> Result<(), Reason>
+/// The version that line 1 says, or the first reason why it is bad.
+pub fn read_header(line: &[u8]) -> Result<Version, Reason>
     ensures { result ≡ header_at line.now }
 {
     if line.len() > LINE_BYTES {
         Err(Reason::LongLine)
     } else if !is_printable_line(line) {
         Err(Reason::BadByte)
-    } else if !is_header(line) {
-        Err(Reason::NoHeader)
     } else {
-        Ok(())
+        version_named(line)
     }
 }
 
 /// What a line after the header says, or the first reason why it is bad. `words` is room for its words.
 pub fn read_line<'a>(
+    version: Version,
     words: &mut Vec<&'a [u8]>,
     line: &'a [u8],
 ) -> Result<Result<Line, Reason>, AllocError>
-    ensures { IfOk result (λ r. r ≡ line_at line.now) }
+    ensures { IfOk result (λ r. r ≡ line_at version line.now) }
 {
     if line.len() > LINE_BYTES {
         return Ok(Err(Reason::LongLine));
@@ -102,5 +110,5 @@ pub fn read_line<'a>(
     if !split(words, line)? {
         return Ok(Err(Reason::BadByte));
     }
-    Ok(by_words(words))
+    Ok(by_words(version, words))
 }

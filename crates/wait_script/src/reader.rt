@@ -1,10 +1,9 @@
 //! Scripts by their bytes.
 
 ghost use Rattle.std.specs.Prelude.{◌≡◌, ◌<◌, ◌≤◌, ◌∷◌, [], length, position, sum_by};
-ghost use Rattle.std.specs.Prelude.{IfSome, IfNone, IfOk, All, List};
-ghost use Rattle.wait_script.specs.declared.line.Line.{Line};
-ghost use Rattle.wait_script.specs.Lines.{events_asked};
-ghost use Rattle.wait_script.specs.Spelling.{script_text, IsFit};
+ghost use Rattle.std.specs.Prelude.{IfSome, IfNone, IfOk, All};
+ghost use Rattle.wait_script.specs.Lines.{VersionedLines, events_asked};
+ghost use Rattle.wait_script.specs.Spelling.{script_text, IsFitScript, IsPlayable};
 ghost use Rattle.wait_script.specs.Script.{is_end, parts_of, lines_from, script_of, AnswersAs, IsReadAs};
 ghost use Rattle.wait_script.specs.Reading.{IsFirstLine};
 
@@ -12,6 +11,7 @@ use crate::line::{Line, read_header, read_line};
 use crate::reason::Reason;
 use crate::script::{ReadScript, Script};
 use crate::steps::first_step;
+use crate::version::Version;
 use std::alloc::{AllocError, Global};
 use wait_model::layout::INPUT_BYTES;
 
@@ -32,36 +32,37 @@ fn first_line(bytes: &[u8]) -> Option<(&[u8], &[u8])>
     Some((&bytes[..end], &bytes[end + 1..]))
 }
 
-/// The first line, if it has an end, and what follows its end: what it says, or the first reason why it is bad.
-/// `words` is room for its words.
+/// The first line, if it has an end, and what follows its end: what it says in a script of this version, or the first
+/// reason why it is bad. `words` is room for its words.
 fn next_line<'a>(
+    version: Version,
     words: &mut Vec<&'a [u8]>,
     bytes: &'a [u8],
 ) -> Result<Option<(Result<Line, Reason>, &'a [u8])>, AllocError>
-    ensures some { IfOk result (λ next. IfSome next (λ p. IsFirstLine bytes.now p.0 p.1.now)) }
+    ensures some { IfOk result (λ next. IfSome next (λ p. IsFirstLine version bytes.now p.0 p.1.now)) }
     ensures shorter { IfOk result (λ next. IfSome next (λ p. length p.1.now < length bytes.now)) }
     ensures none { IfOk result (λ next. IfNone next (parts_of bytes.now ≡ bytes.now ∷ [])) }
 {
-    if let Some((line, more)) = first_step(bytes) {
+    if let Some((line, more)) = first_step(version, bytes) {
         return Ok(Some((Ok(line), more)));
     }
     let Some((line, more)) = first_line(bytes) else {
         return Ok(None);
     };
-    let line = read_line(words, line)?;
+    let line = read_line(version, words, line)?;
     Ok(Some((line, more)))
 }
 
-/// The lines after the header.
-fn read_lines(alloc: Global, bytes: &[u8]) -> Result<Vec<Line>, ReadScript>
+/// The lines after the header of a script of this version.
+fn read_lines(alloc: Global, version: Version, bytes: &[u8]) -> Result<Vec<Line>, ReadScript>
     requires { length bytes.now ≤ INPUT_BYTES }
-    ensures { AnswersAs (λ v. v.items) result (lines_from 2 (parts_of bytes.now)) }
+    ensures { AnswersAs (λ v. v.items) result (lines_from version 2 (parts_of bytes.now)) }
 {
     let mut lines = Vec::new(alloc);
     let mut words = Vec::new(alloc);
     let mut number = 2;
     let mut rest = bytes;
-    'lines: while let Some((line, more)) = next_line(&mut words, rest)? {
+    'lines: while let Some((line, more)) = next_line(version, &mut words, rest)? {
         match line {
             Ok(line) => lines.push(line)?,
             Err(why) => return Err(ReadScript::Bad { line: number, why }),
@@ -91,30 +92,33 @@ fn read_headed(alloc: Global, bytes: &[u8]) -> Result<Script, ReadScript>
         };
         return Err(ReadScript::Bad { line: 1, why });
     };
-    if let Err(why) = read_header(header) {
-        return Err(ReadScript::Bad { line: 1, why });
-    }
-    let lines = read_lines(alloc, rest)?;
-    Ok(Script { lines })
+    let version = match read_header(header) {
+        Ok(version) => version,
+        Err(why) => return Err(ReadScript::Bad { line: 1, why }),
+    };
+    let lines = read_lines(alloc, version, rest)?;
+    Ok(Script { version, lines })
 }
 
-/// Reads a script of at most `INPUT_BYTES` bytes, or answers the first bad line and the first reason that stands there,
-/// or that memory ran out. What is read has its numbers in their ranges and is spelled just so; and whatever is
-/// spelled so, with its numbers in their ranges, is read.
-#[tactic(auto, using(crate::proofs::Spelled::spelled, crate::proofs::Spelled::fits, crate::proofs::Spelled::again))]
+/// Reads a script of at most `INPUT_BYTES` bytes, of the version that its first line names, or answers the first bad
+/// line and the first reason that stands there, or that memory ran out. What is read has its numbers in the version's
+/// ranges and is spelled just so; and whatever is spelled so, with its numbers in those ranges, is read. A core can
+/// open each of its calls.
+#[tactic(auto, using(crate::proofs::Spelled::spelled, crate::proofs::Spelled::fits, crate::proofs::Spelled::plays, crate::proofs::Spelled::again))]
 pub fn read_script(alloc: Global, bytes: &[u8]) -> Result<Script, ReadScript>
     requires { length bytes.now ≤ INPUT_BYTES }
     ensures script { AnswersAs (λ s. s) result (script_of bytes.now) }
     ensures spelled { IfOk result (λ s. bytes.now ≡ script_text s) }
-    ensures fits { IfOk result (λ s. All IsFit s) }
-    ensures read { (lines : List Line) → All IsFit lines → bytes.now ≡ script_text lines → IsReadAs lines result }
+    ensures fits { IfOk result IsFitScript }
+    ensures plays { IfOk result (λ s. All IsPlayable s.lines) }
+    ensures read { (s : VersionedLines) → IsFitScript s → bytes.now ≡ script_text s → IsReadAs s result }
 {
     read_headed(alloc, bytes)
 }
 
 /// How many events a script asks for: the sum of its step counts.
 pub fn asked(script: &Script) -> u128
-    ensures { result ≡ sum_by events_asked script.now }
+    ensures { result ≡ sum_by events_asked script.now.lines }
 {
     let mut total = 0;
     for line in &script.lines {

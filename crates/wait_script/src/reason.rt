@@ -14,7 +14,7 @@ pub enum Reason {
     LongLine,
     /// The line has a byte outside 0x20 to 0x7E.
     BadByte,
-    /// The first line isn't `waitq 1`.
+    /// The first line is neither `waitq 1` nor `waitq 2`.
     NoHeader,
     /// The first word is neither `call` nor `step`, or the third word of a `call` is the name of no call.
     UnknownWord,

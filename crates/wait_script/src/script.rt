@@ -1,24 +1,27 @@
 //! Scripts, and why bytes are none.
 
-ghost use Rattle.std.specs.Prelude.{◌≡◌, List};
-ghost use Rattle.wait_script.specs.declared.line.Line.{Line};
+ghost use Rattle.std.specs.Prelude.{◌≡◌};
 
 use crate::line::Line;
 use crate::reason::Reason;
+use crate::version::Version;
 use std::alloc::{AllocError, AllocFailed, Global};
 use std::marker::Model;
 use thiserror::Error;
 
-/// A script: the lines after its header.
+/// A script: the version that its header names, and the lines after it.
 #[derive(Drop)]
 pub struct Script {
+    pub version: Version,
     pub lines: Vec<Line>,
 }
 
 impl Model for Script {
-    ghost Value = { List Line };
+    ghost use Rattle.wait_script.specs.Lines.{VersionedLines};
 
-    ghost view = { λ s. s.lines.items };
+    ghost Value = { VersionedLines };
+
+    ghost view = { λ s. record { version = s.version; lines = s.lines.items } };
 }
 
 /// Why there is no script.

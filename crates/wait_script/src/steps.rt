@@ -4,9 +4,9 @@ ghost use Rattle.std.specs.Prelude.{◌≡◌, ◌∷◌, ◌++◌, ◌&&◌, na
 ghost use Rattle.wait_script.specs.Number.{is_plain};
 ghost use Rattle.wait_script.specs.Spelling.{line_text, IsFit};
 
-use crate::fields::LAST_TASK;
 use crate::line::Line;
 use crate::number::plain;
+use crate::version::Version;
 use wait_model::layout::EVENTS;
 
 /// Whether digits are a number's: there are some, and no zero in front of more.
@@ -49,14 +49,14 @@ fn after_step(bytes: &[u8]) -> Option<&[u8]>
 
 /// The first line and what follows its end, where it is a good line of steps with short numbers. After a `None` the
 /// line is to be read by its words.
-pub fn first_step(bytes: &[u8]) -> Option<(Line, &[u8])>
-    ensures fits { IfSome result (λ p. IsFit p.0) }
+pub fn first_step(version: Version, bytes: &[u8]) -> Option<(Line, &[u8])>
+    ensures fits { IfSome result (λ p. IsFit version p.0) }
     ensures spelled { IfSome result (λ p. bytes.now ≡ line_text p.0 ++ 10 ∷ p.1.now) }
 {
     let rest = after_step(bytes)?;
     let (task, rest) = number_before(rest, b' ')?;
     let (count, rest) = number_before(rest, b'\n')?;
-    if task > u32::from(LAST_TASK) || count == 0 || count > EVENTS {
+    if task > u32::from(version.last_task()) || count == 0 || count > EVENTS {
         return None;
     }
     let task = task as u8;

@@ -1,5 +1,5 @@
-use crate::bad_lines::BAD_LINES;
-use crate::{Line, ReadScript, Reason, asked, read_script, write_refused, write_step};
+use crate::bad_lines::{BAD_LINES, BAD_LINES_OF_VERSION_2};
+use crate::{Line, ReadScript, Reason, Version, asked, read_script, write_refused, write_step};
 use edge_io::MemSink;
 use std::alloc::Global;
 use std::test::Fail;
@@ -11,12 +11,14 @@ use wait_model::watches::Mode;
 
 #[test]
 fn the_first_bad_line_and_its_first_reason(rt: HostRuntime) -> Result<(), Fail> {
-    let rows: [(&[u8], u32, Reason); 12] = [
+    let rows: [(&[u8], u32, Reason); 14] = [
         (b"", 1, Reason::NoHeader),
         (b"\n", 1, Reason::NoHeader),
         (b"waitq 1", 1, Reason::CutLine),
         (b"waitq 2", 1, Reason::CutLine),
-        (b"waitq 2\nstep 1", 1, Reason::NoHeader),
+        (b"waitq 2\nstep 1", 2, Reason::CutLine),
+        (b"waitq 3\nstep 1", 1, Reason::NoHeader),
+        (b"waitq 12\n", 1, Reason::NoHeader),
         (b"waitq 1 \n", 1, Reason::NoHeader),
         (b"waitq\t1\n", 1, Reason::BadByte),
         (b"waitq 1\nstep 1 1", 2, Reason::CutLine),
@@ -33,9 +35,14 @@ fn the_first_bad_line_and_its_first_reason(rt: HostRuntime) -> Result<(), Fail> 
 }
 
 /// What reading a header and one line after it gives: the number of lines, or the first reason.
-fn read_after_header(alloc: Global, line: &[u8]) -> Result<Result<usize, ReadScript>, Fail> {
+fn read_after(
+    alloc: Global,
+    header: &[u8],
+    line: &[u8],
+) -> Result<Result<usize, ReadScript>, Fail> {
     let mut bytes = Vec::new(alloc);
-    bytes.extend_from_slice(b"waitq 1\n")?;
+    bytes.extend_from_slice(header)?;
+    bytes.push(b'\n')?;
     bytes.extend_from_slice(line)?;
     bytes.push(b'\n')?;
     if bytes.len() > 1_048_576 {
@@ -47,7 +54,7 @@ fn read_after_header(alloc: Global, line: &[u8]) -> Result<Result<usize, ReadScr
 #[test]
 fn a_line_has_at_most_200_bytes(rt: HostRuntime) -> Result<(), Fail> {
     let mut line = vec![in rt.alloc(); b'x'; 200]?;
-    let read = read_after_header(rt.alloc(), &line)?;
+    let read = read_after(rt.alloc(), b"waitq 1", &line)?;
     assert_eq!(rt;
         read,
         Err(ReadScript::Bad {
@@ -56,7 +63,7 @@ fn a_line_has_at_most_200_bytes(rt: HostRuntime) -> Result<(), Fail> {
         })
     );
     line.push(7)?;
-    let read = read_after_header(rt.alloc(), &line)?;
+    let read = read_after(rt.alloc(), b"waitq 2", &line)?;
     assert_eq!(rt;
         read,
         Err(ReadScript::Bad {
@@ -84,15 +91,21 @@ fn a_line_has_at_most_200_bytes(rt: HostRuntime) -> Result<(), Fail> {
 
 #[test]
 fn each_line_is_bad_for_its_first_reason(rt: HostRuntime) -> Result<(), Fail> {
-    for row in BAD_LINES.split('\n') {
-        let Some((number, line)) = row.split_once(' ') else {
-            continue;
-        };
-        let number: u8 = number.parse()?;
-        let read = read_after_header(rt.alloc(), line.as_bytes())?;
-        let is_read =
-            matches!(read, Err(ReadScript::Bad { line: 2, why }) if why.number() == number);
-        assert!(rt; is_read, "{line}");
+    let versions: [(&[u8], &str); 2] = [
+        (b"waitq 1", BAD_LINES),
+        (b"waitq 2", BAD_LINES_OF_VERSION_2),
+    ];
+    for (header, lines) in versions {
+        for row in lines.split('\n') {
+            let Some((number, line)) = row.split_once(' ') else {
+                continue;
+            };
+            let number: u8 = number.parse()?;
+            let read = read_after(rt.alloc(), header, line.as_bytes())?;
+            let is_bad =
+                matches!(read, Err(ReadScript::Bad { line: 2, why }) if why.number() == number);
+            assert!(rt; is_bad, "{line}");
+        }
     }
     Ok(())
 }
@@ -106,6 +119,7 @@ fn a_script_is_its_lines(rt: HostRuntime) -> Result<(), Fail> {
         call 127 lockbit b1.2 kill\n\
         step 0 1\n";
     let script = read_script(rt.alloc(), bytes)?;
+    assert_eq!(rt; script.version, Version::One);
     assert_eq!(rt; asked(&script), 1_000_001);
     assert_eq!(rt; script.lines.len(), 5);
     assert!(rt;
@@ -202,11 +216,53 @@ call 0 waitvar v127 18446744073709551615 kill\n\
 call 0 setvar v0 0";
 
 #[test]
-fn each_call_is_read(rt: HostRuntime) -> Result<(), Fail> {
+fn each_call_is_read_in_both_versions(rt: HostRuntime) -> Result<(), Fail> {
     for line in CALLS.split('\n') {
-        let read = read_after_header(rt.alloc(), line.as_bytes())?;
+        for header in [b"waitq 1", b"waitq 2"] {
+            let read = read_after(rt.alloc(), header, line.as_bytes())?;
+            assert_eq!(rt; read, Ok(1), "{line}");
+        }
+    }
+    Ok(())
+}
+
+/// Lines with greater numbers than version 1 takes.
+const GREATER: &str = "\
+step 128 1\n\
+step 255 1000000\n\
+call 255 accept\n\
+call 128 add c0 default front\n\
+call 0 wake c0 normal 128\n\
+call 0 wake c0 int 255\n\
+call 0 signal 255 fatal\n\
+call 0 kick 128";
+
+#[test]
+fn greater_numbers_are_read_in_version_2_alone(rt: HostRuntime) -> Result<(), Fail> {
+    for line in GREATER.split('\n') {
+        let read = read_after(rt.alloc(), b"waitq 1", line.as_bytes())?;
+        let is_bad = matches!(
+            read,
+            Err(ReadScript::Bad {
+                line: 2,
+                why: Reason::BadNumber
+            })
+        );
+        assert!(rt; is_bad, "{line}");
+        let read = read_after(rt.alloc(), b"waitq 2", line.as_bytes())?;
         assert_eq!(rt; read, Ok(1), "{line}");
     }
+    let script = read_script(rt.alloc(), b"waitq 2\nstep 255 7\n")?;
+    assert_eq!(rt; script.version, Version::Two);
+    assert!(rt;
+        matches!(
+            script.lines[0],
+            Line::Step {
+                task: 255,
+                count: 7
+            }
+        )
+    );
     Ok(())
 }
 

@@ -27,8 +27,7 @@ use Rattle.edge_io.specs.Text.{HoldsPrefix}
 use Rattle.edge_io.specs.declared.sink.SinkFault.{SinkFault}
 use Rattle.edge_io.specs.declared.sink.SinkFault.TheVariants as sink
 use Rattle.wait_model.specs.declared.layout.TheConstants.{EVENTS, INPUT_BYTES}
-use Rattle.wait_script.specs.declared.line.Line.{Line}
-use Rattle.wait_script.specs.Lines.{events_asked}
+use Rattle.wait_script.specs.Lines.{VersionedLines, events_asked}
 use Rattle.wait_script.specs.Script.{script_of}
 use Rattle.waitq.specs.Fault.{sink_fault, script_fault, status_of}
 use Rattle.wait_script.specs.Replay.{replay_text}
@@ -37,7 +36,7 @@ use Rattle.waitq.specs.Outcome.{
   TooLong,
   BadLine,
   Text,
-  lines_verdict,
+  script_verdict,
   verdict_of,
   IsFaultOf,
   Answers,
@@ -56,17 +55,17 @@ pub at : (v w : Verdict) (old new : Option (List ℕ)) (r : Result (Unit {0}) Fa
     → Answers w old new r → Answers v old new r
 at v w old new r e h = subst (λ (u : Verdict). Answers u old new r) (sym e) h
 
-pub too_many : (lines : List Line) → EVENTS < sum_by events_asked lines → lines_verdict (Ok lines) ≡ TooLong
-too_many lines h = grind (arith, nat_tests)
+pub too_many : (s : VersionedLines) → EVENTS < sum_by events_asked s.lines → script_verdict (Ok s) ≡ TooLong
+too_many s h = grind (arith, nat_tests)
 
-pub few : (lines : List Line) → sum_by events_asked lines ≤ EVENTS
-    → lines_verdict (Ok lines) ≡ Text (replay_text lines)
-few lines h = grind (arith, nat_tests)
+pub few : (s : VersionedLines) → sum_by events_asked s.lines ≤ EVENTS
+    → script_verdict (Ok s) ≡ Text (replay_text s.lines)
+few s h = grind (arith, nat_tests)
 
 pub too_long : (bytes : List ℕ) → INPUT_BYTES < length bytes → verdict_of bytes ≡ TooLong
 too_long bytes h = grind (arith, nat_tests)
 
-pub short : (bytes : List ℕ) → length bytes ≤ INPUT_BYTES → verdict_of bytes ≡ lines_verdict (script_of bytes)
+pub short : (bytes : List ℕ) → length bytes ≤ INPUT_BYTES → verdict_of bytes ≡ script_verdict (script_of bytes)
 short bytes h = grind (arith, nat_tests)
 
 pub broken : (old new : Option (List ℕ)) (text : List ℕ) (e : SinkFault) → HoldsPrefix old new text
@@ -83,7 +82,7 @@ quiet (Text text) old = nothing old text
 pub refused : (bytes : List ℕ) (old : Option (List ℕ)) (e : ReadScript) → length bytes ≤ INPUT_BYTES
     → script.Refuses e (script_of bytes) → IsFaultOf (verdict_of bytes) old old (script_fault e)
 refused bytes old (read.Bad line why) le h =
-    let e : verdict_of bytes ≡ BadLine line why = short bytes le ∙ ap lines_verdict h in
+    let e : verdict_of bytes ≡ BadLine line why = short bytes le ∙ ap script_verdict h in
     subst (λ (u : Verdict). IsFaultOf u old old (fault.Script line why)) (sym e) (refl, refl, refl)
 refused bytes old read.OutOfMemory le h = quiet (verdict_of bytes) old
 

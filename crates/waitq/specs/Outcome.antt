@@ -15,9 +15,8 @@ use Rattle.std.specs.Prelude.{
 use Rattle.std.specs.Io.KnownBytes.{append_known}
 use Rattle.edge_io.specs.Text.{HoldsPrefix}
 use Rattle.wait_model.specs.declared.layout.TheConstants.{EVENTS, INPUT_BYTES}
-use Rattle.wait_script.specs.declared.line.Line.{Line}
 use Rattle.wait_script.specs.declared.reason.Reason.{Reason}
-use Rattle.wait_script.specs.Lines.{events_asked}
+use Rattle.wait_script.specs.Lines.{VersionedLines, events_asked}
 use Rattle.wait_script.specs.Script.{script_of}
 use Rattle.wait_script.specs.Replay.{replay_text}
 use Rattle.waitq.specs.declared.fault.Fault.{Fault}
@@ -29,13 +28,13 @@ pub data Verdict : Type 0 where
   BadLine : ℕ → Reason → Verdict
   Text : List ℕ → Verdict
 
-abbrev pub lines_verdict : Result (List Line) (ℕ × Reason) → Verdict
-lines_verdict (Ok lines) = if nat_lt EVENTS (sum_by events_asked lines) then TooLong
-    else Text (replay_text lines)
-lines_verdict (Err (line, why)) = BadLine line why
+abbrev pub script_verdict : Result VersionedLines (ℕ × Reason) → Verdict
+script_verdict (Ok script) = if nat_lt EVENTS (sum_by events_asked script.lines) then TooLong
+    else Text (replay_text script.lines)
+script_verdict (Err (line, why)) = BadLine line why
 
 abbrev pub verdict_of : List ℕ → Verdict
-verdict_of bytes = if nat_lt INPUT_BYTES (length bytes) then TooLong else lines_verdict (script_of bytes)
+verdict_of bytes = if nat_lt INPUT_BYTES (length bytes) then TooLong else script_verdict (script_of bytes)
 
 -- What an answer says of the verdict, and of what a sink held before and holds now.
 abbrev pub IsFaultOf : Verdict → Option (List ℕ) → Option (List ℕ) → Fault → Type 0

@@ -5,8 +5,7 @@ ghost use Rattle.std.specs.Prelude.{◌≡◌, ◌≤◌, ◌++◌, OnOk, IsErrO
 ghost use Rattle.edge_io.specs.Faults.{HasRisen};
 ghost use Rattle.edge_io.specs.Text.{WritesText, BuffersText};
 ghost use Rattle.wait_model.specs.Admission.{IsListed};
-ghost use Rattle.wait_script.specs.Fields.{last_task};
-ghost use Rattle.wait_script.specs.Spelling.{IsFit};
+ghost use Rattle.wait_script.specs.Spelling.{IsPlayable};
 ghost use Rattle.wait_script.specs.Text.{step_text, refused_text};
 ghost use Rattle.wait_script.specs.Ending.{ending_text};
 ghost use Rattle.wait_script.specs.Replay.{stops, played_steps, opening_of, replay_line, replay_from};
@@ -74,7 +73,6 @@ fn play_steps<K: Sink>(
     task: u8,
     count: u32,
 ) -> Result<(), SinkFault>
-    requires { task ≤ last_task }
     ensures text { BuffersText (K.held out.old) buffer.old (K.held out.new) buffer.new
         (played_steps count core.old task).0 result }
     ensures run { OnOk result (core.new ≡ (played_steps count core.old task).1) }
@@ -119,7 +117,7 @@ fn play_line<K: Sink>(
     buffer: &mut Buffer,
     line: Line,
 ) -> Result<(), SinkFault>
-    requires { IsFit line }
+    requires { IsPlayable line }
     ensures text { BuffersText (K.held out.old) buffer.old (K.held out.new) buffer.new
         (replay_line core.old line).0 result }
     ensures run { OnOk result (core.new ≡ (replay_line core.old line).1) }
@@ -149,7 +147,7 @@ pub fn play<K: Sink>(
     buffer: &mut Buffer,
     lines: &[Line],
 ) -> Result<(), SinkFault>
-    requires { All IsFit lines.now }
+    requires { All IsPlayable lines.now }
     ensures text { WritesText (K.held out.old) (K.held out.new) (buffer.old ++ replay_from core.old lines.now) result }
     ensures cause { IsErrOf result SinkFault.Failed → HasRisen (K.faults out.old) (K.faults out.new) }
     ensures later { K.faults out.old ≤ K.faults out.new }

@@ -2,8 +2,8 @@
 
 ghost use Rattle.std.specs.Prelude.{◌≡◌, ◌≤◌, [], IfSome, IsErrOf, OnOk, length, Ok, All};
 ghost use Rattle.edge_io.specs.Faults.{HasRisen};
-ghost use Rattle.wait_script.specs.Spelling.{IsFit};
-ghost use Rattle.waitq.specs.Outcome.{lines_verdict, verdict_of, Answers, LeavesUnwritten};
+ghost use Rattle.wait_script.specs.Spelling.{IsPlayable};
+ghost use Rattle.waitq.specs.Outcome.{script_verdict, verdict_of, Answers, LeavesUnwritten};
 
 use crate::fault::Fault;
 use crate::play::play;
@@ -15,8 +15,8 @@ use wait_script::{Script, asked, read_script};
 
 /// Runs a script in a fresh core.
 fn replay_script<O: Sink>(alloc: Global, script: &Script, out: &mut O) -> Result<(), Fault>
-    requires { All IsFit script.now }
-    ensures outcome { Answers (lines_verdict (Ok script.now)) (O.held out.old) (O.held out.new) result }
+    requires { All IsPlayable script.now.lines }
+    ensures outcome { Answers (script_verdict (Ok script.now)) (O.held out.old) (O.held out.new) result }
     ensures unwritten { LeavesUnwritten (O.held out.old) (O.held out.new) result }
     ensures no_read { IsErrOf result Fault.Read → ⊥ }
     ensures no_usage { IsErrOf result Fault.Usage → ⊥ }

@@ -3,8 +3,7 @@
 ghost use Rattle.std.specs.Prelude.{◌≡◌, ◌≤◌, ◌<◌, All, length};
 ghost use Rattle.wait_model.specs.Admission.{IsListed};
 ghost use Rattle.wait_model.specs.Runs.{state_of};
-ghost use Rattle.wait_script.specs.Fields.{last_task};
-ghost use Rattle.wait_script.specs.Spelling.{IsFit};
+ghost use Rattle.wait_script.specs.Spelling.{IsPlayable};
 ghost use Rattle.wait_script.specs.Replay.{played_steps, replay_line};
 ghost use Rattle.waitq.specs.Drill.{run_after_lines, refuses, refused_in, asleep_below};
 
@@ -15,7 +14,6 @@ use wait_script::Line;
 
 /// Makes up to `count` events of a task.
 fn make_steps(core: &mut Core, task: u8, count: u32)
-    requires { task ≤ last_task }
     ensures { core.new ≡ (played_steps count core.old task).1 }
 {
     for _i in 0..count {
@@ -28,7 +26,7 @@ fn make_steps(core: &mut Core, task: u8, count: u32)
 
 /// Plays one line, and answers whether it is a call that was refused.
 fn make_line(core: &mut Core, line: Line) -> bool
-    requires { IsFit line }
+    requires { IsPlayable line }
     ensures run { core.new ≡ (replay_line core.old line).1 }
     ensures refused { result ≡ refuses core.old line }
 {
@@ -43,7 +41,7 @@ fn make_line(core: &mut Core, line: Line) -> bool
 
 /// Plays the lines, and answers how many calls were refused.
 pub fn make_lines(core: &mut Core, lines: &[Line]) -> u64
-    requires { All IsFit lines.now }
+    requires { All IsPlayable lines.now }
     ensures run { core.new ≡ run_after_lines core.old lines.now }
     ensures refused { result ≡ refused_in core.old lines.now }
 {

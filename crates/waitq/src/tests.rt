@@ -13,6 +13,7 @@ use crate::waiting_rows::{
     BIT_LOCK_SIGNALLED, COMPLETIONS, TWO_WAITERS_ONE_PERMIT, WOKEN_FLAG_BEFORE_STATE,
 };
 use crate::walks;
+use crate::walks::Walk;
 use edge_io::{MemSink, MemSource};
 use std::process::Abort;
 use std::test::Fail;
@@ -231,53 +232,93 @@ fn a_summary_that_cannot_be_written_ends_with_its_status(rt: HostRuntime) -> Res
     Ok(())
 }
 
+/// A walk of task 100 over the entries of tasks 0 to 65, which breaks once.
+const WALK_66: Walk = Walk {
+    version: 1,
+    adders: 66,
+    waker: 100,
+};
+
+/// Compares what a replay wrote with what it has to write.
+fn gives(rt: &impl Abort, ran: &Answered, text: &str) {
+    assert_eq!(rt; ran.status, 0);
+    assert_eq!(rt; ran.text.as_str(), text);
+}
+
 #[test]
 fn walk_65(rt: HostRuntime) -> Result<(), Fail> {
     let alloc = rt.alloc();
-    let script = walks::script(alloc, 65, "step 100 999\n")?;
-    let mut text = walks::front(alloc, 65)?;
-    text.push_str("t100 wake t0 no\nt100 unlock h256\nt100 = woken 0 selected 0 holds 1 end\n")?;
-    walks::push_end(alloc, &mut text, 262, 65, false)?;
+    let walk = Walk {
+        version: 1,
+        adders: 65,
+        waker: 100,
+    };
+    let script = walks::script(alloc, walk, "step 100 999\n")?;
+    let mut text = walks::front(alloc, walk)?;
+    walks::push_wakes(alloc, &mut text, walk, 64, 0)?;
+    walks::push_answer(alloc, &mut text, walk, 1)?;
+    walks::push_end(alloc, &mut text, 262, walk, false)?;
     let ran = run_on(&rt, &["replay"], script.as_bytes(), &[], &[], &[])?;
-    assert_eq!(rt; ran.status, 0);
-    assert_eq!(rt; ran.text.as_str(), text.as_str());
+    gives(&rt, &ran, text.as_str());
     Ok(())
 }
 
 #[test]
 fn walk_66_breaks(rt: HostRuntime) -> Result<(), Fail> {
     let alloc = rt.alloc();
-    let script = walks::script(alloc, 66, "step 100 999\n")?;
-    let mut text = walks::front(alloc, 66)?;
-    text.push_str("t100 mark h256\nt100 unlock h256\nt100 lock h256\nt100 unmark h256\n")?;
-    text.push_str("t100 wake t0 no\nt100 unlock h256\nt100 = woken 0 selected 0 holds 2 end\n")?;
-    walks::push_end(alloc, &mut text, 270, 66, false)?;
-    let ran = run_on(&rt, &["replay"], script.as_bytes(), &[], &[], &[])?;
-    assert_eq!(rt; ran.status, 0);
-    assert_eq!(rt; ran.text.as_str(), text.as_str());
-    let lines = ran
-        .text
-        .split('\n')
-        .filter(|line| line.starts_with("t100 "));
+    let script = walks::script(alloc, WALK_66, "step 100 999\n")?;
+    let mut text = walks::front(alloc, WALK_66)?;
+    walks::push_wakes(alloc, &mut text, WALK_66, 65, 1)?;
+    walks::push_break(alloc, &mut text, WALK_66)?;
+    walks::push_wakes(alloc, &mut text, WALK_66, 0, 0)?;
+    walks::push_answer(alloc, &mut text, WALK_66, 2)?;
+    let lines = text.split('\n').filter(|line| line.starts_with("t100 "));
     assert_eq!(rt; lines.count(), 72 + 1);
+    walks::push_end(alloc, &mut text, 270, WALK_66, false)?;
+    let ran = run_on(&rt, &["replay"], script.as_bytes(), &[], &[], &[])?;
+    gives(&rt, &ran, text.as_str());
     Ok(())
 }
 
 #[test]
 fn walk_break_and_move(rt: HostRuntime) -> Result<(), Fail> {
     let alloc = rt.alloc();
-    let walk =
+    let lines =
         "step 100 68\ncall 0 remove\nstep 0 99\ncall 0 add c0 default front\nstep 0 99\nstep 100 999\n";
-    let script = walks::script(alloc, 66, walk)?;
-    let mut text = walks::front(alloc, 66)?;
+    let script = walks::script(alloc, WALK_66, lines)?;
+    let mut text = walks::front(alloc, WALK_66)?;
+    walks::push_wakes(alloc, &mut text, WALK_66, 65, 1)?;
     text.push_str("t100 mark h256\nt100 unlock h256\n")?;
     text.push_str("t0 lock h256\nt0 unqueue t0\nt0 unlock h256\nt0 = 0\n")?;
     text.push_str("t0 lock h256\nt0 queue h256 front\nt0 unlock h256\nt0 = 0\n")?;
-    text.push_str("t100 lock h256\nt100 unmark h256\nt100 unlock h256\n")?;
-    text.push_str("t100 = woken 0 selected 0 holds 2 end\n")?;
-    walks::push_end(alloc, &mut text, 275, 66, true)?;
+    text.push_str("t100 lock h256\nt100 unmark h256\n")?;
+    walks::push_answer(alloc, &mut text, WALK_66, 2)?;
+    walks::push_end(alloc, &mut text, 275, WALK_66, true)?;
     let ran = run_on(&rt, &["replay"], script.as_bytes(), &[], &[], &[])?;
-    assert_eq!(rt; ran.status, 0);
-    assert_eq!(rt; ran.text.as_str(), text.as_str());
+    gives(&rt, &ran, text.as_str());
+    Ok(())
+}
+
+#[test]
+fn walk_131_breaks_twice(rt: HostRuntime) -> Result<(), Fail> {
+    let alloc = rt.alloc();
+    let walk = Walk {
+        version: 2,
+        adders: 131,
+        waker: 200,
+    };
+    let script = walks::script(alloc, walk, "step 200 999\n")?;
+    let mut text = walks::front(alloc, walk)?;
+    walks::push_wakes(alloc, &mut text, walk, 130, 66)?;
+    walks::push_break(alloc, &mut text, walk)?;
+    walks::push_wakes(alloc, &mut text, walk, 65, 1)?;
+    walks::push_break(alloc, &mut text, walk)?;
+    walks::push_wakes(alloc, &mut text, walk, 0, 0)?;
+    walks::push_answer(alloc, &mut text, walk, 3)?;
+    let lines = text.split('\n').filter(|line| line.starts_with("t200 "));
+    assert_eq!(rt; lines.count(), 141 + 1);
+    walks::push_end(alloc, &mut text, 534, walk, false)?;
+    let ran = run_on(&rt, &["replay"], script.as_bytes(), &[], &[], &[])?;
+    gives(&rt, &ran, text.as_str());
     Ok(())
 }

@@ -1,6 +1,8 @@
 use Rattle.std.proofs.Common.{subst, All, sum_by, sym, ◌∙◌, ap}
 use Rattle.wait_script.specs.Lines.{events_asked}
-use Rattle.wait_script.specs.Spelling.{IsFit}
+use Rattle.wait_script.specs.Spelling.{IsFit, IsPlayable}
+use Rattle.wait_script.specs.declared.version.Version.TheVariants.{One}
+use Rattle.wait_script.proofs.Spelled.{fit_plays}
 use Rattle.drill_gen.specs.Drill.{drill_of}
 use Rattle.drill_gen.proofs.Drawn.{fits, asks, goes_on, all_drawn}
 use Rattle.drill_gen.proofs.lines.drill.Goals as goal
@@ -14,9 +16,15 @@ loop-call-preserved c = record {
 
 pub returns-clause-fits : goal.returns-clause-fits
 returns-clause-fits c =
-    subst (λ lines. All IsFit lines) (all_drawn (drill_of c.args.seed c.args.count) c.loop-call.lines.items c.args.count
-    c.loop-call._call c.loop-call.generator c.loop-call-test.false c.loop-call.invariant.lines)
+    subst (λ lines. All (IsFit One) lines) (all_drawn (drill_of c.args.seed c.args.count) c.loop-call.lines.items
+    c.args.count c.loop-call._call c.loop-call.generator c.loop-call-test.false c.loop-call.invariant.lines)
     (fits c.args.seed c.args.count)
+
+pub returns-clause-plays : goal.returns-clause-plays
+returns-clause-plays c =
+    subst (λ lines. All IsPlayable lines) (all_drawn (drill_of c.args.seed c.args.count) c.loop-call.lines.items
+    c.args.count c.loop-call._call c.loop-call.generator c.loop-call-test.false c.loop-call.invariant.lines)
+    (fit_plays (record { version = One; lines = drill_of c.args.seed c.args.count }) (fits c.args.seed c.args.count))
 
 pub returns-clause-asked : goal.returns-clause-asked
 returns-clause-asked c =

@@ -1,4 +1,5 @@
-use Rattle.std.proofs.Common.{sym, ◌∙◌}
+use Rattle.std.proofs.Common.{sym, ap, ◌∙◌}
+use Rattle.wait_script.specs.Script.{versioned}
 use Rattle.wait_script.proofs.LineParts.{odd_header, good_header}
 use Rattle.wait_script.proofs.reader.read_headed.Goals as goal
 
@@ -9,5 +10,6 @@ returns-in-Err c =
 
 pub returns : goal.returns
 returns c =
-    good_header c.args.bytes.now c.in-Some.header.now c.in-Some.rest.now c.in_default-read_header.field-0 _
-    c.in-Some.ensures.some (sym c.read_header.ensures ∙ c.in_default-read_header.is) c.in_ok-lines.ensures
+    good_header c.args.bytes.now c.in-Some.header.now c.in-Some.rest.now c.in-Ok.version
+    c.in-Some.ensures.some (sym c.read_header.ensures ∙ c.in-Ok.is)
+    ∙ ap (versioned c.in-Ok.version) c.in_ok-lines.ensures

@@ -6,7 +6,8 @@ use Rattle.wait_script.proofs.reader.read_lines.Given as goal
 
 abbrev pub invariant-lines : goal.invariant-lines
 invariant-lines l = record {
-  same : carried l.lines.items (lines_from l.number (parts_of l.rest)) ≡ lines_from 2 (parts_of l.bytes);
+  same : carried l.lines.items (lines_from l.version l.number (parts_of l.rest))
+      ≡ lines_from l.version 2 (parts_of l.bytes);
   few : l.number + length l.rest ≤ INPUT_BYTES + 2;
 }
 

@@ -1,6 +1,6 @@
 use Rattle.std.proofs.lemmas.Result.{err_from_is_err_and}
 use Rattle.std.specs.Prelude.{Ok}
-use Rattle.waitq.specs.Outcome.{lines_verdict}
+use Rattle.waitq.specs.Outcome.{script_verdict}
 use Rattle.waitq.proofs.Outcomes.{quiet}
 use Rattle.waitq.proofs.replay.replay_script.Goals as goal
 
@@ -8,4 +8,4 @@ pub returns-in_err-buffer-clause-outcome : goal.returns-in_err-buffer-clause-out
 returns-in_err-buffer-clause-outcome g c =
     let p = err_from_is_err_and c.from_residual-in_err-buffer.result
     c.from_residual-in_err-buffer.ensures.1 in
-    rw (p.1, p.2) (quiet (lines_verdict (Ok c.args.script.now)) (g.O.Sink.held c.args.out.now))
+    rw (p.1, p.2) (quiet (script_verdict (Ok c.args.script.now)) (g.O.Sink.held c.args.out.now))

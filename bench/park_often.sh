@@ -1,7 +1,8 @@
 #!/bin/sh
 # Runs the tests in which threads sleep and wake one another in many rounds, RUNS times each (20), and fails where one of
-# them fails or has not ended after LIMIT seconds (60). It needs the tests built by `rt test` in crates/wait_rule and
-# crates/wq_head. JOBS: how many runs there are at once (1). BUSY: how many loops keep processors busy meanwhile (0).
+# them fails or has not ended after LIMIT seconds (60). It needs the tests built by `rt test` in crates/wait_rule,
+# crates/wq_head and crates/wait_event. JOBS: how many runs there are at once (1). BUSY: how many loops keep processors
+# busy meanwhile (0).
 set -eu
 cd "$(dirname "$0")/.."
 loops=
@@ -28,4 +29,5 @@ often wait_rule park_tests::three_hand_on
 often wq_head tests::sleepers::walk_over_arrivals
 often wq_head tests::sleepers::walk_over_sleepers
 often wq_head tests::tickets::tickets
+often wait_event tests::threads::waiters_are_joined
 exit "$failed"

@@ -52,7 +52,6 @@ use Rattle.wait_model.specs.Admission.{admits}
 use Rattle.wait_model.specs.Shown.{IsInRange}
 use Rattle.wait_model.specs.Locations.{Shows}
 use Rattle.wait_model.specs.Reached.{
-  HandsAt,
   marked_at,
   IsSound,
   IsSoundCall,
@@ -115,8 +114,6 @@ allowed_in_range s me (event.Tas w b v) a = a
 allowed_in_range s me (event.Clear w b) a = a
 allowed_in_range s me (event.Active h hit) a = a
 allowed_in_range s me (event.Woken who) a = a
-allowed_in_range s me (event.TasFor p who v) a = a
-allowed_in_range s me (event.Handed who) a = a
 allowed_in_range s me e a = tt
 
 -- what the state has to let a call be opened
@@ -185,7 +182,6 @@ module _ (words : List ℕ) (points : List Progress) (items : List Ran) (count c
           open_is (sound.placed me)) (sound.marked me ∙ ap marked_at open_is)
           (subst (CountedBy (state_of items).table.entry ((state_of items).table.view me)) open_is
           (sound.counted me))
-          (subst (HandsAt (state_of items).table.taken me) open_is (sound.handed.places me))
           (subst (λ (x : Progress). KeepsCleared x ((state_of items).table.view me)) open_is (sound.keeps me))
           (subst (λ (x : Progress). Rests x ((state_of items).table.task me)) open_is (sound.rests me)) runs
 

@@ -91,11 +91,6 @@ use Rattle.wait_model.specs.Programs.{
   program,
 }
 use Rattle.wait_model.specs.Reached.{IsFitted, IsPlain}
-use Rattle.wait_model.specs.declared.points.PagePoint.{PagePoint}
-use Rattle.wait_model.specs.declared.points.PagePoint.TheVariants as paging
-use Rattle.wait_model.specs.declared.points.PageStage.{PageStage}
-use Rattle.wait_model.specs.declared.points.PageStage.TheVariants as staging
-use Rattle.wait_model.specs.Programs.{hands_event, page_event}
 
 -- an event of a call about a watch, where the task finds this value of the watch's word
 abbrev pub NotesBits : Watch → ℕ → Event → Type 0
@@ -148,37 +143,10 @@ module _ (me : ℕ) (call : Call) (seen : Seen) where
   entry_noted w c kind.Bit hit = tt
   entry_noted w c kind.Var hit = tt
   entry_noted w c kind.Simple hit = tt
-  entry_noted w c kind.Page hit = tt
 
   next_noted : (w : Walking) (c : Option CalledEntry) (hit : Bool) → N (call_next (call_aim call) w c seen hit)
   next_noted w None hit = tt
   next_noted w (Some c) hit = entry_noted w c c.kind hit
-
-  hands_noted : (st : PageStage) (w : Walking) (c : CalledEntry) → N (hands_event (call_aim call) st w c seen)
-  hands_noted staging.Try w c = tt
-  hands_noted staging.Hand w c = tt
-  hands_noted staging.Wake w c = tt
-  hands_noted staging.Off w c = tt
-
-  -- a wait for a page
-  page_noted : (p : PagePoint) → N (page_event me call p seen)
-  page_noted paging.First = either (call_fails call seen) (go (exchange call seen) (at.Page paging.Unflag))
-      (ends_with (exchange call seen) zero_answer) refl refl
-  page_noted paging.Queue = either seen.worn (go (event.Unlock (call_head call) false) at.Worn)
-      (go (event.Queue (call_head call) (form_of call)) (at.Page paging.Try)) tt tt
-  page_noted paging.Try = refl
-  page_noted (paging.Unlock true) = tt
-  page_noted (paging.Unlock false) = tt
-  page_noted (paging.Finish finishing.Look) = either (is_some seen.entry)
-      (go (event.Queued true) (at.Page (paging.Finish finishing.Lock)))
-      (go (event.Queued false) (at.Page paging.Last)) tt tt
-  page_noted (paging.Finish finishing.Queue) = either (is_some seen.entry)
-      (go (event.Unqueue me) (at.Page (paging.Finish finishing.Unlock)))
-      (go (event.Unlock (call_head call) false) (at.Page paging.Last)) tt tt
-  page_noted (paging.Finish p) = tt
-  page_noted paging.Last = either seen.flag (go (event.Flag true) (at.Page paging.Clear))
-      (ends_with (event.Flag false) interrupted) tt tt
-  page_noted p = tt
 
   walk_noted : (p : WalkPoint) → N (walk_event (call_aim call) p seen)
   walk_noted (walking.Call w) = either seen.breaks
@@ -186,7 +154,6 @@ module _ (me : ℕ) (call : Call) (seen : Seen) where
       (call_next (call_aim call) (reached w seen.calls) seen.called seen (meets (mask_of (mode_of call))
       seen.other.state)) tt
       (next_noted (reached w seen.calls) seen.called (meets (mask_of (mode_of call)) seen.other.state))
-  walk_noted (walking.Page st w c) = hands_noted st w c
   walk_noted p = tt
 
   bit_noted : (p : BitPoint) → N (bit_event call p seen)
@@ -255,7 +222,6 @@ module _ (me : ℕ) (call : Call) (seen : Seen) where
       (ends_noted failed (event.Unlock (call_head call) false) tt)
   noted (at.Finish finishing.Unlock failed) fit = ends_noted failed (event.Unlock (call_head call) false) tt
   noted (at.Bit p) fit = bit_noted p
-  noted (at.Page p) fit = page_noted p
   noted at.Worn fit = absurd fit
   noted at.Publish fit = publish_noted call fit
   noted at.Active fit = active_noted seen.members

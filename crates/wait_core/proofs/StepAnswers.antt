@@ -39,8 +39,6 @@ use Rattle.wait_model.specs.declared.points.Planned.{Planned}
 use Rattle.wait_model.specs.declared.points.Point.{Point}
 use Rattle.wait_model.specs.declared.points.Point.TheVariants as at
 use Rattle.wait_model.specs.declared.points.WalkPoint.TheVariants as walking
-use Rattle.wait_model.specs.declared.points.PageStage.{PageStage}
-use Rattle.wait_model.specs.declared.points.PageStage.TheVariants as staging
 use Rattle.wait_model.specs.declared.points.SelectPoint.TheVariants as selecting
 use Rattle.wait_model.specs.declared.queues.Walking.{Walking}
 use Rattle.wait_model.specs.declared.watches.Entry.{Entry}
@@ -48,7 +46,7 @@ use Rattle.wait_model.specs.declared.points.Progress.{Progress}
 use Rattle.wait_model.specs.declared.points.Progress.TheVariants as now
 use Rattle.wait_model.specs.declared.calls.Ran.{Ran}
 use Rattle.wait_model.specs.declared.calls.Ran.TheVariants as ran
-use Rattle.wait_model.specs.Programs.{program, program_start, walk_event, hands_event, call_entry, call_next, go}
+use Rattle.wait_model.specs.Programs.{program, program_start, walk_event, call_entry, call_next, go}
 use Rattle.wait_model.specs.Points.{call_watch, call_head, call_aim, given_at, IsNamed, IsReachable}
 use Rattle.wait_model.specs.Watches.{IsThere}
 use Rattle.wait_model.specs.Programs.{IsFitting, IsFittingWalk}
@@ -116,14 +114,6 @@ module _ (s : State) (me : ℕ) (call : Call) (seen : Seen) (walk : Arrived) whe
   entry_unmarked w c kind.Bit hit = tt
   entry_unmarked w c kind.Var hit = tt
   entry_unmarked w c kind.Simple hit = tt
-  entry_unmarked w c kind.Page hit = tt
-
-  hands_unmarked : (st : PageStage) (w : Walking) (c : CalledEntry)
-      → IsUnmarked (hands_event (call_aim call) st w c seen).event
-  hands_unmarked staging.Try w c = tt
-  hands_unmarked staging.Hand w c = tt
-  hands_unmarked staging.Wake w c = tt
-  hands_unmarked staging.Off w c = tt
 
   next_unmarked : (w : Walking) (o : Option CalledEntry) (hit : Bool)
       → IsUnmarked (call_next (call_aim call) w o seen hit).event
@@ -152,8 +142,6 @@ module _ (s : State) (me : ℕ) (call : Call) (seen : Seen) (walk : Arrived) whe
   walk_marked (walking.Bit w c) e goes is = unmarked (at.Walk (walking.Bit w c)) _ e tt is
   walk_marked (walking.Wake w c) e goes is = unmarked (at.Walk (walking.Wake w c)) _ e tt is
   walk_marked (walking.Unqueue w who) e goes is = unmarked (at.Walk (walking.Unqueue w who)) _ e tt is
-  walk_marked (walking.Page st w c) e goes is = unmarked (at.Walk (walking.Page st w c)) _ e (hands_unmarked st w c) is
-  walk_marked (walking.Stopped w) e goes is = unmarked (at.Walk (walking.Stopped w)) _ e tt is
   walk_marked (walking.Spent w) e goes is = unmarked (at.Walk (walking.Spent w)) _ e tt is
   walk_marked (walking.BreakUnlock w) e goes is = unmarked (at.Walk (walking.BreakUnlock w)) _ e tt is
   walk_marked (walking.BreakLock w) e goes is = unmarked (at.Walk (walking.BreakLock w)) _ e tt is
@@ -302,7 +290,6 @@ call_reaches n call p k = (k.who, named p k)
     named : (p : Point) → IsCallSound n call p → IsNamed p
     named (at.Walk (walking.Wake w c)) k = k.walk.1
     named (at.Walk (walking.Bit w c)) k = k.walk.1
-    named (at.Walk (walking.Page st w c)) k = k.walk.1
     named p k = tt
 
 counted_fits : (n : ℕ) (w : Walking) → n ≤ EVENTS → IsCounted n w → IsFittingWalk w
@@ -318,7 +305,6 @@ call_fits n call (at.Walk (walking.Call w)) few k = counted_fits n w few k.walk
 call_fits n call (at.Walk (walking.BreakLock w)) few k = counted_fits n w few k.walk
 call_fits n call (at.Walk (walking.Wake w c)) few k = (counted_fits n w few k.walk.0, k.walk.2)
 call_fits n call (at.Walk (walking.Bit w c)) few k = (counted_fits n w few k.walk.0, k.walk.2)
-call_fits n call (at.Walk (walking.Page st w c)) few k = (counted_fits n w few k.walk.0, k.walk.2)
 call_fits n call (at.Select (selecting.Next j)) few k = let l : j ≤ n = k.walk in omega arith
 call_fits n call p few k = tt
 

@@ -2,7 +2,6 @@
 pub mod BitRecords
 pub mod BitSteps
 pub mod PickedEntries
-pub mod PageSteps
 pub mod BitKeepers
 pub mod WordBits
 pub mod HighBits

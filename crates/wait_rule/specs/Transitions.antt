@@ -170,7 +170,7 @@ IsStepFor k own g (event.Tas i b v) (step.Consume l n r) = (l ≡ g.watch) × (n
 IsStepFor k own g (event.Clear i b) (step.Publish l n r) = (l ≡ g.watch) × (n ≡ 0)
 IsStepFor k own g (event.Woken who) (step.Woken x) = owner x ≡ who
 IsStepFor k own g (event.Flag hit) (step.Flag x w) = own ≡ Some x
-IsStepFor k own g event.Unflag (step.Unflag x o) = (own ≡ Some x) × (o ≡ None)
+IsStepFor k own g event.Unflag (step.Unflag x) = own ≡ Some x
 IsStepFor k own g _ _ = ⊥
 
 -- A look for members without the lock loads the member words of its head: all of them, where it finds no bit.

@@ -6,7 +6,7 @@ ghost use Rattle.std.specs.Str.{bytes_eq};
 ghost use Rattle.wait_script.specs.Forms as spec;
 
 use crate::cells::{
-    clear_bit, complete, complete_all, is_done, lock_bit, lock_page, reinit, set_var, simple_wait,
+    clear_bit, complete, complete_all, is_done, lock_bit, reinit, set_var, simple_wait,
     simple_wake, try_bit, try_wait, wait_bit, wait_for, wait_var,
 };
 use crate::fields::{
@@ -145,16 +145,6 @@ fn kick(version: Version, words: &[&[u8]]) -> Result<Call, Reason>
     Ok(Call::Kick { who })
 }
 
-/// A call that only some versions have, by its name and the words after it.
-fn further(version: Version, name: &[u8], rest: &[&[u8]]) -> Result<Call, Reason>
-    ensures { result ≡ spec.call_in (spec.further_forms version) name.now (map (λ w. w.now) rest.now) }
-{
-    match version {
-        Version::Two if name == b"lockpage".as_slice() => lock_page(rest),
-        _ => Err(Reason::UnknownWord),
-    }
-}
-
 /// A call of a script of this version, by its name and the words after it.
 pub fn named(version: Version, name: &[u8], rest: &[&[u8]]) -> Result<Call, Reason>
     ensures { result ≡ spec.named_at version name.now (map (λ w. w.now) rest.now) }
@@ -185,7 +175,7 @@ pub fn named(version: Version, name: &[u8], rest: &[&[u8]]) -> Result<Call, Reas
         b"clearbit" => clear_bit(rest),
         b"waitvar" => wait_var(rest),
         b"setvar" => set_var(rest),
-        _ => further(version, name, rest),
+        _ => Err(Reason::UnknownWord),
     }
 }
 

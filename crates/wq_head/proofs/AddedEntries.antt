@@ -2,7 +2,7 @@
 use Rattle.std.proofs.Common.{◌∙◌, ap, sym, refl, subst, inl, inr, eq-eqb, arith}
 use Rattle.std.proofs.lemmas.Bool.Decides.{nat_tests}
 use Rattle.std.specs.Prelude.{ℕ, ◌≡◌, ◌+◌, ◌%◌, ◌<◌, ◌≤◌, ◌⊎◌, ◌&&◌, ◌||◌, ◌==◌}
-use Rattle.std.specs.Prelude.{Bool, true, false, not, nat_lt, if◌then◌else◌, Option, Some, None, length}
+use Rattle.std.specs.Prelude.{Bool, true, false, nat_lt, if◌then◌else◌, Option, Some, None, length}
 use Rattle.wait_model.specs.declared.layout.TheConstants.{
   SLOTS,
   MEMBERS,
@@ -18,7 +18,7 @@ use Rattle.wait_model.specs.declared.watches.Kind.TheVariants as kind
 use Rattle.wait_model.specs.declared.watches.Entry.{Entry}
 use Rattle.wait_model.specs.declared.steps.Step.TheVariants as step
 use Rattle.wait_model.specs.Words.{entry_of}
-use Rattle.wait_model.specs.Watches.{is_simple, is_page, is_bit, head_of}
+use Rattle.wait_model.specs.Watches.{is_simple, is_bit, head_of}
 use Rattle.wait_model.specs.Watches.{same as same_watch}
 use Rattle.wait_model.specs.Queues.{even_below, even_above}
 use Rattle.wait_model.specs.Places.{front_for, tail_for}
@@ -69,7 +69,6 @@ use Rattle.wq_head.specs.Adds.{IsFor, HasAdded, HasQueued, HasRemoved, front_ent
 use Rattle.wq_head.proofs.OneMoreLook.{saw_told, saw_looks, whole_of, looks_on, holding_on}
 use Rattle.wait_rule.specs.Says.{stored_with}
 use Rattle.wait_rule.proofs.KnownLaws.MemberBits.{told_stored}
-use Rattle.wait_model.specs.Watches.{is_page}
 
 -- a member's place, in both words
 stand_of : (k : Known) (count low high p : ℕ) → (h : StandsIn k count low high p)
@@ -326,8 +325,7 @@ module _ (seen new : Known) (x : ℕ) (e : Entry) (is : new ≡ stored_with seen
     keeps = λ c. ap (λ (v : Told). v.bits.keeps c) queue_told;
     tries_none = λ none y c. ap (λ (v : Told). is_trying_for (v.bits.stored y) c) queue_told
         ∙ put_at (λ (s : Option Entry). is_trying_for s c ≡ false) (told_of seen).bits.stored x (Some e) y
-        (λ _. ap (λ (b : Bool). b && (is_bit e.watch && (same_watch c e.watch && not (is_page e.kind)))) shared)
-        (λ _. none y c);
+        (λ _. ap (λ (b : Bool). b && (is_bit e.watch && same_watch c e.watch)) shared) (λ _. none y c);
     tries = λ none c. ap (λ (v : Told). v.bits.pending c) queue_told;
   }
 

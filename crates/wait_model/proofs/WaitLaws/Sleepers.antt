@@ -19,7 +19,7 @@ use Rattle.wait_model.specs.declared.points.AwaitPoint.TheVariants as awaiting
 use Rattle.wait_model.specs.declared.points.BitPoint.TheVariants as biting
 use Rattle.wait_model.specs.declared.points.Progress.{Progress}
 use Rattle.wait_model.specs.declared.points.Progress.TheVariants as now
-use Rattle.wait_model.specs.Watches.{same, bare, kind_for, is_done, is_woken, is_page}
+use Rattle.wait_model.specs.Watches.{same, bare, kind_for, is_done, is_woken}
 use Rattle.wait_model.specs.Views.{View}
 use Rattle.wait_model.specs.Fold.{view_of}
 use Rattle.wait_model.specs.Points.{call_watch, is_await, is_bit_wait}
@@ -36,8 +36,6 @@ use Rattle.wait_model.proofs.HistoryLaws.ZeroLoads.{zero_told}
 use Rattle.wait_model.proofs.WaitLaws.WaitStages.{dozing, stage, IsTested, IsListening}
 use Rattle.wait_model.proofs.WaitLaws.Waiters.{IsDownInWait, down_of}
 use Rattle.wait_model.proofs.WaitLaws.ZeroCounts.{IsZero, ZeroAt, zero_of}
-use Rattle.wait_model.proofs.RunLaws.PagesHanded.{kind_plain}
-use Rattle.wait_model.specs.declared.points.PagePoint.TheVariants as paging
 
 -- the call of a task that waits
 waits_in : (q : Progress) (c : Watch) → WaitsFor q c
@@ -48,7 +46,6 @@ waits_in now.Fresh c w = absurd w
 
 not_listening : (call : Call) → is_wait call ≡ true → IsListening call → ⊥
 not_listening (calls.Woken st) w l = cc
-not_listening (calls.LockPage i st) w l = cc
 not_listening calls.Remove w l = l
 not_listening call w l = l
 
@@ -106,8 +103,6 @@ module _ (call : Call) (v : View) (x : ℕ) (w : is_await call ≡ true) where
   dozing_zero (at.Woken hearing.Sleep) g f h = absurd (cc)
   dozing_zero (at.Woken hearing.Run) g f h = absurd (cc)
   dozing_zero (at.Woken hearing.Clear) g f h = absurd (cc)
-  dozing_zero (at.Page paging.First) g f h = absurd (cc)
-  dozing_zero (at.Page p) g f h = absurd (cc)
   dozing_zero p g f h = absurd (cc)
 
 -- the failed load of a task that is asleep
@@ -116,16 +111,13 @@ module _ (call : Call) (es : List Step) (x : ℕ) (e : Entry) (wait : is_wait ca
   unwoken : is_woken e.kind ≡ false
   unwoken = ap (λ k. is_woken k) kind ∙ never_woken (call_watch call)
 
-  unpaged : is_page e.kind ≡ false
-  unpaged = ap (λ k. is_page k) kind ∙ kind_plain (call_watch call)
-
-  load_by : (b : Bool) → is_await call ≡ b → FailedBy false false b es x (call_watch call)
-      → FailedBy (is_woken e.kind) (is_page e.kind) (is_done (call_watch call)) es x (call_watch call)
-  load_by b a l = rw (unwoken, unpaged, done_await call wait, a) l
+  load_by : (b : Bool) → is_await call ≡ b → FailedBy false b es x (call_watch call)
+      → FailedBy (is_woken e.kind) (is_done (call_watch call)) es x (call_watch call)
+  load_by b a l = rw (unwoken, done_await call wait, a) l
 
   failed_load : (v : View) (p : Point) → v ≡ view_of es → stage p ≡ dozing → IsFitted call p → IsZero call p v x
       → IsTested call es x → (b : Bool) → is_await call ≡ b
-      → FailedBy (is_woken e.kind) (is_page e.kind) (is_done (call_watch call)) es x (call_watch call)
+      → FailedBy (is_woken e.kind) (is_done (call_watch call)) es x (call_watch call)
   failed_load v p told g f z tested true a =
       let k = dozing_zero call v x a p g f z in
       load_by true a ((zero_told es x (call_watch call)).0 k.0
@@ -138,8 +130,7 @@ module _ (run : List Ran) (r : IsRun run) (few : made_in run ≤ EVENTS) (t : �
   s = state_of run
 
   load : (call : Call) (p : Point) → s.progress t ≡ now.Open call p → is_wait call ≡ true
-      → (k : IsDownInWait s t call p)
-      → FailedBy (is_woken k.entry.kind) (is_page k.entry.kind) (is_done (call_watch call)) (s.table.history t)
+      → (k : IsDownInWait s t call p) → FailedBy (is_woken k.entry.kind) (is_done (call_watch call)) (s.table.history t)
       (own t) (call_watch call)
   load call p is wait k = failed_load call (s.table.history t) (own t) k.entry wait k.kind (s.table.view t) p
       (views_told run t) k.dozes
@@ -153,8 +144,7 @@ module _ (run : List Ran) (r : IsRun run) (few : made_in run ≤ EVENTS) (t : �
     queued = k.stands;
     watches = rw k.watch (same_bare (call_watch call));
     down = subst (λ (i : ℕ). (s.table.task i).state ≢ 0) (sym (owner_own t)) k.state;
-    failed = subst (λ (i : ℕ). FailedBy (is_woken k.entry.kind) (is_page k.entry.kind) (is_done (call_watch call))
-        (s.table.history i)
+    failed = subst (λ (i : ℕ). FailedBy (is_woken k.entry.kind) (is_done (call_watch call)) (s.table.history i)
         (own t) (call_watch call)) (sym (owner_own t)) (load call p is wait k);
   }
 

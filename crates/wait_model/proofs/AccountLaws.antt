@@ -8,3 +8,5 @@ pub mod OrderlyAccounts
 pub mod SignalCounts
 pub mod DoneCounts
 pub mod DoneStores
+pub mod PageTrails
+pub mod LentPages

@@ -2,6 +2,7 @@
 pub mod BitRecords
 pub mod BitSteps
 pub mod PickedEntries
+pub mod PageSteps
 pub mod BitKeepers
 pub mod WordBits
 pub mod HighBits

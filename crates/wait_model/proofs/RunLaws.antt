@@ -6,6 +6,9 @@ pub mod RunningStates
 pub mod WholeLooks
 pub mod WaitEvents
 pub mod BitEvents
+pub mod PageEvents
+pub mod PagelessPoints
+pub mod PagesHanded
 pub mod ProgramEvents
 pub mod CompletionEvents
 pub mod WalkEvents

@@ -14,6 +14,9 @@ pub mod MadeAwaits
 pub mod MadeEvents
 pub mod MadeCounts
 pub mod MadeBits
+pub mod MadePages
+pub mod PageEnds
+pub mod SentencePages
 pub mod MadeWalks
 pub mod MadeCalls
 pub mod FollowedSentences

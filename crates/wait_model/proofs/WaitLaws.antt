@@ -7,3 +7,5 @@ pub mod ZeroCounts
 pub mod Sleepers
 pub mod Openings
 pub mod OutsideStages
+pub mod PageTurns
+pub mod PageWaiters

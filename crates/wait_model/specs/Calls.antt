@@ -17,6 +17,7 @@ use Rattle.wait_model.specs.declared.points.AddPoint.TheVariants as adding
 use Rattle.wait_model.specs.declared.points.AwaitPoint.TheVariants as awaiting
 use Rattle.wait_model.specs.declared.points.BitPoint.TheVariants as biting
 use Rattle.wait_model.specs.declared.points.CountPoint.TheVariants as counting
+use Rattle.wait_model.specs.declared.points.PagePoint.TheVariants as paging
 use Rattle.wait_model.specs.declared.points.Point.TheVariants as at
 use Rattle.wait_model.specs.declared.points.RemovePoint.TheVariants as removing
 use Rattle.wait_model.specs.declared.points.SelectPoint.TheVariants as selecting
@@ -25,6 +26,7 @@ use Rattle.wait_model.specs.declared.points.WokenPoint.TheVariants as hearing
 use Rattle.wait_model.specs.declared.watches.Watch.{Watch}
 use Rattle.wait_model.specs.declared.watches.Watch.TheVariants as watch
 use Rattle.wait_model.specs.Queues.{is_priority}
+use Rattle.wait_model.specs.Watches.{page}
 
 -- what a call is about
 abbrev pub call_watch : Call → Watch
@@ -45,6 +47,7 @@ call_watch (calls.IsDone d) = watch.Done d
 call_watch (calls.TryBit w b) = watch.Bit w b
 call_watch (calls.WaitBit w b st) = watch.Bit w b
 call_watch (calls.LockBit w b st) = watch.Bit w b
+call_watch (calls.LockPage w st) = page w
 call_watch (calls.ClearBit w b) = watch.Bit w b
 call_watch (calls.WaitVar v old st) = watch.Var v old
 call_watch (calls.SetVar v x) = watch.Var v 0
@@ -72,6 +75,7 @@ is_in_range me (calls.IsDone d) = nat_lt d COMPLETIONS
 is_in_range me (calls.TryBit w b) = nat_lt w BIT_WORDS && nat_lt b WORD_BITS
 is_in_range me (calls.WaitBit w b st) = nat_lt w BIT_WORDS && nat_lt b WORD_BITS
 is_in_range me (calls.LockBit w b st) = nat_lt w BIT_WORDS && nat_lt b WORD_BITS
+is_in_range me (calls.LockPage w st) = nat_lt w BIT_WORDS
 is_in_range me (calls.ClearBit w b) = nat_lt w BIT_WORDS && nat_lt b WORD_BITS
 is_in_range me (calls.WaitVar v old st) = nat_lt v VARIABLES
 is_in_range me (calls.SetVar v x) = nat_lt v VARIABLES
@@ -101,6 +105,7 @@ program_start (calls.IsDone d) = at.Count counting.Peek
 program_start (calls.TryBit w b) = at.Bit biting.Try
 program_start (calls.WaitBit w b st) = at.Bit biting.First
 program_start (calls.LockBit w b st) = at.Bit biting.First
+program_start (calls.LockPage w st) = at.Page paging.First
 program_start (calls.ClearBit w b) = at.Publish
 program_start (calls.WaitVar v old st) = at.First
 program_start (calls.SetVar v x) = at.Publish

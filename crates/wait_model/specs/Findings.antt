@@ -41,6 +41,7 @@ is_waiting (calls.SimpleWait c st) = true
 is_waiting (calls.WaitFor d st) = true
 is_waiting (calls.WaitBit w b st) = true
 is_waiting (calls.LockBit w b st) = true
+is_waiting (calls.LockPage w st) = true
 is_waiting (calls.WaitVar v old st) = true
 is_waiting _ = false
 

@@ -25,7 +25,19 @@ use Rattle.wait_model.specs.declared.steps.Step.{Step}
 use Rattle.wait_model.specs.declared.steps.Step.TheVariants as step
 use Rattle.wait_model.specs.Functions.{put}
 use Rattle.wait_model.specs.Tasks.{meets, task_of}
-use Rattle.wait_model.specs.Watches.{same, head_of, is_bit, mask_of, failing, was_clear, owner, stands_at, part_of}
+use Rattle.wait_model.specs.Watches.{
+  same,
+  head_of,
+  is_bit,
+  mask_of,
+  failing,
+  was_clear,
+  owner,
+  stands_at,
+  part_of,
+  is_page,
+  page,
+}
 use Rattle.wait_model.specs.Words.{entry_of, spent_of, flag_of}
 use Rattle.wait_model.specs.Views.{
   View,
@@ -119,7 +131,7 @@ forgotten v x f = if is_off f then put v.bits.stored x None else v.bits.stored
 -- the walk selects the entry that it takes off: an exclusive one of its bit, of another task that it has
 -- woken in this hold
 abbrev pub picks : Option Walk → Look → Bool → Bool → Bool
-picks (Some w) (shown e) rou mine = e.exclusive
+picks (Some w) (shown e) rou mine = (e.exclusive && not (is_page e.kind))
     && (is_bit w.watch && (same e.watch w.watch && (rou && not mine)))
 picks _ _ rou mine = false
 
@@ -145,6 +157,7 @@ after_queue x e v = record v {
     failed = put v.checks.failed x (λ _. None);
     low = put v.checks.low x (λ _. None);
     zero_failed = if v.hold.prepared then v.checks.zero_failed else put v.checks.zero_failed x (λ _. None);
+    tas_failed = put v.checks.tas_failed x (λ _. false);
   };
   bits = record (v.bits) {
     stored = put v.bits.stored x (Some e);
@@ -187,6 +200,27 @@ after_consume c clear v = record (v.bits) {
   pending = λ d. v.bits.pending d && not (is_bit c && same d c);
   got = λ d. v.bits.got d || (is_bit c && (clear && same d c));
   keeps = λ d. v.bits.keeps d || (is_bit c && (clear && same d c));
+}
+
+-- the exchange found this bit set
+abbrev pub found_set : Watch → ℕ → Watch → Bool
+found_set c r d = is_bit c && (same d c && not (was_clear c r))
+
+-- the bit is the page of which a task takes note
+abbrev pub takes_note : Option ℕ → Watch → Bool
+takes_note None d = false
+takes_note (Some p) d = same d (page p)
+
+-- the walk under way is for this page
+abbrev pub is_for_page : Option Walk → ℕ → Bool
+is_for_page None p = false
+is_for_page (Some w) p = same (page p) w.watch
+
+-- a page was tried for the task of an entry, and found as `clear` says
+abbrev pub after_tas_for : ℕ → Bool → View → Hold
+after_tas_for p clear v = record (v.hold) {
+  moot = v.hold.moot || is_for_page v.walk p;
+  picked = v.hold.picked || (is_for_page v.walk p && clear);
 }
 
 -- the view after one more step
@@ -241,11 +275,19 @@ after (step.Mark h q) v = record v { mark = Some q }
 after step.Unmark v = record v { mark = None }
 after (step.Load l r) v = after_load l r v
 after (step.Publish c n r) v = after_publish c v
-after (step.Consume c n r) v = record v { bits = after_consume c (was_clear c r) v }
+after (step.Consume c n r) v = record v {
+  checks = record (v.checks) { tas_failed = λ x d. v.checks.tas_failed x d || found_set c r d };
+  bits = after_consume c (was_clear c r) v;
+}
 after (step.Woken x) v = record v { hold = record (v.hold) { flagged = put v.hold.flagged x true } }
-after (step.Unflag x) v = record v { checks = record (v.checks) { low = put v.checks.low x (λ _. None) } }
+after (step.Unflag x o) v = record v {
+  checks = record (v.checks) { low = put v.checks.low x (λ _. None) };
+  bits = record (v.bits) { keeps = λ d. v.bits.keeps d || takes_note o d };
+}
 after (step.Flag x w) v =
     record v { checks = record (v.checks) { flag_no = put v.checks.flag_no x (not (flag_of w)) } }
+after (step.TasFor x p r) v = record v { hold = after_tas_for p (was_clear (page p) r) v }
+after (step.Handed x) v = v
 
 -- a view after more steps, and the view of a history; both have the oldest step first
 abbrev pub after_all : View → List Step → View

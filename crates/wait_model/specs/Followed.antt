@@ -46,12 +46,14 @@ is_wake (calls.ClearBit w b) = true
 is_wake (calls.SetVar v x) = true
 is_wake _ = false
 
--- a walk came to the end of the queue, or its look found no member, which its answer tells; a selection, whose answer
--- is a number, gave the lock back without its count used up
+-- a walk came to the end of the queue: it used up no count, and no function stopped it
 abbrev pub is_end : End → Bool
 is_end ends.End = true
 is_end _ = false
 
+-- By this event and this answer of its call a wake came to its end: a walk came to the end of the queue, or its look
+-- found no member, which its answer tells; or a selection, whose answer is a number, gave the lock back without its
+-- count used up.
 abbrev pub comes_to_end : Event → Answer → Bool
 comes_to_end e (answers.Walk w) = is_end w.end
 comes_to_end (event.Unlock h used) a = not used

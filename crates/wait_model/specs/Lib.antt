@@ -49,6 +49,7 @@ pub mod WorkedFollowed
 pub mod Totals
 pub mod SignalCounts
 pub mod BitKeepers
+pub mod Lent
 pub mod DoneCounts
 pub mod Completions
 pub mod Counts

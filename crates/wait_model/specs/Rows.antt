@@ -9,7 +9,18 @@ use Rattle.wait_model.specs.declared.watches.Aim.{Aim}
 use Rattle.wait_model.specs.declared.steps.Step.{Step}
 use Rattle.wait_model.specs.declared.steps.Step.TheVariants as step
 use Rattle.wait_model.specs.Tasks.{task_of}
-use Rattle.wait_model.specs.Watches.{head_of, counted, is_done, is_bit, is_woken, is_simple, owner, part_of}
+use Rattle.wait_model.specs.Watches.{
+  head_of,
+  counted,
+  is_done,
+  is_bit,
+  is_woken,
+  is_simple,
+  owner,
+  part_of,
+  is_page,
+  page,
+}
 use Rattle.wait_model.specs.Words.{bit_at, entry_of, spent_of, flag_of}
 use Rattle.wait_model.specs.Views.{View, Walk, off}
 use Rattle.wait_model.specs.Tables.{Words, Table, next}
@@ -59,13 +70,20 @@ MayClear s a c = is_bit c ≡ true → ((s.task a).state ≡ 0) × ((s.view a).b
 abbrev pub MayChange : Table → ℕ → ℕ → Type 0
 MayChange s a x = (e : Entry) × (s.entry x ≡ Some e) × ((s.view a).hold.head ≡ Some (head_of e.watch))
 
--- The owner of entry x holds head h and has tested no watch since it queued the entry. Where it had stored its state
--- in the same hold before, it may have found a done count 0 before, too.
+-- the same of an entry of kind Page for this page
+abbrev pub MayTakeFor : Table → ℕ → ℕ → ℕ → Type 0
+MayTakeFor s a x p = (e : Entry) × (s.entry x ≡ Some e) × ((s.view a).hold.head ≡ Some (head_of e.watch))
+    × (e.watch ≡ page p) × (is_page e.kind ≡ true)
+
+-- The owner of entry x holds head h and has tested no watch since it queued the entry: no load of its own failed since,
+-- and no test-and-set found a bit set, as an entry of kind Page waits by one. Where it had stored its state in the same
+-- hold before, it may have found a done count 0 before, too.
 pub record IsUntested (v : View) (h x : ℕ) : Type 0 where
   pub held : v.hold.head ≡ Some h
   pub failed : (c : Watch) → v.checks.failed x c ≡ None
   pub low : (c : Watch) → v.checks.low x c ≡ None
   pub zero_failed : (v.hold.prepared ≡ true) ⊎ ((c : Watch) → v.checks.zero_failed x c ≡ None)
+  pub tas_failed : (c : Watch) → v.checks.tas_failed x c ≡ false
 
 -- Where member word i of head h shows no bit: each entry of these indexes is off the head, or it is untested, since
 -- its bit is set in the hold in which its word was stored, before a watch is tested.
@@ -95,8 +113,10 @@ Allowed s a (step.Load l r) = Reads s.words l r
 Allowed s a (step.Publish c n r) = MayPublish (s.view a) c × MayClear s a c × Reads s.words c r
 Allowed s a (step.Consume c n r) = Lowers s.words c n × MayConsume (s.view a) c × Reads s.words c r
 Allowed s a (step.Woken x) = MayChange s a x
-Allowed s a (step.Unflag x) = owner x ≡ a
+Allowed s a (step.Unflag x o) = (owner x ≡ a) × (s.taken x ≡ o)
 Allowed s a (step.Flag x w) = (owner x ≡ a) × (flag_of w ≡ s.flag x)
+Allowed s a (step.TasFor x p r) = MayTakeFor s a x p × Reads s.words (page p) r × (s.taken x ≡ None)
+Allowed s a (step.Handed x) = MayChange s a x × ((p : ℕ) × (s.taken x ≡ Some p))
 
 -- steps of one task in a row, oldest first
 abbrev pub AllAllowed : Table → ℕ → List Step → Type 0

@@ -5,6 +5,7 @@ use Rattle.wait_model.specs.Phrases.{
   ◌>>=◌,
   ◌>>◌,
   gives,
+  makes,
   finds,
   when◌then◌otherwise◌,
   Turn,
@@ -12,7 +13,22 @@ use Rattle.wait_model.specs.Phrases.{
   repeat,
   repeats,
 }
-use Rattle.wait_model.specs.SentenceSteps.{nothing, number, minus_4, is_met, prepares, finishes, acts}
+use Rattle.wait_model.specs.SentenceSteps.{
+  nothing,
+  number,
+  minus_4,
+  locks,
+  unlocks,
+  is_met,
+  looks,
+  sleeps,
+  puts_in,
+  prepares,
+  finishes,
+  acts,
+}
+use Rattle.wait_model.specs.Tasks.{state_mask}
+use Rattle.wait_model.specs.Watches.{page}
 use Rattle.wait_model.specs.Words.{flag}
 use Rattle.wait_model.specs.declared.calls.Answer.{Answer}
 use Rattle.wait_model.specs.declared.calls.Answer.TheVariants as answer
@@ -66,6 +82,41 @@ lock_turn me w b st queued = do
         when failed then gives (leaves (if clear then number 0 else minus_4))
             otherwise when clear then (do finishes me (watch.Bit w b) true; gives (leaves (number 0)))
             otherwise gives (repeats true)
+
+-- A turn of a wait for a page. It leaves where the flag is set or a signal is found.
+abbrev pub page_turn : SleepState → Unit {0} → Phrase (Turn (Unit {0}) (Unit {0}))
+page_turn st _ = do
+  makes (event.State (state_mask st))
+  flagged ← finds event.Flag
+  when flagged then gives (leaves tt) otherwise do
+    signal ← looks st
+    when signal then gives (leaves tt) otherwise do
+      sleeps
+      gives (repeats tt)
+
+-- once its entry is queued and the page was found set again: the flag tells whether the page was taken for the task
+abbrev pub awaits_page : ℕ → Watch → SleepState → Phrase Answer
+awaits_page me c st = do
+  repeat (page_turn st) tt
+  finishes me c true
+  flagged ← finds event.Flag
+  when flagged then (do makes event.Unflag; gives (number 0)) otherwise gives minus_4
+
+-- `folio_lock`: the page is tried, and again after the store of the entry
+abbrev pub locks_page : ℕ → ℕ → SleepState → Phrase Answer
+locks_page me p st = do
+  clear ← tries p 0
+  when clear then gives (number 0) otherwise do
+    makes event.Unflag
+    locks (page p)
+    entered ← puts_in (page p) forms.Tail
+    when not entered
+        then (do unlocks (page p); clear ← tries p 0; gives (if clear then number 0 else answer.Worn))
+        otherwise do
+          clear ← tries p 0
+          when clear
+              then (do makes (event.Unqueue me); unlocks (page p); gives (number 0))
+              otherwise (do unlocks (page p); awaits_page me (page p) st)
 
 -- `wait_on_bit_lock`, `__wait_on_bit_lock`
 abbrev pub locks_bit : ℕ → ℕ → ℕ → SleepState → Phrase Answer

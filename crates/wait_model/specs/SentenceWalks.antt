@@ -1,5 +1,5 @@
 -- Walks of wake-ups and selections of simple queues. (To be believed.)
-use Rattle.std.specs.Prelude.{ℕ, ◌+◌, ◌-◌, ◌<◌, ◌≤◌, Bool, true, false, ◌&&◌, ◌==◌, if◌then◌else◌}
+use Rattle.std.specs.Prelude.{ℕ, ◌+◌, ◌-◌, ◌<◌, ◌≤◌, Bool, true, false, ◌&&◌, ◌==◌, if◌then◌else◌, not}
 use Rattle.wait_model.specs.declared.layout.TheConstants.{BREAK}
 use Rattle.wait_model.specs.Phrases.{
   Phrase,
@@ -17,7 +17,8 @@ use Rattle.wait_model.specs.Phrases.{
   repeats,
 }
 use Rattle.wait_model.specs.SentenceSteps.{locks, unlocks, unlocks_spent, is_met}
-use Rattle.wait_model.specs.Watches.{head_of}
+use Rattle.wait_model.specs.Words.{flag, bit_at}
+use Rattle.wait_model.specs.Watches.{head_of, word_of, bit_of, is_page, misses}
 use Rattle.wait_model.specs.declared.calls.Answer.{Answer}
 use Rattle.wait_model.specs.declared.queues.CalledEntry.{CalledEntry}
 use Rattle.wait_model.specs.declared.queues.End.{End}
@@ -77,6 +78,24 @@ wakes_off who = do
   hit ← wakes who
   when hit then (do makes (event.Unqueue who); gives true) otherwise gives false
 
+-- the function of a page's entry: did it take the page for the entry's task? If not, it found the page set.
+abbrev pub hands_over : ℕ → Phrase Bool
+hands_over who = do
+  makes (event.Handed who)
+  hit ← wakes who
+  makes (event.Unqueue who)
+  gives true
+
+abbrev pub takes_page : Watch → ℕ → Phrase Bool
+takes_page c who = do
+  value ← finds (λ (value : ℕ). event.TasFor (word_of c) who (flag (bit_at value (bit_of c))))
+  when misses c value then gives false otherwise hands_over who
+
+abbrev pub hands_page : Watch → ℕ → Phrase Bool
+hands_page c who = do
+  met ← is_met c
+  when met then takes_page c who otherwise gives false
+
 abbrev pub calls_function : Watch → Kind → ℕ → Phrase Bool
 calls_function c kind.Default who = wakes who
 calls_function c kind.Autoremove who = wakes_off who
@@ -86,6 +105,7 @@ calls_function c kind.Bit who = do
   when met then wakes_off who otherwise gives false
 calls_function c kind.Var who = wakes_off who
 calls_function c kind.Simple who = wakes who
+calls_function c kind.Page who = hands_page c who
 
 -- What a walk comes to next. Before a further member it breaks in a hold that has called more than `BREAK` entries: it
 -- puts its bookmark, gives the lock back, and goes on in a next hold.
@@ -103,12 +123,18 @@ at_end c t = do
   unlocks c
   gives (leaves (walked t end_as.End))
 
+-- a page that is found set stops the walk
+abbrev pub at_stop : Watch → WalkTally → Phrase (Turn WalkTally Answer)
+at_stop c t = do
+  unlocks c
+  gives (leaves (walked t end_as.Stopped))
+
 -- an exclusive entry that it wakes lowers the count, and a count that comes to 0 ends the walk
 abbrev pub at_entry : Watch → WalkTally → CalledEntry → Phrase (Turn WalkTally Answer)
 at_entry c t called = do
   given (t.calls ≤ BREAK)
   hit ← calls_function c called.kind called.who
-  when (hit && called.exclusive) && (t.left == 1)
+  when is_page called.kind && not hit then at_stop c t otherwise when (hit && called.exclusive) && (t.left == 1)
       then (do unlocks_spent c; gives (leaves (walked (tallied t called.exclusive hit) end_as.Spent)))
       otherwise gives (repeats (tallied t called.exclusive hit))
 

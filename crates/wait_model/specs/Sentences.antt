@@ -3,7 +3,7 @@
 -- share in SentenceSteps.antt and beside it. (To be believed.)
 use Rattle.std.specs.Prelude.{ℕ, Bool, true, false, if◌then◌else◌, List, ◌++◌}
 use Rattle.wait_model.specs.Phrases.{Phrase, ◌>>=◌, ◌>>◌, gives, makes, finds, any, ends}
-use Rattle.wait_model.specs.SentenceBits.{tries, waits_bit, locks_bit}
+use Rattle.wait_model.specs.SentenceBits.{tries, waits_bit, locks_bit, locks_page}
 use Rattle.wait_model.specs.SentenceCounts.{awaits, tries_await, is_completed, completes, completes_all, resets}
 use Rattle.wait_model.specs.SentenceSteps.{number, yes_or_no, locks, unlocks, loads, stores, puts_in}
 use Rattle.wait_model.specs.SentenceWaits.{waits, waits_woken}
@@ -98,10 +98,11 @@ sentence me (calls.Reinit d) = resets (watch.Done d)
 sentence me (calls.WaitFor d st) = awaits me (watch.Done d) st
 sentence me (calls.TryWait d) = tries_await (watch.Done d)
 sentence me (calls.IsDone d) = is_completed (watch.Done d)
--- `test_and_set_bit`, `wait_on_bit`, `wait_on_bit_lock`, `clear_and_wake_up_bit`
+-- `test_and_set_bit`, `wait_on_bit`, `wait_on_bit_lock`, `folio_lock`, `clear_and_wake_up_bit`
 sentence me (calls.TryBit w b) = do clear ← tries w b; gives (yes_or_no clear)
 sentence me (calls.WaitBit w b st) = waits_bit me (watch.Bit w b) st
 sentence me (calls.LockBit w b st) = locks_bit me w b st
+sentence me (calls.LockPage p st) = locks_page me p st
 sentence me (calls.ClearBit w b) = do makes (event.Clear w b); wakes_one (watch.Bit w b)
 -- `wait_var_event`; a store of the variable and `wake_up_var`
 sentence me (calls.WaitVar v old st) = waits me (watch.Var v old) st forms.Front

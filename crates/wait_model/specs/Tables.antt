@@ -30,6 +30,7 @@ use Rattle.wait_model.specs.declared.steps.Step.{Step}
 use Rattle.wait_model.specs.declared.steps.Step.TheVariants as step
 use Rattle.wait_model.specs.Functions.{put}
 use Rattle.wait_model.specs.Tasks.{woken, slept, raised, accepted}
+use Rattle.wait_model.specs.Watches.{was_clear, page}
 use Rattle.wait_model.specs.Words.{bit_word}
 use Rattle.wait_model.specs.Views.{View, blank}
 use Rattle.wait_model.specs.Fold.{after}
@@ -49,7 +50,9 @@ pub record Table : Type 0 where
   pub task : ℕ → TaskRecord
   pub entry : ℕ → Option Entry  -- by index
   pub mark : ℕ → Option Mark
-  pub flag : ℕ → Bool  -- by the entry's index
+  pub flag : ℕ → Bool  -- WOKEN, by the entry's index
+  pub done : ℕ → Bool  -- DONE beside it
+  pub taken : ℕ → Option ℕ  -- the page that a walk took for the entry's owner, who has not taken note of it yet
   pub holder : ℕ → Bool  -- whether a head is held
   pub spent : ℕ → ℕ  -- how often a walk of a head used up its count
   pub words : Words
@@ -110,9 +113,18 @@ word_step s a step.Unmark = record s { mark = put s.mark a None }
 word_step s a (step.Load l r) = s
 word_step s a (step.Publish c n r) = record s { words = publish s.words c n }
 word_step s a (step.Consume c n r) = record s { words = consume s.words c n }
-word_step s a (step.Woken x) = record s { flag = put s.flag x true }
-word_step s a (step.Unflag x) = record s { flag = put s.flag x false }
+word_step s a (step.Woken x) = record s { flag = put s.flag x true; done = put s.done x false }
+word_step s a (step.Unflag x o) = record s {
+  flag = put s.flag x false;
+  done = put s.done x false;
+  taken = put s.taken x None;
+}
 word_step s a (step.Flag x w) = s
+word_step s a (step.TasFor x p r) = record s {
+  words = consume s.words (page p) 1;
+  taken = if was_clear (page p) r then put s.taken x (Some p) else s.taken;
+}
+word_step s a (step.Handed x) = record s { flag = put s.flag x true; done = put s.done x true }
 
 -- a task's step: its word changes, and its history grows
 abbrev pub next : Table → ℕ → Step → Table
@@ -133,6 +145,8 @@ start = record {
   entry = λ _. None;
   mark = λ _. None;
   flag = λ _. false;
+  done = λ _. false;
+  taken = λ _. None;
   holder = λ _. false;
   spent = λ _. 0;
   words = record { plains = λ _. 0; dones = λ _. 0; bits = λ _ _. false; vars = λ _. 0 };

@@ -23,7 +23,7 @@ use Rattle.wait_model.specs.declared.layout.TheConstants.{ENTRIES}
 use Rattle.wait_model.specs.declared.watches.Watch.{Watch}
 use Rattle.wait_model.specs.declared.watches.Entry.{Entry}
 use Rattle.wait_model.specs.Tasks.{meets}
-use Rattle.wait_model.specs.Watches.{same, head_of, is_done, is_bit, is_woken, is_simple, owner}
+use Rattle.wait_model.specs.Watches.{same, head_of, is_done, is_bit, is_woken, is_page, is_simple, owner}
 
 -- what a hold has seen of an entry word: nothing, no entry, an entry of another head, or one of its head
 pub data Look : Type 0 where
@@ -45,9 +45,9 @@ pub record Hold : Type 0 where
   pub called : ℕ → Bool  -- tasks woken with the walk's mask
   pub flagged : ℕ → Bool  -- entries whose flag it set
   pub rung : ℕ → Bool  -- entries whose flag it set before it woke their task
-  pub moot : Bool  -- it found the bit of its walk set
+  pub moot : Bool  -- it found the bit of its walk set, or set it for a task
   pub roused : ℕ → Bool  -- tasks that it woke out of a state
-  pub picked : Bool  -- it took off the entry that its walk selected
+  pub picked : Bool  -- it took off the entry that its walk selected, or took the page for the entry's task
   pub prepared : Bool  -- it stored the own state
   pub zero : Watch → Option ℕ  -- a done count that it found 0, with the head's spent count at the lock
 
@@ -63,6 +63,7 @@ pub record Checks : Type 0 where
   pub low : ℕ → Watch → Option ℕ  -- since the entry was queued and its flag cleared
   pub flag_no : ℕ → Bool  -- since the last store of a state the flag read no
   pub zero_failed : ℕ → Watch → Option ℕ  -- in the hold of the last store of a state
+  pub tas_failed : ℕ → Watch → Bool  -- since the entry was queued a test-and-set found the bit set
 
 -- bits that the task tries and holds
 pub record Bits : Type 0 where
@@ -105,6 +106,7 @@ blank = record {
     low = λ _ _. None;
     flag_no = λ _. false;
     zero_failed = λ _ _. None;
+    tas_failed = λ _ _. false;
   };
   bits = record { stored = λ _. None; pending = λ _. false; got = λ _. false; keeps = λ _. false };
 }
@@ -113,6 +115,7 @@ blank = record {
 abbrev pub checked : View → ℕ → Entry → Watch → Option ℕ
 checked v x e c =
     if is_woken e.kind then (if v.checks.flag_no x then v.checks.low x c else None)
+    else if is_page e.kind then (if v.checks.tas_failed x c then Some 0 else None)
     else if is_done c then v.checks.zero_failed x c
     else v.checks.failed x c
 
@@ -120,9 +123,10 @@ checked v x e c =
 abbrev pub concerns : Walk → Watch → ℕ → Bool
 concerns w c σ = same c w.watch && meets w.mask σ
 
--- this hold has called the entry
+-- this hold has called the entry; one for a page only by having seen the page set
 abbrev pub gone : View → ℕ → Entry → Bool
-gone v x e = if is_woken e.kind then v.hold.rung x else (v.hold.called (owner x) || v.hold.moot)
+gone v x e = if is_woken e.kind then v.hold.rung x else if is_page e.kind then v.hold.moot
+    else (v.hold.called (owner x) || v.hold.moot)
 
 -- the walk has not yet passed an entry of this watch and place; `g` is that this hold has called it
 abbrev pub ahead : Option Walk → Bool → Watch → ℕ → ℕ → Bool
@@ -163,7 +167,7 @@ look_at None f = unseen
 look_at (Some h) None = off
 look_at (Some h) (Some e) = if head_of e.watch == h then shown e else elsewhere
 
--- an exclusive entry for this bit
+-- an exclusive entry for this bit, by which its task will try the bit itself
 abbrev pub is_trying_for : Option Entry → Watch → Bool
 is_trying_for None c = false
-is_trying_for (Some e) c = e.exclusive && (is_bit e.watch && same c e.watch)
+is_trying_for (Some e) c = e.exclusive && (is_bit e.watch && (same c e.watch && not (is_page e.kind)))

@@ -33,7 +33,9 @@ use Rattle.wait_model.specs.Watches.{
   same,
   head_of,
   is_bit,
+  page,
   is_woken,
+  is_page,
   is_simple,
   mask_of,
   failing,
@@ -57,11 +59,17 @@ pub record WalkHold (es : List Step) (c : Watch) (σ : ℕ) : Type 0 where
   pub watch : same c aim.watch ≡ true
   pub mode : meets (mask_of aim.mode) σ ≡ true
 
--- the step is the walk's wake of the entry's owner, or a load that found the walk's bit set: then the
--- walk calls no further entry
+-- the step shows the walk's bit set, by a load or by a test-and-set for a task: then the walk calls no further entry
+abbrev pub sees_set : Aim → Step → Bool
+sees_set a (step.Load l r) = is_bit a.watch && failing l r a.watch
+sees_set a (step.TasFor x p r) = same (page p) a.watch
+sees_set a _ = false
+
+-- the step is the walk's wake of the entry's owner, or shows the walk's bit set
 abbrev pub calls_entry : Aim → ℕ → Step → Bool
 calls_entry a x (step.Wake who mask w) = (mask == mask_of a.mode) && (owner x == who)
 calls_entry a x (step.Load l r) = is_bit a.watch && failing l r a.watch
+calls_entry a x (step.TasFor y p r) = same (page p) a.watch
 calls_entry a x _ = false
 
 -- the step is the walk's wake of the entry's owner
@@ -80,14 +88,16 @@ pub record RungBy (inside : List Step) (a : Aim) (x : ℕ) : Type 0 where
   pub wake : Since (wakes_entry a x) is_publish inside
   pub flag : Since (flags x) is_publish wake.earlier
 
-abbrev pub CalledBy : Bool → List Step → Aim → ℕ → Type 0
-CalledBy false inside a x = Since (calls_entry a x) is_publish inside
-CalledBy true inside a x = RungBy inside a x
+-- by whether the entry is of kind Woken or of kind Page: a page's entry is called where the page was seen set
+abbrev pub CalledBy : (woken page : Bool) → List Step → Aim → ℕ → Type 0
+CalledBy true page inside a x = RungBy inside a x
+CalledBy false true inside a x = Since (sees_set a) is_publish inside
+CalledBy false false inside a x = Since (calls_entry a x) is_publish inside
 
 -- the walk under way has called the entry in this hold
 pub record CalledNow (es : List Step) (x : ℕ) (e : Entry) (σ : ℕ) : Type 0 where
   pub hold : WalkHold es e.watch σ
-  pub called : CalledBy (is_woken e.kind) hold.inside hold.aim x
+  pub called : CalledBy (is_woken e.kind) (is_page e.kind) hold.inside hold.aim x
 
 -- the step tells what stands in entry word x: it was found, or left
 abbrev pub tells : ℕ → Step → Bool

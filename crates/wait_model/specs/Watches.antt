@@ -44,6 +44,10 @@ use Rattle.wait_model.specs.declared.watches.Mode.{Mode}
 use Rattle.wait_model.specs.declared.watches.Mode.TheVariants as mode
 use Rattle.wait_model.specs.Words.{bit_at}
 
+-- the bit of a page
+abbrev pub page : ℕ → Watch
+page w = watch.Bit w 0
+
 -- the two are woken by one wake: for a variable the old value does not matter
 abbrev pub same : Watch → Watch → Bool
 same (watch.Plain c) (watch.Plain d) = c == d
@@ -129,6 +133,11 @@ bit_of _ = 0
 abbrev pub is_woken : Kind → Bool
 is_woken kind.Woken = true
 is_woken _ = false
+
+-- the function of the entry takes the page for its task
+abbrev pub is_page : Kind → Bool
+is_page kind.Page = true
+is_page _ = false
 
 abbrev pub is_simple : Kind → Bool
 is_simple kind.Simple = true

@@ -12,6 +12,7 @@ ghost use Rattle.wait_model.specs.Making.{SentencesAreMade, ProgramsFollow};
 ghost use Rattle.wait_model.specs.Spoken.{CallsFollowSentences, OpenCallsBegin};
 ghost use Rattle.wait_model.specs.Told.{CoveringTold, FailedTold, OwesTold, OwingTold, TryingTold, ViewsTold, ZeroTold};
 ghost use Rattle.wait_model.specs.Waiters.{NoRunLosesWaiter};
+ghost use Rattle.wait_model.specs.Lent.{NoRunLeavesPage};
 ghost use Rattle.wait_model.specs.Worked.{ReplaysRun, WorkedScripts};
 ghost use Rattle.wait_model.specs.WorkedForms.{WorkedForms};
 ghost use Rattle.wait_model.specs.WorkedBits.{WorkedBits};
@@ -105,10 +106,16 @@ pub fn empty_looks_end()
     ensures worked { WorkedScans }
 {}
 
-/// No run loses a waiter: who is asleep in a wait for a condition, a completion, a bit or a variable sleeps on it
-/// in that sense, and so its wakeup is not lost.
+/// No run loses a waiter: who is asleep in a wait for a condition, a completion, a bit, a page or a variable sleeps on
+/// it in that sense, and so its wakeup is not lost.
 pub fn no_waiter_lost()
     ensures { NoRunLosesWaiter }
+{}
+
+/// No run leaves a page: one that a walk took for a task, which has not taken note of it yet, is the page that the
+/// task's open call locks.
+pub fn no_page_left()
+    ensures { NoRunLeavesPage }
 {}
 
 /// No task takes a signal that nobody raised at it: true at the start, kept by every step, and so true in

@@ -191,6 +191,9 @@ pub const FATAL: u64 = 0x4_0000;
 /// The flag by which a waker tells the owner of an entry that it was woken (`WQ_FLAG_WOKEN`).
 pub const WOKEN: u64 = 0x02;
 
+/// WOKEN and DONE: a walk took the page for the owner of the entry (`WQ_FLAG_WOKEN` and `WQ_FLAG_DONE`).
+pub const HANDED: u64 = 0x12;
+
 // The count of a completion.
 
 /// The done count that says that all are done: it is neither raised nor lowered (`UINT_MAX`).

@@ -1,5 +1,5 @@
 -- A wait for a bit gives up only after a turn that a signal ended: what its latest events are at each place.
-use Rattle.std.proofs.Common.{refl, sym, ◌∙◌, ap, arith}
+use Rattle.std.proofs.Common.{refl, sym, ◌∙◌, ap, arith, inl}
 use Rattle.std.proofs.lemmas.List.Elements.{All-nil, All-cons}
 use Rattle.std.specs.Prelude.{
   ℕ,
@@ -58,14 +58,21 @@ use Rattle.wait_model.specs.Programs.{
   ask,
   look_event,
   await_after,
+  page_last,
 }
 use Rattle.wait_model.specs.Runs.{State, own, seen_by, planned, progress_at}
 use Rattle.wait_model.specs.Reached.{absent, IsFitted, HomeAt, IsHome}
 use Rattle.wait_model.specs.Accounts.{Account}
-use Rattle.wait_model.specs.Selections.{is_finish_event, IsBrokenOff, IsGivenUp}
+use Rattle.wait_model.specs.Selections.{is_finish_event, is_page_lock, IsBrokenOff, IsGivenUp, IsPageGivenUp}
+use Rattle.wait_model.proofs.WaitLaws.WaitStages.{FitsStage}
+use Rattle.wait_model.proofs.WaitLaws.PageTurns.{paging_locks}
+use Rattle.wait_model.proofs.AccountLaws.PageTrails.{PageTrailAt}
 use Rattle.wait_model.proofs.RunLaws.FineEvents.{none_there}
 use Rattle.wait_model.proofs.WaitLaws.OutsideStages.{either, both, unset, is_aside, aside_step}
 use Rattle.wait_model.proofs.AccountLaws.Refusals.{refusal, not_interrupted}
+use Rattle.wait_model.specs.declared.points.PagePoint.TheVariants as paging
+use Rattle.std.specs.Prelude.{◌⊎◌}
+use Rattle.std.proofs.Common.{inl, inr}
 
 abbrev pub EntryIsOff : Call → List Event → Type 0
 EntryIsOff call trail = IsBrokenOff (call_head call) (call_number call) (bit_of (call_watch call)) trail
@@ -258,6 +265,7 @@ is_off (Some e) c h = absurd h
 module _ (s : State) (me : ℕ) (call : Call) (a : Account) where
   abbrev Gives : Planned → Type 0
   Gives x = x.next ≡ next.Ends interrupted → IsGivenUp s a me call x.event
+      ⊎ IsPageGivenUp s a me call x.event
 
   -- an event after which the call goes on, or answers something else
   gives_not : (x : Planned) → refusal x.next ≢ refusal (next.Ends interrupted) → Gives x
@@ -271,12 +279,12 @@ module _ (s : State) (me : ℕ) (call : Call) (a : Account) where
       → s.table.entry (own me) ≡ None
       → Gives (if b then go e (at.Bit biting.Last) else ends_with e interrupted)
   gives_finished e true l w h none = gives_on e (at.Bit biting.Last)
-  gives_finished e false l w h none = λ z. record {
+  gives_finished e false l w h none = λ z. inl (record {
     waits = w;
     turn = h;
     off = none;
     last = λ k. absurd (let y : false ≡ true = sym l ∙ k in cc);
-  }
+  })
 
   gives_off : (e d : Event) (p : Point) (b : Bool) → is_some (s.table.entry (own me)) ≡ b → is_bit_wait call ≡ true
       → EntryIsOff call (a.trail me)
@@ -289,14 +297,14 @@ module _ (s : State) (me : ℕ) (call : Call) (a : Account) where
       → s.table.entry (own me) ≡ None
       → Gives (ends_with (exchange call (seen_by s me call (at.Bit biting.Last)))
       (if b then interrupted else zero_answer))
-  gives_last true u w h none = λ z. record {
+  gives_last true u w h none = λ z. inl (record {
     waits = w;
     turn = h;
     off = none;
     last = λ k. ap
         (λ (d : Bool). event.Tas (word_of (call_watch call)) (bit_of (call_watch call)) (flag d))
         (sym (bit_misses call (value_of s.table.words (call_watch call)) w) ∙ u);
-  }
+  })
   gives_last false u w h none = gives_not _ (λ z. omega (arith, z))
 
   gives_finish : (p : FinishPoint) → is_bit_wait call ≡ true → EntryIsOff call (a.trail me)
@@ -314,15 +322,26 @@ module _ (s : State) (me : ℕ) (call : Call) (a : Account) where
   gives_signalled e d p true = gives_not _ (λ z. omega (arith, z))
   gives_signalled e d p false = gives_on d p
 
-  pub given_up : (p : Point) → IsFitted call p → IsBroken call p (a.trail me)
+  -- the last reading of a wait for a page
+  gives_page : (b : Bool) → s.table.flag (own me) ≡ b → is_page_lock call ≡ true
+      → PageTrailAt (now.Open call (at.Page paging.Last)) (s.table.flag (own me)) (a.trail me)
+      → s.table.entry (own me) ≡ None → Gives (page_last b)
+  gives_page true q l t none = gives_on _ _
+  gives_page false q l (inl z) none = absurd (let y : false ≡ true = sym q ∙ z in cc)
+  gives_page false q l (inr t) none = λ z. inr (record { waits = l; turn = t; off = none; flag = refl })
+
+  pub given_up : (p : Point) → IsFitted call p → FitsStage (now.Open call p) → IsBroken call p (a.trail me)
+      → PageTrailAt (now.Open call p) (s.table.flag (own me)) (a.trail me)
       → HomeAt (now.Open call p) (s.table.entry (own me)) → Gives (planned s me call p)
-  given_up (at.Finish p true) f h home = gives_finish p (f refl) h home
-  given_up (at.Bit biting.Last) f h home = gives_last (unset s call) refl f h
+  given_up (at.Finish p true) f l h t home = gives_finish p (f refl) h home
+  given_up (at.Bit biting.Last) f l h t home = gives_last (unset s call) refl f h
       (is_off (s.table.entry (own me)) (call_watch call) home)
-  given_up (at.Leave leaving.Load) f h home = gives_signalled _ _ _ (unset s call)
-  given_up (at.Await (awaiting.Off true)) f h home = either Gives (is_some (s.table.entry (own me))) _ _
+  given_up (at.Page paging.Last) f l h t home = gives_page (s.table.flag (own me)) refl
+      (paging_locks call paging.Last l f) t (is_off (s.table.entry (own me)) (call_watch call) home)
+  given_up (at.Leave leaving.Load) f l h t home = gives_signalled _ _ _ (unset s call)
+  given_up (at.Await (awaiting.Off true)) f l h t home = either Gives (is_some (s.table.entry (own me))) _ _
       (gives_on _ _) (gives_not _ (λ z. omega (arith, z)))
-  given_up (at.Await (awaiting.Last true)) f h home = gives_not _ (λ z. omega (arith, z))
-  given_up at.Worn f h home = absurd f
-  given_up at.First f h home = λ z. absurd (not_interrupted s me call at.First tt z)
-  given_up p f h home = λ z. absurd (not_interrupted s me call p tt z)
+  given_up (at.Await (awaiting.Last true)) f l h t home = gives_not _ (λ z. omega (arith, z))
+  given_up at.Worn f l h t home = absurd f
+  given_up at.First f l h t home = λ z. absurd (not_interrupted s me call at.First tt z)
+  given_up p f l h t home = λ z. absurd (not_interrupted s me call p tt z)

@@ -50,6 +50,8 @@ use Rattle.wait_model.specs.Programs.{
   call_entry,
   call_next,
   reached,
+  past,
+  page_last,
 }
 use Rattle.wait_model.specs.Runs.{State, own, seen_by, planned, state_of, made_in}
 use Rattle.wait_model.specs.Tables.{value_of}
@@ -61,12 +63,17 @@ use Rattle.wait_model.specs.Reached.{HomeAt, IsSoundCall, IsSound}
 use Rattle.wait_model.specs.Accounts.{Account, account_of}
 use Rattle.wait_model.specs.Selections.{IsSignalledHold, IsStopped, IsInterrupted, RunsAreOrderly}
 use Rattle.wait_model.proofs.RunLaws.EveryRun.{sound_of}
-use Rattle.wait_model.proofs.WaitLaws.OutsideStages.{either, unset}
+use Rattle.wait_model.proofs.WaitLaws.OutsideStages.{either, unset, both}
 use Rattle.wait_model.proofs.AccountLaws.RunAccounts.{IsTurn, TurnAt, IsSum, IsChosen, ChosenAt, on_sum, after_sum}
 use Rattle.wait_model.proofs.AccountLaws.Selections.{IsAccounted, accounted_of}
 use Rattle.wait_model.proofs.AccountLaws.TakenEntries.{OffAt, off_below, off_told}
 use Rattle.wait_model.proofs.AccountLaws.Refusals.{refusal, not_signalled}
 use Rattle.wait_model.proofs.AccountLaws.GivenUpWaits.{BrokenAt, is_off, given_up}
+use Rattle.wait_model.proofs.AccountLaws.PageTrails.{PageTrailAt, trails_of}
+use Rattle.wait_model.proofs.WaitLaws.WaitStages.{FitsStage}
+use Rattle.wait_model.proofs.WaitLaws.Waiters.{fits_of}
+use Rattle.wait_model.specs.declared.points.PagePoint.TheVariants as paging
+use Rattle.wait_model.specs.declared.points.PageStage.TheVariants as staging
 
 -- how many a walk selected by its answer
 abbrev walked_of : Next → ℕ
@@ -90,6 +97,18 @@ chosen_below call (walking.Wake w d) k h c = let b : w.selected ≤ count_of cal
     sum_below call w (on_sum call w h.1) c in omega (arith, h.0)
 chosen_below call (walking.Bit w d) k h c = let b : w.selected ≤ count_of call =
     sum_below call w (on_sum call w h.1) c in omega (arith, h.0)
+chosen_below call (walking.Page staging.Try w d) k h c = let b : w.selected ≤ count_of call =
+    sum_below call w (on_sum call w h.1) c in omega (arith, h.0)
+chosen_below call (walking.Page staging.Hand w d) k h c = let b : w.selected ≤ count_of call =
+    sum_below call w (on_sum call w h.1) c in omega (arith, h.0)
+chosen_below call (walking.Page staging.Wake w d) k h c = let b : (past w d true).selected ≤ count_of call =
+    sum_below call (past w d true) (after_sum call (past w d true) h.1) c in
+    subst (λ (i : ℕ). i ≤ count_of call) (sym h.0) b
+chosen_below call (walking.Page staging.Off w d) k h c = let b : (past w d true).selected ≤ count_of call =
+    sum_below call (past w d true) (after_sum call (past w d true) h.1) c in
+    subst (λ (i : ℕ). i ≤ count_of call) (sym h.0) b
+chosen_below call (walking.Stopped w) k h c = let b : w.selected ≤ count_of call =
+    sum_below call w (on_sum call w h.1) c in omega (arith, h.0)
 chosen_below call (walking.Unqueue w who) k h c = let b : w.selected ≤ count_of call =
     sum_below call w (after_sum call w h.1) c in omega (arith, h.0)
 chosen_below call (walking.BreakUnlock w) k h c = let b : w.selected ≤ count_of call =
@@ -111,6 +130,7 @@ entry_goes_on call w c kind.Autoremove seen hit = refl
 entry_goes_on call w c kind.Woken seen hit = refl
 entry_goes_on call w c kind.Bit seen hit = refl
 entry_goes_on call w c kind.Var seen hit = refl
+entry_goes_on call w c kind.Page seen hit = refl
 entry_goes_on call w c j seen hit = refl
 
 next_told : (call : Call) (w : Walking) (o : Option CalledEntry) (seen : Seen) (hit : Bool) (x : Walked)
@@ -135,6 +155,11 @@ walk_told s me call (walking.Call w) k x h e = call_told call (reached w seen.ca
     seen = seen_by s me call (at.Walk (walking.Call w))
 walk_told s me call (walking.Bit w c) k x h e = absurd (goes_on _ x refl e)
 walk_told s me call (walking.Wake w c) k x h e = absurd (goes_on _ x refl e)
+walk_told s me call (walking.Page staging.Try w c) k x h e = absurd (goes_on _ x refl e)
+walk_told s me call (walking.Page staging.Hand w c) k x h e = absurd (goes_on _ x refl e)
+walk_told s me call (walking.Page staging.Wake w c) k x h e = absurd (goes_on _ x refl e)
+walk_told s me call (walking.Page staging.Off w c) k x h e = absurd (goes_on _ x refl e)
+walk_told s me call (walking.Stopped w) k x h e = sym (ap walked_of e) ∙ sym h.0
 walk_told s me call (walking.Unqueue w who) k x h e = absurd (goes_on _ x refl e)
 walk_told s me call (walking.Spent w) k x h e = sym (ap walked_of e) ∙ sym h.0
 walk_told s me call (walking.BreakUnlock w) k x h e = absurd (goes_on _ x refl e)
@@ -210,6 +235,8 @@ module _ (s : State) (me : ℕ) (call : Call) (a : Account) where
   })
   interrupts (at.Finish p true) turn home = interrupts_finish p
   interrupts (at.Bit biting.Last) turn home = interrupts_last _ (unset s call)
+  interrupts (at.Page paging.Last) turn home = both (λ b. Interrupts (page_last b))
+      (seen_by s me call (at.Page paging.Last)).flag (interrupts_on _ _) (interrupts_not _ (λ z. omega (arith, z)))
   interrupts at.Worn turn home = either Interrupts (unset s call) _ _ (interrupts_not _ (λ z. omega (arith, z)))
       (either Interrupts (is_lock call) _ _ (interrupts_not _ (λ z. omega (arith, z))) (interrupts_on _ _))
   interrupts at.First turn home = λ z. absurd (not_signalled s me call at.First tt z)
@@ -235,7 +262,10 @@ orderly run r few =
           (subst (λ (q : Progress). HomeAt q ((state_of run).table.entry (own me))) is (sound.placed me).home);
       gives_up = λ me call p is. given_up (state_of run) me call (account_of run) p
           (subst (IsSoundCall (made_in run)) is (sound.calls me)).fitted
+          (subst FitsStage is (fits_of run r few me))
           (subst (λ (q : Progress). BrokenAt q ((account_of run).trail me)) is (h.broken me))
+          (subst (λ (q : Progress). PageTrailAt q ((state_of run).table.flag (own me)) ((account_of run).trail me)) is
+          (trails_of run r few me))
           (subst (λ (q : Progress). HomeAt q ((state_of run).table.entry (own me))) is (sound.placed me).home);
       signals = h.signals;
     }

@@ -46,9 +46,12 @@ use Rattle.wait_model.specs.Programs.{
   active_event,
   signalled,
   interrupted,
+  page_queue,
 }
 use Rattle.wait_model.specs.Runs.{State, own, seen_by, planned}
 use Rattle.wait_model.proofs.WaitLaws.OutsideStages.{either, both, unset}
+use Rattle.wait_model.specs.declared.points.PagePoint.TheVariants as paging
+use Rattle.wait_model.specs.declared.points.PageStage.TheVariants as staging
 
 -- the number n where the program answers -n, 1 where it answers Worn, and else 0
 abbrev pub refusal : Next → ℕ
@@ -63,6 +66,7 @@ IsOther (at.Await (awaiting.Off true)) = ⊥
 IsOther (at.Await (awaiting.Last true)) = ⊥
 IsOther (at.Finish p true) = ⊥
 IsOther (at.Bit biting.Last) = ⊥
+IsOther (at.Page paging.Last) = ⊥
 IsOther at.Worn = ⊥
 IsOther _ = Unit {0}
 
@@ -76,6 +80,7 @@ module _ (s : State) (me : ℕ) (call : Call) where
   other_entry w c kind.Woken seen hit = refl
   other_entry w c kind.Bit seen hit = refl
   other_entry w c kind.Var seen hit = refl
+  other_entry w c kind.Page seen hit = refl
   other_entry w c j seen hit = refl
 
   other_next : (w : Walking) (o : Option CalledEntry) (seen : Seen) (hit : Bool)
@@ -119,12 +124,26 @@ module _ (s : State) (me : ℕ) (call : Call) where
   other (at.Bit biting.First) i = either Other (unset s call) _ _ refl refl
   other (at.Bit biting.Last) i = absurd i
   other (at.Bit p) i = refl
+  other (at.Page paging.First) i = either Other (unset s call) _ _ refl refl
+  other (at.Page paging.Queue) i = both (λ b. Other (page_queue call b))
+      (seen_by s me call (at.Page paging.Queue)).worn refl refl
+  other (at.Page (paging.Unlock true)) i = refl
+  other (at.Page (paging.Unlock false)) i = refl
+  other (at.Page (paging.Finish finishing.Look)) i = either Other (is_some (s.table.entry (own me))) _ _ refl refl
+  other (at.Page (paging.Finish finishing.Queue)) i = either Other (is_some (s.table.entry (own me))) _ _ refl refl
+  other (at.Page (paging.Finish p)) i = refl
+  other (at.Page paging.Last) i = absurd i
+  other (at.Page p) i = refl
   other at.Worn i = absurd i
   other at.Active i = both (λ b. Other (active_event call b)) (seen_by s me call at.Active).members refl refl
   other (at.Walk walking.Lock) i = refl
   other (at.Walk (walking.Call w)) i = either Other (at_walk w).breaks _ _ refl
       (other_next (reached w (at_walk w).calls) (at_walk w).called (at_walk w)
       (meets (mask_of (mode_of call)) (at_walk w).other.state))
+  other (at.Walk (walking.Page staging.Try w c)) i = refl
+  other (at.Walk (walking.Page staging.Hand w c)) i = refl
+  other (at.Walk (walking.Page staging.Wake w c)) i = refl
+  other (at.Walk (walking.Page staging.Off w c)) i = refl
   other (at.Walk p) i = refl
   other (at.Add adding.Lock) i = refl
   other (at.Add p) i = refl

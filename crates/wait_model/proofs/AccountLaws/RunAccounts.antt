@@ -56,7 +56,7 @@ use Rattle.wait_model.specs.declared.points.Planned.{Planned}
 use Rattle.wait_model.specs.declared.points.Progress.{Progress}
 use Rattle.wait_model.specs.declared.points.Progress.TheVariants as now
 use Rattle.wait_model.specs.Tasks.{meets, pending, sleep_of, state_mask, looks_in}
-use Rattle.wait_model.specs.Watches.{owner, mask_of, is_for}
+use Rattle.wait_model.specs.Watches.{owner, mask_of, is_for, is_page}
 use Rattle.wait_model.specs.Points.{
   call_aim,
   call_watch,
@@ -95,6 +95,8 @@ use Rattle.wait_model.specs.Programs.{
   finished,
   publishing_event,
   active_event,
+  page_queue,
+  page_last,
 }
 use Rattle.wait_model.specs.declared.queues.Mark.{Mark}
 use Rattle.wait_model.specs.Queues.{rank, rank_at, is_entry, members_from, arrive, IsIn}
@@ -110,11 +112,14 @@ use Rattle.wait_model.specs.Runs.{
   progress_at,
 }
 use Rattle.wait_model.specs.Reached.{IsFitted, IsMember, IsQueued, IsPlaced, IsFlagged, IsSound}
-use Rattle.wait_model.specs.Accounts.{is_exclusive_entry, one_if, event_selects}
+use Rattle.wait_model.specs.Accounts.{is_exclusive_entry, one_if, event_selects, is_woken_exclusive}
 use Rattle.wait_model.specs.Selections.{IsSignalledTurn, signalled_hold}
 use Rattle.wait_model.proofs.WaitLaws.OutsideStages.{either, both, unset, is_aside, aside_step}
 use Rattle.wait_model.proofs.QueueLaws.MemberStands.{member_is}
 use Rattle.wait_model.proofs.WordLaws.DecodedWords.{owner_own}
+use Rattle.wait_model.specs.declared.points.PagePoint.TheVariants as paging
+use Rattle.wait_model.specs.declared.points.PageStage.TheVariants as staging
+use Rattle.wait_model.specs.declared.points.PagePoint.{PagePoint}
 
 -- what a task's latest events are where it looks for a signal: it took the lock, and a wait for a completion
 -- loaded the done count as 0
@@ -302,8 +307,15 @@ IsChosen call at.Publish k = k ≡ 0
 IsChosen call at.Active k = k ≡ 0
 IsChosen call (at.Walk walking.Lock) k = k ≡ 0
 IsChosen call (at.Walk (walking.Call w)) k = (k ≡ w.selected) × IsOn call w
-IsChosen call (at.Walk (walking.Wake w c)) k = (k ≡ w.selected) × IsOn call w
-IsChosen call (at.Walk (walking.Bit w c)) k = (k ≡ w.selected) × IsOn call w
+IsChosen call (at.Walk (walking.Wake w c)) k = (k ≡ w.selected) × IsOn call w × (is_page c.kind ≡ false)
+IsChosen call (at.Walk (walking.Bit w c)) k = (k ≡ w.selected) × IsOn call w × (is_page c.kind ≡ false)
+IsChosen call (at.Walk (walking.Page staging.Try w c)) k = (k ≡ w.selected) × IsOn call w × (c.kind ≡ kind.Page)
+IsChosen call (at.Walk (walking.Page staging.Hand w c)) k = (k ≡ w.selected) × IsOn call w × (c.kind ≡ kind.Page)
+IsChosen call (at.Walk (walking.Page staging.Wake w c)) k = (k ≡ (past w c true).selected)
+    × IsAfterCall call (past w c true) × (c.kind ≡ kind.Page)
+IsChosen call (at.Walk (walking.Page staging.Off w c)) k = (k ≡ (past w c true).selected)
+    × IsAfterCall call (past w c true)
+IsChosen call (at.Walk (walking.Stopped w)) k = (k ≡ w.selected) × IsOn call w
 IsChosen call (at.Walk (walking.Unqueue w who)) k = (k ≡ w.selected) × IsAfterCall call w
 IsChosen call (at.Walk (walking.Spent w)) k = (k ≡ w.selected) × IsSum call w
 IsChosen call (at.Walk (walking.BreakUnlock w)) k = (k ≡ w.selected) × IsOn call w
@@ -378,8 +390,8 @@ module _ (s : State) (n me : ℕ) (call : Call) (k : ℕ) (sound : IsSound s n) 
   C x = ChosenAt (progress_at call x.next) (k + event_selects s x.event)
 
   module _ (w : Walking) (c : CalledEntry) (hit : Bool) (e : k ≡ w.selected) (on : IsOn call w)
-      (is : is_exclusive_entry (s.table.entry (own c.who)) ≡ c.exclusive) where
-    number : k + one_if (hit && is_exclusive_entry (s.table.entry (own c.who))) ≡ (past w c hit).selected
+      (is : is_woken_exclusive (s.table.entry (own c.who)) ≡ c.exclusive) where
+    number : k + one_if (hit && is_woken_exclusive (s.table.entry (own c.who))) ≡ (past w c hit).selected
     number = chosen_past call w c hit k _ is e
 
     pub wakes_chosen : C (wake_event w c hit)
@@ -388,23 +400,45 @@ module _ (s : State) (n me : ℕ) (call : Call) (k : ℕ) (sound : IsSound s n) 
     off_chosen : C (wake_off_event w c hit)
     off_chosen = by hit number (after_past call w c hit on)
       where
-        by : (b : Bool) → k + one_if (b && is_exclusive_entry (s.table.entry (own c.who)))
+        by : (b : Bool) → k + one_if (b && is_woken_exclusive (s.table.entry (own c.who)))
             ≡ (past w c b).selected → IsAfterCall call (past w c b) → C (wake_off_event w c b)
         by true num b = (num, b)
         by false num b = (num, on)
 
-    entry_chosen : (j : Kind) (seen : Seen) → C (call_entry (call_aim call) w c j seen hit)
-    entry_chosen kind.Autoremove seen = off_chosen
-    entry_chosen kind.Var seen = off_chosen
-    entry_chosen kind.Woken seen = (omega (arith, e), on)
-    entry_chosen kind.Bit seen = either (λ (q : WalkPoint). IsChosen call (at.Walk q) (k + 0))
+  module _ (w : Walking) (c : CalledEntry) (hit : Bool) (e : k ≡ w.selected) (on : IsOn call w)
+      (is : is_page c.kind ≡ false → is_woken_exclusive (s.table.entry (own c.who)) ≡ c.exclusive) where
+    entry_chosen : (j : Kind) → c.kind ≡ j → (seen : Seen) → C (call_entry (call_aim call) w c j seen hit)
+    entry_chosen kind.Autoremove q seen = off_chosen w c hit e on (is (ap is_page q))
+    entry_chosen kind.Var q seen = off_chosen w c hit e on (is (ap is_page q))
+    entry_chosen kind.Woken q seen = (omega (arith, e), on, ap is_page q)
+    entry_chosen kind.Bit q seen = either (λ (p : WalkPoint). IsChosen call (at.Walk p) (k + 0))
         (call_fails call seen) _ _
-        (omega (arith, e), on) (omega (arith, e), on)
-    entry_chosen j seen = wakes_chosen
+        (omega (arith, e), on) (omega (arith, e), on, ap is_page q)
+    entry_chosen kind.Page q seen = either (λ (p : WalkPoint). IsChosen call (at.Walk p) (k + 0))
+        (call_fails call seen) _ _
+        (omega (arith, e), on) (omega (arith, e), on, q)
+    entry_chosen kind.Default q seen = wakes_chosen w c hit e on (is (ap is_page q))
+    entry_chosen kind.Simple q seen = wakes_chosen w c hit e on (is (ap is_page q))
 
-  exclusive_is : (who : ℕ) (d : Entry) → s.table.entry (own who) ≡ Some d
-      → is_exclusive_entry (s.table.entry (own who)) ≡ d.exclusive
-  exclusive_is who d h = ap is_exclusive_entry h
+  both_plain : (a b : Bool) → b ≡ false → (a && not b) ≡ a
+  both_plain true false h = refl
+  both_plain true true h = absurd (cc)
+  both_plain false b h = refl
+
+  both_paged : (a b : Bool) → b ≡ true → (a && not b) ≡ false
+  both_paged true true h = refl
+  both_paged true false h = absurd (cc)
+  both_paged false b h = refl
+
+  exclusive_is : (who : ℕ) (d : Entry) → s.table.entry (own who) ≡ Some d → is_page d.kind ≡ false
+      → is_woken_exclusive (s.table.entry (own who)) ≡ d.exclusive
+  exclusive_is who d h np = ap is_woken_exclusive h ∙ both_plain d.exclusive (is_page d.kind) np
+
+  -- the wake after a hand-off selects nobody more
+  none_more : (j : ℕ) (a x : Bool) → x ≡ false → j + one_if (a && x) ≡ j
+  none_more j true false h = omega arith
+  none_more j true true h = absurd (cc)
+  none_more j false x h = omega arith
 
   -- the entry of the next member
   next_chosen : (w : Walking) (m : Option Member) (seen : Seen) → k ≡ w.selected → IsOn call w
@@ -423,7 +457,7 @@ module _ (s : State) (n me : ℕ) (call : Call) (k : ℕ) (sound : IsSound s n) 
       subst (λ (o : Option Entry). C (call_next (call_aim call) w (called_as (owner m.at) o) seen
       (meets (mask_of (mode_of call)) (s.table.task (called_task (called_as (owner m.at) o))).state)))
       (sym it.stands) (entry_chosen w (called_of (owner m.at) it.entry) _ e on
-      (exclusive_is (owner m.at) it.entry there) it.entry.kind seen)
+      (exclusive_is (owner m.at) it.entry there) it.entry.kind refl seen)
 
   start_on : (count_of call ≡ 0) ⊎ ((0 + count_of call ≡ count_of call) × (0 < count_of call))
   start_on = elim (eqb_tells (count_of call) 0) [
@@ -445,10 +479,31 @@ module _ (s : State) (n me : ℕ) (call : Call) (k : ℕ) (sound : IsSound s n) 
       key m = is_for (call_watch call) (s.table.entry m.at)
   walk_chosen (walking.Bit w c) pl h =
       let t : IsFlagged s.table.entry c (Some (call_head call)) (call_watch call) = pl.flagged c refl in
-      off_chosen w c _ h.0 h.1 (exclusive_is c.who t.it t.stands ∙ sym (ap (λ (d : CalledEntry). d.exclusive) t.seen))
+      off_chosen w c _ h.0 h.1 (exclusive_is c.who t.it t.stands
+      (ap (λ (d : CalledEntry). is_page d.kind) (sym t.seen) ∙ h.2)
+      ∙ sym (ap (λ (d : CalledEntry). d.exclusive) t.seen))
   walk_chosen (walking.Wake w c) pl h =
       let t : IsFlagged s.table.entry c (Some (call_head call)) (call_watch call) = pl.flagged c refl in
-      wakes_chosen w c _ h.0 h.1 (exclusive_is c.who t.it t.stands ∙ sym (ap (λ (d : CalledEntry). d.exclusive) t.seen))
+      wakes_chosen w c _ h.0 h.1 (exclusive_is c.who t.it t.stands
+      (ap (λ (d : CalledEntry). is_page d.kind) (sym t.seen) ∙ h.2)
+      ∙ sym (ap (λ (d : CalledEntry). d.exclusive) t.seen))
+  walk_chosen (walking.Page staging.Try w c) pl h = either (λ (p : WalkPoint). IsChosen call (at.Walk p) (k + 0))
+      (unset s call) _ _ (omega (arith, h.0), h.1) (omega (arith, h.0), h.1, h.2)
+  walk_chosen (walking.Page staging.Hand w c) pl h =
+      let t : IsFlagged s.table.entry c (Some (call_head call)) (call_watch call) = pl.flagged c refl in (
+        chosen_past call w c true k _
+            (ap is_exclusive_entry t.stands ∙ sym (ap (λ (d : CalledEntry). d.exclusive) t.seen)) h.0,
+        after_past call w c true h.1,
+        h.2,
+      )
+  walk_chosen (walking.Page staging.Wake w c) pl h =
+      let t : IsFlagged s.table.entry c (Some (call_head call)) (call_watch call) = pl.flagged c refl in (
+        none_more k _ _ (ap is_woken_exclusive t.stands ∙ both_paged t.it.exclusive (is_page t.it.kind)
+            (ap (λ (d : CalledEntry). is_page d.kind) (sym t.seen) ∙ ap is_page h.2)) ∙ h.0,
+        h.1,
+      )
+  walk_chosen (walking.Page staging.Off w c) pl h = onward_chosen call (past w c true) _ (omega (arith, h.0)) h.1
+  walk_chosen (walking.Stopped w) pl h = tt
   walk_chosen (walking.Unqueue w who) pl h = onward_chosen call w _ (omega (arith, h.0)) h.1
   walk_chosen (walking.Spent w) pl h = tt
   walk_chosen (walking.BreakUnlock w) pl h = (omega (arith, h.0), h.1)
@@ -497,6 +552,17 @@ module _ (s : State) (n me : ℕ) (call : Call) (k : ℕ) (sound : IsSound s n) 
   published_selects (calls.ClearBit w b) = refl
   published_selects calls.Remove = refl
   published_selects c = refl
+
+  page_chosen : (p : PagePoint) → C (planned s me call (at.Page p))
+  page_chosen paging.First = either C (unset s call) _ _ tt tt
+  page_chosen paging.Queue = both (λ b. C (page_queue call b)) (seen_by s me call (at.Page paging.Queue)).worn tt tt
+  page_chosen (paging.Unlock true) = tt
+  page_chosen (paging.Unlock false) = tt
+  page_chosen (paging.Finish finishing.Look) = either C (is_some (s.table.entry (own me))) _ _ tt tt
+  page_chosen (paging.Finish finishing.Queue) = either C (is_some (s.table.entry (own me))) _ _ tt tt
+  page_chosen (paging.Finish p) = tt
+  page_chosen paging.Last = both (λ b. C (page_last b)) (seen_by s me call (at.Page paging.Last)).flag tt tt
+  page_chosen p = tt
 
   pub chosen_step : (p : Point) → IsPlaced s.table.entry (s.table.view me) me (now.Open call p)
       → IsChosen call p k → C (planned s me call p)
@@ -558,6 +624,7 @@ module _ (s : State) (n me : ℕ) (call : Call) (k : ℕ) (sound : IsSound s n) 
   chosen_step (at.Count counting.Load) pl h = tt
   chosen_step (at.Count counting.Store) pl h = tt
   chosen_step (at.Count (counting.Unlock hit)) pl h = tt
+  chosen_step (at.Page p) pl h = page_chosen p
   chosen_step p pl h = tt
 
 -- a call that is opened has selected nobody yet, and is in no turn

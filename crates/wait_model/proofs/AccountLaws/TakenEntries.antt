@@ -75,11 +75,15 @@ use Rattle.wait_model.specs.Programs.{
   await_after,
   active_event,
   await_ends,
+  page_queue,
+  page_last,
 }
 use Rattle.wait_model.specs.Runs.{State, own, seen_by, planned, progress_at}
 use Rattle.wait_model.specs.Accounts.{unqueues}
 use Rattle.wait_model.specs.Selections.{is_selection}
 use Rattle.wait_model.proofs.WaitLaws.OutsideStages.{either, both, unset}
+use Rattle.wait_model.specs.declared.points.PagePoint.TheVariants as paging
+use Rattle.wait_model.specs.declared.points.PageStage.TheVariants as staging
 
 -- so many entries are within the count of a call that has one
 abbrev pub IsWithin : Call → ℕ → Type 0
@@ -182,6 +186,7 @@ module _ (s : State) (me : ℕ) (call : Call) (k : ℕ) where
     entry_off w c kind.Woken seen hit = h
     entry_off w c kind.Bit seen hit = h
     entry_off w c kind.Var seen hit = h
+    entry_off w c kind.Page seen hit = h
     entry_off w c j seen hit = onward_off (past w c hit) _
 
     called_off : (w : Walking) (o : Option CalledEntry) (seen : Seen) (hit : Bool)
@@ -198,6 +203,11 @@ module _ (s : State) (me : ℕ) (call : Call) (k : ℕ) where
         (meets (mask_of (mode_of call)) (seen_by s me call (at.Walk (walking.Wake w c))).other.state)) _
     walk_off (walking.Unqueue w who) = onward_off w _
     walk_off (walking.Spent w) = tt
+    walk_off (walking.Stopped w) = tt
+    walk_off (walking.Page staging.Off w c) = onward_off (past w c true) _
+    walk_off (walking.Page staging.Try w c) = h
+    walk_off (walking.Page staging.Hand w c) = h
+    walk_off (walking.Page staging.Wake w c) = h
     walk_off p = h
 
   pub off_step : (p : Point) → TookOff call p k → T (planned s me call p)
@@ -248,6 +258,17 @@ module _ (s : State) (me : ℕ) (call : Call) (k : ℕ) where
   off_step (at.Count counting.Peek) h = either T (value_of s.table.words (call_watch call) == 0) _ _ tt h
   off_step (at.Count (counting.Unlock hit)) h = tt
   off_step (at.Count p) h = h
+  off_step (at.Page paging.First) h = either T (unset s call) _ _ h tt
+  off_step (at.Page paging.Queue) h = both (λ b. T (page_queue call b))
+      (seen_by s me call (at.Page paging.Queue)).worn h h
+  off_step (at.Page (paging.Unlock true)) h = tt
+  off_step (at.Page (paging.Unlock false)) h = h
+  off_step (at.Page (paging.Finish finishing.Look)) h = either T (is_some (s.table.entry (own me))) _ _ h h
+  off_step (at.Page (paging.Finish finishing.Queue)) h = either T (is_some (s.table.entry (own me))) _ _ h h
+  off_step (at.Page (paging.Finish p)) h = h
+  off_step (at.Page paging.Last) h = both (λ b. T (page_last b)) (seen_by s me call (at.Page paging.Last)).flag h tt
+  off_step (at.Page paging.Clear) h = tt
+  off_step (at.Page p) h = h
   off_step at.Publish h = h
   off_step at.Raise h = h
   off_step p h = tt

@@ -21,23 +21,32 @@ use Rattle.wait_model.specs.declared.steps.Step.TheVariants as step
 
 pub record BitStep (s : Table) (a : ℕ) (ev : Step) : Type 0 where
   pub holds : HoldFrom (s.view a) ev
-  pub pick : (h : ℕ) (g : Walk) (x : ℕ) (e : Entry) (on : Watch) (m : ℕ) → (s.view a).hold.head ≡ Some h
-      → (s.view a).walk ≡ Some g → (after ev (s.view a)).hold.picked ≡ true → Waits (next s a ev) x e on m
+  pub pick : (h : ℕ) (g : Walk) (x : ℕ) (e : Entry) (on : Watch) (m σ : ℕ) → (s.view a).hold.head ≡ Some h
+      → (s.view a).walk ≡ Some g → (after ev (s.view a)).hold.picked ≡ true → Waits (next s a ev) x e on m σ
       → same e.watch g.watch ≡ true → is_bit g.watch ≡ true
-      → ((s.view a).hold.picked ≡ true) ⊎ (Others (next s a ev) a x e ⊎ Tried (next s a ev) e.watch)
+      → ((s.view a).hold.picked ≡ true) ⊎ (Others (next s a ev) a x e σ ⊎ Tried (next s a ev) e.watch)
   pub rouse : (u : ℕ) (c : Watch) → is_bit c ≡ true → met (next s a ev).words c ≡ true
       → (after ev (s.view a)).hold.roused u ≡ true → ((s.view a).hold.roused u ≡ true)
       ⊎ (((next s a ev).view u).bits.got c ≡ false)
   pub gots : (c : Watch) → is_bit c ≡ true → met (next s a ev).words c ≡ true → (s.view a).bits.got c ≡ false
       → (after ev (s.view a)).bits.got c ≡ false
   pub keepers : (c : Watch) → is_bit c ≡ true → (after ev (s.view a)).bits.keeps c ≡ true
-      → ((s.view a).bits.keeps c ≡ true) ⊎ (met s.words c ≡ true)
+      → ((s.view a).bits.keeps c ≡ true) ⊎ ((b : ℕ) → (s.view b).bits.keeps c ≡ false)
   pub got_keeps : (c : Watch) → is_bit c ≡ true → (after ev (s.view a)).bits.got c ≡ true
       → ((next s a ev).task a).state ≢ 0 → (after ev (s.view a)).bits.keeps c ≡ true
   pub others_down : (b : ℕ) → b ≢ a → ((next s a ev).task b).state ≢ 0 → (s.task b).state ≢ 0
   pub stored_own : (x : ℕ) (e : Entry) → owner x ≡ a → (next s a ev).entry x ≡ Some e
       → (after ev (s.view a)).bits.stored x ≡ Some e
   pub stored_other : (x : ℕ) (e : Entry) → owner x ≢ a → (next s a ev).entry x ≡ Some e → s.entry x ≡ Some e
+
+-- a bit that is clear is kept by none
+pub kept_by_none : (s : Table) (c : Watch) → Facts s → is_bit c ≡ true → met s.words c ≡ true → (b : ℕ)
+    → (s.view b).bits.keeps c ≡ false
+kept_by_none s c k i m b = by ((s.view b).bits.keeps c) refl
+  where
+    by : (t : Bool) → (s.view b).bits.keeps c ≡ t → (s.view b).bits.keeps c ≡ false
+    by false q = q
+    by true q = absurd (let u : met s.words c ≡ false = (k.views b).bits.kept c i q in cc)
 
 pub bits_from : (s : Table) (a : ℕ) (ev : Step) → Kept s → Facts (next s a ev) → Moves s a ev
     → TriedMoves s a ev → BitStep s a ev → BitFacts (next s a ev)
@@ -58,7 +67,7 @@ bits_from s a ev k k2 moves tried st = record {
         → (s.view b).bits.keeps c ≡ true → b ≡ a
     mixed b c i own other = elim (st.keepers c i own) [
       | inl h ↦ k.bits.one_keeper b a c i other h
-      | inr m ↦ absurd (let u : met s.words c ≡ false = (k.facts.views b).bits.kept c i other in cc)
+      | inr none ↦ absurd (let u : (s.view b).bits.keeps c ≡ false = none b in cc)
     ]
 
     keeper : (b d : ℕ) (c : Watch) → is_bit c ≡ true
@@ -91,7 +100,7 @@ pub quiet_bits : (s : Table) (a : ℕ) (ev : Step) → BitFacts s
     → BitStep s a ev
 quiet_bits s a ev k hold walk picked roused got keeps stored entry down = record {
   holds = λ h w p q r. (w, sym hold ∙ p, sym walk ∙ q, refl);
-  pick = λ h g x e on m p q r z sa bi. inl (sym picked ∙ r);
+  pick = λ h g x e on m σ p q r z sa bi. inl (sym picked ∙ r);
   rouse = λ u c i m r. inl (subst (λ (f : ℕ → Bool). f u ≡ true) roused r);
   gots = λ c i m g. subst (λ (f : Watch → Bool). f c ≡ false) (sym got) g;
   keepers = λ c i h. inl (subst (λ (f : Watch → Bool). f c ≡ true) keeps h);
@@ -128,8 +137,8 @@ pub woken_bits : (s : Table) (a y : ℕ) → BitFacts s → BitStep s a (step.Wo
 woken_bits s a y k = quiet_bits s a (step.Woken y) k refl refl refl refl refl refl (λ x e o q h. h) refl
     (λ b d. d)
 
-pub unflag_bits : (s : Table) (a y : ℕ) → BitFacts s → BitStep s a (step.Unflag y)
-unflag_bits s a y k = quiet_bits s a (step.Unflag y) k refl refl refl refl refl refl (λ x e o q h. h) refl
+pub handed_bits : (s : Table) (a y : ℕ) → BitFacts s → BitStep s a (step.Handed y)
+handed_bits s a y k = quiet_bits s a (step.Handed y) k refl refl refl refl refl refl (λ x e o q h. h) refl
     (λ b d. d)
 
 pub flag_bits : (s : Table) (a y w : ℕ) → BitFacts s → BitStep s a (step.Flag y w)

@@ -6,27 +6,27 @@ use Rattle.wait_model.specs.declared.watches.Entry.{Entry}
 use Rattle.wait_model.specs.declared.watches.Aim.{Aim}
 use Rattle.wait_model.specs.declared.tasks.TaskRecord.{TaskRecord}
 use Rattle.wait_model.specs.Tasks.{meets, task_of}
-use Rattle.wait_model.specs.Facts.{BitFacts, Kept}
+use Rattle.wait_model.specs.Facts.{BitFacts, Kept, Facts}
 use Rattle.wait_model.specs.Views.{Walk, Hold, Bits, View, no_hold}
-use Rattle.wait_model.specs.Fold.{after_unlock, begun_anew, met_task, after}
-use Rattle.wait_model.specs.Watches.{same, is_bit, was_clear, owner}
-use Rattle.wait_model.specs.Tables.{Words, Table, met, next}
+use Rattle.wait_model.specs.Fold.{after_unlock, begun_anew, met_task, after, is_for_page, takes_note}
+use Rattle.wait_model.specs.Watches.{same, is_bit, was_clear, owner, page}
+use Rattle.wait_model.specs.Tables.{Words, Table, met, next, consume}
 use Rattle.wait_model.specs.Words.{bit_at}
 use Rattle.wait_model.specs.Functions.{put}
 use Rattle.wait_model.specs.Rows.{Reads, Allowed}
 use Rattle.wait_model.proofs.StepLaws.WakeSteps.{meets_zero, wake_state}
-use Rattle.wait_model.proofs.StepLaws.OwnSteps.{tas_unmet}
-use Rattle.wait_model.proofs.Sameness.{same_bit_is}
+use Rattle.wait_model.proofs.Sameness.{same_bit_is, tas_unmet, same_of_page, same_trans}
 use Rattle.wait_model.proofs.StepLaws.UnlockSteps.{unlock_bits, unlock_hold}
 use Rattle.wait_model.proofs.Functions.{put_case, put_at}
-use Rattle.wait_model.proofs.BitLaws.BitRecords.{BitStep}
+use Rattle.wait_model.proofs.BitLaws.BitRecords.{BitStep, kept_by_none}
 use Rattle.wait_model.specs.declared.watches.Watch.TheVariants as watch
 use Rattle.wait_model.specs.declared.steps.Step.TheVariants as step
+use Rattle.wait_model.specs.Laws.{Waits, Others, Tried}
 
 pub state_bits : (s : Table) (a σ : ℕ) → BitFacts s → BitStep s a (step.State σ)
 state_bits s a σ k = record {
   holds = λ h w p q r. (w, p, q, refl);
-  pick = λ h g x e on m p q r z sa bi. inl r;
+  pick = λ h g x e on m σ p q r z sa bi. inl r;
   rouse = λ u c i m r. inl r;
   gots = λ c i m g. grind arith;
   keepers = λ c i h. inl h;
@@ -43,7 +43,7 @@ pub wake_bits : (s : Table) (a who mask w : ℕ) → Kept s → task_of w ≡ s.
     → BitStep s a (step.Wake who mask w)
 wake_bits s a who mask w k al = record {
   holds = λ h w p q r. (w, p, q, refl);
-  pick = λ h g x e on m p q r z sa bi. inl r;
+  pick = λ h g x e on m σ p q r z sa bi. inl r;
   rouse = λ u c i m r. new u c i m (u == who) refl r;
   gots = λ c i m g. g;
   keepers = λ c i h. inl h;
@@ -86,7 +86,7 @@ pub lock_bits : (s : Table) (a h : ℕ) (aim : Option Aim) (w : ℕ) → BitFact
     → BitStep s a (step.Lock h aim w)
 lock_bits s a h aim w k = record {
   holds = λ i w p q r. elim r [ inl t ↦ absurd (cc) | inr t ↦ absurd (cc (t.1)) ];
-  pick = λ i g x e on m p q r z sa bi. absurd (cc);
+  pick = λ i g x e on m σ p q r z sa bi. absurd (cc);
   rouse = λ u c i m r. absurd (cc);
   gots = λ c i m g. g;
   keepers = λ c i g. inl g;
@@ -100,7 +100,7 @@ pub unlock_bit_facts : (s : Table) (a h : ℕ) (sp : Bool) → BitFacts s → Bi
 unlock_bit_facts s a h sp k = record {
   holds = λ i w p q r. absurd (let z : (after_unlock (s.view a) (s.view a).walk sp).hold.head ≡ None =
       ap (λ (g : Hold). g.head) hold in cc);
-  pick = λ i g x e on m p q r z sa bi. absurd
+  pick = λ i g x e on m σ p q r z sa bi. absurd
       (let y : (after_unlock (s.view a) (s.view a).walk sp).hold.picked ≡ false =
       ap (λ (g : Hold). g.picked) hold in cc);
   rouse = λ u c i m r. absurd (let y : (after_unlock (s.view a) (s.view a).walk sp).hold.roused u ≡ false =
@@ -124,7 +124,7 @@ unlock_bit_facts s a h sp k = record {
 pub queue_bits : (s : Table) (a y : ℕ) (d : Entry) → BitFacts s → owner y ≡ a → BitStep s a (step.Queue y d)
 queue_bits s a y d k al = record {
   holds = λ h w p q r. (w, p, q, refl);
-  pick = λ h g x e on m p q r z sa bi. inl r;
+  pick = λ h g x e on m σ p q r z sa bi. inl r;
   rouse = λ u c i m r. inl r;
   gots = λ c i m g. grind arith;
   keepers = λ c i h. inl h;
@@ -148,7 +148,7 @@ pub publish_bits : (s : Table) (a : ℕ) (c : Watch) (n r : ℕ) → BitFacts s 
     → BitStep s a (step.Publish c n r)
 publish_bits s a c n r k al = record {
   holds = λ h w p q r. from (s.view a).walk w h p refl q;
-  pick = λ h g x e on m p q r z sa bi. inl r;
+  pick = λ h g x e on m σ p q r z sa bi. inl r;
   rouse = λ u d i m r. inl r;
   gots = λ d i m g. g;
   keepers = λ d i h. inl (grind arith);
@@ -171,7 +171,7 @@ publish_bits s a c n r k al = record {
     kept d i g dn false q = let kp : (s.view a).bits.keeps d ≡ true = k.got_keeps a d i g dn in grind arith
 
 -- an exchange that set a bit which it found clear
-tas_found : (w : Words) (c d : Watch) (r : ℕ) → Reads w c r → is_bit c ≡ true → was_clear c r ≡ true
+pub tas_found : (w : Words) (c d : Watch) (r : ℕ) → Reads w c r → is_bit c ≡ true → was_clear c r ≡ true
     → same d c ≡ true → met w d ≡ true
 tas_found w (watch.Bit i b) (watch.Bit j k) r re h z sa = let e : j ≡ i = grind arith
     in let f : k ≡ b = grind arith in let q : bit_at r b ≡ w.bits i b = re b in rw (e, f) (ap not (sym q) ∙ z)
@@ -182,14 +182,14 @@ tas_found w (watch.Plain c) d r re h z sa = absurd (cc)
 tas_found w (watch.Done c) d r re h z sa = absurd (cc)
 tas_found w (watch.Var c o) d r re h z sa = absurd (cc)
 
-pub consume_bits : (s : Table) (a : ℕ) (c : Watch) (n r : ℕ) → BitFacts s → Reads s.words c r
+pub consume_bits : (s : Table) (a : ℕ) (c : Watch) (n r : ℕ) → Facts s → BitFacts s → Reads s.words c r
     → BitStep s a (step.Consume c n r)
-consume_bits s a c n r k al = record {
+consume_bits s a c n r facts k al = record {
   holds = λ h w p q i. (w, p, q, refl);
-  pick = λ h g x e on m p q i z sa bi. inl i;
+  pick = λ h g x e on m σ p q i z sa bi. inl i;
   rouse = λ u d i m q. inl q;
   gots = λ d i m g. got d m g (is_bit c && same d c) refl;
-  keepers = λ d i h. keeper d h (is_bit c && (was_clear c r && same d c)) refl;
+  keepers = λ d i h. keeper d i h (is_bit c && (was_clear c r && same d c)) refl;
   got_keeps = λ d i g dn. kept d i g dn (is_bit c && (was_clear c r && same d c)) refl;
   others_down = λ b ne d. d;
   stored_own = λ x e o q. subst (λ (i : ℕ). (s.view i).bits.stored x ≡ Some e) o (k.stored_is x e q);
@@ -203,11 +203,13 @@ consume_bits s a c n r k al = record {
         tas_unmet s.words c d n (grind arith) (grind arith) in cc)
     got d m g false q = grind arith
 
-    keeper : (d : Watch) → ((s.view a).bits.keeps d || (is_bit c && (was_clear c r && same d c))) ≡ true
+    keeper : (d : Watch) → is_bit d ≡ true
+        → ((s.view a).bits.keeps d || (is_bit c && (was_clear c r && same d c))) ≡ true
         → (b : Bool) → (is_bit c && (was_clear c r && same d c)) ≡ b → ((s.view a).bits.keeps d ≡ true)
-        ⊎ (met s.words d ≡ true)
-    keeper d h true q = inr (tas_found s.words c d r al (grind arith) (grind arith) (grind arith))
-    keeper d h false q = inl (grind arith)
+        ⊎ ((b : ℕ) → (s.view b).bits.keeps d ≡ false)
+    keeper d i h true q = inr (kept_by_none s d facts i
+        (tas_found s.words c d r al (grind arith) (grind arith) (grind arith)))
+    keeper d i h false q = inl (grind arith)
 
     kept : (d : Watch) → is_bit d ≡ true
         → ((s.view a).bits.got d || (is_bit c && (was_clear c r && same d c))) ≡ true → (s.task a).state ≢ 0
@@ -216,3 +218,53 @@ consume_bits s a c n r k al = record {
     kept d i g dn true q = grind arith
     kept d i g dn false q = let kp : (s.view a).bits.keeps d ≡ true = k.got_keeps a d i (grind arith) dn
         in grind arith
+
+-- a page is tried for a task: where it was clear it is set now, and the walk has picked
+pub tas_for_bits : (s : Table) (a y p r : ℕ) → BitFacts s → BitStep s a (step.TasFor y p r)
+tas_for_bits s a y p r k = record {
+  holds = λ h w q i t. (w, q, i, refl);
+  pick = λ h g x e on m σ q i t z sa bi. two g x e on m σ i t z sa (is_for_page (s.view a).walk p) refl;
+  rouse = λ u d i m q. inl q;
+  gots = λ d i m g. g;
+  keepers = λ d i h. inl h;
+  got_keeps = λ d i g dn. k.got_keeps a d i g dn;
+  others_down = λ b ne d. d;
+  stored_own = λ x e o q. subst (λ (i : ℕ). (s.view i).bits.stored x ≡ Some e) o (k.stored_is x e q);
+  stored_other = λ x e ne q. q;
+}
+  where
+    two : (g : Walk) (x : ℕ) (e : Entry) (on : Watch) (m σ : ℕ) → (s.view a).walk ≡ Some g
+        → ((s.view a).hold.picked || (is_for_page (s.view a).walk p && was_clear (page p) r)) ≡ true
+        → Waits (next s a (step.TasFor y p r)) x e on m σ → same e.watch g.watch ≡ true → (b : Bool)
+        → is_for_page (s.view a).walk p ≡ b → ((s.view a).hold.picked ≡ true)
+        ⊎ (Others (next s a (step.TasFor y p r)) a x e σ ⊎ Tried (next s a (step.TasFor y p r)) e.watch)
+    two g x e on m σ i t z sa false q = inl (grind arith)
+    two g x e on m σ i t z sa true q =
+        let pg : same (page p) g.watch ≡ true = subst (λ (o : Option Walk). is_for_page o p ≡ true) i q in
+        let ep : same e.watch (page p) ≡ true = same_of_page e.watch g.watch p sa pg in
+        let op : same on (page p) ≡ true = sym (same_trans on e.watch (page p) z.watches) ∙ ep in
+        let u : met (consume s.words (page p) 1) on ≡ false = tas_unmet s.words (page p) on 1 refl op in
+        let is : met (consume s.words (page p) 1) on ≡ true = z.is_set in absurd (cc)
+
+-- a task takes note of a page that was taken for it, which no task kept
+pub unflag_bits : (s : Table) (a y : ℕ) (o : Option ℕ) → BitFacts s
+    → ((p : ℕ) → o ≡ Some p → (b : ℕ) → (s.view b).bits.keeps (page p) ≡ false) → BitStep s a (step.Unflag y o)
+unflag_bits s a y o k unkept = record {
+  holds = λ h w q i t. (w, q, i, refl);
+  pick = λ h g x e on m σ q i t z sa bi. inl t;
+  rouse = λ u d i m q. inl q;
+  gots = λ d i m g. g;
+  keepers = λ d i h. keeper o d i h unkept (takes_note o d) refl;
+  got_keeps = λ d i g dn. let kp : (s.view a).bits.keeps d ≡ true = k.got_keeps a d i g dn in grind arith;
+  others_down = λ b ne d. d;
+  stored_own = λ x e o q. subst (λ (i : ℕ). (s.view i).bits.stored x ≡ Some e) o (k.stored_is x e q);
+  stored_other = λ x e ne q. q;
+}
+  where
+    keeper : (o : Option ℕ) (d : Watch) → is_bit d ≡ true → ((s.view a).bits.keeps d || takes_note o d) ≡ true
+        → ((p : ℕ) → o ≡ Some p → (b : ℕ) → (s.view b).bits.keeps (page p) ≡ false) → (b : Bool)
+        → takes_note o d ≡ b → ((s.view a).bits.keeps d ≡ true) ⊎ ((b : ℕ) → (s.view b).bits.keeps d ≡ false)
+    keeper None d i h none true q = absurd (cc)
+    keeper (Some p) d i h none true q = inr (λ b. subst (λ (g : Watch). (s.view b).bits.keeps g ≡ false)
+        (sym (same_bit_is d (page p) i q)) (none p refl b))
+    keeper o d i h none false q = inl (grind arith)

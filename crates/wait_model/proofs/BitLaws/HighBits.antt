@@ -1,5 +1,5 @@
 -- No event sets a bit above those of its word.
-use Rattle.std.proofs.Common.{sym, subst}
+use Rattle.std.proofs.Common.{sym, subst, arith}
 use Rattle.std.specs.Prelude.{ℕ, Bool, true, false, if◌then◌else◌}
 use Rattle.wait_model.specs.declared.calls.Event.{Event}
 use Rattle.wait_model.specs.declared.points.Given.{Given}
@@ -7,7 +7,7 @@ use Rattle.wait_model.specs.declared.watches.Watch.{Watch}
 use Rattle.wait_model.specs.Reached.{AreBitsLow, Allows, Joins}
 use Rattle.wait_model.specs.Runs.{State, is_publishing, after_event}
 use Rattle.wait_model.specs.Tables.{Words, next, value_of, publish, consume}
-use Rattle.wait_model.specs.Watches.{IsThere}
+use Rattle.wait_model.specs.Watches.{IsThere, page}
 use Rattle.wait_model.specs.Words.{head_word}
 use Rattle.wait_model.proofs.WordLaws.BitWords.{low_consumed, low_published}
 use Rattle.wait_model.proofs.HistoryLaws.HoldLooks.{looks_same}
@@ -44,5 +44,6 @@ module _ (s : State) (me : ℕ) (g : Given) (low : AreBitsLow s.table.words) whe
       stored_low (is_publishing g.watch (value_of s.table.words g.watch) v) v (value_of s.table.words g.watch) j.1
   event_low (event.Take c v) a j = consumed_low s.table.words g.watch 0 (subst IsThere (sym j) a) low
   event_low (event.Tas w b v) a j = consumed_low s.table.words g.watch 1 (subst IsThere (sym j) a) low
+  event_low (event.TasFor p who v) a j = consumed_low s.table.words (page p) 1 (a.0, omega arith) low
   event_low (event.Clear w b) a j = published_low s.table.words g.watch 0 low
   event_low e a j = low

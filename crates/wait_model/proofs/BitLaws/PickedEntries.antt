@@ -6,7 +6,7 @@ use Rattle.wait_model.specs.declared.watches.Entry.{Entry}
 use Rattle.wait_model.specs.Facts.{Agrees, Kept}
 use Rattle.wait_model.specs.Views.{Look, unseen, off, elsewhere, shown, Walk, View, covers, is_trying_for}
 use Rattle.wait_model.specs.Fold.{is_off, picks, after}
-use Rattle.wait_model.specs.Watches.{same, is_bit, owner}
+use Rattle.wait_model.specs.Watches.{same, is_bit, owner, is_page}
 use Rattle.wait_model.specs.Tables.{Table, next}
 use Rattle.wait_model.specs.Laws.{Waits, Tried, Others}
 use Rattle.wait_model.specs.Functions.{put}
@@ -20,7 +20,16 @@ use Rattle.wait_model.specs.declared.steps.Step.TheVariants as step
 
 pub picks_true : (g : Walk) (l : Look) (rou mine : Bool) → picks (Some g) l rou mine ≡ true → (d : Entry)
     × (l ≡ shown d) × (d.exclusive ≡ true) × (same d.watch g.watch ≡ true) × (rou ≡ true) × (mine ≡ false)
-picks_true g (shown d) rou mine h = (d, refl, grind arith, grind arith, grind arith, grind arith)
+    × (is_page d.kind ≡ false)
+picks_true g (shown d) rou mine h = (
+  d,
+  refl,
+  grind arith,
+  grind arith,
+  grind arith,
+  grind arith,
+  grind arith,
+)
 picks_true g unseen rou mine h = absurd (cc)
 picks_true g off rou mine h = absurd (cc)
 picks_true g elsewhere rou mine h = absurd (cc)
@@ -38,17 +47,17 @@ same_refl_at c d e i p j q = let x : c ≡ e = same_bit_is c e i p in let y : d 
 
 -- the walker takes off the entry that it selects: from here on that entry's task is trying the bit, or
 -- another covers
-pub picked_tries : (s : Table) (a y h : ℕ) (g : Walk) (x : ℕ) (e : Entry) (on : Watch) (m : ℕ) (d : Entry)
+pub picked_tries : (s : Table) (a y h : ℕ) (g : Walk) (x : ℕ) (e : Entry) (on : Watch) (m σ : ℕ) (d : Entry)
     → Kept s → (s.view a).hold.head ≡ Some h → (s.view a).walk ≡ Some g → is_bit g.watch ≡ true
     → is_bit e.watch ≡ true
-    → Waits (next s a (step.Unqueue y)) x e on m → same e.watch g.watch ≡ true
+    → Waits (next s a (step.Unqueue y)) x e on m σ → same e.watch g.watch ≡ true
     → (s.view a).hold.book y ≡ shown d → d.exclusive ≡ true → same d.watch g.watch ≡ true
     → is_bit d.watch ≡ true → (s.view a).hold.roused (owner y) ≡ true
-    → not (is_off ((s.view a).bits.stored y)) ≡ false
-    → Others (next s a (step.Unqueue y)) a x e ⊎ Tried (next s a (step.Unqueue y)) e.watch
-picked_tries s a y h g x e on m d k hold walk bi bite z sa bk ex sd bd ro mine =
-    elim (k.bits.roused a (owner y) h g x e on m hold walk bi ro
-    (back_waits s a (step.Unqueue y) x e on m (λ q. q) (λ q. grind arith) (λ q. q) (λ q. q) z) sa) [
+    → not (is_off ((s.view a).bits.stored y)) ≡ false → is_page d.kind ≡ false
+    → Others (next s a (step.Unqueue y)) a x e σ ⊎ Tried (next s a (step.Unqueue y)) e.watch
+picked_tries s a y h g x e on m σ d k hold walk bi bite z sa bk ex sd bd ro mine np =
+    elim (k.bits.roused a (owner y) h g x e on m σ hold walk bi ro
+    (back_waits s a (step.Unqueue y) x e on m σ (λ q. q) (λ q. grind arith) (λ _ q. q) (λ q. q) z) sa) [
       | inl gt ↦ inr (
         owner y,
         (
@@ -67,7 +76,7 @@ picked_tries s a y h g x e on m d k hold walk bi bite z sa bk ex sd bd ro mine =
       | inr o ↦ inl (
         o.0,
         o.1,
-        put_at (λ (v : View). IsTrue (covers v x e (s.task (owner x)).state)) s.view a
+        put_at (λ (v : View). IsTrue (covers v x e σ)) s.view a
             (after (step.Unqueue y) (s.view a)) o.0 (λ q. absurd (o.1 q)) (λ _. o.2),
       )
     ]
@@ -92,7 +101,7 @@ pub unqueue_bits : (s : Table) (a y : ℕ) → Kept s → Allowed s a (step.Unqu
     → BitStep s a (step.Unqueue y)
 unqueue_bits s a y k al = record {
   holds = λ h w p q r. (w, p, q, refl);
-  pick = λ h g x e on m p q r z sa bi. two h g x e on m p q z sa bi
+  pick = λ h g x e on m σ p q r z sa bi. two h g x e on m σ p q z sa bi
       (picks (s.view a).walk ((s.view a).hold.book y) ((s.view a).hold.roused (owner y))
       (not (is_off ((s.view a).bits.stored y)))) refl r;
   rouse = λ u c i m r. inl r;
@@ -113,8 +122,8 @@ unqueue_bits s a y k al = record {
     old : (x : ℕ) (e : Entry) → put s.entry y None x ≡ Some e → s.entry x ≡ Some e
     old x e = put_at (λ o. o ≡ Some e → s.entry x ≡ Some e) s.entry y None x (λ _ h. absurd (cc)) (λ _ h. h)
 
-    two : (h : ℕ) (g : Walk) (x : ℕ) (e : Entry) (on : Watch) (m : ℕ) → (s.view a).hold.head ≡ Some h
-        → (s.view a).walk ≡ Some g → Waits (next s a (step.Unqueue y)) x e on m → same e.watch g.watch ≡ true
+    two : (h : ℕ) (g : Walk) (x : ℕ) (e : Entry) (on : Watch) (m σ : ℕ) → (s.view a).hold.head ≡ Some h
+        → (s.view a).walk ≡ Some g → Waits (next s a (step.Unqueue y)) x e on m σ → same e.watch g.watch ≡ true
         → is_bit g.watch ≡ true
         → (b : Bool) → picks (s.view a).walk ((s.view a).hold.book y) ((s.view a).hold.roused (owner y))
         (not (is_off ((s.view a).bits.stored y))) ≡ b
@@ -122,15 +131,15 @@ unqueue_bits s a y k al = record {
         || picks (s.view a).walk ((s.view a).hold.book y) ((s.view a).hold.roused (owner y))
         (not (is_off ((s.view a).bits.stored y)))) ≡ true
         → ((s.view a).hold.picked ≡ true)
-        ⊎ (Others (next s a (step.Unqueue y)) a x e ⊎ Tried (next s a (step.Unqueue y)) e.watch)
-    two h g x e on m p q z sa bi false r t = inl (grind arith)
-    two h g x e on m p q z sa bi true r t =
+        ⊎ (Others (next s a (step.Unqueue y)) a x e σ ⊎ Tried (next s a (step.Unqueue y)) e.watch)
+    two h g x e on m σ p q z sa bi false r t = inl (grind arith)
+    two h g x e on m σ p q z sa bi true r t =
         let f : (d : Entry) × ((s.view a).hold.book y ≡ shown d) × (d.exclusive ≡ true)
         × (same d.watch g.watch ≡ true) × ((s.view a).hold.roused (owner y) ≡ true)
-        × (not (is_off ((s.view a).bits.stored y)) ≡ false)
+        × (not (is_off ((s.view a).bits.stored y)) ≡ false) × (is_page d.kind ≡ false)
         = picks_true g ((s.view a).hold.book y) ((s.view a).hold.roused (owner y))
         (not (is_off ((s.view a).bits.stored y)))
         (subst (λ (o : Option Walk). picks o ((s.view a).hold.book y) ((s.view a).hold.roused (owner y))
         (not (is_off ((s.view a).bits.stored y))) ≡ true) q r) in
-        inr (picked_tries s a y h g x e on m f.0 k p q bi (same_bit e.watch g.watch sa bi) z sa f.1 f.2 f.3
-        (same_bit f.0.watch g.watch f.3 bi) f.4 f.5)
+        inr (picked_tries s a y h g x e on m σ f.0 k p q bi (same_bit e.watch g.watch sa bi) z sa f.1 f.2 f.3
+        (same_bit f.0.watch g.watch f.3 bi) f.4 f.5 f.6)

@@ -23,7 +23,7 @@ use Rattle.wait_model.specs.declared.watches.Entry.{Entry}
 use Rattle.wait_model.specs.declared.steps.Step.{Step}
 use Rattle.wait_model.specs.declared.steps.Step.TheVariants as step
 use Rattle.wait_model.specs.Functions.{put}
-use Rattle.wait_model.specs.Watches.{same, is_bit, was_clear, owner}
+use Rattle.wait_model.specs.Watches.{same, is_bit, was_clear, owner, is_page}
 use Rattle.wait_model.specs.Words.{entry_of}
 use Rattle.wait_model.specs.Views.{View, Bits, blank, is_trying_for}
 use Rattle.wait_model.specs.Fold.{view_of, is_off}
@@ -92,14 +92,20 @@ looked stored w b x y true = by (x == y) refl
     by false q = rw q (kept_so (is_trying_for (stored x) (watch.Bit w b)))
 looked stored w b x y false = grind arith
 
+-- an entry for the bit is one of a bit
+joined : (ex bi sa pa old : Bool) → (bi && sa) ≡ sa
+    → (ex && (bi && (sa && pa))) ≡ ((true && (ex && (sa && pa))) || (old && not true))
+joined ex bi sa pa old h = grind arith
+
 queued_after : (w b x : ℕ) → Reading (queued w b x) (queues_for w b x) (resettles x)
 unfolding queued
 queued_after w b x (step.Queue y d) v = by (x == y) refl
   where
     by : (t : Bool) → (x == y) ≡ t → is_trying_for (put v.bits.stored y (Some d) x) (watch.Bit w b)
-        ≡ (((x == y) && (d.exclusive && same (watch.Bit w b) d.watch))
+        ≡ (((x == y) && (d.exclusive && (same (watch.Bit w b) d.watch && not (is_page d.kind))))
         || (is_trying_for (v.bits.stored x) (watch.Bit w b) && not (x == y)))
-    by true q = rw (q, bit_same w b d.watch) (grind arith)
+    by true q = rw q (joined d.exclusive (is_bit d.watch) (same (watch.Bit w b) d.watch) (not (is_page d.kind))
+        (is_trying_for (v.bits.stored x) (watch.Bit w b)) (bit_same w b d.watch))
     by false q = rw q (kept_so (is_trying_for (v.bits.stored x) (watch.Bit w b)))
 queued_after w b x (step.Unqueue y) v = by (x == y) refl
   where

@@ -21,6 +21,7 @@ use Rattle.std.specs.Prelude.{
 use Rattle.wait_model.specs.declared.layout.TheConstants.{RUNNING, INTERRUPTIBLE, UNINTERRUPTIBLE, KILLABLE, NORMAL}
 use Rattle.wait_model.specs.declared.tasks.TaskRecord.{TaskRecord}
 use Rattle.wait_model.specs.declared.watches.Watch.{Watch}
+use Rattle.wait_model.specs.declared.watches.Watch.TheVariants as watch
 use Rattle.wait_model.specs.declared.watches.Entry.{Entry}
 use Rattle.wait_model.specs.declared.watches.Kind.{Kind}
 use Rattle.wait_model.specs.declared.watches.Kind.TheVariants as kind
@@ -35,6 +36,8 @@ use Rattle.wait_model.specs.declared.points.Point.{Point}
 use Rattle.wait_model.specs.declared.points.Point.TheVariants as at
 use Rattle.wait_model.specs.declared.points.WalkPoint.{WalkPoint}
 use Rattle.wait_model.specs.declared.points.WalkPoint.TheVariants as walking
+use Rattle.wait_model.specs.declared.points.PageStage.{PageStage}
+use Rattle.wait_model.specs.declared.points.PageStage.TheVariants as staging
 use Rattle.wait_model.specs.declared.points.Seen.{Seen}
 use Rattle.wait_model.specs.declared.points.Planned.{Planned}
 use Rattle.wait_model.specs.declared.points.Progress.{Progress}
@@ -42,13 +45,26 @@ use Rattle.wait_model.specs.declared.points.Progress.TheVariants as now
 use Rattle.wait_model.specs.declared.steps.Step.TheVariants as step
 use Rattle.wait_model.specs.Functions.{put}
 use Rattle.wait_model.specs.Tasks.{IsLawful, meets, woken}
-use Rattle.wait_model.specs.Watches.{same, is_done, is_bit, is_woken, mask_of, owner}
-use Rattle.wait_model.specs.Words.{head_word, Suited}
+use Rattle.wait_model.specs.Watches.{
+  same,
+  is_done,
+  is_bit,
+  is_woken,
+  is_page,
+  counted,
+  misses,
+  number_of,
+  word_of,
+  bit_of,
+  mask_of,
+  owner,
+}
+use Rattle.wait_model.specs.Words.{head_word, bit_at, flag, Suited}
 use Rattle.wait_model.specs.Tables.{Table, met, steps, value_of}
 use Rattle.wait_model.specs.Tables as tables
 use Rattle.wait_model.specs.Laws.{Waits, Unheard}
 use Rattle.wait_model.specs.Queues.{mark_place, Arrival}
-use Rattle.wait_model.specs.Points.{call_aim, call_watch, call_head, mode_of, called_task, given_at}
+use Rattle.wait_model.specs.Points.{call_aim, call_watch, call_head, mode_of, called_task, given_at, walk_mask}
 use Rattle.wait_model.specs.Programs.{
   go,
   load,
@@ -60,6 +76,8 @@ use Rattle.wait_model.specs.Programs.{
   wake_event,
   wake_off_event,
   tests,
+  tests_page,
+  hands_event,
   call_entry,
   call_next,
 }
@@ -105,6 +123,7 @@ abbrev pub Ahead : Option Mark → Point → ℕ → Type 0
 Ahead mark (at.Walk (walking.Call w)) place = w.place ≤ place
 Ahead mark (at.Walk (walking.Wake w c)) place = c.place ≤ place
 Ahead mark (at.Walk (walking.Bit w c)) place = c.place ≤ place
+Ahead mark (at.Walk (walking.Page st w c)) place = c.place ≤ place
 Ahead mark (at.Walk (walking.Unqueue w who)) place = w.place ≤ place
 Ahead mark (at.Walk (walking.BreakUnlock w)) place = IsBehindMark mark w place
 Ahead mark (at.Walk (walking.BreakLock w)) place = IsBehindMark mark w place
@@ -172,6 +191,19 @@ woken_runs t l = by (meets NORMAL t.state) refl l.state
     by false h (inl e) = e
     by false h (inr k) = absurd (let z : true ≡ false = sym (meets_normal t.state k) ∙ h in cc)
 
+-- an entry whose watch's count is spent is for no page
+counted_kind : (c d : Watch) (k : Kind) → same c d ≡ true → counted d ≡ true → Suited c k → is_page k ≡ false
+counted_kind (watch.Plain c) d k key is f = elim f.1 [
+  | inl q ↦ ap is_page q
+  | inr (inl q) ↦ ap is_page q
+  | inr (inr (inl q)) ↦ ap is_page q
+  | inr (inr (inr q)) ↦ ap is_page q
+]
+counted_kind (watch.Done c) d k key is f = ap is_page f.1
+counted_kind (watch.Var v o) d k key is f = ap is_page f.2
+counted_kind (watch.Bit w b) (watch.Bit v a) k key is f = absurd (cc)
+counted_kind (watch.Bit w b) d k key is f = absurd (cc)
+
 module _ (s : State) (n me : ℕ) (call : Call) (on : Watch) (sound : IsSound s n) (apart : AreApart s.table.entry)
     (walks : walks_for call on ≡ true) (set : met s.table.words on ≡ true) where
   abbrev m : Option Mark
@@ -182,7 +214,7 @@ module _ (s : State) (n me : ℕ) (call : Call) (on : Watch) (sound : IsSound s 
 
   -- whoever waits after the event, and was before the walk, is before it still; and so it is with flags
   abbrev A : WalkPoint → Planned → Type 0
-  A p x = (y : ℕ) (e : Entry) (i : ℕ) → Waits (after_of p x) y e on i → s.table.entry y ≡ Some e
+  A p x = (y : ℕ) (e : Entry) (i σ : ℕ) → Waits (after_of p x) y e on i σ → s.table.entry y ≡ Some e
       → Ahead m (at.Walk p) e.place → IsAhead ((after_of p x).mark me) (progress_at call x.next) on e.place
 
   abbrev F : WalkPoint → Planned → Type 0
@@ -199,17 +231,22 @@ module _ (s : State) (n me : ℕ) (call : Call) (on : Watch) (sound : IsSound s 
   key_of : (e : Entry) → same on e.watch ≡ true → same e.watch (call_watch call) ≡ true
   key_of e w = same_trans on e.watch (call_watch call) w ∙ for_call
 
-  mask_normal : mask_of (mode_of call) ≡ NORMAL
-  mask_normal = ap mask_of (walk_mode call (both_left (is_walk call) (same on (call_watch call)) walks))
+  mask_normal : (p : WalkPoint) → walk_mask (call_aim call) p ≡ NORMAL
+  mask_normal (walking.Page st w c) = refl
+  mask_normal p = ap mask_of (walk_mode call (both_left (is_walk call) (same on (call_watch call)) walks))
 
-  -- whom the walk has woken does not wait
-  not_woken : (p : WalkPoint) (who y : ℕ) (hit : Bool) (q : Point) (e : Entry) (i : ℕ)
-      → Waits (after_of p (go (event.Wake who hit) q)) y e on i → y ≢ own who
-  not_woken p who y hit q e i z is = z.down
-      (put_at (λ t. t.state ≡ 0) s.table.task who (woken (mask_of (mode_of call)) (s.table.task who)) (owner y)
-      (λ _. subst (λ (k : ℕ). (woken k (s.table.task who)).state ≡ 0) (sym mask_normal)
+  -- whom the walk has woken does not wait, but by an entry for a page
+  not_woken : (p : WalkPoint) (who y : ℕ) (hit : Bool) (q : Point) (e : Entry) (i σ : ℕ)
+      → Waits (after_of p (go (event.Wake who hit) q)) y e on i σ → is_page e.kind ≡ false → y ≢ own who
+  not_woken p who y hit q e i σ z np is = (z.down np).1 (sym (z.down np).0
+      ∙ put_at (λ t. t.state ≡ 0) s.table.task who (woken (walk_mask (call_aim call) p) (s.table.task who)) (owner y)
+      (λ _. subst (λ (k : ℕ). (woken k (s.table.task who)).state ≡ 0) (sym (mask_normal p))
       (woken_runs (s.table.task who) (sound.lawful who)))
       (λ ne. absurd (ne (ap owner is ∙ owner_own who))))
+
+  -- the entry of this task, if it stands, is for no page
+  abbrev Unpaged : CalledEntry → Type 0
+  Unpaged c = (e : Entry) → s.table.entry (own c.who) ≡ Some e → is_page e.kind ≡ false
 
   -- the entries before the walk are the one that it calls, and such as stand behind it
   abbrev Turn : WalkPoint → CalledEntry → Type 0
@@ -221,39 +258,41 @@ module _ (s : State) (n me : ℕ) (call : Call) (on : Watch) (sound : IsSound s 
   FlagTurn p c = (y : ℕ) (e : Entry) → s.table.entry y ≡ Some e → same on e.watch ≡ true → is_woken e.kind ≡ true
       → FlagAhead m (at.Walk p) e.place → c.place < e.place
 
-  gone_on : (p : WalkPoint) (c : CalledEntry) (hit : Bool) (q : Point) → Turn p c → (y : ℕ) (e : Entry) (i : ℕ)
-      → Waits (after_of p (go (event.Wake c.who hit) q)) y e on i → s.table.entry y ≡ Some e
-      → Ahead m (at.Walk p) e.place → c.place + 1 ≤ e.place
-  gone_on p c hit q turn y e i z stands ah = elim (turn y e stands z.watches ah) [
-    | inl is ↦ absurd (not_woken p c.who y hit q e i z is)
+  gone_on : (p : WalkPoint) (c : CalledEntry) (hit : Bool) (q : Point) → Turn p c → Unpaged c
+      → (y : ℕ) (e : Entry) (i σ : ℕ) → Waits (after_of p (go (event.Wake c.who hit) q)) y e on i σ
+      → s.table.entry y ≡ Some e → Ahead m (at.Walk p) e.place → c.place + 1 ≤ e.place
+  gone_on p c hit q turn un y e i σ z stands ah = elim (turn y e stands z.watches ah) [
+    | inl is ↦ absurd (not_woken p c.who y hit q e i σ z (un e (ap s.table.entry (sym is) ∙ stands)) is)
     | inr lt ↦ omega arith
   ]
 
-  wake_both : (p : WalkPoint) (w : Walking) (c : CalledEntry) (hit : Bool) → Turn p c → FlagTurn p c
+  wake_both : (p : WalkPoint) (w : Walking) (c : CalledEntry) (hit : Bool) → Turn p c → FlagTurn p c → Unpaged c
       → Both p (wake_event w c hit)
-  wake_both p w c hit turn flags = by (past w c hit).spent
+  wake_both p w c hit turn flags un = by (past w c hit).spent
     where
       by : (b : Bool) → Both p (go (event.Wake c.who hit) (if b then at.Walk (walking.Spent (past w c hit))
           else at.Walk (walking.Call (past w c hit))))
-      by true = ((λ y e i z stands ah. λ _. tt), (λ y e i z stands ah. λ _. tt))
+      by true = ((λ y e i σ z stands ah. λ _. tt), (λ y e i z stands ah. λ _. tt))
       by false = (
-        (λ y e i z stands ah. λ _. gone_on p c hit (at.Walk (walking.Call (past w c hit))) turn y e i z stands ah),
+        (λ y e i σ z stands ah. λ _.
+            gone_on p c hit (at.Walk (walking.Call (past w c hit))) turn un y e i σ z stands ah),
         (λ y e i z stands ah. λ _. let lt : c.place < e.place = flags y e stands z.watches z.kind ah in omega arith),
       )
 
-  off_both : (p : WalkPoint) (w : Walking) (c : CalledEntry) (hit : Bool) → Turn p c → FlagTurn p c
+  off_both : (p : WalkPoint) (w : Walking) (c : CalledEntry) (hit : Bool) → Turn p c → FlagTurn p c → Unpaged c
       → Both p (wake_off_event w c hit)
-  off_both p w c hit turn flags = by hit
+  off_both p w c hit turn flags un = by hit
     where
       by : (b : Bool) → Both p (go (event.Wake c.who hit) (at.Walk (if b
           then walking.Unqueue (past w c hit) c.who else walking.Call (past w c hit))))
       by true = (
-        (λ y e i z stands ah. λ _.
-            gone_on p c hit (at.Walk (walking.Unqueue (past w c hit) c.who)) turn y e i z stands ah),
+        (λ y e i σ z stands ah. λ _.
+            gone_on p c hit (at.Walk (walking.Unqueue (past w c hit) c.who)) turn un y e i σ z stands ah),
         (λ y e i z stands ah. λ _. let lt : c.place < e.place = flags y e stands z.watches z.kind ah in omega arith),
       )
       by false = (
-        (λ y e i z stands ah. λ _. gone_on p c hit (at.Walk (walking.Call (past w c hit))) turn y e i z stands ah),
+        (λ y e i σ z stands ah. λ _.
+            gone_on p c hit (at.Walk (walking.Call (past w c hit))) turn un y e i σ z stands ah),
         (λ y e i z stands ah. λ _. let lt : c.place < e.place = flags y e stands z.watches z.kind ah in omega arith),
       )
 
@@ -283,7 +322,7 @@ module _ (s : State) (n me : ℕ) (call : Call) (on : Watch) (sound : IsSound s 
 
     flag_both : Both (walking.Call w) (go (event.Woken d.who) (at.Walk (walking.Wake u d)))
     flag_both = (
-      (λ y e i z stands ah. λ _. from_here y e stands z.watches ah),
+      (λ y e i σ z stands ah. λ _. from_here y e stands z.watches ah),
       (λ y e i z stands ah. λ _. elim (turn y e stands z.watches ah) [
         | inl q ↦ absurd (let no : put s.table.flag (own d.who) true y ≡ false = z.quiet in
             let k : true ≡ false = sym (put_same s.table.flag (own d.who) true)
@@ -314,18 +353,43 @@ module _ (s : State) (n me : ℕ) (call : Call) (on : Watch) (sound : IsSound s 
             (at.Walk (if b then walking.Call (past u d false) else walking.Bit u d)))
         by true h = absurd (bit_clear is (sym (ap (call_fails call) sees) ∙ h))
         by false h = (
-          (λ y e i z stands ah. λ _. from_here y e stands z.watches ah),
+          (λ y e i σ z stands ah. λ _. from_here y e stands z.watches ah),
           (λ y e i z stands ah. λ _. from_here y e stands z.watches ah),
         )
+
+    -- a page that is found set stops the walk; else the entry is the next that it tries the page for
+    page_both : (seen : Seen) → Both (walking.Call w) (tests_page (call_aim call) u d seen)
+    page_both seen = by (misses (call_watch call) seen.value)
+      where
+        by : (b : Bool) → Both (walking.Call w) (go (event.Load (number_of (call_watch call)) seen.value)
+            (at.Walk (if b then walking.Stopped u else walking.Page staging.Try u d)))
+        by true = ((λ y e i σ z stands ah. λ _. tt), (λ y e i z stands ah. λ _. tt))
+        by false = (
+          (λ y e i σ z stands ah. λ _. from_here y e stands z.watches ah),
+          (λ y e i z stands ah. λ _. from_here y e stands z.watches ah),
+        )
+
+    -- an entry of this kind is for no page
+    unpaged : (j : Kind) → d.kind ≡ j → is_page j ≡ false → Unpaged d
+    unpaged j is np e stands =
+        let z : Some e ≡ Some f.it = sym stands ∙ f.stands in
+        let same : e ≡ f.it = cc in
+        ap (λ (g : Entry). is_page g.kind) same ∙ ap (λ (g : CalledEntry). is_page g.kind) (sym f.seen)
+        ∙ ap is_page is ∙ np
 
     entry_both : (j : Kind) (hit : Bool) → d.kind ≡ j → Both (walking.Call w)
         (call_entry (call_aim call) u d j (seen_by s me call (at.Walk (walking.Call w))) hit)
     entry_both kind.Default hit is = wake_both (walking.Call w) u d hit turn (no_flag kind.Default is refl)
+        (unpaged kind.Default is refl)
     entry_both kind.Autoremove hit is = off_both (walking.Call w) u d hit turn (no_flag kind.Autoremove is refl)
+        (unpaged kind.Autoremove is refl)
     entry_both kind.Woken hit is = flag_both
     entry_both kind.Bit hit is = test_both is (seen_by s me call (at.Walk (walking.Call w))) refl
     entry_both kind.Var hit is = off_both (walking.Call w) u d hit turn (no_flag kind.Var is refl)
+        (unpaged kind.Var is refl)
     entry_both kind.Simple hit is = wake_both (walking.Call w) u d hit turn (no_flag kind.Simple is refl)
+        (unpaged kind.Simple is refl)
+    entry_both kind.Page hit is = page_both (seen_by s me call (at.Walk (walking.Call w)))
 
   -- the walk breaks, ends, or calls the next entry
   module _ (w : Walking) (k : IsCallSound n call (at.Walk (walking.Call w))) where
@@ -348,7 +412,7 @@ module _ (s : State) (n me : ℕ) (call : Call) (on : Watch) (sound : IsSound s 
 
     called_both : (o : Option CalledEntry) → r.breaks ≡ false → called_by s.table.entry r.member ≡ o
         → Both (walking.Call w) (calls_on o)
-    called_both None none is = ((λ y e i z stands ah. tt), (λ y e i z stands ah. tt))
+    called_both None none is = ((λ y e i σ z stands ah. tt), (λ y e i z stands ah. tt))
     called_both (Some d) none is = entry_both w (reached w r.calls) d (found none d is) k (turn_of d is) d.kind
         (meets (mask_of (mode_of call)) (s.table.task d.who).state) refl
 
@@ -376,7 +440,7 @@ module _ (s : State) (n me : ℕ) (call : Call) (on : Watch) (sound : IsSound s 
         then go (event.Mark (call_head call)) (at.Walk (walking.BreakUnlock (reached w r.calls)))
         else calls_on (called_by s.table.entry (if b then None else r.member)))
     turn_both true is = (
-      (λ y e i z stands ah. λ _. (
+      (λ y e i σ z stands ah. λ _. (
         ah,
         λ j mk. marked_place (call_head call) (at.Walk (walking.BreakUnlock (reached w r.calls))) y e stands z.watches
             ah j mk refl,
@@ -402,13 +466,59 @@ module _ (s : State) (n me : ℕ) (call : Call) (on : Watch) (sound : IsSound s 
           | inr lt ↦ inr (omega arith)
         ]
 
+    -- the entry that the walk saw is for no page, where its kind says so, or where the count of its watch is spent
+    seen_unpaged : is_page c.kind ≡ false → Unpaged c
+    seen_unpaged np e stands =
+        let z : Some e ≡ Some g.it = sym stands ∙ g.stands in
+        let same : e ≡ g.it = cc in
+        ap (λ (d : Entry). is_page d.kind) same ∙ ap (λ (d : CalledEntry). is_page d.kind) (sym g.seen) ∙ np
+
+    counted_unpaged : counted (call_watch call) ≡ true → Unpaged c
+    counted_unpaged is e stands =
+        let z : Some e ≡ Some g.it = sym stands ∙ g.stands in
+        let same : e ≡ g.it = cc in
+        ap (λ (d : Entry). is_page d.kind) same
+        ∙ counted_kind g.it.watch (call_watch call) g.it.kind g.key is
+        (sound.linked.entries (own c.who) g.it g.stands).lawful.suited
+
   take_both : (w : Walking) (who : ℕ) → Both (walking.Unqueue w who) (go (event.Unqueue who) (onward w))
   take_both w who = by w.spent
     where
       by : (b : Bool) → Both (walking.Unqueue w who) (go (event.Unqueue who) (if b then at.Walk (walking.Spent w)
           else at.Walk (walking.Call w)))
-      by true = ((λ y e i z stands ah. λ _. tt), (λ y e i z stands ah. λ _. tt))
-      by false = ((λ y e i z stands ah. λ _. ah), (λ y e i z stands ah. λ _. ah))
+      by true = ((λ y e i σ z stands ah. λ _. tt), (λ y e i z stands ah. λ _. tt))
+      by false = ((λ y e i σ z stands ah. λ _. ah), (λ y e i z stands ah. λ _. ah))
+
+  -- the walk is between two events of the function of an entry for a page: until it is off, the entry is before the
+  -- walk
+  hands_both : (st : PageStage) (w : Walking) (c : CalledEntry) (seen : Seen) → Turn (walking.Page st w c) c
+      → Both (walking.Page st w c) (hands_event (call_aim call) st w c seen)
+  hands_both staging.Try w c seen turn = by (misses (call_watch call) seen.value)
+    where
+      by : (b : Bool) → Both (walking.Page staging.Try w c) (go (event.TasFor (word_of (call_watch call)) c.who
+          (flag (bit_at seen.value (bit_of (call_watch call)))))
+          (at.Walk (if b then walking.Stopped w else walking.Page staging.Hand w c)))
+      by true = ((λ y e i σ z stands ah. λ _. tt), (λ y e i z stands ah. λ _. tt))
+      by false = ((λ y e i σ z stands ah. λ _. ah), (λ y e i z stands ah. λ _. ah))
+  hands_both staging.Hand w c seen turn = ((λ y e i σ z stands ah. λ _. ah), (λ y e i z stands ah. λ _. ah))
+  hands_both staging.Wake w c seen turn = ((λ y e i σ z stands ah. λ _. ah), (λ y e i z stands ah. λ _. ah))
+  hands_both staging.Off w c seen turn = by (past w c true).spent
+    where
+      behind : (y : ℕ) (e : Entry) → put s.table.entry (own c.who) None y ≡ Some e → s.table.entry y ≡ Some e
+          → same on e.watch ≡ true → c.place ≤ e.place → c.place + 1 ≤ e.place
+      behind y e left stands watches ah = elim (turn y e stands watches ah) [
+        | inl is ↦ absurd (let off : None ≡ Some e = sym (put_same s.table.entry (own c.who) None)
+            ∙ ap (put s.table.entry (own c.who) None) (sym is) ∙ left in cc)
+        | inr lt ↦ omega arith
+      ]
+
+      by : (b : Bool) → Both (walking.Page staging.Off w c) (go (event.Unqueue c.who)
+          (if b then at.Walk (walking.Spent (past w c true)) else at.Walk (walking.Call (past w c true))))
+      by true = ((λ y e i σ z stands ah. λ _. tt), (λ y e i z stands ah. λ _. tt))
+      by false = (
+        (λ y e i σ z stands ah. λ _. behind y e z.stands stands z.watches ah),
+        (λ y e i z stands ah. λ _. behind y e z.stands stands z.watches ah),
+      )
 
   resumed_place : (w : Walking) (o : Option Mark) (place : ℕ) → IsBehindMark o w place → (resumed w o).place ≤ place
   resumed_place w None place h = h.0
@@ -428,23 +538,27 @@ module _ (s : State) (n me : ℕ) (call : Call) (on : Watch) (sound : IsSound s 
   pub walk_both : (p : WalkPoint) → IsCallSound n call (at.Walk p)
       → IsPlaced s.table.entry (s.table.view me) me (now.Open call (at.Walk p))
       → CountedAt s.table.entry (s.table.view me) call (at.Walk p) → Both p (planned s me call (at.Walk p))
-  walk_both walking.Lock k pl z = ((λ y e i w stands ah. λ _. omega arith), (λ y e i w stands ah. λ _. omega arith))
+  walk_both walking.Lock k pl z = ((λ y e i σ w stands ah. λ _. omega arith), (λ y e i w stands ah. λ _. omega arith))
   walk_both (walking.Call w) k pl z = turn_both w k (r w k).breaks refl
   walk_both (walking.Wake w c) k pl z = wake_both (walking.Wake w c) w c
       (meets (mask_of (mode_of call)) (s.table.task c.who).state) (flagged_turn c (pl.flagged c refl))
-      (λ y e stands watches wo ah. ah)
+      (λ y e stands watches wo ah. ah) (counted_unpaged c (pl.flagged c refl) z.1)
   walk_both (walking.Bit w c) k pl z = off_both (walking.Bit w c) w c
       (meets (mask_of (mode_of call)) (s.table.task c.who).state) (flagged_turn c (pl.flagged c refl))
       (λ y e stands watches wo ah. absurd (let no : true ≡ false = sym wo
       ∙ (sound.kept.facts.suits y e stands).1 (same_bit e.watch (call_watch call) (key_of e watches) z.1) in cc))
+      (seen_unpaged c (pl.flagged c refl) z.3)
+  walk_both (walking.Page st w c) k pl z = hands_both st w c (seen_by s me call (at.Walk (walking.Page st w c)))
+      (flagged_turn c (pl.flagged c refl))
   walk_both (walking.Unqueue w who) k pl z = take_both w who
-  walk_both (walking.Spent w) k pl z = ((λ y e i f stands ah. tt), (λ y e i f stands ah. tt))
-  walk_both (walking.BreakUnlock w) k pl z = ((λ y e i f stands ah. λ _. ah), (λ y e i f stands ah. λ _. ah))
+  walk_both (walking.Spent w) k pl z = ((λ y e i σ f stands ah. tt), (λ y e i f stands ah. tt))
+  walk_both (walking.Stopped w) k pl z = ((λ y e i σ f stands ah. tt), (λ y e i f stands ah. tt))
+  walk_both (walking.BreakUnlock w) k pl z = ((λ y e i σ f stands ah. λ _. ah), (λ y e i f stands ah. λ _. ah))
   walk_both (walking.BreakLock w) k pl z = (
-    (λ y e i f stands ah. λ _. still_behind w e.place _ (locked_mark (walking.BreakLock w) (call_head call)) ah),
+    (λ y e i σ f stands ah. λ _. still_behind w e.place _ (locked_mark (walking.BreakLock w) (call_head call)) ah),
     (λ y e i f stands ah. λ _. still_behind w e.place _ (locked_mark (walking.BreakLock w) (call_head call)) ah),
   )
   walk_both (walking.Unmark w) k pl z = (
-    (λ y e i f stands ah. λ _. resumed_place w m e.place ah),
+    (λ y e i σ f stands ah. λ _. resumed_place w m e.place ah),
     (λ y e i f stands ah. λ _. resumed_place w m e.place ah),
   )

@@ -23,7 +23,7 @@ use Rattle.wait_model.specs.declared.points.Next.TheVariants as next
 use Rattle.wait_model.specs.declared.points.Progress.{Progress}
 use Rattle.wait_model.specs.declared.points.Progress.TheVariants as now
 use Rattle.wait_model.specs.Functions.{put}
-use Rattle.wait_model.specs.Watches.{same, head_of, is_done}
+use Rattle.wait_model.specs.Watches.{same, head_of, is_done, owner}
 use Rattle.wait_model.specs.Views.{View}
 use Rattle.wait_model.specs.Tables.{Table, met, steps}
 use Rattle.wait_model.specs.Laws.{Waits, Unheard}
@@ -167,7 +167,7 @@ module _ (me : ℕ) (on : Watch) where
   -- while the setter's wake is to come or under way: whoever waits is before its walk
   record IsWatched (s : State) : Type 0 where
     zero : (t : ℕ) → t ≢ me → FoundZero s.table t on → ⊥
-    waits : (y : ℕ) (e : Entry) (i : ℕ) → Waits s.table y e on i
+    waits : (y : ℕ) (e : Entry) (i σ : ℕ) → Waits s.table y e on i σ
         → IsAhead (s.table.mark me) (s.progress me) on e.place
     flags : (y : ℕ) (e : Entry) (i : ℕ) → Unheard s.table y e on i
         → IsFlagAhead (s.table.mark me) (s.progress me) on e.place
@@ -175,7 +175,7 @@ module _ (me : ℕ) (on : Watch) where
   -- after it: nobody waits
   record IsDeserted (s : State) : Type 0 where
     zero : (t : ℕ) → FoundZero s.table t on → ⊥
-    waits : (y : ℕ) (e : Entry) (i : ℕ) → Waits s.table y e on i → ⊥
+    waits : (y : ℕ) (e : Entry) (i σ : ℕ) → Waits s.table y e on i σ → ⊥
     flags : (y : ℕ) (e : Entry) (i : ℕ) → Unheard s.table y e on i → ⊥
 
   -- an event of a task
@@ -191,8 +191,9 @@ module _ (me : ℕ) (on : Watch) where
         all_met : AllMet on s.table a es
         all_met = event_met on s a (given_by (s.progress a)) e set
 
-        old_waits : (y : ℕ) (d : Entry) (i : ℕ) → Waits (steps s.table a es) y d on i → Before es s.table a y d on i
-        old_waits y d i z = waits_all es s.table a y d on i good.sound.kept allowed all_met z
+        old_waits : (y : ℕ) (d : Entry) (i σ : ℕ) → Waits (steps s.table a es) y d on i σ
+            → Before es s.table a y d on i σ
+        old_waits y d i σ z = waits_all es s.table a y d on i σ good.sound.kept allowed all_met z
 
         old_flags : (y : ℕ) (d : Entry) (i : ℕ) → Unheard (steps s.table a es) y d on i → Unheard s.table y d on i
         old_flags y d i z = unheard_all es s.table a y d on i allowed all_met z
@@ -204,20 +205,20 @@ module _ (me : ℕ) (on : Watch) where
         deserted_on : IsDeserted s → IsDeserted (happens s (ran.Made a e found))
         deserted_on d = record {
           zero = λ t z. d.zero t (old_zero t z);
-          waits = λ y g i z. by y g i (old_waits y g i z);
+          waits = λ y g i σ z. by y g i σ (old_waits y g i σ z);
           flags = λ y g i z. d.flags y g i (old_flags y g i z);
         }
           where
-            by : (y : ℕ) (g : Entry) (i : ℕ) → Before es s.table a y g on i → ⊥
-            by y g i (inl w) = d.waits y g i w
-            by y g i (inr (inl u)) = d.flags y g i u
-            by y g i (inr (inr k)) = d.zero a k.0
+            by : (y : ℕ) (g : Entry) (i σ : ℕ) → Before es s.table a y g on i σ → ⊥
+            by y g i σ (inl w) = d.waits y g i σ w
+            by y g i σ (inr (inl u)) = d.flags y g i u
+            by y g i σ (inr (inr k)) = d.zero a k.0
 
         -- another task's event leaves the setter's walk where it is
         others_watched : a ≢ me → IsWatched s → IsWatched (happens s (ran.Made a e found))
         others_watched ne w = record {
           zero = λ t o z. w.zero t o (old_zero t z);
-          waits = λ y g i z. carried g.place (by y g i (old_waits y g i z));
+          waits = λ y g i σ z. carried g.place (by y g i σ (old_waits y g i σ z));
           flags = λ y g i z. carried_flag g.place (w.flags y g i (old_flags y g i z));
         }
           where
@@ -239,25 +240,24 @@ module _ (me : ℕ) (on : Watch) where
 
             carried_flag : (place : ℕ) → IsFlagAhead (s.table.mark me) (s.progress me) on place
                 → IsFlagAhead ((steps s.table a es).mark me) (put s.progress a (progress_after s a (s.progress a)) me)
-                on
-                place
+                on place
             carried_flag place h = subst (λ (q : Progress). IsFlagAhead ((steps s.table a es).mark me) q on place)
                 (sym progress_same)
                 (subst (λ (k : Option Mark). IsFlagAhead k (s.progress me) on place) (sym mark_same) h)
 
-            by : (y : ℕ) (g : Entry) (i : ℕ) → Before es s.table a y g on i
+            by : (y : ℕ) (g : Entry) (i σ : ℕ) → Before es s.table a y g on i σ
                 → IsAhead (s.table.mark me) (s.progress me) on g.place
-            by y g i (inl k) = w.waits y g i k
-            by y g i (inr (inl u)) = flag_first (s.table.mark me) (s.progress me) on g.place (w.flags y g i u)
-            by y g i (inr (inr k)) = absurd (w.zero a ne k.0)
+            by y g i σ (inl k) = w.waits y g i σ k
+            by y g i σ (inr (inl u)) = flag_first (s.table.mark me) (s.progress me) on g.place (w.flags y g i u)
+            by y g i σ (inr (inr k)) = absurd (w.zero a ne k.0)
 
   -- An event of the setter's own leaves before its walk whoever waits, and the flags that are to be set. `LeftBy` says
   -- so of an event made at q, after which the setter stands at x.
   module _ (s : State) (n : ℕ) (good : IsGood s n) (set : met s.table.words on ≡ true) (w : IsWatched s) where
     abbrev LeftBy : Progress → Progress → Event → Type 0
     LeftBy q x e =
-        ((y : ℕ) (g : Entry) (i : ℕ) → Waits (steps s.table me (event_steps s me (given_by q) e)) y g on i
-        → Before (event_steps s me (given_by q) e) s.table me y g on i
+        ((y : ℕ) (g : Entry) (i σ : ℕ) → Waits (steps s.table me (event_steps s me (given_by q) e)) y g on i σ
+        → Before (event_steps s me (given_by q) e) s.table me y g on i σ
         → IsAhead ((steps s.table me (event_steps s me (given_by q) e)).mark me) x on g.place)
         × ((y : ℕ) (g : Entry) (i : ℕ) → Unheard (steps s.table me (event_steps s me (given_by q) e)) y g on i
         → Unheard s.table y g on i
@@ -271,14 +271,14 @@ module _ (me : ℕ) (on : Watch) where
         → IsFlagAhead mark (progress_at call (planned s me call p).next) on place)
         → Left call p (planned s me call p).event
     elsewhere call p h = (
-      (λ y g i z b. flag_first _ (progress_at call (planned s me call p).next) on g.place (h _ g.place)),
+      (λ y g i σ z b. flag_first _ (progress_at call (planned s me call p).next) on g.place (h _ g.place)),
       (λ y g i z b. h _ g.place),
     )
 
     in_walk : (call : Call) (p : WalkPoint) → s.progress me ≡ now.Open call (at.Walk p) → walks_for call on ≡ true
         → Left call (at.Walk p) (planned s me call (at.Walk p)).event
     in_walk call p is walks = (
-      (λ y g i z b. waiters y g i z b),
+      (λ y g i σ z b. waiters y g i σ z b),
       (λ y g i z u. (walk_both s n me call on good.sound good.apart walks set p k pl c).1 y g i z u.stands
           ((subst (λ (q : Progress). IsFlagAhead (s.table.mark me) q on g.place) is (w.flags y g i u)) walks)),
     )
@@ -292,20 +292,22 @@ module _ (me : ℕ) (on : Watch) where
         c : CountedBy s.table.entry (s.table.view me) (now.Open call (at.Walk p))
         c = subst (CountedBy s.table.entry (s.table.view me)) is (good.sound.counted me)
 
-        waiters : (y : ℕ) (g : Entry) (i : ℕ)
+        waiters : (y : ℕ) (g : Entry) (i σ : ℕ)
             → Waits (steps s.table me (event_steps s me (given_at call (at.Walk p))
-            (planned s me call (at.Walk p)).event)) y g on i
+            (planned s me call (at.Walk p)).event)) y g on i σ
             → Before (event_steps s me (given_at call (at.Walk p)) (planned s me call (at.Walk p)).event) s.table me y g
-            on i
+            on i σ
             → IsAhead ((steps s.table me (event_steps s me (given_at call (at.Walk p))
             (planned s me call (at.Walk p)).event)).mark me)
             (progress_at call (planned s me call (at.Walk p)).next) on g.place
-        waiters y g i z (inl b) = (walk_both s n me call on good.sound good.apart walks set p k pl c).0 y g i z b.stands
-            ((subst (λ (q : Progress). IsAhead (s.table.mark me) q on g.place) is (w.waits y g i b)) walks)
-        waiters y g i z (inr (inl u)) = (walk_both s n me call on good.sound good.apart walks set p k pl c).0 y g i z
+        waiters y g i σ z (inl b) =
+            (walk_both s n me call on good.sound good.apart walks set p k pl c).0 y g i σ z b.stands
+            ((subst (λ (q : Progress). IsAhead (s.table.mark me) q on g.place) is (w.waits y g i σ b)) walks)
+        waiters y g i σ z (inr (inl u)) =
+            (walk_both s n me call on good.sound good.apart walks set p k pl c).0 y g i σ z
             u.stands ((subst (λ (q : Progress). IsAhead (s.table.mark me) q on g.place) is
             (flag_first (s.table.mark me) (s.progress me) on g.place (w.flags y g i u))) walks)
-        waiters y g i z (inr (inr d)) = absurd (walks_none_done call on walks d.0.1)
+        waiters y g i σ z (inr (inr d)) = absurd (walks_none_done call on walks d.0.1)
 
     own_left : (call : Call) (p : Point) → s.progress me ≡ now.Open call p → Left call p (planned s me call p).event
     own_left call (at.Walk p) is = elim (bool_or (walks_for call on)) [
@@ -326,9 +328,9 @@ module _ (me : ℕ) (on : Watch) where
         by now.Idle is c = absurd c
         by (now.Open call p) is c = record {
           zero = λ t o z. w.zero t o (old_zero s n me e found good item set t z);
-          waits = λ y g i z. subst (λ (q : Progress). IsAhead ((steps s.table me (event_steps s me
-              (given_by (s.progress me)) e)).mark me) q on g.place) (sym to) (left.0 y g i z
-              (old_waits s n me e found good item set y g i z));
+          waits = λ y g i σ z. subst (λ (q : Progress). IsAhead ((steps s.table me (event_steps s me
+              (given_by (s.progress me)) e)).mark me) q on g.place) (sym to) (left.0 y g i σ z
+              (old_waits s n me e found good item set y g i σ z));
           flags = λ y g i z. subst (λ (q : Progress). IsFlagAhead ((steps s.table me (event_steps s me
               (given_by (s.progress me)) e)).mark me) q on g.place) (sym to) (left.1 y g i z
               (old_flags s n me e found good item set y g i z));
@@ -385,7 +387,7 @@ module _ (me : ℕ) (on : Watch) where
     published_watched : IsWatched (happens s (ran.Made me e found))
     published_watched = record {
       zero = published_zero;
-      waits = λ y g i z. flag_first _ _ on g.place (next_at g.place);
+      waits = λ y g i σ z. flag_first _ _ on g.place (next_at g.place);
       flags = λ y g i z. next_at g.place;
     }
       where
@@ -437,7 +439,7 @@ module _ (me : ℕ) (on : Watch) where
     ended_deserted : IsDeserted (happens s (ran.Made me e found))
     ended_deserted = record {
       zero = ended_zero;
-      waits = λ y g i z. by y g i (old_waits s n me e found good item set y g i z);
+      waits = λ y g i σ z. by y g i σ (old_waits s n me e found good item set y g i σ z);
       flags = λ y g i z. unheard y g i (old_flags s n me e found good item set y g i z);
     }
       where
@@ -449,20 +451,20 @@ module _ (me : ℕ) (on : Watch) where
         unheard y g i u = gone.0 y g u.stands u.watches
             (ahead g.place (flag_first (s.table.mark me) (s.progress me) on g.place (w.flags y g i u)))
 
-        by : (y : ℕ) (g : Entry) (i : ℕ)
-            → Before (event_steps s me (given_by (s.progress me)) e) s.table me y g on i → ⊥
-        by y g i (inl k) = gone.0 y g k.stands k.watches (ahead g.place (w.waits y g i k))
-        by y g i (inr (inl u)) = unheard y g i u
-        by y g i (inr (inr d)) = let z : true ≡ false = sym d.1 ∙ stores_not in cc
+        by : (y : ℕ) (g : Entry) (i σ : ℕ)
+            → Before (event_steps s me (given_by (s.progress me)) e) s.table me y g on i σ → ⊥
+        by y g i σ (inl k) = gone.0 y g k.stands k.watches (ahead g.place (w.waits y g i σ k))
+        by y g i σ (inr (inl u)) = unheard y g i u
+        by y g i σ (inr (inr d)) = let z : true ≡ false = sym d.1 ∙ stores_not in cc
 
   -- a call that is opened
   opened_watched : (s : State) (t : ℕ) (call : Call) → IsWatched s → IsWatched (happens s (ran.Opened t call))
   opened_watched s t call w = record {
     zero = w.zero;
-    waits = λ y g i z. put_at (λ (q : Progress). IsAhead (s.table.mark me) q on g.place) s.progress t
+    waits = λ y g i σ z. put_at (λ (q : Progress). IsAhead (s.table.mark me) q on g.place) s.progress t
         (now.Open call (program_start call)) me
         (λ _. flag_first (s.table.mark me) (now.Open call (program_start call)) on g.place
-        (start_ahead (s.table.mark me) on g.place call)) (λ _. w.waits y g i z);
+        (start_ahead (s.table.mark me) on g.place call)) (λ _. w.waits y g i σ z);
     flags = λ y g i z. put_at (λ (q : Progress). IsFlagAhead (s.table.mark me) q on g.place) s.progress t
         (now.Open call (program_start call)) me (λ _. start_ahead (s.table.mark me) on g.place call)
         (λ _. w.flags y g i z);
@@ -521,7 +523,7 @@ made_both (ran.Made t e found ∷ xs) ys = let h : made_in (xs ++ ys) ≡ made_i
 
 pub setters_leave_nobody : SettersLeaveNobody
 setters_leave_nobody run r few setter c on f x e sleeps =
-    deserted.waits x e waiter.0 waiter.1
+    deserted.waits x e waiter.0 ((state_of run).table.task (owner x)).state waiter.1
   where
     item : Ran
     item = ran.Made setter f.publish f.found
@@ -595,5 +597,5 @@ setters_leave_nobody run r few setter c on f x e sleeps =
     set : met (state_of run).table.words on ≡ true
     set = subst (λ (s : State). met s.table.words on ≡ true) (sym is) (stays_last setter on f.later s3 stays2.1)
 
-    waiter : (i : ℕ) × Waits (state_of run).table x e on i
+    waiter : (i : ℕ) × Waits (state_of run).table x e on i ((state_of run).table.task (owner x)).state
     waiter = sleeper_found (state_of run).table x e on (views_told run) sleeps set

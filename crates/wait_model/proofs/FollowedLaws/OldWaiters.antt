@@ -1,7 +1,7 @@
 -- While a watch is set nobody begins to wait for it: who waits after a step waited before it, or had loaded the watch
 -- before, as the owner of a Woken entry that finds its flag clear, or of an entry for a completion in its hold.
 use Rattle.std.proofs.Common.{refl, sym, ◌∙◌, ap, subst, arith, inl, inr}
-use Rattle.std.specs.Prelude.{ℕ, zero, suc, ◌≡◌, ◌≢◌, ◌⊎◌, Option, Some, None, Bool, true, false, List, [], ◌∷◌}
+use Rattle.std.specs.Prelude.{ℕ, zero, suc, ◌≡◌, ◌≢◌, ◌⊎◌, Option, Some, None, Bool, true, false, ◌&&◌, List, [], ◌∷◌}
 use Rattle.wait_model.specs.declared.layout.TheConstants.{ENTRIES}
 use Rattle.wait_model.specs.declared.watches.Watch.{Watch}
 use Rattle.wait_model.specs.declared.watches.Entry.{Entry}
@@ -14,14 +14,14 @@ use Rattle.wait_model.specs.declared.points.Given.{Given}
 use Rattle.wait_model.specs.Facts.{Facts, Kept}
 use Rattle.wait_model.specs.Views.{View, Hold, Checks, checked}
 use Rattle.wait_model.specs.Fold.{after}
-use Rattle.wait_model.specs.Watches.{is_done, failing, owner}
+use Rattle.wait_model.specs.Watches.{same, is_done, is_bit, is_page, failing, owner}
 use Rattle.wait_model.specs.Words.{entry_word, flag_of, head_word}
-use Rattle.wait_model.specs.Tables.{Words, Table, met, next, steps}
+use Rattle.wait_model.specs.Tables.{Words, Table, met, next, steps, consume}
 use Rattle.wait_model.specs.Laws.{Waits, Unheard}
 use Rattle.wait_model.specs.Rows.{Allowed, AllAllowed}
 use Rattle.wait_model.specs.Runs.{State, looks_below, looks, peeks_below, all_peeks, event_steps}
 use Rattle.wait_model.proofs.Functions.{put_case, bool_or}
-use Rattle.wait_model.proofs.Sameness.{failing_unmet}
+use Rattle.wait_model.proofs.Sameness.{failing_unmet, tas_unmet}
 use Rattle.wait_model.proofs.StepLaws.KeptLaws.{step_keeps}
 use Rattle.wait_model.proofs.StepLaws.UntouchedParts.{back_view, at_view}
 use Rattle.wait_model.proofs.StepLaws.QuietSteps.{
@@ -30,10 +30,18 @@ use Rattle.wait_model.proofs.StepLaws.QuietSteps.{
   signal_state,
   accept_state,
   unflag_checked,
+  consumed_checked,
 }
 use Rattle.wait_model.proofs.StepLaws.WakeSteps.{wake_state}
 use Rattle.wait_model.proofs.StepLaws.LoadSteps.{loaded_checked}
-use Rattle.wait_model.proofs.StepLaws.StoreSteps.{stored_own, stored_task, queued_own, queued_other, flag_own}
+use Rattle.wait_model.proofs.StepLaws.StoreSteps.{
+  stored_own,
+  stored_page,
+  stored_task,
+  queued_own,
+  queued_other,
+  flag_own,
+}
 use Rattle.wait_model.proofs.StepLaws.FlagSteps.{back_unheard, low_put, own_low}
 use Rattle.wait_model.proofs.StepLaws.UnlockSteps.{unlock_checks, unlock_checked, unlock_hold}
 
@@ -50,49 +58,64 @@ has_store (ev ∷ es) = has_store es
 
 -- The owner of the entry waited before task a made these steps, or had loaded the watch as not set: for a completion
 -- task a itself had, and stores its state or its entry in these steps.
-abbrev pub Before : List Step → Table → ℕ → ℕ → Entry → Watch → ℕ → Type 0
-Before es s a x e on n = Waits s x e on n ⊎ (Unheard s x e on n ⊎ (FoundZero s a on × (has_store es ≡ true)))
+abbrev pub Before : List Step → Table → ℕ → ℕ → Entry → Watch → ℕ → ℕ → Type 0
+Before es s a x e on n σ = Waits s x e on n σ ⊎ (Unheard s x e on n ⊎ (FoundZero s a on × (has_store es ≡ true)))
 
 unmet_absurd : (w : Words) (on : Watch) (P : Type 0) → met w on ≡ true → met w on ≡ false → P
 unmet_absurd w on P h k = absurd (let z : true ≡ false = sym h ∙ k in cc)
 
-module _ (s : Table) (a x : ℕ) (e : Entry) (on : Watch) (n : ℕ) (was : met s.words on ≡ true) where
-  stored_before : (σ : ℕ) → Waits (next s a (step.State σ)) x e on n → Before (step.State σ ∷ []) s a x e on n
-  stored_before σ z = elim (put_case s.view a (after (step.State σ) (s.view a)) (owner x)) [
-    | inl q ↦ let own : (is_done on ≡ true) × ((s.view a).hold.zero on ≡ Some n) =
-        stored_own (s.view a) σ x e on n (subst (λ (v : View). checked v x e on ≡ Some n) q.1 z.failed) in
-        inr (inr ((n, own.0, own.1), refl))
-    | inr q ↦ inl (record {
-      stands = z.stands;
-      watches = z.watches;
-      down = subst (λ (t : TaskRecord). t.state ≢ 0) (stored_task s a σ (owner x) q.0) z.down;
-      failed = subst (λ (v : View). checked v x e on ≡ Some n) q.1 z.failed;
-      is_set = z.is_set;
-    })
-  ]
+module _ (s : Table) (a x : ℕ) (e : Entry) (on : Watch) (n σ : ℕ) (was : met s.words on ≡ true) where
+  -- the store of the own state is no step of a wait for a page, which sleeps by its flag
+  stored_before : (state : ℕ) → Waits (next s a (step.State state)) x e on n σ
+      → Before (step.State state ∷ []) s a x e on n σ
+  stored_before state z = by (is_page e.kind) refl
+    where
+      by : (b : Bool) → is_page e.kind ≡ b → Before (step.State state ∷ []) s a x e on n σ
+      by true pa = inl (record {
+        stands = z.stands;
+        watches = z.watches;
+        down = λ np. absurd (cc);
+        failed = back_view s a (after (step.State state) (s.view a)) (λ v. checked v x e on ≡ Some n)
+            (stored_page (s.view a) state x e on n pa) (owner x) z.failed;
+        is_set = z.is_set;
+      })
+      by false np = elim (put_case s.view a (after (step.State state) (s.view a)) (owner x)) [
+        | inl q ↦ let own : (is_done on ≡ true) × ((s.view a).hold.zero on ≡ Some n) =
+            stored_own (s.view a) state x e on n np (subst (λ (v : View). checked v x e on ≡ Some n) q.1 z.failed) in
+            inr (inr ((n, own.0, own.1), refl))
+        | inr q ↦ let same_task : (next s a (step.State state)).task (owner x) ≡ s.task (owner x) =
+            stored_task s a state (owner x) q.0 in
+            inl (record {
+              stands = z.stands;
+              watches = z.watches;
+              down = λ np. (ap (λ (t : TaskRecord). t.state) (sym same_task) ∙ (z.down np).0, (z.down np).1);
+              failed = subst (λ (v : View). checked v x e on ≡ Some n) q.1 z.failed;
+              is_set = z.is_set;
+            })
+      ]
 
   queued_before : (y : ℕ) (d : Entry) → Facts s → Allowed s a (step.Queue y d)
-      → Waits (next s a (step.Queue y d)) x e on n → Before (step.Queue y d ∷ []) s a x e on n
+      → Waits (next s a (step.Queue y d)) x e on n σ → Before (step.Queue y d ∷ []) s a x e on n σ
   queued_before y d k al z = elim (put_case s.entry y (Some d) x) [
     | inl q ↦ let own : (is_done on ≡ true) × ((s.view a).hold.prepared ≡ true)
         × ((s.view a).checks.zero_failed x on ≡ Some n)
         = queued_own (s.view a) y d x e on n q.0 (at_view s a (owner x) (after (step.Queue y d) (s.view a))
         (λ v. checked v x e on ≡ Some n) (ap owner q.0 ∙ al.0) z.failed) in
         inr (inr ((n, own.0, (k.views a).zero.here x on n own.1 own.2), refl))
-    | inr q ↦ inl (back_waits s a (step.Queue y d) x e on n (queued_other (s.view a) y d x e on n q.0)
-        (λ h. sym q.1 ∙ h) (λ h. h) (λ h. h) z)
+    | inr q ↦ inl (back_waits s a (step.Queue y d) x e on n σ (queued_other (s.view a) y d x e on n q.0)
+        (λ h. sym q.1 ∙ h) (λ _ h. h) (λ h. h) z)
   ]
 
-  loaded_before : (l : Watch) (r : ℕ) → Allowed s a (step.Load l r) → Waits (next s a (step.Load l r)) x e on n
-      → Before (step.Load l r ∷ []) s a x e on n
+  loaded_before : (l : Watch) (r : ℕ) → Allowed s a (step.Load l r) → Waits (next s a (step.Load l r)) x e on n σ
+      → Before (step.Load l r ∷ []) s a x e on n σ
   loaded_before l r al z = elim (bool_or (failing l r on)) [
     | inl f ↦ unmet_absurd s.words on _ was (failing_unmet s.words l r on al f)
-    | inr f ↦ inl (back_waits s a (step.Load l r) x e on n (loaded_checked (s.view a) l r x e on n f) (λ q. q)
-        (λ q. q) (λ q. q) z)
+    | inr f ↦ inl (back_waits s a (step.Load l r) x e on n σ (loaded_checked (s.view a) l r x e on n f) (λ q. q)
+        (λ _ q. q) (λ q. q) z)
   ]
 
-  flagged_before : (y w : ℕ) → Allowed s a (step.Flag y w) → Waits (next s a (step.Flag y w)) x e on n
-      → Before (step.Flag y w ∷ []) s a x e on n
+  flagged_before : (y w : ℕ) → Allowed s a (step.Flag y w) → Waits (next s a (step.Flag y w)) x e on n σ
+      → Before (step.Flag y w ∷ []) s a x e on n σ
   flagged_before y w al z = elim (put_case s.view a (after (step.Flag y w) (s.view a)) (owner x)) [
     | inl q ↦ elim (flag_own (s.view a) y w x e on n
         (subst (λ (v : View). checked v x e on ≡ Some n) q.1 z.failed)) [
@@ -122,28 +145,39 @@ module _ (s : Table) (a x : ℕ) (e : Entry) (on : Watch) (n : ℕ) (was : met s
     })
   ]
 
+  -- after an exchange of the bit that it waits for, the bit is not met
+  consumed_before : (c : Watch) (v r : ℕ) → Waits (next s a (step.Consume c v r)) x e on n σ
+      → Before (step.Consume c v r ∷ []) s a x e on n σ
+  consumed_before c v r z = elim (bool_or (is_bit c && same on c)) [
+    | inl b ↦ unmet_absurd (consume s.words c v) on _ z.is_set (tas_unmet s.words c on v (grind arith) (grind arith))
+    | inr b ↦ inl (back_waits s a (step.Consume c v r) x e on n σ (consumed_checked (s.view a) c v r x e on n b)
+        (λ q. q) (λ _ q. q) (λ _. was) z)
+  ]
+
   -- one step, before which the watch was set
-  waits_before : (ev : Step) → Facts s → Allowed s a ev → Waits (next s a ev) x e on n
-      → Before (ev ∷ []) s a x e on n
+  waits_before : (ev : Step) → Facts s → Allowed s a ev → Waits (next s a ev) x e on n σ
+      → Before (ev ∷ []) s a x e on n σ
   waits_before (step.State σ) k al z = stored_before σ z
-  waits_before (step.Sleep w) k al z = inl (back_waits s a (step.Sleep w) x e on n (λ q. q) (λ q. q)
-      (subst (λ (i : ℕ). i ≢ 0) (slept_state s a w (owner x) z.down)) (λ q. q) z)
-  waits_before (step.Wake who mask w) k al z = inl (back_waits s a (step.Wake who mask w) x e on n (λ q. q)
-      (λ q. q) (subst (λ (i : ℕ). i ≢ 0) (wake_state s a who mask w (owner x) z.down).0) (λ q. q) z)
-  waits_before (step.Signal who fatal w) k al z = inl (back_waits s a (step.Signal who fatal w) x e on n
-      (λ q. q) (λ q. q) (subst (λ (i : ℕ). i ≢ 0) (signal_state s a who fatal w (owner x))) (λ q. q) z)
-  waits_before (step.Accept w) k al z = inl (back_waits s a (step.Accept w) x e on n (λ q. q) (λ q. q)
-      (subst (λ (i : ℕ). i ≢ 0) (accept_state s a w (owner x))) (λ q. q) z)
-  waits_before (step.Unlock h sp) k al z = inl (back_waits s a (step.Unlock h sp) x e on n
-      (λ q. sym (unlock_checked (s.view a) (s.view a).walk sp x e on) ∙ q) (λ q. q) (λ q. q) (λ q. q) z)
+  waits_before (step.Sleep w) k al z = inl (back_waits s a (step.Sleep w) x e on n σ (λ q. q) (λ q. q)
+      (λ ne q. sym (slept_state s a w (owner x) (subst (λ (i : ℕ). i ≢ 0) (sym q) ne)) ∙ q) (λ q. q) z)
+  waits_before (step.Wake who mask w) k al z = inl (back_waits s a (step.Wake who mask w) x e on n σ (λ q. q)
+      (λ q. q) (λ ne q. sym (wake_state s a who mask w (owner x) (subst (λ (i : ℕ). i ≢ 0) (sym q) ne)).0 ∙ q)
+      (λ q. q) z)
+  waits_before (step.Signal who fatal w) k al z = inl (back_waits s a (step.Signal who fatal w) x e on n σ
+      (λ q. q) (λ q. q) (λ _ q. sym (signal_state s a who fatal w (owner x)) ∙ q) (λ q. q) z)
+  waits_before (step.Accept w) k al z = inl (back_waits s a (step.Accept w) x e on n σ (λ q. q) (λ q. q)
+      (λ _ q. sym (accept_state s a w (owner x)) ∙ q) (λ q. q) z)
+  waits_before (step.Unlock h sp) k al z = inl (back_waits s a (step.Unlock h sp) x e on n σ
+      (λ q. sym (unlock_checked (s.view a) (s.view a).walk sp x e on) ∙ q) (λ q. q) (λ _ q. q) (λ q. q) z)
   waits_before (step.Queue y d) k al z = queued_before y d k al z
-  waits_before (step.Unqueue y) k al z = inl (back_waits s a (step.Unqueue y) x e on n (λ q. q)
-      (λ q. grind arith) (λ q. q) (λ q. q) z)
+  waits_before (step.Unqueue y) k al z = inl (back_waits s a (step.Unqueue y) x e on n σ (λ q. q)
+      (λ q. grind arith) (λ _ q. q) (λ q. q) z)
   waits_before (step.Load l r) k al z = loaded_before l r al z
-  waits_before (step.Unflag y) k al z = inl (back_waits s a (step.Unflag y) x e on n
-      (unflag_checked (s.view a) y x e on n) (λ q. q) (λ q. q) (λ q. q) z)
+  waits_before (step.Consume c v r) k al z = consumed_before c v r z
+  waits_before (step.Unflag y o) k al z = inl (back_waits s a (step.Unflag y o) x e on n σ
+      (unflag_checked (s.view a) y o x e on n) (λ q. q) (λ _ q. q) (λ q. q) z)
   waits_before (step.Flag y w) k al z = flagged_before y w al z
-  waits_before ev k al z = inl (back_waits s a ev x e on n (λ q. q) (λ q. q) (λ q. q) (λ _. was) z)
+  waits_before ev k al z = inl (back_waits s a ev x e on n σ (λ q. q) (λ q. q) (λ _ q. q) (λ _. was) z)
 
   -- the same of a failed load of the owner of a Woken entry whose flag is clear
   unheard_before : (ev : Step) → Allowed s a ev → Unheard (next s a ev) x e on n → Unheard s x e on n
@@ -166,10 +200,15 @@ module _ (s : Table) (a x : ℕ) (e : Entry) (on : Watch) (n : ℕ) (was : met s
         let no : true ≡ false = sym q.1 ∙ is in cc)
     | inr q ↦ back_unheard s a (step.Woken y) x e on n (λ h. h) (λ h. h) (λ h. sym q.1 ∙ h) (λ h. h) z
   ]
-  unheard_before (step.Unflag y) al z = elim (put_case s.flag y false x) [
-    | inl q ↦ absurd (own_low s a y x on n (after (step.Unflag y) (s.view a)) al refl z.low q.0)
-    | inr q ↦ back_unheard s a (step.Unflag y) x e on n (λ h. (low_put (s.view a).checks.low y x on n h).1)
+  unheard_before (step.Unflag y o) al z = elim (put_case s.flag y false x) [
+    | inl q ↦ absurd (own_low s a y x on n (after (step.Unflag y o) (s.view a)) al.0 refl z.low q.0)
+    | inr q ↦ back_unheard s a (step.Unflag y o) x e on n (λ h. (low_put (s.view a).checks.low y x on n h).1)
         (λ h. h) (λ h. sym q.1 ∙ h) (λ h. h) z
+  ]
+  unheard_before (step.Handed y) al z = elim (put_case s.flag y true x) [
+    | inl q ↦ absurd (let is : (next s a (step.Handed y)).flag x ≡ false = z.quiet in
+        let no : true ≡ false = sym q.1 ∙ is in cc)
+    | inr q ↦ back_unheard s a (step.Handed y) x e on n (λ h. h) (λ h. h) (λ h. sym q.1 ∙ h) (λ h. h) z
   ]
   unheard_before ev al z = back_unheard s a ev x e on n (λ q. q) (λ q. q) (λ q. q) (λ _. was) z
 
@@ -247,20 +286,20 @@ unfolding all_peeks
 peeks_store f = peeks_store_below f ENTRIES
 
 -- steps of one task in a row
-pub waits_all : (es : List Step) (s : Table) (a x : ℕ) (e : Entry) (on : Watch) (n : ℕ) → Kept s
-    → AllAllowed s a es → AllMet on s a es → Waits (steps s a es) x e on n → Before es s a x e on n
-waits_all [] s a x e on n k al m z = inl z
-waits_all (ev ∷ es) s a x e on n k al m z =
-    by (waits_all es (next s a ev) a x e on n (step_keeps s a ev k al.0) al.1 m.1 z)
+pub waits_all : (es : List Step) (s : Table) (a x : ℕ) (e : Entry) (on : Watch) (n σ : ℕ) → Kept s
+    → AllAllowed s a es → AllMet on s a es → Waits (steps s a es) x e on n σ → Before es s a x e on n σ
+waits_all [] s a x e on n σ k al m z = inl z
+waits_all (ev ∷ es) s a x e on n σ k al m z =
+    by (waits_all es (next s a ev) a x e on n σ (step_keeps s a ev k al.0) al.1 m.1 z)
   where
-    first : Before (ev ∷ []) s a x e on n → Before (ev ∷ es) s a x e on n
+    first : Before (ev ∷ []) s a x e on n σ → Before (ev ∷ es) s a x e on n σ
     first (inl w) = inl w
     first (inr (inl u)) = inr (inl u)
     first (inr (inr d)) = inr (inr (d.0, stores_first ev es d.1))
 
-    by : Before es (next s a ev) a x e on n → Before (ev ∷ es) s a x e on n
-    by (inl w) = first (waits_before s a x e on n m.0 ev k.facts al.0 w)
-    by (inr (inl u)) = inr (inl (unheard_before s a x e on n m.0 ev al.0 u))
+    by : Before es (next s a ev) a x e on n σ → Before (ev ∷ es) s a x e on n σ
+    by (inl w) = first (waits_before s a x e on n σ m.0 ev k.facts al.0 w)
+    by (inr (inl u)) = inr (inl (unheard_before s a x e on n σ m.0 ev al.0 u))
     by (inr (inr d)) = inr (inr (
       (d.0.0, d.0.1, zero_before s a a on d.0.0 m.0 ev al.0 d.0.2),
       stores_later ev es d.1,
@@ -270,7 +309,7 @@ pub unheard_all : (es : List Step) (s : Table) (a x : ℕ) (e : Entry) (on : Wat
     → AllAllowed s a es → AllMet on s a es → Unheard (steps s a es) x e on n → Unheard s x e on n
 unheard_all [] s a x e on n al m z = z
 unheard_all (ev ∷ es) s a x e on n al m z =
-    unheard_before s a x e on n m.0 ev al.0 (unheard_all es (next s a ev) a x e on n al.1 m.1 z)
+    unheard_before s a x e on n 0 m.0 ev al.0 (unheard_all es (next s a ev) a x e on n al.1 m.1 z)
 
 pub zero_all : (es : List Step) (s : Table) (a b : ℕ) (on : Watch) → AllAllowed s a es → AllMet on s a es
     → FoundZero (steps s a es) b on → FoundZero s b on

@@ -23,6 +23,8 @@ use Rattle.wait_model.specs.declared.points.Point.{Point}
 use Rattle.wait_model.specs.declared.points.Point.TheVariants as at
 use Rattle.wait_model.specs.declared.points.WalkPoint.{WalkPoint}
 use Rattle.wait_model.specs.declared.points.WalkPoint.TheVariants as walking
+use Rattle.wait_model.specs.declared.points.PageStage.{PageStage}
+use Rattle.wait_model.specs.declared.points.PageStage.TheVariants as staging
 use Rattle.wait_model.specs.declared.points.SelectPoint.{SelectPoint}
 use Rattle.wait_model.specs.declared.points.SelectPoint.TheVariants as selecting
 use Rattle.wait_model.specs.declared.points.Seen.{Seen}
@@ -37,6 +39,7 @@ use Rattle.wait_model.specs.Programs.{
   go,
   past,
   reached,
+  hands_event,
   call_entry,
   call_next,
   select_next,
@@ -117,6 +120,14 @@ entry_on aim w c kind.Woken seen hit a h = cc
 entry_on aim w c kind.Bit seen hit a h = cc
 entry_on aim w c kind.Var seen hit a h = cc
 entry_on aim w c kind.Simple seen hit a h = goes_on (event.Wake c.who hit) (past w c hit).spent _ _ a h
+entry_on aim w c kind.Page seen hit a h = cc
+
+hands_on : (aim : Aim) (st : PageStage) (w : Walking) (c : CalledEntry) (seen : Seen) (a : Answer)
+    → (hands_event aim st w c seen).next ≡ next.Ends a → ⊥
+hands_on aim staging.Try w c seen a h = cc
+hands_on aim staging.Hand w c seen a h = cc
+hands_on aim staging.Wake w c seen a h = cc
+hands_on aim staging.Off w c seen a h = goes_on (event.Unqueue c.who) (past w c true).spent _ _ a h
 
 -- a walk that ended otherwise, and a selection that used up its count, did not come to their ends
 not_whole : (w : Walked) (e : Event) (a : Answer) → next.Ends (answers.Walk w) ≡ next.Ends a → is_end w.end ≡ false
@@ -196,6 +207,10 @@ module _ (s : State) (n me : ℕ) (call : Call) (on : Watch) (sound : IsSound s 
   walk_ends (walking.Unqueue w who) k home a end whole = absurd (goes_on (event.Unqueue who) w.spent _ _ a end)
   walk_ends (walking.Spent w) k home a end whole = absurd (not_whole _ (event.Unlock (call_head call) true) a end
       refl whole)
+  walk_ends (walking.Stopped w) k home a end whole = absurd (not_whole _ (event.Unlock (call_head call) false) a end
+      refl whole)
+  walk_ends (walking.Page st w c) k home a end whole = absurd (hands_on (call_aim call) st w c
+      (seen_by s me call (at.Walk (walking.Page st w c))) a end)
   walk_ends walking.Lock k home a end whole = absurd (cc)
   walk_ends (walking.Bit w c) k home a end whole = absurd (cc)
   walk_ends (walking.BreakUnlock w) k home a end whole = absurd (cc)

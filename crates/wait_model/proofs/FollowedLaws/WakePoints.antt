@@ -18,6 +18,8 @@ use Rattle.wait_model.specs.declared.points.Point.{Point}
 use Rattle.wait_model.specs.declared.points.Point.TheVariants as at
 use Rattle.wait_model.specs.declared.points.WalkPoint.{WalkPoint}
 use Rattle.wait_model.specs.declared.points.WalkPoint.TheVariants as walking
+use Rattle.wait_model.specs.declared.points.PageStage.{PageStage}
+use Rattle.wait_model.specs.declared.points.PageStage.TheVariants as staging
 use Rattle.wait_model.specs.declared.points.SelectPoint.{SelectPoint}
 use Rattle.wait_model.specs.declared.points.SelectPoint.TheVariants as selecting
 use Rattle.wait_model.specs.declared.points.Seen.{Seen}
@@ -34,6 +36,7 @@ use Rattle.wait_model.specs.Programs.{
   past,
   reached,
   walk_event,
+  hands_event,
   call_entry,
   call_next,
   select_event,
@@ -94,6 +97,8 @@ is_of_walks (event.Unqueue who) = true
 is_of_walks (event.Unlock h used) = true
 is_of_walks (event.Mark h) = true
 is_of_walks (event.Unmark h) = true
+is_of_walks (event.TasFor p who v) = true
+is_of_walks (event.Handed who) = true
 is_of_walks _ = false
 
 -- none of them is a publish
@@ -107,6 +112,8 @@ walks_publish_not s me g (event.Unqueue who) c v f w e = cc
 walks_publish_not s me g (event.Unlock h used) c v f w e = cc
 walks_publish_not s me g (event.Mark h) c v f w e = cc
 walks_publish_not s me g (event.Unmark h) c v f w e = cc
+walks_publish_not s me g (event.TasFor p who x) c v f w e = cc
+walks_publish_not s me g (event.Handed who) c v f w e = cc
 walks_publish_not s me g ev c v f w e = absurd (cc)
 
 -- a walk makes such an event, and stays a walk or ends
@@ -136,6 +143,14 @@ entry_step aim w c kind.Woken seen hit = record { event = refl; next = refl }
 entry_step aim w c kind.Bit seen hit = off_step _ (misses aim.watch seen.value) _ _ refl
 entry_step aim w c kind.Var seen hit = off_step _ hit _ _ refl
 entry_step aim w c kind.Simple seen hit = on_step _ (past w c hit).spent _ _ refl
+entry_step aim w c kind.Page seen hit = off_step _ (misses aim.watch seen.value) _ _ refl
+
+hands_step : (aim : Aim) (st : PageStage) (w : Walking) (c : CalledEntry) (seen : Seen)
+    → IsWalkStep (hands_event aim st w c seen)
+hands_step aim staging.Try w c seen = off_step _ (misses aim.watch seen.value) _ _ refl
+hands_step aim staging.Hand w c seen = record { event = refl; next = refl }
+hands_step aim staging.Wake w c seen = record { event = refl; next = refl }
+hands_step aim staging.Off w c seen = on_step _ (past w c true).spent _ _ refl
 
 next_step : (aim : Aim) (w : Walking) (o : Option CalledEntry) (seen : Seen) (hit : Bool)
     → IsWalkStep (call_next aim w o seen hit)
@@ -154,7 +169,9 @@ walk_step aim (walking.Call w) seen = by seen.breaks
 walk_step aim (walking.Wake w c) seen = on_step _ (past w c (meets (mask_of aim.mode) seen.other.state)).spent _ _ refl
 walk_step aim (walking.Bit w c) seen = off_step _ (meets (mask_of aim.mode) seen.other.state) _ _ refl
 walk_step aim (walking.Unqueue w who) seen = on_step _ w.spent _ _ refl
+walk_step aim (walking.Page st w c) seen = hands_step aim st w c seen
 walk_step aim (walking.Spent w) seen = record { event = refl; next = refl }
+walk_step aim (walking.Stopped w) seen = record { event = refl; next = refl }
 walk_step aim (walking.BreakUnlock w) seen = record { event = refl; next = refl }
 walk_step aim (walking.BreakLock w) seen = record { event = refl; next = refl }
 walk_step aim (walking.Unmark w) seen = record { event = refl; next = refl }

@@ -26,11 +26,20 @@ use Rattle.wait_model.specs.declared.watches.Aim.{Aim}
 use Rattle.wait_model.specs.declared.steps.Step.{Step}
 use Rattle.wait_model.specs.declared.steps.Step.TheVariants as step
 use Rattle.wait_model.specs.Tasks.{meets}
-use Rattle.wait_model.specs.Watches.{same, head_of, is_bit, is_woken, mask_of, failing, owner, part_of}
+use Rattle.wait_model.specs.Watches.{same, head_of, is_bit, is_woken, mask_of, failing, owner, part_of, is_page, page}
 use Rattle.wait_model.specs.Views.{View, Walk, Hold, blank, no_hold, concerns, gone, ahead, all_passed}
-use Rattle.wait_model.specs.Fold.{after, after_all, after_unlock, view_of, hits, finds_bit_set, paused}
+use Rattle.wait_model.specs.Fold.{after, after_all, after_unlock, view_of, hits, finds_bit_set, paused, is_for_page}
 use Rattle.wait_model.specs.Histories.{Lacks, Since, turns_lock, is_publish, is_mark}
-use Rattle.wait_model.specs.Walks.{WalkHold, calls_entry, wakes_entry, flags, CalledBy, CalledNow, finds_off_head}
+use Rattle.wait_model.specs.Walks.{
+  WalkHold,
+  calls_entry,
+  wakes_entry,
+  flags,
+  CalledBy,
+  CalledNow,
+  finds_off_head,
+  sees_set,
+}
 use Rattle.wait_model.specs.Walks.{looks_anew}
 use Rattle.wait_model.proofs.HistoryLaws.Stretches.{
   after_append,
@@ -134,6 +143,7 @@ called x v = v.hold.called (owner x) || v.hold.moot
 sets_called : ℕ → Step → View → Bool
 sets_called x (step.Wake who mask w) v = hits v.walk mask && (owner x == who)
 sets_called x (step.Load l r) v = finds_bit_set v.walk l r
+sets_called x (step.TasFor y p r) v = is_for_page v.walk p
 sets_called x _ v = false
 
 called_by : (x : ℕ) → IsSetBy (called x) (sets_called x) renews
@@ -144,7 +154,26 @@ called_by x (step.Unlock h sp) v =
 called_by x (step.Publish d n r) v = grind arith
 called_by x (step.Wake who mask w) v = grind arith
 called_by x (step.Load l r) v = grind arith
+called_by x (step.TasFor y p r) v = grind arith
 called_by x e v = kept_so (v.hold.called (owner x) || v.hold.moot)
+
+-- a hold that has seen the bit of its walk set
+moot : View → Bool
+moot v = v.hold.moot
+
+sets_moot : Step → View → Bool
+sets_moot (step.Load l r) v = finds_bit_set v.walk l r
+sets_moot (step.TasFor y p r) v = is_for_page v.walk p
+sets_moot _ v = false
+
+moot_by : IsSetBy moot sets_moot renews
+unfolding moot sets_moot renews
+moot_by (step.Lock h aim w) v = grind arith
+moot_by (step.Unlock h sp) v = ap (λ (k : Hold). k.moot) (unlock_hold v v.walk sp) ∙ grind arith
+moot_by (step.Publish d n r) v = grind arith
+moot_by (step.Load l r) v = grind arith
+moot_by (step.TasFor y p r) v = grind arith
+moot_by e v = kept_so v.hold.moot
 
 flagged : ℕ → View → Bool
 flagged x v = v.hold.flagged x
@@ -197,9 +226,24 @@ sets_of_call a x step.Unmark v f h = absurd (cc)
 sets_of_call a x (step.Publish d n r) v f h = absurd (cc)
 sets_of_call a x (step.Consume d n r) v f h = absurd (cc)
 sets_of_call a x (step.Woken y) v f h = absurd (cc)
-sets_of_call a x (step.Unflag y) v f h = absurd (cc)
+sets_of_call a x (step.Unflag y o) v f h = absurd (cc)
 sets_of_call a x (step.Flag y w) v f h = absurd (cc)
 sets_of_call a x (step.Scan i p w) v f h = absurd (cc)
+sets_of_call a x (step.TasFor y p r) v f h =
+    rw f.is (sym (same_trans (page p) a.watch f.walk.watch h) ∙ f.watch)
+sets_of_call a x (step.Handed y) v f h = absurd (cc)
+
+-- a step that shows the walk's bit set makes the hold moot, and is one by which the walk calls
+sees_calls : (a : Aim) (x : ℕ) (e : Step) → sees_set a e ≡ true → calls_entry a x e ≡ true
+sees_calls a x (step.Load l r) h = h
+sees_calls a x (step.TasFor y p r) h = h
+sees_calls a x e h = absurd (cc)
+
+sets_of_sight : (a : Aim) (e : Step) (v : View) → IsForWalk a v.walk → sees_set a e ≡ true → sets_moot e v ≡ true
+unfolding sets_called sets_moot
+sets_of_sight a (step.Load l r) v f h = sets_of_call a 0 (step.Load l r) v f h
+sets_of_sight a (step.TasFor y p r) v f h = sets_of_call a 0 (step.TasFor y p r) v f h
+sets_of_sight a e v f h = absurd (cc)
 
 sets_of_wake : (a : Aim) (x : ℕ) (e : Step) (v : View) → IsForWalk a v.walk → wakes_entry a x e ≡ true
     → v.hold.flagged x ≡ true → sets_rung x e v ≡ true
@@ -207,11 +251,22 @@ unfolding sets_rung
 sets_of_wake a x (step.Wake who mask w) v f h g = rw f.is (rw (f.mask, g) (grind (arith, h)))
 sets_of_wake a x e v f h g = absurd (cc)
 
-called_at : (k : Bool) (inside : List Step) (a : Aim) (x : ℕ) (e : Entry) (v : View) → is_woken e.kind ≡ k
-    → Lacks turns_lock inside → IsForWalk a v.walk → CalledBy k inside a x → gone (after_all v inside) x e ≡ true
-unfolding called rung flagged
-called_at false inside a x e v is l f c =
-    rw is (subst (λ (t : List Step). called x (after_all v t) ≡ true) (sym c.split)
+called_at : (k j : Bool) (inside : List Step) (a : Aim) (x : ℕ) (e : Entry) (v : View) → is_woken e.kind ≡ k
+    → is_page e.kind ≡ j → Lacks turns_lock inside → IsForWalk a v.walk → CalledBy k j inside a x
+    → gone (after_all v inside) x e ≡ true
+unfolding called rung flagged moot
+called_at false true inside a x e v is pg l f c =
+    rw (is, pg) (subst (λ (t : List Step). moot (after_all v t) ≡ true) (sym c.split)
+    (set_at moot sets_moot renews moot_by c.earlier c.it c.later v
+    (sets_of_sight a c.it (after_all v c.earlier)
+    (walks_for a c.earlier v (lacks_left turns_lock c.earlier (c.it ∷ c.later) all) f) c.passes)
+    (lacks_both turns_lock is_publish renews renews_of c.later
+    (lacks_right turns_lock c.earlier (c.it ∷ c.later) all).1 c.none_since)))
+  where
+    all : Lacks turns_lock (c.earlier ++ c.it ∷ c.later)
+    all = subst (Lacks turns_lock) c.split l
+called_at false false inside a x e v is pg l f c =
+    rw (is, pg) (subst (λ (t : List Step). called x (after_all v t) ≡ true) (sym c.split)
     (set_at (called x) (sets_called x) renews (called_by x) c.earlier c.it c.later v
     (sets_of_call a x c.it (after_all v c.earlier)
     (walks_for a c.earlier v (lacks_left turns_lock c.earlier (c.it ∷ c.later) all) f) c.passes)
@@ -220,7 +275,7 @@ called_at false inside a x e v is l f c =
   where
     all : Lacks turns_lock (c.earlier ++ c.it ∷ c.later)
     all = subst (Lacks turns_lock) c.split l
-called_at true inside a x e v is l f c =
+called_at true j inside a x e v is pg l f c =
     rw is (subst (λ (t : List Step). rung x (after_all v t) ≡ true) (sym w.split)
     (set_at (rung x) (sets_rung x) renews (rung_by x) w.earlier w.it w.later v
     (sets_of_wake a x w.it (after_all v w.earlier)
@@ -271,8 +326,8 @@ pub called_gone : (es : List Step) (x : ℕ) (e : Entry) (σ : ℕ) → CalledNo
     → gone (view_of es) x e ≡ true
 called_gone es x e σ c =
     subst (λ (v : View). gone v x e ≡ true) (sym (hold_view es e.watch σ c.hold))
-    (called_at (is_woken e.kind) c.hold.inside c.hold.aim x e
-    (after (step.Lock c.hold.head (Some c.hold.aim) c.hold.found) (view_of c.hold.before)) refl
+    (called_at (is_woken e.kind) (is_page e.kind) c.hold.inside c.hold.aim x e
+    (after (step.Lock c.hold.head (Some c.hold.aim) c.hold.found) (view_of c.hold.before)) refl refl
     c.hold.within (begun_for c.hold.aim (view_of c.hold.before).walk) c.called)
 
 pub called_not : (es : List Step) (x : ℕ) (e : Entry) (σ : ℕ) → CalledNow es x e σ
@@ -314,6 +369,10 @@ seeks_walk : (o : Option Walk) (l : Watch) (r : ℕ) → finds_bit_set o l r ≡
 seeks_walk None l r h = absurd (cc)
 seeks_walk (Some w) l r h = (w, refl)
 
+page_walk : (o : Option Walk) (p : ℕ) → is_for_page o p ≡ true → HasWalk o
+page_walk None p h = absurd (cc)
+page_walk (Some w) p h = (w, refl)
+
 -- a step that calls was made in a walk, and ends no hold
 call_walk : (x : ℕ) (e : Step) (v : View) → sets_called x e v ≡ true → HasWalk v.walk × (turns_lock e ≡ false)
 unfolding sets_called
@@ -338,9 +397,11 @@ call_walk x step.Unmark v h = absurd (cc)
 call_walk x (step.Publish d n r) v h = absurd (cc)
 call_walk x (step.Consume d n r) v h = absurd (cc)
 call_walk x (step.Woken y) v h = absurd (cc)
-call_walk x (step.Unflag y) v h = absurd (cc)
+call_walk x (step.Unflag y o) v h = absurd (cc)
 call_walk x (step.Flag y w) v h = absurd (cc)
 call_walk x (step.Scan i p w) v h = absurd (cc)
+call_walk x (step.TasFor y p r) v h = (page_walk v.walk p h, refl)
+call_walk x (step.Handed y) v h = absurd (cc)
 
 call_of : (a : Aim) (x : ℕ) (e : Step) (v : View) → IsForWalk a v.walk → sets_called x e v ≡ true
     → calls_entry a x e ≡ true
@@ -369,9 +430,26 @@ call_of a x step.Unmark v f h = absurd (cc)
 call_of a x (step.Publish d n r) v f h = absurd (cc)
 call_of a x (step.Consume d n r) v f h = absurd (cc)
 call_of a x (step.Woken y) v f h = absurd (cc)
-call_of a x (step.Unflag y) v f h = absurd (cc)
+call_of a x (step.Unflag y o) v f h = absurd (cc)
 call_of a x (step.Flag y w) v f h = absurd (cc)
 call_of a x (step.Scan i p w) v f h = absurd (cc)
+call_of a x (step.TasFor y p r) v f h =
+    let g : is_for_page (Some f.walk) p ≡ true = (rw f.is at h) in
+    sym (same_trans (page p) f.walk.watch a.watch g) ∙ same_sym a.watch f.walk.watch f.watch
+call_of a x (step.Handed y) v f h = absurd (cc)
+
+-- the same of a step that makes the hold moot
+sight_walk : (e : Step) (v : View) → sets_moot e v ≡ true → HasWalk v.walk × (turns_lock e ≡ false)
+unfolding sets_called sets_moot
+sight_walk (step.Load l r) v h = call_walk 0 (step.Load l r) v h
+sight_walk (step.TasFor y p r) v h = call_walk 0 (step.TasFor y p r) v h
+sight_walk e v h = absurd (cc)
+
+sight_of : (a : Aim) (e : Step) (v : View) → IsForWalk a v.walk → sets_moot e v ≡ true → sees_set a e ≡ true
+unfolding sets_called sets_moot
+sight_of a (step.Load l r) v f h = call_of a 0 (step.Load l r) v f h
+sight_of a (step.TasFor y p r) v f h = call_of a 0 (step.TasFor y p r) v f h
+sight_of a e v f h = absurd (cc)
 
 -- a hold, and steps after it that do not end it
 abbrev pub further : (es earlier : List Step) (it : Step) (later : List Step) → es ≡ earlier ++ it ∷ later
@@ -451,13 +529,42 @@ flag_seen es x h = by (seen_in (flagged x) (λ e v. flags x e) renews (flagged_b
 
 -- the walk has called the entry in this hold
 pub called_now : (es : List Step) (x : ℕ) (e : Entry) (σ : ℕ) (w : Walk) → Lacks is_mark es
-    → (view_of es).walk ≡ Some w → concerns w e.watch σ ≡ true → (k : Bool) → is_woken e.kind ≡ k
-    → gone (view_of es) x e ≡ true → CalledNow es x e σ
-unfolding called rung flagged
-called_now es x e σ w l is con false kind g =
+    → (view_of es).walk ≡ Some w → concerns w e.watch σ ≡ true → (k j : Bool) → is_woken e.kind ≡ k
+    → is_page e.kind ≡ j → gone (view_of es) x e ≡ true → CalledNow es x e σ
+unfolding called rung flagged moot
+called_now es x e σ w l is con false true kind pg g =
+    by (seen_in moot sets_moot renews moot_by es blank
+    (let z : (view_of es).hold.moot ≡ true = (rw (kind, pg) at g) in z))
+  where
+    found : (s : Seen sets_moot renews blank es) → (k : Locked s.earlier) → turns_lock s.it ≡ false
+        → CalledNow es x e σ
+    found s k t =
+        let more : Locked es = further es s.earlier s.it s.later s.split t
+        (lacks_more renews turns_lock turns_of s.later s.none_since) k in
+        let a = aims es e.watch σ w more is con in
+        record {
+          hold = hold_for es e.watch σ more a.0 a.1;
+          called = subst (λ (b : Bool). CalledBy b (is_page e.kind) (k.inside ++ s.it ∷ s.later) k.aim x) (sym kind)
+              (subst (λ (b : Bool). CalledBy false b (k.inside ++ s.it ∷ s.later) k.aim x) (sym pg)
+              (record {
+                earlier = k.inside;
+                it = s.it;
+                later = s.later;
+                split = refl;
+                passes = sight_of k.aim s.it (view_of s.earlier) (locked_for s.earlier k) s.sets;
+                none_since = lacks_more renews is_publish publish_of s.later s.none_since;
+              }));
+        }
+
+    by : Seen sets_moot renews blank es ⊎ ((moot blank ≡ true) × Lacks renews es) → CalledNow es x e σ
+    by (inl s) =
+        let c = sight_walk s.it (view_of s.earlier) s.sets in
+        found s (locked_of s.earlier (lacks_left is_mark s.earlier (s.it ∷ s.later)
+        (subst (Lacks is_mark) s.split l)) c.0) c.1
+    by (inr q) = absurd (let z : false ≡ true = q.0 in cc)
+called_now es x e σ w l is con false false kind pg g =
     by (seen_in (called x) (sets_called x) renews (called_by x) es blank
-    (let z : (if false then (view_of es).hold.rung x else ((view_of es).hold.called (owner x)
-    || (view_of es).hold.moot)) ≡ true = (rw kind at g) in z))
+    (let z : ((view_of es).hold.called (owner x) || (view_of es).hold.moot) ≡ true = (rw (kind, pg) at g) in z))
   where
     found : (s : Seen (sets_called x) renews blank es) → (k : Locked s.earlier) → turns_lock s.it ≡ false
         → CalledNow es x e σ
@@ -467,7 +574,8 @@ called_now es x e σ w l is con false kind g =
         let a = aims es e.watch σ w more is con in
         record {
           hold = hold_for es e.watch σ more a.0 a.1;
-          called = subst (λ (b : Bool). CalledBy b (k.inside ++ s.it ∷ s.later) k.aim x) (sym kind)
+          called = subst (λ (b : Bool). CalledBy b (is_page e.kind) (k.inside ++ s.it ∷ s.later) k.aim x) (sym kind)
+              (subst (λ (b : Bool). CalledBy false b (k.inside ++ s.it ∷ s.later) k.aim x) (sym pg)
               (record {
                 earlier = k.inside;
                 it = s.it;
@@ -475,7 +583,7 @@ called_now es x e σ w l is con false kind g =
                 split = refl;
                 passes = call_of k.aim x s.it (view_of s.earlier) (locked_for s.earlier k) s.sets;
                 none_since = lacks_more renews is_publish publish_of s.later s.none_since;
-              });
+              }));
         }
 
     by : Seen (sets_called x) renews blank es ⊎ ((called x blank ≡ true) × Lacks renews es)
@@ -485,10 +593,9 @@ called_now es x e σ w l is con false kind g =
         found s (locked_of s.earlier (lacks_left is_mark s.earlier (s.it ∷ s.later)
         (subst (Lacks is_mark) s.split l)) c.0) c.1
     by (inr q) = absurd (let z : false ≡ true = q.0 in cc)
-called_now es x e σ w l is con true kind g =
+called_now es x e σ w l is con true j kind pg g =
     by (seen_in (rung x) (sets_rung x) renews (rung_by x) es blank
-    (let z : (if true then (view_of es).hold.rung x else ((view_of es).hold.called (owner x)
-    || (view_of es).hold.moot)) ≡ true = (rw kind at g) in z))
+    (let z : (view_of es).hold.rung x ≡ true = (rw kind at g) in z))
   where
     found : (s : Seen (sets_rung x) renews blank es) → turns_lock s.it ≡ false → HasWalk (view_of s.earlier).walk
         → Seen (λ e v. flags x e) renews blank s.earlier → CalledNow es x e σ
@@ -514,7 +621,7 @@ called_now es x e σ w l is con true kind g =
         let a = aims es e.watch σ w more is con in
         record {
           hold = hold_for es e.watch σ more a.0 a.1;
-          called = subst (λ (b : Bool). CalledBy b (m.inside ++ s.it ∷ s.later) m.aim x) (sym kind)
+          called = subst (λ (b : Bool). CalledBy b (is_page e.kind) (m.inside ++ s.it ∷ s.later) m.aim x) (sym kind)
               (record {
                 wake = record {
                   earlier = m.inside;

@@ -18,7 +18,7 @@ use Rattle.std.specs.Prelude.{
 }
 use Rattle.wait_model.specs.declared.watches.Entry.{Entry}
 use Rattle.wait_model.specs.declared.steps.Step.{Step}
-use Rattle.wait_model.specs.Watches.{is_woken, is_simple}
+use Rattle.wait_model.specs.Watches.{is_woken, is_simple, is_page}
 use Rattle.wait_model.specs.Views.{Walk, blank, concerns, gone, ahead, covers}
 use Rattle.wait_model.specs.Fold.{view_of}
 use Rattle.wait_model.specs.Histories.{Lacks, is_mark}
@@ -69,7 +69,7 @@ ahead_of es x e σ l none (Some w) is f = by (concerns w e.watch σ) refl (gone 
     by : (c : Bool) → concerns w e.watch σ ≡ c → (g : Bool) → gone (view_of es) x e ≡ g
         → (not (concerns w e.watch σ) || (nat_le w.from e.place && not (gone (view_of es) x e))) ≡ true
     by false p g q = rw p refl
-    by true p true q = absurd (none (called_now es x e σ w l is p (is_woken e.kind) refl q))
+    by true p true q = absurd (none (called_now es x e σ w l is p (is_woken e.kind) (is_page e.kind) refl refl q))
     by true p false q = rw (q, f) (grind arith)
 
 told_back : (es : List Step) (x : ℕ) (e : Entry) (σ : ℕ) → Lacks is_mark es → Covering es x e σ

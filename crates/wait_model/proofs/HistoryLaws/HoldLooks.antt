@@ -79,6 +79,8 @@ pub record SameWords (t u : Table) : Type 0 where
   pub entry : t.entry ≡ u.entry
   pub mark : t.mark ≡ u.mark
   pub flag : t.flag ≡ u.flag
+  pub done : t.done ≡ u.done
+  pub taken : t.taken ≡ u.taken
   pub holder : t.holder ≡ u.holder
   pub spent : t.spent ≡ u.spent
   pub words : t.words ≡ u.words
@@ -90,6 +92,8 @@ looks_same_below f zero t a = record {
   entry = refl;
   mark = refl;
   flag = refl;
+  done = refl;
+  taken = refl;
   holder = refl;
   spent = refl;
   words = refl;
@@ -101,6 +105,8 @@ looks_same_below f (suc n) t a =
       entry = r.entry;
       mark = r.mark;
       flag = r.flag;
+      done = r.done;
+      taken = r.taken;
       holder = r.holder;
       spent = r.spent;
       words = r.words;

@@ -30,7 +30,7 @@ use Rattle.wait_model.specs.declared.watches.Aim.{Aim}
 use Rattle.wait_model.specs.declared.steps.Step.{Step}
 use Rattle.wait_model.specs.declared.steps.Step.TheVariants as step
 use Rattle.wait_model.specs.Tasks.{meets}
-use Rattle.wait_model.specs.Watches.{same, head_of, is_woken, is_simple}
+use Rattle.wait_model.specs.Watches.{same, head_of, is_woken, is_simple, is_page}
 use Rattle.wait_model.specs.Words.{entry_of}
 use Rattle.wait_model.specs.Views.{
   View,
@@ -177,7 +177,7 @@ shown_past es c σ k x e w l is con p = by (same e.watch w.watch) refl
         let q = called_parts (same e.watch w.watch) (is_simple e.kind) (nat_lt e.place w.from)
         (gone (view_of es) x e) h n p in
         let m : meets w.mask σ ≡ true = (both (same c w.watch) (meets w.mask σ) con).1 in
-        inr (q.0, inr (inr (called_now es x e σ w l is (rw h m) (is_woken e.kind) refl q.1)))
+        inr (q.0, inr (inr (called_now es x e σ w l is (rw h m) (is_woken e.kind) (is_page e.kind) refl refl q.1)))
 
 past_look : (es : List Step) (c : Watch) (σ : ℕ) (k : WalkHold es c σ) (x : ℕ) (it : Step) (w : Walk)
     → Lacks is_mark es → (view_of es).walk ≡ Some w → concerns w c σ ≡ true

@@ -56,7 +56,9 @@ failed_after step.Unmark v x c = refl
 failed_after (step.Publish d n r) v x c = refl
 failed_after (step.Consume d n r) v x c = refl
 failed_after (step.Woken y) v x c = refl
-failed_after (step.Unflag y) v x c = refl
+failed_after (step.Unflag y o) v x c = refl
+failed_after (step.TasFor y p r) v x c = refl
+failed_after (step.Handed y) v x c = refl
 failed_after (step.Flag y w) v x c = refl
 failed_after (step.Scan h i w) v x c = refl
 
@@ -160,7 +162,9 @@ owes_after (step.Mark h q) v c σ = stays (v.duty.owes c σ)
 owes_after step.Unmark v c σ = stays (v.duty.owes c σ)
 owes_after (step.Consume d n r) v c σ = stays (v.duty.owes c σ)
 owes_after (step.Woken y) v c σ = stays (v.duty.owes c σ)
-owes_after (step.Unflag y) v c σ = stays (v.duty.owes c σ)
+owes_after (step.Unflag y o) v c σ = stays (v.duty.owes c σ)
+owes_after (step.TasFor y p r) v c σ = stays (v.duty.owes c σ)
+owes_after (step.Handed y) v c σ = stays (v.duty.owes c σ)
 owes_after (step.Flag y w) v c σ = stays (v.duty.owes c σ)
 
 -- a publish of the steps that is still owed, or one from before them

@@ -85,10 +85,8 @@ module _ (entry : ℕ → Option Entry) (mark : ℕ → Option Mark) (queue : �
             (in_from (rank_at place) it (queue (head_of c)) (omega arith)
             (subst (λ (h : ℕ). IsIn it (queue h)) (same_head e.watch c key)
             (entry_inside entry mark queue n l x e stands)))
-            (rw (ap (is_for c) stands, key) (let b : nat_lt x ENTRIES ≡ true = (let s = small in grind (
-              arith,
-              nat_tests,
-            ))
+            (rw (ap (is_for c) stands, key) (let b : nat_lt x ENTRIES ≡ true =
+            (let s = small in grind (arith, nat_tests))
             in rw b refl))
 
         -- where the walk does not break it calls an entry
@@ -103,8 +101,8 @@ module _ (entry : ℕ → Option Entry) (mark : ℕ → Option Mark) (queue : �
             some_called f.0 m.entry m.stands (ap (called_by entry) (sym f.1) ∙ none)
           where
             some_called : (m : Member) (g : Entry) → entry m.at ≡ Some g → called_by entry (Some m) ≡ None → ⊥
-            some_called m g s h = let z : Some (called_of (owner m.at) g) ≡ None = sym (ap (called_as (owner m.at)) s)
-                ∙ h
+            some_called m g s h = let z : Some (called_of (owner m.at) g) ≡ None =
+                sym (ap (called_as (owner m.at)) s) ∙ h
                 in cc
 
         -- so a bookmark goes to no place behind it
@@ -115,8 +113,8 @@ module _ (entry : ℕ → Option Entry) (mark : ℕ → Option Mark) (queue : �
             let r : rank f.0 ≤ rank it = f.2 in
             rw f.1 (by f.0 (is_entry f.0) r s)
           where
-            by : (m : Member) (b : Bool) → rank m ≤ rank it → x < ENTRIES → (if b then m.place - 1 else m.place)
-                ≤ e.place
+            by : (m : Member) (b : Bool) → rank m ≤ rank it → x < ENTRIES
+                → (if b then m.place - 1 else m.place) ≤ e.place
             by m true r s = omega arith
             by m false r s = omega arith
 

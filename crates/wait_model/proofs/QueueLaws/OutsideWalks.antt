@@ -67,7 +67,11 @@ use Rattle.wait_model.specs.Programs.{
   await_after,
   await_event,
   count_event,
+  page_finish_event,
+  page_event,
 }
+use Rattle.wait_model.specs.declared.points.PagePoint.TheVariants as paging
+use Rattle.wait_model.specs.declared.points.PagePoint.{PagePoint}
 
 -- the events that move no bookmark
 abbrev pub IsUnmarked : Event → Type 0
@@ -170,6 +174,24 @@ module _ (call : Call) (me : ℕ) (seen : Seen) where
       (record { event = asks; next = refl })
   bit_away p = record { event = tt; next = refl }
 
+  page_finish_away : (p : FinishPoint) → IsAway (page_finish_event me call p seen)
+  page_finish_away finishing.Look = both (is_some seen.entry) _ _ (record { event = tt; next = refl })
+      (record { event = tt; next = refl })
+  page_finish_away finishing.Queue = both (is_some seen.entry) _ _ (record { event = tt; next = refl })
+      (record { event = tt; next = refl })
+  page_finish_away p = record { event = tt; next = refl }
+
+  page_away : (p : PagePoint) → IsAway (page_event me call p seen)
+  page_away paging.First = both (call_fails call seen) _ _ (record { event = tt; next = refl })
+      (record { event = tt; next = refl })
+  page_away paging.Queue = both seen.worn _ _ (record { event = tt; next = refl }) (record { event = tt; next = refl })
+  page_away (paging.Unlock true) = record { event = tt; next = refl }
+  page_away (paging.Unlock false) = record { event = tt; next = refl }
+  page_away (paging.Finish p) = page_finish_away p
+  page_away paging.Last = both seen.flag _ _ (record { event = tt; next = refl })
+      (record { event = tt; next = refl })
+  page_away p = record { event = tt; next = refl }
+
   active_away : (b : Bool) → IsAway (active_event call b)
   active_away true = record { event = tt; next = refl }
   active_away false = record { event = tt; next = refl }
@@ -229,6 +251,7 @@ module _ (call : Call) (me : ℕ) (seen : Seen) where
   program_away (at.Leave p) o = leave_away p
   program_away (at.Finish p failed) o = finish_away p failed
   program_away (at.Bit p) o = bit_away p
+  program_away (at.Page p) o = page_away p
   program_away at.Worn o = both (call_fails call seen) _ _ (record { event = asks; next = refl })
       (both (is_lock call) _ _ (record { event = asks; next = refl }) (record { event = asks; next = refl }))
   program_away at.Publish o = record { event = published_unmarked call; next = refl }

@@ -42,12 +42,15 @@ use Rattle.wait_model.specs.Programs.{
   call_entry,
   call_next,
   reached,
+  hands_event,
 }
 use Rattle.wait_model.proofs.HistoryLaws.HoldLooks.{looks_same}
 use Rattle.wait_model.proofs.HistoryLaws.UnlockedLooks.{peeks_same}
 use Rattle.wait_model.proofs.WordLaws.CondWords.{set_rest}
 use Rattle.wait_model.proofs.Functions.{put_same, put_other}
 use Rattle.wait_model.proofs.QueueLaws.OutsideWalks.{IsUnmarked, goes_away, IsAway, program_away}
+use Rattle.wait_model.specs.declared.points.PageStage.TheVariants as staging
+use Rattle.wait_model.specs.declared.points.PageStage.{PageStage}
 
 module _ (s : State) (me : ℕ) (g : Given) where
   marks_left : (e : Event) → IsUnmarked e → (steps s.table me (event_steps s me g e)).mark ≡ s.table.mark
@@ -93,6 +96,13 @@ module _ (call : Call) where
   off_calm w c true = record { event = tt; next = refl }
   off_calm w c false = record { event = tt; next = refl }
 
+  -- a walk that stops where it finds a page set
+  page_calm : (b : Bool) (e : Event) → IsUnmarked e → (w : Walking) (p : WalkPoint)
+      → marked_at (now.Open call (at.Walk p)) ≡ None
+      → IsCalm call (go e (at.Walk (if b then walking.Stopped w else p)))
+  page_calm true e u w p h = record { event = u; next = refl }
+  page_calm false e u w p h = record { event = u; next = h }
+
   module _ (seen : Seen) where
     tests_calm : (w : Walking) (c : CalledEntry) → IsCalm call (tests (call_aim call) w c seen)
     tests_calm w c = by (call_fails call seen)
@@ -110,6 +120,16 @@ module _ (call : Call) where
     entry_calm w c kind.Bit hit = tests_calm w c
     entry_calm w c kind.Var hit = off_calm w c hit
     entry_calm w c kind.Simple hit = onward_calm (past w c hit) (event.Wake c.who hit) tt
+    entry_calm w c kind.Page hit = page_calm (call_fails call seen) (load call seen) tt w (walking.Page staging.Try w c)
+        refl
+
+    -- the walk hands a page
+    hands_calm : (st : PageStage) (w : Walking) (c : CalledEntry)
+        → IsCalm call (hands_event (call_aim call) st w c seen)
+    hands_calm staging.Try w c = page_calm (call_fails call seen) _ tt w (walking.Page staging.Hand w c) refl
+    hands_calm staging.Hand w c = record { event = tt; next = refl }
+    hands_calm staging.Wake w c = record { event = tt; next = refl }
+    hands_calm staging.Off w c = onward_calm (past w c true) (event.Unqueue c.who) tt
 
     next_calm : (w : Walking) (o : Option CalledEntry) (hit : Bool)
         → IsCalm call (call_next (call_aim call) w o seen hit)
@@ -158,6 +178,9 @@ module _ (s : State) (me : ℕ) (call : Call) where
       (event.Wake c.who (meets (mask_of (mode_of call)) (seen (walking.Wake w c)).other.state)) tt)
   walk_after (walking.Bit w c) h = walk_calm (walking.Bit w c) h
       (off_calm call w c (meets (mask_of (mode_of call)) (seen (walking.Bit w c)).other.state))
+  walk_after (walking.Page st w c) h = walk_calm (walking.Page st w c) h
+      (hands_calm call (seen (walking.Page st w c)) st w c)
+  walk_after (walking.Stopped w) h = walk_calm (walking.Stopped w) h (record { event = tt; next = refl })
   walk_after (walking.Unqueue w who) h = walk_calm (walking.Unqueue w who) h
       (onward_calm call w (event.Unqueue who) tt)
   walk_after (walking.Spent w) h = walk_calm (walking.Spent w) h (record { event = tt; next = refl })

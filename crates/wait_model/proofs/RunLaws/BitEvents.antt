@@ -69,17 +69,17 @@ module _ (s : State) (n me : ℕ) (call : Call) (sound : IsSound s n) (mine : me
   L p x = Leads s n me call sound mine p (progress_at call x)
 
   -- the exchange that sets the call's bit, and the load of its word
-  abbrev found : ℕ
+  abbrev pub found : ℕ
   found = value_of s.table.words (call_watch call)
 
-  abbrev taking : Event
+  abbrev pub taking : Event
   taking = event.Tas (word_of (call_watch call)) (bit_of (call_watch call))
       (flag (bit_at found (bit_of (call_watch call))))
 
   abbrev loading : Event
   loading = event.Load (call_number call) found
 
-  take_fine : (p : Point) (x : Next) → P p → IsCallSound n call p → is_bit (call_watch call) ≡ true
+  pub take_fine : (p : Point) (x : Next) → P p → IsCallSound n call p → is_bit (call_watch call) ≡ true
       → IsSoundCall (n + 1) (progress_at call x) → L p x → F p (record { event = taking; next = x })
   take_fine p x pl k b next_call leads = tas_fine s n me call sound mine p pl (word_of (call_watch call))
       (bit_of (call_watch call)) (flag (bit_at found (bit_of (call_watch call)))) x (bit_is (call_watch call) b)

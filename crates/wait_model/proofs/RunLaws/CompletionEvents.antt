@@ -92,6 +92,7 @@ use Rattle.wait_model.proofs.WordLaws.CondWords.{
   done_store,
   raised_counts,
   taken_counts,
+  unpaged_at,
 }
 use Rattle.wait_model.proofs.RunLaws.FineEvents.{
   Fine,
@@ -254,6 +255,8 @@ module _ (s : State) (n me : ℕ) (call : Call) (sound : IsSound s n) (mine : me
               stands = subst (λ (i : ℕ). s.table.entry (own i) ≡ Some it.entry) same stands_there;
               head = ap (λ (i : ℕ). Some i) (sym it.head);
               kind = going_at it.entry.watch it.entry.kind (call_watch call) q.lawful.suited k.watch k.fitted
+                  it.head;
+              unpaged = unpaged_at it.entry.watch it.entry.kind (call_watch call) q.lawful.suited k.watch k.fitted
                   it.head;
             };
           };

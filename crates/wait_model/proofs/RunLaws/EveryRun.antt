@@ -93,6 +93,7 @@ use Rattle.wait_model.specs.Reached.{
   IsSound,
   Allows,
   Joins,
+  HandsAt,
 }
 use Rattle.wait_model.specs.Views.{View}
 use Rattle.wait_model.specs.Fold.{after_all}
@@ -127,11 +128,15 @@ use Rattle.wait_model.specs.declared.points.WalkPoint.TheVariants as walking
 use Rattle.wait_model.specs.declared.points.SelectPoint.TheVariants as selecting
 use Rattle.wait_model.specs.declared.points.Progress.TheVariants as now
 use Rattle.wait_model.specs.declared.watches.Watch.TheVariants as watch
+use Rattle.wait_model.proofs.RunLaws.PagesHanded.{opened_handed, made_handed}
+use Rattle.wait_model.specs.Facts.{Kept}
 
 walk_later : (n : ℕ) (p : Point) → IsWalkSound n p → IsWalkSound (n + 1) p
 walk_later n (at.Walk (walking.Call w)) k = counted_later n w k
 walk_later n (at.Walk (walking.Wake w c)) k = (counted_later n w k.0, k.1, k.2, k.3)
 walk_later n (at.Walk (walking.Bit w c)) k = (counted_later n w k.0, k.1, k.2, k.3)
+walk_later n (at.Walk (walking.Page st w c)) k = (counted_later n w k.0, k.1, k.2, k.3, k.4)
+walk_later n (at.Walk (walking.Stopped w)) k = counted_later n w k
 walk_later n (at.Walk (walking.Unqueue w who)) k = (counted_later n w k.0, k.1)
 walk_later n (at.Walk (walking.Spent w)) k = counted_later n w k
 walk_later n (at.Select (selecting.Next j)) k = omega (arith, k)
@@ -228,6 +233,8 @@ start_sound_call n me (calls.WaitBit w b st) h l = begins n (calls.WaitBit w b s
     (omega arith) refl refl tt
 start_sound_call n me (calls.LockBit w b st) h l = begins n (calls.LockBit w b st) (bit_there w b h)
     (omega arith) refl refl tt
+start_sound_call n me (calls.LockPage w st) h l = begins n (calls.LockPage w st)
+    (grind (arith, nat_tests, h), omega arith) (omega arith) refl refl tt
 start_sound_call n me (calls.ClearBit w b) h l = begins n (calls.ClearBit w b) (bit_there w b h) (omega arith)
     refl refl tt
 start_sound_call n me (calls.WaitVar v old st) h l = begins n (calls.WaitVar v old st)
@@ -257,6 +264,8 @@ start_home (calls.WaitBit w b st) None h q k = tt
 start_home (calls.WaitBit w b st) (Some e) h q k = absurd (cc)
 start_home (calls.LockBit w b st) None h q k = tt
 start_home (calls.LockBit w b st) (Some e) h q k = absurd (cc)
+start_home (calls.LockPage w st) None h q k = tt
+start_home (calls.LockPage w st) (Some e) h q k = absurd (cc)
 start_home (calls.WaitVar v old st) None h q k = tt
 start_home (calls.WaitVar v old st) (Some e) h q k = absurd (cc)
 start_home calls.Remove None h q k = absurd (cc)
@@ -335,6 +344,7 @@ opened_sound s n me call sound item =
       counted = λ t. put_at (λ p. CountedBy s.table.entry (s.table.view t) p) s.progress me _ t
           (λ _. begun_counted s.table.entry (s.table.view t) call) (λ _. sound.counted t);
       low = sound.low;
+      handed = opened_handed s me call sound.handed item.1;
       kept = sound.kept;
       few = sound.few;
     }
@@ -361,7 +371,7 @@ pub made_of : (s : State) (n me : ℕ) (e : Event) (found : ℕ) → IsSound s n
 made_of s n me e found sound mine now.Fresh is c = absurd c
 made_of s n me e found sound mine now.Idle is c = absurd c
 made_of s n me e found sound mine (now.Open call p) is c =
-    of_fine (program_fine s n me call sound mine p k pl mk z keep rest c.2)
+    of_fine (program_fine s n me call sound mine p k pl mk z hand keep rest c.2)
   where
     k : IsCallSound n call p
     k = subst (IsSoundCall n) is (sound.calls me)
@@ -374,6 +384,9 @@ made_of s n me e found sound mine (now.Open call p) is c =
 
     z : CountedAt s.table.entry (s.table.view me) call p
     z = subst (CountedBy s.table.entry (s.table.view me)) is (sound.counted me)
+
+    hand : HandsAt s.table.taken me (now.Open call p)
+    hand = subst (HandsAt s.table.taken me) is (sound.handed.places me)
 
     keep : KeepsCleared (now.Open call p) (s.table.view me)
     keep = subst (λ (x : Progress). KeepsCleared x (s.table.view me)) is (sound.keeps me)
@@ -415,21 +428,27 @@ made_sound s n me e found sound few item =
     let m : IsMade s n me (s.progress me) e = made_of s n me e found sound item.0 (s.progress me) refl item.1
     in
     let es : List Step = event_steps s me (given_by (s.progress me)) e in
+    let kept : Kept (steps s.table me es) = steps_keep s.table me es sound.kept m.made in
+    let calls : (t : ℕ) → IsSoundCall (n + 1) ((happens s (ran.Made me e found)).progress t) =
+    λ t. put_at (IsSoundCall (n + 1)) s.progress me _ t (λ _. m.next_call)
+    (λ _. call_later n (s.progress t) (sound.calls t)) in
+    let placed : (t : ℕ) → IsPlaced (steps s.table me es).entry ((steps s.table me es).view t) t
+    ((happens s (ran.Made me e found)).progress t) =
+    λ t. put_at (λ p. IsPlaced (steps s.table me es).entry ((steps s.table me es).view t) t p)
+    s.progress me _ t
+    (λ q. subst (λ (i : ℕ). IsPlaced (steps s.table me es).entry ((steps s.table me es).view i) i
+    (progress_after s me (s.progress me))) (sym q)
+    (subst (λ (v : View). IsPlaced (steps s.table me es).entry v me
+    (progress_after s me (s.progress me))) (sym (steps_own s.table me es)) m.placed))
+    (λ ne. subst (λ (v : View). IsPlaced (steps s.table me es).entry v t (s.progress t))
+    (sym (steps_other s.table me t es ne))
+    (others_placed s me (given_by (s.progress me)) e t ne m.changes sound.kept.facts (sound.placed t))) in
     record {
       lawful = event_lawful s me (given_by (s.progress me)) e sound.lawful m.runs m.allows;
       linked = event_linked s me (given_by (s.progress me)) e n few sound.linked item.0 m.allows
           m.changes m.joins;
-      calls = λ t. put_at (IsSoundCall (n + 1)) s.progress me _ t (λ _. m.next_call)
-          (λ _. call_later n (s.progress t) (sound.calls t));
-      placed = λ t. put_at (λ p. IsPlaced (steps s.table me es).entry ((steps s.table me es).view t) t p)
-          s.progress me _ t
-          (λ q. subst (λ (i : ℕ). IsPlaced (steps s.table me es).entry ((steps s.table me es).view i) i
-          (progress_after s me (s.progress me))) (sym q)
-          (subst (λ (v : View). IsPlaced (steps s.table me es).entry v me
-          (progress_after s me (s.progress me))) (sym (steps_own s.table me es)) m.placed))
-          (λ ne. subst (λ (v : View). IsPlaced (steps s.table me es).entry v t (s.progress t))
-          (sym (steps_other s.table me t es ne))
-          (others_placed s me (given_by (s.progress me)) e t ne m.changes sound.kept.facts (sound.placed t)));
+      calls = calls;
+      placed = placed;
       marked = λ t. put_at (λ p. mark_head ((steps s.table me es).mark t) ≡ marked_at p) s.progress me _ t
           (λ q. subst (λ (i : ℕ). mark_head ((steps s.table me es).mark i)
           ≡ marked_at (progress_after s me (s.progress me))) (sym q) m.marked)
@@ -460,7 +479,9 @@ made_sound s n me e found sound few item =
           (others_counted s me (given_by (s.progress me)) e t ne m.changes sound.kept.facts (sound.placed t)
           (sound.counted t)));
       low = event_low s me (given_by (s.progress me)) sound.low e m.allows m.joins;
-      kept = steps_keep s.table me es sound.kept m.made;
+      handed = made_handed s n me e found sound.handed sound.placed sound.calls sound.kept.facts m.changes placed calls
+          kept.facts (sound.counted me) item.1;
+      kept = kept;
       few = omega arith;
     }
 
@@ -507,6 +528,7 @@ start_sound = record {
   keeps = λ t. tt;
   counted = λ t. tt;
   low = λ i k from. refl;
+  handed = record { places = λ t. tt; amid = λ u p e h. absurd (cc) };
   kept = start_kept;
   few = omega arith;
 }

@@ -50,7 +50,7 @@ use Rattle.wait_model.specs.Views.{Hold, View, Look, look_at}
 use Rattle.wait_model.specs.Fold.{after_unlock, after, after_all}
 use Rattle.wait_model.specs.declared.watches.Watch.{Watch}
 use Rattle.wait_model.specs.declared.watches.Watch.TheVariants as watch
-use Rattle.wait_model.specs.Watches.{bare, is_bit, IsThere}
+use Rattle.wait_model.specs.Watches.{bare, is_bit, IsThere, is_page}
 use Rattle.wait_model.specs.Locations.{word_in, cond_at}
 use Rattle.wait_model.specs.Tables.{next, steps, value_of}
 use Rattle.wait_model.specs.Words.{entry_word, entry_of, head_word, Suited}
@@ -113,6 +113,7 @@ IsStill (event.Unmark h) = ⊥
 IsStill (event.Active h hit) = ⊥
 IsStill (event.Tas w b v) = ⊥
 IsStill (event.Clear w b) = ⊥
+IsStill event.Unflag = ⊥
 IsStill _ = Unit {0}
 
 module _ (s : State) (me : ℕ) (g : Given) where
@@ -155,6 +156,7 @@ module _ (s : State) (me : ℕ) (g : Given) where
   still_changes (event.Set c v) i = absurd i
   still_changes (event.Mark h) i = absurd i
   still_changes (event.Unmark h) i = absurd i
+  still_changes event.Unflag i = absurd i
   still_changes e i = tt
 
 module _ (s : State) (n me : ℕ) (call : Call) (sound : IsSound s n) (mine : me < TASKS) where
@@ -200,6 +202,7 @@ module _ (s : State) (n me : ℕ) (call : Call) (sound : IsSound s n) (mine : me
       → flagged_by q ≡ Some c → IsFlagged entry c (held_at q) (aimed_by q)
   unflagged (now.Open d (at.Walk (walking.Wake w u))) entry none c t = absurd (cc)
   unflagged (now.Open d (at.Walk (walking.Bit w u))) entry none c t = absurd (cc)
+  unflagged (now.Open d (at.Walk (walking.Page st w u))) entry none c t = absurd (cc)
   unflagged q entry none c t = absurd (cc)
 
   module _ (p : Point) (pl : IsPlaced s.table.entry (s.table.view me) me (now.Open call p)) where
@@ -285,6 +288,19 @@ module _ (s : State) (n me : ℕ) (call : Call) (sound : IsSound s n) (mine : me
             (clear_step s.table me w b sound.low (outside out) state keeps),
         tt,
       );
+      placed = led (progress_at call x) leads _ refl;
+    }
+
+    -- the own flag is cleared by a task that has no entry queued for a page
+    pub unflag_fine : (x : Next) → ((e : Entry) → s.table.entry (own me) ≡ Some e → is_page e.kind ≡ false)
+        → IsSoundCall (n + 1) (progress_at call x) → Leads p (progress_at call x)
+        → Fine (given_at call p) (record { event = event.Unflag; next = x })
+    unflag_fine x none next_call leads = record {
+      allows = tt;
+      joins = tt;
+      changes = none;
+      next_call = next_call;
+      made = λ _. ((owner_own me, refl), tt);
       placed = led (progress_at call x) leads _ refl;
     }
 

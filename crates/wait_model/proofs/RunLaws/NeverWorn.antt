@@ -22,6 +22,11 @@ use Rattle.wait_model.specs.Unworn.{NoRunWears}
 use Rattle.wait_model.proofs.WaitLaws.OutsideStages.{either, unset}
 use Rattle.wait_model.proofs.AccountLaws.Refusals.{refusal, IsOther, other}
 use Rattle.wait_model.proofs.RunLaws.EveryRun.{sound_of}
+use Rattle.wait_model.specs.declared.points.PagePoint.{PagePoint}
+use Rattle.wait_model.specs.declared.points.PagePoint.TheVariants as paging
+use Rattle.wait_model.specs.Programs.{page_last}
+use Rattle.wait_model.specs.Runs.{seen_by}
+use Rattle.wait_model.proofs.WaitLaws.OutsideStages.{both}
 
 abbrev is_worn : Next → Bool
 is_worn (next.Ends answer.Worn) = true
@@ -46,6 +51,11 @@ module _ (s : State) (me : ℕ) (call : Call) where
   elsewhere : (p : Point) → IsOther p → (planned s me call p).next ≢ next.Ends answer.Worn
   elsewhere p i z = let y : 0 ≡ 1 = sym (other s me call p i) ∙ ap refusal z in omega (arith, y)
 
+  page_unworn : (p : PagePoint) → (planned s me call (at.Page p)).next ≢ next.Ends answer.Worn
+  page_unworn paging.Last = told (at.Page paging.Last)
+      (both (λ b. U (page_last b)) (seen_by s me call (at.Page paging.Last)).flag refl refl)
+  page_unworn p = elsewhere (at.Page p) tt
+
   unworn : (p : Point) → IsFitted call p → (planned s me call p).next ≢ next.Ends answer.Worn
   unworn at.Worn f = absurd f
   unworn (at.Finish p true) f = told (at.Finish p true) (finish_unworn p)
@@ -55,6 +65,7 @@ module _ (s : State) (me : ℕ) (call : Call) where
   unworn (at.Await (awaiting.Last true)) f = told (at.Await (awaiting.Last true)) refl
   unworn (at.Bit biting.Last) f = told (at.Bit biting.Last)
       (either (λ (a : Answer). is_worn (next.Ends a) ≡ false) (unset s call) interrupted zero_answer refl refl)
+  unworn (at.Page p) f = page_unworn p
   unworn p f = elsewhere p tt
 
 pub no_run_wears : NoRunWears

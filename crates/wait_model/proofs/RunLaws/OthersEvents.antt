@@ -1,5 +1,5 @@
 -- Another task's event leaves what a task's place in its program says.
-use Rattle.std.proofs.Common.{sym, ◌∙◌, ap, subst, arith, inl, inr}
+use Rattle.std.proofs.Common.{sym, ◌∙◌, ap, subst, arith, inl, inr, refl}
 use Rattle.std.specs.Prelude.{ℕ, ◌≡◌, ◌≢◌, ◌<◌, ◌≤◌, ◌⊎◌, Option, Some, None, true, false}
 use Rattle.wait_model.specs.declared.layout.TheConstants.{FIRST_DONE, FIRST_BIT_WORD}
 use Rattle.wait_model.specs.declared.calls.Event.{Event}
@@ -27,10 +27,13 @@ use Rattle.wait_model.specs.Reached.{
   IsFlagged,
   aimed_by,
   IsPlaced,
+  seated,
+  zone,
+  pages,
 }
 use Rattle.wait_model.specs.Facts.{Facts}
 use Rattle.wait_model.specs.Views.{View}
-use Rattle.wait_model.specs.Watches.{head_of}
+use Rattle.wait_model.specs.Watches.{head_of, is_page}
 use Rattle.wait_model.specs.Tables.{next, value_of}
 use Rattle.wait_model.specs.Words.{head_word}
 use Rattle.wait_model.specs.Points.{call_watch}
@@ -49,6 +52,13 @@ use Rattle.wait_model.specs.declared.points.AddPoint.TheVariants as adding
 use Rattle.wait_model.specs.declared.points.AwaitPoint.TheVariants as awaiting
 use Rattle.wait_model.specs.declared.points.Progress.TheVariants as now
 use Rattle.wait_model.specs.declared.steps.Step.TheVariants as step
+use Rattle.wait_model.specs.declared.points.PagePoint.TheVariants as paging
+use Rattle.wait_model.specs.declared.calls.Call.{Call}
+use Rattle.wait_model.specs.declared.points.Point.{Point}
+use Rattle.wait_model.specs.declared.points.LeavePoint.TheVariants as leaving
+use Rattle.wait_model.specs.declared.points.FinishPoint.TheVariants as finishing
+use Rattle.wait_model.specs.declared.points.BitPoint.TheVariants as biting
+use Rattle.wait_model.specs.declared.points.RemovePoint.TheVariants as removing
 
 pub own_one : (a b : ℕ) → own a ≡ own b → a ≡ b
 own_one a b e = omega arith
@@ -57,19 +67,43 @@ own_one a b e = omega arith
 pub goes_not_stands : (k : Kind) → IsGoing k → IsStandingKind k → ⊥
 goes_not_stands k is s = let z : true ≡ false = sym s ∙ is in cc
 
--- where such an entry may be queued, it may be off too
-home_dropped : (z : Zone) (c : Watch) (e : Entry) → IsGoing e.kind → IsHome z c (Some e)
+-- where such an entry may be queued, it may be off too, but for a page's in the hold in which it was queued
+home_dropped : (z : Zone) (c : Watch) (e : Entry) → IsGoing e.kind → (z ≡ seated → ⊥) → IsHome z c (Some e)
     → IsHome z c None
-home_dropped absent c e k h = tt
-home_dropped waits c e k h = tt
-home_dropped free c e k h = tt
-home_dropped stands c e k h = goes_not_stands e.kind k h
-home_dropped (parts n) c e k h = goes_not_stands e.kind k h.0
+home_dropped absent c e k n h = tt
+home_dropped waits c e k n h = tt
+home_dropped free c e k n h = tt
+home_dropped stands c e k n h = goes_not_stands e.kind k h
+home_dropped pages c e k n h = tt
+home_dropped seated c e k n h = n refl
+home_dropped (parts m) c e k n h = goes_not_stands e.kind k h.0
 
-home_dropped_at : (p : Progress) (e : Entry) → IsGoing e.kind → HomeAt p (Some e) → HomeAt p None
-home_dropped_at (now.Open call p) e k h = home_dropped _ _ e k h
-home_dropped_at now.Idle e k h = tt
-home_dropped_at now.Fresh e k h = tt
+seated_holds : (call : Call) (p : Point) (e : Entry) → zone p ≡ seated → IsHome (zone p) (call_watch call) (Some e)
+    → held_at (now.Open call p) ≡ Some (head_of e.watch)
+seated_holds call (at.Page paging.Try) e q h = ap (λ n. Some n)
+    (sym (head_of_bare (call_watch call)) ∙ ap head_of (sym h.0))
+seated_holds call (at.Page paging.Off) e q h = ap (λ n. Some n)
+    (sym (head_of_bare (call_watch call)) ∙ ap head_of (sym h.0))
+seated_holds call (at.Leave leaving.Queue) e q h = absurd (cc)
+seated_holds call (at.Finish finishing.Unlock failed) e q h = absurd (cc)
+seated_holds call (at.Bit biting.Try) e q h = absurd (cc)
+seated_holds call (at.Bit biting.First) e q h = absurd (cc)
+seated_holds call (at.Bit biting.Last) e q h = absurd (cc)
+seated_holds call (at.Add adding.Unlock) e q h = absurd (cc)
+seated_holds call (at.Remove removing.Lock) e q h = absurd (cc)
+seated_holds call (at.Await (awaiting.Lock true)) e q h = absurd (cc)
+seated_holds call (at.Await (awaiting.Load true)) e q h = absurd (cc)
+seated_holds call (at.Await (awaiting.Off stopped)) e q h = absurd (cc)
+seated_holds call (at.Page (paging.Unlock true)) e q h = absurd (cc)
+seated_holds call (at.Page (paging.Finish finishing.Unlock)) e q h = absurd (cc)
+seated_holds call p e q h = absurd (cc)
+
+home_dropped_at : (p : Progress) (e : Entry) → IsGoing e.kind → (held_at p ≡ Some (head_of e.watch) → ⊥)
+    → HomeAt p (Some e) → HomeAt p None
+home_dropped_at (now.Open call p) e k apart h =
+    home_dropped (zone p) (call_watch call) e k (λ q. apart (seated_holds call p e q h)) h
+home_dropped_at now.Idle e k apart h = tt
+home_dropped_at now.Fresh e k apart h = tt
 
 -- a task that prepares holds the head of its entry
 holds_home : (q : Progress) (e : Entry) → is_preparing q ≡ true → HomeAt q (Some e)
@@ -79,6 +113,7 @@ holds_home (now.Open call (at.Prepare preparing.Look)) e pr h = ap (λ n. Some n
 holds_home (now.Open call (at.Prepare preparing.Queue)) e pr h = ap (λ n. Some n)
     (sym (head_of_bare (call_watch call)) ∙ ap head_of (sym h.0))
 holds_home (now.Open call (at.Add adding.Queue)) e pr h = absurd h
+holds_home (now.Open call (at.Page paging.Queue)) e pr h = absurd h
 holds_home (now.Open call (at.Await (awaiting.Load true))) e pr h = ap (λ n. Some n)
     (sym (head_of_bare (call_watch call)) ∙ ap head_of (sym h.0))
 holds_home (now.Open call (at.Await (awaiting.Load false))) e pr h = absurd h
@@ -108,6 +143,7 @@ module _ (entry : ℕ → Option Entry) (v : View) (b : ℕ) (p : Progress) (pl 
             let y : entry (own who) ≡ Some k.it = k.stands in cc (none))) (λ _. k.stands);
         head = k.head;
         kind = k.kind;
+        unpaged = k.unpaged;
       }
 
       kept_flagged : (c : CalledEntry) → IsFlagged entry c (held_at p) (aimed_by p)
@@ -128,7 +164,7 @@ module _ (entry : ℕ → Option Entry) (v : View) (b : ℕ) (p : Progress) (pl 
   placed_unqueued x e was goes apart = record {
     head = pl.head;
     home = put_at (HomeAt p) entry x None (own b)
-        (λ s. home_dropped_at p e (goes s) (subst (HomeAt p) (mine s) pl.home)) (λ _. pl.home);
+        (λ s. home_dropped_at p e (goes s) apart (subst (HomeAt p) (mine s) pl.home)) (λ _. pl.home);
     off_book = λ pr q. pl.off_book pr (put_at (λ o. o ≡ None → entry (own b) ≡ None) entry x None (own b)
         (λ s _. absurd (apart (holds_home p e pr (subst (HomeAt p) (mine s) pl.home)))) (λ _ z. z) q);
     taken = λ who t. kept who (pl.taken who t);
@@ -153,6 +189,7 @@ module _ (entry : ℕ → Option Entry) (v : View) (b : ℕ) (p : Progress) (pl 
             (λ s. absurd (theirs k.it (own who) s k.stands k.head)) (λ _. k.stands);
         head = k.head;
         kind = k.kind;
+        unpaged = k.unpaged;
       }
 
       kept_flagged : (c : CalledEntry) → IsFlagged entry c (held_at p) (aimed_by p)
@@ -183,6 +220,7 @@ pub record IsGone (s : State) (me who : ℕ) : Type 0 where
 abbrev pub Changes : State → ℕ → Event → Type 0
 Changes s me (event.Queue h form) = s.table.entry (own me) ≡ None
 Changes s me (event.Unqueue who) = IsGone s me who
+Changes s me event.Unflag = (e : Entry) → s.table.entry (own me) ≡ Some e → is_page e.kind ≡ false
 Changes s me (event.Mark h) = s.table.mark me ≡ None
 Changes s me (event.Unmark h) = (k : Mark) × (s.table.mark me ≡ Some k) × (k.head ≡ h)
 Changes s me (event.Set c v) = FIRST_DONE ≤ c → c < FIRST_BIT_WORD → IsStored v (word_in s.table (cond_at c))

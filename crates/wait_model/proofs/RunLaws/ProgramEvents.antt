@@ -14,6 +14,7 @@ use Rattle.wait_model.specs.Runs.{State, planned}
 use Rattle.wait_model.specs.Tables.{value_of}
 use Rattle.wait_model.specs.Tasks.{task_word, task_of}
 use Rattle.wait_model.specs.Watches.{IsThere, is_bit, number_of, misses}
+use Rattle.wait_model.proofs.RunLaws.PageEvents.{page_fine}
 use Rattle.wait_model.proofs.RunLaws.BitEvents.{bit_fine, publish_fine, members_fine}
 use Rattle.wait_model.proofs.WordLaws.CondWords.{plain_store, take_store}
 use Rattle.wait_model.proofs.WordLaws.DecodedWords.{task_read}
@@ -83,6 +84,7 @@ module _ (s : State) (n me : ℕ) (call : Call) (sound : IsSound s n) (mine : me
   plain_fine (at.Leave p) k pl i keeps rests run = leave_fine s n me call sound mine p k pl
   plain_fine (at.Finish p failed) k pl i keeps rests run = finish_fine s n me call sound mine failed p k pl
   plain_fine (at.Bit p) k pl i keeps rests run = bit_fine s n me call sound mine p k pl
+  plain_fine (at.Page p) k pl i keeps rests run = page_fine s n me call sound mine p k pl
   plain_fine at.Publish k pl i keeps rests run = publish_fine s n me call sound mine k pl keeps (rests refl run)
   plain_fine at.Active k pl i keeps rests run = members_fine s n me call sound mine
       (has_members (s.queue (call_head call))) k pl

@@ -75,6 +75,9 @@ use Rattle.wait_model.specs.Programs.{
   add_event,
   remove_event,
   woken_event,
+  page_event,
+  page_finish_event,
+  hands_event,
 }
 use Rattle.wait_model.specs.declared.calls.Call.TheVariants as calls
 use Rattle.wait_model.specs.declared.calls.Event.TheVariants as event
@@ -93,6 +96,10 @@ use Rattle.wait_model.specs.declared.points.WokenPoint.TheVariants as hearing
 use Rattle.wait_model.specs.declared.points.Next.TheVariants as next
 use Rattle.wait_model.specs.declared.watches.Kind.TheVariants as kind
 use Rattle.wait_model.specs.declared.watches.Mode.TheVariants as mode
+use Rattle.wait_model.specs.declared.points.PagePoint.TheVariants as paging
+use Rattle.wait_model.specs.declared.points.PageStage.TheVariants as staging
+use Rattle.wait_model.specs.declared.points.PagePoint.{PagePoint}
+use Rattle.wait_model.specs.declared.points.PageStage.{PageStage}
 
 -- whether the own state may be another than RUNNING after an event, and whether a publish comes next
 abbrev pub stirs_next : Call → Next → Bool
@@ -236,6 +243,52 @@ module _ (call : Call) where
         (record { state = ask_kept true true (λ f. f); next = refl })
     bit_moved biting.Last fit = record { state = λ _. refl; next = refl }
 
+    page_finish_moved : (p : FinishPoint)
+        → IsMoved (stirs call (at.Page (paging.Finish p))) call (page_finish_event me call p seen)
+    page_finish_moved finishing.State = record { state = inl refl; next = refl }
+    page_finish_moved finishing.Look = both false (is_some seen.entry) _ _
+        (record { state = λ _. refl; next = refl }) (record { state = λ _. refl; next = refl })
+    page_finish_moved finishing.Lock = record { state = λ _. refl; next = refl }
+    page_finish_moved finishing.Queue = both false (is_some seen.entry) _ _
+        (record { state = λ _. refl; next = refl }) (record { state = λ _. refl; next = refl })
+    page_finish_moved finishing.Unlock = record { state = λ _. refl; next = refl }
+
+    read_moved : (b l : Bool) → IsMoved true call (go (event.Flag b)
+        (at.Page (if b then paging.Finish finishing.State else if l then paging.Look else paging.Sleep)))
+    read_moved true l = record { state = λ f. f; next = refl }
+    read_moved false true = record { state = λ f. f; next = refl }
+    read_moved false false = record { state = λ f. f; next = refl }
+
+    looked_moved : (b : Bool) → IsMoved true call (go (event.Look b)
+        (at.Page (if b then paging.Finish finishing.State else paging.Sleep)))
+    looked_moved true = record { state = λ f. f; next = refl }
+    looked_moved false = record { state = λ f. f; next = refl }
+
+    tried_moved : (e : Event) (b : Bool) → ((behind : Bool) → KeepsState false e behind)
+        → IsMoved false call (go e (at.Page (if b then paging.Unlock false else paging.Off)))
+    tried_moved e true k = record { state = k false; next = refl }
+    tried_moved e false k = record { state = k false; next = refl }
+
+    page_moved : (p : PagePoint) → IsMoved (stirs call (at.Page p)) call (page_event me call p seen)
+    page_moved paging.First = both false (call_fails call seen) _ _ (record { state = λ _. refl; next = refl })
+        (record { state = λ _. refl; next = refl })
+    page_moved paging.Unflag = record { state = λ _. refl; next = refl }
+    page_moved paging.Lock = record { state = λ _. refl; next = refl }
+    page_moved paging.Queue = both false seen.worn _ _ (record { state = λ _. refl; next = refl })
+        (record { state = λ _. refl; next = refl })
+    page_moved paging.Try = tried_moved (exchange call seen) (call_fails call seen) (λ b _. refl)
+    page_moved paging.Off = record { state = λ _. refl; next = refl }
+    page_moved (paging.Unlock true) = record { state = λ _. refl; next = refl }
+    page_moved (paging.Unlock false) = record { state = λ _. refl; next = refl }
+    page_moved paging.State = record { state = inr refl; next = refl }
+    page_moved paging.Flag = read_moved seen.flag (looks_in (state_in call))
+    page_moved paging.Look = looked_moved (pending (state_mask (state_in call)) seen.own)
+    page_moved paging.Sleep = record { state = tt; next = refl }
+    page_moved (paging.Finish p) = page_finish_moved p
+    page_moved paging.Last = both false seen.flag _ _ (record { state = λ _. refl; next = refl })
+        (record { state = λ _. refl; next = refl })
+    page_moved paging.Clear = record { state = λ _. refl; next = refl }
+
     onward_moved : (w : Walking) (e : Event) → ((behind : Bool) → KeepsState false e behind)
         → IsMoved false call (go e (onward w))
     onward_moved w e k = one_of false w.spent e (at.Walk (walking.Spent w)) (at.Walk (walking.Call w))
@@ -249,6 +302,14 @@ module _ (call : Call) where
     entry_moved w c kind.Woken hit = record { state = λ _. refl; next = refl }
     entry_moved w c kind.Bit hit = record { state = λ _. refl; next = refl }
     entry_moved w c kind.Var hit = record { state = λ _. refl; next = refl }
+    entry_moved w c kind.Page hit = record { state = λ _. refl; next = refl }
+
+    hands_moved : (st : PageStage) (w : Walking) (c : CalledEntry)
+        → IsMoved false call (hands_event (call_aim call) st w c seen)
+    hands_moved staging.Try w c = record { state = λ _. refl; next = refl }
+    hands_moved staging.Hand w c = record { state = λ _. refl; next = refl }
+    hands_moved staging.Wake w c = record { state = λ _. refl; next = refl }
+    hands_moved staging.Off w c = onward_moved (past w c true) (event.Unqueue c.who) (λ b _. refl)
 
     next_moved : (w : Walking) (o : Option CalledEntry) (hit : Bool)
         → IsMoved false call (call_next (call_aim call) w o seen hit)
@@ -259,6 +320,8 @@ module _ (call : Call) where
     walk_moved walking.Lock = record { state = λ _. refl; next = refl }
     walk_moved (walking.Call w) = both false seen.breaks _ _ (record { state = λ _. refl; next = refl })
         (next_moved (reached w seen.calls) seen.called (meets (mask_of (mode_of call)) seen.other.state))
+    walk_moved (walking.Page st w c) = hands_moved st w c
+    walk_moved (walking.Stopped w) = record { state = λ _. refl; next = refl }
     walk_moved (walking.Bit w c) = record { state = λ _. refl; next = refl }
     walk_moved (walking.Wake w c) =
         onward_moved (past w c (meets (mask_of (mode_of call)) seen.other.state))
@@ -340,6 +403,7 @@ module _ (call : Call) where
     program_moved (at.Leave p) fit = leave_moved p
     program_moved (at.Finish p failed) fit = finish_moved p failed
     program_moved (at.Bit p) fit = bit_moved p fit
+    program_moved (at.Page p) fit = page_moved p
     program_moved at.Worn fit = absurd fit
     program_moved at.Publish fit = record { state = published_kept call; next = refl }
     program_moved at.Active fit = active_moved seen.members

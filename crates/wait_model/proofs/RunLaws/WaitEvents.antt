@@ -66,7 +66,7 @@ use Rattle.wait_model.specs.Reached.{
 }
 use Rattle.wait_model.specs.Tasks.{pending, state_mask, looks_in, task_word, task_of}
 use Rattle.wait_model.specs.Words.{Suited}
-use Rattle.wait_model.specs.Watches.{head_of, IsThere, misses, counted}
+use Rattle.wait_model.specs.Watches.{head_of, IsThere, misses, counted, is_page}
 use Rattle.wait_model.specs.Points.{
   call_watch,
   call_number,
@@ -95,7 +95,7 @@ use Rattle.wait_model.specs.Programs.{
 use Rattle.wait_model.specs.Rows.{MaySpend, Reads}
 use Rattle.wait_model.specs.Tables.{value_of}
 use Rattle.wait_model.specs.Functions.{put}
-use Rattle.wait_model.proofs.WordLaws.DecodedWords.{task_read, head_plain, flag_read_back, owner_own}
+use Rattle.wait_model.proofs.WordLaws.DecodedWords.{task_read, head_plain, done_read_back, owner_own}
 use Rattle.wait_model.proofs.WordLaws.CondWords.{
   head_of_bare,
   head_below,
@@ -119,6 +119,7 @@ use Rattle.wait_model.proofs.RunLaws.FineEvents.{
   none_there,
   one_there,
   read,
+  unflag_fine,
 }
 use Rattle.wait_model.proofs.RunLaws.OthersEvents.{IsGone}
 use Rattle.wait_model.proofs.Functions.{put_same, both_left}
@@ -153,11 +154,19 @@ none_free d o e = subst (IsHome free d) (sym e) tt
 pub none_absent : (d : Watch) (o : Option Entry) → o ≡ None → IsHome absent d o
 none_absent d o e = subst (IsHome absent d) (sym e) tt
 
-is_off : (c : Watch) (o : Option Entry) → IsHome absent c o → o ≡ None
+pub is_off : (c : Watch) (o : Option Entry) → IsHome absent c o → o ≡ None
 is_off c None h = refl
 is_off c (Some e) h = absurd h
 
-mask_state : (st : SleepState) → IsState (state_mask st)
+-- an entry that may stand anywhere is none of a page
+pub free_unpaged : (c : Watch) (e : Entry) → IsHome free c (Some e) → is_page e.kind ≡ false
+free_unpaged c e h = by e.kind h
+  where
+    by : (k : Kind) → IsStandingKind k → is_page k ≡ false
+    by kind.Page s = absurd (cc)
+    by k s = refl
+
+pub mask_state : (st : SleepState) → IsState (state_mask st)
 mask_state states.Uninterruptible = inr (inr (inl refl))
 mask_state states.Interruptible = inr (inl refl)
 mask_state states.Killable = inr (inr (inr refl))
@@ -169,6 +178,7 @@ stands_suited c kind.Autoremove h s = absurd (cc)
 stands_suited c kind.Bit h s = absurd (cc)
 stands_suited c kind.Var h s = absurd (cc)
 stands_suited c kind.Simple h s = absurd (cc)
+stands_suited c kind.Page h s = absurd (cc)
 
 -- an entry that stands is one of a plain condition
 not_standing : (k j : Kind) → k ≡ j → is_standing j ≡ false → IsStandingKind k → ⊥
@@ -178,7 +188,10 @@ stands_plain : (w : Watch) (k : Kind) → Suited w k → IsStandingKind k
     → (w ≡ watch.Plain (plain_cond w)) × (plain_cond w < PLAIN_CONDITIONS)
 stands_plain (watch.Plain c) k h s = (refl, h.0)
 stands_plain (watch.Done d) k h s = absurd (not_standing k kind.Simple h.1 refl s)
-stands_plain (watch.Bit i b) k h s = absurd (not_standing k kind.Bit h.2 refl s)
+stands_plain (watch.Bit i b) k h s = absurd (elim h.2 [
+  | inl e ↦ not_standing k kind.Bit e refl s
+  | inr e ↦ not_standing k kind.Page e.0 refl s
+])
 stands_plain (watch.Var v o) k h s = absurd (not_standing k kind.Var h.2 refl s)
 
 -- the next place of a wait, inside a hold or outside, where its entry may be queued
@@ -668,11 +681,11 @@ module _ (s : State) (n me : ℕ) (call : Call) (sound : IsSound s n) (mine : me
       → P (at.Woken hearing.Flag) → F (at.Woken hearing.Flag) (go (event.Flag b)
       (at.Woken (if b then hearing.Run else hearing.Sleep)))
   flag_fine true is k pl = still_fine s n me call sound mine (at.Woken hearing.Flag) pl _ tt tt tt
-      ((owner_own me, flag_read_back (s.table.flag (own me))), tt)
+      ((owner_own me, done_read_back (s.table.flag (own me)) (s.table.done (own me))), tt)
       (to (at.Woken hearing.Flag) (at.Woken hearing.Run) k refl tt tt)
       (record { same = refl; home = pl.home; calm = refl; taken = refl })
   flag_fine false is k pl = still_fine s n me call sound mine (at.Woken hearing.Flag) pl _ tt tt tt
-      ((owner_own me, flag_read_back (s.table.flag (own me))), tt)
+      ((owner_own me, done_read_back (s.table.flag (own me)) (s.table.done (own me))), tt)
       (to (at.Woken hearing.Flag) (at.Woken hearing.Sleep) k refl tt tt)
       (record { same = refl; home = pl.home; calm = refl; taken = refl })
 
@@ -689,5 +702,6 @@ module _ (s : State) (n me : ℕ) (call : Call) (sound : IsSound s n) (mine : me
   woken_fine hearing.Run k pl = state_fine (at.Woken hearing.Run) (at.Woken hearing.Clear) 0 pl (inl refl)
       (to (at.Woken hearing.Run) (at.Woken hearing.Clear) k refl tt tt)
       (record { same = refl; home = pl.home; calm = refl; taken = refl })
-  woken_fine hearing.Clear k pl = still_fine s n me call sound mine (at.Woken hearing.Clear) pl _ tt tt tt
-      (owner_own me, tt) tt (record { same = refl; home = pl.home; calm = refl; taken = refl })
+  woken_fine hearing.Clear k pl = unflag_fine s n me call sound mine (at.Woken hearing.Clear) pl _
+      (λ e q. free_unpaged (call_watch call) e (subst (IsHome free (call_watch call)) q pl.home)) tt
+      (record { same = refl; home = pl.home; calm = refl; taken = refl })

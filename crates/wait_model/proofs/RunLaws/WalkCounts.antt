@@ -81,8 +81,22 @@ use Rattle.wait_model.specs.Admission.{is_standing, IsStandingKind}
 use Rattle.wait_model.specs.declared.tasks.TaskRecord.{TaskRecord}
 use Rattle.wait_model.specs.Facts.{Agrees, Facts}
 use Rattle.wait_model.specs.Tasks.{meets}
-use Rattle.wait_model.specs.Watches.{same, head_of, counted, is_bit, is_var, mask_of, owner}
-use Rattle.wait_model.specs.Words.{entry_word, head_word, Suited}
+use Rattle.wait_model.specs.Watches.{
+  same,
+  head_of,
+  counted,
+  is_bit,
+  is_var,
+  mask_of,
+  owner,
+  is_page,
+  page,
+  word_of,
+  bit_of,
+  misses,
+  was_clear,
+}
+use Rattle.wait_model.specs.Words.{entry_word, head_word, Suited, bit_at, flag}
 use Rattle.wait_model.specs.Views.{View, Walk, Look, unseen, off, elsewhere, shown}
 use Rattle.wait_model.specs.Fold.{begun, is_off, picks, after, after_all}
 use Rattle.wait_model.specs.Tables.{steps, value_of}
@@ -101,17 +115,20 @@ use Rattle.wait_model.specs.Programs.{
   tests,
   call_entry,
   call_next,
+  tests_page,
 }
 use Rattle.wait_model.specs.Queues.{place_for, Arrival}
 use Rattle.wait_model.proofs.QueueLaws.FoundEntries.{IsFoundEntry, reach, walk_case}
 use Rattle.wait_model.proofs.QueueLaws.OutsideWalks.{IsOutside, goes_away, program_away}
 use Rattle.wait_model.proofs.RunLaws.OthersEvents.{Changes}
-use Rattle.wait_model.proofs.Sameness.{same_refl, same_head, same_bit, same_trans}
+use Rattle.wait_model.proofs.Sameness.{same_refl, same_head, same_trans, same_bit_is}
 use Rattle.wait_model.proofs.WordLaws.DecodedWords.{task_read, owner_own}
 use Rattle.wait_model.proofs.HistoryLaws.HoldLooks.{looks_same}
 use Rattle.wait_model.proofs.HistoryLaws.UnlockedLooks.{peeks_same}
 use Rattle.wait_model.proofs.WordLaws.CondWords.{set_rest}
 use Rattle.wait_model.proofs.Functions.{put_at, both_left}
+use Rattle.wait_model.specs.declared.points.PageStage.TheVariants as staging
+use Rattle.wait_model.specs.declared.points.PageStage.{PageStage}
 
 -- a place outside walks, or before the lock of one, tells nothing of a count
 away_counted : (entry : ℕ → Option Entry) (v : View) (call : Call) (q : Next) → goes_away q ≡ true
@@ -157,13 +174,17 @@ counted_ends (watch.Var v o) h = absurd (cc)
 abbrev is_keyed : Kind → Bool
 is_keyed kind.Bit = true
 is_keyed kind.Var = true
+is_keyed kind.Page = true
 is_keyed _ = false
 
 -- an entry of another kind is one of a watch with a spent count, one of a bit's kind is one of a bit
 kind_counted : (c d : Watch) (k : Kind) → Suited c k → same c d ≡ true → is_keyed k ≡ false → counted d ≡ true
 kind_counted (watch.Plain c) (watch.Plain d) k s h i = refl
 kind_counted (watch.Done c) (watch.Done d) k s h i = refl
-kind_counted (watch.Bit w b) d k s h i = absurd (let z : true ≡ false = sym (ap is_keyed s.2) ∙ i in cc)
+kind_counted (watch.Bit w b) d k s h i = absurd (elim s.2 [
+  | inl e ↦ let z : true ≡ false = sym (ap is_keyed e) ∙ i in cc
+  | inr e ↦ let z : true ≡ false = sym (ap is_keyed e.0) ∙ i in cc
+])
 kind_counted (watch.Var v o) d k s h i = absurd (let z : true ≡ false = sym (ap is_keyed s.2) ∙ i in cc)
 kind_counted _ _ k s h i = absurd (cc)
 
@@ -202,11 +223,30 @@ bit_kind (watch.Plain c) s = absurd (elim s.1 [
   ]
 ])
 
-kind_of_bit : (c : Watch) (k : Kind) → Suited c k → is_bit c ≡ true → k ≡ kind.Bit
-kind_of_bit (watch.Bit w b) k s h = s.2
-kind_of_bit (watch.Plain c) k s h = absurd (cc)
-kind_of_bit (watch.Done d) k s h = absurd (cc)
-kind_of_bit (watch.Var v o) k s h = absurd (cc)
+-- an entry of a page is one of the page
+page_watch : (c : Watch) → Suited c kind.Page → c ≡ page (word_of c)
+page_watch (watch.Bit w b) s = elim s.2 [
+  | inl e ↦ absurd (cc)
+  | inr e ↦ ap (λ (k : ℕ). watch.Bit w k) e.1
+]
+page_watch (watch.Var v o) s = absurd (let z : kind.Page ≡ kind.Var = s.2 in cc)
+page_watch (watch.Done d) s = absurd (let z : kind.Page ≡ kind.Simple = s.1 in cc)
+page_watch (watch.Plain c) s = absurd (elim s.1 [
+  | inl a ↦ let z : kind.Page ≡ kind.Default = a in cc
+  | inr a ↦ elim a [
+    | inl b ↦ let z : kind.Page ≡ kind.Autoremove = b in cc
+    | inr b ↦ elim b [
+      | inl d ↦ let z : kind.Page ≡ kind.Woken = d in cc
+      | inr d ↦ let z : kind.Page ≡ kind.Simple = d in cc
+    ]
+  ]
+])
+
+-- a walk's watch that calls such an entry is the page
+walk_page : (c d : Watch) → c ≡ page (word_of c) → same c d ≡ true → d ≡ page (word_of d)
+walk_page c d p s =
+    let bit : is_bit c ≡ true = ap is_bit p in
+    let e : c ≡ d = same_bit_is c d bit s in subst (λ (w : Watch). w ≡ page (word_of w)) e p
 
 -- the step that takes off an entry that stands at the held head is of that entry
 seen_entry : (h : ℕ) (o : Option Entry) (e : Entry) (l : Look) → o ≡ Some e → head_of e.watch ≡ h
@@ -222,14 +262,18 @@ or_both : (a b c : Bool) → b ≡ true → c ≡ true → (a || (b && c)) ≡ t
 or_both true b c h k = refl
 or_both false b c h k = rw (h, k) refl
 
+or_left : (a b : Bool) → a ≡ true → (a || b) ≡ true
+or_left a b h = rw h refl
+
 or_true : (a : Bool) → (a || true) ≡ true
 or_true true = refl
 or_true false = refl
 
 picked_up : (before : Bool) (o : Option Walk) (l : Look) (roused : Bool) (mine : Option Entry) (w : Walk) (e : Entry)
     → o ≡ Some w → l ≡ shown e → roused ≡ true → mine ≡ None → e.exclusive ≡ true → is_bit w.watch ≡ true
-    → same e.watch w.watch ≡ true → (before || picks o l roused (not (is_off mine))) ≡ true
-picked_up before o l roused mine w e a b c d x i j = rw (a, b, c, d, x, i, j) (or_true before)
+    → same e.watch w.watch ≡ true → is_page e.kind ≡ false
+    → (before || picks o l roused (not (is_off mine))) ≡ true
+picked_up before o l roused mine w e a b c d x i j k = rw (a, b, c, d, x, i, j, k) (or_true before)
 
 module _ (s : State) (n me : ℕ) (call : Call) (sound : IsSound s n) (mine : me < TASKS) where
   abbrev v : View
@@ -266,9 +310,10 @@ module _ (s : State) (n me : ℕ) (call : Call) (sound : IsSound s n) (mine : me
       → meets (given_at call (at.Walk p)).mask (s.table.task c.who).state ≡ hit → WalksFor call v
       → (it : Entry) → c ≡ called_of c.who it → s.table.entry (own c.who) ≡ Some it → IsQueued n (own c.who) it
       → same it.watch (call_watch call) ≡ true
-      → (is_bit (call_watch call) ≡ true → v.bits.stored (own c.who) ≡ None) → W p (wake_off_event w c hit)
-  off_counted p w c false met f it seen stands q key other = f
-  off_counted p w c true met f it seen stands q key other = (
+      → (is_bit (call_watch call) ≡ true → v.bits.stored (own c.who) ≡ None) → is_page it.kind ≡ false
+      → W p (wake_off_event w c hit)
+  off_counted p w c false met f it seen stands q key other np = f
+  off_counted p w c true met f it seen stands q key other np = (
     f,
     λ spent.
         let x : it.exclusive ≡ true = sym (ap (λ (d : CalledEntry). d.exclusive) seen)
@@ -284,24 +329,83 @@ module _ (s : State) (n me : ℕ) (call : Call) (sound : IsSound s n) (mine : me
               (ap (λ (t : TaskRecord). meets (given_at call (at.Walk p)).mask t.state)
               (task_read (s.table.task c.who) (sound.lawful c.who)) ∙ met) (grind arith);
           other = other;
+          unpaged = λ _. np;
         },
   )
 
   -- a walk loads the bit of an entry
   tests_counted : (p : WalkPoint) (w : Walking) (c : CalledEntry) (seen : Seen) → WalksFor call v
-      → is_bit (call_watch call) ≡ true → v.bits.stored (own c.who) ≡ None → W p (tests (call_aim call) w c seen)
-  tests_counted p w c seen f bit other = by (call_fails call seen)
+      → is_bit (call_watch call) ≡ true → v.bits.stored (own c.who) ≡ None → is_page c.kind ≡ false
+      → W p (tests (call_aim call) w c seen)
+  tests_counted p w c seen f bit other np = by (call_fails call seen)
     where
       by : (b : Bool) → W p (go (load call seen) (at.Walk (if b then walking.Call (past w c false)
           else walking.Bit w c)))
       by true = f
-      by false = (f, bit, other)
+      by false = (f, bit, other, np)
+
+  -- a walk loads a page, and takes it for the entry's task where that finds it clear
+  pages_counted : (p : WalkPoint) (w : Walking) (c : CalledEntry) (seen : Seen) → WalksFor call v
+      → call_watch call ≡ page (word_of (call_watch call)) → W p (tests_page (call_aim call) w c seen)
+  pages_counted p w c seen f is = by (call_fails call seen)
+    where
+      by : (b : Bool) → W p (go (load call seen) (at.Walk (if b then walking.Stopped w
+          else walking.Page staging.Try w c)))
+      by true = tt
+      by false = (f, is, λ t. absurd (cc))
+
+  tried_counted : (w : Walking) (c : CalledEntry) → WalksFor call v
+      → call_watch call ≡ page (word_of (call_watch call))
+      → W (walking.Page staging.Try w c) (planned s me call (at.Walk (walking.Page staging.Try w c)))
+  tried_counted w c f is = by (call_fails call (seen_by s me call (at.Walk (walking.Page staging.Try w c)))) refl
+    where
+      k : ℕ
+      k = word_of (call_watch call)
+
+      r : ℕ
+      r = value_of s.table.words (call_watch call)
+
+      e : Event
+      e = event.TasFor k c.who (flag (bit_at r (bit_of (call_watch call))))
+
+      clear : misses (call_watch call) r ≡ false → was_clear (page k) (value_of s.table.words (page k)) ≡ true
+      clear q = ap not (sym (ap (λ (d : Watch). misses d (value_of s.table.words d)) is) ∙ q)
+
+      by : (b : Bool) → misses (call_watch call) r ≡ b → W (walking.Page staging.Try w c) (go e (at.Walk (if b
+          then walking.Stopped w else walking.Page staging.Hand w c)))
+      by true q = tt
+      by false q = (f, is, λ _ u i. taken u i)
+        where
+          taken : (u : Walk) → v.walk ≡ Some u
+              → (after (step.TasFor (own c.who) k (value_of s.table.words (page k))) v).hold.picked ≡ true
+          taken u i = rw (i, sym_page u i, clear q) (or_true v.hold.picked)
+            where
+              sym_page : (u : Walk) → v.walk ≡ Some u → same (page k) u.watch ≡ true
+              sym_page u i = subst (λ (d : Watch). same d u.watch ≡ true) is (f u i)
+
+  hands_counted : (st : PageStage) (w : Walking) (c : CalledEntry) → C (walking.Page st w c)
+      → W (walking.Page st w c) (planned s me call (at.Walk (walking.Page st w c)))
+  hands_counted staging.Try w c z = tried_counted w c z.0 z.1
+  hands_counted staging.Hand w c z = (z.0, z.1, λ _. z.2 refl)
+  hands_counted staging.Wake w c z = (z.0, z.1, λ _. z.2 refl)
+  hands_counted staging.Off w c z = by (past w c true).spent
+    where
+      ends : MayEndSpent (after (step.Unqueue (own c.who)) v) call
+      ends = record {
+        shared = ap is_var z.1;
+        picked = λ b u i. or_left v.hold.picked _ (z.2 refl u i);
+      }
+
+      by : (b : Bool) → W (walking.Page staging.Off w c) (go (event.Unqueue c.who)
+          (if b then at.Walk (walking.Spent (past w c true)) else at.Walk (walking.Call (past w c true))))
+      by true = (z.0, ends)
+      by false = z.0
 
   -- an entry that the walk finds
   module _ (w : Walking) (pl : P (walking.Call w)) (f : WalksFor call v) (u : Walking) (c : CalledEntry)
       (d : IsFoundEntry s.table.entry n (call_watch call) c) where
-    -- one of a bit is none of the own task, whose entry stays
-    others_bit : d.it.kind ≡ kind.Bit → v.bits.stored (own c.who) ≡ None
+    -- one that goes is none of the own task, whose entry stays
+    others_bit : is_standing d.it.kind ≡ false → v.bits.stored (own c.who) ≡ None
     others_bit is = sound.stored me (own c.who) apart
       where
         apart : owner (own c.who) ≢ me
@@ -309,7 +413,7 @@ module _ (s : State) (n me : ℕ) (call : Call) (sound : IsSound s n) (mine : me
             let mine : own c.who ≡ own me = ap own (sym (owner_own c.who) ∙ same) in
             let there : s.table.entry (own me) ≡ Some d.it = sym (ap s.table.entry mine) ∙ d.stands in
             let h : IsStandingKind d.it.kind = subst (IsHome free (call_watch call)) there pl.home in
-            let z : true ≡ false = sym h ∙ ap is_standing is in cc
+            let z : true ≡ false = sym h ∙ is in cc
 
     kind_met : (j : Kind) → d.it.kind ≡ j → is_keyed j ≡ false → counted (call_watch call) ≡ true
     kind_met j is other = kind_counted d.it.watch (call_watch call) d.it.kind d.queued.lawful.suited d.key
@@ -319,9 +423,12 @@ module _ (s : State) (n me : ℕ) (call : Call) (sound : IsSound s n) (mine : me
     is_bits is = one_of_bits d.it.watch (call_watch call) d.key
         (bit_kind d.it.watch (subst (Suited d.it.watch) is d.queued.lawful.suited))
 
-    bits_kind : is_bit (call_watch call) ≡ true → d.it.kind ≡ kind.Bit
-    bits_kind h = kind_of_bit d.it.watch d.it.kind d.queued.lawful.suited
-        (same_bit d.it.watch (call_watch call) d.key h)
+    is_paged : d.it.kind ≡ kind.Page → call_watch call ≡ page (word_of (call_watch call))
+    is_paged is = walk_page d.it.watch (call_watch call)
+        (page_watch d.it.watch (subst (Suited d.it.watch) is d.queued.lawful.suited)) d.key
+
+    kind_seen : (j : Kind) → d.it.kind ≡ j → is_page c.kind ≡ is_page j
+    kind_seen j is = ap (λ (x : CalledEntry). is_page x.kind) d.seen ∙ ap is_page is
 
     entry_counted : (j : Kind) (seen : Seen) (hit : Bool)
         → meets (mask_of (mode_of call)) (s.table.task c.who).state ≡ hit → d.it.kind ≡ j
@@ -331,13 +438,14 @@ module _ (s : State) (n me : ℕ) (call : Call) (sound : IsSound s n) (mine : me
     entry_counted kind.Autoremove seen hit met is = off_counted (walking.Call w) u c hit met f d.it
         d.seen d.stands d.queued
         d.key
-        (λ b. others_bit (bits_kind b))
+        (λ b. others_bit (ap is_standing is)) (ap is_page is)
     entry_counted kind.Woken seen hit met is = (f, kind_met kind.Woken is refl)
     entry_counted kind.Bit seen hit met is = tests_counted (walking.Call w) u c seen f (is_bits is)
-        (others_bit is)
+        (others_bit (ap is_standing is)) (kind_seen kind.Bit is)
+    entry_counted kind.Page seen hit met is = pages_counted (walking.Call w) u c seen f (is_paged is)
     entry_counted kind.Var seen hit met is = off_counted (walking.Call w) u c hit met f d.it d.seen d.stands d.queued
         d.key
-        (λ b. others_bit (bits_kind b))
+        (λ b. others_bit (ap is_standing is)) (ap is_page is)
     entry_counted kind.Simple seen hit met is = wakes_counted (walking.Call w) u c hit f (kind_met kind.Simple is refl)
 
   -- a walk breaks, or calls the next entry
@@ -378,7 +486,7 @@ module _ (s : State) (n me : ℕ) (call : Call) (sound : IsSound s n) (mine : me
             (sound.whole me (call_head call) (own who) pl.head (omega arith)))
             (ap v.hold.roused (owner_own who) ∙ g.roused b) (g.other b) g.exclusive
             (one_of_bits (call_watch call) u.watch (z.0 u i) b)
-            (sym (same_trans g.it.watch (call_watch call) u.watch g.key) ∙ z.0 u i);
+            (sym (same_trans g.it.watch (call_watch call) u.watch g.key) ∙ z.0 u i) (g.unpaged b);
       }
 
       by : (b : Bool) → w.spent ≡ b → W (walking.Unqueue w who) (go (event.Unqueue who)
@@ -404,9 +512,12 @@ module _ (s : State) (n me : ℕ) (call : Call) (sound : IsSound s n) (mine : me
   walk_counted (walking.Bit w c) k pl z = off_counted (walking.Bit w c) w c
       (meets (mask_of (mode_of call)) (s.table.task c.who).state) refl z.0 g.it g.seen g.stands
       (sound.linked.entries (own c.who) g.it g.stands) g.key (λ _. z.2)
+      (sym (ap (λ (x : CalledEntry). is_page x.kind) g.seen) ∙ z.3)
     where
       g : IsFlagged s.table.entry c (Some (call_head call)) (call_watch call)
       g = pl.flagged c refl
+  walk_counted (walking.Page st w c) k pl z = hands_counted st w c z
+  walk_counted (walking.Stopped w) k pl z = tt
   walk_counted (walking.Unqueue w who) k pl z = take_counted w who k.walk.1 pl z
   walk_counted (walking.Spent w) k pl z = tt
   walk_counted (walking.BreakUnlock w) k pl z = tt
@@ -444,6 +555,7 @@ kept_counted entry entry2 v (now.Open call (at.Walk (walking.Unqueue w who))) ke
         key = g.key;
         roused = g.roused;
         other = g.other;
+        unpaged = g.unpaged;
       },
 )
 kept_counted entry entry2 v (now.Open call (at.Walk p)) keep z = z

@@ -48,14 +48,29 @@ use Rattle.wait_model.specs.Reached.{
   mark_head,
   marked_at,
   IsSound,
+  HandsAt,
+  taken_by,
 }
 use Rattle.wait_model.specs.Tasks.{meets, task_word, task_of}
 use Rattle.wait_model.specs.declared.watches.Watch.{Watch}
 use Rattle.wait_model.specs.declared.watches.Watch.TheVariants as watch
-use Rattle.wait_model.specs.Watches.{same, head_of, counted, is_bit, is_var, IsThere, mask_of}
-use Rattle.wait_model.specs.Words.{Suited}
+use Rattle.wait_model.specs.Watches.{
+  same,
+  head_of,
+  counted,
+  is_bit,
+  is_var,
+  IsThere,
+  mask_of,
+  page,
+  word_of,
+  bit_of,
+  is_page,
+  misses,
+}
+use Rattle.wait_model.specs.Words.{Suited, bit_at, flag}
 use Rattle.wait_model.specs.Views.{View}
-use Rattle.wait_model.specs.Rows.{MaySpend, Reads}
+use Rattle.wait_model.specs.Rows.{MaySpend, Reads, Allowed}
 use Rattle.wait_model.specs.Points.{call_aim, call_watch, call_head, mode_of, count_of, called_task, head_at, given_at}
 use Rattle.wait_model.specs.Programs.{
   go,
@@ -73,7 +88,7 @@ use Rattle.wait_model.specs.Programs.{
 use Rattle.wait_model.specs.Queues.{Arrival}
 use Rattle.wait_model.specs.Functions.{put}
 use Rattle.wait_model.proofs.QueueLaws.FoundEntries.{IsFoundEntry, reach, reach_calls, walk_case}
-use Rattle.wait_model.proofs.Sameness.{same_bit}
+use Rattle.wait_model.proofs.Sameness.{same_bit, same_bit_is}
 use Rattle.wait_model.proofs.WordLaws.DecodedWords.{task_read}
 use Rattle.wait_model.proofs.WordLaws.CondWords.{head_below, number_below, reads_value, going_kind}
 use Rattle.wait_model.proofs.RunLaws.FineEvents.{
@@ -99,6 +114,10 @@ use Rattle.wait_model.specs.declared.points.WalkPoint.TheVariants as walking
 use Rattle.wait_model.specs.declared.points.Next.TheVariants as next
 use Rattle.wait_model.specs.declared.points.Progress.TheVariants as now
 use Rattle.wait_model.specs.declared.watches.Kind.TheVariants as kind
+use Rattle.wait_model.specs.declared.points.PageStage.TheVariants as staging
+use Rattle.wait_model.specs.declared.points.PageStage.{PageStage}
+use Rattle.wait_model.specs.Tables.{value_of}
+use Rattle.wait_model.specs.declared.steps.Step.TheVariants as step
 
 -- one more entry that was called
 past_counted : (n : ℕ) (w : Walking) (c : CalledEntry) (hit : Bool) → IsCounted n w → w.calls ≤ BREAK
@@ -165,7 +184,8 @@ reached_counted n w calls k few = record { woken = k.woken; selected = k.selecte
 
 -- an entry of a bit goes when it is woken
 bit_going : (c : Watch) (k : Kind) → Suited c k → is_bit c ≡ true → IsGoing k
-bit_going (watch.Bit w b) k s h = going_kind k kind.Bit s.2 refl
+bit_going (watch.Bit w b) k s h =
+    elim s.2 [ inl e ↦ going_kind k kind.Bit e refl | inr e ↦ going_kind k kind.Page e.0 refl ]
 bit_going (watch.Plain c) k s h = absurd (cc)
 bit_going (watch.Done d) k s h = absurd (cc)
 bit_going (watch.Var v o) k s h = absurd (cc)
@@ -241,8 +261,8 @@ module _ (s : State) (n me : ℕ) (call : Call) (sound : IsSound s n) (mine : me
     -- an entry that goes when it is woken
     off_fine : (w : Walking) (c : CalledEntry) (hit : Bool) → IsCounted n w → w.calls ≤ BREAK
         → c.who < TASKS → (it : Entry) → s.table.entry (own c.who) ≡ Some it
-        → head_of it.watch ≡ call_head call → IsGoing it.kind → F p (wake_off_event w c hit)
-    off_fine w c true counts few number it stands head goes = record {
+        → head_of it.watch ≡ call_head call → IsGoing it.kind → is_page it.kind ≡ false → F p (wake_off_event w c hit)
+    off_fine w c true counts few number it stands head goes np = record {
       allows = number;
       joins = tt;
       changes = tt;
@@ -258,11 +278,12 @@ module _ (s : State) (n me : ℕ) (call : Call) (sound : IsSound s n) (mine : me
           stands = subst (λ (j : ℕ). s.table.entry (own j) ≡ Some it) same stands;
           head = ap (λ (j : ℕ). Some j) (sym head);
           kind = goes;
+          unpaged = np;
         };
         flagged = λ d t. absurd (cc);
       };
     }
-    off_fine w c false counts few number it stands head goes = still_fine s n me call sound mine (at.Walk p) pl _ tt
+    off_fine w c false counts few number it stands head goes np = still_fine s n me call sound mine (at.Walk p) pl _ tt
         number tt (read_task c.who, tt)
         (at_point p (walking.Call (past w c false)) k refl (past_counted n w c false counts few))
         (leads (walking.Call (past w c false)) refl refl)
@@ -331,18 +352,44 @@ module _ (s : State) (n me : ℕ) (call : Call) (sound : IsSound s n) (mine : me
       };
     }
 
-    going_fine : (j : Kind) (hit : Bool) → the.kind ≡ j → IsGoing j → F (walking.Call w) (wake_off_event v the hit)
-    going_fine j hit is goes = off_fine (walking.Call w) pl k refl refl v the hit counts few f.number f.it f.stands
+    -- an entry of a page, whose word is loaded first
+    page_fine : the.kind ≡ kind.Page → (b : Bool) → F (walking.Call w) (go (load call seen)
+        (at.Walk (if b then walking.Stopped v else walking.Page staging.Try v the)))
+    page_fine is true = still_fine s n me call sound mine (at.Walk (walking.Call w)) pl _ tt
+        (number_below (call_watch call) k.watch) tt (reads, tt)
+        (at_point (walking.Call w) (walking.Stopped v) k refl (counted_later n v counts))
+        (leads (walking.Call w) pl k refl refl (walking.Stopped v) refl refl)
+    page_fine is false = record {
+      allows = number_below (call_watch call) k.watch;
+      joins = tt;
+      changes = tt;
+      next_call = at_point (walking.Call w) (walking.Page staging.Try v the) k refl
+          (counted_later n v counts, f.number, placed_below, few, is);
+      made = λ _. (reads, tt);
+      placed = record {
+        head = at_head;
+        home = pl.home;
+        off_book = λ pr z. absurd (cc);
+        taken = λ who t. absurd (cc);
+        flagged = λ d t. flagged_as (walking.Call w) pl k refl refl the d (cc) f;
+      };
+    }
+
+    going_fine : (j : Kind) (hit : Bool) → the.kind ≡ j → IsGoing j → is_page j ≡ false
+        → F (walking.Call w) (wake_off_event v the hit)
+    going_fine j hit is goes np = off_fine (walking.Call w) pl k refl refl v the hit counts few f.number f.it f.stands
         f.head (going_kind f.it.kind j (sym (ap (λ (d : CalledEntry). d.kind) f.seen) ∙ is) goes)
+        (ap is_page (sym (ap (λ (d : CalledEntry). d.kind) f.seen) ∙ is) ∙ np)
 
     entry_fine : (j : Kind) (hit : Bool) → the.kind ≡ j
         → F (walking.Call w) (call_entry (call_aim call) v the j seen hit)
     entry_fine kind.Default hit is = wakes_fine (walking.Call w) pl k refl refl v the hit counts few f.number
-    entry_fine kind.Autoremove hit is = going_fine kind.Autoremove hit is refl
+    entry_fine kind.Autoremove hit is = going_fine kind.Autoremove hit is refl refl
     entry_fine kind.Woken hit is = flag_fine
     entry_fine kind.Bit hit is = test_fine (call_fails call seen)
-    entry_fine kind.Var hit is = going_fine kind.Var hit is refl
+    entry_fine kind.Var hit is = going_fine kind.Var hit is refl refl
     entry_fine kind.Simple hit is = wakes_fine (walking.Call w) pl k refl refl v the hit counts few f.number
+    entry_fine kind.Page hit is = page_fine is (call_fails call seen)
 
   take_fine : (w : Walking) (who : ℕ) (b : Bool) → IsCallSound n call (at.Walk (walking.Unqueue w who))
       → P (walking.Unqueue w who) → F (walking.Unqueue w who) (go (event.Unqueue who)
@@ -375,13 +422,157 @@ module _ (s : State) (n me : ℕ) (call : Call) (sound : IsSound s n) (mine : me
       → P (walking.Bit w c) → C (walking.Bit w c) → F (walking.Bit w c) (wake_off_event w c hit)
   bit_fine w c hit k pl z = off_fine (walking.Bit w c) pl k refl refl w c hit k.walk.0 k.walk.3 k.walk.1 f.it
       f.stands at_head (bit_going f.it.watch f.it.kind (sound.linked.entries (own c.who) f.it f.stands).lawful.suited
-      (same_bit f.it.watch (call_watch call) f.key z.1))
+      (same_bit f.it.watch (call_watch call) f.key z.1)) (sym (ap (λ (d : CalledEntry). is_page d.kind) f.seen) ∙ z.3)
     where
       f : IsFlagged s.table.entry c (Some (call_head call)) (call_watch call)
       f = pl.flagged c refl
 
       at_head : head_of f.it.watch ≡ call_head call
       at_head = let e : Some (call_head call) ≡ Some (head_of f.it.watch) = f.head in cc
+
+  -- a walk hands a page to the entry's task
+  module _ (w : Walking) (c : CalledEntry) where
+    abbrev staged : PageStage → WalkPoint
+    staged st = walking.Page st w c
+
+    module _ (st : PageStage) (k : IsCallSound n call (at.Walk (staged st))) (pl : P (staged st)) where
+      the_entry : IsFlagged s.table.entry c (Some (call_head call)) (call_watch call)
+      the_entry = pl.flagged c refl
+
+      entry_kind : the_entry.it.kind ≡ kind.Page
+      entry_kind = sym (ap (λ (d : CalledEntry). d.kind) the_entry.seen) ∙ k.walk.4
+
+      entry_page : C (staged st) → the_entry.it.watch ≡ page (word_of (call_watch call))
+      entry_page z =
+          let bit : is_bit (call_watch call) ≡ true = ap is_bit z.1 in
+          same_bit_is the_entry.it.watch (call_watch call) (same_bit the_entry.it.watch (call_watch call)
+          the_entry.key bit) the_entry.key ∙ z.1
+
+      held_entry : (s.table.view me).hold.head ≡ Some (head_of the_entry.it.watch)
+      held_entry = pl.head ∙ the_entry.head
+
+      -- where the walk goes on with the entry
+      stage_sound : (q : PageStage) → IsCallSound (n + 1) call (at.Walk (staged q))
+      stage_sound q = at_point (staged st) (staged q) k refl
+          (counted_later n w k.walk.0, k.walk.1, k.walk.2, k.walk.3, k.walk.4)
+
+      stage_taken : (q : PageStage) (who : ℕ) → taken_by (now.Open call (at.Walk (staged q))) ≡ Some who
+          → IsTaken s.table.entry who (Some (call_head call))
+      stage_taken q who t = absurd (cc)
+
+      stage_placed : (q : PageStage) (v : View) → v.hold.head ≡ (s.table.view me).hold.head
+          → IsPlaced s.table.entry v me (now.Open call (at.Walk (staged q)))
+      stage_placed q v same = record {
+        head = same ∙ pl.head;
+        home = pl.home;
+        off_book = λ pr z. absurd (cc);
+        taken = stage_taken q;
+        flagged = λ d t. subst (λ (y : CalledEntry). IsFlagged s.table.entry y (Some (call_head call))
+            (call_watch call)) (let same_entry : c ≡ d = cc in same_entry) the_entry;
+      }
+
+    try_fine : (b : Bool) → IsCallSound n call (at.Walk (staged staging.Try)) → P (staged staging.Try)
+        → C (staged staging.Try) → s.table.taken (own c.who) ≡ None → (f : ℕ) → F (staged staging.Try) (go
+        (event.TasFor (word_of (call_watch call)) c.who f)
+        (at.Walk (if b then walking.Stopped w else staged staging.Hand)))
+    try_fine b k pl z untaken f = by b
+      where
+        p : ℕ
+        p = word_of (call_watch call)
+
+        e : IsFlagged s.table.entry c (Some (call_head call)) (call_watch call)
+        e = the_entry staging.Try k pl
+
+        there : IsThere (page p)
+        there = subst IsThere z.1 k.watch
+
+        allowed : Allowed s.table me (step.TasFor (own c.who) p (value_of s.table.words (page p)))
+        allowed = (
+          (
+            e.it,
+            e.stands,
+            held_entry staging.Try k pl,
+            entry_page staging.Try k pl z,
+            ap is_page (entry_kind staging.Try k pl),
+          ),
+          reads_value s.table.words sound.low (page p) there,
+          untaken,
+        )
+
+        by : (b : Bool) → F (staged staging.Try) (go (event.TasFor p c.who f)
+            (at.Walk (if b then walking.Stopped w else staged staging.Hand)))
+        by true = still_fine s n me call sound mine (at.Walk (staged staging.Try)) pl _ tt (there.0, k.walk.1) tt
+            (allowed, tt) (at_point (staged staging.Try) (walking.Stopped w) k refl (counted_later n w k.walk.0))
+            (leads (staged staging.Try) pl k refl refl (walking.Stopped w) refl refl)
+        by false = record {
+          allows = (there.0, k.walk.1);
+          joins = tt;
+          changes = tt;
+          next_call = stage_sound staging.Try k pl staging.Hand;
+          made = λ _. (allowed, tt);
+          placed = stage_placed staging.Try k pl staging.Hand _ refl;
+        }
+
+  hands_fine : (st : PageStage) (w : Walking) (c : CalledEntry) → IsCallSound n call (at.Walk (walking.Page st w c))
+      → P (walking.Page st w c) → C (walking.Page st w c)
+      → HandsAt s.table.taken me (now.Open call (at.Walk (walking.Page st w c)))
+      → F (walking.Page st w c) (planned s me call (at.Walk (walking.Page st w c)))
+  hands_fine staging.Try w c k pl z h = try_fine w c
+      (misses (call_watch call) (value_of s.table.words (call_watch call))) k pl z h
+      (flag (bit_at (value_of s.table.words (call_watch call)) (bit_of (call_watch call))))
+  hands_fine staging.Hand w c k pl z h = record {
+    allows = k.walk.1;
+    joins = tt;
+    changes = tt;
+    next_call = stage_sound w c staging.Hand k pl staging.Wake;
+    made = λ _. (
+      (
+        (
+          (the_entry w c staging.Hand k pl).it,
+          (the_entry w c staging.Hand k pl).stands,
+          held_entry w c staging.Hand k pl,
+        ),
+        h,
+      ),
+      tt,
+    );
+    placed = stage_placed w c staging.Hand k pl staging.Wake _ refl;
+  }
+  hands_fine staging.Wake w c k pl z h = record {
+    allows = k.walk.1;
+    joins = tt;
+    changes = tt;
+    next_call = stage_sound w c staging.Wake k pl staging.Off;
+    made = λ _. (read_task c.who, tt);
+    placed = stage_placed w c staging.Wake k pl staging.Off _ refl;
+  }
+  hands_fine staging.Off w c k pl z h = by (past w c true).spent
+    where
+      f : IsFlagged s.table.entry c (Some (call_head call)) (call_watch call)
+      f = the_entry w c staging.Off k pl
+
+      gone : IsGone s me c.who
+      gone = record {
+        it = f.it;
+        stands = f.stands;
+        head = pl.head ∙ f.head;
+        goes = inr (going_kind f.it.kind kind.Page (entry_kind w c staging.Off k pl) refl);
+      }
+
+      home : HomeAt (now.Open call (at.Walk (walking.Call w))) (put s.table.entry (own c.who) None (own me))
+      home = put_at (HomeAt (now.Open call (at.Walk (walking.Call w)))) s.table.entry (own c.who) None (own me)
+          (λ _. tt) (λ _. pl.home)
+
+      by : (b : Bool) → F (walking.Page staging.Off w c) (go (event.Unqueue c.who)
+          (if b then at.Walk (walking.Spent (past w c true)) else at.Walk (walking.Call (past w c true))))
+      by true = unqueue_fine s n me call sound mine (at.Walk (walking.Page staging.Off w c)) pl
+          (at.Walk (walking.Spent (past w c true))) c.who k.walk.1 gone
+          (at_point (walking.Page staging.Off w c) (walking.Spent (past w c true)) k refl
+          (past_counted n w c true k.walk.0 k.walk.3)) refl refl refl home
+      by false = unqueue_fine s n me call sound mine (at.Walk (walking.Page staging.Off w c)) pl
+          (at.Walk (walking.Call (past w c true))) c.who k.walk.1 gone
+          (at_point (walking.Page staging.Off w c) (walking.Call (past w c true)) k refl
+          (past_counted n w c true k.walk.0 k.walk.3)) refl refl refl home
 
   start_counted : IsCounted (n + 1) (record {
     place = 0;
@@ -450,38 +641,44 @@ module _ (s : State) (n me : ℕ) (call : Call) (sound : IsSound s n) (mine : me
       (leads (walking.Unmark w) pl k refl refl (walking.Call (resumed w (Some j))) refl refl)
 
   walk_fine : (p : WalkPoint) → IsCallSound n call (at.Walk p) → P p → IsMarked p → C p
+      → HandsAt s.table.taken me (now.Open call (at.Walk p))
       → F p (planned s me call (at.Walk p))
-  walk_fine walking.Lock k pl mk z = lock_fine s n me call sound mine (at.Walk walking.Lock) pl (call_head call) refl
+  walk_fine walking.Lock k pl mk z h = lock_fine s n me call sound mine (at.Walk walking.Lock) pl (call_head call) refl
       (at.Walk (walking.Call _)) (head_small k.watch) refl refl refl
       (at_point walking.Lock (walking.Call _) k refl start_counted) pl.home refl
-  walk_fine (walking.Call w) k pl mk z = break_fine w k pl mk (r w k pl mk).breaks refl
-  walk_fine (walking.Wake w c) k pl mk z = wakes_fine (walking.Wake w c) pl k refl refl w c
+  walk_fine (walking.Call w) k pl mk z h = break_fine w k pl mk (r w k pl mk).breaks refl
+  walk_fine (walking.Wake w c) k pl mk z h = wakes_fine (walking.Wake w c) pl k refl refl w c
       (meets (mask_of (mode_of call)) (s.table.task c.who).state) k.walk.0 k.walk.3 k.walk.1
-  walk_fine (walking.Bit w c) k pl mk z = bit_fine w c (meets (mask_of (mode_of call)) (s.table.task c.who).state) k
+  walk_fine (walking.Bit w c) k pl mk z h = bit_fine w c (meets (mask_of (mode_of call)) (s.table.task c.who).state) k
       pl z
-  walk_fine (walking.Unqueue w who) k pl mk z = take_fine w who w.spent k pl
-  walk_fine (walking.Spent w) k pl mk z = unlock_fine s n me call sound mine (at.Walk (walking.Spent w)) pl
+  walk_fine (walking.Page st w c) k pl mk z h = hands_fine st w c k pl z h
+  walk_fine (walking.Stopped w) k pl mk z h = unlock_fine s n me call sound mine (at.Walk (walking.Stopped w)) pl
+      (call_head call) false _ refl refl (head_small k.watch) (no_spend s n me call sound mine) tt refl pl.home refl
+      refl
+  walk_fine (walking.Unqueue w who) k pl mk z h = take_fine w who w.spent k pl
+  walk_fine (walking.Spent w) k pl mk z h = unlock_fine s n me call sound mine (at.Walk (walking.Spent w)) pl
       (call_head call) true _ refl refl (head_small k.watch) (walk_spends (s.table.view me) call z.0 z.1) tt refl
       pl.home refl refl
-  walk_fine (walking.BreakUnlock w) k pl mk z = unlock_fine s n me call sound mine
+  walk_fine (walking.BreakUnlock w) k pl mk z h = unlock_fine s n me call sound mine
       (at.Walk (walking.BreakUnlock w)) pl (call_head call) false (next.Go (at.Walk (walking.BreakLock w))) refl
       refl (head_small k.watch) (no_spend s n me call sound mine)
       (at_point (walking.BreakUnlock w) (walking.BreakLock w) k refl (counted_later n w k.walk)) refl pl.home
       refl refl
-  walk_fine (walking.BreakLock w) k pl mk z = lock_fine s n me call sound mine (at.Walk (walking.BreakLock w)) pl
+  walk_fine (walking.BreakLock w) k pl mk z h = lock_fine s n me call sound mine (at.Walk (walking.BreakLock w)) pl
       (call_head call) refl (at.Walk (walking.Unmark (again w))) (head_small k.watch) refl
       refl refl (at_point (walking.BreakLock w) (walking.Unmark (again w)) k refl (again_counted n w k.walk))
       pl.home refl
-  walk_fine (walking.Unmark w) k pl mk z = resume_fine w (s.table.mark me) refl k pl mk
+  walk_fine (walking.Unmark w) k pl mk z h = resume_fine w (s.table.mark me) refl k pl mk
 
   pub program_fine : (p : Point) → IsCallSound n call p
       → IsPlaced s.table.entry (s.table.view me) me (now.Open call p)
       → mark_head (s.table.mark me) ≡ marked_at (now.Open call p)
-      → CountedAt s.table.entry (s.table.view me) call p → KeepsCleared (now.Open call p) (s.table.view me)
+      → CountedAt s.table.entry (s.table.view me) call p → HandsAt s.table.taken me (now.Open call p)
+      → KeepsCleared (now.Open call p) (s.table.view me)
       → Rests (now.Open call p) (s.table.task me) → (s.table.task me).runnable ≡ true
       → Fine s n me call sound mine (given_at call p) (planned s me call p)
-  program_fine (at.Walk p) k pl mk z keeps rests run = walk_fine p k pl mk z
-  program_fine (at.Select p) k pl mk z keeps rests run = select_fine s n me call sound mine p k pl
-  program_fine (at.Await p) k pl mk z keeps rests run = await_fine s n me call sound mine p k pl
-  program_fine (at.Count p) k pl mk z keeps rests run = count_fine s n me call sound mine p k pl
-  program_fine p k pl mk z keeps rests run = plain_fine s n me call sound mine p k pl tt keeps rests run
+  program_fine (at.Walk p) k pl mk z h keeps rests run = walk_fine p k pl mk z h
+  program_fine (at.Select p) k pl mk z h keeps rests run = select_fine s n me call sound mine p k pl
+  program_fine (at.Await p) k pl mk z h keeps rests run = await_fine s n me call sound mine p k pl
+  program_fine (at.Count p) k pl mk z h keeps rests run = count_fine s n me call sound mine p k pl
+  program_fine p k pl mk z h keeps rests run = plain_fine s n me call sound mine p k pl tt keeps rests run

@@ -39,6 +39,7 @@ use Rattle.wait_model.proofs.SentenceLaws.MadeCounts.{select_made, try_made, is_
 use Rattle.wait_model.proofs.SentenceLaws.MadeBits.{wait_bit_made, lock_bit_made}
 use Rattle.wait_model.proofs.SentenceLaws.MadeWalks.{walk_back, walk_none}
 use Rattle.wait_model.proofs.SentenceLaws.MadeEvents.{MakesFirst, all_made, rousing}
+use Rattle.wait_model.proofs.SentenceLaws.MadePages.{lock_page_made}
 
 -- a wake walk alone
 module _ (me c n : ℕ) (i : Mode) where
@@ -330,6 +331,7 @@ sentences_are_made me (calls.IsDone d) w a h = is_done_made me d w a h
 sentences_are_made me (calls.TryBit i b) w a h = bit_made me i b w a h
 sentences_are_made me (calls.WaitBit i b st) w a h = wait_bit_made me i b st w a h
 sentences_are_made me (calls.LockBit i b st) w a h = lock_bit_made me i b st w a h
+sentences_are_made me (calls.LockPage i st) w a h = lock_page_made me i st w a h
 sentences_are_made me (calls.ClearBit i b) w a h = all_made me (calls.ClearBit i b) (Publishing me (calls.ClearBit i b))
     (clear_none me i b)
     (clear_back me i b) w none_noted at.Publish a h

@@ -36,7 +36,7 @@ use Rattle.wait_model.specs.declared.queues.End.TheVariants as end_as
 use Rattle.wait_model.specs.declared.points.WalkPoint.{WalkPoint}
 use Rattle.wait_model.specs.declared.points.WalkPoint.TheVariants as walking
 use Rattle.wait_model.specs.Tasks.{meets}
-use Rattle.wait_model.specs.Watches.{is_done, number_of, mask_of, misses}
+use Rattle.wait_model.specs.Watches.{is_done, number_of, mask_of, misses, is_page, word_of, bit_of}
 use Rattle.wait_model.specs.Points.{call_aim, call_watch, call_head, mode_of}
 use Rattle.wait_model.specs.Programs.{go, walk_event, past, onward, reached, call_entry}
 use Rattle.wait_model.specs.Programs.{again as next_hold}
@@ -45,6 +45,8 @@ use Rattle.wait_model.specs.SentenceWalks.{
   tallied,
   walked,
   wakes_off,
+  hands_over,
+  takes_page,
   calls_function,
   WalkTally,
   Ahead,
@@ -60,6 +62,9 @@ use Rattle.wait_model.proofs.SentenceLaws.SentenceWalks as walks
 use Rattle.wait_model.proofs.SentenceLaws.SentenceWalks.{walk_rest, tally}
 use Rattle.wait_model.proofs.SentenceLaws.MadeFindings.{sees, fair, shown}
 use Rattle.wait_model.proofs.SentenceLaws.MadeEvents.{Leads, rousing}
+use Rattle.wait_model.specs.Words.{flag, bit_at}
+use Rattle.wait_model.specs.declared.points.PageStage.TheVariants as staging
+use Rattle.wait_model.specs.declared.watches.Mode.TheVariants as mode
 
 -- the strangers that a walk passed
 passed_back : (c : Watch) (t : WalkTally) (F : WalkTally → Rest) (v : List Event) (a : Answer) → passes c t F v a
@@ -118,8 +123,24 @@ module _ (call : Call) (plain : is_done (call_watch call) ≡ false) (R : Noted 
     tests_back n w c value true v a h = (refl, is _ (walking.Call (past w c false)) v a (n, h))
     tests_back n w c value false v a h = (refl, is _ (walking.Bit w c) v a (n, h))
 
+    page_back : (n : ℕ) (w : Walking) (c : CalledEntry) (value : ℕ) (miss : Bool) (v : List Event) (a : Answer)
+        → (when not miss then takes_page (call_watch call) c.who otherwise gives false)
+        (walks.judged_rest call true n w c) v a
+        → Leads R m (event.Load (number_of (call_watch call)) value)
+        (go (event.Load (number_of (call_watch call)) value)
+        (at.Walk (if miss then walking.Stopped w else walking.Page staging.Try w c))) v a
+    page_back n w c value true v a h = (refl, is _ (walking.Stopped w) v a h)
+    page_back n w c value false v a h = (refl, is _ (walking.Page staging.Try w c) v a (n, h))
+
+    try_back : (n : ℕ) (w : Walking) (c : CalledEntry) (e : Event) (miss : Bool) (x : Event) (v : List Event)
+        (a : Answer)
+        → (x ≡ e) × (when miss then gives false otherwise hands_over c.who) (walks.judged_rest call true n w c) v a
+        → Leads R m x (go e (at.Walk (if miss then walking.Stopped w else walking.Page staging.Hand w c))) v a
+    try_back n w c e true x v a h = (h.0, is _ (walking.Stopped w) v a h.1)
+    try_back n w c e false x v a h = (h.0, is _ (walking.Page staging.Hand w c) v a (n, h.1))
+
     function_back : (n : ℕ) (w : Walking) (c : CalledEntry) (k : Kind) (x : Event) (v : List Event) (a : Answer)
-        → calls_function (call_watch call) k c.who (walks.called_rest call n w c) (x ∷ v) a
+        → calls_function (call_watch call) k c.who (walks.judged_rest call (is_page k) n w c) (x ∷ v) a
         → (value : ℕ) × (t : TaskRecord) × ((seen : Seen) → seen.value ≡ value
         → Leads R m x (call_entry (call_aim call) w c k seen (meets (mask_of (mode_of call)) t.state)) v a)
     function_back n w c kind.Default x v a h =
@@ -160,6 +181,14 @@ module _ (call : Call) (plain : is_done (call_watch call) ≡ false) (R : Noted 
           (at.Walk (if misses (call_watch call) value then walking.Call (past w c false) else walking.Bit w c))) v a)
           (sym e)
           (let y = tests_back n w c h.0 (misses (call_watch call) h.0) v a h.1.1 in (h.1.0 ∙ y.0, y.1)),
+    )
+    function_back n w c kind.Page x v a h = (
+      h.0,
+      (sees m).own,
+      λ seen e. subst (λ (value : ℕ). Leads R m x (go (event.Load (number_of (call_watch call)) value)
+          (at.Walk (if misses (call_watch call) value then walking.Stopped w else walking.Page staging.Try w c))) v a)
+          (sym e)
+          (let y = page_back n w c h.0 (misses (call_watch call) h.0) v a h.1.1 in (h.1.0 ∙ y.0, y.1)),
     )
 
     abbrev At : WalkPoint → Event → Rest
@@ -212,6 +241,32 @@ module _ (call : Call) (plain : is_done (call_watch call) ≡ false) (R : Noted 
               (at.Walk (if b then walking.Unqueue (past w c b) c.who else walking.Call (past w c b)))) v a) (sym q)
               (wakes_off_back h.0 w c h.1.0 x v a h.1.1),
         )
+    walk_back (walking.Page staging.Try w c) x v a h = (
+      record (sees m) { value = h.1.0 },
+      (shown call m h.1.0 plain, tt),
+      try_back h.0 w c
+          (event.TasFor (word_of (call_watch call)) c.who (flag (bit_at h.1.0 (bit_of (call_watch call)))))
+          (misses (call_watch call) h.1.0) x v a h.1.1,
+    )
+    walk_back (walking.Page staging.Hand w c) x v a h =
+        (sees m, (fair call m, tt), (h.1.0, is _ (walking.Page staging.Wake w c) v a (h.0, h.1.1)))
+    walk_back (walking.Page staging.Wake w c) x v a h =
+        let (t, q) = rousing mode.Normal h.1.0 in (
+          record (sees m) { other = t },
+          (fair call m, tt),
+          subst (λ (b : Bool). Leads R m x (go (event.Wake c.who b) (at.Walk (walking.Page staging.Off w c))) v a)
+              (sym q) (h.1.1.0, is _ (walking.Page staging.Off w c) v a (h.0, h.1.1.1)),
+        )
+    walk_back (walking.Page staging.Off w c) x v a h = (
+      sees m,
+      (fair call m, tt),
+      (
+        h.1.0,
+        onward_back ((true && c.exclusive) && (w.left == 1)) _ h.0 (past w c true) v a
+            (past_back ((true && c.exclusive) && (w.left == 1)) h.0 w c true v a h.1.1),
+      ),
+    )
+    walk_back (walking.Stopped w) x v a h = (sees m, (fair call m, tt), (h.0, h.1))
     walk_back (walking.Unqueue w who) x v a h =
         (sees m, (fair call m, tt), (h.1.0, onward_back w.spent _ h.0 w v a h.1.1))
     walk_back (walking.Spent w) x v a h = (sees m, (fair call m, tt), (h.0, h.1))
@@ -222,13 +277,14 @@ module _ (call : Call) (plain : is_done (call_watch call) ≡ false) (R : Noted 
     walk_back (walking.Unmark w) x v a h = (sees m, (fair call m, tt), (h.1.0, is _ (walking.Call w) v a (h.0, h.1.1)))
 
   function_empty : (n : ℕ) (w : Walking) (c : CalledEntry) (k : Kind) (a : Answer)
-      → calls_function (call_watch call) k c.who (walks.called_rest call n w c) [] a → ⊥
+      → calls_function (call_watch call) k c.who (walks.judged_rest call (is_page k) n w c) [] a → ⊥
   function_empty n w c kind.Default a h = h.1
   function_empty n w c kind.Simple a h = h.1
   function_empty n w c kind.Autoremove a h = h.1
   function_empty n w c kind.Var a h = h.1
   function_empty n w c kind.Woken a h = h
   function_empty n w c kind.Bit a h = h.1
+  function_empty n w c kind.Page a h = h.1
 
   ahead_empty : (n : ℕ) (w : Walking) (calls : ℕ) (next : Ahead) (a : Answer)
       → comes_to (call_watch call) (record (tally w) { calls = calls }) next (walks.over call n) [] a → ⊥
@@ -247,6 +303,11 @@ module _ (call : Call) (plain : is_done (call_watch call) ≡ false) (R : Noted 
   walk_none (walking.Call w) a h = call_empty h.0 w a h.1
   walk_none (walking.Wake w c) a h = h.1.1
   walk_none (walking.Bit w c) a h = h.1.1
+  walk_none (walking.Page staging.Try w c) a h = h.1.1
+  walk_none (walking.Page staging.Hand w c) a h = h.1
+  walk_none (walking.Page staging.Wake w c) a h = h.1.1
+  walk_none (walking.Page staging.Off w c) a h = h.1
+  walk_none (walking.Stopped w) a h = h
   walk_none (walking.Unqueue w who) a h = h.1
   walk_none (walking.Spent w) a h = h
   walk_none (walking.BreakUnlock w) a h = h.1

@@ -52,6 +52,7 @@ use Rattle.wait_model.proofs.SentenceLaws.SentenceAwaits.{await_rest, await_said
 use Rattle.wait_model.proofs.SentenceLaws.SentenceCounts.{select_rest, select_said, count_rest, count_said}
 use Rattle.wait_model.proofs.SentenceLaws.SentenceWalks.{walk_rest, walk_said}
 use Rattle.wait_model.proofs.SentenceLaws.SentenceBits.{wait_rest, wait_said, lock_rest, lock_said}
+use Rattle.wait_model.proofs.SentenceLaws.SentencePages.{page_rest, page_said}
 
 -- `woken`
 abbrev pub heard : Rest
@@ -106,6 +107,7 @@ rest_of me (calls.Signal u fatal) m at.Raise = sentence me (calls.Signal u fatal
 rest_of me (calls.Signal u fatal) m at.RaiseWake = wakes u (λ _. ends (number 0))
 rest_of me calls.Accept m at.Accept = sentence me calls.Accept ends
 rest_of me (calls.Kick u) m at.Kick = sentence me (calls.Kick u) ends
+rest_of me (calls.LockPage w st) m p = page_rest me w st m p
 rest_of me (calls.TryBit w b) m (at.Bit biting.Try) = sentence me (calls.TryBit w b) ends
 rest_of me call m p = short_rest me call p
 
@@ -205,6 +207,7 @@ module _ (me : ℕ) (m : Noted) where
   says (calls.WaitFor d st) p seen k w a h = await_said me d st m p seen k w a h
   says (calls.WaitBit w b st) p seen k v a h = wait_said me w b st m p seen k v a h
   says (calls.LockBit w b st) p seen k v a h = lock_said me w b st m p seen k v a h
+  says (calls.LockPage w st) p seen k v a h = page_said me w st m p seen k v a h
   says (calls.SimpleWake c b) (at.Select p) seen k w a h = select_said m (calls.SimpleWake c b) p seen k w a h
   says (calls.Complete d) (at.Select p) seen k w a h = select_said m (calls.Complete d) p seen k w a h
   says (calls.CompleteAll d) (at.Select p) seen k w a h = select_said m (calls.CompleteAll d) p seen k w a h

@@ -26,12 +26,23 @@ use Rattle.wait_model.specs.declared.points.WokenPoint.TheVariants as hearing
 use Rattle.wait_model.specs.Counts.{raised_done, taken_done}
 use Rattle.wait_model.specs.Sentences.{taken_number}
 use Rattle.wait_model.specs.Tasks.{state_mask}
-use Rattle.wait_model.specs.Watches.{head_of, number_of}
+use Rattle.wait_model.specs.Watches.{head_of, number_of, word_of, bit_of, misses}
 use Rattle.wait_model.specs.Points.{call_watch, call_head, count_of}
 use Rattle.wait_model.specs.Programs.{no_walk, again as next_hold}
-use Rattle.wait_model.specs.Phrases.{makes, ◌>>◌, gives, finds, when◌then◌otherwise◌, first_is, turns, ends}
+use Rattle.wait_model.specs.Phrases.{
+  makes,
+  ◌>>◌,
+  gives,
+  finds,
+  when◌then◌otherwise◌,
+  first_is,
+  turns,
+  ends,
+  leaves,
+  repeats,
+}
 use Rattle.wait_model.specs.SentenceSteps.{nothing, number, yes_or_no, unlocks, stores}
-use Rattle.wait_model.specs.SentenceWalks.{WalkTally, the_end, walked, tallied, wakes_off, wakes_one}
+use Rattle.wait_model.specs.SentenceWalks.{WalkTally, the_end, walked, tallied, wakes_off, wakes_one, hands_over}
 use Rattle.wait_model.specs.declared.queues.End.TheVariants as end_as
 use Rattle.wait_model.specs.SentenceCounts.{counts}
 use Rattle.wait_model.specs.Findings.{Noted}
@@ -44,6 +55,11 @@ use Rattle.wait_model.proofs.SentenceLaws.SentenceCounts.{taken}
 use Rattle.wait_model.proofs.SentenceLaws.SentenceCalls.{heard, rest_of}
 use Rattle.wait_model.proofs.SentenceLaws.StepEnds.{some, loaded, count_loaded, lowered, tried}
 use Rattle.wait_model.proofs.SentenceLaws.WaitEnds.{loop_end, await_rest_end, wait_rest_end, lock_rest_end}
+use Rattle.wait_model.specs.Words.{flag, bit_at}
+use Rattle.wait_model.specs.declared.points.PageStage.{PageStage}
+use Rattle.wait_model.specs.declared.points.PageStage.TheVariants as staging
+use Rattle.std.specs.Prelude.{◌&&◌}
+use Rattle.wait_model.proofs.SentenceLaws.PageEnds.{page_rest_end}
 
 -- a walk, whose queue has no further member
 module _ (call : Call) where
@@ -78,6 +94,46 @@ module _ (call : Call) where
   locked_end w = first (event.Lock (call_head call)) (first_is (event.Unmark (call_head call))
       (walk.onward_rest call 1 w)) (unmarked_end w)
 
+  stopped_end : (w : Walking) → CanEnd (walk.stopped_rest call w)
+  stopped_end w = first (event.Unlock (call_head call) false) (ends (walked (tally w) end_as.Stopped))
+      (over (walked (tally w) end_as.Stopped))
+
+  handed_end : (s : Bool) (w : Walking) (t : WalkTally)
+      → CanEnd ((when s
+      then
+      (do
+        makes (event.Unlock (call_head call) true)
+        gives (leaves (walked t end_as.Spent)))
+      otherwise gives (repeats t)) (walk.over call 1))
+  handed_end true w t = first (event.Unlock (call_head call) true) (ends (walked t end_as.Spent))
+      (over (walked t end_as.Spent))
+  handed_end false w t = last_end_of t
+
+  unqueued_end : (w : Walking) (c : CalledEntry) → CanEnd (walk.page_rest call staging.Off w c 1)
+  unqueued_end w c = first (event.Unqueue c.who) (walk.judged_rest call true 1 w c true)
+      (handed_end ((true && c.exclusive) && (w.left == 1)) w (tallied (tally w) c.exclusive true))
+
+  woken_page_end : (w : Walking) (c : CalledEntry) → CanEnd (walk.page_rest call staging.Wake w c 1)
+  woken_page_end w c = found (event.Wake c.who)
+      (λ _. makes (event.Unqueue c.who) (λ _. walk.judged_rest call true 1 w c true)) false (unqueued_end w c)
+
+  handed_page_end : (w : Walking) (c : CalledEntry) → CanEnd (walk.page_rest call staging.Hand w c 1)
+  handed_page_end w c = first (event.Handed c.who) (walk.page_rest call staging.Wake w c 1) (woken_page_end w c)
+
+  tried_end : (b : Bool) (w : Walking) (c : CalledEntry)
+      → CanEnd ((when b then gives false otherwise hands_over c.who) (walk.judged_rest call true 1 w c))
+  tried_end true w c = stopped_end w
+  tried_end false w c = handed_page_end w c
+
+  page_end : (st : PageStage) (w : Walking) (c : CalledEntry) → CanEnd (walk.page_rest call st w c 1)
+  page_end staging.Off w c = unqueued_end w c
+  page_end staging.Wake w c = woken_page_end w c
+  page_end staging.Hand w c = handed_page_end w c
+  page_end staging.Try w c = found
+      (λ (value : ℕ). event.TasFor (word_of (call_watch call)) c.who (flag (bit_at value (bit_of (call_watch call)))))
+      (λ value. (when misses (call_watch call) value then gives false otherwise hands_over c.who)
+      (walk.judged_rest call true 1 w c)) 0 (tried_end (misses (call_watch call) 0) w c)
+
   pub walk_end : (p : WalkPoint) → CanEnd (walk_rest call p)
   walk_end walking.Lock =
       let (w, a, h) = last_end_of (record { woken = 0; selected = 0; left = count_of call; holds = 1; calls = 0 }) in
@@ -89,6 +145,8 @@ module _ (call : Call) where
       (found (event.Wake c.who)
       (λ hit. (when hit then (makes (event.Unqueue c.who) >> gives true) otherwise gives false)
       (walk.called_rest call 1 w c)) false (called_end w c))
+  walk_end (walking.Page st w c) = some (walk.page_rest call st w c) 1 (page_end st w c)
+  walk_end (walking.Stopped w) = stopped_end w
   walk_end (walking.Unqueue w who) = some (λ n. first_is (event.Unqueue who) (walk.past_rest call w.spent n w)) 1
       (first (event.Unqueue who) (walk.past_rest call w.spent 1 w) (past_end w.spent w))
   walk_end (walking.Spent w) = spent_end w
@@ -224,6 +282,7 @@ can_end me (calls.WaitVar v old st) m p = loop_end me (calls.WaitVar v old st) m
 can_end me (calls.WaitFor d st) m p = await_rest_end me d st m p
 can_end me (calls.WaitBit w b st) m p = wait_rest_end me w b st m p
 can_end me (calls.LockBit w b st) m p = lock_rest_end me w b st m p
+can_end me (calls.LockPage w st) m p = page_rest_end me w st m p
 can_end me (calls.SimpleWake c b) m p = select_end (calls.SimpleWake c b) m p
 can_end me (calls.Complete d) m p = select_end (calls.Complete d) m p
 can_end me (calls.CompleteAll d) m p = select_end (calls.CompleteAll d) m p

@@ -245,12 +245,14 @@ start_off (calls.WaitFor d st) None w h = refl
 start_off (calls.WaitBit i b st) None w h = refl
 start_off (calls.LockBit i b st) None w h = refl
 start_off (calls.WaitVar v old st) None w h = refl
+start_off (calls.LockPage i st) None w h = refl
 start_off (calls.Wait c how) (Some e) w h = absurd h
 start_off (calls.SimpleWait c st) (Some e) w h = absurd h
 start_off (calls.WaitFor d st) (Some e) w h = absurd h
 start_off (calls.WaitBit i b st) (Some e) w h = absurd h
 start_off (calls.LockBit i b st) (Some e) w h = absurd h
 start_off (calls.WaitVar v old st) (Some e) w h = absurd h
+start_off (calls.LockPage i st) (Some e) w h = absurd h
 start_off call o w h = absurd (cc)
 
 -- what the events tell that a task has made since it last opened a call

@@ -40,7 +40,7 @@ use Rattle.wait_model.specs.declared.points.Point.TheVariants as at
 use Rattle.wait_model.specs.declared.points.WalkPoint.{WalkPoint}
 use Rattle.wait_model.specs.declared.points.WalkPoint.TheVariants as walking
 use Rattle.wait_model.specs.Tasks.{meets}
-use Rattle.wait_model.specs.Watches.{number_of, mask_of, misses}
+use Rattle.wait_model.specs.Watches.{number_of, mask_of, misses, is_page, word_of, bit_of}
 use Rattle.wait_model.specs.Points.{call_aim, call_watch, call_head, count_of, mode_of}
 use Rattle.wait_model.specs.Programs.{go, walk_event, past, onward, reached, resumed, call_next, call_entry}
 use Rattle.wait_model.specs.Programs.{again as next_hold}
@@ -66,6 +66,9 @@ use Rattle.wait_model.specs.SentenceWalks.{
   tallied,
   walked,
   wakes_off,
+  hands_over,
+  takes_page,
+  at_stop,
   calls_function,
   Ahead,
   a_break,
@@ -79,6 +82,10 @@ use Rattle.wait_model.specs.SentenceWalks.{
 }
 use Rattle.wait_model.specs.Findings.{Noted, MayComeTo}
 use Rattle.wait_model.proofs.SentenceLaws.SentenceRests.{Says, Some_turns, first_more}
+use Rattle.wait_model.specs.Words.{flag, bit_at}
+use Rattle.wait_model.specs.declared.points.PageStage.{PageStage}
+use Rattle.wait_model.specs.declared.points.PageStage.TheVariants as staging
+use Rattle.wait_model.specs.declared.watches.Mode.TheVariants as mode
 
 -- strangers are passed only at a head that is shared
 pub passed : (c : Watch) (t : WalkTally) (F : WalkTally → Rest) (calls : ℕ) → t.calls ≤ calls
@@ -123,11 +130,33 @@ module _ (call : Call) where
         gives (leaves (walked (tallied (tally w) c.exclusive hit) end_as.Spent)))
       otherwise gives (repeats (tallied (tally w) c.exclusive hit))) (over n)
 
+  -- a page that was found set stops the walk
+  abbrev pub judged_rest : Bool → ℕ → Walking → CalledEntry → Bool → Rest
+  judged_rest paged n w c hit = (when paged && not hit then at_stop (call_watch call) (tally w)
+      otherwise when (hit && c.exclusive) && (w.left == 1)
+      then
+      (do
+        makes (event.Unlock (call_head call) true)
+        gives (leaves (walked (tallied (tally w) c.exclusive hit) end_as.Spent)))
+      otherwise gives (repeats (tallied (tally w) c.exclusive hit))) (over n)
+
+  abbrev pub stopped_rest : Walking → Rest
+  stopped_rest w = makes (event.Unlock (call_head call) false) (λ _. ends (walked (tally w) end_as.Stopped))
+
+  abbrev pub page_rest : PageStage → Walking → CalledEntry → ℕ → Rest
+  page_rest staging.Try w c n = takes_page (call_watch call) c.who (judged_rest true n w c)
+  page_rest staging.Hand w c n = hands_over c.who (judged_rest true n w c)
+  page_rest staging.Wake w c n = finds (event.Wake c.who)
+      (λ _. makes (event.Unqueue c.who) (λ _. judged_rest true n w c true))
+  page_rest staging.Off w c n = makes (event.Unqueue c.who) (λ _. judged_rest true n w c true)
+
   abbrev pub walk_rest : WalkPoint → Rest
   walk_rest walking.Lock = walks (call_watch call) (count_of call) ends
   walk_rest (walking.Call w) = Some_turns (λ n. onward_rest n w)
   walk_rest (walking.Wake w c) = Some_turns (λ n. finds (event.Wake c.who) (called_rest n w c))
   walk_rest (walking.Bit w c) = Some_turns (λ n. wakes_off c.who (called_rest n w c))
+  walk_rest (walking.Page st w c) = Some_turns (page_rest st w c)
+  walk_rest (walking.Stopped w) = stopped_rest w
   walk_rest (walking.Unqueue w who) = Some_turns (λ n. makes (event.Unqueue who) (λ _. past_rest w.spent n w))
   walk_rest (walking.Spent w) = spent_rest w
   walk_rest (walking.BreakUnlock w) = Some_turns (λ n. unlocks (call_watch call) (λ _. locks (call_watch call)
@@ -156,6 +185,9 @@ module _ (call : Call) where
     -- the function of an entry
     abbrev Called_said : Walking → CalledEntry → Phrase Bool → Planned → Type 0
     Called_said w c f x = Says R m x (Some_turns (λ n. f (called_rest n w c)))
+
+    abbrev Judged_said : Bool → Walking → CalledEntry → Phrase Bool → Planned → Type 0
+    Judged_said paged w c f x = Says R m x (Some_turns (λ n. f (judged_rest paged n w c)))
 
     wakes_said : (w : Walking) (c : CalledEntry) (hit : Bool) → Called_said w c (finds (event.Wake c.who))
         (go (event.Wake c.who hit) (onward (past w c hit)))
@@ -190,8 +222,24 @@ module _ (call : Call) where
     tests_said w c value true v a h = let (n, x) = is _ (walking.Call (past w c false)) v a h in (n, (refl, x))
     tests_said w c value false v a h = let (n, x) = is _ (walking.Bit w c) v a h in (n, (refl, x))
 
+    page_said : (w : Walking) (c : CalledEntry) (value : ℕ) (miss : Bool)
+        → Says R m (go (event.Load (number_of (call_watch call)) value)
+        (at.Walk (if miss then walking.Stopped w else walking.Page staging.Try w c)))
+        (λ v a. (n : ℕ) × first_is (event.Load (number_of (call_watch call)) value)
+        ((when not miss then takes_page (call_watch call) c.who otherwise gives false) (judged_rest true n w c)) v a)
+    page_said w c value true v a h = (zero, (refl, is _ (walking.Stopped w) v a h))
+    page_said w c value false v a h = let (n, x) = is _ (walking.Page staging.Try w c) v a h in (n, (refl, x))
+
+    try_said : (w : Walking) (c : CalledEntry) (e : Event) (miss : Bool)
+        → Says R m (go e (at.Walk (if miss then walking.Stopped w else walking.Page staging.Hand w c)))
+        (λ v a. (n : ℕ) × first_is e
+        ((when miss then gives false otherwise hands_over c.who) (judged_rest true n w c)) v a)
+    try_said w c e true v a h = (zero, (refl, is _ (walking.Stopped w) v a h))
+    try_said w c e false v a h = let (n, x) = is _ (walking.Page staging.Hand w c) v a h in (n, (refl, x))
+
     function_said : (w : Walking) (c : CalledEntry) (k : Kind) (seen : Seen) (hit : Bool)
-        → Called_said w c (calls_function (call_watch call) k c.who) (call_entry (call_aim call) w c k seen hit)
+        → Judged_said (is_page k) w c (calls_function (call_watch call) k c.who)
+        (call_entry (call_aim call) w c k seen hit)
     function_said w c kind.Default seen hit v a h = wakes_said w c hit v a h
     function_said w c kind.Autoremove seen hit v a h = wakes_off_said w c hit v a h
     function_said w c kind.Woken seen hit v a h = let (n, x) = is _ (walking.Wake w c) v a h in (n, (refl, x))
@@ -199,6 +247,8 @@ module _ (call : Call) where
         let (n, x) = tests_said w c seen.value (misses (call_watch call) seen.value) v a h in (n, (seen.value, x))
     function_said w c kind.Var seen hit v a h = wakes_off_said w c hit v a h
     function_said w c kind.Simple seen hit v a h = wakes_said w c hit v a h
+    function_said w c kind.Page seen hit v a h =
+        let (n, x) = page_said w c seen.value (misses (call_watch call) seen.value) v a h in (n, (seen.value, x))
 
     next_said : (w : Walking) (calls : ℕ) (o : Option CalledEntry) (seen : Seen) (hit : Bool) → w.calls ≤ calls
         → (shares_head (call_watch call) ≡ false → calls ≡ w.calls)
@@ -244,6 +294,19 @@ module _ (call : Call) where
     walk_said (walking.Bit w c) seen k v a h =
         wakes_off_said w c (meets (mask_of (mode_of call)) seen.other.state) v a h
     walk_said (walking.Wake w c) seen k v a h = wakes_said w c (meets (mask_of (mode_of call)) seen.other.state) v a h
+    walk_said (walking.Page staging.Try w c) seen k v a h =
+        let (n, x) = try_said w c
+        (event.TasFor (word_of (call_watch call)) c.who (flag (bit_at seen.value (bit_of (call_watch call)))))
+        (misses (call_watch call) seen.value) v a h in (n, (seen.value, x))
+    walk_said (walking.Page staging.Hand w c) seen k v a h =
+        let (n, x) = is _ (walking.Page staging.Wake w c) v a h in (n, (refl, x))
+    walk_said (walking.Page staging.Wake w c) seen k v a h =
+        let (n, x) = is _ (walking.Page staging.Off w c) v a h in
+        (n, (meets (mask_of mode.Normal) seen.other.state, (refl, x)))
+    walk_said (walking.Page staging.Off w c) seen k v a h =
+        let (n, x) = onward_said _ ((true && c.exclusive) && (w.left == 1)) (past w c true) v a h in
+        (n, (refl, same_past ((true && c.exclusive) && (w.left == 1)) n w c true v a x))
+    walk_said (walking.Stopped w) seen k v a h = (refl, h)
     walk_said (walking.Unqueue w who) seen k v a h = let (n, x) = onward_said _ w.spent w v a h in (n, (refl, x))
     walk_said (walking.Spent w) seen k v a h = (refl, h)
     walk_said (walking.BreakUnlock w) seen k v a h = let (n, x) = is _ (walking.BreakLock w) v a h in (n, (refl, x))

@@ -76,7 +76,7 @@ module _ (me : ℕ) (call : Call) (b : Bool) (R : Rest) (h : CanEnd R) where
       by true = let (w, a, x) = h in (event.Queued false ∷ w, a, (false, (refl, x)))
       by false = first (event.Queued false) R h
 
-  finish_end : (p : FinishPoint) → CanEnd (finish_rest me call b p R)
+  pub finish_end : (p : FinishPoint) → CanEnd (finish_rest me call b p R)
   finish_end finishing.State = first (event.State 0) (finish_rest me call b finishing.Look R) look_end
   finish_end finishing.Look = look_end
   finish_end finishing.Lock = first (event.Lock (call_head call)) (finish_rest me call b finishing.Queue R) queue_end

@@ -37,7 +37,7 @@ use Rattle.wait_model.specs.Views.{
   all_passed,
 }
 use Rattle.wait_model.specs.Fold.{paused, after_unlock, after}
-use Rattle.wait_model.specs.Watches.{same, head_of, is_done, is_bit}
+use Rattle.wait_model.specs.Watches.{same, head_of, is_done, is_bit, page}
 use Rattle.wait_model.specs.Tables.{Words, Table, met, publish, consume, raised_spent, next}
 use Rattle.wait_model.specs.Functions.{put}
 use Rattle.wait_model.specs.Rows.{Lowers, Suits, MayPublish, Allowed}
@@ -46,6 +46,7 @@ use Rattle.wait_model.proofs.StepLaws.OwnViews.{
   of_publish,
   unmet_stays,
   of_consume,
+  of_tas_for,
   of_queue,
   of_unqueue,
   of_lock,
@@ -256,4 +257,16 @@ consume_facts s a c n r k al = record {
       (λ b _. other_words s.holder s.entry s.spent s.words (consume s.words c n) (s.view b) (k.views b)
       (λ d co e is. consume_sets_none s.words d c n al is)
       (λ d i q old. unmet_stays s.holder s.entry s.spent s.words (s.view b) (k.views b) c d n al old));
+}
+
+pub tas_for_facts : (s : Table) (a y p r : ℕ) → Facts s → Facts (next s a (step.TasFor y p r))
+tas_for_facts s a y p r k = record {
+  one_holder = one_holder_from s a (after (step.TasFor y p r) (s.view a)) (λ h e. inl e) k;
+  named = k.named;
+  suits = k.suits;
+  views = all_views s a (after (step.TasFor y p r) (s.view a)) s.holder s.entry s.spent (consume s.words (page p) 1)
+      (of_tas_for s.holder s.entry s.spent s.words (s.view a) (k.views a) y p r)
+      (λ b _. other_words s.holder s.entry s.spent s.words (consume s.words (page p) 1) (s.view b) (k.views b)
+      (λ d co e is. consume_sets_none s.words d (page p) 1 tt is)
+      (λ d i q old. unmet_stays s.holder s.entry s.spent s.words (s.view b) (k.views b) (page p) d 1 tt old));
 }

@@ -26,7 +26,7 @@ use Rattle.wait_model.specs.declared.steps.Step.{Step}
 use Rattle.wait_model.specs.Facts.{Facts}
 use Rattle.wait_model.specs.Views.{View, ahead, warns, all_cleared}
 use Rattle.wait_model.specs.Fold.{peeks, after}
-use Rattle.wait_model.specs.Watches.{head_of, failing, owner}
+use Rattle.wait_model.specs.Watches.{head_of, failing, owner, page}
 use Rattle.wait_model.specs.Tables.{Words, Table, met, next}
 use Rattle.wait_model.specs.Words.{flag, entry_of}
 use Rattle.wait_model.specs.Laws.{Unheard, NoLostFlag}
@@ -181,11 +181,12 @@ queue_flags s a y d law own x e on m z = elim (put_case s.entry y (Some d) x) [
       (λ h. sym q.1 ∙ h) (λ h. h) (λ h. h) z) (λ h. h) (λ _ h. h)
 ]
 
-pub unflag_flags : (s : Table) (a y : ℕ) → NoLostFlag s → owner y ≡ a → NoLostFlag (next s a (step.Unflag y))
-unflag_flags s a y law own x e on m z = elim (put_case s.flag y false x) [
-  | inl q ↦ absurd (own_low s a y x on m (after (step.Unflag y) (s.view a)) own refl z.low q.0)
-  | inr q ↦ flag_framed s a (step.Unflag y) x e on m law
-      (back_unheard s a (step.Unflag y) x e on m (λ h. (low_put (s.view a).checks.low y x on m h).1) (λ h. h)
+pub unflag_flags : (s : Table) (a y : ℕ) (o : Option ℕ) → NoLostFlag s → owner y ≡ a
+    → NoLostFlag (next s a (step.Unflag y o))
+unflag_flags s a y o law own x e on m z = elim (put_case s.flag y false x) [
+  | inl q ↦ absurd (own_low s a y x on m (after (step.Unflag y o) (s.view a)) own refl z.low q.0)
+  | inr q ↦ flag_framed s a (step.Unflag y o) x e on m law
+      (back_unheard s a (step.Unflag y o) x e on m (λ h. (low_put (s.view a).checks.low y x on m h).1) (λ h. h)
       (λ h. sym q.1 ∙ h) (λ h. h) z) (λ h. h) (λ _ h. h)
 ]
 
@@ -202,3 +203,16 @@ woken_flags s a y law x e on m z = elim (put_case s.flag y true x) [
         put_at (λ b. ((v.duty.owes e.watch σ)
         && (not (v.duty.cleared e.watch x) && ahead v.walk b e.watch σ e.place)) ≡ true) v.hold.flagged y true
         x (λ q. absurd (ne q)) (λ _. h)
+
+-- the steps of a hand-off of a page
+pub handed_flags : (s : Table) (a y : ℕ) → NoLostFlag s → NoLostFlag (next s a (step.Handed y))
+handed_flags s a y law x e on m z = elim (put_case s.flag y true x) [
+  | inl q ↦ let is : (next s a (step.Handed y)).flag x ≡ false = z.quiet in absurd (cc (q.1))
+  | inr q ↦ flag_framed s a (step.Handed y) x e on m law (back_unheard s a (step.Handed y) x e on m (λ h. h)
+      (λ h. h) (λ h. sym q.1 ∙ h) (λ h. h) z) (λ h. h) (λ _ h. h)
+]
+
+pub tas_for_flags : (s : Table) (a y p r : ℕ) → NoLostFlag s → NoLostFlag (next s a (step.TasFor y p r))
+tas_for_flags s a y p r law x e on m z = flag_framed s a (step.TasFor y p r) x e on m law
+    (back_unheard s a (step.TasFor y p r) x e on m (λ q. q) (λ q. q) (λ q. q)
+    (consume_sets_none s.words on (page p) 1 tt) z) (λ q. q) (λ _ q. q)

@@ -24,7 +24,7 @@ use Rattle.wait_model.specs.declared.watches.Entry.{Entry}
 use Rattle.wait_model.specs.Facts.{Facts}
 use Rattle.wait_model.specs.Views.{Walk, View, checked, gone, ahead, covers, all_cleared}
 use Rattle.wait_model.specs.Fold.{finds_bit_set, peeks, after}
-use Rattle.wait_model.specs.Watches.{head_of, is_bit, is_simple, failing, owner}
+use Rattle.wait_model.specs.Watches.{head_of, is_bit, is_simple, failing}
 use Rattle.wait_model.specs.Tables.{Table, met}
 use Rattle.wait_model.specs.Words.{entry_of}
 use Rattle.wait_model.specs.Rows.{Reads}
@@ -71,13 +71,13 @@ covers_loaded v l r x e σ nope h = by_bit (bool_or (is_bit e.watch))
         ahead_else (Some w) g c σ p nb q = grind (arith, same_bit c w.watch)
 
 pub load_moves : (s : Table) (a : ℕ) (l : Watch) (r : ℕ) → Reads s.words l r → Moves s a (step.Load l r)
-load_moves s a l r al x e on m z = elim (bool_or (failing l r on)) [
+load_moves s a l r al x e on m σ z = elim (bool_or (failing l r on)) [
   | inl f ↦ let un : met s.words on ≡ false = failing_unmet s.words l r on al f
       in let is : met s.words on ≡ true = z.is_set in absurd (cc)
-  | inr f ↦ framed s a (step.Load l r) x e on m
-      (back_waits s a (step.Load l r) x e on m (loaded_checked (s.view a) l r x e on m f) (λ q. q) (λ q. q)
-      (λ q. q) z) refl (λ q. q)
-      (covers_loaded (s.view a) l r x e (s.task (owner x)).state
+  | inr f ↦ framed s a (step.Load l r) x e on m σ
+      (back_waits s a (step.Load l r) x e on m σ (loaded_checked (s.view a) l r x e on m f) (λ q. q) (λ _ q. q)
+      (λ q. q) z) (λ q. q)
+      (covers_loaded (s.view a) l r x e σ
       (λ b. subst (λ (c : Watch). failing l r c ≡ false)
       (same_bit_is on e.watch (same_bit on e.watch z.watches b) z.watches) f))
 ]
@@ -114,7 +114,6 @@ covers_peeked s a y w x e σ lt al st h =
     by ow cl cl2 all ah p q h = grind arith
 
 pub peek_moves : (s : Table) (a y w : ℕ) → Facts s → entry_of w ≡ s.entry y → Moves s a (step.Peek y w)
-peek_moves s a y w k al x e on m z =
-    framed s a (step.Peek y w) x e on m (back_waits s a (step.Peek y w) x e on m (λ q. q) (λ q. q) (λ q. q)
-    (λ q. q) z) refl (λ q. q) (covers_peeked s a y w x e (s.task (owner x)).state
-    (k.named x e z.stands) al z.stands)
+peek_moves s a y w k al x e on m σ z = framed s a (step.Peek y w) x e on m σ
+    (back_waits s a (step.Peek y w) x e on m σ (λ q. q) (λ q. q) (λ _ q. q) (λ q. q) z) (λ q. q)
+    (covers_peeked s a y w x e σ (k.named x e z.stands) al z.stands)

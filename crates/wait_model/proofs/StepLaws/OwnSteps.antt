@@ -8,15 +8,14 @@ use Rattle.wait_model.specs.Facts.{Facts}
 use Rattle.wait_model.specs.Views.{Bits, View, is_trying_for}
 use Rattle.wait_model.specs.Fold.{after_unlock, is_off, settled, forgotten, after}
 use Rattle.wait_model.specs.Watches.{same, head_of, is_bit, failing, owner}
-use Rattle.wait_model.specs.Tables.{Words, Table, met, consume, next}
+use Rattle.wait_model.specs.Tables.{Table, met, consume, next}
 use Rattle.wait_model.specs.Words.{entry_of}
 use Rattle.wait_model.specs.Laws.{TryingBy, Trying, Tried}
 use Rattle.wait_model.specs.Functions.{put}
 use Rattle.wait_model.specs.Rows.{Reads, Allowed}
-use Rattle.wait_model.proofs.Sameness.{failing_unmet}
+use Rattle.wait_model.proofs.Sameness.{failing_unmet, tas_unmet}
 use Rattle.wait_model.proofs.StepLaws.UnlockSteps.{unlock_bits}
 use Rattle.wait_model.proofs.Functions.{put_case, put_at}
-use Rattle.wait_model.specs.declared.watches.Watch.TheVariants as watch
 use Rattle.wait_model.specs.declared.steps.Step.TheVariants as step
 
 abbrev pub TriedMoves : Table → ℕ → Step → Type 0
@@ -123,17 +122,6 @@ tried_loaded s a l r al = tried_from s a (step.Load l r)
         → failing l r c ≡ b → ((s.view a).bits.pending c && not (failing l r c)) ≡ true
     go c is p true q = absurd (let u : met s.words c ≡ false = failing_unmet s.words l r c al q in cc)
     go c is p false q = grind arith
-
--- a test-and-set sets its bit
-pub tas_unmet : (w : Words) (c d : Watch) (n : ℕ) → is_bit c ≡ true → same d c ≡ true
-    → met (consume w c n) d ≡ false
-tas_unmet w (watch.Bit i b) (watch.Bit j k) n h sa = grind arith
-tas_unmet w (watch.Bit i b) (watch.Plain k) n h sa = absurd (cc)
-tas_unmet w (watch.Bit i b) (watch.Done k) n h sa = absurd (cc)
-tas_unmet w (watch.Bit i b) (watch.Var k o) n h sa = absurd (cc)
-tas_unmet w (watch.Plain c) d n h sa = absurd (cc)
-tas_unmet w (watch.Done c) d n h sa = absurd (cc)
-tas_unmet w (watch.Var c o) d n h sa = absurd (cc)
 
 pub tried_consumed : (s : Table) (a : ℕ) (c : Watch) (n r : ℕ) → TriedMoves s a (step.Consume c n r)
 tried_consumed s a c n r = tried_from s a (step.Consume c n r)

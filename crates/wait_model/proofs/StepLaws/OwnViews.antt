@@ -23,14 +23,20 @@ use Rattle.wait_model.specs.declared.watches.Entry.{Entry}
 use Rattle.wait_model.specs.declared.watches.Aim.{Aim}
 use Rattle.wait_model.specs.Facts.{Agrees, OfView}
 use Rattle.wait_model.specs.Views.{Look, off, elsewhere, shown, Walk, View, no_hold, look_at}
-use Rattle.wait_model.specs.Fold.{begun, begun_anew, holding, is_off, forgotten, after}
-use Rattle.wait_model.specs.Watches.{same, head_of, is_done, is_bit, mask_of, failing, was_clear}
+use Rattle.wait_model.specs.Fold.{begun, begun_anew, holding, is_off, forgotten, after, takes_note}
+use Rattle.wait_model.specs.Watches.{same, head_of, is_done, is_bit, mask_of, failing, was_clear, page}
 use Rattle.wait_model.specs.Tables.{Words, met, publish, consume}
 use Rattle.wait_model.specs.Words.{entry_of, spent_of}
 use Rattle.wait_model.specs.Functions.{put}
 use Rattle.wait_model.specs.Rows.{Reads, Lowers, AimsAt}
-use Rattle.wait_model.proofs.StepLaws.OwnSteps.{tas_unmet}
-use Rattle.wait_model.proofs.Sameness.{same_head, publish_other, consume_sets_none, failing_unmet}
+use Rattle.wait_model.proofs.Sameness.{
+  same_head,
+  publish_other,
+  consume_sets_none,
+  failing_unmet,
+  tas_unmet,
+  same_bit_is,
+}
 use Rattle.wait_model.proofs.Functions.{put_at, put_same, put_other, bool_or}
 use Rattle.wait_model.specs.declared.steps.Step.TheVariants as step
 
@@ -287,7 +293,12 @@ module _ (holder : ℕ → Bool) (entry : ℕ → Option Entry) (spent : ℕ →
   of_consume c n r al = record {
     hold = o.hold;
     rung = o.rung;
-    checks = o.checks;
+    checks = record {
+      found = o.checks.found;
+      failed = o.checks.failed;
+      low = o.checks.low;
+      zero_failed = o.checks.zero_failed;
+    };
     zero = record {
       low = o.zero.low;
       held = o.zero.held;
@@ -303,6 +314,21 @@ module _ (holder : ℕ → Bool) (entry : ℕ → Option Entry) (spent : ℕ →
       kept d i q true s = tas_unmet words c d n (grind arith) (grind arith)
       kept d i q false s = unmet_stays c d n al (o.bits.kept d i (grind arith))
 
+  pub of_tas_for : (y p r : ℕ)
+      → OfView holder entry spent (consume words (page p) 1) (after (step.TasFor y p r) v)
+  of_tas_for y p r = record {
+    hold = o.hold;
+    rung = o.rung;
+    checks = o.checks;
+    zero = record {
+      low = o.zero.low;
+      held = o.zero.held;
+      here = o.zero.here;
+      owing = λ d m co e is σ. o.zero.owing d m co e (consume_sets_none words d (page p) 1 tt is) σ;
+    };
+    bits = record { kept = λ d i q. unmet_stays (page p) d 1 tt (o.bits.kept d i q); seen = o.bits.seen };
+  }
+
   pub of_woken : (y : ℕ) → OfView holder entry spent words (after (step.Woken y) v)
   of_woken y = record {
     hold = o.hold;
@@ -313,19 +339,28 @@ module _ (holder : ℕ → Bool) (entry : ℕ → Option Entry) (spent : ℕ →
     bits = o.bits;
   }
 
-  pub of_unflag : (y : ℕ) → OfView holder entry spent words (after (step.Unflag y) v)
-  of_unflag y = record {
+  pub of_unflag : (y : ℕ) (n : Option ℕ) → ((p : ℕ) → n ≡ Some p → met words (page p) ≡ false)
+      → OfView holder entry spent words (after (step.Unflag y n) v)
+  of_unflag y n set = record {
     hold = o.hold;
     rung = o.rung;
     checks = record {
       found = o.checks.found;
       failed = o.checks.failed;
-      low = λ x c n e. o.checks.low x c n (put_none v.checks.low y x c n e);
+      low = λ x c k e. o.checks.low x c k (put_none v.checks.low y x c k e);
       zero_failed = o.checks.zero_failed;
     };
     zero = o.zero;
-    bits = o.bits;
+    bits = record { kept = λ d i q. kept n d i q set (takes_note n d) refl; seen = o.bits.seen };
   }
+    where
+      kept : (n : Option ℕ) (d : Watch) → is_bit d ≡ true → (v.bits.keeps d || takes_note n d) ≡ true
+          → ((p : ℕ) → n ≡ Some p → met words (page p) ≡ false) → (b : Bool) → takes_note n d ≡ b
+          → met words d ≡ false
+      kept None d i q set true r = absurd (cc)
+      kept (Some p) d i q set true r = subst (λ (g : Watch). met words g ≡ false) (sym (same_bit_is d (page p) i r))
+          (set p refl)
+      kept n d i q set false r = o.bits.kept d i (grind arith)
 
   pub of_flag : (y w : ℕ) → OfView holder entry spent words (after (step.Flag y w) v)
   of_flag y w = record {

@@ -59,16 +59,13 @@ bit_free v c (watch.Var d o) sa i al = absurd (cc)
 
 pub publish_moves : (s : Table) (a : ℕ) (c : Watch) (n r : ℕ) → MayPublish (s.view a) c
     → Moves s a (step.Publish c n r)
-publish_moves s a c n r al x e on m z = elim (bool_or (same e.watch c)) [
-  | inl h ↦ inr (inl (
-    covers_published (s.view a) c n r x e (s.task (owner x)).state (inl h),
-    λ i. bit_free (s.view a) c e.watch h i al,
-  ))
-  | inr h ↦ framed s a (step.Publish c n r) x e on m
-      (back_waits s a (step.Publish c n r) x e on m (λ q. q) (λ q. q) (λ q. q)
-      (λ q. sym (publish_other s.words on c n (sym (same_trans on e.watch c z.watches) ∙ h)) ∙ q) z) refl
+publish_moves s a c n r al x e on m σ z = elim (bool_or (same e.watch c)) [
+  | inl h ↦ inr (inl (covers_published (s.view a) c n r x e σ (inl h), λ i. bit_free (s.view a) c e.watch h i al))
+  | inr h ↦ framed s a (step.Publish c n r) x e on m σ
+      (back_waits s a (step.Publish c n r) x e on m σ (λ q. q) (λ q. q) (λ _ q. q)
+      (λ q. sym (publish_other s.words on c n (sym (same_trans on e.watch c z.watches) ∙ h)) ∙ q) z)
       (λ q. q)
-      (λ q. covers_published (s.view a) c n r x e (s.task (owner x)).state (inr q))
+      (λ q. covers_published (s.view a) c n r x e σ (inr q))
 ]
 
 pub publish_flags : (s : Table) (a : ℕ) (c : Watch) (n r : ℕ) → NoLostFlag s

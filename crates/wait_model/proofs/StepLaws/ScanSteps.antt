@@ -25,7 +25,7 @@ use Rattle.wait_model.specs.declared.watches.Entry.{Entry}
 use Rattle.wait_model.specs.Facts.{Facts, OfView, BitFacts}
 use Rattle.wait_model.specs.Views.{View, checked, gone, ahead, covers, warns, all_cleared}
 use Rattle.wait_model.specs.Fold.{scanned, after}
-use Rattle.wait_model.specs.Watches.{head_of, is_bit, is_done, is_simple, is_woken, owner, part_of}
+use Rattle.wait_model.specs.Watches.{head_of, is_bit, is_done, is_simple, is_woken, is_page, owner, part_of}
 use Rattle.wait_model.specs.Tables.{Table, Words, next}
 use Rattle.wait_model.specs.Laws.{Waits, Unheard, Spent, NoLostFlag}
 use Rattle.wait_model.specs.Rows.{Allowed, IsUntested}
@@ -96,42 +96,47 @@ warns_scanned v h i w x e σ lt kept cov =
 -- a failed load of an untested entry is of a done count, found 0 in the hold in which the owner still is
 untested_zero : (v : View) (h x : ℕ) (e : Entry) (on : Watch) (m : ℕ) → IsUntested v h x → checked v x e on ≡ Some m
     → (is_done on ≡ true) × (v.hold.prepared ≡ true) × (v.checks.zero_failed x on ≡ Some m)
-untested_zero v h x e on m u ch = by (is_woken e.kind) (v.checks.flag_no x) (is_done on) ch
+untested_zero v h x e on m u ch =
+    by (is_woken e.kind) (v.checks.flag_no x) (is_page e.kind) (v.checks.tas_failed x on) (is_done on)
+    (u.tas_failed on) ch
   where
     prepared : v.checks.zero_failed x on ≡ Some m → (v.hold.prepared ≡ true) ⊎ ((c : Watch)
         → v.checks.zero_failed x c ≡ None) → v.hold.prepared ≡ true
     prepared z (inl p) = p
     prepared z (inr n) = absurd (let q : v.checks.zero_failed x on ≡ None = n on in cc)
 
-    by : (wo fl dn : Bool)
+    by : (wo fl pa ta dn : Bool) → ta ≡ false
         → (if wo then (if fl then v.checks.low x on else None)
+        else if pa then (if ta then Some 0 else None)
         else if dn then v.checks.zero_failed x on else v.checks.failed x on) ≡ Some m
         → (dn ≡ true) × (v.hold.prepared ≡ true) × (v.checks.zero_failed x on ≡ Some m)
-    by true true dn q = absurd (let z : v.checks.low x on ≡ None = u.low on in cc)
-    by true false dn q = absurd (cc)
-    by false fl true q = (refl, prepared q u.zero_failed, q)
-    by false fl false q = absurd (let z : v.checks.failed x on ≡ None = u.failed on in cc)
+    by true true pa ta dn free q = absurd (let z : v.checks.low x on ≡ None = u.low on in cc)
+    by true false pa ta dn free q = absurd (cc)
+    by false fl true ta dn free q = grind arith
+    by false fl false ta true free q = (refl, prepared q u.zero_failed, q)
+    by false fl false ta false free q = absurd (let z : v.checks.failed x on ≡ None = u.failed on in cc)
 
 pub scan_moves : (s : Table) (a h i w : ℕ) → Facts s → Allowed s a (step.Scan h i w)
     → Moves s a (step.Scan h i w)
-scan_moves s a h i w k al x e on m z =
-    by (back_waits s a (step.Scan h i w) x e on m (λ q. q) (λ q. q) (λ q. q) (λ q. q) z) (bool_or (clears h i w x e))
+scan_moves s a h i w k al x e on m σ z =
+    by (back_waits s a (step.Scan h i w) x e on m σ (λ q. q) (λ q. q) (λ _ q. q) (λ q. q) z)
+    (bool_or (clears h i w x e))
   where
-    by : Waits s x e on m → (clears h i w x e ≡ true) ⊎ (clears h i w x e ≡ false)
-        → Outcome s a (step.Scan h i w) x e on m
-    by old (inr kept) = framed s a (step.Scan h i w) x e on m old refl (λ q. q)
-        (covers_scanned (s.view a) h i w x e (s.task (owner x)).state (k.named x e old.stands) kept)
+    by : Waits s x e on m σ → (clears h i w x e ≡ true) ⊎ (clears h i w x e ≡ false)
+        → Outcome s a (step.Scan h i w) x e on m σ
+    by old (inr kept) = framed s a (step.Scan h i w) x e on m σ old (λ q. q)
+        (covers_scanned (s.view a) h i w x e σ (k.named x e old.stands) kept)
     by old (inl is) =
         let u = cleared_untested s a h i w x e al old.stands is in
         let d = untested_zero (s.view (owner x)) h x e on m u.1 old.failed in
         let zero : (s.view (owner x)).hold.zero on ≡ Some m = (k.views (owner x)).zero.here x on m d.1 d.2 in
-        let cov : IsTrue (covers (s.view (owner x)) x e (s.task (owner x)).state) =
-        zero_covers s (owner x) x e on m (s.task (owner x)).state k old.stands old.watches d.0 zero old.is_set in
+        let cov : IsTrue (covers (s.view (owner x)) x e σ) =
+        zero_covers s (owner x) x e on m σ k old.stands old.watches d.0 zero old.is_set in
         inr (inr (
           no_bit d.0,
           inl (
             owner x,
-            put_at (λ (v : View). IsTrue (covers v x e (s.task (owner x)).state)) s.view a
+            put_at (λ (v : View). IsTrue (covers v x e σ)) s.view a
                 (after (step.Scan h i w) (s.view a)) (owner x) (λ q. absurd (apart u.1 q)) (λ _. cov),
           ),
         ))

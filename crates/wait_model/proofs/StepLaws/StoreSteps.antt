@@ -23,21 +23,34 @@ use Rattle.wait_model.specs.declared.tasks.TaskRecord.{TaskRecord}
 use Rattle.wait_model.specs.Facts.{Facts, Kept}
 use Rattle.wait_model.specs.Views.{Walk, View, checked, gone, ahead, covers, warns}
 use Rattle.wait_model.specs.Fold.{after}
-use Rattle.wait_model.specs.Watches.{same, head_of, is_done, is_bit, is_woken, is_simple, owner}
+use Rattle.wait_model.specs.Watches.{same, head_of, is_done, is_bit, is_woken, is_simple, owner, is_page}
 use Rattle.wait_model.specs.Tables.{Table, met, next}
 use Rattle.wait_model.specs.Words.{flag_of}
 use Rattle.wait_model.specs.Laws.{Unheard}
 use Rattle.wait_model.specs.Rows.{Allowed}
 use Rattle.wait_model.proofs.StepLaws.QuietSteps.{back_waits}
-use Rattle.wait_model.proofs.StepLaws.UntouchedParts.{Free, Moves, framed, own_view, own_now, at_view}
+use Rattle.wait_model.proofs.StepLaws.UntouchedParts.{
+  Free,
+  Moves,
+  framed,
+  own_view,
+  own_now,
+  at_view,
+  Outcome,
+  back_view,
+}
 use Rattle.wait_model.proofs.Sameness.{same_bit, same_done_is, not_both}
 use Rattle.wait_model.proofs.Functions.{put_case, put_at, bool_or}
 use Rattle.wait_model.specs.declared.steps.Step.TheVariants as step
 
--- the own store of a state leaves only what a hold of a completion's head found
-pub stored_own : (v : View) (σ x : ℕ) (e : Entry) (on : Watch) (m : ℕ)
+-- the own store of a state leaves only what a hold of a completion's head found, and a page's failed test-and-set
+pub stored_own : (v : View) (σ x : ℕ) (e : Entry) (on : Watch) (m : ℕ) → is_page e.kind ≡ false
     → checked (after (step.State σ) v) x e on ≡ Some m → (is_done on ≡ true) × (v.hold.zero on ≡ Some m)
-stored_own v σ x e on m h = (grind arith, grind arith)
+stored_own v σ x e on m np h = (grind arith, grind arith)
+
+pub stored_page : (v : View) (σ x : ℕ) (e : Entry) (on : Watch) (m : ℕ) → is_page e.kind ≡ true
+    → checked (after (step.State σ) v) x e on ≡ Some m → checked v x e on ≡ Some m
+stored_page v σ x e on m pa h = grind arith
 
 -- a task that found done 0 in its hold, where it is no longer 0, covers every simple entry there
 pub zero_covers : (s : Table) (a x : ℕ) (e : Entry) (on : Watch) (m σ : ℕ) → Facts s → s.entry x ≡ Some e
@@ -65,27 +78,38 @@ pub stored_task : (s : Table) (a σ i : ℕ) → i ≢ a → ((next s a (step.St
 stored_task s a σ i ne = put_at (λ t. t ≡ s.task i) s.task a (record (s.task a) { state = σ }) i
     (λ q. absurd (ne q)) (λ _. refl)
 
-pub state_moves : (s : Table) (a σ : ℕ) → Facts s → Moves s a (step.State σ)
-state_moves s a σ k x e on m z = elim (put_case s.view a (after (step.State σ) (s.view a)) (owner x)) [
-  | inl q ↦ let own : (is_done on ≡ true) × ((s.view a).hold.zero on ≡ Some m) =
-      stored_own (s.view a) σ x e on m (subst (λ (v : View). checked v x e on ≡ Some m) q.1 z.failed) in
-      inr (inl (
-        zero_covers s a x e on m ((next s a (step.State σ)).task (owner x)).state k z.stands z.watches
-            own.0 own.1 z.is_set,
-        free_of_done s a (step.State σ) e on z.watches own.0,
-      ))
-  | inr q ↦ let same_task : (next s a (step.State σ)).task (owner x) ≡ s.task (owner x) =
-      stored_task s a σ (owner x) q.0 in
-      framed s a (step.State σ) x e on m
-      (record {
-        stands = z.stands;
-        watches = z.watches;
-        down = subst (λ (t : TaskRecord). t.state ≢ 0) same_task z.down;
-        failed = subst (λ (v : View). checked v x e on ≡ Some m) q.1 z.failed;
-        is_set = z.is_set;
-      })
-      (ap (λ (t : TaskRecord). t.state) same_task) (λ h. h) (λ h. h)
-]
+pub state_moves : (s : Table) (a state : ℕ) → Facts s → Moves s a (step.State state)
+state_moves s a state k x e on m σ z = by (is_page e.kind) refl
+  where
+    by : (b : Bool) → is_page e.kind ≡ b → Outcome s a (step.State state) x e on m σ
+    by true pa = framed s a (step.State state) x e on m σ
+        (record {
+          stands = z.stands;
+          watches = z.watches;
+          down = λ np. absurd (cc);
+          failed = back_view s a (after (step.State state) (s.view a)) (λ v. checked v x e on ≡ Some m)
+              (stored_page (s.view a) state x e on m pa) (owner x) z.failed;
+          is_set = z.is_set;
+        }) (λ h. h) (λ h. h)
+    by false np = elim (put_case s.view a (after (step.State state) (s.view a)) (owner x)) [
+      | inl q ↦ let own : (is_done on ≡ true) × ((s.view a).hold.zero on ≡ Some m) =
+          stored_own (s.view a) state x e on m np (subst (λ (v : View). checked v x e on ≡ Some m) q.1 z.failed) in
+          inr (inl (
+            zero_covers s a x e on m σ k z.stands z.watches own.0 own.1 z.is_set,
+            free_of_done s a (step.State state) e on z.watches own.0,
+          ))
+      | inr q ↦ let same_task : (next s a (step.State state)).task (owner x) ≡ s.task (owner x) =
+          stored_task s a state (owner x) q.0 in
+          framed s a (step.State state) x e on m σ
+          (record {
+            stands = z.stands;
+            watches = z.watches;
+            down = λ np. (ap (λ (t : TaskRecord). t.state) (sym same_task) ∙ (z.down np).0, (z.down np).1);
+            failed = subst (λ (v : View). checked v x e on ≡ Some m) q.1 z.failed;
+            is_set = z.is_set;
+          })
+          (λ h. h) (λ h. h)
+    ]
 
 pub queued_own : (v : View) (y : ℕ) (d : Entry) (x : ℕ) (e : Entry) (on : Watch) (m : ℕ) → x ≡ y
     → checked (after (step.Queue y d) v) x e on ≡ Some m → (is_done on ≡ true) × (v.hold.prepared ≡ true)
@@ -98,22 +122,22 @@ queued_other v y d x e on m q h = grind arith
 
 pub queue_moves : (s : Table) (a y : ℕ) (d : Entry) → Facts s → Facts (next s a (step.Queue y d))
     → Allowed s a (step.Queue y d) → Moves s a (step.Queue y d)
-queue_moves s a y d k k2 al x e on m z = elim (put_case s.entry y (Some d) x) [
+queue_moves s a y d k k2 al x e on m σ z = elim (put_case s.entry y (Some d) x) [
   | inl q ↦ let own : (is_done on ≡ true) × ((s.view a).hold.prepared ≡ true)
       × ((s.view a).checks.zero_failed x on ≡ Some m)
       = queued_own (s.view a) y d x e on m q.0 (at_view s a (owner x) (after (step.Queue y d) (s.view a))
       (λ v. checked v x e on ≡ Some m) (ap owner q.0 ∙ al.0) z.failed) in
       inr (inl (
-        own_now s a (after (step.Queue y d) (s.view a)) (λ v. IsTrue (covers v x e (s.task (owner x)).state))
-            (zero_covers (next s a (step.Queue y d)) a x e on m (s.task (owner x)).state k2 z.stands z.watches
+        own_now s a (after (step.Queue y d) (s.view a)) (λ v. IsTrue (covers v x e σ))
+            (zero_covers (next s a (step.Queue y d)) a x e on m σ k2 z.stands z.watches
             own.0
             (own_view s a (after (step.Queue y d) (s.view a)) (λ v. v.hold.zero on ≡ Some m)
             ((k.views a).zero.here x on m own.1 own.2)) z.is_set),
         free_of_done s a (step.Queue y d) e on z.watches own.0,
       ))
-  | inr q ↦ framed s a (step.Queue y d) x e on m
-      (back_waits s a (step.Queue y d) x e on m (queued_other (s.view a) y d x e on m q.0) (λ h. sym q.1
-      ∙ h) (λ h. h) (λ h. h) z) refl (λ h. h) (λ h. h)
+  | inr q ↦ framed s a (step.Queue y d) x e on m σ
+      (back_waits s a (step.Queue y d) x e on m σ (queued_other (s.view a) y d x e on m q.0) (λ h. sym q.1
+      ∙ h) (λ _ h. h) (λ h. h) z) (λ h. h) (λ h. h)
 ]
 
 pub flag_own : (v : View) (y w x : ℕ) (e : Entry) (on : Watch) (m : ℕ)
@@ -139,10 +163,10 @@ warns_covers v x e σ wo ru h =
     by o ow cl si fl ru c σ p k h = grind (arith, turn o fl ru c σ p k)
 
 pub flag_moves : (s : Table) (a y w : ℕ) → Kept s → Allowed s a (step.Flag y w) → Moves s a (step.Flag y w)
-flag_moves s a y w k al x e on m z = elim (put_case s.view a (after (step.Flag y w) (s.view a)) (owner x)) [
+flag_moves s a y w k al x e on m σ z = elim (put_case s.view a (after (step.Flag y w) (s.view a)) (owner x)) [
   | inl q ↦ elim
       (flag_own (s.view a) y w x e on m (subst (λ (v : View). checked v x e on ≡ Some m) q.1 z.failed)) [
-        | inl old ↦ framed s a (step.Flag y w) x e on m
+        | inl old ↦ framed s a (step.Flag y w) x e on m σ
             (record {
               stands = z.stands;
               watches = z.watches;
@@ -150,29 +174,28 @@ flag_moves s a y w k al x e on m z = elim (put_case s.view a (after (step.Flag y
               failed = subst (λ (i : ℕ). checked (s.view i) x e on ≡ Some m) (sym q.0) old;
               is_set = z.is_set;
             })
-            refl (λ h. h) (λ h. h)
-        | inr fresh ↦ elim (k.no_lost_flag x e on m (unheard q.0 fresh.0 fresh.1 fresh.2 fresh.3)
-            (s.task (owner x)).state) [
-              | inl h ↦ inr
-                  (inr (
-                    no_bit fresh.2,
-                    inl (
-                      h.0,
-                      warns_kept h.0 (warns_covers (s.view h.0) x e (s.task (owner x)).state fresh.2
-                          ((k.facts.views h.0).rung x) h.1),
-                    ),
-                  ))
-              | inr h ↦ inr (inr (no_bit fresh.2, inr h))
-            ]
+            (λ h. h) (λ h. h)
+        | inr fresh ↦ elim (k.no_lost_flag x e on m (unheard q.0 fresh.0 fresh.1 fresh.2 fresh.3) σ) [
+          | inl h ↦ inr
+              (inr (
+                no_bit fresh.2,
+                inl (
+                  h.0,
+                  warns_kept h.0 (warns_covers (s.view h.0) x e σ fresh.2
+                      ((k.facts.views h.0).rung x) h.1),
+                ),
+              ))
+          | inr h ↦ inr (inr (no_bit fresh.2, inr h))
+        ]
       ]
-  | inr q ↦ framed s a (step.Flag y w) x e on m
+  | inr q ↦ framed s a (step.Flag y w) x e on m σ
       (record {
         stands = z.stands;
         watches = z.watches;
         down = z.down;
         failed = subst (λ (v : View). checked v x e on ≡ Some m) q.1 z.failed;
         is_set = z.is_set;
-      }) refl
+      })
       (λ h. h) (λ h. h)
 ]
   where
@@ -193,8 +216,8 @@ flag_moves s a y w k al x e on m z = elim (put_case s.view a (after (step.Flag y
       is_set = z.is_set;
     }
 
-    warns_kept : (d : ℕ) → IsTrue (covers (s.view d) x e (s.task (owner x)).state)
-        → IsTrue (covers ((next s a (step.Flag y w)).view d) x e (s.task (owner x)).state)
-    warns_kept d h = put_at (λ (v : View). IsTrue (covers v x e (s.task (owner x)).state)) s.view a
+    warns_kept : (d : ℕ) → IsTrue (covers (s.view d) x e σ)
+        → IsTrue (covers ((next s a (step.Flag y w)).view d) x e σ)
+    warns_kept d h = put_at (λ (v : View). IsTrue (covers v x e σ)) s.view a
         (after (step.Flag y w) (s.view a)) d
-        (λ q. subst (λ (i : ℕ). IsTrue (covers (s.view i) x e (s.task (owner x)).state)) q h) (λ _. h)
+        (λ q. subst (λ (i : ℕ). IsTrue (covers (s.view i) x e σ)) q h) (λ _. h)

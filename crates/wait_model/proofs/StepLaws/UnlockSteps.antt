@@ -40,7 +40,7 @@ use Rattle.wait_model.specs.Views.{
   all_passed,
 }
 use Rattle.wait_model.specs.Fold.{paused, after_unlock}
-use Rattle.wait_model.specs.Watches.{same, head_of, is_done, is_bit, is_woken, is_simple, owner}
+use Rattle.wait_model.specs.Watches.{same, head_of, is_done, is_bit, is_woken, is_simple, owner, is_page}
 use Rattle.wait_model.specs.Tables.{Table, raised_spent, next}
 use Rattle.wait_model.specs.Laws.{Waits, Spent, NoLostFlag}
 use Rattle.wait_model.specs.Functions.{put}
@@ -70,8 +70,9 @@ unlock_checks v (Some w) sp = by (sp || all_passed v w (λ _. false))
 pub unlock_checked : (v : View) (o : Option Walk) (sp : Bool) (x : ℕ) (e : Entry) (on : Watch)
     → checked (after_unlock v o sp) x e on ≡ checked v x e on
 unlock_checked v o sp x e on = ap (λ (k : Checks). if is_woken e.kind
-    then (if k.flag_no x then k.low x on else None) else if is_done on then k.zero_failed x on
-    else k.failed x on) (unlock_checks v o sp)
+    then (if k.flag_no x then k.low x on else None)
+    else if is_page e.kind then (if k.tas_failed x on then Some 0 else None)
+    else if is_done on then k.zero_failed x on else k.failed x on) (unlock_checks v o sp)
 
 pub unlock_bits : (v : View) (o : Option Walk) (sp : Bool) → (after_unlock v o sp).bits ≡ v.bits
 unlock_bits v None sp = refl
@@ -144,7 +145,7 @@ unlock_cleared v (Some w) sp c x = grind arith
 
 pub unlock_gone : (v : View) (o : Option Walk) (sp : Bool) (x : ℕ) (e : Entry)
     → gone (after_unlock v o sp) x e ≡ false
-unlock_gone v o sp x e = ap (λ (h : Hold). if is_woken e.kind then h.rung x
+unlock_gone v o sp x e = ap (λ (h : Hold). if is_woken e.kind then h.rung x else if is_page e.kind then h.moot
     else (h.called (owner x) || h.moot)) (unlock_hold v o sp) ∙ grind arith
 
 pub unlock_flagged : (v : View) (o : Option Walk) (sp : Bool) (x : ℕ)
@@ -247,46 +248,46 @@ join_warns v v2 x e σ cl gn h k =
 pub checked_low : (s : Table) (x : ℕ) (e : Entry) (on : Watch) (m : ℕ) → Facts s → same on e.watch ≡ true
     → checked (s.view (owner x)) x e on ≡ Some m → m ≤ s.spent (head_of e.watch)
 checked_low s x e on m k sa h = subst (λ (i : ℕ). m ≤ s.spent i) (same_head on e.watch sa)
-    (by_kind (is_woken e.kind) ((s.view (owner x)).checks.flag_no x) h)
+    (by_kind (is_woken e.kind) (is_page e.kind) ((s.view (owner x)).checks.flag_no x)
+    ((s.view (owner x)).checks.tas_failed x on) h)
   where
     by_done : (b : Bool) → cond b ((s.view (owner x)).checks.zero_failed x on)
         ((s.view (owner x)).checks.failed x on) ≡ Some m → m ≤ s.spent (head_of on)
     by_done true h = (k.views (owner x)).checks.zero_failed x on m h
     by_done false h = (k.views (owner x)).checks.failed x on m h
 
-    by_kind : (b f : Bool) → cond b (cond f ((s.view (owner x)).checks.low x on) None)
-        (cond (is_done on) ((s.view (owner x)).checks.zero_failed x on)
-        ((s.view (owner x)).checks.failed x on)) ≡ Some m → m ≤ s.spent (head_of on)
-    by_kind true true h = (k.views (owner x)).checks.low x on m h
-    by_kind true false h = absurd (cc)
-    by_kind false f h = by_done (is_done on) h
+    by_kind : (b p f t : Bool) → cond b (cond f ((s.view (owner x)).checks.low x on) None)
+        (cond p (cond t (Some 0) None) (cond (is_done on) ((s.view (owner x)).checks.zero_failed x on)
+        ((s.view (owner x)).checks.failed x on))) ≡ Some m → m ≤ s.spent (head_of on)
+    by_kind true p true t h = (k.views (owner x)).checks.low x on m h
+    by_kind true p false t h = absurd (cc)
+    by_kind false true f true h = let z : 0 ≡ m = cc in omega arith
+    by_kind false true f false h = absurd (cc)
+    by_kind false false f t h = by_done (is_done on) h
 
 pub unlock_moves : (s : Table) (a h : ℕ) (sp : Bool) → Kept s → Allowed s a (step.Unlock h sp)
     → Moves s a (step.Unlock h sp)
-unlock_moves s a h sp k al x e on m z =
-    let old : Waits s x e on m = back_waits s a (step.Unlock h sp) x e on m
-    (λ q. sym (unlock_checked (s.view a) (s.view a).walk sp x e on) ∙ q) (λ q. q) (λ q. q) (λ q. q) z in
-    framed_or_spent s a (step.Unlock h sp) x e on m old refl
+unlock_moves s a h sp k al x e on m σ z =
+    let old : Waits s x e on m σ = back_waits s a (step.Unlock h sp) x e on m σ
+    (λ q. sym (unlock_checked (s.view a) (s.view a).walk sp x e on) ∙ q) (λ q. q) (λ _ q. q) (λ q. q) z in
+    framed_or_spent s a (step.Unlock h sp) x e on m σ old
     (λ q. (q.0, spent_stays sp s.spent h (head_of e.watch) m q.1))
-    (λ q. elim (unlock_keeps s a h sp x e m (s.task (owner x)).state (is_simple e.kind) (gone (s.view a) x e)
+    (λ q. elim (unlock_keeps s a h sp x e m σ (is_simple e.kind) (gone (s.view a) x e)
     (s.view a).walk k.facts al.0 old.stands (checked_low s x e on m k.facts old.watches old.failed) refl
     al.1 (λ i. i) (λ i. i) (left q) (right q)) [
       | inl r ↦ inl (join_covers (s.view a) (after_unlock (s.view a) (s.view a).walk sp) x e
-          (s.task (owner x)).state (unlock_cleared (s.view a) (s.view a).walk sp e.watch x)
+          σ (unlock_cleared (s.view a) (s.view a).walk sp e.watch x)
           (unlock_gone (s.view a) (s.view a).walk sp x e) q r)
       | inr r ↦ inr r
     ])
   where
-    left : IsTrue (covers (s.view a) x e (s.task (owner x)).state)
-        → (s.view a).duty.owes e.watch (s.task (owner x)).state ≡ true
+    left : IsTrue (covers (s.view a) x e σ) → (s.view a).duty.owes e.watch σ ≡ true
     left q = grind arith
 
-    right : IsTrue (covers (s.view a) x e (s.task (owner x)).state)
-        → (is_simple e.kind || ahead (s.view a).walk (gone (s.view a) x e) e.watch
-        (s.task (owner x)).state e.place) ≡ true
-    right q = by ((s.view a).duty.owes e.watch (s.task (owner x)).state) ((s.view a).duty.cleared e.watch x)
-        (is_simple e.kind || ahead (s.view a).walk (gone (s.view a) x e) e.watch
-        (s.task (owner x)).state e.place) q
+    right : IsTrue (covers (s.view a) x e σ)
+        → (is_simple e.kind || ahead (s.view a).walk (gone (s.view a) x e) e.watch σ e.place) ≡ true
+    right q = by ((s.view a).duty.owes e.watch σ) ((s.view a).duty.cleared e.watch x)
+        (is_simple e.kind || ahead (s.view a).walk (gone (s.view a) x e) e.watch σ e.place) q
       where
         by : (ow cl ah : Bool) → (ow && (not cl && ah)) ≡ true → ah ≡ true
         by ow cl ah h = grind arith

@@ -1,5 +1,5 @@
 -- A wake, and a lock.
-use Rattle.std.proofs.Common.{refl, subst, arith}
+use Rattle.std.proofs.Common.{refl, subst, arith, sym, ◌∙◌}
 use Rattle.std.specs.Prelude.{ℕ, ◌≡◌, ◌≢◌, Option, Some, None, Bool, true, false, IsTrue}
 use Rattle.wait_model.specs.declared.watches.Watch.{Watch}
 use Rattle.wait_model.specs.declared.watches.Entry.{Entry}
@@ -7,7 +7,7 @@ use Rattle.wait_model.specs.declared.watches.Aim.{Aim}
 use Rattle.wait_model.specs.Tasks.{meets}
 use Rattle.wait_model.specs.Views.{Walk, View, gone, ahead, covers}
 use Rattle.wait_model.specs.Fold.{begun, hits, after}
-use Rattle.wait_model.specs.Watches.{owner}
+use Rattle.wait_model.specs.Watches.{owner, is_page}
 use Rattle.wait_model.specs.Tables.{Table, next}
 use Rattle.wait_model.proofs.StepLaws.QuietSteps.{back_waits}
 use Rattle.wait_model.proofs.StepLaws.UntouchedParts.{Moves, framed}
@@ -28,15 +28,17 @@ ahead_woken : (o : Option Walk) (g g2 : Bool) (c : Watch) (σ p mask : ℕ)
 ahead_woken None g g2 c σ p mask k l h = refl
 ahead_woken (Some w) g g2 c σ p mask k l h = grind arith
 
-gone_woken : (v : View) (x : ℕ) (e : Entry) (who mask w σ : ℕ) → (owner x ≡ who → meets mask σ ≡ false)
-    → meets mask σ ≡ true → gone (after (step.Wake who mask w) v) x e ≡ gone v x e
+gone_woken : (v : View) (x : ℕ) (e : Entry) (who mask w σ : ℕ)
+    → (is_page e.kind ≡ false → owner x ≡ who → meets mask σ ≡ false) → meets mask σ ≡ true
+    → gone (after (step.Wake who mask w) v) x e ≡ gone v x e
 gone_woken v x e who mask w σ nope me = grind arith
 
 gone_not_hit : (v : View) (x : ℕ) (e : Entry) (who mask w : ℕ) → hits v.walk mask ≡ false
     → gone (after (step.Wake who mask w) v) x e ≡ gone v x e
 gone_not_hit v x e who mask w nope = grind arith
 
-covers_woken : (v : View) (x : ℕ) (e : Entry) (σ who mask w : ℕ) → (owner x ≡ who → meets mask σ ≡ false)
+covers_woken : (v : View) (x : ℕ) (e : Entry) (σ who mask w : ℕ)
+    → (is_page e.kind ≡ false → owner x ≡ who → meets mask σ ≡ false)
     → IsTrue (covers v x e σ) → IsTrue (covers (after (step.Wake who mask w) v) x e σ)
 covers_woken v x e σ who mask w nope h =
     grind (
@@ -46,13 +48,20 @@ covers_woken v x e σ who mask w nope h =
     )
 
 pub wake_moves : (s : Table) (a who mask w : ℕ) → Moves s a (step.Wake who mask w)
-wake_moves s a who mask w x e on m z =
-    let both : (((next s a (step.Wake who mask w)).task (owner x)).state ≡ (s.task (owner x)).state)
-    × (owner x ≡ who → meets mask (s.task (owner x)).state ≡ false) =
-    wake_state s a who mask w (owner x) z.down in
-    framed s a (step.Wake who mask w) x e on m (back_waits s a (step.Wake who mask w) x e on m (λ h. h)
-    (λ h. h) (subst (λ (n : ℕ). n ≢ 0) both.0) (λ h. h) z) both.0 (λ h. h)
-    (covers_woken (s.view a) x e (s.task (owner x)).state who mask w both.1)
+wake_moves s a who mask w x e on m σ z = framed s a (step.Wake who mask w) x e on m σ
+    (back_waits s a (step.Wake who mask w) x e on m σ (λ h. h) (λ h. h) (λ ne q. sym (both ne q).0 ∙ q) (λ h. h) z)
+    (λ h. h) (covers_woken (s.view a) x e σ who mask w unmet)
+  where
+    both : σ ≢ 0 → ((next s a (step.Wake who mask w)).task (owner x)).state ≡ σ
+        → (((next s a (step.Wake who mask w)).task (owner x)).state ≡ (s.task (owner x)).state)
+        × (owner x ≡ who → meets mask (s.task (owner x)).state ≡ false)
+    both ne q = wake_state s a who mask w (owner x) (subst (λ (n : ℕ). n ≢ 0) (sym q) ne)
+
+    unmet : is_page e.kind ≡ false → owner x ≡ who → meets mask σ ≡ false
+    unmet np own = let d : (((next s a (step.Wake who mask w)).task (owner x)).state ≡ σ) × (σ ≢ 0) = z.down np in
+        let f : (((next s a (step.Wake who mask w)).task (owner x)).state ≡ (s.task (owner x)).state)
+        × (owner x ≡ who → meets mask (s.task (owner x)).state ≡ false) = both d.1 d.0 in
+        subst (λ (n : ℕ). meets mask n ≡ false) (sym f.0 ∙ d.0) (f.1 own)
 
 pub ahead_begun : (o : Option Walk) (aim : Option Aim) (g : Bool) (c : Watch) (σ p : ℕ)
     → IsTrue (ahead o g c σ p) → IsTrue (ahead (begun o aim) false c σ p)
@@ -73,6 +82,6 @@ covers_locked v h aim w x e σ q = grind (
 )
 
 pub lock_moves : (s : Table) (a h : ℕ) (aim : Option Aim) (w : ℕ) → Moves s a (step.Lock h aim w)
-lock_moves s a h aim w x e on m z =
-    framed s a (step.Lock h aim w) x e on m (back_waits s a (step.Lock h aim w) x e on m (λ q. q) (λ q. q)
-    (λ q. q) (λ q. q) z) refl (λ q. q) (covers_locked (s.view a) h aim w x e (s.task (owner x)).state)
+lock_moves s a h aim w x e on m σ z = framed s a (step.Lock h aim w) x e on m σ
+    (back_waits s a (step.Lock h aim w) x e on m σ (λ q. q) (λ q. q) (λ _ q. q) (λ q. q) z) (λ q. q)
+    (covers_locked (s.view a) h aim w x e σ)

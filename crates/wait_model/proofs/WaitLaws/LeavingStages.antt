@@ -40,15 +40,16 @@ use Rattle.wait_model.specs.declared.points.WalkPoint.TheVariants as walking
 use Rattle.wait_model.specs.declared.points.Progress.{Progress}
 use Rattle.wait_model.specs.declared.points.Progress.TheVariants as now
 use Rattle.wait_model.specs.Tasks.{meets, pending, woken, slept}
-use Rattle.wait_model.specs.Watches.{head_of}
+use Rattle.wait_model.specs.Watches.{head_of, is_page}
 use Rattle.wait_model.specs.Readings.{Quiet, FailedLoad}
 use Rattle.wait_model.specs.Points.{call_aim, called_task, given_at}
 use Rattle.wait_model.specs.Programs.{go, call_fails, load, call_next, call_entry, onward, past, wake_off_event}
 use Rattle.wait_model.specs.Runs.{State, own, progress_at, after_event}
-use Rattle.wait_model.specs.Reached.{taken_off, taken_by}
+use Rattle.wait_model.specs.Reached.{taken_off, taken_by, handed_by}
 use Rattle.wait_model.proofs.Functions.{put_same}
 use Rattle.wait_model.proofs.WaitLaws.WaitStages.{Stage, outside, dozing, stage, IsAt, IsStaged, FitsStage, IsAwake}
 use Rattle.wait_model.proofs.WaitLaws.WaitStages.{own_up}
+use Rattle.wait_model.specs.declared.points.PageStage.TheVariants as staging
 
 abbrev pub stage_in : Progress → Stage
 stage_in (now.Open call p) = stage p
@@ -97,12 +98,12 @@ module _ (s : State) (me : ℕ) (call : Call) (p : Point) where
 
   -- whom an event takes off, and what it stores
   abbrev pub Takes : Event → Type 0
-  Takes (event.Unqueue who) = (who ≡ me) ⊎ (taken_off p ≡ Some who)
+  Takes (event.Unqueue who) = (who ≡ me) ⊎ ((taken_off p ≡ Some who) ⊎ (handed_by (now.Open call p) ≡ Some who))
   Takes _ = Unit {0}
 
   abbrev pub Stores : Event → Type 0
   Stores (event.State v) = (v ≡ 0) ⊎ ((e : Entry) → s.table.entry (own me) ≡ Some e
-      → IsGoing e.kind
+      → IsGoing e.kind → is_page e.kind ≡ false
       → (s.table.view me).hold.head ≡ Some (head_of e.watch))
   Stores _ = Unit {0}
 
@@ -175,6 +176,12 @@ module _ (s : State) (me : ℕ) (call : Call) (p : Point) where
       where
         by : (b : Bool) → IsGood (go (load call seen) (at.Walk (if b then walking.Call (past w c false)
             else walking.Bit w c)))
+        by true = calm _ tt tt tt refl refl tt
+        by false = calm _ tt tt tt refl refl tt
+    called_good w c m e kind.Page seen = by (call_fails call seen)
+      where
+        by : (b : Bool) → IsGood (go (load call seen) (at.Walk (if b then walking.Stopped w
+            else walking.Page staging.Try w c)))
         by true = calm _ tt tt tt refl refl tt
         by false = calm _ tt tt tt refl refl tt
     called_good w c m e k seen = onward_good _ (past w c (meets m (s.table.task c.who).state)) tt tt tt

@@ -1,5 +1,4 @@
 -- A task's own event takes its wait to the next stage.
-use Rattle.wait_model.specs.declared.layout.TheConstants.{INTERRUPTIBLE, UNINTERRUPTIBLE, KILLABLE, NORMAL}
 use Rattle.wait_model.proofs.WordLaws.CondWords.{head_of_bare}
 use Rattle.wait_model.specs.Tables.{value_of}
 use Rattle.wait_model.specs.Counts.{taken_done}
@@ -67,7 +66,7 @@ use Rattle.wait_model.specs.declared.points.WokenPoint.TheVariants as hearing
 use Rattle.wait_model.specs.declared.points.Progress.TheVariants as now
 use Rattle.wait_model.specs.Functions.{put}
 use Rattle.wait_model.specs.Tasks.{IsLawful, sleep_of, meets, pending, woken, slept, task_word, state_mask, looks_in}
-use Rattle.wait_model.specs.Watches.{head_of, bare, mask_of, misses, failing}
+use Rattle.wait_model.specs.Watches.{head_of, bare, mask_of, misses, failing, word_of, bit_of, is_page}
 use Rattle.wait_model.specs.Readings.{FailedLoad}
 use Rattle.wait_model.specs.Points.{
   call_number,
@@ -106,7 +105,7 @@ use Rattle.wait_model.specs.Programs.{
 }
 use Rattle.wait_model.specs.Queues.{place_for}
 use Rattle.wait_model.specs.Runs.{State, own, entry_for, called_at, seen_by, planned}
-use Rattle.wait_model.specs.Reached.{held_at, taken_off, HomeAt}
+use Rattle.wait_model.specs.Reached.{held_at, taken_off, HomeAt, IsHome, pages}
 use Rattle.wait_model.proofs.Functions.{put_same}
 use Rattle.wait_model.proofs.RunLaws.OthersEvents.{goes_not_stands}
 use Rattle.wait_model.proofs.WaitLaws.OutsideStages.{unset}
@@ -136,7 +135,15 @@ use Rattle.wait_model.proofs.WaitLaws.WaitStages.{
   FitsStage,
   IsAwake,
   own_up,
+  napping,
+  low_woken,
 }
+use Rattle.wait_model.specs.declared.points.PagePoint.{PagePoint}
+use Rattle.wait_model.specs.declared.points.PageStage.{PageStage}
+use Rattle.wait_model.specs.declared.points.PageStage.TheVariants as staging
+use Rattle.wait_model.specs.declared.points.PagePoint.TheVariants as paging
+use Rattle.wait_model.specs.Words.{flag, bit_at}
+use Rattle.wait_model.specs.declared.queues.Walking.{Walking}
 
 -- where a wait stores a state that is not RUNNING it holds its entry's head
 store_held : (s : State) (me : ℕ) (call : Call) (e : Entry)
@@ -240,28 +247,6 @@ select_takes (calls.CompleteAll d) = refl
 select_takes calls.Remove = refl
 select_takes c = refl
 
--- after a wake with NORMAL a task is RUNNING
-meets_normal : (meets NORMAL INTERRUPTIBLE ≡ true) × (meets NORMAL UNINTERRUPTIBLE ≡ true)
-    × (meets NORMAL KILLABLE ≡ true)
-unfolding meets
-meets_normal = (refl, refl, refl)
-
-low_woken : (t : TaskRecord) → IsLawful t → (woken (mask_of mode.Normal) t).state ≡ 0
-low_woken t l = elim l.state [
-  | inl z ↦ stays (meets 3 t.state) z
-  | inr b ↦ elim b [
-    | inl z ↦ rw (ap (meets 3) z ∙ meets_normal.0) refl
-    | inr d ↦ elim d [
-      | inl z ↦ rw (ap (meets 3) z ∙ meets_normal.1) refl
-      | inr z ↦ rw (ap (meets 3) z ∙ meets_normal.2) refl
-    ]
-  ]
-]
-  where
-    stays : (b : Bool) → t.state ≡ 0 → (if b then record t { state = 0; runnable = true } else t).state ≡ 0
-    stays true z = refl
-    stays false z = z
-
 module _ (s : State) (me : ℕ) (call : Call) where
   -- what is known of the task at a point
   pub record Known (p : Point) : Type 0 where
@@ -287,7 +272,7 @@ module _ (s : State) (me : ℕ) (call : Call) where
     );
     taken = λ who some. absurd (cc);
     takes = tt;
-    stores = inr (λ e q k. store_held s me call e held
+    stores = inr (λ e q k _. store_held s me call e held
         (let z : Some d ≡ Some e = sym is ∙ q in let y : d ≡ e = cc in
         subst (λ (g : Entry). g.watch ≡ bare (call_watch call)) y home.0));
     fits = tt;
@@ -406,7 +391,7 @@ module _ (s : State) (me : ℕ) (call : Call) where
     );
     taken = λ who some. absurd (cc);
     takes = tt;
-    stores = inr (λ e q g. store_held s me call e k.held
+    stores = inr (λ e q g _. store_held s me call e k.held
         (subst (λ (o : Option Entry). HomeAt (now.Open call (at.Prepare preparing.State)) o) q k.home).0);
     fits = tt;
   }
@@ -513,6 +498,95 @@ module _ (s : State) (me : ℕ) (call : Call) where
   active_good true k = calm s me call at.Active k.up _ tt tt tt refl refl tt
   active_good false k = calm s me call at.Active k.up _ tt tt tt refl refl tt
 
+  hands_good : (st : PageStage) (w : Walking) (c : CalledEntry) → Known (at.Walk (walking.Page st w c))
+      → IsGood s me call (at.Walk (walking.Page st w c)) (planned s me call (at.Walk (walking.Page st w c)))
+  hands_good staging.Try w c k = by (misses (call_watch call) (value_of s.table.words (call_watch call)))
+    where
+      by : (b : Bool) → IsGood s me call (at.Walk (walking.Page staging.Try w c)) (go
+          (event.TasFor (word_of (call_watch call)) c.who
+          (flag (bit_at (value_of s.table.words (call_watch call)) (bit_of (call_watch call)))))
+          (at.Walk (if b then walking.Stopped w else walking.Page staging.Hand w c)))
+      by true = calm s me call (at.Walk (walking.Page staging.Try w c)) k.up _ tt tt tt refl refl tt
+      by false = calm s me call (at.Walk (walking.Page staging.Try w c)) k.up _ tt tt tt refl refl tt
+  hands_good staging.Hand w c k = calm s me call (at.Walk (walking.Page staging.Hand w c)) k.up _ tt tt tt refl refl tt
+  hands_good staging.Wake w c k = calm s me call (at.Walk (walking.Page staging.Wake w c)) k.up _ tt tt tt refl refl tt
+  hands_good staging.Off w c k =
+      onward_good s me call (at.Walk (walking.Page staging.Off w c)) k.up _ (past w c true) tt
+      (inr (inr refl)) tt
+
+  -- a wait for a page listens to its flag
+  listens : (p : PagePoint) (e : Event) (q : PagePoint) → Known (at.Page p)
+      → Takes s me call (at.Page p) e → Stores s me call (at.Page p) e → stage (at.Page q) ≡ napping
+      → IsGood s me call (at.Page p) (go e (at.Page q))
+  listens p e q k t st nap = record {
+    staged = subst (λ (g : Stage). IsAt g ((then_by s me call (at.Page p) e).table.task me)
+        ((then_by s me call (at.Page p) e).table.entry (own me)) ((then_by s me call (at.Page p) e).table.history me)
+        (own me) call) (sym nap) tt;
+    taken = λ who some. absurd (cc);
+    takes = t;
+    stores = st;
+    fits = k.fits;
+  }
+
+  page_finish_good : (p : FinishPoint) → Known (at.Page (paging.Finish p))
+      → IsGood s me call (at.Page (paging.Finish p)) (planned s me call (at.Page (paging.Finish p)))
+  page_finish_good finishing.State k = listens (paging.Finish finishing.State) _ (paging.Finish finishing.Look) k tt
+      (inl refl) refl
+  page_finish_good finishing.Look k = either s me call (at.Page (paging.Finish finishing.Look)) k.up
+      (is_some (s.table.entry (own me))) _ _
+      (listens (paging.Finish finishing.Look) _ (paging.Finish finishing.Lock) k tt tt refl)
+      (listens (paging.Finish finishing.Look) _ paging.Last k tt tt refl)
+  page_finish_good finishing.Lock k = listens (paging.Finish finishing.Lock) _ (paging.Finish finishing.Queue) k tt tt
+      refl
+  page_finish_good finishing.Queue k = either s me call (at.Page (paging.Finish finishing.Queue)) k.up
+      (is_some (s.table.entry (own me))) _ _
+      (listens (paging.Finish finishing.Queue) _ (paging.Finish finishing.Unlock) k (inl refl) tt refl)
+      (listens (paging.Finish finishing.Queue) _ paging.Last k tt tt refl)
+  page_finish_good finishing.Unlock k = listens (paging.Finish finishing.Unlock) _ paging.Last k tt tt refl
+
+  page_good : (p : PagePoint) → Known (at.Page p) → IsGood s me call (at.Page p) (planned s me call (at.Page p))
+  page_good paging.First k = either s me call (at.Page paging.First) k.up (unset s call) _ _
+      (listens paging.First _ paging.Unflag k tt tt refl)
+      (calm s me call (at.Page paging.First) k.up _ tt tt tt refl refl tt)
+  page_good paging.Unflag k = listens paging.Unflag _ paging.Lock k tt tt refl
+  page_good paging.Lock k = listens paging.Lock _ paging.Queue k tt tt refl
+  page_good paging.Queue k = listens paging.Queue _ paging.Try k tt tt refl
+  page_good paging.Try k = by (unset s call)
+    where
+      by : (b : Bool) → IsGood s me call (at.Page paging.Try)
+          (go (exchange call (seen_by s me call (at.Page paging.Try)))
+          (at.Page (if b then paging.Unlock false else paging.Off)))
+      by true = listens paging.Try _ (paging.Unlock false) k tt tt refl
+      by false = listens paging.Try _ paging.Off k tt tt refl
+  page_good paging.Off k = listens paging.Off _ (paging.Unlock true) k (inl refl) tt refl
+  page_good (paging.Unlock true) k = calm s me call (at.Page (paging.Unlock true)) k.up _ tt tt tt refl refl tt
+  page_good (paging.Unlock false) k = listens (paging.Unlock false) _ paging.State k tt tt refl
+  page_good paging.State k = listens paging.State _ paging.Flag k tt (inr (λ e q g np. absurd (paged e q np))) refl
+    where
+      paged : (e : Entry) → s.table.entry (own me) ≡ Some e → is_page e.kind ≡ false → ⊥
+      paged e q np =
+          let h : IsHome pages (call_watch call) (Some e) = subst (IsHome pages (call_watch call)) q k.home in
+          let z : is_page e.kind ≡ true = ap is_page h.1 in cc
+  page_good paging.Flag k = by (s.table.flag (own me)) (looks_in (state_in call))
+    where
+      by : (b l : Bool) → IsGood s me call (at.Page paging.Flag) (go (event.Flag b)
+          (at.Page (if b then paging.Finish finishing.State else if l then paging.Look else paging.Sleep)))
+      by true l = listens paging.Flag _ (paging.Finish finishing.State) k tt tt refl
+      by false true = listens paging.Flag _ paging.Look k tt tt refl
+      by false false = listens paging.Flag _ paging.Sleep k tt tt refl
+  page_good paging.Look k = by (pending (state_mask (state_in call)) (s.table.task me))
+    where
+      by : (b : Bool) → IsGood s me call (at.Page paging.Look) (go (event.Look b)
+          (at.Page (if b then paging.Finish finishing.State else paging.Sleep)))
+      by true = listens paging.Look _ (paging.Finish finishing.State) k tt tt refl
+      by false = listens paging.Look _ paging.Sleep k tt tt refl
+  page_good paging.Sleep k = listens paging.Sleep _ paging.State k tt tt refl
+  page_good (paging.Finish p) k = page_finish_good p k
+  page_good paging.Last k = either s me call (at.Page paging.Last) k.up (s.table.flag (own me)) _ _
+      (listens paging.Last _ paging.Clear k tt tt refl)
+      (calm s me call (at.Page paging.Last) k.up _ tt tt tt refl refl tt)
+  page_good paging.Clear k = calm s me call (at.Page paging.Clear) k.up _ tt tt tt refl refl tt
+
   walk_good : (p : WalkPoint) → Known (at.Walk p)
       → IsGood s me call (at.Walk p) (planned s me call (at.Walk p))
   walk_good walking.Lock k = calm s me call (at.Walk walking.Lock) k.up _ tt tt tt refl refl tt
@@ -528,7 +602,9 @@ module _ (s : State) (me : ℕ) (call : Call) where
   walk_good (walking.Wake w c) k = onward_good s me call (at.Walk (walking.Wake w c)) k.up _
       (past w c (meets (mask_of (mode_of call)) (s.table.task c.who).state)) tt tt tt
   walk_good (walking.Unqueue w who) k = onward_good s me call (at.Walk (walking.Unqueue w who)) k.up _ w tt
-      (inr refl) tt
+      (inr (inl refl)) tt
+  walk_good (walking.Page st w c) k = hands_good st w c k
+  walk_good (walking.Stopped w) k = calm s me call (at.Walk (walking.Stopped w)) k.up _ tt tt tt refl refl tt
   walk_good (walking.Spent w) k = calm s me call (at.Walk (walking.Spent w)) k.up _ tt tt tt refl refl tt
   walk_good (walking.BreakUnlock w) k = calm s me call (at.Walk (walking.BreakUnlock w)) k.up _ tt tt tt refl
       refl tt
@@ -583,7 +659,7 @@ module _ (s : State) (me : ℕ) (call : Call) where
   select_good (selecting.Next j) k = either s me call (at.Select (selecting.Next j)) k.up (is_enough call j) _ _
       (calm s me call (at.Select (selecting.Next j)) k.up _ tt tt tt refl refl tt)
       (chosen_good j k (called_at s call (at.Select (selecting.Next j))))
-  select_good (selecting.Off j who) k = calm s me call (at.Select (selecting.Off j who)) k.up _ tt (inr refl) tt
+  select_good (selecting.Off j who) k = calm s me call (at.Select (selecting.Off j who)) k.up _ tt (inr (inl refl)) tt
       refl refl tt
 
   -- a wait for a completion
@@ -654,7 +730,7 @@ module _ (s : State) (me : ℕ) (call : Call) where
   woken_good : (p : WokenPoint) → Known (at.Woken p)
       → IsGood s me call (at.Woken p) (planned s me call (at.Woken p))
   woken_good hearing.State k = calm s me call (at.Woken hearing.State) k.up _ tt tt
-      (inr (λ e q g. absurd (goes_not_stands e.kind g
+      (inr (λ e q g np. absurd (goes_not_stands e.kind g
       (subst (λ (o : Option Entry). HomeAt (now.Open call (at.Woken hearing.State)) o) q k.home)))) refl
       refl k.fits
   woken_good hearing.Flag k = flag_good k (s.table.flag (own me))
@@ -692,6 +768,7 @@ module _ (s : State) (me : ℕ) (call : Call) where
   good (at.Leave p) k = leave_good p k
   good (at.Finish p failed) k = finish_good p failed k
   good (at.Bit p) k = bit_good p k
+  good (at.Page p) k = page_good p k
   good at.Worn k = worn_good k
   good at.Publish k = calm s me call at.Publish k.up _ (published_awake s me (given_at call at.Publish) call)
       (published_takes s me call at.Publish call) (published_stores s me call at.Publish call) refl refl tt

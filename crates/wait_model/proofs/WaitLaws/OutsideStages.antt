@@ -45,6 +45,8 @@ use Rattle.wait_model.specs.Programs.{
   is_enough,
 }
 use Rattle.wait_model.specs.Runs.{State, own, seen_by, planned}
+use Rattle.wait_model.specs.declared.points.PageStage.TheVariants as staging
+use Rattle.wait_model.specs.declared.points.PagePoint.TheVariants as paging
 
 -- what holds of both answers of a test
 pub either : {A : Type 0} (P : A → Type 0) (b : Bool) (x y : A) → P x → P y → P (if b then x else y)
@@ -108,6 +110,7 @@ module _ (s : State) (me : ℕ) (call : Call) (P : Planned → Type 0) (ends : (
   entry_aside w c kind.Woken seen hit = goes _ _ refl
   entry_aside w c kind.Bit seen hit = goes _ _ refl
   entry_aside w c kind.Var seen hit = goes _ _ refl
+  entry_aside w c kind.Page seen hit = goes _ _ refl
   entry_aside w c j seen hit = onward_aside (event.Wake c.who hit) (past w c hit)
 
   next_aside : (w : Walking) (o : Option CalledEntry) (seen : Seen) (hit : Bool)
@@ -126,6 +129,11 @@ module _ (s : State) (me : ℕ) (call : Call) (P : Planned → Type 0) (ends : (
   walk_aside (walking.Wake w c) = onward_aside _
       (past w c (meets (mask_of (mode_of call)) (at_walk (walking.Wake w c)).other.state))
   walk_aside (walking.Bit w c) = goes _ _ refl
+  walk_aside (walking.Page staging.Try w c) = goes _ _ refl
+  walk_aside (walking.Page staging.Hand w c) = goes _ _ refl
+  walk_aside (walking.Page staging.Wake w c) = goes _ _ refl
+  walk_aside (walking.Page staging.Off w c) = onward_aside _ (past w c true)
+  walk_aside (walking.Stopped w) = ends _ _
   walk_aside (walking.Unqueue w who) = onward_aside _ w
   walk_aside (walking.Spent w) = ends _ _
   walk_aside (walking.BreakUnlock w) = goes _ _ refl
@@ -175,6 +183,27 @@ module _ (s : State) (me : ℕ) (call : Call) (P : Planned → Type 0) (ends : (
   aside_step (at.Bit biting.Sleep) o = absurd o
   aside_step (at.Bit biting.Look) o = absurd o
   aside_step (at.Bit (biting.Again failed)) o = absurd o
+  aside_step (at.Page paging.First) o = either P (unset s call) _ _ (goes _ _ refl) (ends _ _)
+  aside_step (at.Page paging.Unflag) o = goes _ _ refl
+  aside_step (at.Page paging.Lock) o = goes _ _ refl
+  aside_step (at.Page paging.Queue) o = goes _ _ refl
+  aside_step (at.Page paging.Try) o = goes _ _ refl
+  aside_step (at.Page paging.Off) o = goes _ _ refl
+  aside_step (at.Page (paging.Unlock true)) o = ends _ _
+  aside_step (at.Page (paging.Unlock false)) o = goes _ _ refl
+  aside_step (at.Page paging.State) o = goes _ _ refl
+  aside_step (at.Page paging.Flag) o = goes _ _ refl
+  aside_step (at.Page paging.Look) o = goes _ _ refl
+  aside_step (at.Page paging.Sleep) o = goes _ _ refl
+  aside_step (at.Page (paging.Finish finishing.State)) o = goes _ _ refl
+  aside_step (at.Page (paging.Finish finishing.Look)) o = either P (is_some (s.table.entry (own me))) _ _
+      (goes _ _ refl) (goes _ _ refl)
+  aside_step (at.Page (paging.Finish finishing.Lock)) o = goes _ _ refl
+  aside_step (at.Page (paging.Finish finishing.Queue)) o = either P (is_some (s.table.entry (own me))) _ _
+      (goes _ _ refl) (goes _ _ refl)
+  aside_step (at.Page (paging.Finish finishing.Unlock)) o = goes _ _ refl
+  aside_step (at.Page paging.Last) o = either P (s.table.flag (own me)) _ _ (goes _ _ refl) (ends _ _)
+  aside_step (at.Page paging.Clear) o = ends _ _
   aside_step at.Publish o = goes _ _ refl
   aside_step at.Active o = active_aside (seen_by s me call at.Active).members
   aside_step (at.Walk p) o = walk_aside p

@@ -1,10 +1,11 @@
 -- Whoever is asleep in a wait sleeps on the watch of its call, whatever it waits for.
 use Rattle.std.proofs.lemmas.Bool.Decides.{nat_tests}
 use Rattle.std.proofs.Common.{refl, sym, ◌∙◌, ap, subst, arith}
-use Rattle.std.specs.Prelude.{ℕ, ◌≡◌, ◌≢◌, ◌≤◌, Bool, true, false, nat_lt, if◌then◌else◌, Some, List}
+use Rattle.std.specs.Prelude.{ℕ, ◌≡◌, ◌≢◌, ◌≤◌, Bool, true, false, nat_lt, if◌then◌else◌, Option, Some, None, List}
 use Rattle.wait_model.specs.declared.layout.TheConstants.{FIRST_SIMPLE, EVENTS}
 use Rattle.wait_model.specs.declared.watches.Watch.{Watch}
 use Rattle.wait_model.specs.declared.watches.Watch.TheVariants as watch
+use Rattle.wait_model.specs.declared.watches.Kind.{Kind}
 use Rattle.wait_model.specs.declared.watches.Kind.TheVariants as kind
 use Rattle.wait_model.specs.declared.watches.Entry.{Entry}
 use Rattle.wait_model.specs.declared.steps.Step.{Step}
@@ -19,23 +20,35 @@ use Rattle.wait_model.specs.declared.points.AwaitPoint.TheVariants as awaiting
 use Rattle.wait_model.specs.declared.points.BitPoint.TheVariants as biting
 use Rattle.wait_model.specs.declared.points.Progress.{Progress}
 use Rattle.wait_model.specs.declared.points.Progress.TheVariants as now
-use Rattle.wait_model.specs.Watches.{same, bare, kind_for, is_done, is_woken}
+use Rattle.wait_model.specs.Watches.{same, bare, kind_for, is_done, is_woken, is_page}
 use Rattle.wait_model.specs.Views.{View}
 use Rattle.wait_model.specs.Fold.{view_of}
 use Rattle.wait_model.specs.Points.{call_watch, is_await, is_bit_wait}
 use Rattle.wait_model.specs.Runs.{State, own, IsRun, state_of, made_in}
-use Rattle.wait_model.specs.Reached.{IsFitted, IsSoundCall}
-use Rattle.wait_model.specs.Readings.{FailedBy}
+use Rattle.wait_model.specs.Reached.{HomeAt, IsFitted, IsSoundCall, IsSound}
+use Rattle.wait_model.specs.Histories.{Since}
+use Rattle.wait_model.specs.Readings.{FailedBy, finds_set, queues}
+use Rattle.wait_model.specs.Selections.{is_page_lock}
 use Rattle.wait_model.specs.Wakes.{Sleeps}
 use Rattle.wait_model.specs.Waiters.{is_wait, WaitsFor, IsSafe, NoRunLosesWaiter}
 use Rattle.wait_model.proofs.WordLaws.DecodedWords.{owner_own}
 use Rattle.wait_model.proofs.RunLaws.EveryRun.{sound_of}
 use Rattle.wait_model.proofs.HistoryLaws.ViewsTold.{views_told}
-use Rattle.wait_model.proofs.HistoryLaws.NoLostWake.{no_run_loses_wake}
+use Rattle.wait_model.proofs.HistoryLaws.NoLostWake.{no_run_loses_wake, tas_told}
 use Rattle.wait_model.proofs.HistoryLaws.ZeroLoads.{zero_told}
 use Rattle.wait_model.proofs.WaitLaws.WaitStages.{dozing, stage, IsTested, IsListening}
 use Rattle.wait_model.proofs.WaitLaws.Waiters.{IsDownInWait, down_of}
+use Rattle.wait_model.proofs.WaitLaws.PageTurns.{
+  ArePagesTold,
+  FoundSet,
+  IsPaged,
+  is_paging,
+  is_turning,
+}
+use Rattle.wait_model.proofs.WaitLaws.PageWaiters.{told_of}
 use Rattle.wait_model.proofs.WaitLaws.ZeroCounts.{IsZero, ZeroAt, zero_of}
+use Rattle.wait_model.proofs.RunLaws.PagesHanded.{kind_plain}
+use Rattle.wait_model.specs.declared.points.PagePoint.TheVariants as paging
 
 -- the call of a task that waits
 waits_in : (q : Progress) (c : Watch) → WaitsFor q c
@@ -44,10 +57,11 @@ waits_in (now.Open call p) c w = (call, p, refl, w.0, w.1)
 waits_in now.Idle c w = absurd w
 waits_in now.Fresh c w = absurd w
 
-not_listening : (call : Call) → is_wait call ≡ true → IsListening call → ⊥
-not_listening (calls.Woken st) w l = cc
-not_listening calls.Remove w l = l
-not_listening call w l = l
+not_listening : (call : Call) → is_wait call ≡ true → is_page_lock call ≡ false → IsListening call → ⊥
+not_listening (calls.Woken st) w o l = cc
+not_listening (calls.LockPage i st) w o l = cc
+not_listening calls.Remove w o l = l
+not_listening call w o l = l
 
 -- of those only the wait for a completion waits for one
 done_await : (call : Call) → is_wait call ≡ true → is_done (call_watch call) ≡ is_await call
@@ -56,6 +70,7 @@ done_await (calls.SimpleWait c st) w = refl
 done_await (calls.WaitFor d st) w = refl
 done_await (calls.WaitBit i b st) w = refl
 done_await (calls.LockBit i b st) w = refl
+done_await (calls.LockPage i st) w = refl
 done_await (calls.WaitVar v old st) w = refl
 done_await calls.Remove w = absurd (cc)
 done_await call w = absurd (cc)
@@ -103,6 +118,8 @@ module _ (call : Call) (v : View) (x : ℕ) (w : is_await call ≡ true) where
   dozing_zero (at.Woken hearing.Sleep) g f h = absurd (cc)
   dozing_zero (at.Woken hearing.Run) g f h = absurd (cc)
   dozing_zero (at.Woken hearing.Clear) g f h = absurd (cc)
+  dozing_zero (at.Page paging.First) g f h = absurd (cc)
+  dozing_zero (at.Page p) g f h = absurd (cc)
   dozing_zero p g f h = absurd (cc)
 
 -- the failed load of a task that is asleep
@@ -111,13 +128,16 @@ module _ (call : Call) (es : List Step) (x : ℕ) (e : Entry) (wait : is_wait ca
   unwoken : is_woken e.kind ≡ false
   unwoken = ap (λ k. is_woken k) kind ∙ never_woken (call_watch call)
 
-  load_by : (b : Bool) → is_await call ≡ b → FailedBy false b es x (call_watch call)
-      → FailedBy (is_woken e.kind) (is_done (call_watch call)) es x (call_watch call)
-  load_by b a l = rw (unwoken, done_await call wait, a) l
+  unpaged : is_page e.kind ≡ false
+  unpaged = ap (λ k. is_page k) kind ∙ kind_plain (call_watch call)
+
+  load_by : (b : Bool) → is_await call ≡ b → FailedBy false false b es x (call_watch call)
+      → FailedBy (is_woken e.kind) (is_page e.kind) (is_done (call_watch call)) es x (call_watch call)
+  load_by b a l = rw (unwoken, unpaged, done_await call wait, a) l
 
   failed_load : (v : View) (p : Point) → v ≡ view_of es → stage p ≡ dozing → IsFitted call p → IsZero call p v x
       → IsTested call es x → (b : Bool) → is_await call ≡ b
-      → FailedBy (is_woken e.kind) (is_done (call_watch call)) es x (call_watch call)
+      → FailedBy (is_woken e.kind) (is_page e.kind) (is_done (call_watch call)) es x (call_watch call)
   failed_load v p told g f z tested true a =
       let k = dozing_zero call v x a p g f z in
       load_by true a ((zero_told es x (call_watch call)).0 k.0
@@ -130,7 +150,8 @@ module _ (run : List Ran) (r : IsRun run) (few : made_in run ≤ EVENTS) (t : �
   s = state_of run
 
   load : (call : Call) (p : Point) → s.progress t ≡ now.Open call p → is_wait call ≡ true
-      → (k : IsDownInWait s t call p) → FailedBy (is_woken k.entry.kind) (is_done (call_watch call)) (s.table.history t)
+      → (k : IsDownInWait s t call p)
+      → FailedBy (is_woken k.entry.kind) (is_page k.entry.kind) (is_done (call_watch call)) (s.table.history t)
       (own t) (call_watch call)
   load call p is wait k = failed_load call (s.table.history t) (own t) k.entry wait k.kind (s.table.view t) p
       (views_told run t) k.dozes
@@ -144,7 +165,8 @@ module _ (run : List Ran) (r : IsRun run) (few : made_in run ≤ EVENTS) (t : �
     queued = k.stands;
     watches = rw k.watch (same_bare (call_watch call));
     down = subst (λ (i : ℕ). (s.table.task i).state ≢ 0) (sym (owner_own t)) k.state;
-    failed = subst (λ (i : ℕ). FailedBy (is_woken k.entry.kind) (is_done (call_watch call)) (s.table.history i)
+    failed = subst (λ (i : ℕ). FailedBy (is_woken k.entry.kind) (is_page k.entry.kind) (is_done (call_watch call))
+        (s.table.history i)
         (own t) (call_watch call)) (sym (owner_own t)) (load call p is wait k);
   }
 
@@ -156,11 +178,86 @@ module _ (run : List Ran) (r : IsRun run) (few : made_in run ≤ EVENTS) (t : �
     woken = no_run_loses_wake run r few (own t) k.entry (call_watch call) (sleeps call p is wait k);
   }
 
+-- the task of a wait for a page that is down sleeps
+lock_pages : (call : Call) (p : Point) → is_page_lock call ≡ true → IsPaged (now.Open call p)
+    → is_paging (now.Open call p) ≡ true
+lock_pages (calls.LockPage w st) (at.Page p) l g = refl
+lock_pages (calls.LockPage w st) p l g = absurd g
+lock_pages calls.Remove p l g = absurd (cc)
+lock_pages call p l g = absurd (cc)
+
+turning_home : (call : Call) (p : Point) (e : Entry) → is_turning (now.Open call p) ≡ true
+    → HomeAt (now.Open call p) (Some e) → (e.watch ≡ bare (call_watch call)) × (e.kind ≡ kind.Page)
+turning_home call (at.Page (paging.Unlock false)) e t h = h
+turning_home call (at.Page paging.State) e t h = h
+turning_home call (at.Page paging.Flag) e t h = h
+turning_home call (at.Page paging.Look) e t h = h
+turning_home call (at.Page paging.Sleep) e t h = h
+turning_home call (at.Page (paging.Unlock true)) e t h = absurd (cc)
+turning_home call p e t h = absurd (cc)
+
+page_failed : (k : Kind) (d : Bool) (es : List Step) (x : ℕ) (c : Watch) → k ≡ kind.Page
+    → Since (finds_set c) (queues x) es → FailedBy (is_woken k) (is_page k) d es x c
+page_failed k d es x c is l = rw is l
+
+module _ (run : List Ran) (r : IsRun run) (few : made_in run ≤ EVENTS) (t : ℕ) (call : Call) (p : Point)
+    (is : (state_of run).progress t ≡ now.Open call p) (lock : is_page_lock call ≡ true)
+    (down : ((state_of run).table.task t).runnable ≡ false) where
+  told : ArePagesTold (state_of run)
+  told = told_of run r few
+
+  sound : IsSound (state_of run) (made_in run)
+  sound = sound_of run r few
+
+  turns : (b : Bool) → is_turning (now.Open call p) ≡ b → is_turning (now.Open call p) ≡ true
+  turns true q = q
+  turns false q = absurd (let z : true ≡ false = sym (told.awake t (ap is_paging is
+      ∙ lock_pages call p lock (subst IsPaged is (told.paged t))) (ap is_turning is ∙ q)) ∙ down in cc)
+
+  turning : is_turning (now.Open call p) ≡ true
+  turning = turns (is_turning (now.Open call p)) refl
+
+  low : ((state_of run).table.task t).state ≡ 0 → ⊥
+  low z = let y : true ≡ false = sym ((sound.lawful t).runnable z) ∙ down in cc
+
+  found : ((state_of run).table.view t).checks.tas_failed (own t) (call_watch call) ≡ true
+  found = subst (λ (q : Progress). FoundSet q ((state_of run).table.view t) t) is (told.found t) turning
+
+  failed : Since (finds_set (call_watch call)) (queues (own t)) ((state_of run).table.history t)
+  failed = tas_told ((state_of run).table.history t) (own t) (call_watch call)
+      (sym (ap (λ (v : View). v.checks.tas_failed (own t) (call_watch call)) (views_told run t)) ∙ found)
+
+  asleep : (e : Entry) → (state_of run).table.entry (own t) ≡ Some e
+      → Sleeps (state_of run).table (own t) e (call_watch call)
+  asleep e st =
+      let home = turning_home call p e turning (subst (λ (q : Progress). HomeAt q (Some e)) is
+      (subst (HomeAt ((state_of run).progress t)) st (sound.placed t).home)) in
+      record {
+        queued = st;
+        watches = rw home.0 (same_bare (call_watch call));
+        down = subst (λ (i : ℕ). ((state_of run).table.task i).state ≢ 0) (sym (owner_own t)) low;
+        failed = subst (λ (i : ℕ). FailedBy (is_woken e.kind) (is_page e.kind) (is_done (call_watch call))
+            ((state_of run).table.history i) (own t) (call_watch call)) (sym (owner_own t))
+            (page_failed e.kind (is_done (call_watch call)) ((state_of run).table.history t) (own t) (call_watch call)
+            home.1 failed);
+      }
+
+  page_safe : (o : Option Entry) → (state_of run).table.entry (own t) ≡ o → IsSafe (state_of run) t (call_watch call)
+  page_safe None st = absurd (let z : true ≡ false = sym (told.off t (ap is_turning is ∙ turning) st).1.0 ∙ down in cc)
+  page_safe (Some e) st = record {
+    entry = e;
+    sleeps = asleep e st;
+    woken = no_run_loses_wake run r few (own t) e (call_watch call) (asleep e st);
+  }
+
 pub no_run_loses_waiter : NoRunLosesWaiter
 no_run_loses_waiter run r few t c a = by (waits_in ((state_of run).progress t) c a.waits)
   where
     by : (call : Call) × (p : Point) × ((state_of run).progress t ≡ now.Open call p) × (is_wait call ≡ true)
         × (c ≡ call_watch call) → IsSafe (state_of run) t c
-    by w = subst (IsSafe (state_of run) t) (sym w.4)
-        (safe run r few t w.0 w.1 w.2 w.3
-        (down_of run r few t w.0 w.1 w.2 (not_listening w.0 w.3) a.down))
+    by w = subst (IsSafe (state_of run) t) (sym w.4) (which (is_page_lock w.0) refl)
+      where
+        which : (b : Bool) → is_page_lock w.0 ≡ b → IsSafe (state_of run) t (call_watch w.0)
+        which true l = page_safe run r few t w.0 w.1 w.2 l a.down ((state_of run).table.entry (own t)) refl
+        which false l = safe run r few t w.0 w.1 w.2 w.3
+            (down_of run r few t w.0 w.1 w.2 (not_listening w.0 w.3 l) a.down)

@@ -1,7 +1,9 @@
 -- What the stages of a wait say of its task, and what the events of others do to it.
 use Rattle.std.proofs.Common.{refl, sym, ◌∙◌, ap, subst, inl, inr}
 use Rattle.std.specs.Prelude.{ℕ, ◌≡◌, ◌≢◌, ◌⊎◌, Bool, true, false, if◌then◌else◌, is_some, Option, List}
+use Rattle.wait_model.specs.declared.layout.TheConstants.{INTERRUPTIBLE, UNINTERRUPTIBLE, KILLABLE, NORMAL}
 use Rattle.wait_model.specs.declared.watches.Entry.{Entry}
+use Rattle.wait_model.specs.declared.watches.Mode.TheVariants as mode
 use Rattle.wait_model.specs.declared.tasks.TaskRecord.{TaskRecord}
 use Rattle.wait_model.specs.declared.steps.Step.{Step}
 use Rattle.wait_model.specs.declared.steps.Step.TheVariants as step
@@ -18,9 +20,10 @@ use Rattle.wait_model.specs.declared.points.BitPoint.TheVariants as biting
 use Rattle.wait_model.specs.declared.points.Progress.{Progress}
 use Rattle.wait_model.specs.declared.points.Progress.TheVariants as now
 use Rattle.wait_model.specs.declared.points.Given.{Given}
-use Rattle.wait_model.specs.Tasks.{meets, woken, raised}
+use Rattle.wait_model.specs.Tasks.{IsLawful, meets, woken, raised}
 use Rattle.wait_model.specs.Words.{head_word}
 use Rattle.wait_model.specs.Tables.{next, value_of}
+use Rattle.wait_model.specs.Watches.{mask_of}
 use Rattle.wait_model.specs.Points.{call_watch, is_await}
 use Rattle.wait_model.proofs.WordLaws.CondWords.{set_rest}
 use Rattle.wait_model.specs.Readings.{FailedLoad}
@@ -28,6 +31,7 @@ use Rattle.wait_model.specs.Runs.{State, after_event}
 use Rattle.wait_model.proofs.Functions.{put_at, put_same, put_other}
 use Rattle.wait_model.proofs.HistoryLaws.HoldLooks.{looks_same}
 use Rattle.wait_model.proofs.HistoryLaws.UnlockedLooks.{peeks_same}
+use Rattle.wait_model.specs.declared.points.PagePoint.TheVariants as paging
 
 -- how far a wait is: outside, in the hold in which it stores its state, before the load, between the load and
 -- the sleep, after the sleep; and a wait for a flag after its sleep
@@ -51,6 +55,8 @@ stage (at.Bit biting.Look) = dozing
 stage (at.Bit (biting.Again failed)) = dozing
 stage (at.Await (awaiting.Lock true)) = dozing
 stage (at.Woken hearing.Run) = napping
+stage (at.Page paging.First) = outside
+stage (at.Page p) = napping
 stage _ = outside
 
 -- a wait that loads its condition outside of its holds loaded it, and the test failed
@@ -70,13 +76,15 @@ IsStaged (now.Open call p) t o es x = IsAt (stage p) t o es x call
 IsStaged now.Idle t o es x = t.runnable ≡ true
 IsStaged now.Fresh t o es x = t.runnable ≡ true
 
--- only a wait for a flag stands at such a point
+-- only a wait for a flag stands at such a point, as that for a page is
 abbrev pub IsListening : Call → Type 0
 IsListening (calls.Woken st) = Unit {0}
+IsListening (calls.LockPage w st) = Unit {0}
 IsListening _ = ⊥
 
 abbrev pub FitsStage : Progress → Type 0
 FitsStage (now.Open call (at.Woken p)) = IsListening call
+FitsStage (now.Open call (at.Page p)) = IsListening call
 FitsStage _ = Unit {0}
 
 -- a task after an event of another: it stands as before, or it was woken
@@ -86,9 +94,9 @@ IsUpInStage t = (t.state ≡ 0) × (t.runnable ≡ true)
 abbrev pub IsRoused : TaskRecord → TaskRecord → Type 0
 IsRoused t u = ((u.state ≡ t.state) × (u.runnable ≡ t.runnable)) ⊎ IsUpInStage u
 
--- its entry as before, or it is off and the task was woken, outside of its own hold
+-- its entry as before, or it is off and the task was woken, outside of its own hold, or it waits for a flag
 abbrev pub IsLeftStage : Stage → TaskRecord → Option Entry → Option Entry → Type 0
-IsLeftStage g u o p = (p ≡ o) ⊎ (IsUpInStage u × (g ≡ inside → ⊥))
+IsLeftStage g u o p = (p ≡ o) ⊎ ((IsUpInStage u × (g ≡ inside → ⊥)) ⊎ (g ≡ napping))
 
 not_down : (u : TaskRecord) {A : Type 0} → IsUpInStage u → u.runnable ≡ false → A
 not_down u h d = absurd (let z : u.runnable ≡ true = h.1 in cc)
@@ -100,11 +108,12 @@ pub roused_up : (t u : TaskRecord) → IsRoused t u → t.runnable ≡ true → 
 roused_up t u (inl s) h = s.1 ∙ h
 roused_up t u (inr s) h = s.1
 
-queued_still : (g : Stage) (t u : TaskRecord) (o p : Option Entry) → IsRoused t u → IsLeftStage g u o p
-    → (t.state ≢ 0 → is_some o ≡ true) → u.state ≢ 0 → is_some p ≡ true
-queued_still g t u o p (inr s) l q d = not_low u s d
-queued_still g t u o p (inl s) (inr l) q d = not_low u l.0 d
-queued_still g t u o p (inl s) (inl l) q d = ap (λ (k : Option Entry). is_some k) l ∙ q (λ z. d (s.0 ∙ z))
+queued_still : (g : Stage) (t u : TaskRecord) (o p : Option Entry) → (g ≡ napping → ⊥) → IsRoused t u
+    → IsLeftStage g u o p → (t.state ≢ 0 → is_some o ≡ true) → u.state ≢ 0 → is_some p ≡ true
+queued_still g t u o p n (inr s) l q d = not_low u s d
+queued_still g t u o p n (inl s) (inr (inl l)) q d = not_low u l.0 d
+queued_still g t u o p n (inl s) (inr (inr l)) q d = absurd (n l)
+queued_still g t u o p n (inl s) (inl l) q d = ap (λ (k : Option Entry). is_some k) l ∙ q (λ z. d (s.0 ∙ z))
 
 pub staged_still : (g : Stage) (t u : TaskRecord) (o p : Option Entry) (es : List Step) (x : ℕ) (c : Call)
     → IsRoused t u → IsLeftStage g u o p → IsAt g t o es x c → IsAt g u p es x c
@@ -113,14 +122,38 @@ staged_still inside t u o p es x c r (inl l) a = (
   roused_up t u r a.0,
   ap (λ (k : Option Entry). is_some k) l ∙ a.1,
 )
-staged_still inside t u o p es x c r (inr l) a = absurd (l.1 refl)
-staged_still testing t u o p es x c r l a = (roused_up t u r a.0, queued_still testing t u o p r l a.1)
-staged_still tested t u o p es x c r l a = (roused_up t u r a.0, queued_still tested t u o p r l a.1, a.2)
+staged_still inside t u o p es x c r (inr (inl l)) a = absurd (l.1 refl)
+staged_still inside t u o p es x c r (inr (inr l)) a = absurd (cc)
+staged_still testing t u o p es x c r l a = (roused_up t u r a.0, queued_still testing t u o p (λ n. cc) r l a.1)
+staged_still tested t u o p es x c r l a = (roused_up t u r a.0, queued_still tested t u o p (λ n. cc) r l a.1, a.2)
 staged_still dozing t u o p es x c (inr r) l a = λ d. not_down u r d
-staged_still dozing t u o p es x c (inl r) (inr l) a = λ d. not_down u l.0 d
+staged_still dozing t u o p es x c (inl r) (inr (inl l)) a = λ d. not_down u l.0 d
+staged_still dozing t u o p es x c (inl r) (inr (inr l)) a = absurd (cc)
 staged_still dozing t u o p es x c (inl r) (inl l) a = λ d.
     let b = a (sym r.1 ∙ d) in (ap (λ (k : Option Entry). is_some k) l ∙ b.0, b.1)
 staged_still napping t u o p es x c r l a = tt
+
+-- after a wake with NORMAL a task is RUNNING
+meets_normal : (meets NORMAL INTERRUPTIBLE ≡ true) × (meets NORMAL UNINTERRUPTIBLE ≡ true)
+    × (meets NORMAL KILLABLE ≡ true)
+unfolding meets
+meets_normal = (refl, refl, refl)
+
+pub low_woken : (t : TaskRecord) → IsLawful t → (woken (mask_of mode.Normal) t).state ≡ 0
+low_woken t l = elim l.state [
+  | inl z ↦ stays (meets 3 t.state) z
+  | inr b ↦ elim b [
+    | inl z ↦ rw (ap (meets 3) z ∙ meets_normal.0) refl
+    | inr d ↦ elim d [
+      | inl z ↦ rw (ap (meets 3) z ∙ meets_normal.1) refl
+      | inr z ↦ rw (ap (meets 3) z ∙ meets_normal.2) refl
+    ]
+  ]
+]
+  where
+    stays : (b : Bool) → t.state ≡ 0 → (if b then record t { state = 0; runnable = true } else t).state ≡ 0
+    stays true z = refl
+    stays false z = z
 
 -- what an event does to the tasks
 woken_roused : (mask : ℕ) (t : TaskRecord) → IsRoused t (woken mask t)

@@ -3,7 +3,7 @@ use Rattle.wait_model.specs.declared.layout.TheConstants.{EVENTS}
 use Rattle.wait_model.specs.Tables.{value_of}
 use Rattle.wait_model.specs.Admission.{IsGoing}
 use Rattle.wait_model.proofs.WordLaws.CondWords.{head_of_bare, set_rest}
-use Rattle.wait_model.specs.Watches.{bare, kind_for}
+use Rattle.wait_model.specs.Watches.{bare, kind_for, is_page}
 use Rattle.std.proofs.lemmas.Bool.Decides.{eqb_tells}
 use Rattle.std.proofs.Common.{refl, sym, ◌∙◌, ap, subst, arith, inl, inr}
 use Rattle.std.specs.Prelude.{
@@ -76,7 +76,25 @@ use Rattle.wait_model.specs.Runs.{
   IsRun,
   made_in,
 }
-use Rattle.wait_model.specs.Reached.{held_at, taken_by, HomeAt, IsTaken, IsPlaced, IsSound}
+use Rattle.wait_model.specs.Reached.{
+  held_at,
+  taken_by,
+  HomeAt,
+  IsTaken,
+  IsPlaced,
+  IsSound,
+  handed_by,
+  Zone,
+  absent,
+  waits,
+  free,
+  stands,
+  parts,
+  pages,
+  seated,
+  zone,
+  IsHome,
+}
 use Rattle.wait_model.proofs.Functions.{put_at, put_case, put_same, put_other}
 use Rattle.wait_model.proofs.HistoryLaws.HoldLooks.{looks_same}
 use Rattle.wait_model.proofs.HistoryLaws.UnlockedLooks.{peeks_same}
@@ -106,33 +124,41 @@ use Rattle.wait_model.proofs.WaitLaws.WaitStages.{
 }
 use Rattle.wait_model.proofs.WaitLaws.LeavingStages.{stage_in, Takes, Stores, IsGood}
 use Rattle.wait_model.proofs.WaitLaws.NextStages.{good}
+use Rattle.wait_model.specs.declared.points.PagePoint.TheVariants as paging
+use Rattle.wait_model.specs.declared.points.LeavePoint.TheVariants as leaving
+use Rattle.wait_model.specs.declared.points.FinishPoint.TheVariants as finishing
+use Rattle.wait_model.specs.declared.points.AddPoint.TheVariants as adding
+use Rattle.wait_model.specs.declared.points.RemovePoint.TheVariants as removing
+use Rattle.wait_model.specs.declared.points.PagePoint.{PagePoint}
+use Rattle.wait_model.proofs.RunLaws.PagesHanded.{IsHanding, handing_of, kind_plain, standing_plain}
+use Rattle.wait_model.specs.declared.watches.Watch.{Watch}
 
 -- what holds of the waits in every state of a run
-record IsAlert (s : State) : Type 0 where
-  staged : (t : ℕ) → IsStaged (s.progress t) (s.table.task t) (s.table.entry (own t)) (s.table.history t)
+pub record IsAlert (s : State) : Type 0 where
+  pub staged : (t : ℕ) → IsStaged (s.progress t) (s.table.task t) (s.table.entry (own t)) (s.table.history t)
       (own t)
-  fits : (t : ℕ) → FitsStage (s.progress t)
-  taken : (t who : ℕ) → taken_by (s.progress t) ≡ Some who → (s.table.task who).state ≡ 0
+  pub fits : (t : ℕ) → FitsStage (s.progress t)
+  pub taken : (t who : ℕ) → taken_by (s.progress t) ≡ Some who → (s.table.task who).state ≡ 0
 
 -- what an event of a task says of it
 abbrev pub TakesAt : State → ℕ → Progress → Event → Type 0
-TakesAt s me q (event.Unqueue who) = (who ≡ me) ⊎ (taken_by q ≡ Some who)
+TakesAt s me q (event.Unqueue who) = (who ≡ me) ⊎ ((taken_by q ≡ Some who) ⊎ (handed_by q ≡ Some who))
 TakesAt s me q _ = Unit {0}
 
 abbrev pub StoresAt : State → ℕ → Event → Type 0
 StoresAt s me (event.State v) = (v ≡ 0) ⊎ ((e : Entry) → s.table.entry (own me) ≡ Some e
-    → IsGoing e.kind → (s.table.view me).hold.head ≡ Some (head_of e.watch))
+    → IsGoing e.kind → is_page e.kind ≡ false → (s.table.view me).hold.head ≡ Some (head_of e.watch))
 StoresAt s me _ = Unit {0}
 
-record IsTurn (s : State) (me : ℕ) (q : Progress) (e : Event) : Type 0 where
-  staged : IsStaged (progress_after s me q) ((after_event s me (given_by q) e).table.task me)
+pub record IsTurn (s : State) (me : ℕ) (q : Progress) (e : Event) : Type 0 where
+  pub staged : IsStaged (progress_after s me q) ((after_event s me (given_by q) e).table.task me)
       ((after_event s me (given_by q) e).table.entry (own me))
       ((after_event s me (given_by q) e).table.history me) (own me)
-  fits : FitsStage (progress_after s me q)
-  taken : (who : ℕ) → taken_by (progress_after s me q) ≡ Some who
+  pub fits : FitsStage (progress_after s me q)
+  pub taken : (who : ℕ) → taken_by (progress_after s me q) ≡ Some who
       → ((after_event s me (given_by q) e).table.task who).state ≡ 0
-  takes : TakesAt s me q e
-  stores : StoresAt s me e
+  pub takes : TakesAt s me q e
+  pub stores : StoresAt s me e
 
 takes_at : (s : State) (me : ℕ) (call : Call) (p : Point) (e : Event) → Takes s me call p e
     → TakesAt s me (now.Open call p) e
@@ -144,7 +170,7 @@ stores_at : (s : State) (me : ℕ) (call : Call) (p : Point) (e : Event) → Sto
 stores_at s me call p (event.State v) t = t
 stores_at s me call p e t = tt
 
-turn_of : (s : State) (n me : ℕ) (e : Event) (found : ℕ) → IsSound s n → IsAlert s → (q : Progress)
+pub turn_of : (s : State) (n me : ℕ) (e : Event) (found : ℕ) → IsSound s n → IsAlert s → (q : Progress)
     → s.progress me ≡ q → IsPlaced s.table.entry (s.table.view me) me q → Continues s me q e found
     → IsTurn s me q e
 turn_of s n me e found sound al now.Fresh is pl c = absurd c
@@ -195,6 +221,10 @@ await_not (awaiting.Off stopped) g = cc
 await_not (awaiting.Last stopped) g = cc
 await_not awaiting.Unlock g = cc
 
+page_not : (p : PagePoint) → stage (at.Page p) ≡ inside → ⊥
+page_not paging.First g = cc
+page_not p g = cc
+
 -- a task in the hold in which it stores its state holds its entry's head
 inside_held : (q : Progress) (it : Entry) → stage_in q ≡ inside → HomeAt q (Some it)
     → held_at q ≡ Some (head_of it.watch)
@@ -205,44 +235,79 @@ inside_held (now.Open call (at.Prepare preparing.Unlock)) it g h = ap (λ n. Som
 inside_held (now.Open call (at.Woken p)) it g h = absurd (woken_not p g)
 inside_held (now.Open call (at.Bit p)) it g h = absurd (bit_not p g)
 inside_held (now.Open call (at.Await p)) it g h = absurd (await_not p g)
+inside_held (now.Open call (at.Page p)) it g h = absurd (page_not p g)
 inside_held q it g h = absurd (cc)
+
+-- whose entry for a page is queued waits for its flag
+pub page_zone : (z : Zone) (c : Watch) (e : Entry) → is_page e.kind ≡ true → IsHome z c (Some e)
+    → (z ≡ pages) ⊎ (z ≡ seated)
+page_zone absent c e p h = absurd h
+page_zone waits c e p h = absurd (let z : is_page e.kind ≡ false = ap is_page h.1 ∙ kind_plain c in cc)
+page_zone free c e p h = absurd (let z : is_page e.kind ≡ false = standing_plain e.kind h in cc)
+page_zone stands c e p h = absurd (let z : is_page e.kind ≡ false = standing_plain e.kind h in cc)
+page_zone (parts k) c e p h = absurd (let z : is_page e.kind ≡ false = standing_plain e.kind h.0 in cc)
+page_zone pages c e p h = inl refl
+page_zone seated c e p h = inr refl
+
+zone_naps : (p : Point) → (zone p ≡ pages) ⊎ (zone p ≡ seated) → stage p ≡ napping
+zone_naps (at.Page paging.First) h = absurd (elim h [ inl q ↦ cc | inr q ↦ cc ])
+zone_naps (at.Page p) h = refl
+zone_naps (at.Leave leaving.Queue) h = absurd (elim h [ inl q ↦ cc | inr q ↦ cc ])
+zone_naps (at.Finish finishing.Unlock failed) h = absurd (elim h [ inl q ↦ cc | inr q ↦ cc ])
+zone_naps (at.Bit biting.Try) h = absurd (elim h [ inl q ↦ cc | inr q ↦ cc ])
+zone_naps (at.Bit biting.First) h = absurd (elim h [ inl q ↦ cc | inr q ↦ cc ])
+zone_naps (at.Bit biting.Last) h = absurd (elim h [ inl q ↦ cc | inr q ↦ cc ])
+zone_naps (at.Add adding.Unlock) h = absurd (elim h [ inl q ↦ cc | inr q ↦ cc ])
+zone_naps (at.Remove removing.Lock) h = absurd (elim h [ inl q ↦ cc | inr q ↦ cc ])
+zone_naps (at.Await (awaiting.Lock true)) h = absurd (elim h [ inl q ↦ cc | inr q ↦ cc ])
+zone_naps (at.Await (awaiting.Load true)) h = absurd (elim h [ inl q ↦ cc | inr q ↦ cc ])
+zone_naps (at.Await (awaiting.Off stopped)) h = absurd (elim h [ inl q ↦ cc | inr q ↦ cc ])
+zone_naps p h = absurd (elim h [ inl q ↦ cc | inr q ↦ cc ])
+
+page_naps : (q : Progress) (e : Entry) → is_page e.kind ≡ true → HomeAt q (Some e) → stage_in q ≡ napping
+page_naps (now.Open call p) e pg h = zone_naps p (page_zone (zone p) (call_watch call) e pg h)
+page_naps now.Idle e pg h = absurd (let z : is_page e.kind ≡ false = standing_plain e.kind h in cc)
+page_naps now.Fresh e pg h = absurd (let z : is_page e.kind ≡ false = standing_plain e.kind h in cc)
 
 -- what an event of one task does to another's entry
 module _ (s : State) (me : ℕ) (q : Progress) (t : ℕ) (ne : t ≢ me) (lawful : IsLawful (s.table.task t))
   where
     others_left : (g : Given) (e : Event) → (taken_by q ≡ Some t → (s.table.task t).state ≡ 0)
+        → (handed_by q ≡ Some t → stage_in (s.progress t) ≡ napping)
         → TakesAt s me q e
         → Changes s me e → ((it : Entry) → s.table.entry (own t) ≡ Some it
         → (s.table.view me).hold.head ≡ Some (head_of it.watch) → stage_in (s.progress t) ≡ inside → ⊥)
         → IsLeftStage (stage_in (s.progress t)) ((after_event s me g e).table.task t) (s.table.entry (own t))
         ((after_event s me g e).table.entry (own t))
-    others_left g (event.Unqueue who) low takes c apart =
+    others_left g (event.Unqueue who) low naps takes c apart =
         by (put_case s.table.entry (own who) None (own t)) takes
       where
-        gone : own t ≡ own who → (who ≡ me) ⊎ (taken_by q ≡ Some who)
-            → IsUpInStage (s.table.task t) × (stage_in (s.progress t) ≡ inside → ⊥)
+        gone : own t ≡ own who → (who ≡ me) ⊎ ((taken_by q ≡ Some who) ⊎ (handed_by q ≡ Some who))
+            → (IsUpInStage (s.table.task t) × (stage_in (s.progress t) ≡ inside → ⊥))
+            ⊎ (stage_in (s.progress t) ≡ napping)
         gone h (inl m) = absurd (ne (own_one t who h ∙ m))
-        gone h (inr k) =
+        gone h (inr (inr k)) = inr (naps (k ∙ ap (λ n. Some n) (sym (own_one t who h))))
+        gone h (inr (inl k)) = inl (
             let z : (s.table.task t).state ≡ 0 = low (k ∙ ap (λ n. Some n) (sym (own_one t who h))) in
-            ((z, lawful.runnable z), apart c.it (ap s.table.entry h ∙ c.stands) c.head)
+            ((z, lawful.runnable z), apart c.it (ap s.table.entry h ∙ c.stands) c.head))
 
         by : ((own t ≡ own who) × (put s.table.entry (own who) None (own t) ≡ None))
             ⊎ ((own t ≢ own who) × (put s.table.entry (own who) None (own t) ≡ s.table.entry (own t)))
-            → (who ≡ me) ⊎ (taken_by q ≡ Some who)
+            → (who ≡ me) ⊎ ((taken_by q ≡ Some who) ⊎ (handed_by q ≡ Some who))
             → IsLeftStage (stage_in (s.progress t)) (s.table.task t) (s.table.entry (own t))
             (put s.table.entry (own who) None (own t))
         by (inl h) k = inr (gone h.0 k)
         by (inr h) k = inl h.1
-    others_left g (event.Queue h form) low takes c apart = inl (put_other s.table.entry (own me) _ (own t)
+    others_left g (event.Queue h form) low naps takes c apart = inl (put_other s.table.entry (own me) _ (own t)
         (λ z. ne (own_one t me z)))
-    others_left g (event.Lock h) low takes c apart = inl (ap (λ (f : ℕ → Option Entry). f (own t))
+    others_left g (event.Lock h) low naps takes c apart = inl (ap (λ (f : ℕ → Option Entry). f (own t))
         (looks_same (next s.table me (step.Lock h g.walk (head_word (s.table.holder h) (s.table.spent h))))
         s.table.entry me).entry)
-    others_left g (event.Active h hit) low takes c apart = inl (ap (λ (f : ℕ → Option Entry). f (own t))
+    others_left g (event.Active h hit) low naps takes c apart = inl (ap (λ (f : ℕ → Option Entry). f (own t))
         (peeks_same s.table s.table.entry me).entry)
-    others_left g (event.Set c v) low takes h apart = inl (ap (λ (f : ℕ → Option Entry). f (own t))
+    others_left g (event.Set c v) low naps takes h apart = inl (ap (λ (f : ℕ → Option Entry). f (own t))
         (set_rest s.table me g.watch v (value_of s.table.words g.watch)).entry)
-    others_left g e low takes c apart = inl refl
+    others_left g e low naps takes c apart = inl refl
 
 still_staged : (q : Progress) (t u : TaskRecord) (o p : Option Entry) (es : List Step) (x : ℕ) → IsRoused t u
     → IsLeftStage (stage_in q) u o p → IsStaged q t o es x → IsStaged q u p es x
@@ -313,7 +378,7 @@ module _ (s : State) (n : ℕ) (sound : IsSound s n) (al : IsAlert s) (me : ℕ)
       by : StoresAt s me (event.State v) → v ≡ 0
       by (inl z) = z
       by (inr f) = absurd (ne (sound.kept.facts.one_holder t me (head_of it.it.watch)
-          ((sound.placed t).head ∙ it.head) (f it.it it.stands it.kind)))
+          ((sound.placed t).head ∙ it.head) (f it.it it.stands it.kind it.unpaged)))
 
   still_zero : (t who : ℕ) → t ≢ me → taken_by (s.progress t) ≡ Some who → (after.table.task who).state ≡ 0
   still_zero t who ne k = by (eqb_tells who me)
@@ -336,6 +401,13 @@ module _ (s : State) (n : ℕ) (sound : IsSound s n) (al : IsAlert s) (me : ℕ)
       ((sound.placed t).head ∙ inside_held (s.progress t) it g
       (subst (λ (o : Option Entry). HomeAt (s.progress t) o) is (sound.placed t).home)) held)
 
+  -- whom a walk hands a page waits for its flag
+  naps_when : (t : ℕ) → handed_by (s.progress me) ≡ Some t → stage_in (s.progress t) ≡ napping
+  naps_when t h =
+      let f : IsHanding s.table.entry t (s.table.view me).hold.head =
+      handing_of s.table.entry (s.table.view me) n me t (s.progress me) (sound.placed me) (sound.calls me) h in
+      page_naps (s.progress t) f.it f.kind (subst (HomeAt (s.progress t)) f.stands (sound.placed t).home)
+
   others_staged : (t : ℕ) → t ≢ me
       → IsStaged (s.progress t) (after.table.task t) (after.table.entry (own t))
       (after.table.history t) (own t)
@@ -346,11 +418,11 @@ module _ (s : State) (n : ℕ) (sound : IsSound s n) (al : IsAlert s) (me : ℕ)
       (after.table.entry (own t)) (s.table.history t) (own t)
       (others_roused s me (given_by (s.progress me)) e t ne)
       (others_left s me (s.progress me) t ne (sound.lawful t) (given_by (s.progress me)) e
-      (al.taken me t) turn.takes m.changes (apart t ne))
+      (al.taken me t) (naps_when t) turn.takes m.changes (apart t ne))
       (al.staged t))
 
 -- an event, a call that is opened, and a whole run
-made_alert : (s : State) (n me : ℕ) (e : Event) (found : ℕ) → IsSound s n → IsAlert s
+pub made_alert : (s : State) (n me : ℕ) (e : Event) (found : ℕ) → IsSound s n → IsAlert s
     → IsItem s (ran.Made me e found) → IsAlert (happens s (ran.Made me e found))
 made_alert s n me e found sound al item =
     let m : IsMade s n me (s.progress me) e = made_of s n me e found sound item.0
@@ -380,19 +452,20 @@ start_stage call = refl
 
 start_fits : (call : Call) → FitsStage (now.Open call (program_start call))
 start_fits (calls.Woken st) = tt
+start_fits (calls.LockPage w st) = tt
 start_fits call = tt
 
 start_takes : (call : Call) → taken_by (now.Open call (program_start call)) ≡ None
 start_takes calls.Remove = refl
 start_takes call = refl
 
-closed_up : (q : Progress) (t : TaskRecord) (o : Option Entry) (es : List Step) (x : ℕ) → is_open q ≡ false
+pub closed_up : (q : Progress) (t : TaskRecord) (o : Option Entry) (es : List Step) (x : ℕ) → is_open q ≡ false
     → IsStaged q t o es x → t.runnable ≡ true
 closed_up now.Fresh t o es x c a = a
 closed_up now.Idle t o es x c a = a
 closed_up (now.Open call p) t o es x c a = absurd (cc)
 
-opened_alert : (s : State) (me : ℕ) (call : Call) → IsAlert s → IsItem s (ran.Opened me call)
+pub opened_alert : (s : State) (me : ℕ) (call : Call) → IsAlert s → IsItem s (ran.Opened me call)
     → IsAlert (happens s (ran.Opened me call))
 opened_alert s me call al item = record {
   staged = λ t. put_at (λ q. IsStaged q (s.table.task t) (s.table.entry (own t)) (s.table.history t)
@@ -422,7 +495,7 @@ alert_after s (ran.Made me e found ∷ items) n r sound al few =
     (omega arith) in
     (k.0, subst (IsSound (state_after (happens s (ran.Made me e found)) items)) (omega arith) k.1)
 
-start_alert : IsAlert start_state
+pub start_alert : IsAlert start_state
 start_alert = record { staged = λ t. refl; fits = λ t. tt; taken = λ t who k. absurd (cc) }
 
 -- only after its sleep a wait's task may be down
@@ -465,6 +538,7 @@ await_naps awaiting.Unlock g = cc
 module _ (call : Call) (other : IsListening call → ⊥) where
   not_napping : (p : Point) → FitsStage (now.Open call p) → stage p ≡ napping → ⊥
   not_napping (at.Woken p) f g = other f
+  not_napping (at.Page p) f g = other f
   not_napping (at.Prepare p) f g = prepare_naps p g
   not_napping (at.Bit p) f g = bit_naps p g
   not_napping (at.Await p) f g = await_naps p g
@@ -487,6 +561,7 @@ module _ (call : Call) (other : IsListening call → ⊥) where
       → HomeAt (now.Open call p) (Some e)
       → (e.watch ≡ bare (call_watch call)) × (e.kind ≡ kind_for (call_watch call))
   dozing_home (at.Woken p) e f g h = absurd (other f)
+  dozing_home (at.Page p) e f g h = absurd (other f)
   dozing_home (at.Prepare p) e f g h = h
   dozing_home (at.Bit p) e f g h = bit_home p e g h
   dozing_home (at.Await p) e f g h = await_home p e g h
@@ -518,14 +593,14 @@ asleep_down s n t call p sound al is other down =
 
     is_down : (e : Entry) → s.table.entry (own t) ≡ Some e → stage p ≡ dozing
         → IsTested call (s.table.history t) (own t) → IsDownInWait s t call p
-    is_down e stands g l =
+    is_down e there g l =
         let home = dozing_home call other p e fits g
         (subst (λ (o : Option Entry). HomeAt (now.Open call p) o)
-        stands (subst (λ (q : Progress). HomeAt q (s.table.entry (own t))) is (sound.placed t).home)) in
+        there (subst (λ (q : Progress). HomeAt q (s.table.entry (own t))) is (sound.placed t).home)) in
         record {
           dozes = g;
           entry = e;
-          stands = stands;
+          stands = there;
           watch = home.0;
           kind = home.1;
           state = low;
@@ -542,3 +617,7 @@ pub down_of : (run : List Ran) → IsRun run → made_in run ≤ EVENTS → (t :
 down_of run r few t call p is other down =
     let k = alert_after start_state run 0 r start_sound start_alert (omega (arith, few)) in
     asleep_down (state_of run) (0 + made_in run) t call p k.1 k.0 is other down
+
+-- each task stands where its call may
+pub fits_of : (run : List Ran) → IsRun run → made_in run ≤ EVENTS → (t : ℕ) → FitsStage ((state_of run).progress t)
+fits_of run r few t = (alert_after start_state run 0 r start_sound start_alert (omega (arith, few))).0.fits t

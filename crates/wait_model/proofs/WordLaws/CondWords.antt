@@ -52,6 +52,7 @@ use Rattle.wait_model.specs.Watches.{
   is_var,
   is_woken,
   is_simple,
+  is_page,
 }
 use Rattle.wait_model.specs.declared.calls.Call.{Call}
 use Rattle.wait_model.specs.declared.calls.Call.TheVariants as calls
@@ -200,14 +201,17 @@ waits_suited (watch.Plain c) h = by (nat_lt c FIRST_SIMPLE) refl
     )
     by false q = (h, inr (inr (inr refl)), λ l. refl)
 waits_suited (watch.Done d) h = (h, refl)
-waits_suited (watch.Bit w b) h = (h.0, h.1, refl)
+waits_suited (watch.Bit w b) h = (h.0, h.1, inl refl)
 waits_suited (watch.Var v o) h = (h, refl, refl)
 
 pub suits_of : (c : Watch) (k : Kind) → Suited c k → (is_done c ≡ true → is_simple k ≡ true)
     × (is_bit c ≡ true → is_woken k ≡ false)
 suits_of (watch.Plain c) k h = ((λ b. absurd (cc)), (λ b. absurd (cc)))
 suits_of (watch.Done d) k h = ((λ b. ap is_simple h.1), (λ b. absurd (cc)))
-suits_of (watch.Bit w b) k h = ((λ b. absurd (cc)), (λ b. ap is_woken h.2))
+suits_of (watch.Bit w b) k h = (
+  (λ b. absurd (cc)),
+  (λ _. elim h.2 [ inl e ↦ ap is_woken e | inr e ↦ ap is_woken e.0 ]),
+)
 suits_of (watch.Var v o) k h = ((λ b. absurd (cc)), (λ b. absurd (cc)))
 
 pub going_kind : (k j : Kind) → k ≡ j → IsGoing j → IsGoing k
@@ -225,8 +229,26 @@ going_at (watch.Plain x) k (watch.Done d) s t h e = absurd (omega (arith, s.0, e
 going_at (watch.Plain x) k (watch.Bit i b) s t h e = absurd h
 going_at (watch.Plain x) k (watch.Var v o) s t h e = absurd h
 going_at (watch.Done d) k c s t h e = going_kind k kind.Simple s.1 refl
-going_at (watch.Bit i b) k c s t h e = going_kind k kind.Bit s.2 refl
+going_at (watch.Bit i b) k c s t h e =
+    elim s.2 [ inl q ↦ going_kind k kind.Bit q refl | inr q ↦ going_kind k kind.Page q.0 refl ]
 going_at (watch.Var v o) k c s t h e = going_kind k kind.Var s.2 refl
+
+-- and none is one for a page
+pub unpaged_at : (w : Watch) (k : Kind) (c : Watch) → Suited w k → IsThere c → IsSimpleHead c
+    → head_of w ≡ head_of c → is_page k ≡ false
+unfolding head_of
+unpaged_at (watch.Plain x) k (watch.Plain c) s t h e = ap is_page (s.2 (omega (arith, h, e)))
+unpaged_at (watch.Plain x) k (watch.Done d) s t h e = absurd (omega (arith, s.0, e))
+unpaged_at (watch.Plain x) k (watch.Bit i b) s t h e = absurd h
+unpaged_at (watch.Plain x) k (watch.Var v o) s t h e = absurd h
+unpaged_at (watch.Done d) k c s t h e = ap is_page s.1
+unpaged_at (watch.Bit i b) k (watch.Plain c) s t h e =
+    absurd (let z : counted (watch.Bit i b) ≡ true = head_counted (watch.Bit i b) (watch.Plain c) t refl e in cc)
+unpaged_at (watch.Bit i b) k (watch.Done d) s t h e =
+    absurd (let z : counted (watch.Bit i b) ≡ true = head_counted (watch.Bit i b) (watch.Done d) t refl e in cc)
+unpaged_at (watch.Bit i b) k (watch.Bit j d) s t h e = absurd h
+unpaged_at (watch.Bit i b) k (watch.Var v o) s t h e = absurd h
+unpaged_at (watch.Var v o) k c s t h e = ap is_page s.2
 
 -- a store leaves all but the words, and the task's own view
 pub record StoresOnly (t u : Table) : Type 0 where

@@ -19,6 +19,7 @@ use Rattle.std.specs.Prelude.{
   ◌==◌,
   nat_lt,
   if◌then◌else◌,
+  ◌||◌,
 }
 use Rattle.wait_model.specs.declared.layout.TheConstants.{
   PLAIN_CONDITIONS,
@@ -55,6 +56,7 @@ use Rattle.wait_model.specs.Words.{
   spent_of,
   flag_of,
   flag_word,
+  done_word,
 }
 use Rattle.wait_model.specs.declared.watches.Watch.TheVariants as watch
 use Rattle.wait_model.specs.declared.watches.Kind.TheVariants as kind
@@ -90,6 +92,7 @@ kind_read kind.Woken = refl
 kind_read kind.Bit = refl
 kind_read kind.Var = refl
 kind_read kind.Simple = refl
+kind_read kind.Page = refl
 
 code_small : (k : Kind) → kind_code k < 8
 code_small kind.Default = omega arith
@@ -98,6 +101,7 @@ code_small kind.Woken = omega arith
 code_small kind.Bit = omega arith
 code_small kind.Var = omega arith
 code_small kind.Simple = omega arith
+code_small kind.Page = omega arith
 
 flag_small : (b : Bool) → flag b < 2
 flag_small true = omega arith
@@ -115,13 +119,18 @@ key_small (watch.Var v o) k h = omega (arith, h.0)
 
 -- a plain condition's entry is of none of the kinds of bits and variables
 plain_code : (k : Kind) → (k ≡ kind.Default)
-    ⊎ ((k ≡ kind.Autoremove) ⊎ ((k ≡ kind.Woken) ⊎ (k ≡ kind.Simple))) → ((kind_code k == 3) ≡ false)
-    × ((kind_code k == 4) ≡ false)
+    ⊎ ((k ≡ kind.Autoremove) ⊎ ((k ≡ kind.Woken) ⊎ (k ≡ kind.Simple)))
+    → (((kind_code k == 3) || (kind_code k == 6)) ≡ false) × ((kind_code k == 4) ≡ false)
 plain_code kind.Default h = (refl, refl)
 plain_code kind.Autoremove h = (refl, refl)
 plain_code kind.Woken h = (refl, refl)
 plain_code kind.Simple h = (refl, refl)
 plain_code kind.Bit h =
+    absurd (elim h [
+      | inl a ↦ cc
+      | inr b ↦ elim b [ inl a ↦ cc | inr d ↦ elim d [ inl a ↦ cc | inr a ↦ cc ] ]
+    ])
+plain_code kind.Page h =
     absurd (elim h [
       | inl a ↦ cc
       | inr b ↦ elim b [ inl a ↦ cc | inr d ↦ elim d [ inl a ↦ cc | inr a ↦ cc ] ]
@@ -149,8 +158,10 @@ watch_read (watch.Done d) k h = subst (λ (j : Kind). watch_at (kind_code j) (PL
         else watch.Done (((PLAIN_CONDITIONS + d) - PLAIN_CONDITIONS) % 2 ^ 8)) ≡ watch.Done d
     done_read true e = absurd (cc)
     done_read false e = ap (λ n. watch.Done n) inner
-watch_read (watch.Bit w b) k h = subst (λ (j : Kind). watch_at (kind_code j) (WORD_BITS * w + b) ≡ watch.Bit w b)
-    (sym h.2) (bit_read)
+watch_read (watch.Bit w b) k h = elim h.2 [
+  | inl e ↦ subst (λ (j : Kind). watch_at (kind_code j) (WORD_BITS * w + b) ≡ watch.Bit w b) (sym e) bit_read
+  | inr e ↦ subst (λ (j : Kind). watch_at (kind_code j) (WORD_BITS * w + b) ≡ watch.Bit w b) (sym e.0) bit_read
+]
   where
     word_is : (WORD_BITS * w + b) / WORD_BITS ≡ w
     word_is = omega (arith, h.1)
@@ -240,6 +251,12 @@ pub held_read : (held : Bool) (n : ℕ) → held_of (head_word held n) ≡ held
 unfolding held_of
 held_read true n = grind arith
 held_read false n = grind arith
+
+pub done_read_back : (woken done : Bool) → flag_of (done_word woken done) ≡ woken
+unfolding flag_of
+done_read_back true true = refl
+done_read_back true false = refl
+done_read_back false done = refl
 
 pub flag_read_back : (woken : Bool) → flag_of (flag_word woken) ≡ woken
 unfolding flag_of

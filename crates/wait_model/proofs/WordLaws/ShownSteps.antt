@@ -54,12 +54,12 @@ use Rattle.wait_model.specs.declared.queues.Mark.{Mark}
 use Rattle.wait_model.specs.declared.steps.Step.{Step}
 use Rattle.wait_model.specs.declared.tasks.TaskRecord as tasks
 use Rattle.wait_model.specs.declared.watches.Watch.{Watch}
-use Rattle.wait_model.specs.Watches.{IsThere, is_bit, number_of}
+use Rattle.wait_model.specs.Watches.{IsThere, is_bit, number_of, page}
 use Rattle.wait_model.specs.Runs.{State, is_publishing, set_step, after_event, found_by, left_of}
 use Rattle.wait_model.specs.Reached.{Allows, Joins}
 use Rattle.wait_model.specs.Tasks.{task_word}
 use Rattle.wait_model.specs.Tables.{Words, Table, next, value_of, publish, consume, start}
-use Rattle.wait_model.specs.Words.{entry_word, head_word, bit_word, flag_word}
+use Rattle.wait_model.specs.Words.{entry_word, head_word, bit_word, done_word}
 use Rattle.wait_model.specs.Locations.{
   Location,
   Base,
@@ -148,7 +148,8 @@ written words t u k shown is same = record {
 same_word : (t u : Table) → SameWords t u → (l : Location) → word_in u l ≡ word_in t l
 same_word t u same (Task i) = ap (λ (f : ℕ → tasks.TaskRecord). task_word (f i)) (sym same.task)
 same_word t u same (Entry x) = ap (λ (f : ℕ → Option entries.Entry). entry_word (f x)) (sym same.entry)
-same_word t u same (Flag x) = ap (λ (f : ℕ → Bool). flag_word (f x)) (sym same.flag)
+same_word t u same (Flag x) = ap (λ (f : ℕ → Bool). done_word (f x) (u.done x)) (sym same.flag)
+    ∙ ap (λ (f : ℕ → Bool). done_word (t.flag x) (f x)) (sym same.done)
 same_word t u same (Bookmark i) = ap (λ f. mark_word (f i)) (sym same.mark)
 same_word t u same (Head h) = ap (λ (f : ℕ → Bool). head_word (f h) (u.spent h)) (sym same.holder)
     ∙ ap (λ (f : ℕ → ℕ). head_word (t.holder h) (f h)) (sym same.spent)
@@ -235,10 +236,18 @@ module _ (t : Table) (k : ℕ) (history : ℕ → List Step) (view : ℕ → Vie
   mark_others o (Bookmark i) ne = ap mark_word (put_other t.mark k o i (λ e. ne (ap Bookmark e)))
   mark_others o l ne = refl
 
-  flag_others : (b : Bool) (l : Location) → l ≢ Flag k
-      → word_in (record t { flag = put t.flag k b; history = history; view = view }) l ≡ word_in t l
-  flag_others b (Flag i) ne = ap flag_word (put_other t.flag k b i (λ e. ne (ap Flag e)))
-  flag_others b l ne = refl
+  flag_others : (b d : Bool) (taken : ℕ → Option ℕ) (l : Location) → l ≢ Flag k
+      → word_in (record t {
+        flag = put t.flag k b;
+        done = put t.done k d;
+        taken = taken;
+        history = history;
+        view = view;
+      }) l ≡ word_in t l
+  flag_others b d taken (Flag i) ne =
+      ap (λ (f : Bool). done_word f (put t.done k d i)) (put_other t.flag k b i (λ e. ne (ap Flag e)))
+      ∙ ap (λ (f : Bool). done_word (t.flag i) f) (put_other t.done k d i (λ e. ne (ap Flag e)))
+  flag_others b d taken l ne = refl
 
 -- the same, where the word written is told otherwise
 written_as : (words : List ℕ) (t u : Table) (k : Location) (v : ℕ) → Shows words t → IsLocation k
@@ -265,6 +274,8 @@ module _ (words : List ℕ) (s : State) (shown : Shows words s.table) (me : ℕ)
   event_located (event.Clear w b) a = a.0
   event_located (event.Active h hit) a = tt
   event_located (event.Woken who) a = omega (arith, a)
+  event_located (event.TasFor p who v) a = a.0
+  event_located (event.Handed who) a = omega (arith, a)
   event_located e a = omega arith
 
   -- a record that an event changes, and a flag
@@ -274,11 +285,20 @@ module _ (words : List ℕ) (s : State) (shown : Shows words s.table) (me : ℕ)
   own_record who x history view small = written_as words s.table _ (Task who) _ shown (omega arith)
       (ap task_word (put_same s.table.task who x)) (task_others s.table who history view x)
 
-  flag_record : (who : ℕ) (b : Bool) (history : ℕ → List Step) (view : ℕ → View)
-      → who < TASKS → Shows (slice_set words (position_of (Flag (SLOTS * who))) (flag_word b))
-      (record s.table { flag = put s.table.flag (SLOTS * who) b; history = history; view = view })
-  flag_record who b history view small = written_as words s.table _ (Flag (SLOTS * who)) _ shown (omega arith)
-      (ap flag_word (put_same s.table.flag (SLOTS * who) b)) (flag_others s.table (SLOTS * who) history view b)
+  flag_record : (who : ℕ) (b d : Bool) (taken : ℕ → Option ℕ) (history : ℕ → List Step) (view : ℕ → View)
+      → who < TASKS → Shows (slice_set words (position_of (Flag (SLOTS * who))) (done_word b d))
+      (record s.table {
+        flag = put s.table.flag (SLOTS * who) b;
+        done = put s.table.done (SLOTS * who) d;
+        taken = taken;
+        history = history;
+        view = view;
+      })
+  flag_record who b d taken history view small = written_as words s.table _ (Flag (SLOTS * who)) _ shown (omega arith)
+      (ap (λ (f : Bool). done_word f (put s.table.done (SLOTS * who) d (SLOTS * who)))
+      (put_same s.table.flag (SLOTS * who) b)
+      ∙ ap (λ (f : Bool). done_word b f) (put_same s.table.done (SLOTS * who) d))
+      (flag_others s.table (SLOTS * who) history view b d taken)
 
   -- a store of a plain condition, a done count or a variable
   set_shown : (c : Watch) (v : ℕ) → IsThere c → is_bit c ≡ false
@@ -314,6 +334,14 @@ module _ (words : List ℕ) (s : State) (shown : Shows words s.table) (me : ℕ)
   tas_shown w b h =
       let u : Table = next s.table me (step.Consume (watch.Bit w b) 1 (value_of s.table.words (watch.Bit w b))) in
       written_as words s.table u (Bits w) _ shown h refl (bits_others s.table w u.history u.view _)
+
+  page_shown : (p x : ℕ) → p < BIT_WORDS → Shows (slice_set words (position_of (Bits p))
+      (value_of (consume s.table.words (page p) 1) (page p)))
+      (next s.table me (step.TasFor x p (value_of s.table.words (page p))))
+  page_shown p x h =
+      let u : Table = next s.table me (step.Consume (page p) 1 (value_of s.table.words (page p))) in
+      let v : Table = next s.table me (step.TasFor x p (value_of s.table.words (page p))) in
+      written_as words s.table v (Bits p) _ shown h refl (bits_others s.table p v.history v.view _)
 
   clear_shown : (w b : ℕ) → w < BIT_WORDS → Shows (slice_set words (position_of (Bits w))
       (value_of (publish s.table.words (watch.Bit w b) 0) (watch.Bit w b)))
@@ -370,6 +398,8 @@ module _ (words : List ℕ) (s : State) (shown : Shows words s.table) (me : ℕ)
         entry = refl;
         mark = refl;
         flag = refl;
+        done = refl;
+        taken = refl;
         holder = refl;
         spent = refl;
         words = refl;
@@ -385,10 +415,12 @@ module _ (words : List ℕ) (s : State) (shown : Shows words s.table) (me : ℕ)
       let u : Table = next s.table me (step.Consume (watch.Plain c) 0 (s.table.words.plains c)) in
       rw j (written_as words s.table u (Plain c) _ shown a (put_same s.table.words.plains c 0)
       (plain_others s.table c u.history u.view 0))
-  event_shown (event.Woken who) a j = flag_record who true _ _ a
+  event_shown (event.Woken who) a j = flag_record who true false _ _ _ a
+  event_shown (event.TasFor p who v) a j = page_shown p (SLOTS * who) a.0
+  event_shown (event.Handed who) a j = flag_record who true true _ _ _ a
   event_shown (event.Flag hit) a j = written_as words s.table _ (Flag (SLOTS * me)) _ shown (omega arith) refl
       (λ l ne. refl)
-  event_shown event.Unflag a j = flag_record me false _ _ mine
+  event_shown event.Unflag a j = flag_record me false false _ _ _ mine
 
   -- the word before it
   pub event_found : (e : Event) → Allows s me e

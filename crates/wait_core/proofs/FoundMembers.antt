@@ -43,7 +43,7 @@ use Rattle.wait_model.specs.declared.watches.Entry.{Entry}
 use Rattle.wait_model.specs.declared.queues.Member.{Member}
 use Rattle.wait_model.specs.Tasks.{task_word, task_of}
 use Rattle.wait_model.specs.Watches.{head_of, IsThere, number_of}
-use Rattle.wait_model.specs.Words.{entry_word, entry_of, head_word, held_of, spent_of, flag_word, flag_of}
+use Rattle.wait_model.specs.Words.{entry_word, entry_of, head_word, held_of, spent_of, done_word, flag_of}
 use Rattle.wait_model.specs.declared.queues.Mark.{Mark}
 use Rattle.wait_model.specs.Tables.{mark_of}
 use Rattle.wait_model.specs.Queues.{
@@ -83,7 +83,7 @@ use Rattle.wait_model.specs.Locations.{
 }
 use Rattle.wait_model.specs.declared.watches.Watch.{Watch}
 use Rattle.wait_model.specs.Tables.{Table, value_of}
-use Rattle.wait_model.proofs.WordLaws.DecodedWords.{task_read, held_read, spent_read, flag_read_back, mark_read}
+use Rattle.wait_model.proofs.WordLaws.DecodedWords.{task_read, held_read, spent_read, done_read_back, mark_read}
 use Rattle.wait_model.proofs.WordLaws.DecodedWords.{no_mark_read}
 use Rattle.wait_model.proofs.WordLaws.CondWords.{cond_located, number_below, number_value}
 use Rattle.wait_model.proofs.QueueLaws.LinkedQueues.{queued_read}
@@ -494,12 +494,13 @@ pub task_word_is : (words : List ℕ) (t : Table) (i : ℕ) → Shows words t �
 task_word_is words t i shown inside = shown.each (TaskWord i) inside
 
 pub flag_is : (words : List ℕ) (t : Table) (x : ℕ) → Shows words t → x < ENTRIES
-    → slice_index words (position_of (FlagWord x)) ≡ flag_word (t.flag x)
+    → slice_index words (position_of (FlagWord x)) ≡ done_word (t.flag x) (t.done x)
 flag_is words t x shown inside = shown.each (FlagWord x) inside
 
 pub flag_word_is : (words : List ℕ) (t : Table) (x : ℕ) → Shows words t → x < ENTRIES
     → flag_of (slice_index words (position_of (FlagWord x))) ≡ t.flag x
-flag_word_is words t x shown inside = ap flag_of (flag_is words t x shown inside) ∙ flag_read_back (t.flag x)
+flag_word_is words t x shown inside = ap flag_of (flag_is words t x shown inside)
+    ∙ done_read_back (t.flag x) (t.done x)
 
 -- a place has 40 bits
 pub entry_small : (w : ℕ) (o : Option Entry) → o ≡ entry_of w → IfSome o (λ e. e.place < PLACES)

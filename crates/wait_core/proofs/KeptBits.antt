@@ -1,4 +1,4 @@
--- Who keeps each bit, after an event.
+-- Who keeps each bit, and which page was taken for each task, after an event.
 use Rattle.std.proofs.Common.{refl, arith, ap, sym, ◌∙◌, subst, inl, inr, length-set, get_or-set_other}
 use Rattle.wait_model.specs.declared.layout.TheConstants.{TASKS, ENTRIES, BIT_WORDS, WORD_BITS, BITS}
 use Rattle.std.proofs.lemmas.Grind.{get_or-set_at}
@@ -31,6 +31,7 @@ use Rattle.std.specs.Prelude.{
   Option,
   Some,
   None,
+  IfSome,
 }
 use Rattle.wait_model.specs.declared.watches.Entry.{Entry}
 use Rattle.wait_model.specs.declared.watches.Watch.{Watch}
@@ -40,11 +41,11 @@ use Rattle.wait_model.specs.declared.steps.Step.TheVariants as step
 use Rattle.wait_model.specs.declared.calls.Event.{Event}
 use Rattle.wait_model.specs.declared.calls.Event.TheVariants as event
 use Rattle.wait_model.specs.declared.points.Given.{Given}
-use Rattle.wait_model.specs.Watches.{same, is_bit}
-use Rattle.wait_model.specs.Words.{bit_at, flag}
+use Rattle.wait_model.specs.Watches.{same, is_bit, bit_of, was_clear, page}
+use Rattle.wait_model.specs.Words.{bit_at, flag, head_word}
 use Rattle.wait_model.specs.Views.{View, Bits}
-use Rattle.wait_model.specs.Fold.{after, after_all}
-use Rattle.wait_model.specs.Tables.{start, value_of}
+use Rattle.wait_model.specs.Fold.{after, after_all, takes_note}
+use Rattle.wait_model.specs.Tables.{start, value_of, next}
 use Rattle.wait_model.specs.Facts.{Kept}
 use Rattle.wait_model.specs.Rows.{AllAllowed}
 use Rattle.wait_model.specs.Reached.{Allows, Joins}
@@ -58,11 +59,16 @@ use Rattle.wait_model.specs.Runs.{
   set_step,
   event_steps,
   after_event,
+  own,
 }
+use Rattle.wait_model.specs.Functions.{put}
+use Rattle.wait_model.proofs.Functions.{put_at}
+use Rattle.wait_model.proofs.RunLaws.OthersEvents.{own_one}
+use Rattle.wait_model.proofs.HistoryLaws.UnlockedLooks.{peeks_same as peeks_leave}
 use Rattle.wait_model.proofs.WordLaws.BitWords.{bit_read}
-use Rattle.wait_model.proofs.HistoryLaws.HoldLooks.{steps_own, steps_other}
+use Rattle.wait_model.proofs.HistoryLaws.HoldLooks.{looks_same as looks_leave, steps_own, steps_other}
 use Rattle.wait_model.proofs.StepLaws.UnlockSteps.{unlock_bits}
-use Rattle.wait_core.specs.Keepers.{ShowsKeepers, is_keeper, kept_after}
+use Rattle.wait_core.specs.Keepers.{ShowsKeepers, ShowsTaken, is_keeper, noted_by, kept_after, taken_after}
 use Rattle.wait_core.proofs.NotedBits.{NotesBits}
 
 -- a task keeps the bits after these steps that it kept before
@@ -117,10 +123,11 @@ taken_same : (c : Watch) (k found : ℕ) → c ≡ watch.Plain k → AllSame (st
 taken_same c k found e = subst (λ (x : Watch). AllSame (step.Consume x 0 found ∷ [])) (sym e)
     (λ v w b. or_false (v.bits.keeps (watch.Bit w b)))
 
--- an event that neither sets nor clears a bit
+-- an event that neither sets nor clears a bit, and by which no task takes note of a page
 abbrev IsStill : Event → Type 0
 IsStill (event.Tas w b found) = ⊥
 IsStill (event.Clear w b) = ⊥
+IsStill event.Unflag = ⊥
 IsStill _ = Unit {0}
 
 module _ (s : State) (me : ℕ) (g : Given) where
@@ -133,6 +140,7 @@ module _ (s : State) (me : ℕ) (g : Given) where
   still_same (event.Take c x) i j n = taken_same g.watch c (value_of s.table.words g.watch) j
   still_same (event.Tas c x y) i j n = absurd i
   still_same (event.Clear c x) i j n = absurd i
+  still_same event.Unflag i j n = absurd i
   still_same e i j n = λ v w b. refl
 
 -- a test of two bits
@@ -163,6 +171,18 @@ not_true false h = refl
 not_met : (b : Bool) → not b ≡ false → b ≡ true
 not_met true h = refl
 not_met false h = absurd (cc)
+
+itself : (i k : ℕ) → same (watch.Bit i k) (watch.Bit i k) ≡ true
+itself i k =
+    let p : (i == i) ≡ true = grind (arith, nat_tests) in
+    let q : (k == k) ≡ true = grind (arith, nat_tests) in
+    rw (p, q) refl
+
+is_same : (x : ℕ) → (x == x) ≡ true
+is_same x = grind (arith, nat_tests)
+
+is_not : (x a : ℕ) → x ≢ a → (x == a) ≡ false
+is_not x a ne = grind (arith, nat_tests)
 
 module _ (keepers : List (Option ℕ)) (view : ℕ → View) (shown : ShowsKeepers keepers view) where
   -- one bit has another keeper, or none
@@ -237,15 +257,6 @@ module _ (s : State) (me : ℕ) (g : Given) (mine : me < TASKS) (facts : Kept s.
     clear_view v w b =
         ap (λ (c : Watch). keeps (after_all v (step.Publish c 0 (value_of s.table.words c) ∷ [])) w b) is
 
-    itself : same (watch.Bit i k) (watch.Bit i k) ≡ true
-    itself =
-        let p : (i == i) ≡ true = grind (arith, nat_tests) in
-        let q : (k == k) ≡ true = grind (arith, nat_tests) in
-        rw (p, q) refl
-
-    is_not : (x a : ℕ) → x ≢ a → (x == a) ≡ false
-    is_not x a ne = grind (arith, nat_tests)
-
     -- nobody keeps a bit that is clear
     none_keeps : bit_at found k ≡ false → (a : ℕ) → keeps (s.table.view a) i k ≡ false
     none_keeps off a = not_true (keeps (s.table.view a) i k)
@@ -270,9 +281,9 @@ module _ (s : State) (me : ℕ) (g : Given) (mine : me < TASKS) (facts : Kept s.
         (λ a la. by_task (λ t v. keeps v i k ≡ (me == t)) (event.Tas i k 0) a
         (set_view (s.table.view me) i k
         ∙ ap (λ x. keeps (s.table.view me) i k || (not x && same (watch.Bit i k) (watch.Bit i k))) off
-        ∙ ap (λ x. keeps (s.table.view me) i k || x) itself
+        ∙ ap (λ x. keeps (s.table.view me) i k || x) (itself i k)
         ∙ or_true (keeps (s.table.view me) i k)
-        ∙ sym (let p : (me == me) ≡ true = grind (arith, nat_tests) in p))
+        ∙ sym (is_same me))
         (λ ne. none_keeps off a ∙ sym (is_not me a (λ q. ne (sym q)))))
         (λ a w b la e. by_task (λ t v. keeps v w b ≡ keeps (s.table.view t) w b) (event.Tas i k 0) a
         (set_view (s.table.view me) w b
@@ -285,7 +296,7 @@ module _ (s : State) (me : ℕ) (g : Given) (mine : me < TASKS) (facts : Kept s.
     clear_shown mine' = changed keepers s.table.view shown i k None li lk (later (event.Clear i k))
         (λ a la. by_task (λ t v. t < TASKS → keeps v i k ≡ is_keeper None t) (event.Clear i k) a
         (λ lt. clear_view (s.table.view me) i k
-        ∙ ap (λ x. keeps (s.table.view me) i k && not x) itself
+        ∙ ap (λ x. keeps (s.table.view me) i k && not x) (itself i k)
         ∙ and_false (keeps (s.table.view me) i k))
         (λ ne lt. not_true (keeps (s.table.view a) i k)
         (λ h. ne (facts.bits.one_keeper a me (watch.Bit i k) refl h mine'))) la)
@@ -293,19 +304,117 @@ module _ (s : State) (me : ℕ) (g : Given) (mine : me < TASKS) (facts : Kept s.
         (clear_view (s.table.view me) w b ∙ ap (λ x. keeps (s.table.view me) w b && not x) e
         ∙ and_true (keeps (s.table.view me) w b)) (λ _. refl))
 
+  -- a task clears its flag, and takes note of the page that a walk took for it
+  module _ (pages : List (Option ℕ)) (noted : ShowsTaken pages s.table.taken) where
+    unflag_view : (o : Option ℕ) → slice_index_or pages me None ≡ o → (v : View) (w b : ℕ)
+        → keeps (after_all v (event_steps s me g event.Unflag)) w b ≡ (keeps v w b || takes_note o (watch.Bit w b))
+    unflag_view o is v w b = ap (λ (x : Option ℕ). keeps v w b || takes_note x (watch.Bit w b))
+        (noted.each me mine ∙ is)
+
+    noted_shown : (o : Option ℕ) → slice_index_or pages me None ≡ o
+        → ShowsKeepers (noted_by me o keepers) (later event.Unflag)
+    noted_shown None is = record {
+      count = shown.count;
+      each = λ a w b la lw lb. by_task (λ t v. t < TASKS
+          → keeps v w b ≡ is_keeper (slice_index_or keepers (WORD_BITS * w + b) None) t) event.Unflag a
+          (λ lt. unflag_view None is (s.table.view me) w b ∙ or_false (keeps (s.table.view me) w b)
+          ∙ shown.each me w b lt lw lb)
+          (λ _ lt. shown.each a w b lt lw lb) la;
+    }
+    noted_shown (Some p) is = changed keepers s.table.view shown p 0 (Some me) (noted.small me p mine is) (omega arith)
+        (later event.Unflag)
+        (λ a la. by_task (λ t v. keeps v p 0 ≡ (me == t)) event.Unflag a
+        (unflag_view (Some p) is (s.table.view me) p 0 ∙ ap (λ x. keeps (s.table.view me) p 0 || x) (itself p 0)
+        ∙ or_true (keeps (s.table.view me) p 0) ∙ sym (is_same me))
+        (λ ne. facts.pages.unkept (own me) p a (noted.each me mine ∙ is) ∙ sym (is_not me a (λ q. ne (sym q)))))
+        (λ a w b la e. by_task (λ t v. keeps v w b ≡ keeps (s.table.view t) w b) event.Unflag a
+        (unflag_view (Some p) is (s.table.view me) w b ∙ ap (λ x. keeps (s.table.view me) w b || x) e
+        ∙ or_false (keeps (s.table.view me) w b)) (λ _. refl))
+
+    -- any event
+    pub event_keepers : (e : Event) → Allows s me e → Joins g e
+        → NotesBits g.watch (value_of s.table.words g.watch) e → AllAllowed s.table me (event_steps s me g e)
+        → ShowsKeepers (kept_after me e pages keepers) (later e)
+    event_keepers (event.Tas i k v) a j n al =
+        let m : v ≡ flag (bit_at (found i k a.0 a.1 j) k) = n
+        ∙ ap (λ (c : Watch). flag (bit_at (value_of s.table.words c) k)) j in
+        subst (λ (x : ℕ). ShowsKeepers (if x == 0 then slice_set keepers (WORD_BITS * i + k) (Some me) else keepers)
+        (later (event.Tas i k x))) (sym m) (set_shown i k a.0 a.1 j (bit_at (found i k a.0 a.1 j) k) refl)
+    event_keepers (event.Clear i k) a j n al = clear_shown i k a.0 a.1 j
+        (subst (λ (c : Watch). is_bit c ≡ true → (s.table.view me).bits.keeps c ≡ true) j (λ h. (al.0.1 h).1) refl)
+    event_keepers event.Unflag a j n al = noted_shown (slice_index_or pages me None) refl
+    event_keepers (event.Set c v) a j n al = still_shown (event.Set c v) tt j n
+    event_keepers (event.Take c v) a j n al = still_shown (event.Take c v) tt j n
+    event_keepers e a j n al = still_shown e tt j n
+
+-- the page that was taken for one task is another, or none
+module _ (pages : List (Option ℕ)) (taken : ℕ → Option ℕ) (noted : ShowsTaken pages taken) (u : ℕ) (x : Option ℕ)
+    (mine : u < TASKS) (fits : (p : ℕ) → x ≡ Some p → p < BIT_WORDS) where
+  put_one : (a : ℕ) → a < TASKS → put taken (own u) x (own a) ≡ slice_index_or (slice_set pages u x) a None
+  put_one a la = put_at (λ o. o ≡ slice_index_or (slice_set pages u x) a None) taken (own u) x (own a)
+      (λ q. sym (get_or-set_at pages u a x None (own_one a u q) (omega (arith, noted.count))))
+      (λ ne. noted.each a la ∙ sym (get_or-set_other pages u a x None (λ q. ne (ap own q))))
+
+  put_small : (a p : ℕ) → a < TASKS → slice_index_or (slice_set pages u x) a None ≡ Some p → p < BIT_WORDS
+  put_small a p la is = elim (eqb_tells a u) [
+    | inl q ↦ fits p (sym (get_or-set_at pages u a x None q.1 (omega (arith, noted.count))) ∙ is)
+    | inr q ↦ noted.small a p la (sym (get_or-set_other pages u a x None q.1) ∙ is)
+  ]
+
+  put_taken : ShowsTaken (slice_set pages u x) (put taken (own u) x)
+  put_taken = record { count = length-set pages u x ∙ noted.count; each = put_one; small = put_small }
+
+module _ (s : State) (me : ℕ) (g : Given) (mine : me < TASKS) (pages : List (Option ℕ))
+    (noted : ShowsTaken pages s.table.taken) where
+  abbrev T : (ℕ → Option ℕ) → List (Option ℕ) → Type 0
+  T f xs = ShowsTaken xs f
+
+  -- an event that takes no page, and by which no task takes note of one
+  abbrev IsQuiet : Event → Type 0
+  IsQuiet (event.TasFor p who v) = ⊥
+  IsQuiet event.Unflag = ⊥
+  IsQuiet _ = Unit {0}
+
+  stored_taken : (c : Watch) (v found : ℕ) (b : Bool)
+      → (next s.table me (if b then step.Publish c v found else step.Consume c v found)).taken ≡ s.table.taken
+  stored_taken c v found true = refl
+  stored_taken c v found false = refl
+
+  quiet_same : (e : Event) → IsQuiet e → (after_event s me g e).table.taken ≡ s.table.taken
+  quiet_same (event.TasFor p who v) q = absurd q
+  quiet_same event.Unflag q = absurd q
+  quiet_same (event.Lock h) q = (looks_leave (next s.table me (step.Lock h g.walk
+      (head_word (s.table.holder h) (s.table.spent h)))) s.table.entry me).taken
+  quiet_same (event.Active h hit) q = (peeks_leave s.table s.table.entry me).taken
+  quiet_same (event.Set c v) q = stored_taken g.watch v (value_of s.table.words g.watch)
+      (is_publishing g.watch (value_of s.table.words g.watch) v)
+  quiet_same e q = refl
+
+  quiet_taken : (e : Event) → IsQuiet e → T (after_event s me g e).table.taken pages
+  quiet_taken e q = subst (λ (f : ℕ → Option ℕ). T f pages) (sym (quiet_same e q)) noted
+
+  -- an exchange for another task
+  tried_taken : (p who : ℕ) → p < BIT_WORDS → who < TASKS → (t : Bool)
+      → bit_at (value_of s.table.words (page p)) 0 ≡ t
+      → T (after_event s me g (event.TasFor p who (flag t))).table.taken
+      (if flag t == 0 then slice_set pages who (Some p) else pages)
+  tried_taken p who lp lw true on = subst (λ (b : Bool). T (if not b then put s.table.taken (own who) (Some p)
+      else s.table.taken) pages) (sym on) noted
+  tried_taken p who lp lw false off = subst (λ (b : Bool). T (if not b then put s.table.taken (own who) (Some p)
+      else s.table.taken) (slice_set pages who (Some p))) (sym off)
+      (put_taken pages s.table.taken noted who (Some p) lw (λ q e. let z : p ≡ q = cc in omega (arith, lp, z)))
+
   -- any event
-  pub event_keepers : (e : Event) → Allows s me e → Joins g e → NotesBits g.watch (value_of s.table.words g.watch) e
-      → AllAllowed s.table me (event_steps s me g e) → ShowsKeepers (kept_after me e keepers) (later e)
-  event_keepers (event.Tas i k v) a j n al =
-      let m : v ≡ flag (bit_at (found i k a.0 a.1 j) k) = n
-      ∙ ap (λ (c : Watch). flag (bit_at (value_of s.table.words c) k)) j in
-      subst (λ (x : ℕ). ShowsKeepers (if x == 0 then slice_set keepers (WORD_BITS * i + k) (Some me) else keepers)
-      (later (event.Tas i k x))) (sym m) (set_shown i k a.0 a.1 j (bit_at (found i k a.0 a.1 j) k) refl)
-  event_keepers (event.Clear i k) a j n al = clear_shown i k a.0 a.1 j
-      (subst (λ (c : Watch). is_bit c ≡ true → (s.table.view me).bits.keeps c ≡ true) j (λ h. (al.0.1 h).1) refl)
-  event_keepers (event.Set c v) a j n al = still_shown (event.Set c v) tt j n
-  event_keepers (event.Take c v) a j n al = still_shown (event.Take c v) tt j n
-  event_keepers e a j n al = still_shown e tt j n
+  pub event_taken : (e : Event) → Allows s me e → NotesBits g.watch (value_of s.table.words g.watch) e
+      → T (after_event s me g e).table.taken (taken_after me e pages)
+  event_taken (event.TasFor p who v) a n =
+      let m : v ≡ flag (bit_at (value_of s.table.words (page p)) 0) = n.0
+      ∙ ap (λ (c : Watch). flag (bit_at (value_of s.table.words c) (bit_of c))) n.1 in
+      subst (λ (x : ℕ). T (after_event s me g (event.TasFor p who x)).table.taken
+      (if x == 0 then slice_set pages who (Some p) else pages)) (sym m)
+      (tried_taken p who a.0 a.1 (bit_at (value_of s.table.words (page p)) 0) refl)
+  event_taken event.Unflag a n = put_taken pages s.table.taken noted me None mine (λ p e. absurd (cc))
+  event_taken e a n = quiet_taken e tt
 
 -- at the start nobody keeps any bit
 pub start_keepers : (keepers : List (Option ℕ)) → length keepers ≡ BITS
@@ -315,3 +424,22 @@ start_keepers keepers count none = record {
   each = λ a w b la lw lb. sym (ap (λ (o : Option ℕ). is_keeper o a) (get_or_from_slice_get keepers
       (WORD_BITS * w + b) None None (none (WORD_BITS * w + b) (omega arith))));
 }
+
+-- at the start no page was taken for any task
+pub start_taken : (pages : List (Option ℕ)) → length pages ≡ TASKS
+    → ((k : ℕ) → k < TASKS → slice_get pages k ≡ Some None) → ShowsTaken pages start.taken
+start_taken pages count none = record {
+  count = count;
+  each = λ a la. sym (get_or_from_slice_get pages a None None (none a la));
+  small = λ a p la is. absurd (let z : None ≡ Some p = sym (get_or_from_slice_get pages a None None (none a la)) ∙ is
+      in cc);
+}
+
+-- a page that was taken for a task exists
+pub page_small : (pages : List (Option ℕ)) (taken : ℕ → Option ℕ) → ShowsTaken pages taken → (a : ℕ) → a < TASKS
+    → IfSome (slice_index_or pages a None) (λ p. p < BIT_WORDS)
+page_small pages taken noted a la = by (slice_index_or pages a None) refl
+  where
+    by : (o : Option ℕ) → slice_index_or pages a None ≡ o → IfSome o (λ p. p < BIT_WORDS)
+    by None is = tt
+    by (Some p) is = noted.small a p la is

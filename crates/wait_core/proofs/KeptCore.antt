@@ -42,6 +42,10 @@ use Rattle.wait_model.specs.declared.calls.Call.{Call}
 use Rattle.wait_model.specs.declared.calls.Event.{Event}
 use Rattle.wait_model.specs.declared.calls.Event.TheVariants as event
 use Rattle.wait_model.specs.declared.points.Point.{Point}
+use Rattle.wait_model.specs.declared.points.Point.TheVariants as at
+use Rattle.wait_model.specs.declared.points.WalkPoint.TheVariants as walking
+use Rattle.wait_model.specs.declared.watches.Entry.{Entry}
+use Rattle.wait_model.specs.Views.{View}
 use Rattle.wait_model.specs.declared.points.Progress.{Progress}
 use Rattle.wait_model.specs.declared.points.Progress.TheVariants as now
 use Rattle.wait_model.specs.declared.calls.Ran.{Ran}
@@ -52,6 +56,7 @@ use Rattle.wait_model.specs.Admission.{admits}
 use Rattle.wait_model.specs.Shown.{IsInRange}
 use Rattle.wait_model.specs.Locations.{Shows}
 use Rattle.wait_model.specs.Reached.{
+  HandsAt,
   marked_at,
   IsSound,
   IsSoundCall,
@@ -60,6 +65,7 @@ use Rattle.wait_model.specs.Reached.{
   Joins,
   Rests,
   KeepsCleared,
+  CountedAt,
   CountedBy,
 }
 use Rattle.wait_model.specs.Runs.{
@@ -86,9 +92,15 @@ use Rattle.wait_model.proofs.RunLaws.WalkEvents.{program_fine}
 use Rattle.wait_model.proofs.RunLaws.FineEvents.{Fine}
 use Rattle.wait_model.proofs.RunLaws.EveryRun.{sound_of, state_after-push, run_push, made_push, opened_push}
 use Rattle.wait_core.specs.Core.{IsCore, open_calls, one_if_open}
-use Rattle.wait_core.specs.Keepers.{ShowsKeepers, kept_after}
-use Rattle.wait_core.proofs.NotedBits.{noted}
-use Rattle.wait_core.proofs.KeptBits.{event_keepers}
+use Rattle.wait_core.specs.Keepers.{ShowsKeepers, ShowsTaken, kept_after, taken_after}
+use Rattle.wait_core.proofs.NotedBits.{WalksPage, noted}
+use Rattle.wait_core.proofs.KeptBits.{event_keepers, event_taken}
+
+-- a walk that tries a page knows that it is for one
+page_of : (entry : ℕ → Option Entry) (v : View) (call : Call) (p : Point) → CountedAt entry v call p
+    → WalksPage call p
+page_of entry v call (at.Walk (walking.Page st w c)) z = z.1
+page_of entry v call p z = tt
 
 -- an allowed event's numbers are in range
 pub allowed_in_range : (s : State) (me : ℕ) (e : Event) → Allows s me e → IsInRange e
@@ -114,6 +126,8 @@ allowed_in_range s me (event.Tas w b v) a = a
 allowed_in_range s me (event.Clear w b) a = a
 allowed_in_range s me (event.Active h hit) a = a
 allowed_in_range s me (event.Woken who) a = a
+allowed_in_range s me (event.TasFor p who v) a = a
+allowed_in_range s me (event.Handed who) a = a
 allowed_in_range s me e a = tt
 
 -- what the state has to let a call be opened
@@ -182,6 +196,7 @@ module _ (words : List ℕ) (points : List Progress) (items : List Ran) (count c
           open_is (sound.placed me)) (sound.marked me ∙ ap marked_at open_is)
           (subst (CountedBy (state_of items).table.entry ((state_of items).table.view me)) open_is
           (sound.counted me))
+          (subst (HandsAt (state_of items).table.taken me) open_is (sound.handed.places me))
           (subst (λ (x : Progress). KeepsCleared x ((state_of items).table.view me)) open_is (sound.keeps me))
           (subst (λ (x : Progress). Rests x ((state_of items).table.task me)) open_is (sound.rests me)) runs
 
@@ -191,14 +206,25 @@ module _ (words : List ℕ) (points : List Progress) (items : List Ran) (count c
       pub joins : Joins (given_at call p) (planned (state_of items) me call p).event
       joins = fine.joins
 
-      -- who keeps each bit after the event
-      pub keepers_kept : (keepers : List (Option ℕ)) → ShowsKeepers keepers (state_of items).table.view
-          → busy_head (state_of items) (planned (state_of items) me call p).event ≡ None
-          → ShowsKeepers (kept_after me (planned (state_of items) me call p).event keepers)
-          (after_event (state_of items) me (given_at call p) (planned (state_of items) me call p).event).table.view
-      keepers_kept keepers shown free = event_keepers (state_of items) me (given_at call p) mine sound.kept keepers
-          shown (planned (state_of items) me call p).event allowed joins
-          (noted me call (seen_by (state_of items) me call p) p call_sound.fitted) (fine.made free)
+      walks_page : WalksPage call p
+      walks_page = page_of (state_of items).table.entry ((state_of items).table.view me) call p
+          (subst (CountedBy (state_of items).table.entry ((state_of items).table.view me)) open_is (sound.counted me))
+
+      -- who keeps each bit after the event, and which page was taken for each task
+      module _ (pages : List (Option ℕ)) (noted_pages : ShowsTaken pages (state_of items).table.taken) where
+        pub keepers_kept : (keepers : List (Option ℕ)) → ShowsKeepers keepers (state_of items).table.view
+            → busy_head (state_of items) (planned (state_of items) me call p).event ≡ None
+            → ShowsKeepers (kept_after me (planned (state_of items) me call p).event pages keepers)
+            (after_event (state_of items) me (given_at call p) (planned (state_of items) me call p).event).table.view
+        keepers_kept keepers shown free = event_keepers (state_of items) me (given_at call p) mine sound.kept keepers
+            shown pages noted_pages (planned (state_of items) me call p).event allowed joins
+            (noted me call (seen_by (state_of items) me call p) p call_sound.fitted walks_page) (fine.made free)
+
+        pub taken_kept : ShowsTaken (taken_after me (planned (state_of items) me call p).event pages)
+            (after_event (state_of items) me (given_at call p) (planned (state_of items) me call p).event).table.taken
+        taken_kept = event_taken (state_of items) me (given_at call p) mine pages noted_pages
+            (planned (state_of items) me call p).event allowed
+            (noted me call (seen_by (state_of items) me call p) p call_sound.fitted walks_page)
 
     pub plan_is : (found : ℕ)
         → (found ≡ found_by (state_of items) me (planned (state_of items) me call p).event)

@@ -1,4 +1,5 @@
--- What each event says of bits: a store is of no bit, and an exchange tells whether it found its bit set.
+-- What each event says of bits: a store is of no bit, and an exchange tells whether it found its bit set, one for
+-- another task too.
 use Rattle.std.proofs.Common.{refl}
 use Rattle.std.specs.Prelude.{
   ◌≡◌,
@@ -46,7 +47,7 @@ use Rattle.wait_model.specs.declared.points.CountPoint.TheVariants as counting
 use Rattle.wait_model.specs.declared.points.BitPoint.{BitPoint}
 use Rattle.wait_model.specs.declared.points.BitPoint.TheVariants as biting
 use Rattle.wait_model.specs.Tasks.{meets, state_mask}
-use Rattle.wait_model.specs.Watches.{is_bit, is_done, mask_of}
+use Rattle.wait_model.specs.Watches.{is_bit, is_done, word_of, bit_of, page, mask_of}
 use Rattle.wait_model.specs.Words.{bit_at, flag}
 use Rattle.wait_model.specs.Points.{
   call_aim,
@@ -91,12 +92,23 @@ use Rattle.wait_model.specs.Programs.{
   program,
 }
 use Rattle.wait_model.specs.Reached.{IsFitted, IsPlain}
+use Rattle.wait_model.specs.declared.points.PagePoint.{PagePoint}
+use Rattle.wait_model.specs.declared.points.PagePoint.TheVariants as paging
+use Rattle.wait_model.specs.declared.points.PageStage.{PageStage}
+use Rattle.wait_model.specs.declared.points.PageStage.TheVariants as staging
+use Rattle.wait_model.specs.Programs.{hands_event, page_event}
 
 -- an event of a call about a watch, where the task finds this value of the watch's word
 abbrev pub NotesBits : Watch → ℕ → Event → Type 0
 NotesBits watch value (event.Set c v) = is_bit watch ≡ false
 NotesBits watch value (event.Tas w b found) = found ≡ flag (bit_at value b)
+NotesBits watch value (event.TasFor p who found) = (found ≡ flag (bit_at value (bit_of watch))) × (watch ≡ page p)
 NotesBits watch value _ = Unit {0}
+
+-- a walk that tries a page is for one
+abbrev pub WalksPage : Call → Point → Type 0
+WalksPage call (at.Walk (walking.Page st w c)) = call_watch call ≡ page (word_of (call_watch call))
+WalksPage call _ = Unit {0}
 
 -- watches that are no bits
 plain_no_bit : (c : Watch) → IsPlain c → is_bit c ≡ false
@@ -143,18 +155,47 @@ module _ (me : ℕ) (call : Call) (seen : Seen) where
   entry_noted w c kind.Bit hit = tt
   entry_noted w c kind.Var hit = tt
   entry_noted w c kind.Simple hit = tt
+  entry_noted w c kind.Page hit = tt
 
   next_noted : (w : Walking) (c : Option CalledEntry) (hit : Bool) → N (call_next (call_aim call) w c seen hit)
   next_noted w None hit = tt
   next_noted w (Some c) hit = entry_noted w c c.kind hit
 
-  walk_noted : (p : WalkPoint) → N (walk_event (call_aim call) p seen)
-  walk_noted (walking.Call w) = either seen.breaks
+  hands_noted : (st : PageStage) (w : Walking) (c : CalledEntry) → call_watch call ≡ page (word_of (call_watch call))
+      → N (hands_event (call_aim call) st w c seen)
+  hands_noted staging.Try w c pg = (refl, pg)
+  hands_noted staging.Hand w c pg = tt
+  hands_noted staging.Wake w c pg = tt
+  hands_noted staging.Off w c pg = tt
+
+  -- a wait for a page
+  page_noted : (p : PagePoint) → N (page_event me call p seen)
+  page_noted paging.First = either (call_fails call seen) (go (exchange call seen) (at.Page paging.Unflag))
+      (ends_with (exchange call seen) zero_answer) refl refl
+  page_noted paging.Queue = either seen.worn (go (event.Unlock (call_head call) false) at.Worn)
+      (go (event.Queue (call_head call) (form_of call)) (at.Page paging.Try)) tt tt
+  page_noted paging.Try = refl
+  page_noted (paging.Unlock true) = tt
+  page_noted (paging.Unlock false) = tt
+  page_noted (paging.Finish finishing.Look) = either (is_some seen.entry)
+      (go (event.Queued true) (at.Page (paging.Finish finishing.Lock)))
+      (go (event.Queued false) (at.Page paging.Last)) tt tt
+  page_noted (paging.Finish finishing.Queue) = either (is_some seen.entry)
+      (go (event.Unqueue me) (at.Page (paging.Finish finishing.Unlock)))
+      (go (event.Unlock (call_head call) false) (at.Page paging.Last)) tt tt
+  page_noted (paging.Finish p) = tt
+  page_noted paging.Last = either seen.flag (go (event.Flag true) (at.Page paging.Clear))
+      (ends_with (event.Flag false) interrupted) tt tt
+  page_noted p = tt
+
+  walk_noted : (p : WalkPoint) → WalksPage call (at.Walk p) → N (walk_event (call_aim call) p seen)
+  walk_noted (walking.Call w) pg = either seen.breaks
       (go (event.Mark (call_head call)) (at.Walk (walking.BreakUnlock (reached w seen.calls))))
       (call_next (call_aim call) (reached w seen.calls) seen.called seen (meets (mask_of (mode_of call))
       seen.other.state)) tt
       (next_noted (reached w seen.calls) seen.called (meets (mask_of (mode_of call)) seen.other.state))
-  walk_noted p = tt
+  walk_noted (walking.Page st w c) pg = hands_noted st w c pg
+  walk_noted p pg = tt
 
   bit_noted : (p : BitPoint) → N (bit_event call p seen)
   bit_noted biting.Try = refl
@@ -199,51 +240,52 @@ module _ (me : ℕ) (call : Call) (seen : Seen) where
   publish_noted (calls.SetVar v x) h = refl
   publish_noted c h = absurd (cc)
 
-  pub noted : (p : Point) → IsFitted call p → N (program me call p seen)
-  noted at.First fit = either (call_fails call seen) (go (load call seen) (at.Prepare preparing.Lock))
+  pub noted : (p : Point) → IsFitted call p → WalksPage call p → N (program me call p seen)
+  noted at.First fit pg = either (call_fails call seen) (go (load call seen) (at.Prepare preparing.Lock))
       (ends_with (load call seen) zero_answer) tt tt
-  noted (at.Prepare preparing.Queue) fit = either (is_some seen.entry)
+  noted (at.Prepare preparing.Queue) fit pg = either (is_some seen.entry)
       (go (event.State (state_mask (state_in call))) (at.Prepare preparing.Unlock))
       (if seen.worn then record { event = event.Unlock (call_head call) false; next = worn_next call }
       else go (event.Queue (call_head call) (form_of call)) (at.Prepare preparing.State)) tt
       (either seen.worn (record { event = event.Unlock (call_head call) false; next = worn_next call })
       (go (event.Queue (call_head call) (form_of call)) (at.Prepare preparing.State)) tt tt)
-  noted (at.Leave leaving.Queue) fit = either (is_some seen.entry)
+  noted (at.Leave leaving.Queue) fit pg = either (is_some seen.entry)
       (go (event.Unqueue me) (at.Leave leaving.Unlock))
       (go (event.Unlock (call_head call) false) (at.Leave leaving.Load)) tt tt
-  noted (at.Leave leaving.Load) fit = either (call_fails call seen) (ends_with (load call seen) signalled)
+  noted (at.Leave leaving.Load) fit pg = either (call_fails call seen) (ends_with (load call seen) signalled)
       (go (load call seen) (at.Finish finishing.State false)) tt tt
-  noted (at.Finish finishing.Look failed) fit = either (is_some seen.entry)
+  noted (at.Finish finishing.Look failed) fit pg = either (is_some seen.entry)
       (go (event.Queued true) (at.Finish finishing.Lock failed)) (finished call failed (event.Queued false)) tt
       (ends_noted failed (event.Queued false) tt)
-  noted (at.Finish finishing.Queue failed) fit = either (is_some seen.entry)
+  noted (at.Finish finishing.Queue failed) fit pg = either (is_some seen.entry)
       (go (event.Unqueue me) (at.Finish finishing.Unlock failed))
       (finished call failed (event.Unlock (call_head call) false)) tt
       (ends_noted failed (event.Unlock (call_head call) false) tt)
-  noted (at.Finish finishing.Unlock failed) fit = ends_noted failed (event.Unlock (call_head call) false) tt
-  noted (at.Bit p) fit = bit_noted p
-  noted at.Worn fit = absurd fit
-  noted at.Publish fit = publish_noted call fit
-  noted at.Active fit = active_noted seen.members
-  noted (at.Walk p) fit = walk_noted p
-  noted (at.Add adding.Lock) fit = tt
-  noted (at.Add adding.Queue) fit = either seen.worn
+  noted (at.Finish finishing.Unlock failed) fit pg = ends_noted failed (event.Unlock (call_head call) false) tt
+  noted (at.Bit p) fit pg = bit_noted p
+  noted (at.Page p) fit pg = page_noted p
+  noted at.Worn fit pg = absurd fit
+  noted at.Publish fit pg = publish_noted call fit
+  noted at.Active fit pg = active_noted seen.members
+  noted (at.Walk p) fit pg = walk_noted p pg
+  noted (at.Add adding.Lock) fit pg = tt
+  noted (at.Add adding.Queue) fit pg = either seen.worn
       (ends_with (event.Unlock (call_head call) false) answer.Worn)
       (go (event.Queue (call_head call) (form_of call)) (at.Add adding.Unlock)) tt tt
-  noted (at.Add adding.Unlock) fit = tt
-  noted (at.Remove removing.Lock) fit = tt
-  noted (at.Remove (removing.Queue c)) fit = tt
-  noted (at.Remove (removing.Unlock c)) fit = tt
-  noted (at.Woken hearing.State) fit = tt
-  noted (at.Woken hearing.Flag) fit = tt
-  noted (at.Woken hearing.Sleep) fit = tt
-  noted (at.Woken hearing.Run) fit = tt
-  noted (at.Woken hearing.Clear) fit = tt
-  noted (at.Select selecting.Store) fit = done_no_bit (call_watch call) fit
-  noted (at.Select (selecting.Next n)) fit = either (is_enough call n) (select_ends call n true)
+  noted (at.Add adding.Unlock) fit pg = tt
+  noted (at.Remove removing.Lock) fit pg = tt
+  noted (at.Remove (removing.Queue c)) fit pg = tt
+  noted (at.Remove (removing.Unlock c)) fit pg = tt
+  noted (at.Woken hearing.State) fit pg = tt
+  noted (at.Woken hearing.Flag) fit pg = tt
+  noted (at.Woken hearing.Sleep) fit pg = tt
+  noted (at.Woken hearing.Run) fit pg = tt
+  noted (at.Woken hearing.Clear) fit pg = tt
+  noted (at.Select selecting.Store) fit pg = done_no_bit (call_watch call) fit
+  noted (at.Select (selecting.Next n)) fit pg = either (is_enough call n) (select_ends call n true)
       (select_next call n seen.called (meets (mask_of mode.Normal) seen.other.state)) tt
       (select_next_noted n seen.called (meets (mask_of mode.Normal) seen.other.state))
-  noted (at.Await p) fit = await_noted (await_no_bit call fit) p
-  noted (at.Count p) fit = count_noted (done_no_bit (call_watch call) fit) p
-  noted at.Store fit = plain_no_bit (call_watch call) fit
-  noted p fit = tt
+  noted (at.Await p) fit pg = await_noted (await_no_bit call fit) p
+  noted (at.Count p) fit pg = count_noted (done_no_bit (call_watch call) fit) p
+  noted at.Store fit pg = plain_no_bit (call_watch call) fit
+  noted p fit pg = tt

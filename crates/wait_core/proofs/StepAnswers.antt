@@ -39,6 +39,8 @@ use Rattle.wait_model.specs.declared.points.Planned.{Planned}
 use Rattle.wait_model.specs.declared.points.Point.{Point}
 use Rattle.wait_model.specs.declared.points.Point.TheVariants as at
 use Rattle.wait_model.specs.declared.points.WalkPoint.TheVariants as walking
+use Rattle.wait_model.specs.declared.points.PageStage.{PageStage}
+use Rattle.wait_model.specs.declared.points.PageStage.TheVariants as staging
 use Rattle.wait_model.specs.declared.points.SelectPoint.TheVariants as selecting
 use Rattle.wait_model.specs.declared.queues.Walking.{Walking}
 use Rattle.wait_model.specs.declared.watches.Entry.{Entry}
@@ -46,7 +48,7 @@ use Rattle.wait_model.specs.declared.points.Progress.{Progress}
 use Rattle.wait_model.specs.declared.points.Progress.TheVariants as now
 use Rattle.wait_model.specs.declared.calls.Ran.{Ran}
 use Rattle.wait_model.specs.declared.calls.Ran.TheVariants as ran
-use Rattle.wait_model.specs.Programs.{program, program_start, walk_event, call_entry, call_next, go}
+use Rattle.wait_model.specs.Programs.{program, program_start, walk_event, hands_event, call_entry, call_next, go}
 use Rattle.wait_model.specs.Points.{call_watch, call_head, call_aim, given_at, IsNamed, IsReachable}
 use Rattle.wait_model.specs.Watches.{IsThere}
 use Rattle.wait_model.specs.Programs.{IsFitting, IsFittingWalk}
@@ -86,7 +88,7 @@ use Rattle.wait_core.specs.Stepped.{stepped, event_or_refusal, first_refusal, st
 use Rattle.wait_core.specs.declared.engine.StartFault.TheVariants as faults
 use Rattle.std.specs.declared.result.Result.TheVariants.{Ok, Err}
 use Rattle.wait_core.specs.Core.{IsCore, open_calls}
-use Rattle.wait_core.specs.Keepers.{ShowsKeepers, keeps_shown, kept_after}
+use Rattle.wait_core.specs.Keepers.{ShowsKeepers, ShowsTaken, keeps_shown, kept_after, taken_after}
 use Rattle.wait_core.proofs.KeptCore.{
   calls_few,
   MayOpen,
@@ -96,6 +98,7 @@ use Rattle.wait_core.proofs.KeptCore.{
   joins,
   made_core,
   keepers_kept,
+  taken_kept,
   opened_room,
   opened_core,
 }
@@ -114,6 +117,14 @@ module _ (s : State) (me : ℕ) (call : Call) (seen : Seen) (walk : Arrived) whe
   entry_unmarked w c kind.Bit hit = tt
   entry_unmarked w c kind.Var hit = tt
   entry_unmarked w c kind.Simple hit = tt
+  entry_unmarked w c kind.Page hit = tt
+
+  hands_unmarked : (st : PageStage) (w : Walking) (c : CalledEntry)
+      → IsUnmarked (hands_event (call_aim call) st w c seen).event
+  hands_unmarked staging.Try w c = tt
+  hands_unmarked staging.Hand w c = tt
+  hands_unmarked staging.Wake w c = tt
+  hands_unmarked staging.Off w c = tt
 
   next_unmarked : (w : Walking) (o : Option CalledEntry) (hit : Bool)
       → IsUnmarked (call_next (call_aim call) w o seen hit).event
@@ -142,6 +153,8 @@ module _ (s : State) (me : ℕ) (call : Call) (seen : Seen) (walk : Arrived) whe
   walk_marked (walking.Bit w c) e goes is = unmarked (at.Walk (walking.Bit w c)) _ e tt is
   walk_marked (walking.Wake w c) e goes is = unmarked (at.Walk (walking.Wake w c)) _ e tt is
   walk_marked (walking.Unqueue w who) e goes is = unmarked (at.Walk (walking.Unqueue w who)) _ e tt is
+  walk_marked (walking.Page st w c) e goes is = unmarked (at.Walk (walking.Page st w c)) _ e (hands_unmarked st w c) is
+  walk_marked (walking.Stopped w) e goes is = unmarked (at.Walk (walking.Stopped w)) _ e tt is
   walk_marked (walking.Spent w) e goes is = unmarked (at.Walk (walking.Spent w)) _ e tt is
   walk_marked (walking.BreakUnlock w) e goes is = unmarked (at.Walk (walking.BreakUnlock w)) _ e tt is
   walk_marked (walking.BreakLock w) e goes is = unmarked (at.Walk (walking.BreakLock w)) _ e tt is
@@ -290,6 +303,7 @@ call_reaches n call p k = (k.who, named p k)
     named : (p : Point) → IsCallSound n call p → IsNamed p
     named (at.Walk (walking.Wake w c)) k = k.walk.1
     named (at.Walk (walking.Bit w c)) k = k.walk.1
+    named (at.Walk (walking.Page st w c)) k = k.walk.1
     named p k = tt
 
 counted_fits : (n : ℕ) (w : Walking) → n ≤ EVENTS → IsCounted n w → IsFittingWalk w
@@ -305,6 +319,7 @@ call_fits n call (at.Walk (walking.Call w)) few k = counted_fits n w few k.walk
 call_fits n call (at.Walk (walking.BreakLock w)) few k = counted_fits n w few k.walk
 call_fits n call (at.Walk (walking.Wake w c)) few k = (counted_fits n w few k.walk.0, k.walk.2)
 call_fits n call (at.Walk (walking.Bit w c)) few k = (counted_fits n w few k.walk.0, k.walk.2)
+call_fits n call (at.Walk (walking.Page st w c)) few k = (counted_fits n w few k.walk.0, k.walk.2)
 call_fits n call (at.Select (selecting.Next j)) few k = let l : j ≤ n = k.walk in omega arith
 call_fits n call p few k = tt
 
@@ -348,24 +363,38 @@ module _ (words : List ℕ) (points : List Progress) (items : List Ran) (count c
   plan_marked walk goes = marked (state_of items) me call (seen_by (state_of items) me call p) walk p plan.event goes
       (ap (λ (x : Planned). x.event) (sym is))
 
-  -- who keeps each bit after it, and the core after what the code did
-  pub stepped_keepers : (keepers : List (Option ℕ)) → ShowsKeepers keepers (state_of items).table.view
-      → None ≡ busy_head (state_of items) plan.event → (found : ℕ) → (items' : List Ran)
-      → items' ≡ items ++ ran.Made me plan.event found ∷ [] → (keepers' : List (Option ℕ))
-      → keepers' ≡ kept_after me plan.event keepers → ShowsKeepers keepers' (state_of items').table.view
-  stepped_keepers keepers shown free found items' grown keepers' noted =
-      subst (λ (w : List Ran). ShowsKeepers keepers' (state_of w).table.view) (sym grown)
-      (subst (λ (t : State). ShowsKeepers keepers' t.table.view)
-      (sym (state_after-push start_state items (ran.Made me plan.event found)))
-      (subst (λ (x : Progress). ShowsKeepers keepers'
-      (after_event (state_of items) me (given_by x) plan.event).table.view)
-      (sym (open_is words points items count capacity core me mine call p stands))
-      (subst (λ (k : List (Option ℕ)). ShowsKeepers k
-      (after_event (state_of items) me (given_at call p) plan.event).table.view) (sym noted)
-      (subst (λ (x : Planned). ShowsKeepers (kept_after me x.event keepers)
-      (after_event (state_of items) me (given_at call p) x.event).table.view) (sym is)
-      (keepers_kept words points items count capacity core me mine call p stands runs keepers shown
-      (sym (free ∙ ap (λ (y : Planned). busy_head (state_of items) y.event) is)))))))
+  -- who keeps each bit after it, and which page was taken for each task
+  module _ (pages : List (Option ℕ)) (noted_pages : ShowsTaken pages (state_of items).table.taken) (found : ℕ)
+      (items' : List Ran) (grown : items' ≡ items ++ ran.Made me plan.event found ∷ []) where
+    -- what holds of the state after the planned event holds of the state after the grown run
+    grown_state : (P : State → Type 0) → ((t : State) (f : ℕ → Progress) → P t → P (record t { progress = f }))
+        → P (after_event (state_of items) me (given_at call p) plan.event) → P (state_of items')
+    grown_state P any h = subst (λ (w : List Ran). P (state_of w)) (sym grown)
+        (subst P (sym (state_after-push start_state items (ran.Made me plan.event found)))
+        (any (after_event (state_of items) me (given_by ((state_of items).progress me)) plan.event) _
+        (subst (λ (x : Progress). P (after_event (state_of items) me (given_by x) plan.event))
+        (sym (open_is words points items count capacity core me mine call p stands)) h)))
+
+    pub stepped_keepers : (keepers : List (Option ℕ)) → ShowsKeepers keepers (state_of items).table.view
+        → None ≡ busy_head (state_of items) plan.event → (keepers' : List (Option ℕ))
+        → keepers' ≡ kept_after me plan.event pages keepers → ShowsKeepers keepers' (state_of items').table.view
+    stepped_keepers keepers shown free keepers' noted = grown_state (λ t. ShowsKeepers keepers' t.table.view)
+        (λ t f h. h)
+        (subst (λ (k : List (Option ℕ)). ShowsKeepers k
+        (after_event (state_of items) me (given_at call p) plan.event).table.view) (sym noted)
+        (subst (λ (x : Planned). ShowsKeepers (kept_after me x.event pages keepers)
+        (after_event (state_of items) me (given_at call p) x.event).table.view) (sym is)
+        (keepers_kept words points items count capacity core me mine call p stands runs pages noted_pages keepers shown
+        (sym (free ∙ ap (λ (y : Planned). busy_head (state_of items) y.event) is)))))
+
+    pub stepped_taken : (pages' : List (Option ℕ)) → pages' ≡ taken_after me plan.event pages
+        → ShowsTaken pages' (state_of items').table.taken
+    stepped_taken pages' noted = grown_state (λ t. ShowsTaken pages' t.table.taken) (λ t f h. h)
+        (subst (λ (k : List (Option ℕ)). ShowsTaken k
+        (after_event (state_of items) me (given_at call p) plan.event).table.taken) (sym noted)
+        (subst (λ (x : Planned). ShowsTaken (taken_after me x.event pages)
+        (after_event (state_of items) me (given_at call p) x.event).table.taken) (sym is)
+        (taken_kept words points items count capacity core me mine call p stands runs pages noted_pages)))
 
   -- the core after what the code did
   pub stepped_core : (found : ℕ) → found ≡ found_by (state_of items) me plan.event
@@ -503,6 +532,14 @@ module _ (words : List ℕ) (points : List Progress) (items : List Ran) (count c
   started_keepers keepers shown items' grown =
       subst (λ (w : List Ran). ShowsKeepers keepers (state_of w).table.view) (sym grown)
       (subst (λ (t : State). ShowsKeepers keepers t.table.view)
+      (sym (state_after-push start_state items (ran.Opened me call))) shown)
+
+  pub started_taken : (pages : List (Option ℕ)) → ShowsTaken pages (state_of items).table.taken
+      → (items' : List Ran)
+      → items' ≡ items ++ ran.Opened me call ∷ [] → ShowsTaken pages (state_of items').table.taken
+  started_taken pages shown items' grown =
+      subst (λ (w : List Ran). ShowsTaken pages (state_of w).table.taken) (sym grown)
+      (subst (λ (t : State). ShowsTaken pages t.table.taken)
       (sym (state_after-push start_state items (ran.Opened me call))) shown)
 
   pub started_ok : (v : List Ran) → items ≡ v → Ok tt ≡ started (state_of v) me call

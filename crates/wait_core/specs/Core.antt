@@ -7,7 +7,7 @@ use Rattle.wait_model.specs.declared.points.Progress.{Progress}
 use Rattle.wait_core.specs.declared.index.RankedMember.{RankedMember}
 use Rattle.wait_core.specs.Scan.{shown_stand}
 use Rattle.wait_core.specs.Index.{IsIndex}
-use Rattle.wait_core.specs.Keepers.{ShowsKeepers}
+use Rattle.wait_core.specs.Keepers.{ShowsKeepers, ShowsTaken}
 use Rattle.wait_model.specs.declared.calls.Ran.{Ran}
 use Rattle.wait_model.specs.Runs.{IsRun, state_of, made_in, is_open}
 use Rattle.wait_model.specs.Locations.{Shows}
@@ -31,10 +31,12 @@ pub record IsCore (words : List ℕ) (points : List Progress) (items : List Ran)
     pub room : length items ≤ 2 * count + open_calls points
     pub reserved : RUN_ITEMS ≤ capacity
 
--- the parts of a core, who keeps each bit, and the list of the members that stand, with room for them all
+-- the parts of a core, who keeps each bit, the page that was taken for each task, and the list of the members that
+-- stand, with room for them all
 pub record IsIndexedCore (words : List ℕ) (points : List Progress) (items : List Ran) (count capacity : ℕ)
-    (keepers : List (Option ℕ)) (index : List RankedMember) (room : ℕ) : Type 0 where
+    (keepers pages : List (Option ℕ)) (index : List RankedMember) (room : ℕ) : Type 0 where
   pub core : IsCore words points items count capacity
   pub kept : ShowsKeepers keepers (state_of items).table.view
+  pub taken : ShowsTaken pages (state_of items).table.taken
   pub indexed : IsIndex (shown_stand words) index
   pub spacious : MEMBERS ≤ room

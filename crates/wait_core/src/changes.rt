@@ -17,7 +17,7 @@ use crate::arrivals::{Arrived, place_before};
 use crate::index::{Class, RankedMember};
 use crate::scan::place_at;
 use wait_model::calls::{Call, Event};
-use wait_model::layout::SLOTS;
+use wait_model::layout::{HANDED, SLOTS};
 use wait_model::points::{Point, kind_at, mask_at};
 use wait_model::queues::{Form, Mark};
 use wait_model::tasks::{TaskRecord, accepted, raised, slept, task_of, woken, word_of};
@@ -98,6 +98,8 @@ pub fn left_by(
         Event::Set { value, .. } => value,
         Event::Tas { bit, .. } => with_bit(found, bit),
         Event::Clear { bit, .. } => without_bit(found, bit),
+        Event::TasFor { .. } => with_bit(found, 0),
+        Event::Handed { .. } => HANDED,
         Event::Woken { .. } => flag_word_of(true),
         Event::Unflag => flag_word_of(false),
         Event::Unqueue { .. } => 0,

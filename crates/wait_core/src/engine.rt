@@ -16,7 +16,7 @@ ghost use Rattle.wait_core.specs.Spoken.{EndsSentence};
 
 use crate::changes::{change_by, class_at};
 use crate::index::{RankedMember, reindex};
-use crate::keepers::{keep, keeps_of, no_keepers};
+use crate::keepers::{keep, keeps_of, no_keepers, none_taken};
 use crate::reads::{arrived_at, held_head, plan, read_entry, read_task};
 use crate::scan::member_ranked;
 use std::alloc::{AllocError, Global};
@@ -64,6 +64,8 @@ pub struct Core {
     made: u32,
     /// The task that keeps each bit.
     keepers: Vec<Option<u8>>,
+    /// The page that a walk took for each task, which has not taken note of it yet.
+    taken: Vec<Option<u8>>,
     /// The members of all queues, by rising head and rank.
     index: Vec<RankedMember>,
 }
@@ -78,7 +80,7 @@ impl Model for Core {
     ghost view = { λ c. c.run.items };
 
     ghost invariant = { λ c. IsIndexedCore c.words.items c.progress.items c.run.items c.made (vec_capacity c.run)
-        c.keepers.items c.index.items (vec_capacity c.index) };
+        c.keepers.items c.taken.items c.index.items (vec_capacity c.index) };
 }
 
 impl Core {
@@ -88,6 +90,7 @@ impl Core {
     ghost use Rattle.wait_model.specs.Laws.{NoLostWake, NoLostFlag};
     ghost use Rattle.wait_model.specs.Completions.{CountsAreBalanced};
     ghost use Rattle.wait_model.specs.BitKeepers.{AreKept};
+    ghost use Rattle.wait_model.specs.Lent.{NoPageIsLeft};
     ghost use Rattle.wait_model.specs.Selections.{IsOrderly};
     ghost use Rattle.wait_model.specs.Spoken.{BeginsOpen};
     ghost use Rattle.wait_model.specs.Queues.{member_from, rank, IsInOrder};
@@ -112,6 +115,7 @@ impl Core {
         let progress = nobody(alloc, usize::from(TASKS))?;
         let run = Vec::with_capacity(alloc, RUN_ITEMS)?;
         let keepers = no_keepers(alloc)?;
+        let taken = none_taken(alloc)?;
         let index = Vec::with_capacity(alloc, usize::from(MEMBERS))?;
         Ok(Core {
             words,
@@ -119,6 +123,7 @@ impl Core {
             run,
             made: 0,
             keepers,
+            taken,
             index,
         })
     }
@@ -170,7 +175,7 @@ impl Core {
         self.words[position as usize]
     }
 
-    /// No wake is lost in the state of any core. Whoever sleeps on a plain condition, a completion, a bit or a
+    /// No wake is lost in the state of any core. Whoever sleeps on a plain condition, a completion, a bit, a page or a
     /// variable that is set is covered by a task that owes the wake, or a walk has used up its count on others
     /// since, or some task is trying the bit. `wake` and `flag` say so in terms of views, `told` by the tasks'
     /// histories alone, and `waiters` that each task that is asleep in a wait sleeps in that sense.
@@ -188,8 +193,9 @@ impl Core {
     /// answer of a wake of a simple queue tells how many it took off. A wait that ends with `RESTART` does so by a load
     /// of its condition that found it not set, in a turn that a signal ended, with its entry off. A wait for a bit that
     /// ends with `INTERRUPTED` found the bit set in a turn that a signal ended, and one that takes the bit has tried
-    /// once more and found it set. And each task has accepted, or has pending, at most the signals that were raised at
-    /// it, and the same of fatal ones.
+    /// once more and found it set. A wait for a page that ends so found the page set in the hold in which it queued its
+    /// entry, and its flag not set in its last turn, which a signal ended, and after it. And each task has accepted, or
+    /// has pending, at most the signals that were raised at it, and the same of fatal ones.
     pub fn is_orderly(&self)
         ensures { IsOrderly self.now }
     {
@@ -211,10 +217,13 @@ impl Core {
         let _ = &self.run;
     }
 
-    /// Each bit of any core is set exactly where one task keeps it: by an exchange that found it clear, and
-    /// not cleared by that task since.
+    /// Each bit of any core is set exactly where one task holds it: by an exchange of its own that found it clear, or,
+    /// for a page, by one that a walk made for it, and not cleared by that task since. So a page that was handed to a
+    /// task has that task as its only holder, also while it sleeps; and until the task takes note of it, it has a call
+    /// open that locks this page.
     pub fn bits_are_kept(&self)
-        ensures { AreKept (state_of self.now).table }
+        ensures kept { AreKept (state_of self.now).table }
+        ensures lent { NoPageIsLeft (state_of self.now) }
     {
         let _ = &self.run;
     }
@@ -289,7 +298,7 @@ impl Core {
         let class = class_at(task, event);
         reindex(&mut self.index, &self.words, class, change.left);
         self.words[change.at] = change.left;
-        keep(&mut self.keepers, task, event);
+        keep(&mut self.keepers, &mut self.taken, task, event);
         advance(&mut self.progress[slot], planned.next);
         log(&mut self.run, Ran::Made { task, event, found });
         self.made += 1;

@@ -1,20 +1,22 @@
-//! Who keeps each bit: the task that set it and has not cleared it since.
+//! Who keeps each bit: the task that set it, or took note of the page that a walk took for it, and has not cleared it
+//! since. Beside it the page that a walk took for each task, until the task takes note of it.
 
-ghost use Rattle.std.specs.Prelude.{◌≡◌, ℕ, ◌+◌, ◌*◌, ◌<◌, IfOk, Some, None, length, slice_get, true};
-ghost use Rattle.wait_model.specs.declared.layout.TheConstants.{WORD_BITS, BITS};
+ghost use Rattle.std.specs.Prelude.{◌≡◌, ℕ, ◌+◌, ◌*◌, ◌<◌, IfOk, IfSome, Some, None, length, slice_get, true};
+ghost use Rattle.std.specs.Prelude.{slice_index_or};
+ghost use Rattle.wait_model.specs.declared.layout.TheConstants.{TASKS, BIT_WORDS, WORD_BITS, BITS};
 ghost use Rattle.wait_model.specs.Admission as spec;
 ghost use Rattle.wait_model.specs.Shown.{IsInRange};
-ghost use Rattle.wait_core.specs.Keepers.{keeps_shown, kept_after};
+ghost use Rattle.wait_core.specs.Keepers.{keeps_shown, kept_after, noted_by, taken_after};
 ghost use Rattle.wait_core.specs.Keepers as keepers_of;
 
 use std::alloc::{AllocError, Global};
 use wait_model::calls::{Call, Event};
-use wait_model::layout::{BITS, WORD_BITS};
+use wait_model::layout::{BITS, TASKS, WORD_BITS};
 
-/// So many bits that nobody keeps.
-fn kept_by_nobody(alloc: Global, count: usize) -> Result<Vec<Option<u8>>, AllocError>
-    ensures count { IfOk result (λ keepers. length keepers.items ≡ count) }
-    ensures none { IfOk result (λ keepers. (k : ℕ) → k < count → slice_get keepers.items k ≡ Some None) }
+/// So many places with nothing in them.
+fn nothing(alloc: Global, count: usize) -> Result<Vec<Option<u8>>, AllocError>
+    ensures count { IfOk result (λ places. length places.items ≡ count) }
+    ensures none { IfOk result (λ places. (k : ℕ) → k < count → slice_get places.items k ≡ Some None) }
 {
     vec![in alloc; None; count]
 }
@@ -24,7 +26,15 @@ pub fn no_keepers(alloc: Global) -> Result<Vec<Option<u8>>, AllocError>
     ensures count { IfOk result (λ keepers. length keepers.items ≡ BITS) }
     ensures none { IfOk result (λ keepers. (k : ℕ) → k < BITS → slice_get keepers.items k ≡ Some None) }
 {
-    kept_by_nobody(alloc, usize::from(BITS))
+    nothing(alloc, usize::from(BITS))
+}
+
+/// No page was taken for any task.
+pub fn none_taken(alloc: Global) -> Result<Vec<Option<u8>>, AllocError>
+    ensures count { IfOk result (λ taken. length taken.items ≡ TASKS) }
+    ensures none { IfOk result (λ taken. (k : ℕ) → k < TASKS → slice_get taken.items k ≡ Some None) }
+{
+    nothing(alloc, usize::from(TASKS))
 }
 
 /// The number of a bit among all bits.
@@ -56,17 +66,41 @@ pub fn keeps_of(keepers: &[Option<u8>], task: u8, call: Call) -> bool
     }
 }
 
-/// Notes who keeps the bit that an event set or cleared.
-pub fn keep(keepers: &mut Vec<Option<u8>>, task: u8, event: Event)
+/// Notes that a task keeps the page of which it takes note, if one was taken for it.
+fn note(keepers: &mut Vec<Option<u8>>, task: u8, page: Option<u8>)
     requires count { length keepers.old.items ≡ BITS }
+    requires page { IfSome page (λ p. p < BIT_WORDS) }
+    ensures { keepers.new.items ≡ noted_by task page keepers.old.items }
+{
+    if let Some(page) = page {
+        keepers[bit_number(page, 0)] = Some(task);
+    }
+}
+
+/// Notes who keeps the bit that an event set or cleared, for whom it took a page, and who took note of one.
+pub fn keep(keepers: &mut Vec<Option<u8>>, taken: &mut Vec<Option<u8>>, task: u8, event: Event)
+    requires count { length keepers.old.items ≡ BITS }
+    requires tasks { length taken.old.items ≡ TASKS }
+    requires page { IfSome (slice_index_or taken.old.items task None) (λ p. p < BIT_WORDS) }
     requires event { IsInRange event }
-    ensures { keepers.new.items ≡ kept_after task event keepers.old.items }
+    ensures kept { keepers.new.items ≡ kept_after task event taken.old.items keepers.old.items }
+    ensures taken { taken.new.items ≡ taken_after task event taken.old.items }
 {
     match event {
         Event::Tas { word, bit, found } => {
             if found == 0 {
                 keepers[bit_number(word, bit)] = Some(task);
             }
+        }
+        Event::TasFor { word, who, found } => {
+            if found == 0 {
+                taken[usize::from(who)] = Some(word);
+            }
+        }
+        Event::Unflag => {
+            let slot = usize::from(task);
+            note(keepers, task, taken[slot]);
+            taken[slot] = None;
         }
         Event::Clear { word, bit } => keepers[bit_number(word, bit)] = None,
         _ => {}

@@ -10,6 +10,8 @@ mod completion_tests;
 mod engine;
 mod index;
 mod keepers;
+#[cfg(test)]
+mod page_tests;
 mod reads;
 mod scan;
 #[cfg(test)]

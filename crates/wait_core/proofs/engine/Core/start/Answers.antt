@@ -12,6 +12,7 @@ use Rattle.wait_core.proofs.StepAnswers.{
   loose_refused,
   started_core,
   started_keepers,
+  started_taken,
   started_ok,
 }
 use Rattle.wait_core.proofs.engine.Core.start.Goals as goal
@@ -52,6 +53,9 @@ invariant_of-self c =
       kept = started_keepers _ _ _ _ _ core c.args.task mine _ c.from-slot.ensures _ c.index.ensures _
           c.is_open_at.ensures c.if-is_open_at.false c.args.call may c.self.inside.keepers.items
           c.self.invariant.kept _ c.log.ensures.items;
+      taken = started_taken _ _ _ _ _ core c.args.task mine _ c.from-slot.ensures _ c.index.ensures _
+          c.is_open_at.ensures c.if-is_open_at.false c.args.call may c.self.inside.taken.items
+          c.self.invariant.taken _ c.log.ensures.items;
       indexed = c.self.invariant.indexed;
       spacious = c.self.invariant.spacious;
     }

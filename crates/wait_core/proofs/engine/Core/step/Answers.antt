@@ -19,6 +19,7 @@ use Rattle.wait_core.proofs.StepAnswers.{
   made,
   stepped_core,
   stepped_keepers,
+  stepped_taken,
   grown_run,
   room_left,
   plan_allowed,
@@ -30,6 +31,7 @@ use Rattle.wait_core.proofs.StepAnswers.{
   call_fits,
   plan_in_range,
 }
+use Rattle.wait_core.proofs.KeptBits.{page_small}
 use Rattle.wait_core.proofs.SpokenCalls.{ended_well}
 use Rattle.wait_core.proofs.FollowedRuns.{left_by, left_now}
 use Rattle.wait_core.proofs.engine.Core.step.Goals as goal
@@ -205,6 +207,11 @@ keep-requires-clause-event c =
     plan_in_range _ _ _ _ _ core c.args.task mine c.in-Open.call c.in-Open.point stands
     (running _ _ record_is c.if-not-read_task.false) _ is
 
+pub keep-requires-clause-page : goal.keep-requires-clause-page
+keep-requires-clause-page c =
+    let mine : c.args.task < TASKS = omega arith in
+    page_small c.self.inside.taken.items _ c.self.invariant.taken c.args.task mine
+
 pub log-requires : goal.log-requires
 log-requires c = room_left _ _ _ _ _ c.self.invariant.core c.if-self-eq-EVENTS.false
 
@@ -246,8 +253,11 @@ invariant_of-self c =
           _ left _ (c.advance.ensures c.in-Open.call c.in-Open.point there) _ c.from-slot.ensures _ c.log.ensures.items
           _ c.log.ensures.capacity;
       kept = stepped_keepers _ _ _ _ _ core c.args.task mine c.in-Open.call c.in-Open.point stands
-          (running _ _ record_is c.if-not-read_task.false) _ is c.self.inside.keepers.items c.self.invariant.kept free
-          _ _ c.log.ensures.items _ c.keep.ensures;
+          (running _ _ record_is c.if-not-read_task.false) _ is c.self.inside.taken.items c.self.invariant.taken _ _
+          c.log.ensures.items c.self.inside.keepers.items c.self.invariant.kept free _ c.keep.ensures.kept;
+      taken = stepped_taken _ _ _ _ _ core c.args.task mine c.in-Open.call c.in-Open.point stands
+          (running _ _ record_is c.if-not-read_task.false) _ is c.self.inside.taken.items c.self.invariant.taken _ _
+          c.log.ensures.items _ c.keep.ensures.taken;
       indexed = rw (← c.deref-9.ensures.value, c.change_by-change.ensures.at.1) (c.reindex.ensures.index _ located
           (sym c.class_at-class.ensures.class));
       spacious = c.reindex.ensures.room;

@@ -1,4 +1,7 @@
 -- What a task knows after steps and looks, and what stays of it.
+pub mod Moments
+pub mod TableLaws
+pub mod SpentCounts
 pub mod AfterSteps
 pub mod SleepLooks
 pub mod Transitions
@@ -8,6 +11,7 @@ pub mod LookCounts
 pub mod SettledTasks
 pub mod TaskHistories
 pub mod OwnEntries
+pub mod StandingKinds
 pub mod HeadLinks
 pub mod MemberPlaces
 pub mod HeldHeads

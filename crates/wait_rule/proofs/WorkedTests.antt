@@ -2,3 +2,4 @@
 pub mod QueuedEntry
 pub mod SelectedEntry
 pub mod WorkedHolds
+pub mod WorkedEvents

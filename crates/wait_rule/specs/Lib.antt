@@ -1,5 +1,6 @@
 pub mod Tickets
 pub mod Items
+pub mod Interleavings
 pub mod Notes
 pub mod Members
 pub mod MemberWords
@@ -13,10 +14,15 @@ pub mod MemberLooks
 pub mod Rule
 pub mod Says
 pub mod Unlocks
+pub mod TableLaws
+pub mod Heeding
+pub mod Selecting
+pub mod WorkedEvents
 pub mod Queues
 pub mod Stays
 pub mod Shown
 pub mod Transitions
+pub mod SaidEvents
 pub mod Worn
 pub mod WorkedHolds
 pub mod Looking

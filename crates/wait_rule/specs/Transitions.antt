@@ -41,6 +41,7 @@ use Rattle.wait_model.specs.declared.points.AddPoint.TheVariants as adding
 use Rattle.wait_model.specs.declared.points.RemovePoint.TheVariants as removing
 use Rattle.wait_model.specs.declared.points.SelectPoint.TheVariants as selecting
 use Rattle.wait_model.specs.declared.points.AwaitPoint.TheVariants as awaiting
+use Rattle.wait_model.specs.declared.points.PagePoint.TheVariants as paging
 use Rattle.wait_model.specs.declared.points.Given.{Given}
 use Rattle.wait_model.specs.declared.points.Seen.{Seen}
 use Rattle.wait_model.specs.declared.points.Planned.{Planned}
@@ -147,7 +148,8 @@ IsQueuing k own g h form x e = (own ≡ Some x) × (h ≡ k.at) × IsWholeBook k
     × (e ≡ entry_for g form (place_for form (shown_queue k)))
 
 -- The step is the one that a core makes for the event, with what the event does not show as it is given. What the step
--- found, and the event shows, is what the program found (`FindsStep`).
+-- found, and the event shows, is what the program found (`FindsStep`). No step takes a page for a task or hands it on,
+-- since no entry for a page stands.
 abbrev pub IsStepFor : Known → Option ℕ → Given → Event → Step → Type 0
 IsStepFor k own g (event.State v) (step.State σ) = σ ≡ v
 IsStepFor k own g (event.Sleep x) (step.Sleep w) = Unit {0}
@@ -170,7 +172,7 @@ IsStepFor k own g (event.Tas i b v) (step.Consume l n r) = (l ≡ g.watch) × (n
 IsStepFor k own g (event.Clear i b) (step.Publish l n r) = (l ≡ g.watch) × (n ≡ 0)
 IsStepFor k own g (event.Woken who) (step.Woken x) = owner x ≡ who
 IsStepFor k own g (event.Flag hit) (step.Flag x w) = own ≡ Some x
-IsStepFor k own g event.Unflag (step.Unflag x) = own ≡ Some x
+IsStepFor k own g event.Unflag (step.Unflag x o) = (own ≡ Some x) × (o ≡ None)
 IsStepFor k own g _ _ = ⊥
 
 -- A look for members without the lock loads the member words of its head: all of them, where it finds no bit.
@@ -275,6 +277,8 @@ FindsAt k own form g (at.Leave leaving.Queue) seen = FindsOwn k own seen
 FindsAt k own form g (at.Finish finishing.Queue failed) seen = FindsOwn k own seen
 FindsAt k own form g (at.Await (awaiting.Off stopped)) seen = FindsOwn k own seen × FindsValue k g.watch seen
 FindsAt k own form g (at.Await (awaiting.Last stopped)) seen = FindsValue k g.watch seen
+FindsAt k own form g (at.Page paging.Queue) seen = FindsPlace k form seen
+FindsAt k own form g (at.Page (paging.Finish finishing.Queue)) seen = FindsOwn k own seen
 FindsAt k own form g (at.Remove removing.Lock) seen = (x : ℕ) × (own ≡ Some x)
     × (seen.entry ≡ (told_of k).bits.stored x)
 FindsAt k own form g (at.Walk (walking.Call w)) seen =

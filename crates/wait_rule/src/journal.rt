@@ -14,8 +14,8 @@ pub enum Item {
     Bookmark { who: u8, found: u64 },
     /// The member bit of the entry or bookmark whose word the task stored last, which it set or cleared. It is no step.
     Member,
-    /// A member word of the head that the task holds, which was loaded in one: the looks before it for which its clear
-    /// bits stand were no loads of their own. It is no step.
+    /// A member word of the head that the task holds, which was loaded in one: the looks before it for which its bits
+    /// stand, set and clear ones, were no loads of their own. It is no step.
     Word { found: u64 },
     /// A ticket of a head, which the task drew: its number is the one that was found. It is no step.
     Drawn { head: u16, found: u64 },

@@ -4,7 +4,14 @@ ghost use Rattle.std.specs.Prelude.{◌≡◌};
 ghost use Rattle.wait_rule.specs.Says.{MeetsLaw};
 ghost use Rattle.wait_rule.specs.Worn.{EntriesWearLate, MarksWearLate, HoldsWearLate, OwnWearsLate, JoinedWearsLate};
 ghost use Rattle.wait_rule.specs.Worn.{HoldsNote, NotesStay, JoinKeepsNotes};
+ghost use Rattle.wait_rule.specs.WorkedEvents.{WorkedEvents};
 ghost use Rattle.wait_rule.specs.WorkedHolds.{SimpleHolds, CallsRightly, PausesRightly};
+ghost use Rattle.wait_rule.specs.Heeding.{RunsHeed, WordsHeed};
+ghost use Rattle.wait_rule.specs.SaidEvents.{RunsBegin, RunsFollow, WalksFollow};
+ghost use Rattle.wait_rule.specs.Selecting.{RunsSelect, RunsTell, WordsSelect};
+ghost use Rattle.wait_rule.specs.TableLaws.{RuleLosesNoWake, StepsLoseNoWake, AllLoseNoWake};
+ghost use Rattle.wait_rule.specs.TableLaws.{RuleCountsSpent, AllCountSpent};
+ghost use Rattle.wait_rule.specs.TableLaws.{RuleInventsNoSignal, AllTookRaised, RuleKeepsBits, RuleBalances};
 ghost use Rattle.wait_rule.specs.Unlocks.{AllUnlocksCount};
 
 use crate::domain::{Domain, Task};
@@ -54,4 +61,61 @@ pub fn worked_holds()
 /// in the histories that it has then, less one while the serve of the last is still to come.
 pub fn unlocks_are_counted()
     ensures { AllUnlocksCount }
+{}
+
+/// What a task makes of a call follows the sentence of the call to its end, and the answer is the one that the sentence
+/// gives: in each table that meets the rule, with the task's list, for all calls that neither walk nor are about a
+/// completion. What it has made of such a call that is not over begins the sentence. What it makes of a walk of a plain
+/// condition follows the sentence of a wake.
+pub fn runs_follow_sentences()
+    ensures calls { RunsFollow }
+    ensures begun { RunsBegin }
+    ensures walks { WalksFollow }
+{}
+
+/// A wait in turns that answers for a signal has made, as its last events, a turn that found an admissible signal and
+/// left its entry off, and then a load that found its condition not set: so whatever follows the sentence of such a
+/// wait, and whatever a task of a Domain makes of it.
+pub fn signals_are_heeded()
+    ensures words { WordsHeed }
+    ensures runs { RunsHeed }
+{}
+
+/// A walk's answer tells how many wakes met their task in it. Those that it selected are among them and, of a count
+/// above 0, at most the count; it ended as spent exactly where they were as many as such a count: so whatever follows
+/// the sentence of a wake and takes no page for a task, and whatever a task of a Domain makes of a walk, which takes no
+/// page. There the selected ones are just the exclusive entries that the walk called and whose wakes met their tasks.
+pub fn walks_select_at_most()
+    ensures words { WordsSelect }
+    ensures runs { RunsSelect }
+    ensures tells { RunsTell }
+{}
+
+/// No wakeup is lost on a Domain: in each table that meets the rule, and after each step of each order of allowed
+/// steps, whoever sleeps on a watch that is set is covered by a task that owes the wake, or, at a plain condition or a
+/// completion, wakes used up their count at its head since, or, at a bit, a task is trying it. To a task that has
+/// joined all others it is told of the histories that it has. How often wakes used up their count at a head is told by
+/// the histories of all tasks: the head's spent count is that number, up to its end.
+pub fn no_wake_lost()
+    ensures rule { RuleLosesNoWake }
+    ensures steps { StepsLoseNoWake }
+    ensures all { AllLoseNoWake }
+    ensures spent { RuleCountsSpent }
+    ensures all_spent { AllCountSpent }
+{}
+
+/// On a Domain no task takes a signal that was not raised at it; a bit is set exactly where one task keeps it; the
+/// counts of completions are balanced: in each table that meets the rule. To a task that has joined all others the
+/// first is told of the histories that it has.
+pub fn words_are_accounted()
+    ensures signals { RuleInventsNoSignal }
+    ensures told { AllTookRaised }
+    ensures bits { RuleKeepsBits }
+    ensures counts { RuleBalances }
+{}
+
+/// What the definitions say of small lists: of a walk that meets one of two tasks, of the last turn of a wait that
+/// answers for a signal, and of a load and a store of two tasks in one order.
+pub fn worked_events()
+    ensures { WorkedEvents }
 {}

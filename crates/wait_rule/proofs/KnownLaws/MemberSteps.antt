@@ -19,6 +19,9 @@ use Rattle.std.specs.Prelude.{
   None,
   List,
   ◌++◌,
+  ◌&&◌,
+  ◌||◌,
+  not,
 }
 use Rattle.std.proofs.lemmas.Bool.Decides.{eqb_tells, nat_tests}
 use mathlib.Core.Path.{fun_ext}
@@ -32,7 +35,8 @@ use Rattle.wait_model.specs.declared.tasks.Sleep.TheVariants as sleep
 use Rattle.wait_model.specs.Tasks.{task_of, sleep_of}
 use Rattle.wait_model.specs.Functions.{put}
 use Rattle.wait_model.specs.declared.watches.Watch.{Watch}
-use Rattle.wait_model.specs.Watches.{head_of, owner, stands_at}
+use Rattle.wait_model.specs.Watches.{head_of, is_bit, was_clear, owner, stands_at}
+use Rattle.wait_model.specs.Watches.{same as same_watch}
 use Rattle.wait_model.specs.Views.{View as Told}
 use Rattle.wait_model.specs.Fold.{after, is_held}
 use Rattle.wait_model.specs.Tables.{Table, next}
@@ -59,7 +63,8 @@ use Rattle.wait_rule.proofs.TableSteps.ItemLists.{book_append}
 
 -- What the calls' steps keep of members and tickets: a word is stored, and a lock given back, where no word differs
 -- from its bit; a bookmark that is put or taken out is of the head that the task holds; a watch is tested in a hold
--- where no word differs from its bit; and a lock is taken by a ticket that was read as served.
+-- where no word differs from its bit, as a bit is by a test-and-set; and a lock is taken by a ticket that was read as
+-- served.
 abbrev pub IsOrderly : Table → ℕ → Step → Book → Type 0
 IsOrderly s a (step.Lock h aim w) b = (n : ℕ) × (b.ticket ≡ served h n)
 IsOrderly s a (step.Unlock h sp) b = b.differs ≡ nothing
@@ -69,6 +74,8 @@ IsOrderly s a (step.Mark h q) b = (b.differs ≡ nothing) × (s.mark a ≡ None)
 IsOrderly s a step.Unmark b = (b.differs ≡ nothing) × ((h : ℕ) × (q : ℕ) × ((s.view a).hold.head ≡ Some h)
     × (s.mark a ≡ Some (record { head = h; place = q })))
 IsOrderly s a (step.Load c r) b = (h : ℕ) → (s.view a).hold.head ≡ Some h → b.differs ≡ nothing
+IsOrderly s a (step.Consume c n r) b = is_bit c ≡ true → (h : ℕ) → (s.view a).hold.head ≡ Some h
+    → b.differs ≡ nothing
 IsOrderly s a e b = Unit {0}
 
 -- lists with more items
@@ -341,6 +348,7 @@ module _ (s : Table) (a : ℕ) (b : Book) (differs : ℕ → Difference) (beside
     failed = λ c. ap (λ (g : Watch → Option ℕ). g c) (put_same (s.view a).checks.failed x (λ _. None));
     low = λ c. ap (λ (g : Watch → Option ℕ). g c) (put_same (s.view a).checks.low x (λ _. None));
     zero_failed = by (s.view a).hold.prepared;
+    tas_failed = λ c. ap (λ (g : Watch → Bool). g c) (put_same (s.view a).checks.tas_failed x (λ _. false));
   }
     where
       by : (p : Bool) → (p ≡ true) ⊎ ((c : Watch) → (if p then (s.view a).checks.zero_failed
@@ -413,6 +421,23 @@ module _ (s : Table) (a : ℕ) (b : Book) (differs : ℕ → Difference) (beside
       g : ℕ
       g = clear.1.0
 
+  -- a value that is taken tests no bit, and a test-and-set is made where each word has its bit
+  consume_untested : (c : Watch) (n w : ℕ) → IsOrderly s a (step.Consume c n w) b → (h x : ℕ)
+      → (s.view a).hold.head ≡ Some h → b.differs ≡ at_entry x true → IsUntested (s.view a) h x
+      → IsUntested (after (step.Consume c n w) (s.view a)) h x
+  consume_untested c n w clear h x held at u = record {
+    held = u.held;
+    failed = u.failed;
+    low = u.low;
+    zero_failed = u.zero_failed;
+    tas_failed = λ d. by d (is_bit c) clear;
+  }
+    where
+      by : (d : Watch) (t : Bool) → (t ≡ true → (g : ℕ) → (s.view a).hold.head ≡ Some g → b.differs ≡ nothing)
+          → ((s.view a).checks.tas_failed x d || (t && (same_watch d c && not (was_clear c w)))) ≡ false
+      by d true tested = none_there x true (sym (tested refl h held) ∙ at)
+      by d false tested = ap (λ (o : Bool). o || false) (u.tas_failed d)
+
   pub members_next : (e : Step) → Allowed s a e → IsOrderly s a e b → AreMembers s differs beside
       → AreMembers (next s a e) (put differs a (learn_step e b).differs) beside
   members_next (step.Queue x e) may clear r = queue_members x e may clear r
@@ -436,14 +461,24 @@ module _ (s : Table) (a : ℕ) (b : Book) (differs : ℕ → Difference) (beside
         failed = λ c. refl;
         low = u.low;
         zero_failed = inl (ap is_held u.held);
+        tas_failed = u.tas_failed;
       }) r
-  members_next (step.Unflag y) may clear r = still_step s a (step.Unflag y) b differs beside refl refl refl refl same
-      (λ h x held at u. record {
+  members_next (step.Consume c n w) may clear r = still_step s a (step.Consume c n w) b differs beside refl refl refl
+      refl same (consume_untested c n w clear) r
+  members_next (step.Unflag y o) may clear r = still_step s a (step.Unflag y o) b differs beside refl refl refl refl
+      same (λ h x held at u. record {
         held = u.held;
         failed = u.failed;
         low = λ c. put_at (λ (g : Watch → Option ℕ). g c ≡ None) (s.view a).checks.low y (λ _. None) x (λ _. refl)
             (λ _. u.low c);
         zero_failed = u.zero_failed;
+        tas_failed = u.tas_failed;
       }) r
   members_next e may clear r = still_step s a e b differs beside refl refl refl refl same
-      (λ h x held at u. record { held = u.held; failed = u.failed; low = u.low; zero_failed = u.zero_failed }) r
+      (λ h x held at u. record {
+        held = u.held;
+        failed = u.failed;
+        low = u.low;
+        zero_failed = u.zero_failed;
+        tas_failed = u.tas_failed;
+      }) r

@@ -138,7 +138,7 @@ module _ (s : Table) (items : ℕ → List Item) (ruled : IsRuled s items) (a : 
   plain_consumes c = record {
     allowed = (tt, tt, refl);
     stored = tt;
-    orderly = tt;
+    orderly = λ bit. absurd (cc);
     places = still_places s a (step.Consume (watch.Plain c) 0 (s.words.plains c)) refl refl;
     links = quiet_links s a (step.Consume (watch.Plain c) 0 (s.words.plains c)) (record {
       holder = refl;

@@ -1,11 +1,11 @@
 -- The step on a flag word keeps the law.
 use Rattle.std.proofs.Common.{refl, ◌∙◌, ap, subst, sym}
-use Rattle.std.specs.Prelude.{ℕ, ◌≡◌, ◌≢◌, Bool, true, Some, List}
+use Rattle.std.specs.Prelude.{ℕ, ◌≡◌, ◌≢◌, Bool, true, false, Some, List}
 use Rattle.wait_model.specs.declared.watches.Entry.{Entry}
 use Rattle.wait_model.specs.declared.steps.Step.{Step}
 use Rattle.wait_model.specs.declared.steps.Step.TheVariants as step
 use Rattle.wait_model.specs.Functions.{put}
-use Rattle.wait_model.specs.Words.{flag_word}
+use Rattle.wait_model.specs.Words.{flag_word, done_word}
 use Rattle.wait_model.specs.Views.{View as Told, Look, shown}
 use Rattle.wait_model.specs.Tables.{Table}
 use Rattle.wait_model.specs.Facts.{Agrees}
@@ -19,22 +19,39 @@ use Rattle.wait_rule.proofs.KnownLaws.HeadLinks.{quiet_links}
 use Rattle.wait_rule.proofs.KnownLaws.MemberPlaces.{still_places}
 use Rattle.wait_rule.proofs.TableSteps.KeptSteps.{Leaves, KeepsLaw}
 
--- what a step on a flag word leaves
+-- a flag word without DONE
+without_done : (woken : Bool) → done_word woken false ≡ flag_word woken
+without_done true = refl
+without_done false = refl
+
+-- what a step on a flag word leaves: DONE is not beside WOKEN
+abbrev flag_stored : Table → ℕ → Bool → (ℕ → List Step) → (ℕ → Told) → Table
+flag_stored s x woken history view = record s {
+  flag = put s.flag x woken;
+  done = put s.done x false;
+  history = history;
+  view = view;
+}
+
 flag_leaves : (s : Table) (a x : ℕ) (woken : Bool) (b : Book) (history : ℕ → List Step) (view : ℕ → Told)
     → IsLawfulTable s → Fits (s.task a) b
-    → Leaves s (record s { flag = put s.flag x woken; history = history; view = view }) a (place.Flag x)
-    (flag_word woken) b
+    → Leaves s (flag_stored s x woken history view) a (place.Flag x) (flag_word woken) b
 flag_leaves s a x woken b history view l f = record {
   lawful = record { tasks = l.tasks; entries = l.entries; marks = l.marks; spent = l.spent; bits = l.bits };
   own = f;
   others = λ t ne c g. g;
-  left = ap flag_word (put_same s.flag x woken);
+  left = ap (λ (d : Bool). done_word (put s.flag x woken x) d) (put_same s.done x false)
+      ∙ (ap (λ (w : Bool). done_word w false) (put_same s.flag x woken) ∙ without_done woken);
   rest = rest_of;
 }
   where
     rest_of : (k : Location) → k ≢ place.Flag x
-        → word_in (record s { flag = put s.flag x woken; history = history; view = view }) k ≡ word_in s k
-    rest_of (place.Flag i) ne = ap flag_word (put_other s.flag x woken i (λ e. ne (ap place.Flag e)))
+        → word_in (flag_stored s x woken history view) k ≡ word_in s k
+    rest_of (place.Flag i) ne = ap (λ (w : Bool). done_word w (put s.done x false i)) (put_other s.flag x woken i other)
+        ∙ ap (λ (d : Bool). done_word (s.flag i) d) (put_other s.done x false i other)
+      where
+        other : i ≢ x
+        other e = ne (ap place.Flag e)
     rest_of k ne = refl
 
 -- in a hold that shows an entry, its flag may be set

@@ -66,12 +66,14 @@ use Rattle.wait_rule.specs.Journals.{Scene, moved, pushed}
 use Rattle.wait_rule.specs.Rule.{IsLawfulTable, IsWhole, AreLinked, all_notes, is_stepped, IsRuled, Law, Holds}
 use Rattle.wait_rule.specs.Plays.{Sat, seat_with, seat_tried}
 use Rattle.wait_rule.proofs.TableSteps.ItemLists.{steps_append, book_append}
+use Rattle.wait_rule.proofs.KnownLaws.Moments.{interleaved_next}
 use Rattle.wait_rule.proofs.KnownLaws.MemberSteps.{IsOrderly, differences_next, differences_same, members_next}
 use Rattle.wait_rule.proofs.KnownLaws.TicketSteps.{tickets_next, tickets_same, tickets_after}
 use Rattle.wait_rule.proofs.KnownLaws.HeadLinks.{KeepsLinks, noted_next, noted_seen, same_links}
 use Rattle.wait_rule.proofs.KnownLaws.MemberPlaces.{KeepsPlaces, queued_next}
 use Rattle.wait_rule.proofs.WornHeads.WornNotes.{IsShort, worn_next}
 use Rattle.wait_rule.proofs.KnownLaws.OwnEntries.{IsFair, done_store, own_next}
+use Rattle.wait_rule.proofs.KnownLaws.StandingKinds.{taken_next}
 use Rattle.wait_rule.proofs.TableSteps.StateLaws.{allows, pushed_none}
 
 -- What a step of task a leaves: from the table s it leads to z, where the word at l is n and all others are as
@@ -100,6 +102,7 @@ whole_next s a e few al st w = record {
   signals = λ t. signals_stay_raised TASKS s a e t few al (w.signals t);
   bits = bits_stay_kept s a e w.kept w.told al w.bits;
   counts = λ d. counts_stay_balanced TASKS s a e d few al (done_store s a e st) (w.counts d);
+  interleaved = interleaved_next s a e few al w.interleaved;
 }
 
 not_stepped : (k l : Location) → is_stepped k ≡ false → is_stepped l ≡ true → k ≢ l
@@ -149,6 +152,7 @@ ruled_next s items a l n e few is r k = record {
   linked = links_next s items a e r k.links;
   placed = k.places few r.placed;
   own = own_next s a e k.allowed k.stored r.own;
+  taken = taken_next s a e r.lawful k.allowed r.taken;
   worn = worn_next s (next s a e) items a (item.Made e ∷ []) tt r.worn
       (λ h. let n = queued_next s a e h few in omega (arith, n)) (whole_next s a e few k.allowed k.stored r.whole)
       (histories_next s items a e r.histories) k.leaves.lawful (links_next s items a e r k.links)
@@ -257,6 +261,7 @@ module _ (c : Scene) (law : Law c) (a : ℕ) (xs : List Item) (none : steps_of x
     linked = subst (AreLinked law.table) (sym (noted_seen c.items a xs)) links;
     placed = law.ruled.placed;
     own = law.ruled.own;
+    taken = law.ruled.taken;
     worn = worn_next law.table law.table c.items a xs short law.ruled.worn (λ h. omega arith) law.ruled.whole
         histories_seen law.ruled.lawful (subst (AreLinked law.table) (sym (noted_seen c.items a xs)) links)
         law.ruled.placed;

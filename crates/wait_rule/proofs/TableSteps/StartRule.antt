@@ -60,6 +60,7 @@ start_ruled items none = record {
     signals = λ t. signals_start_raised TASKS t;
     bits = bits_start_kept;
     counts = λ d. counts_start_balanced TASKS d;
+    interleaved = record { steps = []; allowed = tt; leads = refl };
   };
   histories = λ a. ap steps_of (sym (none a));
   lawful = record {
@@ -83,6 +84,7 @@ start_ruled items none = record {
     marks = λ t m is. absurd (cc);
   };
   own = λ x e is. absurd (cc);
+  taken = λ x. refl;
   worn = λ t h p w. absurd (none_worn t h p (items t) (none t) w);
   untouched = λ l unset. refl;
 }

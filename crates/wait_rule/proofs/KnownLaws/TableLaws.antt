@@ -1,0 +1,62 @@
+-- The laws of the model, by the rule and by the lists of all tasks.
+use Rattle.std.proofs.Common.{sym, ap, arith}
+use Rattle.std.specs.Prelude.{ℕ, ◌≡◌, ◌<◌}
+use Rattle.wait_model.specs.declared.layout.TheConstants.{TASKS}
+use Rattle.wait_model.specs.declared.steps.Step.{Step}
+use Rattle.wait_model.specs.Totals.{total, total_below}
+use Rattle.wait_model.specs.SignalCounts.{AreRaised, takes_fatal, takes_any, raises_fatal, raises_any}
+use Rattle.wait_model.proofs.HistoryLaws.NoLostWake.{no_wake_is_lost}
+use Rattle.wait_model.proofs.HistoryLaws.StepTotals.{sum_same}
+use Rattle.wait_rule.specs.declared.journal.Journal.{Journal}
+use Rattle.wait_rule.specs.Interleavings.{table_of}
+use Rattle.wait_rule.specs.Says.{IsShown}
+use Rattle.wait_rule.specs.TableLaws.{
+  AllLoseNoWake,
+  AllTookRaised,
+  HasAll,
+  RuleBalances,
+  RuleInventsNoSignal,
+  RuleKeepsBits,
+  RuleLosesNoWake,
+  StepsLoseNoWake,
+  histories_in,
+}
+use Rattle.wait_rule.proofs.KnownLaws.Moments.{kept_of, views_of}
+
+pub rule_loses_none : RuleLosesNoWake
+rule_loses_none s items ruled = no_wake_is_lost s ruled.whole.told ruled.whole.kept.no_lost_wake
+
+pub steps_lose_none : StepsLoseNoWake
+steps_lose_none xs may = no_wake_is_lost (table_of xs) (views_of xs) (kept_of xs may).no_lost_wake
+
+pub all_lose_none : AllLoseNoWake
+all_lose_none v law all =
+    (λ t few. law.history t (all t few), rule_loses_none law.table law.items law.ruled)
+
+pub rule_invents_none : RuleInventsNoSignal
+rule_invents_none s items ruled t = ruled.whole.signals t
+
+pub rule_keeps_bits : RuleKeepsBits
+rule_keeps_bits s items ruled = ruled.whole.bits
+
+pub rule_balances : RuleBalances
+rule_balances s items ruled d = ruled.whole.counts d
+
+module _ (v : Journal) (law : IsShown v) (all : HasAll v) where
+  told_below : (f : Step → ℕ) → total_below TASKS f (histories_in v) ≡ total_below TASKS f law.table.history
+  told_below f = sum_same TASKS (λ a. total f (law.table.history a)) (λ a. total f (histories_in v a))
+      (λ a few. ap (total f) (sym (law.history a (all a few))))
+
+  told_own : (f : Step → ℕ) (t : ℕ) → t < TASKS → total f (histories_in v t) ≡ total f (law.table.history t)
+  told_own f t few = ap (total f) (sym (law.history t (all t few)))
+
+pub all_took_raised : AllTookRaised
+all_took_raised v law all t few =
+    let r : AreRaised TASKS law.table t = law.ruled.whole.signals t in
+    let f = r.fatal in
+    let a = r.any in
+    let f_own = told_own v law all takes_fatal t few in
+    let f_all = told_below v law all (raises_fatal t) in
+    let a_own = told_own v law all takes_any t few in
+    let a_all = told_below v law all (raises_any t) in
+    record { fatal = omega arith; any = omega arith }

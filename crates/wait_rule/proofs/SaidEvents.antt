@@ -1,0 +1,11 @@
+-- Whole runs of calls as words of events.
+pub mod OwnFindings
+pub mod Fronts
+pub mod FollowedRuns
+pub mod BegunRuns
+pub mod SignalledRuns
+pub mod WalkFindings
+pub mod FollowedWalks
+pub mod PagelessWalks
+pub mod SelectingWalks
+pub mod SelectedEntries

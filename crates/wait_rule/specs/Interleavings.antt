@@ -1,0 +1,27 @@
+-- Tables to which steps of the tasks lead, one after another from the start, each allowed where it is made. (To be
+-- believed.)
+use Rattle.std.specs.Prelude.{ℕ, ◌≡◌, ◌<◌, List, [], ◌∷◌}
+use Rattle.wait_model.specs.declared.layout.TheConstants.{TASKS}
+use Rattle.wait_model.specs.declared.steps.Step.{Step}
+use Rattle.wait_model.specs.Tables.{Table, next, start}
+use Rattle.wait_model.specs.Rows.{Allowed}
+
+-- one step, and whose it is
+pub record TaskStep : Type 0 where
+  pub task : ℕ
+  pub made : Step
+
+-- the table after such steps, the latest first
+abbrev pub table_of : List TaskStep → Table
+table_of [] = start
+table_of (x ∷ xs) = next (table_of xs) x.task x.made
+
+abbrev pub AreAllowed : List TaskStep → Type 0
+AreAllowed [] = Unit {0}
+AreAllowed (x ∷ xs) = (x.task < TASKS) × Allowed (table_of xs) x.task x.made × AreAllowed xs
+
+-- some order of steps of all tasks leads to the table
+pub record IsInterleaved (s : Table) : Type 0 where
+  pub steps : List TaskStep
+  pub allowed : AreAllowed steps
+  pub leads : s ≡ table_of steps

@@ -1,0 +1,103 @@
+-- What the answer of a walk tells of whom it woke and selected: the law on selections, by its events. (To be believed.)
+use Rattle.std.specs.Prelude.{
+  ℕ,
+  ◌≡◌,
+  ◌+◌,
+  ◌<◌,
+  ◌≤◌,
+  Bool,
+  true,
+  false,
+  if◌then◌else◌,
+  Option,
+  Some,
+  None,
+  List,
+  [],
+  ◌∷◌,
+}
+use Rattle.wait_model.specs.declared.calls.Call.TheVariants as calls
+use Rattle.wait_model.specs.declared.calls.Event.{Event}
+use Rattle.wait_model.specs.declared.calls.Event.TheVariants as event
+use Rattle.wait_model.specs.declared.calls.Answer.TheVariants as answer
+use Rattle.wait_model.specs.declared.points.Point.{Point}
+use Rattle.wait_model.specs.declared.points.Point.TheVariants as at
+use Rattle.wait_model.specs.declared.points.WalkPoint.{WalkPoint}
+use Rattle.wait_model.specs.declared.points.WalkPoint.TheVariants as walking
+use Rattle.wait_model.specs.declared.points.Next.{Next}
+use Rattle.wait_model.specs.declared.points.Next.TheVariants as next
+use Rattle.wait_model.specs.declared.points.Seen.{Seen}
+use Rattle.wait_model.specs.declared.queues.CalledEntry.{CalledEntry}
+use Rattle.wait_model.specs.declared.queues.Walked.{Walked}
+use Rattle.wait_model.specs.declared.queues.End.TheVariants as end_as
+use Rattle.wait_model.specs.declared.watches.Aim.{Aim}
+use Rattle.wait_model.specs.declared.watches.Mode.{Mode}
+use Rattle.wait_model.specs.Programs.{walk_event}
+use Rattle.wait_model.specs.Sentences.{Follows}
+use Rattle.wait_rule.specs.Known.{Known}
+use Rattle.wait_rule.specs.SaidEvents.{HasWalked, said}
+use Rattle.wait_rule.specs.Transitions.{Transition, walk_program}
+
+-- how many wakes of a list of events met their task
+abbrev pub wakes_by : Event → ℕ
+wakes_by (event.Wake who true) = 1
+wakes_by _ = 0
+
+abbrev pub wakes_in : List Event → ℕ
+wakes_in [] = 0
+wakes_in (e ∷ w) = wakes_by e + wakes_in w
+
+-- A walk that woke so many tasks answers that number. Those that it selected are among them, and of a count above 0 not
+-- more than the count; it ended as spent exactly where they were as many as such a count.
+pub record IsTallied (count woken : ℕ) (k : Walked) : Type 0 where
+  pub tells : k.woken ≡ woken
+  pub among : k.selected ≤ k.woken
+  pub at_most : 0 < count → k.selected ≤ count
+  pub spent : k.end ≡ end_as.Spent → (0 < count) × (k.selected ≡ count)
+  pub used : 0 < count → k.selected ≡ count → k.end ≡ end_as.Spent
+
+-- No event takes a page for a task: the function of a page's entry answers yes whatever its wake answered.
+abbrev pub takes_page : Event → Bool
+takes_page (event.TasFor p who found) = true
+takes_page _ = false
+
+abbrev pub TakesNoPage : List Event → Type 0
+TakesNoPage [] = Unit {0}
+TakesNoPage (e ∷ w) = (takes_page e ≡ false) × TakesNoPage w
+
+-- so does whatever follows the sentence of a wake and takes no page
+abbrev pub WordsSelect : Type 0
+WordsSelect = (me c n : ℕ) (mode : Mode) (w : List Event) (k : Walked)
+    → Follows me (calls.Wake c mode n) w (answer.Walk k) → TakesNoPage w → IsTallied n (wakes_in w) k
+
+-- and whatever a task of a Domain makes of a walk, of any watch
+abbrev pub RunsSelect : Type 0
+RunsSelect = (aim : Aim) (old new : Known) (k : Walked) (m : HasWalked aim old new (answer.Walk k))
+    → IsTallied aim.count (wakes_in (said (walk_program aim) (next.Go (at.Walk walking.Lock)) m.transitions)) k
+
+-- whether a walk calls an exclusive entry at this point, by what it finds there
+abbrev pub is_exclusive_called : Option CalledEntry → Bool
+is_exclusive_called None = false
+is_exclusive_called (Some c) = c.exclusive
+
+abbrev pub calls_exclusive : WalkPoint → Seen → Bool
+calls_exclusive (walking.Call w) seen = is_exclusive_called seen.called
+calls_exclusive (walking.Wake w c) seen = c.exclusive
+calls_exclusive (walking.Bit w c) seen = c.exclusive
+calls_exclusive _ seen = false
+
+-- one where the transition's event is a wake that met its task, and the entry called there is exclusive
+abbrev pub selects_at : Aim → Point → Seen → ℕ
+selects_at aim (at.Walk p) seen = if calls_exclusive p seen then wakes_by (walk_event aim p seen).event else 0
+selects_at aim p seen = 0
+
+abbrev pub selects_in : Aim → Next → List Transition → ℕ
+selects_in aim (next.Go p) (t ∷ ts) = selects_at aim p t.seen
+    + selects_in aim ((walk_program aim).plan p t.seen).next ts
+selects_in aim n ts = 0
+
+-- A walk's answer tells how many exclusive entries it called whose wakes met their tasks. What it called there is the
+-- entry that the queue of its hold has where the walk goes on (`FindsNext`).
+abbrev pub RunsTell : Type 0
+RunsTell = (aim : Aim) (old new : Known) (k : Walked) (m : HasWalked aim old new (answer.Walk k))
+    → k.selected ≡ selects_in aim (next.Go (at.Walk walking.Lock)) m.transitions

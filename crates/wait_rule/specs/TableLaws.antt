@@ -1,0 +1,81 @@
+-- The laws of the model on a Domain: wakeups, signals, bits and completions, in each table that meets the rule, at each
+-- moment before, and by the lists of a task that has joined all others. (To be believed.)
+use Rattle.std.specs.Prelude.{ℕ, ◌≡◌, ◌-◌, ◌^◌, ◌<◌, ◌≤◌, ◌⊎◌, ◌==◌, ◌&&◌, List}
+use Rattle.wait_model.specs.declared.layout.TheConstants.{TASKS}
+use Rattle.wait_model.specs.declared.steps.Step.{Step}
+use Rattle.wait_model.specs.declared.steps.Step.TheVariants as step
+use Rattle.wait_model.specs.Words.{flag}
+use Rattle.wait_model.specs.Tables.{Table}
+use Rattle.wait_model.specs.Totals.{total, total_below}
+use Rattle.wait_model.specs.Wakes.{NoWakeIsLost}
+use Rattle.wait_model.specs.SignalCounts.{AreRaised, takes_fatal, takes_any, raises_fatal, raises_any}
+use Rattle.wait_model.specs.BitKeepers.{AreKept}
+use Rattle.wait_model.specs.DoneCounts.{IsBalanced}
+use Rattle.wait_rule.specs.declared.journal.Item.{Item}
+use Rattle.wait_rule.specs.declared.journal.Journal.{Journal}
+use Rattle.wait_rule.specs.Interleavings.{TaskStep, table_of, AreAllowed}
+use Rattle.wait_rule.specs.Items.{steps_of}
+use Rattle.wait_rule.specs.Journals.{owns, has_of}
+use Rattle.wait_rule.specs.Rule.{IsRuled}
+use Rattle.wait_rule.specs.Says.{IsShown}
+
+-- Whoever sleeps on a watch that is set is covered by a task that owes the wake; or, at a plain condition or a
+-- completion, wakes have used up their count at its head since; or, at a bit, some task is trying it.
+abbrev pub RuleLosesNoWake : Type 0
+RuleLosesNoWake = (s : Table) (items : ℕ → List Item) → IsRuled s items → NoWakeIsLost s
+
+-- So it is after each step of each order of steps that are allowed.
+abbrev pub StepsLoseNoWake : Type 0
+StepsLoseNoWake = (xs : List TaskStep) → AreAllowed xs → NoWakeIsLost (table_of xs)
+
+-- The journal has the lists of all tasks: each number is its own, spare or joined.
+abbrev pub HasAll : Journal → Type 0
+HasAll v = (t : ℕ) → t < TASKS → 1 ≤ owns t v
+
+abbrev pub histories_in : Journal → ℕ → List Step
+histories_in v t = steps_of (has_of t v)
+
+-- Then the table that it sees has just these histories, and in it no wakeup is lost.
+abbrev pub AllLoseNoWake : Type 0
+AllLoseNoWake = (v : Journal) (law : IsShown v) → HasAll v
+    → ((t : ℕ) → t < TASKS → law.table.history t ≡ histories_in v t) × NoWakeIsLost law.table
+
+-- how often wakes used up their count at a head, by the histories of all tasks
+abbrev pub spends_at : ℕ → Step → ℕ
+spends_at h (step.Unlock g spent) = flag ((g == h) && spent)
+spends_at h _ = 0
+
+abbrev pub spent_in : ℕ → (ℕ → List Step) → ℕ
+spent_in h history = total_below TASKS (spends_at h) history
+
+-- the head's spent count is that number, up to its end
+abbrev pub SpentIs : ℕ → ℕ → Type 0
+SpentIs n count = ((n < 2 ^ 62) × (count ≡ n)) ⊎ ((2 ^ 62 ≤ n) × (count ≡ 2 ^ 62 - 1))
+
+abbrev pub RuleCountsSpent : Type 0
+RuleCountsSpent = (s : Table) (items : ℕ → List Item) → IsRuled s items → (h : ℕ)
+    → SpentIs (spent_in h s.history) (s.spent h)
+
+abbrev pub AllCountSpent : Type 0
+AllCountSpent = (v : Journal) (law : IsShown v) → HasAll v → (h : ℕ)
+    → SpentIs (spent_in h (histories_in v)) (law.table.spent h)
+
+-- The signals that a task took, with the one that is pending, are at most those that were raised at it; the same of the
+-- fatal ones.
+abbrev pub RuleInventsNoSignal : Type 0
+RuleInventsNoSignal = (s : Table) (items : ℕ → List Item) → IsRuled s items → (t : ℕ) → AreRaised TASKS s t
+
+-- by the lists of all tasks
+pub record TookRaised (v : Journal) (t : ℕ) : Type 0 where
+  pub fatal : total takes_fatal (histories_in v t) ≤ total_below TASKS (raises_fatal t) (histories_in v)
+  pub any : total takes_any (histories_in v t) ≤ total_below TASKS (raises_any t) (histories_in v)
+
+abbrev pub AllTookRaised : Type 0
+AllTookRaised = (v : Journal) → IsShown v → HasAll v → (t : ℕ) → t < TASKS → TookRaised v t
+
+-- a bit is set exactly where one task keeps it, and the counts of completions are balanced
+abbrev pub RuleKeepsBits : Type 0
+RuleKeepsBits = (s : Table) (items : ℕ → List Item) → IsRuled s items → AreKept s
+
+abbrev pub RuleBalances : Type 0
+RuleBalances = (s : Table) (items : ℕ → List Item) → IsRuled s items → (d : ℕ) → IsBalanced TASKS s d

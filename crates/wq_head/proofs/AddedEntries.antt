@@ -1,16 +1,19 @@
 -- The places of adds by a whole book, and the entries that stand there.
 use Rattle.std.proofs.Common.{◌∙◌, ap, sym, refl, subst, inl, inr, eq-eqb, arith}
 use Rattle.std.proofs.lemmas.Bool.Decides.{nat_tests}
-use Rattle.std.specs.Prelude.{ℕ, ◌≡◌, ◌+◌, ◌%◌, ◌<◌, ◌≤◌, ◌⊎◌, ◌&&◌, ◌||◌, ◌==◌}
-use Rattle.std.specs.Prelude.{Bool, true, false, nat_lt, if◌then◌else◌, Option, Some, None, length}
+use Rattle.std.specs.Prelude.{ℕ, ◌≡◌, ◌+◌, ◌-◌, ◌*◌, ◌%◌, ◌<◌, ◌≤◌, ◌⊎◌, ◌&&◌, ◌||◌, ◌==◌}
+use Rattle.std.specs.Prelude.{Bool, true, false, not, nat_lt, if◌then◌else◌, Option, Some, None, length}
 use Rattle.wait_model.specs.declared.layout.TheConstants.{
   SLOTS,
+  ENTRIES,
   MEMBERS,
   MEMBER_WORDS,
   PLAIN_CONDITIONS,
   PLACES,
   MIDDLE,
   FIRST_PLACE,
+  FIRST_PRIORITY,
+  PRIORITY_TASKS,
 }
 use Rattle.wait_model.specs.declared.watches.Watch.{Watch}
 use Rattle.wait_model.specs.declared.watches.Kind.{Kind}
@@ -18,10 +21,10 @@ use Rattle.wait_model.specs.declared.watches.Kind.TheVariants as kind
 use Rattle.wait_model.specs.declared.watches.Entry.{Entry}
 use Rattle.wait_model.specs.declared.steps.Step.TheVariants as step
 use Rattle.wait_model.specs.Words.{entry_of}
-use Rattle.wait_model.specs.Watches.{is_simple, is_bit, head_of}
+use Rattle.wait_model.specs.Watches.{is_simple, is_page, is_bit, head_of}
 use Rattle.wait_model.specs.Watches.{same as same_watch}
 use Rattle.wait_model.specs.Queues.{even_below, even_above}
-use Rattle.wait_model.specs.Places.{front_for, tail_for}
+use Rattle.wait_model.specs.Places.{front_for, tail_for, priority_for}
 use Rattle.wait_model.specs.Views.{View as Told, off, look_at, is_trying_for}
 use Rattle.wait_model.specs.Fold.{after}
 use Rattle.wait_model.proofs.Functions.{put_at, put_same}
@@ -37,6 +40,7 @@ use Rattle.wait_rule.specs.Queues.{
   IsHighest,
   IsFrontPlace,
   IsTailPlace,
+  IsPriorityPlace,
   KnewEntry,
   MayQueue,
   IsPlaceFor,
@@ -64,8 +68,10 @@ use Rattle.wq_head.proofs.CountedLooks.{counted_add}
 use Rattle.wait_rule.proofs.KnownLaws.StayingParts.{stays_on, stays_but, owes_also, owes_out}
 use Rattle.wq_head.specs.declared.looks.ShownMember.{ShownMember}
 use Rattle.wq_head.specs.Holds.{IsHolding}
+use Rattle.wq_head.specs.Members.{AreStanding}
+use Rattle.wq_head.proofs.FirstAndLast.{below_or}
 use Rattle.wq_head.specs.Looks.{Looks, IsLow, AreLow, AreSeen, IsBetween, IsFirst, IsLast, place_of}
-use Rattle.wq_head.specs.Adds.{IsFor, HasAdded, HasQueued, HasRemoved, front_entry}
+use Rattle.wq_head.specs.Adds.{IsFor, HasAdded, HasQueued, HasRemoved, tail_entry, priority_entry}
 use Rattle.wq_head.proofs.OneMoreLook.{saw_told, saw_looks, whole_of, looks_on, holding_on}
 use Rattle.wait_rule.specs.Says.{stored_with}
 use Rattle.wait_rule.proofs.KnownLaws.MemberBits.{told_stored}
@@ -102,8 +108,8 @@ highest_of k low high (Some s) is = (
 )
 
 -- looks change no place that was seen
-module _ (old new : Known) (same : (m : ℕ) → m < MEMBERS → place_by new m ≡ place_by old m) where
-  there : (low high p : ℕ) → StandsIn old MEMBERS low high p → StandsIn new MEMBERS low high p
+module _ (old new : Known) (count : ℕ) (same : (m : ℕ) → m < count → place_by new m ≡ place_by old m) where
+  there : (low high p : ℕ) → StandsIn old count low high p → StandsIn new count low high p
   there low high p h = record {
     member = h.member;
     counts = h.counts;
@@ -112,7 +118,7 @@ module _ (old new : Known) (same : (m : ℕ) → m < MEMBERS → place_by new m 
     below = h.below;
   }
 
-  before : (low high p : ℕ) → StandsIn new MEMBERS low high p → StandsIn old MEMBERS low high p
+  before : (low high p : ℕ) → StandsIn new count low high p → StandsIn old count low high p
   before low high p h = record {
     member = h.member;
     counts = h.counts;
@@ -121,19 +127,24 @@ module _ (old new : Known) (same : (m : ℕ) → m < MEMBERS → place_by new m 
     below = h.below;
   }
 
-  lowest_same : (low high : ℕ) (o : Option ℕ) → IsLowest old MEMBERS low high o → IsLowest new MEMBERS low high o
+  lowest_same : (low high : ℕ) (o : Option ℕ) → IsLowest old count low high o → IsLowest new count low high o
   lowest_same low high None is = λ p h. is p (before low high p h)
   lowest_same low high (Some q) is = (there low high q is.0, λ p h. is.1 p (before low high p h))
 
-  highest_same : (low high : ℕ) (o : Option ℕ) → IsHighest old MEMBERS low high o → IsHighest new MEMBERS low high o
+  highest_same : (low high : ℕ) (o : Option ℕ) → IsHighest old count low high o → IsHighest new count low high o
   highest_same low high None is = λ p h. is p (before low high p h)
   highest_same low high (Some q) is = (there low high q is.0, λ p h. is.1 p (before low high p h))
 
+module _ (old new : Known) (same : (m : ℕ) → m < MEMBERS → place_by new m ≡ place_by old m) where
   pub front_same : (place : ℕ) → IsFrontPlace old place → IsFrontPlace new place
-  front_same place is = (is.0, lowest_same MIDDLE PLACES is.0 is.1, is.2)
+  front_same place is = (is.0, lowest_same old new MEMBERS same MIDDLE PLACES is.0 is.1, is.2)
 
   pub tail_same : (place : ℕ) → IsTailPlace old place → IsTailPlace new place
-  tail_same place is = (is.0, highest_same MIDDLE PLACES is.0 is.1, is.2)
+  tail_same place is = (is.0, highest_same old new MEMBERS same MIDDLE PLACES is.0 is.1, is.2)
+
+  pub priority_same : (place : ℕ) → IsPriorityPlace old place → IsPriorityPlace new place
+  priority_same place is =
+      (is.0, highest_same old new ENTRIES (λ m few. same m (omega (arith, few))) 0 MIDDLE is.0 is.1, is.2)
 
 -- places of such adds are even, and lie from the middle on
 pub record IsAfter (p : ℕ) : Type 0 where
@@ -168,10 +179,45 @@ pub tail_after : (o : Option ℕ) (p : ℕ) → tail_for o ≡ Some p → IsAfte
 tail_after None p is = first_after p is
 tail_after (Some l) p is = within_after (even_above l) p (omega arith) is
 
-pub plain_stands : (x : ℕ) (w : Watch) (k : Kind) (p : ℕ) → IsFor w k → IsAfter p → IsStanding x (front_entry w k p)
-plain_stands x w k p is at = subst (λ (c : Watch). IsStanding x (front_entry c k p)) (sym is.1) (record {
-  lawful = record { place = at.small; suited = (few, or_kind is.3, λ far. absurd (omega (arith, is.2))) };
-  kind = λ _. kind_simple is.3;
+-- those with priority are even too, and lie below the middle
+pub record IsBelow (p : ℕ) : Type 0 where
+  pub even : p % 2 ≡ 0
+  pub small : p < MIDDLE
+
+within_below : (q p : ℕ) → q % 2 ≡ 0
+    → (if nat_lt q 0 then None else if nat_lt q MIDDLE then Some q else None) ≡ Some p → IsBelow p
+within_below q p even = by (nat_lt q 0) (nat_lt q MIDDLE) refl
+  where
+    by : (a b : Bool) → nat_lt q MIDDLE ≡ b → (if a then None else if b then Some q else None) ≡ Some p → IsBelow p
+    by true b y is = absurd (cc)
+    by false true y is =
+        let same : q ≡ p = cc in
+        let s : q < MIDDLE = grind (arith, nat_tests) in
+        record { even = omega arith; small = omega arith }
+    by false false y is = absurd (cc)
+
+first_below : (p : ℕ) → Some FIRST_PRIORITY ≡ Some p → IsBelow p
+first_below p is = let same : FIRST_PRIORITY ≡ p = cc in record { even = omega arith; small = omega arith }
+
+pub priority_below : (o : Option ℕ) (p : ℕ) → priority_for o ≡ Some p → IsBelow p
+priority_below None p is = first_below p is
+priority_below (Some l) p is = within_below (even_above l) p (omega arith) is
+
+-- the entries of adds may stand there
+or_kind : (k : Kind) → (k ≡ kind.Default) ⊎ (k ≡ kind.Autoremove) → (k ≡ kind.Default)
+    ⊎ ((k ≡ kind.Autoremove) ⊎ ((k ≡ kind.Woken) ⊎ (k ≡ kind.Simple)))
+or_kind k (inl a) = inl a
+or_kind k (inr b) = inr (inl b)
+
+kind_simple : (k : Kind) → (k ≡ kind.Default) ⊎ (k ≡ kind.Autoremove) → is_simple k ≡ false
+kind_simple k (inl a) = ap is_simple a
+kind_simple k (inr b) = ap is_simple b
+
+pub plain_stands : (x : ℕ) (b : Bool) (w : Watch) (k : Kind) (p : ℕ) → IsFor w k → IsAfter p
+    → IsStanding x (tail_entry b w k p)
+plain_stands x b w k p is at = subst (λ (c : Watch). IsStanding x (tail_entry b c k p)) (sym is.1) (record {
+  lawful = record { place = at.small; suited = (few, or_kind k is.3, λ far. absurd (omega (arith, is.2))) };
+  kind = λ _. kind_simple k is.3;
   even = at.even;
   priority = λ e. absurd (cc);
   plain = λ _. at.middle_on;
@@ -180,14 +226,45 @@ plain_stands x w k p is at = subst (λ (c : Watch). IsStanding x (front_entry c 
     few : is.0 < PLAIN_CONDITIONS
     few = omega (arith, is.2)
 
-    or_kind : (k ≡ kind.Default) ⊎ (k ≡ kind.Autoremove) → (k ≡ kind.Default)
-        ⊎ ((k ≡ kind.Autoremove) ⊎ ((k ≡ kind.Woken) ⊎ (k ≡ kind.Simple)))
-    or_kind (inl a) = inl a
-    or_kind (inr b) = inr (inl b)
+pub priority_stands : (x : ℕ) (w : Watch) (k : Kind) (p : ℕ) → IsFor w k → IsBelow p → x % 2 ≡ 0
+    → x < SLOTS * PRIORITY_TASKS → IsStanding x (priority_entry w k p)
+priority_stands x w k p is at first low =
+    subst (λ (c : Watch). IsStanding x (priority_entry c k p)) (sym is.1) (record {
+      lawful = record {
+        place = let s = at.small in omega (arith, s);
+        suited = (few, or_kind k is.3, λ far. absurd (omega (arith, is.2)));
+      };
+      kind = λ _. kind_simple k is.3;
+      even = at.even;
+      priority = λ e. (refl, (at.small, (first, low)));
+      plain = λ e. absurd (cc);
+    })
+  where
+    few : is.0 < PLAIN_CONDITIONS
+    few = omega (arith, is.2)
 
-    kind_simple : (k ≡ kind.Default) ⊎ (k ≡ kind.Autoremove) → is_simple k ≡ false
-    kind_simple (inl a) = ap is_simple a
-    kind_simple (inr b) = ap is_simple b
+-- slot 0 of one of the first tasks
+pub first_index : (n slot : ℕ) → slot ≡ 0 → n < PRIORITY_TASKS
+    → (index n slot % 2 ≡ 0) × (index n slot < SLOTS * PRIORITY_TASKS)
+first_index n slot first few = (omega (arith, first), omega (arith, first, few))
+
+-- by no entry for a plain condition does a task try a bit
+abbrev pub TriesNo : Entry → Type 0
+TriesNo e = (c : Watch) → is_trying_for (Some e) c ≡ false
+
+no_and : (b : Bool) → (b && false) ≡ false
+no_and true = refl
+no_and false = refl
+
+pub plain_tries : (w : Watch) (k : Kind) (exclusive priority : Bool) (place : ℕ) → IsFor w k
+    → TriesNo (record { watch = w; place = place; exclusive = exclusive; priority = priority; kind = k })
+plain_tries w k exclusive priority place is c = subst (λ (v : Watch). is_trying_for (Some (record {
+  watch = v;
+  place = place;
+  exclusive = exclusive;
+  priority = priority;
+  kind = k;
+})) c ≡ false) (sym is.1) (no_and exclusive)
 
 -- an own entry that the history does not have stored is off
 none_shown : (o : Option Entry) (s : Option Entry) → s ≡ None → ((e : Entry) → o ≡ Some e → s ≡ Some e) → o ≡ None
@@ -239,64 +316,120 @@ module _ (old mid : Known) (n slot w : ℕ) (e : Entry) (is_n : n ≡ old.view.n
   pub queue_low : AreLow old MEMBERS → AreLow mid MEMBERS
   queue_low low m few = subst IsLow (sym (queue_same m few)) (low m few)
 
-  either_place : IsFrontPlace old e.place ⊎ IsTailPlace old e.place → IsFrontPlace mid e.place ⊎ IsTailPlace mid e.place
-  either_place (inl a) = inl (queue_front e.place a)
-  either_place (inr b) = inr (queue_tail e.place b)
+  pub queue_priority : (p : ℕ) → IsPriorityPlace old p → IsPriorityPlace mid p
+  queue_priority p is = priority_same old mid queue_same p is
 
-  pub may_queue : head_of e.watch ≡ old.at → IsStanding (index old.view.number slot) e → e.priority ≡ false
-      → IsFrontPlace old e.place ⊎ IsTailPlace old e.place → MayQueue mid slot e
-  may_queue at standing plain place = record {
+  place_on : (b : Bool) → IsPlaceFor old b e.place → IsPlaceFor mid b e.place
+  place_on true is = queue_priority e.place is
+  place_on false (inl a) = inl (queue_front e.place a)
+  place_on false (inr b) = inr (queue_tail e.place b)
+
+  pub may_queue : head_of e.watch ≡ old.at → IsStanding (index old.view.number slot) e
+      → IsPlaceFor old e.priority e.place → MayQueue mid slot e
+  may_queue at standing place = record {
     head = at ∙ ap (λ (k : Known). k.at) (sym saw_it);
     standing = subst (λ (k : ℕ). IsStanding (index k slot) e) (sym queue_number) standing;
     is_off = queue_off;
     whole = queue_whole;
-    place = subst (λ (b : Bool). IsPlaceFor mid b e.place) (sym plain) (either_place place);
+    place = place_on e.priority place;
   }
 
 -- where no place is left, a member shows it
-worn_at : (IsEnd : Option ℕ → Type 0) (place_for : Option ℕ → Option ℕ) → place_for None ≡ Some FIRST_PLACE
+worn_at : (IsEnd : Option ℕ → Type 0) (place_for : Option ℕ → Option ℕ) (first : ℕ) → place_for None ≡ Some first
     → (o l : Option ℕ) (w : ℕ) → l ≡ o → IsEnd o → place_for l ≡ None → ((p : ℕ) → l ≡ Some p → w ≡ p)
     → IsEnd (Some w) × (place_for (Some w) ≡ None)
-worn_at IsEnd place_for starts None l w same is none at =
-    let never : Some FIRST_PLACE ≡ None = sym starts ∙ (ap place_for (sym same) ∙ none) in absurd (cc)
-worn_at IsEnd place_for starts (Some q) l w same is none at =
+worn_at IsEnd place_for first starts None l w same is none at =
+    let never : Some first ≡ None = sym starts ∙ (ap place_for (sym same) ∙ none) in absurd (cc)
+worn_at IsEnd place_for first starts (Some q) l w same is none at =
     subst (λ (p : ℕ). IsEnd (Some p) × (place_for (Some p) ≡ None)) (sym (at q same))
     (is, ap place_for (sym same) ∙ none)
 
 -- and where one is left, the entry has it
-placed_at : (place_for : Option ℕ → Option ℕ) (o l r : Option ℕ) (p : ℕ) (w : Watch) (k : Kind) (e : Entry)
-    → l ≡ o → r ≡ place_for l → r ≡ Some p → e ≡ front_entry w k p → place_for o ≡ Some e.place
-placed_at place_for o l r p w k e same gives left is = ap place_for (sym same)
-    ∙ (sym gives ∙ (left ∙ ap (λ (f : Entry). Some f.place) (sym is)))
+placed_at : (place_for : Option ℕ → Option ℕ) (o l r : Option ℕ) (p q : ℕ) → l ≡ o → r ≡ place_for l → r ≡ Some p
+    → q ≡ p → place_for o ≡ Some q
+placed_at place_for o l r p q same gives left is = ap place_for (sym same) ∙ (sym gives ∙ (left ∙ ap Some (sym is)))
 
 -- so at the front, and at the tail
-pub front_placed : (k : Known) (o : Option ShownMember) (l r : Option ℕ) (p : ℕ) (w : Watch) (kd : Kind) (e : Entry)
-    → IsFirst (place_by k) MEMBERS MIDDLE PLACES o → l ≡ place_of o → r ≡ front_for l → r ≡ Some p
-    → e ≡ front_entry w kd p
-    → IsFrontPlace k e.place
-front_placed k o l r p w kd e is same gives left made =
-    (place_of o, lowest_of k MIDDLE PLACES o is, placed_at front_for (place_of o) l r p w kd e same gives left made)
+pub front_placed : (k : Known) (o : Option ShownMember) (l r : Option ℕ) (p q : ℕ)
+    → IsFirst (place_by k) MEMBERS MIDDLE PLACES o → l ≡ place_of o → r ≡ front_for l → r ≡ Some p → q ≡ p
+    → IsFrontPlace k q
+front_placed k o l r p q is same gives left made =
+    (place_of o, lowest_of k MIDDLE PLACES o is, placed_at front_for (place_of o) l r p q same gives left made)
 
 pub front_worn : (k : Known) (o : Option ShownMember) (l r : Option ℕ) (w : ℕ)
     → IsFirst (place_by k) MEMBERS MIDDLE PLACES o
     → l ≡ place_of o → r ≡ front_for l → r ≡ None → ((p : ℕ) → l ≡ Some p → w ≡ p)
     → IsLowest k MEMBERS MIDDLE PLACES (Some w) × (front_for (Some w) ≡ None)
-front_worn k o l r w is same gives none at = worn_at (IsLowest k MEMBERS MIDDLE PLACES) front_for refl (place_of o) l w
-    same (lowest_of k MIDDLE PLACES o is) (sym gives ∙ none) at
+front_worn k o l r w is same gives none at = worn_at (IsLowest k MEMBERS MIDDLE PLACES) front_for FIRST_PLACE refl
+    (place_of o) l w same (lowest_of k MIDDLE PLACES o is) (sym gives ∙ none) at
 
-pub tail_placed : (k : Known) (o : Option ShownMember) (l r : Option ℕ) (p : ℕ) (w : Watch) (kd : Kind) (e : Entry)
-    → IsLast (place_by k) MEMBERS MIDDLE PLACES o → l ≡ place_of o → r ≡ tail_for l → r ≡ Some p
-    → e ≡ front_entry w kd p
-    → IsTailPlace k e.place
-tail_placed k o l r p w kd e is same gives left made =
-    (place_of o, highest_of k MIDDLE PLACES o is, placed_at tail_for (place_of o) l r p w kd e same gives left made)
+pub tail_placed : (k : Known) (o : Option ShownMember) (l r : Option ℕ) (p q : ℕ)
+    → IsLast (place_by k) MEMBERS MIDDLE PLACES o → l ≡ place_of o → r ≡ tail_for l → r ≡ Some p → q ≡ p
+    → IsTailPlace k q
+tail_placed k o l r p q is same gives left made =
+    (place_of o, highest_of k MIDDLE PLACES o is, placed_at tail_for (place_of o) l r p q same gives left made)
 
 pub tail_worn : (k : Known) (o : Option ShownMember) (l r : Option ℕ) (w : ℕ)
     → IsLast (place_by k) MEMBERS MIDDLE PLACES o
     → l ≡ place_of o → r ≡ tail_for l → r ≡ None → ((p : ℕ) → l ≡ Some p → w ≡ p)
     → IsHighest k MEMBERS MIDDLE PLACES (Some w) × (tail_for (Some w) ≡ None)
-tail_worn k o l r w is same gives none at = worn_at (IsHighest k MEMBERS MIDDLE PLACES) tail_for refl (place_of o) l w
-    same (highest_of k MIDDLE PLACES o is) (sym gives ∙ none) at
+tail_worn k o l r w is same gives none at = worn_at (IsHighest k MEMBERS MIDDLE PLACES) tail_for FIRST_PLACE refl
+    (place_of o) l w same (highest_of k MIDDLE PLACES o is) (sym gives ∙ none) at
+
+-- and with priority, by the entries alone: no bookmark stands below the place before the middle, and no entry there
+module _ (k : Known) (stands : AreStanding k MEMBERS) where
+  entry_in : (s : ShownMember) → IsBetween (place_by k) MEMBERS 0 (MIDDLE - 1) s → StandsIn k ENTRIES 0 MIDDLE s.place
+  entry_in s b = record {
+    member = s.member;
+    counts = elim (below_or s.member ENTRIES) [
+      | inl few ↦ few
+      | inr far ↦
+          let mark = (stands s.member b.counts).mark s.place far b.stands in
+          absurd (let low = b.below in omega (arith, mark.1, low))
+    ];
+    stands = b.stands;
+    above = b.above;
+    below = let low = b.below in omega (arith, low);
+  }
+
+  member_in : (p : ℕ) → (h : StandsIn k ENTRIES 0 MIDDLE p)
+      → IsBetween (place_by k) MEMBERS 0 (MIDDLE - 1) (record { place = p; member = h.member })
+  member_in p h =
+      let few : h.member < MEMBERS = let c = h.counts in omega (arith, c) in
+      let even = ((stands h.member few).place p h.counts h.stands).0 in record {
+        counts = few;
+        stands = h.stands;
+        above = h.above;
+        below = let low = h.below in omega (arith, even, low);
+      }
+
+  prior_of : (f : Option ShownMember) → IsLast (place_by k) MEMBERS 0 (MIDDLE - 1) f
+      → IsHighest k ENTRIES 0 MIDDLE (place_of f)
+  prior_of None is = λ p h. is (record { place = p; member = h.member }) (member_in p h)
+  prior_of (Some s) is =
+      (entry_in s is.0, λ p h. is.1 (record { place = p; member = h.member }) (member_in p h))
+
+  pub priority_placed : (o : Option ShownMember) (l r : Option ℕ) (p q : ℕ)
+      → IsLast (place_by k) MEMBERS 0 (MIDDLE - 1) o → l ≡ place_of o → r ≡ priority_for l → r ≡ Some p → q ≡ p
+      → IsPriorityPlace k q
+  priority_placed o l r p q is same gives left made =
+      (place_of o, prior_of o is, placed_at priority_for (place_of o) l r p q same gives left made)
+
+  pub priority_worn : (o : Option ShownMember) (l r : Option ℕ) (w : ℕ)
+      → IsLast (place_by k) MEMBERS 0 (MIDDLE - 1) o
+      → l ≡ place_of o → r ≡ priority_for l → r ≡ None → ((p : ℕ) → l ≡ Some p → w ≡ p)
+      → IsHighest k ENTRIES 0 MIDDLE (Some w) × (priority_for (Some w) ≡ None)
+  priority_worn o l r w is same gives none at = worn_at (IsHighest k ENTRIES 0 MIDDLE) priority_for FIRST_PRIORITY refl
+      (place_of o) l w same (prior_of o is) (sym gives ∙ none) at
+
+  -- where there is a last one, it stands below the middle
+  pub priority_low : (o : Option ShownMember) (l : Option ℕ) (p : ℕ) → IsLast (place_by k) MEMBERS 0 (MIDDLE - 1) o
+      → l ≡ place_of o → l ≡ Some p → p < MIDDLE
+  priority_low None l p is same at = let no : None ≡ Some p = sym same ∙ at in absurd (cc)
+  priority_low (Some s) l p is same at =
+      let both : Some s.place ≡ Some p = sym same ∙ at in
+      let here : s.place ≡ p = cc in
+      let low = is.0.below in omega (arith, here, low)
 
 -- an entry that the task stores, and one that it takes off; the other ones stay
 other_is : (x y : ℕ) → (y == x) ≡ false → y ≡ x → ⊥
@@ -314,7 +447,7 @@ module _ (seen new : Known) (x : ℕ) (e : Entry) (is : new ≡ stored_with seen
       ∙ put_at (λ (s : Option Entry). s ≡ (told_of seen).bits.stored y) (told_of seen).bits.stored x (Some e) y
       (λ same. absurd (other_is x y out same)) (λ _. refl)
 
-  pub queue_stays : e.exclusive ≡ false → Stays (only x) seen new
+  pub queue_stays : TriesNo e → Stays (only x) seen new
   queue_stays shared = record {
     domain = ap (λ (k : Known). k.domain) is;
     number = ap (λ (k : Known). k.view.number) is;
@@ -325,7 +458,7 @@ module _ (seen new : Known) (x : ℕ) (e : Entry) (is : new ≡ stored_with seen
     keeps = λ c. ap (λ (v : Told). v.bits.keeps c) queue_told;
     tries_none = λ none y c. ap (λ (v : Told). is_trying_for (v.bits.stored y) c) queue_told
         ∙ put_at (λ (s : Option Entry). is_trying_for s c ≡ false) (told_of seen).bits.stored x (Some e) y
-        (λ _. ap (λ (b : Bool). b && (is_bit e.watch && same_watch c e.watch)) shared) (λ _. none y c);
+        (λ _. shared c) (λ _. none y c);
     tries = λ none c. ap (λ (v : Told). v.bits.pending c) queue_told;
   }
 
@@ -340,11 +473,11 @@ module _ (seen new : Known) (x : ℕ) (e : Entry) (is : new ≡ stored_with seen
     tries = o.tries;
   })
 
-  queue_owing : e.exclusive ≡ false → (f : Excuse) → Owes f seen → Owes (with_entry x f) new
+  queue_owing : TriesNo e → (f : Excuse) → Owes f seen → Owes (with_entry x f) new
   unfolding Owes with_entry
   queue_owing shared f o = (queue_owes (least f) o.0, (queue_stays shared).tries_none o.1)
 
-  pub queue_carried : (old : Known) → e.exclusive ≡ false → Carries only_looks old seen
+  pub queue_carried : (old : Known) → TriesNo e → Carries only_looks old seen
       → Carries (queue_change x) old new
   queue_carried old shared l = record {
     domain = ap (λ (k : Known). k.domain) is ∙ l.domain;
@@ -446,20 +579,21 @@ module _ (old new : Known) (who slot : ℕ) (is : new ≡ stored_with old (step.
   }
 
 -- the whole add
-module _ (IsPlace : Known → ℕ → Type 0) (old mid new : Known) (slot p : ℕ) (w : Watch) (k : Kind) (e : Entry)
-    (first : Looks old mid) (is : e ≡ front_entry w k p) (q : HasQueued mid new slot e) where
+module _ (IsPlace : Known → ℕ → Type 0) (old mid new : Known) (slot p : ℕ) (made : ℕ → Entry)
+    (at : (made p).place ≡ p) (plain : TriesNo (made p)) (e : Entry) (first : Looks old mid) (is : e ≡ made p)
+    (q : HasQueued mid new slot e) where
   abbrev x : ℕ
   x = index old.view.number slot
 
   add_looks : Looks old q.seen
   add_looks = looks_on old mid q.seen first q.looks
 
-  add_is : new ≡ stored_with q.seen (step.Queue x (front_entry w k p))
+  add_is : new ≡ stored_with q.seen (step.Queue x (made p))
   add_is = q.is ∙ (λ i. stored_with q.seen (step.Queue (index ((first.is i).view.number) slot) (is i)))
 
   pub added_at : AreLow mid MEMBERS → AreSeen mid MEMBERS
       → LooksAtMost (MEMBER_WORDS + length (shown_queue mid)) old mid → IsPlace q.seen e.place
-      → HasAdded IsPlace old new slot w k
+      → HasAdded IsPlace old new slot made
   added_at low seen counts place = record {
     place = p;
     seen = q.seen;
@@ -468,14 +602,14 @@ module _ (IsPlace : Known → ℕ → Type 0) (old mid new : Known) (slot p : �
     low = q.low low;
     is_off = subst (λ (n : ℕ). (told_of q.seen).hold.book (index n slot) ≡ off)
         (ap (λ (j : Known). j.view.number) first.is) q.is_off;
-    sort = subst (IsPlace q.seen) (ap (λ (f : Entry). f.place) is) place;
+    sort = subst (IsPlace q.seen) (ap (λ (f : Entry). f.place) is ∙ at) place;
     is = add_is;
-    queued = queue_memberd q.seen new x (front_entry w k p) add_is;
+    queued = queue_memberd q.seen new x (made p) add_is;
     stays = stays_on (only x) old q.seen new (stays_but (only x) old q.seen add_looks.stays)
-        (queue_stays q.seen new x (front_entry w k p) add_is refl);
-    settled = λ f none o. queue_owes q.seen new x (front_entry w k p) add_is f (add_looks.settled none f o);
-    counts = counted_add old mid q.seen new x (front_entry w k p) q.looks seen counts q.one add_is;
-    carries = queue_carried q.seen new x (front_entry w k p) add_is old refl (looks_carried old q.seen add_looks);
+        (queue_stays q.seen new x (made p) add_is plain);
+    settled = λ f none o. queue_owes q.seen new x (made p) add_is f (add_looks.settled none f o);
+    counts = counted_add old mid q.seen new x (made p) q.looks seen counts q.one add_is;
+    carries = queue_carried q.seen new x (made p) add_is old plain (looks_carried old q.seen add_looks);
   }
 
 queued_holds : (seen new : Known) (x : ℕ) (e : Entry) → IsHolding seen → new ≡ stored_with seen (step.Queue x e)

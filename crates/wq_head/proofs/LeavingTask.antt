@@ -95,7 +95,7 @@ unlocked_stored old new spent u = ap (λ (k : Known). (told_of k).bits.stored) u
 -- an add in a hold of its own
 pub entry_added : (old held queued new : Known) (kd : Kind) → IsClean old → Stays no_entries old held
     → StaysOwing old held
-    → HasAdded IsTailPlace held queued 0 (watch.Plain 0) kd → HasUnlocked queued new false → IsBack new kd
+    → HasAdded IsTailPlace held queued 0 (front_entry (watch.Plain 0) kd) → HasUnlocked queued new false → IsBack new kd
 entry_added old held queued new kd clean stays owing a u = record {
   running = u.stays.state ∙ (a.stays.state ∙ (stays.state ∙ clean.running));
   queued = record {

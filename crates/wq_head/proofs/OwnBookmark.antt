@@ -51,8 +51,10 @@ step_marked me (step.Load l r) v n is = is
 step_marked me (step.Publish c m r) v n is = is
 step_marked me (step.Consume c m r) v n is = is
 step_marked me (step.Woken x) v n is = is
-step_marked me (step.Unflag x) v n is = is
+step_marked me (step.Unflag x o) v n is = is
 step_marked me (step.Flag x w) v n is = is
+step_marked me (step.TasFor x p w) v n is = is
+step_marked me (step.Handed x) v n is = is
 
 list_marked : (me : ℕ) (xs : List Item) (v : Told) (n : Notes) → IsMarked v n
     → IsMarked (after_all v (steps_of xs)) (notes_from me v n xs)

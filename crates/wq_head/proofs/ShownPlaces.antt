@@ -23,7 +23,7 @@ use Rattle.wait_rule.specs.Queues.{StandsIn, IsLowest, IsHighest, IsFrontPlace, 
 use Rattle.wait_rule.specs.Shown.{shown_queue}
 use Rattle.wq_head.proofs.ShownQueue.{queue_in_order, queue_has, queue_of}
 
-within_is : (a b q p : ℕ) → within a b q ≡ Some p → q ≡ p
+pub within_is : (a b q p : ℕ) → within a b q ≡ Some p → q ≡ p
 within_is a b q p is = by (nat_lt q a) (nat_lt q b) is
   where
     by : (s t : Bool) → (if s then None else if t then Some q else None) ≡ Some p → q ≡ p

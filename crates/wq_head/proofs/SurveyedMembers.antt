@@ -19,6 +19,8 @@ use Rattle.wq_head.specs.Looks.{
 }
 use Rattle.wq_head.proofs.FirstAndLast.{below_or, first_more, last_more}
 use Rattle.wq_head.specs.Looking.{IsClear}
+use Rattle.wq_head.specs.Members.{IsShownMember}
+use Rattle.wq_head.proofs.MemberStands.{stands_on}
 
 -- the outermost of some members stays that where no other one comes in
 module _ (old new : ℕ → Option ℕ) (i j low high : ℕ) (few : i ≤ j) (same : (m : ℕ) → m < i → new m ≡ old m)
@@ -63,6 +65,10 @@ surveyed_on old new l i j low high first last few clear s = record {
     | inl before ↦ subst IsLow (sym (same m before)) (s.below m before)
     | inr over ↦ λ p is. let none : place_by new m ≡ None = (clear m over under).none in absurd (cc)
   ];
+  stands = λ m under. elim (below_or m i) [
+    | inl before ↦ stands_on old new l m (s.seen m before) (s.stands m before)
+    | inr over ↦ (clear m over under).stands
+  ];
   first = out_on (place_by old) (place_by new) i j low high few same none (λ p q. p ≤ q) first s.first;
   last = out_on (place_by old) (place_by new) i j low high few same none (λ p q. q ≤ p) last s.last;
 }
@@ -79,9 +85,9 @@ module _ (old new : Known) (l : Looks old new) (j low high : ℕ) (first last : 
   same : (m : ℕ) → m < j → place_by new m ≡ place_by old m
   same m few = l.from.places m (s.seen m few)
 
-  pub surveyed_more : is_seen (told_of new) (noted new) j ≡ true → IsLow at
+  pub surveyed_more : is_seen (told_of new) (noted new) j ≡ true → IsLow at → IsShownMember new j
       → IsSurveyed new (j + 1) low high (first_with first low high j at) (last_with last low high j at)
-  surveyed_more seen low_at = record {
+  surveyed_more seen low_at here = record {
     seen = λ m few. elim (below_or m j) [
       | inl under ↦ l.from.still m (s.seen m under)
       | inr over ↦ subst (λ (y : ℕ). is_seen (told_of new) (noted new) y ≡ true) (omega arith) seen
@@ -89,6 +95,10 @@ module _ (old new : Known) (l : Looks old new) (j low high : ℕ) (first last : 
     below = λ m few. elim (below_or m j) [
       | inl under ↦ subst IsLow (sym (same m under)) (s.below m under)
       | inr over ↦ subst (λ (y : ℕ). IsLow (place_by new y)) (omega arith) (subst IsLow is low_at)
+    ];
+    stands = λ m few. elim (below_or m j) [
+      | inl under ↦ stands_on old new l m (s.seen m under) (s.stands m under)
+      | inr over ↦ subst (IsShownMember new) (omega arith) here
     ];
     first = subst (IsFirst (place_by new) (j + 1) low high) (sym (ap (first_with first low high j) is))
         (first_more (place_by old) (place_by new) j low high same first s.first);

@@ -95,7 +95,7 @@ impl Members {
         self.order.clear();
     }
 
-    /// Puts one more behind the last, with its word.
+    /// Puts one more after the last, with its word.
     pub(crate) fn push(&mut self, m: u16, word: u64)
         requires member { m < MEMBERS }
         requires room { length self.old.order.items < MEMBERS }

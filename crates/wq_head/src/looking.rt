@@ -29,7 +29,7 @@ impl Looking {
     }
 }
 
-/// The next index whose bit is set, or None behind the last. It loads each word of the head's members that it comes
+/// The next index whose bit is set, or None after the last. It loads each word of the head's members that it comes
 /// to, each by one look. By its bit each index is seen: it is a member where the bit is set, and none where it is
 /// clear.
 #[inline(always)]

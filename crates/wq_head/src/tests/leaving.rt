@@ -11,7 +11,7 @@ ghost use Rattle.wq_head.specs.Readied.{IsPlainKind};
 
 use crate::adds::{add_tail, remove};
 use crate::locks::{lock, unlock};
-use crate::walks::wake;
+use crate::wakes::wake;
 use std::process::Abort;
 use std::sync::Wait;
 use std::test::Fail;

@@ -43,7 +43,7 @@ fn members_in_order(rt: HostRuntime) -> Result<(), Fail> {
     let Ok(mut other) = task.fork(&domain, 0) else {
         panic!(rt; "numbers are spare")
     };
-    assert!(rt; queue_own(&rt, &domain, &mut task, Kind::Default, RUNNING));
+    assert!(rt; queue_own(&rt, &domain, &mut task, Kind::Default, false, RUNNING));
     assert!(rt; queue_in_front(&rt, &domain, &mut other));
     let mut list = Members::new();
     lock(&rt, &domain, &mut task, FIRST_PLAIN_HEAD);
@@ -63,7 +63,7 @@ fn active_with_a_member(rt: HostRuntime) -> Result<(), Fail> {
         panic!(rt; "numbers are spare")
     };
     assert!(rt; !active(&domain, &mut task, FIRST_PLAIN_HEAD));
-    assert!(rt; queue_own(&rt, &domain, &mut other, Kind::Default, RUNNING));
+    assert!(rt; queue_own(&rt, &domain, &mut other, Kind::Default, false, RUNNING));
     assert!(rt; active(&domain, &mut task, FIRST_PLAIN_HEAD));
     Ok(())
 }

@@ -16,4 +16,4 @@ returns-clause-surveyed c =
     (subst (IsSurveyed new (c.args.m + 1) low high (first_with ends.first low high c.args.m c.look_at-at.result.place))
     (sym c.last_with-last.ensures)
     (surveyed_more c.args.task.now new at.looks c.args.m low high ends.first ends.last
-    c.requires.surveyed c.look_at-at.result.place at.place at.seen at.below))
+    c.requires.surveyed c.look_at-at.result.place at.place at.seen at.below at.stands))

@@ -1,0 +1,289 @@
+-- The wake of the entry at hand: by the list of its hold the walk calls that entry, and what is left of its count.
+use Rattle.std.proofs.Common.{◌∙◌, ap, sym, refl, inl, inr, eq-eqb, arith}
+use Rattle.std.proofs.lemmas.Bool.Decides.{nat_tests}
+use native.Mathlib.Decide.{dec_le}
+use Rattle.std.specs.Prelude.{
+  ℕ,
+  ◌+◌,
+  ◌-◌,
+  ◌*◌,
+  ◌≡◌,
+  ◌≢◌,
+  ◌<◌,
+  ◌≤◌,
+  ◌⊎◌,
+  ◌&&◌,
+  ◌||◌,
+  ◌==◌,
+  not,
+  Bool,
+  true,
+  false,
+  nat_le,
+  if◌then◌else◌,
+  Option,
+  Some,
+  None,
+}
+use Rattle.wait_model.specs.declared.layout.TheConstants.{ENTRIES}
+use Rattle.wait_model.specs.declared.watches.Watch.{Watch}
+use Rattle.wait_model.specs.declared.watches.Watch.TheVariants as watch
+use Rattle.wait_model.specs.declared.watches.Entry.{Entry}
+use Rattle.wait_model.specs.declared.watches.Aim.{Aim}
+use Rattle.wait_model.specs.declared.queues.Walking.{Walking}
+use Rattle.wait_model.specs.declared.steps.Step.TheVariants as step
+use Rattle.wait_model.specs.Functions.{put}
+use Rattle.wait_model.specs.Watches.{same, owner, mask_of}
+use Rattle.wait_model.specs.Views.{View as Told, Look, unseen, off, elsewhere, shown}
+use Rattle.wait_model.specs.Fold.{met_task}
+use Rattle.wait_model.specs.Programs.{past}
+use Rattle.wait_model.proofs.Functions.{put_at, put_other}
+use Rattle.wait_rule.specs.declared.journal.Item.TheVariants as item
+use Rattle.wait_rule.specs.Known.{Known}
+use Rattle.wait_rule.specs.Notes.{
+  Notes,
+  notes_after_wake,
+  after_call,
+  callee,
+  first_due,
+  is_due,
+  is_for_look,
+  is_ahead,
+  is_sooner,
+  is_exclusive_look,
+  look_place,
+  lowered,
+  with_normal,
+}
+use Rattle.wait_rule.specs.Says.{told_of, noted, added}
+use Rattle.wait_rule.specs.Shown.{look_entry, shown_entry}
+use Rattle.wait_rule.proofs.KnownLaws.AfterSteps.{told_added, noted_added}
+use Rattle.wq_head.specs.declared.functions.ShownEntry.{ShownEntry}
+use Rattle.wq_head.specs.Walks.{IsFull}
+use Rattle.wq_head.specs.Walking.{IsNextEntry, AreCalled, called, rest_of, with_left, is_used}
+use Rattle.wq_head.proofs.MemberStands.{look_is_shown}
+use Rattle.wq_head.proofs.ShownMembers.{watch_is}
+
+-- the first of two entries that are due
+first_alone : (d s : Bool) (x : ℕ) → (d ≡ true → s ≡ false) → first_due true d s x ≡ Some x
+first_alone true true x only = let clash = only refl in absurd (cc)
+first_alone true false x only = refl
+first_alone false s x only = refl
+
+second_alone : (d s : Bool) (x : ℕ) → (d ≡ true → s ≡ true) → first_due d true s x ≡ Some (x + 1)
+second_alone true true x only = refl
+second_alone true false x only = let clash = only refl in absurd (cc)
+second_alone false s x only = refl
+
+both_true : (a b c : Bool) → a ≡ true → b ≡ true → c ≡ false → (a && (b && not c)) ≡ true
+both_true true true false one two three = refl
+both_true true true true one two three = absurd (cc)
+both_true true false c one two three = absurd (cc)
+both_true false b c one two three = absurd (cc)
+
+both_parts : (a b c : Bool) → (a && (b && not c)) ≡ true → (b ≡ true) × (c ≡ false)
+both_parts true true false is = (refl, refl)
+both_parts true true true is = absurd (cc)
+both_parts true false c is = absurd (cc)
+both_parts false b c is = absurd (cc)
+
+same_plain_self : (c : ℕ) → same (watch.Plain c) (watch.Plain c) ≡ true
+same_plain_self c = eq-eqb c c refl
+
+module _ (a : Aim) (k : Known) (v : ShownEntry) (full : IsFull a.watch) (w : Walking) (n : IsNextEntry a k w v)
+    (who mask found : ℕ) (mine : who ≡ owner v.member) (masked : mask ≡ mask_of a.mode) where
+  abbrev notes : Notes
+  notes = noted k
+
+  abbrev view : Told
+  view = told_of k
+
+  abbrev met : Bool
+  met = met_task mask found
+
+  abbrev rest : Aim
+  rest = with_left a w.left
+
+  rest_is : rest_of a w ≡ Some rest
+  rest_is = ap (λ (b : Bool). if b then None else Some rest) n.going
+
+  walk_is : notes.walk ≡ Some rest
+  walk_is = n.calling.walking.held.aim ∙ rest_is
+
+  used_is : notes.used ≡ false
+  used_is = n.calling.walking.held.used ∙ ap is_used rest_is
+
+  calls : AreCalled k w.place
+  calls = n.calling.walking.called
+
+  shows_entry : shown_entry k v.member ≡ Some v.entry
+  shows_entry = ap look_entry n.shows
+
+  -- the entry at hand is due
+  for_watch : same v.entry.watch a.watch ≡ true
+  for_watch =
+      let s = (n.calling.standing v.member (let low = n.counts in omega arith)).entry n.counts v.entry shows_entry in
+      ap (λ (x : Watch). same x a.watch)
+      (watch_is a.watch full v.member v.entry s.0 (s.1 ∙ n.calling.walking.held.at))
+      ∙ (ap (λ (x : Watch). same x x) full.1 ∙ same_plain_self full.0)
+
+  due_here : is_due view notes a.watch v.member ≡ true
+  due_here = both_true (is_for_look a.watch (view.hold.book v.member)) (is_ahead notes.from (view.hold.book v.member))
+      (notes.called v.member) (ap (is_for_look a.watch) n.shows ∙ for_watch)
+      (ap (is_ahead notes.from) n.shows ∙ ahead_here) (calls.ahead v.member v.entry n.counts shows_entry n.behind)
+    where
+      ahead_here : nat_le notes.from v.entry.place ≡ true
+      ahead_here = let low = calls.from in let later = n.behind in grind (arith, nat_tests, low, later)
+
+  -- another one that is due stands after it
+  other_due : (y : ℕ) → y < ENTRIES → (y ≡ v.member → ⊥) → is_due view notes a.watch y ≡ true
+      → (e : Entry) × (view.hold.book y ≡ shown e) × (v.entry.place < e.place)
+  other_due y low other due = by (view.hold.book y) refl
+    where
+      parts : (is_ahead notes.from (view.hold.book y) ≡ true) × (notes.called y ≡ false)
+      parts = both_parts (is_for_look a.watch (view.hold.book y)) (is_ahead notes.from (view.hold.book y))
+          (notes.called y) due
+
+      stands : (e : Entry) → view.hold.book y ≡ shown e → nat_le notes.from e.place ≡ true → v.entry.place < e.place
+      stands e is ahead = decide (dec_le w.place e.place)
+        where
+          is_shown : shown_entry k y ≡ Some e
+          is_shown = ap look_entry is
+
+          decide : Dec (w.place ≤ e.place) → v.entry.place < e.place
+          decide (yes later) =
+              let least = n.first y e low is_shown later in
+              apart (dec_le (v.entry.place + 1) e.place) least
+            where
+              apart : Dec (v.entry.place + 1 ≤ e.place) → v.entry.place ≤ e.place → v.entry.place < e.place
+              apart (yes past_it) least = omega (arith, past_it)
+              apart (no not_past) least = absurd (other (n.apart y e low is (omega (arith, not_past, least))))
+          decide (no sooner) =
+              let from_low : notes.from ≤ e.place = grind (arith, nat_tests, ahead) in
+              let was = calls.before y e low is_shown from_low (omega (arith, sooner)) in
+              let now = parts.1 in
+              absurd (cc)
+
+      by : (l : Look) → view.hold.book y ≡ l
+          → (e : Entry) × (view.hold.book y ≡ shown e) × (v.entry.place < e.place)
+      by unseen is = let clash = ap (is_ahead notes.from) (sym is) ∙ parts.0 in absurd (cc)
+      by off is = let clash = ap (is_ahead notes.from) (sym is) ∙ parts.0 in absurd (cc)
+      by elsewhere is = let clash = ap (is_ahead notes.from) (sym is) ∙ parts.0 in absurd (cc)
+      by (shown e) is = (e, is, stands e is (ap (is_ahead notes.from) (sym is) ∙ parts.0))
+
+  abbrev sooner_of : ℕ → ℕ → Bool
+  sooner_of x y = is_sooner (look_place (view.hold.book x)) (look_place (view.hold.book y))
+
+  sooner_here : (y : ℕ) → y < ENTRIES → (y ≡ v.member → ⊥) → is_due view notes a.watch y ≡ true
+      → (sooner_of v.member y ≡ true) × (sooner_of y v.member ≡ false)
+  sooner_here y low other due =
+      let d = other_due y low other due in
+      let later = d.2 in (
+        (λ i. is_sooner (look_place (n.shows i)) (look_place (d.1 i))) ∙ grind (arith, nat_tests, later),
+        (λ i. is_sooner (look_place (d.1 i)) (look_place (n.shows i))) ∙ grind (arith, nat_tests, later),
+      )
+
+  -- so it is the one that the wake calls
+  owner_of : (v.member ≡ 2 * who) ⊎ (v.member ≡ 2 * who + 1)
+  unfolding owner
+  owner_of = by (dec_le v.member (2 * who))
+    where
+      by : Dec (v.member ≤ 2 * who) → (v.member ≡ 2 * who) ⊎ (v.member ≡ 2 * who + 1)
+      by (yes low) = inl (omega (arith, mine, low))
+      by (no high) = inr (omega (arith, mine, high))
+
+  pub callee_is : callee view notes a.watch who ≡ Some v.member
+  callee_is = elim owner_of [
+    | inl first ↦
+        let due = ap (is_due view notes a.watch) (sym first) ∙ due_here in
+        ap (λ (b : Bool). first_due b (is_due view notes a.watch (2 * who + 1))
+        (sooner_of (2 * who + 1) (2 * who)) (2 * who)) due
+        ∙ (first_alone (is_due view notes a.watch (2 * who + 1)) (sooner_of (2 * who + 1) (2 * who)) (2 * who)
+        (λ d. ap (sooner_of (2 * who + 1)) (sym first) ∙ (sooner_here (2 * who + 1)
+        (let low = n.counts in omega (arith, first, low)) (λ same. omega (arith, first, same)) d).1)
+        ∙ ap (λ (x : ℕ). Some x) (sym first))
+    | inr second ↦
+        let due = ap (is_due view notes a.watch) (sym second) ∙ due_here in
+        ap (λ (b : Bool). first_due (is_due view notes a.watch (2 * who)) b
+        (sooner_of (2 * who + 1) (2 * who)) (2 * who)) due
+        ∙ (second_alone (is_due view notes a.watch (2 * who)) (sooner_of (2 * who + 1) (2 * who)) (2 * who)
+        (λ d. ap (λ (x : ℕ). sooner_of x (2 * who)) (sym second) ∙ (sooner_here (2 * who)
+        (let low = n.counts in omega (arith, second, low)) (λ same. omega (arith, second, same)) d).0)
+        ∙ ap (λ (x : ℕ). Some x) (sym second))
+  ]
+
+  -- the notes after it
+  abbrev woke : Known
+  woke = added k (item.Made (step.Wake who mask found))
+
+  noted_is : noted woke ≡ with_normal who (mask == 3) (after_call rest (Some v.member) met view notes)
+  noted_is = noted_added k (item.Made (step.Wake who mask found))
+      ∙ ap (with_normal who (mask == 3)) (ap (λ (o : Option Aim). notes_after_wake o who mask met view notes) walk_is
+      ∙ (ap (λ (b : Bool). if b then after_call rest (callee view notes a.watch who) met view notes else notes)
+      (eq-eqb mask (mask_of a.mode) masked)
+      ∙ ap (λ (o : Option ℕ). after_call rest o met view notes) callee_is))
+
+  selects : (met && is_exclusive_look (view.hold.book v.member)) ≡ (met && v.entry.exclusive)
+  selects = ap (λ (l : Look). met && is_exclusive_look l) n.shows
+
+  abbrev left : Option Aim
+  left = rest_of a (past w (called v) met)
+
+  pub wake_left : (noted woke).walk ≡ left
+  wake_left = ap (λ (m : Notes). m.walk) noted_is
+      ∙ (ap (λ (b : Bool). if b then lowered rest else Some rest) selects ∙ by (met && v.entry.exclusive))
+    where
+      by : (b : Bool) → (if b then lowered rest else Some rest)
+          ≡ (if b && (w.left == 1) then None else Some (with_left a (if b then w.left - 1 else w.left)))
+      by true = refl
+      by false = refl
+
+  pub wake_used : (noted woke).used ≡ is_used left
+  wake_used = ap (λ (m : Notes). m.used) noted_is
+      ∙ (ap (λ (b : Bool). b || ((met && is_exclusive_look (view.hold.book v.member)) && (w.left == 1))) used_is
+      ∙ (ap (λ (b : Bool). b && (w.left == 1)) selects
+      ∙ by ((met && v.entry.exclusive) && (w.left == 1)) (if met && v.entry.exclusive then w.left - 1 else w.left)))
+    where
+      by : (b : Bool) (m : ℕ) → b ≡ is_used (if b then None else Some (with_left a m))
+      by true m = refl
+      by false m = refl
+
+  wake_from : (noted woke).from ≡ notes.from
+  wake_from = ap (λ (m : Notes). m.from) noted_is
+
+  wake_called_is : (noted woke).called ≡ put notes.called v.member true
+  wake_called_is = ap (λ (m : Notes). m.called) noted_is
+
+  -- it has called the entries up to this one
+  same_shown : (x : ℕ) → shown_entry woke x ≡ shown_entry k x
+  same_shown x = ap (λ (u : Told). look_entry (u.hold.book x)) (told_added k (item.Made (step.Wake who mask found)))
+
+  pub wake_called : AreCalled woke (v.entry.place + 1)
+  wake_called = record {
+    from = let low = calls.from in let later = n.behind in omega (arith, wake_from, low, later);
+    before = λ x e low is after_from before.
+        let was : shown_entry k x ≡ Some e = sym (same_shown x) ∙ is in
+        let from_low : notes.from ≤ e.place = omega (arith, wake_from, after_from) in
+        ap (λ (f : ℕ → Bool). f x) wake_called_is
+        ∙ put_at (λ (b : Bool). b ≡ true) notes.called v.member true x (λ _. refl)
+        (λ other. reach x e low was from_low before other (dec_le w.place e.place));
+    ahead = λ x e low is later.
+        let was : shown_entry k x ≡ Some e = sym (same_shown x) ∙ is in
+        ap (λ (f : ℕ → Bool). f x) wake_called_is
+        ∙ (put_other notes.called v.member true x (not_here x e was later)
+        ∙ calls.ahead x e low was (let behind = n.behind in omega (arith, behind, later)));
+  }
+    where
+      not_here : (x : ℕ) (e : Entry) → shown_entry k x ≡ Some e → v.entry.place + 1 ≤ e.place → x ≢ v.member
+      not_here x e was later same =
+          let both : Some e ≡ Some v.entry = sym was ∙ (ap (shown_entry k) same ∙ shows_entry) in
+          let e_is : e ≡ v.entry = cc in
+          let place_is : e.place ≡ v.entry.place = ap (λ (f : Entry). f.place) e_is in
+          omega (arith, place_is, later)
+
+      reach : (x : ℕ) (e : Entry) → x < ENTRIES → shown_entry k x ≡ Some e → notes.from ≤ e.place
+          → e.place < v.entry.place + 1 → x ≢ v.member → Dec (w.place ≤ e.place) → notes.called x ≡ true
+      reach x e low was from_low before other (yes later) =
+          let least = n.first x e low was later in
+          absurd (other (n.apart x e low (look_is_shown (view.hold.book x) e was) (omega (arith, before, least))))
+      reach x e low was from_low before other (no sooner) = calls.before x e low was from_low (omega (arith, sooner))

@@ -1,0 +1,113 @@
+-- A turn of a wake: one try of the lock, and what the task may do in the hold then.
+use Rattle.std.proofs.Common.{◌∙◌, ap, sym, subst}
+use Rattle.std.specs.Prelude.{ℕ, ◌≡◌, ◌≢◌, false, Option, Some, None}
+use Rattle.wait_model.specs.declared.watches.Aim.{Aim}
+use Rattle.wait_model.specs.declared.steps.Step.TheVariants as step
+use Rattle.wait_model.specs.Watches.{head_of}
+use Rattle.wait_model.specs.Words.{held_of}
+use Rattle.wait_model.specs.Tables.{mark_of}
+use Rattle.wait_rule.specs.declared.journal.Item.TheVariants as item
+use Rattle.wait_rule.specs.Known.{Known}
+use Rattle.wait_rule.specs.Says.{IsUp, added, stored_with}
+use Rattle.wait_rule.specs.Members.{IsHeadWord}
+use Rattle.wait_rule.specs.Queues.{IsTurn, MayStoreMark, Resumes, at_head, marked, walk_of_hold}
+use Rattle.wq_head.specs.declared.wakes.WakeRun.{WakeRun}
+use Rattle.wq_head.specs.declared.wakes.WakeStage.TheVariants as stage
+use Rattle.wq_head.specs.Holds.{HasWaited, HasLocked}
+use Rattle.wq_head.specs.declared.wakes.WakeTurn.{WakeTurn}
+use Rattle.wq_head.specs.declared.wakes.WakeTurn.TheVariants as turn
+use Rattle.wq_head.specs.Turns.{HasTurned, Rests, InWalk, IsAt, IsBroken, HasDrawn, first_counts}
+use Rattle.wq_head.specs.Walking.{with_left}
+use Rattle.wq_head.proofs.BrokenHold.{base_up, base_free, may_go, may_take, goes_back}
+use Rattle.wq_head.proofs.DrawnTurns.{drawn_outside, still_waits, turn_is, turn_up, turn_goes, turn_locked}
+use Rattle.wq_head.proofs.FirstHold.{begins_walk, locked_full}
+use Rattle.wq_head.proofs.OwnBookmark.{own_clear}
+
+-- what the step that takes a lock answers
+abbrev pub Locks : Known → Known → ℕ → Option Aim → Type 0
+Locks now new h walk = (word : ℕ) × IsHeadWord word × (held_of word ≡ false)
+    × (new ≡ at_head h (added now (item.Made (step.Lock h (walk_of_hold h walk) word))))
+
+-- the first hold
+module _ (start mid new : Known) (r : WakeRun) (h found : ℕ) (at : IsAt start mid r stage.FirstTurn)
+    (at_h : h ≡ head_of r.aim.watch) (is : new ≡ added mid (item.Serving h found)) where
+  drawn : HasWaited (added start (item.Drawn h r.ticket)) mid
+  drawn = subst (λ (i : ℕ). HasWaited (added start (item.Drawn i r.ticket)) mid) (sym at_h) at.stands
+
+  pub first_waits : found ≢ r.ticket → HasDrawn start new r
+  first_waits other = subst (λ (i : ℕ). HasWaited (added start (item.Drawn i r.ticket)) new) at_h
+      (still_waits start mid new h r.ticket found drawn is other)
+
+  pub first_outside : new.book.head ≡ None
+  first_outside = ap (λ (k : Known). k.book.head) is
+      ∙ (drawn_outside start mid new h r.ticket found drawn is ∙ at.idle.free.head)
+
+  module _ (same : found ≡ r.ticket) where
+    pub first_turn : IsTurn new h
+    first_turn = turn_is start mid new h r.ticket found drawn is same
+
+    pub first_up : IsUp new
+    first_up = turn_up start mid new h r.ticket found drawn is same at.up
+
+    pub first_resumes : Resumes new h (Some r.aim)
+    first_resumes = turn_goes start mid new h r.ticket found drawn is same (Some r.aim) (λ m own _.
+        let none = own_clear start at.idle.unmarked in
+        let clash : Some m ≡ None = sym own ∙ none in
+        absurd (cc))
+
+    pub first_walks : (three : Known) → Locks new three h (Some r.aim)
+        → InWalk r.aim start three (first_counts r.aim)
+    first_walks three l = begins_walk r.aim at.full start three at.up at.idle
+        (subst (λ (i : ℕ). HasLocked start three i (Some r.aim)) at_h (locked_full r.aim at.full start three h at_h
+        (turn_locked start mid new h r.ticket found drawn is same (walk_of_hold h (Some r.aim)) three l)))
+
+-- the next hold, after a break
+module _ (start mid new : Known) (r : WakeRun) (h found : ℕ) (at : IsAt start mid r stage.NextTurn)
+    (at_h : h ≡ head_of r.aim.watch) (is : new ≡ added mid (item.Serving h found)) where
+  abbrev base : Known
+  base = at.stands.0
+
+  abbrev broken : IsBroken r.aim start base r.walk
+  broken = at.stands.1
+
+  abbrev rest : Aim
+  rest = with_left r.aim r.walk.left
+
+  drawn_next : HasWaited (added base (item.Drawn h r.ticket)) mid
+  drawn_next = subst (λ (i : ℕ). HasWaited (added base (item.Drawn i r.ticket)) mid) (sym at_h) at.stands.2
+
+  pub next_waits : found ≢ r.ticket → HasDrawn base new r
+  next_waits other = subst (λ (i : ℕ). HasWaited (added base (item.Drawn i r.ticket)) new) at_h
+      (still_waits base mid new h r.ticket found drawn_next is other)
+
+  pub next_outside : new.book.head ≡ None
+  next_outside = ap (λ (k : Known). k.book.head) is ∙ (drawn_outside base mid new h r.ticket found drawn_next is
+      ∙ (base_free r.aim at.full start base r.walk broken).head)
+
+  module _ (same : found ≡ r.ticket) where
+    pub next_turn : IsTurn new h
+    next_turn = turn_is base mid new h r.ticket found drawn_next is same
+
+    pub next_up : IsUp new
+    next_up = turn_up base mid new h r.ticket found drawn_next is same (base_up r.aim at.full start base r.walk broken)
+
+    pub next_resumes : Resumes new h (Some rest)
+    next_resumes = turn_goes base mid new h r.ticket found drawn_next is same (Some rest)
+        (subst (λ (i : ℕ). Resumes base i (Some rest)) (sym at_h) (may_go r.aim at.full start base r.walk broken))
+
+    module _ (three : Known) (l : Locks new three h (Some rest)) where
+      locked : HasLocked base three (head_of r.aim.watch) (Some rest)
+      locked = subst (λ (i : ℕ). HasLocked base three i (Some rest)) at_h (locked_full rest at.full base three h at_h
+          (turn_locked base mid new h r.ticket found drawn_next is same (walk_of_hold h (Some rest)) three l))
+
+      pub next_takes : MayStoreMark three 0
+      next_takes = may_take r.aim at.full start base r.walk broken three locked
+
+      pub next_walks : (four : Known) → four ≡ stored_with three (marked (mark_of 0)) → InWalk r.aim start four r.walk
+      next_walks four made = goes_back r.aim at.full start base r.walk broken three locked four made
+
+-- where a turn left the wake
+pub rests_of : (start new : Known) (r s : WakeRun) (t : WakeTurn) → HasTurned start new r s t → Rests new s t
+rests_of start new r s (turn.Locked after_it) h = (start, h.turns)
+rests_of start new r s turn.Broken h = (start, h.turns)
+rests_of start new r s (turn.Done result) h = (h.turns.up, h.turns.idle)

@@ -1,0 +1,69 @@
+use Rattle.std.proofs.Common.{◌≡◌, sym, refl, subst}
+use Rattle.std.specs.Prelude.{true, false, None}
+use Rattle.wait_model.specs.declared.steps.Step.TheVariants as step
+use Rattle.wait_model.specs.Watches.{head_of}
+use Rattle.wait_rule.specs.Known.{Known}
+use Rattle.wait_rule.specs.Says.{stored_with}
+use Rattle.wait_rule.proofs.KnownLaws.Turns.{unlocked_free}
+use Rattle.wq_head.proofs.EntryFunctions.{keeps_on}
+use Rattle.wq_head.proofs.WholeWalk.{come_on, walk_passed, walk_spent}
+use Rattle.wq_head.proofs.wakes.hold.Goals as goal
+
+pub returns-in-Passed-clause-turned : goal.returns-in-Passed-clause-turned
+returns-in-Passed-clause-turned g c start up idle i =
+    let mid = c.walk_hold.new.task in
+    let over = c.in-Passed.ensures.over in record {
+      aim = refl;
+      outside = subst (λ (k : Known). k.book.head ≡ None) (sym c.give_back.ensures)
+          (unlocked_free mid mid.at false).head;
+      turns = walk_passed c.args.run.now.aim start c.args.task.now mid c.give_back.new.task c.args.run.now.walk
+          c.in-Passed.walk i c.in-Passed.ensures.keeps over.0 idle c.requires.small c.requires.full over.1 over.2 over.3
+          over.4 c.give_back.ensures c.walked.result c.walked.ensures;
+    }
+
+pub returns-in-Spent-clause-turned : goal.returns-in-Spent-clause-turned
+returns-in-Spent-clause-turned g c start up idle i =
+    let mid = c.walk_hold.new.task in
+    let over = c.in-Spent.ensures.over in record {
+      aim = refl;
+      outside = subst (λ (k : Known). k.book.head ≡ None) (sym c.give_back-in-Spent.ensures)
+          (unlocked_free mid mid.at true).head;
+      turns = walk_spent c.args.run.now.aim start c.args.task.now mid c.give_back-in-Spent.new.task
+          c.args.run.now.walk c.in-Spent.walk i c.in-Spent.ensures.keeps over.0 idle c.requires.small over.1 over.2
+          c.give_back-in-Spent.ensures c.walked-in-Spent.result c.walked-in-Spent.ensures;
+    }
+
+pub returns-in-Breaks-clause-turned : goal.returns-in-Breaks-clause-turned
+returns-in-Breaks-clause-turned g c start up idle i =
+    let a = c.args.run.now.aim in
+    let mid = c.walk_hold.new.task in
+    let over = c.in-Breaks.ensures.over in
+    let e = c.break_off-run.ensures in
+    let free = unlocked_free (stored_with mid (step.Mark (head_of a.watch) c.break_off-run.result.place)) mid.at false
+    in record {
+      aim = refl;
+      outside = subst (λ (k : Known). k.book.head ≡ None) (sym e.made) free.head;
+      turns = record {
+        up = up;
+        idle = idle;
+        full = c.requires.full;
+        small = c.requires.small;
+        stands = record {
+          last = mid;
+          passed = c.in-Breaks.walk;
+          before = c.in-Breaks.before;
+          come = come_on a start c.args.task.now mid c.args.run.now.walk c.in-Breaks.walk i.come over.0;
+          keeps = keeps_on a start c.args.task.now mid i.keeps c.in-Breaks.ensures.keeps;
+          going = over.1;
+          calling = over.2;
+          meets = over.3;
+          breaks = over.4;
+          place = e.place;
+          left = e.left;
+          spent = e.spent;
+          calls = e.calls;
+          counts = e.counts;
+          is = e.made;
+        };
+      };
+    }

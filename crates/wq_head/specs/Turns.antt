@@ -1,0 +1,158 @@
+-- A wake that is made hold by hold: where it stands between two of its holds, and what a turn of it did. (To be
+-- believed.)
+use Rattle.std.specs.Prelude.{ℕ, ◌+◌, ◌^◌, ◌≡◌, ◌<◌, true, false, Some, None, List}
+use Rattle.wait_model.specs.declared.watches.Aim.{Aim}
+use Rattle.wait_model.specs.declared.queues.Walking.{Walking}
+use Rattle.wait_model.specs.declared.queues.Walked.{Walked}
+use Rattle.wait_model.specs.declared.points.Point.TheVariants as at
+use Rattle.wait_model.specs.declared.points.WalkPoint.TheVariants as walking
+use Rattle.wait_model.specs.declared.points.Next.{Next}
+use Rattle.wait_model.specs.declared.points.Next.TheVariants as next
+use Rattle.wait_model.specs.declared.steps.Step.TheVariants as step
+use Rattle.wait_model.specs.Watches.{head_of}
+use Rattle.wait_model.specs.Queues.{mark_place}
+use Rattle.wait_rule.specs.declared.journal.Item.TheVariants as item
+use Rattle.wait_rule.specs.Known.{Known}
+use Rattle.wait_rule.specs.Says.{IsUp, added, stored_with, unlocked_with}
+use Rattle.wait_rule.specs.Queues.{IsIdle}
+use Rattle.wait_rule.specs.Stays.{Carries, wake_all_change}
+use Rattle.wait_rule.specs.Transitions.{Transition, walk_program, Goes}
+use Rattle.wq_head.specs.declared.looks.ShownMember.{ShownMember}
+use Rattle.wq_head.specs.declared.wakes.WakeRun.{WakeRun}
+use Rattle.wq_head.specs.declared.wakes.WakeStage.{WakeStage}
+use Rattle.wq_head.specs.declared.wakes.WakeStage.TheVariants as stage
+use Rattle.wq_head.specs.declared.wakes.WakeTurn.{WakeTurn}
+use Rattle.wq_head.specs.declared.wakes.WakeTurn.TheVariants as turn
+use Rattle.wq_head.specs.Holds.{HasWaited}
+use Rattle.wq_head.specs.Members.{member_of}
+use Rattle.wq_head.specs.Walks.{IsFull, HasWoken, HasEnded}
+use Rattle.wq_head.specs.Walking.{
+  Counts,
+  IsCounted,
+  StaysInWalk,
+  IsStarting,
+  IsCalling,
+  IsBreak,
+  Meeting,
+  rest_of,
+  stands_at,
+}
+
+-- where the program of a walk begins
+abbrev pub started : Next
+started = next.Go (at.Walk walking.Lock)
+
+-- what the walk has done from its beginning
+pub record HasComeTo (a : Aim) (start now : Known) (w : Walking) : Type 0 where
+  pub real : Walking
+  pub transitions : List Transition
+  pub counts : Counts w real
+  pub counted : IsCounted a.count real
+  pub goes : Goes (walk_program a) start started transitions now (stands_at real)
+
+-- the task has taken the lock of one of the walk's holds, and has called no entry in it
+pub record InWalk (a : Aim) (start now : Known) (w : Walking) : Type 0 where
+  pub come : HasComeTo a start now w
+  pub keeps : StaysInWalk a start now
+  pub going : w.spent ≡ false
+  pub starting : IsStarting a now w.place (rest_of a w)
+  pub calls : w.calls ≡ 0
+
+-- the counts of a walk before its first call
+abbrev pub first_counts : Aim → Walking
+first_counts a = record {
+  place = 0;
+  woken = 0;
+  selected = 0;
+  left = a.count;
+  spent = false;
+  calls = 0;
+  holds = 1;
+}
+
+-- the same counts in the walk's next hold, which goes on at a place
+abbrev pub next_at : ℕ → Walking → Walking
+next_at place w = record {
+  place = place;
+  woken = w.woken;
+  selected = w.selected;
+  left = w.left;
+  spent = w.spent;
+  calls = 0;
+  holds = w.holds + 1;
+}
+
+-- Such a hold came before a member at which it breaks: the walk is to go on there with these counts. Then the task put
+-- its bookmark before the member, and gave the lock back.
+pub record IsBroken (a : Aim) (start now : Known) (u : Walking) : Type 0 where
+  pub last : Known
+  pub passed : Walking
+  pub before : ShownMember
+  pub come : HasComeTo a start last passed
+  pub keeps : StaysInWalk a start last
+  pub going : passed.spent ≡ false
+  pub calling : IsCalling a last passed.place (rest_of a passed)
+  pub meets : Meeting a last passed (Some (member_of before)) true
+  pub breaks : IsBreak last passed before
+  pub place : u.place ≡ mark_place (Some (member_of before))
+  pub left : u.left ≡ passed.left
+  pub spent : u.spent ≡ passed.spent
+  pub calls : u.calls ≡ 0
+  pub counts : (real : Walking) → Counts passed real → Counts u (next_at u.place real)
+  pub is : now ≡ unlocked_with (stored_with last (step.Mark (head_of a.watch) u.place)) last.at false
+
+-- the task drew the ticket of the head's lock, and found other ones served since
+abbrev pub HasDrawn : Known → Known → WakeRun → Type 0
+HasDrawn base now r = HasWaited (added base (item.Drawn (head_of r.aim.watch) r.ticket)) now
+
+-- Where a wake stands that began at `start`: before its first hold, or with a bookmark out before its next one; and
+-- whether the ticket of that hold is drawn.
+abbrev pub StandsAt : Known → Known → WakeRun → WakeStage → Type 0
+StandsAt start now r stage.First = now ≡ start
+StandsAt start now r stage.FirstTurn = HasDrawn start now r
+StandsAt start now r stage.Next = IsBroken r.aim start now r.walk
+StandsAt start now r stage.NextTurn = (base : Known) × IsBroken r.aim start base r.walk × HasDrawn base now r
+
+-- The wake began with an idle task that was up, at a full head, and with a count of 32 bits.
+pub record IsAt (start now : Known) (r : WakeRun) (s : WakeStage) : Type 0 where
+  pub up : IsUp start
+  pub idle : IsIdle start
+  pub full : IsFull r.aim.watch
+  pub small : r.aim.count < 2 ^ 32
+  pub stands : StandsAt start now r s
+
+-- What a wake did that is over: it went through the program of the walk to its answer, and ended what the task owed.
+pub record IsOver (a : Aim) (start new : Known) (result : Walked) : Type 0 where
+  pub woken : HasWoken start new a result
+  pub ended : HasEnded start new a
+  pub idle : IsIdle new
+  pub up : IsUp new
+  pub carries : Carries (wake_all_change a.watch a.mode new.at) start new
+
+-- what a turn did
+abbrev pub TurnsTo : Known → Known → WakeRun → WakeTurn → Type 0
+TurnsTo start new r (turn.Locked s) = IsAt start new r s
+TurnsTo start new r turn.Broken = IsAt start new r stage.Next
+TurnsTo start new r (turn.Done result) = IsOver r.aim start new result
+
+-- a turn keeps the aim of its wake, and ends outside of holds
+pub record HasTurned (start new : Known) (r s : WakeRun) (t : WakeTurn) : Type 0 where
+  pub aim : s.aim ≡ r.aim
+  pub outside : new.book.head ≡ None
+  pub turns : TurnsTo start new s t
+
+-- where a turn leaves the wake, whenever that began; after its end the task is up and idle
+abbrev pub Rests : Known → WakeRun → WakeTurn → Type 0
+Rests now r (turn.Locked s) = (start : Known) × IsAt start now r s
+Rests now r turn.Broken = (start : Known) × IsAt start now r stage.Next
+Rests now r (turn.Done result) = IsUp now × IsIdle now
+
+abbrev pub IsFirst : WakeStage → Type 0
+IsFirst stage.First = Unit {0}
+IsFirst stage.FirstTurn = Unit {0}
+IsFirst _ = ⊥
+
+abbrev pub IsNext : WakeStage → Type 0
+IsNext stage.Next = Unit {0}
+IsNext stage.NextTurn = Unit {0}
+IsNext _ = ⊥

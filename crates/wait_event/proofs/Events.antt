@@ -7,6 +7,7 @@ pub mod Sleeps
 pub mod Peeks
 pub mod Pares
 pub mod WornPlaces
+pub mod FormPlaces
 pub mod Queues
 pub mod Parts
 pub mod Rising

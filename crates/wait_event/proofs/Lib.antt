@@ -2,3 +2,7 @@ pub mod Ground
 pub mod Events
 pub mod Setting
 pub mod Preparing
+pub mod Entering
+pub mod Removing
+pub mod Words
+pub mod ReadyTasks

@@ -1,10 +1,31 @@
 -- Prepares and finishes: how they begin, and what they say at their end.
 use Rattle.std.proofs.Common.{◌∙◌, ap, sym, refl, subst, inr}
-use Rattle.std.specs.Prelude.{ℕ, ◌≡◌, ◌<◌, Bool, true, false, Option, Some, None, [], ◌++◌}
+use Rattle.std.specs.Prelude.{
+  ℕ,
+  ◌≡◌,
+  ◌<◌,
+  ◌||◌,
+  ◌&&◌,
+  not,
+  Bool,
+  true,
+  false,
+  Option,
+  Some,
+  None,
+  Result,
+  Ok,
+  Err,
+  [],
+  ◌++◌,
+}
 use Rattle.wait_model.specs.declared.layout.TheConstants.{FIRST_SIMPLE}
 use Rattle.wait_model.specs.declared.calls.Call.TheVariants as calls
 use Rattle.wait_model.specs.declared.tasks.How.{How}
+use Rattle.wait_model.specs.declared.tasks.SleepState.{SleepState}
+use Rattle.wait_model.specs.declared.points.Point.{Point}
 use Rattle.wait_model.specs.declared.points.Point.TheVariants as at
+use Rattle.wait_model.specs.declared.points.LeavePoint.TheVariants as leaving
 use Rattle.wait_model.specs.declared.points.PreparePoint.TheVariants as preparing
 use Rattle.wait_model.specs.declared.points.FinishPoint.TheVariants as finishing
 use Rattle.wait_model.specs.declared.points.Next.TheVariants as next
@@ -26,6 +47,7 @@ use Rattle.wait_rule.specs.Transitions.{Goes, Program, by_step}
 use Rattle.wait_rule.proofs.KnownLaws.Transitions.{only_none}
 use Rattle.wait_event.specs.Posts.{HasSeenOwn, Keeps, Post, Runs, Stands, post_at}
 use Rattle.wait_event.specs.Prepares.{
+  EndsExclusive,
   EndsPrepare,
   HasFinished,
   IsFullWatch,
@@ -35,6 +57,8 @@ use Rattle.wait_event.specs.Prepares.{
   Prepares,
   any_how,
   cond_in,
+  exclusive_in,
+  first_in,
   prepared_in,
 }
 use Rattle.wait_event.specs.Waits.{
@@ -49,10 +73,15 @@ use Rattle.wait_event.specs.Waits.{
   nothing,
   own_of,
   point_of,
+  queues_first,
+  tells_first,
   wait_call,
   wait_post,
   wait_program,
 }
+use Rattle.wq_head.specs.declared.adds.Worn.{Worn}
+use Rattle.wait_event.specs.declared.prepares.Prepared.{Prepared}
+use Rattle.wait_event.specs.declared.prepares.Prepared.TheVariants as prepared
 use Rattle.wait_event.specs.declared.waits.WaitOutcome.TheVariants as outcome
 use Rattle.wait_event.specs.declared.waits.WaitRun.{WaitRun}
 use Rattle.wait_event.specs.declared.waits.WaitStage.{WaitStage}
@@ -63,17 +92,14 @@ use Rattle.wait_event.proofs.Ground.Keeping.{keeps_on}
 use Rattle.wait_event.proofs.Events.Endings.{none_of}
 use Rattle.wait_event.proofs.Events.Peeks.{peek_from, peek_some}
 use Rattle.wait_event.proofs.Events.Turns.{GoesOn}
-use Rattle.wait_event.proofs.Ground.Standing.{seen_home}
+use Rattle.wait_event.proofs.Ground.Standing.{home_waits, seen_home}
 use Rattle.wait_model.specs.declared.points.Next.{Next}
 use Rattle.wait_event.proofs.Events.States.{state_keeps, state_looks, state_stands, state_up}
 
 pub prepares_at : (k : Known) (r : WaitRun) (w : Watch) (c : ℕ) (how : How) (asks : Bool) → IsFresh r c how asks
-    → c ≡ cond_in w → IsFullWatch w → how.exclusive ≡ false → IsTold k → MayPrepare k w → IsAt k r stage.PrepareLock
-prepares_at k r w c how asks fresh same full shared told may = record {
-  runs = record {
-    full = subst (λ (n : ℕ). n < FIRST_SIMPLE) (sym (fresh.cond ∙ same)) full.1;
-    shared = ap (λ (h : How). h.exclusive) fresh.how_is ∙ shared;
-  };
+    → c ≡ cond_in w → IsFullWatch w → IsTold k → MayPrepare k w → IsAt k r stage.PrepareLock
+prepares_at k r w c how asks fresh same full told may = record {
+  runs = record { full = subst (λ (n : ℕ). n < FIRST_SIMPLE) (sym (fresh.cond ∙ same)) full.1 };
   up = may.up;
   stands = record {
     head = may.free.head;
@@ -97,8 +123,10 @@ module _ (old new : Known) (r q : WaitRun) (w : Watch) (c : ℕ) (how : How) (as
   is_how s = s.how ∙ fresh.how_is
 
   gone : (s : WaitStage) (a : Advances old new r q stage.PrepareLock (turn.Again s))
-      → new.book.head ≡ None → new.book.ticket ≡ no_ticket → Prepares old new (cond_in w) how asks (point_of s)
-  gone s a head ticket = record {
+      → new.book.head ≡ None → new.book.ticket ≡ no_ticket
+      → IsHome waits (watch.Plain q.cond) ((told_of new).bits.stored (index new.view.number 0))
+      → Prepares old new (cond_in w) how asks (point_of s)
+  gone s a head ticket home = record {
     runs = record {
       transitions = a.went.runs.transitions;
       goes = subst (λ (f : Program). Goes f old (next.Go (at.Prepare preparing.Lock)) a.went.runs.transitions new
@@ -109,6 +137,8 @@ module _ (old new : Known) (r q : WaitRun) (w : Watch) (c : ℕ) (how : How) (as
     keeps = a.went.keeps;
     up = a.lands.up;
     free = record { head = head; ticket = ticket };
+    home = subst (λ (n : ℕ). IsHome waits (watch.Plain n) ((told_of new).bits.stored (index new.view.number 0)))
+        (is_cond a.same) home;
   }
 
   left : (o : Option Entry) → (told_of new).bits.stored (index new.view.number 0) ≡ o
@@ -122,12 +152,13 @@ module _ (old new : Known) (r q : WaitRun) (w : Watch) (c : ℕ) (how : How) (as
   pub ends_prepare : (s : WaitStage) → is_prepared s ≡ true
       → Advances old new r q stage.PrepareLock (turn.Again s) → EndsPrepare old new w how asks (prepared_in q s)
   ends_prepare stage.Test over a = (
-    gone stage.Test a a.lands.stands.head a.lands.stands.ticket,
+    gone stage.Test a a.lands.stands.head a.lands.stands.ticket a.lands.stands.home,
     subst (λ (h : How). IsQueuedIn new (state_mask h.state)) (is_how a.same) a.lands.trail,
   )
   ends_prepare stage.LeaveLoad over a =
       let t = a.lands.trail in (
-        gone stage.LeaveLoad a a.lands.stands.head a.lands.stands.ticket,
+        gone stage.LeaveLoad a a.lands.stands.head a.lands.stands.ticket
+            (home_waits (watch.Plain q.cond) ((told_of new).bits.stored (index new.view.number 0)) a.lands.stands.home),
         sym (a.same.asks ∙ fresh.asks_is) ∙ t.showed.asks,
         left _ refl a.lands.stands.home a.lands.stands.state,
         record {
@@ -141,12 +172,71 @@ module _ (old new : Known) (r q : WaitRun) (w : Watch) (c : ℕ) (how : How) (as
       )
   ends_prepare stage.Worn over a =
       let t = a.lands.trail in (
-        gone stage.Worn a a.lands.stands.head a.lands.stands.ticket,
+        gone stage.Worn a a.lands.stands.head a.lands.stands.ticket
+            (home_waits (watch.Plain q.cond) ((told_of new).bits.stored (index new.view.number 0)) a.lands.stands.home),
         left _ refl a.lands.stands.home a.lands.stands.state,
         ap (λ (d : ℕ). head_of (watch.Plain d)) (is_cond a.same),
         t.noted,
       )
   ends_prepare s over a = absurd (cc)
+
+-- an exclusive prepare that answers whether its entry is the first
+module _ (old new : Known) (r q : WaitRun) (w : Watch) (c : ℕ) (σ : SleepState)
+    (fresh : IsFresh r c (record { state = σ; exclusive = true }) false) (same : c ≡ cond_in w) where
+  abbrev exclusive_how : How
+  exclusive_how = record { state = σ; exclusive = true }
+
+  tells_it : tells_first r ≡ true
+  tells_it i = (fresh.how_is i).exclusive && not (fresh.asks_is i)
+
+  and_true : (b : Bool) → (b && true) ≡ b
+  and_true true = refl
+  and_true false = refl
+
+  first_is : (s : WaitStage) (a : Advances old new r q stage.PrepareLock (turn.Again s))
+      → q.first ≡ queues_first a.went.runs.transitions
+  first_is s a = a.went.first ∙ ((λ i. fresh.first i || (queues_first a.went.runs.transitions && tells_it i))
+      ∙ and_true (queues_first a.went.runs.transitions))
+
+  pub ends_exclusive : (s : WaitStage) → is_prepared s ≡ true
+      → (a : Advances old new r q stage.PrepareLock (turn.Again s)) → EndsExclusive old new w σ (first_in q s)
+  unfolding ends_prepare gone
+  ends_exclusive stage.Test over a =
+      let e = ends_prepare old new r q w c exclusive_how false fresh same stage.Test over a in
+      (e.0, e.1, first_is stage.Test a)
+  ends_exclusive stage.LeaveLoad over a =
+      let no : true ≡ false = sym a.lands.trail.showed.asks ∙ (a.same.asks ∙ fresh.asks_is) in absurd (cc)
+  ends_exclusive stage.Worn over a = ends_prepare old new r q w c exclusive_how false fresh same stage.Worn over a
+  ends_exclusive s over a = absurd (cc)
+
+-- whatever a prepare answered, the task may finish
+prepared_may : (old new : Known) (c : ℕ) (how : How) (asks : Bool) (p : Point) → c < FIRST_SIMPLE
+    → Prepares old new c how asks p → MayFinish new
+prepared_may old new c how asks p full x = record { cond = c; full = full; up = x.up; free = x.free; home = x.home }
+
+pub ends_may : (old new : Known) (w : Watch) (how : How) (asks : Bool) (r : Result Prepared Worn) → IsFullWatch w
+    → EndsPrepare old new w how asks r → MayFinish new
+ends_may old new w how asks (Ok prepared.Queued) full e = prepared_may old new (cond_in w) how asks at.Test full.1 e.0
+ends_may old new w how asks (Ok prepared.Signal) full e =
+    prepared_may old new (cond_in w) how asks (at.Leave leaving.Load) full.1 e.0
+ends_may old new w how asks (Err x) full e = prepared_may old new (cond_in w) how asks at.Worn full.1 e.0
+
+pub exclusive_may : (old new : Known) (w : Watch) (σ : SleepState) (r : Result Bool Worn) → IsFullWatch w
+    → EndsExclusive old new w σ r → MayFinish new
+exclusive_may old new w σ (Ok b) full e = prepared_may old new (cond_in w) (exclusive_in σ) false at.Test full.1 e.0
+exclusive_may old new w σ (Err x) full e = prepared_may old new (cond_in w) (exclusive_in σ) false at.Worn full.1 e.0
+
+-- and its bookmark stays
+pub ends_mark : (old new : Known) (w : Watch) (how : How) (asks : Bool) (r : Result Prepared Worn)
+    → EndsPrepare old new w how asks r → Keeps (index old.view.number 0) old new
+ends_mark old new w how asks (Ok prepared.Queued) e = e.0.keeps
+ends_mark old new w how asks (Ok prepared.Signal) e = e.0.keeps
+ends_mark old new w how asks (Err x) e = e.0.keeps
+
+pub exclusive_mark : (old new : Known) (w : Watch) (σ : SleepState) (r : Result Bool Worn)
+    → EndsExclusive old new w σ r → Keeps (index old.view.number 0) old new
+exclusive_mark old new w σ (Ok b) e = e.0.keeps
+exclusive_mark old new w σ (Err x) e = e.0.keeps
 
 -- a finish: the state, and the look
 module _ (old mid : Known) (may : MayFinish old) (told : IsTold old)
@@ -163,6 +253,7 @@ module _ (old mid : Known) (may : MayFinish old) (told : IsTold old)
     seen = 0;
     queued = false;
     found = false;
+    first = false;
   }
 
   abbrev f : Program
@@ -191,7 +282,7 @@ module _ (old mid : Known) (may : MayFinish old) (told : IsTold old)
 
   looks_at : IsAt mid finished stage.FinishLook
   looks_at = record {
-    runs = record { full = may.full; shared = refl };
+    runs = record { full = may.full };
     up = state_up old mid 0 is carries may.up;
     stands = state_stands old mid 0 is carries before (wait_post finished stage.FinishLook) stands_before refl refl refl
         (λ o h. h);
@@ -241,10 +332,7 @@ module _ (old mid : Known) (may : MayFinish old) (told : IsTold old)
 
     pub lock_at : IsAt k q stage.FinishLock
     lock_at = record {
-      runs = record {
-        full = subst (λ (n : ℕ). n < FIRST_SIMPLE) (sym its_cond) may.full;
-        shared = ap (λ (w : How). w.exclusive) fresh.how_is;
-      };
+      runs = record { full = subst (λ (n : ℕ). n < FIRST_SIMPLE) (sym its_cond) may.full };
       up = g_some.lands.0;
       stands = subst (Stands k) (λ i. post_at None (calls.Wait (sym its_cond i) (sym fresh.how_is i))
           (at.Finish finishing.Lock false)) g_some.lands.1;

@@ -1,6 +1,9 @@
+pub mod Queueing
 pub mod Posts
 pub mod Waits
 pub mod Ends
 pub mod Conds
 pub mod Prepares
+pub mod Entries
+pub mod Words
 pub mod Tested

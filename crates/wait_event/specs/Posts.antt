@@ -15,6 +15,7 @@ use Rattle.std.specs.Prelude.{
   None,
   List,
 }
+use Rattle.wait_model.specs.declared.layout.TheConstants.{SLOTS}
 use Rattle.wait_model.specs.declared.watches.Watch.{Watch}
 use Rattle.wait_model.specs.declared.watches.Entry.{Entry}
 use Rattle.wait_model.specs.declared.calls.Call.{Call}
@@ -87,7 +88,7 @@ pub record Keeps (i : ℕ) (old new : Known) : Type 0 where
   pub mark : (told_of new).mark ≡ (told_of old).mark
   pub fewer : (w : Watch) (σ : ℕ) → (told_of old).duty.owes w σ ≡ false → (told_of new).duty.owes w σ ≡ false
   pub out : (x : ℕ) → (x == i) ≡ false → (told_of old).bits.stored x ≡ None → (told_of new).bits.stored x ≡ None
-  pub stands : (slot : ℕ) → slot < 2 → (index old.view.number slot == i) ≡ false → (e : Entry)
+  pub stands : (slot : ℕ) → slot < SLOTS → (index old.view.number slot == i) ≡ false → (e : Entry)
       → (told_of old).bits.stored (index old.view.number slot) ≡ Some e → IsOwnKind e.kind
       → (told_of new).bits.stored (index old.view.number slot) ≡ Some e
   pub owes : (x : Excuse) → Owes (with_entry i x) old → Owes (with_entry i x) new

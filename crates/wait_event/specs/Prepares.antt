@@ -8,6 +8,7 @@ use Rattle.wait_model.specs.declared.points.Point.TheVariants as at
 use Rattle.wait_model.specs.declared.points.PreparePoint.TheVariants as preparing
 use Rattle.wait_model.specs.declared.points.LeavePoint.TheVariants as leaving
 use Rattle.wait_model.specs.declared.points.FinishPoint.TheVariants as finishing
+use Rattle.wait_model.specs.declared.tasks.SleepState.{SleepState}
 use Rattle.wait_model.specs.declared.tasks.SleepState.TheVariants as states
 use Rattle.wait_model.specs.Programs.{zero_answer}
 use Rattle.wait_model.specs.declared.points.Next.TheVariants as next
@@ -25,7 +26,7 @@ use Rattle.wait_rule.specs.Queues.{index}
 use Rattle.wq_head.specs.declared.adds.Worn.{Worn}
 use Rattle.wait_event.specs.Posts.{Keeps, Runs}
 use Rattle.wait_event.specs.Ends.{IsOut}
-use Rattle.wait_event.specs.Waits.{EndsWith, IsQueuedIn, head_of_wait, left_by, own_of, wait_program}
+use Rattle.wait_event.specs.Waits.{EndsWith, IsQueuedIn, head_of_wait, left_by, own_of, queues_first, wait_program}
 use Rattle.wait_event.specs.declared.prepares.Prepared.{Prepared}
 use Rattle.wait_event.specs.declared.prepares.Prepared.TheVariants as prepared
 use Rattle.wait_event.specs.declared.waits.WaitRun.{WaitRun}
@@ -52,13 +53,15 @@ pub record MayPrepare (k : Known) (w : Watch) : Type 0 where
   pub running : k.book.state ≡ 0
   pub home : IsHome waits (watch.Plain (cond_in w)) ((told_of k).bits.stored (index k.view.number 0))
 
--- the task went through the prepare of a wait to this point, and holds no lock
+-- The task went through the prepare of a wait to this point, and holds no lock. Its entry of slot 0 is off, or one of
+-- this condition that a wake takes off: so it may finish, whatever the prepare answered.
 pub record Prepares (old new : Known) (c : ℕ) (how : How) (asks : Bool) (to : Point) : Type 0 where
   pub runs : Runs (wait_program asks old.view.number (calls.Wait c how)) old new
       (next.Go (at.Prepare preparing.Lock)) (next.Go to)
   pub keeps : Keeps (index old.view.number 0) old new
   pub up : IsUp new
   pub free : IsFree new
+  pub home : IsHome waits (watch.Plain c) ((told_of new).bits.stored (index new.view.number 0))
 
 -- the last steps of a prepare that found a signal
 pub record WasAsked (k : Known) (c : ℕ) (how : How) : Type 0 where
@@ -80,11 +83,25 @@ EndsPrepare old new w how asks (Ok prepared.Signal) =
 EndsPrepare old new w how asks (Err e) = Prepares old new (cond_in w) how asks at.Worn × IsLeft new
     × (e.head ≡ head_of (watch.Plain (cond_in w))) × WasWorn new.view.number new.view.items e.head e.place
 
+-- An exclusive prepare that looks for no signal answers whether its entry is the first: it queued it, and its hold had
+-- shown no entry and no bookmark of the head before.
+abbrev pub exclusive_in : SleepState → How
+exclusive_in σ = record { state = σ; exclusive = true }
+
+abbrev pub EndsExclusive : Known → Known → Watch → SleepState → Result Bool Worn → Type 0
+EndsExclusive old new w σ (Ok first) = (p : Prepares old new (cond_in w) (exclusive_in σ) false at.Test)
+    × IsQueuedIn new (state_mask σ) × (first ≡ queues_first p.runs.transitions)
+EndsExclusive old new w σ (Err e) = EndsPrepare old new w (exclusive_in σ) false (Err e)
+
 -- what a prepare answers, by the stage at which it ended
 abbrev pub prepared_in : WaitRun → WaitStage → Result Prepared Worn
 prepared_in r stage.Test = Ok prepared.Queued
 prepared_in r stage.LeaveLoad = Ok prepared.Signal
 prepared_in r _ = Err (record { head = head_of_wait r; place = r.place })
+
+abbrev pub first_in : WaitRun → WaitStage → Result Bool Worn
+first_in r stage.Test = Ok r.first
+first_in r _ = Err (record { head = head_of_wait r; place = r.place })
 
 -- the answer of a prepare that looks for no signal
 abbrev pub with_signal : Result (Unit {0}) Worn → Result Prepared Worn

@@ -50,8 +50,10 @@ use Rattle.wait_rule.specs.Tickets.{no_ticket}
 use Rattle.wait_rule.specs.Ends.{WasWorn}
 use Rattle.wait_rule.specs.Says.{IsUp, IsDown, history_of, told_of}
 use Rattle.wait_rule.specs.Queues.{index}
+use Rattle.wait_rule.specs.Shown.{shown_queue}
 use Rattle.wait_rule.specs.Transitions.{Program, StepOrLook, Transition, by_step, call_program}
 use Rattle.wait_event.specs.Posts.{Post, Stands, post_at, Keeps, Runs}
+use Rattle.wait_event.specs.Queueing.{is_none}
 use Rattle.wait_event.specs.declared.waits.WaitRun.{WaitRun}
 use Rattle.wait_event.specs.declared.waits.WaitStage.{WaitStage}
 use Rattle.wait_event.specs.declared.waits.WaitStage.TheVariants as stage
@@ -107,11 +109,11 @@ pub record IsFresh (r : WaitRun) (c : ℕ) (how : How) (asks : Bool) : Type 0 wh
   pub how_is : r.how ≡ how
   pub asks_is : r.asks ≡ asks
   pub queued : r.queued ≡ false
+  pub first : r.first ≡ false
 
--- the waits that run: for a condition with a full head, and not exclusive
+-- the waits that run: for a condition with a full head
 pub record IsRunning (r : WaitRun) : Type 0 where
   pub full : r.cond < FIRST_SIMPLE
-  pub shared : r.how.exclusive ≡ false
 
 abbrev pub wait_post : WaitRun → WaitStage → Post
 wait_post r s = post_at (ticket_at s r.ticket) (wait_call r) (point_of s)
@@ -153,12 +155,12 @@ pub record FoundWorn (k : Known) (r : WaitRun) (more : List Step) : Type 0 where
 abbrev pub last_load : WaitRun → List Step
 last_load r = step.Load (watch.Plain r.cond) r.seen ∷ []
 
--- what a stage and an answer say of the last steps
 -- the history has stored the own entry of slot 0, and the state is the one in which the wait sleeps
 pub record IsQueuedIn (k : Known) (σ : ℕ) : Type 0 where
   pub queued : is_some ((told_of k).bits.stored (own_of k)) ≡ true
   pub state : k.book.state ≡ σ
 
+-- what a stage and an answer say of the last steps
 abbrev pub TrailAt : Known → WaitRun → Point → Type 0
 TrailAt k r (at.Prepare preparing.Look) = r.asks ≡ true
 TrailAt k r (at.Prepare preparing.State) = is_some ((told_of k).bits.stored (own_of k)) ≡ true
@@ -220,7 +222,7 @@ next_in (turn.Asleep s) = next.Go (point_of s)
 next_in (turn.Locked s) = next.Go (point_of s)
 next_in (turn.Done o) = next.Ends (answer_in o)
 
--- it is the same call, and the same ticket
+-- it is the same call
 pub record SameCall (r q : WaitRun) : Type 0 where
   pub cond : q.cond ≡ r.cond
   pub how : q.how ≡ r.how
@@ -235,11 +237,22 @@ abbrev pub queues : List Transition → Bool
 queues [] = false
 queues (t ∷ ts) = is_queue t.did || queues ts
 
--- The wait went on from one stage to another. The run tells whether it has queued its entry.
+-- whether it queued one where its hold had shown no member of the head before
+abbrev pub queues_first : List Transition → Bool
+queues_first [] = false
+queues_first (t ∷ ts) = (is_queue t.did && is_none (shown_queue t.knew)) || queues_first ts
+
+-- a prepare that answers that: it is exclusive, and looks for no signal
+abbrev pub tells_first : WaitRun → Bool
+tells_first r = r.how.exclusive && not r.asks
+
+-- The wait went on from one stage to another. The run tells whether it has queued its entry, and a prepare that answers
+-- it whether as the first member of its head.
 pub record Went (old new : Known) (r q : WaitRun) (from to : Next) : Type 0 where
   pub runs : Runs (wait_program r.asks old.view.number (wait_call r)) old new from to
   pub keeps : Keeps (index old.view.number 0) old new
   pub queued : q.queued ≡ (r.queued || queues runs.transitions)
+  pub first : q.first ≡ (r.first || (queues_first runs.transitions && tells_first r))
 
 -- and where it stands then
 abbrev pub Lands : Known → WaitRun → WaitTurn → Type 0
@@ -314,10 +327,6 @@ abbrev pub LooksAt : WaitStage → Type 0
 LooksAt stage.PrepareLook = Unit {0}
 LooksAt _ = ⊥
 
-abbrev pub QueuesAt : WaitStage → Type 0
-QueuesAt stage.PrepareQueue = Unit {0}
-QueuesAt _ = ⊥
-
 abbrev pub StoresAt : WaitStage → Type 0
 StoresAt stage.PrepareState = Unit {0}
 StoresAt stage.FinishState = Unit {0}
@@ -332,15 +341,11 @@ abbrev pub PeeksAt : WaitStage → Type 0
 PeeksAt stage.FinishLook = Unit {0}
 PeeksAt _ = ⊥
 
-abbrev pub SleepsAt : WaitStage → Type 0
-SleepsAt stage.Sleep = Unit {0}
-SleepsAt _ = ⊥
-
 abbrev pub state_at : WaitRun → WaitStage → ℕ
 state_at r stage.PrepareState = state_mask r.how.state
 state_at r _ = 0
 
--- the stage behind a draw
+-- the stage after a draw
 abbrev pub turn_of : WaitStage → WaitStage
 turn_of stage.PrepareLock = stage.PrepareTurn
 turn_of stage.FinishLock = stage.FinishTurn
@@ -372,7 +377,7 @@ goes_down s (turn.Asleep t) = not (holds (point_of t))
 goes_down s (turn.Locked t) = not (holds (point_of t))
 goes_down s (turn.Done o) = true
 
--- the stages of a prepare, and those behind it
+-- the stages of a prepare, and those after it
 abbrev pub is_prepare : WaitStage → Bool
 is_prepare stage.PrepareLock = true
 is_prepare stage.PrepareTurn = true
@@ -390,7 +395,6 @@ is_prepared stage.Worn = true
 is_prepared stage.LeaveLoad = true
 is_prepared _ = false
 
--- a prepare goes on to its end, and so does a finish; there is no other way out
 -- the stages of a finish, which ends the wait with 0
 abbrev pub is_finish : WaitStage → Bool
 is_finish stage.FinishState = true
@@ -405,6 +409,7 @@ abbrev pub is_over : WaitOutcome → Bool
 is_over outcome.Over = true
 is_over _ = false
 
+-- a prepare goes on to its end, and so does a finish; there is no other way out
 abbrev pub stays_in : WaitStage → WaitTurn → Bool
 stays_in s (turn.Again t) = (not (is_prepare s) || (is_prepare t || is_prepared t))
     && (not (is_finish s) || is_finish t)

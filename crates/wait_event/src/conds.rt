@@ -28,10 +28,11 @@ pub fn take_cond(domain: &Domain, task: &mut Task, cond: u8) -> u64
     consume(domain, task, cond)
 }
 
-/// Sets condition `cond`, below `FIRST_SIMPLE`, to a value, and wakes all who wait for it in the states of the mode
-/// (a store of the condition, and `__wake_up`). The count is 0, which stops at no entry. The task is idle, and so it is
-/// afterwards. With the Normal mode it owes nothing of the condition then; with the Interruptible one it owes what it
-/// owed of it to the others, and of all other conditions what it owed before.
+/// Sets condition `cond`, below `FIRST_SIMPLE`, to a value, and wakes those who wait for it in the states of the mode
+/// (a store of the condition, and kernel/sched/wait.c, `__wake_up`). A count of 0 stops at no entry; another ends the
+/// wake after so many exclusive entries whose tasks were woken, which is answered as `Spent`. The task is idle, and so
+/// it is afterwards. With the Normal mode it owes nothing of the condition then; with the Interruptible one it owes
+/// what it owed of it to the others, and of all other conditions what it owed before.
 pub fn set_and_wake<R: Wait>(
     rt: &R,
     domain: &Domain,
@@ -45,7 +46,6 @@ pub fn set_and_wake<R: Wait>(
     requires up { IsUp task.old }
     requires idle { IsIdle task.old }
     requires full { cond < FIRST_SIMPLE }
-    requires all { count ≡ 0 }
     ensures set { HasSet task.old task.new cond value mode count result }
     ensures up { IsUp task.new }
     ensures idle { IsIdle task.new }

@@ -2,7 +2,10 @@
 #![tactic(auto)]
 
 pub mod conds;
+pub mod entries;
+pub mod laws;
 pub mod prepares;
+mod queueing;
 #[cfg(test)]
 mod tests;
 pub mod wait_calls;

@@ -5,11 +5,12 @@ ghost use Rattle.wait_event.specs.declared.waits.WaitOutcome.TheVariants as outc
 ghost use Rattle.wait_event.specs.declared.waits.WaitStage.TheVariants as stage;
 ghost use Rattle.wait_event.specs.declared.waits.WaitTurn.TheVariants as turn;
 ghost use Rattle.wait_event.specs.Prepares.{EndsPrepare, HasFinished, IsFullWatch, IsPlainWait, MayFinish, MayPrepare};
-ghost use Rattle.wait_event.specs.Prepares.{cond_in, prepared_in, with_signal};
+ghost use Rattle.wait_event.specs.Prepares.{EndsExclusive, cond_in, first_in, prepared_in, with_signal};
 ghost use Rattle.wait_event.specs.Waits.{Advances, IsAt, is_prepared};
 
+use crate::queueing::own_entry;
 use crate::wait_calls::pause;
-use crate::waits::{WaitRun, WaitStage, WaitTurn, advance, own_entry};
+use crate::waits::{WaitRun, WaitStage, WaitTurn, advance};
 use std::sync::Wait;
 use wait_model::heads::head_of;
 use wait_model::layout::RUNNING;
@@ -117,6 +118,19 @@ fn answer_at(run: WaitRun, stage: WaitStage) -> Result<Prepared, Worn>
     }
 }
 
+/// Whether the entry of an exclusive prepare is the first, by the stage at which it ended.
+fn first_at(run: WaitRun, stage: WaitStage) -> Result<bool, Worn>
+    ensures { result ≡ first_in run stage }
+{
+    match stage {
+        WaitStage::Test => Ok(run.first),
+        _ => Err(Worn {
+            head: head_of(run.watch()),
+            place: run.place,
+        }),
+    }
+}
+
 /// Prepares to wait in one hold, and looks for a signal in it where it asks for one.
 fn prepare<R: Wait>(
     rt: &R,
@@ -129,8 +143,8 @@ fn prepare<R: Wait>(
     requires of { task.old.domain ≡ domain.now }
     requires may { MayPrepare task.old watch }
     requires full { IsFullWatch watch }
-    requires shared { how.exclusive ≡ false }
-    ensures { EndsPrepare task.old task.new watch how asks result }
+    ensures ends { EndsPrepare task.old task.new watch how asks result }
+    ensures may { MayFinish task.new }
 {
     task.told();
     let mut run = WaitRun::new(cond_of(watch), how, asks);
@@ -139,10 +153,11 @@ fn prepare<R: Wait>(
 }
 
 /// Prepares to wait in one hold (`prepare_to_wait_event`): where a signal is pending that the state admits the own
-/// entry of slot 0 is taken off, and the answer is Signal; else it is queued at the front, unless it is queued, and the
-/// state stored, and the answer is Queued. Worn comes exactly where the entry was off and no place is left for it.
-/// After Signal and Worn the entry is off and the task RUNNING. The watch is a plain condition below `FIRST_SIMPLE`,
-/// the kind autoremove, and the wait not exclusive. The task holds no lock and is RUNNING.
+/// entry of slot 0 is taken off, and the answer is Signal. Else it is queued, unless it is, and the state stored, and
+/// the answer is Queued: an exclusive entry goes to the tail, every other one to the front. Worn comes exactly where
+/// the entry was off and no place is left for it. After Signal and Worn the entry is off and the task RUNNING, and
+/// after each answer it may finish. The watch is a plain condition below `FIRST_SIMPLE`, and the kind autoremove. The
+/// task holds no lock and is RUNNING.
 pub fn prepare_event<R: Wait>(
     rt: &R,
     domain: &Domain,
@@ -154,8 +169,8 @@ pub fn prepare_event<R: Wait>(
     requires of { task.old.domain ≡ domain.now }
     requires may { MayPrepare task.old watch }
     requires plain { IsPlainWait watch kind }
-    requires shared { how.exclusive ≡ false }
-    ensures { EndsPrepare task.old task.new watch how true result }
+    ensures ends { EndsPrepare task.old task.new watch how true result }
+    ensures may { MayFinish task.new }
 {
     let _ = kind;
     prepare(rt, domain, task, watch, how, true)
@@ -173,8 +188,9 @@ pub fn prepare_to_wait<R: Wait>(
     requires of { task.old.domain ≡ domain.now }
     requires may { MayPrepare task.old watch }
     requires plain { IsPlainWait watch kind }
-    ensures { EndsPrepare task.old task.new watch (record { state = state; exclusive = false }) false
+    ensures ends { EndsPrepare task.old task.new watch (record { state = state; exclusive = false }) false
         (with_signal result) }
+    ensures may { MayFinish task.new }
 {
     let _ = kind;
     let how = How {
@@ -186,6 +202,34 @@ pub fn prepare_to_wait<R: Wait>(
         Ok(Prepared::Signal) => unreachable!(),
         Err(worn) => Err(worn),
     }
+}
+
+/// Prepares an exclusive wait without a look for a signal (`prepare_to_wait_exclusive`): its entry goes to the tail.
+/// True exactly where this call queued the entry and its hold found no entry and no bookmark of the head before it. The
+/// rest is as in `prepare_event`.
+pub fn prepare_exclusive<R: Wait>(
+    rt: &R,
+    domain: &Domain,
+    task: &mut Task,
+    kind: Kind,
+    watch: Watch,
+    state: SleepState,
+) -> Result<bool, Worn>
+    requires of { task.old.domain ≡ domain.now }
+    requires may { MayPrepare task.old watch }
+    requires plain { IsPlainWait watch kind }
+    ensures ends { EndsExclusive task.old task.new watch state result }
+    ensures may { MayFinish task.new }
+{
+    let _ = kind;
+    task.told();
+    let how = How {
+        state,
+        exclusive: true,
+    };
+    let mut run = WaitRun::new(cond_of(watch), how, false);
+    let stage = run_prepare(rt, domain, task, &mut run);
+    first_at(run, stage)
 }
 
 /// Finishes a wait that was put together from parts (`finish_wait`): stores RUNNING, looks at the own entry of slot 0

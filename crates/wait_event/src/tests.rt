@@ -1,4 +1,7 @@
-//! Waits and their wakers: by threads, and by stretches on one thread.
+//! Waits and their wakers: one task alone, by threads, and by stretches on one thread.
 
+mod alone;
+mod selected;
 mod stretches;
 mod threads;
+mod turns;

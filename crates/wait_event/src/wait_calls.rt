@@ -4,6 +4,7 @@ ghost use Rattle.std.specs.Prelude.{◌≡◌, ◌≤◌, not, MatchBool};
 ghost use Rattle.wait_event.specs.declared.waits.WaitTurn.TheVariants as turn;
 ghost use Rattle.wait_event.specs.Waits.{Advances, IsAt, IsAsleepAt, IsRunning, IsStop, point_of};
 ghost use Rattle.wait_model.specs.Reached.{holds};
+ghost use Rattle.wq_head.specs.declared.locks.TheConstants.{LOOKS};
 
 use crate::waits::{WaitOutcome, WaitRun, WaitStage, WaitTurn, advance};
 use std::hint::spin_loop;
@@ -12,12 +13,10 @@ use wait_model::heads::head_of;
 use wait_rule::queues::park_until_next;
 use wait_rule::tasks::awake;
 use wait_rule::{Domain, Task, wait_up};
+use wq_head::locks::LOOKS;
 
-/// A hold has at most five events, and so has each stretch.
+/// More turns than a stretch has: at most five events are left before its first turn, and fewer after each.
 const STRETCH: u8 = 6;
-
-/// How often a task that waits for a lock loads the served number before its thread parks.
-const LOOKS: u32 = 50;
 
 /// Whether no head is held there.
 #[inline(always)]

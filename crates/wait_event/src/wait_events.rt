@@ -1,6 +1,6 @@
 //! `wait_event`, and the parts of it that drivers call by themselves.
 
-ghost use Rattle.std.specs.Prelude.{◌≡◌, ◌<◌, false, true};
+ghost use Rattle.std.specs.Prelude.{◌≡◌, ◌<◌, true};
 ghost use Rattle.wait_model.specs.declared.layout.TheConstants.{FIRST_SIMPLE};
 ghost use Rattle.wait_rule.specs.Says.{IsUp};
 ghost use Rattle.wait_rule.specs.Queues.{IsIdle, IsTold, index};
@@ -35,7 +35,6 @@ pub fn begin_wait(task: &Task, cond: u8, how: How) -> WaitRun
     requires up { IsUp task.now }
     requires idle { IsIdle task.now }
     requires full { cond < FIRST_SIMPLE }
-    requires shared { how.exclusive ≡ false }
     requires out { IsOut task.now }
     ensures at { IsAt task.now result stage.First }
     ensures fresh { IsFresh result cond how true }
@@ -46,8 +45,9 @@ pub fn begin_wait(task: &Task, cond: u8, how: How) -> WaitRun
 }
 
 /// Waits until condition `cond`, below `FIRST_SIMPLE`, is set (`wait_event`, `wait_event_interruptible`,
-/// `wait_event_killable`): a value other than 0. The task is idle and has no entry queued, and so it is afterwards; it
-/// owes what it owed.
+/// `wait_event_killable`): a value other than 0. An exclusive wait (`wait_event_interruptible_exclusive`,
+/// `wait_event_killable_exclusive`) has its entry at the tail, where one wake of the count selects it; every other one
+/// has it at the front. The task is idle and has no entry queued, and so it is afterwards; it owes what it owed.
 pub fn wait_event<R: Wait>(
     rt: &R,
     domain: &Domain,
@@ -59,7 +59,6 @@ pub fn wait_event<R: Wait>(
     requires up { IsUp task.old }
     requires idle { IsIdle task.old }
     requires full { cond < FIRST_SIMPLE }
-    requires shared { how.exclusive ≡ false }
     requires out { IsOut task.old }
     ensures waited { EndsWait task.old task.new cond how result }
     ensures up { IsUp task.new }

@@ -5,25 +5,24 @@ ghost use Rattle.wait_model.specs.declared.watches.Watch.TheVariants as watch;
 ghost use Rattle.wait_model.specs.Tasks.{task_of};
 ghost use Rattle.wait_rule.specs.Says.{IsUp};
 ghost use Rattle.wait_event.specs.declared.waits.WaitTurn.TheVariants as turn;
-ghost use Rattle.wait_event.specs.Posts.{HasSeenOwn};
 ghost use Rattle.wait_event.specs.Waits.{Advances, IsAt, IsFresh, IsPlain, goes_to, next_in, nothing, state_at};
 ghost use Rattle.wait_event.specs.Waits.{with_entry, with_own, with_value};
 ghost use Rattle.wait_event.specs.Waits.{DrawsAt, LoadsAt, LocksAt, LooksAt, ParesAt, PeeksAt, StoresAt, UnlocksAt};
-ghost use Rattle.wait_event.specs.Waits.{falls, turn_of};
+ghost use Rattle.wait_event.specs.Waits.{falls, tells_first, turn_of};
 ghost use Rattle.wait_event.specs.declared.waits.WaitStage.TheVariants as stage;
 
+use crate::queueing::{add_by, is_first, or_first, own_entry, wait_form};
 use wait_model::heads::head_of;
 use wait_model::layout::RUNNING;
 use wait_model::task_words::{TaskWord, pending_state};
 use wait_model::tasks::{How, Sleep};
 use wait_model::watches::{Entry, Kind, Watch};
-use wait_model::words::entry_of;
-use wait_rule::queues::{cond_load, draw, entry_load, lock_step, serving_load};
+use wait_rule::queues::{cond_load, draw, lock_step, serving_load};
 use wait_rule::tasks::{load_own, set_state};
 use wait_rule::tries::sleep_try;
 use wait_rule::{Domain, Task};
 use wq_head::locks::give_back;
-use wq_head::{add_front, remove};
+use wq_head::remove;
 
 /// A stage of a wait: where it stands in its program. At `PrepareTurn` and `FinishTurn` the ticket of the lock is
 /// drawn, at `PrepareLock` and `FinishLock` it is not.
@@ -85,6 +84,8 @@ pub struct WaitRun {
     /// Whether the wait has queued its entry, and whether the hold that left the queue for a signal found it queued.
     pub queued: bool,
     pub found: bool,
+    /// Whether the hold that queued the entry showed no member of the head before, where the wait answers that.
+    pub first: bool,
 }
 
 impl WaitRun {
@@ -102,6 +103,7 @@ impl WaitRun {
             seen: 0,
             queued: false,
             found: false,
+            first: false,
         }
     }
 
@@ -110,9 +112,16 @@ impl WaitRun {
     {
         Watch::Plain { cond: self.cond }
     }
+
+    /// Whether it answers that its entry is the first one: an exclusive prepare that looks for no signal.
+    fn tells_first(self) -> bool
+        ensures { result ≡ tells_first self }
+    {
+        self.how.exclusive && !self.asks
+    }
 }
 
-/// Behind a load of the condition.
+/// After a load of the condition.
 #[inline(always)]
 fn loaded(run: WaitRun, stage: WaitStage, value: u64) -> WaitTurn
     requires here { LoadsAt stage }
@@ -154,7 +163,7 @@ fn loaded(run: WaitRun, stage: WaitStage, value: u64) -> WaitTurn
     }
 }
 
-/// Behind a lock.
+/// After a lock.
 #[inline(always)]
 fn locked(run: WaitRun, stage: WaitStage) -> WaitTurn
     requires here { LocksAt stage }
@@ -175,7 +184,7 @@ fn locked(run: WaitRun, stage: WaitStage) -> WaitTurn
     }
 }
 
-/// Behind an unlock.
+/// After an unlock.
 #[inline(always)]
 fn unlocked(run: WaitRun, stage: WaitStage) -> WaitTurn
     requires here { UnlocksAt stage }
@@ -192,7 +201,7 @@ fn unlocked(run: WaitRun, stage: WaitStage) -> WaitTurn
     }
 }
 
-/// Behind the store of a state.
+/// After the store of a state.
 #[inline(always)]
 fn stated(run: WaitRun, stage: WaitStage) -> WaitTurn
     requires here { StoresAt stage }
@@ -208,7 +217,7 @@ fn stated(run: WaitRun, stage: WaitStage) -> WaitTurn
     }
 }
 
-/// Behind a look for a signal.
+/// After a look for a signal.
 #[inline(always)]
 fn looked(run: WaitRun, stage: WaitStage, own: TaskWord) -> WaitTurn
     requires here { LooksAt stage }
@@ -224,7 +233,7 @@ fn looked(run: WaitRun, stage: WaitStage, own: TaskWord) -> WaitTurn
     }
 }
 
-/// Behind the look at the own entry where it is to be taken off.
+/// After the look at the own entry where it is to be taken off.
 #[inline(always)]
 fn pared(run: WaitRun, stage: WaitStage, entry: Option<Entry>) -> WaitTurn
     requires here { ParesAt stage }
@@ -252,7 +261,7 @@ fn pared(run: WaitRun, stage: WaitStage, entry: Option<Entry>) -> WaitTurn
     }
 }
 
-/// Behind the look at the own entry without the lock.
+/// After the look at the own entry without the lock.
 #[inline(always)]
 fn peeked(run: WaitRun, stage: WaitStage, entry: Option<Entry>) -> WaitTurn
     requires here { PeeksAt stage }
@@ -277,18 +286,6 @@ fn state_of(run: WaitRun, stage: WaitStage) -> u32
         WaitStage::PrepareState => run.how.state.mask(),
         _ => RUNNING,
     }
-}
-
-/// Loads the own entry of slot 0.
-#[inline(always)]
-pub(crate) fn own_entry(domain: &Domain, task: &mut Task) -> Option<Entry>
-    requires of { task.old.domain ≡ domain.now }
-    requires up { IsUp task.old }
-    ensures { HasSeenOwn task.old task.new result }
-{
-    let me = task.number();
-    let word = entry_load(domain, task, me, 0);
-    entry_of(word.0)
 }
 
 /// The condition is loaded.
@@ -375,8 +372,8 @@ fn state_event(domain: &Domain, task: &mut Task, run: &mut WaitRun, stage: WaitS
     stated(*run, stage)
 }
 
-/// The own entry is queued where it is off, and else the state stored. Where no place is left for it the head is given
-/// back.
+/// The own entry is queued where it is off, at the tail where the wait is exclusive and else at the front; where it is
+/// queued still, the state is stored. Where no place is left for it the head is given back.
 #[inline(always)]
 fn queue_event(domain: &Domain, task: &mut Task, run: &mut WaitRun) -> WaitTurn
     requires of { task.old.domain ≡ domain.now }
@@ -389,9 +386,12 @@ fn queue_event(domain: &Domain, task: &mut Task, run: &mut WaitRun) -> WaitTurn
         set_state(domain, task, run.how.state.mask());
         return WaitTurn::Again(WaitStage::PrepareUnlock);
     }
-    match add_front(domain, task, 0, Kind::Autoremove, run.watch()) {
+    let watch = run.watch();
+    let first = is_first(domain, task, head_of(watch), run.tells_first());
+    match add_by(domain, task, wait_form(run.how), Kind::Autoremove, watch) {
         Ok(()) => {
             run.queued = true;
+            run.first = or_first(run.first, first);
             WaitTurn::Again(WaitStage::PrepareState)
         }
         Err(worn) => {
@@ -453,9 +453,11 @@ fn sleep_event(domain: &Domain, task: &mut Task, run: &mut WaitRun) -> WaitTurn
     }
 }
 
-/// One event of a wait at most.
+/// Makes the event of a wait at a stage, or none where another number of the head is served or where the word of an
+/// exchange changed meanwhile. It waits for nobody, and by single tries it needs no runtime value. It answers as
+/// `stretch` does, but at the stages of a hold the head is still held.
 #[inline(always)]
-pub(crate) fn advance(
+pub fn advance(
     domain: &Domain,
     task: &mut Task,
     run: &mut WaitRun,

@@ -75,12 +75,9 @@ use Rattle.wait_event.proofs.Ground.Keeping.{excused}
 
 -- a task that is idle, with its entry off, may begin
 pub begins_at : (k : Known) (r : WaitRun) (c : ℕ) (how : How) → IsFresh r c how true → c < FIRST_SIMPLE
-    → how.exclusive ≡ false → IsTold k → IsUp k → IsIdle k → IsOut k → IsAt k r stage.First
-begins_at k r c how fresh full shared told up idle out = record {
-  runs = record {
-    full = subst (λ (n : ℕ). n < FIRST_SIMPLE) (sym fresh.cond) full;
-    shared = ap (λ (h : How). h.exclusive) fresh.how_is ∙ shared;
-  };
+    → IsTold k → IsUp k → IsIdle k → IsOut k → IsAt k r stage.First
+begins_at k r c how fresh full told up idle out = record {
+  runs = record { full = subst (λ (n : ℕ). n < FIRST_SIMPLE) (sym fresh.cond) full };
   up = up;
   stands = record {
     head = idle.free.head;

@@ -156,6 +156,7 @@ module _ (old new : Known) (r : WaitRun) (v : ℕ) (is : new ≡ added old (item
         (either_event (Made a.up) (v == 0) (prepares a.up) (over a.up) refl refl) (refl, tt, tt) behind;
     keeps = keeps;
     queued = sym (or_none r.queued);
+    first = sym (or_none r.first);
     lands = first_lands a.up a.stands (v == 0);
   }
   load_goes stage.Test l a = record {
@@ -163,6 +164,7 @@ module _ (old new : Known) (r : WaitRun) (v : ℕ) (is : new ≡ added old (item
         refl (refl, tt, tt) behind;
     keeps = keeps;
     queued = sym (or_none r.queued);
+    first = sym (or_none r.first);
     lands = test_lands a.up a.stands (v == 0);
   }
   load_goes stage.Worn l a = record {
@@ -170,6 +172,7 @@ module _ (old new : Known) (r : WaitRun) (v : ℕ) (is : new ≡ added old (item
         (either_event (Made a.up) (v == 0) (worn a.up) (finishes a.up) refl refl) (refl, tt, tt) behind;
     keeps = keeps;
     queued = sym (or_none r.queued);
+    first = sym (or_none r.first);
     lands = off_lands a.up stage.Worn refl a.stands (worn a.up) (λ zero. (
       up a.up,
       off_ends a.up a.stands,
@@ -183,6 +186,7 @@ module _ (old new : Known) (r : WaitRun) (v : ℕ) (is : new ≡ added old (item
         (either_event (Made a.up) (v == 0) (gives_up a.up) (finishes a.up) refl refl) (refl, tt, tt) behind;
     keeps = keeps;
     queued = sym (or_none r.queued);
+    first = sym (or_none r.first);
     lands = off_lands a.up stage.LeaveLoad refl a.stands (gives_up a.up) (λ zero. (
       up a.up,
       off_ends a.up a.stands,

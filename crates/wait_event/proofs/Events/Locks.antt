@@ -102,9 +102,10 @@ module _ (old : Known) (r : WaitRun) (n : ℕ) where
           (next.Go (at.Prepare preparing.Lock)) draw_looks;
       keeps = draw_keeps;
       queued = sym (or_none r.queued);
+      first = sym (or_none r.first);
     };
     lands = record {
-      runs = record { full = a.runs.full; shared = a.runs.shared };
+      runs = record { full = a.runs.full };
       up = a.up;
       stands = draw_stands old h n (wait_post r stage.PrepareLock) a.stands;
       trail = tt;
@@ -117,9 +118,10 @@ module _ (old : Known) (r : WaitRun) (n : ℕ) where
           (next.Go (at.Finish finishing.Lock false)) draw_looks;
       keeps = draw_keeps;
       queued = sym (or_none r.queued);
+      first = sym (or_none r.first);
     };
     lands = record {
-      runs = record { full = a.runs.full; shared = a.runs.shared };
+      runs = record { full = a.runs.full };
       up = a.up;
       stands = draw_stands old h n (wait_post r stage.FinishLock) a.stands;
       trail = tt;
@@ -168,9 +170,10 @@ module _ (old : Known) (r : WaitRun) (w : ℕ) where
           (next.Go (at.Prepare preparing.Lock)) serving_looks;
       keeps = serving_keeps;
       queued = sym (or_none r.queued);
+      first = sym (or_none r.first);
     };
     lands = record {
-      runs = record { full = a.runs.full; shared = a.runs.shared };
+      runs = record { full = a.runs.full };
       up = a.up;
       stands = serving_stands old head w (wait_post r stage.PrepareTurn) (drawn head r.ticket) a.stands
           (still_out a.stands.ticket);
@@ -187,9 +190,10 @@ module _ (old : Known) (r : WaitRun) (w : ℕ) where
           (next.Go (at.Finish finishing.Lock false)) serving_looks;
       keeps = serving_keeps;
       queued = sym (or_none r.queued);
+      first = sym (or_none r.first);
     };
     lands = record {
-      runs = record { full = a.runs.full; shared = a.runs.shared };
+      runs = record { full = a.runs.full };
       up = a.up;
       stands = serving_stands old head w (wait_post r stage.FinishTurn) (drawn head r.ticket) a.stands
           (ap (after_serving head w) a.stands.ticket ∙ other_number head r.ticket w ne);
@@ -245,6 +249,7 @@ module _ (old : Known) (r : WaitRun) (w : ℕ) where
           (tt, tt, tt) (only_none locked);
       keeps = lock_keeps;
       queued = sym (or_none r.queued);
+      first = sym (or_none r.first);
       lands = prepare_lands a r.asks (looks_in r.how.state) refl;
     }
     lock_from stage.FinishTurn l a = record {
@@ -252,6 +257,7 @@ module _ (old : Known) (r : WaitRun) (w : ℕ) where
           locked nothing (by_step e) serving_looks (refl, refl) (tt, tt, tt) (only_none locked);
       keeps = lock_keeps;
       queued = sym (or_none r.queued);
+      first = sym (or_none r.first);
       lands = (a.up, held (wait_post r stage.FinishTurn) a.stands, tt);
     }
     lock_from s l a = absurd l
@@ -330,6 +336,7 @@ module _ (old new : Known) (r : WaitRun) (is : new ≡ unlocked_with old old.at 
         (tt, tt, tt) back_looks;
     keeps = back_keeps;
     queued = sym (or_none r.queued);
+    first = sym (or_none r.first);
     lands = (
       back_up a.up,
       back_stands (wait_post r stage.PrepareUnlock) (post_at None (wait_call r) at.Test) a.stands
@@ -344,6 +351,7 @@ module _ (old new : Known) (r : WaitRun) (is : new ≡ unlocked_with old old.at 
         (tt, tt, tt) back_looks;
     keeps = back_keeps;
     queued = sym (or_none r.queued);
+    first = sym (or_none r.first);
     lands = (
       back_up a.up,
       back_stands (wait_post r stage.LeaveUnlock)
@@ -357,6 +365,7 @@ module _ (old new : Known) (r : WaitRun) (is : new ≡ unlocked_with old old.at 
         (tt, tt, tt) back_looks;
     keeps = back_keeps;
     queued = sym (or_none r.queued);
+    first = sym (or_none r.first);
     lands = (
       back_up a.up,
       back_stands (wait_post r stage.FinishUnlock) (end_post r) a.stands refl refl a.stands.state

@@ -155,6 +155,7 @@ module _ (old mid new : Known) (r : WaitRun) (e : Entry) (h : HasSeenOwn old mid
             (tt, finds_it old mid r (Some e) h p a.stands refl refl refl (Some e) refl, refl) taken_looks;
         keeps = taken_keeps;
         queued = sym (or_none r.queued);
+        first = sym (or_none r.first);
         lands = (
           taken_up a.up,
           taken_stands p (post_at None (wait_call r) (at.Leave leaving.Unlock)) a.stands
@@ -170,6 +171,7 @@ module _ (old mid new : Known) (r : WaitRun) (e : Entry) (h : HasSeenOwn old mid
             (tt, finds_it old mid r (Some e) h p a.stands refl refl refl (Some e) refl, refl) taken_looks;
         keeps = taken_keeps;
         queued = sym (or_none r.queued);
+        first = sym (or_none r.first);
         lands = (
           taken_up a.up,
           taken_stands p (post_at None (wait_call r) (at.Finish finishing.Unlock false)) a.stands
@@ -237,6 +239,7 @@ module _ (old mid new : Known) (r : WaitRun) (h : HasSeenOwn old mid None)
             (tt, finds_it old mid r None h p a.stands refl refl refl None refl, tt) (back_looks mid new r is);
         keeps = given_keeps;
         queued = sym (or_none r.queued);
+        first = sym (or_none r.first);
         lands = (
           back_up mid new r is (h.carries.awake ∙ a.up),
           given_stands p
@@ -253,6 +256,7 @@ module _ (old mid new : Known) (r : WaitRun) (h : HasSeenOwn old mid None)
             (tt, finds_it old mid r None h p a.stands refl refl refl None refl, tt) (back_looks mid new r is);
         keeps = given_keeps;
         queued = sym (or_none r.queued);
+        first = sym (or_none r.first);
         lands = (
           back_up mid new r is (h.carries.awake ∙ a.up),
           given_stands p (end_post r) a.stands refl refl a.stands.state refl,

@@ -1,13 +1,15 @@
 -- Parts of a wait one after another.
 use Rattle.std.proofs.Common.{◌∙◌, ap, sym, refl, subst}
-use Rattle.std.specs.Prelude.{ℕ, ◌≡◌, ◌||◌, Bool, true, false, List, [], ◌∷◌, ◌++◌}
+use Rattle.std.specs.Prelude.{ℕ, ◌≡◌, ◌||◌, ◌&&◌, not, Bool, true, false, List, [], ◌∷◌, ◌++◌}
 use Rattle.wait_model.specs.declared.calls.Call.TheVariants as calls
 use Rattle.wait_model.specs.declared.points.Next.{Next}
 use Rattle.wait_model.specs.declared.points.Next.TheVariants as next
 use Rattle.wait_rule.specs.Known.{Known}
 use Rattle.wait_rule.specs.Queues.{index}
+use Rattle.wait_rule.specs.Shown.{shown_queue}
 use Rattle.wait_rule.specs.Transitions.{Goes, Program, Transition}
 use Rattle.wait_event.specs.Posts.{Keeps}
+use Rattle.wait_event.specs.Queueing.{is_none}
 use Rattle.wait_event.specs.Waits.{
   Advances,
   IsAt,
@@ -17,6 +19,8 @@ use Rattle.wait_event.specs.Waits.{
   next_in,
   point_of,
   queues,
+  queues_first,
+  tells_first,
   turn_of,
   wait_call,
   wait_program,
@@ -44,6 +48,28 @@ queues_more (t ∷ ts) us = or_assoc (is_queue t.did) (queues ts) (queues us)
 queues_append : (b : Bool) (ts us : List Transition) → ((b || queues ts) || queues us) ≡ (b || queues (ts ++ us))
 queues_append b ts us = or_assoc b (queues ts) (queues us) ∙ ap (λ (c : Bool). b || c) (queues_more ts us)
 
+-- and the same of one that is queued as the first
+firsts_more : (ts us : List Transition) → (queues_first ts || queues_first us) ≡ queues_first (ts ++ us)
+firsts_more [] us = refl
+firsts_more (t ∷ ts) us = or_assoc (is_queue t.did && is_none (shown_queue t.knew)) (queues_first ts) (queues_first us)
+    ∙ ap (λ (c : Bool). (is_queue t.did && is_none (shown_queue t.knew)) || c) (firsts_more ts us)
+
+and_or : (a b c : Bool) → ((a && c) || (b && c)) ≡ ((a || b) && c)
+and_or true true true = refl
+and_or true true false = refl
+and_or true false true = refl
+and_or true false false = refl
+and_or false b c = refl
+
+firsts_append : (b c : Bool) (ts us : List Transition)
+    → ((b || (queues_first ts && c)) || (queues_first us && c)) ≡ (b || (queues_first (ts ++ us) && c))
+firsts_append b c ts us = or_assoc b (queues_first ts && c) (queues_first us && c)
+    ∙ ap (λ (d : Bool). b || d) (and_or (queues_first ts) (queues_first us) c
+    ∙ ap (λ (d : Bool). d && c) (firsts_more ts us))
+
+tells_same : (r q : WaitRun) → SameCall r q → tells_first q ≡ tells_first r
+tells_same r q same i = (same.how i).exclusive && not (same.asks i)
+
 pub went_on : (old mid new : Known) (r q w : WaitRun) (from by to : Next) → Went old mid r q from by → SameCall r q
     → Went mid new q w by to → Went old new r w from to
 went_on old mid new r q w from by to a same b = record {
@@ -57,6 +83,8 @@ went_on old mid new r q w from by to a same b = record {
       (subst (λ (n : ℕ). Keeps (index n 0) mid new) a.keeps.number b.keeps);
   queued = b.queued ∙ (ap (λ (c : Bool). c || queues b.runs.transitions) a.queued
       ∙ queues_append r.queued a.runs.transitions b.runs.transitions);
+  first = b.first ∙ ((λ i. a.first i || (queues_first b.runs.transitions && tells_same r q same i))
+      ∙ firsts_append r.first (tells_first r) a.runs.transitions b.runs.transitions);
 }
 
 -- a part, and then a turn
@@ -77,6 +105,7 @@ advances_none k r s a = record {
     runs = runs_none (wait_program r.asks k.view.number (wait_call r)) k (next.Go (point_of s));
     keeps = keeps_none (index k.view.number 0) k;
     queued = sym (or_none r.queued);
+    first = sym (or_none r.first);
   };
   lands = a;
 }

@@ -60,6 +60,7 @@ module _ (old new : Known) (r : WaitRun) (a : IsAt old r stage.FinishLook) where
         (peek_looks (Some e) h);
     keeps = own_keeps old new (Some e) h;
     queued = sym (or_none r.queued);
+    first = sym (or_none r.first);
     lands = (
       h.carries.awake ∙ a.up,
       seen_stands old new (Some e) h (wait_post r stage.FinishLook) waits a.stands
@@ -73,6 +74,7 @@ module _ (old new : Known) (r : WaitRun) (a : IsAt old r stage.FinishLook) where
         (peek_looks None h);
     keeps = own_keeps old new None h;
     queued = sym (or_none r.queued);
+    first = sym (or_none r.first);
     lands = (
       h.carries.awake ∙ a.up,
       stands_as new (record (wait_post r stage.FinishLook) { zone = absent })

@@ -6,6 +6,7 @@ use Rattle.std.specs.Prelude.{
   ◌≡◌,
   ◌<◌,
   ◌&&◌,
+  ◌||◌,
   not,
   nat_lt,
   Bool,
@@ -42,13 +43,13 @@ use Rattle.wait_rule.specs.declared.journal.Item.TheVariants as item
 use Rattle.wait_rule.specs.Known.{Known}
 use Rattle.wait_rule.specs.Says.{added, history_of, stored_with, told_of, unlocked_with}
 use Rattle.wait_rule.specs.Items.{Book}
-use Rattle.wait_rule.specs.Queues.{IsFrontPlace, IsWholeBook, index, saw}
+use Rattle.wait_rule.specs.Queues.{IsWholeBook, index, saw}
 use Rattle.wait_rule.specs.Shown.{shown_queue}
 use Rattle.wait_rule.specs.Stays.{Carries, only_looks, state_change, queue_change, with_entry}
 use Rattle.wait_rule.specs.Transitions.{OnlyLooks, Program, IsSeenAs, by_step, is_worn}
 use Rattle.wait_rule.proofs.KnownLaws.Transitions.{only_on, only_looked}
 use Rattle.wq_head.specs.declared.adds.Worn.{Worn}
-use Rattle.wq_head.specs.Adds.{HasAdded, IsFrontWorn, front_entry}
+use Rattle.wq_head.specs.Adds.{HasAdded, IsFor}
 use Rattle.wq_head.specs.Holds.{IsHolding}
 use Rattle.wq_head.specs.Looks.{Looks}
 use Rattle.wq_head.proofs.CarriedHolds.{looks_carried}
@@ -56,7 +57,8 @@ use Rattle.wait_event.specs.Posts.{HasSeenOwn, Keeps, Post, Stands, post_at}
 use Rattle.wait_event.specs.Waits.{
   Advances,
   IsAt,
-  QueuesAt,
+  IsRunning,
+  tells_first,
   wait_call,
   wait_post,
   wait_program,
@@ -64,7 +66,6 @@ use Rattle.wait_event.specs.Waits.{
   with_worn,
 }
 use Rattle.wait_event.specs.declared.waits.WaitRun.{WaitRun}
-use Rattle.wait_event.specs.declared.waits.WaitStage.{WaitStage}
 use Rattle.wait_event.specs.declared.waits.WaitStage.TheVariants as stage
 use Rattle.wait_event.specs.declared.waits.WaitTurn.TheVariants as turn
 use Rattle.wait_event.proofs.Ground.Standing.{
@@ -88,13 +89,19 @@ use Rattle.wait_event.proofs.Events.Peeks.{own_keeps}
 use Rattle.wait_event.proofs.Events.Pares.{finds_it}
 use Rattle.wait_event.proofs.Events.States.{state_keeps, state_looks, state_stands, state_up}
 use Rattle.wait_event.proofs.Events.Locks.{back_keeps, back_looks, back_stands, back_up}
-use Rattle.wait_event.proofs.Events.WornPlaces.{front_is, front_left, front_worn, whole_seen, queue_same}
+use Rattle.wait_event.proofs.Events.WornPlaces.{whole_seen, queue_same}
+use Rattle.wait_event.proofs.Events.FormPlaces.{first_later, form_is, form_left, form_worn}
+use Rattle.wait_event.specs.Queueing.{IsFormPlace, IsFormWorn, TellsFirst, form_entry, wait_form}
 use Rattle.wq_head.proofs.OneMoreLook.{saw_looks, whole_of}
 
--- the form of an entry that is not exclusive
-form_by : (x : Bool) → x ≡ false → (if x then forms.Tail else forms.Front) ≡ forms.Front
-form_by true is = absurd (cc)
-form_by false is = refl
+-- a form is exclusive where its entry is
+and_yes : (b : Bool) → (b && true) ≡ b
+and_yes true = refl
+and_yes false = refl
+
+wait_plain : (b : Bool) → is_priority (if b then forms.Tail else forms.Front) ≡ false
+wait_plain true = refl
+wait_plain false = refl
 
 -- the kind of an entry at a full head
 full_kind : (c : ℕ) → c < FIRST_SIMPLE → (if nat_lt c FIRST_SIMPLE then kind.Autoremove else kind.Simple)
@@ -111,6 +118,17 @@ given_entry c form k place = record {
   priority = is_priority form;
   kind = k;
 }
+
+given_is : (c : ℕ) → c < FIRST_SIMPLE → (form : Form) (p q : ℕ) → q ≡ p
+    → form_entry form (watch.Plain c) kind.Autoremove p
+    ≡ given_entry c form (if nat_lt c FIRST_SIMPLE then kind.Autoremove else kind.Simple) q
+given_is c full form p q is = (λ j. record {
+  watch = watch.Plain c;
+  place = p;
+  exclusive = sym (and_yes (is_exclusive form)) j;
+  priority = is_priority form;
+  kind = kind.Autoremove;
+}) ∙ (λ j. given_entry c form (sym (full_kind c full) j) (sym is j))
 
 no_entry : (o : Option Entry) → ((e : Entry) → o ≡ Some e → None ≡ Some e) → o ≡ None
 no_entry None never = refl
@@ -155,6 +173,7 @@ module _ (old mid : Known) (r : WaitRun) (a : IsAt old r stage.PrepareQueue) whe
     keeps = keeps_on (index old.view.number 0) old mid new (own_keeps old mid o own)
         (subst (λ (n : ℕ). Keeps (index n 0) mid new) own.carries.number (state_keeps mid new σ is carries));
     queued = sym (or_none r.queued);
+    first = sym (or_none r.first);
     lands = (
       state_up mid new σ is carries (own.carries.awake ∙ a.up),
       state_stands mid new σ is carries p (post_at None (wait_call r) (at.Prepare preparing.Unlock))
@@ -179,137 +198,156 @@ module _ (old mid : Known) (r : WaitRun) (a : IsAt old r stage.PrepareQueue) whe
     told = a.stands.told ∙ ap Some (sym (a.stands.at h refl));
   }
 
-  module _ (own : HasSeenOwn old mid None) where
-    mid_stands : Stands mid (record p { zone = absent })
-    mid_stands = seen_stands old mid None own p absent a.stands tt
+  -- the task as a hold has seen it that found the own entry off, and looked on
+  record IsOff (seen : Known) : Type 0 where
+    number : seen.view.number ≡ old.view.number
+    at : seen.at ≡ h
+    awake : seen.book.awake ≡ old.book.awake
+    looks : OnlyLooks old seen
+    keeps : Keeps (index old.view.number 0) old seen
+    stands : Stands seen (record p { zone = absent })
+    out : (told_of seen).bits.stored (index old.view.number 0) ≡ None
+
+  is_off : HasSeenOwn old mid None → (seen : Known) → Looks mid seen → IsHolding seen → IsOff seen
+  is_off own seen l held =
+      let carried = looks_carried mid seen l in
+      let number = own.carries.number in
+      let stands : Stands mid (record p { zone = absent }) = seen_stands old mid None own p absent a.stands tt in
+      let out : (told_of seen).bits.stored (index old.view.number 0) ≡ None =
+      carried.out (index old.view.number 0) refl (seen_is old mid None own) in record {
+        number = carried.number ∙ number;
+        at = carried.at ∙ (own.carries.at ∙ a.stands.at h refl);
+        awake = carried.awake ∙ own.carries.awake;
+        looks = only_on old mid seen (seen_looks old mid None own h a.stands.head)
+            (only_looked mid seen l.items l.same l.looks l.is);
+        keeps = keeps_on (index old.view.number 0) old mid seen (own_keeps old mid None own)
+            (keeps_of (index old.view.number 0) only_looks mid seen carried (λ c. refl) (λ y away. refl)
+            (λ y. carried.owes (with_entry (index old.view.number 0) y)));
+        stands = carried_stands only_looks mid seen (record p { zone = absent }) (record p { zone = absent }) carried
+            stands (λ j at. held.agreed) refl stands.at refl stands.state
+            (subst (IsHome absent (watch.Plain r.cond))
+            (sym (ap (λ (n : ℕ). (told_of seen).bits.stored (index n 0)) number ∙ out)) tt);
+        out = out;
+      }
+
+  module _ (seen : Known) (o : IsOff seen) where
+    abbrev form : Form
+    form = wait_form r.how
 
     -- it is queued
-    join_from : (new : Known) → IsHolding new
-        → HasAdded IsFrontPlace mid new 0 (watch.Plain r.cond) kind.Autoremove
-        → GoesOn old new r (record r { queued = true }) stage.PrepareQueue (next.Go (at.Prepare preparing.State))
-    join_from new held x =
+    join_from : (new : Known) → IsHolding new → (first b : Bool) → b ≡ (r.first || first)
+        → TellsFirst (tells_first r) seen first
+        → HasAdded (IsFormPlace form) seen new 0 (form_entry form (watch.Plain r.cond) kind.Autoremove)
+        → GoesOn old new r (record r { queued = true; first = b }) stage.PrepareQueue
+        (next.Go (at.Prepare preparing.State))
+    join_from new held first b is tells x =
         let i = index old.view.number 0 in
-        let number = own.carries.number in
-        let same : index mid.view.number 0 ≡ i = ap (λ (n : ℕ). index n 0) number in
-        let seen_at : x.seen.at ≡ mid.at = ap (λ (k : Known). k.at) x.looks.is in
-        let e : Entry = front_entry (watch.Plain r.cond) kind.Autoremove x.place in
-        let form = form_by r.how.exclusive a.runs.shared in
-        let seen : Seen = finds None in
+        let same : index seen.view.number 0 ≡ i = ap (λ (n : ℕ). index n 0) o.number in
+        let seen_at : x.seen.at ≡ seen.at = ap (λ (k : Known). k.at) x.looks.is in
+        let e : Entry = form_entry form (watch.Plain r.cond) kind.Autoremove x.place in
+        let found : Seen = finds None in
         record {
-          runs = runs_one f (at.Prepare preparing.Queue) old x.seen new seen (by_step (step.Queue i e))
-              (only_on old mid x.seen (seen_looks old mid None own h a.stands.head)
-              (only_looked mid x.seen x.looks.items x.looks.same x.looks.looks x.looks.is)) (
+          runs = runs_one f (at.Prepare preparing.Queue) old x.seen new found (by_step (step.Queue i e))
+              (only_on old seen x.seen o.looks
+              (only_looked seen x.seen x.looks.items x.looks.same x.looks.looks x.looks.is)) (
                 refl,
-                sym (seen_at ∙ (own.carries.at ∙ a.stands.at h refl)),
+                sym (seen_at ∙ o.at),
                 x.whole,
-                λ j. given_entry r.cond (sym form j) (sym (full_kind r.cond a.runs.full) j)
-                    (placed x form j),
+                given_is r.cond a.runs.full form x.place (place_for form (shown_queue x.seen))
+                    (form_is x.seen x.low form x.place x.sort),
               ) (
                 tt,
                 (
-                  subst (λ (n : ℕ). IsSeenAs ((told_of x.seen).hold.book (index n 0)) None) number
+                  subst (λ (n : ℕ). IsSeenAs ((told_of x.seen).hold.book (index n 0)) None) o.number
                       (subst (λ l. IsSeenAs l None) (sym x.is_off) refl),
-                  λ none. (x.whole, left x form),
+                  λ none. (x.whole, sym (form_left x.seen x.low form x.place x.sort)),
                 ),
                 tt,
               )
               (subst (OnlyLooks (added x.seen (item.Made (step.Queue i e))))
               (sym (x.is ∙ ap (λ (n : ℕ). stored_with x.seen (step.Queue n e)) same))
               (record { items = item.Member ∷ []; looks = (tt, tt); is = refl }));
-          keeps = keeps_on i old mid new (own_keeps old mid None own)
-              (subst (λ (n : ℕ). Keeps n mid new) same (keeps_queued (index mid.view.number 0) mid new x.carries));
+          keeps = keeps_on i old seen new o.keeps
+              (subst (λ (n : ℕ). Keeps n seen new) same (keeps_queued (index seen.view.number 0) seen new x.carries));
           queued = sym (or_queued r.queued);
+          first = is
+              ∙ ap (λ (d : Bool). r.first || d) (first_later (tells_first r) first seen x.seen tells x.looks);
           lands = (
-            x.carries.awake ∙ (own.carries.awake ∙ a.up),
-            carried_stands (queue_change (index mid.view.number 0)) mid new (record p { zone = absent })
-                (post_at None (wait_call r) (at.Prepare preparing.State)) x.carries mid_stands
+            x.carries.awake ∙ (o.awake ∙ a.up),
+            carried_stands (queue_change (index seen.view.number 0)) seen new (record p { zone = absent })
+                (post_at None (wait_call r) (at.Prepare preparing.State)) x.carries o.stands
                 (λ j at. held.agreed) refl
-                mid_stands.at refl mid_stands.state
+                o.stands.at refl o.stands.state
                 (subst (IsHome waits (watch.Plain r.cond)) (sym x.queued) (refl, sym (full_kind r.cond a.runs.full))),
             ap (λ (n : ℕ). is_some ((told_of new).bits.stored (index n 0))) x.carries.number
                 ∙ ap (λ (u : Option Entry). is_some u) x.queued,
           );
         }
-      where
-        placed : (x : HasAdded IsFrontPlace mid new 0 (watch.Plain r.cond) kind.Autoremove)
-            → (if r.how.exclusive then forms.Tail else forms.Front) ≡ forms.Front
-            → x.place ≡ place_for (if r.how.exclusive then forms.Tail else forms.Front) (shown_queue x.seen)
-        placed x form = sym (ap (λ (g : Form). place_for g (shown_queue x.seen)) form ∙ front_is x.seen x.low x.place
-            x.sort)
-
-        left : (x : HasAdded IsFrontPlace mid new 0 (watch.Plain r.cond) kind.Autoremove)
-            → (if r.how.exclusive then forms.Tail else forms.Front) ≡ forms.Front
-            → false ≡ is_worn (if r.how.exclusive then forms.Tail else forms.Front) (shown_queue x.seen)
-        left x form = sym (ap (λ (g : Form). is_worn g (shown_queue x.seen)) form ∙ front_left x.seen x.low x.place
-            x.sort)
 
     -- no place is left: behind one more look at the own entry the head is given back
-    worn_from : (mid2 mid3 new : Known) (w : Worn) → IsFrontWorn mid mid2 w → IsHolding mid2 → (o : Option Entry)
-        → HasSeenOwn mid2 mid3 o → new ≡ unlocked_with mid3 mid3.at false
+    worn_from : (mid2 mid3 new : Known) (w : Worn) → IsFormWorn form seen mid2 w → IsHolding mid2 → (u : Option Entry)
+        → HasSeenOwn mid2 mid3 u → new ≡ unlocked_with mid3 mid3.at false
         → WasWorn mid2.view.number mid2.view.items w.head w.place
         → GoesOn old new r (record r { place = w.place }) stage.PrepareQueue (next.Go at.Worn)
-    worn_from mid2 mid3 new w x held2 o own2 is noted =
+    worn_from mid2 mid3 new w worn held2 u own2 is noted =
+        let x = form_worn form seen mid2 w worn in
         let i = index old.view.number 0 in
-        let n1 = own.carries.number in
-        let carried = looks_carried mid mid2 x.0 in
-        let n2 : mid2.view.number ≡ old.view.number = carried.number ∙ n1 in
-        let out2 : (told_of mid2).bits.stored i ≡ None = carried.out i refl
-        (seen_is old mid None own) in
-        let stands2 : Stands mid2 (record p { zone = absent }) = carried_stands only_looks mid mid2
-        (record p { zone = absent }) (record p { zone = absent }) carried mid_stands (λ j at. held2.agreed) refl
-        mid_stands.at
-        refl mid_stands.state (subst (IsHome absent (watch.Plain r.cond))
-        (sym (ap (λ (n : ℕ). (told_of mid2).bits.stored (index n 0)) n1 ∙ out2)) tt) in
-        let none : o ≡ None = no_entry o (λ e some. sym (ap (λ (n : ℕ). (told_of mid2).bits.stored (index n 0)) n2 ∙
+        let carried = looks_carried seen mid2 x.looks in
+        let n2 : mid2.view.number ≡ old.view.number = carried.number ∙ o.number in
+        let out2 : (told_of mid2).bits.stored i ≡ None = carried.out i refl o.out in
+        let stands2 : Stands mid2 (record p { zone = absent }) = carried_stands only_looks seen mid2
+        (record p { zone = absent }) (record p { zone = absent }) carried o.stands (λ j at. held2.agreed) refl
+        o.stands.at refl o.stands.state (subst (IsHome absent (watch.Plain r.cond))
+        (sym (ap (λ (n : ℕ). (told_of mid2).bits.stored (index n 0)) o.number ∙ out2)) tt) in
+        let none : u ≡ None = no_entry u (λ e some. sym (ap (λ (n : ℕ). (told_of mid2).bits.stored (index n 0)) n2 ∙
         out2)
-        ∙ seen_stored mid2 mid3 o own2 e some) in
+        ∙ seen_stored mid2 mid3 u own2 e some) in
         let looks3 : Looks mid2 mid3 = saw_looks mid2 mid3 (index mid2.view.number 0) own2.word held2 own2.is
         own2.knew in
-        let seen2 = whole_seen mid2 x.1 in
+        let seen2 = whole_seen mid2 x.whole in
         let whole3 : IsWholeBook mid3 = whole_of mid3 (λ m low. looks3.from.still m (seen2 m low)) in
         let queue3 : shown_queue mid3 ≡ shown_queue mid2 = queue_same mid3 mid2
         (λ m low. looks3.from.places m (seen2 m low)) in
-        let form = form_by r.how.exclusive a.runs.shared in
         let head2 : mid2.book.head ≡ Some h = stands2.head in
-        let stands3 : Stands mid3 (record p { zone = absent }) = seen_stands mid2 mid3 o own2
+        let stands3 : Stands mid3 (record p { zone = absent }) = seen_stands mid2 mid3 u own2
         (record p { zone = absent }) absent stands2 (subst (IsHome absent (watch.Plain r.cond)) (sym none) tt) in
         let number3 : mid3.view.number ≡ old.view.number = own2.carries.number ∙ n2 in
         record {
           runs = runs_one f (at.Prepare preparing.Queue) old mid3 new (with_worn true)
               (by_step (step.Unlock mid3.at false))
-              (only_on old mid2 mid3 (only_on old mid mid2 (seen_looks old mid None own h a.stands.head)
-              (only_looked mid mid2 x.0.items x.0.same x.0.looks x.0.is))
-              (seen_looks mid2 mid3 o own2 h head2))
+              (only_on old mid2 mid3 (only_on old seen mid2 o.looks
+              (only_looked seen mid2 x.looks.items x.looks.same x.looks.looks x.looks.is))
+              (seen_looks mid2 mid3 u own2 h head2))
               (stands3.at h refl, refl) (
                 tt,
                 (
                   subst (λ (n : ℕ). IsSeenAs ((told_of mid3).hold.book (index n 0)) None) n2
-                      (finds_own mid2 mid3 o own2 h head2 stands2.told (λ e some. absurd (none_some o e none some))
+                      (finds_own mid2 mid3 u own2 h head2 stands2.told (λ e some. absurd (none_some u e none some))
                       None none),
                   λ _. (
                     whole3,
-                    sym (ap (λ (g : Form). is_worn g (shown_queue mid3)) form
-                        ∙ (ap (is_worn forms.Front) queue3 ∙ front_worn mid2 x.5 w.place x.3 x.4)),
+                    sym (ap (is_worn form) queue3 ∙ x.worn),
                   ),
                 ),
                 tt,
               )
               (back_looks mid3 new r is);
           keeps = keeps_on i old mid3 new
-              (keeps_on i old mid2 mid3 (keeps_on i old mid mid2 (own_keeps old mid None own)
-              (keeps_of i only_looks mid mid2 carried (λ c. refl) (λ y away. refl)
+              (keeps_on i old mid2 mid3 (keeps_on i old seen mid2 o.keeps
+              (keeps_of i only_looks seen mid2 carried (λ c. refl) (λ y away. refl)
               (λ y. carried.owes (with_entry i y))))
-              (subst (λ (n : ℕ). Keeps (index n 0) mid2 mid3) n2 (own_keeps mid2 mid3 o own2)))
+              (subst (λ (n : ℕ). Keeps (index n 0) mid2 mid3) n2 (own_keeps mid2 mid3 u own2)))
               (subst (λ (n : ℕ). Keeps (index n 0) mid3 new) number3 (back_keeps mid3 new r is));
           queued = sym (or_none r.queued);
+          first = sym (or_none r.first);
           lands = (
-            back_up mid3 new r is (own2.carries.awake ∙ (carried.awake ∙ (own.carries.awake ∙ a.up))),
+            back_up mid3 new r is (own2.carries.awake ∙ (carried.awake ∙ (o.awake ∙ a.up))),
             back_stands mid3 new r is (record p { zone = absent }) (post_at None (wait_call r) at.Worn) stands3 refl
                 refl stands3.state (λ u w. w),
             record {
               noted = subst (λ (i : ℕ). WasWorn new.view.number new.view.items i w.place)
-                  (x.2 ∙ (own.carries.at ∙ a.stands.at h refl))
-                  (note_on mid2 mid3 new w o own2 is noted);
+                  (x.head ∙ o.at)
+                  (note_on mid2 mid3 new w u own2 is noted);
               ends = (
                 history_of mid3,
                 unlocked_history mid3 new is
@@ -320,63 +358,80 @@ module _ (old mid : Known) (r : WaitRun) (a : IsAt old r stage.PrepareQueue) whe
         }
 
 -- for the code
-pub queue_holds : (old mid : Known) (r : WaitRun) (s : WaitStage) → QueuesAt s → IsAt old r s → (o : Option Entry)
-    → HasSeenOwn old mid o → IsHolding old
-queue_holds old mid r stage.PrepareQueue l a o own = holds_old old mid r a
-queue_holds old mid r s l a o own = absurd l
+pub queue_out : (old mid : Known) (o : Option Entry) → HasSeenOwn old mid o → is_some o ≡ false → (seen : Known)
+    → Looks mid seen → (told_of seen).bits.stored (index seen.view.number 0) ≡ None
+queue_out old mid None own none seen l =
+    let carried = looks_carried mid seen l in
+    carried.out (index seen.view.number 0) refl
+    (ap (λ (n : ℕ). (told_of mid).bits.stored (index n 0)) (carried.number ∙ own.carries.number)
+    ∙ seen_is old mid None own)
+queue_out old mid (Some e) own none seen l = absurd (cc)
 
-pub queue_out : (old mid : Known) (o : Option Entry) → HasSeenOwn old mid o → is_some o ≡ false
-    → (told_of mid).bits.stored (index mid.view.number 0) ≡ None
-queue_out old mid None own none = ap (λ (n : ℕ). (told_of mid).bits.stored (index n 0)) own.carries.number
-    ∙ seen_is old mid None own
-queue_out old mid (Some e) own none = absurd (cc)
-
-pub queue_at : (old mid : Known) (r : WaitRun) (s : WaitStage) → QueuesAt s → IsAt old r s → (o : Option Entry)
+pub queue_at : (old mid : Known) (r : WaitRun) → IsAt old r stage.PrepareQueue → (o : Option Entry)
     → HasSeenOwn old mid o → call_head (wait_call r) ≡ mid.at
-queue_at old mid r stage.PrepareQueue l a o own = sym (own.carries.at ∙ a.stands.at (call_head (wait_call r)) refl)
-queue_at old mid r s l a o own = absurd l
+queue_at old mid r a o own = sym (own.carries.at ∙ a.stands.at (call_head (wait_call r)) refl)
 
-pub mid_holds : (old mid : Known) (r : WaitRun) (s : WaitStage) → QueuesAt s → IsAt old r s → (o : Option Entry)
+pub add_at : (old mid : Known) (r : WaitRun) → IsAt old r stage.PrepareQueue → (o : Option Entry)
+    → HasSeenOwn old mid o → (seen : Known) → Looks mid seen → call_head (wait_call r) ≡ seen.at
+add_at old mid r a o own seen l = queue_at old mid r a o own ∙ sym (ap (λ (k : Known). k.at) l.is)
+
+pub add_plain : (r : WaitRun) → IsRunning r → (c : Watch) → c ≡ watch.Plain r.cond → IsFor c kind.Autoremove
+add_plain r runs c is = (r.cond, is, runs.full, inr refl)
+
+pub mid_holds : (old mid : Known) (r : WaitRun) → IsAt old r stage.PrepareQueue → (o : Option Entry)
     → HasSeenOwn old mid o → IsHolding mid
-mid_holds old mid r stage.PrepareQueue l a o own =
+mid_holds old mid r a o own =
     let h = call_head (wait_call r) in record {
       locked = own.carries.head ∙ (a.stands.head ∙ ap Some (sym (own.carries.at ∙ a.stands.at h refl)));
       agreed = ap (λ (b : Book). b.differs) (seen_book old mid o own) ∙ a.stands.agreed h refl;
       told = own.carries.hold ∙ (a.stands.told ∙ ap Some (sym (own.carries.at ∙ a.stands.at h refl)));
     }
-mid_holds old mid r s l a o own = absurd l
 
-pub stay_advances : (old mid new : Known) (r : WaitRun) (s : WaitStage) → QueuesAt s → IsAt old r s
+-- a wait has no priority
+pub add_few : (r : WaitRun) (form : Form) → form ≡ wait_form r.how → is_priority form ≡ true → ⊥
+add_few r f is prior =
+    let no : true ≡ false = sym prior ∙ (ap is_priority is ∙ wait_plain r.how.exclusive) in absurd (cc)
+
+pub stay_advances : (old mid new : Known) (r : WaitRun) → IsAt old r stage.PrepareQueue
     → (o : Option Entry) → HasSeenOwn old mid o → is_some o ≡ true → (σ : ℕ) → σ ≡ state_mask r.how.state
     → new ≡ added mid (item.Made (step.State σ)) → Carries (state_change σ) mid new
-    → Advances old new r r s (turn.Again stage.PrepareUnlock)
-stay_advances old mid new r stage.PrepareQueue l a (Some e) own some σ same is carries =
+    → Advances old new r r stage.PrepareQueue (turn.Again stage.PrepareUnlock)
+stay_advances old mid new r a (Some e) own some σ same is carries =
     advance_same old new r stage.PrepareQueue (turn.Again stage.PrepareUnlock) (next.Go (at.Prepare preparing.Unlock))
     a.runs refl refl (stay_from old mid r a (Some e) own e refl new σ same is carries)
-stay_advances old mid new r stage.PrepareQueue l a None own some σ same is carries = absurd (cc)
-stay_advances old mid new r s l a o own some σ same is carries = absurd l
+stay_advances old mid new r a None own some σ same is carries = absurd (cc)
 
-pub join_advances : (old mid new : Known) (r : WaitRun) (s : WaitStage) → QueuesAt s → IsAt old r s
-    → (o : Option Entry) → HasSeenOwn old mid o → is_some o ≡ false → IsHolding new → (c : Watch)
-    → c ≡ watch.Plain r.cond → HasAdded IsFrontPlace mid new 0 c kind.Autoremove
-    → Advances old new r (record r { queued = true }) s (turn.Again stage.PrepareState)
-join_advances old mid new r stage.PrepareQueue l a None own none held c same x =
-    advance_by old new r (record r { queued = true }) stage.PrepareQueue (turn.Again stage.PrepareState)
+-- the numbers of a wait that has queued its entry
+abbrev pub queued_run : WaitRun → Bool → WaitRun
+queued_run r b = record r { queued = true; first = b }
+
+pub join_advances : (old mid seen new : Known) (r : WaitRun) → IsAt old r stage.PrepareQueue
+    → (o : Option Entry) → HasSeenOwn old mid o → is_some o ≡ false → Looks mid seen → IsHolding seen → IsHolding new
+    → (first b asked : Bool) → b ≡ (r.first || first) → asked ≡ tells_first r → TellsFirst asked seen first
+    → (form : Form) → form ≡ wait_form r.how → (c : Watch) → c ≡ watch.Plain r.cond
+    → HasAdded (IsFormPlace form) seen new 0 (form_entry form c kind.Autoremove)
+    → Advances old new r (queued_run r b) stage.PrepareQueue (turn.Again stage.PrepareState)
+join_advances old mid seen new r a None own none l held held2 first b asked now asks tells form is c same x =
+    advance_by old new r (queued_run r b) stage.PrepareQueue (turn.Again stage.PrepareState)
     (next.Go (at.Prepare preparing.State)) (record { cond = refl; how = refl; asks = refl })
-    (record { full = a.runs.full; shared = a.runs.shared }) refl refl (join_from old mid r a own new held
-    (subst (λ (d : Watch). HasAdded IsFrontPlace mid new 0 d kind.Autoremove) same x))
-join_advances old mid new r stage.PrepareQueue l a (Some e) own none held c same x = absurd (cc)
-join_advances old mid new r s l a o own none held c same x = absurd l
+    (record { full = a.runs.full }) refl refl (join_from old mid r a seen (is_off old mid r a own seen l held) new held2
+    first b now (subst (λ (d : Bool). TellsFirst d seen first) asks tells)
+    (subst (λ (d : Watch). HasAdded (IsFormPlace (wait_form r.how)) seen new 0
+    (form_entry (wait_form r.how) d kind.Autoremove)) same
+    (subst (λ (g : Form). HasAdded (IsFormPlace g) seen new 0 (form_entry g c kind.Autoremove)) is x)))
+join_advances old mid seen new r a (Some e) own none l held held2 first b asked now asks tells form is c same x =
+    absurd (cc)
 
-pub worn_advances : (old mid mid2 mid3 new : Known) (r : WaitRun) (s : WaitStage) → QueuesAt s → IsAt old r s
-    → (o : Option Entry) → HasSeenOwn old mid o → is_some o ≡ false → (w : Worn) → IsFrontWorn mid mid2 w
+pub worn_advances : (old mid seen mid2 mid3 new : Known) (r : WaitRun) → IsAt old r stage.PrepareQueue
+    → (o : Option Entry) → HasSeenOwn old mid o → is_some o ≡ false → Looks mid seen → IsHolding seen → (w : Worn)
+    → (form : Form) → form ≡ wait_form r.how → IsFormWorn form seen mid2 w
     → IsHolding mid2 → (u : Option Entry) → HasSeenOwn mid2 mid3 u → new ≡ unlocked_with mid3 mid3.at false
-    → WasWorn mid2.view.number mid2.view.items w.head w.place → Advances old new r (record r { place = w.place }) s
-    (turn.Again stage.Worn)
-worn_advances old mid mid2 mid3 new r stage.PrepareQueue l a None own none w x held2 u own2 is noted =
-    let g = worn_from old mid r a own mid2 mid3 new w x held2 u own2 is noted in
+    → WasWorn mid2.view.number mid2.view.items w.head w.place
+    → Advances old new r (record r { place = w.place }) stage.PrepareQueue (turn.Again stage.Worn)
+worn_advances old mid seen mid2 mid3 new r a None own none l held w form is worn held2 u own2 given noted =
     advance_by old new r (record r { place = w.place }) stage.PrepareQueue (turn.Again stage.Worn) (next.Go at.Worn)
-    (record { cond = refl; how = refl; asks = refl }) (record { full = a.runs.full; shared = a.runs.shared }) refl refl
-    g
-worn_advances old mid mid2 mid3 new r stage.PrepareQueue l a (Some e) own none w x held2 u own2 is noted = absurd (cc)
-worn_advances old mid mid2 mid3 new r s l a o own none w x held2 u own2 is noted = absurd l
+    (record { cond = refl; how = refl; asks = refl }) (record { full = a.runs.full }) refl refl
+    (worn_from old mid r a seen (is_off old mid r a own seen l held) mid2 mid3 new w
+    (subst (λ (g : Form). IsFormWorn g seen mid2 w) is worn) held2 u own2 given noted)
+worn_advances old mid seen mid2 mid3 new r a (Some e) own none l held w form is worn held2 u own2 given noted =
+    absurd (cc)

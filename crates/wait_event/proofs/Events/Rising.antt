@@ -50,6 +50,7 @@ module _ (old new : Known) (r : WaitRun) (s : WaitStage) (a : IsAsleepAt old r s
       runs = runs_looks (wait_program r.asks old.view.number (wait_call r)) old new (next.Go (point_of s)) looks;
       keeps = keeps_same (index old.view.number 0) old new domain number told;
       queued = sym (or_none r.queued);
+      first = sym (or_none r.first);
     };
     lands = record {
       runs = a.runs;
@@ -75,6 +76,7 @@ module _ (old new : Known) (r : WaitRun) (s : WaitStage) (a : IsAsleepAt old r s
       runs = runs_looks (wait_program r.asks old.view.number (wait_call r)) old new (next.Go (point_of s)) looks;
       keeps = keeps_same (index old.view.number 0) old new domain number told;
       queued = sym (or_none r.queued);
+      first = sym (or_none r.first);
     };
     lands = record {
       runs = a.runs;

@@ -21,7 +21,6 @@ use Rattle.wait_event.specs.Posts.{Post, Stands, IsStateFor}
 use Rattle.wait_event.specs.Waits.{
   Advances,
   IsAt,
-  SleepsAt,
   Went,
   point_of,
   wait_call,
@@ -48,6 +47,7 @@ module _ (old : Known) (r : WaitRun) (w : ℕ) (a : IsAt old r stage.Sleep) wher
         (by_step (step.Sleep w)) (only_none old) tt (refl, tt, tt) (only_none slept);
     keeps = keeps_same (index old.view.number 0) old slept refl refl (told_added old (item.Made (step.Sleep w)));
     queued = sym (or_none r.queued);
+    first = sym (or_none r.first);
   }
 
   -- by what it leaves of the book
@@ -102,21 +102,19 @@ module _ (old : Known) (r : WaitRun) (w : ℕ) (a : IsAt old r stage.Sleep) wher
         };
       }
 
-pub sleep_up : (old new : Known) (r : WaitRun) (s : WaitStage) → SleepsAt s → IsAt old r s → (w : ℕ)
+pub sleep_up : (old new : Known) (r : WaitRun) → IsAt old r stage.Sleep → (w : ℕ)
     → new ≡ added old (item.Made (step.Sleep w)) → (x : Sleep) → x ≡ sleep_of (task_of w)
-    → (x ≡ sleeping.Stay) ⊎ (x ≡ sleeping.Signal) → Advances old new r r s (turn.Again stage.PrepareLock)
-sleep_up old new r stage.Sleep l a w is x tells stays =
+    → (x ≡ sleeping.Stay) ⊎ (x ≡ sleeping.Signal) → Advances old new r r stage.Sleep (turn.Again stage.PrepareLock)
+sleep_up old new r a w is x tells stays =
     subst (λ (k : Known). Advances old k r r stage.Sleep (turn.Again stage.PrepareLock)) (sym is)
     (up_from old r w a (elim stays [ inl e ↦ inl (sym tells ∙ e) | inr e ↦ inr (sym tells ∙ e) ]))
-sleep_up old new r s l a w is x tells stays = absurd l
 
-pub sleep_down : (old new : Known) (r : WaitRun) (s : WaitStage) → SleepsAt s → IsAt old r s → (w : ℕ)
+pub sleep_down : (old new : Known) (r : WaitRun) → IsAt old r stage.Sleep → (w : ℕ)
     → new ≡ added old (item.Made (step.Sleep w)) → (x : Sleep) → x ≡ sleep_of (task_of w) → x ≡ sleeping.Asleep
-    → Advances old new r r s (turn.Asleep stage.PrepareLock)
-sleep_down old new r stage.Sleep l a w is x tells asleep =
+    → Advances old new r r stage.Sleep (turn.Asleep stage.PrepareLock)
+sleep_down old new r a w is x tells asleep =
     subst (λ (k : Known). Advances old k r r stage.Sleep (turn.Asleep stage.PrepareLock)) (sym is)
     (down_from old r w a (sym tells ∙ asleep))
-sleep_down old new r s l a w is x tells asleep = absurd l
 
 -- a try that did nothing
 pub sleep_again : (old new : Known) (r : WaitRun) (s : WaitStage) → IsAt old r s → new ≡ old
@@ -127,6 +125,7 @@ sleep_again old new r s a is = subst (λ (k : Known). Advances old k r r s (turn
     runs = runs_none (wait_program r.asks old.view.number (wait_call r)) old (next.Go (point_of s));
     keeps = keeps_none (index old.view.number 0) old;
     queued = sym (or_none r.queued);
+    first = sym (or_none r.first);
   };
   lands = a;
 })

@@ -70,6 +70,7 @@ state_goes old new r stage.PrepareState l a σ same is carries = record {
       (by_step (step.State σ)) (only_none old) same (tt, tt, tt) (state_looks old new σ is carries);
   keeps = state_keeps old new σ is carries;
   queued = sym (or_none r.queued);
+  first = sym (or_none r.first);
   lands = (
     state_up old new σ is carries a.up,
     state_stands old new σ is carries (wait_post r stage.PrepareState)
@@ -83,6 +84,7 @@ state_goes old new r stage.FinishState l a σ same is carries = record {
       nothing (by_step (step.State σ)) (only_none old) same (tt, tt, tt) (state_looks old new σ is carries);
   keeps = state_keeps old new σ is carries;
   queued = sym (or_none r.queued);
+  first = sym (or_none r.first);
   lands = (
     state_up old new σ is carries a.up,
     state_stands old new σ is carries (wait_post r stage.FinishState)
@@ -127,6 +129,7 @@ module _ (old new : Known) (r : WaitRun) (w : ℕ) (is : new ≡ added old (item
     keeps = keeps_of (index old.view.number 0) unchanged old new carries (λ c. refl) (λ x away. refl)
         (λ x. carries.owes (with_entry (index old.view.number 0) x));
     queued = sym (or_none r.queued);
+    first = sym (or_none r.first);
     lands = look_lands a (pending (state_mask r.how.state) (task_of w)) refl;
   }
   look_goes s l a = absurd l

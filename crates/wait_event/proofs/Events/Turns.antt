@@ -1,6 +1,6 @@
 -- One turn of a wait: by where its program goes, and how the task stands there.
 use Rattle.std.proofs.Common.{sym, refl, subst}
-use Rattle.std.specs.Prelude.{◌≡◌, ◌||◌, Bool, true, false, if◌then◌else◌, None}
+use Rattle.std.specs.Prelude.{◌≡◌, ◌||◌, ◌&&◌, Bool, true, false, if◌then◌else◌, None}
 use Rattle.wait_model.specs.declared.calls.Event.{Event}
 use Rattle.wait_model.specs.declared.points.Next.{Next}
 use Rattle.wait_model.specs.declared.points.Next.TheVariants as next
@@ -19,6 +19,8 @@ use Rattle.wait_event.specs.Waits.{
   TrailAt,
   TrailEnd,
   queues,
+  queues_first,
+  tells_first,
   end_post,
   next_in,
   point_of,
@@ -54,6 +56,7 @@ pub record GoesOn (old new : Known) (r q : WaitRun) (s : WaitStage) (n : Next) :
   pub runs : Runs (wait_program r.asks old.view.number (wait_call r)) old new (next.Go (point_of s)) n
   pub keeps : Keeps (index old.view.number 0) old new
   pub queued : q.queued ≡ (r.queued || queues runs.transitions)
+  pub first : q.first ≡ (r.first || (queues_first runs.transitions && tells_first r))
   pub lands : LandsNext new q n
 
 -- the same with other numbers of the run
@@ -69,6 +72,7 @@ advance_by old new r q s t n same runs plain is g = record {
     };
     keeps = g.keeps;
     queued = g.queued;
+    first = g.first;
   };
   lands = lands_at new q t n runs plain is g.lands;
 }

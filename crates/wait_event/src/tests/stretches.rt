@@ -20,14 +20,14 @@ const ORDERS: u32 = 400;
 const TURNS: u32 = 600;
 
 /// The next number of a small generator, by which the order of the turns is drawn.
-fn next_number(seed: u32) -> u32 {
+pub(crate) fn next_number(seed: u32) -> u32 {
     let mixed = seed ^ seed.wrapping_shl(13);
     let mixed = mixed ^ mixed.wrapping_shr(17);
     mixed ^ mixed.wrapping_shl(5)
 }
 
 /// Goes on with a wait by one stretch, or looks whether it was woken.
-fn go_on(domain: &Domain, task: &mut Task, run: &mut WaitRun, last: WaitTurn) -> WaitTurn
+pub(crate) fn go_on(domain: &Domain, task: &mut Task, run: &mut WaitRun, last: WaitTurn) -> WaitTurn
     requires of { task.old.domain ≡ domain.now }
     requires waiting { IsWaiting task.old run.old last }
     ensures of { task.new.domain ≡ domain.now }
@@ -48,7 +48,7 @@ fn go_on(domain: &Domain, task: &mut Task, run: &mut WaitRun, last: WaitTurn) ->
 }
 
 /// Whether the wait is over with its condition set.
-fn is_over(last: WaitTurn) -> bool {
+pub(crate) fn is_over(last: WaitTurn) -> bool {
     matches!(last, WaitTurn::Done(WaitOutcome::Over))
 }
 

@@ -3,4 +3,4 @@ use Rattle.wait_event.proofs.wait_events.begin_wait.Goals as goal
 
 pub returns-clause-at : goal.returns-clause-at
 returns-clause-at c = begins_at c.args.task.now c.new.result c.args.cond c.args.how c.new.ensures c.requires.full
-    c.requires.shared c.told.ensures c.requires.up c.requires.idle c.requires.out
+    c.told.ensures c.requires.up c.requires.idle c.requires.out

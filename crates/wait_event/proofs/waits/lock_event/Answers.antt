@@ -36,7 +36,7 @@ returns-clause-advances c =
     (c.head_of-head.ensures ∙ ap head_of c.watch.ensures) c.serving_load-found.ensures.step s.3 in
     advance_by c.args.task.now c.lock_step.new.task r q c.args.stage c.locked.result (goes_to r c.args.stage nothing)
     (record { cond = refl; how = refl; asks = refl })
-    (record { full = c.requires.at.runs.full; shared = c.requires.at.runs.shared }) c.locked.ensures.plain
+    (record { full = c.requires.at.runs.full }) c.locked.ensures.plain
     c.locked.ensures.goes g
 
 pub returns-then-found-run-clause-falls : goal.returns-then-found-run-clause-falls

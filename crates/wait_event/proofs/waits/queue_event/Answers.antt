@@ -1,40 +1,61 @@
 use Rattle.std.proofs.Common.{◌∙◌, ap, sym}
 use Rattle.wait_model.specs.Watches.{head_of}
-use Rattle.wait_event.specs.declared.waits.WaitStage.TheVariants as stage
-use Rattle.wait_event.proofs.Events.Queues.{queue_at, queue_out, mid_holds, stay_advances, join_advances, worn_advances}
+use Rattle.wait_event.proofs.Events.Queues.{
+  add_at,
+  add_few,
+  add_plain,
+  join_advances,
+  mid_holds,
+  queue_at,
+  queue_out,
+  stay_advances,
+  worn_advances,
+}
 use Rattle.wait_event.proofs.waits.queue_event.Goals as goal
 
 pub returns-then-is_some-clause-advances : goal.returns-then-is_some-clause-advances
 returns-then-is_some-clause-advances c = stay_advances c.args.task.now c.own_entry-entry.new.task
-    c.set_state.new.task c.args.run.now
-    stage.PrepareQueue tt c.requires.at c.own_entry-entry.result c.own_entry-entry.ensures
+    c.set_state.new.task c.args.run.now c.requires.at c.own_entry-entry.result c.own_entry-entry.ensures
     (sym c.is_some.ensures ∙ c.if-is_some.true) c.mask.result c.mask.ensures c.set_state.ensures.step
     c.set_state.ensures.carries
 
-pub add_front-requires-clause-held : goal.add_front-requires-clause-held
-add_front-requires-clause-held c = mid_holds c.args.task.now c.own_entry-entry.new.task c.args.run.now
-    stage.PrepareQueue
-    tt c.requires.at c.own_entry-entry.result c.own_entry-entry.ensures
+pub is_first-first-requires-clause-held : goal.is_first-first-requires-clause-held
+is_first-first-requires-clause-held c = mid_holds c.args.task.now c.own_entry-entry.new.task c.args.run.now
+    c.requires.at c.own_entry-entry.result c.own_entry-entry.ensures
 
-pub add_front-requires-clause-out : goal.add_front-requires-clause-out
-add_front-requires-clause-out c = queue_out c.args.task.now c.own_entry-entry.new.task c.own_entry-entry.result
-    c.own_entry-entry.ensures (sym c.is_some.ensures ∙ c.if-is_some.false)
+pub is_first-first-requires-clause-head : goal.is_first-first-requires-clause-head
+is_first-first-requires-clause-head c = c.head_of.ensures ∙ (ap head_of c.watch-watch.ensures
+    ∙ queue_at c.args.task.now c.own_entry-entry.new.task c.args.run.now c.requires.at c.own_entry-entry.result
+    c.own_entry-entry.ensures)
 
-pub add_front-requires-clause-head : goal.add_front-requires-clause-head
-add_front-requires-clause-head c = ap head_of c.watch.ensures ∙ queue_at c.args.task.now c.own_entry-entry.new.task
-    c.args.run.now stage.PrepareQueue tt c.requires.at c.own_entry-entry.result c.own_entry-entry.ensures
+pub add_by-requires-clause-head : goal.add_by-requires-clause-head
+add_by-requires-clause-head c = ap head_of c.watch-watch.ensures ∙ add_at c.args.task.now c.own_entry-entry.new.task
+    c.args.run.now c.requires.at c.own_entry-entry.result c.own_entry-entry.ensures c.is_first-first.new.task
+    c.is_first-first.ensures.looks
+
+pub add_by-requires-clause-few : goal.add_by-requires-clause-few
+add_by-requires-clause-few c prior = absurd (add_few c.args.run.now c.wait_form.result c.wait_form.ensures prior)
+
+pub add_by-requires-clause-plain : goal.add_by-requires-clause-plain
+add_by-requires-clause-plain c = add_plain c.args.run.now c.requires.at.runs c.watch-watch.result c.watch-watch.ensures
+
+pub add_by-requires-clause-out : goal.add_by-requires-clause-out
+add_by-requires-clause-out c = queue_out c.args.task.now c.own_entry-entry.new.task c.own_entry-entry.result
+    c.own_entry-entry.ensures (sym c.is_some.ensures ∙ c.if-is_some.false) c.is_first-first.new.task
+    c.is_first-first.ensures.looks
 
 pub returns-in-Ok-clause-advances : goal.returns-in-Ok-clause-advances
-returns-in-Ok-clause-advances c = join_advances c.args.task.now c.own_entry-entry.new.task c.add_front.new.task
-    c.args.run.now
-    stage.PrepareQueue tt c.requires.at c.own_entry-entry.result c.own_entry-entry.ensures
-    (sym c.is_some.ensures ∙ c.if-is_some.false) c.in-Ok.ensures.held c.watch.result c.watch.ensures
+returns-in-Ok-clause-advances c = join_advances c.args.task.now c.own_entry-entry.new.task c.is_first-first.new.task
+    c.add_by.new.task c.args.run.now c.requires.at c.own_entry-entry.result c.own_entry-entry.ensures
+    (sym c.is_some.ensures ∙ c.if-is_some.false) c.is_first-first.ensures.looks c.is_first-first.ensures.held
+    c.in-Ok.ensures.held c.is_first-first.result c.or_first-run.result c.tells_first.result c.or_first-run.ensures
+    c.tells_first.ensures
+    c.is_first-first.ensures.tells c.wait_form.result c.wait_form.ensures c.watch-watch.result c.watch-watch.ensures
     c.in-Ok.ensures.queued
 
 pub returns-in-Err-clause-advances : goal.returns-in-Err-clause-advances
-returns-in-Err-clause-advances c = worn_advances c.args.task.now c.own_entry-entry.new.task c.add_front.new.task
-    c.own_entry.new.task
-    c.give_back.new.task c.args.run.now stage.PrepareQueue tt c.requires.at c.own_entry-entry.result
-    c.own_entry-entry.ensures (sym c.is_some.ensures ∙ c.if-is_some.false) c.in-Err.worn c.in-Err.ensures.worn
-    c.in-Err.ensures.held c.own_entry.result c.own_entry.ensures c.give_back.ensures
-    c.in-Err.ensures.noted
+returns-in-Err-clause-advances c = worn_advances c.args.task.now c.own_entry-entry.new.task c.is_first-first.new.task
+    c.add_by.new.task c.own_entry.new.task c.give_back.new.task c.args.run.now c.requires.at c.own_entry-entry.result
+    c.own_entry-entry.ensures (sym c.is_some.ensures ∙ c.if-is_some.false) c.is_first-first.ensures.looks
+    c.is_first-first.ensures.held c.in-Err.worn c.wait_form.result c.wait_form.ensures c.in-Err.ensures.worn
+    c.in-Err.ensures.held c.own_entry.result c.own_entry.ensures c.give_back.ensures c.in-Err.ensures.noted

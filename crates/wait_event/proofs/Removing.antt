@@ -1,0 +1,188 @@
+-- The call that takes the own entry of a task off: its transitions, and what it carries on.
+use Rattle.std.proofs.Common.{◌∙◌, ap, sym, refl, subst, inl, arith}
+use Rattle.std.specs.Prelude.{ℕ, ◌≡◌, ◌+◌, ◌<◌, false, true, Option, Some, None}
+use Rattle.wait_model.specs.declared.layout.TheConstants.{FIRST_PLAIN_HEAD, HEADS}
+use Rattle.wait_model.specs.declared.calls.Call.TheVariants as calls
+use Rattle.wait_model.specs.declared.points.Point.TheVariants as at
+use Rattle.wait_model.specs.declared.points.RemovePoint.TheVariants as removing
+use Rattle.wait_model.specs.declared.points.Next.TheVariants as next
+use Rattle.wait_model.specs.declared.steps.Step.TheVariants as step
+use Rattle.wait_model.specs.declared.watches.Entry.{Entry}
+use Rattle.wait_model.specs.declared.watches.Watch.{Watch}
+use Rattle.wait_model.specs.declared.watches.Watch.TheVariants as watch
+use Rattle.wait_model.specs.Programs.{plain_cond, zero_answer}
+use Rattle.wait_model.specs.Views.{View as Told}
+use Rattle.wait_model.specs.Watches.{head_of}
+use Rattle.wait_rule.specs.declared.journal.Item.TheVariants as item
+use Rattle.wait_rule.specs.Items.{Book}
+use Rattle.wait_rule.specs.Known.{Known}
+use Rattle.wait_rule.specs.Members.{IsOwnKind}
+use Rattle.wait_rule.specs.Says.{IsFree, IsUp, added, stored_with, told_of}
+use Rattle.wait_rule.specs.Queues.{IsTold, MayUnqueue, index, at_head, walk_of_hold}
+use Rattle.wait_rule.specs.Stays.{Carries, lock_change, only, take_off_change, unlock_change, with_entry}
+use Rattle.wait_rule.specs.Transitions.{OnlyLooks, Program, by_step, call_program}
+use Rattle.wait_rule.proofs.KnownLaws.MemberBits.{bit_looks}
+use Rattle.wait_rule.proofs.KnownLaws.Transitions.{only_none}
+use Rattle.wq_head.specs.Adds.{HasRemoved}
+use Rattle.wq_head.specs.Holds.{HasLocked, HasUnlocked, IsHolding}
+use Rattle.wq_head.proofs.LockWaits.{turn_looks, turn_of, turn_told}
+use Rattle.wait_event.specs.Ends.{IsOut}
+use Rattle.wait_event.specs.Entries.{HasRemovedOwn, MayRemove, remove_change}
+use Rattle.wait_event.specs.Posts.{HasSeenOwn, Runs}
+use Rattle.wait_event.specs.Waits.{nothing, own_of, with_entry as finds}
+use Rattle.wait_event.proofs.Entering.{hold_carried, looked_carried, runs_lock, unlock_looks}
+use Rattle.wait_event.proofs.Events.Locks.{head_fits}
+use Rattle.wait_event.proofs.Events.Pares.{owner_own}
+use Rattle.wait_event.proofs.Ground.Going.{runs_on, runs_one}
+use Rattle.wait_event.proofs.Ground.Standing.{seen_book, seen_is, seen_looks, seen_shows}
+
+head_plain : (c : ℕ) → head_of (watch.Plain c) ≡ FIRST_PLAIN_HEAD + c
+unfolding head_of
+head_plain c = refl
+
+-- the entry stands
+pub shows_own : (old seen : Known) (may : MayRemove old) (o : Option Entry) → HasSeenOwn old seen o
+    → o ≡ Some may.entry
+shows_own old seen may o own = own.reads ∙ own.knew.stands 0 (omega arith) refl may.entry may.queued may.kind
+
+pub not_gone : (old seen : Known) → MayRemove old → (o : Option Entry) → HasSeenOwn old seen o → o ≡ None → ⊥
+not_gone old seen may o own gone =
+    let no : None ≡ Some may.entry = sym gone ∙ shows_own old seen may o own in absurd (cc)
+
+module _ (old seen : Known) (may : MayRemove old) (told : IsTold old) (o : Option Entry) (e : Entry) (on : o ≡ Some e)
+    (look : HasSeenOwn old seen o) where
+  same_entry : e ≡ may.entry
+  same_entry = let both : Some e ≡ Some may.entry = sym on ∙ shows_own old seen may o look in cc
+
+  about : e.watch ≡ watch.Plain may.cond
+  about = ap (λ (f : Entry). f.watch) same_entry ∙ may.about
+
+  pub head_fit : (h : ℕ) → h ≡ head_of e.watch → h < HEADS
+  head_fit h is = subst (λ (n : ℕ). n < HEADS) (sym (is ∙ ap head_of about)) (head_fits may.cond may.full)
+
+  head_is : head_of e.watch ≡ FIRST_PLAIN_HEAD + plain_cond e.watch
+  head_is = subst (λ (w : Watch). head_of w ≡ FIRST_PLAIN_HEAD + plain_cond w) (sym about) (head_plain may.cond)
+
+  pub seen_up : IsUp seen
+  seen_up = look.carries.awake ∙ may.up
+
+  pub seen_free : IsFree seen
+  seen_free = record {
+    head = look.carries.head ∙ may.free.head;
+    ticket = look.carries.ticket ∙ may.free.ticket;
+  }
+
+  seen_none : (told_of seen).hold.head ≡ None
+  seen_none = look.carries.hold ∙ (told.head ∙ may.free.head)
+
+  shown_some : (told_of seen).bits.stored (index old.view.number 0) ≡ Some e
+  shown_some = seen_is old seen o look ∙ on
+
+  module _ (held : Known) (h : ℕ) (here : h ≡ head_of e.watch) (l : HasLocked seen held h (walk_of_hold h None))
+      (holds : IsHolding held) (one : Carries (lock_change h) seen held) (looked : Known) (p : Option Entry)
+      (again : HasSeenOwn held looked p) where
+    held_stored : (told_of held).bits.stored (index held.view.number 0) ≡ Some e
+    held_stored = ap (λ (n : ℕ). (told_of held).bits.stored (index n 0)) (one.number ∙ look.carries.number)
+        ∙ (one.stored (index old.view.number 0) refl refl ∙ shown_some)
+
+    still : p ≡ Some e
+    still = again.reads ∙ again.knew.stands 0 (omega arith) refl e held_stored
+        (subst (λ (f : Entry). IsOwnKind f.kind) (sym same_entry) may.kind)
+
+    held_at : held.at ≡ h
+    held_at = ap (λ (k : Known). k.at) l.is
+
+    held_head : held.book.head ≡ Some h
+    held_head = holds.locked ∙ ap Some held_at
+
+    held_told : (told_of held).hold.head ≡ Some h
+    held_told = holds.told ∙ ap Some held_at
+
+    pub may_take : (n : ℕ) → n ≡ seen.view.number → MayUnqueue looked n 0
+    may_take n mine = record {
+      entry = e;
+      shows = ap (λ (m : ℕ). (told_of looked).hold.book (index m 0)) (mine ∙ sym one.number)
+          ∙ seen_shows held looked p again h held_head held_told e still (sym here);
+      may = inl (mine ∙ sym (again.carries.number ∙ one.number));
+    }
+
+    pub looked_holds : IsHolding looked
+    looked_holds = record {
+      locked = again.carries.head ∙ (holds.locked ∙ ap Some (sym again.carries.at));
+      agreed = ap (λ (b : Book). b.differs) (seen_book held looked p again) ∙ holds.agreed;
+      told = again.carries.hold ∙ (holds.told ∙ ap Some (sym again.carries.at));
+    }
+
+    module _ (n : ℕ) (mine : n ≡ seen.view.number) (taken : Known) (r : HasRemoved looked taken n 0) (new : Known)
+        (back : HasUnlocked taken new false) (three : Carries unlock_change taken new) where
+      abbrev f : Program
+      f = call_program old.view.number 0 calls.Remove
+
+      abbrev i : ℕ
+      i = index old.view.number 0
+
+      n_is : n ≡ old.view.number
+      n_is = mine ∙ look.carries.number
+
+      abbrev turn : Known
+      turn = turn_of seen held h (walk_of_hold h None) l
+
+      abbrev locked : Known
+      locked = at_head h (added turn (item.Made (step.Lock h (walk_of_hold h None) l.found)))
+
+      locks : Runs f seen held (next.Go (at.Remove removing.Lock))
+          (next.Go (at.Remove (removing.Queue (plain_cond e.watch))))
+      locks = runs_lock f (next.Go (at.Remove removing.Lock))
+          (next.Go (at.Remove (removing.Queue (plain_cond e.watch)))) seen held h l
+          (runs_one f (at.Remove removing.Lock) seen turn locked (finds (Some e))
+          (by_step (step.Lock h (walk_of_hold h None) l.found)) (turn_looks seen held h (walk_of_hold h None) l)
+          (here ∙ head_is, ap (λ (m : ℕ). walk_of_hold m None) (here ∙ head_is)) (
+            tt,
+            (
+              i,
+              refl,
+              sym (ap (λ (v : Told). v.bits.stored i) (turn_told seen held h (walk_of_hold h None) l)
+                  ∙ shown_some),
+            ),
+            tt,
+          ) (only_none locked))
+
+      takes : Runs f held taken (next.Go (at.Remove (removing.Queue (plain_cond e.watch))))
+          (next.Go (at.Remove (removing.Unlock (plain_cond e.watch))))
+      takes = runs_one f (at.Remove (removing.Queue (plain_cond e.watch))) held looked taken nothing
+          (by_step (step.Unqueue i)) (seen_looks held looked p again h held_head) (owner_own old.view.number)
+          (tt, tt, refl)
+          (subst (OnlyLooks (added looked (item.Made (step.Unqueue i))))
+          (sym (r.is ∙ ap (λ (m : ℕ). stored_with looked (step.Unqueue (index m 0))) n_is))
+          (bit_looks looked (step.Unqueue i)))
+
+      unlocks : Runs f taken new (next.Go (at.Remove (removing.Unlock (plain_cond e.watch)))) (next.Ends zero_answer)
+      unlocks = runs_one f (at.Remove (removing.Unlock (plain_cond e.watch))) taken taken new nothing
+          (by_step (step.Unlock taken.at false)) (only_none taken)
+          (r.carries.at ∙ (again.carries.at ∙ (held_at ∙ (here ∙ head_is))), refl) (tt, tt, tt)
+          (unlock_looks taken new back.is)
+
+      pub removed_own : HasRemovedOwn old new
+      removed_own = record {
+        entry = e;
+        seen = seen;
+        looked = subst (HasSeenOwn old seen) on look;
+        runs = runs_on f seen held new (next.Go (at.Remove removing.Lock))
+            (next.Go (at.Remove (removing.Queue (plain_cond e.watch)))) (next.Ends zero_answer) locks
+            (runs_on f held taken new (next.Go (at.Remove (removing.Queue (plain_cond e.watch))))
+            (next.Go (at.Remove (removing.Unlock (plain_cond e.watch)))) (next.Ends zero_answer) takes unlocks);
+      }
+
+      pub removed_up : IsUp new
+      removed_up = three.awake ∙ (r.carries.awake ∙ (again.carries.awake ∙ (one.awake ∙ seen_up)))
+
+      pub removed_out : IsOut new
+      removed_out = ap (λ (m : ℕ). (told_of new).bits.stored (index m 0))
+          (three.number ∙ (r.carries.number ∙ (again.carries.number ∙ (one.number ∙ sym mine))))
+          ∙ (three.stored (index n 0) refl refl ∙ r.out)
+
+      pub removed_carried : Carries (remove_change (own_of old) new.at) old new
+      removed_carried = looked_carried (with_entry i) (λ y. y) (only i) true (λ _. new.at) old seen new look.carries
+          (hold_carried (with_entry i) (λ y. y) (only i) true seen held taken new seen_free seen_none h one
+          (looked_carried (with_entry i) (λ y. y) (only i) false (λ m. m) held looked taken again.carries
+          (subst (λ (m : ℕ). Carries (take_off_change (index m 0)) looked taken) n_is r.carries)) three)

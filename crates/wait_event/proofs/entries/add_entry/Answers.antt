@@ -1,0 +1,66 @@
+use Rattle.std.proofs.Common.{◌∙◌, ◌<◌, ℕ, ap, refl, sym, subst}
+use Rattle.wait_model.specs.declared.layout.TheConstants.{HEADS, PRIORITY_TASKS}
+use Rattle.wait_rule.specs.Queues.{index}
+use Rattle.wait_rule.specs.Says.{told_of}
+use Rattle.wait_event.proofs.Entering.{
+  add_carries,
+  add_stands,
+  default_for,
+  ends_add,
+  lock_at,
+  lock_carries,
+  worn_carries,
+}
+use Rattle.wait_event.proofs.Events.Locks.{head_fits}
+use Rattle.wait_event.proofs.entries.add_entry.Goals as goal
+
+pub lock-requires-clause-head : goal.lock-requires-clause-head
+lock-requires-clause-head g c = subst (λ (n : ℕ). n < HEADS) (sym c.head_of.ensures)
+    (head_fits c.args.cond c.requires.full)
+
+pub add_by-added-requires-clause-head : goal.add_by-added-requires-clause-head
+add_by-added-requires-clause-head g c = sym (c.lock.ensures.carries.at ∙ c.head_of.ensures)
+
+pub add_by-added-requires-clause-few : goal.add_by-added-requires-clause-few
+add_by-added-requires-clause-few g c prior = subst (λ (n : ℕ). n < PRIORITY_TASKS) (sym c.lock.ensures.carries.number)
+    (c.requires.few prior)
+
+pub add_by-added-requires-clause-plain : goal.add_by-added-requires-clause-plain
+add_by-added-requires-clause-plain g c = default_for c.args.cond c.args.kind c.requires.full c.requires.default
+
+pub add_by-added-requires-clause-out : goal.add_by-added-requires-clause-out
+add_by-added-requires-clause-out g c = c.lock.ensures.carries.out (index c.lock.new.task.view.number 0) refl
+    (ap (λ (n : ℕ). (told_of c.args.task.now).bits.stored (index n 0)) c.lock.ensures.carries.number ∙ c.requires.out)
+
+pub returns-clause-added : goal.returns-clause-added
+returns-clause-added g c = ends_add c.args.task.now c.lock.new.task c.add_by-added.new.task c.unlock.new.task
+    c.args.cond c.args.kind c.args.form c.requires.default
+    (lock_at c.args.task.now c.lock.new.task c.args.cond c.head_of.result c.head_of.ensures c.lock.ensures.locked)
+    c.unlock.ensures.unlocked c.requires.free c.told.ensures
+    (lock_carries c.args.task.now c.lock.new.task c.args.cond c.head_of.result c.head_of.ensures c.lock.ensures.carries)
+    c.unlock.ensures.carries c.add_by-added.result c.add_by-added.ensures.queued c.add_by-added.ensures.worn
+    c.add_by-added.ensures.noted
+
+pub returns-clause-stands : goal.returns-clause-stands
+returns-clause-stands g c = add_stands c.args.task.now c.lock.new.task c.add_by-added.new.task c.unlock.new.task
+    c.args.cond c.args.kind c.args.form c.requires.default
+    (lock_at c.args.task.now c.lock.new.task c.args.cond c.head_of.result c.head_of.ensures c.lock.ensures.locked)
+    c.unlock.ensures.unlocked c.requires.free c.told.ensures
+    (lock_carries c.args.task.now c.lock.new.task c.args.cond c.head_of.result c.head_of.ensures c.lock.ensures.carries)
+    c.unlock.ensures.carries c.requires.up c.requires.full c.add_by-added.result c.add_by-added.ensures.queued
+
+pub returns-clause-carries : goal.returns-clause-carries
+returns-clause-carries g c = add_carries c.args.task.now c.lock.new.task c.add_by-added.new.task c.unlock.new.task
+    c.args.cond c.args.kind c.args.form c.requires.default
+    (lock_at c.args.task.now c.lock.new.task c.args.cond c.head_of.result c.head_of.ensures c.lock.ensures.locked)
+    c.unlock.ensures.unlocked c.requires.free c.told.ensures
+    (lock_carries c.args.task.now c.lock.new.task c.args.cond c.head_of.result c.head_of.ensures c.lock.ensures.carries)
+    c.unlock.ensures.carries c.add_by-added.result c.add_by-added.ensures.queued
+
+pub returns-clause-same : goal.returns-clause-same
+returns-clause-same g c = worn_carries c.args.task.now c.lock.new.task c.add_by-added.new.task c.unlock.new.task
+    c.args.cond c.args.kind c.args.form c.requires.default
+    (lock_at c.args.task.now c.lock.new.task c.args.cond c.head_of.result c.head_of.ensures c.lock.ensures.locked)
+    c.unlock.ensures.unlocked c.requires.free c.told.ensures
+    (lock_carries c.args.task.now c.lock.new.task c.args.cond c.head_of.result c.head_of.ensures c.lock.ensures.carries)
+    c.unlock.ensures.carries c.add_by-added.result c.add_by-added.ensures.same

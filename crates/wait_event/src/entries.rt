@@ -1,0 +1,80 @@
+//! Entries that a task adds by itself and removes again, for who looks and sleeps in its own way.
+
+ghost use Rattle.std.specs.Prelude.{◌≡◌, ◌<◌, true, IfErr, IfOk};
+ghost use Rattle.wait_model.specs.declared.layout.TheConstants.{FIRST_SIMPLE, PRIORITY_TASKS};
+ghost use Rattle.wait_model.specs.declared.watches.Kind.TheVariants as kinds;
+ghost use Rattle.wait_model.specs.Queues.{is_priority};
+ghost use Rattle.wait_rule.specs.Says.{IsFree, IsUp};
+ghost use Rattle.wait_rule.specs.Stays.{Carries};
+ghost use Rattle.wait_event.specs.Ends.{IsOut};
+ghost use Rattle.wait_event.specs.Entries.{EndsAdd, HasRemovedOwn, MayRemove, add_change, hold_change, remove_change};
+ghost use Rattle.wait_event.specs.Waits.{own_of};
+
+use crate::queueing::{add_by, own_entry};
+use std::sync::Wait;
+use wait_model::heads::head_of;
+use wait_model::queues::Form;
+use wait_model::watches::{Kind, Watch};
+use wait_rule::{Domain, Task};
+use wq_head::{Worn, lock, remove, unlock};
+
+/// Queues the own entry of slot 0 for condition `cond`, below `FIRST_SIMPLE`, in a hold of its own: at the front
+/// (`add_wait_queue`), exclusive at the tail (`add_wait_queue_exclusive`), or with priority
+/// (`add_wait_queue_priority`), for a task whose number is below `PRIORITY_TASKS`. The kind is the default one: only
+/// the task itself takes the entry off. The task is in any state, holds no lock, and its entry is off. Worn comes
+/// exactly where no place is left for the entry, and then it is off still. The task's state, its bookmark and its other
+/// entry stay, and what it owes.
+pub fn add_entry<R: Wait>(
+    rt: &R,
+    domain: &Domain,
+    task: &mut Task,
+    cond: u8,
+    kind: Kind,
+    form: Form,
+) -> Result<(), Worn>
+    requires of { task.old.domain ≡ domain.now }
+    requires up { IsUp task.old }
+    requires free { IsFree task.old }
+    requires full { cond < FIRST_SIMPLE }
+    requires default { kind ≡ kinds.Default }
+    requires few { is_priority form ≡ true → task.old.view.number < PRIORITY_TASKS }
+    requires out { IsOut task.old }
+    ensures added { EndsAdd task.old task.new cond kind form result }
+    ensures up { IsUp task.new }
+    ensures free { IsFree task.new }
+    ensures stands { IfOk result (λ _. MayRemove task.new) }
+    ensures carries { IfOk result (λ _. Carries (add_change (own_of task.old) task.new.at) task.old task.new) }
+    ensures same { IfErr result (λ _. Carries (hold_change task.new.at) task.old task.new) }
+{
+    task.told();
+    let watch = Watch::Plain { cond };
+    lock(rt, domain, task, head_of(watch));
+    let added = add_by(domain, task, form, kind, watch);
+    unlock(rt, domain, task, false);
+    added
+}
+
+/// Takes the own entry of slot 0 off its queue, in a hold of its head (`remove_wait_queue`). It is one that the task
+/// added and that nobody else takes off; so it stands. The task holds no lock. Its state, its bookmark and its other
+/// entry stay, and what it owes.
+pub fn remove_entry<R: Wait>(rt: &R, domain: &Domain, task: &mut Task)
+    requires of { task.old.domain ≡ domain.now }
+    requires may { MayRemove task.old }
+    ensures removed { HasRemovedOwn task.old task.new }
+    ensures up { IsUp task.new }
+    ensures free { IsFree task.new }
+    ensures out { IsOut task.new }
+    ensures carries { Carries (remove_change (own_of task.old) task.new.at) task.old task.new }
+{
+    task.told();
+    match own_entry(domain, task) {
+        None => unreachable!(),
+        Some(entry) => {
+            let number = task.number();
+            lock(rt, domain, task, head_of(entry.watch));
+            own_entry(domain, task);
+            remove(domain, task, number, 0);
+            unlock(rt, domain, task, false);
+        }
+    }
+}

@@ -1,0 +1,19 @@
+//! What whole calls make, as the sentences of the model say it.
+
+ghost use Rattle.wait_event.specs.Words.{SetsFollow, TakesFollow, WaitsFollow, WaitsHeed, WaitsSay};
+
+/// What a `wait_event`, a `take_cond` and a `set_and_wake` have made follows the sentences of a wait, a take, a set and
+/// a wake, and their answers are those that the sentences give: by the table that a load of the base word shows after
+/// the call (`Task::witness`).
+pub fn calls_follow_sentences()
+    ensures waits { WaitsFollow }
+    ensures says { WaitsSay }
+    ensures takes { TakesFollow }
+    ensures sets { SetsFollow }
+{}
+
+/// A `wait_event` that answers for a signal has made, as its last events, a turn that found an admissible signal and
+/// left its entry off, and then a load that found its condition not set.
+pub fn signals_are_heeded()
+    ensures { WaitsHeed }
+{}

@@ -5,9 +5,11 @@ ghost use Rattle.wait_rule.specs.Says.{IsClean};
 
 use std::sync::Wait;
 use wait_event::conds::{set_and_wake, take_cond};
+use wait_event::entries::{add_entry, remove_entry};
 use wait_event::wait_events::wait_event;
+use wait_model::queues::Form;
 use wait_model::tasks::{How, SleepState};
-use wait_model::watches::Mode;
+use wait_model::watches::{Kind, Mode};
 use wait_rule::{Domain, Task};
 
 /// Waits until condition 0 is set: true where it was, and false where a signal ended the wait, or no place was left.
@@ -32,6 +34,41 @@ pub fn set_zero<R: Wait>(rt: &R, domain: &Domain, task: &mut Task) -> u32
     ensures clean { IsClean task.new }
 {
     set_and_wake(rt, domain, task, 0, 1, Mode::Normal, 0).woken
+}
+
+/// Waits for condition 0 as one whom a wake may select: true where it was set.
+pub fn wait_to_be_selected<R: Wait>(
+    rt: &R,
+    domain: &Domain,
+    task: &mut Task,
+    state: SleepState,
+) -> bool
+    requires of { task.old.domain ≡ domain.now }
+    requires clean { IsClean task.old }
+    ensures of { task.new.domain ≡ domain.now }
+    ensures clean { IsClean task.new }
+{
+    let how = How {
+        state,
+        exclusive: true,
+    };
+    wait_event(rt, domain, task, 0, how).is_ok()
+}
+
+/// Adds an entry for condition 0, and takes it off again: true where there was a place for it.
+pub fn come_and_go<R: Wait>(rt: &R, domain: &Domain, task: &mut Task) -> bool
+    requires of { task.old.domain ≡ domain.now }
+    requires clean { IsClean task.old }
+    ensures of { task.new.domain ≡ domain.now }
+    ensures clean { IsClean task.new }
+{
+    match add_entry(rt, domain, task, 0, Kind::Default, Form::Tail) {
+        Ok(()) => {
+            remove_entry(rt, domain, task);
+            true
+        }
+        Err(_worn) => false,
+    }
 }
 
 /// Takes condition 0.

@@ -4,7 +4,9 @@ ghost use Rattle.std.specs.Prelude.{◌≡◌};
 ghost use Rattle.wait_rule.specs.Says.{IsClean};
 ghost use Rattle.wq_user.specs.Waiting.{IsWaiting};
 
-use crate::events::{set_zero, take_zero, wait_and_join, wait_for_zero};
+use crate::events::{
+    come_and_go, set_zero, take_zero, wait_and_join, wait_for_zero, wait_to_be_selected,
+};
 use crate::holds::{look, pass, pass_and_wake, set_and_wake, wake_and_join};
 use crate::waits::{leave, prepare, queue, sleep};
 use std::sync::Wait;
@@ -110,5 +112,19 @@ fn condition_is_waited_for(rt: HostRuntime) -> Result<(), Fail> {
     assert_eq!(rt; take_zero(&domain, &mut other), 1);
     assert_eq!(rt; set_zero(&rt, &domain, &mut task), 0);
     wait_and_join(&rt, &domain, &mut task, other);
+    Ok(())
+}
+
+/// An exclusive wait whose condition is set, and an entry that is added and taken off: the task is taken in after both.
+#[test]
+fn exclusive_waiter_is_joined(rt: HostRuntime) -> Result<(), Fail> {
+    let (domain, mut task) = Domain::new(rt.alloc())?;
+    let Ok(mut other) = task.fork(&domain, 0) else {
+        panic!(rt; "numbers are spare")
+    };
+    assert!(rt; come_and_go(&rt, &domain, &mut other));
+    assert_eq!(rt; set_zero(&rt, &domain, &mut task), 0);
+    assert!(rt; wait_to_be_selected(&rt, &domain, &mut other, SleepState::Killable));
+    task.join(&domain, other);
     Ok(())
 }

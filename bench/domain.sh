@@ -5,18 +5,14 @@
 # programs, as `chrt -f 50`, by which other work gives way to them.
 set -eu
 cd "$(dirname "$0")/.."
+. bench/busy.sh
 made=$(mktemp -d)
-loops=
 end() {
-    for loop in $loops; do kill "$loop"; done
+    end_loops
     rm -rf "$made"
 }
 trap end EXIT
 rustc -O -o "$made/plain" bench/plain.rs
-for _ in $(seq "${BUSY:-0}"); do
-    (while :; do :; done) &
-    loops="$loops $!"
-done
 
 # NAME NANOSECONDS RATIO of one run; and the round trip that parks at once beside two threads that tell each other a number.
 ratios() {

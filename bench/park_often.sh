@@ -5,15 +5,7 @@
 # busy meanwhile (0).
 set -eu
 cd "$(dirname "$0")/.."
-loops=
-end() {
-    for loop in $loops; do kill "$loop"; done
-}
-trap end EXIT
-for _ in $(seq "${BUSY:-0}"); do
-    (while :; do :; done) &
-    loops="$loops $!"
-done
+. bench/busy.sh
 
 failed=0
 often() {
@@ -30,4 +22,5 @@ often wq_head tests::sleepers::walk_over_arrivals
 often wq_head tests::sleepers::walk_over_sleepers
 often wq_head tests::tickets::tickets
 often wait_event tests::threads::waiters_are_joined
+often wait_event tests::selected::selected_not_lost
 exit "$failed"

@@ -1,0 +1,51 @@
+//! The calls that are timed, by a task that owes nothing before and after each.
+
+ghost use Rattle.std.specs.Prelude.{◌≡◌, ◌<◌};
+ghost use Rattle.wait_model.specs.declared.layout.TheConstants.{FIRST_SIMPLE};
+ghost use Rattle.wait_rule.specs.Says.{IsClean};
+
+use std::sync::Wait;
+use wait_event::conds::{set_and_wake, take_cond};
+use wait_event::wait_events::wait_event;
+use wait_model::tasks::{How, SleepState};
+use wait_model::watches::Mode;
+use wait_rule::{Domain, Task};
+
+/// Waits until condition `cond`, below `FIRST_SIMPLE`, is set: false where the wait ended for another reason.
+pub(crate) fn wait_for<R: Wait>(rt: &R, domain: &Domain, task: &mut Task, cond: u8) -> bool
+    requires of { task.old.domain ≡ domain.now }
+    requires clean { IsClean task.old }
+    requires full { cond < FIRST_SIMPLE }
+    ensures of { task.new.domain ≡ domain.now }
+    ensures clean { IsClean task.new }
+{
+    let how = How {
+        state: SleepState::Uninterruptible,
+        exclusive: false,
+    };
+    wait_event(rt, domain, task, cond, how).is_ok()
+}
+
+/// The same, and takes the condition.
+pub(crate) fn receive<R: Wait>(rt: &R, domain: &Domain, task: &mut Task, cond: u8) -> bool
+    requires of { task.old.domain ≡ domain.now }
+    requires clean { IsClean task.old }
+    requires full { cond < FIRST_SIMPLE }
+    ensures of { task.new.domain ≡ domain.now }
+    ensures clean { IsClean task.new }
+{
+    let over = wait_for(rt, domain, task, cond);
+    take_cond(domain, task, cond);
+    over
+}
+
+/// Sets condition `cond`, below `FIRST_SIMPLE`, and wakes all who wait for it: how many were woken.
+pub(crate) fn set<R: Wait>(rt: &R, domain: &Domain, task: &mut Task, cond: u8) -> u32
+    requires of { task.old.domain ≡ domain.now }
+    requires clean { IsClean task.old }
+    requires full { cond < FIRST_SIMPLE }
+    ensures of { task.new.domain ≡ domain.now }
+    ensures clean { IsClean task.new }
+{
+    set_and_wake(rt, domain, task, cond, 1, Mode::Normal, 0).woken
+}

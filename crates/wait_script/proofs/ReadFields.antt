@@ -79,6 +79,7 @@ use Rattle.wait_script.specs.Fields.{
   numbered_at,
   cond_field,
   cell_at,
+  page_at,
   var_at,
   is_dot,
   bit_at,
@@ -104,6 +105,7 @@ use Rattle.wait_script.specs.Text.{form_text, bit_text}
 use Rattle.wait_script.specs.Spelling.{
   cond_word,
   cell_word,
+  page_word,
   var_word,
   how_word,
   state_word,
@@ -202,6 +204,9 @@ simple_between word n e =
     let from : nat_lt n FIRST_SIMPLE ≡ false = grind (arith, nat_tests, f.0) in
     both_true (not (nat_lt n FIRST_SIMPLE)) (nat_lt n PLAIN_CONDITIONS) (ap not from) (below last_cond n f.1)
 
+pub page_below : (word : List ℕ) (n : ℕ) → page_at word ≡ Ok n → nat_lt n BIT_WORDS ≡ true
+page_below word n e = below last_word n (numbered_fits 98 0 last_word word n e).1
+
 pub cell_below : (word : List ℕ) (n : ℕ) → cell_at word ≡ Ok n → nat_lt n COMPLETIONS ≡ true
 cell_below word n e = below last_cell n (numbered_fits 100 0 last_cell word n e).1
 
@@ -213,6 +218,9 @@ cond_ok low most word n e = numbered_ok 99 low most word n e
 
 pub cell_ok : (word : List ℕ) (n : ℕ) → cell_at word ≡ Ok n → word ≡ cell_word n
 cell_ok word n e = numbered_ok 100 0 last_cell word n e
+
+pub page_ok : (word : List ℕ) (n : ℕ) → page_at word ≡ Ok n → word ≡ page_word n
+page_ok word n e = numbered_ok 98 0 last_word word n e
 
 pub var_ok : (word : List ℕ) (n : ℕ) → var_at word ≡ Ok n → word ≡ var_word n
 var_ok word n e = numbered_ok 118 0 last_var word n e

@@ -5,11 +5,15 @@ use Rattle.std.proofs.Common.{
   ℕ,
   ◌^◌,
   ◌<◌,
+  Bool,
   true,
+  false,
+  if◌then◌else◌,
   nat_lt,
   List,
   [],
   ◌∷◌,
+  ◌++◌,
   Result,
   Ok,
   codes,
@@ -29,6 +33,7 @@ use Rattle.wait_model.specs.Queues.{is_priority}
 use Rattle.wait_model.specs.declared.layout.TheConstants.{FIRST_SIMPLE, PRIORITY_TASKS, TASKS}
 use Rattle.wait_script.specs.declared.reason.Reason.{Reason}
 use Rattle.wait_script.specs.declared.version.Version.{Version}
+use Rattle.wait_script.specs.declared.version.Version.TheVariants.{One, Two}
 use Rattle.wait_script.specs.Words.{both_of}
 use Rattle.wait_script.specs.Fields.{
   number_at,
@@ -37,6 +42,7 @@ use Rattle.wait_script.specs.Fields.{
   cell_at,
   var_at,
   bit_at,
+  page_at,
   how_at,
   state_at,
   simple_state_at,
@@ -78,6 +84,8 @@ use Rattle.wait_script.specs.Forms.{
   clear_bit_at,
   wait_var_at,
   set_var_at,
+  lock_page_at,
+  further_forms,
   call_forms,
   call_in,
   named_at,
@@ -103,6 +111,8 @@ use Rattle.wait_script.proofs.ReadFields.{
   var_ok,
   var_below,
   bit_ok,
+  page_ok,
+  page_below,
   bit_below,
   how_ok,
   how_listed,
@@ -157,58 +167,93 @@ met3 f g k make P h (a ∷ b ∷ d ∷ []) c e =
     subst (λ y. P (a ∷ b ∷ d ∷ []) y) m.2 (h a b d m.0.0 m.0.1.0 m.0.1.1 p.0 q.0 q.1)
 met3 f g k make P h (a ∷ b ∷ d ∷ x ∷ more) c e = absurd (cc (e))
 
+-- a name and the words after it, and the call that they say
+abbrev pub IsRead : Version → List ℕ → List (List ℕ) → Call → Type 0
+IsRead v name words c = (name ∷ words ≡ call_words c) × IsFitCall v 0 c
+
+words1 : (name a x : List ℕ) → a ≡ x → name ∷ a ∷ [] ≡ name ∷ x ∷ []
+words1 name a x p = cc
+
+words2 : (name a b x y : List ℕ) → a ≡ x → b ≡ y → name ∷ a ∷ b ∷ [] ≡ name ∷ x ∷ y ∷ []
+words2 name a b x y p q = cc
+
+words3 : (name a b d x y z : List ℕ) → a ≡ x → b ≡ y → d ≡ z → name ∷ a ∷ b ∷ d ∷ [] ≡ name ∷ x ∷ y ∷ z ∷ []
+words3 name a b d x y z p q r = cc
+
+-- a call without a number of 64 bits
+none : 0 < 2 ^ 64
+none = omega arith
+
+-- the forms of a table read what they say under their names
+abbrev AreRead : Version → List (List ℕ × (List (List ℕ) → Result Call Reason)) → Type 0
+AreRead v [] = Unit {0}
+AreRead v (entry ∷ table) =
+    ((words : List (List ℕ)) (c : Call) → entry.1 words ≡ Ok c → IsRead v entry.0 words c) × AreRead v table
+
+lock_page_ok : (words : List (List ℕ)) (c : Call) → lock_page_at words ≡ Ok c
+    → IsRead Two (codes "lockpage") words c
+lock_page_ok words c e =
+    met2 page_at state_at (λ word state. call.LockPage word state) (IsRead Two (codes "lockpage"))
+    (λ a b x y p q. (
+      words2 (codes "lockpage") a b _ _ (page_ok a x p) (state_ok b y q),
+      (page_below a x p, refl, none, refl),
+    )) words c e
+
+further_read : (v : Version) → AreRead v (further_forms v)
+further_read One = tt
+further_read Two = (lock_page_ok, tt)
+
+-- a name that is another than that of the last form of a table, and one that is a form's
+pub call_more : (table : List (List ℕ × (List (List ℕ) → Result Call Reason))) (last : List ℕ)
+    (form : List (List ℕ) → Result Call Reason) (name : List ℕ) (rest : List (List ℕ)) → bytes_eq name last ≡ false
+    → call_in (table ++ (last, form) ∷ []) name rest ≡ call_in table name rest
+call_more [] last form name rest other = rw other refl
+call_more (entry ∷ table) last form name rest other =
+    either (bytes_eq name entry.0) (entry.1 rest) (call_more table last form name rest other)
+  where
+    either : (b : Bool) (x : Result Call Reason) {y z : Result Call Reason} → y ≡ z
+        → (if b then x else y) ≡ (if b then x else z)
+    either true x h = refl
+    either false x h = h
+
+pub same_name : (a b : List ℕ) → bytes_eq a b ≡ true → a ≡ b
+same_name a b h = same_text a b (sym h)
+
 module _ (v : Version) where
-  -- a name and the words after it, and the call that they say
-  abbrev pub IsRead : List ℕ → List (List ℕ) → Call → Type 0
-  IsRead name words c = (name ∷ words ≡ call_words c) × IsFitCall v 0 c
-
-  words1 : (name a x : List ℕ) → a ≡ x → name ∷ a ∷ [] ≡ name ∷ x ∷ []
-  words1 name a x p = cc
-
-  words2 : (name a b x y : List ℕ) → a ≡ x → b ≡ y → name ∷ a ∷ b ∷ [] ≡ name ∷ x ∷ y ∷ []
-  words2 name a b x y p q = cc
-
-  words3 : (name a b d x y z : List ℕ) → a ≡ x → b ≡ y → d ≡ z → name ∷ a ∷ b ∷ d ∷ [] ≡ name ∷ x ∷ y ∷ z ∷ []
-  words3 name a b d x y z p q r = cc
-
-  -- a call without a number of 64 bits
-  none : 0 < 2 ^ 64
-  none = omega arith
-
-  wait_ok : (words : List (List ℕ)) (c : Call) → wait_at words ≡ Ok c → IsRead (codes "wait") words c
+  wait_ok : (words : List (List ℕ)) (c : Call) → wait_at words ≡ Ok c → IsRead v (codes "wait") words c
   wait_ok words c e =
-      met2 (cond_field 0 last_full) how_at (λ cond how. call.Wait cond how) (IsRead (codes "wait"))
+      met2 (cond_field 0 last_full) how_at (λ cond how. call.Wait cond how) (IsRead v (codes "wait"))
       (λ a b x y p q. (
         words2 (codes "wait") a b _ _ (cond_ok 0 last_full a x p) (how_ok b y q),
         (cond_below 0 last_full a x p, how_listed b y q, none, tt),
       )) words
       c e
 
-  set_ok : (words : List (List ℕ)) (c : Call) → set_at words ≡ Ok c → IsRead (codes "set") words c
+  set_ok : (words : List (List ℕ)) (c : Call) → set_at words ≡ Ok c → IsRead v (codes "set") words c
   set_ok words c e =
-      met2 (cond_field 0 last_cond) value_at (λ cond value. call.Set cond value) (IsRead (codes "set"))
+      met2 (cond_field 0 last_cond) value_at (λ cond value. call.Set cond value) (IsRead v (codes "set"))
       (λ a b x y p q. (
         words2 (codes "set") a b _ _ (cond_ok 0 last_cond a x p) (value_ok b y q),
         (cond_below 0 last_cond a x p, refl, value_below b y q, tt),
       )) words c e
 
-  take_ok : (words : List (List ℕ)) (c : Call) → take_at words ≡ Ok c → IsRead (codes "take") words c
+  take_ok : (words : List (List ℕ)) (c : Call) → take_at words ≡ Ok c → IsRead v (codes "take") words c
   take_ok words c e =
-      met1 (cond_field 0 last_cond) (λ cond. call.Take cond) (IsRead (codes "take"))
+      met1 (cond_field 0 last_cond) (λ cond. call.Take cond) (IsRead v (codes "take"))
       (λ a x p. (words1 (codes "take") a _ (cond_ok 0 last_cond a x p), (cond_below 0 last_cond a x p, refl, none, tt)))
       words c e
 
-  read_ok : (words : List (List ℕ)) (c : Call) → read_at words ≡ Ok c → IsRead (codes "read") words c
+  read_ok : (words : List (List ℕ)) (c : Call) → read_at words ≡ Ok c → IsRead v (codes "read") words c
   read_ok words c e =
-      met1 (cond_field 0 last_cond) (λ cond. call.Read cond) (IsRead (codes "read"))
+      met1 (cond_field 0 last_cond) (λ cond. call.Read cond) (IsRead v (codes "read"))
       (λ a x p. (words1 (codes "read") a _ (cond_ok 0 last_cond a x p), (cond_below 0 last_cond a x p, refl, none, tt)))
       words c e
 
-  wake_ok : (words : List (List ℕ)) (c : Call) → wake_at v words ≡ Ok c → IsRead (codes "wake") words c
+  wake_ok : (words : List (List ℕ)) (c : Call) → wake_at v words ≡ Ok c → IsRead v (codes "wake") words c
   wake_ok words c e =
       met3 (cond_field 0 last_full) mode_at (number_at 0 (most_selected v))
       (λ cond mode count. call.Wake cond mode count)
-      (IsRead (codes "wake"))
+      (IsRead v (codes "wake"))
       (λ a b d x y z p q r. (
         words3 (codes "wake") a b d _ _ _ (cond_ok 0 last_full a x p) (mode_ok b y q)
             (number_ok 0 (most_selected v) d z r),
@@ -228,158 +273,152 @@ module _ (v : Version) where
   any_form form.Tail = refl
   any_form form.Priority = refl
 
-  add_ok : (words : List (List ℕ)) (c : Call) → add_at words ≡ Ok c → IsRead (codes "add") words c
+  add_ok : (words : List (List ℕ)) (c : Call) → add_at words ≡ Ok c → IsRead v (codes "add") words c
   add_ok words c e =
       met3 (cond_field 0 last_full) kind_field form_at (λ cond kind form. call.Add cond kind form)
-      (IsRead (codes "add"))
+      (IsRead v (codes "add"))
       (λ a b d x y z p q r. (
         words3 (codes "add") a b d _ _ _ (cond_ok 0 last_full a x p) (kind_ok b y q) (form_ok d z r),
         (both_true (nat_lt x FIRST_SIMPLE) _ (cond_below 0 last_full a x p) (any_form z), kind_listed b y q, none, tt),
       ))
       words c e
 
-  remove_ok : (words : List (List ℕ)) (c : Call) → remove_at words ≡ Ok c → IsRead (codes "remove") words c
-  remove_ok words c e = met0 call.Remove (IsRead (codes "remove")) (refl, (refl, refl, none, tt)) words c e
+  remove_ok : (words : List (List ℕ)) (c : Call) → remove_at words ≡ Ok c → IsRead v (codes "remove") words c
+  remove_ok words c e = met0 call.Remove (IsRead v (codes "remove")) (refl, (refl, refl, none, tt)) words c e
 
-  woken_ok : (words : List (List ℕ)) (c : Call) → woken_at words ≡ Ok c → IsRead (codes "woken") words c
+  woken_ok : (words : List (List ℕ)) (c : Call) → woken_at words ≡ Ok c → IsRead v (codes "woken") words c
   woken_ok words c e =
-      met1 state_at (λ state. call.Woken state) (IsRead (codes "woken"))
+      met1 state_at (λ state. call.Woken state) (IsRead v (codes "woken"))
       (λ a x p. (words1 (codes "woken") a _ (state_ok a x p), (refl, refl, none, tt))) words c e
 
-  signal_ok : (words : List (List ℕ)) (c : Call) → signal_at v words ≡ Ok c → IsRead (codes "signal") words c
+  signal_ok : (words : List (List ℕ)) (c : Call) → signal_at v words ≡ Ok c → IsRead v (codes "signal") words c
   signal_ok words c e =
-      met2 (number_at 0 (last_task v)) fatal_at (λ who fatal. call.Signal who fatal) (IsRead (codes "signal"))
+      met2 (number_at 0 (last_task v)) fatal_at (λ who fatal. call.Signal who fatal) (IsRead v (codes "signal"))
       (λ a b x y p q. (
         words2 (codes "signal") a b _ _ (number_ok 0 (last_task v) a x p) (fatal_ok b y q),
         (number_below 0 (last_task v) TASKS a x p (few_tasks v), refl, none, (number_fits 0 (last_task v) a x p).1),
       ))
       words c e
 
-  accept_ok : (words : List (List ℕ)) (c : Call) → accept_at words ≡ Ok c → IsRead (codes "accept") words c
-  accept_ok words c e = met0 call.Accept (IsRead (codes "accept")) (refl, (refl, refl, none, tt)) words c e
+  accept_ok : (words : List (List ℕ)) (c : Call) → accept_at words ≡ Ok c → IsRead v (codes "accept") words c
+  accept_ok words c e = met0 call.Accept (IsRead v (codes "accept")) (refl, (refl, refl, none, tt)) words c e
 
-  kick_ok : (words : List (List ℕ)) (c : Call) → kick_at v words ≡ Ok c → IsRead (codes "kick") words c
+  kick_ok : (words : List (List ℕ)) (c : Call) → kick_at v words ≡ Ok c → IsRead v (codes "kick") words c
   kick_ok words c e =
-      met1 (number_at 0 (last_task v)) (λ who. call.Kick who) (IsRead (codes "kick"))
+      met1 (number_at 0 (last_task v)) (λ who. call.Kick who) (IsRead v (codes "kick"))
       (λ a x p. (
         words1 (codes "kick") a _ (number_ok 0 (last_task v) a x p),
         (number_below 0 (last_task v) TASKS a x p (few_tasks v), refl, none, (number_fits 0 (last_task v) a x p).1),
       )) words c e
 
   simple_wait_ok : (words : List (List ℕ)) (c : Call) → simple_wait_at words ≡ Ok c
-      → IsRead (codes "swait") words c
+      → IsRead v (codes "swait") words c
   simple_wait_ok words c e =
       met2 (cond_field FIRST_SIMPLE last_cond) simple_state_at (λ cond state. call.SimpleWait cond state)
-      (IsRead (codes "swait"))
+      (IsRead v (codes "swait"))
       (λ a b x y p q. (
         words2 (codes "swait") a b _ _ (cond_ok FIRST_SIMPLE last_cond a x p) (simple_state_ok b y q),
         (simple_between a x p, simple_state_listed b y q, none, tt),
       )) words c e
 
   simple_wake_ok : (words : List (List ℕ)) (c : Call) → simple_wake_at words ≡ Ok c
-      → IsRead (codes "swake") words c
+      → IsRead v (codes "swake") words c
   simple_wake_ok words c e =
-      met2 (cond_field FIRST_SIMPLE last_cond) all_at (λ cond all. call.SimpleWake cond all) (IsRead (codes "swake"))
+      met2 (cond_field FIRST_SIMPLE last_cond) all_at (λ cond all. call.SimpleWake cond all) (IsRead v (codes "swake"))
       (λ a b x y p q. (
         words2 (codes "swake") a b _ _ (cond_ok FIRST_SIMPLE last_cond a x p) (all_ok b y q),
         (simple_between a x p, refl, none, tt),
       )) words c e
 
   complete_ok : (words : List (List ℕ)) (c : Call) → complete_at words ≡ Ok c
-      → IsRead (codes "complete") words c
+      → IsRead v (codes "complete") words c
   complete_ok words c e =
-      met1 cell_at (λ cell. call.Complete cell) (IsRead (codes "complete"))
+      met1 cell_at (λ cell. call.Complete cell) (IsRead v (codes "complete"))
       (λ a x p. (words1 (codes "complete") a _ (cell_ok a x p), (cell_below a x p, refl, none, tt))) words c e
 
   complete_all_ok : (words : List (List ℕ)) (c : Call) → complete_all_at words ≡ Ok c
-      → IsRead (codes "completeall") words c
+      → IsRead v (codes "completeall") words c
   complete_all_ok words c e =
-      met1 cell_at (λ cell. call.CompleteAll cell) (IsRead (codes "completeall"))
+      met1 cell_at (λ cell. call.CompleteAll cell) (IsRead v (codes "completeall"))
       (λ a x p. (words1 (codes "completeall") a _ (cell_ok a x p), (cell_below a x p, refl, none, tt))) words c e
 
-  reinit_ok : (words : List (List ℕ)) (c : Call) → reinit_at words ≡ Ok c → IsRead (codes "reinit") words c
+  reinit_ok : (words : List (List ℕ)) (c : Call) → reinit_at words ≡ Ok c → IsRead v (codes "reinit") words c
   reinit_ok words c e =
-      met1 cell_at (λ cell. call.Reinit cell) (IsRead (codes "reinit"))
+      met1 cell_at (λ cell. call.Reinit cell) (IsRead v (codes "reinit"))
       (λ a x p. (words1 (codes "reinit") a _ (cell_ok a x p), (cell_below a x p, refl, none, tt))) words c e
 
-  wait_for_ok : (words : List (List ℕ)) (c : Call) → wait_for_at words ≡ Ok c → IsRead (codes "waitfor") words c
+  wait_for_ok : (words : List (List ℕ)) (c : Call) → wait_for_at words ≡ Ok c → IsRead v (codes "waitfor") words c
   wait_for_ok words c e =
-      met2 cell_at state_at (λ cell state. call.WaitFor cell state) (IsRead (codes "waitfor"))
+      met2 cell_at state_at (λ cell state. call.WaitFor cell state) (IsRead v (codes "waitfor"))
       (λ a b x y p q. (
         words2 (codes "waitfor") a b _ _ (cell_ok a x p) (state_ok b y q),
         (cell_below a x p, refl, none, tt),
       )) words c e
 
-  try_wait_ok : (words : List (List ℕ)) (c : Call) → try_wait_at words ≡ Ok c → IsRead (codes "trywait") words c
+  try_wait_ok : (words : List (List ℕ)) (c : Call) → try_wait_at words ≡ Ok c → IsRead v (codes "trywait") words c
   try_wait_ok words c e =
-      met1 cell_at (λ cell. call.TryWait cell) (IsRead (codes "trywait"))
+      met1 cell_at (λ cell. call.TryWait cell) (IsRead v (codes "trywait"))
       (λ a x p. (words1 (codes "trywait") a _ (cell_ok a x p), (cell_below a x p, refl, none, tt))) words c e
 
-  is_done_ok : (words : List (List ℕ)) (c : Call) → is_done_at words ≡ Ok c → IsRead (codes "isdone") words c
+  is_done_ok : (words : List (List ℕ)) (c : Call) → is_done_at words ≡ Ok c → IsRead v (codes "isdone") words c
   is_done_ok words c e =
-      met1 cell_at (λ cell. call.IsDone cell) (IsRead (codes "isdone"))
+      met1 cell_at (λ cell. call.IsDone cell) (IsRead v (codes "isdone"))
       (λ a x p. (words1 (codes "isdone") a _ (cell_ok a x p), (cell_below a x p, refl, none, tt))) words c e
 
-  try_bit_ok : (words : List (List ℕ)) (c : Call) → try_bit_at words ≡ Ok c → IsRead (codes "trybit") words c
+  try_bit_ok : (words : List (List ℕ)) (c : Call) → try_bit_at words ≡ Ok c → IsRead v (codes "trybit") words c
   try_bit_ok words c e =
-      met1 bit_at (λ b. call.TryBit b.0 b.1) (IsRead (codes "trybit"))
+      met1 bit_at (λ b. call.TryBit b.0 b.1) (IsRead v (codes "trybit"))
       (λ a x p. (words1 (codes "trybit") a _ (bit_ok a x p), (bit_below a x p, refl, none, tt))) words c e
 
-  wait_bit_ok : (words : List (List ℕ)) (c : Call) → wait_bit_at words ≡ Ok c → IsRead (codes "waitbit") words c
+  wait_bit_ok : (words : List (List ℕ)) (c : Call) → wait_bit_at words ≡ Ok c → IsRead v (codes "waitbit") words c
   wait_bit_ok words c e =
-      met2 bit_at state_at (λ b state. call.WaitBit b.0 b.1 state) (IsRead (codes "waitbit"))
+      met2 bit_at state_at (λ b state. call.WaitBit b.0 b.1 state) (IsRead v (codes "waitbit"))
       (λ a b x y p q. (
         words2 (codes "waitbit") a b _ _ (bit_ok a x p) (state_ok b y q),
         (bit_below a x p, refl, none, tt),
       )) words c e
 
-  lock_bit_ok : (words : List (List ℕ)) (c : Call) → lock_bit_at words ≡ Ok c → IsRead (codes "lockbit") words c
+  lock_bit_ok : (words : List (List ℕ)) (c : Call) → lock_bit_at words ≡ Ok c → IsRead v (codes "lockbit") words c
   lock_bit_ok words c e =
-      met2 bit_at state_at (λ b state. call.LockBit b.0 b.1 state) (IsRead (codes "lockbit"))
+      met2 bit_at state_at (λ b state. call.LockBit b.0 b.1 state) (IsRead v (codes "lockbit"))
       (λ a b x y p q. (
         words2 (codes "lockbit") a b _ _ (bit_ok a x p) (state_ok b y q),
         (bit_below a x p, refl, none, tt),
       )) words c e
 
   clear_bit_ok : (words : List (List ℕ)) (c : Call) → clear_bit_at words ≡ Ok c
-      → IsRead (codes "clearbit") words c
+      → IsRead v (codes "clearbit") words c
   clear_bit_ok words c e =
-      met1 bit_at (λ b. call.ClearBit b.0 b.1) (IsRead (codes "clearbit"))
+      met1 bit_at (λ b. call.ClearBit b.0 b.1) (IsRead v (codes "clearbit"))
       (λ a x p. (words1 (codes "clearbit") a _ (bit_ok a x p), (bit_below a x p, refl, none, tt))) words c e
 
-  wait_var_ok : (words : List (List ℕ)) (c : Call) → wait_var_at words ≡ Ok c → IsRead (codes "waitvar") words c
+  wait_var_ok : (words : List (List ℕ)) (c : Call) → wait_var_at words ≡ Ok c → IsRead v (codes "waitvar") words c
   wait_var_ok words c e =
-      met3 var_at value_at state_at (λ var old state. call.WaitVar var old state) (IsRead (codes "waitvar"))
+      met3 var_at value_at state_at (λ var old state. call.WaitVar var old state) (IsRead v (codes "waitvar"))
       (λ a b d x y z p q r. (
         words3 (codes "waitvar") a b d _ _ _ (var_ok a x p) (value_ok b y q) (state_ok d z r),
         (var_below a x p, refl, value_below b y q, tt),
       ))
       words c e
 
-  set_var_ok : (words : List (List ℕ)) (c : Call) → set_var_at words ≡ Ok c → IsRead (codes "setvar") words c
+  set_var_ok : (words : List (List ℕ)) (c : Call) → set_var_at words ≡ Ok c → IsRead v (codes "setvar") words c
   set_var_ok words c e =
-      met2 var_at value_at (λ var value. call.SetVar var value) (IsRead (codes "setvar"))
+      met2 var_at value_at (λ var value. call.SetVar var value) (IsRead v (codes "setvar"))
       (λ a b x y p q. (
         words2 (codes "setvar") a b _ _ (var_ok a x p) (value_ok b y q),
         (var_below a x p, refl, value_below b y q, tt),
       )) words c e
 
-  -- the forms of a table read what they say under their names
-  abbrev AreRead : List (List ℕ × (List (List ℕ) → Result Call Reason)) → Type 0
-  AreRead [] = Unit {0}
-  AreRead (entry ∷ table) =
-      ((words : List (List ℕ)) (c : Call) → entry.1 words ≡ Ok c → IsRead entry.0 words c) × AreRead table
-
-  call_ok : (table : List (List ℕ × (List (List ℕ) → Result Call Reason))) → AreRead table
-      → (name : List ℕ) (rest : List (List ℕ)) (c : Call) → call_in table name rest ≡ Ok c → IsRead name rest c
+  call_ok : (table : List (List ℕ × (List (List ℕ) → Result Call Reason))) → AreRead v table
+      → (name : List ℕ) (rest : List (List ℕ)) (c : Call) → call_in table name rest ≡ Ok c → IsRead v name rest c
   call_ok [] all name rest c e = absurd (cc (e))
   call_ok (entry ∷ table) all name rest c e =
       ⊎_elim
-      (λ p. subst (λ n. IsRead n rest c) (sym (same_text name entry.0 (sym p.0))) (all.0 rest c p.1))
+      (λ p. subst (λ n. IsRead v n rest c) (sym (same_text name entry.0 (sym p.0))) (all.0 rest c p.1))
       (λ p. call_ok table all.1 name rest c p.1)
       (chosen (bytes_eq name entry.0) (entry.1 rest) (call_in table name rest) (Ok c) e)
 
-  all_read : AreRead (call_forms v)
+  all_read : AreRead v (call_forms v)
   all_read = (
     wait_ok,
     (
@@ -420,7 +459,10 @@ module _ (v : Version) where
                                         is_done_ok,
                                         (
                                           try_bit_ok,
-                                          (wait_bit_ok, (lock_bit_ok, (clear_bit_ok, (wait_var_ok, (set_var_ok, tt))))),
+                                          (
+                                            wait_bit_ok,
+                                            (lock_bit_ok, (clear_bit_ok, (wait_var_ok, (set_var_ok, further_read v)))),
+                                          ),
                                         ),
                                       ),
                                     ),
@@ -443,5 +485,5 @@ module _ (v : Version) where
   )
 
   pub named_ok : (name : List ℕ) (rest : List (List ℕ)) (c : Call) → named_at v name rest ≡ Ok c
-      → IsRead name rest c
+      → IsRead v name rest c
   named_ok name rest c e = call_ok (call_forms v) all_read name rest c e

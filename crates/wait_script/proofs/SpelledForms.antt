@@ -16,6 +16,8 @@ use Rattle.std.proofs.Common.{
   codes,
   decimal,
   refl,
+  sym,
+  subst,
   arith,
   nat_lt,
 }
@@ -23,6 +25,7 @@ use mathlib.Core.Bool.{◌&&◌, ◌||◌, not}
 use Rattle.std.proofs.lemmas.Bool.Decides.{nat_tests}
 use Rattle.wait_model.specs.declared.calls.Call.{Call}
 use Rattle.wait_model.specs.declared.calls.Call.TheVariants as call
+use Rattle.wait_model.specs.declared.tasks.SleepState.{SleepState}
 use Rattle.wait_model.specs.Queues.{is_priority}
 use Rattle.wait_model.specs.declared.layout.TheConstants.{
   BIT_WORDS,
@@ -37,6 +40,7 @@ use Rattle.wait_script.specs.declared.reason.Reason.{Reason}
 use Rattle.wait_script.specs.declared.line.Line.{Line}
 use Rattle.wait_script.specs.declared.line.Line.TheVariants as line
 use Rattle.wait_script.specs.declared.version.Version.{Version}
+use Rattle.wait_script.specs.declared.version.Version.TheVariants.{Two}
 use Rattle.wait_script.specs.Words.{both_of, made_of}
 use Rattle.wait_script.specs.Fields.{last_full, last_cond, last_cell, last_var, last_word, last_bit}
 use Rattle.wait_script.specs.Forms.{named_at, last_of}
@@ -103,6 +107,16 @@ from_simple n h =
 abbrev Says : Version → List (List ℕ) → Call → Type 0
 Says v [] c = ⊥
 Says v (name ∷ rest) c = (named_at v name rest ≡ Ok c) × IsWord name × AreWords rest × (length rest ≤ 3)
+
+page_said : (w : ℕ) (state : SleepState) → w ≤ last_word
+    → Says Two (call_words (call.LockPage w state)) (call.LockPage w state)
+page_said w state m = (
+  made2 (λ f. call.LockPage f.0 f.1) _ _ w state (numbered_read 98 0 last_word w (omega arith) m (omega (arith, m)))
+      (state_read state),
+  refl,
+  (letter_word 98 w refl (omega (arith, m)), (state_is_word state, tt)),
+  omega arith,
+)
 
 call_said : (v : Version) (c : Call) (task : ℕ) → IsFitCall v task c → Says v (call_words c) c
 call_said v (call.Wait cond how) task h =
@@ -275,6 +289,9 @@ call_said v (call.LockBit w b state) task h =
       (bit_word w b (omega (arith, m)) (omega (arith, n)), (state_is_word state, tt)),
       omega arith,
     )
+call_said v (call.LockPage w state) task h =
+    let c = call.LockPage w state in
+    subst (λ u. Says u (call_words c) c) (sym h.3) (page_said w state (upto last_word w h.0))
 call_said v (call.ClearBit w b) task h =
     let p = parts_true (nat_lt w BIT_WORDS) (nat_lt b WORD_BITS) h.0 in
     let m = upto last_word w p.0 in

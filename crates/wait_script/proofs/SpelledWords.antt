@@ -263,6 +263,7 @@ kind_is_word kind.Woken h = refl
 kind_is_word kind.Bit h = absurd (cc (h))
 kind_is_word kind.Var h = absurd (cc (h))
 kind_is_word kind.Simple h = absurd (cc (h))
+kind_is_word kind.Page h = absurd (cc (h))
 
 pub kind_read : (k : Kind) → is_standing k ≡ true → kind_field (kind_word k) ≡ Ok k
 kind_read kind.Default h = refl
@@ -271,6 +272,7 @@ kind_read kind.Woken h = refl
 kind_read kind.Bit h = absurd (cc (h))
 kind_read kind.Var h = absurd (cc (h))
 kind_read kind.Simple h = absurd (cc (h))
+kind_read kind.Page h = absurd (cc (h))
 
 pub form_is_word : (f : Form) → IsWord (form_text f)
 form_is_word form.Front = refl

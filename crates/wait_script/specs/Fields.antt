@@ -98,6 +98,10 @@ cell_at word = numbered_at 100 0 last_cell word
 abbrev pub var_at : List ℕ → Result ℕ Reason
 var_at word = numbered_at 118 0 last_var word
 
+-- a page: bit 0 of a bit word, `b` and the word's number
+abbrev pub page_at : List ℕ → Result ℕ Reason
+page_at word = numbered_at 98 0 last_word word
+
 -- a bit of a bit word: `b` and the word's number before the first dot, the bit's number after it
 abbrev pub is_dot : ℕ → Bool
 is_dot b = b == 46

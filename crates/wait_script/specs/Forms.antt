@@ -30,6 +30,7 @@ use Rattle.wait_model.specs.declared.layout.TheConstants.{FIRST_SIMPLE}
 use Rattle.wait_script.specs.declared.reason.Reason.{Reason}
 use Rattle.wait_script.specs.declared.reason.Reason.TheVariants.{UnknownWord, WordCount}
 use Rattle.wait_script.specs.declared.version.Version.{Version}
+use Rattle.wait_script.specs.declared.version.Version.TheVariants.{One, Two}
 use Rattle.wait_script.specs.Text.{form_text, bit_text}
 use Rattle.wait_script.specs.Versions.{last_task, most_selected}
 use Rattle.wait_script.specs.Words.{both_of, made_of}
@@ -40,6 +41,7 @@ use Rattle.wait_script.specs.Fields.{
   cell_at,
   var_at,
   bit_at,
+  page_at,
   how_at,
   state_at,
   simple_state_at,
@@ -152,9 +154,12 @@ wait_var_at words = form3 var_at value_at state_at (λ var old state. call.WaitV
 abbrev pub set_var_at : List (List ℕ) → Result Call Reason
 set_var_at words = form2 var_at value_at (λ var value. call.SetVar var value) words
 
--- the calls by their names
-abbrev pub call_forms : Version → List (List ℕ × (List (List ℕ) → Result Call Reason))
-call_forms version =
+abbrev pub lock_page_at : List (List ℕ) → Result Call Reason
+lock_page_at words = form2 page_at state_at (λ word state. call.LockPage word state) words
+
+-- the calls that all versions have, by their names
+abbrev pub shared_forms : Version → List (List ℕ × (List (List ℕ) → Result Call Reason))
+shared_forms version =
     (codes "wait", wait_at)
     ∷ (codes "set", set_at)
     ∷ (codes "take", take_at)
@@ -181,6 +186,15 @@ call_forms version =
     ∷ (codes "waitvar", wait_var_at)
     ∷ (codes "setvar", set_var_at)
     ∷ []
+
+-- the calls that a version has besides those
+abbrev pub further_forms : Version → List (List ℕ × (List (List ℕ) → Result Call Reason))
+further_forms One = []
+further_forms Two = (codes "lockpage", lock_page_at) ∷ []
+
+-- the calls of a version
+abbrev pub call_forms : Version → List (List ℕ × (List (List ℕ) → Result Call Reason))
+call_forms version = shared_forms version ++ further_forms version
 
 -- a call by a table of names
 abbrev pub call_in : List (List ℕ × (List (List ℕ) → Result Call Reason)) → List ℕ → List (List ℕ)
@@ -209,6 +223,9 @@ cell_word cell = codes "d" ++ decimal cell
 
 abbrev pub var_word : ℕ → List ℕ
 var_word var = codes "v" ++ decimal var
+
+abbrev pub page_word : ℕ → List ℕ
+page_word word = codes "b" ++ decimal word
 
 abbrev pub state_word : SleepState → List ℕ
 state_word Uninterruptible = codes "plain"
@@ -260,6 +277,7 @@ call_words (call.IsDone cell) = codes "isdone" ∷ cell_word cell ∷ []
 call_words (call.TryBit word bit) = codes "trybit" ∷ bit_text word bit ∷ []
 call_words (call.WaitBit word bit state) = codes "waitbit" ∷ bit_text word bit ∷ state_word state ∷ []
 call_words (call.LockBit word bit state) = codes "lockbit" ∷ bit_text word bit ∷ state_word state ∷ []
+call_words (call.LockPage word state) = codes "lockpage" ∷ page_word word ∷ state_word state ∷ []
 call_words (call.ClearBit word bit) = codes "clearbit" ∷ bit_text word bit ∷ []
 call_words (call.WaitVar var old state) = codes "waitvar" ∷ var_word var ∷ decimal old ∷ state_word state ∷ []
 call_words (call.SetVar var value) = codes "setvar" ∷ var_word var ∷ decimal value ∷ []

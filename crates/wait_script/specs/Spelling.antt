@@ -23,6 +23,7 @@ pub use Rattle.wait_script.specs.Forms.{
   cond_word,
   cell_word,
   var_word,
+  page_word,
   state_word,
   how_word,
   mode_word,
@@ -34,6 +35,7 @@ pub use Rattle.wait_script.specs.Forms.{
 use Rattle.wait_script.specs.declared.line.Line.{Line}
 use Rattle.wait_script.specs.declared.line.Line.TheVariants as line
 use Rattle.wait_script.specs.declared.version.Version.{Version}
+use Rattle.wait_script.specs.declared.version.Version.TheVariants.{Two}
 use Rattle.wait_script.specs.Lines.{VersionedLines}
 use Rattle.wait_script.specs.Versions.{header_of, last_task, most_selected}
 
@@ -56,11 +58,12 @@ number_in_call (call.WaitVar var old state) = old
 number_in_call (call.SetVar var value) = value
 number_in_call call = 0
 
--- a version may have fewer tasks than a core, and wakes that select fewer entries
+-- a version may have fewer tasks than a core, and wakes that select fewer entries; pages are locked in version 2 alone
 abbrev pub IsOfVersion : Version → Call → Type 0
 IsOfVersion version (call.Wake cond mode count) = count ≤ most_selected version
 IsOfVersion version (call.Signal who fatal) = who ≤ last_task version
 IsOfVersion version (call.Kick who) = who ≤ last_task version
+IsOfVersion version (call.LockPage word state) = version ≡ Two
 IsOfVersion version call = Unit {0}
 
 -- the call is one that there is, and its numbers are in their ranges

@@ -108,6 +108,9 @@ event_text (event.Load cond value) = codes "load " ++ cond_text cond ++ codes " 
 event_text (event.Set cond value) = codes "set " ++ cond_text cond ++ codes " " ++ decimal value
 event_text (event.Take cond found) = codes "take c" ++ decimal cond ++ codes " " ++ decimal found
 event_text (event.Tas word bit found) = codes "tas " ++ bit_text word bit ++ codes " " ++ decimal found
+event_text (event.TasFor word who found) =
+    codes "tas " ++ bit_text word 0 ++ codes " " ++ decimal found ++ codes " t" ++ decimal who
+event_text (event.Handed who) = codes "handed t" ++ decimal who
 event_text (event.Clear word bit) = codes "clear " ++ bit_text word bit
 event_text (event.Woken who) = codes "woken t" ++ decimal who
 event_text (event.Flag there) = codes "flag " ++ yes_text there

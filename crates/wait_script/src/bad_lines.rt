@@ -121,6 +121,8 @@ pub const BAD_LINES: &str = "\
 pub const BAD_LINES_OF_VERSION_2: &str = "\
 5 call 256 hop\n\
 6 step 256\n\
+6 call 1 lockpage b0\n\
+6 call 256 lockpage b128 bad 1\n\
 6 call 255 add c0 woken prio 1\n\
 7 step 256 1\n\
 7 step 65536 1\n\
@@ -136,5 +138,12 @@ pub const BAD_LINES_OF_VERSION_2: &str = "\
 8 call 128 wait c99 bad\n\
 8 call 1 wake c99 bad 255\n\
 8 call 255 add c0 default back\n\
+8 call 1 lockpage b0 int-ex\n\
+8 call 1 lockpage b128 normal\n\
 9 call 255 wait c50 plain\n\
+9 call 1 lockpage b128 int\n\
+9 call 1 lockpage b0.0 int\n\
+9 call 1 lockpage b00 int\n\
+9 call 1 lockpage b int\n\
+9 call 1 lockpage v0 kill\n\
 9 call 63 add c99 woken prio";

@@ -1,10 +1,10 @@
-//! The forms of the calls on simple queues, completions, bits and variables: for each name, what the words after
+//! The forms of the calls on simple queues, completions, bits, pages and variables: for each name, what the words after
 //! it say.
 
 ghost use Rattle.std.specs.Prelude.{◌≡◌, map};
 ghost use Rattle.wait_script.specs.Forms as spec;
 
-use crate::fields::{all, bit, cell, condition, simple_state, state, value, variable};
+use crate::fields::{all, bit, cell, condition, page, simple_state, state, value, variable};
 use crate::reason::Reason;
 use crate::words::both;
 use wait_model::calls::Call;
@@ -148,6 +148,18 @@ pub fn lock_bit(words: &[&[u8]]) -> Result<Call, Reason>
     };
     let ((word, bit), state) = both(bit(text), state(how))?;
     Ok(Call::LockBit { word, bit, state })
+}
+
+/// `lockpage PAGE STATE`, by the words after the name.
+#[tactic(auto, using(crate::proofs::WordCounts::few2))]
+pub fn lock_page(words: &[&[u8]]) -> Result<Call, Reason>
+    ensures { result ≡ spec.lock_page_at (map (λ w. w.now) words.now) }
+{
+    let [text, how] = words else {
+        return Err(Reason::WordCount);
+    };
+    let (word, state) = both(page(text), state(how))?;
+    Ok(Call::LockPage { word, state })
 }
 
 /// `clearbit BIT`, by the words after the name.

@@ -172,6 +172,17 @@ fn push_tas(line: &mut LineText, word: u8, bit: u8, found: u8)
     push_named(line, b" ", found.into());
 }
 
+/// Puts the event of a test-and-set of a page for the task of an entry after a text.
+#[inline(always)]
+fn push_tas_for(line: &mut LineText, word: u8, who: u8, found: u8)
+    requires { array_vec_len line.old + 30 ≤ TEXT_BYTES }
+    ensures text { line.new.items ≡ line.old.items ++ codes " " ++ spec.event_text (Event.TasFor word who found) }
+    ensures len { array_vec_len line.new ≤ array_vec_len line.old + 30 }
+{
+    push_tas(line, word, 0, found);
+    push_named(line, b" t", who.into());
+}
+
 /// Puts the event of a bit that is cleared after a text.
 #[inline(always)]
 fn push_clear(line: &mut LineText, word: u8, bit: u8)
@@ -218,6 +229,8 @@ pub fn push_event(line: &mut LineText, event: &Event)
         Event::Set { cond, value } => push_value(line, b" set ", cond, value),
         Event::Take { cond, found } => push_take(line, cond, found),
         Event::Tas { word, bit, found } => push_tas(line, word, bit, found),
+        Event::TasFor { word, who, found } => push_tas_for(line, word, who, found),
+        Event::Handed { who } => push_named(line, b" handed t", who.into()),
         Event::Clear { word, bit } => push_clear(line, word, bit),
         Event::Woken { who } => push_named(line, b" woken t", who.into()),
         Event::Flag { yes } => push_told(line, b" flag", yes),

@@ -85,6 +85,13 @@ pub fn variable(word: &[u8]) -> Result<u8, Reason>
     numbered(word, b'v', 0, VARIABLES as u8 - 1)
 }
 
+/// A page, which is bit 0 of a bit word: `b` and the word's number, below `BIT_WORDS`.
+pub fn page(word: &[u8]) -> Result<u8, Reason>
+    ensures { result ≡ spec.page_at word.now }
+{
+    numbered(word, b'b', 0, BIT_WORDS as u8 - 1)
+}
+
 /// Where the first dot of a word stands, if it has one.
 fn first_dot(text: &[u8]) -> Option<usize>
     ensures { result ≡ position spec.is_dot text.now }

@@ -6,7 +6,7 @@ ghost use Rattle.std.specs.Str.{bytes_eq};
 ghost use Rattle.wait_script.specs.Forms as spec;
 
 use crate::cells::{
-    clear_bit, complete, complete_all, is_done, lock_bit, reinit, set_var, simple_wait,
+    clear_bit, complete, complete_all, is_done, lock_bit, lock_page, reinit, set_var, simple_wait,
     simple_wake, try_bit, try_wait, wait_bit, wait_for, wait_var,
 };
 use crate::fields::{
@@ -145,9 +145,9 @@ fn kick(version: Version, words: &[&[u8]]) -> Result<Call, Reason>
     Ok(Call::Kick { who })
 }
 
-/// A call of a script of this version, by its name and the words after it.
-pub fn named(version: Version, name: &[u8], rest: &[&[u8]]) -> Result<Call, Reason>
-    ensures { result ≡ spec.named_at version name.now (map (λ w. w.now) rest.now) }
+/// A call that scripts of all versions have, by its name and the words after it.
+fn shared(version: Version, name: &[u8], rest: &[&[u8]]) -> Result<Call, Reason>
+    ensures { result ≡ spec.call_in (spec.shared_forms version) name.now (map (λ w. w.now) rest.now) }
 {
     match name {
         b"wait" => wait(rest),
@@ -176,6 +176,34 @@ pub fn named(version: Version, name: &[u8], rest: &[&[u8]]) -> Result<Call, Reas
         b"waitvar" => wait_var(rest),
         b"setvar" => set_var(rest),
         _ => Err(Reason::UnknownWord),
+    }
+}
+
+/// Whether a call's name is `lockpage`.
+fn is_lock_page(name: &[u8]) -> bool
+    ensures { result ≡ bytes_eq name.now (codes "lockpage") }
+{
+    matches!(name, b"lockpage")
+}
+
+/// A call of a script of version 2, by its name and the words after it.
+fn second(name: &[u8], rest: &[&[u8]]) -> Result<Call, Reason>
+    ensures { result ≡ spec.named_at Version.Two name.now (map (λ w. w.now) rest.now) }
+{
+    if is_lock_page(name) {
+        lock_page(rest)
+    } else {
+        shared(Version::Two, name, rest)
+    }
+}
+
+/// A call of a script of this version, by its name and the words after it.
+pub fn named(version: Version, name: &[u8], rest: &[&[u8]]) -> Result<Call, Reason>
+    ensures { result ≡ spec.named_at version name.now (map (λ w. w.now) rest.now) }
+{
+    match version {
+        Version::One => shared(version, name, rest),
+        Version::Two => second(name, rest),
     }
 }
 

@@ -226,6 +226,27 @@ fn each_call_is_read_in_both_versions(rt: HostRuntime) -> Result<(), Fail> {
     Ok(())
 }
 
+#[test]
+fn pages_are_locked_in_version_2_alone(rt: HostRuntime) -> Result<(), Fail> {
+    for line in [
+        b"call 0 lockpage b0 plain".as_slice(),
+        b"call 127 lockpage b127 int",
+        b"call 9 lockpage b64 kill",
+    ] {
+        let read = read_after(rt.alloc(), b"waitq 1", line)?;
+        let is_unknown = matches!(
+            read,
+            Err(ReadScript::Bad {
+                line: 2,
+                why: Reason::UnknownWord
+            })
+        );
+        assert!(rt; is_unknown);
+        assert_eq!(rt; read_after(rt.alloc(), b"waitq 2", line)?, Ok(1));
+    }
+    Ok(())
+}
+
 /// Lines with greater numbers than version 1 takes.
 const GREATER: &str = "\
 step 128 1\n\
@@ -300,7 +321,7 @@ fn each_event_and_answer_has_its_text(rt: HostRuntime) -> Result<(), Fail> {
         },
         ended: Some(Answer::Worn),
     };
-    let rows: [(Stepped, &str); 37] = [
+    let rows: [(Stepped, &str); 39] = [
         (made(Event::State { state: 0 }), "t7 state run\n"),
         (made(Event::State { state: 1 }), "t7 state int\n"),
         (made(Event::State { state: 2 }), "t7 state unint\n"),
@@ -386,6 +407,15 @@ fn each_event_and_answer_has_its_text(rt: HostRuntime) -> Result<(), Fail> {
             }),
             "t7 tas b127.63 1\n",
         ),
+        (
+            made(Event::TasFor {
+                word: 127,
+                who: 255,
+                found: 1,
+            }),
+            "t7 tas b127.0 1 t255\n",
+        ),
+        (made(Event::Handed { who: 255 }), "t7 handed t255\n"),
         (made(Event::Clear { word: 0, bit: 5 }), "t7 clear b0.5\n"),
         (
             made(Event::Signal {

@@ -10,7 +10,7 @@ use wait_model::layout::{SCRIPT_SELECTED, SCRIPT_TASKS, TASKS};
 pub enum Version {
     /// Tasks 0 to 127, and wakes of at most 127 exclusive entries.
     One,
-    /// All tasks of a core, 0 to 255, and wakes of at most 255 exclusive entries.
+    /// All tasks of a core, 0 to 255, wakes of at most 255 exclusive entries, and the call `lockpage`.
     Two,
 }
 

@@ -1,6 +1,6 @@
 use Rattle.std.proofs.Common.{◌≡◌, codes, arith, rules}
 use Rattle.std.proofs.lemmas.Slice.Eq.{text_from_reads}
-use Rattle.wait_script.proofs.forms.named.Goals as goal
+use Rattle.wait_script.proofs.forms.shared.Goals as goal
 
 pub returns-in-woken : goal.returns-in-woken
 returns-in-woken c =

@@ -4,6 +4,8 @@
 mod command;
 mod drill;
 mod fault;
+#[cfg(test)]
+mod page_rows;
 mod play;
 #[cfg(test)]
 mod refused_rows;

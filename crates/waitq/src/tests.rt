@@ -1,5 +1,6 @@
 //! Worked scripts, refusals and faults through `run`.
 
+use crate::page_rows::{PAGE_CALL_IN_VERSION_1, PAGE_HANDED_ON, PAGE_TAKEN_BY_STRANGER};
 use crate::refused_rows::{
     BAD_CONDITION, BAD_NUMBER, CUT_LINE, LONG_LINE, NO_HEADER, NOTHING, REFUSED_OPEN,
     REFUSED_OPEN_READ, SIMPLE_WAKE_ON_A_FULL_QUEUE, TOO_MANY_EVENTS, UNKNOWN_WORD,
@@ -75,6 +76,8 @@ fn worked_scripts_have_their_texts(rt: HostRuntime) -> Result<(), Fail> {
         COMPLETIONS,
         TWO_WAITERS_ONE_PERMIT,
         BIT_LOCK_SIGNALLED,
+        PAGE_HANDED_ON,
+        PAGE_TAKEN_BY_STRANGER,
     ] {
         let ran = run_on(&rt, &["replay"], row.script.as_bytes(), &[], &[], &[])?;
         meets(&rt, row, &ran);
@@ -93,6 +96,7 @@ fn bad_scripts_have_their_lines(rt: HostRuntime) -> Result<(), Fail> {
         BAD_NUMBER,
         BAD_CONDITION,
         TOO_MANY_EVENTS,
+        PAGE_CALL_IN_VERSION_1,
     ] {
         let ran = run_on(&rt, &["replay"], row.script.as_bytes(), &[], &[], &[])?;
         meets(&rt, row, &ran);

@@ -1,5 +1,6 @@
 #!/usr/bin/env bash
-# Tests the start script ./waitq on toy repositories: a program waitq over a library, both of a few lines.
+# Tests the start script ./waitq on toy repositories: a program waitq over a library, both of a few lines, and for its
+# other name a program waitq_chart.
 # What the prover refuses is planted for the kit's rt itself; runs that change, stop or overlap while they
 # build have a stand-in for rt, which builds at once what the source says.
 #
@@ -13,9 +14,9 @@ toy="$work/a toy"
 passed=0
 failed=0
 
-# Writes the program's source, which shows the number behind $1, and claims that it is $2.
+# Writes the source of the program $3 (waitq), which shows the number after $1, and claims that it is $2.
 write_program() {
-    cat >"$toy/crates/waitq/src/main.rt" <<END
+    cat >"$toy/crates/${3:-waitq}/src/main.rt" <<END
 //! Shows a number.
 #![tactic(auto)]
 
@@ -40,10 +41,11 @@ END
 
 # Writes the repository, with a copy of the start script.
 write_toy() {
-    mkdir -p -- "$toy/crates/lower/src" "$toy/crates/waitq/src"
+    mkdir -p -- "$toy/crates/lower/src" "$toy/crates/waitq/src" "$toy/crates/waitq_chart/src"
+    write_program 4 5 waitq_chart
     cp -- "$start" "$toy/waitq"
     printf 'Handles allowed: none.\n' >"$toy/HANDLES"
-    printf '# Two crates.\nwaitq: lower\nlower:\n' >"$toy/crates.txt"
+    printf '# Three crates.\nwaitq: lower\nlower:\nwaitq_chart: lower\n' >"$toy/crates.txt"
     cat >"$toy/crates/lower/src/lib.rt" <<'END'
 //! Numbers.
 #![tactic(auto)]
@@ -74,17 +76,17 @@ echo "$*" >>"$CALLS"
 [ "$1" = run ] || exit 0
 mkdir -p out
 number=$(sed -n 's/.*next(\(.*\)).*/\1/p' src/main.rt)
-printf '#!/usr/bin/env bash\necho stand-in %s\n' "$number" >out/waitq
-chmod +x out/waitq
+printf '#!/usr/bin/env bash\necho stand-in %s\n' "$number" >"out/${PWD##*/}"
+chmod +x "out/${PWD##*/}"
 eval "${MEDDLE:-}"
 END
     chmod +x -- "$work/stand_in/rt"
 }
 
-# Runs the start script with the PATH $1, from another folder by a link; leaves its status, and its streams in
-# $work/out and $work/err.
+# Runs the start script with the PATH $1, from another folder by a link of the name $2 (link); leaves its status, and
+# its streams in $work/out and $work/err.
 run() {
-    (cd / && PATH=$1 CALLS=$work/calls "$work/link" replay </dev/null >"$work/out" 2>"$work/err")
+    (cd / && PATH=$1 CALLS=$work/calls "$work/${2:-link}" replay </dev/null >"$work/out" 2>"$work/err")
     status=$?
 }
 
@@ -162,6 +164,15 @@ cp -- "$work/first" "$work/err"
 expect "the first of two builds" 0 "stand-in 3" "stand-in 3"
 status=$(grep -c '^run' "$work/calls")
 expect "one build" 1 "stand-in 3" ""
+
+# By its other name it builds and keeps the other program, and leaves the first one.
+ln -s -- "$toy/waitq" "$work/waitq_chart"
+run "$stand_in" waitq_chart
+expect "the other name" 0 "stand-in 4" "waitq_chart: built"
+run "$without_rt" waitq_chart
+expect "the other name, built before" 0 "stand-in 4" ""
+run "$without_rt"
+expect "the first name, built before" 0 "stand-in 3" ""
 
 printf '%d passed, %d failed\n' "$passed" "$failed"
 [ "$failed" = 0 ]

@@ -457,12 +457,7 @@ fn sleep_event(domain: &Domain, task: &mut Task, run: &mut WaitRun) -> WaitTurn
 /// exchange changed meanwhile. It waits for nobody, and by single tries it needs no runtime value. It answers as
 /// `stretch` does, but at the stages of a hold the head is still held.
 #[inline(always)]
-pub fn advance(
-    domain: &Domain,
-    task: &mut Task,
-    run: &mut WaitRun,
-    stage: WaitStage,
-) -> WaitTurn
+pub fn advance(domain: &Domain, task: &mut Task, run: &mut WaitRun, stage: WaitStage) -> WaitTurn
     requires of { task.old.domain ≡ domain.now }
     requires at { IsAt task.old run.old stage }
     ensures advances { Advances task.old task.new run.old run.new stage result }

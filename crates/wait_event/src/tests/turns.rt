@@ -141,7 +141,15 @@ fn play<R: Wait>(
         seed = next_number(seed ^ turn);
         one_at = wait_if(domain, first, &mut one, one_at, seed % 5 < 2);
         two_at = wait_if(domain, second, &mut two, two_at, seed % 5 > 2);
-        wake_at = wake_if(rt, domain, waker, &mut wake, wake_at, &mut list, seed % 5 == 2);
+        wake_at = wake_if(
+            rt,
+            domain,
+            waker,
+            &mut wake,
+            wake_at,
+            &mut list,
+            seed % 5 == 2,
+        );
     }
     is_over(one_at) && is_over(two_at) && matches!(wake_at, WakeTurn::Done(_))
 }

@@ -8,6 +8,7 @@ pub mod HistoryLaws
 pub mod RunLaws
 pub mod WaitLaws
 pub mod AccountLaws
+pub mod PermitLaws
 pub mod FollowedLaws
 pub mod SentenceLaws
 pub mod WorkedScripts

@@ -1,3 +1,4 @@
+-- To be believed.
 -- What each call is about, which calls a task may open by their numbers, and where their programs begin.
 use Rattle.std.specs.Prelude.{ℕ, Bool, true, false, not, ◌&&◌, ◌||◌, nat_lt}
 use Rattle.wait_model.specs.declared.layout.TheConstants.{

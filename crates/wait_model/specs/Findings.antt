@@ -1,4 +1,5 @@
--- Findings: what a task may find at a point of its call, by what it has made of the call so far. (To be believed.)
+-- To be believed.
+-- Findings: what a task may find at a point of its call, by what it has made of the call so far.
 use Rattle.std.specs.Prelude.{ℕ, ◌≡◌, ◌<◌, ◌≤◌, Bool, true, false, None, is_some}
 use Rattle.wait_model.specs.declared.layout.TheConstants.{BREAK, ALL_DONE}
 use Rattle.wait_model.specs.declared.calls.Call.{Call}

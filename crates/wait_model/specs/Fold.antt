@@ -1,5 +1,5 @@
+-- Tied by laws to what is to be believed.
 -- What each step tells its task: a task's view is the fold of its history, with one equation for each step.
--- (To be believed by who reads the law in terms of views.)
 use Rattle.std.specs.Prelude.{
   ℕ,
   Bool,

@@ -1,5 +1,6 @@
+-- To be believed.
 -- A setter followed through time: it publishes a watch and then wakes whoever waits for it, to the end of the queue.
--- Whoever the watch was set for all the while does not sleep on it any more. (To be believed.)
+-- Whoever the watch was set for all the while does not sleep on it any more.
 use Rattle.std.specs.Prelude.{ℕ, ◌≡◌, ◌≤◌, Bool, true, false, not, List, [], ◌∷◌, ◌++◌}
 use Rattle.wait_model.specs.declared.layout.TheConstants.{EVENTS}
 use Rattle.wait_model.specs.declared.watches.Watch.{Watch}

@@ -1,5 +1,6 @@
+-- To be believed.
 -- A page that a walk took for a task is one that the task's open call locks: none is left with a task that does not
--- wait for it. A reader must believe this file.
+-- wait for it.
 use Rattle.std.specs.Prelude.{ℕ, ◌≡◌, ◌≤◌, List, Some}
 use Rattle.wait_model.specs.declared.layout.TheConstants.{EVENTS}
 use Rattle.wait_model.specs.declared.calls.Call.TheVariants as calls

@@ -46,11 +46,15 @@ pub mod Worked
 pub mod WorkedForms
 pub mod WorkedBits
 pub mod WorkedFollowed
+pub mod WorkedPermits
 pub mod Totals
 pub mod SignalCounts
 pub mod BitKeepers
 pub mod Lent
 pub mod DoneCounts
+pub mod Permits
+pub mod PermitFacts
+pub mod PermitPlaces
 pub mod Completions
 pub mod Counts
 pub mod EntryWords

@@ -1,4 +1,5 @@
--- The program of a call makes whatever follows its sentence, for findings that a task may have. (To be believed.)
+-- To be believed.
+-- The program of a call makes whatever follows its sentence, for findings that a task may have.
 use Rattle.std.specs.Prelude.{ℕ, ◌≡◌, false, List, [], ◌∷◌}
 use Rattle.wait_model.specs.declared.calls.Call.{Call}
 use Rattle.wait_model.specs.declared.calls.Event.{Event}

@@ -1,5 +1,5 @@
--- Which wakes a task owes, plainly over its history: from its publish until a wake of it has ended. (To be
--- believed.)
+-- To be believed.
+-- Which wakes a task owes, plainly over its history: from its publish until a wake of it has ended.
 use Rattle.std.specs.Prelude.{ℕ, ◌≡◌, ◌<◌, ◌⊎◌, true, List, [], ◌∷◌, ◌++◌}
 use Rattle.wait_model.specs.declared.layout.TheConstants.{ENTRIES}
 use Rattle.wait_model.specs.declared.watches.Watch.{Watch}

@@ -1,4 +1,5 @@
--- Phrases: what a call's events say, in the order in which they come. (To be believed.)
+-- To be believed.
+-- Phrases: what a call's events say, in the order in which they come.
 use Rattle.std.specs.Prelude.{◌≡◌, ℕ, zero, suc, Bool, true, false, List, [], ◌∷◌}
 use Rattle.wait_model.specs.declared.calls.Event.{Event}
 use Rattle.wait_model.specs.declared.calls.Answer.{Answer}

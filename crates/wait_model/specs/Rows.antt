@@ -1,5 +1,6 @@
--- Which steps a task may make: a word that it found is what stands there, and each row's condition. (To be
--- believed for steps outside of calls. That the steps of runs are such is proved.)
+-- To be believed.
+-- Which steps a task may make: a word that it found is what stands there, and each row's condition. Believed for steps
+-- outside of calls; that the steps of runs are such is proved.
 use Rattle.std.specs.Prelude.{ℕ, ◌≡◌, ◌<◌, ◌⊎◌, Bool, true, false, Option, Some, None, List, [], ◌∷◌}
 use Rattle.wait_model.specs.declared.layout.TheConstants.{ENTRIES}
 use Rattle.wait_model.specs.declared.watches.Watch.{Watch}

@@ -1,4 +1,5 @@
--- A look at all member words of a head without the lock. (To be believed.)
+-- To be believed.
+-- A look at all member words of a head without the lock.
 use Rattle.std.specs.Prelude.{ℕ, zero, suc, ◌≡◌, ◌≢◌, ◌-◌, Bool, true, false, List, [], ◌∷◌, ◌++◌}
 use Rattle.wait_model.specs.declared.layout.TheConstants.{MEMBER_WORDS}
 use Rattle.wait_model.specs.declared.watches.Watch.{Watch}

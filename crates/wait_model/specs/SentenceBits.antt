@@ -1,4 +1,5 @@
--- Waits for a bit. (To be believed.)
+-- To be believed.
+-- Waits for a bit.
 use Rattle.std.specs.Prelude.{ℕ, Bool, true, false, not, ◌&&◌, if◌then◌else◌}
 use Rattle.wait_model.specs.Phrases.{
   Phrase,

@@ -1,4 +1,5 @@
--- Completions: calls that raise a done count, and calls that lower it. (To be believed.)
+-- To be believed.
+-- Completions: calls that raise a done count, and calls that lower it.
 use Rattle.std.specs.Prelude.{ℕ, ◌+◌, ◌-◌, ◌≤◌, Bool, true, false, not, ◌==◌, if◌then◌else◌}
 use Rattle.wait_model.specs.declared.layout.TheConstants.{ALL_DONE}
 use Rattle.wait_model.specs.Phrases.{

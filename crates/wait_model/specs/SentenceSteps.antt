@@ -1,4 +1,5 @@
--- Steps and stretches of events that the sentences of calls share. (To be believed.)
+-- To be believed.
+-- Steps and stretches of events that the sentences of calls share.
 use Rattle.std.specs.Prelude.{ℕ, Bool, true, false, not, if◌then◌else◌, pos}
 use Rattle.wait_model.specs.declared.layout.TheConstants.{RESTART, INTERRUPTED}
 use Rattle.wait_model.specs.Phrases.{any, Phrase, ◌>>=◌, ◌>>◌, gives, makes, finds, maybe, when◌then◌otherwise◌}

@@ -1,4 +1,5 @@
--- Waits for a plain condition or a variable, and for a WOKEN flag. (To be believed.)
+-- To be believed.
+-- Waits for a plain condition or a variable, and for a WOKEN flag.
 use Rattle.std.specs.Prelude.{ℕ, Bool, true, false, if◌then◌else◌}
 use Rattle.wait_model.specs.Phrases.{
   Phrase,

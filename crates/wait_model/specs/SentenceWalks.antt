@@ -1,4 +1,5 @@
--- Walks of wake-ups and selections of simple queues. (To be believed.)
+-- To be believed.
+-- Walks of wake-ups and selections of simple queues.
 use Rattle.std.specs.Prelude.{ℕ, ◌+◌, ◌-◌, ◌<◌, ◌≤◌, Bool, true, false, ◌&&◌, ◌==◌, if◌then◌else◌, not}
 use Rattle.wait_model.specs.declared.layout.TheConstants.{BREAK}
 use Rattle.wait_model.specs.Phrases.{

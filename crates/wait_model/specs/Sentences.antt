@@ -1,6 +1,7 @@
--- Sentences: for each call, the lists of events that its task makes from the opening to the end, each with its
--- answer, and the function of the kernel that it follows. The phrases are in Phrases.antt, the stretches that calls
--- share in SentenceSteps.antt and beside it. (To be believed.)
+-- To be believed.
+-- Sentences: for each call, the lists of events that its task makes from the opening to the end, each with its answer,
+-- and the function of the kernel that it follows. The phrases are in Phrases.antt, the stretches that calls share in
+-- SentenceSteps.antt and beside it.
 use Rattle.std.specs.Prelude.{ℕ, Bool, true, false, if◌then◌else◌, List, ◌++◌}
 use Rattle.wait_model.specs.Phrases.{Phrase, ◌>>=◌, ◌>>◌, gives, makes, finds, any, ends}
 use Rattle.wait_model.specs.SentenceBits.{tries, waits_bit, locks_bit, locks_page}

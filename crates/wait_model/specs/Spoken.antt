@@ -1,5 +1,6 @@
+-- To be believed.
 -- In every run, what a task has made since it opened the call that it ends follows the sentence of the call, and the
--- answer is the one that the sentence gives. What it has made of an open call begins the sentence. (To be believed.)
+-- answer is the one that the sentence gives. What it has made of an open call begins the sentence.
 use Rattle.std.specs.Prelude.{ℕ, ◌≡◌, ◌≤◌, ◌==◌, if◌then◌else◌, List, [], ◌∷◌, ◌++◌}
 use Rattle.wait_model.specs.declared.layout.TheConstants.{EVENTS}
 use Rattle.wait_model.specs.declared.calls.Call.{Call}

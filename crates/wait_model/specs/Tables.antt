@@ -1,4 +1,5 @@
--- The table: what the words are, what each task has done, and what a step changes. (To be believed.)
+-- To be believed.
+-- The table: what the words are, what each task has done, and what a step changes.
 use Rattle.std.specs.Prelude.{
   ℕ,
   ◌+◌,

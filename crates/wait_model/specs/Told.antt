@@ -1,5 +1,5 @@
--- That views tell what the histories do: the law in terms of views says the same as the one in terms of
--- histories. (To be believed only by who reads the laws in terms of views.)
+-- Tied by laws to what is to be believed.
+-- That views tell what the histories do: the law in terms of views says the same as the one in terms of histories.
 use Rattle.std.specs.Prelude.{ℕ, ◌≡◌, Bool, true, false, ◌&&◌, ◌||◌, Option, Some, None, List, [], ◌∷◌, ◌++◌}
 use Rattle.wait_model.specs.declared.watches.Watch.{Watch}
 use Rattle.wait_model.specs.declared.watches.Watch.TheVariants as watch

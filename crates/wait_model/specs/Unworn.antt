@@ -1,4 +1,5 @@
--- No run meets a head at which no place is left. (To be believed.)
+-- To be believed.
+-- No run meets a head at which no place is left.
 use Rattle.std.specs.Prelude.{ℕ, ◌≡◌, ◌≢◌, ◌≤◌, List}
 use Rattle.wait_model.specs.declared.layout.TheConstants.{EVENTS}
 use Rattle.wait_model.specs.declared.calls.Call.{Call}

@@ -1,6 +1,7 @@
--- What a task knows by its history, and what that says: what it has checked, whom its wakes cover, which
--- entries its walk has passed. (To be believed by who reads the law in terms of views, in Laws. The one in
--- terms of histories, in Wakes, does without, and Told says how the two hang together.)
+-- Tied by laws to what is to be believed.
+-- What a task knows by its history, and what that says: what it has checked, whom its wakes cover, which entries its
+-- walk has passed. Laws speaks in these terms; Wakes, in terms of histories, does without; Told says how the two hang
+-- together.
 use Rattle.std.specs.Prelude.{
   ℕ,
   zero,

@@ -1,5 +1,5 @@
--- Walks, plainly over a task's history: the hold of a walk, the entries that it has called, and looks
--- without the lock. (To be believed.)
+-- To be believed.
+-- Walks, plainly over a task's history: the hold of a walk, the entries that it has called, and looks without the lock.
 use Rattle.std.specs.Prelude.{
   ℕ,
   zero,

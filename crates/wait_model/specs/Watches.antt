@@ -1,4 +1,5 @@
--- What tasks wait for, the heads at which they queue, and when a test fails. (To be believed.)
+-- To be believed.
+-- What tasks wait for, the heads at which they queue, and when a test fails.
 use Rattle.std.specs.Prelude.{
   ℕ,
   ◌+◌,

@@ -1,5 +1,5 @@
--- Worked scripts of setters that are followed through time: that the law speaks of them. (To be read as a check of the
--- definitions.)
+-- A check of the definitions.
+-- Worked scripts of setters that are followed through time: that the law speaks of them.
 use Rattle.std.specs.Prelude.{◌≡◌, ◌+◌, true, false, Some, List, [], ◌∷◌, ◌++◌}
 use Rattle.wait_model.specs.declared.layout.TheConstants.{FIRST_PLACE, FIRST_PLAIN_HEAD, UNINTERRUPTIBLE, RUNNABLE}
 use Rattle.wait_model.specs.declared.calls.Call.TheVariants as calls

@@ -3,6 +3,8 @@
 ghost use Rattle.wait_model.specs.Completions.{NoRunMiscounts};
 ghost use Rattle.wait_model.specs.Facts.{StepKeeps, StartKept};
 ghost use Rattle.wait_model.specs.Followed.{SettersLeaveNobody};
+ghost use Rattle.wait_model.specs.PermitFacts.{AccountedAreHanded, PermitsStartAccounted, PermitsStayAccounted};
+ghost use Rattle.wait_model.specs.Permits.{EveryRunHandsPermitsOn};
 ghost use Rattle.wait_model.specs.Programs.{WalksGoByAims};
 ghost use Rattle.wait_model.specs.Scans.{EmptyLooksEnd, FoundBitsEndNothing, WorkedScans};
 ghost use Rattle.wait_model.specs.Selections.{RunsAreOrderly};
@@ -17,6 +19,7 @@ ghost use Rattle.wait_model.specs.Worked.{ReplaysRun, WorkedScripts};
 ghost use Rattle.wait_model.specs.WorkedForms.{WorkedForms};
 ghost use Rattle.wait_model.specs.WorkedBits.{WorkedBits};
 ghost use Rattle.wait_model.specs.WorkedFollowed.{WorkedFollowed};
+ghost use Rattle.wait_model.specs.WorkedPermits.{WorkedPermits};
 ghost use Rattle.wait_model.specs.Unworn.{NoRunWears};
 ghost use Rattle.wait_model.specs.SignalCounts.{SignalsStartRaised, SignalsStayRaised, NoRunInventsSignals};
 ghost use Rattle.wait_model.specs.BitKeepers.{KeepsTold, BitsStartKept, BitsStayKept, EveryRunKeepsBits};
@@ -144,6 +147,18 @@ pub fn counts_are_balanced()
     ensures step { CountsStayBalanced }
     ensures takes { TakesAreCompleted }
     ensures run { NoRunMiscounts }
+{}
+
+/// Permits of completions are handed on exactly: while a task is queued at the head of a completion, and nobody holds
+/// it, the count is at most the number of tasks that were handed a permit and have still to take it. The account that
+/// makes it so is true at the start and kept by every step that meets its condition, and every run hands permits on.
+/// `worked` are small histories, computed.
+pub fn permits_are_handed_on()
+    ensures start { PermitsStartAccounted }
+    ensures step { PermitsStayAccounted }
+    ensures handed { AccountedAreHanded }
+    ensures run { EveryRunHandsPermitsOn }
+    ensures worked { WorkedPermits }
 {}
 
 /// In every run, what a task has made since it opened the call that it ends follows the sentence of the call, and the

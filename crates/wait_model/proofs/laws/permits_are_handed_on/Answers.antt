@@ -1,0 +1,19 @@
+use Rattle.wait_model.proofs.PermitLaws.PermitScripts.{worked_permits}
+use Rattle.wait_model.proofs.PermitLaws.PermitSteps.{accounted_start, accounted_step, accounted_handed}
+use Rattle.wait_model.proofs.PermitLaws.PermitRuns.{every_run_hands_on}
+use Rattle.wait_model.proofs.laws.permits_are_handed_on.Goals as goal
+
+pub returns-clause-start : goal.returns-clause-start
+returns-clause-start c = accounted_start
+
+pub returns-clause-step : goal.returns-clause-step
+returns-clause-step c = accounted_step
+
+pub returns-clause-handed : goal.returns-clause-handed
+returns-clause-handed c = accounted_handed
+
+pub returns-clause-run : goal.returns-clause-run
+returns-clause-run c = every_run_hands_on
+
+pub returns-clause-worked : goal.returns-clause-worked
+returns-clause-worked c = worked_permits

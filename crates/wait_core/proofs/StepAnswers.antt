@@ -84,7 +84,8 @@ use Rattle.std.proofs.lemmas.Bool.Decides.{nat_tests}
 use Rattle.wait_core.specs.declared.engine.Stepped.{Stepped}
 use Rattle.wait_core.specs.declared.engine.Stepped.TheVariants as answers
 use Rattle.wait_core.specs.Ended.{answer_of}
-use Rattle.wait_core.specs.Stepped.{stepped, event_or_refusal, first_refusal, started}
+use Rattle.wait_core.specs.Stepped.{stepped, event_or_refusal, first_refusal, started, MayStep, IsFound}
+use Rattle.wait_core.specs.declared.reads.Found.{Found}
 use Rattle.wait_core.specs.declared.engine.StartFault.TheVariants as faults
 use Rattle.std.specs.declared.result.Result.TheVariants.{Ok, Err}
 use Rattle.wait_core.specs.Core.{IsCore, open_calls}
@@ -267,6 +268,31 @@ pub opened_at : (words : List ℕ) (points : List Progress) (items : List Ran) (
     → slice_get points me ≡ Some (now.Open call p)
 opened_at words points items count capacity core me slot r call p mine same read is =
     read_progress points me slot r core.tasks mine same read ∙ ap (λ (x : Progress). Some x) is
+
+-- an open call and its task, in the run of a core and as callers see it
+pub standing : (words : List ℕ) (points : List Progress) (items : List Ran) (count capacity : ℕ)
+    → IsCore words points items count capacity → (me : ℕ) → me < TASKS → (v : List Ran) → items ≡ v
+    → (call : Call) (p : Point) → MayStep v me call p → slice_get points me ≡ Some (now.Open call p)
+standing words points items count capacity core me mine v same call p may =
+    core.progress me mine ∙ ap Some (ap (λ (w : List Ran). (state_of w).progress me) same ∙ may.stands)
+
+pub awake_in : (items v : List Ran) → items ≡ v → (me : ℕ) (call : Call) (p : Point) → MayStep v me call p
+    → ((state_of items).table.task me).runnable ≡ true
+awake_in items v same me call p may = ap (λ (w : List Ran). ((state_of w).table.task me).runnable) same ∙ may.awake
+
+pub found_in : (items v : List Ran) → items ≡ v → (me : ℕ) (call : Call) (p : Point) (f : Found)
+    → IsFound v me call p f → IsFound items me call p f
+found_in items v same me call p f found = subst (λ (w : List Ran). IsFound w me call p f) (sym same) found
+
+pub may_step : (words : List ℕ) (points : List Progress) (items : List Ran) (count capacity : ℕ)
+    → IsCore words points items count capacity → (me : ℕ) → me < TASKS → (v : List Ran) → items ≡ v
+    → (call : Call) (p : Point) → slice_get points me ≡ Some (now.Open call p)
+    → ((state_of items).table.task me).runnable ≡ true → MayStep v me call p
+may_step words points items count capacity core me mine v same call p stands awake = record {
+  stands = sym (ap (λ (w : List Ran). (state_of w).progress me) same)
+      ∙ open_is words points items count capacity core me mine call p stands;
+  awake = sym (ap (λ (w : List Ran). ((state_of w).table.task me).runnable) same) ∙ awake;
+}
 
 -- what is read again there is the same
 pub opened_again : (points : List Progress) (me slot : ℕ) (r : Progress) (call : Call) (p : Point)

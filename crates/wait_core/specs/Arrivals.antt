@@ -1,3 +1,4 @@
+-- For proofs alone.
 -- Where a walk goes on, as the core has it.
 use Rattle.std.specs.Prelude.{◌≡◌}
 use Rattle.wait_model.specs.Queues.{Arrival}

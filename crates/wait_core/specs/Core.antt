@@ -1,4 +1,5 @@
--- What the parts of a core have in common: the words show the state of the stored run. (To be believed.)
+-- To be believed.
+-- What the parts of a core have in common: the words show the state of the stored run.
 use Rattle.std.specs.Prelude.{◌≡◌, ℕ, ◌+◌, ◌*◌, ◌<◌, ◌≤◌, List, slice_get, length, sum_by, if◌then◌else◌}
 use Rattle.wait_model.specs.declared.layout.TheConstants.{TASKS, MEMBERS, EVENTS, RUN_ITEMS}
 use Rattle.std.specs.declared.option.Option.{Option}

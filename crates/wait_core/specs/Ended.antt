@@ -1,3 +1,4 @@
+-- To be believed.
 -- The answer of a call that ended.
 use Rattle.std.specs.declared.option.Option.{Option}
 use Rattle.std.specs.declared.option.Option.TheVariants.{Some, None}

@@ -1,3 +1,4 @@
+-- For proofs alone.
 -- The members that stand, in one list by rising head and rank.
 use Rattle.std.specs.Prelude.{◌≡◌, ℕ, ◌+◌, ◌*◌, ◌<◌, List, length, slice_index_or, Option, Some}
 use Rattle.wait_model.specs.declared.layout.TheConstants.{TASKS, ENTRIES, MEMBERS, INDEXES}

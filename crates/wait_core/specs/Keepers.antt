@@ -1,3 +1,4 @@
+-- For proofs alone.
 -- Who keeps each bit, in a list by the bit's number: `WORD_BITS` times the word, and the bit. Beside it the page that a
 -- walk took for each task, which has not taken note of it yet.
 use Rattle.std.specs.Prelude.{

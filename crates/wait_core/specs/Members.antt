@@ -1,4 +1,5 @@
--- The members of a head: the entries that are queued at it and the bookmarks that stand at it. (To be believed.)
+-- To be believed.
+-- The members of a head: the entries that are queued at it and the bookmarks that stand at it.
 use Rattle.std.specs.Prelude.{◌≡◌, ℕ, ◌+◌, ◌<◌, ◌≤◌, ◌⊎◌, Option, Some, None}
 use Rattle.wait_model.specs.declared.layout.TheConstants.{TASKS, ENTRIES}
 use Rattle.wait_model.specs.declared.watches.Entry.{Entry}

@@ -1,3 +1,4 @@
+-- For proofs alone.
 -- The member that a scan over the words of entries and bookmarks finds.
 use Rattle.std.specs.Prelude.{
   ◌≡◌,

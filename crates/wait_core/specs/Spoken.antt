@@ -1,4 +1,5 @@
--- What a task has made of its open call, and of the call that a step ends. (To be believed.)
+-- To be believed.
+-- What a task has made of its open call, and of the call that a step ends.
 use Rattle.std.specs.Prelude.{ℕ, ◌≡◌, List, [], ◌∷◌, ◌++◌}
 use Rattle.std.specs.declared.option.Option.TheVariants.{Some}
 use Rattle.wait_model.specs.declared.calls.Call.{Call}

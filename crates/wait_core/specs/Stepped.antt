@@ -1,6 +1,23 @@
+-- To be believed.
 -- What a step answers, and what it adds to the run.
-use Rattle.std.specs.Prelude.{ℕ, Bool, true, false, ◌==◌, if◌then◌else◌, List, [], ◌∷◌}
-use Rattle.wait_model.specs.declared.layout.TheConstants.{EVENTS}
+use Rattle.std.specs.Prelude.{
+  ℕ,
+  ◌<◌,
+  ◌-◌,
+  ◌^◌,
+  Bool,
+  true,
+  false,
+  ◌≡◌,
+  ◌==◌,
+  if◌then◌else◌,
+  List,
+  [],
+  ◌∷◌,
+  ◌++◌,
+  IfSome,
+}
+use Rattle.wait_model.specs.declared.layout.TheConstants.{EVENTS, PLACES}
 use Rattle.std.specs.declared.option.Option.{Option}
 use Rattle.std.specs.declared.option.Option.TheVariants.{Some, None}
 use Rattle.std.specs.declared.result.Result.{Result}
@@ -11,9 +28,25 @@ use Rattle.wait_model.specs.declared.points.Progress.{Progress}
 use Rattle.wait_model.specs.declared.points.Progress.TheVariants as now
 use Rattle.wait_model.specs.declared.calls.Ran.{Ran}
 use Rattle.wait_model.specs.declared.calls.Ran.TheVariants as ran
-use Rattle.wait_model.specs.Runs.{State, own, planned, found_by, is_open, busy_head}
+use Rattle.wait_model.specs.declared.points.Point.{Point}
+use Rattle.wait_model.specs.Runs.{
+  State,
+  own,
+  planned,
+  found_by,
+  is_open,
+  busy_head,
+  state_of,
+  made_in,
+  seen_by,
+  arrives_at,
+}
+use Rattle.wait_model.specs.Followed.{LeavesNobody}
 use Rattle.wait_model.specs.Admission.{is_in_range, lacks_bit, is_queued_twice, lacks_entry}
-use Rattle.wait_model.specs.Points.{call_watch}
+use Rattle.wait_model.specs.Points.{call_watch, call_head}
+use Rattle.wait_model.specs.Programs.{IsFitting, IsFittingEntry}
+use Rattle.wait_core.specs.Arrivals.{arrived}
+use Rattle.wait_core.specs.declared.reads.Found.{Found}
 use Rattle.wait_core.specs.Ended.{answer_of}
 use Rattle.wait_core.specs.declared.engine.Stepped.{Stepped}
 use Rattle.wait_core.specs.declared.engine.Stepped.TheVariants as answers
@@ -37,6 +70,26 @@ stepped s made me (now.Open call p) =
 abbrev pub items_of : State → ℕ → Stepped → List Ran
 items_of s me (answers.Made e ended) = ran.Made me e (found_by s me e) ∷ []
 items_of s me _ = []
+
+-- a task that is awake and has a call open at a point
+pub record MayStep (run : List Ran) (me : ℕ) (call : Call) (p : Point) : Type 0 where
+  pub stands : (state_of run).progress me ≡ now.Open call p
+  pub awake : ((state_of run).table.task me).runnable ≡ true
+
+-- what such a task finds: the numbers of its call leave room for what the program adds to them
+pub record IsFound (run : List Ran) (me : ℕ) (call : Call) (p : Point) (found : Found) : Type 0 where
+  pub seen : found.seen ≡ seen_by (state_of run) me call p
+  pub walk : found.walk ≡ arrived (arrives_at (state_of run).table.entry call p ((state_of run).queue (call_head call)))
+  pub point : IsFitting p
+  pub entry : IsFittingEntry found.seen.called
+  pub calls : found.seen.calls < 2 ^ 32 - 1
+  pub member : IfSome found.walk.member (λ m. m.place < PLACES)
+
+-- a step of a task, from a run to a run that leaves nobody asleep whom a setter has published for and woken
+pub record IsStep (before : List Ran) (me : ℕ) (result : Stepped) (after : List Ran) : Type 0 where
+  pub answer : result ≡ stepped (state_of before) (made_in before) me ((state_of before).progress me)
+  pub run : after ≡ before ++ items_of (state_of before) me result
+  pub setters : LeavesNobody after
 
 -- the first refusal that stands
 abbrev pub first_refusal : Bool → Bool → Bool → Bool → Result (Unit {0}) StartFault

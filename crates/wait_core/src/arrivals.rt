@@ -59,6 +59,7 @@ fn is_called(words: &[u64], watch: Watch, at: u16) -> bool
 }
 
 /// Where a walk for a watch goes on from a place, in a hold that has called so many entries.
+#[inline(always)]
 pub fn arrive(
     words: &[u64],
     index: &[RankedMember],

@@ -28,6 +28,7 @@ use wait_model::words::{
 };
 
 /// The word of the entry that an add queues.
+#[inline(always)]
 fn added_word_at(
     words: &[u64],
     index: &[RankedMember],
@@ -65,6 +66,7 @@ fn in_state(task: TaskRecord, state: u32) -> TaskRecord
 
 /// The word that an event of a call leaves, by the word that it found and by where the walk of the call went on.
 #[tactic(auto, using(crate::proofs::FoundMembers::cond_found, crate::proofs::FoundMembers::entry_word_is, crate::proofs::FoundMembers::task_found, crate::proofs::FoundMembers::task_word_is, crate::proofs::FoundMembers::spent_found, crate::proofs::FoundMembers::flag_is))]
+#[inline(always)]
 pub fn left_by(
     words: &[u64],
     index: &[RankedMember],
@@ -112,6 +114,7 @@ pub fn left_by(
 
 /// The class of the word of an event.
 #[tactic(auto, using(crate::proofs::IndexChanges::cond_class))]
+#[inline(always)]
 pub fn class_at(me: u8, event: Event) -> Class
     requires event { IsInRange event }
     ensures class { result ≡ class_of (location_of me event) }
@@ -138,6 +141,7 @@ pub struct Change {
 }
 
 /// How an event of a call changes its word, by where the walk of the call went on.
+#[inline(always)]
 pub fn change_by(
     words: &[u64],
     index: &[RankedMember],

@@ -8,6 +8,7 @@ ghost use Rattle.wait_model.specs.Locations.{Shows};
 ghost use Rattle.wait_model.specs.Tables.{start};
 ghost use Rattle.wait_model.specs.Followed.{LeavesNobody};
 ghost use Rattle.wait_model.specs.Runs.{is_open, progress_at};
+ghost use Rattle.wait_model.specs.Programs.{program};
 ghost use Rattle.wait_model.specs.Admission.{IsListed};
 ghost use Rattle.wait_model.specs.declared.points.Point.{Point};
 ghost use Rattle.wait_model.specs.declared.points.Progress.TheVariants as now;
@@ -17,7 +18,7 @@ ghost use Rattle.wait_core.specs.Spoken.{EndsSentence};
 use crate::changes::{change_by, class_at};
 use crate::index::{RankedMember, reindex};
 use crate::keepers::{keep, keeps_of, no_keepers, none_taken};
-use crate::reads::{arrived_at, held_head, plan, read_entry, read_task};
+use crate::reads::{Found, arrived_at, held_head, read_entry, read_task, seen_at};
 use crate::scan::member_ranked;
 use std::alloc::{AllocError, Global};
 use std::marker::Model;
@@ -25,7 +26,7 @@ use thiserror::Error;
 use wait_model::admission::{is_in_range, is_queued_twice, lacks_bit, lacks_entry};
 use wait_model::calls::{Answer, Call, Event, Ran};
 use wait_model::layout::{ENTRY_AT, EVENTS, MEMBERS, RUN_ITEMS, RUNNABLE, TASK_AT, TASKS, WORDS};
-use wait_model::points::{Next, Progress};
+use wait_model::points::{Next, Planned, Point, Progress};
 use wait_model::programs::start_of;
 use wait_model::queues::Member;
 use wait_model::tasks::TaskRecord;
@@ -89,6 +90,7 @@ impl Core {
     ghost use Rattle.wait_model.specs.Openings.{IsOpened};
     ghost use Rattle.wait_model.specs.Laws.{NoLostWake, NoLostFlag};
     ghost use Rattle.wait_model.specs.Completions.{CountsAreBalanced};
+    ghost use Rattle.wait_model.specs.Permits.{PermitsAreHanded};
     ghost use Rattle.wait_model.specs.BitKeepers.{AreKept};
     ghost use Rattle.wait_model.specs.Lent.{NoPageIsLeft};
     ghost use Rattle.wait_model.specs.Selections.{IsOrderly};
@@ -99,6 +101,7 @@ impl Core {
     ghost use Rattle.wait_model.specs.Waiters.{NoWaiterIsLost};
     ghost use Rattle.wait_core.specs.Members.{IsNextAt};
     ghost use Rattle.wait_core.specs.Stepped.{stepped, items_of, started, opened_by, call_shown};
+    ghost use Rattle.wait_core.specs.Stepped.{MayStep, IsFound, IsStep};
 
     /// The run: the calls that were opened and the events that were made.
     pub fn ran(&self) -> &[Ran]
@@ -210,6 +213,16 @@ impl Core {
         let _ = &self.run;
     }
 
+    /// Permits of any core are handed on exactly: while the lock of a completion's head is free and a task is queued
+    /// there, the count is at most the number of tasks whose entry there another task took off and that have not taken
+    /// the lock since. (`complete`, `wait_for_common` in kernel/sched/completion.c, `swake_up_locked` in
+    /// kernel/sched/swait.c)
+    pub fn permits_are_handed_on(&self)
+        ensures { PermitsAreHanded (state_of self.now).table }
+    {
+        let _ = &self.run;
+    }
+
     /// What a task of any core has made of its open call follows the call's sentence as far as it goes.
     pub fn open_calls_begin(&self)
         ensures { (t : ℕ) → BeginsOpen self.now t }
@@ -275,32 +288,69 @@ impl Core {
         ensures sentence { EndsSentence self.old task result }
         ensures setters { LeavesNobody self.new }
     {
-        let slot = usize::from(task);
-        let Progress::Open { call, point } = self.progress[slot] else {
+        let Progress::Open { call, point } = self.progress[usize::from(task)] else {
             return Stepped::NoCall;
         };
         if !read_task(&self.words, task).runnable {
             return Stepped::Asleep;
         }
-        // No record hands out where the walk goes on beside the plan, nor the class beside the change: together that
-        // takes some 40 instructions an event.
+        self.step_open(task, call, point)
+    }
+
+    /// What a task finds at the point of its open call.
+    #[inline(always)]
+    pub(crate) fn look(&self, task: u8, call: Call, point: Point) -> Found
+        requires { MayStep self.now task call point }
+        ensures { IsFound self.now task call point result }
+    {
         let walk = arrived_at(&self.words, &self.index, call, point);
-        let planned = plan(&self.words, &self.index, task, call, point, walk);
-        if let Some(head) = held_head(&self.words, planned.event) {
+        let seen = seen_at(&self.words, &self.index, task, call, point, walk);
+        Found { seen, walk }
+    }
+
+    /// Makes the event that the program of a task's open call gives at its point, unless the event's lock is held or
+    /// the run is full.
+    #[inline(always)]
+    pub(crate) fn make(
+        &mut self,
+        task: u8,
+        call: Call,
+        point: Point,
+        found: Found,
+        planned: Planned,
+    ) -> Stepped
+        requires may { MayStep self.old task call point }
+        requires found { IsFound self.old task call point found }
+        requires planned { planned ≡ program task call point found.seen }
+        ensures { IsStep self.old task result self.new }
+    {
+        let event = planned.event;
+        if let Some(head) = held_head(&self.words, event) {
             return Stepped::Busy { head };
         }
         if self.made == EVENTS {
             return Stepped::Full;
         }
-        let event = planned.event;
-        let change = change_by(&self.words, &self.index, task, call, point, event, walk);
-        let found = change.found;
+        let change = change_by(
+            &self.words,
+            &self.index,
+            task,
+            call,
+            point,
+            event,
+            found.walk,
+        );
         let class = class_at(task, event);
         reindex(&mut self.index, &self.words, class, change.left);
         self.words[change.at] = change.left;
         keep(&mut self.keepers, &mut self.taken, task, event);
-        advance(&mut self.progress[slot], planned.next);
-        log(&mut self.run, Ran::Made { task, event, found });
+        advance(&mut self.progress[usize::from(task)], planned.next);
+        let item = Ran::Made {
+            task,
+            event,
+            found: change.found,
+        };
+        log(&mut self.run, item);
         self.made += 1;
         Stepped::Made {
             event,
@@ -310,6 +360,7 @@ impl Core {
 }
 
 /// Brings an open call along to where it stands after an event.
+#[inline(always)]
 fn advance(progress: &mut Progress, next: Next)
     ensures { (call : Call) (p : Point) → progress.old ≡ now.Open call p → progress.new ≡ progress_at call next }
 {
@@ -324,6 +375,7 @@ fn advance(progress: &mut Progress, next: Next)
 }
 
 /// The answer of a call that ended.
+#[inline(always)]
 fn ended(next: Next) -> Option<Answer>
     ensures { result ≡ answer_of next }
 {

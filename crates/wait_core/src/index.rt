@@ -155,6 +155,7 @@ fn mark_by(word: u64) -> Option<Mark>
 }
 
 /// Brings the list along with a word of a class that is about to change.
+#[inline(always)]
 pub fn reindex(index: &mut Vec<RankedMember>, words: &[u64], class: Class, left: u64)
     requires count { length words.now ≡ WORDS }
     requires class { IsClass class }

@@ -78,6 +78,7 @@ fn note(keepers: &mut Vec<Option<u8>>, task: u8, page: Option<u8>)
 }
 
 /// Notes who keeps the bit that an event set or cleared, for whom it took a page, and who took note of one.
+#[inline(always)]
 pub fn keep(keepers: &mut Vec<Option<u8>>, taken: &mut Vec<Option<u8>>, task: u8, event: Event)
     requires count { length keepers.old.items ≡ BITS }
     requires tasks { length taken.old.items ≡ TASKS }

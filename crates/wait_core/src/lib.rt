@@ -14,6 +14,7 @@ mod keepers;
 mod page_tests;
 mod reads;
 mod scan;
+mod steps;
 #[cfg(test)]
 mod test_steps;
 #[cfg(test)]

@@ -2,7 +2,7 @@
 
 ghost use Rattle.std.specs.Prelude.{◌≡◌, ℕ, ◌+◌, ◌*◌, ◌<◌, ◌≤◌, ◌^◌, ◌-◌, IfSome, length, false};
 ghost use Rattle.wait_model.specs.declared.layout.TheConstants.{TASKS, ENTRIES, HEADS, WORDS, PLACES};
-ghost use Rattle.wait_model.specs.Runs.{State, seen_by, arrives_at, walk_member, members_at, called_by, planned};
+ghost use Rattle.wait_model.specs.Runs.{State, seen_by, arrives_at, walk_member, members_at, called_by};
 ghost use Rattle.wait_model.specs.Runs.{busy_head, own};
 ghost use Rattle.wait_model.specs.Shown.{IsInRange};
 ghost use Rattle.wait_model.specs.Locations.{Shows};
@@ -20,13 +20,19 @@ use crate::index::RankedMember;
 use crate::scan::{entry_in, entry_ranked, mark_in, member_ranked};
 use wait_model::calls::{Call, Event};
 use wait_model::layout::SLOTS;
-use wait_model::points::{Planned, Point, Seen, SelectPoint, WalkPoint, about};
+use wait_model::points::{Point, Seen, SelectPoint, WalkPoint, about};
 use wait_model::positions;
-use wait_model::programs::next_event;
 use wait_model::queues::{CalledEntry, Mark, Member};
 use wait_model::tasks::{TaskRecord, task_of};
 use wait_model::watches::{Entry, Watch};
 use wait_model::words::{flag_of, held_of};
+
+/// What a task finds at its next event, and where its walk goes on.
+#[derive(Clone, Copy)]
+pub struct Found {
+    pub seen: Seen,
+    pub walk: Arrived,
+}
 
 /// A task's record.
 pub fn read_task(words: &[u64], who: u8) -> TaskRecord
@@ -75,6 +81,7 @@ pub fn is_held(words: &[u64], head: u16) -> bool
 }
 
 /// Where the walk of a call goes on.
+#[inline(always)]
 pub fn arrived_at(words: &[u64], index: &[RankedMember], call: Call, point: Point) -> Arrived
     requires count { length words.now ≡ WORDS }
     requires index { IsIndex (shown_stand words.now) index.now }
@@ -103,6 +110,7 @@ pub fn arrived_at(words: &[u64], index: &[RankedMember], call: Call, point: Poin
 }
 
 /// The member that a walk calls next, or that a selection takes.
+#[inline(always)]
 fn walk_at(
     words: &[u64],
     index: &[RankedMember],
@@ -126,6 +134,7 @@ fn walk_at(
 }
 
 /// Whether the head of a call has members, where the call looks for them.
+#[inline(always)]
 fn has_members(words: &[u64], index: &[RankedMember], call: Call, point: Point) -> bool
     requires count { length words.now ≡ WORDS }
     requires index { IsIndex (shown_stand words.now) index.now }
@@ -149,6 +158,7 @@ fn read_mark(words: &[u64], who: u8) -> Option<Mark>
 
 /// The entry of a member, and whose it is.
 #[tactic(auto, using(crate::proofs::FoundMembers::entry_shown_is))]
+#[inline(always)]
 fn called_in(words: &[u64], member: Option<Member>) -> Option<CalledEntry>
     requires count { length words.now ≡ WORDS }
     requires member { IfSome member (λ m. m.at < ENTRIES) }
@@ -171,7 +181,8 @@ fn called_in(words: &[u64], member: Option<Member>) -> Option<CalledEntry>
 }
 
 /// What a task finds at its next event, by where its walk goes on.
-fn seen_at(
+#[inline(always)]
+pub fn seen_at(
     words: &[u64],
     index: &[RankedMember],
     me: u8,
@@ -205,29 +216,6 @@ fn seen_at(
         mark: read_mark(words, me),
         other: read_task(words, about(call, point, called)),
     }
-}
-
-/// The next event of a task's open call, and where its program goes, by where its walk goes on.
-pub fn plan(
-    words: &[u64],
-    index: &[RankedMember],
-    me: u8,
-    call: Call,
-    point: Point,
-    walk: Arrived,
-) -> Planned
-    requires count { length words.now ≡ WORDS }
-    requires index { IsIndex (shown_stand words.now) index.now }
-    requires call { IsThere (call_watch call) }
-    requires point { IsReachable call point × IsFitting point }
-    requires entry { walk.breaks ≡ false → IfSome walk.member (λ m. m.at < ENTRIES) }
-    requires calls { walk.calls < 2 ^ 32 - 1 }
-    ensures { (s : State) (n : ℕ) → Shows words.now s.table → IsSound s n
-        → walk ≡ arrived (arrives_at s.table.entry call point (s.queue (call_head call)))
-        → result ≡ planned s me call point }
-{
-    let seen = seen_at(words, index, me, call, point, walk);
-    next_event(me, call, point, seen)
 }
 
 /// The head whose lock the event would take while it is held.

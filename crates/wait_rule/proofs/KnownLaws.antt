@@ -1,6 +1,7 @@
 -- What a task knows after steps and looks, and what stays of it.
 pub mod Moments
 pub mod TableLaws
+pub mod FlagLaws
 pub mod SpentCounts
 pub mod AfterSteps
 pub mod SleepLooks
@@ -11,6 +12,7 @@ pub mod LookCounts
 pub mod SettledTasks
 pub mod TaskHistories
 pub mod OwnEntries
+pub mod HeldCounts
 pub mod StandingKinds
 pub mod HeadLinks
 pub mod MemberPlaces
@@ -21,3 +23,5 @@ pub mod TicketSteps
 pub mod Turns
 pub mod ServedUnlocks
 pub mod CarriedTasks
+pub mod CarriedCounts
+pub mod CarriedFlags

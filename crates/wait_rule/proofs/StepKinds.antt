@@ -7,3 +7,4 @@ pub mod EntryKinds
 pub mod FlagKinds
 pub mod MarkKinds
 pub mod CondKinds
+pub mod CountKinds

@@ -6,6 +6,8 @@ pub mod KeptSteps
 pub mod TaskMoves
 pub mod QueueMoves
 pub mod MemberMoves
+pub mod CountMoves
+pub mod FlagMoves
 pub mod BitMoves
 pub mod TicketMoves
 pub mod LookedBits

@@ -1,4 +1,5 @@
--- Where the members of a head stand in a hold, and at which places no place is left for an add. (To be believed.)
+-- To be believed.
+-- Where the members of a head stand in a hold, and at which places no place is left for an add.
 use Rattle.std.specs.Prelude.{
   ◌/◌,
   ℕ,

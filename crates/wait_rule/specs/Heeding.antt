@@ -1,4 +1,5 @@
--- What a wait that answers for a signal has found: the law on signals, by its events. (To be believed.)
+-- To be believed.
+-- What a wait that answers for a signal has found: the law on signals, by its events.
 use Rattle.std.specs.Prelude.{ℕ, ◌≡◌, Bool, true, false, List, [], ◌∷◌}
 use Rattle.wait_model.specs.declared.calls.Call.{Call}
 use Rattle.wait_model.specs.declared.calls.Call.TheVariants as calls

@@ -1,5 +1,5 @@
--- Tables to which steps of the tasks lead, one after another from the start, each allowed where it is made. (To be
--- believed.)
+-- To be believed.
+-- Tables to which steps of the tasks lead, one after another from the start, each allowed where it is made.
 use Rattle.std.specs.Prelude.{ℕ, ◌≡◌, ◌<◌, List, [], ◌∷◌}
 use Rattle.wait_model.specs.declared.layout.TheConstants.{TASKS}
 use Rattle.wait_model.specs.declared.steps.Step.{Step}

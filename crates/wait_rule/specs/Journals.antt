@@ -1,4 +1,5 @@
--- What the words and the journals of all tasks show: the words, and each number's list of items. (To be believed.)
+-- To be believed.
+-- What the words and the journals of all tasks show: the words, and each number's list of items.
 use Rattle.std.specs.Prelude.{ℕ, ◌+◌, ◌-◌, cond, eqb, ltb, leb, ◌&&◌, true, false, List, [], ◌∷◌, ◌++◌, slice_set}
 use Rattle.wait_model.specs.Functions.{put}
 use Rattle.wait_model.specs.Words.{flag}

@@ -8,6 +8,7 @@ pub mod TicketWords
 pub mod Places
 pub mod Ends
 pub mod Journals
+pub mod HeldValues
 pub mod Known
 pub mod LookCounts
 pub mod MemberLooks
@@ -15,12 +16,15 @@ pub mod Rule
 pub mod Says
 pub mod Unlocks
 pub mod TableLaws
+pub mod FlagLaws
 pub mod Heeding
 pub mod Selecting
 pub mod WorkedEvents
 pub mod Queues
 pub mod Stays
 pub mod Shown
+pub mod Counts
+pub mod CountPlays
 pub mod Transitions
 pub mod SaidEvents
 pub mod Worn
@@ -30,3 +34,4 @@ pub mod Plays
 pub mod QueuePlays
 pub mod Start
 pub mod Meeting
+pub mod Tried

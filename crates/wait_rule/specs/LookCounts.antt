@@ -1,4 +1,5 @@
--- How often a task has loaded words of entries, bookmarks and members, by its list. (To be believed.)
+-- To be believed.
+-- How often a task has loaded words of entries, bookmarks and members, by its list.
 use Rattle.std.specs.Prelude.{ℕ, ◌≡◌, ◌+◌, ◌-◌, ◌≤◌, List, [], ◌∷◌}
 use Rattle.wait_model.specs.declared.layout.TheConstants.{WORD_BITS}
 use Rattle.wait_model.specs.declared.steps.Step.{Step}

@@ -1,5 +1,6 @@
+-- To be believed.
 -- What a load of a member word tells in a hold: it stands for looks at the words of all its indexes, and each of these
--- names the head exactly where its bit is set. (To be believed.)
+-- names the head exactly where its bit is set.
 use Rattle.std.specs.Prelude.{ℕ, zero, suc, ◌≡◌, ◌+◌, ◌-◌, ◌*◌, Bool, true, false, nat_lt}
 use Rattle.wait_model.specs.declared.layout.TheConstants.{ENTRIES, WORD_BITS}
 use Rattle.wait_model.specs.declared.steps.Step.TheVariants as step

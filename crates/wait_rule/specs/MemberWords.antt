@@ -1,5 +1,5 @@
--- The words that stand beside the model's table: those by which a head knows its members, and tickets. (To be
--- believed.)
+-- To be believed.
+-- The words that stand beside the model's table: those by which a head knows its members, and tickets.
 use Rattle.std.specs.Prelude.{
   ℕ,
   ◌≡◌,

@@ -1,5 +1,5 @@
--- Whole runs of calls, as the model's sentences say them: the events that the transitions of a call are. (To be
--- believed.)
+-- To be believed.
+-- Whole runs of calls, as the model's sentences say them: the events that the transitions of a call are.
 use Rattle.std.specs.Prelude.{ℕ, ◌≡◌, ◌<◌, Bool, true, false, None, List, [], ◌∷◌, ◌++◌}
 use Rattle.wait_model.specs.declared.layout.TheConstants.{SLOTS, PLAIN_CONDITIONS}
 use Rattle.wait_model.specs.declared.calls.Call.{Call}

@@ -1,4 +1,5 @@
--- What the answer of a walk tells of whom it woke and selected: the law on selections, by its events. (To be believed.)
+-- To be believed.
+-- What the answer of a walk tells of whom it woke and selected: the law on selections, by its events.
 use Rattle.std.specs.Prelude.{
   ℕ,
   ◌≡◌,

@@ -1,4 +1,5 @@
--- The entries and the queue of a head, as a hold of it shows them. (To be believed.)
+-- To be believed.
+-- The entries and the queue of a head, as a hold of it shows them.
 use Rattle.std.specs.Prelude.{ℕ, zero, suc, Option, Some, None, List, []}
 use Rattle.wait_model.specs.declared.layout.TheConstants.{MEMBERS}
 use Rattle.wait_model.specs.declared.watches.Entry.{Entry}

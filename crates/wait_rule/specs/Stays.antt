@@ -1,4 +1,5 @@
--- What stays of a task while it looks, holds heads, queues and wakes. (To be believed.)
+-- To be believed.
+-- What stays of a task while it looks, holds heads, queues and wakes.
 use Rattle.std.specs.Prelude.{ℕ, ◌≡◌, ◌<◌, ◌⊎◌, ◌&&◌, ◌||◌, ◌==◌, not, Bool, true, false, Option, Some, None}
 use Rattle.wait_model.specs.declared.layout.TheConstants.{SLOTS}
 use Rattle.wait_model.specs.declared.watches.Watch.{Watch}

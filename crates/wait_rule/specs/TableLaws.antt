@@ -1,6 +1,7 @@
+-- To be believed.
 -- The laws of the model on a Domain: wakeups, signals, bits and completions, in each table that meets the rule, at each
--- moment before, and by the lists of a task that has joined all others. (To be believed.)
-use Rattle.std.specs.Prelude.{ℕ, ◌≡◌, ◌-◌, ◌^◌, ◌<◌, ◌≤◌, ◌⊎◌, ◌==◌, ◌&&◌, List}
+-- moment before, and by the lists of a task that has joined all others.
+use Rattle.std.specs.Prelude.{ℕ, ◌≡◌, ◌+◌, ◌-◌, ◌^◌, ◌<◌, ◌≤◌, ◌⊎◌, ◌==◌, ◌&&◌, List}
 use Rattle.wait_model.specs.declared.layout.TheConstants.{TASKS}
 use Rattle.wait_model.specs.declared.steps.Step.{Step}
 use Rattle.wait_model.specs.declared.steps.Step.TheVariants as step
@@ -10,7 +11,16 @@ use Rattle.wait_model.specs.Totals.{total, total_below}
 use Rattle.wait_model.specs.Wakes.{NoWakeIsLost}
 use Rattle.wait_model.specs.SignalCounts.{AreRaised, takes_fatal, takes_any, raises_fatal, raises_any}
 use Rattle.wait_model.specs.BitKeepers.{AreKept}
-use Rattle.wait_model.specs.DoneCounts.{IsBalanced}
+use Rattle.wait_model.specs.DoneCounts.{
+  IsBalanced,
+  of_store,
+  raises_by_one,
+  lowers_by_one,
+  grants,
+  throws,
+  ends_count,
+}
+use Rattle.wait_model.specs.Histories.{Lacks}
 use Rattle.wait_rule.specs.declared.journal.Item.{Item}
 use Rattle.wait_rule.specs.declared.journal.Journal.{Journal}
 use Rattle.wait_rule.specs.Interleavings.{TaskStep, table_of, AreAllowed}
@@ -79,3 +89,24 @@ RuleKeepsBits = (s : Table) (items : ℕ → List Item) → IsRuled s items → 
 
 abbrev pub RuleBalances : Type 0
 RuleBalances = (s : Table) (items : ℕ → List Item) → IsRuled s items → (d : ℕ) → IsBalanced TASKS s d
+
+-- what the stores of completion d count for, by the histories of all tasks
+abbrev pub stored_in : (ℕ → ℕ → ℕ) → ℕ → (ℕ → List Step) → ℕ
+stored_in count d history = total_below TASKS (of_store count d) history
+
+-- by the lists of all tasks: raised and granted are lowered, thrown away and what stands
+abbrev pub AllBalance : Type 0
+AllBalance = (v : Journal) (law : IsShown v) → HasAll v → (d : ℕ)
+    → stored_in raises_by_one d (histories_in v) + stored_in grants d (histories_in v)
+    ≡ stored_in lowers_by_one d (histories_in v) + stored_in throws d (histories_in v) + law.table.words.dones d
+
+-- Where no store made a count its end but by one more, no more was taken than was made.
+abbrev pub TakesMade : (ℕ → List Step) → ℕ → Type 0
+TakesMade history d = ((t : ℕ) → t < TASKS → Lacks (ends_count d) (history t))
+    → stored_in lowers_by_one d history ≤ stored_in raises_by_one d history
+
+abbrev pub RuleTakesMade : Type 0
+RuleTakesMade = (s : Table) (items : ℕ → List Item) → IsRuled s items → (d : ℕ) → TakesMade s.history d
+
+abbrev pub AllTakeMade : Type 0
+AllTakeMade = (v : Journal) → IsShown v → HasAll v → (d : ℕ) → TakesMade (histories_in v) d

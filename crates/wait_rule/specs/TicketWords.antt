@@ -1,4 +1,5 @@
--- The tickets of heads: which are out, which is served, and what the two words of a head show. (To be believed.)
+-- To be believed.
+-- The tickets of heads: which are out, which is served, and what the two words of a head show.
 use Rattle.std.specs.Prelude.{ℕ, ◌≡◌, ◌+◌, ◌%◌, ◌^◌, ◌<◌, ◌≤◌, ◌==◌, true, Some, List}
 use Rattle.wait_model.specs.declared.layout.TheConstants.{TASKS}
 use Rattle.wait_model.specs.declared.steps.Step.{Step}

@@ -1,4 +1,5 @@
--- Tickets of heads: what a task knows of the one that it has out. (To be believed.)
+-- To be believed.
+-- Tickets of heads: what a task knows of the one that it has out.
 use Rattle.std.specs.Prelude.{ℕ, ◌≡◌, ◌+◌, ◌%◌, ◌^◌, Bool, true, false, ◌&&◌, ◌==◌, zero, suc, if◌then◌else◌}
 use Rattle.wait_model.specs.Words.{flag}
 

@@ -1,25 +1,8 @@
+-- To be believed.
 -- The transitions of a call on a Domain: the task goes through the program of the call, the same that a core runs. Each
 -- event of the program is one step of its history, as a core would make it there; before it and after the last the
--- task looks at words. (To be believed.)
-use Rattle.std.specs.Prelude.{
-  ℕ,
-  ◌+◌,
-  ◌≡◌,
-  ◌<◌,
-  ◌==◌,
-  ◌||◌,
-  not,
-  Bool,
-  true,
-  false,
-  if◌then◌else◌,
-  Option,
-  Some,
-  None,
-  List,
-  [],
-  ◌∷◌,
-}
+-- task looks at words.
+use Rattle.std.specs.Prelude.{ℕ, ◌+◌, ◌≡◌, ◌<◌, ◌==◌, ◌||◌, not, Bool, true, false, Option, Some, None, List, [], ◌∷◌}
 use Rattle.wait_model.specs.declared.layout.TheConstants.{MEMBER_WORDS, PLACES, MIDDLE}
 use Rattle.wait_model.specs.declared.watches.Watch.{Watch}
 use Rattle.wait_model.specs.declared.watches.Entry.{Entry}
@@ -50,7 +33,7 @@ use Rattle.wait_model.specs.declared.points.Next.TheVariants as next
 use Rattle.wait_model.specs.declared.steps.Step.{Step}
 use Rattle.wait_model.specs.declared.steps.Step.TheVariants as step
 use Rattle.wait_model.specs.Tasks.{task_of}
-use Rattle.wait_model.specs.Watches.{owner, same}
+use Rattle.wait_model.specs.Watches.{owner}
 use Rattle.wait_model.specs.Words.{entry_of, flag_of}
 use Rattle.wait_model.specs.Views.{Look, unseen, off, elsewhere, shown}
 use Rattle.wait_model.specs.Queues.{Arrival, is_within, place_for, entry_from}
@@ -61,6 +44,7 @@ use Rattle.wait_model.specs.Runs.{entry_for, is_publishing, arrives_from, called
 use Rattle.wait_rule.specs.declared.journal.Item.{Item}
 use Rattle.wait_rule.specs.declared.journal.Item.TheVariants as item
 use Rattle.wait_rule.specs.Items.{book_from}
+use Rattle.wait_rule.specs.HeldValues.{value_from}
 use Rattle.wait_rule.specs.Known.{Known}
 use Rattle.wait_rule.specs.Says.{told_of, history_of, noted, added, grown}
 use Rattle.wait_rule.specs.Queues.{IsWholeBook, IsWalkOfCall, at_head, index}
@@ -232,17 +216,6 @@ FindsOwn k None seen = ⊥
 FindsOwn k (Some x) seen = IsSeenAs ((told_of k).hold.book x) seen.entry
 
 -- the value of a condition, where this hold has loaded or stored it
-abbrev pub value_after : Watch → Step → Option ℕ → Option ℕ
-value_after c (step.Lock h aim w) o = None
-value_after c (step.Load l r) o = if same l c then Some r else o
-value_after c (step.Publish l n r) o = if same l c then Some n else o
-value_after c (step.Consume l n r) o = if same l c then Some n else o
-value_after c _ o = o
-
-abbrev pub value_from : Watch → Option ℕ → List Step → Option ℕ
-value_from c o [] = o
-value_from c o (e ∷ es) = value_from c (value_after c e o) es
-
 abbrev pub FindsValue : Known → Watch → Seen → Type 0
 FindsValue k c seen = value_from c None (history_of k) ≡ Some seen.value
 

@@ -1,4 +1,5 @@
--- What the served number of a head tells a task that has the histories of all. (To be believed.)
+-- To be believed.
+-- What the served number of a head tells a task that has the histories of all.
 use Rattle.std.specs.Prelude.{ℕ, ◌≡◌, ◌+◌, ◌%◌, ◌^◌, ◌<◌, ◌≤◌}
 use Rattle.wait_model.specs.declared.layout.TheConstants.{TASKS}
 use Rattle.wait_rule.specs.declared.journal.Journal.{Journal}

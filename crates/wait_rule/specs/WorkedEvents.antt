@@ -1,4 +1,5 @@
--- What the definitions of events and of interleaved steps say of small lists. (Checked by computing.)
+-- A check of the definitions.
+-- What the definitions of events and of interleaved steps say of small lists.
 use Rattle.std.specs.Prelude.{◌≡◌, true, false, List, [], ◌∷◌}
 use Rattle.wait_model.specs.declared.calls.Call.TheVariants as calls
 use Rattle.wait_model.specs.declared.calls.Event.{Event}

@@ -1,4 +1,5 @@
--- Worked histories of holds: what the definitions say of small ones. (To be read as a check of the definitions.)
+-- A check of the definitions.
+-- Worked histories of holds: what the definitions say of small ones.
 use Rattle.std.specs.Prelude.{◌+◌, ◌-◌, ℕ, zero, suc, ◌≡◌, Bool, true, false, Option, Some, None, List, [], ◌∷◌, ◌++◌}
 use Rattle.atomic_table.specs.Seated.{TableId}
 use Rattle.wait_model.specs.declared.layout.TheConstants.{

@@ -7,11 +7,13 @@ ghost use Rattle.wait_rule.specs.Worn.{HoldsNote, NotesStay, JoinKeepsNotes};
 ghost use Rattle.wait_rule.specs.WorkedEvents.{WorkedEvents};
 ghost use Rattle.wait_rule.specs.WorkedHolds.{SimpleHolds, CallsRightly, PausesRightly};
 ghost use Rattle.wait_rule.specs.Heeding.{RunsHeed, WordsHeed};
+ghost use Rattle.wait_rule.specs.FlagLaws.{FlagsComeFirst, RuleLosesNoFlag, StepsLoseNoFlag, WorkedFlags};
 ghost use Rattle.wait_rule.specs.SaidEvents.{RunsBegin, RunsFollow, WalksFollow};
 ghost use Rattle.wait_rule.specs.Selecting.{RunsSelect, RunsTell, WordsSelect};
 ghost use Rattle.wait_rule.specs.TableLaws.{RuleLosesNoWake, StepsLoseNoWake, AllLoseNoWake};
 ghost use Rattle.wait_rule.specs.TableLaws.{RuleCountsSpent, AllCountSpent};
 ghost use Rattle.wait_rule.specs.TableLaws.{RuleInventsNoSignal, AllTookRaised, RuleKeepsBits, RuleBalances};
+ghost use Rattle.wait_rule.specs.TableLaws.{AllBalance, RuleTakesMade, AllTakeMade};
 ghost use Rattle.wait_rule.specs.Unlocks.{AllUnlocksCount};
 
 use crate::domain::{Domain, Task};
@@ -104,14 +106,30 @@ pub fn no_wake_lost()
     ensures all_spent { AllCountSpent }
 {}
 
+/// No flag of an entry of kind Woken is lost on a Domain: in each table that meets the rule, and after each step of
+/// each order of allowed steps. Where the owner of such an entry loaded its condition as not set since it queued it and
+/// cleared its flag, and the condition is set and the flag is not, some task owes the wake, for tasks in whatever
+/// state, and has still to set the flag; or wakes used up their count since. A walk is past such an entry only once it
+/// has set the flag and woken the task after that.
+pub fn no_flag_lost()
+    ensures rule { RuleLosesNoFlag }
+    ensures steps { StepsLoseNoFlag }
+    ensures order { FlagsComeFirst }
+    ensures worked { WorkedFlags }
+{}
+
 /// On a Domain no task takes a signal that was not raised at it; a bit is set exactly where one task keeps it; the
 /// counts of completions are balanced: in each table that meets the rule. To a task that has joined all others the
-/// first is told of the histories that it has.
+/// first and the last are told of the histories that it has. So no more of a completion was taken than was made, where
+/// no store but one of one more made its count the end (`complete_all` does).
 pub fn words_are_accounted()
     ensures signals { RuleInventsNoSignal }
     ensures told { AllTookRaised }
     ensures bits { RuleKeepsBits }
     ensures counts { RuleBalances }
+    ensures balance { AllBalance }
+    ensures taken { RuleTakesMade }
+    ensures all_taken { AllTakeMade }
 {}
 
 /// What the definitions say of small lists: of a walk that meets one of two tasks, of the last turn of a wait that

@@ -1,23 +1,29 @@
 -- The laws of the model, by the rule and by the lists of all tasks.
-use Rattle.std.proofs.Common.{sym, ap, arith}
+use Rattle.std.proofs.Common.{sym, ap, subst, arith}
 use Rattle.std.specs.Prelude.{ℕ, ◌≡◌, ◌<◌}
 use Rattle.wait_model.specs.declared.layout.TheConstants.{TASKS}
 use Rattle.wait_model.specs.declared.steps.Step.{Step}
 use Rattle.wait_model.specs.Totals.{total, total_below}
 use Rattle.wait_model.specs.SignalCounts.{AreRaised, takes_fatal, takes_any, raises_fatal, raises_any}
+use Rattle.wait_model.specs.DoneCounts.{of_store, raises_by_one, lowers_by_one, grants, throws, ends_count}
+use Rattle.wait_model.specs.Histories.{Lacks}
+use Rattle.wait_model.proofs.AccountLaws.DoneCounts.{takes_are_completed}
 use Rattle.wait_model.proofs.HistoryLaws.NoLostWake.{no_wake_is_lost}
 use Rattle.wait_model.proofs.HistoryLaws.StepTotals.{sum_same}
 use Rattle.wait_rule.specs.declared.journal.Journal.{Journal}
 use Rattle.wait_rule.specs.Interleavings.{table_of}
 use Rattle.wait_rule.specs.Says.{IsShown}
 use Rattle.wait_rule.specs.TableLaws.{
+  AllBalance,
   AllLoseNoWake,
+  AllTakeMade,
   AllTookRaised,
   HasAll,
   RuleBalances,
   RuleInventsNoSignal,
   RuleKeepsBits,
   RuleLosesNoWake,
+  RuleTakesMade,
   StepsLoseNoWake,
   histories_in,
 }
@@ -60,3 +66,23 @@ all_took_raised v law all t few =
     let a_own = told_own v law all takes_any t few in
     let a_all = told_below v law all (raises_any t) in
     record { fatal = omega arith; any = omega arith }
+
+pub all_balance : AllBalance
+all_balance v law all d =
+    let b = (law.ruled.whole.counts d).balance in
+    let r = told_below v law all (of_store raises_by_one d) in
+    let g = told_below v law all (of_store grants d) in
+    let l = told_below v law all (of_store lowers_by_one d) in
+    let t = told_below v law all (of_store throws d) in
+    omega arith
+
+pub rule_takes_made : RuleTakesMade
+rule_takes_made s items ruled d lacks = takes_are_completed TASKS s d (ruled.whole.counts d) lacks
+
+pub all_take_made : AllTakeMade
+all_take_made v law all d lacks =
+    let made = rule_takes_made law.table law.items law.ruled d
+    (λ t few. subst (Lacks (ends_count d)) (sym (law.history t (all t few))) (lacks t few)) in
+    let r = told_below v law all (of_store raises_by_one d) in
+    let l = told_below v law all (of_store lowers_by_one d) in
+    omega arith

@@ -1,23 +1,26 @@
--- The step on a flag word keeps the law.
+-- Each kind of step on a flag word keeps the law.
 use Rattle.std.proofs.Common.{refl, ◌∙◌, ap, subst, sym}
-use Rattle.std.specs.Prelude.{ℕ, ◌≡◌, ◌≢◌, Bool, true, false, Some, List}
+use Rattle.std.specs.Prelude.{ℕ, ◌≡◌, ◌≢◌, Bool, true, false, Option, Some, None, List}
 use Rattle.wait_model.specs.declared.watches.Entry.{Entry}
 use Rattle.wait_model.specs.declared.steps.Step.{Step}
 use Rattle.wait_model.specs.declared.steps.Step.TheVariants as step
 use Rattle.wait_model.specs.Functions.{put}
 use Rattle.wait_model.specs.Words.{flag_word, done_word}
+use Rattle.wait_model.specs.Watches.{owner}
 use Rattle.wait_model.specs.Views.{View as Told, Look, shown}
 use Rattle.wait_model.specs.Tables.{Table}
 use Rattle.wait_model.specs.Facts.{Agrees}
 use Rattle.wait_model.specs.Locations as place
 use Rattle.wait_model.specs.Locations.{Location, word_in}
 use Rattle.wait_model.proofs.Functions.{put_same, put_other}
+use Rattle.wait_model.proofs.WordLaws.DecodedWords.{done_read_back}
 use Rattle.wait_rule.specs.declared.journal.Item.{Item}
 use Rattle.wait_rule.specs.Items.{Book, Fits}
 use Rattle.wait_rule.specs.Rule.{IsLawfulTable, IsRuled}
 use Rattle.wait_rule.proofs.KnownLaws.HeadLinks.{quiet_links}
 use Rattle.wait_rule.proofs.KnownLaws.MemberPlaces.{still_places}
 use Rattle.wait_rule.proofs.TableSteps.KeptSteps.{Leaves, KeepsLaw}
+use Rattle.wait_rule.proofs.StepKinds.EntryKinds.{load_leaves}
 
 -- a flag word without DONE
 without_done : (woken : Bool) → done_word woken false ≡ flag_word woken
@@ -25,18 +28,19 @@ without_done true = refl
 without_done false = refl
 
 -- what a step on a flag word leaves: DONE is not beside WOKEN
-abbrev flag_stored : Table → ℕ → Bool → (ℕ → List Step) → (ℕ → Told) → Table
-flag_stored s x woken history view = record s {
+abbrev flag_stored : Table → ℕ → Bool → (ℕ → Option ℕ) → (ℕ → List Step) → (ℕ → Told) → Table
+flag_stored s x woken pages history view = record s {
   flag = put s.flag x woken;
   done = put s.done x false;
+  taken = pages;
   history = history;
   view = view;
 }
 
-flag_leaves : (s : Table) (a x : ℕ) (woken : Bool) (b : Book) (history : ℕ → List Step) (view : ℕ → Told)
-    → IsLawfulTable s → Fits (s.task a) b
-    → Leaves s (flag_stored s x woken history view) a (place.Flag x) (flag_word woken) b
-flag_leaves s a x woken b history view l f = record {
+flag_leaves : (s : Table) (a x : ℕ) (woken : Bool) (b : Book) (pages : ℕ → Option ℕ) (history : ℕ → List Step)
+    (view : ℕ → Told) → IsLawfulTable s → Fits (s.task a) b
+    → Leaves s (flag_stored s x woken pages history view) a (place.Flag x) (flag_word woken) b
+flag_leaves s a x woken b pages history view l f = record {
   lawful = record { tasks = l.tasks; entries = l.entries; marks = l.marks; spent = l.spent; bits = l.bits };
   own = f;
   others = λ t ne c g. g;
@@ -46,7 +50,7 @@ flag_leaves s a x woken b history view l f = record {
 }
   where
     rest_of : (k : Location) → k ≢ place.Flag x
-        → word_in (flag_stored s x woken history view) k ≡ word_in s k
+        → word_in (flag_stored s x woken pages history view) k ≡ word_in s k
     rest_of (place.Flag i) ne = ap (λ (w : Bool). done_word w (put s.done x false i)) (put_other s.flag x woken i other)
         ∙ ap (λ (d : Bool). done_word (s.flag i) d) (put_other s.done x false i other)
       where
@@ -72,9 +76,49 @@ flags s items ruled x a b fits h e held shows = record {
     own = λ v k. refl;
     marks = λ v k. refl;
   });
-  leaves = flag_leaves s a x true b _ _ ruled.lawful fits;
+  leaves = flag_leaves s a x true b s.taken _ _ ruled.lawful fits;
 }
   where
     agrees : Agrees h (shown e) (s.entry x)
     agrees = subst (λ (l : Look). Agrees h l (s.entry x)) shows
         ((ruled.whole.kept.facts.views a).hold.agrees h x held)
+
+-- the task's own flag may be loaded and cleared
+module _ (s : Table) (items : ℕ → List Item) (ruled : IsRuled s items) (x a : ℕ) (b : Book) (fits : Fits (s.task a) b)
+    (mine : owner x ≡ a) where
+  pub flag_loads : KeepsLaw s a (place.Flag x) (done_word (s.flag x) (s.done x))
+      (step.Flag x (done_word (s.flag x) (s.done x))) b
+  flag_loads = record {
+    allowed = (mine, done_read_back (s.flag x) (s.done x));
+    stored = tt;
+    orderly = tt;
+    places = still_places s a (step.Flag x (done_word (s.flag x) (s.done x))) refl refl;
+    links = quiet_links s a (step.Flag x (done_word (s.flag x) (s.done x))) (record {
+      holder = refl;
+      spent = refl;
+      mark = refl;
+      head = λ v. refl;
+      found = λ v. refl;
+      own = λ v k. refl;
+      marks = λ v k. refl;
+    });
+    leaves = load_leaves s a (place.Flag x) b _ _ ruled.lawful fits;
+  }
+
+  pub unflags : KeepsLaw s a (place.Flag x) (flag_word false) (step.Unflag x None) b
+  unflags = record {
+    allowed = (mine, ruled.taken x);
+    stored = tt;
+    orderly = tt;
+    places = still_places s a (step.Unflag x None) refl refl;
+    links = quiet_links s a (step.Unflag x None) (record {
+      holder = refl;
+      spent = refl;
+      mark = refl;
+      head = λ v. refl;
+      found = λ v. refl;
+      own = λ v k. refl;
+      marks = λ v k. refl;
+    });
+    leaves = flag_leaves s a x false b (put s.taken x None) _ _ ruled.lawful fits;
+  }

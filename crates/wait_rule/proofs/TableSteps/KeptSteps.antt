@@ -73,6 +73,7 @@ use Rattle.wait_rule.proofs.KnownLaws.HeadLinks.{KeepsLinks, noted_next, noted_s
 use Rattle.wait_rule.proofs.KnownLaws.MemberPlaces.{KeepsPlaces, queued_next}
 use Rattle.wait_rule.proofs.WornHeads.WornNotes.{IsShort, worn_next}
 use Rattle.wait_rule.proofs.KnownLaws.OwnEntries.{IsFair, done_store, own_next}
+use Rattle.wait_rule.proofs.KnownLaws.HeldCounts.{counts_next}
 use Rattle.wait_rule.proofs.KnownLaws.StandingKinds.{taken_next}
 use Rattle.wait_rule.proofs.TableSteps.StateLaws.{allows, pushed_none}
 
@@ -152,6 +153,7 @@ ruled_next s items a l n e few is r k = record {
   linked = links_next s items a e r k.links;
   placed = k.places few r.placed;
   own = own_next s a e k.allowed k.stored r.own;
+  counts = counts_next s a e k.allowed r.whole.kept.facts.one_holder r.counts;
   taken = taken_next s a e r.lawful k.allowed r.taken;
   worn = worn_next s (next s a e) items a (item.Made e ∷ []) tt r.worn
       (λ h. let n = queued_next s a e h few in omega (arith, n)) (whole_next s a e few k.allowed k.stored r.whole)
@@ -261,6 +263,7 @@ module _ (c : Scene) (law : Law c) (a : ℕ) (xs : List Item) (none : steps_of x
     linked = subst (AreLinked law.table) (sym (noted_seen c.items a xs)) links;
     placed = law.ruled.placed;
     own = law.ruled.own;
+    counts = law.ruled.counts;
     taken = law.ruled.taken;
     worn = worn_next law.table law.table c.items a xs short law.ruled.worn (λ h. omega arith) law.ruled.whole
         histories_seen law.ruled.lawful (subst (AreLinked law.table) (sym (noted_seen c.items a xs)) links)

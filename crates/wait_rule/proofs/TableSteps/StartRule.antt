@@ -84,6 +84,7 @@ start_ruled items none = record {
     marks = λ t m is. absurd (cc);
   };
   own = λ x e is. absurd (cc);
+  counts = λ a d n held. absurd (cc);
   taken = λ x. refl;
   worn = λ t h p w. absurd (none_worn t h p (items t) (none t) w);
   untouched = λ l unset. refl;

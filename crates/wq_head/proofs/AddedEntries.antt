@@ -2,7 +2,7 @@
 use Rattle.std.proofs.Common.{◌∙◌, ap, sym, refl, subst, inl, inr, eq-eqb, arith}
 use Rattle.std.proofs.lemmas.Bool.Decides.{nat_tests}
 use Rattle.std.specs.Prelude.{ℕ, ◌≡◌, ◌+◌, ◌-◌, ◌*◌, ◌%◌, ◌<◌, ◌≤◌, ◌⊎◌, ◌&&◌, ◌||◌, ◌==◌}
-use Rattle.std.specs.Prelude.{Bool, true, false, not, nat_lt, if◌then◌else◌, Option, Some, None, length}
+use Rattle.std.specs.Prelude.{Bool, true, false, nat_lt, if◌then◌else◌, Option, Some, None, length}
 use Rattle.wait_model.specs.declared.layout.TheConstants.{
   SLOTS,
   ENTRIES,
@@ -21,8 +21,7 @@ use Rattle.wait_model.specs.declared.watches.Kind.TheVariants as kind
 use Rattle.wait_model.specs.declared.watches.Entry.{Entry}
 use Rattle.wait_model.specs.declared.steps.Step.TheVariants as step
 use Rattle.wait_model.specs.Words.{entry_of}
-use Rattle.wait_model.specs.Watches.{is_simple, is_page, is_bit, head_of}
-use Rattle.wait_model.specs.Watches.{same as same_watch}
+use Rattle.wait_model.specs.Watches.{is_simple, head_of}
 use Rattle.wait_model.specs.Queues.{even_below, even_above}
 use Rattle.wait_model.specs.Places.{front_for, tail_for, priority_for}
 use Rattle.wait_model.specs.Views.{View as Told, off, look_at, is_trying_for}
@@ -71,7 +70,7 @@ use Rattle.wq_head.specs.Holds.{IsHolding}
 use Rattle.wq_head.specs.Members.{AreStanding}
 use Rattle.wq_head.proofs.FirstAndLast.{below_or}
 use Rattle.wq_head.specs.Looks.{Looks, IsLow, AreLow, AreSeen, IsBetween, IsFirst, IsLast, place_of}
-use Rattle.wq_head.specs.Adds.{IsFor, HasAdded, HasQueued, HasRemoved, tail_entry, priority_entry}
+use Rattle.wq_head.specs.Adds.{IsFor, IsFullKind, HasAdded, HasQueued, HasRemoved, tail_entry, priority_entry}
 use Rattle.wq_head.proofs.OneMoreLook.{saw_told, saw_looks, whole_of, looks_on, holding_on}
 use Rattle.wait_rule.specs.Says.{stored_with}
 use Rattle.wait_rule.proofs.KnownLaws.MemberBits.{told_stored}
@@ -204,14 +203,16 @@ priority_below None p is = first_below p is
 priority_below (Some l) p is = within_below (even_above l) p (omega arith) is
 
 -- the entries of adds may stand there
-or_kind : (k : Kind) → (k ≡ kind.Default) ⊎ (k ≡ kind.Autoremove) → (k ≡ kind.Default)
+or_kind : (k : Kind) → IsFullKind k → (k ≡ kind.Default)
     ⊎ ((k ≡ kind.Autoremove) ⊎ ((k ≡ kind.Woken) ⊎ (k ≡ kind.Simple)))
 or_kind k (inl a) = inl a
-or_kind k (inr b) = inr (inl b)
+or_kind k (inr (inl b)) = inr (inl b)
+or_kind k (inr (inr w)) = inr (inr (inl w))
 
-kind_simple : (k : Kind) → (k ≡ kind.Default) ⊎ (k ≡ kind.Autoremove) → is_simple k ≡ false
+kind_simple : (k : Kind) → IsFullKind k → is_simple k ≡ false
 kind_simple k (inl a) = ap is_simple a
-kind_simple k (inr b) = ap is_simple b
+kind_simple k (inr (inl b)) = ap is_simple b
+kind_simple k (inr (inr w)) = ap is_simple w
 
 pub plain_stands : (x : ℕ) (b : Bool) (w : Watch) (k : Kind) (p : ℕ) → IsFor w k → IsAfter p
     → IsStanding x (tail_entry b w k p)

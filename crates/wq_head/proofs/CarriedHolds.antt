@@ -104,7 +104,8 @@ ended_covers false false n is = or_last n is
     or_last true is = refl
     or_last false is = absurd (cc)
 
-ended_owes : (a : Aim) (old new : Known) → HasEnded old new a → (x : Excuse) → Owes (with_wakes a.watch a.mode x) old
+pub ended_owes : (a : Aim) (old new : Known) → HasEnded old new a
+    → (x : Excuse) → Owes (with_wakes a.watch a.mode x) old
     → Owes x new
 unfolding Owes with_wakes
 ended_owes a old new e x o = (

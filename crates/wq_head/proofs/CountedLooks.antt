@@ -19,7 +19,7 @@ use Rattle.wq_head.specs.Looking.{IsSet, AreNone, words_to, HasLoaded}
 use Rattle.wq_head.proofs.FirstAndLast.{below_or}
 
 -- a queue with one member more
-marked_longer : (b : Member) (q : List Member) → length (mark_add b q) ≡ length q + 1
+pub marked_longer : (b : Member) (q : List Member) → length (mark_add b q) ≡ length q + 1
 marked_longer b [] = omega arith
 marked_longer b (m ∷ ms) = by (marked_longer b ms) (nat_lt (rank m) (rank b))
   where

@@ -51,3 +51,25 @@ pub one_more : (q : List Member) (i : ℕ) (d x : Member) → i < length q → I
     → IsIn x (take i q) ⊎ (x ≡ slice_index_or q i d)
 one_more q i d x inside is = more_by q i d x inside
     (subst (λ (n : ℕ). IsIn x (take n q)) (let e : i + 1 ≡ suc i = omega arith in e) is)
+
+-- who stands before a position stands before the next one, and so does who stands there
+more_than : (q : List Member) (i : ℕ) (x : Member) → IsIn x (take i q) → IsIn x (take (suc i) q)
+more_than [] zero x is = absurd is
+more_than [] (suc i) x is = absurd is
+more_than (m ∷ ms) zero x is = absurd is
+more_than (m ∷ ms) (suc i) x (inl same) = inl same
+more_than (m ∷ ms) (suc i) x (inr is) = inr (more_than ms i x is)
+
+last_of : (q : List Member) (i : ℕ) (d : Member) → i < length q → IsIn (slice_index_or q i d) (take (suc i) q)
+last_of [] i d inside = absurd (omega arith)
+last_of (m ∷ ms) zero d inside = inl refl
+last_of (m ∷ ms) (suc i) d inside = inr (last_of ms i d (omega arith))
+
+pub take_more : (q : List Member) (i : ℕ) (x : Member) → IsIn x (take i q) → IsIn x (take (i + 1) q)
+take_more q i x is = subst (λ (n : ℕ). IsIn x (take n q)) (let e : suc i ≡ i + 1 = omega arith in e)
+    (more_than q i x is)
+
+pub take_last : (q : List Member) (i : ℕ) (d : Member) → i < length q
+    → IsIn (slice_index_or q i d) (take (i + 1) q)
+take_last q i d inside = subst (λ (n : ℕ). IsIn (slice_index_or q i d) (take n q))
+    (let e : suc i ≡ i + 1 = omega arith in e) (last_of q i d inside)

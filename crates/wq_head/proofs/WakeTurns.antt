@@ -1,5 +1,5 @@
 -- A turn of a wake: one try of the lock, and what the task may do in the hold then.
-use Rattle.std.proofs.Common.{◌∙◌, ap, sym, subst}
+use Rattle.std.proofs.Common.{◌∙◌, ap, sym, refl, subst}
 use Rattle.std.specs.Prelude.{ℕ, ◌≡◌, ◌≢◌, false, Option, Some, None}
 use Rattle.wait_model.specs.declared.watches.Aim.{Aim}
 use Rattle.wait_model.specs.declared.steps.Step.TheVariants as step
@@ -8,7 +8,7 @@ use Rattle.wait_model.specs.Words.{held_of}
 use Rattle.wait_model.specs.Tables.{mark_of}
 use Rattle.wait_rule.specs.declared.journal.Item.TheVariants as item
 use Rattle.wait_rule.specs.Known.{Known}
-use Rattle.wait_rule.specs.Says.{IsUp, added, stored_with}
+use Rattle.wait_rule.specs.Says.{IsUp, IsFree, added, stored_with}
 use Rattle.wait_rule.specs.Members.{IsHeadWord}
 use Rattle.wait_rule.specs.Queues.{IsTurn, MayStoreMark, Resumes, at_head, marked, walk_of_hold}
 use Rattle.wq_head.specs.declared.wakes.WakeRun.{WakeRun}
@@ -16,10 +16,21 @@ use Rattle.wq_head.specs.declared.wakes.WakeStage.TheVariants as stage
 use Rattle.wq_head.specs.Holds.{HasWaited, HasLocked}
 use Rattle.wq_head.specs.declared.wakes.WakeTurn.{WakeTurn}
 use Rattle.wq_head.specs.declared.wakes.WakeTurn.TheVariants as turn
-use Rattle.wq_head.specs.Turns.{HasTurned, Rests, InWalk, IsAt, IsBroken, HasDrawn, first_counts}
+use Rattle.wq_head.specs.declared.wakes.WakeStage.{WakeStage}
+use Rattle.wq_head.specs.Turns.{
+  HasTurned,
+  Rests,
+  InWalk,
+  IsAt,
+  IsServed,
+  IsTurnStage,
+  IsBroken,
+  HasDrawn,
+  first_counts,
+}
 use Rattle.wq_head.specs.Walking.{with_left}
 use Rattle.wq_head.proofs.BrokenHold.{base_up, base_free, may_go, may_take, goes_back}
-use Rattle.wq_head.proofs.DrawnTurns.{drawn_outside, still_waits, turn_is, turn_up, turn_goes, turn_locked}
+use Rattle.wq_head.proofs.DrawnTurns.{draws, drawn_outside, still_waits, turn_is, turn_up, turn_goes, turn_locked}
 use Rattle.wq_head.proofs.FirstHold.{begins_walk, locked_full}
 use Rattle.wq_head.proofs.OwnBookmark.{own_clear}
 
@@ -106,8 +117,133 @@ module _ (start mid new : Known) (r : WakeRun) (h found : ℕ) (at : IsAt start 
       pub next_walks : (four : Known) → four ≡ stored_with three (marked (mark_of 0)) → InWalk r.aim start four r.walk
       next_walks four made = goes_back r.aim at.full start base r.walk broken three locked four made
 
+-- the draw of a ticket, by the stage before it
+module _ (start now : Known) (r : WakeRun) where
+  pub free_first : IsAt start now r stage.First → IsFree now
+  free_first at = subst IsFree (sym at.stands) at.idle.free
+
+  pub free_next : IsAt start now r stage.Next → IsFree now
+  free_next at = base_free r.aim at.full start now r.walk at.stands
+
+  module _ (new : Known) (h n : ℕ) (at_h : h ≡ head_of r.aim.watch) (is : new ≡ added now (item.Drawn h n)) where
+    pub draws_first : IsAt start now r stage.First → IsAt start new (record r { ticket = n }) stage.FirstTurn
+    draws_first at = record {
+      up = at.up;
+      idle = at.idle;
+      full = at.full;
+      small = at.small;
+      stands = draws start new (head_of r.aim.watch) n (is ∙ (λ i. added (at.stands i) (item.Drawn (at_h i) n)));
+    }
+
+    pub draws_next : IsAt start now r stage.Next → IsAt start new (record r { ticket = n }) stage.NextTurn
+    draws_next at = record {
+      up = at.up;
+      idle = at.idle;
+      full = at.full;
+      small = at.small;
+      stands = (
+        now,
+        at.stands,
+        draws now new (head_of r.aim.watch) n (is ∙ (λ i. added now (item.Drawn (at_h i) n))),
+      );
+    }
+
+-- one look at the number that is served, by the stage at which the ticket is drawn
+module _ (start mid new : Known) (r : WakeRun) (h found : ℕ) (at_h : h ≡ head_of r.aim.watch)
+    (is : new ≡ added mid (item.Serving h found)) where
+  pub waits_on : (s : WakeStage) → IsTurnStage s → IsAt start mid r s → found ≢ r.ticket
+      → IsAt start new (record r { served = found }) s
+  waits_on stage.FirstTurn turn at other = record {
+    up = at.up;
+    idle = at.idle;
+    full = at.full;
+    small = at.small;
+    stands = first_waits start mid new r h found at at_h is other;
+  }
+  waits_on stage.NextTurn turn at other = record {
+    up = at.up;
+    idle = at.idle;
+    full = at.full;
+    small = at.small;
+    stands = (at.stands.0, at.stands.1, next_waits start mid new r h found at at_h is other);
+  }
+  waits_on stage.First turn at other = absurd turn
+  waits_on stage.Next turn at other = absurd turn
+
+  pub outside_on : (s : WakeStage) → IsTurnStage s → IsAt start mid r s → new.book.head ≡ None
+  outside_on stage.FirstTurn turn at = first_outside start mid new r h found at at_h is
+  outside_on stage.NextTurn turn at = next_outside start mid new r h found at at_h is
+  outside_on stage.First turn at = absurd turn
+  outside_on stage.Next turn at = absurd turn
+
+  looked_at : (s : WakeStage) → IsTurnStage s → IsAt start mid r s → IsAt start mid (record r { served = found }) s
+  looked_at stage.FirstTurn turn at =
+      record { up = at.up; idle = at.idle; full = at.full; small = at.small; stands = at.stands }
+  looked_at stage.NextTurn turn at =
+      record { up = at.up; idle = at.idle; full = at.full; small = at.small; stands = at.stands }
+  looked_at stage.First turn at = absurd turn
+  looked_at stage.Next turn at = absurd turn
+
+  pub served_on : (s : WakeStage) → IsTurnStage s → IsAt start mid r s → found ≡ r.ticket
+      → IsServed start new (record r { served = found }) s
+  served_on s turn at same = record {
+    turn = turn;
+    last = mid;
+    at = looked_at s turn at;
+    is = is ∙ (λ i. added mid (item.Serving (at_h i) (same i)));
+  }
+
+-- whose ticket is served takes the lock
+pub not_next : (s : WakeStage) → IsTurnStage s → (s ≡ stage.NextTurn → ⊥) → s ≡ stage.FirstTurn
+not_next stage.FirstTurn turn other = refl
+not_next stage.NextTurn turn other = absurd (other refl)
+not_next stage.First turn other = absurd turn
+not_next stage.Next turn other = absurd turn
+
+module _ (start now : Known) (r : WakeRun) (s : WakeStage) (v : IsServed start now r s) (h : ℕ)
+    (at_h : h ≡ head_of r.aim.watch) where
+  served : now ≡ added v.last (item.Serving h r.ticket)
+  served = v.is ∙ sym (ap (λ (i : ℕ). added v.last (item.Serving i r.ticket)) at_h)
+
+  module _ (first : s ≡ stage.FirstTurn) where
+    at_first : IsAt start v.last r stage.FirstTurn
+    at_first = subst (IsAt start v.last r) first v.at
+
+    pub begins_turn : IsTurn now h
+    begins_turn = first_turn start v.last now r h r.ticket at_first at_h served refl
+
+    pub begins_up : IsUp now
+    begins_up = first_up start v.last now r h r.ticket at_first at_h served refl
+
+    pub begins_resumes : Resumes now h (Some r.aim)
+    begins_resumes = first_resumes start v.last now r h r.ticket at_first at_h served refl
+
+    pub begins_walks : (three : Known) → Locks now three h (Some r.aim) → InWalk r.aim start three (first_counts r.aim)
+    begins_walks = first_walks start v.last now r h r.ticket at_first at_h served refl
+
+  module _ (next : s ≡ stage.NextTurn) where
+    at_next : IsAt start v.last r stage.NextTurn
+    at_next = subst (IsAt start v.last r) next v.at
+
+    pub goes_turn : IsTurn now h
+    goes_turn = next_turn start v.last now r h r.ticket at_next at_h served refl
+
+    pub goes_up : IsUp now
+    goes_up = next_up start v.last now r h r.ticket at_next at_h served refl
+
+    pub goes_resumes : Resumes now h (Some (with_left r.aim r.walk.left))
+    goes_resumes = next_resumes start v.last now r h r.ticket at_next at_h served refl
+
+    module _ (three : Known) (l : Locks now three h (Some (with_left r.aim r.walk.left))) where
+      pub goes_takes : MayStoreMark three 0
+      goes_takes = next_takes start v.last now r h r.ticket at_next at_h served refl three l
+
+      pub goes_walks : (four : Known) → four ≡ stored_with three (marked (mark_of 0)) → InWalk r.aim start four r.walk
+      goes_walks = next_walks start v.last now r h r.ticket at_next at_h served refl three l
+
 -- where a turn left the wake
 pub rests_of : (start new : Known) (r s : WakeRun) (t : WakeTurn) → HasTurned start new r s t → Rests new s t
 rests_of start new r s (turn.Locked after_it) h = (start, h.turns)
 rests_of start new r s turn.Broken h = (start, h.turns)
 rests_of start new r s (turn.Done result) h = (h.turns.up, h.turns.idle)
+rests_of start new r s turn.Starved h = tt

@@ -1,4 +1,5 @@
--- A task that waits for condition 0 with its entry of slot 0. (Only tests speak of it.)
+-- For tests alone.
+-- A task that waits for condition 0 with its entry of slot 0.
 use Rattle.std.specs.Prelude.{ℕ, ◌≡◌, Some}
 use Rattle.wait_model.specs.declared.layout.TheConstants.{RUNNING}
 use Rattle.wait_model.specs.declared.watches.Kind.{Kind}

@@ -1,4 +1,5 @@
--- How far a look at the members of a head has come, one word after another. (To be believed.)
+-- To be believed.
+-- How far a look at the members of a head has come, one word after another.
 use Rattle.std.specs.Prelude.{ℕ, ◌≡◌, ◌+◌, ◌-◌, ◌*◌, ◌/◌, ◌%◌, ◌<◌, ◌≤◌, Bool, true, false, Option, Some, None}
 use Rattle.wait_model.specs.declared.layout.TheConstants.{MEMBERS, WORD_BITS}
 use Rattle.wait_model.specs.Words.{bit_at}

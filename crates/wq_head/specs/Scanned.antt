@@ -1,4 +1,5 @@
--- What a look for members without the lock says. (To be believed.)
+-- To be believed.
+-- What a look for members without the lock says.
 use Rattle.std.specs.Prelude.{ℕ, ◌≡◌, ◌≢◌, ◌<◌, ◌==◌, ◌||◌, Bool, true, false, List}
 use Rattle.wait_model.specs.declared.layout.TheConstants.{MEMBER_WORDS}
 use Rattle.wait_model.specs.declared.watches.Watch.{Watch}

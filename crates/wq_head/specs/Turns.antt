@@ -1,5 +1,5 @@
--- A wake that is made hold by hold: where it stands between two of its holds, and what a turn of it did. (To be
--- believed.)
+-- To be believed.
+-- A wake that is made hold by hold: where it stands between two of its holds, and what a turn of it did.
 use Rattle.std.specs.Prelude.{ℕ, ◌+◌, ◌^◌, ◌≡◌, ◌<◌, true, false, Some, None, List}
 use Rattle.wait_model.specs.declared.watches.Aim.{Aim}
 use Rattle.wait_model.specs.declared.queues.Walking.{Walking}
@@ -134,11 +134,17 @@ abbrev pub TurnsTo : Known → Known → WakeRun → WakeTurn → Type 0
 TurnsTo start new r (turn.Locked s) = IsAt start new r s
 TurnsTo start new r turn.Broken = IsAt start new r stage.Next
 TurnsTo start new r (turn.Done result) = IsOver r.aim start new result
+TurnsTo start new r turn.Starved = Unit {0}
+
+-- no head is held after a turn, but where it starved
+abbrev pub IsOutside : Known → WakeTurn → Type 0
+IsOutside new turn.Starved = Unit {0}
+IsOutside new _ = new.book.head ≡ None
 
 -- a turn keeps the aim of its wake, and ends outside of holds
 pub record HasTurned (start new : Known) (r s : WakeRun) (t : WakeTurn) : Type 0 where
   pub aim : s.aim ≡ r.aim
-  pub outside : new.book.head ≡ None
+  pub outside : IsOutside new t
   pub turns : TurnsTo start new s t
 
 -- where a turn leaves the wake, whenever that began; after its end the task is up and idle
@@ -146,13 +152,18 @@ abbrev pub Rests : Known → WakeRun → WakeTurn → Type 0
 Rests now r (turn.Locked s) = (start : Known) × IsAt start now r s
 Rests now r turn.Broken = (start : Known) × IsAt start now r stage.Next
 Rests now r (turn.Done result) = IsUp now × IsIdle now
+Rests now r turn.Starved = Unit {0}
 
-abbrev pub IsFirst : WakeStage → Type 0
-IsFirst stage.First = Unit {0}
-IsFirst stage.FirstTurn = Unit {0}
-IsFirst _ = ⊥
+-- the stages at which the ticket of the next hold's lock is drawn
+abbrev pub IsTurnStage : WakeStage → Type 0
+IsTurnStage stage.First = ⊥
+IsTurnStage stage.FirstTurn = Unit {0}
+IsTurnStage stage.Next = ⊥
+IsTurnStage stage.NextTurn = Unit {0}
 
-abbrev pub IsNext : WakeStage → Type 0
-IsNext stage.Next = Unit {0}
-IsNext stage.NextTurn = Unit {0}
-IsNext _ = ⊥
+-- that ticket was drawn, and the last look found it served
+pub record IsServed (start now : Known) (r : WakeRun) (s : WakeStage) : Type 0 where
+  pub turn : IsTurnStage s
+  pub last : Known
+  pub at : IsAt start last r s
+  pub is : now ≡ added last (item.Serving (head_of r.aim.watch) r.ticket)

@@ -1,66 +1,95 @@
 //! Threads that a hold is to wake once it has given the lock back: woken earlier, they would wait for it at once.
 
-ghost use Rattle.std.specs.Prelude.{◌≡◌};
+ghost use Rattle.std.specs.Prelude.{◌≡◌, ◌≤◌, ◌++◌, ◌∷◌, [], IfSome, length};
+ghost use Rattle.wait_model.specs.declared.layout.TheConstants.{BREAK};
 ghost use Rattle.wait_model.specs.declared.steps.Step.TheVariants as step;
 ghost use Rattle.wait_model.specs.Fold.{met_task};
 ghost use Rattle.wait_rule.specs.Says.{IsUp, AddsOf};
+ghost use Rattle.wq_head.specs.Roused.{HasRoused, tasks_in};
 
 use arrayvec::ArrayVec;
-use std::sync::Wait;
 use wait_model::layout::BREAK;
-use wait_rule::tasks::{rouse, wake_word};
+use wait_rule::tasks::rouse;
+use wait_rule::tries::wake_tries;
 use wait_rule::{Domain, Task};
 
-/// How many threads there is room for: as many as a hold calls entries at most.
+/// How many tasks there is room for: as many as a hold calls entries at most.
 const ROOM: usize = BREAK as usize + 1;
 
-/// The tasks whose words a hold has made runnable and whose threads are still to be woken, in the order of their wakes.
+/// The tasks that a hold has woken and whose threads are still to be roused, in the order of their wakes.
 #[derive(Drop)]
-pub(crate) struct Rousing {
+pub struct Rousing {
     tasks: ArrayVec<u8, ROOM>,
 }
 
 impl Rousing {
-    /// None.
-    pub(crate) fn new() -> Rousing {
+    /// None. It takes no memory but its own.
+    pub fn new() -> Rousing
+        ensures { tasks_in result ≡ [] }
+    {
         Rousing {
             tasks: ArrayVec::new(),
         }
     }
 
-    /// One more, which is woken at once where there is no room.
-    fn put(&mut self, domain: &Domain, who: u8) {
+    /// One more.
+    fn put(&mut self, who: u8)
+        requires { length (tasks_in self.old) ≤ BREAK }
+        ensures { tasks_in self.new ≡ tasks_in self.old ++ who ∷ [] }
+    {
+        self.tasks.push(who);
+    }
+
+    /// One more, whose thread is woken at once where there is no room.
+    pub(crate) fn put_or_rouse(&mut self, domain: &Domain, who: u8) {
         if self.tasks.try_push(who).is_err() {
             rouse(domain, who);
         }
     }
 
-    /// Wakes all, and there are none afterwards.
-    pub(crate) fn rouse_all(&mut self, domain: &Domain) {
+    /// The tasks, for who rouses them in a way of its own; `clear` follows.
+    pub fn tasks(&self) -> &[u8]
+        ensures { result.now ≡ tasks_in self.now }
+    {
+        self.tasks.as_slice()
+    }
+
+    /// Takes all out.
+    pub fn clear(&mut self)
+        ensures { tasks_in self.new ≡ [] }
+    {
+        self.tasks.clear();
+    }
+
+    /// Wakes the threads of all where they are parked, and takes them out.
+    pub fn rouse_all(&mut self, domain: &Domain)
+        ensures { tasks_in self.new ≡ [] }
+    {
         for who in self.tasks.as_slice() {
             rouse(domain, *who);
         }
-        self.tasks.clear();
+        self.clear();
     }
 }
 
-/// Wakes task `who` (`try_to_wake_up`), and leaves its thread for later.
-pub(crate) fn wake_later<R: Wait>(
-    rt: &R,
+/// Wakes task `who` (`try_to_wake_up`), and leaves its thread to be roused later. None only where no try was made.
+pub(crate) fn wake_later(
     domain: &Domain,
     task: &mut Task,
     rousing: &mut Rousing,
     who: u8,
     mask: u32,
-) -> bool
+) -> Option<bool>
     requires of { task.old.domain ≡ domain.now }
     requires up { IsUp task.old }
-    ensures step { AddsOf task.old task.new (λ found. step.Wake who mask found)
-        (λ found. result ≡ met_task mask found) }
+    requires room { length (tasks_in rousing.old) ≤ BREAK }
+    ensures step { IfSome result (λ yes. AddsOf task.old task.new (λ found. step.Wake who mask found)
+        (λ found. yes ≡ met_task mask found)) }
+    ensures rouses { HasRoused task.old task.new rousing.old rousing.new }
 {
-    let woke = wake_word(rt, domain, task, who, mask);
+    let woke = wake_tries(domain, task, who, mask)?;
     if woke.rouse {
-        rousing.put(domain, who);
+        rousing.put(who);
     }
-    woke.met
+    Some(woke.met)
 }

@@ -1,18 +1,17 @@
 //! The wake of a head: its walk goes over the queue in one hold or in several, and waits for nobody in between.
 
-ghost use Rattle.std.specs.Prelude.{◌≡◌, ◌<◌, ◌≤◌, ◌^◌};
-ghost use Rattle.wait_model.specs.declared.layout.TheConstants.{HEADS};
+ghost use Rattle.std.specs.Prelude.{◌≡◌, ◌<◌, ◌^◌, []};
 ghost use Rattle.wait_model.specs.Watches.{head_of};
 ghost use Rattle.wait_rule.specs.Known.{Known};
 ghost use Rattle.wait_rule.specs.Says.{IsUp};
 ghost use Rattle.wait_rule.specs.Queues.{IsIdle};
 ghost use Rattle.wait_rule.specs.Stays.{Carries, wake_all_change};
-ghost use Rattle.wq_head.specs.declared.wakes.WakeStage.TheVariants as stages;
+ghost use Rattle.wq_head.specs.Roused.{IsRousing, RousesNone, tasks_in};
 ghost use Rattle.wq_head.specs.Walks.{IsFull, HasWoken, HasEnded};
-ghost use Rattle.wq_head.specs.Turns.{InWalk, IsAt, HasTurned, Rests, IsFirst, IsNext, first_counts};
+ghost use Rattle.wq_head.specs.Turns.{InWalk, IsAt, IsServed, IsTurnStage, HasTurned, Rests, first_counts};
 
 use crate::lists::Members;
-use crate::locks::{LOOKS, give_back};
+use crate::locks::{give_back, pause};
 use crate::rousing::Rousing;
 use crate::walks::{Hold, break_off, walk_hold, walked};
 use std::hint::spin_loop;
@@ -20,7 +19,7 @@ use std::sync::Wait;
 use wait_model::heads::head_of;
 use wait_model::queues::{End, Walked, Walking};
 use wait_model::watches::{Aim, Mode, Watch};
-use wait_rule::queues::{draw, lock_step, mark_member, park_until_next, serving_load};
+use wait_rule::queues::{draw, lock_step, mark_member, serving_load};
 use wait_rule::{Domain, Task};
 
 /// Where a wake stands between two of its holds: before the first one, or after a break, with a bookmark out, before
@@ -33,12 +32,14 @@ pub enum WakeStage {
     NextTurn,
 }
 
-/// What a turn of a wake did: the lock is not its turn yet; a hold broke, and the bookmark is out; or the wake is over.
+/// What a turn of a wake did: the lock is not its turn yet; a hold broke, and the bookmark is out; the wake is over; or
+/// no try of a task's wake was made, and it does not end.
 #[derive(Clone, Copy)]
 pub enum WakeTurn {
     Locked(WakeStage),
     Broken,
     Done(Walked),
+    Starved,
 }
 
 /// The numbers of a wake under way.
@@ -110,13 +111,16 @@ pub fn wake<R: Wait>(
     ensures carries { Carries (wake_all_change watch mode task.new.at) task.old task.new }
 {
     let mut list = Members::new();
+    let mut rousing = Rousing::new();
     let mut run = WakeRun::new(watch, mode, count);
     let mut stage = WakeStage::First;
     let mut looks = 0;
     for _ in rt.forever() {
-        match wake_stretch(rt, domain, task, &mut run, stage, &mut list) {
+        let turn = wake_stretch(domain, task, &mut run, stage, &mut list, &mut rousing);
+        rousing.rouse_all(domain);
+        match turn {
             WakeTurn::Locked(next) => {
-                looks = pause(rt, domain, &run, looks);
+                looks = pause(rt, domain, head_of(watch), run.served, looks);
                 stage = next;
             }
             WakeTurn::Broken => {
@@ -124,176 +128,143 @@ pub fn wake<R: Wait>(
                 stage = WakeStage::Next;
             }
             WakeTurn::Done(walked) => return walked,
+            WakeTurn::Starved => {
+                for _ in rt.forever() {
+                    spin_loop();
+                }
+                unreachable!()
+            }
         }
     }
     unreachable!()
 }
 
-/// Between two looks at a ticket that is not served yet: some times nothing, and then the thread parks.
-fn pause<R: Wait>(rt: &R, domain: &Domain, run: &WakeRun, looks: u32) -> u32
-    requires full { IsFull run.now.aim.watch }
-    ensures { result ≤ LOOKS }
-{
-    if looks < LOOKS {
-        spin_loop();
-        return looks + 1;
-    }
-    park_until_next(rt, domain, head_of(run.aim.watch), run.served);
-    LOOKS
-}
-
 /// Goes on with a wake by one hold at most, for who may not wait for a lock: an executor, or a caller from another
-/// language. It ends with no head held. Locked: the ticket of the lock is drawn and not served, and the wake goes on at
-/// the stage that is answered once another number of the head is served. Broken: the hold has called more than `BREAK`
-/// entries, and its bookmark is out; the wake goes on at `Next`, at once. Done: the wake is over, with the answer of
-/// `wake`. In between the task makes nothing else. `list` is room for the members of a head.
-pub fn wake_stretch<R: Wait>(
-    rt: &R,
+/// language. It waits for nobody and wakes no thread: `rousing`, in which none is left before, names the tasks that
+/// were put asleep and that this turn has woken, in the order of their wakes, for the caller to rouse. It ends with no
+/// head held. Locked: the ticket of the lock is drawn and not served, and the wake goes on at the stage that is
+/// answered once another number of the head is served. Broken: the hold has called more than `BREAK` entries, and its
+/// bookmark is out; the wake goes on at `Next`, at once. Done: the wake is over, with the answer of `wake`. In between
+/// the task makes nothing else. Starved: the word of one task changed before each of 2^64 - 1 tries to wake it, which
+/// no run comes to; the head is held then, and the wake does not end. `list` is room for the members of a head.
+pub fn wake_stretch(
     domain: &Domain,
     task: &mut Task,
     run: &mut WakeRun,
     stage: WakeStage,
     list: &mut Members,
+    rousing: &mut Rousing,
 ) -> WakeTurn
     requires of { task.old.domain ≡ domain.now }
     requires at { (start : Known) × IsAt start task.old run.old stage }
+    requires none { tasks_in rousing.old ≡ [] }
     ensures of { task.new.domain ≡ domain.now }
     ensures turned { (start : Known) → IsAt start task.old run.old stage
         → HasTurned start task.new run.old run.new result }
     ensures rests { Rests task.new run.new result }
+    ensures rouses { IsRousing task.old task.new rousing.new }
 {
-    match stage {
-        WakeStage::First => wake_hold(rt, domain, task, run, stage, list),
-        WakeStage::FirstTurn => wake_hold(rt, domain, task, run, stage, list),
-        WakeStage::Next => go_back(rt, domain, task, run, stage, list),
-        WakeStage::NextTurn => go_back(rt, domain, task, run, stage, list),
+    let head = head_of(run.aim.watch);
+    let at = draw_turn(domain, task, run, stage, head);
+    run.served = serving_load(domain, task, head);
+    if run.served != run.ticket {
+        return WakeTurn::Locked(at);
     }
+    begin_hold(domain, task, run, at, head);
+    hold(domain, task, run, list, rousing)
 }
 
-/// Makes the first hold of a wake, by one try of the lock.
-pub fn wake_hold<R: Wait>(
-    rt: &R,
+/// Draws the ticket of the next hold's lock, unless it is drawn, and answers the stage at which it is.
+fn draw_turn(
     domain: &Domain,
     task: &mut Task,
     run: &mut WakeRun,
     stage: WakeStage,
-    list: &mut Members,
-) -> WakeTurn
+    head: u16,
+) -> WakeStage
     requires of { task.old.domain ≡ domain.now }
-    requires first { IsFirst stage }
     requires at { (start : Known) × IsAt start task.old run.old stage }
+    requires head { head ≡ head_of run.old.aim.watch }
     ensures of { task.new.domain ≡ domain.now }
-    ensures turned { (start : Known) → IsAt start task.old run.old stage
-        → HasTurned start task.new run.old run.new result }
+    ensures aim { run.new.aim ≡ run.old.aim }
+    ensures drawn { (start : Known) → IsAt start task.old run.old stage → IsAt start task.new run.new result }
+    ensures turn { IsTurnStage result }
+    ensures rouses { RousesNone task.old task.new }
 {
-    let head = head_of(run.aim.watch);
-    draw_first(domain, task, run, stage);
-    run.served = serving_load(domain, task, head);
-    if run.served != run.ticket {
-        return WakeTurn::Locked(WakeStage::FirstTurn);
+    match stage {
+        WakeStage::First => {
+            run.ticket = draw(domain, task, head);
+            WakeStage::FirstTurn
+        }
+        WakeStage::Next => {
+            run.ticket = draw(domain, task, head);
+            WakeStage::NextTurn
+        }
+        WakeStage::FirstTurn => WakeStage::FirstTurn,
+        WakeStage::NextTurn => WakeStage::NextTurn,
     }
-    lock_step(domain, task, head, Some(run.aim));
-    run.walk = begun(run.aim);
-    hold(rt, domain, task, run, list)
 }
 
-/// Makes the next hold of a wake after a break, by one try of the lock: takes the bookmark out, and goes on where it
+/// Takes the lock by the ticket that was found served. Behind a break it takes the bookmark out, and goes on where that
 /// stood, with what is left of the count.
-pub fn go_back<R: Wait>(
-    rt: &R,
-    domain: &Domain,
-    task: &mut Task,
-    run: &mut WakeRun,
-    stage: WakeStage,
-    list: &mut Members,
-) -> WakeTurn
+fn begin_hold(domain: &Domain, task: &mut Task, run: &mut WakeRun, stage: WakeStage, head: u16)
     requires of { task.old.domain ≡ domain.now }
-    requires next { IsNext stage }
-    requires at { (start : Known) × IsAt start task.old run.old stage }
-    ensures of { task.new.domain ≡ domain.now }
-    ensures turned { (start : Known) → IsAt start task.old run.old stage
-        → HasTurned start task.new run.old run.new result }
-{
-    let head = head_of(run.aim.watch);
-    draw_next(domain, task, run, stage);
-    run.served = serving_load(domain, task, head);
-    if run.served != run.ticket {
-        return WakeTurn::Locked(WakeStage::NextTurn);
-    }
-    let rest = Aim {
-        watch: run.aim.watch,
-        mode: run.aim.mode,
-        count: run.walk.left,
-    };
-    lock_step(domain, task, head, Some(rest));
-    mark_member(domain, task, 0);
-    hold(rt, domain, task, run, list)
-}
-
-/// Draws the ticket of the first hold's lock, unless it is drawn.
-fn draw_first(domain: &Domain, task: &mut Task, run: &mut WakeRun, stage: WakeStage)
-    requires of { task.old.domain ≡ domain.now }
-    requires first { IsFirst stage }
-    requires at { (start : Known) × IsAt start task.old run.old stage }
+    requires head { head ≡ head_of run.old.aim.watch }
+    requires served { (start : Known) × IsServed start task.old run.old stage }
     ensures of { task.new.domain ≡ domain.now }
     ensures aim { run.new.aim ≡ run.old.aim }
-    ensures drawn { (start : Known) → IsAt start task.old run.old stage
-        → IsAt start task.new run.new stages.FirstTurn }
+    ensures walks { (start : Known) → IsServed start task.old run.old stage
+        → InWalk run.old.aim start task.new run.new.walk }
+    ensures rouses { RousesNone task.old task.new }
 {
     match stage {
-        WakeStage::First => run.ticket = draw(domain, task, head_of(run.aim.watch)),
-        _ => {}
+        WakeStage::NextTurn => {
+            let rest = Aim {
+                watch: run.aim.watch,
+                mode: run.aim.mode,
+                count: run.walk.left,
+            };
+            lock_step(domain, task, head, Some(rest));
+            mark_member(domain, task, 0);
+        }
+        _ => {
+            lock_step(domain, task, head, Some(run.aim));
+            run.walk = begun(run.aim);
+        }
     }
 }
 
-/// Draws the ticket of the next hold's lock, unless it is drawn.
-fn draw_next(domain: &Domain, task: &mut Task, run: &mut WakeRun, stage: WakeStage)
-    requires of { task.old.domain ≡ domain.now }
-    requires next { IsNext stage }
-    requires at { (start : Known) × IsAt start task.old run.old stage }
-    ensures of { task.new.domain ≡ domain.now }
-    ensures aim { run.new.aim ≡ run.old.aim }
-    ensures drawn { (start : Known) → IsAt start task.old run.old stage
-        → IsAt start task.new run.new stages.NextTurn }
-{
-    match stage {
-        WakeStage::Next => run.ticket = draw(domain, task, head_of(run.aim.watch)),
-        _ => {}
-    }
-}
-
-/// Makes a hold whose lock is taken, to its end or its break. The threads of those that it woke are woken after it.
-fn hold<R: Wait>(
-    rt: &R,
+/// Makes a hold whose lock is taken, to its end or its break.
+fn hold(
     domain: &Domain,
     task: &mut Task,
     run: &mut WakeRun,
     list: &mut Members,
+    rousing: &mut Rousing,
 ) -> WakeTurn
     requires of { task.old.domain ≡ domain.now }
     requires full { IsFull run.old.aim.watch }
     requires small { run.old.aim.count < 2 ^ 32 }
     requires walks { (start : Known) × InWalk run.old.aim start task.old run.old.walk }
+    requires none { tasks_in rousing.old ≡ [] }
     ensures of { task.new.domain ≡ domain.now }
     ensures turned { (start : Known) → IsUp start → IsIdle start → InWalk run.old.aim start task.old run.old.walk
         → HasTurned start task.new run.old run.new result }
+    ensures rouses { IsRousing task.old task.new rousing.new }
 {
-    let mut rousing = Rousing::new();
-    match walk_hold(rt, domain, task, run.aim, run.walk, list, &mut rousing) {
+    match walk_hold(domain, task, run.aim, run.walk, list, rousing) {
         Hold::Passed(walk) => {
             give_back(domain, task, false);
-            rousing.rouse_all(domain);
             WakeTurn::Done(walked(walk, End::End))
         }
         Hold::Spent(walk) => {
             give_back(domain, task, true);
-            rousing.rouse_all(domain);
             WakeTurn::Done(walked(walk, End::Spent))
         }
         Hold::Breaks(walk, before) => {
             run.walk = break_off(domain, task, run.aim, walk, before);
-            rousing.rouse_all(domain);
             WakeTurn::Broken
         }
+        Hold::Starved => WakeTurn::Starved,
     }
 }

@@ -5,14 +5,18 @@ ghost use Rattle.wq_head.specs.Readied.{IsReady};
 
 use crate::lists::Members;
 use crate::locks::{lock, unlock};
+use crate::rousing::Rousing;
 use crate::tests::many::queue_many;
+use crate::tests::waiting::queue_own;
 use crate::wakes::{WakeRun, WakeStage, WakeTurn, wake_stretch};
 use std::process::Abort;
 use std::sync::Wait;
 use std::test::Fail;
-use wait_model::layout::FIRST_PLAIN_HEAD;
+use wait_model::layout::{FIRST_PLAIN_HEAD, INTERRUPTIBLE};
 use wait_model::queues::End;
-use wait_model::watches::{Mode, Watch};
+use wait_model::tasks::Sleep;
+use wait_model::watches::{Kind, Mode, Watch};
+use wait_rule::tasks::sleep_exchange;
 use wait_rule::{Domain, Task};
 
 /// While another task holds the lock the wake makes no hold, and when that is given back it makes one.
@@ -24,20 +28,22 @@ fn locked_until_it_is_given_back(rt: HostRuntime) -> Result<(), Fail> {
     };
     lock(&rt, &domain, &mut other, FIRST_PLAIN_HEAD);
     let mut list = Members::new();
+    let mut rousing = Rousing::new();
     let mut run = WakeRun::new(Watch::Plain { cond: 0 }, Mode::Normal, 1);
     let first = wake_stretch(
-        &rt,
         &domain,
         &mut task,
         &mut run,
         WakeStage::First,
         &mut list,
+        &mut rousing,
     );
     let WakeTurn::Locked(stage) = first else {
         panic!(rt; "the other task holds the lock")
     };
     unlock(&rt, &domain, &mut other, false);
-    let second = wake_stretch(&rt, &domain, &mut task, &mut run, stage, &mut list);
+    rousing.clear();
+    let second = wake_stretch(&domain, &mut task, &mut run, stage, &mut list, &mut rousing);
     let WakeTurn::Done(walked) = second else {
         panic!(rt; "nobody holds the lock")
     };
@@ -54,12 +60,23 @@ fn wake_over_66<R: Abort + Wait>(rt: &R, domain: &Domain, mut task: Task)
 {
     assert!(rt; queue_many(rt, domain, &mut task, 66));
     let mut list = Members::new();
+    let mut rousing = Rousing::new();
     let mut run = WakeRun::new(Watch::Plain { cond: 0 }, Mode::Normal, 1);
-    let first = wake_stretch(rt, domain, &mut task, &mut run, WakeStage::First, &mut list);
+    let begins = WakeStage::First;
+    let first = wake_stretch(domain, &mut task, &mut run, begins, &mut list, &mut rousing);
     let WakeTurn::Broken = first else {
         panic!(rt; "a hold calls 65 entries")
     };
-    let second = wake_stretch(rt, domain, &mut task, &mut run, WakeStage::Next, &mut list);
+    rousing.clear();
+    let goes_on = WakeStage::Next;
+    let second = wake_stretch(
+        domain,
+        &mut task,
+        &mut run,
+        goes_on,
+        &mut list,
+        &mut rousing,
+    );
     let WakeTurn::Done(walked) = second else {
         panic!(rt; "one entry is left")
     };
@@ -72,5 +89,56 @@ fn wake_over_66<R: Abort + Wait>(rt: &R, domain: &Domain, mut task: Task)
 fn broken_between_two_holds(rt: HostRuntime) -> Result<(), Fail> {
     let (domain, task) = Domain::new(rt.alloc())?;
     wake_over_66(&rt, &domain, task);
+    Ok(())
+}
+
+/// A wake of two tasks, one of which was put asleep: the turn names that one, to be roused.
+fn wake_sleeper<R: Abort + Wait>(rt: &R, domain: &Domain, mut task: Task)
+    requires of { task.domain ≡ domain.now }
+    requires ready { IsReady task }
+{
+    let (Ok(mut sleeper), Ok(mut other)) = (task.fork(domain, 0), task.fork(domain, 0)) else {
+        panic!(rt; "numbers are spare")
+    };
+    assert!(rt;
+        queue_own(
+            rt,
+            domain,
+            &mut sleeper,
+            Kind::Autoremove,
+            false,
+            INTERRUPTIBLE
+        )
+    );
+    assert!(rt;
+        queue_own(
+            rt,
+            domain,
+            &mut other,
+            Kind::Autoremove,
+            false,
+            INTERRUPTIBLE
+        )
+    );
+    assert!(rt; matches!(sleep_exchange(rt, domain, &mut sleeper), Sleep::Asleep));
+    let mut list = Members::new();
+    let mut rousing = Rousing::new();
+    let mut run = WakeRun::new(Watch::Plain { cond: 0 }, Mode::Normal, 0);
+    let begins = WakeStage::First;
+    let turn = wake_stretch(domain, &mut task, &mut run, begins, &mut list, &mut rousing);
+    let WakeTurn::Done(walked) = turn else {
+        panic!(rt; "nobody holds the lock")
+    };
+    assert_eq!(rt; walked.woken, 2);
+    assert_eq!(rt; rousing.tasks(), [sleeper.number()].as_slice());
+    rousing.rouse_all(domain);
+    assert!(rt; rousing.tasks().is_empty());
+}
+
+/// Who was awake is woken too, and need not be roused.
+#[test]
+fn turn_names_who_slept(rt: HostRuntime) -> Result<(), Fail> {
+    let (domain, task) = Domain::new(rt.alloc())?;
+    wake_sleeper(&rt, &domain, task);
     Ok(())
 }

@@ -1,4 +1,4 @@
-use Rattle.std.proofs.Common.{◌≡◌, sym, refl, subst}
+use Rattle.std.proofs.Common.{◌∙◌, ◌≡◌, sym, refl, subst}
 use Rattle.std.specs.Prelude.{true, false, None}
 use Rattle.wait_model.specs.declared.steps.Step.TheVariants as step
 use Rattle.wait_model.specs.Watches.{head_of}
@@ -7,10 +7,12 @@ use Rattle.wait_rule.specs.Says.{stored_with}
 use Rattle.wait_rule.proofs.KnownLaws.Turns.{unlocked_free}
 use Rattle.wq_head.proofs.EntryFunctions.{keeps_on}
 use Rattle.wq_head.proofs.WholeWalk.{come_on, walk_passed, walk_spent}
+use Rattle.wq_head.specs.Roused.{RousesNone}
+use Rattle.wq_head.proofs.RousedTasks.{none_stored, none_unlocked, rousing_on}
 use Rattle.wq_head.proofs.wakes.hold.Goals as goal
 
 pub returns-in-Passed-clause-turned : goal.returns-in-Passed-clause-turned
-returns-in-Passed-clause-turned g c start up idle i =
+returns-in-Passed-clause-turned c start up idle i =
     let mid = c.walk_hold.new.task in
     let over = c.in-Passed.ensures.over in record {
       aim = refl;
@@ -22,7 +24,7 @@ returns-in-Passed-clause-turned g c start up idle i =
     }
 
 pub returns-in-Spent-clause-turned : goal.returns-in-Spent-clause-turned
-returns-in-Spent-clause-turned g c start up idle i =
+returns-in-Spent-clause-turned c start up idle i =
     let mid = c.walk_hold.new.task in
     let over = c.in-Spent.ensures.over in record {
       aim = refl;
@@ -34,7 +36,7 @@ returns-in-Spent-clause-turned g c start up idle i =
     }
 
 pub returns-in-Breaks-clause-turned : goal.returns-in-Breaks-clause-turned
-returns-in-Breaks-clause-turned g c start up idle i =
+returns-in-Breaks-clause-turned c start up idle i =
     let a = c.args.run.now.aim in
     let mid = c.walk_hold.new.task in
     let over = c.in-Breaks.ensures.over in
@@ -67,3 +69,28 @@ returns-in-Breaks-clause-turned g c start up idle i =
         };
       };
     }
+
+-- whom it is to rouse
+pub returns-in-Passed-clause-rouses : goal.returns-in-Passed-clause-rouses
+returns-in-Passed-clause-rouses c =
+    let mid = c.walk_hold.new.task in
+    rousing_on c.args.task.now mid c.give_back.new.task c.walk_hold.new.rousing
+    (subst (RousesNone mid) (sym c.give_back.ensures) (none_unlocked mid mid.at false)) c.walk_hold.ensures.rouses
+
+pub returns-in-Spent-clause-rouses : goal.returns-in-Spent-clause-rouses
+returns-in-Spent-clause-rouses c =
+    let mid = c.walk_hold.new.task in
+    rousing_on c.args.task.now mid c.give_back-in-Spent.new.task c.walk_hold.new.rousing
+    (subst (RousesNone mid) (sym c.give_back-in-Spent.ensures) (none_unlocked mid mid.at true))
+    c.walk_hold.ensures.rouses
+
+pub returns-in-Breaks-clause-rouses : goal.returns-in-Breaks-clause-rouses
+returns-in-Breaks-clause-rouses c =
+    let mid = c.walk_hold.new.task in
+    let mark = step.Mark (head_of c.args.run.now.aim.watch) c.break_off-run.result.place in
+    rousing_on c.args.task.now mid c.break_off-run.new.task c.walk_hold.new.rousing
+    (subst (RousesNone mid) (sym c.break_off-run.ensures.made) (none_unlocked (stored_with mid mark) mid.at false
+    ∙ none_stored mid mark refl)) c.walk_hold.ensures.rouses
+
+pub returns-in-Starved-clause-turned : goal.returns-in-Starved-clause-turned
+returns-in-Starved-clause-turned c start up idle i = record { aim = refl; outside = tt; turns = tt }

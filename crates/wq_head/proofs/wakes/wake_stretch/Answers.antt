@@ -1,20 +1,104 @@
-use Rattle.wq_head.proofs.WakeTurns.{rests_of}
+use Rattle.std.proofs.Common.{◌∙◌, ap, sym, refl, subst, arith}
+use Rattle.wait_model.specs.declared.watches.Aim.{Aim}
+use Rattle.wait_model.specs.Watches.{head_of}
+use Rattle.wait_rule.specs.declared.journal.Item.TheVariants as item
+use Rattle.wq_head.specs.Roused.{RousesNone}
+use Rattle.wq_head.specs.Turns.{InWalk}
+use Rattle.wq_head.specs.Walks.{IsFull}
+use Rattle.wq_head.proofs.FirstHold.{head_small}
+use Rattle.wq_head.proofs.RousedTasks.{none_added, rousing_on, rousing_from, rousing_none}
+use Rattle.wq_head.proofs.WakeTurns.{outside_on, waits_on, served_on, rests_of}
 use Rattle.wq_head.proofs.wakes.wake_stretch.Goals as goal
 
-pub returns-in-First-clause-rests : goal.returns-in-First-clause-rests
-returns-in-First-clause-rests g c = rests_of c.requires.at.0 c.wake_hold.new.task c.args.run.now c.wake_hold.new.run
-    c.wake_hold.result (c.wake_hold.ensures.turned c.requires.at.0 c.requires.at.1)
+pub serving_load-run-requires-clause-head : goal.serving_load-run-requires-clause-head
+serving_load-run-requires-clause-head c =
+    let small = (head_small c.args.run.now.aim.watch c.requires.at.1.full).0 in
+    let is = c.head_of-head.ensures in
+    omega (arith, small, is)
 
-pub returns-in-FirstTurn-clause-rests : goal.returns-in-FirstTurn-clause-rests
-returns-in-FirstTurn-clause-rests g c = rests_of c.requires.at.0 c.wake_hold-in-FirstTurn.new.task
-    c.args.run.now c.wake_hold-in-FirstTurn.new.run
-    c.wake_hold-in-FirstTurn.result (c.wake_hold-in-FirstTurn.ensures.turned c.requires.at.0 c.requires.at.1)
+-- another number is served
+pub returns-then-run-clause-turned : goal.returns-then-run-clause-turned
+returns-then-run-clause-turned c start is_at =
+    let d = c.draw_turn-at in
+    let at_h = c.head_of-head.ensures ∙ ap (λ (a : Aim). head_of a.watch) (sym d.ensures.aim) in
+    let at = d.ensures.drawn start is_at in record {
+      aim = d.ensures.aim;
+      outside = outside_on start d.new.task c.serving_load-run.new.task d.new.run c.head_of-head.result
+          c.serving_load-run.result at_h c.serving_load-run.ensures.step d.result d.ensures.turn at;
+      turns = waits_on start d.new.task c.serving_load-run.new.task d.new.run c.head_of-head.result
+          c.serving_load-run.result at_h c.serving_load-run.ensures.step d.result d.ensures.turn at c.if-run.true;
+    }
 
-pub returns-in-Next-clause-rests : goal.returns-in-Next-clause-rests
-returns-in-Next-clause-rests g c = rests_of c.requires.at.0 c.go_back.new.task c.args.run.now c.go_back.new.run
-    c.go_back.result (c.go_back.ensures.turned c.requires.at.0 c.requires.at.1)
+pub returns-then-run-clause-rests : goal.returns-then-run-clause-rests
+returns-then-run-clause-rests c = rests_of c.requires.at.0 _ c.args.run.now _ _
+    (returns-then-run-clause-turned c c.requires.at.0 c.requires.at.1)
 
-pub returns-in-NextTurn-clause-rests : goal.returns-in-NextTurn-clause-rests
-returns-in-NextTurn-clause-rests g c = rests_of c.requires.at.0 c.go_back-in-NextTurn.new.task c.args.run.now
-    c.go_back-in-NextTurn.new.run
-    c.go_back-in-NextTurn.result (c.go_back-in-NextTurn.ensures.turned c.requires.at.0 c.requires.at.1)
+pub returns-then-run-clause-rouses : goal.returns-then-run-clause-rouses
+returns-then-run-clause-rouses c =
+    let d = c.draw_turn-at in
+    rousing_on c.args.task.now c.args.task.now c.serving_load-run.new.task c.args.rousing.now
+    (subst (RousesNone d.new.task) (sym c.serving_load-run.ensures.step) (none_added d.new.task
+    (item.Serving c.head_of-head.result c.serving_load-run.result) refl) ∙ d.ensures.rouses)
+    (rousing_none c.args.task.now c.args.rousing.now c.requires.none)
+
+-- the ticket is served
+pub begin_hold-requires-clause-head : goal.begin_hold-requires-clause-head
+begin_hold-requires-clause-head c =
+    c.head_of-head.ensures ∙ ap (λ (a : Aim). head_of a.watch) (sym c.draw_turn-at.ensures.aim)
+
+pub begin_hold-requires-clause-served : goal.begin_hold-requires-clause-served
+begin_hold-requires-clause-served c =
+    let d = c.draw_turn-at in
+    let at_h = c.head_of-head.ensures ∙ ap (λ (a : Aim). head_of a.watch) (sym d.ensures.aim) in (
+      c.requires.at.0,
+      served_on c.requires.at.0 d.new.task c.serving_load-run.new.task d.new.run c.head_of-head.result
+          c.serving_load-run.result at_h c.serving_load-run.ensures.step d.result d.ensures.turn
+          (d.ensures.drawn c.requires.at.0 c.requires.at.1) c.if-run.false,
+    )
+
+pub hold-requires-clause-full : goal.hold-requires-clause-full
+hold-requires-clause-full c = subst (λ (a : Aim). IsFull a.watch)
+    (sym (c.begin_hold.ensures.aim ∙ c.draw_turn-at.ensures.aim)) c.requires.at.1.full
+
+pub hold-requires-clause-small : goal.hold-requires-clause-small
+hold-requires-clause-small c =
+    let is = ap (λ (a : Aim). a.count) (c.begin_hold.ensures.aim ∙ c.draw_turn-at.ensures.aim) in
+    let small = c.requires.at.1.small in
+    omega (arith, is, small)
+
+pub hold-requires-clause-walks : goal.hold-requires-clause-walks
+hold-requires-clause-walks c =
+    let d = c.draw_turn-at in
+    let start = c.requires.at.0 in
+    let at_h = c.head_of-head.ensures ∙ ap (λ (a : Aim). head_of a.watch) (sym d.ensures.aim) in
+    let served = served_on start d.new.task c.serving_load-run.new.task d.new.run c.head_of-head.result
+    c.serving_load-run.result at_h c.serving_load-run.ensures.step d.result d.ensures.turn
+    (d.ensures.drawn start c.requires.at.1) c.if-run.false in (
+      start,
+      subst (λ (a : Aim). InWalk a start c.begin_hold.new.task c.begin_hold.new.run.walk)
+          (sym c.begin_hold.ensures.aim) (c.begin_hold.ensures.walks start served),
+    )
+
+pub returns-clause-turned : goal.returns-clause-turned
+returns-clause-turned c start is_at =
+    let d = c.draw_turn-at in
+    let at_h = c.head_of-head.ensures ∙ ap (λ (a : Aim). head_of a.watch) (sym d.ensures.aim) in
+    let served = served_on start d.new.task c.serving_load-run.new.task d.new.run c.head_of-head.result
+    c.serving_load-run.result at_h c.serving_load-run.ensures.step d.result d.ensures.turn
+    (d.ensures.drawn start is_at) c.if-run.false in
+    let walks = subst (λ (a : Aim). InWalk a start c.begin_hold.new.task c.begin_hold.new.run.walk)
+    (sym c.begin_hold.ensures.aim) (c.begin_hold.ensures.walks start served) in
+    let t = c.hold.ensures.turned start is_at.up is_at.idle walks in
+    record { aim = t.aim ∙ (c.begin_hold.ensures.aim ∙ d.ensures.aim); outside = t.outside; turns = t.turns }
+
+pub returns-clause-rests : goal.returns-clause-rests
+returns-clause-rests c = rests_of c.requires.at.0 _ c.args.run.now _ _
+    (returns-clause-turned c c.requires.at.0 c.requires.at.1)
+
+pub returns-clause-rouses : goal.returns-clause-rouses
+returns-clause-rouses c =
+    let d = c.draw_turn-at in
+    rousing_from c.args.task.now c.begin_hold.new.task c.hold.new.task c.hold.new.rousing
+    (c.begin_hold.ensures.rouses ∙ (subst (RousesNone d.new.task) (sym c.serving_load-run.ensures.step)
+    (none_added d.new.task (item.Serving c.head_of-head.result c.serving_load-run.result) refl) ∙ d.ensures.rouses))
+    c.hold.ensures.rouses

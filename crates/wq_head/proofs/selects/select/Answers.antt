@@ -1,0 +1,150 @@
+use Rattle.std.proofs.Common.{◌∙◌, ◌≡◌, ◌+◌, ◌<◌, ◌≤◌, ℕ, ap, sym, subst, inl, inr, length, List, arith}
+use Rattle.std.proofs.Common.{slice_index_or}
+use Rattle.std.proofs.lemmas.List.{length-map}
+use Rattle.wait_model.specs.declared.layout.TheConstants.{FIRST_SIMPLE_HEAD}
+use Rattle.wait_model.specs.declared.queues.Member.{Member}
+use Rattle.wait_rule.specs.Known.{Known}
+use Rattle.wait_rule.specs.Shown.{shown_queue}
+use Rattle.wq_head.specs.Members.{member_of}
+use Rattle.wq_head.specs.Lists.{members_in, stand_in}
+use Rattle.wq_head.proofs.KeptHolds.{hold_carried, hold_on, hold_simple}
+use Rattle.wq_head.proofs.SelectingHold.{
+  InSelection,
+  selection_starts,
+  first_here,
+  passes_mark,
+  takes_entry,
+  selection_is,
+  selection_rises,
+  none_left,
+  queue_few,
+}
+use Rattle.wq_head.proofs.selects.select.Goals as goal
+use Rattle.wq_head.proofs.selects.select.Goals.{
+  then-stand-lt-ENTRIES+else-selected-most,
+  else-stand-lt-ENTRIES,
+}
+
+pub loop-i-init : goal.loop-i-init
+loop-i-init g c =
+    let l = c.members.ensures in (
+      c.members.new.task,
+      l.queue,
+      selection_starts c.args.task.now c.members.new.task c.requires.held
+          (subst (λ (h : ℕ). FIRST_SIMPLE_HEAD ≤ h) c.requires.head c.requires.simple) l.looks l.whole l.stands,
+      λ some. omega arith,
+    )
+
+pub overflow_add-selected : goal.overflow_add-selected
+overflow_add-selected g c =
+    let i = c.loop-i.invariant in
+    let inside = ap length (sym i.1) ∙ length-map (members_in c.members.new.into) stand_in in
+    let few = i.2.few in
+    let all = queue_few i.0 in
+    omega (arith, few, all, inside, c.loop-i-test.true, c.len-i-end.ensures)
+
+pub take_first-requires-clause-first : goal.take_first-requires-clause-first
+take_first-requires-clause-first g c =
+    let i = c.loop-i.invariant in
+    let inside = ap length (sym i.1) ∙ length-map (members_in c.members.new.into) stand_in in
+    first_here c.args.task.now c.loop-i.task i.0 c.loop-i.i c.loop-i.selected i.2 c.stand-stand.result
+    (omega (arith, inside, c.loop-i-test.true, c.len-i-end.ensures))
+    (subst (λ (q : List Member). member_of c.stand-stand.result ≡ slice_index_or q c.loop-i.i
+    (member_of c.stand-stand.result)) i.1 c.stand-stand.ensures) c.if-stand-lt-ENTRIES.true
+
+pub loop-i-preserved : goal.loop-i-preserved
+loop-i-preserved g c =
+    let i = c.loop-i.invariant in
+    let inside = ap length (sym i.1) ∙ length-map (members_in c.members.new.into) stand_in in
+    let in_queue : c.loop-i.i < length (shown_queue i.0) =
+    omega (arith, inside, c.loop-i-test.true, c.len-i-end.ensures) in
+    let here = subst (λ (q : List Member). member_of c.stand-stand.result ≡ slice_index_or q c.loop-i.i
+    (member_of c.stand-stand.result)) i.1 c.stand-stand.ensures in
+    let set = λ (t : Known) (n : ℕ) (at : c.if-stand-lt-ENTRIES.task ≡ t) (by : c.if-stand-lt-ENTRIES.selected ≡ n)
+    (h : InSelection c.args.task.now t i.0 (c.loop-i.i + 1) n).
+    subst (λ (k : Known). InSelection c.args.task.now k i.0 (c.loop-i.i + 1) c.if-stand-lt-ENTRIES.selected)
+    (sym at) (subst (λ (m : ℕ). InSelection c.args.task.now t i.0 (c.loop-i.i + 1) m) (sym by) h) in (
+      i.0,
+      i.1,
+      elim c.if-stand-lt-ENTRIES.branch [
+        | then-stand-lt-ENTRIES+else-selected-most w ↦
+            set w.take_first.new.task (c.loop-i.selected + 1) w.task-is w.selected-is
+            (takes_entry c.args.task.now c.loop-i.task i.0 c.loop-i.i c.loop-i.selected i.2 c.stand-stand.result
+            in_queue here w.if-stand-lt-ENTRIES.true w.take_first.new.task w.take_first.ensures)
+        | else-stand-lt-ENTRIES w ↦
+            set c.loop-i.task c.loop-i.selected w.task-is w.selected-is
+            (passes_mark c.args.task.now c.loop-i.task i.0 c.loop-i.i c.loop-i.selected i.2 c.stand-stand.result
+            in_queue here (omega (arith, w.if-stand-lt-ENTRIES.false)))
+      ],
+      elim c.if-stand-lt-ENTRIES.branch [
+        | then-stand-lt-ENTRIES+else-selected-most w ↦ λ some.
+            let was = i.3 some in omega (arith, was, w.if-selected-most.false, w.selected-is)
+        | else-stand-lt-ENTRIES w ↦ λ some. let was = i.3 some in omega (arith, was, w.selected-is)
+      ],
+    )
+
+pub returns-then-selected-most-clause-selected : goal.returns-then-selected-most-clause-selected
+returns-then-selected-most-clause-selected g c =
+    let i = c.loop-i.invariant in
+    let inside = ap length (sym i.1) ∙ length-map (members_in c.members.new.into) stand_in in
+    let in_queue : c.loop-i.i < length (shown_queue i.0) =
+    omega (arith, inside, c.loop-i-test.true, c.len-i-end.ensures) in
+    let here = subst (λ (q : List Member). member_of c.stand-stand.result ≡ slice_index_or q c.loop-i.i
+    (member_of c.stand-stand.result)) i.1 c.stand-stand.ensures in
+    let h = takes_entry c.args.task.now c.loop-i.task i.0 c.loop-i.i c.loop-i.selected i.2 c.stand-stand.result
+    in_queue here c.if-stand-lt-ENTRIES.true c.take_first.new.task c.take_first.ensures in
+    selection_is c.args.task.now c.take_first.new.task i.0 (c.loop-i.i + 1) (c.loop-i.selected + 1) h c.args.most
+    (inl ((λ none. omega (arith, none, c.if-selected-most.true)), c.if-selected-most.true))
+
+pub returns-then-selected-most-clause-carries : goal.returns-then-selected-most-clause-carries
+returns-then-selected-most-clause-carries g c =
+    hold_carried c.args.task.now c.take_first.new.task
+    (hold_on c.args.task.now c.loop-i.task c.take_first.new.task c.loop-i.invariant.2.keeps c.take_first.ensures.keeps)
+
+pub returns-then-selected-most-clause-keeps : goal.returns-then-selected-most-clause-keeps
+returns-then-selected-most-clause-keeps g c =
+    hold_simple c.args.task.now c.take_first.new.task
+    (hold_on c.args.task.now c.loop-i.task c.take_first.new.task c.loop-i.invariant.2.keeps c.take_first.ensures.keeps)
+
+pub returns-then-selected-most-clause-rises : goal.returns-then-selected-most-clause-rises
+returns-then-selected-most-clause-rises g c =
+    let i = c.loop-i.invariant in
+    let inside = ap length (sym i.1) ∙ length-map (members_in c.members.new.into) stand_in in
+    let in_queue : c.loop-i.i < length (shown_queue i.0) =
+    omega (arith, inside, c.loop-i-test.true, c.len-i-end.ensures) in
+    let here = subst (λ (q : List Member). member_of c.stand-stand.result ≡ slice_index_or q c.loop-i.i
+    (member_of c.stand-stand.result)) i.1 c.stand-stand.ensures in
+    let h = takes_entry c.args.task.now c.loop-i.task i.0 c.loop-i.i c.loop-i.selected i.2 c.stand-stand.result
+    in_queue here c.if-stand-lt-ENTRIES.true c.take_first.new.task c.take_first.ensures in
+    λ some simple. selection_rises c.args.task.now c.take_first.new.task i.0 (c.loop-i.i + 1) (c.loop-i.selected + 1) h
+    some (hold_simple c.args.task.now c.take_first.new.task h.keeps simple)
+
+pub returns-clause-selected : goal.returns-clause-selected
+returns-clause-selected g c =
+    let i = c.loop-i.invariant in
+    let inside = ap length (sym i.1) ∙ length-map (members_in c.members.new.into) stand_in in
+    selection_is c.args.task.now c.loop-i.task i.0 c.loop-i.i c.loop-i.selected i.2 c.args.most
+    (inr (
+      none_left c.args.task.now c.loop-i.task i.0 c.loop-i.i c.loop-i.selected i.2
+          (omega (arith, inside, c.loop-i-test.false, c.len-i-end.ensures)),
+      i.3,
+    ))
+
+pub returns-clause-carries : goal.returns-clause-carries
+returns-clause-carries g c = hold_carried c.args.task.now c.loop-i.task c.loop-i.invariant.2.keeps
+
+pub returns-clause-keeps : goal.returns-clause-keeps
+returns-clause-keeps g c = hold_simple c.args.task.now c.loop-i.task c.loop-i.invariant.2.keeps
+
+pub returns-clause-rises : goal.returns-clause-rises
+returns-clause-rises g c = λ some simple.
+    let i = c.loop-i.invariant in
+    selection_rises c.args.task.now c.loop-i.task i.0 c.loop-i.i c.loop-i.selected i.2 some
+    (hold_simple c.args.task.now c.loop-i.task i.2.keeps simple)
+
+pub returns-then-selected-most-clause-hold : goal.returns-then-selected-most-clause-hold
+returns-then-selected-most-clause-hold g c = hold_on c.args.task.now c.loop-i.task c.take_first.new.task
+    c.loop-i.invariant.2.keeps c.take_first.ensures.keeps
+
+pub returns-clause-hold : goal.returns-clause-hold
+returns-clause-hold g c = c.loop-i.invariant.2.keeps

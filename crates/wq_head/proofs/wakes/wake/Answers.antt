@@ -1,0 +1,15 @@
+use Rattle.std.proofs.Common.{◌∙◌, arith}
+use Rattle.wq_head.proofs.FirstHold.{head_small}
+use Rattle.wq_head.proofs.wakes.wake.Goals as goal
+
+pub pause-looks-requires : goal.pause-looks-requires
+pause-looks-requires g c =
+    let small = (head_small c.args.watch c.requires.full).0 in
+    let is = c.head_of.ensures in
+    record { head = omega (arith, small, is) }
+
+pub loop-preserved : goal.loop-preserved
+loop-preserved g c =
+    let i = c.loop.invariant in
+    let t = c.in-Broken.ensures.turned c.args.task.now i.1 in
+    (t.aim ∙ i.0, t.turns, c.in-Broken.ensures.of, c.rouse_all.ensures)

@@ -1,5 +1,5 @@
 -- The calls that add an entry of a task and remove it: their transitions, and what they carry on.
-use Rattle.std.proofs.Common.{◌∙◌, ap, sym, refl, subst, inl}
+use Rattle.std.proofs.Common.{◌∙◌, ap, sym, refl, subst, inl, inr}
 use Rattle.std.specs.Prelude.{ℕ, ◌≡◌, ◌<◌, ◌&&◌, not, Bool, true, false, Some, None, Result, Ok, Err, IfOk, IfErr}
 use Rattle.std.specs.Prelude.{[], ◌∷◌, ◌++◌}
 use Rattle.wait_model.specs.declared.layout.TheConstants.{FIRST_SIMPLE}
@@ -22,6 +22,7 @@ use Rattle.wait_rule.specs.declared.journal.Item.{Item}
 use Rattle.wait_rule.specs.declared.journal.Item.TheVariants as item
 use Rattle.wait_rule.specs.Ends.{WasWorn}
 use Rattle.wait_rule.specs.Known.{Known}
+use Rattle.wait_rule.specs.Members.{IsOwnKind}
 use Rattle.wait_rule.specs.Says.{Excuse, IsFree, IsUp, added, stored_with, told_of, unlocked_with}
 use Rattle.wait_rule.specs.Queues.{IsTold, index, at_head, walk_of_hold}
 use Rattle.wait_rule.specs.Shown.{shown_queue}
@@ -37,7 +38,7 @@ use Rattle.wq_head.specs.declared.adds.Worn.{Worn}
 use Rattle.wq_head.specs.Adds.{HasAdded, IsFor}
 use Rattle.wq_head.specs.Holds.{HasLocked, HasUnlocked}
 use Rattle.wq_head.proofs.LockWaits.{turn_looks, turn_of}
-use Rattle.wait_event.specs.Entries.{EndsAdd, MayRemove, add_change, hold_change}
+use Rattle.wait_event.specs.Entries.{EndsAdd, HasWokenEntry, MayRemove, add_change, hold_change}
 use Rattle.wait_event.specs.Posts.{Runs}
 use Rattle.wait_event.specs.Queueing.{IsFormPlace, IsFormWorn, form_entry}
 use Rattle.wait_event.specs.Waits.{nothing, own_of, with_worn}
@@ -131,11 +132,6 @@ unlock_looks b new is = subst (OnlyLooks (added b (item.Made (step.Unlock b.at f
     (serve_looks b b.at false)
 
 -- the entry that is queued
-and_not : (b s : Bool) → s ≡ false → b ≡ (b && not s)
-and_not true true is = absurd (cc)
-and_not true false is = refl
-and_not false s is = refl
-
 given_is : (c : ℕ) (k : Kind) → is_simple k ≡ false → (form : Form) (p q : ℕ) → q ≡ p
     → form_entry form (watch.Plain c) k p ≡ record {
       watch = watch.Plain c;
@@ -147,13 +143,18 @@ given_is : (c : ℕ) (k : Kind) → is_simple k ≡ false → (form : Form) (p q
 given_is c k simple form p q is i = record {
   watch = watch.Plain c;
   place = sym is i;
-  exclusive = and_not (is_exclusive form) (is_simple k) simple i;
+  exclusive = is_exclusive form && not (is_simple k);
   priority = is_priority form;
   kind = k;
 }
 
-pub default_for : (c : ℕ) (k : Kind) → c < FIRST_SIMPLE → k ≡ kind.Default → IsFor (watch.Plain c) k
-default_for c k full is = (c, refl, full, inl is)
+pub own_for : (c : ℕ) (k : Kind) → c < FIRST_SIMPLE → IsOwnKind k → IsFor (watch.Plain c) k
+own_for c k full (inl is) = (c, refl, full, inl is)
+own_for c k full (inr is) = (c, refl, full, inr (inr is))
+
+own_simple : (k : Kind) → IsOwnKind k → is_simple k ≡ false
+own_simple k (inl is) = ap is_simple is
+own_simple k (inr is) = ap is_simple is
 
 -- the lock of the head
 pub lock_at : (old a : Known) (c h : ℕ) → h ≡ head_of (watch.Plain c) → HasLocked old a h (walk_of_hold h None)
@@ -165,7 +166,7 @@ pub lock_carries : (old a : Known) (c h : ℕ) → h ≡ head_of (watch.Plain c)
 lock_carries old a c h is l = subst (λ (n : ℕ). Carries (lock_change n) old a) is l
 
 -- an add
-module _ (old a b new : Known) (c : ℕ) (k : Kind) (form : Form) (is_default : k ≡ kind.Default)
+module _ (old a b new : Known) (c : ℕ) (k : Kind) (form : Form) (own : IsOwnKind k)
     (l : HasLocked old a (head_of (watch.Plain c)) (walk_of_hold (head_of (watch.Plain c)) None))
     (u : HasUnlocked b new false) where
   abbrev f : Program
@@ -203,7 +204,7 @@ module _ (old a b new : Known) (c : ℕ) (k : Kind) (form : Form) (is_default : 
         refl,
         sym (ap (λ (j : Known). j.at) x.looks.is ∙ at_lock),
         x.whole,
-        given_is c k (ap is_simple is_default) form x.place (place_for form (shown_queue x.seen))
+        given_is c k (own_simple k own) form x.place (place_for form (shown_queue x.seen))
             (form_is x.seen x.low form x.place x.sort),
       )
       (tt, (x.whole, sym (form_left x.seen x.low form x.place x.sort)), tt)
@@ -281,7 +282,23 @@ module _ (old a b new : Known) (c : ℕ) (k : Kind) (form : Form) (is_default : 
           queued = ap (λ (n : ℕ). (told_of new).bits.stored (index n 0)) number
               ∙ (three.stored (index old.view.number 0) refl refl
               ∙ (ap (λ (n : ℕ). (told_of b).bits.stored (index n 0)) (sym one.number) ∙ x.queued));
-          kind = inl is_default;
+          kind = own;
           about = refl;
         }
     add_stands up full (Err w) x = tt
+
+    pub add_woken : c < FIRST_SIMPLE → (r : Result (Unit {0}) Worn)
+        → IfOk r (λ _. HasAdded (IsFormPlace form) a b 0 (form_entry form (watch.Plain c) k))
+        → IfOk r (λ _. k ≡ kind.Woken → HasWokenEntry new)
+    add_woken full (Ok u) x = λ is.
+        let number = three.number ∙ (x.carries.number ∙ one.number) in record {
+          cond = c;
+          full = full;
+          entry = form_entry form (watch.Plain c) k x.place;
+          queued = ap (λ (n : ℕ). (told_of new).bits.stored (index n 0)) number
+              ∙ (three.stored (index old.view.number 0) refl refl
+              ∙ (ap (λ (n : ℕ). (told_of b).bits.stored (index n 0)) (sym one.number) ∙ x.queued));
+          kind = is;
+          about = refl;
+        }
+    add_woken full (Err w) x = tt

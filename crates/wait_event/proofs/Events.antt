@@ -8,6 +8,7 @@ pub mod Peeks
 pub mod Pares
 pub mod WornPlaces
 pub mod FormPlaces
+pub mod Conditions
 pub mod Queues
 pub mod Parts
 pub mod Rising

@@ -1,8 +1,10 @@
 pub mod Ground
 pub mod Events
+pub mod Hearing
 pub mod Setting
 pub mod Preparing
 pub mod Entering
 pub mod Removing
 pub mod Words
 pub mod ReadyTasks
+pub mod Hearers

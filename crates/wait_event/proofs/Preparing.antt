@@ -92,6 +92,7 @@ use Rattle.wait_event.proofs.Ground.Keeping.{keeps_on}
 use Rattle.wait_event.proofs.Events.Endings.{none_of}
 use Rattle.wait_event.proofs.Events.Peeks.{peek_from, peek_some}
 use Rattle.wait_event.proofs.Events.Turns.{GoesOn}
+use Rattle.wait_event.proofs.Events.Conditions.{full_runs}
 use Rattle.wait_event.proofs.Ground.Standing.{home_waits, seen_home}
 use Rattle.wait_model.specs.declared.points.Next.{Next}
 use Rattle.wait_event.proofs.Events.States.{state_keeps, state_looks, state_stands, state_up}
@@ -99,7 +100,7 @@ use Rattle.wait_event.proofs.Events.States.{state_keeps, state_looks, state_stan
 pub prepares_at : (k : Known) (r : WaitRun) (w : Watch) (c : ℕ) (how : How) (asks : Bool) → IsFresh r c how asks
     → c ≡ cond_in w → IsFullWatch w → IsTold k → MayPrepare k w → IsAt k r stage.PrepareLock
 prepares_at k r w c how asks fresh same full told may = record {
-  runs = record { full = subst (λ (n : ℕ). n < FIRST_SIMPLE) (sym (fresh.cond ∙ same)) full.1 };
+  runs = full_runs r (cond_in w) (fresh.cond ∙ same) full.1;
   up = may.up;
   stands = record {
     head = may.free.head;
@@ -282,7 +283,7 @@ module _ (old mid : Known) (may : MayFinish old) (told : IsTold old)
 
   looks_at : IsAt mid finished stage.FinishLook
   looks_at = record {
-    runs = record { full = may.full };
+    runs = full_runs finished may.cond refl may.full;
     up = state_up old mid 0 is carries may.up;
     stands = state_stands old mid 0 is carries before (wait_post finished stage.FinishLook) stands_before refl refl refl
         (λ o h. h);
@@ -332,7 +333,7 @@ module _ (old mid : Known) (may : MayFinish old) (told : IsTold old)
 
     pub lock_at : IsAt k q stage.FinishLock
     lock_at = record {
-      runs = record { full = subst (λ (n : ℕ). n < FIRST_SIMPLE) (sym its_cond) may.full };
+      runs = full_runs q may.cond its_cond may.full;
       up = g_some.lands.0;
       stands = subst (Stands k) (λ i. post_at None (calls.Wait (sym its_cond i) (sym fresh.how_is i))
           (at.Finish finishing.Lock false)) g_some.lands.1;

@@ -58,7 +58,9 @@ module _ (old seen : Known) (may : MayRemove old) (told : IsTold old) (o : Optio
   about = ap (λ (f : Entry). f.watch) same_entry ∙ may.about
 
   pub head_fit : (h : ℕ) → h ≡ head_of e.watch → h < HEADS
-  head_fit h is = subst (λ (n : ℕ). n < HEADS) (sym (is ∙ ap head_of about)) (head_fits may.cond may.full)
+  head_fit h is =
+      let full = may.full in
+      subst (λ (n : ℕ). n < HEADS) (sym (is ∙ ap head_of about)) (head_fits may.cond (omega (arith, full)))
 
   head_is : head_of e.watch ≡ FIRST_PLAIN_HEAD + plain_cond e.watch
   head_is = subst (λ (w : Watch). head_of w ≡ FIRST_PLAIN_HEAD + plain_cond w) (sym about) (head_plain may.cond)

@@ -5,6 +5,7 @@ use Rattle.wait_model.specs.declared.calls.Call.TheVariants as calls
 use Rattle.wait_model.specs.declared.calls.Answer.TheVariants as answer
 use Rattle.wait_model.specs.declared.points.Point.TheVariants as at
 use Rattle.wait_model.specs.declared.points.WalkPoint.TheVariants as walking
+use Rattle.wait_model.specs.declared.points.WokenPoint.TheVariants as hearing
 use Rattle.wait_model.specs.declared.points.Next.{Next}
 use Rattle.wait_model.specs.declared.points.Next.TheVariants as next
 use Rattle.wait_model.specs.declared.steps.Step.{Step}
@@ -36,7 +37,7 @@ use Rattle.wait_rule.proofs.SaidEvents.SelectedEntries.{runs_tell}
 use Rattle.wait_rule.proofs.SaidEvents.SelectingWalks.{runs_select}
 use Rattle.wait_rule.proofs.SaidEvents.SignalledRuns.{runs_heed}
 use Rattle.wait_event.specs.Ends.{answer_of}
-use Rattle.wait_event.specs.Words.{SetsFollow, TakesFollow, WaitsFollow, WaitsHeed, WaitsSay, call_says}
+use Rattle.wait_event.specs.Words.{SetsFollow, TakesFollow, WaitsFollow, WaitsHeed, WaitsSay, WokensFollow, call_says}
 use Rattle.wait_event.specs.declared.wait_events.WaitEnd.TheVariants as wait_end
 
 -- the own list, in the table that a task sees after its last step
@@ -44,7 +45,7 @@ own_list : (v : Journal) (law : MeetsLaw v) → law.items v.number ≡ v.items +
 own_list v law = law.own ∙ sym (append-nil v.items)
 
 -- the same, by the number that the task had before
-list_of : (v : Journal) (law : MeetsLaw v) (me : ℕ) → v.number ≡ me → law.items me ≡ v.items ++ []
+pub list_of : (v : Journal) (law : MeetsLaw v) (me : ℕ) → v.number ≡ me → law.items me ≡ v.items ++ []
 list_of v law me same = subst (λ (n : ℕ). law.items n ≡ v.items ++ []) same (own_list v law)
 
 -- lists grow
@@ -91,6 +92,15 @@ waits_heed old new c how (wait_end.Signal seen selected) ends is =
     runs_heed (calls.Wait c how) 0 old new refl
     (record { transitions = ends.waited.runs.transitions; goes = ends.waited.runs.goes })
 waits_heed old new c how (wait_end.Worn h place) ends is = absurd (cc)
+
+pub wokens_follow : WokensFollow
+wokens_follow old new st law e =
+    let runs = e.runs in
+    runs_follow law.table law.items law.ruled (calls.Woken st) 0 old new zero_answer []
+    (list_of new.view law old.view.number (number_stays
+    (call_program old.view.number 0 (calls.Woken st)) old new (next.Go (at.Woken hearing.State))
+    (next.Ends zero_answer) runs.transitions runs.goes))
+    (omega arith) refl refl (λ w. absurd (cc)) (record { transitions = runs.transitions; goes = runs.goes })
 
 pub takes_follow : TakesFollow
 takes_follow old new c v law h =

@@ -1,4 +1,5 @@
--- What the calls on conditions say. (To be believed.)
+-- To be believed.
+-- What the calls on conditions say.
 use Rattle.std.specs.Prelude.{ℕ, true}
 use Rattle.wait_model.specs.declared.calls.Call.TheVariants as calls
 use Rattle.wait_model.specs.declared.calls.Answer.TheVariants as answer

@@ -1,4 +1,5 @@
--- What whole waits say. (To be believed.)
+-- To be believed.
+-- What whole waits say.
 use Rattle.std.specs.Prelude.{ℕ, ◌≡◌, ◌&&◌, not, Bool, true, false, is_some, None, Result, Ok, Err, [], ◌∷◌, ◌++◌}
 use Rattle.wait_model.specs.declared.calls.Call.TheVariants as calls
 use Rattle.wait_model.specs.declared.calls.Answer.{Answer}

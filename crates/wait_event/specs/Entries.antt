@@ -1,4 +1,5 @@
--- What the calls say that add an entry of a task and remove it. (To be believed.)
+-- To be believed.
+-- What the calls say that add an entry of a task and remove it.
 use Rattle.std.specs.Prelude.{ℕ, ◌≡◌, ◌<◌, true, Some, Result, Ok, Err}
 use Rattle.wait_model.specs.declared.layout.TheConstants.{FIRST_SIMPLE}
 use Rattle.wait_model.specs.declared.calls.Call.TheVariants as calls
@@ -11,6 +12,7 @@ use Rattle.wait_model.specs.declared.points.Next.TheVariants as next
 use Rattle.wait_model.specs.declared.queues.Form.{Form}
 use Rattle.wait_model.specs.declared.watches.Entry.{Entry}
 use Rattle.wait_model.specs.declared.watches.Kind.{Kind}
+use Rattle.wait_model.specs.declared.watches.Kind.TheVariants as kinds
 use Rattle.wait_model.specs.declared.watches.Watch.TheVariants as watch
 use Rattle.wait_model.specs.Programs.{zero_answer}
 use Rattle.wait_model.specs.Watches.{head_of}
@@ -46,6 +48,15 @@ pub record MayRemove (k : Known) : Type 0 where
   pub entry : Entry
   pub queued : (told_of k).bits.stored (own_of k) ≡ Some entry
   pub kind : IsOwnKind entry.kind
+  pub about : entry.watch ≡ watch.Plain cond
+
+-- Its history has stored an entry of slot 0 of kind Woken, for a plain condition with a full head.
+pub record HasWokenEntry (k : Known) : Type 0 where
+  pub cond : ℕ
+  pub full : cond < FIRST_SIMPLE
+  pub entry : Entry
+  pub queued : (told_of k).bits.stored (own_of k) ≡ Some entry
+  pub kind : entry.kind ≡ kinds.Woken
   pub about : entry.watch ≡ watch.Plain cond
 
 -- what an add answers, and what it says of the entry: it is queued by its form, or the head has no place left for it,

@@ -5,5 +5,6 @@ pub mod Ends
 pub mod Conds
 pub mod Prepares
 pub mod Entries
+pub mod WokenWaits
 pub mod Words
 pub mod Tested

@@ -1,5 +1,6 @@
+-- To be believed.
 -- The ground of calls that are made in stretches: what a task knows of its own words at a point of its program, and
--- what stays of it from one point to another. (To be believed.)
+-- what stays of it from one point to another.
 use Rattle.std.specs.Prelude.{
   ℕ,
   ◌≡◌,

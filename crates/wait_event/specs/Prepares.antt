@@ -1,4 +1,5 @@
--- What preparing to wait says. (To be believed.)
+-- To be believed.
+-- What preparing to wait says.
 use Rattle.std.specs.Prelude.{ℕ, ◌≡◌, ◌<◌, Bool, true, false, Result, Ok, Err, [], ◌++◌}
 use Rattle.wait_model.specs.declared.layout.TheConstants.{FIRST_SIMPLE}
 use Rattle.wait_model.specs.declared.calls.Call.TheVariants as calls

@@ -1,5 +1,6 @@
--- The add of an entry in a hold, by its form. (To be believed.)
-use Rattle.std.specs.Prelude.{ℕ, ◌≡◌, ◌&&◌, Bool, true, false, if◌then◌else◌, List, [], ◌∷◌}
+-- To be believed.
+-- The add of an entry in a hold, by its form.
+use Rattle.std.specs.Prelude.{ℕ, ◌≡◌, ◌&&◌, not, Bool, true, false, if◌then◌else◌, List, [], ◌∷◌}
 use Rattle.wait_model.specs.declared.queues.Form.{Form}
 use Rattle.wait_model.specs.declared.queues.Form.TheVariants as forms
 use Rattle.wait_model.specs.declared.queues.Member.{Member}
@@ -8,13 +9,15 @@ use Rattle.wait_model.specs.declared.watches.Entry.{Entry}
 use Rattle.wait_model.specs.declared.watches.Kind.{Kind}
 use Rattle.wait_model.specs.declared.watches.Watch.{Watch}
 use Rattle.wait_model.specs.Queues.{is_exclusive, is_priority}
+use Rattle.wait_model.specs.Watches.{is_simple}
 use Rattle.wait_rule.specs.Known.{Known}
 use Rattle.wait_rule.specs.Queues.{IsFrontPlace, IsTailPlace, IsPriorityPlace, IsWholeBook}
 use Rattle.wait_rule.specs.Shown.{shown_queue}
 use Rattle.wq_head.specs.declared.adds.Worn.{Worn}
-use Rattle.wq_head.specs.Adds.{IsFrontWorn, IsTailWorn, IsPriorityWorn}
+use Rattle.wq_head.specs.Adds.{IsFor, IsForTail, IsFrontWorn, IsTailWorn, IsPriorityWorn}
 
--- the place that an add of a form takes, the entry that stands there, and where it finds no place
+-- the place that an add of a form takes, the entry that stands there, and where it finds no place; a simple entry is
+-- not exclusive
 abbrev pub IsFormPlace : Form → Known → ℕ → Type 0
 IsFormPlace forms.Front k place = IsFrontPlace k place
 IsFormPlace forms.Tail k place = IsTailPlace k place
@@ -24,7 +27,7 @@ abbrev pub form_entry : Form → Watch → Kind → ℕ → Entry
 form_entry form w k place = record {
   watch = w;
   place = place;
-  exclusive = is_exclusive form;
+  exclusive = is_exclusive form && not (is_simple k);
   priority = is_priority form;
   kind = k;
 }
@@ -33,6 +36,12 @@ abbrev pub IsFormWorn : Form → Known → Known → Worn → Type 0
 IsFormWorn forms.Front old new w = IsFrontWorn old new w
 IsFormWorn forms.Tail old new w = IsTailWorn old new w
 IsFormWorn forms.Priority old new w = IsPriorityWorn old new w
+
+-- what an add of a form may queue: an entry for a simple head is added at the tail
+abbrev pub IsForBy : Form → Watch → Kind → Type 0
+IsForBy forms.Front w k = IsFor w k
+IsForBy forms.Tail w k = IsForTail w k
+IsForBy forms.Priority w k = IsFor w k
 
 -- the form of a wait's entry
 abbrev pub wait_form : How → Form

@@ -1,11 +1,18 @@
--- Tasks of tests: what they know between two turns. (Only tests speak of it.)
+-- For tests alone.
+-- Tasks of tests: what they know between two turns.
+use Rattle.std.specs.Prelude.{◌≡◌, Option, Some, None}
+use Rattle.wait_model.specs.declared.tasks.SleepState.TheVariants as states
 use Rattle.wait_rule.specs.Known.{Known}
-use Rattle.wait_rule.specs.Says.{IsUp}
+use Rattle.wait_rule.specs.Says.{IsFree, IsUp, no_excuse}
 use Rattle.wait_rule.specs.Queues.{IsIdle}
+use Rattle.wait_rule.specs.Stays.{Owes, with_entry}
 use Rattle.wait_event.specs.Ends.{IsOut}
-use Rattle.wait_event.specs.Waits.{Lands}
+use Rattle.wait_event.specs.Entries.{HasWokenEntry}
+use Rattle.wait_event.specs.Waits.{Lands, own_of}
+use Rattle.wait_event.specs.WokenWaits.{LandsHearing}
 use Rattle.wait_event.specs.declared.waits.WaitRun.{WaitRun}
 use Rattle.wait_event.specs.declared.waits.WaitTurn.{WaitTurn}
+use Rattle.wait_event.specs.declared.woken_waits.WokenTurn.{WokenTurn}
 
 -- a wait stands where its last turn left it
 abbrev pub IsWaiting : Known → WaitRun → WaitTurn → Type 0
@@ -20,3 +27,19 @@ pub record IsWaker (k : Known) : Type 0 where
 pub record IsReadyToWait (k : Known) : Type 0 where
   pub waker : IsWaker k
   pub out : IsOut k
+
+-- A task with an entry of kind Woken between two waits for its flag, and one that owes nothing but that entry.
+pub record IsHearer (k : Known) : Type 0 where
+  pub up : IsUp k
+  pub free : IsFree k
+  pub running : k.book.state ≡ 0
+  pub entry : HasWokenEntry k
+
+pub record IsCleanHearer (k : Known) : Type 0 where
+  pub hearer : IsHearer k
+  pub owes : Owes (with_entry (own_of k) no_excuse) k
+
+-- it stands between two waits, or where the last turn of one left it
+abbrev pub IsHearingOn : Known → Option WokenTurn → Type 0
+IsHearingOn k None = IsHearer k
+IsHearingOn k (Some t) = LandsHearing k states.Interruptible t

@@ -1,8 +1,10 @@
--- A wait for a plain condition, in stretches: its stages, and what each turn does. (To be believed.)
+-- To be believed.
+-- A wait for a plain condition, in stretches: its stages, and what each turn does.
 use Rattle.std.specs.Prelude.{
   ℕ,
   ◌≡◌,
   ◌<◌,
+  ◌≤◌,
   ◌||◌,
   ◌&&◌,
   not,
@@ -20,7 +22,7 @@ use Rattle.std.specs.Prelude.{
   ◌∷◌,
   ◌++◌,
 }
-use Rattle.wait_model.specs.declared.layout.TheConstants.{FIRST_SIMPLE}
+use Rattle.wait_model.specs.declared.layout.TheConstants.{FIRST_SIMPLE, PLAIN_CONDITIONS}
 use Rattle.wait_model.specs.declared.calls.Call.{Call}
 use Rattle.wait_model.specs.declared.calls.Call.TheVariants as calls
 use Rattle.wait_model.specs.declared.calls.Answer.{Answer}
@@ -111,9 +113,11 @@ pub record IsFresh (r : WaitRun) (c : ℕ) (how : How) (asks : Bool) : Type 0 wh
   pub queued : r.queued ≡ false
   pub first : r.first ≡ false
 
--- the waits that run: for a condition with a full head
+-- The waits that run: for any plain condition. Where its head is a simple one it is a simple wait, whose program is
+-- that of a wait whose entry goes to the tail.
 pub record IsRunning (r : WaitRun) : Type 0 where
-  pub full : r.cond < FIRST_SIMPLE
+  pub plain : r.cond < PLAIN_CONDITIONS
+  pub tail : FIRST_SIMPLE ≤ r.cond → r.how.exclusive ≡ true
 
 abbrev pub wait_post : WaitRun → WaitStage → Post
 wait_post r s = post_at (ticket_at s r.ticket) (wait_call r) (point_of s)

@@ -1,5 +1,6 @@
+-- To be believed.
 -- Whole calls as lists of events: what each makes follows its sentence, and a wait that answers for a signal has found
--- one in its last turn. (To be believed.)
+-- one in its last turn.
 use Rattle.std.specs.Prelude.{ℕ, ◌≡◌, ◌<◌, Result, Err, List, []}
 use Rattle.wait_model.specs.declared.layout.TheConstants.{PLAIN_CONDITIONS}
 use Rattle.wait_model.specs.declared.calls.Call.{Call}
@@ -11,6 +12,7 @@ use Rattle.wait_model.specs.declared.points.WalkPoint.TheVariants as walking
 use Rattle.wait_model.specs.declared.points.Next.TheVariants as next
 use Rattle.wait_model.specs.declared.queues.Walked.{Walked}
 use Rattle.wait_model.specs.declared.tasks.How.{How}
+use Rattle.wait_model.specs.declared.tasks.SleepState.{SleepState}
 use Rattle.wait_model.specs.declared.watches.Mode.{Mode}
 use Rattle.wait_model.specs.Programs.{program_start, signalled, zero_answer}
 use Rattle.wait_model.specs.Sentences.{Follows}
@@ -22,6 +24,7 @@ use Rattle.wait_rule.specs.Selecting.{IsTallied, selects_in, wakes_in}
 use Rattle.wait_rule.specs.Transitions.{Transition, call_program, walk_program}
 use Rattle.wait_event.specs.Conds.{HasSet, HasTaken}
 use Rattle.wait_event.specs.Ends.{EndsWait, IsOut, answer_of}
+use Rattle.wait_event.specs.WokenWaits.{EndsWoken}
 use Rattle.wait_event.specs.declared.wait_events.WaitEnd.{WaitEnd}
 
 -- the events of a call, and those of a walk
@@ -51,6 +54,12 @@ abbrev pub WaitsHeed : Type 0
 WaitsHeed = (old new : Known) (c : ℕ) (how : How) (e : WaitEnd) (ends : EndsWait old new c how (Err e))
     → answer_of (Err e) ≡ signalled → EndsSignalled old.view.number (calls.Wait c how)
     (trail_of [] (call_says old.view.number (calls.Wait c how) ends.waited.runs.transitions))
+
+-- a wait for a flag
+abbrev pub WokensFollow : Type 0
+WokensFollow = (old new : Known) (st : SleepState) → MeetsLaw new.view → (e : EndsWoken old new st)
+    → Follows old.view.number (calls.Woken st)
+    (call_says old.view.number (calls.Woken st) e.runs.transitions) zero_answer
 
 -- a take
 abbrev pub TakesFollow : Type 0

@@ -4,10 +4,12 @@ ghost use Rattle.std.specs.Prelude.{◌≡◌, ◌<◌, true, IfErr, IfOk};
 ghost use Rattle.wait_model.specs.declared.layout.TheConstants.{FIRST_SIMPLE, PRIORITY_TASKS};
 ghost use Rattle.wait_model.specs.declared.watches.Kind.TheVariants as kinds;
 ghost use Rattle.wait_model.specs.Queues.{is_priority};
+ghost use Rattle.wait_rule.specs.Members.{IsOwnKind};
 ghost use Rattle.wait_rule.specs.Says.{IsFree, IsUp};
 ghost use Rattle.wait_rule.specs.Stays.{Carries};
 ghost use Rattle.wait_event.specs.Ends.{IsOut};
-ghost use Rattle.wait_event.specs.Entries.{EndsAdd, HasRemovedOwn, MayRemove, add_change, hold_change, remove_change};
+ghost use Rattle.wait_event.specs.Entries.{EndsAdd, HasRemovedOwn, HasWokenEntry, MayRemove};
+ghost use Rattle.wait_event.specs.Entries.{add_change, hold_change, remove_change};
 ghost use Rattle.wait_event.specs.Waits.{own_of};
 
 use crate::queueing::{add_by, own_entry};
@@ -20,10 +22,10 @@ use wq_head::{Worn, lock, remove, unlock};
 
 /// Queues the own entry of slot 0 for condition `cond`, below `FIRST_SIMPLE`, in a hold of its own: at the front
 /// (`add_wait_queue`), exclusive at the tail (`add_wait_queue_exclusive`), or with priority
-/// (`add_wait_queue_priority`), for a task whose number is below `PRIORITY_TASKS`. The kind is the default one: only
-/// the task itself takes the entry off. The task is in any state, holds no lock, and its entry is off. Worn comes
-/// exactly where no place is left for the entry, and then it is off still. The task's state, its bookmark and its other
-/// entry stay, and what it owes.
+/// (`add_wait_queue_priority`), for a task whose number is below `PRIORITY_TASKS`. The kind is Default, whose task a
+/// wake wakes, or Woken, whose flag a wake sets before that (`woken_waits`): only the task itself takes the entry off.
+/// The task is in any state, holds no lock, and its entry is off. Worn comes exactly where no place is left for the
+/// entry, and then it is off still. The task's state, its bookmark and its other entry stay, and what it owes.
 pub fn add_entry<R: Wait>(
     rt: &R,
     domain: &Domain,
@@ -36,13 +38,14 @@ pub fn add_entry<R: Wait>(
     requires up { IsUp task.old }
     requires free { IsFree task.old }
     requires full { cond < FIRST_SIMPLE }
-    requires default { kind ≡ kinds.Default }
+    requires own { IsOwnKind kind }
     requires few { is_priority form ≡ true → task.old.view.number < PRIORITY_TASKS }
     requires out { IsOut task.old }
     ensures added { EndsAdd task.old task.new cond kind form result }
     ensures up { IsUp task.new }
     ensures free { IsFree task.new }
     ensures stands { IfOk result (λ _. MayRemove task.new) }
+    ensures woken { IfOk result (λ _. kind ≡ kinds.Woken → HasWokenEntry task.new) }
     ensures carries { IfOk result (λ _. Carries (add_change (own_of task.old) task.new.at) task.old task.new) }
     ensures same { IfErr result (λ _. Carries (hold_change task.new.at) task.old task.new) }
 {

@@ -1,13 +1,14 @@
 //! What whole calls make, as the sentences of the model say it.
 
-ghost use Rattle.wait_event.specs.Words.{SetsFollow, TakesFollow, WaitsFollow, WaitsHeed, WaitsSay};
+ghost use Rattle.wait_event.specs.Words.{SetsFollow, TakesFollow, WaitsFollow, WaitsHeed, WaitsSay, WokensFollow};
 
-/// What a `wait_event`, a `take_cond` and a `set_and_wake` have made follows the sentences of a wait, a take, a set and
-/// a wake, and their answers are those that the sentences give: by the table that a load of the base word shows after
-/// the call (`Task::witness`).
+/// What a `wait_event`, a `wait_woken`, a `take_cond` and a `set_and_wake` have made follows the sentences of a wait, a
+/// wait for a flag, a take, a set and a wake, and their answers are those that the sentences give: by the table that a
+/// load of the base word shows after the call (`Task::witness`).
 pub fn calls_follow_sentences()
     ensures waits { WaitsFollow }
     ensures says { WaitsSay }
+    ensures flags { WokensFollow }
     ensures takes { TakesFollow }
     ensures sets { SetsFollow }
 {}

@@ -11,3 +11,4 @@ mod tests;
 pub mod wait_calls;
 pub mod wait_events;
 pub mod waits;
+pub mod woken_waits;

@@ -1,18 +1,18 @@
 //! The own entry: how it is looked at, and how it is added in a hold, by its form.
 
-ghost use Rattle.std.specs.Prelude.{◌≡◌, ◌<◌, ◌||◌, true, Some, None, IfOk, IfErr};
+ghost use Rattle.std.specs.Prelude.{◌≡◌, ◌<◌, ◌||◌, not, true, Some, None, IfOk, IfErr};
 ghost use Rattle.wait_model.specs.declared.layout.TheConstants.{PRIORITY_TASKS};
 ghost use Rattle.wait_model.specs.Queues.{is_priority};
-ghost use Rattle.wait_model.specs.Watches.{head_of};
+ghost use Rattle.wait_model.specs.Watches.{head_of, is_simple};
 ghost use Rattle.wait_rule.specs.Ends.{WasWorn};
 ghost use Rattle.wait_rule.specs.Queues.{index};
 ghost use Rattle.wait_rule.specs.Says.{IsUp, told_of};
 ghost use Rattle.wait_rule.specs.Stays.{Carries, only_looks};
-ghost use Rattle.wq_head.specs.Adds.{HasAdded, IsFor};
+ghost use Rattle.wq_head.specs.Adds.{HasAdded};
 ghost use Rattle.wq_head.specs.Holds.{IsHolding};
 ghost use Rattle.wq_head.specs.Looks.{Looks};
 ghost use Rattle.wait_event.specs.Posts.{HasSeenOwn};
-ghost use Rattle.wait_event.specs.Queueing.{IsFormPlace, IsFormWorn, TellsFirst, form_entry, wait_form};
+ghost use Rattle.wait_event.specs.Queueing.{IsForBy, IsFormPlace, IsFormWorn, TellsFirst, form_entry, wait_form};
 
 use wait_model::queues::Form;
 use wait_model::tasks::How;
@@ -46,8 +46,8 @@ pub(crate) fn wait_form(how: How) -> Form
     }
 }
 
-/// Queues the own entry of slot 0, which is off, by its form, at the head that the task holds. Worn comes exactly where
-/// no place is left for it, and then nothing changes.
+/// Queues the own entry of slot 0, which is off, by its form, at the head that the task holds. One of kind Simple has
+/// the form Tail, and is not exclusive. Worn comes exactly where no place is left for it, and then nothing changes.
 #[inline(always)]
 pub(crate) fn add_by(
     domain: &Domain,
@@ -61,7 +61,7 @@ pub(crate) fn add_by(
     requires held { IsHolding task.old }
     requires head { head_of watch ≡ task.old.at }
     requires few { is_priority form ≡ true → task.old.view.number < PRIORITY_TASKS }
-    requires plain { IsFor watch kind }
+    requires plain { IsForBy form watch kind }
     requires out { (told_of task.old).bits.stored (index task.old.view.number 0) ≡ None }
     ensures queued { IfOk result (λ _. HasAdded (IsFormPlace form) task.old task.new 0 (form_entry form watch kind)) }
     ensures worn { IfErr result (λ w. IsFormWorn form task.old task.new w) }
@@ -71,8 +71,18 @@ pub(crate) fn add_by(
 {
     match form {
         Form::Front => add_front(domain, task, 0, kind, watch),
-        Form::Tail => add_tail(domain, task, 0, kind, true, watch),
+        Form::Tail => add_tail(domain, task, 0, kind, has_flags(kind), watch),
         Form::Priority => add_priority(domain, task, 0, kind, watch),
+    }
+}
+
+/// Whether entries of this kind have flags: simple ones have none, and are not exclusive.
+fn has_flags(kind: Kind) -> bool
+    ensures { result ≡ not (is_simple kind) }
+{
+    match kind {
+        Kind::Simple => false,
+        _ => true,
     }
 }
 

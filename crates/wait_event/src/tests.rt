@@ -1,6 +1,8 @@
 //! Waits and their wakers: one task alone, by threads, and by stretches on one thread.
 
 mod alone;
+mod flags;
+mod hearers;
 mod selected;
 mod stretches;
 mod threads;

@@ -7,13 +7,11 @@ ghost use Rattle.wait_model.specs.Reached.{holds};
 ghost use Rattle.wq_head.specs.declared.locks.TheConstants.{LOOKS};
 
 use crate::waits::{WaitOutcome, WaitRun, WaitStage, WaitTurn, advance};
-use std::hint::spin_loop;
 use std::sync::Wait;
 use wait_model::heads::head_of;
-use wait_rule::queues::park_until_next;
 use wait_rule::tasks::awake;
 use wait_rule::{Domain, Task, wait_up};
-use wq_head::locks::LOOKS;
+use wq_head::locks;
 
 /// More turns than a stretch has: at most five events are left before its first turn, and fewer after each.
 const STRETCH: u8 = 6;
@@ -91,12 +89,7 @@ pub(crate) fn pause<R: Wait>(rt: &R, domain: &Domain, run: &WaitRun, looks: u32)
     requires runs { IsRunning run.now }
     ensures { result ≤ LOOKS }
 {
-    if looks < LOOKS {
-        spin_loop();
-        return looks + 1;
-    }
-    park_until_next(rt, domain, head_of(run.watch()), run.served);
-    LOOKS
+    locks::pause(rt, domain, head_of(run.watch()), run.served, looks)
 }
 
 /// Goes on with a wait from a stage to its end: waits for locks, and sleeps.

@@ -72,7 +72,7 @@ pub fn wait_event<R: Wait>(
 }
 
 /// The answer of a wait that has ended.
-fn end_of(run: WaitRun, outcome: WaitOutcome) -> Result<(), WaitEnd>
+pub fn end_of(run: WaitRun, outcome: WaitOutcome) -> Result<(), WaitEnd>
     ensures { result ≡ end_in run outcome }
 {
     match outcome {

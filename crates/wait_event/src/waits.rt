@@ -16,7 +16,7 @@ use wait_model::heads::head_of;
 use wait_model::layout::RUNNING;
 use wait_model::task_words::{TaskWord, pending_state};
 use wait_model::tasks::{How, Sleep};
-use wait_model::watches::{Entry, Kind, Watch};
+use wait_model::watches::{Entry, Watch};
 use wait_rule::queues::{cond_load, draw, lock_step, serving_load};
 use wait_rule::tasks::{load_own, set_state};
 use wait_rule::tries::sleep_try;
@@ -69,7 +69,8 @@ pub enum WaitTurn {
 /// The numbers of a wait under way.
 #[derive(Clone, Copy)]
 pub struct WaitRun {
-    /// The condition, below `FIRST_SIMPLE`.
+    /// The condition, below `PLAIN_CONDITIONS`. One from `FIRST_SIMPLE` on has a simple head: its wait has its entry at
+    /// the tail, as an exclusive one, and the entry is a simple one without flags.
     pub cond: u8,
     pub how: How,
     /// Whether a prepare looks for a signal.
@@ -388,7 +389,7 @@ fn queue_event(domain: &Domain, task: &mut Task, run: &mut WaitRun) -> WaitTurn
     }
     let watch = run.watch();
     let first = is_first(domain, task, head_of(watch), run.tells_first());
-    match add_by(domain, task, wait_form(run.how), Kind::Autoremove, watch) {
+    match add_by(domain, task, wait_form(run.how), watch.kind(), watch) {
         Ok(()) => {
             run.queued = true;
             run.first = or_first(run.first, first);

@@ -1,25 +1,6 @@
 -- Whole waits: how they begin, and what they say at their end.
 use Rattle.std.proofs.Common.{◌∙◌, ap, sym, refl, subst}
-use Rattle.std.specs.Prelude.{
-  ℕ,
-  ◌≡◌,
-  ◌<◌,
-  ◌||◌,
-  ◌&&◌,
-  not,
-  Bool,
-  true,
-  false,
-  Option,
-  Some,
-  None,
-  Ok,
-  Err,
-  [],
-  ◌∷◌,
-  ◌++◌,
-}
-use Rattle.wait_model.specs.declared.layout.TheConstants.{FIRST_SIMPLE}
+use Rattle.std.specs.Prelude.{ℕ, ◌≡◌, ◌||◌, ◌&&◌, not, Bool, true, false, Option, Some, None, Ok, Err, [], ◌∷◌, ◌++◌}
 use Rattle.wait_model.specs.declared.calls.Call.{Call}
 use Rattle.wait_model.specs.declared.calls.Call.TheVariants as calls
 use Rattle.wait_model.specs.declared.tasks.How.{How}
@@ -48,6 +29,7 @@ use Rattle.wait_event.specs.Waits.{
   EndsWith,
   IsAt,
   IsFresh,
+  IsRunning,
   SameCall,
   answer_in,
   asked,
@@ -74,10 +56,10 @@ use Rattle.wait_event.specs.declared.waits.WaitTurn.TheVariants as turn
 use Rattle.wait_event.proofs.Ground.Keeping.{excused}
 
 -- a task that is idle, with its entry off, may begin
-pub begins_at : (k : Known) (r : WaitRun) (c : ℕ) (how : How) → IsFresh r c how true → c < FIRST_SIMPLE
+pub begins_at : (k : Known) (r : WaitRun) (c : ℕ) (how : How) → IsFresh r c how true → IsRunning r
     → IsTold k → IsUp k → IsIdle k → IsOut k → IsAt k r stage.First
-begins_at k r c how fresh full told up idle out = record {
-  runs = record { full = subst (λ (n : ℕ). n < FIRST_SIMPLE) (sym fresh.cond) full };
+begins_at k r c how fresh runs told up idle out = record {
+  runs = runs;
   up = up;
   stands = record {
     head = idle.free.head;

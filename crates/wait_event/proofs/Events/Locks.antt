@@ -1,7 +1,7 @@
 -- A ticket is drawn, the lock taken by it, and given back.
 use Rattle.std.proofs.Common.{◌∙◌, ap, sym, refl, subst, arith}
 use Rattle.std.specs.Prelude.{ℕ, ◌≡◌, ◌≢◌, ◌<◌, Bool, true, false, if◌then◌else◌, Option, Some, None, [], ◌∷◌, ◌++◌}
-use Rattle.wait_model.specs.declared.layout.TheConstants.{FIRST_SIMPLE, HEADS}
+use Rattle.wait_model.specs.declared.layout.TheConstants.{PLAIN_CONDITIONS, HEADS}
 use Rattle.wait_model.specs.declared.calls.Event.{Event}
 use Rattle.wait_model.specs.declared.calls.Event.TheVariants as event
 use Rattle.wait_model.specs.declared.points.Point.TheVariants as at
@@ -72,7 +72,7 @@ use Rattle.wait_event.proofs.Events.Trails.{
 }
 
 -- the heads of these conditions are there
-pub head_fits : (c : ℕ) → c < FIRST_SIMPLE → head_of (watch.Plain c) < HEADS
+pub head_fits : (c : ℕ) → c < PLAIN_CONDITIONS → head_of (watch.Plain c) < HEADS
 unfolding head_of
 head_fits c small = omega (arith, small)
 
@@ -105,7 +105,7 @@ module _ (old : Known) (r : WaitRun) (n : ℕ) where
       first = sym (or_none r.first);
     };
     lands = record {
-      runs = record { full = a.runs.full };
+      runs = record { plain = a.runs.plain; tail = a.runs.tail };
       up = a.up;
       stands = draw_stands old h n (wait_post r stage.PrepareLock) a.stands;
       trail = tt;
@@ -121,7 +121,7 @@ module _ (old : Known) (r : WaitRun) (n : ℕ) where
       first = sym (or_none r.first);
     };
     lands = record {
-      runs = record { full = a.runs.full };
+      runs = record { plain = a.runs.plain; tail = a.runs.tail };
       up = a.up;
       stands = draw_stands old h n (wait_post r stage.FinishLock) a.stands;
       trail = tt;
@@ -173,7 +173,7 @@ module _ (old : Known) (r : WaitRun) (w : ℕ) where
       first = sym (or_none r.first);
     };
     lands = record {
-      runs = record { full = a.runs.full };
+      runs = record { plain = a.runs.plain; tail = a.runs.tail };
       up = a.up;
       stands = serving_stands old head w (wait_post r stage.PrepareTurn) (drawn head r.ticket) a.stands
           (still_out a.stands.ticket);
@@ -193,7 +193,7 @@ module _ (old : Known) (r : WaitRun) (w : ℕ) where
       first = sym (or_none r.first);
     };
     lands = record {
-      runs = record { full = a.runs.full };
+      runs = record { plain = a.runs.plain; tail = a.runs.tail };
       up = a.up;
       stands = serving_stands old head w (wait_post r stage.FinishTurn) (drawn head r.ticket) a.stands
           (ap (after_serving head w) a.stands.ticket ∙ other_number head r.ticket w ne);

@@ -1,27 +1,7 @@
 -- The own entry is queued where it is off, and else the state stored. Where no place is left the head is given back.
-use Rattle.std.proofs.Common.{◌∙◌, ap, sym, refl, subst, inr, arith}
-use Rattle.std.proofs.lemmas.Bool.Decides.{nat_tests}
-use Rattle.std.specs.Prelude.{
-  ℕ,
-  ◌≡◌,
-  ◌<◌,
-  ◌&&◌,
-  ◌||◌,
-  not,
-  nat_lt,
-  Bool,
-  true,
-  false,
-  if◌then◌else◌,
-  is_some,
-  Option,
-  Some,
-  None,
-  [],
-  ◌∷◌,
-  ◌++◌,
-}
-use Rattle.wait_model.specs.declared.layout.TheConstants.{FIRST_SIMPLE}
+use Rattle.std.proofs.Common.{◌∙◌, ap, sym, refl, subst, inr}
+use Rattle.std.specs.Prelude.{ℕ, ◌≡◌, ◌&&◌, ◌||◌, not, Bool, true, false, if◌then◌else◌, is_some}
+use Rattle.std.specs.Prelude.{Option, Some, None, [], ◌∷◌, ◌++◌}
 use Rattle.wait_model.specs.declared.points.Point.TheVariants as at
 use Rattle.wait_model.specs.declared.points.PreparePoint.TheVariants as preparing
 use Rattle.wait_model.specs.declared.points.Next.TheVariants as next
@@ -31,13 +11,12 @@ use Rattle.wait_model.specs.declared.queues.Form.TheVariants as forms
 use Rattle.wait_model.specs.declared.steps.Step.TheVariants as step
 use Rattle.wait_model.specs.declared.watches.Entry.{Entry}
 use Rattle.wait_model.specs.declared.watches.Kind.{Kind}
-use Rattle.wait_model.specs.declared.watches.Kind.TheVariants as kind
 use Rattle.wait_model.specs.declared.watches.Watch.{Watch}
 use Rattle.wait_model.specs.declared.watches.Watch.TheVariants as watch
 use Rattle.wait_model.specs.Points.{call_head}
 use Rattle.wait_model.specs.Queues.{is_exclusive, is_priority, place_for}
 use Rattle.wait_model.specs.Tasks.{state_mask}
-use Rattle.wait_model.specs.Watches.{is_simple}
+use Rattle.wait_model.specs.Watches.{is_simple, kind_for}
 use Rattle.wait_model.specs.Reached.{absent, waits, IsHome}
 use Rattle.wait_rule.specs.declared.journal.Item.TheVariants as item
 use Rattle.wait_rule.specs.Known.{Known}
@@ -49,22 +28,13 @@ use Rattle.wait_rule.specs.Stays.{Carries, only_looks, state_change, queue_chang
 use Rattle.wait_rule.specs.Transitions.{OnlyLooks, Program, IsSeenAs, by_step, is_worn}
 use Rattle.wait_rule.proofs.KnownLaws.Transitions.{only_on, only_looked}
 use Rattle.wq_head.specs.declared.adds.Worn.{Worn}
-use Rattle.wq_head.specs.Adds.{HasAdded, IsFor}
+use Rattle.wq_head.specs.Adds.{HasAdded}
 use Rattle.wq_head.specs.Holds.{IsHolding}
 use Rattle.wq_head.specs.Looks.{Looks}
 use Rattle.wq_head.proofs.CarriedHolds.{looks_carried}
 use Rattle.wait_event.specs.Posts.{HasSeenOwn, Keeps, Post, Stands, post_at}
-use Rattle.wait_event.specs.Waits.{
-  Advances,
-  IsAt,
-  IsRunning,
-  tells_first,
-  wait_call,
-  wait_post,
-  wait_program,
-  with_entry as finds,
-  with_worn,
-}
+use Rattle.wait_event.specs.Waits.{Advances, IsAt, tells_first, wait_call, wait_post, wait_program}
+use Rattle.wait_event.specs.Waits.{with_entry as finds, with_worn}
 use Rattle.wait_event.specs.declared.waits.WaitRun.{WaitRun}
 use Rattle.wait_event.specs.declared.waits.WaitStage.TheVariants as stage
 use Rattle.wait_event.specs.declared.waits.WaitTurn.TheVariants as turn
@@ -94,20 +64,9 @@ use Rattle.wait_event.proofs.Events.FormPlaces.{first_later, form_is, form_left,
 use Rattle.wait_event.specs.Queueing.{IsFormPlace, IsFormWorn, TellsFirst, form_entry, wait_form}
 use Rattle.wq_head.proofs.OneMoreLook.{saw_looks, whole_of}
 
--- a form is exclusive where its entry is
-and_yes : (b : Bool) → (b && true) ≡ b
-and_yes true = refl
-and_yes false = refl
-
 wait_plain : (b : Bool) → is_priority (if b then forms.Tail else forms.Front) ≡ false
 wait_plain true = refl
 wait_plain false = refl
-
--- the kind of an entry at a full head
-full_kind : (c : ℕ) → c < FIRST_SIMPLE → (if nat_lt c FIRST_SIMPLE then kind.Autoremove else kind.Simple)
-    ≡ kind.Autoremove
-full_kind c full = let yes : nat_lt c FIRST_SIMPLE ≡ true = grind (arith, nat_tests) in
-    ap (λ (b : Bool). if b then kind.Autoremove else kind.Simple) yes
 
 -- the entry that is queued
 abbrev given_entry : ℕ → Form → Kind → ℕ → Entry
@@ -119,16 +78,9 @@ given_entry c form k place = record {
   kind = k;
 }
 
-given_is : (c : ℕ) → c < FIRST_SIMPLE → (form : Form) (p q : ℕ) → q ≡ p
-    → form_entry form (watch.Plain c) kind.Autoremove p
-    ≡ given_entry c form (if nat_lt c FIRST_SIMPLE then kind.Autoremove else kind.Simple) q
-given_is c full form p q is = (λ j. record {
-  watch = watch.Plain c;
-  place = p;
-  exclusive = sym (and_yes (is_exclusive form)) j;
-  priority = is_priority form;
-  kind = kind.Autoremove;
-}) ∙ (λ j. given_entry c form (sym (full_kind c full) j) (sym is j))
+given_is : (c : ℕ) (form : Form) (p q : ℕ) → q ≡ p → form_entry form (watch.Plain c) (kind_for (watch.Plain c)) p
+    ≡ given_entry c form (kind_for (watch.Plain c)) q
+given_is c form p q is = ap (given_entry c form (kind_for (watch.Plain c))) (sym is)
 
 no_entry : (o : Option Entry) → ((e : Entry) → o ≡ Some e → None ≡ Some e) → o ≡ None
 no_entry None never = refl
@@ -237,14 +189,14 @@ module _ (old mid : Known) (r : WaitRun) (a : IsAt old r stage.PrepareQueue) whe
     -- it is queued
     join_from : (new : Known) → IsHolding new → (first b : Bool) → b ≡ (r.first || first)
         → TellsFirst (tells_first r) seen first
-        → HasAdded (IsFormPlace form) seen new 0 (form_entry form (watch.Plain r.cond) kind.Autoremove)
+        → HasAdded (IsFormPlace form) seen new 0 (form_entry form (watch.Plain r.cond) (kind_for (watch.Plain r.cond)))
         → GoesOn old new r (record r { queued = true; first = b }) stage.PrepareQueue
         (next.Go (at.Prepare preparing.State))
     join_from new held first b is tells x =
         let i = index old.view.number 0 in
         let same : index seen.view.number 0 ≡ i = ap (λ (n : ℕ). index n 0) o.number in
         let seen_at : x.seen.at ≡ seen.at = ap (λ (k : Known). k.at) x.looks.is in
-        let e : Entry = form_entry form (watch.Plain r.cond) kind.Autoremove x.place in
+        let e : Entry = form_entry form (watch.Plain r.cond) (kind_for (watch.Plain r.cond)) x.place in
         let found : Seen = finds None in
         record {
           runs = runs_one f (at.Prepare preparing.Queue) old x.seen new found (by_step (step.Queue i e))
@@ -253,7 +205,7 @@ module _ (old mid : Known) (r : WaitRun) (a : IsAt old r stage.PrepareQueue) whe
                 refl,
                 sym (seen_at ∙ o.at),
                 x.whole,
-                given_is r.cond a.runs.full form x.place (place_for form (shown_queue x.seen))
+                given_is r.cond form x.place (place_for form (shown_queue x.seen))
                     (form_is x.seen x.low form x.place x.sort),
               ) (
                 tt,
@@ -278,7 +230,7 @@ module _ (old mid : Known) (r : WaitRun) (a : IsAt old r stage.PrepareQueue) whe
                 (post_at None (wait_call r) (at.Prepare preparing.State)) x.carries o.stands
                 (λ j at. held.agreed) refl
                 o.stands.at refl o.stands.state
-                (subst (IsHome waits (watch.Plain r.cond)) (sym x.queued) (refl, sym (full_kind r.cond a.runs.full))),
+                (subst (IsHome waits (watch.Plain r.cond)) (sym x.queued) (refl, refl)),
             ap (λ (n : ℕ). is_some ((told_of new).bits.stored (index n 0))) x.carries.number
                 ∙ ap (λ (u : Option Entry). is_some u) x.queued,
           );
@@ -375,9 +327,6 @@ pub add_at : (old mid : Known) (r : WaitRun) → IsAt old r stage.PrepareQueue �
     → HasSeenOwn old mid o → (seen : Known) → Looks mid seen → call_head (wait_call r) ≡ seen.at
 add_at old mid r a o own seen l = queue_at old mid r a o own ∙ sym (ap (λ (k : Known). k.at) l.is)
 
-pub add_plain : (r : WaitRun) → IsRunning r → (c : Watch) → c ≡ watch.Plain r.cond → IsFor c kind.Autoremove
-add_plain r runs c is = (r.cond, is, runs.full, inr refl)
-
 pub mid_holds : (old mid : Known) (r : WaitRun) → IsAt old r stage.PrepareQueue → (o : Option Entry)
     → HasSeenOwn old mid o → IsHolding mid
 mid_holds old mid r a o own =
@@ -408,18 +357,20 @@ queued_run r b = record r { queued = true; first = b }
 pub join_advances : (old mid seen new : Known) (r : WaitRun) → IsAt old r stage.PrepareQueue
     → (o : Option Entry) → HasSeenOwn old mid o → is_some o ≡ false → Looks mid seen → IsHolding seen → IsHolding new
     → (first b asked : Bool) → b ≡ (r.first || first) → asked ≡ tells_first r → TellsFirst asked seen first
-    → (form : Form) → form ≡ wait_form r.how → (c : Watch) → c ≡ watch.Plain r.cond
-    → HasAdded (IsFormPlace form) seen new 0 (form_entry form c kind.Autoremove)
+    → (form : Form) → form ≡ wait_form r.how → (c : Watch) → c ≡ watch.Plain r.cond → (k : Kind) → k ≡ kind_for c
+    → HasAdded (IsFormPlace form) seen new 0 (form_entry form c k)
     → Advances old new r (queued_run r b) stage.PrepareQueue (turn.Again stage.PrepareState)
-join_advances old mid seen new r a None own none l held held2 first b asked now asks tells form is c same x =
+join_advances old mid seen new r a None own none l held held2 first b asked now asks tells form is c same k its x =
     advance_by old new r (queued_run r b) stage.PrepareQueue (turn.Again stage.PrepareState)
     (next.Go (at.Prepare preparing.State)) (record { cond = refl; how = refl; asks = refl })
-    (record { full = a.runs.full }) refl refl (join_from old mid r a seen (is_off old mid r a own seen l held) new held2
-    first b now (subst (λ (d : Bool). TellsFirst d seen first) asks tells)
+    (record { plain = a.runs.plain; tail = a.runs.tail }) refl refl
+    (join_from old mid r a seen (is_off old mid r a own seen l held) new held2 first b now
+    (subst (λ (d : Bool). TellsFirst d seen first) asks tells)
     (subst (λ (d : Watch). HasAdded (IsFormPlace (wait_form r.how)) seen new 0
-    (form_entry (wait_form r.how) d kind.Autoremove)) same
-    (subst (λ (g : Form). HasAdded (IsFormPlace g) seen new 0 (form_entry g c kind.Autoremove)) is x)))
-join_advances old mid seen new r a (Some e) own none l held held2 first b asked now asks tells form is c same x =
+    (form_entry (wait_form r.how) d (kind_for d))) same
+    (subst (λ (l : Kind). HasAdded (IsFormPlace (wait_form r.how)) seen new 0 (form_entry (wait_form r.how) c l)) its
+    (subst (λ (g : Form). HasAdded (IsFormPlace g) seen new 0 (form_entry g c k)) is x))))
+join_advances old mid seen new r a (Some e) own none l held held2 first b asked now asks tells form is c same k its x =
     absurd (cc)
 
 pub worn_advances : (old mid seen mid2 mid3 new : Known) (r : WaitRun) → IsAt old r stage.PrepareQueue
@@ -430,7 +381,7 @@ pub worn_advances : (old mid seen mid2 mid3 new : Known) (r : WaitRun) → IsAt 
     → Advances old new r (record r { place = w.place }) stage.PrepareQueue (turn.Again stage.Worn)
 worn_advances old mid seen mid2 mid3 new r a None own none l held w form is worn held2 u own2 given noted =
     advance_by old new r (record r { place = w.place }) stage.PrepareQueue (turn.Again stage.Worn) (next.Go at.Worn)
-    (record { cond = refl; how = refl; asks = refl }) (record { full = a.runs.full }) refl refl
+    (record { cond = refl; how = refl; asks = refl }) (record { plain = a.runs.plain; tail = a.runs.tail }) refl refl
     (worn_from old mid r a seen (is_off old mid r a own seen l held) mid2 mid3 new w
     (subst (λ (g : Form). IsFormWorn g seen mid2 w) is worn) held2 u own2 given noted)
 worn_advances old mid seen mid2 mid3 new r a (Some e) own none l held w form is worn held2 u own2 given noted =

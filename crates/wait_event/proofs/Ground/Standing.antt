@@ -125,6 +125,14 @@ lock_stands k h aim w p s = record {
       (sym (told_added k (item.Made (step.Lock h aim w)))) s.home;
 }
 
+-- the own entry, by a history that tells the same
+pub home_told : (old new : Known) (p : Post) → new.view.number ≡ old.view.number → told_of new ≡ told_of old
+    → IsHome p.zone p.watch ((told_of old).bits.stored (index old.view.number 0))
+    → IsHome p.zone p.watch ((told_of new).bits.stored (index new.view.number 0))
+home_told old new p number told home =
+    subst (λ (v : Told). IsHome p.zone p.watch (v.bits.stored (index new.view.number 0))) (sym told)
+    (subst (λ (n : ℕ). IsHome p.zone p.watch ((told_of old).bits.stored (index n 0))) (sym number) home)
+
 -- zones that say less
 pub home_waits : (c : Watch) (o : Option Entry) → IsHome absent c o → IsHome waits c o
 home_waits c None h = tt

@@ -9,14 +9,13 @@ ghost use Rattle.wait_event.specs.Tested.{IsReadyToWait, IsWaiting, IsWaker};
 use crate::tests::stretches::{go_on, is_over, next_number};
 use crate::wait_events::begin_wait;
 use crate::waits::{WaitRun, WaitStage, WaitTurn};
-use std::sync::Wait;
 use std::test::Fail;
 use wait_model::tasks::{How, SleepState};
 use wait_model::watches::{Mode, Watch};
 use wait_rule::queues::publish;
 use wait_rule::{Domain, Task};
-use wq_head::Members;
 use wq_head::wakes::{WakeRun, WakeStage, WakeTurn, wake_stretch};
+use wq_head::{Members, Rousing};
 
 /// How many orders are tried.
 const ORDERS: u32 = 400;
@@ -42,9 +41,8 @@ fn begin_wake(domain: &Domain, waker: &mut Task) -> WakeRun
     WakeRun::new(WATCH, Mode::Normal, 0)
 }
 
-/// Goes on with the wake by one turn.
-fn wake_on<R: Wait>(
-    rt: &R,
+/// Goes on with the wake by one turn. No thread is parked in this test, so that none is to be roused.
+fn wake_on(
     domain: &Domain,
     waker: &mut Task,
     run: &mut WakeRun,
@@ -56,16 +54,19 @@ fn wake_on<R: Wait>(
     ensures of { waker.new.domain ≡ domain.now }
     ensures waking { Rests waker.new run.new result }
 {
+    let mut rousing = Rousing::new();
     match last {
-        WakeTurn::Locked(stage) => wake_stretch(rt, domain, waker, run, stage, list),
-        WakeTurn::Broken => wake_stretch(rt, domain, waker, run, WakeStage::Next, list),
+        WakeTurn::Locked(stage) => wake_stretch(domain, waker, run, stage, list, &mut rousing),
+        WakeTurn::Broken => {
+            wake_stretch(domain, waker, run, WakeStage::Next, list, &mut rousing)
+        }
         WakeTurn::Done(walked) => WakeTurn::Done(walked),
+        WakeTurn::Starved => WakeTurn::Starved,
     }
 }
 
 /// Goes on with the wake where it is its turn.
-fn wake_if<R: Wait>(
-    rt: &R,
+fn wake_if(
     domain: &Domain,
     waker: &mut Task,
     run: &mut WakeRun,
@@ -79,7 +80,7 @@ fn wake_if<R: Wait>(
     ensures waking { Rests waker.new run.new result }
 {
     if its_turn {
-        wake_on(rt, domain, waker, run, last, list)
+        wake_on(domain, waker, run, last, list)
     } else {
         last
     }
@@ -106,14 +107,7 @@ fn wait_if(
 }
 
 /// Plays one order: whether both waits and the wake are over then.
-fn play<R: Wait>(
-    rt: &R,
-    domain: &Domain,
-    waker: &mut Task,
-    first: &mut Task,
-    second: &mut Task,
-    seed: u32,
-) -> bool
+fn play(domain: &Domain, waker: &mut Task, first: &mut Task, second: &mut Task, seed: u32) -> bool
     requires of { (waker.old.domain ≡ domain.now) × (first.old.domain ≡ domain.now)
         × (second.old.domain ≡ domain.now) }
     requires waker { IsWaker waker.old }
@@ -141,15 +135,7 @@ fn play<R: Wait>(
         seed = next_number(seed ^ turn);
         one_at = wait_if(domain, first, &mut one, one_at, seed % 5 < 2);
         two_at = wait_if(domain, second, &mut two, two_at, seed % 5 > 2);
-        wake_at = wake_if(
-            rt,
-            domain,
-            waker,
-            &mut wake,
-            wake_at,
-            &mut list,
-            seed % 5 == 2,
-        );
+        wake_at = wake_if(domain, waker, &mut wake, wake_at, &mut list, seed % 5 == 2);
     }
     is_over(one_at) && is_over(two_at) && matches!(wake_at, WakeTurn::Done(_))
 }
@@ -163,7 +149,7 @@ fn all_end_in_each_order(rt: HostRuntime) -> Result<(), Fail> {
         else {
             panic!(rt; "numbers are spare")
         };
-        assert!(rt; play(&rt, &domain, &mut waker, &mut first, &mut second, order + 1));
+        assert!(rt; play(&domain, &mut waker, &mut first, &mut second, order + 1));
     }
     Ok(())
 }

@@ -1,22 +1,25 @@
-use Rattle.std.proofs.Common.{◌∙◌, ◌<◌, ℕ, ap, refl, sym, subst}
+use Rattle.std.proofs.Common.{◌∙◌, ◌<◌, ℕ, ap, refl, sym, subst, arith}
 use Rattle.wait_model.specs.declared.layout.TheConstants.{HEADS, PRIORITY_TASKS}
 use Rattle.wait_rule.specs.Queues.{index}
 use Rattle.wait_rule.specs.Says.{told_of}
 use Rattle.wait_event.proofs.Entering.{
   add_carries,
   add_stands,
-  default_for,
+  add_woken,
   ends_add,
   lock_at,
   lock_carries,
+  own_for,
   worn_carries,
 }
+use Rattle.wait_event.proofs.Events.Conditions.{for_by}
 use Rattle.wait_event.proofs.Events.Locks.{head_fits}
+use Rattle.wait_model.specs.declared.watches.Watch.TheVariants as watch
 use Rattle.wait_event.proofs.entries.add_entry.Goals as goal
 
 pub lock-requires-clause-head : goal.lock-requires-clause-head
 lock-requires-clause-head g c = subst (λ (n : ℕ). n < HEADS) (sym c.head_of.ensures)
-    (head_fits c.args.cond c.requires.full)
+    (head_fits c.args.cond (omega (arith, c.requires.full)))
 
 pub add_by-added-requires-clause-head : goal.add_by-added-requires-clause-head
 add_by-added-requires-clause-head g c = sym (c.lock.ensures.carries.at ∙ c.head_of.ensures)
@@ -26,7 +29,9 @@ add_by-added-requires-clause-few g c prior = subst (λ (n : ℕ). n < PRIORITY_T
     (c.requires.few prior)
 
 pub add_by-added-requires-clause-plain : goal.add_by-added-requires-clause-plain
-add_by-added-requires-clause-plain g c = default_for c.args.cond c.args.kind c.requires.full c.requires.default
+add_by-added-requires-clause-plain g c =
+    for_by c.args.form (watch.Plain c.args.cond) c.args.kind
+    (own_for c.args.cond c.args.kind c.requires.full c.requires.own)
 
 pub add_by-added-requires-clause-out : goal.add_by-added-requires-clause-out
 add_by-added-requires-clause-out g c = c.lock.ensures.carries.out (index c.lock.new.task.view.number 0) refl
@@ -34,7 +39,7 @@ add_by-added-requires-clause-out g c = c.lock.ensures.carries.out (index c.lock.
 
 pub returns-clause-added : goal.returns-clause-added
 returns-clause-added g c = ends_add c.args.task.now c.lock.new.task c.add_by-added.new.task c.unlock.new.task
-    c.args.cond c.args.kind c.args.form c.requires.default
+    c.args.cond c.args.kind c.args.form c.requires.own
     (lock_at c.args.task.now c.lock.new.task c.args.cond c.head_of.result c.head_of.ensures c.lock.ensures.locked)
     c.unlock.ensures.unlocked c.requires.free c.told.ensures
     (lock_carries c.args.task.now c.lock.new.task c.args.cond c.head_of.result c.head_of.ensures c.lock.ensures.carries)
@@ -43,15 +48,23 @@ returns-clause-added g c = ends_add c.args.task.now c.lock.new.task c.add_by-add
 
 pub returns-clause-stands : goal.returns-clause-stands
 returns-clause-stands g c = add_stands c.args.task.now c.lock.new.task c.add_by-added.new.task c.unlock.new.task
-    c.args.cond c.args.kind c.args.form c.requires.default
+    c.args.cond c.args.kind c.args.form c.requires.own
     (lock_at c.args.task.now c.lock.new.task c.args.cond c.head_of.result c.head_of.ensures c.lock.ensures.locked)
     c.unlock.ensures.unlocked c.requires.free c.told.ensures
     (lock_carries c.args.task.now c.lock.new.task c.args.cond c.head_of.result c.head_of.ensures c.lock.ensures.carries)
     c.unlock.ensures.carries c.requires.up c.requires.full c.add_by-added.result c.add_by-added.ensures.queued
 
+pub returns-clause-woken : goal.returns-clause-woken
+returns-clause-woken g c = add_woken c.args.task.now c.lock.new.task c.add_by-added.new.task c.unlock.new.task
+    c.args.cond c.args.kind c.args.form c.requires.own
+    (lock_at c.args.task.now c.lock.new.task c.args.cond c.head_of.result c.head_of.ensures c.lock.ensures.locked)
+    c.unlock.ensures.unlocked c.requires.free c.told.ensures
+    (lock_carries c.args.task.now c.lock.new.task c.args.cond c.head_of.result c.head_of.ensures c.lock.ensures.carries)
+    c.unlock.ensures.carries c.requires.full c.add_by-added.result c.add_by-added.ensures.queued
+
 pub returns-clause-carries : goal.returns-clause-carries
 returns-clause-carries g c = add_carries c.args.task.now c.lock.new.task c.add_by-added.new.task c.unlock.new.task
-    c.args.cond c.args.kind c.args.form c.requires.default
+    c.args.cond c.args.kind c.args.form c.requires.own
     (lock_at c.args.task.now c.lock.new.task c.args.cond c.head_of.result c.head_of.ensures c.lock.ensures.locked)
     c.unlock.ensures.unlocked c.requires.free c.told.ensures
     (lock_carries c.args.task.now c.lock.new.task c.args.cond c.head_of.result c.head_of.ensures c.lock.ensures.carries)
@@ -59,7 +72,7 @@ returns-clause-carries g c = add_carries c.args.task.now c.lock.new.task c.add_b
 
 pub returns-clause-same : goal.returns-clause-same
 returns-clause-same g c = worn_carries c.args.task.now c.lock.new.task c.add_by-added.new.task c.unlock.new.task
-    c.args.cond c.args.kind c.args.form c.requires.default
+    c.args.cond c.args.kind c.args.form c.requires.own
     (lock_at c.args.task.now c.lock.new.task c.args.cond c.head_of.result c.head_of.ensures c.lock.ensures.locked)
     c.unlock.ensures.unlocked c.requires.free c.told.ensures
     (lock_carries c.args.task.now c.lock.new.task c.args.cond c.head_of.result c.head_of.ensures c.lock.ensures.carries)

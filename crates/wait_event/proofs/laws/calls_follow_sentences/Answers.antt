@@ -1,4 +1,4 @@
-use Rattle.wait_event.proofs.Words.{sets_follow, takes_follow, waits_follow, waits_say}
+use Rattle.wait_event.proofs.Words.{sets_follow, takes_follow, waits_follow, waits_say, wokens_follow}
 use Rattle.wait_event.proofs.laws.calls_follow_sentences.Goals as goal
 
 pub returns-clause-waits : goal.returns-clause-waits
@@ -12,3 +12,6 @@ returns-clause-sets c = sets_follow
 
 pub returns-clause-says : goal.returns-clause-says
 returns-clause-says c = waits_say
+
+pub returns-clause-flags : goal.returns-clause-flags
+returns-clause-flags c = wokens_follow

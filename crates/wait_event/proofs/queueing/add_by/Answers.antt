@@ -1,8 +1,22 @@
-use Rattle.std.proofs.Common.{IfOk, subst, sym}
+use Rattle.std.proofs.Common.{Bool, IfOk, subst, sym, true}
 use Rattle.wait_model.specs.declared.queues.Form.{Form}
-use Rattle.wq_head.specs.Adds.{HasAdded}
-use Rattle.wait_event.specs.Queueing.{IsFormPlace, form_entry}
+use Rattle.wait_rule.specs.Queues.{IsPriorityPlace, IsTailPlace}
+use Rattle.wq_head.specs.Adds.{HasAdded, tail_entry}
+use Rattle.wait_event.specs.Queueing.{IsForBy, IsFormPlace, form_entry}
+use Rattle.wait_event.proofs.Events.Conditions.{for_flags}
 use Rattle.wait_event.proofs.queueing.add_by.Goals as goal
+
+pub add_front-requires-clause-plain : goal.add_front-requires-clause-plain
+add_front-requires-clause-plain c = subst (λ (f : Form). IsForBy f c.args.watch c.args.kind) c.in-Front.is
+    c.requires.plain
+
+pub add_tail-requires-clause-suits : goal.add_tail-requires-clause-suits
+add_tail-requires-clause-suits c = subst (λ (f : Form). IsForBy f c.args.watch c.args.kind) c.in-Tail.is
+    c.requires.plain
+
+pub add_priority-requires-clause-plain : goal.add_priority-requires-clause-plain
+add_priority-requires-clause-plain c = subst (λ (f : Form). IsForBy f c.args.watch c.args.kind) c.in-Priority.is
+    c.requires.plain
 
 pub returns-in-Front-clause-queued : goal.returns-in-Front-clause-queued
 returns-in-Front-clause-queued c = subst (λ (f : Form). IfOk c.add_front.result (λ _. HasAdded (IsFormPlace f)
@@ -12,9 +26,18 @@ returns-in-Front-clause-queued c = subst (λ (f : Form). IfOk c.add_front.result
 pub returns-in-Tail-clause-queued : goal.returns-in-Tail-clause-queued
 returns-in-Tail-clause-queued c = subst (λ (f : Form). IfOk c.add_tail.result (λ _. HasAdded (IsFormPlace f)
     c.args.task.now c.add_tail.new.task 0 (form_entry f c.args.watch c.args.kind))) (sym c.in-Tail.is)
-    c.add_tail.ensures.queued
+    (subst (λ (b : Bool). IfOk c.add_tail.result (λ _. HasAdded IsTailPlace c.args.task.now c.add_tail.new.task 0
+    (tail_entry b c.args.watch c.args.kind))) c.has_flags.ensures c.add_tail.ensures.queued)
 
 pub returns-in-Priority-clause-queued : goal.returns-in-Priority-clause-queued
 returns-in-Priority-clause-queued c = subst (λ (f : Form). IfOk c.add_priority.result (λ _. HasAdded (IsFormPlace f)
     c.args.task.now c.add_priority.new.task 0 (form_entry f c.args.watch c.args.kind))) (sym c.in-Priority.is)
-    c.add_priority.ensures.queued
+    (subst (λ (b : Bool). IfOk c.add_priority.result (λ _. HasAdded IsPriorityPlace c.args.task.now
+    c.add_priority.new.task 0 (λ place. record {
+      watch = c.args.watch;
+      place = place;
+      exclusive = b;
+      priority = true;
+      kind = c.args.kind;
+    }))) (for_flags c.args.watch c.args.kind (subst (λ (f : Form). IsForBy f c.args.watch c.args.kind) c.in-Priority.is
+    c.requires.plain)) c.add_priority.ensures.queued)

@@ -6,7 +6,7 @@ use Rattle.wait_event.proofs.waits.draw_event.Goals as goal
 
 pub draw-run-requires-clause-head : goal.draw-run-requires-clause-head
 draw-run-requires-clause-head c = subst (λ (n : ℕ). n < HEADS) (sym (c.head_of.ensures ∙ ap head_of c.watch.ensures))
-    (head_fits c.args.run.now.cond c.requires.at.runs.full)
+    (head_fits c.args.run.now.cond c.requires.at.runs.plain)
 
 pub returns : goal.returns
 returns c = draw_advances c.args.task.now c.draw-run.new.task c.args.run.now c.args.stage c.requires.here

@@ -19,5 +19,5 @@ returns-clause-advances c =
     (c.cond_load-value.ensures.step ∙ ap (λ (w : Watch). added old (item.Made (step.Load w v))) c.watch.ensures)
     c.cond_load-value.ensures.carries c.args.stage c.requires.here a in
     advance_by old new r (record r { seen = v }) c.args.stage c.loaded.result (goes_to r c.args.stage (with_value v))
-    (record { cond = refl; how = refl; asks = refl }) (record { full = a.runs.full })
+    (record { cond = refl; how = refl; asks = refl }) (record { plain = a.runs.plain; tail = a.runs.tail })
     c.loaded.ensures.plain c.loaded.ensures.goes g

@@ -9,11 +9,11 @@ use Rattle.wait_event.proofs.waits.lock_event.Goals as goal
 
 pub serving_load-found-requires-clause-head : goal.serving_load-found-requires-clause-head
 serving_load-found-requires-clause-head c = subst (λ (n : ℕ). n < HEADS)
-    (sym (c.head_of-head.ensures ∙ ap head_of c.watch.ensures)) (head_fits c.args.run.now.cond c.requires.at.runs.full)
+    (sym (c.head_of-head.ensures ∙ ap head_of c.watch.ensures)) (head_fits c.args.run.now.cond c.requires.at.runs.plain)
 
 pub lock_step-requires-clause-head : goal.lock_step-requires-clause-head
 lock_step-requires-clause-head c = subst (λ (n : ℕ). n < HEADS)
-    (sym (c.head_of-head.ensures ∙ ap head_of c.watch.ensures)) (head_fits c.args.run.now.cond c.requires.at.runs.full)
+    (sym (c.head_of-head.ensures ∙ ap head_of c.watch.ensures)) (head_fits c.args.run.now.cond c.requires.at.runs.plain)
 
 pub lock_step-requires-clause-turn : goal.lock_step-requires-clause-turn
 lock_step-requires-clause-turn c = turn_out c.args.task.now c.serving_load-found.new.task c.args.run.now c.args.stage
@@ -36,7 +36,7 @@ returns-clause-advances c =
     (c.head_of-head.ensures ∙ ap head_of c.watch.ensures) c.serving_load-found.ensures.step s.3 in
     advance_by c.args.task.now c.lock_step.new.task r q c.args.stage c.locked.result (goes_to r c.args.stage nothing)
     (record { cond = refl; how = refl; asks = refl })
-    (record { full = c.requires.at.runs.full }) c.locked.ensures.plain
+    (record { plain = c.requires.at.runs.plain; tail = c.requires.at.runs.tail }) c.locked.ensures.plain
     c.locked.ensures.goes g
 
 pub returns-then-found-run-clause-falls : goal.returns-then-found-run-clause-falls

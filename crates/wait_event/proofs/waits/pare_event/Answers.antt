@@ -15,7 +15,7 @@ returns-then-run-clause-advances c =
     let b = c.is_some-run.result in
     advance_by c.args.task.now c.remove.new.task r (record r { found = b }) c.args.stage c.pared.result
     (goes_to r c.args.stage (with_entry c.own_entry-entry.result)) (record { cond = refl; how = refl; asks = refl })
-    (record { full = c.requires.at.runs.full })
+    (record { plain = c.requires.at.runs.plain; tail = c.requires.at.runs.tail })
     c.pared.ensures.plain c.pared.ensures.goes
     (taken_goes c.args.task.now c.own_entry-entry.new.task c.remove.new.task r c.args.stage c.requires.here
     c.requires.at c.own_entry-entry.result c.own_entry-entry.ensures (sym c.is_some-run.ensures ∙ c.if-run.true)
@@ -28,7 +28,7 @@ returns-clause-advances c =
     let b = c.is_some-run.result in
     advance_by c.args.task.now c.give_back.new.task r (record r { found = b }) c.args.stage c.pared-2.result
     (goes_to r c.args.stage (with_entry c.own_entry-entry.result)) (record { cond = refl; how = refl; asks = refl })
-    (record { full = c.requires.at.runs.full })
+    (record { plain = c.requires.at.runs.plain; tail = c.requires.at.runs.tail })
     c.pared-2.ensures.plain c.pared-2.ensures.goes
     (given_goes c.args.task.now c.own_entry-entry.new.task c.give_back.new.task r c.args.stage c.requires.here
     c.requires.at c.own_entry-entry.result c.own_entry-entry.ensures (sym c.is_some-run.ensures ∙ c.if-run.false)

@@ -3,7 +3,6 @@ use Rattle.wait_model.specs.Watches.{head_of}
 use Rattle.wait_event.proofs.Events.Queues.{
   add_at,
   add_few,
-  add_plain,
   join_advances,
   mid_holds,
   queue_at,
@@ -11,6 +10,7 @@ use Rattle.wait_event.proofs.Events.Queues.{
   stay_advances,
   worn_advances,
 }
+use Rattle.wait_event.proofs.Events.Conditions.{wait_for}
 use Rattle.wait_event.proofs.waits.queue_event.Goals as goal
 
 pub returns-then-is_some-clause-advances : goal.returns-then-is_some-clause-advances
@@ -37,7 +37,8 @@ pub add_by-requires-clause-few : goal.add_by-requires-clause-few
 add_by-requires-clause-few c prior = absurd (add_few c.args.run.now c.wait_form.result c.wait_form.ensures prior)
 
 pub add_by-requires-clause-plain : goal.add_by-requires-clause-plain
-add_by-requires-clause-plain c = add_plain c.args.run.now c.requires.at.runs c.watch-watch.result c.watch-watch.ensures
+add_by-requires-clause-plain c = wait_for c.args.run.now c.requires.at.runs c.wait_form.result c.wait_form.ensures
+    c.watch-watch.result c.watch-watch.ensures c.kind.result c.kind.ensures
 
 pub add_by-requires-clause-out : goal.add_by-requires-clause-out
 add_by-requires-clause-out c = queue_out c.args.task.now c.own_entry-entry.new.task c.own_entry-entry.result
@@ -51,7 +52,7 @@ returns-in-Ok-clause-advances c = join_advances c.args.task.now c.own_entry-entr
     c.in-Ok.ensures.held c.is_first-first.result c.or_first-run.result c.tells_first.result c.or_first-run.ensures
     c.tells_first.ensures
     c.is_first-first.ensures.tells c.wait_form.result c.wait_form.ensures c.watch-watch.result c.watch-watch.ensures
-    c.in-Ok.ensures.queued
+    c.kind.result c.kind.ensures c.in-Ok.ensures.queued
 
 pub returns-in-Err-clause-advances : goal.returns-in-Err-clause-advances
 returns-in-Err-clause-advances c = worn_advances c.args.task.now c.own_entry-entry.new.task c.is_first-first.new.task

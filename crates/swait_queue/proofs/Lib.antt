@@ -1,0 +1,4 @@
+pub mod SimplePrograms
+pub mod SimpleWaitEnds
+pub mod SimpleWakeEnds
+pub mod SimpleWords

@@ -1,0 +1,3 @@
+pub mod SimpleWaits
+pub mod SimpleWakes
+pub mod SimpleWords

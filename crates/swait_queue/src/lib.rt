@@ -1,0 +1,12 @@
+//! Simple wait queues on real threads (kernel/sched/swait.c): waits for the plain conditions whose heads are simple
+//! ones, and wakes that select the first entry or all.
+#![tactic(auto)]
+
+pub mod laws;
+#[cfg(test)]
+mod tests;
+pub mod waits;
+pub mod wakes;
+
+pub use waits::{begin_swait, swait_event};
+pub use wakes::{swake_all, swake_all_locked, swake_locked, swake_one};

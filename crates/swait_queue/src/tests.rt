@@ -1,0 +1,6 @@
+//! Simple queues: one task alone, by threads, and by stretches on one thread. The tests stand on the contracts of the
+//! calls alone.
+
+mod alone;
+mod stretches;
+mod threads;

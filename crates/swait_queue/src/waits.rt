@@ -1,0 +1,74 @@
+//! Waits in simple queues. In stretches they go on by `wait_event::wait_calls::stretch`, from `begin_swait` on.
+
+ghost use Rattle.std.specs.Prelude.{◌≡◌, false, true};
+ghost use Rattle.wait_model.specs.Tasks.{is_killable};
+ghost use Rattle.wait_rule.specs.Queues.{IsIdle, IsTold, index};
+ghost use Rattle.wait_rule.specs.Says.{IsUp};
+ghost use Rattle.wait_rule.specs.Stays.{Carries};
+ghost use Rattle.wait_event.specs.declared.waits.WaitStage.TheVariants as stage;
+ghost use Rattle.wait_event.specs.Ends.{IsOut, wait_change};
+ghost use Rattle.wait_event.specs.Waits.{IsAt, IsFresh};
+ghost use Rattle.swait_queue.specs.SimpleWaits.{EndsSimpleWait, IsSimpleCond, tail_in};
+
+use std::sync::Wait;
+use wait_event::wait_calls::run_wait;
+use wait_event::wait_events::{WaitEnd, end_of};
+use wait_event::waits::{WaitRun, WaitStage};
+use wait_model::tasks::{How, SleepState};
+use wait_rule::{Domain, Task};
+
+/// A wait for condition `cond`, from `FIRST_SIMPLE` on and below `PLAIN_CONDITIONS`, that is about to begin: `stretch`
+/// goes on with it at `WaitStage::First`. The state is uninterruptible or interruptible. The task is idle and has no
+/// entry queued.
+pub fn begin_swait(task: &Task, cond: u8, state: SleepState) -> WaitRun
+    requires up { IsUp task.now }
+    requires idle { IsIdle task.now }
+    requires simple { IsSimpleCond cond }
+    requires listed { is_killable state ≡ false }
+    requires out { IsOut task.now }
+    ensures at { IsAt task.now result stage.First }
+    ensures fresh { IsFresh result cond (tail_in state) true }
+    ensures told { IsTold task.now }
+{
+    task.told();
+    WaitRun::new(cond, tail_in(state), true)
+}
+
+/// At the tail, and in this state.
+fn tail_in(state: SleepState) -> How
+    ensures { result ≡ tail_in state }
+{
+    How {
+        state,
+        exclusive: true,
+    }
+}
+
+/// Waits until condition `cond`, from `FIRST_SIMPLE` on and below `PLAIN_CONDITIONS`, is set, in the condition's simple
+/// queue (include/linux/swait.h, `swait_event_exclusive`, `swait_event_interruptible_exclusive`; kernel/sched/swait.c,
+/// `prepare_to_swait_event`, `finish_swait`): a value other than 0. Its entry stands at the tail, and a wake takes it
+/// off. The state is uninterruptible or interruptible. The answers are those of `wait_event`. The task is idle and has
+/// no entry queued, and so it is afterwards; it owes what it owed.
+pub fn swait_event<R: Wait>(
+    rt: &R,
+    domain: &Domain,
+    task: &mut Task,
+    cond: u8,
+    state: SleepState,
+) -> Result<(), WaitEnd>
+    requires of { task.old.domain ≡ domain.now }
+    requires up { IsUp task.old }
+    requires idle { IsIdle task.old }
+    requires simple { IsSimpleCond cond }
+    requires listed { is_killable state ≡ false }
+    requires out { IsOut task.old }
+    ensures waited { EndsSimpleWait task.old task.new cond state result }
+    ensures up { IsUp task.new }
+    ensures idle { IsIdle task.new }
+    ensures out { IsOut task.new }
+    ensures carries { Carries (wait_change (index task.old.view.number 0) task.new.at) task.old task.new }
+{
+    let mut run = begin_swait(task, cond, state);
+    let outcome = run_wait(rt, domain, task, &mut run, WaitStage::First);
+    end_of(run, outcome)
+}

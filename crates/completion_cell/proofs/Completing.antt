@@ -1,0 +1,432 @@
+-- A completion is made done: the transitions, and what the calls carry on.
+use Rattle.std.proofs.Common.{◌∙◌, ap, sym, refl, subst, arith, inl, inr, eq-eqb, eqb-true}
+use Rattle.std.specs.Prelude.{
+  ℕ,
+  ◌≡◌,
+  ◌≢◌,
+  ◌<◌,
+  ◌≤◌,
+  ◌+◌,
+  ◌⊎◌,
+  ◌&&◌,
+  ◌||◌,
+  ◌==◌,
+  not,
+  nat_lt,
+  if◌then◌else◌,
+  Bool,
+  true,
+  false,
+  Some,
+  None,
+  [],
+  ◌∷◌,
+  MatchBool,
+}
+use Rattle.std.proofs.lemmas.Bool.Decides.{nat_tests}
+use Rattle.wait_model.specs.declared.layout.TheConstants.{ALL_DONE, FIRST_SIMPLE_HEAD}
+use Rattle.wait_model.specs.declared.calls.Call.{Call}
+use Rattle.wait_model.specs.declared.calls.Call.TheVariants as calls
+use Rattle.wait_model.specs.declared.points.Next.TheVariants as next
+use Rattle.wait_model.specs.declared.points.Point.TheVariants as at
+use Rattle.wait_model.specs.declared.points.SelectPoint.TheVariants as selecting
+use Rattle.wait_model.specs.declared.steps.Step.TheVariants as step
+use Rattle.wait_model.specs.declared.watches.Mode.TheVariants as mode
+use Rattle.wait_model.specs.declared.watches.Watch.{Watch}
+use Rattle.wait_model.specs.declared.watches.Watch.TheVariants as watch
+use Rattle.wait_model.specs.Counts.{raised_done}
+use Rattle.wait_model.specs.Points.{call_watch, count_of, mode_of}
+use Rattle.wait_model.specs.Programs.{done_in, is_at_end, is_enough, select_from, selected_answer, zero_answer}
+use Rattle.wait_model.specs.Runs.{set_step}
+use Rattle.wait_model.specs.Fold.{begun_anew}
+use Rattle.wait_model.specs.Views.{View as Told}
+use Rattle.wait_model.specs.Watches.{head_of}
+use Rattle.wait_model.proofs.SentenceLaws.SentenceAwaits.{shown_count}
+use Rattle.wait_rule.specs.declared.journal.Item.TheVariants as item
+use Rattle.wait_rule.specs.Counts.{FindsCount, StoresCount}
+use Rattle.wait_rule.specs.HeldValues.{count_in}
+use Rattle.wait_rule.specs.Known.{Known}
+use Rattle.wait_rule.specs.Queues.{IsTold, IsWholeBook, MayRise, index, simple_watch, walk_of_hold}
+use Rattle.wait_rule.specs.Says.{IsFree, Excuse, added, history_of, told_of, unlocked_with}
+use Rattle.wait_rule.specs.Stays.{
+  Carries,
+  Owes,
+  lock_change,
+  only_looks,
+  publish_change,
+  unchanged,
+  unlock_change,
+  with_wakes,
+}
+use Rattle.wait_rule.specs.Transitions.{by_step, call_program}
+use Rattle.wait_rule.proofs.KnownLaws.AfterSteps.{told_added}
+use Rattle.wait_rule.proofs.KnownLaws.CarriedTasks.{clean_owes, owes_clean, unchanged_none}
+use Rattle.wait_rule.proofs.KnownLaws.CarriedCounts.{as_publish}
+use Rattle.wait_rule.proofs.KnownLaws.StayingParts.{stays_same}
+use Rattle.wait_rule.proofs.KnownLaws.TaskHistories.{history_after}
+use Rattle.wait_rule.proofs.KnownLaws.Transitions.{only_none}
+use Rattle.wq_head.specs.Holds.{HasLocked, HasUnlocked, IsHolding}
+use Rattle.wq_head.specs.Selects.{HasSelected, IsSimpleHold, ShowsNoEntry, simple_aim}
+use Rattle.wq_head.proofs.CarriedHolds.{ended_owes}
+use Rattle.wq_head.proofs.LockWaits.{turn_of}
+use Rattle.wq_head.proofs.SelectedRuns.{lock_goes, selected_ends}
+use Rattle.wq_head.proofs.SimpleHolds.{own_done, simple_ended}
+use Rattle.wait_event.specs.Conds.{set_change}
+use Rattle.wait_event.specs.Posts.{Runs}
+use Rattle.wait_event.specs.Waits.{nothing, with_value}
+use Rattle.wait_event.proofs.Ground.Going.{runs_none, runs_on, runs_one}
+use Rattle.completion_cell.specs.Asks.{Counted}
+use Rattle.completion_cell.specs.Completes.{HasCompleted, HasCompletedAll, RaisesOne}
+use Rattle.completion_cell.proofs.Ground.{count_after_step, quiet_store, step_behind}
+
+-- the head of a completion is a simple one
+pub done_simple : (d : ℕ) → FIRST_SIMPLE_HEAD ≤ head_of (watch.Done d)
+unfolding head_of
+done_simple d = omega arith
+
+-- whether a selection has as many as were asked for
+enough_one : (n : ℕ) → (not (n == 0) && (n == 1)) ≡ (n == 1)
+enough_one n = by (n == 1) refl
+  where
+    by : (b : Bool) → (n == 1) ≡ b → (not (n == 0) && b) ≡ b
+    by true is =
+        let one = eqb-true n 1 is in
+        let z : (n == 0) ≡ false = grind (arith, nat_tests, one) in
+        ap (λ (c : Bool). not c && true) z
+    by false is = no (not (n == 0))
+      where
+        no : (c : Bool) → (c && false) ≡ false
+        no true = refl
+        no false = refl
+
+enough_none : (n : ℕ) → (not (n == 0) && (n == 0)) ≡ false
+enough_none n = by (n == 0)
+  where
+    by : (b : Bool) → (not b && b) ≡ false
+    by true = refl
+    by false = refl
+
+-- what a load leaves of the hold's walk, and a store
+simple_loaded : (old new : Known) (l : Watch) (r : ℕ) → new ≡ added old (item.Made (step.Load l r)) → IsSimpleHold old
+    → IsSimpleHold new
+simple_loaded old new l r is s = subst IsSimpleHold (sym is) (record {
+  simple = s.simple;
+  walk = s.walk;
+  under = record {
+    under = ap (λ (v : Told). v.walk) (told_added old (item.Made (step.Load l r))) ∙ s.under.under;
+    watch = s.under.watch;
+    mask = s.under.mask;
+  };
+})
+
+simple_stored : (old new : Known) (d n r : ℕ) → new ≡ added old (item.Made (set_step (watch.Done d) n r))
+    → IsSimpleHold old → IsSimpleHold new
+simple_stored old new d n r is s = by (nat_lt r n || (n == ALL_DONE)) is
+  where
+    by : (b : Bool) → new ≡ added old (item.Made (if b then step.Publish (watch.Done d) n r
+        else step.Consume (watch.Done d) n r)) → IsSimpleHold new
+    by true made = subst IsSimpleHold (sym made) (record {
+      simple = s.simple;
+      walk = record (s.walk) { from = 0 };
+      under = record {
+        under = ap (λ (v : Told). v.walk) (told_added old (item.Made (step.Publish (watch.Done d) n r)))
+            ∙ ap begun_anew s.under.under;
+        watch = s.under.watch;
+        mask = s.under.mask;
+      };
+    })
+    by false made = subst IsSimpleHold (sym made) (record {
+      simple = s.simple;
+      walk = s.walk;
+      under = record {
+        under = ap (λ (v : Told). v.walk) (told_added old (item.Made (step.Consume (watch.Done d) n r)))
+            ∙ s.under.under;
+        watch = s.under.watch;
+        mask = s.under.mask;
+      };
+    })
+
+-- an unlock that raises no spent count
+pub rise_none : (k : Known) → MayRise k false
+rise_none k = record { used = λ e. absurd (cc); counts = λ w is e. absurd (cc) }
+
+-- From the lock on: the count is stored, or stays at its end; then the selection, and the unlock. What is owed of the
+-- completion is owed no more.
+module _ (d : ℕ) (old a b m new : Known) (most n : ℕ) (spent : Bool) (free : IsFree old) (told : IsTold old)
+    (one : Carries (lock_change (head_of (watch.Done d))) old a)
+    (two : Carries (publish_change (watch.Done d)) a b) (three : Carries only_looks b m)
+    (four : Carries unlock_change m new) (hold : IsSimpleHold m) (at_d : m.at ≡ head_of (watch.Done d))
+    (s : HasSelected b m most n) (full : n ≡ most → most ≢ 0 → spent ≡ true)
+    (is : new ≡ unlocked_with m m.at spent) where
+  over : (spent ≡ true) ⊎ ((IsWholeBook m) × (ShowsNoEntry m))
+  over = elim s.ends [ inl all ↦ inl (full all.1 all.0) | inr none ↦ inr (s.whole, none.0) ]
+
+  ends_owed : (x : Excuse) → Owes (with_wakes (watch.Done d) mode.Normal x) m → Owes x new
+  ends_owed x o = ended_owes (simple_aim m.at) m new
+      (simple_ended m m new spent (stays_same m) (λ c σ. refl) refl hold over is) x
+      (subst (λ (c : Watch). Owes (with_wakes c mode.Normal x) m) (sym (ap simple_watch at_d ∙ own_done d)) o)
+
+  pub completed_carried : Carries (set_change (watch.Done d) mode.Normal new.at) old new
+  completed_carried = record {
+    domain = four.domain ∙ (three.domain ∙ (two.domain ∙ one.domain));
+    number = four.number ∙ (three.number ∙ (two.number ∙ one.number));
+    awake = four.awake ∙ (three.awake ∙ (two.awake ∙ one.awake));
+    state = four.state ∙ (three.state ∙ (two.state ∙ one.state));
+    head = four.head ∙ sym free.head;
+    ticket = four.ticket ∙ sym free.ticket;
+    hold = four.hold ∙ sym (told.head ∙ free.head);
+    at = refl;
+    mark = four.mark ∙ (three.mark ∙ (two.mark ∙ one.mark));
+    fewer = λ w σ p is. four.fewer w σ refl (three.fewer w σ refl (two.fewer w σ p (one.fewer w σ refl is)));
+    stored = λ x none away. absurd (cc);
+    out = λ x away none. four.out x refl (three.out x refl (two.out x refl (one.out x refl none)));
+    stands = λ slot few away e own kind.
+        let by_a = one.stands slot few refl e own kind in
+        let by_b = two.stands slot few refl e
+        (subst (λ (i : ℕ). (told_of a).bits.stored (index i slot) ≡ Some e) (sym one.number) by_a) kind in
+        let by_m = three.stands slot few refl e
+        (subst (λ (i : ℕ). (told_of b).bits.stored (index i slot) ≡ Some e) (sym two.number) by_b) kind in
+        subst (λ (i : ℕ). (told_of new).bits.stored (index i slot) ≡ Some e)
+        (three.number ∙ (two.number ∙ one.number))
+        (four.stands slot few refl e
+        (subst (λ (i : ℕ). (told_of m).bits.stored (index i slot) ≡ Some e) (sym three.number) by_m) kind);
+    owes = λ x o. ends_owed x (three.owes (with_wakes (watch.Done d) mode.Normal x) (two.owes x (one.owes x o)));
+    clean = clean_owes old;
+    settled = owes_clean new;
+  }
+
+-- a count is raised by one, unless it is at its end
+module _ (old new : Known) (d n : ℕ) (c : Counted old d n) (raised : Bool) (raises : RaisesOne n raised)
+    (made : MatchBool raised (StoresCount old new d (n + 1)) (new ≡ old)) where
+  stored : (e : Bool) → (n == ALL_DONE) ≡ e → MatchBool (not e) (StoresCount old new d (n + 1)) (new ≡ old)
+  stored e is = subst (λ (b : Bool). MatchBool b (StoresCount old new d (n + 1)) (new ≡ old))
+      (raises ∙ ap not is) made
+
+  pub raise_carried : Carries (publish_change (watch.Done d)) old new
+  raise_carried = by (n == ALL_DONE) refl
+    where
+      by : (e : Bool) → (n == ALL_DONE) ≡ e → Carries (publish_change (watch.Done d)) old new
+      by true is = subst (Carries (publish_change (watch.Done d)) old) (sym (stored true is))
+          (as_publish (watch.Done d) old old (unchanged_none old))
+      by false is = (stored false is).publishes
+
+  pub raise_simple : IsSimpleHold old → IsSimpleHold new
+  raise_simple s = by (n == ALL_DONE) refl
+    where
+      by : (e : Bool) → (n == ALL_DONE) ≡ e → IsSimpleHold new
+      by true is = subst IsSimpleHold (sym (stored true is)) s
+      by false is = let t = stored false is in simple_stored old new d (n + 1) t.found t.is s
+
+  ends_is : (e : Bool) → (n == ALL_DONE) ≡ e → is_at_end n ≡ e
+  ends_is e is = ap (λ (m : ℕ). m == ALL_DONE) (shown_count n c.small) ∙ is
+
+  one_more : (n == ALL_DONE) ≡ false → n + 1 ≡ raised_done (done_in n)
+  one_more is = sym (ap raised_done (shown_count n c.small) ∙ ap (λ (b : Bool). if b then n else n + 1) is)
+
+  raise_by : (e : Bool) → (n == ALL_DONE) ≡ e → Runs (call_program old.view.number 0 (calls.Complete d)) old new
+      (next.Go (at.Select (if e then selecting.Next 0 else selecting.Store))) (next.Go (at.Select (selecting.Next 0)))
+  raise_by true is = subst (λ (k : Known). Runs (call_program old.view.number 0 (calls.Complete d)) old k
+      (next.Go (at.Select (selecting.Next 0))) (next.Go (at.Select (selecting.Next 0)))) (sym (stored true is))
+      (runs_none (call_program old.view.number 0 (calls.Complete d)) old _)
+  raise_by false is =
+      let t = stored false is in
+      (quiet_store (call_program old.view.number 0 (calls.Complete d)) (at.Select selecting.Store) old new
+      (with_value n) d (n + 1) t.found _ (raised_done (done_in n)) _ refl refl refl (one_more is)
+      (sym (t.finds.1 c.held n c.loaded)) tt tt tt old (only_none old) t.is).0
+
+  pub raise_runs : Runs (call_program old.view.number 0 (calls.Complete d)) old new
+      (next.Go (at.Select (if is_at_end n then selecting.Next 0 else selecting.Store)))
+      (next.Go (at.Select (selecting.Next 0)))
+  raise_runs = subst (λ (b : Bool). Runs (call_program old.view.number 0 (calls.Complete d)) old new
+      (next.Go (at.Select (if b then selecting.Next 0 else selecting.Store))) (next.Go (at.Select (selecting.Next 0))))
+      (sym (ends_is (n == ALL_DONE) refl)) (raise_by (n == ALL_DONE) refl)
+
+-- the lock, the selection and the unlock, of a call for this completion
+module _ (call : Call) (d : ℕ) (about : call_watch call ≡ watch.Done d) (normal : mode_of call ≡ mode.Normal) where
+  abbrev h : ℕ
+  h = head_of (watch.Done d)
+
+  pub select_locks : (me : ℕ) (old a : Known) → HasLocked old a h (walk_of_hold h None)
+      → Runs (call_program me 0 call) old a (next.Go (at.Select selecting.Lock))
+      (next.Go (at.Select (select_from call)))
+  select_locks me old a l = record {
+    transitions = record {
+      seen = nothing;
+      knew = turn_of old a h (walk_of_hold h None) l;
+      did = by_step (step.Lock h (walk_of_hold h None) l.found);
+    } ∷ [];
+    goes = lock_goes me 0 call old a h l (done_simple d) (own_done d ∙ sym about) normal (ap head_of (sym about));
+  }
+
+  pub select_ends_at : (me most n : ℕ) → count_of call ≡ most → (old m new : Known) → HasSelected old m most n
+      → m.at ≡ h → (b : Bool) → is_enough call n ≡ b → new ≡ unlocked_with m m.at b
+      → Runs (call_program me 0 call) old new (next.Go (at.Select (selecting.Next 0)))
+      (next.Ends (selected_answer call n))
+  select_ends_at me most n counts old m new s here b is end =
+      let g = selected_ends me 0 call most n counts old m new s (here ∙ ap head_of (sym about)) b is end in
+      record { transitions = g.0; goes = g.1 }
+
+-- a store leaves no word that differs from its bit
+pub stored_agreed : (old new : Known) (d n r : ℕ) → new ≡ added old (item.Made (set_step (watch.Done d) n r))
+    → new.book.differs ≡ old.book.differs
+stored_agreed old new d n r is = by (nat_lt r n || (n == ALL_DONE)) is
+  where
+    by : (b : Bool) → new ≡ added old (item.Made (if b then step.Publish (watch.Done d) n r
+        else step.Consume (watch.Done d) n r)) → new.book.differs ≡ old.book.differs
+    by true made = ap (λ (k : Known). k.book.differs) made
+    by false made = ap (λ (k : Known). k.book.differs) made
+
+raise_agreed : (old new : Known) (d n : ℕ) → Counted old d n → (raised : Bool) → RaisesOne n raised
+    → MatchBool raised (StoresCount old new d (n + 1)) (new ≡ old) → new.book.differs ≡ old.book.differs
+raise_agreed old new d n c true raises made = stored_agreed old new d (n + 1) made.found made.is
+raise_agreed old new d n c false raises made = ap (λ (k : Known). k.book.differs) made
+
+-- a load before a publish
+load_and_publish : (c : Watch) (a a2 b : Known) → Carries unchanged a a2 → Carries (publish_change c) a2 b
+    → Carries (publish_change c) a b
+load_and_publish c a a2 b one two = record {
+  domain = two.domain ∙ one.domain;
+  number = two.number ∙ one.number;
+  awake = two.awake ∙ one.awake;
+  state = two.state ∙ one.state;
+  head = two.head ∙ one.head;
+  ticket = two.ticket ∙ one.ticket;
+  hold = two.hold ∙ one.hold;
+  at = two.at ∙ one.at;
+  mark = two.mark ∙ one.mark;
+  fewer = λ w σ p is. two.fewer w σ p (one.fewer w σ refl is);
+  stored = λ x none away. two.stored x none away ∙ one.stored x none away;
+  out = λ x away is. two.out x away (one.out x away is);
+  stands = λ slot few away e is own. subst (λ (n : ℕ). (told_of b).bits.stored (index n slot) ≡ Some e) one.number
+      (two.stands slot few refl e
+      (subst (λ (n : ℕ). (told_of a2).bits.stored (index n slot) ≡ Some e) (sym one.number)
+      (one.stands slot few refl e is own)) own);
+  owes = λ x o. two.owes x (one.owes x o);
+  clean = one.clean;
+  settled = two.settled;
+}
+
+-- `complete`
+module _ (old a a2 b m new : Known) (d v n h : ℕ) (same : h ≡ head_of (watch.Done d)) (free : IsFree old)
+    (told : IsTold old) (l : HasLocked old a h (walk_of_hold h None)) (simple : FIRST_SIMPLE_HEAD ≤ h → IsSimpleHold a)
+    (one : Carries (lock_change h) old a) (is : a2 ≡ added a (item.Made (step.Load (watch.Done d) v)))
+    (finds : FindsCount a d v) (loaded : Carries unchanged a a2) where
+  at_a : a.at ≡ head_of (watch.Done d)
+  at_a = ap (λ (k : Known). k.at) l.is ∙ same
+
+  pub complete_counted : Counted a2 d v
+  complete_counted = record {
+    held = loaded.head ∙ (ap (λ (k : Known). k.book.head) l.is ∙ ap Some same);
+    loaded = count_after_step d a a2 (step.Load (watch.Done d) v) (history_after a a2 _ is)
+        ∙ ap (λ (z : Bool). if z then Some v else count_in d (history_of a)) (eq-eqb d d refl);
+    small = finds.0;
+  }
+
+  module _ (raised : Bool) (raises : RaisesOne v raised)
+      (made : MatchBool raised (StoresCount a2 b d (v + 1)) (b ≡ a2)) where
+    abbrev raise : Carries (publish_change (watch.Done d)) a2 b
+    raise = raise_carried a2 b d v complete_counted raised raises made
+
+    pub complete_at : b.at ≡ h
+    complete_at = raise.at ∙ (loaded.at ∙ ap (λ (k : Known). k.at) l.is)
+
+    pub complete_simple : IsSimpleHold b
+    complete_simple = raise_simple a2 b d v complete_counted raised raises made
+        (simple_loaded a a2 (watch.Done d) v is
+        (simple (subst (λ (i : ℕ). FIRST_SIMPLE_HEAD ≤ i) (sym same) (done_simple d))))
+
+    pub complete_holds : IsHolding a → IsHolding b
+    complete_holds g = record {
+      locked = raise.head ∙ (loaded.head ∙ (g.locked ∙ ap Some (sym (raise.at ∙ loaded.at))));
+      agreed = raise_agreed a2 b d v complete_counted raised raises made ∙ (ap (λ (k : Known). k.book.differs) is
+          ∙ g.agreed);
+      told = raise.hold ∙ (loaded.hold ∙ (g.told ∙ ap Some (sym (raise.at ∙ loaded.at))));
+    }
+
+    module _ (s : HasSelected b m 1 n) (select : Carries only_looks b m) (kept : IsSimpleHold b → IsSimpleHold m)
+        (u : HasUnlocked m new (n == 1)) where
+      at_m : m.at ≡ head_of (watch.Done d)
+      at_m = select.at ∙ (complete_at ∙ same)
+
+      locked : HasLocked old a (head_of (watch.Done d)) (walk_of_hold (head_of (watch.Done d)) None)
+      locked = subst (λ (i : ℕ). HasLocked old a i (walk_of_hold i None)) same l
+
+      number_a : a.view.number ≡ old.view.number
+      number_a = one.number
+
+      number_a2 : a2.view.number ≡ old.view.number
+      number_a2 = loaded.number ∙ one.number
+
+      load_event : Runs (call_program old.view.number 0 (calls.Complete d)) a a2 (next.Go (at.Select selecting.Load))
+          (next.Go (at.Select (if is_at_end v then selecting.Next 0 else selecting.Store)))
+      load_event = runs_one (call_program old.view.number 0 (calls.Complete d)) (at.Select selecting.Load) a a a2
+          (with_value v) (by_step (step.Load (watch.Done d) v)) (only_none a) refl (refl, tt, tt)
+          (step_behind a a2 (step.Load (watch.Done d) v) is)
+
+      pub has_completed : HasCompleted old new d
+      has_completed =
+          let f = call_program old.view.number 0 (calls.Complete d) in
+          let middle = next.Go (at.Select (if is_at_end v then selecting.Next 0 else selecting.Store)) in
+          runs_on f old a new (next.Go (at.Select selecting.Lock)) (next.Go (at.Select selecting.Load))
+          (next.Ends zero_answer) (select_locks (calls.Complete d) d refl refl old.view.number old a locked)
+          (runs_on f a a2 new (next.Go (at.Select selecting.Load)) middle (next.Ends zero_answer) load_event
+          (runs_on f a2 b new middle (next.Go (at.Select (selecting.Next 0))) (next.Ends zero_answer)
+          (subst (λ (i : ℕ). Runs (call_program i 0 (calls.Complete d)) a2 b middle
+          (next.Go (at.Select (selecting.Next 0)))) number_a2
+          (raise_runs a2 b d v complete_counted raised raises made))
+          (select_ends_at (calls.Complete d) d refl refl old.view.number 1 n refl b m new s at_m (n == 1) (enough_one n)
+          u.is)))
+
+      pub complete_carried : Carries unlock_change m new
+          → Carries (set_change (watch.Done d) mode.Normal new.at) old new
+      complete_carried back = completed_carried d old a b m new 1 n (n == 1) free told
+          (subst (λ (i : ℕ). Carries (lock_change i) old a) same one)
+          (load_and_publish (watch.Done d) a a2 b loaded raise) select back (kept complete_simple) at_m s
+          (λ all some. ap (λ (i : ℕ). i == 1) all) u.is
+
+pub complete_rises : (m : Known) (n : ℕ) → (0 < n → MayRise m true) → (e : Bool) → (n == 1) ≡ e → MayRise m e
+complete_rises m n rises true is = rises (let one = eqb-true n 1 is in omega (arith, one))
+complete_rises m n rises false is = rise_none m
+
+-- `complete_all`
+module _ (old a b m new : Known) (d n h : ℕ) (same : h ≡ head_of (watch.Done d)) (free : IsFree old)
+    (told : IsTold old) (l : HasLocked old a h (walk_of_hold h None)) (simple : FIRST_SIMPLE_HEAD ≤ h → IsSimpleHold a)
+    (one : Carries (lock_change h) old a) (stored : StoresCount a b d ALL_DONE) where
+  pub all_at : b.at ≡ h
+  all_at = stored.publishes.at ∙ ap (λ (k : Known). k.at) l.is
+
+  pub all_simple : IsSimpleHold b
+  all_simple = simple_stored a b d ALL_DONE stored.found stored.is
+      (simple (subst (λ (i : ℕ). FIRST_SIMPLE_HEAD ≤ i) (sym same) (done_simple d)))
+
+  pub all_holds : IsHolding a → IsHolding b
+  all_holds g = record {
+    locked = stored.publishes.head ∙ (g.locked ∙ ap Some (sym stored.publishes.at));
+    agreed = stored_agreed a b d ALL_DONE stored.found stored.is ∙ g.agreed;
+    told = stored.publishes.hold ∙ (g.told ∙ ap Some (sym stored.publishes.at));
+  }
+
+  module _ (s : HasSelected b m 0 n) (select : Carries only_looks b m) (kept : IsSimpleHold b → IsSimpleHold m)
+      (u : HasUnlocked m new false) where
+    at_all : m.at ≡ head_of (watch.Done d)
+    at_all = select.at ∙ (all_at ∙ same)
+
+    pub has_completed_all : HasCompletedAll old new d
+    has_completed_all =
+        let f = call_program old.view.number 0 (calls.CompleteAll d) in
+        runs_on f old a new (next.Go (at.Select selecting.Lock)) (next.Go (at.Select selecting.Store))
+        (next.Ends zero_answer)
+        (select_locks (calls.CompleteAll d) d refl refl old.view.number old a
+        (subst (λ (i : ℕ). HasLocked old a i (walk_of_hold i None)) same l))
+        (runs_on f a b new (next.Go (at.Select selecting.Store)) (next.Go (at.Select (selecting.Next 0)))
+        (next.Ends zero_answer)
+        (quiet_store f (at.Select selecting.Store) a b (with_value stored.found) d ALL_DONE stored.found _ ALL_DONE _
+        refl refl refl refl refl tt tt tt a (only_none a) stored.is).0
+        (select_ends_at (calls.CompleteAll d) d refl refl old.view.number 0 n refl b m new s at_all false
+        (enough_none n) u.is))
+
+    pub all_carried : Carries unlock_change m new → Carries (set_change (watch.Done d) mode.Normal new.at) old new
+    all_carried back = completed_carried d old a b m new 0 n false free told
+        (subst (λ (i : ℕ). Carries (lock_change i) old a) same one) stored.publishes
+        select back (kept all_simple) at_all
+        s (λ all some. absurd (some refl)) u.is

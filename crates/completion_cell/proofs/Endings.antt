@@ -1,0 +1,156 @@
+-- Whole waits for completions: how they begin, and what they say at their end.
+use Rattle.std.proofs.Common.{◌∙◌, ap, sym, refl, subst}
+use Rattle.std.specs.Prelude.{ℕ, ◌≡◌, ◌<◌, ◌||◌, ◌&&◌, not, Bool, false, None}
+use Rattle.wait_model.specs.declared.layout.TheConstants.{COMPLETIONS}
+use Rattle.wait_model.specs.declared.calls.Call.TheVariants as calls
+use Rattle.wait_model.specs.declared.points.AwaitPoint.TheVariants as awaiting
+use Rattle.wait_model.specs.declared.points.Next.TheVariants as next
+use Rattle.wait_model.specs.declared.points.Point.TheVariants as at
+use Rattle.wait_model.specs.declared.tasks.SleepState.{SleepState}
+use Rattle.wait_model.specs.declared.watches.Watch.TheVariants as watch
+use Rattle.wait_model.specs.Reached.{absent, IsHome}
+use Rattle.wait_model.specs.Tasks.{pending, state_mask, task_of}
+use Rattle.wait_model.specs.Watches.{head_of}
+use Rattle.wait_rule.specs.HeldValues.{count_in}
+use Rattle.wait_rule.specs.Known.{Known}
+use Rattle.wait_rule.specs.Queues.{IsIdle, IsTold, index}
+use Rattle.wait_rule.specs.Says.{IsUp, history_of, told_of}
+use Rattle.wait_rule.specs.Stays.{Carries}
+use Rattle.wait_rule.specs.Transitions.{Goes, Program, call_program}
+use Rattle.wait_rule.proofs.KnownLaws.CarriedTasks.{clean_owes, owes_clean, entry_off}
+use Rattle.wait_event.specs.Ends.{IsOut, wait_change}
+use Rattle.wait_event.specs.Waits.{EndsWith, own_of, queues}
+use Rattle.wait_event.proofs.Events.Endings.{none_of}
+use Rattle.wait_event.proofs.Ground.Keeping.{excused}
+use Rattle.completion_cell.specs.AwaitEnds.{EndsAwait, HasAwaited, end_in}
+use Rattle.completion_cell.specs.Awaits.{
+  Advances,
+  FoundNoPlace,
+  IsAt,
+  IsFresh,
+  WasSignalled,
+  answer_in,
+  await_watch,
+  left_by,
+}
+use Rattle.completion_cell.specs.declared.awaits.AwaitOutcome.{AwaitOutcome}
+use Rattle.completion_cell.specs.declared.awaits.AwaitOutcome.TheVariants as outcome
+use Rattle.completion_cell.specs.declared.awaits.AwaitRun.{AwaitRun}
+use Rattle.completion_cell.specs.declared.awaits.AwaitStage.{AwaitStage}
+use Rattle.completion_cell.specs.declared.awaits.AwaitStage.TheVariants as stage
+use Rattle.completion_cell.specs.declared.awaits.AwaitTurn.TheVariants as turn
+
+-- a task that is idle, with its entry off, may begin
+pub begins_at : (k : Known) (r : AwaitRun) (d : ℕ) (st : SleepState) → IsFresh r d st → d < COMPLETIONS
+    → IsTold k → IsUp k → IsIdle k → IsOut k → IsAt k r stage.First
+begins_at k r d st fresh small told up idle out = record {
+  there = subst (λ (n : ℕ). n < COMPLETIONS) (sym fresh.cell) small;
+  up = up;
+  stands = record {
+    head = idle.free.head;
+    at = λ h is. absurd (cc);
+    told = told.head ∙ idle.free.head;
+    ticket = idle.free.ticket;
+    agreed = λ h is. absurd (cc);
+    state = idle.running;
+    home = subst (IsHome absent (await_watch r)) (sym out) tt;
+  };
+}
+
+module _ (old new : Known) (r q : AwaitRun) (s : AwaitStage) (o : AwaitOutcome)
+    (a : Advances old new r q s (turn.Done o)) where
+  pub ends_up : IsUp new
+  ends_up = a.lands.ended.up
+
+  pub ends_idle : (told_of old).mark ≡ None → IsIdle new
+  ends_idle unmarked = record {
+    running = a.lands.ended.stands.state;
+    free = record { head = a.lands.ended.stands.head; ticket = a.lands.ended.stands.ticket };
+    unmarked = a.went.keeps.mark ∙ unmarked;
+  }
+
+  pub ends_out : IsOut new
+  ends_out = none_of (await_watch q) ((told_of new).bits.stored (index new.view.number 0)) a.lands.ended.stands.home
+
+  -- who began idle goes on as it was
+  pub ends_carried : IsUp old → IsIdle old → (told_of old).hold.head ≡ None
+      → Carries (wait_change (index old.view.number 0) new.at) old new
+  ends_carried up idle held =
+      let i = index old.view.number 0 in
+      let keeps = a.went.keeps in
+      let stands = a.lands.ended.stands in record {
+        domain = keeps.domain;
+        number = keeps.number;
+        awake = a.lands.ended.up ∙ sym up;
+        state = stands.state ∙ sym idle.running;
+        head = stands.head ∙ sym idle.free.head;
+        ticket = stands.ticket ∙ sym idle.free.ticket;
+        hold = stands.told ∙ sym held;
+        at = refl;
+        mark = keeps.mark;
+        fewer = λ w σ none is. keeps.fewer w σ is;
+        stored = λ x none away. absurd (cc);
+        out = keeps.out;
+        stands = keeps.stands;
+        owes = λ x owes. entry_off i x new (ap (λ (n : ℕ). (told_of new).bits.stored (index n 0)) (sym keeps.number)
+            ∙ ends_out) (keeps.owes x (excused i x old owes));
+        clean = clean_owes old;
+        settled = owes_clean new;
+      }
+
+-- what it says at its end
+module _ (old new : Known) (r q : AwaitRun) (d : ℕ) (st : SleepState) (fresh : IsFresh r d st) where
+  begun : (o : AwaitOutcome) (a : Advances old new r q stage.First (turn.Done o))
+      → HasAwaited old new d st (answer_in o) (queues a.went.runs.transitions)
+  begun o a = record {
+    runs = record {
+      transitions = a.went.runs.transitions;
+      goes = subst (λ (f : Program). Goes f old (next.Go (at.Await (awaiting.Lock false))) a.went.runs.transitions new
+          (next.Ends (answer_in o)))
+          (λ i. call_program old.view.number 0 (calls.WaitFor (fresh.cell i) (fresh.state_is i))) a.went.runs.goes;
+    };
+    tells = refl;
+  }
+
+  queued_is : (o : AwaitOutcome) (a : Advances old new r q stage.First (turn.Done o))
+      → q.queued ≡ queues a.went.runs.transitions
+  queued_is o a = a.went.queued ∙ ap (λ (b : Bool). b || queues a.went.runs.transitions) fresh.queued
+
+  cell_is : (o : AwaitOutcome) → Advances old new r q stage.First (turn.Done o) → q.cell ≡ d
+  cell_is o a = a.went.cell ∙ fresh.cell
+
+  state_is : (o : AwaitOutcome) → Advances old new r q stage.First (turn.Done o) → q.state ≡ st
+  state_is o a = a.went.state ∙ fresh.state_is
+
+  pub ends_await : (o : AwaitOutcome) → Advances old new r q stage.First (turn.Done o)
+      → EndsAwait old new d st (end_in q o)
+  ends_await outcome.Over a = record {
+    queued = queues a.went.runs.transitions;
+    awaited = begun outcome.Over a;
+    cause = tt;
+  }
+  ends_await outcome.Signalled a =
+      let t : WasSignalled new q = a.lands.trail in record {
+        queued = queues a.went.runs.transitions;
+        awaited = begun outcome.Signalled a;
+        cause = record {
+          look = t.look;
+          entry = t.entry;
+          showed = ap (λ (x : SleepState). pending (state_mask x) (task_of t.look))
+              (sym (state_is outcome.Signalled a)) ∙ t.pends;
+          ends = subst (λ (c : ℕ). EndsWith new (left_by c (own_of new) t.look t.entry))
+              (cell_is outcome.Signalled a) t.ends;
+          unset = refl;
+          selects = λ i. queued_is outcome.Signalled a i && not (t.found i);
+        };
+      }
+  ends_await outcome.Worn a =
+      let t : FoundNoPlace new q = a.lands.trail in record {
+        queued = queues a.went.runs.transitions;
+        awaited = begun outcome.Worn a;
+        cause = record {
+          head = ap (λ (c : ℕ). head_of (watch.Done c)) (cell_is outcome.Worn a);
+          noted = t.noted;
+          zero = ap (λ (c : ℕ). count_in c (history_of new)) (sym (cell_is outcome.Worn a)) ∙ t.zero;
+        };
+      }

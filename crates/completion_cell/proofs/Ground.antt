@@ -1,0 +1,241 @@
+-- Events of a completion's calls, and what holds of a completion's head carry on.
+use Rattle.std.proofs.Common.{◌∙◌, ap, sym, refl, subst, arith}
+use Rattle.std.specs.Prelude.{
+  ℕ,
+  ◌≡◌,
+  ◌<◌,
+  ◌||◌,
+  ◌==◌,
+  if◌then◌else◌,
+  Bool,
+  true,
+  false,
+  pos,
+  Option,
+  None,
+  List,
+  [],
+  ◌∷◌,
+  ◌++◌,
+}
+use Rattle.wait_model.specs.declared.layout.TheConstants.{COMPLETIONS, HEADS}
+use Rattle.wait_model.specs.declared.calls.Call.{Call}
+use Rattle.wait_model.specs.declared.calls.Event.{Event}
+use Rattle.wait_model.specs.declared.calls.Event.TheVariants as event
+use Rattle.wait_model.specs.declared.calls.Answer.TheVariants as answer
+use Rattle.wait_model.specs.declared.points.CountPoint.TheVariants as counting
+use Rattle.wait_model.specs.declared.points.Next.{Next}
+use Rattle.wait_model.specs.declared.points.Next.TheVariants as next
+use Rattle.wait_model.specs.declared.points.Planned.{Planned}
+use Rattle.wait_model.specs.declared.points.Point.{Point}
+use Rattle.wait_model.specs.declared.points.Point.TheVariants as at
+use Rattle.wait_model.specs.declared.points.Seen.{Seen}
+use Rattle.wait_model.specs.declared.steps.Step.{Step}
+use Rattle.wait_model.specs.declared.steps.Step.TheVariants as step
+use Rattle.wait_model.specs.declared.watches.Watch.{Watch}
+use Rattle.wait_model.specs.declared.watches.Watch.TheVariants as watch
+use Rattle.wait_model.specs.Points.{call_watch, call_head}
+use Rattle.wait_model.specs.Programs.{count_from, count_after, ends_with, go, load, zero_answer}
+use Rattle.wait_model.specs.Runs.{is_publishing, set_step}
+use Rattle.wait_model.specs.Watches.{head_of}
+use Rattle.wait_rule.specs.declared.journal.Item.{Item}
+use Rattle.wait_rule.specs.declared.journal.Item.TheVariants as item
+use Rattle.wait_rule.specs.Known.{Known}
+use Rattle.wait_rule.specs.Says.{added, history_of, unlocked_with}
+use Rattle.wait_rule.specs.HeldValues.{count_in, value_after, value_from}
+use Rattle.wait_rule.specs.Items.{steps_of}
+use Rattle.wait_rule.specs.Queues.{at_head, walk_of_hold}
+use Rattle.wait_rule.specs.Stays.{Carries, only_looks, unchanged}
+use Rattle.wait_rule.specs.Transitions.{
+  AreLooks,
+  OnlyLooks,
+  Program,
+  FindsAt,
+  Finds,
+  IsAbout,
+  IsMadeFor,
+  IsStepFor,
+  StepOrLook,
+  after_step_or_look,
+  by_step,
+  call_program,
+}
+use Rattle.wait_rule.proofs.KnownLaws.HeldCounts.{value_snoc}
+use Rattle.wait_rule.proofs.KnownLaws.Transitions.{only_none}
+use Rattle.wait_rule.proofs.TableSteps.ItemLists.{steps_append}
+use Rattle.wq_head.specs.Holds.{HasLocked}
+use Rattle.wq_head.proofs.LockWaits.{turn_looks, turn_of}
+use Rattle.wait_event.specs.Entries.{hold_change}
+use Rattle.wait_event.specs.Posts.{Runs}
+use Rattle.wait_event.specs.Waits.{is_queue, nothing, queues, with_value}
+use Rattle.wait_event.proofs.Entering.{runs_lock, unlock_looks}
+use Rattle.wait_event.proofs.Events.Turns.{either_event}
+use Rattle.wait_event.proofs.Ground.Going.{runs_one}
+
+-- the head of a completion is there
+pub head_there : (d : ℕ) → d < COMPLETIONS → head_of (watch.Done d) < HEADS
+unfolding head_of
+head_there d small = omega (arith, small)
+
+-- a step is followed by nothing
+pub step_behind : (old new : Known) (e : Step) → new ≡ added old (item.Made e)
+    → OnlyLooks (added old (item.Made e)) new
+step_behind old new e is = subst (OnlyLooks (added old (item.Made e))) (sym is) (only_none (added old (item.Made e)))
+
+-- what a hold has of a count after one more step
+pub count_after_step : (d : ℕ) (old new : Known) (e : Step) → history_of new ≡ history_of old ++ e ∷ []
+    → count_in d (history_of new) ≡ value_after (watch.Done d) e (count_in d (history_of old))
+count_after_step d old new e more = ap (count_in d) more ∙ value_snoc (watch.Done d) None (history_of old) e
+
+-- a run in which nothing is queued
+abbrev pub QuietRuns : Program → Known → Known → Point → Next → Type 0
+QuietRuns f old new p n = (runs : Runs f old new (next.Go p) n) × (queues runs.transitions ≡ false)
+
+-- one event, by what the program plans
+pub quiet_runs : (f : Program) (p : Point) (old knew new : Known) (seen : Seen) (did : StepOrLook) (plan : Planned)
+    → f.plan p seen ≡ plan → OnlyLooks old knew → IsMadeFor knew f.own (f.given p) plan.event did
+    → Finds knew f p did seen → OnlyLooks (after_step_or_look did knew) new → is_queue did ≡ false
+    → QuietRuns f old new p plan.next
+quiet_runs f p old knew new seen did plan plans before made finds behind quiet =
+    subst (λ (x : Planned). QuietRuns f old new p x.next) plans (
+      runs_one f p old knew new seen did before
+          (subst (λ (x : Planned). IsMadeFor knew f.own (f.given p) x.event did) (sym plans) made) finds behind,
+      ap (λ (b : Bool). b || false) quiet,
+    )
+
+-- a store of a count as one of a program's events
+module _ (f : Program) (p : Point) (knew new : Known) (seen : Seen) (d n found c v : ℕ) (plan : Planned)
+    (plans : f.plan p seen ≡ plan) (sets : plan.event ≡ event.Set c v) (about : watch.Done d ≡ (f.given p).watch)
+    (same : n ≡ v) (finds : seen.value ≡ found) (knows : FindsAt knew f.own f.form (f.given p) p seen)
+    (publishing : IsAbout knew f.own p (step.Publish (watch.Done d) n found) seen)
+    (consuming : IsAbout knew f.own p (step.Consume (watch.Done d) n found) seen) where
+  pub quiet_store : (old : Known) → OnlyLooks old knew
+      → new ≡ added knew (item.Made (set_step (watch.Done d) n found)) → QuietRuns f old new p plan.next
+  quiet_store old before is = by (is_publishing (watch.Done d) found n) refl is
+    where
+      by : (b : Bool) → is_publishing (watch.Done d) found n ≡ b
+          → new ≡ added knew (item.Made (if b then step.Publish (watch.Done d) n found
+          else step.Consume (watch.Done d) n found)) → QuietRuns f old new p plan.next
+      by true tells made = quiet_runs f p old knew new seen (by_step (step.Publish (watch.Done d) n found)) plan plans
+          before
+          (subst (λ (e : Event). IsStepFor knew f.own (f.given p) e (step.Publish (watch.Done d) n found)) (sym sets)
+          (about, same, tells)) (finds, knows, publishing)
+          (step_behind knew new (step.Publish (watch.Done d) n found) made) refl
+      by false tells made = quiet_runs f p old knew new seen (by_step (step.Consume (watch.Done d) n found)) plan plans
+          before
+          (subst (λ (e : Event). IsStepFor knew f.own (f.given p) e (step.Consume (watch.Done d) n found)) (sym sets)
+          (about, same, tells)) (finds, knows, consuming)
+          (step_behind knew new (step.Consume (watch.Done d) n found) made) refl
+
+-- the events of the calls that ask a count, of any call for this completion
+module _ (me : ℕ) (call : Call) (d : ℕ) (about : watch.Done d ≡ call_watch call) where
+  abbrev f : Program
+  f = call_program me 0 call
+
+  abbrev h : ℕ
+  h = head_of (watch.Done d)
+
+  here : h ≡ call_head call
+  here = ap head_of about
+
+  abbrev peeked : ℕ → Planned × Planned
+  peeked v = (ends_with (load call (with_value v)) zero_answer, go (load call (with_value v)) (at.Count counting.Lock))
+
+  pub count_peeks : (old new : Known) (v : ℕ) → new ≡ added old (item.Made (step.Load (watch.Done d) v))
+      → Runs f old new (next.Go (at.Count counting.Peek))
+      (if v == 0 then ends_with (load call (with_value v)) zero_answer
+      else go (load call (with_value v)) (at.Count counting.Lock)).next
+  count_peeks old new v is = runs_one f (at.Count counting.Peek) old old new (with_value v)
+      (by_step (step.Load (watch.Done d) v)) (only_none old)
+      (either_event (λ (e : Event). IsStepFor old f.own (f.given (at.Count counting.Peek)) e
+      (step.Load (watch.Done d) v)) (v == 0) (peeked v).0 (peeked v).1 about about) (refl, tt, tt)
+      (step_behind old new (step.Load (watch.Done d) v) is)
+
+  pub count_locks : (old a : Known) → HasLocked old a h (walk_of_hold h None)
+      → Runs f old a (next.Go (at.Count counting.Lock)) (next.Go (at.Count (count_from call)))
+  count_locks old a l =
+      let turn = turn_of old a h (walk_of_hold h None) l in
+      let locked = at_head h (added turn (item.Made (step.Lock h (walk_of_hold h None) l.found))) in
+      runs_lock f (next.Go (at.Count counting.Lock)) (next.Go (at.Count (count_from call))) old a h l
+      (runs_one f (at.Count counting.Lock) old turn locked nothing
+      (by_step (step.Lock h (walk_of_hold h None) l.found)) (turn_looks old a h (walk_of_hold h None) l)
+      (here, ap (λ (i : ℕ). walk_of_hold i None) here) (tt, tt, tt) (only_none locked))
+
+  pub count_loads : (old new : Known) (v : ℕ) → new ≡ added old (item.Made (step.Load (watch.Done d) v))
+      → Runs f old new (next.Go (at.Count counting.Load)) (next.Go (at.Count (count_after v)))
+  count_loads old new v is = runs_one f (at.Count counting.Load) old old new (with_value v)
+      (by_step (step.Load (watch.Done d) v)) (only_none old) about (refl, tt, tt)
+      (step_behind old new (step.Load (watch.Done d) v) is)
+
+  pub count_unlocks : (hit : Bool) (old new : Known) → old.at ≡ h → new ≡ unlocked_with old old.at false
+      → Runs f old new (next.Go (at.Count (counting.Unlock hit)))
+      (next.Ends (answer.Number (if hit then pos 1 else pos 0)))
+  count_unlocks hit old new there is = runs_one f (at.Count (counting.Unlock hit)) old old new nothing
+      (by_step (step.Unlock old.at false)) (only_none old) (there ∙ here, refl) (tt, tt, tt)
+      (unlock_looks old new is)
+
+-- what changes nothing looks, and takes no lock
+pub as_looks : (old new : Known) → Carries unchanged old new → Carries only_looks old new
+as_looks old new k = record {
+  domain = k.domain;
+  number = k.number;
+  awake = k.awake;
+  state = k.state;
+  head = k.head;
+  ticket = k.ticket;
+  hold = k.hold;
+  at = k.at;
+  mark = k.mark;
+  fewer = k.fewer;
+  stored = λ x none _. absurd (cc);
+  out = k.out;
+  stands = k.stands;
+  owes = k.owes;
+  clean = k.clean;
+  settled = k.settled;
+}
+
+pub as_hold : (old new : Known) → Carries unchanged old new → Carries (hold_change new.at) old new
+as_hold old new k = record {
+  domain = k.domain;
+  number = k.number;
+  awake = k.awake;
+  state = k.state;
+  head = k.head;
+  ticket = k.ticket;
+  hold = k.hold;
+  at = refl;
+  mark = k.mark;
+  fewer = k.fewer;
+  stored = λ x none _. absurd (cc);
+  out = k.out;
+  stands = k.stands;
+  owes = k.owes;
+  clean = k.clean;
+  settled = k.settled;
+}
+
+-- looks say nothing of a count
+value_append : (c : Watch) (o : Option ℕ) (es fs : List Step)
+    → value_from c o (es ++ fs) ≡ value_from c (value_from c o es) fs
+value_append c o [] fs = refl
+value_append c o (e ∷ es) fs = value_append c (value_after c e o) es fs
+
+looks_value : (c : Watch) (o : Option ℕ) (xs : List Item) → AreLooks xs → value_from c o (steps_of xs) ≡ o
+looks_value c o [] l = refl
+looks_value c o (item.Made (step.Saw x w) ∷ xs) l = looks_value c o xs l.1
+looks_value c o (item.Made e ∷ xs) l = absurd l.0
+looks_value c o (item.Awake w ∷ xs) l = looks_value c o xs l.1
+looks_value c o (item.Bookmark t w ∷ xs) l = looks_value c o xs l.1
+looks_value c o (item.Member ∷ xs) l = looks_value c o xs l.1
+looks_value c o (item.Word w ∷ xs) l = looks_value c o xs l.1
+looks_value c o (item.Drawn h w ∷ xs) l = looks_value c o xs l.1
+looks_value c o (item.Serving h w ∷ xs) l = looks_value c o xs l.1
+looks_value c o (item.Served ∷ xs) l = looks_value c o xs l.1
+
+pub looked_count : (d : ℕ) (old new : Known) → OnlyLooks old new
+    → count_in d (history_of new) ≡ count_in d (history_of old)
+looked_count d old new l = ap (λ (k : Known). count_in d (history_of k)) l.is
+    ∙ (ap (count_in d) (steps_append old.view.items l.items)
+    ∙ (value_append (watch.Done d) None (history_of old) (steps_of l.items)
+    ∙ looks_value (watch.Done d) (count_in d (history_of old)) l.items l.looks))

@@ -1,0 +1,16 @@
+pub mod Ground
+pub mod Asking
+pub mod Parts
+pub mod Loads
+pub mod Looks
+pub mod Completing
+pub mod Ends
+pub mod Offs
+pub mod Queues
+pub mod Leaves
+pub mod Holds
+pub mod Turns
+pub mod Sleeps
+pub mod Rising
+pub mod Stretches
+pub mod Endings

@@ -1,0 +1,47 @@
+use Rattle.std.proofs.Common.{◌∙◌, ap, sym}
+use Rattle.wait_model.specs.Watches.{head_of}
+use Rattle.completion_cell.proofs.Queues.{
+  join_advances,
+  mid_at,
+  mid_holds,
+  mid_out,
+  stay_enters,
+  suits,
+  worn_advances,
+}
+use Rattle.completion_cell.proofs.awaits.enter.Goals as goal
+
+pub returns-then-is_some : goal.returns-then-is_some
+returns-then-is_some c = stay_enters c.args.task.now c.own_entry-entry.new.task c.args.run.now
+    c.own_entry-entry.result c.own_entry-entry.ensures c.requires.at (sym c.is_some.ensures ∙ c.if-is_some.true)
+    c.set_state.new.task c.mask.result c.mask.ensures c.set_state.ensures.step c.set_state.ensures.carries
+
+pub add_tail-requires-clause-held : goal.add_tail-requires-clause-held
+add_tail-requires-clause-held c = mid_holds c.args.task.now c.own_entry-entry.new.task c.args.run.now
+    c.own_entry-entry.result c.own_entry-entry.ensures c.requires.at
+
+pub add_tail-requires-clause-head : goal.add_tail-requires-clause-head
+add_tail-requires-clause-head c = ap head_of c.watch.ensures ∙ mid_at c.args.task.now c.own_entry-entry.new.task
+    c.args.run.now c.own_entry-entry.result c.own_entry-entry.ensures c.requires.at
+
+pub add_tail-requires-clause-suits : goal.add_tail-requires-clause-suits
+add_tail-requires-clause-suits c = suits c.args.task.now c.own_entry-entry.new.task c.args.run.now
+    c.own_entry-entry.result c.own_entry-entry.ensures c.requires.at c.watch.result c.watch.ensures
+
+pub add_tail-requires-clause-out : goal.add_tail-requires-clause-out
+add_tail-requires-clause-out c = mid_out c.args.task.now c.own_entry-entry.new.task c.args.run.now
+    c.own_entry-entry.result c.own_entry-entry.ensures c.requires.at (sym c.is_some.ensures ∙ c.if-is_some.false)
+
+pub returns-in-Ok : goal.returns-in-Ok
+returns-in-Ok c = join_advances c.args.task.now c.own_entry-entry.new.task c.args.run.now
+    c.own_entry-entry.result c.own_entry-entry.ensures c.requires.at (sym c.is_some.ensures ∙ c.if-is_some.false)
+    c.add_tail.new.task c.watch.result c.watch.ensures c.in-Ok.ensures.queued c.in-Ok.ensures.held
+    c.set_state-in-Ok.new.task c.mask-in-Ok.result c.mask-in-Ok.ensures c.set_state-in-Ok.ensures.step
+    c.set_state-in-Ok.ensures.carries
+
+pub returns-in-Err : goal.returns-in-Err
+returns-in-Err c = worn_advances c.args.task.now c.own_entry-entry.new.task c.args.run.now
+    c.own_entry-entry.result c.own_entry-entry.ensures c.requires.at (sym c.is_some.ensures ∙ c.if-is_some.false)
+    c.add_tail.new.task c.own_entry.new.task c.give_back.new.task c.in-Err.worn c.in-Err.ensures.worn
+    c.in-Err.ensures.held c.own_entry.result c.own_entry.ensures c.give_back.ensures c.in-Err.ensures.noted
+    c.requires.zero

@@ -1,0 +1,10 @@
+use Rattle.wait_event.proofs.Events.Trails.{unlocked_history}
+use Rattle.completion_cell.proofs.Ends.{stopped_ends}
+use Rattle.completion_cell.proofs.awaits.give_up.Goals as goal
+
+pub returns-clause-ends : goal.returns-clause-ends
+returns-clause-ends c = stopped_ends c.args.task.now c.args.run 0 c.give_back.new.task c.give_back.ensures c.args.off
+    c.requires.may
+
+pub returns-clause-history : goal.returns-clause-history
+returns-clause-history c = unlocked_history c.args.task.now c.give_back.new.task c.give_back.ensures

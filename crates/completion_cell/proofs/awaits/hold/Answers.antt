@@ -1,0 +1,29 @@
+use Rattle.std.proofs.Common.{subst}
+use Rattle.completion_cell.specs.Awaits.{Counts}
+use Rattle.completion_cell.proofs.Holds.{hold_some, hold_zero, some_stands, zero_loaded, zero_stands}
+use Rattle.completion_cell.proofs.awaits.hold.Goals as goal
+
+pub wait_on-requires-clause-at : goal.wait_on-requires-clause-at
+wait_on-requires-clause-at c = zero_stands c.args.task.now c.load_count-count.new.task c.args.run.now
+    c.args.waited c.load_count-count.result c.if-count-eq0.true c.load_count-count.ensures.part
+
+pub wait_on-requires-clause-zero : goal.wait_on-requires-clause-zero
+wait_on-requires-clause-zero c = subst (Counts c.load_count-count.new.task c.args.run.now) c.if-count-eq0.true
+    c.load_count-count.ensures.counts
+
+pub wait_on-requires-clause-loaded : goal.wait_on-requires-clause-loaded
+wait_on-requires-clause-loaded c = zero_loaded c.args.task.now c.load_count-count.new.task c.args.run.now
+    c.load_count-count.result c.if-count-eq0.true c.load_count-count.ensures.history
+
+pub returns-then-count-eq0 : goal.returns-then-count-eq0
+returns-then-count-eq0 c = hold_zero c.args.task.now c.load_count-count.new.task c.wait_on.new.task
+    c.args.run.now c.wait_on.new.run c.args.waited c.load_count-count.result c.if-count-eq0.true
+    c.wait_on.result c.load_count-count.ensures.part c.wait_on.ensures
+
+pub take_on-requires-clause-at : goal.take_on-requires-clause-at
+take_on-requires-clause-at c = some_stands c.args.task.now c.load_count-count.new.task c.args.run.now
+    c.args.waited c.load_count-count.result c.if-count-eq0.false c.load_count-count.ensures.part
+
+pub returns : goal.returns
+returns c = hold_some c.args.task.now c.load_count-count.new.task c.take_on.new.task c.args.run.now
+    c.args.waited c.load_count-count.result c.if-count-eq0.false c.load_count-count.ensures.part c.take_on.ensures

@@ -1,0 +1,7 @@
+use Rattle.completion_cell.proofs.Leaves.{left}
+use Rattle.completion_cell.proofs.awaits.leave.Goals as goal
+
+pub returns : goal.returns
+returns c = left c.args.task.now c.run_state.new.task c.pare-found.new.task c.give_up.new.task c.args.run.now
+    c.pare-found.result c.requires.saw c.run_state.ensures.part c.run_state.ensures.history c.pare-found.ensures
+    c.give_up.ensures.ends c.give_up.ensures.history

@@ -1,0 +1,32 @@
+use Rattle.std.specs.Prelude.{true, false}
+use Rattle.completion_cell.specs.declared.awaits.AwaitOutcome.TheVariants as outcome
+use Rattle.completion_cell.specs.declared.awaits.AwaitTurn.TheVariants as turn
+use Rattle.completion_cell.proofs.Holds.{look_hits, look_misses, reaches_on}
+use Rattle.completion_cell.proofs.awaits.wait_on.Goals as goal
+
+pub leave-requires-clause-at : goal.leave-requires-clause-at
+leave-requires-clause-at c = (look_hits c.args.task.now c.look_first.new.task c.args.run.now
+    c.look_first.result c.if-look_first.true c.look_first.ensures).part.lands
+
+pub leave-requires-clause-zero : goal.leave-requires-clause-zero
+leave-requires-clause-zero c = c.look_first.ensures.counts
+
+pub leave-requires-clause-saw : goal.leave-requires-clause-saw
+leave-requires-clause-saw c = c.look_first.ensures.saw c.if-look_first.true
+
+pub returns-then-look_first : goal.returns-then-look_first
+returns-then-look_first c = reaches_on c.args.task.now c.look_first.new.task c.leave.new.task c.args.run.now
+    c.leave.new.run true (turn.Done outcome.Signalled) (look_hits c.args.task.now c.look_first.new.task
+    c.args.run.now c.look_first.result c.if-look_first.true c.look_first.ensures) c.leave.ensures
+
+pub prepare-requires-clause-at : goal.prepare-requires-clause-at
+prepare-requires-clause-at c = (look_misses c.args.task.now c.look_first.new.task c.args.run.now
+    c.look_first.result c.if-look_first.false c.look_first.ensures).part.lands
+
+pub prepare-requires-clause-zero : goal.prepare-requires-clause-zero
+prepare-requires-clause-zero c = c.look_first.ensures.counts
+
+pub returns : goal.returns
+returns c = reaches_on c.args.task.now c.look_first.new.task c.prepare.new.task c.args.run.now
+    c.prepare.new.run false c.prepare.result (look_misses c.args.task.now c.look_first.new.task
+    c.args.run.now c.look_first.result c.if-look_first.false c.look_first.ensures) c.prepare.ensures

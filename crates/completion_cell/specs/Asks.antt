@@ -1,0 +1,83 @@
+-- To be believed.
+-- What the calls say that ask a completion's count, take one of it, and clear it.
+use Rattle.std.specs.Prelude.{
+  ℕ,
+  ◌≡◌,
+  ◌≤◌,
+  ◌||◌,
+  ◌==◌,
+  not,
+  Bool,
+  true,
+  false,
+  pos,
+  if◌then◌else◌,
+  Some,
+  List,
+  ◌∷◌,
+  ◌++◌,
+}
+use Rattle.wait_model.specs.declared.layout.TheConstants.{ALL_DONE}
+use Rattle.wait_model.specs.declared.calls.Call.{Call}
+use Rattle.wait_model.specs.declared.calls.Call.TheVariants as calls
+use Rattle.wait_model.specs.declared.calls.Answer.{Answer}
+use Rattle.wait_model.specs.declared.calls.Answer.TheVariants as answer
+use Rattle.wait_model.specs.declared.points.CountPoint.TheVariants as counting
+use Rattle.wait_model.specs.declared.points.Next.TheVariants as next
+use Rattle.wait_model.specs.declared.points.Point.{Point}
+use Rattle.wait_model.specs.declared.points.Point.TheVariants as at
+use Rattle.wait_model.specs.declared.steps.Step.{Step}
+use Rattle.wait_model.specs.declared.steps.Step.TheVariants as step
+use Rattle.wait_model.specs.declared.watches.Watch.TheVariants as watch
+use Rattle.wait_model.specs.Programs.{zero_answer}
+use Rattle.wait_rule.specs.Known.{Known}
+use Rattle.wait_rule.specs.Counts.{HoldsCount}
+use Rattle.wait_rule.specs.HeldValues.{count_in}
+use Rattle.wait_rule.specs.Says.{history_of}
+use Rattle.wait_rule.specs.Transitions.{call_program}
+use Rattle.wait_event.specs.Posts.{Runs}
+
+-- the task went through the whole program of a call, to this answer
+abbrev pub HasCalled : Known → Known → Call → Point → Answer → Type 0
+HasCalled old new call p a = Runs (call_program old.view.number 0 call) old new (next.Go p) (next.Ends a)
+
+abbrev pub yes_or_no : Bool → Answer
+yes_or_no hit = answer.Number (if hit then pos 1 else pos 0)
+
+-- its history has this first step more, and maybe others
+abbrev pub BeginsWith : Known → Known → Step → Type 0
+BeginsWith old new e = (rest : List Step) × (history_of new ≡ history_of old ++ e ∷ rest)
+
+-- The first load decides: the count was not 0 exactly where the answer is yes.
+pub record HasAsked (old new : Known) (d : ℕ) (hit : Bool) : Type 0 where
+  pub runs : HasCalled old new (calls.IsDone d) (at.Count counting.Peek) (yes_or_no hit)
+  pub count : ℕ
+  pub loads : BeginsWith old new (step.Load (watch.Done d) count)
+  pub tells : hit ≡ not (count == 0)
+
+abbrev pub HasReset : Known → Known → ℕ → Type 0
+HasReset old new d = HasCalled old new (calls.Reinit d) (at.Count counting.Lock) zero_answer
+
+-- The load that decides: the first one, where it found 0, and else the one of the hold.
+abbrev pub Decides : Bool → Known → ℕ → ℕ → Type 0
+Decides true new d count = count ≡ 0
+Decides false new d count = (before : List Step) × (rest : List Step)
+    × (history_of new ≡ before ++ step.Load (watch.Done d) count ∷ rest)
+
+pub record HasTried (old new : Known) (d : ℕ) (hit : Bool) : Type 0 where
+  pub runs : HasCalled old new (calls.TryWait d) (at.Count counting.Peek) (yes_or_no hit)
+  pub first : ℕ
+  pub loads : BeginsWith old new (step.Load (watch.Done d) first)
+  pub count : ℕ
+  pub decides : Decides (first == 0) new d count
+  pub tells : hit ≡ not (count == 0)
+
+-- the hold has loaded this count
+pub record Counted (k : Known) (d n : ℕ) : Type 0 where
+  pub held : HoldsCount k d
+  pub loaded : count_in d (history_of k) ≡ Some n
+  pub small : n ≤ ALL_DONE
+
+-- one is taken of a count that is neither 0 nor at its end
+abbrev pub TakesOne : ℕ → Bool → Type 0
+TakesOne n took = took ≡ not ((n == 0) || (n == ALL_DONE))

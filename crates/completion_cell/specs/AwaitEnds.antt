@@ -1,0 +1,73 @@
+-- To be believed.
+-- What whole waits for completions say.
+use Rattle.std.specs.Prelude.{ℕ, ◌≡◌, ◌&&◌, not, Bool, true, false, is_some, Some, Result, Ok, Err}
+use Rattle.wait_model.specs.declared.calls.Answer.{Answer}
+use Rattle.wait_model.specs.declared.calls.Answer.TheVariants as answer
+use Rattle.wait_model.specs.declared.calls.Call.TheVariants as calls
+use Rattle.wait_model.specs.declared.points.AwaitPoint.TheVariants as awaiting
+use Rattle.wait_model.specs.declared.points.Next.TheVariants as next
+use Rattle.wait_model.specs.declared.points.Point.TheVariants as at
+use Rattle.wait_model.specs.declared.tasks.SleepState.{SleepState}
+use Rattle.wait_model.specs.declared.watches.Watch.TheVariants as watch
+use Rattle.wait_model.specs.Programs.{zero_answer, signalled}
+use Rattle.wait_model.specs.Tasks.{pending, state_mask, task_of}
+use Rattle.wait_model.specs.Watches.{head_of}
+use Rattle.wait_model.specs.Words.{entry_of}
+use Rattle.wait_rule.specs.Ends.{WasWorn}
+use Rattle.wait_rule.specs.HeldValues.{count_in}
+use Rattle.wait_rule.specs.Known.{Known}
+use Rattle.wait_rule.specs.Says.{history_of}
+use Rattle.wait_rule.specs.Transitions.{call_program}
+use Rattle.wait_event.specs.declared.wait_events.WaitEnd.{WaitEnd}
+use Rattle.wait_event.specs.declared.wait_events.WaitEnd.TheVariants as wait_end
+use Rattle.wait_event.specs.Posts.{Runs}
+use Rattle.wait_event.specs.Waits.{EndsWith, own_of, queues}
+use Rattle.completion_cell.specs.Awaits.{await_head, left_by}
+use Rattle.completion_cell.specs.declared.awaits.AwaitOutcome.{AwaitOutcome}
+use Rattle.completion_cell.specs.declared.awaits.AwaitOutcome.TheVariants as outcome
+use Rattle.completion_cell.specs.declared.awaits.AwaitRun.{AwaitRun}
+
+-- the task went through the whole call, and whether it queued its entry
+pub record HasAwaited (old new : Known) (d : ℕ) (st : SleepState) (a : Answer) (queued : Bool) : Type 0 where
+  pub runs : Runs (call_program old.view.number 0 (calls.WaitFor d st)) old new
+      (next.Go (at.Await (awaiting.Lock false))) (next.Ends a)
+  pub tells : queued ≡ queues runs.transitions
+
+-- A wait that was signalled: its last hold loaded the count as 0, which is `seen`, and the look at the own word showed
+-- a signal that the state admits. `selected` is that the hold found the entry off that the call had queued.
+pub record IsSignalled (k : Known) (d : ℕ) (st : SleepState) (seen : ℕ) (selected queued : Bool) : Type 0 where
+  pub look : ℕ
+  pub entry : ℕ
+  pub showed : pending (state_mask st) (task_of look) ≡ true
+  pub ends : EndsWith k (left_by d (own_of k) look entry)
+  pub unset : seen ≡ 0
+  pub selects : selected ≡ (queued && not (is_some (entry_of entry)))
+
+-- A wait that found no place: its last hold noted it, and had loaded the count as 0.
+pub record IsWorn (k : Known) (d h place : ℕ) : Type 0 where
+  pub head : h ≡ head_of (watch.Done d)
+  pub noted : WasWorn k.view.number k.view.items h place
+  pub zero : count_in d (history_of k) ≡ Some 0
+
+-- the answer of a wait that has ended
+abbrev pub end_in : AwaitRun → AwaitOutcome → Result (Unit {0}) WaitEnd
+end_in r outcome.Over = Ok tt
+end_in r outcome.Signalled = Err (wait_end.Signal 0 (r.queued && not r.found))
+end_in r outcome.Worn = Err (wait_end.Worn (await_head r) r.place)
+
+-- the answer of the call, and its cause
+abbrev pub answer_of : Result (Unit {0}) WaitEnd → Answer
+answer_of (Ok u) = zero_answer
+answer_of (Err (wait_end.Signal seen selected)) = signalled
+answer_of (Err (wait_end.Worn h place)) = answer.Worn
+
+abbrev pub IsCause : Known → ℕ → SleepState → Bool → Result (Unit {0}) WaitEnd → Type 0
+IsCause k d st queued (Ok u) = Unit {0}
+IsCause k d st queued (Err (wait_end.Signal seen selected)) = IsSignalled k d st seen selected queued
+IsCause k d st queued (Err (wait_end.Worn h place)) = IsWorn k d h place
+
+-- The task went through the whole call, and the answer is that of its program, with its cause.
+pub record EndsAwait (old new : Known) (d : ℕ) (st : SleepState) (result : Result (Unit {0}) WaitEnd) : Type 0 where
+  pub queued : Bool
+  pub awaited : HasAwaited old new d st (answer_of result) queued
+  pub cause : IsCause new d st queued result

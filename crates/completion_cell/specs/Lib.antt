@@ -1,0 +1,5 @@
+pub mod Asks
+pub mod Awaits
+pub mod Completes
+pub mod AwaitEnds
+pub mod Tested

@@ -1,0 +1,98 @@
+//! The calls that wait for nobody but a lock, and wake nobody: a count is asked, taken where it is there, and cleared.
+
+ghost use Rattle.std.specs.Prelude.{◌≡◌, ◌<◌, ◌-◌, not, ◌==◌, MatchBool};
+ghost use Rattle.wait_model.specs.declared.layout.TheConstants.{COMPLETIONS, ALL_DONE};
+ghost use Rattle.wait_rule.specs.Counts.{FindsCount, StoresCount, MayStoreCount};
+ghost use Rattle.wait_rule.specs.HeldValues.{count_in};
+ghost use Rattle.wait_rule.specs.Says.{IsFree, IsUp, history_of};
+ghost use Rattle.wait_rule.specs.Stays.{Carries};
+ghost use Rattle.wait_event.specs.Entries.{hold_change};
+ghost use Rattle.completion_cell.specs.Asks.{HasAsked, HasTried, HasReset, Counted, TakesOne};
+
+use std::sync::Wait;
+use wait_model::heads::head_of;
+use wait_model::layout::ALL_DONE;
+use wait_model::watches::Watch;
+use wait_rule::counts::{done_load, done_store};
+use wait_rule::{Domain, Task};
+use wq_head::{lock, unlock};
+
+/// Whether completion `cell`, below `COMPLETIONS`, is done (`completion_done`): false exactly where its count is loaded
+/// as 0, without the lock. Else a hold of its head waits out a `complete` that is under way. The task holds no lock;
+/// its state, its entries and its bookmark stay, and what it owes.
+pub fn is_done<R: Wait>(rt: &R, domain: &Domain, task: &mut Task, cell: u8) -> bool
+    requires of { task.old.domain ≡ domain.now }
+    requires up { IsUp task.old }
+    requires free { IsFree task.old }
+    requires cell { cell < COMPLETIONS }
+    ensures asked { HasAsked task.old task.new cell result }
+    ensures up { IsUp task.new }
+    ensures free { IsFree task.new }
+    ensures carries { Carries (hold_change task.new.at) task.old task.new }
+{
+    task.told();
+    if done_load(domain, task, cell) == 0 {
+        return false;
+    }
+    lock(rt, domain, task, head_of(Watch::Done { cell }));
+    unlock(rt, domain, task, false);
+    true
+}
+
+/// Clears the count of completion `cell`, below `COMPLETIONS` (`reinit_completion`), in a hold of its head. The rest is
+/// as in `is_done`.
+pub fn reinit<R: Wait>(rt: &R, domain: &Domain, task: &mut Task, cell: u8)
+    requires of { task.old.domain ≡ domain.now }
+    requires up { IsUp task.old }
+    requires free { IsFree task.old }
+    requires cell { cell < COMPLETIONS }
+    ensures reset { HasReset task.old task.new cell }
+    ensures up { IsUp task.new }
+    ensures free { IsFree task.new }
+    ensures carries { Carries (hold_change task.new.at) task.old task.new }
+{
+    task.told();
+    lock(rt, domain, task, head_of(Watch::Done { cell }));
+    done_store(domain, task, cell, 0);
+    unlock(rt, domain, task, false);
+}
+
+/// Takes one of the count that the hold has loaded, unless there is none; a count at its end stays.
+pub(crate) fn take_one(domain: &Domain, task: &mut Task, cell: u8, count: u32) -> bool
+    requires of { task.old.domain ≡ domain.now }
+    requires up { IsUp task.old }
+    requires cell { cell < COMPLETIONS }
+    requires counted { Counted task.old cell count }
+    ensures stores { MatchBool result (StoresCount task.old task.new cell (count - 1)) (task.new ≡ task.old) }
+    ensures took { TakesOne count result }
+{
+    if count == 0 || u64::from(count) == ALL_DONE {
+        return false;
+    }
+    done_store(domain, task, cell, count - 1);
+    true
+}
+
+/// Takes one of completion `cell`, below `COMPLETIONS`, where one is there (`try_wait_for_completion`): false exactly
+/// where the deciding load found its count 0, the one without the lock or the one in the hold. A count at its end,
+/// 4294967295, stays. The rest is as in `is_done`.
+pub fn try_wait<R: Wait>(rt: &R, domain: &Domain, task: &mut Task, cell: u8) -> bool
+    requires of { task.old.domain ≡ domain.now }
+    requires up { IsUp task.old }
+    requires free { IsFree task.old }
+    requires cell { cell < COMPLETIONS }
+    ensures tried { HasTried task.old task.new cell result }
+    ensures up { IsUp task.new }
+    ensures free { IsFree task.new }
+    ensures carries { Carries (hold_change task.new.at) task.old task.new }
+{
+    task.told();
+    if done_load(domain, task, cell) == 0 {
+        return false;
+    }
+    lock(rt, domain, task, head_of(Watch::Done { cell }));
+    let count = done_load(domain, task, cell);
+    take_one(domain, task, cell, count);
+    unlock(rt, domain, task, false);
+    count != 0
+}

@@ -1,0 +1,83 @@
+//! The calls that make a completion done: by one, and for good.
+
+ghost use Rattle.std.specs.Prelude.{◌≡◌, ◌<◌, ◌+◌, MatchBool};
+ghost use Rattle.wait_model.specs.declared.layout.TheConstants.{COMPLETIONS};
+ghost use Rattle.wait_model.specs.declared.watches.Mode.TheVariants as mode;
+ghost use Rattle.wait_model.specs.declared.watches.Watch.TheVariants as watch;
+ghost use Rattle.wait_rule.specs.Counts.{StoresCount};
+ghost use Rattle.wait_rule.specs.Says.{IsFree, IsUp};
+ghost use Rattle.wait_rule.specs.Stays.{Carries};
+ghost use Rattle.wait_event.specs.Conds.{set_change};
+ghost use Rattle.completion_cell.specs.Asks.{Counted};
+ghost use Rattle.completion_cell.specs.Completes.{HasCompleted, HasCompletedAll, RaisesOne};
+
+use std::sync::Wait;
+use wait_model::heads::head_of;
+use wait_model::layout::ALL_DONE;
+use wait_model::watches::Watch;
+use wait_rule::counts::{done_load, done_store};
+use wait_rule::{Domain, Task};
+use wq_head::{Rousing, lock, select, unlock};
+
+/// Raises the count that the hold has loaded by one; a count at its end stays.
+fn raise_one(domain: &Domain, task: &mut Task, cell: u8, count: u32) -> bool
+    requires of { task.old.domain ≡ domain.now }
+    requires up { IsUp task.old }
+    requires cell { cell < COMPLETIONS }
+    requires counted { Counted task.old cell count }
+    ensures stores { MatchBool result (StoresCount task.old task.new cell (count + 1)) (task.new ≡ task.old) }
+    ensures raises { RaisesOne count result }
+{
+    if u64::from(count) == ALL_DONE {
+        return false;
+    }
+    done_store(domain, task, cell, count + 1);
+    true
+}
+
+/// Completes completion `cell`, below `COMPLETIONS`, for one waiter (`complete`): in one hold of its head the count is
+/// raised by one, unless it is at its end, 4294967295, and the first waiter is woken and taken off its queue. The task
+/// holds no lock; its state, its entries and its bookmark stay, and what it owes.
+pub fn complete<R: Wait>(rt: &R, domain: &Domain, task: &mut Task, cell: u8)
+    requires of { task.old.domain ≡ domain.now }
+    requires up { IsUp task.old }
+    requires free { IsFree task.old }
+    requires cell { cell < COMPLETIONS }
+    ensures completed { HasCompleted task.old task.new cell }
+    ensures up { IsUp task.new }
+    ensures free { IsFree task.new }
+    ensures carries { Carries (set_change (watch.Done cell) mode.Normal task.new.at) task.old task.new }
+{
+    task.told();
+    let head = head_of(Watch::Done { cell });
+    lock(rt, domain, task, head);
+    let count = done_load(domain, task, cell);
+    raise_one(domain, task, cell, count);
+    let mut rousing = Rousing::new();
+    let selected = select(rt, domain, task, head, 1, &mut rousing);
+    unlock(rt, domain, task, selected == 1);
+    rousing.rouse_all(domain);
+}
+
+/// Completes completion `cell`, below `COMPLETIONS`, for all waiters, those to come as well (`complete_all`): in one
+/// hold of its head the count becomes its end, 4294967295, and all waiters are woken and taken off their queue. The
+/// rest is as in `complete`.
+pub fn complete_all<R: Wait>(rt: &R, domain: &Domain, task: &mut Task, cell: u8)
+    requires of { task.old.domain ≡ domain.now }
+    requires up { IsUp task.old }
+    requires free { IsFree task.old }
+    requires cell { cell < COMPLETIONS }
+    ensures completed { HasCompletedAll task.old task.new cell }
+    ensures up { IsUp task.new }
+    ensures free { IsFree task.new }
+    ensures carries { Carries (set_change (watch.Done cell) mode.Normal task.new.at) task.old task.new }
+{
+    task.told();
+    let head = head_of(Watch::Done { cell });
+    lock(rt, domain, task, head);
+    done_store(domain, task, cell, ALL_DONE as u32);
+    let mut rousing = Rousing::new();
+    select(rt, domain, task, head, 0, &mut rousing);
+    unlock(rt, domain, task, false);
+    rousing.rouse_all(domain);
+}

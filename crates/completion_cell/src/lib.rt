@@ -1,0 +1,9 @@
+//! Completions on real threads (kernel/sched/completion.c): counts that tasks raise, and that others wait for and take.
+#![tactic(auto)]
+
+pub mod asks;
+pub mod await_calls;
+pub mod awaits;
+pub mod completes;
+#[cfg(test)]
+mod tests;

@@ -1,3 +1,4 @@
+-- To be believed.
 -- A task that waits for condition 0 with its entry of slot 0.
 use Rattle.std.specs.Prelude.{◌≡◌, Some, None}
 use Rattle.wait_model.specs.declared.watches.Kind.{Kind}

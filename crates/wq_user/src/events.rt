@@ -1,15 +1,19 @@
 //! A task that waits for condition 0 by one call, and one that sets it: each owes nothing after it, and is taken in.
 
 ghost use Rattle.std.specs.Prelude.{◌≡◌};
+ghost use Rattle.wait_event.specs.Entries.{HasWokenEntry, MayRemove};
 ghost use Rattle.wait_rule.specs.Says.{IsClean};
+ghost use Rattle.wait_rule.specs.Stays.{Carries, unchanged};
 
 use std::sync::Wait;
 use wait_event::conds::{set_and_wake, take_cond};
 use wait_event::entries::{add_entry, remove_entry};
 use wait_event::wait_events::wait_event;
+use wait_event::woken_waits::wait_woken;
 use wait_model::queues::Form;
 use wait_model::tasks::{How, SleepState};
-use wait_model::watches::{Kind, Mode};
+use wait_model::watches::{Kind, Mode, Watch};
+use wait_rule::queues::cond_load;
 use wait_rule::{Domain, Task};
 
 /// Waits until condition 0 is set: true where it was, and false where a signal ended the wait, or no place was left.
@@ -68,6 +72,38 @@ pub fn come_and_go<R: Wait>(rt: &R, domain: &Domain, task: &mut Task) -> bool
             true
         }
         Err(_worn) => false,
+    }
+}
+
+/// Waits for condition 0 by the flag of an entry: loads the condition, and where it is not set waits for the flag once.
+/// True where there was a place for the entry.
+pub fn hear_zero<R: Wait>(rt: &R, domain: &Domain, task: &mut Task, state: SleepState) -> bool
+    requires of { task.old.domain ≡ domain.now }
+    requires clean { IsClean task.old }
+    ensures of { task.new.domain ≡ domain.now }
+    ensures clean { IsClean task.new }
+{
+    match add_entry(rt, domain, task, 0, Kind::Woken, Form::Front) {
+        Ok(()) => {
+            hear(rt, domain, task, state);
+            remove_entry(rt, domain, task);
+            true
+        }
+        Err(_worn) => false,
+    }
+}
+
+/// Waits for the flag once, where the condition is not set.
+fn hear<R: Wait>(rt: &R, domain: &Domain, task: &mut Task, state: SleepState)
+    requires of { task.old.domain ≡ domain.now }
+    requires may { MayRemove task.old }
+    requires running { task.old.book.state ≡ 0 }
+    requires entry { HasWokenEntry task.old }
+    ensures may { MayRemove task.new }
+    ensures carries { Carries unchanged task.old task.new }
+{
+    if cond_load(domain, task, Watch::Plain { cond: 0 }) == 0 {
+        wait_woken(rt, domain, task, state);
     }
 }
 

@@ -5,7 +5,7 @@ ghost use Rattle.wait_rule.specs.Says.{IsClean};
 ghost use Rattle.wq_user.specs.Waiting.{IsWaiting};
 
 use crate::events::{
-    come_and_go, set_zero, take_zero, wait_and_join, wait_for_zero, wait_to_be_selected,
+    come_and_go, hear_zero, set_zero, take_zero, wait_and_join, wait_for_zero, wait_to_be_selected,
 };
 use crate::holds::{look, pass, pass_and_wake, set_and_wake, wake_and_join};
 use crate::waits::{leave, prepare, queue, sleep};
@@ -15,7 +15,7 @@ use std::thread;
 use std::thread::Threads;
 use wait_model::tasks::{Sleep, SleepState};
 use wait_model::watches::Kind;
-use wait_rule::{Domain, Task};
+use wait_rule::{Domain, Task, send_signal};
 
 /// Sleeps and leaves the queue: true where the task was not put asleep.
 fn wait_up<R: Wait>(rt: &R, domain: &Domain, mut task: Task) -> bool
@@ -125,6 +125,22 @@ fn exclusive_waiter_is_joined(rt: HostRuntime) -> Result<(), Fail> {
     assert!(rt; come_and_go(&rt, &domain, &mut other));
     assert_eq!(rt; set_zero(&rt, &domain, &mut task), 0);
     assert!(rt; wait_to_be_selected(&rt, &domain, &mut other, SleepState::Killable));
+    task.join(&domain, other);
+    Ok(())
+}
+
+/// A wait by the flag of an entry whose condition is set, and one that a signal ends: the task is taken in after both.
+#[test]
+fn hearer_is_joined(rt: HostRuntime) -> Result<(), Fail> {
+    let (domain, mut task) = Domain::new(rt.alloc())?;
+    let Ok(mut other) = task.fork(&domain, 0) else {
+        panic!(rt; "numbers are spare")
+    };
+    let who = other.number();
+    send_signal(&rt, &domain, &mut task, who, false);
+    assert!(rt; hear_zero(&rt, &domain, &mut other, SleepState::Interruptible));
+    assert_eq!(rt; set_zero(&rt, &domain, &mut task), 0);
+    assert!(rt; hear_zero(&rt, &domain, &mut other, SleepState::Killable));
     task.join(&domain, other);
     Ok(())
 }

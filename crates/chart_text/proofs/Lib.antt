@@ -1,1 +1,6 @@
+mod ReadNames
+mod ReadNumbers
+mod ReadParts
+mod SpelledLines
+mod SpelledWords
 pub mod TextCuts

@@ -1,5 +1,6 @@
--- How the lines of a replay's text are spelled. (To be believed.)
-use Rattle.std.specs.Prelude.{ℕ, List, [], ◌∷◌, ◌++◌, Bool, true, false, codes, decimal}
+-- To be believed.
+-- How the lines of a replay's text are spelled.
+use Rattle.std.specs.Prelude.{ℕ, ◌^◌, ◌<◌, List, [], ◌∷◌, ◌++◌, Bool, true, false, codes, decimal}
 use Rattle.std.specs.List.{flat_map}
 use Rattle.chart_text.specs.declared.line.Kind.{Kind}
 use Rattle.chart_text.specs.declared.line.Kind.TheVariants as kind
@@ -116,6 +117,40 @@ what_text (what.Busy head) = codes "busy h" ++ decimal head
 -- a line of a task, without its line feed
 abbrev pub line_text : Line → List ℕ
 line_text line = codes "t" ++ decimal line.task ++ codes " " ++ what_text line.what
+
+-- the numbers of an answer are in the ranges of their fields
+abbrev pub IsFitAnswer : Answer → Type 0
+IsFitAnswer (Value n) = n < 2 ^ 64
+IsFitAnswer (Minus n) = n < 2 ^ 64
+IsFitAnswer (Walk woken selected holds stop) = (woken < 2 ^ 32) × (selected < 2 ^ 32) × (holds < 2 ^ 32)
+
+-- and those of what a line says
+abbrev pub IsFitWhat : What → Type 0
+IsFitWhat (what.Load word value) = (word.number < 2 ^ 8) × (value < 2 ^ 64)
+IsFitWhat (what.Set word value) = (word.number < 2 ^ 8) × (value < 2 ^ 64)
+IsFitWhat (what.Take number found) = (number < 2 ^ 8) × (found < 2 ^ 64)
+IsFitWhat (what.Try word bit found) = (word < 2 ^ 8) × (bit < 2 ^ 8)
+IsFitWhat (what.TryFor word bit found who) = (word < 2 ^ 8) × (bit < 2 ^ 8) × (who < 2 ^ 8)
+IsFitWhat (what.Clear word bit) = (word < 2 ^ 8) × (bit < 2 ^ 8)
+IsFitWhat (what.Handed who) = who < 2 ^ 8
+IsFitWhat (what.Lock head) = head < 2 ^ 16
+IsFitWhat (what.Unlock head spent) = head < 2 ^ 16
+IsFitWhat (what.Queue head form) = head < 2 ^ 16
+IsFitWhat (what.Unqueue who) = who < 2 ^ 8
+IsFitWhat (what.Mark head) = head < 2 ^ 16
+IsFitWhat (what.Unmark head) = head < 2 ^ 16
+IsFitWhat (what.Active head there) = head < 2 ^ 16
+IsFitWhat (what.Wake who woke) = who < 2 ^ 8
+IsFitWhat (what.Signal who fatal) = who < 2 ^ 8
+IsFitWhat (what.Woken who) = who < 2 ^ 8
+IsFitWhat (what.Ended answer) = IsFitAnswer answer
+IsFitWhat (what.Refused reason) = reason < 2 ^ 8
+IsFitWhat (what.Busy head) = head < 2 ^ 16
+IsFitWhat w = Unit {0}
+
+-- and those of a line
+abbrev pub IsFit : Line → Type 0
+IsFit line = (line.task < 2 ^ 8) × IsFitWhat line.what
 
 -- lines one after the other, each with its line feed
 abbrev pub lines_text : List Line → List ℕ

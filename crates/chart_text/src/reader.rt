@@ -1,51 +1,104 @@
 //! Lines by their text.
 
-ghost use Rattle.std.specs.Prelude.{◌≡◌, IfOk, IfSome};
+ghost use Rattle.std.specs.Prelude.{◌≡◌, ◌<◌, IfOk, IfSome, map, option_map};
 ghost use Rattle.chart_text.specs.Lines as spec;
+ghost use Rattle.chart_text.specs.Reading as reading;
 
 use crate::line::{Answer, Form, Kind, Line, Pending, Slept, State, Stop, What, Word};
 use std::alloc::{AllocError, Global};
 
-/// A number of a line, if the word is one.
-fn number(text: &str) -> Option<u64> {
+/// A number of a line, if the word is one of 64 bits.
+fn number(text: &str) -> Option<u64>
+    ensures { result ≡ reading.number_at 64 text.now }
+{
     text.parse::<u64>().ok()
 }
 
+/// A count of a walk, if the word is a number of 32 bits.
+fn count(text: &str) -> Option<u32>
+    ensures { result ≡ reading.number_at 32 text.now }
+{
+    text.parse::<u32>().ok()
+}
+
+/// A number of eight bits.
+fn byte(text: &str) -> Option<u8>
+    ensures { result ≡ reading.number_at 8 text.now }
+{
+    text.parse::<u8>().ok()
+}
+
+/// A number of 16 bits.
+fn short(text: &str) -> Option<u16>
+    ensures { result ≡ reading.number_at 16 text.now }
+{
+    text.parse::<u16>().ok()
+}
+
+/// What stands after a letter, if the text begins with it.
+fn after(letter: char, text: &str) -> Option<&str>
+    requires { letter < 128 }
+    ensures { option_map (λ s. s.now) result ≡ reading.after_letter letter text.now }
+{
+    text.strip_prefix(letter)
+}
+
 /// The number after a letter, if it has eight bits.
-fn lettered(letter: char, text: &str) -> Option<u8> {
-    text.strip_prefix(letter)?.parse::<u8>().ok()
+fn lettered(letter: char, text: &str) -> Option<u8>
+    requires { letter < 128 }
+    ensures { result ≡ reading.lettered_at letter 8 text.now }
+{
+    byte(after(letter, text)?)
 }
 
 /// A task, as `t1`.
-pub fn task(text: &str) -> Option<u8> {
+pub fn task(text: &str) -> Option<u8>
+    ensures { result ≡ reading.task_at text.now }
+{
     lettered('t', text)
 }
 
 /// A head, as `h256`.
-pub fn head(text: &str) -> Option<u16> {
-    text.strip_prefix('h')?.parse::<u16>().ok()
+pub fn head(text: &str) -> Option<u16>
+    ensures { result ≡ reading.head_at text.now }
+{
+    short(after('h', text)?)
 }
 
 /// A condition word, as `c0`.
-pub fn word(text: &str) -> Option<Word> {
-    let kind = match text.chars().next()? {
-        'c' => Kind::Plain,
-        'd' => Kind::Done,
-        'b' => Kind::Bits,
-        'v' => Kind::Variable,
-        _ => return None,
+pub fn word(text: &str) -> Option<Word>
+    ensures { result ≡ reading.word_at text.now }
+{
+    let (kind, number) = if let Some(number) = lettered('c', text) {
+        (Kind::Plain, number)
+    } else if let Some(number) = lettered('d', text) {
+        (Kind::Done, number)
+    } else if let Some(number) = lettered('b', text) {
+        (Kind::Bits, number)
+    } else {
+        (Kind::Variable, lettered('v', text)?)
     };
-    let number = text.get(1..)?.parse::<u8>().ok()?;
     Some(Word { kind, number })
 }
 
-/// A bit of a bit word, as `b0.0`.
-pub fn bit(text: &str) -> Option<(u8, u8)> {
-    let (word, bit) = text.strip_prefix('b')?.split_once('.')?;
-    Some((word.parse::<u8>().ok()?, bit.parse::<u8>().ok()?))
+/// The parts before and after the first dot.
+fn at_dot(text: &str) -> Option<(&str, &str)>
+    ensures { option_map (λ p. (p.0.now, p.1.now)) result ≡ reading.at_dot text.now }
+{
+    text.split_once('.')
 }
 
-fn yes(text: &str) -> Option<bool> {
+/// A bit of a bit word, as `b0.0`.
+pub fn bit(text: &str) -> Option<(u8, u8)>
+    ensures { result ≡ reading.bit_at text.now }
+{
+    let (word, bit) = at_dot(after('b', text)?)?;
+    Some((byte(word)?, byte(bit)?))
+}
+
+fn yes(text: &str) -> Option<bool>
+    ensures { result ≡ reading.yes_at text.now }
+{
     match text {
         "yes" => Some(true),
         "no" => Some(false),
@@ -53,7 +106,9 @@ fn yes(text: &str) -> Option<bool> {
     }
 }
 
-fn found(text: &str) -> Option<bool> {
+fn found(text: &str) -> Option<bool>
+    ensures { result ≡ reading.found_at text.now }
+{
     match text {
         "1" => Some(true),
         "0" => Some(false),
@@ -61,7 +116,9 @@ fn found(text: &str) -> Option<bool> {
     }
 }
 
-fn fatal(text: &str) -> Option<bool> {
+fn fatal(text: &str) -> Option<bool>
+    ensures { result ≡ reading.fatal_at text.now }
+{
     match text {
         "fatal" => Some(true),
         "plain" => Some(false),
@@ -70,7 +127,9 @@ fn fatal(text: &str) -> Option<bool> {
 }
 
 /// The name of a state.
-pub fn state(text: &str) -> Option<State> {
+pub fn state(text: &str) -> Option<State>
+    ensures { result ≡ reading.state_at text.now }
+{
     match text {
         "run" => Some(State::Running),
         "int" => Some(State::Interruptible),
@@ -80,7 +139,9 @@ pub fn state(text: &str) -> Option<State> {
     }
 }
 
-fn slept(text: &str) -> Option<Slept> {
+fn slept(text: &str) -> Option<Slept>
+    ensures { result ≡ reading.slept_at text.now }
+{
     match text {
         "asleep" => Some(Slept::Asleep),
         "stay" => Some(Slept::Stayed),
@@ -89,7 +150,9 @@ fn slept(text: &str) -> Option<Slept> {
     }
 }
 
-fn form(text: &str) -> Option<Form> {
+fn form(text: &str) -> Option<Form>
+    ensures { result ≡ reading.form_at text.now }
+{
     match text {
         "front" => Some(Form::Front),
         "tail" => Some(Form::Tail),
@@ -99,7 +162,9 @@ fn form(text: &str) -> Option<Form> {
 }
 
 /// The name of a pending signal.
-pub fn pending(text: &str) -> Option<Pending> {
+pub fn pending(text: &str) -> Option<Pending>
+    ensures { result ≡ reading.pending_at text.now }
+{
     match text {
         "none" => Some(Pending::Nothing),
         "plain" => Some(Pending::Plain),
@@ -108,7 +173,9 @@ pub fn pending(text: &str) -> Option<Pending> {
     }
 }
 
-fn stop(text: &str) -> Option<Stop> {
+fn stop(text: &str) -> Option<Stop>
+    ensures { result ≡ reading.stop_at text.now }
+{
     match text {
         "end" => Some(Stop::End),
         "spent" => Some(Stop::Spent),
@@ -118,28 +185,31 @@ fn stop(text: &str) -> Option<Stop> {
 }
 
 /// An answer of one word.
-fn answered(text: &str) -> Option<Answer> {
-    match text.strip_prefix('-') {
+fn answered(text: &str) -> Option<Answer>
+    ensures { result ≡ reading.answered_at text.now }
+{
+    match after('-', text) {
         Some(digits) => Some(Answer::Minus(number(digits)?)),
         None => Some(Answer::Value(number(text)?)),
     }
 }
 
-/// The answer of a walk, by the words after `=`.
-fn walked(words: &[&str]) -> Option<Answer> {
-    let [_, woken, _, selected, _, holds, end] = words else {
-        return None;
-    };
+/// The answer of a walk, by its counts and why it ended.
+fn walked(woken: &str, selected: &str, holds: &str, end: &str) -> Option<Answer>
+    ensures { result ≡ reading.walked_at woken.now selected.now holds.now end.now }
+{
     Some(Answer::Walk {
-        woken: woken.parse::<u32>().ok()?,
-        selected: selected.parse::<u32>().ok()?,
-        holds: holds.parse::<u32>().ok()?,
+        woken: count(woken)?,
+        selected: count(selected)?,
+        holds: count(holds)?,
         stop: stop(end)?,
     })
 }
 
 /// What a line of one word says.
-fn one(name: &str) -> Option<What> {
+fn one(name: &str) -> Option<What>
+    ensures { result ≡ reading.one_at name.now }
+{
     match name {
         "unflag" => Some(What::Unflag),
         "nocall" => Some(What::NoCall),
@@ -149,7 +219,9 @@ fn one(name: &str) -> Option<What> {
 }
 
 /// What a line of two words says, where the second is a head or a task.
-fn two_placed(name: &str, first: &str) -> Option<What> {
+fn two_placed(name: &str, first: &str) -> Option<What>
+    ensures { result ≡ reading.two_placed_at name.now first.now }
+{
     match name {
         "lock" => Some(What::Lock { head: head(first)? }),
         "unlock" => Some(What::Unlock {
@@ -167,7 +239,9 @@ fn two_placed(name: &str, first: &str) -> Option<What> {
 }
 
 /// What a line of two words says.
-fn two(name: &str, first: &str) -> Option<What> {
+fn two(name: &str, first: &str) -> Option<What>
+    ensures { result ≡ reading.two_at name.now first.now }
+{
     match name {
         "queued" => Some(What::Queued { there: yes(first)? }),
         "look" => Some(What::Look {
@@ -179,7 +253,7 @@ fn two(name: &str, first: &str) -> Option<What> {
         "accept" => Some(What::Accept(pending(first)?)),
         "=" => Some(What::Ended(answered(first)?)),
         "refused" => Some(What::Refused {
-            reason: first.parse::<u8>().ok()?,
+            reason: byte(first)?,
         }),
         "clear" => {
             let (word, bit) = bit(first)?;
@@ -190,7 +264,9 @@ fn two(name: &str, first: &str) -> Option<What> {
 }
 
 /// What a line of three words says, that means another task or the end of a count.
-fn three_placed(name: &str, first: &str, second: &str) -> Option<What> {
+fn three_placed(name: &str, first: &str, second: &str) -> Option<What>
+    ensures { result ≡ reading.three_placed_at name.now first.now second.now }
+{
     match name {
         "unlock" => Some(What::Unlock {
             head: head(first)?,
@@ -209,7 +285,9 @@ fn three_placed(name: &str, first: &str, second: &str) -> Option<What> {
 }
 
 /// What a line of three words says.
-fn three(name: &str, first: &str, second: &str) -> Option<What> {
+fn three(name: &str, first: &str, second: &str) -> Option<What>
+    ensures { result ≡ reading.three_at name.now first.now second.now }
+{
     match name {
         "load" => Some(What::Load {
             word: word(first)?,
@@ -241,7 +319,9 @@ fn three(name: &str, first: &str, second: &str) -> Option<What> {
 }
 
 /// What a line of four words says: only a test-and-set for another task has so many.
-fn four(first: &str, second: &str, third: &str) -> Option<What> {
+fn four(first: &str, second: &str, third: &str) -> Option<What>
+    ensures { result ≡ reading.four_at first.now second.now third.now }
+{
     let (word, bit) = bit(first)?;
     let found = found(second)?;
     let who = task(third)?;
@@ -254,33 +334,52 @@ fn four(first: &str, second: &str, third: &str) -> Option<What> {
 }
 
 /// What words after a task seem to say.
-fn seems(words: &[&str]) -> Option<What> {
+fn seems(words: &[&str]) -> Option<What>
+    ensures { result ≡ reading.seems_at (map (λ w. w.now) words.now) }
+{
     match words {
         [name] => one(name),
         [name, first] => two(name, first),
         [name, first, second] => three(name, first, second),
         [_, first, second, third] => four(first, second, third),
-        [_, rest @ ..] => Some(What::Ended(walked(rest)?)),
-        [] => None,
+        [_, _, woken, _, selected, _, holds, end] => {
+            Some(What::Ended(walked(woken, selected, holds, end)?))
+        }
+        _ => None,
     }
 }
 
+/// The line that words seem to be.
+fn line_of(words: &[&str]) -> Option<Line>
+    ensures { result ≡ reading.words_at (map (λ w. w.now) words.now) }
+{
+    let (first, rest) = words.split_first()?;
+    let task = task(first)?;
+    let what = seems(rest)?;
+    Some(Line { task, what })
+}
+
+/// What stands between single spaces.
+fn words_of<'a>(alloc: Global, text: &'a str) -> Result<Vec<&'a str>, AllocError>
+    ensures { IfOk result (λ v. map (λ w. w.now) v.items ≡ reading.words_of text.now) }
+{
+    text.split(' ').collect(alloc)
+}
+
 /// The line that a text seems to be.
-fn seeming(alloc: Global, text: &str) -> Result<Option<Line>, AllocError> {
-    let words: Vec<&str> = text.split(' ').collect(alloc)?;
-    let Some((first, rest)) = words.as_slice().split_first() else {
-        return Ok(None);
-    };
-    let (Some(task), Some(what)) = (task(first), seems(rest)) else {
-        return Ok(None);
-    };
-    Ok(Some(Line { task, what }))
+fn seeming(alloc: Global, text: &str) -> Result<Option<Line>, AllocError>
+    ensures { IfOk result (λ line. line ≡ reading.words_at (reading.words_of text.now)) }
+{
+    let words = words_of(alloc, text)?;
+    Ok(line_of(&words))
 }
 
 /// Reads a line of a task, without its line feed. What is read is spelled just so: a text that only seems to be a line,
-/// as one with a zero before a number, is none.
+/// as one with a zero before a number, is none. And whatever is spelled so, with its numbers in the ranges of their
+/// fields, is read.
 pub fn read_line(alloc: Global, text: &str) -> Result<Option<Line>, AllocError>
     ensures exact { IfOk result (λ line. IfSome line (λ l. text.now ≡ spec.line_text l)) }
+    ensures read { (l : Line) → spec.IsFit l → text.now ≡ spec.line_text l → IfOk result (λ line. line ≡ Some l) }
 {
     let Some(line) = seeming(alloc, text)? else {
         return Ok(None);

@@ -272,6 +272,8 @@ fn shade_text(alloc: Global, shade: Shade, most: usize) -> Result<String, AllocE
         Shade::Bare(Why::Spent) => String::from_str(alloc, "spent"),
         Shade::Bare(Why::Missed) if wide => String::from_str(alloc, "mode missed"),
         Shade::Bare(Why::Missed) => String::from_str(alloc, "missed"),
+        Shade::Bare(Why::Unlooked) if wide => String::from_str(alloc, "not looked"),
+        Shade::Bare(Why::Unlooked) => String::from_str(alloc, "no look"),
         Shade::Bare(Why::Lost) => String::from_str(alloc, "LOST"),
     }
 }

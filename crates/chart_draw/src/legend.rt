@@ -134,7 +134,7 @@ fn view_has(key: Key, view: &View) -> bool {
         Key::Owed => matches!(view.shade, Shade::Owed { .. }),
         Key::Bare => matches!(
             view.shade,
-            Shade::Trying { .. } | Shade::Bare(Why::Spent | Why::Missed)
+            Shade::Trying { .. } | Shade::Bare(Why::Spent | Why::Missed | Why::Unlooked)
         ),
         Key::Lost => view.shade == Shade::Bare(Why::Lost),
         Key::Owes => view.owes,

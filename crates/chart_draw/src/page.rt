@@ -6,11 +6,11 @@ use crate::pen::escaped;
 use crate::style::{Theme, style};
 use chart_follow::queues::Sort;
 use chart_follow::task::Why;
-use chart_follow::trace::quoted;
 use chart_plan::frame::{Bar, Frame, Shade, View};
 use chart_plan::rows::Row;
 use chart_text::line::Pending;
 use chart_text::moment::TASKS;
+use serde_json::{Map, Value, json};
 use std::alloc::{AllocError, Global};
 
 /// The class of a task's swatch.
@@ -61,15 +61,20 @@ fn reason(alloc: Global, shade: Shade) -> Result<String, AllocError> {
                 "its condition is set; the wake was not for its state. ",
             )
         }
+        Shade::Bare(Why::Unlooked) => {
+            String::from_str(
+                alloc,
+                "its condition is set; it has not looked at it since it queued its entry. ",
+            )
+        }
         Shade::Bare(Why::Lost) => {
             String::from_str(alloc, "its condition is set and nobody owes a wake: LOST. ")
         }
     }
 }
 
-/// A task of a row, as JSON: the class of its swatch, what it does, and what else is to say.
-fn push_task(alloc: Global, out: &mut String, view: &View) -> Result<(), AllocError> {
-    let class = swatch(view);
+/// A task of a row: the class of its swatch, what it does, and what else is to say.
+fn task_value(alloc: Global, view: &View) -> Result<Value, AllocError> {
     let doing = doing(alloc, view)?;
     let mut more = reason(alloc, view.shade)?;
     if view.signal != Pending::Nothing {
@@ -85,52 +90,45 @@ fn push_task(alloc: Global, out: &mut String, view: &View) -> Result<(), AllocEr
     if view.owes {
         more.push_str("owes a wake. ")?;
     }
-    let doing = doing.as_str();
-    write!(out, "[\"{class}\",\"{doing}\",\"{more}\"]")
+    json!(in alloc; [(swatch(view)), doing, more])
 }
 
-/// The members of a queue after a row, as JSON; a sign stands after those that are exclusive.
-fn push_queue(alloc: Global, out: &mut String, frame: &Frame) -> Result<(), AllocError> {
-    out.push('[')?;
-    for (i, member) in frame.members.iter().enumerate() {
+/// The members of a queue after a row; a sign stands after those that are exclusive.
+fn queue_value(alloc: Global, frame: &Frame) -> Result<Value, AllocError> {
+    let mut members = Vec::new(alloc);
+    for member in &frame.members {
         let sign = match member.sort {
             Sort::Exclusive | Sort::Priority => "!",
             _ => "",
         };
-        let comma = if i > 0 { "," } else { "" };
-        write!(out, "{comma}\"{member}{sign}\"")?;
+        members.push(Value::String(format!(in alloc; "{member}{sign}")?))?;
     }
-    out.push(']')
+    Ok(Value::Array(members))
 }
 
-/// What a row changes, as JSON: tasks, the queue, and the words.
-fn push_changes(
-    scene: &Scene,
-    out: &mut String,
-    before: &Frame,
-    frame: &Frame,
-) -> Result<(), AllocError> {
-    out.push_str("{\"_\":0")?;
+/// What a row changes: tasks, the queue, and the words, by their names.
+fn changes(scene: &Scene, before: &Frame, frame: &Frame) -> Result<Value, AllocError> {
+    let alloc = scene.alloc;
+    let mut changes = Map::new(alloc);
     for i in 0..TASKS {
         let task = (i % TASKS) as u8;
         let view = frame.view(task);
         if view != before.view(task) {
-            write!(out, ",\"t{task}\":")?;
-            push_task(scene.alloc, out, &view)?;
+            changes.insert(format!(in alloc; "t{task}")?, task_value(alloc, &view)?)?;
         }
     }
     if let Some(change) = &frame.change {
         let head = change.head;
-        write!(out, ",\"h{head}\":")?;
-        push_queue(scene.alloc, out, frame)?;
+        changes.insert(format!(in alloc; "h{head}")?, queue_value(alloc, frame)?)?;
     }
     for (at, word) in scene.plan.words.iter().enumerate() {
         let value = frame.value(at);
         if value != before.value(at) {
-            write!(out, ",\"w{word}\":\"{value}\"")?;
+            let value = Value::String(format!(in alloc; "{value}")?);
+            changes.insert(format!(in alloc; "w{word}")?, value)?;
         }
     }
-    out.push('}')
+    Ok(Value::Object(changes))
 }
 
 /// The text and the sentence of a row.
@@ -156,27 +154,39 @@ fn row_texts(scene: &Scene, row: &Row, frame: &Frame) -> Result<(String, String)
     }
 }
 
-/// The rows as JSON: texts, sentence, changes, and where each stands.
-fn push_rows(scene: &Scene, out: &mut String) -> Result<(), AllocError> {
+/// The rows: texts, sentence, changes, and where each stands.
+fn row_values(scene: &Scene) -> Result<Value, AllocError> {
     let alloc = scene.alloc;
-    out.push('[')?;
+    let mut values = Vec::new(alloc);
     let mut before = &scene.frames.start;
     for (i, (row, frame)) in scene.rows.iter().zip(scene.frames.after.iter()).enumerate() {
         let (text, said) = row_texts(scene, row, frame)?;
-        let text = quoted(alloc, text.as_str())?;
-        let said = quoted(alloc, said.as_str())?;
         let level = scene.plan.level(i);
-        let (top, height, at) = (level.top, level.height, row.span().0);
-        let comma = if i > 0 { ",\n" } else { "" };
-        write!(
-            out,
-            "{comma}{{\"l\":{text},\"s\":{said},\"y\":{top},\"z\":{height},\"i\":{at},\"d\":"
-        )?;
-        push_changes(scene, out, before, frame)?;
-        out.push('}')?;
+        let changes = changes(scene, before, frame)?;
+        values.push(json!(in alloc; {
+            "l": text,
+            "s": said,
+            "y": (level.top),
+            "z": (level.height),
+            "i": (row.span().0),
+            "d": changes
+        })?)?;
         before = frame;
     }
-    out.push(']')
+    Ok(Value::Array(values))
+}
+
+/// A value as it may stand in a page's script, which ends at the letter `<` and a slash: JSON has another spelling for
+/// that letter, which stands in strings alone.
+fn push_script(alloc: Global, out: &mut String, value: &Value) -> Result<(), AllocError> {
+    let text = value.to_string(alloc)?;
+    for (i, part) in text.split('<').enumerate() {
+        if i > 0 {
+            out.push_str("\\u003c")?;
+        }
+        out.push_str(part)?;
+    }
+    Ok(())
 }
 
 /// The page of a chart.
@@ -192,7 +202,7 @@ pub fn page(scene: &Scene, svg: &str, title: &str, theme: Theme) -> Result<Strin
     out.push_str(HEAD)?;
     out.push_str(svg)?;
     out.push_str(SCRIPT)?;
-    push_rows(scene, &mut out)?;
+    push_script(alloc, &mut out, &row_values(scene)?)?;
     let top = scene.plan.top;
     write!(out, ",O={top}")?;
     out.push_str(FOOT)?;

@@ -11,6 +11,8 @@ pub enum Why {
     Spent,
     /// The wake was not for a task in this state.
     Missed,
+    /// It has not loaded its condition since it queued its entry.
+    Unlooked,
     /// None of the reasons that there are.
     Lost,
 }
@@ -36,6 +38,8 @@ pub struct Task {
     /// The open call waits by looks at its condition.
     pub looks: bool,
     pub watch: Option<Watch>,
+    /// Since it queued its entry for a plain condition it has loaded that condition.
+    pub looked: bool,
     /// A walk for a bit selected it, and it has not tried the bit since.
     pub trying: Option<Watch>,
     pub why: Why,
@@ -54,6 +58,7 @@ impl Task {
         takes: false,
         looks: false,
         watch: None,
+        looked: false,
         trying: None,
         why: Why::Lost,
     };

@@ -260,9 +260,10 @@ impl World {
                     self.settle(who, Some(head), spent);
                 }
             }
-            What::Queue { head, form } => deed.change = Some(
-                self.queues.queue(alloc, head, who, form)?,
-            ),
+            What::Queue { head, form } => {
+                deed.change = Some(self.queues.queue(alloc, head, who, form)?);
+                self.note_look(who, false);
+            }
             What::Unqueue { who: target } => deed.change = self.queues.unqueue(target, who),
             What::Mark { head } => deed.change = Some(self.queues.mark(alloc, head, who)?),
             What::Unmark { .. } => deed.change = self.queues.unmark(who)?,
@@ -285,7 +286,17 @@ impl World {
         }
     }
 
+    /// A task has queued its entry, or has loaded the condition for which it is queued.
+    fn note_look(&mut self, who: u8, looked: bool) {
+        let mut task = self.task(who);
+        task.looked = looked;
+        self.put(who, task);
+    }
+
     fn load(&mut self, who: u8, word: Word, value: u64) -> Result<Deed, AllocError> {
+        if word.kind == Kind::Plain && self.queues.condition_of(who) == Some(word.number) {
+            self.note_look(who, true);
+        }
         let mut task = self.task(who);
         let mut deed = Deed::NONE;
         deed.old = self.value(&word);

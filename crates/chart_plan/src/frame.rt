@@ -5,7 +5,7 @@ use chart_follow::queues::{Change, Member};
 use chart_follow::sentence::sentence;
 use chart_follow::task::{Deed, Task, Why};
 use chart_follow::world::World;
-use chart_text::line::{Pending, State, Word};
+use chart_text::line::{Kind, Pending, State, Word};
 use chart_text::moment::{Moment, TASKS};
 use chart_text::watch::Watch;
 use std::alloc::{AllocError, Global};
@@ -144,6 +144,8 @@ fn shade_of(world: &World, task: &Task) -> Shade {
     // A bit's count is spent on a task that tries it: where none does, that is no reason.
     match task.why {
         Why::Spent if watch.bit.is_some() => Shade::Bare(Why::Lost),
+        // The law speaks of who has looked since it queued its entry.
+        Why::Lost if watch.word.kind == Kind::Plain && !task.looked => Shade::Bare(Why::Unlooked),
         why => Shade::Bare(why),
     }
 }

@@ -43,12 +43,10 @@ fn read_script(rt: &HostRuntime, path: &str) -> Result<String, Fault> {
 /// Does what the words say.
 fn write_answer(rt: &HostRuntime) -> Result<(), Fault> {
     let words: Vec<String> = match env::args(rt) {
-        Ok(words) => words.skip(1).collect(rt.alloc())?,
+        Ok(words) => words.collect(rt.alloc())?,
         Err(_) => return Err(Fault::Usage),
     };
-    let Some(command) = read_command(&words) else {
-        return Err(Fault::Usage);
-    };
+    let command = read_command(rt.alloc(), &words)?;
     let text = read_input(rt)?;
     let answer = match command.script {
         None => run::answer(rt.alloc(), &command, text.as_str(), None)?,

@@ -1,4 +1,5 @@
--- The drill: the script of a seed, by calls drawn from the words of a SplitMix64 generator. (To be believed.)
+-- To be believed.
+-- The drill: the script of a seed, by calls drawn from the words of a SplitMix64 generator.
 use Rattle.std.specs.Prelude.{
   ℕ,
   zero,

@@ -1,4 +1,5 @@
--- The first call of seed 0. (Proved.)
+-- A check of the definitions.
+-- The first call of seed 0.
 use Rattle.std.specs.Prelude.{◌≡◌, [], ◌∷◌, refl}
 use Rattle.rand_xoshiro.specs.SplitMix64.{mix_u64}
 use Rattle.wait_model.specs.declared.calls.Call.TheVariants as call

@@ -1,3 +1,4 @@
+-- To be believed.
 -- What the counts of sources and sinks say of their faults.
 use Rattle.std.specs.Prelude.{◌≡◌, ◌<◌, ℕ, ◌+◌, ◌^◌, ◌-◌, min, Result, Ok, Err}
 use Rattle.edge_io.specs.declared.sink.SinkFault.{SinkFault}

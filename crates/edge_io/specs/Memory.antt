@@ -1,3 +1,4 @@
+-- To be believed.
 -- What contracts see of the source and the sink in memory.
 use Rattle.std.specs.Prelude.{ℕ, List}
 use Rattle.edge_io.specs.Fails.{Calls}

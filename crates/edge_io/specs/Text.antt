@@ -1,3 +1,4 @@
+-- To be believed.
 -- What is known of the bytes that a sink holds, after a text was written to it.
 use Rattle.std.specs.Prelude.{◌≡◌, List, ◌++◌, ℕ, Result, Option, MatchResult}
 use Rattle.std.specs.Io.KnownBytes.{append_known}

@@ -1,5 +1,6 @@
--- The end lines of a text: the number of events, the tasks, the heads that have members, and the condition
--- words that are not 0. (To be believed.)
+-- To be believed.
+-- The end lines of a text: the number of events, the tasks, the heads that have members, and the condition words that
+-- are not 0.
 use Rattle.std.specs.Prelude.{ℕ, zero, suc, ◌+◌, ◌-◌, List, [], ◌∷◌, ◌++◌, Bool, if◌then◌else◌, ◌==◌, codes, decimal}
 use Rattle.std.specs.List.{flat_map}
 use Rattle.std.specs.declared.option.Option.{Option}

@@ -1,4 +1,5 @@
--- What a word says in its place, or why not. (To be believed.)
+-- To be believed.
+-- What a word says in its place, or why not.
 use Rattle.std.specs.Prelude.{
   ℕ,
   ◌-◌,

@@ -1,4 +1,5 @@
--- The forms of the calls: for each name what its words say, or the first why. (To be believed.)
+-- To be believed.
+-- The forms of the calls: for each name what its words say, or the first why.
 use Rattle.std.specs.Prelude.{
   ℕ,
   List,

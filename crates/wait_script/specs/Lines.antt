@@ -1,4 +1,5 @@
--- What a line says, or the first reason why it says nothing. (To be believed.)
+-- To be believed.
+-- What a line says, or the first reason why it says nothing.
 use Rattle.std.specs.Prelude.{
   ℕ,
   List,

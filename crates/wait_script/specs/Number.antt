@@ -1,4 +1,5 @@
--- How a number is spelled. (To be believed.)
+-- To be believed.
+-- How a number is spelled.
 use Rattle.std.specs.Prelude.{
   ℕ,
   ◌^◌,

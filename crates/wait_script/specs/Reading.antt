@@ -1,3 +1,4 @@
+-- For proofs alone.
 -- What the functions that read a script tell one another.
 use Rattle.std.specs.Prelude.{
   ◌≡◌,

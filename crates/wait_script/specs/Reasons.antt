@@ -1,4 +1,5 @@
--- The reasons why a line is bad: their numbers, and which of two comes first. (To be believed.)
+-- To be believed.
+-- The reasons why a line is bad: their numbers, and which of two comes first.
 use Rattle.std.specs.Prelude.{ℕ, nat_le, if◌then◌else◌}
 use Rattle.wait_script.specs.declared.reason.Reason.{Reason}
 use Rattle.wait_script.specs.declared.reason.Reason.TheVariants.{

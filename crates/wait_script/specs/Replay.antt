@@ -1,5 +1,6 @@
--- The text of a replay: what each line of a script prints from a run on, and at the end the end lines. The
--- state of a replay is its run, since that is what a core is. (To be believed.)
+-- To be believed.
+-- The text of a replay: what each line of a script prints from a run on, and at the end the end lines. The state of a
+-- replay is its run, since that is what a core is.
 use Rattle.std.specs.Prelude.{
   ℕ,
   zero,

@@ -1,4 +1,5 @@
--- What bytes say as a script, or the first bad line and its first reason. (To be believed.)
+-- To be believed.
+-- What bytes say as a script, or the first bad line and its first reason.
 use Rattle.std.specs.Prelude.{
   ◌≡◌,
   ℕ,

@@ -1,4 +1,5 @@
--- How a script is spelled, and which lines there are. (To be believed.)
+-- To be believed.
+-- How a script is spelled, and which lines there are.
 use Rattle.std.specs.Prelude.{
   ◌≡◌,
   ℕ,

@@ -1,4 +1,5 @@
--- The texts of events, answers and refusals. (To be believed.)
+-- To be believed.
+-- The texts of events, answers and refusals.
 use Rattle.std.specs.Prelude.{
   ℕ,
   ◌-◌,

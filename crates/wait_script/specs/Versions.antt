@@ -1,4 +1,5 @@
--- The versions of the grammar of scripts: their first lines, and the ranges in which they differ. (To be believed.)
+-- To be believed.
+-- The versions of the grammar of scripts: their first lines, and the ranges in which they differ.
 use Rattle.std.specs.Prelude.{ℕ, ◌-◌, List, codes}
 use Rattle.wait_model.specs.declared.layout.TheConstants.{SCRIPT_SELECTED, SCRIPT_TASKS, TASKS}
 use Rattle.wait_script.specs.declared.version.Version.{Version}

@@ -1,4 +1,5 @@
--- The words of a line, and what several fields say together. (To be believed.)
+-- To be believed.
+-- The words of a line, and what several fields say together.
 use Rattle.std.specs.Prelude.{ℕ, List, Result, Ok, Err, ◌==◌}
 use Rattle.std.specs.List.{slice_split}
 use Rattle.wait_script.specs.declared.reason.Reason.{Reason}

@@ -1,4 +1,5 @@
--- The commands: which words are one, what becomes of it, and with which statuses it ends. (To be believed.)
+-- To be believed.
+-- The commands: which words are one, what becomes of it, and with which statuses it ends.
 use Rattle.std.specs.Prelude.{
   ℕ,
   List,

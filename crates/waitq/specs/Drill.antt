@@ -1,4 +1,5 @@
--- The summary of a drill: what the run of its script says. (To be believed.)
+-- To be believed.
+-- The summary of a drill: what the run of its script says.
 use Rattle.std.specs.Prelude.{
   ℕ,
   zero,

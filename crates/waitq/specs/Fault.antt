@@ -1,4 +1,5 @@
--- Statuses and their lines. (To be believed.)
+-- To be believed.
+-- Statuses and their lines.
 use Rattle.std.specs.Prelude.{ℕ, List, ◌++◌, codes, decimal}
 use Rattle.edge_io.specs.declared.sink.SinkFault.{SinkFault}
 use Rattle.edge_io.specs.declared.sink.SinkFault.TheVariants as sink

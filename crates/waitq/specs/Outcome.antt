@@ -1,4 +1,5 @@
--- What becomes of an input. (To be believed.)
+-- To be believed.
+-- What becomes of an input.
 use Rattle.std.specs.Prelude.{
   ◌≡◌,
   ℕ,

@@ -1,4 +1,5 @@
--- What a run of the program does. (To be believed.)
+-- To be believed.
+-- What a run of the program does.
 use Rattle.std.specs.Prelude.{◌≡◌, ℕ, List, Option, Result, Ok, Err, Bool, ◌||◌, ◌==◌, IfSome}
 use Rattle.std.specs.Io.KnownBytes.{append_known}
 use Rattle.edge_io.specs.Text.{HoldsPrefix}

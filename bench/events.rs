@@ -1,5 +1,6 @@
 //! The same round trips, wakes and single calls in plain Rust, by a std Mutex and Condvar, and by a raw futex: each of
-//! them parks at once, or looks first as often as a task of a Domain. It writes `WHO NAME COUNT NANOSECONDS`.
+//! them parks at once, or looks first as often as a task of a Domain. It writes `WHO NAME COUNT NANOSECONDS`. With the
+//! word `trips` it makes round trips alone.
 use std::hint::{black_box, spin_loop};
 use std::sync::atomic::{AtomicU32, Ordering::SeqCst};
 use std::sync::{Condvar, Mutex};
@@ -219,11 +220,15 @@ fn alone<E: Event>(who: &str, n: u64) {
 }
 
 fn main() {
+    let only_trips = std::env::args().nth(1).is_some_and(|word| word == "trips");
     for _ in 0..10 {
         trips::<ByCondvar>("condvar", "trip_parked", 2_000);
         trips::<ByLookedCondvar>("condvar", "trip_looked", 2_000);
         trips::<ByFutex>("futex", "trip_parked", 2_000);
         trips::<ByLookedFutex>("futex", "trip_looked", 2_000);
+        if only_trips {
+            continue;
+        }
         for count in [8, 64] {
             wake::<ByCondvar>("condvar", count);
             wake::<ByFutex>("futex", count);

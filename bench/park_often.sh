@@ -1,8 +1,8 @@
 #!/bin/sh
 # Runs the tests in which threads sleep and wake one another in many rounds, RUNS times each (20), and fails where one of
 # them fails or has not ended after LIMIT seconds (60). It needs the tests built by `rt test` in crates/wait_rule,
-# crates/wq_head and crates/wait_event. JOBS: how many runs there are at once (1). BUSY: how many loops keep processors
-# busy meanwhile (0).
+# crates/wq_head, crates/wait_event, crates/swait_queue, crates/completion_cell and crates/examples_threads. JOBS: how many
+# runs there are at once (1). BUSY: how many loops keep processors busy meanwhile (0).
 set -eu
 cd "$(dirname "$0")/.."
 . bench/busy.sh
@@ -23,4 +23,9 @@ often wq_head tests::sleepers::walk_over_sleepers
 often wq_head tests::tickets::tickets
 often wait_event tests::threads::waiters_are_joined
 often wait_event tests::selected::selected_not_lost
+often wait_event tests::flags::hearers_are_joined
+often examples_threads tests::values_in_their_order
+often examples_threads tests::statuses_to_their_users
+often completion_cell tests::threads::permits
+often swait_queue tests::threads::waiters_are_joined
 exit "$failed"

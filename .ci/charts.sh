@@ -1,5 +1,5 @@
 #!/usr/bin/env bash
-# Compares what waitq_chart draws of two worked scripts with the pictures in docs/, draws every text of examples/ with
+# Compares what waitq_chart draws of some worked scripts with the pictures in docs/, draws every text of examples/ with
 # and without its script, and tries what it refuses.
 #
 # usage: .ci/charts.sh [--write] [PROGRAM]...    (what `rt ci` built, by each of its compilers, if none is given)
@@ -10,6 +10,7 @@ set -u
 
 root=$(dirname -- "$(dirname -- "$(readlink -f -- "${BASH_SOURCE[0]}")")")
 examples=$root/examples
+pictures="wait_set_wake one_locker_selected look_before_queueing look_after_queueing"
 work=$(mktemp -d)
 trap 'rm -rf -- "$work"' EXIT
 passed=0
@@ -69,7 +70,7 @@ forms() {
 # Tries all cases on a program.
 check() {
     local program=$1 name text first=$examples/wait_set_wake.text
-    for name in wait_set_wake one_locker_selected; do
+    for name in $pictures; do
         if picture "$program" "$name" | cmp -s -- - "$root/docs/$name.svg"; then
             passed=$((passed + 1))
         else
@@ -86,6 +87,11 @@ check() {
     try "$program" "a page" 0 "owed by t2" --html <"$first"
     try "$program" "a trace" 0 '"name":"wake t1 yes"' --trace <"$first"
     try "$program" "no command" 2 "usage" --no-such-word <"$first"
+    try "$program" "a word without its value" 2 "usage" --script <"$first"
+    try "$program" "no such theme" 2 "usage" --theme blue <"$first"
+    try "$program" "a range from its end" 2 "usage" --lines 9-8 <"$first"
+    try "$program" "the last of three outputs" 0 "Task 1 falls asleep." --html --trace --explain <"$first"
+    try "$program" "a title that looks like a word" 0 "<title>--full</title>" --title=a --title --full <"$first"
     try "$program" "a line that is none" 3 "line 2 of the text" < <(printf 't1 nocall\nt1 nocal\n')
     try "$program" "a number with a zero in front" 3 "line 1 of the text" < <(printf 't01 nocall\n')
     try "$program" "no line feed" 3 "no line feed" < <(printf 't1 nocall')
@@ -109,8 +115,9 @@ for program; do
         continue
     fi
     if [ -n "$write" ]; then
-        picture "$program" wait_set_wake >"$root/docs/wait_set_wake.svg"
-        picture "$program" one_locker_selected >"$root/docs/one_locker_selected.svg"
+        for name in $pictures; do
+            picture "$program" "$name" >"$root/docs/$name.svg"
+        done
         write=
     fi
     check "$program"

@@ -13,16 +13,14 @@ ghost use Rattle.completion_cell.specs.Awaits.{Advances, IsAt, IsAsleepAt, IsFre
 ghost use Rattle.completion_cell.specs.AwaitEnds.{EndsAwait, end_in};
 
 use crate::awaits::{AwaitOutcome, AwaitRun, AwaitStage, AwaitTurn, draw_ticket, hold, take_turn};
-use std::hint::spin_loop;
 use std::sync::Wait;
 use wait_event::wait_events::WaitEnd;
 use wait_model::heads::head_of;
 use wait_model::tasks::{Sleep, SleepState};
-use wait_rule::queues::park_until_next;
 use wait_rule::tasks::awake;
 use wait_rule::tries::sleep_try;
 use wait_rule::{Domain, Task, wait_up};
-use wq_head::locks::LOOKS;
+use wq_head::locks;
 
 /// Whether the wait was in its loop before.
 fn waits_in(stage: AwaitStage) -> bool
@@ -116,12 +114,7 @@ fn pause<R: Wait>(rt: &R, domain: &Domain, run: &AwaitRun, looks: u32) -> u32
     requires there { run.now.cell < COMPLETIONS }
     ensures { result ≤ LOOKS }
 {
-    if looks < LOOKS {
-        spin_loop();
-        return looks + 1;
-    }
-    park_until_next(rt, domain, head_of(run.watch()), run.served);
-    LOOKS
+    locks::pause(rt, domain, head_of(run.watch()), run.served, looks)
 }
 
 /// Goes on with a wait from a stage to its end: waits for locks, and sleeps.

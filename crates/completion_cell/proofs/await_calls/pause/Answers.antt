@@ -4,6 +4,8 @@ use Rattle.wait_model.specs.Watches.{head_of}
 use Rattle.completion_cell.proofs.Ground.{head_there}
 use Rattle.completion_cell.proofs.await_calls.pause.Goals as goal
 
-pub park_until_next-requires : goal.park_until_next-requires
-park_until_next-requires g c = subst (λ (n : ℕ). n < HEADS) (sym (c.head_of.ensures ∙ ap head_of c.watch.ensures))
-    (head_there c.args.run.now.cell c.requires.there)
+pub pause-requires : goal.pause-requires
+pause-requires g c = record {
+  head = subst (λ (n : ℕ). n < HEADS) (sym (c.head_of.ensures ∙ ap head_of c.watch.ensures))
+      (head_there c.args.run.now.cell c.requires.there);
+}

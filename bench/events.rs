@@ -1,6 +1,7 @@
-//! The same round trips, wakes and single calls in plain Rust, by a std Mutex and Condvar, and by a raw futex: each of
-//! them parks at once, or looks first as often as a task of a Domain. It writes `WHO NAME COUNT NANOSECONDS`. With the
-//! word `trips` it makes round trips alone.
+//! The same round trips, wakes and single calls in plain Rust, by a std Mutex and Condvar, and by a raw futex; and
+//! round trips by permits, one count under a Mutex with a Condvar, and one as a semaphore on a futex. Each of them
+//! parks at once, or looks first as often as a task of a Domain. It writes `WHO NAME COUNT NANOSECONDS`. With the word
+//! `trips` it makes round trips alone.
 use std::hint::{black_box, spin_loop};
 use std::sync::atomic::{AtomicU32, Ordering::SeqCst};
 use std::sync::{Condvar, Mutex};
@@ -102,9 +103,17 @@ fn park(word: &AtomicU32, found: u32) {
     unsafe { syscall(SYS_FUTEX, word.as_ptr(), FUTEX_WAIT_PRIVATE, found, 0usize) };
 }
 
-fn rouse_all(word: &AtomicU32) {
+fn rouse(word: &AtomicU32, most: i32) {
     // SAFETY: as above.
-    unsafe { syscall(SYS_FUTEX, word.as_ptr(), FUTEX_WAKE_PRIVATE, i32::MAX) };
+    unsafe { syscall(SYS_FUTEX, word.as_ptr(), FUTEX_WAKE_PRIVATE, most) };
+}
+
+fn rouse_all(word: &AtomicU32) {
+    rouse(word, i32::MAX);
+}
+
+fn rouse_one(word: &AtomicU32) {
+    rouse(word, 1);
 }
 
 /// A word that is 1 where it is set, and 2 where it is not and a thread may park on it.
@@ -158,6 +167,64 @@ impl Event for ByLookedFutex {
     fn receive(&self) {
         self.wait();
         self.futex.word.store(0, SeqCst);
+    }
+}
+
+/// A count of permits, of which each waiter takes one: a wait for it leaves it as it is.
+#[derive(Default)]
+struct PermitsByCondvar {
+    count: Mutex<u32>,
+    changed: Condvar,
+}
+
+impl Event for PermitsByCondvar {
+    fn set(&self) {
+        *self.count.lock().unwrap() += 1;
+        self.changed.notify_one();
+    }
+
+    fn wait(&self) {
+        let count = self.count.lock().unwrap();
+        drop(self.changed.wait_while(count, |count| *count == 0).unwrap());
+    }
+
+    fn receive(&self) {
+        let count = self.count.lock().unwrap();
+        *self.changed.wait_while(count, |count| *count == 0).unwrap() -= 1;
+    }
+}
+
+/// The same as a semaphore: a word that counts the permits, and beside it how many may be parked on that word.
+#[derive(Default)]
+struct PermitsByFutex {
+    count: AtomicU32,
+    parked: AtomicU32,
+}
+
+impl Event for PermitsByFutex {
+    fn set(&self) {
+        self.count.fetch_add(1, SeqCst);
+        if self.parked.load(SeqCst) > 0 {
+            rouse_one(&self.count);
+        }
+    }
+
+    fn wait(&self) {
+        while self.count.load(SeqCst) == 0 {
+            self.parked.fetch_add(1, SeqCst);
+            park(&self.count, 0);
+            self.parked.fetch_sub(1, SeqCst);
+        }
+    }
+
+    fn receive(&self) {
+        loop {
+            self.wait();
+            let found = self.count.load(SeqCst);
+            if found > 0 && self.count.compare_exchange(found, found - 1, SeqCst, SeqCst).is_ok() {
+                return;
+            }
+        }
     }
 }
 
@@ -226,6 +293,8 @@ fn main() {
         trips::<ByLookedCondvar>("condvar", "trip_looked", 2_000);
         trips::<ByFutex>("futex", "trip_parked", 2_000);
         trips::<ByLookedFutex>("futex", "trip_looked", 2_000);
+        trips::<PermitsByCondvar>("condvar", "permit_parked", 2_000);
+        trips::<PermitsByFutex>("futex", "permit_parked", 2_000);
         if only_trips {
             continue;
         }

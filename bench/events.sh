@@ -2,7 +2,8 @@
 # Times conditions that are set and waited for beside a std Condvar and a raw futex in plain Rust, and writes the ratios
 # of each run, and then of each name the middle one with the least and the greatest. It needs rustc, and the program
 # built by `rt run` in crates/bench_event. In a run each program makes 30 short rounds of each kind, in turn with the
-# other; the middle round counts.
+# other; the middle round counts. The ordinary scheduler puts the two threads of a round trip on one processor or on
+# two: bench/trips.sh times trips with the threads placed.
 # RUNS: how many runs (5). BUSY: how many loops keep processors busy meanwhile (0). WITH: a command that starts the
 # programs, as `chrt -f 50`, by which other work gives way to them.
 set -eu

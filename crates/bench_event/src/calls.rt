@@ -1,9 +1,11 @@
 //! The calls that are timed, by a task that owes nothing before and after each.
 
 ghost use Rattle.std.specs.Prelude.{◌≡◌, ◌<◌};
-ghost use Rattle.wait_model.specs.declared.layout.TheConstants.{FIRST_SIMPLE};
+ghost use Rattle.wait_model.specs.declared.layout.TheConstants.{COMPLETIONS, FIRST_SIMPLE};
 ghost use Rattle.wait_rule.specs.Says.{IsClean};
 
+use completion_cell::await_calls;
+use completion_cell::completes::complete;
 use std::sync::Wait;
 use wait_event::conds::{set_and_wake, take_cond};
 use wait_event::wait_events::wait_event;
@@ -48,4 +50,53 @@ pub(crate) fn set<R: Wait>(rt: &R, domain: &Domain, task: &mut Task, cond: u8) -
     ensures clean { IsClean task.new }
 {
     set_and_wake(rt, domain, task, cond, 1, Mode::Normal, 0).woken
+}
+
+/// By which calls one thread tells another that it may go on.
+#[derive(Clone, Copy)]
+pub(crate) enum Means {
+    /// A plain condition that is set, and waited for and taken.
+    Condition,
+    /// A completion that is completed, and waited for.
+    Completion,
+}
+
+/// Tells whoever waits for condition or completion `number` to go on.
+pub(crate) fn tell<R: Wait>(rt: &R, domain: &Domain, task: &mut Task, means: Means, number: u8)
+    requires of { task.old.domain ≡ domain.now }
+    requires clean { IsClean task.old }
+    requires full { number < FIRST_SIMPLE }
+    requires cell { number < COMPLETIONS }
+    ensures of { task.new.domain ≡ domain.now }
+    ensures clean { IsClean task.new }
+{
+    match means {
+        Means::Condition => {
+            set(rt, domain, task, number);
+        }
+        Means::Completion => complete(rt, domain, task, number),
+    }
+}
+
+/// Waits until it is told by condition or completion `number`: false where the wait ended for another reason.
+pub(crate) fn hear<R: Wait>(
+    rt: &R,
+    domain: &Domain,
+    task: &mut Task,
+    means: Means,
+    number: u8,
+) -> bool
+    requires of { task.old.domain ≡ domain.now }
+    requires clean { IsClean task.old }
+    requires full { number < FIRST_SIMPLE }
+    requires cell { number < COMPLETIONS }
+    ensures of { task.new.domain ≡ domain.now }
+    ensures clean { IsClean task.new }
+{
+    match means {
+        Means::Condition => receive(rt, domain, task, number),
+        Means::Completion => {
+            await_calls::wait_for(rt, domain, task, number, SleepState::Uninterruptible).is_ok()
+        }
+    }
 }

@@ -1,8 +1,8 @@
 //! How fast conditions are set and waited for. Without words it makes a few calls of each kind and writes `done`; with
 //! a word it makes many, in some rounds, and writes how many nanoseconds each round took in all, as
-//! `NAME COUNT NANOSECONDS`: round trips of two threads whose tasks park at once and whose tasks look first, the call
-//! that wakes 8 and 64 sleepers and the time until the last of them has gone on, and a set and a wait of one thread
-//! that meets no other. With the word `trips` it makes round trips alone.
+//! `NAME COUNT NANOSECONDS`: round trips of two threads by conditions, whose tasks park at once or look first, and by
+//! completions; the call that wakes 8 and 64 sleepers and the time until the last of them has gone on; and a set and a
+//! wait of one thread that meets no other. With the word `trips` it makes round trips alone.
 #![tactic(auto)]
 
 mod alone;
@@ -11,6 +11,7 @@ mod crowds;
 mod trips;
 
 use crate::alone::time_alone;
+use crate::calls::Means;
 use crate::crowds::time_wake;
 use crate::trips::time_trips;
 use std::alloc::Global;
@@ -45,17 +46,20 @@ fn report<R: Print>(
     Ok(())
 }
 
-/// Round trips whose tasks park at once, and such whose tasks look first.
+/// Round trips by conditions whose tasks park at once, and such whose tasks look first; and by completions whose tasks
+/// park at once.
 fn round_of_trips<R: Clock + Print + Threads + Wait + Sync>(
     rt: &R,
     alloc: Global,
     plan: Plan,
 ) -> io::Result<()> {
     let n = plan.trips;
-    let parked = time_trips(rt, alloc, 0, n)?;
+    let parked = time_trips(rt, alloc, 0, Means::Condition, n)?;
     report(rt, plan, "trip_parked", n, parked)?;
-    let looked = time_trips(rt, alloc, LOOKS, n)?;
-    report(rt, plan, "trip_looked", n, looked)
+    let looked = time_trips(rt, alloc, LOOKS, Means::Condition, n)?;
+    report(rt, plan, "trip_looked", n, looked)?;
+    let permits = time_trips(rt, alloc, 0, Means::Completion, n)?;
+    report(rt, plan, "permit_parked", n, permits)
 }
 
 /// A wake of 8 sleepers, and one of 64.

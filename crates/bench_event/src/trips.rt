@@ -1,9 +1,9 @@
-//! Round trips of two threads: each sets a condition that the other one waits for and takes.
+//! Round trips of two threads: each tells the other one to go on, and waits until it is told itself.
 
 ghost use Rattle.std.specs.Prelude.{◌≡◌};
 ghost use Rattle.wait_rule.specs.Says.{IsClean};
 
-use crate::calls::{receive, set};
+use crate::calls::{Means, hear, tell};
 use std::alloc::Global;
 use std::sync::Wait;
 use std::thread::Threads;
@@ -11,47 +11,48 @@ use std::time::{Clock, Duration, Instant};
 use std::{io, thread};
 use wait_rule::{Domain, Task};
 
-/// The condition that the side sets that begins, and the one that the other side sets.
+/// The condition or completion by which the side tells that begins, and the one of the other side.
 const THERE: u8 = 0;
 
 const BACK: u8 = 1;
 
-/// The side that begins, in `n` round trips: true where each of its waits found the condition set.
-fn begin<R: Wait>(rt: &R, domain: &Domain, mut task: Task, n: u64) -> bool
+/// The side that begins, in `n` round trips: true where each of its waits ended since it was told.
+fn begin<R: Wait>(rt: &R, domain: &Domain, mut task: Task, means: Means, n: u64) -> bool
     requires of { task.domain ≡ domain.now }
     requires clean { IsClean task }
 {
     let mut all = true;
     for _ in 0..n {
-        set(rt, domain, &mut task, THERE);
-        if !receive(rt, domain, &mut task, BACK) {
+        tell(rt, domain, &mut task, means, THERE);
+        if !hear(rt, domain, &mut task, means, BACK) {
             all = false;
         }
     }
     all
 }
 
-/// The side that answers, in `n` round trips: true where each of its waits found the condition set.
-fn answer<R: Wait>(rt: &R, domain: &Domain, mut task: Task, n: u64) -> bool
+/// The side that answers, in `n` round trips: true where each of its waits ended since it was told.
+fn answer<R: Wait>(rt: &R, domain: &Domain, mut task: Task, means: Means, n: u64) -> bool
     requires of { task.domain ≡ domain.now }
     requires clean { IsClean task }
 {
     let mut all = true;
     for _ in 0..n {
-        if !receive(rt, domain, &mut task, THERE) {
+        if !hear(rt, domain, &mut task, means, THERE) {
             all = false;
         }
-        set(rt, domain, &mut task, BACK);
+        tell(rt, domain, &mut task, means, BACK);
     }
     all
 }
 
-/// `n` round trips of two threads: true where each wait found the condition set.
+/// `n` round trips of two threads: true where each wait ended since its side was told.
 fn round_trips<R: Threads + Wait + Sync>(
     rt: &R,
     domain: &Domain,
     one: Task,
     two: Task,
+    means: Means,
     n: u64,
 ) -> bool
     requires of { (one.domain ≡ domain.now) × (two.domain ≡ domain.now) }
@@ -61,20 +62,21 @@ fn round_trips<R: Threads + Wait + Sync>(
         rt,
         move || -> bool
             requires { (one.domain ≡ domain.now) × IsClean one }
-        { begin(rt, domain, one, n) },
+        { begin(rt, domain, one, means, n) },
         move || -> bool
             requires { (two.domain ≡ domain.now) × IsClean two }
-        { answer(rt, domain, two, n) },
+        { answer(rt, domain, two, means, n) },
     );
     began && answered
 }
 
-/// How long `n` round trips take in a Domain whose tasks look so often before they park: None where a wait did not
-/// find the condition set.
+/// How long `n` round trips take in a Domain whose tasks look so often before they park: None where a wait ended for
+/// another reason.
 pub(crate) fn time_trips<R: Clock + Threads + Wait + Sync>(
     rt: &R,
     alloc: Global,
     looks: u32,
+    means: Means,
     n: u64,
 ) -> io::Result<Option<Duration>> {
     let (domain, mut task) = Domain::with_looks(alloc, looks)?;
@@ -82,7 +84,7 @@ pub(crate) fn time_trips<R: Clock + Threads + Wait + Sync>(
         return Ok(None);
     };
     let start = Instant::now(rt)?;
-    if !round_trips(rt, &domain, task, other, n) {
+    if !round_trips(rt, &domain, task, other, means, n) {
         return Ok(None);
     }
     Ok(Some(start.elapsed(rt)?))

@@ -4,7 +4,7 @@ use Rattle.wait_event.specs.Tested.{IsWaiting}
 use Rattle.wait_event.proofs.tests.turns.play.Given as goal
 
 abbrev pub invariant-loop-early : goal.invariant-loop-early
-invariant-loop-early g l = record {
+invariant-loop-early l = record {
   of_first : l.first.domain ≡ l.fn.domain;
   of_second : l.second.domain ≡ l.fn.domain;
   one : IsWaiting l.first l.one l.one_at;
@@ -12,7 +12,7 @@ invariant-loop-early g l = record {
 }
 
 abbrev pub invariant-loop-turn : goal.invariant-loop-turn
-invariant-loop-turn g l = record {
+invariant-loop-turn l = record {
   of_waker : l.waker.domain ≡ l.fn.domain;
   of_first : l.first.domain ≡ l.fn.domain;
   of_second : l.second.domain ≡ l.fn.domain;

@@ -44,10 +44,21 @@ pub(crate) fn set_and_swake<R: Wait>(rt: &R, domain: &Domain, task: &mut Task) -
     swake_all(rt, domain, task, COND)
 }
 
+/// Sets the condition, and wakes the first who waits for it: whether there was one.
+pub(crate) fn set_and_swake_one<R: Wait>(rt: &R, domain: &Domain, task: &mut Task) -> bool
+    requires of { task.old.domain ≡ domain.now }
+    requires clean { IsClean task.old }
+    ensures of { task.new.domain ≡ domain.now }
+    ensures clean { IsClean task.new }
+{
+    publish(domain, task, Watch::Plain { cond: COND }, 1);
+    swake_one(rt, domain, task, COND)
+}
+
 #[test]
 fn wakes_of_an_empty_queue(rt: HostRuntime) -> Result<(), Fail> {
     let (domain, mut task) = Domain::new(rt.alloc())?;
-    assert!(rt; !swake_one(&rt, &domain, &mut task, COND));
+    assert!(rt; !set_and_swake_one(&rt, &domain, &mut task));
     let (one, all) = wake_in_hold(&rt, &domain, &mut task);
     assert!(rt; !one);
     assert_eq!(rt; all, 0);

@@ -4,17 +4,14 @@
 ghost use Rattle.std.specs.Prelude.{◌≡◌};
 ghost use Rattle.wait_rule.specs.Says.{IsClean};
 
-use crate::tests::alone::set_and_swake;
+use crate::tests::alone::{set_and_swake, set_and_swake_one};
 use crate::waits::swait_event;
-use crate::wakes::swake_one;
 use std::sync::Wait;
 use std::test::Fail;
 use std::thread;
 use std::thread::Threads;
 use wait_model::layout::FIRST_SIMPLE;
 use wait_model::tasks::SleepState;
-use wait_model::watches::Watch;
-use wait_rule::queues::publish;
 use wait_rule::{Domain, Task};
 
 /// How many rounds each test makes.
@@ -34,16 +31,15 @@ fn wait_once<R: Wait>(rt: &R, domain: &Domain, mut task: Task) -> (Task, bool)
     (task, over)
 }
 
-/// Sets the condition, and wakes one task after another, as often as there are two.
+/// Sets the condition and wakes the first who waits for it, as often as there are two.
 fn set_and_swake_two<R: Wait>(rt: &R, domain: &Domain, task: &mut Task)
     requires of { task.old.domain ≡ domain.now }
     requires clean { IsClean task.old }
     ensures of { task.new.domain ≡ domain.now }
     ensures clean { IsClean task.new }
 {
-    publish(domain, task, Watch::Plain { cond: COND }, 1);
-    swake_one(rt, domain, task, COND);
-    swake_one(rt, domain, task, COND);
+    set_and_swake_one(rt, domain, task);
+    set_and_swake_one(rt, domain, task);
 }
 
 /// Sets the condition, and wakes who waits for it, all at once or one after another; gives the task back.

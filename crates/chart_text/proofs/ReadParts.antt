@@ -1,4 +1,4 @@
--- What stands after a letter, and around a byte.
+-- What stands after a letter, and around a dot.
 use Rattle.std.proofs.Common.{
   ◌≡◌,
   ◌≢◌,
@@ -23,14 +23,7 @@ use denote.Ref.{Bor}
 use Rattle.std.specs.Option.{MatchOption, option_map}
 use Rattle.std.specs.List.{position_or_len, before_first, after_first}
 use Rattle.std.proofs.lemmas.Bool.Decides.{nat_tests}
-use Rattle.chart_text.specs.Lines.{cut_at}
-use Rattle.chart_text.specs.Reading.{after_letter}
-
-not_below : (n m : ℕ) → n ≡ m → nat_lt n m ≡ false
-not_below n m e = grind (arith, nat_tests)
-
-below : (n m : ℕ) → n < m → nat_lt n m ≡ true
-below n m e = grind (arith, nat_tests)
+use Rattle.chart_text.specs.Reading.{after_letter, is_dot, at_dot}
 
 module _ (c : ℕ) where
   same : (b : ℕ) → b ≡ c → eqb b c ≡ true
@@ -54,15 +47,21 @@ module _ (c : ℕ) where
       let yes : eqb b c ≡ true = same b head in
       rw (yes, rest) refl
 
-  -- by the clause of `split_once`
-  pub cut_is : (text : List ℕ) (r : Option (Bor (List ℕ) × Bor (List ℕ)))
-      → MatchOption r (position_or_len (λ b. eqb b c) text ≡ length text)
-      (λ x. (position_or_len (λ b. eqb b c) text < length text) × (x.0.now ≡ before_first (λ b. eqb b c) text)
-      × (x.1.now ≡ after_first (λ b. eqb b c) text))
-      → option_map (λ p. (p.0.now, p.1.now)) r ≡ cut_at c text
-  cut_is text None h =
-      let past : nat_lt (position_or_len (λ b. eqb b c) text) (length text) ≡ false = not_below _ _ h in
-      rw past refl
-  cut_is text (Some x) h =
-      let inside : nat_lt (position_or_len (λ b. eqb b c) text) (length text) ≡ true = below _ _ h.0 in
-      rw (inside, h.1, h.2) refl
+-- by the clause of `split_once`
+pub dot_is : (text : List ℕ) (r : Option (Bor (List ℕ) × Bor (List ℕ)))
+    → MatchOption r (position_or_len is_dot text ≡ length text)
+    (λ x. (position_or_len is_dot text < length text) × (x.0.now ≡ before_first is_dot text)
+    × (x.1.now ≡ after_first is_dot text))
+    → option_map (λ p. (p.0.now, p.1.now)) r ≡ at_dot text
+dot_is text None h =
+    let differs : nat_lt (position_or_len is_dot text) (length text) ≡ false = none _ _ h in
+    rw differs refl
+  where
+    none : (n m : ℕ) → n ≡ m → nat_lt n m ≡ false
+    none n m e = grind (arith, nat_tests)
+dot_is text (Some x) h =
+    let yes : nat_lt (position_or_len is_dot text) (length text) ≡ true = some _ _ h.0 in
+    rw (yes, h.1, h.2) refl
+  where
+    some : (n m : ℕ) → n < m → nat_lt n m ≡ true
+    some n m e = grind (arith, nat_tests)

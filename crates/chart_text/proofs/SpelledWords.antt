@@ -69,6 +69,7 @@ use Rattle.chart_text.specs.Reading.{
   head_at,
   word_or,
   word_at,
+  is_dot,
   pair_at,
   bit_at,
   yes_at,
@@ -197,9 +198,6 @@ word_read kind.Plain n h = ap (λ o. word_or kind.Plain o None) (byte_read n h)
 word_read kind.Done n h = ap (λ o. word_or kind.Done o None) (byte_read n h)
 word_read kind.Bits n h = ap (λ o. word_or kind.Bits o None) (byte_read n h)
 word_read kind.Variable n h = ap (λ o. word_or kind.Variable o None) (byte_read n h)
-
-abbrev is_dot : ℕ → Bool
-is_dot b = eqb b 46
 
 -- no digit is a dot
 dot_after : (front back : List ℕ) → all_ascii_digits front ≡ true

@@ -1,37 +1,7 @@
 -- To be believed.
 -- How the lines of a replay's text are spelled.
-use Rattle.std.specs.Prelude.{
-  ◌≡◌,
-  ◌≢◌,
-  ℕ,
-  ◌+◌,
-  ◌-◌,
-  ◌^◌,
-  ◌<◌,
-  min,
-  nat_lt,
-  nat_eq,
-  List,
-  [],
-  ◌∷◌,
-  ◌++◌,
-  length,
-  All,
-  Option,
-  Some,
-  None,
-  MatchOption,
-  Bool,
-  true,
-  false,
-  ◌||◌,
-  ◌==◌,
-  if◌then◌else◌,
-  codes,
-  decimal,
-}
-use Rattle.std.specs.List.{flat_map, position_or_len, before_first, after_first, starts_with}
-use Rattle.std.specs.Str.{bytes_eq}
+use Rattle.std.specs.Prelude.{ℕ, ◌^◌, ◌<◌, List, [], ◌∷◌, ◌++◌, Bool, true, false, codes, decimal}
+use Rattle.std.specs.List.{flat_map}
 use Rattle.chart_text.specs.declared.line.Kind.{Kind}
 use Rattle.chart_text.specs.declared.line.Kind.TheVariants as kind
 use Rattle.chart_text.specs.declared.line.Word.{Word}
@@ -50,8 +20,6 @@ use Rattle.chart_text.specs.declared.line.Answer.TheVariants.{Value, Minus, Walk
 use Rattle.chart_text.specs.declared.line.What.{What}
 use Rattle.chart_text.specs.declared.line.What.TheVariants as what
 use Rattle.chart_text.specs.declared.line.Line.{Line}
-use Rattle.chart_text.specs.declared.fault.TextFault.{TextFault}
-use Rattle.chart_text.specs.declared.fault.TextFault.TheVariants.{Bad, Script, Memory}
 
 abbrev pub kind_text : Kind → List ℕ
 kind_text kind.Plain = codes "c"
@@ -187,52 +155,3 @@ IsFit line = (line.task < 2 ^ 8) × IsFitWhat line.what
 -- lines one after the other, each with its line feed
 abbrev pub lines_text : List Line → List ℕ
 lines_text lines = flat_map (λ line. line_text line ++ 10 ∷ []) lines
-
--- what stands before the first byte c, and after it, if there is one
-abbrev pub cut_at : ℕ → List ℕ → Option (List ℕ × List ℕ)
-cut_at c text =
-    if nat_lt (position_or_len (λ b. b == c) text) (length text)
-    then Some (before_first (λ b. b == c) text, after_first (λ b. b == c) text) else None
-
--- the first line of a text, without its line feed, and what stands after that
-abbrev pub first_line : List ℕ → Option (List ℕ × List ℕ)
-first_line text = cut_at 10 text
-
-abbrev pub begins : List ℕ → List ℕ → Bool
-begins line front = starts_with nat_eq line front
-
--- a line that shows the state at the end
-abbrev pub is_end : List ℕ → Bool
-is_end line =
-    bytes_eq line (codes "end") || begins line (codes "events ") || begins line (codes "task ")
-    || begins line (codes "head ") || begins line (codes "word ")
-
--- such lines one after the other, each with its line feed
-abbrev pub ends_text : List (List ℕ) → List ℕ
-ends_text ends = flat_map (λ line. line ++ 10 ∷ []) ends
-
--- a text that is the spelling of no line whose numbers are in their ranges
-abbrev pub IsNoLine : List ℕ → Type 0
-IsNoLine text = (l : Line) → IsFit l → text ≢ line_text l
-
--- no good line begins a text: there is something without a line feed, or the first line is none of the end, and none of
--- a task; after lines of the end (`ended`) none of a task may stand either
-abbrev pub IsBadRest : Bool → List ℕ → Type 0
-IsBadRest ended rest =
-    MatchOption (first_line rest) (0 < length rest) (λ p. (is_end p.0 ≡ false) × (ended ≡ false → IsNoLine p.0))
-
--- a text whose line of this number is bad: lines of tasks stand before it and then lines of the end
-pub record IsBadAt (text : List ℕ) (number : ℕ) : Type 0 where
-  pub lines : List Line
-  pub ends : List (List ℕ)
-  pub rest : List ℕ
-  pub split : text ≡ lines_text lines ++ (ends_text ends ++ rest)
-  pub counts : number ≡ min (length lines + length ends + 1) (2 ^ 32 - 1)
-  pub ended : All (λ line. is_end line ≡ true) ends
-  pub bad : IsBadRest (nat_lt 0 (length ends)) rest
-
--- why a text is not read
-abbrev pub IsBadBy : List ℕ → TextFault → Type 0
-IsBadBy text (Bad line why) = IsBadAt text line
-IsBadBy text (Script line why) = ⊥
-IsBadBy text Memory = Unit {0}

@@ -1,19 +1,11 @@
 -- For proofs alone.
 -- What the functions that read a line tell one another.
 use Rattle.std.specs.Prelude.{
-  ◌≡◌,
   ℕ,
-  ◌+◌,
-  ◌-◌,
   ◌^◌,
-  ◌<◌,
-  min,
   List,
   [],
   ◌∷◌,
-  ◌++◌,
-  All,
-  MatchOption,
   Option,
   Some,
   None,
@@ -29,7 +21,7 @@ use Rattle.std.specs.Prelude.{
   option_map,
   option_and_then,
 }
-use Rattle.std.specs.List.{slice_split}
+use Rattle.std.specs.List.{slice_split, position_or_len, before_first, after_first}
 use Rattle.std.specs.Str.{all_ascii_digits, bytes_eq}
 use Rattle.std.specs.Str.Parse.{digits_value, without_leading_plus}
 use Rattle.chart_text.specs.declared.line.Kind.{Kind}
@@ -50,9 +42,6 @@ use Rattle.chart_text.specs.declared.line.Answer.TheVariants.{Value, Minus, Walk
 use Rattle.chart_text.specs.declared.line.What.{What}
 use Rattle.chart_text.specs.declared.line.What.TheVariants as what
 use Rattle.chart_text.specs.declared.line.Line.{Line}
-use Rattle.chart_text.specs.declared.fault.TextFault.{TextFault}
-use Rattle.chart_text.specs.declared.fault.TextFault.TheVariants.{Bad, Script, Memory}
-use Rattle.chart_text.specs.Lines.{lines_text, cut_at, first_line, is_end, ends_text}
 
 -- what digits say, where it has so many bits
 abbrev pub digits_at : ℕ → List ℕ → Option ℕ
@@ -96,11 +85,20 @@ word_at text =
     (word_or kind.Bits (lettered_at 98 8 text)
     (word_or kind.Variable (lettered_at 118 8 text) None)))
 
+abbrev pub is_dot : ℕ → Bool
+is_dot b = b == 46
+
+-- the parts before and after the first dot, if there is one
+abbrev pub at_dot : List ℕ → Option (List ℕ × List ℕ)
+at_dot text =
+    if nat_lt (position_or_len is_dot text) (length text)
+    then Some (before_first is_dot text, after_first is_dot text) else None
+
 abbrev pub pair_at : List ℕ × List ℕ → Option (ℕ × ℕ)
 pair_at parts = both_at (λ (w : ℕ) (b : ℕ). (w, b)) (number_at 8 parts.0) (number_at 8 parts.1)
 
 abbrev pub bit_at : List ℕ → Option (ℕ × ℕ)
-bit_at text = option_and_then pair_at (option_and_then (cut_at 46) (after_letter 98 text))
+bit_at text = option_and_then pair_at (option_and_then at_dot (after_letter 98 text))
 
 -- the value that a table of keywords has at a word
 abbrev pub keyword_at : {A : Type 0} → List (List ℕ × A) → List ℕ → Option A
@@ -256,23 +254,3 @@ words_at (first ∷ words) = both_at (λ t w. record { task = t; what = w }) (ta
 
 abbrev pub words_of : List ℕ → List (List ℕ)
 words_of text = slice_split (λ b. b == 32) text
-
--- what stands before the lines of the end: lines of tasks, the number of the line after them, and the rest
-pub record IsFront (text : List ℕ) (lines : List Line) (number : ℕ) (rest : List ℕ) : Type 0 where
-  pub split : text ≡ lines_text lines ++ rest
-  pub counts : number ≡ min (length lines + 1) (2 ^ 32 - 1)
-  pub next : MatchOption (first_line rest) (Unit {0}) (λ p. is_end p.0 ≡ true)
-
--- lines of the end, of which that of this number is bad
-pub record IsBadEnd (text : List ℕ) (first number : ℕ) : Type 0 where
-  pub ends : List (List ℕ)
-  pub rest : List ℕ
-  pub split : text ≡ ends_text ends ++ rest
-  pub counts : number ≡ min (first + length ends) (2 ^ 32 - 1)
-  pub ended : All (λ line. is_end line ≡ true) ends
-  pub bad : MatchOption (first_line rest) (0 < length rest) (λ p. is_end p.0 ≡ false)
-
-abbrev pub IsBadEndBy : List ℕ → ℕ → TextFault → Type 0
-IsBadEndBy text first (Bad line why) = IsBadEnd text first line
-IsBadEndBy text first (Script line why) = ⊥
-IsBadEndBy text first Memory = Unit {0}

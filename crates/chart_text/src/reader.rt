@@ -83,7 +83,7 @@ pub fn word(text: &str) -> Option<Word>
 
 /// The parts before and after the first dot.
 fn at_dot(text: &str) -> Option<(&str, &str)>
-    ensures { option_map (λ p. (p.0.now, p.1.now)) result ≡ spec.cut_at 46 text.now }
+    ensures { option_map (λ p. (p.0.now, p.1.now)) result ≡ reading.at_dot text.now }
 {
     text.split_once('.')
 }

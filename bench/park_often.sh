@@ -1,8 +1,8 @@
 #!/bin/sh
-# Runs the tests in which threads sleep and wake one another in many rounds, RUNS times each (20), and fails where one of
-# them fails or has not ended after LIMIT seconds (60). It needs the tests built by `rt test` in crates/wait_rule,
-# crates/wq_head, crates/wait_event, crates/swait_queue, crates/completion_cell and crates/examples_threads. JOBS: how many
-# runs there are at once (1). BUSY: how many loops keep processors busy meanwhile (0).
+# Runs the tests in which threads sleep and wake one another in many rounds, RUNS times each (20), and fails where one
+# of them fails or has not ended after LIMIT seconds (60). It needs the tests built by `rt test` in crates/wait_rule,
+# crates/wq_head, crates/wait_event, crates/swait_queue, crates/completion_cell and crates/examples_threads. JOBS: how
+# many runs there are at once (1). BUSY: how many loops keep processors busy meanwhile (0).
 set -eu
 cd "$(dirname "$0")/.."
 . bench/busy.sh

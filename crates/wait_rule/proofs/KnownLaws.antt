@@ -1,6 +1,10 @@
 -- What a task knows after steps and looks, and what stays of it.
 pub mod Moments
 pub mod TableLaws
+pub mod HandedPermits
+pub mod HandedSteps
+pub mod HeldPermits
+pub mod CalledPermits
 pub mod FlagLaws
 pub mod SpentCounts
 pub mod AfterSteps
@@ -12,6 +16,7 @@ pub mod LookCounts
 pub mod SettledTasks
 pub mod TaskHistories
 pub mod OwnEntries
+pub mod OwnStored
 pub mod HeldCounts
 pub mod StandingKinds
 pub mod HeadLinks
@@ -25,3 +30,4 @@ pub mod ServedUnlocks
 pub mod CarriedTasks
 pub mod CarriedCounts
 pub mod CarriedFlags
+pub mod CarriedBits

@@ -8,3 +8,4 @@ pub mod FlagKinds
 pub mod MarkKinds
 pub mod CondKinds
 pub mod CountKinds
+pub mod BitKinds

@@ -9,6 +9,7 @@ pub mod MemberMoves
 pub mod CountMoves
 pub mod FlagMoves
 pub mod BitMoves
+pub mod BitWordMoves
 pub mod TicketMoves
 pub mod LookedBits
 pub mod ScanMoves

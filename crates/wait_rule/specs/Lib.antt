@@ -16,6 +16,7 @@ pub mod Rule
 pub mod Says
 pub mod Unlocks
 pub mod TableLaws
+pub mod HandedPermits
 pub mod FlagLaws
 pub mod Heeding
 pub mod Selecting
@@ -35,3 +36,5 @@ pub mod QueuePlays
 pub mod Start
 pub mod Meeting
 pub mod Tried
+pub mod Bits
+pub mod BitPlays

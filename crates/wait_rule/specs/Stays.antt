@@ -27,9 +27,9 @@ no_entries x = false
 abbrev pub only : ℕ → ℕ → Bool
 only x y = y == x
 
--- It is the same task of the same Domain in the same state, and keeps the same bits. Of all entry words but these: an
--- entry that its history had stored is stored still, or was found or taken off; an own one that no other task may take
--- off is stored still.
+-- It is the same task of the same Domain in the same state, keeps the same bits, and tries no bit that it did not try.
+-- Of all entry words but these: an entry that its history had stored is stored still, or was found or taken off; an own
+-- one that no other task may take off is stored still.
 pub record Stays (but : ℕ → Bool) (old new : Known) : Type 0 where
   pub domain : new.domain ≡ old.domain
   pub number : new.view.number ≡ old.view.number
@@ -42,7 +42,8 @@ pub record Stays (but : ℕ → Bool) (old new : Known) : Type 0 where
       → (told_of new).bits.stored (index old.view.number slot) ≡ Some e
   pub keeps : (c : Watch) → (told_of new).bits.keeps c ≡ (told_of old).bits.keeps c
   pub tries_none : TriesNone (told_of old) → TriesNone (told_of new)
-  pub tries : TriesNone (told_of old) → (c : Watch) → (told_of new).bits.pending c ≡ (told_of old).bits.pending c
+  pub tries : TriesNone (told_of old) → (c : Watch) → (told_of old).bits.pending c ≡ false
+      → (told_of new).bits.pending c ≡ false
 
 -- who owed nothing but what it is excused of owes nothing but that
 abbrev pub StaysOwing : Known → Known → Type 0

@@ -1,10 +1,12 @@
 -- To be believed.
--- What the try of a wake that was made answers.
-use Rattle.std.specs.Prelude.{ℕ, ◌≡◌, ◌&&◌, Bool, not}
+-- What the try of a wake that was made answers, and what is counted of those that failed.
+use Rattle.std.specs.Prelude.{ℕ, ◌+◌, ◌-◌, ◌^◌, ◌≡◌, ◌&&◌, Bool, not, min, Option, Some, None}
 use Rattle.wait_model.specs.declared.steps.Step.TheVariants as step
 use Rattle.wait_model.specs.Fold.{met_task}
 use Rattle.wait_model.specs.Tasks.{task_of}
+use Rattle.wait_rule.specs.declared.tries.FailedTries.{FailedTries}
 use Rattle.wait_rule.specs.declared.tries.Met.{Met}
+use Rattle.wait_rule.specs.declared.tries.TheConstants.{TRIES}
 use Rattle.wait_rule.specs.Known.{Known}
 use Rattle.wait_rule.specs.Says.{AddsOf}
 
@@ -16,3 +18,12 @@ rouses mask found = met_task mask found && not (task_of found).runnable
 abbrev pub HasTried : Known → Known → ℕ → ℕ → Met → Type 0
 HasTried old new who mask tried = AddsOf old new (λ found. step.Wake who mask found)
     (λ found. (tried.met ≡ met_task mask found) × (tried.rouse ≡ rouses mask found))
+
+-- The count of failed tries is as it was where a try was made. Else it is one more, or stands at the end of 64 bits.
+abbrev pub CountsFailed : FailedTries → FailedTries → Option Met → Type 0
+CountsFailed old new (Some tried) = new ≡ old
+CountsFailed old new None = new.count ≡ min (old.count + 1) (2 ^ 64 - 1)
+
+-- so many tries failed, one after another, as no run makes
+abbrev pub IsStarved : FailedTries → Type 0
+IsStarved failed = failed.count ≡ TRIES

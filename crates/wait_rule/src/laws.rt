@@ -6,6 +6,8 @@ ghost use Rattle.wait_rule.specs.Worn.{EntriesWearLate, MarksWearLate, HoldsWear
 ghost use Rattle.wait_rule.specs.Worn.{HoldsNote, NotesStay, JoinKeepsNotes};
 ghost use Rattle.wait_rule.specs.WorkedEvents.{WorkedEvents};
 ghost use Rattle.wait_rule.specs.WorkedHolds.{SimpleHolds, CallsRightly, PausesRightly};
+ghost use Rattle.wait_rule.specs.HandedPermits.{AllHandPermitsOn, OrdersHandPermitsOn, RuleHandsPermitsOn};
+ghost use Rattle.wait_rule.specs.HandedPermits.{NewcomersLeaveNone, PermitsJoin, StepsHandPermitsOn, WholesHandOn};
 ghost use Rattle.wait_rule.specs.Heeding.{RunsHeed, WordsHeed};
 ghost use Rattle.wait_rule.specs.FlagLaws.{FlagsComeFirst, RuleLosesNoFlag, StepsLoseNoFlag, WorkedFlags};
 ghost use Rattle.wait_rule.specs.SaidEvents.{RunsBegin, RunsFollow, WalksFollow};
@@ -130,6 +132,22 @@ pub fn words_are_accounted()
     ensures balance { AllBalance }
     ensures taken { RuleTakesMade }
     ensures all_taken { AllTakeMade }
+{}
+
+/// Permits of completions are handed on exactly on a Domain whose tasks' steps meet the model's conditions: while a
+/// task is queued at the head of a completion, and nobody holds it, the count is at most the number of tasks that were
+/// handed a permit and have still to take it. So it is after each order of allowed steps that meet them; and where the
+/// history of each task does so by itself, after each step of each order of allowed steps, and in each table that
+/// meets the rule. To a task that has joined all others it is told of the histories that it has. Calls that keep
+/// permits keep them one after another, from a task that has made no step on, which has left no entry queued.
+pub fn permits_are_handed_on()
+    ensures orders { OrdersHandPermitsOn }
+    ensures rule { RuleHandsPermitsOn }
+    ensures steps { StepsHandPermitsOn }
+    ensures all { AllHandPermitsOn }
+    ensures joins { PermitsJoin }
+    ensures newcomers { NewcomersLeaveNone }
+    ensures wholes { WholesHandOn }
 {}
 
 /// What the definitions say of small lists: of a walk that meets one of two tasks, of the last turn of a wait that

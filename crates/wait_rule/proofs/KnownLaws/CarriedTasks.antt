@@ -311,7 +311,7 @@ consumed_carried old new c n r is = step_carried (λ σ. σ) old new (step.Consu
     (consume_owing x c n r (told_of old) o))
 
 -- a publish makes the task owe wakes of its watch, and no others
-published_duty : (s o x m : Bool) → (o && not (x || not m)) ≡ false → ((s || o) && not ((x || (s && m)) || not m))
+pub published_duty : (s o x m : Bool) → (o && not (x || not m)) ≡ false → ((s || o) && not ((x || (s && m)) || not m))
     ≡ false
 published_duty false o true m is = is
 published_duty false o false m is = is

@@ -31,7 +31,7 @@ stays_on but x y z one two = record {
       (one.stands slot few out e is own)) own);
   keeps = λ c. two.keeps c ∙ one.keeps c;
   tries_none = λ none. two.tries_none (one.tries_none none);
-  tries = λ none c. two.tries (one.tries_none none) c ∙ one.tries none c;
+  tries = λ none c out. two.tries (one.tries_none none) c (one.tries none c out);
 }
 
 -- but for no entry word is as but for some
@@ -60,7 +60,7 @@ stays_bits x y domain number state awake bits = record {
   stands = λ slot few out e is own. ap (λ (b : Bits). b.stored (index x.view.number slot)) bits ∙ is;
   keeps = λ c. ap (λ (b : Bits). b.keeps c) bits;
   tries_none = λ none i c. ap (λ (b : Bits). is_trying_for (b.stored i) c) bits ∙ none i c;
-  tries = λ none c. ap (λ (b : Bits). b.pending c) bits;
+  tries = λ none c out. ap (λ (b : Bits). b.pending c) bits ∙ out;
 }
 
 pub stays_same : (k : Known) → Stays no_entries k k
@@ -116,7 +116,8 @@ look_stays old new x w knew domain number book bits = record {
   keeps = λ c. ap (λ (b : Bits). b.keeps c) bits;
   tries_none = λ none y c. ap (λ (b : Bits). is_trying_for (b.stored y) c) bits
       ∙ none_tries (told_of old) x (entry_of w) none y c;
-  tries = λ none c. ap (λ (b : Bits). b.pending c) bits ∙ same_tries (told_of old) x (entry_of w) none c;
+  tries = λ none c out. ap (λ (b : Bits). b.pending c) bits
+      ∙ (same_tries (told_of old) x (entry_of w) none c ∙ out);
 }
 
 -- an entry that was found off is stored no more
@@ -152,7 +153,7 @@ stays_owing old new s mark fewer none x o = record {
   unqueued = λ i. out_by (x.entries i) ((told_of old).bits.stored i) ((told_of new).bits.stored i) (s.still i refl)
       (o.unqueued i);
   holds = λ c. s.keeps c ∙ o.holds c;
-  tries = λ c. s.tries none c ∙ o.tries c;
+  tries = λ c. s.tries none c (o.tries c);
 }
 
 -- an entry that the task is excused of too, and then no more

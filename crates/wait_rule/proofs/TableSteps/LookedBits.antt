@@ -267,7 +267,13 @@ module _ (c : Scene) (law : Law c) (me : Sat) (h i : ℕ) (head : h < HEADS) (fe
         found = entry_word (law.table.entry x);
         is = is;
         lawful = is_entry law.table c.items law.ruled x;
-        knew = record { shown = k.shown; own = k.own; stands = k.stands; apart = k.apart };
+        knew = record {
+          shown = k.shown;
+          own = k.own;
+          stands = k.stands;
+          foreign = k.foreign;
+          apart = k.apart;
+        };
         named = ap (λ (o : Option Entry). stands_at o h) (reads law.table c.items law.ruled x)
             ∙ (sym (entry_names law.table h x small) ∙ tells);
       }

@@ -96,6 +96,7 @@ use Rattle.wait_rule.specs.QueuePlays.{
 use Rattle.wait_rule.proofs.TableSteps.ItemLists.{book_append}
 use Rattle.wait_rule.proofs.KnownLaws.AfterSteps.{notes_after}
 use Rattle.wait_rule.proofs.KnownLaws.MemberPlaces.{mark_keeps, queue_keeps}
+use Rattle.wait_rule.proofs.KnownLaws.OwnStored.{owned}
 use Rattle.wait_rule.proofs.TableSteps.KeptSteps.{IsOwn, KeepsLaw, ChangesNone, steps, all_steps, loads}
 use Rattle.wait_rule.proofs.StepKinds.EntryKinds.{reads, sees, queues, unqueues, is_entry}
 use Rattle.wait_rule.proofs.StepKinds.FlagKinds.{flags}
@@ -124,6 +125,8 @@ knew_entry s items me x ruled own d = record {
   stands = λ slot few is e q kind. reads s items ruled x ∙ ruled.own x e
       (ap (λ (u : ℕ). (s.view u).bits.stored x) (ap owner is ∙ own_index me.0.number slot few)
       ∙ (ap (λ (v : Told). v.bits.stored x) own.told ∙ q)) kind;
+  foreign = λ other. ap (λ (v : Told). v.bits.stored x) (sym own.told)
+      ∙ owned s ruled.whole.interleaved me.0.number x other;
   apart = λ h held e q same y f shows at.
       let seen = subst (λ (l : Look). Agrees h l (s.entry y)) shows
       (subst (λ (v : Told). Agrees h (v.hold.book y) (s.entry y)) own.told

@@ -72,6 +72,7 @@ may_queue_lone exclusive form lawful plain k s at few = record {
   head = head_plain 0 ∙ sym at;
   standing = record {
     lawful = lawful;
+    slot = λ _. omega arith;
     kind = λ _. plain;
     even = omega arith;
     priority = λ q. absurd (cc);

@@ -1,12 +1,10 @@
 use Rattle.std.proofs.Common.{◌∙◌, ap, sym, arith}
-use Rattle.std.specs.Prelude.{◌≡◌, ℕ}
+use Rattle.std.specs.Prelude.{ℕ}
 use Rattle.wait_model.specs.declared.layout.TheConstants.{FLAG_AT}
 use Rattle.wait_model.specs.declared.steps.Step.TheVariants as step
-use Rattle.wait_model.specs.Watches.{owner}
 use Rattle.wait_rule.specs.declared.journal.Item.TheVariants as item
 use Rattle.wait_rule.specs.Known.{Known}
 use Rattle.wait_rule.specs.Queues.{index}
-use Rattle.wait_rule.specs.Says.{added}
 use Rattle.wait_rule.specs.Plays.{seat_with}
 use Rattle.wait_rule.proofs.TableSteps.MemberMoves.{index_at, own_index}
 use Rattle.wait_rule.proofs.TableSteps.FlagMoves.{flag_load_moves}

@@ -6,12 +6,12 @@ use Rattle.wait_rule.proofs.tries.wake_tries.Goals as goal
 
 pub returns-in-Some-clause-settled : goal.returns-in-Some-clause-settled
 returns-in-Some-clause-settled c = subst (λ (k : Known). StaysSettled k c.wake_try.new.task)
-    c.loop.invariant c.in-Some.ensures.settled
+    c.loop-failed.invariant.0 c.in-Some.ensures.settled
 
 pub returns-in-Some-clause-owing : goal.returns-in-Some-clause-owing
 returns-in-Some-clause-owing c = subst (λ (k : Known). StaysOwing k c.wake_try.new.task)
-    c.loop.invariant c.in-Some.ensures.owing
+    c.loop-failed.invariant.0 c.in-Some.ensures.owing
 
 pub returns-in-Some-clause-carries : goal.returns-in-Some-clause-carries
 returns-in-Some-clause-carries c = subst (λ (k : Known). Carries unchanged k c.wake_try.new.task)
-    c.loop.invariant c.in-Some.ensures.carries
+    c.loop-failed.invariant.0 c.in-Some.ensures.carries

@@ -1,0 +1,233 @@
+-- What a hold of a completion's head owes, by the task's own steps in it, and that its unlock hands permits on.
+use Rattle.std.proofs.Common.{refl, sym, ◌∙◌, ap, subst, arith, append_assoc, append-nil, inl, inr}
+use Rattle.std.proofs.lemmas.Bool.Decides.{eqb_tells}
+use Rattle.std.specs.Prelude.{
+  ℕ,
+  ◌≡◌,
+  ◌+◌,
+  ◌-◌,
+  ◌⊎◌,
+  ◌==◌,
+  ◌&&◌,
+  not,
+  Bool,
+  true,
+  false,
+  if◌then◌else◌,
+  Option,
+  Some,
+  List,
+  [],
+  ◌∷◌,
+  ◌++◌,
+}
+use Rattle.wait_model.specs.declared.steps.Step.{Step}
+use Rattle.wait_model.specs.declared.steps.Step.TheVariants as step
+use Rattle.wait_model.specs.declared.watches.Aim.{Aim}
+use Rattle.wait_model.specs.declared.watches.Entry.{Entry}
+use Rattle.wait_model.specs.declared.watches.Watch.TheVariants as watch
+use Rattle.wait_model.specs.Fold.{after, view_of}
+use Rattle.wait_model.specs.Permits.{
+  Dealt,
+  MayGiveBack,
+  ShowsNobody,
+  after_read,
+  after_store,
+  dealt,
+  debt_after,
+  done_head,
+  is_in,
+  is_seen,
+  none_dealt,
+}
+use Rattle.wait_model.specs.Runs.{own}
+use Rattle.wait_model.specs.Views.{View, blank}
+use Rattle.wait_model.specs.Watches.{head_of, stands_at}
+use Rattle.wait_model.specs.Words.{entry_of, flag}
+use Rattle.wait_model.proofs.HistoryLaws.HoldLooks.{after_snoc}
+use Rattle.wait_model.proofs.PermitLaws.OwnTurns.{clash, deals_snoc}
+use Rattle.wait_rule.specs.HandedPermits.{HandsAt, HandsFrom}
+use Rattle.wait_rule.specs.Interleavings.{table_of}
+use Rattle.wait_rule.proofs.KnownLaws.HandedSteps.{
+  AddsNone,
+  IsAwayAt,
+  Order,
+  OrderStep,
+  away_next,
+  off_there,
+  order_step,
+  order_view,
+}
+
+-- In a hold of the head, with so many permits to hand on or to take.
+pub record Owing (d a : ℕ) (front : List Step) (n : ℕ) : Type 0 where
+  pub head : (view_of front).hold.head ≡ Some (done_head d)
+  pub away : IsAwayAt d a front
+  pub debt : (dealt d a front).debt ≡ n
+
+-- what the hold owes after one more step in it, which queues nothing and gives no lock back
+abbrev pub owed : ℕ → Step → ℕ → ℕ
+owed d (step.Load (watch.Done c) r) n = if c == d then after_read r n else n
+owed d (step.Publish (watch.Done c) m r) n = if c == d then after_store m r n else n
+owed d (step.Consume (watch.Done c) m r) n = if c == d then after_store m r n else n
+owed d (step.Unqueue y) n = n - 1
+owed d e n = n
+
+abbrev pub owed_by : ℕ → List Step → ℕ → ℕ
+owed_by d [] n = n
+owed_by d (e ∷ es) n = owed_by d es (owed d e n)
+
+abbrev pub IsInside : Step → Type 0
+IsInside (step.Lock h aim w) = ⊥
+IsInside (step.Unlock h sp) = ⊥
+IsInside (step.Queue x e) = ⊥
+IsInside e = Unit {0}
+
+abbrev pub AreInside : List Step → Type 0
+AreInside [] = Unit {0}
+AreInside (e ∷ es) = IsInside e × AreInside es
+
+inside_head : (v : View) (e : Step) → IsInside e → (after e v).hold.head ≡ v.hold.head
+inside_head v (step.Lock h aim w) is = absurd is
+inside_head v (step.Unlock h sp) is = absurd is
+inside_head v (step.Queue x e) is = absurd is
+inside_head v e is = refl
+
+inside_adds : (e : Step) → IsInside e → AddsNone e
+inside_adds (step.Queue x e) is = absurd is
+inside_adds e is = tt
+
+abbrev TakesOthers : ℕ → Step → Type 0
+TakesOthers x (step.Unqueue y) = (y == x) ≡ false
+TakesOthers x e = Unit {0}
+
+none_found : (b c l : Bool) → l ≡ false → (b && (l && c)) ≡ false
+none_found true c l is = ap (λ (t : Bool). t && c) is
+none_found false c l is = refl
+
+inside_debt : (d x : ℕ) (v : View) (w : Dealt) (n : ℕ) (e : Step) → IsInside e → TakesOthers x e → w.left ≡ false
+    → w.debt ≡ n → debt_after d x v w e ≡ owed d e n
+inside_debt d x v w n (step.Lock h aim f) is others left debt = absurd is
+inside_debt d x v w n (step.Unlock h sp) is others left debt = absurd is
+inside_debt d x v w n (step.Queue y e) is others left debt = absurd is
+inside_debt d x v w n (step.Saw y f) is others left debt =
+    let z = none_found (is_in d v && (y == x)) (not (is_seen (v.hold.book x)) && not (stands_at (entry_of f)
+    (done_head d))) w.left left in
+    let k : w.debt + flag ((is_in d v && (y == x)) && (w.left && (not (is_seen (v.hold.book x))
+    && not (stands_at (entry_of f) (done_head d))))) ≡ w.debt + 0 = ap (λ (b : Bool). w.debt + flag b) z in
+    k ∙ omega (arith, debt)
+inside_debt d x v w n (step.Unqueue y) is others left debt =
+    let k : w.debt - flag (not (y == x)) ≡ w.debt - 1 = ap (λ (b : Bool). w.debt - flag (not b)) others in
+    k ∙ ap (λ (m : ℕ). m - 1) debt
+inside_debt d x v w n (step.Load (watch.Done c) r) is others left debt =
+    ap (λ (m : ℕ). if c == d then after_read r m else m) debt
+inside_debt d x v w n (step.Publish (watch.Done c) m r) is others left debt =
+    ap (λ (k : ℕ). if c == d then after_store m r k else k) debt
+inside_debt d x v w n (step.Consume (watch.Done c) m r) is others left debt =
+    ap (λ (k : ℕ). if c == d then after_store m r k else k) debt
+inside_debt d x v w n (step.Load (watch.Plain c) r) is others left debt = debt
+inside_debt d x v w n (step.Load (watch.Bit c b) r) is others left debt = debt
+inside_debt d x v w n (step.Load (watch.Var c o) r) is others left debt = debt
+inside_debt d x v w n (step.Publish (watch.Plain c) m r) is others left debt = debt
+inside_debt d x v w n (step.Publish (watch.Bit c b) m r) is others left debt = debt
+inside_debt d x v w n (step.Publish (watch.Var c o) m r) is others left debt = debt
+inside_debt d x v w n (step.Consume (watch.Plain c) m r) is others left debt = debt
+inside_debt d x v w n (step.Consume (watch.Bit c b) m r) is others left debt = debt
+inside_debt d x v w n (step.Consume (watch.Var c o) m r) is others left debt = debt
+inside_debt d x v w n e is others left debt = debt
+
+-- the hold takes off entries of its head alone, and the own one is off
+takes_others : (d a : ℕ) (front : List Step) (e : Step) → OrderStep a front e
+    → (view_of front).hold.head ≡ Some (done_head d) → IsAwayAt d a front → TakesOthers (own a) e
+takes_others d a front (step.Unqueue y) o held w = elim (eqb_tells y (own a)) [
+  | inl q ↦ absurd (
+      let s = table_of o.order.steps in
+      let there : Some (head_of o.allowed.0.watch) ≡ Some (done_head d) =
+      sym o.allowed.2 ∙ (ap (λ (v : View). v.hold.head) (order_view a front o.order) ∙ held) in
+      let at : head_of o.allowed.0.watch ≡ done_head d = cc in
+      let stands : stands_at (Some o.allowed.0) (done_head d) ≡ true = at_head (head_of o.allowed.0.watch) (done_head d)
+      at in
+      clash (stands_at (s.entry (own a)) (done_head d))
+      (ap (λ (z : Option Entry). stands_at z (done_head d)) (ap s.entry (sym q.1) ∙ o.allowed.1) ∙ stands)
+      (off_there d a front o.order w))
+  | inr q ↦ q.0
+]
+  where
+    at_head : (h i : ℕ) → h ≡ i → (h == i) ≡ true
+    at_head h i is = grind (arith, is)
+takes_others d a front e o held w = tt
+
+pub owing_next : (d a : ℕ) (front : List Step) (n : ℕ) (e : Step) → OrderStep a front e → IsInside e
+    → Owing d a front n → Owing d a (front ++ e ∷ []) (owed d e n)
+owing_next d a front n e o is w = record {
+  head = ap (λ (v : View). v.hold.head) (after_snoc blank front e) ∙ (inside_head (view_of front) e is ∙ w.head);
+  away = away_next d a front e o (inside_adds e is) w.away;
+  debt = ap (λ (u : Dealt). u.debt) (deals_snoc d (own a) blank none_dealt front e)
+      ∙ inside_debt d (own a) (view_of front) (dealt d a front) n e is (takes_others d a front e o w.head w.away)
+      w.away.left w.debt;
+}
+
+pub owing_all : (d a : ℕ) (front : List Step) (n : ℕ) (es : List Step) → Order a (front ++ es) → AreInside es
+    → Owing d a front n → Owing d a (front ++ es) (owed_by d es n)
+owing_all d a front n [] o is w = subst (λ (l : List Step). Owing d a l n) (sym (append-nil front)) w
+owing_all d a front n (e ∷ es) o is w = subst (λ (l : List Step). Owing d a l (owed_by d es (owed d e n)))
+    (append_assoc front (e ∷ []) es)
+    (owing_all d a (front ++ e ∷ []) (owed d e n) es (subst (Order a) (sym (append_assoc front (e ∷ []) es)) o) is.1
+    (owing_next d a front n e (order_step a front e es o) is.0 w))
+
+-- a lock of the head begins a hold that owes nothing
+pub owing_lock : (d a : ℕ) (front : List Step) (h : ℕ) (aim : Option Aim) (w : ℕ) → h ≡ done_head d
+    → OrderStep a front (step.Lock h aim w) → IsAwayAt d a front → Owing d a (front ++ step.Lock h aim w ∷ []) 0
+owing_lock d a front h aim w is o k = record {
+  head = ap (λ (v : View). v.hold.head) (after_snoc blank front (step.Lock h aim w)) ∙ ap (λ (i : ℕ). Some i) is;
+  away = away_next d a front (step.Lock h aim w) o tt k;
+  debt = ap (λ (u : Dealt). u.debt) (deals_snoc d (own a) blank none_dealt front (step.Lock h aim w))
+      ∙ ap (λ (b : Bool). if b then 0 else (dealt d a front).debt) (same h (done_head d) is);
+}
+  where
+    same : (i j : ℕ) → i ≡ j → (i == j) ≡ true
+    same i j q = grind (arith, q)
+
+-- the heads of two completions are two
+pub head_apart : (c d : ℕ) → done_head d ≡ done_head c → d ≡ c
+unfolding head_of
+head_apart c d same = omega (arith, same)
+
+-- an unlock of a hold that owes nothing, or that has seen nobody queued
+pub unlock_hands : (d a : ℕ) (front : List Step) (h : ℕ) (sp : Bool) → h ≡ done_head d
+    → ((o : Order a front) → (n : ℕ) × Owing d a front n × ((n ≡ 0) ⊎ ShowsNobody (done_head d) (view_of front)))
+    → HandsAt a front (step.Unlock h sp)
+unlock_hands d a front h sp is owes xs may on made al c here = subst
+    (λ (i : ℕ). MayGiveBack i (own a) ((table_of xs).view a) (dealt i a ((table_of xs).history a)))
+    (head_apart c d (sym is ∙ here))
+    (subst (λ (v : View). MayGiveBack d (own a) v (dealt d a ((table_of xs).history a))) (sym (order_view a front o))
+    (subst (λ (l : List Step). MayGiveBack d (own a) (view_of front) (dealt d a l)) (sym made) give))
+  where
+    o : Order a front
+    o = record { steps = xs; may = may; on = on; is = made }
+
+    give : MayGiveBack d (own a) (view_of front) (dealt d a front)
+    give =
+        let k = owes o in (
+          λ left. absurd (clash (dealt d a front).left left k.1.away.left),
+          (elim k.2 [ inl none ↦ inl (k.1.debt ∙ none) | inr nobody ↦ inr nobody ]),
+        )
+
+-- steps that give no lock back and queue nothing have no condition
+abbrev pub IsQuiet : Step → Type 0
+IsQuiet (step.Unlock h sp) = ⊥
+IsQuiet (step.Queue x e) = ⊥
+IsQuiet e = Unit {0}
+
+abbrev pub AreQuiet : List Step → Type 0
+AreQuiet [] = Unit {0}
+AreQuiet (e ∷ es) = IsQuiet e × AreQuiet es
+
+quiet_hands : (a : ℕ) (front : List Step) (e : Step) → IsQuiet e → HandsAt a front e
+quiet_hands a front (step.Unlock h sp) is = absurd is
+quiet_hands a front (step.Queue x e) is = absurd is
+quiet_hands a front e is = λ xs may on made al d. tt
+
+pub all_quiet : (a : ℕ) (front es : List Step) → AreQuiet es → HandsFrom a front es
+all_quiet a front [] is = tt
+all_quiet a front (e ∷ es) is = (quiet_hands a front e is.0, all_quiet a (front ++ e ∷ []) es is.1)

@@ -70,7 +70,7 @@ use Rattle.wq_head.specs.Holds.{IsHolding}
 use Rattle.wq_head.specs.Members.{AreStanding}
 use Rattle.wq_head.proofs.FirstAndLast.{below_or}
 use Rattle.wq_head.specs.Looks.{Looks, IsLow, AreLow, AreSeen, IsBetween, IsFirst, IsLast, place_of}
-use Rattle.wq_head.specs.Adds.{IsFor, IsFullKind, HasAdded, HasQueued, HasRemoved, tail_entry, priority_entry}
+use Rattle.wq_head.specs.Adds.{IsForPlain, IsFullKind, HasAdded, HasQueued, HasRemoved, tail_entry, priority_entry}
 use Rattle.wq_head.proofs.OneMoreLook.{saw_told, saw_looks, whole_of, looks_on, holding_on}
 use Rattle.wait_rule.specs.Says.{stored_with}
 use Rattle.wait_rule.proofs.KnownLaws.MemberBits.{told_stored}
@@ -214,11 +214,17 @@ kind_simple k (inl a) = ap is_simple a
 kind_simple k (inr (inl b)) = ap is_simple b
 kind_simple k (inr (inr w)) = ap is_simple w
 
-pub plain_stands : (x : ℕ) (b : Bool) (w : Watch) (k : Kind) (p : ℕ) → IsFor w k → IsAfter p
+no_bit : (k : Kind) → IsFullKind k → k ≡ kind.Bit → ⊥
+no_bit k (inl a) is = absurd (cc)
+no_bit k (inr (inl b)) is = absurd (cc)
+no_bit k (inr (inr w)) is = absurd (cc)
+
+pub plain_stands : (x : ℕ) (b : Bool) (w : Watch) (k : Kind) (p : ℕ) → IsForPlain w k → IsAfter p
     → IsStanding x (tail_entry b w k p)
 plain_stands x b w k p is at = subst (λ (c : Watch). IsStanding x (tail_entry b c k p)) (sym is.1) (record {
   lawful = record { place = at.small; suited = (few, or_kind k is.3, λ far. absurd (omega (arith, is.2))) };
   kind = λ _. kind_simple k is.3;
+  slot = λ bit. absurd (no_bit k is.3 bit);
   even = at.even;
   priority = λ e. absurd (cc);
   plain = λ _. at.middle_on;
@@ -227,7 +233,7 @@ plain_stands x b w k p is at = subst (λ (c : Watch). IsStanding x (tail_entry b
     few : is.0 < PLAIN_CONDITIONS
     few = omega (arith, is.2)
 
-pub priority_stands : (x : ℕ) (w : Watch) (k : Kind) (p : ℕ) → IsFor w k → IsBelow p → x % 2 ≡ 0
+pub priority_stands : (x : ℕ) (w : Watch) (k : Kind) (p : ℕ) → IsForPlain w k → IsBelow p → x % 2 ≡ 0
     → x < SLOTS * PRIORITY_TASKS → IsStanding x (priority_entry w k p)
 priority_stands x w k p is at first low =
     subst (λ (c : Watch). IsStanding x (priority_entry c k p)) (sym is.1) (record {
@@ -236,6 +242,7 @@ priority_stands x w k p is at first low =
         suited = (few, or_kind k is.3, λ far. absurd (omega (arith, is.2)));
       };
       kind = λ _. kind_simple k is.3;
+      slot = λ bit. absurd (no_bit k is.3 bit);
       even = at.even;
       priority = λ e. (refl, (at.small, (first, low)));
       plain = λ e. absurd (cc);
@@ -257,7 +264,7 @@ no_and : (b : Bool) → (b && false) ≡ false
 no_and true = refl
 no_and false = refl
 
-pub plain_tries : (w : Watch) (k : Kind) (exclusive priority : Bool) (place : ℕ) → IsFor w k
+pub plain_tries : (w : Watch) (k : Kind) (exclusive priority : Bool) (place : ℕ) → IsForPlain w k
     → TriesNo (record { watch = w; place = place; exclusive = exclusive; priority = priority; kind = k })
 plain_tries w k exclusive priority place is c = subst (λ (v : Watch). is_trying_for (Some (record {
   watch = v;
@@ -443,7 +450,7 @@ module _ (seen new : Known) (x : ℕ) (e : Entry) (is : new ≡ stored_with seen
   pub queue_memberd : (told_of new).bits.stored x ≡ Some e
   queue_memberd = ap (λ (v : Told). v.bits.stored x) queue_told ∙ put_same (told_of seen).bits.stored x (Some e)
 
-  queue_other : (y : ℕ) → (y == x) ≡ false → (told_of new).bits.stored y ≡ (told_of seen).bits.stored y
+  pub queue_other : (y : ℕ) → (y == x) ≡ false → (told_of new).bits.stored y ≡ (told_of seen).bits.stored y
   queue_other y out = ap (λ (v : Told). v.bits.stored y) queue_told
       ∙ put_at (λ (s : Option Entry). s ≡ (told_of seen).bits.stored y) (told_of seen).bits.stored x (Some e) y
       (λ same. absurd (other_is x y out same)) (λ _. refl)
@@ -460,7 +467,7 @@ module _ (seen new : Known) (x : ℕ) (e : Entry) (is : new ≡ stored_with seen
     tries_none = λ none y c. ap (λ (v : Told). is_trying_for (v.bits.stored y) c) queue_told
         ∙ put_at (λ (s : Option Entry). is_trying_for s c ≡ false) (told_of seen).bits.stored x (Some e) y
         (λ _. shared c) (λ _. none y c);
-    tries = λ none c. ap (λ (v : Told). v.bits.pending c) queue_told;
+    tries = λ none c out. ap (λ (v : Told). v.bits.pending c) queue_told ∙ out;
   }
 
   pub queue_owes : (f : Excuse) → OwesBut f (told_of seen) → OwesBut (also x f) (told_of new)
@@ -573,7 +580,7 @@ module _ (old new : Known) (who slot : ℕ) (is : new ≡ stored_with old (step.
       tries_none = λ none y c. ap (λ (v : Told). is_trying_for (v.bits.stored y) c) remove_told
           ∙ put_at (λ (s : Option Entry). is_trying_for s c ≡ false) (told_of old).bits.stored (index who slot) None y
           (λ _. refl) (λ _. none y c);
-      tries = λ none c. ap (λ (v : Told). v.bits.pending c) remove_told;
+      tries = λ none c out. ap (λ (v : Told). v.bits.pending c) remove_told ∙ out;
     };
     settled = λ f o. owes_out (index who slot) f (told_of new) (remove_owes f o) remove_out;
     carries = remove_carried;

@@ -7,6 +7,7 @@ use Rattle.std.specs.Prelude.{
   ◌+◌,
   ◌-◌,
   ◌*◌,
+  ◌%◌,
   ◌≡◌,
   ◌≢◌,
   ◌<◌,
@@ -26,14 +27,12 @@ use Rattle.std.specs.Prelude.{
   None,
 }
 use Rattle.wait_model.specs.declared.layout.TheConstants.{ENTRIES}
-use Rattle.wait_model.specs.declared.watches.Watch.{Watch}
-use Rattle.wait_model.specs.declared.watches.Watch.TheVariants as watch
 use Rattle.wait_model.specs.declared.watches.Entry.{Entry}
 use Rattle.wait_model.specs.declared.watches.Aim.{Aim}
 use Rattle.wait_model.specs.declared.queues.Walking.{Walking}
 use Rattle.wait_model.specs.declared.steps.Step.TheVariants as step
 use Rattle.wait_model.specs.Functions.{put}
-use Rattle.wait_model.specs.Watches.{same, owner, mask_of}
+use Rattle.wait_model.specs.Watches.{same, is_bit, owner, mask_of}
 use Rattle.wait_model.specs.Views.{View as Told, Look, unseen, off, elsewhere, shown}
 use Rattle.wait_model.specs.Fold.{met_task}
 use Rattle.wait_model.specs.Programs.{past}
@@ -59,10 +58,9 @@ use Rattle.wait_rule.specs.Says.{told_of, noted, added}
 use Rattle.wait_rule.specs.Shown.{look_entry, shown_entry}
 use Rattle.wait_rule.proofs.KnownLaws.AfterSteps.{told_added, noted_added}
 use Rattle.wq_head.specs.declared.functions.ShownEntry.{ShownEntry}
-use Rattle.wq_head.specs.Walks.{IsFull}
 use Rattle.wq_head.specs.Walking.{IsNextEntry, AreCalled, called, rest_of, with_left, is_used}
 use Rattle.wq_head.proofs.MemberStands.{look_is_shown}
-use Rattle.wq_head.proofs.ShownMembers.{watch_is}
+use Rattle.wq_head.proofs.FullHeads.{bit_kind, one_of}
 
 -- the first of two entries that are due
 first_alone : (d s : Bool) (x : ℕ) → (d ≡ true → s ≡ false) → first_due true d s x ≡ Some x
@@ -81,16 +79,17 @@ both_true true true true one two three = absurd (cc)
 both_true true false c one two three = absurd (cc)
 both_true false b c one two three = absurd (cc)
 
+and_first : (a b c : Bool) → (a && (b && not c)) ≡ true → a ≡ true
+and_first true b c is = refl
+and_first false b c is = absurd (cc)
+
 both_parts : (a b c : Bool) → (a && (b && not c)) ≡ true → (b ≡ true) × (c ≡ false)
 both_parts true true false is = (refl, refl)
 both_parts true true true is = absurd (cc)
 both_parts true false c is = absurd (cc)
 both_parts false b c is = absurd (cc)
 
-same_plain_self : (c : ℕ) → same (watch.Plain c) (watch.Plain c) ≡ true
-same_plain_self c = eq-eqb c c refl
-
-module _ (a : Aim) (k : Known) (v : ShownEntry) (full : IsFull a.watch) (w : Walking) (n : IsNextEntry a k w v)
+module _ (a : Aim) (k : Known) (v : ShownEntry) (w : Walking) (n : IsNextEntry a k w v)
     (who mask found : ℕ) (mine : who ≡ owner v.member) (masked : mask ≡ mask_of a.mode) where
   abbrev notes : Notes
   notes = noted k
@@ -113,40 +112,51 @@ module _ (a : Aim) (k : Known) (v : ShownEntry) (full : IsFull a.watch) (w : Wal
   used_is : notes.used ≡ false
   used_is = n.calling.walking.held.used ∙ ap is_used rest_is
 
-  calls : AreCalled k w.place
+  calls : AreCalled a k w.place
   calls = n.calling.walking.called
 
   shows_entry : shown_entry k v.member ≡ Some v.entry
   shows_entry = ap look_entry n.shows
 
-  -- the entry at hand is due
-  for_watch : same v.entry.watch a.watch ≡ true
-  for_watch =
-      let s = (n.calling.standing v.member (let low = n.counts in omega arith)).entry n.counts v.entry shows_entry in
-      ap (λ (x : Watch). same x a.watch)
-      (watch_is a.watch full v.member v.entry s.0 (s.1 ∙ n.calling.walking.held.at))
-      ∙ (ap (λ (x : Watch). same x x) full.1 ∙ same_plain_self full.0)
+  -- an entry for a bit stands in slot 0, and a task has one entry there
+  even_index : (x : ℕ) (e : Entry) → x < ENTRIES → shown_entry k x ≡ Some e → same e.watch a.watch ≡ true
+      → is_bit a.watch ≡ true → x % 2 ≡ 0
+  even_index x e low is sought bit =
+      let s = ((n.calling.standing x (omega arith)).entry low e is).0 in
+      s.slot (bit_kind x e s ((one_of e.watch a.watch sought).bit ∙ bit))
 
+  one_slot : (x y : ℕ) → x % 2 ≡ 0 → y % 2 ≡ 0 → owner y ≡ owner x → (y ≡ x → ⊥) → ⊥
+  unfolding owner
+  one_slot x y even also of_task other = other (omega (arith, even, also, of_task))
+
+  -- the entry at hand is due
   due_here : is_due view notes a.watch v.member ≡ true
   due_here = both_true (is_for_look a.watch (view.hold.book v.member)) (is_ahead notes.from (view.hold.book v.member))
-      (notes.called v.member) (ap (is_for_look a.watch) n.shows ∙ for_watch)
+      (notes.called v.member) (ap (is_for_look a.watch) n.shows ∙ n.sought)
       (ap (is_ahead notes.from) n.shows ∙ ahead_here) (calls.ahead v.member v.entry n.counts shows_entry n.behind)
     where
       ahead_here : nat_le notes.from v.entry.place ≡ true
       ahead_here = let low = calls.from in let later = n.behind in grind (arith, nat_tests, low, later)
 
-  -- another one that is due stands after it
-  other_due : (y : ℕ) → y < ENTRIES → (y ≡ v.member → ⊥) → is_due view notes a.watch y ≡ true
-      → (e : Entry) × (view.hold.book y ≡ shown e) × (v.entry.place < e.place)
-  other_due y low other due = by (view.hold.book y) refl
+  -- another one that is due stands after it; where the walk is for a bit, no other slot of a task has an entry for it
+  other_due : (y : ℕ) → y < ENTRIES → (y ≡ v.member → ⊥) → owner y ≡ owner v.member
+      → is_due view notes a.watch y ≡ true → (e : Entry) × (view.hold.book y ≡ shown e) × (v.entry.place < e.place)
+  other_due y low other of_task due = by (view.hold.book y) refl
     where
       parts : (is_ahead notes.from (view.hold.book y) ≡ true) × (notes.called y ≡ false)
       parts = both_parts (is_for_look a.watch (view.hold.book y)) (is_ahead notes.from (view.hold.book y))
           (notes.called y) due
 
-      stands : (e : Entry) → view.hold.book y ≡ shown e → nat_le notes.from e.place ≡ true → v.entry.place < e.place
-      stands e is ahead = decide (dec_le w.place e.place)
+      stands : (e : Entry) → view.hold.book y ≡ shown e → same e.watch a.watch ≡ true
+          → nat_le notes.from e.place ≡ true → v.entry.place < e.place
+      stands e is sought ahead = decide (dec_le w.place e.place)
         where
+          of_bit : (b : Bool) → is_bit a.watch ≡ b → is_bit a.watch ≡ false
+          of_bit false none = none
+          of_bit true bit = absurd (one_slot v.member y
+              (even_index v.member v.entry n.counts shows_entry n.sought bit)
+              (even_index y e low (ap look_entry is) sought bit) of_task other)
+
           is_shown : shown_entry k y ≡ Some e
           is_shown = ap look_entry is
 
@@ -160,7 +170,8 @@ module _ (a : Aim) (k : Known) (v : ShownEntry) (full : IsFull a.watch) (w : Wal
               apart (no not_past) least = absurd (other (n.apart y e low is (omega (arith, not_past, least))))
           decide (no sooner) =
               let from_low : notes.from ≤ e.place = grind (arith, nat_tests, ahead) in
-              let was = calls.before y e low is_shown from_low (omega (arith, sooner)) in
+              let was = calls.before (of_bit (is_bit a.watch) refl) y e low is_shown sought from_low
+              (omega (arith, sooner)) in
               let now = parts.1 in
               absurd (cc)
 
@@ -169,15 +180,21 @@ module _ (a : Aim) (k : Known) (v : ShownEntry) (full : IsFull a.watch) (w : Wal
       by unseen is = let clash = ap (is_ahead notes.from) (sym is) ∙ parts.0 in absurd (cc)
       by off is = let clash = ap (is_ahead notes.from) (sym is) ∙ parts.0 in absurd (cc)
       by elsewhere is = let clash = ap (is_ahead notes.from) (sym is) ∙ parts.0 in absurd (cc)
-      by (shown e) is = (e, is, stands e is (ap (is_ahead notes.from) (sym is) ∙ parts.0))
+      by (shown e) is = (
+        e,
+        is,
+        stands e is (sym (ap (is_for_look a.watch) is) ∙ and_first (is_for_look a.watch (view.hold.book y))
+            (is_ahead notes.from (view.hold.book y)) (notes.called y) due)
+            (ap (is_ahead notes.from) (sym is) ∙ parts.0),
+      )
 
   abbrev sooner_of : ℕ → ℕ → Bool
   sooner_of x y = is_sooner (look_place (view.hold.book x)) (look_place (view.hold.book y))
 
-  sooner_here : (y : ℕ) → y < ENTRIES → (y ≡ v.member → ⊥) → is_due view notes a.watch y ≡ true
-      → (sooner_of v.member y ≡ true) × (sooner_of y v.member ≡ false)
-  sooner_here y low other due =
-      let d = other_due y low other due in
+  sooner_here : (y : ℕ) → y < ENTRIES → (y ≡ v.member → ⊥) → owner y ≡ owner v.member
+      → is_due view notes a.watch y ≡ true → (sooner_of v.member y ≡ true) × (sooner_of y v.member ≡ false)
+  sooner_here y low other of_task due =
+      let d = other_due y low other of_task due in
       let later = d.2 in (
         (λ i. is_sooner (look_place (n.shows i)) (look_place (d.1 i))) ∙ grind (arith, nat_tests, later),
         (λ i. is_sooner (look_place (d.1 i)) (look_place (n.shows i))) ∙ grind (arith, nat_tests, later),
@@ -192,6 +209,14 @@ module _ (a : Aim) (k : Known) (v : ShownEntry) (full : IsFull a.watch) (w : Wal
       by (yes low) = inl (omega (arith, mine, low))
       by (no high) = inr (omega (arith, mine, high))
 
+  first_owner : owner (2 * who) ≡ who
+  unfolding owner
+  first_owner = omega arith
+
+  second_owner : owner (2 * who + 1) ≡ who
+  unfolding owner
+  second_owner = omega arith
+
   pub callee_is : callee view notes a.watch who ≡ Some v.member
   callee_is = elim owner_of [
     | inl first ↦
@@ -200,7 +225,8 @@ module _ (a : Aim) (k : Known) (v : ShownEntry) (full : IsFull a.watch) (w : Wal
         (sooner_of (2 * who + 1) (2 * who)) (2 * who)) due
         ∙ (first_alone (is_due view notes a.watch (2 * who + 1)) (sooner_of (2 * who + 1) (2 * who)) (2 * who)
         (λ d. ap (sooner_of (2 * who + 1)) (sym first) ∙ (sooner_here (2 * who + 1)
-        (let low = n.counts in omega (arith, first, low)) (λ same. omega (arith, first, same)) d).1)
+        (let low = n.counts in omega (arith, first, low)) (λ same. omega (arith, first, same)) (second_owner ∙ mine)
+        d).1)
         ∙ ap (λ (x : ℕ). Some x) (sym first))
     | inr second ↦
         let due = ap (is_due view notes a.watch) (sym second) ∙ due_here in
@@ -208,7 +234,8 @@ module _ (a : Aim) (k : Known) (v : ShownEntry) (full : IsFull a.watch) (w : Wal
         (sooner_of (2 * who + 1) (2 * who)) (2 * who)) due
         ∙ (second_alone (is_due view notes a.watch (2 * who)) (sooner_of (2 * who + 1) (2 * who)) (2 * who)
         (λ d. ap (λ (x : ℕ). sooner_of x (2 * who)) (sym second) ∙ (sooner_here (2 * who)
-        (let low = n.counts in omega (arith, second, low)) (λ same. omega (arith, second, same)) d).0)
+        (let low = n.counts in omega (arith, second, low)) (λ same. omega (arith, second, same)) (first_owner ∙ mine)
+        d).0)
         ∙ ap (λ (x : ℕ). Some x) (sym second))
   ]
 
@@ -258,15 +285,15 @@ module _ (a : Aim) (k : Known) (v : ShownEntry) (full : IsFull a.watch) (w : Wal
   same_shown : (x : ℕ) → shown_entry woke x ≡ shown_entry k x
   same_shown x = ap (λ (u : Told). look_entry (u.hold.book x)) (told_added k (item.Made (step.Wake who mask found)))
 
-  pub wake_called : AreCalled woke (v.entry.place + 1)
+  pub wake_called : AreCalled a woke (v.entry.place + 1)
   wake_called = record {
     from = let low = calls.from in let later = n.behind in omega (arith, wake_from, low, later);
-    before = λ x e low is after_from before.
+    before = λ no_bit x e low is sought after_from before.
         let was : shown_entry k x ≡ Some e = sym (same_shown x) ∙ is in
         let from_low : notes.from ≤ e.place = omega (arith, wake_from, after_from) in
         ap (λ (f : ℕ → Bool). f x) wake_called_is
         ∙ put_at (λ (b : Bool). b ≡ true) notes.called v.member true x (λ _. refl)
-        (λ other. reach x e low was from_low before other (dec_le w.place e.place));
+        (λ other. reach no_bit x e low was sought from_low before other (dec_le w.place e.place));
     ahead = λ x e low is later.
         let was : shown_entry k x ≡ Some e = sym (same_shown x) ∙ is in
         ap (λ (f : ℕ → Bool). f x) wake_called_is
@@ -281,9 +308,11 @@ module _ (a : Aim) (k : Known) (v : ShownEntry) (full : IsFull a.watch) (w : Wal
           let place_is : e.place ≡ v.entry.place = ap (λ (f : Entry). f.place) e_is in
           omega (arith, place_is, later)
 
-      reach : (x : ℕ) (e : Entry) → x < ENTRIES → shown_entry k x ≡ Some e → notes.from ≤ e.place
-          → e.place < v.entry.place + 1 → x ≢ v.member → Dec (w.place ≤ e.place) → notes.called x ≡ true
-      reach x e low was from_low before other (yes later) =
+      reach : is_bit a.watch ≡ false → (x : ℕ) (e : Entry) → x < ENTRIES → shown_entry k x ≡ Some e
+          → same e.watch a.watch ≡ true → notes.from ≤ e.place → e.place < v.entry.place + 1 → x ≢ v.member
+          → Dec (w.place ≤ e.place) → notes.called x ≡ true
+      reach no_bit x e low was sought from_low before other (yes later) =
           let least = n.first x e low was later in
           absurd (other (n.apart x e low (look_is_shown (view.hold.book x) e was) (omega (arith, before, least))))
-      reach x e low was from_low before other (no sooner) = calls.before x e low was from_low (omega (arith, sooner))
+      reach no_bit x e low was sought from_low before other (no sooner) =
+          calls.before no_bit x e low was sought from_low (omega (arith, sooner))

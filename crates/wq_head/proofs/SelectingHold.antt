@@ -14,7 +14,15 @@ use Rattle.wq_head.specs.declared.looks.ShownMember.{ShownMember}
 use Rattle.wq_head.specs.Holds.{IsHolding}
 use Rattle.wq_head.specs.Looks.{Looks}
 use Rattle.wq_head.specs.Members.{AreStanding, member_of}
-use Rattle.wq_head.specs.Selects.{HasSelected, IsSimpleHold, KeepsHold, Selects, ShowsNoEntry, EndsSelection}
+use Rattle.wq_head.specs.Selects.{
+  HasSelected,
+  IsSimpleHold,
+  KeepsHold,
+  Selects,
+  ShowsNoEntry,
+  EndsSelection,
+  simple_aim,
+}
 use Rattle.wq_head.specs.Selecting.{IsFirstEntry, HasTaken}
 use Rattle.wq_head.proofs.CountedLooks.{marked_longer}
 use Rattle.wq_head.proofs.KeptHolds.{hold_on, hold_looks, hold_holds}
@@ -23,6 +31,7 @@ use Rattle.wq_head.proofs.QueuePositions.{at_in, split, is_before, one_more, tak
 use Rattle.std.proofs.lemmas.List.{take_all}
 use Rattle.wq_head.proofs.ShownQueue.{queue_in_order, queue_has, queue_of}
 use Rattle.wq_head.proofs.SimpleEntries.{simple_counted}
+use Rattle.wq_head.proofs.FullHeads.{one_of, same_self}
 
 -- a head has as many members as there are, at most
 few_with : (at : ℕ → Option ℕ) (n : ℕ) → length (queue_below at n) ≤ n → (o : Option ℕ)
@@ -187,7 +196,9 @@ module _ (old now found : Known) (i n : ℕ) (h : InSelection old now found i n)
     counts = λ walk is _.
         let both : Some walk ≡ Some s.walk = sym is ∙ s.under.under in
         let walk_is : walk ≡ s.walk = cc in
-        inl (ap (λ (v : _). counted v.watch) walk_is ∙ (ap counted s.under.watch ∙ simple_counted now.at));
+        inl (ap (λ (v : _). counted v.watch) walk_is
+        ∙ (sym (one_of (simple_aim now.at).watch s.walk.watch (s.under.watch (simple_aim now.at).watch
+        ∙ same_self (simple_aim now.at).watch)).counts ∙ simple_counted now.at));
   }
 
   -- at the end no entry is left

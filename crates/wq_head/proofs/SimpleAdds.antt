@@ -3,10 +3,14 @@ use Rattle.std.proofs.Common.{refl, subst, sym, inl, inr, arith}
 use Rattle.std.specs.Prelude.{ℕ, ◌≡◌, ◌&&◌, Bool, true, false, Some}
 use Rattle.wait_model.specs.declared.watches.Watch.{Watch}
 use Rattle.wait_model.specs.declared.watches.Kind.{Kind}
+use Rattle.wait_model.specs.declared.watches.Kind.TheVariants as kind
 use Rattle.wait_model.specs.Views.{is_trying_for}
 use Rattle.wait_rule.specs.Members.{IsStanding}
 use Rattle.wq_head.specs.Adds.{IsForTail, tail_entry}
 use Rattle.wq_head.proofs.AddedEntries.{IsAfter, TriesNo, plain_stands, plain_tries}
+
+no_bit : (k : Kind) → k ≡ kind.Simple → k ≡ kind.Bit → ⊥
+no_bit k simple bit = absurd (cc)
 
 pub tail_stands : (x : ℕ) (b : Bool) (w : Watch) (k : Kind) (p : ℕ) → IsForTail w k → IsAfter p
     → IsStanding x (tail_entry b w k p)
@@ -15,6 +19,7 @@ tail_stands x b w k p (inr (simple, inl plain)) at = subst (λ (c : Watch). IsSt
     (sym plain.1) (record {
       lawful = record { place = at.small; suited = (plain.3, inr (inr (inr simple)), λ far. simple) };
       kind = λ low. let high = plain.2 in absurd (omega (arith, low, high));
+      slot = λ bit. absurd (no_bit k simple bit);
       even = at.even;
       priority = λ e. absurd (cc);
       plain = λ _. at.middle_on;
@@ -23,6 +28,7 @@ tail_stands x b w k p (inr (simple, inr done)) at = subst (λ (c : Watch). IsSta
     (sym done.1) (record {
       lawful = record { place = at.small; suited = (done.2, simple) };
       kind = tt;
+      slot = λ bit. absurd (no_bit k simple bit);
       even = at.even;
       priority = λ e. absurd (cc);
       plain = λ _. at.middle_on;

@@ -14,7 +14,7 @@ use Rattle.wait_model.specs.Words.{Suited}
 use Rattle.wait_rule.specs.Queues.{simple_watch, walk_of_hold}
 use Rattle.wq_head.specs.Selects.{simple_aim}
 use Rattle.wait_rule.specs.Members.{IsStanding}
-use Rattle.wq_head.proofs.ShownMembers.{hashed_low}
+use Rattle.wq_head.proofs.FullHeads.{hashed_low}
 
 -- only the last plain conditions and completions have simple heads
 simple_kind : (w : Watch) (k : Kind) → Suited w k → FIRST_SIMPLE_HEAD ≤ head_of w → k ≡ kind.Simple

@@ -18,7 +18,7 @@ use Rattle.wait_model.specs.declared.watches.Watch.TheVariants as watch
 use Rattle.wait_model.specs.Fold.{begun}
 use Rattle.wait_model.specs.Tasks.{meets}
 use Rattle.wait_model.specs.Views.{View as Told, Walk, Look, unseen, off, elsewhere, shown, passed, all_passed}
-use Rattle.wait_model.specs.Watches.{counted, head_of, mask_of, same}
+use Rattle.wait_model.specs.Watches.{head_of, mask_of, same}
 use Rattle.wait_model.proofs.HistoryLaws.HoldBooks.{all_passed_of}
 use Rattle.wait_rule.specs.Known.{Known}
 use Rattle.wait_rule.specs.Queues.{IsIdle, IsWholeBook, simple_watch, walk_of_hold}
@@ -33,7 +33,8 @@ use Rattle.wq_head.specs.Walking.{IsUnder}
 use Rattle.wq_head.specs.Walks.{HasEnded, still_owed}
 use Rattle.wq_head.proofs.CarriedHolds.{unlock_carried, unlock_free, wake_carried}
 use Rattle.wq_head.proofs.LockWaits.{locked_at, locked_told, unlocked_stays}
-use Rattle.wq_head.proofs.SimpleEntries.{simple_counted, walk_is_simple}
+use Rattle.wq_head.proofs.SimpleEntries.{walk_is_simple}
+use Rattle.wq_head.proofs.FullHeads.{one_of}
 use Rattle.wq_head.proofs.WalkUnlock.{owes_ended}
 
 -- a watch with a simple head is that head's own
@@ -56,19 +57,6 @@ own_done d = by (nat_lt (FIRST_DONE_HEAD + d) FIRST_DONE_HEAD) (grind (arith, na
     by true is = absurd (cc)
     by false is = ap watch.Done (omega arith)
 
--- watches of counts that are the same one
-same_counted : (c d : Watch) → counted c ≡ true → same c d ≡ true → d ≡ c
-same_counted (watch.Plain c) (watch.Plain d) count is = ap watch.Plain (sym (eqb-true c d is))
-same_counted (watch.Plain c) (watch.Done d) count is = absurd (cc)
-same_counted (watch.Plain c) (watch.Bit w b) count is = absurd (cc)
-same_counted (watch.Plain c) (watch.Var v o) count is = absurd (cc)
-same_counted (watch.Done c) (watch.Plain d) count is = absurd (cc)
-same_counted (watch.Done c) (watch.Done d) count is = ap watch.Done (sym (eqb-true c d is))
-same_counted (watch.Done c) (watch.Bit w b) count is = absurd (cc)
-same_counted (watch.Done c) (watch.Var v o) count is = absurd (cc)
-same_counted (watch.Bit w b) d count is = absurd (cc)
-same_counted (watch.Var v o) d count is = absurd (cc)
-
 and_left : (a b : Bool) → (a && b) ≡ true → a ≡ true
 and_left true b is = refl
 and_left false b is = absurd (cc)
@@ -78,13 +66,13 @@ and_right true b is = is
 and_right false b is = absurd (cc)
 
 -- a lock begins the walk of its aim, or goes on with one of that watch and mode
-begun_under : (a : Aim) (v : Told) (o : Option Walk) → counted a.watch ≡ true → v.walk ≡ begun o (Some a)
+begun_under : (a : Aim) (v : Told) (o : Option Walk) → v.walk ≡ begun o (Some a)
     → (w : Walk) × IsUnder a v w
-begun_under a v None count is = (
+begun_under a v None is = (
   record { watch = a.watch; mask = mask_of a.mode; from = 0 },
-  record { under = is; watch = refl; mask = refl },
+  record { under = is; watch = λ c. refl; mask = refl },
 )
-begun_under a v (Some w) count is = by (same a.watch w.watch && (w.mask == mask_of a.mode)) refl
+begun_under a v (Some w) is = by (same a.watch w.watch && (w.mask == mask_of a.mode)) refl
   where
     by : (b : Bool) → (same a.watch w.watch && (w.mask == mask_of a.mode)) ≡ b → (u : Walk) × IsUnder a v u
     by true goes_on = (
@@ -95,7 +83,9 @@ begun_under a v (Some w) count is = by (same a.watch w.watch && (w.mask == mask_
           mask = mask_of a.mode;
           from = 0;
         })) goes_on;
-        watch = same_counted a.watch w.watch count (and_left (same a.watch w.watch) (w.mask == mask_of a.mode) goes_on);
+        watch = λ c.
+            let one = one_of a.watch w.watch (and_left (same a.watch w.watch) (w.mask == mask_of a.mode) goes_on) in
+            sym (one.likes c);
         mask = eqb-true w.mask (mask_of a.mode) (and_right (same a.watch w.watch) (w.mask == mask_of a.mode) goes_on);
       },
     )
@@ -107,7 +97,7 @@ begun_under a v (Some w) count is = by (same a.watch w.watch && (w.mask == mask_
           mask = mask_of a.mode;
           from = 0;
         })) anew;
-        watch = refl;
+        watch = λ c. refl;
         mask = refl;
       },
     )
@@ -118,7 +108,7 @@ pub locked_simple : (old new : Known) (h : ℕ) → FIRST_SIMPLE_HEAD ≤ h → 
 locked_simple old new h high l =
     let at_h = locked_at old new h (walk_of_hold h None) l in
     let told = locked_told old new h (walk_of_hold h None) l in
-    let w = begun_under (simple_aim h) (told_of new) (told_of old).walk (simple_counted h)
+    let w = begun_under (simple_aim h) (told_of new) (told_of old).walk
     (ap (λ (v : Told). v.walk) told ∙ ap (begun (told_of old).walk) (walk_is_simple h high)) in
     record {
       simple = subst (λ (g : ℕ). FIRST_SIMPLE_HEAD ≤ g) (sym at_h) high;
@@ -187,7 +177,7 @@ module _ (start mid new : Known) (spent : Bool) (stays : Stays no_entries start 
       unqueued = λ i. out_by (x.entries i) ((told_of start).bits.stored i) ((told_of new).bits.stored i)
           (stays_new.still i refl) (o.unqueued i);
       holds = λ c. stays_new.keeps c ∙ o.holds c;
-      tries = λ c. stays_new.tries none c ∙ o.tries c;
+      tries = λ c. stays_new.tries none c (o.tries c);
     };
   }
 

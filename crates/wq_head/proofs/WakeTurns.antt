@@ -68,7 +68,7 @@ module _ (start mid new : Known) (r : WakeRun) (h found : ℕ) (at : IsAt start 
 
     pub first_walks : (three : Known) → Locks new three h (Some r.aim)
         → InWalk r.aim start three (first_counts r.aim)
-    first_walks three l = begins_walk r.aim at.full start three at.up at.idle
+    first_walks three l = begins_walk r.aim start three at.up at.idle at.tries
         (subst (λ (i : ℕ). HasLocked start three i (Some r.aim)) at_h (locked_full r.aim at.full start three h at_h
         (turn_locked start mid new h r.ticket found drawn is same (walk_of_hold h (Some r.aim)) three l)))
 
@@ -131,6 +131,7 @@ module _ (start now : Known) (r : WakeRun) where
       up = at.up;
       idle = at.idle;
       full = at.full;
+      tries = at.tries;
       small = at.small;
       stands = draws start new (head_of r.aim.watch) n (is ∙ (λ i. added (at.stands i) (item.Drawn (at_h i) n)));
     }
@@ -140,6 +141,7 @@ module _ (start now : Known) (r : WakeRun) where
       up = at.up;
       idle = at.idle;
       full = at.full;
+      tries = at.tries;
       small = at.small;
       stands = (
         now,
@@ -157,6 +159,7 @@ module _ (start mid new : Known) (r : WakeRun) (h found : ℕ) (at_h : h ≡ hea
     up = at.up;
     idle = at.idle;
     full = at.full;
+    tries = at.tries;
     small = at.small;
     stands = first_waits start mid new r h found at at_h is other;
   }
@@ -164,6 +167,7 @@ module _ (start mid new : Known) (r : WakeRun) (h found : ℕ) (at_h : h ≡ hea
     up = at.up;
     idle = at.idle;
     full = at.full;
+    tries = at.tries;
     small = at.small;
     stands = (at.stands.0, at.stands.1, next_waits start mid new r h found at at_h is other);
   }
@@ -178,9 +182,23 @@ module _ (start mid new : Known) (r : WakeRun) (h found : ℕ) (at_h : h ≡ hea
 
   looked_at : (s : WakeStage) → IsTurnStage s → IsAt start mid r s → IsAt start mid (record r { served = found }) s
   looked_at stage.FirstTurn turn at =
-      record { up = at.up; idle = at.idle; full = at.full; small = at.small; stands = at.stands }
+      record {
+        up = at.up;
+        idle = at.idle;
+        full = at.full;
+        tries = at.tries;
+        small = at.small;
+        stands = at.stands;
+      }
   looked_at stage.NextTurn turn at =
-      record { up = at.up; idle = at.idle; full = at.full; small = at.small; stands = at.stands }
+      record {
+        up = at.up;
+        idle = at.idle;
+        full = at.full;
+        tries = at.tries;
+        small = at.small;
+        stands = at.stands;
+      }
   looked_at stage.First turn at = absurd turn
   looked_at stage.Next turn at = absurd turn
 
@@ -246,4 +264,4 @@ pub rests_of : (start new : Known) (r s : WakeRun) (t : WakeTurn) → HasTurned 
 rests_of start new r s (turn.Locked after_it) h = (start, h.turns)
 rests_of start new r s turn.Broken h = (start, h.turns)
 rests_of start new r s (turn.Done result) h = (h.turns.up, h.turns.idle)
-rests_of start new r s turn.Starved h = tt
+rests_of start new r s (turn.Starved failed) h = h.turns

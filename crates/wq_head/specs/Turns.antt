@@ -25,9 +25,11 @@ use Rattle.wq_head.specs.declared.wakes.WakeTurn.{WakeTurn}
 use Rattle.wq_head.specs.declared.wakes.WakeTurn.TheVariants as turn
 use Rattle.wq_head.specs.Holds.{HasWaited}
 use Rattle.wq_head.specs.Members.{member_of}
-use Rattle.wq_head.specs.Walks.{IsFull, HasWoken, HasEnded}
+use Rattle.wq_head.specs.Walks.{IsFull, MayWake, HasWoken, HasEnded, HasStarved}
 use Rattle.wq_head.specs.Walking.{
+  SameNumbers,
   Counts,
+  IsAhead,
   IsCounted,
   StaysInWalk,
   IsStarting,
@@ -42,11 +44,18 @@ use Rattle.wq_head.specs.Walking.{
 abbrev pub started : Next
 started = next.Go (at.Walk walking.Lock)
 
--- what the walk has done from its beginning
+-- what the walk has done from its beginning up to the beginning of a hold, and up to any place in it
 pub record HasComeTo (a : Aim) (start now : Known) (w : Walking) : Type 0 where
   pub real : Walking
   pub transitions : List Transition
   pub counts : Counts w real
+  pub counted : IsCounted a.count real
+  pub goes : Goes (walk_program a) start started transitions now (stands_at real)
+
+pub record HasComeOn (a : Aim) (start now : Known) (w : Walking) : Type 0 where
+  pub real : Walking
+  pub transitions : List Transition
+  pub counts : IsAhead a now w real
   pub counted : IsCounted a.count real
   pub goes : Goes (walk_program a) start started transitions now (stands_at real)
 
@@ -88,7 +97,7 @@ pub record IsBroken (a : Aim) (start now : Known) (u : Walking) : Type 0 where
   pub last : Known
   pub passed : Walking
   pub before : ShownMember
-  pub come : HasComeTo a start last passed
+  pub come : HasComeOn a start last passed
   pub keeps : StaysInWalk a start last
   pub going : passed.spent ≡ false
   pub calling : IsCalling a last passed.place (rest_of a passed)
@@ -98,7 +107,7 @@ pub record IsBroken (a : Aim) (start now : Known) (u : Walking) : Type 0 where
   pub left : u.left ≡ passed.left
   pub spent : u.spent ≡ passed.spent
   pub calls : u.calls ≡ 0
-  pub counts : (real : Walking) → Counts passed real → Counts u (next_at u.place real)
+  pub counts : (real : Walking) → SameNumbers passed real → Counts u (next_at u.place real)
   pub is : now ≡ unlocked_with (stored_with last (step.Mark (head_of a.watch) u.place)) last.at false
 
 -- the task drew the ticket of the head's lock, and found other ones served since
@@ -113,11 +122,12 @@ StandsAt start now r stage.FirstTurn = HasDrawn start now r
 StandsAt start now r stage.Next = IsBroken r.aim start now r.walk
 StandsAt start now r stage.NextTurn = (base : Known) × IsBroken r.aim start base r.walk × HasDrawn base now r
 
--- The wake began with an idle task that was up, at a full head, and with a count of 32 bits.
+-- The wake began with an idle task that was up and may wake for the watch, at a full head, and with a count of 32 bits.
 pub record IsAt (start now : Known) (r : WakeRun) (s : WakeStage) : Type 0 where
   pub up : IsUp start
   pub idle : IsIdle start
   pub full : IsFull r.aim.watch
+  pub tries : MayWake r.aim.watch start
   pub small : r.aim.count < 2 ^ 32
   pub stands : StandsAt start now r s
 
@@ -134,11 +144,11 @@ abbrev pub TurnsTo : Known → Known → WakeRun → WakeTurn → Type 0
 TurnsTo start new r (turn.Locked s) = IsAt start new r s
 TurnsTo start new r turn.Broken = IsAt start new r stage.Next
 TurnsTo start new r (turn.Done result) = IsOver r.aim start new result
-TurnsTo start new r turn.Starved = Unit {0}
+TurnsTo start new r (turn.Starved failed) = HasStarved r.aim new failed
 
 -- no head is held after a turn, but where it starved
 abbrev pub IsOutside : Known → WakeTurn → Type 0
-IsOutside new turn.Starved = Unit {0}
+IsOutside new (turn.Starved failed) = Unit {0}
 IsOutside new _ = new.book.head ≡ None
 
 -- a turn keeps the aim of its wake, and ends outside of holds
@@ -152,7 +162,7 @@ abbrev pub Rests : Known → WakeRun → WakeTurn → Type 0
 Rests now r (turn.Locked s) = (start : Known) × IsAt start now r s
 Rests now r turn.Broken = (start : Known) × IsAt start now r stage.Next
 Rests now r (turn.Done result) = IsUp now × IsIdle now
-Rests now r turn.Starved = Unit {0}
+Rests now r (turn.Starved failed) = HasStarved r.aim now failed
 
 -- the stages at which the ticket of the next hold's lock is drawn
 abbrev pub IsTurnStage : WakeStage → Type 0

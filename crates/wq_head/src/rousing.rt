@@ -1,16 +1,17 @@
 //! Threads that a hold is to wake once it has given the lock back: woken earlier, they would wait for it at once.
 
-ghost use Rattle.std.specs.Prelude.{◌≡◌, ◌≤◌, ◌++◌, ◌∷◌, [], IfSome, length};
+ghost use Rattle.std.specs.Prelude.{◌≡◌, ◌≤◌, ◌++◌, ◌∷◌, [], IfErr, IfOk, length};
 ghost use Rattle.wait_model.specs.declared.layout.TheConstants.{BREAK};
 ghost use Rattle.wait_model.specs.declared.steps.Step.TheVariants as step;
 ghost use Rattle.wait_model.specs.Fold.{met_task};
 ghost use Rattle.wait_rule.specs.Says.{IsUp, AddsOf};
+ghost use Rattle.wait_rule.specs.Tried.{IsStarved};
 ghost use Rattle.wq_head.specs.Roused.{HasRoused, tasks_in};
 
 use arrayvec::ArrayVec;
 use wait_model::layout::BREAK;
 use wait_rule::tasks::rouse;
-use wait_rule::tries::wake_tries;
+use wait_rule::tries::{FailedTries, wake_tries};
 use wait_rule::{Domain, Task};
 
 /// How many tasks there is room for: as many as a hold calls entries at most.
@@ -72,24 +73,25 @@ impl Rousing {
     }
 }
 
-/// Wakes task `who` (`try_to_wake_up`), and leaves its thread to be roused later. None only where no try was made.
+/// Wakes task `who` (`try_to_wake_up`), and leaves its thread to be roused later. Err only where all tries failed.
 pub(crate) fn wake_later(
     domain: &Domain,
     task: &mut Task,
     rousing: &mut Rousing,
     who: u8,
     mask: u32,
-) -> Option<bool>
+) -> Result<bool, FailedTries>
     requires of { task.old.domain ≡ domain.now }
     requires up { IsUp task.old }
     requires room { length (tasks_in rousing.old) ≤ BREAK }
-    ensures step { IfSome result (λ yes. AddsOf task.old task.new (λ found. step.Wake who mask found)
+    ensures step { IfOk result (λ yes. AddsOf task.old task.new (λ found. step.Wake who mask found)
         (λ found. yes ≡ met_task mask found)) }
     ensures rouses { HasRoused task.old task.new rousing.old rousing.new }
+    ensures starved { IfErr result (λ failed. IsStarved failed × (task.new ≡ task.old)) }
 {
     let woke = wake_tries(domain, task, who, mask)?;
     if woke.rouse {
         rousing.put(who);
     }
-    Some(woke.met)
+    Ok(woke.met)
 }

@@ -22,7 +22,7 @@ use std::sync::Wait;
 use wait_model::layout::{ENTRIES, SLOTS};
 use wait_model::watches::Mode;
 use wait_rule::queues::{entry_load, unqueue_member};
-use wait_rule::tries::wake_try;
+use wait_rule::tries::{FailedTries, wake_try};
 use wait_rule::{Domain, Task};
 
 /// Selects the first entries of the simple head whose lock the task holds, in the order of its queue
@@ -95,8 +95,9 @@ fn wake_normal<R: Wait>(
         × (task.new ≡ added task.old (item.Made (step.Wake who (mask_of mode.Normal) found)))
         × (result ≡ met_task (mask_of mode.Normal) found) }
 {
+    let mut failed = FailedTries::none();
     for _ in rt.forever() {
-        if let Some(woke) = wake_try(domain, task, who, Mode::Normal.mask()) {
+        if let Some(woke) = wake_try(domain, task, who, Mode::Normal.mask(), &mut failed) {
             if woke.rouse {
                 rousing.put_or_rouse(domain, who);
             }

@@ -7,7 +7,7 @@ ghost use Rattle.wait_rule.specs.Says.{IsUp};
 ghost use Rattle.wait_rule.specs.Queues.{IsIdle};
 ghost use Rattle.wait_rule.specs.Stays.{Carries, wake_all_change};
 ghost use Rattle.wq_head.specs.Roused.{IsRousing, RousesNone, tasks_in};
-ghost use Rattle.wq_head.specs.Walks.{IsFull, HasWoken, HasEnded};
+ghost use Rattle.wq_head.specs.Walks.{IsFull, MayWake, HasWoken, HasEnded};
 ghost use Rattle.wq_head.specs.Turns.{InWalk, IsAt, IsServed, IsTurnStage, HasTurned, Rests, first_counts};
 
 use crate::lists::Members;
@@ -20,6 +20,7 @@ use wait_model::heads::head_of;
 use wait_model::queues::{End, Walked, Walking};
 use wait_model::watches::{Aim, Mode, Watch};
 use wait_rule::queues::{draw, lock_step, mark_member, serving_load};
+use wait_rule::tries::FailedTries;
 use wait_rule::{Domain, Task};
 
 /// Where a wake stands between two of its holds: before the first one, or after a break, with a bookmark out, before
@@ -33,19 +34,19 @@ pub enum WakeStage {
 }
 
 /// What a turn of a wake did: the lock is not its turn yet; a hold broke, and the bookmark is out; the wake is over; or
-/// no try of a task's wake was made, and it does not end.
+/// `TRIES` tries to wake one task failed, and it does not end.
 #[derive(Clone, Copy)]
 pub enum WakeTurn {
     Locked(WakeStage),
     Broken,
     Done(Walked),
-    Starved,
+    Starved(FailedTries),
 }
 
 /// The numbers of a wake under way.
 #[derive(Clone, Copy)]
 pub struct WakeRun {
-    /// The watch, a plain condition below `FIRST_SIMPLE`, the mode, and the count with which the wake began.
+    /// The watch, one with a full head, the mode, and the count with which the wake began.
     pub aim: Aim,
     /// The number of the ticket that is drawn, and the one that was found served last.
     pub ticket: u64,
@@ -55,7 +56,8 @@ pub struct WakeRun {
 }
 
 impl WakeRun {
-    /// A wake that has not begun, of a watch that is a plain condition below `FIRST_SIMPLE`.
+    /// A wake that has not begun, of a watch with a full head: a plain condition below `FIRST_SIMPLE`, a bit, or a
+    /// variable.
     pub fn new(watch: Watch, mode: Mode, count: u32) -> WakeRun
         ensures aim { result.aim ≡ record { watch = watch; mode = mode; count = count } }
         ensures small { result.aim.count < 2 ^ 32 }
@@ -87,7 +89,10 @@ fn begun(aim: Aim) -> Walking
 
 /// Calls the functions of the entries that wait for `watch`, in the order of the queue (kernel/sched/wait.c,
 /// `__wake_up_common_lock`), and answers how many of them answered yes, and how many of those were exclusive. The
-/// watch is a plain condition below `FIRST_SIMPLE`. A count of 0 stops at no entry. Another is lowered by one at each
+/// watch is a plain condition below `FIRST_SIMPLE`, a bit (`__wake_up_bit` in kernel/sched/wait_bit.c), or a variable,
+/// whatever its old value is (`wake_up_var` there). Entries for others that have the same head are passed over, and
+/// each counts as called for a break alone. Who wakes for a bit has no exclusive entry for a bit queued, which would
+/// wait for that very wake. A count of 0 stops at no entry. Another is lowered by one at each
 /// exclusive entry whose task was woken, and where none is left the walk ends: it answers `Spent`, and raises the
 /// spent count of the head. A hold that has called more than `BREAK` entries puts a bookmark before the next member,
 /// gives the lock back and goes on there, with what is left of the count. Afterwards the task owes no wake of the
@@ -104,6 +109,7 @@ pub fn wake<R: Wait>(
     requires up { IsUp task.old }
     requires idle { IsIdle task.old }
     requires full { IsFull watch }
+    requires tries { MayWake watch task.old }
     ensures woken { HasWoken task.old task.new (record { watch = watch; mode = mode; count = count }) result }
     ensures ended { HasEnded task.old task.new (record { watch = watch; mode = mode; count = count }) }
     ensures idle { IsIdle task.new }
@@ -128,7 +134,7 @@ pub fn wake<R: Wait>(
                 stage = WakeStage::Next;
             }
             WakeTurn::Done(walked) => return walked,
-            WakeTurn::Starved => {
+            WakeTurn::Starved(_) => {
                 for _ in rt.forever() {
                     spin_loop();
                 }
@@ -145,8 +151,9 @@ pub fn wake<R: Wait>(
 /// head held. Locked: the ticket of the lock is drawn and not served, and the wake goes on at the stage that is
 /// answered once another number of the head is served. Broken: the hold has called more than `BREAK` entries, and its
 /// bookmark is out; the wake goes on at `Next`, at once. Done: the wake is over, with the answer of `wake`. In between
-/// the task makes nothing else. Starved: the word of one task changed before each of 2^64 - 1 tries to wake it, which
-/// no run comes to; the head is held then, and the wake does not end. `list` is room for the members of a head.
+/// the task makes nothing else. Starved: the word of one task changed before each of 2^64 - 1 tries to wake it, as the
+/// count says, which no run comes to; the head is held then, and the wake does not end. `list` is room for the members
+/// of a head.
 pub fn wake_stretch(
     domain: &Domain,
     task: &mut Task,
@@ -248,8 +255,8 @@ fn hold(
     requires walks { (start : Known) × InWalk run.old.aim start task.old run.old.walk }
     requires none { tasks_in rousing.old ≡ [] }
     ensures of { task.new.domain ≡ domain.now }
-    ensures turned { (start : Known) → IsUp start → IsIdle start → InWalk run.old.aim start task.old run.old.walk
-        → HasTurned start task.new run.old run.new result }
+    ensures turned { (start : Known) → IsUp start → IsIdle start → MayWake run.old.aim.watch start
+        → InWalk run.old.aim start task.old run.old.walk → HasTurned start task.new run.old run.new result }
     ensures rouses { IsRousing task.old task.new rousing.new }
 {
     match walk_hold(domain, task, run.aim, run.walk, list, rousing) {
@@ -265,6 +272,6 @@ fn hold(
             run.walk = break_off(domain, task, run.aim, walk, before);
             WakeTurn::Broken
         }
-        Hold::Starved => WakeTurn::Starved,
+        Hold::Starved(failed) => WakeTurn::Starved(failed),
     }
 }

@@ -1,4 +1,4 @@
-use Rattle.std.proofs.Common.{◌∙◌, ◌≡◌, ◌+◌, ◌++◌, ◌∷◌, [], ℕ, List}
+use Rattle.std.proofs.Common.{rules, ◌∙◌, ◌≡◌, ◌+◌, ◌++◌, ◌∷◌, [], ℕ, List}
 use Rattle.std.proofs.Common.{length, map, ap, sym, subst, arith}
 use Rattle.std.proofs.lemmas.List.{length-map}
 use Rattle.std.specs.List.Sorted.{IsPermutation, IsNonDecreasingBy}
@@ -8,13 +8,21 @@ use Rattle.wait_rule.specs.LookCounts.{LooksAtMost}
 use Rattle.wq_head.specs.Looking.{IsNextSet}
 use Rattle.wait_rule.specs.Shown.{shown_queue}
 use Rattle.wq_head.specs.Lists.{rank_by, stand_in, member_by, AreAsShown}
-use Rattle.wq_head.proofs.OneMoreLook.{looks_on, whole_of, holding_on}
+use Rattle.wq_head.proofs.OneMoreLook.{looks_none, looks_on, whole_of, holding_on}
 use Rattle.wq_head.proofs.CarriedHolds.{looks_carried}
 use Rattle.wq_head.proofs.LookedWords.{looked_later}
 use Rattle.wq_head.proofs.CountedLooks.{counted_more, counted_end}
 use Rattle.wq_head.proofs.ListedMembers.{AreListed, numbers_few, listed_later, listed_on, listed_more}
 use Rattle.wq_head.proofs.SortedQueue.{list_is_queue, list_is_shown}
 use Rattle.wq_head.proofs.looks.members.Goals as goal
+
+pub loop-m-init : goal.loop-m-init
+loop-m-init c = record {
+  looks = looks_none c.args.task.now;
+  looked = search rules;
+  listed = search rules;
+  counted = search rules;
+}
 
 pub push-requires-clause-room : goal.push-requires-clause-room
 push-requires-clause-room c =

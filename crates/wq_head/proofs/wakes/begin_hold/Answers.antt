@@ -8,7 +8,7 @@ use Rattle.wait_rule.specs.Queues.{walk_of_hold}
 use Rattle.wq_head.specs.Roused.{RousesNone}
 use Rattle.wq_head.specs.Turns.{InWalk}
 use Rattle.wq_head.specs.Walking.{with_left}
-use Rattle.wq_head.proofs.FirstHold.{head_small}
+use Rattle.wq_head.proofs.FullHeads.{head_small}
 use Rattle.wq_head.proofs.RousedTasks.{none_added, none_marked}
 use Rattle.wq_head.proofs.WakeTurns.{
   not_next,
@@ -37,13 +37,13 @@ lock_step-requires-clause-turn c =
 
 pub lock_step-requires-clause-head : goal.lock_step-requires-clause-head
 lock_step-requires-clause-head c =
-    let small = (head_small c.args.run.now.aim.watch c.requires.served.1.at.full).0 in
+    let small = (head_small c.args.run.now.aim.watch c.requires.served.1.at.full) in
     let is = c.requires.head in
     omega (arith, small, is)
 
 pub lock_step-requires-clause-simple : goal.lock_step-requires-clause-simple
 lock_step-requires-clause-simple c high =
-    let small = (head_small c.args.run.now.aim.watch c.requires.served.1.at.full).0 in
+    let small = (head_small c.args.run.now.aim.watch c.requires.served.1.at.full) in
     let is = c.requires.head in
     absurd (omega (arith, small, is, high))
 
@@ -76,7 +76,7 @@ pub lock_step-requires-in_default : goal.lock_step-requires-in_default
 lock_step-requires-in_default c =
     let v = c.requires.served in
     let first = not_next c.args.stage v.1.turn c.in_default.not-NextTurn in
-    let small = (head_small c.args.run.now.aim.watch v.1.at.full).0 in
+    let small = (head_small c.args.run.now.aim.watch v.1.at.full) in
     let is = c.requires.head in record {
       of = c.requires.of;
       up = begins_up v.0 c.args.task.now c.args.run.now c.args.stage v.1 c.args.head c.requires.head first;

@@ -2,20 +2,20 @@ use Rattle.std.proofs.Common.{sym, refl, subst, arith}
 use Rattle.wait_rule.specs.declared.journal.Item.TheVariants as item
 use Rattle.wq_head.specs.Roused.{RousesNone}
 use Rattle.wq_head.specs.Turns.{IsAt}
-use Rattle.wq_head.proofs.FirstHold.{head_small}
+use Rattle.wq_head.proofs.FullHeads.{head_small}
 use Rattle.wq_head.proofs.RousedTasks.{none_added}
 use Rattle.wq_head.proofs.WakeTurns.{draws_next}
 use Rattle.wq_head.proofs.wakes.draw_turn.Goals as goal
 
 pub draw-run-requires-clause-head : goal.draw-run-requires-clause-head
 draw-run-requires-clause-head c =
-    let small = (head_small c.args.run.now.aim.watch c.requires.at.1.full).0 in
+    let small = (head_small c.args.run.now.aim.watch c.requires.at.1.full) in
     let is = c.requires.head in
     omega (arith, small, is)
 
 pub draw-run-requires-in-Next-clause-head : goal.draw-run-requires-in-Next-clause-head
 draw-run-requires-in-Next-clause-head c =
-    let small = (head_small c.args.run.now.aim.watch c.requires.at.1.full).0 in
+    let small = (head_small c.args.run.now.aim.watch c.requires.at.1.full) in
     let is = c.requires.head in
     omega (arith, small, is)
 

@@ -12,7 +12,7 @@ use Rattle.wq_head.proofs.RousedTasks.{none_stored, none_unlocked, rousing_on}
 use Rattle.wq_head.proofs.wakes.hold.Goals as goal
 
 pub returns-in-Passed-clause-turned : goal.returns-in-Passed-clause-turned
-returns-in-Passed-clause-turned c start up idle i =
+returns-in-Passed-clause-turned c start up idle tries i =
     let mid = c.walk_hold.new.task in
     let over = c.in-Passed.ensures.over in record {
       aim = refl;
@@ -24,7 +24,7 @@ returns-in-Passed-clause-turned c start up idle i =
     }
 
 pub returns-in-Spent-clause-turned : goal.returns-in-Spent-clause-turned
-returns-in-Spent-clause-turned c start up idle i =
+returns-in-Spent-clause-turned c start up idle tries i =
     let mid = c.walk_hold.new.task in
     let over = c.in-Spent.ensures.over in record {
       aim = refl;
@@ -36,7 +36,7 @@ returns-in-Spent-clause-turned c start up idle i =
     }
 
 pub returns-in-Breaks-clause-turned : goal.returns-in-Breaks-clause-turned
-returns-in-Breaks-clause-turned c start up idle i =
+returns-in-Breaks-clause-turned c start up idle tries i =
     let a = c.args.run.now.aim in
     let mid = c.walk_hold.new.task in
     let over = c.in-Breaks.ensures.over in
@@ -49,6 +49,7 @@ returns-in-Breaks-clause-turned c start up idle i =
         up = up;
         idle = idle;
         full = c.requires.full;
+        tries = tries;
         small = c.requires.small;
         stands = record {
           last = mid;
@@ -93,4 +94,8 @@ returns-in-Breaks-clause-rouses c =
     ∙ none_stored mid mark refl)) c.walk_hold.ensures.rouses
 
 pub returns-in-Starved-clause-turned : goal.returns-in-Starved-clause-turned
-returns-in-Starved-clause-turned c start up idle i = record { aim = refl; outside = tt; turns = tt }
+returns-in-Starved-clause-turned c start up idle tries i = record {
+  aim = refl;
+  outside = tt;
+  turns = c.in-Starved.ensures.over;
+}

@@ -1,10 +1,10 @@
 use Rattle.std.proofs.Common.{◌∙◌, arith}
-use Rattle.wq_head.proofs.FirstHold.{head_small}
+use Rattle.wq_head.proofs.FullHeads.{head_small}
 use Rattle.wq_head.proofs.wakes.wake.Goals as goal
 
 pub pause-looks-requires : goal.pause-looks-requires
 pause-looks-requires g c =
-    let small = (head_small c.args.watch c.requires.full).0 in
+    let small = (head_small c.args.watch c.requires.full) in
     let is = c.head_of.ensures in
     record { head = omega (arith, small, is) }
 

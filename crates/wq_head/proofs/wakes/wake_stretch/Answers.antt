@@ -4,15 +4,15 @@ use Rattle.wait_model.specs.Watches.{head_of}
 use Rattle.wait_rule.specs.declared.journal.Item.TheVariants as item
 use Rattle.wq_head.specs.Roused.{RousesNone}
 use Rattle.wq_head.specs.Turns.{InWalk}
-use Rattle.wq_head.specs.Walks.{IsFull}
-use Rattle.wq_head.proofs.FirstHold.{head_small}
+use Rattle.wq_head.specs.Walks.{IsFull, MayWake}
+use Rattle.wq_head.proofs.FullHeads.{head_small}
 use Rattle.wq_head.proofs.RousedTasks.{none_added, rousing_on, rousing_from, rousing_none}
 use Rattle.wq_head.proofs.WakeTurns.{outside_on, waits_on, served_on, rests_of}
 use Rattle.wq_head.proofs.wakes.wake_stretch.Goals as goal
 
 pub serving_load-run-requires-clause-head : goal.serving_load-run-requires-clause-head
 serving_load-run-requires-clause-head c =
-    let small = (head_small c.args.run.now.aim.watch c.requires.at.1.full).0 in
+    let small = (head_small c.args.run.now.aim.watch c.requires.at.1.full) in
     let is = c.head_of-head.ensures in
     omega (arith, small, is)
 
@@ -88,7 +88,8 @@ returns-clause-turned c start is_at =
     (d.ensures.drawn start is_at) c.if-run.false in
     let walks = subst (λ (a : Aim). InWalk a start c.begin_hold.new.task c.begin_hold.new.run.walk)
     (sym c.begin_hold.ensures.aim) (c.begin_hold.ensures.walks start served) in
-    let t = c.hold.ensures.turned start is_at.up is_at.idle walks in
+    let t = c.hold.ensures.turned start is_at.up is_at.idle
+    (subst (λ (a : Aim). MayWake a.watch start) (sym (c.begin_hold.ensures.aim ∙ d.ensures.aim)) is_at.tries) walks in
     record { aim = t.aim ∙ (c.begin_hold.ensures.aim ∙ d.ensures.aim); outside = t.outside; turns = t.turns }
 
 pub returns-clause-rests : goal.returns-clause-rests

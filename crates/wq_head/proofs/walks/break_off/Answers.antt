@@ -5,14 +5,14 @@ use Rattle.wait_model.specs.Watches.{head_of}
 use Rattle.wait_rule.specs.Says.{stored_with, unlocked_with}
 use Rattle.wq_head.specs.Turns.{next_at}
 use Rattle.wq_head.specs.Walking.{Counts}
-use Rattle.wq_head.proofs.FirstHold.{head_small}
+use Rattle.wq_head.proofs.FullHeads.{head_small}
 use Rattle.wq_head.proofs.BreakingHold.{place_small}
 use Rattle.wq_head.proofs.BrokenHold.{may_put, breaks_off}
 use Rattle.wq_head.proofs.walks.break_off.Goals as goal
 
 pub mark_word_of-requires-clause-head : goal.mark_word_of-requires-clause-head
 mark_word_of-requires-clause-head c =
-    let small = (head_small c.args.aim.watch c.requires.full).0 in
+    let small = (head_small c.args.aim.watch c.requires.full) in
     let is = c.head_of-head.ensures in
     omega (arith, small, is)
 

@@ -35,7 +35,7 @@ use Rattle.wait_rule.proofs.KnownLaws.Transitions.{only_none, only_looked}
 use Rattle.wait_rule.proofs.KnownLaws.Turns.{serve_looks}
 use Rattle.wait_rule.proofs.WornHeads.WornNotes.{notes_stay}
 use Rattle.wq_head.specs.declared.adds.Worn.{Worn}
-use Rattle.wq_head.specs.Adds.{HasAdded, IsFor}
+use Rattle.wq_head.specs.Adds.{HasAdded, IsForPlain}
 use Rattle.wq_head.specs.Holds.{HasLocked, HasUnlocked}
 use Rattle.wq_head.proofs.LockWaits.{turn_looks, turn_of}
 use Rattle.wait_event.specs.Entries.{EndsAdd, HasWokenEntry, MayRemove, add_change, hold_change}
@@ -148,7 +148,7 @@ given_is c k simple form p q is i = record {
   kind = k;
 }
 
-pub own_for : (c : ℕ) (k : Kind) → c < FIRST_SIMPLE → IsOwnKind k → IsFor (watch.Plain c) k
+pub own_for : (c : ℕ) (k : Kind) → c < FIRST_SIMPLE → IsOwnKind k → IsForPlain (watch.Plain c) k
 own_for c k full (inl is) = (c, refl, full, inl is)
 own_for c k full (inr is) = (c, refl, full, inr (inr is))
 

@@ -1,3 +1,4 @@
+pub mod Plans
 pub mod Turns
 pub mod Trails
 pub mod Loads

@@ -1,10 +1,10 @@
 -- Tasks of tests that wait by the flag of an entry.
 use Rattle.std.proofs.Common.{◌∙◌, ap, sym, refl, subst, inr, arith}
-use Rattle.std.specs.Prelude.{ℕ, ◌≡◌, false, None, Option, Some}
+use Rattle.std.specs.Prelude.{ℕ, ◌≡◌, false}
 use Rattle.wait_model.specs.declared.tasks.SleepState.TheVariants as states
 use Rattle.wait_rule.specs.Known.{Known}
 use Rattle.wait_rule.specs.Says.{IsClean, IsFree, IsUp, no_excuse, told_of}
-use Rattle.wait_rule.specs.Queues.{IsIdle, index}
+use Rattle.wait_rule.specs.Queues.{index}
 use Rattle.wait_rule.specs.Stays.{Carries, Change, Owes, unchanged, with_entry}
 use Rattle.wait_event.specs.Entries.{HasWokenEntry, MayRemove, add_change, hold_change, remove_change}
 use Rattle.wait_event.specs.Tested.{IsCleanHearer, IsHearer}

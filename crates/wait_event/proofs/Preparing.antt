@@ -20,7 +20,6 @@ use Rattle.std.specs.Prelude.{
   ◌++◌,
 }
 use Rattle.wait_model.specs.declared.layout.TheConstants.{FIRST_SIMPLE}
-use Rattle.wait_model.specs.declared.calls.Call.TheVariants as calls
 use Rattle.wait_model.specs.declared.tasks.How.{How}
 use Rattle.wait_model.specs.declared.tasks.SleepState.{SleepState}
 use Rattle.wait_model.specs.declared.points.Point.{Point}
@@ -36,7 +35,7 @@ use Rattle.wait_model.specs.declared.watches.Watch.TheVariants as watch
 use Rattle.wait_model.specs.Programs.{zero_answer}
 use Rattle.wait_model.specs.Reached.{absent, waits, IsHome}
 use Rattle.wait_model.specs.Tasks.{pending, state_mask, task_of}
-use Rattle.wait_model.specs.Watches.{head_of}
+use Rattle.wait_model.specs.Watches.{head_of, misses}
 use Rattle.wait_rule.specs.declared.journal.Item.TheVariants as item
 use Rattle.wait_rule.specs.Known.{Known}
 use Rattle.wait_rule.specs.Tickets.{no_ticket}
@@ -45,11 +44,12 @@ use Rattle.wait_rule.specs.Queues.{IsTold, index}
 use Rattle.wait_rule.specs.Stays.{Carries, state_change}
 use Rattle.wait_rule.specs.Transitions.{Goes, Program, by_step}
 use Rattle.wait_rule.proofs.KnownLaws.Transitions.{only_none}
-use Rattle.wait_event.specs.Posts.{HasSeenOwn, Keeps, Post, Runs, Stands, post_at}
+use Rattle.wait_event.specs.Posts.{HasSeenOwn, Keeps, Post, Runs, Stands}
 use Rattle.wait_event.specs.Prepares.{
   EndsExclusive,
   EndsPrepare,
   HasFinished,
+  IsFinishing,
   IsFullWatch,
   IsLeft,
   MayFinish,
@@ -68,11 +68,13 @@ use Rattle.wait_event.specs.Waits.{
   IsFresh,
   IsQueuedIn,
   SameCall,
+  call_for,
   is_prepared,
   left_by,
   nothing,
   own_of,
   point_of,
+  post_in,
   queues_first,
   tells_first,
   wait_call,
@@ -91,16 +93,17 @@ use Rattle.wait_event.proofs.Ground.Going.{runs_on, runs_one}
 use Rattle.wait_event.proofs.Ground.Keeping.{keeps_on}
 use Rattle.wait_event.proofs.Events.Endings.{none_of}
 use Rattle.wait_event.proofs.Events.Peeks.{peek_from, peek_some}
+use Rattle.wait_event.proofs.Events.Plans.{runs_program}
 use Rattle.wait_event.proofs.Events.Turns.{GoesOn}
 use Rattle.wait_event.proofs.Events.Conditions.{full_runs}
 use Rattle.wait_event.proofs.Ground.Standing.{home_waits, seen_home}
 use Rattle.wait_model.specs.declared.points.Next.{Next}
 use Rattle.wait_event.proofs.Events.States.{state_keeps, state_looks, state_stands, state_up}
 
-pub prepares_at : (k : Known) (r : WaitRun) (w : Watch) (c : ℕ) (how : How) (asks : Bool) → IsFresh r c how asks
-    → c ≡ cond_in w → IsFullWatch w → IsTold k → MayPrepare k w → IsAt k r stage.PrepareLock
-prepares_at k r w c how asks fresh same full told may = record {
-  runs = full_runs r (cond_in w) (fresh.cond ∙ same) full.1;
+pub prepares_at : (k : Known) (r : WaitRun) (w : Watch) (how : How) (asks : Bool) → IsFresh r w how asks
+    → IsFullWatch w → IsTold k → MayPrepare k w → IsAt k r stage.PrepareLock
+prepares_at k r w how asks fresh full told may = record {
+  runs = full_runs r (cond_in w) (fresh.watch_is ∙ full.0) full.1;
   up = may.up;
   stands = record {
     head = may.free.head;
@@ -109,44 +112,47 @@ prepares_at k r w c how asks fresh same full told may = record {
     ticket = may.free.ticket;
     agreed = λ h is. absurd (cc);
     state = may.running;
-    home = subst (λ (n : ℕ). IsHome waits (watch.Plain n) ((told_of k).bits.stored (index k.view.number 0)))
-        (sym (fresh.cond ∙ same)) may.home;
+    home = subst (λ (u : Watch). IsHome waits u ((told_of k).bits.stored (index k.view.number 0)))
+        (sym (fresh.watch_is ∙ full.0)) may.home;
   };
   trail = tt;
 }
 
-module _ (old new : Known) (r q : WaitRun) (w : Watch) (c : ℕ) (how : How) (asks : Bool)
-    (fresh : IsFresh r c how asks) (same : c ≡ cond_in w) where
-  is_cond : SameCall r q → q.cond ≡ cond_in w
-  is_cond s = s.cond ∙ (fresh.cond ∙ same)
+module _ (old new : Known) (r q : WaitRun) (w : Watch) (how : How) (asks : Bool) (fresh : IsFresh r w how asks)
+    (full : IsFullWatch w) where
+  is_plain : r.watch ≡ watch.Plain (cond_in w)
+  is_plain = fresh.watch_is ∙ full.0
+
+  now_plain : SameCall r q → q.watch ≡ watch.Plain (cond_in w)
+  now_plain s = s.watch_is ∙ is_plain
 
   is_how : SameCall r q → q.how ≡ how
   is_how s = s.how ∙ fresh.how_is
 
   gone : (s : WaitStage) (a : Advances old new r q stage.PrepareLock (turn.Again s))
       → new.book.head ≡ None → new.book.ticket ≡ no_ticket
-      → IsHome waits (watch.Plain q.cond) ((told_of new).bits.stored (index new.view.number 0))
+      → IsHome waits q.watch ((told_of new).bits.stored (index new.view.number 0))
       → Prepares old new (cond_in w) how asks (point_of s)
   gone s a head ticket home = record {
     runs = record {
       transitions = a.went.runs.transitions;
       goes = subst (λ (f : Program). Goes f old (next.Go (at.Prepare preparing.Lock)) a.went.runs.transitions new
           (next.Go (point_of s)))
-          (λ i. wait_program (fresh.asks_is i) old.view.number (calls.Wait ((fresh.cond ∙ same) i) (fresh.how_is i)))
+          (λ i. wait_program (fresh.asks_is i) old.view.number (call_for (is_plain i) (fresh.how_is i)))
           a.went.runs.goes;
     };
     keeps = a.went.keeps;
     up = a.lands.up;
     free = record { head = head; ticket = ticket };
-    home = subst (λ (n : ℕ). IsHome waits (watch.Plain n) ((told_of new).bits.stored (index new.view.number 0)))
-        (is_cond a.same) home;
+    home = subst (λ (u : Watch). IsHome waits u ((told_of new).bits.stored (index new.view.number 0)))
+        (now_plain a.same) home;
   }
 
   left : (o : Option Entry) → (told_of new).bits.stored (index new.view.number 0) ≡ o
-      → IsHome absent (watch.Plain q.cond) ((told_of new).bits.stored (index new.view.number 0))
+      → IsHome absent q.watch ((told_of new).bits.stored (index new.view.number 0))
       → new.book.state ≡ 0 → IsLeft new
   left o is home running = record {
-    out = none_of (watch.Plain q.cond) ((told_of new).bits.stored (index new.view.number 0)) home;
+    out = none_of q.watch ((told_of new).bits.stored (index new.view.number 0)) home;
     running = running;
   }
 
@@ -159,7 +165,7 @@ module _ (old new : Known) (r q : WaitRun) (w : Watch) (c : ℕ) (how : How) (as
   ends_prepare stage.LeaveLoad over a =
       let t = a.lands.trail in (
         gone stage.LeaveLoad a a.lands.stands.head a.lands.stands.ticket
-            (home_waits (watch.Plain q.cond) ((told_of new).bits.stored (index new.view.number 0)) a.lands.stands.home),
+            (home_waits q.watch ((told_of new).bits.stored (index new.view.number 0)) a.lands.stands.home),
         sym (a.same.asks ∙ fresh.asks_is) ∙ t.showed.asks,
         left _ refl a.lands.stands.home a.lands.stands.state,
         record {
@@ -167,23 +173,23 @@ module _ (old new : Known) (r q : WaitRun) (w : Watch) (c : ℕ) (how : How) (as
           entry = t.entry;
           showed = ap (λ (h : How). pending (state_mask h.state) (task_of t.look)) (sym (is_how a.same))
               ∙ t.showed.pends;
-          ends = subst (λ (d : ℕ). EndsWith new (left_by (own_of new) (head_of (watch.Plain d)) t.look t.entry ++ []))
-              (is_cond a.same) t.ends;
+          ends = subst (λ (u : Watch). EndsWith new (left_by (own_of new) (head_of u) t.look t.entry ++ []))
+              (now_plain a.same) t.ends;
         },
       )
   ends_prepare stage.Worn over a =
       let t = a.lands.trail in (
         gone stage.Worn a a.lands.stands.head a.lands.stands.ticket
-            (home_waits (watch.Plain q.cond) ((told_of new).bits.stored (index new.view.number 0)) a.lands.stands.home),
+            (home_waits q.watch ((told_of new).bits.stored (index new.view.number 0)) a.lands.stands.home),
         left _ refl a.lands.stands.home a.lands.stands.state,
-        ap (λ (d : ℕ). head_of (watch.Plain d)) (is_cond a.same),
+        ap head_of (now_plain a.same),
         t.noted,
       )
   ends_prepare s over a = absurd (cc)
 
 -- an exclusive prepare that answers whether its entry is the first
-module _ (old new : Known) (r q : WaitRun) (w : Watch) (c : ℕ) (σ : SleepState)
-    (fresh : IsFresh r c (record { state = σ; exclusive = true }) false) (same : c ≡ cond_in w) where
+module _ (old new : Known) (r q : WaitRun) (w : Watch) (σ : SleepState)
+    (fresh : IsFresh r w (record { state = σ; exclusive = true }) false) (full : IsFullWatch w) where
   abbrev exclusive_how : How
   exclusive_how = record { state = σ; exclusive = true }
 
@@ -203,11 +209,11 @@ module _ (old new : Known) (r q : WaitRun) (w : Watch) (c : ℕ) (σ : SleepStat
       → (a : Advances old new r q stage.PrepareLock (turn.Again s)) → EndsExclusive old new w σ (first_in q s)
   unfolding ends_prepare gone
   ends_exclusive stage.Test over a =
-      let e = ends_prepare old new r q w c exclusive_how false fresh same stage.Test over a in
+      let e = ends_prepare old new r q w exclusive_how false fresh full stage.Test over a in
       (e.0, e.1, first_is stage.Test a)
   ends_exclusive stage.LeaveLoad over a =
       let no : true ≡ false = sym a.lands.trail.showed.asks ∙ (a.same.asks ∙ fresh.asks_is) in absurd (cc)
-  ends_exclusive stage.Worn over a = ends_prepare old new r q w c exclusive_how false fresh same stage.Worn over a
+  ends_exclusive stage.Worn over a = ends_prepare old new r q w exclusive_how false fresh full stage.Worn over a
   ends_exclusive s over a = absurd (cc)
 
 -- whatever a prepare answered, the task may finish
@@ -245,13 +251,13 @@ module _ (old mid : Known) (may : MayFinish old) (told : IsTold old)
   -- the wait that is finished
   abbrev finished : WaitRun
   finished = record {
-    cond = may.cond;
+    watch = watch.Plain may.cond;
     how = any_how;
     asks = true;
     ticket = 0;
     served = 0;
     place = 0;
-    seen = 0;
+    seen = 1;
     queued = false;
     found = false;
     first = false;
@@ -287,7 +293,7 @@ module _ (old mid : Known) (may : MayFinish old) (told : IsTold old)
     up = state_up old mid 0 is carries may.up;
     stands = state_stands old mid 0 is carries before (wait_post finished stage.FinishLook) stands_before refl refl refl
         (λ o h. h);
-    trail = tt;
+    trail = refl;
   }
 
   -- the rest goes through the same program
@@ -309,7 +315,8 @@ module _ (old mid : Known) (may : MayFinish old) (told : IsTold old)
   finish_off k None none h =
       let g = peek_from mid k finished looks_at None h in record {
         cond = may.cond;
-        runs = then_runs k (next.Ends zero_answer) stored g.runs;
+        runs = then_runs k (next.Ends zero_answer) stored (runs_program finished mid.view.number mid k
+            (next.Go (at.Finish finishing.Look false)) (next.Ends zero_answer) looks_at.runs g.runs);
         keeps = then_keeps k g.keeps;
         up = g.lands.0;
         free = record { head = g.lands.1.head; ticket = g.lands.1.ticket };
@@ -320,24 +327,24 @@ module _ (old mid : Known) (may : MayFinish old) (told : IsTold old)
       }
 
   -- it is queued, and its watch is that of the wait
-  module _ (k : Known) (o : Option Entry) (e : Entry) (some : o ≡ Some e) (h : HasSeenOwn mid k o) (q : WaitRun) (d : ℕ)
-      (fresh : IsFresh q d any_how true) (names : d ≡ cond_in e.watch) where
-    its_watch : e.watch ≡ watch.Plain may.cond
-    its_watch = (seen_home mid k o h (wait_post finished stage.FinishLook) looks_at.stands e some).0
-
-    its_cond : q.cond ≡ may.cond
-    its_cond = fresh.cond ∙ (names ∙ ap cond_in its_watch)
+  module _ (k : Known) (o : Option Entry) (e : Entry) (some : o ≡ Some e) (h : HasSeenOwn mid k o) (q : WaitRun)
+      (fresh : IsFinishing q e.watch) where
+    its_watch : q.watch ≡ watch.Plain may.cond
+    its_watch = fresh.watch_is ∙ (seen_home mid k o h (wait_post finished stage.FinishLook) looks_at.stands e some).0
 
     g_some : GoesOn mid k finished finished stage.FinishLook (next.Go (at.Finish finishing.Lock false))
     g_some = peek_some mid k finished looks_at o e some h
 
     pub lock_at : IsAt k q stage.FinishLock
     lock_at = record {
-      runs = full_runs q may.cond its_cond may.full;
+      runs = full_runs q may.cond its_watch may.full;
       up = g_some.lands.0;
-      stands = subst (Stands k) (λ i. post_at None (calls.Wait (sym its_cond i) (sym fresh.how_is i))
-          (at.Finish finishing.Lock false)) g_some.lands.1;
-      trail = tt;
+      stands = subst (Stands k) (λ i. post_in None (record finished {
+        watch = sym its_watch i;
+        how = sym fresh.how_is i;
+      }) (at.Finish finishing.Lock false)) g_some.lands.1;
+      trail = subst (λ (u : Watch). misses u q.seen ≡ false) (sym its_watch)
+          (ap (misses (watch.Plain may.cond)) fresh.seen);
     }
 
     pub finish_on : (new : Known) (v : WaitRun) → Advances k new q v stage.FinishLock (turn.Done outcome.Over)
@@ -347,15 +354,17 @@ module _ (old mid : Known) (may : MayFinish old) (told : IsTold old)
       runs = then_runs new (next.Ends zero_answer) stored
           (runs_on (wait_program true mid.view.number (wait_call finished)) mid k new
           (next.Go (at.Finish finishing.Look false)) (next.Go (at.Finish finishing.Lock false)) (next.Ends zero_answer)
-          g_some.runs (subst (λ (p : Program). Runs p k new (next.Go (at.Finish finishing.Lock false))
+          (runs_program finished mid.view.number mid k (next.Go (at.Finish finishing.Look false))
+          (next.Go (at.Finish finishing.Lock false)) looks_at.runs g_some.runs)
+          (subst (λ (p : Program). Runs p k new (next.Go (at.Finish finishing.Lock false))
           (next.Ends zero_answer)) (λ i. wait_program (fresh.asks_is i) (h.carries.number i)
-          (calls.Wait (its_cond i) (fresh.how_is i))) a.went.runs));
+          (call_for (its_watch i) (fresh.how_is i))) a.went.runs));
       keeps = then_keeps new (keeps_on (index mid.view.number 0) mid k new g_some.keeps
           (subst (λ (n : ℕ). Keeps (index n 0) k new) h.carries.number a.went.keeps));
       up = a.lands.up;
       free = record { head = a.lands.stands.head; ticket = a.lands.stands.ticket };
       left = record {
-        out = none_of (watch.Plain v.cond) ((told_of new).bits.stored (index new.view.number 0)) a.lands.stands.home;
+        out = none_of v.watch ((told_of new).bits.stored (index new.view.number 0)) a.lands.stands.home;
         running = a.lands.stands.state;
       };
     }

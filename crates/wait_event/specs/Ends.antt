@@ -1,7 +1,6 @@
 -- To be believed.
 -- What whole waits say.
 use Rattle.std.specs.Prelude.{ℕ, ◌≡◌, ◌&&◌, not, Bool, true, false, is_some, None, Result, Ok, Err, [], ◌∷◌, ◌++◌}
-use Rattle.wait_model.specs.declared.calls.Call.TheVariants as calls
 use Rattle.wait_model.specs.declared.calls.Answer.{Answer}
 use Rattle.wait_model.specs.declared.calls.Answer.TheVariants as answer
 use Rattle.wait_model.specs.declared.points.Point.TheVariants as at
@@ -12,6 +11,7 @@ use Rattle.wait_event.specs.declared.wait_events.WaitEnd.TheVariants as wait_end
 use Rattle.wait_model.specs.declared.tasks.How.{How}
 use Rattle.wait_model.specs.declared.points.Next.{Next}
 use Rattle.wait_model.specs.declared.steps.Step.TheVariants as step
+use Rattle.wait_model.specs.declared.watches.Watch.{Watch}
 use Rattle.wait_model.specs.declared.watches.Watch.TheVariants as watch
 use Rattle.wait_model.specs.Tasks.{pending, state_mask, task_of}
 use Rattle.wait_model.specs.Watches.{head_of}
@@ -23,7 +23,7 @@ use Rattle.wait_rule.specs.Queues.{index}
 use Rattle.wait_rule.specs.Stays.{Change, only, unchanged}
 use Rattle.wait_rule.specs.Transitions.{call_program}
 use Rattle.wait_event.specs.Posts.{Runs}
-use Rattle.wait_event.specs.Waits.{EndsWith, head_of_wait, left_by, own_of, queues}
+use Rattle.wait_event.specs.Waits.{EndsWith, IsUnset, call_for, head_of_wait, left_by, own_of, queues}
 use Rattle.wait_event.specs.declared.waits.WaitRun.{WaitRun}
 use Rattle.wait_event.specs.declared.waits.WaitOutcome.{WaitOutcome}
 use Rattle.wait_event.specs.declared.waits.WaitOutcome.TheVariants as outcome
@@ -33,9 +33,9 @@ use Rattle.wait_event.specs.declared.waits.WaitOutcome.TheVariants as outcome
 abbrev pub wait_change : ℕ → ℕ → Change
 wait_change i h = record unchanged { but = only i; looks = true; at = λ _. h }
 
--- the task went through a call of this program, and whether it queued its entry
-pub record HasWaited (old new : Known) (c : ℕ) (how : How) (from to : Next) (queued : Bool) : Type 0 where
-  pub runs : Runs (call_program old.view.number 0 (calls.Wait c how)) old new from to
+-- the task went through the call of a wait for this watch, and whether it queued its entry
+pub record HasWaited (old new : Known) (w : Watch) (how : How) (from to : Next) (queued : Bool) : Type 0 where
+  pub runs : Runs (call_program old.view.number 0 (call_for w how)) old new from to
   pub tells : queued ≡ queues runs.transitions
 
 -- the entry of slot 0 is off
@@ -45,21 +45,22 @@ IsOut k = (told_of k).bits.stored (index k.view.number 0) ≡ None
 -- The last steps of a wait that was signalled: in its last hold the look at the own word showed a signal that the state
 -- admits, and the own entry was taken off, or was off, and the head given back; then the load of the condition found
 -- `seen`, and it was not set. `selected` is that the hold found the entry off that the call had queued.
-pub record WasSignalled (k : Known) (c : ℕ) (how : How) (seen : ℕ) (selected queued : Bool) : Type 0 where
+pub record WasSignalled (k : Known) (w : Watch) (how : How) (seen : ℕ) (selected queued : Bool) : Type 0 where
   pub look : ℕ
   pub entry : ℕ
   pub showed : pending (state_mask how.state) (task_of look) ≡ true
-  pub ends : EndsWith k (left_by (own_of k) (head_of (watch.Plain c)) look entry
-      ++ step.Load (watch.Plain c) seen ∷ [])
-  pub unset : seen ≡ 0
+  pub ends : EndsWith k (left_by (own_of k) (head_of w) look entry ++ step.Load w seen ∷ [])
+  pub unset : IsUnset w seen
   pub selects : selected ≡ (queued && not (is_some (entry_of entry)))
 
 -- The last steps of a wait that found no place: its hold noted it, and gave the head back; then the load of the
 -- condition found that it was not set.
-pub record FoundNoPlace (k : Known) (c h place : ℕ) : Type 0 where
-  pub head : h ≡ head_of (watch.Plain c)
+pub record FoundNoPlace (k : Known) (w : Watch) (h place : ℕ) : Type 0 where
+  pub head : h ≡ head_of w
   pub noted : WasWorn k.view.number k.view.items h place
-  pub ends : EndsWith k (step.Unlock h false ∷ step.Load (watch.Plain c) 0 ∷ [])
+  pub seen : ℕ
+  pub ends : EndsWith k (step.Unlock h false ∷ step.Load w seen ∷ [])
+  pub unset : IsUnset w seen
 
 -- the answer of a wait that has ended
 abbrev pub end_in : WaitRun → WaitOutcome → Result (Unit {0}) WaitEnd
@@ -67,19 +68,22 @@ end_in r outcome.Over = Ok tt
 end_in r outcome.Signalled = Err (wait_end.Signal r.seen (r.queued && not r.found))
 end_in r outcome.Worn = Err (wait_end.Worn (head_of_wait r) r.place)
 
--- the answer of the call, and its cause
+-- the answer of the call, and the cause of one that the watch was not set
 abbrev pub answer_of : Result (Unit {0}) WaitEnd → Answer
 answer_of (Ok u) = zero_answer
 answer_of (Err (wait_end.Signal seen selected)) = signalled
 answer_of (Err (wait_end.Worn h place)) = answer.Worn
 
+abbrev pub IsEndCause : Known → Watch → How → Bool → WaitEnd → Type 0
+IsEndCause k w how queued (wait_end.Signal seen selected) = WasSignalled k w how seen selected queued
+IsEndCause k w how queued (wait_end.Worn h place) = FoundNoPlace k w h place
+
 abbrev pub IsCause : Known → ℕ → How → Bool → Result (Unit {0}) WaitEnd → Type 0
 IsCause k c how queued (Ok u) = Unit {0}
-IsCause k c how queued (Err (wait_end.Signal seen selected)) = WasSignalled k c how seen selected queued
-IsCause k c how queued (Err (wait_end.Worn h place)) = FoundNoPlace k c h place
+IsCause k c how queued (Err e) = IsEndCause k (watch.Plain c) how queued e
 
 -- The task went through the whole call, and the answer is that of its program, with its cause.
 pub record EndsWait (old new : Known) (c : ℕ) (how : How) (result : Result (Unit {0}) WaitEnd) : Type 0 where
   pub queued : Bool
-  pub waited : HasWaited old new c how (next.Go at.First) (next.Ends (answer_of result)) queued
+  pub waited : HasWaited old new (watch.Plain c) how (next.Go at.First) (next.Ends (answer_of result)) queued
   pub cause : IsCause new c how queued result

@@ -1,6 +1,7 @@
 pub mod Queueing
 pub mod Posts
 pub mod Waits
+pub mod WaitPlans
 pub mod Ends
 pub mod Conds
 pub mod Prepares

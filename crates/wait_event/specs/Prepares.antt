@@ -122,6 +122,13 @@ pub record MayFinish (k : Known) : Type 0 where
 abbrev pub any_how : How
 any_how = record { state = states.Uninterruptible; exclusive = false }
 
+-- a wait for this watch of which only its finish is left: it has loaded a value that sets a plain condition
+pub record IsFinishing (r : WaitRun) (w : Watch) : Type 0 where
+  pub watch_is : r.watch ≡ w
+  pub how_is : r.how ≡ any_how
+  pub asks_is : r.asks ≡ true
+  pub seen : r.seen ≡ 1
+
 -- The task went through the finish of a wait. It is RUNNING, holds no lock, and the entry is off.
 pub record HasFinished (old new : Known) : Type 0 where
   pub cond : ℕ

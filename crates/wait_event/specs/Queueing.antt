@@ -14,7 +14,7 @@ use Rattle.wait_rule.specs.Known.{Known}
 use Rattle.wait_rule.specs.Queues.{IsFrontPlace, IsTailPlace, IsPriorityPlace, IsWholeBook}
 use Rattle.wait_rule.specs.Shown.{shown_queue}
 use Rattle.wq_head.specs.declared.adds.Worn.{Worn}
-use Rattle.wq_head.specs.Adds.{IsFor, IsForTail, IsFrontWorn, IsTailWorn, IsPriorityWorn}
+use Rattle.wq_head.specs.Adds.{IsFor, IsForPlain, IsForTail, IsFrontWorn, IsTailWorn, IsPriorityWorn}
 
 -- the place that an add of a form takes, the entry that stands there, and where it finds no place; a simple entry is
 -- not exclusive
@@ -41,7 +41,7 @@ IsFormWorn forms.Priority old new w = IsPriorityWorn old new w
 abbrev pub IsForBy : Form → Watch → Kind → Type 0
 IsForBy forms.Front w k = IsFor w k
 IsForBy forms.Tail w k = IsForTail w k
-IsForBy forms.Priority w k = IsFor w k
+IsForBy forms.Priority w k = IsForPlain w k
 
 -- the form of a wait's entry
 abbrev pub wait_form : How → Form

@@ -1,28 +1,7 @@
 -- To be believed.
--- A wait for a plain condition, in stretches: its stages, and what each turn does.
-use Rattle.std.specs.Prelude.{
-  ℕ,
-  ◌≡◌,
-  ◌<◌,
-  ◌≤◌,
-  ◌||◌,
-  ◌&&◌,
-  not,
-  nat_lt,
-  Bool,
-  true,
-  false,
-  if◌then◌else◌,
-  is_some,
-  Option,
-  Some,
-  None,
-  List,
-  [],
-  ◌∷◌,
-  ◌++◌,
-}
-use Rattle.wait_model.specs.declared.layout.TheConstants.{FIRST_SIMPLE, PLAIN_CONDITIONS}
+-- A wait for a plain condition or a variable, in stretches: its stages, and what each turn does.
+use Rattle.std.specs.Prelude.{ℕ, ◌≡◌, ◌≤◌, ◌||◌, ◌&&◌, not, nat_lt, Bool, true, false, if◌then◌else◌, is_some, Option, Some, None, List, [], ◌∷◌, ◌++◌}
+use Rattle.wait_model.specs.declared.layout.TheConstants.{FIRST_SIMPLE}
 use Rattle.wait_model.specs.declared.calls.Call.{Call}
 use Rattle.wait_model.specs.declared.calls.Call.TheVariants as calls
 use Rattle.wait_model.specs.declared.calls.Answer.{Answer}
@@ -41,20 +20,21 @@ use Rattle.wait_model.specs.declared.points.Planned.{Planned}
 use Rattle.wait_model.specs.declared.points.Seen.{Seen}
 use Rattle.wait_model.specs.declared.steps.Step.{Step}
 use Rattle.wait_model.specs.declared.steps.Step.TheVariants as step
+use Rattle.wait_model.specs.declared.watches.Watch.{Watch}
 use Rattle.wait_model.specs.declared.watches.Watch.TheVariants as watch
 use Rattle.wait_model.specs.Tasks.{task_of, state_mask, pending}
 use Rattle.wait_model.specs.Words.{entry_of}
-use Rattle.wait_model.specs.Points.{call_head, call_watch}
 use Rattle.wait_model.specs.Programs.{program, zero_answer, signalled}
 use Rattle.wait_model.specs.Reached.{absent, holds, stirs}
+use Rattle.wait_model.specs.Watches.{IsThere, head_of, misses}
 use Rattle.wait_rule.specs.Known.{Known}
-use Rattle.wait_rule.specs.Tickets.{no_ticket}
+use Rattle.wait_rule.specs.Tickets.{no_ticket, taken}
 use Rattle.wait_rule.specs.Ends.{WasWorn}
 use Rattle.wait_rule.specs.Says.{IsUp, IsDown, history_of, told_of}
 use Rattle.wait_rule.specs.Queues.{index}
 use Rattle.wait_rule.specs.Shown.{shown_queue}
 use Rattle.wait_rule.specs.Transitions.{Program, StepOrLook, Transition, by_step, call_program}
-use Rattle.wait_event.specs.Posts.{Post, Stands, post_at, Keeps, Runs}
+use Rattle.wait_event.specs.Posts.{Post, Stands, Keeps, Runs, ticket_out, zone_at}
 use Rattle.wait_event.specs.Queueing.{is_none}
 use Rattle.wait_event.specs.declared.waits.WaitRun.{WaitRun}
 use Rattle.wait_event.specs.declared.waits.WaitStage.{WaitStage}
@@ -91,9 +71,15 @@ ticket_at stage.PrepareTurn n = Some n
 ticket_at stage.FinishTurn n = Some n
 ticket_at _ n = None
 
--- the call, and its program, which looks for a signal in its prepare only where it asks for one
+-- The call of a wait for a watch; plain conditions and variables have one. Its program looks for a signal in its
+-- prepare only where it asks for one.
+abbrev pub call_for : Watch → How → Call
+call_for (watch.Var v old) how = calls.WaitVar v old how.state
+call_for (watch.Plain c) how = calls.Wait c how
+call_for _ how = calls.Wait 0 how
+
 abbrev pub wait_call : WaitRun → Call
-wait_call r = calls.Wait r.cond r.how
+wait_call r = call_for r.watch r.how
 
 abbrev pub asked : Bool → Point → Planned → Planned
 asked asks (at.Prepare preparing.Lock) e = if asks then e
@@ -105,22 +91,44 @@ wait_program asks me call = record (call_program me 0 call) {
   plan = λ p seen. asked asks p (program me call p seen);
 }
 
+-- a value that does not set the watch: the old one of a variable, and else 0
+abbrev pub old_of : Watch → ℕ
+old_of (watch.Var v old) = old
+old_of _ = 0
+
 -- a wait that has not begun
-pub record IsFresh (r : WaitRun) (c : ℕ) (how : How) (asks : Bool) : Type 0 where
-  pub cond : r.cond ≡ c
+pub record IsFresh (r : WaitRun) (w : Watch) (how : How) (asks : Bool) : Type 0 where
+  pub watch_is : r.watch ≡ w
   pub how_is : r.how ≡ how
   pub asks_is : r.asks ≡ asks
+  pub seen : r.seen ≡ old_of w
   pub queued : r.queued ≡ false
   pub first : r.first ≡ false
 
--- The waits that run: for any plain condition. Where its head is a simple one it is a simple wait, whose program is
--- that of a wait whose entry goes to the tail.
+-- The waits that run: for any plain condition and any variable. Where the head of a condition is a simple one it is a
+-- simple wait, whose program is that of a wait whose entry goes to the tail. A wait for a variable is not exclusive.
+abbrev pub IsWaitFor : Watch → How → Type 0
+IsWaitFor (watch.Plain c) how = FIRST_SIMPLE ≤ c → how.exclusive ≡ true
+IsWaitFor (watch.Var v old) how = how.exclusive ≡ false
+IsWaitFor _ how = ⊥
+
 pub record IsRunning (r : WaitRun) : Type 0 where
-  pub plain : r.cond < PLAIN_CONDITIONS
-  pub tail : FIRST_SIMPLE ≤ r.cond → r.how.exclusive ≡ true
+  pub there : IsThere r.watch
+  pub suits : IsWaitFor r.watch r.how
+
+-- what a point says of the task: that of each wait, at the head of this one's watch
+abbrev pub post_in : Option ℕ → WaitRun → Point → Post
+post_in out r p = record {
+  head = if holds p then Some (head_of r.watch) else None;
+  ticket = if holds p then taken (head_of r.watch) else ticket_out (head_of r.watch) out;
+  stirs = stirs (calls.Wait 0 r.how) p;
+  state = state_mask r.how.state;
+  zone = zone_at p;
+  watch = r.watch;
+}
 
 abbrev pub wait_post : WaitRun → WaitStage → Post
-wait_post r s = post_at (ticket_at s r.ticket) (wait_call r) (point_of s)
+wait_post r s = post_in (ticket_at s r.ticket) r (point_of s)
 
 -- Its history ends so, with the steps of the last hold that left the queue for a signal: the look at the own word
 -- showed one that the state admits, and the own entry was taken off, or was off.
@@ -136,7 +144,7 @@ abbrev pub own_of : Known → ℕ
 own_of k = index k.view.number 0
 
 abbrev pub head_of_wait : WaitRun → ℕ
-head_of_wait r = call_head (wait_call r)
+head_of_wait r = head_of r.watch
 
 -- the look showed this word, and the hold the own entry as this word
 pub record SawSignal (r : WaitRun) (w : ℕ) : Type 0 where
@@ -157,7 +165,17 @@ pub record FoundWorn (k : Known) (r : WaitRun) (more : List Step) : Type 0 where
 
 -- the load at which the wait ended
 abbrev pub last_load : WaitRun → List Step
-last_load r = step.Load (watch.Plain r.cond) r.seen ∷ []
+last_load r = step.Load r.watch r.seen ∷ []
+
+-- a load that found this value does not set the watch
+abbrev pub IsUnset : Watch → ℕ → Type 0
+IsUnset (watch.Plain c) v = v ≡ 0
+IsUnset (watch.Var u old) v = v ≡ old
+IsUnset w v = misses w v ≡ true
+
+-- what the wait has loaded last sets its watch
+abbrev pub HasSeenSet : WaitRun → Type 0
+HasSeenSet r = misses r.watch r.seen ≡ false
 
 -- the history has stored the own entry of slot 0, and the state is the one in which the wait sleeps
 pub record IsQueuedIn (k : Known) (σ : ℕ) : Type 0 where
@@ -175,11 +193,13 @@ TrailAt k r (at.Leave leaving.Unlock) = (w : ℕ) × (e : ℕ) × SawSignal r w 
     × (r.found ≡ true) × EndsWith k (step.Look w ∷ step.Saw (own_of k) e ∷ step.Unqueue (own_of k) ∷ [])
 TrailAt k r (at.Leave leaving.Load) = LeftQueue k r []
 TrailAt k r at.Worn = FoundWorn k r []
+TrailAt k r (at.Finish p failed) = HasSeenSet r
 TrailAt k r _ = Unit {0}
 
 pub record TrailEnd (k : Known) (r : WaitRun) (a : Answer) : Type 0 where
-  pub signal : a ≡ signalled → LeftQueue k r (last_load r) × (r.seen ≡ 0)
-  pub worn : a ≡ answer.Worn → FoundWorn k r (last_load r) × (r.seen ≡ 0)
+  pub over : a ≡ zero_answer → HasSeenSet r
+  pub signal : a ≡ signalled → LeftQueue k r (last_load r) × IsUnset r.watch r.seen
+  pub worn : a ≡ answer.Worn → FoundWorn k r (last_load r) × IsUnset r.watch r.seen
 
 abbrev pub Trail : Known → WaitRun → Next → Type 0
 Trail k r (next.Go p) = TrailAt k r p
@@ -196,7 +216,7 @@ pub record IsAsleepAt (k : Known) (r : WaitRun) (s : WaitStage) : Type 0 where
   pub runs : IsRunning r
   pub down : IsDown k
   pub stands : Stands k (record (wait_post r s) { stirs = true })
-  pub calm : stirs (wait_call r) (point_of s) ≡ false
+  pub calm : stirs (calls.Wait 0 r.how) (point_of s) ≡ false
   pub place : point_of s ≡ at.Prepare preparing.Lock
 
 -- the wait has ended: the task is awake, RUNNING, holds no head, and its entry is off
@@ -207,7 +227,7 @@ end_post r = record {
   stirs = false;
   state = 0;
   zone = absent;
-  watch = call_watch (wait_call r);
+  watch = r.watch;
 }
 
 abbrev pub answer_in : WaitOutcome → Answer
@@ -228,7 +248,7 @@ next_in (turn.Done o) = next.Ends (answer_in o)
 
 -- it is the same call
 pub record SameCall (r q : WaitRun) : Type 0 where
-  pub cond : q.cond ≡ r.cond
+  pub watch_is : q.watch ≡ r.watch
   pub how : q.how ≡ r.how
   pub asks : q.asks ≡ r.asks
 
@@ -246,17 +266,27 @@ abbrev pub queues_first : List Transition → Bool
 queues_first [] = false
 queues_first (t ∷ ts) = (is_queue t.did && is_none (shown_queue t.knew)) || queues_first ts
 
+-- what the last load in these transitions found, and before the first one what had been found
+abbrev pub loaded_by : StepOrLook → Option ℕ → Option ℕ
+loaded_by (by_step (step.Load w v)) o = Some v
+loaded_by _ o = o
+
+abbrev pub last_loaded : Option ℕ → List Transition → Option ℕ
+last_loaded o [] = o
+last_loaded o (t ∷ ts) = last_loaded (loaded_by t.did o) ts
+
 -- a prepare that answers that: it is exclusive, and looks for no signal
 abbrev pub tells_first : WaitRun → Bool
 tells_first r = r.how.exclusive && not r.asks
 
--- The wait went on from one stage to another. The run tells whether it has queued its entry, and a prepare that answers
--- it whether as the first member of its head.
+-- The wait went on from one stage to another. The run tells whether it has queued its entry, a prepare that answers it
+-- whether as the first member of its head, and what the last load found.
 pub record Went (old new : Known) (r q : WaitRun) (from to : Next) : Type 0 where
   pub runs : Runs (wait_program r.asks old.view.number (wait_call r)) old new from to
   pub keeps : Keeps (index old.view.number 0) old new
   pub queued : q.queued ≡ (r.queued || queues runs.transitions)
   pub first : q.first ≡ (r.first || (queues_first runs.transitions && tells_first r))
+  pub seen : Some q.seen ≡ last_loaded (Some r.seen) runs.transitions
 
 -- and where it stands then
 abbrev pub Lands : Known → WaitRun → WaitTurn → Type 0
@@ -298,10 +328,6 @@ with_worn b = record nothing { worn = b }
 
 abbrev pub with_own : TaskRecord → Seen
 with_own t = record nothing { own = t }
-
--- where the program goes by what it found
-abbrev pub goes_to : WaitRun → WaitStage → Seen → Next
-goes_to r s seen = (asked r.asks (point_of s) (program 0 (wait_call r) (point_of s) seen)).next
 
 -- the stages of each kind of event
 abbrev pub LoadsAt : WaitStage → Type 0

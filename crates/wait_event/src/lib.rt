@@ -1,4 +1,5 @@
-//! Waits for plain conditions on real threads, and the calls of their wakers. A call that waits goes on in stretches.
+//! Waits for plain conditions and variables on real threads, and the calls of the wakers of plain conditions. A call
+//! that waits goes on in stretches.
 #![tactic(auto)]
 
 pub mod conds;

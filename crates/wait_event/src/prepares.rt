@@ -5,7 +5,7 @@ ghost use Rattle.wait_event.specs.declared.waits.WaitOutcome.TheVariants as outc
 ghost use Rattle.wait_event.specs.declared.waits.WaitStage.TheVariants as stage;
 ghost use Rattle.wait_event.specs.declared.waits.WaitTurn.TheVariants as turn;
 ghost use Rattle.wait_event.specs.Prepares.{EndsPrepare, HasFinished, IsFullWatch, IsPlainWait, MayFinish, MayPrepare};
-ghost use Rattle.wait_event.specs.Prepares.{EndsExclusive, cond_in, first_in, prepared_in, with_signal};
+ghost use Rattle.wait_event.specs.Prepares.{EndsExclusive, IsFinishing, first_in, prepared_in, with_signal};
 ghost use Rattle.wait_event.specs.Waits.{Advances, IsAt, is_prepared};
 
 use crate::queueing::own_entry;
@@ -94,16 +94,6 @@ fn run_finish<R: Wait>(rt: &R, domain: &Domain, task: &mut Task, run: &mut WaitR
     unreachable!()
 }
 
-/// The condition that a watch names.
-fn cond_of(watch: Watch) -> u8
-    ensures { result ≡ cond_in watch }
-{
-    match watch {
-        Watch::Plain { cond } => cond,
-        _ => 0,
-    }
-}
-
 /// What a prepare did, by the stage at which it ended.
 fn answer_at(run: WaitRun, stage: WaitStage) -> Result<Prepared, Worn>
     ensures { result ≡ prepared_in run stage }
@@ -112,7 +102,7 @@ fn answer_at(run: WaitRun, stage: WaitStage) -> Result<Prepared, Worn>
         WaitStage::Test => Ok(Prepared::Queued),
         WaitStage::LeaveLoad => Ok(Prepared::Signal),
         _ => Err(Worn {
-            head: head_of(run.watch()),
+            head: head_of(run.watch),
             place: run.place,
         }),
     }
@@ -125,10 +115,23 @@ fn first_at(run: WaitRun, stage: WaitStage) -> Result<bool, Worn>
     match stage {
         WaitStage::Test => Ok(run.first),
         _ => Err(Worn {
-            head: head_of(run.watch()),
+            head: head_of(run.watch),
             place: run.place,
         }),
     }
+}
+
+/// A wait for a plain condition of which only its finish is left, as after a load that found 1.
+fn finishing(watch: Watch) -> WaitRun
+    ensures { IsFinishing result watch }
+{
+    let how = How {
+        state: SleepState::Uninterruptible,
+        exclusive: false,
+    };
+    let mut run = WaitRun::new(watch, how, true);
+    run.seen = 1;
+    run
 }
 
 /// Prepares to wait in one hold, and looks for a signal in it where it asks for one.
@@ -147,7 +150,7 @@ fn prepare<R: Wait>(
     ensures may { MayFinish task.new }
 {
     task.told();
-    let mut run = WaitRun::new(cond_of(watch), how, asks);
+    let mut run = WaitRun::new(watch, how, asks);
     let stage = run_prepare(rt, domain, task, &mut run);
     answer_at(run, stage)
 }
@@ -227,7 +230,7 @@ pub fn prepare_exclusive<R: Wait>(
         state,
         exclusive: true,
     };
-    let mut run = WaitRun::new(cond_of(watch), how, false);
+    let mut run = WaitRun::new(watch, how, false);
     let stage = run_prepare(rt, domain, task, &mut run);
     first_at(run, stage)
 }
@@ -246,11 +249,7 @@ pub fn finish_wait<R: Wait>(rt: &R, domain: &Domain, task: &mut Task)
     match entry {
         None => {}
         Some(entry) => {
-            let how = How {
-                state: SleepState::Uninterruptible,
-                exclusive: false,
-            };
-            let mut run = WaitRun::new(cond_of(entry.watch), how, true);
+            let mut run = finishing(entry.watch);
             run_finish(rt, domain, task, &mut run);
         }
     }

@@ -1,4 +1,4 @@
-//! Waits for plain conditions: by stretches, for who may not wait, and as whole calls.
+//! Waits for plain conditions and variables: by stretches, for who may not wait, and as whole calls.
 
 ghost use Rattle.std.specs.Prelude.{◌≡◌, ◌≤◌, not, MatchBool};
 ghost use Rattle.wait_event.specs.declared.waits.WaitTurn.TheVariants as turn;
@@ -89,7 +89,7 @@ pub(crate) fn pause<R: Wait>(rt: &R, domain: &Domain, run: &WaitRun, looks: u32)
     requires runs { IsRunning run.now }
     ensures { result ≤ LOOKS }
 {
-    locks::pause(rt, domain, head_of(run.watch()), run.served, looks)
+    locks::pause(rt, domain, head_of(run.watch), run.served, looks)
 }
 
 /// Goes on with a wait from a stage to its end: waits for locks, and sleeps.

@@ -2,6 +2,7 @@
 
 ghost use Rattle.std.specs.Prelude.{◌≡◌, ◌<◌, true};
 ghost use Rattle.wait_model.specs.declared.layout.TheConstants.{FIRST_SIMPLE};
+ghost use Rattle.wait_model.specs.declared.watches.Watch.TheVariants as watch;
 ghost use Rattle.wait_rule.specs.Says.{IsUp};
 ghost use Rattle.wait_rule.specs.Queues.{IsIdle, IsTold, index};
 ghost use Rattle.wait_event.specs.declared.waits.WaitStage.TheVariants as stage;
@@ -15,6 +16,7 @@ use std::sync::Wait;
 use thiserror::Error;
 use wait_model::heads::head_of;
 use wait_model::tasks::How;
+use wait_model::watches::Watch;
 use wait_rule::{Domain, Task};
 
 /// Why a wait ended though its condition was not set. Signal: the look in its last hold showed a signal that its state
@@ -37,11 +39,11 @@ pub fn begin_wait(task: &Task, cond: u8, how: How) -> WaitRun
     requires full { cond < FIRST_SIMPLE }
     requires out { IsOut task.now }
     ensures at { IsAt task.now result stage.First }
-    ensures fresh { IsFresh result cond how true }
+    ensures fresh { IsFresh result (watch.Plain cond) how true }
     ensures told { IsTold task.now }
 {
     task.told();
-    WaitRun::new(cond, how, true)
+    WaitRun::new(Watch::Plain { cond }, how, true)
 }
 
 /// Waits until condition `cond`, below `FIRST_SIMPLE`, is set (`wait_event`, `wait_event_interruptible`,
@@ -82,7 +84,7 @@ pub fn end_of(run: WaitRun, outcome: WaitOutcome) -> Result<(), WaitEnd>
             selected: run.queued && !run.found,
         }),
         WaitOutcome::Worn => Err(WaitEnd::Worn {
-            head: head_of(run.watch()),
+            head: head_of(run.watch),
             place: run.place,
         }),
     }

@@ -1,11 +1,12 @@
-//! A wait for a plain condition as a machine of small stages: one event at most in each turn, which waits for nobody.
+//! A wait for a plain condition or a variable as a machine of small stages: one event at most in each turn, which waits
+//! for nobody.
 
 ghost use Rattle.std.specs.Prelude.{◌≡◌, true};
-ghost use Rattle.wait_model.specs.declared.watches.Watch.TheVariants as watch;
 ghost use Rattle.wait_model.specs.Tasks.{task_of};
 ghost use Rattle.wait_rule.specs.Says.{IsUp};
 ghost use Rattle.wait_event.specs.declared.waits.WaitTurn.TheVariants as turn;
-ghost use Rattle.wait_event.specs.Waits.{Advances, IsAt, IsFresh, IsPlain, goes_to, next_in, nothing, state_at};
+ghost use Rattle.wait_event.specs.WaitPlans.{goes_to};
+ghost use Rattle.wait_event.specs.Waits.{Advances, IsAt, IsFresh, IsPlain, next_in, nothing, old_of, state_at};
 ghost use Rattle.wait_event.specs.Waits.{with_entry, with_own, with_value};
 ghost use Rattle.wait_event.specs.Waits.{DrawsAt, LoadsAt, LocksAt, LooksAt, ParesAt, PeeksAt, StoresAt, UnlocksAt};
 ghost use Rattle.wait_event.specs.Waits.{falls, tells_first, turn_of};
@@ -69,9 +70,10 @@ pub enum WaitTurn {
 /// The numbers of a wait under way.
 #[derive(Clone, Copy)]
 pub struct WaitRun {
-    /// The condition, below `PLAIN_CONDITIONS`. One from `FIRST_SIMPLE` on has a simple head: its wait has its entry at
-    /// the tail, as an exclusive one, and the entry is a simple one without flags.
-    pub cond: u8,
+    /// What it waits for: a plain condition or a variable. A plain condition from `FIRST_SIMPLE` on has a simple head:
+    /// its wait has its entry at the tail, as an exclusive one, and the entry is a simple one without flags. A wait for
+    /// a variable is not exclusive.
+    pub watch: Watch,
     pub how: How,
     /// Whether a prepare looks for a signal.
     pub asks: bool,
@@ -80,7 +82,7 @@ pub struct WaitRun {
     pub served: u64,
     /// The place that showed the last add that no place was left.
     pub place: u64,
-    /// What the last load of the condition found.
+    /// What the last load of the condition found; before the first one, a value that does not set the watch.
     pub seen: u64,
     /// Whether the wait has queued its entry, and whether the hold that left the queue for a signal found it queued.
     pub queued: bool,
@@ -91,27 +93,21 @@ pub struct WaitRun {
 
 impl WaitRun {
     /// A wait that has not begun. `asks` is whether its prepare looks for a signal.
-    pub fn new(cond: u8, how: How, asks: bool) -> WaitRun
-        ensures { IsFresh result cond how asks }
+    pub fn new(watch: Watch, how: How, asks: bool) -> WaitRun
+        ensures { IsFresh result watch how asks }
     {
         WaitRun {
-            cond,
+            watch,
             how,
             asks,
             ticket: 0,
             served: 0,
             place: 0,
-            seen: 0,
+            seen: old_of(watch),
             queued: false,
             found: false,
             first: false,
         }
-    }
-
-    pub(crate) fn watch(self) -> Watch
-        ensures { result ≡ watch.Plain self.cond }
-    {
-        Watch::Plain { cond: self.cond }
     }
 
     /// Whether it answers that its entry is the first one: an exclusive prepare that looks for no signal.
@@ -119,6 +115,16 @@ impl WaitRun {
         ensures { result ≡ tells_first self }
     {
         self.how.exclusive && !self.asks
+    }
+}
+
+/// The old value of a variable's watch, and 0 of every other one: a load that finds it does not set the watch.
+fn old_of(watch: Watch) -> u64
+    ensures { result ≡ old_of watch }
+{
+    match watch {
+        Watch::Var { old, .. } => old,
+        _ => 0,
     }
 }
 
@@ -130,31 +136,31 @@ fn loaded(run: WaitRun, stage: WaitStage, value: u64) -> WaitTurn
     ensures plain { IsPlain run result }
     ensures falls { falls stage result ≡ true }
 {
-    let _ = run;
+    let misses = run.watch.misses(value);
     match stage {
         WaitStage::First => {
-            if value == 0 {
+            if misses {
                 WaitTurn::Again(WaitStage::PrepareLock)
             } else {
                 WaitTurn::Done(WaitOutcome::Over)
             }
         }
         WaitStage::Test => {
-            if value == 0 {
+            if misses {
                 WaitTurn::Again(WaitStage::Sleep)
             } else {
                 WaitTurn::Again(WaitStage::FinishState)
             }
         }
         WaitStage::Worn => {
-            if value == 0 {
+            if misses {
                 WaitTurn::Done(WaitOutcome::Worn)
             } else {
                 WaitTurn::Again(WaitStage::FinishState)
             }
         }
         WaitStage::LeaveLoad => {
-            if value == 0 {
+            if misses {
                 WaitTurn::Done(WaitOutcome::Signalled)
             } else {
                 WaitTurn::Again(WaitStage::FinishState)
@@ -298,7 +304,7 @@ fn load_event(domain: &Domain, task: &mut Task, run: &mut WaitRun, stage: WaitSt
     ensures advances { Advances task.old task.new run.old run.new stage result }
     ensures falls { falls stage result ≡ true }
 {
-    let value = cond_load(domain, task, run.watch());
+    let value = cond_load(domain, task, run.watch);
     run.seen = value;
     loaded(*run, stage, value)
 }
@@ -312,7 +318,7 @@ fn draw_event(domain: &Domain, task: &mut Task, run: &mut WaitRun, stage: WaitSt
     ensures { Advances task.old task.new run.old run.new stage (turn.Again (turn_of stage)) }
 {
     let _ = stage;
-    run.ticket = draw(domain, task, head_of(run.watch()));
+    run.ticket = draw(domain, task, head_of(run.watch));
 }
 
 /// One look whether the ticket is served, and the lock where it is.
@@ -324,7 +330,7 @@ fn lock_event(domain: &Domain, task: &mut Task, run: &mut WaitRun, stage: WaitSt
     ensures advances { Advances task.old task.new run.old run.new stage result }
     ensures falls { falls stage result ≡ true }
 {
-    let head = head_of(run.watch());
+    let head = head_of(run.watch);
     let found = serving_load(domain, task, head);
     run.served = found;
     if found != run.ticket {
@@ -387,7 +393,7 @@ fn queue_event(domain: &Domain, task: &mut Task, run: &mut WaitRun) -> WaitTurn
         set_state(domain, task, run.how.state.mask());
         return WaitTurn::Again(WaitStage::PrepareUnlock);
     }
-    let watch = run.watch();
+    let watch = run.watch.bare();
     let first = is_first(domain, task, head_of(watch), run.tells_first());
     match add_by(domain, task, wait_form(run.how), watch.kind(), watch) {
         Ok(()) => {

@@ -166,12 +166,12 @@ pub fn run_woken<R: Wait>(
     unreachable!()
 }
 
-/// Waits for the flag of the own entry of slot 0, which is queued and of kind Woken (`wait_woken`): it stores the
-/// state; where WOKEN is not set it sleeps until it is woken, or does not, as a signal is pending that the state admits
-/// or it was woken before; it stores RUNNING, and then clears WOKEN. A waker sets WOKEN before it wakes
-/// (`woken_wake_function`), so who loads a condition as not set and then waits misses no wake that comes after that
-/// load. The task is RUNNING and holds no lock; it is so afterwards, its entry is queued still, and it owes what it
-/// owed.
+/// Waits for the flag of the own entry of slot 0, which is queued and of kind Woken (kernel/sched/wait.c,
+/// `wait_woken`): it stores the state; where WOKEN is not set it sleeps until it is woken, or does not, as a signal is
+/// pending that the state admits or it was woken before; it stores RUNNING, and then clears WOKEN. A waker sets WOKEN
+/// before it wakes (`woken_wake_function`), so who loads a condition as not set and then waits misses no wake that
+/// comes after that load. The task is RUNNING and holds no lock; it is so afterwards, its entry is queued still, and it
+/// owes what it owed.
 pub fn wait_woken<R: Wait>(rt: &R, domain: &Domain, task: &mut Task, state: SleepState)
     requires of { task.old.domain ≡ domain.now }
     requires up { IsUp task.old }

@@ -2,7 +2,7 @@
 use Rattle.std.proofs.Common.{◌∙◌, ap, sym, refl, subst, inl, inr, arith}
 use Rattle.std.proofs.lemmas.Bool.Decides.{nat_tests}
 use Rattle.std.specs.Prelude.{ℕ, ◌≡◌, ◌<◌, ◌≤◌, not, nat_lt, Bool, true, false, if◌then◌else◌}
-use Rattle.wait_model.specs.declared.layout.TheConstants.{FIRST_SIMPLE, PLAIN_CONDITIONS}
+use Rattle.wait_model.specs.declared.layout.TheConstants.{FIRST_SIMPLE, PLAIN_CONDITIONS, VARIABLES}
 use Rattle.wait_model.specs.declared.queues.Form.{Form}
 use Rattle.wait_model.specs.declared.queues.Form.TheVariants as forms
 use Rattle.wait_model.specs.declared.tasks.How.{How}
@@ -10,33 +10,40 @@ use Rattle.wait_model.specs.declared.watches.Kind.{Kind}
 use Rattle.wait_model.specs.declared.watches.Kind.TheVariants as kind
 use Rattle.wait_model.specs.declared.watches.Watch.{Watch}
 use Rattle.wait_model.specs.declared.watches.Watch.TheVariants as watch
-use Rattle.wait_model.specs.Watches.{is_simple, kind_for}
-use Rattle.wq_head.specs.Adds.{IsFor, IsFullKind}
+use Rattle.wait_model.specs.Watches.{IsThere, bare, is_simple, kind_for}
+use Rattle.wq_head.specs.Adds.{IsForPlain, IsFullKind}
 use Rattle.wait_event.specs.Queueing.{IsForBy, wait_form}
-use Rattle.wait_event.specs.Waits.{IsRunning}
+use Rattle.wait_event.specs.Waits.{IsRunning, IsWaitFor}
 use Rattle.wait_event.specs.declared.waits.WaitRun.{WaitRun}
 
--- a wait for a condition with a full head, and one with a simple head whose entry goes to the tail
-pub full_runs : (r : WaitRun) (c : ℕ) → r.cond ≡ c → c < FIRST_SIMPLE → IsRunning r
+-- a wait for a condition with a full head, one with a simple head whose entry goes to the tail, and one for a variable
+pub full_runs : (r : WaitRun) (c : ℕ) → r.watch ≡ watch.Plain c → c < FIRST_SIMPLE → IsRunning r
 full_runs r c is full = record {
-  plain = omega (arith, is, full);
-  tail = λ high. absurd (omega (arith, is, full, high));
+  there = subst IsThere (sym is) (omega (arith, full));
+  suits = subst (λ (w : Watch). IsWaitFor w r.how) (sym is) (λ high. absurd (omega (arith, full, high)));
 }
 
-pub tail_runs : (r : WaitRun) (c : ℕ) (how : How) → r.cond ≡ c → r.how ≡ how → c < PLAIN_CONDITIONS
+pub tail_runs : (r : WaitRun) (c : ℕ) (how : How) → r.watch ≡ watch.Plain c → r.how ≡ how → c < PLAIN_CONDITIONS
     → how.exclusive ≡ true → IsRunning r
 tail_runs r c how is same low tail = record {
-  plain = omega (arith, is, low);
-  tail = λ _. ap (λ (h : How). h.exclusive) same ∙ tail;
+  there = subst IsThere (sym is) low;
+  suits = subst (λ (w : Watch). IsWaitFor w r.how) (sym is) (λ _. ap (λ (h : How). h.exclusive) same ∙ tail);
+}
+
+pub var_runs : (r : WaitRun) (v old : ℕ) (how : How) → r.watch ≡ watch.Var v old → r.how ≡ how → v < VARIABLES
+    → how.exclusive ≡ false → IsRunning r
+var_runs r v old how is same low front = record {
+  there = subst IsThere (sym is) low;
+  suits = subst (λ (w : Watch). IsWaitFor w r.how) (sym is) (ap (λ (h : How). h.exclusive) same ∙ front);
 }
 
 -- an entry for a full head may be added by each form
-pub for_by : (form : Form) (w : Watch) (k : Kind) → IsFor w k → IsForBy form w k
-for_by forms.Front w k is = is
+pub for_by : (form : Form) (w : Watch) (k : Kind) → IsForPlain w k → IsForBy form w k
+for_by forms.Front w k is = inl is
 for_by forms.Tail w k is = inl is
 for_by forms.Priority w k is = is
 
-pub for_flags : (w : Watch) (k : Kind) → IsFor w k → true ≡ not (is_simple k)
+pub for_flags : (w : Watch) (k : Kind) → IsForPlain w k → true ≡ not (is_simple k)
 for_flags w k is = by is.3
   where
     by : IsFullKind k → true ≡ not (is_simple k)
@@ -45,27 +52,42 @@ for_flags w k is = by is.3
     by (inr (inr woken)) = sym (ap (λ (l : Kind). not (is_simple l)) woken)
 
 -- the entry of a wait may be added by the wait's form
-pub wait_for : (r : WaitRun) → IsRunning r → (form : Form) → form ≡ wait_form r.how → (w : Watch)
-    → w ≡ watch.Plain r.cond → (k : Kind) → k ≡ kind_for w → IsForBy form w k
-wait_for r runs form is w same k its = by (nat_lt r.cond FIRST_SIMPLE) refl
+plain_for : (how : How) (c : ℕ) → c < PLAIN_CONDITIONS → (FIRST_SIMPLE ≤ c → how.exclusive ≡ true) → (form : Form)
+    → form ≡ wait_form how → (w : Watch) → w ≡ watch.Plain c → (k : Kind) → k ≡ kind_for w → IsForBy form w k
+plain_for how c there suits form is w same k its = by (nat_lt c FIRST_SIMPLE) refl
   where
-    kind_is : k ≡ (if nat_lt r.cond FIRST_SIMPLE then kind.Autoremove else kind.Simple)
+    kind_is : k ≡ (if nat_lt c FIRST_SIMPLE then kind.Autoremove else kind.Simple)
     kind_is = its ∙ ap kind_for same
 
-    by : (b : Bool) → nat_lt r.cond FIRST_SIMPLE ≡ b → IsForBy form w k
+    by : (b : Bool) → nat_lt c FIRST_SIMPLE ≡ b → IsForBy form w k
     by true low =
-        let few : r.cond < FIRST_SIMPLE = grind (arith, nat_tests) in
+        let few : c < FIRST_SIMPLE = grind (arith, nat_tests) in
         for_by form w k (
-          r.cond,
+          c,
           same,
           few,
           inr (inl (kind_is ∙ ap (λ (b : Bool). if b then kind.Autoremove else kind.Simple) low)),
         )
     by false far =
-        let high : FIRST_SIMPLE ≤ r.cond = grind (arith, nat_tests) in
-        let tail : form ≡ forms.Tail = is ∙ ap (λ (b : Bool). if b then forms.Tail else forms.Front) (runs.tail high) in
+        let high : FIRST_SIMPLE ≤ c = grind (arith, nat_tests) in
+        let tail : form ≡ forms.Tail = is ∙ ap (λ (b : Bool). if b then forms.Tail else forms.Front) (suits high) in
         subst (λ (f : Form). IsForBy f w k) (sym tail)
         (inr (
           kind_is ∙ ap (λ (b : Bool). if b then kind.Autoremove else kind.Simple) far,
-          inl (r.cond, same, high, runs.plain),
+          inl (c, same, high, there),
         ))
+
+var_for : (how : How) (v : ℕ) → v < VARIABLES → how.exclusive ≡ false → (form : Form) → form ≡ wait_form how
+    → (w : Watch) → w ≡ watch.Var v 0 → (k : Kind) → k ≡ kind_for w → IsForBy form w k
+var_for how v there suits form is w same k its =
+    let front : form ≡ forms.Front = is ∙ ap (λ (b : Bool). if b then forms.Tail else forms.Front) suits in
+    subst (λ (f : Form). IsForBy f w k) (sym front) (inr (inr (its ∙ ap kind_for same, (v, same, there))))
+
+pub wait_for : (r : WaitRun) → IsRunning r → (form : Form) → form ≡ wait_form r.how → (w : Watch)
+    → w ≡ bare r.watch → (k : Kind) → k ≡ kind_for w → IsForBy form w k
+wait_for r runs form is w same k its = by r.watch runs.there runs.suits same
+  where
+    by : (u : Watch) → IsThere u → IsWaitFor u r.how → w ≡ bare u → IsForBy form w k
+    by (watch.Plain c) there suits from = plain_for r.how c there suits form is w from k its
+    by (watch.Var v o) there suits from = var_for r.how v there suits form is w from k its
+    by u there suits from = absurd suits

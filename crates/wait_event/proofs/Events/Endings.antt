@@ -1,8 +1,7 @@
 -- Whole waits: how they begin, and what they say at their end.
 use Rattle.std.proofs.Common.{◌∙◌, ap, sym, refl, subst}
-use Rattle.std.specs.Prelude.{ℕ, ◌≡◌, ◌||◌, ◌&&◌, not, Bool, true, false, Option, Some, None, Ok, Err, [], ◌∷◌, ◌++◌}
+use Rattle.std.specs.Prelude.{ℕ, ◌≡◌, ◌||◌, ◌&&◌, not, Bool, true, false, Option, Some, None, [], ◌∷◌, ◌++◌}
 use Rattle.wait_model.specs.declared.calls.Call.{Call}
-use Rattle.wait_model.specs.declared.calls.Call.TheVariants as calls
 use Rattle.wait_model.specs.declared.tasks.How.{How}
 use Rattle.wait_model.specs.declared.points.Point.{Point}
 use Rattle.wait_model.specs.declared.points.Point.TheVariants as at
@@ -32,7 +31,9 @@ use Rattle.wait_event.specs.Waits.{
   IsRunning,
   SameCall,
   answer_in,
+  IsUnset,
   asked,
+  call_for,
   left_by,
   own_of,
   point_of,
@@ -41,12 +42,13 @@ use Rattle.wait_event.specs.Waits.{
 }
 use Rattle.wait_event.specs.Ends.{
   EndsWait,
+  FoundNoPlace,
   HasWaited,
   IsOut,
+  WasSignalled,
   end_in,
   wait_change,
 }
-use Rattle.wait_event.specs.declared.wait_events.WaitEnd.TheVariants as wait_end
 use Rattle.wait_event.specs.declared.waits.WaitOutcome.{WaitOutcome}
 use Rattle.wait_event.specs.declared.waits.WaitOutcome.TheVariants as outcome
 use Rattle.wait_event.specs.declared.waits.WaitRun.{WaitRun}
@@ -56,9 +58,9 @@ use Rattle.wait_event.specs.declared.waits.WaitTurn.TheVariants as turn
 use Rattle.wait_event.proofs.Ground.Keeping.{excused}
 
 -- a task that is idle, with its entry off, may begin
-pub begins_at : (k : Known) (r : WaitRun) (c : ℕ) (how : How) → IsFresh r c how true → IsRunning r
+pub begins_at : (k : Known) (r : WaitRun) (w : Watch) (how : How) → IsFresh r w how true → IsRunning r
     → IsTold k → IsUp k → IsIdle k → IsOut k → IsAt k r stage.First
-begins_at k r c how fresh runs told up idle out = record {
+begins_at k r w how fresh runs told up idle out = record {
   runs = runs;
   up = up;
   stands = record {
@@ -68,7 +70,7 @@ begins_at k r c how fresh runs told up idle out = record {
     ticket = idle.free.ticket;
     agreed = λ h is. absurd (cc);
     state = idle.running;
-    home = subst (IsHome absent (watch.Plain r.cond)) (sym out) tt;
+    home = subst (IsHome absent r.watch) (sym out) tt;
   };
   trail = tt;
 }
@@ -100,7 +102,7 @@ module _ (old new : Known) (r q : WaitRun) (s : WaitStage) (o : WaitOutcome)
   }
 
   pub ends_out : IsOut new
-  ends_out = none_of (watch.Plain q.cond) ((told_of new).bits.stored (index new.view.number 0)) a.lands.stands.home
+  ends_out = none_of q.watch ((told_of new).bits.stored (index new.view.number 0)) a.lands.stands.home
 
   -- who began idle goes on as it was
   pub ends_carried : IsUp old → IsIdle old → (told_of old).hold.head ≡ None
@@ -128,16 +130,16 @@ module _ (old new : Known) (r q : WaitRun) (s : WaitStage) (o : WaitOutcome)
       }
 
 -- what it says at its end
-module _ (old new : Known) (r q : WaitRun) (c : ℕ) (how : How) (fresh : IsFresh r c how true) where
-  begun : (s : WaitStage) (o : WaitOutcome) (a : Advances old new r q s (turn.Done o))
-      → HasWaited old new c how (next.Go (point_of s)) (next.Ends (answer_in o)) (queues a.went.runs.transitions)
+module _ (old new : Known) (r q : WaitRun) (w : Watch) (how : How) (fresh : IsFresh r w how true) where
+  abbrev pub begun : (s : WaitStage) (o : WaitOutcome) (a : Advances old new r q s (turn.Done o))
+      → HasWaited old new w how (next.Go (point_of s)) (next.Ends (answer_in o)) (queues a.went.runs.transitions)
   begun s o a = record {
     runs = record {
       transitions = a.went.runs.transitions;
       goes = subst (λ (f : Program). Goes f old (next.Go (point_of s)) a.went.runs.transitions new
           (next.Ends (answer_in o)))
-          ((λ i. wait_program (fresh.asks_is i) old.view.number (calls.Wait (fresh.cond i) (fresh.how_is i)))
-          ∙ asks_program old.view.number (calls.Wait c how)) a.went.runs.goes;
+          ((λ i. wait_program (fresh.asks_is i) old.view.number (call_for (fresh.watch_is i) (fresh.how_is i)))
+          ∙ asks_program old.view.number (call_for w how)) a.went.runs.goes;
     };
     tells = refl;
   }
@@ -146,56 +148,57 @@ module _ (old new : Known) (r q : WaitRun) (c : ℕ) (how : How) (fresh : IsFres
       → q.queued ≡ queues a.went.runs.transitions
   queued_is s o a = a.went.queued ∙ ap (λ (b : Bool). b || queues a.went.runs.transitions) fresh.queued
 
-  cond_is : SameCall r q → q.cond ≡ c
-  cond_is same = same.cond ∙ fresh.cond
+  same_watch : SameCall r q → q.watch ≡ w
+  same_watch same = same.watch_is ∙ fresh.watch_is
 
   how_is : SameCall r q → q.how ≡ how
   how_is same = same.how ∙ fresh.how_is
 
-  pub ends_over : (a : Advances old new r q stage.First (turn.Done outcome.Over)) → EndsWait old new c how (Ok tt)
-  ends_over a = record {
-    queued = queues a.went.runs.transitions;
-    waited = begun stage.First outcome.Over a;
-    cause = tt;
-  }
-
-  pub ends_signalled : (a : Advances old new r q stage.First (turn.Done outcome.Signalled)) → (selected : Bool)
-      → selected ≡ (q.queued && not q.found) → EndsWait old new c how (Err (wait_end.Signal q.seen selected))
-  ends_signalled a selected tells =
+  -- it was signalled, and it found no place
+  pub was_signalled : (a : Advances old new r q stage.First (turn.Done outcome.Signalled)) → (selected : Bool)
+      → selected ≡ (q.queued && not q.found)
+      → WasSignalled new w how q.seen selected (queues a.went.runs.transitions)
+  was_signalled a selected tells =
       let t = a.lands.trail.signal refl in record {
-        queued = queues a.went.runs.transitions;
-        waited = begun stage.First outcome.Signalled a;
-        cause = record {
-          look = t.0.look;
-          entry = t.0.entry;
-          showed = ap (λ (h : How). pending (state_mask h.state) (task_of t.0.look)) (sym (how_is a.same))
-              ∙ t.0.showed.pends;
-          ends = subst (λ (d : ℕ). EndsWith new (left_by (own_of new) (head_of (watch.Plain d)) t.0.look t.0.entry
-              ++ step.Load (watch.Plain d) q.seen ∷ [])) (cond_is a.same) t.0.ends;
-          unset = t.1;
-          selects = tells ∙ (λ i. queued_is stage.First outcome.Signalled a i && not (t.0.found i));
-        };
+        look = t.0.look;
+        entry = t.0.entry;
+        showed = ap (λ (h : How). pending (state_mask h.state) (task_of t.0.look)) (sym (how_is a.same))
+            ∙ t.0.showed.pends;
+        ends = subst (λ (u : Watch). EndsWith new (left_by (own_of new) (head_of u) t.0.look t.0.entry
+            ++ step.Load u q.seen ∷ [])) (same_watch a.same) t.0.ends;
+        unset = subst (λ (u : Watch). IsUnset u q.seen) (same_watch a.same) t.1;
+        selects = tells ∙ (λ i. queued_is stage.First outcome.Signalled a i && not (t.0.found i));
       }
 
-  pub ends_worn : (a : Advances old new r q stage.First (turn.Done outcome.Worn)) → (h : ℕ)
-      → h ≡ head_of (watch.Plain q.cond) → EndsWait old new c how (Err (wait_end.Worn h q.place))
-  ends_worn a h here =
+  pub found_worn : (a : Advances old new r q stage.First (turn.Done outcome.Worn)) → (h : ℕ)
+      → h ≡ head_of q.watch → FoundNoPlace new w h q.place
+  found_worn a h here =
       let t = a.lands.trail.worn refl in record {
-        queued = queues a.went.runs.transitions;
-        waited = begun stage.First outcome.Worn a;
-        cause = record {
-          head = here ∙ ap (λ (d : ℕ). head_of (watch.Plain d)) (cond_is a.same);
-          noted = subst (λ (i : ℕ). WasWorn new.view.number new.view.items i q.place) (sym here) t.0.noted;
-          ends = subst (λ (i : ℕ). EndsWith new (step.Unlock i false ∷ step.Load (watch.Plain c) 0 ∷ [])) (sym here)
-              (subst (λ (d : ℕ). EndsWith new (step.Unlock (head_of (watch.Plain q.cond)) false
-              ∷ step.Load (watch.Plain d) 0 ∷ [])) (cond_is a.same)
-              (subst (λ (v : ℕ). EndsWith new (step.Unlock (head_of (watch.Plain q.cond)) false
-              ∷ step.Load (watch.Plain q.cond) v ∷ [])) t.1 t.0.ends));
-        };
+        head = here ∙ ap head_of (same_watch a.same);
+        noted = subst (λ (i : ℕ). WasWorn new.view.number new.view.items i q.place) (sym here) t.0.noted;
+        seen = q.seen;
+        ends = subst (λ (i : ℕ). EndsWith new (step.Unlock i false ∷ step.Load w q.seen ∷ [])) (sym here)
+            (subst (λ (u : Watch). EndsWith new (step.Unlock (head_of q.watch) false ∷ step.Load u q.seen ∷ []))
+            (same_watch a.same) t.0.ends);
+        unset = subst (λ (u : Watch). IsUnset u q.seen) (same_watch a.same) t.1;
       }
 
+-- for a plain condition
+module _ (old new : Known) (r q : WaitRun) (c : ℕ) (how : How) (fresh : IsFresh r (watch.Plain c) how true) where
   pub ends_wait : (o : WaitOutcome) → Advances old new r q stage.First (turn.Done o) → EndsWait old new c how (end_in
       q o)
-  ends_wait outcome.Over a = ends_over a
-  ends_wait outcome.Signalled a = ends_signalled a (q.queued && not q.found) refl
-  ends_wait outcome.Worn a = ends_worn a (head_of (watch.Plain q.cond)) refl
+  ends_wait outcome.Over a = record {
+    queued = queues a.went.runs.transitions;
+    waited = begun old new r q (watch.Plain c) how fresh stage.First outcome.Over a;
+    cause = tt;
+  }
+  ends_wait outcome.Signalled a = record {
+    queued = queues a.went.runs.transitions;
+    waited = begun old new r q (watch.Plain c) how fresh stage.First outcome.Signalled a;
+    cause = was_signalled old new r q (watch.Plain c) how fresh a (q.queued && not q.found) refl;
+  }
+  ends_wait outcome.Worn a = record {
+    queued = queues a.went.runs.transitions;
+    waited = begun old new r q (watch.Plain c) how fresh stage.First outcome.Worn a;
+    cause = found_worn old new r q (watch.Plain c) how fresh a (head_of q.watch) refl;
+  }

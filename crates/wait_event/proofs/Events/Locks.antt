@@ -1,7 +1,8 @@
 -- A ticket is drawn, the lock taken by it, and given back.
 use Rattle.std.proofs.Common.{◌∙◌, ap, sym, refl, subst, arith}
-use Rattle.std.specs.Prelude.{ℕ, ◌≡◌, ◌≢◌, ◌<◌, Bool, true, false, if◌then◌else◌, Option, Some, None, [], ◌∷◌, ◌++◌}
-use Rattle.wait_model.specs.declared.layout.TheConstants.{PLAIN_CONDITIONS, HEADS}
+use Rattle.std.specs.Prelude.{ℕ, ◌≡◌, ◌≢◌, ◌<◌, ◌+◌, ◌*◌, Bool, true, false, if◌then◌else◌}
+use Rattle.std.specs.Prelude.{Option, Some, None, [], ◌∷◌, ◌++◌}
+use Rattle.wait_model.specs.declared.layout.TheConstants.{BIT_WORDS, HEADS, PLAIN_CONDITIONS, WORD_BITS}
 use Rattle.wait_model.specs.declared.calls.Event.{Event}
 use Rattle.wait_model.specs.declared.calls.Event.TheVariants as event
 use Rattle.wait_model.specs.declared.points.Point.TheVariants as at
@@ -12,6 +13,7 @@ use Rattle.wait_model.specs.declared.points.Next.TheVariants as next
 use Rattle.wait_model.specs.declared.points.Planned.{Planned}
 use Rattle.wait_model.specs.declared.steps.Step.{Step}
 use Rattle.wait_model.specs.declared.steps.Step.TheVariants as step
+use Rattle.wait_model.specs.declared.watches.Watch.{Watch}
 use Rattle.wait_model.specs.declared.watches.Watch.TheVariants as watch
 use Rattle.wait_model.specs.declared.watches.Entry.{Entry}
 use Rattle.wait_model.specs.Fold.{after}
@@ -20,8 +22,7 @@ use Rattle.wait_model.specs.Tasks.{
   state_mask,
 }
 use Rattle.wait_model.specs.Views.{View as Told}
-use Rattle.wait_model.specs.Watches.{head_of}
-use Rattle.wait_model.specs.Points.{call_head}
+use Rattle.wait_model.specs.Watches.{IsThere, hashed, head_of}
 use Rattle.wait_model.specs.Programs.{go}
 use Rattle.wait_model.specs.Reached.{IsHome}
 use Rattle.wait_rule.specs.declared.journal.Item.TheVariants as item
@@ -36,7 +37,8 @@ use Rattle.wait_rule.proofs.KnownLaws.SettledTasks.{owes_after}
 use Rattle.wait_rule.proofs.KnownLaws.Transitions.{only_none}
 use Rattle.wait_rule.proofs.KnownLaws.Turns.{finds_turn, other_number, serve_looks}
 use Rattle.wq_head.proofs.CarriedHolds.{unlock_carried}
-use Rattle.wait_event.specs.Posts.{Post, Stands, IsStateFor, post_at, Keeps}
+use Rattle.wait_event.specs.Posts.{Post, Stands, IsStateFor, Keeps}
+use Rattle.wait_event.specs.WaitPlans.{goes_to, wait_plan}
 use Rattle.wait_event.specs.Waits.{
   Advances,
   DrawsAt,
@@ -47,10 +49,10 @@ use Rattle.wait_event.specs.Waits.{
   TrailAt,
   UnlocksAt,
   end_post,
-  goes_to,
   head_of_wait,
   nothing,
   own_of,
+  post_in,
   turn_of,
   wait_call,
   wait_post,
@@ -71,15 +73,26 @@ use Rattle.wait_event.proofs.Events.Trails.{
   queued_still,
 }
 
--- the heads of these conditions are there
+-- the heads of these conditions are there, and those of all watches
 pub head_fits : (c : ℕ) → c < PLAIN_CONDITIONS → head_of (watch.Plain c) < HEADS
 unfolding head_of
 head_fits c small = omega (arith, small)
 
+hashed_fits : (n : ℕ) → hashed n < HEADS
+unfolding hashed
+hashed_fits n = omega arith
+
+pub watch_fits : (w : Watch) → IsThere w → head_of w < HEADS
+unfolding head_of
+watch_fits (watch.Plain c) there = omega (arith, there)
+watch_fits (watch.Done d) there = omega (arith, there)
+watch_fits (watch.Bit w b) there = hashed_fits (w * WORD_BITS + b)
+watch_fits (watch.Var v o) there = hashed_fits (BIT_WORDS + v)
+
 -- a ticket is drawn
 module _ (old : Known) (r : WaitRun) (n : ℕ) where
   abbrev h : ℕ
-  h = head_of (watch.Plain r.cond)
+  h = head_of r.watch
 
   abbrev mid : Known
   mid = added old (item.Drawn h n)
@@ -96,41 +109,43 @@ module _ (old : Known) (r : WaitRun) (n : ℕ) where
   drawn_from : (s : WaitStage) → DrawsAt s → IsAt old r s
       → Advances old mid r with_number s (turn.Again (turn_of s))
   drawn_from stage.PrepareLock d a = record {
-    same = record { cond = refl; how = refl; asks = refl };
+    same = record { watch_is = refl; how = refl; asks = refl };
     went = record {
       runs = runs_looks (wait_program r.asks old.view.number (wait_call r)) old mid
           (next.Go (at.Prepare preparing.Lock)) draw_looks;
       keeps = draw_keeps;
       queued = sym (or_none r.queued);
       first = sym (or_none r.first);
+      seen = refl;
     };
     lands = record {
-      runs = record { plain = a.runs.plain; tail = a.runs.tail };
+      runs = record { there = a.runs.there; suits = a.runs.suits };
       up = a.up;
       stands = draw_stands old h n (wait_post r stage.PrepareLock) a.stands;
       trail = tt;
     };
   }
   drawn_from stage.FinishLock d a = record {
-    same = record { cond = refl; how = refl; asks = refl };
+    same = record { watch_is = refl; how = refl; asks = refl };
     went = record {
       runs = runs_looks (wait_program r.asks old.view.number (wait_call r)) old mid
           (next.Go (at.Finish finishing.Lock false)) draw_looks;
       keeps = draw_keeps;
       queued = sym (or_none r.queued);
       first = sym (or_none r.first);
+      seen = refl;
     };
     lands = record {
-      runs = record { plain = a.runs.plain; tail = a.runs.tail };
+      runs = record { there = a.runs.there; suits = a.runs.suits };
       up = a.up;
       stands = draw_stands old h n (wait_post r stage.FinishLock) a.stands;
-      trail = tt;
+      trail = a.trail;
     };
   }
   drawn_from s d a = absurd d
 
 pub draw_advances : (old new : Known) (r : WaitRun) (s : WaitStage) → DrawsAt s → IsAt old r s → (h n : ℕ)
-    → h ≡ head_of (watch.Plain r.cond) → new ≡ added old (item.Drawn h n)
+    → h ≡ head_of r.watch → new ≡ added old (item.Drawn h n)
     → Advances old new r (record r { ticket = n }) s (turn.Again (turn_of s))
 draw_advances old new r s d a h n same is =
     subst (λ (k : Known). Advances old k r (record r { ticket = n }) s (turn.Again (turn_of s)))
@@ -138,7 +153,7 @@ draw_advances old new r s d a h n same is =
 
 -- the ticket that is out
 pub ticket_is : (old : Known) (r : WaitRun) (s : WaitStage) → LocksAt s → IsAt old r s
-    → old.book.ticket ≡ drawn (head_of (watch.Plain r.cond)) r.ticket
+    → old.book.ticket ≡ drawn (head_of r.watch) r.ticket
 ticket_is old r stage.PrepareTurn l a = a.stands.ticket
 ticket_is old r stage.FinishTurn l a = a.stands.ticket
 ticket_is old r s l a = absurd l
@@ -146,7 +161,7 @@ ticket_is old r s l a = absurd l
 -- a load of the served number
 module _ (old : Known) (r : WaitRun) (w : ℕ) where
   abbrev head : ℕ
-  head = head_of (watch.Plain r.cond)
+  head = head_of r.watch
 
   abbrev served : Known
   served = added old (item.Serving head w)
@@ -164,16 +179,17 @@ module _ (old : Known) (r : WaitRun) (w : ℕ) where
   other_from : (s : WaitStage) → LocksAt s → IsAt old r s → w ≢ r.ticket
       → Advances old served r with_served s (turn.Locked s)
   other_from stage.PrepareTurn l a ne = record {
-    same = record { cond = refl; how = refl; asks = refl };
+    same = record { watch_is = refl; how = refl; asks = refl };
     went = record {
       runs = runs_looks (wait_program r.asks old.view.number (wait_call r)) old served
           (next.Go (at.Prepare preparing.Lock)) serving_looks;
       keeps = serving_keeps;
       queued = sym (or_none r.queued);
       first = sym (or_none r.first);
+      seen = refl;
     };
     lands = record {
-      runs = record { plain = a.runs.plain; tail = a.runs.tail };
+      runs = record { there = a.runs.there; suits = a.runs.suits };
       up = a.up;
       stands = serving_stands old head w (wait_post r stage.PrepareTurn) (drawn head r.ticket) a.stands
           (still_out a.stands.ticket);
@@ -184,20 +200,21 @@ module _ (old : Known) (r : WaitRun) (w : ℕ) where
       still_out : old.book.ticket ≡ drawn head r.ticket → served.book.ticket ≡ drawn head r.ticket
       still_out out = ap (after_serving head w) out ∙ other_number head r.ticket w ne
   other_from stage.FinishTurn l a ne = record {
-    same = record { cond = refl; how = refl; asks = refl };
+    same = record { watch_is = refl; how = refl; asks = refl };
     went = record {
       runs = runs_looks (wait_program r.asks old.view.number (wait_call r)) old served
           (next.Go (at.Finish finishing.Lock false)) serving_looks;
       keeps = serving_keeps;
       queued = sym (or_none r.queued);
       first = sym (or_none r.first);
+      seen = refl;
     };
     lands = record {
-      runs = record { plain = a.runs.plain; tail = a.runs.tail };
+      runs = record { there = a.runs.there; suits = a.runs.suits };
       up = a.up;
       stands = serving_stands old head w (wait_post r stage.FinishTurn) (drawn head r.ticket) a.stands
           (ap (after_serving head w) a.stands.ticket ∙ other_number head r.ticket w ne);
-      trail = tt;
+      trail = a.trail;
     };
   }
   other_from s l a ne = absurd l
@@ -239,43 +256,45 @@ module _ (old : Known) (r : WaitRun) (w : ℕ) where
 
     lock_from : (s : WaitStage) → LocksAt s → IsAt old r s → GoesOn old locked r with_served s (goes_to r s nothing)
     lock_from stage.PrepareTurn l a = record {
-      runs = runs_one (wait_program r.asks old.view.number (wait_call r)) (at.Prepare preparing.Lock) old served locked
+      runs = runs_one (wait_plan old.view.number r) (at.Prepare preparing.Lock) old served locked
           nothing (by_step e) serving_looks
           (subst (λ (v : Event). IsMadeFor served
-          (wait_program r.asks old.view.number (wait_call r)).own
-          ((wait_program r.asks old.view.number (wait_call r)).given (at.Prepare preparing.Lock)) v (by_step e))
+          (wait_plan old.view.number r).own
+          ((wait_plan old.view.number r).given (at.Prepare preparing.Lock)) v (by_step e))
           (sym (prepare_event r.asks (go (event.Lock head)
           (at.Prepare (if looks_in r.how.state then preparing.Look else preparing.Queue))) refl)) (refl, refl))
           (tt, tt, tt) (only_none locked);
       keeps = lock_keeps;
       queued = sym (or_none r.queued);
       first = sym (or_none r.first);
+      seen = refl;
       lands = prepare_lands a r.asks (looks_in r.how.state) refl;
     }
     lock_from stage.FinishTurn l a = record {
-      runs = runs_one (wait_program r.asks old.view.number (wait_call r)) (at.Finish finishing.Lock false) old served
+      runs = runs_one (wait_plan old.view.number r) (at.Finish finishing.Lock false) old served
           locked nothing (by_step e) serving_looks (refl, refl) (tt, tt, tt) (only_none locked);
       keeps = lock_keeps;
       queued = sym (or_none r.queued);
       first = sym (or_none r.first);
-      lands = (a.up, held (wait_post r stage.FinishTurn) a.stands, tt);
+      seen = refl;
+      lands = (a.up, held (wait_post r stage.FinishTurn) a.stands, a.trail);
     }
     lock_from s l a = absurd l
 
 pub other_advances : (old new : Known) (r : WaitRun) (s : WaitStage) → LocksAt s → IsAt old r s → (h w : ℕ)
-    → h ≡ head_of (watch.Plain r.cond) → new ≡ added old (item.Serving h w) → w ≢ r.ticket
+    → h ≡ head_of r.watch → new ≡ added old (item.Serving h w) → w ≢ r.ticket
     → Advances old new r (record r { served = w }) s (turn.Locked s)
 other_advances old new r s l a h w same is ne =
     subst (λ (k : Known). Advances old k r (record r { served = w }) s (turn.Locked s))
     (sym (is ∙ ap (λ (i : ℕ). added old (item.Serving i w)) same)) (other_from old r w s l a ne)
 
 pub turn_out : (old mid : Known) (r : WaitRun) (s : WaitStage) → LocksAt s → IsAt old r s → (h w : ℕ)
-    → h ≡ head_of (watch.Plain r.cond) → mid ≡ added old (item.Serving h w) → w ≡ r.ticket → IsTurn mid h
+    → h ≡ head_of r.watch → mid ≡ added old (item.Serving h w) → w ≡ r.ticket → IsTurn mid h
 turn_out old mid r s l a h w same is turn = finds_turn old mid h r.ticket w
     (ticket_is old r s l a ∙ ap (λ (i : ℕ). drawn i r.ticket) (sym same)) is turn
 
 pub lock_goes : (old mid new : Known) (r : WaitRun) (s : WaitStage) → LocksAt s → IsAt old r s → (h w x : ℕ)
-    → h ≡ head_of (watch.Plain r.cond) → mid ≡ added old (item.Serving h w)
+    → h ≡ head_of r.watch → mid ≡ added old (item.Serving h w)
     → new ≡ at_head h (added mid (item.Made (step.Lock h (walk_of_hold h None) x)))
     → GoesOn old new r (record r { served = w }) s (goes_to r s nothing)
 lock_goes old mid new r s l a h w x same first is =
@@ -283,11 +302,11 @@ lock_goes old mid new r s l a h w x same first is =
     (sym (is ∙ (λ i. at_head (same i) (added (from i)
     (item.Made (step.Lock (same i) (walk_of_hold (same i) None) x)))))) (lock_from old r w x s l a)
   where
-    from : mid ≡ added old (item.Serving (head_of (watch.Plain r.cond)) w)
+    from : mid ≡ added old (item.Serving (head_of r.watch) w)
     from = first ∙ ap (λ (i : ℕ). added old (item.Serving i w)) same
 
 -- the lock is given back where the entry was taken off for a signal
-left_off : (old new : Known) (r : WaitRun) → new ≡ unlocked_with old old.at false → old.at ≡ call_head (wait_call r)
+left_off : (old new : Known) (r : WaitRun) → new ≡ unlocked_with old old.at false → old.at ≡ head_of r.watch
     → TrailAt old r (at.Leave leaving.Unlock) → LeftQueue new r []
 left_off old new r is here t =
     let x = index old.view.number 0 in
@@ -331,46 +350,49 @@ module _ (old new : Known) (r : WaitRun) (is : new ≡ unlocked_with old old.at 
 
   pub unlock_goes : (s : WaitStage) → UnlocksAt s → IsAt old r s → GoesOn old new r r s (goes_to r s nothing)
   unlock_goes stage.PrepareUnlock l a = record {
-    runs = runs_one (wait_program r.asks old.view.number (wait_call r)) (at.Prepare preparing.Unlock) old old new
-        nothing (by_step (step.Unlock old.at false)) (only_none old) (a.stands.at (call_head (wait_call r)) refl, refl)
+    runs = runs_one (wait_plan old.view.number r) (at.Prepare preparing.Unlock) old old new
+        nothing (by_step (step.Unlock old.at false)) (only_none old) (a.stands.at (head_of r.watch) refl, refl)
         (tt, tt, tt) back_looks;
     keeps = back_keeps;
     queued = sym (or_none r.queued);
     first = sym (or_none r.first);
+    seen = refl;
     lands = (
       back_up a.up,
-      back_stands (wait_post r stage.PrepareUnlock) (post_at None (wait_call r) at.Test) a.stands
+      back_stands (wait_post r stage.PrepareUnlock) (post_in None r at.Test) a.stands
           refl refl a.stands.state (λ o h. h),
       queued_still old new (state_mask r.how.state) back_carries.number
           (back_carries.stored (index old.view.number 0) refl refl) a.trail.queued (back_carries.state ∙ a.trail.state),
     );
   }
   unlock_goes stage.LeaveUnlock l a = record {
-    runs = runs_one (wait_program r.asks old.view.number (wait_call r)) (at.Leave leaving.Unlock) old old new
-        nothing (by_step (step.Unlock old.at false)) (only_none old) (a.stands.at (call_head (wait_call r)) refl, refl)
+    runs = runs_one (wait_plan old.view.number r) (at.Leave leaving.Unlock) old old new
+        nothing (by_step (step.Unlock old.at false)) (only_none old) (a.stands.at (head_of r.watch) refl, refl)
         (tt, tt, tt) back_looks;
     keeps = back_keeps;
     queued = sym (or_none r.queued);
     first = sym (or_none r.first);
+    seen = refl;
     lands = (
       back_up a.up,
       back_stands (wait_post r stage.LeaveUnlock)
-          (post_at None (wait_call r) (at.Leave leaving.Load)) a.stands refl refl a.stands.state (λ o h. h),
-      left_off old new r is (a.stands.at (call_head (wait_call r)) refl) a.trail,
+          (post_in None r (at.Leave leaving.Load)) a.stands refl refl a.stands.state (λ o h. h),
+      left_off old new r is (a.stands.at (head_of r.watch) refl) a.trail,
     );
   }
   unlock_goes stage.FinishUnlock l a = record {
-    runs = runs_one (wait_program r.asks old.view.number (wait_call r)) (at.Finish finishing.Unlock false) old old new
-        nothing (by_step (step.Unlock old.at false)) (only_none old) (a.stands.at (call_head (wait_call r)) refl, refl)
+    runs = runs_one (wait_plan old.view.number r) (at.Finish finishing.Unlock false) old old new
+        nothing (by_step (step.Unlock old.at false)) (only_none old) (a.stands.at (head_of r.watch) refl, refl)
         (tt, tt, tt) back_looks;
     keeps = back_keeps;
     queued = sym (or_none r.queued);
     first = sym (or_none r.first);
+    seen = refl;
     lands = (
       back_up a.up,
       back_stands (wait_post r stage.FinishUnlock) (end_post r) a.stands refl refl a.stands.state
           (λ o h. h),
-      over_trail new r,
+      over_trail new r a.trail,
     );
   }
   unlock_goes s l a = absurd l

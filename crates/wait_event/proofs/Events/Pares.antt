@@ -8,8 +8,7 @@ use Rattle.wait_model.specs.declared.steps.Step.TheVariants as step
 use Rattle.wait_model.specs.declared.watches.Entry.{Entry}
 use Rattle.wait_model.specs.declared.watches.Watch.{Watch}
 use Rattle.wait_model.specs.declared.watches.Watch.TheVariants as watch
-use Rattle.wait_model.specs.Points.{call_head}
-use Rattle.wait_model.specs.Watches.{head_of, owner}
+use Rattle.wait_model.specs.Watches.{bare, head_of, owner}
 use Rattle.wait_model.specs.Reached.{absent, waits, IsHome}
 use Rattle.wait_rule.specs.Tickets.{no_ticket}
 use Rattle.wait_rule.specs.declared.journal.Item.TheVariants as item
@@ -20,7 +19,8 @@ use Rattle.wait_rule.specs.Stays.{take_off_change}
 use Rattle.wait_rule.specs.Transitions.{OnlyLooks, Program, IsSeenAs, by_step}
 use Rattle.wq_head.specs.Adds.{HasRemoved}
 use Rattle.wq_head.specs.Holds.{IsHolding}
-use Rattle.wait_event.specs.Posts.{HasSeenOwn, IsStateFor, Keeps, Post, Stands, post_at}
+use Rattle.wait_event.specs.Posts.{HasSeenOwn, IsStateFor, Keeps, Post, Stands}
+use Rattle.wait_event.specs.WaitPlans.{goes_to, wait_plan}
 use Rattle.wait_event.specs.Waits.{
   EndsWith,
   IsAt,
@@ -28,12 +28,10 @@ use Rattle.wait_event.specs.Waits.{
   ParesAt,
   TrailAt,
   end_post,
-  goes_to,
   head_of_wait,
   own_of,
-  wait_call,
+  post_in,
   wait_post,
-  wait_program,
   with_entry as finds,
 }
 use Rattle.wait_event.specs.declared.waits.WaitRun.{WaitRun}
@@ -62,20 +60,28 @@ seen_history : (old mid : Known) (o : Option Entry) (h : HasSeenOwn old mid o) (
 seen_history old mid o h i held = history_after old mid (step.Saw (index old.view.number 0) h.word)
     (h.is ∙ ap (λ (q : Option ℕ). added old (item.Made (saw q (index old.view.number 0) h.word))) held)
 
+-- the old value of a variable does not matter to its head
+pub bare_head : (w : Watch) → head_of (bare w) ≡ head_of w
+unfolding head_of
+bare_head (watch.Plain c) = refl
+bare_head (watch.Done d) = refl
+bare_head (watch.Bit i b) = refl
+bare_head (watch.Var v o) = refl
+
 pub owner_own : (n : ℕ) → owner (index n 0) ≡ n
 unfolding owner
 owner_own n = omega arith
 
 -- the own entry in a hold of its head, in a zone in which it may stand
 module _ (old mid : Known) (r : WaitRun) (o : Option Entry) (h : HasSeenOwn old mid o) (p : Post)
-    (s : Stands old p) (at_head : p.head ≡ Some (call_head (wait_call r))) (zone : p.zone ≡ waits)
-    (c : p.watch ≡ watch.Plain r.cond) where
+    (s : Stands old p) (at_head : p.head ≡ Some (head_of r.watch)) (zone : p.zone ≡ waits)
+    (c : p.watch ≡ r.watch) where
   abbrev i : ℕ
-  i = call_head (wait_call r)
+  i = head_of r.watch
 
   pub here : (e : Entry) → o ≡ Some e → head_of e.watch ≡ i
-  here e is = ap head_of (subst (λ z. IsHome z (watch.Plain r.cond) (Some e)) zone
-      (subst (λ w. IsHome p.zone w (Some e)) c (seen_home old mid o h p s e is))).0
+  here e is = ap head_of (subst (λ z. IsHome z r.watch (Some e)) zone
+      (subst (λ w. IsHome p.zone w (Some e)) c (seen_home old mid o h p s e is))).0 ∙ bare_head r.watch
 
   pub held : old.book.head ≡ Some i
   held = s.head ∙ at_head
@@ -101,7 +107,7 @@ module _ (old mid : Known) (r : WaitRun) (o : Option Entry) (h : HasSeenOwn old 
 module _ (old mid new : Known) (r : WaitRun) (e : Entry) (h : HasSeenOwn old mid (Some e))
     (x : HasRemoved mid new old.view.number 0) (holds_new : IsHolding new) (b : Bool) (on : b ≡ true) where
   abbrev f : Program
-  f = wait_program r.asks old.view.number (wait_call r)
+  f = wait_plan old.view.number r
 
   taken_looks : OnlyLooks (added mid (item.Made (step.Unqueue (index old.view.number 0)))) new
   taken_looks = subst (OnlyLooks (added mid (item.Made (step.Unqueue (index old.view.number 0))))) (sym x.is)
@@ -128,7 +134,7 @@ module _ (old mid new : Known) (r : WaitRun) (e : Entry) (h : HasSeenOwn old mid
   abbrev taken_run : WaitRun
   taken_run = record r { found = b }
 
-  taken_trail : old.book.head ≡ Some (call_head (wait_call r)) → TrailAt old r (at.Leave leaving.Queue)
+  taken_trail : old.book.head ≡ Some (head_of r.watch) → TrailAt old r (at.Leave leaving.Queue)
       → TrailAt new taken_run (at.Leave leaving.Unlock)
   taken_trail held t = (
     t.0,
@@ -141,7 +147,7 @@ module _ (old mid new : Known) (r : WaitRun) (e : Entry) (h : HasSeenOwn old mid
         (ends_more old new (step.Look t.0 ∷ [])
         (step.Saw (index old.view.number 0) h.word ∷ step.Unqueue (index old.view.number 0) ∷ []) t.2
         (two_more old mid new (step.Saw (index old.view.number 0) h.word) (step.Unqueue (index old.view.number 0))
-        (seen_history old mid (Some e) h (call_head (wait_call r)) held)
+        (seen_history old mid (Some e) h (head_of r.watch) held)
         (stored_history mid new (step.Unqueue (index old.view.number 0)) x.is))),
   )
 
@@ -151,14 +157,15 @@ module _ (old mid new : Known) (r : WaitRun) (e : Entry) (h : HasSeenOwn old mid
       let p = wait_post r stage.LeaveQueue in record {
         runs = runs_one f (at.Leave leaving.Queue) old mid new (finds (Some e))
             (by_step (step.Unqueue (index old.view.number 0)))
-            (seen_looks old mid (Some e) h (call_head (wait_call r)) a.stands.head) (owner_own old.view.number)
+            (seen_looks old mid (Some e) h (head_of r.watch) a.stands.head) (owner_own old.view.number)
             (tt, finds_it old mid r (Some e) h p a.stands refl refl refl (Some e) refl, refl) taken_looks;
         keeps = taken_keeps;
         queued = sym (or_none r.queued);
         first = sym (or_none r.first);
+        seen = refl;
         lands = (
           taken_up a.up,
-          taken_stands p (post_at None (wait_call r) (at.Leave leaving.Unlock)) a.stands
+          taken_stands p (post_in None r (at.Leave leaving.Unlock)) a.stands
               (seen_home old mid (Some e) h p a.stands e refl) refl refl a.stands.state refl,
           taken_trail a.stands.head a.trail,
         );
@@ -167,16 +174,17 @@ module _ (old mid new : Known) (r : WaitRun) (e : Entry) (h : HasSeenOwn old mid
       let p = wait_post r stage.FinishQueue in record {
         runs = runs_one f (at.Finish finishing.Queue false) old mid new (finds (Some e))
             (by_step (step.Unqueue (index old.view.number 0)))
-            (seen_looks old mid (Some e) h (call_head (wait_call r)) a.stands.head) (owner_own old.view.number)
+            (seen_looks old mid (Some e) h (head_of r.watch) a.stands.head) (owner_own old.view.number)
             (tt, finds_it old mid r (Some e) h p a.stands refl refl refl (Some e) refl, refl) taken_looks;
         keeps = taken_keeps;
         queued = sym (or_none r.queued);
         first = sym (or_none r.first);
+        seen = refl;
         lands = (
           taken_up a.up,
-          taken_stands p (post_at None (wait_call r) (at.Finish finishing.Unlock false)) a.stands
+          taken_stands p (post_in None r (at.Finish finishing.Unlock false)) a.stands
               (seen_home old mid (Some e) h p a.stands e refl) refl refl a.stands.state refl,
-          tt,
+          a.trail,
         );
       }
   taken_from s l a = absurd l
@@ -185,7 +193,7 @@ module _ (old mid new : Known) (r : WaitRun) (e : Entry) (h : HasSeenOwn old mid
 module _ (old mid new : Known) (r : WaitRun) (h : HasSeenOwn old mid None)
     (is : new ≡ unlocked_with mid mid.at false) (b : Bool) (on : b ≡ false) where
   abbrev g : Program
-  g = wait_program r.asks old.view.number (wait_call r)
+  g = wait_plan old.view.number r
 
   given_keeps : Keeps (index old.view.number 0) old new
   given_keeps = keeps_on (index old.view.number 0) old mid new (own_keeps old mid None h)
@@ -206,7 +214,7 @@ module _ (old mid new : Known) (r : WaitRun) (h : HasSeenOwn old mid None)
   abbrev given_run : WaitRun
   given_run = record r { found = b }
 
-  given_trail : old.book.head ≡ Some (call_head (wait_call r)) → mid.at ≡ call_head (wait_call r)
+  given_trail : old.book.head ≡ Some (head_of r.watch) → mid.at ≡ head_of r.watch
       → TrailAt old r (at.Leave leaving.Queue) → LeftQueue new given_run []
   given_trail held here t =
       let shows_off : is_some (entry_of h.word) ≡ false = ap (λ (o : Option Entry). is_some o) (sym h.reads) in record {
@@ -225,7 +233,7 @@ module _ (old mid new : Known) (r : WaitRun) (h : HasSeenOwn old mid None)
             (ends_more old new (step.Look t.0 ∷ [])
             (step.Saw (index old.view.number 0) h.word ∷ step.Unlock mid.at false ∷ []) t.2
             (two_more old mid new (step.Saw (index old.view.number 0) h.word) (step.Unlock mid.at false)
-            (seen_history old mid None h (call_head (wait_call r)) held) (unlocked_history mid new is)))));
+            (seen_history old mid None h (head_of r.watch) held) (unlocked_history mid new is)))));
       }
 
   pub given_from : (s : WaitStage) → ParesAt s → IsAt old r s
@@ -234,33 +242,35 @@ module _ (old mid new : Known) (r : WaitRun) (h : HasSeenOwn old mid None)
       let p = wait_post r stage.LeaveQueue in record {
         runs = runs_one g (at.Leave leaving.Queue) old mid new (finds None)
             (by_step (step.Unlock mid.at false))
-            (seen_looks old mid None h (call_head (wait_call r)) a.stands.head)
-            (h.carries.at ∙ a.stands.at (call_head (wait_call r)) refl, refl)
+            (seen_looks old mid None h (head_of r.watch) a.stands.head)
+            (h.carries.at ∙ a.stands.at (head_of r.watch) refl, refl)
             (tt, finds_it old mid r None h p a.stands refl refl refl None refl, tt) (back_looks mid new r is);
         keeps = given_keeps;
         queued = sym (or_none r.queued);
         first = sym (or_none r.first);
+        seen = refl;
         lands = (
           back_up mid new r is (h.carries.awake ∙ a.up),
           given_stands p
-              (post_at None (wait_call r) (at.Leave leaving.Load)) a.stands refl refl a.stands.state refl,
-          given_trail a.stands.head (h.carries.at ∙ a.stands.at (call_head (wait_call r)) refl) a.trail,
+              (post_in None r (at.Leave leaving.Load)) a.stands refl refl a.stands.state refl,
+          given_trail a.stands.head (h.carries.at ∙ a.stands.at (head_of r.watch) refl) a.trail,
         );
       }
   given_from stage.FinishQueue l a =
       let p = wait_post r stage.FinishQueue in record {
         runs = runs_one g (at.Finish finishing.Queue false) old mid new (finds None)
             (by_step (step.Unlock mid.at false))
-            (seen_looks old mid None h (call_head (wait_call r)) a.stands.head)
-            (h.carries.at ∙ a.stands.at (call_head (wait_call r)) refl, refl)
+            (seen_looks old mid None h (head_of r.watch) a.stands.head)
+            (h.carries.at ∙ a.stands.at (head_of r.watch) refl, refl)
             (tt, finds_it old mid r None h p a.stands refl refl refl None refl, tt) (back_looks mid new r is);
         keeps = given_keeps;
         queued = sym (or_none r.queued);
         first = sym (or_none r.first);
+        seen = refl;
         lands = (
           back_up mid new r is (h.carries.awake ∙ a.up),
           given_stands p (end_post r) a.stands refl refl a.stands.state refl,
-          over_trail new given_run,
+          over_trail new given_run a.trail,
         );
       }
   given_from s l a = absurd l

@@ -1,7 +1,6 @@
 -- Parts of a wait one after another.
 use Rattle.std.proofs.Common.{◌∙◌, ap, sym, refl, subst}
-use Rattle.std.specs.Prelude.{ℕ, ◌≡◌, ◌||◌, ◌&&◌, not, Bool, true, false, List, [], ◌∷◌, ◌++◌}
-use Rattle.wait_model.specs.declared.calls.Call.TheVariants as calls
+use Rattle.std.specs.Prelude.{ℕ, ◌≡◌, ◌||◌, ◌&&◌, not, Bool, true, false, Option, Some, List, [], ◌∷◌, ◌++◌}
 use Rattle.wait_model.specs.declared.points.Next.{Next}
 use Rattle.wait_model.specs.declared.points.Next.TheVariants as next
 use Rattle.wait_rule.specs.Known.{Known}
@@ -15,7 +14,10 @@ use Rattle.wait_event.specs.Waits.{
   IsAt,
   SameCall,
   Went,
+  call_for,
   is_queue,
+  last_loaded,
+  loaded_by,
   next_in,
   point_of,
   queues,
@@ -34,7 +36,7 @@ use Rattle.wait_event.proofs.Ground.Going.{runs_none, runs_on}
 use Rattle.wait_event.proofs.Events.Turns.{or_none}
 
 pub same_on : (r q w : WaitRun) → SameCall r q → SameCall q w → SameCall r w
-same_on r q w a b = record { cond = b.cond ∙ a.cond; how = b.how ∙ a.how; asks = b.asks ∙ a.asks }
+same_on r q w a b = record { watch_is = b.watch_is ∙ a.watch_is; how = b.how ∙ a.how; asks = b.asks ∙ a.asks }
 
 or_assoc : (a b c : Bool) → ((a || b) || c) ≡ (a || (b || c))
 or_assoc true b c = refl
@@ -67,6 +69,11 @@ firsts_append b c ts us = or_assoc b (queues_first ts && c) (queues_first us && 
     ∙ ap (λ (d : Bool). b || d) (and_or (queues_first ts) (queues_first us) c
     ∙ ap (λ (d : Bool). d && c) (firsts_more ts us))
 
+-- the last load of both
+loaded_append : (o : Option ℕ) (ts us : List Transition) → last_loaded (last_loaded o ts) us ≡ last_loaded o (ts ++ us)
+loaded_append o [] us = refl
+loaded_append o (t ∷ ts) us = loaded_append (loaded_by t.did o) ts us
+
 tells_same : (r q : WaitRun) → SameCall r q → tells_first q ≡ tells_first r
 tells_same r q same i = (same.how i).exclusive && not (same.asks i)
 
@@ -77,12 +84,14 @@ went_on old mid new r q w from by to a same b = record {
       (record {
         transitions = b.runs.transitions;
         goes = subst (λ (g : Program). Goes g mid by b.runs.transitions new to)
-            (λ i. wait_program (same.asks i) (a.keeps.number i) (calls.Wait (same.cond i) (same.how i))) b.runs.goes;
+            (λ i. wait_program (same.asks i) (a.keeps.number i) (call_for (same.watch_is i) (same.how i))) b.runs.goes;
       });
   keeps = keeps_on (index old.view.number 0) old mid new a.keeps
       (subst (λ (n : ℕ). Keeps (index n 0) mid new) a.keeps.number b.keeps);
   queued = b.queued ∙ (ap (λ (c : Bool). c || queues b.runs.transitions) a.queued
       ∙ queues_append r.queued a.runs.transitions b.runs.transitions);
+  seen = b.seen ∙ (ap (λ (o : Option ℕ). last_loaded o b.runs.transitions) a.seen
+      ∙ loaded_append (Some r.seen) a.runs.transitions b.runs.transitions);
   first = b.first ∙ ((λ i. a.first i || (queues_first b.runs.transitions && tells_same r q same i))
       ∙ firsts_append r.first (tells_first r) a.runs.transitions b.runs.transitions);
 }
@@ -100,12 +109,13 @@ advances_on old mid new r q w s t u same went a = record {
 -- nothing yet
 pub advances_none : (k : Known) (r : WaitRun) (s : WaitStage) → IsAt k r s → Advances k k r r s (turn.Again s)
 advances_none k r s a = record {
-  same = record { cond = refl; how = refl; asks = refl };
+  same = record { watch_is = refl; how = refl; asks = refl };
   went = record {
     runs = runs_none (wait_program r.asks k.view.number (wait_call r)) k (next.Go (point_of s));
     keeps = keeps_none (index k.view.number 0) k;
     queued = sym (or_none r.queued);
     first = sym (or_none r.first);
+    seen = refl;
   };
   lands = a;
 }

@@ -15,14 +15,12 @@ use Rattle.wait_rule.specs.Stays.{only_looks, with_entry}
 use Rattle.wait_rule.specs.Transitions.{OnlyLooks, Program, by_step}
 use Rattle.wait_rule.proofs.KnownLaws.Transitions.{only_none}
 use Rattle.wait_event.specs.Posts.{HasSeenOwn, Keeps}
+use Rattle.wait_event.specs.WaitPlans.{goes_to, wait_plan}
 use Rattle.wait_event.specs.Waits.{
   IsAt,
   PeeksAt,
   end_post,
-  goes_to,
-  wait_call,
   wait_post,
-  wait_program,
   with_entry as finds,
 }
 use Rattle.wait_event.specs.declared.waits.WaitRun.{WaitRun}
@@ -40,7 +38,7 @@ own_keeps old new o h = keeps_of (index old.view.number 0) only_looks old new h.
 
 module _ (old new : Known) (r : WaitRun) (a : IsAt old r stage.FinishLook) where
   abbrev f : Program
-  f = wait_program r.asks old.view.number (wait_call r)
+  f = wait_plan old.view.number r
 
   peek_is : (o : Option Entry) (h : HasSeenOwn old new o)
       → new ≡ added old (item.Made (step.Peek (index old.view.number 0) h.word))
@@ -61,11 +59,12 @@ module _ (old new : Known) (r : WaitRun) (a : IsAt old r stage.FinishLook) where
     keeps = own_keeps old new (Some e) h;
     queued = sym (or_none r.queued);
     first = sym (or_none r.first);
+    seen = refl;
     lands = (
       h.carries.awake ∙ a.up,
       seen_stands old new (Some e) h (wait_post r stage.FinishLook) waits a.stands
           (seen_home old new (Some e) h (wait_post r stage.FinishLook) a.stands e refl),
-      tt,
+      a.trail,
     );
   }
   peek_from None h = record {
@@ -75,12 +74,13 @@ module _ (old new : Known) (r : WaitRun) (a : IsAt old r stage.FinishLook) where
     keeps = own_keeps old new None h;
     queued = sym (or_none r.queued);
     first = sym (or_none r.first);
+    seen = refl;
     lands = (
       h.carries.awake ∙ a.up,
       stands_as new (record (wait_post r stage.FinishLook) { zone = absent })
           (end_post r) (seen_stands old new None h (wait_post r stage.FinishLook) absent a.stands tt) refl refl (λ s. s)
           (λ o h. h),
-      over_trail new r,
+      over_trail new r a.trail,
     );
   }
 

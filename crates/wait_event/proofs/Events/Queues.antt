@@ -13,10 +13,9 @@ use Rattle.wait_model.specs.declared.watches.Entry.{Entry}
 use Rattle.wait_model.specs.declared.watches.Kind.{Kind}
 use Rattle.wait_model.specs.declared.watches.Watch.{Watch}
 use Rattle.wait_model.specs.declared.watches.Watch.TheVariants as watch
-use Rattle.wait_model.specs.Points.{call_head}
 use Rattle.wait_model.specs.Queues.{is_exclusive, is_priority, place_for}
 use Rattle.wait_model.specs.Tasks.{state_mask}
-use Rattle.wait_model.specs.Watches.{is_simple, kind_for}
+use Rattle.wait_model.specs.Watches.{bare, head_of, is_simple, kind_for}
 use Rattle.wait_model.specs.Reached.{absent, waits, IsHome}
 use Rattle.wait_rule.specs.declared.journal.Item.TheVariants as item
 use Rattle.wait_rule.specs.Known.{Known}
@@ -32,8 +31,9 @@ use Rattle.wq_head.specs.Adds.{HasAdded}
 use Rattle.wq_head.specs.Holds.{IsHolding}
 use Rattle.wq_head.specs.Looks.{Looks}
 use Rattle.wq_head.proofs.CarriedHolds.{looks_carried}
-use Rattle.wait_event.specs.Posts.{HasSeenOwn, Keeps, Post, Stands, post_at}
-use Rattle.wait_event.specs.Waits.{Advances, IsAt, tells_first, wait_call, wait_post, wait_program}
+use Rattle.wait_event.specs.Posts.{HasSeenOwn, Keeps, Post, Stands}
+use Rattle.wait_event.specs.WaitPlans.{wait_plan}
+use Rattle.wait_event.specs.Waits.{Advances, IsAt, post_in, tells_first, wait_post}
 use Rattle.wait_event.specs.Waits.{with_entry as finds, with_worn}
 use Rattle.wait_event.specs.declared.waits.WaitRun.{WaitRun}
 use Rattle.wait_event.specs.declared.waits.WaitStage.TheVariants as stage
@@ -69,18 +69,25 @@ wait_plain true = refl
 wait_plain false = refl
 
 -- the entry that is queued
-abbrev given_entry : ℕ → Form → Kind → ℕ → Entry
-given_entry c form k place = record {
-  watch = watch.Plain c;
+abbrev given_entry : Watch → Form → Kind → ℕ → Entry
+given_entry w form k place = record {
+  watch = bare w;
   place = place;
   exclusive = is_exclusive form && not (is_simple k);
   priority = is_priority form;
   kind = k;
 }
 
-given_is : (c : ℕ) (form : Form) (p q : ℕ) → q ≡ p → form_entry form (watch.Plain c) (kind_for (watch.Plain c)) p
-    ≡ given_entry c form (kind_for (watch.Plain c)) q
-given_is c form p q is = ap (given_entry c form (kind_for (watch.Plain c))) (sym is)
+given_is : (w : Watch) (form : Form) (p q : ℕ) → q ≡ p → form_entry form (bare w) (kind_for w) p
+    ≡ given_entry w form (kind_for w) q
+given_is w form p q is = ap (given_entry w form (kind_for w)) (sym is)
+
+-- the old value of a variable does not matter to the kind
+bare_kind : (w : Watch) → kind_for (bare w) ≡ kind_for w
+bare_kind (watch.Plain c) = refl
+bare_kind (watch.Done d) = refl
+bare_kind (watch.Bit i b) = refl
+bare_kind (watch.Var v o) = refl
 
 no_entry : (o : Option Entry) → ((e : Entry) → o ≡ Some e → None ≡ Some e) → o ≡ None
 no_entry None never = refl
@@ -105,13 +112,13 @@ note_on mid2 mid3 new w o own2 is noted =
 
 module _ (old mid : Known) (r : WaitRun) (a : IsAt old r stage.PrepareQueue) where
   abbrev f : Program
-  f = wait_program r.asks old.view.number (wait_call r)
+  f = wait_plan old.view.number r
 
   abbrev p : Post
   p = wait_post r stage.PrepareQueue
 
   abbrev h : ℕ
-  h = call_head (wait_call r)
+  h = head_of r.watch
 
   -- it is queued still
   stay_from : (o : Option Entry) (own : HasSeenOwn old mid o) (e : Entry) → o ≡ Some e → (new : Known) (σ : ℕ)
@@ -126,9 +133,10 @@ module _ (old mid : Known) (r : WaitRun) (a : IsAt old r stage.PrepareQueue) whe
         (subst (λ (n : ℕ). Keeps (index n 0) mid new) own.carries.number (state_keeps mid new σ is carries));
     queued = sym (or_none r.queued);
     first = sym (or_none r.first);
+    seen = refl;
     lands = (
       state_up mid new σ is carries (own.carries.awake ∙ a.up),
-      state_stands mid new σ is carries p (post_at None (wait_call r) (at.Prepare preparing.Unlock))
+      state_stands mid new σ is carries p (post_in None r (at.Prepare preparing.Unlock))
           (seen_stands old mid o own p waits a.stands (subst (IsHome waits p.watch) (sym some)
           (seen_home old mid o own p a.stands e some))) refl refl (inr same) (λ u w. w),
       record {
@@ -177,7 +185,7 @@ module _ (old mid : Known) (r : WaitRun) (a : IsAt old r stage.PrepareQueue) whe
             (λ y. carried.owes (with_entry (index old.view.number 0) y)));
         stands = carried_stands only_looks mid seen (record p { zone = absent }) (record p { zone = absent }) carried
             stands (λ j at. held.agreed) refl stands.at refl stands.state
-            (subst (IsHome absent (watch.Plain r.cond))
+            (subst (IsHome absent r.watch)
             (sym (ap (λ (n : ℕ). (told_of seen).bits.stored (index n 0)) number ∙ out)) tt);
         out = out;
       }
@@ -189,14 +197,14 @@ module _ (old mid : Known) (r : WaitRun) (a : IsAt old r stage.PrepareQueue) whe
     -- it is queued
     join_from : (new : Known) → IsHolding new → (first b : Bool) → b ≡ (r.first || first)
         → TellsFirst (tells_first r) seen first
-        → HasAdded (IsFormPlace form) seen new 0 (form_entry form (watch.Plain r.cond) (kind_for (watch.Plain r.cond)))
+        → HasAdded (IsFormPlace form) seen new 0 (form_entry form (bare r.watch) (kind_for r.watch))
         → GoesOn old new r (record r { queued = true; first = b }) stage.PrepareQueue
         (next.Go (at.Prepare preparing.State))
     join_from new held first b is tells x =
         let i = index old.view.number 0 in
         let same : index seen.view.number 0 ≡ i = ap (λ (n : ℕ). index n 0) o.number in
         let seen_at : x.seen.at ≡ seen.at = ap (λ (k : Known). k.at) x.looks.is in
-        let e : Entry = form_entry form (watch.Plain r.cond) (kind_for (watch.Plain r.cond)) x.place in
+        let e : Entry = form_entry form (bare r.watch) (kind_for r.watch) x.place in
         let found : Seen = finds None in
         record {
           runs = runs_one f (at.Prepare preparing.Queue) old x.seen new found (by_step (step.Queue i e))
@@ -205,7 +213,7 @@ module _ (old mid : Known) (r : WaitRun) (a : IsAt old r stage.PrepareQueue) whe
                 refl,
                 sym (seen_at ∙ o.at),
                 x.whole,
-                given_is r.cond form x.place (place_for form (shown_queue x.seen))
+                given_is r.watch form x.place (place_for form (shown_queue x.seen))
                     (form_is x.seen x.low form x.place x.sort),
               ) (
                 tt,
@@ -224,13 +232,14 @@ module _ (old mid : Known) (r : WaitRun) (a : IsAt old r stage.PrepareQueue) whe
           queued = sym (or_queued r.queued);
           first = is
               ∙ ap (λ (d : Bool). r.first || d) (first_later (tells_first r) first seen x.seen tells x.looks);
+          seen = refl;
           lands = (
             x.carries.awake ∙ (o.awake ∙ a.up),
             carried_stands (queue_change (index seen.view.number 0)) seen new (record p { zone = absent })
-                (post_at None (wait_call r) (at.Prepare preparing.State)) x.carries o.stands
+                (post_in None r (at.Prepare preparing.State)) x.carries o.stands
                 (λ j at. held.agreed) refl
                 o.stands.at refl o.stands.state
-                (subst (IsHome waits (watch.Plain r.cond)) (sym x.queued) (refl, refl)),
+                (subst (IsHome waits r.watch) (sym x.queued) (refl, refl)),
             ap (λ (n : ℕ). is_some ((told_of new).bits.stored (index n 0))) x.carries.number
                 ∙ ap (λ (u : Option Entry). is_some u) x.queued,
           );
@@ -249,7 +258,7 @@ module _ (old mid : Known) (r : WaitRun) (a : IsAt old r stage.PrepareQueue) whe
         let out2 : (told_of mid2).bits.stored i ≡ None = carried.out i refl o.out in
         let stands2 : Stands mid2 (record p { zone = absent }) = carried_stands only_looks seen mid2
         (record p { zone = absent }) (record p { zone = absent }) carried o.stands (λ j at. held2.agreed) refl
-        o.stands.at refl o.stands.state (subst (IsHome absent (watch.Plain r.cond))
+        o.stands.at refl o.stands.state (subst (IsHome absent r.watch)
         (sym (ap (λ (n : ℕ). (told_of mid2).bits.stored (index n 0)) o.number ∙ out2)) tt) in
         let none : u ≡ None = no_entry u (λ e some. sym (ap (λ (n : ℕ). (told_of mid2).bits.stored (index n 0)) n2 ∙
         out2)
@@ -262,7 +271,7 @@ module _ (old mid : Known) (r : WaitRun) (a : IsAt old r stage.PrepareQueue) whe
         (λ m low. looks3.from.places m (seen2 m low)) in
         let head2 : mid2.book.head ≡ Some h = stands2.head in
         let stands3 : Stands mid3 (record p { zone = absent }) = seen_stands mid2 mid3 u own2
-        (record p { zone = absent }) absent stands2 (subst (IsHome absent (watch.Plain r.cond)) (sym none) tt) in
+        (record p { zone = absent }) absent stands2 (subst (IsHome absent r.watch) (sym none) tt) in
         let number3 : mid3.view.number ≡ old.view.number = own2.carries.number ∙ n2 in
         record {
           runs = runs_one f (at.Prepare preparing.Queue) old mid3 new (with_worn true)
@@ -292,9 +301,10 @@ module _ (old mid : Known) (r : WaitRun) (a : IsAt old r stage.PrepareQueue) whe
               (subst (λ (n : ℕ). Keeps (index n 0) mid3 new) number3 (back_keeps mid3 new r is));
           queued = sym (or_none r.queued);
           first = sym (or_none r.first);
+          seen = refl;
           lands = (
             back_up mid3 new r is (own2.carries.awake ∙ (carried.awake ∙ (o.awake ∙ a.up))),
-            back_stands mid3 new r is (record p { zone = absent }) (post_at None (wait_call r) at.Worn) stands3 refl
+            back_stands mid3 new r is (record p { zone = absent }) (post_in None r at.Worn) stands3 refl
                 refl stands3.state (λ u w. w),
             record {
               noted = subst (λ (i : ℕ). WasWorn new.view.number new.view.items i w.place)
@@ -320,17 +330,17 @@ queue_out old mid None own none seen l =
 queue_out old mid (Some e) own none seen l = absurd (cc)
 
 pub queue_at : (old mid : Known) (r : WaitRun) → IsAt old r stage.PrepareQueue → (o : Option Entry)
-    → HasSeenOwn old mid o → call_head (wait_call r) ≡ mid.at
-queue_at old mid r a o own = sym (own.carries.at ∙ a.stands.at (call_head (wait_call r)) refl)
+    → HasSeenOwn old mid o → head_of r.watch ≡ mid.at
+queue_at old mid r a o own = sym (own.carries.at ∙ a.stands.at (head_of r.watch) refl)
 
 pub add_at : (old mid : Known) (r : WaitRun) → IsAt old r stage.PrepareQueue → (o : Option Entry)
-    → HasSeenOwn old mid o → (seen : Known) → Looks mid seen → call_head (wait_call r) ≡ seen.at
+    → HasSeenOwn old mid o → (seen : Known) → Looks mid seen → head_of r.watch ≡ seen.at
 add_at old mid r a o own seen l = queue_at old mid r a o own ∙ sym (ap (λ (k : Known). k.at) l.is)
 
 pub mid_holds : (old mid : Known) (r : WaitRun) → IsAt old r stage.PrepareQueue → (o : Option Entry)
     → HasSeenOwn old mid o → IsHolding mid
 mid_holds old mid r a o own =
-    let h = call_head (wait_call r) in record {
+    let h = head_of r.watch in record {
       locked = own.carries.head ∙ (a.stands.head ∙ ap Some (sym (own.carries.at ∙ a.stands.at h refl)));
       agreed = ap (λ (b : Book). b.differs) (seen_book old mid o own) ∙ a.stands.agreed h refl;
       told = own.carries.hold ∙ (a.stands.told ∙ ap Some (sym (own.carries.at ∙ a.stands.at h refl)));
@@ -357,19 +367,21 @@ queued_run r b = record r { queued = true; first = b }
 pub join_advances : (old mid seen new : Known) (r : WaitRun) → IsAt old r stage.PrepareQueue
     → (o : Option Entry) → HasSeenOwn old mid o → is_some o ≡ false → Looks mid seen → IsHolding seen → IsHolding new
     → (first b asked : Bool) → b ≡ (r.first || first) → asked ≡ tells_first r → TellsFirst asked seen first
-    → (form : Form) → form ≡ wait_form r.how → (c : Watch) → c ≡ watch.Plain r.cond → (k : Kind) → k ≡ kind_for c
+    → (form : Form) → form ≡ wait_form r.how → (c : Watch) → c ≡ bare r.watch → (k : Kind) → k ≡ kind_for c
     → HasAdded (IsFormPlace form) seen new 0 (form_entry form c k)
     → Advances old new r (queued_run r b) stage.PrepareQueue (turn.Again stage.PrepareState)
 join_advances old mid seen new r a None own none l held held2 first b asked now asks tells form is c same k its x =
     advance_by old new r (queued_run r b) stage.PrepareQueue (turn.Again stage.PrepareState)
-    (next.Go (at.Prepare preparing.State)) (record { cond = refl; how = refl; asks = refl })
-    (record { plain = a.runs.plain; tail = a.runs.tail }) refl refl
+    (next.Go (at.Prepare preparing.State)) (record { watch_is = refl; how = refl; asks = refl })
+    (record { there = a.runs.there; suits = a.runs.suits }) refl refl
     (join_from old mid r a seen (is_off old mid r a own seen l held) new held2 first b now
     (subst (λ (d : Bool). TellsFirst d seen first) asks tells)
+    (subst (λ (l : Kind). HasAdded (IsFormPlace (wait_form r.how)) seen new 0
+    (form_entry (wait_form r.how) (bare r.watch) l)) (bare_kind r.watch)
     (subst (λ (d : Watch). HasAdded (IsFormPlace (wait_form r.how)) seen new 0
     (form_entry (wait_form r.how) d (kind_for d))) same
     (subst (λ (l : Kind). HasAdded (IsFormPlace (wait_form r.how)) seen new 0 (form_entry (wait_form r.how) c l)) its
-    (subst (λ (g : Form). HasAdded (IsFormPlace g) seen new 0 (form_entry g c k)) is x))))
+    (subst (λ (g : Form). HasAdded (IsFormPlace g) seen new 0 (form_entry g c k)) is x)))))
 join_advances old mid seen new r a (Some e) own none l held held2 first b asked now asks tells form is c same k its x =
     absurd (cc)
 
@@ -381,8 +393,8 @@ pub worn_advances : (old mid seen mid2 mid3 new : Known) (r : WaitRun) → IsAt 
     → Advances old new r (record r { place = w.place }) stage.PrepareQueue (turn.Again stage.Worn)
 worn_advances old mid seen mid2 mid3 new r a None own none l held w form is worn held2 u own2 given noted =
     advance_by old new r (record r { place = w.place }) stage.PrepareQueue (turn.Again stage.Worn) (next.Go at.Worn)
-    (record { cond = refl; how = refl; asks = refl }) (record { plain = a.runs.plain; tail = a.runs.tail }) refl refl
-    (worn_from old mid r a seen (is_off old mid r a own seen l held) mid2 mid3 new w
+    (record { watch_is = refl; how = refl; asks = refl }) (record { there = a.runs.there; suits = a.runs.suits }) refl
+    refl (worn_from old mid r a seen (is_off old mid r a own seen l held) mid2 mid3 new w
     (subst (λ (g : Form). IsFormWorn g seen mid2 w) is worn) held2 u own2 given noted)
 worn_advances old mid seen mid2 mid3 new r a (Some e) own none l held w form is worn held2 u own2 given noted =
     absurd (cc)

@@ -45,12 +45,13 @@ module _ (old new : Known) (r : WaitRun) (s : WaitStage) (a : IsAsleepAt old r s
 
   woken_at : new.book ≡ risen old.book → Advances old new r r s (turn.Again s)
   woken_at up = record {
-    same = record { cond = refl; how = refl; asks = refl };
+    same = record { watch_is = refl; how = refl; asks = refl };
     went = record {
       runs = runs_looks (wait_program r.asks old.view.number (wait_call r)) old new (next.Go (point_of s)) looks;
       keeps = keeps_same (index old.view.number 0) old new domain number told;
       queued = sym (or_none r.queued);
       first = sym (or_none r.first);
+      seen = refl;
     };
     lands = record {
       runs = a.runs;
@@ -71,12 +72,13 @@ module _ (old new : Known) (r : WaitRun) (s : WaitStage) (a : IsAsleepAt old r s
 
   still_at : new.book ≡ old.book → Advances old new r r s (turn.Asleep s)
   still_at same = record {
-    same = record { cond = refl; how = refl; asks = refl };
+    same = record { watch_is = refl; how = refl; asks = refl };
     went = record {
       runs = runs_looks (wait_program r.asks old.view.number (wait_call r)) old new (next.Go (point_of s)) looks;
       keeps = keeps_same (index old.view.number 0) old new domain number told;
       queued = sym (or_none r.queued);
       first = sym (or_none r.first);
+      seen = refl;
     };
     lands = record {
       runs = a.runs;

@@ -35,7 +35,9 @@ use Rattle.wait_event.specs.declared.waits.WaitTurn.TheVariants as turn
 use Rattle.wait_event.proofs.Ground.Standing.{stands_on}
 use Rattle.wait_event.proofs.Ground.Keeping.{keeps_none, keeps_same}
 use Rattle.wait_event.proofs.Ground.Going.{runs_none, runs_one}
+use Rattle.wait_event.proofs.Events.Plans.{runs_program}
 use Rattle.wait_event.proofs.Events.Turns.{or_none}
+use Rattle.wait_event.specs.WaitPlans.{wait_plan}
 
 module _ (old : Known) (r : WaitRun) (w : ℕ) (a : IsAt old r stage.Sleep) where
   abbrev slept : Known
@@ -43,11 +45,13 @@ module _ (old : Known) (r : WaitRun) (w : ℕ) (a : IsAt old r stage.Sleep) wher
 
   sleep_went : Went old slept r r (next.Go at.Sleep) (next.Go (at.Prepare preparing.Lock))
   sleep_went = record {
-    runs = runs_one (wait_program r.asks old.view.number (wait_call r)) at.Sleep old old slept (with_own (task_of w))
-        (by_step (step.Sleep w)) (only_none old) tt (refl, tt, tt) (only_none slept);
+    runs = runs_program r old.view.number old slept (next.Go at.Sleep) (next.Go (at.Prepare preparing.Lock)) a.runs
+        (runs_one (wait_plan old.view.number r) at.Sleep old old slept (with_own (task_of w)) (by_step (step.Sleep w))
+        (only_none old) tt (refl, tt, tt) (only_none slept));
     keeps = keeps_same (index old.view.number 0) old slept refl refl (told_added old (item.Made (step.Sleep w)));
     queued = sym (or_none r.queued);
     first = sym (or_none r.first);
+    seen = refl;
   }
 
   -- by what it leaves of the book
@@ -73,7 +77,7 @@ module _ (old : Known) (r : WaitRun) (w : ℕ) (a : IsAt old r stage.Sleep) wher
       → Advances old slept r r stage.Sleep (turn.Again stage.PrepareLock)
   up_from stays =
       let is = stays_book (sleep_of (task_of w)) stays in record {
-        same = record { cond = refl; how = refl; asks = refl };
+        same = record { watch_is = refl; how = refl; asks = refl };
         went = sleep_went;
         lands = record {
           runs = a.runs;
@@ -89,7 +93,7 @@ module _ (old : Known) (r : WaitRun) (w : ℕ) (a : IsAt old r stage.Sleep) wher
   down_from asleep =
       let is : after_sleep (sleep_of (task_of w)) old.book ≡ after_sleep sleeping.Asleep old.book =
       ap (λ (y : Sleep). after_sleep y old.book) asleep in record {
-        same = record { cond = refl; how = refl; asks = refl };
+        same = record { watch_is = refl; how = refl; asks = refl };
         went = sleep_went;
         lands = record {
           runs = a.runs;
@@ -120,12 +124,13 @@ sleep_down old new r a w is x tells asleep =
 pub sleep_again : (old new : Known) (r : WaitRun) (s : WaitStage) → IsAt old r s → new ≡ old
     → Advances old new r r s (turn.Again s)
 sleep_again old new r s a is = subst (λ (k : Known). Advances old k r r s (turn.Again s)) (sym is) (record {
-  same = record { cond = refl; how = refl; asks = refl };
+  same = record { watch_is = refl; how = refl; asks = refl };
   went = record {
     runs = runs_none (wait_program r.asks old.view.number (wait_call r)) old (next.Go (point_of s));
     keeps = keeps_none (index old.view.number 0) old;
     queued = sym (or_none r.queued);
     first = sym (or_none r.first);
+    seen = refl;
   };
   lands = a;
 })

@@ -18,17 +18,16 @@ use Rattle.wait_rule.specs.Queues.{index}
 use Rattle.wait_rule.specs.Stays.{Carries, unchanged, with_entry, state_change}
 use Rattle.wait_rule.specs.Transitions.{OnlyLooks, by_step}
 use Rattle.wait_rule.proofs.KnownLaws.Transitions.{only_none}
-use Rattle.wait_event.specs.Posts.{Post, Stands, IsStateFor, post_at, Keeps}
+use Rattle.wait_event.specs.Posts.{Post, Stands, IsStateFor, Keeps}
+use Rattle.wait_event.specs.WaitPlans.{goes_to, wait_plan}
 use Rattle.wait_event.specs.Waits.{
   IsAt,
   LooksAt,
   StoresAt,
-  goes_to,
   nothing,
   state_at,
-  wait_call,
+  post_in,
   wait_post,
-  wait_program,
   with_own,
 }
 use Rattle.wait_event.specs.declared.waits.WaitRun.{WaitRun}
@@ -66,30 +65,32 @@ pub state_goes : (old new : Known) (r : WaitRun) (s : WaitStage) → StoresAt s 
     → σ ≡ state_at r s → new ≡ added old (item.Made (step.State σ)) → Carries (state_change σ) old new
     → GoesOn old new r r s (goes_to r s nothing)
 state_goes old new r stage.PrepareState l a σ same is carries = record {
-  runs = runs_one (wait_program r.asks old.view.number (wait_call r)) (at.Prepare preparing.State) old old new nothing
+  runs = runs_one (wait_plan old.view.number r) (at.Prepare preparing.State) old old new nothing
       (by_step (step.State σ)) (only_none old) same (tt, tt, tt) (state_looks old new σ is carries);
   keeps = state_keeps old new σ is carries;
   queued = sym (or_none r.queued);
   first = sym (or_none r.first);
+  seen = refl;
   lands = (
     state_up old new σ is carries a.up,
     state_stands old new σ is carries (wait_post r stage.PrepareState)
-        (post_at None (wait_call r) (at.Prepare preparing.Unlock)) a.stands refl refl (inr same) (λ o h. h),
+        (post_in None r (at.Prepare preparing.Unlock)) a.stands refl refl (inr same) (λ o h. h),
     queued_still old new (state_mask r.how.state) carries.number (carries.stored (index old.view.number 0) refl refl)
         a.trail (carries.state ∙ same),
   );
 }
 state_goes old new r stage.FinishState l a σ same is carries = record {
-  runs = runs_one (wait_program r.asks old.view.number (wait_call r)) (at.Finish finishing.State false) old old new
+  runs = runs_one (wait_plan old.view.number r) (at.Finish finishing.State false) old old new
       nothing (by_step (step.State σ)) (only_none old) same (tt, tt, tt) (state_looks old new σ is carries);
   keeps = state_keeps old new σ is carries;
   queued = sym (or_none r.queued);
   first = sym (or_none r.first);
+  seen = refl;
   lands = (
     state_up old new σ is carries a.up,
     state_stands old new σ is carries (wait_post r stage.FinishState)
-        (post_at None (wait_call r) (at.Finish finishing.Look false)) a.stands refl refl same (λ o h. h),
-    tt,
+        (post_in None r (at.Finish finishing.Look false)) a.stands refl refl same (λ o h. h),
+    a.trail,
   );
 }
 state_goes old new r s l a σ same is carries = absurd l
@@ -110,19 +111,19 @@ module _ (old new : Known) (r : WaitRun) (w : ℕ) (is : new ≡ added old (item
   look_lands a true hit = (
     carries.awake ∙ a.up,
     looked (wait_post r stage.PrepareLook)
-        (post_at None (wait_call r) (at.Leave leaving.Queue)) a.stands refl refl a.stands.state (λ o h. h),
+        (post_in None r (at.Leave leaving.Queue)) a.stands refl refl a.stands.state (λ o h. h),
     (w, record { asks = a.trail; pends = hit }, (history_of old, history_after old new (step.Look w) is)),
   )
   look_lands a false hit = (
     carries.awake ∙ a.up,
     looked (wait_post r stage.PrepareLook)
-        (post_at None (wait_call r) (at.Prepare preparing.Queue)) a.stands refl refl a.stands.state (λ o h. h),
+        (post_in None r (at.Prepare preparing.Queue)) a.stands refl refl a.stands.state (λ o h. h),
     tt,
   )
 
   pub look_goes : (s : WaitStage) → LooksAt s → IsAt old r s → GoesOn old new r r s (goes_to r s (with_own (task_of w)))
   look_goes stage.PrepareLook l a = record {
-    runs = runs_one (wait_program r.asks old.view.number (wait_call r)) (at.Prepare preparing.Look) old old new
+    runs = runs_one (wait_plan old.view.number r) (at.Prepare preparing.Look) old old new
         (with_own (task_of w)) (by_step (step.Look w)) (only_none old) tt (refl, tt, tt)
         (subst (OnlyLooks (added old (item.Made (step.Look w)))) (sym is)
         (only_none (added old (item.Made (step.Look w)))));
@@ -130,6 +131,7 @@ module _ (old new : Known) (r : WaitRun) (w : ℕ) (is : new ≡ added old (item
         (λ x. carries.owes (with_entry (index old.view.number 0) x));
     queued = sym (or_none r.queued);
     first = sym (or_none r.first);
+    seen = refl;
     lands = look_lands a (pending (state_mask r.how.state) (task_of w)) refl;
   }
   look_goes s l a = absurd l

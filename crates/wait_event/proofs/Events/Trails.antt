@@ -1,6 +1,10 @@
 -- What a task's history ends with, after more steps.
 use Rattle.wait_model.specs.declared.watches.Entry.{Entry}
-use Rattle.std.proofs.Common.{◌∙◌, ap, sym, refl, subst, append_assoc, append-nil}
+use Rattle.wait_model.specs.declared.watches.Watch.{Watch}
+use Rattle.wait_model.specs.declared.watches.Watch.TheVariants as watch
+use Rattle.wait_model.specs.Watches.{misses}
+use Rattle.std.proofs.lemmas.Bool.Decides.{nat_tests}
+use Rattle.std.proofs.Common.{◌∙◌, ap, sym, refl, subst, append_assoc, append-nil, arith}
 use Rattle.std.specs.Prelude.{
   ℕ,
   ◌≡◌,
@@ -36,6 +40,8 @@ use Rattle.wait_rule.proofs.WornHeads.WornNotes.{notes_stay}
 use Rattle.wait_event.specs.Waits.{
   EndsWith,
   FoundWorn,
+  HasSeenSet,
+  IsUnset,
   LeftQueue,
   TrailEnd,
   head_of_wait,
@@ -81,9 +87,16 @@ queued_still old new σ number same queued state = record {
   state = state;
 }
 
--- an answer 0 says nothing
-pub over_trail : (k : Known) (r : WaitRun) → TrailEnd k r zero_answer
-over_trail k r = record { signal = λ is. absurd (cc); worn = λ is. absurd (cc) }
+-- an answer 0 says that the last load set the watch
+pub over_trail : (k : Known) (r : WaitRun) → HasSeenSet r → TrailEnd k r zero_answer
+over_trail k r set = record { over = λ _. set; signal = λ is. absurd (cc); worn = λ is. absurd (cc) }
+
+-- a load that does not set it
+pub unset_by : (w : Watch) (v : ℕ) → misses w v ≡ true → IsUnset w v
+unset_by (watch.Plain c) v miss = let zero : v ≡ 0 = grind (arith, nat_tests) in zero
+unset_by (watch.Var u old) v miss = let same : v ≡ old = grind (arith, nat_tests) in same
+unset_by (watch.Done d) v miss = miss
+unset_by (watch.Bit i b) v miss = miss
 
 -- the last load of a wait that was signalled, and of one that found no place
 module _ (old new : Known) (r : WaitRun) (v : ℕ) (number : new.view.number ≡ old.view.number)
@@ -103,12 +116,17 @@ module _ (old new : Known) (r : WaitRun) (v : ℕ) (number : new.view.number ≡
         (ends_more old new (left_by (own_of old) (head_of_wait r) l.look l.entry ++ []) (last_load q) l.ends more));
   }
 
-  pub signal_trail : LeftQueue old r [] → v ≡ 0 → TrailEnd new q signalled
-  signal_trail l zero = record { signal = λ is. (left_more l, zero); worn = λ is. absurd (cc) }
+  pub signal_trail : LeftQueue old r [] → misses r.watch v ≡ true → TrailEnd new q signalled
+  signal_trail l miss = record {
+    over = λ is. absurd (cc);
+    signal = λ is. (left_more l, unset_by r.watch v miss);
+    worn = λ is. absurd (cc);
+  }
 
-  pub worn_trail : FoundWorn old r [] → (rest : List Item) → new.view.items ≡ old.view.items ++ rest → v ≡ 0
-      → TrailEnd new q answer.Worn
-  worn_trail w rest items zero = record {
+  pub worn_trail : FoundWorn old r [] → (rest : List Item) → new.view.items ≡ old.view.items ++ rest
+      → misses r.watch v ≡ true → TrailEnd new q answer.Worn
+  worn_trail w rest items miss = record {
+    over = λ is. absurd (cc);
     signal = λ is. absurd (cc);
     worn = λ is. (
       record {
@@ -117,6 +135,6 @@ module _ (old new : Known) (r : WaitRun) (v : ℕ) (number : new.view.number ≡
             (notes_stay old.view.number old.view.items rest (head_of_wait r) r.place w.noted));
         ends = ends_more old new (step.Unlock (head_of_wait r) false ∷ []) (last_load q) w.ends more;
       },
-      zero,
+      unset_by r.watch v miss,
     );
   }

@@ -1,12 +1,9 @@
 -- Whole waits for a flag: how they begin, go on turn by turn, and what they say at their end.
-use Rattle.std.proofs.Common.{◌∙◌, ap, sym, refl, subst}
-use Rattle.std.specs.Prelude.{ℕ, ◌≡◌, Option, Some, None}
-use Rattle.wait_model.specs.declared.points.Point.TheVariants as at
-use Rattle.wait_model.specs.declared.points.WokenPoint.TheVariants as hearing
+use Rattle.std.proofs.Common.{◌∙◌, ap, sym, subst}
+use Rattle.std.specs.Prelude.{ℕ, ◌≡◌, None}
 use Rattle.wait_model.specs.declared.points.Next.{Next}
 use Rattle.wait_model.specs.declared.points.Next.TheVariants as next
 use Rattle.wait_model.specs.declared.tasks.SleepState.{SleepState}
-use Rattle.wait_model.specs.declared.watches.Entry.{Entry}
 use Rattle.wait_model.specs.declared.watches.Watch.TheVariants as watch
 use Rattle.wait_model.specs.Reached.{IsHome, free}
 use Rattle.wait_model.specs.Admission.{is_standing}
@@ -17,7 +14,6 @@ use Rattle.wait_rule.specs.Stays.{Carries, unchanged}
 use Rattle.wait_rule.specs.Transitions.{Goes}
 use Rattle.wait_rule.proofs.KnownLaws.CarriedTasks.{clean_owes, owes_clean}
 use Rattle.wait_event.specs.Entries.{HasWokenEntry, MayRemove}
-use Rattle.wait_event.specs.Waits.{own_of}
 use Rattle.wait_event.specs.WokenWaits.{EndsWoken, Hears, IsHearing, WentHearing}
 use Rattle.wait_event.specs.WokenWaits.{woken_next, woken_point, woken_program}
 use Rattle.wait_event.specs.declared.woken_waits.WokenStage.{WokenStage}

@@ -1,6 +1,6 @@
 -- What stays of a task over a wait for its flag: its entries, and what it owes.
 use Rattle.std.proofs.Common.{◌∙◌, ap, sym, refl, subst, inr}
-use Rattle.std.specs.Prelude.{ℕ, ◌≡◌, false}
+use Rattle.std.specs.Prelude.{ℕ, ◌≡◌}
 use Rattle.wait_model.specs.Views.{View as Told}
 use Rattle.wait_rule.specs.Known.{Known}
 use Rattle.wait_rule.specs.Says.{Excuse, IsFree, IsUp, OwesBut, told_of}

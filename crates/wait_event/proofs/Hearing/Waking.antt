@@ -7,7 +7,6 @@ use Rattle.wait_model.specs.declared.tasks.SleepState.{SleepState}
 use Rattle.wait_model.specs.Tasks.{state_mask, task_of}
 use Rattle.wait_model.specs.Views.{View as Told}
 use Rattle.wait_model.specs.Fold.{view_of}
-use Rattle.wait_rule.specs.declared.journal.Item.{Item}
 use Rattle.wait_rule.specs.declared.journal.Item.TheVariants as item
 use Rattle.wait_rule.specs.Items.{Book, after_awake, risen, steps_of}
 use Rattle.wait_rule.specs.Known.{Known}
@@ -17,7 +16,7 @@ use Rattle.wait_rule.specs.Transitions.{OnlyLooks}
 use Rattle.wait_rule.proofs.TableSteps.ItemLists.{steps_append}
 use Rattle.wait_rule.proofs.KnownLaws.Transitions.{book_told, looks_of}
 use Rattle.wait_event.specs.Posts.{IsStateFor, Stands}
-use Rattle.wait_event.specs.Waits.{EndsWith, own_of}
+use Rattle.wait_event.specs.Waits.{EndsWith}
 use Rattle.wait_event.specs.WokenWaits.{
   HasHeardSo,
   Hears,

@@ -61,7 +61,7 @@ fn wake_on(
             wake_stretch(domain, waker, run, WakeStage::Next, list, &mut rousing)
         }
         WakeTurn::Done(walked) => WakeTurn::Done(walked),
-        WakeTurn::Starved => WakeTurn::Starved,
+        WakeTurn::Starved(failed) => WakeTurn::Starved(failed),
     }
 }
 

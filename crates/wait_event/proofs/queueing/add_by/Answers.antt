@@ -6,8 +6,8 @@ use Rattle.wait_event.specs.Queueing.{IsForBy, IsFormPlace, form_entry}
 use Rattle.wait_event.proofs.Events.Conditions.{for_flags}
 use Rattle.wait_event.proofs.queueing.add_by.Goals as goal
 
-pub add_front-requires-clause-plain : goal.add_front-requires-clause-plain
-add_front-requires-clause-plain c = subst (λ (f : Form). IsForBy f c.args.watch c.args.kind) c.in-Front.is
+pub add_front-requires-clause-suits : goal.add_front-requires-clause-suits
+add_front-requires-clause-suits c = subst (λ (f : Form). IsForBy f c.args.watch c.args.kind) c.in-Front.is
     c.requires.plain
 
 pub add_tail-requires-clause-suits : goal.add_tail-requires-clause-suits

@@ -1,13 +1,12 @@
-use Rattle.std.proofs.Common.{◌∙◌, ◌<◌, ℕ, ap, sym, subst}
+use Rattle.std.proofs.Common.{◌<◌, ℕ, sym, subst}
 use Rattle.wait_model.specs.declared.layout.TheConstants.{HEADS}
-use Rattle.wait_model.specs.Watches.{head_of}
-use Rattle.wait_event.proofs.Events.Locks.{head_fits, draw_advances}
+use Rattle.wait_event.proofs.Events.Locks.{draw_advances, watch_fits}
 use Rattle.wait_event.proofs.waits.draw_event.Goals as goal
 
 pub draw-run-requires-clause-head : goal.draw-run-requires-clause-head
-draw-run-requires-clause-head c = subst (λ (n : ℕ). n < HEADS) (sym (c.head_of.ensures ∙ ap head_of c.watch.ensures))
-    (head_fits c.args.run.now.cond c.requires.at.runs.plain)
+draw-run-requires-clause-head c = subst (λ (n : ℕ). n < HEADS) (sym c.head_of.ensures)
+    (watch_fits c.args.run.now.watch c.requires.at.runs.there)
 
 pub returns : goal.returns
 returns c = draw_advances c.args.task.now c.draw-run.new.task c.args.run.now c.args.stage c.requires.here
-    c.requires.at c.head_of.result c.draw-run.result (c.head_of.ensures ∙ ap head_of c.watch.ensures) c.draw-run.ensures
+    c.requires.at c.head_of.result c.draw-run.result c.head_of.ensures c.draw-run.ensures

@@ -1,9 +1,6 @@
-use Rattle.std.proofs.Common.{◌∙◌, ap, refl}
-use Rattle.wait_model.specs.declared.watches.Watch.{Watch}
-use Rattle.wait_rule.specs.Says.{added}
-use Rattle.wait_rule.specs.declared.journal.Item.TheVariants as item
-use Rattle.wait_model.specs.declared.steps.Step.TheVariants as step
-use Rattle.wait_event.specs.Waits.{goes_to, with_value}
+use Rattle.std.proofs.Common.{refl}
+use Rattle.wait_event.specs.WaitPlans.{goes_to}
+use Rattle.wait_event.specs.Waits.{with_value}
 use Rattle.wait_event.proofs.Events.Turns.{advance_by}
 use Rattle.wait_event.proofs.Events.Loads.{load_goes}
 use Rattle.wait_event.proofs.waits.load_event.Goals as goal
@@ -16,8 +13,8 @@ returns-clause-advances c =
     let new = c.cond_load-value.new.task in
     let a = c.requires.at in
     let g = load_goes old new r v
-    (c.cond_load-value.ensures.step ∙ ap (λ (w : Watch). added old (item.Made (step.Load w v))) c.watch.ensures)
+    c.cond_load-value.ensures.step
     c.cond_load-value.ensures.carries c.args.stage c.requires.here a in
     advance_by old new r (record r { seen = v }) c.args.stage c.loaded.result (goes_to r c.args.stage (with_value v))
-    (record { cond = refl; how = refl; asks = refl }) (record { plain = a.runs.plain; tail = a.runs.tail })
+    (record { watch_is = refl; how = refl; asks = refl }) (record { there = a.runs.there; suits = a.runs.suits })
     c.loaded.ensures.plain c.loaded.ensures.goes g

@@ -1,30 +1,30 @@
-use Rattle.std.proofs.Common.{◌∙◌, ◌<◌, ℕ, ap, sym, subst, refl}
+use Rattle.std.proofs.Common.{◌<◌, ℕ, sym, subst, refl}
 use Rattle.wait_event.proofs.Events.Falling.{locked_falls}
 use Rattle.wait_model.specs.declared.layout.TheConstants.{HEADS}
-use Rattle.wait_model.specs.Watches.{head_of}
-use Rattle.wait_event.specs.Waits.{goes_to, nothing}
+use Rattle.wait_event.specs.WaitPlans.{goes_to}
+use Rattle.wait_event.specs.Waits.{nothing}
 use Rattle.wait_event.proofs.Events.Turns.{advance_by}
-use Rattle.wait_event.proofs.Events.Locks.{head_fits, other_advances, turn_out, lock_goes}
+use Rattle.wait_event.proofs.Events.Locks.{lock_goes, other_advances, turn_out, watch_fits}
 use Rattle.wait_event.proofs.waits.lock_event.Goals as goal
 
 pub serving_load-found-requires-clause-head : goal.serving_load-found-requires-clause-head
 serving_load-found-requires-clause-head c = subst (λ (n : ℕ). n < HEADS)
-    (sym (c.head_of-head.ensures ∙ ap head_of c.watch.ensures)) (head_fits c.args.run.now.cond c.requires.at.runs.plain)
+    (sym c.head_of-head.ensures) (watch_fits c.args.run.now.watch c.requires.at.runs.there)
 
 pub lock_step-requires-clause-head : goal.lock_step-requires-clause-head
 lock_step-requires-clause-head c = subst (λ (n : ℕ). n < HEADS)
-    (sym (c.head_of-head.ensures ∙ ap head_of c.watch.ensures)) (head_fits c.args.run.now.cond c.requires.at.runs.plain)
+    (sym c.head_of-head.ensures) (watch_fits c.args.run.now.watch c.requires.at.runs.there)
 
 pub lock_step-requires-clause-turn : goal.lock_step-requires-clause-turn
 lock_step-requires-clause-turn c = turn_out c.args.task.now c.serving_load-found.new.task c.args.run.now c.args.stage
     c.requires.here c.requires.at c.head_of-head.result c.serving_load-found.result
-    (c.head_of-head.ensures ∙ ap head_of c.watch.ensures) c.serving_load-found.ensures.step c.if-found-run.false
+    c.head_of-head.ensures c.serving_load-found.ensures.step c.if-found-run.false
 
 pub returns-then-found-run-clause-advances : goal.returns-then-found-run-clause-advances
 returns-then-found-run-clause-advances c = other_advances c.args.task.now c.serving_load-found.new.task
     c.args.run.now c.args.stage
     c.requires.here c.requires.at c.head_of-head.result c.serving_load-found.result
-    (c.head_of-head.ensures ∙ ap head_of c.watch.ensures) c.serving_load-found.ensures.step c.if-found-run.true
+    c.head_of-head.ensures c.serving_load-found.ensures.step c.if-found-run.true
 
 pub returns-clause-advances : goal.returns-clause-advances
 returns-clause-advances c =
@@ -33,10 +33,10 @@ returns-clause-advances c =
     let s = c.lock_step.ensures in
     let g = lock_goes c.args.task.now c.serving_load-found.new.task c.lock_step.new.task r c.args.stage c.requires.here
     c.requires.at c.head_of-head.result c.serving_load-found.result s.0
-    (c.head_of-head.ensures ∙ ap head_of c.watch.ensures) c.serving_load-found.ensures.step s.3 in
+    c.head_of-head.ensures c.serving_load-found.ensures.step s.3 in
     advance_by c.args.task.now c.lock_step.new.task r q c.args.stage c.locked.result (goes_to r c.args.stage nothing)
-    (record { cond = refl; how = refl; asks = refl })
-    (record { plain = c.requires.at.runs.plain; tail = c.requires.at.runs.tail }) c.locked.ensures.plain
+    (record { watch_is = refl; how = refl; asks = refl })
+    (record { there = c.requires.at.runs.there; suits = c.requires.at.runs.suits }) c.locked.ensures.plain
     c.locked.ensures.goes g
 
 pub returns-then-found-run-clause-falls : goal.returns-then-found-run-clause-falls

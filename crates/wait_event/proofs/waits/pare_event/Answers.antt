@@ -1,5 +1,6 @@
 use Rattle.std.proofs.Common.{◌∙◌, refl, sym}
-use Rattle.wait_event.specs.Waits.{goes_to, with_entry}
+use Rattle.wait_event.specs.WaitPlans.{goes_to}
+use Rattle.wait_event.specs.Waits.{with_entry}
 use Rattle.wait_event.proofs.Events.Turns.{advance_by}
 use Rattle.wait_event.proofs.Events.Pares.{pare_may, taken_goes, given_goes}
 use Rattle.wait_event.proofs.waits.pare_event.Goals as goal
@@ -14,8 +15,8 @@ returns-then-run-clause-advances c =
     let r = c.args.run.now in
     let b = c.is_some-run.result in
     advance_by c.args.task.now c.remove.new.task r (record r { found = b }) c.args.stage c.pared.result
-    (goes_to r c.args.stage (with_entry c.own_entry-entry.result)) (record { cond = refl; how = refl; asks = refl })
-    (record { plain = c.requires.at.runs.plain; tail = c.requires.at.runs.tail })
+    (goes_to r c.args.stage (with_entry c.own_entry-entry.result)) (record { watch_is = refl; how = refl; asks = refl })
+    (record { there = c.requires.at.runs.there; suits = c.requires.at.runs.suits })
     c.pared.ensures.plain c.pared.ensures.goes
     (taken_goes c.args.task.now c.own_entry-entry.new.task c.remove.new.task r c.args.stage c.requires.here
     c.requires.at c.own_entry-entry.result c.own_entry-entry.ensures (sym c.is_some-run.ensures ∙ c.if-run.true)
@@ -27,8 +28,8 @@ returns-clause-advances c =
     let r = c.args.run.now in
     let b = c.is_some-run.result in
     advance_by c.args.task.now c.give_back.new.task r (record r { found = b }) c.args.stage c.pared-2.result
-    (goes_to r c.args.stage (with_entry c.own_entry-entry.result)) (record { cond = refl; how = refl; asks = refl })
-    (record { plain = c.requires.at.runs.plain; tail = c.requires.at.runs.tail })
+    (goes_to r c.args.stage (with_entry c.own_entry-entry.result)) (record { watch_is = refl; how = refl; asks = refl })
+    (record { there = c.requires.at.runs.there; suits = c.requires.at.runs.suits })
     c.pared-2.ensures.plain c.pared-2.ensures.goes
     (given_goes c.args.task.now c.own_entry-entry.new.task c.give_back.new.task r c.args.stage c.requires.here
     c.requires.at c.own_entry-entry.result c.own_entry-entry.ensures (sym c.is_some-run.ensures ∙ c.if-run.false)

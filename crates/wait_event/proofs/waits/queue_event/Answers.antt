@@ -11,6 +11,7 @@ use Rattle.wait_event.proofs.Events.Queues.{
   worn_advances,
 }
 use Rattle.wait_event.proofs.Events.Conditions.{wait_for}
+use Rattle.wait_event.proofs.Events.Pares.{bare_head}
 use Rattle.wait_event.proofs.waits.queue_event.Goals as goal
 
 pub returns-then-is_some-clause-advances : goal.returns-then-is_some-clause-advances
@@ -24,21 +25,21 @@ is_first-first-requires-clause-held c = mid_holds c.args.task.now c.own_entry-en
     c.requires.at c.own_entry-entry.result c.own_entry-entry.ensures
 
 pub is_first-first-requires-clause-head : goal.is_first-first-requires-clause-head
-is_first-first-requires-clause-head c = c.head_of.ensures ∙ (ap head_of c.watch-watch.ensures
-    ∙ queue_at c.args.task.now c.own_entry-entry.new.task c.args.run.now c.requires.at c.own_entry-entry.result
-    c.own_entry-entry.ensures)
+is_first-first-requires-clause-head c = c.head_of.ensures ∙ (ap head_of c.bare-watch.ensures
+    ∙ (bare_head c.args.run.now.watch ∙ queue_at c.args.task.now c.own_entry-entry.new.task
+    c.args.run.now c.requires.at c.own_entry-entry.result c.own_entry-entry.ensures))
 
 pub add_by-requires-clause-head : goal.add_by-requires-clause-head
-add_by-requires-clause-head c = ap head_of c.watch-watch.ensures ∙ add_at c.args.task.now c.own_entry-entry.new.task
-    c.args.run.now c.requires.at c.own_entry-entry.result c.own_entry-entry.ensures c.is_first-first.new.task
-    c.is_first-first.ensures.looks
+add_by-requires-clause-head c = ap head_of c.bare-watch.ensures ∙ (bare_head c.args.run.now.watch ∙ add_at
+    c.args.task.now c.own_entry-entry.new.task c.args.run.now c.requires.at c.own_entry-entry.result
+    c.own_entry-entry.ensures c.is_first-first.new.task c.is_first-first.ensures.looks)
 
 pub add_by-requires-clause-few : goal.add_by-requires-clause-few
 add_by-requires-clause-few c prior = absurd (add_few c.args.run.now c.wait_form.result c.wait_form.ensures prior)
 
 pub add_by-requires-clause-plain : goal.add_by-requires-clause-plain
 add_by-requires-clause-plain c = wait_for c.args.run.now c.requires.at.runs c.wait_form.result c.wait_form.ensures
-    c.watch-watch.result c.watch-watch.ensures c.kind.result c.kind.ensures
+    c.bare-watch.result c.bare-watch.ensures c.kind.result c.kind.ensures
 
 pub add_by-requires-clause-out : goal.add_by-requires-clause-out
 add_by-requires-clause-out c = queue_out c.args.task.now c.own_entry-entry.new.task c.own_entry-entry.result
@@ -51,7 +52,7 @@ returns-in-Ok-clause-advances c = join_advances c.args.task.now c.own_entry-entr
     (sym c.is_some.ensures ∙ c.if-is_some.false) c.is_first-first.ensures.looks c.is_first-first.ensures.held
     c.in-Ok.ensures.held c.is_first-first.result c.or_first-run.result c.tells_first.result c.or_first-run.ensures
     c.tells_first.ensures
-    c.is_first-first.ensures.tells c.wait_form.result c.wait_form.ensures c.watch-watch.result c.watch-watch.ensures
+    c.is_first-first.ensures.tells c.wait_form.result c.wait_form.ensures c.bare-watch.result c.bare-watch.ensures
     c.kind.result c.kind.ensures c.in-Ok.ensures.queued
 
 pub returns-in-Err-clause-advances : goal.returns-in-Err-clause-advances

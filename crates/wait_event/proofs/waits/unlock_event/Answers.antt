@@ -1,4 +1,5 @@
-use Rattle.wait_event.specs.Waits.{goes_to, nothing}
+use Rattle.wait_event.specs.WaitPlans.{goes_to}
+use Rattle.wait_event.specs.Waits.{nothing}
 use Rattle.wait_event.proofs.Events.Turns.{advance_same}
 use Rattle.wait_event.proofs.Events.Locks.{unlock_goes}
 use Rattle.wait_event.proofs.waits.unlock_event.Goals as goal

@@ -10,7 +10,8 @@ use Rattle.wait_model.specs.declared.watches.Watch.TheVariants as watch
 use Rattle.wait_model.specs.Watches.{head_of}
 use Rattle.wait_rule.specs.Known.{Known}
 use Rattle.wait_rule.specs.Queues.{walk_of_hold}
-use Rattle.wait_rule.specs.Says.{unlocked_with}
+use Rattle.wait_rule.specs.Says.{Excuse, unlocked_with}
+use Rattle.wait_rule.specs.Stays.{Owes}
 use Rattle.wait_rule.specs.Transitions.{call_program}
 use Rattle.wait_event.specs.Posts.{Runs}
 use Rattle.wq_head.specs.Holds.{HasLocked}
@@ -36,3 +37,7 @@ pub record EndsSimpleWake (old new : Known) (c : ℕ) (all : Bool) (n : ℕ) : T
   pub locks : HasLocked old locked (head_of (watch.Plain c)) (walk_of_hold (head_of (watch.Plain c)) None)
   pub selected : HasSelected locked last (most_of all) n
   pub unlocks : new ≡ unlocked_with last last.at (is_spent all n)
+
+-- but for what the task was excused of before it owes nothing, as before
+abbrev pub OwesAtMost : Known → Known → Type 0
+OwesAtMost old new = (x : Excuse) → Owes x old → Owes x new

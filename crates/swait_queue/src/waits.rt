@@ -1,6 +1,7 @@
 //! Waits in simple queues. In stretches they go on by `wait_event::wait_calls::stretch`, from `begin_swait` on.
 
 ghost use Rattle.std.specs.Prelude.{◌≡◌, false, true};
+ghost use Rattle.wait_model.specs.declared.watches.Watch.TheVariants as watch;
 ghost use Rattle.wait_model.specs.Tasks.{is_killable};
 ghost use Rattle.wait_rule.specs.Queues.{IsIdle, IsTold, index};
 ghost use Rattle.wait_rule.specs.Says.{IsUp};
@@ -15,6 +16,7 @@ use wait_event::wait_calls::run_wait;
 use wait_event::wait_events::{WaitEnd, end_of};
 use wait_event::waits::{WaitRun, WaitStage};
 use wait_model::tasks::{How, SleepState};
+use wait_model::watches::Watch;
 use wait_rule::{Domain, Task};
 
 /// A wait for condition `cond`, from `FIRST_SIMPLE` on and below `PLAIN_CONDITIONS`, that is about to begin: `stretch`
@@ -27,11 +29,11 @@ pub fn begin_swait(task: &Task, cond: u8, state: SleepState) -> WaitRun
     requires listed { is_killable state ≡ false }
     requires out { IsOut task.now }
     ensures at { IsAt task.now result stage.First }
-    ensures fresh { IsFresh result cond (tail_in state) true }
+    ensures fresh { IsFresh result (watch.Plain cond) (tail_in state) true }
     ensures told { IsTold task.now }
 {
     task.told();
-    WaitRun::new(cond, tail_in(state), true)
+    WaitRun::new(Watch::Plain { cond }, tail_in(state), true)
 }
 
 /// At the tail, and in this state.

@@ -11,7 +11,7 @@ ghost use Rattle.wait_rule.specs.Stays.{Carries, only_looks, wake_all_change};
 ghost use Rattle.wq_head.specs.Holds.{IsHolding};
 ghost use Rattle.wq_head.specs.Selects.{HasSelected, IsSimpleHold};
 ghost use Rattle.swait_queue.specs.SimpleWaits.{IsSimpleCond};
-ghost use Rattle.swait_queue.specs.SimpleWakes.{EndsSimpleWake, most_of, is_spent};
+ghost use Rattle.swait_queue.specs.SimpleWakes.{EndsSimpleWake, OwesAtMost, most_of, is_spent};
 
 use std::sync::Wait;
 use wait_model::heads::head_of;
@@ -22,7 +22,7 @@ use wq_head::{Rousing, lock, select, unlock};
 /// Wakes the first task that waits in the simple queue of condition `cond`, from `FIRST_SIMPLE` on and below
 /// `PLAIN_CONDITIONS` (kernel/sched/swait.c, `swake_up_one`): takes its entry off and wakes it with NORMAL, also where
 /// it was awake. False comes exactly where the queue was empty in its hold. Afterwards the task owes no wake of the
-/// condition.
+/// condition, and of all else what it owed, whether it had set the condition or not.
 pub fn swake_one<R: Wait>(rt: &R, domain: &Domain, task: &mut Task, cond: u8) -> bool
     requires of { task.old.domain ≡ domain.now }
     requires up { IsUp task.old }
@@ -32,6 +32,7 @@ pub fn swake_one<R: Wait>(rt: &R, domain: &Domain, task: &mut Task, cond: u8) ->
     ensures up { IsUp task.new }
     ensures idle { IsIdle task.new }
     ensures carries { Carries (wake_all_change (watch.Plain cond) mode.Normal task.new.at) task.old task.new }
+    ensures owing { OwesAtMost task.old task.new }
 {
     swake(rt, domain, task, cond, false) != 0
 }
@@ -39,7 +40,8 @@ pub fn swake_one<R: Wait>(rt: &R, domain: &Domain, task: &mut Task, cond: u8) ->
 /// Wakes all tasks that wait in the simple queue of condition `cond`, from `FIRST_SIMPLE` on and below
 /// `PLAIN_CONDITIONS` (kernel/sched/swait.c, `swake_up_all`), in one hold: takes the entries off in the order of the
 /// queue, and wakes the task of each with NORMAL, also where it was awake. The answer is how many there were; none is
-/// left in the hold. Afterwards the task owes no wake of the condition.
+/// left in the hold. Afterwards the task owes no wake of the condition, and of all else what it owed, whether it had
+/// set the condition or not.
 pub fn swake_all<R: Wait>(rt: &R, domain: &Domain, task: &mut Task, cond: u8) -> u32
     requires of { task.old.domain ≡ domain.now }
     requires up { IsUp task.old }
@@ -49,6 +51,7 @@ pub fn swake_all<R: Wait>(rt: &R, domain: &Domain, task: &mut Task, cond: u8) ->
     ensures up { IsUp task.new }
     ensures idle { IsIdle task.new }
     ensures carries { Carries (wake_all_change (watch.Plain cond) mode.Normal task.new.at) task.old task.new }
+    ensures owing { OwesAtMost task.old task.new }
 {
     swake(rt, domain, task, cond, true)
 }
@@ -64,6 +67,7 @@ fn swake<R: Wait>(rt: &R, domain: &Domain, task: &mut Task, cond: u8, all: bool)
     ensures up { IsUp task.new }
     ensures idle { IsIdle task.new }
     ensures carries { Carries (wake_all_change (watch.Plain cond) mode.Normal task.new.at) task.old task.new }
+    ensures owing { OwesAtMost task.old task.new }
 {
     let head = head_of(Watch::Plain { cond });
     let mut rousing = Rousing::new();

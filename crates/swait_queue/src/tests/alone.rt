@@ -55,13 +55,32 @@ pub(crate) fn set_and_swake_one<R: Wait>(rt: &R, domain: &Domain, task: &mut Tas
     swake_one(rt, domain, task, COND)
 }
 
+/// Wakes with nothing set before: whether there was a first one, and how many there were then.
+fn wake_unset<R: Wait>(rt: &R, domain: &Domain, task: &mut Task) -> (bool, u32)
+    requires of { task.old.domain ≡ domain.now }
+    requires clean { IsClean task.old }
+    ensures of { task.new.domain ≡ domain.now }
+    ensures clean { IsClean task.new }
+{
+    let one = swake_one(rt, domain, task, COND);
+    let all = swake_all(rt, domain, task, COND);
+    (one, all)
+}
+
+/// Who wakes with nothing set finds nobody, and owes nothing after it: the task is taken in.
 #[test]
 fn wakes_of_an_empty_queue(rt: HostRuntime) -> Result<(), Fail> {
     let (domain, mut task) = Domain::new(rt.alloc())?;
-    assert!(rt; !set_and_swake_one(&rt, &domain, &mut task));
-    let (one, all) = wake_in_hold(&rt, &domain, &mut task);
+    let Ok(mut other) = task.fork(&domain, 0) else {
+        panic!(rt; "a number is spare")
+    };
+    let (one, all) = wake_unset(&rt, &domain, &mut other);
     assert!(rt; !one);
     assert_eq!(rt; all, 0);
+    let (one, all) = wake_in_hold(&rt, &domain, &mut other);
+    assert!(rt; !one);
+    assert_eq!(rt; all, 0);
+    task.join(&domain, other);
     Ok(())
 }
 

@@ -6,6 +6,7 @@ ghost use Rattle.wait_rule.specs.Says.{IsClean};
 
 use crate::tests::alone::{set_and_swake, set_and_swake_one};
 use crate::waits::swait_event;
+use crate::wakes::swake_one;
 use std::sync::Wait;
 use std::test::Fail;
 use std::thread;
@@ -31,7 +32,7 @@ fn wait_once<R: Wait>(rt: &R, domain: &Domain, mut task: Task) -> (Task, bool)
     (task, over)
 }
 
-/// Sets the condition and wakes the first who waits for it, as often as there are two.
+/// Sets the condition and wakes the first who waits for it, and the next one.
 fn set_and_swake_two<R: Wait>(rt: &R, domain: &Domain, task: &mut Task)
     requires of { task.old.domain ≡ domain.now }
     requires clean { IsClean task.old }
@@ -39,7 +40,7 @@ fn set_and_swake_two<R: Wait>(rt: &R, domain: &Domain, task: &mut Task)
     ensures clean { IsClean task.new }
 {
     set_and_swake_one(rt, domain, task);
-    set_and_swake_one(rt, domain, task);
+    swake_one(rt, domain, task, COND);
 }
 
 /// Sets the condition, and wakes who waits for it, all at once or one after another; gives the task back.

@@ -1,6 +1,8 @@
 use Rattle.std.proofs.Common.{◌∙◌, ◌<◌, ◌≤◌, ℕ, ap, sym, subst}
 use Rattle.wait_model.specs.declared.layout.TheConstants.{FIRST_SIMPLE_HEAD, HEADS}
+use Rattle.wait_model.specs.declared.watches.Watch.TheVariants as watch
 use Rattle.wait_rule.specs.Says.{unlocked_with}
+use Rattle.wait_rule.proofs.KnownLaws.CarriedCounts.{excused_more}
 use Rattle.wait_event.proofs.Events.Locks.{head_fits}
 use Rattle.wq_head.specs.Selects.{HasSelected}
 use Rattle.swait_queue.proofs.SimpleWakeEnds.{ends_wake, head_simple, may_rise, wake_carries, wake_idle}
@@ -53,3 +55,8 @@ returns-clause-carries g c =
     c.select-selected.ensures.selected) c.select-selected.ensures.hold
     (c.unlock.ensures.unlocked.is ∙ ap (unlocked_with last last.at) c.is_spent.ensures)
     (c.select-selected.ensures.keeps (c.lock.ensures.simple high)) c.requires.idle
+
+-- an excuse of wakes of the condition is one more
+pub returns-clause-owing : goal.returns-clause-owing
+returns-clause-owing g c x owes =
+    (returns-clause-carries g c).owes x (excused_more (watch.Plain c.args.cond) x c.args.task.now owes)

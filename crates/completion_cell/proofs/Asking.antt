@@ -80,7 +80,7 @@ pub behind_load : (old mid new : Known) → Carries unchanged old mid → Carrie
 behind_load old mid new one two =
     looked_carried (λ x. x) (λ x. x) no_entries true (λ _. new.at) old mid new (as_looks old mid one) two
 
-none_held : (old : Known) → IsTold old → IsFree old → (told_of old).hold.head ≡ None
+pub none_held : (old : Known) → IsTold old → IsFree old → (told_of old).hold.head ≡ None
 none_held old told free = told.head ∙ free.head
 
 free_on : (old mid : Known) → Carries unchanged old mid → IsFree old → IsFree mid

@@ -1,5 +1,13 @@
 pub mod Ground
 pub mod Asking
+pub mod Permits
+pub mod CallPermits
+pub mod WaitFronts
+pub mod HeldSteps
+pub mod WaitParts
+pub mod HoldTurns
+pub mod WaitTurns
+pub mod OwnLooks
 pub mod Parts
 pub mod Loads
 pub mod Looks
@@ -14,3 +22,4 @@ pub mod Sleeps
 pub mod Rising
 pub mod Stretches
 pub mod Endings
+pub mod TurnPermits

@@ -3,3 +3,5 @@ pub mod Awaits
 pub mod Completes
 pub mod AwaitEnds
 pub mod Tested
+pub mod HeldPermits
+pub mod AwaitPermits

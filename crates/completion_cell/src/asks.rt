@@ -3,6 +3,7 @@
 ghost use Rattle.std.specs.Prelude.{◌≡◌, ◌<◌, ◌-◌, not, ◌==◌, MatchBool};
 ghost use Rattle.wait_model.specs.declared.layout.TheConstants.{COMPLETIONS, ALL_DONE};
 ghost use Rattle.wait_rule.specs.Counts.{FindsCount, StoresCount, MayStoreCount};
+ghost use Rattle.wait_rule.specs.HandedPermits.{KeepsPermits};
 ghost use Rattle.wait_rule.specs.HeldValues.{count_in};
 ghost use Rattle.wait_rule.specs.Says.{IsFree, IsUp, history_of};
 ghost use Rattle.wait_rule.specs.Stays.{Carries};
@@ -17,9 +18,11 @@ use wait_rule::counts::{done_load, done_store};
 use wait_rule::{Domain, Task};
 use wq_head::{lock, unlock};
 
-/// Whether completion `cell`, below `COMPLETIONS`, is done (`completion_done`): false exactly where its count is loaded
-/// as 0, without the lock. Else a hold of its head waits out a `complete` that is under way. The task holds no lock;
-/// its state, its entries and its bookmark stay, and what it owes.
+/// Whether completion `cell`, below `COMPLETIONS`, is done (kernel/sched/completion.c, `completion_done`): false
+/// exactly where its count is loaded as 0, without the lock. Else a hold of its head waits out a `complete` that is
+/// under way. The task holds no lock; its state, its entries and its bookmark stay, and what it owes. Where the task
+/// has left its own entry off there, what it makes hands permits on (`permits_are_handed_on` of `wait_rule::laws`), and
+/// so it leaves it.
 pub fn is_done<R: Wait>(rt: &R, domain: &Domain, task: &mut Task, cell: u8) -> bool
     requires of { task.old.domain ≡ domain.now }
     requires up { IsUp task.old }
@@ -29,6 +32,7 @@ pub fn is_done<R: Wait>(rt: &R, domain: &Domain, task: &mut Task, cell: u8) -> b
     ensures up { IsUp task.new }
     ensures free { IsFree task.new }
     ensures carries { Carries (hold_change task.new.at) task.old task.new }
+    ensures permits { KeepsPermits cell task.old task.new }
 {
     task.told();
     if done_load(domain, task, cell) == 0 {
@@ -39,8 +43,8 @@ pub fn is_done<R: Wait>(rt: &R, domain: &Domain, task: &mut Task, cell: u8) -> b
     true
 }
 
-/// Clears the count of completion `cell`, below `COMPLETIONS` (`reinit_completion`), in a hold of its head. The rest is
-/// as in `is_done`.
+/// Clears the count of completion `cell`, below `COMPLETIONS` (include/linux/completion.h, `reinit_completion`), in a
+/// hold of its head. The rest is as in `is_done`.
 pub fn reinit<R: Wait>(rt: &R, domain: &Domain, task: &mut Task, cell: u8)
     requires of { task.old.domain ≡ domain.now }
     requires up { IsUp task.old }
@@ -50,6 +54,7 @@ pub fn reinit<R: Wait>(rt: &R, domain: &Domain, task: &mut Task, cell: u8)
     ensures up { IsUp task.new }
     ensures free { IsFree task.new }
     ensures carries { Carries (hold_change task.new.at) task.old task.new }
+    ensures permits { KeepsPermits cell task.old task.new }
 {
     task.told();
     lock(rt, domain, task, head_of(Watch::Done { cell }));
@@ -73,9 +78,9 @@ pub(crate) fn take_one(domain: &Domain, task: &mut Task, cell: u8, count: u32) -
     true
 }
 
-/// Takes one of completion `cell`, below `COMPLETIONS`, where one is there (`try_wait_for_completion`): false exactly
-/// where the deciding load found its count 0, the one without the lock or the one in the hold. A count at its end,
-/// 4294967295, stays. The rest is as in `is_done`.
+/// Takes one of completion `cell`, below `COMPLETIONS`, where one is there (kernel/sched/completion.c,
+/// `try_wait_for_completion`): false exactly where the deciding load found its count 0, the one without the lock or the
+/// one in the hold. A count at its end, 4294967295, stays. The rest is as in `is_done`.
 pub fn try_wait<R: Wait>(rt: &R, domain: &Domain, task: &mut Task, cell: u8) -> bool
     requires of { task.old.domain ≡ domain.now }
     requires up { IsUp task.old }
@@ -85,6 +90,7 @@ pub fn try_wait<R: Wait>(rt: &R, domain: &Domain, task: &mut Task, cell: u8) -> 
     ensures up { IsUp task.new }
     ensures free { IsFree task.new }
     ensures carries { Carries (hold_change task.new.at) task.old task.new }
+    ensures permits { KeepsPermits cell task.old task.new }
 {
     task.told();
     if done_load(domain, task, cell) == 0 {

@@ -2,6 +2,7 @@
 
 ghost use Rattle.std.specs.Prelude.{◌≡◌, ◌≤◌, ◌<◌, MatchBool};
 ghost use Rattle.wait_model.specs.declared.layout.TheConstants.{COMPLETIONS};
+ghost use Rattle.wait_rule.specs.HandedPermits.{KeepsPermits};
 ghost use Rattle.wait_rule.specs.Queues.{IsIdle, IsTold, index};
 ghost use Rattle.wait_rule.specs.Says.{IsUp};
 ghost use Rattle.wait_rule.specs.Stays.{Carries};
@@ -11,8 +12,11 @@ ghost use Rattle.completion_cell.specs.declared.awaits.AwaitStage.TheVariants as
 ghost use Rattle.completion_cell.specs.declared.awaits.AwaitTurn.TheVariants as turn;
 ghost use Rattle.completion_cell.specs.Awaits.{Advances, IsAt, IsAsleepAt, IsFresh, TurnsAt, waits_at};
 ghost use Rattle.completion_cell.specs.AwaitEnds.{EndsAwait, end_in};
+ghost use Rattle.completion_cell.specs.AwaitPermits.{HandsTurn};
 
-use crate::awaits::{AwaitOutcome, AwaitRun, AwaitStage, AwaitTurn, draw_ticket, hold, take_turn};
+use crate::awaits::{
+    AwaitOutcome, AwaitRun, AwaitStage, AwaitTurn, draw_ticket, hold, look_own, take_turn,
+};
 use std::sync::Wait;
 use wait_event::wait_events::WaitEnd;
 use wait_model::heads::head_of;
@@ -38,10 +42,12 @@ fn turn(domain: &Domain, task: &mut Task, run: &mut AwaitRun, stage: AwaitStage)
     requires of { task.old.domain ≡ domain.now }
     requires here { TurnsAt stage }
     requires at { IsAt task.old run.old stage }
-    ensures { Advances task.old task.new run.old run.new stage result }
+    ensures on { Advances task.old task.new run.old run.new stage result }
+    ensures permits { HandsTurn run.old.cell task.old task.new stage result }
 {
     let waited = waits_in(stage);
     if take_turn(domain, task, run, waited) {
+        look_own(domain, task, *run, waited);
         return hold(domain, task, run, waited);
     }
     AwaitTurn::Locked(stage)
@@ -51,7 +57,8 @@ fn turn(domain: &Domain, task: &mut Task, run: &mut AwaitRun, stage: AwaitStage)
 fn sleep(domain: &Domain, task: &mut Task, run: AwaitRun) -> AwaitTurn
     requires of { task.old.domain ≡ domain.now }
     requires at { IsAt task.old run stage.Sleep }
-    ensures { Advances task.old task.new run run stage.Sleep result }
+    ensures on { Advances task.old task.new run run stage.Sleep result }
+    ensures permits { HandsTurn run.cell task.old task.new stage.Sleep result }
 {
     let _ = run;
     match sleep_try(domain, task) {
@@ -65,11 +72,13 @@ fn sleep(domain: &Domain, task: &mut Task, run: AwaitRun) -> AwaitTurn
 /// Goes on with a wait by one hold, by one look at its ticket, or by one try to sleep, for who may not wait: an
 /// executor, or a caller from another language. At every stage no head is held. Again: it goes on there at once, by the
 /// next call. Locked: it waits for a lock, and goes on there when another number of the head is served. Asleep: it was
-/// put asleep, and goes on there once `woke` has answered true. Done: the wait is over.
+/// put asleep, and goes on there once `woke` has answered true. Done: the wait is over. What it makes hands permits on,
+/// where the task had left its own entry off before the first hold; and so it is left off when the wait is over.
 pub fn stretch(domain: &Domain, task: &mut Task, run: &mut AwaitRun, stage: AwaitStage) -> AwaitTurn
     requires of { task.old.domain ≡ domain.now }
     requires at { IsAt task.old run.old stage }
-    ensures { Advances task.old task.new run.old run.new stage result }
+    ensures on { Advances task.old task.new run.old run.new stage result }
+    ensures permits { HandsTurn run.old.cell task.old task.new stage result }
 {
     match stage {
         AwaitStage::First => {
@@ -90,8 +99,9 @@ pub fn stretch(domain: &Domain, task: &mut Task, run: &mut AwaitRun, stage: Awai
 pub fn woke(domain: &Domain, task: &mut Task, run: &AwaitRun, stage: AwaitStage) -> bool
     requires of { task.old.domain ≡ domain.now }
     requires asleep { IsAsleepAt task.old run.now stage }
-    ensures { MatchBool result (Advances task.old task.new run.now run.now stage (turn.Again stage))
+    ensures on { MatchBool result (Advances task.old task.new run.now run.now stage (turn.Again stage))
         (Advances task.old task.new run.now run.now stage (turn.Asleep stage)) }
+    ensures permits { HandsTurn run.now.cell task.old task.new stage (turn.Again stage) }
 {
     let _ = (*run, stage);
     awake(domain, task)
@@ -101,7 +111,8 @@ pub fn woke(domain: &Domain, task: &mut Task, run: &AwaitRun, stage: AwaitStage)
 fn rise<R: Wait>(rt: &R, domain: &Domain, task: &mut Task, run: &AwaitRun, stage: AwaitStage)
     requires of { task.old.domain ≡ domain.now }
     requires asleep { IsAsleepAt task.old run.now stage }
-    ensures { Advances task.old task.new run.now run.now stage (turn.Again stage) }
+    ensures on { Advances task.old task.new run.now run.now stage (turn.Again stage) }
+    ensures permits { HandsTurn run.now.cell task.old task.new stage (turn.Again stage) }
 {
     let _ = (*run, stage);
     task.told();
@@ -127,7 +138,8 @@ pub fn run_await<R: Wait>(
 ) -> AwaitOutcome
     requires of { task.old.domain ≡ domain.now }
     requires at { IsAt task.old run.old stage }
-    ensures { Advances task.old task.new run.old run.new stage (turn.Done result) }
+    ensures on { Advances task.old task.new run.old run.new stage (turn.Done result) }
+    ensures permits { HandsTurn run.old.cell task.old task.new stage (turn.Done result) }
 {
     let mut at = stage;
     let mut looks = 0;
@@ -166,12 +178,13 @@ pub fn begin_await(task: &Task, cell: u8, state: SleepState) -> AwaitRun
     AwaitRun::new(cell, state)
 }
 
-/// Waits until completion `cell`, below `COMPLETIONS`, is done, and takes one of its count (`wait_for_completion`,
-/// `wait_for_completion_interruptible`, `wait_for_completion_killable`); a count at its end, 4294967295, stays. The own
-/// entry waits at the tail. Signal: its last hold loaded the count as 0 (`seen`), and a look at the own word showed a
-/// signal that the state admits; `selected` is that this hold found the entry off that the call had queued. Worn: no
-/// place was left for the entry, in a hold that had loaded 0. The task is idle and has no entry queued, and so it is
-/// afterwards; it owes what it owed.
+/// Waits until completion `cell`, below `COMPLETIONS`, is done, and takes one of its count (kernel/sched/completion.c,
+/// `wait_for_completion`, `wait_for_completion_interruptible`, `wait_for_completion_killable`); a count at its end,
+/// 4294967295, stays. The own entry waits at the tail. Signal: its last hold loaded the count as 0 (`seen`), and a look
+/// at the own word showed a signal that the state admits; `selected` is that this hold found the entry off that the
+/// call had queued. Worn: no place was left for the entry, in a hold that had loaded 0. The task is idle and has no
+/// entry queued, and so it is afterwards; it owes what it owed. Where the task has left its own entry off there, what
+/// it makes hands permits on (`permits_are_handed_on` of `wait_rule::laws`), and so it leaves it.
 pub fn wait_for<R: Wait>(
     rt: &R,
     domain: &Domain,
@@ -189,6 +202,7 @@ pub fn wait_for<R: Wait>(
     ensures idle { IsIdle task.new }
     ensures out { IsOut task.new }
     ensures carries { Carries (wait_change (index task.old.view.number 0) task.new.at) task.old task.new }
+    ensures permits { KeepsPermits cell task.old task.new }
 {
     let mut run = begin_await(task, cell, state);
     let outcome = run_await(rt, domain, task, &mut run, AwaitStage::First);

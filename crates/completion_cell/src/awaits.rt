@@ -1,6 +1,7 @@
 //! A wait for a completion (`do_wait_for_common`): its stages and its turns, of a hold each.
 
-ghost use Rattle.std.specs.Prelude.{ℕ, ◌≡◌, ◌≢◌, ◌<◌, ◌==◌, ◌++◌, ◌∷◌, [], true, false, not, Some, None, MatchBool};
+ghost use Rattle.std.specs.Prelude.{ℕ, ◌≡◌, ◌≢◌, ◌<◌, ◌≤◌, ◌==◌, ◌++◌, ◌∷◌, [], true, false, not, MatchBool};
+ghost use Rattle.std.specs.Prelude.{Option, Some, None};
 ghost use Rattle.wait_model.specs.declared.layout.TheConstants.{COMPLETIONS};
 ghost use Rattle.wait_model.specs.declared.points.AwaitPoint.TheVariants as awaiting;
 ghost use Rattle.wait_model.specs.declared.points.Next.TheVariants as next;
@@ -20,6 +21,7 @@ ghost use Rattle.completion_cell.specs.Awaits.{Draws, EndsAs, Enters, LooksFirst
 ghost use Rattle.completion_cell.specs.Awaits.{TakesTurn, turn_post};
 ghost use Rattle.wait_event.specs.Waits.{EndsWith};
 ghost use Rattle.completion_cell.specs.Awaits.{await_call, await_watch, post_of};
+ghost use Rattle.completion_cell.specs.HeldPermits.{Held, HeldBy, HeldOut, IsSettled, LocksBy, LooksBy};
 
 use crate::asks::take_one;
 use wait_model::heads::head_of;
@@ -172,7 +174,8 @@ fn take(domain: &Domain, task: &mut Task, run: AwaitRun, off: bool, count: u32)
     requires of { task.old.domain ≡ domain.now }
     requires may { MayEnd task.old run off false count }
     requires some { count ≢ 0 }
-    ensures { EndsAs task.old task.new run off false zero_answer }
+    ensures ends { EndsAs task.old task.new run off false zero_answer }
+    ensures deals { (n : ℕ) → IsSettled count n → HeldOut run.cell task.old task.new (Some count) n }
 {
     let _ = off;
     take_one(domain, task, run.cell, count);
@@ -196,7 +199,8 @@ fn enter(domain: &Domain, task: &mut Task, run: &mut AwaitRun) -> bool
     requires of { task.old.domain ≡ domain.now }
     requires at { StandsAt task.old run.old (post_of run.old (at.Prepare preparing.Queue)) }
     requires zero { Counts task.old run.old 0 }
-    ensures { Enters task.old task.new run.old run.new result }
+    ensures enters { Enters task.old task.new run.old run.new result }
+    ensures deals { HeldBy run.old.cell task.old task.new result }
 {
     let entry = own_entry(domain, task);
     if entry.is_some() {
@@ -223,7 +227,8 @@ fn prepare(domain: &Domain, task: &mut Task, run: &mut AwaitRun) -> AwaitTurn
     requires of { task.old.domain ≡ domain.now }
     requires at { StandsAt task.old run.old (post_of run.old (at.Prepare preparing.Queue)) }
     requires zero { Counts task.old run.old 0 }
-    ensures { Reaches task.old task.new run.old run.new (at.Prepare preparing.Queue) result }
+    ensures reaches { Reaches task.old task.new run.old run.new (at.Prepare preparing.Queue) result }
+    ensures deals { HeldOut run.old.cell task.old task.new (Some 0) 0 }
 {
     if enter(domain, task, run) {
         give_back(domain, task, false);
@@ -238,7 +243,9 @@ fn leave(domain: &Domain, task: &mut Task, run: &mut AwaitRun)
     requires at { StandsAt task.old run.old (post_of run.old (at.Await (awaiting.Run true))) }
     requires zero { Counts task.old run.old 0 }
     requires saw { SawSignal task.old run.old }
-    ensures { Reaches task.old task.new run.old run.new (at.Await (awaiting.Run true)) (turn.Done outcome.Signalled) }
+    ensures reaches { Reaches task.old task.new run.old run.new (at.Await (awaiting.Run true))
+        (turn.Done outcome.Signalled) }
+    ensures deals { HeldOut run.old.cell task.old task.new (Some 0) 0 }
 {
     run_state(domain, task, *run, true);
     let found = pare(domain, task, *run, true, 0);
@@ -252,7 +259,8 @@ fn finish(domain: &Domain, task: &mut Task, run: AwaitRun, count: u32)
     requires at { StandsAt task.old run (post_of run (at.Await (awaiting.Run false))) }
     requires counts { Counts task.old run count }
     requires some { count ≢ 0 }
-    ensures { Part task.old task.new run run (at.Await (awaiting.Run false)) (next.Ends zero_answer) }
+    ensures part { Part task.old task.new run run (at.Await (awaiting.Run false)) (next.Ends zero_answer) }
+    ensures deals { (n : ℕ) → IsSettled count n → HeldOut run.cell task.old task.new (Some count) n }
 {
     run_state(domain, task, run, false);
     let off = pare(domain, task, run, false, count);
@@ -265,7 +273,8 @@ fn look_first(domain: &Domain, task: &mut Task, run: AwaitRun) -> bool
     requires at { StandsAt task.old run (post_of run (prepares_from (await_call run))) }
     requires zero { Counts task.old run 0 }
     requires loaded { EndsWith task.old (step.Load (watch.Done run.cell) 0 ∷ []) }
-    ensures { LooksFirst task.old task.new run result }
+    ensures looks { LooksFirst task.old task.new run result }
+    ensures deals { Held run.cell task.old task.new (Some 0) 0 (Some 0) 0 }
 {
     if run.state.looks() {
         return look_signal(domain, task, run);
@@ -279,7 +288,8 @@ fn wait_on(domain: &Domain, task: &mut Task, run: &mut AwaitRun) -> AwaitTurn
     requires at { StandsAt task.old run.old (post_of run.old (prepares_from (await_call run.old))) }
     requires zero { Counts task.old run.old 0 }
     requires loaded { EndsWith task.old (step.Load (watch.Done run.old.cell) 0 ∷ []) }
-    ensures { Reaches task.old task.new run.old run.new (prepares_from (await_call run.old)) result }
+    ensures reaches { Reaches task.old task.new run.old run.new (prepares_from (await_call run.old)) result }
+    ensures deals { HeldOut run.old.cell task.old task.new (Some 0) 0 }
 {
     if look_first(domain, task, *run) {
         leave(domain, task, run);
@@ -294,7 +304,8 @@ fn take_on(domain: &Domain, task: &mut Task, run: AwaitRun, waited: bool, count:
     requires at { StandsAt task.old run (post_of run (await_after (await_call run) waited false)) }
     requires counts { Counts task.old run count }
     requires some { count ≢ 0 }
-    ensures { Part task.old task.new run run (await_after (await_call run) waited false) (next.Ends zero_answer) }
+    ensures part { Part task.old task.new run run (await_after (await_call run) waited false) (next.Ends zero_answer) }
+    ensures deals { (n : ℕ) → IsSettled count n → HeldOut run.cell task.old task.new (Some count) n }
 {
     if waited {
         finish(domain, task, run, count);
@@ -303,11 +314,27 @@ fn take_on(domain: &Domain, task: &mut Task, run: AwaitRun, waited: bool, count:
     take(domain, task, run, true, count);
 }
 
+/// A wait that was in its loop looks at its own entry before it loads the count. So it knows whether the permit that it
+/// may find was handed to it, or was left there by who found nobody queued.
+pub(crate) fn look_own(domain: &Domain, task: &mut Task, run: AwaitRun, waited: bool)
+    requires of { task.old.domain ≡ domain.now }
+    requires at { StandsAt task.old run (post_of run (at.Await (awaiting.Load waited))) }
+    ensures part { Part task.old task.new run run (at.Await (awaiting.Load waited))
+        (next.Go (at.Await (awaiting.Load waited))) }
+    ensures looks { LooksBy task.old task.new waited }
+{
+    let _ = run;
+    if waited {
+        own_entry(domain, task);
+    }
+}
+
 /// A whole hold, from its load on.
 pub(crate) fn hold(domain: &Domain, task: &mut Task, run: &mut AwaitRun, waited: bool) -> AwaitTurn
     requires of { task.old.domain ≡ domain.now }
     requires at { StandsAt task.old run.old (post_of run.old (at.Await (awaiting.Load waited))) }
-    ensures { Reaches task.old task.new run.old run.new (at.Await (awaiting.Load waited)) result }
+    ensures reaches { Reaches task.old task.new run.old run.new (at.Await (awaiting.Load waited)) result }
+    ensures deals { (o : Option ℕ) (n : ℕ) → n ≤ 1 → HeldOut run.old.cell task.old task.new o n }
 {
     let count = load_count(domain, task, *run, waited);
     if count == 0 {
@@ -321,7 +348,8 @@ pub(crate) fn hold(domain: &Domain, task: &mut Task, run: &mut AwaitRun, waited:
 pub(crate) fn draw_ticket(domain: &Domain, task: &mut Task, run: &mut AwaitRun, waited: bool)
     requires of { task.old.domain ≡ domain.now }
     requires at { StandsAt task.old run.old (post_of run.old (at.Await (awaiting.Lock waited))) }
-    ensures { Draws task.old task.new run.old run.new waited }
+    ensures draws { Draws task.old task.new run.old run.new waited }
+    ensures same { history_of task.new ≡ history_of task.old }
 {
     let _ = waited;
     run.ticket = draw(domain, task, head_of(run.watch()));
@@ -331,7 +359,8 @@ pub(crate) fn draw_ticket(domain: &Domain, task: &mut Task, run: &mut AwaitRun, 
 pub(crate) fn take_turn(domain: &Domain, task: &mut Task, run: &mut AwaitRun, waited: bool) -> bool
     requires of { task.old.domain ≡ domain.now }
     requires at { StandsAt task.old run.old (turn_post run.old waited) }
-    ensures { TakesTurn task.old task.new run.old run.new waited result }
+    ensures takes { TakesTurn task.old task.new run.old run.new waited result }
+    ensures locks { LocksBy run.old.cell task.old task.new result }
 {
     let _ = waited;
     let head = head_of(run.watch());

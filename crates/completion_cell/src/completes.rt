@@ -5,6 +5,7 @@ ghost use Rattle.wait_model.specs.declared.layout.TheConstants.{COMPLETIONS};
 ghost use Rattle.wait_model.specs.declared.watches.Mode.TheVariants as mode;
 ghost use Rattle.wait_model.specs.declared.watches.Watch.TheVariants as watch;
 ghost use Rattle.wait_rule.specs.Counts.{StoresCount};
+ghost use Rattle.wait_rule.specs.HandedPermits.{KeepsPermits};
 ghost use Rattle.wait_rule.specs.Says.{IsFree, IsUp};
 ghost use Rattle.wait_rule.specs.Stays.{Carries};
 ghost use Rattle.wait_event.specs.Conds.{set_change};
@@ -35,9 +36,11 @@ fn raise_one(domain: &Domain, task: &mut Task, cell: u8, count: u32) -> bool
     true
 }
 
-/// Completes completion `cell`, below `COMPLETIONS`, for one waiter (`complete`): in one hold of its head the count is
-/// raised by one, unless it is at its end, 4294967295, and the first waiter is woken and taken off its queue. The task
-/// holds no lock; its state, its entries and its bookmark stay, and what it owes.
+/// Completes completion `cell`, below `COMPLETIONS`, for one waiter (kernel/sched/completion.c, `complete`): in one
+/// hold of its head the count is raised by one, unless it is at its end, 4294967295, and the first waiter is woken and
+/// taken off its queue. The task holds no lock; its state, its entries and its bookmark stay, and what it owes. Where
+/// the task has left its own entry off there, the permit that it makes is handed on, unless nobody is queued
+/// (`permits_are_handed_on` of `wait_rule::laws`), and so it leaves it.
 pub fn complete<R: Wait>(rt: &R, domain: &Domain, task: &mut Task, cell: u8)
     requires of { task.old.domain ≡ domain.now }
     requires up { IsUp task.old }
@@ -47,6 +50,7 @@ pub fn complete<R: Wait>(rt: &R, domain: &Domain, task: &mut Task, cell: u8)
     ensures up { IsUp task.new }
     ensures free { IsFree task.new }
     ensures carries { Carries (set_change (watch.Done cell) mode.Normal task.new.at) task.old task.new }
+    ensures permits { KeepsPermits cell task.old task.new }
 {
     task.told();
     let head = head_of(Watch::Done { cell });
@@ -59,9 +63,9 @@ pub fn complete<R: Wait>(rt: &R, domain: &Domain, task: &mut Task, cell: u8)
     rousing.rouse_all(domain);
 }
 
-/// Completes completion `cell`, below `COMPLETIONS`, for all waiters, those to come as well (`complete_all`): in one
-/// hold of its head the count becomes its end, 4294967295, and all waiters are woken and taken off their queue. The
-/// rest is as in `complete`.
+/// Completes completion `cell`, below `COMPLETIONS`, for all waiters, those to come as well (kernel/sched/completion.c,
+/// `complete_all`): in one hold of its head the count becomes its end, 4294967295, and all waiters are woken and taken
+/// off their queue. The rest is as in `complete`.
 pub fn complete_all<R: Wait>(rt: &R, domain: &Domain, task: &mut Task, cell: u8)
     requires of { task.old.domain ≡ domain.now }
     requires up { IsUp task.old }
@@ -71,6 +75,7 @@ pub fn complete_all<R: Wait>(rt: &R, domain: &Domain, task: &mut Task, cell: u8)
     ensures up { IsUp task.new }
     ensures free { IsFree task.new }
     ensures carries { Carries (set_change (watch.Done cell) mode.Normal task.new.at) task.old task.new }
+    ensures permits { KeepsPermits cell task.old task.new }
 {
     task.told();
     let head = head_of(Watch::Done { cell });

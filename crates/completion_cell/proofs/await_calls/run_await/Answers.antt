@@ -1,37 +1,63 @@
+use Rattle.std.proofs.Common.{refl}
 use Rattle.completion_cell.specs.declared.awaits.AwaitTurn.TheVariants as turn
 use Rattle.completion_cell.proofs.Sleeps.{stays_at}
 use Rattle.completion_cell.proofs.Stretches.{advances_on, goes_again}
+use Rattle.completion_cell.proofs.TurnPermits.{asleep_again, locked_again, turns_on}
+use Rattle.completion_cell.proofs.WaitTurns.{still_again}
 use Rattle.completion_cell.proofs.await_calls.run_await.Goals as goal
 
 pub loop-init : goal.loop-init
-loop-init g c = stays_at c.args.task.now c.args.run.now c.args.stage c.requires.at
+loop-init g c = (
+  stays_at c.args.task.now c.args.run.now c.args.stage c.requires.at,
+  still_again c.args.run.now.cell c.args.task.now c.args.task.now refl refl c.args.stage,
+)
 
 pub loop-preserved-in-Again : goal.loop-preserved-in-Again
 loop-preserved-in-Again g c =
-    let i = c.loop.invariant in
-    advances_on c.args.task.now c.loop.task c.stretch.new.task c.args.run.now c.loop.run c.stretch.new.run
-    c.args.stage c.loop.at (turn.Again c.in-Again.next) i.went c.in-Again.ensures
+    let i = c.loop.invariant in (
+      advances_on c.args.task.now c.loop.task c.stretch.new.task c.args.run.now c.loop.run c.stretch.new.run
+          c.args.stage c.loop.at (turn.Again c.in-Again.next) i.0.went c.in-Again.ensures.on,
+      turns_on c.args.task.now c.loop.task c.stretch.new.task c.args.run.now c.loop.run c.args.stage c.loop.at
+          (turn.Again c.in-Again.next) i.0.went.keeps.number i.0.went.cell i.1 c.in-Again.ensures.permits,
+    )
 
 pub loop-preserved-in-Asleep : goal.loop-preserved-in-Asleep
 loop-preserved-in-Asleep g c =
     let i = c.loop.invariant in
     let a = advances_on c.args.task.now c.loop.task c.stretch.new.task c.args.run.now c.loop.run c.stretch.new.run
-    c.args.stage c.loop.at (turn.Asleep c.in-Asleep.next) i.went c.in-Asleep.ensures in
-    advances_on c.args.task.now c.stretch.new.task c.rise.new.task c.args.run.now c.stretch.new.run c.stretch.new.run
-    c.args.stage c.in-Asleep.next (turn.Again c.in-Asleep.next) a.went c.rise.ensures
+    c.args.stage c.loop.at (turn.Asleep c.in-Asleep.next) i.0.went c.in-Asleep.ensures.on in
+    let p = turns_on c.args.task.now c.loop.task c.stretch.new.task c.args.run.now c.loop.run c.args.stage c.loop.at
+    (turn.Asleep c.in-Asleep.next) i.0.went.keeps.number i.0.went.cell i.1 c.in-Asleep.ensures.permits in (
+      advances_on c.args.task.now c.stretch.new.task c.rise.new.task c.args.run.now c.stretch.new.run
+          c.stretch.new.run c.args.stage c.in-Asleep.next (turn.Again c.in-Asleep.next) a.went c.rise.ensures.on,
+      turns_on c.args.task.now c.stretch.new.task c.rise.new.task c.args.run.now c.stretch.new.run c.args.stage
+          c.in-Asleep.next (turn.Again c.in-Asleep.next) a.went.keeps.number a.went.cell
+          (asleep_again c.args.run.now.cell c.args.task.now c.stretch.new.task c.args.stage c.in-Asleep.next p)
+          c.rise.ensures.permits,
+    )
 
 pub pause-looks-requires : goal.pause-looks-requires
-pause-looks-requires g c = record { there = c.in-Locked.ensures.lands.there }
+pause-looks-requires g c = record { there = c.in-Locked.ensures.on.lands.there }
 
 pub loop-preserved : goal.loop-preserved
 loop-preserved g c =
-    let i = c.loop.invariant in
-    goes_again c.args.task.now c.stretch.new.task c.args.run.now c.stretch.new.run c.args.stage c.in-Locked.next
-    (advances_on c.args.task.now c.loop.task c.stretch.new.task c.args.run.now c.loop.run c.stretch.new.run
-    c.args.stage c.loop.at (turn.Locked c.in-Locked.next) i.went c.in-Locked.ensures)
+    let i = c.loop.invariant in (
+      goes_again c.args.task.now c.stretch.new.task c.args.run.now c.stretch.new.run c.args.stage c.in-Locked.next
+          (advances_on c.args.task.now c.loop.task c.stretch.new.task c.args.run.now c.loop.run c.stretch.new.run
+          c.args.stage c.loop.at (turn.Locked c.in-Locked.next) i.0.went c.in-Locked.ensures.on),
+      locked_again c.args.run.now.cell c.args.task.now c.stretch.new.task c.args.stage c.in-Locked.next
+          (turns_on c.args.task.now c.loop.task c.stretch.new.task c.args.run.now c.loop.run c.args.stage c.loop.at
+          (turn.Locked c.in-Locked.next) i.0.went.keeps.number i.0.went.cell i.1 c.in-Locked.ensures.permits),
+    )
 
-pub returns-in-Done : goal.returns-in-Done
-returns-in-Done g c =
+pub returns-in-Done-clause-on : goal.returns-in-Done-clause-on
+returns-in-Done-clause-on g c =
     let i = c.loop.invariant in
     advances_on c.args.task.now c.loop.task c.stretch.new.task c.args.run.now c.loop.run c.stretch.new.run
-    c.args.stage c.loop.at (turn.Done c.in-Done.outcome) i.went c.in-Done.ensures
+    c.args.stage c.loop.at (turn.Done c.in-Done.outcome) i.0.went c.in-Done.ensures.on
+
+pub returns-in-Done-clause-permits : goal.returns-in-Done-clause-permits
+returns-in-Done-clause-permits g c =
+    let i = c.loop.invariant in
+    turns_on c.args.task.now c.loop.task c.stretch.new.task c.args.run.now c.loop.run c.args.stage c.loop.at
+    (turn.Done c.in-Done.outcome) i.0.went.keeps.number i.0.went.cell i.1 c.in-Done.ensures.permits

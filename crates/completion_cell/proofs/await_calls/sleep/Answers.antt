@@ -1,24 +1,52 @@
-use Rattle.std.proofs.Common.{inl, inr}
+use Rattle.std.proofs.Common.{ap, inl, inr}
+use Rattle.wait_rule.specs.Known.{Known}
+use Rattle.wait_rule.specs.Says.{history_of}
+use Rattle.completion_cell.specs.declared.awaits.AwaitStage.TheVariants as stage
+use Rattle.completion_cell.specs.declared.awaits.AwaitTurn.TheVariants as turn
 use Rattle.completion_cell.proofs.Sleeps.{sleep_again, sleep_down, sleep_up}
+use Rattle.completion_cell.proofs.WaitTurns.{sleep_turn, still_again}
 use Rattle.completion_cell.proofs.await_calls.sleep.Goals as goal
 
-pub returns-in-None : goal.returns-in-None
-returns-in-None c = sleep_again c.args.task.now c.sleep_try.new.task c.args.run c.requires.at c.in-None.ensures.same
+pub returns-in-None-clause-on : goal.returns-in-None-clause-on
+returns-in-None-clause-on c = sleep_again c.args.task.now c.sleep_try.new.task c.args.run c.requires.at
+    c.in-None.ensures.same
 
-pub returns-in-Some-Asleep : goal.returns-in-Some-Asleep
-returns-in-Some-Asleep c =
+pub returns-in-Some-Asleep-clause-on : goal.returns-in-Some-Asleep-clause-on
+returns-in-Some-Asleep-clause-on c =
     let s = c.in-Some-Asleep.ensures.step in
     sleep_down c.args.task.now c.sleep_try.new.task c.args.run c.requires.at s.0 s.2
     c.in-Some-Asleep.field-0 s.3 c.in-Some-Asleep.field-0-is
 
-pub returns-in-Some-Stay : goal.returns-in-Some-Stay
-returns-in-Some-Stay c =
+pub returns-in-Some-Stay-clause-on : goal.returns-in-Some-Stay-clause-on
+returns-in-Some-Stay-clause-on c =
     let s = c.in-Some-Stay.ensures.step in
     sleep_up c.args.task.now c.sleep_try.new.task c.args.run c.requires.at s.0 s.2
     c.in-Some-Stay.field-0 s.3 (inl c.in-Some-Stay.field-0-is)
 
-pub returns-in-Some-Signal : goal.returns-in-Some-Signal
-returns-in-Some-Signal c =
+pub returns-in-Some-Signal-clause-on : goal.returns-in-Some-Signal-clause-on
+returns-in-Some-Signal-clause-on c =
     let s = c.in-Some-Signal.ensures.step in
     sleep_up c.args.task.now c.sleep_try.new.task c.args.run c.requires.at s.0 s.2
     c.in-Some-Signal.field-0 s.3 (inr c.in-Some-Signal.field-0-is)
+
+pub returns-in-None-clause-permits : goal.returns-in-None-clause-permits
+returns-in-None-clause-permits c = still_again c.args.run.cell c.args.task.now c.sleep_try.new.task
+    (ap history_of c.in-None.ensures.same) (ap (λ (k : Known). k.view.number) c.in-None.ensures.same) stage.Sleep
+
+pub returns-in-Some-Asleep-clause-permits : goal.returns-in-Some-Asleep-clause-permits
+returns-in-Some-Asleep-clause-permits c =
+    let s = c.in-Some-Asleep.ensures.step in
+    sleep_turn c.args.run.cell c.args.task.now c.sleep_try.new.task s.0 s.2 c.requires.at.stands.told
+    (turn.Asleep stage.Again) tt
+
+pub returns-in-Some-Stay-clause-permits : goal.returns-in-Some-Stay-clause-permits
+returns-in-Some-Stay-clause-permits c =
+    let s = c.in-Some-Stay.ensures.step in
+    sleep_turn c.args.run.cell c.args.task.now c.sleep_try.new.task s.0 s.2 c.requires.at.stands.told
+    (turn.Again stage.Again) tt
+
+pub returns-in-Some-Signal-clause-permits : goal.returns-in-Some-Signal-clause-permits
+returns-in-Some-Signal-clause-permits c =
+    let s = c.in-Some-Signal.ensures.step in
+    sleep_turn c.args.run.cell c.args.task.now c.sleep_try.new.task s.0 s.2 c.requires.at.stands.told
+    (turn.Again stage.Again) tt

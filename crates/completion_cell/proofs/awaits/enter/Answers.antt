@@ -9,10 +9,11 @@ use Rattle.completion_cell.proofs.Queues.{
   suits,
   worn_advances,
 }
+use Rattle.completion_cell.proofs.WaitParts.{join_deals, stay_deals, worn_deals}
 use Rattle.completion_cell.proofs.awaits.enter.Goals as goal
 
-pub returns-then-is_some : goal.returns-then-is_some
-returns-then-is_some c = stay_enters c.args.task.now c.own_entry-entry.new.task c.args.run.now
+pub returns-then-is_some-clause-enters : goal.returns-then-is_some-clause-enters
+returns-then-is_some-clause-enters c = stay_enters c.args.task.now c.own_entry-entry.new.task c.args.run.now
     c.own_entry-entry.result c.own_entry-entry.ensures c.requires.at (sym c.is_some.ensures ∙ c.if-is_some.true)
     c.set_state.new.task c.mask.result c.mask.ensures c.set_state.ensures.step c.set_state.ensures.carries
 
@@ -32,16 +33,33 @@ pub add_tail-requires-clause-out : goal.add_tail-requires-clause-out
 add_tail-requires-clause-out c = mid_out c.args.task.now c.own_entry-entry.new.task c.args.run.now
     c.own_entry-entry.result c.own_entry-entry.ensures c.requires.at (sym c.is_some.ensures ∙ c.if-is_some.false)
 
-pub returns-in-Ok : goal.returns-in-Ok
-returns-in-Ok c = join_advances c.args.task.now c.own_entry-entry.new.task c.args.run.now
+pub returns-in-Ok-clause-enters : goal.returns-in-Ok-clause-enters
+returns-in-Ok-clause-enters c = join_advances c.args.task.now c.own_entry-entry.new.task c.args.run.now
     c.own_entry-entry.result c.own_entry-entry.ensures c.requires.at (sym c.is_some.ensures ∙ c.if-is_some.false)
     c.add_tail.new.task c.watch.result c.watch.ensures c.in-Ok.ensures.queued c.in-Ok.ensures.held
     c.set_state-in-Ok.new.task c.mask-in-Ok.result c.mask-in-Ok.ensures c.set_state-in-Ok.ensures.step
     c.set_state-in-Ok.ensures.carries
 
-pub returns-in-Err : goal.returns-in-Err
-returns-in-Err c = worn_advances c.args.task.now c.own_entry-entry.new.task c.args.run.now
+pub returns-in-Err-clause-enters : goal.returns-in-Err-clause-enters
+returns-in-Err-clause-enters c = worn_advances c.args.task.now c.own_entry-entry.new.task c.args.run.now
     c.own_entry-entry.result c.own_entry-entry.ensures c.requires.at (sym c.is_some.ensures ∙ c.if-is_some.false)
     c.add_tail.new.task c.own_entry.new.task c.give_back.new.task c.in-Err.worn c.in-Err.ensures.worn
     c.in-Err.ensures.held c.own_entry.result c.own_entry.ensures c.give_back.ensures c.in-Err.ensures.noted
     c.requires.zero
+
+pub returns-then-is_some-clause-deals : goal.returns-then-is_some-clause-deals
+returns-then-is_some-clause-deals c = stay_deals c.args.task.now c.own_entry-entry.new.task c.set_state.new.task
+    c.args.run.now c.own_entry-entry.result c.own_entry-entry.ensures c.requires.at c.mask.result
+    c.set_state.ensures.step c.set_state.ensures.carries
+
+pub returns-in-Ok-clause-deals : goal.returns-in-Ok-clause-deals
+returns-in-Ok-clause-deals c = join_deals c.args.task.now c.own_entry-entry.new.task c.add_tail.new.task
+    c.set_state-in-Ok.new.task c.args.run.now c.own_entry-entry.result c.own_entry-entry.ensures c.requires.at
+    c.watch.result c.in-Ok.ensures.queued c.mask-in-Ok.result c.set_state-in-Ok.ensures.step
+    c.set_state-in-Ok.ensures.carries
+
+pub returns-in-Err-clause-deals : goal.returns-in-Err-clause-deals
+returns-in-Err-clause-deals c = worn_deals c.args.task.now c.own_entry-entry.new.task c.add_tail.new.task
+    c.own_entry.new.task c.give_back.new.task c.args.run.now c.own_entry-entry.result c.own_entry-entry.ensures
+    c.requires.at c.in-Err.worn c.in-Err.ensures.worn c.in-Err.ensures.held c.own_entry.result c.own_entry.ensures
+    c.give_back.ensures

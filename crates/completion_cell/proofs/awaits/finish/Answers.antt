@@ -1,6 +1,13 @@
 use Rattle.completion_cell.proofs.Leaves.{finished}
+use Rattle.completion_cell.proofs.WaitParts.{finish_deals}
 use Rattle.completion_cell.proofs.awaits.finish.Goals as goal
 
-pub returns : goal.returns
-returns c = finished c.args.task.now c.run_state.new.task c.pare-off.new.task c.take.new.task c.args.run
-    c.pare-off.result c.args.count c.run_state.ensures.part c.pare-off.ensures c.take.ensures
+pub returns-clause-part : goal.returns-clause-part
+returns-clause-part c = finished c.args.task.now c.run_state.new.task c.pare-off.new.task c.take.new.task c.args.run
+    c.pare-off.result c.args.count c.run_state.ensures.part c.pare-off.ensures c.take.ensures.ends
+
+pub returns-clause-deals : goal.returns-clause-deals
+returns-clause-deals c = finish_deals c.args.task.now c.run_state.new.task c.pare-off.new.task c.take.new.task
+    c.args.run
+    c.pare-off.result c.args.count c.run_state.ensures.part c.run_state.ensures.history c.pare-off.ensures
+    c.take.ensures.deals

@@ -1,7 +1,14 @@
 use Rattle.completion_cell.proofs.Leaves.{left}
+use Rattle.completion_cell.proofs.WaitParts.{leave_deals}
 use Rattle.completion_cell.proofs.awaits.leave.Goals as goal
 
-pub returns : goal.returns
-returns c = left c.args.task.now c.run_state.new.task c.pare-found.new.task c.give_up.new.task c.args.run.now
+pub returns-clause-reaches : goal.returns-clause-reaches
+returns-clause-reaches c = left c.args.task.now c.run_state.new.task c.pare-found.new.task c.give_up.new.task
+    c.args.run.now
     c.pare-found.result c.requires.saw c.run_state.ensures.part c.run_state.ensures.history c.pare-found.ensures
+    c.give_up.ensures.ends c.give_up.ensures.history
+
+pub returns-clause-deals : goal.returns-clause-deals
+returns-clause-deals c = leave_deals c.args.task.now c.run_state.new.task c.pare-found.new.task c.give_up.new.task
+    c.args.run.now c.pare-found.result c.run_state.ensures.part c.run_state.ensures.history c.pare-found.ensures
     c.give_up.ensures.ends c.give_up.ensures.history

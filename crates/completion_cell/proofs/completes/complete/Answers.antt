@@ -11,6 +11,7 @@ use Rattle.completion_cell.proofs.Completing.{
   done_simple,
   has_completed,
 }
+use Rattle.completion_cell.proofs.CallPermits.{complete_keeps}
 use Rattle.completion_cell.proofs.Ground.{head_there}
 use Rattle.completion_cell.proofs.completes.complete.Goals as goal
 
@@ -79,3 +80,17 @@ returns-clause-carries g c = complete_carried c.args.task.now c.lock.new.task c.
     c.select-selected.ensures.selected c.select-selected.ensures.carries
     c.select-selected.ensures.keeps c.unlock.ensures.unlocked
     c.unlock.ensures.carries
+
+pub returns-clause-permits : goal.returns-clause-permits
+returns-clause-permits g c = complete_keeps c.args.task.now c.lock.new.task c.done_load-count.new.task
+    c.raise_one.new.task c.select-selected.new.task c.unlock.new.task c.args.cell
+    c.done_load-count.result c.select-selected.result c.head_of-head.result
+    c.head_of-head.ensures c.requires.free c.told.ensures c.lock.ensures.locked c.lock.ensures.carries
+    c.done_load-count.ensures.step c.done_load-count.ensures.carries
+    (complete_counted c.args.task.now c.lock.new.task c.done_load-count.new.task
+    c.args.task.now c.args.task.now c.args.task.now c.args.cell c.done_load-count.result 0 c.head_of-head.result
+    c.head_of-head.ensures c.requires.free c.told.ensures c.lock.ensures.locked c.lock.ensures.simple
+    c.lock.ensures.carries c.done_load-count.ensures.step c.done_load-count.ensures.finds
+    c.done_load-count.ensures.carries)
+    c.raise_one.result c.raise_one.ensures.stores
+    c.select-selected.ensures.selected c.select-selected.ensures.carries c.unlock.ensures.unlocked

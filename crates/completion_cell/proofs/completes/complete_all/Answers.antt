@@ -8,6 +8,7 @@ use Rattle.completion_cell.proofs.Completing.{
   has_completed_all,
   rise_none,
 }
+use Rattle.completion_cell.proofs.CallPermits.{complete_all_keeps}
 use Rattle.completion_cell.proofs.Ground.{head_there}
 use Rattle.completion_cell.proofs.completes.complete_all.Goals as goal
 
@@ -49,3 +50,10 @@ returns-clause-carries g c = all_carried c.args.task.now c.lock.new.task c.done_
     c.lock.ensures.simple c.lock.ensures.carries c.done_store.ensures
     c.select.ensures.selected c.select.ensures.carries c.select.ensures.keeps c.unlock.ensures.unlocked
     c.unlock.ensures.carries
+
+pub returns-clause-permits : goal.returns-clause-permits
+returns-clause-permits g c = complete_all_keeps c.args.task.now c.lock.new.task c.done_store.new.task
+    c.select.new.task c.unlock.new.task c.args.cell c.select.result
+    c.head_of-head.result c.head_of-head.ensures c.requires.free c.told.ensures c.lock.ensures.locked
+    c.lock.ensures.carries c.done_store.ensures
+    c.select.ensures.selected c.select.ensures.carries c.unlock.ensures.unlocked

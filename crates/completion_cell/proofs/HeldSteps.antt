@@ -1,0 +1,119 @@
+-- What the steps of a wait's hold leave of permits, one after another.
+use Rattle.std.proofs.Common.{refl, sym, ◌∙◌, ap, subst, append_assoc, append-nil, eq-eqb}
+use Rattle.std.specs.Prelude.{ℕ, ◌≡◌, ◌==◌, if◌then◌else◌, Bool, true, false, Option, Some, List, [], ◌∷◌, ◌++◌}
+use Rattle.wait_model.specs.declared.steps.Step.{Step}
+use Rattle.wait_model.specs.declared.steps.Step.TheVariants as step
+use Rattle.wait_model.specs.declared.watches.Watch.TheVariants as watch
+use Rattle.wait_model.specs.Permits.{after_store, done_head}
+use Rattle.wait_model.specs.Runs.{is_publishing, own, set_step}
+use Rattle.wait_rule.specs.declared.journal.Item.{Item}
+use Rattle.wait_rule.specs.declared.journal.Item.TheVariants as item
+use Rattle.wait_rule.specs.Items.{steps_of}
+use Rattle.wait_rule.specs.Known.{Known}
+use Rattle.wait_rule.specs.Says.{history_of, unlocked_with}
+use Rattle.wait_rule.specs.Transitions.{AreLooks}
+use Rattle.wait_rule.proofs.TableSteps.ItemLists.{steps_append}
+use Rattle.wq_head.specs.Looks.{Looks}
+use Rattle.completion_cell.specs.HeldPermits.{Deals, Held, HeldOut, counted, still_owed}
+use Rattle.completion_cell.proofs.Permits.{unlocked_steps}
+
+deals_join : (d x : ℕ) (es fs : List Step) (o p q : Option ℕ) (n m k : ℕ) → Deals d x es o n p m
+    → Deals d x fs p m q k → Deals d x (es ++ fs) o n q k
+deals_join d x [] fs o p q n m k one two = subst (λ (c : Option ℕ). Deals d x fs c n q k) (sym one.0)
+    (subst (λ (i : ℕ). Deals d x fs p i q k) (sym one.1) two)
+deals_join d x (e ∷ es) fs o p q n m k one two = (
+  one.0,
+  deals_join d x es fs (counted d e o) p q (still_owed d e n) m k one.1 two,
+)
+
+module _ (d : ℕ) (old mid new : Known) (o p : Option ℕ) (n m : ℕ) (one : Held d old mid o n p m) where
+  pub held_join : (q : Option ℕ) (k : ℕ) → Held d mid new p m q k → Held d old new o n q k
+  held_join q k two = record {
+    made = one.made ++ two.made;
+    is = two.is ∙ (ap (λ (l : List Step). l ++ two.made) one.is ∙ append_assoc (history_of old) one.made two.made);
+    deals = deals_join d (own old.view.number) one.made two.made o p q n m k one.deals
+        (subst (λ (i : ℕ). Deals d (own i) two.made p m q k) one.number two.deals);
+    number = two.number ∙ one.number;
+  }
+
+  pub held_then_out : HeldOut d mid new p m → HeldOut d old new o n
+  held_then_out two = record {
+    made = one.made ++ two.made;
+    knows = two.knows;
+    deals = deals_join d (own old.view.number) one.made two.made o p two.knows n m 0 one.deals
+        (subst (λ (i : ℕ). Deals d (own i) two.made p m two.knows 0) one.number two.deals);
+    is = two.is ∙ (ap (λ (l : List Step). l ++ (two.made ++ step.Unlock (done_head d) false ∷ [])) one.is
+        ∙ (append_assoc (history_of old) one.made (two.made ++ step.Unlock (done_head d) false ∷ [])
+        ∙ ap (λ (l : List Step). history_of old ++ l)
+        (sym (append_assoc one.made two.made (step.Unlock (done_head d) false ∷ [])))));
+    number = two.number ∙ one.number;
+  }
+
+-- the head is given back where nothing is owed
+pub held_out : (d : ℕ) (old mid new : Known) (o p : Option ℕ) (n : ℕ) → Held d old mid o n p 0
+    → mid.at ≡ done_head d → new ≡ unlocked_with mid mid.at false → HeldOut d old new o n
+held_out d old mid new o p n one at is = record {
+  made = one.made;
+  knows = p;
+  deals = one.deals;
+  is = unlocked_steps mid new false is
+      ∙ (ap (λ (l : List Step). l ++ step.Unlock mid.at false ∷ []) one.is
+      ∙ (append_assoc (history_of old) one.made (step.Unlock mid.at false ∷ [])
+      ∙ ap (λ (h : ℕ). history_of old ++ (one.made ++ step.Unlock h false ∷ [])) at));
+  number = ap (λ (k : Known). k.view.number) is ∙ one.number;
+}
+
+pub held_none : (d : ℕ) (old new : Known) (o : Option ℕ) (n : ℕ) → new ≡ old → Held d old new o n o n
+held_none d old new o n is = record {
+  made = [];
+  is = ap history_of is ∙ sym (append-nil (history_of old));
+  deals = (refl, refl);
+  number = ap (λ (k : Known). k.view.number) is;
+}
+
+-- by the steps that the history has more
+pub held_by : (d : ℕ) (old new : Known) (es : List Step) (o p : Option ℕ) (n m : ℕ)
+    → history_of new ≡ history_of old ++ es → new.view.number ≡ old.view.number
+    → Deals d (own old.view.number) es o n p m → Held d old new o n p m
+held_by d old new es o p n m is number deals = record { made = es; is = is; deals = deals; number = number }
+
+-- looks
+looks_deal : (d x : ℕ) (xs : List Item) (o : Option ℕ) (n : ℕ) → AreLooks xs → Deals d x (steps_of xs) o n o n
+looks_deal d x [] o n l = (refl, refl)
+looks_deal d x (item.Made (step.Saw y w) ∷ xs) o n l = (tt, looks_deal d x xs o n l.1)
+looks_deal d x (item.Made e ∷ xs) o n l = absurd l.0
+looks_deal d x (item.Awake w ∷ xs) o n l = looks_deal d x xs o n l.1
+looks_deal d x (item.Bookmark t w ∷ xs) o n l = looks_deal d x xs o n l.1
+looks_deal d x (item.Member ∷ xs) o n l = looks_deal d x xs o n l.1
+looks_deal d x (item.Word w ∷ xs) o n l = looks_deal d x xs o n l.1
+looks_deal d x (item.Drawn h w ∷ xs) o n l = looks_deal d x xs o n l.1
+looks_deal d x (item.Serving h w ∷ xs) o n l = looks_deal d x xs o n l.1
+looks_deal d x (item.Served ∷ xs) o n l = looks_deal d x xs o n l.1
+
+pub held_looks : (d : ℕ) (old new : Known) (o : Option ℕ) (n : ℕ) → Looks old new → Held d old new o n o n
+held_looks d old new o n l = record {
+  made = steps_of l.items;
+  is = ap history_of l.is ∙ steps_append old.view.items l.items;
+  deals = looks_deal d (own old.view.number) l.items o n l.looks;
+  number = l.stays.number;
+}
+
+-- a store of the count
+pub store_deals : (d x m r : ℕ) (o : Option ℕ) (n : ℕ) → Deals d x (set_step (watch.Done d) m r ∷ []) o n (Some m)
+    (after_store m r n)
+store_deals d x m r o n = by (is_publishing (watch.Done d) r m)
+  where
+    same : (d == d) ≡ true
+    same = eq-eqb d d refl
+
+    both : ((if d == d then Some m else o) ≡ Some m) × ((if d == d then after_store m r n else n) ≡ after_store m r n)
+    both = (
+      ap (λ (b : Bool). if b then Some m else o) same,
+      ap (λ (b : Bool). if b then after_store m r n else n) same,
+    )
+
+    by : (b : Bool) → Deals d x ((if b then step.Publish (watch.Done d) m r else step.Consume (watch.Done d) m r) ∷
+        []) o
+        n (Some m) (after_store m r n)
+    by true = (tt, both)
+    by false = (tt, both)

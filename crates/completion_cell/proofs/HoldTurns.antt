@@ -1,0 +1,231 @@
+-- A whole hold of a wait hands permits on, and what it leaves queued.
+use Rattle.std.proofs.Common.{refl, sym, ◌∙◌, ap, subst, arith, append_assoc, append-nil, eq-eqb}
+use Rattle.std.specs.Prelude.{
+  ℕ,
+  ◌≡◌,
+  ◌≢◌,
+  ◌≤◌,
+  ◌+◌,
+  ◌==◌,
+  Bool,
+  true,
+  false,
+  if◌then◌else◌,
+  Option,
+  Some,
+  None,
+  List,
+  [],
+  ◌∷◌,
+  ◌++◌,
+}
+use Rattle.wait_model.specs.declared.steps.Step.{Step}
+use Rattle.wait_model.specs.declared.steps.Step.TheVariants as step
+use Rattle.wait_model.specs.declared.watches.Aim.{Aim}
+use Rattle.wait_model.specs.declared.watches.Entry.{Entry}
+use Rattle.wait_model.specs.declared.watches.Watch.TheVariants as watch
+use Rattle.wait_model.specs.Fold.{after, view_of}
+use Rattle.wait_model.specs.Permits.{Dealt, dealt, deals, done_head, finds_handed, none_dealt, shows_at}
+use Rattle.wait_model.specs.Runs.{own}
+use Rattle.wait_model.specs.Tables.{Table}
+use Rattle.wait_model.specs.Facts.{Agrees}
+use Rattle.wait_model.specs.Views.{Bits, View, Look, unseen, off, elsewhere, shown, look_at, blank}
+use Rattle.wait_model.specs.Watches.{head_of}
+use Rattle.wait_model.specs.Words.{entry_of, flag}
+use Rattle.wait_model.proofs.Functions.{put_at}
+use Rattle.wait_model.proofs.HistoryLaws.HoldLooks.{after_snoc}
+use Rattle.wait_model.proofs.PermitLaws.OwnTurns.{clash, deals_snoc, flag_small}
+use Rattle.wait_model.proofs.PermitLaws.PermitTurns.{look_seen, not_unseen}
+use Rattle.wait_model.proofs.StepLaws.UnlockSteps.{unlock_bits}
+use Rattle.wait_model.proofs.WordLaws.DecodedWords.{owner_own}
+use Rattle.wait_rule.specs.HandedPermits.{HandsFrom}
+use Rattle.wait_rule.specs.Interleavings.{table_of}
+use Rattle.wait_rule.proofs.KnownLaws.HandedPermits.{hands_join}
+use Rattle.wait_rule.proofs.KnownLaws.HandedSteps.{
+  IsAway,
+  IsAwayAt,
+  Order,
+  OrderStep,
+  away_next,
+  order_front,
+  order_step,
+  order_view,
+}
+use Rattle.wait_rule.proofs.KnownLaws.HeldPermits.{head_apart}
+use Rattle.wait_rule.proofs.KnownLaws.Moments.{kept_of}
+use Rattle.completion_cell.specs.HeldPermits.{Deals, IsOfWait, counted, still_owed}
+use Rattle.completion_cell.proofs.WaitFronts.{Waits, wait_head, waits_all, waits_unlock}
+
+-- steps that hand permits on where some order leads to the history before them
+pub hands_if : (a : ℕ) (front es : List Step) → (Order a front → HandsFrom a front es) → HandsFrom a front es
+hands_if a front [] k = tt
+hands_if a front (e ∷ es) k = (
+  λ xs may on made al. (k (record { steps = xs; may = may; on = on; is = made })).0 xs may on made al,
+  hands_if a (front ++ e ∷ []) es (λ o. (k (order_front a front (e ∷ []) o)).1),
+)
+
+-- the hold begins
+module _ (d a : ℕ) (front : List Step) (aim : Option Aim) (w : ℕ) where
+  abbrev lock : Step
+  lock = step.Lock (done_head d) aim w
+
+  abbrev first : List Step
+  first = front ++ lock ∷ []
+
+  same : (done_head d == done_head d) ≡ true
+  same = eq-eqb (done_head d) (done_head d) refl
+
+  begun : dealt d a first ≡ deals d (own a) (view_of front) (dealt d a front) lock
+  begun = deals_snoc d (own a) blank none_dealt front lock
+
+  pub begun_head : (view_of first).hold.head ≡ Some (done_head d)
+  begun_head = ap (λ (v : View). v.hold.head) (after_snoc blank front lock)
+
+  begun_debt : (dealt d a first).debt ≡ 0
+  begun_debt = ap (λ (u : Dealt). u.debt) begun ∙ ap (λ (b : Bool). if b then 0 else (dealt d a front).debt) same
+
+  begun_count : (dealt d a first).count ≡ None
+  begun_count = ap (λ (u : Dealt). u.count) begun
+      ∙ ap (λ (b : Bool). if b then None else (dealt d a front).count) same
+
+  pub begins_off : (dealt d a front).left ≡ false → Waits d a first None 0
+  begins_off left = record {
+    head = begun_head;
+    seen = λ is. absurd (clash (dealt d a first).left is (ap (λ (u : Dealt). u.left) begun ∙ left));
+    count = begun_count;
+    debt = begun_debt;
+  }
+
+  module _ (f : ℕ) where
+    abbrev saw : Step
+    saw = step.Saw (own a) f
+
+    abbrev found : ℕ
+    found = (dealt d a first).debt
+        + flag (finds_handed d (own a) (view_of first) (dealt d a first) (own a) (entry_of f))
+
+    pub found_few : found ≤ 1
+    found_few =
+        let none = begun_debt in
+        let few = flag_small (finds_handed d (own a) (view_of first) (dealt d a first) (own a) (entry_of f)) in
+        omega (arith, none, few)
+
+    looked : (view_of (first ++ saw ∷ [])).hold.book (own a) ≢ unseen
+    looked = subst (λ (v : View). v.hold.book (own a) ≢ unseen) (sym (after_snoc blank first saw))
+        (put_at (λ (l : Look). l ≢ unseen) (view_of first).hold.book (own a)
+        (look_at (view_of first).hold.head (entry_of f)) (own a)
+        (λ _. subst (λ (q : Option ℕ). look_at q (entry_of f) ≢ unseen) (sym begun_head)
+        (not_unseen (look_at (Some (done_head d)) (entry_of f)) (look_seen (done_head d) (entry_of f))))
+        (λ ne. absurd (ne refl)))
+
+    pub begins_looking : Waits d a (first ++ saw ∷ []) None found
+    begins_looking = record {
+      head = ap (λ (v : View). v.hold.head) (after_snoc blank first saw) ∙ begun_head;
+      seen = λ left. looked;
+      count = ap (λ (u : Dealt). u.count) (deals_snoc d (own a) blank none_dealt first saw) ∙ begun_count;
+      debt = ap (λ (u : Dealt). u.debt) (deals_snoc d (own a) blank none_dealt first saw);
+    }
+
+-- the rest of it, and its unlock
+pub rest_hands : (d a : ℕ) (front made : List Step) (o p : Option ℕ) (n : ℕ) → Waits d a front o n
+    → Deals d (own a) made o n p 0 → HandsFrom a front (made ++ step.Unlock (done_head d) false ∷ [])
+rest_hands d a front made o p n w k =
+    let all = waits_all d a front made o p n 0 w k in
+    hands_join a front made (step.Unlock (done_head d) false ∷ []) all.1
+    (waits_unlock d a (front ++ made) p false all.0, tt)
+
+-- no own entry at another completion
+apart_head : (c d h : ℕ) → c ≢ d → h ≡ done_head d → (h == done_head c) ≡ false
+apart_head c d h ne is = by (h == done_head c) refl
+  where
+    by : (b : Bool) → (h == done_head c) ≡ b → (h == done_head c) ≡ false
+    by false q = q
+    by true q = absurd (ne (sym (head_apart c d (sym is ∙ grind (arith, q)))))
+
+away_wait : (c d a : ℕ) (front : List Step) (o : Option ℕ) (e : Step) → c ≢ d → OrderStep a front e
+    → (view_of front).hold.head ≡ Some (done_head d) → IsOfWait (own a) o e → IsAwayAt c a front
+    → IsAwayAt c a (front ++ e ∷ [])
+away_wait c d a front o (step.Queue y e) ne os held is k =
+    let there : Some (head_of e.watch) ≡ Some (done_head d) = sym os.allowed.3
+    ∙ (ap (λ (v : View). v.hold.head) (order_view a front os.order) ∙ held) in
+    let at : head_of e.watch ≡ done_head d = cc in
+    let queued = step.Queue y e in
+    subst (λ (v : View). IsAway c (own a) v (dealt c a (front ++ queued ∷ []))) (sym (after_snoc blank front queued))
+    (subst (IsAway c (own a) (after queued (view_of front))) (sym (deals_snoc c (own a) blank none_dealt front queued))
+    (record {
+      left = k.left;
+      away = put_at (λ (l : Look). shows_at (done_head c) l ≡ false) (view_of front).hold.book y (shown e) (own a)
+          (λ _. apart_head c d (head_of e.watch) ne at) (λ _. k.away);
+    }))
+away_wait c d a front o (step.Saw y f) ne os held is k = away_next c a front (step.Saw y f) os tt k
+away_wait c d a front o (step.Look f) ne os held is k = away_next c a front (step.Look f) os tt k
+away_wait c d a front o (step.State σ) ne os held is k = away_next c a front (step.State σ) os tt k
+away_wait c d a front o (step.Load (watch.Done i) r) ne os held is k = away_next c a front (step.Load (watch.Done i) r)
+    os tt k
+away_wait c d a front o (step.Publish (watch.Done i) m r) ne os held is k = away_next c a front
+    (step.Publish (watch.Done i) m r) os tt k
+away_wait c d a front o (step.Consume (watch.Done i) m r) ne os held is k = away_next c a front
+    (step.Consume (watch.Done i) m r) os tt k
+away_wait c d a front o (step.Unqueue y) ne os held is k = away_next c a front (step.Unqueue y) os tt k
+away_wait c d a front o e ne os held is k = absurd is
+
+away_deals : (c d a : ℕ) (front es : List Step) (o p : Option ℕ) (n m : ℕ) → c ≢ d → Order a (front ++ es)
+    → (view_of front).hold.head ≡ Some (done_head d) → Deals d (own a) es o n p m → IsAwayAt c a front
+    → IsAwayAt c a (front ++ es)
+away_deals c d a front [] o p n m ne order held k away = subst (IsAwayAt c a) (sym (append-nil front)) away
+away_deals c d a front (e ∷ es) o p n m ne order held k away = subst (IsAwayAt c a) (append_assoc front (e ∷ []) es)
+    (away_deals c d a (front ++ e ∷ []) es (counted d e o) p (still_owed d e n) m ne
+    (subst (Order a) (sym (append_assoc front (e ∷ []) es)) order)
+    (ap (λ (v : View). v.hold.head) (after_snoc blank front e) ∙ (wait_head (view_of front) (own a) o e k.0 ∙ held)) k.1
+    (away_wait c d a front o e ne (order_step a front e es order) held k.0 away))
+
+pub rest_away : (c d a : ℕ) (front made : List Step) (o p : Option ℕ) (n : ℕ) → c ≢ d
+    → Order a (front ++ (made ++ step.Unlock (done_head d) false ∷ []))
+    → (view_of front).hold.head ≡ Some (done_head d) → Deals d (own a) made o n p 0 → IsAwayAt c a front
+    → IsAwayAt c a (front ++ (made ++ step.Unlock (done_head d) false ∷ []))
+rest_away c d a front made o p n ne order held k away =
+    let by = append_assoc front made (step.Unlock (done_head d) false ∷ []) in
+    let whole = subst (Order a) (sym by) order in
+    subst (IsAwayAt c a) by (away_next c a (front ++ made) (step.Unlock (done_head d) false)
+    (order_step a (front ++ made) (step.Unlock (done_head d) false) [] whole) tt
+    (away_deals c d a front made o p n 0 ne
+    (order_front a (front ++ made) (step.Unlock (done_head d) false ∷ []) whole) held k away))
+
+-- where the own entry is known to be off, the hold that was given back left it so
+module _ (d a : ℕ) (front : List Step) (o : Order a (front ++ step.Unlock (done_head d) false ∷ [])) where
+  abbrev back : Step
+  back = step.Unlock (done_head d) false
+
+  at_back : OrderStep a front back
+  at_back = order_step a front back [] o
+
+  abbrev s : Table
+  s = table_of at_back.order.steps
+
+  stood : (e : Entry) → (view_of front).hold.book (own a) ≡ shown e → (view_of front).bits.stored (own a) ≡ Some e
+  stood e is =
+      let kept = kept_of at_back.order.steps at_back.order.may in
+      let told = order_view a front at_back.order in
+      let agrees = (kept.facts.views a).hold.agrees (done_head d) (own a) at_back.allowed.0 in
+      let now : Agrees (done_head d) (shown e) (s.entry (own a)) =
+      subst (λ (l : Look). Agrees (done_head d) l (s.entry (own a)))
+      (ap (λ (v : View). v.hold.book (own a)) told ∙ is) agrees in
+      sym (ap (λ (v : View). v.bits.stored (own a)) told)
+      ∙ (sym (ap (λ (i : ℕ). (s.view i).bits.stored (own a)) (owner_own a)) ∙ kept.bits.stored_is (own a) e now.0)
+
+  pub home_left : (view_of (front ++ back ∷ [])).bits.stored (own a) ≡ None
+      → (dealt d a (front ++ back ∷ [])).left ≡ false
+  home_left none = ap (λ (u : Dealt). u.left) (deals_snoc d (own a) blank none_dealt front back)
+      ∙ (ap (λ (b : Bool). if b then shows_at (done_head d) ((view_of front).hold.book (own a))
+      else (dealt d a front).left) (eq-eqb (done_head d) (done_head d) refl) ∙ by ((view_of front).hold.book (own a))
+      refl)
+    where
+      was : (view_of front).bits.stored (own a) ≡ None
+      was = sym (ap (λ (b : Bits). b.stored (own a)) (ap (λ (v : View). v.bits) (after_snoc blank front back)
+          ∙ unlock_bits (view_of front) (view_of front).walk false)) ∙ none
+
+      by : (l : Look) → (view_of front).hold.book (own a) ≡ l → shows_at (done_head d) l ≡ false
+      by unseen is = refl
+      by off is = refl
+      by elsewhere is = refl
+      by (shown e) is = absurd (let no : None ≡ Some e = sym was ∙ stood e is in cc)

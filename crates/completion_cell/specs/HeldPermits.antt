@@ -1,0 +1,76 @@
+-- For proofs alone.
+-- What the hold of a wait makes of permits, step by step.
+use Rattle.std.specs.Prelude.{ℕ, ◌≡◌, ◌≤◌, ◌==◌, Bool, true, false, if◌then◌else◌, Option, Some, List, [], ◌∷◌, ◌++◌}
+use Rattle.wait_model.specs.declared.layout.TheConstants.{ALL_DONE}
+use Rattle.wait_model.specs.declared.steps.Step.{Step}
+use Rattle.wait_model.specs.declared.steps.Step.TheVariants as step
+use Rattle.wait_model.specs.declared.watches.Aim.{Aim}
+use Rattle.wait_model.specs.declared.watches.Watch.TheVariants as watch
+use Rattle.wait_model.specs.Permits.{after_read, after_store, done_head}
+use Rattle.wait_model.specs.Runs.{own}
+use Rattle.wait_rule.specs.Known.{Known}
+use Rattle.wait_rule.specs.Says.{history_of}
+
+-- the count that a hold of the head of d knows after one more step, and what it owes
+abbrev pub counted : ℕ → Step → Option ℕ → Option ℕ
+counted d (step.Load (watch.Done c) r) o = if c == d then Some r else o
+counted d (step.Publish (watch.Done c) m r) o = if c == d then Some m else o
+counted d (step.Consume (watch.Done c) m r) o = if c == d then Some m else o
+counted d e o = o
+
+abbrev pub still_owed : ℕ → Step → ℕ → ℕ
+still_owed d (step.Load (watch.Done c) r) n = if c == d then after_read r n else n
+still_owed d (step.Publish (watch.Done c) m r) n = if c == d then after_store m r n else n
+still_owed d (step.Consume (watch.Done c) m r) n = if c == d then after_store m r n else n
+still_owed d e n = n
+
+-- The steps of a wait in a hold: it looks, loads and stores its count, stores its state, takes its own entry off, and
+-- queues that one where it knows that the count is 0.
+abbrev pub IsOfWait : ℕ → Option ℕ → Step → Type 0
+IsOfWait x o (step.Saw y w) = Unit {0}
+IsOfWait x o (step.Look w) = Unit {0}
+IsOfWait x o (step.State σ) = Unit {0}
+IsOfWait x o (step.Load (watch.Done c) r) = Unit {0}
+IsOfWait x o (step.Publish (watch.Done c) m r) = Unit {0}
+IsOfWait x o (step.Consume (watch.Done c) m r) = Unit {0}
+IsOfWait x o (step.Unqueue y) = y ≡ x
+IsOfWait x o (step.Queue y e) = (y ≡ x) × (o ≡ Some 0)
+IsOfWait x o e = ⊥
+
+-- such steps lead from what a hold knows and owes to what it knows and owes then
+abbrev pub Deals : ℕ → ℕ → List Step → Option ℕ → ℕ → Option ℕ → ℕ → Type 0
+Deals d x [] o n p m = (o ≡ p) × (n ≡ m)
+Deals d x (e ∷ es) o n p m = IsOfWait x o e × Deals d x es (counted d e o) (still_owed d e n) p m
+
+pub record Held (d : ℕ) (old new : Known) (o : Option ℕ) (n : ℕ) (p : Option ℕ) (m : ℕ) : Type 0 where
+  pub made : List Step
+  pub is : history_of new ≡ history_of old ++ made
+  pub deals : Deals d (own old.view.number) made o n p m
+  pub number : new.view.number ≡ old.view.number
+
+-- and the head is given back, where nothing is owed any more
+pub record HeldOut (d : ℕ) (old new : Known) (o : Option ℕ) (n : ℕ) : Type 0 where
+  pub made : List Step
+  pub knows : Option ℕ
+  pub deals : Deals d (own old.view.number) made o n knows 0
+  pub is : history_of new ≡ history_of old ++ (made ++ step.Unlock (done_head d) false ∷ [])
+  pub number : new.view.number ≡ old.view.number
+
+-- a wait that has loaded this count takes what it owes by lowering it by one
+abbrev pub IsSettled : ℕ → ℕ → Type 0
+IsSettled count n = (n ≤ 1) × (ALL_DONE ≤ count → n ≡ 0)
+
+-- the own entry is queued, or no place is left for it and the head was given back
+abbrev pub HeldBy : ℕ → Known → Known → Bool → Type 0
+HeldBy d old new true = Held d old new (Some 0) 0 (Some 0) 0
+HeldBy d old new false = HeldOut d old new (Some 0) 0
+
+-- the lock was taken, or another number is served; and the own entry looked at, in a wait that was in its loop
+abbrev pub LocksBy : ℕ → Known → Known → Bool → Type 0
+LocksBy d old new true = (aim : Option Aim) × (w : ℕ)
+    × (history_of new ≡ history_of old ++ step.Lock (done_head d) aim w ∷ [])
+LocksBy d old new false = history_of new ≡ history_of old
+
+abbrev pub LooksBy : Known → Known → Bool → Type 0
+LooksBy old new true = (w : ℕ) × (history_of new ≡ history_of old ++ step.Saw (own old.view.number) w ∷ [])
+LooksBy old new false = history_of new ≡ history_of old

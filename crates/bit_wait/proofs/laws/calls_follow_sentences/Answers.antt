@@ -1,0 +1,8 @@
+use Rattle.bit_wait.proofs.Words.{tries_follow, waits_follow}
+use Rattle.bit_wait.proofs.laws.calls_follow_sentences.Goals as goal
+
+pub returns-clause-tries : goal.returns-clause-tries
+returns-clause-tries c = tries_follow
+
+pub returns-clause-waits : goal.returns-clause-waits
+returns-clause-waits c = waits_follow

@@ -1,0 +1,92 @@
+-- To be believed.
+-- What whole waits for a bit say.
+use Rattle.std.specs.Prelude.{ℕ, ◌≡◌, ◌⊎◌, true, false, None, Result, Ok, Err, List, [], ◌∷◌, ◌++◌}
+use Rattle.wait_model.specs.declared.calls.Answer.{Answer}
+use Rattle.wait_model.specs.declared.calls.Answer.TheVariants as answer
+use Rattle.wait_model.specs.declared.calls.Call.TheVariants as calls
+use Rattle.wait_model.specs.declared.tasks.SleepState.{SleepState}
+use Rattle.wait_model.specs.declared.points.BitPoint.TheVariants as biting
+use Rattle.wait_model.specs.declared.points.Next.TheVariants as next
+use Rattle.wait_model.specs.declared.points.Point.TheVariants as at
+use Rattle.wait_model.specs.declared.steps.Step.{Step}
+use Rattle.wait_model.specs.declared.steps.Step.TheVariants as step
+use Rattle.wait_model.specs.declared.watches.Watch.TheVariants as watch
+use Rattle.wait_model.specs.Programs.{interrupted, zero_answer}
+use Rattle.wait_model.specs.Tasks.{pending, state_mask, task_of}
+use Rattle.wait_model.specs.Watches.{head_of}
+use Rattle.wait_model.specs.Words.{bit_at}
+use Rattle.wait_rule.specs.Ends.{WasWorn}
+use Rattle.wait_rule.specs.Known.{Known}
+use Rattle.wait_rule.specs.Queues.{IsIdle}
+use Rattle.wait_rule.specs.Says.{IsFree, history_of, told_of}
+use Rattle.wait_rule.specs.Stays.{Change}
+use Rattle.wait_rule.specs.Transitions.{call_program}
+use Rattle.wait_event.specs.Ends.{wait_change}
+use Rattle.wait_event.specs.Posts.{Runs}
+use Rattle.wait_event.specs.Waits.{EndsWith}
+use Rattle.bit_wait.specs.BitWaits.{has_sleep, head_in}
+use Rattle.bit_wait.specs.declared.wait_calls.BitEnd.{BitEnd}
+use Rattle.bit_wait.specs.declared.wait_calls.BitEnd.TheVariants as bit_end
+use Rattle.bit_wait.specs.declared.waits.BitOutcome.{BitOutcome}
+use Rattle.bit_wait.specs.declared.waits.BitOutcome.TheVariants as outcome
+use Rattle.bit_wait.specs.declared.waits.BitRun.{BitRun}
+
+-- the answer of a wait that has ended
+abbrev pub end_in : BitRun → BitOutcome → Result (Unit {0}) BitEnd
+end_in r outcome.Over = Ok tt
+end_in r outcome.Interrupted = Err (bit_end.Interrupted r.seen)
+end_in r outcome.Worn = Err (bit_end.Worn (head_in r) r.place)
+
+-- the answer of the call
+abbrev pub answer_of : Result (Unit {0}) BitEnd → Answer
+answer_of (Ok u) = zero_answer
+answer_of (Err (bit_end.Interrupted seen)) = interrupted
+answer_of (Err (bit_end.Worn h place)) = answer.Worn
+
+-- The last turn of a wait that a signal ended: after the hold of its prepare the load found `seen`, with the bit set;
+-- then the task slept, and then its own word showed a signal that the state admits. It has not slept since.
+pub record WasInterrupted (k : Known) (w b : ℕ) (st : SleepState) (seen : ℕ) : Type 0 where
+  pub before : List Step
+  pub sleep : ℕ
+  pub look : ℕ
+  pub more : List Step
+  pub ends : history_of k ≡ before ++ (step.Unlock (head_of (watch.Bit w b)) false ∷ step.Load (watch.Bit w b) seen
+      ∷ step.Sleep sleep ∷ step.Look look ∷ more)
+  pub set : bit_at seen b ≡ true
+  pub pends : pending (state_mask st) (task_of look) ≡ true
+  pub awake : has_sleep more ≡ false
+
+-- The last steps of a wait that found no place: its hold noted it, and gave the head back; then the load found the bit
+-- set.
+pub record FoundNoPlace (k : Known) (w b h place : ℕ) : Type 0 where
+  pub head : h ≡ head_of (watch.Bit w b)
+  pub noted : WasWorn k.view.number k.view.items h place
+  pub found : ℕ
+  pub ends : EndsWith k (step.Unlock h false ∷ step.Load (watch.Bit w b) found ∷ [])
+  pub set : bit_at found b ≡ true
+
+abbrev pub IsCause : Known → ℕ → ℕ → SleepState → Result (Unit {0}) BitEnd → Type 0
+IsCause k w b st (Ok u) = Unit {0}
+IsCause k w b st (Err (bit_end.Interrupted seen)) = WasInterrupted k w b st seen
+IsCause k w b st (Err (bit_end.Worn h place)) = FoundNoPlace k w b h place
+
+-- The task went through the whole call, and the answer is that of its program, with its cause.
+pub record EndsBitWait (old new : Known) (w b : ℕ) (st : SleepState) (result : Result (Unit {0}) BitEnd) :
+    Type 0 where
+  pub runs : Runs (call_program old.view.number 0 (calls.WaitBit w b st)) old new (next.Go (at.Bit biting.First))
+      (next.Ends (answer_of result))
+  pub cause : IsCause new w b st result
+
+-- What a wait changes of a task: as another wait does, and its state, which the next clause tells. It is idle
+-- afterwards; but one that found no place may still be in the state in which it would have slept.
+abbrev pub bit_change : ℕ → ℕ → ℕ → Change
+bit_change i h σ = record (wait_change i h) { state = λ _. σ }
+
+pub record IsLeft (k : Known) (σ : ℕ) : Type 0 where
+  pub state : (k.book.state ≡ 0) ⊎ (k.book.state ≡ σ)
+  pub free : IsFree k
+  pub unmarked : (told_of k).mark ≡ None
+
+abbrev pub IsIdleAfter : Known → SleepState → Result (Unit {0}) BitEnd → Type 0
+IsIdleAfter k st (Err (bit_end.Worn h place)) = IsLeft k (state_mask st)
+IsIdleAfter k st _ = IsIdle k

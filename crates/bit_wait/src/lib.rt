@@ -1,0 +1,14 @@
+//! Bits that tasks take as locks and give back, on real threads (include/linux/wait_bit.h, kernel/sched/wait_bit.c).
+#![tactic(auto)]
+
+pub mod clears;
+pub mod laws;
+#[cfg(test)]
+mod tests;
+pub mod tries;
+pub mod wait_calls;
+pub mod waits;
+
+pub use clears::clear_and_wake_bit;
+pub use tries::test_and_set;
+pub use wait_calls::{BitEnd, wait_on_bit};

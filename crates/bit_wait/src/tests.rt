@@ -1,0 +1,4 @@
+//! Bits on one thread, and by threads. The tests stand on the contracts of the calls alone.
+
+mod alone;
+mod stretches;

@@ -1,0 +1,4 @@
+pub mod VarEnds
+pub mod VarWords
+pub mod PublishWalks
+pub mod Publishing

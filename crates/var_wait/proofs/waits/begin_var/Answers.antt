@@ -1,0 +1,19 @@
+use Rattle.std.proofs.Common.{refl, subst, true}
+use Rattle.wait_model.specs.declared.tasks.How.{How}
+use Rattle.wait_model.specs.declared.watches.Watch.TheVariants as watch
+use Rattle.wait_event.specs.Waits.{IsFresh}
+use Rattle.wait_event.proofs.Events.Conditions.{var_runs}
+use Rattle.wait_event.proofs.Events.Endings.{begins_at}
+use Rattle.var_wait.specs.VarWaits.{shared_in}
+use Rattle.var_wait.proofs.waits.begin_var.Goals as goal
+
+pub returns-clause-fresh : goal.returns-clause-fresh
+returns-clause-fresh c = subst (λ (h : How). IsFresh c.new.result (watch.Var c.args.var c.args.old) h true)
+    c.shared_in.ensures c.new.ensures
+
+pub returns-clause-at : goal.returns-clause-at
+returns-clause-at c =
+    let fresh = returns-clause-fresh c in
+    begins_at c.args.task.now c.new.result (watch.Var c.args.var c.args.old) (shared_in c.args.state) fresh
+    (var_runs c.new.result c.args.var c.args.old (shared_in c.args.state) fresh.watch_is fresh.how_is c.requires.there
+    refl) c.told.ensures c.requires.up c.requires.idle c.requires.out

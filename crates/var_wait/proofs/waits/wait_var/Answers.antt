@@ -1,0 +1,32 @@
+use Rattle.std.proofs.Common.{◌∙◌, subst, sym}
+use Rattle.wait_event.specs.declared.waits.WaitStage.TheVariants as stage
+use Rattle.wait_event.proofs.Events.Endings.{ends_carried, ends_idle, ends_out, ends_up}
+use Rattle.var_wait.specs.VarWaits.{EndsVarWait}
+use Rattle.var_wait.proofs.VarEnds.{ends_var}
+use Rattle.var_wait.proofs.waits.wait_var.Goals as goal
+
+pub returns-clause-waited : goal.returns-clause-waited
+returns-clause-waited g c = subst
+    (EndsVarWait c.args.task.now c.run_wait-outcome.new.task c.args.var c.args.old c.args.state)
+    (sym c.end_of_var.ensures)
+    (ends_var c.args.task.now c.run_wait-outcome.new.task c.begin_var-run.result c.run_wait-outcome.new.run
+    c.args.var c.args.old c.args.state c.begin_var-run.ensures.fresh c.run_wait-outcome.result
+    c.run_wait-outcome.ensures)
+
+pub returns-clause-up : goal.returns-clause-up
+returns-clause-up g c = ends_up c.args.task.now c.run_wait-outcome.new.task c.begin_var-run.result
+    c.run_wait-outcome.new.run stage.First c.run_wait-outcome.result c.run_wait-outcome.ensures
+
+pub returns-clause-idle : goal.returns-clause-idle
+returns-clause-idle g c = ends_idle c.args.task.now c.run_wait-outcome.new.task c.begin_var-run.result
+    c.run_wait-outcome.new.run stage.First c.run_wait-outcome.result c.run_wait-outcome.ensures
+    c.requires.idle.unmarked
+
+pub returns-clause-out : goal.returns-clause-out
+returns-clause-out g c = ends_out c.args.task.now c.run_wait-outcome.new.task c.begin_var-run.result
+    c.run_wait-outcome.new.run stage.First c.run_wait-outcome.result c.run_wait-outcome.ensures
+
+pub returns-clause-carries : goal.returns-clause-carries
+returns-clause-carries g c = ends_carried c.args.task.now c.run_wait-outcome.new.task c.begin_var-run.result
+    c.run_wait-outcome.new.run stage.First c.run_wait-outcome.result c.run_wait-outcome.ensures c.requires.up
+    c.requires.idle (c.begin_var-run.ensures.told.head ∙ c.requires.idle.free.head)

@@ -1,0 +1,3 @@
+pub mod VarWaits
+pub mod VarPublishes
+pub mod VarWords

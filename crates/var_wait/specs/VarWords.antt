@@ -1,0 +1,30 @@
+-- To be believed.
+-- Whole calls on variables as lists of events: what each makes follows its sentence, and a wait that answers for a
+-- signal has found one in its last turn.
+use Rattle.std.specs.Prelude.{ℕ, ◌≡◌, Result, Err, []}
+use Rattle.wait_model.specs.declared.calls.Call.TheVariants as calls
+use Rattle.wait_model.specs.declared.tasks.SleepState.{SleepState}
+use Rattle.wait_model.specs.Programs.{signalled}
+use Rattle.wait_model.specs.Sentences.{Follows}
+use Rattle.wait_rule.specs.Known.{Known}
+use Rattle.wait_rule.specs.Heeding.{EndsSignalled, trail_of}
+use Rattle.wait_rule.specs.Says.{MeetsLaw}
+use Rattle.wait_event.specs.declared.wait_events.WaitEnd.{WaitEnd}
+use Rattle.wait_event.specs.Ends.{IsOut}
+use Rattle.wait_event.specs.Words.{call_says}
+use Rattle.var_wait.specs.VarWaits.{EndsVarWait, answer_of}
+
+-- A wait for a variable, whatever it answers; a load of the base word after it (`Task::witness`) shows the table that
+-- is asked for.
+abbrev pub VarWaitsFollow : Type 0
+VarWaitsFollow = (before new : Known) (v old : ℕ) (st : SleepState) (result : Result ℕ WaitEnd)
+    → MeetsLaw new.view → IsOut before → (e : EndsVarWait before new v old st result)
+    → Follows before.view.number (calls.WaitVar v old st)
+    (call_says before.view.number (calls.WaitVar v old st) e.runs.transitions) (answer_of result)
+
+-- a wait that answers for a signal ends as the law on signals says
+abbrev pub VarWaitsHeed : Type 0
+VarWaitsHeed = (before new : Known) (v old : ℕ) (st : SleepState) (e : WaitEnd)
+    (ends : EndsVarWait before new v old st (Err e)) → answer_of (Err e) ≡ signalled
+    → EndsSignalled before.view.number (calls.WaitVar v old st)
+    (trail_of [] (call_says before.view.number (calls.WaitVar v old st) ends.runs.transitions))

@@ -1,0 +1,15 @@
+//! What whole calls on variables make, as the sentences of the model say it.
+
+ghost use Rattle.var_wait.specs.VarWords.{VarWaitsFollow, VarWaitsHeed};
+
+/// What a `wait_var` has made follows the sentence of a wait for a variable, and the answer is the one that the
+/// sentence gives, beside the value: by the table that a load of the base word shows after the call (`Task::witness`).
+pub fn calls_follow_sentences()
+    ensures waits { VarWaitsFollow }
+{}
+
+/// A `wait_var` that answers for a signal has made, as its last events, a turn that found an admissible signal and left
+/// its entry off, and then a load that found the old value.
+pub fn signals_are_heeded()
+    ensures { VarWaitsHeed }
+{}

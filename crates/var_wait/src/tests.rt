@@ -1,0 +1,6 @@
+//! Waits for variables: one task alone, by threads, and by stretches on one thread. The tests stand on the contracts of
+//! the calls alone.
+
+mod alone;
+mod stretches;
+mod threads;

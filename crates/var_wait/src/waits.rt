@@ -1,0 +1,87 @@
+//! Waits for variables. In stretches they go on by `wait_event::wait_calls::stretch`, from `begin_var` on.
+
+ghost use Rattle.std.specs.Prelude.{◌≡◌, ◌<◌, true};
+ghost use Rattle.wait_model.specs.declared.layout.TheConstants.{VARIABLES};
+ghost use Rattle.wait_model.specs.declared.watches.Watch.TheVariants as watch;
+ghost use Rattle.wait_rule.specs.Queues.{IsIdle, IsTold, index};
+ghost use Rattle.wait_rule.specs.Says.{IsUp};
+ghost use Rattle.wait_rule.specs.Stays.{Carries};
+ghost use Rattle.wait_event.specs.declared.waits.WaitStage.TheVariants as stage;
+ghost use Rattle.wait_event.specs.Ends.{IsOut, end_in, wait_change};
+ghost use Rattle.wait_event.specs.Waits.{IsAt, IsFresh};
+ghost use Rattle.var_wait.specs.VarWaits.{EndsVarWait, shared_in, with_loaded};
+
+use std::sync::Wait;
+use wait_event::wait_calls::run_wait;
+use wait_event::wait_events::{WaitEnd, end_of};
+use wait_event::waits::{WaitOutcome, WaitRun, WaitStage};
+use wait_model::tasks::{How, SleepState};
+use wait_model::watches::Watch;
+use wait_rule::{Domain, Task};
+
+/// A wait for variable `var`, below `VARIABLES`, to differ from `old`, that is about to begin: `stretch` goes on with
+/// it at `WaitStage::First`, and `end_of_var` is its answer. The task is idle and has no entry queued.
+pub fn begin_var(task: &Task, var: u8, old: u64, state: SleepState) -> WaitRun
+    requires up { IsUp task.now }
+    requires idle { IsIdle task.now }
+    requires there { var < VARIABLES }
+    requires out { IsOut task.now }
+    ensures at { IsAt task.now result stage.First }
+    ensures fresh { IsFresh result (watch.Var var old) (shared_in state) true }
+    ensures told { IsTold task.now }
+{
+    task.told();
+    WaitRun::new(Watch::Var { var, old }, shared_in(state), true)
+}
+
+/// At the front, and in this state.
+fn shared_in(state: SleepState) -> How
+    ensures { result ≡ shared_in state }
+{
+    How {
+        state,
+        exclusive: false,
+    }
+}
+
+/// Waits until variable `var`, below `VARIABLES`, has another value than `old` (include/linux/wait_bit.h,
+/// `wait_var_event`, `wait_var_event_killable`; kernel/sched/wait_bit.c, `init_wait_var_entry`), and answers the value
+/// that its last load found. Its entry stands at the front of the variable's head, which other variables and bits may
+/// share. Signal: the look in its last hold showed a signal that its state admits, its entry was off then, and the load
+/// after it found `seen`, which is `old`; `selected` is that this hold found the entry off that the call had queued.
+/// Worn: no place was left for its entry at its head, and the load after it found `old`. The task is idle and has no
+/// entry queued, and so it is afterwards; it owes what it owed.
+pub fn wait_var<R: Wait>(
+    rt: &R,
+    domain: &Domain,
+    task: &mut Task,
+    var: u8,
+    old: u64,
+    state: SleepState,
+) -> Result<u64, WaitEnd>
+    requires of { task.old.domain ≡ domain.now }
+    requires up { IsUp task.old }
+    requires idle { IsIdle task.old }
+    requires there { var < VARIABLES }
+    requires out { IsOut task.old }
+    ensures waited { EndsVarWait task.old task.new var old state result }
+    ensures up { IsUp task.new }
+    ensures idle { IsIdle task.new }
+    ensures out { IsOut task.new }
+    ensures carries { Carries (wait_change (index task.old.view.number 0) task.new.at) task.old task.new }
+{
+    let mut run = begin_var(task, var, old, state);
+    let outcome = run_wait(rt, domain, task, &mut run, WaitStage::First);
+    end_of_var(run, outcome)
+}
+
+/// The answer of a wait for a variable that has ended: the value that its last load found, or why it ended without
+/// another one than the old.
+pub fn end_of_var(run: WaitRun, outcome: WaitOutcome) -> Result<u64, WaitEnd>
+    ensures { result ≡ with_loaded run.seen (end_in run outcome) }
+{
+    match end_of(run, outcome) {
+        Ok(()) => Ok(run.seen),
+        Err(end) => Err(end),
+    }
+}

@@ -1,11 +1,8 @@
 -- To be believed.
 -- A task that waits for condition 0 with its entry of slot 0.
 use Rattle.std.specs.Prelude.{◌≡◌, Some, None}
-use Rattle.wait_model.specs.declared.watches.Kind.{Kind}
-use Rattle.wait_model.specs.declared.watches.Kind.TheVariants as kind
 use Rattle.wait_model.specs.declared.watches.Watch.TheVariants as watch
 use Rattle.wait_model.specs.Watches.{head_of}
-use Rattle.std.specs.Prelude.{◌⊎◌}
 use Rattle.wait_rule.specs.Known.{Known}
 use Rattle.wait_rule.specs.Says.{IsUp, IsFree, no_excuse, told_of}
 use Rattle.wait_rule.specs.Queues.{index}

@@ -2,8 +2,15 @@
 //! the calls alone. The crate has no proof of its own.
 #![tactic(auto)]
 
+pub mod completions;
 pub mod events;
+pub mod hashed;
 pub mod holds;
+#[cfg(test)]
+mod round_tests;
+pub mod simple;
+#[cfg(test)]
+mod stranger_tests;
 #[cfg(test)]
 mod tests;
 pub mod waits;

@@ -14,6 +14,7 @@ use var_wait::waits::wait_var;
 use wait_model::tasks::SleepState;
 use wait_rule::tasks::set_state;
 use wait_rule::{Domain, Task};
+use wq_head::{Members, lock, members, unlock};
 
 /// The bit and the variable.
 const WORD: u8 = 2;
@@ -21,6 +22,9 @@ const WORD: u8 = 2;
 const BIT: u8 = 16;
 
 const VAR: u8 = 16;
+
+/// Their head.
+const HEAD: u16 = 0;
 
 /// Takes the bit: true where it was clear.
 pub fn take_bit(domain: &Domain, task: &mut Task) -> bool
@@ -72,4 +76,18 @@ pub fn change<R: Wait>(rt: &R, domain: &Domain, task: &mut Task, value: u64) -> 
     ensures clean { IsClean task.new }
 {
     publish_var_and_wake(rt, domain, task, VAR, value).woken
+}
+
+/// How many members stand at the head of both, in one hold.
+pub fn count_members<R: Wait>(rt: &R, domain: &Domain, task: &mut Task) -> usize
+    requires of { task.old.domain ≡ domain.now }
+    requires clean { IsClean task.old }
+    ensures of { task.new.domain ≡ domain.now }
+    ensures clean { IsClean task.new }
+{
+    let mut list = Members::new();
+    lock(rt, domain, task, HEAD);
+    let count = members(domain, task, HEAD, &mut list);
+    unlock(rt, domain, task, false);
+    count
 }

@@ -1,5 +1,5 @@
 //! What a user of heads does between calls: stretches of calls, each with a contract that follows from the contracts of
-//! the calls alone. The crate has no proof of its own.
+//! the calls alone. The crate has no proof of its own; one test has a measure, by which its looks come to an end.
 #![tactic(auto)]
 
 pub mod completions;

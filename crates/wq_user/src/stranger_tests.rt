@@ -7,7 +7,9 @@ ghost use Rattle.wait_model.specs.declared.watches.Watch.TheVariants as watch;
 ghost use Rattle.bit_wait.specs.Holders.{IsHolder};
 ghost use Rattle.wait_rule.specs.Says.{IsClean};
 
-use crate::hashed::{change, give_bit, take_bit, wait_until_changed, wait_until_clear};
+use crate::hashed::{
+    change, count_members, give_bit, take_bit, wait_until_changed, wait_until_clear,
+};
 use std::sync::Wait;
 use std::test::Fail;
 use std::thread;
@@ -16,6 +18,9 @@ use wait_rule::{Domain, Task};
 
 /// How many rounds the test makes.
 const ROUNDS: u32 = 300;
+
+/// Who changes the variable looks a million times at most whether the waiters are there.
+const DEPTH: u8 = 20;
 
 /// Waits for the variable, and gives the task back with the value.
 fn changed_once<R: Wait>(rt: &R, domain: &Domain, mut task: Task) -> (Task, u64)
@@ -28,13 +33,27 @@ fn changed_once<R: Wait>(rt: &R, domain: &Domain, mut task: Task) -> (Task, u64)
     (task, value)
 }
 
-/// Changes the variable to 7, and gives the task back.
+/// Looks at most 2^depth times whether both waiters stand at their head: true once they do.
+fn see_both<R: Wait>(rt: &R, domain: &Domain, task: &mut Task, depth: u8) -> bool
+    requires of { task.old.domain ≡ domain.now }
+    requires clean { IsClean task.old }
+    ensures of { task.new.domain ≡ domain.now }
+    ensures clean { IsClean task.new }
+{
+    if depth == 0 {
+        return count_members(rt, domain, task) == 2;
+    }
+    see_both(rt, domain, task, depth - 1) || see_both(rt, domain, task, depth - 1)
+}
+
+/// Changes the variable to 7 once both waiters are queued, and gives the task back.
 fn change_once<R: Wait>(rt: &R, domain: &Domain, mut task: Task) -> Task
     requires of { task.domain ≡ domain.now }
     requires clean { IsClean task }
     ensures of { result.domain ≡ domain.now }
     ensures clean { IsClean result }
 {
+    see_both(rt, domain, &mut task, DEPTH);
     change(rt, domain, &mut task, 7);
     task
 }
@@ -168,6 +187,7 @@ fn hashed_parts_of_one_task(rt: HostRuntime) -> Result<(), Fail> {
     assert!(rt; wait_until_clear(&rt, &domain, &mut other));
     assert_eq!(rt; change(&rt, &domain, &mut other, 3), 0);
     assert_eq!(rt; wait_until_changed(&rt, &domain, &mut other), 3);
+    assert_eq!(rt; count_members(&rt, &domain, &mut other), 0);
     task.join(&domain, other);
     Ok(())
 }

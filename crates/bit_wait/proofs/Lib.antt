@@ -3,3 +3,5 @@ pub mod Words
 pub mod Events
 pub mod Clearing
 pub mod Holders
+pub mod LockEvents
+pub mod LockGround

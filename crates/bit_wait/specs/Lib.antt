@@ -5,3 +5,6 @@ pub mod BitWaits
 pub mod BitEnds
 pub mod Tested
 pub mod Clears
+pub mod LockStays
+pub mod LockWaits
+pub mod LockEnds

@@ -5,12 +5,19 @@ use Rattle.wait_rule.specs.Queues.{IsIdle}
 use Rattle.wait_rule.specs.Says.{IsUp}
 use Rattle.wait_event.specs.Ends.{IsOut}
 use Rattle.bit_wait.specs.BitWaits.{Lands}
+use Rattle.bit_wait.specs.LockWaits.{Lands as LockLands}
+use Rattle.bit_wait.specs.declared.lock_waits.LockRun.{LockRun}
+use Rattle.bit_wait.specs.declared.lock_waits.LockTurn.{LockTurn}
 use Rattle.bit_wait.specs.declared.waits.BitRun.{BitRun}
 use Rattle.bit_wait.specs.declared.waits.BitTurn.{BitTurn}
 
 -- a wait stands where its last turn left it
 abbrev pub IsWaiting : Known → BitRun → BitTurn → Type 0
 IsWaiting k r last = Lands k r last
+
+-- and so does a wait to take a bit
+abbrev pub IsLocking : Known → LockRun → LockTurn → Type 0
+IsLocking k r last = LockLands k r last
 
 -- a task that holds no head and is RUNNING
 pub record IsAtRest (k : Known) : Type 0 where

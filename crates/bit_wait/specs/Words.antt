@@ -9,6 +9,7 @@ use Rattle.wait_rule.specs.Says.{MeetsLaw}
 use Rattle.wait_event.specs.Ends.{IsOut}
 use Rattle.wait_event.specs.Words.{call_says}
 use Rattle.bit_wait.specs.BitEnds.{EndsBitWait, answer_of}
+use Rattle.bit_wait.specs.LockEnds.{EndsBitLock}
 use Rattle.bit_wait.specs.Tries.{HasTriedBit, tried_answer}
 use Rattle.bit_wait.specs.declared.wait_calls.BitEnd.{BitEnd}
 
@@ -23,3 +24,9 @@ abbrev pub BitWaitsFollow : Type 0
 BitWaitsFollow = (old new : Known) (w b : ℕ) (st : SleepState) (result : Result (Unit {0}) BitEnd) → MeetsLaw new.view
     → IsOut old → (e : EndsBitWait old new w b st result) → Follows old.view.number (calls.WaitBit w b st)
     (call_says old.view.number (calls.WaitBit w b st) e.runs.transitions) (answer_of result)
+
+-- A wait to take a bit, whatever it answers.
+abbrev pub BitLocksFollow : Type 0
+BitLocksFollow = (old new : Known) (w b : ℕ) (st : SleepState) (result : Result (Unit {0}) BitEnd) → MeetsLaw new.view
+    → IsOut old → (e : EndsBitLock old new w b st result) → Follows old.view.number (calls.LockBit w b st)
+    (call_says old.view.number (calls.LockBit w b st) e.runs.transitions) (answer_of result)

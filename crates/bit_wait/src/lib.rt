@@ -3,6 +3,8 @@
 
 pub mod clears;
 pub mod laws;
+pub mod lock_calls;
+pub mod lock_waits;
 #[cfg(test)]
 mod tests;
 pub mod tries;
@@ -10,5 +12,6 @@ pub mod wait_calls;
 pub mod waits;
 
 pub use clears::clear_and_wake_bit;
+pub use lock_calls::wait_on_bit_lock;
 pub use tries::test_and_set;
 pub use wait_calls::{BitEnd, wait_on_bit};

@@ -24,8 +24,9 @@ use wq_head::locks;
 
 /// Why a wait for a bit ended though it may be set. Interrupted: its last sleep was followed by a look at the own word
 /// that showed a signal which its state admits; `seen` is what the load before that sleep, after the hold of its
-/// prepare, found in the bit's word, with the bit set. Worn: no place was left for its entry at its head, where a
-/// member stands at `place`, and the load after it found the bit set.
+/// prepare, found in the bit's word, with the bit set; of a wait that takes the bit it is what its last test-and-set
+/// found, after that look. Worn: no place was left for its entry at its head, where a member stands at `place`, and the
+/// load or test-and-set after it found the bit set.
 #[derive(Clone, Copy, Debug, Drop, Error)]
 pub enum BitEnd {
     #[error("a signal ended the wait for a bit of {seen}")]

@@ -1,0 +1,15 @@
+-- A wait to take a bit, event by event.
+pub mod Turns
+pub mod Trails
+pub mod Loads
+pub mod Tries
+pub mod Locks
+pub mod States
+pub mod Sleeps
+pub mod Peeks
+pub mod Pares
+pub mod Parts
+pub mod Falling
+pub mod Queues
+pub mod Rising
+pub mod Endings

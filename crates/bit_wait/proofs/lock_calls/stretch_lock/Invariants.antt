@@ -1,0 +1,5 @@
+use Rattle.bit_wait.proofs.LockEvents.Falling.{IsUnderWay}
+use Rattle.bit_wait.proofs.lock_calls.stretch_lock.Given as goal
+
+abbrev pub invariant-loop-turn : goal.invariant-loop-turn
+invariant-loop-turn l = IsUnderWay l.fn.task l.task l.fn.run l.run l.fn.stage l.at l._turn

@@ -1,0 +1,22 @@
+use Rattle.std.proofs.Common.{◌∙◌, ap}
+use Rattle.wait_model.specs.declared.watches.Watch.{Watch}
+use Rattle.wait_rule.specs.Says.{added}
+use Rattle.wait_rule.specs.declared.journal.Item.TheVariants as item
+use Rattle.wait_model.specs.declared.steps.Step.TheVariants as step
+use Rattle.wait_event.specs.Waits.{with_value}
+use Rattle.bit_wait.specs.LockWaits.{goes_to}
+use Rattle.bit_wait.proofs.LockEvents.Turns.{advance_same}
+use Rattle.bit_wait.proofs.LockEvents.Loads.{load_goes}
+use Rattle.bit_wait.proofs.lock_waits.load_event.Goals as goal
+
+pub returns-clause-advances : goal.returns-clause-advances
+returns-clause-advances c =
+    let r = c.args.run.now in
+    let v = c.cond_load-value.result in
+    let old = c.args.task.now in
+    let new = c.cond_load-value.new.task in
+    advance_same old new r c.args.stage c.loaded.result (goes_to r c.args.stage (with_value v)) c.requires.at.runs
+    c.loaded.ensures.plain c.loaded.ensures.goes
+    (load_goes old new r v
+    (c.cond_load-value.ensures.step ∙ ap (λ (w : Watch). added old (item.Made (step.Load w v))) c.watch.ensures)
+    c.cond_load-value.ensures.carries c.args.stage c.requires.here c.requires.at)

@@ -1,0 +1,28 @@
+use Rattle.std.proofs.Common.{◌∙◌, sym}
+use Rattle.wait_event.specs.Waits.{with_entry}
+use Rattle.bit_wait.specs.LockWaits.{goes_to}
+use Rattle.bit_wait.proofs.LockEvents.Turns.{advance_same}
+use Rattle.bit_wait.proofs.LockEvents.Pares.{pare_may, taken_goes, given_goes}
+use Rattle.bit_wait.proofs.lock_waits.pare_event.Goals as goal
+
+pub remove-requires-clause-may : goal.remove-requires-clause-may
+remove-requires-clause-may c = pare_may c.args.task.now c.own_entry-entry.new.task c.args.run.now c.args.stage
+    c.requires.here c.requires.at c.own_entry-entry.result c.own_entry-entry.ensures
+    (sym c.is_some.ensures ∙ c.if-is_some.true) c.number-me.result c.number-me.ensures.number
+
+pub returns-then-is_some-clause-advances : goal.returns-then-is_some-clause-advances
+returns-then-is_some-clause-advances c = advance_same c.args.task.now c.remove.new.task c.args.run.now c.args.stage
+    c.pared.result (goes_to c.args.run.now c.args.stage (with_entry c.own_entry-entry.result)) c.requires.at.runs
+    c.pared.ensures.plain c.pared.ensures.goes
+    (taken_goes c.args.task.now c.own_entry-entry.new.task c.remove.new.task c.args.run.now c.args.stage
+    c.requires.here c.requires.at c.own_entry-entry.result c.own_entry-entry.ensures
+    (sym c.is_some.ensures ∙ c.if-is_some.true) c.number-me.result c.number-me.ensures.number
+    c.remove.ensures.removed c.remove.ensures.held)
+
+pub returns-clause-advances : goal.returns-clause-advances
+returns-clause-advances c = advance_same c.args.task.now c.give_back.new.task c.args.run.now c.args.stage
+    c.pared-2.result (goes_to c.args.run.now c.args.stage (with_entry c.own_entry-entry.result)) c.requires.at.runs
+    c.pared-2.ensures.plain c.pared-2.ensures.goes
+    (given_goes c.args.task.now c.own_entry-entry.new.task c.give_back.new.task c.args.run.now c.args.stage
+    c.requires.here c.requires.at c.own_entry-entry.result c.own_entry-entry.ensures
+    (sym c.is_some.ensures ∙ c.if-is_some.false) c.give_back.ensures)

@@ -1,0 +1,82 @@
+-- To be believed.
+-- What whole waits to take a bit say.
+use Rattle.std.specs.Prelude.{ℕ, ◌≡◌, ◌⊎◌, Bool, true, false, Result, Ok, Err, List, [], ◌∷◌, ◌++◌}
+use Rattle.wait_model.specs.declared.calls.Call.TheVariants as calls
+use Rattle.wait_model.specs.declared.tasks.SleepState.{SleepState}
+use Rattle.wait_model.specs.declared.points.BitPoint.TheVariants as biting
+use Rattle.wait_model.specs.declared.points.Next.TheVariants as next
+use Rattle.wait_model.specs.declared.points.Point.TheVariants as at
+use Rattle.wait_model.specs.declared.steps.Step.{Step}
+use Rattle.wait_model.specs.declared.steps.Step.TheVariants as step
+use Rattle.wait_model.specs.declared.watches.Watch.TheVariants as watch
+use Rattle.wait_model.specs.Tasks.{pending, state_mask, task_of}
+use Rattle.wait_model.specs.Watches.{head_of}
+use Rattle.wait_model.specs.Words.{bit_at}
+use Rattle.wait_rule.specs.Ends.{WasWorn}
+use Rattle.wait_rule.specs.declared.journal.Item.TheVariants as item
+use Rattle.wait_rule.specs.Known.{Known}
+use Rattle.wait_rule.specs.Says.{added, history_of}
+use Rattle.wait_rule.specs.Transitions.{call_program}
+use Rattle.wait_event.specs.Posts.{Runs}
+use Rattle.wait_event.specs.Waits.{EndsWith}
+use Rattle.bit_wait.specs.BitEnds.{answer_of}
+use Rattle.bit_wait.specs.BitWaits.{has_sleep}
+use Rattle.bit_wait.specs.LockWaits.{head_in}
+use Rattle.bit_wait.specs.declared.wait_calls.BitEnd.{BitEnd}
+use Rattle.bit_wait.specs.declared.wait_calls.BitEnd.TheVariants as bit_end
+use Rattle.bit_wait.specs.declared.lock_waits.LockOutcome.{LockOutcome}
+use Rattle.bit_wait.specs.declared.lock_waits.LockOutcome.TheVariants as outcome
+use Rattle.bit_wait.specs.declared.lock_waits.LockRun.{LockRun}
+
+-- the answer of a wait that has ended
+abbrev pub end_in : LockRun → LockOutcome → Result (Unit {0}) BitEnd
+end_in r outcome.Over = Ok tt
+end_in r outcome.Interrupted = Err (bit_end.Interrupted r.seen)
+end_in r outcome.Worn = Err (bit_end.Worn (head_in r) r.place)
+
+-- The last turn of a wait that a signal ended: the task slept, and then its own word showed a signal that the state
+-- admits. It has not slept since; and last of all the test-and-set found `seen`, with the bit set.
+pub record WasInterrupted (k : Known) (w b : ℕ) (st : SleepState) (seen : ℕ) : Type 0 where
+  pub before : List Step
+  pub sleep : ℕ
+  pub look : ℕ
+  pub more : List Step
+  pub ends : history_of k ≡ before ++ (step.Sleep sleep ∷ step.Look look ∷ more)
+  pub pends : pending (state_mask st) (task_of look) ≡ true
+  pub awake : has_sleep more ≡ false
+  pub last : EndsWith k (step.Consume (watch.Bit w b) 1 seen ∷ [])
+  pub set : bit_at seen b ≡ true
+
+-- The last steps of a wait that found no place: its hold noted it, and gave the head back; then the test-and-set found
+-- the bit set.
+pub record FoundNoPlace (k : Known) (w b h place : ℕ) : Type 0 where
+  pub head : h ≡ head_of (watch.Bit w b)
+  pub noted : WasWorn k.view.number k.view.items h place
+  pub found : ℕ
+  pub ends : EndsWith k (step.Unlock h false ∷ step.Consume (watch.Bit w b) 1 found ∷ [])
+  pub set : bit_at found b ≡ true
+
+abbrev pub IsCause : Known → ℕ → ℕ → SleepState → Result (Unit {0}) BitEnd → Type 0
+IsCause k w b st (Ok u) = Unit {0}
+IsCause k w b st (Err (bit_end.Interrupted seen)) = WasInterrupted k w b st seen
+IsCause k w b st (Err (bit_end.Worn h place)) = FoundNoPlace k w b h place
+
+-- whether the call took the bit
+abbrev pub has_taken : Result (Unit {0}) BitEnd → Bool
+has_taken (Ok u) = true
+has_taken (Err e) = false
+
+-- The task went through the whole call, and the answer is that of its program, with its cause. Where it found no place
+-- it then stored RUNNING, since it may still have been in the state in which it would have slept.
+pub record EndsBitLock (old new : Known) (w b : ℕ) (st : SleepState) (result : Result (Unit {0}) BitEnd) :
+    Type 0 where
+  pub ended : Known
+  pub runs : Runs (call_program old.view.number 0 (calls.LockBit w b st)) old ended (next.Go (at.Bit biting.First))
+      (next.Ends (answer_of result))
+  pub cause : IsCause ended w b st result
+  pub rests : (new ≡ ended) ⊎ (new ≡ added ended (item.Made (step.State 0)))
+
+-- What the task does after it: where it found no place it stores RUNNING.
+abbrev pub HasRested : Known → Known → Bool → Type 0
+HasRested ended new true = new ≡ added ended (item.Made (step.State 0))
+HasRested ended new false = new ≡ ended

@@ -9,3 +9,4 @@ pub mod MarkKinds
 pub mod CondKinds
 pub mod CountKinds
 pub mod BitKinds
+pub mod PageKinds

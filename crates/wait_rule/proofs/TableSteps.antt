@@ -11,7 +11,9 @@ pub mod FlagMoves
 pub mod BitMoves
 pub mod BitWordMoves
 pub mod TicketMoves
+pub mod TallyMoves
 pub mod LookedBits
 pub mod ScanMoves
 pub mod StartRule
 pub mod ForksAndJoins
+pub mod PageMoves

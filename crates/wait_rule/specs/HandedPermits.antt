@@ -1,82 +1,89 @@
 -- To be believed.
--- Permits of completions on a Domain: the law of the model, for tasks whose steps meet its conditions.
-use Rattle.std.specs.Prelude.{ℕ, ◌≡◌, ◌<◌, false, List, [], ◌∷◌, ◌++◌}
+-- Permits of completions on a Domain: what a task knows of them by its own history, what it has to know before it
+-- queues at a completion's head and before it gives that back, and the law.
+use Rattle.std.specs.Prelude.{ℕ, ◌≡◌, ◌<◌, ◌-◌, ◌⊎◌, false, Some, None, List}
 use Rattle.atomic_table.specs.Seated.{TableId}
-use Rattle.wait_model.specs.declared.layout.TheConstants.{TASKS}
+use Rattle.wait_model.specs.declared.layout.TheConstants.{TASKS, FIRST_DONE_HEAD}
+use Rattle.wait_model.specs.declared.points.Next.{Next}
+use Rattle.wait_model.specs.declared.points.Point.{Point}
 use Rattle.wait_model.specs.declared.steps.Step.{Step}
-use Rattle.wait_model.specs.Permits.{HandsOn, PermitsAreHanded, dealt}
-use Rattle.wait_model.specs.Rows.{Allowed}
+use Rattle.wait_model.specs.Permits.{Dealt, MayGiveBack, PermitsAreHanded, dealt}
+use Rattle.wait_model.specs.Runs.{own}
 use Rattle.wait_model.specs.Tables.{Table}
+use Rattle.wait_model.specs.Watches.{head_of}
 use Rattle.wait_rule.specs.declared.journal.Item.{Item}
 use Rattle.wait_rule.specs.declared.journal.Journal.{Journal}
-use Rattle.wait_rule.specs.Interleavings.{AreAllowed, TaskStep, table_of}
+use Rattle.wait_rule.specs.HeldValues.{count_in}
+use Rattle.wait_rule.specs.Interleavings.{AreAllowed, AreHanded, TaskStep, table_of}
 use Rattle.wait_rule.specs.Known.{Known}
 use Rattle.wait_rule.specs.Rule.{IsRuled}
-use Rattle.wait_rule.specs.Says.{IsShown, history_of, newcomer}
+use Rattle.wait_rule.specs.Says.{IsShown, history_of, newcomer, told_of}
 use Rattle.wait_rule.specs.TableLaws.{HasAll, histories_in}
+use Rattle.wait_rule.specs.Transitions.{Goes, Program, Transition}
 
--- steps that meet the model's conditions where they are made, the latest first
-abbrev pub AreHanded : List TaskStep → Type 0
-AreHanded [] = Unit {0}
-AreHanded (x ∷ xs) = HandsOn (table_of xs) x.task x.made × AreHanded xs
+-- Steps of all tasks that are allowed and hand permits on, after which a task's history is this one. The rule says that
+-- there are some for each history, so what is said of a task need only hold where there are.
+pub record Order (a : ℕ) (front : List Step) : Type 0 where
+  pub steps : List TaskStep
+  pub may : AreAllowed steps
+  pub on : AreHanded steps
+  pub is : (table_of steps).history a ≡ front
 
--- A task's step after such a history of its own meets its condition too, wherever it is allowed and all steps before it
--- did.
-abbrev pub HandsAt : ℕ → List Step → Step → Type 0
-HandsAt a front e = (xs : List TaskStep) → AreAllowed xs → AreHanded xs → (table_of xs).history a ≡ front
-    → Allowed (table_of xs) a e → HandsOn (table_of xs) a e
+abbrev pub OrderOf : Known → Type 0
+OrderOf k = Order k.view.number (history_of k)
 
--- so do more steps, oldest first, after such a history
-abbrev pub HandsFrom : ℕ → List Step → List Step → Type 0
-HandsFrom a front [] = Unit {0}
-HandsFrom a front (e ∷ es) = HandsAt a front e × HandsFrom a (front ++ e ∷ []) es
+-- what a task knows of a completion by its own history
+abbrev pub dealt_of : ℕ → Known → Dealt
+dealt_of d k = dealt d k.view.number (history_of k)
 
--- and whole histories
-abbrev pub HandOn : (ℕ → List Step) → Type 0
-HandOn history = (t : ℕ) → t < TASKS → HandsFrom t [] (history t)
+-- the completion of the head that it took last, where that is one's
+abbrev pub cell_at : Known → ℕ
+cell_at k = k.at - FIRST_DONE_HEAD
 
--- Where all steps do, permits are handed on. So they are where the histories of all tasks do: after each step of each
--- order of allowed steps, in each table that meets the rule, and in the one that a task sees that has joined all
--- others.
-abbrev pub OrdersHandPermitsOn : Type 0
-OrdersHandPermitsOn = (xs : List TaskStep) → AreAllowed xs → AreHanded xs → PermitsAreHanded (table_of xs)
+-- The head that the task holds may be given back: it is none of a completion. Or the hold has looked at the own entry,
+-- if the task's last hold of it left that there, and it has no permit to hand on or to take, or has seen nobody queued.
+abbrev pub OwesNoPermit : Known → Type 0
+OwesNoPermit k = (k.at < FIRST_DONE_HEAD)
+    ⊎ (OrderOf k → MayGiveBack (cell_at k) (own k.view.number) (told_of k) (dealt_of (cell_at k) k))
+
+-- An own entry may be queued at the head that the task holds: it is none of a completion. Or the entry is that of slot
+-- 0, and the hold has loaded or stored the count last as 0.
+abbrev pub FoundNoPermit : Known → ℕ → Type 0
+FoundNoPermit k slot = (k.at < FIRST_DONE_HEAD)
+    ⊎ ((slot ≡ 0) × (count_in (cell_at k) (history_of k) ≡ Some 0))
+
+-- Permits are handed on in each table that meets the rule, after each order of steps that are allowed and hand them on,
+-- and in the table that a task sees that has joined all others, which has just the histories that it has.
+abbrev pub RuleHandsPermitsOn : Type 0
+RuleHandsPermitsOn = (s : Table) (items : ℕ → List Item) → IsRuled s items → PermitsAreHanded s
 
 abbrev pub StepsHandPermitsOn : Type 0
-StepsHandPermitsOn = (xs : List TaskStep) → AreAllowed xs → HandOn (table_of xs).history
-    → PermitsAreHanded (table_of xs)
-
-abbrev pub RuleHandsPermitsOn : Type 0
-RuleHandsPermitsOn = (s : Table) (items : ℕ → List Item) → IsRuled s items → HandOn s.history → PermitsAreHanded s
+StepsHandPermitsOn = (xs : List TaskStep) → AreAllowed xs → AreHanded xs → PermitsAreHanded (table_of xs)
 
 abbrev pub AllHandPermitsOn : Type 0
-AllHandPermitsOn = (v : Journal) (law : IsShown v) → HasAll v → HandOn (histories_in v) → PermitsAreHanded law.table
+AllHandPermitsOn = (v : Journal) (law : IsShown v) → HasAll v
+    → ((t : ℕ) → t < TASKS → law.table.history t ≡ histories_in v t) × PermitsAreHanded law.table
 
--- The steps that a task has made from one moment to a later one meet the conditions.
-pub record HandsPermits (old new : Known) : Type 0 where
-  pub made : List Step
-  pub is : history_of new ≡ history_of old ++ made
-  pub hands : HandsFrom old.view.number (history_of old) made
-
--- The last hold of the completion's head that the task gave back, if there was one, left the own entry off: wherever
--- all steps met their conditions that lead to its history.
+-- The last hold of the completion's head that the task gave back, if there was one, left the own entry off.
 abbrev pub LeftOff : ℕ → Known → Type 0
-LeftOff d k = (xs : List TaskStep) → AreAllowed xs → AreHanded xs
-    → (table_of xs).history k.view.number ≡ history_of k → (dealt d k.view.number (history_of k)).left ≡ false
+LeftOff d k = OrderOf k → (dealt_of d k).left ≡ false
 
--- A call about completion d. Where its task has left its own entry off there, what it makes meets the conditions. And
--- it leaves no own entry at any completion where none was left.
-pub record KeepsPermits (d : ℕ) (old new : Known) : Type 0 where
-  pub hands : LeftOff d old → HandsPermits old new
-  pub left : (c : ℕ) → LeftOff c old → LeftOff c new
+-- So it did of each completion's head.
+abbrev pub HasLeftNone : Known → Type 0
+HasLeftNone k = (d : ℕ) → LeftOff d k
 
--- So calls one after another keep permits, and what a task has made since it began is its whole history.
-abbrev pub PermitsJoin : Type 0
-PermitsJoin = (d : ℕ) (old mid new : Known) → mid.view.number ≡ old.view.number → KeepsPermits d old mid
-    → KeepsPermits d mid new → KeepsPermits d old new
+-- It leaves no own entry at any completion where none was left.
+abbrev pub StaysOff : Known → Known → Type 0
+StaysOff old new = (d : ℕ) → LeftOff d old → LeftOff d new
 
 abbrev pub NewcomersLeaveNone : Type 0
-NewcomersLeaveNone = (domain : TableId) (number next spare d : ℕ) → LeftOff d (newcomer domain number next spare)
+NewcomersLeaveNone = (domain : TableId) (number next spare : ℕ) → HasLeftNone (newcomer domain number next spare)
 
-abbrev pub WholesHandOn : Type 0
-WholesHandOn = (domain : TableId) (number next spare : ℕ) (k : Known)
-    → HandsPermits (newcomer domain number next spare) k → HandsFrom number [] (history_of k)
+-- A call about no completion, and a walk, which queues nothing, leave it so: what has gone through such a program, from
+-- outside of holds on.
+abbrev pub QueuesElsewhere : Program → Type 0
+QueuesElsewhere f = (f.own ≡ None) ⊎ ((p : Point) → head_of (f.given p).watch < FIRST_DONE_HEAD)
+
+abbrev pub OthersStayOff : Type 0
+OthersStayOff = (f : Program) (old new : Known) (from to : Next) (made : List Transition) → QueuesElsewhere f
+    → (told_of old).hold.head ≡ None → Goes f old from made new to → StaysOff old new

@@ -3,6 +3,7 @@
 use Rattle.std.specs.Prelude.{ℕ, ◌≡◌, ◌<◌, List, [], ◌∷◌}
 use Rattle.wait_model.specs.declared.layout.TheConstants.{TASKS}
 use Rattle.wait_model.specs.declared.steps.Step.{Step}
+use Rattle.wait_model.specs.Permits.{HandsOn}
 use Rattle.wait_model.specs.Tables.{Table, next, start}
 use Rattle.wait_model.specs.Rows.{Allowed}
 
@@ -20,8 +21,14 @@ abbrev pub AreAllowed : List TaskStep → Type 0
 AreAllowed [] = Unit {0}
 AreAllowed (x ∷ xs) = (x.task < TASKS) × Allowed (table_of xs) x.task x.made × AreAllowed xs
 
--- some order of steps of all tasks leads to the table
+-- each step meets the model's conditions on permits of completions where it is made
+abbrev pub AreHanded : List TaskStep → Type 0
+AreHanded [] = Unit {0}
+AreHanded (x ∷ xs) = HandsOn (table_of xs) x.task x.made × AreHanded xs
+
+-- some order of steps of all tasks leads to the table, in which each step hands permits on
 pub record IsInterleaved (s : Table) : Type 0 where
   pub steps : List TaskStep
   pub allowed : AreAllowed steps
+  pub handed : AreHanded steps
   pub leads : s ≡ table_of steps

@@ -1,5 +1,5 @@
 -- To be believed.
--- The words that stand beside the model's table: those by which a head knows its members, and tickets.
+-- The words that stand beside the model's table: those by which a head knows its members, tickets and tallies.
 use Rattle.std.specs.Prelude.{
   ℕ,
   ◌≡◌,
@@ -28,14 +28,15 @@ use Rattle.wait_model.specs.Rows.{IsUntested}
 use Rattle.wait_model.specs.Locations as place
 use Rattle.wait_model.specs.Locations.{IsLocation, position_of, word_in}
 use Rattle.wait_rule.specs.declared.journal.Item.{Item}
-use Rattle.wait_rule.specs.Items.{Difference, nothing, at_entry, at_mark, book_of}
+use Rattle.wait_rule.specs.Items.{Difference, nothing, at_entry, at_mark, page_taken, page_told, book_of}
 use Rattle.wait_rule.specs.Notes.{is_at}
 
--- member words and tickets, which no step of the model is about
+-- member words, tickets and tallies, which no step of the model is about
 abbrev pub is_beside : place.Location → Bool
 is_beside (place.Member k) = true
 is_beside (place.Next h) = true
 is_beside (place.Serving h) = true
+is_beside (place.Tally p) = true
 is_beside _ = false
 
 -- what stands in a word, with the words beside the table
@@ -56,11 +57,15 @@ abbrev pub index_named : ℕ → Difference → Option ℕ
 index_named me nothing = None
 index_named me (at_entry x on) = Some x
 index_named me (at_mark on) = Some (ENTRIES + me)
+index_named me (page_taken x) = None
+index_named me (page_told x) = None
 
 abbrev pub is_put : Difference → Bool
 is_put nothing = false
 is_put (at_entry x on) = on
 is_put (at_mark on) = on
+is_put (page_taken x) = false
+is_put (page_told x) = false
 
 -- word i of a head whose members these are
 abbrev pub member_word : (ℕ → Bool) → ℕ → ℕ

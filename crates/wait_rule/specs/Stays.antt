@@ -1,6 +1,6 @@
 -- To be believed.
 -- What stays of a task while it looks, holds heads, queues and wakes.
-use Rattle.std.specs.Prelude.{ℕ, ◌≡◌, ◌<◌, ◌⊎◌, ◌&&◌, ◌||◌, ◌==◌, not, Bool, true, false, Option, Some, None}
+use Rattle.std.specs.Prelude.{ℕ, ◌≡◌, ◌<◌, ◌⊎◌, ◌&&◌, ◌||◌, ◌==◌, Bool, true, false, Option, Some, None}
 use Rattle.wait_model.specs.declared.layout.TheConstants.{SLOTS}
 use Rattle.wait_model.specs.declared.watches.Watch.{Watch}
 use Rattle.wait_model.specs.declared.watches.Entry.{Entry}
@@ -9,16 +9,11 @@ use Rattle.wait_model.specs.declared.watches.Mode.TheVariants as mode
 use Rattle.wait_model.specs.Tasks.{meets}
 use Rattle.wait_model.specs.Watches.{same, mask_of, head_of}
 use Rattle.wait_model.specs.Words.{entry_of}
-use Rattle.wait_model.specs.Views.{View as Told, is_trying_for}
 use Rattle.wait_rule.specs.Known.{Known}
 use Rattle.wait_rule.specs.Tickets.{Ticket, no_ticket, taken}
 use Rattle.wait_rule.specs.Members.{IsOwnKind}
-use Rattle.wait_rule.specs.Says.{Excuse, OwesBut, OwesNothing, no_excuse, told_of}
+use Rattle.wait_rule.specs.Says.{Debts, Excuse, Owes, TriesNone, told_of}
 use Rattle.wait_rule.specs.Queues.{MayUnqueue, index}
-
--- no entry that the history has stored is an exclusive one for a bit, by which a task that finds it off tries the bit
-abbrev pub TriesNone : Told → Type 0
-TriesNone v = (x : ℕ) (c : Watch) → is_trying_for (v.bits.stored x) c ≡ false
 
 -- no entry word, and one
 abbrev pub no_entries : ℕ → Bool
@@ -27,7 +22,8 @@ no_entries x = false
 abbrev pub only : ℕ → ℕ → Bool
 only x y = y == x
 
--- It is the same task of the same Domain in the same state, keeps the same bits, and tries no bit that it did not try.
+-- It is the same task of the same Domain in the same state, keeps the same bits, tries no bit that it did not try, and
+-- has no debts that it did not have.
 -- Of all entry words but these: an entry that its history had stored is stored still, or was found or taken off; an own
 -- one that no other task may take off is stored still.
 pub record Stays (but : ℕ → Bool) (old new : Known) : Type 0 where
@@ -44,36 +40,24 @@ pub record Stays (but : ℕ → Bool) (old new : Known) : Type 0 where
   pub tries_none : TriesNone (told_of old) → TriesNone (told_of new)
   pub tries : TriesNone (told_of old) → (c : Watch) → (told_of old).bits.pending c ≡ false
       → (told_of new).bits.pending c ≡ false
+  pub debts : (x : Excuse) → Debts x old → Debts x new
 
 -- who owed nothing but what it is excused of owes nothing but that
 abbrev pub StaysOwing : Known → Known → Type 0
-StaysOwing old new = (x : Excuse) → OwesBut x (told_of old) → OwesBut x (told_of new)
+StaysOwing old new = (x : Excuse) → Owes x old → Owes x new
 
--- it is excused of an entry too
-abbrev pub also : ℕ → Excuse → Excuse
-also i x = record { wakes = x.wakes; entries = λ y. (y == i) || x.entries y }
-
--- Each excuse is also one of wakes of tasks in states that no wake meets.
-abbrev pub least : Excuse → Excuse
-least x = record {
-  wakes = λ c σ. x.wakes c σ || not (meets (mask_of mode.Normal) σ);
-  entries = x.entries;
-}
-
--- What a task owes, in one word that calls carry on: but for what it is excused of it owes nothing, and it tries no
--- bit by an entry that it has stored.
-unfoldable pub Owes : Excuse → Known → Type 0
-Owes x k = OwesBut (least x) (told_of k) × TriesNone (told_of k)
-
--- it is excused of an entry too, and of wakes of a watch in the states that a mode meets
+-- it is excused of an entry too, of wakes of a watch in the states that a mode meets, and of bits
 unfoldable pub with_entry : ℕ → Excuse → Excuse
-with_entry i x = also i x
+with_entry i x = record x { entries = λ y. (y == i) || x.entries y }
 
 unfoldable pub with_wakes : Watch → Mode → Excuse → Excuse
-with_wakes c m x = record {
-  wakes = λ d σ. x.wakes d σ || (same d c && meets (mask_of m) σ);
-  entries = x.entries;
-}
+with_wakes c m x = record x { wakes = λ d σ. x.wakes d σ || (same d c && meets (mask_of m) σ) }
+
+unfoldable pub with_bits : (Watch → Bool) → Excuse → Excuse
+with_bits t x = record x { bits = λ d. t d || x.bits d }
+
+abbrev pub with_bit : Watch → Excuse → Excuse
+with_bit c x = with_bits (λ d. same d c) x
 
 -- What a call changes of a task: what it owes, from an excuse before the call to one after it; which entry words,
 -- and whether it looks at others; its state; the head that it holds, the ticket that it has out, and the head that it
@@ -138,8 +122,8 @@ wake_all_change c m h = record unchanged {
 -- What stays of a task over a call that changes no more than this. It is the same task of the same Domain, as awake,
 -- with the same bookmark out. It owes no wake that it did not owe, of any watch and state, but of what it published.
 -- What it had stored of an entry word stays, where the call looks at none; an own entry that no other task may take off
--- stands in any case, and where none was stored, none is. What it owes is carried on for each excuse; `clean` and
--- `settled` say what that means for a task that owes nothing.
+-- stands in any case, and where none was stored, none is. It keeps the bits that it kept, but for what it published.
+-- What it owes is carried on for each excuse.
 pub record Carries (c : Change) (old new : Known) : Type 0 where
   pub domain : new.domain ≡ old.domain
   pub number : new.view.number ≡ old.view.number
@@ -158,9 +142,8 @@ pub record Carries (c : Change) (old new : Known) : Type 0 where
   pub stands : (slot : ℕ) → slot < SLOTS → c.but (index old.view.number slot) ≡ false → (e : Entry)
       → (told_of old).bits.stored (index old.view.number slot) ≡ Some e → IsOwnKind e.kind
       → (told_of new).bits.stored (index old.view.number slot) ≡ Some e
+  pub keeps : (d : Watch) → c.publishes d ≡ false → (told_of new).bits.keeps d ≡ (told_of old).bits.keeps d
   pub owes : (x : Excuse) → Owes (c.from x) old → Owes (c.to x) new
-  pub clean : OwesNothing (told_of old) → Owes no_excuse old
-  pub settled : Owes no_excuse new → OwesNothing (told_of new)
 
 -- the head of a stored entry, and whether a word shows an entry
 abbrev pub head_stored : Option Entry → Option ℕ

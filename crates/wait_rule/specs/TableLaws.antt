@@ -83,7 +83,7 @@ pub record TookRaised (v : Journal) (t : ℕ) : Type 0 where
 abbrev pub AllTookRaised : Type 0
 AllTookRaised = (v : Journal) → IsShown v → HasAll v → (t : ℕ) → t < TASKS → TookRaised v t
 
--- a bit is set exactly where one task keeps it, and the counts of completions are balanced
+-- a bit is set exactly where one task holds it, and the counts of completions are balanced
 abbrev pub RuleKeepsBits : Type 0
 RuleKeepsBits = (s : Table) (items : ℕ → List Item) → IsRuled s items → AreKept s
 

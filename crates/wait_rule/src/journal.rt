@@ -23,6 +23,8 @@ pub enum Item {
     Serving { head: u16, found: u64 },
     /// The serve of the next ticket, after the lock that the own one took was given back. It is no step.
     Served,
+    /// An amount that the task added to the tally of a page, with the number that was found. It is no step.
+    Tally { page: u8, amount: u64, found: u64 },
 }
 
 /// The list of a task that was joined, with its number and the numbers that it gave up. They stay taken.

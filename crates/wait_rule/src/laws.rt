@@ -6,16 +6,19 @@ ghost use Rattle.wait_rule.specs.Worn.{EntriesWearLate, MarksWearLate, HoldsWear
 ghost use Rattle.wait_rule.specs.Worn.{HoldsNote, NotesStay, JoinKeepsNotes};
 ghost use Rattle.wait_rule.specs.WorkedEvents.{WorkedEvents};
 ghost use Rattle.wait_rule.specs.WorkedHolds.{SimpleHolds, CallsRightly, PausesRightly};
-ghost use Rattle.wait_rule.specs.HandedPermits.{AllHandPermitsOn, OrdersHandPermitsOn, RuleHandsPermitsOn};
-ghost use Rattle.wait_rule.specs.HandedPermits.{NewcomersLeaveNone, PermitsJoin, StepsHandPermitsOn, WholesHandOn};
+ghost use Rattle.wait_rule.specs.HandedPermits.{AllHandPermitsOn, NewcomersLeaveNone, OthersStayOff};
+ghost use Rattle.wait_rule.specs.HandedPermits.{RuleHandsPermitsOn, StepsHandPermitsOn};
 ghost use Rattle.wait_rule.specs.Heeding.{RunsHeed, WordsHeed};
 ghost use Rattle.wait_rule.specs.FlagLaws.{FlagsComeFirst, RuleLosesNoFlag, StepsLoseNoFlag, WorkedFlags};
+ghost use Rattle.wait_rule.specs.PageLaws.{RuleHandsWhole, RuleLeavesNone, RuleTakesForWaiters, WorkedPages};
 ghost use Rattle.wait_rule.specs.SaidEvents.{RunsBegin, RunsFollow, WalksFollow};
 ghost use Rattle.wait_rule.specs.Selecting.{RunsSelect, RunsTell, WordsSelect};
 ghost use Rattle.wait_rule.specs.TableLaws.{RuleLosesNoWake, StepsLoseNoWake, AllLoseNoWake};
 ghost use Rattle.wait_rule.specs.TableLaws.{RuleCountsSpent, AllCountSpent};
 ghost use Rattle.wait_rule.specs.TableLaws.{RuleInventsNoSignal, AllTookRaised, RuleKeepsBits, RuleBalances};
 ghost use Rattle.wait_rule.specs.TableLaws.{AllBalance, RuleTakesMade, AllTakeMade};
+ghost use Rattle.wait_rule.specs.TallyLaws.{RuleSumsTallies, AllSumTallies, AddsCount, JoinsCount};
+ghost use Rattle.wait_rule.specs.TallyLaws.{NewcomersCountNone, ForksCountNone, ProgramsAddNone, ProgramsKeepNumbers};
 ghost use Rattle.wait_rule.specs.Unlocks.{AllUnlocksCount};
 
 use crate::domain::{Domain, Task};
@@ -65,6 +68,21 @@ pub fn worked_holds()
 /// in the histories that it has then, less one while the serve of the last is still to come.
 pub fn unlocks_are_counted()
     ensures { AllUnlocksCount }
+{}
+
+/// The tally of a page is the sum of all amounts that tasks added to it, modulo 2^64: in each scene that meets the
+/// rule, of the lists of all tasks; and the number that a task finds that has joined all others is the sum of all
+/// amounts in the lists that it has then. These lists count what the task adds, and by a join what the other one has;
+/// a call that goes through a program adds nothing, and keeps the numbers that its task has.
+pub fn tallies_are_sums()
+    ensures rule { RuleSumsTallies }
+    ensures all { AllSumTallies }
+    ensures adds { AddsCount }
+    ensures joins { JoinsCount }
+    ensures newcomers { NewcomersCountNone }
+    ensures forks { ForksCountNone }
+    ensures programs { ProgramsAddNone }
+    ensures numbers { ProgramsKeepNumbers }
 {}
 
 /// What a task makes of a call follows the sentence of the call to its end, and the answer is the one that the sentence
@@ -120,10 +138,22 @@ pub fn no_flag_lost()
     ensures worked { WorkedFlags }
 {}
 
-/// On a Domain no task takes a signal that was not raised at it; a bit is set exactly where one task keeps it; the
-/// counts of completions are balanced: in each table that meets the rule. To a task that has joined all others the
-/// first and the last are told of the histories that it has. So no more of a completion was taken than was made, where
-/// no store but one of one more made its count the end (`complete_all` does).
+/// A page that a walk took for the task of an entry is one for which that task waits, or that was given to it, by its
+/// list; the task holds it, also while it sleeps, and no other one does. Once the page's head is free such a page was
+/// handed over whole: its task was told, and the entry is off. A task that asks for no page has none left with it. So
+/// it is in each table that meets the rule. What lists tell of pages is checked on small ones.
+pub fn pages_are_handed()
+    ensures takes { RuleTakesForWaiters }
+    ensures whole { RuleHandsWhole }
+    ensures leaves { RuleLeavesNone }
+    ensures worked { WorkedPages }
+{}
+
+/// On a Domain no task takes a signal that was not raised at it; a bit is set exactly where one task holds it, by its
+/// own history, or as a page that a walk took for it; the counts of completions are balanced: in each table that meets
+/// the rule. To a task that has joined all others the first and the last are told of the histories that it has. So no
+/// more of a completion was taken than was made, where no store but one of one more made its count the end
+/// (`complete_all` does).
 pub fn words_are_accounted()
     ensures signals { RuleInventsNoSignal }
     ensures told { AllTookRaised }
@@ -134,20 +164,18 @@ pub fn words_are_accounted()
     ensures all_taken { AllTakeMade }
 {}
 
-/// Permits of completions are handed on exactly on a Domain whose tasks' steps meet the model's conditions: while a
-/// task is queued at the head of a completion, and nobody holds it, the count is at most the number of tasks that were
-/// handed a permit and have still to take it. So it is after each order of allowed steps that meet them; and where the
-/// history of each task does so by itself, after each step of each order of allowed steps, and in each table that
-/// meets the rule. To a task that has joined all others it is told of the histories that it has. Calls that keep
-/// permits keep them one after another, from a task that has made no step on, which has left no entry queued.
+/// Permits of completions are handed on exactly on a Domain: while a task is queued at the head of a completion, and
+/// nobody holds it, the count is at most the number of tasks that were handed a permit and have still to take it. So it
+/// is in each table that meets the rule, and after each step of each order of steps that are allowed and meet the
+/// model's conditions on permits, as those of the tasks of a Domain do. To a task that has joined all others it is told
+/// of the histories that it has. A task that has made no step has left no entry at a completion, and what it makes of a
+/// call about none leaves it so.
 pub fn permits_are_handed_on()
-    ensures orders { OrdersHandPermitsOn }
     ensures rule { RuleHandsPermitsOn }
     ensures steps { StepsHandPermitsOn }
     ensures all { AllHandPermitsOn }
-    ensures joins { PermitsJoin }
     ensures newcomers { NewcomersLeaveNone }
-    ensures wholes { WholesHandOn }
+    ensures others { OthersStayOff }
 {}
 
 /// What the definitions say of small lists: of a walk that meets one of two tasks, of the last turn of a wait that

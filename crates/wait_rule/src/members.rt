@@ -3,6 +3,7 @@
 ghost use Rattle.std.specs.Prelude.{◌≡◌, ◌<◌, Some, None};
 ghost use Rattle.wait_model.specs.declared.layout.TheConstants.{SLOTS};
 ghost use Rattle.wait_model.specs.declared.layout.TheConstants.{WORD_BITS, HEADS, MEMBERS, MEMBER_WORDS};
+ghost use Rattle.wait_rule.specs.HandedPermits.{FoundNoPermit};
 ghost use Rattle.wait_rule.specs.declared.journal.Item.TheVariants as item;
 ghost use Rattle.wait_rule.specs.Says.{IsUp, added, stored_with};
 ghost use Rattle.wait_rule.specs.Queues.{IsLocked, IsAgreed, index, marked, MayQueue, MayUnqueue};
@@ -89,6 +90,7 @@ pub fn queue_member(domain: &Domain, task: &mut Task, slot: u8, word: EntryWord)
     requires agreed { IsAgreed task.old }
     requires slot { slot < SLOTS }
     requires may { (e : Entry) × (word.0 ≡ entry_word (Some e)) × MayQueue task.old slot e }
+    requires permits { FoundNoPermit task.old slot }
     ensures { (e : Entry) × (entry_of word.0 ≡ Some e)
         × (task.new ≡ stored_with task.old (step.Queue (index task.old.view.number slot) e)) }
 {

@@ -5,28 +5,18 @@ use Rattle.wait_model.specs.declared.watches.Watch.{Watch}
 use Rattle.wait_model.specs.declared.watches.Watch.TheVariants as watch
 use Rattle.wait_model.specs.declared.watches.Mode.TheVariants as mode
 use Rattle.wait_model.specs.declared.steps.Step.TheVariants as step
-use Rattle.wait_model.specs.Tasks.{meets}
-use Rattle.wait_model.specs.Watches.{same, mask_of, was_clear}
-use Rattle.wait_model.specs.Views.{View as Told}
+use Rattle.wait_model.specs.Watches.{same, was_clear}
+use Rattle.wait_model.specs.Views.{View as Told, is_trying_for}
 use Rattle.wait_model.specs.Fold.{after}
 use Rattle.wait_model.proofs.Sameness.{same_refl}
 use Rattle.wait_rule.specs.declared.journal.Item.TheVariants as item
 use Rattle.wait_rule.specs.Known.{Known}
-use Rattle.wait_rule.specs.Says.{Excuse, OwesBut, OwesNothing, added, no_excuse, told_of}
+use Rattle.wait_rule.specs.Says.{Excuse, IsOutBut, Owes, added, told_of}
 use Rattle.wait_rule.specs.Queues.{index}
-use Rattle.wait_rule.specs.Stays.{Owes, TriesNone, least, with_wakes}
-use Rattle.wait_rule.specs.Bits.{
-  ClearsBit,
-  OwesBeside,
-  SetsBit,
-  StaysBeside,
-  also_bit,
-  aside,
-  no_bits,
-  taken_bits,
-}
+use Rattle.wait_rule.specs.Stays.{with_bit, with_bits, with_wakes}
+use Rattle.wait_rule.specs.Bits.{ClearsBit, SetsBit, StaysBeside, taken_bits}
 use Rattle.wait_rule.proofs.KnownLaws.AfterSteps.{told_added}
-use Rattle.wait_rule.proofs.KnownLaws.CarriedTasks.{clean_owes, owes_clean, published_duty}
+use Rattle.wait_rule.proofs.KnownLaws.Debts.{entries_debts, publish_debts, step_debts}
 
 or_false : (k t : Bool) → t ≡ false → (k || t) ≡ k
 or_false true t is = refl
@@ -58,15 +48,6 @@ held_less true false false is = refl
 held_less false false true is = is
 held_less false false false is = refl
 
--- with no bits this is what the calls carry on
-pub clean_beside : (k : Known) → OwesNothing (told_of k) → OwesBeside no_bits no_excuse k
-unfolding Owes OwesBeside
-clean_beside k o = clean_owes k o
-
-pub beside_clean : (k : Known) → OwesBeside no_bits no_excuse k → OwesNothing (told_of k)
-unfolding Owes OwesBeside
-beside_clean k o = owes_clean k o
-
 -- a test-and-set
 module _ (old new : Known) (w b r : ℕ) (is : new ≡ added old (item.Made (step.Consume (watch.Bit w b) 1 r))) where
   abbrev c : Watch
@@ -92,23 +73,20 @@ module _ (old new : Known) (w b r : ℕ) (is : new ≡ added old (item.Made (ste
     stands = λ slot few e at own. ap (λ (v : Told). v.bits.stored (index old.view.number slot)) set_told ∙ at;
     keeps = λ d other. ap (λ (v : Told). v.bits.keeps d) set_told
         ∙ or_false ((told_of old).bits.keeps d) (clear && same d c) other;
-    clean = clean_beside old;
-    settled = beside_clean new;
   }
 
-  set_owes : (t : Watch → Bool) (x : Excuse) → OwesBeside t x old → OwesBeside (λ d. taken_bits c clear d || t d) x new
-  unfolding OwesBeside
-  set_owes t x o = subst (λ (v : Told). OwesBut (least x) (aside (λ d. taken_bits c clear d || t d) v) × TriesNone v)
-      (sym set_told) (
-        record {
-          unmarked = o.0.unmarked;
-          owes = o.0.owes;
-          unqueued = o.0.unqueued;
-          holds = λ d. held_more (clear && same d c) (t d) ((told_of old).bits.keeps d) (o.0.holds d);
-          tries = λ d. ap (λ (p : Bool). p && not (same d c)) (o.0.tries d);
-        },
-        o.1,
-      )
+  set_owes : (x : Excuse) → Owes x old → Owes (with_bits (taken_bits c clear) x) new
+  unfolding with_bits
+  set_owes x o = record {
+    unmarked = ap (λ (v : Told). v.mark) set_told ∙ o.unmarked;
+    debts = entries_debts x (with_bits (taken_bits c clear) x) new refl
+        (step_debts old new (step.Consume c 1 r) refl is x o.debts);
+    unqueued = λ i. subst (λ (v : Told). IsOutBut (x.entries i) (v.bits.stored i)) (sym set_told) (o.unqueued i);
+    holds = λ d. ap (λ (v : Told). not ((clear && same d c) || x.bits d) && v.bits.keeps d) set_told
+        ∙ held_more (clear && same d c) (x.bits d) ((told_of old).bits.keeps d) (o.holds d);
+    tries = λ d. ap (λ (v : Told). v.bits.pending d) set_told ∙ ap (λ (p : Bool). p && not (same d c)) (o.tries d);
+    tries_none = λ i d. ap (λ (v : Told). is_trying_for (v.bits.stored i) d) set_told ∙ o.tries_none i d;
+  }
 
   pub bit_is_set : SetsBit old new (watch.Bit w b) (was_clear (watch.Bit w b) r)
   bit_is_set = record {
@@ -144,27 +122,19 @@ module _ (old new : Known) (w b r : ℕ) (is : new ≡ added old (item.Made (ste
     stands = λ slot few e at own. ap (λ (v : Told). v.bits.stored (index old.view.number slot)) clear_told ∙ at;
     keeps = λ d other. ap (λ (v : Told). v.bits.keeps d) clear_told
         ∙ and_true ((told_of old).bits.keeps d) (same d d0) other;
-    clean = clean_beside old;
-    settled = beside_clean new;
   }
 
-  clear_owes : (t : Watch → Bool) (x : Excuse) → OwesBeside (also_bit d0 t) x old
-      → OwesBeside t (with_wakes d0 mode.Normal x) new
-  unfolding OwesBeside with_wakes
-  clear_owes t x o = subst (λ (v : Told). OwesBut (least (record {
-    wakes = λ d σ. x.wakes d σ || (same d d0 && meets (mask_of mode.Normal) σ);
-    entries = x.entries;
-  })) (aside t v) × TriesNone v) (sym clear_told) (
-    record {
-      unmarked = o.0.unmarked;
-      owes = λ d σ. published_duty (same d d0) ((told_of old).duty.owes d σ) (x.wakes d σ)
-          (meets (mask_of mode.Normal) σ) (o.0.owes d σ);
-      unqueued = o.0.unqueued;
-      holds = λ d. held_less (same d d0) (t d) ((told_of old).bits.keeps d) (o.0.holds d);
-      tries = o.0.tries;
-    },
-    o.1,
-  )
+  clear_owes : (x : Excuse) → Owes (with_bit d0 x) old → Owes (with_wakes d0 mode.Normal x) new
+  unfolding with_bits with_wakes
+  clear_owes x o = record {
+    unmarked = ap (λ (v : Told). v.mark) clear_told ∙ o.unmarked;
+    debts = publish_debts d0 0 r x old new is (entries_debts (with_bit d0 x) x old refl o.debts);
+    unqueued = λ i. subst (λ (v : Told). IsOutBut (x.entries i) (v.bits.stored i)) (sym clear_told) (o.unqueued i);
+    holds = λ d. ap (λ (v : Told). not (x.bits d) && v.bits.keeps d) clear_told
+        ∙ held_less (same d d0) (x.bits d) ((told_of old).bits.keeps d) (o.holds d);
+    tries = λ d. ap (λ (v : Told). v.bits.pending d) clear_told ∙ o.tries d;
+    tries_none = λ i d. ap (λ (v : Told). is_trying_for (v.bits.stored i) d) clear_told ∙ o.tries_none i d;
+  }
 
   pub bit_is_cleared : ClearsBit old new (watch.Bit w b)
   bit_is_cleared = record {

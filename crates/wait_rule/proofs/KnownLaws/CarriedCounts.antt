@@ -1,5 +1,5 @@
 -- What a task carries on over a store of a done count.
-use Rattle.std.proofs.Common.{◌∙◌, ap, sym, refl, subst}
+use Rattle.std.proofs.Common.{◌∙◌, ap, refl}
 use Rattle.std.specs.Prelude.{ℕ, ◌≡◌, ◌&&◌, ◌||◌, Bool, true, false, if◌then◌else◌}
 use Rattle.wait_model.specs.declared.watches.Watch.{Watch}
 use Rattle.wait_model.specs.declared.watches.Watch.TheVariants as watch
@@ -8,52 +8,29 @@ use Rattle.wait_model.specs.declared.steps.Step.TheVariants as step
 use Rattle.wait_model.specs.Runs.{is_publishing, set_step}
 use Rattle.wait_model.specs.Tasks.{meets}
 use Rattle.wait_model.specs.Watches.{same, mask_of}
-use Rattle.wait_model.specs.Views.{View as Told}
-use Rattle.wait_model.specs.Fold.{after}
 use Rattle.wait_rule.specs.declared.journal.Item.TheVariants as item
 use Rattle.wait_rule.specs.Known.{Known}
-use Rattle.wait_rule.specs.Says.{Excuse, OwesBut, added, told_of}
-use Rattle.wait_rule.specs.Stays.{Owes, least, with_wakes, Carries, unchanged, publish_change}
-use Rattle.wait_rule.proofs.KnownLaws.AfterSteps.{told_added}
-use Rattle.wait_rule.proofs.KnownLaws.CarriedTasks.{owes_more, published_carried, step_carried}
-
-lower_owing : (x : Excuse) (d n r : ℕ) (v : Told) → OwesBut x v → OwesBut x (after (step.Consume (watch.Done d) n r) v)
-lower_owing x d n r v o = record {
-  unmarked = o.unmarked;
-  owes = o.owes;
-  unqueued = o.unqueued;
-  holds = λ c. ap (λ (b : Bool). b || false) (o.holds c);
-  tries = λ c. ap (λ (b : Bool). b && true) (o.tries c);
-}
+use Rattle.wait_rule.specs.Says.{Excuse, Owes, added, told_of}
+use Rattle.wait_rule.specs.Stays.{with_wakes, Carries, unchanged, publish_change}
+use Rattle.wait_rule.proofs.KnownLaws.CarriedTasks.{or_none, owes_more, published_carried, step_carried, step_owing}
 
 lowered_carried : (old new : Known) (d n r : ℕ) → new ≡ added old (item.Made (step.Consume (watch.Done d) n r))
     → Carries unchanged old new
 lowered_carried old new d n r is = step_carried (λ σ. σ) old new (step.Consume (watch.Done d) n r) is
     (ap (λ (k : Known). k.book.awake) is) (ap (λ (k : Known). k.book.state) is) (ap (λ (k : Known). k.book.head) is)
-    refl refl refl refl refl
-    (λ x o. subst (OwesBut x) (sym (ap told_of is ∙ told_added old (item.Made (step.Consume (watch.Done d) n r))))
-    (lower_owing x d n r (told_of old) o))
+    refl refl refl refl refl (λ c. or_none ((told_of old).bits.keeps c))
+    (step_owing old new (step.Consume (watch.Done d) n r) is refl refl (λ i. refl)
+    (λ c. or_none ((told_of old).bits.keeps c)) (λ c none. ap (λ (b : Bool). b && true) none))
 
 -- what changes nothing owes no more than a publish
 or_more : (a b : Bool) → a ≡ true → (a || b) ≡ true
 or_more true b is = refl
 or_more false b is = absurd (cc)
 
-or_in : (a b c : Bool) → (a || c) ≡ true → ((a || b) || c) ≡ true
-or_in true b c is = refl
-or_in false true c is = refl
-or_in false false c is = is
-
 pub excused_more : (c : Watch) (x : Excuse) (k : Known) → Owes x k → Owes (with_wakes c mode.Normal x) k
-unfolding Owes with_wakes
-excused_more c x k o = (
-  owes_more (least x) (least (record {
-    wakes = λ d σ. x.wakes d σ || (same d c && meets (mask_of mode.Normal) σ);
-    entries = x.entries;
-  })) (told_of k)
-      (λ d σ. or_in (x.wakes d σ) (same d c && meets (mask_of mode.Normal) σ) _) refl o.0,
-  o.1,
-)
+unfolding with_wakes
+excused_more c x k o = owes_more x (with_wakes c mode.Normal x) k refl refl
+    (λ d σ. or_more (x.wakes d σ) (same d c && meets (mask_of mode.Normal) σ)) o
 
 pub as_publish : (c : Watch) (old new : Known) → Carries unchanged old new → Carries (publish_change c) old new
 as_publish c old new k = record {
@@ -71,8 +48,7 @@ as_publish c old new k = record {
   out = k.out;
   stands = k.stands;
   owes = λ x o. excused_more c x new (k.owes x o);
-  clean = k.clean;
-  settled = k.settled;
+  keeps = λ d _. k.keeps d refl;
 }
 
 module _ (old new : Known) (d n r : ℕ) (is : new ≡ added old (item.Made (set_step (watch.Done d) n r))) where

@@ -36,15 +36,13 @@ use Rattle.wait_rule.specs.declared.journal.Item.TheVariants as item
 use Rattle.wait_rule.specs.Items.{Book, after_sleep, after_awake, learn_step, steps_of}
 use Rattle.wait_rule.specs.Tickets.{Ticket}
 use Rattle.wait_rule.specs.Known.{Known}
-use Rattle.wait_rule.specs.Says.{Excuse, IsOutBut, OwesBut, OwesNothing, IsAwakeAgain, no_excuse, added, told_of}
+use Rattle.wait_rule.specs.Says.{Debts, Excuse, IsAwakeAgain, IsOutBut, Owes, added, is_excused, told_of}
+use Rattle.wait_rule.proofs.KnownLaws.Debts.{begins_none, publish_debts, step_debts, wakes_after, wakes_debts}
 use Rattle.wait_rule.specs.Queues.{KnewEntry, MayUnqueue, index, saw}
 use Rattle.wait_rule.specs.Stays.{
-  TriesNone,
   Stays,
   StaysOwing,
   no_entries,
-  least,
-  Owes,
   with_entry,
   with_wakes,
   Change,
@@ -58,9 +56,8 @@ use Rattle.wait_rule.specs.Stays.{
 }
 use Rattle.wait_rule.proofs.KnownLaws.AfterSteps.{told_added}
 use Rattle.wait_rule.proofs.TableSteps.ItemLists.{steps_append}
-use Rattle.wait_rule.proofs.KnownLaws.SettledTasks.{owes_after, owes_looks}
+use Rattle.wait_rule.proofs.KnownLaws.SettledTasks.{owes_after, owes_looks, owes_told}
 use Rattle.wait_rule.proofs.KnownLaws.StayingParts.{
-  none_tried,
   stays_bits,
   stays_same,
   stays_owing,
@@ -69,48 +66,28 @@ use Rattle.wait_rule.proofs.KnownLaws.StayingParts.{
   owes_out,
 }
 
--- whoever is excused of more owes no more
-covered : (o x y : Bool) → (x ≡ true → y ≡ true) → (o && not x) ≡ false → (o && not y) ≡ false
-covered false x y more is = refl
-covered true true y more is = ap not (more refl)
-covered true false y more is = absurd (cc)
+-- whoever is excused of more wakes owes no more
+covered : (o x y n : Bool) → (x ≡ true → y ≡ true) → (o && not (x || n)) ≡ false → (o && not (y || n)) ≡ false
+covered false x y n more is = refl
+covered true true y n more is = ap (λ (b : Bool). not (b || n)) (more refl)
+covered true false true n more is = refl
+covered true false false n more is = is
 
-pub owes_more : (x y : Excuse) (v : Told) → ((c : Watch) (σ : ℕ) → x.wakes c σ ≡ true → y.wakes c σ ≡ true)
-    → y.entries ≡ x.entries → OwesBut x v → OwesBut y v
-owes_more x y v more same o = record {
+pub owes_wakes : (x y : Excuse) (k : Known) → y.entries ≡ x.entries → y.bits ≡ x.bits
+    → ((c : Watch) (σ : ℕ) → ((told_of k).duty.owes c σ && not (is_excused y c σ)) ≡ false) → Owes x k → Owes y k
+owes_wakes x y k entries bits wakes o = record {
   unmarked = o.unmarked;
-  owes = λ c σ. covered (v.duty.owes c σ) (x.wakes c σ) (y.wakes c σ) (more c σ) (o.owes c σ);
-  unqueued = λ i. subst (λ (f : ℕ → Bool). IsOutBut (f i) (v.bits.stored i)) (sym same) (o.unqueued i);
-  holds = o.holds;
+  debts = wakes_debts x y k entries wakes o.debts;
+  unqueued = λ i. subst (λ (f : ℕ → Bool). IsOutBut (f i) ((told_of k).bits.stored i)) (sym entries) (o.unqueued i);
+  holds = λ c. ap (λ (f : Watch → Bool). not (f c) && (told_of k).bits.keeps c) bits ∙ o.holds c;
   tries = o.tries;
+  tries_none = o.tries_none;
 }
 
-or_left : (a b : Bool) → a ≡ true → (a || b) ≡ true
-or_left true b is = refl
-or_left false b is = absurd (cc)
-
-or_same : (b : Bool) → (b || b) ≡ true → b ≡ true
-or_same true is = refl
-or_same false is = is
-
--- what the one word means for a task that owes nothing
-pub clean_owes : (k : Known) → OwesNothing (told_of k) → Owes no_excuse k
-unfolding Owes
-clean_owes k o = (
-  owes_more no_excuse (least no_excuse) (told_of k)
-      (λ c σ. or_left (not (meets (mask_of mode.Normal) σ)) (not (meets (mask_of mode.Normal) σ))) refl o,
-  none_tried (told_of k) o,
-)
-
-pub owes_clean : (k : Known) → Owes no_excuse k → OwesNothing (told_of k)
-unfolding Owes
-owes_clean k o = owes_more (least no_excuse) no_excuse (told_of k)
-    (λ c σ. or_same (not (meets (mask_of mode.Normal) σ))) refl o.0
-
-pub owes_on : (old new : Known) → (TriesNone (told_of old) → TriesNone (told_of new))
-    → (TriesNone (told_of old) → StaysOwing old new) → (x : Excuse) → Owes x old → Owes x new
-unfolding Owes
-owes_on old new none owing x o = (owing o.1 (least x) o.0, none o.1)
+pub owes_more : (x y : Excuse) (k : Known) → y.entries ≡ x.entries → y.bits ≡ x.bits
+    → ((c : Watch) (σ : ℕ) → x.wakes c σ ≡ true → y.wakes c σ ≡ true) → Owes x k → Owes y k
+owes_more x y k entries bits more o = owes_wakes x y k entries bits (λ c σ. covered ((told_of k).duty.owes c σ)
+    (x.wakes c σ) (y.wakes c σ) (not (meets (mask_of mode.Normal) σ)) (more c σ) (o.debts.wakes c σ)) o
 
 -- where entries stay, but for the state and the head
 still_out : (now was : Option Entry) → (now ≡ was) ⊎ (now ≡ None) → was ≡ None → now ≡ None
@@ -144,9 +121,8 @@ stays_carried head ticket at looks old new s held out hold last mark fewer store
   stored = λ x none _. stored x none;
   out = λ x _ none. still_out _ _ (s.still x refl) none;
   stands = λ slot few _ e is own. s.stands slot few refl e is own;
-  owes = owes_on old new s.tries_none (stays_owing old new s mark fewer);
-  clean = clean_owes old;
-  settled = owes_clean new;
+  keeps = λ d _. s.keeps d;
+  owes = stays_owing old new s mark;
 }
 
 -- by a history whose entries stay
@@ -154,9 +130,11 @@ pub told_carried : (state : ℕ → ℕ) (old new : Known) → new.domain ≡ ol
     → new.book.awake ≡ old.book.awake → new.book.state ≡ state old.book.state → new.book.head ≡ old.book.head
     → new.book.ticket ≡ old.book.ticket
     → (told_of new).hold.head ≡ (told_of old).hold.head → new.at ≡ old.at → (told_of new).mark ≡ (told_of old).mark
-    → (told_of new).duty.owes ≡ (told_of old).duty.owes → (told_of new).bits.stored ≡ (told_of old).bits.stored
+    → ((c : Watch) (σ : ℕ) → (told_of old).duty.owes c σ ≡ false → (told_of new).duty.owes c σ ≡ false)
+    → (told_of new).bits.stored ≡ (told_of old).bits.stored
+    → ((c : Watch) → (told_of new).bits.keeps c ≡ (told_of old).bits.keeps c)
     → StaysOwing old new → Carries (moving state (λ h. h) (λ h. h)) old new
-told_carried state old new domain number awake is_state head ticket hold at mark duty stored owing = record {
+told_carried state old new domain number awake is_state head ticket hold at mark fewer stored keeps owing = record {
   domain = domain;
   number = number;
   awake = awake;
@@ -166,14 +144,12 @@ told_carried state old new domain number awake is_state head ticket hold at mark
   hold = hold;
   at = at;
   mark = mark;
-  fewer = λ w σ _ is. (λ i. duty i w σ) ∙ is;
+  fewer = λ w σ _ is. fewer w σ is;
   stored = λ x _ _. λ i. stored i x;
   out = λ x _ none. (λ i. stored i x) ∙ none;
   stands = λ slot few _ e is own. (λ i. stored i (index old.view.number slot)) ∙ is;
-  owes = owes_on old new (λ none x c. ap (λ (f : ℕ
-      → Option Entry). is_trying_for (f x) c) stored ∙ none x c) (λ _. owing);
-  clean = clean_owes old;
-  settled = owes_clean new;
+  keeps = λ d _. keeps d;
+  owes = owing;
 }
 
 -- one step more
@@ -181,15 +157,16 @@ pub step_carried : (state : ℕ → ℕ) (old new : Known) (e : Step) → new �
     → new.book.awake ≡ old.book.awake → new.book.state ≡ state old.book.state → new.book.head ≡ old.book.head
     → (learn_step e old.book).ticket ≡ old.book.ticket
     → (after e (told_of old)).hold.head ≡ (told_of old).hold.head → (after e (told_of old)).mark ≡ (told_of old).mark
-    → (after e (told_of old)).duty.owes ≡ (told_of old).duty.owes
-    → (after e (told_of old)).bits.stored ≡ (told_of old).bits.stored → StaysOwing old new
+    → begins_none e ≡ true
+    → (after e (told_of old)).bits.stored ≡ (told_of old).bits.stored
+    → ((c : Watch) → (after e (told_of old)).bits.keeps c ≡ (told_of old).bits.keeps c) → StaysOwing old new
     → Carries (moving state (λ h. h) (λ h. h)) old new
-step_carried state old new e is awake now head ticket hold mark duty stored owing = told_carried state old new
+step_carried state old new e is awake now head ticket hold mark quiet stored keeps owing = told_carried state old new
     (ap (λ (k : Known). k.domain) is) (ap (λ (k : Known). k.view.number) is) awake now head
     (ap (λ (k : Known). k.book.ticket) is ∙ ticket)
     (ap (λ (v : Told). v.hold.head) told ∙ hold) (ap (λ (k : Known). k.at) is) (ap (λ (v : Told). v.mark) told ∙ mark)
-    (ap (λ (v : Told). v.duty.owes) told ∙ duty)
-    (ap (λ (v : Told). v.bits.stored) told ∙ stored) owing
+    (λ c σ none. ap (λ (v : Told). v.duty.owes c σ) told ∙ wakes_after e (told_of old) quiet c σ none)
+    (ap (λ (v : Told). v.bits.stored) told ∙ stored) (λ c. ap (λ (v : Told). v.bits.keeps c) told ∙ keeps c) owing
   where
     told : told_of new ≡ after e (told_of old)
     told = ap told_of is ∙ told_added old (item.Made e)
@@ -218,9 +195,8 @@ unchanged_on x y z a b = record {
       (b.stands slot few refl e
       (subst (λ (m : ℕ). (told_of y).bits.stored (index m slot) ≡ Some e) (sym a.number)
       (a.stands slot few p e is own)) own);
+  keeps = λ d p. b.keeps d p ∙ a.keeps d p;
   owes = λ f o. b.owes f (a.owes f o);
-  clean = a.clean;
-  settled = b.settled;
 }
 
 -- a sleep
@@ -247,7 +223,7 @@ stayed_carried old new w is up =
     step_carried (λ _. 0) old new (step.Sleep w) is (ap (λ (k : Known). k.book.awake) is ∙ by.1)
     (ap (λ (k : Known). k.book.state) is ∙ by.0)
     (ap (λ (k : Known). k.book.head) is ∙ slept_head (sleep_of (task_of w)) old.book)
-    (slept_ticket (sleep_of (task_of w)) old.book) refl refl refl refl
+    (slept_ticket (sleep_of (task_of w)) old.book) refl refl refl refl (λ c. refl)
     (owes_after old new (step.Sleep w) refl is)
 
 pub risen_owing : (old mid new : Known) (w : ℕ) → mid ≡ added old (item.Made (step.Sleep w)) → IsAwakeAgain mid new
@@ -267,7 +243,8 @@ risen_carried old mid new w up is h = told_carried (λ _. 0) old new
     (ap (λ (k : Known). k.book.ticket) h.is
     ∙ (ap (λ (k : Known). k.book.ticket) is ∙ slept_ticket (sleep_of (task_of w)) old.book))
     (ap (λ (v : Told). v.hold.head) told) (ap (λ (k : Known). k.at) h.is ∙ ap (λ (k : Known). k.at) is)
-    (ap (λ (v : Told). v.mark) told) (ap (λ (v : Told). v.duty.owes) told) (ap (λ (v : Told). v.bits.stored) told)
+    (ap (λ (v : Told). v.mark) told) (λ c σ none. ap (λ (v : Told). v.duty.owes c σ) told ∙ none)
+    (ap (λ (v : Told). v.bits.stored) told) (λ c. ap (λ (v : Told). v.bits.keeps c) told)
     (risen_owing old mid new w is h)
   where
     told : told_of new ≡ told_of old
@@ -275,68 +252,64 @@ risen_carried old mid new w up is h = told_carried (λ _. 0) old new
         ∙ (ap (λ (es : List Step). steps_of mid.view.items ++ es) h.no_steps ∙ append-nil (steps_of mid.view.items)))
         ∙ (ap told_of is ∙ told_added old (item.Made (step.Sleep w))))
 
--- loads and stores of conditions
-load_owing : (x : Excuse) (l : Watch) (r : ℕ) (v : Told) → OwesBut x v → OwesBut x (after (step.Load l r) v)
-load_owing x l r v o = record {
-  unmarked = o.unmarked;
-  owes = o.owes;
-  unqueued = o.unqueued;
-  holds = o.holds;
-  tries = λ c. ap (λ (b : Bool). b && not (failing l r c)) (o.tries c);
-}
+-- One step that begins no debt: entries and kept bits stay, and it tries no bit that it did not try.
+pub step_owing : (old new : Known) (e : Step) → new ≡ added old (item.Made e) → begins_none e ≡ true
+    → (after e (told_of old)).mark ≡ (told_of old).mark
+    → ((i : ℕ) → (after e (told_of old)).bits.stored i ≡ (told_of old).bits.stored i)
+    → ((c : Watch) → (after e (told_of old)).bits.keeps c ≡ (told_of old).bits.keeps c)
+    → ((c : Watch) → (told_of old).bits.pending c ≡ false → (after e (told_of old)).bits.pending c ≡ false)
+    → StaysOwing old new
+step_owing old new e is quiet mark stored keeps pending = owes_told old new (ap (λ (v : Told). v.mark) told ∙ mark)
+    (λ i. ap (λ (v : Told). v.bits.stored i) told ∙ stored i) (λ c. ap (λ (v : Told). v.bits.keeps c) told ∙ keeps c)
+    (λ c none. ap (λ (v : Told). v.bits.pending c) told ∙ pending c none) (step_debts old new e quiet is)
+  where
+    told : told_of new ≡ after e (told_of old)
+    told = ap told_of is ∙ told_added old (item.Made e)
 
+pub or_none : (b : Bool) → (b || false) ≡ b
+or_none true = refl
+or_none false = refl
+
+-- loads and stores of conditions
 pub loaded_carried : (old new : Known) (l : Watch) (r : ℕ) → new ≡ added old (item.Made (step.Load l r))
     → Carries unchanged old new
 loaded_carried old new l r is = step_carried (λ σ. σ) old new (step.Load l r) is (ap (λ (k : Known). k.book.awake) is)
-    (ap (λ (k : Known). k.book.state) is) (ap (λ (k : Known). k.book.head) is) refl refl refl refl refl
-    (λ x o. subst (OwesBut x) (sym (ap told_of is ∙ told_added old (item.Made (step.Load l r))))
-    (load_owing x l r (told_of old) o))
-
-consume_owing : (x : Excuse) (c n r : ℕ) (v : Told) → OwesBut x v → OwesBut x
-    (after (step.Consume (watch.Plain c) n r) v)
-consume_owing x c n r v o = record {
-  unmarked = o.unmarked;
-  owes = o.owes;
-  unqueued = o.unqueued;
-  holds = λ d. ap (λ (b : Bool). b || false) (o.holds d);
-  tries = λ d. ap (λ (b : Bool). b && true) (o.tries d);
-}
+    (ap (λ (k : Known). k.book.state) is) (ap (λ (k : Known). k.book.head) is) refl refl refl refl refl (λ c. refl)
+    (step_owing old new (step.Load l r) is refl refl (λ i. refl) (λ c. refl)
+    (λ c none. ap (λ (b : Bool). b && not (failing l r c)) none))
 
 pub consumed_carried : (old new : Known) (c n r : ℕ) → new ≡ added old (item.Made (step.Consume (watch.Plain c) n r))
     → Carries unchanged old new
 consumed_carried old new c n r is = step_carried (λ σ. σ) old new (step.Consume (watch.Plain c) n r) is
     (ap (λ (k : Known). k.book.awake) is) (ap (λ (k : Known). k.book.state) is) (ap (λ (k : Known). k.book.head) is)
-    refl refl refl refl refl
-    (λ x o. subst (OwesBut x) (sym (ap told_of is ∙ told_added old (item.Made (step.Consume (watch.Plain c) n r))))
-    (consume_owing x c n r (told_of old) o))
+    refl refl refl refl refl (λ d. or_none ((told_of old).bits.keeps d))
+    (step_owing old new (step.Consume (watch.Plain c) n r) is refl refl (λ i. refl)
+    (λ d. or_none ((told_of old).bits.keeps d)) (λ d none. ap (λ (b : Bool). b && true) none))
 
--- a publish makes the task owe wakes of its watch, and no others
-pub published_duty : (s o x m : Bool) → (o && not (x || not m)) ≡ false → ((s || o) && not ((x || (s && m)) || not m))
-    ≡ false
-published_duty false o true m is = is
-published_duty false o false m is = is
-published_duty true o true m is = refl
-published_duty true o false true is = refl
-published_duty true o false false is = refl
+-- a publish makes the task owe wakes of its watch, and no others; a bit that it clears it keeps no more
+kept_less : (b k s : Bool) → (b && k) ≡ false → (b && (k && not s)) ≡ false
+kept_less false k s is = refl
+kept_less true false s is = refl
+kept_less true true s is = absurd (cc)
 
-published_owes : (c : Watch) (n r : ℕ) (x : Excuse) (old new : Known) → told_of new ≡ after (step.Publish c n r)
-    (told_of old)
+kept_still : (k s : Bool) → s ≡ false → (k && not s) ≡ k
+kept_still true s is = ap not is
+kept_still false s is = refl
+
+published_owes : (c : Watch) (n r : ℕ) (x : Excuse) (old new : Known) → new ≡ added old (item.Made (step.Publish c n r))
     → Owes x old → Owes (with_wakes c mode.Normal x) new
-unfolding Owes with_wakes
-published_owes c n r x old new told o = subst (λ (v : Told). OwesBut (least (record {
-  wakes = λ d σ. x.wakes d σ || (same d c && meets (mask_of mode.Normal) σ);
-  entries = x.entries;
-})) v × TriesNone v) (sym told) (
-  record {
-    unmarked = o.0.unmarked;
-    owes = λ d σ. published_duty (same d c) ((told_of old).duty.owes d σ) (x.wakes d σ)
-        (meets (mask_of mode.Normal) σ) (o.0.owes d σ);
-    unqueued = o.0.unqueued;
-    holds = λ d. ap (λ (b : Bool). b && not (same d c)) (o.0.holds d);
-    tries = o.0.tries;
-  },
-  o.1,
-)
+unfolding with_wakes
+published_owes c n r x old new is o =
+    let told : told_of new ≡ after (step.Publish c n r) (told_of old) = ap told_of is
+    ∙ told_added old (item.Made (step.Publish c n r)) in record {
+      unmarked = ap (λ (v : Told). v.mark) told ∙ o.unmarked;
+      debts = publish_debts c n r x old new is o.debts;
+      unqueued = λ i. subst (λ (v : Told). IsOutBut (x.entries i) (v.bits.stored i)) (sym told) (o.unqueued i);
+      holds = λ d. ap (λ (v : Told). not (x.bits d) && v.bits.keeps d) told
+          ∙ kept_less (not (x.bits d)) ((told_of old).bits.keeps d) (same d c) (o.holds d);
+      tries = λ d. ap (λ (v : Told). v.bits.pending d) told ∙ o.tries d;
+      tries_none = λ i d. ap (λ (v : Told). is_trying_for (v.bits.stored i) d) told ∙ o.tries_none i d;
+    }
 
 pub published_carried : (old new : Known) (c : Watch) (n r : ℕ) → new ≡ added old (item.Made (step.Publish c n r))
     → Carries (publish_change c) old new
@@ -355,9 +328,9 @@ published_carried old new c n r is = record {
   stored = λ x _ _. ap (λ (v : Told). v.bits.stored x) told;
   out = λ x _ none. ap (λ (v : Told). v.bits.stored x) told ∙ none;
   stands = λ slot few _ e at own. ap (λ (v : Told). v.bits.stored (index old.view.number slot)) told ∙ at;
-  owes = λ x. published_owes c n r x old new told;
-  clean = clean_owes old;
-  settled = owes_clean new;
+  keeps = λ d other. ap (λ (v : Told). v.bits.keeps d) told
+      ∙ kept_still ((told_of old).bits.keeps d) (same d c) other;
+  owes = λ x. published_owes c n r x old new is;
 }
   where
     told : told_of new ≡ after (step.Publish c n r) (told_of old)
@@ -368,7 +341,8 @@ pub scan_carried : (old new : Known) (h i w : ℕ) → new ≡ added old (item.M
     → Carries unchanged old new
 scan_carried old new h i w is = stays_carried (λ o. o) (λ t. t) (λ o. o) false old new
     (stays_bits old new (ap (λ (k : Known). k.domain) is) (ap (λ (k : Known). k.view.number) is)
-    (ap (λ (k : Known). k.book.state) is) (ap (λ (k : Known). k.book.awake) is) (ap (λ (v : Told). v.bits) told))
+    (ap (λ (k : Known). k.book.state) is) (ap (λ (k : Known). k.book.awake) is) (ap (λ (v : Told). v.bits) told)
+    (step_debts old new (step.Scan h i w) refl is))
     (ap (λ (k : Known). k.book.head) is) (ap (λ (k : Known). k.book.ticket) is)
     (ap (λ (v : Told). v.hold.head) told) (ap (λ (k : Known). k.at) is) (ap (λ (v : Told). v.mark) told)
     (λ c σ none. ap (λ (v : Told). v.duty.owes c σ) told
@@ -412,12 +386,14 @@ on_entry : (o : Option Entry) → is_on o ≡ true → (e : Entry) × (o ≡ Som
 on_entry None is = absurd (cc)
 on_entry (Some e) is = (e, refl)
 
-off_owes : (i : ℕ) (x : Excuse) (k : Known) → (told_of k).bits.stored i ≡ None → Owes (with_entry i x) k → Owes x k
-unfolding Owes with_entry
-off_owes i x k none o = (owes_out i (least x) (told_of k) o.0 none, o.1)
+saw_begins_none : (o : Option ℕ) (x w : ℕ) → begins_none (saw o x w) ≡ true
+saw_begins_none None x w = refl
+saw_begins_none (Some h) x w = refl
 
-pub entry_off : (i : ℕ) (x : Excuse) (k : Known) → (told_of k).bits.stored i ≡ None → Owes (with_entry i x) k → Owes x k
-entry_off i x k none o = off_owes i x k none o
+-- a look at an entry word leaves the debts
+pub saw_debts : (old new : Known) (x w : ℕ) → new ≡ added old (item.Made (saw old.book.head x w)) → (f : Excuse)
+    → Debts f old → Debts f new
+saw_debts old new x w = step_debts old new (saw old.book.head x w) (saw_begins_none old.book.head x w)
 
 module _ (old new : Known) (who slot w : ℕ) (is : new ≡ added old (item.Made (saw old.book.head (index who slot) w)))
     (knew : KnewEntry old (index who slot) w) where
@@ -434,7 +410,7 @@ module _ (old new : Known) (who slot w : ℕ) (is : new ≡ added old (item.Made
   entry_carried = stays_carried (λ h. h) (λ t. t) (λ h. h) true old new
       (look_stays old new (index who slot) w knew (ap (λ (k : Known). k.domain) is)
       (ap (λ (k : Known). k.view.number) is)
-      entry_book entry_bits)
+      entry_book entry_bits (saw_debts old new (index who slot) w is))
       (ap (λ (b : Book). b.head) entry_book) (ap (λ (b : Book). b.ticket) entry_book)
       (ap (λ (v : Told). v.hold.head) entry_told ∙ saw_hold old.book.head (index who slot) w (told_of old))
       (ap (λ (k : Known). k.at) is)
@@ -468,6 +444,6 @@ module _ (old new : Known) (who slot w : ℕ) (is : new ≡ added old (item.Made
   entry_finds = record {
     may = entry_may;
     gone = entry_gone;
-    off = λ none x o. entry_off (index who slot) x new (entry_gone none)
+    off = λ none x o. owes_out (index who slot) x new (entry_gone none)
         (entry_carried.owes (with_entry (index who slot) x) o);
   }

@@ -1,9 +1,10 @@
 -- What a task's own steps leave of permits, by the orders of steps that lead to them.
-use Rattle.std.proofs.Common.{refl, sym, ◌∙◌, ap, subst, append_assoc, append-nil, inl, inr}
+use Rattle.std.proofs.Common.{refl, sym, ◌∙◌, ap, subst, arith, append_assoc, append-nil, inl, inr}
 use Rattle.std.specs.Prelude.{
   ℕ,
   ◌≡◌,
   ◌≢◌,
+  ◌<◌,
   ◌⊎◌,
   ◌==◌,
   Bool,
@@ -18,6 +19,7 @@ use Rattle.std.specs.Prelude.{
   ◌∷◌,
   ◌++◌,
 }
+use Rattle.wait_model.specs.declared.layout.TheConstants.{FIRST_DONE_HEAD}
 use Rattle.wait_model.specs.declared.steps.Step.{Step}
 use Rattle.wait_model.specs.declared.steps.Step.TheVariants as step
 use Rattle.wait_model.specs.declared.watches.Entry.{Entry}
@@ -37,19 +39,12 @@ use Rattle.wait_model.proofs.PermitLaws.OwnTurns.{clash, deals_snoc, in_is}
 use Rattle.wait_model.proofs.PermitLaws.PermitTurns.{and_left, and_right, not_unseen, seen_shows}
 use Rattle.wait_model.proofs.StepLaws.UnlockSteps.{unlock_hold}
 use Rattle.wait_model.proofs.WordLaws.DecodedWords.{owner_own}
-use Rattle.wait_rule.specs.HandedPermits.{AreHanded}
-use Rattle.wait_rule.specs.Interleavings.{AreAllowed, TaskStep, table_of}
-use Rattle.wait_rule.proofs.KnownLaws.HandedPermits.{accounted_of}
+use Rattle.wait_rule.specs.HandedPermits.{Order}
+use Rattle.wait_rule.specs.Interleavings.{AreAllowed, AreHanded, TaskStep, table_of}
+use Rattle.wait_rule.proofs.KnownLaws.HandedPermits.{accounted_of, none_done}
 use Rattle.wait_rule.proofs.KnownLaws.Moments.{kept_of, views_of}
 
--- An order of steps that meet their conditions, after which a task's history is this one; and where one more step of
--- the task follows it there.
-pub record Order (a : ℕ) (front : List Step) : Type 0 where
-  pub steps : List TaskStep
-  pub may : AreAllowed steps
-  pub on : AreHanded steps
-  pub is : (table_of steps).history a ≡ front
-
+-- where one more step of the task follows such an order
 pub record OrderStep (a : ℕ) (front : List Step) (e : Step) : Type 0 where
   pub order : Order a front
   pub allowed : Allowed (table_of order.steps) a e
@@ -155,10 +150,17 @@ off_there d a front o w = by (stands_at (s.entry (own a)) (done_head d)) refl
           (ap (λ (l : List Step). (dealt d a l).left) o.is ∙ w.left)
     ])
 
--- One more step leaves it so, unless it queues an entry.
-abbrev pub AddsNone : Step → Type 0
-AddsNone (step.Queue x e) = ⊥
-AddsNone e = Unit {0}
+-- One more step leaves it so, unless it queues an entry at a completion.
+abbrev pub AddsLow : Step → Type 0
+AddsLow (step.Queue x e) = head_of e.watch < FIRST_DONE_HEAD
+AddsLow e = Unit {0}
+
+low_apart : (d h : ℕ) → h < FIRST_DONE_HEAD → (h == done_head d) ≡ false
+low_apart d h low = by (h == done_head d) refl
+  where
+    by : (b : Bool) → (h == done_head d) ≡ b → (h == done_head d) ≡ false
+    by false q = q
+    by true q = absurd (none_done h d low (grind (arith, q)))
 
 abbrev SeesAway : ℕ → ℕ → Step → Type 0
 SeesAway d x (step.Saw y w) = x ≡ y → stands_at (entry_of w) (done_head d) ≡ false
@@ -173,7 +175,7 @@ look_away h (Some i) (Some e) none = by (head_of e.watch == i)
     by true = none
     by false = refl
 
-away_after : (d x : ℕ) (v : View) (w : Dealt) (e : Step) → AddsNone e → SeesAway d x e → IsAway d x v w
+away_after : (d x : ℕ) (v : View) (w : Dealt) (e : Step) → AddsLow e → SeesAway d x e → IsAway d x v w
     → IsAway d x (after e v) (deals d x v w e)
 away_after d x v w (step.Lock h aim f) none sees a = record { left = a.left; away = refl }
 away_after d x v w (step.Unlock i sp) none sees a = record {
@@ -193,7 +195,11 @@ away_after d x v w (step.Unqueue y) none sees a = record {
   left = a.left;
   away = put_at (λ (l : Look). shows_at (done_head d) l ≡ false) v.hold.book y off x (λ _. refl) (λ _. a.away);
 }
-away_after d x v w (step.Queue y e) none sees a = absurd none
+away_after d x v w (step.Queue y e) low sees a = record {
+  left = a.left;
+  away = put_at (λ (l : Look). shows_at (done_head d) l ≡ false) v.hold.book y (shown e) x
+      (λ _. low_apart d (head_of e.watch) low) (λ _. a.away);
+}
 away_after d x v w e none sees a = record { left = a.left; away = a.away }
 
 -- what is known after one more step of a history
@@ -204,7 +210,7 @@ away_more d a front e w = subst (λ (v : View). IsAway d (own a) v (dealt d a (f
     (sym (after_snoc blank front e))
     (subst (IsAway d (own a) (after e (view_of front))) (sym (deals_snoc d (own a) blank none_dealt front e)) w)
 
-pub away_next : (d a : ℕ) (front : List Step) (e : Step) → OrderStep a front e → AddsNone e → IsAwayAt d a front
+pub away_next : (d a : ℕ) (front : List Step) (e : Step) → OrderStep a front e → AddsLow e → IsAwayAt d a front
     → IsAwayAt d a (front ++ e ∷ [])
 away_next d a front e o none w = away_more d a front e (away_after d (own a) (view_of front) (dealt d a front) e none
     (by e o) w)
@@ -214,11 +220,11 @@ away_next d a front e o none w = away_more d a front e (away_after d (own a) (vi
         (o.allowed ∙ ap (table_of o.order.steps).entry (sym q)) ∙ off_there d a front o.order w
     by e o = tt
 
-abbrev pub AllAddNone : List Step → Type 0
-AllAddNone [] = Unit {0}
-AllAddNone (e ∷ es) = AddsNone e × AllAddNone es
+abbrev pub AllAddLow : List Step → Type 0
+AllAddLow [] = Unit {0}
+AllAddLow (e ∷ es) = AddsLow e × AllAddLow es
 
-pub away_all : (d a : ℕ) (front es : List Step) → Order a (front ++ es) → AllAddNone es → IsAwayAt d a front
+pub away_all : (d a : ℕ) (front es : List Step) → Order a (front ++ es) → AllAddLow es → IsAwayAt d a front
     → IsAwayAt d a (front ++ es)
 away_all d a front [] o none w = subst (IsAwayAt d a) (sym (append-nil front)) w
 away_all d a front (e ∷ es) o none w = subst (IsAwayAt d a) (append_assoc front (e ∷ []) es)

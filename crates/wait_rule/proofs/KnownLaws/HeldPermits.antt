@@ -46,12 +46,14 @@ use Rattle.wait_model.specs.Watches.{head_of, stands_at}
 use Rattle.wait_model.specs.Words.{entry_of, flag}
 use Rattle.wait_model.proofs.HistoryLaws.HoldLooks.{after_snoc}
 use Rattle.wait_model.proofs.PermitLaws.OwnTurns.{clash, deals_snoc}
-use Rattle.wait_rule.specs.HandedPermits.{HandsAt, HandsFrom}
+use Rattle.wait_rule.specs.HandedPermits.{Order, OrderOf, OwesNoPermit, dealt_of}
 use Rattle.wait_rule.specs.Interleavings.{table_of}
+use Rattle.wait_rule.specs.Known.{Known}
+use Rattle.wait_rule.specs.Says.{history_of, told_of}
+use Rattle.wait_rule.proofs.KnownLaws.HandedPermits.{cell_is}
 use Rattle.wait_rule.proofs.KnownLaws.HandedSteps.{
-  AddsNone,
+  AddsLow,
   IsAwayAt,
-  Order,
   OrderStep,
   away_next,
   off_there,
@@ -93,7 +95,7 @@ inside_head v (step.Unlock h sp) is = absurd is
 inside_head v (step.Queue x e) is = absurd is
 inside_head v e is = refl
 
-inside_adds : (e : Step) → IsInside e → AddsNone e
+inside_adds : (e : Step) → IsInside e → AddsLow e
 inside_adds (step.Queue x e) is = absurd is
 inside_adds e is = tt
 
@@ -188,46 +190,16 @@ owing_lock d a front h aim w is o k = record {
     same : (i j : ℕ) → i ≡ j → (i == j) ≡ true
     same i j q = grind (arith, q)
 
--- the heads of two completions are two
-pub head_apart : (c d : ℕ) → done_head d ≡ done_head c → d ≡ c
-unfolding head_of
-head_apart c d same = omega (arith, same)
-
--- an unlock of a hold that owes nothing, or that has seen nobody queued
-pub unlock_hands : (d a : ℕ) (front : List Step) (h : ℕ) (sp : Bool) → h ≡ done_head d
-    → ((o : Order a front) → (n : ℕ) × Owing d a front n × ((n ≡ 0) ⊎ ShowsNobody (done_head d) (view_of front)))
-    → HandsAt a front (step.Unlock h sp)
-unlock_hands d a front h sp is owes xs may on made al c here = subst
-    (λ (i : ℕ). MayGiveBack i (own a) ((table_of xs).view a) (dealt i a ((table_of xs).history a)))
-    (head_apart c d (sym is ∙ here))
-    (subst (λ (v : View). MayGiveBack d (own a) v (dealt d a ((table_of xs).history a))) (sym (order_view a front o))
-    (subst (λ (l : List Step). MayGiveBack d (own a) (view_of front) (dealt d a l)) (sym made) give))
+-- a hold that owes nothing, or that has seen nobody queued, may end
+pub owes_none : (d : ℕ) (k : Known) → k.at ≡ done_head d
+    → (OrderOf k → (n : ℕ) × Owing d k.view.number (history_of k) n × ((n ≡ 0) ⊎ ShowsNobody (done_head d) (told_of k)))
+    → OwesNoPermit k
+owes_none d k at owes = inr (λ o. subst (λ (i : ℕ). MayGiveBack i (own k.view.number) (told_of k) (dealt_of i k))
+    (sym (cell_is k.at d at)) (give o))
   where
-    o : Order a front
-    o = record { steps = xs; may = may; on = on; is = made }
-
-    give : MayGiveBack d (own a) (view_of front) (dealt d a front)
-    give =
-        let k = owes o in (
-          λ left. absurd (clash (dealt d a front).left left k.1.away.left),
-          (elim k.2 [ inl none ↦ inl (k.1.debt ∙ none) | inr nobody ↦ inr nobody ]),
+    give : OrderOf k → MayGiveBack d (own k.view.number) (told_of k) (dealt_of d k)
+    give o =
+        let w = owes o in (
+          λ left. absurd (clash (dealt_of d k).left left w.1.away.left),
+          (elim w.2 [ inl none ↦ inl (w.1.debt ∙ none) | inr nobody ↦ inr nobody ]),
         )
-
--- steps that give no lock back and queue nothing have no condition
-abbrev pub IsQuiet : Step → Type 0
-IsQuiet (step.Unlock h sp) = ⊥
-IsQuiet (step.Queue x e) = ⊥
-IsQuiet e = Unit {0}
-
-abbrev pub AreQuiet : List Step → Type 0
-AreQuiet [] = Unit {0}
-AreQuiet (e ∷ es) = IsQuiet e × AreQuiet es
-
-quiet_hands : (a : ℕ) (front : List Step) (e : Step) → IsQuiet e → HandsAt a front e
-quiet_hands a front (step.Unlock h sp) is = absurd is
-quiet_hands a front (step.Queue x e) is = absurd is
-quiet_hands a front e is = λ xs may on made al d. tt
-
-pub all_quiet : (a : ℕ) (front es : List Step) → AreQuiet es → HandsFrom a front es
-all_quiet a front [] is = tt
-all_quiet a front (e ∷ es) is = (quiet_hands a front e is.0, all_quiet a (front ++ e ∷ []) es is.1)

@@ -35,7 +35,7 @@ use Rattle.wait_model.specs.declared.tasks.Sleep.TheVariants as sleep
 use Rattle.wait_model.specs.Tasks.{task_of, sleep_of}
 use Rattle.wait_model.specs.Functions.{put}
 use Rattle.wait_model.specs.declared.watches.Watch.{Watch}
-use Rattle.wait_model.specs.Watches.{head_of, is_bit, was_clear, owner, stands_at}
+use Rattle.wait_model.specs.Watches.{head_of, is_bit, was_clear, owner, stands_at, is_page, page, word_of}
 use Rattle.wait_model.specs.Watches.{same as same_watch}
 use Rattle.wait_model.specs.Views.{View as Told}
 use Rattle.wait_model.specs.Fold.{after, is_held}
@@ -49,6 +49,9 @@ use Rattle.wait_rule.specs.Items.{
   nothing,
   at_entry,
   at_mark,
+  page_taken,
+  page_told,
+  after_try,
   Book,
   first_book,
   learn_step,
@@ -57,19 +60,42 @@ use Rattle.wait_rule.specs.Items.{
   book_of,
 }
 use Rattle.wait_rule.specs.Notes.{is_at}
+use Rattle.wait_rule.specs.Pages.{uses_flag, IsPageless}
 use Rattle.wait_rule.specs.Tickets.{served}
 use Rattle.wait_rule.specs.MemberWords.{names, index_named, is_put, all_differences, AreMembers}
 use Rattle.wait_rule.proofs.TableSteps.ItemLists.{book_append}
 
+-- no page is taken for the task, and no entry of its own for a page stands
+pub record AsksNone (s : Table) (a : ℕ) : Type 0 where
+  pub taken : (x : ℕ) → owner x ≡ a → s.taken x ≡ None
+  pub none : (x : ℕ) (e : Entry) → owner x ≡ a → s.entry x ≡ Some e → is_page e.kind ≡ false
+
+-- the task may queue an entry that waits by its flag word; one of kind Page is for a page
+pub record MayAsk (s : Table) (a : ℕ) (e : Entry) : Type 0 where
+  pub asks_none : uses_flag e.kind ≡ true → AsksNone s a
+  pub watch : is_page e.kind ≡ true → e.watch ≡ page (word_of e.watch)
+
+-- an entry for a page that stands is the task's own
+abbrev pub IsOwnPage : Table → ℕ → ℕ → Type 0
+IsOwnPage s a x = (e : Entry) → s.entry x ≡ Some e → is_page e.kind ≡ true → owner x ≡ a
+
 -- What the calls' steps keep of members and tickets: a word is stored, and a lock given back, where no word differs
 -- from its bit; a bookmark that is put or taken out is of the head that the task holds; a watch is tested in a hold
 -- where no word differs from its bit, as a bit is by a test-and-set; and a lock is taken by a ticket that was read as
--- served.
+-- served. Where a page was taken for a task, the hold tells it and takes its entry off before it does any of these; an
+-- entry that waits by its flag word is queued by a task that asks for no page, and a flag word is cleared by a task
+-- that has no entry for a page there.
 abbrev pub IsOrderly : Table → ℕ → Step → Book → Type 0
 IsOrderly s a (step.Lock h aim w) b = (n : ℕ) × (b.ticket ≡ served h n)
 IsOrderly s a (step.Unlock h sp) b = b.differs ≡ nothing
-IsOrderly s a (step.Queue x e) b = b.differs ≡ nothing
-IsOrderly s a (step.Unqueue x) b = (b.differs ≡ nothing) × (x < ENTRIES)
+IsOrderly s a (step.Queue x e) b = (b.differs ≡ nothing) × MayAsk s a e
+IsOrderly s a (step.Unqueue x) b = (((b.differs ≡ nothing) × IsOwnPage s a x) ⊎ (b.differs ≡ page_told x))
+    × (x < ENTRIES)
+IsOrderly s a (step.TasFor x p r) b = b.differs ≡ nothing
+IsOrderly s a (step.Handed x) b = b.differs ≡ page_taken x
+IsOrderly s a (step.Woken x) b = s.taken x ≡ None
+IsOrderly s a (step.Unflag x o) b = ((s.taken x ≡ None) × IsPageless (s.entry x))
+    ⊎ IsPageless ((s.view a).bits.stored x)
 IsOrderly s a (step.Mark h q) b = (b.differs ≡ nothing) × (s.mark a ≡ None)
 IsOrderly s a step.Unmark b = (b.differs ≡ nothing) × ((h : ℕ) × (q : ℕ) × ((s.view a).hold.head ≡ Some h)
     × (s.mark a ≡ Some (record { head = h; place = q })))
@@ -106,7 +132,7 @@ pub differences_same : (items : ℕ → List Item) (a : ℕ) (xs : List Item)
 differences_same items a xs same = differences_next items a xs
     ∙ put_again (all_differences items) a (book_from (book_of (items a)) xs).differs same
 
-asleep_differs : (z : Sleep) (b : Book) → (after_sleep z b).differs ≡ b.differs
+pub asleep_differs : (z : Sleep) (b : Book) → (after_sleep z b).differs ≡ b.differs
 asleep_differs sleep.Stay b = refl
 asleep_differs sleep.Signal b = refl
 asleep_differs sleep.Asleep b = refl
@@ -139,9 +165,10 @@ quiet_members s t differs beside entry mark head keeps r = record {
     same : (h x : ℕ) → names t h x ≡ names s h x
     same h x = λ i. if nat_lt x ENTRIES then stands_at (entry i x) h else is_at h (mark i (x - ENTRIES))
 
--- Task a takes a lock or gives one back: it names nothing then, and named nothing before.
-module _ (s t : Table) (differs : ℕ → Difference) (beside : place.Location → ℕ) (a : ℕ) (entry : t.entry ≡ s.entry)
-    (mark : t.mark ≡ s.mark) (others : (b : ℕ) → b ≢ a → t.view b ≡ s.view b)
+-- Task a takes a lock or gives one back, or hands a page over: it names no word then, and named none before.
+module _ (s t : Table) (differs : ℕ → Difference) (beside : place.Location → ℕ) (a : ℕ) (d : Difference)
+    (unnamed : index_named a d ≡ None) (entry : t.entry ≡ s.entry) (mark : t.mark ≡ s.mark)
+    (others : (b : ℕ) → b ≢ a → t.view b ≡ s.view b)
     (was : (h x : ℕ) → (s.view a).hold.head ≡ Some h → index_named a (differs a) ≢ Some x) where
   same_names : (h x : ℕ) → names t h x ≡ names s h x
   same_names h x = λ i. if nat_lt x ENTRIES then stands_at (entry i x) h else is_at h (mark i (x - ENTRIES))
@@ -149,7 +176,11 @@ module _ (s t : Table) (differs : ℕ → Difference) (beside : place.Location �
   other_heads : (b : ℕ) → b ≢ a → (t.view b).hold.head ≡ (s.view b).hold.head
   other_heads b ne = ap (λ (v : Told). v.hold.head) (others b ne)
 
-  lock_members : AreMembers s differs beside → AreMembers t (put differs a nothing) beside
+  names_none : {A : Type 0} (b x : ℕ) → b ≡ a → index_named b (put differs a d b) ≡ Some x → A
+  names_none b x q is = none_is x (sym ((λ i. index_named (q i) (put differs a d (q i)))
+      ∙ (ap (index_named a) (put_same differs a d) ∙ unnamed)) ∙ is)
+
+  lock_members : AreMembers s differs beside → AreMembers t (put differs a d) beside
   lock_members r = record {
     bits = r.bits;
     spells = r.spells;
@@ -158,35 +189,34 @@ module _ (s t : Table) (differs : ℕ → Difference) (beside : place.Location �
     untested = λ b h x held is. untested_by b h x held is (eqb_tells b a);
   }
     where
-      by : (h x : ℕ) → ((b : ℕ) → (t.view b).hold.head ≡ Some h → index_named b (put differs a nothing b) ≢ Some x)
+      by : (h x : ℕ) → ((b : ℕ) → (t.view b).hold.head ≡ Some h → index_named b (put differs a d b) ≢ Some x)
           → (b : ℕ) → (s.view b).hold.head ≡ Some h
           → (((b == a) ≡ true) × (b ≡ a)) ⊎ (((b == a) ≡ false) × (b ≢ a))
           → index_named b (differs b) ≢ Some x
       by h x far b held (inl q) = subst (λ (i : ℕ). index_named i (differs i) ≢ Some x) (sym q.1)
           (was h x (subst (λ (i : ℕ). (s.view i).hold.head ≡ Some h) q.1 held))
-      by h x far b held (inr q) = subst (λ (d : Difference). index_named b d ≢ Some x)
-          (put_other differs a nothing b q.1) (far b (other_heads b q.1 ∙ held))
+      by h x far b held (inr q) = subst (λ (c : Difference). index_named b c ≢ Some x)
+          (put_other differs a d b q.1) (far b (other_heads b q.1 ∙ held))
 
-      named_by : (b h x : ℕ) → (t.view b).hold.head ≡ Some h → index_named b (put differs a nothing b) ≡ Some x
+      named_by : (b h x : ℕ) → (t.view b).hold.head ≡ Some h → index_named b (put differs a d b) ≡ Some x
           → (((b == a) ≡ true) × (b ≡ a)) ⊎ (((b == a) ≡ false) × (b ≢ a))
-          → names t h x ≡ is_put (put differs a nothing b)
-      named_by b h x held is (inl q) = absurd (nothing_named b (put differs a nothing b) x
-          (ap (put differs a nothing) q.1 ∙ put_same differs a nothing) is)
+          → names t h x ≡ is_put (put differs a d b)
+      named_by b h x held is (inl q) = names_none b x q.1 is
       named_by b h x held is (inr q) = same_names h x ∙ (r.named b h x (sym (other_heads b q.1) ∙ held)
-          (sym (ap (index_named b) (put_other differs a nothing b q.1)) ∙ is)
-          ∙ ap is_put (sym (put_other differs a nothing b q.1)))
+          (sym (ap (index_named b) (put_other differs a d b q.1)) ∙ is)
+          ∙ ap is_put (sym (put_other differs a d b q.1)))
 
-      untested_by : (b h x : ℕ) → (t.view b).hold.head ≡ Some h → put differs a nothing b ≡ at_entry x true
+      untested_by : (b h x : ℕ) → (t.view b).hold.head ≡ Some h → put differs a d b ≡ at_entry x true
           → (((b == a) ≡ true) × (b ≡ a)) ⊎ (((b == a) ≡ false) × (b ≢ a))
           → (owner x ≡ b) × IsUntested (t.view b) h x
-      untested_by b h x held is (inl q) = none_there x true
-          (sym (ap (put differs a nothing) q.1 ∙ put_same differs a nothing) ∙ is)
+      untested_by b h x held is (inl q) = names_none b x q.1 (ap (index_named b) is)
       untested_by b h x held is (inr q) = subst (λ (v : Told). (owner x ≡ b) × IsUntested v h x) (sym (others b q.1))
-          (r.untested b h x (sym (other_heads b q.1) ∙ held) (sym (put_other differs a nothing b q.1) ∙ is))
+          (r.untested b h x (sym (other_heads b q.1) ∙ held) (sym (put_other differs a d b q.1) ∙ is))
 
 -- Task a stores the word of index i in a hold of head g, where it named nothing before; it names i then.
 module _ (s t : Table) (differs : ℕ → Difference) (beside : place.Location → ℕ) (a g i : ℕ) (d : Difference)
-    (held : (s.view a).hold.head ≡ Some g) (clear : differs a ≡ nothing) (index : index_named a d ≡ Some i)
+    (held : (s.view a).hold.head ≡ Some g) (clear : index_named a (differs a) ≡ None)
+    (index : index_named a d ≡ Some i)
     (one : (x y h : ℕ) → (s.view x).hold.head ≡ Some h → (s.view y).hold.head ≡ Some h → x ≡ y)
     (heads : (b : ℕ) → (t.view b).hold.head ≡ (s.view b).hold.head)
     (others : (b : ℕ) → b ≢ a → t.view b ≡ s.view b)
@@ -219,7 +249,8 @@ module _ (s t : Table) (differs : ℕ → Difference) (beside : place.Location �
       far_before : (h x : ℕ) → ((b : ℕ) → (t.view b).hold.head ≡ Some h → index_named b (D b) ≢ Some x)
           → (b : ℕ) → (s.view b).hold.head ≡ Some h
           → (((b == a) ≡ true) × (b ≡ a)) ⊎ (((b == a) ≡ false) × (b ≢ a)) → index_named b (differs b) ≢ Some x
-      far_before h x far b holds (inl q) = nothing_named b (differs b) x (ap differs q.1 ∙ clear)
+      far_before h x far b holds (inl q) = λ is. none_is x (sym clear
+          ∙ ((λ j. index_named (sym q.1 j) (differs (sym q.1 j))) ∙ is))
       far_before h x far b holds (inr q) = subst (λ (e : Difference). index_named b e ≢ Some x)
           (put_other differs a d b q.1) (far b (heads b ∙ holds))
 
@@ -359,7 +390,8 @@ module _ (s : Table) (a : ℕ) (b : Book) (differs : ℕ → Difference) (beside
   queue_members : (x : ℕ) (e : Entry) → Allowed s a (step.Queue x e) → b.differs ≡ nothing
       → AreMembers s differs beside
       → AreMembers (next s a (step.Queue x e)) (put differs a (at_entry x true)) beside
-  queue_members x e may clear = store_members s z differs beside a g x (at_entry x true) may.3 (same ∙ clear) refl one
+  queue_members x e may clear = store_members s z differs beside a g x (at_entry x true) may.3
+      (ap (index_named a) (same ∙ clear)) refl one
       (same_heads (step.Queue x e) refl) (same_others (step.Queue x e))
       (λ y at. subst (λ (i : ℕ). (owner i ≡ a) × IsUntested (z.view a) g i) (same_index x y at) (
         may.0,
@@ -378,10 +410,18 @@ module _ (s : Table) (a : ℕ) (b : Book) (differs : ℕ → Difference) (beside
       g : ℕ
       g = head_of e.watch
 
-  unqueue_members : (x : ℕ) → Allowed s a (step.Unqueue x) → (b.differs ≡ nothing) × (x < ENTRIES)
+  -- no word is named where no word differs from its bit, or a task has been told of its page
+  pub names_nothing : (x : ℕ) → IsOrderly s a (step.Unqueue x) b → index_named a (differs a) ≡ None
+  names_nothing x clear = elim clear.0 [
+    | inl n ↦ ap (index_named a) (same ∙ n.0)
+    | inr t ↦ ap (index_named a) (same ∙ t)
+  ]
+
+  unqueue_members : (x : ℕ) → Allowed s a (step.Unqueue x) → IsOrderly s a (step.Unqueue x) b
       → AreMembers s differs beside → AreMembers (next s a (step.Unqueue x)) (put differs a (at_entry x false)) beside
-  unqueue_members x may clear = store_members s z differs beside a g x (at_entry x false) may.2 (same ∙ clear.0) refl
-      one (same_heads (step.Unqueue x) refl) (same_others (step.Unqueue x)) (λ y at. taken_out x y at)
+  unqueue_members x may clear = store_members s z differs beside a g x (at_entry x false) may.2
+      (names_nothing x clear) refl one (same_heads (step.Unqueue x) refl) (same_others (step.Unqueue x))
+      (λ y at. taken_out x y at)
       (entry_names z g x clear.1 ∙ ap (λ (o : Option Entry). stands_at o g) (put_same s.entry x None))
       (other_entry s x None z refl refl)
       (λ h ne. entry_names z h x clear.1 ∙ (ap (λ (o : Option Entry). stands_at o h) (put_same s.entry x None)
@@ -396,8 +436,9 @@ module _ (s : Table) (a : ℕ) (b : Book) (differs : ℕ → Difference) (beside
 
   mark_members : (g q : ℕ) → Allowed s a (step.Mark g q) → (b.differs ≡ nothing) × (s.mark a ≡ None)
       → AreMembers s differs beside → AreMembers (next s a (step.Mark g q)) (put differs a (at_mark true)) beside
-  mark_members g q may clear = store_members s z differs beside a g (ENTRIES + a) (at_mark true) may (same ∙ clear.0)
-      refl one (same_heads (step.Mark g q) refl) (same_others (step.Mark g q)) (λ y at. no_entry true y at)
+  mark_members g q may clear = store_members s z differs beside a g (ENTRIES + a) (at_mark true) may
+      (ap (index_named a) (same ∙ clear.0)) refl one (same_heads (step.Mark g q) refl)
+      (same_others (step.Mark g q)) (λ y at. no_entry true y at)
       (mark_names z g a ∙ (ap (is_at g) (put_same s.mark a (Some (record { head = g; place = q }))) ∙ same_test g))
       (other_mark s a (Some (record { head = g; place = q })) z refl refl)
       (λ h ne. mark_names z h a ∙ (ap (is_at h) (put_same s.mark a (Some (record { head = g; place = q })))
@@ -409,7 +450,8 @@ module _ (s : Table) (a : ℕ) (b : Book) (differs : ℕ → Difference) (beside
   unmark_members : IsOrderly s a step.Unmark b → AreMembers s differs beside
       → AreMembers (next s a step.Unmark) (put differs a (at_mark false)) beside
   unmark_members clear = store_members s z differs beside a g (ENTRIES + a) (at_mark false) clear.1.2
-      (same ∙ clear.0) refl one (same_heads step.Unmark refl) (same_others step.Unmark) (λ y at. no_entry false y at)
+      (ap (index_named a) (same ∙ clear.0)) refl one (same_heads step.Unmark refl) (same_others step.Unmark)
+      (λ y at. no_entry false y at)
       (mark_names z g a ∙ ap (is_at g) (put_same s.mark a None))
       (other_mark s a None z refl refl)
       (λ h ne. mark_names z h a ∙ (ap (is_at h) (put_same s.mark a None)
@@ -420,6 +462,10 @@ module _ (s : Table) (a : ℕ) (b : Book) (differs : ℕ → Difference) (beside
 
       g : ℕ
       g = clear.1.0
+
+  try_names : (x : ℕ) (clear : Bool) → b.differs ≡ nothing → index_named a (after_try x clear b.differs) ≡ None
+  try_names x true n = refl
+  try_names x false n = ap (index_named a) n
 
   -- a value that is taken tests no bit, and a test-and-set is made where each word has its bit
   consume_untested : (c : Watch) (n w : ℕ) → IsOrderly s a (step.Consume c n w) b → (h x : ℕ)
@@ -440,17 +486,24 @@ module _ (s : Table) (a : ℕ) (b : Book) (differs : ℕ → Difference) (beside
 
   pub members_next : (e : Step) → Allowed s a e → IsOrderly s a e b → AreMembers s differs beside
       → AreMembers (next s a e) (put differs a (learn_step e b).differs) beside
-  members_next (step.Queue x e) may clear r = queue_members x e may clear r
+  members_next (step.Queue x e) may clear r = queue_members x e may clear.0 r
   members_next (step.Unqueue x) may clear r = unqueue_members x may clear r
   members_next (step.Mark h q) may clear r = mark_members h q may clear r
   members_next step.Unmark may clear r = unmark_members clear r
   members_next (step.Lock g aim w) may clear r = lock_members s
-      (next s a (step.Lock g aim w)) differs beside a refl refl
+      (next s a (step.Lock g aim w)) differs beside a nothing refl refl refl
       (same_others (step.Lock g aim w))
       (λ h x held. absurd (none_is h (sym may.1 ∙ held))) r
-  members_next (step.Unlock g sp) may clear r = lock_members s (next s a (step.Unlock g sp)) differs beside a refl refl
+  members_next (step.Unlock g sp) may clear r = lock_members s (next s a (step.Unlock g sp)) differs beside a
+      nothing refl refl refl
       (same_others (step.Unlock g sp))
       (λ h x held. nothing_named a (differs a) x (same ∙ clear)) r
+  members_next (step.TasFor x p w) may clear r = lock_members s (next s a (step.TasFor x p w)) differs beside a
+      (after_try x (was_clear (page p) w) b.differs) (try_names x (was_clear (page p) w) clear) refl refl
+      (same_others (step.TasFor x p w)) (λ h y held. nothing_named a (differs a) y (same ∙ clear)) r
+  members_next (step.Handed x) may clear r = lock_members s (next s a (step.Handed x)) differs beside a
+      (page_told x) refl refl refl (same_others (step.Handed x))
+      (λ h y held is. none_is y (sym (ap (index_named a) (same ∙ clear)) ∙ is)) r
   members_next (step.Sleep w) may clear r = still_step s a (step.Sleep w) b differs beside refl refl refl
       (asleep_differs (sleep_of (task_of w)) b) same (λ h x held at u. u) r
   members_next (step.Load c w) may clear r = still_step s a (step.Load c w) b differs beside refl refl refl refl same

@@ -10,6 +10,7 @@ use Rattle.wait_model.specs.Words.{entry_of}
 use Rattle.wait_model.specs.Views.{View as Told, Hold, Look, unseen, look_at}
 use Rattle.wait_model.specs.Fold.{after, view_of}
 use Rattle.wait_model.specs.Tables.{Table, next}
+use Rattle.wait_model.specs.Permits.{HandsOn}
 use Rattle.wait_model.specs.Rows.{Allowed}
 use Rattle.wait_model.specs.Facts.{Kept}
 use Rattle.wait_model.proofs.Functions.{put_case, put_at}
@@ -19,11 +20,12 @@ use Rattle.wait_model.proofs.StepLaws.KeptLaws.{step_keeps}
 use Rattle.wait_model.proofs.StepLaws.UnlockSteps.{unlock_hold}
 use Rattle.wait_rule.specs.Interleavings.{TaskStep, table_of, AreAllowed, IsInterleaved}
 
-pub interleaved_next : (s : Table) (a : ℕ) (e : Step) → a < TASKS → Allowed s a e → IsInterleaved s
+pub interleaved_next : (s : Table) (a : ℕ) (e : Step) → a < TASKS → Allowed s a e → HandsOn s a e → IsInterleaved s
     → IsInterleaved (next s a e)
-interleaved_next s a e few may k = record {
+interleaved_next s a e few may on k = record {
   steps = record { task = a; made = e } ∷ k.steps;
   allowed = (few, subst (λ (t : Table). Allowed t a e) k.leads may, k.allowed);
+  handed = (subst (λ (t : Table). HandsOn t a e) k.leads on, k.handed);
   leads = ap (λ (t : Table). next t a e) k.leads;
 }
 

@@ -12,19 +12,30 @@ use Rattle.wait_model.specs.Fold.{after, after_unlock, forgotten, is_off}
 use Rattle.wait_model.specs.Tables.{Table, next, word_step}
 use Rattle.wait_model.specs.Rows.{Allowed}
 use Rattle.wait_model.specs.DoneCounts.{IsDoneStore}
+use Rattle.wait_model.specs.Permits.{HandsOn}
 use Rattle.wait_model.proofs.Functions.{put_case, put_at}
 use Rattle.wait_rule.specs.Members.{IsOwnKind}
 use Rattle.wait_rule.specs.Rule.{OwnStand}
 
--- What the calls' steps keep beside the model's conditions: of stores in done counts, and of entries that a task
--- takes off: it is the own one, or none that its task alone takes off.
+-- What the calls' steps keep beside the model's conditions: of stores in done counts; of entries that a task takes off:
+-- it is the own one, or none that its task alone takes off; and of permits, where a head is given back or an entry is
+-- queued.
 abbrev pub IsFair : Table → ℕ → Step → Type 0
 IsFair s a (step.Unqueue x) = (owner x ≡ a) ⊎ ((e : Entry) → s.entry x ≡ Some e → IsOwnKind e.kind → ⊥)
+IsFair s a (step.Unlock h sp) = HandsOn s a (step.Unlock h sp)
+IsFair s a (step.Queue x e) = HandsOn s a (step.Queue x e)
 IsFair s a e = IsDoneStore e
 
 pub done_store : (s : Table) (a : ℕ) (e : Step) → IsFair s a e → IsDoneStore e
 done_store s a (step.Unqueue x) f = tt
+done_store s a (step.Unlock h sp) f = tt
+done_store s a (step.Queue x e) f = tt
 done_store s a e f = f
+
+pub hands_on : (s : Table) (a : ℕ) (e : Step) → IsFair s a e → HandsOn s a e
+hands_on s a (step.Unlock h sp) f = f
+hands_on s a (step.Queue x e) f = f
+hands_on s a e f = λ d. tt
 
 -- the task's own entries are those that its history had stored before
 abbrev ForgetsOnly : Step → Told → Type 0

@@ -21,14 +21,19 @@ use Rattle.std.specs.Prelude.{
 }
 use Rattle.wait_model.specs.declared.steps.Step.{Step}
 use Rattle.wait_model.specs.declared.steps.Step.TheVariants as step
-use Rattle.wait_model.specs.Views.{View, Walk, blank, all_passed, concerns}
+use Rattle.wait_model.specs.declared.watches.Entry.{Entry}
+use Rattle.wait_model.specs.declared.watches.Watch.{Watch}
+use Rattle.wait_model.specs.Views.{View, Bits, Walk, all_passed, is_trying_for}
 use Rattle.wait_model.specs.Fold.{after, after_unlock, view_of}
-use Rattle.wait_model.proofs.HistoryLaws.HoldLooks.{after_snoc}
+use Rattle.wait_model.proofs.StepLaws.UnlockSteps.{unlock_bits}
 use Rattle.wait_rule.specs.declared.journal.Item.{Item}
 use Rattle.wait_rule.specs.declared.journal.Item.TheVariants as item
 use Rattle.wait_rule.specs.Items.{Book, learn, steps_of}
 use Rattle.wait_rule.specs.Known.{Known}
-use Rattle.wait_rule.specs.Says.{added, grown, told_of, Excuse, no_excuse, OwesBut, StaysSettled}
+use Rattle.wait_rule.specs.Says.{Debts, Excuse, IsOutBut, StaysSettled, added, grown, no_excuse, told_of}
+use Rattle.wait_rule.specs.Stays.{StaysOwing}
+use Rattle.wait_rule.proofs.KnownLaws.AfterSteps.{told_added}
+use Rattle.wait_rule.proofs.KnownLaws.Debts.{begins_none, looks_debts, step_debts}
 use Rattle.wait_rule.proofs.TableSteps.ItemLists.{steps_append}
 
 -- the step is one on a task word, or on the word of a head
@@ -43,70 +48,77 @@ stays_settled (step.Lock h aim w) = true
 stays_settled (step.Unlock h spent) = true
 stays_settled _ = false
 
--- a lock and an unlock end wakes that are owed, and begin none
-and_less : (b n m : Bool) → (b && n) ≡ false → ((b && m) && n) ≡ false
-and_less false n m is = refl
-and_less true n true is = is
-and_less true n false is = refl
+-- these tell nothing of bookmarks, and of bits no more than which was found clear
+record TellsNone (v u : View) : Type 0 where
+  pub mark : u.mark ≡ v.mark
+  pub stored : (i : ℕ) → u.bits.stored i ≡ v.bits.stored i
+  pub keeps : (c : Watch) → u.bits.keeps c ≡ v.bits.keeps c
+  pub pending : (c : Watch) → u.bits.pending c ≡ v.bits.pending c
 
-unlock_settled : (x : Excuse) (v : View) (o : Option Walk) (spent : Bool) → OwesBut x v
-    → OwesBut x (after_unlock v o spent)
-unlock_settled x v None spent o = record {
-  unmarked = o.unmarked;
-  owes = o.owes;
-  unqueued = o.unqueued;
-  holds = o.holds;
-  tries = o.tries;
+tells_none : (v u : View) → u.mark ≡ v.mark → u.bits ≡ v.bits → TellsNone v u
+tells_none v u mark bits = record {
+  mark = mark;
+  stored = λ i. ap (λ (b : Bits). b.stored i) bits;
+  keeps = λ c. ap (λ (b : Bits). b.keeps c) bits;
+  pending = λ c. ap (λ (b : Bits). b.pending c) bits;
 }
-unlock_settled x v (Some w) spent o = by (spent || all_passed v w (λ _. false))
-    (record {
-      unmarked = o.unmarked;
-      owes = λ c σ. and_less (v.duty.owes c σ) (not (x.wakes c σ)) (not (concerns w c σ)) (o.owes c σ);
-      unqueued = o.unqueued;
-      holds = o.holds;
-      tries = o.tries;
-    })
-    (record { unmarked = o.unmarked; owes = o.owes; unqueued = o.unqueued; holds = o.holds; tries = o.tries })
+
+pub unlock_mark : (v : View) (o : Option Walk) (spent : Bool) → (after_unlock v o spent).mark ≡ v.mark
+unlock_mark v None spent = refl
+unlock_mark v (Some w) spent = either (spent || all_passed v w (λ _. false)) _ _ refl refl
   where
-    by : {s t : View} (b : Bool) → OwesBut x s → OwesBut x t → OwesBut x (if b then s else t)
-    by true p q = p
-    by false p q = q
+    either : (b : Bool) (x y : View) → x.mark ≡ v.mark → y.mark ≡ v.mark → (if b then x else y).mark ≡ v.mark
+    either true x y one two = one
+    either false x y one two = two
 
-step_settled : (x : Excuse) (e : Step) (v : View) → stays_settled e ≡ true → OwesBut x v → OwesBut x (after e v)
-step_settled x (step.State σ) v is o = record {
-  unmarked = o.unmarked;
-  owes = o.owes;
-  unqueued = o.unqueued;
-  holds = o.holds;
-  tries = o.tries;
-}
-step_settled x (step.Sleep w) v is o = o
-step_settled x (step.Wake who mask w) v is o = record {
-  unmarked = o.unmarked;
-  owes = o.owes;
-  unqueued = o.unqueued;
-  holds = o.holds;
-  tries = o.tries;
-}
-step_settled x (step.Signal who fatal w) v is o = o
-step_settled x (step.Accept w) v is o = o
-step_settled x (step.Look w) v is o = o
-step_settled x (step.Lock h aim w) v is o = record {
-  unmarked = o.unmarked;
-  owes = o.owes;
-  unqueued = o.unqueued;
-  holds = o.holds;
-  tries = o.tries;
-}
-step_settled x (step.Unlock h spent) v is o = unlock_settled x v v.walk spent o
-step_settled x e v is o = absurd (cc)
+step_tells : (e : Step) (v : View) → stays_settled e ≡ true → TellsNone v (after e v)
+step_tells (step.State σ) v is = record { mark = refl; stored = λ i. refl; keeps = λ c. refl; pending = λ c. refl }
+step_tells (step.Sleep w) v is = tells_none v v refl refl
+step_tells (step.Wake who mask w) v is = tells_none v (after (step.Wake who mask w) v) refl refl
+step_tells (step.Signal who fatal w) v is = tells_none v v refl refl
+step_tells (step.Accept w) v is = tells_none v v refl refl
+step_tells (step.Look w) v is = tells_none v v refl refl
+step_tells (step.Lock h aim w) v is = tells_none v (after (step.Lock h aim w) v) refl refl
+step_tells (step.Unlock h spent) v is = tells_none v (after_unlock v v.walk spent) (unlock_mark v v.walk spent)
+    (unlock_bits v v.walk spent)
+step_tells e v is = absurd (cc)
 
-pub owes_after : (old new : Known) (e : Step) → stays_settled e ≡ true → new ≡ added old (item.Made e) → (x : Excuse)
-    → OwesBut x (told_of old) → OwesBut x (told_of new)
-owes_after old new e is now x o = subst (OwesBut x)
-    (sym (ap told_of now ∙ (ap view_of (steps_append old.view.items (item.Made e ∷ []))
-    ∙ after_snoc blank (steps_of old.view.items) e)))
-    (step_settled x e (told_of old) is o)
+settled_begins_none : (e : Step) → stays_settled e ≡ true → begins_none e ≡ true
+settled_begins_none (step.State σ) is = refl
+settled_begins_none (step.Sleep w) is = refl
+settled_begins_none (step.Wake who mask w) is = refl
+settled_begins_none (step.Signal who fatal w) is = refl
+settled_begins_none (step.Accept w) is = refl
+settled_begins_none (step.Look w) is = refl
+settled_begins_none (step.Lock h aim w) is = refl
+settled_begins_none (step.Unlock h spent) is = refl
+settled_begins_none e is = absurd (cc)
+
+-- What a task owes stays where its bookmark, entries, kept bits and debts stay, and it tries no more bits.
+pub owes_told : (old new : Known) → (told_of new).mark ≡ (told_of old).mark
+    → ((i : ℕ) → (told_of new).bits.stored i ≡ (told_of old).bits.stored i)
+    → ((c : Watch) → (told_of new).bits.keeps c ≡ (told_of old).bits.keeps c)
+    → ((c : Watch) → (told_of old).bits.pending c ≡ false → (told_of new).bits.pending c ≡ false)
+    → ((x : Excuse) → Debts x old → Debts x new) → StaysOwing old new
+owes_told old new mark stored keeps pending debts x o = record {
+  unmarked = mark ∙ o.unmarked;
+  debts = debts x o.debts;
+  unqueued = λ i. subst (IsOutBut (x.entries i)) (sym (stored i)) (o.unqueued i);
+  holds = λ c. ap (λ (b : Bool). not (x.bits c) && b) (keeps c) ∙ o.holds c;
+  tries = λ c. pending c (o.tries c);
+  tries_none = λ i c. ap (λ (s : Option Entry). is_trying_for s c) (stored i) ∙ o.tries_none i c;
+}
+
+pub owes_after : (old new : Known) (e : Step) → stays_settled e ≡ true → new ≡ added old (item.Made e)
+    → StaysOwing old new
+owes_after old new e is now =
+    let told : told_of new ≡ after e (told_of old) = ap told_of now ∙ told_added old (item.Made e) in
+    let tells = step_tells e (told_of old) is in
+    owes_told old new (ap (λ (v : View). v.mark) told ∙ tells.mark)
+    (λ i. ap (λ (v : View). v.bits.stored i) told ∙ tells.stored i)
+    (λ c. ap (λ (v : View). v.bits.keeps c) told ∙ tells.keeps c)
+    (λ c none. ap (λ (v : View). v.bits.pending c) told ∙ (tells.pending c ∙ none))
+    (step_debts old new e (settled_begins_none e is) now)
 
 pub settled_after : (old new : Known) (e : Step) → stays_settled e ≡ true → new ≡ added old (item.Made e)
     → StaysSettled old new
@@ -118,10 +130,13 @@ append_nil (e ∷ es) = ap (λ (l : List Step). e ∷ l) (append_nil es)
 
 -- items that are no steps
 pub owes_looks : (old new : Known) (looks : List Item) (b : Book) → steps_of looks ≡ [] → new ≡ grown old looks b
-    → (x : Excuse) → OwesBut x (told_of old) → OwesBut x (told_of new)
-owes_looks old new looks b none now x o = subst (OwesBut x)
-    (sym (ap told_of now ∙ ap view_of (steps_append old.view.items looks
-    ∙ (ap (λ (es : List Step). steps_of old.view.items ++ es) none ∙ append_nil (steps_of old.view.items))))) o
+    → StaysOwing old new
+owes_looks old new looks b none now =
+    let told : told_of new ≡ told_of old = ap told_of now ∙ ap view_of (steps_append old.view.items looks
+    ∙ (ap (λ (es : List Step). steps_of old.view.items ++ es) none ∙ append_nil (steps_of old.view.items))) in
+    owes_told old new (ap (λ (v : View). v.mark) told) (λ i. ap (λ (v : View). v.bits.stored i) told)
+    (λ c. ap (λ (v : View). v.bits.keeps c) told) (λ c is. ap (λ (v : View). v.bits.pending c) told ∙ is)
+    (looks_debts old new looks b none now)
 
 pub settled_looks : (old new : Known) (looks : List Item) (b : Book) → steps_of looks ≡ [] → new ≡ grown old looks b
     → StaysSettled old new

@@ -9,9 +9,10 @@ use Rattle.wait_model.specs.Views.{View as Told, Bits, is_trying_for}
 use Rattle.wait_model.specs.Fold.{is_off, after_look}
 use Rattle.wait_model.proofs.Functions.{put_at, put_same}
 use Rattle.wait_rule.specs.Known.{Known}
-use Rattle.wait_rule.specs.Says.{Excuse, IsOutBut, OwesBut, OwesNothing, told_of}
+use Rattle.wait_rule.specs.Says.{Debts, Excuse, IsOutBut, Owes, TriesNone, told_of}
 use Rattle.wait_rule.specs.Queues.{KnewEntry, index}
-use Rattle.wait_rule.specs.Stays.{TriesNone, Stays, StaysOwing, no_entries, also}
+use Rattle.wait_rule.specs.Stays.{Stays, StaysOwing, no_entries, with_entry}
+use Rattle.wait_rule.proofs.KnownLaws.Debts.{entries_debts}
 
 pub stays_on : (but : ℕ → Bool) (x y z : Known) → Stays but x y → Stays but y z → Stays but x z
 stays_on but x y z one two = record {
@@ -32,6 +33,7 @@ stays_on but x y z one two = record {
   keeps = λ c. two.keeps c ∙ one.keeps c;
   tries_none = λ none. two.tries_none (one.tries_none none);
   tries = λ none c out. two.tries (one.tries_none none) c (one.tries none c out);
+  debts = λ f d. two.debts f (one.debts f d);
 }
 
 -- but for no entry word is as but for some
@@ -46,12 +48,14 @@ stays_but but x y s = record {
   keeps = s.keeps;
   tries_none = s.tries_none;
   tries = s.tries;
+  debts = s.debts;
 }
 
--- where the bits stay, all of this stays
+-- where the bits and the debts stay, all of this stays
 pub stays_bits : (x y : Known) → y.domain ≡ x.domain → y.view.number ≡ x.view.number → y.book.state ≡ x.book.state
-    → y.book.awake ≡ x.book.awake → (told_of y).bits ≡ (told_of x).bits → Stays no_entries x y
-stays_bits x y domain number state awake bits = record {
+    → y.book.awake ≡ x.book.awake → (told_of y).bits ≡ (told_of x).bits → ((f : Excuse) → Debts f x → Debts f y)
+    → Stays no_entries x y
+stays_bits x y domain number state awake bits debts = record {
   domain = domain;
   number = number;
   state = state;
@@ -61,10 +65,11 @@ stays_bits x y domain number state awake bits = record {
   keeps = λ c. ap (λ (b : Bits). b.keeps c) bits;
   tries_none = λ none i c. ap (λ (b : Bits). is_trying_for (b.stored i) c) bits ∙ none i c;
   tries = λ none c out. ap (λ (b : Bits). b.pending c) bits ∙ out;
+  debts = debts;
 }
 
 pub stays_same : (k : Known) → Stays no_entries k k
-stays_same k = stays_bits k k refl refl refl refl refl
+stays_same k = stays_bits k k refl refl refl refl refl (λ f d. d)
 
 -- a look at an entry word, in a hold or outside of one
 module _ (v : Told) (x : ℕ) (f : Option Entry) where
@@ -101,8 +106,9 @@ module _ (v : Told) (x : ℕ) (f : Option Entry) where
 
 pub look_stays : (old new : Known) (x w : ℕ) → KnewEntry old x w → new.domain ≡ old.domain
     → new.view.number ≡ old.view.number → new.book ≡ old.book
-    → (told_of new).bits ≡ after_look x (entry_of w) (told_of old) → Stays no_entries old new
-look_stays old new x w knew domain number book bits = record {
+    → (told_of new).bits ≡ after_look x (entry_of w) (told_of old) → ((f : Excuse) → Debts f old → Debts f new)
+    → Stays no_entries old new
+look_stays old new x w knew domain number book bits debts = record {
   domain = domain;
   number = number;
   state = ap (λ (b : _). b.state) book;
@@ -118,6 +124,7 @@ look_stays old new x w knew domain number book bits = record {
       ∙ none_tries (told_of old) x (entry_of w) none y c;
   tries = λ none c out. ap (λ (b : Bits). b.pending c) bits
       ∙ (same_tries (told_of old) x (entry_of w) none c ∙ out);
+  debts = debts;
 }
 
 -- an entry that was found off is stored no more
@@ -128,32 +135,22 @@ look_out old new x w bits none = ap (λ (b : Bits). b.stored x) bits
     (told_of old).bits.stored) x) none
     ∙ put_same (told_of old).bits.stored x None)
 
--- who owes nothing tries no bit
-pub none_tried : (v : Told) → OwesNothing v → TriesNone v
-none_tried v o x c = ap (λ (s : Option Entry). is_trying_for s c) (o.unqueued x)
-
--- what a task owes, where it owes no wake more than before
-less : (p q n : Bool) → (p ≡ false → q ≡ false) → (p && n) ≡ false → (q && n) ≡ false
-less false q n f is = ap (λ (b : Bool). b && n) (f refl)
-less true false n f is = refl
-less true true n f is = is
-
 pub out_by : (b : Bool) (was now : Option Entry) → (now ≡ was) ⊎ (now ≡ None) → IsOutBut b was → IsOutBut b now
 out_by true was now s is = tt
 out_by false was now (inl same) is = same ∙ is
 out_by false was now (inr none) is = none
 
+-- what a task owes, where all of this and the bookmark stay
 pub stays_owing : (old new : Known) → Stays no_entries old new → (told_of new).mark ≡ (told_of old).mark
-    → ((c : Watch) (σ : ℕ) → (told_of old).duty.owes c σ ≡ false → (told_of new).duty.owes c σ ≡ false)
-    → TriesNone (told_of old) → StaysOwing old new
-stays_owing old new s mark fewer none x o = record {
+    → StaysOwing old new
+stays_owing old new s mark x o = record {
   unmarked = mark ∙ o.unmarked;
-  owes = λ c σ. less ((told_of old).duty.owes c σ) ((told_of new).duty.owes c σ) (not (x.wakes c σ)) (fewer c σ)
-      (o.owes c σ);
+  debts = s.debts x o.debts;
   unqueued = λ i. out_by (x.entries i) ((told_of old).bits.stored i) ((told_of new).bits.stored i) (s.still i refl)
       (o.unqueued i);
-  holds = λ c. s.keeps c ∙ o.holds c;
-  tries = λ c. s.tries none c (o.tries c);
+  holds = λ c. ap (λ (b : Bool). not (x.bits c) && b) (s.keeps c) ∙ o.holds c;
+  tries = λ c. s.tries o.tries_none c (o.tries c);
+  tries_none = s.tries_none o.tries_none;
 }
 
 -- an entry that the task is excused of too, and then no more
@@ -161,29 +158,34 @@ out_also : (i y : ℕ) (b : Bool) (s : Option Entry) → IsOutBut b s → (t : B
 out_also i y b s is true = tt
 out_also i y b s is false = is
 
-pub owes_also : (i : ℕ) (x : Excuse) (v : Told) → OwesBut x v → OwesBut (also i x) v
-owes_also i x v o = record {
+pub owes_also : (i : ℕ) (x : Excuse) (k : Known) → Owes x k → Owes (with_entry i x) k
+unfolding with_entry
+owes_also i x k o = record {
   unmarked = o.unmarked;
-  owes = o.owes;
-  unqueued = λ y. out_also i y (x.entries y) (v.bits.stored y) (o.unqueued y) (y == i);
+  debts = entries_debts x (with_entry i x) k refl o.debts;
+  unqueued = λ y. out_also i y (x.entries y) ((told_of k).bits.stored y) (o.unqueued y) (y == i);
   holds = o.holds;
   tries = o.tries;
+  tries_none = o.tries_none;
 }
 
-pub owes_out : (i : ℕ) (x : Excuse) (v : Told) → OwesBut (also i x) v → v.bits.stored i ≡ None → OwesBut x v
-owes_out i x v o none = record {
+out_more : (x : Excuse) (k : Known) (y : ℕ) (b : Bool) → (told_of k).bits.stored y ≡ None
+    → IsOutBut b ((told_of k).bits.stored y)
+out_more x k y true is = tt
+out_more x k y false is = is
+
+pub owes_out : (i : ℕ) (x : Excuse) (k : Known) → (told_of k).bits.stored i ≡ None → Owes (with_entry i x) k → Owes x k
+unfolding with_entry
+owes_out i x k none o = record {
   unmarked = o.unmarked;
-  owes = o.owes;
+  debts = entries_debts (with_entry i x) x k refl o.debts;
   unqueued = λ y. by y (y == i) refl (o.unqueued y);
   holds = o.holds;
   tries = o.tries;
+  tries_none = o.tries_none;
 }
   where
-    out : (y : ℕ) (b : Bool) → v.bits.stored y ≡ None → IsOutBut b (v.bits.stored y)
-    out y true is = tt
-    out y false is = is
-
-    by : (y : ℕ) (t : Bool) → (y == i) ≡ t → IsOutBut (t || x.entries y) (v.bits.stored y)
-        → IsOutBut (x.entries y) (v.bits.stored y)
-    by y true same is = out y (x.entries y) (ap v.bits.stored (eqb-true y i same) ∙ none)
+    by : (y : ℕ) (t : Bool) → (y == i) ≡ t → IsOutBut (t || x.entries y) ((told_of k).bits.stored y)
+        → IsOutBut (x.entries y) ((told_of k).bits.stored y)
+    by y true same is = out_more x k y (x.entries y) (ap (told_of k).bits.stored (eqb-true y i same) ∙ none)
     by y false same is = is

@@ -6,7 +6,7 @@ use Rattle.wait_model.specs.declared.points.Next.{Next}
 use Rattle.wait_model.specs.declared.points.Next.TheVariants as next
 use Rattle.wait_rule.specs.declared.journal.Item.{Item}
 use Rattle.wait_rule.specs.declared.journal.Item.TheVariants as item
-use Rattle.wait_rule.specs.Items.{Book, steps_of, book_from, book_of, first_book}
+use Rattle.wait_rule.specs.Items.{AddsNone, Book, steps_of, book_from, book_of, first_book}
 use Rattle.wait_rule.specs.Known.{Known}
 use Rattle.wait_rule.specs.Says.{grown}
 use Rattle.wait_rule.specs.Queues.{IsTold}
@@ -25,17 +25,18 @@ pub looks_append : (xs ys : List Item) → AreLooks xs → AreLooks ys → AreLo
 looks_append [] ys a b = b
 looks_append (x ∷ xs) ys a b = (a.0, looks_append xs ys a.1 b)
 
--- who made no step looked
-pub looks_of : (xs : List Item) → steps_of xs ≡ [] → AreLooks xs
-looks_of [] none = tt
-looks_of (item.Made e ∷ xs) none = absurd (cc)
-looks_of (item.Awake w ∷ xs) none = (tt, looks_of xs none)
-looks_of (item.Bookmark t w ∷ xs) none = (tt, looks_of xs none)
-looks_of (item.Member ∷ xs) none = (tt, looks_of xs none)
-looks_of (item.Word w ∷ xs) none = (tt, looks_of xs none)
-looks_of (item.Drawn h w ∷ xs) none = (tt, looks_of xs none)
-looks_of (item.Serving h w ∷ xs) none = (tt, looks_of xs none)
-looks_of (item.Served ∷ xs) none = (tt, looks_of xs none)
+-- who made no step, and added to no tally, looked
+pub looks_of : (xs : List Item) → steps_of xs ≡ [] → AddsNone xs → AreLooks xs
+looks_of [] none adds = tt
+looks_of (item.Made e ∷ xs) none adds = absurd (cc)
+looks_of (item.Awake w ∷ xs) none adds = (tt, looks_of xs none adds.1)
+looks_of (item.Bookmark t w ∷ xs) none adds = (tt, looks_of xs none adds.1)
+looks_of (item.Member ∷ xs) none adds = (tt, looks_of xs none adds.1)
+looks_of (item.Word w ∷ xs) none adds = (tt, looks_of xs none adds.1)
+looks_of (item.Drawn h w ∷ xs) none adds = (tt, looks_of xs none adds.1)
+looks_of (item.Serving h w ∷ xs) none adds = (tt, looks_of xs none adds.1)
+looks_of (item.Served ∷ xs) none adds = (tt, looks_of xs none adds.1)
+looks_of (item.Tally p n w ∷ xs) none adds = absurd adds.0
 
 -- what a task knows of its word is what its list tells
 pub book_told : (old new : Known) (xs : List Item) → IsTold old → IsTold new → new.view.items ≡ old.view.items ++ xs

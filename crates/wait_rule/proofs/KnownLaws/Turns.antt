@@ -1,5 +1,5 @@
 -- What a task knows after a load of the served number, and after an unlock with its serve.
-use Rattle.std.proofs.Common.{refl, sym, ◌∙◌, ap, subst}
+use Rattle.std.proofs.Common.{refl, ◌∙◌, ap}
 use Rattle.std.specs.Prelude.{ℕ, ◌≡◌, ◌≢◌, ◌&&◌, Bool, ◌==◌, if◌then◌else◌, [], ◌∷◌}
 use Rattle.wait_rule.specs.declared.journal.Item.TheVariants as item
 use Rattle.wait_rule.specs.Tickets.{drawn, served, after_serving}
@@ -7,11 +7,12 @@ use Rattle.wait_rule.specs.Known.{Known}
 use Rattle.wait_model.specs.declared.steps.Step.TheVariants as step
 use Rattle.wait_model.specs.Fold.{after}
 use Rattle.wait_rule.specs.Notes.{note_step}
-use Rattle.wait_rule.specs.Says.{IsFree, OwesBut, added, told_of, noted, unlocked_with}
+use Rattle.wait_rule.specs.Says.{IsFree, added, told_of, noted, unlocked_with}
+use Rattle.wait_rule.specs.Items.{learn}
 use Rattle.wait_rule.specs.Stays.{StaysOwing}
 use Rattle.wait_rule.specs.Transitions.{OnlyLooks}
 use Rattle.wait_rule.proofs.KnownLaws.AfterSteps.{told_added, noted_added}
-use Rattle.wait_rule.proofs.KnownLaws.SettledTasks.{owes_after}
+use Rattle.wait_rule.proofs.KnownLaws.SettledTasks.{owes_after, owes_looks}
 use Rattle.wait_rule.specs.Queues.{IsTurn}
 use Rattle.wait_rule.proofs.KnownLaws.TicketSteps.{to_test, test_off}
 
@@ -52,6 +53,6 @@ pub unlocked_free : (k : Known) (h : ℕ) (spent : Bool) → IsFree (unlocked_wi
 unlocked_free k h spent = record { head = refl; ticket = refl }
 
 pub unlocked_owing : (k : Known) (h : ℕ) (spent : Bool) → StaysOwing k (unlocked_with k h spent)
-unlocked_owing k h spent x o = subst (OwesBut x)
-    (sym (told_added (added k (item.Made (step.Unlock h spent))) item.Served))
+unlocked_owing k h spent x o = owes_looks (added k (item.Made (step.Unlock h spent))) (unlocked_with k h spent)
+    (item.Served ∷ []) (learn item.Served (added k (item.Made (step.Unlock h spent))).book) refl refl x
     (owes_after k (added k (item.Made (step.Unlock h spent))) (step.Unlock h spent) refl refl x o)

@@ -21,7 +21,7 @@ use Rattle.wait_rule.proofs.KnownLaws.MemberPlaces.{still_places}
 use Rattle.wait_rule.proofs.TableSteps.KeptSteps.{Leaves, KeepsLaw}
 
 -- a word with one bit changed has no bits above its own
-low_still : (bits : ℕ → ℕ → Bool) (w b : ℕ) (v : Bool) → b < WORD_BITS
+pub low_still : (bits : ℕ → ℕ → Bool) (w b : ℕ) (v : Bool) → b < WORD_BITS
     → ((i k : ℕ) → WORD_BITS ≤ k → bits i k ≡ false) → (i k : ℕ) → WORD_BITS ≤ k
     → put bits w (put (bits w) b v) i k ≡ false
 low_still bits w b v small low i k far = put_at (λ (f : ℕ → Bool). f k ≡ false) bits w (put (bits w) b v) i

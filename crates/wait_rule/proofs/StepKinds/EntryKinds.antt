@@ -7,10 +7,11 @@ use Rattle.wait_model.specs.declared.steps.Step.{Step}
 use Rattle.wait_model.specs.declared.steps.Step.TheVariants as step
 use Rattle.wait_model.specs.declared.tasks.TaskRecord.{TaskRecord}
 use Rattle.wait_model.specs.Functions.{put}
-use Rattle.wait_model.specs.Watches.{head_of, owner}
+use Rattle.wait_model.specs.Watches.{head_of, owner, is_page}
 use Rattle.wait_model.specs.Words.{entry_word, entry_of, Suited}
 use Rattle.wait_model.specs.Views.{View as Told, Look, off, shown}
 use Rattle.wait_model.specs.Tables.{Table}
+use Rattle.wait_model.specs.Permits.{HandsOn}
 use Rattle.wait_model.specs.Rows.{Suits}
 use Rattle.wait_model.specs.Facts.{Agrees}
 use Rattle.wait_model.specs.Locations as place
@@ -19,13 +20,23 @@ use Rattle.wait_model.proofs.WordLaws.CondWords.{suits_of}
 use Rattle.wait_model.proofs.WordLaws.DecodedWords.{entry_read, none_read}
 use Rattle.wait_model.proofs.Functions.{put_at, put_same, put_other}
 use Rattle.wait_rule.specs.declared.journal.Item.{Item}
-use Rattle.wait_rule.specs.Items.{Difference, nothing, at_entry, Book, with_difference, Fits}
+use Rattle.wait_rule.specs.Items.{
+  Difference,
+  nothing,
+  at_entry,
+  page_told,
+  Book,
+  with_difference,
+  Fits,
+}
 use Rattle.wait_rule.specs.Members.{IsStanding, IsOwnKind, IsEntryWord}
 use Rattle.wait_rule.specs.Rule.{IsLawfulTable, IsRuled}
 use Rattle.wait_rule.specs.Queues.{saw}
 use Rattle.wait_rule.proofs.KnownLaws.HeadLinks.{quiet_links}
 use Rattle.wait_rule.proofs.KnownLaws.MemberPlaces.{KeepsPlaces, still_places, unqueue_places}
 use Rattle.wait_rule.proofs.KnownLaws.OwnEntries.{IsFair}
+use Rattle.wait_rule.proofs.KnownLaws.PageSteps.{not_both}
+use Rattle.wait_rule.proofs.KnownLaws.StandingKinds.{not_page, may_ask}
 use Rattle.wait_rule.proofs.TableSteps.KeptSteps.{Leaves, KeepsLaw}
 
 -- what a task names as different says nothing of its own word
@@ -144,9 +155,9 @@ module _ (s : Table) (items : ℕ → List Item) (ruled : IsRuled s items) (x : 
 
     pub queues : (e : Entry) → x < ENTRIES → owner x ≡ a → IsStanding x e
         → (s.view a).hold.head ≡ Some (head_of e.watch) → (s.view a).hold.book x ≡ off
-        → KeepsPlaces s a (step.Queue x e) → b.differs ≡ nothing
+        → KeepsPlaces s a (step.Queue x e) → b.differs ≡ nothing → HandsOn s a (step.Queue x e)
         → KeepsLaw s a (place.Entry x) (entry_word (Some e)) (step.Queue x e) b
-    queues e inside mine standing held shows places clear = record {
+    queues e inside mine standing held shows places clear hands = record {
       allowed = (
         mine,
         inside,
@@ -155,8 +166,8 @@ module _ (s : Table) (items : ℕ → List Item) (ruled : IsRuled s items) (x : 
         suits e standing.lawful.suited,
         shows,
       );
-      stored = tt;
-      orderly = clear;
+      stored = hands;
+      orderly = (clear, may_ask s items ruled a x e standing (λ uses. ruled.unasked a));
       places = places;
       links = quiet_links s a (step.Queue x e) (record {
         holder = refl;
@@ -173,12 +184,19 @@ module _ (s : Table) (items : ℕ → List Item) (ruled : IsRuled s items) (x : 
     }
 
     pub unqueues : (h : ℕ) (e : Entry) → (s.view a).hold.head ≡ Some h → (s.view a).hold.book x ≡ shown e
-        → (owner x ≡ a) ⊎ (IsOwnKind e.kind → ⊥) → (b.differs ≡ nothing) × (x < ENTRIES)
+        → (owner x ≡ a) ⊎ (IsOwnKind e.kind → ⊥)
+        → ((b.differs ≡ nothing) ⊎ (b.differs ≡ page_told x)) × (x < ENTRIES)
         → KeepsLaw s a (place.Entry x) 0 (step.Unqueue x) b
     unqueues h e held shows may clear = record {
       allowed = (e, agrees.0, held ∙ ap (λ (k : ℕ). Some k) (sym agrees.1));
       stored = fair may;
-      orderly = clear;
+      orderly = (
+        elim clear.0 [
+          | inl n ↦ inl (n, λ d is paged. not_both (is_page d.kind) paged (not_page x d (ruled.lawful.entries x d is)))
+          | inr t ↦ inr t
+        ],
+        clear.1,
+      );
       places = unqueue_places s a x;
       links = quiet_links s a (step.Unqueue x) (record {
         holder = refl;
@@ -197,8 +215,10 @@ module _ (s : Table) (items : ℕ → List Item) (ruled : IsRuled s items) (x : 
         agrees = subst (λ (l : Look). Agrees h l (s.entry x)) shows
             ((ruled.whole.kept.facts.views a).hold.agrees h x held)
 
+        same : (d : Entry) → s.entry x ≡ Some d → d ≡ e
+        same d is = let both : Some d ≡ Some e = sym is ∙ agrees.0 in cc
+
         fair : (owner x ≡ a) ⊎ (IsOwnKind e.kind → ⊥) → IsFair s a (step.Unqueue x)
         fair (inl mine) = inl mine
         fair (inr other) = inr (λ d is own.
-            let same : d ≡ e = (let both : Some d ≡ Some e = sym is ∙ agrees.0 in cc) in
-            other (subst (λ (c : Entry). IsOwnKind c.kind) same own))
+            other (subst (λ (c : Entry). IsOwnKind c.kind) (same d is) own))

@@ -1,12 +1,13 @@
 -- Each kind of step on a flag word keeps the law.
-use Rattle.std.proofs.Common.{refl, ◌∙◌, ap, subst, sym}
-use Rattle.std.specs.Prelude.{ℕ, ◌≡◌, ◌≢◌, Bool, true, false, Option, Some, None, List}
+use Rattle.std.proofs.Common.{refl, ◌∙◌, ap, subst, sym, inl, inr}
+use Rattle.std.specs.Prelude.{ℕ, ◌≡◌, ◌≢◌, ◌⊎◌, Bool, true, false, Option, Some, None, List}
 use Rattle.wait_model.specs.declared.watches.Entry.{Entry}
+use Rattle.wait_model.specs.declared.watches.Kind.TheVariants as kind
 use Rattle.wait_model.specs.declared.steps.Step.{Step}
 use Rattle.wait_model.specs.declared.steps.Step.TheVariants as step
 use Rattle.wait_model.specs.Functions.{put}
 use Rattle.wait_model.specs.Words.{flag_word, done_word}
-use Rattle.wait_model.specs.Watches.{owner}
+use Rattle.wait_model.specs.Watches.{owner, is_page}
 use Rattle.wait_model.specs.Views.{View as Told, Look, shown}
 use Rattle.wait_model.specs.Tables.{Table}
 use Rattle.wait_model.specs.Facts.{Agrees}
@@ -16,7 +17,11 @@ use Rattle.wait_model.proofs.Functions.{put_same, put_other}
 use Rattle.wait_model.proofs.WordLaws.DecodedWords.{done_read_back}
 use Rattle.wait_rule.specs.declared.journal.Item.{Item}
 use Rattle.wait_rule.specs.Items.{Book, Fits}
+use Rattle.wait_rule.specs.Asked.{all_asked}
+use Rattle.wait_rule.specs.MemberWords.{all_differences}
+use Rattle.wait_rule.specs.Pages.{uses_flag, IsPageless, IsPageState}
 use Rattle.wait_rule.specs.Rule.{IsLawfulTable, IsRuled}
+use Rattle.wait_rule.proofs.KnownLaws.PageSteps.{not_both}
 use Rattle.wait_rule.proofs.KnownLaws.HeadLinks.{quiet_links}
 use Rattle.wait_rule.proofs.KnownLaws.MemberPlaces.{still_places}
 use Rattle.wait_rule.proofs.TableSteps.KeptSteps.{Leaves, KeepsLaw}
@@ -60,12 +65,12 @@ flag_leaves s a x woken b pages history view l f = record {
 
 -- in a hold that shows an entry, its flag may be set
 pub flags : (s : Table) (items : ℕ → List Item) → IsRuled s items → (x a : ℕ) (b : Book) → Fits (s.task a) b
-    → (h : ℕ) (e : Entry) → (s.view a).hold.head ≡ Some h → (s.view a).hold.book x ≡ shown e
+    → (h : ℕ) (e : Entry) → (s.view a).hold.head ≡ Some h → (s.view a).hold.book x ≡ shown e → e.kind ≡ kind.Woken
     → KeepsLaw s a (place.Flag x) (flag_word true) (step.Woken x) b
-flags s items ruled x a b fits h e held shows = record {
+flags s items ruled x a b fits h e held shows woken = record {
   allowed = (e, agrees.0, held ∙ ap (λ (k : ℕ). Some k) (sym agrees.1));
   stored = tt;
-  orderly = tt;
+  orderly = untaken (ruled.pages.each x);
   places = still_places s a (step.Woken x) refl refl;
   links = quiet_links s a (step.Woken x) (record {
     holder = refl;
@@ -82,6 +87,16 @@ flags s items ruled x a b fits h e held shows = record {
     agrees : Agrees h (shown e) (s.entry x)
     agrees = subst (λ (l : Look). Agrees h l (s.entry x)) shows
         ((ruled.whole.kept.facts.views a).hold.agrees h x held)
+
+    -- no page is taken for the task of an entry of kind Woken that stands
+    untaken : IsPageState s (all_differences items) (all_asked items) x → s.taken x ≡ None
+    untaken (inl i) = i.taken
+    untaken (inr (inl i)) = i.1.taken
+    untaken (inr (inr (inl i))) =
+        let both : Some i.2.stands.entry ≡ Some e = sym i.2.stands.is ∙ agrees.0 in
+        let one : i.2.stands.entry ≡ e = cc in
+        not_both (is_page e.kind) (subst (λ (f : Entry). is_page f.kind ≡ true) one i.2.stands.kind) (ap is_page woken)
+    untaken (inr (inr (inr i))) = not_both (uses_flag e.kind) (ap uses_flag woken) (i.1.off e agrees.0)
 
 -- the task's own flag may be loaded and cleared
 module _ (s : Table) (items : ℕ → List Item) (ruled : IsRuled s items) (x a : ℕ) (b : Book) (fits : Fits (s.task a) b)
@@ -105,13 +120,16 @@ module _ (s : Table) (items : ℕ → List Item) (ruled : IsRuled s items) (x a 
     leaves = load_leaves s a (place.Flag x) b _ _ ruled.lawful fits;
   }
 
-  pub unflags : KeepsLaw s a (place.Flag x) (flag_word false) (step.Unflag x None) b
-  unflags = record {
-    allowed = (mine, ruled.taken x);
+  -- The flag may be cleared where no page is taken for the task and no entry of its own for a page stands, or where its
+  -- history has none stored.
+  pub unflags : (o : Option ℕ) → s.taken x ≡ o → ((s.taken x ≡ None) × IsPageless (s.entry x))
+      ⊎ IsPageless ((s.view a).bits.stored x) → KeepsLaw s a (place.Flag x) (flag_word false) (step.Unflag x o) b
+  unflags o taken pageless = record {
+    allowed = (mine, taken);
     stored = tt;
-    orderly = tt;
-    places = still_places s a (step.Unflag x None) refl refl;
-    links = quiet_links s a (step.Unflag x None) (record {
+    orderly = pageless;
+    places = still_places s a (step.Unflag x o) refl refl;
+    links = quiet_links s a (step.Unflag x o) (record {
       holder = refl;
       spent = refl;
       mark = refl;

@@ -30,6 +30,7 @@ use Rattle.wait_model.specs.Words.{head_word, spent_of}
 use Rattle.wait_model.specs.Views.{View as Told, Hold}
 use Rattle.wait_model.specs.Fold.{after}
 use Rattle.wait_model.specs.Tables.{Table, next, raised_spent}
+use Rattle.wait_model.specs.Permits.{HandsOn}
 use Rattle.wait_model.specs.Rows.{AimsAt, MaySpend}
 use Rattle.wait_model.specs.Locations as place
 use Rattle.wait_model.specs.Locations.{Location, word_in}
@@ -193,10 +194,11 @@ module _ (s : Table) (a h : ℕ) where
             )
 
     pub unlocks : (b : Book) → IsLawfulTable s → Fits (s.task a) b → MaySpend (s.view a) sp → b.differs ≡ nothing
+        → HandsOn s a (step.Unlock h sp)
         → KeepsLaw s a (place.Head h) (head_word false (raised_spent sp (s.spent h))) (step.Unlock h sp) b
-    unlocks b l f may clear = record {
+    unlocks b l f may clear hands = record {
       allowed = (held, may);
-      stored = tt;
+      stored = hands;
       orderly = clear;
       places = still_places s a (step.Unlock h sp) refl refl;
       links = unlock_links;

@@ -63,12 +63,14 @@ use Rattle.wait_rule.specs.Rule.{Law, Holds}
 use Rattle.wait_rule.specs.Plays.{Sat, seat_with}
 use Rattle.wait_rule.specs.QueuePlays.{member_stored_play}
 use Rattle.wait_rule.proofs.TableSteps.ItemLists.{book_append}
+use Rattle.wait_rule.proofs.KnownLaws.AskedPages.{named_hands}
 use Rattle.wait_rule.proofs.KnownLaws.AfterSteps.{notes_after}
 use Rattle.wait_rule.proofs.KnownLaws.HeadLinks.{same_links}
 use Rattle.wait_rule.proofs.KnownLaws.MemberSteps.{differences_next, nothing_named, none_there}
 use Rattle.wait_rule.proofs.KnownLaws.TicketSteps.{tickets_same, beside_tickets}
 use Rattle.wait_rule.proofs.StepKinds.EntryKinds.{fits_difference}
 use Rattle.wait_rule.proofs.TableSteps.StateLaws.{allows}
+use Rattle.wait_rule.proofs.KnownLaws.TallySteps.{tallies_same}
 use Rattle.wait_rule.proofs.TableSteps.KeptSteps.{IsOwn, ruled_seen, written}
 use Rattle.wait_rule.proofs.TableSteps.QueueMoves.{head_seen}
 
@@ -101,6 +103,10 @@ member_serving : (beside : Location → ℕ) (m n h : ℕ)
     → with_member beside m n (place.Serving h) ≡ beside (place.Serving h)
 unfolding with_member
 member_serving beside m n h = refl
+
+member_tally : (beside : Location → ℕ) (m n p : ℕ) → with_member beside m n (place.Tally p) ≡ beside (place.Tally p)
+unfolding with_member
+member_tally beside m n p = refl
 
 -- words of the same bits
 pub alike : (n : ℕ) (f g : ℕ → Bool) → ((k : ℕ) → k < n → f k ≡ g k) → bit_word n f ≡ bit_word n g
@@ -251,6 +257,7 @@ module _ (c : Scene) (law : Law c) (a h i k : ℕ) (on : Bool) (head : h < HEADS
         (written c.words law.table law.table law.beside (with_member law.beside (MEMBER_WORDS * h + i) W0) l law.shown
         there (λ j ne. other_words law.table law.beside (MEMBER_WORDS * h + i) W0 j ne));
     ruled = ruled_seen c law a (item.Member ∷ []) refl tt
+        (named_hands a (WORD_BITS * i + k) (all_differences c.items a) index)
         (λ less. subst (Fits (law.table.task a)) (sym (book_append first_book (c.items a) (item.Member ∷ [])))
         (fits_difference (law.table.task a) (book_of (c.items a)) nothing (law.ruled.fits a less)))
         (same_links law.table c.items a (item.Member ∷ []) (notes_after a (c.items a) item.Member) law.ruled.linked);
@@ -262,6 +269,9 @@ module _ (c : Scene) (law : Law c) (a h i k : ℕ) (on : Bool) (head : h < HEADS
         (beside_tickets law.table (all_tickets c.items) law.beside (with_member law.beside (MEMBER_WORDS * h + i) W0)
         (member_next law.beside (MEMBER_WORDS * h + i) W0) (member_serving law.beside (MEMBER_WORDS * h + i) W0)
         law.tickets);
+    tallies = tallies_same c.items a (item.Member ∷ []) law.beside
+        (with_member law.beside (MEMBER_WORDS * h + i) W0) (λ p. refl)
+        (member_tally law.beside (MEMBER_WORDS * h + i) W0) law.tallies;
   }
     where
       W0 : ℕ

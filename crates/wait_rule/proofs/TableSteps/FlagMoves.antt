@@ -1,5 +1,5 @@
 -- What each step of a task on its own flag asks of the table of words, by the law of its kind.
-use Rattle.std.proofs.Common.{refl, ◌∙◌, ap, subst, sym, arith}
+use Rattle.std.proofs.Common.{refl, ◌∙◌, ap, subst, sym, arith, inl}
 use Rattle.std.specs.Prelude.{ℕ, ◌≡◌, ◌<◌, ◌+◌, ◌-◌, true, false, None, slice_index}
 use mathlib.Core.Option.{none}
 use Rattle.atomic_table.specs.Table.{step as move, Allows}
@@ -14,6 +14,7 @@ use Rattle.wait_rule.specs.Rule.{Holds, Law}
 use Rattle.wait_rule.specs.Plays.{Sat, seat_with}
 use Rattle.wait_rule.specs.QueuePlays.{flag_loaded_play, flag_cleared_play}
 use Rattle.wait_rule.proofs.TableSteps.KeptSteps.{KeepsLaw, steps}
+use Rattle.wait_rule.proofs.KnownLaws.StandingKinds.{asks_none}
 use Rattle.wait_rule.proofs.StepKinds.FlagKinds.{flag_loads, unflags}
 
 module _ (slots id : ℕ) (me : Sat) (lives : me.0.lives ≡ true) (x p : ℕ) (small : x < ENTRIES)
@@ -42,7 +43,11 @@ module _ (slots id : ℕ) (me : Sat) (lives : me.0.lives ≡ true) (x p : ℕ) (
       (λ _. Unit {0})
       (λ z items ruled own fits. (
         subst (λ (n : ℕ). KeepsLaw z me.0.number (place.Flag x) n (step.Unflag x None) (book_of me.0.items)) (sym is)
-            (unflags z items ruled x me.0.number (book_of me.0.items) fits mine),
+            (unflags z items ruled x me.0.number (book_of me.0.items) fits mine None
+            ((asks_none z items ruled me.0.number (ruled.unasked me.0.number)).taken x mine) (inl (
+              (asks_none z items ruled me.0.number (ruled.unasked me.0.number)).taken x mine,
+              λ e stands. (asks_none z items ruled me.0.number (ruled.unasked me.0.number)).none x e mine stands,
+            ))),
         tt,
       )) s r long at_id few in (
         a.0,

@@ -28,6 +28,7 @@ use Rattle.std.specs.Prelude.{
   eqb,
   ◌==◌,
   if◌then◌else◌,
+  Some,
   length,
   List,
   [],
@@ -41,7 +42,10 @@ use native.Mathlib.Decide.{ℕ_discrete}
 use prog.Atomic.{either}
 use Rattle.atomic_table.specs.Table.{Allows}
 use Rattle.wait_model.specs.declared.layout.TheConstants.{TASKS}
+use Rattle.wait_model.specs.declared.watches.Entry.{Entry}
 use Rattle.wait_model.specs.declared.steps.Step.{Step}
+use Rattle.wait_model.specs.declared.steps.Step.TheVariants as step
+use Rattle.wait_model.specs.Watches.{is_page}
 use Rattle.wait_model.specs.Functions.{put}
 use Rattle.wait_model.specs.Fold.{view_of}
 use Rattle.wait_model.specs.Tables.{Table, next}
@@ -63,18 +67,34 @@ use Rattle.wait_rule.specs.MemberWords.{is_beside, word_with, ShowsWith, all_dif
 use Rattle.wait_rule.specs.Tickets.{Ticket}
 use Rattle.wait_rule.specs.TicketWords.{all_tickets, AreTickets}
 use Rattle.wait_rule.specs.Journals.{Scene, moved, pushed}
-use Rattle.wait_rule.specs.Rule.{IsLawfulTable, IsWhole, AreLinked, all_notes, is_stepped, IsRuled, Law, Holds}
+use Rattle.wait_rule.specs.Rule.{
+  IsLawfulTable,
+  IsWhole,
+  AreLinked,
+  NoneAsks,
+  all_notes,
+  is_stepped,
+  IsRuled,
+  Law,
+  Holds,
+}
+use Rattle.wait_rule.specs.Asked.{Asked, nothing_asked, ask_step, asked_of, all_asked}
+use Rattle.wait_rule.specs.Pages.{ArePagesHanded}
 use Rattle.wait_rule.specs.Plays.{Sat, seat_with, seat_tried}
 use Rattle.wait_rule.proofs.TableSteps.ItemLists.{steps_append, book_append}
 use Rattle.wait_rule.proofs.KnownLaws.Moments.{interleaved_next}
 use Rattle.wait_rule.proofs.KnownLaws.MemberSteps.{IsOrderly, differences_next, differences_same, members_next}
 use Rattle.wait_rule.proofs.KnownLaws.TicketSteps.{tickets_next, tickets_same, tickets_after}
+use Rattle.wait_rule.proofs.KnownLaws.TallySteps.{KeepsTallies, tallies_same}
 use Rattle.wait_rule.proofs.KnownLaws.HeadLinks.{KeepsLinks, noted_next, noted_seen, same_links}
 use Rattle.wait_rule.proofs.KnownLaws.MemberPlaces.{KeepsPlaces, queued_next}
 use Rattle.wait_rule.proofs.WornHeads.WornNotes.{IsShort, worn_next}
-use Rattle.wait_rule.proofs.KnownLaws.OwnEntries.{IsFair, done_store, own_next}
+use Rattle.wait_rule.proofs.KnownLaws.OwnEntries.{IsFair, done_store, hands_on, own_next}
 use Rattle.wait_rule.proofs.KnownLaws.HeldCounts.{counts_next}
-use Rattle.wait_rule.proofs.KnownLaws.StandingKinds.{taken_next}
+use Rattle.wait_rule.proofs.KnownLaws.StandingKinds.{not_page}
+use Rattle.wait_rule.proofs.KnownLaws.PageSteps.{IsSound}
+use Rattle.wait_rule.proofs.KnownLaws.QueuedPages.{pages_next}
+use Rattle.wait_rule.proofs.KnownLaws.AskedPages.{HandsSame, pages_seen, asked_next, asked_same, asks_nothing}
 use Rattle.wait_rule.proofs.TableSteps.StateLaws.{allows, pushed_none}
 
 -- What a step of task a leaves: from the table s it leads to z, where the word at l is n and all others are as
@@ -103,7 +123,7 @@ whole_next s a e few al st w = record {
   signals = λ t. signals_stay_raised TASKS s a e t few al (w.signals t);
   bits = bits_stay_kept s a e w.kept w.told al w.bits;
   counts = λ d. counts_stay_balanced TASKS s a e d few al (done_store s a e st) (w.counts d);
-  interleaved = interleaved_next s a e few al w.interleaved;
+  interleaved = interleaved_next s a e few al (hands_on s a e st) w.interleaved;
 }
 
 not_stepped : (k l : Location) → is_stepped k ≡ false → is_stepped l ≡ true → k ≢ l
@@ -138,6 +158,37 @@ links_next s items a e r links = subst (AreLinked (next s a e))
     (sym (noted_next items a e (s.view a) (r.whole.told a ∙ ap view_of (r.histories a))))
     (links (all_notes items) r.linked)
 
+pages_after : (s : Table) (items : ℕ → List Item) (a : ℕ) (l : Location) (n : ℕ) (e : Step) → IsRuled s items
+    → KeepsLaw s a l n e (book_of (items a)) → ArePagesHanded (next s a e)
+    (all_differences (put items a (items a ++ item.Made e ∷ [])))
+    (all_asked (put items a (items a ++ item.Made e ∷ [])))
+pages_after s items a l n e r k =
+    subst (λ (d : ℕ → Difference). ArePagesHanded (next s a e) d
+    (all_asked (put items a (items a ++ item.Made e ∷ []))))
+    (sym (differences_next items a (item.Made e ∷ [])))
+    (subst (ArePagesHanded (next s a e) (put (all_differences items) a (learn_step e (book_of (items a))).differs))
+    (sym (asked_next items a (item.Made e ∷ [])))
+    (pages_next s a (book_of (items a)) (all_differences items) (all_asked items) refl r.pages sound e k.allowed
+    k.orderly))
+  where
+    sound : IsSound s
+    sound = record {
+      one = r.whole.kept.facts.one_holder;
+      stored = r.whole.kept.bits.stored_is;
+      seen = λ b h x. (r.whole.kept.facts.views b).bits.seen h x;
+    }
+
+-- an entry that is queued is none for a page
+unasked_after : (s : Table) (items : ℕ → List Item) (a : ℕ) (l : Location) (n : ℕ) (e : Step) → IsRuled s items
+    → KeepsLaw s a l n e (book_of (items a)) → NoneAsks (all_asked (put items a (items a ++ item.Made e ∷ [])))
+unasked_after s items a l n e r k t = ap (λ (f : ℕ → Asked). f t) (asked_next items a (item.Made e ∷ []))
+    ∙ put_at (λ (w : Asked). w ≡ nothing_asked) (all_asked items) a (ask_step e (asked_of (items a))) t
+    (λ q. ap (ask_step e) (r.unasked a) ∙ asks_nothing e stands) (λ ne. r.unasked t)
+  where
+    stands : (x : ℕ) (f : Entry) → e ≡ step.Queue x f → is_page f.kind ≡ false
+    stands x f is = not_page x f (k.leaves.lawful.entries x f
+        (ap (λ (c : Step). (next s a c).entry x) is ∙ put_same s.entry x (Some f)))
+
 pub ruled_next : (s : Table) (items : ℕ → List Item) (a : ℕ) (l : Location) (n : ℕ) (e : Step)
     → a < TASKS → MayChangeWord l a e → IsRuled s items → KeepsLaw s a l n e (book_of (items a))
     → IsRuled (next s a e) (put items a (items a ++ item.Made e ∷ []))
@@ -154,7 +205,8 @@ ruled_next s items a l n e few is r k = record {
   placed = k.places few r.placed;
   own = own_next s a e k.allowed k.stored r.own;
   counts = counts_next s a e k.allowed r.whole.kept.facts.one_holder r.counts;
-  taken = taken_next s a e r.lawful k.allowed r.taken;
+  pages = pages_after s items a l n e r k;
+  unasked = unasked_after s items a l n e r k;
   worn = worn_next s (next s a e) items a (item.Made e ∷ []) tt r.worn
       (λ h. let n = queued_next s a e h few in omega (arith, n)) (whole_next s a e few k.allowed k.stored r.whole)
       (histories_next s items a e r.histories) k.leaves.lawful (links_next s items a e r k.links)
@@ -199,6 +251,7 @@ pub stepped_plain : (l : Location) → is_stepped l ≡ true → is_beside l ≡
 stepped_plain (place.Member k) is = absurd (cc)
 stepped_plain (place.Next h) is = absurd (cc)
 stepped_plain (place.Serving h) is = absurd (cc)
+stepped_plain (place.Tally p) is = absurd (cc)
 stepped_plain l is = refl
 
 -- the tickets after a step
@@ -227,6 +280,7 @@ law_next c law a l n e few there plain is k = record {
       (members_next law.table a (book_of (c.items a)) (all_differences c.items) law.beside
       law.ruled.whole.kept.facts.one_holder refl e k.allowed k.orderly law.members);
   tickets = tickets_on c law a e few k.allowed k.orderly;
+  tallies = tallies_same c.items a (item.Made e ∷ []) law.beside law.beside (λ p. refl) (λ p. refl) law.tallies;
 }
 
 -- items that store no word and no bit
@@ -249,9 +303,10 @@ module _ (c : Scene) (law : Law c) (a : ℕ) (xs : List Item) (none : steps_of x
       ∙ append-nil (steps_of (c.items a))))))
       (λ ne. law.ruled.histories t)
 
-  pub ruled_seen : IsShort xs → (a < TASKS → Fits (law.table.task a) (book_of (c.items a ++ xs)))
+  pub ruled_seen : IsShort xs → HandsSame (book_of (c.items a)).differs (book_from (book_of (c.items a)) xs).differs
+      → (a < TASKS → Fits (law.table.task a) (book_of (c.items a ++ xs)))
       → AreLinked law.table (put (all_notes c.items) a (notes_of a (c.items a ++ xs))) → IsRuled law.table grown_items
-  ruled_seen short own links = record {
+  ruled_seen short hands own links = record {
     whole = law.ruled.whole;
     histories = histories_seen;
     lawful = law.ruled.lawful;
@@ -264,7 +319,13 @@ module _ (c : Scene) (law : Law c) (a : ℕ) (xs : List Item) (none : steps_of x
     placed = law.ruled.placed;
     own = law.ruled.own;
     counts = law.ruled.counts;
-    taken = law.ruled.taken;
+    pages = subst (λ (d : ℕ → Difference). ArePagesHanded law.table d (all_asked grown_items))
+        (sym (differences_next c.items a xs))
+        (subst (ArePagesHanded law.table (put (all_differences c.items) a (book_from (book_of (c.items a)) xs).differs))
+        (sym (asked_same c.items a xs none))
+        (pages_seen law.table a (book_from (book_of (c.items a)) xs).differs (all_differences c.items)
+        (all_asked c.items) hands law.ruled.pages));
+    unasked = λ t. ap (λ (f : ℕ → Asked). f t) (asked_same c.items a xs none) ∙ law.ruled.unasked t;
     worn = worn_next law.table law.table c.items a xs short law.ruled.worn (λ h. omega arith) law.ruled.whole
         histories_seen law.ruled.lawful (subst (AreLinked law.table) (sym (noted_seen c.items a xs)) links)
         law.ruled.placed;
@@ -272,27 +333,29 @@ module _ (c : Scene) (law : Law c) (a : ℕ) (xs : List Item) (none : steps_of x
   }
 
   law_seen : (l : Location) (n : ℕ) → IsLocation l → is_beside l ≡ false → n ≡ slice_index c.words (position_of l)
-      → IsShort xs → KeepsDifference xs → KeepsTicket xs
+      → IsShort xs → KeepsDifference xs → KeepsTicket xs → KeepsTallies xs
       → (a < TASKS → Fits (law.table.task a) (book_of (c.items a ++ xs)))
       → AreLinked law.table (put (all_notes c.items) a (notes_of a (c.items a ++ xs)))
       → Law (moved c a (position_of l) n xs)
-  law_seen l n there plain is short agreed ticket own links = record {
+  law_seen l n there plain is short agreed ticket adds own links = record {
     table = law.table;
     beside = law.beside;
     shown = subst (λ (m : ℕ). ShowsWith (slice_set c.words (position_of l) m) law.table law.beside)
         (sym (is ∙ law.shown.each l there))
         (written c.words law.table law.table law.beside law.beside l law.shown there (λ k ne. refl));
-    ruled = ruled_seen short own links;
+    ruled = ruled_seen short (inl (agreed (book_of (c.items a)))) own links;
     members = subst (λ (d : ℕ → Difference). AreMembers law.table d law.beside)
         (sym (differences_same c.items a xs (agreed (book_of (c.items a))))) law.members;
     tickets = subst (λ (f : ℕ → Ticket). AreTickets law.table f law.beside)
         (sym (tickets_same c.items a xs (ticket (book_of (c.items a))))) law.tickets;
+    tallies = tallies_same c.items a xs law.beside law.beside adds (λ p. refl) law.tallies;
   }
 
 -- a load that adds nothing
 pub law_still : (c : Scene) (law : Law c) (a : ℕ) (l : Location) (n : ℕ) → IsLocation l → is_beside l ≡ false
     → n ≡ slice_index c.words (position_of l) → Law (moved c a (position_of l) n [])
 law_still c law a l n there plain is = law_seen c law a [] refl l n there plain is tt (λ b. refl) (λ b. refl)
+    (λ p. refl)
     (λ few. subst (λ (xs : List Item). Fits (law.table.task a) (book_of xs)) (sym (append-nil (c.items a)))
     (law.ruled.fits a few))
     (same_links law.table c.items a [] (ap (notes_of a) (append-nil (c.items a))) law.ruled.linked)
@@ -361,11 +424,12 @@ module _ (slots id : ℕ) (me : Sat) (lives : me.0.lives ≡ true) (l : Location
   -- a load that adds an item that is no step, or nothing
   pub loads : is_beside l ≡ false → (xs : ℕ → List Item) (tells : ℕ → Type 0) → ((n : ℕ) → IsShort (xs n))
       → ((n : ℕ) → steps_of (xs n) ≡ []) → ((n : ℕ) → KeepsDifference (xs n)) → ((n : ℕ) → KeepsTicket (xs n))
+      → ((n : ℕ) → KeepsTallies (xs n))
       → Always (λ s n. Fits (s.task me.0.number) (book_of (me.0.items ++ xs n)) × tells n)
       → ((s : Table) (items : ℕ → List Item) → IsRuled s items → IsOwn s items me → AreLinked s
       (put (all_notes items) me.0.number (notes_of me.0.number (items me.0.number ++ xs (word_in s l)))))
       → Allows (Holds Law) slots id me p (λ n. n) (λ n m. (m ≡ (pushed me.0 (xs n), me.1)) × tells n)
-  loads plain xs tells short none agreed ticket always links = subst
+  loads plain xs tells short none agreed ticket adds always links = subst
       (λ (k : ℕ). Allows (Holds Law) slots id me k (λ n. n) (λ n m. (m ≡ (pushed me.0 (xs n), me.1)) × tells n))
       (sym at)
       (allows Law slots id me.0 me.1 (position_of l) (λ n. n) xs tells lives
@@ -381,6 +445,7 @@ module _ (slots id : ℕ) (me : Sat) (lives : me.0.lives ≡ true) (l : Location
           (apply (λ s n. Fits (s.task me.0.number) (book_of (me.0.items ++ xs n)) × tells n) always c law few own)
           in (
             law_seen c law me.0.number (xs n) (none n) l n there plain reads (short n) (agreed n) (ticket n)
+                (adds n)
                 (λ _. subst (λ (ys : List Item). Fits (law.table.task me.0.number) (book_of (ys ++ xs n))) (sym own)
                 k.0)
                 (subst (λ (n : ℕ). AreLinked law.table (put (all_notes c.items) me.0.number

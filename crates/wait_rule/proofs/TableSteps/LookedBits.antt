@@ -73,6 +73,7 @@ use Rattle.wait_rule.proofs.KnownLaws.MemberSteps.{
 use Rattle.wait_rule.specs.Tickets.{Ticket}
 use Rattle.wait_rule.specs.TicketWords.{AreTickets}
 use Rattle.wait_rule.proofs.KnownLaws.TicketSteps.{tickets_same}
+use Rattle.wait_rule.proofs.KnownLaws.TallySteps.{tallies_same}
 use Rattle.wait_rule.proofs.TableSteps.KeptSteps.{
   ChangesNone,
   tickets_on,
@@ -131,6 +132,7 @@ look_law c law a l n e few idle k = record {
       (members_next law.table a (book_of (c.items a)) (all_differences c.items) law.beside
       law.ruled.whole.kept.facts.one_holder refl e k.allowed k.orderly law.members);
   tickets = tickets_on c law a e few k.allowed k.orderly;
+  tallies = tallies_same c.items a (item.Made e ∷ []) law.beside law.beside (λ p. refl) (λ p. refl) law.tallies;
 }
 
 saw_none : (a x w : ℕ) → ChangesNone a (step.Saw x w)
@@ -144,7 +146,7 @@ mark_law c law a t few = record {
   table = law.table;
   beside = law.beside;
   shown = record { count = law.shown.count; each = law.shown.each };
-  ruled = ruled_seen c law a (item.Bookmark t w ∷ []) refl tt
+  ruled = ruled_seen c law a (item.Bookmark t w ∷ []) refl tt (inl refl)
       (λ less. subst (Fits (law.table.task a)) (sym (book_append first_book (c.items a) (item.Bookmark t w ∷ [])))
       (law.ruled.fits a less))
       (subst (λ (k : Notes). AreLinked law.table (put (all_notes c.items) a k)) (sym by)
@@ -153,6 +155,7 @@ mark_law c law a t few = record {
       (sym (differences_same c.items a (item.Bookmark t w ∷ []) refl)) law.members;
   tickets = subst (λ (f : ℕ → Ticket). AreTickets law.table f law.beside)
       (sym (tickets_same c.items a (item.Bookmark t w ∷ []) refl)) law.tickets;
+  tallies = tallies_same c.items a (item.Bookmark t w ∷ []) law.beside law.beside (λ p. refl) (λ p. refl) law.tallies;
 }
   where
     w : ℕ
@@ -181,6 +184,7 @@ word_back c a m xs law there = record {
   ruled = law.ruled;
   members = law.members;
   tickets = law.tickets;
+  tallies = law.tallies;
 }
 
 -- a note of the load of a member word
@@ -189,7 +193,7 @@ word_law c law a w = record {
   table = law.table;
   beside = law.beside;
   shown = record { count = law.shown.count; each = law.shown.each };
-  ruled = ruled_seen c law a (item.Word w ∷ []) refl tt
+  ruled = ruled_seen c law a (item.Word w ∷ []) refl tt (inl refl)
       (λ less. subst (Fits (law.table.task a)) (sym (book_append first_book (c.items a) (item.Word w ∷ [])))
       (law.ruled.fits a less))
       (same_links law.table c.items a (item.Word w ∷ []) (notes_after a (c.items a) (item.Word w)) law.ruled.linked);
@@ -197,6 +201,7 @@ word_law c law a w = record {
       (sym (differences_same c.items a (item.Word w ∷ []) refl)) law.members;
   tickets = subst (λ (f : ℕ → Ticket). AreTickets law.table f law.beside)
       (sym (tickets_same c.items a (item.Word w ∷ []) refl)) law.tickets;
+  tallies = tallies_same c.items a (item.Word w ∷ []) law.beside law.beside (λ p. refl) (λ p. refl) law.tallies;
 }
 
 -- a seat with more items

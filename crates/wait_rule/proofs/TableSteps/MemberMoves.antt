@@ -46,6 +46,7 @@ use Rattle.wait_model.specs.declared.layout.TheConstants.{
 use Rattle.wait_model.specs.declared.watches.Watch.{Watch}
 use Rattle.wait_model.specs.declared.watches.Watch.TheVariants as watch
 use Rattle.wait_model.specs.declared.watches.Entry.{Entry}
+use Rattle.wait_model.specs.declared.watches.Kind.TheVariants as kind
 use Rattle.wait_model.specs.declared.queues.Mark.{Mark}
 use Rattle.wait_model.specs.declared.steps.Step.TheVariants as step
 use Rattle.wait_model.specs.Functions.{put}
@@ -62,10 +63,11 @@ use Rattle.wait_model.proofs.WordLaws.DecodedWords.{entry_read, mark_read, no_ma
 use Rattle.wait_model.proofs.Functions.{put_at}
 use Rattle.wait_rule.specs.declared.journal.Item.{Item}
 use Rattle.wait_rule.specs.declared.journal.Item.TheVariants as item
-use Rattle.wait_rule.specs.Items.{nothing, book_of, first_book, Fits}
+use Rattle.wait_rule.specs.Items.{nothing, page_told, book_of, first_book, Fits}
 use Rattle.wait_rule.specs.Notes.{Notes, Glance, away, there, glance_at, notes_of}
 use Rattle.wait_rule.specs.Members.{IsStanding, IsStandingMark, IsOwnKind, IsEntryWord, IsMarkWord, MarkAgrees}
 use Rattle.wait_rule.specs.MemberWords.{is_beside}
+use Rattle.wait_rule.specs.HandedPermits.{FoundNoPermit}
 use Rattle.wait_rule.specs.Known.{known}
 use Rattle.wait_rule.specs.Rule.{IsRuled, is_stepped, AreLinked, all_notes, Law, Holds}
 use Rattle.wait_rule.specs.Says.{told_of, noted}
@@ -95,6 +97,8 @@ use Rattle.wait_rule.specs.QueuePlays.{
 }
 use Rattle.wait_rule.proofs.TableSteps.ItemLists.{book_append}
 use Rattle.wait_rule.proofs.KnownLaws.AfterSteps.{notes_after}
+use Rattle.wait_rule.proofs.KnownLaws.HandedPermits.{queue_on}
+use Rattle.wait_rule.proofs.KnownLaws.HeldHeads.{head_told}
 use Rattle.wait_rule.proofs.KnownLaws.MemberPlaces.{mark_keeps, queue_keeps}
 use Rattle.wait_rule.proofs.KnownLaws.OwnStored.{owned}
 use Rattle.wait_rule.proofs.TableSteps.KeptSteps.{IsOwn, KeepsLaw, ChangesNone, steps, all_steps, loads}
@@ -153,12 +157,14 @@ module _ (slots id : ℕ) (me : Sat) (lives : me.0.lives ≡ true) (x p : ℕ) (
         (is_entry s items ruled x, knew_entry s items me x ruled own),
       )))
 
-  pub queue_moves : (e : Entry) (word at_last : ℕ) (d : TableId) → word ≡ entry_word (Some e) → owner x ≡ me.0.number
+  pub queue_moves : (e : Entry) (word at_last slot : ℕ) (d : TableId) → word ≡ entry_word (Some e)
+      → owner x ≡ me.0.number → x ≡ index me.0.number slot → head_of e.watch ≡ at_last
+      → FoundNoPermit (known d me.0 at_last) slot
       → IsStanding x e → (book_of me.0.items).head ≡ Some (head_of e.watch)
       → (told_of (known d me.0 0)).hold.book x ≡ off → IsWholeBook (known d me.0 at_last)
       → IsPlaceFor (known d me.0 at_last) e.priority e.place → (book_of me.0.items).differs ≡ nothing
       → Allows (Holds Law) slots id me p (λ _. word) (λ _. queued_play (move slots p word 0 none) me word)
-  queue_moves e word at_last d is mine standing held shows whole front clear s r long at_id few =
+  queue_moves e word at_last slot d is mine own_is here found standing held shows whole front clear s r long at_id few =
       let a = steps slots id me lives (place.Entry x) small p at refl (λ _. word) (λ w. step.Queue x e)
       (λ _. Unit {0})
       (λ s items ruled own fits. (
@@ -168,7 +174,9 @@ module _ (slots id : ℕ) (me : Sat) (lives : me.0.lives ≡ true) (x p : ℕ) (
             (ap (λ (v : Told). v.hold.book x) own.told ∙ shows)
             (queue_keeps s items ruled me.0.number (head_of e.watch) (known d me.0 at_last)
             (head_seen s items me (Some (head_of e.watch)) own held) own.told
-            (ap (notes_of me.0.number) own.list) x e whole refl front) clear),
+            (ap (notes_of me.0.number) own.list) x e whole refl front) clear
+            (queue_on s items ruled (known d me.0 at_last) own.list slot x e own_is here
+            (sym (head_told me.0.items) ∙ (held ∙ ap (λ (h : ℕ). Some h) here)) found)),
         tt,
       )) s r long at_id few in (
         a.0,
@@ -184,7 +192,8 @@ module _ (slots id : ℕ) (me : Sat) (lives : me.0.lives ≡ true) (x p : ℕ) (
 
   pub unqueue_moves : (h : ℕ) (e : Entry) (d : TableId) → (book_of me.0.items).head ≡ Some h
       → (told_of (known d me.0 0)).hold.book x ≡ shown e → (owner x ≡ me.0.number) ⊎ (IsOwnKind e.kind → ⊥)
-      → (book_of me.0.items).differs ≡ nothing → Allows (Holds Law) slots id me p (λ _. 0)
+      → ((book_of me.0.items).differs ≡ nothing) ⊎ ((book_of me.0.items).differs ≡ page_told x)
+      → Allows (Holds Law) slots id me p (λ _. 0)
       (λ _. unqueued_play (move slots p 0 0 none) me 0)
   unqueue_moves h e d held shows may clear s r long at_id few =
       let a = steps slots id me lives (place.Entry x) small p at refl (λ _. 0) (λ w. step.Unqueue x)
@@ -200,14 +209,14 @@ module _ (slots id : ℕ) (me : Sat) (lives : me.0.lives ≡ true) (x p : ℕ) (
 pub flag_moves : (slots id : ℕ) (me : Sat) → me.0.lives ≡ true → (x p word h : ℕ) (e : Entry) (d : TableId)
     → x < ENTRIES
     → p ≡ FLAG_AT + x → word ≡ flag_word true → (book_of me.0.items).head ≡ Some h
-    → (told_of (known d me.0 0)).hold.book x ≡ shown e
+    → (told_of (known d me.0 0)).hold.book x ≡ shown e → e.kind ≡ kind.Woken
     → Allows (Holds Law) slots id me p (λ _. word) (λ _. flag_set_play (move slots p word 0 none) me word)
-flag_moves slots id me lives x p word h e d small at is held shows s r long at_id few =
+flag_moves slots id me lives x p word h e d small at is held shows woken s r long at_id few =
     let a = steps slots id me lives (place.Flag x) small p at refl (λ _. word) (λ w. step.Woken x) (λ _. Unit {0})
     (λ s items ruled own fits. (
       subst (λ (n : ℕ). KeepsLaw s me.0.number (place.Flag x) n (step.Woken x) (book_of me.0.items)) (sym is)
           (flags s items ruled x me.0.number (book_of me.0.items) fits h e (head_seen s items me (Some h) own held)
-          (ap (λ (v : Told). v.hold.book x) own.told ∙ shows)),
+          (ap (λ (v : Told). v.hold.book x) own.told ∙ shows) woken),
       tt,
     )) s r long at_id few in
     let there : x ≡ p - FLAG_AT = omega arith in
@@ -273,7 +282,7 @@ module _ (slots id : ℕ) (me : Sat) (lives : me.0.lives ≡ true) (t p : ℕ) (
       × (IsMarkWord n × ((d : TableId) → KnewMark (known d me.0 0) k n)))) mark_there
       (loads slots id me lives (place.Bookmark t) small p at refl (λ w. item.Bookmark t w ∷ [])
       (λ n. IsMarkWord n × ((d : TableId) → KnewMark (known d me.0 0) t n)) (λ _. tt) (λ _. refl) (λ _ b. refl)
-      (λ _ b. refl)
+      (λ _ b. refl) (λ _ p. refl)
       (λ s items ruled own fits. (
         subst (Fits (s.task me.0.number))
             (sym (book_append first_book me.0.items (item.Bookmark t (mark_word (s.mark t)) ∷ []))) fits,

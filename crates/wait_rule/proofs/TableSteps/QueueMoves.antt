@@ -48,6 +48,8 @@ use Rattle.wait_rule.proofs.TableSteps.StateLaws.{allows, pushed_none}
 use Rattle.wait_rule.specs.Tickets.{served}
 use Rattle.wait_rule.specs.TicketWords.{all_tickets}
 use Rattle.wait_rule.specs.Journals.{Scene, moved}
+use Rattle.wait_rule.specs.HandedPermits.{OwesNoPermit}
+use Rattle.wait_rule.proofs.KnownLaws.HandedPermits.{unlock_on}
 use Rattle.wait_rule.proofs.KnownLaws.TicketSteps.{free_head, holds_none}
 use Rattle.wait_rule.proofs.TableSteps.KeptSteps.{IsOwn, KeepsLaw, steps, loads, law_next}
 use Rattle.wait_rule.proofs.StepKinds.HeadKinds.{lock_word, locks, unlocks}
@@ -123,7 +125,7 @@ module _ (slots id : ℕ) (me : Sat) (lives : me.0.lives ≡ true) (h p : ℕ) (
   head_peek_moves held s r long at_id few =
       let a = loads slots id me lives (place.Head h) small p at refl (λ _. [])
       (λ n. (d : TableId) → n ≡ head_word true ((told_of (known d me.0 0)).checks.found (p - HEAD_AT))) (λ _. tt)
-      (λ _. refl) (λ _ b. refl) (λ _ b. refl)
+      (λ _. refl) (λ _ b. refl) (λ _ b. refl) (λ _ p. refl)
       (λ s items ruled own fits. (
         subst (λ (xs : List Item). Fits (s.task me.0.number) (book_of xs)) (sym (append-nil me.0.items)) fits,
         λ d. (λ i. head_word ((ruled.whole.kept.facts.views me.0.number).hold.held h (mine s items own held) i)
@@ -140,9 +142,9 @@ module _ (slots id : ℕ) (me : Sat) (lives : me.0.lives ≡ true) (h p : ℕ) (
       → MaySpend (told_of (known d me.0 0)) spent
       → ((n : ℕ) → n < 2 ^ 62 → n ≡ (told_of (known d me.0 0)).checks.found h
       → f (head_word true n) ≡ head_word false (raised_spent spent n))
-      → (book_of me.0.items).differs ≡ nothing → (k : ℕ)
+      → (book_of me.0.items).differs ≡ nothing → OwesNoPermit (known d me.0 h) → (k : ℕ)
       → Allows (Holds Law) slots id me p f (unlocked_play named (move slots p k 0 none) me)
-  unlock_moves spent named d f same held may frees clear k s r long at_id few =
+  unlock_moves spent named d f same held may frees clear owes k s r long at_id few =
       let a = steps slots id me lives (place.Head h) small p at refl f (λ w. step.Unlock h spent) (λ _. Unit {0})
       (λ s items ruled own fits. (
         subst (λ (n : ℕ). KeepsLaw s me.0.number (place.Head h) n (step.Unlock h spent) (book_of me.0.items))
@@ -152,7 +154,8 @@ module _ (slots id : ℕ) (me : Sat) (lives : me.0.lives ≡ true) (h p : ℕ) (
             (ruled.linked.spent me.0.number h (mine s items own held)
             ∙ ap (λ (v : Told). v.checks.found h) own.told)))
             (unlocks s me.0.number h spent (mine s items own held) ruled.whole.kept.facts.one_holder
-            (book_of me.0.items) ruled.lawful fits (subst (λ (v : Told). MaySpend v spent) (sym own.told) may) clear),
+            (book_of me.0.items) ruled.lawful fits (subst (λ (v : Told). MaySpend v spent) (sym own.told) may) clear
+            (unlock_on s items ruled (known d me.0 h) own.list spent owes)),
         tt,
       )) s r long at_id few in
       (a.0, a.1, a.2, a.3, a.4.0 ∙ (λ i. seat_with me (item.Made (step.Unlock (head_there i) (same i)))))

@@ -41,7 +41,18 @@ use Rattle.wait_model.specs.Locations.{Location, IsLocation, position_of, word_i
 use Rattle.wait_model.proofs.WordLaws.BitWords.{bit_read}
 use Rattle.wait_rule.specs.declared.journal.Item.{Item}
 use Rattle.wait_rule.specs.declared.journal.Item.TheVariants as item
-use Rattle.wait_rule.specs.Items.{Difference, nothing, at_entry, at_mark, Book, steps_of, book_of, Fits}
+use Rattle.wait_rule.specs.Items.{
+  Difference,
+  nothing,
+  at_entry,
+  at_mark,
+  page_taken,
+  page_told,
+  Book,
+  steps_of,
+  book_of,
+  Fits,
+}
 use Rattle.wait_rule.specs.Journals.{Scene, moved}
 use Rattle.wait_rule.specs.MemberWords.{names, index_named, is_put, all_differences, AreMembers}
 use Rattle.wait_rule.specs.Rule.{IsRuled, Law, Holds}
@@ -102,6 +113,12 @@ module _ (s : Table) (items : ℕ → List Item) (ruled : IsRuled s items) (diff
     by_difference : (b : ℕ) → (s.view b).hold.head ≡ Some h → (d : Difference) → differs b ≡ d
         → IsUntested (s.view (owner x)) h x
     by_difference b holds nothing is = by_holder b holds (nothing_named b (differs b) x is)
+    by_difference b holds (page_taken y) is = by_holder b holds (λ q.
+        let none : ◌≡◌ {A = Option ℕ} None (Some x) = sym (ap (index_named b) is) ∙ q in
+        absurd (cc))
+    by_difference b holds (page_told y) is = by_holder b holds (λ q.
+        let none : ◌≡◌ {A = Option ℕ} None (Some x) = sym (ap (index_named b) is) ∙ q in
+        absurd (cc))
     by_difference b holds (at_mark on) is = by_holder b holds (λ q.
         let same : ENTRIES + b ≡ x = some_same (ENTRIES + b) x (sym (ap (index_named b) is) ∙ q) in
         let low = small in

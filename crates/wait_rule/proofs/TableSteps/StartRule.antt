@@ -1,8 +1,10 @@
 -- The rule holds of the words at the start, with task 0 alone.
-use Rattle.std.proofs.Common.{refl, sym, ◌∙◌, ap, subst, arith, inl, le-ltb, lt-ltb, lt_of_not-le}
+use Rattle.std.proofs.Common.{refl, sym, ◌∙◌, ap, subst, arith, inl, inr, le-ltb, lt-ltb, lt_of_not-le}
 use Rattle.std.specs.Prelude.{
   ◌-◌,
   ◌+◌,
+  ◌%◌,
+  ◌^◌,
   ℕ,
   zero,
   suc,
@@ -18,6 +20,9 @@ use Rattle.std.specs.Prelude.{
   ltb,
   nat_lt,
   if◌then◌else◌,
+  Option,
+  Some,
+  None,
   List,
   [],
   ◌∷◌,
@@ -28,6 +33,7 @@ use Rattle.std.specs.Prelude.{
 use native.Mathlib.Decide.{dec_le}
 use Rattle.atomic_table.specs.Table.{opening}
 use Rattle.wait_model.specs.declared.layout.TheConstants.{TASKS, ENTRIES, WORD_BITS, ENTRY_AT, RUNNABLE}
+use Rattle.wait_model.specs.Watches.{owner}
 use Rattle.wait_model.specs.Tables.{start}
 use Rattle.wait_model.specs.Totals.{total}
 use Rattle.wait_model.proofs.HistoryLaws.StepTotals.{sum_zero}
@@ -43,10 +49,13 @@ use Rattle.wait_model.proofs.BitLaws.BitKeepers.{bits_start_kept}
 use Rattle.wait_model.proofs.AccountLaws.DoneCounts.{counts_start_balanced}
 use Rattle.wait_rule.specs.declared.journal.Item.{Item}
 use Rattle.wait_rule.specs.Items.{steps_of, book_of, Fits}
+use Rattle.wait_rule.specs.Asked.{nothing_asked, asked_of, waits_at, given_at, all_asked}
+use Rattle.wait_rule.specs.Pages.{takes}
 use Rattle.wait_rule.specs.Notes.{notes_of}
 use Rattle.wait_rule.specs.Journals.{fresh, seen_as}
 use Rattle.wait_rule.specs.Tickets.{Ticket, no_ticket, is_of, is_given, ShowsNumber, out_below}
 use Rattle.wait_rule.specs.TicketWords.{all_tickets, unlocks_at, unlocked_at, unserved, AreTickets}
+use Rattle.wait_rule.specs.Tallies.{amounts_of, tally_of, AreTallies}
 use Rattle.wait_rule.specs.Rule.{IsRuled, Law, Holds}
 use Rattle.wait_rule.specs.Start.{start_of, IsStart}
 use Rattle.wait_rule.proofs.TableSteps.ForksAndJoins.{alone}
@@ -60,7 +69,7 @@ start_ruled items none = record {
     signals = λ t. signals_start_raised TASKS t;
     bits = bits_start_kept;
     counts = λ d. counts_start_balanced TASKS d;
-    interleaved = record { steps = []; allowed = tt; leads = refl };
+    interleaved = record { steps = []; allowed = tt; handed = tt; leads = refl };
   };
   histories = λ a. ap steps_of (sym (none a));
   lawful = record {
@@ -85,10 +94,27 @@ start_ruled items none = record {
   };
   own = λ x e is. absurd (cc);
   counts = λ a d n held. absurd (cc);
-  taken = λ x. refl;
+  pages = record {
+    each = λ x. inl (record {
+      taken = refl;
+      none = λ e is. absurd (cc);
+      waits = ap (waits_at x) (unasked (owner x));
+      given = ap (given_at x) (unasked (owner x));
+    });
+    own = λ t x p at. elim at [
+      | inl w ↦ absurd (let z : ◌≡◌ {A = Option ℕ} None (Some p) = sym (ap (waits_at x) (unasked t)) ∙ w in cc)
+      | inr g ↦ absurd (let z : ◌≡◌ {A = Option ℕ} None (Some p) = sym (ap (given_at x) (unasked t)) ∙ g in cc)
+    ];
+    hands = λ a x is. absurd (let z : ◌≡◌ {A = Option ℕ} None (Some x) =
+        sym (ap (λ (xs : List Item). takes (book_of xs).differs) (none a)) ∙ is in cc);
+  };
+  unasked = unasked;
   worn = λ t h p w. absurd (none_worn t h p (items t) (none t) w);
   untouched = λ l unset. refl;
 }
+  where
+    unasked : (t : ℕ) → all_asked items t ≡ nothing_asked
+    unasked t = ap asked_of (none t)
 
 -- no entry stands, and all member words and tickets are 0
 start_shows : (ws : List ℕ) → Shows ws start → ShowsWith ws start (λ l. 0)
@@ -150,6 +176,12 @@ start_tickets tickets none = record {
     not_out : {A : Type 0} (a h : ℕ) → is_of h (tickets a) ≡ true → A
     not_out a h out = absurd (let z : false ≡ true = sym (ap (is_of h) (none a)) ∙ out in cc)
 
+start_tallies : (items : ℕ → List Item) → ((t : ℕ) → items t ≡ []) → AreTallies items (λ l. 0)
+start_tallies items none p =
+    let sum : tally_of p items ≡ 0 =
+    sum_zero TASKS (λ t. amounts_of p (items t)) (λ t few. ap (amounts_of p) (none t)) in
+    sym (ap (λ (n : ℕ). n % 2 ^ 64) sum)
+
 past_end : (ws : List ℕ) (p : ℕ) → length ws ≤ p → slice_index ws p ≡ 0
 past_end [] p far = refl
 past_end (w ∷ ws) zero far = absurd (omega arith)
@@ -184,6 +216,8 @@ begins ws is = record {
     members = start_members (all_differences (seen_as ws (fresh 0 1 (TASKS - 1) ∷ [])).items);
     tickets = start_tickets (all_tickets (seen_as ws (fresh 0 1 (TASKS - 1) ∷ [])).items)
         (λ t. ap (λ (l : List Item). (book_of ((l ++ []) ++ [])).ticket) (nothing (eqb 0 t)));
+    tallies = start_tallies (seen_as ws (fresh 0 1 (TASKS - 1) ∷ [])).items
+        (λ t. ap (λ (l : List Item). (l ++ []) ++ []) (nothing (eqb 0 t)));
     ruled = start_ruled (seen_as ws (fresh 0 1 (TASKS - 1) ∷ [])).items
         (λ t. ap (λ (l : List Item). (l ++ []) ++ []) (nothing (eqb 0 t)));
   };

@@ -59,6 +59,7 @@ use Rattle.wait_rule.specs.Items.{Difference, first_book, steps_of, book_from, b
 use Rattle.wait_rule.specs.Notes.{notes_of}
 use Rattle.wait_rule.specs.Journals.{Scene, moved, owns, has_of}
 use Rattle.wait_rule.specs.MemberWords.{word_with, ShowsWith, AreMembers}
+use Rattle.wait_rule.specs.Tallies.{AreTallies}
 use Rattle.wait_rule.specs.Rule.{Law, Holds}
 use Rattle.wait_rule.specs.Says.{ServesUnlocks}
 use Rattle.wait_rule.specs.Plays.{Sat, seat_with}
@@ -79,6 +80,7 @@ use Rattle.wait_rule.proofs.KnownLaws.TicketSteps.{
   none_out,
 }
 use Rattle.wait_rule.proofs.TableSteps.StateLaws.{allows, learns_more}
+use Rattle.wait_rule.proofs.KnownLaws.TallySteps.{tallies_same}
 use Rattle.wait_rule.proofs.TableSteps.KeptSteps.{ruled_seen, written}
 use Rattle.wait_rule.proofs.TableSteps.TaskMoves.{shown_of}
 
@@ -134,6 +136,16 @@ serving_member : (beside : Location → ℕ) (h n k : ℕ)
     → with_serving beside h n (place.Member k) ≡ beside (place.Member k)
 unfolding with_serving
 serving_member beside h n k = refl
+
+next_tally : (beside : Location → ℕ) (h n p : ℕ)
+    → with_next beside h n (place.Tally p) ≡ beside (place.Tally p)
+unfolding with_next
+next_tally beside h n p = refl
+
+serving_tally : (beside : Location → ℕ) (h n p : ℕ)
+    → with_serving beside h n (place.Tally p) ≡ beside (place.Tally p)
+unfolding with_serving
+serving_tally beside h n p = refl
 
 -- counting who has a ticket out
 one_out : (b : Bool) → flag b ≤ 1
@@ -539,23 +551,24 @@ module _ (s : Table) (tickets : ℕ → Ticket) (beside : Location → ℕ) (r :
               (from_test n M (both_right (g == h) (n == M) q))
           by_test false q = kept_line (drawn g n) now
 
--- on the words
+-- An item that is no step and changes one word beside the table, on the words.
 module _ (c : Scene) (law : Law c) (a : ℕ) (x : Item) (none_made : steps_of (x ∷ []) ≡ [])
     (differs : (book_from (book_of (c.items a)) (x ∷ [])).differs ≡ (book_of (c.items a)).differs)
     (fits : a < TASKS → Fits (law.table.task a) (book_of (c.items a ++ x ∷ [])))
     (quiet : notes_of a (c.items a ++ x ∷ []) ≡ notes_of a (c.items a)) where
-  law_ticket : (l : Location) (n : ℕ) (beside : Location → ℕ) → IsLocation l
+  pub law_beside : (l : Location) (n : ℕ) (beside : Location → ℕ) → IsLocation l
       → word_with law.table beside l ≡ n
       → ((j : Location) → j ≢ l → word_with law.table beside j ≡ word_with law.table law.beside j)
       → ((k : ℕ) → beside (place.Member k) ≡ law.beside (place.Member k))
       → AreTickets law.table (put (all_tickets c.items) a (book_from (book_of (c.items a)) (x ∷ [])).ticket) beside
+      → AreTallies (put c.items a (c.items a ++ x ∷ [])) beside
       → Law (moved c a (position_of l) n (x ∷ []))
-  law_ticket l n beside there now rest members tickets = record {
+  law_beside l n beside there now rest members tickets tallies = record {
     table = law.table;
     beside = beside;
     shown = subst (λ (w : ℕ). ShowsWith (slice_set c.words (position_of l) w) law.table beside) now
         (written c.words law.table law.table law.beside beside l law.shown there rest);
-    ruled = ruled_seen c law a (x ∷ []) none_made tt fits
+    ruled = ruled_seen c law a (x ∷ []) none_made tt (inl differs) fits
         (same_links law.table c.items a (x ∷ []) quiet law.ruled.linked);
     members = subst (λ (d : ℕ → Difference). AreMembers law.table d beside)
         (sym (differences_same c.items a (x ∷ []) differs)) (record {
@@ -566,6 +579,7 @@ module _ (c : Scene) (law : Law c) (a : ℕ) (x : Item) (none_made : steps_of (x
           untested = law.members.untested;
         });
     tickets = subst (λ (f : ℕ → Ticket). AreTickets law.table f beside) (sym (tickets_next c.items a (x ∷ []))) tickets;
+    tallies = tallies;
   }
 
 module _ (c : Scene) (law : Law c) (a h : ℕ) (head : h < HEADS) where
@@ -580,14 +594,16 @@ module _ (c : Scene) (law : Law c) (a h : ℕ) (head : h < HEADS) where
       (item.Drawn h (slice_index c.words (position_of (place.Next h))) ∷ []))
   law_drawn small free = subst (λ (n : ℕ). Law (moved c a (position_of (place.Next h)) ((n + 1) % 2 ^ 64)
       (item.Drawn h n ∷ []))) (sym (law.shown.each (place.Next h) head))
-      (law_ticket c law a (item.Drawn h N) refl refl
+      (law_beside c law a (item.Drawn h N) refl refl
       (fits_same (item.Drawn h N) (λ less. let f = law.ruled.fits a less in
       record { up = f.up; stored = f.stored; rose = f.rose }))
       (notes_after a (c.items a) (item.Drawn h N)) (place.Next h) ((N + 1) % 2 ^ 64)
       (with_next law.beside h ((N + 1) % 2 ^ 64)) head
       (next_at law.beside h ((N + 1) % 2 ^ 64) h ∙ put_same (λ q. law.beside (place.Next q)) h ((N + 1) % 2 ^ 64))
       (other_next law.table law.beside h ((N + 1) % 2 ^ 64)) (next_member law.beside h ((N + 1) % 2 ^ 64))
-      (draw_tickets law.table (all_tickets c.items) law.beside law.tickets a h small free))
+      (draw_tickets law.table (all_tickets c.items) law.beside law.tickets a h small free)
+      (tallies_same c.items a (item.Drawn h N ∷ []) law.beside (with_next law.beside h ((N + 1) % 2 ^ 64)) (λ p. refl)
+      (next_tally law.beside h ((N + 1) % 2 ^ 64)) law.tallies))
     where
       N : ℕ
       N = law.beside (place.Next h)
@@ -597,11 +613,12 @@ module _ (c : Scene) (law : Law c) (a h : ℕ) (head : h < HEADS) where
       (item.Serving h (slice_index c.words (position_of (place.Serving h))) ∷ []))
   law_serving = subst (λ (n : ℕ). Law (moved c a (position_of (place.Serving h)) n (item.Serving h n ∷ [])))
       (sym (law.shown.each (place.Serving h) head))
-      (law_ticket c law a (item.Serving h N) refl refl
+      (law_beside c law a (item.Serving h N) refl refl
       (fits_same (item.Serving h N) (λ less. let f = law.ruled.fits a less in
       record { up = f.up; stored = f.stored; rose = f.rose }))
       (notes_after a (c.items a) (item.Serving h N)) (place.Serving h) N law.beside head refl (λ j ne. refl) (λ k. refl)
-      (serving_tickets law.table (all_tickets c.items) law.beside law.tickets a h))
+      (serving_tickets law.table (all_tickets c.items) law.beside law.tickets a h)
+      (tallies_same c.items a (item.Serving h N ∷ []) law.beside law.beside (λ p. refl) (λ p. refl) law.tallies))
     where
       N : ℕ
       N = law.beside (place.Serving h)
@@ -611,14 +628,16 @@ module _ (c : Scene) (law : Law c) (a h : ℕ) (head : h < HEADS) where
       ((slice_index c.words (position_of (place.Serving h)) + 1) % 2 ^ 64) (item.Served ∷ []))
   law_served small is = subst (λ (n : ℕ). Law (moved c a (position_of (place.Serving h)) ((n + 1) % 2 ^ 64)
       (item.Served ∷ []))) (sym (law.shown.each (place.Serving h) head))
-      (law_ticket c law a item.Served refl refl
+      (law_beside c law a item.Served refl refl
       (fits_same item.Served (λ less. let f = law.ruled.fits a less in
       record { up = f.up; stored = f.stored; rose = f.rose }))
       (notes_after a (c.items a) item.Served) (place.Serving h) ((N + 1) % 2 ^ 64)
       (with_serving law.beside h ((N + 1) % 2 ^ 64)) head
       (serving_at law.beside h ((N + 1) % 2 ^ 64) h ∙ put_same (λ q. law.beside (place.Serving q)) h ((N + 1) % 2 ^ 64))
       (other_serving law.table law.beside h ((N + 1) % 2 ^ 64)) (serving_member law.beside h ((N + 1) % 2 ^ 64))
-      (serve_tickets law.table (all_tickets c.items) law.beside law.tickets a h small is))
+      (serve_tickets law.table (all_tickets c.items) law.beside law.tickets a h small is)
+      (tallies_same c.items a (item.Served ∷ []) law.beside (with_serving law.beside h ((N + 1) % 2 ^ 64)) (λ p. refl)
+      (serving_tally law.beside h ((N + 1) % 2 ^ 64)) law.tallies))
     where
       N : ℕ
       N = law.beside (place.Serving h)

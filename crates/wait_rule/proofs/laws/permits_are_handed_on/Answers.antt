@@ -1,9 +1,7 @@
-use Rattle.wait_rule.proofs.KnownLaws.CalledPermits.{keeps_join, newcomers_leave_none, wholes_hand_on}
-use Rattle.wait_rule.proofs.KnownLaws.HandedPermits.{all_hand_on, orders_hand_on, rule_hands_on, steps_hand_on}
+use Rattle.wait_rule.proofs.KnownLaws.CalledPermits.{newcomers_leave_none}
+use Rattle.wait_rule.proofs.KnownLaws.HandedPermits.{all_hand_on, rule_hands_on, steps_hand_on}
+use Rattle.wait_rule.proofs.KnownLaws.OtherCalls.{others_stay_off}
 use Rattle.wait_rule.proofs.laws.permits_are_handed_on.Goals as goal
-
-pub returns-clause-orders : goal.returns-clause-orders
-returns-clause-orders c = orders_hand_on
 
 pub returns-clause-rule : goal.returns-clause-rule
 returns-clause-rule c = rule_hands_on
@@ -14,11 +12,8 @@ returns-clause-steps c = steps_hand_on
 pub returns-clause-all : goal.returns-clause-all
 returns-clause-all c = all_hand_on
 
-pub returns-clause-joins : goal.returns-clause-joins
-returns-clause-joins c = keeps_join
-
 pub returns-clause-newcomers : goal.returns-clause-newcomers
 returns-clause-newcomers c = newcomers_leave_none
 
-pub returns-clause-wholes : goal.returns-clause-wholes
-returns-clause-wholes c = wholes_hand_on
+pub returns-clause-others : goal.returns-clause-others
+returns-clause-others c = others_stay_off

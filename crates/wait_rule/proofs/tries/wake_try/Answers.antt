@@ -28,5 +28,5 @@ returns-then-try_wake-clause-carries c =
     (c.load_word-found.ensures.same) in
     step_carried (λ σ. σ) c.args.task.now _ (step.Wake c.args.who c.args.mask c.load_word-found.result) now
     (ap (λ (k : Known). k.book.awake) now) (ap (λ (k : Known). k.book.state) now) (ap (λ (k : Known). k.book.head) now)
-    refl refl refl refl refl (owes_after c.args.task.now _
+    refl refl refl refl refl (λ c. refl) (owes_after c.args.task.now _
     (step.Wake c.args.who c.args.mask c.load_word-found.result) refl now)

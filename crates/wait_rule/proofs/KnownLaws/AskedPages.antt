@@ -1,0 +1,127 @@
+-- What lists with more items tell of pages, and what is said of pages where a task stored a member bit.
+use Rattle.std.proofs.Common.{refl, sym, ◌∙◌, ap, subst, inl, inr}
+use Rattle.std.specs.Prelude.{ℕ, ◌≡◌, ◌≢◌, ◌⊎◌, Bool, true, false, if◌then◌else◌, Some, None, List, [], ◌∷◌, ◌++◌}
+use mathlib.Core.Path.{fun_ext}
+use Rattle.wait_model.specs.declared.watches.Entry.{Entry}
+use Rattle.wait_model.specs.declared.steps.Step.{Step}
+use Rattle.wait_model.specs.declared.steps.Step.TheVariants as step
+use Rattle.wait_model.specs.Functions.{put}
+use Rattle.wait_model.specs.Watches.{is_page, was_clear, owner, page, word_of}
+use Rattle.wait_model.specs.Words.{entry_of}
+use Rattle.wait_model.specs.Fold.{is_off}
+use Rattle.wait_model.specs.Tables.{Table}
+use Rattle.wait_model.proofs.Functions.{put_case, put_same, put_other}
+use Rattle.wait_rule.specs.declared.journal.Item.{Item}
+use Rattle.wait_rule.specs.declared.journal.Item.TheVariants as item
+use Rattle.wait_rule.specs.Items.{Difference, nothing, at_entry, at_mark, page_taken, page_told, steps_of}
+use Rattle.wait_rule.specs.MemberWords.{index_named}
+use Rattle.wait_rule.specs.Asked.{
+  Asked,
+  nothing_asked,
+  waits_for,
+  given_if,
+  ask_step,
+  ask,
+  asked_from,
+  asked_of,
+  all_asked,
+}
+use Rattle.wait_rule.specs.Pages.{takes, IsHandedBy, ArePagesHanded}
+use Rattle.wait_rule.proofs.KnownLaws.PageStates.{none_some, IsSameAt, hands_still, state_still}
+use Rattle.wait_rule.proofs.KnownLaws.MemberSteps.{put_again}
+
+-- A list with more items: what the task asks for, and what that is where none of them is a step.
+pub asked_append : (k : Asked) (xs ys : List Item) → asked_from k (xs ++ ys) ≡ asked_from (asked_from k xs) ys
+asked_append k [] ys = refl
+asked_append k (x ∷ xs) ys = asked_append (ask x k) xs ys
+
+pub asked_quiet : (k : Asked) (xs : List Item) → steps_of xs ≡ [] → asked_from k xs ≡ k
+asked_quiet k [] none = refl
+asked_quiet k (item.Made e ∷ xs) none = absurd (cc)
+asked_quiet k (item.Awake w ∷ xs) none = asked_quiet k xs none
+asked_quiet k (item.Bookmark t w ∷ xs) none = asked_quiet k xs none
+asked_quiet k (item.Member ∷ xs) none = asked_quiet k xs none
+asked_quiet k (item.Word w ∷ xs) none = asked_quiet k xs none
+asked_quiet k (item.Drawn h w ∷ xs) none = asked_quiet k xs none
+asked_quiet k (item.Serving h w ∷ xs) none = asked_quiet k xs none
+asked_quiet k (item.Served ∷ xs) none = asked_quiet k xs none
+asked_quiet k (item.Tally p n w ∷ xs) none = asked_quiet k xs none
+
+pub asked_next : (items : ℕ → List Item) (a : ℕ) (xs : List Item)
+    → all_asked (put items a (items a ++ xs)) ≡ put (all_asked items) a (asked_from (asked_of (items a)) xs)
+asked_next items a xs = fun_ext (λ t. by t (put_case items a (items a ++ xs) t))
+  where
+    K : ℕ → Asked
+    K = put (all_asked items) a (asked_from (asked_of (items a)) xs)
+
+    by : (t : ℕ) → ((t ≡ a) × (put items a (items a ++ xs) t ≡ items a ++ xs))
+        ⊎ ((t ≢ a) × (put items a (items a ++ xs) t ≡ items t)) → asked_of (put items a (items a ++ xs) t) ≡ K t
+    by t (inl q) = ap asked_of q.1 ∙ (asked_append nothing_asked (items a) xs
+        ∙ sym (ap K q.0 ∙ put_same (all_asked items) a (asked_from (asked_of (items a)) xs)))
+    by t (inr q) = ap asked_of q.1
+        ∙ sym (put_other (all_asked items) a (asked_from (asked_of (items a)) xs) t q.0)
+
+pub asked_same : (items : ℕ → List Item) (a : ℕ) (xs : List Item) → steps_of xs ≡ []
+    → all_asked (put items a (items a ++ xs)) ≡ all_asked items
+asked_same items a xs none = asked_next items a xs
+    ∙ put_again (all_asked items) a (asked_from (asked_of (items a)) xs) (asked_quiet (asked_of (items a)) xs none)
+
+-- What a task has yet to store changes, but no page that it has to hand over.
+abbrev pub HandsSame : Difference → Difference → Type 0
+HandsSame old new = (new ≡ old) ⊎ ((takes old ≡ None) × (takes new ≡ None))
+
+-- it stored a member bit, and so had no page to hand over
+pub named_hands : (me x : ℕ) (d : Difference) → index_named me d ≡ Some x → HandsSame d nothing
+named_hands me x nothing is = none_some x is
+named_hands me x (at_entry y on) is = inr (refl, refl)
+named_hands me x (at_mark on) is = inr (refl, refl)
+named_hands me x (page_taken y) is = none_some x is
+named_hands me x (page_told y) is = none_some x is
+
+pub pages_seen : (s : Table) (a : ℕ) (d : Difference) (differs : ℕ → Difference) (asked : ℕ → Asked)
+    → HandsSame (differs a) d → ArePagesHanded s differs asked → ArePagesHanded s (put differs a d) asked
+pages_seen s a d differs asked (inl is) r = subst (λ (f : ℕ → Difference). ArePagesHanded s f asked)
+    (sym (put_again differs a d is)) r
+pages_seen s a d differs asked (inr none) r = record {
+  each = λ y. state_still s s differs D asked asked y (still y) (r.each y);
+  own = r.own;
+  hands = λ c y is. by c y is (put_case differs a d c);
+}
+  where
+    D : ℕ → Difference
+    D = put differs a d
+
+    still : (y : ℕ) → IsSameAt s s differs D asked asked y
+    still y = record {
+      entry = refl;
+      taken = refl;
+      done = λ p t is. is;
+      waits = refl;
+      given = refl;
+      stored = refl;
+      hands = λ c is. (
+        put_other differs a d c (λ q. none_some y (sym (ap (λ (i : ℕ). takes (differs i)) q ∙ none.0) ∙ is)),
+        refl,
+      );
+    }
+
+    by : (c y : ℕ) → takes (D c) ≡ Some y → ((c ≡ a) × (D c ≡ d)) ⊎ ((c ≢ a) × (D c ≡ differs c))
+        → (p : ℕ) × IsHandedBy s (D c) (asked (owner y)) y p c
+    by c y is (inl q) = none_some y (sym (ap takes q.1 ∙ none.1) ∙ is)
+    by c y is (inr q) =
+        let i = r.hands c y (sym (ap takes q.1) ∙ is) in
+        (i.0, hands_still s s differs D asked asked y (still y) i.0 c i.1)
+
+-- No call queues an entry for a page, so none is asked for.
+given_none : (b : Bool) (x : ℕ) → given_if b x nothing_asked ≡ nothing_asked
+given_none true x = refl
+given_none false x = refl
+
+pub asks_nothing : (e : Step) → ((x : ℕ) (f : Entry) → e ≡ step.Queue x f → is_page f.kind ≡ false)
+    → ask_step e nothing_asked ≡ nothing_asked
+asks_nothing (step.Queue x f) none = ap (λ (t : Bool). if t then waits_for x (word_of f.watch) else nothing_asked)
+    (none x f refl)
+asks_nothing (step.Saw x w) none = given_none (is_off (entry_of w)) x
+asks_nothing (step.Peek x w) none = given_none (is_off (entry_of w)) x
+asks_nothing (step.TasFor x p w) none = given_none (was_clear (page p) w) x
+asks_nothing e none = refl

@@ -1,0 +1,249 @@
+-- Each kind of step by which a page is handed over keeps the law.
+use Rattle.std.proofs.Common.{refl, sym, ◌∙◌, ap, subst, arith, inl, inr}
+use Rattle.std.specs.Prelude.{ℕ, ◌≡◌, ◌≢◌, ◌⊎◌, ◌||◌, Bool, true, if◌then◌else◌, Option, Some, None, List}
+use Rattle.wait_model.specs.declared.layout.TheConstants.{WORD_BITS, HANDED}
+use Rattle.wait_model.specs.declared.watches.Watch.{Watch}
+use Rattle.wait_model.specs.declared.watches.Entry.{Entry}
+use Rattle.wait_model.specs.declared.steps.Step.{Step}
+use Rattle.wait_model.specs.declared.steps.Step.TheVariants as step
+use Rattle.wait_model.specs.Functions.{put}
+use Rattle.wait_model.specs.Watches.{head_of, is_page, is_woken, owner, was_clear, page}
+use Rattle.wait_model.specs.Words.{bit_word, done_word}
+use Rattle.wait_model.specs.Views.{View as Told, Look, shown}
+use Rattle.wait_model.specs.Tables.{Table}
+use Rattle.wait_model.specs.Facts.{Agrees}
+use Rattle.wait_model.specs.Locations as place
+use Rattle.wait_model.specs.Locations.{Location, word_in}
+use Rattle.wait_model.proofs.WordLaws.CondWords.{tas_step}
+use Rattle.wait_model.proofs.Functions.{put_same, put_other}
+use Rattle.wait_rule.specs.declared.journal.Item.{Item}
+use Rattle.wait_rule.specs.Items.{nothing, page_taken, page_told, after_try, Book, with_difference, Fits}
+use Rattle.wait_rule.specs.MemberWords.{all_differences}
+use Rattle.wait_rule.specs.Asked.{given_at, all_asked}
+use Rattle.wait_rule.specs.Pages.{uses_flag, takes, IsPageEntry, IsPageless, IsHandedBy, IsPageState}
+use Rattle.wait_rule.specs.Members.{IsOwnKind}
+use Rattle.wait_rule.specs.Rule.{IsLawfulTable, IsRuled}
+use Rattle.wait_rule.proofs.KnownLaws.HeadLinks.{quiet_links}
+use Rattle.wait_rule.proofs.KnownLaws.MemberPlaces.{still_places}
+use Rattle.wait_rule.proofs.KnownLaws.PageStates.{none_some}
+use Rattle.wait_rule.proofs.KnownLaws.PageSteps.{not_both, takes_none}
+use Rattle.wait_rule.proofs.TableSteps.KeptSteps.{Leaves, KeepsLaw}
+use Rattle.wait_rule.proofs.StepKinds.BitKinds.{low_still}
+use Rattle.wait_rule.proofs.StepKinds.EntryKinds.{fits_difference}
+use Rattle.wait_rule.proofs.StepKinds.FlagKinds.{unflags}
+
+-- what a test-and-set of a page for a task leaves
+try_leaves : (s : Table) (a w : ℕ) (k : Book) (pages : ℕ → Option ℕ) (history : ℕ → List Step) (view : ℕ → Told)
+    → IsLawfulTable s → Fits (s.task a) k
+    → Leaves s (record s {
+      words = record (s.words) { bits = put s.words.bits w (put (s.words.bits w) 0 true) };
+      taken = pages;
+      history = history;
+      view = view;
+    })
+    a (place.Bits w) (bit_word WORD_BITS (put (s.words.bits w) 0 true)) k
+try_leaves s a w k pages history view l f = record {
+  lawful = record {
+    tasks = l.tasks;
+    entries = l.entries;
+    marks = l.marks;
+    spent = l.spent;
+    bits = low_still s.words.bits w 0 true (omega arith) l.bits;
+  };
+  own = f;
+  others = λ t ne c g. g;
+  left = ap (bit_word WORD_BITS) (put_same s.words.bits w (put (s.words.bits w) 0 true));
+  rest = rest_of;
+}
+  where
+    rest_of : (j : Location) → j ≢ place.Bits w
+        → word_in (record s {
+          words = record (s.words) { bits = put s.words.bits w (put (s.words.bits w) 0 true) };
+          taken = pages;
+          history = history;
+          view = view;
+        }) j
+        ≡ word_in s j
+    rest_of (place.Bits i) ne = ap (bit_word WORD_BITS)
+        (put_other s.words.bits w (put (s.words.bits w) 0 true) i (λ e. ne (ap place.Bits e)))
+    rest_of j ne = refl
+
+-- what a store of WOKEN and DONE leaves
+tell_leaves : (s : Table) (a x : ℕ) (b : Book) (history : ℕ → List Step) (view : ℕ → Told) → IsLawfulTable s
+    → Fits (s.task a) b
+    → Leaves s (record s {
+      flag = put s.flag x true;
+      done = put s.done x true;
+      history = history;
+      view = view;
+    }) a (place.Flag x) HANDED b
+tell_leaves s a x b history view l f = record {
+  lawful = record { tasks = l.tasks; entries = l.entries; marks = l.marks; spent = l.spent; bits = l.bits };
+  own = f;
+  others = λ t ne c g. g;
+  left = ap (λ (d : Bool). done_word (put s.flag x true x) d) (put_same s.done x true)
+      ∙ ap (λ (w : Bool). done_word w true) (put_same s.flag x true);
+  rest = rest_of;
+}
+  where
+    rest_of : (k : Location) → k ≢ place.Flag x
+        → word_in (record s {
+          flag = put s.flag x true;
+          done = put s.done x true;
+          history = history;
+          view = view;
+        }) k ≡ word_in s k
+    rest_of (place.Flag i) ne = ap (λ (w : Bool). done_word w (put s.done x true i)) (put_other s.flag x true i other)
+        ∙ ap (λ (d : Bool). done_word (s.flag i) d) (put_other s.done x true i other)
+      where
+        other : i ≢ x
+        other e = ne (ap place.Flag e)
+    rest_of k ne = refl
+
+module _ (s : Table) (items : ℕ → List Item) (ruled : IsRuled s items) (a : ℕ) (b : Book) (fits : Fits (s.task a) b)
+    (same : all_differences items a ≡ b.differs) (x : ℕ) where
+  -- a hold that shows an entry for the page, and has no page to hand over, finds none taken for its task
+  module _ (p h : ℕ) (e : Entry) (held : (s.view a).hold.head ≡ Some h) (shows : (s.view a).hold.book x ≡ shown e)
+      (kind : is_page e.kind ≡ true) (for : e.watch ≡ page p) (clear : b.differs ≡ nothing) where
+    agrees : Agrees h (shown e) (s.entry x)
+    agrees = subst (λ (l : Look). Agrees h l (s.entry x)) shows
+        ((ruled.whole.kept.facts.views a).hold.agrees h x held)
+
+    holds : (s.view a).hold.head ≡ Some (head_of e.watch)
+    holds = held ∙ ap (λ (k : ℕ). Some k) (sym agrees.1)
+
+    untaken : s.taken x ≡ None
+    untaken = by (ruled.pages.each x)
+      where
+        -- whoever hands the page over holds the same head
+        nobody : {A : Type 0} (q d : ℕ)
+            → IsHandedBy s (all_differences items d) (all_asked items (owner x)) x q d → A
+        nobody q d i =
+            let both : Some i.stands.entry ≡ Some e = sym i.stands.is ∙ agrees.0 in
+            let one : i.stands.entry ≡ e = cc in
+            let me : d ≡ a = ruled.whole.kept.facts.one_holder d a (head_of e.watch)
+            (i.held ∙ ap (λ (c : Watch). Some (head_of c)) (sym i.stands.watch ∙ ap (λ (f : Entry). f.watch) one)) holds
+            in
+            takes_none b.differs x clear (sym (ap takes (ap (all_differences items) me ∙ same)) ∙ i.takes)
+
+        by : IsPageState s (all_differences items) (all_asked items) x → s.taken x ≡ None
+        by (inl i) = i.taken
+        by (inr (inl i)) = i.1.taken
+        by (inr (inr (inl i))) = nobody i.0 i.1 i.2
+        by (inr (inr (inr i))) = not_both (uses_flag e.kind) (uses kind) (i.1.off e agrees.0)
+          where
+            uses : is_page e.kind ≡ true → uses_flag e.kind ≡ true
+            uses is = ap (λ (t : Bool). t || is_woken e.kind) is
+
+    pub tries_for : KeepsLaw s a (place.Bits p) (bit_word WORD_BITS (put (s.words.bits p) 0 true))
+        (step.TasFor x p (bit_word WORD_BITS (s.words.bits p))) b
+    tries_for = record {
+      allowed = ((e, agrees.0, holds, for, kind), (tas_step s a p 0 ruled.lawful.bits).2, untaken);
+      stored = tt;
+      orderly = clear;
+      places = still_places s a tried refl refl;
+      links = quiet_links s a tried (record {
+        holder = refl;
+        spent = refl;
+        mark = refl;
+        head = λ v. refl;
+        found = λ v. refl;
+        own = λ v i. refl;
+        marks = λ v i. refl;
+      });
+      leaves = try_leaves s a p (with_difference (after_try x (was_clear (page p) found) b.differs) b)
+          (if was_clear (page p) found then put s.taken x (Some p) else s.taken) _ _ ruled.lawful
+          (fits_difference (s.task a) b (after_try x (was_clear (page p) found) b.differs) fits);
+    }
+      where
+        found : ℕ
+        found = bit_word WORD_BITS (s.words.bits p)
+
+        tried : Step
+        tried = step.TasFor x p found
+
+  -- the task whose page was taken is told
+  pub tells : b.differs ≡ page_taken x → KeepsLaw s a (place.Flag x) HANDED (step.Handed x) b
+  tells is = record {
+    allowed = (
+      (
+        i.1.stands.entry,
+        i.1.stands.is,
+        i.1.held ∙ ap (λ (c : Watch). Some (head_of c)) (sym i.1.stands.watch),
+      ),
+      (i.0, i.1.taken),
+    );
+    stored = tt;
+    orderly = is;
+    places = still_places s a (step.Handed x) refl refl;
+    links = quiet_links s a (step.Handed x) (record {
+      holder = refl;
+      spent = refl;
+      mark = refl;
+      head = λ v. refl;
+      found = λ v. refl;
+      own = λ v k. refl;
+      marks = λ v k. refl;
+    });
+    leaves = tell_leaves s a x (with_difference (page_told x) b) _ _ ruled.lawful
+        (fits_difference (s.task a) b (page_told x) fits);
+  }
+    where
+      i : (p : ℕ) × IsHandedBy s (all_differences items a) (all_asked items (owner x)) x p a
+      i = ruled.pages.hands a x (ap takes (same ∙ is))
+
+  -- an entry whose task was told of its page is one that other tasks take off
+  pub told_fair : b.differs ≡ page_told x → (h : ℕ) (e : Entry) → (s.view a).hold.head ≡ Some h
+      → (s.view a).hold.book x ≡ shown e → (owner x ≡ a) ⊎ (IsOwnKind e.kind → ⊥)
+  told_fair is h e held shows = inr (λ own. not_both (is_page e.kind)
+      (subst (λ (f : Entry). is_page f.kind ≡ true) one i.1.stands.kind) (elim own [
+        | inl d ↦ ap is_page d
+        | inr w ↦ ap is_page w
+      ]))
+    where
+      there : Agrees h (shown e) (s.entry x)
+      there = subst (λ (l : Look). Agrees h l (s.entry x)) shows
+          ((ruled.whole.kept.facts.views a).hold.agrees h x held)
+
+      i : (p : ℕ) × IsHandedBy s (all_differences items a) (all_asked items (owner x)) x p a
+      i = ruled.pages.hands a x (ap takes (same ∙ is))
+
+      one : i.1.stands.entry ≡ e
+      one = let both : Some i.1.stands.entry ≡ Some e = sym i.1.stands.is ∙ there.0 in cc
+
+  -- the task's own entry, of which it knows that it is none for a page that stands
+  module _ (p : ℕ) (mine : owner x ≡ a) (given : given_at x (all_asked items a) ≡ Some p)
+      (pageless : IsPageless ((s.view a).bits.stored x)) where
+    not_stored : {A : Type 0} (q : ℕ) → IsPageEntry ((s.view (owner x)).bits.stored x) q → A
+    not_stored q i = not_both (is_page i.entry.kind) i.kind
+        (pageless i.entry (ap (λ (j : ℕ). (s.view j).bits.stored x) (sym mine) ∙ i.is))
+
+    not_standing : {A : Type 0} (q : ℕ) → IsPageEntry (s.entry x) q → A
+    not_standing q i = not_stored q (record {
+      entry = i.entry;
+      is = ruled.whole.kept.bits.stored_is x i.entry i.is;
+      kind = i.kind;
+      watch = i.watch;
+    })
+
+    is_given : given_at x (all_asked items (owner x)) ≡ Some p
+    is_given = ap (λ (j : ℕ). given_at x (all_asked items j)) mine ∙ given
+
+    -- such a page was handed over
+    handed : (s.taken x ≡ Some p) × (s.done x ≡ true)
+    handed = by (ruled.pages.each x)
+      where
+        by : IsPageState s (all_differences items) (all_asked items) x → (s.taken x ≡ Some p) × (s.done x ≡ true)
+        by (inl i) = none_some p (sym i.given ∙ is_given)
+        by (inr (inl i)) = not_standing i.0 i.1.stands
+        by (inr (inr (inl i))) = not_standing i.0 i.2.stands
+        by (inr (inr (inr i))) = elim i.1.asked [
+          | inl w ↦ not_stored i.0 w.1
+          | inr g ↦ (i.1.taken ∙ (sym g ∙ is_given), i.1.done)
+        ]
+
+    pub shows_given : done_word (s.flag x) (s.done x) ≡ HANDED
+    shows_given = (λ j. done_word ((ruled.whole.kept.pages.done x handed.1).0 j) (handed.1 j))
+
+    pub notes_page : KeepsLaw s a (place.Flag x) 0 (step.Unflag x (Some p)) b
+    notes_page = unflags s items ruled x a b fits mine (Some p) handed.0 (inr pageless)

@@ -1,7 +1,7 @@
 -- The places of adds by a whole book, and the entries that stand there.
 use Rattle.std.proofs.Common.{◌∙◌, ap, sym, refl, subst, inl, inr, eq-eqb, arith}
 use Rattle.std.proofs.lemmas.Bool.Decides.{nat_tests}
-use Rattle.std.specs.Prelude.{ℕ, ◌≡◌, ◌+◌, ◌-◌, ◌*◌, ◌%◌, ◌<◌, ◌≤◌, ◌⊎◌, ◌&&◌, ◌||◌, ◌==◌}
+use Rattle.std.specs.Prelude.{ℕ, ◌≡◌, ◌+◌, ◌-◌, ◌*◌, ◌%◌, ◌<◌, ◌≤◌, ◌⊎◌, ◌&&◌, ◌||◌, ◌==◌, not}
 use Rattle.std.specs.Prelude.{Bool, true, false, nat_lt, if◌then◌else◌, Option, Some, None, length}
 use Rattle.wait_model.specs.declared.layout.TheConstants.{
   SLOTS,
@@ -21,7 +21,7 @@ use Rattle.wait_model.specs.declared.watches.Kind.TheVariants as kind
 use Rattle.wait_model.specs.declared.watches.Entry.{Entry}
 use Rattle.wait_model.specs.declared.steps.Step.TheVariants as step
 use Rattle.wait_model.specs.Words.{entry_of}
-use Rattle.wait_model.specs.Watches.{is_simple, head_of}
+use Rattle.wait_model.specs.Watches.{is_simple, is_page, head_of}
 use Rattle.wait_model.specs.Queues.{even_below, even_above}
 use Rattle.wait_model.specs.Places.{front_for, tail_for, priority_for}
 use Rattle.wait_model.specs.Views.{View as Told, off, look_at, is_trying_for}
@@ -47,21 +47,17 @@ use Rattle.wait_rule.specs.Queues.{
   saw,
   index,
 }
-use Rattle.wait_rule.specs.Says.{Excuse, IsOutBut, OwesBut, added, told_of}
+use Rattle.wait_rule.specs.Says.{Debts, Excuse, IsOutBut, Owes, TriesNone, added, told_of}
+use Rattle.wait_rule.proofs.KnownLaws.Debts.{entries_debts, stored_debts}
 use Rattle.wait_rule.specs.Stays.{
   Stays,
   only,
-  also,
-  TriesNone,
-  least,
-  Owes,
   with_entry,
   Carries,
   only_looks,
   queue_change,
   take_off_change,
 }
-use Rattle.wait_rule.proofs.KnownLaws.CarriedTasks.{clean_owes, owes_clean}
 use Rattle.wq_head.proofs.CarriedHolds.{looks_carried}
 use Rattle.wq_head.proofs.CountedLooks.{counted_add}
 use Rattle.wait_rule.proofs.KnownLaws.StayingParts.{stays_on, stays_but, owes_also, owes_out}
@@ -256,9 +252,14 @@ pub first_index : (n slot : ℕ) → slot ≡ 0 → n < PRIORITY_TASKS
     → (index n slot % 2 ≡ 0) × (index n slot < SLOTS * PRIORITY_TASKS)
 first_index n slot first few = (omega (arith, first), omega (arith, first, few))
 
--- by no entry for a plain condition does a task try a bit
+-- by no entry for a plain condition does a task try a bit, or ask for a page
 abbrev pub TriesNo : Entry → Type 0
-TriesNo e = (c : Watch) → is_trying_for (Some e) c ≡ false
+TriesNo e = ((c : Watch) → is_trying_for (Some e) c ≡ false) × (not (is_page e.kind) ≡ true)
+
+pub full_unpaged : (k : Kind) → IsFullKind k → not (is_page k) ≡ true
+full_unpaged k (inl is) = ap (λ (q : Kind). not (is_page q)) is
+full_unpaged k (inr (inl is)) = ap (λ (q : Kind). not (is_page q)) is
+full_unpaged k (inr (inr is)) = ap (λ (q : Kind). not (is_page q)) is
 
 no_and : (b : Bool) → (b && false) ≡ false
 no_and true = refl
@@ -266,13 +267,16 @@ no_and false = refl
 
 pub plain_tries : (w : Watch) (k : Kind) (exclusive priority : Bool) (place : ℕ) → IsForPlain w k
     → TriesNo (record { watch = w; place = place; exclusive = exclusive; priority = priority; kind = k })
-plain_tries w k exclusive priority place is c = subst (λ (v : Watch). is_trying_for (Some (record {
-  watch = v;
-  place = place;
-  exclusive = exclusive;
-  priority = priority;
-  kind = k;
-})) c ≡ false) (sym is.1) (no_and exclusive)
+plain_tries w k exclusive priority place is = (
+  λ c. subst (λ (v : Watch). is_trying_for (Some (record {
+    watch = v;
+    place = place;
+    exclusive = exclusive;
+    priority = priority;
+    kind = k;
+  })) c ≡ false) (sym is.1) (no_and exclusive),
+  full_unpaged k is.3,
+)
 
 -- an own entry that the history does not have stored is off
 none_shown : (o : Option Entry) (s : Option Entry) → s ≡ None → ((e : Entry) → o ≡ Some e → s ≡ Some e) → o ≡ None
@@ -455,6 +459,9 @@ module _ (seen new : Known) (x : ℕ) (e : Entry) (is : new ≡ stored_with seen
       ∙ put_at (λ (s : Option Entry). s ≡ (told_of seen).bits.stored y) (told_of seen).bits.stored x (Some e) y
       (λ same. absurd (other_is x y out same)) (λ _. refl)
 
+  queue_debts : TriesNo e → (f : Excuse) → Debts f seen → Debts f new
+  queue_debts shared = stored_debts seen new (step.Queue x e) shared.1 is
+
   pub queue_stays : TriesNo e → Stays (only x) seen new
   queue_stays shared = record {
     domain = ap (λ (k : Known). k.domain) is;
@@ -466,24 +473,24 @@ module _ (seen new : Known) (x : ℕ) (e : Entry) (is : new ≡ stored_with seen
     keeps = λ c. ap (λ (v : Told). v.bits.keeps c) queue_told;
     tries_none = λ none y c. ap (λ (v : Told). is_trying_for (v.bits.stored y) c) queue_told
         ∙ put_at (λ (s : Option Entry). is_trying_for s c ≡ false) (told_of seen).bits.stored x (Some e) y
-        (λ _. shared c) (λ _. none y c);
+        (λ _. shared.0 c) (λ _. none y c);
     tries = λ none c out. ap (λ (v : Told). v.bits.pending c) queue_told ∙ out;
+    debts = queue_debts shared;
   }
 
-  pub queue_owes : (f : Excuse) → OwesBut f (told_of seen) → OwesBut (also x f) (told_of new)
-  queue_owes f o = subst (OwesBut (also x f)) (sym queue_told) (record {
-    unmarked = o.unmarked;
-    owes = o.owes;
-    unqueued = λ y. put_at (λ (s : Option Entry). IsOutBut ((y == x) || f.entries y) s) (told_of seen).bits.stored x
-        (Some e) y (λ here. subst (λ (b : Bool). IsOutBut (b || f.entries y) (Some e)) (sym (eq-eqb y x here)) tt)
-        (λ _. (owes_also x f (told_of seen) o).unqueued y);
-    holds = o.holds;
-    tries = o.tries;
-  })
-
   queue_owing : TriesNo e → (f : Excuse) → Owes f seen → Owes (with_entry x f) new
-  unfolding Owes with_entry
-  queue_owing shared f o = (queue_owes (least f) o.0, (queue_stays shared).tries_none o.1)
+  unfolding with_entry
+  queue_owing shared f o = record {
+    unmarked = ap (λ (v : Told). v.mark) queue_told ∙ o.unmarked;
+    debts = entries_debts f (with_entry x f) new refl (queue_debts shared f o.debts);
+    unqueued = λ y. subst (λ (v : Told). IsOutBut ((y == x) || f.entries y) (v.bits.stored y)) (sym queue_told)
+        (put_at (λ (s : Option Entry). IsOutBut ((y == x) || f.entries y) s) (told_of seen).bits.stored x
+        (Some e) y (λ here. subst (λ (b : Bool). IsOutBut (b || f.entries y) (Some e)) (sym (eq-eqb y x here)) tt)
+        (λ _. (owes_also x f seen o).unqueued y));
+    holds = λ c. ap (λ (v : Told). not (f.bits c) && v.bits.keeps c) queue_told ∙ o.holds c;
+    tries = λ c. ap (λ (v : Told). v.bits.pending c) queue_told ∙ o.tries c;
+    tries_none = (queue_stays shared).tries_none o.tries_none;
+  }
 
   pub queue_carried : (old : Known) → TriesNo e → Carries only_looks old seen
       → Carries (queue_change x) old new
@@ -501,9 +508,8 @@ module _ (seen new : Known) (x : ℕ) (e : Entry) (is : new ≡ stored_with seen
     stored = λ y none _. absurd (cc);
     out = λ y away none. queue_other y away ∙ l.out y refl none;
     stands = λ slot few away d at own. queue_other (index old.view.number slot) away ∙ l.stands slot few refl d at own;
+    keeps = λ d _. ap (λ (v : Told). v.bits.keeps d) queue_told ∙ l.keeps d refl;
     owes = λ f o. queue_owing shared f (l.owes f o);
-    clean = l.clean;
-    settled = owes_clean new;
   }
 
 module _ (old new : Known) (who slot : ℕ) (is : new ≡ stored_with old (step.Unqueue (index who slot))) where
@@ -519,31 +525,31 @@ module _ (old new : Known) (who slot : ℕ) (is : new ≡ stored_with old (step.
       ∙ put_at (λ (s : Option Entry). s ≡ (told_of old).bits.stored y) (told_of old).bits.stored (index who slot) None y
       (λ same. absurd (other_is (index who slot) y away same)) (λ _. refl)
 
-  remove_owes : (f : Excuse) → OwesBut (also (index who slot) f) (told_of old)
-      → OwesBut (also (index who slot) f) (told_of new)
-  remove_owes f o = subst (OwesBut (also (index who slot) f)) (sym remove_told) (record {
-    unmarked = o.unmarked;
-    owes = o.owes;
-    unqueued = λ y. put_at (IsOutBut ((y == index who slot) || f.entries y)) (told_of old).bits.stored
-        (index who slot) None y
-        (λ here. subst (λ (b : Bool). IsOutBut (b || f.entries y) None) (sym (eq-eqb y (index who slot) here)) tt)
-        (λ _. o.unqueued y);
-    holds = o.holds;
-    tries = o.tries;
-  })
+  remove_debts : (f : Excuse) → Debts f old → Debts f new
+  remove_debts = stored_debts old new (step.Unqueue (index who slot)) refl is
 
   remove_none : TriesNone (told_of old) → TriesNone (told_of new)
   remove_none none y c = ap (λ (v : Told). is_trying_for (v.bits.stored y) c) remove_told
       ∙ put_at (λ (s : Option Entry). is_trying_for s c ≡ false) (told_of old).bits.stored (index who slot) None y
       (λ _. refl) (λ _. none y c)
 
+  remove_still : (f : Excuse) → Owes (with_entry (index who slot) f) old → Owes (with_entry (index who slot) f) new
+  unfolding with_entry
+  remove_still f o = record {
+    unmarked = ap (λ (v : Told). v.mark) remove_told ∙ o.unmarked;
+    debts = remove_debts (with_entry (index who slot) f) o.debts;
+    unqueued = λ y. subst (λ (v : Told). IsOutBut ((y == index who slot) || f.entries y) (v.bits.stored y))
+        (sym remove_told) (put_at (IsOutBut ((y == index who slot) || f.entries y)) (told_of old).bits.stored
+        (index who slot) None y
+        (λ here. subst (λ (b : Bool). IsOutBut (b || f.entries y) None) (sym (eq-eqb y (index who slot) here)) tt)
+        (λ _. o.unqueued y));
+    holds = λ c. ap (λ (v : Told). not (f.bits c) && v.bits.keeps c) remove_told ∙ o.holds c;
+    tries = λ c. ap (λ (v : Told). v.bits.pending c) remove_told ∙ o.tries c;
+    tries_none = remove_none o.tries_none;
+  }
+
   remove_owing : (f : Excuse) → Owes (with_entry (index who slot) f) old → Owes f new
-  unfolding Owes with_entry
-  remove_owing f o = (
-    owes_out (index who slot) (least f) (told_of new)
-        (remove_owes (least f) o.0) remove_out,
-    remove_none o.1,
-  )
+  remove_owing f o = owes_out (index who slot) f new remove_out (remove_still f o)
 
   remove_carried : Carries (take_off_change (index who slot)) old new
   remove_carried = record {
@@ -560,9 +566,8 @@ module _ (old new : Known) (who slot : ℕ) (is : new ≡ stored_with old (step.
     stored = λ y _ away. remove_other y away;
     out = λ y away none. remove_other y away ∙ none;
     stands = λ n few away d at own. remove_other (index old.view.number n) away ∙ at;
+    keeps = λ d _. ap (λ (v : Told). v.bits.keeps d) remove_told;
     owes = remove_owing;
-    clean = clean_owes old;
-    settled = owes_clean new;
   }
 
   pub removed : HasRemoved old new who slot
@@ -581,8 +586,8 @@ module _ (old new : Known) (who slot : ℕ) (is : new ≡ stored_with old (step.
           ∙ put_at (λ (s : Option Entry). is_trying_for s c ≡ false) (told_of old).bits.stored (index who slot) None y
           (λ _. refl) (λ _. none y c);
       tries = λ none c out. ap (λ (v : Told). v.bits.pending c) remove_told ∙ out;
+      debts = remove_debts;
     };
-    settled = λ f o. owes_out (index who slot) f (told_of new) (remove_owes f o) remove_out;
     carries = remove_carried;
   }
 
@@ -615,7 +620,6 @@ module _ (IsPlace : Known → ℕ → Type 0) (old mid new : Known) (slot p : �
     queued = queue_memberd q.seen new x (made p) add_is;
     stays = stays_on (only x) old q.seen new (stays_but (only x) old q.seen add_looks.stays)
         (queue_stays q.seen new x (made p) add_is plain);
-    settled = λ f none o. queue_owes q.seen new x (made p) add_is f (add_looks.settled none f o);
     counts = counted_add old mid q.seen new x (made p) q.looks seen counts q.one add_is;
     carries = queue_carried q.seen new x (made p) add_is old plain (looks_carried old q.seen add_looks);
   }

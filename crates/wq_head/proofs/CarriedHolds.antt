@@ -1,22 +1,22 @@
 -- What the calls on heads carry on of a task.
 use Rattle.std.proofs.Common.{◌∙◌, ap, sym, refl, inl, inr}
-use Rattle.std.specs.Prelude.{ℕ, ◌≡◌, ◌⊎◌, ◌&&◌, ◌||◌, not, Bool, true, false, if◌then◌else◌, Option, Some, None}
+use Rattle.std.specs.Prelude.{ℕ, ◌≡◌, ◌⊎◌, ◌&&◌, ◌||◌, not, Bool, true, false, Option, Some, None}
 use Rattle.wait_model.specs.declared.watches.Watch.{Watch}
 use Rattle.wait_model.specs.declared.watches.Mode.TheVariants as mode
 use Rattle.wait_model.specs.declared.watches.Entry.{Entry}
 use Rattle.wait_model.specs.declared.watches.Aim.{Aim}
 use Rattle.wait_model.specs.Tasks.{meets}
 use Rattle.wait_model.specs.Watches.{same, mask_of}
-use Rattle.wait_model.specs.Views.{View as Told, Hold, Walk, Bits, all_passed}
+use Rattle.wait_model.specs.Views.{View as Told, Hold, Bits}
 use Rattle.wait_model.specs.Fold.{after_unlock}
 use Rattle.wait_model.proofs.StepLaws.UnlockSteps.{unlock_bits, unlock_hold}
 use Rattle.wait_rule.specs.Known.{Known}
 use Rattle.wait_rule.specs.Tickets.{no_ticket, taken}
-use Rattle.wait_rule.specs.Says.{Excuse, told_of, unlocked_with}
+use Rattle.wait_rule.specs.Says.{Excuse, Owes, is_excused, told_of, unlocked_with}
 use Rattle.wait_rule.specs.Queues.{IsIdle}
 use Rattle.wait_rule.specs.Stays.{
-  least,
-  Owes,
+  Stays,
+  no_entries,
   with_wakes,
   Carries,
   only_looks,
@@ -25,10 +25,13 @@ use Rattle.wait_rule.specs.Stays.{
   wake_all_change,
 }
 use Rattle.wait_rule.proofs.KnownLaws.Turns.{told_unlocked}
-use Rattle.wait_rule.proofs.KnownLaws.CarriedTasks.{clean_owes, owes_clean, owes_more, stays_carried}
+use Rattle.wait_rule.proofs.KnownLaws.CarriedTasks.{owes_wakes, stays_carried}
+use Rattle.wait_rule.proofs.KnownLaws.Debts.{unlock_fewer}
+use Rattle.wait_rule.proofs.KnownLaws.SettledTasks.{unlock_mark}
+use Rattle.wait_rule.proofs.KnownLaws.StayingParts.{stays_owing}
 use Rattle.wq_head.specs.Holds.{HasLocked}
 use Rattle.wq_head.specs.Looks.{Looks}
-use Rattle.wq_head.specs.Walks.{HasEnded, spares}
+use Rattle.wq_head.specs.Walks.{HasEnded, still_owed}
 use Rattle.wq_head.proofs.LockWaits.{locked_told, locked_stays, unlocked_stays}
 
 pub still_out : (now was : Option Entry) → (now ≡ was) ⊎ (now ≡ None) → was ≡ None → now ≡ None
@@ -46,25 +49,6 @@ lock_carried old new head walk l = stays_carried (λ _. Some head) (λ _. taken 
     (λ x _. ap (λ (v : Told). v.bits.stored x) (locked_told old new head walk l))
 
 -- an unlock
-unlock_same : (v : Told) (o : Option Walk) (spent : Bool) → (after_unlock v o spent).mark ≡ v.mark
-unlock_same v None spent = refl
-unlock_same v (Some w) spent = either (spent || all_passed v w (λ _. false)) _ _ refl refl
-  where
-    either : (b : Bool) (x y : Told) → x.mark ≡ v.mark → y.mark ≡ v.mark → (if b then x else y).mark ≡ v.mark
-    either true x y one two = one
-    either false x y one two = two
-
-unlock_fewer : (v : Told) (o : Option Walk) (spent : Bool) (c : Watch) (σ : ℕ) → v.duty.owes c σ ≡ false
-    → (after_unlock v o spent).duty.owes c σ ≡ false
-unlock_fewer v None spent c σ none = none
-unlock_fewer v (Some w) spent c σ none = either (spent || all_passed v w (λ _. false)) _ _
-    (ap (λ (b : Bool). b && not (same c w.watch && meets w.mask σ)) none) none
-  where
-    either : (b : Bool) (x y : Told) → x.duty.owes c σ ≡ false → y.duty.owes c σ ≡ false
-        → (if b then x else y).duty.owes c σ ≡ false
-    either true x y one two = one
-    either false x y one two = two
-
 unlock_told : (old new : Known) (spent : Bool) → new ≡ unlocked_with old old.at spent
     → told_of new ≡ after_unlock (told_of old) (told_of old).walk spent
 unlock_told old new spent is = ap told_of is ∙ told_unlocked old old.at spent
@@ -81,7 +65,7 @@ unlock_carried old new spent is =
     stays_carried (λ _. None) (λ _. no_ticket) (λ h. h) false old new (unlocked_stays old new spent is)
     (ap (λ (k : Known). k.book.head) is) (ap (λ (k : Known). k.book.ticket) is) (unlock_free old new spent is)
     (ap (λ (k : Known). k.at) is)
-    (ap (λ (v : Told). v.mark) told ∙ unlock_same (told_of old) (told_of old).walk spent)
+    (ap (λ (v : Told). v.mark) told ∙ unlock_mark (told_of old) (told_of old).walk spent)
     (λ c σ none. ap (λ (v : Told). v.duty.owes c σ) told ∙ unlock_fewer (told_of old) (told_of old).walk spent c σ none)
     (λ x _. ap (λ (v : Told). v.bits.stored x) told ∙ ap (λ (b : Bits). b.stored x)
     (unlock_bits (told_of old) (told_of old).walk spent))
@@ -94,27 +78,21 @@ looks_carried old new l = stays_carried (λ h. h) (λ t. t) (λ h. h) true old n
     (λ c σ none. ap (λ (v : Told). v.duty.owes c σ) l.from.told ∙ none) (λ x none. absurd (cc))
 
 -- a wake
-ended_covers : (x s n : Bool) → ((x || s) || n) ≡ true → ((x || n) || s) ≡ true
-ended_covers true s n is = refl
-ended_covers false true true is = refl
-ended_covers false true false is = refl
-ended_covers false false n is = or_last n is
-  where
-    or_last : (n : Bool) → n ≡ true → (n || false) ≡ true
-    or_last true is = refl
-    or_last false is = absurd (cc)
+ended_wakes : (w s n o : Bool) → (o && not ((w || s) || n)) ≡ false → ((o && not s) && not (w || n)) ≡ false
+ended_wakes w s n false is = refl
+ended_wakes w true n true is = refl
+ended_wakes true false n true is = refl
+ended_wakes false false n true is = is
 
-pub ended_owes : (a : Aim) (old new : Known) → HasEnded old new a
-    → (x : Excuse) → Owes (with_wakes a.watch a.mode x) old
-    → Owes x new
-unfolding Owes with_wakes
-ended_owes a old new e x o = (
-  e.settled (least x) o.1 (owes_more (least (with_wakes a.watch a.mode x)) (spares a (least x)) (told_of old)
-      (λ c σ. ended_covers (x.wakes c σ) (same c a.watch && meets (mask_of a.mode) σ)
-      (not (meets (mask_of mode.Normal) σ)))
-      refl o.0),
-  e.stays.tries_none o.1,
-)
+pub ended_owes : (a : Aim) (old new : Known) → Stays no_entries old new → (told_of new).mark ≡ None
+    → ((c : Watch) (σ : ℕ) → (told_of new).duty.owes c σ ≡ still_owed a (told_of old) c σ) → (x : Excuse)
+    → Owes (with_wakes a.watch a.mode x) old → Owes x new
+unfolding with_wakes
+ended_owes a old new stays unmarked owes x o = owes_wakes (with_wakes a.watch a.mode x) x new refl refl
+    (λ c σ. ap (λ (b : Bool). b && not (is_excused x c σ)) (owes c σ)
+    ∙ ended_wakes (x.wakes c σ) (same c a.watch && meets (mask_of a.mode) σ) (not (meets (mask_of mode.Normal) σ))
+    ((told_of old).duty.owes c σ) (o.debts.wakes c σ))
+    (stays_owing old new stays (unmarked ∙ sym o.unmarked) (with_wakes a.watch a.mode x) o)
 
 pub wake_carried : (a : Aim) (old new : Known) → HasEnded old new a → IsIdle old → IsIdle new →
     (told_of new).hold.head ≡ None
@@ -133,7 +111,6 @@ wake_carried a old new e before behind hold = record {
   stored = λ x none _. absurd (cc);
   out = λ x _ none. still_out _ _ (e.stays.still x refl) none;
   stands = λ slot few _ d is own. e.stays.stands slot few refl d is own;
-  owes = ended_owes a old new e;
-  clean = clean_owes old;
-  settled = owes_clean new;
+  keeps = λ d _. e.stays.keeps d;
+  owes = e.settled;
 }

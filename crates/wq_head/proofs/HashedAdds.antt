@@ -1,6 +1,6 @@
 -- The entries of adds for bits and variables.
 use Rattle.std.proofs.Common.{◌∙◌, ap, sym, refl, subst, inl, inr, eqb-true, arith}
-use Rattle.std.specs.Prelude.{ℕ, ◌+◌, ◌≡◌, ◌≢◌, ◌==◌, Bool, true, false, length}
+use Rattle.std.specs.Prelude.{ℕ, ◌+◌, ◌≡◌, ◌≢◌, ◌==◌, not, Bool, true, false, length}
 use Rattle.wait_model.specs.declared.layout.TheConstants.{MEMBERS, MEMBER_WORDS}
 use Rattle.wait_model.specs.declared.watches.Watch.{Watch}
 use Rattle.wait_model.specs.declared.watches.Kind.{Kind}
@@ -25,7 +25,7 @@ use Rattle.wq_head.specs.Adds.{
   tail_entry,
 }
 use Rattle.wq_head.specs.Looks.{Looks, AreLow, AreSeen}
-use Rattle.wq_head.proofs.AddedEntries.{IsAfter, TriesNo, plain_stands, queue_memberd, queue_other, queue_owes}
+use Rattle.wq_head.proofs.AddedEntries.{IsAfter, TriesNo, full_unpaged, plain_stands, queue_memberd, queue_other}
 use Rattle.wq_head.proofs.CountedLooks.{counted_add}
 use Rattle.wq_head.proofs.OneMoreLook.{looks_on}
 
@@ -63,8 +63,13 @@ front_stands n slot w k p (inr (inl bit)) first at =
     subst (λ (s : ℕ). IsStanding (index n s) (front_entry w k p)) (sym (first bit.0)) (bit_stands n false w k p bit at)
 front_stands n slot w k p (inr (inr var)) first at = var_stands (index n slot) w k p var at
 
-pub front_tries : (w : Watch) (k : Kind) (p : ℕ) → TriesNo (front_entry w k p)
-front_tries w k p c = refl
+pub front_tries : (w : Watch) (k : Kind) (p : ℕ) → IsFor w k → TriesNo (front_entry w k p)
+front_tries w k p is = (λ c. refl, unpaged is)
+  where
+    unpaged : IsFor w k → not (is_page k) ≡ true
+    unpaged (inl plain) = full_unpaged k plain.3
+    unpaged (inr (inl bit)) = ap (λ (q : Kind). not (is_page q)) bit.0
+    unpaged (inr (inr var)) = ap (λ (q : Kind). not (is_page q)) var.0
 
 -- the whole add of an exclusive entry for a bit
 module _ (old mid new : Known) (slot p : ℕ) (made : ℕ → Entry) (at : (made p).place ≡ p) (e : Entry)
@@ -93,7 +98,6 @@ module _ (old mid new : Known) (slot p : ℕ) (made : ℕ → Entry) (at : (made
     is = add_is;
     queued = queue_memberd q.seen new x (made p) add_is;
     others = λ y other. queue_other q.seen new x (made p) add_is y (apart y other (y == x) refl);
-    settled = λ f none o. queue_owes q.seen new x (made p) add_is f (add_looks.settled none f o);
     counts = counted_add old mid q.seen new x (made p) q.looks seen counts q.one add_is;
   }
     where

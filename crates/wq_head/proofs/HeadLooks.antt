@@ -1,5 +1,5 @@
 -- A look at the member words of a head without its lock, one word after another.
-use Rattle.std.proofs.Common.{◌∙◌, ap, sym, refl, subst, inl, inr, arith, eq-eqb, eqb-true}
+use Rattle.std.proofs.Common.{◌∙◌, ap, sym, refl, inl, inr, arith, eq-eqb, eqb-true}
 use Rattle.std.specs.Prelude.{ℕ, zero, suc, ◌≡◌, ◌≢◌, ◌+◌, ◌<◌, ◌≤◌, ◌==◌, ◌&&◌, ◌||◌, not, Bool, true, false}
 use Rattle.std.specs.Prelude.{List, [], ◌∷◌, ◌++◌}
 use Rattle.std.proofs.lemmas.Bool.Decides.{nat_tests}
@@ -7,25 +7,28 @@ use Rattle.wait_model.specs.declared.layout.TheConstants.{MEMBER_WORDS}
 use Rattle.wait_model.specs.declared.watches.Watch.{Watch}
 use Rattle.wait_model.specs.declared.steps.Step.{Step}
 use Rattle.wait_model.specs.declared.steps.Step.TheVariants as step
-use Rattle.wait_model.specs.Watches.{head_of}
+use Rattle.wait_model.specs.declared.watches.Mode.TheVariants as mode
+use Rattle.wait_model.specs.Tasks.{meets}
+use Rattle.wait_model.specs.Watches.{head_of, mask_of, same}
+use Rattle.wait_model.proofs.Sameness.{same_head}
 use Rattle.wait_model.specs.Scans.{empty_scans, empty_look}
-use Rattle.wait_model.specs.Views.{View as Told, Bits}
+use Rattle.wait_model.specs.Views.{View as Told}
 use Rattle.wait_model.specs.Fold.{after, view_of}
 use Rattle.wait_model.proofs.HistoryLaws.HeadScans.{empty_looks_end}
 use Rattle.wait_rule.specs.declared.journal.Item.{Item}
 use Rattle.wait_rule.specs.declared.journal.Item.TheVariants as item
 use Rattle.wait_rule.specs.Items.{steps_of}
 use Rattle.wait_rule.specs.Known.{Known}
-use Rattle.wait_rule.specs.Says.{Excuse, IsOutBut, told_of, history_of, added, grown}
-use Rattle.wait_rule.specs.Stays.{Carries, unchanged}
+use Rattle.wait_rule.specs.Says.{Excuse, Owes, told_of, history_of, added, grown}
+use Rattle.wait_rule.specs.Stays.{with_wakes, Carries, unchanged}
 use Rattle.wait_rule.specs.LookCounts.{Looked, LooksAtMost}
 use Rattle.wait_rule.specs.Transitions.{AreScansOf, has_bit, has_word}
 use Rattle.wait_rule.proofs.KnownLaws.AfterSteps.{told_added}
 use Rattle.wait_rule.proofs.KnownLaws.Transitions.{grown_none, grown_more}
-use Rattle.wait_rule.proofs.KnownLaws.CarriedTasks.{unchanged_on, stays_carried}
+use Rattle.wait_rule.proofs.KnownLaws.CarriedTasks.{or_none, owes_more, owes_wakes, unchanged_on, stays_carried}
 use Rattle.wait_rule.proofs.KnownLaws.StayingParts.{stays_same}
 use Rattle.wait_rule.proofs.TableSteps.ItemLists.{steps_append}
-use Rattle.wq_head.specs.Scanned.{HasScanned, HasEndedAt}
+use Rattle.wq_head.specs.Scanned.{HasScanned, HasEndedAt, spares_head}
 use Rattle.wq_head.proofs.FirstAndLast.{below_or}
 
 -- loads of n words from word i on, each of which found no bit
@@ -158,32 +161,39 @@ module _ (old new : Known) (h : ℕ) (s : HasFoundNone old new h MEMBER_WORDS) w
       ∙ (empty_looks_end (history_of old) h).elsewhere c σ away
 
   -- an excuse of the wakes of this head is needed no more
-  spared : (x : Excuse) (c : Watch) (σ : ℕ) (b : Bool) → (head_of c == h) ≡ b
-      → ((told_of old).duty.owes c σ && not (x.wakes c σ || b)) ≡ false
-      → ((told_of new).duty.owes c σ && not (x.wakes c σ)) ≡ false
-  spared x c σ true at owes = ap (λ (o : Bool). o && not (x.wakes c σ)) (here c σ (eqb-true (head_of c) h at))
-  spared x c σ false away owes =
+  spared : (x : Excuse) (c : Watch) (σ : ℕ) (b n : Bool) → (head_of c == h) ≡ b
+      → ((told_of old).duty.owes c σ && not ((x.wakes c σ || b) || n)) ≡ false
+      → ((told_of new).duty.owes c σ && not (x.wakes c σ || n)) ≡ false
+  spared x c σ true n at owes = ap (λ (o : Bool). o && not (x.wakes c σ || n))
+      (here c σ (eqb-true (head_of c) h at))
+  spared x c σ false n away owes =
       let far : head_of c ≢ h = λ e. (let t : (head_of c == h) ≡ true = eq-eqb (head_of c) h e in
       let z : true ≡ false = sym t ∙ away in cc) in
-      ap (λ (o : Bool). o && not (x.wakes c σ)) (elsewhere c σ far)
-      ∙ (ap (λ (b : Bool). (told_of old).duty.owes c σ && not b) (sym (or_false (x.wakes c σ))) ∙ owes)
-    where
-      or_false : (b : Bool) → (b || false) ≡ b
-      or_false true = refl
-      or_false false = refl
+      ap (λ (o : Bool). o && not (x.wakes c σ || n)) (elsewhere c σ far)
+      ∙ (ap (λ (b : Bool). (told_of old).duty.owes c σ && not (b || n)) (sym (or_none (x.wakes c σ))) ∙ owes)
 
   pub none_ended : HasEndedAt old new h
   none_ended = record {
     here = here;
     elsewhere = elsewhere;
-    settled = λ x o. record {
-      unmarked = s.mark ∙ o.unmarked;
-      owes = λ c σ. spared x c σ (head_of c == h) refl (o.owes c σ);
-      unqueued = λ i. subst (IsOutBut (x.entries i)) (ap (λ (b : Bits). b.stored i) (sym s.bits)) (o.unqueued i);
-      holds = λ c. ap (λ (b : Bits). b.keeps c) s.bits ∙ o.holds c;
-      tries = λ c. ap (λ (b : Bits). b.pending c) s.bits ∙ o.tries c;
-    };
+    settled = λ x o. owes_wakes (spares_head h x) x new refl refl
+        (λ c σ. spared x c σ (head_of c == h) (not (meets (mask_of mode.Normal) σ)) refl (o.debts.wakes c σ))
+        (s.carries.owes (spares_head h x) o);
   }
 
   pub none_looks : LooksAtMost MEMBER_WORDS old new
   none_looks = let a = s.looked in omega (arith, a)
+
+-- a look that found no member ends what a publish began, as a wake does
+at_its_head : (a s m e : Bool) → (s ≡ true → e ≡ true) → (a || (s && m)) ≡ true → (a || e) ≡ true
+at_its_head true s m e here is = refl
+at_its_head false true m e here is = here refl
+at_its_head false false m e here is = absurd (cc)
+
+pub found_none_over : (c : Watch) (old new : Known) → HasEndedAt old new (head_of c) → (x : Excuse)
+    → Owes (with_wakes c mode.Normal x) old → Owes x new
+unfolding with_wakes
+found_none_over c old new ended x o = ended.settled x (owes_more (with_wakes c mode.Normal x)
+    (spares_head (head_of c) x) old refl refl
+    (λ d σ. at_its_head (x.wakes d σ) (same d c) (meets (mask_of mode.Normal) σ) (head_of d == head_of c)
+    (λ alike. eq-eqb (head_of d) (head_of c) (same_head d c alike))) o)

@@ -1,6 +1,6 @@
 -- A task of tests that waits with its entry of slot 0, and leaves.
 use Rattle.std.proofs.Common.{◌∙◌, ap, sym, refl, subst, inl, arith}
-use Rattle.std.specs.Prelude.{ℕ, ◌≡◌, ◌&&◌, ◌||◌, not, Bool, true, false, Option, Some, None}
+use Rattle.std.specs.Prelude.{ℕ, ◌≡◌, ◌&&◌, ◌||◌, Bool, true, false, Option, Some, None, ◌∷◌}
 use Rattle.wait_model.specs.declared.layout.TheConstants.{FIRST_PLAIN_HEAD, RUNNING}
 use Rattle.wait_model.specs.declared.watches.Entry.{Entry}
 use Rattle.wait_model.specs.declared.watches.Watch.TheVariants as watch
@@ -15,7 +15,7 @@ use Rattle.wait_model.specs.declared.tasks.Sleep.{Sleep}
 use Rattle.wait_model.specs.Tasks.{meets}
 use Rattle.wait_model.specs.Watches.{head_of, mask_of, same}
 use Rattle.wait_model.specs.Words.{entry_of}
-use Rattle.wait_model.specs.Views.{View as Told, Bits, blank, is_trying_for}
+use Rattle.wait_model.specs.Views.{View as Told, Bits, blank}
 use Rattle.wait_model.specs.Fold.{after, view_of}
 use Rattle.wait_model.proofs.HistoryLaws.HoldLooks.{after_snoc}
 use Rattle.wait_model.proofs.StepLaws.UnlockSteps.{unlock_bits}
@@ -25,7 +25,7 @@ use Rattle.wait_rule.specs.Says.{
   IsClean,
   IsFree,
   Excuse,
-  OwesBut,
+  Owes,
   OwesNothing,
   HasSlept,
   no_excuse,
@@ -34,18 +34,20 @@ use Rattle.wait_rule.specs.Says.{
   told_of,
 }
 use Rattle.wait_rule.specs.Queues.{IsIdle, IsTailPlace, KnewEntry, MayUnqueue, index, saw}
-use Rattle.wait_rule.specs.Stays.{TriesNone, Stays, StaysOwing, also, no_entries}
+use Rattle.wait_rule.specs.Stays.{Stays, StaysOwing, no_entries, with_entry, with_wakes}
 use Rattle.wait_rule.proofs.KnownLaws.AfterSteps.{told_added}
 use Rattle.wait_rule.proofs.KnownLaws.Turns.{told_unlocked}
 use Rattle.wait_rule.specs.declared.journal.Item.{Item}
 use Rattle.wait_rule.specs.Items.{learn}
 use Rattle.wait_rule.proofs.KnownLaws.TaskHistories.{history_slept}
-use Rattle.wait_rule.proofs.KnownLaws.SettledTasks.{stays_settled, owes_after}
-use Rattle.wait_rule.proofs.KnownLaws.StayingParts.{look_out, none_tried, owes_out}
+use Rattle.wait_rule.proofs.KnownLaws.SettledTasks.{stays_settled, owes_after, owes_told}
+use Rattle.wait_rule.proofs.KnownLaws.Debts.{items_debts, looks_quiet}
+use Rattle.wait_rule.proofs.KnownLaws.CarriedTasks.{owes_more, published_carried}
+use Rattle.wait_rule.proofs.KnownLaws.StayingParts.{look_out, owes_out}
 use Rattle.wq_head.specs.Holds.{HasLocked, HasUnlocked, IsHolding}
 use Rattle.wq_head.specs.Looks.{Looks}
 use Rattle.wq_head.specs.Adds.{HasAdded, HasRemoved, front_entry}
-use Rattle.wq_head.specs.Walks.{HasEnded, spares}
+use Rattle.wq_head.specs.Walks.{HasEnded}
 use Rattle.wq_head.specs.Leaving.{HasEntry, HasLeft, IsBack}
 use Rattle.wq_head.proofs.ReadyTasks.{first_head, may_take_off}
 use Rattle.wq_head.proofs.OneMoreLook.{saw_bits, saw_looks}
@@ -58,9 +60,8 @@ pub entry_on : (old new : Known) (kd : Kind) → new.view.number ≡ old.view.nu
 entry_on old new kd number stored owing h = record {
   place = h.place;
   queued = (λ i. stored i (index (number i) 0)) ∙ h.queued;
-  settled = subst (λ (n : ℕ). OwesBut (also (index n 0) no_excuse) (told_of new)) (sym number)
-      (owing (also (index old.view.number 0) no_excuse) h.settled);
-  tries = λ x c. ap (λ (f : ℕ → Option Entry). is_trying_for (f x) c) stored ∙ h.tries x c;
+  owes = subst (λ (n : ℕ). Owes (with_entry (index n 0) no_excuse) new) (sym number)
+      (owing (with_entry (index old.view.number 0) no_excuse) h.owes);
 }
 
 -- over a step on a task word, a sleep, and a lock
@@ -75,11 +76,18 @@ slept_told : (old new : Known) (answer : Sleep) → HasSlept old new answer → 
 slept_told old new answer h = ap view_of (history_slept old new answer h)
     ∙ after_snoc blank (history_of old) (step.Sleep h.found)
 
+slept_owing : (old new : Known) (answer : Sleep) → HasSlept old new answer → StaysOwing old new
+slept_owing old new answer h =
+    let told = slept_told old new answer h in
+    owes_told old new (ap (λ (v : Told). v.mark) told) (λ i. ap (λ (v : Told). v.bits.stored i) told)
+    (λ c. ap (λ (v : Told). v.bits.keeps c) told) (λ c none. ap (λ (v : Told). v.bits.pending c) told ∙ none)
+    (items_debts old new (item.Made (step.Sleep h.found) ∷ h.looks) (refl, looks_quiet h.looks h.no_steps)
+    (ap (λ (k : Known). k.view) h.is))
+
 pub entry_slept : (old new : Known) (kd : Kind) (answer : Sleep) → HasSlept old new answer → HasEntry old kd
     → HasEntry new kd
 entry_slept old new kd answer h = entry_on old new kd (ap (λ (k : Known). k.view.number) h.is)
-    (ap (λ (v : Told). v.bits.stored) (slept_told old new answer h))
-    (λ x. subst (OwesBut x) (sym (slept_told old new answer h)))
+    (ap (λ (v : Told). v.bits.stored) (slept_told old new answer h)) (slept_owing old new answer h)
 
 pub entry_locked : (old new : Known) (kd : Kind) (head : ℕ) (walk : Option Aim) → HasLocked old new head walk
     → Stays no_entries old new → StaysOwing old new → HasEntry old kd → HasEntry new kd
@@ -104,15 +112,11 @@ entry_added old held queued new kd clean stays owing a u = record {
     entry = entry_on queued new kd u.stays.number (unlocked_stored queued new false u) u.settled (record {
       place = a.place;
       queued = ap (λ (n : ℕ). (told_of queued).bits.stored (index n 0)) a.stays.number ∙ a.queued;
-      settled = subst (λ (n : ℕ). OwesBut (also (index n 0) no_excuse) (told_of queued)) (sym a.stays.number)
-          (a.settled no_excuse none (owing no_excuse clean.settled));
-      tries = a.stays.tries_none none;
+      owes = subst (λ (n : ℕ). Owes (with_entry (index n 0) no_excuse) queued) (sym a.stays.number)
+          (a.carries.owes no_excuse (owing no_excuse clean.settled));
     });
   };
 }
-  where
-    none : TriesNone (told_of held)
-    none = none_tried (told_of held) (owing no_excuse clean.settled)
 
 -- a look at the own entry in a hold, and its removal
 module _ (old mid : Known) (n w : ℕ) (kd : Kind) (mine : n ≡ old.view.number) (held : IsHolding old)
@@ -125,9 +129,9 @@ module _ (old mid : Known) (n w : ℕ) (kd : Kind) (mine : n ≡ old.view.number
   here : index n 0 ≡ index old.view.number 0
   here = ap (λ (m : ℕ). index m 0) mine
 
-  owing : OwesBut (also (index n 0) no_excuse) (told_of mid)
-  owing = looks.settled h.tries (also (index n 0) no_excuse)
-      (subst (λ (x : ℕ). OwesBut (also x no_excuse) (told_of old)) (sym here) h.settled)
+  owing : Owes (with_entry (index n 0) no_excuse) mid
+  owing = looks.settled (with_entry (index n 0) no_excuse)
+      (subst (λ (x : ℕ). Owes (with_entry x no_excuse) old) (sym here) h.owes)
 
   pub off_left : entry_of w ≡ None → HasLeft old mid
   off_left none = record {
@@ -136,8 +140,8 @@ module _ (old mid : Known) (n w : ℕ) (kd : Kind) (mine : n ≡ old.view.number
       book = ap (λ (k : Known). k.book) looks.is;
       at = ap (λ (k : Known). k.at) looks.is;
     };
-    settled = owes_out (index n 0) no_excuse (told_of mid) owing
-        (look_out old mid (index n 0) w (saw_bits old mid (index n 0) w held is knew) none);
+    settled = owes_out (index n 0) no_excuse mid
+        (look_out old mid (index n 0) w (saw_bits old mid (index n 0) w held is knew) none) owing;
   }
 
   pub on_may : (e : Entry) → entry_of w ≡ Some e → MayUnqueue mid n 0
@@ -157,7 +161,7 @@ module _ (old mid : Known) (n w : ℕ) (kd : Kind) (mine : n ≡ old.view.number
           (sym ((λ i. (looks.is i).book.differs) ∙ held.agreed)) ∙ ap (λ (k : Known). k.book) looks.is);
       at = ap (λ (k : Known). k.at) r.is ∙ ap (λ (k : Known). k.at) looks.is;
     };
-    settled = r.settled no_excuse owing;
+    settled = r.carries.owes no_excuse owing;
   }
 
 -- an entry of kind Default stands
@@ -179,7 +183,7 @@ left_clean old held off new kd back stays left u = record {
 }
 
 -- a task that is RUNNING, holds no lock and has no bookmark out, by what it owes
-pub idle_by : (k : Known) (x : Excuse) → k.book.state ≡ RUNNING → IsFree k → OwesBut x (told_of k) → IsIdle k
+pub idle_by : (k : Known) (x : Excuse) → k.book.state ≡ RUNNING → IsFree k → Owes x k → IsIdle k
 idle_by k x running free o = record {
   running = running;
   free = free;
@@ -194,27 +198,12 @@ free_added old new x is head ticket free = subst IsFree (sym is) (record {
   ticket = ticket ∙ free.ticket;
 })
 
--- a publish of a task that owed nothing, which a wake of all then excuses
-excused : (s o m : Bool) → (o && not (not m)) ≡ false → ((s || o) && not (not m || (s && m))) ≡ false
-excused false false m is = refl
-excused false true false is = refl
-excused false true true is = is
-excused true o false is = refl
-excused true o true is = refl
-
 abbrev pub all_of : Watch → Aim
 all_of c = record { watch = c; mode = mode.Normal; count = 0 }
 
 pub published_owes : (old new : Known) (c : Watch) (n r : ℕ) → new ≡ added old (item.Made (step.Publish c n r))
-    → OwesNothing (told_of old) → OwesBut (spares (all_of c) no_excuse) (told_of new)
-published_owes old new c n r is o = subst (OwesBut (spares (all_of c) no_excuse))
-    (sym (ap told_of is ∙ told_added old (item.Made (step.Publish c n r)))) (record {
-      unmarked = o.unmarked;
-      owes = λ d σ. excused (same d c) ((told_of old).duty.owes d σ) (meets (mask_of mode.Normal) σ) (o.owes d σ);
-      unqueued = o.unqueued;
-      holds = λ d. ap (λ (b : Bool). b && not (same d c)) (o.holds d);
-      tries = o.tries;
-    })
+    → OwesNothing old → Owes (with_wakes c mode.Normal no_excuse) new
+published_owes old new c n r is o = (published_carried old new c n r is).owes no_excuse o
 
 pub clean_idle : (k : Known) → IsClean k → IsIdle k
 clean_idle k c = idle_by k no_excuse c.running c.free c.settled
@@ -222,35 +211,24 @@ clean_idle k c = idle_by k no_excuse c.running c.free c.settled
 pub published_idle : (old new : Known) (c : Watch) (n r : ℕ) → new ≡ added old (item.Made (step.Publish c n r))
     → IsClean old
     → IsIdle new
-published_idle old new c n r is clean = idle_by new (spares (all_of c) no_excuse)
+published_idle old new c n r is clean = idle_by new (with_wakes c mode.Normal no_excuse)
     (ap (λ (k : Known). k.book.state) is ∙ clean.running) (free_added old new (item.Made
     (step.Publish c n r)) is refl refl clean.free)
     (published_owes old new c n r is clean.settled)
 
-pub published_tries : (old new : Known) (c : Watch) (n r : ℕ) → new ≡ added old (item.Made (step.Publish c n r))
-    → OwesNothing (told_of old) → TriesNone (told_of new)
-published_tries old new c n r is o = subst TriesNone
-    (sym (ap told_of is ∙ told_added old (item.Made (step.Publish c n r)))) (none_tried (told_of old) o)
-
 -- a wake with the own entry queued
 pub back_idle : (k : Known) (kd : Kind) → IsBack k kd → IsIdle k
-back_idle k kd b = idle_by k (also (index k.view.number 0) no_excuse) b.running b.queued.free b.queued.entry.settled
+back_idle k kd b = idle_by k (with_entry (index k.view.number 0) no_excuse) b.running b.queued.free b.queued.entry.owes
 
 -- who owes nothing owes no more where wakes are excused
-spared : (w s o : Bool) → (o && not w) ≡ false → (o && not (w || s)) ≡ false
-spared w s false is = refl
-spared true s true is = refl
-spared false true true is = refl
-spared false false true is = is
+or_yes : (a b : Bool) → a ≡ true → (a || b) ≡ true
+or_yes true b is = refl
+or_yes false b is = absurd (cc)
 
-pub owes_spared : (a : Aim) (x : Excuse) (v : Told) → OwesBut x v → OwesBut (spares a x) v
-owes_spared a x v o = record {
-  unmarked = o.unmarked;
-  owes = λ c σ. spared (x.wakes c σ) (same c a.watch && meets (mask_of a.mode) σ) (v.duty.owes c σ) (o.owes c σ);
-  unqueued = o.unqueued;
-  holds = o.holds;
-  tries = o.tries;
-}
+owes_spared : (a : Aim) (x : Excuse) (k : Known) → Owes x k → Owes (with_wakes a.watch a.mode x) k
+unfolding with_wakes
+owes_spared a x k o = owes_more x (with_wakes a.watch a.mode x) k refl refl
+    (λ c σ. or_yes (x.wakes c σ) (same c a.watch && meets (mask_of a.mode) σ)) o
 
 pub entry_woken : (old new : Known) (a : Aim) → IsBack old kind.Default → HasEnded old new a → HasEntry new kind.Default
 entry_woken old new a b e =
@@ -258,8 +236,7 @@ entry_woken old new a b e =
       place = h.place;
       queued = ap (λ (n : ℕ). (told_of new).bits.stored (index n 0)) e.stays.number
           ∙ e.stays.stands 0 (omega arith) refl (front_entry (watch.Plain 0) kind.Default h.place) h.queued (inl refl);
-      settled = subst (λ (n : ℕ). OwesBut (also (index n 0) no_excuse) (told_of new)) (sym e.stays.number)
-          (e.settled (also (index old.view.number 0) no_excuse) h.tries
-          (owes_spared a (also (index old.view.number 0) no_excuse) (told_of old) h.settled));
-      tries = e.stays.tries_none h.tries;
+      owes = subst (λ (n : ℕ). Owes (with_entry (index n 0) no_excuse) new) (sym e.stays.number)
+          (e.settled (with_entry (index old.view.number 0) no_excuse)
+          (owes_spared a (with_entry (index old.view.number 0) no_excuse) old h.owes));
     }

@@ -1,6 +1,22 @@
 -- Whom a task has woken whose threads are to be roused, after each of its steps.
 use Rattle.std.proofs.Common.{◌∙◌, ap, sym, refl, append_assoc, append-nil, length-append, arith}
-use Rattle.std.specs.Prelude.{ℕ, ◌≡◌, ◌≤◌, ◌++◌, ◌∷◌, [], Bool, true, false, List, length, if◌then◌else◌, Option, Some, None}
+use Rattle.std.specs.Prelude.{
+  ℕ,
+  ◌≡◌,
+  ◌≤◌,
+  ◌++◌,
+  ◌∷◌,
+  [],
+  Bool,
+  true,
+  false,
+  List,
+  length,
+  if◌then◌else◌,
+  Option,
+  Some,
+  None,
+}
 use Rattle.wait_model.specs.declared.steps.Step.{Step}
 use Rattle.wait_model.specs.declared.steps.Step.TheVariants as step
 use Rattle.wait_model.specs.declared.queues.Mark.{Mark}
@@ -62,6 +78,7 @@ looks_none (item.Word w ∷ xs) l = looks_none xs l.1
 looks_none (item.Drawn h w ∷ xs) l = looks_none xs l.1
 looks_none (item.Serving h w ∷ xs) l = looks_none xs l.1
 looks_none (item.Served ∷ xs) l = looks_none xs l.1
+looks_none (item.Tally p n w ∷ xs) l = absurd l.0
 
 pub none_looked : (old new : Known) → Looks old new → RousesNone old new
 none_looked old new l = none_more old new l.items (ap (λ (k : Known). k.view.items) l.is) (looks_none l.items l.looks)

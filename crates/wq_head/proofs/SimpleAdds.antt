@@ -1,9 +1,10 @@
 -- The entries of adds at the tail, also at simple heads.
-use Rattle.std.proofs.Common.{refl, subst, sym, inl, inr, arith}
-use Rattle.std.specs.Prelude.{ℕ, ◌≡◌, ◌&&◌, Bool, true, false, Some}
+use Rattle.std.proofs.Common.{refl, subst, sym, inl, inr, arith, ap}
+use Rattle.std.specs.Prelude.{ℕ, ◌≡◌, ◌&&◌, not, Bool, true, false, Some}
 use Rattle.wait_model.specs.declared.watches.Watch.{Watch}
 use Rattle.wait_model.specs.declared.watches.Kind.{Kind}
 use Rattle.wait_model.specs.declared.watches.Kind.TheVariants as kind
+use Rattle.wait_model.specs.Watches.{is_page}
 use Rattle.wait_model.specs.Views.{is_trying_for}
 use Rattle.wait_rule.specs.Members.{IsStanding}
 use Rattle.wq_head.specs.Adds.{IsForTail, tail_entry}
@@ -40,7 +41,11 @@ no_and false = refl
 
 pub tail_tries : (w : Watch) (k : Kind) (b : Bool) (p : ℕ) → IsForTail w k → TriesNo (tail_entry b w k p)
 tail_tries w k b p (inl full) = plain_tries w k b false p full
-tail_tries w k b p (inr (simple, inl plain)) = λ c. subst (λ (v : Watch). is_trying_for (Some (tail_entry b v k p)) c
-    ≡ false) (sym plain.1) (no_and b)
-tail_tries w k b p (inr (simple, inr done)) = λ c. subst (λ (v : Watch). is_trying_for (Some (tail_entry b v k p)) c
-    ≡ false) (sym done.1) (no_and b)
+tail_tries w k b p (inr (simple, inl plain)) = (
+  λ c. subst (λ (v : Watch). is_trying_for (Some (tail_entry b v k p)) c ≡ false) (sym plain.1) (no_and b),
+  ap (λ (q : Kind). not (is_page q)) simple,
+)
+tail_tries w k b p (inr (simple, inr done)) = (
+  λ c. subst (λ (v : Watch). is_trying_for (Some (tail_entry b v k p)) c ≡ false) (sym done.1) (no_and b),
+  ap (λ (q : Kind). not (is_page q)) simple,
+)

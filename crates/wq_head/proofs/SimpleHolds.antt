@@ -25,13 +25,13 @@ use Rattle.wait_rule.specs.Queues.{IsIdle, IsWholeBook, simple_watch, walk_of_ho
 use Rattle.wait_rule.specs.Says.{IsFree, told_of, unlocked_with}
 use Rattle.wait_rule.specs.Shown.{look_entry}
 use Rattle.wait_rule.specs.Stays.{Stays, no_entries, Carries, wake_all_change}
-use Rattle.wait_rule.proofs.KnownLaws.StayingParts.{out_by, stays_on}
+use Rattle.wait_rule.proofs.KnownLaws.StayingParts.{stays_on}
 use Rattle.wait_rule.proofs.KnownLaws.Turns.{unlocked_free}
 use Rattle.wq_head.specs.Holds.{HasLocked}
 use Rattle.wq_head.specs.Selects.{IsSimpleHold, ShowsNoEntry, simple_aim}
 use Rattle.wq_head.specs.Walking.{IsUnder}
 use Rattle.wq_head.specs.Walks.{HasEnded, still_owed}
-use Rattle.wq_head.proofs.CarriedHolds.{unlock_carried, unlock_free, wake_carried}
+use Rattle.wq_head.proofs.CarriedHolds.{ended_owes, unlock_carried, unlock_free, wake_carried}
 use Rattle.wq_head.proofs.LockWaits.{locked_at, locked_told, unlocked_stays}
 use Rattle.wq_head.proofs.SimpleEntries.{walk_is_simple}
 use Rattle.wq_head.proofs.FullHeads.{one_of}
@@ -128,13 +128,6 @@ none_passed k w whole none = all_passed_of (told_of k) w (λ _. false)
     by x low elsewhere is = refl
     by x low (shown e) is = absurd (none x e low (ap look_entry is))
 
--- what is owed no more
-spared : (w s o : Bool) → (o && not (w || s)) ≡ false → ((o && not s) && not w) ≡ false
-spared w s false is = refl
-spared w true true is = refl
-spared true false true is = refl
-spared false false true is = is
-
 or_yes : (a b : Bool) → (a ≡ true) ⊎ (b ≡ true) → (a || b) ≡ true
 or_yes true b is = refl
 or_yes false b (inl is) = absurd (cc)
@@ -169,16 +162,7 @@ module _ (start mid new : Known) (spent : Bool) (stays : Stays no_entries start 
   simple_ended = record {
     stays = stays_new;
     owes = owes_new;
-    settled = λ x none o. record {
-      unmarked = mark_new ∙ o.unmarked;
-      owes = λ c σ. ap (λ (b : Bool). b && not (x.wakes c σ)) (owes_new c σ)
-          ∙ spared (x.wakes c σ) (same c a.watch && meets (mask_of a.mode) σ) ((told_of start).duty.owes c σ)
-          (o.owes c σ);
-      unqueued = λ i. out_by (x.entries i) ((told_of start).bits.stored i) ((told_of new).bits.stored i)
-          (stays_new.still i refl) (o.unqueued i);
-      holds = λ c. stays_new.keeps c ∙ o.holds c;
-      tries = λ c. stays_new.tries none c (o.tries c);
-    };
+    settled = λ x o. ended_owes a start new stays_new (mark_new ∙ o.unmarked) owes_new x o;
   }
 
   pub simple_idle : IsIdle start → IsIdle new

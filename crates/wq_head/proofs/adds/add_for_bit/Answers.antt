@@ -1,9 +1,11 @@
 use Rattle.std.proofs.Common.{◌∙◌, Bool, true, ap, inr, refl, subst, sym}
 use Rattle.wait_model.specs.declared.watches.Entry.{Entry}
 use Rattle.wait_model.specs.declared.watches.Kind.TheVariants as kind
+use Rattle.wait_rule.specs.Known.{Known}
 use Rattle.wait_rule.specs.Members.{IsStanding}
 use Rattle.wait_rule.specs.Queues.{IsPlaceFor, index}
 use Rattle.wq_head.specs.Adds.{tail_entry}
+use Rattle.wq_head.proofs.PermitHeads.{added_there, bit_low, found_low, looks_found}
 use Rattle.wq_head.proofs.AddedEntries.{tail_placed, tail_worn, tail_after, added_holds}
 use Rattle.wq_head.proofs.HashedAdds.{bit_stands, added_for_bit}
 use Rattle.wq_head.proofs.OneMoreLook.{holding_on}
@@ -68,3 +70,14 @@ returns-in-None-clause-noted c =
 
 pub returns-in-None-clause-same : goal.returns-in-None-clause-same
 returns-in-None-clause-same c = looks_carried c.args.task.now c.survey-ends.new.task c.survey-ends.ensures.looks
+
+pub enqueue-requires-clause-permits : goal.enqueue-requires-clause-permits
+enqueue-requires-clause-permits c = looks_found c.args.task.now c.survey-ends.new.task 0 c.survey-ends.ensures.looks
+    (found_low c.args.task.now 0 _ (sym c.requires.head) (bit_low c.args.watch kind.Bit c.requires.suits))
+
+pub returns-in-Some-clause-at : goal.returns-in-Some-clause-at
+returns-in-Some-clause-at c = added_there c.args.task.now c.survey-ends.new.task c.enqueue.new.task _ _
+    c.survey-ends.ensures.looks c.enqueue.ensures
+
+pub returns-in-None-clause-at : goal.returns-in-None-clause-at
+returns-in-None-clause-at c = ap (λ (k : Known). k.at) c.survey-ends.ensures.looks.is

@@ -5,6 +5,7 @@ use Rattle.wait_rule.specs.Known.{Known}
 use Rattle.wait_rule.specs.Members.{IsStanding}
 use Rattle.wait_rule.specs.Queues.{IsPriorityPlace, IsPlaceFor, index}
 use Rattle.wq_head.specs.Adds.{priority_entry}
+use Rattle.wq_head.proofs.PermitHeads.{added_there, found_low, looks_found, plain_low}
 use Rattle.wq_head.proofs.AddedEntries.{
   priority_placed,
   priority_worn,
@@ -87,3 +88,15 @@ returns-in-None-clause-noted c =
 
 pub returns-in-None-clause-same : goal.returns-in-None-clause-same
 returns-in-None-clause-same c = looks_carried c.args.task.now c.survey-ends.new.task c.survey-ends.ensures.looks
+
+pub enqueue-requires-clause-permits : goal.enqueue-requires-clause-permits
+enqueue-requires-clause-permits c = looks_found c.args.task.now c.survey-ends.new.task c.args.slot
+    c.survey-ends.ensures.looks (found_low c.args.task.now c.args.slot _ (sym c.requires.head)
+    (plain_low c.args.watch c.args.kind c.requires.plain))
+
+pub returns-in-Some-clause-at : goal.returns-in-Some-clause-at
+returns-in-Some-clause-at c = added_there c.args.task.now c.survey-ends.new.task c.enqueue.new.task _ _
+    c.survey-ends.ensures.looks c.enqueue.ensures
+
+pub returns-in-None-clause-at : goal.returns-in-None-clause-at
+returns-in-None-clause-at c = ap (λ (k : Known). k.at) c.survey-ends.ensures.looks.is

@@ -5,6 +5,7 @@ use Rattle.wait_model.specs.Watches.{head_of}
 use Rattle.wait_rule.specs.Known.{Known}
 use Rattle.wait_rule.specs.Says.{stored_with}
 use Rattle.wait_rule.proofs.KnownLaws.Turns.{unlocked_free}
+use Rattle.wq_head.proofs.PermitHeads.{walk_owes}
 use Rattle.wq_head.proofs.EntryFunctions.{keeps_on}
 use Rattle.wq_head.proofs.WholeWalk.{come_on, walk_passed, walk_spent}
 use Rattle.wq_head.specs.Roused.{RousesNone}
@@ -99,3 +100,12 @@ returns-in-Starved-clause-turned c start up idle tries i = record {
   outside = tt;
   turns = c.in-Starved.ensures.over;
 }
+
+-- its head is none of a completion
+pub give_back-requires-clause-permits : goal.give_back-requires-clause-permits
+give_back-requires-clause-permits c = walk_owes c.args.run.now.aim.watch c.walk_hold.new.task c.requires.full
+    c.in-Passed.ensures.over.2.walking.held.at
+
+pub give_back-requires-in-Spent-clause-permits : goal.give_back-requires-in-Spent-clause-permits
+give_back-requires-in-Spent-clause-permits c = walk_owes c.args.run.now.aim.watch c.walk_hold.new.task c.requires.full
+    c.in-Spent.ensures.over.2.at

@@ -1,10 +1,12 @@
-use Rattle.std.proofs.Common.{◌∙◌, ◌≡◌, ℕ, sym, subst, arith}
+use Rattle.std.proofs.Common.{◌∙◌, ◌≡◌, ℕ, ap, sym, subst, arith}
 use Rattle.std.specs.Prelude.{false}
 use Rattle.wait_model.specs.declared.steps.Step.TheVariants as step
 use Rattle.wait_model.specs.Watches.{head_of}
+use Rattle.wait_rule.specs.Known.{Known}
 use Rattle.wait_rule.specs.Says.{stored_with, unlocked_with}
 use Rattle.wq_head.specs.Turns.{next_at}
 use Rattle.wq_head.specs.Walking.{Counts}
+use Rattle.wq_head.proofs.PermitHeads.{walk_owes}
 use Rattle.wq_head.proofs.FullHeads.{head_small}
 use Rattle.wq_head.proofs.BreakingHold.{place_small}
 use Rattle.wq_head.proofs.BrokenHold.{may_put, breaks_off}
@@ -45,3 +47,7 @@ returns c =
       spent = r.spent;
       calls = r.calls;
     }
+
+pub give_back-requires-clause-permits : goal.give_back-requires-clause-permits
+give_back-requires-clause-permits c = walk_owes c.args.aim.watch c.mark_member.new.task c.requires.full
+    (ap (λ (k : Known). k.at) c.mark_member.ensures ∙ c.requires.calling.walking.held.at)

@@ -1,6 +1,6 @@
 use Rattle.wait_model.specs.declared.watches.Watch.TheVariants as watch
 use Rattle.wait_rule.specs.Says.{no_excuse}
-use Rattle.wq_head.proofs.LeavingTask.{clean_idle, published_idle, published_owes, published_tries}
+use Rattle.wq_head.proofs.LeavingTask.{clean_idle, published_idle, published_owes}
 use Rattle.wq_head.proofs.tests.leaving.set_and_wake.Goals as goal
 
 pub publish-requires-clause-idle : goal.publish-requires-clause-idle
@@ -19,6 +19,5 @@ returns-clause-clean g c =
       running = w.idle.running;
       free = w.idle.free;
       settled = w.ended.settled no_excuse
-          (published_tries c.args.task.now c.publish.new.task (watch.Plain 0) 1 p.0 p.1 c.requires.clean.settled)
           (published_owes c.args.task.now c.publish.new.task (watch.Plain 0) 1 p.0 p.1 c.requires.clean.settled);
     }

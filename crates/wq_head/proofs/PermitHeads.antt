@@ -1,0 +1,109 @@
+-- Heads that are none of a completion, at which nothing is asked of permits; and looks in a hold, after which a count
+-- is known as before.
+use Rattle.std.proofs.Common.{refl, ◌∙◌, ap, arith, inl, inr}
+use Rattle.std.specs.Prelude.{ℕ, ◌≡◌, ◌+◌, ◌*◌, ◌<◌, ◌-◌, Option, None, List, [], ◌∷◌, ◌++◌}
+use Rattle.wait_model.specs.declared.layout.TheConstants.{BIT_WORDS, WORD_BITS, FIRST_DONE_HEAD}
+use Rattle.wait_model.specs.declared.steps.Step.{Step}
+use Rattle.wait_model.specs.declared.steps.Step.TheVariants as step
+use Rattle.wait_model.specs.declared.watches.Entry.{Entry}
+use Rattle.wait_model.specs.declared.watches.Kind.{Kind}
+use Rattle.wait_model.specs.declared.watches.Watch.{Watch}
+use Rattle.wait_model.specs.declared.watches.Watch.TheVariants as watch
+use Rattle.wait_model.specs.Watches.{head_of}
+use Rattle.wait_rule.specs.declared.journal.Item.{Item}
+use Rattle.wait_rule.specs.declared.journal.Item.TheVariants as item
+use Rattle.wait_rule.specs.HandedPermits.{FoundNoPermit, OwesNoPermit}
+use Rattle.wait_rule.specs.HeldValues.{count_in, value_after, value_from}
+use Rattle.wait_rule.specs.Items.{steps_of}
+use Rattle.wait_rule.specs.Known.{Known}
+use Rattle.wait_rule.specs.Says.{history_of}
+use Rattle.wait_rule.specs.Transitions.{AreLooks}
+use Rattle.wait_rule.proofs.TableSteps.ItemLists.{steps_append}
+use Rattle.wq_head.specs.Adds.{HasQueued, IsFor, IsForBit, IsForPlain, IsForVar}
+use Rattle.wq_head.specs.Looks.{Looks}
+use Rattle.wq_head.specs.Walks.{IsFull}
+use Rattle.wq_head.proofs.FullHeads.{hashed_low, head_small}
+
+-- heads below those of completions
+pub plain_low : (w : Watch) (k : Kind) → IsForPlain w k → head_of w < FIRST_DONE_HEAD
+unfolding head_of
+plain_low w k f =
+    let few = f.2 in
+    let is = ap head_of f.1 in
+    omega (arith, few, is)
+
+pub bit_low : (w : Watch) (k : Kind) → IsForBit w k → head_of w < FIRST_DONE_HEAD
+unfolding head_of
+bit_low w k f =
+    let low = hashed_low (f.1.0 * WORD_BITS + f.1.1) in
+    let is = ap head_of f.1.2 in
+    omega (arith, low, is)
+
+pub var_low : (w : Watch) (k : Kind) → IsForVar w k → head_of w < FIRST_DONE_HEAD
+unfolding head_of
+var_low w k f =
+    let low = hashed_low (BIT_WORDS + f.1.0) in
+    let is = ap head_of f.1.1 in
+    omega (arith, low, is)
+
+pub front_low : (w : Watch) (k : Kind) → IsFor w k → head_of w < FIRST_DONE_HEAD
+front_low w k f = elim f [
+  | inl plain ↦ plain_low w k plain
+  | inr hashed ↦ (elim hashed [ inl bit ↦ bit_low w k bit | inr var ↦ var_low w k var ])
+]
+
+pub full_low : (w : Watch) → IsFull w → head_of w < FIRST_DONE_HEAD
+full_low w full = let small = head_small w full in omega (arith, small)
+
+pub found_low : (k : Known) (slot h : ℕ) → k.at ≡ h → h < FIRST_DONE_HEAD → FoundNoPermit k slot
+found_low k slot h at low = inl (omega (arith, at, low))
+
+pub owes_low : (k : Known) (h : ℕ) → k.at ≡ h → h < FIRST_DONE_HEAD → OwesNoPermit k
+owes_low k h at low = inl (omega (arith, at, low))
+
+-- a walk's head
+pub walk_owes : (w : Watch) (k : Known) → IsFull w → k.at ≡ head_of w → OwesNoPermit k
+walk_owes w k full at = owes_low k (head_of w) at (full_low w full)
+
+-- looks leave the count known
+value_more : (c : Watch) (o : Option ℕ) (es fs : List Step)
+    → value_from c o (es ++ fs) ≡ value_from c (value_from c o es) fs
+value_more c o [] fs = refl
+value_more c o (e ∷ es) fs = value_more c (value_after c e o) es fs
+
+looks_value : (c : Watch) (o : Option ℕ) (xs : List Item) → AreLooks xs → value_from c o (steps_of xs) ≡ o
+looks_value c o [] l = refl
+looks_value c o (item.Made (step.Saw x w) ∷ xs) l = looks_value c o xs l.1
+looks_value c o (item.Made e ∷ xs) l = absurd l.0
+looks_value c o (item.Awake w ∷ xs) l = looks_value c o xs l.1
+looks_value c o (item.Bookmark t w ∷ xs) l = looks_value c o xs l.1
+looks_value c o (item.Member ∷ xs) l = looks_value c o xs l.1
+looks_value c o (item.Word w ∷ xs) l = looks_value c o xs l.1
+looks_value c o (item.Drawn h w ∷ xs) l = looks_value c o xs l.1
+looks_value c o (item.Serving h w ∷ xs) l = looks_value c o xs l.1
+looks_value c o (item.Served ∷ xs) l = looks_value c o xs l.1
+looks_value c o (item.Tally p n w ∷ xs) l = absurd l.0
+
+looked_count : (d : ℕ) (old new : Known) → Looks old new → count_in d (history_of new) ≡ count_in d (history_of old)
+looked_count d old new l =
+    ap (count_in d) (ap history_of l.is ∙ steps_append old.view.items l.items)
+    ∙ (value_more (watch.Done d) None (history_of old) (steps_of l.items)
+    ∙ looks_value (watch.Done d) (count_in d (history_of old)) l.items l.looks)
+
+pub looks_found : (old new : Known) (slot : ℕ) → Looks old new → FoundNoPermit old slot → FoundNoPermit new slot
+looks_found old new slot l f =
+    let same : new.at ≡ old.at = ap (λ (k : Known). k.at) l.is in
+    elim f [
+      | inl low ↦ found_low new slot old.at same low
+      | inr zero ↦ inr (
+        zero.0,
+        ap (λ (h : ℕ). count_in (h - FIRST_DONE_HEAD) (history_of new)) same
+            ∙ (looked_count (old.at - FIRST_DONE_HEAD) old new l ∙ zero.1),
+      )
+    ]
+
+-- an add is at the head that was held before
+pub added_there : (old seen new : Known) (slot : ℕ) (e : Entry) → Looks old seen → HasQueued seen new slot e
+    → new.at ≡ old.at
+added_there old seen new slot e l q = ap (λ (k : Known). k.at) q.is ∙ (ap (λ (k : Known). k.at) q.looks.is
+    ∙ ap (λ (k : Known). k.at) l.is)

@@ -29,7 +29,6 @@ use Rattle.wait_rule.specs.Shown.{shown_queue}
 use Rattle.wait_rule.specs.Stays.{Carries, lock_change, only, only_looks, queue_change, unchanged, unlock_change}
 use Rattle.wait_rule.specs.Stays.{with_entry}
 use Rattle.wait_rule.specs.Transitions.{OnlyLooks, Program, by_step, call_program}
-use Rattle.wait_rule.proofs.KnownLaws.CarriedTasks.{clean_owes, owes_clean}
 use Rattle.wait_rule.proofs.KnownLaws.MemberBits.{bit_looks}
 use Rattle.wait_rule.proofs.KnownLaws.Transitions.{only_none, only_looked}
 use Rattle.wait_rule.proofs.KnownLaws.Turns.{serve_looks}
@@ -80,9 +79,8 @@ module _ (from to : Excuse → Excuse) (but : ℕ → Bool) (looks : Bool) (old 
     stands = λ slot few away e is own. stands_on slot e away
         (λ first off. two.stands slot few off e first own) (λ second. three.stands slot few refl e second own)
         (one.stands slot few refl e is own);
+    keeps = λ d _. three.keeps d refl ∙ (two.keeps d refl ∙ one.keeps d refl);
     owes = λ x o. three.owes (to x) (two.owes x (one.owes (from x) o));
-    clean = clean_owes old;
-    settled = owes_clean new;
   }
 
 -- a look before it
@@ -107,9 +105,8 @@ module _ (from to : Excuse → Excuse) (but : ℕ → Bool) (looks : Bool) (at :
         (two.stands slot few (ap (λ (n : ℕ). but (index n slot)) one.number ∙ away) e
         (subst (λ (n : ℕ). (told_of mid).bits.stored (index n slot) ≡ Some e) (sym one.number)
         (one.stands slot few refl e is own)) own);
+    keeps = λ d _. two.keeps d refl ∙ one.keeps d refl;
     owes = λ x o. two.owes x (one.owes (from x) o);
-    clean = clean_owes old;
-    settled = owes_clean new;
   }
 
 -- the lock, and the unlock

@@ -10,6 +10,7 @@ pub mod Pares
 pub mod WornPlaces
 pub mod FormPlaces
 pub mod Conditions
+pub mod PermitHeads
 pub mod Queues
 pub mod Parts
 pub mod Rising

@@ -3,9 +3,9 @@ use Rattle.std.proofs.Common.{◌∙◌, ap, sym, refl, subst, inr, arith}
 use Rattle.std.specs.Prelude.{ℕ, ◌≡◌, false}
 use Rattle.wait_model.specs.declared.tasks.SleepState.TheVariants as states
 use Rattle.wait_rule.specs.Known.{Known}
-use Rattle.wait_rule.specs.Says.{IsClean, IsFree, IsUp, no_excuse, told_of}
+use Rattle.wait_rule.specs.Says.{IsClean, IsFree, IsUp, Owes, no_excuse, told_of}
 use Rattle.wait_rule.specs.Queues.{index}
-use Rattle.wait_rule.specs.Stays.{Carries, Change, Owes, unchanged, with_entry}
+use Rattle.wait_rule.specs.Stays.{Carries, Change, unchanged, with_entry}
 use Rattle.wait_event.specs.Entries.{HasWokenEntry, MayRemove, add_change, hold_change, remove_change}
 use Rattle.wait_event.specs.Tested.{IsCleanHearer, IsHearer}
 use Rattle.wait_event.specs.Waits.{own_of}
@@ -20,7 +20,7 @@ pub entered : (old new : Known) → IsClean old → MayRemove new → HasWokenEn
     → Carries (add_change (own_of old) new.at) old new → IsCleanHearer new
 entered old new clean may entry carries = record {
   hearer = record { up = may.up; free = may.free; running = carries.state ∙ clean.running; entry = entry };
-  owes = owes_own old new carries.number (carries.owes no_excuse (carries.clean clean.settled));
+  owes = owes_own old new carries.number (carries.owes no_excuse clean.settled);
 }
 
 pub worn_clean : (old new : Known) → IsClean old → IsUp new → IsFree new → Carries (hold_change new.at) old new
@@ -29,7 +29,7 @@ worn_clean old new clean up free carries = record {
   up = up;
   running = carries.state ∙ clean.running;
   free = free;
-  settled = carries.settled (carries.owes no_excuse (carries.clean clean.settled));
+  settled = carries.owes no_excuse clean.settled;
 }
 
 -- the entry stands over a call that does not change it
@@ -71,7 +71,7 @@ clean_leaves old new h up free carries = record {
   up = up;
   running = carries.state ∙ h.hearer.running;
   free = free;
-  settled = carries.settled (carries.owes no_excuse h.owes);
+  settled = carries.owes no_excuse h.owes;
 }
 
 -- who has waited is between two waits

@@ -1,7 +1,7 @@
 -- The call that takes the own entry of a task off: its transitions, and what it carries on.
 use Rattle.std.proofs.Common.{◌∙◌, ap, sym, refl, subst, inl, arith}
 use Rattle.std.specs.Prelude.{ℕ, ◌≡◌, ◌+◌, ◌<◌, false, true, Option, Some, None}
-use Rattle.wait_model.specs.declared.layout.TheConstants.{FIRST_PLAIN_HEAD, HEADS}
+use Rattle.wait_model.specs.declared.layout.TheConstants.{FIRST_DONE_HEAD, FIRST_PLAIN_HEAD, HEADS}
 use Rattle.wait_model.specs.declared.calls.Call.TheVariants as calls
 use Rattle.wait_model.specs.declared.points.Point.TheVariants as at
 use Rattle.wait_model.specs.declared.points.RemovePoint.TheVariants as removing
@@ -15,6 +15,7 @@ use Rattle.wait_model.specs.Views.{View as Told}
 use Rattle.wait_model.specs.Watches.{head_of}
 use Rattle.wait_rule.specs.declared.journal.Item.TheVariants as item
 use Rattle.wait_rule.specs.Items.{Book}
+use Rattle.wait_rule.specs.HandedPermits.{OwesNoPermit}
 use Rattle.wait_rule.specs.Known.{Known}
 use Rattle.wait_rule.specs.Members.{IsOwnKind}
 use Rattle.wait_rule.specs.Says.{IsFree, IsUp, added, stored_with, told_of}
@@ -25,6 +26,7 @@ use Rattle.wait_rule.proofs.KnownLaws.MemberBits.{bit_looks}
 use Rattle.wait_rule.proofs.KnownLaws.Transitions.{only_none}
 use Rattle.wq_head.specs.Adds.{HasRemoved}
 use Rattle.wq_head.specs.Holds.{HasLocked, HasUnlocked, IsHolding}
+use Rattle.wq_head.proofs.PermitHeads.{owes_low}
 use Rattle.wq_head.proofs.LockWaits.{turn_looks, turn_of, turn_told}
 use Rattle.wait_event.specs.Ends.{IsOut}
 use Rattle.wait_event.specs.Entries.{HasRemovedOwn, MayRemove, remove_change}
@@ -32,6 +34,7 @@ use Rattle.wait_event.specs.Posts.{HasSeenOwn, Runs}
 use Rattle.wait_event.specs.Waits.{nothing, own_of, with_entry as finds}
 use Rattle.wait_event.proofs.Entering.{hold_carried, looked_carried, runs_lock, unlock_looks}
 use Rattle.wait_event.proofs.Events.Locks.{head_fits}
+use Rattle.wait_event.proofs.Events.PermitHeads.{cond_low}
 use Rattle.wait_event.proofs.Events.Pares.{owner_own}
 use Rattle.wait_event.proofs.Ground.Going.{runs_on, runs_one}
 use Rattle.wait_event.proofs.Ground.Standing.{seen_book, seen_is, seen_looks, seen_shows}
@@ -114,6 +117,11 @@ module _ (old seen : Known) (may : MayRemove old) (told : IsTold old) (o : Optio
       agreed = ap (λ (b : Book). b.differs) (seen_book held looked p again) ∙ holds.agreed;
       told = again.carries.hold ∙ (holds.told ∙ ap Some (sym again.carries.at));
     }
+
+    -- its head is none of a completion
+    pub taken_owes : (n : ℕ) (taken : Known) → HasRemoved looked taken n 0 → OwesNoPermit taken
+    taken_owes n taken r = owes_low taken h (r.carries.at ∙ (again.carries.at ∙ held_at))
+        (subst (λ (i : ℕ). i < FIRST_DONE_HEAD) (sym (here ∙ ap head_of about)) (cond_low may.cond may.full))
 
     module _ (n : ℕ) (mine : n ≡ seen.view.number) (taken : Known) (r : HasRemoved looked taken n 0) (new : Known)
         (back : HasUnlocked taken new false) (three : Carries unlock_change taken new) where

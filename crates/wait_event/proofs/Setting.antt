@@ -1,6 +1,6 @@
 -- Conditions that are taken, and set with a wake behind.
 use Rattle.std.proofs.Common.{◌∙◌, sym, refl, subst}
-use Rattle.std.specs.Prelude.{ℕ, ◌≡◌, ◌||◌, ◌&&◌, not, Bool, true, false, Some, None}
+use Rattle.std.specs.Prelude.{ℕ, ◌≡◌, ◌||◌, ◌&&◌, Bool, true, false, Some, None}
 use Rattle.wait_model.specs.declared.calls.Call.TheVariants as calls
 use Rattle.wait_model.specs.declared.points.Next.TheVariants as next
 use Rattle.wait_model.specs.declared.points.Point.TheVariants as at
@@ -15,11 +15,11 @@ use Rattle.wait_model.specs.Tasks.{meets}
 use Rattle.wait_model.specs.Watches.{same, mask_of}
 use Rattle.wait_rule.specs.declared.journal.Item.TheVariants as item
 use Rattle.wait_rule.specs.Known.{Known}
-use Rattle.wait_rule.specs.Says.{Excuse, added, told_of}
+use Rattle.wait_rule.specs.Says.{Excuse, Owes, added, told_of}
 use Rattle.wait_rule.specs.Queues.{IsIdle, index}
-use Rattle.wait_rule.specs.Stays.{Carries, Owes, least, publish_change, wake_all_change, with_wakes}
+use Rattle.wait_rule.specs.Stays.{Carries, publish_change, wake_all_change, with_wakes}
 use Rattle.wait_rule.specs.Transitions.{by_step, call_program}
-use Rattle.wait_rule.proofs.KnownLaws.CarriedTasks.{clean_owes, owes_clean, owes_more}
+use Rattle.wait_rule.proofs.KnownLaws.CarriedTasks.{owes_more}
 use Rattle.wait_rule.proofs.KnownLaws.Transitions.{only_none}
 use Rattle.wq_head.specs.Walks.{HasWoken, HasEnded}
 use Rattle.wait_event.specs.Posts.{Runs}
@@ -53,19 +53,14 @@ set_idle c old mid idle a = record {
 }
 
 -- the wake ends what the publish began
-wider : (w s m n : Bool) → (w || n) ≡ true → ((w || (s && m)) || n) ≡ true
-wider true s m n is = refl
-wider false true true n is = refl
-wider false true false n is = is
-wider false false m n is = is
+wider : (w s m : Bool) → w ≡ true → (w || (s && m)) ≡ true
+wider true s m is = refl
+wider false s m is = absurd (cc)
 
 owes_wider : (c : Watch) (m : Mode) (x : Excuse) (k : Known) → Owes x k → Owes (with_wakes c m x) k
-unfolding Owes with_wakes
-owes_wider c m x k o = (
-  owes_more (least x) (least (with_wakes c m x)) (told_of k)
-      (λ d σ. wider (x.wakes d σ) (same d c) (meets (mask_of m) σ) (not (meets (mask_of mode.Normal) σ))) refl o.0,
-  o.1,
-)
+unfolding with_wakes
+owes_wider c m x k o = owes_more x (with_wakes c m x) k refl refl
+    (λ d σ. wider (x.wakes d σ) (same d c) (meets (mask_of m) σ)) o
 
 set_owes : (c : Watch) (m : Mode) (old mid new : Known) → Carries (publish_change c) old mid
     → Carries (wake_all_change c m new.at) mid new → (x : Excuse) → Owes x old → Owes (left_owed m c x) new
@@ -94,9 +89,8 @@ set_carries c m old mid new idle behind held a b = record {
       (b.stands slot few refl e
       (subst (λ (n : ℕ). (told_of mid).bits.stored (index n slot) ≡ Some e) (sym a.number)
       (a.stands slot few refl e is own)) own);
+  keeps = λ d p. b.keeps d refl ∙ a.keeps d p;
   owes = set_owes c m old mid new a b;
-  clean = clean_owes old;
-  settled = owes_clean new;
 }
 
 pub has_set : (old mid new : Known) (c value r : ℕ) (m : Mode) (count : ℕ) (w : Walked)

@@ -30,11 +30,11 @@ use Rattle.wait_rule.specs.Known.{Known}
 use Rattle.wait_rule.specs.Tickets.{Ticket, no_ticket, drawn, taken}
 use Rattle.wait_rule.specs.Members.{IsOwnKind}
 use Rattle.wait_model.specs.Words.{entry_of}
-use Rattle.wait_rule.specs.Says.{Excuse, told_of, added}
+use Rattle.wait_rule.specs.Says.{Excuse, told_of, added, Owes}
 use Rattle.wait_rule.specs.declared.journal.Item.TheVariants as item
 use Rattle.wait_rule.specs.Members.{IsEntryWord}
 use Rattle.wait_rule.specs.Queues.{IsAgreed, KnewEntry, index, saw}
-use Rattle.wait_rule.specs.Stays.{Owes, Carries, with_entry, only_looks}
+use Rattle.wait_rule.specs.Stays.{Carries, with_entry, only_looks}
 use Rattle.wait_rule.specs.Transitions.{Program, Transition, Goes}
 
 -- What a point of a program says of the task: the head that it holds, the ticket that it has out, whether its state may
@@ -82,7 +82,7 @@ post_at out call p = record {
 }
 
 -- What stays of a task over a part of a call that has the entry of this index: the task, its bookmark, what it owes but
--- for this entry, the other entries.
+-- for this entry, the other entries, and the bits that it keeps.
 pub record Keeps (i : ℕ) (old new : Known) : Type 0 where
   pub domain : new.domain ≡ old.domain
   pub number : new.view.number ≡ old.view.number
@@ -92,6 +92,7 @@ pub record Keeps (i : ℕ) (old new : Known) : Type 0 where
   pub stands : (slot : ℕ) → slot < SLOTS → (index old.view.number slot == i) ≡ false → (e : Entry)
       → (told_of old).bits.stored (index old.view.number slot) ≡ Some e → IsOwnKind e.kind
       → (told_of new).bits.stored (index old.view.number slot) ≡ Some e
+  pub keeps : (d : Watch) → (told_of new).bits.keeps d ≡ (told_of old).bits.keeps d
   pub owes : (x : Excuse) → Owes (with_entry i x) old → Owes (with_entry i x) new
 
 -- the task went through a program from one point to another

@@ -3,9 +3,9 @@
 use Rattle.std.specs.Prelude.{◌≡◌, Option, Some, None}
 use Rattle.wait_model.specs.declared.tasks.SleepState.TheVariants as states
 use Rattle.wait_rule.specs.Known.{Known}
-use Rattle.wait_rule.specs.Says.{IsFree, IsUp, no_excuse}
+use Rattle.wait_rule.specs.Says.{IsFree, IsUp, Owes, no_excuse}
 use Rattle.wait_rule.specs.Queues.{IsIdle}
-use Rattle.wait_rule.specs.Stays.{Owes, with_entry}
+use Rattle.wait_rule.specs.Stays.{with_entry}
 use Rattle.wait_event.specs.Ends.{IsOut}
 use Rattle.wait_event.specs.Entries.{HasWokenEntry}
 use Rattle.wait_event.specs.Waits.{Lands, own_of}

@@ -1,6 +1,26 @@
 -- To be believed.
 -- A wait for a plain condition or a variable, in stretches: its stages, and what each turn does.
-use Rattle.std.specs.Prelude.{ℕ, ◌≡◌, ◌≤◌, ◌||◌, ◌&&◌, not, nat_lt, Bool, true, false, if◌then◌else◌, is_some, Option, Some, None, List, [], ◌∷◌, ◌++◌}
+use Rattle.std.specs.Prelude.{
+  ℕ,
+  ◌≡◌,
+  ◌≤◌,
+  ◌||◌,
+  ◌&&◌,
+  not,
+  nat_lt,
+  Bool,
+  true,
+  false,
+  if◌then◌else◌,
+  is_some,
+  Option,
+  Some,
+  None,
+  List,
+  [],
+  ◌∷◌,
+  ◌++◌,
+}
 use Rattle.wait_model.specs.declared.layout.TheConstants.{FIRST_SIMPLE}
 use Rattle.wait_model.specs.declared.calls.Call.{Call}
 use Rattle.wait_model.specs.declared.calls.Call.TheVariants as calls

@@ -21,7 +21,7 @@ use wait_rule::{Domain, Task};
 use wq_head::{Worn, lock, remove, unlock};
 
 /// Queues the own entry of slot 0 for condition `cond`, below `FIRST_SIMPLE`, in a hold of its own: at the front
-/// (`add_wait_queue`), exclusive at the tail (`add_wait_queue_exclusive`), or with priority
+/// (kernel/sched/wait.c, `add_wait_queue`), exclusive at the tail (`add_wait_queue_exclusive`), or with priority
 /// (`add_wait_queue_priority`), for a task whose number is below `PRIORITY_TASKS`. The kind is Default, whose task a
 /// wake wakes, or Woken, whose flag a wake sets before that (`woken_waits`): only the task itself takes the entry off.
 /// The task is in any state, holds no lock, and its entry is off. Worn comes exactly where no place is left for the
@@ -57,9 +57,9 @@ pub fn add_entry<R: Wait>(
     added
 }
 
-/// Takes the own entry of slot 0 off its queue, in a hold of its head (`remove_wait_queue`). It is one that the task
-/// added and that nobody else takes off; so it stands. The task holds no lock. Its state, its bookmark and its other
-/// entry stay, and what it owes.
+/// Takes the own entry of slot 0 off its queue, in a hold of its head (kernel/sched/wait.c, `remove_wait_queue`). It is
+/// one that the task added and that nobody else takes off; so it stands. The task holds no lock. Its state, its
+/// bookmark and its other entry stay, and what it owes.
 pub fn remove_entry<R: Wait>(rt: &R, domain: &Domain, task: &mut Task)
     requires of { task.old.domain ≡ domain.now }
     requires may { MayRemove task.old }

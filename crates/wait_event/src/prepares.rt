@@ -155,12 +155,12 @@ fn prepare<R: Wait>(
     answer_at(run, stage)
 }
 
-/// Prepares to wait in one hold (`prepare_to_wait_event`): where a signal is pending that the state admits the own
-/// entry of slot 0 is taken off, and the answer is Signal. Else it is queued, unless it is, and the state stored, and
-/// the answer is Queued: an exclusive entry goes to the tail, every other one to the front. Worn comes exactly where
-/// the entry was off and no place is left for it. After Signal and Worn the entry is off and the task RUNNING, and
-/// after each answer it may finish. The watch is a plain condition below `FIRST_SIMPLE`, and the kind autoremove. The
-/// task holds no lock and is RUNNING.
+/// Prepares to wait in one hold (kernel/sched/wait.c, `prepare_to_wait_event`): where a signal is pending that the
+/// state admits the own entry of slot 0 is taken off, and the answer is Signal. Else it is queued, unless it is, and
+/// the state stored, and the answer is Queued: an exclusive entry goes to the tail, every other one to the front. Worn
+/// comes exactly where the entry was off and no place is left for it. After Signal and Worn the entry is off and the
+/// task RUNNING, and after each answer it may finish. The watch is a plain condition below `FIRST_SIMPLE`, and the kind
+/// autoremove. The task holds no lock and is RUNNING.
 pub fn prepare_event<R: Wait>(
     rt: &R,
     domain: &Domain,
@@ -179,7 +179,8 @@ pub fn prepare_event<R: Wait>(
     prepare(rt, domain, task, watch, how, true)
 }
 
-/// Prepares to wait without a look for a signal (`prepare_to_wait`). The rest is as in `prepare_event`.
+/// Prepares to wait without a look for a signal (kernel/sched/wait.c, `prepare_to_wait`). The rest is as in
+/// `prepare_event`.
 pub fn prepare_to_wait<R: Wait>(
     rt: &R,
     domain: &Domain,
@@ -207,9 +208,9 @@ pub fn prepare_to_wait<R: Wait>(
     }
 }
 
-/// Prepares an exclusive wait without a look for a signal (`prepare_to_wait_exclusive`): its entry goes to the tail.
-/// True exactly where this call queued the entry and its hold found no entry and no bookmark of the head before it. The
-/// rest is as in `prepare_event`.
+/// Prepares an exclusive wait without a look for a signal (kernel/sched/wait.c, `prepare_to_wait_exclusive`): its entry
+/// goes to the tail. True exactly where this call queued the entry and its hold found no entry and no bookmark of the
+/// head before it. The rest is as in `prepare_event`.
 pub fn prepare_exclusive<R: Wait>(
     rt: &R,
     domain: &Domain,
@@ -235,9 +236,9 @@ pub fn prepare_exclusive<R: Wait>(
     first_at(run, stage)
 }
 
-/// Finishes a wait that was put together from parts (`finish_wait`): stores RUNNING, looks at the own entry of slot 0
-/// without the lock, and takes it off in a hold only where it is queued. Afterwards the task is RUNNING, and the entry
-/// off.
+/// Finishes a wait that was put together from parts (kernel/sched/wait.c, `finish_wait`): stores RUNNING, looks at the
+/// own entry of slot 0 without the lock, and takes it off in a hold only where it is queued. Afterwards the task is
+/// RUNNING, and the entry off.
 pub fn finish_wait<R: Wait>(rt: &R, domain: &Domain, task: &mut Task)
     requires of { task.old.domain ≡ domain.now }
     requires may { MayFinish task.old }

@@ -1,7 +1,7 @@
 //! The own entry: how it is looked at, and how it is added in a hold, by its form.
 
 ghost use Rattle.std.specs.Prelude.{◌≡◌, ◌<◌, ◌||◌, not, true, Some, None, IfOk, IfErr};
-ghost use Rattle.wait_model.specs.declared.layout.TheConstants.{PRIORITY_TASKS};
+ghost use Rattle.wait_model.specs.declared.layout.TheConstants.{FIRST_DONE_HEAD, PRIORITY_TASKS};
 ghost use Rattle.wait_model.specs.Queues.{is_priority};
 ghost use Rattle.wait_model.specs.Watches.{head_of, is_simple};
 ghost use Rattle.wait_rule.specs.Ends.{WasWorn};
@@ -47,7 +47,8 @@ pub(crate) fn wait_form(how: How) -> Form
 }
 
 /// Queues the own entry of slot 0, which is off, by its form, at the head that the task holds. One of kind Simple has
-/// the form Tail, and is not exclusive. Worn comes exactly where no place is left for it, and then nothing changes.
+/// the form Tail, and is not exclusive; the watch is no completion. Worn comes exactly where no place is left for it,
+/// and then nothing changes.
 #[inline(always)]
 pub(crate) fn add_by(
     domain: &Domain,
@@ -62,10 +63,12 @@ pub(crate) fn add_by(
     requires head { head_of watch ≡ task.old.at }
     requires few { is_priority form ≡ true → task.old.view.number < PRIORITY_TASKS }
     requires plain { IsForBy form watch kind }
+    requires low { head_of watch < FIRST_DONE_HEAD }
     requires out { (told_of task.old).bits.stored (index task.old.view.number 0) ≡ None }
     ensures queued { IfOk result (λ _. HasAdded (IsFormPlace form) task.old task.new 0 (form_entry form watch kind)) }
     ensures worn { IfErr result (λ w. IsFormWorn form task.old task.new w) }
     ensures held { IsHolding task.new }
+    ensures at { task.new.at ≡ task.old.at }
     ensures noted { IfErr result (λ w. WasWorn task.new.view.number task.new.view.items w.head w.place) }
     ensures same { IfErr result (λ w. Carries only_looks task.old task.new) }
 {

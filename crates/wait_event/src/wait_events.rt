@@ -46,10 +46,11 @@ pub fn begin_wait(task: &Task, cond: u8, how: How) -> WaitRun
     WaitRun::new(Watch::Plain { cond }, how, true)
 }
 
-/// Waits until condition `cond`, below `FIRST_SIMPLE`, is set (`wait_event`, `wait_event_interruptible`,
-/// `wait_event_killable`): a value other than 0. An exclusive wait (`wait_event_interruptible_exclusive`,
-/// `wait_event_killable_exclusive`) has its entry at the tail, where one wake of the count selects it; every other one
-/// has it at the front. The task is idle and has no entry queued, and so it is afterwards; it owes what it owed.
+/// Waits until condition `cond`, below `FIRST_SIMPLE`, is set (include/linux/wait.h, `wait_event`,
+/// `wait_event_interruptible`, `wait_event_killable`): a value other than 0. An exclusive wait
+/// (`wait_event_interruptible_exclusive`, `wait_event_killable_exclusive`) has its entry at the tail, where one wake of
+/// the count selects it; every other one has it at the front. The task is idle and has no entry queued, and so it is
+/// afterwards; it owes what it owed.
 pub fn wait_event<R: Wait>(
     rt: &R,
     domain: &Domain,

@@ -22,7 +22,7 @@ use Rattle.wait_rule.specs.Says.{IsUp, told_of}
 use Rattle.wait_rule.specs.Queues.{IsIdle, IsTold, index}
 use Rattle.wait_rule.specs.Stays.{Carries}
 use Rattle.wait_rule.specs.Transitions.{Goes, Program, call_program}
-use Rattle.wait_rule.proofs.KnownLaws.CarriedTasks.{clean_owes, owes_clean, entry_off}
+use Rattle.wait_rule.proofs.KnownLaws.StayingParts.{owes_also, owes_out}
 use Rattle.wait_event.specs.Waits.{
   Advances,
   EndsWith,
@@ -55,7 +55,6 @@ use Rattle.wait_event.specs.declared.waits.WaitRun.{WaitRun}
 use Rattle.wait_event.specs.declared.waits.WaitStage.{WaitStage}
 use Rattle.wait_event.specs.declared.waits.WaitStage.TheVariants as stage
 use Rattle.wait_event.specs.declared.waits.WaitTurn.TheVariants as turn
-use Rattle.wait_event.proofs.Ground.Keeping.{excused}
 
 -- a task that is idle, with its entry off, may begin
 pub begins_at : (k : Known) (r : WaitRun) (w : Watch) (how : How) → IsFresh r w how true → IsRunning r
@@ -123,10 +122,9 @@ module _ (old new : Known) (r q : WaitRun) (s : WaitStage) (o : WaitOutcome)
         stored = λ x none away. absurd (cc);
         out = keeps.out;
         stands = keeps.stands;
-        owes = λ x owes. entry_off i x new (ap (λ (n : ℕ). (told_of new).bits.stored (index n 0)) (sym keeps.number)
-            ∙ ends_out) (keeps.owes x (excused i x old owes));
-        clean = clean_owes old;
-        settled = owes_clean new;
+        keeps = λ d _. keeps.keeps d;
+        owes = λ x owes. owes_out i x new (ap (λ (n : ℕ). (told_of new).bits.stored (index n 0)) (sym keeps.number)
+            ∙ ends_out) (keeps.owes x (owes_also i x old owes));
       }
 
 -- what it says at its end

@@ -32,6 +32,7 @@ use Rattle.wait_rule.specs.Says.{IsUp, added, told_of, unlocked_with}
 use Rattle.wait_rule.specs.Queues.{IsTurn, at_head, index, walk_of_hold}
 use Rattle.wait_rule.specs.Stays.{Carries, with_entry, unlock_change}
 use Rattle.wait_rule.specs.Transitions.{OnlyLooks, IsMadeFor, by_step}
+use Rattle.wait_rule.proofs.KnownLaws.Debts.{added_debts}
 use Rattle.wait_rule.proofs.KnownLaws.AfterSteps.{told_added}
 use Rattle.wait_rule.proofs.KnownLaws.SettledTasks.{owes_after}
 use Rattle.wait_rule.proofs.KnownLaws.Transitions.{only_none}
@@ -63,7 +64,7 @@ use Rattle.wait_event.specs.declared.waits.WaitStage.{WaitStage}
 use Rattle.wait_event.specs.declared.waits.WaitStage.TheVariants as stage
 use Rattle.wait_event.specs.declared.waits.WaitTurn.TheVariants as turn
 use Rattle.wait_event.proofs.Ground.Standing.{draw_stands, serving_stands, lock_stands, still_stands}
-use Rattle.wait_event.proofs.Ground.Keeping.{keeps_of, keeps_on, keeps_same, keeps_told}
+use Rattle.wait_event.proofs.Ground.Keeping.{keeps_of, keeps_on, keeps_same, keeps_told, placed_owing}
 use Rattle.wait_event.proofs.Ground.Going.{runs_looks, runs_one}
 use Rattle.wait_event.proofs.Events.Turns.{LandsNext, GoesOn, or_none}
 use Rattle.wait_event.proofs.Events.Trails.{
@@ -102,6 +103,7 @@ module _ (old : Known) (r : WaitRun) (n : ℕ) where
 
   draw_keeps : Keeps (index old.view.number 0) old mid
   draw_keeps = keeps_same (index old.view.number 0) old mid refl refl (told_added old (item.Drawn h n))
+      (added_debts old mid (item.Drawn h n) refl refl)
 
   draw_looks : OnlyLooks old mid
   draw_looks = record { items = item.Drawn h n ∷ []; looks = (tt, tt); is = refl }
@@ -171,6 +173,7 @@ module _ (old : Known) (r : WaitRun) (w : ℕ) where
 
   serving_keeps : Keeps (index old.view.number 0) old served
   serving_keeps = keeps_same (index old.view.number 0) old served refl refl (told_added old (item.Serving head w))
+      (added_debts old served (item.Serving head w) refl refl)
 
   serving_looks : OnlyLooks old served
   serving_looks = record { items = item.Serving head w ∷ []; looks = (tt, tt); is = refl }
@@ -234,7 +237,9 @@ module _ (old : Known) (r : WaitRun) (w : ℕ) where
     lock_keeps = keeps_on (index old.view.number 0) old served locked serving_keeps
         (keeps_told (index old.view.number 0) served locked refl refl (ap (λ (v : Told). v.mark) new_told)
         (ap (λ (v : Told). v.duty.owes) new_told) (ap (λ (v : Told). v.bits.stored) new_told)
-        (λ y o. owes_after served (added served (item.Made e)) e refl refl y o))
+        (λ d. ap (λ (v : Told). v.bits.keeps d) new_told)
+        (λ y o. placed_owing (added served (item.Made e)) locked refl y
+        (owes_after served (added served (item.Made e)) e refl refl y o)))
 
     held : (p : Post) → Stands old p → Stands locked (record p { head = Some head; ticket = taken head })
     held p s = lock_stands served head (walk_of_hold head None) x (record p { ticket = served.book.ticket })

@@ -14,6 +14,7 @@ use Rattle.wait_rule.specs.Says.{IsAwakeAgain, added, grown, told_of}
 use Rattle.wait_rule.specs.Queues.{IsTold, index}
 use Rattle.wait_rule.specs.Transitions.{OnlyLooks}
 use Rattle.wait_rule.proofs.TableSteps.ItemLists.{steps_append}
+use Rattle.wait_rule.proofs.KnownLaws.Debts.{looked_debts}
 use Rattle.wait_rule.proofs.KnownLaws.AfterSteps.{told_added}
 use Rattle.wait_rule.proofs.KnownLaws.Transitions.{book_told, looks_of}
 use Rattle.wait_event.specs.Posts.{Post, IsStateFor}
@@ -48,7 +49,8 @@ module _ (old new : Known) (r : WaitRun) (s : WaitStage) (a : IsAsleepAt old r s
     same = record { watch_is = refl; how = refl; asks = refl };
     went = record {
       runs = runs_looks (wait_program r.asks old.view.number (wait_call r)) old new (next.Go (point_of s)) looks;
-      keeps = keeps_same (index old.view.number 0) old new domain number told;
+      keeps = keeps_same (index old.view.number 0) old new domain number told
+          (looked_debts old new looks);
       queued = sym (or_none r.queued);
       first = sym (or_none r.first);
       seen = refl;
@@ -75,7 +77,8 @@ module _ (old new : Known) (r : WaitRun) (s : WaitStage) (a : IsAsleepAt old r s
     same = record { watch_is = refl; how = refl; asks = refl };
     went = record {
       runs = runs_looks (wait_program r.asks old.view.number (wait_call r)) old new (next.Go (point_of s)) looks;
-      keeps = keeps_same (index old.view.number 0) old new domain number told;
+      keeps = keeps_same (index old.view.number 0) old new domain number told
+          (looked_debts old new looks);
       queued = sym (or_none r.queued);
       first = sym (or_none r.first);
       seen = refl;
@@ -124,7 +127,7 @@ pub rose : (old new : Known) (r : WaitRun) (s : WaitStage) → IsAsleepAt old r 
     → IsAwakeAgain old new → Advances old new r r s (turn.Again s)
 rose old new r s a was now h = woken_at old new r s a (record {
   items = h.looks;
-  looks = looks_of h.looks h.no_steps;
+  looks = looks_of h.looks h.no_steps h.no_adds;
   is = h.is ∙ ap (grown old h.looks) (sym (ap (λ (k : Known). k.book) h.is) ∙ book_told old new h.looks was now
       (ap (λ (k : Known). k.view.items) h.is));
 }) (ap told_of h.is ∙ (ap view_of (steps_append old.view.items h.looks

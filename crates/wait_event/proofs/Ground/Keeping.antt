@@ -3,12 +3,17 @@ use Rattle.std.proofs.Common.{◌∙◌, ap, sym, refl, subst}
 use Rattle.std.specs.Prelude.{ℕ, ◌≡◌, ◌==◌, ◌||◌, Bool, true, false, Option, Some}
 use Rattle.wait_model.specs.declared.watches.Watch.{Watch}
 use Rattle.wait_model.specs.declared.watches.Entry.{Entry}
-use Rattle.wait_model.specs.Views.{View as Told, is_trying_for}
+use Rattle.wait_model.specs.Views.{View as Told}
+use Rattle.wait_model.specs.Fold.{view_of}
+use Rattle.wait_rule.specs.declared.journal.Journal.{Journal}
+use Rattle.wait_rule.specs.Items.{steps_of}
 use Rattle.wait_rule.specs.Known.{Known}
-use Rattle.wait_rule.specs.Says.{Excuse, IsOutBut, OwesBut, told_of}
+use Rattle.wait_rule.specs.Says.{Debts, Excuse, IsOutBut, Owes, told_of}
 use Rattle.wait_rule.specs.Queues.{index}
-use Rattle.wait_rule.specs.Stays.{StaysOwing, Change, Carries, Owes, least, with_entry, queue_change, take_off_change}
+use Rattle.wait_rule.specs.Stays.{StaysOwing, Change, Carries, with_entry, queue_change, take_off_change}
 use Rattle.wait_rule.proofs.KnownLaws.StayingParts.{owes_also}
+use Rattle.wait_rule.proofs.KnownLaws.Debts.{entries_debts, list_debts}
+use Rattle.wait_rule.proofs.KnownLaws.SettledTasks.{owes_told}
 use Rattle.wait_event.specs.Posts.{Keeps}
 
 pub keeps_none : (i : ℕ) (k : Known) → Keeps i k k
@@ -19,6 +24,7 @@ keeps_none i k = record {
   fewer = λ w σ is. is;
   out = λ x away none. none;
   stands = λ slot few away e is own. is;
+  keeps = λ d. refl;
   owes = λ x o. o;
 }
 
@@ -34,37 +40,43 @@ keeps_on i old mid new a b = record {
       (b.stands slot few (ap (λ (m : ℕ). index m slot == i) a.number ∙ away) e
       (subst (λ (m : ℕ). (told_of mid).bits.stored (index m slot) ≡ Some e) (sym a.number)
       (a.stands slot few away e is own)) own);
+  keeps = λ d. b.keeps d ∙ a.keeps d;
   owes = λ x o. b.owes x (a.owes x o);
 }
 
 -- of a history that tells the same of wakes and entries
-unfolding_owes : (old new : Known) → (told_of new).bits.stored ≡ (told_of old).bits.stored → StaysOwing old new
-    → (x : Excuse) → Owes x old → Owes x new
-unfolding Owes
-unfolding_owes old new stored owing x o = (
-  owing (least x) o.0,
-  λ y c. ap (λ (f : ℕ → Option Entry). is_trying_for (f y) c) stored ∙ o.1 y c,
-)
-
 pub keeps_told : (i : ℕ) (old new : Known) → new.domain ≡ old.domain → new.view.number ≡ old.view.number
     → (told_of new).mark ≡ (told_of old).mark → (told_of new).duty.owes ≡ (told_of old).duty.owes
-    → (told_of new).bits.stored ≡ (told_of old).bits.stored → StaysOwing old new → Keeps i old new
-keeps_told i old new domain number mark duty stored owing = record {
+    → (told_of new).bits.stored ≡ (told_of old).bits.stored
+    → ((d : Watch) → (told_of new).bits.keeps d ≡ (told_of old).bits.keeps d) → StaysOwing old new → Keeps i old new
+keeps_told i old new domain number mark duty stored keeps owing = record {
   domain = domain;
   number = number;
   mark = mark;
   fewer = λ w σ is. (λ j. duty j w σ) ∙ is;
   out = λ x away none. (λ j. stored j x) ∙ none;
   stands = λ slot few away e is own. (λ j. stored j (index old.view.number slot)) ∙ is;
-  owes = λ x. unfolding_owes old new stored owing (with_entry i x);
+  keeps = keeps;
+  owes = λ x. owing (with_entry i x);
 }
 
 -- of items that tell nothing
+pub same_owing : (old new : Known) → told_of new ≡ told_of old → ((x : Excuse) → Debts x old → Debts x new)
+    → StaysOwing old new
+same_owing old new told debts = owes_told old new (ap (λ (v : Told). v.mark) told)
+    (λ i. ap (λ (v : Told). v.bits.stored i) told) (λ c. ap (λ (v : Told). v.bits.keeps c) told)
+    (λ c none. ap (λ (v : Told). v.bits.pending c) told ∙ none) debts
+
+-- the head that it took last is no part of what it owes
+pub placed_owing : (old new : Known) → new.view ≡ old.view → StaysOwing old new
+placed_owing old new same = same_owing old new (ap (λ (v : Journal). view_of (steps_of v.items)) same)
+    (λ x. list_debts x old new same)
+
 pub keeps_same : (i : ℕ) (old new : Known) → new.domain ≡ old.domain → new.view.number ≡ old.view.number
-    → told_of new ≡ told_of old → Keeps i old new
-keeps_same i old new domain number told = keeps_told i old new domain number (ap (λ (v : Told). v.mark) told)
+    → told_of new ≡ told_of old → ((x : Excuse) → Debts x old → Debts x new) → Keeps i old new
+keeps_same i old new domain number told debts = keeps_told i old new domain number (ap (λ (v : Told). v.mark) told)
     (ap (λ (v : Told). v.duty.owes) told) (ap (λ (v : Told). v.bits.stored) told)
-    (λ x. subst (OwesBut x) (sym told))
+    (λ d. ap (λ (v : Told). v.bits.keeps d) told) (same_owing old new told debts)
 
 -- of a call that changes no more than the own entry
 pub keeps_of : (i : ℕ) (c : Change) (old new : Known) → Carries c old new → ((w : Watch) → c.publishes w ≡ false)
@@ -77,6 +89,7 @@ keeps_of i c old new carries none but owes = record {
   fewer = λ w σ is. carries.fewer w σ (none w) is;
   out = λ x away is. carries.out x (but x away) is;
   stands = λ slot few away e is own. carries.stands slot few (but (index old.view.number slot) away) e is own;
+  keeps = λ d. carries.keeps d (none d);
   owes = owes;
 }
 
@@ -86,21 +99,15 @@ twice true b s o = o
 twice false b s o = o
 
 once : (i : ℕ) (x : Excuse) (k : Known) → Owes (with_entry i (with_entry i x)) k → Owes (with_entry i x) k
-unfolding Owes with_entry
-once i x k o = (
-  record {
-    unmarked = o.0.unmarked;
-    owes = o.0.owes;
-    unqueued = λ y. twice (y == i) (x.entries y) ((told_of k).bits.stored y) (o.0.unqueued y);
-    holds = o.0.holds;
-    tries = o.0.tries;
-  },
-  o.1,
-)
-
-pub excused : (i : ℕ) (x : Excuse) (k : Known) → Owes x k → Owes (with_entry i x) k
-unfolding Owes with_entry
-excused i x k o = (owes_also i (least x) (told_of k) o.0, o.1)
+unfolding with_entry
+once i x k o = record {
+  unmarked = o.unmarked;
+  debts = entries_debts (with_entry i (with_entry i x)) (with_entry i x) k refl o.debts;
+  unqueued = λ y. twice (y == i) (x.entries y) ((told_of k).bits.stored y) (o.unqueued y);
+  holds = o.holds;
+  tries = o.tries;
+  tries_none = o.tries_none;
+}
 
 pub keeps_queued : (i : ℕ) (old new : Known) → Carries (queue_change i) old new → Keeps i old new
 keeps_queued i old new c = keeps_of i (queue_change i) old new c (λ w. refl) (λ x away. away)
@@ -108,4 +115,4 @@ keeps_queued i old new c = keeps_of i (queue_change i) old new c (λ w. refl) (�
 
 pub keeps_taken : (i : ℕ) (old new : Known) → Carries (take_off_change i) old new → Keeps i old new
 keeps_taken i old new c = keeps_of i (take_off_change i) old new c (λ w. refl) (λ x away. away)
-    (λ x o. excused i x new (c.owes x o))
+    (λ x o. owes_also i x new (c.owes x o))

@@ -12,7 +12,6 @@ use Rattle.wait_rule.specs.Says.{IsFree, IsUp, told_of}
 use Rattle.wait_rule.specs.Queues.{IsTold}
 use Rattle.wait_rule.specs.Stays.{Carries, unchanged}
 use Rattle.wait_rule.specs.Transitions.{Goes}
-use Rattle.wait_rule.proofs.KnownLaws.CarriedTasks.{clean_owes, owes_clean}
 use Rattle.wait_event.specs.Entries.{HasWokenEntry, MayRemove}
 use Rattle.wait_event.specs.WokenWaits.{EndsWoken, Hears, IsHearing, WentHearing}
 use Rattle.wait_event.specs.WokenWaits.{woken_next, woken_point, woken_program}
@@ -105,7 +104,6 @@ module _ (old new : Known) (st : SleepState) (s : WokenStage) (a : Hears old new
         stored = λ x no away. keeps.stored x;
         out = λ x away is. keeps.stored x ∙ is;
         stands = λ slot few away e is own. keeps.stored _ ∙ is;
+        keeps = λ d _. keeps.keeps d;
         owes = keeps.owes;
-        clean = clean_owes old;
-        settled = owes_clean new;
       }

@@ -1,11 +1,12 @@
 -- What stays of a task over a wait for its flag: its entries, and what it owes.
-use Rattle.std.proofs.Common.{◌∙◌, ap, sym, refl, subst, inr}
+use Rattle.std.proofs.Common.{◌∙◌, ap, refl, inr}
 use Rattle.std.specs.Prelude.{ℕ, ◌≡◌}
 use Rattle.wait_model.specs.Views.{View as Told}
 use Rattle.wait_rule.specs.Known.{Known}
-use Rattle.wait_rule.specs.Says.{Excuse, IsFree, IsUp, OwesBut, told_of}
+use Rattle.wait_rule.specs.Says.{Debts, Excuse, IsFree, IsUp, told_of}
 use Rattle.wait_rule.specs.Queues.{index}
-use Rattle.wait_rule.specs.Stays.{Carries, Owes, TriesNone, least, unchanged}
+use Rattle.wait_rule.specs.Stays.{Carries, unchanged}
+use Rattle.wait_event.proofs.Ground.Keeping.{same_owing}
 use Rattle.wait_event.specs.Entries.{HasWokenEntry, MayRemove}
 use Rattle.wait_event.specs.Waits.{own_of}
 use Rattle.wait_event.specs.WokenWaits.{KeepsEntries}
@@ -18,6 +19,7 @@ keeps_none k = record {
   mark = refl;
   fewer = λ w σ is. is;
   stored = λ x. refl;
+  keeps = λ d. refl;
   owes = λ x o. o;
 }
 
@@ -29,6 +31,7 @@ keeps_on old mid new a b = record {
   mark = b.mark ∙ a.mark;
   fewer = λ w σ is. b.fewer w σ (a.fewer w σ is);
   stored = λ x. b.stored x ∙ a.stored x;
+  keeps = λ d. b.keeps d ∙ a.keeps d;
   owes = λ x o. b.owes x (a.owes x o);
 }
 
@@ -41,24 +44,22 @@ keeps_by f old new c = record {
   mark = c.mark;
   fewer = λ w σ is. c.fewer w σ refl is;
   stored = λ x. c.stored x refl refl;
+  keeps = λ d. c.keeps d refl;
   owes = c.owes;
 }
 
 -- of a history that tells the same
-owes_told : (old new : Known) → told_of new ≡ told_of old → (x : Excuse) → Owes x old → Owes x new
-unfolding Owes
-owes_told old new told x o = subst (λ (v : Told). OwesBut (least x) v × TriesNone v) (sym told) o
-
 pub keeps_told : (old new : Known) → new.domain ≡ old.domain → new.view.number ≡ old.view.number → new.at ≡ old.at
-    → told_of new ≡ told_of old → KeepsEntries old new
-keeps_told old new domain number at told = record {
+    → told_of new ≡ told_of old → ((x : Excuse) → Debts x old → Debts x new) → KeepsEntries old new
+keeps_told old new domain number at told debts = record {
   domain = domain;
   number = number;
   at = at;
   mark = ap (λ (v : Told). v.mark) told;
   fewer = λ w σ is. ap (λ (v : Told). v.duty.owes w σ) told ∙ is;
   stored = λ x. ap (λ (v : Told). v.bits.stored x) told;
-  owes = owes_told old new told;
+  keeps = λ d. ap (λ (v : Told). v.bits.keeps d) told;
+  owes = same_owing old new told debts;
 }
 
 -- so the own entry stands

@@ -18,6 +18,7 @@ use Rattle.wait_rule.specs.Known.{Known}
 use Rattle.wait_rule.specs.Says.{added, history_of}
 use Rattle.wait_rule.specs.Stays.{Carries, state_change, unchanged}
 use Rattle.wait_rule.specs.Transitions.{by_step}
+use Rattle.wait_rule.proofs.KnownLaws.Debts.{added_debts}
 use Rattle.wait_rule.proofs.KnownLaws.AfterSteps.{told_added}
 use Rattle.wait_rule.proofs.KnownLaws.TaskHistories.{history_after}
 use Rattle.wait_rule.proofs.KnownLaws.Transitions.{only_none}
@@ -172,7 +173,8 @@ module _ (old : Known) (st : SleepState) where
         → Hears old slept st stage.Sleep (turn.Again stage.Run)
     sleep_up stays =
         let is = stays_book (sleep_of (task_of w)) stays in
-        let keeps = keeps_told old slept refl refl refl (told_added old (item.Made (step.Sleep w))) in record {
+        let keeps = keeps_told old slept refl refl refl (told_added old (item.Made (step.Sleep w)))
+        (added_debts old slept (item.Made (step.Sleep w)) refl refl) in record {
           went = record {
             runs = runs_one (woken_program old.view.number st) (at.Woken hearing.Sleep) old old slept
                 (with_own (task_of w)) (by_step (step.Sleep w)) (only_none old) tt (refl, tt, tt) (only_none slept);
@@ -195,7 +197,8 @@ module _ (old : Known) (st : SleepState) where
     sleep_down asleep =
         let is : after_sleep (sleep_of (task_of w)) old.book ≡ after_sleep sleeping.Asleep old.book =
         ap (λ (y : Sleep). after_sleep y old.book) asleep in
-        let keeps = keeps_told old slept refl refl refl (told_added old (item.Made (step.Sleep w))) in record {
+        let keeps = keeps_told old slept refl refl refl (told_added old (item.Made (step.Sleep w)))
+        (added_debts old slept (item.Made (step.Sleep w)) refl refl) in record {
           went = record {
             runs = runs_one (woken_program old.view.number st) (at.Woken hearing.Sleep) old old slept
                 (with_own (task_of w)) (by_step (step.Sleep w)) (only_none old) tt (refl, tt, tt) (only_none slept);

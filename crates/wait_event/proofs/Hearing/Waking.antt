@@ -14,6 +14,7 @@ use Rattle.wait_rule.specs.Says.{IsAwakeAgain, added, grown, history_of, told_of
 use Rattle.wait_rule.specs.Queues.{IsTold, index}
 use Rattle.wait_rule.specs.Transitions.{OnlyLooks}
 use Rattle.wait_rule.proofs.TableSteps.ItemLists.{steps_append}
+use Rattle.wait_rule.proofs.KnownLaws.Debts.{looked_debts}
 use Rattle.wait_rule.proofs.KnownLaws.Transitions.{book_told, looks_of}
 use Rattle.wait_event.specs.Posts.{IsStateFor, Stands}
 use Rattle.wait_event.specs.Waits.{EndsWith}
@@ -42,7 +43,7 @@ module _ (old new : Known) (st : SleepState) (a : IsHearingAsleep old st) (looks
   told = ap view_of history
 
   keeps : KeepsEntries old new
-  keeps = keeps_told old new domain number at told
+  keeps = keeps_told old new domain number at told (looked_debts old new looks)
 
   went : WentHearing old new st (next.Go (woken_point stage.Run)) (next.Go (woken_point stage.Run))
   went = record {
@@ -119,7 +120,7 @@ pub rose : (old new : Known) (st : SleepState) → IsHearingAsleep old st → Is
     → IsAwakeAgain old new → Hears old new st stage.Run (turn.Again stage.Run)
 rose old new st a was now h = woken_at old new st a (record {
   items = h.looks;
-  looks = looks_of h.looks h.no_steps;
+  looks = looks_of h.looks h.no_steps h.no_adds;
   is = h.is ∙ ap (grown old h.looks) (sym (ap (λ (k : Known). k.book) h.is) ∙ book_told old new h.looks was now
       (ap (λ (k : Known). k.view.items) h.is));
 }) (ap history_of h.is ∙ (steps_append old.view.items h.looks

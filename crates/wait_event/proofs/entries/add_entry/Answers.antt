@@ -1,7 +1,10 @@
 use Rattle.std.proofs.Common.{◌∙◌, ◌<◌, ℕ, ap, refl, sym, subst, arith}
 use Rattle.wait_model.specs.declared.layout.TheConstants.{HEADS, PRIORITY_TASKS}
+use Rattle.wait_model.specs.Watches.{head_of}
 use Rattle.wait_rule.specs.Queues.{index}
 use Rattle.wait_rule.specs.Says.{told_of}
+use Rattle.wq_head.proofs.PermitHeads.{owes_low}
+use Rattle.wait_event.proofs.Events.PermitHeads.{cond_low}
 use Rattle.wait_event.proofs.Entering.{
   add_carries,
   add_stands,
@@ -77,3 +80,11 @@ returns-clause-same g c = worn_carries c.args.task.now c.lock.new.task c.add_by-
     c.unlock.ensures.unlocked c.requires.free c.told.ensures
     (lock_carries c.args.task.now c.lock.new.task c.args.cond c.head_of.result c.head_of.ensures c.lock.ensures.carries)
     c.unlock.ensures.carries c.add_by-added.result c.add_by-added.ensures.same
+
+pub add_by-added-requires-clause-low : goal.add_by-added-requires-clause-low
+add_by-added-requires-clause-low g c = cond_low c.args.cond c.requires.full
+
+pub unlock-requires-clause-permits : goal.unlock-requires-clause-permits
+unlock-requires-clause-permits g c = owes_low c.add_by-added.new.task (head_of (watch.Plain c.args.cond))
+    (c.add_by-added.ensures.at ∙ (c.lock.ensures.carries.at ∙ c.head_of.ensures))
+    (cond_low c.args.cond c.requires.full)

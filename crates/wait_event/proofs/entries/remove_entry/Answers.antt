@@ -5,6 +5,7 @@ use Rattle.wait_event.proofs.Removing.{
   removed_carried,
   removed_out,
   removed_own,
+  taken_owes,
 }
 use Rattle.wait_event.proofs.entries.remove_entry.Goals as goal
 
@@ -42,3 +43,10 @@ returns-clause-carries g c = removed_carried c.args.task.now c.own_entry.new.tas
     c.head_of.ensures c.lock.ensures.locked c.lock.ensures.held c.lock.ensures.carries c.own_entry-in-Some.new.task
     c.own_entry-in-Some.result c.own_entry-in-Some.ensures c.number-number.result c.number-number.ensures.number
     c.remove.new.task c.remove.ensures.removed c.unlock.new.task c.unlock.ensures.unlocked c.unlock.ensures.carries
+
+pub unlock-requires-clause-permits : goal.unlock-requires-clause-permits
+unlock-requires-clause-permits g c = taken_owes c.args.task.now c.own_entry.new.task c.requires.may c.told.ensures
+    c.own_entry.result c.in-Some.entry c.in-Some.is c.own_entry.ensures c.lock.new.task c.head_of.result
+    c.head_of.ensures c.lock.ensures.locked c.lock.ensures.held c.lock.ensures.carries c.own_entry-in-Some.new.task
+    c.own_entry-in-Some.result c.own_entry-in-Some.ensures c.number-number.result c.remove.new.task
+    c.remove.ensures.removed

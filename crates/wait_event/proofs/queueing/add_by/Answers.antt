@@ -3,6 +3,7 @@ use Rattle.wait_model.specs.declared.queues.Form.{Form}
 use Rattle.wait_rule.specs.Queues.{IsPriorityPlace, IsTailPlace}
 use Rattle.wq_head.specs.Adds.{HasAdded, tail_entry}
 use Rattle.wait_event.specs.Queueing.{IsForBy, IsFormPlace, form_entry}
+use Rattle.wq_head.proofs.PermitHeads.{found_low}
 use Rattle.wait_event.proofs.Events.Conditions.{for_flags}
 use Rattle.wait_event.proofs.queueing.add_by.Goals as goal
 
@@ -41,3 +42,6 @@ returns-in-Priority-clause-queued c = subst (λ (f : Form). IfOk c.add_priority.
       kind = c.args.kind;
     }))) (for_flags c.args.watch c.args.kind (subst (λ (f : Form). IsForBy f c.args.watch c.args.kind) c.in-Priority.is
     c.requires.plain)) c.add_priority.ensures.queued)
+
+pub add_tail-requires-clause-permits : goal.add_tail-requires-clause-permits
+add_tail-requires-clause-permits c = found_low c.args.task.now 0 _ (sym c.requires.head) c.requires.low

@@ -1,6 +1,7 @@
 use Rattle.std.proofs.Common.{◌∙◌, refl, sym}
 use Rattle.wait_event.specs.WaitPlans.{goes_to}
 use Rattle.wait_event.specs.Waits.{with_entry}
+use Rattle.wait_event.proofs.Events.PermitHeads.{pare_owes}
 use Rattle.wait_event.proofs.Events.Turns.{advance_by}
 use Rattle.wait_event.proofs.Events.Pares.{pare_may, taken_goes, given_goes}
 use Rattle.wait_event.proofs.waits.pare_event.Goals as goal
@@ -34,3 +35,7 @@ returns-clause-advances c =
     (given_goes c.args.task.now c.own_entry-entry.new.task c.give_back.new.task r c.args.stage c.requires.here
     c.requires.at c.own_entry-entry.result c.own_entry-entry.ensures (sym c.is_some-run.ensures ∙ c.if-run.false)
     c.give_back.ensures b c.if-run.false)
+
+pub give_back-requires-clause-permits : goal.give_back-requires-clause-permits
+give_back-requires-clause-permits c = pare_owes c.args.task.now c.own_entry-entry.new.task c.args.run.now c.args.stage
+    c.requires.here c.requires.at c.own_entry-entry.result c.own_entry-entry.ensures

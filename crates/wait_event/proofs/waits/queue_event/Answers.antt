@@ -1,5 +1,7 @@
-use Rattle.std.proofs.Common.{◌∙◌, ap, sym}
+use Rattle.std.proofs.Common.{◌∙◌, ◌<◌, ℕ, ap, subst, sym}
+use Rattle.wait_model.specs.declared.layout.TheConstants.{FIRST_DONE_HEAD}
 use Rattle.wait_model.specs.Watches.{head_of}
+use Rattle.wait_event.proofs.Events.PermitHeads.{run_low, worn_owes}
 use Rattle.wait_event.proofs.Events.Queues.{
   add_at,
   add_few,
@@ -61,3 +63,13 @@ returns-in-Err-clause-advances c = worn_advances c.args.task.now c.own_entry-ent
     c.own_entry-entry.ensures (sym c.is_some.ensures ∙ c.if-is_some.false) c.is_first-first.ensures.looks
     c.is_first-first.ensures.held c.in-Err.worn c.wait_form.result c.wait_form.ensures c.in-Err.ensures.worn
     c.in-Err.ensures.held c.own_entry.result c.own_entry.ensures c.give_back.ensures c.in-Err.ensures.noted
+
+pub add_by-requires-clause-low : goal.add_by-requires-clause-low
+add_by-requires-clause-low c = subst (λ (h : ℕ). h < FIRST_DONE_HEAD)
+    (sym (ap head_of c.bare-watch.ensures ∙ bare_head c.args.run.now.watch)) (run_low c.args.run.now c.requires.at.runs)
+
+pub give_back-requires-clause-permits : goal.give_back-requires-clause-permits
+give_back-requires-clause-permits c = worn_owes c.args.run.now c.requires.at.runs c.is_first-first.new.task
+    c.add_by.new.task c.own_entry.new.task (add_at c.args.task.now c.own_entry-entry.new.task c.args.run.now
+    c.requires.at c.own_entry-entry.result c.own_entry-entry.ensures c.is_first-first.new.task
+    c.is_first-first.ensures.looks) c.add_by.ensures.at c.own_entry.result c.own_entry.ensures

@@ -2,7 +2,7 @@
 use Rattle.std.proofs.Common.{◌∙◌, ap, sym, refl, subst, inl, inr, eqb-true, arith}
 use Rattle.std.proofs.lemmas.Bool.Decides.{nat_tests}
 use Rattle.std.specs.Prelude.{ℕ, ◌≡◌, ◌≢◌, ◌<◌, ◌≤◌, ◌⊎◌, ◌==◌, ◌&&◌, not, Bool, true, false, None, [], ◌∷◌, pos}
-use Rattle.wait_model.specs.declared.layout.TheConstants.{FIRST_SIMPLE_HEAD}
+use Rattle.wait_model.specs.declared.layout.TheConstants.{FIRST_DONE_HEAD, FIRST_SIMPLE_HEAD}
 use Rattle.wait_model.specs.declared.calls.Answer.TheVariants as answer
 use Rattle.wait_model.specs.declared.calls.Call.{Call}
 use Rattle.wait_model.specs.declared.calls.Call.TheVariants as calls
@@ -36,6 +36,10 @@ use Rattle.swait_queue.specs.SimpleWakes.{EndsSimpleWake, is_spent, most_of}
 pub head_simple : (c : ℕ) → IsSimpleCond c → FIRST_SIMPLE_HEAD ≤ head_of (watch.Plain c)
 unfolding head_of
 head_simple c is = let high = is.simple in omega (arith, high)
+
+pub cond_low : (c : ℕ) → IsSimpleCond c → head_of (watch.Plain c) < FIRST_DONE_HEAD
+unfolding head_of
+cond_low c is = let low = is.plain in omega (arith, low)
 
 counts_most : (c : ℕ) (all : Bool) → count_of (calls.SimpleWake c all) ≡ most_of all
 counts_most c true = refl

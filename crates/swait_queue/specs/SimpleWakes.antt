@@ -10,8 +10,7 @@ use Rattle.wait_model.specs.declared.watches.Watch.TheVariants as watch
 use Rattle.wait_model.specs.Watches.{head_of}
 use Rattle.wait_rule.specs.Known.{Known}
 use Rattle.wait_rule.specs.Queues.{walk_of_hold}
-use Rattle.wait_rule.specs.Says.{Excuse, unlocked_with}
-use Rattle.wait_rule.specs.Stays.{Owes}
+use Rattle.wait_rule.specs.Says.{Excuse, unlocked_with, Owes}
 use Rattle.wait_rule.specs.Transitions.{call_program}
 use Rattle.wait_event.specs.Posts.{Runs}
 use Rattle.wq_head.specs.Holds.{HasLocked}

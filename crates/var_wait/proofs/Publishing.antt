@@ -1,6 +1,6 @@
 -- A variable is published, its head looked at without the lock, and its waiters woken.
 use Rattle.std.proofs.Common.{◌∙◌, ap, eq-eqb, sym, refl, subst, arith}
-use Rattle.std.specs.Prelude.{ℕ, ◌≡◌, ◌<◌, ◌==◌, ◌||◌, ◌&&◌, not, min, Bool, true, false, None, List, [], ◌∷◌}
+use Rattle.std.specs.Prelude.{ℕ, ◌≡◌, ◌<◌, ◌==◌, ◌||◌, ◌&&◌, not, min, Bool, true, false, Some, None, List, [], ◌∷◌}
 use Rattle.wait_model.specs.declared.calls.Answer.TheVariants as answer
 use Rattle.wait_model.specs.declared.calls.Call.TheVariants as calls
 use Rattle.wait_model.specs.declared.points.Point.TheVariants as at
@@ -20,13 +20,14 @@ use Rattle.wait_rule.specs.declared.journal.Item.{Item}
 use Rattle.wait_rule.specs.declared.journal.Item.TheVariants as item
 use Rattle.wait_rule.specs.Items.{Book, book_from}
 use Rattle.wait_rule.specs.Known.{Known}
-use Rattle.wait_rule.specs.Queues.{IsIdle}
+use Rattle.wait_rule.specs.Queues.{IsIdle, index}
 use Rattle.wait_rule.specs.Says.{Excuse, added, grown, told_of}
-use Rattle.wait_rule.specs.Stays.{Carries, Owes, least, publish_change, unchanged, wake_all_change, with_wakes}
+use Rattle.wait_rule.specs.Stays.{Carries, publish_change, unchanged, wake_all_change, with_wakes}
 use Rattle.wait_rule.specs.Transitions.{AreScansOf, Program, by_look, by_step, call_program}
-use Rattle.wait_rule.proofs.KnownLaws.CarriedTasks.{clean_owes, owes_clean, owes_more}
+use Rattle.wait_rule.proofs.KnownLaws.CarriedTasks.{owes_more}
 use Rattle.wait_rule.proofs.KnownLaws.Transitions.{only_none}
-use Rattle.wq_head.specs.Scanned.{HasEndedAt, HasScanned, spares_head}
+use Rattle.wq_head.proofs.HeadLooks.{found_none_over}
+use Rattle.wq_head.specs.Scanned.{HasEndedAt, HasScanned, spares_head, unmade}
 use Rattle.wq_head.specs.Walks.{HasEnded, HasWoken, most}
 use Rattle.wait_event.specs.Conds.{set_change}
 use Rattle.wait_event.specs.Posts.{Runs}
@@ -34,7 +35,7 @@ use Rattle.wait_event.specs.Waits.{nothing, with_value}
 use Rattle.wait_event.proofs.Events.Pares.{bare_head}
 use Rattle.wait_event.proofs.Ground.Going.{runs_on, runs_one}
 use Rattle.wait_event.proofs.Setting.{set_carries, set_idle}
-use Rattle.var_wait.specs.VarPublishes.{HasPublished, aim_of, none_walked}
+use Rattle.var_wait.specs.VarPublishes.{HasPublished, aim_of}
 use Rattle.var_wait.proofs.PublishWalks.{walk_ends_held, walk_goes}
 
 -- the loads of a look leave the book as it is
@@ -97,7 +98,7 @@ module _ (before stored looked : Known) (v value found : ℕ)
 
   -- no member was found
   pub silent : hit ≡ false → HasEndedAt stored looked (head_of (watch.Var v 0)) → (walked : Walked)
-      → walked ≡ none_walked → HasPublished before looked v value walked
+      → walked ≡ unmade → HasPublished before looked v value walked
   silent none ended walked is = record {
     stored = stored;
     found = found;
@@ -106,7 +107,7 @@ module _ (before stored looked : Known) (v value found : ℕ)
     hit = false;
     looks = subst (HasScanned stored looked (head_of (watch.Var v 0))) none looks;
     ends = (refl, is);
-    real = none_walked;
+    real = unmade;
     answers = is;
     runs = both_runs false none;
     over = λ old σ meet. ended.here (watch.Var v old) σ (sym (bare_head (watch.Var v old)));
@@ -151,26 +152,8 @@ module _ (before stored looked : Known) (v value found : ℕ)
           (eq-eqb v v refl) meet;
     }
 
--- A look that found no member ends what a publish began, as a wake does.
-wider : (a s m n e : Bool) → (s ≡ true → e ≡ true) → ((a || (s && m)) || n) ≡ true → ((a || n) || e) ≡ true
-wider true s m n e here is = refl
-wider false true true true e here is = refl
-wider false true true false e here is = here refl
-wider false true false n e here is = ap (λ (b : Bool). b || e) is
-wider false false m n e here is = ap (λ (b : Bool). b || e) is
-
 module _ (c : Watch) (stored looked : Known) (ended : HasEndedAt stored looked (head_of c))
     (still : Carries unchanged stored looked) where
-  owes_over : (x : Excuse) → Owes (with_wakes c mode.Normal x) stored → Owes x looked
-  unfolding Owes with_wakes
-  owes_over x o = (
-    ended.settled (least x) (owes_more (least (with_wakes c mode.Normal x)) (spares_head (head_of c) (least x))
-        (told_of stored) (λ d σ. wider (x.wakes d σ) (same d c) (meets (mask_of mode.Normal) σ)
-        (not (meets (mask_of mode.Normal) σ)) (head_of d == head_of c)
-        (λ alike. eq-eqb (head_of d) (head_of c) (same_head d c alike))) refl o.0),
-    (still.owes (with_wakes c mode.Normal x) o).1,
-  )
-
   pub still_idle : IsIdle stored → IsIdle looked
   still_idle idle = record {
     running = still.state ∙ idle.running;
@@ -194,9 +177,8 @@ module _ (c : Watch) (stored looked : Known) (ended : HasEndedAt stored looked (
     stored = λ x blind p. absurd (cc);
     out = λ x p none. still.out x refl none;
     stands = λ slot few p e is own. still.stands slot few refl e is own;
-    owes = owes_over;
-    clean = clean_owes stored;
-    settled = owes_clean looked;
+    keeps = λ d _. still.keeps d refl;
+    owes = found_none_over c stored looked ended;
   }
 
 -- and so the whole call leaves the task where no member was found
@@ -207,3 +189,36 @@ silent_leaves c before stored looked idle held publishes ended still =
     let quiet = set_idle c before stored idle publishes in
     set_carries c mode.Normal before stored looked idle (still_idle c stored looked ended still quiet) held publishes
     (silent_carries c stored looked ended still quiet (publishes.hold ∙ held))
+
+-- what a publish leaves, and then a look that changes nothing
+published_on : (c : Watch) (x y z : Known) → Carries (publish_change c) x y → Carries unchanged y z
+    → Carries (publish_change c) x z
+published_on c x y z a b = record {
+  domain = b.domain ∙ a.domain;
+  number = b.number ∙ a.number;
+  awake = b.awake ∙ a.awake;
+  state = b.state ∙ a.state;
+  head = b.head ∙ a.head;
+  ticket = b.ticket ∙ a.ticket;
+  hold = b.hold ∙ a.hold;
+  at = b.at ∙ a.at;
+  mark = b.mark ∙ a.mark;
+  fewer = λ w σ p is. b.fewer w σ refl (a.fewer w σ p is);
+  stored = λ i none p. b.stored i none p ∙ a.stored i none p;
+  out = λ i p is. b.out i p (a.out i p is);
+  stands = λ slot few p e is own.
+      subst (λ (m : ℕ). (told_of z).bits.stored (index m slot) ≡ Some e) a.number
+      (b.stands slot few refl e
+      (subst (λ (m : ℕ). (told_of y).bits.stored (index m slot) ≡ Some e) (sym a.number)
+      (a.stands slot few p e is own)) own);
+  keeps = λ d p. b.keeps d refl ∙ a.keeps d p;
+  owes = λ f o. b.owes (with_wakes c mode.Normal f) (a.owes f o);
+}
+
+-- the whole call where some were found
+pub walked_leaves : (c : Watch) (before stored looked new : Known) → IsIdle before → IsIdle new
+    → (told_of before).hold.head ≡ None → Carries (publish_change c) before stored → Carries unchanged stored looked
+    → Carries (wake_all_change c mode.Normal new.at) looked new → Carries (set_change c mode.Normal new.at) before new
+walked_leaves c before stored looked new idle behind held publishes still wakes =
+    set_carries c mode.Normal before looked new idle behind held (published_on c before stored looked publishes still)
+    wakes

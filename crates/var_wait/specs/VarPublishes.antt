@@ -5,7 +5,6 @@ use Rattle.wait_model.specs.declared.calls.Answer.TheVariants as answer
 use Rattle.wait_model.specs.declared.calls.Call.TheVariants as calls
 use Rattle.wait_model.specs.declared.points.Point.TheVariants as at
 use Rattle.wait_model.specs.declared.points.Next.TheVariants as next
-use Rattle.wait_model.specs.declared.queues.End.TheVariants as end_as
 use Rattle.wait_model.specs.declared.queues.Walked.{Walked}
 use Rattle.wait_model.specs.declared.steps.Step.TheVariants as step
 use Rattle.wait_model.specs.declared.watches.Aim.{Aim}
@@ -17,7 +16,7 @@ use Rattle.wait_rule.specs.declared.journal.Item.TheVariants as item
 use Rattle.wait_rule.specs.Known.{Known}
 use Rattle.wait_rule.specs.Says.{added, told_of}
 use Rattle.wait_rule.specs.Transitions.{call_program}
-use Rattle.wq_head.specs.Scanned.{HasScanned}
+use Rattle.wq_head.specs.Scanned.{HasScanned, unmade}
 use Rattle.wq_head.specs.Walks.{HasEnded, HasWoken, capped}
 use Rattle.wait_event.specs.Posts.{Runs}
 
@@ -26,13 +25,10 @@ use Rattle.wait_event.specs.Posts.{Runs}
 abbrev pub aim_of : ℕ → Aim
 aim_of v = record { watch = watch.Var v 0; mode = mode.Normal; count = 1 }
 
-abbrev pub none_walked : Walked
-none_walked = record { selected = 0; woken = 0; holds = 0; end = end_as.End }
-
 -- What follows the look: nothing where it found no member, and the walk of the wake where it found one. So the answer
 -- has no hold exactly where the look found none.
 abbrev pub EndsLook : Bool → Known → Known → ℕ → Walked → Type 0
-EndsLook false looked new v walked = (new ≡ looked) × (walked ≡ none_walked)
+EndsLook false looked new v walked = (new ≡ looked) × (walked ≡ unmade)
 EndsLook true looked new v walked = HasWoken looked new (aim_of v) walked × HasEnded looked new (aim_of v)
     × (0 < walked.holds)
 

@@ -8,15 +8,15 @@ ghost use Rattle.wait_rule.specs.Queues.{IsIdle};
 ghost use Rattle.wait_rule.specs.Says.{IsUp};
 ghost use Rattle.wait_rule.specs.Stays.{Carries};
 ghost use Rattle.wait_event.specs.Conds.{set_change};
-ghost use Rattle.var_wait.specs.VarPublishes.{HasPublished, none_walked};
+ghost use Rattle.var_wait.specs.VarPublishes.{HasPublished};
 
 use std::sync::Wait;
 use wait_model::heads::head_of;
-use wait_model::queues::{End, Walked};
+use wait_model::queues::Walked;
 use wait_model::watches::{Mode, Watch};
 use wait_rule::queues::publish;
 use wait_rule::{Domain, Task};
-use wq_head::{active, wake};
+use wq_head::{active, no_walk, wake};
 
 /// Stores `value` in variable `var`, from `CLAIMS` on and below `VARIABLES`, and wakes those who wait for it to change
 /// (a store of the variable, and kernel/sched/wait_bit.c, `wake_up_var`, by `__wake_up_bit`). The first `CLAIMS`
@@ -48,17 +48,5 @@ pub fn publish_var_and_wake<R: Wait>(
         wake(rt, domain, task, watch, Mode::Normal, 1)
     } else {
         no_walk()
-    }
-}
-
-/// The answer where no member was found.
-fn no_walk() -> Walked
-    ensures { result ≡ none_walked }
-{
-    Walked {
-        selected: 0,
-        woken: 0,
-        holds: 0,
-        end: End::End,
     }
 }

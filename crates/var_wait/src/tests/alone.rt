@@ -26,6 +26,21 @@ pub(crate) fn announce<R: Wait>(rt: &R, domain: &Domain, task: &mut Task, value:
     publish_var_and_wake(rt, domain, task, VAR, value)
 }
 
+/// Waits until the variable has another value than this one: what the wait answers.
+fn wait_for_other<R: Wait>(
+    rt: &R,
+    domain: &Domain,
+    task: &mut Task,
+    old: u64,
+) -> Result<u64, WaitEnd>
+    requires of { task.old.domain ≡ domain.now }
+    requires clean { IsClean task.old }
+    ensures of { task.new.domain ≡ domain.now }
+    ensures clean { IsClean task.new }
+{
+    wait_var(rt, domain, task, VAR, old, SleepState::Uninterruptible)
+}
+
 /// Stores another value before it waits: what the wait answers.
 fn store_and_wait<R: Wait>(
     rt: &R,
@@ -40,7 +55,7 @@ fn store_and_wait<R: Wait>(
     ensures clean { IsClean task.new }
 {
     announce(rt, domain, task, value);
-    wait_var(rt, domain, task, VAR, old, SleepState::Uninterruptible)
+    wait_for_other(rt, domain, task, old)
 }
 
 /// A publisher alone: its look finds no member, and it makes no walk.
@@ -59,7 +74,7 @@ fn nobody_is_walked_over(rt: HostRuntime) -> Result<(), Fail> {
 #[test]
 fn another_value_is_answered(rt: HostRuntime) -> Result<(), Fail> {
     let (domain, mut task) = Domain::new(rt.alloc())?;
-    let first = wait_var(&rt, &domain, &mut task, VAR, 1, SleepState::Uninterruptible);
+    let first = wait_for_other(&rt, &domain, &mut task, 1);
     assert!(rt; matches!(first, Ok(0)));
     let second = store_and_wait(&rt, &domain, &mut task, 7, 0);
     assert!(rt; matches!(second, Ok(7)));

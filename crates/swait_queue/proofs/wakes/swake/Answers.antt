@@ -1,11 +1,13 @@
 use Rattle.std.proofs.Common.{◌∙◌, ◌<◌, ◌≤◌, ℕ, ap, sym, subst}
 use Rattle.wait_model.specs.declared.layout.TheConstants.{FIRST_SIMPLE_HEAD, HEADS}
 use Rattle.wait_model.specs.declared.watches.Watch.TheVariants as watch
+use Rattle.wait_model.specs.Watches.{head_of}
 use Rattle.wait_rule.specs.Says.{unlocked_with}
 use Rattle.wait_rule.proofs.KnownLaws.CarriedCounts.{excused_more}
 use Rattle.wait_event.proofs.Events.Locks.{head_fits}
 use Rattle.wq_head.specs.Selects.{HasSelected}
-use Rattle.swait_queue.proofs.SimpleWakeEnds.{ends_wake, head_simple, may_rise, wake_carries, wake_idle}
+use Rattle.wq_head.proofs.PermitHeads.{owes_low}
+use Rattle.swait_queue.proofs.SimpleWakeEnds.{cond_low, ends_wake, head_simple, may_rise, wake_carries, wake_idle}
 use Rattle.swait_queue.proofs.wakes.swake.Goals as goal
 
 pub lock-requires-clause-head : goal.lock-requires-clause-head
@@ -60,3 +62,9 @@ returns-clause-carries g c =
 pub returns-clause-owing : goal.returns-clause-owing
 returns-clause-owing g c x owes =
     (returns-clause-carries g c).owes x (excused_more (watch.Plain c.args.cond) x c.args.task.now owes)
+
+-- the head is none of a completion
+pub unlock-requires-clause-permits : goal.unlock-requires-clause-permits
+unlock-requires-clause-permits g c = owes_low c.select-selected.new.task (head_of (watch.Plain c.args.cond))
+    (c.select-selected.ensures.carries.at ∙ (c.lock.ensures.carries.at ∙ c.head_of-head.ensures))
+    (cond_low c.args.cond c.requires.simple)

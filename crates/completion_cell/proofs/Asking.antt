@@ -74,6 +74,10 @@ pub whole_carried : (old a b new : Known) → IsFree old → (told_of old).hold.
 whole_carried old a b new free none h one two three =
     hold_carried (λ x. x) (λ x. x) no_entries false old a b new free none h one two three
 
+-- a store of 0 makes no count
+pub clears_none : (d found : ℕ) → is_publishing (watch.Done d) found 0 ≡ false
+clears_none d found = grind (arith, nat_tests)
+
 -- a load before it
 pub behind_load : (old mid new : Known) → Carries unchanged old mid → Carries (hold_change new.at) mid new
     → Carries (hold_change new.at) old new
@@ -83,7 +87,7 @@ behind_load old mid new one two =
 pub none_held : (old : Known) → IsTold old → IsFree old → (told_of old).hold.head ≡ None
 none_held old told free = told.head ∙ free.head
 
-free_on : (old mid : Known) → Carries unchanged old mid → IsFree old → IsFree mid
+pub free_on : (old mid : Known) → Carries unchanged old mid → IsFree old → IsFree mid
 free_on old mid k free = record { head = k.head ∙ free.head; ticket = k.ticket ∙ free.ticket }
 
 -- the first step stays the first

@@ -1,4 +1,4 @@
--- The calls that ask a count, take one of it, clear it and raise it keep permits.
+-- The holds of the calls that ask a count, take one of it, clear it and raise it may end.
 use Rattle.std.proofs.Common.{refl, ◌∙◌, ap, arith, inl, inr}
 use Rattle.std.specs.Prelude.{ℕ, ◌≡◌, ◌≤◌, ◌+◌, ◌-◌, ◌==◌, Bool, true, false, None, [], ◌∷◌, MatchBool}
 use Rattle.wait_model.specs.declared.layout.TheConstants.{ALL_DONE}
@@ -9,21 +9,22 @@ use Rattle.wait_model.specs.Runs.{set_step}
 use Rattle.wait_model.specs.Watches.{head_of}
 use Rattle.wait_rule.specs.declared.journal.Item.TheVariants as item
 use Rattle.wait_rule.specs.Counts.{StoresCount}
-use Rattle.wait_rule.specs.HandedPermits.{KeepsPermits}
+use Rattle.wait_rule.specs.HandedPermits.{StaysOff}
 use Rattle.wait_rule.specs.Known.{Known}
 use Rattle.wait_rule.specs.Queues.{IsTold, walk_of_hold}
-use Rattle.wait_rule.specs.Says.{IsFree, added}
+use Rattle.wait_rule.specs.Says.{IsFree, added, told_of}
 use Rattle.wait_rule.specs.Stays.{Carries, lock_change, only_looks, unchanged}
-use Rattle.wait_rule.proofs.KnownLaws.CalledPermits.{keeps_join, quiet_keeps}
+use Rattle.wait_rule.proofs.KnownLaws.CalledPermits.{left_on}
 use Rattle.wait_rule.proofs.KnownLaws.HeldPermits.{owed}
 use Rattle.wait_rule.proofs.KnownLaws.TaskHistories.{history_after}
-use Rattle.wq_head.specs.Holds.{HasLocked, HasUnlocked}
+use Rattle.wq_head.specs.Holds.{HasLocked}
 use Rattle.wq_head.specs.Selects.{HasSelected}
 use Rattle.completion_cell.specs.Asks.{Counted}
 use Rattle.completion_cell.proofs.Asking.{none_held}
 use Rattle.completion_cell.proofs.Permits.{
   Inside,
-  hold_done,
+  MayEndHold,
+  hold_made,
   inside_join,
   inside_none,
   inside_step,
@@ -37,31 +38,26 @@ use Rattle.completion_cell.proofs.Permits.{
 }
 
 -- a load without the lock
-pub ask_keeps : (old a : Known) (d v : ℕ) → a ≡ added old (item.Made (step.Load (watch.Done d) v))
-    → Carries unchanged old a → IsFree old → IsTold old → KeepsPermits d old a
-ask_keeps old a d v is one free told = quiet_keeps old a (step.Load (watch.Done d) v ∷ []) one.number
-    (history_after old a (step.Load (watch.Done d) v) is) (tt, tt) (none_held old told free) d (tt, tt)
+pub ask_off : (old a : Known) (d v : ℕ) → a ≡ added old (item.Made (step.Load (watch.Done d) v))
+    → Carries unchanged old a → IsFree old → IsTold old → StaysOff old a
+ask_off old a d v is one free told = left_on old a (step.Load (watch.Done d) v ∷ []) one.number
+    (history_after old a (step.Load (watch.Done d) v) is) (tt, tt) (none_held old told free)
 
--- and a hold after it in which nothing is done
-pub is_done_keeps : (old a b new : Known) (d v h : ℕ) → h ≡ head_of (watch.Done d)
-    → a ≡ added old (item.Made (step.Load (watch.Done d) v)) → Carries unchanged old a → IsFree old → IsTold old
-    → HasLocked a b h (walk_of_hold h None) → Carries (lock_change h) a b → HasUnlocked b new false
-    → KeepsPermits d old new
-is_done_keeps old a b new d v h same is one free told l lock u = keeps_join d old a new one.number
-    (ask_keeps old a d v is one free told)
-    (hold_done d a b b new h same l (λ k. k) (inside_none d b b refl) (ap (λ (k : Known). k.at) l.is ∙ same) false u.is
-    (u.stays.number ∙ lock.number) (one.hold ∙ none_held old told free) (inl refl))
+-- a hold in which nothing is done
+pub is_done_hold : (a b : Known) (d h : ℕ) → h ≡ head_of (watch.Done d) → (told_of a).hold.head ≡ None
+    → HasLocked a b h (walk_of_hold h None) → Carries (lock_change h) a b → MayEndHold d a b
+is_done_hold a b d h same out l lock = hold_made d a b b h same l (λ k. k) (inside_none d b b refl)
+    (ap (λ (k : Known). k.at) l.is ∙ same) lock.number out (inl refl)
 
 -- the count is cleared
-pub reinit_keeps : (old a b new : Known) (d h : ℕ) → h ≡ head_of (watch.Done d) → IsFree old → IsTold old
+pub reinit_hold : (old a b : Known) (d h : ℕ) → h ≡ head_of (watch.Done d) → IsFree old → IsTold old
     → HasLocked old a h (walk_of_hold h None) → Carries (lock_change h) old a → StoresCount a b d 0
-    → HasUnlocked b new false → KeepsPermits d old new
-reinit_keeps old a b new d h same free told l lock s u = hold_done d old a b new h same l
+    → MayEndHold d old b
+reinit_hold old a b d h same free told l lock s = hold_made d old a b h same l
     (owed d (set_step (watch.Done d) 0 s.found))
     (inside_step d a b (set_step (watch.Done d) 0 s.found) (store_inside d 0 s.found) s.is)
-    (s.publishes.at ∙ (ap (λ (k : Known). k.at) l.is ∙ same)) false u.is
-    (u.stays.number ∙ (s.publishes.number ∙ lock.number)) (none_held old told free)
-    (inl (store_owes d 0 s.found 0 ∙ lowers 0 s.found (omega arith)))
+    (s.publishes.at ∙ (ap (λ (k : Known). k.at) l.is ∙ same)) (s.publishes.number ∙ lock.number)
+    (none_held old told free) (inl (store_owes d 0 s.found 0 ∙ lowers 0 s.found (omega arith)))
 
 -- What a store of a count that a hold has loaded leaves of it, where it owed nothing.
 record Stores (d : ℕ) (old new : Known) (most : ℕ) : Type 0 where
@@ -107,37 +103,34 @@ makes d n old new c true s =
 makes d n old new c false s = stays_stored d old new 1 s
 
 -- one is taken of the count
-pub try_keeps : (old a b b2 c new : Known) (d v n h : ℕ) → h ≡ head_of (watch.Done d)
-    → a ≡ added old (item.Made (step.Load (watch.Done d) v)) → Carries unchanged old a → IsFree old → IsTold old
+pub try_hold : (a b b2 c : Known) (d n h : ℕ) → h ≡ head_of (watch.Done d) → (told_of a).hold.head ≡ None
     → HasLocked a b h (walk_of_hold h None) → Carries (lock_change h) a b
     → b2 ≡ added b (item.Made (step.Load (watch.Done d) n)) → Carries unchanged b b2 → Counted b2 d n → (took : Bool)
-    → MatchBool took (StoresCount b2 c d (n - 1)) (c ≡ b2) → HasUnlocked c new false → KeepsPermits d old new
-try_keeps old a b b2 c new d v n h same is one free told l lock again two counted took made u =
+    → MatchBool took (StoresCount b2 c d (n - 1)) (c ≡ b2) → MayEndHold d a c
+try_hold a b b2 c d n h same out l lock again two counted took made =
     let t = takes d n b2 c counted took made in
     let start = ap t.owes (load_owes d n) in
     let none = t.debt in
-    keeps_join d old a new one.number (ask_keeps old a d v is one free told)
-    (hold_done d a b c new h same l (λ k. t.owes (owed d (step.Load (watch.Done d) n) k))
+    hold_made d a b c h same l (λ k. t.owes (owed d (step.Load (watch.Done d) n) k))
     (inside_join d b b2 c (owed d (step.Load (watch.Done d) n)) t.owes
     (inside_step d b b2 (step.Load (watch.Done d) n) tt again) t.steps)
-    (t.at ∙ (two.at ∙ (ap (λ (k : Known). k.at) l.is ∙ same))) false u.is
-    (u.stays.number ∙ (t.number ∙ (two.number ∙ lock.number))) (one.hold ∙ none_held old told free)
-    (inl (omega (arith, start, none))))
+    (t.at ∙ (two.at ∙ (ap (λ (k : Known). k.at) l.is ∙ same))) (t.number ∙ (two.number ∙ lock.number)) out
+    (inl (omega (arith, start, none)))
 
 -- the count is raised by one, and an entry taken off
-pub complete_keeps : (old a a2 b m new : Known) (d v n h : ℕ) → h ≡ head_of (watch.Done d) → IsFree old → IsTold old
+pub complete_hold : (old a a2 b m : Known) (d v n h : ℕ) → h ≡ head_of (watch.Done d) → IsFree old → IsTold old
     → HasLocked old a h (walk_of_hold h None) → Carries (lock_change h) old a
     → a2 ≡ added a (item.Made (step.Load (watch.Done d) v)) → Carries unchanged a a2 → Counted a2 d v
     → (raised : Bool) → MatchBool raised (StoresCount a2 b d (v + 1)) (b ≡ a2) → HasSelected b m 1 n
-    → Carries only_looks b m → HasUnlocked m new (n == 1) → KeepsPermits d old new
-complete_keeps old a a2 b m new d v n h same free told l lock is loaded counted raised made s select u =
-    hold_done d old a m new h same l (λ k. t.owes (owed d (step.Load (watch.Done d) v) k) - n)
+    → Carries only_looks b m → MayEndHold d old m
+complete_hold old a a2 b m d v n h same free told l lock is loaded counted raised made s select =
+    hold_made d old a m h same l (λ k. t.owes (owed d (step.Load (watch.Done d) v) k) - n)
     (inside_join d a b m (λ k. t.owes (owed d (step.Load (watch.Done d) v) k)) (λ k. k - n)
     (inside_join d a a2 b (owed d (step.Load (watch.Done d) v)) t.owes
     (inside_step d a a2 (step.Load (watch.Done d) v) tt is) t.steps)
     (selection_inside d b m 1 n s))
-    (select.at ∙ (t.at ∙ (loaded.at ∙ (ap (λ (k : Known). k.at) l.is ∙ same)))) (n == 1) u.is
-    (u.stays.number ∙ (select.number ∙ (t.number ∙ (loaded.number ∙ lock.number)))) (none_held old told free)
+    (select.at ∙ (t.at ∙ (loaded.at ∙ (ap (λ (k : Known). k.at) l.is ∙ same))))
+    (select.number ∙ (t.number ∙ (loaded.number ∙ lock.number))) (none_held old told free)
     (elim s.ends [ inl all ↦ inl (handed all.1) | inr none ↦ inr (nobody (done_head d) m s.whole none.0) ])
   where
     t : Stores d a2 b 1
@@ -150,16 +143,16 @@ complete_keeps old a a2 b m new d v n h same free told l lock is loaded counted 
         omega (arith, start, few, all)
 
 -- the count is granted for good, and all entries are taken off
-pub complete_all_keeps : (old a b m new : Known) (d n h : ℕ) → h ≡ head_of (watch.Done d) → IsFree old → IsTold old
+pub complete_all_hold : (old a b m : Known) (d n h : ℕ) → h ≡ head_of (watch.Done d) → IsFree old → IsTold old
     → HasLocked old a h (walk_of_hold h None) → Carries (lock_change h) old a → StoresCount a b d ALL_DONE
-    → HasSelected b m 0 n → Carries only_looks b m → HasUnlocked m new false → KeepsPermits d old new
-complete_all_keeps old a b m new d n h same free told l lock stored s select u = hold_done d old a m new h same l
+    → HasSelected b m 0 n → Carries only_looks b m → MayEndHold d old m
+complete_all_hold old a b m d n h same free told l lock stored s select = hold_made d old a m h same l
     (λ k. owed d (set_step (watch.Done d) ALL_DONE stored.found) k - n)
     (inside_join d a b m (owed d (set_step (watch.Done d) ALL_DONE stored.found)) (λ k. k - n)
     (inside_step d a b (set_step (watch.Done d) ALL_DONE stored.found) (store_inside d ALL_DONE stored.found) stored.is)
     (selection_inside d b m 0 n s))
-    (select.at ∙ (stored.publishes.at ∙ (ap (λ (k : Known). k.at) l.is ∙ same))) false u.is
-    (u.stays.number ∙ (select.number ∙ (stored.publishes.number ∙ lock.number))) (none_held old told free)
+    (select.at ∙ (stored.publishes.at ∙ (ap (λ (k : Known). k.at) l.is ∙ same)))
+    (select.number ∙ (stored.publishes.number ∙ lock.number)) (none_held old told free)
     (elim s.ends [
       | inl all ↦ absurd (all.0 refl)
       | inr none ↦ inr (nobody (done_head d) m s.whole none.0)

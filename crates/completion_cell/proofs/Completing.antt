@@ -47,10 +47,9 @@ use Rattle.wait_rule.specs.Counts.{FindsCount, StoresCount}
 use Rattle.wait_rule.specs.HeldValues.{count_in}
 use Rattle.wait_rule.specs.Known.{Known}
 use Rattle.wait_rule.specs.Queues.{IsTold, IsWholeBook, MayRise, index, simple_watch, walk_of_hold}
-use Rattle.wait_rule.specs.Says.{IsFree, Excuse, added, history_of, told_of, unlocked_with}
+use Rattle.wait_rule.specs.Says.{IsFree, Excuse, added, history_of, told_of, unlocked_with, Owes}
 use Rattle.wait_rule.specs.Stays.{
   Carries,
-  Owes,
   lock_change,
   only_looks,
   publish_change,
@@ -60,14 +59,13 @@ use Rattle.wait_rule.specs.Stays.{
 }
 use Rattle.wait_rule.specs.Transitions.{by_step, call_program}
 use Rattle.wait_rule.proofs.KnownLaws.AfterSteps.{told_added}
-use Rattle.wait_rule.proofs.KnownLaws.CarriedTasks.{clean_owes, owes_clean, unchanged_none}
+use Rattle.wait_rule.proofs.KnownLaws.CarriedTasks.{unchanged_none}
 use Rattle.wait_rule.proofs.KnownLaws.CarriedCounts.{as_publish}
 use Rattle.wait_rule.proofs.KnownLaws.StayingParts.{stays_same}
 use Rattle.wait_rule.proofs.KnownLaws.TaskHistories.{history_after}
 use Rattle.wait_rule.proofs.KnownLaws.Transitions.{only_none}
 use Rattle.wq_head.specs.Holds.{HasLocked, HasUnlocked, IsHolding}
-use Rattle.wq_head.specs.Selects.{HasSelected, IsSimpleHold, ShowsNoEntry, simple_aim}
-use Rattle.wq_head.proofs.CarriedHolds.{ended_owes}
+use Rattle.wq_head.specs.Selects.{HasSelected, IsSimpleHold, ShowsNoEntry}
 use Rattle.wq_head.proofs.LockWaits.{turn_of}
 use Rattle.wq_head.proofs.SelectedRuns.{lock_goes, selected_ends}
 use Rattle.wq_head.proofs.SimpleHolds.{own_done, simple_ended}
@@ -162,8 +160,7 @@ module _ (d : ℕ) (old a b m new : Known) (most n : ℕ) (spent : Bool) (free :
   over = elim s.ends [ inl all ↦ inl (full all.1 all.0) | inr none ↦ inr (s.whole, none.0) ]
 
   ends_owed : (x : Excuse) → Owes (with_wakes (watch.Done d) mode.Normal x) m → Owes x new
-  ends_owed x o = ended_owes (simple_aim m.at) m new
-      (simple_ended m m new spent (stays_same m) (λ c σ. refl) refl hold over is) x
+  ends_owed x o = (simple_ended m m new spent (stays_same m) (λ c σ. refl) refl hold over is).settled x
       (subst (λ (c : Watch). Owes (with_wakes c mode.Normal x) m) (sym (ap simple_watch at_d ∙ own_done d)) o)
 
   pub completed_carried : Carries (set_change (watch.Done d) mode.Normal new.at) old new
@@ -190,9 +187,8 @@ module _ (d : ℕ) (old a b m new : Known) (most n : ℕ) (spent : Bool) (free :
         (three.number ∙ (two.number ∙ one.number))
         (four.stands slot few refl e
         (subst (λ (i : ℕ). (told_of m).bits.stored (index i slot) ≡ Some e) (sym three.number) by_m) kind);
+    keeps = λ w p. four.keeps w refl ∙ (three.keeps w refl ∙ (two.keeps w p ∙ one.keeps w refl));
     owes = λ x o. ends_owed x (three.owes (with_wakes (watch.Done d) mode.Normal x) (two.owes x (one.owes x o)));
-    clean = clean_owes old;
-    settled = owes_clean new;
   }
 
 -- a count is raised by one, unless it is at its end
@@ -302,8 +298,7 @@ load_and_publish c a a2 b one two = record {
       (subst (λ (n : ℕ). (told_of a2).bits.stored (index n slot) ≡ Some e) (sym one.number)
       (one.stands slot few refl e is own)) own);
   owes = λ x o. two.owes x (one.owes x o);
-  clean = one.clean;
-  settled = two.settled;
+  keeps = λ d p. two.keeps d p ∙ one.keeps d refl;
 }
 
 -- `complete`

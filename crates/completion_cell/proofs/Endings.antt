@@ -17,11 +17,10 @@ use Rattle.wait_rule.specs.Queues.{IsIdle, IsTold, index}
 use Rattle.wait_rule.specs.Says.{IsUp, history_of, told_of}
 use Rattle.wait_rule.specs.Stays.{Carries}
 use Rattle.wait_rule.specs.Transitions.{Goes, Program, call_program}
-use Rattle.wait_rule.proofs.KnownLaws.CarriedTasks.{clean_owes, owes_clean, entry_off}
+use Rattle.wait_rule.proofs.KnownLaws.StayingParts.{owes_also, owes_out}
 use Rattle.wait_event.specs.Ends.{IsOut, wait_change}
 use Rattle.wait_event.specs.Waits.{EndsWith, own_of, queues}
 use Rattle.wait_event.proofs.Events.Endings.{none_of}
-use Rattle.wait_event.proofs.Ground.Keeping.{excused}
 use Rattle.completion_cell.specs.AwaitEnds.{EndsAwait, HasAwaited, end_in}
 use Rattle.completion_cell.specs.Awaits.{
   Advances,
@@ -92,10 +91,9 @@ module _ (old new : Known) (r q : AwaitRun) (s : AwaitStage) (o : AwaitOutcome)
         stored = λ x none away. absurd (cc);
         out = keeps.out;
         stands = keeps.stands;
-        owes = λ x owes. entry_off i x new (ap (λ (n : ℕ). (told_of new).bits.stored (index n 0)) (sym keeps.number)
-            ∙ ends_out) (keeps.owes x (excused i x old owes));
-        clean = clean_owes old;
-        settled = owes_clean new;
+        keeps = λ d _. keeps.keeps d;
+        owes = λ x owes. owes_out i x new (ap (λ (n : ℕ). (told_of new).bits.stored (index n 0)) (sym keeps.number)
+            ∙ ends_out) (keeps.owes x (owes_also i x old owes));
       }
 
 -- what it says at its end

@@ -191,8 +191,7 @@ as_looks old new k = record {
   out = k.out;
   stands = k.stands;
   owes = k.owes;
-  clean = k.clean;
-  settled = k.settled;
+  keeps = k.keeps;
 }
 
 pub as_hold : (old new : Known) → Carries unchanged old new → Carries (hold_change new.at) old new
@@ -211,8 +210,7 @@ as_hold old new k = record {
   out = k.out;
   stands = k.stands;
   owes = k.owes;
-  clean = k.clean;
-  settled = k.settled;
+  keeps = k.keeps;
 }
 
 -- looks say nothing of a count
@@ -232,6 +230,7 @@ looks_value c o (item.Word w ∷ xs) l = looks_value c o xs l.1
 looks_value c o (item.Drawn h w ∷ xs) l = looks_value c o xs l.1
 looks_value c o (item.Serving h w ∷ xs) l = looks_value c o xs l.1
 looks_value c o (item.Served ∷ xs) l = looks_value c o xs l.1
+looks_value c o (item.Tally p n w ∷ xs) l = absurd l.0
 
 pub looked_count : (d : ℕ) (old new : Known) → OnlyLooks old new
     → count_in d (history_of new) ≡ count_in d (history_of old)

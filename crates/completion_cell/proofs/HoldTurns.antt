@@ -1,4 +1,4 @@
--- A whole hold of a wait hands permits on, and what it leaves queued.
+-- How a hold of a wait begins, and what it leaves queued.
 use Rattle.std.proofs.Common.{refl, sym, ◌∙◌, ap, subst, arith, append_assoc, append-nil, eq-eqb}
 use Rattle.std.specs.Prelude.{
   ℕ,
@@ -38,31 +38,20 @@ use Rattle.wait_model.proofs.PermitLaws.OwnTurns.{clash, deals_snoc, flag_small}
 use Rattle.wait_model.proofs.PermitLaws.PermitTurns.{look_seen, not_unseen}
 use Rattle.wait_model.proofs.StepLaws.UnlockSteps.{unlock_bits}
 use Rattle.wait_model.proofs.WordLaws.DecodedWords.{owner_own}
-use Rattle.wait_rule.specs.HandedPermits.{HandsFrom}
+use Rattle.wait_rule.specs.HandedPermits.{Order}
 use Rattle.wait_rule.specs.Interleavings.{table_of}
-use Rattle.wait_rule.proofs.KnownLaws.HandedPermits.{hands_join}
 use Rattle.wait_rule.proofs.KnownLaws.HandedSteps.{
   IsAway,
   IsAwayAt,
-  Order,
   OrderStep,
   away_next,
   order_front,
   order_step,
   order_view,
 }
-use Rattle.wait_rule.proofs.KnownLaws.HeldPermits.{head_apart}
 use Rattle.wait_rule.proofs.KnownLaws.Moments.{kept_of}
-use Rattle.completion_cell.specs.HeldPermits.{Deals, IsOfWait, counted, still_owed}
-use Rattle.completion_cell.proofs.WaitFronts.{Waits, wait_head, waits_all, waits_unlock}
-
--- steps that hand permits on where some order leads to the history before them
-pub hands_if : (a : ℕ) (front es : List Step) → (Order a front → HandsFrom a front es) → HandsFrom a front es
-hands_if a front [] k = tt
-hands_if a front (e ∷ es) k = (
-  λ xs may on made al. (k (record { steps = xs; may = may; on = on; is = made })).0 xs may on made al,
-  hands_if a (front ++ e ∷ []) es (λ o. (k (order_front a front (e ∷ []) o)).1),
-)
+use Rattle.completion_cell.specs.HeldPermits.{Deals, IsOfWait, Waits, counted, still_owed}
+use Rattle.completion_cell.proofs.WaitFronts.{wait_head}
 
 -- the hold begins
 module _ (d a : ℕ) (front : List Step) (aim : Option Aim) (w : ℕ) where
@@ -100,7 +89,7 @@ module _ (d a : ℕ) (front : List Step) (aim : Option Aim) (w : ℕ) where
     abbrev saw : Step
     saw = step.Saw (own a) f
 
-    abbrev found : ℕ
+    abbrev pub found : ℕ
     found = (dealt d a first).debt
         + flag (finds_handed d (own a) (view_of first) (dealt d a first) (own a) (entry_of f))
 
@@ -126,13 +115,10 @@ module _ (d a : ℕ) (front : List Step) (aim : Option Aim) (w : ℕ) where
       debt = ap (λ (u : Dealt). u.debt) (deals_snoc d (own a) blank none_dealt first saw);
     }
 
--- the rest of it, and its unlock
-pub rest_hands : (d a : ℕ) (front made : List Step) (o p : Option ℕ) (n : ℕ) → Waits d a front o n
-    → Deals d (own a) made o n p 0 → HandsFrom a front (made ++ step.Unlock (done_head d) false ∷ [])
-rest_hands d a front made o p n w k =
-    let all = waits_all d a front made o p n 0 w k in
-    hands_join a front made (step.Unlock (done_head d) false ∷ []) all.1
-    (waits_unlock d a (front ++ made) p false all.0, tt)
+-- the heads of two completions are two
+pub head_apart : (c d : ℕ) → done_head d ≡ done_head c → d ≡ c
+unfolding head_of
+head_apart c d same = omega (arith, same)
 
 -- no own entry at another completion
 apart_head : (c d h : ℕ) → c ≢ d → h ≡ done_head d → (h == done_head c) ≡ false

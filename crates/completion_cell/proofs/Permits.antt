@@ -1,4 +1,4 @@
--- The calls that make or take permits in one hold of a completion's head hand them on.
+-- The calls that make or take permits in one hold of a completion's head: what the hold owes, and that it may end.
 use Rattle.std.proofs.Common.{refl, sym, ◌∙◌, ap, subst, arith, append_assoc, append-nil, eq-eqb, inl, inr}
 use Rattle.std.proofs.lemmas.Bool.Decides.{nat_tests}
 use Rattle.std.specs.Prelude.{
@@ -18,6 +18,7 @@ use Rattle.std.specs.Prelude.{
   Bool,
   true,
   false,
+  Option,
   None,
   List,
   [],
@@ -27,6 +28,7 @@ use Rattle.std.specs.Prelude.{
 use Rattle.wait_model.specs.declared.layout.TheConstants.{ALL_DONE}
 use Rattle.wait_model.specs.declared.steps.Step.{Step}
 use Rattle.wait_model.specs.declared.steps.Step.TheVariants as step
+use Rattle.wait_model.specs.declared.watches.Aim.{Aim}
 use Rattle.wait_model.specs.declared.watches.Mode.TheVariants as mode
 use Rattle.wait_model.specs.declared.watches.Watch.TheVariants as watch
 use Rattle.wait_model.specs.Fold.{view_of}
@@ -36,14 +38,14 @@ use Rattle.wait_model.specs.Views.{Look, unseen, off, elsewhere, shown}
 use Rattle.wait_model.specs.Watches.{head_of, mask_of, owner}
 use Rattle.wait_rule.specs.declared.journal.Item.{Item}
 use Rattle.wait_rule.specs.declared.journal.Item.TheVariants as item
-use Rattle.wait_rule.specs.HandedPermits.{KeepsPermits}
+use Rattle.wait_rule.specs.HandedPermits.{LeftOff, OwesNoPermit, StaysOff}
 use Rattle.wait_rule.specs.Items.{steps_of}
 use Rattle.wait_rule.specs.Known.{Known}
 use Rattle.wait_rule.specs.Queues.{IsWholeBook, walk_of_hold}
 use Rattle.wait_rule.specs.Says.{added, history_of, told_of, unlocked_with}
 use Rattle.wait_rule.specs.Shown.{look_entry}
 use Rattle.wait_rule.specs.Transitions.{AreLooks}
-use Rattle.wait_rule.proofs.KnownLaws.CalledPermits.{hold_keeps}
+use Rattle.wait_rule.proofs.KnownLaws.CalledPermits.{adds_join, hold_may_end, inside_adds_none, left_on}
 use Rattle.wait_rule.proofs.KnownLaws.HeldPermits.{AreInside, IsInside, owed, owed_by}
 use Rattle.wait_rule.proofs.KnownLaws.TaskHistories.{history_after}
 use Rattle.wait_rule.proofs.TableSteps.ItemLists.{steps_append}
@@ -107,6 +109,7 @@ looks_inside (item.Word w ∷ xs) l = looks_inside xs l.1
 looks_inside (item.Drawn h w ∷ xs) l = looks_inside xs l.1
 looks_inside (item.Serving h w ∷ xs) l = looks_inside xs l.1
 looks_inside (item.Served ∷ xs) l = looks_inside xs l.1
+looks_inside (item.Tally p n w ∷ xs) l = absurd l.0
 
 looks_owe : (d k : ℕ) (xs : List Item) → AreLooks xs → owed_by d (steps_of xs) k ≡ k
 looks_owe d k [] l = refl
@@ -119,6 +122,7 @@ looks_owe d k (item.Word w ∷ xs) l = looks_owe d k xs l.1
 looks_owe d k (item.Drawn h w ∷ xs) l = looks_owe d k xs l.1
 looks_owe d k (item.Serving h w ∷ xs) l = looks_owe d k xs l.1
 looks_owe d k (item.Served ∷ xs) l = looks_owe d k xs l.1
+looks_owe d k (item.Tally p n w ∷ xs) l = absurd l.0
 
 pub inside_looks : (d : ℕ) (old new : Known) → Looks old new → Inside d old new (λ k. k)
 inside_looks d old new l = record {
@@ -225,27 +229,45 @@ unlocked_steps old new sp is = ap history_of is
     ∙ (append-nil (steps_of (old.view.items ++ item.Made (step.Unlock old.at sp) ∷ []))
     ∙ steps_append old.view.items (item.Made (step.Unlock old.at sp) ∷ [])))
 
--- a whole hold
-module _ (d : ℕ) (old a m new : Known) (h : ℕ) (same : h ≡ head_of (watch.Done d))
-    (l : HasLocked old a h (walk_of_hold h None)) (f : ℕ → ℕ) (i : Inside d a m f)
-    (at : m.at ≡ head_of (watch.Done d)) (sp : Bool) (u : new ≡ unlocked_with m m.at sp)
-    (number : new.view.number ≡ old.view.number) (out : (told_of old).hold.head ≡ None) where
-  abbrev lock : Step
-  lock = step.Lock h (walk_of_hold h None) l.found
+-- A hold of the head of d so far, in which nothing was queued, and which may end.
+pub record MayEndHold (d : ℕ) (old m : Known) : Type 0 where
+  pub aim : Option Aim
+  pub found : ℕ
+  pub steps : List Step
+  pub is : history_of m ≡ history_of old ++ step.Lock (done_head d) aim found ∷ steps
+  pub inside : AreInside steps
+  pub at : m.at ≡ done_head d
+  pub number : m.view.number ≡ old.view.number
+  pub out : (told_of old).hold.head ≡ None
+  pub done : (owed_by d steps 0 ≡ 0) ⊎ ShowsNobody (done_head d) (told_of m)
 
-  so_far : history_of m ≡ history_of old ++ lock ∷ i.made
-  so_far = i.is ∙ (ap (λ (es : List Step). es ++ i.made) (locked_history old a h l)
-      ∙ append_assoc (history_of old) (lock ∷ []) i.made)
+pub hold_made : (d : ℕ) (old a m : Known) (h : ℕ) → h ≡ head_of (watch.Done d)
+    → HasLocked old a h (walk_of_hold h None) → (f : ℕ → ℕ) → Inside d a m f → m.at ≡ head_of (watch.Done d)
+    → m.view.number ≡ old.view.number → (told_of old).hold.head ≡ None
+    → (f 0 ≡ 0) ⊎ ShowsNobody (done_head d) (told_of m) → MayEndHold d old m
+hold_made d old a m h same l f i at number out done = record {
+  aim = walk_of_hold h None;
+  found = l.found;
+  steps = i.made;
+  is = i.is ∙ (ap (λ (es : List Step). es ++ i.made) (locked_history old a h l)
+      ∙ (append_assoc (history_of old) (step.Lock h (walk_of_hold h None) l.found ∷ []) i.made
+      ∙ ap (λ (j : ℕ). history_of old ++ step.Lock j (walk_of_hold h None) l.found ∷ i.made) same));
+  inside = i.inside;
+  at = at;
+  number = number;
+  out = out;
+  done = elim done [ inl none ↦ inl (i.leaves 0 ∙ none) | inr none ↦ inr none ];
+}
 
-  all_made : history_of new ≡ history_of old ++ ((lock ∷ i.made) ++ step.Unlock h sp ∷ [])
-  all_made = unlocked_steps m new sp u
-      ∙ (ap (λ (es : List Step). es ++ step.Unlock m.at sp ∷ []) so_far
-      ∙ (append_assoc (history_of old) (lock ∷ i.made) (step.Unlock m.at sp ∷ [])
-      ∙ ap (λ (j : ℕ). history_of old ++ ((lock ∷ i.made) ++ step.Unlock j sp ∷ [])) (at ∙ sym same)))
+-- its unlock is asked of nothing, and leaves the own entry off
+pub ends_owing_none : (d : ℕ) (old m : Known) → MayEndHold d old m → LeftOff d old → OwesNoPermit m
+ends_owing_none d old m e left = hold_may_end d old m (done_head d) e.aim e.found e.steps refl e.at e.number e.is
+    e.inside e.out left e.done
 
-  pub hold_done : (f 0 ≡ 0) ⊎ ShowsNobody (done_head d) (told_of m) → KeepsPermits d old new
-  hold_done done = hold_keeps d old new h (walk_of_hold h None) l.found i.made sp same number all_made i.inside out
-      (elim done [
-        | inl none ↦ inl (i.leaves 0 ∙ none)
-        | inr none ↦ inr (subst (λ (es : List Step). ShowsNobody (done_head d) (view_of es)) so_far none)
-      ])
+pub ends_off : (d : ℕ) (old m new : Known) (sp : Bool) → MayEndHold d old m → new ≡ unlocked_with m m.at sp
+    → StaysOff old new
+ends_off d old m new sp e is = left_on old new ((step.Lock (done_head d) e.aim e.found ∷ e.steps)
+    ++ step.Unlock m.at sp ∷ []) (ap (λ (k : Known). k.view.number) is ∙ e.number)
+    (unlocked_steps m new sp is ∙ (ap (λ (es : List Step). es ++ step.Unlock m.at sp ∷ []) e.is
+    ∙ append_assoc (history_of old) (step.Lock (done_head d) e.aim e.found ∷ e.steps) (step.Unlock m.at sp ∷ [])))
+    (tt, adds_join e.steps (step.Unlock m.at sp ∷ []) (inside_adds_none e.steps e.inside) (tt, tt)) e.out

@@ -15,6 +15,7 @@ use Rattle.wait_rule.specs.Known.{Known}
 use Rattle.wait_rule.specs.Queues.{IsTold, index}
 use Rattle.wait_rule.specs.Says.{IsAwakeAgain, added, grown, told_of}
 use Rattle.wait_rule.specs.Transitions.{OnlyLooks}
+use Rattle.wait_rule.proofs.KnownLaws.Debts.{looked_debts}
 use Rattle.wait_rule.proofs.KnownLaws.AfterSteps.{told_added}
 use Rattle.wait_rule.proofs.KnownLaws.Transitions.{book_told, looks_of}
 use Rattle.wait_rule.proofs.TableSteps.ItemLists.{steps_append}
@@ -45,7 +46,8 @@ module _ (old new : Known) (r : AwaitRun) (a : IsAsleepAt old r stage.Again) (lo
     cell = refl;
     state = refl;
     runs = runs_looks (await_program old.view.number r) old new (next.Go (at.Await (awaiting.Lock true))) looks;
-    keeps = keeps_same (own_of old) old new domain number told;
+    keeps = keeps_same (own_of old) old new domain number told
+        (looked_debts old new looks);
     queued = sym (or_none r.queued);
   }
 
@@ -127,7 +129,7 @@ pub rose : (old new : Known) (r : AwaitRun) (s : AwaitStage) → IsAsleepAt old 
 rose old new r s a was now h = subst (λ (x : AwaitStage). Advances old new r r x (turn.Again x)) (sym a.place)
     (woken_at old new r (asleep_there old r s a) (record {
       items = h.looks;
-      looks = looks_of h.looks h.no_steps;
+      looks = looks_of h.looks h.no_steps h.no_adds;
       is = h.is ∙ ap (grown old h.looks) (sym (ap (λ (k : Known). k.book) h.is) ∙ book_told old new h.looks was now
           (ap (λ (k : Known). k.view.items) h.is));
     }) (ap told_of h.is ∙ (ap view_of (steps_append old.view.items h.looks

@@ -15,6 +15,7 @@ use Rattle.wait_rule.specs.Known.{Known}
 use Rattle.wait_rule.specs.Queues.{index}
 use Rattle.wait_rule.specs.Says.{added, told_of}
 use Rattle.wait_rule.specs.Transitions.{by_step}
+use Rattle.wait_rule.proofs.KnownLaws.Debts.{added_debts}
 use Rattle.wait_rule.proofs.KnownLaws.AfterSteps.{told_added}
 use Rattle.wait_rule.proofs.KnownLaws.Transitions.{only_none}
 use Rattle.wait_event.specs.Posts.{IsStateFor, Post, Stands}
@@ -46,7 +47,8 @@ module _ (old : Known) (r : AwaitRun) (w : ℕ) (a : IsAt old r stage.Sleep) whe
     state = refl;
     runs = runs_one (await_program old.view.number r) at.Sleep old old slept (with_own (task_of w))
         (by_step (step.Sleep w)) (only_none old) tt (refl, tt, tt) (only_none slept);
-    keeps = keeps_same (own_of old) old slept refl refl (told_added old (item.Made (step.Sleep w)));
+    keeps = keeps_same (own_of old) old slept refl refl (told_added old (item.Made (step.Sleep w)))
+        (added_debts old slept (item.Made (step.Sleep w)) refl refl);
     queued = sym (or_none r.queued);
   }
 

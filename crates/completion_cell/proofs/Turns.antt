@@ -17,6 +17,7 @@ use Rattle.wait_rule.specs.Queues.{IsTurn, at_head, walk_of_hold}
 use Rattle.wait_rule.specs.Says.{added, told_of}
 use Rattle.wait_rule.specs.Tickets.{after_serving, drawn, taken}
 use Rattle.wait_rule.specs.Transitions.{OnlyLooks, by_step}
+use Rattle.wait_rule.proofs.KnownLaws.Debts.{added_debts}
 use Rattle.wait_rule.proofs.KnownLaws.AfterSteps.{told_added}
 use Rattle.wait_rule.proofs.KnownLaws.SettledTasks.{owes_after}
 use Rattle.wait_rule.proofs.KnownLaws.Transitions.{only_none}
@@ -24,7 +25,7 @@ use Rattle.wait_rule.proofs.KnownLaws.Turns.{finds_turn, other_number}
 use Rattle.wait_event.specs.Posts.{Keeps, Post, Stands}
 use Rattle.wait_event.specs.Waits.{nothing, own_of}
 use Rattle.wait_event.proofs.Ground.Going.{runs_looks}
-use Rattle.wait_event.proofs.Ground.Keeping.{keeps_on, keeps_same, keeps_told}
+use Rattle.wait_event.proofs.Ground.Keeping.{keeps_on, keeps_same, keeps_told, placed_owing}
 use Rattle.wait_event.proofs.Ground.Standing.{draw_stands, lock_stands, serving_stands}
 use Rattle.completion_cell.specs.Awaits.{
   Draws,
@@ -52,7 +53,8 @@ draw_from old r n waited a =
         state = refl;
         runs = runs_looks (await_program old.view.number r) old new (next.Go (at.Await (awaiting.Lock waited)))
             (record { items = item.Drawn (await_head r) n ∷ []; looks = (tt, tt); is = refl });
-        keeps = keeps_same (own_of old) old new refl refl (told_added old (item.Drawn (await_head r) n));
+        keeps = keeps_same (own_of old) old new refl refl (told_added old (item.Drawn (await_head r) n))
+            (added_debts old new (item.Drawn (await_head r) n) refl refl);
         queued = sym (or_none r.queued);
       };
       lands = record {
@@ -82,6 +84,7 @@ module _ (old : Known) (r : AwaitRun) (w : ℕ) (waited : Bool) (a : StandsAt ol
 
   served_keeps : Keeps (own_of old) old served
   served_keeps = keeps_same (own_of old) old served refl refl (told_added old (item.Serving h w))
+      (added_debts old served (item.Serving h w) refl refl)
 
   served_looks : OnlyLooks old served
   served_looks = record { items = item.Serving h w ∷ []; looks = (tt, tt); is = refl }
@@ -119,7 +122,9 @@ module _ (old : Known) (r : AwaitRun) (w : ℕ) (waited : Bool) (a : StandsAt ol
     locked_keeps = keeps_on (own_of old) old served locked served_keeps
         (keeps_told (own_of old) served locked refl refl (ap (λ (v : Told). v.mark) locked_told)
         (ap (λ (v : Told). v.duty.owes) locked_told) (ap (λ (v : Told). v.bits.stored) locked_told)
-        (λ y o. owes_after served (added served (item.Made e)) e refl refl y o))
+        (λ d. ap (λ (v : Told). v.bits.keeps d) locked_told)
+        (λ y o. placed_owing (added served (item.Made e)) locked refl y
+        (owes_after served (added served (item.Made e)) e refl refl y o)))
 
     held : (p : Post) → Stands old p → Stands locked (record p { head = Some h; ticket = taken h })
     held p s = lock_stands served h (walk_of_hold h None) x (record p { ticket = served.book.ticket })

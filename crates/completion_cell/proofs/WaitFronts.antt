@@ -1,6 +1,5 @@
--- What the steps of a wait's hold leave of permits, by the task's history: they meet the conditions, and so does the
--- unlock of a hold that owes nothing.
-use Rattle.std.proofs.Common.{refl, sym, ◌∙◌, ap, subst, arith, append_assoc, append-nil, eq-eqb, inl}
+-- What the steps of a wait's hold leave of permits, by the task's history, and that a hold which owes nothing may end.
+use Rattle.std.proofs.Common.{refl, sym, ◌∙◌, ap, subst, arith, append_assoc, append-nil, eq-eqb, inl, inr}
 use Rattle.std.specs.Prelude.{
   ℕ,
   ◌≡◌,
@@ -47,19 +46,22 @@ use Rattle.wait_model.proofs.Functions.{put_at}
 use Rattle.wait_model.proofs.HistoryLaws.HoldLooks.{after_snoc}
 use Rattle.wait_model.proofs.PermitLaws.OwnTurns.{deals_snoc, held_is}
 use Rattle.wait_model.proofs.PermitLaws.PermitTurns.{look_seen, not_unseen, seen_of}
-use Rattle.wait_rule.specs.HandedPermits.{HandsAt, HandsFrom}
-use Rattle.wait_rule.specs.Interleavings.{table_of}
-use Rattle.wait_rule.proofs.KnownLaws.HandedSteps.{order_view}
-use Rattle.wait_rule.proofs.KnownLaws.HeldPermits.{head_apart}
-use Rattle.completion_cell.specs.HeldPermits.{Deals, IsOfWait, counted, still_owed}
-
--- In a hold of the head the task has looked at its own entry, or had left none there; what it knows of the count, and
--- what it owes.
-pub record Waits (d a : ℕ) (front : List Step) (o : Option ℕ) (n : ℕ) : Type 0 where
-  pub head : (view_of front).hold.head ≡ Some (done_head d)
-  pub seen : (dealt d a front).left ≡ true → (view_of front).hold.book (own a) ≢ unseen
-  pub count : (dealt d a front).count ≡ o
-  pub debt : (dealt d a front).debt ≡ n
+use Rattle.wait_rule.specs.HandedPermits.{OwesNoPermit, dealt_of}
+use Rattle.wait_rule.specs.Known.{Known}
+use Rattle.wait_rule.specs.Says.{history_of, told_of}
+use Rattle.wait_rule.proofs.KnownLaws.CalledPermits.{order_as}
+use Rattle.wait_rule.proofs.KnownLaws.HandedPermits.{cell_is}
+use Rattle.wait_rule.proofs.KnownLaws.HandedSteps.{order_front}
+use Rattle.completion_cell.specs.HeldPermits.{
+  Deals,
+  HasLoaded,
+  Held,
+  IsOfWait,
+  Waits,
+  WaitsIn,
+  counted,
+  still_owed,
+}
 
 pub wait_head : (v : View) (x : ℕ) (o : Option ℕ) (e : Step) → IsOfWait x o e → (after e v).hold.head ≡ v.hold.head
 wait_head v x o (step.Saw y w) is = refl
@@ -147,27 +149,6 @@ wait_debt d v w x o n (step.State σ) is seen debt = debt
 wait_debt d v w x o n (step.Queue y e) is seen debt = debt
 wait_debt d v w x o n e is seen debt = absurd is
 
--- the step meets its condition
-wait_hands : (d a : ℕ) (front : List Step) (o : Option ℕ) (n : ℕ) (e : Step) → Waits d a front o n
-    → IsOfWait (own a) o e → HandsAt a front e
-wait_hands d a front o n (step.Queue y e) w is = λ xs may on made al c here.
-    let told = order_view a front (record { steps = xs; may = may; on = on; is = made }) in
-    let there : Some (done_head d) ≡ Some (done_head c) = sym w.head ∙ (ap (λ (v : View). v.hold.head) (sym told)
-    ∙ (al.3 ∙ ap (λ (h : ℕ). Some h) here)) in
-    let same : d ≡ c = head_apart c d (cc) in (
-      is.0,
-      ap (λ (i : ℕ). (dealt i a ((table_of xs).history a)).count) (sym same)
-          ∙ (ap (λ (l : List Step). (dealt d a l).count) made ∙ (w.count ∙ is.1)),
-    )
-wait_hands d a front o n (step.Saw y f) w is = λ xs may on made al c. tt
-wait_hands d a front o n (step.Look f) w is = λ xs may on made al c. tt
-wait_hands d a front o n (step.State σ) w is = λ xs may on made al c. tt
-wait_hands d a front o n (step.Load (watch.Done i) r) w is = λ xs may on made al c. tt
-wait_hands d a front o n (step.Publish (watch.Done i) m r) w is = λ xs may on made al c. tt
-wait_hands d a front o n (step.Consume (watch.Done i) m r) w is = λ xs may on made al c. tt
-wait_hands d a front o n (step.Unqueue y) w is = λ xs may on made al c. tt
-wait_hands d a front o n e w is = absurd is
-
 waits_next : (d a : ℕ) (front : List Step) (o : Option ℕ) (n : ℕ) (e : Step) → Waits d a front o n
     → IsOfWait (own a) o e → Waits d a (front ++ e ∷ []) (counted d e o) (still_owed d e n)
 waits_next d a front o n e w is = record {
@@ -185,26 +166,41 @@ waits_next d a front o n e w is = record {
       ∙ wait_debt d (view_of front) (dealt d a front) (own a) o n e is w.seen w.debt;
 }
 
-pub waits_all : (d a : ℕ) (front es : List Step) (o p : Option ℕ) (n m : ℕ) → Waits d a front o n
-    → Deals d (own a) es o n p m → Waits d a (front ++ es) p m × HandsFrom a front es
-waits_all d a front [] o p n m w k = (
-  subst (λ (l : List Step). Waits d a l p m) (sym (append-nil front))
-      (subst (λ (c : Option ℕ). Waits d a front c m) k.0 (subst (λ (i : ℕ). Waits d a front o i) k.1 w)),
-  tt,
-)
-waits_all d a front (e ∷ es) o p n m w k =
-    let rest = waits_all d a (front ++ e ∷ []) es (counted d e o) p (still_owed d e n) m
-    (waits_next d a front o n e w k.0) k.1 in (
-      subst (λ (l : List Step). Waits d a l p m) (append_assoc front (e ∷ []) es) rest.0,
-      (wait_hands d a front o n e w k.0, rest.1),
-    )
+waits_all : (d a : ℕ) (front es : List Step) (o p : Option ℕ) (n m : ℕ) → Waits d a front o n
+    → Deals d (own a) es o n p m → Waits d a (front ++ es) p m
+waits_all d a front [] o p n m w k = subst (λ (l : List Step). Waits d a l p m) (sym (append-nil front))
+    (subst (λ (c : Option ℕ). Waits d a front c m) k.0 (subst (λ (i : ℕ). Waits d a front o i) k.1 w))
+waits_all d a front (e ∷ es) o p n m w k = subst (λ (l : List Step). Waits d a l p m) (append_assoc front (e ∷ []) es)
+    (waits_all d a (front ++ e ∷ []) es (counted d e o) p (still_owed d e n) m (waits_next d a front o n e w k.0) k.1)
 
--- and the unlock where nothing is owed
-pub waits_unlock : (d a : ℕ) (front : List Step) (o : Option ℕ) (sp : Bool) → Waits d a front o 0
-    → HandsAt a front (step.Unlock (done_head d) sp)
-waits_unlock d a front o sp w xs may on made al c here = subst
-    (λ (i : ℕ). MayGiveBack i (own a) ((table_of xs).view a) (dealt i a ((table_of xs).history a)))
-    (head_apart c d here)
-    (subst (λ (v : View). MayGiveBack d (own a) v (dealt d a ((table_of xs).history a)))
-    (sym (order_view a front (record { steps = xs; may = may; on = on; is = made })))
-    (subst (λ (l : List Step). MayGiveBack d (own a) (view_of front) (dealt d a l)) (sym made) (w.seen, inl w.debt)))
+-- a part of a hold
+pub waits_on : (d : ℕ) (old new : Known) (o p : Option ℕ) (n m : ℕ) → Held d old new o n p m → WaitsIn d old o n
+    → WaitsIn d new p m
+waits_on d old new o p n m h w order =
+    let front = order_as old.view.number new (history_of old ++ h.made) h.number h.is order in
+    subst (λ (i : ℕ). Waits d i (history_of new) p m) (sym h.number)
+    (subst (λ (l : List Step). Waits d old.view.number l p m) (sym h.is)
+    (waits_all d old.view.number (history_of old) h.made o p n m
+    (w (order_front old.view.number (history_of old) h.made front)) h.deals))
+
+-- and it may end where nothing is owed
+pub waits_may_end : (d : ℕ) (k : Known) (o : Option ℕ) → k.at ≡ done_head d → WaitsIn d k o 0 → OwesNoPermit k
+waits_may_end d k o at w = inr (λ order.
+    let here = w order in
+    subst (λ (i : ℕ). MayGiveBack i (own k.view.number) (told_of k) (dealt_of i k)) (sym (cell_is k.at d at))
+    (here.seen, inl here.debt))
+
+-- the count is known as 0, and so nothing is owed
+pub zero_waits : (d : ℕ) (k : Known) → HasLoaded d k 0 → WaitsIn d k (Some 0) 0
+zero_waits d k h = subst (λ (n : ℕ). WaitsIn d k (Some 0) n) (h.settled.2 refl) h.waits
+
+pub zero_loaded : (d : ℕ) (k : Known) → WaitsIn d k (Some 0) 0 → HasLoaded d k 0
+zero_loaded d k w = record { owes = 0; settled = (omega arith, (λ end. refl), (λ zero. refl)); waits = w }
+
+pub loaded_on : (d : ℕ) (old new : Known) (n : ℕ) → ((k : ℕ) → Held d old new (Some n) k (Some n) k)
+    → HasLoaded d old n → HasLoaded d new n
+loaded_on d old new n held h = record {
+  owes = h.owes;
+  settled = h.settled;
+  waits = waits_on d old new (Some n) (Some n) h.owes h.owes (held h.owes) h.waits;
+}

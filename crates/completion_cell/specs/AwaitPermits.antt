@@ -1,7 +1,7 @@
 -- To be believed.
--- What a wait for a completion makes of permits, turn by turn.
+-- Where a wait for a completion leaves its own entry, turn by turn.
 use Rattle.std.specs.Prelude.{ℕ, ◌≢◌}
-use Rattle.wait_rule.specs.HandedPermits.{HandsPermits, LeftOff}
+use Rattle.wait_rule.specs.HandedPermits.{LeftOff}
 use Rattle.wait_rule.specs.Known.{Known}
 use Rattle.completion_cell.specs.declared.awaits.AwaitStage.{AwaitStage}
 use Rattle.completion_cell.specs.declared.awaits.AwaitStage.TheVariants as stage
@@ -21,9 +21,7 @@ LandsOff d (turn.Asleep s) k = BeginsOff d s k
 LandsOff d (turn.Locked s) k = BeginsOff d s k
 LandsOff d (turn.Done o) k = LeftOff d k
 
--- A turn of a wait that began so meets the conditions. It leaves no own entry at another completion where none was
--- left.
-pub record HandsTurn (d : ℕ) (old new : Known) (s : AwaitStage) (t : AwaitTurn) : Type 0 where
-  pub hands : BeginsOff d s old → HandsPermits old new
+-- A turn of a wait that began so lands so. It leaves no own entry at another completion where none was left.
+pub record LeavesOff (d : ℕ) (old new : Known) (s : AwaitStage) (t : AwaitTurn) : Type 0 where
   pub lands : BeginsOff d s old → LandsOff d t new
   pub others : (c : ℕ) → c ≢ d → LeftOff c old → LeftOff c new

@@ -1,13 +1,17 @@
 -- For proofs alone.
 -- What the hold of a wait makes of permits, step by step.
-use Rattle.std.specs.Prelude.{ℕ, ◌≡◌, ◌≤◌, ◌==◌, Bool, true, false, if◌then◌else◌, Option, Some, List, [], ◌∷◌, ◌++◌}
+use Rattle.std.specs.Prelude.{ℕ, ◌≡◌, ◌≢◌, ◌≤◌, ◌==◌, if◌then◌else◌, Bool, true, false}
+use Rattle.std.specs.Prelude.{Option, Some, List, [], ◌∷◌, ◌++◌}
 use Rattle.wait_model.specs.declared.layout.TheConstants.{ALL_DONE}
 use Rattle.wait_model.specs.declared.steps.Step.{Step}
 use Rattle.wait_model.specs.declared.steps.Step.TheVariants as step
 use Rattle.wait_model.specs.declared.watches.Aim.{Aim}
 use Rattle.wait_model.specs.declared.watches.Watch.TheVariants as watch
-use Rattle.wait_model.specs.Permits.{after_read, after_store, done_head}
+use Rattle.wait_model.specs.Fold.{view_of}
+use Rattle.wait_model.specs.Permits.{after_read, after_store, dealt, done_head}
 use Rattle.wait_model.specs.Runs.{own}
+use Rattle.wait_model.specs.Views.{unseen}
+use Rattle.wait_rule.specs.HandedPermits.{OrderOf}
 use Rattle.wait_rule.specs.Known.{Known}
 use Rattle.wait_rule.specs.Says.{history_of}
 
@@ -58,7 +62,30 @@ pub record HeldOut (d : ℕ) (old new : Known) (o : Option ℕ) (n : ℕ) : Type
 
 -- a wait that has loaded this count takes what it owes by lowering it by one
 abbrev pub IsSettled : ℕ → ℕ → Type 0
-IsSettled count n = (n ≤ 1) × (ALL_DONE ≤ count → n ≡ 0)
+IsSettled count n = (n ≤ 1) × (ALL_DONE ≤ count → n ≡ 0) × (count ≡ 0 → n ≡ 0)
+
+-- In a hold of the head the task has looked at its own entry, or had left none there; what it knows of the count, and
+-- what it owes.
+pub record Waits (d a : ℕ) (front : List Step) (o : Option ℕ) (n : ℕ) : Type 0 where
+  pub head : (view_of front).hold.head ≡ Some (done_head d)
+  pub seen : (dealt d a front).left ≡ true → (view_of front).hold.book (own a) ≢ unseen
+  pub count : (dealt d a front).count ≡ o
+  pub debt : (dealt d a front).debt ≡ n
+
+abbrev pub WaitsIn : ℕ → Known → Option ℕ → ℕ → Type 0
+WaitsIn d k o n = OrderOf k → Waits d k.view.number (history_of k) o n
+
+-- how a hold stands before its load of the count, and after it
+pub record HasBegun (d : ℕ) (k : Known) : Type 0 where
+  pub knows : Option ℕ
+  pub owes : ℕ
+  pub few : owes ≤ 1
+  pub waits : WaitsIn d k knows owes
+
+pub record HasLoaded (d : ℕ) (k : Known) (count : ℕ) : Type 0 where
+  pub owes : ℕ
+  pub settled : IsSettled count owes
+  pub waits : WaitsIn d k (Some count) owes
 
 -- the own entry is queued, or no place is left for it and the head was given back
 abbrev pub HeldBy : ℕ → Known → Known → Bool → Type 0

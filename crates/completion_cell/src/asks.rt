@@ -3,7 +3,7 @@
 ghost use Rattle.std.specs.Prelude.{◌≡◌, ◌<◌, ◌-◌, not, ◌==◌, MatchBool};
 ghost use Rattle.wait_model.specs.declared.layout.TheConstants.{COMPLETIONS, ALL_DONE};
 ghost use Rattle.wait_rule.specs.Counts.{FindsCount, StoresCount, MayStoreCount};
-ghost use Rattle.wait_rule.specs.HandedPermits.{KeepsPermits};
+ghost use Rattle.wait_rule.specs.HandedPermits.{LeftOff, StaysOff};
 ghost use Rattle.wait_rule.specs.HeldValues.{count_in};
 ghost use Rattle.wait_rule.specs.Says.{IsFree, IsUp, history_of};
 ghost use Rattle.wait_rule.specs.Stays.{Carries};
@@ -20,19 +20,19 @@ use wq_head::{lock, unlock};
 
 /// Whether completion `cell`, below `COMPLETIONS`, is done (kernel/sched/completion.c, `completion_done`): false
 /// exactly where its count is loaded as 0, without the lock. Else a hold of its head waits out a `complete` that is
-/// under way. The task holds no lock; its state, its entries and its bookmark stay, and what it owes. Where the task
-/// has left its own entry off there, what it makes hands permits on (`permits_are_handed_on` of `wait_rule::laws`), and
-/// so it leaves it.
+/// under way. The task holds no lock; its state, its entries and its bookmark stay, and what it owes. Its last hold of
+/// the completion's head, if there was one, left its own entry off, and so does this call.
 pub fn is_done<R: Wait>(rt: &R, domain: &Domain, task: &mut Task, cell: u8) -> bool
     requires of { task.old.domain ≡ domain.now }
     requires up { IsUp task.old }
     requires free { IsFree task.old }
     requires cell { cell < COMPLETIONS }
+    requires left { LeftOff cell task.old }
     ensures asked { HasAsked task.old task.new cell result }
     ensures up { IsUp task.new }
     ensures free { IsFree task.new }
     ensures carries { Carries (hold_change task.new.at) task.old task.new }
-    ensures permits { KeepsPermits cell task.old task.new }
+    ensures off { StaysOff task.old task.new }
 {
     task.told();
     if done_load(domain, task, cell) == 0 {
@@ -50,11 +50,12 @@ pub fn reinit<R: Wait>(rt: &R, domain: &Domain, task: &mut Task, cell: u8)
     requires up { IsUp task.old }
     requires free { IsFree task.old }
     requires cell { cell < COMPLETIONS }
+    requires left { LeftOff cell task.old }
     ensures reset { HasReset task.old task.new cell }
     ensures up { IsUp task.new }
     ensures free { IsFree task.new }
     ensures carries { Carries (hold_change task.new.at) task.old task.new }
-    ensures permits { KeepsPermits cell task.old task.new }
+    ensures off { StaysOff task.old task.new }
 {
     task.told();
     lock(rt, domain, task, head_of(Watch::Done { cell }));
@@ -86,11 +87,12 @@ pub fn try_wait<R: Wait>(rt: &R, domain: &Domain, task: &mut Task, cell: u8) -> 
     requires up { IsUp task.old }
     requires free { IsFree task.old }
     requires cell { cell < COMPLETIONS }
+    requires left { LeftOff cell task.old }
     ensures tried { HasTried task.old task.new cell result }
     ensures up { IsUp task.new }
     ensures free { IsFree task.new }
     ensures carries { Carries (hold_change task.new.at) task.old task.new }
-    ensures permits { KeepsPermits cell task.old task.new }
+    ensures off { StaysOff task.old task.new }
 {
     task.told();
     if done_load(domain, task, cell) == 0 {

@@ -2,7 +2,7 @@
 
 ghost use Rattle.std.specs.Prelude.{◌≡◌, ◌≤◌, ◌<◌, MatchBool};
 ghost use Rattle.wait_model.specs.declared.layout.TheConstants.{COMPLETIONS};
-ghost use Rattle.wait_rule.specs.HandedPermits.{KeepsPermits};
+ghost use Rattle.wait_rule.specs.HandedPermits.{LeftOff, StaysOff};
 ghost use Rattle.wait_rule.specs.Queues.{IsIdle, IsTold, index};
 ghost use Rattle.wait_rule.specs.Says.{IsUp};
 ghost use Rattle.wait_rule.specs.Stays.{Carries};
@@ -12,7 +12,7 @@ ghost use Rattle.completion_cell.specs.declared.awaits.AwaitStage.TheVariants as
 ghost use Rattle.completion_cell.specs.declared.awaits.AwaitTurn.TheVariants as turn;
 ghost use Rattle.completion_cell.specs.Awaits.{Advances, IsAt, IsAsleepAt, IsFresh, TurnsAt, waits_at};
 ghost use Rattle.completion_cell.specs.AwaitEnds.{EndsAwait, end_in};
-ghost use Rattle.completion_cell.specs.AwaitPermits.{HandsTurn};
+ghost use Rattle.completion_cell.specs.AwaitPermits.{BeginsOff, LeavesOff};
 
 use crate::awaits::{
     AwaitOutcome, AwaitRun, AwaitStage, AwaitTurn, draw_ticket, hold, look_own, take_turn,
@@ -42,8 +42,9 @@ fn turn(domain: &Domain, task: &mut Task, run: &mut AwaitRun, stage: AwaitStage)
     requires of { task.old.domain ≡ domain.now }
     requires here { TurnsAt stage }
     requires at { IsAt task.old run.old stage }
+    requires begins { BeginsOff run.old.cell stage task.old }
     ensures on { Advances task.old task.new run.old run.new stage result }
-    ensures permits { HandsTurn run.old.cell task.old task.new stage result }
+    ensures off { LeavesOff run.old.cell task.old task.new stage result }
 {
     let waited = waits_in(stage);
     if take_turn(domain, task, run, waited) {
@@ -58,7 +59,7 @@ fn sleep(domain: &Domain, task: &mut Task, run: AwaitRun) -> AwaitTurn
     requires of { task.old.domain ≡ domain.now }
     requires at { IsAt task.old run stage.Sleep }
     ensures on { Advances task.old task.new run run stage.Sleep result }
-    ensures permits { HandsTurn run.cell task.old task.new stage.Sleep result }
+    ensures off { LeavesOff run.cell task.old task.new stage.Sleep result }
 {
     let _ = run;
     match sleep_try(domain, task) {
@@ -72,13 +73,14 @@ fn sleep(domain: &Domain, task: &mut Task, run: AwaitRun) -> AwaitTurn
 /// Goes on with a wait by one hold, by one look at its ticket, or by one try to sleep, for who may not wait: an
 /// executor, or a caller from another language. At every stage no head is held. Again: it goes on there at once, by the
 /// next call. Locked: it waits for a lock, and goes on there when another number of the head is served. Asleep: it was
-/// put asleep, and goes on there once `woke` has answered true. Done: the wait is over. What it makes hands permits on,
-/// where the task had left its own entry off before the first hold; and so it is left off when the wait is over.
+/// put asleep, and goes on there once `woke` has answered true. Done: the wait is over. Before its first hold the task
+/// has left its own entry off there, and so it has when the wait is over.
 pub fn stretch(domain: &Domain, task: &mut Task, run: &mut AwaitRun, stage: AwaitStage) -> AwaitTurn
     requires of { task.old.domain ≡ domain.now }
     requires at { IsAt task.old run.old stage }
+    requires begins { BeginsOff run.old.cell stage task.old }
     ensures on { Advances task.old task.new run.old run.new stage result }
-    ensures permits { HandsTurn run.old.cell task.old task.new stage result }
+    ensures off { LeavesOff run.old.cell task.old task.new stage result }
 {
     match stage {
         AwaitStage::First => {
@@ -101,7 +103,7 @@ pub fn woke(domain: &Domain, task: &mut Task, run: &AwaitRun, stage: AwaitStage)
     requires asleep { IsAsleepAt task.old run.now stage }
     ensures on { MatchBool result (Advances task.old task.new run.now run.now stage (turn.Again stage))
         (Advances task.old task.new run.now run.now stage (turn.Asleep stage)) }
-    ensures permits { HandsTurn run.now.cell task.old task.new stage (turn.Again stage) }
+    ensures off { LeavesOff run.now.cell task.old task.new stage (turn.Again stage) }
 {
     let _ = (*run, stage);
     awake(domain, task)
@@ -112,7 +114,7 @@ fn rise<R: Wait>(rt: &R, domain: &Domain, task: &mut Task, run: &AwaitRun, stage
     requires of { task.old.domain ≡ domain.now }
     requires asleep { IsAsleepAt task.old run.now stage }
     ensures on { Advances task.old task.new run.now run.now stage (turn.Again stage) }
-    ensures permits { HandsTurn run.now.cell task.old task.new stage (turn.Again stage) }
+    ensures off { LeavesOff run.now.cell task.old task.new stage (turn.Again stage) }
 {
     let _ = (*run, stage);
     task.told();
@@ -138,8 +140,9 @@ pub fn run_await<R: Wait>(
 ) -> AwaitOutcome
     requires of { task.old.domain ≡ domain.now }
     requires at { IsAt task.old run.old stage }
+    requires begins { BeginsOff run.old.cell stage task.old }
     ensures on { Advances task.old task.new run.old run.new stage (turn.Done result) }
-    ensures permits { HandsTurn run.old.cell task.old task.new stage (turn.Done result) }
+    ensures off { LeavesOff run.old.cell task.old task.new stage (turn.Done result) }
 {
     let mut at = stage;
     let mut looks = 0;
@@ -183,8 +186,8 @@ pub fn begin_await(task: &Task, cell: u8, state: SleepState) -> AwaitRun
 /// 4294967295, stays. The own entry waits at the tail. Signal: its last hold loaded the count as 0 (`seen`), and a look
 /// at the own word showed a signal that the state admits; `selected` is that this hold found the entry off that the
 /// call had queued. Worn: no place was left for the entry, in a hold that had loaded 0. The task is idle and has no
-/// entry queued, and so it is afterwards; it owes what it owed. Where the task has left its own entry off there, what
-/// it makes hands permits on (`permits_are_handed_on` of `wait_rule::laws`), and so it leaves it.
+/// entry queued, and so it is afterwards; it owes what it owed. Its last hold of the completion's head, if there was
+/// one, left its own entry off, and so does this call.
 pub fn wait_for<R: Wait>(
     rt: &R,
     domain: &Domain,
@@ -197,12 +200,13 @@ pub fn wait_for<R: Wait>(
     requires idle { IsIdle task.old }
     requires cell { cell < COMPLETIONS }
     requires out { IsOut task.old }
+    requires left { LeftOff cell task.old }
     ensures waited { EndsAwait task.old task.new cell state result }
     ensures up { IsUp task.new }
     ensures idle { IsIdle task.new }
     ensures out { IsOut task.new }
     ensures carries { Carries (wait_change (index task.old.view.number 0) task.new.at) task.old task.new }
-    ensures permits { KeepsPermits cell task.old task.new }
+    ensures off { StaysOff task.old task.new }
 {
     let mut run = begin_await(task, cell, state);
     let outcome = run_await(rt, domain, task, &mut run, AwaitStage::First);

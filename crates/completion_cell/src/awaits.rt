@@ -21,7 +21,8 @@ ghost use Rattle.completion_cell.specs.Awaits.{Draws, EndsAs, Enters, LooksFirst
 ghost use Rattle.completion_cell.specs.Awaits.{TakesTurn, turn_post};
 ghost use Rattle.wait_event.specs.Waits.{EndsWith};
 ghost use Rattle.completion_cell.specs.Awaits.{await_call, await_watch, post_of};
-ghost use Rattle.completion_cell.specs.HeldPermits.{Held, HeldBy, HeldOut, IsSettled, LocksBy, LooksBy};
+ghost use Rattle.completion_cell.specs.HeldPermits.{HasBegun, HasLoaded, Held, HeldBy, HeldOut, IsSettled};
+ghost use Rattle.completion_cell.specs.HeldPermits.{LocksBy, LooksBy};
 
 use crate::asks::take_one;
 use wait_model::heads::head_of;
@@ -174,6 +175,7 @@ fn take(domain: &Domain, task: &mut Task, run: AwaitRun, off: bool, count: u32)
     requires of { task.old.domain ≡ domain.now }
     requires may { MayEnd task.old run off false count }
     requires some { count ≢ 0 }
+    requires permits { HasLoaded run.cell task.old count }
     ensures ends { EndsAs task.old task.new run off false zero_answer }
     ensures deals { (n : ℕ) → IsSettled count n → HeldOut run.cell task.old task.new (Some count) n }
 {
@@ -186,6 +188,7 @@ fn take(domain: &Domain, task: &mut Task, run: AwaitRun, off: bool, count: u32)
 fn give_up(domain: &Domain, task: &mut Task, run: AwaitRun, off: bool)
     requires of { task.old.domain ≡ domain.now }
     requires may { MayEnd task.old run off true 0 }
+    requires permits { HasLoaded run.cell task.old 0 }
     ensures ends { EndsAs task.old task.new run off true signalled }
     ensures history { history_of task.new ≡ history_of task.old ++ step.Unlock task.old.at false ∷ [] }
 {
@@ -199,6 +202,7 @@ fn enter(domain: &Domain, task: &mut Task, run: &mut AwaitRun) -> bool
     requires of { task.old.domain ≡ domain.now }
     requires at { StandsAt task.old run.old (post_of run.old (at.Prepare preparing.Queue)) }
     requires zero { Counts task.old run.old 0 }
+    requires permits { HasLoaded run.old.cell task.old 0 }
     ensures enters { Enters task.old task.new run.old run.new result }
     ensures deals { HeldBy run.old.cell task.old task.new result }
 {
@@ -227,6 +231,7 @@ fn prepare(domain: &Domain, task: &mut Task, run: &mut AwaitRun) -> AwaitTurn
     requires of { task.old.domain ≡ domain.now }
     requires at { StandsAt task.old run.old (post_of run.old (at.Prepare preparing.Queue)) }
     requires zero { Counts task.old run.old 0 }
+    requires permits { HasLoaded run.old.cell task.old 0 }
     ensures reaches { Reaches task.old task.new run.old run.new (at.Prepare preparing.Queue) result }
     ensures deals { HeldOut run.old.cell task.old task.new (Some 0) 0 }
 {
@@ -243,6 +248,7 @@ fn leave(domain: &Domain, task: &mut Task, run: &mut AwaitRun)
     requires at { StandsAt task.old run.old (post_of run.old (at.Await (awaiting.Run true))) }
     requires zero { Counts task.old run.old 0 }
     requires saw { SawSignal task.old run.old }
+    requires permits { HasLoaded run.old.cell task.old 0 }
     ensures reaches { Reaches task.old task.new run.old run.new (at.Await (awaiting.Run true))
         (turn.Done outcome.Signalled) }
     ensures deals { HeldOut run.old.cell task.old task.new (Some 0) 0 }
@@ -259,6 +265,7 @@ fn finish(domain: &Domain, task: &mut Task, run: AwaitRun, count: u32)
     requires at { StandsAt task.old run (post_of run (at.Await (awaiting.Run false))) }
     requires counts { Counts task.old run count }
     requires some { count ≢ 0 }
+    requires permits { HasLoaded run.cell task.old count }
     ensures part { Part task.old task.new run run (at.Await (awaiting.Run false)) (next.Ends zero_answer) }
     ensures deals { (n : ℕ) → IsSettled count n → HeldOut run.cell task.old task.new (Some count) n }
 {
@@ -288,6 +295,7 @@ fn wait_on(domain: &Domain, task: &mut Task, run: &mut AwaitRun) -> AwaitTurn
     requires at { StandsAt task.old run.old (post_of run.old (prepares_from (await_call run.old))) }
     requires zero { Counts task.old run.old 0 }
     requires loaded { EndsWith task.old (step.Load (watch.Done run.old.cell) 0 ∷ []) }
+    requires permits { HasLoaded run.old.cell task.old 0 }
     ensures reaches { Reaches task.old task.new run.old run.new (prepares_from (await_call run.old)) result }
     ensures deals { HeldOut run.old.cell task.old task.new (Some 0) 0 }
 {
@@ -304,6 +312,7 @@ fn take_on(domain: &Domain, task: &mut Task, run: AwaitRun, waited: bool, count:
     requires at { StandsAt task.old run (post_of run (await_after (await_call run) waited false)) }
     requires counts { Counts task.old run count }
     requires some { count ≢ 0 }
+    requires permits { HasLoaded run.cell task.old count }
     ensures part { Part task.old task.new run run (await_after (await_call run) waited false) (next.Ends zero_answer) }
     ensures deals { (n : ℕ) → IsSettled count n → HeldOut run.cell task.old task.new (Some count) n }
 {
@@ -333,6 +342,7 @@ pub(crate) fn look_own(domain: &Domain, task: &mut Task, run: AwaitRun, waited: 
 pub(crate) fn hold(domain: &Domain, task: &mut Task, run: &mut AwaitRun, waited: bool) -> AwaitTurn
     requires of { task.old.domain ≡ domain.now }
     requires at { StandsAt task.old run.old (post_of run.old (at.Await (awaiting.Load waited))) }
+    requires begun { HasBegun run.old.cell task.old }
     ensures reaches { Reaches task.old task.new run.old run.new (at.Await (awaiting.Load waited)) result }
     ensures deals { (o : Option ℕ) (n : ℕ) → n ≤ 1 → HeldOut run.old.cell task.old task.new o n }
 {

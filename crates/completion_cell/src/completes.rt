@@ -5,7 +5,7 @@ ghost use Rattle.wait_model.specs.declared.layout.TheConstants.{COMPLETIONS};
 ghost use Rattle.wait_model.specs.declared.watches.Mode.TheVariants as mode;
 ghost use Rattle.wait_model.specs.declared.watches.Watch.TheVariants as watch;
 ghost use Rattle.wait_rule.specs.Counts.{StoresCount};
-ghost use Rattle.wait_rule.specs.HandedPermits.{KeepsPermits};
+ghost use Rattle.wait_rule.specs.HandedPermits.{LeftOff, StaysOff};
 ghost use Rattle.wait_rule.specs.Says.{IsFree, IsUp};
 ghost use Rattle.wait_rule.specs.Stays.{Carries};
 ghost use Rattle.wait_event.specs.Conds.{set_change};
@@ -38,19 +38,20 @@ fn raise_one(domain: &Domain, task: &mut Task, cell: u8, count: u32) -> bool
 
 /// Completes completion `cell`, below `COMPLETIONS`, for one waiter (kernel/sched/completion.c, `complete`): in one
 /// hold of its head the count is raised by one, unless it is at its end, 4294967295, and the first waiter is woken and
-/// taken off its queue. The task holds no lock; its state, its entries and its bookmark stay, and what it owes. Where
-/// the task has left its own entry off there, the permit that it makes is handed on, unless nobody is queued
-/// (`permits_are_handed_on` of `wait_rule::laws`), and so it leaves it.
+/// taken off its queue. So the permit that it makes is handed on, unless nobody is queued (`permits_are_handed_on` of
+/// `wait_rule::laws`). The task holds no lock; its state, its entries and its bookmark stay, and what it owes. Its last
+/// hold of the completion's head, if there was one, left its own entry off, and so does this call.
 pub fn complete<R: Wait>(rt: &R, domain: &Domain, task: &mut Task, cell: u8)
     requires of { task.old.domain ≡ domain.now }
     requires up { IsUp task.old }
     requires free { IsFree task.old }
     requires cell { cell < COMPLETIONS }
+    requires left { LeftOff cell task.old }
     ensures completed { HasCompleted task.old task.new cell }
     ensures up { IsUp task.new }
     ensures free { IsFree task.new }
     ensures carries { Carries (set_change (watch.Done cell) mode.Normal task.new.at) task.old task.new }
-    ensures permits { KeepsPermits cell task.old task.new }
+    ensures off { StaysOff task.old task.new }
 {
     task.told();
     let head = head_of(Watch::Done { cell });
@@ -71,11 +72,12 @@ pub fn complete_all<R: Wait>(rt: &R, domain: &Domain, task: &mut Task, cell: u8)
     requires up { IsUp task.old }
     requires free { IsFree task.old }
     requires cell { cell < COMPLETIONS }
+    requires left { LeftOff cell task.old }
     ensures completed { HasCompletedAll task.old task.new cell }
     ensures up { IsUp task.new }
     ensures free { IsFree task.new }
     ensures carries { Carries (set_change (watch.Done cell) mode.Normal task.new.at) task.old task.new }
-    ensures permits { KeepsPermits cell task.old task.new }
+    ensures off { StaysOff task.old task.new }
 {
     task.told();
     let head = head_of(Watch::Done { cell });

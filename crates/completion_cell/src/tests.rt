@@ -1,5 +1,7 @@
-//! Completions: one task alone, by threads, and by stretches on one thread.
+//! Completions: one task alone, and between other calls, by threads, and by stretches on one thread.
 
 mod alone;
+mod calls;
+mod others;
 mod stretches;
 mod threads;

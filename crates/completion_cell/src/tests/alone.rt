@@ -1,8 +1,6 @@
 //! One task alone: each call once, with what it answers where nobody else is there.
 
-use crate::asks::{is_done, reinit, try_wait};
-use crate::await_calls::wait_for;
-use crate::completes::{complete, complete_all};
+use crate::tests::calls::{complete, complete_all, is_done, reinit, try_wait, wait_for};
 use std::test::Fail;
 use wait_model::tasks::SleepState;
 use wait_rule::Domain;
@@ -15,7 +13,7 @@ const CELL: u8 = 1;
 fn one_is_taken(rt: HostRuntime) -> Result<(), Fail> {
     let (domain, mut task) = Domain::new(rt.alloc())?;
     complete(&rt, &domain, &mut task, CELL);
-    assert!(rt; wait_for(&rt, &domain, &mut task, CELL, SleepState::Interruptible).is_ok());
+    assert!(rt; wait_for(&rt, &domain, &mut task, CELL, SleepState::Interruptible));
     assert!(rt; !try_wait(&rt, &domain, &mut task, CELL));
     assert!(rt; !is_done(&rt, &domain, &mut task, CELL));
     Ok(())

@@ -9,7 +9,7 @@ returns-clause-on g c = rose c.args.task.now c.wait_up.new.task c.args.run.now c
     c.told.ensures
     c.told-2.ensures c.wait_up.ensures
 
-pub returns-clause-permits : goal.returns-clause-permits
-returns-clause-permits g c = still_again c.args.run.now.cell c.args.task.now c.wait_up.new.task
+pub returns-clause-off : goal.returns-clause-off
+returns-clause-off g c = still_again c.args.run.now.cell c.args.task.now c.wait_up.new.task
     (rose_history c.args.task.now c.wait_up.new.task c.wait_up.ensures)
     (ap (λ (k : Known). k.view.number) c.wait_up.ensures.is) c.args.stage

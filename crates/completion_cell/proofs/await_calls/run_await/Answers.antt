@@ -2,7 +2,7 @@ use Rattle.std.proofs.Common.{refl}
 use Rattle.completion_cell.specs.declared.awaits.AwaitTurn.TheVariants as turn
 use Rattle.completion_cell.proofs.Sleeps.{stays_at}
 use Rattle.completion_cell.proofs.Stretches.{advances_on, goes_again}
-use Rattle.completion_cell.proofs.TurnPermits.{asleep_again, locked_again, turns_on}
+use Rattle.completion_cell.proofs.TurnPermits.{asleep_again, goes_begun, locked_again, turns_on}
 use Rattle.completion_cell.proofs.WaitTurns.{still_again}
 use Rattle.completion_cell.proofs.await_calls.run_await.Goals as goal
 
@@ -18,7 +18,7 @@ loop-preserved-in-Again g c =
       advances_on c.args.task.now c.loop.task c.stretch.new.task c.args.run.now c.loop.run c.stretch.new.run
           c.args.stage c.loop.at (turn.Again c.in-Again.next) i.0.went c.in-Again.ensures.on,
       turns_on c.args.task.now c.loop.task c.stretch.new.task c.args.run.now c.loop.run c.args.stage c.loop.at
-          (turn.Again c.in-Again.next) i.0.went.keeps.number i.0.went.cell i.1 c.in-Again.ensures.permits,
+          (turn.Again c.in-Again.next) i.0.went.cell i.1 c.in-Again.ensures.off,
     )
 
 pub loop-preserved-in-Asleep : goal.loop-preserved-in-Asleep
@@ -27,13 +27,13 @@ loop-preserved-in-Asleep g c =
     let a = advances_on c.args.task.now c.loop.task c.stretch.new.task c.args.run.now c.loop.run c.stretch.new.run
     c.args.stage c.loop.at (turn.Asleep c.in-Asleep.next) i.0.went c.in-Asleep.ensures.on in
     let p = turns_on c.args.task.now c.loop.task c.stretch.new.task c.args.run.now c.loop.run c.args.stage c.loop.at
-    (turn.Asleep c.in-Asleep.next) i.0.went.keeps.number i.0.went.cell i.1 c.in-Asleep.ensures.permits in (
+    (turn.Asleep c.in-Asleep.next) i.0.went.cell i.1 c.in-Asleep.ensures.off in (
       advances_on c.args.task.now c.stretch.new.task c.rise.new.task c.args.run.now c.stretch.new.run
           c.stretch.new.run c.args.stage c.in-Asleep.next (turn.Again c.in-Asleep.next) a.went c.rise.ensures.on,
       turns_on c.args.task.now c.stretch.new.task c.rise.new.task c.args.run.now c.stretch.new.run c.args.stage
-          c.in-Asleep.next (turn.Again c.in-Asleep.next) a.went.keeps.number a.went.cell
+          c.in-Asleep.next (turn.Again c.in-Asleep.next) a.went.cell
           (asleep_again c.args.run.now.cell c.args.task.now c.stretch.new.task c.args.stage c.in-Asleep.next p)
-          c.rise.ensures.permits,
+          c.rise.ensures.off,
     )
 
 pub pause-looks-requires : goal.pause-looks-requires
@@ -47,7 +47,7 @@ loop-preserved g c =
           c.args.stage c.loop.at (turn.Locked c.in-Locked.next) i.0.went c.in-Locked.ensures.on),
       locked_again c.args.run.now.cell c.args.task.now c.stretch.new.task c.args.stage c.in-Locked.next
           (turns_on c.args.task.now c.loop.task c.stretch.new.task c.args.run.now c.loop.run c.args.stage c.loop.at
-          (turn.Locked c.in-Locked.next) i.0.went.keeps.number i.0.went.cell i.1 c.in-Locked.ensures.permits),
+          (turn.Locked c.in-Locked.next) i.0.went.cell i.1 c.in-Locked.ensures.off),
     )
 
 pub returns-in-Done-clause-on : goal.returns-in-Done-clause-on
@@ -56,8 +56,14 @@ returns-in-Done-clause-on g c =
     advances_on c.args.task.now c.loop.task c.stretch.new.task c.args.run.now c.loop.run c.stretch.new.run
     c.args.stage c.loop.at (turn.Done c.in-Done.outcome) i.0.went c.in-Done.ensures.on
 
-pub returns-in-Done-clause-permits : goal.returns-in-Done-clause-permits
-returns-in-Done-clause-permits g c =
+pub returns-in-Done-clause-off : goal.returns-in-Done-clause-off
+returns-in-Done-clause-off g c =
     let i = c.loop.invariant in
     turns_on c.args.task.now c.loop.task c.stretch.new.task c.args.run.now c.loop.run c.args.stage c.loop.at
-    (turn.Done c.in-Done.outcome) i.0.went.keeps.number i.0.went.cell i.1 c.in-Done.ensures.permits
+    (turn.Done c.in-Done.outcome) i.0.went.cell i.1 c.in-Done.ensures.off
+
+pub stretch-requires-clause-begins : goal.stretch-requires-clause-begins
+stretch-requires-clause-begins g c =
+    let i = c.loop.invariant in
+    goes_begun c.args.task.now c.loop.task c.args.run.now c.loop.run c.args.stage c.loop.at i.0.went.cell i.1
+    c.requires.begins

@@ -29,24 +29,24 @@ returns-in-Some-Signal-clause-on c =
     sleep_up c.args.task.now c.sleep_try.new.task c.args.run c.requires.at s.0 s.2
     c.in-Some-Signal.field-0 s.3 (inr c.in-Some-Signal.field-0-is)
 
-pub returns-in-None-clause-permits : goal.returns-in-None-clause-permits
-returns-in-None-clause-permits c = still_again c.args.run.cell c.args.task.now c.sleep_try.new.task
+pub returns-in-None-clause-off : goal.returns-in-None-clause-off
+returns-in-None-clause-off c = still_again c.args.run.cell c.args.task.now c.sleep_try.new.task
     (ap history_of c.in-None.ensures.same) (ap (λ (k : Known). k.view.number) c.in-None.ensures.same) stage.Sleep
 
-pub returns-in-Some-Asleep-clause-permits : goal.returns-in-Some-Asleep-clause-permits
-returns-in-Some-Asleep-clause-permits c =
+pub returns-in-Some-Asleep-clause-off : goal.returns-in-Some-Asleep-clause-off
+returns-in-Some-Asleep-clause-off c =
     let s = c.in-Some-Asleep.ensures.step in
     sleep_turn c.args.run.cell c.args.task.now c.sleep_try.new.task s.0 s.2 c.requires.at.stands.told
     (turn.Asleep stage.Again) tt
 
-pub returns-in-Some-Stay-clause-permits : goal.returns-in-Some-Stay-clause-permits
-returns-in-Some-Stay-clause-permits c =
+pub returns-in-Some-Stay-clause-off : goal.returns-in-Some-Stay-clause-off
+returns-in-Some-Stay-clause-off c =
     let s = c.in-Some-Stay.ensures.step in
     sleep_turn c.args.run.cell c.args.task.now c.sleep_try.new.task s.0 s.2 c.requires.at.stands.told
     (turn.Again stage.Again) tt
 
-pub returns-in-Some-Signal-clause-permits : goal.returns-in-Some-Signal-clause-permits
-returns-in-Some-Signal-clause-permits c =
+pub returns-in-Some-Signal-clause-off : goal.returns-in-Some-Signal-clause-off
+returns-in-Some-Signal-clause-off c =
     let s = c.in-Some-Signal.ensures.step in
     sleep_turn c.args.run.cell c.args.task.now c.sleep_try.new.task s.0 s.2 c.requires.at.stands.told
     (turn.Again stage.Again) tt

@@ -1,6 +1,6 @@
 use Rattle.completion_cell.proofs.Stretches.{hold_stands, holds_on, stays_locked, turn_stands}
 use Rattle.completion_cell.proofs.OwnLooks.{looked_on}
-use Rattle.completion_cell.proofs.TurnPermits.{turn_made, turn_missed}
+use Rattle.completion_cell.proofs.TurnPermits.{turn_begins, turn_made, turn_missed}
 use Rattle.completion_cell.proofs.await_calls.turn.Goals as goal
 
 pub take_turn-requires-clause-at : goal.take_turn-requires-clause-at
@@ -30,14 +30,20 @@ returns-clause-on c = stays_locked c.args.stage c.requires.here c.waits_in-waite
     c.args.task.now c.take_turn.new.task c.args.run.now c.take_turn.new.run c.take_turn.result
     c.if-take_turn.false c.take_turn.ensures.takes
 
-pub returns-then-take_turn-clause-permits : goal.returns-then-take_turn-clause-permits
-returns-then-take_turn-clause-permits c = turn_made c.args.stage c.requires.here c.waits_in-waited.result
+pub returns-then-take_turn-clause-off : goal.returns-then-take_turn-clause-off
+returns-then-take_turn-clause-off c = turn_made c.args.stage c.requires.here c.waits_in-waited.result
     c.waits_in-waited.ensures c.args.task.now c.take_turn.new.task c.args.run.now c.take_turn.new.run
     c.take_turn.result c.take_turn.ensures.takes c.take_turn.ensures.locks c.if-take_turn.true c.requires.at
     c.look_own.new.task c.hold.new.task c.hold.new.run c.hold.result c.look_own.ensures.part c.look_own.ensures.looks
     c.hold.ensures.deals c.hold.ensures.reaches.lands
 
-pub returns-clause-permits : goal.returns-clause-permits
-returns-clause-permits c = turn_missed c.args.stage c.requires.here c.waits_in-waited.result
+pub returns-clause-off : goal.returns-clause-off
+returns-clause-off c = turn_missed c.args.stage c.requires.here c.waits_in-waited.result
     c.waits_in-waited.ensures c.args.task.now c.take_turn.new.task c.args.run.now c.take_turn.new.run
     c.take_turn.result c.take_turn.ensures.takes c.take_turn.ensures.locks c.if-take_turn.false
+
+pub hold-requires-clause-begun : goal.hold-requires-clause-begun
+hold-requires-clause-begun c = turn_begins c.args.stage c.requires.here c.waits_in-waited.result
+    c.waits_in-waited.ensures c.args.task.now c.take_turn.new.task c.args.run.now c.take_turn.new.run
+    c.take_turn.result c.take_turn.ensures.takes c.take_turn.ensures.locks c.if-take_turn.true c.look_own.new.task
+    c.look_own.ensures.part c.look_own.ensures.looks c.requires.begins

@@ -2,7 +2,7 @@ use Rattle.std.proofs.Common.{◌∙◌, subst, sym}
 use Rattle.completion_cell.specs.AwaitEnds.{EndsAwait}
 use Rattle.completion_cell.specs.declared.awaits.AwaitStage.TheVariants as stage
 use Rattle.completion_cell.proofs.Endings.{ends_await, ends_carried, ends_idle, ends_out, ends_up}
-use Rattle.completion_cell.proofs.TurnPermits.{wait_keeps}
+use Rattle.completion_cell.proofs.TurnPermits.{wait_begins, wait_keeps}
 use Rattle.completion_cell.proofs.await_calls.wait_for.Goals as goal
 
 pub returns-clause-waited : goal.returns-clause-waited
@@ -29,6 +29,10 @@ returns-clause-carries g c = ends_carried c.args.task.now c.run_await-outcome.ne
     c.run_await-outcome.new.run stage.First c.run_await-outcome.result c.run_await-outcome.ensures.on c.requires.up
     c.requires.idle (c.begin_await-run.ensures.told.head ∙ c.requires.idle.free.head)
 
-pub returns-clause-permits : goal.returns-clause-permits
-returns-clause-permits g c = wait_keeps c.args.task.now c.run_await-outcome.new.task c.begin_await-run.result
-    c.args.cell c.run_await-outcome.result c.begin_await-run.ensures.fresh.cell c.run_await-outcome.ensures.permits
+pub returns-clause-off : goal.returns-clause-off
+returns-clause-off g c = wait_keeps c.args.task.now c.run_await-outcome.new.task c.begin_await-run.result
+    c.args.cell c.run_await-outcome.result c.begin_await-run.ensures.fresh.cell c.run_await-outcome.ensures.off
+
+pub run_await-outcome-requires-clause-begins : goal.run_await-outcome-requires-clause-begins
+run_await-outcome-requires-clause-begins g c = wait_begins c.args.cell c.args.task.now c.begin_await-run.result
+    c.begin_await-run.ensures.fresh.cell c.requires.left

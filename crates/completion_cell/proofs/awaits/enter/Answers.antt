@@ -9,7 +9,7 @@ use Rattle.completion_cell.proofs.Queues.{
   suits,
   worn_advances,
 }
-use Rattle.completion_cell.proofs.WaitParts.{join_deals, stay_deals, worn_deals}
+use Rattle.completion_cell.proofs.WaitParts.{found_zero, join_deals, stay_deals, worn_deals, worn_owes_none}
 use Rattle.completion_cell.proofs.awaits.enter.Goals as goal
 
 pub returns-then-is_some-clause-enters : goal.returns-then-is_some-clause-enters
@@ -60,6 +60,16 @@ returns-in-Ok-clause-deals c = join_deals c.args.task.now c.own_entry-entry.new.
 
 pub returns-in-Err-clause-deals : goal.returns-in-Err-clause-deals
 returns-in-Err-clause-deals c = worn_deals c.args.task.now c.own_entry-entry.new.task c.add_tail.new.task
-    c.own_entry.new.task c.give_back.new.task c.args.run.now c.own_entry-entry.result c.own_entry-entry.ensures
+    c.own_entry.new.task c.args.run.now c.own_entry-entry.result c.own_entry-entry.ensures
     c.requires.at c.in-Err.worn c.in-Err.ensures.worn c.in-Err.ensures.held c.own_entry.result c.own_entry.ensures
-    c.give_back.ensures
+    c.give_back.new.task c.give_back.ensures
+
+pub give_back-requires-clause-permits : goal.give_back-requires-clause-permits
+give_back-requires-clause-permits c = worn_owes_none c.args.task.now c.own_entry-entry.new.task c.add_tail.new.task
+    c.own_entry.new.task c.args.run.now c.own_entry-entry.result c.own_entry-entry.ensures
+    c.requires.at c.in-Err.worn c.in-Err.ensures.worn c.in-Err.ensures.held c.own_entry.result c.own_entry.ensures
+    c.requires.permits
+
+pub add_tail-requires-clause-permits : goal.add_tail-requires-clause-permits
+add_tail-requires-clause-permits c = found_zero c.args.task.now c.own_entry-entry.new.task c.args.run.now
+    c.own_entry-entry.result c.own_entry-entry.ensures c.requires.at c.requires.zero

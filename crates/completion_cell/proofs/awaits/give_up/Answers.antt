@@ -1,4 +1,6 @@
+use Rattle.std.specs.Prelude.{true}
 use Rattle.wait_event.proofs.Events.Trails.{unlocked_history}
+use Rattle.completion_cell.proofs.WaitParts.{zero_owes_none}
 use Rattle.completion_cell.proofs.Ends.{stopped_ends}
 use Rattle.completion_cell.proofs.awaits.give_up.Goals as goal
 
@@ -8,3 +10,7 @@ returns-clause-ends c = stopped_ends c.args.task.now c.args.run 0 c.give_back.ne
 
 pub returns-clause-history : goal.returns-clause-history
 returns-clause-history c = unlocked_history c.args.task.now c.give_back.new.task c.give_back.ensures
+
+pub give_back-requires-clause-permits : goal.give_back-requires-clause-permits
+give_back-requires-clause-permits c = zero_owes_none c.args.task.now c.args.run c.args.off true c.requires.may
+    c.requires.permits

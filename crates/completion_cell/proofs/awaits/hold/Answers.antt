@@ -1,7 +1,8 @@
 use Rattle.std.proofs.Common.{subst}
 use Rattle.completion_cell.specs.Awaits.{Counts}
+use Rattle.completion_cell.specs.HeldPermits.{HasLoaded}
 use Rattle.completion_cell.proofs.Holds.{hold_some, hold_zero, some_stands, zero_loaded, zero_stands}
-use Rattle.completion_cell.proofs.WaitParts.{hold_none_deals, hold_some_deals}
+use Rattle.completion_cell.proofs.WaitParts.{hold_none_deals, hold_some_deals, load_loaded}
 use Rattle.completion_cell.proofs.awaits.hold.Goals as goal
 
 pub wait_on-requires-clause-at : goal.wait_on-requires-clause-at
@@ -38,3 +39,14 @@ pub returns-clause-deals : goal.returns-clause-deals
 returns-clause-deals c = hold_some_deals c.args.task.now c.load_count-count.new.task c.take_on.new.task
     c.args.run.now.cell c.load_count-count.result c.load_count-count.ensures.history
     c.load_count-count.ensures.part.went.keeps.number c.take_on.ensures.deals
+
+pub wait_on-requires-clause-permits : goal.wait_on-requires-clause-permits
+wait_on-requires-clause-permits c = subst (HasLoaded c.args.run.now.cell c.load_count-count.new.task)
+    c.if-count-eq0.true (load_loaded c.args.run.now.cell c.args.task.now c.load_count-count.new.task
+    c.load_count-count.result c.load_count-count.ensures.history
+    c.load_count-count.ensures.part.went.keeps.number c.requires.begun)
+
+pub take_on-requires-clause-permits : goal.take_on-requires-clause-permits
+take_on-requires-clause-permits c = load_loaded c.args.run.now.cell c.args.task.now c.load_count-count.new.task
+    c.load_count-count.result c.load_count-count.ensures.history
+    c.load_count-count.ensures.part.went.keeps.number c.requires.begun

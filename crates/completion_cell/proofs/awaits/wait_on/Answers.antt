@@ -1,6 +1,7 @@
 use Rattle.std.specs.Prelude.{true, false, Some}
 use Rattle.completion_cell.specs.declared.awaits.AwaitOutcome.TheVariants as outcome
 use Rattle.completion_cell.specs.declared.awaits.AwaitTurn.TheVariants as turn
+use Rattle.completion_cell.proofs.WaitParts.{looked_loaded}
 use Rattle.completion_cell.proofs.Holds.{look_hits, look_misses, reaches_on}
 use Rattle.completion_cell.proofs.HeldSteps.{held_then_out}
 use Rattle.completion_cell.proofs.awaits.wait_on.Goals as goal
@@ -40,3 +41,11 @@ returns-then-look_first-clause-deals c = held_then_out c.args.run.now.cell c.arg
 pub returns-clause-deals : goal.returns-clause-deals
 returns-clause-deals c = held_then_out c.args.run.now.cell c.args.task.now c.look_first.new.task
     c.prepare.new.task (Some 0) (Some 0) 0 0 c.look_first.ensures.deals c.prepare.ensures.deals
+
+pub leave-requires-clause-permits : goal.leave-requires-clause-permits
+leave-requires-clause-permits c = looked_loaded c.args.run.now.cell c.args.task.now c.look_first.new.task
+    c.look_first.ensures.deals c.requires.permits
+
+pub prepare-requires-clause-permits : goal.prepare-requires-clause-permits
+prepare-requires-clause-permits c = looked_loaded c.args.run.now.cell c.args.task.now c.look_first.new.task
+    c.look_first.ensures.deals c.requires.permits

@@ -11,8 +11,9 @@ use Rattle.completion_cell.proofs.Completing.{
   done_simple,
   has_completed,
 }
-use Rattle.completion_cell.proofs.CallPermits.{complete_keeps}
+use Rattle.completion_cell.proofs.CallPermits.{complete_hold}
 use Rattle.completion_cell.proofs.Ground.{head_there}
+use Rattle.completion_cell.proofs.Permits.{ends_off, ends_owing_none}
 use Rattle.completion_cell.proofs.completes.complete.Goals as goal
 
 pub lock-requires-clause-head : goal.lock-requires-clause-head
@@ -81,10 +82,10 @@ returns-clause-carries g c = complete_carried c.args.task.now c.lock.new.task c.
     c.select-selected.ensures.keeps c.unlock.ensures.unlocked
     c.unlock.ensures.carries
 
-pub returns-clause-permits : goal.returns-clause-permits
-returns-clause-permits g c = complete_keeps c.args.task.now c.lock.new.task c.done_load-count.new.task
-    c.raise_one.new.task c.select-selected.new.task c.unlock.new.task c.args.cell
-    c.done_load-count.result c.select-selected.result c.head_of-head.result
+pub unlock-requires-clause-permits : goal.unlock-requires-clause-permits
+unlock-requires-clause-permits g c = ends_owing_none c.args.cell c.args.task.now c.select-selected.new.task
+    (complete_hold c.args.task.now c.lock.new.task c.done_load-count.new.task c.raise_one.new.task
+    c.select-selected.new.task c.args.cell c.done_load-count.result c.select-selected.result c.head_of-head.result
     c.head_of-head.ensures c.requires.free c.told.ensures c.lock.ensures.locked c.lock.ensures.carries
     c.done_load-count.ensures.step c.done_load-count.ensures.carries
     (complete_counted c.args.task.now c.lock.new.task c.done_load-count.new.task
@@ -92,5 +93,20 @@ returns-clause-permits g c = complete_keeps c.args.task.now c.lock.new.task c.do
     c.head_of-head.ensures c.requires.free c.told.ensures c.lock.ensures.locked c.lock.ensures.simple
     c.lock.ensures.carries c.done_load-count.ensures.step c.done_load-count.ensures.finds
     c.done_load-count.ensures.carries)
-    c.raise_one.result c.raise_one.ensures.stores
-    c.select-selected.ensures.selected c.select-selected.ensures.carries c.unlock.ensures.unlocked
+    c.raise_one.result c.raise_one.ensures.stores c.select-selected.ensures.selected c.select-selected.ensures.carries)
+    c.requires.left
+
+pub returns-clause-off : goal.returns-clause-off
+returns-clause-off g c = ends_off c.args.cell c.args.task.now c.select-selected.new.task c.unlock.new.task
+    (c.select-selected.result == 1)
+    (complete_hold c.args.task.now c.lock.new.task c.done_load-count.new.task c.raise_one.new.task
+    c.select-selected.new.task c.args.cell c.done_load-count.result c.select-selected.result c.head_of-head.result
+    c.head_of-head.ensures c.requires.free c.told.ensures c.lock.ensures.locked c.lock.ensures.carries
+    c.done_load-count.ensures.step c.done_load-count.ensures.carries
+    (complete_counted c.args.task.now c.lock.new.task c.done_load-count.new.task
+    c.args.task.now c.args.task.now c.args.task.now c.args.cell c.done_load-count.result 0 c.head_of-head.result
+    c.head_of-head.ensures c.requires.free c.told.ensures c.lock.ensures.locked c.lock.ensures.simple
+    c.lock.ensures.carries c.done_load-count.ensures.step c.done_load-count.ensures.finds
+    c.done_load-count.ensures.carries)
+    c.raise_one.result c.raise_one.ensures.stores c.select-selected.ensures.selected c.select-selected.ensures.carries)
+    c.unlock.ensures.unlocked.is

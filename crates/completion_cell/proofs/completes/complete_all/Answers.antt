@@ -1,4 +1,4 @@
-use Rattle.std.proofs.Common.{◌<◌, ◌≤◌, ℕ, sym, subst}
+use Rattle.std.proofs.Common.{◌<◌, ◌≤◌, ℕ, sym, subst, false}
 use Rattle.wait_model.specs.declared.layout.TheConstants.{FIRST_SIMPLE_HEAD, HEADS}
 use Rattle.completion_cell.proofs.Completing.{
   all_at,
@@ -8,8 +8,9 @@ use Rattle.completion_cell.proofs.Completing.{
   has_completed_all,
   rise_none,
 }
-use Rattle.completion_cell.proofs.CallPermits.{complete_all_keeps}
+use Rattle.completion_cell.proofs.CallPermits.{complete_all_hold}
 use Rattle.completion_cell.proofs.Ground.{head_there}
+use Rattle.completion_cell.proofs.Permits.{ends_off, ends_owing_none}
 use Rattle.completion_cell.proofs.completes.complete_all.Goals as goal
 
 pub lock-requires-clause-head : goal.lock-requires-clause-head
@@ -51,9 +52,16 @@ returns-clause-carries g c = all_carried c.args.task.now c.lock.new.task c.done_
     c.select.ensures.selected c.select.ensures.carries c.select.ensures.keeps c.unlock.ensures.unlocked
     c.unlock.ensures.carries
 
-pub returns-clause-permits : goal.returns-clause-permits
-returns-clause-permits g c = complete_all_keeps c.args.task.now c.lock.new.task c.done_store.new.task
-    c.select.new.task c.unlock.new.task c.args.cell c.select.result
-    c.head_of-head.result c.head_of-head.ensures c.requires.free c.told.ensures c.lock.ensures.locked
-    c.lock.ensures.carries c.done_store.ensures
-    c.select.ensures.selected c.select.ensures.carries c.unlock.ensures.unlocked
+pub unlock-requires-clause-permits : goal.unlock-requires-clause-permits
+unlock-requires-clause-permits g c = ends_owing_none c.args.cell c.args.task.now c.select.new.task
+    (complete_all_hold c.args.task.now c.lock.new.task c.done_store.new.task c.select.new.task c.args.cell
+    c.select.result c.head_of-head.result c.head_of-head.ensures c.requires.free c.told.ensures c.lock.ensures.locked
+    c.lock.ensures.carries c.done_store.ensures c.select.ensures.selected c.select.ensures.carries)
+    c.requires.left
+
+pub returns-clause-off : goal.returns-clause-off
+returns-clause-off g c = ends_off c.args.cell c.args.task.now c.select.new.task c.unlock.new.task false
+    (complete_all_hold c.args.task.now c.lock.new.task c.done_store.new.task c.select.new.task c.args.cell
+    c.select.result c.head_of-head.result c.head_of-head.ensures c.requires.free c.told.ensures c.lock.ensures.locked
+    c.lock.ensures.carries c.done_store.ensures c.select.ensures.selected c.select.ensures.carries)
+    c.unlock.ensures.unlocked.is

@@ -10,6 +10,7 @@ pub mod Peeks
 pub mod Pares
 pub mod Parts
 pub mod Falling
+pub mod PermitHeads
 pub mod Queues
 pub mod Rising
 pub mod Endings

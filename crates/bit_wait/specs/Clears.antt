@@ -7,7 +7,6 @@ use Rattle.wait_model.specs.declared.points.Next.{Next}
 use Rattle.wait_model.specs.declared.points.Next.TheVariants as next
 use Rattle.wait_model.specs.declared.points.Point.TheVariants as at
 use Rattle.wait_model.specs.declared.points.WalkPoint.TheVariants as walking
-use Rattle.wait_model.specs.declared.queues.End.TheVariants as end_as
 use Rattle.wait_model.specs.declared.queues.Walked.{Walked}
 use Rattle.wait_model.specs.declared.watches.Aim.{Aim}
 use Rattle.wait_model.specs.declared.watches.Mode.TheVariants as mode
@@ -15,18 +14,17 @@ use Rattle.wait_model.specs.declared.watches.Watch.{Watch}
 use Rattle.wait_model.specs.declared.watches.Watch.TheVariants as watch
 use Rattle.wait_model.specs.Watches.{same}
 use Rattle.wait_rule.specs.Known.{Known}
-use Rattle.wait_rule.specs.Says.{Excuse, told_of}
-use Rattle.wait_rule.specs.Bits.{OwesBeside, StaysBeside, also_bit}
+use Rattle.wait_rule.specs.Says.{Excuse, Owes, told_of}
+use Rattle.wait_rule.specs.Stays.{with_bit}
+use Rattle.wait_rule.specs.Bits.{StaysBeside}
 use Rattle.wait_rule.specs.Transitions.{call_program}
+use Rattle.wq_head.specs.Scanned.{unmade}
 use Rattle.wq_head.specs.Walks.{HasWoken}
 use Rattle.wait_event.specs.Posts.{Runs}
 
--- a walk of one exclusive waiter of the bit, and what is answered where none is made
+-- a walk of one exclusive waiter of the bit
 abbrev pub bit_aim : ℕ → ℕ → Aim
 bit_aim w b = record { watch = watch.Bit w b; mode = mode.Normal; count = 1 }
-
-abbrev pub unmade : Walked
-unmade = record { selected = 0; woken = 0; holds = 0; end = end_as.End }
 
 -- where the call goes on after its look
 abbrev pub looked_to : Bool → Next
@@ -54,4 +52,4 @@ pub record HasClearedBit (old new : Known) (w b : ℕ) (walked : Walked) : Type 
 pub record GivesBack (old new : Known) (c : Watch) : Type 0 where
   pub stays : StaysBeside (λ d. same d c) old new
   pub keeps : (told_of new).bits.keeps c ≡ false
-  pub owes : (t : Watch → Bool) (x : Excuse) → OwesBeside (also_bit c t) x old → OwesBeside t x new
+  pub owes : (x : Excuse) → Owes (with_bit c x) old → Owes x new

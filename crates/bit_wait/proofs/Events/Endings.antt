@@ -20,11 +20,10 @@ use Rattle.wait_rule.specs.Says.{IsUp, told_of}
 use Rattle.wait_rule.specs.Queues.{IsIdle, IsTold, index}
 use Rattle.wait_rule.specs.Stays.{Carries}
 use Rattle.wait_rule.specs.Transitions.{Goes, Program, call_program}
-use Rattle.wait_rule.proofs.KnownLaws.CarriedTasks.{clean_owes, owes_clean, entry_off}
+use Rattle.wait_rule.proofs.KnownLaws.StayingParts.{owes_also, owes_out}
 use Rattle.wait_event.specs.Ends.{IsOut}
 use Rattle.wait_event.specs.Posts.{Runs}
 use Rattle.wait_event.specs.Waits.{EndsWith}
-use Rattle.wait_event.proofs.Ground.Keeping.{excused}
 use Rattle.bit_wait.specs.BitWaits.{Advances, IsAt, IsFresh, IsRunning, SameCall, answer_in, bit_in, head_in}
 use Rattle.bit_wait.specs.BitEnds.{EndsBitWait, IsIdleAfter, bit_change, end_in}
 use Rattle.bit_wait.specs.declared.wait_calls.BitEnd.TheVariants as bit_end
@@ -89,10 +88,9 @@ module _ (old new : Known) (r q : BitRun) (o : BitOutcome) (a : Advances old new
         stored = λ x none away. absurd (cc);
         out = keeps.out;
         stands = keeps.stands;
-        owes = λ x owes. entry_off i x new (ap (λ (n : ℕ). (told_of new).bits.stored (index n 0)) (sym keeps.number)
-            ∙ ends_out) (keeps.owes x (excused i x old owes));
-        clean = clean_owes old;
-        settled = owes_clean new;
+        keeps = λ d _. keeps.keeps d;
+        owes = λ x owes. owes_out i x new (ap (λ (n : ℕ). (told_of new).bits.stored (index n 0)) (sym keeps.number)
+            ∙ ends_out) (keeps.owes x (owes_also i x old owes));
       }
 
 -- it is idle again

@@ -24,6 +24,7 @@ use Rattle.wait_rule.specs.Queues.{IsTurn, at_head, index, walk_of_hold}
 use Rattle.wait_rule.specs.Stays.{Carries, with_entry, unlock_change}
 use Rattle.wait_rule.specs.Transitions.{OnlyLooks, by_step}
 use Rattle.wait_rule.proofs.TableSteps.ItemLists.{steps_append}
+use Rattle.wait_rule.proofs.KnownLaws.Debts.{added_debts}
 use Rattle.wait_rule.proofs.KnownLaws.AfterSteps.{told_added}
 use Rattle.wait_rule.proofs.KnownLaws.SettledTasks.{owes_after}
 use Rattle.wait_rule.proofs.KnownLaws.TaskHistories.{history_after}
@@ -34,7 +35,7 @@ use Rattle.wait_event.specs.Posts.{Post, Stands, IsStateFor, post_at, Keeps}
 use Rattle.wait_event.specs.Waits.{EndsWith, nothing}
 use Rattle.wait_event.proofs.Events.Trails.{unlocked_history}
 use Rattle.wait_event.proofs.Ground.Standing.{draw_stands, serving_stands, lock_stands, still_stands}
-use Rattle.wait_event.proofs.Ground.Keeping.{keeps_of, keeps_on, keeps_same, keeps_told}
+use Rattle.wait_event.proofs.Ground.Keeping.{keeps_of, keeps_on, keeps_same, keeps_told, placed_owing}
 use Rattle.wait_event.proofs.Ground.Going.{runs_looks, runs_one}
 use Rattle.bit_wait.specs.BitWaits.{
   Advances,
@@ -105,6 +106,7 @@ module _ (old : Known) (r : BitRun) (n : ℕ) where
 
   draw_keeps : Keeps (index old.view.number 0) old mid
   draw_keeps = keeps_same (index old.view.number 0) old mid refl refl (told_added old (item.Drawn h n))
+      (added_debts old mid (item.Drawn h n) refl refl)
 
   draw_looks : OnlyLooks old mid
   draw_looks = record { items = item.Drawn h n ∷ []; looks = (tt, tt); is = refl }
@@ -167,6 +169,7 @@ module _ (old : Known) (r : BitRun) (w : ℕ) where
 
   serving_keeps : Keeps (index old.view.number 0) old served
   serving_keeps = keeps_same (index old.view.number 0) old served refl refl (told_added old (item.Serving head w))
+      (added_debts old served (item.Serving head w) refl refl)
 
   serving_looks : OnlyLooks old served
   serving_looks = record { items = item.Serving head w ∷ []; looks = (tt, tt); is = refl }
@@ -224,7 +227,9 @@ module _ (old : Known) (r : BitRun) (w : ℕ) where
     lock_keeps = keeps_on (index old.view.number 0) old served locked serving_keeps
         (keeps_told (index old.view.number 0) served locked refl refl (ap (λ (v : Told). v.mark) new_told)
         (ap (λ (v : Told). v.duty.owes) new_told) (ap (λ (v : Told). v.bits.stored) new_told)
-        (λ y o. owes_after served (added served (item.Made e)) e refl refl y o))
+        (λ d. ap (λ (v : Told). v.bits.keeps d) new_told)
+        (λ y o. placed_owing (added served (item.Made e)) locked refl y
+        (owes_after served (added served (item.Made e)) e refl refl y o)))
 
     held : (p : Post) → Stands old p → Stands locked (record p { head = Some head; ticket = taken head })
     held p s = lock_stands served head (walk_of_hold head None) x (record p { ticket = served.book.ticket })

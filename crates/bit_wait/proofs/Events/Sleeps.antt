@@ -16,6 +16,7 @@ use Rattle.wait_rule.specs.Known.{Known}
 use Rattle.wait_rule.specs.Says.{added, told_of}
 use Rattle.wait_rule.specs.Queues.{index}
 use Rattle.wait_rule.specs.Transitions.{by_step}
+use Rattle.wait_rule.proofs.KnownLaws.Debts.{added_debts}
 use Rattle.wait_rule.proofs.KnownLaws.AfterSteps.{told_added}
 use Rattle.wait_rule.proofs.KnownLaws.TaskHistories.{history_after}
 use Rattle.wait_rule.proofs.KnownLaws.Transitions.{only_none}
@@ -59,6 +60,7 @@ module _ (old : Known) (r : BitRun) (w : ℕ) (a : IsAt old r stage.Sleep) where
 
   sleep_keeps : Keeps (index old.view.number 0) old slept
   sleep_keeps = keeps_same (index old.view.number 0) old slept refl refl (told_added old (item.Made (step.Sleep w)))
+      (added_debts old slept (item.Made (step.Sleep w)) refl refl)
 
   -- by what it leaves of the book
   sleep_stands : (b : Book) (q : Post) → after_sleep (sleep_of (task_of w)) old.book ≡ b → b.head ≡ old.book.head

@@ -1,7 +1,26 @@
 -- Whole waits: how they begin, and what they say at their end.
 use Rattle.std.proofs.Common.{◌∙◌, ap, sym, refl, subst, inl, inr}
 use Rattle.std.proofs.lemmas.Bool.Decides.{eqb_tells}
-use Rattle.std.specs.Prelude.{ℕ, ◌≡◌, ◌≢◌, ◌<◌, ◌⊎◌, ◌==◌, ◌&&◌, ◌||◌, not, Bool, true, false, Option, Some, None, [], ◌∷◌, MatchBool}
+use Rattle.std.specs.Prelude.{
+  ℕ,
+  ◌≡◌,
+  ◌≢◌,
+  ◌<◌,
+  ◌⊎◌,
+  ◌==◌,
+  ◌&&◌,
+  ◌||◌,
+  not,
+  Bool,
+  true,
+  false,
+  Option,
+  Some,
+  None,
+  [],
+  ◌∷◌,
+  MatchBool,
+}
 use Rattle.wait_model.specs.declared.layout.TheConstants.{BIT_WORDS, SLOTS, WORD_BITS}
 use Rattle.wait_model.specs.declared.calls.Call.TheVariants as calls
 use Rattle.wait_model.specs.declared.tasks.SleepState.{SleepState}
@@ -17,13 +36,14 @@ use Rattle.wait_model.specs.Tasks.{pending, state_mask, task_of}
 use Rattle.wait_model.specs.Watches.{head_of, same}
 use Rattle.wait_model.specs.Words.{bit_at}
 use Rattle.wait_rule.specs.Known.{Known}
-use Rattle.wait_rule.specs.Says.{Excuse, IsClean, IsOutBut, IsUp, added, no_excuse, told_of}
+use Rattle.wait_rule.specs.Says.{Debts, Excuse, IsClean, IsOutBut, IsUp, Owes, added, no_excuse, told_of}
 use Rattle.wait_rule.specs.Queues.{IsIdle, IsTold, index}
-use Rattle.wait_rule.specs.Bits.{OwesBeside, StaysBeside, no_bits, taken_bits}
+use Rattle.wait_rule.specs.Bits.{StaysBeside, taken_bits}
+use Rattle.wait_rule.specs.Stays.{with_bits}
 use Rattle.wait_rule.specs.Members.{IsOwnKind}
 use Rattle.wait_rule.specs.declared.journal.Item.TheVariants as item
 use Rattle.wait_rule.proofs.KnownLaws.AfterSteps.{told_added}
-use Rattle.wait_rule.proofs.KnownLaws.CarriedBits.{beside_clean, clean_beside}
+use Rattle.wait_rule.proofs.KnownLaws.Debts.{added_debts, entries_debts}
 use Rattle.wait_model.specs.Fold.{after}
 use Rattle.wait_model.specs.Views.{View as Told, is_trying_for}
 use Rattle.wait_model.proofs.Sameness.{same_bit, same_bit_is}
@@ -33,7 +53,7 @@ use Rattle.wait_event.specs.Posts.{IsStateFor, Runs}
 use Rattle.wait_event.specs.Waits.{EndsWith}
 use Rattle.bit_wait.specs.Holders.{IsHolder}
 use Rattle.bit_wait.specs.LockStays.{LockKeeps, TakesBit}
-use Rattle.bit_wait.proofs.Holders.{tries_none}
+use Rattle.bit_wait.proofs.Holders.{none_taken}
 use Rattle.bit_wait.specs.LockWaits.{
   Advances,
   IsAt,
@@ -96,6 +116,7 @@ pub record Rested (old new : Known) : Type 0 where
   pub stored : (y : ℕ) → (told_of new).bits.stored y ≡ (told_of old).bits.stored y
   pub keeps : (d : Watch) → (told_of new).bits.keeps d ≡ (told_of old).bits.keeps d
   pub pending : (d : Watch) → (told_of new).bits.pending d ≡ (told_of old).bits.pending d
+  pub debts : (x : Excuse) → Debts x old → Debts x new
 
 pub rests : (old new : Known) (b : Bool) (σ : ℕ) → HasRested old new b → IsStateFor b σ old.book.state → Rested old new
 rests old new false σ is state = record {
@@ -111,6 +132,7 @@ rests old new false σ is state = record {
   stored = λ y. ap (λ (k : Known). (told_of k).bits.stored y) is;
   keeps = λ d. ap (λ (k : Known). (told_of k).bits.keeps d) is;
   pending = λ d. ap (λ (k : Known). (told_of k).bits.pending d) is;
+  debts = λ x d. subst (Debts x) (sym is) d;
 }
 rests old new true σ is state =
     let told : told_of new ≡ after (step.State 0) (told_of old) =
@@ -128,10 +150,8 @@ rests old new true σ is state =
       stored = λ y. ap (λ (v : Told). v.bits.stored y) told;
       keeps = λ d. ap (λ (v : Told). v.bits.keeps d) told;
       pending = λ d. ap (λ (v : Told). v.bits.pending d) told;
+      debts = added_debts old new (item.Made (step.State 0)) refl is;
     }
-
-less : (p q n : Bool) → q ≡ p → (p && n) ≡ false → (q && n) ≡ false
-less p q n same is = ap (λ (b : Bool). b && n) same ∙ is
 
 out_none : (b : Bool) (s : Option Entry) → s ≡ None → IsOutBut b s
 out_none true s none = tt
@@ -186,8 +206,6 @@ module _ (old ended new : Known) (w b : ℕ) (g : Bool)
     out = none_stored;
     stands = stands_on;
     keeps = λ d away. rest.keeps d ∙ k.keeps d away;
-    clean = clean_beside old;
-    settled = beside_clean new;
   }
 
   none_tried : (d : Watch) → ((same d c ≡ false) → (told_of new).bits.pending d ≡ false)
@@ -198,29 +216,25 @@ module _ (old ended new : Known) (w b : ℕ) (g : Bool)
       by true is = ap (told_of new).bits.pending (same_bit_is d c (same_bit d c is refl) is) ∙ none
       by false is = away is
 
-  takes_owes : (t : Watch → Bool) (x : Excuse) → OwesBeside t x old
-      → OwesBeside (λ d. taken_bits c g d || t d) x new
-  unfolding OwesBeside
-  takes_owes t x o =
+  takes_owes : (x : Excuse) → Owes x old → Owes (with_bits (taken_bits c g) x) new
+  unfolding with_bits
+  takes_owes x o =
       let m = k.owes x (record {
-        unmarked = o.0.unmarked;
-        owes = o.0.owes;
-        unqueued = λ y away. o.0.unqueued y;
-        tries = λ d away. o.0.tries d;
-        others = λ y away d. o.1 y d;
-        own = λ d away. o.1 i d;
-      }) in (
-        record {
-          unmarked = rest.mark ∙ m.unmarked;
-          owes = λ d σ. less ((told_of ended).duty.owes d σ) ((told_of new).duty.owes d σ) _ (rest.owes d σ)
-              (m.owes d σ);
-          unqueued = λ y. unqueued m.unqueued y (eqb_tells y i);
-          holds = λ d. held_on (taken_bits c g d) (t d) ((told_of old).bits.keeps d) ((told_of new).bits.keeps d)
-              (λ away. rest.keeps d ∙ k.keeps d away) (o.0.holds d);
-          tries = λ d. none_tried d (λ away. rest.pending d ∙ m.tries d away);
-        },
-        λ y d. trying m.others y d (eqb_tells y i),
-      )
+        unmarked = o.unmarked;
+        debts = o.debts;
+        unqueued = λ y away. o.unqueued y;
+        tries = λ d away. o.tries d;
+        others = λ y away d. o.tries_none y d;
+        own = λ d away. o.tries_none i d;
+      }) in record {
+        unmarked = rest.mark ∙ m.unmarked;
+        debts = entries_debts x (with_bits (taken_bits c g) x) new refl (rest.debts x m.debts);
+        unqueued = λ y. unqueued m.unqueued y (eqb_tells y i);
+        holds = λ d. held_on (taken_bits c g d) (x.bits d) ((told_of old).bits.keeps d) ((told_of new).bits.keeps d)
+            (λ away. rest.keeps d ∙ k.keeps d away) (o.holds d);
+        tries = λ d. none_tried d (λ away. rest.pending d ∙ m.tries d away);
+        tries_none = λ y d. trying m.others y d (eqb_tells y i);
+      }
     where
       unqueued : ((y : ℕ) → (y == i) ≡ false → IsOutBut (x.entries y) ((told_of ended).bits.stored y)) → (y : ℕ)
           → (((y == i) ≡ true) × (y ≡ i)) ⊎ (((y == i) ≡ false) × (y ≢ i))
@@ -373,17 +387,15 @@ module _ (old ended new : Known) (r q : LockRun) (w b : ℕ) (st : SleepState) (
 -- who owed nothing
 pub locks_clean : (old new : Known) (c : Watch) → IsClean old → IsUp new → IsIdle new → (g : Bool)
     → TakesBit old new c g → MatchBool g (IsHolder new c) (IsClean new)
-locks_clean old new c clean up idle true t =
-    let owes = t.owes no_bits no_excuse (t.stays.clean clean.settled) in record {
-      up = up;
-      idle = idle;
-      keeps = t.keeps refl;
-      tries = tries_none (λ d. taken_bits c true d || no_bits d) new owes;
-      owes = owes;
-    }
+locks_clean old new c clean up idle true t = record {
+  up = up;
+  idle = idle;
+  keeps = t.keeps refl;
+  owes = t.owes no_excuse clean.settled;
+}
 locks_clean old new c clean up idle false t = record {
   up = up;
   running = idle.running;
   free = idle.free;
-  settled = t.stays.settled (t.owes no_bits no_excuse (t.stays.clean clean.settled));
+  settled = none_taken c new (t.owes no_excuse clean.settled);
 }

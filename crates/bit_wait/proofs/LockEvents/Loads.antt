@@ -34,7 +34,7 @@ module _ (old new : Known) (r : LockRun) (v : ℕ) (is : new ≡ added old (item
 
   keeps : LockKeeps (index old.view.number 0) (bit_in r) false false old new
   keeps = lock_keeps_step (index old.view.number 0) (bit_in r) false old new (step.Load (bit_in r) v) is
-      (λ u. refl) (λ u. refl) (λ u. refl) (λ u. refl) (λ u d none. gone _ _ none)
+      (λ u. refl) refl (λ u. refl) (λ u. refl) (λ u d none. gone _ _ none)
 
   behind : OnlyLooks (added old (item.Made (step.Load (bit_in r) v))) new
   behind = subst (OnlyLooks (added old (item.Made (step.Load (bit_in r) v)))) (sym is)

@@ -24,6 +24,7 @@ use Rattle.wait_rule.specs.Queues.{IsTurn, at_head, index, walk_of_hold}
 use Rattle.wait_rule.specs.Stays.{Carries, unlock_change}
 use Rattle.wait_rule.specs.Transitions.{OnlyLooks, by_step}
 use Rattle.wait_rule.proofs.TableSteps.ItemLists.{steps_append}
+use Rattle.wait_rule.proofs.KnownLaws.Debts.{added_debts, list_debts}
 use Rattle.wait_rule.proofs.KnownLaws.AfterSteps.{told_added}
 use Rattle.wait_rule.proofs.KnownLaws.TaskHistories.{history_after}
 use Rattle.wait_rule.proofs.KnownLaws.Transitions.{only_none}
@@ -106,7 +107,7 @@ module _ (old : Known) (r : LockRun) (n : ℕ) where
 
   draw_keeps : (g : Bool) → LockKeeps (index old.view.number 0) (bit_in r) g g old mid
   draw_keeps g = lock_keeps_same (index old.view.number 0) (bit_in r) g old mid refl refl
-      (told_added old (item.Drawn h n))
+      (told_added old (item.Drawn h n)) (added_debts old mid (item.Drawn h n) refl refl)
 
   draw_looks : OnlyLooks old mid
   draw_looks = record { items = item.Drawn h n ∷ []; looks = (tt, tt); is = refl }
@@ -169,7 +170,7 @@ module _ (old : Known) (r : LockRun) (w : ℕ) where
 
   serving_keeps : (g : Bool) → LockKeeps (index old.view.number 0) (bit_in r) g g old served
   serving_keeps g = lock_keeps_same (index old.view.number 0) (bit_in r) g old served refl refl
-      (told_added old (item.Serving head w))
+      (told_added old (item.Serving head w)) (added_debts old served (item.Serving head w) refl refl)
 
   serving_looks : OnlyLooks old served
   serving_looks = record { items = item.Serving head w ∷ []; looks = (tt, tt); is = refl }
@@ -230,7 +231,9 @@ module _ (old : Known) (r : LockRun) (w : ℕ) where
         (lock_keeps_by (index old.view.number 0) (bit_in r) g served locked refl refl
         (ap (λ (v : Told). v.mark) new_told) (λ d σ none. ap (λ (v : Told). v.duty.owes d σ) new_told ∙ none)
         (λ y. ap (λ (v : Told). v.bits.stored y) new_told) (λ d. ap (λ (v : Told). v.bits.keeps d) new_told)
-        (λ d none. ap (λ (v : Told). v.bits.pending d) new_told ∙ none))
+        (λ d none. ap (λ (v : Told). v.bits.pending d) new_told ∙ none)
+        (λ x d. list_debts x (added served (item.Made e)) locked refl
+        (added_debts served (added served (item.Made e)) (item.Made e) refl refl x d)))
 
     held : (p : Post) → Stands old p → Stands locked (record p { head = Some head; ticket = taken head })
     held p s = lock_stands served head (walk_of_hold head None) x (record p { ticket = served.book.ticket })

@@ -115,7 +115,7 @@ module _ (old mid : Known) (r : LockRun) (a : IsAt old r stage.PrepareQueue) whe
     keeps = lock_keeps_on (index old.view.number 0) (bit_in r) false false false old mid new
         (lock_keeps_own (bit_in r) false old mid o own)
         (lock_keeps_step (index old.view.number 0) (bit_in r) false mid new (step.State σ) is
-        (λ v. refl) (λ v. refl) (λ v. refl) (λ v. refl) (λ v d none. none));
+        (λ v. refl) refl (λ v. refl) (λ v. refl) (λ v d none. none));
     lands = (
       state_up mid new σ is carries (own.carries.awake ∙ a.up),
       state_stands mid new σ is carries p (post_at None (lock_call r) (at.Prepare preparing.Unlock))
@@ -331,6 +331,7 @@ pub worn_advances : (old mid mid2 mid3 new : Known) (r : LockRun) → IsAt old r
     → Advances old new r (record r { place = w.place; worn = true }) stage.PrepareQueue (turn.Again stage.Worn)
 worn_advances old mid mid2 mid3 new r a None own none w worn held2 u own2 given noted =
     advance_by old new r (record r { place = w.place; worn = true }) stage.PrepareQueue (turn.Again stage.Worn)
-    (next.Go at.Worn) (record { word = refl; bit = refl; state = refl }) (record { word = a.runs.word; bit = a.runs.bit }) refl refl
+    (next.Go at.Worn) (record { word = refl; bit = refl; state = refl })
+    (record { word = a.runs.word; bit = a.runs.bit }) refl refl
     (worn_from old mid r a (is_off old mid r a own) mid2 mid3 new w worn held2 u own2 given noted)
 worn_advances old mid mid2 mid3 new r a (Some e) own none w worn held2 u own2 given noted = absurd (cc)

@@ -14,6 +14,7 @@ use Rattle.wait_rule.specs.Says.{IsAwakeAgain, added, grown, history_of, told_of
 use Rattle.wait_rule.specs.Queues.{IsTold, index}
 use Rattle.wait_rule.specs.Transitions.{OnlyLooks}
 use Rattle.wait_rule.proofs.TableSteps.ItemLists.{steps_append}
+use Rattle.wait_rule.proofs.KnownLaws.Debts.{looked_debts}
 use Rattle.wait_rule.proofs.KnownLaws.Transitions.{book_told, looks_of}
 use Rattle.wait_event.specs.Posts.{Post, IsStateFor}
 use Rattle.bit_wait.proofs.LockGround.{lock_keeps_same}
@@ -62,7 +63,7 @@ module _ (old new : Known) (r : LockRun) (s : LockStage) (a : IsAsleepAt old r s
     went = record {
       runs = runs_looks (lock_program old.view.number r) old new (next.Go (point_of s)) looks;
       keeps = lock_keeps_same (index old.view.number 0) (bit_in r) (has_taken (next.Go (point_of s))) old new domain
-          number told;
+          number told (looked_debts old new looks);
     };
     lands = record {
       runs = a.runs;
@@ -86,7 +87,7 @@ module _ (old new : Known) (r : LockRun) (s : LockStage) (a : IsAsleepAt old r s
     went = record {
       runs = runs_looks (lock_program old.view.number r) old new (next.Go (point_of s)) looks;
       keeps = lock_keeps_same (index old.view.number 0) (bit_in r) (has_taken (next.Go (point_of s))) old new domain
-          number told;
+          number told (looked_debts old new looks);
     };
     lands = record {
       runs = a.runs;
@@ -132,7 +133,7 @@ pub rose : (old new : Known) (r : LockRun) (s : LockStage) → IsAsleepAt old r 
     → IsAwakeAgain old new → Advances old new r r s (turn.Again s)
 rose old new r s a was now h = woken_at old new r s a (record {
   items = h.looks;
-  looks = looks_of h.looks h.no_steps;
+  looks = looks_of h.looks h.no_steps h.no_adds;
   is = h.is ∙ ap (grown old h.looks) (sym (ap (λ (k : Known). k.book) h.is) ∙ book_told old new h.looks was now
       (ap (λ (k : Known). k.view.items) h.is));
 }) (ap history_of h.is ∙ (steps_append old.view.items h.looks

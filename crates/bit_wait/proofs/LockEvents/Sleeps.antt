@@ -16,6 +16,7 @@ use Rattle.wait_rule.specs.Known.{Known}
 use Rattle.wait_rule.specs.Says.{added, history_of, told_of}
 use Rattle.wait_rule.specs.Queues.{index}
 use Rattle.wait_rule.specs.Transitions.{by_step}
+use Rattle.wait_rule.proofs.KnownLaws.Debts.{added_debts}
 use Rattle.wait_rule.proofs.KnownLaws.AfterSteps.{told_added}
 use Rattle.wait_rule.proofs.KnownLaws.TaskHistories.{history_after}
 use Rattle.wait_rule.proofs.KnownLaws.Transitions.{only_none}
@@ -25,7 +26,17 @@ use Rattle.wait_event.proofs.Ground.Standing.{stands_on}
 use Rattle.bit_wait.specs.LockStays.{LockKeeps}
 use Rattle.bit_wait.proofs.LockGround.{lock_keeps_none, lock_keeps_same}
 use Rattle.wait_event.proofs.Ground.Going.{runs_none, runs_one}
-use Rattle.bit_wait.specs.LockWaits.{Advances, IsAt, TrailAt, bit_in, has_taken, lock_post, lock_program, point_of, slept_to}
+use Rattle.bit_wait.specs.LockWaits.{
+  Advances,
+  IsAt,
+  TrailAt,
+  bit_in,
+  has_taken,
+  lock_post,
+  lock_program,
+  point_of,
+  slept_to,
+}
 use Rattle.bit_wait.specs.declared.lock_waits.LockRun.{LockRun}
 use Rattle.bit_wait.specs.declared.lock_waits.LockStage.{LockStage}
 use Rattle.bit_wait.specs.declared.lock_waits.LockStage.TheVariants as stage
@@ -49,7 +60,7 @@ module _ (old : Known) (r : LockRun) (w : ℕ) (a : IsAt old r stage.Sleep) wher
 
   sleep_keeps : LockKeeps (index old.view.number 0) (bit_in r) false false old slept
   sleep_keeps = lock_keeps_same (index old.view.number 0) (bit_in r) false old slept refl refl
-      (told_added old (item.Made (step.Sleep w)))
+      (told_added old (item.Made (step.Sleep w))) (added_debts old slept (item.Made (step.Sleep w)) refl refl)
 
   -- by what it leaves of the book
   sleep_stands : (b : Book) (q : Post) → after_sleep (sleep_of (task_of w)) old.book ≡ b → b.head ≡ old.book.head

@@ -27,7 +27,21 @@ use Rattle.wait_event.proofs.Ground.Standing.{still_stands}
 use Rattle.bit_wait.specs.LockStays.{LockKeeps}
 use Rattle.bit_wait.proofs.LockGround.{lock_keeps_step}
 use Rattle.wait_event.proofs.Ground.Going.{runs_one}
-use Rattle.bit_wait.specs.LockWaits.{Advances, FoundSignal, IsAt, IsPlain, StoresAt, acted_to, point_of, lock_call, bit_in, lock_post, lock_program, goes_to, state_at}
+use Rattle.bit_wait.specs.LockWaits.{
+  Advances,
+  FoundSignal,
+  IsAt,
+  IsPlain,
+  StoresAt,
+  acted_to,
+  point_of,
+  lock_call,
+  bit_in,
+  lock_post,
+  lock_program,
+  goes_to,
+  state_at,
+}
 use Rattle.bit_wait.specs.declared.lock_waits.LockRun.{LockRun}
 use Rattle.bit_wait.specs.declared.lock_waits.LockStage.{LockStage}
 use Rattle.bit_wait.specs.declared.lock_waits.LockStage.TheVariants as stage
@@ -38,7 +52,7 @@ use Rattle.bit_wait.proofs.LockEvents.Trails.{more_finish, taken_step}
 kept_state : (old new : Known) (r : LockRun) (σ : ℕ) (g : Bool) → new ≡ added old (item.Made (step.State σ))
     → LockKeeps (index old.view.number 0) (bit_in r) g g old new
 kept_state old new r σ g is = lock_keeps_step (index old.view.number 0) (bit_in r) g old new (step.State σ) is
-    (λ v. refl) (λ v. refl) (λ v. refl) (λ v. refl) (λ v d none. none)
+    (λ v. refl) refl (λ v. refl) (λ v. refl) (λ v d none. none)
 
 pub state_goes : (old new : Known) (r : LockRun) (s : LockStage) → StoresAt s → IsAt old r s → (σ : ℕ)
     → σ ≡ state_at r s → new ≡ added old (item.Made (step.State σ)) → Carries (state_change σ) old new
@@ -110,7 +124,7 @@ module _ (old new : Known) (r : LockRun) (w : ℕ) (is : new ≡ added old (item
 
   kept_look : LockKeeps (index old.view.number 0) (bit_in r) false false old new
   kept_look = lock_keeps_step (index old.view.number 0) (bit_in r) false old new (step.Look w) is
-      (λ v. refl) (λ v. refl) (λ v. refl) (λ v. refl) (λ v d none. none)
+      (λ v. refl) refl (λ v. refl) (λ v. refl) (λ v d none. none)
 
   look_runs : (b : Bool) → pending (state_mask r.state) (task_of w) ≡ b → Runs (lock_program old.view.number r) old new
       (next.Go (at.Bit biting.Look)) (next.Go (acted (lock_call r) b))

@@ -1,6 +1,7 @@
 use Rattle.std.proofs.Common.{◌∙◌, sym}
 use Rattle.wait_event.specs.Waits.{with_entry}
 use Rattle.bit_wait.specs.LockWaits.{goes_to}
+use Rattle.bit_wait.proofs.LockEvents.PermitHeads.{pare_owes}
 use Rattle.bit_wait.proofs.LockEvents.Turns.{advance_same}
 use Rattle.bit_wait.proofs.LockEvents.Pares.{pare_may, taken_goes, given_goes}
 use Rattle.bit_wait.proofs.lock_waits.pare_event.Goals as goal
@@ -26,3 +27,7 @@ returns-clause-advances c = advance_same c.args.task.now c.give_back.new.task c.
     (given_goes c.args.task.now c.own_entry-entry.new.task c.give_back.new.task c.args.run.now c.args.stage
     c.requires.here c.requires.at c.own_entry-entry.result c.own_entry-entry.ensures
     (sym c.is_some.ensures ∙ c.if-is_some.false) c.give_back.ensures)
+
+pub give_back-requires-clause-permits : goal.give_back-requires-clause-permits
+give_back-requires-clause-permits c = pare_owes c.args.task.now c.own_entry-entry.new.task c.args.run.now c.args.stage
+    c.requires.here c.requires.at c.own_entry-entry.result c.own_entry-entry.ensures

@@ -1,5 +1,6 @@
 use Rattle.std.proofs.Common.{◌∙◌, ap, sym}
 use Rattle.wait_model.specs.Watches.{head_of}
+use Rattle.bit_wait.proofs.LockEvents.PermitHeads.{worn_owes}
 use Rattle.bit_wait.proofs.LockEvents.Queues.{
   join_advances,
   mid_holds,
@@ -43,3 +44,8 @@ returns-in-Err-clause-advances c = worn_advances c.args.task.now c.own_entry-ent
     c.own_entry.new.task c.give_back.new.task c.args.run.now c.requires.at c.own_entry-entry.result
     c.own_entry-entry.ensures (sym c.is_some.ensures ∙ c.if-is_some.false) c.in-Err.worn c.in-Err.ensures.worn
     c.in-Err.ensures.held c.own_entry.result c.own_entry.ensures c.give_back.ensures c.in-Err.ensures.noted
+
+pub give_back-requires-clause-permits : goal.give_back-requires-clause-permits
+give_back-requires-clause-permits c = worn_owes c.args.run.now c.own_entry-entry.new.task c.add_for_bit.new.task
+    c.own_entry.new.task (queue_at c.args.task.now c.own_entry-entry.new.task c.args.run.now c.requires.at
+    c.own_entry-entry.result c.own_entry-entry.ensures) c.add_for_bit.ensures.at c.own_entry.result c.own_entry.ensures

@@ -1,5 +1,6 @@
 use Rattle.wait_event.specs.Waits.{nothing}
 use Rattle.bit_wait.specs.BitWaits.{goes_to}
+use Rattle.bit_wait.proofs.Events.PermitHeads.{unlock_owes}
 use Rattle.bit_wait.proofs.Events.Turns.{advance_same}
 use Rattle.bit_wait.proofs.Events.Locks.{unlock_goes}
 use Rattle.bit_wait.proofs.waits.unlock_event.Goals as goal
@@ -10,3 +11,7 @@ returns-clause-advances c = advance_same c.args.task.now c.give_back.new.task c.
     (goes_to c.args.run.now c.args.stage nothing) c.requires.at.runs c.unlocked.ensures.plain c.unlocked.ensures.goes
     (unlock_goes c.args.task.now c.give_back.new.task c.args.run.now c.give_back.ensures c.args.stage c.requires.here
     c.requires.at)
+
+pub give_back-requires-clause-permits : goal.give_back-requires-clause-permits
+give_back-requires-clause-permits c = unlock_owes c.args.task.now c.args.run.now c.args.stage c.requires.here
+    c.requires.at

@@ -3,6 +3,7 @@
 ghost use Rattle.std.specs.Prelude.{◌≡◌, ◌<◌};
 ghost use Rattle.wait_model.specs.declared.layout.TheConstants.{COMPLETIONS, FIRST_SIMPLE};
 ghost use Rattle.wait_rule.specs.Says.{IsClean};
+ghost use Rattle.bench_event.specs.Told.{MayTell};
 
 use completion_cell::await_calls;
 use completion_cell::completes::complete;
@@ -64,11 +65,11 @@ pub(crate) enum Means {
 /// Tells whoever waits for condition or completion `number` to go on.
 pub(crate) fn tell<R: Wait>(rt: &R, domain: &Domain, task: &mut Task, means: Means, number: u8)
     requires of { task.old.domain ≡ domain.now }
-    requires clean { IsClean task.old }
+    requires may { MayTell means task.old }
     requires full { number < FIRST_SIMPLE }
     requires cell { number < COMPLETIONS }
     ensures of { task.new.domain ≡ domain.now }
-    ensures clean { IsClean task.new }
+    ensures may { MayTell means task.new }
 {
     match means {
         Means::Condition => {
@@ -87,11 +88,11 @@ pub(crate) fn hear<R: Wait>(
     number: u8,
 ) -> bool
     requires of { task.old.domain ≡ domain.now }
-    requires clean { IsClean task.old }
+    requires may { MayTell means task.old }
     requires full { number < FIRST_SIMPLE }
     requires cell { number < COMPLETIONS }
     ensures of { task.new.domain ≡ domain.now }
-    ensures clean { IsClean task.new }
+    ensures may { MayTell means task.new }
 {
     match means {
         Means::Condition => receive(rt, domain, task, number),

@@ -1,6 +1,8 @@
-//! A task that waits for completion 0, and one that completes it: each owes nothing after it, and is taken in.
+//! A task that waits for completion 0, and one that completes it: each owes nothing after it, has left no entry at a
+//! completion, and is taken in.
 
 ghost use Rattle.std.specs.Prelude.{◌≡◌};
+ghost use Rattle.wait_rule.specs.HandedPermits.{HasLeftNone};
 ghost use Rattle.wait_rule.specs.Says.{IsClean};
 
 use completion_cell::asks::{is_done, reinit, try_wait};
@@ -17,21 +19,49 @@ const CELL: u8 = 0;
 pub fn complete_one<R: Wait>(rt: &R, domain: &Domain, task: &mut Task)
     requires of { task.old.domain ≡ domain.now }
     requires clean { IsClean task.old }
+    requires off { HasLeftNone task.old }
     ensures of { task.new.domain ≡ domain.now }
     ensures clean { IsClean task.new }
+    ensures off { HasLeftNone task.new }
 {
     complete(rt, domain, task, CELL);
+}
+
+/// Completes it for all.
+fn complete_for_all<R: Wait>(rt: &R, domain: &Domain, task: &mut Task)
+    requires of { task.old.domain ≡ domain.now }
+    requires clean { IsClean task.old }
+    requires off { HasLeftNone task.old }
+    ensures of { task.new.domain ≡ domain.now }
+    ensures clean { IsClean task.new }
+    ensures off { HasLeftNone task.new }
+{
+    complete_all(rt, domain, task, CELL);
+}
+
+/// Clears it.
+fn clear<R: Wait>(rt: &R, domain: &Domain, task: &mut Task)
+    requires of { task.old.domain ≡ domain.now }
+    requires clean { IsClean task.old }
+    requires off { HasLeftNone task.old }
+    ensures of { task.new.domain ≡ domain.now }
+    ensures clean { IsClean task.new }
+    ensures off { HasLeftNone task.new }
+{
+    reinit(rt, domain, task, CELL);
 }
 
 /// Completes it for all, clears it, and says whether it is done then.
 pub fn complete_and_clear<R: Wait>(rt: &R, domain: &Domain, task: &mut Task) -> bool
     requires of { task.old.domain ≡ domain.now }
     requires clean { IsClean task.old }
+    requires off { HasLeftNone task.old }
     ensures of { task.new.domain ≡ domain.now }
     ensures clean { IsClean task.new }
+    ensures off { HasLeftNone task.new }
 {
-    complete_all(rt, domain, task, CELL);
-    reinit(rt, domain, task, CELL);
+    complete_for_all(rt, domain, task);
+    clear(rt, domain, task);
     is_done(rt, domain, task, CELL)
 }
 
@@ -40,8 +70,10 @@ pub fn complete_and_clear<R: Wait>(rt: &R, domain: &Domain, task: &mut Task) -> 
 pub fn wait_for_one<R: Wait>(rt: &R, domain: &Domain, task: &mut Task, state: SleepState) -> bool
     requires of { task.old.domain ≡ domain.now }
     requires clean { IsClean task.old }
+    requires off { HasLeftNone task.old }
     ensures of { task.new.domain ≡ domain.now }
     ensures clean { IsClean task.new }
+    ensures off { HasLeftNone task.new }
 {
     wait_for(rt, domain, task, CELL, state).is_ok()
 }
@@ -50,8 +82,10 @@ pub fn wait_for_one<R: Wait>(rt: &R, domain: &Domain, task: &mut Task, state: Sl
 pub fn take_one<R: Wait>(rt: &R, domain: &Domain, task: &mut Task) -> bool
     requires of { task.old.domain ≡ domain.now }
     requires clean { IsClean task.old }
+    requires off { HasLeftNone task.old }
     ensures of { task.new.domain ≡ domain.now }
     ensures clean { IsClean task.new }
+    ensures off { HasLeftNone task.new }
 {
     try_wait(rt, domain, task, CELL)
 }
@@ -60,6 +94,7 @@ pub fn take_one<R: Wait>(rt: &R, domain: &Domain, task: &mut Task) -> bool
 pub fn take_and_join<R: Wait>(rt: &R, domain: &Domain, into: &mut Task, mut task: Task) -> bool
     requires of { (into.old.domain ≡ domain.now) × (task.domain ≡ domain.now) }
     requires clean { IsClean task }
+    requires off { HasLeftNone task }
     ensures of { into.new.domain ≡ domain.now }
 {
     let took = wait_for_one(rt, domain, &mut task, SleepState::Killable);
@@ -71,6 +106,7 @@ pub fn take_and_join<R: Wait>(rt: &R, domain: &Domain, into: &mut Task, mut task
 pub fn complete_and_join<R: Wait>(rt: &R, domain: &Domain, into: &mut Task, mut task: Task)
     requires of { (into.old.domain ≡ domain.now) × (task.domain ≡ domain.now) }
     requires clean { IsClean task }
+    requires off { HasLeftNone task }
     ensures of { into.new.domain ≡ domain.now }
 {
     complete_one(rt, domain, &mut task);

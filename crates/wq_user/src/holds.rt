@@ -1,7 +1,7 @@
 //! Holds of a head in which nothing is queued, and wakes, by a task that owes nothing.
 
 ghost use Rattle.std.specs.Prelude.{◌≡◌, ◌<◌};
-ghost use Rattle.wait_model.specs.declared.layout.TheConstants.{HEADS};
+ghost use Rattle.wait_model.specs.declared.layout.TheConstants.{FIRST_DONE_HEAD};
 ghost use Rattle.wait_rule.specs.Says.{IsClean};
 
 use std::sync::Wait;
@@ -10,11 +10,12 @@ use wait_rule::queues::publish;
 use wait_rule::{Domain, Task};
 use wq_head::{has_members, lock, unlock, wake};
 
-/// Takes the lock of head `head`, below HEADS, and gives it back. The task owes nothing before and after it.
+/// Takes the lock of head `head`, which is none of a completion, and gives it back. The task owes nothing before and
+/// after it.
 pub fn pass<R: Wait>(rt: &R, domain: &Domain, task: &mut Task, head: u16)
     requires of { task.old.domain ≡ domain.now }
     requires clean { IsClean task.old }
-    requires head { head < HEADS }
+    requires head { head < FIRST_DONE_HEAD }
     ensures of { task.new.domain ≡ domain.now }
     ensures clean { IsClean task.new }
 {
@@ -22,11 +23,11 @@ pub fn pass<R: Wait>(rt: &R, domain: &Domain, task: &mut Task, head: u16)
     unlock(rt, domain, task, false);
 }
 
-/// Says whether head `head`, below HEADS, has members.
+/// Says whether head `head`, which is none of a completion, has members.
 pub fn look<R: Wait>(rt: &R, domain: &Domain, task: &mut Task, head: u16) -> bool
     requires of { task.old.domain ≡ domain.now }
     requires clean { IsClean task.old }
-    requires head { head < HEADS }
+    requires head { head < FIRST_DONE_HEAD }
     ensures of { task.new.domain ≡ domain.now }
     ensures clean { IsClean task.new }
 {
@@ -48,19 +49,17 @@ pub fn set_and_wake<R: Wait>(rt: &R, domain: &Domain, task: &mut Task) -> u32
     wake(rt, domain, task, watch, Mode::Normal, 0).woken
 }
 
-/// Passes through a hold of head `head`, below HEADS, and then sets condition 0 and wakes all who wait for it.
+/// Passes through a hold of head `head`, which is none of a completion, and then sets condition 0 and wakes all who
+/// wait for it.
 pub fn pass_and_wake<R: Wait>(rt: &R, domain: &Domain, task: &mut Task, head: u16) -> u32
     requires of { task.old.domain ≡ domain.now }
     requires clean { IsClean task.old }
-    requires head { head < HEADS }
+    requires head { head < FIRST_DONE_HEAD }
     ensures of { task.new.domain ≡ domain.now }
     ensures clean { IsClean task.new }
 {
-    lock(rt, domain, task, head);
-    unlock(rt, domain, task, false);
-    let watch = Watch::Plain { cond: 0 };
-    publish(domain, task, watch, 1);
-    wake(rt, domain, task, watch, Mode::Normal, 0).woken
+    pass(rt, domain, task, head);
+    set_and_wake(rt, domain, task)
 }
 
 /// Sets condition 0, wakes all who wait for it, and is taken in by another task.

@@ -6,6 +6,7 @@ pub mod completions;
 pub mod events;
 pub mod hashed;
 pub mod holds;
+pub mod kept;
 #[cfg(test)]
 mod round_tests;
 pub mod simple;

@@ -10,6 +10,7 @@ ghost use Rattle.wait_rule.specs.Says.{IsClean};
 use crate::hashed::{
     change, count_members, give_bit, take_bit, wait_until_changed, wait_until_clear,
 };
+use crate::kept::work_with_bit;
 use std::sync::Wait;
 use std::test::Fail;
 use std::thread;
@@ -188,6 +189,21 @@ fn hashed_parts_of_one_task(rt: HostRuntime) -> Result<(), Fail> {
     assert_eq!(rt; change(&rt, &domain, &mut other, 3), 0);
     assert_eq!(rt; wait_until_changed(&rt, &domain, &mut other), 3);
     assert_eq!(rt; count_members(&rt, &domain, &mut other), 0);
+    task.join(&domain, other);
+    Ok(())
+}
+
+/// Who keeps a bit sets a condition and waits for it, gives the bit back, and can be taken in.
+#[test]
+fn bit_is_kept_over_other_calls(rt: HostRuntime) -> Result<(), Fail> {
+    let (domain, mut task) = Domain::new(rt.alloc())?;
+    let Ok(mut other) = task.fork(&domain, 0) else {
+        panic!(rt; "numbers are spare")
+    };
+    let Some(holds) = work_with_bit(&rt, &domain, &mut other) else {
+        panic!(rt; "the bit is clear")
+    };
+    assert_eq!(rt; holds, 0);
     task.join(&domain, other);
     Ok(())
 }

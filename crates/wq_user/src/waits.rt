@@ -3,8 +3,8 @@
 ghost use Rattle.std.specs.Prelude.{◌≡◌, ◌<◌, IfOk, IfErr, Some};
 ghost use Rattle.wait_model.specs.declared.watches.Watch.TheVariants as watch;
 ghost use Rattle.wait_model.specs.Watches.{head_of};
-ghost use Rattle.wait_rule.specs.Says.{IsClean, IsUp, no_excuse};
-ghost use Rattle.wait_rule.specs.Stays.{Owes, Carries, take_off_change};
+ghost use Rattle.wait_rule.specs.Says.{IsClean, IsUp, no_excuse, Owes};
+ghost use Rattle.wait_rule.specs.Stays.{Carries, take_off_change};
 ghost use Rattle.wq_head.specs.Holds.{IsHolding};
 ghost use Rattle.wq_head.specs.Readied.{IsPlainKind};
 ghost use Rattle.wq_user.specs.Waiting.{HasQueuedOwn, IsWaiting};
@@ -72,6 +72,7 @@ fn take_off(domain: &Domain, task: &mut Task)
     ensures of { task.new.domain ≡ domain.now }
     ensures up { IsUp task.new }
     ensures held { IsHolding task.new }
+    ensures at { task.new.at ≡ task.old.at }
     ensures state { task.new.book.state ≡ task.old.book.state }
     ensures owes { Owes no_excuse task.new }
 {

@@ -3,7 +3,8 @@
 ghost use Rattle.std.specs.Prelude.{◌≡◌, ◌<◌};
 ghost use Rattle.wait_model.specs.declared.layout.TheConstants.{COMPLETIONS, FIRST_SIMPLE};
 ghost use Rattle.wait_rule.specs.Says.{IsClean};
-ghost use Rattle.bench_event.specs.Told.{MayTell};
+ghost use Rattle.wait_rule.specs.HandedPermits.{HasLeftNone};
+ghost use Rattle.bench_event.specs.Told.{HasLeftFor};
 
 use completion_cell::await_calls;
 use completion_cell::completes::complete;
@@ -53,6 +54,32 @@ pub(crate) fn set<R: Wait>(rt: &R, domain: &Domain, task: &mut Task, cond: u8) -
     set_and_wake(rt, domain, task, cond, 1, Mode::Normal, 0).woken
 }
 
+/// Completes completion `cell` for one waiter.
+fn complete_one<R: Wait>(rt: &R, domain: &Domain, task: &mut Task, cell: u8)
+    requires of { task.old.domain ≡ domain.now }
+    requires clean { IsClean task.old }
+    requires off { HasLeftNone task.old }
+    requires cell { cell < COMPLETIONS }
+    ensures of { task.new.domain ≡ domain.now }
+    ensures clean { IsClean task.new }
+    ensures off { HasLeftNone task.new }
+{
+    complete(rt, domain, task, cell);
+}
+
+/// Waits for completion `cell`, and takes one: false where the wait ended for another reason.
+fn await_one<R: Wait>(rt: &R, domain: &Domain, task: &mut Task, cell: u8) -> bool
+    requires of { task.old.domain ≡ domain.now }
+    requires clean { IsClean task.old }
+    requires off { HasLeftNone task.old }
+    requires cell { cell < COMPLETIONS }
+    ensures of { task.new.domain ≡ domain.now }
+    ensures clean { IsClean task.new }
+    ensures off { HasLeftNone task.new }
+{
+    await_calls::wait_for(rt, domain, task, cell, SleepState::Uninterruptible).is_ok()
+}
+
 /// By which calls one thread tells another that it may go on.
 #[derive(Clone, Copy)]
 pub(crate) enum Means {
@@ -65,17 +92,19 @@ pub(crate) enum Means {
 /// Tells whoever waits for condition or completion `number` to go on.
 pub(crate) fn tell<R: Wait>(rt: &R, domain: &Domain, task: &mut Task, means: Means, number: u8)
     requires of { task.old.domain ≡ domain.now }
-    requires may { MayTell means task.old }
+    requires clean { IsClean task.old }
+    requires off { HasLeftFor means task.old }
     requires full { number < FIRST_SIMPLE }
     requires cell { number < COMPLETIONS }
     ensures of { task.new.domain ≡ domain.now }
-    ensures may { MayTell means task.new }
+    ensures clean { IsClean task.new }
+    ensures off { HasLeftFor means task.new }
 {
     match means {
         Means::Condition => {
             set(rt, domain, task, number);
         }
-        Means::Completion => complete(rt, domain, task, number),
+        Means::Completion => complete_one(rt, domain, task, number),
     }
 }
 
@@ -88,16 +117,16 @@ pub(crate) fn hear<R: Wait>(
     number: u8,
 ) -> bool
     requires of { task.old.domain ≡ domain.now }
-    requires may { MayTell means task.old }
+    requires clean { IsClean task.old }
+    requires off { HasLeftFor means task.old }
     requires full { number < FIRST_SIMPLE }
     requires cell { number < COMPLETIONS }
     ensures of { task.new.domain ≡ domain.now }
-    ensures may { MayTell means task.new }
+    ensures clean { IsClean task.new }
+    ensures off { HasLeftFor means task.new }
 {
     match means {
         Means::Condition => receive(rt, domain, task, number),
-        Means::Completion => {
-            await_calls::wait_for(rt, domain, task, number, SleepState::Uninterruptible).is_ok()
-        }
+        Means::Completion => await_one(rt, domain, task, number),
     }
 }

@@ -30,6 +30,7 @@ often examples_threads tests::statuses_to_their_users
 often completion_cell tests::threads::permits
 often swait_queue tests::threads::waiters_are_joined
 often bit_wait tests::lock_threads::two_take_one_bit_in_turn
+often bit_wait tests::tallies::two_add_to_one_tally
 often var_wait tests::threads::waiter_sees_each_value
 often wq_user stranger_tests::strangers_on_one_head
 often wq_user round_tests::simple_waiter_is_joined

@@ -1,3 +1,4 @@
+pub mod FolderFiles
 pub mod Known
 pub mod Prefix
 pub mod Sending

@@ -19,3 +19,7 @@ CountsCall old new = (new.made ≡ min (old.made + 1) (2 ^ 64 - 1)) × (new.numb
 -- no call was made yet
 abbrev pub IsFresh : Calls → List ℕ → Type 0
 IsFresh calls numbers = (calls.numbers ≡ numbers) × (calls.made ≡ 0) × (calls.faults ≡ 0)
+
+-- Other numbers than before, and the same calls.
+abbrev pub IsRenumbered : Calls → Calls → List ℕ → Type 0
+IsRenumbered old new numbers = (new.numbers ≡ numbers) × (new.made ≡ old.made) × (new.faults ≡ old.faults)

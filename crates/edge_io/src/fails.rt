@@ -1,6 +1,6 @@
-ghost use Rattle.std.specs.Prelude.{◌≡◌, ◌<◌, ◌≤◌, ◌+◌, ◌↔◌, IfOk, IsTrue, IsFalse};
+ghost use Rattle.std.specs.Prelude.{◌≡◌, ◌<◌, ◌≤◌, ◌+◌, ◌↔◌, [], IfOk, OnErr, IsTrue, IsFalse};
 ghost use Rattle.edge_io.specs.Faults.{HasCounted};
-ghost use Rattle.edge_io.specs.Fails.{Calls, FailsNext, CountsCall, IsFresh};
+ghost use Rattle.edge_io.specs.Fails.{Calls, FailsNext, CountsCall, IsFresh, IsRenumbered};
 
 use std::alloc::{AllocError, Global};
 use std::marker::Model;
@@ -32,6 +32,34 @@ impl Fails {
             made: 0,
             faults: 0,
         })
+    }
+
+    // No call fails.
+    pub(crate) fn none(alloc: Global) -> Fails
+        ensures { IsFresh result [] }
+    {
+        Fails {
+            numbers: Vec::new(alloc),
+            made: 0,
+            faults: 0,
+        }
+    }
+
+    // Whether a call has failed.
+    pub(crate) fn has_failed(&self) -> bool
+        ensures { IsTrue result ↔ 0 < self.now.faults }
+    {
+        self.faults > 0
+    }
+
+    // Other numbers for the calls from here on. The calls so far stay counted. AllocError where they can't be
+    // kept: then nothing is changed.
+    pub(crate) fn renumber(&mut self, alloc: Global, numbers: &[u64]) -> Result<(), AllocError>
+        ensures numbers { IfOk result (λ _. IsRenumbered self.old self.new numbers.now) }
+        ensures same { OnErr result (self.new ≡ self.old) }
+    {
+        self.numbers = numbers.to_vec(alloc)?;
+        Ok(())
     }
 
     // Counts a call, and says whether it fails.

@@ -1,5 +1,5 @@
 ghost use Rattle.std.specs.Prelude.{◌≡◌, ◌<◌, ◌≤◌, ◌+◌, ◌^◌, ◌-◌, ◌↔◌, ◌++◌, [], length, drop, take, min};
-ghost use Rattle.std.specs.Prelude.{Some, IfOk, IsErr, IsErrOf, OnErr};
+ghost use Rattle.std.specs.Prelude.{Some, IfOk, IsErr, IsErrOf, IsTrue, OnErr};
 ghost use Rattle.edge_io.specs.Faults.{HasRisen, CountsFailed, CountsWanted};
 ghost use Rattle.edge_io.specs.Fails.{FailsNext, CountsCall, IsFresh};
 ghost use Rattle.edge_io.specs.Memory.{SourceState, SinkState};
@@ -40,6 +40,13 @@ impl MemSource {
             next: 0,
             fails: Fails::new(alloc, fails)?,
         })
+    }
+
+    // Whether a read has failed.
+    pub(crate) fn has_failed(&self) -> bool
+        ensures { IsTrue result ↔ 0 < self.now.reads.faults }
+    {
+        self.fails.has_failed()
     }
 }
 
@@ -115,6 +122,20 @@ impl MemSink {
         ensures { result.now ≡ self.now.held }
     {
         &self.bytes
+    }
+
+    // Whether a write has failed.
+    pub(crate) fn has_failed(&self) -> bool
+        ensures { IsTrue result ↔ 0 < self.now.writes.faults }
+    {
+        self.fails.has_failed()
+    }
+
+    // The bytes that it holds, with their memory.
+    pub(crate) fn into_bytes(self) -> Vec<u8>
+        ensures { result.items ≡ self.held }
+    {
+        self.bytes
     }
 }
 

@@ -1,0 +1,2 @@
+pub mod FoundEntries
+pub mod WalkSteps

@@ -28,6 +28,8 @@ pub mod HeldHeads
 pub mod PageStates
 pub mod MemberSteps
 pub mod PageSteps
+pub mod QuietFlags
+pub mod ToldFlags
 pub mod HandedPages
 pub mod QueuedPages
 pub mod AskedPages

@@ -5,7 +5,7 @@ pub mod FollowedRuns
 pub mod BegunRuns
 pub mod SignalledRuns
 pub mod WalkFindings
+pub mod FollowedWakes
 pub mod FollowedWalks
-pub mod PagelessWalks
 pub mod SelectingWalks
 pub mod SelectedEntries

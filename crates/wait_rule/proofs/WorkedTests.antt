@@ -1,5 +1,6 @@
 -- Worked histories, and what the tests of single steps show.
 pub mod QueuedEntry
 pub mod SelectedEntry
+pub mod HandedPage
 pub mod WorkedHolds
 pub mod WorkedEvents

@@ -1,7 +1,7 @@
 -- To be believed.
 -- What a task's own list tells of the page that it waits for: that its entry for the page is queued, and that a walk
 -- has taken the page for it.
-use Rattle.std.specs.Prelude.{ℕ, Bool, true, ◌==◌, if◌then◌else◌, Option, Some, None, List, [], ◌∷◌}
+use Rattle.std.specs.Prelude.{ℕ, Bool, true, false, ◌==◌, if◌then◌else◌, Option, Some, None, List, [], ◌∷◌}
 use Rattle.wait_model.specs.declared.steps.Step.{Step}
 use Rattle.wait_model.specs.declared.steps.Step.TheVariants as step
 use Rattle.wait_model.specs.Watches.{was_clear, word_of, is_page, page}
@@ -62,6 +62,10 @@ waits_at x _ = None
 abbrev pub given_at : ℕ → Asked → Option ℕ
 given_at x (was_given y p) = if y == x then Some p else None
 given_at x _ = None
+
+abbrev pub is_asking : Asked → Bool
+is_asking nothing_asked = false
+is_asking _ = true
 
 -- what each task asks for, by its list
 abbrev pub all_asked : (ℕ → List Item) → ℕ → Asked

@@ -2,6 +2,7 @@ pub mod Tickets
 pub mod Items
 pub mod Asked
 pub mod Pages
+pub mod Quiet
 pub mod Interleavings
 pub mod Notes
 pub mod Members

@@ -56,12 +56,24 @@ MayOpen call slot k = is_waiting call ≡ true → (told_of k).bits.stored (inde
 
 -- In each table that meets the rule, in which the task's list begins as it was after the call: what the task made of
 -- the call follows the sentence of the call to its end, and the answer is the one that the sentence gives. So it is for
--- all calls but those about completions, and those that walk, of which `WalksFollow` says it.
+-- all calls but those about completions, and those that walk, of which `WakesFollow` says it.
 abbrev pub RunsFollow : Type 0
 RunsFollow = (s : Table) (items : ℕ → List Item) → IsRuled s items → (call : Call) (slot : ℕ) (old new : Known)
     (a : Answer) (more : List Item) → items old.view.number ≡ new.view.items ++ more
     → slot < SLOTS → is_done (call_watch call) ≡ false → is_walking call ≡ false → MayOpen call slot old
     → (m : HasMade call slot old new a) → Follows old.view.number call (call_said call slot old new a m) a
+
+-- a wake is one of a plain condition, a clear one of a bit, and a store one of a variable
+abbrev pub MayWalk : Call → Type 0
+MayWalk (calls.Wake c mode n) = c < PLAIN_CONDITIONS
+MayWalk _ = Unit {0}
+
+-- the same of the calls that walk
+abbrev pub WakesFollow : Type 0
+WakesFollow = (s : Table) (items : ℕ → List Item) → IsRuled s items → (call : Call) (slot : ℕ) (old new : Known)
+    (a : Answer) (more : List Item) → items old.view.number ≡ new.view.items ++ more
+    → is_walking call ≡ true → MayWalk call → (m : HasMade call slot old new a)
+    → Follows old.view.number call (call_said call slot old new a m) a
 
 -- The task has gone through the call up to this place. What it has made of it so far begins the sentence: with some
 -- more events it comes to its end.

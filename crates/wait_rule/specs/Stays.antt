@@ -53,6 +53,10 @@ with_entry i x = record x { entries = λ y. (y == i) || x.entries y }
 unfoldable pub with_wakes : Watch → Mode → Excuse → Excuse
 with_wakes c m x = record x { wakes = λ d σ. x.wakes d σ || (same d c && meets (mask_of m) σ) }
 
+-- it is excused of that it asks for a page
+unfoldable pub with_page : Excuse → Excuse
+with_page x = record x { asks = true }
+
 unfoldable pub with_bits : (Watch → Bool) → Excuse → Excuse
 with_bits t x = record x { bits = λ d. t d || x.bits d }
 

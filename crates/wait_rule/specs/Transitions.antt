@@ -2,13 +2,15 @@
 -- The transitions of a call on a Domain: the task goes through the program of the call, the same that a core runs. Each
 -- event of the program is one step of its history, as a core would make it there; before it and after the last the
 -- task looks at words.
-use Rattle.std.specs.Prelude.{ℕ, ◌+◌, ◌≡◌, ◌<◌, ◌==◌, ◌||◌, not, Bool, true, false, Option, Some, None, List, [], ◌∷◌}
+use Rattle.std.specs.Prelude.{ℕ, ◌+◌, ◌≡◌, ◌<◌, ◌⊎◌, ◌==◌, ◌||◌, not, Bool, true, false}
+use Rattle.std.specs.Prelude.{Option, Some, None, List, [], ◌∷◌}
 use Rattle.wait_model.specs.declared.layout.TheConstants.{MEMBER_WORDS, PLACES, MIDDLE}
 use Rattle.wait_model.specs.declared.watches.Watch.{Watch}
 use Rattle.wait_model.specs.declared.watches.Entry.{Entry}
 use Rattle.wait_model.specs.declared.watches.Aim.{Aim}
 use Rattle.wait_model.specs.declared.queues.Form.{Form}
 use Rattle.wait_model.specs.declared.queues.Form.TheVariants as forms
+use Rattle.wait_model.specs.declared.queues.CalledEntry.{CalledEntry}
 use Rattle.wait_model.specs.declared.queues.Member.{Member}
 use Rattle.wait_model.specs.declared.calls.Call.{Call}
 use Rattle.wait_model.specs.declared.calls.Event.{Event}
@@ -46,7 +48,8 @@ use Rattle.wait_rule.specs.declared.journal.Item.TheVariants as item
 use Rattle.wait_rule.specs.Items.{book_from}
 use Rattle.wait_rule.specs.HeldValues.{value_from}
 use Rattle.wait_rule.specs.Known.{Known}
-use Rattle.wait_rule.specs.Says.{told_of, history_of, noted, added, grown}
+use Rattle.wait_rule.specs.Asked.{given_at as page_at}
+use Rattle.wait_rule.specs.Says.{told_of, history_of, noted, added, asks_for, grown}
 use Rattle.wait_rule.specs.Queues.{IsWholeBook, IsWalkOfCall, at_head, index}
 use Rattle.wait_rule.specs.Shown.{shown_entry, shown_queue}
 
@@ -133,8 +136,8 @@ IsQueuing k own g h form x e = (own ≡ Some x) × (h ≡ k.at) × IsWholeBook k
     × (e ≡ entry_for g form (place_for form (shown_queue k)))
 
 -- The step is the one that a core makes for the event, with what the event does not show as it is given. What the step
--- found, and the event shows, is what the program found (`FindsStep`). No step takes a page for a task or hands it on,
--- since no entry for a page stands.
+-- found, and the event shows, is what the program found (`FindsStep`). A flag word is cleared of WOKEN alone, or of the
+-- page too that was given to the task there.
 abbrev pub IsStepFor : Known → Option ℕ → Given → Event → Step → Type 0
 IsStepFor k own g (event.State v) (step.State σ) = σ ≡ v
 IsStepFor k own g (event.Sleep x) (step.Sleep w) = Unit {0}
@@ -157,7 +160,9 @@ IsStepFor k own g (event.Tas i b v) (step.Consume l n r) = (l ≡ g.watch) × (n
 IsStepFor k own g (event.Clear i b) (step.Publish l n r) = (l ≡ g.watch) × (n ≡ 0)
 IsStepFor k own g (event.Woken who) (step.Woken x) = owner x ≡ who
 IsStepFor k own g (event.Flag hit) (step.Flag x w) = own ≡ Some x
-IsStepFor k own g event.Unflag (step.Unflag x o) = (own ≡ Some x) × (o ≡ None)
+IsStepFor k own g event.Unflag (step.Unflag x o) = (own ≡ Some x) × ((o ≡ None) ⊎ (o ≡ page_at x (asks_for k)))
+IsStepFor k own g (event.TasFor p who v) (step.TasFor x q r) = (owner x ≡ who) × (q ≡ p)
+IsStepFor k own g (event.Handed who) (step.Handed x) = owner x ≡ who
 IsStepFor k own g _ _ = ⊥
 
 -- A look for members without the lock loads the member words of its head: all of them, where it finds no bit.
@@ -203,6 +208,7 @@ FindsStep (step.Load l r) seen = seen.value ≡ r
 FindsStep (step.Publish l n r) seen = seen.value ≡ r
 FindsStep (step.Consume l n r) seen = seen.value ≡ r
 FindsStep (step.Flag x w) seen = seen.flag ≡ flag_of w
+FindsStep (step.TasFor x p r) seen = seen.value ≡ r
 FindsStep _ seen = Unit {0}
 
 -- the own entry is as the hold has seen it, at its head or off
@@ -261,11 +267,18 @@ FindsAt k own form g (at.Walk (walking.Unmark w)) seen = seen.mark ≡ (noted k)
 FindsAt k own form g (at.Select (selecting.Next n)) seen = FindsFirst k seen
 FindsAt k own form g _ seen = Unit {0}
 
+-- the entry that the walk called
+abbrev pub IsCalled : Known → CalledEntry → ℕ → Type 0
+IsCalled k c x = (e : Entry) × (shown_entry k x ≡ Some e) × (c ≡ called_of (owner x) e)
+
 -- The entry that a step is about, where the event tells only whose it is: the one that the walk called or the selection
 -- woke, and else the own one.
 abbrev pub IsAbout : Known → Option ℕ → Point → Step → Seen → Type 0
 IsAbout k own (at.Walk (walking.Call w)) (step.Woken x) seen = (e : Entry) × (shown_entry k x ≡ Some e)
     × (seen.called ≡ Some (called_of (owner x) e))
+IsAbout k own (at.Walk (walking.Page st w c)) (step.TasFor x p r) seen = IsCalled k c x
+IsAbout k own (at.Walk (walking.Page st w c)) (step.Handed x) seen = IsCalled k c x
+IsAbout k own (at.Walk (walking.Page st w c)) (step.Unqueue x) seen = IsCalled k c x
 IsAbout k own (at.Walk (walking.Unqueue w who)) (step.Unqueue x) seen = (e : Entry) × (shown_entry k x ≡ Some e)
     × (e.place + 1 ≡ w.place)
 IsAbout k own (at.Select (selecting.Off n who)) (step.Unqueue x) seen = (m : Member)

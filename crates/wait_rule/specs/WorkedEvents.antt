@@ -11,7 +11,7 @@ use Rattle.wait_model.specs.declared.tasks.SleepState.TheVariants as states
 use Rattle.wait_model.specs.Tables.{met}
 use Rattle.wait_rule.specs.Heeding.{EndsSignalled, trail_of}
 use Rattle.wait_rule.specs.Interleavings.{TaskStep, table_of}
-use Rattle.wait_rule.specs.Selecting.{wakes_in}
+use Rattle.wait_rule.specs.Selecting.{yes_in}
 
 -- a walk of head 256 that meets task 3, and then task 4 running
 abbrev pub met_one : List Event
@@ -30,7 +30,7 @@ load_and_set = record { task = 2; made = step.Publish (watch.Plain 0) 1 0 }
     ∷ record { task = 1; made = step.Load (watch.Plain 0) 0 } ∷ []
 
 pub record WorkedEvents : Type 0 where
-  pub wakes : wakes_in met_one ≡ 1
+  pub wakes : yes_in met_one ≡ 1
   pub heeds : EndsSignalled 1 (calls.Wait 0 interruptible) (trail_of [] last_turn)
   pub first : (table_of load_and_set).history 1 ≡ step.Load (watch.Plain 0) 0 ∷ []
   pub second : (table_of load_and_set).history 2 ≡ step.Publish (watch.Plain 0) 1 0 ∷ []

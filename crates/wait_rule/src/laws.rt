@@ -11,7 +11,7 @@ ghost use Rattle.wait_rule.specs.HandedPermits.{RuleHandsPermitsOn, StepsHandPer
 ghost use Rattle.wait_rule.specs.Heeding.{RunsHeed, WordsHeed};
 ghost use Rattle.wait_rule.specs.FlagLaws.{FlagsComeFirst, RuleLosesNoFlag, StepsLoseNoFlag, WorkedFlags};
 ghost use Rattle.wait_rule.specs.PageLaws.{RuleHandsWhole, RuleLeavesNone, RuleTakesForWaiters, WorkedPages};
-ghost use Rattle.wait_rule.specs.SaidEvents.{RunsBegin, RunsFollow, WalksFollow};
+ghost use Rattle.wait_rule.specs.SaidEvents.{RunsBegin, RunsFollow, WakesFollow, WalksFollow};
 ghost use Rattle.wait_rule.specs.Selecting.{RunsSelect, RunsTell, WordsSelect};
 ghost use Rattle.wait_rule.specs.TableLaws.{RuleLosesNoWake, StepsLoseNoWake, AllLoseNoWake};
 ghost use Rattle.wait_rule.specs.TableLaws.{RuleCountsSpent, AllCountSpent};
@@ -86,11 +86,13 @@ pub fn tallies_are_sums()
 {}
 
 /// What a task makes of a call follows the sentence of the call to its end, and the answer is the one that the sentence
-/// gives: in each table that meets the rule, with the task's list, for all calls that neither walk nor are about a
-/// completion. What it has made of such a call that is not over begins the sentence. What it makes of a walk of a plain
-/// condition follows the sentence of a wake.
+/// gives: in each table that meets the rule, with the task's list, for all calls that are not about a completion: those
+/// that don't walk, and those that do, wakes of plain conditions and bits and variables that are published. What it has
+/// made of a call that doesn't walk and is not over begins the sentence. What it makes of a walk of a plain condition
+/// follows the sentence of a wake, whatever call makes the walk.
 pub fn runs_follow_sentences()
     ensures calls { RunsFollow }
+    ensures wakes { WakesFollow }
     ensures begun { RunsBegin }
     ensures walks { WalksFollow }
 {}
@@ -103,10 +105,11 @@ pub fn signals_are_heeded()
     ensures runs { RunsHeed }
 {}
 
-/// A walk's answer tells how many wakes met their task in it. Those that it selected are among them and, of a count
+/// A walk's answer tells how many functions of entries answered yes in it: how many wakes met their task, and how many
+/// pages were handed over, whatever the wake of that task met. Those that it selected are among them and, of a count
 /// above 0, at most the count; it ended as spent exactly where they were as many as such a count: so whatever follows
-/// the sentence of a wake and takes no page for a task, and whatever a task of a Domain makes of a walk, which takes no
-/// page. There the selected ones are just the exclusive entries that the walk called and whose wakes met their tasks.
+/// the sentence of a wake, and whatever a task of a Domain makes of a walk. There the selected ones are just the
+/// exclusive entries that the walk called and whose wakes met their tasks, and those whose pages it handed over.
 pub fn walks_select_at_most()
     ensures words { WordsSelect }
     ensures runs { RunsSelect }

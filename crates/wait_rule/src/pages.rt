@@ -12,9 +12,9 @@ ghost use Rattle.wait_rule.specs.Asked.{given_at};
 ghost use Rattle.wait_rule.specs.Bits.{KeepsBitOf};
 ghost use Rattle.wait_rule.specs.PageCalls.{tried_for_play, told_play, flag_word_play, noted_play};
 ghost use Rattle.wait_rule.specs.PageCalls.{HandsOver, HasTaken, HasTold, IsFlagWord, MayTryFor};
-ghost use Rattle.wait_rule.specs.PageCalls.{QueuesNoPage, ShowsGiven};
+ghost use Rattle.wait_rule.specs.PageCalls.{QueuesNoPage, ShowsGiven, ShowsNone};
 ghost use Rattle.wait_rule.specs.Queues.{IsAgreed, IsLocked, ShowsEntry, index};
-ghost use Rattle.wait_rule.specs.Says.{IsUp, added, asks_for};
+ghost use Rattle.wait_rule.specs.Says.{IsUp, added, asks_for, stored_with};
 ghost use Rattle.wait_rule.specs.Stays.{Carries, unchanged};
 
 use crate::domain::{Domain, Task};
@@ -135,6 +135,21 @@ pub fn handed_unqueue(domain: &Domain, task: &mut Task, who: u8, slot: u8)
     domain.table.shared.store::<Unqueued>(&mut task.seat, at, 0);
 }
 
+/// Takes the entry of `who` and slot 0 or 1 off the queue as `handed_unqueue` does, and clears its member bit.
+pub fn unqueue_handed(domain: &Domain, task: &mut Task, who: u8, slot: u8)
+    requires of { task.old.domain ≡ domain.now }
+    requires up { IsUp task.old }
+    requires held { IsLocked task.old }
+    requires slot { slot < SLOTS }
+    requires told { HasTold task.old who slot }
+    ensures { task.new ≡ stored_with task.old (step.Unqueue (index who slot)) }
+{
+    let head = task.head;
+    let index = SLOTS * u16::from(who) + u16::from(slot);
+    handed_unqueue(domain, task, who, slot);
+    member_store(domain, task, head, index, false);
+}
+
 /// Hands the page over to the task of the entry of `who` and slot 0 or 1, for which the hold has just taken it
 /// (`bit_set_for`): tells the task, wakes it with NORMAL, whatever the mode of the walk is, and takes its entry off,
 /// with its member bit. True where that wake met the task; one that had not gone to sleep yet finds the entry off, and
@@ -148,17 +163,15 @@ pub fn hand_over<R: Wait>(rt: &R, domain: &Domain, task: &mut Task, who: u8, slo
     requires entry { (e : Entry) × ShowsEntry task.old (index who slot) e }
     ensures { HandsOver task.old task.new who slot result }
 {
-    let head = task.head;
-    let index = SLOTS * u16::from(who) + u16::from(slot);
     handed_store(domain, task, who, slot);
     let met = wake_task(rt, domain, task, who, Mode::Normal);
-    handed_unqueue(domain, task, who, slot);
-    member_store(domain, task, head, index, false);
+    unqueue_handed(domain, task, who, slot);
     met
 }
 
 /// Loads the own flag word of slot 0 or 1: 0, WOKEN, or WOKEN with DONE. It is the last exactly where a walk told the
-/// task of a page and it has not taken note of it since; so where its own entry for a page was taken off by a walk.
+/// task of a page and it has not taken note of it since; so where its own entry for a page was taken off by a walk. It
+/// is 0 where the task asks for no page, and has queued no entry of kind Woken there since it cleared the word.
 pub fn flag_load(domain: &Domain, task: &mut Task, slot: u8) -> u64
     requires of { task.old.domain ≡ domain.now }
     requires up { IsUp task.old }
@@ -166,6 +179,7 @@ pub fn flag_load(domain: &Domain, task: &mut Task, slot: u8) -> u64
     ensures step { task.new ≡ added task.old (item.Made (step.Flag (index task.old.view.number slot) result)) }
     ensures word { IsFlagWord result }
     ensures given { ShowsGiven task.old (index task.old.view.number slot) result }
+    ensures none { ShowsNone task.old (index task.old.view.number slot) result }
     ensures carries { Carries unchanged task.old task.new }
 {
     let at = flag_at(task.number, slot) as usize;

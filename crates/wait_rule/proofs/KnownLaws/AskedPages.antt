@@ -1,6 +1,7 @@
 -- What lists with more items tell of pages, and what is said of pages where a task stored a member bit.
 use Rattle.std.proofs.Common.{refl, sym, ◌∙◌, ap, subst, inl, inr}
-use Rattle.std.specs.Prelude.{ℕ, ◌≡◌, ◌≢◌, ◌⊎◌, Bool, true, false, if◌then◌else◌, Some, None, List, [], ◌∷◌, ◌++◌}
+use Rattle.std.specs.Prelude.{ℕ, ◌≡◌, ◌≢◌, ◌⊎◌, ◌&&◌, not, Bool, true, false, if◌then◌else◌, Some, None}
+use Rattle.std.specs.Prelude.{List, [], ◌∷◌, ◌++◌}
 use mathlib.Core.Path.{fun_ext}
 use Rattle.wait_model.specs.declared.watches.Entry.{Entry}
 use Rattle.wait_model.specs.declared.steps.Step.{Step}
@@ -19,14 +20,29 @@ use Rattle.wait_rule.specs.Asked.{
   Asked,
   nothing_asked,
   waits_for,
+  was_given,
   given_if,
   ask_step,
   ask,
   asked_from,
   asked_of,
   all_asked,
+  is_asking,
 }
+use Rattle.wait_rule.specs.Known.{Known}
 use Rattle.wait_rule.specs.Pages.{takes, IsHandedBy, ArePagesHanded}
+use Rattle.wait_rule.specs.Says.{
+  AsksNoPage,
+  Debts,
+  Duty,
+  Excuse,
+  added,
+  asks_for,
+  excuses,
+  has_duty,
+  no_excuse,
+  page_asked,
+}
 use Rattle.wait_rule.proofs.KnownLaws.PageStates.{none_some, IsSameAt, hands_still, state_still}
 use Rattle.wait_rule.proofs.KnownLaws.MemberSteps.{put_again}
 
@@ -34,6 +50,10 @@ use Rattle.wait_rule.proofs.KnownLaws.MemberSteps.{put_again}
 pub asked_append : (k : Asked) (xs ys : List Item) → asked_from k (xs ++ ys) ≡ asked_from (asked_from k xs) ys
 asked_append k [] ys = refl
 asked_append k (x ∷ xs) ys = asked_append (ask x k) xs ys
+
+-- one item more
+pub asked_added : (k : Known) (i : Item) → asks_for (added k i) ≡ ask i (asks_for k)
+asked_added k i = asked_append nothing_asked k.view.items (i ∷ [])
 
 pub asked_quiet : (k : Asked) (xs : List Item) → steps_of xs ≡ [] → asked_from k xs ≡ k
 asked_quiet k [] none = refl
@@ -112,11 +132,12 @@ pages_seen s a d differs asked (inr none) r = record {
         let i = r.hands c y (sym (ap takes q.1) ∙ is) in
         (i.0, hands_still s s differs D asked asked y (still y) i.0 c i.1)
 
--- No call queues an entry for a page, so none is asked for.
+-- a page that is asked for by nobody is given to nobody
 given_none : (b : Bool) (x : ℕ) → given_if b x nothing_asked ≡ nothing_asked
 given_none true x = refl
 given_none false x = refl
 
+-- A task that asks for no page asks for none after a step that queues no entry for a page.
 pub asks_nothing : (e : Step) → ((x : ℕ) (f : Entry) → e ≡ step.Queue x f → is_page f.kind ≡ false)
     → ask_step e nothing_asked ≡ nothing_asked
 asks_nothing (step.Queue x f) none = ap (λ (t : Bool). if t then waits_for x (word_of f.watch) else nothing_asked)
@@ -125,3 +146,28 @@ asks_nothing (step.Saw x w) none = given_none (is_off (entry_of w)) x
 asks_nothing (step.Peek x w) none = given_none (is_off (entry_of w)) x
 asks_nothing (step.TasFor x p w) none = given_none (was_clear (page p) w) x
 asks_nothing e none = refl
+
+pub asks_nothing_of : (k : Asked) → is_asking k ≡ false → k ≡ nothing_asked
+asks_nothing_of nothing_asked none = refl
+asks_nothing_of (waits_for x p) none = absurd (cc)
+asks_nothing_of (was_given x p) none = absurd (cc)
+
+-- who is not excused of it asks for none, in the words of its debts or of its list
+pub asks_no_page : (k : Known) → AsksNoPage k → asks_for k ≡ nothing_asked
+asks_no_page k none = asks_nothing_of (asks_for k) (by (is_asking (asks_for k)) (none page_asked refl))
+  where
+    by : (b : Bool) → (b && true) ≡ false → b ≡ false
+    by true is = is
+    by false is = refl
+
+pub no_page_asked : (k : Known) → asks_for k ≡ nothing_asked → AsksNoPage k
+no_page_asked k none d is = subst (λ (o : Duty). (has_duty k o && not (excuses no_excuse o)) ≡ false) (sym is)
+    (ap (λ (q : Asked). is_asking q && true) none)
+
+pub asks_none_of : (x : Excuse) (k : Known) → x.asks ≡ false → Debts x k → asks_for k ≡ nothing_asked
+asks_none_of x k asks d = asks_nothing_of (asks_for k) (by (is_asking (asks_for k)) x.asks asks (d.none page_asked))
+  where
+    by : (b e : Bool) → e ≡ false → (b && not e) ≡ false → b ≡ false
+    by true true un is = un
+    by true false un is = is
+    by false e un is = refl

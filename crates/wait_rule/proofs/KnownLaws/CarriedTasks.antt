@@ -36,7 +36,7 @@ use Rattle.wait_rule.specs.declared.journal.Item.TheVariants as item
 use Rattle.wait_rule.specs.Items.{Book, after_sleep, after_awake, learn_step, steps_of}
 use Rattle.wait_rule.specs.Tickets.{Ticket}
 use Rattle.wait_rule.specs.Known.{Known}
-use Rattle.wait_rule.specs.Says.{Debts, Excuse, IsAwakeAgain, IsOutBut, Owes, added, is_excused, told_of}
+use Rattle.wait_rule.specs.Says.{Debts, Excuse, IsAwakeAgain, IsOutBut, Owes, added, is_excused, told_of, wake_of}
 use Rattle.wait_rule.proofs.KnownLaws.Debts.{begins_none, publish_debts, step_debts, wakes_after, wakes_debts}
 use Rattle.wait_rule.specs.Queues.{KnewEntry, MayUnqueue, index, saw}
 use Rattle.wait_rule.specs.Stays.{
@@ -73,21 +73,22 @@ covered true true y n more is = ap (λ (b : Bool). not (b || n)) (more refl)
 covered true false true n more is = refl
 covered true false false n more is = is
 
-pub owes_wakes : (x y : Excuse) (k : Known) → y.entries ≡ x.entries → y.bits ≡ x.bits
+pub owes_wakes : (x y : Excuse) (k : Known) → y.entries ≡ x.entries → y.bits ≡ x.bits → y.asks ≡ x.asks
     → ((c : Watch) (σ : ℕ) → ((told_of k).duty.owes c σ && not (is_excused y c σ)) ≡ false) → Owes x k → Owes y k
-owes_wakes x y k entries bits wakes o = record {
+owes_wakes x y k entries bits asks wakes o = record {
   unmarked = o.unmarked;
-  debts = wakes_debts x y k entries wakes o.debts;
+  debts = wakes_debts x y k asks wakes o.debts;
   unqueued = λ i. subst (λ (f : ℕ → Bool). IsOutBut (f i) ((told_of k).bits.stored i)) (sym entries) (o.unqueued i);
   holds = λ c. ap (λ (f : Watch → Bool). not (f c) && (told_of k).bits.keeps c) bits ∙ o.holds c;
   tries = o.tries;
   tries_none = o.tries_none;
 }
 
-pub owes_more : (x y : Excuse) (k : Known) → y.entries ≡ x.entries → y.bits ≡ x.bits
+pub owes_more : (x y : Excuse) (k : Known) → y.entries ≡ x.entries → y.bits ≡ x.bits → y.asks ≡ x.asks
     → ((c : Watch) (σ : ℕ) → x.wakes c σ ≡ true → y.wakes c σ ≡ true) → Owes x k → Owes y k
-owes_more x y k entries bits more o = owes_wakes x y k entries bits (λ c σ. covered ((told_of k).duty.owes c σ)
-    (x.wakes c σ) (y.wakes c σ) (not (meets (mask_of mode.Normal) σ)) (more c σ) (o.debts.wakes c σ)) o
+owes_more x y k entries bits asks more o = owes_wakes x y k entries bits asks
+    (λ c σ. covered ((told_of k).duty.owes c σ) (x.wakes c σ) (y.wakes c σ) (not (meets (mask_of mode.Normal) σ))
+    (more c σ) (o.debts.none (wake_of c σ))) o
 
 -- where entries stay, but for the state and the head
 still_out : (now was : Option Entry) → (now ≡ was) ⊎ (now ≡ None) → was ≡ None → now ≡ None
@@ -379,7 +380,7 @@ saw_book : (o : Option ℕ) (x w h : ℕ) (v : Told) → o ≡ Some h
 saw_book None x w h v is = absurd (cc)
 saw_book (Some i) x w h v is = put_same v.hold.book x (look_at v.hold.head (entry_of w))
 
-look_here : (h : ℕ) (e : Entry) → head_of e.watch ≡ h → look_at (Some h) (Some e) ≡ shown e
+pub look_here : (h : ℕ) (e : Entry) → head_of e.watch ≡ h → look_at (Some h) (Some e) ≡ shown e
 look_here h e is = ap (λ (b : Bool). if b then shown e else elsewhere) (eq-eqb (head_of e.watch) h is)
 
 on_entry : (o : Option Entry) → is_on o ≡ true → (e : Entry) × (o ≡ Some e)

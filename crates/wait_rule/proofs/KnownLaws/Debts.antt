@@ -19,6 +19,7 @@ use Rattle.std.specs.Prelude.{
   ◌∷◌,
 }
 use Rattle.wait_model.specs.declared.watches.Watch.{Watch}
+use Rattle.wait_model.specs.declared.watches.Entry.{Entry}
 use Rattle.wait_model.specs.declared.watches.Mode.TheVariants as mode
 use Rattle.wait_model.specs.declared.steps.Step.{Step}
 use Rattle.wait_model.specs.declared.steps.Step.TheVariants as step
@@ -34,10 +35,28 @@ use Rattle.wait_rule.specs.Items.{Book, steps_of}
 use Rattle.wait_rule.specs.Journals.{pushed}
 use Rattle.wait_rule.specs.Known.{Known}
 use Rattle.wait_rule.specs.Notes.{tell}
-use Rattle.wait_rule.specs.Says.{Debts, Excuse, added, grown, is_excused, seen_with, stored_with, told_of, unlocked_with}
+use Rattle.wait_rule.specs.Asked.{Asked, ask, ask_step, is_asking}
+use Rattle.wait_rule.specs.Says.{
+  Debts,
+  Duty,
+  Excuse,
+  added,
+  asks_for,
+  excuses,
+  grown,
+  has_duty,
+  is_excused,
+  page_asked,
+  seen_with,
+  stored_with,
+  told_of,
+  unlocked_with,
+  wake_of,
+}
 use Rattle.wait_rule.specs.Stays.{with_wakes}
 use Rattle.wait_rule.specs.Transitions.{AreLooks, OnlyLooks}
 use Rattle.wait_rule.proofs.KnownLaws.AfterSteps.{told_added}
+use Rattle.wait_rule.proofs.KnownLaws.AskedPages.{asked_added, asks_nothing, asks_nothing_of}
 
 -- the steps that begin no debt: all but a publish, and an entry for a page that is queued
 abbrev pub begins_none : Step → Bool
@@ -105,6 +124,19 @@ wakes_told (item.Serving h w) v is c σ none = none
 wakes_told item.Served v is c σ none = none
 wakes_told (item.Tally p n w) v is c σ none = none
 
+-- a task that asks for no page asks for none then
+asks_none_then : (x : Item) (k : Asked) → item_begins_none x ≡ true → is_asking k ≡ false → is_asking (ask x k) ≡ false
+asks_none_then (item.Made e) k is none = ap (λ (q : Asked). is_asking (ask_step e q)) (asks_nothing_of k none)
+    ∙ ap is_asking (asks_nothing e (λ x f same. queues_none x f (ap begins_none (sym same) ∙ is)))
+  where
+    queues_none : (x : ℕ) (f : Entry) → begins_none (step.Queue x f) ≡ true → is_page f.kind ≡ false
+    queues_none x f quiet = by (is_page f.kind) quiet
+      where
+        by : (b : Bool) → not b ≡ true → b ≡ false
+        by false q = refl
+        by true q = absurd (cc)
+asks_none_then x k is none = none
+
 no_more : (p q n : Bool) → (p ≡ false → q ≡ false) → (p && n) ≡ false → (q && n) ≡ false
 no_more false q n f is = ap (λ (b : Bool). b && n) (f refl)
 no_more true false n f is = refl
@@ -112,11 +144,16 @@ no_more true true n f is = is
 
 -- one item more: the place where a further part of `Debts` is shown for each kind of step
 item_debts : (x : Excuse) (k : Known) (i : Item) → item_begins_none i ≡ true → Debts x k → Debts x (added k i)
-item_debts x k i is d = record {
-  wakes = λ c σ. no_more ((told_of k).duty.owes c σ) ((told_of (added k i)).duty.owes c σ) (not (is_excused x c σ))
-      (λ none. ap (λ (v : Told). v.duty.owes c σ) (told_added k i) ∙ wakes_told i (told_of k) is c σ none)
-      (d.wakes c σ);
-}
+item_debts x k i is d = record { none = by }
+  where
+    by : (o : Duty) → (has_duty (added k i) o && not (excuses x o)) ≡ false
+    by (wake_of c σ) = no_more ((told_of k).duty.owes c σ) ((told_of (added k i)).duty.owes c σ)
+        (not (is_excused x c σ))
+        (λ none. ap (λ (v : Told). v.duty.owes c σ) (told_added k i) ∙ wakes_told i (told_of k) is c σ none)
+        (d.none (wake_of c σ))
+    by page_asked = no_more (is_asking (asks_for k)) (is_asking (asks_for (added k i))) (not x.asks)
+        (λ none. ap is_asking (asked_added k i) ∙ asks_none_then i (asks_for k) is none)
+        (d.none page_asked)
 
 -- a publish makes the task owe wakes of its watch
 published_wakes : (s o x m : Bool) → (o && not (x || not m)) ≡ false
@@ -127,33 +164,45 @@ published_wakes true o true m is = refl
 published_wakes true o false true is = refl
 published_wakes true o false false is = refl
 
+published_none : (c : Watch) (n r : ℕ) (x : Excuse) (old new : Known) → new ≡ added old (item.Made
+    (step.Publish c n r))
+    → Debts x old → (o : Duty) → (has_duty new o && not (excuses (with_wakes c mode.Normal x) o)) ≡ false
+unfolding with_wakes
+published_none c n r x old new is d (wake_of b σ) = ap (λ (v : Told). v.duty.owes b σ
+    && not ((x.wakes b σ || (same b c && meets (mask_of mode.Normal) σ))
+    || not (meets (mask_of mode.Normal) σ))) (ap told_of is ∙ told_added old (item.Made (step.Publish c n r)))
+    ∙ published_wakes (same b c) ((told_of old).duty.owes b σ) (x.wakes b σ) (meets (mask_of mode.Normal) σ)
+    (d.none (wake_of b σ))
+published_none c n r x old new is d page_asked = ap (λ (k : Asked). is_asking k && not x.asks) (ap asks_for is
+    ∙ asked_added old (item.Made (step.Publish c n r))) ∙ d.none page_asked
+
 pub publish_debts : (c : Watch) (n r : ℕ) (x : Excuse) (old new : Known) → new ≡ added old (item.Made
     (step.Publish c n r))
     → Debts x old → Debts (with_wakes c mode.Normal x) new
-unfolding with_wakes
-publish_debts c n r x old new is d = record {
-  wakes = λ b σ. ap (λ (v : Told). v.duty.owes b σ && not ((x.wakes b σ || (same b c && meets (mask_of mode.Normal) σ))
-      || not (meets (mask_of mode.Normal) σ))) (ap told_of is ∙ told_added old (item.Made (step.Publish c n r)))
-      ∙ published_wakes (same b c) ((told_of old).duty.owes b σ) (x.wakes b σ) (meets (mask_of mode.Normal) σ)
-      (d.wakes b σ);
-}
+publish_debts c n r x old new is d = record { none = published_none c n r x old new is d }
 
 -- by another excuse of wakes
-pub wakes_debts : (x y : Excuse) (k : Known) → y.entries ≡ x.entries
+pub wakes_debts : (x y : Excuse) (k : Known) → y.asks ≡ x.asks
     → ((c : Watch) (σ : ℕ) → ((told_of k).duty.owes c σ && not (is_excused y c σ)) ≡ false) → Debts x k → Debts y k
-wakes_debts x y k entries wakes d = record { wakes = wakes }
+wakes_debts x y k asks wakes d = record { none = by }
+  where
+    by : (o : Duty) → (has_duty k o && not (excuses y o)) ≡ false
+    by (wake_of c σ) = wakes c σ
+    by page_asked = ap (λ (b : Bool). is_asking (asks_for k) && not b) asks ∙ d.none page_asked
 
 -- by another excuse of entries and bits
-pub entries_debts : (x y : Excuse) (k : Known) → y.wakes ≡ x.wakes → Debts x k → Debts y k
-entries_debts x y k same d = record {
-  wakes = λ c σ. ap (λ (f : Watch → ℕ → Bool). (told_of k).duty.owes c σ && not (f c σ
-      || not (meets (mask_of mode.Normal) σ))) same ∙ d.wakes c σ;
-}
+pub entries_debts : (x y : Excuse) (k : Known) → y.wakes ≡ x.wakes → y.asks ≡ x.asks → Debts x k → Debts y k
+entries_debts x y k same asks d = record { none = by }
+  where
+    by : (o : Duty) → (has_duty k o && not (excuses y o)) ≡ false
+    by (wake_of c σ) = ap (λ (f : Watch → ℕ → Bool). (told_of k).duty.owes c σ && not (f c σ
+        || not (meets (mask_of mode.Normal) σ))) same ∙ d.none (wake_of c σ)
+    by page_asked = ap (λ (b : Bool). is_asking (asks_for k) && not b) asks ∙ d.none page_asked
 
 -- The debts are those of the list, of whatever book.
 pub list_debts : (x : Excuse) (old new : Known) → new.view ≡ old.view → Debts x old → Debts x new
 list_debts x old new same d = subst (λ (v : Journal). Debts x (seen_with new v)) (sym same)
-    (record { wakes = d.wakes })
+    (record { none = d.none })
 
 -- more items
 more_debts : (x : Excuse) (k : Known) (v : Journal) (xs : List Item) → all_begin_none xs → v ≡ pushed k.view xs

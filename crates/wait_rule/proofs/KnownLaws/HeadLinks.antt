@@ -31,7 +31,17 @@ use Rattle.wait_model.proofs.Functions.{put_case, put_at, put_same, put_other}
 use Rattle.wait_rule.specs.declared.journal.Item.{Item}
 use Rattle.wait_rule.specs.declared.journal.Item.TheVariants as item
 use Rattle.wait_rule.specs.Items.{steps_of}
-use Rattle.wait_rule.specs.Notes.{Notes, Glance, note_step, notes_after_wake, after_call, callee, notes_of}
+use Rattle.wait_rule.specs.Notes.{
+  Notes,
+  Glance,
+  note_step,
+  notes_after_wake,
+  after_call,
+  after_telling,
+  callee,
+  is_for_look,
+  notes_of,
+}
 use Rattle.wait_rule.specs.Members.{MarkAgrees}
 use Rattle.wait_rule.specs.Rule.{AreLinked, all_notes}
 use Rattle.wait_rule.proofs.KnownLaws.AfterSteps.{notes_after}
@@ -113,6 +123,23 @@ wake_marks (Some a) who mask met v k = by (mask == mask_of a.mode)
   where
     by : (b : Bool) → (if b then after_call a (callee v k a.watch who) met v k else k).marks ≡ k.marks
     by true = call_marks a (callee v k a.watch who) met v k
+    by false = refl
+
+-- and that a task is told of its page tells nothing of them
+pub telling_own : (o : Option Aim) (x : ℕ) (v : Told) (k : Notes) → (after_telling o x v k).own ≡ k.own
+telling_own None x v k = refl
+telling_own (Some a) x v k = by (is_for_look a.watch (v.hold.book x))
+  where
+    by : (b : Bool) → (if b then after_call a (Some x) true v k else k).own ≡ k.own
+    by true = refl
+    by false = refl
+
+pub telling_marks : (o : Option Aim) (x : ℕ) (v : Told) (k : Notes) → (after_telling o x v k).marks ≡ k.marks
+telling_marks None x v k = refl
+telling_marks (Some a) x v k = by (is_for_look a.watch (v.hold.book x))
+  where
+    by : (b : Bool) → (if b then after_call a (Some x) true v k else k).marks ≡ k.marks
+    by true = refl
     by false = refl
 
 pub wake_links : (s : Table) (a who mask w : ℕ) → KeepsLinks s a (step.Wake who mask w)

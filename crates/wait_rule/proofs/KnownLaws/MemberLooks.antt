@@ -11,10 +11,12 @@ use Rattle.wait_model.proofs.Functions.{put_at}
 use Rattle.wait_rule.specs.declared.journal.Item.TheVariants as item
 use Rattle.wait_rule.specs.Notes.{Notes, Glance, away, glance_at}
 use Rattle.wait_rule.specs.Known.{Known}
-use Rattle.wait_rule.specs.Says.{added, told_of, noted}
+use Rattle.wait_rule.specs.Asked.{ask_step}
+use Rattle.wait_rule.specs.Says.{added, asks_for, told_of, noted}
 use Rattle.wait_rule.specs.Queues.{saw}
 use Rattle.wait_rule.specs.Looking.{HasSeenEntries, HasSeenMarks}
 use Rattle.wait_rule.proofs.KnownLaws.AfterSteps.{told_added, noted_added}
+use Rattle.wait_rule.proofs.KnownLaws.AskedPages.{asked_added, asks_nothing}
 
 none_off : (o : Option Entry) (h : ℕ) → is_shown o ≡ false → look_at (Some h) o ≡ off
 none_off None h q = refl
@@ -37,7 +39,10 @@ module _ (first old new : Known) (h x w : ℕ) (held : old.book.head ≡ Some h)
     number = ap (λ (k : Known). k.view.number) now ∙ s.number;
     head = ap (λ (v : Told). v.hold.head) (told_now ∙ told_added old (item.Made (step.Saw x w))) ∙ s.head;
     walk = ap (λ (v : Told). v.walk) (told_now ∙ told_added old (item.Made (step.Saw x w))) ∙ s.walk;
+    mark = ap (λ (v : Told). v.mark) (told_now ∙ told_added old (item.Made (step.Saw x w))) ∙ s.mark;
     noted = ap noted now ∙ (noted_added old (item.Made (step.Saw x w)) ∙ s.noted);
+    asks = λ none. ap asks_for now ∙ (asked_added old (item.Made (step.Saw x w))
+        ∙ (ap (ask_step (step.Saw x w)) (s.asks none) ∙ asks_nothing (step.Saw x w) (λ y f same. absurd (cc))));
     seen = λ q. absurd (cc);
   }
 
@@ -52,7 +57,9 @@ module _ (first old new : Known) (h x w : ℕ) (held : old.book.head ≡ Some h)
         number = m.number;
         head = m.head;
         walk = m.walk;
+        mark = m.mark;
         noted = m.noted;
+        asks = m.asks;
         seen = λ q y small. ap (λ (v : Told). v.hold.book y)
             (told_now ∙ told_added old (item.Made (step.Saw x w)))
             ∙ put_at (λ (l : Look). l ≡ off) (told_of old).hold.book x
@@ -78,6 +85,7 @@ module _ (first old new : Known) (h t w : ℕ) (told : (told_of old).hold.head �
         ∙ (ap (λ (k : Notes). k.from) (noted_added old (item.Bookmark t w)) ∙ s.from);
     called = ap (λ (k : Known). (noted k).called) is
         ∙ (ap (λ (k : Notes). k.called) (noted_added old (item.Bookmark t w)) ∙ s.called);
+    asks = ap asks_for is ∙ (asked_added old (item.Bookmark t w) ∙ s.asks);
     seen = λ q. absurd (cc);
   }
 
@@ -95,6 +103,7 @@ module _ (first old new : Known) (h t w : ℕ) (told : (told_of old).hold.head �
         walk = m.walk;
         from = m.from;
         called = m.called;
+        asks = m.asks;
         seen = λ q u small. ap (λ (k : Known). (noted k).marks u) is
             ∙ (ap (λ (k : Notes). k.marks u) (noted_added old (item.Bookmark t w))
             ∙ put_at (λ (g : Glance). g ≡ away) (noted old).marks t

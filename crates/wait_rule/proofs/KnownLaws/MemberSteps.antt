@@ -27,6 +27,7 @@ use Rattle.std.proofs.lemmas.Bool.Decides.{eqb_tells, nat_tests}
 use mathlib.Core.Path.{fun_ext}
 use Rattle.wait_model.specs.declared.layout.TheConstants.{ENTRIES}
 use Rattle.wait_model.specs.declared.watches.Entry.{Entry}
+use Rattle.wait_model.specs.declared.watches.Kind.TheVariants as kind
 use Rattle.wait_model.specs.declared.queues.Mark.{Mark}
 use Rattle.wait_model.specs.declared.steps.Step.{Step}
 use Rattle.wait_model.specs.declared.steps.Step.TheVariants as step
@@ -84,7 +85,7 @@ IsOwnPage s a x = (e : Entry) → s.entry x ≡ Some e → is_page e.kind ≡ tr
 -- where no word differs from its bit, as a bit is by a test-and-set; and a lock is taken by a ticket that was read as
 -- served. Where a page was taken for a task, the hold tells it and takes its entry off before it does any of these; an
 -- entry that waits by its flag word is queued by a task that asks for no page, and a flag word is cleared by a task
--- that has no entry for a page there.
+-- that has no entry for a page there. A flag is set of an entry of kind Woken.
 abbrev pub IsOrderly : Table → ℕ → Step → Book → Type 0
 IsOrderly s a (step.Lock h aim w) b = (n : ℕ) × (b.ticket ≡ served h n)
 IsOrderly s a (step.Unlock h sp) b = b.differs ≡ nothing
@@ -93,7 +94,7 @@ IsOrderly s a (step.Unqueue x) b = (((b.differs ≡ nothing) × IsOwnPage s a x)
     × (x < ENTRIES)
 IsOrderly s a (step.TasFor x p r) b = b.differs ≡ nothing
 IsOrderly s a (step.Handed x) b = b.differs ≡ page_taken x
-IsOrderly s a (step.Woken x) b = s.taken x ≡ None
+IsOrderly s a (step.Woken x) b = (s.taken x ≡ None) × ((e : Entry) → s.entry x ≡ Some e → e.kind ≡ kind.Woken)
 IsOrderly s a (step.Unflag x o) b = ((s.taken x ≡ None) × IsPageless (s.entry x))
     ⊎ IsPageless ((s.view a).bits.stored x)
 IsOrderly s a (step.Mark h q) b = (b.differs ≡ nothing) × (s.mark a ≡ None)

@@ -338,7 +338,7 @@ module _ (s : Table) (a : ℕ) (b : Book) (differs : ℕ → Difference) (asked 
   pages_next (step.Unqueue x) may o = unqueue_pages x may o
   pages_next (step.TasFor x p w) may o = tried_pages s a b differs asked same r sound x p w may o
   pages_next (step.Handed x) may o = handed_pages s a b differs asked same r sound x o
-  pages_next (step.Woken x) may o = woken_pages s a b differs asked same r sound x o
+  pages_next (step.Woken x) may o = woken_pages s a b differs asked same r sound x o.0
   pages_next (step.Unflag x f) may o = unflag_pages s a b differs asked same r sound x f may.0 o
   pages_next (step.Saw x w) may o = looked_pages s a b differs asked same r sound x (step.Saw x w) refl refl refl
       (ap (λ (f : Option Entry). given_if (is_off f) x (asked a)) may)

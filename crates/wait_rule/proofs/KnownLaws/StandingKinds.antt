@@ -1,6 +1,6 @@
 -- Entries for pages: which entries they are, and that a task that asks for none has none.
 use Rattle.std.proofs.Common.{◌∙◌, ap, sym, inl, inr}
-use Rattle.std.specs.Prelude.{ℕ, ◌≡◌, ◌⊎◌, Bool, true, false, Some, None, List}
+use Rattle.std.specs.Prelude.{ℕ, ◌≡◌, ◌⊎◌, true, false, Some, None, List}
 use Rattle.wait_model.specs.declared.watches.Watch.{Watch}
 use Rattle.wait_model.specs.declared.watches.Watch.TheVariants as watch
 use Rattle.wait_model.specs.declared.watches.Entry.{Entry}
@@ -12,29 +12,19 @@ use Rattle.wait_model.specs.Tables.{Table}
 use Rattle.wait_rule.specs.declared.journal.Item.{Item}
 use Rattle.wait_rule.specs.Asked.{nothing_asked, waits_at, given_at, all_asked}
 use Rattle.wait_rule.specs.MemberWords.{all_differences}
-use Rattle.wait_rule.specs.Members.{IsStanding, IsKindFor}
+use Rattle.wait_rule.specs.Members.{IsStanding}
 use Rattle.wait_rule.specs.Pages.{uses_flag, IsAskedAt, IsPageState}
 use Rattle.wait_rule.specs.Rule.{IsRuled}
 use Rattle.wait_rule.proofs.KnownLaws.PageStates.{none_some}
 use Rattle.wait_rule.proofs.KnownLaws.PageSteps.{not_both, unflagged}
 use Rattle.wait_rule.proofs.KnownLaws.MemberSteps.{AsksNone, MayAsk}
 
-plain_not_page : (k : Kind) → (k ≡ kind.Default) ⊎ ((k ≡ kind.Autoremove) ⊎ ((k ≡ kind.Woken) ⊎ (k ≡ kind.Simple)))
+pub plain_not_page : (k : Kind) → (k ≡ kind.Default) ⊎ ((k ≡ kind.Autoremove) ⊎ ((k ≡ kind.Woken) ⊎ (k ≡ kind.Simple)))
     → is_page k ≡ false
 plain_not_page k (inl is) = ap is_page is
 plain_not_page k (inr (inl is)) = ap is_page is
 plain_not_page k (inr (inr (inl is))) = ap is_page is
 plain_not_page k (inr (inr (inr is))) = ap is_page is
-
--- no entry for a page stands, whatever its watch is: so no walk of a Domain comes to a point at which it takes one
-pub not_page : (x : ℕ) (e : Entry) → IsStanding x e → is_page e.kind ≡ false
-not_page x e at = by e.watch e.kind e.exclusive at.lawful.suited at.kind
-  where
-    by : (w : Watch) (k : Kind) (exclusive : Bool) → Suited w k → IsKindFor w k exclusive → is_page k ≡ false
-    by (watch.Plain c) k exclusive suited is = plain_not_page k suited.1
-    by (watch.Done d) k exclusive suited is = ap is_page suited.1
-    by (watch.Bit w b) k exclusive suited is = is
-    by (watch.Var v o) k exclusive suited is = ap is_page suited.2
 
 -- an entry of kind Page is one for a page
 pub page_watch : (x : ℕ) (e : Entry) → IsStanding x e → is_page e.kind ≡ true → e.watch ≡ page (word_of e.watch)

@@ -98,7 +98,7 @@ use Rattle.wait_rule.proofs.SaidEvents.Fronts.{looks_history, step_follows, step
 use Rattle.wait_rule.proofs.SaidEvents.WalkFindings.{Arrives, arrives, no_strangers, some_called}
 
 -- the head that a task holds, by its history
-abbrev head_in : Known → Option ℕ
+abbrev pub head_in : Known → Option ℕ
 head_in k = (told_of k).hold.head
 
 looks_head : (xs : List Item) → AreLooks xs → (v : Told) → (after_all v (steps_of xs)).hold.head ≡ v.hold.head
@@ -124,12 +124,12 @@ told_on : (k new : Known) (es : List Step) → history_of new ≡ history_of k +
     → told_of new ≡ after_all (told_of k) es
 told_on k new es is = ap view_of is ∙ after_append blank (history_of k) es
 
-head_on : (old new : Known) → OnlyLooks old new → head_in new ≡ head_in old
+pub head_on : (old new : Known) → OnlyLooks old new → head_in new ≡ head_in old
 head_on old new l = ap (λ (v : Told). v.hold.head) (told_on old new (steps_of l.items) (looks_history old new l))
     ∙ looks_head l.items l.looks (told_of old)
 
 -- what an event does to it
-abbrev head_by : Event → Option ℕ → Option ℕ
+abbrev pub head_by : Event → Option ℕ → Option ℕ
 head_by (event.Lock h) o = Some h
 head_by (event.Unlock h used) o = None
 head_by _ o = o
@@ -145,7 +145,7 @@ step_head k own g ev (step.Lock i aim w) v made = absurd made
 step_head k own g ev (step.Unlock i sp) v made = absurd made
 step_head k own g ev e v made = refl
 
-made_head : (k : Known) (own : Option ℕ) (g : Given) (ev : Event) (did : StepOrLook) → IsMadeFor k own g ev did
+pub made_head : (k : Known) (own : Option ℕ) (g : Given) (ev : Event) (did : StepOrLook) → IsMadeFor k own g ev did
     → head_in (after_step_or_look did k) ≡ head_by ev (head_in k)
 made_head k own g ev (by_step e) made = ap (λ (v : Told). v.hold.head)
     (told_on k (after_step_or_look (by_step e) k) (e ∷ []) (step_history (by_step e) k))
@@ -160,17 +160,17 @@ module _ (aim : Aim) where
   abbrev h : ℕ
   h = head_of aim.watch
 
-  abbrev HeldAt : WalkPoint → Option ℕ → Type 0
+  abbrev pub HeldAt : WalkPoint → Option ℕ → Type 0
   HeldAt walking.Lock o = Unit {0}
   HeldAt (walking.BreakLock w) o = Unit {0}
   HeldAt p o = o ≡ Some h
 
-  abbrev HeldOn : Option ℕ → Next → Type 0
+  abbrev pub HeldOn : Option ℕ → Next → Type 0
   HeldOn o (next.Go (at.Walk p)) = HeldAt p o
   HeldOn o (next.Go p) = ⊥
   HeldOn o (next.Ends a) = Unit {0}
 
-  abbrev Holds : Option ℕ → Planned → Type 0
+  abbrev pub Holds : Option ℕ → Planned → Type 0
   Holds o x = HeldOn (head_by x.event o) x.next
 
   module _ (o : Option ℕ) (held : o ≡ Some h) where
@@ -222,7 +222,7 @@ module _ (aim : Aim) where
     next_holds w None seen hit = tt
     next_holds w (Some c) seen hit = entry_holds w c c.kind seen hit
 
-  walk_holds : (o : Option ℕ) (p : WalkPoint) (seen : Seen) → HeldAt p o → Holds o (walk_event aim p seen)
+  pub walk_holds : (o : Option ℕ) (p : WalkPoint) (seen : Seen) → HeldAt p o → Holds o (walk_event aim p seen)
   walk_holds o walking.Lock seen held = refl
   walk_holds o (walking.Call w) seen held = either (Holds o) seen.breaks _ _ held
       (next_holds o held (reached w seen.calls) seen.called seen (meets (mask_of aim.mode) seen.other.state))

@@ -1,4 +1,4 @@
--- A walk's answer tells how many exclusive entries its wakes met.
+-- A walk's answer tells how many exclusive entries its wakes met, and how many pages it handed over.
 use Rattle.std.proofs.Common.{refl, ap, arith}
 use Rattle.std.specs.Prelude.{ℕ, ◌≡◌, ◌+◌, ◌&&◌, Bool, true, false, if◌then◌else◌, Option, Some, None, List, [], ◌∷◌}
 use Rattle.wait_model.specs.declared.calls.Event.TheVariants as event
@@ -16,14 +16,14 @@ use Rattle.wait_model.specs.declared.points.Seen.{Seen}
 use Rattle.wait_model.specs.declared.points.Point.TheVariants as at
 use Rattle.wait_model.specs.declared.points.WalkPoint.{WalkPoint}
 use Rattle.wait_model.specs.declared.points.WalkPoint.TheVariants as walking
+use Rattle.wait_model.specs.declared.points.PageStage.{PageStage}
 use Rattle.wait_model.specs.declared.points.PageStage.TheVariants as staging
 use Rattle.wait_model.specs.Tasks.{meets}
 use Rattle.wait_model.specs.Watches.{mask_of, misses, head_of}
 use Rattle.wait_model.specs.Programs.{call_entry, call_next, go, onward, past, reached, resumed, walk_event}
 use Rattle.wait_rule.specs.Known.{Known}
-use Rattle.wait_rule.specs.Selecting.{RunsTell, is_exclusive_called, selects_at, selects_in, takes_page, wakes_by}
+use Rattle.wait_rule.specs.Selecting.{RunsTell, is_exclusive_called, selects_at, selects_in, yes_by}
 use Rattle.wait_rule.specs.Transitions.{Goes, Program, Transition, after_transition, walk_program}
-use Rattle.wait_rule.proofs.SaidEvents.PagelessWalks.{made_takes_none}
 
 module _ (aim : Aim) where
   -- so many it has selected so far
@@ -32,8 +32,7 @@ module _ (aim : Aim) where
   ChosenAt n (walking.Call w) = w.selected ≡ n
   ChosenAt n (walking.Wake w c) = w.selected ≡ n
   ChosenAt n (walking.Bit w c) = w.selected ≡ n
-  ChosenAt n (walking.Page staging.Try w c) = w.selected ≡ n
-  ChosenAt n (walking.Page st w c) = ⊥
+  ChosenAt n (walking.Page st w c) = w.selected ≡ n
   ChosenAt n (walking.Stopped w) = w.selected ≡ n
   ChosenAt n (walking.Unqueue w who) = w.selected ≡ n
   ChosenAt n (walking.Spent w) = w.selected ≡ n
@@ -49,7 +48,7 @@ module _ (aim : Aim) where
   -- one more where the entry is exclusive and its wake met
   one_by : (x hit : Bool) (who : ℕ) (w : Walking) (n : ℕ) → w.selected ≡ n
       → (if hit && x then w.selected + 1 else w.selected)
-      ≡ n + (if x then wakes_by (event.Wake who hit) else 0)
+      ≡ n + (if x then yes_by false (event.Wake who hit) else 0)
   one_by true true who w n is = omega (arith, is)
   one_by false true who w n is = omega (arith, is)
   one_by true false who w n is = omega (arith, is)
@@ -63,12 +62,13 @@ module _ (aim : Aim) where
       by false = is
 
   wake_led : (n : ℕ) (w : Walking) (c : CalledEntry) (hit : Bool) → w.selected ≡ n
-      → LedTo (n + (if c.exclusive then wakes_by (event.Wake c.who hit) else 0)) (next.Go (onward (past w c hit)))
-  wake_led n w c hit is = onward_led (n + (if c.exclusive then wakes_by (event.Wake c.who hit) else 0)) (past w c hit)
+      → LedTo (n + (if c.exclusive then yes_by false (event.Wake c.who hit) else 0)) (next.Go (onward (past w c hit)))
+  wake_led n w c hit is = onward_led (n + (if c.exclusive then yes_by false (event.Wake c.who hit) else 0))
+      (past w c hit)
       (one_by c.exclusive hit c.who w n is)
 
   off_led : (n : ℕ) (w : Walking) (c : CalledEntry) (hit : Bool) → w.selected ≡ n
-      → LedTo (n + (if c.exclusive then wakes_by (event.Wake c.who hit) else 0))
+      → LedTo (n + (if c.exclusive then yes_by false (event.Wake c.who hit) else 0))
       (next.Go (at.Walk (if hit then walking.Unqueue (past w c hit) c.who else walking.Call (past w c hit))))
   off_led n w c true is = one_by c.exclusive true c.who w n is
   off_led n w c false is = one_by c.exclusive false c.who w n is
@@ -84,20 +84,20 @@ module _ (aim : Aim) where
   test_led x n true w c is = none_more x n 0 refl w.selected is
   test_led x n false w c is = none_more x n 0 refl w.selected is
 
-  page_led : (x : Bool) (n : ℕ) (b : Bool) (w : Walking) (c : CalledEntry) → w.selected ≡ n
+  page_led : (x : Bool) (n : ℕ) (b : Bool) (st : PageStage) (w : Walking) (c : CalledEntry) → w.selected ≡ n
       → LedTo (n + (if x then 0 else 0)) (next.Go (at.Walk (if b then walking.Stopped w
-      else walking.Page staging.Try w c)))
-  page_led x n true w c is = none_more x n 0 refl w.selected is
-  page_led x n false w c is = none_more x n 0 refl w.selected is
+      else walking.Page st w c)))
+  page_led x n true st w c is = none_more x n 0 refl w.selected is
+  page_led x n false st w c is = none_more x n 0 refl w.selected is
 
   entry_led : (n : ℕ) (w : Walking) (c : CalledEntry) (j : Kind) (seen : Seen) (hit : Bool) → w.selected ≡ n
-      → LedTo (n + (if c.exclusive then wakes_by (call_entry aim w c j seen hit).event else 0))
+      → LedTo (n + (if c.exclusive then yes_by false (call_entry aim w c j seen hit).event else 0))
       (call_entry aim w c j seen hit).next
   entry_led n w c kind.Default seen hit is = wake_led n w c hit is
   entry_led n w c kind.Autoremove seen hit is = off_led n w c hit is
   entry_led n w c kind.Woken seen hit is = none_more c.exclusive n 0 refl w.selected is
   entry_led n w c kind.Bit seen hit is = test_led c.exclusive n (misses aim.watch seen.value) w c is
-  entry_led n w c kind.Page seen hit is = page_led c.exclusive n (misses aim.watch seen.value) w c is
+  entry_led n w c kind.Page seen hit is = page_led c.exclusive n (misses aim.watch seen.value) staging.Try w c is
   entry_led n w c kind.Var seen hit is = off_led n w c hit is
   entry_led n w c kind.Simple seen hit is = wake_led n w c hit is
 
@@ -110,13 +110,13 @@ module _ (aim : Aim) where
       omega (arith, zero, is, z)
 
   next_led : (n : ℕ) (w : Walking) (o : Option CalledEntry) (seen : Seen) (hit : Bool) → w.selected ≡ n
-      → LedTo (n + (if is_exclusive_called o then wakes_by (call_next aim w o seen hit).event else 0))
+      → LedTo (n + (if is_exclusive_called o then yes_by false (call_next aim w o seen hit).event else 0))
       (call_next aim w o seen hit).next
   next_led n w None seen hit is = ended n 0 _ refl is
   next_led n w (Some c) seen hit is = entry_led n w c c.kind seen hit is
 
   call_led : (n : ℕ) (w : Walking) (b : Bool) (seen : Seen) (hit : Bool) → w.selected ≡ n
-      → LedTo (n + (if is_exclusive_called seen.called then wakes_by (if b
+      → LedTo (n + (if is_exclusive_called seen.called then yes_by false (if b
       then go (event.Mark (head_of aim.watch)) (at.Walk (walking.BreakUnlock w))
       else call_next aim w seen.called seen hit).event else 0))
       (if b then go (event.Mark (head_of aim.watch)) (at.Walk (walking.BreakUnlock w))
@@ -128,23 +128,24 @@ module _ (aim : Aim) where
   resumed_is n w None is = is
   resumed_is n w (Some q) is = is
 
-  walk_led : (n : ℕ) (p : WalkPoint) (seen : Seen) → takes_page (walk_event aim p seen).event ≡ false → ChosenAt n p
+  walk_led : (n : ℕ) (p : WalkPoint) (seen : Seen) → ChosenAt n p
       → LedTo (n + selects_at aim (at.Walk p) seen) (walk_event aim p seen).next
-  walk_led n (walking.Page staging.Try w c) seen pageless is = absurd (cc)
-  walk_led n (walking.Page staging.Hand w c) seen pageless is = absurd is
-  walk_led n (walking.Page staging.Wake w c) seen pageless is = absurd is
-  walk_led n (walking.Page staging.Off w c) seen pageless is = absurd is
-  walk_led n (walking.Stopped w) seen pageless is = ended n 0 _ refl is
-  walk_led n walking.Lock seen pageless zero = omega (arith, zero)
-  walk_led n (walking.Call w) seen pageless is = call_led n (reached w seen.calls) seen.breaks seen
+  walk_led n (walking.Page staging.Try w c) seen is = page_led false n (misses aim.watch seen.value) staging.Hand w c is
+  walk_led n (walking.Page staging.Hand w c) seen is = omega (arith, is)
+  walk_led n (walking.Page staging.Wake w c) seen is = omega (arith, is)
+  walk_led n (walking.Page staging.Off w c) seen is = onward_led (n + (if c.exclusive then 1 else 0)) (past w c true)
+      (one_by c.exclusive true c.who w n is)
+  walk_led n (walking.Stopped w) seen is = ended n 0 _ refl is
+  walk_led n walking.Lock seen zero = omega (arith, zero)
+  walk_led n (walking.Call w) seen is = call_led n (reached w seen.calls) seen.breaks seen
       (meets (mask_of aim.mode) seen.other.state) is
-  walk_led n (walking.Bit w c) seen pageless is = off_led n w c (meets (mask_of aim.mode) seen.other.state) is
-  walk_led n (walking.Wake w c) seen pageless is = wake_led n w c (meets (mask_of aim.mode) seen.other.state) is
-  walk_led n (walking.Unqueue w who) seen pageless is = onward_led (n + 0) w (omega (arith, is))
-  walk_led n (walking.Spent w) seen pageless is = ended n 0 _ refl is
-  walk_led n (walking.BreakUnlock w) seen pageless is = omega (arith, is)
-  walk_led n (walking.BreakLock w) seen pageless is = omega (arith, is)
-  walk_led n (walking.Unmark w) seen pageless is = let z = resumed_is n w seen.mark is in omega (arith, z)
+  walk_led n (walking.Bit w c) seen is = off_led n w c (meets (mask_of aim.mode) seen.other.state) is
+  walk_led n (walking.Wake w c) seen is = wake_led n w c (meets (mask_of aim.mode) seen.other.state) is
+  walk_led n (walking.Unqueue w who) seen is = onward_led (n + 0) w (omega (arith, is))
+  walk_led n (walking.Spent w) seen is = ended n 0 _ refl is
+  walk_led n (walking.BreakUnlock w) seen is = omega (arith, is)
+  walk_led n (walking.BreakLock w) seen is = omega (arith, is)
+  walk_led n (walking.Unmark w) seen is = let z = resumed_is n w seen.mark is in omega (arith, z)
 
   abbrev f : Program
   f = walk_program aim
@@ -169,8 +170,7 @@ module _ (aim : Aim) where
       let one : ℕ = selects_at aim (at.Walk p) t.seen in
       let nx : Next = (walk_event aim p t.seen).next in
       let rest = tail ts (after_transition t) new (n + one) k
-      (λ q on led. tells ts q (after_transition t) new (n + one) k led on) nx g.1 (walk_led n p t.seen
-      (made_takes_none t.knew None (f.given (at.Walk p)) (walk_event aim p t.seen).event t.did g.0.is) h) in
+      (λ q on led. tells ts q (after_transition t) new (n + one) k led on) nx g.1 (walk_led n p t.seen h) in
       omega (arith, rest)
 
 pub runs_tell : RunsTell

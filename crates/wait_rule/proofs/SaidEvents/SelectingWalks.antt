@@ -48,7 +48,8 @@ use Rattle.wait_model.specs.declared.points.WalkPoint.{WalkPoint}
 use Rattle.wait_model.specs.declared.points.WalkPoint.TheVariants as walking
 use Rattle.wait_model.specs.declared.points.PageStage.TheVariants as staging
 use Rattle.wait_model.specs.Tasks.{meets}
-use Rattle.wait_model.specs.Watches.{mask_of, misses, number_of}
+use Rattle.wait_model.specs.Watches.{bit_of, mask_of, misses, number_of, word_of}
+use Rattle.wait_model.specs.Words.{bit_at, flag}
 use Rattle.wait_model.specs.Points.{call_aim}
 use Rattle.wait_model.specs.Programs.{again, call_entry, call_next, go, onward, past, reached, resumed, walk_event}
 use Rattle.wait_model.specs.Findings.{Noted, none_noted, notes}
@@ -60,13 +61,11 @@ use Rattle.wait_rule.specs.SaidEvents.{said}
 use Rattle.wait_rule.specs.Selecting.{
   IsTallied,
   RunsSelect,
-  TakesNoPage,
   WordsSelect,
-  takes_page,
-  wakes_by,
-  wakes_in,
+  tells_page,
+  yes_by,
+  yes_from,
 }
-use Rattle.wait_rule.proofs.SaidEvents.PagelessWalks.{made_takes_none}
 use Rattle.wait_rule.specs.Transitions.{Goes, Program, Transition, after_transition, walk_program}
 
 -- a walk that goes on, and one that used up its count, of a count n after `done` wakes
@@ -149,7 +148,8 @@ module _ (aim : Aim) where
   TallyAt done (walking.Wake w c) = Counts n done w
   TallyAt done (walking.Bit w c) = Counts n done w
   TallyAt done (walking.Page staging.Try w c) = Counts n done w
-  TallyAt done (walking.Page st w c) = ⊥
+  TallyAt done (walking.Page staging.Hand w c) = Counts n done w
+  TallyAt done (walking.Page st w c) = (d : ℕ) × (done ≡ d + 1) × Counts n d w
   TallyAt done (walking.Stopped w) = Counts n done w
   TallyAt done (walking.Unqueue w who) = After w.spent n done w
   TallyAt done (walking.Spent w) = IsUsed n done w
@@ -163,7 +163,16 @@ module _ (aim : Aim) where
   LedTo done (next.Ends a) = (k : Walked) → a ≡ answer.Walk k → IsTallied n done k
 
   abbrev Led : ℕ → Planned → Type 0
-  Led done x = LedTo (done + wakes_by x.event) x.next
+  Led done x = LedTo (done + yes_by false x.event) x.next
+
+  -- where the last event told a task of its page
+  abbrev told_at : WalkPoint → Bool
+  told_at (walking.Page staging.Wake w c) = true
+  told_at _ = false
+
+  abbrev Hears : Bool → Next → Type 0
+  Hears told (next.Go (at.Walk p)) = told ≡ told_at p
+  Hears told _ = Unit {0}
 
   -- the same counts, of a walk that stands elsewhere
   same_counts : (done more : ℕ) (w v : Walking) → more ≡ done → v.woken ≡ w.woken → v.selected ≡ w.selected
@@ -177,12 +186,12 @@ module _ (aim : Aim) where
     ];
   }
 
-  wake_number : (who : ℕ) (hit : Bool) → wakes_by (event.Wake who hit) ≡ one_if hit
+  wake_number : (who : ℕ) (hit : Bool) → yes_by false (event.Wake who hit) ≡ one_if hit
   wake_number who true = refl
   wake_number who false = refl
 
   past_counts : (done who : ℕ) (w : Walking) (c : CalledEntry) (hit : Bool) → Counts n done w
-      → After (past w c hit).spent n (done + wakes_by (event.Wake who hit)) (past w c hit)
+      → After (past w c hit).spent n (done + yes_by false (event.Wake who hit)) (past w c hit)
   past_counts done who w c hit k = subst (λ (j : ℕ). After (past w c hit).spent n (done + j) (past w c hit))
       (sym (wake_number who hit)) (over_counts n done w (c.place + 1) c.exclusive hit (w.left == 1) refl k)
 
@@ -200,20 +209,37 @@ module _ (aim : Aim) where
   off_led done who w c true k = past_counts done who w c true k
   off_led done who w c false k = past_counts done who w c false k
 
-  test_led : (done : ℕ) (e : Event) → wakes_by e ≡ 0 → (b : Bool) (w : Walking) (c : CalledEntry) → Counts n done w
+  test_led : (done : ℕ) (e : Event) → yes_by false e ≡ 0 → (b : Bool) (w : Walking) (c : CalledEntry) → Counts n done w
       → Led done (go e (at.Walk (if b then walking.Call (past w c false) else walking.Bit w c)))
-  test_led done e quiet true w c k = same_counts done (done + wakes_by e) w (past w c false) (omega (arith, quiet))
+  test_led done e quiet true w c k = same_counts done (done + yes_by false e) w (past w c false) (omega (arith, quiet))
       refl refl refl k
-  test_led done e quiet false w c k = same_counts done (done + wakes_by e) w w (omega (arith, quiet)) refl refl refl k
+  test_led done e quiet false w c k = same_counts done (done + yes_by false e) w w (omega (arith, quiet)) refl refl
+      refl k
 
-  page_led : (done : ℕ) (e : Event) → wakes_by e ≡ 0 → (b : Bool) (w : Walking) (c : CalledEntry) → Counts n done w
+  page_led : (done : ℕ) (e : Event) → yes_by false e ≡ 0 → (b : Bool) (w : Walking) (c : CalledEntry) → Counts n done w
       → Led done (go e (at.Walk (if b then walking.Stopped w else walking.Page staging.Try w c)))
-  page_led done e quiet true w c k = same_counts done (done + wakes_by e) w w (omega (arith, quiet)) refl refl refl k
-  page_led done e quiet false w c k = same_counts done (done + wakes_by e) w w (omega (arith, quiet)) refl refl refl k
+  page_led done e quiet true w c k = same_counts done (done + yes_by false e) w w (omega (arith, quiet)) refl refl
+      refl k
+  page_led done e quiet false w c k = same_counts done (done + yes_by false e) w w (omega (arith, quiet)) refl refl
+      refl k
+
+  hand_led : (done : ℕ) (e : Event) → yes_by false e ≡ 0 → (b : Bool) (w : Walking) (c : CalledEntry) → Counts n done w
+      → Led done (go e (at.Walk (if b then walking.Stopped w else walking.Page staging.Hand w c)))
+  hand_led done e quiet true w c k = same_counts done (done + yes_by false e) w w (omega (arith, quiet)) refl refl
+      refl k
+  hand_led done e quiet false w c k = same_counts done (done + yes_by false e) w w (omega (arith, quiet)) refl refl
+      refl k
+
+  handed_led : (done more : ℕ) (w : Walking) (c : CalledEntry) → more ≡ done
+      → (d : ℕ) × (done ≡ d + 1) × Counts n d w → LedTo more (next.Go (onward (past w c true)))
+  handed_led done more w c same h = onward_led more (past w c true)
+      (subst (λ (j : ℕ). After (past w c true).spent n j (past w c true))
+      (let is = h.1 in let z : h.0 + one_if true ≡ more = omega (arith, is, same) in z)
+      (over_counts n h.0 w (c.place + 1) c.exclusive true (w.left == 1) refl h.2))
 
   entry_led : (done : ℕ) (w : Walking) (c : CalledEntry) (j : Kind) (seen : Seen) (hit : Bool) → Counts n done w
       → Led done (call_entry aim w c j seen hit)
-  entry_led done w c kind.Default seen hit k = onward_led (done + wakes_by (event.Wake c.who hit))
+  entry_led done w c kind.Default seen hit k = onward_led (done + yes_by false (event.Wake c.who hit))
       (past w c hit) (past_counts done c.who w c hit k)
   entry_led done w c kind.Autoremove seen hit k = off_led done c.who w c hit k
   entry_led done w c kind.Woken seen hit k = same_counts done (done + 0) w w (omega arith) refl refl refl k
@@ -222,7 +248,7 @@ module _ (aim : Aim) where
   entry_led done w c kind.Var seen hit k = off_led done c.who w c hit k
   entry_led done w c kind.Page seen hit k = page_led done (event.Load (number_of aim.watch) seen.value) refl
       (misses aim.watch seen.value) w c k
-  entry_led done w c kind.Simple seen hit k = onward_led (done + wakes_by (event.Wake c.who hit))
+  entry_led done w c kind.Simple seen hit k = onward_led (done + yes_by false (event.Wake c.who hit))
       (past w c hit) (past_counts done c.who w c hit k)
 
   -- the answer of a walk that came to the end of the queue or that a page stopped, and of one that used up its count
@@ -292,68 +318,118 @@ module _ (aim : Aim) where
   resumed_counts done more w (Some q) same k =
       same_counts done more w (resumed w (Some q)) same refl refl refl k
 
-  walk_tally : (done : ℕ) (p : WalkPoint) (seen : Seen) → takes_page (walk_event aim p seen).event ≡ false
-      → TallyAt done p → Led done (walk_event aim p seen)
-  walk_tally done (walking.Page staging.Try w c) seen pageless k = absurd (cc)
-  walk_tally done (walking.Page staging.Hand w c) seen pageless k = absurd k
-  walk_tally done (walking.Page staging.Wake w c) seen pageless k = absurd k
-  walk_tally done (walking.Page staging.Off w c) seen pageless k = absurd k
-  walk_tally done (walking.Stopped w) seen pageless k = answer_led done _
+  walk_tally : (done : ℕ) (p : WalkPoint) (seen : Seen) → TallyAt done p
+      → LedTo (done + yes_by (told_at p) (walk_event aim p seen).event) (walk_event aim p seen).next
+  walk_tally done (walking.Page staging.Try w c) seen k = hand_led done
+      (event.TasFor (word_of aim.watch) c.who (flag (bit_at seen.value (bit_of aim.watch)))) refl
+      (misses aim.watch seen.value) w c k
+  walk_tally done (walking.Page staging.Hand w c) seen k = (done, refl, k)
+  walk_tally done (walking.Page staging.Wake w c) seen k = (k.0, let is = k.1 in omega (arith, is), k.2)
+  walk_tally done (walking.Page staging.Off w c) seen k = handed_led done (done + 0) w c (omega arith) k
+  walk_tally done (walking.Stopped w) seen k = answer_led done _
       (end_tallied done w end_as.Stopped (λ is. cc) k)
-  walk_tally done walking.Lock seen pageless none =
+  walk_tally done walking.Lock seen none =
       start_counts done (done + 0) _ none (omega arith) refl refl n refl refl
-  walk_tally done (walking.Call w) seen pageless k =
+  walk_tally done (walking.Call w) seen k =
       let v : Walking = reached w seen.calls in
       let at_v : Counts n done v = same_counts done done w v refl refl refl refl k in
       either (Led done) seen.breaks _ _ (same_counts done (done + 0) v v (omega arith) refl refl refl at_v)
       (next_led done v seen.called seen (meets (mask_of aim.mode) seen.other.state) at_v)
-  walk_tally done (walking.Bit w c) seen pageless k =
+  walk_tally done (walking.Bit w c) seen k =
       off_led done c.who w c (meets (mask_of aim.mode) seen.other.state) k
-  walk_tally done (walking.Wake w c) seen pageless k = onward_led
-      (done + wakes_by (event.Wake c.who (meets (mask_of aim.mode) seen.other.state)))
+  walk_tally done (walking.Wake w c) seen k = onward_led
+      (done + yes_by false (event.Wake c.who (meets (mask_of aim.mode) seen.other.state)))
       (past w c (meets (mask_of aim.mode) seen.other.state))
       (past_counts done c.who w c (meets (mask_of aim.mode) seen.other.state) k)
-  walk_tally done (walking.Unqueue w who) seen pageless k = onward_led (done + 0) w
+  walk_tally done (walking.Unqueue w who) seen k = onward_led (done + 0) w
       (subst (λ (d : ℕ). After w.spent n d w) (let z : done ≡ done + 0 = omega arith in z) k)
-  walk_tally done (walking.Spent w) seen pageless k = answer_led done (answered w true) (spent_tallied done w k)
-  walk_tally done (walking.BreakUnlock w) seen pageless k =
+  walk_tally done (walking.Spent w) seen k = answer_led done (answered w true) (spent_tallied done w k)
+  walk_tally done (walking.BreakUnlock w) seen k =
       same_counts done (done + 0) w w (omega arith) refl refl refl k
-  walk_tally done (walking.BreakLock w) seen pageless k =
+  walk_tally done (walking.BreakLock w) seen k =
       same_counts done (done + 0) w (again w) (omega arith) refl refl refl k
-  walk_tally done (walking.Unmark w) seen pageless k = resumed_counts done (done + 0) w seen.mark (omega arith) k
+  walk_tally done (walking.Unmark w) seen k = resumed_counts done (done + 0) w seen.mark (omega arith) k
+
+  -- after an event that tells no task of a page
+  onward_heard : (w : Walking) → Hears false (next.Go (onward w))
+  onward_heard w = by w.spent
+    where
+      by : (b : Bool) → Hears false (next.Go (if b then at.Walk (walking.Spent w) else at.Walk (walking.Call w)))
+      by true = refl
+      by false = refl
+
+  either_heard : (b : Bool) (p q : WalkPoint) → told_at p ≡ false → told_at q ≡ false
+      → Hears false (next.Go (at.Walk (if b then p else q)))
+  either_heard true p q one two = sym one
+  either_heard false p q one two = sym two
+
+  entry_heard : (w : Walking) (c : CalledEntry) (j : Kind) (seen : Seen) (hit : Bool)
+      → Hears (tells_page (call_entry aim w c j seen hit).event) (call_entry aim w c j seen hit).next
+  entry_heard w c kind.Default seen hit = onward_heard (past w c hit)
+  entry_heard w c kind.Autoremove seen hit = either_heard hit _ _ refl refl
+  entry_heard w c kind.Woken seen hit = refl
+  entry_heard w c kind.Bit seen hit = either_heard (misses aim.watch seen.value) _ _ refl refl
+  entry_heard w c kind.Page seen hit = either_heard (misses aim.watch seen.value) _ _ refl refl
+  entry_heard w c kind.Var seen hit = either_heard hit _ _ refl refl
+  entry_heard w c kind.Simple seen hit = onward_heard (past w c hit)
+
+  next_heard : (w : Walking) (o : Option CalledEntry) (seen : Seen) (hit : Bool)
+      → Hears (tells_page (call_next aim w o seen hit).event) (call_next aim w o seen hit).next
+  next_heard w None seen hit = tt
+  next_heard w (Some c) seen hit = entry_heard w c c.kind seen hit
+
+  abbrev IsHeard : Planned → Type 0
+  IsHeard x = Hears (tells_page x.event) x.next
+
+  walk_heard : (p : WalkPoint) (seen : Seen) → IsHeard (walk_event aim p seen)
+  walk_heard walking.Lock seen = refl
+  walk_heard (walking.Call w) seen = either IsHeard seen.breaks _ _ refl
+      (next_heard (reached w seen.calls) seen.called seen (meets (mask_of aim.mode) seen.other.state))
+  walk_heard (walking.Bit w c) seen = either_heard (meets (mask_of aim.mode) seen.other.state) _ _ refl refl
+  walk_heard (walking.Page staging.Try w c) seen = either_heard (misses aim.watch seen.value) _ _ refl refl
+  walk_heard (walking.Page staging.Hand w c) seen = refl
+  walk_heard (walking.Page staging.Wake w c) seen = refl
+  walk_heard (walking.Page staging.Off w c) seen = onward_heard (past w c true)
+  walk_heard (walking.Stopped w) seen = tt
+  walk_heard (walking.Wake w c) seen = onward_heard (past w c (meets (mask_of aim.mode) seen.other.state))
+  walk_heard (walking.Unqueue w who) seen = onward_heard w
+  walk_heard (walking.Spent w) seen = tt
+  walk_heard (walking.BreakUnlock w) seen = refl
+  walk_heard (walking.BreakLock w) seen = refl
+  walk_heard (walking.Unmark w) seen = refl
 
   -- whole walks
   abbrev f : Program
   f = walk_program aim
 
-  run_tail : (ts : List Transition) (j new : Known) (done : ℕ) (k : Walked)
+  run_tail : (ts : List Transition) (j new : Known) (done : ℕ) (k : Walked) (told : Bool)
       → ((q : WalkPoint) → Goes f j (next.Go (at.Walk q)) ts new (next.Ends (answer.Walk k)) → TallyAt done q
-      → IsTallied n (done + wakes_in (said f (next.Go (at.Walk q)) ts)) k)
-      → (nx : Next) → Goes f j nx ts new (next.Ends (answer.Walk k)) → LedTo done nx
-      → IsTallied n (done + wakes_in (said f nx ts)) k
-  run_tail ts j new done k rec (next.Go (at.Walk q)) g led = rec q g led
-  run_tail ts j new done k rec (next.Go p) g led = absurd led
-  run_tail [] j new done k rec (next.Ends b) g led =
+      → IsTallied n (done + yes_from (told_at q) (said f (next.Go (at.Walk q)) ts)) k)
+      → (nx : Next) → Goes f j nx ts new (next.Ends (answer.Walk k)) → LedTo done nx → Hears told nx
+      → IsTallied n (done + yes_from told (said f nx ts)) k
+  run_tail ts j new done k told rec (next.Go (at.Walk q)) g led heard = subst
+      (λ (b : Bool). IsTallied n (done + yes_from b (said f (next.Go (at.Walk q)) ts)) k) (sym heard) (rec q g led)
+  run_tail ts j new done k told rec (next.Go p) g led heard = absurd led
+  run_tail [] j new done k told rec (next.Ends b) g led heard =
       let same : b ≡ answer.Walk k = (let z : next.Ends (answer.Walk k) ≡ next.Ends b = g.1 in cc) in
       subst (λ (d : ℕ). IsTallied n d k) (let z : done ≡ done + 0 = omega arith in z) (led k same)
-  run_tail (t ∷ ts) j new done k rec (next.Ends b) g led = absurd g
+  run_tail (t ∷ ts) j new done k told rec (next.Ends b) g led heard = absurd g
 
-  one_more : (done : ℕ) (e : Event) (w : List Event) → (done + wakes_by e) + wakes_in w ≡ done + wakes_in (e ∷ w)
-  one_more done e w = omega arith
+  one_more : (done : ℕ) (told : Bool) (e : Event) (w : List Event)
+      → (done + yes_by told e) + yes_from (tells_page e) w ≡ done + yes_from told (e ∷ w)
+  one_more done told e w = omega arith
 
   run_selects : (ts : List Transition) (p : WalkPoint) (old new : Known) (done : ℕ) (k : Walked) → TallyAt done p
       → Goes f old (next.Go (at.Walk p)) ts new (next.Ends (answer.Walk k))
-      → IsTallied n (done + wakes_in (said f (next.Go (at.Walk p)) ts)) k
+      → IsTallied n (done + yes_from (told_at p) (said f (next.Go (at.Walk p)) ts)) k
   run_selects [] p old new done k h g =
       absurd (let z : next.Ends (answer.Walk k) ≡ next.Go (at.Walk p) = g.1 in cc)
   run_selects (t ∷ ts) p old new done k h g =
       let plan : Planned = walk_event aim p t.seen in
-      subst (λ (d : ℕ). IsTallied n d k) (one_more done plan.event (said f plan.next ts))
-      (run_tail ts (after_transition t) new (done + wakes_by plan.event) k
-      (λ q on led. run_selects ts q (after_transition t) new (done + wakes_by plan.event) k led on)
-      plan.next g.1 (walk_tally done p t.seen
-      (made_takes_none t.knew None (f.given (at.Walk p)) plan.event t.did g.0.is)
-      h))
+      subst (λ (d : ℕ). IsTallied n d k) (one_more done (told_at p) plan.event (said f plan.next ts))
+      (run_tail ts (after_transition t) new (done + yes_by (told_at p) plan.event) k (tells_page plan.event)
+      (λ q on led. run_selects ts q (after_transition t) new (done + yes_by (told_at p) plan.event) k led on)
+      plan.next g.1 (walk_tally done p t.seen h) (walk_heard p t.seen))
 
 pub runs_select : RunsSelect
 runs_select aim old new k m = subst (λ (d : ℕ). IsTallied aim.count d k) (omega arith)
@@ -364,30 +440,35 @@ module _ (me c n : ℕ) (mode : Mode) where
   abbrev call : Call
   call = calls.Wake c mode n
 
-  word_tail : (w : List Event) (m : Noted) (done : ℕ) (k : Walked)
+  word_tail : (w : List Event) (m : Noted) (done : ℕ) (k : Walked) (told : Bool)
       → ((q : WalkPoint) → Makes me call m (at.Walk q) w (answer.Walk k) → TallyAt (call_aim call) done q
-      → IsTallied n (done + wakes_in w) k)
+      → IsTallied n (done + yes_from (told_at (call_aim call) q) w) k)
       → (nx : Next) → goes_to (λ q v b. Makes me call m q w b) nx w (answer.Walk k) → LedTo (call_aim call) done nx
-      → IsTallied n (done + wakes_in w) k
-  word_tail w m done k rec (next.Go (at.Walk q)) x led = rec q x led
-  word_tail w m done k rec (next.Go p) x led = absurd led
-  word_tail [] m done k rec (next.Ends b) x led =
+      → Hears (call_aim call) told nx → IsTallied n (done + yes_from told w) k
+  word_tail w m done k told rec (next.Go (at.Walk q)) x led heard =
+      subst (λ (b : Bool). IsTallied n (done + yes_from b w) k) (sym heard) (rec q x led)
+  word_tail w m done k told rec (next.Go p) x led heard = absurd led
+  word_tail [] m done k told rec (next.Ends b) x led heard =
       subst (λ (d : ℕ). IsTallied n d k) (let z : done ≡ done + 0 = omega arith in z) (led k (sym x))
-  word_tail (e ∷ w) m done k rec (next.Ends b) x led = absurd x
+  word_tail (e ∷ w) m done k told rec (next.Ends b) x led heard = absurd x
 
   word_selects : (w : List Event) (m : Noted) (p : WalkPoint) (done : ℕ) (k : Walked) → TallyAt (call_aim call) done p
-      → TakesNoPage w → Makes me call m (at.Walk p) w (answer.Walk k) → IsTallied n (done + wakes_in w) k
-  word_selects [] m p done k h pageless x = absurd x
-  word_selects (e ∷ w) m p done k h pageless x =
+      → Makes me call m (at.Walk p) w (answer.Walk k)
+      → IsTallied n (done + yes_from (told_at (call_aim call) p) w) k
+  word_selects [] m p done k h x = absurd x
+  word_selects (e ∷ w) m p done k h x =
       let (seen, may, is, more) = x in
       let plan : Planned = walk_event (call_aim call) p seen in
-      subst (λ (d : ℕ). IsTallied n d k) (one_more (call_aim call) done e w)
-      (word_tail w (notes m e) (done + wakes_by e) k
-      (λ q on led. word_selects w (notes m e) q (done + wakes_by e) k led pageless.1 on) plan.next more
-      (subst (λ (d : Event). LedTo (call_aim call) (done + wakes_by d) plan.next) (sym is)
-      (walk_tally (call_aim call) done p seen (subst (λ (d : Event). takes_page d ≡ false) is pageless.0) h)))
+      let told : Bool = told_at (call_aim call) p in
+      subst (λ (d : ℕ). IsTallied n d k) (one_more (call_aim call) done told e w)
+      (word_tail w (notes m e) (done + yes_by told e) k (tells_page e)
+      (λ q on led. word_selects w (notes m e) q (done + yes_by told e) k led on) plan.next more
+      (subst (λ (d : Event). LedTo (call_aim call) (done + yes_by told d) plan.next) (sym is)
+      (walk_tally (call_aim call) done p seen h))
+      (subst (λ (d : Event). Hears (call_aim call) (tells_page d) plan.next) (sym is)
+      (walk_heard (call_aim call) p seen)))
 
 pub words_select : WordsSelect
-words_select me c n mode w k follows pageless = subst (λ (d : ℕ). IsTallied n d k) (omega arith)
-    (word_selects me c n mode w none_noted walking.Lock 0 k refl pageless
+words_select me c n mode w k follows = subst (λ (d : ℕ). IsTallied n d k) (omega arith)
+    (word_selects me c n mode w none_noted walking.Lock 0 k refl
     (sentences_are_made me (calls.Wake c mode n) w (answer.Walk k) follows))

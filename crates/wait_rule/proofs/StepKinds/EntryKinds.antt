@@ -30,13 +30,15 @@ use Rattle.wait_rule.specs.Items.{
   Fits,
 }
 use Rattle.wait_rule.specs.Members.{IsStanding, IsOwnKind, IsEntryWord}
+use Rattle.wait_rule.specs.Asked.{nothing_asked, all_asked}
+use Rattle.wait_rule.specs.Pages.{uses_flag}
 use Rattle.wait_rule.specs.Rule.{IsLawfulTable, IsRuled}
 use Rattle.wait_rule.specs.Queues.{saw}
 use Rattle.wait_rule.proofs.KnownLaws.HeadLinks.{quiet_links}
 use Rattle.wait_rule.proofs.KnownLaws.MemberPlaces.{KeepsPlaces, still_places, unqueue_places}
 use Rattle.wait_rule.proofs.KnownLaws.OwnEntries.{IsFair}
 use Rattle.wait_rule.proofs.KnownLaws.PageSteps.{not_both}
-use Rattle.wait_rule.proofs.KnownLaws.StandingKinds.{not_page, may_ask}
+use Rattle.wait_rule.proofs.KnownLaws.StandingKinds.{may_ask}
 use Rattle.wait_rule.proofs.TableSteps.KeptSteps.{Leaves, KeepsLaw}
 
 -- what a task names as different says nothing of its own word
@@ -156,8 +158,9 @@ module _ (s : Table) (items : ℕ → List Item) (ruled : IsRuled s items) (x : 
     pub queues : (e : Entry) → x < ENTRIES → owner x ≡ a → IsStanding x e
         → (s.view a).hold.head ≡ Some (head_of e.watch) → (s.view a).hold.book x ≡ off
         → KeepsPlaces s a (step.Queue x e) → b.differs ≡ nothing → HandsOn s a (step.Queue x e)
+        → (uses_flag e.kind ≡ true → all_asked items a ≡ nothing_asked)
         → KeepsLaw s a (place.Entry x) (entry_word (Some e)) (step.Queue x e) b
-    queues e inside mine standing held shows places clear hands = record {
+    queues e inside mine standing held shows places clear hands asks = record {
       allowed = (
         mine,
         inside,
@@ -167,7 +170,7 @@ module _ (s : Table) (items : ℕ → List Item) (ruled : IsRuled s items) (x : 
         shows,
       );
       stored = hands;
-      orderly = (clear, may_ask s items ruled a x e standing (λ uses. ruled.unasked a));
+      orderly = (clear, may_ask s items ruled a x e standing asks);
       places = places;
       links = quiet_links s a (step.Queue x e) (record {
         holder = refl;
@@ -185,14 +188,15 @@ module _ (s : Table) (items : ℕ → List Item) (ruled : IsRuled s items) (x : 
 
     pub unqueues : (h : ℕ) (e : Entry) → (s.view a).hold.head ≡ Some h → (s.view a).hold.book x ≡ shown e
         → (owner x ≡ a) ⊎ (IsOwnKind e.kind → ⊥)
-        → ((b.differs ≡ nothing) ⊎ (b.differs ≡ page_told x)) × (x < ENTRIES)
+        → (((b.differs ≡ nothing) × ((owner x ≡ a) ⊎ (is_page e.kind ≡ false))) ⊎ (b.differs ≡ page_told x))
+        × (x < ENTRIES)
         → KeepsLaw s a (place.Entry x) 0 (step.Unqueue x) b
     unqueues h e held shows may clear = record {
       allowed = (e, agrees.0, held ∙ ap (λ (k : ℕ). Some k) (sym agrees.1));
       stored = fair may;
       orderly = (
         elim clear.0 [
-          | inl n ↦ inl (n, λ d is paged. not_both (is_page d.kind) paged (not_page x d (ruled.lawful.entries x d is)))
+          | inl n ↦ inl (n.0, λ d is paged. own_page n.1 d is paged)
           | inr t ↦ inr t
         ],
         clear.1,
@@ -217,6 +221,12 @@ module _ (s : Table) (items : ℕ → List Item) (ruled : IsRuled s items) (x : 
 
         same : (d : Entry) → s.entry x ≡ Some d → d ≡ e
         same d is = let both : Some d ≡ Some e = sym is ∙ agrees.0 in cc
+
+        own_page : (owner x ≡ a) ⊎ (is_page e.kind ≡ false) → (d : Entry) → s.entry x ≡ Some d
+            → is_page d.kind ≡ true → owner x ≡ a
+        own_page (inl mine) d is paged = mine
+        own_page (inr none) d is paged = not_both (is_page d.kind) paged
+            (ap (λ (c : Entry). is_page c.kind) (same d is) ∙ none)
 
         fair : (owner x ≡ a) ⊎ (IsOwnKind e.kind → ⊥) → IsFair s a (step.Unqueue x)
         fair (inl mine) = inl mine

@@ -63,6 +63,20 @@ flag_leaves s a x woken b pages history view l f = record {
         other e = ne (ap place.Flag e)
     rest_of k ne = refl
 
+-- no page is taken for the task of an entry of kind Woken that stands
+pub woken_untaken : (s : Table) (items : ℕ → List Item) → IsRuled s items → (x : ℕ) (e : Entry)
+    → s.entry x ≡ Some e → e.kind ≡ kind.Woken → s.taken x ≡ None
+woken_untaken s items ruled x e stands woken = by (ruled.pages.each x)
+  where
+    by : IsPageState s (all_differences items) (all_asked items) x → s.taken x ≡ None
+    by (inl i) = i.taken
+    by (inr (inl i)) = i.1.taken
+    by (inr (inr (inl i))) =
+        let both : Some i.2.stands.entry ≡ Some e = sym i.2.stands.is ∙ stands in
+        let one : i.2.stands.entry ≡ e = cc in
+        not_both (is_page e.kind) (subst (λ (f : Entry). is_page f.kind ≡ true) one i.2.stands.kind) (ap is_page woken)
+    by (inr (inr (inr i))) = not_both (uses_flag e.kind) (ap uses_flag woken) (i.1.off e stands)
+
 -- in a hold that shows an entry, its flag may be set
 pub flags : (s : Table) (items : ℕ → List Item) → IsRuled s items → (x a : ℕ) (b : Book) → Fits (s.task a) b
     → (h : ℕ) (e : Entry) → (s.view a).hold.head ≡ Some h → (s.view a).hold.book x ≡ shown e → e.kind ≡ kind.Woken
@@ -70,7 +84,7 @@ pub flags : (s : Table) (items : ℕ → List Item) → IsRuled s items → (x a
 flags s items ruled x a b fits h e held shows woken = record {
   allowed = (e, agrees.0, held ∙ ap (λ (k : ℕ). Some k) (sym agrees.1));
   stored = tt;
-  orderly = untaken (ruled.pages.each x);
+  orderly = (woken_untaken s items ruled x e agrees.0 woken, λ d is. one d is);
   places = still_places s a (step.Woken x) refl refl;
   links = quiet_links s a (step.Woken x) (record {
     holder = refl;
@@ -88,15 +102,10 @@ flags s items ruled x a b fits h e held shows woken = record {
     agrees = subst (λ (l : Look). Agrees h l (s.entry x)) shows
         ((ruled.whole.kept.facts.views a).hold.agrees h x held)
 
-    -- no page is taken for the task of an entry of kind Woken that stands
-    untaken : IsPageState s (all_differences items) (all_asked items) x → s.taken x ≡ None
-    untaken (inl i) = i.taken
-    untaken (inr (inl i)) = i.1.taken
-    untaken (inr (inr (inl i))) =
-        let both : Some i.2.stands.entry ≡ Some e = sym i.2.stands.is ∙ agrees.0 in
-        let one : i.2.stands.entry ≡ e = cc in
-        not_both (is_page e.kind) (subst (λ (f : Entry). is_page f.kind ≡ true) one i.2.stands.kind) (ap is_page woken)
-    untaken (inr (inr (inr i))) = not_both (uses_flag e.kind) (ap uses_flag woken) (i.1.off e agrees.0)
+    one : (d : Entry) → s.entry x ≡ Some d → d.kind ≡ kind.Woken
+    one d is =
+        let both : Some e ≡ Some d = sym agrees.0 ∙ is in
+        let same : e ≡ d = cc in ap (λ (f : Entry). f.kind) (sym same) ∙ woken
 
 -- the task's own flag may be loaded and cleared
 module _ (s : Table) (items : ℕ → List Item) (ruled : IsRuled s items) (x a : ℕ) (b : Book) (fits : Fits (s.task a) b)

@@ -1,6 +1,6 @@
 -- Each kind of step by which a page is handed over keeps the law.
 use Rattle.std.proofs.Common.{refl, sym, ◌∙◌, ap, subst, arith, inl, inr}
-use Rattle.std.specs.Prelude.{ℕ, ◌≡◌, ◌≢◌, ◌⊎◌, ◌||◌, Bool, true, if◌then◌else◌, Option, Some, None, List}
+use Rattle.std.specs.Prelude.{ℕ, ◌≡◌, ◌≢◌, ◌⊎◌, ◌||◌, Bool, true, false, if◌then◌else◌, Option, Some, None, List}
 use Rattle.wait_model.specs.declared.layout.TheConstants.{WORD_BITS, HANDED}
 use Rattle.wait_model.specs.declared.watches.Watch.{Watch}
 use Rattle.wait_model.specs.declared.watches.Entry.{Entry}
@@ -19,14 +19,16 @@ use Rattle.wait_model.proofs.Functions.{put_same, put_other}
 use Rattle.wait_rule.specs.declared.journal.Item.{Item}
 use Rattle.wait_rule.specs.Items.{nothing, page_taken, page_told, after_try, Book, with_difference, Fits}
 use Rattle.wait_rule.specs.MemberWords.{all_differences}
-use Rattle.wait_rule.specs.Asked.{given_at, all_asked}
+use Rattle.wait_rule.specs.Asked.{given_at, all_asked, nothing_asked}
 use Rattle.wait_rule.specs.Pages.{uses_flag, takes, IsPageEntry, IsPageless, IsHandedBy, IsPageState}
 use Rattle.wait_rule.specs.Members.{IsOwnKind}
+use Rattle.wait_rule.specs.Quiet.{is_quiet, is_told}
 use Rattle.wait_rule.specs.Rule.{IsLawfulTable, IsRuled}
-use Rattle.wait_rule.proofs.KnownLaws.HeadLinks.{quiet_links}
+use Rattle.wait_rule.proofs.KnownLaws.HeadLinks.{quiet_links, telling_own, telling_marks}
 use Rattle.wait_rule.proofs.KnownLaws.MemberPlaces.{still_places}
 use Rattle.wait_rule.proofs.KnownLaws.PageStates.{none_some}
 use Rattle.wait_rule.proofs.KnownLaws.PageSteps.{not_both, takes_none}
+use Rattle.wait_rule.proofs.KnownLaws.StandingKinds.{asks_none}
 use Rattle.wait_rule.proofs.TableSteps.KeptSteps.{Leaves, KeepsLaw}
 use Rattle.wait_rule.proofs.StepKinds.BitKinds.{low_still}
 use Rattle.wait_rule.proofs.StepKinds.EntryKinds.{fits_difference}
@@ -182,8 +184,8 @@ module _ (s : Table) (items : ℕ → List Item) (ruled : IsRuled s items) (a : 
       mark = refl;
       head = λ v. refl;
       found = λ v. refl;
-      own = λ v k. refl;
-      marks = λ v k. refl;
+      own = λ v k. telling_own k.walk x v k;
+      marks = λ v k. telling_marks k.walk x v k;
     });
     leaves = tell_leaves s a x (with_difference (page_told x) b) _ _ ruled.lawful
         (fits_difference (s.task a) b (page_told x) fits);
@@ -247,3 +249,29 @@ module _ (s : Table) (items : ℕ → List Item) (ruled : IsRuled s items) (a : 
 
     pub notes_page : KeepsLaw s a (place.Flag x) 0 (step.Unflag x (Some p)) b
     notes_page = unflags s items ruled x a b fits mine (Some p) handed.0 (inr pageless)
+
+-- A task that asks for no page was told of none, and finds no flag where it is quiet.
+pub shows_none : (s : Table) (items : ℕ → List Item) → IsRuled s items → (a x : ℕ) → owner x ≡ a
+    → all_asked items a ≡ nothing_asked
+    → (is_told x (s.history a) ≡ false) × (is_quiet x (s.history a) ≡ true → done_word (s.flag x) (s.done x) ≡ 0)
+shows_none s items ruled a x mine none = (
+  told (is_told x (s.history a)) refl,
+  λ quiet. by quiet (s.flag x) (s.done x) refl refl,
+)
+  where
+    untaken : s.taken x ≡ None
+    untaken = (asks_none s items ruled a none).taken x mine
+
+    never : {A : Type 0} → s.done x ≡ true → A
+    never done = let t = (ruled.whole.kept.pages.done x done).1 in none_some t.0 (sym untaken ∙ t.1)
+
+    told : (b : Bool) → is_told x (s.history a) ≡ b → b ≡ false
+    told false is = refl
+    told true is = never (ruled.heard x (ap (λ (t : ℕ). is_told x (s.history t)) mine ∙ is))
+
+    by : is_quiet x (s.history a) ≡ true → (f d : Bool) → s.flag x ≡ f → s.done x ≡ d → done_word f d ≡ 0
+    by quiet false d is done = refl
+    by quiet true true is done = never done
+    by quiet true false is done =
+        let yes : s.done x ≡ true = ruled.quiet x (ap (λ (t : ℕ). is_quiet x (s.history t)) mine ∙ quiet) is in
+        let both : true ≡ false = sym yes ∙ done in absurd (cc)

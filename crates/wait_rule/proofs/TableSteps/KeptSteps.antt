@@ -16,36 +16,13 @@ use Rattle.std.proofs.Common.{
   length-set,
 }
 use Rattle.std.proofs.lemmas.Bool.Decides.{eqb_tells}
-use Rattle.std.specs.Prelude.{
-  ℕ,
-  ◌≡◌,
-  ◌≢◌,
-  ◌<◌,
-  Bool,
-  true,
-  false,
-  cond,
-  eqb,
-  ◌==◌,
-  if◌then◌else◌,
-  Some,
-  length,
-  List,
-  [],
-  ◌∷◌,
-  ◌++◌,
-  slice_set,
-  slice_index,
-  ◌⊎◌,
-}
+use Rattle.std.specs.Prelude.{ℕ, ◌≡◌, ◌≢◌, ◌<◌, ◌⊎◌, Bool, true, false, cond, eqb, ◌==◌, if◌then◌else◌}
+use Rattle.std.specs.Prelude.{length, List, [], ◌∷◌, ◌++◌, slice_set, slice_index}
 use native.Mathlib.Decide.{ℕ_discrete}
 use prog.Atomic.{either}
 use Rattle.atomic_table.specs.Table.{Allows}
 use Rattle.wait_model.specs.declared.layout.TheConstants.{TASKS}
-use Rattle.wait_model.specs.declared.watches.Entry.{Entry}
 use Rattle.wait_model.specs.declared.steps.Step.{Step}
-use Rattle.wait_model.specs.declared.steps.Step.TheVariants as step
-use Rattle.wait_model.specs.Watches.{is_page}
 use Rattle.wait_model.specs.Functions.{put}
 use Rattle.wait_model.specs.Fold.{view_of}
 use Rattle.wait_model.specs.Tables.{Table, next}
@@ -71,14 +48,13 @@ use Rattle.wait_rule.specs.Rule.{
   IsLawfulTable,
   IsWhole,
   AreLinked,
-  NoneAsks,
   all_notes,
   is_stepped,
   IsRuled,
   Law,
   Holds,
 }
-use Rattle.wait_rule.specs.Asked.{Asked, nothing_asked, ask_step, asked_of, all_asked}
+use Rattle.wait_rule.specs.Asked.{all_asked}
 use Rattle.wait_rule.specs.Pages.{ArePagesHanded}
 use Rattle.wait_rule.specs.Plays.{Sat, seat_with, seat_tried}
 use Rattle.wait_rule.proofs.TableSteps.ItemLists.{steps_append, book_append}
@@ -91,10 +67,11 @@ use Rattle.wait_rule.proofs.KnownLaws.MemberPlaces.{KeepsPlaces, queued_next}
 use Rattle.wait_rule.proofs.WornHeads.WornNotes.{IsShort, worn_next}
 use Rattle.wait_rule.proofs.KnownLaws.OwnEntries.{IsFair, done_store, hands_on, own_next}
 use Rattle.wait_rule.proofs.KnownLaws.HeldCounts.{counts_next}
-use Rattle.wait_rule.proofs.KnownLaws.StandingKinds.{not_page}
 use Rattle.wait_rule.proofs.KnownLaws.PageSteps.{IsSound}
 use Rattle.wait_rule.proofs.KnownLaws.QueuedPages.{pages_next}
-use Rattle.wait_rule.proofs.KnownLaws.AskedPages.{HandsSame, pages_seen, asked_next, asked_same, asks_nothing}
+use Rattle.wait_rule.proofs.KnownLaws.QuietFlags.{quiet_next}
+use Rattle.wait_rule.proofs.KnownLaws.ToldFlags.{heard_next}
+use Rattle.wait_rule.proofs.KnownLaws.AskedPages.{HandsSame, pages_seen, asked_next, asked_same}
 use Rattle.wait_rule.proofs.TableSteps.StateLaws.{allows, pushed_none}
 
 -- What a step of task a leaves: from the table s it leads to z, where the word at l is n and all others are as
@@ -178,17 +155,6 @@ pages_after s items a l n e r k =
       seen = λ b h x. (r.whole.kept.facts.views b).bits.seen h x;
     }
 
--- an entry that is queued is none for a page
-unasked_after : (s : Table) (items : ℕ → List Item) (a : ℕ) (l : Location) (n : ℕ) (e : Step) → IsRuled s items
-    → KeepsLaw s a l n e (book_of (items a)) → NoneAsks (all_asked (put items a (items a ++ item.Made e ∷ [])))
-unasked_after s items a l n e r k t = ap (λ (f : ℕ → Asked). f t) (asked_next items a (item.Made e ∷ []))
-    ∙ put_at (λ (w : Asked). w ≡ nothing_asked) (all_asked items) a (ask_step e (asked_of (items a))) t
-    (λ q. ap (ask_step e) (r.unasked a) ∙ asks_nothing e stands) (λ ne. r.unasked t)
-  where
-    stands : (x : ℕ) (f : Entry) → e ≡ step.Queue x f → is_page f.kind ≡ false
-    stands x f is = not_page x f (k.leaves.lawful.entries x f
-        (ap (λ (c : Step). (next s a c).entry x) is ∙ put_same s.entry x (Some f)))
-
 pub ruled_next : (s : Table) (items : ℕ → List Item) (a : ℕ) (l : Location) (n : ℕ) (e : Step)
     → a < TASKS → MayChangeWord l a e → IsRuled s items → KeepsLaw s a l n e (book_of (items a))
     → IsRuled (next s a e) (put items a (items a ++ item.Made e ∷ []))
@@ -206,7 +172,8 @@ ruled_next s items a l n e few is r k = record {
   own = own_next s a e k.allowed k.stored r.own;
   counts = counts_next s a e k.allowed r.whole.kept.facts.one_holder r.counts;
   pages = pages_after s items a l n e r k;
-  unasked = unasked_after s items a l n e r k;
+  quiet = quiet_next s a e (book_of (items a)) k.allowed k.orderly r.whole.kept.bits r.whole.told r.quiet;
+  heard = heard_next s a e (book_of (items a)) k.allowed k.orderly r.whole.kept.pages r.quiet r.heard;
   worn = worn_next s (next s a e) items a (item.Made e ∷ []) tt r.worn
       (λ h. let n = queued_next s a e h few in omega (arith, n)) (whole_next s a e few k.allowed k.stored r.whole)
       (histories_next s items a e r.histories) k.leaves.lawful (links_next s items a e r k.links)
@@ -325,7 +292,8 @@ module _ (c : Scene) (law : Law c) (a : ℕ) (xs : List Item) (none : steps_of x
         (sym (asked_same c.items a xs none))
         (pages_seen law.table a (book_from (book_of (c.items a)) xs).differs (all_differences c.items)
         (all_asked c.items) hands law.ruled.pages));
-    unasked = λ t. ap (λ (f : ℕ → Asked). f t) (asked_same c.items a xs none) ∙ law.ruled.unasked t;
+    quiet = law.ruled.quiet;
+    heard = law.ruled.heard;
     worn = worn_next law.table law.table c.items a xs short law.ruled.worn (λ h. omega arith) law.ruled.whole
         histories_seen law.ruled.lawful (subst (AreLinked law.table) (sym (noted_seen c.items a xs)) links)
         law.ruled.placed;

@@ -50,7 +50,7 @@ use Rattle.wait_model.specs.declared.watches.Kind.TheVariants as kind
 use Rattle.wait_model.specs.declared.queues.Mark.{Mark}
 use Rattle.wait_model.specs.declared.steps.Step.TheVariants as step
 use Rattle.wait_model.specs.Functions.{put}
-use Rattle.wait_model.specs.Watches.{owner, head_of, IsThere, number_of}
+use Rattle.wait_model.specs.Watches.{owner, head_of, is_page, IsThere, number_of}
 use Rattle.wait_model.specs.Words.{entry_word, entry_of, flag_word}
 use Rattle.wait_model.specs.Views.{View as Told, Look, off, shown}
 use Rattle.wait_model.specs.Fold.{view_of}
@@ -64,6 +64,8 @@ use Rattle.wait_model.proofs.Functions.{put_at}
 use Rattle.wait_rule.specs.declared.journal.Item.{Item}
 use Rattle.wait_rule.specs.declared.journal.Item.TheVariants as item
 use Rattle.wait_rule.specs.Items.{nothing, page_told, book_of, first_book, Fits}
+use Rattle.wait_rule.specs.Asked.{nothing_asked, asked_of}
+use Rattle.wait_rule.specs.Pages.{uses_flag}
 use Rattle.wait_rule.specs.Notes.{Notes, Glance, away, there, glance_at, notes_of}
 use Rattle.wait_rule.specs.Members.{IsStanding, IsStandingMark, IsOwnKind, IsEntryWord, IsMarkWord, MarkAgrees}
 use Rattle.wait_rule.specs.MemberWords.{is_beside}
@@ -163,8 +165,10 @@ module _ (slots id : ℕ) (me : Sat) (lives : me.0.lives ≡ true) (x p : ℕ) (
       → IsStanding x e → (book_of me.0.items).head ≡ Some (head_of e.watch)
       → (told_of (known d me.0 0)).hold.book x ≡ off → IsWholeBook (known d me.0 at_last)
       → IsPlaceFor (known d me.0 at_last) e.priority e.place → (book_of me.0.items).differs ≡ nothing
+      → (uses_flag e.kind ≡ true → asked_of me.0.items ≡ nothing_asked)
       → Allows (Holds Law) slots id me p (λ _. word) (λ _. queued_play (move slots p word 0 none) me word)
-  queue_moves e word at_last slot d is mine own_is here found standing held shows whole front clear s r long at_id few =
+  queue_moves e word at_last slot d is mine own_is here found standing held shows whole front clear asks s r long
+      at_id few =
       let a = steps slots id me lives (place.Entry x) small p at refl (λ _. word) (λ w. step.Queue x e)
       (λ _. Unit {0})
       (λ s items ruled own fits. (
@@ -176,7 +180,8 @@ module _ (slots id : ℕ) (me : Sat) (lives : me.0.lives ≡ true) (x p : ℕ) (
             (head_seen s items me (Some (head_of e.watch)) own held) own.told
             (ap (notes_of me.0.number) own.list) x e whole refl front) clear
             (queue_on s items ruled (known d me.0 at_last) own.list slot x e own_is here
-            (sym (head_told me.0.items) ∙ (held ∙ ap (λ (h : ℕ). Some h) here)) found)),
+            (sym (head_told me.0.items) ∙ (held ∙ ap (λ (h : ℕ). Some h) here)) found)
+            (λ uses. ap asked_of own.list ∙ asks uses)),
         tt,
       )) s r long at_id few in (
         a.0,
@@ -192,7 +197,8 @@ module _ (slots id : ℕ) (me : Sat) (lives : me.0.lives ≡ true) (x p : ℕ) (
 
   pub unqueue_moves : (h : ℕ) (e : Entry) (d : TableId) → (book_of me.0.items).head ≡ Some h
       → (told_of (known d me.0 0)).hold.book x ≡ shown e → (owner x ≡ me.0.number) ⊎ (IsOwnKind e.kind → ⊥)
-      → ((book_of me.0.items).differs ≡ nothing) ⊎ ((book_of me.0.items).differs ≡ page_told x)
+      → (((book_of me.0.items).differs ≡ nothing) × ((owner x ≡ me.0.number) ⊎ (is_page e.kind ≡ false)))
+      ⊎ ((book_of me.0.items).differs ≡ page_told x)
       → Allows (Holds Law) slots id me p (λ _. 0)
       (λ _. unqueued_play (move slots p 0 0 none) me 0)
   unqueue_moves h e d held shows may clear s r long at_id few =

@@ -24,13 +24,15 @@ use Rattle.wait_model.specs.Locations as place
 use Rattle.wait_model.proofs.WordLaws.BitWords.{bit_word_set}
 use Rattle.wait_rule.specs.declared.journal.Item.{Item}
 use Rattle.wait_rule.specs.declared.journal.Item.TheVariants as item
-use Rattle.wait_rule.specs.Items.{nothing, page_taken, page_told, book_of}
+use Rattle.wait_rule.specs.Items.{nothing, page_taken, page_told, book_of, steps_of}
 use Rattle.wait_rule.specs.Known.{known}
 use Rattle.wait_rule.specs.Asked.{asked_of, given_at}
 use Rattle.wait_rule.specs.Pages.{IsPageless}
+use Rattle.wait_rule.specs.Quiet.{is_quiet, is_told}
 use Rattle.wait_rule.specs.PageCalls.{
   IsFlagWord,
   ShowsGiven,
+  ShowsNone,
   tried_for_play,
   told_play,
   flag_word_play,
@@ -44,7 +46,7 @@ use Rattle.wait_rule.proofs.TableSteps.KeptSteps.{IsOwn, KeepsLaw, steps}
 use Rattle.wait_rule.proofs.TableSteps.QueueMoves.{head_seen}
 use Rattle.wait_rule.proofs.StepKinds.EntryKinds.{unqueues}
 use Rattle.wait_rule.proofs.StepKinds.FlagKinds.{flag_loads}
-use Rattle.wait_rule.proofs.StepKinds.PageKinds.{tries_for, tells, told_fair, shows_given, notes_page}
+use Rattle.wait_rule.proofs.StepKinds.PageKinds.{tries_for, tells, told_fair, shows_given, shows_none, notes_page}
 
 is_flag_word : (woken done : Bool) → IsFlagWord (done_word woken done)
 is_flag_word true true = inr (inr refl)
@@ -100,7 +102,8 @@ module _ (slots id : ℕ) (me : Sat) (lives : me.0.lives ≡ true) where
       pub flag_word_moves : Allows (Holds Law) slots id me p (λ n. n) (flag_word_play (move slots p 0 0 none) me)
       flag_word_moves s r long at_id few =
           let a = steps slots id me lives (place.Flag x) small p at refl (λ n. n) (λ w. step.Flag x w)
-          (λ n. IsFlagWord n × ((d : TableId) → ShowsGiven (known d me.0 0) x n))
+          (λ n. IsFlagWord n × ((d : TableId) → ShowsGiven (known d me.0 0) x n)
+          × ((d : TableId) → ShowsNone (known d me.0 0) x n))
           (λ z items ruled own fits. (
             flag_loads z items ruled x me.0.number (book_of me.0.items) fits mine,
             (
@@ -109,6 +112,12 @@ module _ (slots id : ℕ) (me : Sat) (lives : me.0.lives ≡ true) where
                   (differs_own z items own) x q mine
                   (ap (λ (xs : List Item). given_at x (asked_of xs)) own.list ∙ given)
                   (subst (λ (v : Told). IsPageless (v.bits.stored x)) (sym own.told) pageless),
+              λ d none.
+                  let shows = shows_none z items ruled me.0.number x mine (ap asked_of own.list ∙ none) in
+                  let list = ruled.histories me.0.number ∙ ap steps_of own.list in (
+                    ap (is_told x) (sym list) ∙ shows.0,
+                    λ quiet. shows.1 (ap (is_quiet x) list ∙ quiet),
+                  ),
             ),
           )) s r long at_id few in (
             a.0,
@@ -119,7 +128,9 @@ module _ (slots id : ℕ) (me : Sat) (lives : me.0.lives ≡ true) where
               a.4.0 ∙ ap (λ (k : ℕ). seat_with me (item.Made (step.Flag k (slice_index s.words p)))) flag_there,
               (
                 a.4.1.0,
-                λ d. subst (λ (k : ℕ). ShowsGiven (known d me.0 0) k (slice_index s.words p)) flag_there (a.4.1.1 d),
+                λ d. subst (λ (k : ℕ). ShowsGiven (known d me.0 0) k (slice_index s.words p)) flag_there
+                    (a.4.1.1 d),
+                λ d. subst (λ (k : ℕ). ShowsNone (known d me.0 0) k (slice_index s.words p)) flag_there (a.4.1.2 d),
               ),
             ),
           )

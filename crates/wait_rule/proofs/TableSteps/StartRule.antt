@@ -108,7 +108,8 @@ start_ruled items none = record {
     hands = λ a x is. absurd (let z : ◌≡◌ {A = Option ℕ} None (Some x) =
         sym (ap (λ (xs : List Item). takes (book_of xs).differs) (none a)) ∙ is in cc);
   };
-  unasked = unasked;
+  quiet = λ x is flag. absurd (cc);
+  heard = λ x is. absurd (cc);
   worn = λ t h p w. absurd (none_worn t h p (items t) (none t) w);
   untouched = λ l unset. refl;
 }

@@ -7,7 +7,7 @@ use Rattle.wait_model.specs.declared.watches.Kind.{Kind}
 use Rattle.wait_model.specs.declared.watches.Kind.TheVariants as kind
 use Rattle.wait_model.specs.declared.watches.Entry.{Entry}
 use Rattle.wait_model.specs.declared.steps.Step.TheVariants as step
-use Rattle.wait_model.specs.Watches.{is_simple}
+use Rattle.wait_model.specs.Watches.{is_page, is_simple}
 use Rattle.wait_model.specs.Views.{View as Told, Look, off, shown, unseen}
 use Rattle.wait_model.specs.Words.{entry_word, entry_of, IsLawfulEntry}
 use Rattle.wait_model.proofs.WordLaws.DecodedWords.{head_plain, entry_read}
@@ -15,10 +15,14 @@ use Rattle.wait_model.proofs.Functions.{put_same}
 use Rattle.wait_rule.specs.declared.journal.Item.TheVariants as item
 use Rattle.wait_rule.specs.Notes.{Notes, Glance, away, unknown, look_place, glance_place}
 use Rattle.wait_rule.specs.Known.{Known}
-use Rattle.wait_rule.specs.Says.{added, told_of, noted}
+use Rattle.wait_rule.specs.Asked.{nothing_asked}
+use Rattle.wait_rule.specs.Pages.{uses_flag}
+use Rattle.wait_rule.specs.Says.{added, asks_for, told_of, noted}
 use Rattle.wait_rule.specs.Queues.{index, place_by, MayFlag, MayQueue, MayMark, MayUnmark}
 use Rattle.wait_rule.specs.Looking.{ShowsNone}
 use Rattle.wait_rule.proofs.KnownLaws.AfterSteps.{told_added, noted_added}
+use Rattle.wait_rule.proofs.KnownLaws.PageSteps.{not_both}
+use Rattle.wait_rule.proofs.KnownLaws.StandingKinds.{plain_not_page}
 use Rattle.wait_rule.proofs.KnownLaws.MemberBits.{bit_told, bit_noted, bit_at}
 
 -- the only entry of a queue
@@ -67,12 +71,14 @@ none_by k s m p small = by (nat_lt m ENTRIES) refl
 
 -- the empty queue lets it be queued
 pub may_queue_lone : (exclusive : Bool) (form : Kind) → IsLawfulEntry (lone exclusive form) → is_simple form ≡ false
-    → (k : Known) → ShowsNone k → k.at ≡ FIRST_PLAIN_HEAD → k.view.number < TASKS → MayQueue k 0 (lone exclusive form)
-may_queue_lone exclusive form lawful plain k s at few = record {
+    → (k : Known) → (uses_flag form ≡ true → asks_for k ≡ nothing_asked) → ShowsNone k → k.at ≡ FIRST_PLAIN_HEAD
+    → k.view.number < TASKS → MayQueue k 0 (lone exclusive form)
+may_queue_lone exclusive form lawful plain k asks s at few = record {
   head = head_plain 0 ∙ sym at;
   standing = record {
     lawful = lawful;
     slot = λ _. omega arith;
+    page_slot = λ _. omega arith;
     kind = λ _. plain;
     even = omega arith;
     priority = λ q. absurd (cc);
@@ -84,10 +90,13 @@ may_queue_lone exclusive form lawful plain k s at few = record {
     marks = λ t small. not_unknown ((noted k).marks t) (s.marks t small);
   };
   place = inl (None, (λ p z. none_by k s z.member p z.counts z.stands), refl);
+  tail = λ paged. not_both (is_page form) paged (plain_not_page form lawful.suited.1);
+  asks = asks;
 }
 
-pub may_queue : (k : Known) → ShowsNone k → k.at ≡ FIRST_PLAIN_HEAD → k.view.number < TASKS → MayQueue k 0 first
-may_queue = may_queue_lone false kind.Woken first_lawful refl
+pub may_queue : (k : Known) → asks_for k ≡ nothing_asked → ShowsNone k → k.at ≡ FIRST_PLAIN_HEAD
+    → k.view.number < TASKS → MayQueue k 0 first
+may_queue k asks = may_queue_lone false kind.Woken first_lawful refl k (λ uses. asks)
 
 module _ (k p q : Known) (x : ℕ) (at : k.at ≡ FIRST_PLAIN_HEAD) (few : x < ENTRIES) (clear : (noted k).own ≡ None)
     (is : p ≡ added k (item.Made (step.Queue x first))) (bit : q ≡ added p item.Member) where

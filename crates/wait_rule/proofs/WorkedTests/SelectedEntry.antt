@@ -46,7 +46,7 @@ pub shown_chosen : (w : ℕ) (e : Entry) → w ≡ entry_word (Some chosen) → 
 shown_chosen = shown_lone true kind.Default chosen_lawful
 
 pub may_queue_chosen : (k : Known) → ShowsNone k → k.at ≡ FIRST_PLAIN_HEAD → k.view.number < TASKS → MayQueue k 0 chosen
-may_queue_chosen = may_queue_lone true kind.Default chosen_lawful refl
+may_queue_chosen k = may_queue_lone true kind.Default chosen_lawful refl k (λ uses. absurd (cc))
 
 or_true : (b : Bool) → (b || true) ≡ true
 or_true true = refl

@@ -1,10 +1,14 @@
-use Rattle.std.proofs.Common.{◌∙◌, ap, sym, arith}
-use Rattle.std.specs.Prelude.{ℕ, None}
+use Rattle.std.proofs.Common.{◌∙◌, ap, sym, subst, arith}
+use Rattle.std.specs.Prelude.{ℕ, ◌≡◌, ◌⊎◌, Some, None}
 use Rattle.wait_model.specs.declared.layout.TheConstants.{FLAG_AT}
+use Rattle.wait_model.specs.declared.watches.Entry.{Entry}
+use Rattle.wait_model.specs.declared.watches.Kind.TheVariants as kind
 use Rattle.wait_model.specs.declared.steps.Step.TheVariants as step
 use Rattle.wait_rule.specs.declared.journal.Item.TheVariants as item
-use Rattle.wait_rule.specs.Known.{Known}
-use Rattle.wait_rule.specs.Queues.{index}
+use Rattle.wait_rule.specs.Asked.{nothing_asked}
+use Rattle.wait_rule.specs.Known.{Known, known}
+use Rattle.wait_rule.specs.Queues.{index, MayClear}
+use Rattle.wait_rule.specs.Says.{asks_for, told_of}
 use Rattle.wait_rule.specs.Plays.{seat_with}
 use Rattle.wait_rule.proofs.TableSteps.MemberMoves.{index_at, own_index}
 use Rattle.wait_rule.proofs.TableSteps.FlagMoves.{unflag_moves}
@@ -19,11 +23,17 @@ store-requires c =
     let small = i.5 in
     let size = c.domain.invariant in
     let slot = c.requires.slot in
-    let at = c.flag_at-at.ensures in (
+    let at = c.flag_at-at.ensures in
+    let may : MayClear (known t.seat.table_id t.seat.me.0 t.head) c.args.slot =
+    subst (λ (k : Known). MayClear k c.args.slot) (sym c.task.view_is) c.requires.may in (
       ap (λ (k : Known). k.domain) c.task.view_is ∙ (c.requires.of ∙ sym c.domain.view_is),
       omega arith,
       unflag_moves _ t.seat.id t.seat.me i.1 (index t.number c.args.slot) _ (omega arith) at
-          (own_index t.number c.args.slot slot ∙ sym i.2) c.flag_word_of-word.result c.flag_word_of-word.ensures,
+          (own_index t.number c.args.slot slot ∙ sym i.2) c.flag_word_of-word.result t.seat.table_id
+          c.flag_word_of-word.ensures
+          (subst (λ (u : ℕ). (asks_for (known t.seat.table_id t.seat.me.0 t.head) ≡ nothing_asked) ⊎ ((e : Entry)
+          × ((told_of (known t.seat.table_id t.seat.me.0 t.head)).bits.stored (index u c.args.slot) ≡ Some e)
+          × (e.kind ≡ kind.Woken))) i.2 may),
     )
 
 pub returns-clause-step : goal.returns-clause-step

@@ -1,5 +1,6 @@
 use Rattle.wait_rule.proofs.SaidEvents.FollowedRuns.{runs_follow}
 use Rattle.wait_rule.proofs.SaidEvents.BegunRuns.{runs_begin}
+use Rattle.wait_rule.proofs.SaidEvents.FollowedWakes.{wakes_follow}
 use Rattle.wait_rule.proofs.SaidEvents.FollowedWalks.{walks_follow}
 use Rattle.wait_rule.proofs.laws.runs_follow_sentences.Goals as goal
 
@@ -11,3 +12,6 @@ returns-clause-walks c = walks_follow
 
 pub returns-clause-begun : goal.returns-clause-begun
 returns-clause-begun c = runs_begin
+
+pub returns-clause-wakes : goal.returns-clause-wakes
+returns-clause-wakes c = wakes_follow

@@ -47,7 +47,9 @@ use Rattle.wait_rule.specs.Queues.{
   saw,
   index,
 }
-use Rattle.wait_rule.specs.Says.{Debts, Excuse, IsOutBut, Owes, TriesNone, added, told_of}
+use Rattle.wait_rule.specs.Asked.{nothing_asked}
+use Rattle.wait_rule.specs.Pages.{uses_flag}
+use Rattle.wait_rule.specs.Says.{Debts, Excuse, IsOutBut, Owes, TriesNone, added, asks_for, told_of}
 use Rattle.wait_rule.proofs.KnownLaws.Debts.{entries_debts, stored_debts}
 use Rattle.wait_rule.specs.Stays.{
   Stays,
@@ -58,6 +60,7 @@ use Rattle.wait_rule.specs.Stays.{
   queue_change,
   take_off_change,
 }
+use Rattle.wq_head.proofs.AskedHolds.{looks_unasked}
 use Rattle.wq_head.proofs.CarriedHolds.{looks_carried}
 use Rattle.wq_head.proofs.CountedLooks.{counted_add}
 use Rattle.wait_rule.proofs.KnownLaws.StayingParts.{stays_on, stays_but, owes_also, owes_out}
@@ -215,12 +218,21 @@ no_bit k (inl a) is = absurd (cc)
 no_bit k (inr (inl b)) is = absurd (cc)
 no_bit k (inr (inr w)) is = absurd (cc)
 
+pub full_unpaged : (k : Kind) → IsFullKind k → not (is_page k) ≡ true
+full_unpaged k (inl is) = ap (λ (q : Kind). not (is_page q)) is
+full_unpaged k (inr (inl is)) = ap (λ (q : Kind). not (is_page q)) is
+full_unpaged k (inr (inr is)) = ap (λ (q : Kind). not (is_page q)) is
+
+pub no_paged : (k : Kind) → not (is_page k) ≡ true → is_page k ≡ true → ⊥
+no_paged k none paged = let both : not true ≡ true = ap not (sym paged) ∙ none in absurd (cc)
+
 pub plain_stands : (x : ℕ) (b : Bool) (w : Watch) (k : Kind) (p : ℕ) → IsForPlain w k → IsAfter p
     → IsStanding x (tail_entry b w k p)
 plain_stands x b w k p is at = subst (λ (c : Watch). IsStanding x (tail_entry b c k p)) (sym is.1) (record {
   lawful = record { place = at.small; suited = (few, or_kind k is.3, λ far. absurd (omega (arith, is.2))) };
   kind = λ _. kind_simple k is.3;
   slot = λ bit. absurd (no_bit k is.3 bit);
+  page_slot = λ paged. absurd (no_paged k (full_unpaged k is.3) paged);
   even = at.even;
   priority = λ e. absurd (cc);
   plain = λ _. at.middle_on;
@@ -239,6 +251,7 @@ priority_stands x w k p is at first low =
       };
       kind = λ _. kind_simple k is.3;
       slot = λ bit. absurd (no_bit k is.3 bit);
+      page_slot = λ paged. absurd (no_paged k (full_unpaged k is.3) paged);
       even = at.even;
       priority = λ e. (refl, (at.small, (first, low)));
       plain = λ e. absurd (cc);
@@ -255,11 +268,6 @@ first_index n slot first few = (omega (arith, first), omega (arith, first, few))
 -- by no entry for a plain condition does a task try a bit, or ask for a page
 abbrev pub TriesNo : Entry → Type 0
 TriesNo e = ((c : Watch) → is_trying_for (Some e) c ≡ false) × (not (is_page e.kind) ≡ true)
-
-pub full_unpaged : (k : Kind) → IsFullKind k → not (is_page k) ≡ true
-full_unpaged k (inl is) = ap (λ (q : Kind). not (is_page q)) is
-full_unpaged k (inr (inl is)) = ap (λ (q : Kind). not (is_page q)) is
-full_unpaged k (inr (inr is)) = ap (λ (q : Kind). not (is_page q)) is
 
 no_and : (b : Bool) → (b && false) ≡ false
 no_and true = refl
@@ -337,13 +345,16 @@ module _ (old mid : Known) (n slot w : ℕ) (e : Entry) (is_n : n ≡ old.view.n
   place_on false (inr b) = inr (queue_tail e.place b)
 
   pub may_queue : head_of e.watch ≡ old.at → IsStanding (index old.view.number slot) e
-      → IsPlaceFor old e.priority e.place → MayQueue mid slot e
-  may_queue at standing place = record {
+      → IsPlaceFor old e.priority e.place → (is_page e.kind ≡ true → IsTailPlace old e.place)
+      → (uses_flag e.kind ≡ true → asks_for old ≡ nothing_asked) → MayQueue mid slot e
+  may_queue at standing place tail asks = record {
     head = at ∙ ap (λ (k : Known). k.at) (sym saw_it);
     standing = subst (λ (k : ℕ). IsStanding (index k slot) e) (sym queue_number) standing;
     is_off = queue_off;
     whole = queue_whole;
     place = place_on e.priority place;
+    tail = λ paged. queue_tail e.place (tail paged);
+    asks = λ uses. looks_unasked old mid queue_looks (asks uses);
   }
 
 -- where no place is left, a member shows it
@@ -448,7 +459,7 @@ other_is : (x y : ℕ) → (y == x) ≡ false → y ≡ x → ⊥
 other_is x y out same = let here = eq-eqb y x same in absurd (cc)
 
 module _ (seen new : Known) (x : ℕ) (e : Entry) (is : new ≡ stored_with seen (step.Queue x e)) where
-  queue_told : told_of new ≡ after (step.Queue x e) (told_of seen)
+  pub queue_told : told_of new ≡ after (step.Queue x e) (told_of seen)
   queue_told = ap told_of is ∙ told_stored seen (step.Queue x e)
 
   pub queue_memberd : (told_of new).bits.stored x ≡ Some e
@@ -482,7 +493,7 @@ module _ (seen new : Known) (x : ℕ) (e : Entry) (is : new ≡ stored_with seen
   unfolding with_entry
   queue_owing shared f o = record {
     unmarked = ap (λ (v : Told). v.mark) queue_told ∙ o.unmarked;
-    debts = entries_debts f (with_entry x f) new refl (queue_debts shared f o.debts);
+    debts = entries_debts f (with_entry x f) new refl refl (queue_debts shared f o.debts);
     unqueued = λ y. subst (λ (v : Told). IsOutBut ((y == x) || f.entries y) (v.bits.stored y)) (sym queue_told)
         (put_at (λ (s : Option Entry). IsOutBut ((y == x) || f.entries y) s) (told_of seen).bits.stored x
         (Some e) y (λ here. subst (λ (b : Bool). IsOutBut (b || f.entries y) (Some e)) (sym (eq-eqb y x here)) tt)

@@ -1,4 +1,4 @@
--- The function of an entry for a bit.
+-- The function of an entry for a bit, and the load that it begins with.
 use Rattle.std.proofs.Common.{◌∙◌, ap, sym, refl, subst, inl, inr, arith}
 use Rattle.std.specs.Prelude.{
   ℕ,
@@ -87,35 +87,37 @@ and_both : (a b : Bool) → a ≡ true → b ≡ true → (a && b) ≡ true
 and_both true b one two = two
 and_both false b one two = absurd (cc)
 
--- an entry of kind Bit: its function loads the bit
+-- entries of kind Bit and of kind Page are for a bit
+pub bit_here : (a : Aim) (k : Known) (v : ShownEntry) (w : Walking) → IsNextEntry a k w v → v.entry.kind ≡ kind.Bit
+    → is_bit a.watch ≡ true
+bit_here a k v w n is =
+    let low = n.counts in
+    let s = ((n.calling.standing v.member (omega arith)).entry low v.entry (ap look_entry n.shows)).0 in
+    sym (one_of v.entry.watch a.watch n.sought).bit ∙ kind_bit v.member v.entry s is
+
+-- the function of such an entry loads the bit
 module _ (a : Aim) (k : Known) (v : ShownEntry) (full : IsFull a.watch) (w : Walking) (n : IsNextEntry a k w v)
-    (r : ℕ) (is : v.entry.kind ≡ kind.Bit) where
-  abbrev tested : Known
+    (r : ℕ) (tested_bit : is_bit a.watch ≡ true) where
+  abbrev pub tested : Known
   tested = added k (item.Made (step.Load a.watch r))
 
-  told_tested : told_of tested ≡ after (step.Load a.watch r) (told_of k)
+  pub told_tested : told_of tested ≡ after (step.Load a.watch r) (told_of k)
   told_tested = told_added k (item.Made (step.Load a.watch r))
 
-  tested_book : (told_of tested).hold.book ≡ (told_of k).hold.book
+  pub tested_book : (told_of tested).hold.book ≡ (told_of k).hold.book
   tested_book = ap (λ (u : Told). u.hold.book) told_tested
 
-  tested_marks : (noted tested).marks ≡ (noted k).marks
+  pub tested_marks : (noted tested).marks ≡ (noted k).marks
   tested_marks = quiet_marks a k (step.Load a.watch r) (load_quiet a.watch r)
 
   tested_notes : noted tested ≡ noted k
   tested_notes = noted_added k (item.Made (step.Load a.watch r))
 
-  tested_keeps : StaysInWalk a k tested
+  pub tested_keeps : StaysInWalk a k tested
   tested_keeps = quiet_keeps a k (step.Load a.watch r) (load_quiet a.watch r) (load_stays k a.watch r)
 
-  tested_places : SamePlaces (v.entry.place + 1) (place_by k) (place_by tested)
+  pub tested_places : SamePlaces (v.entry.place + 1) (place_by k) (place_by tested)
   tested_places = places_same k tested tested_book tested_marks refl (v.entry.place + 1)
-
-  tested_bit : is_bit a.watch ≡ true
-  tested_bit =
-      let low = n.counts in
-      let s = ((n.calling.standing v.member (omega arith)).entry low v.entry (ap look_entry n.shows)).0 in
-      sym (one_of v.entry.watch a.watch n.sought).bit ∙ kind_bit v.member v.entry s is
 
   gone_more : (x : ℕ) (e : Entry) → gone (told_of k) x e ≡ true → gone (after (step.Load a.watch r) (told_of k)) x e
       ≡ true
@@ -132,6 +134,14 @@ module _ (a : Aim) (k : Known) (v : ShownEntry) (full : IsFull a.watch) (w : Wal
           or_last : (f : ℕ → Bool) (o : ℕ) → (f o || (told_of k).hold.moot) ≡ true
               → (f o || ((told_of k).hold.moot || finds_bit_set (told_of k).walk a.watch r)) ≡ true
           or_last f o t = or_in (f o) (told_of k).hold.moot (finds_bit_set (told_of k).walk a.watch r) t
+
+  found_set : misses a.watch r ≡ true → finds_bit_set (told_of k).walk a.watch r ≡ true
+  found_set set =
+      let held : IsHeld a k (rest_of a w) = n.calling.walking.held in
+      ap (λ (t : Option Walk). finds_bit_set t a.watch r) held.under.under
+      ∙ and_both (is_bit held.walk.watch) (failing a.watch r held.walk.watch)
+      (sym (under_one a k (rest_of a w) held).bit ∙ tested_bit)
+      ((under_one a k (rest_of a w) held).fails tested_bit r ∙ set)
 
   called_same : (place : ℕ) → AreCalled a k place → AreCalled a tested place
   called_same place c = called_less a k tested place (ap (λ (m : Notes). m.from) tested_notes)
@@ -157,9 +167,9 @@ module _ (a : Aim) (k : Known) (v : ShownEntry) (full : IsFull a.watch) (w : Wal
   tested_next = next_same a k tested w v tested_book tested_marks refl refl
       (ap (λ (u : Told). u.bits.stored) told_tested) tested_walking n
 
-  pub bit_called : misses a.watch r ≡ false → (new : Known) (yes_no : Bool) → WakesOff a tested new v yes_no
-      → HasCalled a k new w v yes_no
-  bit_called clear = off_called a k tested v full w tested_next (off_bit v.entry.kind is) tested_keeps tested_places
+  pub bit_called : v.entry.kind ≡ kind.Bit → misses a.watch r ≡ false → (new : Known) (yes_no : Bool)
+      → WakesOff a tested new v yes_no → HasCalled a k new w v yes_no
+  bit_called is clear = off_called a k tested v full w tested_next (off_bit v.entry.kind is) tested_keeps tested_places
       (λ found real c. (
         load_transition a k v full w n real c r
             ∷ bit_transition a k v full w n real c tested (owner v.member) (mask_of a.mode) found ∷ [],
@@ -172,9 +182,19 @@ module _ (a : Aim) (k : Known) (v : ShownEntry) (full : IsFull a.watch) (w : Wal
             (bit_goes a k v full w n real c tested (owner v.member) (mask_of a.mode) found refl refl),
       ))
 
-  -- where it is set the function answers no, and the walk is past the entry
-  moot_now : misses a.watch r ≡ true → gone (after (step.Load a.watch r) (told_of k)) v.member v.entry ≡ true
-  moot_now set = ap (λ (b : Bool). if b then (told_of k).hold.rung v.member
+  -- where it is set the walk is past all entries
+  pub set_moot : misses a.watch r ≡ true → (told_of tested).hold.moot ≡ true
+  set_moot set = ap (λ (u : Told). u.hold.moot) told_tested
+      ∙ or_set (told_of k).hold.moot (finds_bit_set (told_of k).walk a.watch r) (found_set set)
+    where
+      or_set : (b c : Bool) → c ≡ true → (b || c) ≡ true
+      or_set true c is = refl
+      or_set false c is = is
+
+  -- and the function of an entry for the bit answers no
+  moot_now : v.entry.kind ≡ kind.Bit → misses a.watch r ≡ true
+      → gone (after (step.Load a.watch r) (told_of k)) v.member v.entry ≡ true
+  moot_now is set = ap (λ (b : Bool). if b then (told_of k).hold.rung v.member
       else if is_page v.entry.kind then (after (step.Load a.watch r) (told_of k)).hold.moot
       else ((told_of k).hold.called (owner v.member) || (after (step.Load a.watch r) (told_of k)).hold.moot))
       (ap is_woken is)
@@ -182,19 +202,11 @@ module _ (a : Aim) (k : Known) (v : ShownEntry) (full : IsFull a.watch) (w : Wal
       else ((told_of k).hold.called (owner v.member) || (after (step.Load a.watch r) (told_of k)).hold.moot))
       (ap is_page is)
       ∙ or_right ((told_of k).hold.called (owner v.member)) (told_of k).hold.moot
-      (finds_bit_set (told_of k).walk a.watch r) found_set)
-    where
-      held : IsHeld a k (rest_of a w)
-      held = n.calling.walking.held
+      (finds_bit_set (told_of k).walk a.watch r) (found_set set))
 
-      found_set : finds_bit_set (told_of k).walk a.watch r ≡ true
-      found_set = ap (λ (t : Option Walk). finds_bit_set t a.watch r) held.under.under
-          ∙ and_both (is_bit held.walk.watch) (failing a.watch r held.walk.watch)
-          (sym (under_one a k (rest_of a w) held).bit ∙ tested_bit)
-          ((under_one a k (rest_of a w) held).fails tested_bit r ∙ set)
-
-  set_calling : misses a.watch r ≡ true → IsCalling a tested (v.entry.place + 1) (rest_of a (past w (called v) false))
-  set_calling set = record {
+  set_calling : v.entry.kind ≡ kind.Bit → misses a.watch r ≡ true
+      → IsCalling a tested (v.entry.place + 1) (rest_of a (past w (called v) false))
+  set_calling is set = record {
     walking = quiet_walking a k (step.Load a.watch r) (load_quiet a.watch r) w.place (v.entry.place + 1) (rest_of a w)
         (rest_of a (past w (called v) false)) n.calling.walking
         (ap (λ (m : Notes). m.walk) tested_notes ∙ (n.calling.walking.held.aim ∙ rest_same))
@@ -204,7 +216,7 @@ module _ (a : Aim) (k : Known) (v : ShownEntry) (full : IsFull a.watch) (w : Wal
         → (passed n.calling.walking.held.walk u (λ _. false) (u.hold.book x) x ≡ true)
         ⊎ ((f : Entry) × (look_entry (u.hold.book x) ≡ Some f) × (v.entry.place + 1 ≤ f.place))) (sym told_tested)
         (passes_told a k v full w n n.calling.walking.held.walk (after (step.Load a.watch r) (told_of k)) refl
-        gone_more (moot_now set) p));
+        gone_more (moot_now is set) p));
     whole = whole_same k tested tested_book tested_marks refl n.calling.whole;
     standing = standing_same k tested tested_book tested_marks refl n.calling.standing;
   }
@@ -221,11 +233,11 @@ module _ (a : Aim) (k : Known) (v : ShownEntry) (full : IsFull a.watch) (w : Wal
                 (let behind = n.behind in omega (arith, behind, later));
           }
 
-  pub set_passed : misses a.watch r ≡ true → HasCalled a k tested w v false
-  set_passed set = record {
+  pub set_passed : v.entry.kind ≡ kind.Bit → misses a.watch r ≡ true → HasCalled a k tested w v false
+  set_passed is set = record {
     goes = λ real c. (load_transition a k v full w n real c r ∷ [], load_goes a k v full w n real c r true set is);
     keeps = tested_keeps;
-    calling = set_calling set;
+    calling = set_calling is set;
     same = tested_places;
     spends = λ z. absurd (cc);
   }

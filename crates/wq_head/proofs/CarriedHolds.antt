@@ -12,7 +12,7 @@ use Rattle.wait_model.specs.Fold.{after_unlock}
 use Rattle.wait_model.proofs.StepLaws.UnlockSteps.{unlock_bits, unlock_hold}
 use Rattle.wait_rule.specs.Known.{Known}
 use Rattle.wait_rule.specs.Tickets.{no_ticket, taken}
-use Rattle.wait_rule.specs.Says.{Excuse, Owes, is_excused, told_of, unlocked_with}
+use Rattle.wait_rule.specs.Says.{Excuse, Owes, is_excused, told_of, unlocked_with, wake_of}
 use Rattle.wait_rule.specs.Queues.{IsIdle}
 use Rattle.wait_rule.specs.Stays.{
   Stays,
@@ -88,10 +88,10 @@ pub ended_owes : (a : Aim) (old new : Known) → Stays no_entries old new → (t
     → ((c : Watch) (σ : ℕ) → (told_of new).duty.owes c σ ≡ still_owed a (told_of old) c σ) → (x : Excuse)
     → Owes (with_wakes a.watch a.mode x) old → Owes x new
 unfolding with_wakes
-ended_owes a old new stays unmarked owes x o = owes_wakes (with_wakes a.watch a.mode x) x new refl refl
+ended_owes a old new stays unmarked owes x o = owes_wakes (with_wakes a.watch a.mode x) x new refl refl refl
     (λ c σ. ap (λ (b : Bool). b && not (is_excused x c σ)) (owes c σ)
     ∙ ended_wakes (x.wakes c σ) (same c a.watch && meets (mask_of a.mode) σ) (not (meets (mask_of mode.Normal) σ))
-    ((told_of old).duty.owes c σ) (o.debts.wakes c σ))
+    ((told_of old).duty.owes c σ) (o.debts.none (wake_of c σ)))
     (stays_owing old new stays (unmarked ∙ sym o.unmarked) (with_wakes a.watch a.mode x) o)
 
 pub wake_carried : (a : Aim) (old new : Known) → HasEnded old new a → IsIdle old → IsIdle new →

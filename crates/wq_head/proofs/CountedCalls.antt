@@ -1,4 +1,4 @@
--- The wake of the entry at hand: by the list of its hold the walk calls that entry, and what is left of its count.
+-- The call of the entry at hand: by the list of its hold the walk calls that entry, and what is left of its count.
 use Rattle.std.proofs.Common.{◌∙◌, ap, sym, refl, inl, inr, eq-eqb, arith}
 use Rattle.std.proofs.lemmas.Bool.Decides.{nat_tests}
 use native.Mathlib.Decide.{dec_le}
@@ -32,7 +32,7 @@ use Rattle.wait_model.specs.declared.watches.Aim.{Aim}
 use Rattle.wait_model.specs.declared.queues.Walking.{Walking}
 use Rattle.wait_model.specs.declared.steps.Step.TheVariants as step
 use Rattle.wait_model.specs.Functions.{put}
-use Rattle.wait_model.specs.Watches.{same, is_bit, owner, mask_of}
+use Rattle.wait_model.specs.Watches.{same, is_bit, is_page, owner, mask_of}
 use Rattle.wait_model.specs.Views.{View as Told, Look, unseen, off, elsewhere, shown}
 use Rattle.wait_model.specs.Fold.{met_task}
 use Rattle.wait_model.specs.Programs.{past}
@@ -60,7 +60,7 @@ use Rattle.wait_rule.proofs.KnownLaws.AfterSteps.{told_added, noted_added}
 use Rattle.wq_head.specs.declared.functions.ShownEntry.{ShownEntry}
 use Rattle.wq_head.specs.Walking.{IsNextEntry, AreCalled, called, rest_of, with_left, is_used}
 use Rattle.wq_head.proofs.MemberStands.{look_is_shown}
-use Rattle.wq_head.proofs.FullHeads.{bit_kind, one_of}
+use Rattle.wq_head.proofs.FullHeads.{bit_kinds, one_of}
 
 -- the first of two entries that are due
 first_alone : (d s : Bool) (x : ℕ) → (d ≡ true → s ≡ false) → first_due true d s x ≡ Some x
@@ -89,6 +89,106 @@ both_parts true true true is = absurd (cc)
 both_parts true false c is = absurd (cc)
 both_parts false b c is = absurd (cc)
 
+-- the call of the entry at hand
+module _ (a : Aim) (k : Known) (v : ShownEntry) (w : Walking) (n : IsNextEntry a k w v) where
+  abbrev pub rest_now : Aim
+  rest_now = with_left a w.left
+
+  rest_is : rest_of a w ≡ Some rest_now
+  rest_is = ap (λ (b : Bool). if b then None else Some rest_now) n.going
+
+  pub walk_is : (noted k).walk ≡ Some rest_now
+  walk_is = n.calling.walking.held.aim ∙ rest_is
+
+  pub used_is : (noted k).used ≡ false
+  used_is = n.calling.walking.held.used ∙ ap is_used rest_is
+
+  pub shows_entry : shown_entry k v.member ≡ Some v.entry
+  shows_entry = ap look_entry n.shows
+
+  -- an entry for a bit or a page stands in slot 0, and a task has one entry there
+  pub even_index : (x : ℕ) (e : Entry) → x < ENTRIES → shown_entry k x ≡ Some e → same e.watch a.watch ≡ true
+      → is_bit a.watch ≡ true → x % 2 ≡ 0
+  even_index x e low is sought bit =
+      let s = ((n.calling.standing x (omega arith)).entry low e is).0 in
+      elim (bit_kinds x e s ((one_of e.watch a.watch sought).bit ∙ bit)) [
+        | inl of_bit ↦ s.slot of_bit
+        | inr of_page ↦ s.page_slot (ap is_page of_page)
+      ]
+
+  pub one_slot : (x y : ℕ) → x % 2 ≡ 0 → y % 2 ≡ 0 → owner y ≡ owner x → (y ≡ x → ⊥) → ⊥
+  unfolding owner
+  one_slot x y even also of_task other = other (omega (arith, even, also, of_task))
+
+  -- what the list tells after it, where the entry's function answered so
+  abbrev pub call_notes : Bool → Notes
+  call_notes met = after_call rest_now (Some v.member) met (told_of k) (noted k)
+
+  module _ (new : Known) (met : Bool) (walks : (noted new).walk ≡ (call_notes met).walk)
+      (uses : (noted new).used ≡ (call_notes met).used) (from : (noted new).from ≡ (noted k).from)
+      (called_is : (noted new).called ≡ put (noted k).called v.member true)
+      (less : (x : ℕ) (e : Entry) → shown_entry new x ≡ Some e → shown_entry k x ≡ Some e) where
+    selects : (met && is_exclusive_look ((told_of k).hold.book v.member)) ≡ (met && v.entry.exclusive)
+    selects = ap (λ (l : Look). met && is_exclusive_look l) n.shows
+
+    abbrev left : Option Aim
+    left = rest_of a (past w (called v) met)
+
+    pub call_left : (noted new).walk ≡ left
+    call_left = walks ∙ (ap (λ (b : Bool). if b then lowered rest_now else Some rest_now) selects
+        ∙ by (met && v.entry.exclusive))
+      where
+        by : (b : Bool) → (if b then lowered rest_now else Some rest_now)
+            ≡ (if b && (w.left == 1) then None else Some (with_left a (if b then w.left - 1 else w.left)))
+        by true = refl
+        by false = refl
+
+    pub call_used : (noted new).used ≡ is_used left
+    call_used = uses
+        ∙ (ap (λ (b : Bool). b || ((met && is_exclusive_look ((told_of k).hold.book v.member)) && (w.left == 1)))
+        used_is
+        ∙ (ap (λ (b : Bool). b && (w.left == 1)) selects
+        ∙ by ((met && v.entry.exclusive) && (w.left == 1)) (if met && v.entry.exclusive then w.left - 1 else w.left)))
+      where
+        by : (b : Bool) (m : ℕ) → b ≡ is_used (if b then None else Some (with_left a m))
+        by true m = refl
+        by false m = refl
+
+    -- it has called the entries up to this one
+    pub call_called : AreCalled a new (v.entry.place + 1)
+    call_called = record {
+      from = let low = n.calling.walking.called.from in let later = n.behind in omega (arith, from, low, later);
+      before = λ no_bit x e low is sought after_from before.
+          let was : shown_entry k x ≡ Some e = less x e is in
+          let from_low : (noted k).from ≤ e.place = omega (arith, from, after_from) in
+          ap (λ (f : ℕ → Bool). f x) called_is
+          ∙ put_at (λ (b : Bool). b ≡ true) (noted k).called v.member true x (λ _. refl)
+          (λ other. reach no_bit x e low was sought from_low before other (dec_le w.place e.place));
+      ahead = λ x e low is later.
+          let was : shown_entry k x ≡ Some e = less x e is in
+          ap (λ (f : ℕ → Bool). f x) called_is
+          ∙ (put_other (noted k).called v.member true x (not_here x e was later)
+          ∙ n.calling.walking.called.ahead x e low was
+          (let behind = n.behind in omega (arith, behind, later)));
+    }
+      where
+        not_here : (x : ℕ) (e : Entry) → shown_entry k x ≡ Some e → v.entry.place + 1 ≤ e.place → x ≢ v.member
+        not_here x e was later same =
+            let both : Some e ≡ Some v.entry = sym was ∙ (ap (shown_entry k) same ∙ shows_entry) in
+            let e_is : e ≡ v.entry = cc in
+            let place_is : e.place ≡ v.entry.place = ap (λ (f : Entry). f.place) e_is in
+            omega (arith, place_is, later)
+
+        reach : is_bit a.watch ≡ false → (x : ℕ) (e : Entry) → x < ENTRIES → shown_entry k x ≡ Some e
+            → same e.watch a.watch ≡ true → (noted k).from ≤ e.place → e.place < v.entry.place + 1 → x ≢ v.member
+            → Dec (w.place ≤ e.place) → (noted k).called x ≡ true
+        reach no_bit x e low was sought from_low before other (yes later) =
+            let least = n.first x e low was later in
+            absurd (other (n.apart x e low (look_is_shown ((told_of k).hold.book x) e was)
+            (omega (arith, before, least))))
+        reach no_bit x e low was sought from_low before other (no sooner) =
+            n.calling.walking.called.before no_bit x e low was sought from_low (omega (arith, sooner))
+
 module _ (a : Aim) (k : Known) (v : ShownEntry) (w : Walking) (n : IsNextEntry a k w v)
     (who mask found : ℕ) (mine : who ≡ owner v.member) (masked : mask ≡ mask_of a.mode) where
   abbrev notes : Notes
@@ -101,39 +201,17 @@ module _ (a : Aim) (k : Known) (v : ShownEntry) (w : Walking) (n : IsNextEntry a
   met = met_task mask found
 
   abbrev rest : Aim
-  rest = with_left a w.left
-
-  rest_is : rest_of a w ≡ Some rest
-  rest_is = ap (λ (b : Bool). if b then None else Some rest) n.going
-
-  walk_is : notes.walk ≡ Some rest
-  walk_is = n.calling.walking.held.aim ∙ rest_is
-
-  used_is : notes.used ≡ false
-  used_is = n.calling.walking.held.used ∙ ap is_used rest_is
+  rest = rest_now a k v w n
 
   calls : AreCalled a k w.place
   calls = n.calling.walking.called
-
-  shows_entry : shown_entry k v.member ≡ Some v.entry
-  shows_entry = ap look_entry n.shows
-
-  -- an entry for a bit stands in slot 0, and a task has one entry there
-  even_index : (x : ℕ) (e : Entry) → x < ENTRIES → shown_entry k x ≡ Some e → same e.watch a.watch ≡ true
-      → is_bit a.watch ≡ true → x % 2 ≡ 0
-  even_index x e low is sought bit =
-      let s = ((n.calling.standing x (omega arith)).entry low e is).0 in
-      s.slot (bit_kind x e s ((one_of e.watch a.watch sought).bit ∙ bit))
-
-  one_slot : (x y : ℕ) → x % 2 ≡ 0 → y % 2 ≡ 0 → owner y ≡ owner x → (y ≡ x → ⊥) → ⊥
-  unfolding owner
-  one_slot x y even also of_task other = other (omega (arith, even, also, of_task))
 
   -- the entry at hand is due
   due_here : is_due view notes a.watch v.member ≡ true
   due_here = both_true (is_for_look a.watch (view.hold.book v.member)) (is_ahead notes.from (view.hold.book v.member))
       (notes.called v.member) (ap (is_for_look a.watch) n.shows ∙ n.sought)
-      (ap (is_ahead notes.from) n.shows ∙ ahead_here) (calls.ahead v.member v.entry n.counts shows_entry n.behind)
+      (ap (is_ahead notes.from) n.shows ∙ ahead_here)
+      (calls.ahead v.member v.entry n.counts (shows_entry a k v w n) n.behind)
     where
       ahead_here : nat_le notes.from v.entry.place ≡ true
       ahead_here = let low = calls.from in let later = n.behind in grind (arith, nat_tests, low, later)
@@ -153,9 +231,9 @@ module _ (a : Aim) (k : Known) (v : ShownEntry) (w : Walking) (n : IsNextEntry a
         where
           of_bit : (b : Bool) → is_bit a.watch ≡ b → is_bit a.watch ≡ false
           of_bit false none = none
-          of_bit true bit = absurd (one_slot v.member y
-              (even_index v.member v.entry n.counts shows_entry n.sought bit)
-              (even_index y e low (ap look_entry is) sought bit) of_task other)
+          of_bit true bit = absurd (one_slot a k v w n v.member y
+              (even_index a k v w n v.member v.entry n.counts (shows_entry a k v w n) n.sought bit)
+              (even_index a k v w n y e low (ap look_entry is) sought bit) of_task other)
 
           is_shown : shown_entry k y ≡ Some e
           is_shown = ap look_entry is
@@ -245,74 +323,26 @@ module _ (a : Aim) (k : Known) (v : ShownEntry) (w : Walking) (n : IsNextEntry a
 
   noted_is : noted woke ≡ with_normal who (mask == 3) (after_call rest (Some v.member) met view notes)
   noted_is = noted_added k (item.Made (step.Wake who mask found))
-      ∙ ap (with_normal who (mask == 3)) (ap (λ (o : Option Aim). notes_after_wake o who mask met view notes) walk_is
+      ∙ ap (with_normal who (mask == 3)) (ap (λ (o : Option Aim). notes_after_wake o who mask met view notes)
+      (walk_is a k v w n)
       ∙ (ap (λ (b : Bool). if b then after_call rest (callee view notes a.watch who) met view notes else notes)
       (eq-eqb mask (mask_of a.mode) masked)
       ∙ ap (λ (o : Option ℕ). after_call rest o met view notes) callee_is))
 
-  selects : (met && is_exclusive_look (view.hold.book v.member)) ≡ (met && v.entry.exclusive)
-  selects = ap (λ (l : Look). met && is_exclusive_look l) n.shows
+  -- it has called that entry
+  less : (x : ℕ) (e : Entry) → shown_entry woke x ≡ Some e → shown_entry k x ≡ Some e
+  less x e is = sym (ap (λ (u : Told). look_entry (u.hold.book x))
+      (told_added k (item.Made (step.Wake who mask found)))) ∙ is
 
-  abbrev left : Option Aim
-  left = rest_of a (past w (called v) met)
+  pub wake_left : (noted woke).walk ≡ rest_of a (past w (called v) met)
+  wake_left = call_left a k v w n woke met (ap (λ (m : Notes). m.walk) noted_is) (ap (λ (m : Notes). m.used) noted_is)
+      (ap (λ (m : Notes). m.from) noted_is) (ap (λ (m : Notes). m.called) noted_is) less
 
-  pub wake_left : (noted woke).walk ≡ left
-  wake_left = ap (λ (m : Notes). m.walk) noted_is
-      ∙ (ap (λ (b : Bool). if b then lowered rest else Some rest) selects ∙ by (met && v.entry.exclusive))
-    where
-      by : (b : Bool) → (if b then lowered rest else Some rest)
-          ≡ (if b && (w.left == 1) then None else Some (with_left a (if b then w.left - 1 else w.left)))
-      by true = refl
-      by false = refl
-
-  pub wake_used : (noted woke).used ≡ is_used left
-  wake_used = ap (λ (m : Notes). m.used) noted_is
-      ∙ (ap (λ (b : Bool). b || ((met && is_exclusive_look (view.hold.book v.member)) && (w.left == 1))) used_is
-      ∙ (ap (λ (b : Bool). b && (w.left == 1)) selects
-      ∙ by ((met && v.entry.exclusive) && (w.left == 1)) (if met && v.entry.exclusive then w.left - 1 else w.left)))
-    where
-      by : (b : Bool) (m : ℕ) → b ≡ is_used (if b then None else Some (with_left a m))
-      by true m = refl
-      by false m = refl
-
-  wake_from : (noted woke).from ≡ notes.from
-  wake_from = ap (λ (m : Notes). m.from) noted_is
-
-  wake_called_is : (noted woke).called ≡ put notes.called v.member true
-  wake_called_is = ap (λ (m : Notes). m.called) noted_is
-
-  -- it has called the entries up to this one
-  same_shown : (x : ℕ) → shown_entry woke x ≡ shown_entry k x
-  same_shown x = ap (λ (u : Told). look_entry (u.hold.book x)) (told_added k (item.Made (step.Wake who mask found)))
+  pub wake_used : (noted woke).used ≡ is_used (rest_of a (past w (called v) met))
+  wake_used = call_used a k v w n woke met (ap (λ (m : Notes). m.walk) noted_is) (ap (λ (m : Notes). m.used) noted_is)
+      (ap (λ (m : Notes). m.from) noted_is) (ap (λ (m : Notes). m.called) noted_is) less
 
   pub wake_called : AreCalled a woke (v.entry.place + 1)
-  wake_called = record {
-    from = let low = calls.from in let later = n.behind in omega (arith, wake_from, low, later);
-    before = λ no_bit x e low is sought after_from before.
-        let was : shown_entry k x ≡ Some e = sym (same_shown x) ∙ is in
-        let from_low : notes.from ≤ e.place = omega (arith, wake_from, after_from) in
-        ap (λ (f : ℕ → Bool). f x) wake_called_is
-        ∙ put_at (λ (b : Bool). b ≡ true) notes.called v.member true x (λ _. refl)
-        (λ other. reach no_bit x e low was sought from_low before other (dec_le w.place e.place));
-    ahead = λ x e low is later.
-        let was : shown_entry k x ≡ Some e = sym (same_shown x) ∙ is in
-        ap (λ (f : ℕ → Bool). f x) wake_called_is
-        ∙ (put_other notes.called v.member true x (not_here x e was later)
-        ∙ calls.ahead x e low was (let behind = n.behind in omega (arith, behind, later)));
-  }
-    where
-      not_here : (x : ℕ) (e : Entry) → shown_entry k x ≡ Some e → v.entry.place + 1 ≤ e.place → x ≢ v.member
-      not_here x e was later same =
-          let both : Some e ≡ Some v.entry = sym was ∙ (ap (shown_entry k) same ∙ shows_entry) in
-          let e_is : e ≡ v.entry = cc in
-          let place_is : e.place ≡ v.entry.place = ap (λ (f : Entry). f.place) e_is in
-          omega (arith, place_is, later)
-
-      reach : is_bit a.watch ≡ false → (x : ℕ) (e : Entry) → x < ENTRIES → shown_entry k x ≡ Some e
-          → same e.watch a.watch ≡ true → notes.from ≤ e.place → e.place < v.entry.place + 1 → x ≢ v.member
-          → Dec (w.place ≤ e.place) → notes.called x ≡ true
-      reach no_bit x e low was sought from_low before other (yes later) =
-          let least = n.first x e low was later in
-          absurd (other (n.apart x e low (look_is_shown (view.hold.book x) e was) (omega (arith, before, least))))
-      reach no_bit x e low was sought from_low before other (no sooner) =
-          calls.before no_bit x e low was sought from_low (omega (arith, sooner))
+  wake_called = call_called a k v w n woke met (ap (λ (m : Notes). m.walk) noted_is)
+      (ap (λ (m : Notes). m.used) noted_is) (ap (λ (m : Notes). m.from) noted_is)
+      (ap (λ (m : Notes). m.called) noted_is) less

@@ -52,7 +52,6 @@ use Rattle.wait_rule.specs.Shown.{look_entry}
 use Rattle.wait_rule.specs.Transitions.{Transition, by_step, walk_program, Goes}
 use Rattle.wait_rule.proofs.KnownLaws.AfterSteps.{told_added}
 use Rattle.wait_rule.proofs.KnownLaws.MemberBits.{told_stored, noted_stored}
-use Rattle.wait_rule.proofs.KnownLaws.StandingKinds.{not_page}
 use Rattle.wait_rule.proofs.KnownLaws.Transitions.{goes_on}
 use Rattle.wq_head.specs.declared.functions.ShownEntry.{ShownEntry}
 use Rattle.wq_head.specs.Walks.{IsFull}
@@ -97,6 +96,7 @@ off_auto kd is = record {
   woken = λ d. absurd (cc);
   rings = ap is_woken is;
   simple = ap is_simple is;
+  unpaged = ap is_page is;
 }
 
 pub off_var : (kd : Kind) → kd ≡ kind.Var → TakesOff kd
@@ -105,6 +105,7 @@ off_var kd is = record {
   woken = λ d. absurd (cc);
   rings = ap is_woken is;
   simple = ap is_simple is;
+  unpaged = ap is_page is;
 }
 
 pub off_bit : (kd : Kind) → kd ≡ kind.Bit → TakesOff kd
@@ -113,6 +114,7 @@ off_bit kd is = record {
   woken = λ d. absurd (cc);
   rings = ap is_woken is;
   simple = ap is_simple is;
+  unpaged = ap is_page is;
 }
 
 -- such an entry is none that its task alone takes off
@@ -180,6 +182,7 @@ module _ (a : Aim) (k : Known) (v : ShownEntry) (full : IsFull a.watch) (w : Wal
 
   gone_by_wake : gone (after (step.Wake (owner v.member) (mask_of a.mode) found) (told_of k)) v.member v.entry ≡ true
   gone_by_wake = gone_woke a k v full w n (owner v.member) (mask_of a.mode) found refl refl takes.rings
+      takes.unpaged
 
   answered : (answer : Bool) → answer ≡ met_task (mask_of a.mode) found
       → IsCalling a woke (v.entry.place + 1) (rest_of a (past w (called v) answer))
@@ -204,7 +207,7 @@ module _ (a : Aim) (k : Known) (v : ShownEntry) (full : IsFull a.watch) (w : Wal
     entry = v.entry;
     shows = ap (told_of woke).hold.book at_v
         ∙ wake_shows a k v full w n (owner v.member) (mask_of a.mode) found refl refl gone_by_wake;
-    may = inr ((takes.default, takes.woken), inl (roused_is same));
+    may = inr ((takes.default, (takes.woken, takes.unpaged)), inl (roused_is same));
   }
 
   -- it is taken off
@@ -269,7 +272,7 @@ module _ (a : Aim) (k : Known) (v : ShownEntry) (full : IsFull a.watch) (w : Wal
         tries_it : is_trying_for (Some v.entry) v.entry.watch ≡ true
         tries_it = four v.entry.exclusive (is_bit v.entry.watch) (same v.entry.watch v.entry.watch)
             (not (is_page v.entry.kind)) exclusive (entry_one.bit ∙ bit) (same_self v.entry.watch)
-            (ap not (not_page v.member v.entry standing))
+            (ap not takes.unpaged)
 
         by : (b : Bool) → (owner v.member == k.view.number) ≡ b → (told_of k).bits.stored v.member ≡ None
         by false other = n.foreign (λ is. let z = eq-eqb (owner v.member) k.view.number is in absurd (cc))
@@ -288,7 +291,7 @@ module _ (a : Aim) (k : Known) (v : ShownEntry) (full : IsFull a.watch) (w : Wal
         ∙ ((λ i. (told_of woke).hold.picked || picks (held.under.under i) (woke_shows i) (roused_x i)
         (not (is_off (not_mine bit exclusive i))))
         ∙ six (told_of woke).hold.picked v.entry.exclusive (not (is_page v.entry.kind)) (is_bit held.walk.watch)
-        (same v.entry.watch held.walk.watch) exclusive (ap not (not_page v.member v.entry standing))
+        (same v.entry.watch held.walk.watch) exclusive (ap not takes.unpaged)
         (sym (under_one a woke (rest_of a (past w (called v) true)) held).bit ∙ bit)
         (held.under.watch v.entry.watch ∙ n.sought))
       where

@@ -16,7 +16,7 @@ use Rattle.wait_model.specs.Functions.{put}
 use Rattle.wait_model.specs.Queues.{is_entry, entry_from, rank}
 use Rattle.wait_model.specs.Tasks.{IsLawfulWord}
 use Rattle.wait_model.specs.Views.{View as Told, Look, off, shown}
-use Rattle.wait_model.specs.Watches.{is_simple, mask_of, owner}
+use Rattle.wait_model.specs.Watches.{is_page, is_simple, mask_of, owner}
 use Rattle.wait_model.specs.Words.{entry_of}
 use Rattle.wait_model.proofs.Functions.{put_at, put_same}
 use Rattle.wait_model.proofs.QueueLaws.QueueOrder.{first_is, one_first}
@@ -171,7 +171,7 @@ module _ (old seen : Known) (x w : ℕ) (f : IsFirstEntry old x)
       entry = found.0;
       shows = ap (told_of woke).hold.book at_x ∙ shows_woke;
       may = inr (
-        (not_default found.0.kind simple, not_woken found.0.kind simple),
+        (not_default found.0.kind simple, (not_woken found.0.kind simple, ap is_page simple)),
         inr (ap is_simple simple, normal),
       );
     }

@@ -7,7 +7,7 @@ use Rattle.wait_model.specs.declared.watches.Watch.TheVariants as watch
 use Rattle.wait_model.specs.declared.watches.Entry.{Entry}
 use Rattle.wait_model.specs.declared.watches.Kind.{Kind}
 use Rattle.wait_model.specs.declared.watches.Kind.TheVariants as kind
-use Rattle.wait_model.specs.Watches.{same, head_of, hashed, misses, failing, is_bit, counted, is_simple, is_page}
+use Rattle.wait_model.specs.Watches.{same, head_of, hashed, misses, failing, is_bit, counted, is_simple, page}
 use Rattle.wait_model.specs.Words.{bit_at, Suited}
 use Rattle.wait_rule.specs.Members.{IsStanding, IsKindFor}
 use Rattle.wq_head.specs.Walks.{IsFull}
@@ -132,6 +132,13 @@ plain_bit k (inr (inl is)) bit = absurd (cc)
 plain_bit k (inr (inr (inl is))) bit = absurd (cc)
 plain_bit k (inr (inr (inr is))) bit = absurd (cc)
 
+plain_page : (k : Kind) → (k ≡ kind.Default) ⊎ ((k ≡ kind.Autoremove) ⊎ ((k ≡ kind.Woken) ⊎ (k ≡ kind.Simple)))
+    → k ≡ kind.Page → ⊥
+plain_page k (inl is) page = absurd (cc)
+plain_page k (inr (inl is)) page = absurd (cc)
+plain_page k (inr (inr (inl is))) page = absurd (cc)
+plain_page k (inr (inr (inr is))) page = absurd (cc)
+
 pub kind_bit : (x : ℕ) (e : Entry) → IsStanding x e → e.kind ≡ kind.Bit → is_bit e.watch ≡ true
 kind_bit x e at is = by e.watch e.kind at.lawful.suited is
   where
@@ -141,17 +148,40 @@ kind_bit x e at is = by e.watch e.kind at.lawful.suited is
     by (watch.Bit w b) k suits is = refl
     by (watch.Var v o) k suits is = let both : kind.Var ≡ kind.Bit = sym suits.2 ∙ is in absurd (cc)
 
-pub bit_kind : (x : ℕ) (e : Entry) → IsStanding x e → is_bit e.watch ≡ true → e.kind ≡ kind.Bit
-bit_kind x e at is = by e.watch e.kind e.exclusive at.lawful.suited at.kind is
+pub kind_page : (x : ℕ) (e : Entry) → IsStanding x e → e.kind ≡ kind.Page → (p : ℕ) × (e.watch ≡ page p)
+kind_page x e at is = by e.watch e.kind at.lawful.suited is
   where
-    by : (w : Watch) (k : Kind) (t : Bool) → Suited w k → IsKindFor w k t → is_bit w ≡ true → k ≡ kind.Bit
-    by (watch.Plain c) k t suits for is = absurd (cc)
-    by (watch.Done d) k t suits for is = absurd (cc)
-    by (watch.Bit w b) k t suits for is = elim suits.2 [
-      | inl bit ↦ bit
-      | inr page ↦ let both : true ≡ false = sym (ap is_page page.0) ∙ for in absurd (cc)
+    by : (w : Watch) (k : Kind) → Suited w k → k ≡ kind.Page → (p : ℕ) × (w ≡ page p)
+    by (watch.Plain c) k suits is = absurd (plain_page k suits.1 is)
+    by (watch.Done d) k suits is = let both : kind.Simple ≡ kind.Page = sym suits.1 ∙ is in absurd (cc)
+    by (watch.Bit w b) k suits is = elim suits.2 [
+      | inl bit ↦ let both : kind.Bit ≡ kind.Page = sym bit ∙ is in absurd (cc)
+      | inr paged ↦ (w, ap (λ (c : ℕ). watch.Bit w c) paged.1)
     ]
-    by (watch.Var v o) k t suits for is = absurd (cc)
+    by (watch.Var v o) k suits is = let both : kind.Var ≡ kind.Page = sym suits.2 ∙ is in absurd (cc)
+
+-- a wake for the watch of such an entry is one for its page
+pub page_same : (e w : Watch) (p : ℕ) → e ≡ page p → same e w ≡ true → w ≡ page p
+page_same e w p is sought = by w (sym (ap (λ (c : Watch). same c w) is) ∙ sought)
+  where
+    by : (c : Watch) → same (page p) c ≡ true → c ≡ page p
+    by (watch.Plain c) z = absurd (cc)
+    by (watch.Done d) z = absurd (cc)
+    by (watch.Bit v b) z =
+        let words = eqb-true p v (both_left (p == v) (0 == b) z) in
+        let bits = eqb-true 0 b (both_right (p == v) (0 == b) z) in
+        (λ i. watch.Bit (sym words i) (sym bits i))
+    by (watch.Var u q) z = absurd (cc)
+
+pub bit_kinds : (x : ℕ) (e : Entry) → IsStanding x e → is_bit e.watch ≡ true
+    → (e.kind ≡ kind.Bit) ⊎ (e.kind ≡ kind.Page)
+bit_kinds x e at is = by e.watch e.kind at.lawful.suited is
+  where
+    by : (w : Watch) (k : Kind) → Suited w k → is_bit w ≡ true → (k ≡ kind.Bit) ⊎ (k ≡ kind.Page)
+    by (watch.Plain c) k suits is = absurd (cc)
+    by (watch.Done d) k suits is = absurd (cc)
+    by (watch.Bit w b) k suits is = elim suits.2 [ inl bit ↦ inl bit | inr paged ↦ inr paged.0 ]
+    by (watch.Var v o) k suits is = absurd (cc)
 
 -- an entry of kind Var is not exclusive, and its watch none of a bit
 plain_var : (k : Kind) → (k ≡ kind.Default) ⊎ ((k ≡ kind.Autoremove) ⊎ ((k ≡ kind.Woken) ⊎ (k ≡ kind.Simple)))
@@ -173,20 +203,19 @@ var_shared x e at is = by e.watch e.kind e.exclusive at.lawful.suited at.kind is
     ]
     by (watch.Var v o) k t suits for is = for
 
--- an entry that is of neither kind is for a counted watch
-pub plain_counts : (x : ℕ) (e : Entry) → IsStanding x e → e.kind ≢ kind.Bit → e.kind ≢ kind.Var
+-- an entry that is of none of these kinds is for a counted watch
+pub plain_counts : (x : ℕ) (e : Entry) → IsStanding x e → e.kind ≢ kind.Bit → e.kind ≢ kind.Page → e.kind ≢ kind.Var
     → counted e.watch ≡ true
-plain_counts x e at no_bit no_var = by e.watch e.kind e.exclusive at.lawful.suited at.kind no_bit no_var
+plain_counts x e at no_bit no_page no_var = by e.watch e.kind at.lawful.suited no_bit no_page no_var
   where
-    by : (w : Watch) (k : Kind) (t : Bool) → Suited w k → IsKindFor w k t → k ≢ kind.Bit → k ≢ kind.Var
-        → counted w ≡ true
-    by (watch.Plain c) k t suits for no_bit no_var = refl
-    by (watch.Done d) k t suits for no_bit no_var = refl
-    by (watch.Bit w b) k t suits for no_bit no_var = elim suits.2 [
+    by : (w : Watch) (k : Kind) → Suited w k → k ≢ kind.Bit → k ≢ kind.Page → k ≢ kind.Var → counted w ≡ true
+    by (watch.Plain c) k suits no_bit no_page no_var = refl
+    by (watch.Done d) k suits no_bit no_page no_var = refl
+    by (watch.Bit w b) k suits no_bit no_page no_var = elim suits.2 [
       | inl is ↦ absurd (no_bit is)
-      | inr page ↦ let both : true ≡ false = sym (ap is_page page.0) ∙ for in absurd (cc)
+      | inr paged ↦ absurd (no_page paged.0)
     ]
-    by (watch.Var v o) k t suits for no_bit no_var = absurd (no_var suits.2)
+    by (watch.Var v o) k suits no_bit no_page no_var = absurd (no_var suits.2)
 
 -- a watch is counted, or a bit, or entries for it are not exclusive
 pub var_only : (x : ℕ) (e : Entry) → IsStanding x e → counted e.watch ≡ false → is_bit e.watch ≡ false
@@ -201,14 +230,14 @@ var_only x e at uncounted no_bit = by e.watch e.kind e.exclusive at.kind uncount
 
 -- a plain entry that is none of these is a default one
 pub is_default : (a : Watch) → IsFull a → (x : ℕ) (e : Entry) → IsStanding x e → head_of e.watch ≡ head_of a
-    → e.kind ≢ kind.Autoremove → e.kind ≢ kind.Woken → e.kind ≢ kind.Bit → e.kind ≢ kind.Var → e.kind ≡ kind.Default
-is_default a full x e at here no_auto no_woken no_bit no_var =
-    by e.watch e.kind e.exclusive at.lawful.suited at.kind (simple_none a full x e at here) no_auto no_woken no_bit
-    no_var
+    → e.kind ≢ kind.Autoremove → e.kind ≢ kind.Woken → e.kind ≢ kind.Bit → e.kind ≢ kind.Page → e.kind ≢ kind.Var
+    → e.kind ≡ kind.Default
+is_default a full x e at here no_auto no_woken no_bit no_page no_var =
+    by e.watch e.kind at.lawful.suited (simple_none a full x e at here) no_auto no_woken no_bit no_page no_var
   where
-    by : (w : Watch) (k : Kind) (t : Bool) → Suited w k → IsKindFor w k t → is_simple k ≡ false → k ≢ kind.Autoremove
-        → k ≢ kind.Woken → k ≢ kind.Bit → k ≢ kind.Var → k ≡ kind.Default
-    by (watch.Plain c) k t suits for simple no_auto no_woken no_bit no_var = elim suits.1 [
+    by : (w : Watch) (k : Kind) → Suited w k → is_simple k ≡ false → k ≢ kind.Autoremove → k ≢ kind.Woken
+        → k ≢ kind.Bit → k ≢ kind.Page → k ≢ kind.Var → k ≡ kind.Default
+    by (watch.Plain c) k suits simple no_auto no_woken no_bit no_page no_var = elim suits.1 [
       | inl is ↦ is
       | inr more ↦ elim more [
         | inl is ↦ absurd (no_auto is)
@@ -218,10 +247,10 @@ is_default a full x e at here no_auto no_woken no_bit no_var =
         ]
       ]
     ]
-    by (watch.Done d) k t suits for simple no_auto no_woken no_bit no_var =
+    by (watch.Done d) k suits simple no_auto no_woken no_bit no_page no_var =
         let both : true ≡ false = sym (ap is_simple suits.1) ∙ simple in absurd (cc)
-    by (watch.Bit w b) k t suits for simple no_auto no_woken no_bit no_var = elim suits.2 [
+    by (watch.Bit w b) k suits simple no_auto no_woken no_bit no_page no_var = elim suits.2 [
       | inl is ↦ absurd (no_bit is)
-      | inr page ↦ let both : true ≡ false = sym (ap is_page page.0) ∙ for in absurd (cc)
+      | inr paged ↦ absurd (no_page paged.0)
     ]
-    by (watch.Var v o) k t suits for simple no_auto no_woken no_bit no_var = absurd (no_var suits.2)
+    by (watch.Var v o) k suits simple no_auto no_woken no_bit no_page no_var = absurd (no_var suits.2)

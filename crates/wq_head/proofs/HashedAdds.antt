@@ -1,33 +1,72 @@
 -- The entries of adds for bits and variables.
-use Rattle.std.proofs.Common.{◌∙◌, ap, sym, refl, subst, inl, inr, eqb-true, arith}
-use Rattle.std.specs.Prelude.{ℕ, ◌+◌, ◌≡◌, ◌≢◌, ◌==◌, not, Bool, true, false, length}
-use Rattle.wait_model.specs.declared.layout.TheConstants.{MEMBERS, MEMBER_WORDS}
+use Rattle.std.proofs.Common.{◌∙◌, ap, sym, refl, subst, inl, inr, eq-eqb, eqb-true, arith}
+use Rattle.std.specs.Prelude.{ℕ, ◌+◌, ◌≡◌, ◌≢◌, ◌<◌, ◌&&◌, ◌||◌, ◌==◌, not, Bool, true, false}
+use Rattle.std.specs.Prelude.{Option, Some, length}
+use Rattle.wait_model.specs.declared.layout.TheConstants.{BIT_WORDS, MEMBERS, MEMBER_WORDS}
 use Rattle.wait_model.specs.declared.watches.Watch.{Watch}
 use Rattle.wait_model.specs.declared.watches.Kind.{Kind}
 use Rattle.wait_model.specs.declared.watches.Kind.TheVariants as kind
 use Rattle.wait_model.specs.declared.watches.Entry.{Entry}
 use Rattle.wait_model.specs.declared.steps.Step.TheVariants as step
-use Rattle.wait_model.specs.Watches.{is_page}
-use Rattle.wait_model.specs.Views.{off}
+use Rattle.wait_model.specs.Watches.{is_page, page, same}
+use Rattle.wait_model.specs.Views.{View as Told, off, is_trying_for}
+use Rattle.wait_model.specs.Fold.{after}
+use Rattle.wait_model.proofs.Functions.{put_at}
+use Rattle.wait_rule.specs.declared.journal.Item.TheVariants as item
+use Rattle.wait_rule.specs.Asked.{is_asking, waits_for}
 use Rattle.wait_rule.specs.Known.{Known}
 use Rattle.wait_rule.specs.LookCounts.{LooksAtMost}
 use Rattle.wait_rule.specs.Members.{IsStanding}
 use Rattle.wait_rule.specs.Queues.{IsTailPlace, index}
-use Rattle.wait_rule.specs.Says.{told_of, stored_with}
+use Rattle.wait_rule.specs.Says.{
+  Debts,
+  Duty,
+  Excuse,
+  IsOutBut,
+  Owes,
+  TriesNone,
+  added,
+  asks_for,
+  excuses,
+  has_duty,
+  is_excused,
+  page_asked,
+  stored_with,
+  told_of,
+  wake_of,
+}
+use Rattle.wait_rule.specs.Stays.{Carries, only_looks, with_entry, with_page}
+use Rattle.wait_rule.proofs.KnownLaws.AskedPages.{asked_added}
+use Rattle.wait_rule.proofs.KnownLaws.StayingParts.{owes_also}
+use Rattle.wq_head.proofs.CarriedHolds.{looks_carried}
 use Rattle.wait_rule.specs.Shown.{shown_queue}
 use Rattle.wq_head.specs.Adds.{
   IsFor,
   IsForBit,
   IsForVar,
   HasAddedForBit,
+  HasAddedForPage,
   HasQueued,
   front_entry,
+  page_change,
   tail_entry,
 }
 use Rattle.wq_head.specs.Looks.{Looks, AreLow, AreSeen}
-use Rattle.wq_head.proofs.AddedEntries.{IsAfter, TriesNo, full_unpaged, plain_stands, queue_memberd, queue_other}
+use Rattle.wq_head.proofs.AddedEntries.{
+  IsAfter,
+  TriesNo,
+  full_unpaged,
+  no_paged,
+  plain_stands,
+  queue_memberd,
+  queue_other,
+  queue_told,
+}
 use Rattle.wq_head.proofs.CountedLooks.{counted_add}
 use Rattle.wq_head.proofs.OneMoreLook.{looks_on}
+
+bit_unpaged : (k : Kind) → k ≡ kind.Bit → is_page k ≡ true → ⊥
+bit_unpaged k bit = no_paged k (ap (λ (q : Kind). not (is_page q)) bit)
 
 -- an entry for a bit, exclusive or not, in slot 0
 pub bit_stands : (n : ℕ) (b : Bool) (w : Watch) (k : Kind) (p : ℕ) → IsForBit w k → IsAfter p
@@ -35,18 +74,33 @@ pub bit_stands : (n : ℕ) (b : Bool) (w : Watch) (k : Kind) (p : ℕ) → IsFor
 bit_stands n b w k p bit at = subst (λ (c : Watch). IsStanding (index n 0) (tail_entry b c k p)) (sym bit.1.2)
     (record {
       lawful = record { place = at.small; suited = (bit.1.3, bit.1.4, inl bit.0) };
-      kind = ap is_page bit.0;
+      kind = λ paged. absurd (bit_unpaged k bit.0 paged);
       slot = λ is. omega arith;
+      page_slot = λ paged. absurd (bit_unpaged k bit.0 paged);
       even = at.even;
       priority = λ e. absurd (cc);
       plain = λ _. at.middle_on;
     })
+
+-- an exclusive one for a page, in slot 0
+pub page_stands : (n w p : ℕ) → w < BIT_WORDS → IsAfter p
+    → IsStanding (index n 0) (tail_entry true (page w) kind.Page p)
+page_stands n w p few at = record {
+  lawful = record { place = at.small; suited = (few, omega arith, inr (refl, refl)) };
+  kind = λ paged. refl;
+  slot = λ is. omega arith;
+  page_slot = λ is. omega arith;
+  even = at.even;
+  priority = λ e. absurd (cc);
+  plain = λ _. at.middle_on;
+}
 
 var_stands : (x : ℕ) (w : Watch) (k : Kind) (p : ℕ) → IsForVar w k → IsAfter p → IsStanding x (front_entry w k p)
 var_stands x w k p var at = subst (λ (c : Watch). IsStanding x (front_entry c k p)) (sym var.1.1) (record {
   lawful = record { place = at.small; suited = (var.1.2, refl, var.0) };
   kind = refl;
   slot = λ bit. absurd (no_bit bit);
+  page_slot = λ paged. absurd (no_paged k (ap (λ (q : Kind). not (is_page q)) var.0) paged);
   even = at.even;
   priority = λ e. absurd (cc);
   plain = λ _. at.middle_on;
@@ -104,3 +158,93 @@ module _ (old mid new : Known) (slot p : ℕ) (made : ℕ → Entry) (at : (made
       apart : (y : ℕ) → y ≢ x → (b : Bool) → (y == x) ≡ b → (y == x) ≡ false
       apart y other true is = absurd (other (eqb-true y x is))
       apart y other false is = is
+
+-- an entry for a page that the task stores: it owes to ask for it no more
+and_none : (b : Bool) → (b && false) ≡ false
+and_none true = refl
+and_none false = refl
+
+module _ (seen new : Known) (x w p : ℕ)
+    (is : new ≡ stored_with seen (step.Queue x (tail_entry true (page w) kind.Page p))) where
+  abbrev e : Entry
+  e = tail_entry true (page w) kind.Page p
+
+  told : told_of new ≡ after (step.Queue x e) (told_of seen)
+  told = queue_told seen new x e is
+
+  pub page_asks : asks_for new ≡ waits_for x w
+  page_asks = ap asks_for is ∙ (asked_added (added seen (item.Made (step.Queue x e))) item.Member
+      ∙ asked_added seen (item.Made (step.Queue x e)))
+
+  page_debts : (f : Excuse) → Debts f seen → Debts (with_page (with_entry x f)) new
+  unfolding with_page with_entry
+  page_debts f d = record { none = by }
+    where
+      by : (o : Duty) → (has_duty new o && not (excuses (with_page (with_entry x f)) o)) ≡ false
+      by (wake_of c σ) = ap (λ (v : Told). v.duty.owes c σ && not (is_excused f c σ)) told ∙ d.none (wake_of c σ)
+      by page_asked = and_none (is_asking (asks_for new))
+
+  tries_by : TriesNone (told_of seen) → TriesNone (told_of new)
+  tries_by none y c = ap (λ (v : Told). is_trying_for (v.bits.stored y) c) told
+      ∙ put_at (λ (s : Option Entry). is_trying_for s c ≡ false) (told_of seen).bits.stored x (Some e) y
+      (λ _. and_none (same c (page w))) (λ _. none y c)
+
+  page_owing : (f : Excuse) → Owes f seen → Owes (with_page (with_entry x f)) new
+  unfolding with_page with_entry
+  page_owing f o = record {
+    unmarked = ap (λ (v : Told). v.mark) told ∙ o.unmarked;
+    debts = page_debts f o.debts;
+    unqueued = λ y. subst (λ (v : Told). IsOutBut ((y == x) || f.entries y) (v.bits.stored y)) (sym told)
+        (put_at (λ (s : Option Entry). IsOutBut ((y == x) || f.entries y) s) (told_of seen).bits.stored x
+        (Some e) y (λ here. subst (λ (b : Bool). IsOutBut (b || f.entries y) (Some e)) (sym (eq-eqb y x here)) tt)
+        (λ _. (owes_also x f seen o).unqueued y));
+    holds = λ c. ap (λ (v : Told). not (f.bits c) && v.bits.keeps c) told ∙ o.holds c;
+    tries = λ c. ap (λ (v : Told). v.bits.pending c) told ∙ o.tries c;
+    tries_none = tries_by o.tries_none;
+  }
+
+  pub page_carried : (old : Known) → Carries only_looks old seen → Carries (page_change x) old new
+  page_carried old l = record {
+    domain = ap (λ (k : Known). k.domain) is ∙ l.domain;
+    number = ap (λ (k : Known). k.view.number) is ∙ l.number;
+    awake = ap (λ (k : Known). k.book.awake) is ∙ l.awake;
+    state = ap (λ (k : Known). k.book.state) is ∙ l.state;
+    head = ap (λ (k : Known). k.book.head) is ∙ l.head;
+    ticket = ap (λ (k : Known). k.book.ticket) is ∙ l.ticket;
+    hold = ap (λ (v : Told). v.hold.head) told ∙ l.hold;
+    at = ap (λ (k : Known). k.at) is ∙ l.at;
+    mark = ap (λ (v : Told). v.mark) told ∙ l.mark;
+    fewer = λ d σ p none. ap (λ (v : Told). v.duty.owes d σ) told ∙ l.fewer d σ p none;
+    stored = λ y none _. absurd (cc);
+    out = λ y away none. queue_other seen new x e is y away ∙ l.out y refl none;
+    stands = λ slot few away d at own. queue_other seen new x e is (index old.view.number slot) away
+        ∙ l.stands slot few refl d at own;
+    keeps = λ d _. ap (λ (v : Told). v.bits.keeps d) told ∙ l.keeps d refl;
+    owes = λ f o. page_owing f (l.owes f o);
+  }
+
+-- the whole add of an entry for a page
+pub added_for_page : (old mid new : Known) (w p : ℕ) (e : Entry) → Looks old mid
+    → e ≡ tail_entry true (page w) kind.Page p → AreLow mid MEMBERS → AreSeen mid MEMBERS
+    → LooksAtMost (MEMBER_WORDS + length (shown_queue mid)) old mid → (q : HasQueued mid new 0 e)
+    → IsTailPlace q.seen e.place → HasAddedForPage old new w
+unfolding added_for_bit
+added_for_page old mid new w p en first is low seen counts q place =
+    let b = added_for_bit old mid new 0 p (tail_entry true (page w) kind.Page) refl en first is q low seen counts
+    place in
+    let now = add_is old mid new 0 p (tail_entry true (page w) kind.Page) refl en first is q in
+    let looks = add_looks old mid new 0 p (tail_entry true (page w) kind.Page) refl en first is q in
+    record {
+      place = p;
+      seen = q.seen;
+      looks = looks;
+      whole = b.whole;
+      low = b.low;
+      is_off = b.is_off;
+      sort = b.sort;
+      is = now;
+      queued = b.queued;
+      asks = page_asks q.seen new (index old.view.number 0) w p now;
+      counts = b.counts;
+      carries = page_carried q.seen new (index old.view.number 0) w p now old (looks_carried old q.seen looks);
+    }

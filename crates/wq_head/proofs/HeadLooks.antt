@@ -19,7 +19,7 @@ use Rattle.wait_rule.specs.declared.journal.Item.{Item}
 use Rattle.wait_rule.specs.declared.journal.Item.TheVariants as item
 use Rattle.wait_rule.specs.Items.{steps_of}
 use Rattle.wait_rule.specs.Known.{Known}
-use Rattle.wait_rule.specs.Says.{Excuse, Owes, told_of, history_of, added, grown}
+use Rattle.wait_rule.specs.Says.{Excuse, Owes, told_of, history_of, added, grown, wake_of}
 use Rattle.wait_rule.specs.Stays.{with_wakes, Carries, unchanged}
 use Rattle.wait_rule.specs.LookCounts.{Looked, LooksAtMost}
 use Rattle.wait_rule.specs.Transitions.{AreScansOf, has_bit, has_word}
@@ -176,8 +176,8 @@ module _ (old new : Known) (h : ℕ) (s : HasFoundNone old new h MEMBER_WORDS) w
   none_ended = record {
     here = here;
     elsewhere = elsewhere;
-    settled = λ x o. owes_wakes (spares_head h x) x new refl refl
-        (λ c σ. spared x c σ (head_of c == h) (not (meets (mask_of mode.Normal) σ)) refl (o.debts.wakes c σ))
+    settled = λ x o. owes_wakes (spares_head h x) x new refl refl refl
+        (λ c σ. spared x c σ (head_of c == h) (not (meets (mask_of mode.Normal) σ)) refl (o.debts.none (wake_of c σ)))
         (s.carries.owes (spares_head h x) o);
   }
 
@@ -194,6 +194,6 @@ pub found_none_over : (c : Watch) (old new : Known) → HasEndedAt old new (head
     → Owes (with_wakes c mode.Normal x) old → Owes x new
 unfolding with_wakes
 found_none_over c old new ended x o = ended.settled x (owes_more (with_wakes c mode.Normal x)
-    (spares_head (head_of c) x) old refl refl
+    (spares_head (head_of c) x) old refl refl refl
     (λ d σ. at_its_head (x.wakes d σ) (same d c) (meets (mask_of mode.Normal) σ) (head_of d == head_of c)
     (λ alike. eq-eqb (head_of d) (head_of c) (same_head d c alike))) o)

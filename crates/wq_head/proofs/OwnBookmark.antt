@@ -12,7 +12,7 @@ use Rattle.wait_rule.specs.Items.{steps_of}
 use Rattle.wait_rule.specs.Known.{Known}
 use Rattle.wait_rule.specs.Notes.{Notes, note, note_step, notes_from, no_notes}
 use Rattle.wait_rule.specs.Says.{told_of, noted}
-use Rattle.wait_rule.proofs.KnownLaws.HeadLinks.{wake_own}
+use Rattle.wait_rule.proofs.KnownLaws.HeadLinks.{telling_own, wake_own}
 
 -- the place of a bookmark
 abbrev pub place_marked : Option Mark → Option ℕ
@@ -54,7 +54,7 @@ step_marked me (step.Woken x) v n is = is
 step_marked me (step.Unflag x o) v n is = is
 step_marked me (step.Flag x w) v n is = is
 step_marked me (step.TasFor x p w) v n is = is
-step_marked me (step.Handed x) v n is = is
+step_marked me (step.Handed x) v n is = is ∙ ap place_marked (sym (telling_own n.walk x v n))
 
 list_marked : (me : ℕ) (xs : List Item) (v : Told) (n : Notes) → IsMarked v n
     → IsMarked (after_all v (steps_of xs)) (notes_from me v n xs)

@@ -9,7 +9,7 @@ use Rattle.wait_model.specs.declared.watches.Entry.{Entry}
 use Rattle.wait_model.specs.declared.watches.Kind.{Kind}
 use Rattle.wait_model.specs.declared.watches.Watch.{Watch}
 use Rattle.wait_model.specs.declared.watches.Watch.TheVariants as watch
-use Rattle.wait_model.specs.Watches.{head_of}
+use Rattle.wait_model.specs.Watches.{head_of, page}
 use Rattle.wait_rule.specs.declared.journal.Item.{Item}
 use Rattle.wait_rule.specs.declared.journal.Item.TheVariants as item
 use Rattle.wait_rule.specs.HandedPermits.{FoundNoPermit, OwesNoPermit}
@@ -38,6 +38,10 @@ bit_low w k f =
     let low = hashed_low (f.1.0 * WORD_BITS + f.1.1) in
     let is = ap head_of f.1.2 in
     omega (arith, low, is)
+
+pub page_low : (w : ℕ) → head_of (page w) < FIRST_DONE_HEAD
+unfolding head_of
+page_low w = let low = hashed_low (w * WORD_BITS + 0) in omega (arith, low)
 
 pub var_low : (w : Watch) (k : Kind) → IsForVar w k → head_of w < FIRST_DONE_HEAD
 unfolding head_of

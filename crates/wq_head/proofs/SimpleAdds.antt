@@ -8,7 +8,7 @@ use Rattle.wait_model.specs.Watches.{is_page}
 use Rattle.wait_model.specs.Views.{is_trying_for}
 use Rattle.wait_rule.specs.Members.{IsStanding}
 use Rattle.wq_head.specs.Adds.{IsForTail, tail_entry}
-use Rattle.wq_head.proofs.AddedEntries.{IsAfter, TriesNo, plain_stands, plain_tries}
+use Rattle.wq_head.proofs.AddedEntries.{IsAfter, TriesNo, no_paged, plain_stands, plain_tries}
 
 no_bit : (k : Kind) → k ≡ kind.Simple → k ≡ kind.Bit → ⊥
 no_bit k simple bit = absurd (cc)
@@ -21,6 +21,7 @@ tail_stands x b w k p (inr (simple, inl plain)) at = subst (λ (c : Watch). IsSt
       lawful = record { place = at.small; suited = (plain.3, inr (inr (inr simple)), λ far. simple) };
       kind = λ low. let high = plain.2 in absurd (omega (arith, low, high));
       slot = λ bit. absurd (no_bit k simple bit);
+      page_slot = λ paged. absurd (no_paged k (ap (λ (q : Kind). not (is_page q)) simple) paged);
       even = at.even;
       priority = λ e. absurd (cc);
       plain = λ _. at.middle_on;
@@ -30,6 +31,7 @@ tail_stands x b w k p (inr (simple, inr done)) at = subst (λ (c : Watch). IsSta
       lawful = record { place = at.small; suited = (done.2, simple) };
       kind = tt;
       slot = λ bit. absurd (no_bit k simple bit);
+      page_slot = λ paged. absurd (no_paged k (ap (λ (q : Kind). not (is_page q)) simple) paged);
       even = at.even;
       priority = λ e. absurd (cc);
       plain = λ _. at.middle_on;

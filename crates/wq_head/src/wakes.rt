@@ -91,10 +91,12 @@ fn begun(aim: Aim) -> Walking
 /// `__wake_up_common_lock`), and answers how many of them answered yes, and how many of those were exclusive. The
 /// watch is a plain condition below `FIRST_SIMPLE`, a bit (`__wake_up_bit` in kernel/sched/wait_bit.c), or a variable,
 /// whatever its old value is (`wake_up_var` there). Entries for others that have the same head are passed over, and
-/// each counts as called for a break alone. Who wakes for a bit has no exclusive entry for a bit queued, which would
+/// each counts as called for a break alone. Who wakes for a bit has no exclusive entry of kind Bit queued, which would
 /// wait for that very wake. A count of 0 stops at no entry. Another is lowered by one at each
 /// exclusive entry whose task was woken, and where none is left the walk ends: it answers `Spent`, and raises the
-/// spent count of the head. A hold that has called more than `BREAK` entries puts a bookmark before the next member,
+/// spent count of the head. An entry for a page is exclusive, and counts as woken where the walk has taken the page for
+/// its task and handed it over, whatever the state of that task; the first that finds the page taken ends the walk,
+/// which answers `Stopped`. A hold that has called more than `BREAK` entries puts a bookmark before the next member,
 /// gives the lock back and goes on there, with what is left of the count. Afterwards the task owes no wake of the
 /// watch to the tasks in the states of the mode.
 pub fn wake<R: Wait>(
@@ -267,6 +269,10 @@ fn hold(
         Hold::Spent(walk) => {
             give_back(domain, task, true);
             WakeTurn::Done(walked(walk, End::Spent))
+        }
+        Hold::Stopped(walk) => {
+            give_back(domain, task, false);
+            WakeTurn::Done(walked(walk, End::Stopped))
         }
         Hold::Breaks(walk, before) => {
             run.walk = break_off(domain, task, run.aim, walk, before);

@@ -67,7 +67,7 @@ fn queue_lock<R: Wait>(rt: &R, domain: &Domain, task: &mut Task, watch: Watch) -
 }
 
 /// A new task does so.
-fn lock_other<R: Wait>(rt: &R, domain: &Domain, task: &mut Task, watch: Watch) -> bool
+pub(crate) fn lock_other<R: Wait>(rt: &R, domain: &Domain, task: &mut Task, watch: Watch) -> bool
     requires of { task.old.domain ≡ domain.now }
     requires ready { IsReady task.old }
     requires suits { IsForBit watch kinds.Bit }

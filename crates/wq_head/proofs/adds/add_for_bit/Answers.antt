@@ -8,6 +8,7 @@ use Rattle.wq_head.specs.Adds.{tail_entry}
 use Rattle.wq_head.proofs.PermitHeads.{added_there, bit_low, found_low, looks_found}
 use Rattle.wq_head.proofs.AddedEntries.{tail_placed, tail_worn, tail_after, added_holds}
 use Rattle.wq_head.proofs.HashedAdds.{bit_stands, added_for_bit}
+use Rattle.wq_head.proofs.AskedHolds.{no_flag, no_page}
 use Rattle.wq_head.proofs.OneMoreLook.{holding_on}
 use Rattle.wq_head.proofs.CarriedHolds.{looks_carried}
 use Rattle.wq_head.proofs.WornNotes.{tail_note}
@@ -81,3 +82,11 @@ returns-in-Some-clause-at c = added_there c.args.task.now c.survey-ends.new.task
 
 pub returns-in-None-clause-at : goal.returns-in-None-clause-at
 returns-in-None-clause-at c = ap (λ (k : Known). k.at) c.survey-ends.ensures.looks.is
+
+pub enqueue-requires-clause-tail : goal.enqueue-requires-clause-tail
+enqueue-requires-clause-tail c = no_page c.plain_entry.result (tail_entry true c.args.watch kind.Bit c.in-Some.place)
+    c.plain_entry.ensures refl
+
+pub enqueue-requires-clause-asks : goal.enqueue-requires-clause-asks
+enqueue-requires-clause-asks c = no_flag c.plain_entry.result (tail_entry true c.args.watch kind.Bit c.in-Some.place)
+    c.plain_entry.ensures refl

@@ -1,7 +1,8 @@
-use Rattle.std.proofs.Common.{◌∙◌, ◌<◌, ℕ, Bool, ap, true, refl, subst, sym}
+use Rattle.std.proofs.Common.{◌∙◌, ◌≡◌, ◌<◌, ℕ, Bool, ap, true, refl, subst, sym}
 use Rattle.wait_model.specs.declared.watches.Entry.{Entry}
 use Rattle.wait_model.specs.declared.layout.TheConstants.{PRIORITY_TASKS}
 use Rattle.wait_rule.specs.Known.{Known}
+use Rattle.wait_rule.specs.Pages.{uses_flag}
 use Rattle.wait_rule.specs.Members.{IsStanding}
 use Rattle.wait_rule.specs.Queues.{IsPriorityPlace, IsPlaceFor, index}
 use Rattle.wq_head.specs.Adds.{priority_entry}
@@ -17,6 +18,8 @@ use Rattle.wq_head.proofs.AddedEntries.{
   added_at,
   added_holds,
 }
+use Rattle.wait_rule.proofs.KnownLaws.AskedPages.{asks_no_page}
+use Rattle.wq_head.proofs.AskedHolds.{flag_woken, looks_unasked, no_page}
 use Rattle.wq_head.proofs.OneMoreLook.{holding_on}
 use Rattle.wq_head.proofs.CarriedHolds.{looks_carried}
 use Rattle.wq_head.proofs.WornNotes.{priority_note}
@@ -100,3 +103,13 @@ returns-in-Some-clause-at c = added_there c.args.task.now c.survey-ends.new.task
 
 pub returns-in-None-clause-at : goal.returns-in-None-clause-at
 returns-in-None-clause-at c = ap (λ (k : Known). k.at) c.survey-ends.ensures.looks.is
+
+pub enqueue-requires-clause-tail : goal.enqueue-requires-clause-tail
+enqueue-requires-clause-tail c = no_page c.prior_entry.result _ c.prior_entry.ensures
+    (plain_tries c.args.watch c.args.kind true true c.in-Some.place c.requires.plain).1
+
+pub enqueue-requires-clause-asks : goal.enqueue-requires-clause-asks
+enqueue-requires-clause-asks c uses = looks_unasked c.args.task.now c.survey-ends.new.task c.survey-ends.ensures.looks
+    (asks_no_page c.args.task.now (c.requires.asks (flag_woken c.args.kind
+    (plain_tries c.args.watch c.args.kind true true c.in-Some.place c.requires.plain).1
+    (subst (λ (f : Entry). uses_flag f.kind ≡ true) c.prior_entry.ensures uses))))

@@ -5,7 +5,7 @@ use Rattle.wait_rule.specs.declared.journal.Item.TheVariants as item
 use Rattle.wait_rule.specs.Known.{Known}
 use Rattle.wq_head.specs.Roused.{RousesNone}
 use Rattle.wq_head.specs.Walking.{IsNextEntry, HasCalled, WakesOff}
-use Rattle.wq_head.proofs.BitEntries.{tested_next, bit_called, set_passed}
+use Rattle.wq_head.proofs.BitEntries.{bit_here, tested_next, bit_called, set_passed}
 use Rattle.wq_head.proofs.EntryOffs.{off_bit}
 use Rattle.wq_head.proofs.RousedTasks.{none_added, roused_none, roused_then, then_roused}
 use Rattle.wq_head.proofs.functions.bit_wake.Goals as goal
@@ -14,7 +14,8 @@ use Rattle.wq_head.proofs.functions.bit_wake.Goals as goal
 pub returns-then-misses-clause-called : goal.returns-then-misses-clause-called
 returns-then-misses-clause-called c w n =
     subst (λ (k : Known). HasCalled c.args.aim c.args.task.now k w c.args.visit false) (sym c.cond_load.ensures.step)
-    (set_passed c.args.aim c.args.task.now c.args.visit c.requires.full w n c.cond_load.result c.requires.kind
+    (set_passed c.args.aim c.args.task.now c.args.visit c.requires.full w n c.cond_load.result
+    (bit_here c.args.aim c.args.task.now c.args.visit w n c.requires.kind) c.requires.kind
     (sym c.misses.ensures ∙ c.if-misses.true))
 
 pub returns-then-misses-clause-rouses : goal.returns-then-misses-clause-rouses
@@ -36,12 +37,13 @@ wake_off-requires-clause-next c =
       n.0,
       subst (λ (k : Known). IsNextEntry c.args.aim k n.0 c.args.visit) (sym c.cond_load.ensures.step)
           (tested_next c.args.aim c.args.task.now c.args.visit c.requires.full n.0 n.1 c.cond_load.result
-          c.requires.kind),
+          (bit_here c.args.aim c.args.task.now c.args.visit n.0 n.1 c.requires.kind)),
     )
 
 pub returns-clause-called : goal.returns-clause-called
 returns-clause-called c = IfOk-weaker c.wake_off.result _ _ (λ yes o w n.
-    bit_called c.args.aim c.args.task.now c.args.visit c.requires.full w n c.cond_load.result c.requires.kind
+    bit_called c.args.aim c.args.task.now c.args.visit c.requires.full w n c.cond_load.result
+    (bit_here c.args.aim c.args.task.now c.args.visit w n c.requires.kind) c.requires.kind
     (sym c.misses.ensures ∙ c.if-misses.false) c.wake_off.new.task yes
     (subst (λ (k : Known). WakesOff c.args.aim k c.wake_off.new.task c.args.visit yes) c.cond_load.ensures.step o))
     c.wake_off.ensures.off

@@ -7,7 +7,7 @@ use Rattle.wait_rule.specs.Says.{stored_with}
 use Rattle.wait_rule.proofs.KnownLaws.Turns.{unlocked_free}
 use Rattle.wq_head.proofs.PermitHeads.{walk_owes}
 use Rattle.wq_head.proofs.EntryFunctions.{keeps_on}
-use Rattle.wq_head.proofs.WholeWalk.{come_on, walk_passed, walk_spent}
+use Rattle.wq_head.proofs.WholeWalk.{come_on, walk_passed, walk_spent, walk_stopped}
 use Rattle.wq_head.specs.Roused.{RousesNone}
 use Rattle.wq_head.proofs.RousedTasks.{none_stored, none_unlocked, rousing_on}
 use Rattle.wq_head.proofs.wakes.hold.Goals as goal
@@ -34,6 +34,18 @@ returns-in-Spent-clause-turned c start up idle tries i =
       turns = walk_spent c.args.run.now.aim start c.args.task.now mid c.give_back-in-Spent.new.task
           c.args.run.now.walk c.in-Spent.walk i c.in-Spent.ensures.keeps over.0 idle c.requires.small over.1 over.2
           c.give_back-in-Spent.ensures c.walked-in-Spent.result c.walked-in-Spent.ensures;
+    }
+
+pub returns-in-Stopped-clause-turned : goal.returns-in-Stopped-clause-turned
+returns-in-Stopped-clause-turned c start up idle tries i =
+    let mid = c.walk_hold.new.task in
+    let over = c.in-Stopped.ensures.over in record {
+      aim = refl;
+      outside = subst (λ (k : Known). k.book.head ≡ None) (sym c.give_back-in-Stopped.ensures)
+          (unlocked_free mid mid.at false).head;
+      turns = walk_stopped c.args.run.now.aim start c.args.task.now mid c.give_back-in-Stopped.new.task
+          c.args.run.now.walk c.in-Stopped.walk i c.in-Stopped.ensures.keeps over.0 idle c.requires.small over.1
+          over.2 over.3 c.give_back-in-Stopped.ensures c.walked-in-Stopped.result c.walked-in-Stopped.ensures;
     }
 
 pub returns-in-Breaks-clause-turned : goal.returns-in-Breaks-clause-turned
@@ -86,6 +98,13 @@ returns-in-Spent-clause-rouses c =
     (subst (RousesNone mid) (sym c.give_back-in-Spent.ensures) (none_unlocked mid mid.at true))
     c.walk_hold.ensures.rouses
 
+pub returns-in-Stopped-clause-rouses : goal.returns-in-Stopped-clause-rouses
+returns-in-Stopped-clause-rouses c =
+    let mid = c.walk_hold.new.task in
+    rousing_on c.args.task.now mid c.give_back-in-Stopped.new.task c.walk_hold.new.rousing
+    (subst (RousesNone mid) (sym c.give_back-in-Stopped.ensures) (none_unlocked mid mid.at false))
+    c.walk_hold.ensures.rouses
+
 pub returns-in-Breaks-clause-rouses : goal.returns-in-Breaks-clause-rouses
 returns-in-Breaks-clause-rouses c =
     let mid = c.walk_hold.new.task in
@@ -109,3 +128,7 @@ give_back-requires-clause-permits c = walk_owes c.args.run.now.aim.watch c.walk_
 pub give_back-requires-in-Spent-clause-permits : goal.give_back-requires-in-Spent-clause-permits
 give_back-requires-in-Spent-clause-permits c = walk_owes c.args.run.now.aim.watch c.walk_hold.new.task c.requires.full
     c.in-Spent.ensures.over.2.at
+
+pub give_back-requires-in-Stopped-clause-permits : goal.give_back-requires-in-Stopped-clause-permits
+give_back-requires-in-Stopped-clause-permits c = walk_owes c.args.run.now.aim.watch c.walk_hold.new.task
+    c.requires.full c.in-Stopped.ensures.over.2.0.at

@@ -1,0 +1,75 @@
+-- What a task asks for, over looks and over other steps that begin no debt.
+use Rattle.std.proofs.Common.{◌∙◌, ap, sym, refl, subst}
+use Rattle.std.specs.Prelude.{ℕ, Option, ◌≡◌, ◌&&◌, not, Bool, true, false}
+use Rattle.wait_model.specs.declared.watches.Aim.{Aim}
+use Rattle.wait_model.specs.declared.watches.Entry.{Entry}
+use Rattle.wait_model.specs.declared.watches.Kind.{Kind}
+use Rattle.wait_model.specs.declared.watches.Kind.TheVariants as kind
+use Rattle.wait_model.specs.Watches.{is_page}
+use Rattle.wait_rule.specs.Asked.{Asked, nothing_asked, is_asking}
+use Rattle.wait_rule.specs.Known.{Known}
+use Rattle.wait_rule.specs.Pages.{uses_flag}
+use Rattle.wait_rule.specs.Says.{AsksNoPage, Debts, Duty, Excuse, asks_for, excuses, has_duty, no_excuse}
+use Rattle.wait_rule.specs.Says.{page_asked, told_of, wake_of}
+use Rattle.wait_rule.proofs.KnownLaws.AskedPages.{asks_no_page, asks_nothing_of}
+use Rattle.wq_head.specs.Holds.{HasLocked}
+use Rattle.wq_head.specs.Looks.{Looks}
+use Rattle.wq_head.proofs.LockWaits.{locked_stays}
+
+-- it is excused of all but that it asks for a page
+abbrev all_but_page : Excuse
+all_but_page = record { wakes = λ c σ. true; entries = λ i. true; bits = λ c. true; asks = false }
+
+none_and : (b : Bool) → (b && false) ≡ false
+none_and true = refl
+none_and false = refl
+
+unasked_debts : (k : Known) → asks_for k ≡ nothing_asked → Debts all_but_page k
+unasked_debts k none = record { none = by }
+  where
+    by : (o : Duty) → (has_duty k o && not (excuses all_but_page o)) ≡ false
+    by (wake_of c σ) = none_and ((told_of k).duty.owes c σ)
+    by page_asked = ap (λ (q : Asked). is_asking q && true) none
+
+is_none : (a : Bool) → (a && true) ≡ false → a ≡ false
+is_none true is = is
+is_none false is = refl
+
+-- so of a task that has no such debt
+pub debts_unasked : (x : Excuse) (k : Known) → x.asks ≡ false → Debts x k → asks_for k ≡ nothing_asked
+debts_unasked x k unasked d = asks_nothing_of (asks_for k) (is_none (is_asking (asks_for k))
+    (ap (λ (b : Bool). is_asking (asks_for k) && not b) (sym unasked) ∙ d.none page_asked))
+
+pub stays_unasked : (old new : Known) → ((x : Excuse) → Debts x old → Debts x new) → asks_for old ≡ nothing_asked
+    → asks_for new ≡ nothing_asked
+stays_unasked old new debts none = debts_unasked all_but_page new refl
+    (debts all_but_page (unasked_debts old none))
+
+pub looks_unasked : (old new : Known) → Looks old new → asks_for old ≡ nothing_asked → asks_for new ≡ nothing_asked
+looks_unasked old new l = stays_unasked old new l.stays.debts
+
+-- an entry of another kind is none for a page
+pub no_page : {A : Type 0} (e f : Entry) → e ≡ f → not (is_page f.kind) ≡ true → is_page e.kind ≡ true → A
+no_page e f same none paged =
+    let both : not true ≡ true = ap not (sym paged ∙ ap (λ (d : Entry). is_page d.kind) same) ∙ none in absurd (cc)
+
+-- nor does it wait by its flag word
+pub no_flag : {A : Type 0} (e f : Entry) → e ≡ f → not (uses_flag f.kind) ≡ true → uses_flag e.kind ≡ true → A
+no_flag e f same none uses =
+    let both : not true ≡ true = ap not (sym uses ∙ ap (λ (d : Entry). uses_flag d.kind) same) ∙ none in absurd (cc)
+
+-- of the kinds that are none for a page Woken alone does
+pub flag_woken : (k : Kind) → not (is_page k) ≡ true → uses_flag k ≡ true → k ≡ kind.Woken
+flag_woken kind.Woken none uses = refl
+flag_woken kind.Page none uses = absurd (cc)
+flag_woken k none uses = absurd (cc)
+
+-- over a lock
+pub asks_none : (k : Known) → asks_for k ≡ nothing_asked → AsksNoPage k
+asks_none k none d is = subst (λ (o : Duty). (has_duty k o && not (excuses no_excuse o)) ≡ false) (sym is)
+    (ap (λ (q : Asked). is_asking q && true) none)
+
+pub locked_asks : (old new : Known) (head : ℕ) (walk : Option Aim) → HasLocked old new head walk → AsksNoPage old
+    → AsksNoPage new
+locked_asks old new head walk l none = asks_none new
+    (stays_unasked old new (locked_stays old new head walk l).debts (asks_no_page old none))

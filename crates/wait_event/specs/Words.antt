@@ -20,7 +20,7 @@ use Rattle.wait_rule.specs.Known.{Known}
 use Rattle.wait_rule.specs.Says.{MeetsLaw}
 use Rattle.wait_rule.specs.SaidEvents.{plain_aim, said}
 use Rattle.wait_rule.specs.Heeding.{EndsSignalled, trail_of}
-use Rattle.wait_rule.specs.Selecting.{IsTallied, selects_in, wakes_in}
+use Rattle.wait_rule.specs.Selecting.{IsTallied, selects_in, yes_in}
 use Rattle.wait_rule.specs.Transitions.{Transition, call_program, walk_program}
 use Rattle.wait_event.specs.Conds.{HasSet, HasTaken}
 use Rattle.wait_event.specs.Ends.{EndsWait, IsOut, answer_of}
@@ -73,7 +73,7 @@ pub record SetFollows (old new : Known) (c value : ℕ) (m : Mode) (count : ℕ)
       (call_says old.view.number (calls.Set c value) h.set.transitions) zero_answer
   pub wakes : Follows h.between.view.number (calls.Wake c m count) (walk_says c m count h.woken.transitions)
       (answer.Walk h.woken.walked)
-  pub selects : IsTallied count (wakes_in (walk_says c m count h.woken.transitions)) h.woken.walked
+  pub selects : IsTallied count (yes_in (walk_says c m count h.woken.transitions)) h.woken.walked
   pub tells : h.woken.walked.selected
       ≡ selects_in (plain_aim c m count) (next.Go (at.Walk walking.Lock)) h.woken.transitions
 

@@ -5,7 +5,7 @@ ghost use Rattle.wait_model.specs.declared.layout.TheConstants.{FIRST_SIMPLE, PR
 ghost use Rattle.wait_model.specs.declared.watches.Kind.TheVariants as kinds;
 ghost use Rattle.wait_model.specs.Queues.{is_priority};
 ghost use Rattle.wait_rule.specs.Members.{IsOwnKind};
-ghost use Rattle.wait_rule.specs.Says.{IsFree, IsUp};
+ghost use Rattle.wait_rule.specs.Says.{AsksNoPage, IsFree, IsUp};
 ghost use Rattle.wait_rule.specs.Stays.{Carries};
 ghost use Rattle.wait_event.specs.Ends.{IsOut};
 ghost use Rattle.wait_event.specs.Entries.{EndsAdd, HasRemovedOwn, HasWokenEntry, MayRemove};
@@ -24,8 +24,9 @@ use wq_head::{Worn, lock, remove, unlock};
 /// (kernel/sched/wait.c, `add_wait_queue`), exclusive at the tail (`add_wait_queue_exclusive`), or with priority
 /// (`add_wait_queue_priority`), for a task whose number is below `PRIORITY_TASKS`. The kind is Default, whose task a
 /// wake wakes, or Woken, whose flag a wake sets before that (`woken_waits`): only the task itself takes the entry off.
-/// The task is in any state, holds no lock, and its entry is off. Worn comes exactly where no place is left for the
-/// entry, and then it is off still. The task's state, its bookmark and its other entry stay, and what it owes.
+/// With Woken the task asks for no page, as one that owes nothing: both wait by the flag word. The task is in any
+/// state, holds no lock, and its entry is off. Worn comes exactly where no place is left for the entry, and then it is
+/// off still. The task's state, its bookmark and its other entry stay, and what it owes.
 pub fn add_entry<R: Wait>(
     rt: &R,
     domain: &Domain,
@@ -41,6 +42,7 @@ pub fn add_entry<R: Wait>(
     requires own { IsOwnKind kind }
     requires few { is_priority form ≡ true → task.old.view.number < PRIORITY_TASKS }
     requires out { IsOut task.old }
+    requires asks { kind ≡ kinds.Woken → AsksNoPage task.old }
     ensures added { EndsAdd task.old task.new cond kind form result }
     ensures up { IsUp task.new }
     ensures free { IsFree task.new }

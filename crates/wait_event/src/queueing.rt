@@ -2,11 +2,12 @@
 
 ghost use Rattle.std.specs.Prelude.{◌≡◌, ◌<◌, ◌||◌, not, true, Some, None, IfOk, IfErr};
 ghost use Rattle.wait_model.specs.declared.layout.TheConstants.{FIRST_DONE_HEAD, PRIORITY_TASKS};
+ghost use Rattle.wait_model.specs.declared.watches.Kind.TheVariants as kinds;
 ghost use Rattle.wait_model.specs.Queues.{is_priority};
 ghost use Rattle.wait_model.specs.Watches.{head_of, is_simple};
 ghost use Rattle.wait_rule.specs.Ends.{WasWorn};
 ghost use Rattle.wait_rule.specs.Queues.{index};
-ghost use Rattle.wait_rule.specs.Says.{IsUp, told_of};
+ghost use Rattle.wait_rule.specs.Says.{AsksNoPage, IsUp, told_of};
 ghost use Rattle.wait_rule.specs.Stays.{Carries, only_looks};
 ghost use Rattle.wq_head.specs.Adds.{HasAdded};
 ghost use Rattle.wq_head.specs.Holds.{IsHolding};
@@ -47,8 +48,8 @@ pub(crate) fn wait_form(how: How) -> Form
 }
 
 /// Queues the own entry of slot 0, which is off, by its form, at the head that the task holds. One of kind Simple has
-/// the form Tail, and is not exclusive; the watch is no completion. Worn comes exactly where no place is left for it,
-/// and then nothing changes.
+/// the form Tail, and is not exclusive; the watch is no completion. One of kind Woken is queued by a task that asks for
+/// no page. Worn comes exactly where no place is left for it, and then nothing changes.
 #[inline(always)]
 pub(crate) fn add_by(
     domain: &Domain,
@@ -64,6 +65,7 @@ pub(crate) fn add_by(
     requires few { is_priority form ≡ true → task.old.view.number < PRIORITY_TASKS }
     requires plain { IsForBy form watch kind }
     requires low { head_of watch < FIRST_DONE_HEAD }
+    requires asks { kind ≡ kinds.Woken → AsksNoPage task.old }
     requires out { (told_of task.old).bits.stored (index task.old.view.number 0) ≡ None }
     ensures queued { IfOk result (λ _. HasAdded (IsFormPlace form) task.old task.new 0 (form_entry form watch kind)) }
     ensures worn { IfErr result (λ w. IsFormWorn form task.old task.new w) }

@@ -91,3 +91,17 @@ wait_for r runs form is w same k its = by r.watch runs.there runs.suits same
     by (watch.Plain c) there suits from = plain_for r.how c there suits form is w from k its
     by (watch.Var v o) there suits from = var_for r.how v there suits form is w from k its
     by u there suits from = absurd suits
+
+-- the entry of a wait is none of kind Woken
+pub wait_none_woken : {A : Type 0} (w : Watch) (k : Kind) → k ≡ kind_for w → k ≡ kind.Woken → A
+wait_none_woken w k its woken = not_so w (sym its ∙ woken)
+  where
+    none_of : {A : Type 0} (b : Bool) → (if b then kind.Autoremove else kind.Simple) ≡ kind.Woken → A
+    none_of true is = absurd (cc)
+    none_of false is = absurd (cc)
+
+    not_so : {A : Type 0} (w : Watch) → kind_for w ≡ kind.Woken → A
+    not_so (watch.Plain c) is = none_of (nat_lt c FIRST_SIMPLE) is
+    not_so (watch.Done d) is = absurd (cc)
+    not_so (watch.Bit n b) is = absurd (cc)
+    not_so (watch.Var v o) is = absurd (cc)

@@ -242,7 +242,7 @@ module _ (old : Known) (st : SleepState) where
       let keeps = keeps_by (λ σ. σ) old new carries in record {
         went = record {
           runs = runs_one (woken_program old.view.number st) (at.Woken hearing.Clear) old old new nothing (by_step e)
-              (only_none old) (refl, refl) (tt, tt, tt) (only_none new);
+              (only_none old) (refl, inl refl) (tt, tt, tt) (only_none new);
           keeps = keeps;
         };
         lands = record {

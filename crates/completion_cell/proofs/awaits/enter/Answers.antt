@@ -17,6 +17,9 @@ returns-then-is_some-clause-enters c = stay_enters c.args.task.now c.own_entry-e
     c.own_entry-entry.result c.own_entry-entry.ensures c.requires.at (sym c.is_some.ensures ∙ c.if-is_some.true)
     c.set_state.new.task c.mask.result c.mask.ensures c.set_state.ensures.step c.set_state.ensures.carries
 
+pub add_tail-requires-clause-asks : goal.add_tail-requires-clause-asks
+add_tail-requires-clause-asks c woken = absurd (cc)
+
 pub add_tail-requires-clause-held : goal.add_tail-requires-clause-held
 add_tail-requires-clause-held c = mid_holds c.args.task.now c.own_entry-entry.new.task c.args.run.now
     c.own_entry-entry.result c.own_entry-entry.ensures c.requires.at

@@ -3,6 +3,9 @@ use Rattle.wait_model.specs.declared.layout.TheConstants.{HEADS, PRIORITY_TASKS}
 use Rattle.wait_model.specs.Watches.{head_of}
 use Rattle.wait_rule.specs.Queues.{index}
 use Rattle.wait_rule.specs.Says.{told_of}
+use Rattle.wait_rule.proofs.KnownLaws.AskedPages.{asks_no_page, no_page_asked}
+use Rattle.wq_head.proofs.AskedHolds.{stays_unasked}
+use Rattle.wq_head.proofs.LockWaits.{locked_stays}
 use Rattle.wq_head.proofs.PermitHeads.{owes_low}
 use Rattle.wait_event.proofs.Events.PermitHeads.{cond_low}
 use Rattle.wait_event.proofs.Entering.{
@@ -35,6 +38,11 @@ pub add_by-added-requires-clause-plain : goal.add_by-added-requires-clause-plain
 add_by-added-requires-clause-plain g c =
     for_by c.args.form (watch.Plain c.args.cond) c.args.kind
     (own_for c.args.cond c.args.kind c.requires.full c.requires.own)
+
+pub add_by-added-requires-clause-asks : goal.add_by-added-requires-clause-asks
+add_by-added-requires-clause-asks g c woken = no_page_asked c.lock.new.task (stays_unasked c.args.task.now
+    c.lock.new.task (locked_stays c.args.task.now c.lock.new.task c.head_of.result _ c.lock.ensures.locked).debts
+    (asks_no_page c.args.task.now (c.requires.asks woken)))
 
 pub add_by-added-requires-clause-out : goal.add_by-added-requires-clause-out
 add_by-added-requires-clause-out g c = c.lock.ensures.carries.out (index c.lock.new.task.view.number 0) refl

@@ -12,7 +12,7 @@ use Rattle.wait_event.proofs.Events.Queues.{
   stay_advances,
   worn_advances,
 }
-use Rattle.wait_event.proofs.Events.Conditions.{wait_for}
+use Rattle.wait_event.proofs.Events.Conditions.{wait_for, wait_none_woken}
 use Rattle.wait_event.proofs.Events.Pares.{bare_head}
 use Rattle.wait_event.proofs.waits.queue_event.Goals as goal
 
@@ -42,6 +42,9 @@ add_by-requires-clause-few c prior = absurd (add_few c.args.run.now c.wait_form.
 pub add_by-requires-clause-plain : goal.add_by-requires-clause-plain
 add_by-requires-clause-plain c = wait_for c.args.run.now c.requires.at.runs c.wait_form.result c.wait_form.ensures
     c.bare-watch.result c.bare-watch.ensures c.kind.result c.kind.ensures
+
+pub add_by-requires-clause-asks : goal.add_by-requires-clause-asks
+add_by-requires-clause-asks c woken = wait_none_woken c.bare-watch.result c.kind.result c.kind.ensures woken
 
 pub add_by-requires-clause-out : goal.add_by-requires-clause-out
 add_by-requires-clause-out c = queue_out c.args.task.now c.own_entry-entry.new.task c.own_entry-entry.result

@@ -29,6 +29,9 @@ add_front-requires-clause-head c = ap head_of c.watch.ensures ∙ queue_at c.arg
 pub add_front-requires-clause-suits : goal.add_front-requires-clause-suits
 add_front-requires-clause-suits c = queue_for c.args.run.now c.requires.at.runs c.watch.result c.watch.ensures
 
+pub add_front-requires-clause-asks : goal.add_front-requires-clause-asks
+add_front-requires-clause-asks c woken = absurd (cc)
+
 pub add_front-requires-clause-out : goal.add_front-requires-clause-out
 add_front-requires-clause-out c = queue_out c.args.task.now c.own_entry-entry.new.task c.own_entry-entry.result
     c.own_entry-entry.ensures (sym c.is_some.ensures ∙ c.if-is_some.false)

@@ -1,4 +1,3 @@
 pub mod VarEnds
 pub mod VarWords
-pub mod PublishWalks
 pub mod Publishing

@@ -34,9 +34,9 @@ use Rattle.wait_event.specs.Posts.{Runs}
 use Rattle.wait_event.specs.Waits.{nothing, with_value}
 use Rattle.wait_event.proofs.Events.Pares.{bare_head}
 use Rattle.wait_event.proofs.Ground.Going.{runs_on, runs_one}
+use Rattle.wait_event.proofs.Ground.WalkedCalls.{walk_ends_held, walk_goes}
 use Rattle.wait_event.proofs.Setting.{set_carries, set_idle}
 use Rattle.var_wait.specs.VarPublishes.{HasPublished, aim_of}
-use Rattle.var_wait.proofs.PublishWalks.{walk_ends_held, walk_goes}
 
 -- the loads of a look leave the book as it is
 scans_book : (h : ℕ) (b : Book) (xs : List Item) → AreScansOf h xs → book_from b xs ≡ b
@@ -119,12 +119,12 @@ module _ (before stored looked : Known) (v value found : ℕ)
     walk_runs : Runs f looked new (next.Go (at.Walk walking.Lock)) (next.Ends (answer.Walk woken.walked))
     walk_runs = record {
       transitions = woken.transitions;
-      goes = walk_goes before.view.number v value woken.transitions looked new (next.Go (at.Walk walking.Lock))
-          (next.Ends (answer.Walk woken.walked)) tt woken.goes;
+      goes = walk_goes before.view.number (calls.SetVar v value) woken.transitions looked new
+          (next.Go (at.Walk walking.Lock)) (next.Ends (answer.Walk woken.walked)) tt woken.goes;
     }
 
     held_once : 0 < woken.walked.holds
-    held_once = walk_ends_held before.view.number v value woken.transitions looked new
+    held_once = walk_ends_held before.view.number (calls.SetVar v value) woken.transitions looked new
         (next.Go (at.Walk walking.Lock)) (next.Ends (answer.Walk woken.walked)) tt woken.goes
 
     capped_some : (n : ℕ) → 0 < n → 0 < min n most

@@ -2,7 +2,9 @@
 -- Whole calls on variables as lists of events: what each makes follows its sentence, and a wait that answers for a
 -- signal has found one in its last turn.
 use Rattle.std.specs.Prelude.{ℕ, ◌≡◌, Result, Err, []}
+use Rattle.wait_model.specs.declared.calls.Answer.TheVariants as answer
 use Rattle.wait_model.specs.declared.calls.Call.TheVariants as calls
+use Rattle.wait_model.specs.declared.queues.Walked.{Walked}
 use Rattle.wait_model.specs.declared.tasks.SleepState.{SleepState}
 use Rattle.wait_model.specs.Programs.{signalled}
 use Rattle.wait_model.specs.Sentences.{Follows}
@@ -12,6 +14,7 @@ use Rattle.wait_rule.specs.Says.{MeetsLaw}
 use Rattle.wait_event.specs.declared.wait_events.WaitEnd.{WaitEnd}
 use Rattle.wait_event.specs.Ends.{IsOut}
 use Rattle.wait_event.specs.Words.{call_says}
+use Rattle.var_wait.specs.VarPublishes.{HasPublished}
 use Rattle.var_wait.specs.VarWaits.{EndsVarWait, answer_of}
 
 -- A wait for a variable, whatever it answers; a load of the base word after it (`Task::witness`) shows the table that
@@ -21,6 +24,12 @@ VarWaitsFollow = (before new : Known) (v old : ℕ) (st : SleepState) (result : 
     → MeetsLaw new.view → IsOut before → (e : EndsVarWait before new v old st result)
     → Follows before.view.number (calls.WaitVar v old st)
     (call_says before.view.number (calls.WaitVar v old st) e.runs.transitions) (answer_of result)
+
+-- A publish with its wake, whose answer has the numbers of its walk, none above the greatest that a word of it holds.
+abbrev pub PublishesFollow : Type 0
+PublishesFollow = (before new : Known) (v value : ℕ) (walked : Walked) → MeetsLaw new.view
+    → (h : HasPublished before new v value walked) → Follows before.view.number (calls.SetVar v value)
+    (call_says before.view.number (calls.SetVar v value) h.runs.transitions) (answer.Walk h.real)
 
 -- a wait that answers for a signal ends as the law on signals says
 abbrev pub VarWaitsHeed : Type 0

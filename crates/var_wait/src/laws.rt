@@ -1,11 +1,13 @@
 //! What whole calls on variables make, as the sentences of the model say it.
 
-ghost use Rattle.var_wait.specs.VarWords.{VarWaitsFollow, VarWaitsHeed};
+ghost use Rattle.var_wait.specs.VarWords.{PublishesFollow, VarWaitsFollow, VarWaitsHeed};
 
 /// What a `wait_var` has made follows the sentence of a wait for a variable, and the answer is the one that the
-/// sentence gives, beside the value: by the table that a load of the base word shows after the call (`Task::witness`).
+/// sentence gives, beside the value; and what a `publish_var_and_wake` has made follows that of `setvar`: by the table
+/// that a load of the base word shows after the call (`Task::witness`).
 pub fn calls_follow_sentences()
     ensures waits { VarWaitsFollow }
+    ensures publishes { PublishesFollow }
 {}
 
 /// A `wait_var` that answers for a signal has made, as its last events, a turn that found an admissible signal and left

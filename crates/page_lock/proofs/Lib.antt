@@ -1,0 +1,3 @@
+pub mod PageGround
+pub mod PageEvents
+pub mod PageWords

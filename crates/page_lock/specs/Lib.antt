@@ -1,0 +1,5 @@
+pub mod PageWaits
+pub mod PageStays
+pub mod PageEnds
+pub mod PageWords
+pub mod Tested

@@ -1,0 +1,80 @@
+-- To be believed.
+-- What whole waits for a page say.
+use Rattle.std.specs.Prelude.{ℕ, ◌≡◌, Bool, true, false, Result, Ok, Err, List, [], ◌∷◌, ◌++◌}
+use Rattle.wait_model.specs.declared.calls.Call.TheVariants as calls
+use Rattle.wait_model.specs.declared.tasks.SleepState.{SleepState}
+use Rattle.wait_model.specs.declared.points.PagePoint.TheVariants as paging
+use Rattle.wait_model.specs.declared.points.Next.TheVariants as next
+use Rattle.wait_model.specs.declared.points.Point.TheVariants as at
+use Rattle.wait_model.specs.declared.steps.Step.{Step}
+use Rattle.wait_model.specs.declared.steps.Step.TheVariants as step
+use Rattle.wait_model.specs.declared.watches.Entry.{Entry}
+use Rattle.wait_model.specs.Tasks.{pending, state_mask, task_of}
+use Rattle.wait_model.specs.Watches.{head_of, page}
+use Rattle.wait_model.specs.Words.{bit_at, flag_of}
+use Rattle.wait_rule.specs.Ends.{WasWorn}
+use Rattle.wait_rule.specs.Known.{Known}
+use Rattle.wait_rule.specs.Says.{history_of}
+use Rattle.wait_rule.specs.Transitions.{call_program}
+use Rattle.wait_event.specs.Posts.{Runs}
+use Rattle.wait_event.specs.Waits.{EndsWith}
+use Rattle.bit_wait.specs.BitEnds.{answer_of}
+use Rattle.bit_wait.specs.BitWaits.{has_sleep}
+use Rattle.bit_wait.specs.declared.wait_calls.BitEnd.{BitEnd}
+use Rattle.bit_wait.specs.declared.wait_calls.BitEnd.TheVariants as bit_end
+use Rattle.page_lock.specs.PageWaits.{are_calm, head_in, own_in}
+use Rattle.page_lock.specs.declared.waits.PageOutcome.{PageOutcome}
+use Rattle.page_lock.specs.declared.waits.PageOutcome.TheVariants as outcome
+use Rattle.page_lock.specs.declared.waits.PageRun.{PageRun}
+
+-- the answer of a wait that has ended
+abbrev pub end_in : PageRun → PageOutcome → Result (Unit {0}) BitEnd
+end_in r outcome.Over = Ok tt
+end_in r outcome.Interrupted = Err (bit_end.Interrupted r.seen)
+end_in r outcome.Worn = Err (bit_end.Worn (head_in r) r.place)
+
+-- The steps of a wait that a signal ended. As soon as its entry was queued, in the same hold, the test-and-set found
+-- `seen`, with the page set, and the task made no further one. After that its own word showed a signal that the state
+-- admits, and it has not slept since. Last of all its flag read no.
+pub record WasInterrupted (k : Known) (p : ℕ) (st : SleepState) (seen : ℕ) : Type 0 where
+  pub before : List Step
+  pub entry : Entry
+  pub more : List Step
+  pub tried : history_of k ≡ before ++ (step.Queue (own_in k) entry ∷ step.Consume (page p) 1 seen ∷ more)
+  pub set : bit_at seen 0 ≡ true
+  pub calm : are_calm more ≡ true
+  pub front : List Step
+  pub look : ℕ
+  pub later : List Step
+  pub looked : more ≡ front ++ (step.Look look ∷ later)
+  pub pends : pending (state_mask st) (task_of look) ≡ true
+  pub awake : has_sleep later ≡ false
+  pub flag : ℕ
+  pub last : EndsWith k (step.Flag (own_in k) flag ∷ [])
+  pub unset : flag_of flag ≡ false
+
+-- The last steps of a wait that found no place: its hold noted it, and gave the head back; then the test-and-set found
+-- the page set.
+pub record FoundNoPlace (k : Known) (p h place : ℕ) : Type 0 where
+  pub head : h ≡ head_of (page p)
+  pub noted : WasWorn k.view.number k.view.items h place
+  pub found : ℕ
+  pub ends : EndsWith k (step.Unlock h false ∷ step.Consume (page p) 1 found ∷ [])
+  pub set : bit_at found 0 ≡ true
+
+abbrev pub IsCause : Known → ℕ → SleepState → Result (Unit {0}) BitEnd → Type 0
+IsCause k p st (Ok u) = Unit {0}
+IsCause k p st (Err (bit_end.Interrupted seen)) = WasInterrupted k p st seen
+IsCause k p st (Err (bit_end.Worn h place)) = FoundNoPlace k p h place
+
+-- whether the call took the page
+abbrev pub has_taken : Result (Unit {0}) BitEnd → Bool
+has_taken (Ok u) = true
+has_taken (Err e) = false
+
+-- The task went through the whole call, and the answer is that of its program, with its cause.
+pub record EndsPageLock (old new : Known) (p : ℕ) (st : SleepState) (result : Result (Unit {0}) BitEnd) :
+    Type 0 where
+  pub runs : Runs (call_program old.view.number 0 (calls.LockPage p st)) old new (next.Go (at.Page paging.First))
+      (next.Ends (answer_of result))
+  pub cause : IsCause new p st result

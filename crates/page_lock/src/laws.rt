@@ -1,0 +1,10 @@
+//! What whole calls on pages make, as the sentences of the model say it.
+
+ghost use Rattle.page_lock.specs.PageWords.{PageLocksFollow};
+
+/// What a `lock_page` has made follows the sentence of `lockpage`, and the answer is the one that the sentence gives:
+/// by the table that a load of the base word shows after the call (`Task::witness`). Of what a `try_lock_page` and an
+/// `unlock_page` make the same is said where bits are (`bit_wait::laws`).
+pub fn calls_follow_sentences()
+    ensures locks { PageLocksFollow }
+{}

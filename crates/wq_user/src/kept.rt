@@ -1,5 +1,5 @@
-//! A task that keeps a bit while it sets a condition and waits for it: in between it owes nothing but the bit, and after
-//! it gave that back nothing.
+//! A task that keeps a bit while it sets a condition and waits for it: in between it owes nothing but the bit, and
+//! after it gave that back nothing.
 
 ghost use Rattle.std.specs.Prelude.{◌≡◌};
 ghost use Rattle.wait_model.specs.declared.watches.Watch.TheVariants as watch;

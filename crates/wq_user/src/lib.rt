@@ -8,6 +8,9 @@ pub mod hashed;
 pub mod holds;
 pub mod kept;
 #[cfg(test)]
+mod page_tests;
+pub mod pages;
+#[cfg(test)]
 mod round_tests;
 pub mod simple;
 #[cfg(test)]

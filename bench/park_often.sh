@@ -1,8 +1,8 @@
 #!/bin/sh
 # Runs the tests in which threads sleep and wake one another in many rounds, RUNS times each (20), and fails where one
 # of them fails or has not ended after LIMIT seconds (60). It needs the tests built by `rt test` in crates/wait_rule,
-# crates/wq_head, crates/wait_event, crates/swait_queue, crates/completion_cell, crates/bit_wait, crates/var_wait,
-# crates/wq_user and crates/examples_threads. JOBS: how many runs there are at once (1). BUSY: how many loops keep
+# crates/wq_head, crates/wait_event, crates/swait_queue, crates/completion_cell, crates/bit_wait, crates/page_lock,
+# crates/var_wait, crates/wq_user and crates/examples_threads. JOBS: how many runs there are at once (1). BUSY: how many loops keep
 # processors busy meanwhile (0).
 set -eu
 cd "$(dirname "$0")/.."
@@ -31,6 +31,8 @@ often completion_cell tests::threads::permits
 often swait_queue tests::threads::waiters_are_joined
 often bit_wait tests::lock_threads::two_take_one_bit_in_turn
 often bit_wait tests::tallies::two_add_to_one_tally
+often page_lock tests::threads::two_take_one_page_in_turn
+often page_lock tests::threads::tally_of_four
 often var_wait tests::threads::waiter_sees_each_value
 often wq_user stranger_tests::strangers_on_one_head
 often wq_user round_tests::simple_waiter_is_joined

@@ -36,13 +36,8 @@ pub mod AskedPages
 pub mod MemberBits
 pub mod TicketSteps
 pub mod TallySteps
-pub mod PipeFlows
-pub mod PipeSteps
-pub mod PipeTables
 pub mod FoundTallies
 pub mod CountedTallies
-pub mod FoundPipes
-pub mod CarriedEnds
 pub mod Turns
 pub mod ServedUnlocks
 pub mod CarriedTasks

@@ -4,4 +4,3 @@ pub mod SelectedEntry
 pub mod HandedPage
 pub mod WorkedHolds
 pub mod WorkedEvents
-pub mod WorkedPipes

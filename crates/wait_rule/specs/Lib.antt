@@ -9,7 +9,6 @@ pub mod Members
 pub mod MemberWords
 pub mod TicketWords
 pub mod Tallies
-pub mod Pipes
 pub mod Places
 pub mod Ends
 pub mod Journals
@@ -22,7 +21,6 @@ pub mod Says
 pub mod Unlocks
 pub mod TableLaws
 pub mod TallyLaws
-pub mod PipeSays
 pub mod FlagLaws
 pub mod PageLaws
 pub mod Heeding
@@ -34,7 +32,6 @@ pub mod Shown
 pub mod Counts
 pub mod CountPlays
 pub mod Transitions
-pub mod PipeLaws
 pub mod HandedPermits
 pub mod SaidEvents
 pub mod Worn
@@ -43,7 +40,6 @@ pub mod Looking
 pub mod Plays
 pub mod QueuePlays
 pub mod TallyPlays
-pub mod PipePlays
 pub mod PageCalls
 pub mod Start
 pub mod Meeting

@@ -17,7 +17,6 @@ ghost use Rattle.wait_rule.specs.TableLaws.{RuleLosesNoWake, StepsLoseNoWake, Al
 ghost use Rattle.wait_rule.specs.TableLaws.{RuleCountsSpent, AllCountSpent};
 ghost use Rattle.wait_rule.specs.TableLaws.{RuleInventsNoSignal, AllTookRaised, RuleKeepsBits, RuleBalances};
 ghost use Rattle.wait_rule.specs.TableLaws.{AllBalance, RuleTakesMade, AllTakeMade};
-ghost use Rattle.wait_rule.specs.PipeLaws.{RuleDelivers, JoinedDeliver, ProgramsKeepEnds, WalksKeepEnds};
 ghost use Rattle.wait_rule.specs.TallyLaws.{RuleSumsTallies, AllSumTallies, AddsCount, JoinsCount};
 ghost use Rattle.wait_rule.specs.TallyLaws.{NewcomersCountNone, ForksCountNone, ProgramsAddNone, ProgramsKeepNumbers};
 ghost use Rattle.wait_rule.specs.Unlocks.{AllUnlocksCount};
@@ -84,19 +83,6 @@ pub fn tallies_are_sums()
     ensures forks { ForksCountNone }
     ensures programs { ProgramsAddNone }
     ensures numbers { ProgramsKeepNumbers }
-{}
-
-/// What was got by the read end of a pipe is a front of what was sent by its write end, and the cells in between hold
-/// the rest: of the lists of the two tasks that have the ends, in each scene that meets the rule, and in what a task
-/// has that joined both. At most `PIPE_CELLS` cells are in between, nothing is sent once the write end is closed, and a
-/// reader that saw it closed, and took every cell that it saw, got all that was sent. A call that goes through a
-/// program claims no end and passes no cell: a wait for a variable leaves what its task knows of ends, but for what it
-/// saw of the other end, and the walk of a wake leaves it too.
-pub fn pipes_deliver()
-    ensures rule { RuleDelivers }
-    ensures joined { JoinedDeliver }
-    ensures programs { ProgramsKeepEnds }
-    ensures walks { WalksKeepEnds }
 {}
 
 /// What a task makes of a call follows the sentence of the call to its end, and the answer is the one that the sentence

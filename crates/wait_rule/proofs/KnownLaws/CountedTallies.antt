@@ -144,7 +144,6 @@ amounts_none p (x ∷ xs) adds =
 
 look_adds : (x : Item) → IsLook x → IsNoAdd x
 look_adds (item.Tally p n w) look = absurd look
-look_adds (item.Piped k a w) look = absurd look
 look_adds x look = tt
 
 looks_add : (xs : List Item) → AreLooks xs → AddsNone xs
@@ -153,7 +152,6 @@ looks_add (x ∷ xs) looks = (look_adds x looks.0, looks_add xs looks.1)
 
 scan_adds : (h : ℕ) (x : Item) → IsScanOf h x → IsNoAdd x
 scan_adds h (item.Tally p n w) scan = absurd scan
-scan_adds h (item.Piped k a w) scan = absurd scan
 scan_adds h x scan = tt
 
 scans_add : (h : ℕ) (xs : List Item) → AreScansOf h xs → AddsNone xs

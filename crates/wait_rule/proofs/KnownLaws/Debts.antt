@@ -123,7 +123,6 @@ wakes_told (item.Drawn h w) v is c σ none = none
 wakes_told (item.Serving h w) v is c σ none = none
 wakes_told item.Served v is c σ none = none
 wakes_told (item.Tally p n w) v is c σ none = none
-wakes_told (item.Piped k a w) v is c σ none = none
 
 -- a task that asks for no page asks for none then
 asks_none_then : (x : Item) (k : Asked) → item_begins_none x ≡ true → is_asking k ≡ false → is_asking (ask x k) ≡ false
@@ -243,7 +242,6 @@ looks_quiet (item.Drawn h w ∷ xs) none = (refl, looks_quiet xs none)
 looks_quiet (item.Serving h w ∷ xs) none = (refl, looks_quiet xs none)
 looks_quiet (item.Served ∷ xs) none = (refl, looks_quiet xs none)
 looks_quiet (item.Tally p n w ∷ xs) none = (refl, looks_quiet xs none)
-looks_quiet (item.Piped k a w ∷ xs) none = (refl, looks_quiet xs none)
 
 pub looks_debts : (old new : Known) (looks : List Item) (b : Book) → steps_of looks ≡ [] → new ≡ grown old looks b
     → (x : Excuse) → Debts x old → Debts x new
@@ -263,7 +261,6 @@ are_looks_quiet (item.Drawn h w ∷ xs) l = (refl, are_looks_quiet xs l.1)
 are_looks_quiet (item.Serving h w ∷ xs) l = (refl, are_looks_quiet xs l.1)
 are_looks_quiet (item.Served ∷ xs) l = (refl, are_looks_quiet xs l.1)
 are_looks_quiet (item.Tally p n w ∷ xs) l = absurd l.0
-are_looks_quiet (item.Piped k a w ∷ xs) l = absurd l.0
 
 pub looked_debts : (old new : Known) → OnlyLooks old new → (x : Excuse) → Debts x old → Debts x new
 looked_debts old new l = items_debts old new l.items (are_looks_quiet l.items l.looks)

@@ -1,6 +1,0 @@
-pub mod Unpacked
-pub mod PieceChanges
-pub mod Rousing
-pub mod Looking
-pub mod Fills
-pub mod Turns

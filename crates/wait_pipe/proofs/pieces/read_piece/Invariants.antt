@@ -1,7 +1,0 @@
-use Rattle.std.proofs.Common.{◌≡◌}
-use Rattle.wait_rule.specs.Pipes.{read_end}
-use Rattle.wait_pipe.specs.Pieces.{Waits}
-use Rattle.wait_pipe.proofs.pieces.read_piece.Given as goal
-
-abbrev pub invariant-loop : goal.invariant-loop
-invariant-loop g l = (l.buf ≡ l.initial.buf) × Waits (read_end l.pipe) l.initial.task l.task

@@ -103,7 +103,7 @@ awaits_page me c st = do
   flagged ← finds event.Flag
   when flagged then (do makes event.Unflag; gives (number 0)) otherwise gives minus_4
 
--- `folio_lock`: the page is tried, and again after the store of the entry
+-- `lock_page`: the page is tried, and again after the store of the entry
 abbrev pub locks_page : ℕ → ℕ → SleepState → Phrase Answer
 locks_page me p st = do
   clear ← tries p 0

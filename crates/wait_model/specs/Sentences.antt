@@ -99,7 +99,7 @@ sentence me (calls.Reinit d) = resets (watch.Done d)
 sentence me (calls.WaitFor d st) = awaits me (watch.Done d) st
 sentence me (calls.TryWait d) = tries_await (watch.Done d)
 sentence me (calls.IsDone d) = is_completed (watch.Done d)
--- `test_and_set_bit`, `wait_on_bit`, `wait_on_bit_lock`, `folio_lock`, `clear_and_wake_up_bit`
+-- `test_and_set_bit`, `wait_on_bit`, `wait_on_bit_lock`, `lock_page`, `clear_and_wake_up_bit`
 sentence me (calls.TryBit w b) = do clear ← tries w b; gives (yes_or_no clear)
 sentence me (calls.WaitBit w b st) = waits_bit me (watch.Bit w b) st
 sentence me (calls.LockBit w b st) = locks_bit me w b st

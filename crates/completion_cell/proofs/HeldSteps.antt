@@ -90,6 +90,7 @@ looks_deal d x (item.Drawn h w ∷ xs) o n l = looks_deal d x xs o n l.1
 looks_deal d x (item.Serving h w ∷ xs) o n l = looks_deal d x xs o n l.1
 looks_deal d x (item.Served ∷ xs) o n l = looks_deal d x xs o n l.1
 looks_deal d x (item.Tally p m w ∷ xs) o n l = absurd l.0
+looks_deal d x (item.Piped j a w ∷ xs) o n l = absurd l.0
 
 pub held_looks : (d : ℕ) (old new : Known) (o : Option ℕ) (n : ℕ) → Looks old new → Held d old new o n o n
 held_looks d old new o n l = record {

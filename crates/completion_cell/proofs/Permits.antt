@@ -110,6 +110,7 @@ looks_inside (item.Drawn h w ∷ xs) l = looks_inside xs l.1
 looks_inside (item.Serving h w ∷ xs) l = looks_inside xs l.1
 looks_inside (item.Served ∷ xs) l = looks_inside xs l.1
 looks_inside (item.Tally p n w ∷ xs) l = absurd l.0
+looks_inside (item.Piped j a w ∷ xs) l = absurd l.0
 
 looks_owe : (d k : ℕ) (xs : List Item) → AreLooks xs → owed_by d (steps_of xs) k ≡ k
 looks_owe d k [] l = refl
@@ -123,6 +124,7 @@ looks_owe d k (item.Drawn h w ∷ xs) l = looks_owe d k xs l.1
 looks_owe d k (item.Serving h w ∷ xs) l = looks_owe d k xs l.1
 looks_owe d k (item.Served ∷ xs) l = looks_owe d k xs l.1
 looks_owe d k (item.Tally p n w ∷ xs) l = absurd l.0
+looks_owe d k (item.Piped j a w ∷ xs) l = absurd l.0
 
 pub inside_looks : (d : ℕ) (old new : Known) → Looks old new → Inside d old new (λ k. k)
 inside_looks d old new l = record {

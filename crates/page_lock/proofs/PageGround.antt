@@ -21,8 +21,10 @@ use Rattle.wait_rule.specs.Says.{
   Owes,
   added,
   asks_for,
+  end_unclosed,
   excuses,
   has_duty,
+  has_end,
   is_excused,
   no_excuse,
   page_asked,
@@ -31,7 +33,7 @@ use Rattle.wait_rule.specs.Says.{
 }
 use Rattle.wait_rule.specs.Stays.{Carries, with_bits, with_entry, with_page}
 use Rattle.wait_rule.proofs.KnownLaws.AfterSteps.{told_added}
-use Rattle.wait_rule.proofs.KnownLaws.Debts.{entries_debts}
+use Rattle.wait_rule.proofs.KnownLaws.Debts.{end_added, entries_debts}
 use Rattle.wait_rule.proofs.KnownLaws.StayingParts.{owes_also, owes_out}
 use Rattle.wq_head.specs.Adds.{page_change}
 use Rattle.wait_event.specs.Posts.{Keeps}
@@ -90,7 +92,7 @@ owes_once : (i : ℕ) (c : Watch) (g : Bool) (x : Excuse) (k : Known)
 unfolding with_page with_entry with_bits
 owes_once i c g x k o = record {
   unmarked = o.unmarked;
-  debts = entries_debts (with_page (with_entry i (amid i c g x))) (amid i c g x) k refl refl o.debts;
+  debts = entries_debts (with_page (with_entry i (amid i c g x))) (amid i c g x) k refl refl refl o.debts;
   unqueued = λ y. twice (y == i) (x.entries y) ((told_of k).bits.stored y) (o.unqueued y);
   holds = o.holds;
   tries = o.tries;
@@ -158,6 +160,8 @@ module _ (i x p : ℕ) (old new : Known) (is : new ≡ added old (item.Made (ste
       by : (o : Duty) → (has_duty new o && not (excuses (amid i (page p) true f) o)) ≡ false
       by (wake_of c σ) = ap (λ (v : Told). v.duty.owes c σ && not (is_excused f c σ)) note_told ∙ d.none (wake_of c σ)
       by page_asked = none_and (is_asking (asks_for new))
+      by (end_unclosed e) = ap (λ (b : Bool). b && not (f.ends e)) (ap (has_end e) is
+          ∙ end_added old (item.Made (step.Unflag x (Some p))) e) ∙ d.none (end_unclosed e)
 
   note_owes : (f : Excuse) → Owes (amid i (page p) false f) old → Owes (amid i (page p) true f) new
   unfolding with_page with_entry with_bits
@@ -205,6 +209,7 @@ amid_from i c x k o = owes_also i (with_page (with_bits (taken_bits c false) x))
     by : (d : Duty) → (has_duty k d && not (excuses (with_page (with_bits (taken_bits c false) x)) d)) ≡ false
     by (wake_of w σ) = o.debts.none (wake_of w σ)
     by page_asked = none_and (is_asking (asks_for k))
+    by (end_unclosed e) = o.debts.none (end_unclosed e)
 
 pub amid_to : (i : ℕ) (c : Watch) (g : Bool) (x : Excuse) (k : Known) → (told_of k).bits.stored i ≡ None
     → asks_for k ≡ nothing_asked → Owes (amid i c g x) k → Owes (with_bits (taken_bits c g) x) k
@@ -223,6 +228,7 @@ amid_to i c g x k out none o =
         → (has_duty k d && not (excuses (with_bits (taken_bits c g) x) d)) ≡ false
     by u (wake_of w σ) = u.debts.none (wake_of w σ)
     by u page_asked = ap (λ (q : Asked). is_asking q && not x.asks) none
+    by u (end_unclosed e) = u.debts.none (end_unclosed e)
 
 -- who asks for nothing asks for no page
 pub unasked_asks : (k : Known) → asks_for k ≡ nothing_asked → AsksNoPage k

@@ -12,6 +12,7 @@ pub mod BitMoves
 pub mod BitWordMoves
 pub mod TicketMoves
 pub mod TallyMoves
+pub mod PipeMoves
 pub mod LookedBits
 pub mod ScanMoves
 pub mod StartRule

@@ -4,3 +4,5 @@ pub mod SelectedEntry
 pub mod HandedPage
 pub mod WorkedHolds
 pub mod WorkedEvents
+pub mod WorkedPipes
+pub mod PassedCells

@@ -9,6 +9,7 @@ pub mod Members
 pub mod MemberWords
 pub mod TicketWords
 pub mod Tallies
+pub mod Pipes
 pub mod Places
 pub mod Ends
 pub mod Journals
@@ -21,6 +22,7 @@ pub mod Says
 pub mod Unlocks
 pub mod TableLaws
 pub mod TallyLaws
+pub mod PipeSays
 pub mod FlagLaws
 pub mod PageLaws
 pub mod Heeding
@@ -32,14 +34,18 @@ pub mod Shown
 pub mod Counts
 pub mod CountPlays
 pub mod Transitions
+pub mod PipeLaws
 pub mod HandedPermits
+pub mod Aside
 pub mod SaidEvents
 pub mod Worn
 pub mod WorkedHolds
 pub mod Looking
+pub mod Passing
 pub mod Plays
 pub mod QueuePlays
 pub mod TallyPlays
+pub mod PipePlays
 pub mod PageCalls
 pub mod Start
 pub mod Meeting

@@ -1,5 +1,6 @@
 -- To be believed.
--- The words that stand beside the model's table: those by which a head knows its members, tickets and tallies.
+-- The words that stand beside the model's table: those by which a head knows its members, tickets, tallies, and the
+-- claims and cells of pipes.
 use Rattle.std.specs.Prelude.{
   ℕ,
   ◌≡◌,
@@ -31,12 +32,14 @@ use Rattle.wait_rule.specs.declared.journal.Item.{Item}
 use Rattle.wait_rule.specs.Items.{Difference, nothing, at_entry, at_mark, page_taken, page_told, book_of}
 use Rattle.wait_rule.specs.Notes.{is_at}
 
--- member words, tickets and tallies, which no step of the model is about
+-- member words, tickets, tallies, claims and cells, which no step of the model is about
 abbrev pub is_beside : place.Location → Bool
 is_beside (place.Member k) = true
 is_beside (place.Next h) = true
 is_beside (place.Serving h) = true
 is_beside (place.Tally p) = true
+is_beside (place.Cell k) = true
+is_beside (place.Claim k) = true
 is_beside _ = false
 
 -- what stands in a word, with the words beside the table

@@ -1,8 +1,10 @@
 -- To be believed.
 -- What stays of a task while it looks, holds heads, queues and wakes.
-use Rattle.std.specs.Prelude.{ℕ, ◌≡◌, ◌<◌, ◌⊎◌, ◌&&◌, ◌||◌, ◌==◌, Bool, true, false, Option, Some, None}
+use Rattle.std.specs.Prelude.{ℕ, ◌≡◌, ◌<◌, ◌⊎◌, ◌&&◌, ◌||◌, ◌==◌, if◌then◌else◌, Bool, true, false}
+use Rattle.std.specs.Prelude.{Option, Some, None}
 use Rattle.wait_model.specs.declared.layout.TheConstants.{SLOTS}
 use Rattle.wait_model.specs.declared.watches.Watch.{Watch}
+use Rattle.wait_model.specs.declared.watches.Watch.TheVariants as watch
 use Rattle.wait_model.specs.declared.watches.Entry.{Entry}
 use Rattle.wait_model.specs.declared.watches.Mode.{Mode}
 use Rattle.wait_model.specs.declared.watches.Mode.TheVariants as mode
@@ -56,6 +58,10 @@ with_wakes c m x = record x { wakes = λ d σ. x.wakes d σ || (same d c && meet
 -- it is excused of that it asks for a page
 unfoldable pub with_page : Excuse → Excuse
 with_page x = record x { asks = true }
+
+-- it is excused of an end of a pipe too
+unfoldable pub with_end : ℕ → Excuse → Excuse
+with_end k x = record x { ends = λ j. (j == k) || x.ends j }
 
 unfoldable pub with_bits : (Watch → Bool) → Excuse → Excuse
 with_bits t x = record x { bits = λ d. t d || x.bits d }
@@ -121,6 +127,17 @@ wake_all_change c m h = record unchanged {
   head = λ _. None;
   ticket = λ _. no_ticket;
   at = λ _. h;
+}
+
+-- a claim of an end of a pipe, and an end that is closed, whose number is that of its variable
+abbrev pub claim_change : ℕ → Bool → Change
+claim_change k got = record unchanged { to = if got then with_end k else λ x. x }
+
+abbrev pub close_change : ℕ → Change
+close_change k = record unchanged {
+  from = with_end k;
+  to = with_wakes (watch.Var k 0) mode.Normal;
+  publishes = λ d. same d (watch.Var k 0);
 }
 
 -- What stays of a task over a call that changes no more than this. It is the same task of the same Domain, as awake,

@@ -54,7 +54,8 @@ use Rattle.wait_rule.specs.Queues.{IsWholeBook, IsWalkOfCall, at_head, index}
 use Rattle.wait_rule.specs.Shown.{shown_entry, shown_queue}
 
 -- What is no event: loads in a hold, the steps on tickets by which a task waits for a lock and passes it on, and the
--- loads by which a task that sleeps sees whether it was woken. An add to a tally is none of these: no program has it.
+-- loads by which a task that sleeps sees whether it was woken. An add to a tally, a claim of an end of a pipe and a
+-- cell are none of these: no program has them.
 abbrev pub IsLook : Item → Type 0
 IsLook (item.Made (step.Saw x w)) = Unit {0}
 IsLook (item.Made _) = ⊥
@@ -66,6 +67,7 @@ IsLook (item.Drawn h w) = Unit {0}
 IsLook (item.Serving h w) = Unit {0}
 IsLook item.Served = Unit {0}
 IsLook (item.Tally p n w) = ⊥
+IsLook (item.Piped k a w) = ⊥
 
 abbrev pub AreLooks : List Item → Type 0
 AreLooks [] = Unit {0}

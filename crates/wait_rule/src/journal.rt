@@ -3,6 +3,15 @@
 use std::collections::LinkedList;
 use wait_model::steps::Step;
 
+/// What a task does at an end of a pipe beside loads and publishes of the words of ends, which are steps.
+#[derive(Clone, Copy)]
+pub enum EndAct {
+    /// It claims the end.
+    Claim,
+    /// It stores a cell of the pipe, at a write end, or loads one.
+    Cell,
+}
+
 /// One thing that a task did or saw on one word, as its list keeps it.
 #[derive(Clone, Copy)]
 pub enum Item {
@@ -25,6 +34,10 @@ pub enum Item {
     Served,
     /// An amount that the task added to the tally of a page, with the number that was found. It is no step.
     Tally { page: u8, amount: u64, found: u64 },
+    /// A claim of an end of a pipe, with the word that was found, or a cell that was stored or loaded there, with its
+    /// word. The end goes by its number: `PIPE_ENDS` times that of its pipe for the write end, and one more for the
+    /// read end. It is no step.
+    Piped { end: u8, act: EndAct, word: u64 },
 }
 
 /// The list of a task that was joined, with its number and the numbers that it gave up. They stay taken.

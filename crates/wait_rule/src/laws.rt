@@ -17,6 +17,9 @@ ghost use Rattle.wait_rule.specs.TableLaws.{RuleLosesNoWake, StepsLoseNoWake, Al
 ghost use Rattle.wait_rule.specs.TableLaws.{RuleCountsSpent, AllCountSpent};
 ghost use Rattle.wait_rule.specs.TableLaws.{RuleInventsNoSignal, AllTookRaised, RuleKeepsBits, RuleBalances};
 ghost use Rattle.wait_rule.specs.TableLaws.{AllBalance, RuleTakesMade, AllTakeMade};
+ghost use Rattle.wait_rule.specs.Aside.{CallsGrowAside, ItemsStayOff, ProgramsLeaveEnds, WalksGrowAside};
+ghost use Rattle.wait_rule.specs.PipeLaws.{RuleDelivers, JoinedDeliver, JoinedRefuse, ProgramsKeepEnds, RuleRefuses};
+ghost use Rattle.wait_rule.specs.PipeLaws.{WalksKeepEnds};
 ghost use Rattle.wait_rule.specs.TallyLaws.{RuleSumsTallies, AllSumTallies, AddsCount, JoinsCount};
 ghost use Rattle.wait_rule.specs.TallyLaws.{NewcomersCountNone, ForksCountNone, ProgramsAddNone, ProgramsKeepNumbers};
 ghost use Rattle.wait_rule.specs.Unlocks.{AllUnlocksCount};
@@ -83,6 +86,32 @@ pub fn tallies_are_sums()
     ensures forks { ForksCountNone }
     ensures programs { ProgramsAddNone }
     ensures numbers { ProgramsKeepNumbers }
+{}
+
+/// What was got by the read end of a pipe is a front of what was sent by its write end, and the cells in between hold
+/// the rest: of the lists of the two tasks that have the ends, in each scene that meets the rule, and in what a task
+/// has that joined both. At most `PIPE_CELLS` cells are in between, nothing is sent once the write end is closed, and a
+/// reader that saw it closed, and took every cell that it saw, got all that was sent. Not both saw the other end closed
+/// before they closed their own. Where a claim of an end was refused, some task has the end. A call that goes through a
+/// program claims no end and passes no cell: a wait for a variable leaves what its task knows of ends, but for what it
+/// saw of the other end, and the walk of a wake leaves it too.
+pub fn pipes_deliver()
+    ensures rule { RuleDelivers }
+    ensures joined { JoinedDeliver }
+    ensures refuses { RuleRefuses }
+    ensures joined_refuse { JoinedRefuse }
+    ensures programs { ProgramsKeepEnds }
+    ensures walks { WalksKeepEnds }
+{}
+
+/// What a task makes of a call, or of a walk, grows its own list and nothing else of its journal; it adds to no tally,
+/// claims no end of a pipe, and raises no signal, unless the call is to. A call about no variable tells nothing of ends
+/// of pipes. Single steps that are about no head leave no own entry at a completion.
+pub fn others_stay_aside()
+    ensures calls { CallsGrowAside }
+    ensures walks { WalksGrowAside }
+    ensures ends { ProgramsLeaveEnds }
+    ensures items { ItemsStayOff }
 {}
 
 /// What a task makes of a call follows the sentence of the call to its end, and the answer is the one that the sentence

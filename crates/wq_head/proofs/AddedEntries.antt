@@ -493,7 +493,7 @@ module _ (seen new : Known) (x : ℕ) (e : Entry) (is : new ≡ stored_with seen
   unfolding with_entry
   queue_owing shared f o = record {
     unmarked = ap (λ (v : Told). v.mark) queue_told ∙ o.unmarked;
-    debts = entries_debts f (with_entry x f) new refl refl (queue_debts shared f o.debts);
+    debts = entries_debts f (with_entry x f) new refl refl refl (queue_debts shared f o.debts);
     unqueued = λ y. subst (λ (v : Told). IsOutBut ((y == x) || f.entries y) (v.bits.stored y)) (sym queue_told)
         (put_at (λ (s : Option Entry). IsOutBut ((y == x) || f.entries y) s) (told_of seen).bits.stored x
         (Some e) y (λ here. subst (λ (b : Bool). IsOutBut (b || f.entries y) (Some e)) (sym (eq-eqb y x here)) tt)

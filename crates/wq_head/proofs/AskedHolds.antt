@@ -10,7 +10,7 @@ use Rattle.wait_rule.specs.Asked.{Asked, nothing_asked, is_asking}
 use Rattle.wait_rule.specs.Known.{Known}
 use Rattle.wait_rule.specs.Pages.{uses_flag}
 use Rattle.wait_rule.specs.Says.{AsksNoPage, Debts, Duty, Excuse, asks_for, excuses, has_duty, no_excuse}
-use Rattle.wait_rule.specs.Says.{page_asked, told_of, wake_of}
+use Rattle.wait_rule.specs.Says.{end_unclosed, has_end, page_asked, told_of, wake_of}
 use Rattle.wait_rule.proofs.KnownLaws.AskedPages.{asks_no_page, asks_nothing_of}
 use Rattle.wq_head.specs.Holds.{HasLocked}
 use Rattle.wq_head.specs.Looks.{Looks}
@@ -18,7 +18,13 @@ use Rattle.wq_head.proofs.LockWaits.{locked_stays}
 
 -- it is excused of all but that it asks for a page
 abbrev all_but_page : Excuse
-all_but_page = record { wakes = λ c σ. true; entries = λ i. true; bits = λ c. true; asks = false }
+all_but_page = record {
+  wakes = λ c σ. true;
+  entries = λ i. true;
+  bits = λ c. true;
+  asks = false;
+  ends = λ k. true;
+}
 
 none_and : (b : Bool) → (b && false) ≡ false
 none_and true = refl
@@ -30,6 +36,7 @@ unasked_debts k none = record { none = by }
     by : (o : Duty) → (has_duty k o && not (excuses all_but_page o)) ≡ false
     by (wake_of c σ) = none_and ((told_of k).duty.owes c σ)
     by page_asked = ap (λ (q : Asked). is_asking q && true) none
+    by (end_unclosed e) = none_and (has_end e k)
 
 is_none : (a : Bool) → (a && true) ≡ false → a ≡ false
 is_none true is = is

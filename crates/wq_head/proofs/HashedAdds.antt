@@ -27,8 +27,10 @@ use Rattle.wait_rule.specs.Says.{
   TriesNone,
   added,
   asks_for,
+  end_unclosed,
   excuses,
   has_duty,
+  has_end,
   is_excused,
   page_asked,
   stored_with,
@@ -37,6 +39,7 @@ use Rattle.wait_rule.specs.Says.{
 }
 use Rattle.wait_rule.specs.Stays.{Carries, only_looks, with_entry, with_page}
 use Rattle.wait_rule.proofs.KnownLaws.AskedPages.{asked_added}
+use Rattle.wait_rule.proofs.KnownLaws.Debts.{end_added}
 use Rattle.wait_rule.proofs.KnownLaws.StayingParts.{owes_also}
 use Rattle.wq_head.proofs.CarriedHolds.{looks_carried}
 use Rattle.wait_rule.specs.Shown.{shown_queue}
@@ -183,6 +186,9 @@ module _ (seen new : Known) (x w p : ℕ)
       by : (o : Duty) → (has_duty new o && not (excuses (with_page (with_entry x f)) o)) ≡ false
       by (wake_of c σ) = ap (λ (v : Told). v.duty.owes c σ && not (is_excused f c σ)) told ∙ d.none (wake_of c σ)
       by page_asked = and_none (is_asking (asks_for new))
+      by (end_unclosed k) = ap (λ (b : Bool). b && not (f.ends k)) (ap (has_end k) is
+          ∙ (end_added (added seen (item.Made (step.Queue x e))) item.Member k
+          ∙ end_added seen (item.Made (step.Queue x e)) k)) ∙ d.none (end_unclosed k)
 
   tries_by : TriesNone (told_of seen) → TriesNone (told_of new)
   tries_by none y c = ap (λ (v : Told). is_trying_for (v.bits.stored y) c) told

@@ -81,7 +81,7 @@ slept_owing old new answer h =
     let told = slept_told old new answer h in
     owes_told old new (ap (λ (v : Told). v.mark) told) (λ i. ap (λ (v : Told). v.bits.stored i) told)
     (λ c. ap (λ (v : Told). v.bits.keeps c) told) (λ c none. ap (λ (v : Told). v.bits.pending c) told ∙ none)
-    (items_debts old new (item.Made (step.Sleep h.found) ∷ h.looks) (refl, looks_quiet h.looks h.no_steps)
+    (items_debts old new (item.Made (step.Sleep h.found) ∷ h.looks) (refl, looks_quiet h.looks h.no_steps h.no_adds)
     (ap (λ (k : Known). k.view) h.is))
 
 pub entry_slept : (old new : Known) (kd : Kind) (answer : Sleep) → HasSlept old new answer → HasEntry old kd
@@ -227,7 +227,7 @@ or_yes false b is = absurd (cc)
 
 owes_spared : (a : Aim) (x : Excuse) (k : Known) → Owes x k → Owes (with_wakes a.watch a.mode x) k
 unfolding with_wakes
-owes_spared a x k o = owes_more x (with_wakes a.watch a.mode x) k refl refl refl
+owes_spared a x k o = owes_more x (with_wakes a.watch a.mode x) k refl refl refl refl
     (λ c σ. or_yes (x.wakes c σ) (same c a.watch && meets (mask_of a.mode) σ)) o
 
 pub entry_woken : (old new : Known) (a : Aim) → IsBack old kind.Default → HasEnded old new a → HasEntry new kind.Default

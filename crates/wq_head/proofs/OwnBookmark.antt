@@ -65,6 +65,7 @@ list_marked me (item.Drawn h w ∷ xs) v n is = list_marked me xs v n is
 list_marked me (item.Serving h w ∷ xs) v n is = list_marked me xs v n is
 list_marked me (item.Served ∷ xs) v n is = list_marked me xs v n is
 list_marked me (item.Tally p m w ∷ xs) v n is = list_marked me xs v n is
+list_marked me (item.Piped j a w ∷ xs) v n is = list_marked me xs v n is
 list_marked me (item.Member ∷ xs) v n is = list_marked me xs v n is
 list_marked me (item.Word w ∷ xs) v n is = list_marked me xs v n is
 list_marked me (item.Bookmark t w ∷ xs) v n is = list_marked me xs v (note me (item.Bookmark t w) v n) is

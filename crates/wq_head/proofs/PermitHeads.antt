@@ -87,6 +87,7 @@ looks_value c o (item.Drawn h w ∷ xs) l = looks_value c o xs l.1
 looks_value c o (item.Serving h w ∷ xs) l = looks_value c o xs l.1
 looks_value c o (item.Served ∷ xs) l = looks_value c o xs l.1
 looks_value c o (item.Tally p n w ∷ xs) l = absurd l.0
+looks_value c o (item.Piped j a w ∷ xs) l = absurd l.0
 
 looked_count : (d : ℕ) (old new : Known) → Looks old new → count_in d (history_of new) ≡ count_in d (history_of old)
 looked_count d old new l =

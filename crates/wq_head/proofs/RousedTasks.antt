@@ -79,6 +79,7 @@ looks_none (item.Drawn h w ∷ xs) l = looks_none xs l.1
 looks_none (item.Serving h w ∷ xs) l = looks_none xs l.1
 looks_none (item.Served ∷ xs) l = looks_none xs l.1
 looks_none (item.Tally p n w ∷ xs) l = absurd l.0
+looks_none (item.Piped j a w ∷ xs) l = absurd l.0
 
 pub none_looked : (old new : Known) → Looks old new → RousesNone old new
 none_looked old new l = none_more old new l.items (ap (λ (k : Known). k.view.items) l.is) (looks_none l.items l.looks)

@@ -77,6 +77,7 @@ looks_calm (item.Drawn h w ∷ xs) l = looks_calm xs l.1
 looks_calm (item.Serving h w ∷ xs) l = looks_calm xs l.1
 looks_calm (item.Served ∷ xs) l = looks_calm xs l.1
 looks_calm (item.Tally p n w ∷ xs) l = absurd l.0
+looks_calm (item.Piped k a w ∷ xs) l = absurd l.0
 
 looks_history : (old new : Known) (l : Looks old new) → history_of new ≡ history_of old ++ steps_of l.items
 looks_history old new l = ap history_of l.is ∙ steps_append old.view.items l.items

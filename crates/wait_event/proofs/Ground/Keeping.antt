@@ -102,7 +102,7 @@ once : (i : ℕ) (x : Excuse) (k : Known) → Owes (with_entry i (with_entry i x
 unfolding with_entry
 once i x k o = record {
   unmarked = o.unmarked;
-  debts = entries_debts (with_entry i (with_entry i x)) (with_entry i x) k refl refl o.debts;
+  debts = entries_debts (with_entry i (with_entry i x)) (with_entry i x) k refl refl refl o.debts;
   unqueued = λ y. twice (y == i) (x.entries y) ((told_of k).bits.stored y) (o.unqueued y);
   holds = o.holds;
   tries = o.tries;

@@ -28,6 +28,7 @@ told_after xs x = ap view_of (steps_append xs (x ∷ [])) ∙ by x
     by (item.Serving h w) = ap view_of (append-nil (steps_of xs))
     by item.Served = ap view_of (append-nil (steps_of xs))
     by (item.Tally p n w) = ap view_of (append-nil (steps_of xs))
+    by (item.Piped k a w) = ap view_of (append-nil (steps_of xs))
 
 -- the view is that of the steps
 pub told_from : (v : Told) (x : Item) (xs : List Item) → after_all v (steps_of (x ∷ xs))
@@ -41,6 +42,7 @@ told_from v (item.Drawn h w) xs = refl
 told_from v (item.Serving h w) xs = refl
 told_from v item.Served xs = refl
 told_from v (item.Tally p n w) xs = refl
+told_from v (item.Piped k a w) xs = refl
 
 pub notes_snoc : (me : ℕ) (v : Told) (k : Notes) (xs : List Item) (x : Item)
     → notes_from me v k (xs ++ x ∷ []) ≡ note me x (after_all v (steps_of xs)) (notes_from me v k xs)

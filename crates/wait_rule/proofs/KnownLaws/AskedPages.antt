@@ -66,6 +66,7 @@ asked_quiet k (item.Drawn h w ∷ xs) none = asked_quiet k xs none
 asked_quiet k (item.Serving h w ∷ xs) none = asked_quiet k xs none
 asked_quiet k (item.Served ∷ xs) none = asked_quiet k xs none
 asked_quiet k (item.Tally p n w ∷ xs) none = asked_quiet k xs none
+asked_quiet k (item.Piped j a w ∷ xs) none = asked_quiet k xs none
 
 pub asked_next : (items : ℕ → List Item) (a : ℕ) (xs : List Item)
     → all_asked (put items a (items a ++ xs)) ≡ put (all_asked items) a (asked_from (asked_of (items a)) xs)

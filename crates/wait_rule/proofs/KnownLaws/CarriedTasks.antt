@@ -74,10 +74,11 @@ covered true false true n more is = refl
 covered true false false n more is = is
 
 pub owes_wakes : (x y : Excuse) (k : Known) → y.entries ≡ x.entries → y.bits ≡ x.bits → y.asks ≡ x.asks
+    → y.ends ≡ x.ends
     → ((c : Watch) (σ : ℕ) → ((told_of k).duty.owes c σ && not (is_excused y c σ)) ≡ false) → Owes x k → Owes y k
-owes_wakes x y k entries bits asks wakes o = record {
+owes_wakes x y k entries bits asks ends wakes o = record {
   unmarked = o.unmarked;
-  debts = wakes_debts x y k asks wakes o.debts;
+  debts = wakes_debts x y k asks ends wakes o.debts;
   unqueued = λ i. subst (λ (f : ℕ → Bool). IsOutBut (f i) ((told_of k).bits.stored i)) (sym entries) (o.unqueued i);
   holds = λ c. ap (λ (f : Watch → Bool). not (f c) && (told_of k).bits.keeps c) bits ∙ o.holds c;
   tries = o.tries;
@@ -85,8 +86,9 @@ owes_wakes x y k entries bits asks wakes o = record {
 }
 
 pub owes_more : (x y : Excuse) (k : Known) → y.entries ≡ x.entries → y.bits ≡ x.bits → y.asks ≡ x.asks
+    → y.ends ≡ x.ends
     → ((c : Watch) (σ : ℕ) → x.wakes c σ ≡ true → y.wakes c σ ≡ true) → Owes x k → Owes y k
-owes_more x y k entries bits asks more o = owes_wakes x y k entries bits asks
+owes_more x y k entries bits asks ends more o = owes_wakes x y k entries bits asks ends
     (λ c σ. covered ((told_of k).duty.owes c σ) (x.wakes c σ) (y.wakes c σ) (not (meets (mask_of mode.Normal) σ))
     (more c σ) (o.debts.none (wake_of c σ))) o
 
@@ -229,7 +231,8 @@ stayed_carried old new w is up =
 
 pub risen_owing : (old mid new : Known) (w : ℕ) → mid ≡ added old (item.Made (step.Sleep w)) → IsAwakeAgain mid new
     → StaysOwing old new
-risen_owing old mid new w is h x o = owes_looks mid new h.looks (after_awake false true mid.book) h.no_steps h.is x
+risen_owing old mid new w is h x o = owes_looks mid new h.looks (after_awake false true mid.book) h.no_steps h.no_adds
+    h.is x
     (owes_after old mid (step.Sleep w) refl is x o)
 
 pub risen_carried : (old mid new : Known) (w : ℕ) → old.book.awake ≡ true → mid ≡ added old (item.Made (step.Sleep w))

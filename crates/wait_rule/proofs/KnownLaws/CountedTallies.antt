@@ -135,7 +135,7 @@ amount_none : (p : ℕ) (x : Item) → IsNoAdd x → amount_of p x ≡ 0
 amount_none p (item.Tally q n w) add = absurd add
 amount_none p x add = refl
 
-amounts_none : (p : ℕ) (xs : List Item) → AddsNone xs → amounts_of p xs ≡ 0
+pub amounts_none : (p : ℕ) (xs : List Item) → AddsNone xs → amounts_of p xs ≡ 0
 amounts_none p [] adds = refl
 amounts_none p (x ∷ xs) adds =
     let one = amount_none p x adds.0 in
@@ -144,17 +144,19 @@ amounts_none p (x ∷ xs) adds =
 
 look_adds : (x : Item) → IsLook x → IsNoAdd x
 look_adds (item.Tally p n w) look = absurd look
+look_adds (item.Piped k a w) look = absurd look
 look_adds x look = tt
 
-looks_add : (xs : List Item) → AreLooks xs → AddsNone xs
+pub looks_add : (xs : List Item) → AreLooks xs → AddsNone xs
 looks_add [] looks = tt
 looks_add (x ∷ xs) looks = (look_adds x looks.0, looks_add xs looks.1)
 
 scan_adds : (h : ℕ) (x : Item) → IsScanOf h x → IsNoAdd x
 scan_adds h (item.Tally p n w) scan = absurd scan
+scan_adds h (item.Piped k a w) scan = absurd scan
 scan_adds h x scan = tt
 
-scans_add : (h : ℕ) (xs : List Item) → AreScansOf h xs → AddsNone xs
+pub scans_add : (h : ℕ) (xs : List Item) → AreScansOf h xs → AddsNone xs
 scans_add h [] scans = tt
 scans_add h (x ∷ xs) scans = (scan_adds h x scans.0, scans_add h xs scans.1)
 

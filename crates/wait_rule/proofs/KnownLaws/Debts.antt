@@ -1,9 +1,11 @@
 -- What each step leaves of a task's debts. A further part of `Debts` is shown in this file alone: for each item that a
 -- list may get (`item_debts`), for a publish, and for other excuses of the same task.
-use Rattle.std.proofs.Common.{◌∙◌, ap, sym, refl, subst, append_assoc, append-nil}
+use Rattle.std.proofs.Common.{◌∙◌, ap, sym, refl, subst, append_assoc, append-nil, arith, true≢false}
 use Rattle.std.specs.Prelude.{
   ℕ,
   ◌≡◌,
+  ◌==◌,
+  ◌%◌,
   ◌&&◌,
   ◌||◌,
   not,
@@ -18,7 +20,9 @@ use Rattle.std.specs.Prelude.{
   [],
   ◌∷◌,
 }
+use Rattle.std.proofs.lemmas.Bool.Decides.{nat_tests}
 use Rattle.wait_model.specs.declared.watches.Watch.{Watch}
+use Rattle.wait_model.specs.declared.watches.Watch.TheVariants as watch
 use Rattle.wait_model.specs.declared.watches.Entry.{Entry}
 use Rattle.wait_model.specs.declared.watches.Mode.TheVariants as mode
 use Rattle.wait_model.specs.declared.steps.Step.{Step}
@@ -28,10 +32,11 @@ use Rattle.wait_model.specs.Watches.{same, mask_of, is_page}
 use Rattle.wait_model.specs.Words.{entry_of}
 use Rattle.wait_model.specs.Views.{View as Told, Walk, all_cleared, all_passed, concerns}
 use Rattle.wait_model.specs.Fold.{after, after_unlock, peeks, scanned}
+use Rattle.wait_rule.specs.declared.journal.EndAct.TheVariants as act
 use Rattle.wait_rule.specs.declared.journal.Item.{Item}
 use Rattle.wait_rule.specs.declared.journal.Item.TheVariants as item
 use Rattle.wait_rule.specs.declared.journal.Journal.{Journal}
-use Rattle.wait_rule.specs.Items.{Book, steps_of}
+use Rattle.wait_rule.specs.Items.{AddsNone, Book, steps_of}
 use Rattle.wait_rule.specs.Journals.{pushed}
 use Rattle.wait_rule.specs.Known.{Known}
 use Rattle.wait_rule.specs.Notes.{tell}
@@ -42,9 +47,11 @@ use Rattle.wait_rule.specs.Says.{
   Excuse,
   added,
   asks_for,
+  end_unclosed,
   excuses,
   grown,
   has_duty,
+  has_end,
   is_excused,
   page_asked,
   seen_with,
@@ -53,12 +60,37 @@ use Rattle.wait_rule.specs.Says.{
   unlocked_with,
   wake_of,
 }
-use Rattle.wait_rule.specs.Stays.{with_wakes}
+use Rattle.wait_rule.specs.Pipes.{
+  End,
+  after_look,
+  after_publish,
+  claimed,
+  end_item,
+  end_of,
+  end_step,
+  if_mine,
+  new_end,
+  no_end,
+  other_end,
+  with_cell,
+}
+use Rattle.wait_rule.specs.Stays.{with_end, with_wakes}
 use Rattle.wait_rule.specs.Transitions.{AreLooks, OnlyLooks}
 use Rattle.wait_rule.proofs.KnownLaws.AfterSteps.{told_added}
 use Rattle.wait_rule.proofs.KnownLaws.AskedPages.{asked_added, asks_nothing, asks_nothing_of}
+use Rattle.wait_rule.proofs.KnownLaws.PipeItems.{
+  end_append,
+}
+use Rattle.wait_rule.proofs.KnownLaws.PipeWords.{
+  test_on,
+  test_off,
+}
 
--- the steps that begin no debt: all but a publish, and an entry for a page that is queued
+tested : (a b : ℕ) → (a == b) ≡ true → a ≡ b
+tested a b is = grind (arith, nat_tests)
+
+-- the steps that begin no debt: all but a publish, and an entry for a page that is queued; and the items: all but a
+-- claim of an end of a pipe
 abbrev pub begins_none : Step → Bool
 begins_none (step.Publish c n r) = false
 begins_none (step.Queue x e) = not (is_page e.kind)
@@ -66,6 +98,7 @@ begins_none _ = true
 
 abbrev pub item_begins_none : Item → Bool
 item_begins_none (item.Made e) = begins_none e
+item_begins_none (item.Piped k act.Claim w) = false
 item_begins_none _ = true
 
 abbrev pub all_begin_none : List Item → Type 0
@@ -123,6 +156,7 @@ wakes_told (item.Drawn h w) v is c σ none = none
 wakes_told (item.Serving h w) v is c σ none = none
 wakes_told item.Served v is c σ none = none
 wakes_told (item.Tally p n w) v is c σ none = none
+wakes_told (item.Piped k a w) v is c σ none = none
 
 -- a task that asks for no page asks for none then
 asks_none_then : (x : Item) (k : Asked) → item_begins_none x ≡ true → is_asking k ≡ false → is_asking (ask x k) ≡ false
@@ -136,6 +170,45 @@ asks_none_then (item.Made e) k is none = ap (λ (q : Asked). is_asking (ask_step
         by false q = refl
         by true q = absurd (cc)
 asks_none_then x k is none = none
+
+-- An end of a pipe that the task has not, or that it closed, stays so over each item but a claim.
+abbrev pub is_unclosed : End → Bool
+is_unclosed e = e.mine && not e.shut
+
+either_closed : (b : Bool) (e f : End) → is_unclosed e ≡ false → is_unclosed f ≡ false
+    → is_unclosed (if b then e else f) ≡ false
+either_closed true e f one two = one
+either_closed false e f one two = two
+
+published_closed : (m s b : Bool) → (m && not s) ≡ false → (m && not (s || b)) ≡ false
+published_closed false s b none = refl
+published_closed true true b none = refl
+published_closed true false b none = absurd (cc)
+
+step_closed : (k : ℕ) (s : Step) (e : End) → is_unclosed e ≡ false → is_unclosed (end_step k s e) ≡ false
+step_closed k (step.Load (watch.Var v o) r) e none = either_closed (v == other_end k) _ e
+    (either_closed (is_unclosed e) (after_look r e) e none none) none
+step_closed k (step.Publish (watch.Var v o) n r) e none = either_closed (v == k) _ e
+    (either_closed e.mine (after_publish n e) e (published_closed e.mine e.shut (n % 2 == 1) none) none) none
+step_closed k (step.Load (watch.Plain c) r) e none = none
+step_closed k (step.Load (watch.Done c) r) e none = none
+step_closed k (step.Load (watch.Bit w b) r) e none = none
+step_closed k (step.Publish (watch.Plain c) n r) e none = none
+step_closed k (step.Publish (watch.Done c) n r) e none = none
+step_closed k (step.Publish (watch.Bit w b) n r) e none = none
+step_closed k s e none = none
+
+item_closed : (k : ℕ) (x : Item) (e : End) → item_begins_none x ≡ true → is_unclosed e ≡ false
+    → is_unclosed (end_item k x e) ≡ false
+item_closed k (item.Made s) e is none = step_closed k s e none
+item_closed k (item.Piped j act.Claim w) e is none = absurd (cc)
+item_closed k (item.Piped j act.Cell w) e is none = either_closed (j == k) (with_cell w e) e none none
+item_closed k x e is none = none
+
+-- one item more
+pub end_added : (k : Known) (i : Item) (e : ℕ)
+    → has_end e (added k i) ≡ is_unclosed (end_item e i (end_of e k.view.items))
+end_added k i e = ap is_unclosed (end_append e no_end k.view.items (i ∷ []))
 
 no_more : (p q n : Bool) → (p ≡ false → q ≡ false) → (p && n) ≡ false → (q && n) ≡ false
 no_more false q n f is = ap (λ (b : Bool). b && n) (f refl)
@@ -154,6 +227,8 @@ item_debts x k i is d = record { none = by }
     by page_asked = no_more (is_asking (asks_for k)) (is_asking (asks_for (added k i))) (not x.asks)
         (λ none. ap is_asking (asked_added k i) ∙ asks_none_then i (asks_for k) is none)
         (d.none page_asked)
+    by (end_unclosed e) = no_more (has_end e k) (has_end e (added k i)) (not (x.ends e))
+        (λ none. end_added k i e ∙ item_closed e i (end_of e k.view.items) is none) (d.none (end_unclosed e))
 
 -- a publish makes the task owe wakes of its watch
 published_wakes : (s o x m : Bool) → (o && not (x || not m)) ≡ false
@@ -175,29 +250,123 @@ published_none c n r x old new is d (wake_of b σ) = ap (λ (v : Told). v.duty.o
     (d.none (wake_of b σ))
 published_none c n r x old new is d page_asked = ap (λ (k : Asked). is_asking k && not x.asks) (ap asks_for is
     ∙ asked_added old (item.Made (step.Publish c n r))) ∙ d.none page_asked
+published_none c n r x old new is d (end_unclosed e) = no_more (has_end e old) (has_end e new) (not (x.ends e))
+    (λ none. ap (has_end e) is ∙ (end_added old (item.Made (step.Publish c n r)) e
+    ∙ step_closed e (step.Publish c n r) (end_of e old.view.items) none)) (d.none (end_unclosed e))
 
 pub publish_debts : (c : Watch) (n r : ℕ) (x : Excuse) (old new : Known) → new ≡ added old (item.Made
     (step.Publish c n r))
     → Debts x old → Debts (with_wakes c mode.Normal x) new
 publish_debts c n r x old new is d = record { none = published_none c n r x old new is d }
 
+-- A publish of the own word that closes an end: the task is excused of that end no more.
+module _ (k n r : ℕ) (odd : (n % 2 == 1) ≡ true) (x : Excuse) (old new : Known)
+    (is : new ≡ added old (item.Made (step.Publish (watch.Var k 0) n r))) (d : Debts (with_end k x) old) where
+  closes : (e : End) → is_unclosed (if_mine (after_publish n) e) ≡ false
+  closes e = by e.mine refl
+    where
+      shuts : (s b : Bool) → b ≡ true → not (s || b) ≡ false
+      shuts true b q = refl
+      shuts false b q = ap not q
+
+      by : (m : Bool) → e.mine ≡ m → is_unclosed (if m then after_publish n e else e) ≡ false
+      by true q = ap (λ (m : Bool). m && not (e.shut || (n % 2 == 1))) q ∙ shuts e.shut (n % 2 == 1) odd
+      by false q = ap (λ (m : Bool). m && not e.shut) q
+
+  closed_now : (e : ℕ) → e ≡ k → has_end e new ≡ false
+  closed_now e same = ap (has_end e) is ∙ (end_added old (item.Made (step.Publish (watch.Var k 0) n r)) e
+      ∙ (ap (λ (b : Bool). is_unclosed (if b then if_mine (after_publish n) (end_of e old.view.items)
+      else end_of e old.view.items)) (test_on k e (sym same)) ∙ closes (end_of e old.view.items)))
+
+  abbrev Closes : Duty → Type 0
+  Closes o = (has_duty new o && not (excuses (with_wakes (watch.Var k 0) mode.Normal x) o)) ≡ false
+
+  closed_none : (o : Duty) → Closes o
+  unfolding with_wakes with_end
+  closed_none (wake_of b σ) = published_none (watch.Var k 0) n r (with_end k x) old new is d (wake_of b σ)
+  closed_none page_asked = published_none (watch.Var k 0) n r (with_end k x) old new is d page_asked
+  closed_none (end_unclosed e) = by (e == k) refl
+    where
+      by : (b : Bool) → (e == k) ≡ b → (has_end e new && not (x.ends e)) ≡ false
+      by true q = ap (λ (h : Bool). h && not (x.ends e)) (closed_now e (tested e k q))
+      by false q = ap (λ (b : Bool). has_end e new && not (b || x.ends e)) (sym q)
+          ∙ published_none (watch.Var k 0) n r (with_end k x) old new is d (end_unclosed e)
+
+  pub close_debts : Debts (with_wakes (watch.Var k 0) mode.Normal x) new
+  close_debts = record { none = closed_none }
+
+-- A claim of an end: the task is excused of that end too where it got it.
+module _ (k w : ℕ) (x : Excuse) (old new : Known) (is : new ≡ added old (item.Piped k act.Claim w)) (d : Debts x old)
+  where
+    abbrev others : Excuse → Duty → Type 0
+    others y o = (has_duty new o && not (excuses y o)) ≡ false
+
+    claimed_wakes : (c : Watch) (σ : ℕ) → others x (wake_of c σ)
+    claimed_wakes c σ = ap (λ (v : Told). v.duty.owes c σ && not (is_excused x c σ))
+        (ap told_of is ∙ told_added old (item.Piped k act.Claim w)) ∙ d.none (wake_of c σ)
+
+    claimed_page : others x page_asked
+    claimed_page = ap (λ (q : Asked). is_asking q && not x.asks)
+        (ap asks_for is ∙ asked_added old (item.Piped k act.Claim w)) ∙ d.none page_asked
+
+    end_is : (e : ℕ) → has_end e new ≡ is_unclosed (if k == e then claimed w (end_of e old.view.items)
+        else end_of e old.view.items)
+    end_is e = ap (has_end e) is ∙ end_added old (item.Piped k act.Claim w) e
+
+    pub got_debts : Debts (with_end k x) new
+    unfolding with_end
+    got_debts = record { none = by }
+      where
+        excused : (h b : Bool) → (h && not (true || b)) ≡ false
+        excused true b = refl
+        excused false b = refl
+
+        ends : (e : ℕ) (b : Bool) → (e == k) ≡ b → (has_end e new && not (b || x.ends e)) ≡ false
+        ends e true q = excused (has_end e new) (x.ends e)
+        ends e false q = ap (λ (h : Bool). h && not (x.ends e)) (end_is e
+            ∙ ap (λ (b : Bool). is_unclosed (if b then claimed w (end_of e old.view.items)
+            else end_of e old.view.items))
+            (test_off k e (λ z. true≢false (sym (test_on e k (sym z)) ∙ q)))) ∙ d.none (end_unclosed e)
+
+        by : (o : Duty) → others (with_end k x) o
+        by (wake_of c σ) = claimed_wakes c σ
+        by page_asked = claimed_page
+        by (end_unclosed e) = ends e (e == k) refl
+
+    pub refused_debts : (w == 0) ≡ false → Debts x new
+    refused_debts found = record { none = by }
+      where
+        by : (o : Duty) → others x o
+        by (wake_of c σ) = claimed_wakes c σ
+        by page_asked = claimed_page
+        by (end_unclosed e) = ap (λ (h : Bool). h && not (x.ends e)) (end_is e
+            ∙ (ap (λ (b : Bool). is_unclosed (if k == e then (if b then new_end else end_of e old.view.items)
+            else end_of e old.view.items)) found ∙ same (k == e) (end_of e old.view.items))) ∙ d.none (end_unclosed e)
+          where
+            same : (b : Bool) (f : End) → is_unclosed (if b then f else f) ≡ is_unclosed f
+            same true f = refl
+            same false f = refl
+
 -- by another excuse of wakes
-pub wakes_debts : (x y : Excuse) (k : Known) → y.asks ≡ x.asks
+pub wakes_debts : (x y : Excuse) (k : Known) → y.asks ≡ x.asks → y.ends ≡ x.ends
     → ((c : Watch) (σ : ℕ) → ((told_of k).duty.owes c σ && not (is_excused y c σ)) ≡ false) → Debts x k → Debts y k
-wakes_debts x y k asks wakes d = record { none = by }
+wakes_debts x y k asks ends wakes d = record { none = by }
   where
     by : (o : Duty) → (has_duty k o && not (excuses y o)) ≡ false
     by (wake_of c σ) = wakes c σ
     by page_asked = ap (λ (b : Bool). is_asking (asks_for k) && not b) asks ∙ d.none page_asked
+    by (end_unclosed e) = ap (λ (f : ℕ → Bool). has_end e k && not (f e)) ends ∙ d.none (end_unclosed e)
 
 -- by another excuse of entries and bits
-pub entries_debts : (x y : Excuse) (k : Known) → y.wakes ≡ x.wakes → y.asks ≡ x.asks → Debts x k → Debts y k
-entries_debts x y k same asks d = record { none = by }
+pub entries_debts : (x y : Excuse) (k : Known) → y.wakes ≡ x.wakes → y.asks ≡ x.asks → y.ends ≡ x.ends → Debts x k
+    → Debts y k
+entries_debts x y k same asks ends d = record { none = by }
   where
     by : (o : Duty) → (has_duty k o && not (excuses y o)) ≡ false
     by (wake_of c σ) = ap (λ (f : Watch → ℕ → Bool). (told_of k).duty.owes c σ && not (f c σ
         || not (meets (mask_of mode.Normal) σ))) same ∙ d.none (wake_of c σ)
     by page_asked = ap (λ (b : Bool). is_asking (asks_for k) && not b) asks ∙ d.none page_asked
+    by (end_unclosed e) = ap (λ (f : ℕ → Bool). has_end e k && not (f e)) ends ∙ d.none (end_unclosed e)
 
 -- The debts are those of the list, of whatever book.
 pub list_debts : (x : Excuse) (old new : Known) → new.view ≡ old.view → Debts x old → Debts x new
@@ -230,22 +399,23 @@ pub items_debts : (old new : Known) (xs : List Item) → all_begin_none xs → n
 items_debts old new xs quiet is x d = list_debts x (seen_with old new.view) new refl
     (more_debts x old new.view xs quiet is d)
 
--- items that are no steps
-pub looks_quiet : (xs : List Item) → steps_of xs ≡ [] → all_begin_none xs
-looks_quiet [] none = tt
-looks_quiet (item.Made e ∷ xs) none = absurd (cc)
-looks_quiet (item.Awake w ∷ xs) none = (refl, looks_quiet xs none)
-looks_quiet (item.Bookmark t w ∷ xs) none = (refl, looks_quiet xs none)
-looks_quiet (item.Member ∷ xs) none = (refl, looks_quiet xs none)
-looks_quiet (item.Word w ∷ xs) none = (refl, looks_quiet xs none)
-looks_quiet (item.Drawn h w ∷ xs) none = (refl, looks_quiet xs none)
-looks_quiet (item.Serving h w ∷ xs) none = (refl, looks_quiet xs none)
-looks_quiet (item.Served ∷ xs) none = (refl, looks_quiet xs none)
-looks_quiet (item.Tally p n w ∷ xs) none = (refl, looks_quiet xs none)
+-- items that are no steps, and add to nothing
+pub looks_quiet : (xs : List Item) → steps_of xs ≡ [] → AddsNone xs → all_begin_none xs
+looks_quiet [] none adds = tt
+looks_quiet (item.Made e ∷ xs) none adds = absurd (cc)
+looks_quiet (item.Awake w ∷ xs) none adds = (refl, looks_quiet xs none adds.1)
+looks_quiet (item.Bookmark t w ∷ xs) none adds = (refl, looks_quiet xs none adds.1)
+looks_quiet (item.Member ∷ xs) none adds = (refl, looks_quiet xs none adds.1)
+looks_quiet (item.Word w ∷ xs) none adds = (refl, looks_quiet xs none adds.1)
+looks_quiet (item.Drawn h w ∷ xs) none adds = (refl, looks_quiet xs none adds.1)
+looks_quiet (item.Serving h w ∷ xs) none adds = (refl, looks_quiet xs none adds.1)
+looks_quiet (item.Served ∷ xs) none adds = (refl, looks_quiet xs none adds.1)
+looks_quiet (item.Tally p n w ∷ xs) none adds = (refl, looks_quiet xs none adds.1)
+looks_quiet (item.Piped k a w ∷ xs) none adds = absurd adds.0
 
-pub looks_debts : (old new : Known) (looks : List Item) (b : Book) → steps_of looks ≡ [] → new ≡ grown old looks b
-    → (x : Excuse) → Debts x old → Debts x new
-looks_debts old new looks b none is = items_debts old new looks (looks_quiet looks none)
+pub looks_debts : (old new : Known) (looks : List Item) (b : Book) → steps_of looks ≡ [] → AddsNone looks
+    → new ≡ grown old looks b → (x : Excuse) → Debts x old → Debts x new
+looks_debts old new looks b none adds is = items_debts old new looks (looks_quiet looks none adds)
     (ap (λ (k : Known). k.view) is)
 
 -- looks, in a hold or outside of one, waits for a lock, and serves
@@ -261,6 +431,7 @@ are_looks_quiet (item.Drawn h w ∷ xs) l = (refl, are_looks_quiet xs l.1)
 are_looks_quiet (item.Serving h w ∷ xs) l = (refl, are_looks_quiet xs l.1)
 are_looks_quiet (item.Served ∷ xs) l = (refl, are_looks_quiet xs l.1)
 are_looks_quiet (item.Tally p n w ∷ xs) l = absurd l.0
+are_looks_quiet (item.Piped k a w ∷ xs) l = absurd l.0
 
 pub looked_debts : (old new : Known) → OnlyLooks old new → (x : Excuse) → Debts x old → Debts x new
 looked_debts old new l = items_debts old new l.items (are_looks_quiet l.items l.looks)

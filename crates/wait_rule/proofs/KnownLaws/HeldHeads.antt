@@ -60,6 +60,7 @@ from_head (item.Drawn k w ∷ xs) b v h = from_head xs (learn (item.Drawn k w) b
 from_head (item.Serving k w ∷ xs) b v h = from_head xs (learn (item.Serving k w) b) v h
 from_head (item.Served ∷ xs) b v h = from_head xs (learn item.Served b) v h
 from_head (item.Tally p n w ∷ xs) b v h = from_head xs b v h
+from_head (item.Piped k a w ∷ xs) b v h = from_head xs b v h
 from_head (item.Awake w ∷ xs) b v h = from_head xs (learn (item.Awake w) b) v
     (awake_head b.awake (task_of w).runnable b ∙ h)
 

@@ -66,6 +66,7 @@ looks_low (item.Drawn h w ∷ xs) l = looks_low xs l.1
 looks_low (item.Serving h w ∷ xs) l = looks_low xs l.1
 looks_low (item.Served ∷ xs) l = looks_low xs l.1
 looks_low (item.Tally p n w ∷ xs) l = absurd l.0
+looks_low (item.Piped k a w ∷ xs) l = absurd l.0
 
 scans_low : (h : ℕ) (xs : List Item) → AreScansOf h xs → AllAddLow (steps_of xs)
 scans_low h [] l = tt

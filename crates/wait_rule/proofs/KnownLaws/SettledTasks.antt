@@ -28,7 +28,7 @@ use Rattle.wait_model.specs.Fold.{after, after_unlock, view_of}
 use Rattle.wait_model.proofs.StepLaws.UnlockSteps.{unlock_bits}
 use Rattle.wait_rule.specs.declared.journal.Item.{Item}
 use Rattle.wait_rule.specs.declared.journal.Item.TheVariants as item
-use Rattle.wait_rule.specs.Items.{Book, learn, steps_of}
+use Rattle.wait_rule.specs.Items.{AddsNone, Book, learn, steps_of}
 use Rattle.wait_rule.specs.Known.{Known}
 use Rattle.wait_rule.specs.Says.{Debts, Excuse, IsOutBut, StaysSettled, added, grown, no_excuse, told_of}
 use Rattle.wait_rule.specs.Stays.{StaysOwing}
@@ -128,19 +128,20 @@ append_nil : (es : List Step) → es ++ [] ≡ es
 append_nil [] = refl
 append_nil (e ∷ es) = ap (λ (l : List Step). e ∷ l) (append_nil es)
 
--- items that are no steps
-pub owes_looks : (old new : Known) (looks : List Item) (b : Book) → steps_of looks ≡ [] → new ≡ grown old looks b
-    → StaysOwing old new
-owes_looks old new looks b none now =
+-- items that are no steps, and add to nothing
+pub owes_looks : (old new : Known) (looks : List Item) (b : Book) → steps_of looks ≡ [] → AddsNone looks
+    → new ≡ grown old looks b → StaysOwing old new
+owes_looks old new looks b none adds now =
     let told : told_of new ≡ told_of old = ap told_of now ∙ ap view_of (steps_append old.view.items looks
     ∙ (ap (λ (es : List Step). steps_of old.view.items ++ es) none ∙ append_nil (steps_of old.view.items))) in
     owes_told old new (ap (λ (v : View). v.mark) told) (λ i. ap (λ (v : View). v.bits.stored i) told)
     (λ c. ap (λ (v : View). v.bits.keeps c) told) (λ c is. ap (λ (v : View). v.bits.pending c) told ∙ is)
-    (looks_debts old new looks b none now)
+    (looks_debts old new looks b none adds now)
 
-pub settled_looks : (old new : Known) (looks : List Item) (b : Book) → steps_of looks ≡ [] → new ≡ grown old looks b
-    → StaysSettled old new
-settled_looks old new looks b none now o = owes_looks old new looks b none now no_excuse o
+pub settled_looks : (old new : Known) (looks : List Item) (b : Book) → steps_of looks ≡ [] → AddsNone looks
+    → new ≡ grown old looks b → StaysSettled old new
+settled_looks old new looks b none adds now o = owes_looks old new looks b none adds now no_excuse o
 
 pub settled_look : (old new : Known) (w : ℕ) → new ≡ added old (item.Awake w) → StaysSettled old new
-settled_look old new w now = settled_looks old new (item.Awake w ∷ []) (learn (item.Awake w) old.book) refl now
+settled_look old new w now = settled_looks old new (item.Awake w ∷ []) (learn (item.Awake w) old.book) refl (tt, tt)
+    now

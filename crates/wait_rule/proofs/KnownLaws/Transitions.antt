@@ -37,6 +37,7 @@ looks_of (item.Drawn h w ∷ xs) none adds = (tt, looks_of xs none adds.1)
 looks_of (item.Serving h w ∷ xs) none adds = (tt, looks_of xs none adds.1)
 looks_of (item.Served ∷ xs) none adds = (tt, looks_of xs none adds.1)
 looks_of (item.Tally p n w ∷ xs) none adds = absurd adds.0
+looks_of (item.Piped k a w ∷ xs) none adds = absurd adds.0
 
 -- what a task knows of its word is what its list tells
 pub book_told : (old new : Known) (xs : List Item) → IsTold old → IsTold new → new.view.items ≡ old.view.items ++ xs

@@ -54,5 +54,5 @@ unlocked_free k h spent = record { head = refl; ticket = refl }
 
 pub unlocked_owing : (k : Known) (h : ℕ) (spent : Bool) → StaysOwing k (unlocked_with k h spent)
 unlocked_owing k h spent x o = owes_looks (added k (item.Made (step.Unlock h spent))) (unlocked_with k h spent)
-    (item.Served ∷ []) (learn item.Served (added k (item.Made (step.Unlock h spent))).book) refl refl x
+    (item.Served ∷ []) (learn item.Served (added k (item.Made (step.Unlock h spent))).book) refl (tt, tt) refl x
     (owes_after k (added k (item.Made (step.Unlock h spent))) (step.Unlock h spent) refl refl x o)

@@ -113,6 +113,7 @@ looks_head (item.Drawn h w ∷ xs) l v = looks_head xs l.1 v
 looks_head (item.Serving h w ∷ xs) l v = looks_head xs l.1 v
 looks_head (item.Served ∷ xs) l v = looks_head xs l.1 v
 looks_head (item.Tally p n w ∷ xs) l v = absurd l.0
+looks_head (item.Piped k a w ∷ xs) l v = absurd l.0
 
 scans_head : (h : ℕ) (xs : List Item) → AreScansOf h xs → (v : Told)
     → (after_all v (steps_of xs)).hold.head ≡ v.hold.head

@@ -137,6 +137,7 @@ looks_off (item.Drawn h w ∷ xs) l v x out = looks_off xs l.1 v x out
 looks_off (item.Serving h w ∷ xs) l v x out = looks_off xs l.1 v x out
 looks_off (item.Served ∷ xs) l v x out = looks_off xs l.1 v x out
 looks_off (item.Tally p n w ∷ xs) l v x out = absurd l.0
+looks_off (item.Piped k a w ∷ xs) l v x out = absurd l.0
 
 scans_off : (h : ℕ) (xs : List Item) → AreScansOf h xs → (v : Told) (x : ℕ) → v.bits.stored x ≡ None
     → (after_all v (steps_of xs)).bits.stored x ≡ None

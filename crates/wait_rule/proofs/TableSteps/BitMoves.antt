@@ -71,6 +71,7 @@ use Rattle.wait_rule.proofs.KnownLaws.TicketSteps.{tickets_same, beside_tickets}
 use Rattle.wait_rule.proofs.StepKinds.EntryKinds.{fits_difference}
 use Rattle.wait_rule.proofs.TableSteps.StateLaws.{allows}
 use Rattle.wait_rule.proofs.KnownLaws.TallySteps.{tallies_same}
+use Rattle.wait_rule.proofs.KnownLaws.PipeTables.{pipes_rest}
 use Rattle.wait_rule.proofs.TableSteps.KeptSteps.{IsOwn, ruled_seen, written}
 use Rattle.wait_rule.proofs.TableSteps.QueueMoves.{head_seen}
 
@@ -272,6 +273,9 @@ module _ (c : Scene) (law : Law c) (a h i k : ℕ) (on : Bool) (head : h < HEADS
     tallies = tallies_same c.items a (item.Member ∷ []) law.beside
         (with_member law.beside (MEMBER_WORDS * h + i) W0) (λ p. refl)
         (member_tally law.beside (MEMBER_WORDS * h + i) W0) law.tallies;
+    pipes = pipes_rest c.items a (item.Member ∷ []) (word_with law.table law.beside)
+        (word_with law.table (with_member law.beside (MEMBER_WORDS * h + i) W0)) l refl
+        (λ j ne. other_words law.table law.beside (MEMBER_WORDS * h + i) W0 j ne) (λ p. (λ e. refl, refl)) law.pipes;
   }
     where
       W0 : ℕ

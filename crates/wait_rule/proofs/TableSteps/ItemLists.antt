@@ -17,6 +17,7 @@ steps_append (item.Drawn h w ∷ xs) ys = steps_append xs ys
 steps_append (item.Serving h w ∷ xs) ys = steps_append xs ys
 steps_append (item.Served ∷ xs) ys = steps_append xs ys
 steps_append (item.Tally p n w ∷ xs) ys = steps_append xs ys
+steps_append (item.Piped k a w ∷ xs) ys = steps_append xs ys
 
 pub book_append : (b : Book) (xs ys : List Item) → book_from b (xs ++ ys) ≡ book_from (book_from b xs) ys
 book_append b [] ys = refl

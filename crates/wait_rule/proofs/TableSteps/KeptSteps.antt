@@ -15,13 +15,13 @@ use Rattle.std.proofs.Common.{
   get_or-set_same,
   length-set,
 }
-use Rattle.std.proofs.lemmas.Bool.Decides.{eqb_tells}
+use Rattle.std.proofs.lemmas.Bool.Decides.{eqb_tells, nat_tests}
 use Rattle.std.specs.Prelude.{ℕ, ◌≡◌, ◌≢◌, ◌<◌, ◌⊎◌, Bool, true, false, cond, eqb, ◌==◌, if◌then◌else◌}
 use Rattle.std.specs.Prelude.{length, List, [], ◌∷◌, ◌++◌, slice_set, slice_index}
 use native.Mathlib.Decide.{ℕ_discrete}
 use prog.Atomic.{either}
 use Rattle.atomic_table.specs.Table.{Allows}
-use Rattle.wait_model.specs.declared.layout.TheConstants.{TASKS}
+use Rattle.wait_model.specs.declared.layout.TheConstants.{TASKS, CLAIMS}
 use Rattle.wait_model.specs.declared.steps.Step.{Step}
 use Rattle.wait_model.specs.Functions.{put}
 use Rattle.wait_model.specs.Fold.{view_of}
@@ -42,6 +42,7 @@ use Rattle.wait_rule.specs.Items.{Book, Difference, first_book, steps_of, learn_
 use Rattle.wait_rule.specs.Notes.{notes_of}
 use Rattle.wait_rule.specs.MemberWords.{is_beside, word_with, ShowsWith, all_differences, AreMembers}
 use Rattle.wait_rule.specs.Tickets.{Ticket}
+use Rattle.wait_rule.specs.Pipes.{ArePipes}
 use Rattle.wait_rule.specs.TicketWords.{all_tickets, AreTickets}
 use Rattle.wait_rule.specs.Journals.{Scene, moved, pushed}
 use Rattle.wait_rule.specs.Rule.{
@@ -62,6 +63,7 @@ use Rattle.wait_rule.proofs.KnownLaws.Moments.{interleaved_next}
 use Rattle.wait_rule.proofs.KnownLaws.MemberSteps.{IsOrderly, differences_next, differences_same, members_next}
 use Rattle.wait_rule.proofs.KnownLaws.TicketSteps.{tickets_next, tickets_same, tickets_after}
 use Rattle.wait_rule.proofs.KnownLaws.TallySteps.{KeepsTallies, tallies_same}
+use Rattle.wait_rule.proofs.KnownLaws.PipeTables.{KeepsEnds, pipes_next, pipes_rest}
 use Rattle.wait_rule.proofs.KnownLaws.HeadLinks.{KeepsLinks, noted_next, noted_seen, same_links}
 use Rattle.wait_rule.proofs.KnownLaws.MemberPlaces.{KeepsPlaces, queued_next}
 use Rattle.wait_rule.proofs.WornHeads.WornNotes.{IsShort, worn_next}
@@ -156,9 +158,9 @@ pages_after s items a l n e r k =
     }
 
 pub ruled_next : (s : Table) (items : ℕ → List Item) (a : ℕ) (l : Location) (n : ℕ) (e : Step)
-    → a < TASKS → MayChangeWord l a e → IsRuled s items → KeepsLaw s a l n e (book_of (items a))
+    → a < TASKS → IsRuled s items → KeepsLaw s a l n e (book_of (items a))
     → IsRuled (next s a e) (put items a (items a ++ item.Made e ∷ []))
-ruled_next s items a l n e few is r k = record {
+ruled_next s items a l n e few r k = record {
   whole = whole_next s a e few k.allowed k.stored r.whole;
   histories = histories_next s items a e r.histories;
   lawful = k.leaves.lawful;
@@ -178,9 +180,6 @@ ruled_next s items a l n e few is r k = record {
       (λ h. let n = queued_next s a e h few in omega (arith, n)) (whole_next s a e few k.allowed k.stored r.whole)
       (histories_next s items a e r.histories) k.leaves.lawful (links_next s items a e r k.links)
       (k.places few r.placed);
-  untouched = λ m unset. rest_untouched s (next s a e) a l n (learn_step e
-      (book_of (items a))) e refl is k.leaves m unset
-      ∙ r.untouched m unset;
 }
 
 -- A table and words beside it that differ from what is shown at a single word are shown by the words with that word
@@ -219,6 +218,8 @@ stepped_plain (place.Member k) is = absurd (cc)
 stepped_plain (place.Next h) is = absurd (cc)
 stepped_plain (place.Serving h) is = absurd (cc)
 stepped_plain (place.Tally p) is = absurd (cc)
+stepped_plain (place.Cell k) is = absurd (cc)
+stepped_plain (place.Claim k) is = absurd (cc)
 stepped_plain l is = refl
 
 -- the tickets after a step
@@ -231,24 +232,39 @@ tickets_on c law a e few may orderly = subst (λ (f : ℕ → Ticket). AreTicket
     law.tickets)
 
 -- a step that keeps the law, on the words
-pub law_next : (c : Scene) (law : Law c) (a : ℕ) (l : Location) (n : ℕ) (e : Step) → a < TASKS
-    → IsLocation l → is_beside l ≡ false → MayChangeWord l a e → KeepsLaw law.table a l n e (book_of (c.items a))
+pub law_step : (c : Scene) (law : Law c) (a : ℕ) (l : Location) (n : ℕ) (e : Step) → a < TASKS
+    → IsLocation l → is_beside l ≡ false → KeepsLaw law.table a l n e (book_of (c.items a))
+    → ArePipes (word_with (next law.table a e) law.beside) (put c.items a (c.items a ++ item.Made e ∷ []))
     → Law (moved c a (position_of l) n (item.Made e ∷ []))
-law_next c law a l n e few there plain is k = record {
+law_step c law a l n e few there plain k pipes = record {
   table = next law.table a e;
   beside = law.beside;
   shown = subst (λ (m : ℕ). ShowsWith (slice_set c.words (position_of l) m) (next law.table a e) law.beside)
       (table_word (next law.table a e) law.beside l plain ∙ k.leaves.left)
       (written c.words law.table (next law.table a e) law.beside law.beside l law.shown there
       (λ j ne. ap (λ (w : ℕ). if is_beside j then law.beside j else w) (k.leaves.rest j ne)));
-  ruled = ruled_next law.table c.items a l n e few is law.ruled k;
+  ruled = ruled_next law.table c.items a l n e few law.ruled k;
   members = subst (λ (d : ℕ → Difference). AreMembers (next law.table a e) d law.beside)
       (sym (differences_next c.items a (item.Made e ∷ [])))
       (members_next law.table a (book_of (c.items a)) (all_differences c.items) law.beside
       law.ruled.whole.kept.facts.one_holder refl e k.allowed k.orderly law.members);
   tickets = tickets_on c law a e few k.allowed k.orderly;
   tallies = tallies_same c.items a (item.Made e ∷ []) law.beside law.beside (λ p. refl) (λ p. refl) law.tallies;
+  pipes = pipes;
 }
+
+-- the variables of pipes are none of the words that calls change by other steps
+pipe_unstepped : (v : ℕ) → v < CLAIMS → is_stepped (place.Var v) ≡ false
+pipe_unstepped v few = grind (arith, nat_tests)
+
+-- one that leaves the words of pipes
+pub law_next : (c : Scene) (law : Law c) (a : ℕ) (l : Location) (n : ℕ) (e : Step) → a < TASKS
+    → IsLocation l → is_beside l ≡ false → MayChangeWord l a e → KeepsLaw law.table a l n e (book_of (c.items a))
+    → Law (moved c a (position_of l) n (item.Made e ∷ []))
+law_next c law a l n e few there plain is k = law_step c law a l n e few there plain k
+    (pipes_next law.table law.beside c.items a e k.allowed
+    (λ v small. rest_untouched law.table (next law.table a e) a l n (learn_step e (book_of (c.items a))) e refl is
+    k.leaves (place.Var v) (pipe_unstepped v small)) law.pipes)
 
 -- items that store no word and no bit
 abbrev pub KeepsDifference : List Item → Type 0
@@ -297,15 +313,14 @@ module _ (c : Scene) (law : Law c) (a : ℕ) (xs : List Item) (none : steps_of x
     worn = worn_next law.table law.table c.items a xs short law.ruled.worn (λ h. omega arith) law.ruled.whole
         histories_seen law.ruled.lawful (subst (AreLinked law.table) (sym (noted_seen c.items a xs)) links)
         law.ruled.placed;
-    untouched = law.ruled.untouched;
   }
 
   law_seen : (l : Location) (n : ℕ) → IsLocation l → is_beside l ≡ false → n ≡ slice_index c.words (position_of l)
-      → IsShort xs → KeepsDifference xs → KeepsTicket xs → KeepsTallies xs
+      → IsShort xs → KeepsDifference xs → KeepsTicket xs → KeepsTallies xs → KeepsEnds xs
       → (a < TASKS → Fits (law.table.task a) (book_of (c.items a ++ xs)))
       → AreLinked law.table (put (all_notes c.items) a (notes_of a (c.items a ++ xs)))
       → Law (moved c a (position_of l) n xs)
-  law_seen l n there plain is short agreed ticket adds own links = record {
+  law_seen l n there plain is short agreed ticket adds ends own links = record {
     table = law.table;
     beside = law.beside;
     shown = subst (λ (m : ℕ). ShowsWith (slice_set c.words (position_of l) m) law.table law.beside)
@@ -317,13 +332,15 @@ module _ (c : Scene) (law : Law c) (a : ℕ) (xs : List Item) (none : steps_of x
     tickets = subst (λ (f : ℕ → Ticket). AreTickets law.table f law.beside)
         (sym (tickets_same c.items a xs (ticket (book_of (c.items a))))) law.tickets;
     tallies = tallies_same c.items a xs law.beside law.beside adds (λ p. refl) law.tallies;
+    pipes = pipes_rest c.items a xs (word_with law.table law.beside) (word_with law.table law.beside) place.Base refl
+        (λ j ne. refl) ends law.pipes;
   }
 
 -- a load that adds nothing
 pub law_still : (c : Scene) (law : Law c) (a : ℕ) (l : Location) (n : ℕ) → IsLocation l → is_beside l ≡ false
     → n ≡ slice_index c.words (position_of l) → Law (moved c a (position_of l) n [])
 law_still c law a l n there plain is = law_seen c law a [] refl l n there plain is tt (λ b. refl) (λ b. refl)
-    (λ p. refl)
+    (λ p. refl) (λ k. (λ e. refl, refl))
     (λ few. subst (λ (xs : List Item). Fits (law.table.task a) (book_of xs)) (sym (append-nil (c.items a)))
     (law.ruled.fits a few))
     (same_links law.table c.items a [] (ap (notes_of a) (append-nil (c.items a))) law.ruled.linked)
@@ -392,12 +409,12 @@ module _ (slots id : ℕ) (me : Sat) (lives : me.0.lives ≡ true) (l : Location
   -- a load that adds an item that is no step, or nothing
   pub loads : is_beside l ≡ false → (xs : ℕ → List Item) (tells : ℕ → Type 0) → ((n : ℕ) → IsShort (xs n))
       → ((n : ℕ) → steps_of (xs n) ≡ []) → ((n : ℕ) → KeepsDifference (xs n)) → ((n : ℕ) → KeepsTicket (xs n))
-      → ((n : ℕ) → KeepsTallies (xs n))
+      → ((n : ℕ) → KeepsTallies (xs n)) → ((n : ℕ) → KeepsEnds (xs n))
       → Always (λ s n. Fits (s.task me.0.number) (book_of (me.0.items ++ xs n)) × tells n)
       → ((s : Table) (items : ℕ → List Item) → IsRuled s items → IsOwn s items me → AreLinked s
       (put (all_notes items) me.0.number (notes_of me.0.number (items me.0.number ++ xs (word_in s l)))))
       → Allows (Holds Law) slots id me p (λ n. n) (λ n m. (m ≡ (pushed me.0 (xs n), me.1)) × tells n)
-  loads plain xs tells short none agreed ticket adds always links = subst
+  loads plain xs tells short none agreed ticket adds ends always links = subst
       (λ (k : ℕ). Allows (Holds Law) slots id me k (λ n. n) (λ n m. (m ≡ (pushed me.0 (xs n), me.1)) × tells n))
       (sym at)
       (allows Law slots id me.0 me.1 (position_of l) (λ n. n) xs tells lives
@@ -413,7 +430,7 @@ module _ (slots id : ℕ) (me : Sat) (lives : me.0.lives ≡ true) (l : Location
           (apply (λ s n. Fits (s.task me.0.number) (book_of (me.0.items ++ xs n)) × tells n) always c law few own)
           in (
             law_seen c law me.0.number (xs n) (none n) l n there plain reads (short n) (agreed n) (ticket n)
-                (adds n)
+                (adds n) (ends n)
                 (λ _. subst (λ (ys : List Item). Fits (law.table.task me.0.number) (book_of (ys ++ xs n))) (sym own)
                 k.0)
                 (subst (λ (n : ℕ). AreLinked law.table (put (all_notes c.items) me.0.number

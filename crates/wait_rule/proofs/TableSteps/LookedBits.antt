@@ -52,7 +52,7 @@ use Rattle.wait_rule.specs.declared.journal.Journal.{Journal}
 use Rattle.wait_rule.specs.Items.{Book, Difference, nothing, first_book, steps_of, book_from, book_of, Fits}
 use Rattle.wait_rule.specs.Journals.{Scene, moved, pushed}
 use Rattle.wait_rule.specs.Notes.{Notes, is_at, glance_at, notes_of}
-use Rattle.wait_rule.specs.MemberWords.{is_beside, ShowsWith, names, all_differences, AreMembers}
+use Rattle.wait_rule.specs.MemberWords.{is_beside, word_with, ShowsWith, names, all_differences, AreMembers}
 use Rattle.wait_rule.specs.Known.{Known, known}
 use Rattle.wait_rule.specs.Says.{added}
 use Rattle.wait_rule.specs.Rule.{AreLinked, all_notes, Law, Holds}
@@ -74,6 +74,7 @@ use Rattle.wait_rule.specs.Tickets.{Ticket}
 use Rattle.wait_rule.specs.TicketWords.{AreTickets}
 use Rattle.wait_rule.proofs.KnownLaws.TicketSteps.{tickets_same}
 use Rattle.wait_rule.proofs.KnownLaws.TallySteps.{tallies_same}
+use Rattle.wait_rule.proofs.KnownLaws.PipeTables.{pipes_next, pipes_rest}
 use Rattle.wait_rule.proofs.TableSteps.KeptSteps.{
   ChangesNone,
   tickets_on,
@@ -126,13 +127,14 @@ look_law c law a l n e few idle k = record {
     each = λ j is. law.shown.each j is
         ∙ ap (λ (w : ℕ). if is_beside j then law.beside j else w) (sym (idle law.table j));
   };
-  ruled = ruled_next law.table c.items a l n e few (inr idle) law.ruled k;
+  ruled = ruled_next law.table c.items a l n e few law.ruled k;
   members = subst (λ (d : ℕ → Difference). AreMembers (next law.table a e) d law.beside)
       (sym (differences_next c.items a (item.Made e ∷ [])))
       (members_next law.table a (book_of (c.items a)) (all_differences c.items) law.beside
       law.ruled.whole.kept.facts.one_holder refl e k.allowed k.orderly law.members);
   tickets = tickets_on c law a e few k.allowed k.orderly;
   tallies = tallies_same c.items a (item.Made e ∷ []) law.beside law.beside (λ p. refl) (λ p. refl) law.tallies;
+  pipes = pipes_next law.table law.beside c.items a e k.allowed (λ v small. idle law.table (place.Var v)) law.pipes;
 }
 
 saw_none : (a x w : ℕ) → ChangesNone a (step.Saw x w)
@@ -156,6 +158,8 @@ mark_law c law a t few = record {
   tickets = subst (λ (f : ℕ → Ticket). AreTickets law.table f law.beside)
       (sym (tickets_same c.items a (item.Bookmark t w ∷ []) refl)) law.tickets;
   tallies = tallies_same c.items a (item.Bookmark t w ∷ []) law.beside law.beside (λ p. refl) (λ p. refl) law.tallies;
+  pipes = pipes_rest c.items a (item.Bookmark t w ∷ []) (word_with law.table law.beside)
+      (word_with law.table law.beside) place.Base refl (λ j ne. refl) (λ k. (λ e. refl, refl)) law.pipes;
 }
   where
     w : ℕ
@@ -185,6 +189,7 @@ word_back c a m xs law there = record {
   members = law.members;
   tickets = law.tickets;
   tallies = law.tallies;
+  pipes = law.pipes;
 }
 
 -- a note of the load of a member word
@@ -202,6 +207,8 @@ word_law c law a w = record {
   tickets = subst (λ (f : ℕ → Ticket). AreTickets law.table f law.beside)
       (sym (tickets_same c.items a (item.Word w ∷ []) refl)) law.tickets;
   tallies = tallies_same c.items a (item.Word w ∷ []) law.beside law.beside (λ p. refl) (λ p. refl) law.tallies;
+  pipes = pipes_rest c.items a (item.Word w ∷ []) (word_with law.table law.beside)
+      (word_with law.table law.beside) place.Base refl (λ j ne. refl) (λ k. (λ e. refl, refl)) law.pipes;
 }
 
 -- a seat with more items

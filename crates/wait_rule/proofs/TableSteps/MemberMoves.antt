@@ -288,7 +288,7 @@ module _ (slots id : ℕ) (me : Sat) (lives : me.0.lives ≡ true) (t p : ℕ) (
       × (IsMarkWord n × ((d : TableId) → KnewMark (known d me.0 0) k n)))) mark_there
       (loads slots id me lives (place.Bookmark t) small p at refl (λ w. item.Bookmark t w ∷ [])
       (λ n. IsMarkWord n × ((d : TableId) → KnewMark (known d me.0 0) t n)) (λ _. tt) (λ _. refl) (λ _ b. refl)
-      (λ _ b. refl) (λ _ p. refl)
+      (λ _ b. refl) (λ _ p. refl) (λ _ k. (λ e. refl, refl))
       (λ s items ruled own fits. (
         subst (Fits (s.task me.0.number))
             (sym (book_append first_book me.0.items (item.Bookmark t (mark_word (s.mark t)) ∷ []))) fits,

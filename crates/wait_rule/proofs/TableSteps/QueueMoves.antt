@@ -125,7 +125,7 @@ module _ (slots id : ℕ) (me : Sat) (lives : me.0.lives ≡ true) (h p : ℕ) (
   head_peek_moves held s r long at_id few =
       let a = loads slots id me lives (place.Head h) small p at refl (λ _. [])
       (λ n. (d : TableId) → n ≡ head_word true ((told_of (known d me.0 0)).checks.found (p - HEAD_AT))) (λ _. tt)
-      (λ _. refl) (λ _ b. refl) (λ _ b. refl) (λ _ p. refl)
+      (λ _. refl) (λ _ b. refl) (λ _ b. refl) (λ _ p. refl) (λ _ k. (λ e. refl, refl))
       (λ s items ruled own fits. (
         subst (λ (xs : List Item). Fits (s.task me.0.number) (book_of xs)) (sym (append-nil me.0.items)) fits,
         λ d. (λ i. head_word ((ruled.whole.kept.facts.views me.0.number).hold.held h (mine s items own held) i)

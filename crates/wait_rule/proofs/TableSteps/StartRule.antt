@@ -56,6 +56,9 @@ use Rattle.wait_rule.specs.Journals.{fresh, seen_as}
 use Rattle.wait_rule.specs.Tickets.{Ticket, no_ticket, is_of, is_given, ShowsNumber, out_below}
 use Rattle.wait_rule.specs.TicketWords.{all_tickets, unlocks_at, unlocked_at, unserved, AreTickets}
 use Rattle.wait_rule.specs.Tallies.{amounts_of, tally_of, AreTallies}
+use Rattle.wait_rule.specs.Pipes.{ArePipes, End, end_of, no_end, read_end, was_refused, write_end}
+use Rattle.wait_model.specs.Functions.{put}
+use Rattle.wait_model.proofs.Functions.{put_at}
 use Rattle.wait_rule.specs.Rule.{IsRuled, Law, Holds}
 use Rattle.wait_rule.specs.Start.{start_of, IsStart}
 use Rattle.wait_rule.proofs.TableSteps.ForksAndJoins.{alone}
@@ -111,7 +114,6 @@ start_ruled items none = record {
   quiet = λ x is flag. absurd (cc);
   heard = λ x is. absurd (cc);
   worn = λ t h p w. absurd (none_worn t h p (items t) (none t) w);
-  untouched = λ l unset. refl;
 }
   where
     unasked : (t : ℕ) → all_asked items t ≡ nothing_asked
@@ -183,6 +185,47 @@ start_tallies items none p =
     sum_zero TASKS (λ t. amounts_of p (items t)) (λ t few. ap (amounts_of p) (none t)) in
     sym (ap (λ (n : ℕ). n % 2 ^ 64) sum)
 
+-- nobody has an end of a pipe
+start_pipes : (items : ℕ → List Item) → ((t : ℕ) → items t ≡ []) → ArePipes (word_with start (λ l. 0)) items
+start_pipes items none p few = record {
+  writer = 0;
+  reader = 0;
+  w = no_end;
+  r = no_end;
+  writes = λ t. ap (end_of (write_end p)) (none t) ∙ sym (nobody t);
+  reads = λ t. ap (end_of (read_end p)) (none t) ∙ sym (nobody t);
+  writer_task = omega arith;
+  reader_task = omega arith;
+  refused_w = λ t bad. absurd (let z : false ≡ true = sym (ap (was_refused (write_end p)) (none t)) ∙ bad in cc);
+  refused_r = λ t bad. absurd (let z : false ≡ true = sym (ap (was_refused (read_end p)) (none t)) ∙ bad in cc);
+  flow = record {
+    claim_w = refl;
+    claim_r = refl;
+    idle_w = λ _. refl;
+    idle_r = λ _. refl;
+    end_w = refl;
+    end_r = refl;
+    w_put = omega arith;
+    w_room = omega arith;
+    w_seen = omega arith;
+    r_took = omega arith;
+    r_there = omega arith;
+    r_seen = omega arith;
+    stands = λ n low high. absurd (omega arith);
+    whole = λ n high. absurd (omega arith);
+    rest = [];
+    order = refl;
+    w_before = refl;
+    r_before = refl;
+    w_ended = λ never. absurd (cc);
+    r_ended = λ never. absurd (cc);
+    one = λ never. absurd (cc);
+  };
+}
+  where
+    nobody : (t : ℕ) → put (λ _. no_end) 0 no_end t ≡ no_end
+    nobody t = put_at (λ (e : End). e ≡ no_end) (λ _. no_end) 0 no_end t (λ _. refl) (λ _. refl)
+
 past_end : (ws : List ℕ) (p : ℕ) → length ws ≤ p → slice_index ws p ≡ 0
 past_end [] p far = refl
 past_end (w ∷ ws) zero far = absurd (omega arith)
@@ -218,6 +261,8 @@ begins ws is = record {
     tickets = start_tickets (all_tickets (seen_as ws (fresh 0 1 (TASKS - 1) ∷ [])).items)
         (λ t. ap (λ (l : List Item). (book_of ((l ++ []) ++ [])).ticket) (nothing (eqb 0 t)));
     tallies = start_tallies (seen_as ws (fresh 0 1 (TASKS - 1) ∷ [])).items
+        (λ t. ap (λ (l : List Item). (l ++ []) ++ []) (nothing (eqb 0 t)));
+    pipes = start_pipes (seen_as ws (fresh 0 1 (TASKS - 1) ∷ [])).items
         (λ t. ap (λ (l : List Item). (l ++ []) ++ []) (nothing (eqb 0 t)));
     ruled = start_ruled (seen_as ws (fresh 0 1 (TASKS - 1) ∷ [])).items
         (λ t. ap (λ (l : List Item). (l ++ []) ++ []) (nothing (eqb 0 t)));

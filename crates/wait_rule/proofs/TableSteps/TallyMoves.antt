@@ -43,6 +43,7 @@ use Rattle.wait_rule.proofs.TableSteps.ItemLists.{book_append}
 use Rattle.wait_rule.proofs.KnownLaws.AfterSteps.{notes_after}
 use Rattle.wait_rule.proofs.KnownLaws.TicketSteps.{beside_tickets, tickets_next, tickets_same, to_test, test_off}
 use Rattle.wait_rule.proofs.KnownLaws.TallySteps.{tally_next}
+use Rattle.wait_rule.proofs.KnownLaws.PipeTables.{pipes_rest}
 use Rattle.wait_rule.proofs.TableSteps.StateLaws.{learns_more}
 use Rattle.wait_rule.proofs.TableSteps.TaskMoves.{shown_of}
 use Rattle.wait_rule.proofs.TableSteps.TicketMoves.{law_beside}
@@ -136,7 +137,9 @@ module _ (c : Scene) (law : Law c) (a p k : ℕ) (page : p < PAGES) (few : a < T
       (subst (λ f. AreTickets law.table f now)
       (sym (tickets_same c.items a (item.Tally p k W ∷ []) refl) ∙ tickets_next c.items a (item.Tally p k W ∷ []))
       added_tickets)
-      (tally_added c.items law.beside law.tallies a p k W few))
+      (tally_added c.items law.beside law.tallies a p k W few)
+      (pipes_rest c.items a (item.Tally p k W ∷ []) (word_with law.table law.beside) (word_with law.table now)
+      (place.Tally p) refl (other_tally law.table law.beside p ((W + k) % 2 ^ 64)) (λ j. (λ e. refl, refl)) law.pipes))
 
 module _ (slots id : ℕ) (me : Sat) (lives : me.0.lives ≡ true) (p k at : ℕ) (page : p < PAGES) where
   -- the number found is the sum so far

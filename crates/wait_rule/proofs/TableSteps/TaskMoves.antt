@@ -39,6 +39,7 @@ use Rattle.wait_rule.specs.Plays.{
   witnessed_play,
 }
 use Rattle.wait_rule.specs.Plays as plays
+use Rattle.wait_rule.specs.MemberWords.{word_with}
 use Rattle.wait_rule.proofs.TableSteps.ItemLists.{book_append}
 use Rattle.wait_rule.proofs.KnownLaws.HeldHeads.{head_told, awake_differs, awake_ticket}
 use Rattle.wait_rule.proofs.TableSteps.StateLaws.{learns, pushed_none}
@@ -60,6 +61,8 @@ shown_of v c law knows sole nobody = record {
   lists = knows;
   history = λ t mine. law.ruled.histories t ∙ ap steps_of (knows t mine);
   nobody = λ t far. law.ruled.histories t ∙ ap steps_of (nobody t far);
+  words = word_with law.table law.beside;
+  pipes = law.pipes;
 }
 
 -- a load of the base word that tells a task that the law holds of the lists that it has
@@ -74,7 +77,7 @@ pub witness_moves : (slots id : ℕ) (me : Sat) → me.0.lives ≡ true
     → Allows (Holds Law) slots id me 0 (λ n. n) (witnessed_play (move slots 0 0 0 none) me)
 witness_moves slots id me lives s r long at_id few =
     let a = loads slots id me lives place.Base tt 0 refl refl (λ _. []) (λ _. MeetsLaw me.0) (λ _. tt)
-    (λ _. refl) (λ _ b. refl) (λ _ b. refl) (λ _ p. refl)
+    (λ _. refl) (λ _ b. refl) (λ _ b. refl) (λ _ p. refl) (λ _ k. (λ e. refl, refl))
     (λ s items ruled own fits. (
       subst (λ (xs : List Item). Fits (s.task me.0.number) (book_of xs)) (sym (append-nil me.0.items)) fits,
       record { table = s; items = items; ruled = ruled; own = own.list },
@@ -100,7 +103,7 @@ module _ (slots id : ℕ) (me : Sat) (lives : me.0.lives ≡ true) (u p : ℕ) (
   pub peek_moves : Allows (Holds Law) slots id me p (λ n. n) (word_load_play (move slots p 0 0 none) me)
   peek_moves s r long at_id few =
       let a = loads slots id me lives (place.Task u) small p at refl (λ _. []) IsLawfulWord (λ _. tt)
-      (λ _. refl) (λ _ b. refl) (λ _ b. refl) (λ _ p. refl)
+      (λ _. refl) (λ _ b. refl) (λ _ b. refl) (λ _ p. refl) (λ _ k. (λ e. refl, refl))
       (λ s items ruled _ fits. (
         subst (λ (xs : List Item). Fits (s.task me.0.number) (book_of xs)) (sym (append-nil me.0.items)) fits,
         is_lawful s items ruled u,
@@ -161,7 +164,7 @@ module _ (slots id : ℕ) (me : Sat) (lives : me.0.lives ≡ true) (u p : ℕ) (
   pub awake_moves : Allows (Holds Law) slots id me p (λ n. n) (awoken_play (move slots p 0 0 none) me)
   awake_moves = loads slots id me lives (place.Task me.0.number) own_small p own_at refl (λ w. item.Awake w ∷ [])
       IsLawfulWord (λ _. tt) (λ _. refl) (λ w b. awake_differs b.awake (task_of w).runnable b)
-      (λ w b. awake_ticket b.awake (task_of w).runnable b) (λ w p. refl)
+      (λ w b. awake_ticket b.awake (task_of w).runnable b) (λ w p. refl) (λ w k. (λ e. refl, refl))
       (λ s items ruled _ fits. (
         subst (Fits (s.task me.0.number)) (sym (book_append first_book me.0.items _))
             (awakes s items ruled me.0.number (book_of me.0.items) fits),

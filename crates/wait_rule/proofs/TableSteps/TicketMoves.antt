@@ -81,6 +81,8 @@ use Rattle.wait_rule.proofs.KnownLaws.TicketSteps.{
 }
 use Rattle.wait_rule.proofs.TableSteps.StateLaws.{allows, learns_more}
 use Rattle.wait_rule.proofs.KnownLaws.TallySteps.{tallies_same}
+use Rattle.wait_rule.specs.Pipes.{ArePipes}
+use Rattle.wait_rule.proofs.KnownLaws.PipeTables.{pipes_rest}
 use Rattle.wait_rule.proofs.TableSteps.KeptSteps.{ruled_seen, written}
 use Rattle.wait_rule.proofs.TableSteps.TaskMoves.{shown_of}
 
@@ -562,8 +564,9 @@ module _ (c : Scene) (law : Law c) (a : ℕ) (x : Item) (none_made : steps_of (x
       → ((k : ℕ) → beside (place.Member k) ≡ law.beside (place.Member k))
       → AreTickets law.table (put (all_tickets c.items) a (book_from (book_of (c.items a)) (x ∷ [])).ticket) beside
       → AreTallies (put c.items a (c.items a ++ x ∷ [])) beside
+      → ArePipes (word_with law.table beside) (put c.items a (c.items a ++ x ∷ []))
       → Law (moved c a (position_of l) n (x ∷ []))
-  law_beside l n beside there now rest members tickets tallies = record {
+  law_beside l n beside there now rest members tickets tallies pipes = record {
     table = law.table;
     beside = beside;
     shown = subst (λ (w : ℕ). ShowsWith (slice_set c.words (position_of l) w) law.table beside) now
@@ -580,6 +583,7 @@ module _ (c : Scene) (law : Law c) (a : ℕ) (x : Item) (none_made : steps_of (x
         });
     tickets = subst (λ (f : ℕ → Ticket). AreTickets law.table f beside) (sym (tickets_next c.items a (x ∷ []))) tickets;
     tallies = tallies;
+    pipes = pipes;
   }
 
 module _ (c : Scene) (law : Law c) (a h : ℕ) (head : h < HEADS) where
@@ -603,7 +607,10 @@ module _ (c : Scene) (law : Law c) (a h : ℕ) (head : h < HEADS) where
       (other_next law.table law.beside h ((N + 1) % 2 ^ 64)) (next_member law.beside h ((N + 1) % 2 ^ 64))
       (draw_tickets law.table (all_tickets c.items) law.beside law.tickets a h small free)
       (tallies_same c.items a (item.Drawn h N ∷ []) law.beside (with_next law.beside h ((N + 1) % 2 ^ 64)) (λ p. refl)
-      (next_tally law.beside h ((N + 1) % 2 ^ 64)) law.tallies))
+      (next_tally law.beside h ((N + 1) % 2 ^ 64)) law.tallies)
+      (pipes_rest c.items a (item.Drawn h N ∷ []) (word_with law.table law.beside)
+      (word_with law.table (with_next law.beside h ((N + 1) % 2 ^ 64))) (place.Next h) refl
+      (other_next law.table law.beside h ((N + 1) % 2 ^ 64)) (λ k. (λ e. refl, refl)) law.pipes))
     where
       N : ℕ
       N = law.beside (place.Next h)
@@ -618,7 +625,9 @@ module _ (c : Scene) (law : Law c) (a h : ℕ) (head : h < HEADS) where
       record { up = f.up; stored = f.stored; rose = f.rose }))
       (notes_after a (c.items a) (item.Serving h N)) (place.Serving h) N law.beside head refl (λ j ne. refl) (λ k. refl)
       (serving_tickets law.table (all_tickets c.items) law.beside law.tickets a h)
-      (tallies_same c.items a (item.Serving h N ∷ []) law.beside law.beside (λ p. refl) (λ p. refl) law.tallies))
+      (tallies_same c.items a (item.Serving h N ∷ []) law.beside law.beside (λ p. refl) (λ p. refl) law.tallies)
+      (pipes_rest c.items a (item.Serving h N ∷ []) (word_with law.table law.beside) (word_with law.table law.beside)
+      (place.Serving h) refl (λ j ne. refl) (λ k. (λ e. refl, refl)) law.pipes))
     where
       N : ℕ
       N = law.beside (place.Serving h)
@@ -637,7 +646,10 @@ module _ (c : Scene) (law : Law c) (a h : ℕ) (head : h < HEADS) where
       (other_serving law.table law.beside h ((N + 1) % 2 ^ 64)) (serving_member law.beside h ((N + 1) % 2 ^ 64))
       (serve_tickets law.table (all_tickets c.items) law.beside law.tickets a h small is)
       (tallies_same c.items a (item.Served ∷ []) law.beside (with_serving law.beside h ((N + 1) % 2 ^ 64)) (λ p. refl)
-      (serving_tally law.beside h ((N + 1) % 2 ^ 64)) law.tallies))
+      (serving_tally law.beside h ((N + 1) % 2 ^ 64)) law.tallies)
+      (pipes_rest c.items a (item.Served ∷ []) (word_with law.table law.beside)
+      (word_with law.table (with_serving law.beside h ((N + 1) % 2 ^ 64))) (place.Serving h) refl
+      (other_serving law.table law.beside h ((N + 1) % 2 ^ 64)) (λ k. (λ e. refl, refl)) law.pipes))
     where
       N : ℕ
       N = law.beside (place.Serving h)

@@ -1,0 +1,143 @@
+-- The turns of a task that writes a piece or reads one: it looks, and then passes on or waits.
+use Rattle.std.proofs.Common.{◌∙◌, ap, arith}
+use Rattle.std.specs.Prelude.{
+  ℕ,
+  ◌≡◌,
+  ◌<◌,
+  ◌≤◌,
+  ◌+◌,
+  ◌-◌,
+  ◌/◌,
+  ◌%◌,
+  true,
+  false,
+  List,
+  [],
+  length,
+  take,
+  Result,
+  Ok,
+  Err,
+  MatchResult,
+}
+use Rattle.wait_model.specs.declared.layout.TheConstants.{PIPE_CELLS}
+use Rattle.wait_rule.specs.Known.{Known}
+use Rattle.wait_rule.specs.Pipes.{read_end, word_counts, write_end}
+use Rattle.wait_rule.specs.PipeSays.{reading, writing}
+use Rattle.wait_pipe.specs.declared.looks.Look.{Look}
+use Rattle.wait_pipe.specs.declared.pieces.PipeEnd.{PipeEnd}
+use Rattle.wait_pipe.specs.declared.pieces.PipeEnd.TheVariants as pipe_end
+use Rattle.wait_pipe.specs.Pieces.{
+  Got,
+  GotNone,
+  HasSeen,
+  IsCause,
+  IsReadCause,
+  IsSettled,
+  Moved,
+  Put,
+  PutNone,
+  Rests,
+  Waits,
+}
+use Rattle.wait_pipe.proofs.PieceChanges.{rests_on, waits_on}
+use Rattle.wait_pipe.proofs.Fills.{at_end, waited_none, waited_settled, waited_then}
+
+-- why a wait ended is also why nothing was written
+pub wait_cause : (k : ℕ) (new : Known) (e : PipeEnd) → IsReadCause k new e → IsCause k new e
+wait_cause k new pipe_end.Broken is = absurd is
+wait_cause k new (pipe_end.Interrupted seen) is = is
+wait_cause k new (pipe_end.Worn head place) is = is
+
+-- A task that writes, over turns that only wait.
+module _ (p : ℕ) (old now : Known) (w : Waits (write_end p) old now) (s : IsSettled (writing p old)) where
+  pub put_broken : (writing p now).ended ≡ true → PutNone p old now pipe_end.Broken
+  put_broken ended = record { moved = waited_none (write_end p) old now w s; cause = ended }
+
+  pub put_filled : (new : Known) (text : List ℕ) (n : ℕ) → 0 < n → n ≤ length text
+      → Moved (write_end p) now new (take n text) → (writing p new).ended ≡ (writing p now).ended
+      → (writing p now).ended ≡ false → (writing p new).count ≡ (writing p now).count + (n + 6) / 7
+      → (n < length text → (writing p new).count ≡ (writing p new).seen + PIPE_CELLS) → Put p old new text n
+  put_filled new text n some most moved kept unended cells full = record {
+    some = some;
+    most = most;
+    moved = waited_then (write_end p) old now w s new (take n text) moved;
+    unended = kept ∙ unended;
+    cells = cells ∙ ap (λ m. m + (n + 6) / 7) w.keeps.count;
+    full = full;
+  }
+
+  pub put_stopped : (new : Known) (e : PipeEnd) → Waits (write_end p) now new → IsReadCause (write_end p) new e
+      → PutNone p old new e
+  put_stopped new e v cause = record {
+    moved = waited_none (write_end p) old new (waits_on (write_end p) old now new w v) s;
+    cause = wait_cause (write_end p) new e cause;
+  }
+
+  pub put_then : (new : Known) (text : List ℕ) (r : Result ℕ PipeEnd)
+      → MatchResult r (Put p now new text) (PutNone p now new) → MatchResult r (Put p old new text) (PutNone p old new)
+  put_then new text (Ok n) put = record {
+    some = put.some;
+    most = put.most;
+    moved = waited_then (write_end p) old now w s new (take n text) put.moved;
+    unended = put.unended;
+    cells = put.cells ∙ ap (λ m. m + (n + 6) / 7) w.keeps.count;
+    full = put.full;
+  }
+  put_then new text (Err e) put = record {
+    moved = waited_then (write_end p) old now w s new [] put.moved;
+    cause = put.cause;
+  }
+
+-- A task that reads, over such turns.
+module _ (p : ℕ) (old now : Known) (w : Waits (read_end p) old now) (s : IsSettled (reading p old)) where
+  pub got_drained : (new : Known) (buf : List ℕ) (n : ℕ) → 0 < n → n ≤ length buf
+      → Moved (read_end p) now new (take n buf)
+      → (n + 7 ≤ length buf → (reading p new).count ≡ (reading p new).seen) → Got p old new buf n
+  got_drained new buf n some most moved all = record {
+    most = most;
+    moved = waited_then (read_end p) old now w s new (take n buf) moved;
+    some = λ there. some;
+    none = λ none. absurd (omega arith);
+    all = all;
+  }
+
+  pub got_end : (l : Look) (buf : List ℕ) (there : ℕ) → HasSeen (read_end p) now l
+      → there ≡ (l.other + word_counts - l.own) % word_counts → there ≡ 0 → l.closed ≡ true → Got p old now buf 0
+  got_end l buf there seen is none shut =
+      let still = waited_settled (read_end p) old now w s in
+      let end = at_end p now l seen still there is none shut in
+      let all = end.all in
+      let count = w.keeps.count in record {
+        most = omega arith;
+        moved = waited_none (read_end p) old now w s;
+        some = λ there. absurd (omega arith);
+        none = λ none. end;
+        all = λ room. end.all;
+      }
+
+  pub got_stopped : (new : Known) (e : PipeEnd) → Waits (read_end p) now new → IsReadCause (read_end p) new e
+      → GotNone p old new e
+  got_stopped new e v cause = record {
+    moved = waited_none (read_end p) old new (waits_on (read_end p) old now new w v) s;
+    cause = cause;
+  }
+
+  pub got_then : (new : Known) (buf : List ℕ) (r : Result ℕ PipeEnd)
+      → MatchResult r (Got p now new buf) (GotNone p now new) → MatchResult r (Got p old new buf) (GotNone p old new)
+  got_then new buf (Ok n) got =
+      let count = w.keeps.count in record {
+        most = got.most;
+        moved = waited_then (read_end p) old now w s new (take n buf) got.moved;
+        some = λ there. got.some (let few : (reading p now).count < (reading p new).seen = omega arith in few);
+        none = got.none;
+        all = got.all;
+      }
+  got_then new buf (Err e) got = record {
+    moved = waited_then (read_end p) old now w s new [] got.moved;
+    cause = got.cause;
+  }
+
+-- what it leaves of the task
+pub then_rests : (k : ℕ) (old now new : Known) → Waits k old now → Rests k now new → Rests k old new
+then_rests k old now new w r = rests_on k old now new w.rests r

@@ -1,0 +1,29 @@
+use Rattle.std.proofs.Common.{◌∙◌, subst, sym}
+use Rattle.std.specs.Prelude.{◌+◌, ◌*◌}
+use Rattle.wait_model.specs.declared.layout.TheConstants.{PIPE_ENDS}
+use Rattle.wait_rule.specs.Stays.{with_end}
+use Rattle.wait_pipe.specs.Pieces.{LeavesAside}
+use Rattle.wait_pipe.proofs.Asides.{quiet_on, quiet_publish}
+use Rattle.wait_pipe.proofs.PieceChanges.{leaves_made, made_idle, others_becomes, others_on}
+use Rattle.wait_pipe.proofs.ends.close_end.Goals as goal
+
+pub rouse-requires-clause-idle : goal.rouse-requires-clause-idle
+rouse-requires-clause-idle g c = made_idle (with_end (PIPE_ENDS * c.args.pipe + c.args.end))
+    (PIPE_ENDS * c.args.pipe + c.args.end) c.args.task.now c.close.new.task c.requires.idle c.close.ensures.carries
+
+pub returns-clause-own : goal.returns-clause-own
+returns-clause-own g c = c.rouse.ensures.own ∙ c.close.ensures.becomes.own
+
+pub returns-clause-others : goal.returns-clause-others
+returns-clause-others g c = others_on (PIPE_ENDS * c.args.pipe + c.args.end) c.args.task.now c.close.new.task
+    c.rouse.new.task (others_becomes (PIPE_ENDS * c.args.pipe + c.args.end) c.args.task.now c.close.new.task _
+    c.close.ensures.becomes) c.rouse.ensures.others
+
+pub returns-clause-ends : goal.returns-clause-ends
+returns-clause-ends g c =
+    let made = c.close.ensures.step in
+    leaves_made (with_end (PIPE_ENDS * c.args.pipe + c.args.end)) (PIPE_ENDS * c.args.pipe + c.args.end)
+    c.args.task.now c.close.new.task c.rouse.new.task c.rouse.ensures.up c.requires.idle c.rouse.ensures.idle
+    c.requires.out (c.told.ensures.head ∙ c.requires.idle.free.head) c.close.ensures.carries c.rouse.ensures.carries
+    (quiet_on c.args.task.now c.close.new.task c.rouse.new.task (subst (LeavesAside c.args.task.now) (sym made.1)
+    (quiet_publish c.args.task.now (PIPE_ENDS * c.args.pipe + c.args.end) 0 _ made.0)) c.rouse.ensures.quiet)

@@ -1,0 +1,107 @@
+use Rattle.std.proofs.Common.{◌<◌, ◌≤◌, ◌∙◌, ◌+◌, ◌⊎◌, inl, inr, add-zero, arith, length, subst, sym}
+use Rattle.std.specs.Prelude.{ℕ, ◌≡◌, ◌+◌, ◌*◌, ◌%◌}
+use Rattle.wait_model.specs.declared.layout.TheConstants.{PIPE_ENDS}
+use Rattle.wait_model.specs.declared.watches.Watch.TheVariants as watch
+use Rattle.wait_rule.specs.Pipes.{word_counts, write_end}
+use Rattle.wait_rule.specs.PipeSays.{IsOpen, end_at}
+use Rattle.wait_rule.specs.Stays.{Carries, publish_change}
+use Rattle.wait_event.proofs.Setting.{set_idle}
+use Rattle.wait_pipe.specs.Pieces.{LeavesAside}
+use Rattle.wait_pipe.proofs.Asides.{quiet_on, quiet_publish}
+use Rattle.wait_pipe.proofs.Fills.{advanced_write, fill_begins, fill_cells, fill_ended, fill_ends, fill_full, fill_goes}
+use Rattle.wait_pipe.proofs.PieceChanges.{idle_still, leaves_made, still_publishes}
+use Rattle.wait_pipe.proofs.pieces.fill.Goals.{
+  then-bytes-done-lt7,
+  else-bytes-done-lt7,
+  then-loop-left-test+else-done-bytes,
+  else-loop-left-test,
+}
+use Rattle.wait_pipe.proofs.pieces.fill.Goals as goal
+
+pub loop-left-init : goal.loop-left-init
+loop-left-init g c = fill_begins c.args.pipe c.args.task.now c.args.bytes.now c.args.count c.args.free
+    c.requires.settled c.requires.count c.requires.free c.requires.room
+
+pub loop-left-preserved : goal.loop-left-preserved
+loop-left-preserved g c =
+    let done_few = c.if-done-bytes.true in
+    let low : c.loop-left.done < c.if-bytes-done-lt7.end = elim c.if-bytes-done-lt7.branch [
+      | then-bytes-done-lt7 w ↦ let e = w.end-is in omega arith
+      | else-bytes-done-lt7 w ↦ let e = w.end-is in omega arith
+    ] in
+    let high : c.if-bytes-done-lt7.end ≤ length c.args.bytes.now = elim c.if-bytes-done-lt7.branch [
+      | then-bytes-done-lt7 w ↦ let e = w.end-is in omega arith
+      | else-bytes-done-lt7 w ↦ let e = w.end-is in let k = w.if-bytes-done-lt7 in omega arith
+    ] in
+    let most : c.if-bytes-done-lt7.end ≤ c.loop-left.done + 7 = elim c.if-bytes-done-lt7.branch [
+      | then-bytes-done-lt7 w ↦ let e = w.end-is in let k = w.if-bytes-done-lt7 in omega arith
+      | else-bytes-done-lt7 w ↦ let e = w.end-is in omega arith
+    ] in
+    let ends : (c.if-bytes-done-lt7.end ≡ c.loop-left.done + 7) ⊎ (c.if-bytes-done-lt7.end ≡ length c.args.bytes.now) =
+    elim c.if-bytes-done-lt7.branch [
+      | then-bytes-done-lt7 w ↦ inr w.end-is
+      | else-bytes-done-lt7 w ↦ inl w.end-is
+    ] in
+    fill_goes c.args.pipe c.args.task.now c.loop-left.task c.cell_store.new.task c.args.bytes.now c.loop-left.at
+    c.loop-left.left c.loop-left.done c.if-bytes-done-lt7.end c.pack.result c.loop-left.invariant
+    c.loop-left-test.true low high most ends c.pack.ensures.bytes c.cell_store.ensures.step
+    c.cell_store.ensures.becomes c.cell_store.ensures.carries
+
+pub advance-requires-clause-idle : goal.advance-requires-clause-idle
+advance-requires-clause-idle g c = idle_still (write_end c.args.pipe) c.args.task.now c.loop-left.task
+    c.loop-left.invariant.same c.requires.idle
+
+pub advance-requires-clause-still : goal.advance-requires-clause-still
+advance-requires-clause-still g c = subst (λ (k : ℕ). IsOpen (end_at k c.loop-left.task))
+    (sym (add-zero (PIPE_ENDS * c.args.pipe))) c.loop-left.invariant.midway.still
+
+pub advance-requires-clause-count : goal.advance-requires-clause-count
+advance-requires-clause-count g c = subst (λ (k : ℕ). c.loop-left.at ≡ length (end_at k c.loop-left.task).cells
+    % word_counts) (sym (add-zero (PIPE_ENDS * c.args.pipe))) c.loop-left.invariant.place
+
+pub rouse-requires-clause-idle : goal.rouse-requires-clause-idle
+rouse-requires-clause-idle g c = set_idle (watch.Var (PIPE_ENDS * c.args.pipe + 0) 0) c.loop-left.task
+    c.advance.new.task (idle_still (write_end c.args.pipe) c.args.task.now c.loop-left.task
+    c.loop-left.invariant.same c.requires.idle) c.advance.ensures.carries
+
+pub returns-clause-moved : goal.returns-clause-moved
+returns-clause-moved g c = fill_ends c.args.pipe c.args.task.now c.loop-left.task c.advance.new.task
+    c.rouse.new.task c.args.bytes.now c.loop-left.at c.loop-left.left c.loop-left.done c.requires.settled
+    c.loop-left.invariant
+    (advanced_write c.args.pipe c.loop-left.task c.advance.new.task c.advance.ensures.becomes)
+    c.rouse.ensures.others c.rouse.ensures.own
+
+pub returns-clause-ended : goal.returns-clause-ended
+returns-clause-ended g c = fill_ended c.args.pipe c.args.task.now c.loop-left.task c.advance.new.task
+    c.rouse.new.task c.args.bytes.now c.loop-left.at c.loop-left.left c.loop-left.done c.loop-left.invariant
+    (advanced_write c.args.pipe c.loop-left.task c.advance.new.task c.advance.ensures.becomes) c.rouse.ensures.own
+
+pub returns-clause-cells : goal.returns-clause-cells
+returns-clause-cells g c = fill_cells c.args.pipe c.args.task.now c.loop-left.task c.advance.new.task
+    c.rouse.new.task c.args.bytes.now c.loop-left.at c.loop-left.left c.loop-left.done c.requires.settled
+    c.loop-left.invariant
+    (advanced_write c.args.pipe c.loop-left.task c.advance.new.task c.advance.ensures.becomes) c.rouse.ensures.own
+
+pub returns-clause-full : goal.returns-clause-full
+returns-clause-full g c = λ few.
+    let none : c.loop-left.left ≡ 0 = elim c.loop-left-test.branch [
+      | then-loop-left-test+else-done-bytes w ↦ let all = w.if-done-bytes in absurd (omega arith)
+      | else-loop-left-test w ↦ let none = w.loop-left-test in omega arith
+    ] in
+    fill_full c.args.pipe c.args.task.now c.loop-left.task c.advance.new.task
+    c.rouse.new.task c.args.bytes.now c.loop-left.at c.loop-left.left c.loop-left.done c.loop-left.invariant
+    (advanced_write c.args.pipe c.loop-left.task c.advance.new.task c.advance.ensures.becomes) c.rouse.ensures.own none
+
+pub returns-clause-rests : goal.returns-clause-rests
+returns-clause-rests g c =
+    let made = c.advance.ensures.step in
+    let passes = subst (LeavesAside c.loop-left.task) (sym made.1)
+    (quiet_publish c.loop-left.task (PIPE_ENDS * c.args.pipe + 0) 0 (2 * c.loop-left.at) made.0) in
+    leaves_made (λ x. x) (write_end c.args.pipe) c.args.task.now c.advance.new.task c.rouse.new.task
+    c.rouse.ensures.up c.requires.idle c.rouse.ensures.idle c.requires.out
+    (c.told.ensures.head ∙ c.requires.idle.free.head)
+    (still_publishes (watch.Var (write_end c.args.pipe) 0) c.args.task.now c.loop-left.task c.advance.new.task
+    c.loop-left.invariant.same (subst (λ (k : ℕ). Carries (publish_change (watch.Var k 0)) c.loop-left.task
+    c.advance.new.task) (add-zero (PIPE_ENDS * c.args.pipe)) c.advance.ensures.carries)) c.rouse.ensures.carries
+    (quiet_on c.args.task.now c.loop-left.task c.rouse.new.task c.loop-left.invariant.quiet
+    (quiet_on c.loop-left.task c.advance.new.task c.rouse.new.task passes c.rouse.ensures.quiet))

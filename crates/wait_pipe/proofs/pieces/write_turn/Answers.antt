@@ -1,0 +1,108 @@
+use Rattle.std.proofs.Common.{◌∙◌, arith}
+use Rattle.wait_rule.specs.Pipes.{write_end}
+use Rattle.wait_pipe.proofs.Fills.{count_place, free_is, other_below, own_below, waited_settled}
+use Rattle.wait_pipe.proofs.PieceChanges.{waits_on}
+use Rattle.wait_pipe.proofs.Turns.{put_broken, put_filled, put_stopped, then_rests}
+use Rattle.wait_pipe.proofs.pieces.write_turn.Goals as goal
+
+pub look_to_write-look-requires-clause-of : goal.look_to_write-look-requires-clause-of
+look_to_write-look-requires-clause-of g c = c.requires.of
+
+pub look_to_write-look-requires-clause-up : goal.look_to_write-look-requires-clause-up
+look_to_write-look-requires-clause-up g c = c.requires.up
+
+pub look_to_write-look-requires-clause-idle : goal.look_to_write-look-requires-clause-idle
+look_to_write-look-requires-clause-idle g c = c.requires.idle
+
+pub look_to_write-look-requires-clause-out : goal.look_to_write-look-requires-clause-out
+look_to_write-look-requires-clause-out g c = c.requires.out
+
+pub look_to_write-look-requires-clause-still : goal.look_to_write-look-requires-clause-still
+look_to_write-look-requires-clause-still g c = c.requires.settled.still
+
+pub returns-then-look-clause-turn : goal.returns-then-look-clause-turn
+returns-then-look-clause-turn g c = put_broken c.args.pipe c.args.task.now c.look_to_write-look.new.task
+    c.look_to_write-look.ensures.waits c.requires.settled (c.look_to_write-look.ensures.seen.ended ∙ c.if-look.true)
+
+pub returns-then-look-clause-rests : goal.returns-then-look-clause-rests
+returns-then-look-clause-rests g c = c.look_to_write-look.ensures.waits.rests
+
+pub between-used-requires-clause-from : goal.between-used-requires-clause-from
+between-used-requires-clause-from g c = other_below c.args.pipe c.look_to_write-look.new.task
+    c.look_to_write-look.result (write_end c.args.pipe) c.look_to_write-look.ensures.seen
+
+pub between-used-requires-clause-to : goal.between-used-requires-clause-to
+between-used-requires-clause-to g c = own_below c.args.pipe c.look_to_write-look.new.task
+    c.look_to_write-look.result (write_end c.args.pipe) c.look_to_write-look.ensures.seen
+
+pub fill-requires-clause-of : goal.fill-requires-clause-of
+fill-requires-clause-of g c = c.look_to_write-look.ensures.waits.rests.carries.domain ∙ c.requires.of
+
+pub fill-requires-clause-up : goal.fill-requires-clause-up
+fill-requires-clause-up g c = c.look_to_write-look.ensures.waits.rests.up
+
+pub fill-requires-clause-idle : goal.fill-requires-clause-idle
+fill-requires-clause-idle g c = c.look_to_write-look.ensures.waits.rests.idle
+
+pub fill-requires-clause-out : goal.fill-requires-clause-out
+fill-requires-clause-out g c = c.look_to_write-look.ensures.waits.rests.out
+
+pub fill-requires-clause-settled : goal.fill-requires-clause-settled
+fill-requires-clause-settled g c = waited_settled (write_end c.args.pipe) c.args.task.now c.look_to_write-look.new.task
+    c.look_to_write-look.ensures.waits c.requires.settled
+
+pub fill-requires-clause-count : goal.fill-requires-clause-count
+unfolding fill-requires-clause-settled
+fill-requires-clause-count g c = count_place c.args.pipe c.look_to_write-look.new.task c.look_to_write-look.result
+    (write_end c.args.pipe) c.look_to_write-look.ensures.seen (fill-requires-clause-settled g c)
+
+pub fill-requires-clause-free : goal.fill-requires-clause-free
+unfolding fill-requires-clause-settled
+fill-requires-clause-free g c = free_is c.args.pipe c.look_to_write-look.new.task c.look_to_write-look.result
+    c.look_to_write-look.ensures.seen (fill-requires-clause-settled g c) c.between-used.result
+    c.between-used.ensures
+
+pub fill-requires-clause-room : goal.fill-requires-clause-room
+fill-requires-clause-room g c = let few = c.if-used-lt-PIPE_CELLS.true in omega arith
+
+pub returns-then-used-lt-PIPE_CELLS-clause-turn : goal.returns-then-used-lt-PIPE_CELLS-clause-turn
+returns-then-used-lt-PIPE_CELLS-clause-turn g c = put_filled c.args.pipe c.args.task.now c.look_to_write-look.new.task
+    c.look_to_write-look.ensures.waits c.requires.settled c.fill.new.task c.args.bytes.now c.fill.result
+    c.fill.ensures.some c.fill.ensures.most c.fill.ensures.moved c.fill.ensures.ended
+    (c.look_to_write-look.ensures.seen.ended ∙ c.if-look.false) c.fill.ensures.cells c.fill.ensures.full
+
+pub returns-then-used-lt-PIPE_CELLS-clause-rests : goal.returns-then-used-lt-PIPE_CELLS-clause-rests
+returns-then-used-lt-PIPE_CELLS-clause-rests g c = then_rests (write_end c.args.pipe) c.args.task.now
+    c.look_to_write-look.new.task c.fill.new.task c.look_to_write-look.ensures.waits c.fill.ensures.rests
+
+pub wait_for-requires-clause-of : goal.wait_for-requires-clause-of
+wait_for-requires-clause-of g c = c.look_to_write-look.ensures.waits.rests.carries.domain ∙ c.requires.of
+
+pub wait_for-requires-clause-up : goal.wait_for-requires-clause-up
+wait_for-requires-clause-up g c = c.look_to_write-look.ensures.waits.rests.up
+
+pub wait_for-requires-clause-idle : goal.wait_for-requires-clause-idle
+wait_for-requires-clause-idle g c = c.look_to_write-look.ensures.waits.rests.idle
+
+pub wait_for-requires-clause-out : goal.wait_for-requires-clause-out
+wait_for-requires-clause-out g c = c.look_to_write-look.ensures.waits.rests.out
+
+pub wait_for-requires-clause-own : goal.wait_for-requires-clause-own
+wait_for-requires-clause-own g c = let few = c.requires.pipe in omega arith
+
+pub returns-in-Ok-clause-turn : goal.returns-in-Ok-clause-turn
+returns-in-Ok-clause-turn g c = waits_on (write_end c.args.pipe) c.args.task.now
+    c.look_to_write-look.new.task c.wait_for.new.task c.look_to_write-look.ensures.waits c.wait_for.ensures.waits
+
+pub returns-in-Ok-clause-rests : goal.returns-in-Ok-clause-rests
+returns-in-Ok-clause-rests g c = (waits_on (write_end c.args.pipe) c.args.task.now
+    c.look_to_write-look.new.task c.wait_for.new.task c.look_to_write-look.ensures.waits c.wait_for.ensures.waits).rests
+
+pub returns-in-Err-clause-turn : goal.returns-in-Err-clause-turn
+returns-in-Err-clause-turn g c = put_stopped c.args.pipe c.args.task.now c.look_to_write-look.new.task
+    c.look_to_write-look.ensures.waits c.requires.settled c.wait_for.new.task c.in-Err.end c.wait_for.ensures.waits
+    c.in-Err.ensures.cause
+
+pub returns-in-Err-clause-rests : goal.returns-in-Err-clause-rests
+returns-in-Err-clause-rests g c = (waits_on (write_end c.args.pipe) c.args.task.now
+    c.look_to_write-look.new.task c.wait_for.new.task c.look_to_write-look.ensures.waits c.wait_for.ensures.waits).rests

@@ -1,0 +1,13 @@
+//! Bounded pipes of bytes between tasks on real threads: a task that finds no cell free, or none there, waits for the
+//! variable of the other end, and one that passes cells on wakes who waits for its own.
+#![tactic(auto)]
+
+mod cells;
+pub mod ends;
+mod looks;
+pub mod pieces;
+#[cfg(test)]
+mod tests;
+
+pub use ends::{close_read, close_write, open_read, open_write};
+pub use pieces::{PipeEnd, read_piece, write_piece};

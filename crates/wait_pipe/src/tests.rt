@@ -1,0 +1,7 @@
+//! Pipes: tasks on one thread, and a writer and a reader in threads. The tests stand on the contracts of the calls
+//! alone.
+
+mod alone;
+mod calls;
+mod full_pieces;
+mod streams;

@@ -1,0 +1,5 @@
+use Rattle.flow_copy.specs.Work.{Apart}
+use Rattle.flow_copy.proofs.parts.lock_counted.Given as goal
+
+abbrev pub invariant-loop : goal.invariant-loop
+invariant-loop g l = Apart l.fn.task l.task

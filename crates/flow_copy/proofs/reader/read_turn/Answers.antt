@@ -1,0 +1,95 @@
+use Rattle.std.proofs.Common.{◌∙◌, sym, subst, take, arith}
+use Rattle.std.specs.Prelude.{◌+◌, Some}
+use Rattle.flow_copy.specs.declared.stop.Stop.{Stop}
+use Rattle.flow_copy.specs.declared.stop.Stop.TheVariants as stop
+use Rattle.flow_copy.specs.Turns.{Reading}
+use Rattle.flow_copy.proofs.ReaderTurns.{
+  given_length,
+  given_none,
+  prepend_none,
+  read_halted,
+  read_long,
+  read_nothing,
+  read_on,
+  source_ended,
+}
+use Rattle.flow_copy.proofs.reader.read_turn.Goals as goal
+
+pub returns-then-is_killed : goal.returns-then-is_killed
+returns-then-is_killed g c = record {
+  turn = read_nothing c.args.task.now c.is_killed.new.task (g.S.Source.left c.args.source.now)
+      (g.S.Source.left c.args.source.now) (g.S.Source.faults c.args.source.now) (g.S.Source.faults c.args.source.now)
+      c.args.read.now c.args.plan.now c.requires.settled c.is_killed.ensures.apart
+      (prepend_none (g.S.Source.left c.args.source.now)) (omega arith) stop.Killed c.requires.short tt
+      c.if-is_killed.ensures.killed;
+}
+
+pub returns-in-Err : goal.returns-in-Err
+returns-in-Err g c = record {
+  turn = read_nothing c.args.task.now c.is_killed.new.task (g.S.Source.left c.args.source.now)
+      (g.S.Source.left c.read.new.self) (g.S.Source.faults c.args.source.now) (g.S.Source.faults c.read.new.self)
+      c.args.read.now c.args.plan.now c.requires.settled c.is_killed.ensures.apart
+      (sym c.in-Err.ensures.nothing ∙ prepend_none (g.S.Source.left c.read.new.self)) c.read.ensures.later
+      stop.ReadFault c.requires.short tt c.in-Err.ensures.cause;
+}
+
+pub returns-then-taken-eq0 : goal.returns-then-taken-eq0
+returns-then-taken-eq0 g c =
+    let left = given_none (g.S.Source.left c.args.source.now) (g.S.Source.left c.read.new.self) c.read.new.buf
+    c.in-Ok.taken c.in-Ok.ensures.bytes c.if-taken-eq0.true in
+    record {
+      turn = read_nothing c.args.task.now c.is_killed.new.task (g.S.Source.left c.args.source.now)
+          (g.S.Source.left c.read.new.self) (g.S.Source.faults c.args.source.now) (g.S.Source.faults c.read.new.self)
+          c.args.read.now c.args.plan.now c.requires.settled c.is_killed.ensures.apart left c.read.ensures.later
+          stop.Finished c.requires.short (source_ended (g.S.Source.left c.args.source.now)
+          (g.S.Source.left c.read.new.self) left (c.in-Ok.ensures.end c.if-taken-eq0.true (omega arith))) tt;
+    }
+
+pub returns-then-read-gt-LONGEST : goal.returns-then-read-gt-LONGEST
+returns-then-read-gt-LONGEST g c =
+    let fits = c.in-Ok.ensures.fits in
+    let same = c.read.auto.buf in
+    let s = c.send_due.ensures in
+    record {
+      turn = read_long c.args.task.now c.is_killed.new.task c.send_due.new.task (g.S.Source.left c.args.source.now)
+          (g.S.Source.left c.read.new.self) (g.S.Source.faults c.args.source.now) (g.S.Source.faults c.read.new.self)
+          c.args.read.now _ c.args.plan.now c.args.targets (take c.in-Ok.taken c.read.new.buf) c.requires.settled
+          c.is_killed.ensures.apart c.in-Ok.ensures.bytes c.read.ensures.later
+          (given_length c.read.new.buf c.in-Ok.taken c.args.read.now (omega arith))
+          (record { works = s.works; ends = s.ends; sums = s.sums; signals = s.signals })
+          c.if-read-gt-LONGEST.true;
+    }
+
+pub returns-in-Ok-hand_on : goal.returns-in-Ok-hand_on
+returns-in-Ok-hand_on g c =
+    let fits = c.in-Ok.ensures.fits in
+    let same = c.read.auto.buf in
+    let s = c.send_due.ensures in
+    record {
+      turn = read_on c.args.task.now c.is_killed.new.task c.send_due.new.task (g.S.Source.left c.args.source.now)
+          (g.S.Source.left c.read.new.self) (g.S.Source.faults c.args.source.now) (g.S.Source.faults c.read.new.self)
+          c.args.read.now _ c.args.plan.now c.args.targets (take c.in-Ok.taken c.read.new.buf) c.requires.settled
+          c.is_killed.ensures.apart c.in-Ok.ensures.bytes c.read.ensures.later
+          (given_length c.read.new.buf c.in-Ok.taken c.args.read.now (omega arith))
+          (record { works = s.works; ends = s.ends; sums = s.sums; signals = s.signals })
+          c.hand_on.new.task c.if-read-gt-LONGEST.false c.in-Ok-hand_on.ensures.handed;
+    }
+
+pub returns-in-Err-hand_on : goal.returns-in-Err-hand_on
+returns-in-Err-hand_on g c =
+    let fits = c.in-Ok.ensures.fits in
+    let same = c.read.auto.buf in
+    let s = c.send_due.ensures in
+    record {
+      turn = subst (λ (how : Stop). Reading c.args.task.now c.hand_on.new.task (g.S.Source.left c.args.source.now)
+          (g.S.Source.left c.read.new.self) (g.S.Source.faults c.args.source.now) (g.S.Source.faults c.read.new.self)
+          c.args.read.now (c.args.read.now + c.in-Ok.taken) c.args.plan.now (Some how)) (sym c.stop_of.ensures)
+          (read_halted c.args.task.now c.is_killed.new.task c.send_due.new.task
+          (g.S.Source.left c.args.source.now) (g.S.Source.left c.read.new.self) (g.S.Source.faults c.args.source.now)
+          (g.S.Source.faults c.read.new.self) c.args.read.now (c.args.read.now + c.in-Ok.taken) c.args.plan.now
+          c.args.targets (take c.in-Ok.taken c.read.new.buf) c.requires.settled c.is_killed.ensures.apart
+          c.in-Ok.ensures.bytes
+          c.read.ensures.later (given_length c.read.new.buf c.in-Ok.taken c.args.read.now (omega arith))
+          (record { works = s.works; ends = s.ends; sums = s.sums; signals = s.signals })
+          c.hand_on.new.task c.if-read-gt-LONGEST.false c.in-Err-hand_on.halt c.in-Err-hand_on.ensures.handed);
+    }

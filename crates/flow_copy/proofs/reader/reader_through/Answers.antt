@@ -1,0 +1,48 @@
+use Rattle.wait_rule.specs.Pipes.{write_end}
+use Rattle.flow_copy.specs.declared.TheConstants.{SOURCE_PIPE}
+use Rattle.flow_copy.proofs.Ends.{Closes, Opens, closes, fails, idler_works, opens}
+use Rattle.flow_copy.proofs.ReaderEnds.{reader_did, reader_fails, still_settled}
+use Rattle.flow_copy.proofs.reader.reader_through.Goals as goal
+
+pub returns-then-not-open_write : goal.returns-then-not-open_write
+returns-then-not-open_write g c = record {
+  did = reader_fails c.args.task.now c.open_write.new.task (g.S.Source.left c.args.source.now)
+      (g.S.Source.faults c.args.source.now) c.args.plan.now c.requires.idler
+      (fails (write_end SOURCE_PIPE) c.open_write.ensures.step.0 c.open_write.result c.args.task.now
+      c.open_write.new.task c.open_write.ensures.step.1.0 c.open_write.ensures.carries
+      (idler_works c.args.task.now c.requires.idler) c.if-not-open_write.true c.open_write.ensures.step.1.1
+      c.open_write.ensures.becomes);
+}
+
+pub send_due-requires-clause-work : goal.send_due-requires-clause-work
+send_due-requires-clause-work g c =
+    let o : Opens (write_end SOURCE_PIPE) c.args.task.now c.open_write.new.task
+    = opens (write_end SOURCE_PIPE) c.open_write.ensures.step.0 c.open_write.result c.args.task.now
+    c.open_write.new.task c.open_write.ensures.step.1.0 c.open_write.ensures.carries
+    (idler_works c.args.task.now c.requires.idler) c.if-not-open_write.false c.open_write.ensures.becomes in
+    o.work
+
+pub read_on-stop-requires-clause-settled : goal.read_on-stop-requires-clause-settled
+read_on-stop-requires-clause-settled g c = still_settled c.open_write.new.task c.send_due.new.task
+    (c.open_write.ensures.opened c.if-not-open_write.false) c.send_due.ensures.ends
+
+pub returns : goal.returns
+returns g c =
+    let o : Opens (write_end SOURCE_PIPE) c.args.task.now c.open_write.new.task
+    = opens (write_end SOURCE_PIPE) c.open_write.ensures.step.0 c.open_write.result c.args.task.now
+    c.open_write.new.task c.open_write.ensures.step.1.0 c.open_write.ensures.carries
+    (idler_works c.args.task.now c.requires.idler) c.if-not-open_write.false c.open_write.ensures.becomes in
+    let s = c.send_due.ensures in
+    let t = c.read_on-stop.ensures.turns in
+    let q : Closes (write_end SOURCE_PIPE) c.read_on-stop.new.task c.close_write.new.task
+    = closes (write_end SOURCE_PIPE) c.read_on-stop.new.task c.close_write.new.task t.works.work
+    c.close_write.ensures.own c.close_write.ensures.others c.close_write.ensures.ends in
+    record {
+      did = reader_did c.args.task.now c.open_write.new.task c.send_due.new.task c.read_on-stop.new.task
+          c.close_write.new.task (g.S.Source.left c.args.source.now) (g.S.Source.left c.read_on-stop.new.source)
+          (g.S.Source.faults c.args.source.now) (g.S.Source.faults c.read_on-stop.new.source)
+          c.read_on-stop.new.read c.args.plan.now c.args.targets o
+          (record { works = s.works; ends = s.ends; sums = s.sums; signals = s.signals }) c.read_on-stop.result t q
+          c.requires.idler c.count_due-sent.result.0 c.count_due-sent.result.1 c.count_due-sent.ensures.sent
+          c.count_due-sent.ensures.kills;
+    }

@@ -1,0 +1,18 @@
+use Rattle.std.proofs.Common.{arith}
+use Rattle.std.specs.Prelude.{None, Some}
+use Rattle.flow_copy.proofs.Relays.{relaying_none, relaying_then}
+use Rattle.flow_copy.proofs.relay.relay_on.Goals as goal
+
+pub loop-init : goal.loop-init
+loop-init g c = relaying_none c.args.task.now 0 (omega arith) c.requires.work c.requires.tap c.requires.pen
+
+pub loop-preserved : goal.loop-preserved
+loop-preserved g c = relaying_then c.args.task.now c.loop.task c.relay_turn.new.task 0 c.loop.moved
+    c.relay_turn.new.moved None c.loop.invariant c.in_default.ensures.turn
+
+pub returns-in-Some-relay_turn : goal.returns-in-Some-relay_turn
+returns-in-Some-relay_turn g c = record {
+  turns = relaying_then c.args.task.now c.loop.task c.relay_turn.new.task 0
+      c.loop.moved c.relay_turn.new.moved (Some c.in-Some-relay_turn.stop) c.loop.invariant
+      c.in-Some-relay_turn.ensures.turn;
+}

@@ -1,0 +1,6 @@
+use Rattle.std.specs.Prelude.{None}
+use Rattle.flow_copy.specs.Turns.{Relaying}
+use Rattle.flow_copy.proofs.relay.relay_on.Given as goal
+
+abbrev pub invariant-loop : goal.invariant-loop
+invariant-loop g l = Relaying l.initial.task l.task 0 l.moved None

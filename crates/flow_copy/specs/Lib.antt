@@ -1,0 +1,6 @@
+pub mod Stops
+pub mod Plans
+pub mod Work
+pub mod Turns
+pub mod Did
+pub mod Copied

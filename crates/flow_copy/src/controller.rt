@@ -1,0 +1,61 @@
+//! The task that waits for the workers.
+
+ghost use Rattle.std.specs.Prelude.{◌≡◌, IfErr};
+ghost use Rattle.flow_copy.specs.Copied.{ControlEnds, Controlled, IsControlEnd};
+ghost use Rattle.flow_copy.specs.Did.{IsIdler};
+
+use crate::{COUNTED_PAGE, ENDED_CELL};
+use bit_wait::BitEnd;
+use completion_cell::await_calls::wait_for;
+use page_lock::{add_tally, lock_page, unlock_page};
+use std::sync::Wait;
+use wait_event::wait_events::WaitEnd;
+use wait_model::tasks::SleepState;
+use wait_rule::{Domain, Task};
+
+/// How many workers a copy has.
+const WORKERS: u8 = 3;
+
+/// Waits, uninterruptibly, until each of the three workers has completed `ENDED_CELL`, and then reads the tally of page
+/// `COUNTED_PAGE` while it keeps the page: it answers what it found there. Worn: a wait found no place; Interrupted
+/// never comes. The task owes nothing, and so it is afterwards.
+pub fn controller_task<R: Wait>(rt: &R, domain: &Domain, task: &mut Task) -> Result<u64, BitEnd>
+    requires of { task.old.domain ≡ domain.now }
+    requires idler { IsIdler task.old }
+    ensures controlled { Controlled task.old task.new }
+    ensures ends { ControlEnds task.old task.new result }
+{
+    for _ in 0..WORKERS {
+        await_one(rt, domain, task)?;
+    }
+    read_tally(rt, domain, task)
+}
+
+/// Waits until one more worker has ended.
+fn await_one<R: Wait>(rt: &R, domain: &Domain, task: &mut Task) -> Result<(), BitEnd>
+    requires of { task.old.domain ≡ domain.now }
+    requires idler { IsIdler task.old }
+    ensures controlled { Controlled task.old task.new }
+    ensures cause { IfErr result (IsControlEnd task.new) }
+{
+    match wait_for(rt, domain, task, ENDED_CELL, SleepState::Uninterruptible) {
+        Ok(()) => Ok(()),
+        Err(WaitEnd::Worn { head, place }) => Err(BitEnd::Worn { head, place }),
+        Err(WaitEnd::Signal { seen, .. }) => Err(BitEnd::Interrupted { seen }),
+    }
+}
+
+/// Locks the page, and reads its tally.
+fn read_tally<R: Wait>(rt: &R, domain: &Domain, task: &mut Task) -> Result<u64, BitEnd>
+    requires of { task.old.domain ≡ domain.now }
+    requires idler { IsIdler task.old }
+    ensures controlled { Controlled task.old task.new }
+    ensures ends { ControlEnds task.old task.new result }
+{
+    task.told();
+    lock_page(rt, domain, task, COUNTED_PAGE, SleepState::Uninterruptible)?;
+    let total = add_tally(domain, task, COUNTED_PAGE, 0);
+    task.told();
+    unlock_page(rt, domain, task, COUNTED_PAGE);
+    Ok(total)
+}

@@ -1,0 +1,224 @@
+//! The whole copy.
+
+ghost use Rattle.std.specs.Prelude.{◌≡◌, ◌≤◌, ◌+◌, ◌-◌, ◌%◌, ◌^◌, length};
+ghost use Rattle.wait_model.specs.declared.layout.TheConstants.{TASKS};
+ghost use Rattle.wait_rule.specs.Aside.{GrowsAside};
+ghost use Rattle.wait_rule.specs.Journals.{left_with};
+ghost use Rattle.wait_rule.specs.Says.{IsClean, IsShown, newcomer, seen_with};
+ghost use Rattle.wait_rule.specs.TallyLaws.{tally_in};
+ghost use Rattle.flow_copy.specs.declared.TheConstants.{COUNTED_PAGE, SIGNALS};
+ghost use Rattle.flow_copy.specs.declared.stop.Stop.TheVariants as stop;
+ghost use Rattle.flow_copy.specs.Copied.{Copied, HoldsAll, HoldsGiven, NoneTaken, ReadTally};
+ghost use Rattle.flow_copy.specs.Copied.{control_stop, copy_stop, first_or, is_of, joined_four};
+
+use crate::COUNTED_PAGE;
+use crate::gate::Gate;
+use crate::plan::Planned;
+use crate::stop::{ReaderEnd, Stop, WorkerEnd};
+use crate::workers::four_at_once;
+use bit_wait::BitEnd;
+use edge_io::{Sink, Source};
+use page_lock::{add_tally, try_lock_page, unlock_page};
+use std::sync::Wait;
+use std::thread::Threads;
+use wait_rule::{Domain, Task};
+
+/// What a copy left: the source and the sink, how each worker ended, the sum of what they counted, modulo 2^64, and how
+/// the copy ended.
+#[derive(Drop)]
+pub struct CopyEnd<S, K> {
+    pub source: S,
+    pub sink: K,
+    pub reader: ReaderEnd,
+    pub relay: WorkerEnd,
+    pub writer: WorkerEnd,
+    pub moved: u64,
+    pub stop: Stop,
+}
+
+/// A task with the next number, which may give out none.
+fn fork_one(domain: &Domain, task: &mut Task) -> Task
+    requires of { task.old.domain ≡ domain.now }
+    requires room { 1 ≤ task.old.view.spare }
+    ensures new { result ≡ newcomer domain.now task.old.view.next (task.old.view.next + 1) 0 }
+    ensures old { task.new ≡ seen_with task.old (left_with 0 task.old.view) }
+{
+    let Ok(new) = task.fork(domain, 0) else {
+        unreachable!();
+    };
+    new
+}
+
+/// The four tasks of a copy, with the next numbers.
+fn fork_four(domain: &Domain, task: &mut Task) -> (Task, Task, Task, Task)
+    requires fresh { task.old ≡ newcomer domain.now 0 1 (TASKS - 1) }
+    ensures one { result.0 ≡ newcomer domain.now 1 2 0 }
+    ensures two { result.1 ≡ newcomer domain.now 2 3 0 }
+    ensures three { result.2 ≡ newcomer domain.now 3 4 0 }
+    ensures four { result.3 ≡ newcomer domain.now 4 5 0 }
+    ensures rest { task.new ≡ newcomer domain.now 0 5 (TASKS - 5) }
+{
+    let one = fork_one(domain, task);
+    let two = fork_one(domain, task);
+    let three = fork_one(domain, task);
+    let four = fork_one(domain, task);
+    (one, two, three, four)
+}
+
+/// Takes in the histories of the four.
+fn join_four(domain: &Domain, task: &mut Task, one: Task, two: Task, three: Task, four: Task)
+    requires of { (task.old.domain ≡ domain.now) × ((one.domain ≡ domain.now) × ((two.domain ≡ domain.now)
+        × ((three.domain ≡ domain.now) × (four.domain ≡ domain.now)))) }
+    requires clean { IsClean one × (IsClean two × (IsClean three × IsClean four)) }
+    ensures joined { task.new
+        ≡ seen_with task.old (joined_four task.old.view one.view two.view three.view four.view) }
+    ensures law { IsShown task.new.view }
+{
+    task.join(domain, one);
+    task.join(domain, two);
+    task.join(domain, three);
+    task.join(domain, four);
+}
+
+/// Reads the tally of the page of the copy, once its workers are joined. Nobody keeps the page then, so the first
+/// test-and-set takes it.
+fn read_moved<R: Wait>(rt: &R, domain: &Domain, task: &mut Task) -> u64
+    requires of { task.old.domain ≡ domain.now }
+    requires clean { IsClean task.old }
+    ensures clean { IsClean task.new }
+    ensures reads { ReadTally task.old task.new result }
+    ensures aside { GrowsAside task.old task.new }
+{
+    for _ in rt.forever() {
+        if try_lock_page(domain, task, COUNTED_PAGE) {
+            let moved = add_tally(domain, task, COUNTED_PAGE, 0);
+            unlock_page(rt, domain, task, COUNTED_PAGE);
+            return moved;
+        }
+    }
+    unreachable!()
+}
+
+/// The stop of a controller, as that of a worker.
+fn control_stop(total: &Result<u64, BitEnd>) -> Stop
+    ensures { result ≡ control_stop total.now }
+{
+    match *total {
+        Err(BitEnd::Worn { head, place }) => Stop::Worn { head, place },
+        Err(BitEnd::Interrupted { .. }) | Ok(_) => Stop::Finished,
+    }
+}
+
+/// A kind of stop that a copy names wherever one of its tasks stopped so.
+#[derive(Clone, Copy, Debug, PartialEq, Eq, Drop)]
+enum Kind {
+    Memory,
+    Worn,
+    ReadFault,
+    WriteFault,
+    Long,
+}
+
+/// Whether a stop is of a kind.
+fn is_of(kind: Kind, stop: Stop) -> bool
+    ensures { result ≡ is_of kind stop }
+{
+    match kind {
+        Kind::Memory => matches!(stop, Stop::Memory),
+        Kind::Worn => matches!(stop, Stop::Worn { .. }),
+        Kind::ReadFault => matches!(stop, Stop::ReadFault),
+        Kind::WriteFault => matches!(stop, Stop::WriteFault),
+        Kind::Long => matches!(stop, Stop::Long),
+    }
+}
+
+/// The first of the stops that is of a kind, or else another.
+fn first_or(kind: Kind, stops: [Stop; 4], other: Stop) -> Stop
+    ensures { result ≡ first_or kind stops other }
+{
+    for stop in &stops {
+        if is_of(kind, *stop) {
+            return *stop;
+        }
+    }
+    other
+}
+
+/// How a copy ended, by how its tasks did, and how many kills were sent.
+fn copy_stop(stops: [Stop; 4], kills: u8) -> Stop
+    ensures { result ≡ copy_stop stops kills }
+{
+    let none = if kills == 0 {
+        Stop::Finished
+    } else {
+        Stop::Killed
+    };
+    let long = first_or(Kind::Long, stops, none);
+    let unwritten = first_or(Kind::WriteFault, stops, long);
+    let unread = first_or(Kind::ReadFault, stops, unwritten);
+    let worn = first_or(Kind::Worn, stops, unread);
+    first_or(Kind::Memory, stops, worn)
+}
+
+/// Copies a source into a sink through two pipes, by a reader, a relay and a writer in threads of their own, and a
+/// controller that waits for them (`reader_task`, `relay_task`, `writer_task`, `controller_task`).
+///
+/// The task is the first of its Domain, has made no step and given no number out. Afterwards it owes nothing, and has
+/// the histories of the four. The sink holds a front of what the source gave, whatever happened. `moved` is the sum of
+/// all that was counted. `stop` is the first of Memory, Worn, ReadFault, WriteFault, Long that is the stop of a worker,
+/// or, of Worn, that of the controller; else Killed, exactly where a fatal signal that was planned was sent; else
+/// Finished. Where it is Finished all three workers have finished, the source was read to its end, and the sink holds
+/// all its bytes. No worker stops as Taken.
+///
+/// Where the machine gives no second thread a copy that is larger than a pipe may wait for ever.
+pub fn copy_all<
+    R: Threads + Wait + Sync,
+    S: Source + Send + Drop,
+    K: Sink + Send + Drop,
+    G: Gate + Sync,
+>(
+    rt: &R,
+    domain: &Domain,
+    task: &mut Task,
+    source: S,
+    sink: K,
+    plan: &[Planned],
+    gate: &G,
+) -> CopyEnd<S, K>
+    requires fresh { task.old ≡ newcomer domain.now 0 1 (TASKS - 1) }
+    requires few { length plan.now ≤ SIGNALS }
+    ensures copied { Copied domain.now task.new (S.left source) (S.left result.source) (S.faults source)
+        (S.faults result.source) (K.held sink) (K.held result.sink) (K.faults sink) (K.faults result.sink)
+        (K.wants sink) (K.wants result.sink) plan.now result.reader result.relay result.writer result.stop }
+    ensures front { HoldsGiven (S.left source) (S.left result.source) (K.held sink) (K.held result.sink) }
+    ensures whole { result.stop ≡ stop.Finished → HoldsAll (S.left source) (K.held sink) (K.held result.sink)
+        result.reader result.relay result.writer result.moved }
+    ensures moved { result.moved ≡ tally_in COUNTED_PAGE task.new.view % 2 ^ 64 }
+    ensures none_taken { NoneTaken result.reader result.relay result.writer }
+    ensures clean { IsClean task.new }
+{
+    let tasks = fork_four(domain, task);
+    let targets = [tasks.0.number(), tasks.1.number(), tasks.2.number()];
+    let (read, (relayed, (written, counted))) = four_at_once(
+        rt, domain, tasks, source, sink, plan, targets, gate,
+    );
+    let (one, source, reader) = read;
+    let (two, relay) = relayed;
+    let (three, sink, writer) = written;
+    let (four, total) = counted;
+    join_four(domain, task, one, two, three, four);
+    let moved = read_moved(rt, domain, task);
+    let stop = copy_stop(
+        [reader.stop, relay.stop, writer.stop, control_stop(&total)],
+        reader.kills,
+    );
+    CopyEnd {
+        source,
+        sink,
+        reader,
+        relay,
+        writer,
+        moved,
+        stop,
+    }
+}

@@ -1,0 +1,155 @@
+//! The worker that reads the source.
+
+ghost use Rattle.std.specs.Prelude.{◌≡◌, ◌≤◌, Some, length};
+ghost use Rattle.wait_rule.specs.PipeSays.{writing};
+ghost use Rattle.wait_pipe.specs.Pieces.{IsSettled};
+ghost use Rattle.flow_copy.specs.declared.TheConstants.{LONGEST, SIGNALS, SOURCE_PIPE};
+ghost use Rattle.flow_copy.specs.Did.{IsIdler, ReaderDid, ReaderWorked};
+ghost use Rattle.flow_copy.specs.Turns.{Reading};
+ghost use Rattle.flow_copy.specs.Work.{IsAtWork};
+
+use crate::gate::{Gate, Who};
+use crate::parts::{hand_on, is_killed};
+use crate::plan::{Planned, count_due, send_due};
+use crate::stop::{NOT_READ, ReaderEnd, Stop, stop_of};
+use crate::{ENDED_CELL, LONGEST, PIECE, SOURCE_PIPE};
+use completion_cell::completes::complete;
+use edge_io::Source;
+use std::sync::Wait;
+use wait_pipe::{close_write, open_write};
+use wait_rule::{Domain, Task};
+
+/// A turn: takes the own signals, reads a piece, sends the signals that are due then, and puts the piece into the first
+/// pipe. `read` is how many bytes the source has given. None where the reader goes on.
+fn read_turn<R: Wait, S: Source>(
+    rt: &R,
+    domain: &Domain,
+    task: &mut Task,
+    source: &mut S,
+    plan: &[Planned],
+    targets: [u8; 3],
+    read: &mut u64,
+) -> Option<Stop>
+    requires of { task.old.domain ≡ domain.now }
+    requires work { IsAtWork task.old }
+    requires settled { IsSettled (writing SOURCE_PIPE task.old) }
+    requires short { read.old ≤ LONGEST }
+    ensures turn { Reading task.old task.new (S.left source.old) (S.left source.new) (S.faults source.old)
+        (S.faults source.new) read.old read.new plan.now result }
+{
+    if is_killed(domain, task) {
+        return Some(Stop::Killed);
+    }
+    let mut buf = [0; PIECE];
+    let taken = match source.read(&mut buf) {
+        Ok(taken) => taken,
+        Err(_) => return Some(Stop::ReadFault),
+    };
+    if taken == 0 {
+        return Some(Stop::Finished);
+    }
+    let before = *read;
+    *read = before + taken as u64;
+    send_due(rt, domain, task, plan, targets, before + 1, *read);
+    if *read > LONGEST {
+        return Some(Stop::Long);
+    }
+    match hand_on(rt, domain, task, SOURCE_PIPE, &buf[..taken]) {
+        Ok(()) => None,
+        Err(halt) => Some(stop_of(halt)),
+    }
+}
+
+/// Turns up to a stop.
+fn read_on<R: Wait, S: Source, G: Gate>(
+    rt: &R,
+    domain: &Domain,
+    task: &mut Task,
+    source: &mut S,
+    plan: &[Planned],
+    targets: [u8; 3],
+    gate: &G,
+    read: &mut u64,
+) -> Stop
+    requires of { task.old.domain ≡ domain.now }
+    requires work { IsAtWork task.old }
+    requires settled { IsSettled (writing SOURCE_PIPE task.old) }
+    requires short { read.old ≤ LONGEST }
+    ensures turns { Reading task.old task.new (S.left source.old) (S.left source.new) (S.faults source.old)
+        (S.faults source.new) read.old read.new plan.now (Some result) }
+{
+    let mut turn: u64 = 0;
+    for _ in rt.forever() {
+        turn = turn.saturating_add(1);
+        gate.pass(Who::Reader, turn);
+        match read_turn(rt, domain, task, source, plan, targets, read) {
+            None => {}
+            Some(stop) => return stop,
+        }
+    }
+    unreachable!()
+}
+
+/// Reads a source to its end, and puts its bytes into pipe `SOURCE_PIPE`, a piece of at most `PIECE` bytes a turn.
+///
+/// The task owes nothing, and so it is afterwards. It opens the write end of the pipe, and stops as Taken exactly where
+/// it was opened before. At the beginning of each turn it passes the gate and takes its own signals: it stops as Killed
+/// where a fatal one was pending, also where one ended a wait of it for the pipe or for the page. After it has opened
+/// its end, and after each read, it sends the planned signals whose offset is at most the number of bytes that the
+/// source has given, each once, in the order of the plan; `targets` are the numbers of the tasks that are reader, relay
+/// and writer. Where more than `LONGEST` bytes were given it stops as Long before it puts the last piece, and where the
+/// source failed as ReadFault. Broken: the read end of the pipe was closed. Worn: a wait found no place. Finished
+/// exactly where the end of the source was read and all went in. After each piece that went in wholly it locks page
+/// `COUNTED_PAGE`, adds the piece's length to its tally, and unlocks it. At its end, for whatever cause, it closes the
+/// end that it opened, and completes `ENDED_CELL`.
+pub fn reader_task<R: Wait, S: Source, G: Gate>(
+    rt: &R,
+    domain: &Domain,
+    task: &mut Task,
+    source: &mut S,
+    plan: &[Planned],
+    targets: [u8; 3],
+    gate: &G,
+) -> ReaderEnd
+    requires of { task.old.domain ≡ domain.now }
+    requires idler { IsIdler task.old }
+    requires few { length plan.now ≤ SIGNALS }
+    ensures did { ReaderDid task.old task.new (S.left source.old) (S.left source.new) (S.faults source.old)
+        (S.faults source.new) plan.now result }
+{
+    let ended = reader_through(rt, domain, task, source, plan, targets, gate);
+    complete(rt, domain, task, ENDED_CELL);
+    ended
+}
+
+/// The work of a reader, from the opening of its end to its closing.
+fn reader_through<R: Wait, S: Source, G: Gate>(
+    rt: &R,
+    domain: &Domain,
+    task: &mut Task,
+    source: &mut S,
+    plan: &[Planned],
+    targets: [u8; 3],
+    gate: &G,
+) -> ReaderEnd
+    requires of { task.old.domain ≡ domain.now }
+    requires idler { IsIdler task.old }
+    requires few { length plan.now ≤ SIGNALS }
+    ensures did { ReaderWorked task.old task.new (S.left source.old) (S.left source.new) (S.faults source.old)
+        (S.faults source.new) plan.now result }
+{
+    if !open_write(domain, task, SOURCE_PIPE) {
+        return NOT_READ;
+    }
+    send_due(rt, domain, task, plan, targets, 0, 0);
+    let mut read = 0;
+    let stop = read_on(rt, domain, task, source, plan, targets, gate, &mut read);
+    close_write(rt, domain, task, SOURCE_PIPE);
+    let (sent, kills) = count_due(plan, read);
+    ReaderEnd {
+        stop,
+        read,
+        sent,
+        kills,
+    }
+}

@@ -1,0 +1,104 @@
+//! The worker between the two pipes.
+
+ghost use Rattle.std.specs.Prelude.{◌≡◌, Some};
+ghost use Rattle.wait_rule.specs.PipeSays.{reading, writing};
+ghost use Rattle.wait_pipe.specs.Pieces.{IsSettled};
+ghost use Rattle.flow_copy.specs.declared.TheConstants.{SINK_PIPE, SOURCE_PIPE};
+ghost use Rattle.flow_copy.specs.Did.{IsIdler, RelayDid, RelayWorked};
+ghost use Rattle.flow_copy.specs.Turns.{Relaying};
+ghost use Rattle.flow_copy.specs.Work.{IsAtWork};
+
+use crate::gate::{Gate, Who};
+use crate::parts::{get, hand_on, is_killed};
+use crate::stop::{NOT_TAKEN, Stop, WorkerEnd, stop_of};
+use crate::{ENDED_CELL, PIECE, SINK_PIPE, SOURCE_PIPE};
+use completion_cell::completes::complete;
+use std::sync::Wait;
+use wait_pipe::{close_read, close_write, open_read, open_write};
+use wait_rule::{Domain, Task};
+
+/// A turn: takes the own signals, takes a piece out of the first pipe, and puts it into the second. `moved` is what the
+/// relay has counted, modulo 2^64. None where it goes on.
+fn relay_turn<R: Wait>(rt: &R, domain: &Domain, task: &mut Task, moved: &mut u64) -> Option<Stop>
+    requires of { task.old.domain ≡ domain.now }
+    requires work { IsAtWork task.old }
+    requires tap { IsSettled (reading SOURCE_PIPE task.old) }
+    requires pen { IsSettled (writing SINK_PIPE task.old) }
+    ensures turn { Relaying task.old task.new moved.old moved.new result }
+{
+    let counted = *moved;
+    if is_killed(domain, task) {
+        return Some(Stop::Killed);
+    }
+    let mut buf = [0; PIECE];
+    let taken = match get(rt, domain, task, SOURCE_PIPE, &mut buf) {
+        Ok(taken) => taken,
+        Err(halt) => return Some(stop_of(halt)),
+    };
+    if taken == 0 {
+        return Some(Stop::Finished);
+    }
+    match hand_on(rt, domain, task, SINK_PIPE, &buf[..taken]) {
+        Ok(()) => {
+            *moved = counted.wrapping_add(taken as u64);
+            None
+        }
+        Err(halt) => Some(stop_of(halt)),
+    }
+}
+
+/// Turns up to a stop.
+fn relay_on<R: Wait, G: Gate>(rt: &R, domain: &Domain, task: &mut Task, gate: &G) -> WorkerEnd
+    requires of { task.old.domain ≡ domain.now }
+    requires work { IsAtWork task.old }
+    requires tap { IsSettled (reading SOURCE_PIPE task.old) }
+    requires pen { IsSettled (writing SINK_PIPE task.old) }
+    ensures turns { Relaying task.old task.new 0 result.moved (Some result.stop) }
+{
+    let mut moved = 0;
+    let mut turn: u64 = 0;
+    for _ in rt.forever() {
+        turn = turn.saturating_add(1);
+        gate.pass(Who::Relay, turn);
+        if let Some(stop) = relay_turn(rt, domain, task, &mut moved) {
+            return WorkerEnd { stop, moved };
+        }
+    }
+    unreachable!()
+}
+
+/// Passes on what comes out of pipe `SOURCE_PIPE` into pipe `SINK_PIPE`, a piece of at most `PIECE` bytes a turn.
+///
+/// The task owes nothing, and so it is afterwards. It opens the read end of the first pipe and the write end of the
+/// second, and stops as Taken exactly where one of them was opened before. Gate, signals, the tally of page
+/// `COUNTED_PAGE`, Killed and Worn are as of `reader_task`. Broken: the read end of the second pipe was closed.
+/// Finished exactly where the write end of the first was closed, all that it sent was taken, and all of that went on.
+/// At its end, for whatever cause, it closes the ends that it opened, and completes `ENDED_CELL`.
+pub fn relay_task<R: Wait, G: Gate>(rt: &R, domain: &Domain, task: &mut Task, gate: &G) -> WorkerEnd
+    requires of { task.old.domain ≡ domain.now }
+    requires idler { IsIdler task.old }
+    ensures did { RelayDid task.old task.new result }
+{
+    let ended = relay_through(rt, domain, task, gate);
+    complete(rt, domain, task, ENDED_CELL);
+    ended
+}
+
+/// The work of a relay, from the opening of its ends to their closing.
+fn relay_through<R: Wait, G: Gate>(rt: &R, domain: &Domain, task: &mut Task, gate: &G) -> WorkerEnd
+    requires of { task.old.domain ≡ domain.now }
+    requires idler { IsIdler task.old }
+    ensures did { RelayWorked task.old task.new result }
+{
+    if !open_read(domain, task, SOURCE_PIPE) {
+        return NOT_TAKEN;
+    }
+    if !open_write(domain, task, SINK_PIPE) {
+        close_read(rt, domain, task, SOURCE_PIPE);
+        return NOT_TAKEN;
+    }
+    let ended = relay_on(rt, domain, task, gate);
+    close_read(rt, domain, task, SOURCE_PIPE);
+    close_write(rt, domain, task, SINK_PIPE);
+    ended
+}

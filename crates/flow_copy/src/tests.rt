@@ -1,0 +1,6 @@
+//! Copies by all four tasks, and each worker alone.
+
+mod alone;
+mod faults;
+mod meeting;
+mod tables;

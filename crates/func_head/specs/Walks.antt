@@ -27,6 +27,7 @@ use Rattle.std.specs.Prelude.{
   None,
 }
 use Rattle.func_head.specs.declared.walks.Turn.{Turn}
+use Rattle.wait_model.specs.declared.layout.TheConstants.{NORMAL}
 use Rattle.wait_model.specs.declared.queues.Walked.{Walked}
 use Rattle.wait_model.specs.declared.queues.End.{End}
 use Rattle.wait_model.specs.declared.queues.End.TheVariants as ends
@@ -130,3 +131,12 @@ Stay [] [] = Unit {0}
 Stay [] (e ∷ es) = ⊥
 Stay (e ∷ es) [] = ⊥
 Stay (old ∷ olds) (new ∷ news) = IsPlaceOf old new × Stay olds news
+
+-- A piece of bytes is shown to all entries by one ordinary wake that has no count, with the piece as its key.
+abbrev pub shown : List ℕ → List EntryState → List EntryState
+shown piece entries = (walk NORMAL 0 piece entries).entries
+
+-- pieces that are shown one after another
+abbrev pub shown_all : List (List ℕ) → List EntryState → List EntryState
+shown_all [] entries = entries
+shown_all (piece ∷ pieces) entries = shown_all pieces (shown piece entries)

@@ -10,6 +10,8 @@ mod head;
 #[cfg(test)]
 mod tests;
 mod walks;
+mod watchers;
 
 pub use head::FuncHead;
 pub use walks::WakeFn;
+pub use watchers::{NoWatchers, Watchers};

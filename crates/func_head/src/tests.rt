@@ -1,4 +1,5 @@
-ghost use Rattle.std.specs.Prelude.{◌+◌, ◌-◌, ◌^◌, ◌∷◌, [], length, min, slice_index};
+ghost use Rattle.std.specs.Prelude.{◌≡◌, ◌+◌, ◌-◌, ◌^◌, ◌∷◌, [], length, min, slice_index};
+ghost use Rattle.func_head.specs.Walks.{shown_all};
 
 use super::*;
 use std::test::Fail;
@@ -140,5 +141,28 @@ fn a_head_is_moved_into_a_thread_and_told_after_it(rt: HostRuntime) -> Result<()
     let (head, others) = thread::join(&rt, move || walk_five_times(head), || 7);
     assert_eq!(rt; (told(&head, 0), others), (15, 7));
     drop(head);
+    Ok(())
+}
+
+/// Shows two pieces to whoever watches.
+fn show_two<W: Watchers>(watch: &mut W, one: &[u8], two: &[u8])
+    ensures { W.entries watch.new ≡ shown_all (one.now ∷ two.now ∷ []) (W.entries watch.old) }
+{
+    watch.show(one);
+    watch.show(two);
+}
+
+#[test]
+fn each_piece_is_shown_to_all_or_to_nobody(rt: HostRuntime) -> Result<(), Fail> {
+    let alloc = rt.alloc();
+    let mut head = FuncHead::new(alloc);
+    for bytes in 0..3 {
+        assert!(rt; head.added() < 9);
+        let func = Box::new(alloc, Counter { answer: 1, bytes })?;
+        assert!(rt; head.add_exclusive(func).is_ok());
+    }
+    show_two(&mut head, b"abc", b"d\n");
+    assert_eq!(rt; (told(&head, 0), told(&head, 1), told(&head, 2)), (5, 6, 7));
+    show_two(&mut NoWatchers, b"abc", b"d\n");
     Ok(())
 }

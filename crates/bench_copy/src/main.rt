@@ -7,6 +7,7 @@ mod ends;
 
 use crate::ends::{Blocks, Count};
 use flow_copy::{CopyEnd, OpenGate, Stop, copy_all};
+use func_head::NoWatchers;
 use std::alloc::Global;
 use std::sync::Wait;
 use std::thread::Threads;
@@ -31,7 +32,7 @@ fn copy<R: Threads + Wait + Sync>(
     alloc: Global,
     looks: u32,
     pieces: u64,
-) -> Option<CopyEnd<Blocks, Count>> {
+) -> Option<CopyEnd<Blocks, Count, NoWatchers>> {
     let Ok((domain, mut task)) = Domain::with_looks(alloc, looks) else {
         return None;
     };
@@ -41,6 +42,7 @@ fn copy<R: Threads + Wait + Sync>(
         &mut task,
         Blocks::new(pieces),
         Count::new(),
+        NoWatchers,
         &[],
         &OpenGate,
     ))

@@ -2,7 +2,7 @@
 use Rattle.std.proofs.Common.{refl, sym, ap, ◌∙◌, subst, arith, inl, inr}
 use Rattle.std.proofs.lemmas.Bool.{false≢true}
 use Rattle.std.specs.Prelude.{ℕ, ◌≡◌, ◌+◌, ◌*◌, ◌<◌, ◌⊎◌, ◌++◌, true, false, List, [], length}
-use Rattle.std.specs.Prelude.{Option, IfSome}
+use Rattle.std.specs.Prelude.{Option, Some, IfSome}
 use Rattle.std.specs.Io.KnownBytes.{append_known}
 use Rattle.atomic_table.specs.Seated.{TableId}
 use Rattle.wait_model.specs.declared.layout.TheConstants.{CLAIMS, PIPES, TASKS}
@@ -20,17 +20,19 @@ use Rattle.wait_rule.specs.Tallies.{amounts_of}
 use Rattle.wait_rule.proofs.KnownLaws.FoundPipes.{joined_deliver, joined_refuse}
 use Rattle.wait_pipe.specs.Pieces.{IsAtEnd}
 use Rattle.edge_io.specs.Faults.{HasRisen}
+use Rattle.func_head.specs.Walks.{EntryState}
 use Rattle.flow_copy.specs.declared.TheConstants.{COUNTED_PAGE, SINK_PIPE, SOURCE_PIPE}
 use Rattle.flow_copy.specs.declared.plan.Planned.{Planned}
 use Rattle.flow_copy.specs.declared.stop.ReaderEnd.{ReaderEnd}
 use Rattle.flow_copy.specs.declared.stop.Stop.{Stop}
 use Rattle.flow_copy.specs.declared.stop.Stop.TheVariants as stop
 use Rattle.flow_copy.specs.declared.stop.WorkerEnd.{WorkerEnd}
-use Rattle.flow_copy.specs.Copied.{AllFinished, Controlled, HoldsGiven, IsNotTaken, NoneTaken}
+use Rattle.flow_copy.specs.Copied.{AllFinished, Controlled, HoldsGiven, IsNotTaken, NoneTaken, Watched}
 use Rattle.flow_copy.specs.Did.{ReaderWorked, Refused, RelayWorked, WriterWorked}
 use Rattle.flow_copy.specs.Plans.{kills_in}
 use Rattle.flow_copy.specs.Stops.{IfFinished, IfTaken}
 use Rattle.flow_copy.specs.Turns.{IsReaderStop, IsRelayStop, IsWriterStop}
+use Rattle.flow_copy.specs.Watched.{Shows}
 use Rattle.flow_copy.specs.Work.{TookKill}
 use Rattle.flow_copy.proofs.JoinedFour.{four, four_has_all, has_one, has_two, has_three, of_each}
 use Rattle.flow_copy.proofs.RaisedNone.{RaisedNone, none_raised, took_none}
@@ -96,12 +98,12 @@ delivers a b c d shown p t u few small low xs ys is_xs is_ys writes reads =
 -- what each of the four did
 module _ (domain : TableId) (one two three fourth : Known) (left_old left_new : Option (List ℕ))
     (reads_old reads_new : ℕ) (held_old held_new : Option (List ℕ)) (writes_old writes_new wants_old wants_new : ℕ)
-    (plan : List Planned)
+    (seen_old seen_new : List EntryState) (plan : List Planned)
     (reader : ReaderEnd) (relay writer : WorkerEnd)
     (reads : ReaderWorked (newcomer domain 1 2 0) one left_old left_new reads_old reads_new plan reader)
     (relays : RelayWorked (newcomer domain 2 3 0) two relay)
     (writes : WriterWorked (newcomer domain 3 4 0) three held_old held_new writes_old writes_new wants_old wants_new
-    writer)
+    seen_old seen_new writer)
     (controls : Controlled (newcomer domain 4 5 0) fourth) where
   abbrev all_lists : Journal
   all_lists = four one.view.items two.view.items three.view.items fourth.view.items
@@ -170,22 +172,30 @@ module _ (domain : TableId) (one two three fourth : Known) (left_old left_new : 
         (has_three one.view.items two.view.items three.view.items fourth.view.items)
         (else_of relay.stop _ _ free.1 relays.taken).1 (else_of writer.stop _ _ free.2 writes.taken)
 
-    pub holds_given : HoldsGiven left_old left_new held_old held_new
-    holds_given = record {
+    pub holds_watched : Watched left_old left_new held_old held_new seen_old seen_new writer.stop
+    holds_watched = record {
       given = reads.given;
+      front = writes.front;
+      rest = _;
       left = reads.left;
-      held = record {
-        front = writes.front;
-        rest = _;
-        whole = in_row reads.given (moved_bytes (writing SOURCE_PIPE one)) (moved_bytes (reading SOURCE_PIPE two))
-            (moved_bytes (writing SINK_PIPE two)) (moved_bytes (reading SINK_PIPE three)) writes.front reads.rest _
-            relays.rest _ writes.rest
-            (reads.parts ∙ ap (λ (xs : List ℕ). xs ++ reads.rest) (sym (else_of reader.stop _ _ free.0 reads.sent)))
-            source_flow.flows (else_of relay.stop _ _ free.1 relays.sent) sink_flow.flows
-            (else_of writer.stop _ _ free.2 writes.got);
-        held = writes.held;
-      };
+      parts = in_row reads.given (moved_bytes (writing SOURCE_PIPE one)) (moved_bytes (reading SOURCE_PIPE two))
+          (moved_bytes (writing SINK_PIPE two)) (moved_bytes (reading SINK_PIPE three)) writes.front reads.rest _
+          relays.rest _ writes.rest
+          (reads.parts ∙ ap (λ (xs : List ℕ). xs ++ reads.rest) (sym (else_of reader.stop _ _ free.0 reads.sent)))
+          source_flow.flows (else_of relay.stop _ _ free.1 relays.sent) sink_flow.flows
+          (else_of writer.stop _ _ free.2 writes.got);
+      held = writes.held;
+      shows = writes.shows;
     }
+
+    pub holds_given : HoldsGiven left_old left_new held_old held_new
+    holds_given =
+        let w = holds_watched in
+        record {
+          given = w.given;
+          left = w.left;
+          held = record { front = w.front; rest = w.rest; whole = w.parts; held = w.held };
+        }
 
     -- no task took a fatal signal where none was sent
     module _ (none : reader.kills ≡ 0) where
@@ -271,9 +281,15 @@ module _ (domain : TableId) (one two three fourth : Known) (left_old left_new : 
         writer_got = relay_got ∙ (passed_all ∙ (sink_flow.all sink_end.ended sink_end.all ∙ got_all))
 
         pub holds_all : IfSome left_old (λ bytes. held_new ≡ append_known held_old bytes)
-        holds_all = gave_all left_old left_new held_old held_new reads.given reads.left
+        holds_all = gave_all (λ bytes. held_new ≡ append_known held_old bytes) left_old left_new reads.given reads.left
             (finished_of reader.stop _ reader_finished reads.whole)
             (writes.held ∙ ap (append_known held_old) (sym writer_got))
+
+        pub shows_all : IfSome left_old (λ bytes. Shows seen_old seen_new bytes (Some stop.Finished))
+        shows_all = gave_all (λ bytes. Shows seen_old seen_new bytes (Some stop.Finished)) left_old left_new reads.given
+            reads.left (finished_of reader.stop _ reader_finished reads.whole)
+            (subst (λ (bytes : List ℕ). Shows seen_old seen_new bytes (Some stop.Finished)) (sym writer_got)
+            (subst (λ (s : Stop). Shows seen_old seen_new writes.front (Some s)) writer_finished writes.shows))
 
         -- and each byte was counted three times
         pub counted_all : amounts_of COUNTED_PAGE one.view.items + amounts_of COUNTED_PAGE two.view.items

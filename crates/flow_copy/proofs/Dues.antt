@@ -1,6 +1,22 @@
 -- Signals of a plan that become due in several steps: those of each step together are those of all.
 use Rattle.std.proofs.Common.{refl, sym, ◌∙◌, ap, subst, arith}
-use Rattle.std.specs.Prelude.{ℕ, ◌≡◌, ◌≤◌, ◌<◌, ◌+◌, ◌&&◌, Bool, true, false, if◌then◌else◌, nat_le, List, [], ◌∷◌, length}
+use Rattle.std.specs.Prelude.{
+  ℕ,
+  ◌≡◌,
+  ◌≤◌,
+  ◌<◌,
+  ◌+◌,
+  ◌&&◌,
+  Bool,
+  true,
+  false,
+  if◌then◌else◌,
+  nat_le,
+  List,
+  [],
+  ◌∷◌,
+  length,
+}
 use Rattle.std.proofs.lemmas.Bool.Decides.{nat_tests}
 use Rattle.wait_model.specs.Words.{flag}
 use Rattle.flow_copy.specs.declared.plan.Planned.{Planned}

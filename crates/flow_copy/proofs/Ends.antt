@@ -1,6 +1,22 @@
 -- What an opening of an end, its closing, and the completion at the end of a worker's work leave of it.
 use Rattle.std.proofs.Common.{refl, sym, ◌∙◌, ap, subst, inl, inr, append-nil, append_assoc, arith}
-use Rattle.std.specs.Prelude.{ℕ, ◌≡◌, ◌++◌, ◌==◌, ◌&&◌, ◌||◌, not, if◌then◌else◌, Bool, true, false, None, List, [], ◌∷◌}
+use Rattle.std.specs.Prelude.{
+  ℕ,
+  ◌≡◌,
+  ◌++◌,
+  ◌==◌,
+  ◌&&◌,
+  ◌||◌,
+  not,
+  if◌then◌else◌,
+  Bool,
+  true,
+  false,
+  None,
+  List,
+  [],
+  ◌∷◌,
+}
 use Rattle.std.proofs.lemmas.Bool.{cases_eq}
 use Rattle.std.proofs.lemmas.Bool.Decides.{nat_tests}
 use Rattle.wait_model.specs.declared.calls.Call.TheVariants as calls

@@ -16,6 +16,7 @@ pub mod RelayEnds
 pub mod Relays
 pub mod Rows
 pub mod Sends
+pub mod Shown
 pub mod StopKinds
 pub mod Stopping
 pub mod Sums

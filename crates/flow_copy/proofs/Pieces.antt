@@ -1,7 +1,24 @@
 -- Pieces that a worker puts into a pipe or takes out of it, one after another, and what ends such a part.
 use Rattle.std.proofs.Common.{refl, sym, ◌∙◌, ap, subst, append-nil, take-add, length-append, arith}
 use Rattle.std.proofs.lemmas.List.{length-take-le, take_all, take-append-drop}
-use Rattle.std.specs.Prelude.{ℕ, ◌≡◌, ◌+◌, ◌-◌, ◌≤◌, ◌++◌, Result, Ok, Err, IfErr, MatchResult, List, [], length, take, drop}
+use Rattle.std.specs.Prelude.{
+  ℕ,
+  ◌≡◌,
+  ◌+◌,
+  ◌-◌,
+  ◌≤◌,
+  ◌++◌,
+  Result,
+  Ok,
+  Err,
+  IfErr,
+  MatchResult,
+  List,
+  [],
+  length,
+  take,
+  drop,
+}
 use Rattle.edge_io.proofs.Known.{take-rest}
 use Rattle.wait_rule.specs.Aside.{Grows}
 use Rattle.wait_rule.specs.Known.{Known}
@@ -14,7 +31,17 @@ use Rattle.flow_copy.specs.declared.stop.Halt.TheVariants as halt
 use Rattle.flow_copy.specs.Turns.{CountedAll, Got, HandedAll, HandedFront}
 use Rattle.flow_copy.specs.Work.{Apart, HaltsBy, IsAtWork, IsHalt, IsOwnHalt}
 use Rattle.flow_copy.proofs.Frames.{piece_works}
-use Rattle.flow_copy.proofs.PartLaws.{halt_before, moved_ends, moved_none, moved_then, sums_counted, sums_then, took_before, works_same, works_then}
+use Rattle.flow_copy.proofs.PartLaws.{
+  halt_before,
+  moved_ends,
+  moved_none,
+  moved_then,
+  sums_counted,
+  sums_then,
+  took_before,
+  works_same,
+  works_then,
+}
 use Rattle.flow_copy.proofs.Stopping.{own_halt}
 
 pub got_none : (k : ℕ) (a : Known) → IsAtWork a → IsSettled (end_at k a) → Got k a a []

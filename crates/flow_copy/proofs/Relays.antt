@@ -15,7 +15,17 @@ use Rattle.flow_copy.specs.declared.stop.Stop.TheVariants as stop
 use Rattle.flow_copy.specs.Stops.{stop_of}
 use Rattle.flow_copy.specs.Turns.{Got, HandedAll, HandedFront, IsRelayStop, Relaying}
 use Rattle.flow_copy.specs.Work.{Apart, IsAtWork, IsHalt, IsOwnHalt, TookKill}
-use Rattle.flow_copy.proofs.PartLaws.{counted_none, counted_same, counted_then, ends_moved, sums_counted, sums_then, took_before, works_same, works_then}
+use Rattle.flow_copy.proofs.PartLaws.{
+  counted_none,
+  counted_same,
+  counted_then,
+  ends_moved,
+  sums_counted,
+  sums_then,
+  took_before,
+  works_same,
+  works_then,
+}
 use Rattle.flow_copy.proofs.Stopping.{finished, halted_whole, own_halt, stopped_map, whole_map}
 use Rattle.flow_copy.proofs.Sums.{sum_none, sum_then}
 

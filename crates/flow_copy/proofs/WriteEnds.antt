@@ -8,6 +8,7 @@ use Rattle.wait_rule.specs.PipeSays.{end_at}
 use Rattle.wait_rule.specs.Says.{OwesNothing, no_excuse}
 use Rattle.wait_rule.specs.Stays.{with_end}
 use Rattle.edge_io.specs.Faults.{HasRisen}
+use Rattle.func_head.specs.Walks.{EntryState}
 use Rattle.wait_pipe.specs.Pieces.{IsAtEnd}
 use Rattle.flow_copy.specs.declared.TheConstants.{SINK_PIPE}
 use Rattle.flow_copy.specs.declared.stop.Stop.{Stop}
@@ -17,6 +18,7 @@ use Rattle.flow_copy.specs.Did.{IsIdler, Refused, WriterDid, WriterWorked}
 use Rattle.flow_copy.specs.Turns.{IsWriterStop, Writing}
 use Rattle.flow_copy.proofs.Ends.{Closes, Finishes, Fails, Opens, end_closed, refused_later, works_idler, worn_later}
 use Rattle.flow_copy.proofs.PartLaws.{counted_none, counted_sums, grows_then, sums_counted, took_later}
+use Rattle.flow_copy.proofs.Shown.{shows_none}
 use Rattle.flow_copy.proofs.Stopping.{finished_both, taken_map, untaken}
 use Rattle.flow_copy.proofs.Writes.{held_same, writer_before}
 
@@ -40,8 +42,9 @@ not_taken : (a b : Known) (f v : Type 0) (how : Stop) → IsWriterStop a b f v h
 not_taken a b f v how is e = subst (IsWriterStop a b f v) e is
 
 -- the end was opened, turns of it went up to a stop, and it was closed
-module _ (a b c d : Known) (o : Opens tap a b) (h0 h1 : Option (List ℕ)) (f0 f1 v0 v1 m : ℕ) (how : Stop)
-    (t : Writing b c h0 h1 f0 f1 v0 v1 0 m (Some how)) (q : Closes tap c d) (idler : IsIdler a) where
+module _ (a b c d : Known) (o : Opens tap a b) (h0 h1 : Option (List ℕ)) (f0 f1 v0 v1 : ℕ)
+    (s0 s1 : List EntryState) (m : ℕ) (how : Stop) (t : Writing b c h0 h1 f0 f1 v0 v1 s0 s1 0 m (Some how))
+    (q : Closes tap c d) (idler : IsIdler a) where
   settled : OwesNothing d
   settled = q.owes no_excuse (t.works.owes (with_end tap no_excuse) (o.owes no_excuse idler.clean.settled))
 
@@ -58,7 +61,7 @@ module _ (a b c d : Known) (o : Opens tap a b) (h0 h1 : Option (List ℕ)) (f0 f
   got_front : t.rest ≡ [] → t.got ≡ t.front
   got_front none = t.parts ∙ (ap (λ l. t.front ++ l) none ∙ append-nil t.front)
 
-  pub writer_did : WriterWorked a d h0 h1 f0 f1 v0 v1 (record { stop = how; moved = m })
+  pub writer_did : WriterWorked a d h0 h1 f0 f1 v0 v1 s0 s1 (record { stop = how; moved = m })
   writer_did = record {
     served = record {
       idler = works_idler d q.work settled;
@@ -72,6 +75,7 @@ module _ (a b c d : Known) (o : Opens tap a b) (h0 h1 : Option (List ℕ)) (f0 f
     front = t.front;
     rest = t.rest;
     held = t.held;
+    shows = t.shows;
     got = untaken how (t.front ≡ []) (moved_bytes (end_at tap d) ≡ t.front ++ t.rest)
         (λ i. absurd (not_taken b c (HasRisen f0 f1) (HasRisen v0 v1) how t.cause i)) tap_moved;
     all = t.all;
@@ -90,9 +94,9 @@ module _ (a b c d : Known) (o : Opens tap a b) (h0 h1 : Option (List ℕ)) (f0 f
 abbrev taken_end : WorkerEnd
 taken_end = record { stop = stop.Taken; moved = 0 }
 
-pub writer_fails : (a b : Known) (h : Option (List ℕ)) (f v : ℕ) → IsIdler a → Fails tap a b
-    → WriterWorked a b h h f f v v taken_end
-writer_fails a b h f v idler o = record {
+pub writer_fails : (a b : Known) (h : Option (List ℕ)) (f v : ℕ) (s : List EntryState) → IsIdler a → Fails tap a b
+    → WriterWorked a b h h f f v v s s taken_end
+writer_fails a b h f v s idler o = record {
   served = record {
     idler = works_idler b o.work (o.owes no_excuse idler.clean.settled);
     domain = o.leaves.domain;
@@ -103,6 +107,7 @@ writer_fails a b h f v idler o = record {
   front = [];
   rest = [];
   held = held_same h;
+  shows = shows_none s (Some stop.Taken);
   got = refl;
   all = tt;
   n = 0;
@@ -116,9 +121,9 @@ writer_fails a b h f v idler o = record {
 }
 
 -- and then the completion
-module _ (a b c : Known) (h0 h1 : Option (List ℕ)) (f0 f1 v0 v1 : ℕ) (w : WorkerEnd)
-    (r : WriterWorked a b h0 h1 f0 f1 v0 v1 w) (k : Finishes b c) where
-  still_worked : WriterWorked a c h0 h1 f0 f1 v0 v1 w
+module _ (a b c : Known) (h0 h1 : Option (List ℕ)) (f0 f1 v0 v1 : ℕ) (s0 s1 : List EntryState) (w : WorkerEnd)
+    (r : WriterWorked a b h0 h1 f0 f1 v0 v1 s0 s1 w) (k : Finishes b c) where
+  still_worked : WriterWorked a c h0 h1 f0 f1 v0 v1 s0 s1 w
   still_worked = record {
     served = record {
       idler = k.idler;
@@ -134,6 +139,7 @@ module _ (a b c : Known) (h0 h1 : Option (List ℕ)) (f0 f1 v0 v1 : ℕ) (w : Wo
     front = r.front;
     rest = r.rest;
     held = r.held;
+    shows = r.shows;
     got = taken_map w.stop (r.front ≡ []) (moved_bytes (end_at tap b) ≡ r.front ++ r.rest) (r.front ≡ [])
         (moved_bytes (end_at tap c) ≡ r.front ++ r.rest) (λ x. x) (λ x. ap moved_bytes (k.ends tap) ∙ x) r.got;
     all = r.all;
@@ -150,7 +156,7 @@ module _ (a b c : Known) (h0 h1 : Option (List ℕ)) (f0 f1 v0 v1 : ℕ) (w : Wo
         r.cause;
   }
 
-  pub writer_completes : WriterDid a c h0 h1 f0 f1 v0 v1 w
+  pub writer_completes : WriterDid a c h0 h1 f0 f1 v0 v1 s0 s1 w
   writer_completes = record {
     worked = still_worked;
     completes = record { mid = b; before = r.served.grows; completed = k.completed };

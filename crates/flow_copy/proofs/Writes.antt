@@ -10,6 +10,7 @@ use Rattle.wait_rule.specs.PipeSays.{reading}
 use Rattle.edge_io.specs.Faults.{HasCounted, HasRisen}
 use Rattle.edge_io.specs.Text.{HoldsPrefix}
 use Rattle.edge_io.proofs.Known.{append_known-twice}
+use Rattle.func_head.specs.Walks.{EntryState, shown}
 use Rattle.wait_pipe.specs.Pieces.{IsAtEnd, IsSettled, Moved}
 use Rattle.flow_copy.specs.declared.TheConstants.{SINK_PIPE}
 use Rattle.flow_copy.specs.declared.stop.Halt.{Halt}
@@ -18,8 +19,23 @@ use Rattle.flow_copy.specs.declared.stop.Stop.{Stop}
 use Rattle.flow_copy.specs.declared.stop.Stop.TheVariants as stop
 use Rattle.flow_copy.specs.Stops.{stop_of}
 use Rattle.flow_copy.specs.Turns.{CountedAll, Got, IfWhole, IsWriterStop, SinkRises, Writing}
+use Rattle.flow_copy.specs.Watched.{IsPiece, UnlessFailed}
 use Rattle.flow_copy.specs.Work.{Apart, IsAtWork, IsOwnHalt, TookKill}
-use Rattle.flow_copy.proofs.PartLaws.{counted_none, counted_same, counted_then, ends_moved, moved_ends, moved_none, moved_then, sums_counted, sums_then, took_before, works_same, works_then}
+use Rattle.flow_copy.proofs.PartLaws.{
+  counted_none,
+  counted_same,
+  counted_then,
+  ends_moved,
+  moved_ends,
+  moved_none,
+  moved_then,
+  sums_counted,
+  sums_then,
+  took_before,
+  works_same,
+  works_then,
+}
+use Rattle.flow_copy.proofs.Shown.{shows_none, shows_one, shows_part, shows_then}
 use Rattle.flow_copy.proofs.Stopping.{finished, halted_whole, stopped_map, whole_map}
 use Rattle.flow_copy.proofs.Sums.{sum_none, sum_then}
 
@@ -64,15 +80,16 @@ rises_then f0 f1 f2 v0 v1 v2 how e g =
     λ r. subst (λ f. F f v0) e (subst (F f1) g r)
 
 -- no turn at all
-pub writing_none : (k : Known) (held : Option (List ℕ)) (f v m : ℕ) → m < 2 ^ 64 → IsAtWork k
-    → IsSettled (reading SINK_PIPE k) → Writing k k held held f f v v m m None
-writing_none k held f v m small work tap = record {
+pub writing_none : (k : Known) (held : Option (List ℕ)) (f v : ℕ) (s : List EntryState) (m : ℕ) → m < 2 ^ 64
+    → IsAtWork k → IsSettled (reading SINK_PIPE k) → Writing k k held held f f v v s s m m None
+writing_none k held f v s m small work tap = record {
   works = works_same k work;
   got = [];
   front = [];
   rest = [];
   taken = moved_none (read_end SINK_PIPE) k tap;
   held = held_same held;
+  shows = shows_none s None;
   parts = refl;
   all = refl;
   n = 0;
@@ -86,12 +103,13 @@ writing_none k held f v m small work tap = record {
 }
 
 -- some turns, and then others
-module _ (a b c : Known) (h0 h1 h2 : Option (List ℕ)) (f0 f1 f2 v0 v1 v2 k m n : ℕ) (how : Option Stop)
-    (one : Writing a b h0 h1 f0 f1 v0 v1 k m None) (two : Writing b c h1 h2 f1 f2 v1 v2 m n how) where
+module _ (a b c : Known) (h0 h1 h2 : Option (List ℕ)) (f0 f1 f2 v0 v1 v2 : ℕ) (s0 s1 s2 : List EntryState)
+    (k m n : ℕ) (how : Option Stop) (one : Writing a b h0 h1 f0 f1 v0 v1 s0 s1 k m None)
+    (two : Writing b c h1 h2 f1 f2 v1 v2 s1 s2 m n how) where
   got_front : one.got ≡ one.front
   got_front = one.parts ∙ (ap (λ l. one.front ++ l) one.all ∙ append-nil one.front)
 
-  pub writing_then : Writing a c h0 h2 f0 f2 v0 v2 k n how
+  pub writing_then : Writing a c h0 h2 f0 f2 v0 v2 s0 s2 k n how
   writing_then = record {
     works = works_then a b c one.works two.works;
     got = one.got ++ two.got;
@@ -99,6 +117,7 @@ module _ (a b c : Known) (h0 h1 h2 : Option (List ℕ)) (f0 f1 f2 v0 v1 v2 k m n
     rest = two.rest;
     taken = moved_then (read_end SINK_PIPE) a b c one.got two.got one.taken two.taken;
     held = two.held ∙ (ap (λ h. append_known h two.front) one.held ∙ append_known-twice h0 one.front two.front);
+    shows = shows_then s0 s1 s2 one.front two.front how one.shows two.shows;
     parts = ap (λ l. one.got ++ l) two.parts ∙ (ap (λ l. l ++ (two.front ++ two.rest)) got_front
         ∙ sym (append_assoc one.front two.front two.rest));
     all = two.all;
@@ -118,16 +137,17 @@ module _ (a b c : Known) (h0 h1 h2 : Option (List ℕ)) (f0 f1 f2 v0 v1 v2 k m n
   }
 
 -- a turn that ended before it took a piece
-pub write_killed : (a b : Known) (held : Option (List ℕ)) (f v m : ℕ) → m < 2 ^ 64
+pub write_killed : (a b : Known) (held : Option (List ℕ)) (f v : ℕ) (s : List EntryState) (m : ℕ) → m < 2 ^ 64
     → IsSettled (reading SINK_PIPE a) → Apart a b → TookKill a b
-    → Writing a b held held f f v v m m (Some stop.Killed)
-write_killed a b held f v m small tap apart took = record {
+    → Writing a b held held f f v v s s m m (Some stop.Killed)
+write_killed a b held f v s m small tap apart took = record {
   works = apart.works;
   got = [];
   front = [];
   rest = [];
   taken = moved_ends (read_end SINK_PIPE) a a b [] (moved_none (read_end SINK_PIPE) a tap) apart.ends;
   held = held_same held;
+  shows = shows_none s (Some stop.Killed);
   parts = refl;
   all = tt;
   n = 0;
@@ -146,16 +166,17 @@ module _ (a b c : Known) (m : ℕ) (small : m < 2 ^ 64) (apart : Apart a b) (byt
   got_moved : Moved (read_end SINK_PIPE) a c bytes
   got_moved = ends_moved (read_end SINK_PIPE) a b c bytes apart.ends g.moved
 
-  write_got : (held : Option (List ℕ)) (f v : ℕ) (how : Stop) → bytes ≡ []
+  write_got : (held : Option (List ℕ)) (f v : ℕ) (s : List EntryState) (how : Stop) → bytes ≡ []
       → SinkRises f f v v (Some how) → IsWriterStop a c (HasRisen f f) (HasRisen v v) how
-      → Writing a c held held f f v v m m (Some how)
-  write_got held f v how none rises cause = record {
+      → Writing a c held held f f v v s s m m (Some how)
+  write_got held f v s how none rises cause = record {
     works = works_then a b c apart.works g.works;
     got = bytes;
     front = [];
     rest = bytes;
     taken = got_moved;
     held = held_same held;
+    shows = shows_none s (Some how);
     parts = refl;
     all = finished how (bytes ≡ []) none;
     n = 0;
@@ -168,28 +189,30 @@ module _ (a b c : Known) (m : ℕ) (small : m < 2 ^ 64) (apart : Apart a b) (byt
     cause = cause;
   }
 
-  pub write_ended : (held : Option (List ℕ)) (f v : ℕ) → bytes ≡ [] → IsAtEnd (reading SINK_PIPE c)
-      → Writing a c held held f f v v m m (Some stop.Finished)
-  write_ended held f v none end = write_got held f v stop.Finished none (refl, refl) end
+  pub write_ended : (held : Option (List ℕ)) (f v : ℕ) (s : List EntryState) → bytes ≡ []
+      → IsAtEnd (reading SINK_PIPE c) → Writing a c held held f f v v s s m m (Some stop.Finished)
+  write_ended held f v s none end = write_got held f v s stop.Finished none (refl, refl) end
 
-  pub write_halted : (held : Option (List ℕ)) (f v : ℕ) (h : Halt) → bytes ≡ [] → IsOwnHalt b c h
-      → Writing a c held held f f v v m m (Some (stop_of h))
-  write_halted held f v h none is = write_got held f v (stop_of h) none (halt_rises f v h)
+  pub write_halted : (held : Option (List ℕ)) (f v : ℕ) (s : List EntryState) (h : Halt) → bytes ≡ []
+      → IsOwnHalt b c h → Writing a c held held f f v v s s m m (Some (stop_of h))
+  write_halted held f v s h none is = write_got held f v s (stop_of h) none (halt_rises f v h)
       (writer_before a b c (HasRisen f f) (HasRisen f f) (HasRisen v v) (HasRisen v v) apart.works.grows
       (λ x. x) (λ x. x) (stop_of h) (halt_stops b c (HasRisen f f) (HasRisen v v) h is))
 
   -- the sink took all of it, or a front
-  pub write_fault : (h0 h1 : Option (List ℕ)) (f0 f1 v0 v1 : ℕ) (how : Stop)
+  pub write_fault : (h0 h1 : Option (List ℕ)) (f0 f1 v0 v1 : ℕ) (s : List EntryState) (how : Stop)
       → HoldsPrefix h0 h1 bytes → f0 ≤ f1 → SinkRises f0 f1 v0 v1 (Some how)
       → IsWriterStop a c (HasRisen f0 f1) (HasRisen v0 v1) how
-      → ((X : Type 0) → IfWhole (Some how) X) → Writing a c h0 h1 f0 f1 v0 v1 m m (Some how)
-  write_fault h0 h1 f0 f1 v0 v1 how prefix later rises cause unfinished = record {
+      → ((X : Type 0) → IfWhole (Some how) X) → ((X : Type 0) → UnlessFailed (Some how) X)
+      → Writing a c h0 h1 f0 f1 v0 v1 s s m m (Some how)
+  write_fault h0 h1 f0 f1 v0 v1 s how prefix later rises cause unfinished failed = record {
     works = works_then a b c apart.works g.works;
     got = bytes;
     front = prefix.front;
     rest = prefix.rest;
     taken = got_moved;
     held = prefix.held;
+    shows = shows_part s prefix.front (Some how) (failed (prefix.front ≡ []));
     parts = prefix.whole;
     all = unfinished (prefix.rest ≡ []);
     n = 0;
@@ -202,11 +225,11 @@ module _ (a b c : Known) (m : ℕ) (small : m < 2 ^ 64) (apart : Apart a b) (byt
     cause = cause;
   }
 
-  -- and it was counted, or not
-  module _ (d : Known) (h0 h1 : Option (List ℕ)) (f0 f1 v0 v1 : ℕ) (fs : f1 ≡ f0) (vs : v1 ≡ v0)
-      (held : h1 ≡ append_known h0 bytes) where
+  -- it was shown, and then counted, or not
+  module _ (d : Known) (h0 h1 : Option (List ℕ)) (f0 f1 v0 v1 : ℕ) (s0 s1 : List EntryState) (fs : f1 ≡ f0)
+      (vs : v1 ≡ v0) (held : h1 ≡ append_known h0 bytes) (piece : IsPiece bytes) (seen : s1 ≡ shown bytes s0) where
     pub write_goes_on : (n : ℕ) → CountedAll (length bytes) c d → n ≡ (m + length bytes) % 2 ^ 64
-        → Writing a d h0 h1 f0 f1 v0 v1 m n None
+        → Writing a d h0 h1 f0 f1 v0 v1 s0 s1 m n None
     write_goes_on n w sum = record {
       works = works_then a c d (works_then a b c apart.works g.works) w.works;
       got = bytes;
@@ -214,6 +237,7 @@ module _ (a b c : Known) (m : ℕ) (small : m < 2 ^ 64) (apart : Apart a b) (byt
       rest = [];
       taken = moved_ends (read_end SINK_PIPE) a c d bytes got_moved w.ends;
       held = held;
+      shows = shows_one s0 s1 bytes None piece seen;
       parts = sym (append-nil bytes);
       all = refl;
       n = length bytes;
@@ -227,7 +251,7 @@ module _ (a b c : Known) (m : ℕ) (small : m < 2 ^ 64) (apart : Apart a b) (byt
     }
 
     pub write_stopped : (h : Halt) → Apart c d → IsOwnHalt c d h
-        → Writing a d h0 h1 f0 f1 v0 v1 m m (Some (stop_of h))
+        → Writing a d h0 h1 f0 f1 v0 v1 s0 s1 m m (Some (stop_of h))
     write_stopped h w is = record {
       works = works_then a c d (works_then a b c apart.works g.works) w.works;
       got = bytes;
@@ -235,6 +259,7 @@ module _ (a b c : Known) (m : ℕ) (small : m < 2 ^ 64) (apart : Apart a b) (byt
       rest = [];
       taken = moved_ends (read_end SINK_PIPE) a c d bytes got_moved w.ends;
       held = held;
+      shows = shows_one s0 s1 bytes (Some (stop_of h)) piece seen;
       parts = sym (append-nil bytes);
       all = halted_whole h (no_bytes ≡ []);
       n = 0;

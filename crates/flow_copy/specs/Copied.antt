@@ -1,7 +1,7 @@
 -- To be believed.
 -- What a whole copy did.
-use Rattle.std.specs.Prelude.{ℕ, ◌≡◌, ◌*◌, ◌%◌, ◌^◌, ◌==◌, if◌then◌else◌, Bool, true, false}
-use Rattle.std.specs.Prelude.{Option, Result, Ok, Err, List, [], ◌∷◌, IfSome}
+use Rattle.std.specs.Prelude.{ℕ, ◌≡◌, ◌*◌, ◌%◌, ◌^◌, ◌++◌, ◌==◌, if◌then◌else◌, Bool, true, false}
+use Rattle.std.specs.Prelude.{Option, Some, Result, Ok, Err, List, [], ◌∷◌, IfSome}
 use Rattle.std.specs.Io.KnownBytes.{append_known, prepend_known}
 use Rattle.atomic_table.specs.Seated.{TableId}
 use Rattle.bit_wait.specs.declared.wait_calls.BitEnd.{BitEnd}
@@ -14,6 +14,7 @@ use Rattle.wait_rule.specs.Known.{Known}
 use Rattle.wait_rule.specs.PipeSays.{EndsStay}
 use Rattle.wait_rule.specs.Says.{FindsTally, newcomer}
 use Rattle.edge_io.specs.Text.{HoldsPrefix}
+use Rattle.func_head.specs.Walks.{EntryState}
 use Rattle.flow_copy.specs.declared.TheConstants.{COUNTED_PAGE}
 use Rattle.flow_copy.specs.declared.plan.Planned.{Planned}
 use Rattle.flow_copy.specs.declared.copy.Kind.{Kind}
@@ -23,6 +24,7 @@ use Rattle.flow_copy.specs.declared.stop.Stop.{Stop}
 use Rattle.flow_copy.specs.declared.stop.Stop.TheVariants as stop
 use Rattle.flow_copy.specs.declared.stop.WorkerEnd.{WorkerEnd}
 use Rattle.flow_copy.specs.Did.{ReaderDid, RelayDid, Served, WriterDid}
+use Rattle.flow_copy.specs.Watched.{Shows}
 use Rattle.flow_copy.specs.Work.{SignalsStay, SumsStay}
 
 -- A controller waited, and read the tally of the page: it owes nothing, as before, touched no pipe, added nothing and
@@ -79,8 +81,9 @@ joined_four v a b c d = joined_with (joined_with (joined_with (joined_with v a) 
 
 -- The four tasks of a copy did their work, and their lists stand in the journal of the task that joined them.
 pub record Copied (domain : TableId) (new : Known) (left_old left_new : Option (List ℕ)) (reads_old reads_new : ℕ)
-    (held_old held_new : Option (List ℕ)) (writes_old writes_new wants_old wants_new : ℕ) (plan : List Planned)
-    (reader : ReaderEnd) (relay writer : WorkerEnd) (how : Stop) : Type 0 where
+    (held_old held_new : Option (List ℕ)) (writes_old writes_new wants_old wants_new : ℕ)
+    (seen_old seen_new : List EntryState) (plan : List Planned) (reader : ReaderEnd) (relay writer : WorkerEnd)
+    (how : Stop) : Type 0 where
   pub one : Known
   pub two : Known
   pub three : Known
@@ -88,7 +91,7 @@ pub record Copied (domain : TableId) (new : Known) (left_old left_new : Option (
   pub reads : ReaderDid (newcomer domain 1 2 0) one left_old left_new reads_old reads_new plan reader
   pub relays : RelayDid (newcomer domain 2 3 0) two relay
   pub writes : WriterDid (newcomer domain 3 4 0) three held_old held_new writes_old writes_new wants_old wants_new
-      writer
+      seen_old seen_new writer
   pub controls : Controlled (newcomer domain 4 5 0) four
   pub lists : (has_of 1 new.view ≡ one.view.items) × (has_of 2 new.view ≡ two.view.items)
       × (has_of 3 new.view ≡ three.view.items) × (has_of 4 new.view ≡ four.view.items)
@@ -102,18 +105,30 @@ pub record HoldsGiven (left_old left_new held_old held_new : Option (List ℕ)) 
   pub left : left_old ≡ prepend_known given left_new
   pub held : HoldsPrefix held_old held_new given
 
+-- The watchers were shown, piece by piece, what went into the sink, a front of what the source gave.
+pub record Watched (left_old left_new held_old held_new : Option (List ℕ)) (seen_old seen_new : List EntryState)
+    (how : Stop) : Type 0 where
+  pub given : List ℕ
+  pub front : List ℕ
+  pub rest : List ℕ
+  pub left : left_old ≡ prepend_known given left_new
+  pub parts : given ≡ front ++ rest
+  pub held : held_new ≡ append_known held_old front
+  pub shows : Shows seen_old seen_new front (Some how)
+
 -- All workers finished.
 pub record AllFinished (reader : ReaderEnd) (relay writer : WorkerEnd) : Type 0 where
   pub reads : reader.stop ≡ stop.Finished
   pub relays : relay.stop ≡ stop.Finished
   pub writes : writer.stop ≡ stop.Finished
 
--- Where the copy finished, so did all workers; the source was read to its end, and the sink holds all its bytes; and
--- each byte was counted three times.
-pub record HoldsAll (left_old held_old held_new : Option (List ℕ)) (reader : ReaderEnd) (relay writer : WorkerEnd)
-    (tally : ℕ) : Type 0 where
+-- Where the copy finished, so did all workers; the source was read to its end, the sink holds all its bytes, and the
+-- watchers were shown them all; and each byte was counted three times.
+pub record HoldsAll (left_old held_old held_new : Option (List ℕ)) (seen_old seen_new : List EntryState)
+    (reader : ReaderEnd) (relay writer : WorkerEnd) (tally : ℕ) : Type 0 where
   pub all : AllFinished reader relay writer
   pub bytes : IfSome left_old (λ bytes. held_new ≡ append_known held_old bytes)
+  pub shows : IfSome left_old (λ bytes. Shows seen_old seen_new bytes (Some stop.Finished))
   pub moved : tally ≡ 3 * reader.read % 2 ^ 64
 
 abbrev pub IsNotTaken : Stop → Type 0

@@ -10,6 +10,7 @@ use Rattle.wait_rule.specs.PipeSays.{end_at, reading, writing}
 use Rattle.wait_rule.specs.Says.{IsClean}
 use Rattle.completion_cell.specs.Completes.{HasCompleted}
 use Rattle.edge_io.specs.Faults.{HasRisen}
+use Rattle.func_head.specs.Walks.{EntryState}
 use Rattle.flow_copy.specs.declared.TheConstants.{ENDED_CELL, SINK_PIPE, SOURCE_PIPE}
 use Rattle.flow_copy.specs.declared.plan.Planned.{Planned}
 use Rattle.flow_copy.specs.declared.stop.ReaderEnd.{ReaderEnd}
@@ -17,6 +18,7 @@ use Rattle.flow_copy.specs.declared.stop.WorkerEnd.{WorkerEnd}
 use Rattle.flow_copy.specs.Plans.{fatal_of, up_to}
 use Rattle.flow_copy.specs.Stops.{IfFinished, IfTaken}
 use Rattle.flow_copy.specs.Turns.{IsLong, IsReaderStop, IsRelayStop, IsWriterStop, RaisedFor, SinkRises}
+use Rattle.flow_copy.specs.Watched.{Shows}
 use Rattle.flow_copy.specs.Work.{Counted, SignalsStay}
 
 -- A task that is to do the work of a worker owes nothing, and left no entry at the completion of the copy; so it is
@@ -88,16 +90,17 @@ pub record RelayWorked (old new : Known) (ended : WorkerEnd) : Type 0 where
   pub signals : SignalsStay old new
   pub cause : IfTaken ended.stop (Unit {0}) (IsRelayStop old new ended.stop)
 
--- A writer. A front of what it got from the second pipe went into the sink: all of it, up to the second pipe's end, and
--- each byte counted, where it finished.
+-- A writer. A front of what it got from the second pipe went into the sink, and was shown piece by piece: all of it, up
+-- to the second pipe's end, and each byte counted, where it finished.
 pub record WriterWorked (old new : Known) (held_old held_new : Option (List ℕ)) (faults_old faults_new : ℕ)
-    (wants_old wants_new : ℕ) (ended : WorkerEnd) : Type 0 where
+    (wants_old wants_new : ℕ) (seen_old seen_new : List EntryState) (ended : WorkerEnd) : Type 0 where
   pub served : Served old new
   pub claims : (k : ℕ) → k ≢ read_end SINK_PIPE → (end_at k new).mine ≡ (end_at k old).mine
   pub taken : IfTaken ended.stop (Refused (read_end SINK_PIPE) old new) ((reading SINK_PIPE new).mine ≡ true)
   pub front : List ℕ
   pub rest : List ℕ
   pub held : held_new ≡ append_known held_old front
+  pub shows : Shows seen_old seen_new front (Some ended.stop)
   pub got : IfTaken ended.stop (front ≡ []) (moved_bytes (reading SINK_PIPE new) ≡ front ++ rest)
   pub all : IfFinished ended.stop (rest ≡ [])
   pub n : ℕ
@@ -121,6 +124,6 @@ pub record RelayDid (old new : Known) (ended : WorkerEnd) : Type 0 where
   pub completes : Completes old new
 
 pub record WriterDid (old new : Known) (held_old held_new : Option (List ℕ)) (faults_old faults_new : ℕ)
-    (wants_old wants_new : ℕ) (ended : WorkerEnd) : Type 0 where
-  pub worked : WriterWorked old new held_old held_new faults_old faults_new wants_old wants_new ended
+    (wants_old wants_new : ℕ) (seen_old seen_new : List EntryState) (ended : WorkerEnd) : Type 0 where
+  pub worked : WriterWorked old new held_old held_new faults_old faults_new wants_old wants_new seen_old seen_new ended
   pub completes : Completes old new

@@ -10,6 +10,7 @@ use Rattle.wait_rule.specs.Known.{Known}
 use Rattle.wait_rule.specs.Pipes.{moved_bytes, read_end, write_end}
 use Rattle.wait_rule.specs.PipeSays.{EndsStay, end_at, reading, writing}
 use Rattle.edge_io.specs.Faults.{HasCounted, HasRisen}
+use Rattle.func_head.specs.Walks.{EntryState}
 use Rattle.wait_pipe.specs.Pieces.{IsAtEnd, IsSettled, Moved}
 use Rattle.flow_copy.specs.declared.TheConstants.{LONGEST, SINK_PIPE, SOURCE_PIPE}
 use Rattle.flow_copy.specs.declared.plan.Planned.{Planned}
@@ -18,6 +19,7 @@ use Rattle.flow_copy.specs.declared.stop.Stop.{Stop}
 use Rattle.flow_copy.specs.declared.stop.Stop.TheVariants as stop
 use Rattle.flow_copy.specs.Plans.{due_in, fatal_of, kills_in}
 use Rattle.flow_copy.specs.Stops.{IfFinished}
+use Rattle.flow_copy.specs.Watched.{Shows}
 use Rattle.flow_copy.specs.Work.{Counted, IsHalt, SignalsStay, SumsStay, TookKill, Works}
 
 -- All of a piece was put into the pipe of end k and counted; or a front of it was put, and nothing counted.
@@ -154,15 +156,18 @@ SinkRises faults_old faults_new wants_old wants_new (Some stop.Memory) = (faults
     × HasCounted wants_old wants_new
 SinkRises faults_old faults_new wants_old wants_new _ = (faults_new ≡ faults_old) × (wants_new ≡ wants_old)
 
--- Turns of a writer. It got some bytes from the second pipe, of which a front went into the sink, and n were counted.
+-- Turns of a writer. It got some bytes from the second pipe, of which a front went into the sink and was shown, and n
+-- were counted.
 pub record Writing (old new : Known) (held_old held_new : Option (List ℕ)) (faults_old faults_new : ℕ)
-    (wants_old wants_new : ℕ) (moved_old moved_new : ℕ) (how : Option Stop) : Type 0 where
+    (wants_old wants_new : ℕ) (seen_old seen_new : List EntryState) (moved_old moved_new : ℕ) (how : Option Stop)
+    : Type 0 where
   pub works : Works old new
   pub got : List ℕ
   pub front : List ℕ
   pub rest : List ℕ
   pub taken : Moved (read_end SINK_PIPE) old new got
   pub held : held_new ≡ append_known held_old front
+  pub shows : Shows seen_old seen_new front how
   pub parts : got ≡ front ++ rest
   pub all : IfWhole how (rest ≡ [])
   pub n : ℕ

@@ -8,7 +8,7 @@ ghost use Rattle.wait_rule.specs.Says.{IsClean, IsShown, newcomer, seen_with};
 ghost use Rattle.wait_rule.specs.TallyLaws.{tally_in};
 ghost use Rattle.flow_copy.specs.declared.TheConstants.{COUNTED_PAGE, SIGNALS};
 ghost use Rattle.flow_copy.specs.declared.stop.Stop.TheVariants as stop;
-ghost use Rattle.flow_copy.specs.Copied.{Copied, HoldsAll, HoldsGiven, NoneTaken, ReadTally};
+ghost use Rattle.flow_copy.specs.Copied.{Copied, HoldsAll, HoldsGiven, NoneTaken, ReadTally, Watched};
 ghost use Rattle.flow_copy.specs.Copied.{control_stop, copy_stop, first_or, is_of, joined_four};
 
 use crate::COUNTED_PAGE;
@@ -18,17 +18,19 @@ use crate::stop::{ReaderEnd, Stop, WorkerEnd};
 use crate::workers::four_at_once;
 use bit_wait::BitEnd;
 use edge_io::{Sink, Source};
+use func_head::Watchers;
 use page_lock::{add_tally, try_lock_page, unlock_page};
 use std::sync::Wait;
 use std::thread::Threads;
 use wait_rule::{Domain, Task};
 
-/// What a copy left: the source and the sink, how each worker ended, the sum of what they counted, modulo 2^64, and how
-/// the copy ended.
+/// What a copy left: the source, the sink and the watchers, how each worker ended, the sum of what they counted, modulo
+/// 2^64, and how the copy ended.
 #[derive(Drop)]
-pub struct CopyEnd<S, K> {
+pub struct CopyEnd<S, K, W> {
     pub source: S,
     pub sink: K,
+    pub watch: W,
     pub reader: ReaderEnd,
     pub relay: WorkerEnd,
     pub writer: WorkerEnd,
@@ -164,17 +166,19 @@ fn copy_stop(stops: [Stop; 4], kills: u8) -> Stop
 /// controller that waits for them (`reader_task`, `relay_task`, `writer_task`, `controller_task`).
 ///
 /// The task is the first of its Domain, has made no step and given no number out. Afterwards it owes nothing, and has
-/// the histories of the four. The sink holds a front of what the source gave, whatever happened. `moved` is the sum of
-/// all that was counted. `stop` is the first of Memory, Worn, ReadFault, WriteFault, Long that is the stop of a worker,
+/// the histories of the four. The sink holds a front of what the source gave, whatever happened, and the watchers were
+/// shown just that, piece by piece, but for a part of a piece in whose midst the sink failed. `moved` is the sum of all
+/// that was counted. `stop` is the first of Memory, Worn, ReadFault, WriteFault, Long that is the stop of a worker,
 /// or, of Worn, that of the controller; else Killed, exactly where a fatal signal that was planned was sent; else
-/// Finished. Where it is Finished all three workers have finished, the source was read to its end, and the sink holds
-/// all its bytes. No worker stops as Taken.
+/// Finished. Where it is Finished all three workers have finished, the source was read to its end, the sink holds all
+/// its bytes, and the watchers were shown them all. No worker stops as Taken.
 ///
 /// Where the machine gives no second thread a copy that is larger than a pipe may wait for ever.
 pub fn copy_all<
     R: Threads + Wait + Sync,
     S: Source + Send + Drop,
     K: Sink + Send + Drop,
+    W: Watchers + Send + Drop,
     G: Gate + Sync,
 >(
     rt: &R,
@@ -182,17 +186,21 @@ pub fn copy_all<
     task: &mut Task,
     source: S,
     sink: K,
+    watch: W,
     plan: &[Planned],
     gate: &G,
-) -> CopyEnd<S, K>
+) -> CopyEnd<S, K, W>
     requires fresh { task.old ≡ newcomer domain.now 0 1 (TASKS - 1) }
     requires few { length plan.now ≤ SIGNALS }
     ensures copied { Copied domain.now task.new (S.left source) (S.left result.source) (S.faults source)
         (S.faults result.source) (K.held sink) (K.held result.sink) (K.faults sink) (K.faults result.sink)
-        (K.wants sink) (K.wants result.sink) plan.now result.reader result.relay result.writer result.stop }
+        (K.wants sink) (K.wants result.sink) (W.entries watch) (W.entries result.watch) plan.now result.reader
+        result.relay result.writer result.stop }
     ensures front { HoldsGiven (S.left source) (S.left result.source) (K.held sink) (K.held result.sink) }
+    ensures watched { Watched (S.left source) (S.left result.source) (K.held sink) (K.held result.sink)
+        (W.entries watch) (W.entries result.watch) result.writer.stop }
     ensures whole { result.stop ≡ stop.Finished → HoldsAll (S.left source) (K.held sink) (K.held result.sink)
-        result.reader result.relay result.writer result.moved }
+        (W.entries watch) (W.entries result.watch) result.reader result.relay result.writer result.moved }
     ensures moved { result.moved ≡ tally_in COUNTED_PAGE task.new.view % 2 ^ 64 }
     ensures none_taken { NoneTaken result.reader result.relay result.writer }
     ensures clean { IsClean task.new }
@@ -200,11 +208,11 @@ pub fn copy_all<
     let tasks = fork_four(domain, task);
     let targets = [tasks.0.number(), tasks.1.number(), tasks.2.number()];
     let (read, (relayed, (written, counted))) = four_at_once(
-        rt, domain, tasks, source, sink, plan, targets, gate,
+        rt, domain, tasks, source, sink, watch, plan, targets, gate,
     );
     let (one, source, reader) = read;
     let (two, relay) = relayed;
-    let (three, sink, writer) = written;
+    let (three, sink, watch, writer) = written;
     let (four, total) = counted;
     join_four(domain, task, one, two, three, four);
     let moved = read_moved(rt, domain, task);
@@ -215,6 +223,7 @@ pub fn copy_all<
     CopyEnd {
         source,
         sink,
+        watch,
         reader,
         relay,
         writer,

@@ -1,8 +1,9 @@
 //! What a worker passes before each of its turns.
 
 /// A worker of a copy that has turns.
-#[derive(Clone, Copy, Debug, PartialEq, Eq, Drop)]
+#[derive(Clone, Copy, Debug, Default, PartialEq, Eq, Drop)]
 pub enum Who {
+    #[default]
     Reader,
     Relay,
     Writer,

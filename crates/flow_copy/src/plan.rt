@@ -13,7 +13,7 @@ use wait_rule::running::send_signal;
 use wait_rule::{Domain, Task};
 
 /// A signal that is sent to a worker once the source has given `offset` bytes.
-#[derive(Clone, Copy, Debug, PartialEq, Eq, Drop)]
+#[derive(Clone, Copy, Debug, Default, PartialEq, Eq, Drop)]
 pub struct Planned {
     pub who: Who,
     pub offset: u64,

@@ -4,3 +4,4 @@ mod alone;
 mod faults;
 mod meeting;
 mod tables;
+mod watched;

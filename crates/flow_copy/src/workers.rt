@@ -14,6 +14,7 @@ use crate::stop::{ReaderEnd, WorkerEnd};
 use crate::writer::writer_task;
 use bit_wait::BitEnd;
 use edge_io::{Sink, Source};
+use func_head::Watchers;
 use std::sync::Wait;
 use std::thread;
 use std::thread::Threads;
@@ -25,8 +26,8 @@ pub(crate) type Read<S> = (Task, S, ReaderEnd);
 /// The relay's task and how it ended.
 pub(crate) type Relayed = (Task, WorkerEnd);
 
-/// The writer's task, the sink and how the writer ended.
-pub(crate) type Written<K> = (Task, K, WorkerEnd);
+/// The writer's task, the sink, the watchers and how the writer ended.
+pub(crate) type Written<K, W> = (Task, K, W, WorkerEnd);
 
 /// The controller's task and what it answered.
 pub(crate) type Counted = (Task, Result<u64, BitEnd>);
@@ -59,20 +60,21 @@ fn relays<R: Wait, G: Gate>(rt: &R, domain: &Domain, mut task: Task, gate: &G) -
     (task, ended)
 }
 
-fn writes<R: Wait, K: Sink, G: Gate>(
+fn writes<R: Wait, K: Sink, W: Watchers, G: Gate>(
     rt: &R,
     domain: &Domain,
     mut task: Task,
     mut sink: K,
+    mut watch: W,
     gate: &G,
-) -> Written<K>
+) -> Written<K, W>
     requires of { task.domain ≡ domain.now }
     requires idler { IsIdler task }
     ensures did { WriterDid task result.0 (K.held sink) (K.held result.1) (K.faults sink) (K.faults result.1)
-        (K.wants sink) (K.wants result.1) result.2 }
+        (K.wants sink) (K.wants result.1) (W.entries watch) (W.entries result.2) result.3 }
 {
-    let ended = writer_task(rt, domain, &mut task, &mut sink, gate);
-    (task, sink, ended)
+    let ended = writer_task(rt, domain, &mut task, &mut sink, &mut watch, gate);
+    (task, sink, watch, ended)
 }
 
 fn controls<R: Wait>(rt: &R, domain: &Domain, mut task: Task) -> Counted
@@ -86,28 +88,34 @@ fn controls<R: Wait>(rt: &R, domain: &Domain, mut task: Task) -> Counted
 }
 
 /// The writer and the controller at once.
-fn two_at_once<R: Threads + Wait + Sync, K: Sink + Send + Drop, G: Gate + Sync>(
+fn two_at_once<
+    R: Threads + Wait + Sync,
+    K: Sink + Send + Drop,
+    W: Watchers + Send + Drop,
+    G: Gate + Sync,
+>(
     rt: &R,
     domain: &Domain,
     three: Task,
     four: Task,
     sink: K,
+    watch: W,
     gate: &G,
-) -> (Written<K>, Counted)
+) -> (Written<K, W>, Counted)
     requires of { (three.domain ≡ domain.now) × (four.domain ≡ domain.now) }
     requires idler { IsIdler three × IsIdler four }
     ensures writer { WriterDid three result.0.0 (K.held sink) (K.held result.0.1) (K.faults sink) (K.faults result.0.1)
-        (K.wants sink) (K.wants result.0.1) result.0.2 }
+        (K.wants sink) (K.wants result.0.1) (W.entries watch) (W.entries result.0.2) result.0.3 }
     ensures controller { Controlled four result.1.0 }
     ensures ends { ControlEnds four result.1.0 result.1.1 }
 {
     thread::join(
         rt,
-        move || -> Written<K>
+        move || -> Written<K, W>
             requires { (three.domain ≡ domain.now) × IsIdler three }
             ensures { WriterDid three result.0 (K.held sink) (K.held result.1) (K.faults sink) (K.faults result.1)
-                (K.wants sink) (K.wants result.1) result.2 }
-        { writes(rt, domain, three, sink, gate) },
+                (K.wants sink) (K.wants result.1) (W.entries watch) (W.entries result.2) result.3 }
+        { writes(rt, domain, three, sink, watch, gate) },
         move || -> Counted
             requires { (four.domain ≡ domain.now) × IsIdler four }
             ensures { Controlled four result.0 × ControlEnds four result.0 result.1 }
@@ -116,20 +124,27 @@ fn two_at_once<R: Threads + Wait + Sync, K: Sink + Send + Drop, G: Gate + Sync>(
 }
 
 /// The relay, the writer and the controller at once.
-fn three_at_once<R: Threads + Wait + Sync, K: Sink + Send + Drop, G: Gate + Sync>(
+fn three_at_once<
+    R: Threads + Wait + Sync,
+    K: Sink + Send + Drop,
+    W: Watchers + Send + Drop,
+    G: Gate + Sync,
+>(
     rt: &R,
     domain: &Domain,
     two: Task,
     three: Task,
     four: Task,
     sink: K,
+    watch: W,
     gate: &G,
-) -> (Relayed, (Written<K>, Counted))
+) -> (Relayed, (Written<K, W>, Counted))
     requires of { (two.domain ≡ domain.now) × ((three.domain ≡ domain.now) × (four.domain ≡ domain.now)) }
     requires idler { IsIdler two × (IsIdler three × IsIdler four) }
     ensures relay { RelayDid two result.0.0 result.0.1 }
     ensures writer { WriterDid three result.1.0.0 (K.held sink) (K.held result.1.0.1) (K.faults sink)
-        (K.faults result.1.0.1) (K.wants sink) (K.wants result.1.0.1) result.1.0.2 }
+        (K.faults result.1.0.1) (K.wants sink) (K.wants result.1.0.1) (W.entries watch) (W.entries result.1.0.2)
+        result.1.0.3 }
     ensures controller { Controlled four result.1.1.0 }
     ensures ends { ControlEnds four result.1.1.0 result.1.1.1 }
 {
@@ -139,12 +154,12 @@ fn three_at_once<R: Threads + Wait + Sync, K: Sink + Send + Drop, G: Gate + Sync
             requires { (two.domain ≡ domain.now) × IsIdler two }
             ensures { RelayDid two result.0 result.1 }
         { relays(rt, domain, two, gate) },
-        move || -> (Written<K>, Counted)
+        move || -> (Written<K, W>, Counted)
             requires { ((three.domain ≡ domain.now) × (four.domain ≡ domain.now)) × (IsIdler three × IsIdler four) }
             ensures { WriterDid three result.0.0 (K.held sink) (K.held result.0.1) (K.faults sink) (K.faults result.0.1)
-                (K.wants sink) (K.wants result.0.1) result.0.2
+                (K.wants sink) (K.wants result.0.1) (W.entries watch) (W.entries result.0.2) result.0.3
                 × (Controlled four result.1.0 × ControlEnds four result.1.0 result.1.1) }
-        { two_at_once(rt, domain, three, four, sink, gate) },
+        { two_at_once(rt, domain, three, four, sink, watch, gate) },
     )
 }
 
@@ -153,6 +168,7 @@ pub(crate) fn four_at_once<
     R: Threads + Wait + Sync,
     S: Source + Send + Drop,
     K: Sink + Send + Drop,
+    W: Watchers + Send + Drop,
     G: Gate + Sync,
 >(
     rt: &R,
@@ -160,10 +176,11 @@ pub(crate) fn four_at_once<
     tasks: (Task, Task, Task, Task),
     source: S,
     sink: K,
+    watch: W,
     plan: &[Planned],
     targets: [u8; 3],
     gate: &G,
-) -> (Read<S>, (Relayed, (Written<K>, Counted)))
+) -> (Read<S>, (Relayed, (Written<K, W>, Counted)))
     requires of { (tasks.0.domain ≡ domain.now) × ((tasks.1.domain ≡ domain.now) × ((tasks.2.domain ≡ domain.now)
         × (tasks.3.domain ≡ domain.now))) }
     requires idler { IsIdler tasks.0 × (IsIdler tasks.1 × (IsIdler tasks.2 × IsIdler tasks.3)) }
@@ -172,7 +189,8 @@ pub(crate) fn four_at_once<
         (S.faults result.0.1) plan.now result.0.2 }
     ensures relay { RelayDid tasks.1 result.1.0.0 result.1.0.1 }
     ensures writer { WriterDid tasks.2 result.1.1.0.0 (K.held sink) (K.held result.1.1.0.1) (K.faults sink)
-        (K.faults result.1.1.0.1) (K.wants sink) (K.wants result.1.1.0.1) result.1.1.0.2 }
+        (K.faults result.1.1.0.1) (K.wants sink) (K.wants result.1.1.0.1) (W.entries watch) (W.entries result.1.1.0.2)
+        result.1.1.0.3 }
     ensures controller { Controlled tasks.3 result.1.1.1.0 }
     ensures ends { ControlEnds tasks.3 result.1.1.1.0 result.1.1.1.1 }
 {
@@ -184,13 +202,14 @@ pub(crate) fn four_at_once<
             ensures { ReaderDid one result.0 (S.left source) (S.left result.1) (S.faults source) (S.faults result.1)
                 plan.entry.now result.2 }
         { reads(rt, domain, one, source, plan, targets, gate) },
-        move || -> (Relayed, (Written<K>, Counted))
+        move || -> (Relayed, (Written<K, W>, Counted))
             requires { ((two.domain ≡ domain.now) × ((three.domain ≡ domain.now) × (four.domain ≡ domain.now)))
                 × (IsIdler two × (IsIdler three × IsIdler four)) }
             ensures { RelayDid two result.0.0 result.0.1
                 × (WriterDid three result.1.0.0 (K.held sink) (K.held result.1.0.1) (K.faults sink)
-                (K.faults result.1.0.1) (K.wants sink) (K.wants result.1.0.1) result.1.0.2
+                (K.faults result.1.0.1) (K.wants sink) (K.wants result.1.0.1) (W.entries watch)
+                (W.entries result.1.0.2) result.1.0.3
                 × (Controlled four result.1.1.0 × ControlEnds four result.1.1.0 result.1.1.1)) }
-        { three_at_once(rt, domain, two, three, four, sink, gate) },
+        { three_at_once(rt, domain, two, three, four, sink, watch, gate) },
     )
 }

@@ -14,24 +14,26 @@ use crate::stop::{NOT_TAKEN, Stop, WorkerEnd, stop_of};
 use crate::{ENDED_CELL, PIECE, SINK_PIPE};
 use completion_cell::completes::complete;
 use edge_io::{Sink, SinkFault, write_all};
+use func_head::Watchers;
 use std::sync::Wait;
 use wait_pipe::{close_read, open_read};
 use wait_rule::{Domain, Task};
 
-/// A turn: takes the own signals, takes a piece out of the second pipe, and writes it into the sink. `moved` is what
-/// the writer has counted, modulo 2^64. None where it goes on.
-fn write_turn<R: Wait, K: Sink>(
+/// A turn: takes the own signals, takes a piece out of the second pipe, writes it into the sink, and shows it to the
+/// watchers. `moved` is what the writer has counted, modulo 2^64. None where it goes on.
+fn write_turn<R: Wait, K: Sink, W: Watchers>(
     rt: &R,
     domain: &Domain,
     task: &mut Task,
     sink: &mut K,
+    watch: &mut W,
     moved: &mut u64,
 ) -> Option<Stop>
     requires of { task.old.domain ≡ domain.now }
     requires work { IsAtWork task.old }
     requires settled { IsSettled (reading SINK_PIPE task.old) }
     ensures turn { Writing task.old task.new (K.held sink.old) (K.held sink.new) (K.faults sink.old) (K.faults sink.new)
-        (K.wants sink.old) (K.wants sink.new) moved.old moved.new result }
+        (K.wants sink.old) (K.wants sink.new) (W.entries watch.old) (W.entries watch.new) moved.old moved.new result }
 {
     let counted = *moved;
     if is_killed(domain, task) {
@@ -50,6 +52,7 @@ fn write_turn<R: Wait, K: Sink>(
         Err(SinkFault::Failed) => return Some(Stop::WriteFault),
         Err(SinkFault::OutOfMemory) => return Some(Stop::Memory),
     }
+    watch.show(&buf[..taken]);
     match count(rt, domain, task, taken as u64) {
         Ok(()) => {
             *moved = counted.wrapping_add(taken as u64);
@@ -60,25 +63,27 @@ fn write_turn<R: Wait, K: Sink>(
 }
 
 /// Turns up to a stop.
-fn write_on<R: Wait, K: Sink, G: Gate>(
+fn write_on<R: Wait, K: Sink, W: Watchers, G: Gate>(
     rt: &R,
     domain: &Domain,
     task: &mut Task,
     sink: &mut K,
+    watch: &mut W,
     gate: &G,
 ) -> WorkerEnd
     requires of { task.old.domain ≡ domain.now }
     requires work { IsAtWork task.old }
     requires settled { IsSettled (reading SINK_PIPE task.old) }
     ensures turns { Writing task.old task.new (K.held sink.old) (K.held sink.new) (K.faults sink.old)
-        (K.faults sink.new) (K.wants sink.old) (K.wants sink.new) 0 result.moved (Some result.stop) }
+        (K.faults sink.new) (K.wants sink.old) (K.wants sink.new) (W.entries watch.old) (W.entries watch.new) 0
+        result.moved (Some result.stop) }
 {
     let mut moved = 0;
     let mut turn: u64 = 0;
     for _ in rt.forever() {
         turn = turn.saturating_add(1);
         gate.pass(Who::Writer, turn);
-        if let Some(stop) = write_turn(rt, domain, task, sink, &mut moved) {
+        if let Some(stop) = write_turn(rt, domain, task, sink, watch, &mut moved) {
             return WorkerEnd { stop, moved };
         }
     }
@@ -89,44 +94,46 @@ fn write_on<R: Wait, K: Sink, G: Gate>(
 ///
 /// The task owes nothing, and so it is afterwards. It opens the read end of the pipe, and stops as Taken exactly where
 /// it was opened before. Gate, signals, the tally of page `COUNTED_PAGE`, Killed and Worn are as of `reader_task`; a
-/// piece is counted after it went wholly into the sink. WriteFault: the sink failed; Memory: it wanted memory. Finished
-/// exactly where the write end of the pipe was closed, all that it sent was taken, and all of that went into the sink.
-/// For every stop the sink got a front of what came out of the pipe. At its end, for whatever cause, it closes the end
-/// that it opened, and completes `ENDED_CELL`.
-pub fn writer_task<R: Wait, K: Sink, G: Gate>(
+/// piece that went wholly into the sink is shown to the watchers, and counted after that. WriteFault: the sink failed;
+/// Memory: it wanted memory. Finished exactly where the write end of the pipe was closed, all that it sent was taken,
+/// and all of that went into the sink. For every stop the sink got a front of what came out of the pipe. At its end,
+/// for whatever cause, it closes the end that it opened, and completes `ENDED_CELL`.
+pub fn writer_task<R: Wait, K: Sink, W: Watchers, G: Gate>(
     rt: &R,
     domain: &Domain,
     task: &mut Task,
     sink: &mut K,
+    watch: &mut W,
     gate: &G,
 ) -> WorkerEnd
     requires of { task.old.domain ≡ domain.now }
     requires idler { IsIdler task.old }
     ensures did { WriterDid task.old task.new (K.held sink.old) (K.held sink.new) (K.faults sink.old)
-        (K.faults sink.new) (K.wants sink.old) (K.wants sink.new) result }
+        (K.faults sink.new) (K.wants sink.old) (K.wants sink.new) (W.entries watch.old) (W.entries watch.new) result }
 {
-    let ended = write_through(rt, domain, task, sink, gate);
+    let ended = write_through(rt, domain, task, sink, watch, gate);
     complete(rt, domain, task, ENDED_CELL);
     ended
 }
 
 /// The work of a writer, from the opening of its end to its closing.
-fn write_through<R: Wait, K: Sink, G: Gate>(
+fn write_through<R: Wait, K: Sink, W: Watchers, G: Gate>(
     rt: &R,
     domain: &Domain,
     task: &mut Task,
     sink: &mut K,
+    watch: &mut W,
     gate: &G,
 ) -> WorkerEnd
     requires of { task.old.domain ≡ domain.now }
     requires idler { IsIdler task.old }
     ensures did { WriterWorked task.old task.new (K.held sink.old) (K.held sink.new) (K.faults sink.old)
-        (K.faults sink.new) (K.wants sink.old) (K.wants sink.new) result }
+        (K.faults sink.new) (K.wants sink.old) (K.wants sink.new) (W.entries watch.old) (W.entries watch.new) result }
 {
     if !open_read(domain, task, SINK_PIPE) {
         return NOT_TAKEN;
     }
-    let ended = write_on(rt, domain, task, sink, gate);
+    let ended = write_on(rt, domain, task, sink, watch, gate);
     close_read(rt, domain, task, SINK_PIPE);
     ended
 }

@@ -7,6 +7,7 @@ use crate::relay::relay_task;
 use crate::stop::{ReaderEnd, Stop, WorkerEnd};
 use crate::writer::writer_task;
 use edge_io::{MemSink, MemSource};
+use func_head::NoWatchers;
 use std::test::Fail;
 use wait_rule::Domain;
 
@@ -27,7 +28,14 @@ fn one_task_does_all(rt: HostRuntime) -> Result<(), Fail> {
         &OpenGate,
     );
     let relay = relay_task(&rt, &domain, &mut task, &OpenGate);
-    let writer = writer_task(&rt, &domain, &mut task, &mut sink, &OpenGate);
+    let writer = writer_task(
+        &rt,
+        &domain,
+        &mut task,
+        &mut sink,
+        &mut NoWatchers,
+        &OpenGate,
+    );
     let total = controller_task(&rt, &domain, &mut task);
     let ten = WorkerEnd {
         stop: Stop::Finished,
@@ -66,11 +74,25 @@ fn second_workers_stop_as_taken(rt: HostRuntime) -> Result<(), Fail> {
         &OpenGate,
     );
     relay_task(&rt, &domain, &mut task, &OpenGate);
-    writer_task(&rt, &domain, &mut task, &mut sink, &OpenGate);
+    writer_task(
+        &rt,
+        &domain,
+        &mut task,
+        &mut sink,
+        &mut NoWatchers,
+        &OpenGate,
+    );
     let mut more = MemSource::new(rt.alloc(), b"def", &[])?;
     let reader = reader_task(&rt, &domain, &mut task, &mut more, &[], targets, &OpenGate);
     let relay = relay_task(&rt, &domain, &mut task, &OpenGate);
-    let writer = writer_task(&rt, &domain, &mut task, &mut sink, &OpenGate);
+    let writer = writer_task(
+        &rt,
+        &domain,
+        &mut task,
+        &mut sink,
+        &mut NoWatchers,
+        &OpenGate,
+    );
     assert_eq!(rt; reader.stop, Stop::Taken);
     assert_eq!(rt; reader.read, 0);
     assert_eq!(rt; relay.stop, Stop::Taken);

@@ -9,6 +9,7 @@ use crate::gate::{OpenGate, Who};
 use crate::plan::Planned;
 use crate::stop::Stop;
 use edge_io::{MemSink, MemSource};
+use func_head::NoWatchers;
 use std::alloc::{AllocError, Global};
 use std::sync::Wait;
 use std::test::Fail;
@@ -40,18 +41,20 @@ fn copy<R: Threads + Wait + Sync>(
     reads: &[u64],
     writes: &[u64],
     plan: &[Planned],
-) -> Result<CopyEnd<MemSource, MemSink>, AllocError>
+) -> Result<CopyEnd<MemSource, MemSink, NoWatchers>, AllocError>
     requires few { length plan.now ≤ SIGNALS }
 {
     let (domain, mut task) = Domain::with_looks(alloc, 0)?;
     let bytes = bytes_of(alloc)?;
     let source = MemSource::new(alloc, &bytes, reads)?;
     let sink = MemSink::new(alloc, writes)?;
-    Ok(copy_all(rt, &domain, &mut task, source, sink, plan, &OpenGate))
+    Ok(copy_all(
+        rt, &domain, &mut task, source, sink, NoWatchers, plan, &OpenGate,
+    ))
 }
 
 /// The sink holds a front of the source's bytes.
-fn holds_front(end: &CopyEnd<MemSource, MemSink>) -> bool {
+fn holds_front(end: &CopyEnd<MemSource, MemSink, NoWatchers>) -> bool {
     end.sink
         .bytes()
         .iter()

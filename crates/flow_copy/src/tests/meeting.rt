@@ -4,6 +4,7 @@ use crate::copy::copy_all;
 use crate::gate::{Gate, Who};
 use crate::stop::Stop;
 use edge_io::{MemSink, MemSource};
+use func_head::NoWatchers;
 use std::sync::atomic::{AtomicU64, Ordering};
 use std::test::Fail;
 use wait_rule::Domain;
@@ -62,7 +63,16 @@ fn workers_meet_in_their_first_turns(rt: HostRuntime) -> Result<(), Fail> {
     let source = MemSource::new(rt.alloc(), &bytes, &[])?;
     let sink = MemSink::new(rt.alloc(), &[])?;
     let gate = Meeting::new();
-    let end = copy_all(&rt, &domain, &mut task, source, sink, &[], &gate);
+    let end = copy_all(
+        &rt,
+        &domain,
+        &mut task,
+        source,
+        sink,
+        NoWatchers,
+        &[],
+        &gate,
+    );
     assert_eq!(rt; end.stop, Stop::Finished);
     assert_eq!(rt; end.sink.bytes(), bytes.as_slice());
     assert_eq!(rt; gate.gave_up.load(Ordering::SeqCst), 0);

@@ -4,6 +4,7 @@ use crate::copy::copy_all;
 use crate::gate::OpenGate;
 use crate::stop::Stop;
 use edge_io::{MemSink, MemSource};
+use func_head::NoWatchers;
 use std::test::Fail;
 use wait_rule::Domain;
 
@@ -25,7 +26,16 @@ fn copies_bytes(rt: HostRuntime) -> Result<(), Fail> {
         let (domain, mut task) = Domain::new(rt.alloc())?;
         let source = MemSource::new(rt.alloc(), bytes.as_slice(), &[])?;
         let sink = MemSink::new(rt.alloc(), &[])?;
-        let end = copy_all(&rt, &domain, &mut task, source, sink, &[], &OpenGate);
+        let end = copy_all(
+            &rt,
+            &domain,
+            &mut task,
+            source,
+            sink,
+            NoWatchers,
+            &[],
+            &OpenGate,
+        );
         assert_eq!(rt; end.stop, Stop::Finished);
         assert_eq!(rt; end.moved, moved);
         assert_eq!(rt; end.sink.bytes(), bytes.as_slice());

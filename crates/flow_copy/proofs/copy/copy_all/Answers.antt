@@ -11,10 +11,10 @@ returns g c =
     let did = c.four_at_once-read in
     let reader = did.result.0.2 in
     let relay = did.result.1.0.1 in
-    let writer = did.result.1.1.0.2 in
+    let writer = did.result.1.1.0.3 in
     let e = ensured c.args.domain.now forks.result.0 forks.result.1 forks.result.2 forks.result.3 did.result.0.0
     did.result.1.0.0 did.result.1.1.0.0 did.result.1.1.1.0 forks.new.task c.join_four.new.task
-    c.read_moved-moved.new.task _ _ _ _ _ _ _ _ _ _ _ reader relay writer did.result.1.1.1.1
+    c.read_moved-moved.new.task _ _ _ _ _ _ _ _ _ _ _ _ _ reader relay writer did.result.1.1.1.1
     c.read_moved-moved.result c.copy_stop-stop.result forks.ensures.one forks.ensures.two forks.ensures.three
     forks.ensures.four forks.ensures.rest did.ensures.reader did.ensures.relay did.ensures.writer
     did.ensures.controller did.ensures.ends c.join_four.ensures.joined c.join_four.ensures.law
@@ -24,6 +24,7 @@ returns g c =
     record {
       copied = e.copied;
       front = e.front;
+      watched = e.watched;
       whole = e.whole;
       moved = e.moved;
       none_taken = e.none_taken;

@@ -5,4 +5,4 @@ use Rattle.flow_copy.proofs.writer.write_on.Given as goal
 abbrev pub invariant-loop : goal.invariant-loop
 invariant-loop g l = Writing l.initial.task l.task (g.K.Sink.held l.initial.sink) (g.K.Sink.held l.sink)
     (g.K.Sink.faults l.initial.sink) (g.K.Sink.faults l.sink) (g.K.Sink.wants l.initial.sink) (g.K.Sink.wants l.sink)
-    0 l.moved None
+    (g.W.Watchers.entries l.initial.watch) (g.W.Watchers.entries l.watch) 0 l.moved None

@@ -8,7 +8,7 @@ pub returns-then-not-open_read : goal.returns-then-not-open_read
 returns-then-not-open_read g c = record {
   did = writer_fails c.args.task.now c.open_read.new.task
       (g.K.Sink.held c.args.sink.now) (g.K.Sink.faults c.args.sink.now) (g.K.Sink.wants c.args.sink.now)
-      c.requires.idler
+      (g.W.Watchers.entries c.args.watch.now) c.requires.idler
       (fails (read_end SINK_PIPE) c.open_read.ensures.step.0 c.open_read.result c.args.task.now c.open_read.new.task
       c.open_read.ensures.step.1.0 c.open_read.ensures.carries (idler_works c.args.task.now c.requires.idler)
       c.if-not-open_read.true c.open_read.ensures.step.1.1 c.open_read.ensures.becomes);
@@ -36,6 +36,7 @@ returns g c =
       did = writer_did c.args.task.now c.open_read.new.task c.write_on-ended.new.task c.close_read.new.task o
           (g.K.Sink.held c.args.sink.now) (g.K.Sink.held c.write_on-ended.new.sink) (g.K.Sink.faults c.args.sink.now)
           (g.K.Sink.faults c.write_on-ended.new.sink) (g.K.Sink.wants c.args.sink.now)
-          (g.K.Sink.wants c.write_on-ended.new.sink) c.write_on-ended.result.moved c.write_on-ended.result.stop
+          (g.K.Sink.wants c.write_on-ended.new.sink) (g.W.Watchers.entries c.args.watch.now)
+          (g.W.Watchers.entries c.write_on-ended.new.watch) c.write_on-ended.result.moved c.write_on-ended.result.stop
           c.write_on-ended.ensures.turns q c.requires.idler;
     }

@@ -5,6 +5,7 @@ use Rattle.edge_io.specs.Faults.{FaultIsFailed, FaultIsWant, HasCounted}
 use Rattle.flow_copy.specs.declared.stop.Stop.{Stop}
 use Rattle.flow_copy.specs.declared.stop.Stop.TheVariants as stop
 use Rattle.flow_copy.specs.Turns.{CountedAll, Writing}
+use Rattle.flow_copy.proofs.Shown.{is_piece}
 use Rattle.flow_copy.proofs.Writes.{
   counted_risen,
   write_ended,
@@ -20,7 +21,7 @@ pub returns-then-is_killed : goal.returns-then-is_killed
 returns-then-is_killed g c = record {
   turn = write_killed c.args.task.now c.is_killed.new.task
       (g.K.Sink.held c.args.sink.now) (g.K.Sink.faults c.args.sink.now) (g.K.Sink.wants c.args.sink.now)
-      c.args.moved.now
+      (g.W.Watchers.entries c.args.watch.now) c.args.moved.now
       (omega arith) c.requires.settled c.is_killed.ensures.apart c.if-is_killed.ensures.killed;
 }
 
@@ -29,11 +30,12 @@ returns-in-Err g c = record {
   turn = subst (λ (s : Stop). Writing c.args.task.now c.get.new.task
       (g.K.Sink.held c.args.sink.now) (g.K.Sink.held c.args.sink.now) (g.K.Sink.faults c.args.sink.now)
       (g.K.Sink.faults c.args.sink.now) (g.K.Sink.wants c.args.sink.now) (g.K.Sink.wants c.args.sink.now)
+      (g.W.Watchers.entries c.args.watch.now) (g.W.Watchers.entries c.args.watch.now)
       c.args.moved.now c.args.moved.now (Some s)) (sym c.stop_of.ensures) (write_halted c.args.task.now
       c.is_killed.new.task c.get.new.task c.args.moved.now (omega arith) c.is_killed.ensures.apart []
       c.in-Err.ensures.got
-      (g.K.Sink.held c.args.sink.now) (g.K.Sink.faults c.args.sink.now) (g.K.Sink.wants c.args.sink.now) c.in-Err.halt
-      refl c.in-Err.ensures.cause);
+      (g.K.Sink.held c.args.sink.now) (g.K.Sink.faults c.args.sink.now) (g.K.Sink.wants c.args.sink.now)
+      (g.W.Watchers.entries c.args.watch.now) c.in-Err.halt refl c.in-Err.ensures.cause);
 }
 
 pub returns-then-taken-eq0 : goal.returns-then-taken-eq0
@@ -41,7 +43,8 @@ returns-then-taken-eq0 g c = record {
   turn = write_ended c.args.task.now c.is_killed.new.task c.get.new.task
       c.args.moved.now (omega arith) c.is_killed.ensures.apart (take c.in-Ok.taken c.get.new.buf) c.in-Ok.ensures.got
       (g.K.Sink.held c.args.sink.now) (g.K.Sink.faults c.args.sink.now) (g.K.Sink.wants c.args.sink.now)
-      (ap (λ (n : ℕ). take n c.get.new.buf) c.if-taken-eq0.true) (c.in-Ok.ensures.end c.if-taken-eq0.true);
+      (g.W.Watchers.entries c.args.watch.now) (ap (λ (n : ℕ). take n c.get.new.buf) c.if-taken-eq0.true)
+      (c.in-Ok.ensures.end c.if-taken-eq0.true);
 }
 
 pub returns-in-Err-Failed : goal.returns-in-Err-Failed
@@ -56,10 +59,11 @@ returns-in-Err-Failed g c =
       turn = write_fault c.args.task.now c.is_killed.new.task c.get.new.task c.args.moved.now (omega arith)
           c.is_killed.ensures.apart (take c.in-Ok.taken c.get.new.buf) c.in-Ok.ensures.got
           (g.K.Sink.held c.args.sink.now)
-          (g.K.Sink.held c.write_all.new.out) f0 f1 v0 v1 stop.WriteFault c.in-Err-Failed.ensures.text
+          (g.K.Sink.held c.write_all.new.out) f0 f1 v0 v1
+          (g.W.Watchers.entries c.args.watch.now) stop.WriteFault c.in-Err-Failed.ensures.text
           c.in-Err-Failed.ensures.later
           (failed, subst (FaultIsWant v0 v1) c.in-Err-Failed.field-0-is c.in-Err-Failed.ensures.wanted)
-          (counted_risen f0 f1 failed) (λ X. tt);
+          (counted_risen f0 f1 failed) (λ X. tt) (λ X. tt);
     }
 
 pub returns-in-Err-OutOfMemory : goal.returns-in-Err-OutOfMemory
@@ -74,10 +78,11 @@ returns-in-Err-OutOfMemory g c =
       turn = write_fault c.args.task.now c.is_killed.new.task c.get.new.task c.args.moved.now (omega arith)
           c.is_killed.ensures.apart (take c.in-Ok.taken c.get.new.buf) c.in-Ok.ensures.got
           (g.K.Sink.held c.args.sink.now)
-          (g.K.Sink.held c.write_all.new.out) f0 f1 v0 v1 stop.Memory c.in-Err-OutOfMemory.ensures.text
+          (g.K.Sink.held c.write_all.new.out) f0 f1 v0 v1
+          (g.W.Watchers.entries c.args.watch.now) stop.Memory c.in-Err-OutOfMemory.ensures.text
           c.in-Err-OutOfMemory.ensures.later
           (subst (FaultIsFailed f0 f1) c.in-Err-OutOfMemory.field-0-is c.in-Err-OutOfMemory.ensures.failed, wanted)
-          (counted_risen v0 v1 wanted) (λ X. tt);
+          (counted_risen v0 v1 wanted) (λ X. tt) (λ X. tt);
     }
 
 pub returns-in-Ok-count : goal.returns-in-Ok-count
@@ -89,8 +94,10 @@ returns-in-Ok-count g c =
           c.is_killed.ensures.apart (take c.in-Ok.taken c.get.new.buf) c.in-Ok.ensures.got c.count.new.task
           (g.K.Sink.held c.args.sink.now) (g.K.Sink.held c.write_all.new.out) (g.K.Sink.faults c.args.sink.now)
           (g.K.Sink.faults c.write_all.new.out) (g.K.Sink.wants c.args.sink.now) (g.K.Sink.wants c.write_all.new.out)
+          (g.W.Watchers.entries c.args.watch.now) (g.W.Watchers.entries c.show.new.self)
           c.in-Ok-write_all.ensures.failed c.in-Ok-write_all.ensures.wanted c.in-Ok-write_all.ensures.text
-          ((c.args.moved.now + c.in-Ok.taken) % 2 ^ 64)
+          (is_piece c.in-Ok.taken c.get.new.buf c.if-taken-eq0.false c.in-Ok.ensures.most c.get.ensures.same)
+          c.show.ensures ((c.args.moved.now + c.in-Ok.taken) % 2 ^ 64)
           (subst (λ (n : ℕ). CountedAll n c.get.new.task c.count.new.task) size c.in-Ok-count.ensures.counts)
           (ap (λ (n : ℕ). (c.args.moved.now + n) % 2 ^ 64) size);
     }
@@ -100,11 +107,15 @@ returns-in-Err-count g c = record {
   turn = subst (λ (s : Stop). Writing c.args.task.now c.count.new.task
       (g.K.Sink.held c.args.sink.now) (g.K.Sink.held c.write_all.new.out) (g.K.Sink.faults c.args.sink.now)
       (g.K.Sink.faults c.write_all.new.out) (g.K.Sink.wants c.args.sink.now) (g.K.Sink.wants c.write_all.new.out)
-      c.args.moved.now c.args.moved.now (Some s)) (sym c.stop_of-in-Err-count.ensures) (write_stopped c.args.task.now
+      (g.W.Watchers.entries c.args.watch.now) (g.W.Watchers.entries c.show.new.self) c.args.moved.now c.args.moved.now
+      (Some s)) (sym c.stop_of-in-Err-count.ensures) (write_stopped c.args.task.now
       c.is_killed.new.task c.get.new.task c.args.moved.now (omega arith) c.is_killed.ensures.apart
       (take c.in-Ok.taken c.get.new.buf) c.in-Ok.ensures.got c.count.new.task (g.K.Sink.held c.args.sink.now)
       (g.K.Sink.held c.write_all.new.out) (g.K.Sink.faults c.args.sink.now) (g.K.Sink.faults c.write_all.new.out)
-      (g.K.Sink.wants c.args.sink.now) (g.K.Sink.wants c.write_all.new.out) c.in-Ok-write_all.ensures.failed
-      c.in-Ok-write_all.ensures.wanted c.in-Ok-write_all.ensures.text c.in-Err-count.halt c.in-Err-count.ensures.counts
+      (g.K.Sink.wants c.args.sink.now) (g.K.Sink.wants c.write_all.new.out)
+      (g.W.Watchers.entries c.args.watch.now) (g.W.Watchers.entries c.show.new.self) c.in-Ok-write_all.ensures.failed
+      c.in-Ok-write_all.ensures.wanted c.in-Ok-write_all.ensures.text
+      (is_piece c.in-Ok.taken c.get.new.buf c.if-taken-eq0.false c.in-Ok.ensures.most c.get.ensures.same) c.show.ensures
+      c.in-Err-count.halt c.in-Err-count.ensures.counts
       c.in-Err-count.ensures.cause);
 }

@@ -258,7 +258,7 @@ module _ (one : Location → ℕ) (p : ℕ) (w r : End) (f : IsFlow one p w r) w
           head_is : n ≡ x
           head_is = get_is there ∙ (ap (λ c. get_or c (length r.cells) 0) is ∙ get_or-append_seam r.cells x l 0)
 
-  -- law F on bytes
+  -- what was sent and what was got, as bytes
   pub delivers : Delivers w r
   delivers = record {
     behind = let c = counts in let x = c.took in let y = c.there in let z = c.r_seen in omega arith;

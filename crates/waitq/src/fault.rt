@@ -10,29 +10,22 @@ use wait_script::{ReadScript, Reason};
 
 /// Why a command ends early: each has a status and a line of its own.
 #[derive(Clone, Copy, Debug, PartialEq, Eq)]
-pub enum Fault<'a> {
+pub enum Fault {
     /// The words are no command: status 2.
     Usage,
     /// The input is no script, with its first bad line and its first reason: status 3.
     Script { line: u32, why: Reason },
-    /// The input, or the file that is copied, can't be read: status 4.
+    /// The input can't be read: status 4.
     Read,
-    /// There is no file of the name that is to be copied: status 4.
-    NoFile { name: &'a str },
-    /// The output, or the file that is written, can't be written: status 5.
+    /// The output can't be written: status 5.
     Write,
-    /// A fatal signal that was planned was sent to a worker of a copy: status 6.
-    Killed,
     /// Memory ran out: status 7.
     Memory,
-    /// The input has more than `INPUT_BYTES` bytes, or asks for more than `EVENTS` events, or the file that is copied
-    /// gave more than `LONGEST` bytes: status 8.
+    /// The input has more than `INPUT_BYTES` bytes, or asks for more than `EVENTS` events: status 8.
     Long,
-    /// A worker of a copy found no place in a queue, where an entry stands at `place`: status 9.
-    Worn { place: u64 },
 }
 
-impl Fault<'_> {
+impl Fault {
     /// The status with which the program ends.
     pub fn status(&self) -> u8
         ensures { result ≡ status_of self.now }
@@ -40,20 +33,18 @@ impl Fault<'_> {
         match self {
             Fault::Usage => 2,
             Fault::Script { .. } => 3,
-            Fault::Read | Fault::NoFile { .. } => 4,
+            Fault::Read => 4,
             Fault::Write => 5,
-            Fault::Killed => 6,
             Fault::Memory => 7,
             Fault::Long => 8,
-            Fault::Worn { .. } => 9,
         }
     }
 }
 
-impl From<ReadFault> for Fault<'_> {
+impl From<ReadFault> for Fault {
     ghost from_gives = { λ fault e. e ≡ read_fault fault };
 
-    fn from(fault: ReadFault) -> Self {
+    fn from(fault: ReadFault) -> Fault {
         match fault {
             ReadFault::Failed => Fault::Read,
             ReadFault::OutOfMemory => Fault::Memory,
@@ -62,10 +53,10 @@ impl From<ReadFault> for Fault<'_> {
     }
 }
 
-impl From<ReadScript> for Fault<'_> {
+impl From<ReadScript> for Fault {
     ghost from_gives = { λ fault e. e ≡ script_fault fault };
 
-    fn from(fault: ReadScript) -> Self {
+    fn from(fault: ReadScript) -> Fault {
         match fault {
             ReadScript::Bad { line, why } => Fault::Script { line, why },
             ReadScript::OutOfMemory => Fault::Memory,
@@ -73,10 +64,10 @@ impl From<ReadScript> for Fault<'_> {
     }
 }
 
-impl From<SinkFault> for Fault<'_> {
+impl From<SinkFault> for Fault {
     ghost from_gives = { λ fault e. e ≡ sink_fault fault };
 
-    fn from(fault: SinkFault) -> Self {
+    fn from(fault: SinkFault) -> Fault {
         match fault {
             SinkFault::Failed => Fault::Write,
             SinkFault::OutOfMemory => Fault::Memory,
@@ -84,10 +75,10 @@ impl From<SinkFault> for Fault<'_> {
     }
 }
 
-impl From<AllocError> for Fault<'_> {
+impl From<AllocError> for Fault {
     ghost from_gives = { λ _ e. e ≡ Memory };
 
-    fn from(_error: AllocError) -> Self {
+    fn from(_error: AllocError) -> Fault {
         Fault::Memory
     }
 }

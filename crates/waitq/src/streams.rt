@@ -13,9 +13,7 @@ pub struct Reading<R: Read> {
 }
 
 impl<R: Read> Reading<R> {
-    pub fn new(reader: R) -> Self
-        ensures { result.faults ≡ 0 }
-    {
+    pub fn new(reader: R) -> Self {
         Reading { reader, faults: 0 }
     }
 }
@@ -50,9 +48,7 @@ pub struct Writing<W: Write> {
 }
 
 impl<W: Write> Writing<W> {
-    pub fn new(writer: W) -> Self
-        ensures { result.faults ≡ 0 }
-    {
+    pub fn new(writer: W) -> Self {
         Writing { writer, faults: 0 }
     }
 }

@@ -1,0 +1,11 @@
+pub mod Masks
+pub mod Going
+pub mod Refusing
+pub mod Readiness
+pub mod Resting
+pub mod EventTurns
+pub mod BitTurns
+pub mod LockTurns
+pub mod PageTurns
+pub mod WakeTurns
+pub mod Publishing

@@ -1,0 +1,6 @@
+pub mod Checked
+pub mod Kept
+pub mod Stages
+pub mod Calls
+pub mod Advancing
+pub mod Reasons

@@ -1,6 +1,0 @@
-pub mod Checked
-pub mod Kept
-pub mod Stages
-pub mod Calls
-pub mod Advancing
-pub mod Reasons

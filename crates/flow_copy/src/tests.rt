@@ -4,4 +4,3 @@ mod alone;
 mod faults;
 mod meeting;
 mod tables;
-mod watched;

@@ -1,6 +1,6 @@
 -- The holds of the calls that ask a count, take one of it, clear it and raise it may end.
 use Rattle.std.proofs.Common.{refl, ◌∙◌, ap, arith, inl, inr}
-use Rattle.std.specs.Prelude.{ℕ, ◌≡◌, ◌≤◌, ◌+◌, ◌-◌, ◌==◌, Bool, true, false, None, [], ◌∷◌, MatchBool}
+use Rattle.std.specs.Prelude.{ℕ, ◌≡◌, ◌≤◌, ◌+◌, ◌-◌, Bool, true, false, None, [], ◌∷◌, MatchBool}
 use Rattle.wait_model.specs.declared.layout.TheConstants.{ALL_DONE}
 use Rattle.wait_model.specs.declared.steps.Step.TheVariants as step
 use Rattle.wait_model.specs.declared.watches.Watch.TheVariants as watch

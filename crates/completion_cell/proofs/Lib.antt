@@ -12,6 +12,9 @@ pub mod Parts
 pub mod Loads
 pub mod Looks
 pub mod Completing
+pub mod CellHolds
+pub mod CellRousing
+pub mod CellDraws
 pub mod Ends
 pub mod Offs
 pub mod Queues

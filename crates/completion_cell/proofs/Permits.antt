@@ -1,5 +1,5 @@
 -- The calls that make or take permits in one hold of a completion's head: what the hold owes, and that it may end.
-use Rattle.std.proofs.Common.{refl, sym, ◌∙◌, ap, subst, arith, append_assoc, append-nil, eq-eqb, inl, inr}
+use Rattle.std.proofs.Common.{refl, sym, ◌∙◌, ap, arith, append_assoc, append-nil, eq-eqb, inl, inr}
 use Rattle.std.proofs.lemmas.Bool.Decides.{nat_tests}
 use Rattle.std.specs.Prelude.{
   ℕ,
@@ -31,7 +31,6 @@ use Rattle.wait_model.specs.declared.steps.Step.TheVariants as step
 use Rattle.wait_model.specs.declared.watches.Aim.{Aim}
 use Rattle.wait_model.specs.declared.watches.Mode.TheVariants as mode
 use Rattle.wait_model.specs.declared.watches.Watch.TheVariants as watch
-use Rattle.wait_model.specs.Fold.{view_of}
 use Rattle.wait_model.specs.Permits.{ShowsNobody, after_store, done_head, shows_at}
 use Rattle.wait_model.specs.Runs.{is_publishing, set_step}
 use Rattle.wait_model.specs.Views.{Look, unseen, off, elsewhere, shown}

@@ -5,3 +5,4 @@ pub mod AwaitEnds
 pub mod Tested
 pub mod HeldPermits
 pub mod AwaitPermits
+pub mod CellTurns

@@ -1,22 +1,54 @@
 //! The calls that wait for nobody but a lock, and wake nobody: a count is asked, taken where it is there, and cleared.
 
-ghost use Rattle.std.specs.Prelude.{◌≡◌, ◌<◌, ◌-◌, not, ◌==◌, MatchBool};
+ghost use Rattle.std.specs.Prelude.{◌≡◌, ◌<◌, ◌-◌, MatchBool};
 ghost use Rattle.wait_model.specs.declared.layout.TheConstants.{COMPLETIONS, ALL_DONE};
-ghost use Rattle.wait_rule.specs.Counts.{FindsCount, StoresCount, MayStoreCount};
+ghost use Rattle.wait_rule.specs.Counts.{StoresCount};
 ghost use Rattle.wait_rule.specs.HandedPermits.{LeftOff, StaysOff};
-ghost use Rattle.wait_rule.specs.HeldValues.{count_in};
-ghost use Rattle.wait_rule.specs.Says.{IsFree, IsUp, history_of};
+ghost use Rattle.wait_rule.specs.Known.{Known};
+ghost use Rattle.wait_rule.specs.Says.{IsFree, IsUp};
 ghost use Rattle.wait_rule.specs.Stays.{Carries};
 ghost use Rattle.wait_event.specs.Entries.{hold_change};
+ghost use Rattle.wq_head.specs.Roused.{RousesNone};
+ghost use Rattle.completion_cell.specs.declared.cell_turns.CellCall.TheVariants as call;
+ghost use Rattle.completion_cell.specs.CellTurns.{HoldsFor, IsOver};
 ghost use Rattle.completion_cell.specs.Asks.{HasAsked, HasTried, HasReset, Counted, TakesOne};
 
+use crate::cell_turns::{CellCall, run_cell};
 use std::sync::Wait;
-use wait_model::heads::head_of;
 use wait_model::layout::ALL_DONE;
-use wait_model::watches::Watch;
 use wait_rule::counts::{done_load, done_store};
 use wait_rule::{Domain, Task};
-use wq_head::{lock, unlock};
+use wq_head::locks::give_back;
+
+/// The hold of `is_done`, whose lock is taken.
+pub(crate) fn is_done_hold(domain: &Domain, task: &mut Task, cell: u8) -> bool
+    requires of { task.old.domain ≡ domain.now }
+    requires cell { cell < COMPLETIONS }
+    requires holds { (start : Known) × HoldsFor call.IsDone cell start task.old }
+    ensures of { task.new.domain ≡ domain.now }
+    ensures over { (start : Known) → HoldsFor call.IsDone cell start task.old
+        → IsOver call.IsDone cell result start task.new }
+    ensures rouses { RousesNone task.old task.new }
+{
+    let _ = cell;
+    give_back(domain, task, false);
+    true
+}
+
+/// The hold of `reinit`, whose lock is taken.
+pub(crate) fn reinit_hold(domain: &Domain, task: &mut Task, cell: u8) -> bool
+    requires of { task.old.domain ≡ domain.now }
+    requires cell { cell < COMPLETIONS }
+    requires holds { (start : Known) × HoldsFor call.Reinit cell start task.old }
+    ensures of { task.new.domain ≡ domain.now }
+    ensures over { (start : Known) → HoldsFor call.Reinit cell start task.old
+        → IsOver call.Reinit cell result start task.new }
+    ensures rouses { RousesNone task.old task.new }
+{
+    done_store(domain, task, cell, 0);
+    give_back(domain, task, false);
+    true
+}
 
 /// Whether completion `cell`, below `COMPLETIONS`, is done (kernel/sched/completion.c, `completion_done`): false
 /// exactly where its count is loaded as 0, without the lock. Else a hold of its head waits out a `complete` that is
@@ -34,13 +66,7 @@ pub fn is_done<R: Wait>(rt: &R, domain: &Domain, task: &mut Task, cell: u8) -> b
     ensures carries { Carries (hold_change task.new.at) task.old task.new }
     ensures off { StaysOff task.old task.new }
 {
-    task.told();
-    if done_load(domain, task, cell) == 0 {
-        return false;
-    }
-    lock(rt, domain, task, head_of(Watch::Done { cell }));
-    unlock(rt, domain, task, false);
-    true
+    run_cell(rt, domain, task, CellCall::IsDone, cell)
 }
 
 /// Clears the count of completion `cell`, below `COMPLETIONS` (include/linux/completion.h, `reinit_completion`), in a
@@ -57,10 +83,7 @@ pub fn reinit<R: Wait>(rt: &R, domain: &Domain, task: &mut Task, cell: u8)
     ensures carries { Carries (hold_change task.new.at) task.old task.new }
     ensures off { StaysOff task.old task.new }
 {
-    task.told();
-    lock(rt, domain, task, head_of(Watch::Done { cell }));
-    done_store(domain, task, cell, 0);
-    unlock(rt, domain, task, false);
+    run_cell(rt, domain, task, CellCall::Reinit, cell);
 }
 
 /// Takes one of the count that the hold has loaded, unless there is none; a count at its end stays.
@@ -79,6 +102,22 @@ pub(crate) fn take_one(domain: &Domain, task: &mut Task, cell: u8, count: u32) -
     true
 }
 
+/// The hold of `try_wait`, whose lock is taken.
+pub(crate) fn try_wait_hold(domain: &Domain, task: &mut Task, cell: u8) -> bool
+    requires of { task.old.domain ≡ domain.now }
+    requires cell { cell < COMPLETIONS }
+    requires holds { (start : Known) × HoldsFor call.TryWait cell start task.old }
+    ensures of { task.new.domain ≡ domain.now }
+    ensures over { (start : Known) → HoldsFor call.TryWait cell start task.old
+        → IsOver call.TryWait cell result start task.new }
+    ensures rouses { RousesNone task.old task.new }
+{
+    let count = done_load(domain, task, cell);
+    take_one(domain, task, cell, count);
+    give_back(domain, task, false);
+    count != 0
+}
+
 /// Takes one of completion `cell`, below `COMPLETIONS`, where one is there (kernel/sched/completion.c,
 /// `try_wait_for_completion`): false exactly where the deciding load found its count 0, the one without the lock or the
 /// one in the hold. A count at its end, 4294967295, stays. The rest is as in `is_done`.
@@ -94,13 +133,5 @@ pub fn try_wait<R: Wait>(rt: &R, domain: &Domain, task: &mut Task, cell: u8) -> 
     ensures carries { Carries (hold_change task.new.at) task.old task.new }
     ensures off { StaysOff task.old task.new }
 {
-    task.told();
-    if done_load(domain, task, cell) == 0 {
-        return false;
-    }
-    lock(rt, domain, task, head_of(Watch::Done { cell }));
-    let count = done_load(domain, task, cell);
-    take_one(domain, task, cell, count);
-    unlock(rt, domain, task, false);
-    count != 0
+    run_cell(rt, domain, task, CellCall::TryWait, cell)
 }

@@ -213,8 +213,8 @@ pub fn wait_for<R: Wait>(
     end_of(run, outcome)
 }
 
-/// The answer of a wait that has ended.
-fn end_of(run: AwaitRun, outcome: AwaitOutcome) -> Result<(), WaitEnd>
+/// The answer of a wait that has ended, as `wait_for` gives it: for who went on with it by stretches.
+pub fn end_of(run: AwaitRun, outcome: AwaitOutcome) -> Result<(), WaitEnd>
     ensures { result ≡ end_in run outcome }
 {
     match outcome {

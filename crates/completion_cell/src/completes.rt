@@ -1,24 +1,31 @@
 //! The calls that make a completion done: by one, and for good.
 
-ghost use Rattle.std.specs.Prelude.{◌≡◌, ◌<◌, ◌+◌, MatchBool};
+ghost use Rattle.std.specs.Prelude.{◌≡◌, ◌<◌, ◌+◌, [], MatchBool, MatchResult};
 ghost use Rattle.wait_model.specs.declared.layout.TheConstants.{COMPLETIONS};
 ghost use Rattle.wait_model.specs.declared.watches.Mode.TheVariants as mode;
 ghost use Rattle.wait_model.specs.declared.watches.Watch.TheVariants as watch;
 ghost use Rattle.wait_rule.specs.Counts.{StoresCount};
 ghost use Rattle.wait_rule.specs.HandedPermits.{LeftOff, StaysOff};
+ghost use Rattle.wait_rule.specs.Known.{Known};
 ghost use Rattle.wait_rule.specs.Says.{IsFree, IsUp};
 ghost use Rattle.wait_rule.specs.Stays.{Carries};
 ghost use Rattle.wait_event.specs.Conds.{set_change};
+ghost use Rattle.wq_head.specs.Roused.{IsRousing, tasks_in};
+ghost use Rattle.completion_cell.specs.declared.cell_turns.CellCall.TheVariants as call;
 ghost use Rattle.completion_cell.specs.Asks.{Counted};
+ghost use Rattle.completion_cell.specs.CellTurns.{HasStarved, HoldsFor, IsOver};
 ghost use Rattle.completion_cell.specs.Completes.{HasCompleted, HasCompletedAll, RaisesOne};
 
+use crate::cell_turns::{CellCall, run_cell};
 use std::sync::Wait;
 use wait_model::heads::head_of;
 use wait_model::layout::ALL_DONE;
 use wait_model::watches::Watch;
 use wait_rule::counts::{done_load, done_store};
+use wait_rule::tries::FailedTries;
 use wait_rule::{Domain, Task};
-use wq_head::{Rousing, lock, select, unlock};
+use wq_head::locks::give_back;
+use wq_head::{Rousing, select_tries};
 
 /// Raises the count that the hold has loaded by one; a count at its end stays.
 fn raise_one(domain: &Domain, task: &mut Task, cell: u8, count: u32) -> bool
@@ -34,6 +41,51 @@ fn raise_one(domain: &Domain, task: &mut Task, cell: u8, count: u32) -> bool
     }
     done_store(domain, task, cell, count + 1);
     true
+}
+
+/// The hold of `complete`, whose lock is taken.
+pub(crate) fn complete_hold(
+    domain: &Domain,
+    task: &mut Task,
+    cell: u8,
+    rousing: &mut Rousing,
+) -> Result<bool, FailedTries>
+    requires of { task.old.domain ≡ domain.now }
+    requires cell { cell < COMPLETIONS }
+    requires holds { (start : Known) × HoldsFor call.Complete cell start task.old }
+    requires none { tasks_in rousing.old ≡ [] }
+    ensures of { task.new.domain ≡ domain.now }
+    ensures over { (start : Known) → HoldsFor call.Complete cell start task.old
+        → MatchResult result (λ hit. IsOver call.Complete cell hit start task.new) (HasStarved cell task.new) }
+    ensures rouses { IsRousing task.old task.new rousing.new }
+{
+    let count = done_load(domain, task, cell);
+    raise_one(domain, task, cell, count);
+    let selected = select_tries(domain, task, head_of(Watch::Done { cell }), 1, rousing)?;
+    give_back(domain, task, selected == 1);
+    Ok(true)
+}
+
+/// The hold of `complete_all`, whose lock is taken.
+pub(crate) fn complete_all_hold(
+    domain: &Domain,
+    task: &mut Task,
+    cell: u8,
+    rousing: &mut Rousing,
+) -> Result<bool, FailedTries>
+    requires of { task.old.domain ≡ domain.now }
+    requires cell { cell < COMPLETIONS }
+    requires holds { (start : Known) × HoldsFor call.CompleteAll cell start task.old }
+    requires none { tasks_in rousing.old ≡ [] }
+    ensures of { task.new.domain ≡ domain.now }
+    ensures over { (start : Known) → HoldsFor call.CompleteAll cell start task.old
+        → MatchResult result (λ hit. IsOver call.CompleteAll cell hit start task.new) (HasStarved cell task.new) }
+    ensures rouses { IsRousing task.old task.new rousing.new }
+{
+    done_store(domain, task, cell, ALL_DONE as u32);
+    select_tries(domain, task, head_of(Watch::Done { cell }), 0, rousing)?;
+    give_back(domain, task, false);
+    Ok(true)
 }
 
 /// Completes completion `cell`, below `COMPLETIONS`, for one waiter (kernel/sched/completion.c, `complete`): in one
@@ -53,15 +105,7 @@ pub fn complete<R: Wait>(rt: &R, domain: &Domain, task: &mut Task, cell: u8)
     ensures carries { Carries (set_change (watch.Done cell) mode.Normal task.new.at) task.old task.new }
     ensures off { StaysOff task.old task.new }
 {
-    task.told();
-    let head = head_of(Watch::Done { cell });
-    lock(rt, domain, task, head);
-    let count = done_load(domain, task, cell);
-    raise_one(domain, task, cell, count);
-    let mut rousing = Rousing::new();
-    let selected = select(rt, domain, task, head, 1, &mut rousing);
-    unlock(rt, domain, task, selected == 1);
-    rousing.rouse_all(domain);
+    run_cell(rt, domain, task, CellCall::Complete, cell);
 }
 
 /// Completes completion `cell`, below `COMPLETIONS`, for all waiters, those to come as well (kernel/sched/completion.c,
@@ -79,12 +123,5 @@ pub fn complete_all<R: Wait>(rt: &R, domain: &Domain, task: &mut Task, cell: u8)
     ensures carries { Carries (set_change (watch.Done cell) mode.Normal task.new.at) task.old task.new }
     ensures off { StaysOff task.old task.new }
 {
-    task.told();
-    let head = head_of(Watch::Done { cell });
-    lock(rt, domain, task, head);
-    done_store(domain, task, cell, ALL_DONE as u32);
-    let mut rousing = Rousing::new();
-    select(rt, domain, task, head, 0, &mut rousing);
-    unlock(rt, domain, task, false);
-    rousing.rouse_all(domain);
+    run_cell(rt, domain, task, CellCall::CompleteAll, cell);
 }

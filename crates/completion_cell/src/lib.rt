@@ -4,6 +4,7 @@
 pub mod asks;
 pub mod await_calls;
 pub mod awaits;
+pub mod cell_turns;
 pub mod completes;
 #[cfg(test)]
 mod tests;

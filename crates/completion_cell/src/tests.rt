@@ -2,6 +2,7 @@
 
 mod alone;
 mod calls;
+mod cells;
 mod others;
 mod stretches;
 mod threads;

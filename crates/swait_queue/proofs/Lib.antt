@@ -2,3 +2,4 @@ pub mod SimplePrograms
 pub mod SimpleWaitEnds
 pub mod SimpleWakeEnds
 pub mod SimpleWords
+pub mod SwakeHolds

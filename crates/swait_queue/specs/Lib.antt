@@ -1,3 +1,4 @@
 pub mod SimpleWaits
 pub mod SimpleWakes
 pub mod SimpleWords
+pub mod SwakeTurns

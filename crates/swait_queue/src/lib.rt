@@ -3,10 +3,12 @@
 #![tactic(auto)]
 
 pub mod laws;
+pub mod swake_turns;
 #[cfg(test)]
 mod tests;
 pub mod waits;
 pub mod wakes;
 
+pub use swake_turns::{SwakeRun, SwakeStage, SwakeTurn, swake_stretch};
 pub use waits::{begin_swait, swait_event};
 pub use wakes::{swake_all, swake_all_locked, swake_locked, swake_one};

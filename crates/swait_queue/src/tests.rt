@@ -3,4 +3,5 @@
 
 mod alone;
 mod stretches;
+mod swakes;
 mod threads;

@@ -11,13 +11,17 @@ ghost use Rattle.wait_rule.specs.Stays.{Carries, only_looks, wake_all_change};
 ghost use Rattle.wq_head.specs.Holds.{IsHolding};
 ghost use Rattle.wq_head.specs.Selects.{HasSelected, IsSimpleHold};
 ghost use Rattle.swait_queue.specs.SimpleWaits.{IsSimpleCond};
-ghost use Rattle.swait_queue.specs.SimpleWakes.{EndsSimpleWake, OwesAtMost, most_of, is_spent};
+ghost use Rattle.swait_queue.specs.SimpleWakes.{EndsSimpleWake, OwesAtMost};
+ghost use Rattle.swait_queue.specs.SwakeTurns.{IsOver};
 
+use crate::swake_turns::{SwakeRun, SwakeStage, SwakeTurn, swake_stretch};
+use std::hint::spin_loop;
 use std::sync::Wait;
 use wait_model::heads::head_of;
 use wait_model::watches::Watch;
 use wait_rule::{Domain, Task};
-use wq_head::{Rousing, lock, select, unlock};
+use wq_head::locks::pause;
+use wq_head::{Rousing, select};
 
 /// Wakes the first task that waits in the simple queue of condition `cond`, from `FIRST_SIMPLE` on and below
 /// `PLAIN_CONDITIONS` (kernel/sched/swait.c, `swake_up_one`): takes its entry off and wakes it with NORMAL, also where
@@ -56,40 +60,37 @@ pub fn swake_all<R: Wait>(rt: &R, domain: &Domain, task: &mut Task, cond: u8) ->
     swake(rt, domain, task, cond, true)
 }
 
-/// Selects the first entry of a condition's simple queue, or all, in one hold: how many there were. The threads of
-/// those that it woke are woken after it.
+/// Makes a wake of a condition's simple queue to its end: how many were selected.
 fn swake<R: Wait>(rt: &R, domain: &Domain, task: &mut Task, cond: u8, all: bool) -> u32
     requires of { task.old.domain ≡ domain.now }
     requires up { IsUp task.old }
     requires idle { IsIdle task.old }
     requires simple { IsSimpleCond cond }
-    ensures woken { EndsSimpleWake task.old task.new cond all result }
-    ensures up { IsUp task.new }
-    ensures idle { IsIdle task.new }
-    ensures carries { Carries (wake_all_change (watch.Plain cond) mode.Normal task.new.at) task.old task.new }
-    ensures owing { OwesAtMost task.old task.new }
+    ensures { IsOver task.old task.new cond all result }
 {
     let head = head_of(Watch::Plain { cond });
     let mut rousing = Rousing::new();
-    lock(rt, domain, task, head);
-    let selected = select(rt, domain, task, head, most_of(all), &mut rousing);
-    unlock(rt, domain, task, is_spent(all, selected));
-    rousing.rouse_all(domain);
-    selected
-}
-
-/// How many entries are to be selected: 0 is all.
-fn most_of(all: bool) -> u32
-    ensures { result ≡ most_of all }
-{
-    if all { 0 } else { 1 }
-}
-
-/// Whether as many were selected as were asked for.
-fn is_spent(all: bool, selected: u32) -> bool
-    ensures { result ≡ is_spent all selected }
-{
-    selected != 0 && selected == most_of(all)
+    let mut run = SwakeRun::new(cond, all);
+    let mut stage = SwakeStage::First;
+    let mut looks = 0;
+    for _ in rt.forever() {
+        let turn = swake_stretch(domain, task, &mut run, stage, &mut rousing);
+        rousing.rouse_all(domain);
+        match turn {
+            SwakeTurn::Locked => {
+                looks = pause(rt, domain, head, run.served, looks);
+                stage = SwakeStage::Turn;
+            }
+            SwakeTurn::Done(selected) => return selected,
+            SwakeTurn::Starved(_) => {
+                for _ in rt.forever() {
+                    spin_loop();
+                }
+                unreachable!()
+            }
+        }
+    }
+    unreachable!()
 }
 
 /// Selects the first entry of the simple head `head`, from `FIRST_SIMPLE_HEAD` on, whose lock the task holds

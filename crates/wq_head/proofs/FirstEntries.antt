@@ -99,8 +99,8 @@ wake_normal k who mask v masked = ap (λ (n : Notes). n.normal who) (noted_added
 -- the word of the entry was loaded
 module _ (old seen : Known) (x w : ℕ) (f : IsFirstEntry old x)
     (is : seen ≡ added old (item.Made (saw old.book.head x w))) (knew : KnewEntry old x w) where
-  looks : Looks old seen
-  looks = saw_looks old seen x w f.holding is knew
+  pub first_looks : Looks old seen
+  first_looks = saw_looks old seen x w f.holding is knew
 
   found : (e : Entry) × (shown_entry old x ≡ Some e) × (e.place ≡ f.place)
   found = entry_shown old x f.place f.counts f.stands
@@ -117,16 +117,16 @@ module _ (old seen : Known) (x w : ℕ) (f : IsFirstEntry old x)
       is_simple_entry x found.0 old.at s.0 s.1 f.simple
 
   shows_seen : (told_of seen).hold.book x ≡ shown found.0
-  shows_seen = looks.from.shows x found.0 shows_old
+  shows_seen = first_looks.from.shows x found.0 shows_old
 
   whole_seen : IsWholeBook seen
-  whole_seen = looks_whole (simple_aim old.at) old seen looks f.whole
+  whole_seen = looks_whole (simple_aim old.at) old seen first_looks f.whole
 
   standing_seen : AreStanding seen MEMBERS
-  standing_seen = looks_standing (simple_aim old.at) old seen looks f.whole f.standing
+  standing_seen = looks_standing (simple_aim old.at) old seen first_looks f.whole f.standing
 
   place_seen : (m : ℕ) → m < MEMBERS → place_by seen m ≡ place_by old m
-  place_seen m low = looks_place (simple_aim old.at) old seen looks f.whole m low
+  place_seen m low = looks_place (simple_aim old.at) old seen first_looks f.whole m low
 
   first_seen : entry_from 0 (shown_queue seen) ≡ Some (record { at = x; place = f.place })
   first_seen = let low = f.counts in first_entry seen (record { at = x; place = f.place }) f.counts
@@ -211,7 +211,7 @@ module _ (old seen : Known) (x w : ℕ) (f : IsFirstEntry old x)
     taken lawful = record {
       selects = record {
         seen = seen;
-        looks = looks;
+        looks = first_looks;
         whole = whole_seen;
         member = record { at = x; place = f.place };
         first = first_seen;
@@ -219,7 +219,7 @@ module _ (old seen : Known) (x w : ℕ) (f : IsFirstEntry old x)
         lawful = lawful;
         is = λ i. stored_with (added seen (item.Made (step.Wake (mine i) mask v))) (step.Unqueue x);
       };
-      keeps = hold_on old woke new (hold_on old seen woke (hold_looks old seen looks) (hold_wake seen who mask v))
+      keeps = hold_on old woke new (hold_on old seen woke (hold_looks old seen first_looks) (hold_wake seen who mask v))
           (hold_off woke x loose);
       whole = whole_off woke new x found.0 book_new marks_new refl shows_woke
           (whole_same seen woke book_woke marks_woke refl whole_seen);

@@ -42,7 +42,7 @@ roused_append (e ∷ es) ys = ap (λ (r : List ℕ). roused_by e ++ r) (roused_a
 roused_more : (xs ys : List Item) → roused (steps_of (xs ++ ys)) ≡ roused (steps_of xs) ++ roused (steps_of ys)
 roused_more xs ys = ap roused (steps_append xs ys) ∙ roused_append (steps_of xs) (steps_of ys)
 
-none_more : (old new : Known) (xs : List Item) → new.view.items ≡ old.view.items ++ xs
+pub none_more : (old new : Known) (xs : List Item) → new.view.items ≡ old.view.items ++ xs
     → roused (steps_of xs) ≡ [] → RousesNone old new
 none_more old new xs is none = ap (λ (l : List Item). roused (steps_of l)) is
     ∙ (roused_more old.view.items xs

@@ -1,7 +1,7 @@
 //! Threads that a hold is to wake once it has given the lock back: woken earlier, they would wait for it at once.
 
-ghost use Rattle.std.specs.Prelude.{◌≡◌, ◌≤◌, ◌++◌, ◌∷◌, [], IfErr, IfOk, length};
-ghost use Rattle.wait_model.specs.declared.layout.TheConstants.{BREAK};
+ghost use Rattle.std.specs.Prelude.{◌≡◌, ◌<◌, ◌++◌, ◌∷◌, [], IfErr, IfOk, length};
+ghost use Rattle.wait_model.specs.declared.layout.TheConstants.{MEMBERS};
 ghost use Rattle.wait_model.specs.declared.steps.Step.TheVariants as step;
 ghost use Rattle.wait_model.specs.Fold.{met_task};
 ghost use Rattle.wait_rule.specs.Says.{IsUp, AddsOf};
@@ -9,13 +9,13 @@ ghost use Rattle.wait_rule.specs.Tried.{IsStarved};
 ghost use Rattle.wq_head.specs.Roused.{HasRoused, tasks_in};
 
 use arrayvec::ArrayVec;
-use wait_model::layout::BREAK;
+use wait_model::layout::MEMBERS;
 use wait_rule::tasks::rouse;
 use wait_rule::tries::{FailedTries, wake_tries};
 use wait_rule::{Domain, Task};
 
-/// How many tasks there is room for: as many as a hold calls entries at most.
-const ROOM: usize = BREAK as usize + 1;
+/// How many tasks there is room for: as many as a head can have members, each of which wakes one at most.
+const ROOM: usize = MEMBERS as usize;
 
 /// The tasks that a hold has woken and whose threads are still to be roused, in the order of their wakes.
 #[derive(Drop)]
@@ -35,17 +35,10 @@ impl Rousing {
 
     /// One more.
     fn put(&mut self, who: u8)
-        requires { length (tasks_in self.old) ≤ BREAK }
+        requires { length (tasks_in self.old) < MEMBERS }
         ensures { tasks_in self.new ≡ tasks_in self.old ++ who ∷ [] }
     {
         self.tasks.push(who);
-    }
-
-    /// One more, whose thread is woken at once where there is no room.
-    pub(crate) fn put_or_rouse(&mut self, domain: &Domain, who: u8) {
-        if self.tasks.try_push(who).is_err() {
-            rouse(domain, who);
-        }
     }
 
     /// The tasks, for who rouses them in a way of its own; `clear` follows.
@@ -83,7 +76,7 @@ pub(crate) fn wake_later(
 ) -> Result<bool, FailedTries>
     requires of { task.old.domain ≡ domain.now }
     requires up { IsUp task.old }
-    requires room { length (tasks_in rousing.old) ≤ BREAK }
+    requires room { length (tasks_in rousing.old) < MEMBERS }
     ensures step { IfOk result (λ yes. AddsOf task.old task.new (λ found. step.Wake who mask found)
         (λ found. yes ≡ met_task mask found)) }
     ensures rouses { HasRoused task.old task.new rousing.old rousing.new }

@@ -1,35 +1,32 @@
 //! Selections from a simple head in a hold: the task of the first entry is woken, and the entry taken off.
 
-ghost use Rattle.std.specs.Prelude.{◌≡◌, ◌<◌, ◌≤◌, true};
-ghost use Rattle.wait_model.specs.declared.layout.TheConstants.{FIRST_SIMPLE_HEAD};
-ghost use Rattle.wait_model.specs.declared.steps.Step.TheVariants as step;
-ghost use Rattle.wait_model.specs.declared.watches.Mode.TheVariants as mode;
-ghost use Rattle.wait_model.specs.Fold.{met_task};
-ghost use Rattle.wait_model.specs.Tasks.{IsLawfulWord};
-ghost use Rattle.wait_model.specs.Watches.{mask_of};
-ghost use Rattle.wait_rule.specs.declared.journal.Item.TheVariants as item;
+ghost use Rattle.std.specs.Prelude.{◌≡◌, ◌<◌, ◌≤◌, [], IfErr, IfOk, MatchResult, length, true};
+ghost use Rattle.wait_model.specs.declared.layout.TheConstants.{FIRST_SIMPLE_HEAD, MEMBERS};
 ghost use Rattle.wait_rule.specs.Queues.{MayRise};
-ghost use Rattle.wait_rule.specs.Says.{IsUp, added};
+ghost use Rattle.wait_rule.specs.Says.{IsUp};
 ghost use Rattle.wait_rule.specs.Stays.{Carries, only_looks};
+ghost use Rattle.wait_rule.specs.Tried.{IsStarved};
 ghost use Rattle.wq_head.specs.Holds.{IsHolding};
+ghost use Rattle.wq_head.specs.Roused.{HasRoused, IsRousing, tasks_in};
 ghost use Rattle.wq_head.specs.Selects.{HasSelected, IsSimpleHold, KeepsHold};
 ghost use Rattle.wq_head.specs.Selecting.{HasTaken, IsFirstEntry};
 
 use crate::lists::Members;
 use crate::looks::members;
-use crate::rousing::Rousing;
+use crate::rousing::{Rousing, wake_later};
+use std::hint::spin_loop;
 use std::sync::Wait;
 use wait_model::layout::{ENTRIES, SLOTS};
 use wait_model::watches::Mode;
 use wait_rule::queues::{entry_load, unqueue_member};
-use wait_rule::tries::{FailedTries, wake_try};
+use wait_rule::tries::FailedTries;
 use wait_rule::{Domain, Task};
 
 /// Selects the first entries of the simple head whose lock the task holds, in the order of its queue
 /// (kernel/sched/swait.c, `swake_up_locked`): wakes the task of each with NORMAL, and takes the entry off, also where
 /// its task was awake. It ends after `most` entries, and with a `most` of 0 after all. The answer is how many there
 /// were: less than `most` only where the queue is empty then. Whose threads are still to be woken is put into
-/// `rousing`.
+/// `rousing`, in the order of their wakes; the threads of those that it names before are woken first.
 pub fn select<R: Wait>(
     rt: &R,
     domain: &Domain,
@@ -49,6 +46,45 @@ pub fn select<R: Wait>(
     ensures keeps { IsSimpleHold task.old → IsSimpleHold task.new }
     ensures rises { 0 < result → IsSimpleHold task.old → MayRise task.new true }
     ensures carries { Carries only_looks task.old task.new }
+    ensures rouses { IsRousing task.old task.new rousing.new }
+{
+    rousing.rouse_all(domain);
+    match select_tries(domain, task, head, most, rousing) {
+        Ok(selected) => selected,
+        Err(_) => {
+            for _ in rt.forever() {
+                spin_loop();
+            }
+            unreachable!()
+        }
+    }
+}
+
+/// Selects the first entries of the simple head whose lock the task holds, as `select` does, for who may neither wait
+/// nor wake threads: `rousing`, in which none is left before, names the tasks that were put asleep and that this
+/// selection has woken, in the order of their wakes. Err: the word of one task changed before each of `TRIES` tries to
+/// wake it, as no run comes to; some entries may have been selected then, and the hold goes on.
+pub fn select_tries(
+    domain: &Domain,
+    task: &mut Task,
+    head: u16,
+    most: u32,
+    rousing: &mut Rousing,
+) -> Result<u32, FailedTries>
+    requires of { task.old.domain ≡ domain.now }
+    requires up { IsUp task.old }
+    requires held { IsHolding task.old }
+    requires head { head ≡ task.old.at }
+    requires simple { FIRST_SIMPLE_HEAD ≤ head }
+    requires none { tasks_in rousing.old ≡ [] }
+    ensures selected { IfOk result (λ n. HasSelected task.old task.new most n) }
+    ensures held { IsHolding task.new }
+    ensures hold { KeepsHold task.old task.new }
+    ensures keeps { IsSimpleHold task.old → IsSimpleHold task.new }
+    ensures rises { IfOk result (λ n. 0 < n → IsSimpleHold task.old → MayRise task.new true) }
+    ensures carries { Carries only_looks task.old task.new }
+    ensures rouses { IsRousing task.old task.new rousing.new }
+    ensures starved { IfErr result (λ failed. IsStarved failed) }
 {
     let mut list = Members::new();
     members(domain, task, head, &mut list);
@@ -56,53 +92,36 @@ pub fn select<R: Wait>(
     for i in 0..list.len() {
         let stand = list.stand(i);
         if stand.member < ENTRIES {
-            take_first(rt, domain, task, stand.member, rousing);
+            take_first(domain, task, stand.member, rousing)?;
             selected += 1;
             if selected == most {
-                return selected;
+                return Ok(selected);
             }
         }
     }
-    selected
+    Ok(selected)
 }
 
-/// Wakes the task of the first entry with NORMAL, and takes the entry off, whatever the wake found.
-fn take_first<R: Wait>(rt: &R, domain: &Domain, task: &mut Task, member: u16, rousing: &mut Rousing)
+/// Wakes the task of the first entry with NORMAL, and takes the entry off, whatever the wake found. The thread is left
+/// to be roused later. Err only where all tries failed; then the entry stays.
+fn take_first(
+    domain: &Domain,
+    task: &mut Task,
+    member: u16,
+    rousing: &mut Rousing,
+) -> Result<(), FailedTries>
     requires of { task.old.domain ≡ domain.now }
     requires up { IsUp task.old }
     requires first { IsFirstEntry task.old member }
-    ensures { HasTaken task.old task.new member }
+    requires room { length (tasks_in rousing.old) < MEMBERS }
+    ensures taken { MatchResult result (λ _. HasTaken task.old task.new member)
+        (λ failed. IsStarved failed × KeepsHold task.old task.new) }
+    ensures rouses { HasRoused task.old task.new rousing.old rousing.new }
 {
     let who = (member / SLOTS) as u8;
     let slot = (member % SLOTS) as u8;
     entry_load(domain, task, who, slot);
-    wake_normal(rt, domain, task, who, rousing);
+    wake_later(domain, task, rousing, who, Mode::Normal.mask())?;
     unqueue_member(domain, task, who, slot);
-}
-
-/// Wakes task `who` with NORMAL (`wake_up_process`), and leaves its thread to be roused later. True where its state met
-/// the mask.
-fn wake_normal<R: Wait>(
-    rt: &R,
-    domain: &Domain,
-    task: &mut Task,
-    who: u8,
-    rousing: &mut Rousing,
-) -> bool
-    requires of { task.old.domain ≡ domain.now }
-    requires up { IsUp task.old }
-    ensures { (found : _) × IsLawfulWord found
-        × (task.new ≡ added task.old (item.Made (step.Wake who (mask_of mode.Normal) found)))
-        × (result ≡ met_task (mask_of mode.Normal) found) }
-{
-    let mut failed = FailedTries::none();
-    for _ in rt.forever() {
-        if let Some(woke) = wake_try(domain, task, who, Mode::Normal.mask(), &mut failed) {
-            if woke.rouse {
-                rousing.put_or_rouse(domain, who);
-            }
-            return woke.met;
-        }
-    }
-    unreachable!()
+    Ok(())
 }

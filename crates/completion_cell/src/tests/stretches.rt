@@ -19,7 +19,7 @@ const ORDERS: u32 = 400;
 const TURNS: u32 = 600;
 
 /// The completion of the tests.
-const CELL: u8 = 2;
+pub const CELL: u8 = 2;
 
 /// The next number of a small generator, by which the order of the turns is drawn.
 fn next_number(seed: u32) -> u32 {
@@ -29,7 +29,7 @@ fn next_number(seed: u32) -> u32 {
 }
 
 /// Goes on with a wait by one stretch, or looks whether it was woken.
-fn go_on(domain: &Domain, task: &mut Task, run: &mut AwaitRun, last: AwaitTurn) -> AwaitTurn
+pub fn go_on(domain: &Domain, task: &mut Task, run: &mut AwaitRun, last: AwaitTurn) -> AwaitTurn
     requires of { task.old.domain ≡ domain.now }
     requires waiting { IsAwaiting task.old run.old last }
     ensures of { task.new.domain ≡ domain.now }

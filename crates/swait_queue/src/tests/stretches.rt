@@ -22,7 +22,7 @@ const ORDERS: u32 = 400;
 const TURNS: u32 = 600;
 
 /// The first condition with a simple head.
-const COND: u8 = FIRST_SIMPLE as u8;
+pub const COND: u8 = FIRST_SIMPLE as u8;
 
 /// The next number of a small generator, by which the order of the turns is drawn.
 fn next_number(seed: u32) -> u32 {
@@ -32,7 +32,7 @@ fn next_number(seed: u32) -> u32 {
 }
 
 /// Goes on with a wait by one stretch, or looks whether it was woken.
-fn go_on(domain: &Domain, task: &mut Task, run: &mut WaitRun, last: WaitTurn) -> WaitTurn
+pub fn go_on(domain: &Domain, task: &mut Task, run: &mut WaitRun, last: WaitTurn) -> WaitTurn
     requires of { task.old.domain ≡ domain.now }
     requires waiting { IsWaiting task.old run.old last }
     ensures of { task.new.domain ≡ domain.now }
@@ -53,7 +53,7 @@ fn go_on(domain: &Domain, task: &mut Task, run: &mut WaitRun, last: WaitTurn) ->
 }
 
 /// Whether the wait is over with its condition set.
-fn is_over(last: WaitTurn) -> bool {
+pub fn is_over(last: WaitTurn) -> bool {
     matches!(last, WaitTurn::Done(WaitOutcome::Over))
 }
 

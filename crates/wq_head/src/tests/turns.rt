@@ -1,10 +1,11 @@
-//! Wakes hold by hold, by who waits for no lock.
+//! Locks and wakes hold by hold, by who waits for no lock.
 
 ghost use Rattle.std.specs.Prelude.{◌≡◌};
 ghost use Rattle.wq_head.specs.Readied.{IsReady};
 
 use crate::lists::Members;
-use crate::locks::{lock, unlock};
+use crate::lock_turns::{draw_lock, lock_turn};
+use crate::locks::{give_back, lock, unlock};
 use crate::rousing::Rousing;
 use crate::tests::many::queue_many;
 use crate::tests::waiting::queue_own;
@@ -18,6 +19,27 @@ use wait_model::tasks::Sleep;
 use wait_model::watches::{Kind, Mode, Watch};
 use wait_rule::tasks::sleep_exchange;
 use wait_rule::{Domain, Task};
+
+/// While another task holds the lock a look finds its ticket served, and when that is given back the own one.
+#[test]
+fn lock_waits_for_its_turn(rt: HostRuntime) -> Result<(), Fail> {
+    let (domain, mut task) = Domain::new(rt.alloc())?;
+    let Ok(mut other) = task.fork(&domain, 0) else {
+        panic!(rt; "a number is spare")
+    };
+    lock(&rt, &domain, &mut other, FIRST_PLAIN_HEAD);
+    let ticket = draw_lock(&domain, &mut task, FIRST_PLAIN_HEAD);
+    let Err(served) = lock_turn(&domain, &mut task, FIRST_PLAIN_HEAD, ticket) else {
+        panic!(rt; "the other task holds the lock")
+    };
+    assert_eq!(rt; served.wrapping_add(1), ticket);
+    unlock(&rt, &domain, &mut other, false);
+    let Ok(()) = lock_turn(&domain, &mut task, FIRST_PLAIN_HEAD, ticket) else {
+        panic!(rt; "nobody holds the lock")
+    };
+    give_back(&domain, &mut task, false);
+    Ok(())
+}
 
 /// While another task holds the lock the wake makes no hold, and when that is given back it makes one.
 #[test]

@@ -5,9 +5,12 @@ use Rattle.wait_model.specs.declared.layout.TheConstants.{FIRST_SIMPLE_HEAD}
 use Rattle.wait_model.specs.declared.queues.Member.{Member}
 use Rattle.wait_rule.specs.Known.{Known}
 use Rattle.wait_rule.specs.Shown.{shown_queue}
+use Rattle.wq_head.specs.declared.rousing.Rousing.{Rousing}
 use Rattle.wq_head.specs.Members.{member_of}
 use Rattle.wq_head.specs.Lists.{members_in, stand_in}
-use Rattle.wq_head.proofs.KeptHolds.{hold_carried, hold_on, hold_simple}
+use Rattle.wq_head.specs.Roused.{IsRousing, tasks_in}
+use Rattle.wq_head.proofs.KeptHolds.{hold_carried, hold_holds, hold_on, hold_simple}
+use Rattle.wq_head.proofs.RousedTasks.{none_looked, rousing_none, rousing_on}
 use Rattle.wq_head.proofs.SelectingHold.{
   InSelection,
   selection_starts,
@@ -19,24 +22,28 @@ use Rattle.wq_head.proofs.SelectingHold.{
   none_left,
   queue_few,
 }
-use Rattle.wq_head.proofs.selects.select.Goals as goal
-use Rattle.wq_head.proofs.selects.select.Goals.{
-  then-stand-lt-ENTRIES+else-selected-most,
+use Rattle.wq_head.proofs.selects.select_tries.Goals as goal
+use Rattle.wq_head.proofs.selects.select_tries.Goals.{
+  then-stand-lt-ENTRIES+in_ok-take_first+else-selected-most,
   else-stand-lt-ENTRIES,
 }
 
 pub loop-i-init : goal.loop-i-init
-loop-i-init g c =
+loop-i-init c =
     let l = c.members.ensures in (
       c.members.new.task,
       l.queue,
       selection_starts c.args.task.now c.members.new.task c.requires.held
           (subst (λ (h : ℕ). FIRST_SIMPLE_HEAD ≤ h) c.requires.head c.requires.simple) l.looks l.whole l.stands,
       λ some. omega arith,
+      rousing_on c.args.task.now c.args.task.now c.members.new.task c.args.rousing.now
+          (none_looked c.args.task.now c.members.new.task l.looks)
+          (rousing_none c.args.task.now c.args.rousing.now c.requires.none),
+      (let none = ap length c.requires.none in omega (arith, none)),
     )
 
 pub overflow_add-selected : goal.overflow_add-selected
-overflow_add-selected g c =
+overflow_add-selected c =
     let i = c.loop-i.invariant in
     let inside = ap length (sym i.1) ∙ length-map (members_in c.members.new.into) stand_in in
     let few = i.2.few in
@@ -44,7 +51,7 @@ overflow_add-selected g c =
     omega (arith, few, all, inside, c.loop-i-test.true, c.len-i-end.ensures)
 
 pub take_first-requires-clause-first : goal.take_first-requires-clause-first
-take_first-requires-clause-first g c =
+take_first-requires-clause-first c =
     let i = c.loop-i.invariant in
     let inside = ap length (sym i.1) ∙ length-map (members_in c.members.new.into) stand_in in
     first_here c.args.task.now c.loop-i.task i.0 c.loop-i.i c.loop-i.selected i.2 c.stand-stand.result
@@ -53,7 +60,7 @@ take_first-requires-clause-first g c =
     (member_of c.stand-stand.result)) i.1 c.stand-stand.ensures) c.if-stand-lt-ENTRIES.true
 
 pub loop-i-preserved : goal.loop-i-preserved
-loop-i-preserved g c =
+loop-i-preserved c =
     let i = c.loop-i.invariant in
     let inside = ap length (sym i.1) ∙ length-map (members_in c.members.new.into) stand_in in
     let in_queue : c.loop-i.i < length (shown_queue i.0) =
@@ -63,28 +70,48 @@ loop-i-preserved g c =
     let set = λ (t : Known) (n : ℕ) (at : c.if-stand-lt-ENTRIES.task ≡ t) (by : c.if-stand-lt-ENTRIES.selected ≡ n)
     (h : InSelection c.args.task.now t i.0 (c.loop-i.i + 1) n).
     subst (λ (k : Known). InSelection c.args.task.now k i.0 (c.loop-i.i + 1) c.if-stand-lt-ENTRIES.selected)
-    (sym at) (subst (λ (m : ℕ). InSelection c.args.task.now t i.0 (c.loop-i.i + 1) m) (sym by) h) in (
+    (sym at) (subst (λ (m : ℕ). InSelection c.args.task.now t i.0 (c.loop-i.i + 1) m) (sym by) h) in
+    let told = λ (t : Known) (r : Rousing) (at : c.if-stand-lt-ENTRIES.task ≡ t)
+    (by : c.if-stand-lt-ENTRIES.rousing ≡ r) (h : IsRousing c.args.task.now t r).
+    subst (λ (k : Known). IsRousing c.args.task.now k c.if-stand-lt-ENTRIES.rousing) (sym at)
+    (subst (λ (q : Rousing). IsRousing c.args.task.now t q) (sym by) h) in (
       i.0,
       i.1,
       elim c.if-stand-lt-ENTRIES.branch [
-        | then-stand-lt-ENTRIES+else-selected-most w ↦
+        | then-stand-lt-ENTRIES+in_ok-take_first+else-selected-most w ↦
             set w.take_first.new.task (c.loop-i.selected + 1) w.task-is w.selected-is
             (takes_entry c.args.task.now c.loop-i.task i.0 c.loop-i.i c.loop-i.selected i.2 c.stand-stand.result
-            in_queue here w.if-stand-lt-ENTRIES.true w.take_first.new.task w.take_first.ensures)
+            in_queue here w.if-stand-lt-ENTRIES.true w.take_first.new.task w.in_ok-take_first.ensures.taken)
         | else-stand-lt-ENTRIES w ↦
             set c.loop-i.task c.loop-i.selected w.task-is w.selected-is
             (passes_mark c.args.task.now c.loop-i.task i.0 c.loop-i.i c.loop-i.selected i.2 c.stand-stand.result
             in_queue here (omega (arith, w.if-stand-lt-ENTRIES.false)))
       ],
       elim c.if-stand-lt-ENTRIES.branch [
-        | then-stand-lt-ENTRIES+else-selected-most w ↦ λ some.
+        | then-stand-lt-ENTRIES+in_ok-take_first+else-selected-most w ↦ λ some.
             let was = i.3 some in omega (arith, was, w.if-selected-most.false, w.selected-is)
         | else-stand-lt-ENTRIES w ↦ λ some. let was = i.3 some in omega (arith, was, w.selected-is)
+      ],
+      elim c.if-stand-lt-ENTRIES.branch [
+        | then-stand-lt-ENTRIES+in_ok-take_first+else-selected-most w ↦ told w.take_first.new.task w.take_first.new.rousing
+            w.task-is w.rousing-is (w.take_first.ensures.rouses.tells c.args.task.now i.4)
+        | else-stand-lt-ENTRIES w ↦ told c.loop-i.task c.loop-i.rousing w.task-is w.rousing-is i.4
+      ],
+      elim c.if-stand-lt-ENTRIES.branch [
+        | then-stand-lt-ENTRIES+in_ok-take_first+else-selected-most w ↦
+            let was = i.5 in
+            let more = w.take_first.ensures.rouses.room in
+            let by = ap (λ (r : Rousing). length (tasks_in r)) w.rousing-is in
+            omega (arith, was, more, by, w.selected-is)
+        | else-stand-lt-ENTRIES w ↦
+            let was = i.5 in
+            let by = ap (λ (r : Rousing). length (tasks_in r)) w.rousing-is in
+            omega (arith, was, by, w.selected-is)
       ],
     )
 
 pub returns-then-selected-most-clause-selected : goal.returns-then-selected-most-clause-selected
-returns-then-selected-most-clause-selected g c =
+returns-then-selected-most-clause-selected c =
     let i = c.loop-i.invariant in
     let inside = ap length (sym i.1) ∙ length-map (members_in c.members.new.into) stand_in in
     let in_queue : c.loop-i.i < length (shown_queue i.0) =
@@ -92,22 +119,22 @@ returns-then-selected-most-clause-selected g c =
     let here = subst (λ (q : List Member). member_of c.stand-stand.result ≡ slice_index_or q c.loop-i.i
     (member_of c.stand-stand.result)) i.1 c.stand-stand.ensures in
     let h = takes_entry c.args.task.now c.loop-i.task i.0 c.loop-i.i c.loop-i.selected i.2 c.stand-stand.result
-    in_queue here c.if-stand-lt-ENTRIES.true c.take_first.new.task c.take_first.ensures in
+    in_queue here c.if-stand-lt-ENTRIES.true c.take_first.new.task c.in_ok-take_first.ensures.taken in
     selection_is c.args.task.now c.take_first.new.task i.0 (c.loop-i.i + 1) (c.loop-i.selected + 1) h c.args.most
     (inl ((λ none. omega (arith, none, c.if-selected-most.true)), c.if-selected-most.true))
 
 pub returns-then-selected-most-clause-carries : goal.returns-then-selected-most-clause-carries
-returns-then-selected-most-clause-carries g c =
+returns-then-selected-most-clause-carries c =
     hold_carried c.args.task.now c.take_first.new.task
-    (hold_on c.args.task.now c.loop-i.task c.take_first.new.task c.loop-i.invariant.2.keeps c.take_first.ensures.keeps)
+    (hold_on c.args.task.now c.loop-i.task c.take_first.new.task c.loop-i.invariant.2.keeps c.in_ok-take_first.ensures.taken.keeps)
 
 pub returns-then-selected-most-clause-keeps : goal.returns-then-selected-most-clause-keeps
-returns-then-selected-most-clause-keeps g c =
+returns-then-selected-most-clause-keeps c =
     hold_simple c.args.task.now c.take_first.new.task
-    (hold_on c.args.task.now c.loop-i.task c.take_first.new.task c.loop-i.invariant.2.keeps c.take_first.ensures.keeps)
+    (hold_on c.args.task.now c.loop-i.task c.take_first.new.task c.loop-i.invariant.2.keeps c.in_ok-take_first.ensures.taken.keeps)
 
 pub returns-then-selected-most-clause-rises : goal.returns-then-selected-most-clause-rises
-returns-then-selected-most-clause-rises g c =
+returns-then-selected-most-clause-rises c =
     let i = c.loop-i.invariant in
     let inside = ap length (sym i.1) ∙ length-map (members_in c.members.new.into) stand_in in
     let in_queue : c.loop-i.i < length (shown_queue i.0) =
@@ -115,12 +142,12 @@ returns-then-selected-most-clause-rises g c =
     let here = subst (λ (q : List Member). member_of c.stand-stand.result ≡ slice_index_or q c.loop-i.i
     (member_of c.stand-stand.result)) i.1 c.stand-stand.ensures in
     let h = takes_entry c.args.task.now c.loop-i.task i.0 c.loop-i.i c.loop-i.selected i.2 c.stand-stand.result
-    in_queue here c.if-stand-lt-ENTRIES.true c.take_first.new.task c.take_first.ensures in
+    in_queue here c.if-stand-lt-ENTRIES.true c.take_first.new.task c.in_ok-take_first.ensures.taken in
     λ some simple. selection_rises c.args.task.now c.take_first.new.task i.0 (c.loop-i.i + 1) (c.loop-i.selected + 1) h
     some (hold_simple c.args.task.now c.take_first.new.task h.keeps simple)
 
 pub returns-clause-selected : goal.returns-clause-selected
-returns-clause-selected g c =
+returns-clause-selected c =
     let i = c.loop-i.invariant in
     let inside = ap length (sym i.1) ∙ length-map (members_in c.members.new.into) stand_in in
     selection_is c.args.task.now c.loop-i.task i.0 c.loop-i.i c.loop-i.selected i.2 c.args.most
@@ -131,20 +158,63 @@ returns-clause-selected g c =
     ))
 
 pub returns-clause-carries : goal.returns-clause-carries
-returns-clause-carries g c = hold_carried c.args.task.now c.loop-i.task c.loop-i.invariant.2.keeps
+returns-clause-carries c = hold_carried c.args.task.now c.loop-i.task c.loop-i.invariant.2.keeps
 
 pub returns-clause-keeps : goal.returns-clause-keeps
-returns-clause-keeps g c = hold_simple c.args.task.now c.loop-i.task c.loop-i.invariant.2.keeps
+returns-clause-keeps c = hold_simple c.args.task.now c.loop-i.task c.loop-i.invariant.2.keeps
 
 pub returns-clause-rises : goal.returns-clause-rises
-returns-clause-rises g c = λ some simple.
+returns-clause-rises c = λ some simple.
     let i = c.loop-i.invariant in
     selection_rises c.args.task.now c.loop-i.task i.0 c.loop-i.i c.loop-i.selected i.2 some
     (hold_simple c.args.task.now c.loop-i.task i.2.keeps simple)
 
 pub returns-then-selected-most-clause-hold : goal.returns-then-selected-most-clause-hold
-returns-then-selected-most-clause-hold g c = hold_on c.args.task.now c.loop-i.task c.take_first.new.task
-    c.loop-i.invariant.2.keeps c.take_first.ensures.keeps
+returns-then-selected-most-clause-hold c = hold_on c.args.task.now c.loop-i.task c.take_first.new.task
+    c.loop-i.invariant.2.keeps c.in_ok-take_first.ensures.taken.keeps
 
 pub returns-clause-hold : goal.returns-clause-hold
-returns-clause-hold g c = c.loop-i.invariant.2.keeps
+returns-clause-hold c = c.loop-i.invariant.2.keeps
+
+-- whom it is to rouse
+pub take_first-requires-clause-room : goal.take_first-requires-clause-room
+take_first-requires-clause-room c =
+    let i = c.loop-i.invariant in
+    let inside = ap length (sym i.1) ∙ length-map (members_in c.members.new.into) stand_in in
+    let few = i.2.few in
+    let room = i.5 in
+    let all = queue_few i.0 in
+    omega (arith, few, room, all, inside, c.loop-i-test.true, c.len-i-end.ensures)
+
+pub returns-then-selected-most-clause-rouses : goal.returns-then-selected-most-clause-rouses
+returns-then-selected-most-clause-rouses c =
+    c.take_first.ensures.rouses.tells c.args.task.now c.loop-i.invariant.4
+
+pub returns-in_err-take_first-clause-rouses : goal.returns-in_err-take_first-clause-rouses
+returns-in_err-take_first-clause-rouses c = c.take_first.ensures.rouses.tells c.args.task.now c.loop-i.invariant.4
+
+pub returns-clause-rouses : goal.returns-clause-rouses
+returns-clause-rouses c = c.loop-i.invariant.4
+
+-- where the tries of a wake failed
+pub returns-in_err-take_first-clause-hold : goal.returns-in_err-take_first-clause-hold
+returns-in_err-take_first-clause-hold c = hold_on c.args.task.now c.loop-i.task c.take_first.new.task
+    c.loop-i.invariant.2.keeps c.in_err-take_first.ensures.taken.1
+
+pub returns-in_err-take_first-clause-carries : goal.returns-in_err-take_first-clause-carries
+returns-in_err-take_first-clause-carries c =
+    hold_carried c.args.task.now c.take_first.new.task
+    (hold_on c.args.task.now c.loop-i.task c.take_first.new.task c.loop-i.invariant.2.keeps
+    c.in_err-take_first.ensures.taken.1)
+
+pub returns-in_err-take_first-clause-keeps : goal.returns-in_err-take_first-clause-keeps
+returns-in_err-take_first-clause-keeps c =
+    hold_simple c.args.task.now c.take_first.new.task
+    (hold_on c.args.task.now c.loop-i.task c.take_first.new.task c.loop-i.invariant.2.keeps
+    c.in_err-take_first.ensures.taken.1)
+
+pub returns-in_err-take_first-clause-held : goal.returns-in_err-take_first-clause-held
+returns-in_err-take_first-clause-held c =
+    hold_holds c.args.task.now c.take_first.new.task
+    (hold_on c.args.task.now c.loop-i.task c.take_first.new.task c.loop-i.invariant.2.keeps
+    c.in_err-take_first.ensures.taken.1) c.requires.held

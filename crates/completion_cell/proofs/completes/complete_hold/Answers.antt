@@ -1,0 +1,116 @@
+use Rattle.std.proofs.Common.{◌∙◌, ◌==◌, ◌≤◌, ℕ, ap, refl, subst, sym}
+use Rattle.std.proofs.lemmas.Result.{err_from_is_err_and}
+use Rattle.std.specs.Prelude.{Some}
+use Rattle.wait_model.specs.declared.layout.TheConstants.{FIRST_SIMPLE_HEAD}
+use Rattle.wq_head.specs.Roused.{RousesNone}
+use Rattle.wq_head.proofs.RousedTasks.{none_unlocked, rousing_from, rousing_on}
+use Rattle.completion_cell.proofs.CellHolds.{one_at, one_counted, one_holds, one_over, one_owes, one_simple}
+use Rattle.completion_cell.proofs.CellRousing.{none_counted, none_raised}
+use Rattle.completion_cell.proofs.Completing.{complete_rises, done_simple}
+use Rattle.completion_cell.proofs.completes.complete_hold.Goals as goal
+
+pub done_load-count-requires-clause-up : goal.done_load-count-requires-clause-up
+done_load-count-requires-clause-up c = c.requires.holds.1.took.up
+
+pub done_load-count-requires-clause-agreed : goal.done_load-count-requires-clause-agreed
+done_load-count-requires-clause-agreed c h is = c.requires.holds.1.took.held.agreed
+
+pub raise_one-requires-clause-up : goal.raise_one-requires-clause-up
+raise_one-requires-clause-up c = c.done_load-count.ensures.carries.awake ∙ c.requires.holds.1.took.up
+
+pub raise_one-requires-clause-counted : goal.raise_one-requires-clause-counted
+raise_one-requires-clause-counted c =
+    let l = c.done_load-count in
+    let k = c.args.task.now in
+    one_counted c.args.cell l.result 0 c.requires.holds.0 k l.new.task k k k c.requires.holds.1 l.ensures.step
+    l.ensures.finds l.ensures.carries
+
+pub select_tries-requires-clause-held : goal.select_tries-requires-clause-held
+select_tries-requires-clause-held c =
+    let l = c.done_load-count in
+    let k = c.args.task.now in
+    let r = c.raise_one in
+    one_holds c.args.cell l.result 0 c.requires.holds.0 k l.new.task r.new.task k k c.requires.holds.1 l.ensures.step
+    l.ensures.finds l.ensures.carries r.result r.ensures.raises r.ensures.stores
+
+pub select_tries-requires-clause-head : goal.select_tries-requires-clause-head
+select_tries-requires-clause-head c =
+    let l = c.done_load-count in
+    let k = c.args.task.now in
+    let r = c.raise_one in
+    c.head_of.ensures ∙ sym (one_at c.args.cell l.result 0 c.requires.holds.0 k l.new.task r.new.task k k
+    c.requires.holds.1 l.ensures.step l.ensures.finds l.ensures.carries r.result r.ensures.raises r.ensures.stores)
+
+pub select_tries-requires-clause-simple : goal.select_tries-requires-clause-simple
+select_tries-requires-clause-simple c = subst (λ (n : ℕ). FIRST_SIMPLE_HEAD ≤ n) (sym c.head_of.ensures)
+    (done_simple c.args.cell)
+
+pub give_back-requires-clause-rise : goal.give_back-requires-clause-rise
+give_back-requires-clause-rise c =
+    let l = c.done_load-count in
+    let k = c.args.task.now in
+    let r = c.raise_one in
+    let s = c.select_tries in
+    complete_rises s.new.task c.in_ok-selected.selected
+    (λ some. c.in_ok-selected.ensures.rises some (one_simple c.args.cell l.result 0 c.requires.holds.0 k l.new.task
+    r.new.task k k c.requires.holds.1 l.ensures.step l.ensures.finds l.ensures.carries r.result r.ensures.raises
+    r.ensures.stores)) (c.in_ok-selected.selected == 1) refl
+
+pub give_back-requires-clause-permits : goal.give_back-requires-clause-permits
+give_back-requires-clause-permits c =
+    let l = c.done_load-count in
+    let k = c.args.task.now in
+    let r = c.raise_one in
+    let s = c.select_tries in
+    one_owes c.args.cell l.result c.in_ok-selected.selected c.requires.holds.0 k l.new.task r.new.task s.new.task k
+    c.requires.holds.1 l.ensures.step l.ensures.finds l.ensures.carries r.result r.ensures.raises r.ensures.stores
+    c.in_ok-selected.ensures.selected s.ensures.hold s.ensures.keeps
+
+pub returns-clause-over : goal.returns-clause-over
+returns-clause-over c start i =
+    let l = c.done_load-count in
+    let k = c.args.task.now in
+    let r = c.raise_one in
+    let s = c.select_tries in
+    one_over c.args.cell l.result c.in_ok-selected.selected start k l.new.task r.new.task s.new.task c.give_back.new.task
+    i l.ensures.step l.ensures.finds l.ensures.carries r.result r.ensures.raises r.ensures.stores
+    c.in_ok-selected.ensures.selected s.ensures.hold s.ensures.keeps c.give_back.ensures
+
+-- whom it is to rouse
+pub returns-clause-rouses : goal.returns-clause-rouses
+returns-clause-rouses c =
+    let l = c.done_load-count in
+    let k = c.args.task.now in
+    let r = c.raise_one in
+    let s = c.select_tries in
+    rousing_on k s.new.task c.give_back.new.task s.new.rousing
+    (subst (RousesNone s.new.task) (sym c.give_back.ensures)
+    (none_unlocked s.new.task s.new.task.at (c.in_ok-selected.selected == 1)))
+    (rousing_from k r.new.task s.new.task s.new.rousing
+    (none_raised c.args.cell l.result l.new.task r.new.task r.result r.ensures.stores
+    ∙ none_counted c.args.cell l.result k l.new.task l.ensures.step) s.ensures.rouses)
+
+-- where the tries of a wake failed
+pub returns-in_err-selected-clause-over : goal.returns-in_err-selected-clause-over
+returns-in_err-selected-clause-over c start i =
+    let l = c.done_load-count in
+    let k = c.args.task.now in
+    let r = c.raise_one in
+    let s = c.select_tries in
+    let at_r = one_at c.args.cell l.result 0 start k l.new.task r.new.task k k i l.ensures.step l.ensures.finds
+    l.ensures.carries r.result r.ensures.raises r.ensures.stores in
+    let p = err_from_is_err_and c.from_residual.result c.from_residual.ensures.1 in
+    rw (p.1, p.2) (record {
+      tries = c.in_err-selected.ensures.starved;
+      held = s.ensures.held.locked ∙ ap Some (s.ensures.hold.at ∙ at_r);
+    })
+
+pub returns-in_err-selected-clause-rouses : goal.returns-in_err-selected-clause-rouses
+returns-in_err-selected-clause-rouses c =
+    let l = c.done_load-count in
+    let k = c.args.task.now in
+    let r = c.raise_one in
+    let s = c.select_tries in
+    rousing_from k r.new.task s.new.task s.new.rousing
+    (none_raised c.args.cell l.result l.new.task r.new.task r.result r.ensures.stores
+    ∙ none_counted c.args.cell l.result k l.new.task l.ensures.step) s.ensures.rouses

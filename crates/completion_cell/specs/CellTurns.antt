@@ -1,0 +1,131 @@
+-- To be believed.
+-- A call on a completion that is made by stretches: where it stands between two of them, and what each did.
+use Rattle.std.specs.Prelude.{ℕ, ◌≡◌, ◌≢◌, ◌<◌, Bool, true, false, Some}
+use Rattle.wait_model.specs.declared.layout.TheConstants.{COMPLETIONS}
+use Rattle.wait_model.specs.declared.steps.Step.TheVariants as step
+use Rattle.wait_model.specs.declared.watches.Mode.TheVariants as mode
+use Rattle.wait_model.specs.declared.watches.Watch.TheVariants as watch
+use Rattle.wait_model.specs.Watches.{head_of}
+use Rattle.wait_rule.specs.declared.journal.Item.TheVariants as item
+use Rattle.wait_rule.specs.declared.tries.FailedTries.{FailedTries}
+use Rattle.wait_rule.specs.HandedPermits.{LeftOff, StaysOff}
+use Rattle.wait_rule.specs.Known.{Known}
+use Rattle.wait_rule.specs.Queues.{IsTold}
+use Rattle.wait_rule.specs.Says.{IsFree, IsUp, added}
+use Rattle.wait_rule.specs.Stays.{Carries, Change, unchanged}
+use Rattle.wait_rule.specs.Tried.{IsStarved}
+use Rattle.wait_event.specs.Conds.{set_change}
+use Rattle.wait_event.specs.Entries.{hold_change}
+use Rattle.wq_head.specs.LockTurns.{AwaitsLock, TookLock}
+use Rattle.completion_cell.specs.declared.cell_turns.CellCall.{CellCall}
+use Rattle.completion_cell.specs.declared.cell_turns.CellCall.TheVariants as call
+use Rattle.completion_cell.specs.declared.cell_turns.CellRun.{CellRun}
+use Rattle.completion_cell.specs.declared.cell_turns.CellStage.{CellStage}
+use Rattle.completion_cell.specs.declared.cell_turns.CellStage.TheVariants as stage
+use Rattle.completion_cell.specs.declared.cell_turns.CellTurn.{CellTurn}
+use Rattle.completion_cell.specs.declared.cell_turns.CellTurn.TheVariants as turn
+use Rattle.completion_cell.specs.Asks.{HasAsked, HasReset, HasTried}
+use Rattle.completion_cell.specs.Completes.{HasCompleted, HasCompletedAll}
+
+-- this call, on this completion
+pub record IsFresh (r : CellRun) (c : CellCall) (d : ℕ) : Type 0 where
+  pub call_is : r.call ≡ c
+  pub cell : r.cell ≡ d
+
+abbrev pub cell_head : ℕ → ℕ
+cell_head d = head_of (watch.Done d)
+
+-- the calls that load the count before they lock, and are over where it is 0
+abbrev pub peeks : CellCall → Bool
+peeks call.Complete = false
+peeks call.CompleteAll = false
+peeks call.IsDone = true
+peeks call.Reinit = false
+peeks call.TryWait = true
+
+-- what such a call did first, and that it goes on
+pub record HasPeeked (d : ℕ) (start base : Known) : Type 0 where
+  pub count : ℕ
+  pub some : count ≢ 0
+  pub is : base ≡ added start (item.Made (step.Load (watch.Done d) count))
+  pub carries : Carries unchanged start base
+
+-- what a call did before it drew its ticket
+abbrev pub HasBegun : Bool → ℕ → Known → Known → Type 0
+HasBegun true d start base = HasPeeked d start base
+HasBegun false d start base = start ≡ base
+
+pub record HasDrawn (start now : Known) (r : CellRun) : Type 0 where
+  pub told : IsTold start
+  pub base : Known
+  pub begun : HasBegun (peeks r.call) r.cell start base
+  pub awaits : AwaitsLock base now (cell_head r.cell) r.ticket
+
+-- whether the ticket of its lock is drawn
+abbrev pub StandsAt : Known → Known → CellRun → CellStage → Type 0
+StandsAt start now r stage.First = now ≡ start
+StandsAt start now r stage.Turn = HasDrawn start now r
+
+-- The call began at `start` with a task that was up, held no lock, and had left its own entry off at the completion.
+pub record IsAt (start now : Known) (r : CellRun) (s : CellStage) : Type 0 where
+  pub up : IsUp start
+  pub free : IsFree start
+  pub there : r.cell < COMPLETIONS
+  pub left : LeftOff r.cell start
+  pub stands : StandsAt start now r s
+
+-- the task has taken the lock of the call's hold
+pub record HoldsFor (c : CellCall) (d : ℕ) (start now : Known) : Type 0 where
+  pub up : IsUp start
+  pub free : IsFree start
+  pub left : LeftOff d start
+  pub told : IsTold start
+  pub base : Known
+  pub begun : HasBegun (peeks c) d start base
+  pub took : TookLock base now (cell_head d)
+
+-- what a call made, with its answer
+abbrev pub Ends : CellCall → ℕ → Bool → Known → Known → Type 0
+Ends call.Complete d hit start new = HasCompleted start new d
+Ends call.CompleteAll d hit start new = HasCompletedAll start new d
+Ends call.IsDone d hit start new = HasAsked start new d hit
+Ends call.Reinit d hit start new = HasReset start new d
+Ends call.TryWait d hit start new = HasTried start new d hit
+
+-- and what it changes of the task
+abbrev pub change_of : CellCall → ℕ → ℕ → Change
+change_of call.Complete d h = set_change (watch.Done d) mode.Normal h
+change_of call.CompleteAll d h = set_change (watch.Done d) mode.Normal h
+change_of call.IsDone d h = hold_change h
+change_of call.Reinit d h = hold_change h
+change_of call.TryWait d h = hold_change h
+
+-- What a call did that is over: all that the whole calls say.
+pub record IsOver (c : CellCall) (d : ℕ) (hit : Bool) (start new : Known) : Type 0 where
+  pub ends : Ends c d hit start new
+  pub up : IsUp new
+  pub free : IsFree new
+  pub carries : Carries (change_of c d new.at) start new
+  pub off : StaysOff start new
+
+-- It stopped in its hold: so many tries of one wake failed as no run makes.
+pub record HasStarved (d : ℕ) (new : Known) (failed : FailedTries) : Type 0 where
+  pub tries : IsStarved failed
+  pub held : new.book.head ≡ Some (cell_head d)
+
+-- what a stretch did
+abbrev pub TurnsTo : Known → Known → CellRun → CellTurn → Type 0
+TurnsTo start new r turn.Locked = IsAt start new r stage.Turn
+TurnsTo start new r (turn.Done hit) = IsOver r.call r.cell hit start new
+TurnsTo start new r (turn.Starved failed) = HasStarved r.cell new failed
+
+-- it is the same call
+pub record HasTurned (start new : Known) (r s : CellRun) (t : CellTurn) : Type 0 where
+  pub fresh : IsFresh s r.call r.cell
+  pub turns : TurnsTo start new s t
+
+-- where a stretch leaves the call, whenever that began; after its end the task is up and holds no lock
+abbrev pub Rests : Known → CellRun → CellTurn → Type 0
+Rests now r turn.Locked = (start : Known) × IsAt start now r stage.Turn
+Rests now r (turn.Done hit) = IsUp now × IsFree now
+Rests now r (turn.Starved failed) = HasStarved r.cell now failed

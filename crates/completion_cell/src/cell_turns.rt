@@ -1,0 +1,230 @@
+//! Calls on completions by stretches, for who may not wait, and their way to the end.
+
+ghost use Rattle.std.specs.Prelude.{◌≡◌, ◌<◌, [], false, MatchBool, MatchResult};
+ghost use Rattle.wait_model.specs.declared.layout.TheConstants.{COMPLETIONS};
+ghost use Rattle.wait_rule.specs.HandedPermits.{LeftOff};
+ghost use Rattle.wait_rule.specs.Known.{Known};
+ghost use Rattle.wait_rule.specs.Says.{IsFree, IsUp};
+ghost use Rattle.wq_head.specs.Roused.{IsRousing, RousesNone, tasks_in};
+ghost use Rattle.completion_cell.specs.declared.cell_turns.CellStage.TheVariants as stages;
+ghost use Rattle.completion_cell.specs.CellTurns.{HasStarved, HasTurned, HoldsFor, IsAt, IsFresh, IsOver, Rests, peeks};
+
+use crate::asks::{is_done_hold, reinit_hold, try_wait_hold};
+use crate::completes::{complete_all_hold, complete_hold};
+use std::hint::spin_loop;
+use std::sync::Wait;
+use wait_model::heads::head_of;
+use wait_model::watches::Watch;
+use wait_rule::counts::done_load;
+use wait_rule::tries::FailedTries;
+use wait_rule::{Domain, Task};
+use wq_head::locks::pause;
+use wq_head::{Rousing, draw_lock, lock_turn};
+
+/// A call on a completion that waits for nobody but a lock, by its name.
+#[derive(Clone, Copy)]
+pub enum CellCall {
+    Complete,
+    CompleteAll,
+    IsDone,
+    Reinit,
+    TryWait,
+}
+
+/// Where a call stands between two of its stretches: before it, or with the ticket of its lock drawn.
+#[derive(Clone, Copy)]
+pub enum CellStage {
+    First,
+    Turn,
+}
+
+/// What a stretch of a call did: another ticket is served, and it goes on at `Turn`; it is over, with the answer of
+/// `is_done` or `try_wait`, or true; or `TRIES` tries to wake one task failed, and it does not end.
+#[derive(Clone, Copy)]
+pub enum CellTurn {
+    Locked,
+    Done(bool),
+    Starved(FailedTries),
+}
+
+/// The numbers of a call under way.
+#[derive(Clone, Copy)]
+pub struct CellRun {
+    pub call: CellCall,
+    pub cell: u8,
+    /// The number of the ticket that is drawn, and the one that was found served last.
+    pub ticket: u64,
+    pub served: u64,
+}
+
+impl CellRun {
+    /// A call that has not begun, on completion `cell`, below `COMPLETIONS`.
+    pub fn new(call: CellCall, cell: u8) -> CellRun
+        ensures { IsFresh result call cell }
+    {
+        CellRun {
+            call,
+            cell,
+            ticket: 0,
+            served: 0,
+        }
+    }
+}
+
+/// Goes on with a call by one look at its ticket, and by its hold where that is served, for who may not wait for a
+/// lock: an executor, or a caller from another language. It waits for nobody and wakes no thread: `rousing`, in which
+/// none is left before, names the tasks that were put asleep and that this stretch has woken, in the order of their
+/// wakes, for the caller to rouse. Locked: the ticket is drawn and not served; the call goes on at `Turn` once another
+/// number of the head is served, no head is held, and in between the task makes nothing else. Done: the call is over,
+/// as by the function of its name. Starved: the word of one task changed before each of `TRIES` tries to wake it, which
+/// no run comes to; the head is held then, and the call does not end.
+pub fn cell_stretch(
+    domain: &Domain,
+    task: &mut Task,
+    run: &mut CellRun,
+    stage: CellStage,
+    rousing: &mut Rousing,
+) -> CellTurn
+    requires of { task.old.domain ≡ domain.now }
+    requires at { (start : Known) × IsAt start task.old run.old stage }
+    requires none { tasks_in rousing.old ≡ [] }
+    ensures of { task.new.domain ≡ domain.now }
+    ensures turned { (start : Known) → IsAt start task.old run.old stage
+        → HasTurned start task.new run.old run.new result }
+    ensures rests { Rests task.new run.new result }
+    ensures rouses { IsRousing task.old task.new rousing.new }
+{
+    if !draw_turn(domain, task, run, stage) {
+        return CellTurn::Done(false);
+    }
+    let head = head_of(Watch::Done { cell: run.cell });
+    match lock_turn(domain, task, head, run.ticket) {
+        Err(served) => {
+            run.served = served;
+            CellTurn::Locked
+        }
+        Ok(()) => match hold(domain, task, *run, rousing) {
+            Ok(yes) => CellTurn::Done(yes),
+            Err(failed) => CellTurn::Starved(failed),
+        },
+    }
+}
+
+/// Draws the ticket of the call's lock, unless it is drawn: false where the call is over before.
+fn draw_turn(domain: &Domain, task: &mut Task, run: &mut CellRun, stage: CellStage) -> bool
+    requires of { task.old.domain ≡ domain.now }
+    requires at { (start : Known) × IsAt start task.old run.old stage }
+    ensures of { task.new.domain ≡ domain.now }
+    ensures fresh { IsFresh run.new run.old.call run.old.cell }
+    ensures drawn { (start : Known) → IsAt start task.old run.old stage
+        → MatchBool result (IsAt start task.new run.new stages.Turn)
+        (IsOver run.old.call run.old.cell false start task.new) }
+    ensures rouses { RousesNone task.old task.new }
+{
+    match stage {
+        CellStage::First => begin(domain, task, run),
+        CellStage::Turn => true,
+    }
+}
+
+/// Whether the call loads the count before it locks, and is over where that is 0.
+fn peeks(call: CellCall) -> bool
+    ensures { result ≡ peeks call }
+{
+    match call {
+        CellCall::IsDone => true,
+        CellCall::TryWait => true,
+        _ => false,
+    }
+}
+
+/// The first steps of a call up to its ticket: false where it is over before that.
+fn begin(domain: &Domain, task: &mut Task, run: &mut CellRun) -> bool
+    requires of { task.old.domain ≡ domain.now }
+    requires up { IsUp task.old }
+    requires free { IsFree task.old }
+    requires there { run.old.cell < COMPLETIONS }
+    requires left { LeftOff run.old.cell task.old }
+    ensures of { task.new.domain ≡ domain.now }
+    ensures fresh { IsFresh run.new run.old.call run.old.cell }
+    ensures drawn { MatchBool result (IsAt task.old task.new run.new stages.Turn)
+        (IsOver run.old.call run.old.cell false task.old task.new) }
+    ensures rouses { RousesNone task.old task.new }
+{
+    task.told();
+    let head = head_of(Watch::Done { cell: run.cell });
+    if !peeks(run.call) {
+        run.ticket = draw_lock(domain, task, head);
+        return true;
+    }
+    if done_load(domain, task, run.cell) == 0 {
+        return false;
+    }
+    run.ticket = draw_lock(domain, task, head);
+    true
+}
+
+/// The hold of a call.
+fn hold(
+    domain: &Domain,
+    task: &mut Task,
+    run: CellRun,
+    rousing: &mut Rousing,
+) -> Result<bool, FailedTries>
+    requires of { task.old.domain ≡ domain.now }
+    requires there { run.cell < COMPLETIONS }
+    requires holds { (start : Known) × HoldsFor run.call run.cell start task.old }
+    requires none { tasks_in rousing.old ≡ [] }
+    ensures of { task.new.domain ≡ domain.now }
+    ensures over { (start : Known) → HoldsFor run.call run.cell start task.old
+        → MatchResult result (λ hit. IsOver run.call run.cell hit start task.new) (HasStarved run.cell task.new) }
+    ensures rouses { IsRousing task.old task.new rousing.new }
+{
+    match run.call {
+        CellCall::Complete => complete_hold(domain, task, run.cell, rousing),
+        CellCall::CompleteAll => complete_all_hold(domain, task, run.cell, rousing),
+        CellCall::IsDone => Ok(is_done_hold(domain, task, run.cell)),
+        CellCall::Reinit => Ok(reinit_hold(domain, task, run.cell)),
+        CellCall::TryWait => Ok(try_wait_hold(domain, task, run.cell)),
+    }
+}
+
+/// Makes a call to its end: its answer, or true.
+pub(crate) fn run_cell<R: Wait>(
+    rt: &R,
+    domain: &Domain,
+    task: &mut Task,
+    call: CellCall,
+    cell: u8,
+) -> bool
+    requires of { task.old.domain ≡ domain.now }
+    requires up { IsUp task.old }
+    requires free { IsFree task.old }
+    requires there { cell < COMPLETIONS }
+    requires left { LeftOff cell task.old }
+    ensures { IsOver call cell result task.old task.new }
+{
+    let head = head_of(Watch::Done { cell });
+    let mut rousing = Rousing::new();
+    let mut run = CellRun::new(call, cell);
+    let mut stage = CellStage::First;
+    let mut looks = 0;
+    for _ in rt.forever() {
+        let turn = cell_stretch(domain, task, &mut run, stage, &mut rousing);
+        rousing.rouse_all(domain);
+        match turn {
+            CellTurn::Locked => {
+                looks = pause(rt, domain, head, run.served, looks);
+                stage = CellStage::Turn;
+            }
+            CellTurn::Done(yes) => return yes,
+            CellTurn::Starved(_) => {
+                for _ in rt.forever() {
+                    spin_loop();
+                }
+                unreachable!()
+            }
+        }
+    }
+    unreachable!()
+}

@@ -1,0 +1,76 @@
+-- To be believed.
+-- A wake of a simple queue that is made by stretches: where it stands between two of them, and what each did.
+use Rattle.std.specs.Prelude.{ℕ, ◌≡◌, Bool, Some}
+use Rattle.wait_model.specs.declared.watches.Mode.TheVariants as mode
+use Rattle.wait_model.specs.declared.watches.Watch.TheVariants as watch
+use Rattle.wait_model.specs.Watches.{head_of}
+use Rattle.wait_rule.specs.declared.tries.FailedTries.{FailedTries}
+use Rattle.wait_rule.specs.Known.{Known}
+use Rattle.wait_rule.specs.Queues.{IsIdle}
+use Rattle.wait_rule.specs.Says.{IsUp}
+use Rattle.wait_rule.specs.Stays.{Carries, wake_all_change}
+use Rattle.wait_rule.specs.Tried.{IsStarved}
+use Rattle.wq_head.specs.LockTurns.{AwaitsLock, TookLock}
+use Rattle.swait_queue.specs.declared.swake_turns.SwakeRun.{SwakeRun}
+use Rattle.swait_queue.specs.declared.swake_turns.SwakeStage.{SwakeStage}
+use Rattle.swait_queue.specs.declared.swake_turns.SwakeStage.TheVariants as stage
+use Rattle.swait_queue.specs.declared.swake_turns.SwakeTurn.{SwakeTurn}
+use Rattle.swait_queue.specs.declared.swake_turns.SwakeTurn.TheVariants as turn
+use Rattle.swait_queue.specs.SimpleWaits.{IsSimpleCond}
+use Rattle.swait_queue.specs.SimpleWakes.{EndsSimpleWake, OwesAtMost}
+
+-- a wake of this condition, of one or of all
+pub record IsFresh (r : SwakeRun) (c : ℕ) (all : Bool) : Type 0 where
+  pub cond : r.cond ≡ c
+  pub all_is : r.all ≡ all
+
+abbrev pub swake_head : SwakeRun → ℕ
+swake_head r = head_of (watch.Plain r.cond)
+
+-- whether the ticket of its lock is drawn
+abbrev pub StandsAt : Known → Known → SwakeRun → SwakeStage → Type 0
+StandsAt start now r stage.First = now ≡ start
+StandsAt start now r stage.Turn = AwaitsLock start now (swake_head r) r.ticket
+
+-- The wake began at `start` with an idle task that was up, for a condition with a simple queue.
+pub record IsAt (start now : Known) (r : SwakeRun) (s : SwakeStage) : Type 0 where
+  pub up : IsUp start
+  pub idle : IsIdle start
+  pub simple : IsSimpleCond r.cond
+  pub stands : StandsAt start now r s
+
+-- the task has taken the lock of its hold
+pub record HoldsFor (start now : Known) (r : SwakeRun) : Type 0 where
+  pub idle : IsIdle start
+  pub simple : IsSimpleCond r.cond
+  pub took : TookLock start now (swake_head r)
+
+-- What a wake did that is over: all that the whole calls say.
+pub record IsOver (start new : Known) (c : ℕ) (all : Bool) (n : ℕ) : Type 0 where
+  pub woken : EndsSimpleWake start new c all n
+  pub up : IsUp new
+  pub idle : IsIdle new
+  pub carries : Carries (wake_all_change (watch.Plain c) mode.Normal new.at) start new
+  pub owing : OwesAtMost start new
+
+-- It stopped in its hold: so many tries of one wake failed as no run makes.
+pub record HasStarved (c : ℕ) (new : Known) (failed : FailedTries) : Type 0 where
+  pub tries : IsStarved failed
+  pub held : new.book.head ≡ Some (head_of (watch.Plain c))
+
+-- what a stretch did
+abbrev pub TurnsTo : Known → Known → SwakeRun → SwakeTurn → Type 0
+TurnsTo start new r turn.Locked = IsAt start new r stage.Turn
+TurnsTo start new r (turn.Done n) = IsOver start new r.cond r.all n
+TurnsTo start new r (turn.Starved failed) = HasStarved r.cond new failed
+
+-- it is the same wake
+pub record HasTurned (start new : Known) (r s : SwakeRun) (t : SwakeTurn) : Type 0 where
+  pub fresh : IsFresh s r.cond r.all
+  pub turns : TurnsTo start new s t
+
+-- where a stretch leaves the wake, whenever that began; after its end the task is up and idle
+abbrev pub Rests : Known → SwakeRun → SwakeTurn → Type 0
+Rests now r turn.Locked = (start : Known) × IsAt start now r stage.Turn
+Rests now r (turn.Done n) = IsUp now × IsIdle now
+Rests now r (turn.Starved failed) = HasStarved r.cond now failed

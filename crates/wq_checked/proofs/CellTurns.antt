@@ -1,0 +1,127 @@
+-- A stretch of a call about a completion: it has come on from where it began, or it is over, and its task ready.
+use Rattle.std.proofs.Common.{◌∙◌, refl, subst, sym}
+use Rattle.std.specs.Prelude.{ℕ, ◌≡◌, Bool, true, false}
+use Rattle.wait_model.specs.declared.watches.Mode.TheVariants as mode
+use Rattle.wait_model.specs.declared.watches.Watch.{Watch}
+use Rattle.wait_model.specs.declared.watches.Watch.TheVariants as watch
+use Rattle.wait_model.specs.Watches.{same}
+use Rattle.wait_rule.specs.HandedPermits.{StaysOff}
+use Rattle.wait_rule.specs.Known.{Known}
+use Rattle.wait_rule.specs.Says.{IsFree, IsUp, told_of}
+use Rattle.wait_rule.specs.Stays.{Carries}
+use Rattle.wait_event.specs.Conds.{set_change}
+use Rattle.wait_event.specs.Entries.{hold_change}
+use Rattle.completion_cell.specs.declared.cell_turns.CellCall.{CellCall}
+use Rattle.completion_cell.specs.declared.cell_turns.CellCall.TheVariants as call
+use Rattle.completion_cell.specs.declared.cell_turns.CellRun.{CellRun}
+use Rattle.completion_cell.specs.declared.cell_turns.CellStage.{CellStage}
+use Rattle.completion_cell.specs.declared.cell_turns.CellStage.TheVariants as stage
+use Rattle.completion_cell.specs.declared.cell_turns.CellTurn.{CellTurn}
+use Rattle.completion_cell.specs.declared.cell_turns.CellTurn.TheVariants as turn
+use Rattle.completion_cell.specs.CellTurns.{HasTurned, IsAt, IsOver}
+use Rattle.wq_checked.specs.Kept.{IsReady, but_kept, keeps_in}
+use Rattle.wq_checked.specs.Calls.{Began, CameFrom, CellCame, IsSound, WentOn}
+use Rattle.wq_checked.specs.Advancing.{cell_left, cell_shown}
+use Rattle.wq_checked.specs.declared.calls.Running.{Running}
+use Rattle.wq_checked.specs.declared.calls.Running.TheVariants as running
+use Rattle.wq_checked.specs.declared.kept_bits.KeptBits.{KeptBits}
+use Rattle.wq_checked.proofs.Publishing.{bits_hold, no_bit}
+use Rattle.wq_checked.proofs.WakeTurns.{owes_wider}
+
+-- where it stands, by where it began
+at_from : (start : Known) (first : Running) (k : Known) (run : CellRun) (s : CellStage)
+    → CameFrom start first k (running.Cell run s) → IsAt start k run s
+at_from start (running.Cell f from) k run s came = came.at
+at_from start first k run s came = absurd came
+
+pub cell_at : (ks : KeptBits) (k : Known) (run : CellRun) (s : CellStage) → IsSound (running.Cell run s) ks k
+    → (start : Known) × IsAt start k run s
+cell_at ks k run s u = (u.start, at_from u.start u.first k run s u.came)
+
+-- what is over leaves a ready task: one that sets the completion, and one that does not
+module _ (ks : KeptBits) (start new : Known) (d : ℕ) (r : IsReady ks start) (up : IsUp new) (free : IsFree new)
+    (off : StaysOff start new) where
+  set_ready : Carries (set_change (watch.Done d) mode.Normal new.at) start new → IsReady ks new
+  set_ready c = record {
+    up = up;
+    idle = record { running = c.state ∙ r.idle.running; free = free; unmarked = c.mark ∙ r.idle.unmarked };
+    told = c.hold ∙ r.told;
+    keeps = λ e. by e (same e (watch.Done d)) refl;
+    owes = c.owes (but_kept ks) r.owes;
+    off = λ e. off e (r.off e);
+  }
+    where
+      by : (e : Watch) (t : Bool) → same e (watch.Done d) ≡ t → (told_of new).bits.keeps e ≡ keeps_in ks e
+      by e true at =
+          let none = no_bit ks (watch.Done d) e refl at in
+          bits_hold ks new (watch.Done d) e
+          (owes_wider (watch.Done d) mode.Normal (but_kept ks) new (c.owes (but_kept ks) r.owes)) none ∙ sym none
+      by e false at = c.keeps e at ∙ r.keeps e
+
+  held_ready : Carries (hold_change new.at) start new → IsReady ks new
+  held_ready c = record {
+    up = up;
+    idle = record { running = c.state ∙ r.idle.running; free = free; unmarked = c.mark ∙ r.idle.unmarked };
+    told = c.hold ∙ r.told;
+    keeps = λ e. c.keeps e refl ∙ r.keeps e;
+    owes = c.owes (but_kept ks) r.owes;
+    off = λ e. off e (r.off e);
+  }
+
+over_ready : (ks : KeptBits) (start new : Known) (c : CellCall) (d : ℕ) (hit : Bool) → IsReady ks start
+    → IsOver c d hit start new → IsReady ks new
+over_ready ks start new call.Complete d hit r o = set_ready ks start new d r o.up o.free o.off o.carries
+over_ready ks start new call.CompleteAll d hit r o = set_ready ks start new d r o.up o.free o.off o.carries
+over_ready ks start new call.IsDone d hit r o = held_ready ks start new d r o.up o.free o.off o.carries
+over_ready ks start new call.Reinit d hit r o = held_ready ks start new d r o.up o.free o.off o.carries
+over_ready ks start new call.TryWait d hit r o = held_ready ks start new d r o.up o.free o.off o.carries
+
+-- a stretch from where it has come to
+module _ (start old new : Known) (f run q : CellRun) (s : CellStage) (came : CellCame start old f run s) where
+  over_as : (hit : Bool) → HasTurned start new run q (turn.Done hit) → IsOver f.call f.cell hit start new
+  over_as hit h = by (h.fresh.call_is ∙ came.call) (h.fresh.cell ∙ came.cell)
+    where
+      by : q.call ≡ f.call → q.cell ≡ f.cell → IsOver f.call f.cell hit start new
+      by c d = subst (λ (e : CellCall). IsOver e f.cell hit start new) c
+          (subst (λ (n : ℕ). IsOver q.call n hit start new) d h.turns)
+
+  come_on : HasTurned start new run q turn.Locked → CellCame start new f q stage.Turn
+  come_on h = record { at = h.turns; call = h.fresh.call_is ∙ came.call; cell = h.fresh.cell ∙ came.cell }
+
+  tells : (from : CellStage) (t : CellTurn) → HasTurned start new run q t
+      → WentOn start (running.Cell f from) new (cell_left q t) (cell_shown t)
+  tells from turn.Locked h = (come_on h, tt)
+  tells from (turn.Done hit) h = (refl, over_as hit h)
+  tells from (turn.Starved n) h = refl
+
+  left_sound : (ks : KeptBits) → IsReady ks start → (from : CellStage) (t : CellTurn) → HasTurned start new run q t
+      → IsSound (cell_left q t) ks new
+  left_sound ks r from turn.Locked h = record {
+    start = start;
+    first = running.Cell f from;
+    began = r;
+    came = come_on h;
+    stands = tt;
+  }
+  left_sound ks r from (turn.Done hit) h = over_ready ks start new f.call f.cell hit r (over_as hit h)
+  left_sound ks r from (turn.Starved n) h = tt
+
+pub cell_goes : (start : Known) (first : Running) (old new : Known) (run q : CellRun) (s : CellStage) (t : CellTurn)
+    → CameFrom start first old (running.Cell run s)
+    → ((start : Known) → IsAt start old run s → HasTurned start new run q t)
+    → WentOn start first new (cell_left q t) (cell_shown t)
+cell_goes start (running.Cell f from) old new run q s t came turned = tells start old new f run q s came from t
+    (turned start came.at)
+cell_goes start first old new run q s t came turned = absurd came
+
+sound_from : (ks : KeptBits) (start : Known) (first : Running) (old new : Known) (run q : CellRun) (s : CellStage)
+    (t : CellTurn) → Began ks start first → CameFrom start first old (running.Cell run s)
+    → ((start : Known) → IsAt start old run s → HasTurned start new run q t) → IsSound (cell_left q t) ks new
+sound_from ks start (running.Cell f from) old new run q s t began came turned =
+    left_sound start old new f run q s came ks began from t (turned start came.at)
+sound_from ks start first old new run q s t began came turned = absurd came
+
+pub cell_sound : (ks : KeptBits) (old new : Known) (run q : CellRun) (s : CellStage) (t : CellTurn)
+    → IsSound (running.Cell run s) ks old → ((start : Known) → IsAt start old run s → HasTurned start new run q t)
+    → IsSound (cell_left q t) ks new
+cell_sound ks old new run q s t u turned = sound_from ks u.start u.first old new run q s t u.began u.came turned

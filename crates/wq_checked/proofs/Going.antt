@@ -1,0 +1,24 @@
+-- What an advance leaves under way and tells, by equations.
+use Rattle.std.proofs.Common.{sym, subst}
+use Rattle.std.specs.Prelude.{ℕ, ◌≡◌, ◌||◌, Bool}
+use Rattle.wait_model.specs.declared.watches.Watch.{Watch}
+use Rattle.wait_model.specs.declared.watches.Watch.TheVariants as watch
+use Rattle.wait_rule.specs.Bits.{taken_bits}
+use Rattle.wait_rule.specs.Known.{Known}
+use Rattle.wq_checked.specs.Calls.{WentOn}
+use Rattle.wq_checked.specs.Kept.{keeps_in}
+use Rattle.wq_checked.specs.declared.calls.Progress.{Progress}
+use Rattle.wq_checked.specs.declared.calls.Running.{Running}
+use Rattle.wq_checked.specs.declared.kept_bits.KeptBits.{KeptBits}
+
+pub went_as : (start : Known) (first : Running) (new : Known) (r s : Running) (p u : Progress) → r ≡ s → p ≡ u
+    → WentOn start first new s u → WentOn start first new r p
+went_as start first new r s p u a b w = subst (λ (x : Running). WentOn start first new x p) (sym a)
+    (subst (WentOn start first new s) (sym b) w)
+
+-- the bits that are noted, by an equation
+pub noted : (ks more : KeptBits) (w b : ℕ) (g h : Bool) → g ≡ h
+    → ((d : Watch) → keeps_in more d ≡ (taken_bits (watch.Bit w b) g d || keeps_in ks d))
+    → (d : Watch) → keeps_in more d ≡ (taken_bits (watch.Bit w b) h d || keeps_in ks d)
+noted ks more w b g h is notes = subst (λ (t : Bool). (d : Watch) → keeps_in more d ≡ (taken_bits (watch.Bit w b) t d
+    || keeps_in ks d)) is notes

@@ -1,0 +1,43 @@
+-- A ready task that takes a condition, tries a bit, or makes a single step that is about no head is ready after it.
+use Rattle.std.proofs.Common.{sym, subst}
+use Rattle.std.specs.Prelude.{ℕ, ◌≡◌, ◌<◌, ◌||◌, Bool}
+use Rattle.wait_model.specs.declared.calls.Answer.TheVariants as answer
+use Rattle.wait_model.specs.declared.calls.Call.TheVariants as calls
+use Rattle.wait_model.specs.declared.layout.TheConstants.{PLAIN_CONDITIONS}
+use Rattle.wait_model.specs.declared.points.BitPoint.TheVariants as biting
+use Rattle.wait_model.specs.declared.points.Next.TheVariants as next
+use Rattle.wait_model.specs.declared.points.Point.TheVariants as at
+use Rattle.wait_model.specs.declared.watches.Watch.{Watch}
+use Rattle.wait_model.specs.declared.watches.Watch.TheVariants as watch
+use Rattle.wait_rule.specs.declared.journal.Item.{Item}
+use Rattle.wait_rule.specs.Aside.{IsAsideItem}
+use Rattle.wait_rule.specs.Bits.{SetsBit, taken_bits}
+use Rattle.wait_rule.specs.HandedPermits.{StaysOff}
+use Rattle.wait_rule.specs.Known.{Known}
+use Rattle.wait_rule.specs.Says.{added}
+use Rattle.wait_rule.specs.Stays.{Carries, unchanged}
+use Rattle.wait_rule.proofs.KnownLaws.AsideCalls.{items_stay_off}
+use Rattle.wait_event.specs.Conds.{HasTaken}
+use Rattle.bit_wait.specs.Tries.{HasTriedBit, tried_answer}
+use Rattle.wq_checked.specs.Kept.{IsReady, keeps_in}
+use Rattle.wq_checked.specs.declared.kept_bits.KeptBits.{KeptBits}
+use Rattle.wq_checked.proofs.Elsewhere.{bit_low, calls_off, plain_low}
+use Rattle.wq_checked.proofs.Readiness.{ready_carried, ready_sets}
+
+pub took_ready : (ks : KeptBits) (old new : Known) (c v : ℕ) → c < PLAIN_CONDITIONS → HasTaken old new c v
+    → Carries unchanged old new → IsReady ks old → IsReady ks new
+took_ready ks old new c v few took carries r = ready_carried ks old new carries
+    (calls_off (calls.Take c) old new (next.Go at.Take) (next.Ends (answer.Value v)) (plain_low c few) r.told took) r
+
+pub tried_ready : (ks more : KeptBits) (old new : Known) (w b : ℕ) (clear : Bool)
+    → ((d : Watch) → keeps_in more d ≡ (taken_bits (watch.Bit w b) clear d || keeps_in ks d))
+    → HasTriedBit old new w b clear → SetsBit old new (watch.Bit w b) clear → IsReady ks old → IsReady more new
+tried_ready ks more old new w b clear notes tried sets r = ready_sets ks more old new w b clear notes sets
+    (calls_off (calls.TryBit w b) old new (next.Go (at.Bit biting.Try)) (next.Ends (tried_answer clear)) (bit_low w b)
+    r.told tried) r
+
+-- a single step that is about no head, and an add to a tally
+pub item_ready : (ks : KeptBits) (old new : Known) (x : Item) → IsAsideItem x → new ≡ added old x
+    → Carries unchanged old new → IsReady ks old → IsReady ks new
+item_ready ks old new x aside is carries r = ready_carried ks old new carries
+    (subst (λ (k : Known). StaysOff old k) (sym is) (items_stay_off old x aside)) r

@@ -1,0 +1,197 @@
+-- What a ready task knows, and what keeps it ready: by the bits that it keeps and what it owes.
+use Rattle.std.proofs.Common.{◌∙◌, ap, sym, refl, subst, eqb-true}
+use Rattle.std.specs.Prelude.{ℕ, ◌≡◌, ◌||◌, ◌&&◌, ◌==◌, not, Bool, true, false, None}
+use Rattle.wait_model.specs.declared.watches.Watch.{Watch}
+use Rattle.wait_model.specs.declared.watches.Watch.TheVariants as watch
+use Rattle.wait_model.specs.Watches.{same}
+use Rattle.wait_model.proofs.Functions.{both_left, both_right}
+use Rattle.wait_rule.specs.Bits.{SetsBit, taken_bits}
+use Rattle.wait_rule.specs.HandedPermits.{StaysOff}
+use Rattle.wait_rule.specs.Known.{Known}
+use Rattle.wait_rule.specs.Queues.{IsAgreedHold, index}
+use Rattle.wait_rule.specs.Says.{
+  AsksNoPage,
+  Duty,
+  Excuse,
+  Owes,
+  excuses,
+  has_duty,
+  no_excuse,
+  told_of,
+  wake_of,
+  page_asked,
+  end_unclosed,
+}
+use Rattle.wait_rule.specs.Stays.{Carries, unchanged, with_bit, with_bits}
+use Rattle.wait_event.specs.Ends.{IsOut}
+use Rattle.wq_checked.specs.Kept.{IsReady, but_kept, keeps_in}
+use Rattle.wq_checked.specs.Calls.{IsSound}
+use Rattle.wq_checked.specs.Reasons.{busy_reason}
+use Rattle.wq_checked.specs.declared.calls.Running.{Running}
+use Rattle.wq_checked.specs.declared.calls.Running.TheVariants as running
+use Rattle.wq_checked.specs.declared.kept_bits.KeptBits.{KeptBits}
+
+pub or_none : (b : Bool) → (b || false) ≡ b
+or_none true = refl
+or_none false = refl
+
+-- it holds no head
+pub ready_agreed : (ks : KeptBits) (k : Known) → IsReady ks k → IsAgreedHold k
+ready_agreed ks k r h is = absurd (let e = r.idle.free.head in cc)
+
+-- its entries are off, and it asks for no page
+pub ready_out : (ks : KeptBits) (k : Known) → IsReady ks k → IsOut k
+unfolding with_bits
+ready_out ks k r = r.owes.unqueued (index k.view.number 0)
+
+asks_none : (ks : KeptBits) (k : Known) → ((d : Duty) → (has_duty k d && not (excuses (but_kept ks) d)) ≡ false)
+    → (d : Duty) → (has_duty k d && not (excuses no_excuse d)) ≡ false
+unfolding with_bits
+asks_none ks k h (wake_of c σ) = h (wake_of c σ)
+asks_none ks k h page_asked = h page_asked
+asks_none ks k h (end_unclosed e) = h (end_unclosed e)
+
+pub ready_asks : (ks : KeptBits) (k : Known) → IsReady ks k → AsksNoPage k
+ready_asks ks k r d is = asks_none ks k r.owes.debts.none d
+
+-- other masks of the same bits
+pub owes_by : (f g : Watch → Bool) (k : Known) → ((d : Watch) → f d ≡ g d) → Owes (record no_excuse { bits = f }) k
+    → Owes (record no_excuse { bits = g }) k
+owes_by f g k h o = subst (λ (p : Watch → Bool). Owes (record no_excuse { bits = p }) k) (λ i d. h d i) o
+
+pub owes_masks : (ks more : KeptBits) (k : Known) → ((d : Watch) → keeps_in more d ≡ keeps_in ks d)
+    → Owes (but_kept ks) k → Owes (but_kept more) k
+unfolding with_bits
+owes_masks ks more k h o = owes_by (λ d. keeps_in ks d || false) (λ d. keeps_in more d || false) k
+    (λ d. ap (λ (b : Bool). b || false) (sym (h d))) o
+
+pub ready_masks : (ks more : KeptBits) (k : Known) → ((d : Watch) → keeps_in more d ≡ keeps_in ks d)
+    → IsReady ks k → IsReady more k
+ready_masks ks more k h r = record {
+  up = r.up;
+  idle = r.idle;
+  told = r.told;
+  keeps = λ d. r.keeps d ∙ sym (h d);
+  owes = owes_masks ks more k h r.owes;
+  off = r.off;
+}
+
+-- bits that were taken
+pub owes_more_bits : (ks more : KeptBits) (t : Watch → Bool) (k : Known)
+    → ((d : Watch) → keeps_in more d ≡ (t d || keeps_in ks d)) → Owes (with_bits t (but_kept ks)) k
+    → Owes (but_kept more) k
+unfolding with_bits
+owes_more_bits ks more t k h o = owes_by (λ d. t d || (keeps_in ks d || false)) (λ d. keeps_in more d || false) k
+    (λ d. ap (λ (b : Bool). t d || b) (or_none (keeps_in ks d)) ∙ (sym (h d) ∙ sym (or_none (keeps_in more d)))) o
+
+-- a watch of a bit is that bit
+pub same_is : (d : Watch) (w b : ℕ) → same d (watch.Bit w b) ≡ true → d ≡ watch.Bit w b
+same_is (watch.Plain c) w b h = absurd (cc)
+same_is (watch.Done c) w b h = absurd (cc)
+same_is (watch.Var v o) w b h = absurd (cc)
+same_is (watch.Bit v a) w b h = λ i. watch.Bit (eqb-true v w (both_left (v == w) (a == b) h) i)
+    (eqb-true a b (both_right (v == w) (a == b) h) i)
+
+-- bits of a task that took some, and of one that gave one back
+pub keeps_more : (ks more : KeptBits) (old new : Known) (w b : ℕ) (g : Bool)
+    → ((d : Watch) → keeps_in more d ≡ (taken_bits (watch.Bit w b) g d || keeps_in ks d))
+    → ((d : Watch) → taken_bits (watch.Bit w b) g d ≡ false → (told_of new).bits.keeps d ≡ (told_of old).bits.keeps d)
+    → (g ≡ true → (told_of new).bits.keeps (watch.Bit w b) ≡ true)
+    → ((d : Watch) → (told_of old).bits.keeps d ≡ keeps_in ks d)
+    → (d : Watch) → (told_of new).bits.keeps d ≡ keeps_in more d
+keeps_more ks more old new w b g notes others got had d = by g (same d (watch.Bit w b)) refl refl
+  where
+    by : (h t : Bool) → g ≡ h → same d (watch.Bit w b) ≡ t → (told_of new).bits.keeps d ≡ keeps_in more d
+    by true true is at = ap (told_of new).bits.keeps (same_is d w b at) ∙ (got is
+        ∙ sym (notes d ∙ (λ i. (is i && at i) || keeps_in ks d)))
+    by true false is at = others d (λ i. is i && at i) ∙ (had d ∙ sym (notes d ∙ (λ i. (is i && at i)
+        || keeps_in ks d)))
+    by false t is at = others d (λ i. is i && at i) ∙ (had d ∙ sym (notes d ∙ (λ i. (is i && at i)
+        || keeps_in ks d)))
+
+pub keeps_less : (ks less : KeptBits) (old new : Known) (w b : ℕ)
+    → ((d : Watch) → keeps_in less d ≡ (not (same d (watch.Bit w b)) && keeps_in ks d))
+    → ((d : Watch) → same d (watch.Bit w b) ≡ false → (told_of new).bits.keeps d ≡ (told_of old).bits.keeps d)
+    → (told_of new).bits.keeps (watch.Bit w b) ≡ false
+    → ((d : Watch) → (told_of old).bits.keeps d ≡ keeps_in ks d)
+    → (d : Watch) → (told_of new).bits.keeps d ≡ keeps_in less d
+keeps_less ks less old new w b notes others gone had d = by (same d (watch.Bit w b)) refl
+  where
+    by : (t : Bool) → same d (watch.Bit w b) ≡ t → (told_of new).bits.keeps d ≡ keeps_in less d
+    by true at = ap (told_of new).bits.keeps (same_is d w b at) ∙ (gone
+        ∙ sym (notes d ∙ ap (λ (t : Bool). not t && keeps_in ks d) at))
+    by false at = others d at ∙ (had d ∙ sym (notes d ∙ ap (λ (t : Bool). not t && keeps_in ks d) at))
+
+-- who gives a bit back that it keeps is excused of it, and of what is left
+pub owes_given : (ks less : KeptBits) (w b : ℕ) (k : Known)
+    → ((d : Watch) → keeps_in less d ≡ (not (same d (watch.Bit w b)) && keeps_in ks d))
+    → keeps_in ks (watch.Bit w b) ≡ true → Owes (but_kept ks) k
+    → Owes (with_bit (watch.Bit w b) (but_kept less)) k
+unfolding with_bits
+owes_given ks less w b k notes kept o = owes_by (λ d. keeps_in ks d || false)
+    (λ d. same d (watch.Bit w b) || (keeps_in less d || false)) k (λ d. by d (same d (watch.Bit w b)) refl) o
+  where
+    by : (d : Watch) (t : Bool) → same d (watch.Bit w b) ≡ t
+        → (keeps_in ks d || false) ≡ (same d (watch.Bit w b) || (keeps_in less d || false))
+    by d true at = ap (λ (e : Watch). keeps_in ks e || false) (same_is d w b at) ∙ (ap (λ (u : Bool). u || false) kept
+        ∙ sym (ap (λ (t : Bool). t || (keeps_in less d || false)) at))
+    by d false at = sym (ap (λ (t : Bool). t || (keeps_in less d || false)) at
+        ∙ ap (λ (u : Bool). u || false) (notes d ∙ ap (λ (t : Bool). not t && keeps_in ks d) at))
+
+-- where no call is under way the task is ready
+pub ready_of : (ks : KeptBits) (k : Known) (r : Running) → busy_reason r ≡ None → IsSound r ks k → IsReady ks k
+ready_of ks k running.Idle is s = s
+ready_of ks k (running.Event run last) is s = absurd (cc)
+ready_of ks k (running.Bit run last) is s = absurd (cc)
+ready_of ks k (running.Lock run last) is s = absurd (cc)
+ready_of ks k (running.Page run last) is s = absurd (cc)
+ready_of ks k (running.Await run last) is s = absurd (cc)
+ready_of ks k (running.Swake run last) is s = absurd (cc)
+ready_of ks k (running.Cell run last) is s = absurd (cc)
+ready_of ks k (running.Wake run last) is s = absurd (cc)
+ready_of ks k running.Starved is s = absurd (cc)
+
+-- and the other way
+pub sound_idle : (ks : KeptBits) (k : Known) (r : Running) → busy_reason r ≡ None → IsReady ks k → IsSound r ks k
+sound_idle ks k running.Idle is ready = ready
+sound_idle ks k (running.Event run last) is ready = absurd (cc)
+sound_idle ks k (running.Bit run last) is ready = absurd (cc)
+sound_idle ks k (running.Lock run last) is ready = absurd (cc)
+sound_idle ks k (running.Page run last) is ready = absurd (cc)
+sound_idle ks k (running.Await run last) is ready = absurd (cc)
+sound_idle ks k (running.Swake run last) is ready = absurd (cc)
+sound_idle ks k (running.Cell run last) is ready = absurd (cc)
+sound_idle ks k (running.Wake run last) is ready = absurd (cc)
+sound_idle ks k running.Starved is ready = absurd (cc)
+
+-- a call that changes nothing of it, and one that takes a bit where it is clear
+pub ready_carried : (ks : KeptBits) (old new : Known) → Carries unchanged old new → StaysOff old new → IsReady ks old
+    → IsReady ks new
+ready_carried ks old new c off r = record {
+  up = c.awake ∙ r.up;
+  idle = record {
+    running = c.state ∙ r.idle.running;
+    free = record { head = c.head ∙ r.idle.free.head; ticket = c.ticket ∙ r.idle.free.ticket };
+    unmarked = c.mark ∙ r.idle.unmarked;
+  };
+  told = c.hold ∙ r.told;
+  keeps = λ d. c.keeps d refl ∙ r.keeps d;
+  owes = c.owes (but_kept ks) r.owes;
+  off = λ d. off d (r.off d);
+}
+
+pub ready_sets : (ks more : KeptBits) (old new : Known) (w b : ℕ) (clear : Bool)
+    → ((d : Watch) → keeps_in more d ≡ (taken_bits (watch.Bit w b) clear d || keeps_in ks d))
+    → SetsBit old new (watch.Bit w b) clear → StaysOff old new → IsReady ks old → IsReady more new
+ready_sets ks more old new w b clear notes s off r = record {
+  up = s.stays.awake ∙ r.up;
+  idle = record {
+    running = s.stays.state ∙ r.idle.running;
+    free = record { head = s.stays.head ∙ r.idle.free.head; ticket = s.stays.ticket ∙ r.idle.free.ticket };
+    unmarked = s.stays.mark ∙ r.idle.unmarked;
+  };
+  told = s.stays.hold ∙ r.told;
+  keeps = keeps_more ks more old new w b clear notes s.stays.keeps s.keeps r.keeps;
+  owes = owes_more_bits ks more (taken_bits (watch.Bit w b) clear) new notes (s.owes (but_kept ks) r.owes);
+  off = λ d. off d (r.off d);
+}

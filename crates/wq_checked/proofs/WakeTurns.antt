@@ -1,0 +1,163 @@
+-- A turn of a wake: it has come on from where it began, or it is over, and its task ready.
+use Rattle.std.proofs.Common.{◌∙◌, sym, refl, subst}
+use Rattle.std.specs.Prelude.{◌≡◌, ◌||◌, ◌&&◌, Bool, true, false, None}
+use Rattle.wait_model.specs.declared.queues.Walked.{Walked}
+use Rattle.wait_model.specs.declared.watches.Aim.{Aim}
+use Rattle.wait_model.specs.declared.watches.Mode.{Mode}
+use Rattle.wait_model.specs.declared.watches.Watch.{Watch}
+use Rattle.wait_model.specs.Tasks.{meets}
+use Rattle.wait_model.specs.Watches.{mask_of, same}
+use Rattle.wait_rule.specs.HandedPermits.{HasLeftNone}
+use Rattle.wait_rule.specs.Known.{Known}
+use Rattle.wait_rule.specs.Queues.{IsIdle}
+use Rattle.wait_rule.specs.Says.{Excuse, IsUp, Owes, told_of}
+use Rattle.wait_rule.specs.Stays.{with_wakes}
+use Rattle.wait_rule.proofs.KnownLaws.CarriedTasks.{owes_more}
+use Rattle.wq_head.specs.Turns.{HasTurned, IsAt, IsOver}
+use Rattle.wq_head.specs.Walks.{IsFull}
+use Rattle.wq_head.specs.declared.wakes.WakeRun.{WakeRun}
+use Rattle.wq_head.specs.declared.wakes.WakeStage.{WakeStage}
+use Rattle.wq_head.specs.declared.wakes.WakeStage.TheVariants as stage
+use Rattle.wq_head.specs.declared.wakes.WakeTurn.{WakeTurn}
+use Rattle.wq_head.specs.declared.wakes.WakeTurn.TheVariants as turn
+use Rattle.wq_checked.specs.Kept.{IsReady, but_kept, keeps_in}
+use Rattle.wq_checked.specs.Calls.{
+  Began,
+  BeginsWake,
+  CameFrom,
+  IsSound,
+  IsWaking,
+  WakesFirst,
+  WentOn,
+}
+use Rattle.wq_checked.specs.Advancing.{wake_left, wake_shown}
+use Rattle.wq_checked.proofs.Elsewhere.{wakes_off}
+use Rattle.wq_checked.specs.declared.calls.Running.{Running}
+use Rattle.wq_checked.specs.declared.calls.Running.TheVariants as running
+use Rattle.wq_checked.specs.declared.kept_bits.KeptBits.{KeptBits}
+
+-- where it stands, by where it began
+at_from : (ks : KeptBits) (start : Known) (first : Running) (k : Known) (run : WakeRun) (s : WakeStage)
+    → CameFrom start first k (running.Wake run s) → IsAt start k run s
+at_from ks start (running.Wake f from) k run s came = came.0
+at_from ks start first k run s came = absurd came
+
+pub wake_at : (ks : KeptBits) (k : Known) (run : WakeRun) (s : WakeStage) → IsSound (running.Wake run s) ks k
+    → (start : Known) × IsAt start k run s
+wake_at ks k run s u = (u.start, at_from ks u.start u.first k run s u.came)
+
+-- what a turn tells
+tells : (start new : Known) (f : WakeRun) (from : WakeStage) (run q : WakeRun) (t : WakeTurn) → run.aim ≡ f.aim
+    → HasTurned start new run q t → WentOn start (running.Wake f from) new (wake_left q t) (wake_shown t)
+tells start new f from run q (turn.Locked s) is h = ((h.turns, h.aim ∙ is), tt)
+tells start new f from run q turn.Broken is h = ((h.turns, h.aim ∙ is), tt)
+tells start new f from run q (turn.Done w) is h = (
+  refl,
+  subst (λ (a : Aim). IsOver a start new w) (h.aim ∙ is) h.turns,
+)
+tells start new f from run q (turn.Starved n) is h = refl
+
+pub wake_goes : (start : Known) (first : Running) (old new : Known) (run q : WakeRun) (s : WakeStage) (t : WakeTurn)
+    → CameFrom start first old (running.Wake run s)
+    → ((start : Known) → IsAt start old run s → HasTurned start new run q t)
+    → WentOn start first new (wake_left q t) (wake_shown t)
+wake_goes start (running.Wake f from) old new run q s t came turned = tells start new f from run q t came.1
+    (turned start came.0)
+wake_goes start first old new run q s t came turned = absurd came
+
+-- what is kept of the task then
+over_ready : (ks : KeptBits) (start new : Known) (f : WakeRun) (w : Walked) → IsWaking ks start f
+    → IsOver f.aim start new w → IsReady ks new
+over_ready ks start new f w b o = record {
+  up = o.up;
+  idle = o.idle;
+  told = o.carries.hold;
+  keeps = λ d. o.ended.stays.keeps d ∙ b.keeps d;
+  owes = o.ended.settled (but_kept ks) b.owes;
+  off = λ d. wakes_off f.aim start new w b.told o d (b.off d);
+}
+
+left_sound : (ks : KeptBits) (start new : Known) (f : WakeRun) (from : WakeStage) (run q : WakeRun) (t : WakeTurn)
+    → IsWaking ks start f → run.aim ≡ f.aim → HasTurned start new run q t → IsSound (wake_left q t) ks new
+left_sound ks start new f from run q (turn.Locked s) b is h = record {
+  start = start;
+  first = running.Wake f from;
+  began = b;
+  came = (h.turns, h.aim ∙ is);
+  stands = tt;
+}
+left_sound ks start new f from run q turn.Broken b is h = record {
+  start = start;
+  first = running.Wake f from;
+  began = b;
+  came = (h.turns, h.aim ∙ is);
+  stands = tt;
+}
+left_sound ks start new f from run q (turn.Done w) b is h = over_ready ks start new f w b
+    (subst (λ (a : Aim). IsOver a start new w) (h.aim ∙ is) h.turns)
+left_sound ks start new f from run q (turn.Starved n) b is h = tt
+
+sound_from : (ks : KeptBits) (start : Known) (first : Running) (old new : Known) (run q : WakeRun) (s : WakeStage)
+    (t : WakeTurn) → Began ks start first → CameFrom start first old (running.Wake run s)
+    → ((start : Known) → IsAt start old run s → HasTurned start new run q t) → IsSound (wake_left q t) ks new
+sound_from ks start (running.Wake f from) old new run q s t began came turned = left_sound ks start new f from run q t
+    began came.1 (turned start came.0)
+sound_from ks start first old new run q s t began came turned = absurd came
+
+pub wake_sound : (ks : KeptBits) (old new : Known) (run q : WakeRun) (s : WakeStage) (t : WakeTurn)
+    → IsSound (running.Wake run s) ks old → ((start : Known) → IsAt start old run s → HasTurned start new run q t)
+    → IsSound (wake_left q t) ks new
+wake_sound ks old new run q s t u turned = sound_from ks u.start u.first old new run q s t u.began u.came turned
+
+-- A task that may begin a wake with this aim: it may owe the wakes that this one makes.
+pub record Waking (ks : KeptBits) (k : Known) (aim : Aim) : Type 0 where
+  pub up : IsUp k
+  pub idle : IsIdle k
+  pub full : IsFull aim.watch
+  pub keeps : (d : Watch) → (told_of k).bits.keeps d ≡ keeps_in ks d
+  pub told : (told_of k).hold.head ≡ None
+  pub owes : Owes (with_wakes aim.watch aim.mode (but_kept ks)) k
+  pub off : HasLeftNone k
+
+module _ (ks : KeptBits) (k : Known) (aim : Aim) (now : Running) (m : Waking ks k aim) (w : WakesFirst aim now) where
+  first_at : IsAt k k w.run stage.First
+  first_at = record {
+    up = m.up;
+    idle = m.idle;
+    full = subst (λ (a : Aim). IsFull a.watch) (sym w.aim_is) m.full;
+    tries = λ is. m.owes.tries_none;
+    small = w.small;
+    stands = refl;
+  }
+
+  pub first_begins : BeginsWake k aim now
+  first_begins = record {
+    run = w.run;
+    aim_is = w.aim_is;
+    is = w.is;
+    came = subst (λ (r : Running). CameFrom k r k r) (sym w.is) (first_at, refl);
+  }
+
+  pub first_sound : IsSound now ks k
+  first_sound = subst (λ (r : Running). IsSound r ks k) (sym w.is) (record {
+    start = k;
+    first = running.Wake w.run stage.First;
+    began = record {
+      keeps = m.keeps;
+      told = m.told;
+      owes = subst (λ (a : Aim). Owes (with_wakes a.watch a.mode (but_kept ks)) k) (sym w.aim_is) m.owes;
+      off = m.off;
+    };
+    came = (first_at, refl);
+    stands = tt;
+  })
+
+-- one that owes nothing may owe wakes
+or_more : (a b : Bool) → a ≡ true → (a || b) ≡ true
+or_more true b is = refl
+or_more false b is = absurd (cc)
+
+pub owes_wider : (c : Watch) (m : Mode) (x : Excuse) (k : Known) → Owes x k → Owes (with_wakes c m x) k
+unfolding with_wakes
+owes_wider c m x k o = owes_more x (with_wakes c m x) k refl refl refl refl
+    (λ d σ. or_more (x.wakes d σ) (same d c && meets (mask_of m) σ)) o

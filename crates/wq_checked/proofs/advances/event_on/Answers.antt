@@ -1,0 +1,22 @@
+use Rattle.std.proofs.Common.{subst, sym}
+use Rattle.wq_checked.specs.Calls.{IsSound}
+use Rattle.wq_checked.specs.Advancing.{event_left, event_shown}
+use Rattle.wq_checked.specs.declared.calls.Running.{Running}
+use Rattle.wq_checked.proofs.Going.{went_as}
+use Rattle.wq_checked.proofs.EventTurns.{event_goes, event_sound}
+use Rattle.wq_checked.proofs.advances.event_on.Goals as goal
+
+pub returns-clause-sound : goal.returns-clause-sound
+returns-clause-sound c =
+    let t = c.event_turn-turn in
+    subst (λ (r : Running). IsSound r c.args.kept.now t.new.task) (sym c.event_leaves.ensures.left)
+    (event_sound c.args.kept.now c.args.task.now t.new.task c.args.run t.new.run c.args.last t.result c.requires.sound
+    t.ensures)
+
+pub returns-clause-goes : goal.returns-clause-goes
+returns-clause-goes c start first came =
+    let t = c.event_turn-turn in
+    went_as start first t.new.task c.event_leaves.result.0 (event_left t.new.run t.result) c.event_leaves.result.1
+    (event_shown t.new.run t.result) c.event_leaves.ensures.left c.event_leaves.ensures.shown
+    (event_goes start first c.args.task.now t.new.task c.args.run t.new.run c.args.last t.result
+    c.requires.sound.stands came t.ensures)

@@ -1,0 +1,26 @@
+use Rattle.std.specs.Prelude.{◌≡◌, None}
+use Rattle.wq_checked.specs.Reasons.{busy_reason}
+use Rattle.wq_checked.proofs.Begun.{page_under}
+use Rattle.wq_checked.proofs.Readiness.{ready_asks, ready_of, ready_out}
+use Rattle.wq_checked.proofs.tasks.CheckedTask.begin_page.Goals as goal
+
+pub begin_page-run-requires-clause-out : goal.begin_page-run-requires-clause-out
+begin_page-run-requires-clause-out c =
+    let t = c.self.inside in
+    let idle : busy_reason t.running ≡ None = cc in
+    ready_out t.kept t.task (ready_of t.kept t.task t.running idle c.self.invariant.1)
+
+pub begin_page-run-requires-clause-asks : goal.begin_page-run-requires-clause-asks
+begin_page-run-requires-clause-asks c =
+    let t = c.self.inside in
+    let idle : busy_reason t.running ≡ None = cc in
+    ready_asks t.kept t.task (ready_of t.kept t.task t.running idle c.self.invariant.1)
+
+pub invariant_of-self : goal.invariant_of-self
+invariant_of-self c =
+    let t = c.self.inside in
+    let r = c.begin_page-run in
+    let idle : busy_reason t.running ≡ None = cc in (
+      c.self.invariant.0,
+      page_under t.task r.result r.ensures.at t.kept (ready_of t.kept t.task t.running idle c.self.invariant.1),
+    )

@@ -1,0 +1,20 @@
+use Rattle.std.proofs.Common.{◌<◌, arith, sym}
+use Rattle.wait_model.specs.declared.layout.TheConstants.{FIRST_SIMPLE}
+use Rattle.wait_model.specs.declared.watches.Aim.{Aim}
+use Rattle.wait_model.specs.declared.watches.Watch.TheVariants as watch
+use Rattle.wq_checked.proofs.Publishing.{ready_waking}
+use Rattle.wq_checked.proofs.Readiness.{ready_of}
+use Rattle.wq_checked.proofs.WakeTurns.{first_sound}
+use Rattle.wq_checked.proofs.tasks.CheckedTask.begin_wake.Goals as goal
+
+pub invariant_of-self : goal.invariant_of-self
+invariant_of-self c =
+    let aim : Aim = record { watch = watch.Plain c.args.cond; mode = c.args.mode; count = c.args.count } in
+    let full : c.args.cond < FIRST_SIMPLE = omega arith in
+    let i = c.self.inside in (
+      c.self.invariant.0,
+      first_sound i.kept i.task aim c.wake_of-self-inside.result
+          (ready_waking i.kept i.task aim
+          (ready_of i.kept i.task i.running (sym c.in-None.ensures) c.self.invariant.1) full)
+          c.wake_of-self-inside.ensures,
+    )

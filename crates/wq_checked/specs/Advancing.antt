@@ -1,0 +1,144 @@
+-- For proofs alone.
+-- What a stretch of a call leaves under way and tells.
+use Rattle.std.specs.Prelude.{Bool, true, false}
+use Rattle.bit_wait.specs.BitEnds as bit_ends
+use Rattle.bit_wait.specs.LockEnds as lock_ends
+use Rattle.page_lock.specs.PageEnds as page_ends
+use Rattle.wait_event.specs.declared.waits.WaitRun.{WaitRun}
+use Rattle.wait_event.specs.declared.waits.WaitTurn.{WaitTurn}
+use Rattle.wait_event.specs.declared.waits.WaitTurn.TheVariants as event_turn
+use Rattle.bit_wait.specs.declared.waits.BitRun.{BitRun}
+use Rattle.bit_wait.specs.declared.waits.BitTurn.{BitTurn}
+use Rattle.bit_wait.specs.declared.waits.BitTurn.TheVariants as bit_turn
+use Rattle.bit_wait.specs.declared.waits.BitOutcome.{BitOutcome}
+use Rattle.bit_wait.specs.declared.waits.BitOutcome.TheVariants as bit_outcome
+use Rattle.bit_wait.specs.declared.lock_waits.LockRun.{LockRun}
+use Rattle.bit_wait.specs.declared.lock_waits.LockTurn.{LockTurn}
+use Rattle.bit_wait.specs.declared.lock_waits.LockTurn.TheVariants as lock_turn
+use Rattle.bit_wait.specs.declared.lock_waits.LockOutcome.{LockOutcome}
+use Rattle.bit_wait.specs.declared.lock_waits.LockOutcome.TheVariants as lock_outcome
+use Rattle.page_lock.specs.declared.waits.PageRun.{PageRun}
+use Rattle.page_lock.specs.declared.waits.PageTurn.{PageTurn}
+use Rattle.page_lock.specs.declared.waits.PageTurn.TheVariants as page_turn
+use Rattle.page_lock.specs.declared.waits.PageOutcome.{PageOutcome}
+use Rattle.page_lock.specs.declared.waits.PageOutcome.TheVariants as page_outcome
+use Rattle.completion_cell.specs.AwaitEnds as await_ends
+use Rattle.completion_cell.specs.declared.awaits.AwaitRun.{AwaitRun}
+use Rattle.completion_cell.specs.declared.awaits.AwaitTurn.{AwaitTurn}
+use Rattle.completion_cell.specs.declared.awaits.AwaitTurn.TheVariants as await_turn
+use Rattle.completion_cell.specs.declared.cell_turns.CellRun.{CellRun}
+use Rattle.completion_cell.specs.declared.cell_turns.CellStage.TheVariants as cell_stage
+use Rattle.completion_cell.specs.declared.cell_turns.CellTurn.{CellTurn}
+use Rattle.completion_cell.specs.declared.cell_turns.CellTurn.TheVariants as cell_turn
+use Rattle.swait_queue.specs.declared.swake_turns.SwakeRun.{SwakeRun}
+use Rattle.swait_queue.specs.declared.swake_turns.SwakeStage.TheVariants as swake_stage
+use Rattle.swait_queue.specs.declared.swake_turns.SwakeTurn.{SwakeTurn}
+use Rattle.swait_queue.specs.declared.swake_turns.SwakeTurn.TheVariants as swake_turn
+use Rattle.wq_head.specs.declared.wakes.WakeRun.{WakeRun}
+use Rattle.wq_head.specs.declared.wakes.WakeStage.TheVariants as wake_stage
+use Rattle.wq_head.specs.declared.wakes.WakeTurn.{WakeTurn}
+use Rattle.wq_head.specs.declared.wakes.WakeTurn.TheVariants as wake_turn
+use Rattle.wq_checked.specs.Calls.{event_answer, event_told, bit_told, lock_told, page_told, await_told, is_worn}
+use Rattle.wq_checked.specs.declared.calls.Answer.TheVariants as answer
+use Rattle.wq_checked.specs.declared.calls.Progress.{Progress}
+use Rattle.wq_checked.specs.declared.calls.Progress.TheVariants as progress
+use Rattle.wq_checked.specs.declared.calls.Running.{Running}
+use Rattle.wq_checked.specs.declared.calls.Running.TheVariants as running
+
+abbrev pub event_left : WaitRun → WaitTurn → Running
+event_left r (event_turn.Done o) = running.Idle
+event_left r t = running.Event r t
+
+abbrev pub event_shown : WaitRun → WaitTurn → Progress
+event_shown r (event_turn.Done o) = progress.Done (event_answer r o)
+event_shown r t = event_told t
+
+abbrev pub bit_left : BitRun → BitTurn → Running
+bit_left r (bit_turn.Done o) = running.Idle
+bit_left r t = running.Bit r t
+
+abbrev pub bit_shown : BitRun → BitTurn → Progress
+bit_shown r (bit_turn.Done o) = progress.Done (answer.Bit (bit_ends.end_in r o))
+bit_shown r t = bit_told t
+
+abbrev pub lock_left : LockRun → LockTurn → Running
+lock_left r (lock_turn.Done o) = running.Idle
+lock_left r t = running.Lock r t
+
+abbrev pub lock_shown : LockRun → LockTurn → Progress
+lock_shown r (lock_turn.Done o) = progress.Done (answer.Bit (lock_ends.end_in r o))
+lock_shown r t = lock_told t
+
+abbrev pub page_left : PageRun → PageTurn → Running
+page_left r (page_turn.Done o) = running.Idle
+page_left r t = running.Page r t
+
+abbrev pub page_shown : PageRun → PageTurn → Progress
+page_shown r (page_turn.Done o) = progress.Done (answer.Bit (page_ends.end_in r o))
+page_shown r t = page_told t
+
+abbrev pub wake_left : WakeRun → WakeTurn → Running
+wake_left r (wake_turn.Locked s) = running.Wake r s
+wake_left r wake_turn.Broken = running.Wake r wake_stage.Next
+wake_left r (wake_turn.Done w) = running.Idle
+wake_left r (wake_turn.Starved n) = running.Starved
+
+abbrev pub wake_shown : WakeTurn → Progress
+wake_shown (wake_turn.Locked s) = progress.Locked
+wake_shown wake_turn.Broken = progress.Again
+wake_shown (wake_turn.Done w) = progress.Done (answer.Walked w)
+wake_shown (wake_turn.Starved n) = progress.Starved
+
+abbrev pub await_left : AwaitRun → AwaitTurn → Running
+await_left r (await_turn.Done o) = running.Idle
+await_left r t = running.Await r t
+
+abbrev pub await_shown : AwaitRun → AwaitTurn → Progress
+await_shown r (await_turn.Done o) = progress.Done (answer.Waited (await_ends.end_in r o))
+await_shown r t = await_told t
+
+abbrev pub swake_left : SwakeRun → SwakeTurn → Running
+swake_left r swake_turn.Locked = running.Swake r swake_stage.Turn
+swake_left r (swake_turn.Done n) = running.Idle
+swake_left r (swake_turn.Starved n) = running.Starved
+
+abbrev pub swake_shown : SwakeTurn → Progress
+swake_shown swake_turn.Locked = progress.Locked
+swake_shown (swake_turn.Done n) = progress.Done (answer.Selected n)
+swake_shown (swake_turn.Starved n) = progress.Starved
+
+abbrev pub cell_left : CellRun → CellTurn → Running
+cell_left r cell_turn.Locked = running.Cell r cell_stage.Turn
+cell_left r (cell_turn.Done hit) = running.Idle
+cell_left r (cell_turn.Starved n) = running.Starved
+
+abbrev pub cell_shown : CellTurn → Progress
+cell_shown cell_turn.Locked = progress.Locked
+cell_shown (cell_turn.Done hit) = progress.Done (answer.Cell hit)
+cell_shown (cell_turn.Starved n) = progress.Starved
+
+-- no place was left for the entry of a wait that ended so
+abbrev pub bit_worn : BitTurn → Bool
+bit_worn (bit_turn.Done o) = is_worn o
+bit_worn _ = false
+
+abbrev pub lock_worn : LockRun → LockTurn → Bool
+lock_worn r (lock_turn.Done o) = r.worn
+lock_worn r _ = false
+
+-- the call took the bit or the page
+abbrev pub lock_over : LockOutcome → Bool
+lock_over lock_outcome.Over = true
+lock_over _ = false
+
+abbrev pub page_over : PageOutcome → Bool
+page_over page_outcome.Over = true
+page_over _ = false
+
+abbrev pub lock_took : LockTurn → Bool
+lock_took (lock_turn.Done o) = lock_over o
+lock_took _ = false
+
+abbrev pub page_took : PageTurn → Bool
+page_took (page_turn.Done o) = page_over o
+page_took _ = false

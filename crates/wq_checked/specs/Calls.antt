@@ -1,0 +1,377 @@
+-- To be believed.
+-- A call that is under way, from its beginning to its answer.
+use Rattle.std.specs.Prelude.{ℕ, ◌≡◌, ◌<◌, ◌^◌, Bool, true, false, None, Result, Ok, Err, []}
+use Rattle.wait_model.specs.declared.queues.Walked.{Walked}
+use Rattle.wait_model.specs.declared.tasks.How.{How}
+use Rattle.wait_model.specs.declared.tasks.SleepState.{SleepState}
+use Rattle.wait_model.specs.declared.steps.Step.TheVariants as step
+use Rattle.wait_model.specs.declared.watches.Aim.{Aim}
+use Rattle.wait_model.specs.declared.watches.Watch.{Watch}
+use Rattle.wait_model.specs.declared.watches.Watch.TheVariants as watch
+use Rattle.wait_model.specs.Watches as model
+use Rattle.wait_rule.specs.HandedPermits.{HasLeftNone}
+use Rattle.wait_rule.specs.Known.{Known}
+use Rattle.wait_rule.specs.declared.journal.Item.TheVariants as item
+use Rattle.wait_rule.specs.Says.{Owes, added, told_of}
+use Rattle.wait_rule.specs.Stays.{with_wakes}
+use Rattle.wait_event.specs.Waits as events
+use Rattle.wait_event.specs.Ends as event_ends
+use Rattle.wait_event.specs.declared.wait_events.WaitEnd.{WaitEnd}
+use Rattle.wait_event.specs.declared.waits.WaitRun.{WaitRun}
+use Rattle.wait_event.specs.declared.waits.WaitStage.TheVariants as event_stage
+use Rattle.wait_event.specs.declared.waits.WaitOutcome.{WaitOutcome}
+use Rattle.wait_event.specs.declared.waits.WaitTurn.{WaitTurn}
+use Rattle.wait_event.specs.declared.waits.WaitTurn.TheVariants as event_turn
+use Rattle.var_wait.specs.VarWaits.{with_loaded}
+use Rattle.bit_wait.specs.BitWaits as bits
+use Rattle.bit_wait.specs.BitEnds as bit_ends
+use Rattle.bit_wait.specs.declared.waits.BitRun.{BitRun}
+use Rattle.bit_wait.specs.declared.waits.BitStage.TheVariants as bit_stage
+use Rattle.bit_wait.specs.declared.waits.BitOutcome.{BitOutcome}
+use Rattle.bit_wait.specs.declared.waits.BitOutcome.TheVariants as bit_outcome
+use Rattle.bit_wait.specs.declared.waits.BitTurn.{BitTurn}
+use Rattle.bit_wait.specs.declared.waits.BitTurn.TheVariants as bit_turn
+use Rattle.bit_wait.specs.LockWaits as locks
+use Rattle.bit_wait.specs.LockEnds as lock_ends
+use Rattle.bit_wait.specs.LockEnds.{HasRested}
+use Rattle.bit_wait.specs.declared.lock_waits.LockRun.{LockRun}
+use Rattle.bit_wait.specs.declared.lock_waits.LockStage.TheVariants as lock_stage
+use Rattle.bit_wait.specs.declared.lock_waits.LockOutcome.{LockOutcome}
+use Rattle.bit_wait.specs.declared.lock_waits.LockTurn.{LockTurn}
+use Rattle.bit_wait.specs.declared.lock_waits.LockTurn.TheVariants as lock_turn
+use Rattle.page_lock.specs.PageWaits as pages
+use Rattle.page_lock.specs.PageEnds as page_ends
+use Rattle.page_lock.specs.declared.waits.PageRun.{PageRun}
+use Rattle.page_lock.specs.declared.waits.PageStage.TheVariants as page_stage
+use Rattle.page_lock.specs.declared.waits.PageOutcome.{PageOutcome}
+use Rattle.page_lock.specs.declared.waits.PageTurn.{PageTurn}
+use Rattle.page_lock.specs.declared.waits.PageTurn.TheVariants as page_turn
+use Rattle.completion_cell.specs.Awaits as awaits
+use Rattle.completion_cell.specs.AwaitEnds as await_ends
+use Rattle.completion_cell.specs.AwaitPermits.{LeavesOff}
+use Rattle.completion_cell.specs.CellTurns as cells
+use Rattle.completion_cell.specs.declared.awaits.AwaitRun.{AwaitRun}
+use Rattle.completion_cell.specs.declared.awaits.AwaitStage.TheVariants as await_stage
+use Rattle.completion_cell.specs.declared.awaits.AwaitOutcome.{AwaitOutcome}
+use Rattle.completion_cell.specs.declared.awaits.AwaitTurn.{AwaitTurn}
+use Rattle.completion_cell.specs.declared.awaits.AwaitTurn.TheVariants as await_turn
+use Rattle.completion_cell.specs.declared.cell_turns.CellCall.{CellCall}
+use Rattle.completion_cell.specs.declared.cell_turns.CellRun.{CellRun}
+use Rattle.completion_cell.specs.declared.cell_turns.CellStage.{CellStage}
+use Rattle.completion_cell.specs.declared.cell_turns.CellStage.TheVariants as cell_stage
+use Rattle.swait_queue.specs.SwakeTurns as swakes
+use Rattle.swait_queue.specs.declared.swake_turns.SwakeRun.{SwakeRun}
+use Rattle.swait_queue.specs.declared.swake_turns.SwakeStage.{SwakeStage}
+use Rattle.swait_queue.specs.declared.swake_turns.SwakeStage.TheVariants as swake_stage
+use Rattle.wait_model.specs.declared.watches.Mode.TheVariants as mode
+use Rattle.wq_head.specs.Roused.{IsRousing, tasks_in}
+use Rattle.wq_head.specs.Turns as wakes
+use Rattle.wq_head.specs.Scanned.{HasScanned, unmade}
+use Rattle.wq_head.specs.declared.rousing.Rousing.{Rousing}
+use Rattle.wq_head.specs.declared.wakes.WakeRun.{WakeRun}
+use Rattle.wq_head.specs.declared.wakes.WakeStage.TheVariants as wake_stage
+use Rattle.wq_checked.specs.Kept.{IsReady, but_kept, keeps_in}
+use Rattle.wq_checked.specs.Stages.{EventStands, BitStands, LockStands, PageStands, AwaitStands}
+use Rattle.wq_checked.specs.declared.calls.Answer.{Answer}
+use Rattle.wq_checked.specs.declared.calls.Answer.TheVariants as answer
+use Rattle.wq_checked.specs.declared.calls.Progress.{Progress}
+use Rattle.wq_checked.specs.declared.calls.Progress.TheVariants as progress
+use Rattle.wq_checked.specs.declared.calls.Running.{Running}
+use Rattle.wq_checked.specs.declared.calls.Running.TheVariants as running
+use Rattle.wq_checked.specs.declared.kept_bits.KeptBits.{KeptBits}
+
+-- A wait for a completion has come to here, and has left its own entry so.
+pub record AwaitCame (start k : Known) (first run : AwaitRun) (last : AwaitTurn) : Type 0 where
+  pub went : awaits.Advances start k first run await_stage.First last
+  pub off : LeavesOff first.cell start k await_stage.First last
+
+-- the same call about a completion, and the same wake of a simple queue
+pub record CellCame (start k : Known) (first run : CellRun) (s : CellStage) : Type 0 where
+  pub at : cells.IsAt start k run s
+  pub call : run.call ≡ first.call
+  pub cell : run.cell ≡ first.cell
+
+pub record SwakeCame (start k : Known) (first run : SwakeRun) (s : SwakeStage) : Type 0 where
+  pub at : swakes.IsAt start k run s
+  pub cond : run.cond ≡ first.cond
+  pub all : run.all ≡ first.all
+
+-- A call that began with a task as `start`, and as `first`, has come to here: by turns of its kind from its first stage
+-- on, with the same numbers.
+abbrev pub CameFrom : Known → Running → Known → Running → Type 0
+CameFrom start (running.Event first from) k (running.Event run last) =
+    events.Advances start k first run event_stage.First last
+CameFrom start (running.Bit first from) k (running.Bit run last) = bits.Advances start k first run bit_stage.First last
+CameFrom start (running.Lock first from) k (running.Lock run last) =
+    locks.Advances start k first run lock_stage.First last
+CameFrom start (running.Page first from) k (running.Page run last) =
+    pages.Advances start k first run page_stage.First last
+CameFrom start (running.Await first from) k (running.Await run last) = AwaitCame start k first run last
+CameFrom start (running.Wake first from) k (running.Wake run last) = wakes.IsAt start k run last × (run.aim ≡ first.aim)
+CameFrom start (running.Swake first from) k (running.Swake run last) = SwakeCame start k first run last
+CameFrom start (running.Cell first from) k (running.Cell run last) = CellCame start k first run last
+CameFrom _ _ _ _ = ⊥
+
+-- the answer of a wait for a plain condition, or for a variable
+abbrev pub waited : Watch → ℕ → Result (Unit {0}) WaitEnd → Answer
+waited (watch.Var v old) seen r = answer.Changed (with_loaded seen r)
+waited _ seen r = answer.Waited r
+
+abbrev pub event_answer : WaitRun → WaitOutcome → Answer
+event_answer q o = waited q.watch q.seen (event_ends.end_in q o)
+
+-- no place was left for the entry of a wait for a bit, so that its task may still be in the state in which it would
+-- have slept
+abbrev pub is_worn : BitOutcome → Bool
+is_worn bit_outcome.Worn = true
+is_worn _ = false
+
+-- how each kind of call ended, with its answer: by such a turn, after which a wait for a bit may have stored RUNNING
+pub record EventEnded (start new : Known) (first : WaitRun) (a : Answer) : Type 0 where
+  pub run : WaitRun
+  pub outcome : WaitOutcome
+  pub went : events.Advances start new first run event_stage.First (event_turn.Done outcome)
+  pub answers : a ≡ event_answer run outcome
+
+pub record BitEnded (start new : Known) (first : BitRun) (a : Answer) : Type 0 where
+  pub run : BitRun
+  pub outcome : BitOutcome
+  pub last : Known
+  pub went : bits.Advances start last first run bit_stage.First (bit_turn.Done outcome)
+  pub rested : HasRested last new (is_worn outcome)
+  pub answers : a ≡ answer.Bit (bit_ends.end_in run outcome)
+
+pub record LockEnded (start new : Known) (first : LockRun) (a : Answer) : Type 0 where
+  pub run : LockRun
+  pub outcome : LockOutcome
+  pub last : Known
+  pub went : locks.Advances start last first run lock_stage.First (lock_turn.Done outcome)
+  pub rested : HasRested last new run.worn
+  pub answers : a ≡ answer.Bit (lock_ends.end_in run outcome)
+
+pub record PageEnded (start new : Known) (first : PageRun) (a : Answer) : Type 0 where
+  pub run : PageRun
+  pub outcome : PageOutcome
+  pub went : pages.Advances start new first run page_stage.First (page_turn.Done outcome)
+  pub answers : a ≡ answer.Bit (page_ends.end_in run outcome)
+
+pub record AwaitEnded (start new : Known) (first : AwaitRun) (a : Answer) : Type 0 where
+  pub run : AwaitRun
+  pub outcome : AwaitOutcome
+  pub went : awaits.Advances start new first run await_stage.First (await_turn.Done outcome)
+  pub off : LeavesOff first.cell start new await_stage.First (await_turn.Done outcome)
+  pub answers : a ≡ answer.Waited (await_ends.end_in run outcome)
+
+abbrev pub Ended : Known → Running → Known → Answer → Type 0
+Ended start (running.Event first from) new a = EventEnded start new first a
+Ended start (running.Bit first from) new a = BitEnded start new first a
+Ended start (running.Lock first from) new a = LockEnded start new first a
+Ended start (running.Page first from) new a = PageEnded start new first a
+Ended start (running.Await first from) new a = AwaitEnded start new first a
+Ended start (running.Wake first from) new (answer.Walked w) = wakes.IsOver first.aim start new w
+Ended start (running.Swake first from) new (answer.Selected n) = swakes.IsOver start new first.cond first.all n
+Ended start (running.Cell first from) new (answer.Cell hit) = cells.IsOver first.call first.cell hit start new
+Ended _ _ _ _ = ⊥
+
+-- what a stretch tells of a call that is not over
+abbrev pub event_told : WaitTurn → Progress
+event_told (event_turn.Locked s) = progress.Locked
+event_told (event_turn.Asleep s) = progress.Park
+event_told _ = progress.Again
+
+abbrev pub bit_told : BitTurn → Progress
+bit_told (bit_turn.Locked s) = progress.Locked
+bit_told (bit_turn.Asleep s) = progress.Park
+bit_told _ = progress.Again
+
+abbrev pub lock_told : LockTurn → Progress
+lock_told (lock_turn.Locked s) = progress.Locked
+lock_told (lock_turn.Asleep s) = progress.Park
+lock_told _ = progress.Again
+
+abbrev pub page_told : PageTurn → Progress
+page_told (page_turn.Locked s) = progress.Locked
+page_told (page_turn.Asleep s) = progress.Park
+page_told _ = progress.Again
+
+abbrev pub await_told : AwaitTurn → Progress
+await_told (await_turn.Locked s) = progress.Locked
+await_told (await_turn.Asleep s) = progress.Park
+await_told _ = progress.Again
+
+-- What it tells fits where the call stands: a wake waits for its lock where a ticket is drawn, and goes on at once
+-- behind a break; a call of one hold waits for its lock.
+abbrev pub Fits : Running → Progress → Type 0
+Fits (running.Event run last) p = p ≡ event_told last
+Fits (running.Bit run last) p = p ≡ bit_told last
+Fits (running.Lock run last) p = p ≡ lock_told last
+Fits (running.Page run last) p = p ≡ page_told last
+Fits (running.Await run last) p = p ≡ await_told last
+Fits (running.Wake run last) progress.Again = Unit {0}
+Fits (running.Wake run last) progress.Locked = Unit {0}
+Fits (running.Swake run last) progress.Locked = Unit {0}
+Fits (running.Cell run last) progress.Locked = Unit {0}
+Fits _ _ = ⊥
+
+-- An advance of the call: it is over, with this answer, and no call is under way; or a wake was starved; or it has come
+-- on, and tells how.
+abbrev pub WentOn : Known → Running → Known → Running → Progress → Type 0
+WentOn start first new now (progress.Done a) = (now ≡ running.Idle) × Ended start first new a
+WentOn start first new now progress.Starved = now ≡ running.Starved
+WentOn start first new now p = CameFrom start first new now × Fits now p
+
+-- A wait that has not begun.
+abbrev pub IsFreshEvent : WaitRun → Type 0
+IsFreshEvent r = (w : Watch) × (how : How) × events.IsFresh r w how true
+
+-- What held when a call began: the task was ready; but for a wake, which may owe wakes of its watch, as a publish left
+-- it.
+pub record IsWaking (ks : KeptBits) (start : Known) (first : WakeRun) : Type 0 where
+  pub keeps : (c : Watch) → (told_of start).bits.keeps c ≡ keeps_in ks c
+  pub told : (told_of start).hold.head ≡ None
+  pub owes : Owes (with_wakes first.aim.watch first.aim.mode (but_kept ks)) start
+  pub off : HasLeftNone start
+
+-- and for a wake of a simple queue, which may owe wakes of its condition
+pub record IsSwaking (ks : KeptBits) (start : Known) (cond : ℕ) : Type 0 where
+  pub told : (told_of start).hold.head ≡ None
+  pub keeps : (c : Watch) → (told_of start).bits.keeps c ≡ keeps_in ks c
+  pub owes : Owes (with_wakes (watch.Plain cond) mode.Normal (but_kept ks)) start
+  pub off : HasLeftNone start
+
+abbrev pub Began : KeptBits → Known → Running → Type 0
+Began ks start (running.Event first from) = IsReady ks start × IsFreshEvent first
+Began ks start (running.Bit first from) = IsReady ks start
+Began ks start (running.Lock first from) = IsReady ks start
+Began ks start (running.Page first from) = IsReady ks start
+Began ks start (running.Await first from) = IsReady ks start
+Began ks start (running.Wake first from) = IsWaking ks start first
+Began ks start (running.Swake first from) = IsSwaking ks start first.cond
+Began ks start (running.Cell first from) = IsReady ks start
+Began ks start _ = ⊥
+
+-- where it stands
+abbrev pub StandsOn : Known → Running → Type 0
+StandsOn k (running.Event run last) = EventStands k run last
+StandsOn k (running.Bit run last) = BitStands k run last
+StandsOn k (running.Lock run last) = LockStands k run last
+StandsOn k (running.Page run last) = PageStands k run last
+StandsOn k (running.Await run last) = AwaitStands k run last
+StandsOn k (running.Wake run last) = Unit {0}
+StandsOn k (running.Swake run last) = Unit {0}
+StandsOn k (running.Cell run last) = Unit {0}
+StandsOn k _ = ⊥
+
+-- A call is under way that began with the task ready.
+pub record IsUnderWay (ks : KeptBits) (k : Known) (r : Running) : Type 0 where
+  pub start : Known
+  pub first : Running
+  pub began : Began ks start first
+  pub came : CameFrom start first k r
+  pub stands : StandsOn k r
+
+-- What is kept of the task is so: between two calls, and while one is under way.
+abbrev pub IsSound : Running → KeptBits → Known → Type 0
+IsSound running.Idle ks k = IsReady ks k
+IsSound running.Starved ks k = Unit {0}
+IsSound r ks k = IsUnderWay ks k r
+
+-- A wait has begun: nothing of the task has changed, and the wait is under way at its first stage, with these numbers.
+pub record BeginsEvent (old new : Known) (w : Watch) (how : How) (now : Running) : Type 0 where
+  pub run : WaitRun
+  pub fresh : events.IsFresh run w how true
+  pub is : now ≡ running.Event run (event_turn.Again event_stage.First)
+  pub same : new ≡ old
+  pub came : CameFrom old now new now
+
+pub record BeginsBit (old new : Known) (w b : ℕ) (st : SleepState) (now : Running) : Type 0 where
+  pub run : BitRun
+  pub fresh : bits.IsFresh run w b st
+  pub is : now ≡ running.Bit run (bit_turn.Again bit_stage.First)
+  pub same : new ≡ old
+  pub came : CameFrom old now new now
+
+pub record BeginsLock (old new : Known) (w b : ℕ) (st : SleepState) (now : Running) : Type 0 where
+  pub run : LockRun
+  pub fresh : locks.IsFresh run w b st
+  pub is : now ≡ running.Lock run (lock_turn.Again lock_stage.First)
+  pub same : new ≡ old
+  pub came : CameFrom old now new now
+
+pub record BeginsPage (old new : Known) (p : ℕ) (st : SleepState) (now : Running) : Type 0 where
+  pub run : PageRun
+  pub fresh : pages.IsFresh run p st
+  pub is : now ≡ running.Page run (page_turn.Again page_stage.First)
+  pub same : new ≡ old
+  pub came : CameFrom old now new now
+
+pub record BeginsAwait (old new : Known) (d : ℕ) (st : SleepState) (now : Running) : Type 0 where
+  pub run : AwaitRun
+  pub fresh : awaits.IsFresh run d st
+  pub is : now ≡ running.Await run (await_turn.Again await_stage.First)
+  pub same : new ≡ old
+  pub came : CameFrom old now new now
+
+-- A call about a completion has begun: nothing of the task has changed, and the call is under way before its hold.
+pub record BeginsCell (old new : Known) (call : CellCall) (d : ℕ) (now : Running) : Type 0 where
+  pub run : CellRun
+  pub call_is : run.call ≡ call
+  pub cell_is : run.cell ≡ d
+  pub is : now ≡ running.Cell run cell_stage.First
+  pub same : new ≡ old
+  pub came : CameFrom old now new now
+
+-- A wake of a simple queue has begun: it is under way before its hold.
+pub record BeginsSwake (new : Known) (cond : ℕ) (all : Bool) (now : Running) : Type 0 where
+  pub run : SwakeRun
+  pub cond_is : run.cond ≡ cond
+  pub all_is : run.all ≡ all
+  pub is : now ≡ running.Swake run swake_stage.First
+  pub came : CameFrom new now new now
+
+-- A simple condition was set to this value, and the wake of its queue has begun.
+pub record SetsSimple (old new : Known) (cond value : ℕ) (all : Bool) (now : Running) : Type 0 where
+  pub found : ℕ
+  pub published : new ≡ added old (item.Made (step.Publish (watch.Plain cond) value found))
+  pub wakes : BeginsSwake new cond all now
+
+-- a wake with this aim before its first hold
+pub record WakesFirst (aim : Aim) (now : Running) : Type 0 where
+  pub run : WakeRun
+  pub aim_is : run.aim ≡ aim
+  pub small : run.aim.count < 2 ^ 32
+  pub is : now ≡ running.Wake run wake_stage.First
+
+-- A wake has begun with this aim: it is under way before its first hold.
+pub record BeginsWake (new : Known) (aim : Aim) (now : Running) : Type 0 where
+  pub run : WakeRun
+  pub aim_is : run.aim ≡ aim
+  pub is : now ≡ running.Wake run wake_stage.First
+  pub came : CameFrom new now new now
+
+-- A watch was published with this value, and its wake has begun.
+pub record BeginsSet (old new : Known) (value : ℕ) (aim : Aim) (now : Running) : Type 0 where
+  pub found : ℕ
+  pub published : new ≡ added old (item.Made (step.Publish aim.watch value found))
+  pub wakes : BeginsWake new aim now
+
+-- A watch was published with this value, and then the task looked for members of its head without the lock. Where it
+-- found some the wake has begun, and else the call is over.
+abbrev pub GoesWhere : Bool → Known → Aim → Progress → Running → Type 0
+GoesWhere true new aim told now = (told ≡ progress.Again) × BeginsWake new aim now
+GoesWhere false new aim told now = (told ≡ progress.Done (answer.Walked unmade)) × (now ≡ running.Idle)
+
+pub record Publishes (old new : Known) (value : ℕ) (aim : Aim) (told : Progress) (now : Running) : Type 0 where
+  pub found : ℕ
+  pub between : Known
+  pub hit : Bool
+  pub published : between ≡ added old (item.Made (step.Publish aim.watch value found))
+  pub looked : HasScanned between new (model.head_of aim.watch) hit
+  pub goes : GoesWhere hit new aim told now
+
+-- Whom a stretch of a call names to be roused: those whom it has woken, in their order. A stretch of a wait names none.
+abbrev pub Rouses : Running → Known → Known → Rousing → Type 0
+Rouses (running.Wake run last) old new named = IsRousing old new named
+Rouses (running.Swake run last) old new named = IsRousing old new named
+Rouses (running.Cell run last) old new named = IsRousing old new named
+Rouses _ old new named = tasks_in named ≡ []

@@ -1,0 +1,7 @@
+pub mod Checked
+pub mod Kept
+pub mod Stages
+pub mod Calls
+pub mod Advancing
+pub mod Reasons
+pub mod Signals

@@ -1,0 +1,335 @@
+//! An advance of each kind of call that is under way: one stretch, what it leaves under way, and what it tells.
+
+ghost use Rattle.std.specs.Prelude.{◌≡◌, ◌<◌, ◌||◌, [], true, None};
+ghost use Rattle.wait_rule.specs.Known.{Known};
+ghost use Rattle.wait_rule.specs.Says.{IsUp};
+ghost use Rattle.bit_wait.specs.LockEnds.{HasRested};
+ghost use Rattle.wq_head.specs.Roused.{IsRousing, tasks_in};
+ghost use Rattle.wait_model.specs.declared.layout.TheConstants.{BIT_WORDS, WORD_BITS};
+ghost use Rattle.wait_model.specs.declared.watches.Watch.{Watch};
+ghost use Rattle.wait_model.specs.declared.watches.Watch.TheVariants as watch;
+ghost use Rattle.wait_rule.specs.Bits.{taken_bits};
+ghost use Rattle.wq_checked.specs.Kept.{keeps_in};
+ghost use Rattle.wq_checked.specs.Calls.{CameFrom, IsSound, Rouses, WentOn, event_answer};
+ghost use Rattle.wq_checked.specs.Advancing.{event_left, event_shown, bit_left, bit_shown, lock_left, lock_shown};
+ghost use Rattle.wq_checked.specs.Advancing.{wake_left, wake_shown};
+ghost use Rattle.wq_checked.specs.Advancing.{page_left, page_shown, bit_worn, lock_worn, lock_took, page_took};
+ghost use Rattle.wq_checked.specs.Reasons.{stopped_reason};
+ghost use Rattle.wq_checked.specs.declared.calls.Running.{Running as TheRunning};
+ghost use Rattle.wq_checked.specs.declared.calls.Running.TheVariants as running;
+
+use crate::await_turns::await_on;
+use crate::calls::{Answer, Progress, Running};
+use crate::cells::cell_on;
+use crate::kept_bits::KeptBits;
+use crate::simple_wakes::swake_on;
+use crate::stretches::{bit_turn, event_turn, lock_turn, page_turn};
+use bit_wait::lock_waits::{LockOutcome, LockRun, LockTurn};
+use bit_wait::waits::{BitOutcome, BitRun, BitTurn};
+use bit_wait::{lock_calls, wait_calls};
+use page_lock::wait_calls as page_calls;
+use page_lock::waits::{PageOutcome, PageRun, PageTurn};
+use var_wait::end_of_var;
+use wait_event::wait_events::end_of;
+use wait_event::waits::{WaitOutcome, WaitRun, WaitTurn};
+use wait_model::layout::RUNNING;
+use wait_model::watches::Watch;
+use wait_rule::tasks::set_state;
+use wait_rule::{Domain, Task};
+use wq_head::wakes::{WakeRun, WakeStage, WakeTurn, wake_stretch};
+use wq_head::{Members, Rousing};
+
+/// The answer of a wait for a plain condition or a variable.
+fn answer_of(run: WaitRun, outcome: WaitOutcome) -> Answer
+    ensures { result ≡ event_answer run outcome }
+{
+    match run.watch {
+        Watch::Var { .. } => Answer::Changed(end_of_var(run, outcome)),
+        _ => Answer::Waited(end_of(run, outcome)),
+    }
+}
+
+fn event_leaves(run: WaitRun, turn: WaitTurn) -> (Running, Progress)
+    ensures left { result.0 ≡ event_left run turn }
+    ensures shown { result.1 ≡ event_shown run turn }
+{
+    match turn {
+        WaitTurn::Again(_) => (Running::Event(run, turn), Progress::Again),
+        WaitTurn::Locked(_) => (Running::Event(run, turn), Progress::Locked),
+        WaitTurn::Asleep(_) => (Running::Event(run, turn), Progress::Park),
+        WaitTurn::Done(outcome) => (Running::Idle, Progress::Done(answer_of(run, outcome))),
+    }
+}
+
+/// A wait for a plain condition or a variable.
+pub(crate) fn event_on(
+    domain: &Domain,
+    task: &mut Task,
+    kept: &KeptBits,
+    run: WaitRun,
+    last: WaitTurn,
+) -> (Running, Progress)
+    requires of { task.old.domain ≡ domain.now }
+    requires sound { IsSound (running.Event run last) kept.now task.old }
+    ensures of { task.new.domain ≡ domain.now }
+    ensures sound { IsSound result.0 kept.now task.new }
+    ensures goes { (start : Known) (first : TheRunning) → CameFrom start first task.old (running.Event run last)
+        → WentOn start first task.new result.0 result.1 }
+{
+    let _ = kept;
+    let mut run = run;
+    let turn = event_turn(domain, task, &mut run, last);
+    event_leaves(run, turn)
+}
+
+/// Stores RUNNING where no place was left, since the task may still be in the state in which it would have slept.
+fn rest(domain: &Domain, task: &mut Task, worn: bool)
+    requires of { task.old.domain ≡ domain.now }
+    requires up { worn ≡ true → IsUp task.old }
+    ensures { HasRested task.old task.new worn }
+{
+    if worn {
+        set_state(domain, task, RUNNING);
+    }
+}
+
+/// Whether no place was left for the entry of a wait for a bit that ended so.
+fn found_worn(turn: BitTurn) -> bool
+    ensures { result ≡ bit_worn turn }
+{
+    match turn {
+        BitTurn::Done(outcome) => match outcome {
+            BitOutcome::Worn => true,
+            _ => false,
+        },
+        _ => false,
+    }
+}
+
+fn bit_leaves(run: BitRun, turn: BitTurn) -> (Running, Progress)
+    ensures left { result.0 ≡ bit_left run turn }
+    ensures shown { result.1 ≡ bit_shown run turn }
+{
+    match turn {
+        BitTurn::Again(_) => (Running::Bit(run, turn), Progress::Again),
+        BitTurn::Locked(_) => (Running::Bit(run, turn), Progress::Locked),
+        BitTurn::Asleep(_) => (Running::Bit(run, turn), Progress::Park),
+        BitTurn::Done(outcome) => {
+            let answer = Answer::Bit(wait_calls::end_of(run, outcome));
+            (Running::Idle, Progress::Done(answer))
+        }
+    }
+}
+
+/// A wait for a bit.
+pub(crate) fn bit_on(
+    domain: &Domain,
+    task: &mut Task,
+    kept: &KeptBits,
+    run: BitRun,
+    last: BitTurn,
+) -> (Running, Progress)
+    requires of { task.old.domain ≡ domain.now }
+    requires sound { IsSound (running.Bit run last) kept.now task.old }
+    ensures of { task.new.domain ≡ domain.now }
+    ensures sound { IsSound result.0 kept.now task.new }
+    ensures goes { (start : Known) (first : TheRunning) → CameFrom start first task.old (running.Bit run last)
+        → WentOn start first task.new result.0 result.1 }
+{
+    let _ = kept;
+    let mut run = run;
+    let turn = bit_turn(domain, task, &mut run, last);
+    rest(domain, task, found_worn(turn));
+    bit_leaves(run, turn)
+}
+
+/// Whether a wait that ended so may have left a state stored.
+fn may_stir(run: LockRun, turn: LockTurn) -> bool
+    ensures { result ≡ lock_worn run turn }
+{
+    match turn {
+        LockTurn::Done(_) => run.worn,
+        _ => false,
+    }
+}
+
+/// Whether a wait ended with the bit.
+fn has_bit(turn: LockTurn) -> bool
+    ensures { result ≡ lock_took turn }
+{
+    match turn {
+        LockTurn::Done(outcome) => match outcome {
+            LockOutcome::Over => true,
+            _ => false,
+        },
+        _ => false,
+    }
+}
+
+/// Whether a wait ended with the page.
+fn has_page(turn: PageTurn) -> bool
+    ensures { result ≡ page_took turn }
+{
+    match turn {
+        PageTurn::Done(outcome) => match outcome {
+            PageOutcome::Over => true,
+            _ => false,
+        },
+        _ => false,
+    }
+}
+
+/// Notes a bit that was taken.
+pub(crate) fn note(kept: &mut KeptBits, word: u8, bit: u8, took: bool)
+    requires word { word < BIT_WORDS }
+    requires bit { bit < WORD_BITS }
+    ensures { (c : Watch)
+        → keeps_in kept.new c ≡ (taken_bits (watch.Bit word bit) took c || keeps_in kept.old c) }
+{
+    if took {
+        kept.put(word, bit);
+    }
+}
+
+fn lock_leaves(run: LockRun, turn: LockTurn) -> (Running, Progress)
+    ensures left { result.0 ≡ lock_left run turn }
+    ensures shown { result.1 ≡ lock_shown run turn }
+{
+    match turn {
+        LockTurn::Again(_) => (Running::Lock(run, turn), Progress::Again),
+        LockTurn::Locked(_) => (Running::Lock(run, turn), Progress::Locked),
+        LockTurn::Asleep(_) => (Running::Lock(run, turn), Progress::Park),
+        LockTurn::Done(outcome) => {
+            let answer = Answer::Bit(lock_calls::end_of(run, outcome));
+            (Running::Idle, Progress::Done(answer))
+        }
+    }
+}
+
+/// A wait to take a bit.
+pub(crate) fn lock_on(
+    domain: &Domain,
+    task: &mut Task,
+    kept: &mut KeptBits,
+    run: LockRun,
+    last: LockTurn,
+) -> (Running, Progress)
+    requires of { task.old.domain ≡ domain.now }
+    requires sound { IsSound (running.Lock run last) kept.old task.old }
+    ensures of { task.new.domain ≡ domain.now }
+    ensures sound { IsSound result.0 kept.new task.new }
+    ensures goes { (start : Known) (first : TheRunning) → CameFrom start first task.old (running.Lock run last)
+        → WentOn start first task.new result.0 result.1 }
+{
+    let (word, bit) = (run.word, run.bit);
+    let mut run = run;
+    let turn = lock_turn(domain, task, &mut run, last);
+    rest(domain, task, may_stir(run, turn));
+    note(kept, word, bit, has_bit(turn));
+    lock_leaves(run, turn)
+}
+
+fn page_leaves(run: PageRun, turn: PageTurn) -> (Running, Progress)
+    ensures left { result.0 ≡ page_left run turn }
+    ensures shown { result.1 ≡ page_shown run turn }
+{
+    match turn {
+        PageTurn::Again(_) => (Running::Page(run, turn), Progress::Again),
+        PageTurn::Locked(_) => (Running::Page(run, turn), Progress::Locked),
+        PageTurn::Asleep(_) => (Running::Page(run, turn), Progress::Park),
+        PageTurn::Done(outcome) => {
+            let answer = Answer::Bit(page_calls::end_of(run, outcome));
+            (Running::Idle, Progress::Done(answer))
+        }
+    }
+}
+
+/// A wait for a page.
+pub(crate) fn page_on(
+    domain: &Domain,
+    task: &mut Task,
+    kept: &mut KeptBits,
+    run: PageRun,
+    last: PageTurn,
+) -> (Running, Progress)
+    requires of { task.old.domain ≡ domain.now }
+    requires sound { IsSound (running.Page run last) kept.old task.old }
+    ensures of { task.new.domain ≡ domain.now }
+    ensures sound { IsSound result.0 kept.new task.new }
+    ensures goes { (start : Known) (first : TheRunning) → CameFrom start first task.old (running.Page run last)
+        → WentOn start first task.new result.0 result.1 }
+{
+    let page = run.page;
+    let mut run = run;
+    let turn = page_turn(domain, task, &mut run, last);
+    note(kept, page, 0, has_page(turn));
+    page_leaves(run, turn)
+}
+
+fn wake_leaves(run: WakeRun, turn: WakeTurn) -> (Running, Progress)
+    ensures left { result.0 ≡ wake_left run turn }
+    ensures shown { result.1 ≡ wake_shown turn }
+{
+    match turn {
+        WakeTurn::Locked(next) => (Running::Wake(run, next), Progress::Locked),
+        WakeTurn::Broken => (Running::Wake(run, WakeStage::Next), Progress::Again),
+        WakeTurn::Done(walked) => (Running::Idle, Progress::Done(Answer::Walked(walked))),
+        WakeTurn::Starved(_) => (Running::Starved, Progress::Starved),
+    }
+}
+
+/// A wake, by one hold at most. Whose threads are to be roused is put into `rousing`.
+pub(crate) fn wake_on(
+    domain: &Domain,
+    task: &mut Task,
+    kept: &KeptBits,
+    run: WakeRun,
+    stage: WakeStage,
+    rousing: &mut Rousing,
+) -> (Running, Progress)
+    requires of { task.old.domain ≡ domain.now }
+    requires none { tasks_in rousing.old ≡ [] }
+    requires sound { IsSound (running.Wake run stage) kept.now task.old }
+    ensures of { task.new.domain ≡ domain.now }
+    ensures sound { IsSound result.0 kept.now task.new }
+    ensures goes { (start : Known) (first : TheRunning) → CameFrom start first task.old (running.Wake run stage)
+        → WentOn start first task.new result.0 result.1 }
+    ensures rouses { IsRousing task.old task.new rousing.new }
+{
+    let _ = kept;
+    let mut run = run;
+    let mut list = Members::new();
+    let turn = wake_stretch(domain, task, &mut run, stage, &mut list, rousing);
+    wake_leaves(run, turn)
+}
+
+/// The call that is under way, by one stretch.
+pub(crate) fn go_on(
+    domain: &Domain,
+    task: &mut Task,
+    kept: &mut KeptBits,
+    running: Running,
+    rousing: &mut Rousing,
+) -> (Running, Progress)
+    requires of { task.old.domain ≡ domain.now }
+    requires none { tasks_in rousing.old ≡ [] }
+    requires under { stopped_reason running ≡ None }
+    requires sound { IsSound running kept.old task.old }
+    ensures of { task.new.domain ≡ domain.now }
+    ensures sound { IsSound result.0 kept.new task.new }
+    ensures goes { (start : Known) (first : TheRunning) → CameFrom start first task.old running
+        → WentOn start first task.new result.0 result.1 }
+    ensures rouses { Rouses running task.old task.new rousing.new }
+{
+    match running {
+        Running::Event(run, last) => event_on(domain, task, kept, run, last),
+        Running::Bit(run, last) => bit_on(domain, task, kept, run, last),
+        Running::Lock(run, last) => lock_on(domain, task, kept, run, last),
+        Running::Page(run, last) => page_on(domain, task, kept, run, last),
+        Running::Await(run, last) => await_on(domain, task, kept, run, last),
+        Running::Wake(run, stage) => wake_on(domain, task, kept, run, stage, rousing),
+        Running::Swake(run, stage) => swake_on(domain, task, kept, run, stage, rousing),
+        Running::Cell(run, stage) => cell_on(domain, task, kept, run, stage, rousing),
+        _ => unreachable!(),
+    }
+}

@@ -1,0 +1,25 @@
+//! The calls of the library for who proves nothing: a task with what is kept of it at run time. Each call is tested
+//! against that, and is made, or is refused with a reason, and then nothing has changed. No public call has a
+//! `requires`. A call that waits, or that wakes, is begun, and goes on by `CheckedTask::advance`, stretch by stretch,
+//! so that no call waits for anybody.
+#![tactic(auto)]
+
+mod advances;
+pub mod at_once;
+mod await_turns;
+pub mod beginnings;
+pub mod calls;
+pub mod cells;
+pub mod kept_bits;
+pub mod reasons;
+pub mod signals;
+pub mod simple_wakes;
+mod stretches;
+pub mod tasks;
+#[cfg(test)]
+mod tests;
+pub mod wakings;
+
+pub use calls::{Answer, Progress};
+pub use reasons::Refused;
+pub use tasks::CheckedTask;

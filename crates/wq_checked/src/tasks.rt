@@ -1,0 +1,172 @@
+//! A task whose calls are tested when they are made.
+
+ghost use Rattle.std.specs.Prelude.{◌≡◌, ◌<◌, ◌≤◌, ◌+◌, ◌-◌, [], false, IfErr, IfOk, None, Some};
+ghost use Rattle.wait_model.specs.declared.layout.TheConstants.{BIT_WORDS, TASKS, WORD_BITS};
+ghost use Rattle.wait_model.specs.declared.watches.Watch.{Watch};
+ghost use Rattle.wait_model.specs.declared.watches.Watch.TheVariants as watch;
+ghost use Rattle.wait_rule.specs.Known.{Known};
+ghost use Rattle.wait_rule.specs.Says.{newcomer};
+ghost use Rattle.wq_head.specs.Roused.{tasks_in};
+ghost use Rattle.wq_checked.specs.Calls.{CameFrom, Rouses, WentOn};
+ghost use Rattle.wq_checked.specs.Checked.{shared_by};
+ghost use Rattle.wq_checked.specs.Kept.{IsReady, keeps_in};
+ghost use Rattle.wq_checked.specs.Reasons.{IsNoFork, busy_reason, stopped_reason};
+ghost use Rattle.wq_checked.specs.declared.calls.Running.{Running as TheRunning};
+ghost use Rattle.wq_checked.specs.declared.calls.Running.TheVariants as running;
+
+use crate::advances::go_on;
+use crate::calls::{Progress, Running};
+use crate::kept_bits::KeptBits;
+use crate::reasons::Refused;
+use std::alloc::{AllocError, Global};
+use std::marker::Model;
+use std::sync::Arc;
+use thiserror::Error;
+use wait_model::layout::{BIT_WORDS, WORD_BITS};
+use wait_rule::{Domain, Task};
+use wq_head::Rousing;
+
+/// A task of a Domain, with what is kept of it to test its calls: the bits and pages that it keeps, and the call that
+/// is under way. Between two calls it is awake and idle, keeps just those bits, owes nothing else, and has left no entry
+/// at a completion; while a call is under way, it has come by turns of that call from such a task.
+#[derive(Drop)]
+pub struct CheckedTask {
+    pub(crate) domain: Arc<Domain, Global>,
+    pub(crate) task: Task,
+    pub(crate) kept: KeptBits,
+    pub(crate) running: Running,
+}
+
+impl Model for CheckedTask {
+    ghost use Rattle.std.specs.Prelude.{◌≡◌};
+    ghost use Rattle.std.specs.Arc.{arc_value};
+    ghost use Rattle.wq_checked.specs.Checked.{Checked};
+    ghost use Rattle.wq_checked.specs.Calls.{IsSound};
+
+    ghost Value = { Checked };
+
+    ghost view = { λ t. record { task = t.task; kept = t.kept; running = t.running } };
+
+    ghost invariant = { λ t. (t.task.domain ≡ arc_value t.domain) × IsSound t.running t.kept t.task };
+}
+
+/// Why no call may begin now: None where one may.
+pub(crate) fn refusal_of(running: &Running) -> Option<Refused>
+    ensures { result ≡ busy_reason running.now }
+{
+    match running {
+        Running::Idle => None,
+        Running::Starved => Some(Refused::Starved),
+        _ => Some(Refused::Busy),
+    }
+}
+
+/// Why no further task was made; nothing has changed then. Busy: a call of the task is under way, or a wake of it was
+/// starved. Numbers: fewer numbers are spare than the new task is to have.
+#[derive(Debug, Drop, Error)]
+pub enum NoFork {
+    #[error("a call of the task is under way")]
+    Busy,
+    #[error("too few numbers of tasks are spare")]
+    Numbers,
+    #[error("out of memory")]
+    Memory,
+}
+
+impl CheckedTask {
+    /// A Domain and its first task, whose number is 0 and to which all other numbers are spare. The only other answer
+    /// is want of memory.
+    pub fn start(alloc: Global) -> Result<CheckedTask, AllocError>
+        ensures first { IfOk result (λ t. t.task ≡ newcomer t.task.domain 0 1 (TASKS - 1)) }
+        ensures ready { IfOk result (λ t. (t.running ≡ running.Idle) × (IsReady t.kept t.task)) }
+        ensures none { IfOk result (λ t. (c : Watch) → keeps_in t.kept c ≡ false) }
+    {
+        let (domain, task) = Domain::new(alloc)?;
+        let domain = Arc::new(alloc, domain)?;
+        Ok(CheckedTask {
+            domain,
+            task,
+            kept: KeptBits::none(),
+            running: Running::Idle,
+        })
+    }
+
+    /// A new task of the same Domain, with this task's next number, and `share` further numbers of its own to give out.
+    /// Busy comes exactly where a call may not begin, and Numbers only where fewer than `1 + share` numbers are spare.
+    pub fn fork(&mut self, share: u8) -> Result<CheckedTask, NoFork>
+        ensures refused { IfErr result (IsNoFork self.old share) }
+        ensures same { IfErr result (λ _. self.new ≡ self.old) }
+        ensures may { IfOk result (λ _. (busy_reason self.old.running ≡ None)
+            × (1 + share ≤ self.old.task.view.spare)) }
+        ensures new { IfOk result (λ t. t.task ≡ newcomer self.old.task.domain self.old.task.view.next
+            (self.old.task.view.next + 1) share) }
+        ensures ready { IfOk result (λ t. (t.running ≡ running.Idle) × (IsReady t.kept t.task)) }
+        ensures none { IfOk result (λ t. (c : Watch) → keeps_in t.kept c ≡ false) }
+        ensures old { IfOk result (λ _. self.new ≡ shared_by share self.old) }
+    {
+        if let Some(_) = refusal_of(&self.running) {
+            return Err(NoFork::Busy);
+        }
+        let domain = match Arc::try_clone(&self.domain) {
+            Ok(domain) => domain,
+            Err(_) => return Err(NoFork::Memory),
+        };
+        match self.task.fork(&self.domain, share) {
+            Ok(task) => Ok(CheckedTask {
+                domain,
+                task,
+                kept: KeptBits::none(),
+                running: Running::Idle,
+            }),
+            Err(_) => Err(NoFork::Numbers),
+        }
+    }
+
+    /// The task's number, which no other task of the Domain has.
+    pub fn number(&self) -> u8
+        ensures { result ≡ self.now.task.view.number }
+    {
+        self.task.number()
+    }
+
+    /// Why no call may begin now: None where one may.
+    pub fn refusal(&self) -> Option<Refused>
+        ensures { result ≡ busy_reason self.now.running }
+    {
+        refusal_of(&self.running)
+    }
+
+    /// Whether the task keeps bit `bit` of bit word `word`: false for one that is not there.
+    pub fn keeps(&self, word: u8, bit: u8) -> bool
+        ensures { word < BIT_WORDS → bit < WORD_BITS → result ≡ keeps_in self.now.kept (watch.Bit word bit) }
+    {
+        u16::from(word) < BIT_WORDS && u16::from(bit) < WORD_BITS && self.kept.has(word, bit)
+    }
+
+    /// Goes on with the call that is under way by one stretch, which waits for nobody. `rousing` is emptied first, and
+    /// names then the tasks that a wake has woken in this stretch and whose threads are to be roused, in their order.
+    /// Nothing comes exactly where no call is under way, and Starved exactly after a wake that was starved. Else the
+    /// call has come on by its own turns, from wherever it came, or is over with the answer of the whole call.
+    pub fn advance(&mut self, rousing: &mut Rousing) -> Result<Progress, Refused>
+        ensures refused { IfErr result (λ e. stopped_reason self.old.running ≡ Some e) }
+        ensures same { IfErr result (λ _. self.new ≡ self.old) }
+        ensures under { IfOk result (λ _. stopped_reason self.old.running ≡ None) }
+        ensures goes { IfOk result (λ told. (start : Known) (first : TheRunning)
+            → CameFrom start first self.old.task self.old.running
+            → WentOn start first self.new.task self.new.running told) }
+        ensures rouses { IfOk result (λ _. Rouses self.old.running self.old.task self.new.task rousing.new) }
+        ensures none { IfErr result (λ _. tasks_in rousing.new ≡ []) }
+    {
+        rousing.clear();
+        match self.running {
+            Running::Idle => Err(Refused::Nothing),
+            Running::Starved => Err(Refused::Starved),
+            running => {
+                let domain = &self.domain;
+                let (next, told) = go_on(domain, &mut self.task, &mut self.kept, running, rousing);
+                self.running = next;
+                Ok(told)
+            }
+        }
+    }
+}

@@ -10,15 +10,18 @@ use Rattle.wait_script.specs.declared.reason.Reason.TheVariants as reason
 use Rattle.wait_script.specs.declared.script.ReadScript.{ReadScript}
 use Rattle.wait_script.specs.declared.script.ReadScript.TheVariants as script
 use Rattle.waitq.specs.declared.fault.Fault.{Fault}
-use Rattle.waitq.specs.declared.fault.Fault.TheVariants.{Usage, Script, Read, Write, Memory, Long}
+use Rattle.waitq.specs.declared.fault.Fault.TheVariants.{Usage, Script, Read, NoFile, Write, Killed, Memory, Long, Worn}
 
 abbrev pub status_of : Fault → ℕ
 status_of Usage = 2
 status_of (Script line why) = 3
 status_of Read = 4
+status_of (NoFile name) = 4
 status_of Write = 5
+status_of Killed = 6
 status_of Memory = 7
 status_of Long = 8
+status_of (Worn place) = 9
 
 -- why a line is bad
 abbrev pub why_text : Reason → List ℕ
@@ -38,9 +41,12 @@ fault_text Usage =
 fault_text (Script line why) = codes "waitq: line " ++ decimal line ++ codes ": " ++ why_text why
     ++ codes "\n"
 fault_text Read = codes "waitq: read failed\n"
+fault_text (NoFile name) = codes "waitq: no file " ++ name.now ++ codes "\n"
 fault_text Write = codes "waitq: write failed\n"
+fault_text Killed = codes "waitq: killed\n"
 fault_text Memory = codes "waitq: out of memory\n"
 fault_text Long = codes "waitq: input too long\n"
+fault_text (Worn place) = codes "waitq: queue worn at place " ++ decimal place ++ codes "\n"
 
 abbrev pub read_fault : ReadFault → Fault
 read_fault read.Failed = Read

@@ -41,6 +41,9 @@ verdict_of bytes = if nat_lt INPUT_BYTES (length bytes) then TooLong else script
 abbrev pub IsFaultOf : Verdict → Option (List ℕ) → Option (List ℕ) → Fault → Type 0
 IsFaultOf verdict old new fault.Usage = new ≡ old
 IsFaultOf verdict old new fault.Read = new ≡ old
+IsFaultOf verdict old new (fault.NoFile name) = ⊥
+IsFaultOf verdict old new fault.Killed = ⊥
+IsFaultOf verdict old new (fault.Worn place) = ⊥
 IsFaultOf (BadLine line why) old new (fault.Script l w) = (l ≡ line) × (w ≡ why) × (new ≡ old)
 IsFaultOf TooLong old new (fault.Script l w) = ⊥
 IsFaultOf (Text text) old new (fault.Script l w) = ⊥
@@ -69,9 +72,20 @@ LeavesUnwritten old new (Ok x) = Unit {0}
 LeavesUnwritten old new (Err fault.Usage) = new ≡ old
 LeavesUnwritten old new (Err (fault.Script line why)) = new ≡ old
 LeavesUnwritten old new (Err fault.Read) = new ≡ old
+LeavesUnwritten old new (Err (fault.NoFile name)) = new ≡ old
+LeavesUnwritten old new (Err fault.Killed) = new ≡ old
+LeavesUnwritten old new (Err (fault.Worn place)) = new ≡ old
 LeavesUnwritten old new (Err fault.Long) = new ≡ old
 LeavesUnwritten old new (Err fault.Write) = Unit {0}
 LeavesUnwritten old new (Err fault.Memory) = Unit {0}
+
+-- the answers of other commands than a copy
+abbrev pub IsNoCopyEnd : Result (Unit {0}) Fault → Type 0
+IsNoCopyEnd (Ok x) = Unit {0}
+IsNoCopyEnd (Err (fault.NoFile name)) = ⊥
+IsNoCopyEnd (Err fault.Killed) = ⊥
+IsNoCopyEnd (Err (fault.Worn place)) = ⊥
+IsNoCopyEnd (Err _) = Unit {0}
 
 abbrev pub IsBad : Verdict → Type 0
 IsBad (BadLine line why) = Unit {0}

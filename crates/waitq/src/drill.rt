@@ -3,12 +3,11 @@
 ghost use Rattle.std.specs.Prelude.{◌≡◌, ◌+◌, ◌≤◌, ◌++◌, IsErrOf, IsTrue, Some, length};
 ghost use Rattle.arrayvec.specs.ArrayVec.{array_vec_len};
 ghost use Rattle.edge_io.specs.Faults.{HasRisen};
-ghost use Rattle.waitq.specs.Commands.{may_end_with};
+ghost use Rattle.waitq.specs.Commands.{Drill, may_end_with};
 ghost use Rattle.waitq.specs.Drill.{number_line, head_line, drill_text};
 ghost use Rattle.waitq.specs.Outcome.{Text, Answers, LeavesUnwritten};
 ghost use Rattle.waitq.specs.Run.{exit_status};
 
-use crate::command::Command;
 use crate::fault::Fault;
 use crate::silent::{count_asleep, make_lines};
 use drill_gen::MOST_CALLS;
@@ -43,11 +42,16 @@ fn push_head(line: &mut LineText, seed: u64, count: u32)
 /// Makes the script of a seed, plays it in a fresh core without its text, and writes its summary: the numbers of
 /// events made, of calls refused, and of tasks that are not runnable at the end. The script has at most 20,000 calls,
 /// and so asks for at most 800,000 events.
-pub fn drill<O: Sink>(alloc: Global, seed: u64, count: u32, out: &mut O) -> Result<(), Fault>
+pub fn drill<O: Sink>(
+    alloc: Global,
+    seed: u64,
+    count: u32,
+    out: &mut O,
+) -> Result<(), Fault<'static>>
     requires { count ≤ MOST_CALLS }
     ensures outcome { Answers (Text (drill_text seed count)) (O.held out.old) (O.held out.new) result }
     ensures unwritten { LeavesUnwritten (O.held out.old) (O.held out.new) result }
-    ensures statuses { IsTrue (may_end_with (Some (Command.Drill seed count)) (exit_status result)) }
+    ensures statuses { IsTrue (may_end_with (Some (Drill seed count)) (exit_status result)) }
     ensures write { IsErrOf result Fault.Write → HasRisen (O.faults out.old) (O.faults out.new) }
 {
     let script = drill_gen::drill(alloc, seed, count)?;

@@ -1,9 +1,14 @@
-//! The program that replays scripts, and drills.
+//! The program that replays scripts, drills, and copies files.
 #![tactic(auto)]
 
 mod command;
+mod copy;
+#[cfg(test)]
+mod copy_rows;
 mod drill;
+mod events;
 mod fault;
+mod files;
 #[cfg(test)]
 mod page_rows;
 mod play;
@@ -18,16 +23,28 @@ mod silent;
 mod streams;
 #[cfg(test)]
 mod tests;
+mod told;
 #[cfg(test)]
 mod waiting_rows;
 #[cfg(test)]
 mod walks;
+mod watchers;
+mod watching;
 
 use fault::Fault;
+use files::Disk;
+use flow_copy::OpenGate;
+use func_head::FuncHead;
 use report::report;
+use run::run;
+use std::alloc::AllocError;
 use std::process::ExitCode;
+use std::sync::Wait;
+use std::thread::Threads;
 use std::{env, io};
 use streams::{Reading, Writing};
+use wait_rule::Domain;
+use watchers::{Lengths, Lines};
 
 /// The words after the program's name.
 fn words(rt: &HostRuntime) -> io::Result<Vec<String>> {
@@ -35,19 +52,52 @@ fn words(rt: &HostRuntime) -> io::Result<Vec<String>> {
     Ok(words)
 }
 
+/// Does what the words say, with two watchers for a copy: one adds up the lengths of its pieces, and one counts the
+/// ends of lines.
+fn start<R: Threads + Wait + Sync>(
+    rt: &R,
+    host: &HostRuntime,
+    words: &[String],
+) -> Result<u8, AllocError> {
+    let alloc = host.alloc();
+    let (domain, mut task) = Domain::new(alloc)?;
+    let mut watch = FuncHead::new(alloc);
+    let lengths = Box::new(alloc, Lengths { bytes: 0 })?;
+    let lines = Box::new(alloc, Lines { ends: 0 })?;
+    if watch.add_exclusive(lengths).is_err() || watch.add_exclusive(lines).is_err() {
+        return Err(AllocError);
+    }
+    let status = run(
+        rt,
+        alloc,
+        words,
+        &mut Disk::new(host),
+        &mut Reading::new(host.stdin()),
+        &mut Writing::new(host.stdout()),
+        &mut Writing::new(host.stderr()),
+        &domain,
+        &mut task,
+        watch,
+        &OpenGate,
+    );
+    Ok(status)
+}
+
+/// The status of want of memory, whose line is written.
+fn no_memory(rt: &HostRuntime) -> u8 {
+    let _ = report(&mut Writing::new(rt.stderr()), &Fault::Memory);
+    Fault::Memory.status()
+}
+
 fn main(rt: HostRuntime) -> ExitCode {
-    let alloc = rt.alloc();
-    let mut err = Writing::new(rt.stderr());
     let words = match words(&rt) {
         Ok(words) => words,
         // A word that is no text is in no command.
-        Err(error) if error.kind() == io::ErrorKind::InvalidData => Vec::new(alloc),
-        Err(_) => {
-            let _ = report(&mut err, &Fault::Memory);
-            return ExitCode::from(Fault::Memory.status());
-        }
+        Err(error) if error.kind() == io::ErrorKind::InvalidData => Vec::new(rt.alloc()),
+        Err(_) => return ExitCode::from(no_memory(&rt)),
     };
-    let mut input = Reading::new(rt.stdin());
-    let mut out = Writing::new(rt.stdout());
-    ExitCode::from(run::run(alloc, &words, &mut input, &mut out, &mut err))
+    match start(&rt, &rt, &words) {
+        Ok(status) => ExitCode::from(status),
+        Err(_) => ExitCode::from(no_memory(&rt)),
+    }
 }

@@ -13,7 +13,9 @@ pub struct Reading<R: Read> {
 }
 
 impl<R: Read> Reading<R> {
-    pub fn new(reader: R) -> Self {
+    pub fn new(reader: R) -> Self
+        ensures { result.faults ≡ 0 }
+    {
         Reading { reader, faults: 0 }
     }
 }
@@ -48,7 +50,9 @@ pub struct Writing<W: Write> {
 }
 
 impl<W: Write> Writing<W> {
-    pub fn new(writer: W) -> Self {
+    pub fn new(writer: W) -> Self
+        ensures { result.faults ≡ 0 }
+    {
         Writing { writer, faults: 0 }
     }
 }

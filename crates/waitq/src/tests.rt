@@ -9,7 +9,7 @@ use crate::rows::{
     MODE_MISSES, PRIORITY_FIRST, Row, SELECTED_CONDITION_TAKEN, SELECTED_THEN_SIGNALLED,
     WAIT_SET_WAKE, WAKE_BEFORE_LOAD, WAKE_BEFORE_SLEEP, WAKE_ONE_EXCLUSIVE,
 };
-use crate::run::run;
+use crate::run::run_alone;
 use crate::waiting_rows::{
     BIT_LOCK_SIGNALLED, COMPLETIONS, TWO_WAITERS_ONE_PERMIT, WOKEN_FLAG_BEFORE_STATE,
 };
@@ -44,7 +44,7 @@ fn run_on(
     let mut input = MemSource::new(alloc, script, reads)?;
     let mut out = MemSink::new(alloc, writes)?;
     let mut err = MemSink::new(alloc, errs)?;
-    let status = run(alloc, &list, &mut input, &mut out, &mut err);
+    let status = run_alone(alloc, &list, &mut input, &mut out, &mut err);
     let text = String::from_utf8_lossy(alloc, out.bytes())?;
     let line = String::from_utf8_lossy(alloc, err.bytes())?;
     Ok(Answered { status, text, line })

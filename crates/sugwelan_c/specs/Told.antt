@@ -1,6 +1,6 @@
 -- To be believed.
 -- What C is told of a reply: the code, the value, the walk, and whom to rouse.
-use Rattle.std.specs.Prelude.{◌≡◌, ◌<◌, ℕ, ℤ, Result, Ok, Err, List, length, nat_lt, slice_index, if◌then◌else◌}
+use Rattle.std.specs.Prelude.{◌≡◌, ◌<◌, ◌∷◌, [], ℕ, ℤ, Bool, true, false, Result, Ok, Err, List, length, nat_lt, slice_index, if◌then◌else◌}
 use Rattle.bit_wait.specs.declared.wait_calls.BitEnd.{BitEnd}
 use Rattle.bit_wait.specs.declared.wait_calls.BitEnd.TheVariants as bit_end
 use Rattle.wait_event.specs.declared.wait_events.WaitEnd.{WaitEnd}
@@ -47,6 +47,8 @@ answer_code (answer.Changed (Err e)) = wait_code e
 answer_code (answer.Bit (Ok x)) = DONE
 answer_code (answer.Bit (Err e)) = bit_code e
 answer_code (answer.Walked w) = DONE
+answer_code (answer.Selected n) = DONE
+answer_code (answer.Cell b) = DONE
 
 abbrev pub progress_code : Progress → ℤ
 progress_code progress.Again = AGAIN
@@ -59,16 +61,28 @@ abbrev pub code_of : Reply → ℤ
 code_of (reply.Refused e) = refusal_code e
 code_of (reply.On p) = progress_code p
 code_of (reply.Value v) = DONE
+code_of (reply.Rouse who) = DONE
 
 -- what is told beside the code: nothing but 0 where a call has no such answer
+abbrev pub truth : Bool → ℕ
+truth true = 1
+truth false = 0
+
 abbrev pub value_of : Reply → ℕ
 value_of (reply.On (progress.Done (answer.Changed (Ok v)))) = v
+value_of (reply.On (progress.Done (answer.Cell b))) = truth b
 value_of (reply.Value v) = v
 value_of _ = 0
 
 abbrev pub walk_of : Reply → Walked
 walk_of (reply.On (progress.Done (answer.Walked w))) = w
+walk_of (reply.On (progress.Done (answer.Selected n))) = record unmade { selected = n }
 walk_of _ = unmade
+
+-- whom to rouse: those whom an advance names, or one task
+abbrev pub roused_by : Reply → List ℕ → List ℕ
+roused_by (reply.Rouse who) ws = who ∷ []
+roused_by _ ws = ws
 
 abbrev pub end_number : End → ℕ
 end_number end.End = 0

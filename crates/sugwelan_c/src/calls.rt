@@ -1,9 +1,10 @@
 //! What C asks for: a call by its kind and its numbers.
 
 ghost use Rattle.std.specs.Prelude.{◌≡◌};
-ghost use Rattle.sugwelan_c.specs.Asked.{HasKind, asks, asks_at_once, asks_waiting, asks_waking};
+ghost use Rattle.sugwelan_c.specs.Asked.{HasKind, asks, asks_at_once, asks_cell, asks_simple, asks_waiting, asks_waking};
 ghost use Rattle.sugwelan_c.specs.Asked.{byte_in, flag_in, mode_in, state_in};
 
+use completion_cell::cell_turns::CellCall;
 use wait_model::tasks::{How, SleepState};
 use wait_model::watches::Mode;
 
@@ -18,17 +19,20 @@ pub struct Call {
     pub value: u64,
 }
 
-/// The kinds of calls: to go on with the one that is under way, waits, wakes, and those that are over at once.
+/// The kinds of calls: to go on with the one that is under way, waits, wakes, wakes of simple queues, calls about
+/// completions, and those that are over at once.
 #[derive(Clone, Copy)]
 pub enum Kind {
     Advance,
     Waiting(WaitingKind),
     Waking(WakingKind),
+    Simple(SimpleKind),
+    Cell(CellCall),
     AtOnce(AtOnceKind),
 }
 
 /// The kinds of waits: for a plain condition, for one in its simple queue, for a variable, for a bit that is clear, to
-/// take a bit, to take a page.
+/// take a bit, to take a page, for a completion.
 #[derive(Clone, Copy)]
 pub enum WaitingKind {
     Event,
@@ -37,6 +41,7 @@ pub enum WaitingKind {
     Bit,
     BitLock,
     Page,
+    Completion,
 }
 
 /// The kinds of wakes: one alone; of a condition that is set, of a variable that is stored, of a bit and of a page that
@@ -50,8 +55,16 @@ pub enum WakingKind {
     Page,
 }
 
+/// The kinds of wakes of simple queues: of one entry, of all, and of a condition that is set.
+#[derive(Clone, Copy)]
+pub enum SimpleKind {
+    One,
+    All,
+    Set,
+}
+
 /// The kinds that are over at once: a bit and a page that are taken where they are clear, an amount for a page's tally,
-/// a condition that is taken, the task's number.
+/// a condition that is taken, the task's number, a signal that is raised, and the task's signals, which it takes.
 #[derive(Clone, Copy)]
 pub enum AtOnceKind {
     Bit,
@@ -59,6 +72,8 @@ pub enum AtOnceKind {
     Tally,
     Condition,
     Number,
+    Raise,
+    TakeSignal,
 }
 
 /// A call with its numbers.
@@ -67,39 +82,21 @@ pub enum Wanted {
     Advance,
     Waiting(Waiting),
     Waking(Waking),
+    Simple(Simple),
+    Cell { call: CellCall, cell: u8 },
     AtOnce(AtOnce),
 }
 
 /// A wait with its numbers.
 #[derive(Clone, Copy)]
 pub enum Waiting {
-    Event {
-        cond: u8,
-        how: How,
-    },
-    SimpleEvent {
-        cond: u8,
-        state: SleepState,
-    },
-    Var {
-        var: u8,
-        state: SleepState,
-        old: u64,
-    },
-    Bit {
-        word: u8,
-        bit: u8,
-        state: SleepState,
-    },
-    BitLock {
-        word: u8,
-        bit: u8,
-        state: SleepState,
-    },
-    Page {
-        page: u8,
-        state: SleepState,
-    },
+    Event { cond: u8, how: How },
+    SimpleEvent { cond: u8, state: SleepState },
+    Var { var: u8, state: SleepState, old: u64 },
+    Bit { word: u8, bit: u8, state: SleepState },
+    BitLock { word: u8, bit: u8, state: SleepState },
+    Page { page: u8, state: SleepState },
+    Completion { cell: u8, state: SleepState },
 }
 
 /// A wake with its numbers.
@@ -112,6 +109,13 @@ pub enum Waking {
     Page { page: u8 },
 }
 
+/// A wake of a simple queue with its numbers.
+#[derive(Clone, Copy)]
+pub enum Simple {
+    Wake { cond: u8, all: bool },
+    Set { cond: u8, all: bool, value: u64 },
+}
+
 /// A call that is over at once, with its numbers.
 #[derive(Clone, Copy)]
 pub enum AtOnce {
@@ -120,6 +124,8 @@ pub enum AtOnce {
     Tally { page: u8, amount: u64 },
     Condition { cond: u8 },
     Number,
+    Raise { who: u8, fatal: bool },
+    TakeSignal,
 }
 
 /// The kind that has this number: None where none has.
@@ -134,16 +140,27 @@ pub fn kind_of(number: u32) -> Option<Kind>
         4 => Some(Kind::Waiting(WaitingKind::Bit)),
         5 => Some(Kind::Waiting(WaitingKind::BitLock)),
         6 => Some(Kind::Waiting(WaitingKind::Page)),
+        7 => Some(Kind::Waiting(WaitingKind::Completion)),
         10 => Some(Kind::Waking(WakingKind::Alone)),
         11 => Some(Kind::Waking(WakingKind::Set)),
         12 => Some(Kind::Waking(WakingKind::Var)),
         13 => Some(Kind::Waking(WakingKind::Bit)),
         14 => Some(Kind::Waking(WakingKind::Page)),
+        15 => Some(Kind::Simple(SimpleKind::One)),
+        16 => Some(Kind::Simple(SimpleKind::All)),
+        17 => Some(Kind::Simple(SimpleKind::Set)),
+        18 => Some(Kind::Cell(CellCall::Complete)),
+        19 => Some(Kind::Cell(CellCall::CompleteAll)),
+        20 => Some(Kind::Cell(CellCall::Reinit)),
+        21 => Some(Kind::Cell(CellCall::TryWait)),
+        22 => Some(Kind::Cell(CellCall::IsDone)),
         30 => Some(Kind::AtOnce(AtOnceKind::Bit)),
         31 => Some(Kind::AtOnce(AtOnceKind::Page)),
         32 => Some(Kind::AtOnce(AtOnceKind::Tally)),
         33 => Some(Kind::AtOnce(AtOnceKind::Condition)),
         34 => Some(Kind::AtOnce(AtOnceKind::Number)),
+        35 => Some(Kind::AtOnce(AtOnceKind::Raise)),
+        36 => Some(Kind::AtOnce(AtOnceKind::TakeSignal)),
         _ => None,
     }
 }
@@ -159,7 +176,7 @@ fn byte_of(number: u32) -> Option<u8>
     }
 }
 
-/// Whether an entry is exclusive.
+/// A number that says yes or no.
 fn flag_of(number: u32) -> Option<bool>
     ensures { result ≡ flag_in number }
 {
@@ -216,24 +233,20 @@ fn waiting_of(kind: WaitingKind, call: &Call) -> Option<Waiting>
         WaitingKind::Bit => {
             let bit = byte_of(call.b)?;
             let state = state_of(call.c)?;
-            Some(Waiting::Bit {
-                word: a,
-                bit,
-                state,
-            })
+            Some(Waiting::Bit { word: a, bit, state })
         }
         WaitingKind::BitLock => {
             let bit = byte_of(call.b)?;
             let state = state_of(call.c)?;
-            Some(Waiting::BitLock {
-                word: a,
-                bit,
-                state,
-            })
+            Some(Waiting::BitLock { word: a, bit, state })
         }
         WaitingKind::Page => {
             let state = state_of(call.b)?;
             Some(Waiting::Page { page: a, state })
+        }
+        WaitingKind::Completion => {
+            let state = state_of(call.b)?;
+            Some(Waiting::Completion { cell: a, state })
         }
     }
 }
@@ -247,19 +260,11 @@ fn waking_of(kind: WakingKind, call: &Call) -> Option<Waking>
         WakingKind::Alone => {
             let mode = mode_of(call.b)?;
             let count = call.c;
-            Some(Waking::Alone {
-                cond: a,
-                mode,
-                count,
-            })
+            Some(Waking::Alone { cond: a, mode, count })
         }
         WakingKind::Set => {
             let count = call.c;
-            Some(Waking::Set {
-                cond: a,
-                count,
-                value,
-            })
+            Some(Waking::Set { cond: a, count, value })
         }
         WakingKind::Var => Some(Waking::Var { var: a, value }),
         WakingKind::Bit => {
@@ -268,6 +273,28 @@ fn waking_of(kind: WakingKind, call: &Call) -> Option<Waking>
         }
         WakingKind::Page => Some(Waking::Page { page: a }),
     }
+}
+
+fn simple_of(kind: SimpleKind, call: &Call) -> Option<Simple>
+    ensures { result ≡ asks_simple kind call.now }
+{
+    let cond = byte_of(call.a)?;
+    match kind {
+        SimpleKind::One => Some(Simple::Wake { cond, all: false }),
+        SimpleKind::All => Some(Simple::Wake { cond, all: true }),
+        SimpleKind::Set => {
+            let all = flag_of(call.b)?;
+            let value = call.value;
+            Some(Simple::Set { cond, all, value })
+        }
+    }
+}
+
+fn cell_of(kind: CellCall, number: u32) -> Option<Wanted>
+    ensures { result ≡ asks_cell kind number }
+{
+    let cell = byte_of(number)?;
+    Some(Wanted::Cell { call: kind, cell })
 }
 
 fn at_once_of(kind: AtOnceKind, call: &Call) -> Option<AtOnce>
@@ -293,6 +320,12 @@ fn at_once_of(kind: AtOnceKind, call: &Call) -> Option<AtOnce>
             Some(AtOnce::Condition { cond })
         }
         AtOnceKind::Number => Some(AtOnce::Number),
+        AtOnceKind::Raise => {
+            let who = byte_of(call.a)?;
+            let fatal = flag_of(call.b)?;
+            Some(AtOnce::Raise { who, fatal })
+        }
+        AtOnceKind::TakeSignal => Some(AtOnce::TakeSignal),
     }
 }
 
@@ -310,6 +343,11 @@ pub fn wanted_of(kind: Kind, call: &Call) -> Option<Wanted>
             let waking = waking_of(kind, call)?;
             Some(Wanted::Waking(waking))
         }
+        Kind::Simple(kind) => {
+            let simple = simple_of(kind, call)?;
+            Some(Wanted::Simple(simple))
+        }
+        Kind::Cell(kind) => cell_of(kind, call.a),
         Kind::AtOnce(kind) => {
             let at_once = at_once_of(kind, call)?;
             Some(Wanted::AtOnce(at_once))

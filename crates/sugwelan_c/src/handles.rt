@@ -2,8 +2,7 @@
 
 ghost use Rattle.std.specs.Prelude.{◌≡◌, ◌<◌, ◌≤◌, MatchResult};
 ghost use Rattle.wait_model.specs.declared.layout.TheConstants.{BIT_WORDS};
-ghost use Rattle.sugwelan_c.specs.Handles.{HasNoFork, IsFork, IsNew, IsUnmade, KeepsAny, KeepsSome, MayFree};
-ghost use Rattle.sugwelan_c.specs.Handles.{NoNew, unmade_code};
+ghost use Rattle.sugwelan_c.specs.Handles.{IsFork, IsNew, IsUnmade, KeepsAny, KeepsSome, MayFree, HasNoFork, NoNew, unmade_code};
 
 use crate::blocks::Block;
 use crate::replies::{DONE, EBUSY, EINVAL, ENOMEM, ENOSPC, EPERM, refusal_code};
@@ -116,7 +115,13 @@ pub fn code_to_free(task: &CheckedTask) -> i32
     match task.refusal() {
         Some(Refused::Starved) => DONE,
         Some(_) => EBUSY,
-        None => { if keeps_any(task) { EPERM } else { DONE } }
+        None => {
+            if keeps_any(task) {
+                EPERM
+            } else {
+                DONE
+            }
+        }
     }
 }
 

@@ -3,11 +3,11 @@
 ghost use Rattle.std.specs.Prelude.{◌≡◌};
 ghost use Rattle.wq_head.specs.Roused.{tasks_in};
 ghost use Rattle.sugwelan_c.specs.Told.{Lists, Tells, answer_code, bit_code, code_of, end_number, progress_code};
-ghost use Rattle.sugwelan_c.specs.Told.{refusal_code, value_of, wait_code, walk_of};
+ghost use Rattle.sugwelan_c.specs.Told.{refusal_code, roused_by, value_of, wait_code, walk_of};
 
 use bit_wait::BitEnd;
 use wait_event::wait_events::WaitEnd;
-use wait_model::layout::BREAK;
+use wait_model::layout::MEMBERS;
 use wait_model::queues::{End, Walked};
 use wq_checked::{Answer, Progress, Refused};
 use wq_head::{Rousing, no_walk};
@@ -35,8 +35,8 @@ pub const EINVAL: i32 = -22;
 /// No place in the queue is left, or no number is spare.
 pub const ENOSPC: i32 = -28;
 
-/// How many tasks a call names to be roused at most: as many as a hold of a wake calls.
-pub const ROOM: usize = BREAK as usize + 1;
+/// How many tasks a call names to be roused at most.
+pub const ROOM: usize = MEMBERS as usize;
 
 /// What a call tells beside its code: its value; of a wake, how many it woke, how many of them exclusively, in how many
 /// holds, and how it ended (0 at the end, 1 its count was spent, 2 a function stopped it); and the tasks that are to be
@@ -54,12 +54,13 @@ pub struct Told {
 }
 
 /// What was done with a call: it was refused; it goes on so, or is over with an answer; it was over at once, with a
-/// value.
+/// value, or with a task that is to be roused.
 #[derive(Clone, Copy)]
 pub enum Reply {
     Refused(Refused),
     On(Progress),
     Value(u64),
+    Rouse(u8),
 }
 
 pub fn refusal_code(reason: Refused) -> i32
@@ -105,6 +106,8 @@ fn answer_code(answer: Answer) -> i32
         Answer::Bit(Ok(())) => DONE,
         Answer::Bit(Err(end)) => bit_code(end),
         Answer::Walked(_) => DONE,
+        Answer::Selected(_) => DONE,
+        Answer::Cell(_) => DONE,
     }
 }
 
@@ -128,26 +131,41 @@ pub fn code_of(reply: Reply) -> i32
         Reply::Refused(reason) => refusal_code(reason),
         Reply::On(told) => progress_code(told),
         Reply::Value(_) => DONE,
+        Reply::Rouse(_) => DONE,
     }
 }
 
-/// The value of a call that is over: of a wait for a variable, what its last load found.
+/// The value of a call that is over: of a wait for a variable, what its last load found; of a call about a completion,
+/// whether it was done.
 fn value_of(reply: Reply) -> u64
     ensures { result ≡ value_of reply }
 {
     match reply {
         Reply::On(Progress::Done(Answer::Changed(Ok(seen)))) => seen,
+        Reply::On(Progress::Done(Answer::Cell(done))) => {
+            if done {
+                1
+            } else {
+                0
+            }
+        }
         Reply::Value(value) => value,
         _ => 0,
     }
 }
 
-/// The walk of a wake that is over.
+/// The walk of a wake that is over; of a wake of a simple queue, how many entries it took off.
 fn walk_of(reply: Reply) -> Walked
     ensures { result ≡ walk_of reply }
 {
     match reply {
         Reply::On(Progress::Done(Answer::Walked(walked))) => walked,
+        Reply::On(Progress::Done(Answer::Selected(selected))) => Walked {
+            selected,
+            woken: 0,
+            holds: 0,
+            end: End::End,
+        },
         _ => no_walk(),
     }
 }
@@ -166,11 +184,7 @@ fn end_number(end: End) -> u32
 fn list_tasks(tasks: &[u8], rouse: &mut [u8; ROOM]) -> u32
     ensures { Lists tasks.now result rouse.new }
 {
-    let count = if tasks.len() < ROOM {
-        tasks.len()
-    } else {
-        ROOM
-    };
+    let count = if tasks.len() < ROOM { tasks.len() } else { ROOM };
     for i in 0..count {
         rouse[i] = tasks[i];
     }
@@ -178,8 +192,8 @@ fn list_tasks(tasks: &[u8], rouse: &mut [u8; ROOM]) -> u32
 }
 
 /// Writes what is told of a reply, and the tasks that are to be roused.
-pub fn tell(reply: Reply, rousing: &Rousing, told: &mut Told)
-    ensures { Tells reply (tasks_in rousing.now) told.new }
+fn tell_with(reply: Reply, tasks: &[u8], told: &mut Told)
+    ensures { Tells reply tasks.now told.new }
 {
     let walk = walk_of(reply);
     told.value = value_of(reply);
@@ -187,5 +201,15 @@ pub fn tell(reply: Reply, rousing: &Rousing, told: &mut Told)
     told.selected = walk.selected;
     told.holds = walk.holds;
     told.end = end_number(walk.end);
-    told.rouse_count = list_tasks(rousing.tasks(), &mut told.rouse);
+    told.rouse_count = list_tasks(tasks, &mut told.rouse);
+}
+
+/// Writes what is told of a reply; `rousing` has the tasks that an advance is to rouse.
+pub fn tell(reply: Reply, rousing: &Rousing, told: &mut Told)
+    ensures { Tells reply (roused_by reply (tasks_in rousing.now)) told.new }
+{
+    match reply {
+        Reply::Rouse(who) => tell_with(reply, &[who], told),
+        _ => tell_with(reply, rousing.tasks(), told),
+    }
 }

@@ -2,16 +2,19 @@
 
 ghost use Rattle.std.specs.Prelude.{◌≡◌, None, Some, []};
 ghost use Rattle.wq_head.specs.Roused.{tasks_in};
-ghost use Rattle.sugwelan_c.specs.Served.{IsAsked, Quiet, Replies, Serves};
+ghost use Rattle.sugwelan_c.specs.Served.{IsAsked, Names, Replies, Serves};
 ghost use Rattle.sugwelan_c.specs.declared.calls.AtOnce.TheVariants as at_once;
+ghost use Rattle.sugwelan_c.specs.declared.calls.Simple.TheVariants as simple;
 ghost use Rattle.sugwelan_c.specs.declared.calls.Waiting.TheVariants as waiting;
 ghost use Rattle.sugwelan_c.specs.declared.calls.Waking.TheVariants as waking;
 ghost use Rattle.sugwelan_c.specs.declared.calls.Wanted.TheVariants as wanted;
 
-use crate::calls::{AtOnce, Call, Waiting, Waking, Wanted, kind_of, wanted_of};
+use crate::calls::{AtOnce, Call, Simple, Waiting, Waking, Wanted, kind_of, wanted_of};
 use crate::replies::{Reply, Told, code_of, tell};
-use wait_model::tasks::{How, SleepState};
+use completion_cell::cell_turns::CellCall;
+use wait_model::tasks::{How, SleepState, Taken};
 use wait_model::watches::Mode;
+use wq_checked::signals::Raised;
 use wq_checked::{CheckedTask, Progress, Refused};
 use wq_head::Rousing;
 
@@ -79,6 +82,15 @@ fn lock_page(task: &mut CheckedTask, page: u8, state: SleepState) -> Reply
     }
 }
 
+fn wait_completion(task: &mut CheckedTask, cell: u8, state: SleepState) -> Reply
+    ensures { Replies (Some (wanted.Waiting (waiting.Completion cell state))) task.old task.new result }
+{
+    match task.begin_await(cell, state) {
+        Ok(()) => Reply::On(Progress::Again),
+        Err(reason) => Reply::Refused(reason),
+    }
+}
+
 fn wait(task: &mut CheckedTask, waiting: Waiting) -> Reply
     ensures { Replies (Some (wanted.Waiting waiting)) task.old task.new result }
 {
@@ -89,6 +101,7 @@ fn wait(task: &mut CheckedTask, waiting: Waiting) -> Reply
         Waiting::Bit { word, bit, state } => wait_bit(task, word, bit, state),
         Waiting::BitLock { word, bit, state } => lock_bit(task, word, bit, state),
         Waiting::Page { page, state } => lock_page(task, page, state),
+        Waiting::Completion { cell, state } => wait_completion(task, cell, state),
     }
 }
 
@@ -149,6 +162,49 @@ fn wake_for(task: &mut CheckedTask, waking: Waking) -> Reply
     }
 }
 
+fn wake_simple(task: &mut CheckedTask, cond: u8, all: bool) -> Reply
+    ensures { Replies (Some (wanted.Simple (simple.Wake cond all))) task.old task.new result }
+{
+    match task.begin_swake(cond, all) {
+        Ok(()) => Reply::On(Progress::Again),
+        Err(reason) => Reply::Refused(reason),
+    }
+}
+
+fn set_simple(task: &mut CheckedTask, cond: u8, all: bool, value: u64) -> Reply
+    ensures { Replies (Some (wanted.Simple (simple.Set cond all value))) task.old task.new result }
+{
+    match task.set_and_swake(cond, value, all) {
+        Ok(()) => Reply::On(Progress::Again),
+        Err(reason) => Reply::Refused(reason),
+    }
+}
+
+fn wake_simply(task: &mut CheckedTask, simple: Simple) -> Reply
+    ensures { Replies (Some (wanted.Simple simple)) task.old task.new result }
+{
+    match simple {
+        Simple::Wake { cond, all } => wake_simple(task, cond, all),
+        Simple::Set { cond, all, value } => set_simple(task, cond, all, value),
+    }
+}
+
+fn call_cell(task: &mut CheckedTask, call: CellCall, cell: u8) -> Reply
+    ensures { Replies (Some (wanted.Cell call cell)) task.old task.new result }
+{
+    let begun = match call {
+        CellCall::Complete => task.complete(cell),
+        CellCall::CompleteAll => task.complete_all(cell),
+        CellCall::Reinit => task.reinit(cell),
+        CellCall::TryWait => task.try_wait(cell),
+        CellCall::IsDone => task.is_done(cell),
+    };
+    match begun {
+        Ok(()) => Reply::On(Progress::Again),
+        Err(reason) => Reply::Refused(reason),
+    }
+}
+
 fn take_bit(task: &mut CheckedTask, word: u8, bit: u8) -> Reply
     ensures { Replies (Some (wanted.AtOnce (at_once.Bit word bit))) task.old task.new result }
 {
@@ -185,6 +241,28 @@ fn take_condition(task: &mut CheckedTask, cond: u8) -> Reply
     }
 }
 
+fn raise(task: &mut CheckedTask, who: u8, fatal: bool) -> Reply
+    ensures { Replies (Some (wanted.AtOnce (at_once.Raise who fatal))) task.old task.new result }
+{
+    match task.raise_signal(who, fatal) {
+        Ok(Raised::Quiet) => Reply::Value(0),
+        Ok(Raised::Rouse) => Reply::Rouse(who),
+        Ok(Raised::Starved) => Reply::On(Progress::Starved),
+        Err(reason) => Reply::Refused(reason),
+    }
+}
+
+fn take_signal(task: &mut CheckedTask) -> Reply
+    ensures { Replies (Some (wanted.AtOnce at_once.TakeSignal)) task.old task.new result }
+{
+    match task.take_signal() {
+        Ok(Taken::Nothing) => Reply::Value(0),
+        Ok(Taken::Plain) => Reply::Value(1),
+        Ok(Taken::Fatal) => Reply::Value(2),
+        Err(reason) => Reply::Refused(reason),
+    }
+}
+
 fn do_at_once(task: &mut CheckedTask, at_once: AtOnce) -> Reply
     ensures { Replies (Some (wanted.AtOnce at_once)) task.old task.new result }
 {
@@ -194,12 +272,15 @@ fn do_at_once(task: &mut CheckedTask, at_once: AtOnce) -> Reply
         AtOnce::Tally { page, amount } => add_tally(task, page, amount),
         AtOnce::Condition { cond } => take_condition(task, cond),
         AtOnce::Number => Reply::Value(u64::from(task.number())),
+        AtOnce::Raise { who, fatal } => raise(task, who, fatal),
+        AtOnce::TakeSignal => take_signal(task),
     }
 }
 
 /// One stretch of the call that is under way.
 fn go_on(task: &mut CheckedTask, rousing: &mut Rousing) -> Reply
-    ensures { Replies (Some wanted.Advance) task.old task.new result }
+    ensures replies { Replies (Some wanted.Advance) task.old task.new result }
+    ensures names { Names (Some wanted.Advance) task.old task.new result rousing.new }
 {
     match task.advance(rousing) {
         Ok(told) => Reply::On(told),
@@ -207,16 +288,18 @@ fn go_on(task: &mut CheckedTask, rousing: &mut Rousing) -> Reply
     }
 }
 
-/// What is done with a call: only an advance names tasks that are to be roused.
+/// What is done with a call. An advance names the tasks that are to be roused.
 fn reply_to(task: &mut CheckedTask, want: Option<Wanted>, rousing: &mut Rousing) -> Reply
     ensures replies { Replies want task.old task.new result }
-    ensures quiet { tasks_in rousing.old ≡ [] → Quiet want rousing.new }
+    ensures names { tasks_in rousing.old ≡ [] → Names want task.old task.new result rousing.new }
 {
     match want {
         None => Reply::Refused(Refused::OutOfRange),
         Some(Wanted::Advance) => go_on(task, rousing),
         Some(Wanted::Waiting(waiting)) => wait(task, waiting),
         Some(Wanted::Waking(waking)) => wake_for(task, waking),
+        Some(Wanted::Simple(simple)) => wake_simply(task, simple),
+        Some(Wanted::Cell { call, cell }) => call_cell(task, call, cell),
         Some(Wanted::AtOnce(at_once)) => do_at_once(task, at_once),
     }
 }

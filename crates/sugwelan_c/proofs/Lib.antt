@@ -1,5 +1,0 @@
-pub mod BlockValues
-pub mod Freed
-pub mod Made
-pub mod Refused
-pub mod Walks

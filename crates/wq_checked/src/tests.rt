@@ -127,7 +127,7 @@ fn wrong_calls_are_refused(rt: HostRuntime) -> Result<(), Fail> {
         Some(Refused::OutOfRange)
     );
     assert!(rt; matches!(task.advance(&mut rousing), Err(Refused::Nothing)));
-    assert!(rt; matches!(task.fork(127), Err(NoFork::Numbers)));
+    assert!(rt; matches!(task.fork(255), Err(NoFork::Numbers)));
     assert!(rt; task.begin_wait(0, SHARED).is_ok());
     assert!(rt; matches!(task.fork(0), Err(NoFork::Busy)));
     assert_eq!(rt; task.begin_page(0, killable).err(), Some(Refused::Busy));

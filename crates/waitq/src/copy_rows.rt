@@ -2,7 +2,7 @@
 
 use crate::run::run;
 use crate::watchers::{Lengths, Lines};
-use edge_io::{Folder, MemFolder, MemSink, MemSource, Sink};
+use edge_io::{Folder, MemFolder, MemSink, MemSource, Sink, Source};
 use flow_copy::OpenGate;
 use func_head::FuncHead;
 use std::alloc::{AllocError, Global};
@@ -55,17 +55,17 @@ fn bytes_of(alloc: Global, size: usize) -> Result<Vec<u8>, AllocError> {
     Ok(bytes)
 }
 
-/// The status of words over a folder, with two watchers. It names no folder or sink, so that what `run` says of theirs
+/// The status of words over a folder, with two watchers. It names no folder, source or sink, so that what `run` says of theirs
 /// stays as it is.
-fn status_of<R: Threads + Wait + Sync, F: Folder, O: Sink, E: Sink>(
+pub(crate) fn status_of<R: Threads + Wait + Sync, F: Folder, I: Source, O: Sink, E: Sink>(
     rt: &R,
     alloc: Global,
     words: &[String],
     folder: &mut F,
+    input: &mut I,
     out: &mut O,
     err: &mut E,
 ) -> Result<u8, Fail> {
-    let mut input = MemSource::new(alloc, b"", &[])?;
     let (domain, mut task) = Domain::with_looks(alloc, 0)?;
     let mut watch = FuncHead::new(alloc);
     let lengths = Box::new(alloc, Lengths { bytes: 0 })?;
@@ -74,7 +74,7 @@ fn status_of<R: Threads + Wait + Sync, F: Folder, O: Sink, E: Sink>(
         return Err(AllocError)?;
     }
     let status = run(
-        rt, alloc, words, folder, &mut input, out, err, &domain, &mut task, watch, &OpenGate,
+        rt, alloc, words, folder, input, out, err, &domain, &mut task, watch, &OpenGate,
     );
     Ok(status)
 }
@@ -95,9 +95,18 @@ fn run_on<R: Threads + Wait + Sync>(
     folder.add("a", bytes, fails.reads)?;
     folder.fail_writes(fails.writes)?;
     folder.fail_calls(fails.calls)?;
+    let mut input = MemSource::new(alloc, b"", &[])?;
     let mut out = MemSink::new(alloc, fails.outs)?;
     let mut err = MemSink::new(alloc, fails.errs)?;
-    let status = status_of(rt, alloc, &list, &mut folder, &mut out, &mut err)?;
+    let status = status_of(
+        rt,
+        alloc,
+        &list,
+        &mut folder,
+        &mut input,
+        &mut out,
+        &mut err,
+    )?;
     let text = String::from_utf8_lossy(alloc, out.bytes())?;
     let line = String::from_utf8_lossy(alloc, err.bytes())?;
     Ok(Left {

@@ -1,5 +1,6 @@
 //! Worked scripts, refusals and faults through `run`.
 
+use crate::copy_rows::status_of;
 use crate::page_rows::{PAGE_CALL_IN_VERSION_1, PAGE_HANDED_ON, PAGE_TAKEN_BY_STRANGER};
 use crate::refused_rows::{
     BAD_CONDITION, BAD_NUMBER, CUT_LINE, LONG_LINE, NO_HEADER, NOTHING, REFUSED_OPEN,
@@ -9,15 +10,17 @@ use crate::rows::{
     MODE_MISSES, PRIORITY_FIRST, Row, SELECTED_CONDITION_TAKEN, SELECTED_THEN_SIGNALLED,
     WAIT_SET_WAKE, WAKE_BEFORE_LOAD, WAKE_BEFORE_SLEEP, WAKE_ONE_EXCLUSIVE,
 };
-use crate::run::run_alone;
 use crate::waiting_rows::{
     BIT_LOCK_SIGNALLED, COMPLETIONS, TWO_WAITERS_ONE_PERMIT, WOKEN_FLAG_BEFORE_STATE,
 };
 use crate::walks;
 use crate::walks::Walk;
-use edge_io::{MemSink, MemSource};
+use edge_io::{MemFolder, MemSink, MemSource};
+use std::alloc::Global;
 use std::process::Abort;
+use std::sync::Wait;
 use std::test::Fail;
+use std::thread::Threads;
 
 /// What a run answered, and what it wrote to its output and to its error stream.
 #[derive(Drop)]
@@ -28,15 +31,15 @@ struct Answered {
 }
 
 /// Runs the program on words and a script, with the numbers of the calls that fail.
-fn run_on(
-    rt: &HostRuntime,
+fn run_on<R: Threads + Wait + Sync>(
+    rt: &R,
+    alloc: Global,
     words: &[&str],
     script: &[u8],
     reads: &[u64],
     writes: &[u64],
     errs: &[u64],
 ) -> Result<Answered, Fail> {
-    let alloc = rt.alloc();
     let mut list = Vec::new(alloc);
     for word in words {
         list.push(String::from_str(alloc, word)?)?;
@@ -44,7 +47,16 @@ fn run_on(
     let mut input = MemSource::new(alloc, script, reads)?;
     let mut out = MemSink::new(alloc, writes)?;
     let mut err = MemSink::new(alloc, errs)?;
-    let status = run_alone(alloc, &list, &mut input, &mut out, &mut err);
+    let mut folder = MemFolder::new(alloc);
+    let status = status_of(
+        rt,
+        alloc,
+        &list,
+        &mut folder,
+        &mut input,
+        &mut out,
+        &mut err,
+    )?;
     let text = String::from_utf8_lossy(alloc, out.bytes())?;
     let line = String::from_utf8_lossy(alloc, err.bytes())?;
     Ok(Answered { status, text, line })
@@ -79,7 +91,15 @@ fn worked_scripts_have_their_texts(rt: HostRuntime) -> Result<(), Fail> {
         PAGE_HANDED_ON,
         PAGE_TAKEN_BY_STRANGER,
     ] {
-        let ran = run_on(&rt, &["replay"], row.script.as_bytes(), &[], &[], &[])?;
+        let ran = run_on(
+            &rt,
+            rt.alloc(),
+            &["replay"],
+            row.script.as_bytes(),
+            &[],
+            &[],
+            &[],
+        )?;
         meets(&rt, row, &ran);
     }
     Ok(())
@@ -98,7 +118,15 @@ fn bad_scripts_have_their_lines(rt: HostRuntime) -> Result<(), Fail> {
         TOO_MANY_EVENTS,
         PAGE_CALL_IN_VERSION_1,
     ] {
-        let ran = run_on(&rt, &["replay"], row.script.as_bytes(), &[], &[], &[])?;
+        let ran = run_on(
+            &rt,
+            rt.alloc(),
+            &["replay"],
+            row.script.as_bytes(),
+            &[],
+            &[],
+            &[],
+        )?;
         meets(&rt, row, &ran);
     }
     Ok(())
@@ -121,7 +149,7 @@ fn other_words_are_refused_with_the_usage(rt: HostRuntime) -> Result<(), Fail> {
         &["drill", "18446744073709551616", "5"],
         &["drill", "-1", ""],
     ] {
-        let ran = run_on(&rt, words, script, &[], &[], &[])?;
+        let ran = run_on(&rt, rt.alloc(), words, script, &[], &[], &[])?;
         assert_eq!(rt; ran.status, 2, "{} words", words.len());
         assert_eq!(rt; ran.text.as_str(), "");
         assert_eq!(rt; ran.line.as_str(), usage);
@@ -132,7 +160,7 @@ fn other_words_are_refused_with_the_usage(rt: HostRuntime) -> Result<(), Fail> {
 #[test]
 fn an_input_above_one_mebibyte_is_too_long(rt: HostRuntime) -> Result<(), Fail> {
     let bytes = vec![in rt.alloc(); b' '; 1_048_577]?;
-    let ran = run_on(&rt, &["replay"], &bytes, &[], &[], &[])?;
+    let ran = run_on(&rt, rt.alloc(), &["replay"], &bytes, &[], &[], &[])?;
     assert_eq!(rt; ran.status, 8);
     assert_eq!(rt; ran.text.as_str(), "");
     assert_eq!(rt; ran.line.as_str(), "waitq: input too long\n");
@@ -144,7 +172,7 @@ fn a_read_that_fails_ends_with_its_status(rt: HostRuntime) -> Result<(), Fail> {
     // The first call reads the script, and the second would find the end.
     for fails in [1, 2] {
         let script = WAIT_SET_WAKE.script.as_bytes();
-        let ran = run_on(&rt, &["replay"], script, &[fails], &[], &[])?;
+        let ran = run_on(&rt, rt.alloc(), &["replay"], script, &[fails], &[], &[])?;
         assert_eq!(rt; ran.status, 4, "at call {fails}");
         assert_eq!(rt; ran.text.as_str(), "");
         assert_eq!(rt; ran.line.as_str(), "waitq: read failed\n");
@@ -157,7 +185,15 @@ fn a_write_that_fails_leaves_a_front_of_the_text(rt: HostRuntime) -> Result<(), 
     let row = WAIT_SET_WAKE;
     // The first call writes the lines of the steps, and the second the end lines.
     for fails in [1, 2] {
-        let ran = run_on(&rt, &["replay"], row.script.as_bytes(), &[], &[fails], &[])?;
+        let ran = run_on(
+            &rt,
+            rt.alloc(),
+            &["replay"],
+            row.script.as_bytes(),
+            &[],
+            &[fails],
+            &[],
+        )?;
         assert_eq!(rt; ran.status, 5, "at call {fails}");
         assert!(rt; row.text.starts_with(ran.text.as_str()), "at call {fails}");
         assert!(rt; ran.text.len() < row.text.len(), "at call {fails}");
@@ -177,10 +213,26 @@ fn a_write_that_fails_in_mid_stream_leaves_the_lines_before_it(
         script.push_str("step 1 1\n")?;
         text.push_str("t1 nocall\n")?;
     }
-    let whole = run_on(&rt, &["replay"], script.as_bytes(), &[], &[], &[])?;
+    let whole = run_on(
+        &rt,
+        rt.alloc(),
+        &["replay"],
+        script.as_bytes(),
+        &[],
+        &[],
+        &[],
+    )?;
     assert_eq!(rt; whole.status, 0);
     assert!(rt; whole.text.starts_with(text.as_str()));
-    let broken = run_on(&rt, &["replay"], script.as_bytes(), &[], &[2], &[])?;
+    let broken = run_on(
+        &rt,
+        rt.alloc(),
+        &["replay"],
+        script.as_bytes(),
+        &[],
+        &[2],
+        &[],
+    )?;
     assert_eq!(rt; broken.status, 5);
     assert!(rt; !broken.text.is_empty());
     assert!(rt; broken.text.len() < text.len());
@@ -190,7 +242,7 @@ fn a_write_that_fails_in_mid_stream_leaves_the_lines_before_it(
 
 #[test]
 fn a_fault_of_the_error_stream_changes_no_status(rt: HostRuntime) -> Result<(), Fail> {
-    let ran = run_on(&rt, &["replay"], b"", &[], &[], &[1])?;
+    let ran = run_on(&rt, rt.alloc(), &["replay"], b"", &[], &[], &[1])?;
     assert_eq!(rt; ran.status, 3);
     assert_eq!(rt; ran.line.as_str(), "");
     Ok(())
@@ -208,7 +260,7 @@ fn drills_have_their_summaries(rt: HostRuntime) -> Result<(), Fail> {
             "drill 7 0\nevents 0\nrefused 0\nasleep 0\nend\n",
         ),
     ] {
-        let ran = run_on(&rt, &words, b"", &[1], &[], &[])?;
+        let ran = run_on(&rt, rt.alloc(), &words, b"", &[1], &[], &[])?;
         assert_eq!(rt; ran.status, 0);
         assert_eq!(rt; ran.text.as_str(), text);
         assert_eq!(rt; ran.line.as_str(), "");
@@ -219,7 +271,15 @@ fn drills_have_their_summaries(rt: HostRuntime) -> Result<(), Fail> {
 #[test]
 fn a_long_drill_says_the_same_each_time(rt: HostRuntime) -> Result<(), Fail> {
     for _ in 0..2 {
-        let ran = run_on(&rt, &["drill", "7", "20000"], b"", &[], &[], &[])?;
+        let ran = run_on(
+            &rt,
+            rt.alloc(),
+            &["drill", "7", "20000"],
+            b"",
+            &[],
+            &[],
+            &[],
+        )?;
         assert_eq!(rt; ran.status, 0);
         let text = "drill 7 20000\nevents 5511\nrefused 18639\nasleep 16\nend\n";
         assert_eq!(rt; ran.text.as_str(), text);
@@ -229,7 +289,7 @@ fn a_long_drill_says_the_same_each_time(rt: HostRuntime) -> Result<(), Fail> {
 
 #[test]
 fn a_summary_that_cannot_be_written_ends_with_its_status(rt: HostRuntime) -> Result<(), Fail> {
-    let ran = run_on(&rt, &["drill", "0", "1"], b"", &[], &[1], &[])?;
+    let ran = run_on(&rt, rt.alloc(), &["drill", "0", "1"], b"", &[], &[1], &[])?;
     assert_eq!(rt; ran.status, 5);
     assert_eq!(rt; ran.text.as_str(), "");
     assert_eq!(rt; ran.line.as_str(), "waitq: write failed\n");
@@ -262,7 +322,15 @@ fn walk_65(rt: HostRuntime) -> Result<(), Fail> {
     walks::push_wakes(alloc, &mut text, walk, 64, 0)?;
     walks::push_answer(alloc, &mut text, walk, 1)?;
     walks::push_end(alloc, &mut text, 262, walk, false)?;
-    let ran = run_on(&rt, &["replay"], script.as_bytes(), &[], &[], &[])?;
+    let ran = run_on(
+        &rt,
+        rt.alloc(),
+        &["replay"],
+        script.as_bytes(),
+        &[],
+        &[],
+        &[],
+    )?;
     gives(&rt, &ran, text.as_str());
     Ok(())
 }
@@ -279,7 +347,15 @@ fn walk_66_breaks(rt: HostRuntime) -> Result<(), Fail> {
     let lines = text.split('\n').filter(|line| line.starts_with("t100 "));
     assert_eq!(rt; lines.count(), 72 + 1);
     walks::push_end(alloc, &mut text, 270, WALK_66, false)?;
-    let ran = run_on(&rt, &["replay"], script.as_bytes(), &[], &[], &[])?;
+    let ran = run_on(
+        &rt,
+        rt.alloc(),
+        &["replay"],
+        script.as_bytes(),
+        &[],
+        &[],
+        &[],
+    )?;
     gives(&rt, &ran, text.as_str());
     Ok(())
 }
@@ -298,7 +374,15 @@ fn walk_break_and_move(rt: HostRuntime) -> Result<(), Fail> {
     text.push_str("t100 lock h256\nt100 unmark h256\n")?;
     walks::push_answer(alloc, &mut text, WALK_66, 2)?;
     walks::push_end(alloc, &mut text, 275, WALK_66, true)?;
-    let ran = run_on(&rt, &["replay"], script.as_bytes(), &[], &[], &[])?;
+    let ran = run_on(
+        &rt,
+        rt.alloc(),
+        &["replay"],
+        script.as_bytes(),
+        &[],
+        &[],
+        &[],
+    )?;
     gives(&rt, &ran, text.as_str());
     Ok(())
 }
@@ -322,7 +406,15 @@ fn walk_131_breaks_twice(rt: HostRuntime) -> Result<(), Fail> {
     let lines = text.split('\n').filter(|line| line.starts_with("t200 "));
     assert_eq!(rt; lines.count(), 141 + 1);
     walks::push_end(alloc, &mut text, 534, walk, false)?;
-    let ran = run_on(&rt, &["replay"], script.as_bytes(), &[], &[], &[])?;
+    let ran = run_on(
+        &rt,
+        rt.alloc(),
+        &["replay"],
+        script.as_bytes(),
+        &[],
+        &[],
+        &[],
+    )?;
     gives(&rt, &ran, text.as_str());
     Ok(())
 }

@@ -18,6 +18,7 @@ use std::sync::Wait;
 use thiserror::Error;
 use wait_model::heads::head_of;
 use wait_model::tasks::SleepState;
+use wait_rule::queues::wake_waiters;
 use wait_rule::tasks::awake;
 use wait_rule::{Domain, Task, wait_up};
 use wq_head::locks;
@@ -56,7 +57,8 @@ fn is_free(stage: BitStage) -> bool
 /// Goes on with a wait from a stage up to the next one at which no head is held, for who may not wait: an executor, or
 /// a caller from another language. Again: it goes on there at once, by the next call. Locked: it waits for a lock, and
 /// goes on there when another number of the head is served. Asleep: it was put asleep, and goes on there once
-/// `woke_bit` has answered true. Done: the wait is over.
+/// `woke_bit` has answered true. Done: the wait is over. It wakes no thread: where other threads may park for a lock of
+/// the head, `wake_waiters` follows each stretch.
 pub fn stretch_bit(domain: &Domain, task: &mut Task, run: &mut BitRun, stage: BitStage) -> BitTurn
     requires of { task.old.domain ≡ domain.now }
     requires at { IsAt task.old run.old stage }
@@ -124,10 +126,13 @@ pub fn run_bit<R: Wait>(
     requires at { IsAt task.old run.old stage }
     ensures { Advances task.old task.new run.old run.new stage (turn.Done result) }
 {
+    let head = head_of(run.watch());
     let mut at = stage;
     let mut looks = 0;
     for _ in rt.forever() {
-        match advance_bit(domain, task, run, at) {
+        let turn = advance_bit(domain, task, run, at);
+        wake_waiters(domain, head);
+        match turn {
             BitTurn::Again(next) => {
                 looks = 0;
                 at = next;

@@ -21,6 +21,7 @@ use std::sync::Wait;
 use wait_event::wait_events::WaitEnd;
 use wait_model::heads::head_of;
 use wait_model::tasks::{Sleep, SleepState};
+use wait_rule::queues::wake_waiters;
 use wait_rule::tasks::awake;
 use wait_rule::tries::sleep_try;
 use wait_rule::{Domain, Task, wait_up};
@@ -74,7 +75,8 @@ fn sleep(domain: &Domain, task: &mut Task, run: AwaitRun) -> AwaitTurn
 /// executor, or a caller from another language. At every stage no head is held. Again: it goes on there at once, by the
 /// next call. Locked: it waits for a lock, and goes on there when another number of the head is served. Asleep: it was
 /// put asleep, and goes on there once `woke` has answered true. Done: the wait is over. Before its first hold the task
-/// has left its own entry off there, and so it has when the wait is over.
+/// has left its own entry off there, and so it has when the wait is over. It wakes no thread: where other threads may
+/// park for a lock of the head, `wake_waiters` follows each stretch.
 pub fn stretch(domain: &Domain, task: &mut Task, run: &mut AwaitRun, stage: AwaitStage) -> AwaitTurn
     requires of { task.old.domain ≡ domain.now }
     requires at { IsAt task.old run.old stage }
@@ -144,10 +146,13 @@ pub fn run_await<R: Wait>(
     ensures on { Advances task.old task.new run.old run.new stage (turn.Done result) }
     ensures off { LeavesOff run.old.cell task.old task.new stage (turn.Done result) }
 {
+    let head = head_of(run.watch());
     let mut at = stage;
     let mut looks = 0;
     for _ in rt.forever() {
-        match stretch(domain, task, run, at) {
+        let turn = stretch(domain, task, run, at);
+        wake_waiters(domain, head);
+        match turn {
             AwaitTurn::Again(next) => {
                 looks = 0;
                 at = next;

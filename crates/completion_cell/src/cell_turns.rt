@@ -16,6 +16,7 @@ use std::sync::Wait;
 use wait_model::heads::head_of;
 use wait_model::watches::Watch;
 use wait_rule::counts::done_load;
+use wait_rule::queues::wake_waiters;
 use wait_rule::tries::FailedTries;
 use wait_rule::{Domain, Task};
 use wq_head::locks::pause;
@@ -77,7 +78,8 @@ impl CellRun {
 /// wakes, for the caller to rouse. Locked: the ticket is drawn and not served; the call goes on at `Turn` once another
 /// number of the head is served, no head is held, and in between the task makes nothing else. Done: the call is over,
 /// as by the function of its name. Starved: the word of one task changed before each of `TRIES` tries to wake it, which
-/// no run comes to; the head is held then, and the call does not end.
+/// no run comes to; the head is held then, and the call does not end. Where other threads may park for a lock of the
+/// head, `wake_waiters` follows each stretch.
 pub fn cell_stretch(
     domain: &Domain,
     task: &mut Task,
@@ -211,6 +213,7 @@ pub(crate) fn run_cell<R: Wait>(
     let mut looks = 0;
     for _ in rt.forever() {
         let turn = cell_stretch(domain, task, &mut run, stage, &mut rousing);
+        wake_waiters(domain, head);
         rousing.rouse_all(domain);
         match turn {
             CellTurn::Locked => {

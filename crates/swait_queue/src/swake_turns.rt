@@ -63,6 +63,7 @@ impl SwakeRun {
 /// number of the head is served, no head is held, and in between the task makes nothing else. Done: the wake is over,
 /// as by `swake_one`, which answers true where this is 1, or by `swake_all`. Starved: the word of one task changed
 /// before each of `TRIES` tries to wake it, which no run comes to; the head is held then, and the wake does not end.
+/// Where other threads may park for a lock of the head, `wake_waiters` follows each stretch.
 pub fn swake_stretch(
     domain: &Domain,
     task: &mut Task,

@@ -19,6 +19,7 @@ use std::hint::spin_loop;
 use std::sync::Wait;
 use wait_model::heads::head_of;
 use wait_model::watches::Watch;
+use wait_rule::queues::wake_waiters;
 use wait_rule::{Domain, Task};
 use wq_head::locks::pause;
 use wq_head::{Rousing, select};
@@ -75,6 +76,7 @@ fn swake<R: Wait>(rt: &R, domain: &Domain, task: &mut Task, cond: u8, all: bool)
     let mut looks = 0;
     for _ in rt.forever() {
         let turn = swake_stretch(domain, task, &mut run, stage, &mut rousing);
+        wake_waiters(domain, head);
         rousing.rouse_all(domain);
         match turn {
             SwakeTurn::Locked => {

@@ -16,6 +16,7 @@ use wait_model::heads::head_of;
 use wait_model::layout::RUNNING;
 use wait_model::tasks::{How, SleepState};
 use wait_model::watches::{Kind, Watch};
+use wait_rule::queues::wake_waiters;
 use wait_rule::tasks::set_state;
 use wait_rule::{Domain, Task};
 use wq_head::Worn;
@@ -47,10 +48,13 @@ fn run_prepare<R: Wait>(rt: &R, domain: &Domain, task: &mut Task, run: &mut Wait
     ensures advances { Advances task.old task.new run.old run.new stage.PrepareLock (turn.Again result) }
     ensures prepared { is_prepared result ≡ true }
 {
+    let head = head_of(run.watch);
     let mut at = WaitStage::PrepareLock;
     let mut looks = 0;
     for _ in rt.forever() {
-        match advance(domain, task, run, at) {
+        let turn = advance(domain, task, run, at);
+        wake_waiters(domain, head);
+        match turn {
             WaitTurn::Again(next) => {
                 if ends_prepare(next) {
                     return next;
@@ -75,10 +79,13 @@ fn run_finish<R: Wait>(rt: &R, domain: &Domain, task: &mut Task, run: &mut WaitR
     requires at { IsAt task.old run.old stage.FinishLock }
     ensures { Advances task.old task.new run.old run.new stage.FinishLock (turn.Done outcome.Over) }
 {
+    let head = head_of(run.watch);
     let mut at = WaitStage::FinishLock;
     let mut looks = 0;
     for _ in rt.forever() {
-        match advance(domain, task, run, at) {
+        let turn = advance(domain, task, run, at);
+        wake_waiters(domain, head);
+        match turn {
             WaitTurn::Again(next) => {
                 looks = 0;
                 at = next;

@@ -9,6 +9,7 @@ ghost use Rattle.wq_head.specs.declared.locks.TheConstants.{LOOKS};
 use crate::waits::{WaitOutcome, WaitRun, WaitStage, WaitTurn, advance};
 use std::sync::Wait;
 use wait_model::heads::head_of;
+use wait_rule::queues::wake_waiters;
 use wait_rule::tasks::awake;
 use wait_rule::{Domain, Task, wait_up};
 use wq_head::locks;
@@ -37,7 +38,8 @@ fn is_free(stage: WaitStage) -> bool
 /// Goes on with a wait from a stage up to the next one at which no head is held, for who may not wait: an executor, or
 /// a caller from another language. Again: it goes on there at once, by the next call. Locked: it waits for a lock, and
 /// goes on there when another number of the head is served. Asleep: it was put asleep, and goes on there once `woke`
-/// has answered true. Done: the wait is over.
+/// has answered true. Done: the wait is over. It wakes no thread: where other threads may park for a lock of the head,
+/// `wake_waiters` follows each stretch.
 pub fn stretch(domain: &Domain, task: &mut Task, run: &mut WaitRun, stage: WaitStage) -> WaitTurn
     requires of { task.old.domain ≡ domain.now }
     requires at { IsAt task.old run.old stage }
@@ -105,10 +107,13 @@ pub fn run_wait<R: Wait>(
     requires at { IsAt task.old run.old stage }
     ensures { Advances task.old task.new run.old run.new stage (turn.Done result) }
 {
+    let head = head_of(run.watch);
     let mut at = stage;
     let mut looks = 0;
     for _ in rt.forever() {
-        match advance(domain, task, run, at) {
+        let turn = advance(domain, task, run, at);
+        wake_waiters(domain, head);
+        match turn {
             WaitTurn::Again(next) => {
                 looks = 0;
                 at = next;

@@ -10,6 +10,7 @@ ghost use Rattle.wait_rule.specs.Queues.{HasGiven};
 use crate::domain::{Domain, Task};
 use crate::queue_plays::{Draw, LoadServing, Serve};
 use std::sync::Wait;
+use wait_model::layout::HEADS;
 use wait_model::positions::{next_at, serving_at};
 
 /// Draws a ticket of head `head`, below `HEADS`: its number, modulo 2^64. The task has it out from then on.
@@ -36,23 +37,31 @@ pub fn serving_load(domain: &Domain, task: &mut Task, head: u16) -> u64
     domain.table.shared.load::<LoadServing>(&mut task.seat, at)
 }
 
-/// Serves the next ticket of the head whose lock the task has given back. It has no ticket out from then on. Where
-/// another one is out, all threads are woken that park until another number of this head is served: one of them alone
-/// might not be the one whose ticket is served now.
+/// Serves the next ticket of the head whose lock the task has given back. It has no ticket out from then on. No thread
+/// is woken: who parks until that number is served sleeps on until `wake_waiters`.
 pub fn serve(domain: &Domain, task: &mut Task)
     requires of { task.old.domain ≡ domain.now }
     requires given { HasGiven task.old }
     ensures { task.new ≡ added task.old item.Served }
 {
-    let head = task.head;
-    let at = serving_at(head) as usize;
-    let found = domain
+    let at = serving_at(task.head) as usize;
+    domain
         .table
         .shared
         .fetch_add::<Serve>(&mut task.seat, at, 1);
-    let drawn = domain.table.shared.peek(next_at(head) as usize);
-    if drawn != found.wrapping_add(1) {
-        domain.table.shared.wake_all(at);
+}
+
+/// Wakes the threads that park until another number of head `head` is served, where a ticket of it is out: all of
+/// them, since one alone might not be the one whose ticket is served now. Who has given back a lock of the head calls
+/// it after that, where other threads may park for it. Nothing is done where there is no such head. It takes no task:
+/// no word changes, and no task knows more or less after it.
+pub fn wake_waiters(domain: &Domain, head: u16) {
+    if head < HEADS {
+        let drawn = domain.table.shared.peek(next_at(head) as usize);
+        let at = serving_at(head) as usize;
+        if domain.table.shared.peek(at) != drawn {
+            domain.table.shared.wake_all(at);
+        }
     }
 }
 

@@ -19,7 +19,7 @@ use std::sync::Wait;
 use wait_model::heads::head_of;
 use wait_model::queues::{End, Walked, Walking};
 use wait_model::watches::{Aim, Mode, Watch};
-use wait_rule::queues::{draw, lock_step, mark_member, serving_load};
+use wait_rule::queues::{draw, lock_step, mark_member, serving_load, wake_waiters};
 use wait_rule::tries::FailedTries;
 use wait_rule::{Domain, Task};
 
@@ -118,6 +118,7 @@ pub fn wake<R: Wait>(
     ensures up { IsUp task.new }
     ensures carries { Carries (wake_all_change watch mode task.new.at) task.old task.new }
 {
+    let head = head_of(watch);
     let mut list = Members::new();
     let mut rousing = Rousing::new();
     let mut run = WakeRun::new(watch, mode, count);
@@ -125,10 +126,11 @@ pub fn wake<R: Wait>(
     let mut looks = 0;
     for _ in rt.forever() {
         let turn = wake_stretch(domain, task, &mut run, stage, &mut list, &mut rousing);
+        wake_waiters(domain, head);
         rousing.rouse_all(domain);
         match turn {
             WakeTurn::Locked(next) => {
-                looks = pause(rt, domain, head_of(watch), run.served, looks);
+                looks = pause(rt, domain, head, run.served, looks);
                 stage = next;
             }
             WakeTurn::Broken => {
@@ -155,7 +157,7 @@ pub fn wake<R: Wait>(
 /// bookmark is out; the wake goes on at `Next`, at once. Done: the wake is over, with the answer of `wake`. In between
 /// the task makes nothing else. Starved: the word of one task changed before each of 2^64 - 1 tries to wake it, as the
 /// count says, which no run comes to; the head is held then, and the wake does not end. `list` is room for the members
-/// of a head.
+/// of a head. Where other threads may park for a lock of the head, `wake_waiters` follows each stretch.
 pub fn wake_stretch(
     domain: &Domain,
     task: &mut Task,

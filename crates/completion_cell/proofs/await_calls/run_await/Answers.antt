@@ -15,24 +15,24 @@ loop-init g c = (
 pub loop-preserved-in-Again : goal.loop-preserved-in-Again
 loop-preserved-in-Again g c =
     let i = c.loop.invariant in (
-      advances_on c.args.task.now c.loop.task c.stretch.new.task c.args.run.now c.loop.run c.stretch.new.run
+      advances_on c.args.task.now c.loop.task c.stretch-turn.new.task c.args.run.now c.loop.run c.stretch-turn.new.run
           c.args.stage c.loop.at (turn.Again c.in-Again.next) i.0.went c.in-Again.ensures.on,
-      turns_on c.args.task.now c.loop.task c.stretch.new.task c.args.run.now c.loop.run c.args.stage c.loop.at
+      turns_on c.args.task.now c.loop.task c.stretch-turn.new.task c.args.run.now c.loop.run c.args.stage c.loop.at
           (turn.Again c.in-Again.next) i.0.went.cell i.1 c.in-Again.ensures.off,
     )
 
 pub loop-preserved-in-Asleep : goal.loop-preserved-in-Asleep
 loop-preserved-in-Asleep g c =
     let i = c.loop.invariant in
-    let a = advances_on c.args.task.now c.loop.task c.stretch.new.task c.args.run.now c.loop.run c.stretch.new.run
+    let a = advances_on c.args.task.now c.loop.task c.stretch-turn.new.task c.args.run.now c.loop.run c.stretch-turn.new.run
     c.args.stage c.loop.at (turn.Asleep c.in-Asleep.next) i.0.went c.in-Asleep.ensures.on in
-    let p = turns_on c.args.task.now c.loop.task c.stretch.new.task c.args.run.now c.loop.run c.args.stage c.loop.at
+    let p = turns_on c.args.task.now c.loop.task c.stretch-turn.new.task c.args.run.now c.loop.run c.args.stage c.loop.at
     (turn.Asleep c.in-Asleep.next) i.0.went.cell i.1 c.in-Asleep.ensures.off in (
-      advances_on c.args.task.now c.stretch.new.task c.rise.new.task c.args.run.now c.stretch.new.run
-          c.stretch.new.run c.args.stage c.in-Asleep.next (turn.Again c.in-Asleep.next) a.went c.rise.ensures.on,
-      turns_on c.args.task.now c.stretch.new.task c.rise.new.task c.args.run.now c.stretch.new.run c.args.stage
+      advances_on c.args.task.now c.stretch-turn.new.task c.rise.new.task c.args.run.now c.stretch-turn.new.run
+          c.stretch-turn.new.run c.args.stage c.in-Asleep.next (turn.Again c.in-Asleep.next) a.went c.rise.ensures.on,
+      turns_on c.args.task.now c.stretch-turn.new.task c.rise.new.task c.args.run.now c.stretch-turn.new.run c.args.stage
           c.in-Asleep.next (turn.Again c.in-Asleep.next) a.went.cell
-          (asleep_again c.args.run.now.cell c.args.task.now c.stretch.new.task c.args.stage c.in-Asleep.next p)
+          (asleep_again c.args.run.now.cell c.args.task.now c.stretch-turn.new.task c.args.stage c.in-Asleep.next p)
           c.rise.ensures.off,
     )
 
@@ -42,28 +42,28 @@ pause-looks-requires g c = record { there = c.in-Locked.ensures.on.lands.there }
 pub loop-preserved : goal.loop-preserved
 loop-preserved g c =
     let i = c.loop.invariant in (
-      goes_again c.args.task.now c.stretch.new.task c.args.run.now c.stretch.new.run c.args.stage c.in-Locked.next
-          (advances_on c.args.task.now c.loop.task c.stretch.new.task c.args.run.now c.loop.run c.stretch.new.run
+      goes_again c.args.task.now c.stretch-turn.new.task c.args.run.now c.stretch-turn.new.run c.args.stage c.in-Locked.next
+          (advances_on c.args.task.now c.loop.task c.stretch-turn.new.task c.args.run.now c.loop.run c.stretch-turn.new.run
           c.args.stage c.loop.at (turn.Locked c.in-Locked.next) i.0.went c.in-Locked.ensures.on),
-      locked_again c.args.run.now.cell c.args.task.now c.stretch.new.task c.args.stage c.in-Locked.next
-          (turns_on c.args.task.now c.loop.task c.stretch.new.task c.args.run.now c.loop.run c.args.stage c.loop.at
+      locked_again c.args.run.now.cell c.args.task.now c.stretch-turn.new.task c.args.stage c.in-Locked.next
+          (turns_on c.args.task.now c.loop.task c.stretch-turn.new.task c.args.run.now c.loop.run c.args.stage c.loop.at
           (turn.Locked c.in-Locked.next) i.0.went.cell i.1 c.in-Locked.ensures.off),
     )
 
 pub returns-in-Done-clause-on : goal.returns-in-Done-clause-on
 returns-in-Done-clause-on g c =
     let i = c.loop.invariant in
-    advances_on c.args.task.now c.loop.task c.stretch.new.task c.args.run.now c.loop.run c.stretch.new.run
+    advances_on c.args.task.now c.loop.task c.stretch-turn.new.task c.args.run.now c.loop.run c.stretch-turn.new.run
     c.args.stage c.loop.at (turn.Done c.in-Done.outcome) i.0.went c.in-Done.ensures.on
 
 pub returns-in-Done-clause-off : goal.returns-in-Done-clause-off
 returns-in-Done-clause-off g c =
     let i = c.loop.invariant in
-    turns_on c.args.task.now c.loop.task c.stretch.new.task c.args.run.now c.loop.run c.args.stage c.loop.at
+    turns_on c.args.task.now c.loop.task c.stretch-turn.new.task c.args.run.now c.loop.run c.args.stage c.loop.at
     (turn.Done c.in-Done.outcome) i.0.went.cell i.1 c.in-Done.ensures.off
 
-pub stretch-requires-clause-begins : goal.stretch-requires-clause-begins
-stretch-requires-clause-begins g c =
+pub stretch-turn-requires-clause-begins : goal.stretch-turn-requires-clause-begins
+stretch-turn-requires-clause-begins g c =
     let i = c.loop.invariant in
     goes_begun c.args.task.now c.loop.task c.args.run.now c.loop.run c.args.stage c.loop.at i.0.went.cell i.1
     c.requires.begins

@@ -11,7 +11,7 @@ loop-init g c = (advances_none c.args.task.now c.args.run.now stage.PrepareLock 
 pub returns-then-ends_prepare-clause-advances : goal.returns-then-ends_prepare-clause-advances
 returns-then-ends_prepare-clause-advances g c =
     let i = c.loop.invariant.0 in
-    advances_on c.args.task.now c.loop.task c.advance.new.task c.args.run.now c.loop.run c.advance.new.run
+    advances_on c.args.task.now c.loop.task c.advance-turn.new.task c.args.run.now c.loop.run c.advance-turn.new.run
     stage.PrepareLock c.loop.at (turn.Again c.in-Again.next) i.same i.went c.in-Again.ensures.advances
 
 pub returns-then-ends_prepare-clause-prepared : goal.returns-then-ends_prepare-clause-prepared
@@ -20,7 +20,7 @@ returns-then-ends_prepare-clause-prepared g c = sym c.ends_prepare.ensures ∙ c
 pub loop-preserved-in-Again : goal.loop-preserved-in-Again
 loop-preserved-in-Again g c =
     let i = c.loop.invariant in (
-      advances_on c.args.task.now c.loop.task c.advance.new.task c.args.run.now c.loop.run c.advance.new.run
+      advances_on c.args.task.now c.loop.task c.advance-turn.new.task c.args.run.now c.loop.run c.advance-turn.new.run
           stage.PrepareLock c.loop.at (turn.Again c.in-Again.next) i.0.same i.0.went c.in-Again.ensures.advances,
       again_prepare c.loop.at c.in-Again.next c.in-Again.ensures.falls i.1
           (sym c.ends_prepare.ensures ∙ c.if-ends_prepare.false),
@@ -29,8 +29,8 @@ loop-preserved-in-Again g c =
 pub loop-preserved : goal.loop-preserved
 loop-preserved g c =
     let i = c.loop.invariant in (
-      again c.args.task.now c.advance.new.task c.args.run.now c.advance.new.run stage.PrepareLock c.in-Locked.next
-          (advances_on c.args.task.now c.loop.task c.advance.new.task c.args.run.now c.loop.run c.advance.new.run
+      again c.args.task.now c.advance-turn.new.task c.args.run.now c.advance-turn.new.run stage.PrepareLock c.in-Locked.next
+          (advances_on c.args.task.now c.loop.task c.advance-turn.new.task c.args.run.now c.loop.run c.advance-turn.new.run
           stage.PrepareLock c.loop.at (turn.Locked c.in-Locked.next) i.0.same i.0.went c.in-Locked.ensures.advances),
       locked_prepare c.loop.at c.in-Locked.next c.in-Locked.ensures.falls i.1,
     )

@@ -6,8 +6,8 @@ use Rattle.wait_rule.proofs.TableSteps.TicketMoves.{serve_moves}
 use Rattle.wait_rule.proofs.KnownLaws.AfterSteps.{known_after}
 use Rattle.wait_rule.proofs.tickets.serve.Goals as goal
 
-pub fetch_add-found-requires : goal.fetch_add-found-requires
-fetch_add-found-requires c =
+pub fetch_add-requires : goal.fetch_add-requires
+fetch_add-requires c =
     let t = c.task.inside in
     let i = c.task.invariant in
     let size = c.domain.invariant in
@@ -20,6 +20,6 @@ fetch_add-found-requires c =
     )
 
 pub returns : goal.returns
-returns c = known_after c.task.inside.seat.table_id c.fetch_add-found.new.seat.table_id c.task.inside.seat.me
-    c.fetch_add-found.new.seat.me c.args.task.now item.Served c.fetch_add-found.ensures.0 c.fetch_add-found.ensures.2
+returns c = known_after c.task.inside.seat.table_id c.fetch_add.new.seat.table_id c.task.inside.seat.me
+    c.fetch_add.new.seat.me c.args.task.now item.Served c.fetch_add.ensures.0 c.fetch_add.ensures.2
     c.task.view_is

@@ -5,7 +5,7 @@ use Rattle.wq_head.proofs.wakes.wake.Goals as goal
 pub pause-looks-requires : goal.pause-looks-requires
 pause-looks-requires g c =
     let small = (head_small c.args.watch c.requires.full) in
-    let is = c.head_of.ensures in
+    let is = c.head_of-head.ensures in
     record { head = omega (arith, small, is) }
 
 pub loop-preserved : goal.loop-preserved

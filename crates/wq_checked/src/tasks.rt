@@ -147,6 +147,7 @@ impl CheckedTask {
     /// names then the tasks that a wake has woken in this stretch and whose threads are to be roused, in their order.
     /// Nothing comes exactly where no call is under way, and Starved exactly after a wake that was starved. Else the
     /// call has come on by its own turns, from wherever it came, or is over with the answer of the whole call.
+    /// Threads that park for a lock there are none: all calls of this Domain are made by tasks like this one.
     pub fn advance(&mut self, rousing: &mut Rousing) -> Result<Progress, Refused>
         ensures refused { IfErr result (λ e. stopped_reason self.old.running ≡ Some e) }
         ensures same { IfErr result (λ _. self.new ≡ self.old) }

@@ -6,8 +6,8 @@ ghost use Rattle.wq_checked.specs.Checked.{Checked};
 ghost use Rattle.sugwelan_c.specs.Blocks.{code_in, owned, puts};
 
 use crate::blocks::Block;
-use wq_checked::CheckedTask;
 use std::alloc::Global;
+use wq_checked::CheckedTask;
 
 /// Writes the address of a block to `out`. An error leaves what stands there.
 pub fn put(made: Result<Block<CheckedTask, Global>, i32>, out: &mut *mut u8) -> i32

@@ -90,13 +90,37 @@ pub enum Wanted {
 /// A wait with its numbers.
 #[derive(Clone, Copy)]
 pub enum Waiting {
-    Event { cond: u8, how: How },
-    SimpleEvent { cond: u8, state: SleepState },
-    Var { var: u8, state: SleepState, old: u64 },
-    Bit { word: u8, bit: u8, state: SleepState },
-    BitLock { word: u8, bit: u8, state: SleepState },
-    Page { page: u8, state: SleepState },
-    Completion { cell: u8, state: SleepState },
+    Event {
+        cond: u8,
+        how: How,
+    },
+    SimpleEvent {
+        cond: u8,
+        state: SleepState,
+    },
+    Var {
+        var: u8,
+        state: SleepState,
+        old: u64,
+    },
+    Bit {
+        word: u8,
+        bit: u8,
+        state: SleepState,
+    },
+    BitLock {
+        word: u8,
+        bit: u8,
+        state: SleepState,
+    },
+    Page {
+        page: u8,
+        state: SleepState,
+    },
+    Completion {
+        cell: u8,
+        state: SleepState,
+    },
 }
 
 /// A wake with its numbers.
@@ -233,12 +257,20 @@ fn waiting_of(kind: WaitingKind, call: &Call) -> Option<Waiting>
         WaitingKind::Bit => {
             let bit = byte_of(call.b)?;
             let state = state_of(call.c)?;
-            Some(Waiting::Bit { word: a, bit, state })
+            Some(Waiting::Bit {
+                word: a,
+                bit,
+                state,
+            })
         }
         WaitingKind::BitLock => {
             let bit = byte_of(call.b)?;
             let state = state_of(call.c)?;
-            Some(Waiting::BitLock { word: a, bit, state })
+            Some(Waiting::BitLock {
+                word: a,
+                bit,
+                state,
+            })
         }
         WaitingKind::Page => {
             let state = state_of(call.b)?;
@@ -260,11 +292,19 @@ fn waking_of(kind: WakingKind, call: &Call) -> Option<Waking>
         WakingKind::Alone => {
             let mode = mode_of(call.b)?;
             let count = call.c;
-            Some(Waking::Alone { cond: a, mode, count })
+            Some(Waking::Alone {
+                cond: a,
+                mode,
+                count,
+            })
         }
         WakingKind::Set => {
             let count = call.c;
-            Some(Waking::Set { cond: a, count, value })
+            Some(Waking::Set {
+                cond: a,
+                count,
+                value,
+            })
         }
         WakingKind::Var => Some(Waking::Var { var: a, value }),
         WakingKind::Bit => {

@@ -115,13 +115,7 @@ pub fn code_to_free(task: &CheckedTask) -> i32
     match task.refusal() {
         Some(Refused::Starved) => DONE,
         Some(_) => EBUSY,
-        None => {
-            if keeps_any(task) {
-                EPERM
-            } else {
-                DONE
-            }
-        }
+        None => { if keeps_any(task) { EPERM } else { DONE } }
     }
 }
 

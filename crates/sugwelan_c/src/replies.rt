@@ -142,13 +142,7 @@ fn value_of(reply: Reply) -> u64
 {
     match reply {
         Reply::On(Progress::Done(Answer::Changed(Ok(seen)))) => seen,
-        Reply::On(Progress::Done(Answer::Cell(done))) => {
-            if done {
-                1
-            } else {
-                0
-            }
-        }
+        Reply::On(Progress::Done(Answer::Cell(done))) => { if done { 1 } else { 0 } }
         Reply::Value(value) => value,
         _ => 0,
     }
@@ -184,7 +178,11 @@ fn end_number(end: End) -> u32
 fn list_tasks(tasks: &[u8], rouse: &mut [u8; ROOM]) -> u32
     ensures { Lists tasks.now result rouse.new }
 {
-    let count = if tasks.len() < ROOM { tasks.len() } else { ROOM };
+    let count = if tasks.len() < ROOM {
+        tasks.len()
+    } else {
+        ROOM
+    };
     for i in 0..count {
         rouse[i] = tasks[i];
     }

@@ -1,10 +1,9 @@
-/* Wrong calls: each answers its code, and nothing has changed. Kinds of calls that the archive does not have answer
- * -EINVAL to all numbers. */
+/* Wrong calls: each answers its code, and nothing has changed. */
 #include "../sugwelan.h"
 #include "expect.h"
 #include <string.h>
 
-enum { SET = 3, CLEAR = 4, WORD = 2, KEPT = 5, OTHER = 6, PAGE = 9, FREE_PAGE = 10, VARIABLE = 20, SIMPLE = 50 };
+enum { SET = 3, CLEAR = 4, WORD = 2, KEPT = 5, OTHER = 6, PAGE = 9, FREE_PAGE = 10, VARIABLE = 20, SIMPLE = 50, CELL = 6 };
 enum { VALUE = 7, OLD = 8, NEW = 9, AMOUNT = 3, NO_STATE = 3, NO_MODE = 2 };
 
 static struct sugwelan_task *task;
@@ -176,15 +175,26 @@ static const struct sugwelan_call beginnings[] = {
     {SUGWELAN_WAIT_ON_BIT, WORD, OTHER, 0, 0},
     {SUGWELAN_WAIT_ON_BIT_LOCK, WORD, OTHER, 0, 0},
     {SUGWELAN_LOCK_PAGE, FREE_PAGE, 0, 0, 0},
+    {SUGWELAN_WAIT_FOR_COMPLETION, CELL, 0, 0, 0},
     {SUGWELAN_WAKE_UP, CLEAR, 0, 0, 0},
     {SUGWELAN_SET_AND_WAKE, CLEAR, 0, 0, VALUE},
     {SUGWELAN_PUBLISH_VAR_AND_WAKE, VARIABLE, 0, 0, VALUE},
     {SUGWELAN_CLEAR_AND_WAKE_UP_BIT, WORD, KEPT, 0, 0},
     {SUGWELAN_UNLOCK_PAGE, PAGE, 0, 0, 0},
+    {SUGWELAN_SWAKE_UP_ONE, SIMPLE, 0, 0, 0},
+    {SUGWELAN_SWAKE_UP_ALL, SIMPLE, 0, 0, 0},
+    {SUGWELAN_SET_AND_SWAKE, SIMPLE, 0, 0, VALUE},
+    {SUGWELAN_COMPLETE, CELL, 0, 0, 0},
+    {SUGWELAN_COMPLETE_ALL, CELL, 0, 0, 0},
+    {SUGWELAN_REINIT_COMPLETION, CELL, 0, 0, 0},
+    {SUGWELAN_TRY_WAIT_FOR_COMPLETION, CELL, 0, 0, 0},
+    {SUGWELAN_COMPLETION_DONE, CELL, 0, 0, 0},
     {SUGWELAN_TRYLOCK_BIT, WORD, OTHER, 0, 0},
     {SUGWELAN_TRYLOCK_PAGE, FREE_PAGE, 0, 0, 0},
     {SUGWELAN_ADD_TALLY, PAGE, 0, 0, AMOUNT},
     {SUGWELAN_TAKE_CONDITION, CLEAR, 0, 0, 0},
+    {SUGWELAN_RAISE_SIGNAL, 0, 0, 0, 0},
+    {SUGWELAN_TAKE_SIGNAL, 0, 0, 0, 0},
 };
 
 /* While a call is under way no other one begins, and the task is not given up. */

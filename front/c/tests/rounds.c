@@ -1,5 +1,5 @@
 /* Rounds of threads that wait and wake: none hangs, and none gets what it should not. The number of rounds may be
- * given (1,000). Kinds of calls that the archive does not have are left out, and the test says so. */
+ * given (1,000). */
 #include "../sugwelan.h"
 #include "expect.h"
 #include <pthread.h>
@@ -317,15 +317,6 @@ static void signals(void)
         among(waits_for_signal, raises, round);
 }
 
-/* Whether the archive has a kind of calls: without a word of it for what the answer says. */
-static int has(int answer, const char *what)
-{
-    if (answer != -EINVAL)
-        return 1;
-    printf("left out, since the archive has none: %s\n", what);
-    return 0;
-}
-
 int main(int count, char **words)
 {
     alarm(PATIENCE);
@@ -340,14 +331,10 @@ int main(int count, char **words)
     locks();
     among(watches, counts_up, 0);
     bits();
-    if (has(sugwelan_completion_done(tasks[WAITERS], CELL), "completions"))
-        completions();
-    if (has(sugwelan_swake_up_all(tasks[WAITERS], SIMPLE, NULL), "wakes of simple queues")) {
-        simple_turns();
-        simple_queues();
-    }
-    if (has(sugwelan_take_signal(tasks[WAITERS]), "signals"))
-        signals();
+    completions();
+    simple_turns();
+    simple_queues();
+    signals();
     close_domain();
     return finish("rounds");
 }

@@ -146,9 +146,7 @@ fn a_dropped_wait_is_ended_by_a_signal() {
         poll_once(pin!(waiter.wait_event(0, State::Interruptible))),
         Poll::Pending
     );
-    if domain.raise_signal(waiter.number(), Signal::Plain) == Err(Error::Invalid) {
-        return eprintln!("left out, since the archive has none: signals");
-    }
+    domain.raise_signal(waiter.number(), Signal::Plain).unwrap();
     assert_eq!(poll_once(pin!(waiter.resume())), Poll::Ready(Err(Error::Signal)));
     assert_eq!(waiter.take_signal(), Ok(Some(Signal::Plain)));
     assert!(waiter.close().is_ok());

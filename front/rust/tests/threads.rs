@@ -164,9 +164,6 @@ fn completions_hand_permits_on() {
     let (domain, mut tasks) = tasks(WAITERS);
     let mut giver = domain.task().unwrap();
     let done = Completion::new(6);
-    if done.is_done(&mut giver) == Err(Error::Invalid) {
-        return eprintln!("left out, since the archive has none: completions");
-    }
     for round in 0..ROUNDS {
         thread::scope(|scope| {
             for task in &mut tasks {
@@ -187,9 +184,6 @@ fn completions_hand_permits_on() {
 fn simple_queues_wake_all() {
     let (domain, mut tasks) = tasks(WAITERS);
     let mut setter = domain.task().unwrap();
-    if setter.swake_up_all(50) == Err(Error::Invalid) {
-        return eprintln!("left out, since the archive has none: wakes of simple queues");
-    }
     for round in 0..ROUNDS {
         setter.take_condition(50).unwrap();
         thread::scope(|scope| {
@@ -205,9 +199,6 @@ fn simple_queues_wake_all() {
 #[test]
 fn signals_end_waits() {
     let (domain, mut tasks) = tasks(WAITERS);
-    if tasks[0].take_signal() == Err(Error::Invalid) {
-        return eprintln!("left out, since the archive has none: signals");
-    }
     let numbers: Vec<u8> = tasks.iter().map(Task::number).collect();
     for round in 0..ROUNDS {
         thread::scope(|scope| {

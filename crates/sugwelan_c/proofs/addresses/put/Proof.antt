@@ -81,8 +81,10 @@ module _ {M : Type 1} {𝓤 : Ura M} (𝓛 : Logic 𝓤) (𝓜 : Model 𝓤 𝓛
         eu ∙ ap (λ (vs : List Val). live 0 (of_list vs) ∷ []) (ef ∙ ap (λ (vs : List Val). vs ++ []) held) in
         regoal ! (λ (xs : List Val). prop (Runs (Ok x) xs)) (λ j. whole_is j ++ (is_out j ++ [])) refl $
         enter ! _ _ _ _ _ $
-        alloc_all ! (λ l. pass_all ! refl ((tt, (record { fits = lit< tt }, ((tt, (((tt, tt), tt), tt)), tt))),
-        ((tt, tt), tt)) $ let E = env code.Mir.locals l in
+        alloc_all ! (λ l. pass_all ! refl (
+          (tt, (record { fits = lit< tt }, ((tt, (((tt, tt), tt), tt)), tt))),
+          ((tt, tt), tt),
+        ) $ let E = env code.Mir.locals l in
         first ! $ switches_on ! (get_tag ! (vrt ! refl (fld ! refl (stop !))) (whole !)) $
         exec ! 𝓣.C 𝓣.Λ E (arm_body 0 (head code.function.body))
         (then_runs 𝓛 𝓣.C 𝓣.Λ E (after 1 code.function.body) (at_ret E (W.post (bound (Ok x))))) $

@@ -1,8 +1,10 @@
 //! Futures that wait and wake, by an executor of one thread and of several; and futures that are dropped in mid-wait.
 
 mod common;
+mod rounds;
 
 use common::{poll_once, Executor};
+use rounds::rounds;
 use std::pin::pin;
 use std::sync::atomic::{AtomicU64, Ordering::SeqCst};
 use std::sync::Arc;
@@ -11,7 +13,6 @@ use std::thread;
 use std::time::Duration;
 use sugwelan::{BitLock, Domain, Error, Page, Signal, State, Task};
 
-const ROUNDS: u64 = 1000;
 const WAITERS: u64 = 4;
 const CROWD: u64 = 120;
 const PLAIN: State = State::Uninterruptible;
@@ -35,13 +36,13 @@ fn futures_answer_each_other() {
         let (mut one, mut other) = (domain.task().unwrap(), domain.task().unwrap());
         let mut executor = Executor::default();
         executor.spawn(async move {
-            for round in 1..=ROUNDS {
+            for round in 1..=rounds() {
                 assert_eq!(claim(&mut one, 0).await, round);
                 one.set_and_wake(1, round, 1).unwrap();
             }
         });
         executor.spawn(async move {
-            for round in 1..=ROUNDS {
+            for round in 1..=rounds() {
                 other.set_and_wake(0, round, 1).unwrap();
                 assert_eq!(claim(&mut other, 1).await, round);
             }
@@ -61,7 +62,7 @@ fn futures_and_threads_share_locks() {
         for _ in 0..WAITERS {
             let (mut task, inside) = (domain.task().unwrap(), inside.clone());
             executor.spawn(async move {
-                for _ in 0..ROUNDS {
+                for _ in 0..rounds() {
                     let guard = lock.lock_later(&mut task, PLAIN).await.unwrap();
                     assert_eq!(inside.fetch_add(1, SeqCst), 0);
                     inside.fetch_sub(1, SeqCst);
@@ -73,14 +74,14 @@ fn futures_and_threads_share_locks() {
         let mut task = domain.task().unwrap();
         thread::scope(|scope| {
             scope.spawn(|| executor.run(threads));
-            for _ in 0..ROUNDS {
+            for _ in 0..rounds() {
                 let guard = lock.lock(&mut task, PLAIN).unwrap();
                 assert_eq!(inside.fetch_add(1, SeqCst), 0);
                 inside.fetch_sub(1, SeqCst);
                 drop(guard);
             }
         });
-        assert_eq!(page.lock(&mut task, PLAIN).unwrap().add(0), Ok(ROUNDS * WAITERS));
+        assert_eq!(page.lock(&mut task, PLAIN).unwrap().add(0), Ok(rounds() * WAITERS));
     }
 }
 

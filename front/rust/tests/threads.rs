@@ -1,10 +1,12 @@
 //! Threads that wait and wake, in rounds: none hangs, and none gets what it should not.
 
+mod rounds;
+
+use rounds::rounds;
 use std::cell::UnsafeCell;
 use std::thread;
 use sugwelan::{BitLock, Completion, Domain, Error, Page, Signal, State, Task};
 
-const ROUNDS: u64 = 1000;
 const WAITERS: usize = 4;
 const PLAIN: State = State::Uninterruptible;
 
@@ -35,7 +37,7 @@ fn claim(task: &mut Task, condition: u8) -> u64 {
 
 #[test]
 fn all_wait_for_one_condition() {
-    for round in 0..ROUNDS {
+    for round in 0..rounds() {
         let (domain, mut tasks) = tasks(WAITERS);
         let mut setter = domain.task().unwrap();
         thread::scope(|scope| {
@@ -54,12 +56,12 @@ fn two_answer_each_other() {
     let (one, other) = tasks.split_at_mut(1);
     thread::scope(|scope| {
         scope.spawn(|| {
-            for round in 1..=ROUNDS {
+            for round in 1..=rounds() {
                 assert_eq!(claim(&mut one[0], 0), round);
                 one[0].set_and_wake(1, round, 1).unwrap();
             }
         });
-        for round in 1..=ROUNDS {
+        for round in 1..=rounds() {
             other[0].set_and_wake(0, round, 1).unwrap();
             assert_eq!(claim(&mut other[0], 1), round);
         }
@@ -92,7 +94,7 @@ fn a_bit_guards_a_count() {
         for mut task in tasks {
             let count = &count;
             scope.spawn(move || {
-                for _ in 0..ROUNDS {
+                for _ in 0..rounds() {
                     let _guard = lock.lock(&mut task, PLAIN).unwrap();
                     // SAFETY: the guard is alive.
                     unsafe { count.add() };
@@ -100,7 +102,7 @@ fn a_bit_guards_a_count() {
             });
         }
     });
-    assert_eq!(count.0.into_inner(), ROUNDS * WAITERS as u64);
+    assert_eq!(count.0.into_inner(), rounds() * WAITERS as u64);
 }
 
 #[test]
@@ -110,7 +112,7 @@ fn a_page_counts_its_locks() {
     thread::scope(|scope| {
         for mut task in tasks {
             scope.spawn(move || {
-                for _ in 0..ROUNDS {
+                for _ in 0..rounds() {
                     page.lock(&mut task, PLAIN).unwrap().add(1).unwrap();
                 }
             });
@@ -118,7 +120,7 @@ fn a_page_counts_its_locks() {
     });
     let mut task = domain.task().unwrap();
     let mut guard = page.try_lock(&mut task).unwrap().unwrap();
-    assert_eq!(guard.add(0), Ok(ROUNDS * WAITERS as u64));
+    assert_eq!(guard.add(0), Ok(rounds() * WAITERS as u64));
     assert_eq!(guard.set_and_wake(0, 1, 0).unwrap().woken, 0);
 }
 
@@ -126,18 +128,19 @@ fn a_page_counts_its_locks() {
 fn a_variable_goes_up() {
     let (domain, mut tasks) = tasks(WAITERS);
     let mut setter = domain.task().unwrap();
+    let last = rounds();
     thread::scope(|scope| {
         for task in &mut tasks {
             scope.spawn(|| {
                 let mut value = 0;
-                while value < ROUNDS {
+                while value < last {
                     let found = task.wait_var_event(20, value, PLAIN).block().unwrap();
                     assert!(found > value);
                     value = found;
                 }
             });
         }
-        for value in 1..=ROUNDS {
+        for value in 1..=last {
             setter.publish_var_and_wake(20, value).unwrap();
         }
     });
@@ -147,7 +150,7 @@ fn a_variable_goes_up() {
 fn a_bit_is_waited_for() {
     let (domain, mut tasks) = tasks(WAITERS);
     let mut keeper = domain.task().unwrap();
-    for round in 0..ROUNDS {
+    for round in 0..rounds() {
         assert_eq!(keeper.trylock_bit(5, 6), Ok(true));
         thread::scope(|scope| {
             for task in &mut tasks {
@@ -164,7 +167,7 @@ fn completions_hand_permits_on() {
     let (domain, mut tasks) = tasks(WAITERS);
     let mut giver = domain.task().unwrap();
     let done = Completion::new(6);
-    for round in 0..ROUNDS {
+    for round in 0..rounds() {
         thread::scope(|scope| {
             for task in &mut tasks {
                 scope.spawn(|| done.wait(task, PLAIN).block().unwrap());
@@ -184,7 +187,7 @@ fn completions_hand_permits_on() {
 fn simple_queues_wake_all() {
     let (domain, mut tasks) = tasks(WAITERS);
     let mut setter = domain.task().unwrap();
-    for round in 0..ROUNDS {
+    for round in 0..rounds() {
         setter.take_condition(50).unwrap();
         thread::scope(|scope| {
             for task in &mut tasks {
@@ -200,7 +203,7 @@ fn simple_queues_wake_all() {
 fn signals_end_waits() {
     let (domain, mut tasks) = tasks(WAITERS);
     let numbers: Vec<u8> = tasks.iter().map(Task::number).collect();
-    for round in 0..ROUNDS {
+    for round in 0..rounds() {
         thread::scope(|scope| {
             for task in &mut tasks {
                 scope.spawn(|| {

@@ -10,7 +10,7 @@
  *   - a task is one that a call here gave out, or null, and is no more used once it was freed;
  *   - no thread is in a call on a task when it is freed.
  *
- * Each call answers 0 or what it says, or one of these, and then has changed nothing but what it says:
+ * Each call answers 0 or what it says, or one of these. After the first four nothing has changed:
  *   -EINVAL    a number is out of its range
  *   -EPERM     the task does not keep the bit or page that it would give back, or keeps the one for which it would wait
  *   -EALREADY  another thread is in a call on the task

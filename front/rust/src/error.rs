@@ -2,8 +2,8 @@
 
 use std::fmt;
 
-/// Why a call was refused, or ended otherwise than it should. After all but [`Error::Signal`] and [`Error::NoPlace`]
-/// nothing has changed.
+/// Why a call was refused, or ended otherwise than it should. After [`Error::Invalid`], [`Error::Busy`] and
+/// [`Error::Kept`] nothing has changed.
 #[derive(Clone, Copy, Debug, PartialEq, Eq)]
 pub enum Error {
     /// A number is out of its range, or there is no call to go on with.
@@ -16,7 +16,7 @@ pub enum Error {
     Signal,
     /// No place is left in the queue; or no number is spare for a further task.
     NoPlace,
-    /// There is no memory.
+    /// There is no memory. The numbers of a further task may be used up.
     Memory,
     /// A wake of the task came to no end, as none does, and the task makes no more calls.
     Starved,

@@ -6,7 +6,7 @@
 #include <stdbool.h>
 #include <time.h>
 
-enum { WORKERS = 12, CALLS = 1000, KINDS = 8, PLACES = 4, FIRST_PAGE = 8, FIRST_VARIABLE = 20, NAP = 100000 };
+enum { WORKERS = 12, CALLS = 1000, KINDS = 11, PLACES = 4, FIRST_PAGE = 8, FIRST_VARIABLE = 20, NAP = 100000 };
 
 /* A thread with its task and its own row of random numbers. */
 struct worker {
@@ -64,6 +64,34 @@ static void wait_and_take(struct worker *me, uint32_t place)
     EXPECT(sugwelan_take_condition(me->task, place, NULL), 0);
 }
 
+/* Whether a wait that a signal may end came to an end. The signals are taken where one did. */
+static void may_be_signalled(struct worker *me, int answer)
+{
+    if (answer == -EINTR)
+        EXPECT(sugwelan_take_signal(me->task), 1);
+    else
+        EXPECT(answer, 0);
+}
+
+/* Raises a signal of any worker. */
+static void signal_one(struct worker *me)
+{
+    struct sugwelan_task *other = workers[any(me, WORKERS)].task;
+    EXPECT(sugwelan_raise_signal(me->task, (uint32_t)sugwelan_task_number(other), false), 0);
+}
+
+static void complete_and_wait(struct worker *me, uint32_t place)
+{
+    EXPECT(sugwelan_complete(me->task, place), 0);
+    EXPECT(sugwelan_wait_for_completion(me->task, place, SUGWELAN_KILLABLE), 0);
+}
+
+static void wait_simply(struct worker *me, uint32_t condition)
+{
+    may_be_signalled(me, sugwelan_swait_event(me->task, condition, SUGWELAN_INTERRUPTIBLE));
+    EXPECT(sugwelan_take_condition(me->task, condition, NULL), 0);
+}
+
 /* One call, or two, of any kind. */
 static void call(struct worker *me)
 {
@@ -86,13 +114,22 @@ static void call(struct worker *me)
             give_page(me, word);
         break;
     case 4:
-        EXPECT(sugwelan_wait_on_bit(me->task, word, bit, SUGWELAN_INTERRUPTIBLE), 0);
+        may_be_signalled(me, sugwelan_wait_on_bit(me->task, word, bit, SUGWELAN_INTERRUPTIBLE));
         break;
     case 5:
         EXPECT(sugwelan_set_and_wake(me->task, word, 1, bit, NULL), 0);
         break;
     case 6:
         watch(me, word);
+        break;
+    case 7:
+        signal_one(me);
+        break;
+    case 8:
+        complete_and_wait(me, word);
+        break;
+    case 9:
+        wait_simply(me, SUGWELAN_FIRST_SIMPLE + word);
         break;
     default:
         wait_and_take(me, word);
@@ -115,6 +152,7 @@ static void tick(void)
         for (uint32_t place = 0; place < PLACES; place++) {
             EXPECT(sugwelan_set_and_wake(ticker, place, value, 0, NULL), 0);
             EXPECT(sugwelan_publish_var_and_wake(ticker, FIRST_VARIABLE + place, value, NULL), 0);
+            EXPECT(sugwelan_set_and_swake_all(ticker, SUGWELAN_FIRST_SIMPLE + place, value, NULL), 0);
         }
         nanosleep(&nap, NULL);
     }
@@ -140,13 +178,14 @@ int main(int count, char **words)
     for (int i = 0; i < WORKERS; i++) {
         workers[i].random = (uint64_t)i + 1;
         EXPECT(sugwelan_task_fork(ticker, 0, &workers[i].task), 0);
+    }
+    for (int i = 0; i < WORKERS; i++)
         EXPECT(pthread_create(&threads[i], NULL, work, &workers[i]), 0);
-    }
     tick();
-    for (int i = 0; i < WORKERS; i++) {
+    for (int i = 0; i < WORKERS; i++)
         EXPECT(pthread_join(threads[i], NULL), 0);
+    for (int i = 0; i < WORKERS; i++)
         EXPECT(sugwelan_task_free(workers[i].task), 0);
-    }
     for (uint32_t place = 0; place < PLACES; place++)
         check_tally(place);
     EXPECT(sugwelan_task_free(ticker), 0);

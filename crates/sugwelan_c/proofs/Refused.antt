@@ -1,5 +1,5 @@
 -- A fork that was refused answers an errno.
-use Rattle.std.proofs.Common.{◌≡◌, ℕ, ℤ, sym, subst}
+use Rattle.std.proofs.Common.{ℕ, ℤ, sym, subst}
 use Rattle.wq_checked.specs.Checked.{Checked}
 use Rattle.wq_checked.specs.declared.reasons.Refused.{Refused}
 use Rattle.wq_checked.specs.declared.reasons.Refused.TheVariants as reason

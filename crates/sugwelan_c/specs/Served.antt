@@ -1,7 +1,6 @@
 -- To be believed.
 -- What is done with a call, by the task's own call that it is.
 use Rattle.std.specs.Prelude.{◌≡◌, ◌<◌, ◌≤◌, ◌⊎◌, ℕ, ℤ, Bool, true, false, Option, Some, None, []}
-use Rattle.completion_cell.specs.declared.cell_turns.CellCall.{CellCall}
 use Rattle.wait_model.specs.declared.layout.TheConstants.{BIT_WORDS, CLAIMS, COMPLETIONS, FIRST_SIMPLE}
 use Rattle.wait_model.specs.declared.layout.TheConstants.{PLAIN_CONDITIONS, VARIABLES, WORD_BITS}
 use Rattle.wait_model.specs.declared.steps.Step.TheVariants as step

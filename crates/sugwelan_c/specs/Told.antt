@@ -1,6 +1,6 @@
 -- To be believed.
 -- What C is told of a reply: the code, the value, the walk, and whom to rouse.
-use Rattle.std.specs.Prelude.{◌≡◌, ◌<◌, ◌∷◌, [], ℕ, ℤ, Bool, true, false, Result, Ok, Err, List, length, nat_lt, slice_index, if◌then◌else◌}
+use Rattle.std.specs.Prelude.{◌≡◌, ◌<◌, ◌∷◌, [], ℕ, ℤ, Bool, true, false, Ok, Err, List, length, nat_lt, slice_index, if◌then◌else◌}
 use Rattle.bit_wait.specs.declared.wait_calls.BitEnd.{BitEnd}
 use Rattle.bit_wait.specs.declared.wait_calls.BitEnd.TheVariants as bit_end
 use Rattle.wait_event.specs.declared.wait_events.WaitEnd.{WaitEnd}

@@ -16,7 +16,7 @@ use Rattle.libc.specs.Heap.{chunk}
 use Rattle.sugwelan_c.specs.Blocks.{code_in, gives, owned, puts}
 use Rattle.sugwelan_c.specs.Handles.{IsFork, HasNoFork}
 use Rattle.wq_checked.specs.contracts.tasks.CheckedTask.{the_row as R}
-use Rattle.sugwelan_c.proofs.Made.{Made, made_laws, IsErrno, given}
+use Rattle.sugwelan_c.proofs.Made.{Made, made_laws, given}
 use Rattle.sugwelan_c.proofs.Refused.{fork_errno}
 use Rattle.sugwelan_c.specs.contracts.sugwelan_fork as f
 use Rattle.sugwelan_c.proofs.sugwelan_fork.Statement.{statement}

@@ -13,7 +13,7 @@ use Rattle.sugwelan_c.proofs.Walks.{walk_of, stay_dropped, Goes-dropped, ends_at
 use Rattle.std.proofs.Common.{ℤ, pos}
 use lib.Dec.{T}
 use base.Fml.{Incl-refl}
-use mir.Val.{of_z, vunit, has_ty, WT}
+use mir.Val.{of_z, has_ty, WT}
 use mir.Syntax.{ty_unit}
 use types.Run.{bin, branches, skips}
 use types.ByLocal.{lands_last}

@@ -10,7 +10,7 @@ use Rattle.sugwelan_c.proofs.Walks.{free_all, look_at, get, get_in, get_tag, thr
 use Rattle.sugwelan_c.proofs.Walks.{Is, shows, cell_at, Ptr, RawPtr, block_ptr, ptr_val, MutRef, MutBor, mut_vals}
 use Rattle.sugwelan_c.proofs.Walks.{plain, sint_Lawful, nothing, owning, opens, closes, peeks, only, Stays, walk_of}
 use Rattle.sugwelan_c.proofs.Walks.{stay_dropped, stay_ref, Goes-ref, ends_at}
-use Rattle.std.proofs.Common.{ℤ, pos, Ok, Err}
+use Rattle.std.proofs.Common.{pos, Ok, Err}
 use seplogic.Ra.Ura.{Ura}
 use contract.Running.{Running, MachineTables}
 use denote.Triple.Clauses.{Clauses}
@@ -21,10 +21,9 @@ use types.Logic.{Logic}
 use denote.Signed.{sint_Makes}
 use Rattle.std_heap.specs.contracts.GlobalAllocator.TheImpl.{ghosts}
 use Rattle.std_heap.proofs.Global.TheLaws.{the_row_laws as heap_laws}
-use Rattle.sugwelan_c.specs.Blocks.{owned, code_in}
 use Rattle.wq_checked.specs.contracts.tasks.CheckedTask.{the_row as R}
 use Rattle.sugwelan_c.proofs.BlockValues.{pair_of, apart}
-use Rattle.sugwelan_c.proofs.Made.{Held, Made}
+use Rattle.sugwelan_c.proofs.Made.{Made}
 use Rattle.std.proofs.alloc.Calls.{Goes-blank}
 use denote.Exit.{Last, left}
 use denote.Param.Mute.{blank}

@@ -136,7 +136,7 @@ static int begin(struct sugwelan_task *task)
 {
     if (!task)
         return -EBADF;
-    if (atomic_exchange(&task->busy, true))
+    if (atomic_exchange_explicit(&task->busy, true, memory_order_acquire))
         return -EALREADY;
     enter(task->bells);
     return 0;
@@ -145,7 +145,7 @@ static int begin(struct sugwelan_task *task)
 static void end(struct sugwelan_task *task)
 {
     leave(task->bells);
-    atomic_store(&task->busy, false);
+    atomic_store_explicit(&task->busy, false, memory_order_release);
 }
 
 /* Makes a call: 0 or a negative errno. `told` is as the last stretch left it. */

@@ -21,7 +21,9 @@ impl Sleeper {
     }
 }
 
+/// On a cache line of its own, so that bells of several processors are not in each other's way.
 #[derive(Default)]
+#[repr(align(64))]
 struct Bell {
     rung: AtomicBool,
     sleeper: Mutex<Option<Sleeper>>,

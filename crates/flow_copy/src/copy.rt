@@ -179,9 +179,9 @@ fn take_back<S, K, W>(domain: &Domain, task: &mut Task, parts: Parts<S, K, W>) -
     requires two { parts.tasks.1 ≡ newcomer domain.now 2 3 0 }
     requires three { parts.tasks.2 ≡ newcomer domain.now 3 4 0 }
     requires four { parts.tasks.3 ≡ newcomer domain.now 4 5 0 }
-    ensures source { result.source ≡ parts.entry.source }
-    ensures sink { result.sink ≡ parts.entry.sink }
-    ensures watch { result.watch ≡ parts.entry.watch }
+    ensures source { result.source ≡ parts.source }
+    ensures sink { result.sink ≡ parts.sink }
+    ensures watch { result.watch ≡ parts.watch }
     ensures idle { HasNoSteps domain.now task.new }
     ensures clean { IsClean task.new }
 {

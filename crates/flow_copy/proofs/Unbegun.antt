@@ -4,7 +4,6 @@ use Rattle.std.specs.Prelude.{ℕ, ◌≡◌, ◌-◌, List, []}
 use Rattle.atomic_table.specs.Seated.{TableId}
 use Rattle.wait_model.specs.declared.layout.TheConstants.{TASKS}
 use Rattle.wait_rule.specs.declared.journal.Item.{Item}
-use Rattle.wait_rule.specs.declared.journal.Journal.{Journal}
 use Rattle.wait_rule.specs.Journals.{fresh, has_of}
 use Rattle.wait_rule.specs.Known.{Known}
 use Rattle.wait_rule.specs.Says.{IsClean, newcomer, seen_with}

@@ -1,6 +1,6 @@
 -- To be believed.
 -- What becomes of a job that waits for a word.
-use Rattle.std.specs.Prelude.{ℕ, ◌≡◌, Result, Ok, Err}
+use Rattle.std.specs.Prelude.{◌≡◌, Result, Ok, Err}
 
 -- It was done, or it is handed back unchanged.
 abbrev pub Comes : (J D : Type 0) → (J → D → Type 0) → J → Result D J → Type 0

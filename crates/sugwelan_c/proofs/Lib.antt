@@ -1,0 +1,5 @@
+pub mod BlockValues
+pub mod Freed
+pub mod Made
+pub mod Refused
+pub mod Walks

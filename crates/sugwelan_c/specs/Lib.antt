@@ -1,0 +1,5 @@
+pub mod Asked
+pub mod Blocks
+pub mod Handles
+pub mod Served
+pub mod Told

@@ -1,0 +1,107 @@
+-- To be believed.
+-- What C is told of a reply: the code, the value, the walk, and whom to rouse.
+use Rattle.std.specs.Prelude.{◌≡◌, ◌<◌, ◌∷◌, [], ℕ, ℤ, Bool, true, false, Ok, Err, List, length, nat_lt, slice_index, if◌then◌else◌}
+use Rattle.bit_wait.specs.declared.wait_calls.BitEnd.{BitEnd}
+use Rattle.bit_wait.specs.declared.wait_calls.BitEnd.TheVariants as bit_end
+use Rattle.wait_event.specs.declared.wait_events.WaitEnd.{WaitEnd}
+use Rattle.wait_event.specs.declared.wait_events.WaitEnd.TheVariants as wait_end
+use Rattle.wait_model.specs.declared.queues.End.{End}
+use Rattle.wait_model.specs.declared.queues.End.TheVariants as end
+use Rattle.wait_model.specs.declared.queues.Walked.{Walked}
+use Rattle.wq_head.specs.Scanned.{unmade}
+use Rattle.wq_checked.specs.declared.calls.Answer.{Answer}
+use Rattle.wq_checked.specs.declared.calls.Answer.TheVariants as answer
+use Rattle.wq_checked.specs.declared.calls.Progress.{Progress}
+use Rattle.wq_checked.specs.declared.calls.Progress.TheVariants as progress
+use Rattle.wq_checked.specs.declared.reasons.Refused.{Refused}
+use Rattle.wq_checked.specs.declared.reasons.Refused.TheVariants as reason
+use Rattle.sugwelan_c.specs.declared.replies.Reply.{Reply}
+use Rattle.sugwelan_c.specs.declared.replies.Reply.TheVariants as reply
+use Rattle.sugwelan_c.specs.declared.replies.Told.{Told}
+use Rattle.sugwelan_c.specs.declared.replies.TheConstants.{AGAIN, DONE, EBADF, EBUSY, EINTR, EINVAL, ENOSPC, EPERM}
+use Rattle.sugwelan_c.specs.declared.replies.TheConstants.{LOCKED, PARK, ROOM}
+
+-- the codes
+abbrev pub refusal_code : Refused → ℤ
+refusal_code reason.OutOfRange = EINVAL
+refusal_code reason.NotListed = EINVAL
+refusal_code reason.Busy = EBUSY
+refusal_code reason.Nothing = EINVAL
+refusal_code reason.NotHeld = EPERM
+refusal_code reason.Held = EPERM
+refusal_code reason.Starved = EBADF
+
+abbrev pub wait_code : WaitEnd → ℤ
+wait_code (wait_end.Signal seen selected) = EINTR
+wait_code (wait_end.Worn head place) = ENOSPC
+
+abbrev pub bit_code : BitEnd → ℤ
+bit_code (bit_end.Interrupted seen) = EINTR
+bit_code (bit_end.Worn head place) = ENOSPC
+
+abbrev pub answer_code : Answer → ℤ
+answer_code (answer.Waited (Ok x)) = DONE
+answer_code (answer.Waited (Err e)) = wait_code e
+answer_code (answer.Changed (Ok v)) = DONE
+answer_code (answer.Changed (Err e)) = wait_code e
+answer_code (answer.Bit (Ok x)) = DONE
+answer_code (answer.Bit (Err e)) = bit_code e
+answer_code (answer.Walked w) = DONE
+answer_code (answer.Selected n) = DONE
+answer_code (answer.Cell b) = DONE
+
+abbrev pub progress_code : Progress → ℤ
+progress_code progress.Again = AGAIN
+progress_code progress.Locked = LOCKED
+progress_code progress.Park = PARK
+progress_code (progress.Done a) = answer_code a
+progress_code progress.Starved = EBADF
+
+abbrev pub code_of : Reply → ℤ
+code_of (reply.Refused e) = refusal_code e
+code_of (reply.On p) = progress_code p
+code_of (reply.Value v) = DONE
+code_of (reply.Rouse who) = DONE
+
+-- what is told beside the code: nothing but 0 where a call has no such answer
+abbrev pub truth : Bool → ℕ
+truth true = 1
+truth false = 0
+
+abbrev pub value_of : Reply → ℕ
+value_of (reply.On (progress.Done (answer.Changed (Ok v)))) = v
+value_of (reply.On (progress.Done (answer.Cell b))) = truth b
+value_of (reply.Value v) = v
+value_of _ = 0
+
+abbrev pub walk_of : Reply → Walked
+walk_of (reply.On (progress.Done (answer.Walked w))) = w
+walk_of (reply.On (progress.Done (answer.Selected n))) = record unmade { selected = n }
+walk_of _ = unmade
+
+-- whom to rouse: those whom an advance names, or one task
+abbrev pub roused_by : Reply → List ℕ → List ℕ
+roused_by (reply.Rouse who) ws = who ∷ []
+roused_by _ ws = ws
+
+abbrev pub end_number : End → ℕ
+end_number end.End = 0
+end_number end.Spent = 1
+end_number end.Stopped = 2
+
+-- how many of so many tasks there is room for
+abbrev pub shown : ℕ → ℕ
+shown n = if nat_lt n ROOM then n else ROOM
+
+-- the tasks in their order
+pub record Lists (ws : List ℕ) (n : ℕ) (rouse : List ℕ) : Type 0 where
+  pub count : n ≡ shown (length ws)
+  pub tasks : (i : ℕ) → i < n → slice_index rouse i ≡ slice_index ws i
+
+pub record Tells (r : Reply) (ws : List ℕ) (t : Told) : Type 0 where
+  pub value : t.value ≡ value_of r
+  pub woken : t.woken ≡ (walk_of r).woken
+  pub selected : t.selected ≡ (walk_of r).selected
+  pub holds : t.holds ≡ (walk_of r).holds
+  pub end : t.end ≡ end_number (walk_of r).end
+  pub rouse : Lists ws t.rouse_count t.rouse

@@ -1,0 +1,74 @@
+//! The library for C, and for whatever calls C: tasks by their addresses, and calls of which none waits. A call that is to
+//! wait, or to go on, says so, and goes on by the next advance.
+#![tactic(auto)]
+
+ghost use Rattle.std.specs.Borrow.{sem};
+ghost use Rattle.wq_checked.specs.Checked.{Checked};
+ghost use Rattle.sugwelan_c.specs.Blocks.{gives, holds, left, owned};
+ghost use Rattle.sugwelan_c.specs.Handles.{IsFork, IsNew, MayFree, HasNoFork, NoNew};
+ghost use Rattle.sugwelan_c.specs.Served.{Serves};
+
+pub mod addresses;
+pub mod blocks;
+pub mod calls;
+pub mod handles;
+pub mod replies;
+pub mod serving;
+
+use addresses::{put, take};
+use calls::Call;
+use handles::{begin, code_to_free, discard, fork};
+use replies::Told;
+use serving::serve;
+use std::alloc::Global;
+use wq_checked::CheckedTask;
+
+/// Makes a Domain and its first task, whose address it writes to `out`: 0, or -ENOMEM.
+#[unsafe(no_mangle)]
+pub extern "C" fn sugwelan_new(alloc: Global, out: &mut *mut u8) -> i32
+    ensures* { sem 𝓛 (gives IsNew NoNew result out.new out.old) }
+{
+    put(begin(alloc), out)
+}
+
+/// A call of the task at the address, which no other call uses meanwhile: a code, and `told` says the rest.
+#[unsafe(no_mangle)]
+pub unsafe extern "C" fn sugwelan_call(task: *mut u8, call: &Call, told: &mut Told) -> i32
+    ghost held: { Checked }
+    requires* { sem 𝓛 (owned task held) }
+    ensures* { sem 𝓛 (holds (λ now. Serves held now call.now told.new result) task) }
+{
+    serve(&mut *(task as *mut CheckedTask), call, told)
+}
+
+/// Makes a further task of the same Domain, with `share` of the numbers that are spare, and writes its address to `out`:
+/// 0, or why there is none.
+#[unsafe(no_mangle)]
+pub unsafe extern "C" fn sugwelan_fork(
+    alloc: Global,
+    task: *mut u8,
+    share: u32,
+    out: &mut *mut u8,
+) -> i32
+    ghost held: { Checked }
+    requires* { sem 𝓛 (owned task held) }
+    ensures* { ∃ₛ (λ (now : Checked). sem 𝓛 (owned task now)
+        ∗ sem 𝓛 (gives (IsFork held now share) (HasNoFork held now share) result out.new out.old)) }
+{
+    put(fork(alloc, &mut *(task as *mut CheckedTask), share), out)
+}
+
+/// Gives the task up and frees its block: 0, or why it may not.
+#[unsafe(no_mangle)]
+pub unsafe extern "C" fn sugwelan_free(alloc: Global, task: *mut u8) -> i32
+    ghost held: { Checked }
+    requires* { sem 𝓛 (owned task held) }
+    ensures code { MayFree held result }
+    ensures* left { sem 𝓛 (left result task held) }
+{
+    let code = code_to_free(&*(task as *const CheckedTask));
+    if code == 0 {
+        discard(take(alloc, task));
+    }
+    code
+}

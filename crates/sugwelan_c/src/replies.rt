@@ -1,0 +1,213 @@
+//! What C is told of a call: a code, and what the call answers.
+
+ghost use Rattle.std.specs.Prelude.{◌≡◌};
+ghost use Rattle.wq_head.specs.Roused.{tasks_in};
+ghost use Rattle.sugwelan_c.specs.Told.{Lists, Tells, answer_code, bit_code, code_of, end_number, progress_code};
+ghost use Rattle.sugwelan_c.specs.Told.{refusal_code, roused_by, value_of, wait_code, walk_of};
+
+use bit_wait::BitEnd;
+use wait_event::wait_events::WaitEnd;
+use wait_model::layout::MEMBERS;
+use wait_model::queues::{End, Walked};
+use wq_checked::{Answer, Progress, Refused};
+use wq_head::{Rousing, no_walk};
+
+/// The call is over.
+pub const DONE: i32 = 0;
+/// It goes on at once, by the next advance.
+pub const AGAIN: i32 = 1;
+/// It waits for a lock, and goes on a little later.
+pub const LOCKED: i32 = 2;
+/// The task was put asleep, and goes on once it was roused.
+pub const PARK: i32 = 3;
+/// The task does not keep the bit or page, or keeps the one for which it would wait.
+pub const EPERM: i32 = -1;
+/// A signal ended the wait.
+pub const EINTR: i32 = -4;
+/// The task makes no more calls.
+pub const EBADF: i32 = -9;
+/// There is no memory.
+pub const ENOMEM: i32 = -12;
+/// Another call of the task is under way.
+pub const EBUSY: i32 = -16;
+/// A number is out of its range, or a kind is none.
+pub const EINVAL: i32 = -22;
+/// No place in the queue is left, or no number is spare.
+pub const ENOSPC: i32 = -28;
+
+/// How many tasks a call names to be roused at most.
+pub const ROOM: usize = MEMBERS as usize;
+
+/// What a call tells beside its code: its value; of a wake, how many it woke, how many of them exclusively, in how many
+/// holds, and how it ended (0 at the end, 1 its count was spent, 2 a function stopped it); and the tasks that are to be
+/// roused.
+#[repr(C)]
+#[derive(Drop)]
+pub struct Told {
+    pub value: u64,
+    pub woken: u32,
+    pub selected: u32,
+    pub holds: u32,
+    pub end: u32,
+    pub rouse_count: u32,
+    pub rouse: [u8; ROOM],
+}
+
+/// What was done with a call: it was refused; it goes on so, or is over with an answer; it was over at once, with a
+/// value, or with a task that is to be roused.
+#[derive(Clone, Copy)]
+pub enum Reply {
+    Refused(Refused),
+    On(Progress),
+    Value(u64),
+    Rouse(u8),
+}
+
+pub fn refusal_code(reason: Refused) -> i32
+    ensures { result ≡ refusal_code reason }
+{
+    match reason {
+        Refused::OutOfRange => EINVAL,
+        Refused::NotListed => EINVAL,
+        Refused::Busy => EBUSY,
+        Refused::Nothing => EINVAL,
+        Refused::NotHeld => EPERM,
+        Refused::Held => EPERM,
+        Refused::Starved => EBADF,
+    }
+}
+
+fn wait_code(end: WaitEnd) -> i32
+    ensures { result ≡ wait_code end }
+{
+    match end {
+        WaitEnd::Signal { .. } => EINTR,
+        WaitEnd::Worn { .. } => ENOSPC,
+    }
+}
+
+fn bit_code(end: BitEnd) -> i32
+    ensures { result ≡ bit_code end }
+{
+    match end {
+        BitEnd::Interrupted { .. } => EINTR,
+        BitEnd::Worn { .. } => ENOSPC,
+    }
+}
+
+fn answer_code(answer: Answer) -> i32
+    ensures { result ≡ answer_code answer }
+{
+    match answer {
+        Answer::Waited(Ok(())) => DONE,
+        Answer::Waited(Err(end)) => wait_code(end),
+        Answer::Changed(Ok(_)) => DONE,
+        Answer::Changed(Err(end)) => wait_code(end),
+        Answer::Bit(Ok(())) => DONE,
+        Answer::Bit(Err(end)) => bit_code(end),
+        Answer::Walked(_) => DONE,
+        Answer::Selected(_) => DONE,
+        Answer::Cell(_) => DONE,
+    }
+}
+
+fn progress_code(told: Progress) -> i32
+    ensures { result ≡ progress_code told }
+{
+    match told {
+        Progress::Again => AGAIN,
+        Progress::Locked => LOCKED,
+        Progress::Park => PARK,
+        Progress::Done(answer) => answer_code(answer),
+        Progress::Starved => EBADF,
+    }
+}
+
+/// The code of a reply.
+pub fn code_of(reply: Reply) -> i32
+    ensures { result ≡ code_of reply }
+{
+    match reply {
+        Reply::Refused(reason) => refusal_code(reason),
+        Reply::On(told) => progress_code(told),
+        Reply::Value(_) => DONE,
+        Reply::Rouse(_) => DONE,
+    }
+}
+
+/// The value of a call that is over: of a wait for a variable, what its last load found; of a call about a completion,
+/// whether it was done.
+fn value_of(reply: Reply) -> u64
+    ensures { result ≡ value_of reply }
+{
+    match reply {
+        Reply::On(Progress::Done(Answer::Changed(Ok(seen)))) => seen,
+        Reply::On(Progress::Done(Answer::Cell(done))) => { if done { 1 } else { 0 } }
+        Reply::Value(value) => value,
+        _ => 0,
+    }
+}
+
+/// The walk of a wake that is over; of a wake of a simple queue, how many entries it took off.
+fn walk_of(reply: Reply) -> Walked
+    ensures { result ≡ walk_of reply }
+{
+    match reply {
+        Reply::On(Progress::Done(Answer::Walked(walked))) => walked,
+        Reply::On(Progress::Done(Answer::Selected(selected))) => Walked {
+            selected,
+            woken: 0,
+            holds: 0,
+            end: End::End,
+        },
+        _ => no_walk(),
+    }
+}
+
+fn end_number(end: End) -> u32
+    ensures { result ≡ end_number end }
+{
+    match end {
+        End::End => 0,
+        End::Spent => 1,
+        End::Stopped => 2,
+    }
+}
+
+/// Writes the tasks, and answers how many they are.
+fn list_tasks(tasks: &[u8], rouse: &mut [u8; ROOM]) -> u32
+    ensures { Lists tasks.now result rouse.new }
+{
+    let count = if tasks.len() < ROOM {
+        tasks.len()
+    } else {
+        ROOM
+    };
+    for i in 0..count {
+        rouse[i] = tasks[i];
+    }
+    count as u32
+}
+
+/// Writes what is told of a reply, and the tasks that are to be roused.
+fn tell_with(reply: Reply, tasks: &[u8], told: &mut Told)
+    ensures { Tells reply tasks.now told.new }
+{
+    let walk = walk_of(reply);
+    told.value = value_of(reply);
+    told.woken = walk.woken;
+    told.selected = walk.selected;
+    told.holds = walk.holds;
+    told.end = end_number(walk.end);
+    told.rouse_count = list_tasks(tasks, &mut told.rouse);
+}
+
+/// Writes what is told of a reply; `rousing` has the tasks that an advance is to rouse.
+pub fn tell(reply: Reply, rousing: &Rousing, told: &mut Told)
+    ensures { Tells reply (roused_by reply (tasks_in rousing.now)) told.new }
+{
+    match reply {
+        Reply::Rouse(who) => tell_with(reply, &[who], told),
+        _ => tell_with(reply, rousing.tasks(), told),
+    }
+}

@@ -1,0 +1,261 @@
+/* Wrong calls: each answers its code, and nothing has changed. */
+#include "../sugwelan.h"
+#include "expect.h"
+#include <string.h>
+
+enum { SET = 3, CLEAR = 4, WORD = 2, KEPT = 5, OTHER = 6, PAGE = 9, FREE_PAGE = 10, VARIABLE = 20, SIMPLE = 50, CELL = 6 };
+enum { VALUE = 7, OLD = 8, NEW = 9, AMOUNT = 3, NO_STATE = 3, NO_MODE = 2 };
+
+static struct sugwelan_task *task;
+
+/* The task keeps a bit and a page; a condition is set, a variable was changed. */
+static void arrange(void)
+{
+    EXPECT(sugwelan_set_and_wake(task, SET, VALUE, 0, NULL), 0);
+    EXPECT(sugwelan_publish_var_and_wake(task, VARIABLE, NEW, NULL), 0);
+    EXPECT(sugwelan_trylock_bit(task, WORD, KEPT), 1);
+    EXPECT(sugwelan_trylock_page(task, PAGE), 1);
+    EXPECT(sugwelan_add_tally(task, PAGE, AMOUNT, NULL), 0);
+}
+
+/* Looks whether all is as it was arranged. */
+static void is_as_before(void)
+{
+    uint64_t value = 0;
+    EXPECT(sugwelan_wait_event(task, SET, SUGWELAN_UNINTERRUPTIBLE), 0);
+    EXPECT(sugwelan_wait_var_event(task, VARIABLE, OLD, SUGWELAN_UNINTERRUPTIBLE, &value), 0);
+    EXPECT(value, NEW);
+    EXPECT(sugwelan_trylock_bit(task, WORD, KEPT), 0);
+    EXPECT(sugwelan_add_tally(task, PAGE, 0, &value), 0);
+    EXPECT(value, AMOUNT);
+    EXPECT(sugwelan_wait_on_bit(task, WORD, OTHER, SUGWELAN_UNINTERRUPTIBLE), 0);
+    EXPECT(sugwelan_take_condition(task, CLEAR, &value), 0);
+    EXPECT(value, 0);
+}
+
+/* Counts whether a call answers its code and has changed nothing. */
+#define REFUSED(call, code) \
+    do { \
+        EXPECT(call, code); \
+        is_as_before(); \
+    } while (0)
+
+static void conditions_out_of_range(void)
+{
+    uint64_t value;
+    REFUSED(sugwelan_wait_event(task, SUGWELAN_FIRST_SIMPLE, SUGWELAN_UNINTERRUPTIBLE), -EINVAL);
+    REFUSED(sugwelan_wait_event(task, UINT32_MAX, SUGWELAN_UNINTERRUPTIBLE), -EINVAL);
+    REFUSED(sugwelan_wait_event(task, SET + 256, SUGWELAN_UNINTERRUPTIBLE), -EINVAL);
+    REFUSED(sugwelan_wait_event(task, SET, (enum sugwelan_state)NO_STATE), -EINVAL);
+    REFUSED(sugwelan_wait_event_exclusive(task, SUGWELAN_CONDITIONS, SUGWELAN_UNINTERRUPTIBLE), -EINVAL);
+    REFUSED(sugwelan_wait_event_exclusive(task, SET, (enum sugwelan_state)NO_STATE), -EINVAL);
+    REFUSED(sugwelan_swait_event(task, SUGWELAN_FIRST_SIMPLE - 1, SUGWELAN_UNINTERRUPTIBLE), -EINVAL);
+    REFUSED(sugwelan_swait_event(task, SUGWELAN_CONDITIONS, SUGWELAN_UNINTERRUPTIBLE), -EINVAL);
+    REFUSED(sugwelan_swait_event(task, SIMPLE, SUGWELAN_KILLABLE), -EINVAL);
+    REFUSED(sugwelan_wake_up(task, SUGWELAN_FIRST_SIMPLE, SUGWELAN_WAKE_NORMAL, 0, NULL), -EINVAL);
+    REFUSED(sugwelan_wake_up(task, SET, (enum sugwelan_mode)NO_MODE, 0, NULL), -EINVAL);
+    REFUSED(sugwelan_set_and_wake(task, SUGWELAN_FIRST_SIMPLE, 1, 0, NULL), -EINVAL);
+    REFUSED(sugwelan_set_and_wake(task, CLEAR + 256, 1, 0, NULL), -EINVAL);
+    REFUSED(sugwelan_take_condition(task, SUGWELAN_CONDITIONS, &value), -EINVAL);
+    REFUSED(sugwelan_set_and_swake_one(task, SUGWELAN_FIRST_SIMPLE - 1, 1, NULL), -EINVAL);
+    REFUSED(sugwelan_set_and_swake_all(task, SUGWELAN_CONDITIONS, 1, NULL), -EINVAL);
+    REFUSED(sugwelan_swake_up_one(task, SUGWELAN_FIRST_SIMPLE - 1, NULL), -EINVAL);
+    REFUSED(sugwelan_swake_up_all(task, SUGWELAN_CONDITIONS, NULL), -EINVAL);
+}
+
+static void words_out_of_range(void)
+{
+    REFUSED(sugwelan_wait_var_event(task, SUGWELAN_VARIABLES, 0, SUGWELAN_UNINTERRUPTIBLE, NULL), -EINVAL);
+    REFUSED(sugwelan_wait_var_event(task, VARIABLE, OLD, (enum sugwelan_state)NO_STATE, NULL), -EINVAL);
+    REFUSED(sugwelan_publish_var_and_wake(task, SUGWELAN_VARIABLES, 1, NULL), -EINVAL);
+    REFUSED(sugwelan_publish_var_and_wake(task, SUGWELAN_FIRST_VARIABLE - 1, 1, NULL), -EINVAL);
+    REFUSED(sugwelan_publish_var_and_wake(task, VARIABLE + 256, 1, NULL), -EINVAL);
+    REFUSED(sugwelan_wait_on_bit(task, SUGWELAN_WORDS, OTHER, SUGWELAN_UNINTERRUPTIBLE), -EINVAL);
+    REFUSED(sugwelan_wait_on_bit(task, WORD, SUGWELAN_BITS, SUGWELAN_UNINTERRUPTIBLE), -EINVAL);
+    REFUSED(sugwelan_wait_on_bit(task, WORD, OTHER, (enum sugwelan_state)NO_STATE), -EINVAL);
+    REFUSED(sugwelan_wait_on_bit_lock(task, SUGWELAN_WORDS, OTHER, SUGWELAN_UNINTERRUPTIBLE), -EINVAL);
+    REFUSED(sugwelan_wait_on_bit_lock(task, WORD, SUGWELAN_BITS, SUGWELAN_UNINTERRUPTIBLE), -EINVAL);
+    REFUSED(sugwelan_wait_on_bit_lock(task, WORD, OTHER, (enum sugwelan_state)NO_STATE), -EINVAL);
+    REFUSED(sugwelan_trylock_bit(task, SUGWELAN_WORDS, OTHER), -EINVAL);
+    REFUSED(sugwelan_trylock_bit(task, WORD, SUGWELAN_BITS), -EINVAL);
+    REFUSED(sugwelan_trylock_bit(task, WORD, OTHER + 256), -EINVAL);
+    REFUSED(sugwelan_clear_and_wake_up_bit(task, SUGWELAN_WORDS, KEPT, NULL), -EINVAL);
+    REFUSED(sugwelan_clear_and_wake_up_bit(task, WORD, SUGWELAN_BITS, NULL), -EINVAL);
+    REFUSED(sugwelan_clear_and_wake_up_bit(task, WORD, KEPT + 256, NULL), -EINVAL);
+    REFUSED(sugwelan_lock_page(task, SUGWELAN_PAGES, SUGWELAN_UNINTERRUPTIBLE), -EINVAL);
+    REFUSED(sugwelan_lock_page(task, FREE_PAGE, (enum sugwelan_state)NO_STATE), -EINVAL);
+    REFUSED(sugwelan_trylock_page(task, SUGWELAN_PAGES), -EINVAL);
+    REFUSED(sugwelan_unlock_page(task, SUGWELAN_PAGES, NULL), -EINVAL);
+    REFUSED(sugwelan_unlock_page(task, PAGE + 256, NULL), -EINVAL);
+    REFUSED(sugwelan_add_tally(task, SUGWELAN_PAGES, 1, NULL), -EINVAL);
+}
+
+static void completions_out_of_range(void)
+{
+    REFUSED(sugwelan_wait_for_completion(task, SUGWELAN_COMPLETIONS, SUGWELAN_UNINTERRUPTIBLE), -EINVAL);
+    REFUSED(sugwelan_wait_for_completion(task, 0, (enum sugwelan_state)NO_STATE), -EINVAL);
+    REFUSED(sugwelan_complete(task, SUGWELAN_COMPLETIONS), -EINVAL);
+    REFUSED(sugwelan_complete_all(task, SUGWELAN_COMPLETIONS), -EINVAL);
+    REFUSED(sugwelan_reinit_completion(task, SUGWELAN_COMPLETIONS), -EINVAL);
+    REFUSED(sugwelan_try_wait_for_completion(task, SUGWELAN_COMPLETIONS), -EINVAL);
+    REFUSED(sugwelan_completion_done(task, SUGWELAN_COMPLETIONS), -EINVAL);
+    REFUSED(sugwelan_raise_signal(task, 256, 0), -EINVAL);
+}
+
+static void bits_of_others(void)
+{
+    REFUSED(sugwelan_clear_and_wake_up_bit(task, WORD, OTHER, NULL), -EPERM);
+    REFUSED(sugwelan_unlock_page(task, FREE_PAGE, NULL), -EPERM);
+    REFUSED(sugwelan_add_tally(task, FREE_PAGE, 1, NULL), -EPERM);
+    REFUSED(sugwelan_wait_on_bit(task, WORD, KEPT, SUGWELAN_UNINTERRUPTIBLE), -EPERM);
+    REFUSED(sugwelan_wait_on_bit_lock(task, WORD, KEPT, SUGWELAN_UNINTERRUPTIBLE), -EPERM);
+    REFUSED(sugwelan_lock_page(task, PAGE, SUGWELAN_UNINTERRUPTIBLE), -EPERM);
+    REFUSED(sugwelan_wait_on_bit(task, PAGE, 0, SUGWELAN_UNINTERRUPTIBLE), -EPERM);
+    REFUSED(sugwelan_task_free(task), -EPERM);
+}
+
+static void no_task(void)
+{
+    struct sugwelan_task *none = NULL;
+    EXPECT(sugwelan_task_fork(NULL, 0, &none), -EBADF);
+    EXPECT(none == NULL, 1);
+    EXPECT(sugwelan_task_free(NULL), -EBADF);
+    EXPECT(sugwelan_task_number(NULL), -EBADF);
+    EXPECT(sugwelan_wait_event(NULL, SET, SUGWELAN_UNINTERRUPTIBLE), -EBADF);
+    EXPECT(sugwelan_wake_up(NULL, SET, SUGWELAN_WAKE_NORMAL, 0, NULL), -EBADF);
+    EXPECT(sugwelan_take_condition(NULL, SET, NULL), -EBADF);
+    EXPECT(sugwelan_trylock_bit(NULL, WORD, KEPT), -EBADF);
+    EXPECT(sugwelan_unlock_page(NULL, PAGE, NULL), -EBADF);
+    EXPECT(sugwelan_complete(NULL, 0), -EBADF);
+    EXPECT(sugwelan_take_signal(NULL), -EBADF);
+}
+
+/* Each number is given out once. */
+static void numbers(void)
+{
+    struct sugwelan_task *half, *last = NULL, *none = NULL;
+    REFUSED(sugwelan_task_fork(task, 256, &none), -EINVAL);
+    REFUSED(sugwelan_task_fork(task, SUGWELAN_TASKS - 1, &none), -ENOSPC);
+    EXPECT(sugwelan_task_fork(task, SUGWELAN_TASKS - 3, &half), 0);
+    EXPECT(sugwelan_task_fork(task, 0, &last), 0);
+    EXPECT(sugwelan_task_number(half) != sugwelan_task_number(last), 1);
+    EXPECT(sugwelan_task_free(last), 0);
+    REFUSED(sugwelan_task_fork(task, 0, &none), -ENOSPC);
+    EXPECT(sugwelan_task_fork(half, 0, &last), 0);
+    EXPECT(sugwelan_trylock_bit(last, WORD, KEPT), 0);
+    EXPECT(sugwelan_clear_and_wake_up_bit(last, WORD, KEPT, NULL), -EPERM);
+    EXPECT(sugwelan_task_free(half), 0);
+    EXPECT(sugwelan_task_free(last), 0);
+    EXPECT(none == NULL, 1);
+}
+
+static struct sugwelan_told told;
+
+/* A call of the archive itself. */
+static int32_t raw(void *handle, uint32_t kind, uint32_t a, uint32_t b, uint32_t c)
+{
+    struct sugwelan_call call = {kind, a, b, c, VALUE};
+    return sugwelan_call(handle, &call, &told);
+}
+
+/* Goes on with a call until it is over or its task is asleep. */
+static int32_t go_on(void *handle)
+{
+    int32_t answer = SUGWELAN_AGAIN;
+    while (answer == SUGWELAN_AGAIN || answer == SUGWELAN_LOCKED)
+        answer = raw(handle, SUGWELAN_ADVANCE, 0, 0, 0);
+    return answer;
+}
+
+/* Calls that would begin, with good numbers, each. */
+static const struct sugwelan_call beginnings[] = {
+    {SUGWELAN_WAIT_EVENT, CLEAR, 0, 0, 0},
+    {SUGWELAN_SWAIT_EVENT, SIMPLE, 0, 0, 0},
+    {SUGWELAN_WAIT_VAR_EVENT, VARIABLE, 0, 0, 0},
+    {SUGWELAN_WAIT_ON_BIT, WORD, OTHER, 0, 0},
+    {SUGWELAN_WAIT_ON_BIT_LOCK, WORD, OTHER, 0, 0},
+    {SUGWELAN_LOCK_PAGE, FREE_PAGE, 0, 0, 0},
+    {SUGWELAN_WAIT_FOR_COMPLETION, CELL, 0, 0, 0},
+    {SUGWELAN_WAKE_UP, CLEAR, 0, 0, 0},
+    {SUGWELAN_SET_AND_WAKE, CLEAR, 0, 0, VALUE},
+    {SUGWELAN_PUBLISH_VAR_AND_WAKE, VARIABLE, 0, 0, VALUE},
+    {SUGWELAN_CLEAR_AND_WAKE_UP_BIT, WORD, KEPT, 0, 0},
+    {SUGWELAN_UNLOCK_PAGE, PAGE, 0, 0, 0},
+    {SUGWELAN_SWAKE_UP_ONE, SIMPLE, 0, 0, 0},
+    {SUGWELAN_SWAKE_UP_ALL, SIMPLE, 0, 0, 0},
+    {SUGWELAN_SET_AND_SWAKE, SIMPLE, 0, 0, VALUE},
+    {SUGWELAN_COMPLETE, CELL, 0, 0, 0},
+    {SUGWELAN_COMPLETE_ALL, CELL, 0, 0, 0},
+    {SUGWELAN_REINIT_COMPLETION, CELL, 0, 0, 0},
+    {SUGWELAN_TRY_WAIT_FOR_COMPLETION, CELL, 0, 0, 0},
+    {SUGWELAN_COMPLETION_DONE, CELL, 0, 0, 0},
+    {SUGWELAN_TRYLOCK_BIT, WORD, OTHER, 0, 0},
+    {SUGWELAN_TRYLOCK_PAGE, FREE_PAGE, 0, 0, 0},
+    {SUGWELAN_ADD_TALLY, PAGE, 0, 0, AMOUNT},
+    {SUGWELAN_TAKE_CONDITION, CLEAR, 0, 0, 0},
+    {SUGWELAN_RAISE_SIGNAL, 0, 0, 0, 0},
+    {SUGWELAN_TAKE_SIGNAL, 0, 0, 0, 0},
+};
+
+/* While a call is under way no other one begins, and the task is not given up. */
+static void under_way(void *sleeper)
+{
+    void *none = NULL;
+    for (size_t i = 0; i < sizeof beginnings / sizeof *beginnings; i++)
+        EXPECT(sugwelan_call(sleeper, &beginnings[i], &told), -EBUSY);
+    EXPECT(sugwelan_fork(sleeper, 0, &none), -EBUSY);
+    EXPECT(none == NULL, 1);
+    EXPECT(sugwelan_free(sleeper), -EBUSY);
+    EXPECT(raw(sleeper, SUGWELAN_NUMBER, 0, 0, 0), SUGWELAN_DONE);
+    EXPECT(told.value, 1);
+}
+
+static void handles(void)
+{
+    void *waker, *sleeper;
+    EXPECT(sugwelan_new(&waker), 0);
+    EXPECT(sugwelan_fork(waker, 0, &sleeper), 0);
+    EXPECT(raw(sleeper, SUGWELAN_ADVANCE, 0, 0, 0), -EINVAL);
+    EXPECT(raw(sleeper, UINT32_MAX, 0, 0, 0), -EINVAL);
+    EXPECT(raw(sleeper, SUGWELAN_WAIT_EVENT, CLEAR, 0, 2), -EINVAL);
+    EXPECT(raw(sleeper, SUGWELAN_TRYLOCK_BIT, WORD, KEPT, 0), SUGWELAN_DONE);
+    EXPECT(told.value, 1);
+    EXPECT(raw(sleeper, SUGWELAN_TRYLOCK_PAGE, PAGE, 0, 0), SUGWELAN_DONE);
+    EXPECT(raw(sleeper, SUGWELAN_WAIT_EVENT, SET, 0, 0), SUGWELAN_AGAIN);
+    under_way(sleeper);
+    EXPECT(go_on(sleeper), SUGWELAN_PARK);
+    under_way(sleeper);
+    EXPECT(go_on(sleeper), SUGWELAN_PARK);
+    EXPECT(raw(waker, SUGWELAN_SET_AND_WAKE, SET, 0, 0), SUGWELAN_AGAIN);
+    EXPECT(go_on(waker), SUGWELAN_DONE);
+    EXPECT(told.woken, 1);
+    EXPECT(told.rouse_count, 1);
+    EXPECT(told.rouse[0], 1);
+    EXPECT(go_on(sleeper), SUGWELAN_DONE);
+    EXPECT(sugwelan_free(sleeper), -EPERM);
+    EXPECT(raw(sleeper, SUGWELAN_CLEAR_AND_WAKE_UP_BIT, WORD, KEPT, 0) >= 0, 1);
+    EXPECT(go_on(sleeper) == -EINVAL || told.rouse_count == 0, 1);
+    EXPECT(raw(sleeper, SUGWELAN_UNLOCK_PAGE, PAGE, 0, 0) >= 0, 1);
+    EXPECT(go_on(sleeper) == -EINVAL || told.rouse_count == 0, 1);
+    EXPECT(sugwelan_free(sleeper), 0);
+    EXPECT(sugwelan_free(waker), 0);
+}
+
+int main(void)
+{
+    alarm(PATIENCE);
+    EXPECT(sugwelan_task_new(&task), 0);
+    arrange();
+    is_as_before();
+    conditions_out_of_range();
+    words_out_of_range();
+    completions_out_of_range();
+    bits_of_others();
+    no_task();
+    numbers();
+    EXPECT(sugwelan_clear_and_wake_up_bit(task, WORD, KEPT, NULL), 0);
+    EXPECT(sugwelan_unlock_page(task, PAGE, NULL), 0);
+    EXPECT(sugwelan_task_free(task), 0);
+    handles();
+    return finish("misuse");
+}

@@ -1,0 +1,140 @@
+//! The exports of the archive, and the numbers by which they speak.
+
+use std::ffi::c_void;
+
+/// How many tasks a Domain has.
+pub const TASKS: usize = 256;
+
+/// How many places there are for tasks that one call has roused.
+const ROUSED: usize = 768;
+
+/// The call is over.
+pub const DONE: i32 = 0;
+/// Advance at once.
+pub const AGAIN: i32 = 1;
+/// It waits for the lock of a queue: advance a little later.
+pub const LOCKED: i32 = 2;
+/// The task was put asleep: advance once it was roused.
+pub const PARK: i32 = 3;
+
+/// The kinds of calls.
+#[derive(Clone, Copy)]
+#[repr(u32)]
+pub enum Kind {
+    Advance = 0,
+    WaitEvent = 1,
+    SwaitEvent = 2,
+    WaitVarEvent = 3,
+    WaitOnBit = 4,
+    WaitOnBitLock = 5,
+    LockPage = 6,
+    WaitForCompletion = 7,
+    WakeUp = 10,
+    SetAndWake = 11,
+    PublishVarAndWake = 12,
+    ClearAndWakeUpBit = 13,
+    UnlockPage = 14,
+    SwakeUpOne = 15,
+    SwakeUpAll = 16,
+    SetAndSwake = 17,
+    Complete = 18,
+    CompleteAll = 19,
+    ReinitCompletion = 20,
+    TryWaitForCompletion = 21,
+    CompletionDone = 22,
+    TrylockBit = 30,
+    TrylockPage = 31,
+    AddTally = 32,
+    TakeCondition = 33,
+    Number = 34,
+    RaiseSignal = 35,
+    TakeSignal = 36,
+}
+
+/// A call: its kind and its numbers.
+#[derive(Clone, Copy)]
+#[repr(C)]
+pub struct Call {
+    kind: u32,
+    a: u32,
+    b: u32,
+    c: u32,
+    value: u64,
+}
+
+impl Call {
+    /// A call of a kind, all of whose numbers are 0.
+    pub fn new(kind: Kind) -> Call {
+        Call {
+            kind: kind as u32,
+            a: 0,
+            b: 0,
+            c: 0,
+            value: 0,
+        }
+    }
+
+    /// With its first number.
+    pub fn at(self, a: u8) -> Call {
+        Call { a: a.into(), ..self }
+    }
+
+    /// With its second number.
+    pub fn and(self, b: u32) -> Call {
+        Call { b, ..self }
+    }
+
+    /// With its third number.
+    pub fn with(self, c: u32) -> Call {
+        Call { c, ..self }
+    }
+
+    /// With its value.
+    pub fn value(self, value: u64) -> Call {
+        Call { value, ..self }
+    }
+}
+
+/// What a call told.
+#[repr(C)]
+pub struct Told {
+    pub value: u64,
+    pub woken: u32,
+    pub selected: u32,
+    pub holds: u32,
+    pub end: u32,
+    rouse_count: u32,
+    rouse: [u8; ROUSED],
+}
+
+impl Told {
+    /// Nothing.
+    pub fn new() -> Told {
+        Told {
+            value: 0,
+            woken: 0,
+            selected: 0,
+            holds: 0,
+            end: 0,
+            rouse_count: 0,
+            rouse: [0; ROUSED],
+        }
+    }
+
+    /// Forgets who was to be roused.
+    pub fn clear(&mut self) {
+        self.rouse_count = 0;
+    }
+
+    /// The tasks that are to be roused.
+    pub fn roused(&self) -> &[u8] {
+        &self.rouse[..self.rouse_count as usize]
+    }
+}
+
+unsafe extern "C" {
+    pub fn sugwelan_new(out: *mut *mut c_void) -> i32;
+    pub fn sugwelan_fork(task: *mut c_void, share: u32, out: *mut *mut c_void) -> i32;
+    pub fn sugwelan_call(task: *mut c_void, call: *const Call, told: *mut Told) -> i32;
+    pub fn sugwelan_free(task: *mut c_void) -> i32;
+}

@@ -1,0 +1,220 @@
+//! Threads that wait and wake, in rounds: none hangs, and none gets what it should not.
+
+mod rounds;
+
+use rounds::rounds;
+use std::cell::UnsafeCell;
+use std::thread;
+use sugwelan::{BitLock, Completion, Domain, Error, Page, Signal, State, Task};
+
+const WAITERS: usize = 4;
+const PLAIN: State = State::Uninterruptible;
+
+/// A Domain and some tasks of it.
+fn tasks(count: usize) -> (Domain, Vec<Task>) {
+    let domain = Domain::new().unwrap();
+    let tasks = (0..count).map(|_| domain.task().unwrap()).collect();
+    (domain, tasks)
+}
+
+/// Lets others come first by more or less.
+fn pause(round: u64) {
+    for i in 0..round % 8 * 2000 {
+        std::hint::black_box(i);
+    }
+}
+
+/// Waits for a condition, and takes it.
+fn claim(task: &mut Task, condition: u8) -> u64 {
+    loop {
+        task.wait_event_exclusive(condition, PLAIN).block().unwrap();
+        match task.take_condition(condition).unwrap() {
+            0 => {}
+            value => return value,
+        }
+    }
+}
+
+#[test]
+fn all_wait_for_one_condition() {
+    for round in 0..rounds() {
+        let (domain, mut tasks) = tasks(WAITERS);
+        let mut setter = domain.task().unwrap();
+        thread::scope(|scope| {
+            for task in &mut tasks {
+                scope.spawn(|| task.wait_event(0, PLAIN).block().unwrap());
+            }
+            pause(round);
+            assert!(setter.set_and_wake(0, 1, 0).unwrap().woken <= 4);
+        });
+    }
+}
+
+#[test]
+fn two_answer_each_other() {
+    let (_domain, mut tasks) = tasks(2);
+    let (one, other) = tasks.split_at_mut(1);
+    thread::scope(|scope| {
+        scope.spawn(|| {
+            for round in 1..=rounds() {
+                assert_eq!(claim(&mut one[0], 0), round);
+                one[0].set_and_wake(1, round, 1).unwrap();
+            }
+        });
+        for round in 1..=rounds() {
+            other[0].set_and_wake(0, round, 1).unwrap();
+            assert_eq!(claim(&mut other[0], 1), round);
+        }
+    });
+}
+
+/// A count that a lock guards.
+struct Count(UnsafeCell<u64>);
+
+// SAFETY: it is reached by who has the lock alone.
+unsafe impl Sync for Count {}
+
+impl Count {
+    /// Adds 1.
+    ///
+    /// # Safety
+    /// The caller has the lock.
+    unsafe fn add(&self) {
+        // SAFETY: as the caller says.
+        unsafe { *self.0.get() += 1 };
+    }
+}
+
+#[test]
+fn a_bit_guards_a_count() {
+    let (_domain, tasks) = tasks(WAITERS);
+    let count = Count(UnsafeCell::new(0));
+    let lock = BitLock::new(3, 17);
+    thread::scope(|scope| {
+        for mut task in tasks {
+            let count = &count;
+            scope.spawn(move || {
+                for _ in 0..rounds() {
+                    let _guard = lock.lock(&mut task, PLAIN).unwrap();
+                    // SAFETY: the guard is alive.
+                    unsafe { count.add() };
+                }
+            });
+        }
+    });
+    assert_eq!(count.0.into_inner(), rounds() * WAITERS as u64);
+}
+
+#[test]
+fn a_page_counts_its_locks() {
+    let (domain, tasks) = tasks(WAITERS);
+    let page = Page::new(9);
+    thread::scope(|scope| {
+        for mut task in tasks {
+            scope.spawn(move || {
+                for _ in 0..rounds() {
+                    page.lock(&mut task, PLAIN).unwrap().add(1).unwrap();
+                }
+            });
+        }
+    });
+    let mut task = domain.task().unwrap();
+    let mut guard = page.try_lock(&mut task).unwrap().unwrap();
+    assert_eq!(guard.add(0), Ok(rounds() * WAITERS as u64));
+    assert_eq!(guard.set_and_wake(0, 1, 0).unwrap().woken, 0);
+}
+
+#[test]
+fn a_variable_goes_up() {
+    let (domain, mut tasks) = tasks(WAITERS);
+    let mut setter = domain.task().unwrap();
+    let last = rounds();
+    thread::scope(|scope| {
+        for task in &mut tasks {
+            scope.spawn(|| {
+                let mut value = 0;
+                while value < last {
+                    let found = task.wait_var_event(20, value, PLAIN).block().unwrap();
+                    assert!(found > value);
+                    value = found;
+                }
+            });
+        }
+        for value in 1..=last {
+            setter.publish_var_and_wake(20, value).unwrap();
+        }
+    });
+}
+
+#[test]
+fn a_bit_is_waited_for() {
+    let (domain, mut tasks) = tasks(WAITERS);
+    let mut keeper = domain.task().unwrap();
+    for round in 0..rounds() {
+        assert_eq!(keeper.trylock_bit(5, 6), Ok(true));
+        thread::scope(|scope| {
+            for task in &mut tasks {
+                scope.spawn(|| task.wait_on_bit(5, 6, State::Killable).block().unwrap());
+            }
+            pause(round);
+            keeper.clear_and_wake_up_bit(5, 6).unwrap();
+        });
+    }
+}
+
+#[test]
+fn completions_hand_permits_on() {
+    let (domain, mut tasks) = tasks(WAITERS);
+    let mut giver = domain.task().unwrap();
+    let done = Completion::new(6);
+    for round in 0..rounds() {
+        thread::scope(|scope| {
+            for task in &mut tasks {
+                scope.spawn(|| done.wait(task, PLAIN).block().unwrap());
+            }
+            pause(round);
+            (0..WAITERS).for_each(|_| done.complete(&mut giver).unwrap());
+        });
+        assert_eq!(done.try_wait(&mut giver), Ok(false));
+    }
+    done.complete_all(&mut giver).unwrap();
+    assert_eq!(done.is_done(&mut giver), Ok(true));
+    done.reinit(&mut giver).unwrap();
+    assert_eq!(done.is_done(&mut giver), Ok(false));
+}
+
+#[test]
+fn simple_queues_wake_all() {
+    let (domain, mut tasks) = tasks(WAITERS);
+    let mut setter = domain.task().unwrap();
+    for round in 0..rounds() {
+        setter.take_condition(50).unwrap();
+        thread::scope(|scope| {
+            for task in &mut tasks {
+                scope.spawn(|| task.swait_event(50, PLAIN).block().unwrap());
+            }
+            pause(round);
+            assert!(setter.set_and_swake_all(50, 1).unwrap() <= 4);
+        });
+    }
+}
+
+#[test]
+fn signals_end_waits() {
+    let (domain, mut tasks) = tasks(WAITERS);
+    let numbers: Vec<u8> = tasks.iter().map(Task::number).collect();
+    for round in 0..rounds() {
+        thread::scope(|scope| {
+            for task in &mut tasks {
+                scope.spawn(|| {
+                    assert_eq!(task.wait_event(0, State::Interruptible).block(), Err(Error::Signal));
+                    assert_eq!(task.take_signal(), Ok(Some(Signal::Plain)));
+                });
+            }
+            pause(round);
+            for number in &numbers {
+                domain.raise_signal(*number, Signal::Plain).unwrap();
+            }
+        });
+    }
+}

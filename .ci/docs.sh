@@ -79,7 +79,7 @@ find_paths() {
         else
             fail "$page: there is no $path"
         fi
-    done < <(prose "$page" | grep -oE '`(crates|docs|examples|bench|\.ci)/[A-Za-z0-9_./-]+`' | tr -d '`' | grep -v NAME | sort -u)
+    done < <(prose "$page" | grep -oE '`(crates|docs|examples|bench|front|\.ci)/[A-Za-z0-9_./-]+`' | tr -d '`' | grep -v NAME | sort -u)
 }
 
 # Compares each block of code that is said to come from a file with that file.

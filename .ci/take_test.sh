@@ -153,7 +153,11 @@ END
     before=$(state)
     takes "a second taking" '' "$dest" upper lower
     holds "a second taking changes something" [ "$(state)" = "$before" ]
-    takes "one more crate" "other: taken,$note,crates.txt: written" "$dest" other
+    put "$dest/crates/SUGWELAN/new/lower/src/lib.rt" 'half of it'
+    takes "one more crate, after a run that was stopped" "other: taken,$note,crates.txt: written" "$dest" other
+    holds "what a stopped run left" [ ! -e "$dest/crates/SUGWELAN/new" ]
+    take --help
+    holds "the help" [ "$status,$(grep -c 'usage: front/take DEST CRATE' -- "$work/out")" = 0,1 ]
 }
 
 # What the other repository has of its own stays.

@@ -259,7 +259,7 @@ program() {
     mkdir -p -- "$mine/crates/hand_over/src"
     cp -- "$from/main.rt.txt" "$mine/crates/hand_over/src/main.rt"
     cp -- "$from/stdout" "$mine/crates/hand_over/stdout"
-    cat -- "$from/crates.txt" >>"$mine/crates.txt"
+    cat -- "$from/line.txt" >>"$mine/crates.txt"
     (cd -- "$mine" && rt ci) >"$work/log" 2>&1 </dev/null
     status=$?
     grep -oE 'done in this run: [^(]*' -- "$work/log"

@@ -4,16 +4,21 @@ use Rattle.std.specs.Prelude.{ℤ, pos, Result, Ok, Err}
 use Prim.Native.Nat.{zero}
 use base.Fml.{Fml, ftrue, feq, fex, fsep}
 use denote.RawPtr.{Ptr}
-use Rattle.libc.specs.Heap.{chunk}
+use mir.Syntax.{Ty}
 use Rattle.std_alloc.specs.Box.Ownership.{box_owns}
+use Rattle.std_heap.specs.contracts.GlobalAllocator.TheImpl.{ghosts}
 use Rattle.std_heap.specs.declared.Global.{Global}
 use Rattle.wq_checked.specs.Checked.{Checked}
 use Rattle.wq_checked.specs.contracts.tasks.CheckedTask.{the_row}
 use Rattle.sugwelan_c.specs.declared.blocks.Block.{Block}
 
+-- the right to free a block of the heap, which the allocator gives out with it
+abbrev pub freeing : Ty → Ptr → Fml
+freeing = ghosts.dealloc_token (record { memory = record { seal = tt } })
+
 -- Whoever has this may use the task at the address, and free its block.
 abbrev pub owned : Ptr → Checked → Fml
-owned p t = box_owns chunk the_row p t
+owned p t = box_owns freeing the_row p t
 
 -- at the address lies a task for which P holds
 abbrev pub holds : (Checked → Type 0) → Ptr → Fml

@@ -11,8 +11,7 @@ use Rattle.sugwelan_c.proofs.Walks.{mut_vals, mut_Tells, shr_vals, shr_Tells, pl
 use Rattle.sugwelan_c.proofs.Walks.{heard, calls_at, Lasts, lasts, triple_of, framed, Stays, walk_of, stay_dropped}
 use Rattle.sugwelan_c.proofs.Walks.{gave_ref, Goes-dropped, Goes-gave_ref, ends_at}
 use Rattle.std.proofs.Common.{ℤ}
-use Rattle.libc.specs.Heap.{chunk}
-use Rattle.sugwelan_c.specs.Blocks.{owned}
+use Rattle.sugwelan_c.specs.Blocks.{freeing, owned}
 use Rattle.sugwelan_c.specs.Served.{Serves}
 use Rattle.wq_checked.specs.contracts.tasks.CheckedTask.{the_row as R}
 use Rattle.sugwelan_c.specs.contracts.calls.Call.{the_row as CallRow}
@@ -49,7 +48,7 @@ sugwelan_call_spec 𝓤 𝓛 𝓜 𝓡 wired =
     ⊛ ‵ ((MutRef (named 1) μ ToldRow).own_val told refs.1.0) ⊛ ‵ ftrue) ∷ ‵ (owned a.0 n) ∷ []) ∵
     split ! $ split3 ! $ move ! (3 ∷ []) $ split3 ! $ move ! (2 ∷ []) $ split ! $ keep ! (7 ∷ 0 ∷ 3 ∷ 4 ∷ 5 ∷ []) $
     -- [what is held; told; call; two tokens]
-    in_a_block ! a.0 (λ p. owned p n) (fst∗ 𝓤 (never 𝓤) (sem 𝓛 (chunk (bare (lone R.mir)) null_ptr))) (λ b o e.
+    in_a_block ! a.0 (λ p. owned p n) (fst∗ 𝓤 (never 𝓤) (sem 𝓛 (freeing (bare (lone R.mir)) null_ptr))) (λ b o e.
     regoal ! (λ p. prop (WpFn 𝓤 𝓛.H 𝓣.C 𝓣.Λ code.function (rawptr_vals p ++ (refs.0 ++ (refs.1.0 ++ [])))
     (W.post (y p)))) e refl $
     fsplit ! $ enter ! _ _ _ _ _ $ alloc_all ! (λ l. pass_all ! refl ((tt, tt), ((tt, tt), ((tt, tt), tt))) $

@@ -12,8 +12,7 @@ use Rattle.sugwelan_c.proofs.Walks.{sint_Lawful, nothing, peeks, heard, calls_at
 use Rattle.sugwelan_c.proofs.Walks.{Stays, walk_of, stay_dropped, gave_ref, Goes-dropped, Goes-gave_ref, ends_at}
 use Rattle.std.proofs.Common.{ℤ}
 use Rattle.std.specs.Prelude.{MatchResult}
-use Rattle.libc.specs.Heap.{chunk}
-use Rattle.sugwelan_c.specs.Blocks.{code_in, gives, owned, puts}
+use Rattle.sugwelan_c.specs.Blocks.{freeing, code_in, gives, owned, puts}
 use Rattle.sugwelan_c.specs.Handles.{IsFork, HasNoFork}
 use Rattle.wq_checked.specs.contracts.tasks.CheckedTask.{the_row as R}
 use Rattle.sugwelan_c.proofs.Made.{Made, made_laws, given}
@@ -56,7 +55,7 @@ sugwelan_fork_spec 𝓤 𝓛 𝓜 𝓡 wired =
     ⊛ ‵ ((MutRef (named 0) κ RawPtr).own_val out nums.1.0) ⊛ ‵ ftrue) ∷ ‵ (owned a.1.0 n) ∷ []) ∵
     split ! $ split ! $ move ! (2 ∷ []) $ split3 ! $ move ! (2 ∷ []) $ split3 ! $ keep ! (7 ∷ 3 ∷ 0 ∷ 1 ∷ 5 ∷ []) $
     -- [what is held; the allocator; the share; out; the token]
-    in_a_block ! a.1.0 (λ p. owned p n) (fst∗ 𝓤 (never 𝓤) (sem 𝓛 (chunk (bare (lone R.mir)) null_ptr))) (λ b o e.
+    in_a_block ! a.1.0 (λ p. owned p n) (fst∗ 𝓤 (never 𝓤) (sem 𝓛 (freeing (bare (lone R.mir)) null_ptr))) (λ b o e.
     regoal ! (λ p. prop (WpFn 𝓤 𝓛.H 𝓣.C 𝓣.Λ code.function
     (heap_val ∷ (rawptr_vals p ++ (nums.0 ++ (nums.1.0 ++ [])))) (W.post (y p)))) e refl $
     fsplit ! $ enter ! _ _ _ _ _ $ alloc_all ! (λ l.

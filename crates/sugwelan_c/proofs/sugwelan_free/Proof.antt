@@ -21,8 +21,7 @@ use types.Tokens.{lent_back}
 use denote.Builtin.{unit}
 use denote.Lend.{lends_shr}
 use denote.Triple.Call.{calls_at_last}
-use Rattle.libc.specs.Heap.{chunk}
-use Rattle.sugwelan_c.specs.Blocks.{left, owned}
+use Rattle.sugwelan_c.specs.Blocks.{freeing, left, owned}
 use Rattle.sugwelan_c.specs.Handles.{MayFree}
 use Rattle.wq_checked.specs.contracts.tasks.CheckedTask.{the_row as R}
 use Rattle.wq_checked.proofs.tasks.CheckedTask.TheLaws as task
@@ -57,7 +56,7 @@ sugwelan_free_spec 𝓤 𝓛 𝓜 𝓡 wired =
     qed 𝓛 ((‵ ftrue ⊛ ‵ (heap_row.own_val a.0 (heap_val ∷ [])) ⊛ ‵ (RawPtr.own_val a.1.0 (rawptr_vals a.1.0)) ⊛ ‵ ftrue)
     ∷ ‵ (owned a.1.0 n) ∷ []) ∵
     split ! $ drop ! $ split ! $ keep ! (2 ∷ 0 ∷ []) $
-    in_a_block ! a.1.0 (λ p. owned p n) (fst∗ 𝓤 (never 𝓤) (sem 𝓛 (chunk (bare (lone R.mir)) null_ptr))) (λ b o e.
+    in_a_block ! a.1.0 (λ p. owned p n) (fst∗ 𝓤 (never 𝓤) (sem 𝓛 (freeing (bare (lone R.mir)) null_ptr))) (λ b o e.
     regoal ! (λ p. prop (WpFn 𝓤 𝓛.H 𝓣.C 𝓣.Λ code.function (heap_val ∷ (rawptr_vals p ++ [])) (W.post (y p)))) e refl $
     fsplit ! $ enter ! _ _ _ _ _ $ alloc_all ! (λ l. pass_all ! refl ((tt, ((tt, tt), tt)), ((tt, tt), tt)) $
     let E = env code.Mir.locals l in

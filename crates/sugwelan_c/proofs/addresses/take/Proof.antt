@@ -7,8 +7,7 @@ use Rattle.sugwelan_c.proofs.Walks.{block_ptr, null_ptr, in_a_block, rawptr_vals
 use Rattle.sugwelan_c.proofs.Walks.{Stays, walk_of, stay_dropped, Goes-dropped, ends_at}
 use Rattle.std_heap.specs.contracts.GlobalAllocator.TheImpl.{ghosts}
 use Rattle.std_heap.proofs.Global.TheLaws.{the_row_laws as heap_laws}
-use Rattle.libc.specs.Heap.{chunk}
-use Rattle.sugwelan_c.specs.Blocks.{owned}
+use Rattle.sugwelan_c.specs.Blocks.{freeing, owned}
 use Rattle.wq_checked.specs.contracts.tasks.CheckedTask.{the_row as R}
 use Rattle.sugwelan_c.proofs.BlockValues.{pair_of, together}
 use Rattle.sugwelan_c.specs.contracts.addresses.take as f
@@ -32,7 +31,7 @@ take_spec 𝓤 𝓛 𝓜 𝓡 wired =
     qed 𝓛 ((‵ ftrue ⊛ ‵ (heap_row.own_val a.0 (heap_val ∷ [])) ⊛ ‵ (RawPtr.own_val a.1.0 (rawptr_vals a.1.0)) ⊛ ‵ ftrue)
     ∷ ‵ (owned a.1.0 n) ∷ []) ∵
     split ! $ drop ! $ split ! $ move ! (2 ∷ 0 ∷ []) $
-    in_a_block ! a.1.0 (λ p. owned p n) (fst∗ 𝓤 (never 𝓤) (sem 𝓛 (chunk (bare (lone R.mir)) null_ptr))) (λ b o e.
+    in_a_block ! a.1.0 (λ p. owned p n) (fst∗ 𝓤 (never 𝓤) (sem 𝓛 (freeing (bare (lone R.mir)) null_ptr))) (λ b o e.
     regoal ! (λ p. prop (WpFn 𝓤 𝓛.H 𝓣.C 𝓣.Λ code.function (heap_val ∷ rawptr_vals p) (W.post (y p)))) e refl $
     enter ! _ _ _ _ _ $ alloc_all ! (λ l. pass_all ! refl ((tt, ((tt, tt), tt)), ((tt, tt), tt)) $
     -- [what is at the address; the allocator; the pointer's nothing; the locals]

@@ -1,13 +1,13 @@
 #!/usr/bin/env bash
 # Copies a file of 20,000 bytes with each allocation of the program, and each start of a thread, failing in turn, until
-# a copy had none left to fail.
+# a copy had none left to fail: to a new name, and over an old file.
 #
 # usage: bench/fail_each_copy.sh [PROGRAM]        (what `rt run` built in crates/waitq if none is given)
 #
-# A copy may end with status 7, out of memory, or with status 0 and its text, where what failed was not needed. With
-# status 0 the file of the second name has just the bytes of the first one; with status 7 there is none, or it has just
-# those bytes. Anything else fails, and so does a copy that takes more than 20 seconds, and a file that is left beside
-# the two. It needs a C compiler, for a library that is loaded before C's; status 77 says that there is none.
+# A copy may end with status 7, out of memory, and then what was under the second name is there; or with status 0 and
+# its text, where what failed was not needed, and then the file of that name has just the bytes of the first one.
+# Anything else fails, and so does a copy that takes more than 20 seconds, and a file that is left beside the two. It
+# needs a C compiler, for a library that is loaded before C's; status 77 says that there is none.
 set -u
 
 root=$(cd "$(dirname "$(readlink -f "${BASH_SOURCE[0]}")")/.." && pwd)
@@ -72,35 +72,55 @@ done >"$work/files/a"
 printf 'copied 20000 bytes\nmoved 60000\nwatch 0 20000\nwatch 1 250\nsignals 0\n' >"$work/expected"
 printf 'waitq: out of memory\n' >"$work/line"
 
+printf 'before\n' >"$work/before"
+
 fail() {
-    echo "fail_each_copy.sh: call $number: $1" >&2
+    echo "fail_each_copy.sh: call $number, $over: $1" >&2
     head -n 5 "$work/said" >&2
     exit 1
 }
 
-number=0
-wanting=0
-while :; do
-    number=$((number + 1))
+# Whether the file b is as it was.
+is_as_before() {
+    if [ "$over" = "a new name" ]; then
+        [ ! -e "$work/files/b" ]
+    else
+        cmp -s "$work/before" "$work/files/b"
+    fi
+}
+
+# Copies with the call of this number failing, and looks at what the copy wrote, said and left.
+copy() {
     rm -f "$work/files/b" "$work/failed"
-    FAILING=$number FAILED=$work/failed LD_PRELOAD=$work/failing.so \
-        timeout 20 "$program" copy "$work/files/a" "$work/files/b" >"$work/text" 2>"$work/said"
+    [ "$over" = "a new name" ] || cp "$work/before" "$work/files/b"
+    timeout 20 env FAILING="$number" FAILED="$work/failed" LD_PRELOAD="$work/failing.so" \
+        "$program" copy "$work/files/a" "$work/files/b" >"$work/text" 2>"$work/said"
     status=$?
     [ "$status" != 124 ] || fail "the copy did not end in 20 seconds"
     [ -z "$(find "$work/files" -name '*.part*')" ] || fail "a file is left beside b"
-    [ ! -e "$work/files/b" ] || cmp -s "$work/files/a" "$work/files/b" || fail "status $status, and b is something else"
     case $status in
     7)
         wanting=$((wanting + 1))
-        cmp -s "$work/said" "$work/line" || [ ! -s "$work/said" ] || fail "status 7, and another line"
+        is_as_before || fail "status 7, and b is not as it was"
+        [ ! -s "$work/text" ] || fail "status 7, and there is a text"
+        cmp -s "$work/said" "$work/line" || fail "status 7, and another line"
         ;;
     0)
         cmp -s "$work/text" "$work/expected" || fail "status 0, and the text isn't that of the copy"
-        [ -e "$work/files/b" ] || fail "status 0, and no b"
+        cmp -s "$work/files/a" "$work/files/b" || fail "status 0, and b isn't a"
         ;;
     *) fail "status $status" ;;
     esac
-    [ -e "$work/failed" ] || break
+}
+
+for over in "a new name" "an old file"; do
+    number=0
+    wanting=0
+    while :; do
+        number=$((number + 1))
+        copy
+        [ -e "$work/failed" ] || break
+    done
+    echo "to $over: $((number - 1)) calls failed in turn, $wanting copies were out of memory, the others whole"
+    [ "$wanting" -gt 3 ] || exit 1
 done
-echo "$((number - 1)) calls failed in turn: $wanting copies out of memory, the others whole"
-[ "$wanting" -gt 3 ]

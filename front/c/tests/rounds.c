@@ -4,7 +4,7 @@
 #include "expect.h"
 #include <pthread.h>
 
-enum { WAITERS = 4, ROUNDS = 1000, SPIN = 2000, PACES = 8, CROWD = 120, CROWDS = 20 };
+enum { WAITERS = 4, ROUNDS = 1000, SPIN = 2000, PACES = 8, CROWD = 120, CROWD_EACH = 50 };
 enum { GATE = 0, PING = 1, PONG = 2, WORK = 3, TAKEN = 4, SIMPLE = 50 };
 enum { WORD = 7, BIT = 13, PAGE = 9, VARIABLE = 20, CELL = 6 };
 
@@ -73,7 +73,7 @@ static void gates(void)
     }
 }
 
-/* So many waiters that a wake of all gives the queue back in between. */
+/* So many waiters that a wake of all gives the queue back in between; in one round of fifty. */
 static void crowds(void)
 {
     static struct sugwelan_task *crowd[CROWD];
@@ -82,7 +82,7 @@ static void crowds(void)
     EXPECT(sugwelan_task_new(&setter), 0);
     for (int i = 0; i < CROWD; i++)
         EXPECT(sugwelan_task_fork(setter, 0, &crowd[i]), 0);
-    for (long round = 0; round < CROWDS; round++) {
+    for (long round = 0; round <= rounds / CROWD_EACH; round++) {
         for (int i = 0; i < CROWD; i++)
             EXPECT(pthread_create(&threads[i], NULL, waits_at_gate, crowd[i]), 0);
         pause_for(round * PACES / 2);

@@ -1,6 +1,6 @@
 -- To be believed.
 -- What is done with a call, by the task's own call that it is.
-use Rattle.std.specs.Prelude.{◌≡◌, ◌<◌, ◌≤◌, ◌⊎◌, ℕ, ℤ, Bool, true, false, Option, Some, None, []}
+use Rattle.std.specs.Prelude.{◌≡◌, ◌<◌, ◌≤◌, ◌⊎◌, ℕ, ℤ, Bool, true, false, List, Option, Some, None, []}
 use Rattle.wait_model.specs.declared.layout.TheConstants.{BIT_WORDS, CLAIMS, COMPLETIONS, FIRST_SIMPLE}
 use Rattle.wait_model.specs.declared.layout.TheConstants.{PLAIN_CONDITIONS, VARIABLES, WORD_BITS}
 use Rattle.wait_model.specs.declared.steps.Step.TheVariants as step
@@ -234,13 +234,25 @@ pub record IsAsked (c : Call) (w : Option Wanted) : Type 0 where
   pub numbered : HasKind c.kind kind
   pub is : w ≡ and_then kind (λ k. asks k c)
 
--- A call was served: it was asked for this, was replied so, and that is told.
+-- Where a call goes on at once and names nobody, it may have been advanced further: as by calls of their own, of which
+-- each but the last one goes on at once and names nobody.
+pub data Further (k : Checked) (r : Reply) (ws : List ℕ) : Checked → Reply → List ℕ → Type 0 where
+  stays : Further k r ws k r ws
+  goes : (between m : Checked) (q : Reply) (named : Rousing)
+      → Further k r ws between (reply.On progress.Again) [] → Replies (Some wanted.Advance) between m q
+      → Names (Some wanted.Advance) between m q named → Further k r ws m q (tasks_in named)
+
+-- A call was served: it was asked for this, was replied so, was advanced further, and that is told.
 pub record Serves (k m : Checked) (c : Call) (t : Told) (code : ℤ) : Type 0 where
   pub want : Option Wanted
   pub asked : IsAsked c want
+  pub between : Checked
+  pub first : Reply
+  pub replies : Replies want k between first
+  pub named : Rousing
+  pub names : Names want k between first named
   pub reply : Reply
-  pub replies : Replies want k m reply
   pub rousing : Rousing
-  pub names : Names want k m reply rousing
+  pub further : Further between first (tasks_in named) m reply (tasks_in rousing)
   pub tells : Tells reply (roused_by reply (tasks_in rousing)) t
   pub code_is : code ≡ code_of reply

@@ -1,13 +1,15 @@
 //! A task's calls, as C asks for them.
 
-ghost use Rattle.std.specs.Prelude.{◌≡◌, None, Some, []};
+ghost use Rattle.std.specs.Prelude.{◌≡◌, true, None, Some, []};
 ghost use Rattle.wq_head.specs.Roused.{tasks_in};
-ghost use Rattle.sugwelan_c.specs.Served.{IsAsked, Names, Replies, Serves};
+ghost use Rattle.sugwelan_c.specs.Served.{Further, IsAsked, Names, Replies, Serves};
+ghost use Rattle.wq_checked.specs.declared.calls.Progress.TheVariants as progress;
 ghost use Rattle.sugwelan_c.specs.declared.calls.AtOnce.TheVariants as at_once;
 ghost use Rattle.sugwelan_c.specs.declared.calls.Simple.TheVariants as simple;
 ghost use Rattle.sugwelan_c.specs.declared.calls.Waiting.TheVariants as waiting;
 ghost use Rattle.sugwelan_c.specs.declared.calls.Waking.TheVariants as waking;
 ghost use Rattle.sugwelan_c.specs.declared.calls.Wanted.TheVariants as wanted;
+ghost use Rattle.sugwelan_c.specs.declared.replies.Reply.TheVariants as answered;
 
 use crate::calls::{AtOnce, Call, Simple, Waiting, Waking, Wanted, kind_of, wanted_of};
 use crate::replies::{Reply, Told, code_of, tell};
@@ -17,6 +19,9 @@ use wait_model::watches::Mode;
 use wq_checked::signals::Raised;
 use wq_checked::{CheckedTask, Progress, Refused};
 use wq_head::Rousing;
+
+/// How many stretches one call goes on beyond its first: more than a wait has before its task is asleep, and after it.
+const FURTHER: u8 = 16;
 
 /// What a call asks for: None where it is no call.
 fn asked(call: &Call) -> Option<Wanted>
@@ -304,13 +309,38 @@ fn reply_to(task: &mut CheckedTask, want: Option<Wanted>, rousing: &mut Rousing)
     }
 }
 
+/// Whether a call goes on at once and has named nobody.
+fn may_go_on(reply: Reply, rousing: &Rousing) -> bool
+    ensures { result ≡ true → (reply ≡ answered.On progress.Again) × (tasks_in rousing.now ≡ []) }
+{
+    match reply {
+        Reply::On(Progress::Again) => rousing.tasks().is_empty(),
+        _ => false,
+    }
+}
+
+/// Goes on with a call, so long as it does so at once and names nobody: by `FURTHER` stretches at most.
+fn go_further(task: &mut CheckedTask, first: Reply, rousing: &mut Rousing) -> Reply
+    ensures { Further task.old first (tasks_in rousing.old) task.new result (tasks_in rousing.new) }
+{
+    let mut reply = first;
+    for _stretch in 0..FURTHER {
+        if !may_go_on(reply, rousing) {
+            return reply;
+        }
+        reply = go_on(task, rousing);
+    }
+    reply
+}
+
 /// Serves a call of a task: the answer is a code, and `told` says the rest.
 pub fn serve(task: &mut CheckedTask, call: &Call, told: &mut Told) -> i32
     ensures { Serves task.old task.new call.now told.new result }
 {
     let want = asked(call);
     let mut rousing = Rousing::new();
-    let reply = reply_to(task, want, &mut rousing);
+    let first = reply_to(task, want, &mut rousing);
+    let reply = go_further(task, first, &mut rousing);
     tell(reply, &rousing, told);
     code_of(reply)
 }

@@ -158,10 +158,10 @@ static int32_t raw(void *handle, uint32_t kind, uint32_t a, uint32_t b, uint32_t
     return sugwelan_call(handle, &call, &told);
 }
 
-/* Goes on with a call until it is over or its task is asleep. */
-static int32_t go_on(void *handle)
+/* Makes a call of the archive until it is over or its task is asleep. */
+static int32_t go(void *handle, uint32_t kind, uint32_t a, uint32_t b, uint32_t c)
 {
-    int32_t answer = SUGWELAN_AGAIN;
+    int32_t answer = raw(handle, kind, a, b, c);
     while (answer == SUGWELAN_AGAIN || answer == SUGWELAN_LOCKED)
         answer = raw(handle, SUGWELAN_ADVANCE, 0, 0, 0);
     return answer;
@@ -221,22 +221,20 @@ static void handles(void)
     EXPECT(raw(sleeper, SUGWELAN_TRYLOCK_BIT, WORD, KEPT, 0), SUGWELAN_DONE);
     EXPECT(told.value, 1);
     EXPECT(raw(sleeper, SUGWELAN_TRYLOCK_PAGE, PAGE, 0, 0), SUGWELAN_DONE);
-    EXPECT(raw(sleeper, SUGWELAN_WAIT_EVENT, SET, 0, 0), SUGWELAN_AGAIN);
+    EXPECT(go(sleeper, SUGWELAN_WAIT_EVENT, SET, 0, 0), SUGWELAN_PARK);
     under_way(sleeper);
-    EXPECT(go_on(sleeper), SUGWELAN_PARK);
+    EXPECT(go(sleeper, SUGWELAN_ADVANCE, 0, 0, 0), SUGWELAN_PARK);
     under_way(sleeper);
-    EXPECT(go_on(sleeper), SUGWELAN_PARK);
-    EXPECT(raw(waker, SUGWELAN_SET_AND_WAKE, SET, 0, 0), SUGWELAN_AGAIN);
-    EXPECT(go_on(waker), SUGWELAN_DONE);
+    EXPECT(go(waker, SUGWELAN_SET_AND_WAKE, SET, 0, 0), SUGWELAN_DONE);
     EXPECT(told.woken, 1);
     EXPECT(told.rouse_count, 1);
     EXPECT(told.rouse[0], 1);
-    EXPECT(go_on(sleeper), SUGWELAN_DONE);
+    EXPECT(go(sleeper, SUGWELAN_ADVANCE, 0, 0, 0), SUGWELAN_DONE);
     EXPECT(sugwelan_free(sleeper), -EPERM);
-    EXPECT(raw(sleeper, SUGWELAN_CLEAR_AND_WAKE_UP_BIT, WORD, KEPT, 0) >= 0, 1);
-    EXPECT(go_on(sleeper) == -EINVAL || told.rouse_count == 0, 1);
-    EXPECT(raw(sleeper, SUGWELAN_UNLOCK_PAGE, PAGE, 0, 0) >= 0, 1);
-    EXPECT(go_on(sleeper) == -EINVAL || told.rouse_count == 0, 1);
+    EXPECT(go(sleeper, SUGWELAN_CLEAR_AND_WAKE_UP_BIT, WORD, KEPT, 0), SUGWELAN_DONE);
+    EXPECT(told.rouse_count, 0);
+    EXPECT(go(sleeper, SUGWELAN_UNLOCK_PAGE, PAGE, 0, 0), SUGWELAN_DONE);
+    EXPECT(told.rouse_count, 0);
     EXPECT(sugwelan_free(sleeper), 0);
     EXPECT(sugwelan_free(waker), 0);
 }

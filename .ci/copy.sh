@@ -385,6 +385,16 @@ planned() {
     done
 }
 
+# Each allocation, and each start of a thread, failing in turn.
+allocations() {
+    "$root/bench/fail_each_copy.sh" "$PWD/waitq" >"$work/out" 2>"$work/said"
+    case $? in
+    0) pass ;;
+    77) printf 'not tried: failing allocations, since there is no C compiler\n' ;;
+    *) fail "$(head -n 1 -- "$work/said")" ;;
+    esac
+}
+
 # Tries all cases on a program, in a folder of its own.
 check() {
     rm -rf -- "$work/here"
@@ -407,6 +417,7 @@ check() {
     stopped
     at_once
     planned
+    allocations
     cd -- "$root" || exit 1
 }
 

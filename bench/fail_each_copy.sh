@@ -1,57 +1,126 @@
 #!/usr/bin/env bash
-# Copies a file of 20,000 bytes with each allocation of the program failing in turn, until one copy comes to its end.
+# Copies a file of 20,000 bytes with each allocation of the program, and each start of a thread, failing in turn, until
+# a copy had none left to fail: to a new name, and over an old file.
 #
-# usage: bench/fail_each_copy.sh [FIRST]        (from the first allocation on if it isn't given)
+# usage: bench/fail_each_copy.sh [PROGRAM]        (what `rt run` built in crates/waitq if none is given)
 #
-# A copy may end with status 7, out of memory; then there is no file of the second name, or one whose bytes are a front
-# of the first one's. Or it ends with status 0, its text, and just those bytes, which ends the loop. Anything else fails,
-# and so does a file that is left beside the two. Each copy goes by `rt try`, which takes about half a minute.
+# A copy may end with status 7, out of memory, and then what was under the second name is there; or with status 0 and
+# its text, where what failed was not needed, and then the file of that name has just the bytes of the first one.
+# Anything else fails, and so does a copy that takes more than 20 seconds, and a file that is left beside the two. It
+# needs a C compiler, for a library that is loaded before C's; status 77 says that there is none.
 set -u
 
 root=$(cd "$(dirname "$(readlink -f "${BASH_SOURCE[0]}")")/.." && pwd)
+program=$(readlink -f "${1:-$root/crates/waitq/out/waitq}")
 work=$(mktemp -d)
 trap 'rm -rf "$work"' EXIT
+if ! command -v cc >/dev/null; then
+    echo "fail_each_copy.sh: there is no C compiler" >&2
+    exit 77
+fi
+
+cat >"$work/failing.c" <<'END'
+#define _GNU_SOURCE
+#include <dlfcn.h>
+#include <errno.h>
+#include <fcntl.h>
+#include <pthread.h>
+#include <stdatomic.h>
+#include <stdlib.h>
+#include <unistd.h>
+
+void *__libc_malloc(size_t size);
+void *__libc_calloc(size_t count, size_t size);
+void *__libc_realloc(void *block, size_t size);
+
+/* Which call is to fail, counted from 1, and how many there were. 0: none. */
+static unsigned long failing;
+static atomic_ulong calls;
+
+__attribute__((constructor)) static void begin(void) {
+    const char *number = getenv("FAILING");
+    failing = number ? strtoul(number, NULL, 10) : 0;
+}
+
+/* Whether this call fails. The file FAILED tells that one did. */
+static int fails(void) {
+    if (failing == 0 || atomic_fetch_add(&calls, 1) + 1 != failing) return 0;
+    close(open(getenv("FAILED"), O_CREAT | O_WRONLY, 0600));
+    errno = ENOMEM;
+    return 1;
+}
+
+void *malloc(size_t size) { return fails() ? NULL : __libc_malloc(size); }
+
+void *calloc(size_t count, size_t size) { return fails() ? NULL : __libc_calloc(count, size); }
+
+void *realloc(void *block, size_t size) { return fails() ? NULL : __libc_realloc(block, size); }
+
+int pthread_create(pthread_t *thread, const pthread_attr_t *how, void *(*run)(void *), void *with) {
+    int (*create)(pthread_t *, const pthread_attr_t *, void *(*)(void *), void *);
+    if (fails()) return EAGAIN;
+    *(void **)&create = dlsym(RTLD_NEXT, "pthread_create");
+    return create(thread, how, run, with);
+}
+END
+cc -O1 -shared -fPIC -o "$work/failing.so" "$work/failing.c" -ldl || exit 1
+
 mkdir "$work/files"
 for _ in $(seq 250); do
     printf 'a line of bytes that is eighty long with its end, and of which there are 250 ..\n'
 done >"$work/files/a"
 printf 'copied 20000 bytes\nmoved 60000\nwatch 0 20000\nwatch 1 250\nsignals 0\n' >"$work/expected"
-cd "$root/crates/waitq" || exit 1
+printf 'waitq: out of memory\n' >"$work/line"
+
+printf 'before\n' >"$work/before"
 
 fail() {
-    echo "fail_each_copy.sh: allocation $number: $1" >&2
-    tail -n 5 "$work/said" >&2
+    echo "fail_each_copy.sh: call $number, $over: $1" >&2
+    head -n 5 "$work/said" >&2
     exit 1
 }
 
-# Whether the bytes of the file b, if there is one, are a front of those of a.
-is_front() {
-    [ ! -e "$work/files/b" ] || {
-        cmp -s -n "$(stat -c %s "$work/files/b")" "$work/files/a" "$work/files/b" &&
-            [ "$(stat -c %s "$work/files/b")" -le 20000 ]
-    }
+# Whether the file b is as it was.
+is_as_before() {
+    if [ "$over" = "a new name" ]; then
+        [ ! -e "$work/files/b" ]
+    else
+        cmp -s "$work/before" "$work/files/b"
+    fi
 }
 
-number=$((${1:-1} - 1))
-while :; do
-    number=$((number + 1))
-    rm -f "$work/files/b"
-    timeout 600 rt try --fail-alloc "$number" -- copy "$work/files/a" "$work/files/b" >"$work/text" 2>"$work/said"
+# Copies with the call of this number failing, and looks at what the copy wrote, said and left.
+copy() {
+    rm -f "$work/files/b" "$work/failed"
+    [ "$over" = "a new name" ] || cp "$work/before" "$work/files/b"
+    timeout 20 env FAILING="$number" FAILED="$work/failed" LD_PRELOAD="$work/failing.so" \
+        "$program" copy "$work/files/a" "$work/files/b" >"$work/text" 2>"$work/said"
     status=$?
-    [ "$status" != 124 ] || fail "the copy did not end in 600 seconds"
-    grep -q "ended status=$status" "$work/said" || fail "the program wasn't run"
+    [ "$status" != 124 ] || fail "the copy did not end in 20 seconds"
     [ -z "$(find "$work/files" -name '*.part*')" ] || fail "a file is left beside b"
     case $status in
     7)
-        is_front || fail "status 7, and the bytes of b aren't a front of those of a"
-        echo "allocation $number: status 7, $(stat -c %s "$work/files/b" 2>/dev/null || echo no) bytes in b"
+        wanting=$((wanting + 1))
+        is_as_before || fail "status 7, and b is not as it was"
+        [ ! -s "$work/text" ] || fail "status 7, and there is a text"
+        cmp -s "$work/said" "$work/line" || fail "status 7, and another line"
         ;;
     0)
         cmp -s "$work/text" "$work/expected" || fail "status 0, and the text isn't that of the copy"
         cmp -s "$work/files/a" "$work/files/b" || fail "status 0, and b isn't a"
-        echo "allocation $number: status 0, the whole file"
-        exit 0
         ;;
     *) fail "status $status" ;;
     esac
+}
+
+for over in "a new name" "an old file"; do
+    number=0
+    wanting=0
+    while :; do
+        number=$((number + 1))
+        copy
+        [ -e "$work/failed" ] || break
+    done
+    echo "to $over: $((number - 1)) calls failed in turn, $wanting copies were out of memory, the others whole"
+    [ "$wanting" -gt 3 ] || exit 1
 done

@@ -26,7 +26,7 @@ const REPEATS: u32 = 5;
 /// The numbers of looks; the one in the middle is that of a Domain that is made without a number of its own.
 const LOOKS: [u32; 3] = [0, 400, 2_000];
 
-/// A copy of so many pieces; None where there is no memory for a Domain.
+/// A copy of so many pieces; None where there is no memory for a Domain, or for a thread.
 fn copy<R: Threads + Wait + Sync>(
     rt: &R,
     alloc: Global,
@@ -36,7 +36,7 @@ fn copy<R: Threads + Wait + Sync>(
     let Ok((domain, mut task)) = Domain::with_looks(alloc, looks) else {
         return None;
     };
-    Some(copy_all(
+    copy_all(
         rt,
         &domain,
         &mut task,
@@ -45,7 +45,8 @@ fn copy<R: Threads + Wait + Sync>(
         NoWatchers,
         &[],
         &OpenGate,
-    ))
+    )
+    .ok()
 }
 
 /// A copy, and how long it took.

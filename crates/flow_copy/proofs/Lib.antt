@@ -20,6 +20,7 @@ pub mod Shown
 pub mod StopKinds
 pub mod Stopping
 pub mod Sums
+pub mod Unbegun
 pub mod Whole
 pub mod WriteEnds
 pub mod Writes

@@ -137,3 +137,8 @@ IsNotTaken _ = Unit {0}
 
 abbrev pub NoneTaken : ReaderEnd → WorkerEnd → WorkerEnd → Type 0
 NoneTaken reader relay writer = IsNotTaken reader.stop × IsNotTaken relay.stop × IsNotTaken writer.stop
+
+-- A task of this Domain, of which neither the own list nor one that it joined has a step.
+pub record HasNoSteps (table : TableId) (k : Known) : Type 0 where
+  pub domain : k.domain ≡ table
+  pub lists : (number : ℕ) → has_of number k.view ≡ []

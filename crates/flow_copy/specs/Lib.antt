@@ -5,3 +5,4 @@ pub mod Watched
 pub mod Turns
 pub mod Did
 pub mod Copied
+pub mod Crews

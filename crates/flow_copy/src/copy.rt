@@ -1,6 +1,7 @@
 //! The whole copy.
 
 ghost use Rattle.std.specs.Prelude.{◌≡◌, ◌≤◌, ◌+◌, ◌-◌, ◌%◌, ◌^◌, length};
+ghost use Rattle.std.specs.Prelude.{IfErr, IfOk, OnErr};
 ghost use Rattle.wait_model.specs.declared.layout.TheConstants.{TASKS};
 ghost use Rattle.wait_rule.specs.Aside.{GrowsAside};
 ghost use Rattle.wait_rule.specs.Journals.{left_with};
@@ -8,14 +9,14 @@ ghost use Rattle.wait_rule.specs.Says.{IsClean, IsShown, newcomer, seen_with};
 ghost use Rattle.wait_rule.specs.TallyLaws.{tally_in};
 ghost use Rattle.flow_copy.specs.declared.TheConstants.{COUNTED_PAGE, SIGNALS};
 ghost use Rattle.flow_copy.specs.declared.stop.Stop.TheVariants as stop;
-ghost use Rattle.flow_copy.specs.Copied.{Copied, HoldsAll, HoldsGiven, NoneTaken, ReadTally, Watched};
+ghost use Rattle.flow_copy.specs.Copied.{Copied, HasNoSteps, HoldsAll, HoldsGiven, NoneTaken, ReadTally, Watched};
 ghost use Rattle.flow_copy.specs.Copied.{control_stop, copy_stop, first_or, is_of, joined_four};
 
 use crate::COUNTED_PAGE;
 use crate::gate::Gate;
 use crate::plan::Planned;
 use crate::stop::{ReaderEnd, Stop, WorkerEnd};
-use crate::workers::four_at_once;
+use crate::workers::{Parts, four_at_once};
 use bit_wait::BitEnd;
 use edge_io::{Sink, Source};
 use func_head::Watchers;
@@ -36,6 +37,15 @@ pub struct CopyEnd<S, K, W> {
     pub writer: WorkerEnd,
     pub moved: u64,
     pub stop: Stop,
+}
+
+/// What a copy was to be made of that was not begun, since there was no thread for one of its tasks: the source, the sink
+/// and the watchers, as they were passed in.
+#[derive(Drop)]
+pub struct Unstarted<S, K, W> {
+    pub source: S,
+    pub sink: K,
+    pub watch: W,
 }
 
 /// A task with the next number, which may give out none.
@@ -162,6 +172,33 @@ fn copy_stop(stops: [Stop; 4], kills: u8) -> Stop
     first_or(Kind::Memory, stops, worn)
 }
 
+/// Takes in the four tasks of a copy that was not begun, and gives back the rest.
+fn take_back<S, K, W>(domain: &Domain, task: &mut Task, parts: Parts<S, K, W>) -> Unstarted<S, K, W>
+    requires rest { task.old ≡ newcomer domain.now 0 5 (TASKS - 5) }
+    requires one { parts.tasks.0 ≡ newcomer domain.now 1 2 0 }
+    requires two { parts.tasks.1 ≡ newcomer domain.now 2 3 0 }
+    requires three { parts.tasks.2 ≡ newcomer domain.now 3 4 0 }
+    requires four { parts.tasks.3 ≡ newcomer domain.now 4 5 0 }
+    ensures source { result.source ≡ parts.source }
+    ensures sink { result.sink ≡ parts.sink }
+    ensures watch { result.watch ≡ parts.watch }
+    ensures idle { HasNoSteps domain.now task.new }
+    ensures clean { IsClean task.new }
+{
+    let Parts {
+        tasks: (one, two, three, four),
+        source,
+        sink,
+        watch,
+    } = parts;
+    join_four(domain, task, one, two, three, four);
+    Unstarted {
+        source,
+        sink,
+        watch,
+    }
+}
+
 /// Copies a source into a sink through two pipes, by a reader, a relay and a writer in threads of their own, and a
 /// controller that waits for them (`reader_task`, `relay_task`, `writer_task`, `controller_task`).
 ///
@@ -173,7 +210,8 @@ fn copy_stop(stops: [Stop; 4], kills: u8) -> Stop
 /// Finished. Where it is Finished all three workers have finished, the source was read to its end, the sink holds all
 /// its bytes, and the watchers were shown them all. No worker stops as Taken.
 ///
-/// Where the machine gives no second thread a copy that is larger than a pipe may wait for ever.
+/// Unstarted: there was no memory for the thread of one of the three. None of them has begun then: source, sink and
+/// watchers come back as they were passed in, and no task has made a step.
 pub fn copy_all<
     R: Threads + Wait + Sync,
     S: Source + Send + Drop,
@@ -189,38 +227,47 @@ pub fn copy_all<
     watch: W,
     plan: &[Planned],
     gate: &G,
-) -> CopyEnd<S, K, W>
+) -> Result<CopyEnd<S, K, W>, Unstarted<S, K, W>>
     requires fresh { task.old ≡ newcomer domain.now 0 1 (TASKS - 1) }
     requires few { length plan.now ≤ SIGNALS }
-    ensures copied { Copied domain.now task.new (S.left source) (S.left result.source) (S.faults source)
-        (S.faults result.source) (K.held sink) (K.held result.sink) (K.faults sink) (K.faults result.sink)
-        (K.wants sink) (K.wants result.sink) (W.entries watch) (W.entries result.watch) plan.now result.reader
-        result.relay result.writer result.stop }
-    ensures front { HoldsGiven (S.left source) (S.left result.source) (K.held sink) (K.held result.sink) }
-    ensures watched { Watched (S.left source) (S.left result.source) (K.held sink) (K.held result.sink)
-        (W.entries watch) (W.entries result.watch) result.writer.stop }
-    ensures whole { result.stop ≡ stop.Finished → HoldsAll (S.left source) (K.held sink) (K.held result.sink)
-        (W.entries watch) (W.entries result.watch) result.reader result.relay result.writer result.moved }
-    ensures moved { result.moved ≡ tally_in COUNTED_PAGE task.new.view % 2 ^ 64 }
-    ensures none_taken { NoneTaken result.reader result.relay result.writer }
+    ensures copied { IfOk result (λ end. Copied domain.now task.new (S.left source) (S.left end.source)
+        (S.faults source) (S.faults end.source) (K.held sink) (K.held end.sink) (K.faults sink) (K.faults end.sink)
+        (K.wants sink) (K.wants end.sink) (W.entries watch) (W.entries end.watch) plan.now end.reader end.relay
+        end.writer end.stop) }
+    ensures front { IfOk result (λ end. HoldsGiven (S.left source) (S.left end.source) (K.held sink)
+        (K.held end.sink)) }
+    ensures watched { IfOk result (λ end. Watched (S.left source) (S.left end.source) (K.held sink) (K.held end.sink)
+        (W.entries watch) (W.entries end.watch) end.writer.stop) }
+    ensures whole { IfOk result (λ end. end.stop ≡ stop.Finished → HoldsAll (S.left source) (K.held sink)
+        (K.held end.sink) (W.entries watch) (W.entries end.watch) end.reader end.relay end.writer end.moved) }
+    ensures moved { IfOk result (λ end. end.moved ≡ tally_in COUNTED_PAGE task.new.view % 2 ^ 64) }
+    ensures none_taken { IfOk result (λ end. NoneTaken end.reader end.relay end.writer) }
+    ensures source { IfErr result (λ back. back.source ≡ source) }
+    ensures sink { IfErr result (λ back. back.sink ≡ sink) }
+    ensures watch { IfErr result (λ back. back.watch ≡ watch) }
+    ensures idle { OnErr result (HasNoSteps domain.now task.new) }
     ensures clean { IsClean task.new }
 {
     let tasks = fork_four(domain, task);
     let targets = [tasks.0.number(), tasks.1.number(), tasks.2.number()];
-    let (read, (relayed, (written, counted))) = four_at_once(
-        rt, domain, tasks, source, sink, watch, plan, targets, gate,
-    );
-    let (one, source, reader) = read;
-    let (two, relay) = relayed;
-    let (three, sink, watch, writer) = written;
-    let (four, total) = counted;
+    let parts = Parts {
+        tasks,
+        source,
+        sink,
+        watch,
+    };
+    let made = match four_at_once(rt, domain, parts, plan, targets, gate) {
+        Ok(made) => made,
+        Err(parts) => return Err(take_back(domain, task, parts)),
+    };
+    let ((one, source, reader), (two, relay), (three, sink, watch, writer), (four, total)) = made;
     join_four(domain, task, one, two, three, four);
     let moved = read_moved(rt, domain, task);
     let stop = copy_stop(
         [reader.stop, relay.stop, writer.stop, control_stop(&total)],
         reader.kills,
     );
-    CopyEnd {
+    Ok(CopyEnd {
         source,
         sink,
         watch,
@@ -229,5 +276,5 @@ pub fn copy_all<
         writer,
         moved,
         stop,
-    }
+    })
 }

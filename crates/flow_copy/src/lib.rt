@@ -5,6 +5,7 @@
 
 pub mod controller;
 pub mod copy;
+mod crew;
 pub mod gate;
 pub mod parts;
 pub mod plan;
@@ -17,7 +18,7 @@ pub mod workers;
 pub mod writer;
 
 pub use controller::controller_task;
-pub use copy::{CopyEnd, copy_all};
+pub use copy::{CopyEnd, Unstarted, copy_all};
 pub use gate::{Gate, OpenGate, Who};
 pub use plan::Planned;
 pub use reader::reader_task;

@@ -1,11 +1,12 @@
 //! The four tasks of a copy, each in a thread of its own.
 
-ghost use Rattle.std.specs.Prelude.{◌≡◌, ◌≤◌, length};
+ghost use Rattle.std.specs.Prelude.{◌≡◌, ◌≤◌, length, IfErr, IfOk};
 ghost use Rattle.flow_copy.specs.declared.TheConstants.{SIGNALS};
 ghost use Rattle.flow_copy.specs.Copied.{ControlEnds, Controlled};
 ghost use Rattle.flow_copy.specs.Did.{IsIdler, ReaderDid, RelayDid, WriterDid};
 
 use crate::controller::controller_task;
+use crate::crew::{Job, all_at_once};
 use crate::gate::Gate;
 use crate::plan::Planned;
 use crate::reader::reader_task;
@@ -16,7 +17,6 @@ use bit_wait::BitEnd;
 use edge_io::{Sink, Source};
 use func_head::Watchers;
 use std::sync::Wait;
-use std::thread;
 use std::thread::Threads;
 use wait_rule::{Domain, Task};
 
@@ -32,138 +32,143 @@ pub(crate) type Written<K, W> = (Task, K, W, WorkerEnd);
 /// The controller's task and what it answered.
 pub(crate) type Counted = (Task, Result<u64, BitEnd>);
 
-fn reads<R: Wait, S: Source, G: Gate>(
-    rt: &R,
-    domain: &Domain,
-    mut task: Task,
-    mut source: S,
-    plan: &[Planned],
+/// What the four did.
+pub(crate) type Made<S, K, W> = (Read<S>, Relayed, Written<K, W>, Counted);
+
+/// What a copy is made of: the four tasks, the source, the sink and the watchers.
+#[derive(Drop)]
+pub(crate) struct Parts<S, K, W> {
+    pub(crate) tasks: (Task, Task, Task, Task),
+    pub(crate) source: S,
+    pub(crate) sink: K,
+    pub(crate) watch: W,
+}
+
+/// The work of a reader.
+#[derive(Drop)]
+struct Reads<'a, R: Wait, S: Source, G: Gate> {
+    rt: &'a R,
+    domain: &'a Domain,
+    task: Task,
+    source: S,
+    plan: &'a [Planned],
     targets: [u8; 3],
-    gate: &G,
-) -> Read<S>
-    requires of { task.domain ≡ domain.now }
-    requires idler { IsIdler task }
-    requires few { length plan.now ≤ SIGNALS }
-    ensures did { ReaderDid task result.0 (S.left source) (S.left result.1) (S.faults source) (S.faults result.1)
-        plan.now result.2 }
-{
-    let ended = reader_task(rt, domain, &mut task, &mut source, plan, targets, gate);
-    (task, source, ended)
+    gate: &'a G,
 }
 
-fn relays<R: Wait, G: Gate>(rt: &R, domain: &Domain, mut task: Task, gate: &G) -> Relayed
-    requires of { task.domain ≡ domain.now }
-    requires idler { IsIdler task }
-    ensures did { RelayDid task result.0 result.1 }
-{
-    let ended = relay_task(rt, domain, &mut task, gate);
-    (task, ended)
+impl<'a, R: Wait + Sync, S: Source + Send + Drop, G: Gate + Sync> Job for Reads<'a, R, S, G> {
+    type Done = Read<S>;
+
+    ghost asks = { λ job. (job.task.domain ≡ job.domain.now) × (IsIdler job.task × (length job.plan.now ≤ SIGNALS)) };
+
+    ghost did = { λ job r. ReaderDid job.task r.0 (S.left job.source) (S.left r.1) (S.faults job.source) (S.faults r.1)
+        job.plan.now r.2 };
+
+    fn run(self) -> Read<S> {
+        let Self {
+            rt,
+            domain,
+            mut task,
+            mut source,
+            plan,
+            targets,
+            gate,
+        } = self;
+        let ended = reader_task(rt, domain, &mut task, &mut source, plan, targets, gate);
+        (task, source, ended)
+    }
 }
 
-fn writes<R: Wait, K: Sink, W: Watchers, G: Gate>(
-    rt: &R,
-    domain: &Domain,
-    mut task: Task,
-    mut sink: K,
-    mut watch: W,
-    gate: &G,
-) -> Written<K, W>
-    requires of { task.domain ≡ domain.now }
-    requires idler { IsIdler task }
-    ensures did { WriterDid task result.0 (K.held sink) (K.held result.1) (K.faults sink) (K.faults result.1)
-        (K.wants sink) (K.wants result.1) (W.entries watch) (W.entries result.2) result.3 }
-{
-    let ended = writer_task(rt, domain, &mut task, &mut sink, &mut watch, gate);
-    (task, sink, watch, ended)
+/// The work of a relay.
+#[derive(Drop)]
+struct Relays<'a, R: Wait, G: Gate> {
+    rt: &'a R,
+    domain: &'a Domain,
+    task: Task,
+    gate: &'a G,
 }
 
-fn controls<R: Wait>(rt: &R, domain: &Domain, mut task: Task) -> Counted
-    requires of { task.domain ≡ domain.now }
-    requires idler { IsIdler task }
-    ensures did { Controlled task result.0 }
-    ensures ends { ControlEnds task result.0 result.1 }
-{
-    let total = controller_task(rt, domain, &mut task);
-    (task, total)
+impl<'a, R: Wait + Sync, G: Gate + Sync> Job for Relays<'a, R, G> {
+    type Done = Relayed;
+
+    ghost asks = { λ job. (job.task.domain ≡ job.domain.now) × IsIdler job.task };
+
+    ghost did = { λ job r. RelayDid job.task r.0 r.1 };
+
+    fn run(self) -> Relayed {
+        let Self {
+            rt,
+            domain,
+            mut task,
+            gate,
+        } = self;
+        let ended = relay_task(rt, domain, &mut task, gate);
+        (task, ended)
+    }
 }
 
-/// The writer and the controller at once.
-fn two_at_once<
-    R: Threads + Wait + Sync,
-    K: Sink + Send + Drop,
-    W: Watchers + Send + Drop,
-    G: Gate + Sync,
->(
-    rt: &R,
-    domain: &Domain,
-    three: Task,
-    four: Task,
+/// The work of a writer.
+#[derive(Drop)]
+struct Writes<'a, R: Wait, K: Sink, W: Watchers, G: Gate> {
+    rt: &'a R,
+    domain: &'a Domain,
+    task: Task,
     sink: K,
     watch: W,
-    gate: &G,
-) -> (Written<K, W>, Counted)
-    requires of { (three.domain ≡ domain.now) × (four.domain ≡ domain.now) }
-    requires idler { IsIdler three × IsIdler four }
-    ensures writer { WriterDid three result.0.0 (K.held sink) (K.held result.0.1) (K.faults sink) (K.faults result.0.1)
-        (K.wants sink) (K.wants result.0.1) (W.entries watch) (W.entries result.0.2) result.0.3 }
-    ensures controller { Controlled four result.1.0 }
-    ensures ends { ControlEnds four result.1.0 result.1.1 }
-{
-    thread::join(
-        rt,
-        move || -> Written<K, W>
-            requires { (three.domain ≡ domain.now) × IsIdler three }
-            ensures { WriterDid three result.0 (K.held sink) (K.held result.1) (K.faults sink) (K.faults result.1)
-                (K.wants sink) (K.wants result.1) (W.entries watch) (W.entries result.2) result.3 }
-        { writes(rt, domain, three, sink, watch, gate) },
-        move || -> Counted
-            requires { (four.domain ≡ domain.now) × IsIdler four }
-            ensures { Controlled four result.0 × ControlEnds four result.0 result.1 }
-        { controls(rt, domain, four) },
-    )
+    gate: &'a G,
 }
 
-/// The relay, the writer and the controller at once.
-fn three_at_once<
-    R: Threads + Wait + Sync,
-    K: Sink + Send + Drop,
-    W: Watchers + Send + Drop,
-    G: Gate + Sync,
->(
-    rt: &R,
-    domain: &Domain,
-    two: Task,
-    three: Task,
-    four: Task,
-    sink: K,
-    watch: W,
-    gate: &G,
-) -> (Relayed, (Written<K, W>, Counted))
-    requires of { (two.domain ≡ domain.now) × ((three.domain ≡ domain.now) × (four.domain ≡ domain.now)) }
-    requires idler { IsIdler two × (IsIdler three × IsIdler four) }
-    ensures relay { RelayDid two result.0.0 result.0.1 }
-    ensures writer { WriterDid three result.1.0.0 (K.held sink) (K.held result.1.0.1) (K.faults sink)
-        (K.faults result.1.0.1) (K.wants sink) (K.wants result.1.0.1) (W.entries watch) (W.entries result.1.0.2)
-        result.1.0.3 }
-    ensures controller { Controlled four result.1.1.0 }
-    ensures ends { ControlEnds four result.1.1.0 result.1.1.1 }
-{
-    thread::join(
-        rt,
-        move || -> Relayed
-            requires { (two.domain ≡ domain.now) × IsIdler two }
-            ensures { RelayDid two result.0 result.1 }
-        { relays(rt, domain, two, gate) },
-        move || -> (Written<K, W>, Counted)
-            requires { ((three.domain ≡ domain.now) × (four.domain ≡ domain.now)) × (IsIdler three × IsIdler four) }
-            ensures { WriterDid three result.0.0 (K.held sink) (K.held result.0.1) (K.faults sink) (K.faults result.0.1)
-                (K.wants sink) (K.wants result.0.1) (W.entries watch) (W.entries result.0.2) result.0.3
-                × (Controlled four result.1.0 × ControlEnds four result.1.0 result.1.1) }
-        { two_at_once(rt, domain, three, four, sink, watch, gate) },
-    )
+impl<'a, R: Wait + Sync, K: Sink + Send + Drop, W: Watchers + Send + Drop, G: Gate + Sync> Job
+    for Writes<'a, R, K, W, G> {
+    type Done = Written<K, W>;
+
+    ghost asks = { λ job. (job.task.domain ≡ job.domain.now) × IsIdler job.task };
+
+    ghost did = { λ job r. WriterDid job.task r.0 (K.held job.sink) (K.held r.1) (K.faults job.sink) (K.faults r.1)
+        (K.wants job.sink) (K.wants r.1) (W.entries job.watch) (W.entries r.2) r.3 };
+
+    fn run(self) -> Written<K, W> {
+        let Self {
+            rt,
+            domain,
+            mut task,
+            mut sink,
+            mut watch,
+            gate,
+        } = self;
+        let ended = writer_task(rt, domain, &mut task, &mut sink, &mut watch, gate);
+        (task, sink, watch, ended)
+    }
 }
 
-/// All four at once.
+/// The work of a controller.
+#[derive(Drop)]
+struct Controls<'a, R: Wait> {
+    rt: &'a R,
+    domain: &'a Domain,
+    task: Task,
+}
+
+impl<'a, R: Wait + Sync> Job for Controls<'a, R> {
+    type Done = Counted;
+
+    ghost asks = { λ job. (job.task.domain ≡ job.domain.now) × IsIdler job.task };
+
+    ghost did = { λ job r. Controlled job.task r.0 × ControlEnds job.task r.0 r.1 };
+
+    fn run(self) -> Counted {
+        let Self {
+            rt,
+            domain,
+            mut task,
+        } = self;
+        let total = controller_task(rt, domain, &mut task);
+        (task, total)
+    }
+}
+
+/// All four at once, the controller in this thread. Where one of the others can't have a thread none of them begins, and
+/// all is handed back as it was.
 pub(crate) fn four_at_once<
     R: Threads + Wait + Sync,
     S: Source + Send + Drop,
@@ -173,43 +178,68 @@ pub(crate) fn four_at_once<
 >(
     rt: &R,
     domain: &Domain,
-    tasks: (Task, Task, Task, Task),
-    source: S,
-    sink: K,
-    watch: W,
+    parts: Parts<S, K, W>,
     plan: &[Planned],
     targets: [u8; 3],
     gate: &G,
-) -> (Read<S>, (Relayed, (Written<K, W>, Counted)))
-    requires of { (tasks.0.domain ≡ domain.now) × ((tasks.1.domain ≡ domain.now) × ((tasks.2.domain ≡ domain.now)
-        × (tasks.3.domain ≡ domain.now))) }
-    requires idler { IsIdler tasks.0 × (IsIdler tasks.1 × (IsIdler tasks.2 × IsIdler tasks.3)) }
+) -> Result<Made<S, K, W>, Parts<S, K, W>>
+    requires of { (parts.tasks.0.domain ≡ domain.now) × ((parts.tasks.1.domain ≡ domain.now)
+        × ((parts.tasks.2.domain ≡ domain.now) × (parts.tasks.3.domain ≡ domain.now))) }
+    requires idler { IsIdler parts.tasks.0 × (IsIdler parts.tasks.1 × (IsIdler parts.tasks.2
+        × IsIdler parts.tasks.3)) }
     requires few { length plan.now ≤ SIGNALS }
-    ensures reader { ReaderDid tasks.0 result.0.0 (S.left source) (S.left result.0.1) (S.faults source)
-        (S.faults result.0.1) plan.now result.0.2 }
-    ensures relay { RelayDid tasks.1 result.1.0.0 result.1.0.1 }
-    ensures writer { WriterDid tasks.2 result.1.1.0.0 (K.held sink) (K.held result.1.1.0.1) (K.faults sink)
-        (K.faults result.1.1.0.1) (K.wants sink) (K.wants result.1.1.0.1) (W.entries watch) (W.entries result.1.1.0.2)
-        result.1.1.0.3 }
-    ensures controller { Controlled tasks.3 result.1.1.1.0 }
-    ensures ends { ControlEnds tasks.3 result.1.1.1.0 result.1.1.1.1 }
+    ensures reader { IfOk result (λ made. ReaderDid parts.tasks.0 made.0.0 (S.left parts.source) (S.left made.0.1)
+        (S.faults parts.source) (S.faults made.0.1) plan.now made.0.2) }
+    ensures relay { IfOk result (λ made. RelayDid parts.tasks.1 made.1.0 made.1.1) }
+    ensures writer { IfOk result (λ made. WriterDid parts.tasks.2 made.2.0 (K.held parts.sink) (K.held made.2.1)
+        (K.faults parts.sink) (K.faults made.2.1) (K.wants parts.sink) (K.wants made.2.1) (W.entries parts.watch)
+        (W.entries made.2.2) made.2.3) }
+    ensures controller { IfOk result (λ made. Controlled parts.tasks.3 made.3.0) }
+    ensures ends { IfOk result (λ made. ControlEnds parts.tasks.3 made.3.0 made.3.1) }
+    ensures same { IfErr result (λ back. back ≡ parts) }
 {
+    let Parts {
+        tasks,
+        source,
+        sink,
+        watch,
+    } = parts;
     let (one, two, three, four) = tasks;
-    thread::join(
+    let reads = Reads {
         rt,
-        move || -> Read<S>
-            requires { (one.domain ≡ domain.now) × (IsIdler one × (length plan.now ≤ SIGNALS)) }
-            ensures { ReaderDid one result.0 (S.left source) (S.left result.1) (S.faults source) (S.faults result.1)
-                plan.entry.now result.2 }
-        { reads(rt, domain, one, source, plan, targets, gate) },
-        move || -> (Relayed, (Written<K, W>, Counted))
-            requires { ((two.domain ≡ domain.now) × ((three.domain ≡ domain.now) × (four.domain ≡ domain.now)))
-                × (IsIdler two × (IsIdler three × IsIdler four)) }
-            ensures { RelayDid two result.0.0 result.0.1
-                × (WriterDid three result.1.0.0 (K.held sink) (K.held result.1.0.1) (K.faults sink)
-                (K.faults result.1.0.1) (K.wants sink) (K.wants result.1.0.1) (W.entries watch)
-                (W.entries result.1.0.2) result.1.0.3
-                × (Controlled four result.1.1.0 × ControlEnds four result.1.1.0 result.1.1.1)) }
-        { three_at_once(rt, domain, two, three, four, sink, watch, gate) },
-    )
+        domain,
+        task: one,
+        source,
+        plan,
+        targets,
+        gate,
+    };
+    let relays = Relays {
+        rt,
+        domain,
+        task: two,
+        gate,
+    };
+    let writes = Writes {
+        rt,
+        domain,
+        task: three,
+        sink,
+        watch,
+        gate,
+    };
+    let controls = Controls {
+        rt,
+        domain,
+        task: four,
+    };
+    match all_at_once(rt, reads, relays, writes, controls) {
+        Ok(made) => Ok(made),
+        Err((reads, relays, writes, controls)) => Err(Parts {
+            tasks: (reads.task, relays.task, writes.task, controls.task),
+            source: reads.source,
+            sink: writes.sink,
+            watch: writes.watch,
+        }),
+    }
 }

@@ -62,7 +62,7 @@ pub left_by_want : (domain : TableId) (task : Known) (o : Outside) (src dst : Li
 left_by_want domain task o src dst plan watchers f m = inl (record {
   why = fault.Memory;
   answered = ap Err m;
-  task = refl;
+  task = λ number. refl;
   files = refl;
   held = refl;
   faults = refl;

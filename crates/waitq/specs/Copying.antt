@@ -63,12 +63,18 @@ pub record IsStartFault (files : Option Files) (reads_old reads_new writes_old w
   pub cause : IsOpenFault files reads_old reads_new src why
       ⊎ (HasFile files src × (reads_new ≡ reads_old) × IsMakeFault writes_old writes_new why)
 
--- It did not begin: nothing was changed.
+-- What a copy that did not begin leaves of its task: for want of memory it may have given numbers out to others and
+-- joined them again, and no list has a step more; with any other fault it is as it was.
+abbrev pub LeavesTask : Known → Known → Fault → Type 0
+LeavesTask old new fault.Memory = (number : ℕ) → has_of number new.view ≡ has_of number old.view
+LeavesTask old new _ = new ≡ old
+
+-- It did not begin: no file was changed, nothing was written, and no task made a step.
 pub record NotBegun (task_old task_new : Known) (old new : Outside) (src : List ℕ)
     (answer : Result (Unit {0}) Fault) : Type 0 where
   pub why : Fault
   pub answered : answer ≡ Err why
-  pub task : task_new ≡ task_old
+  pub task : LeavesTask task_old task_new why
   pub files : new.files ≡ old.files
   pub held : new.held ≡ old.held
   pub faults : new.faults ≡ old.faults

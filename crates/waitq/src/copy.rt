@@ -1,10 +1,11 @@
 //! The command `copy`: one file is copied to another by tasks in threads of their own.
 
-ghost use Rattle.std.specs.Prelude.{◌≡◌, ◌≤◌, ◌-◌, length, IfOk, IfErr, OnOk};
+ghost use Rattle.std.specs.Prelude.{◌≡◌, ◌≤◌, ◌-◌, length, IfOk, IfErr, OnErr, OnOk};
 ghost use Rattle.edge_io.specs.Folders.{HasBytes, HoldsNothing};
 ghost use Rattle.wait_model.specs.declared.layout.TheConstants.{TASKS};
 ghost use Rattle.wait_rule.specs.Says.{IsClean, newcomer};
 ghost use Rattle.flow_copy.specs.declared.TheConstants.{SIGNALS};
+ghost use Rattle.flow_copy.specs.Copied.{HasNoSteps};
 ghost use Rattle.waitq.specs.Copying.{Concludes, CopyLeft, IsMakeFault, IsOpenFault, IsStartFault, Through};
 ghost use Rattle.waitq.specs.Copying.{copy_text, fault_after, outside, tells};
 
@@ -130,6 +131,9 @@ struct Left<W> {
 }
 
 /// Copies, closes the source, and stores the sink whatever the copy's stop was.
+///
+/// Memory: there was no memory for one of the copy's threads. Nothing was copied then: the source is closed, the sink is
+/// dropped and not stored, and no task has made a step.
 fn copy_through<R: Threads + Wait + Sync, F: Folder, W: Tellers + Send + Drop, G: Gate + Sync>(
     rt: &R,
     alloc: Global,
@@ -140,20 +144,30 @@ fn copy_through<R: Threads + Wait + Sync, F: Folder, W: Tellers + Send + Drop, G
     watch: W,
     gate: &G,
     order: Order<'_, '_>,
-) -> Left<W>
+) -> Result<Left<W>, Fault<'static>>
     requires fresh { task.old ≡ newcomer domain.now 0 1 (TASKS - 1) }
     requires few { length order.plan.now ≤ SIGNALS }
     requires found { HasBytes (F.files folder.old) order.src.now (F.In.left begun.source) }
     requires opened { F.In.faults begun.source ≡ 0 }
     requires empty { HoldsNothing (F.files folder.old) (F.Out.held begun.sink) }
     requires made { F.Out.faults begun.sink ≡ 0 }
-    ensures through { Through domain.now task.new (F.files folder.old) (F.files folder.new) (F.read_faults folder.old)
-        (F.read_faults folder.new) (F.write_faults folder.old) (F.write_faults folder.new) order.entry.src.now
-        order.entry.dst.now order.entry.plan.now (W.entries watch) (W.entries result.watch) result.reader result.stop
-        result.moved result.stored }
+    ensures through { IfOk result (λ left. Through domain.now task.new (F.files folder.old) (F.files folder.new)
+        (F.read_faults folder.old) (F.read_faults folder.new) (F.write_faults folder.old) (F.write_faults folder.new)
+        order.entry.src.now order.entry.dst.now order.entry.plan.now (W.entries watch) (W.entries left.watch)
+        left.reader left.stop left.moved left.stored) }
+    ensures memory { IfErr result (λ why. why ≡ Fault.Memory) }
+    ensures same { OnErr result (F.files folder.new ≡ F.files folder.old) }
+    ensures idle { OnErr result (HasNoSteps domain.now task.new) }
     ensures clean { IsClean task.new }
 {
     let Begun { source, sink } = begun;
+    let end = match copy_all(rt, domain, task, source, sink, watch, order.plan, gate) {
+        Ok(end) => end,
+        Err(unstarted) => {
+            folder.close(unstarted.source);
+            return Err(Fault::Memory);
+        }
+    };
     let CopyEnd {
         source,
         sink,
@@ -162,16 +176,16 @@ fn copy_through<R: Threads + Wait + Sync, F: Folder, W: Tellers + Send + Drop, G
         moved,
         stop,
         ..
-    } = copy_all(rt, domain, task, source, sink, watch, order.plan, gate);
+    } = end;
     folder.close(source);
     let stored = folder.store(alloc, order.dst, sink);
-    Left {
+    Ok(Left {
         watch,
         reader,
         moved,
         stop,
         stored,
-    }
+    })
 }
 
 /// Writes the text of a copy that has no fault, or answers the fault.
@@ -190,8 +204,9 @@ fn conclude<O: Sink, W: Tellers>(out: &mut O, left: &Left<W>) -> Result<(), Faul
 /// Copies the file `src` to the file `dst`, with the watchers at each piece that goes into it, and writes what is told
 /// of it.
 ///
-/// The source is opened first, and then the sink is made; where one of these is refused, it ends there and nothing is
-/// changed. After the copy the source is closed, and the sink is stored whatever the copy's stop was.
+/// The source is opened first, and then the sink is made; where one of these is refused, or one of the copy's tasks can't
+/// have a thread (Memory), it ends there and no file is changed. After the copy the source is closed, and the sink is
+/// stored whatever the copy's stop was.
 pub fn copy<
     'a,
     R: Threads + Wait + Sync,
@@ -221,6 +236,6 @@ pub fn copy<
     ensures clean { IsClean task.new }
 {
     let begun = begin(alloc, folder, order.src, order.dst)?;
-    let left = copy_through(rt, alloc, folder, domain, task, begun, watch, gate, order);
+    let left = copy_through(rt, alloc, folder, domain, task, begun, watch, gate, order)?;
     conclude(out, &left)
 }

@@ -38,14 +38,31 @@ pub struct Disk<'r> {
     write_faults: u64,
 }
 
-/// A file that is written beside the one whose name it gets in the end.
-#[derive(Drop)]
-pub struct Part {
+/// A file that is written beside the one whose name it gets in the end. One that is dropped before that is removed.
+pub struct Part<'r> {
+    rt: &'r HostRuntime,
     file: Writing<File>,
     name: String,
 }
 
-impl Sink for Part {
+impl Part<'_> {
+    /// Lets it go once it has its name.
+    fn leave(self) {
+        let Self { rt: _, file, name } = self;
+        drop(file);
+        drop(name);
+    }
+}
+
+impl Drop for Part<'_> {
+    fn drop(self) {
+        let Self { rt, file, name } = self;
+        drop(file);
+        let _ = fs::remove_file(rt, name.as_str());
+    }
+}
+
+impl Sink for Part<'_> {
     ghost held = { λ _. None };
 
     ghost faults = { λ part. part.file.faults };
@@ -146,7 +163,7 @@ impl<'r> Disk<'r> {
     }
 
     /// Makes the part of the file of that name, under the first of its names that is free.
-    fn make_part(&self, alloc: Global, name: &str) -> io::Result<Part>
+    fn make_part(&self, alloc: Global, name: &str) -> io::Result<Part<'r>>
         ensures { IfOk result (λ part. part.file.faults ≡ 0) }
     {
         let name = self.follow(alloc, name)?;
@@ -158,6 +175,7 @@ impl<'r> Disk<'r> {
             match options.open(self.rt, part.as_str()) {
                 Ok(file) => {
                     return Ok(Part {
+                        rt: self.rt,
                         file: Writing::new(file),
                         name: part,
                     });
@@ -196,10 +214,10 @@ impl<'r> Disk<'r> {
     }
 }
 
-impl Folder for Disk<'_> {
+impl<'r> Folder for Disk<'r> {
     type In = Reading<File>;
 
-    type Out = Part;
+    type Out = Part<'r>;
 
     ghost files = { λ _. None };
 
@@ -228,7 +246,7 @@ impl Folder for Disk<'_> {
 
     /// Makes a file beside the one of that name, with its rights, or with those of the file that was opened last. What
     /// has the name must be an ordinary file that can be written and is not that one, or a link to such a file.
-    fn create(&mut self, alloc: Global, name: &str) -> Result<Part, OpenFault> {
+    fn create(&mut self, alloc: Global, name: &str) -> Result<Part<'r>, OpenFault> {
         let error = match self.make_part(alloc, name) {
             Ok(part) => return Ok(part),
             Err(error) => error.kind(),
@@ -250,15 +268,18 @@ impl Folder for Disk<'_> {
 
     /// Renames the part to that name, also where a write to it has failed. Where that can't be done the part is removed,
     /// and the file of that name is as it was.
-    fn store(&mut self, alloc: Global, name: &str, out: Part) -> Result<(), SinkFault> {
+    fn store(&mut self, alloc: Global, name: &str, out: Part<'r>) -> Result<(), SinkFault> {
         if out.file.faults > 0 {
             self.write_faults = one_more(self.write_faults);
         }
         let error = match self.put(alloc, &out, name) {
-            Ok(()) => return Ok(()),
+            Ok(()) => {
+                out.leave();
+                return Ok(());
+            }
             Err(error) => error.kind(),
         };
-        let _ = fs::remove_file(self.rt, out.name.as_str());
+        drop(out);
         match error {
             ErrorKind::OutOfMemory => Err(SinkFault::OutOfMemory),
             _ => {

@@ -48,9 +48,12 @@ fn copy<R: Threads + Wait + Sync>(
     let bytes = bytes_of(alloc)?;
     let source = MemSource::new(alloc, &bytes, reads)?;
     let sink = MemSink::new(alloc, writes)?;
-    Ok(copy_all(
+    match copy_all(
         rt, &domain, &mut task, source, sink, NoWatchers, plan, &OpenGate,
-    ))
+    ) {
+        Ok(end) => Ok(end),
+        Err(_) => Err(AllocError),
+    }
 }
 
 /// The sink holds a front of the source's bytes.

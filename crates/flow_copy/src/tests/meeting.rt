@@ -63,7 +63,7 @@ fn workers_meet_in_their_first_turns(rt: HostRuntime) -> Result<(), Fail> {
     let source = MemSource::new(rt.alloc(), &bytes, &[])?;
     let sink = MemSink::new(rt.alloc(), &[])?;
     let gate = Meeting::new();
-    let end = copy_all(
+    let Ok(end) = copy_all(
         &rt,
         &domain,
         &mut task,
@@ -72,7 +72,9 @@ fn workers_meet_in_their_first_turns(rt: HostRuntime) -> Result<(), Fail> {
         NoWatchers,
         &[],
         &gate,
-    );
+    ) else {
+        panic!(rt; "the copy has no threads")
+    };
     assert_eq!(rt; end.stop, Stop::Finished);
     assert_eq!(rt; end.sink.bytes(), bytes.as_slice());
     assert_eq!(rt; gate.gave_up.load(Ordering::SeqCst), 0);

@@ -26,7 +26,7 @@ fn copies_bytes(rt: HostRuntime) -> Result<(), Fail> {
         let (domain, mut task) = Domain::new(rt.alloc())?;
         let source = MemSource::new(rt.alloc(), bytes.as_slice(), &[])?;
         let sink = MemSink::new(rt.alloc(), &[])?;
-        let end = copy_all(
+        let Ok(end) = copy_all(
             &rt,
             &domain,
             &mut task,
@@ -35,7 +35,9 @@ fn copies_bytes(rt: HostRuntime) -> Result<(), Fail> {
             NoWatchers,
             &[],
             &OpenGate,
-        );
+        ) else {
+            panic!(rt; "the copy has no threads")
+        };
         assert_eq!(rt; end.stop, Stop::Finished);
         assert_eq!(rt; end.moved, moved);
         assert_eq!(rt; end.sink.bytes(), bytes.as_slice());

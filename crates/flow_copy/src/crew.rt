@@ -1,0 +1,313 @@
+//! Four jobs at once, each in a thread of its own, or none of them.
+//!
+//! A job is begun only once all have their threads: each thread first waits for one word, which says whether all are
+//! there. The word is said once, so all hear the same.
+
+ghost use Rattle.std.specs.Prelude.{◌≡◌, ◌+◌, ◌<◌, true, false, Ok, Err, IfErr, IfOk, MatchResult};
+ghost use Rattle.std.specs.Result.{ForErr, ForOk};
+ghost use Rattle.flow_copy.specs.Crews.{Comes};
+
+use std::marker::Brand;
+use std::snapshot::Snapshot;
+use std::sync::ledger::{Blank, Book, Ledger, Share, Total};
+use std::sync::{OnceLock, OnceToken, Wait};
+use std::thread;
+use std::thread::{Promise, PromisedHandle, SpawnError, Threads};
+
+/// A part of the work that is done once.
+pub trait Job: Send + Drop {
+    type Done: Send + Drop;
+
+    /// What has to hold before it.
+    ghost asks: { Self → Type 0 };
+
+    /// What holds of that which it made.
+    ghost did: { Self → Self.Done → Type 0 };
+
+    fn run(self) -> Self::Done
+        requires { asks self }
+        ensures { did self result };
+}
+
+/// The word that all wait for. It says that the jobs are to be begun only where the sum of the ledger is one, which who
+/// says it has written there once all threads were there.
+#[derive(Drop)]
+struct Word<L: Ledger> {
+    begins: bool,
+    sum: Total<L>,
+    ghost one_part: { sum.parts ≡ 1 },
+    ghost all_there: { begins ≡ true → sum.amount ≡ 1 },
+}
+
+/// The word that a job heard, and what it made; or the job itself, where the word was that none begins.
+#[derive(Drop)]
+struct Reply<'a, L: Ledger, D, J> {
+    word: OnceToken<'a, Word<L>>,
+    outcome: Result<D, J>,
+    ghost done: { ForOk outcome (λ _. word.value.begins ≡ true) },
+    ghost back: { ForErr outcome (λ _. word.value.begins ≡ false) },
+}
+
+/// What a thread is asked: to wait for the word in this lock, and then to do this job, or to hand it back.
+#[derive(Drop)]
+struct Asked<'a, L: Ledger, J: Job> {
+    lock: &'a OnceLock<Word<L>>,
+    job: Snapshot<J>,
+}
+
+impl<'a, L: Ledger, J: Job> Promise<Reply<'a, L, J::Done, J>> for Asked<'a, L, J> {
+    ghost kept_by = { λ p r. (r.word.of ≡ p.lock.now.id) × Comes J J.Done J.did p.job.value r.outcome };
+}
+
+fn ask<'a, L: Ledger, J: Job>(lock: &'a OnceLock<Word<L>>, job: &J) -> Asked<'a, L, J>
+    ensures lock { result.lock.now.id ≡ lock.now.id }
+    ensures job { result.job.value ≡ job.now }
+{
+    let job = Snapshot::of(job);
+    Asked { lock, job }
+}
+
+/// Waits until the word is said.
+fn hear<'a, R: Wait, L: Ledger>(rt: &R, lock: &'a OnceLock<Word<L>>) -> OnceToken<'a, Word<L>>
+    ensures { result.of ≡ lock.now.id }
+{
+    for _ in rt.forever() {
+        lock.wait(rt);
+        if let Some(word) = lock.witness() {
+            return word;
+        }
+    }
+    unreachable!()
+}
+
+/// Waits for the word, and then does a job, or hands it back.
+fn stand_by<'a, R: Wait, L: Ledger, J: Job>(
+    rt: &R,
+    lock: &'a OnceLock<Word<L>>,
+    job: J,
+) -> Reply<'a, L, J::Done, J>
+    requires { J.asks job }
+    ensures word { result.word.of ≡ lock.now.id }
+    ensures comes { Comes J J.Done J.did job result.outcome }
+{
+    let word = hear(rt, lock);
+    if lock.value(&word).begins {
+        let outcome = Ok(job.run());
+        Reply { word, outcome }
+    } else {
+        let outcome = Err(job);
+        Reply { word, outcome }
+    }
+}
+
+/// Says the word, unless it was said.
+fn say<'a, R: Wait, L: Ledger>(
+    rt: &R,
+    lock: &'a OnceLock<Word<L>>,
+    word: Word<L>,
+) -> OnceToken<'a, Word<L>>
+    ensures { result.of ≡ lock.now.id }
+{
+    match lock.try_insert(rt, word) {
+        Ok(said) => said,
+        Err((said, _)) => said,
+    }
+}
+
+/// Closes the book with the sum of one where all are there, and says so.
+fn close<L: Ledger>(book: Book<L>, share: &mut Share<L>, all: bool) -> Word<L>
+    requires total { book.total ≡ 0 }
+    requires parts { (L.parts ≡ 1) × (share.old.parts ≡ 1) }
+    requires amount { share.old.amount ≡ 0 }
+    ensures parts { share.new.parts ≡ 1 }
+    ensures amount { share.new.amount ≡ 1 → all ≡ true }
+{
+    let mut book = book;
+    if all {
+        book.add(share, 1);
+    }
+    Word {
+        begins: all,
+        sum: book.close(),
+    }
+}
+
+/// Whether the jobs are begun: only where all are there.
+fn begins<L: Ledger>(word: &Word<L>, share: &mut Share<L>) -> bool
+    requires parts { share.old.parts ≡ 1 }
+    ensures word { result ≡ word.now.begins }
+    ensures there { result ≡ true → share.old.amount ≡ 1 }
+{
+    word.sum.audit(share);
+    word.begins
+}
+
+/// Waits for the end of a thread; where there is none, what it was to do is done here, and the word was that nothing
+/// begins.
+fn settle<R: Threads, T, P: Promise<T>, F: FnOnce() -> T>(
+    rt: &R,
+    begins: bool,
+    hand: Result<PromisedHandle<T, P>, SpawnError<F>>,
+) -> T
+    requires idle { IfErr hand (λ _. begins ≡ false) }
+    requires callable { IfErr hand (λ refused. F.pre refused.value) }
+    ensures kept { MatchResult hand (λ handle. P.kept_by handle.promise result)
+        (λ refused. F.post refused.value result) }
+{
+    match hand {
+        Ok(handle) => handle.join(rt),
+        Err(refused) => {
+            prove!(!begins);
+            (refused.value)()
+        }
+    }
+}
+
+/// What a job made, where the word was to begin.
+fn made<'a, L: Ledger, J: Job>(
+    word: &OnceToken<'a, Word<L>>,
+    reply: Reply<'a, L, J::Done, J>,
+) -> J::Done
+    requires same { reply.word.of ≡ word.now.of }
+    requires begun { word.now.value.begins ≡ true }
+    ensures { reply.entry.outcome ≡ Ok result }
+{
+    let Reply {
+        word: heard,
+        outcome,
+    } = reply;
+    heard.agrees(word);
+    match outcome {
+        Ok(done) => done,
+        Err(_) => unreachable!(),
+    }
+}
+
+/// The job itself, where the word was that none begins.
+fn back<'a, L: Ledger, J: Job>(word: &OnceToken<'a, Word<L>>, reply: Reply<'a, L, J::Done, J>) -> J
+    requires same { reply.word.of ≡ word.now.of }
+    requires begun { word.now.value.begins ≡ false }
+    ensures { reply.entry.outcome ≡ Err result }
+{
+    let Reply {
+        word: heard,
+        outcome,
+    } = reply;
+    heard.agrees(word);
+    match outcome {
+        Ok(_) => unreachable!(),
+        Err(job) => job,
+    }
+}
+
+/// Starts three threads, says the word, and waits for all.
+fn begin_all<L: Ledger + Send + Sync, R: Threads + Wait + Sync, A: Job, B: Job, C: Job, D: Job>(
+    rt: &R,
+    lock: &OnceLock<Word<L>>,
+    book: Book<L>,
+    share: Share<L>,
+    one: A,
+    two: B,
+    three: C,
+    four: D,
+) -> Result<(A::Done, B::Done, C::Done, D::Done), (A, B, C, D)>
+    requires book { book.total ≡ 0 }
+    requires share { (L.parts ≡ 1) × ((share.parts ≡ 1) × (share.amount ≡ 0)) }
+    requires asks { A.asks one × (B.asks two × (C.asks three × D.asks four)) }
+    ensures did { IfOk result (λ done. A.did one done.0
+        × (B.did two done.1 × (C.did three done.2 × D.did four done.3))) }
+    ensures same { IfErr result (λ back. (back.0 ≡ one) × ((back.1 ≡ two) × ((back.2 ≡ three) × (back.3 ≡ four)))) }
+{
+    thread::scope(
+        thread::scope_env(),
+        rt,
+        move |scope| -> Result<(A::Done, B::Done, C::Done, D::Done), (A, B, C, D)>
+            requires book { book.total ≡ 0 }
+            requires share { (L.parts ≡ 1) × ((share.parts ≡ 1) × (share.amount ≡ 0)) }
+            requires asks { A.asks one × (B.asks two × (C.asks three × D.asks four)) }
+            ensures { MatchResult result
+                (λ done. A.did one done.0 × (B.did two done.1 × (C.did three done.2 × D.did four done.3)))
+                (λ back. (back.0 ≡ one) × ((back.1 ≡ two) × ((back.2 ≡ three) × (back.3 ≡ four)))) }
+        {
+            let mut share = share;
+            let first = scope.spawn_with(
+                ask(lock, &one),
+                move ||
+                    requires { A.asks one }
+                { stand_by(rt, lock, one) },
+            );
+            let second = scope.spawn_with(
+                ask(lock, &two),
+                move ||
+                    requires { B.asks two }
+                { stand_by(rt, lock, two) },
+            );
+            let third = scope.spawn_with(
+                ask(lock, &three),
+                move ||
+                    requires { C.asks three }
+                { stand_by(rt, lock, three) },
+            );
+            let all = first.is_ok() && second.is_ok() && third.is_ok();
+            let said = say(rt, lock, close(book, &mut share, all));
+            let begins = begins(lock.value(&said), &mut share);
+            let last = stand_by(rt, lock, four);
+            let first = settle(rt, begins, first);
+            let second = settle(rt, begins, second);
+            let third = settle(rt, begins, third);
+            if begins {
+                Ok((
+                    made(&said, first),
+                    made(&said, second),
+                    made(&said, third),
+                    made(&said, last),
+                ))
+            } else {
+                Err((
+                    back(&said, first),
+                    back(&said, second),
+                    back(&said, third),
+                    back(&said, last),
+                ))
+            }
+        },
+    )
+}
+
+/// The same over a ledger of one part.
+fn with_ledger<L: Ledger + Send + Sync, R: Threads + Wait + Sync, A: Job, B: Job, C: Job, D: Job>(
+    rt: &R,
+    blank: Blank,
+    one: A,
+    two: B,
+    three: C,
+    four: D,
+) -> Result<(A::Done, B::Done, C::Done, D::Done), (A, B, C, D)>
+    requires name { blank.name ≡ L.name }
+    requires parts { (blank.parts ≡ L.parts) × (L.parts ≡ 1) }
+    requires asks { A.asks one × (B.asks two × (C.asks three × D.asks four)) }
+    ensures did { IfOk result (λ done. A.did one done.0
+        × (B.did two done.1 × (C.did three done.2 × D.did four done.3))) }
+    ensures same { IfErr result (λ back. (back.0 ≡ one) × ((back.1 ≡ two) × ((back.2 ≡ three) × (back.3 ≡ four)))) }
+{
+    let (book, share) = blank.open::<L>();
+    let lock = OnceLock::new();
+    begin_all(rt, &lock, book, share, one, two, three, four)
+}
+
+/// Does four jobs at once, the first three in threads of their own and the last in this one. Where one of these threads
+/// can't be had none of the jobs is begun, and all four are handed back as they were.
+pub(crate) fn all_at_once<R: Threads + Wait + Sync, A: Job, B: Job, C: Job, D: Job>(
+    rt: &R,
+    one: A,
+    two: B,
+    three: C,
+    four: D,
+) -> Result<(A::Done, B::Done, C::Done, D::Done), (A, B, C, D)>
+    requires asks { A.asks one × (B.asks two × (C.asks three × D.asks four)) }
+    ensures did { IfOk result (λ done. A.did one done.0
+        × (B.did two done.1 × (C.did three done.2 × D.did four done.3))) }
+    ensures same { IfErr result (λ back. (back.0 ≡ one) × ((back.1 ≡ two) × ((back.2 ≡ three) × (back.3 ≡ four)))) }
+{
+    with_ledger::<Brand, R, A, B, C, D>(rt, Blank::new(1), one, two, three, four)
+}

@@ -23,7 +23,7 @@ use serving::serve;
 use std::alloc::Global;
 use wq_checked::CheckedTask;
 
-/// Makes a Domain and its first task, whose address it writes to `out`: 0, or -ENOMEM.
+/// Makes a Domain and its first task, whose address it writes to `out`: 0, or -ENOMEM, and then `out` is left as it is.
 #[unsafe(no_mangle)]
 pub extern "C" fn sugwelan_new(alloc: Global, out: &mut *mut u8) -> i32
     ensures* { sem 𝓛 (gives IsNew NoNew result out.new out.old) }
@@ -31,7 +31,8 @@ pub extern "C" fn sugwelan_new(alloc: Global, out: &mut *mut u8) -> i32
     put(begin(alloc), out)
 }
 
-/// A call of the task at the address, which no other call uses meanwhile: a code, and `told` says the rest.
+/// A call of the task at the address, which no other call uses meanwhile: a code of `replies`, where each stands with
+/// its reason, and `told` says the rest. A call that is refused changes nothing.
 #[unsafe(no_mangle)]
 pub unsafe extern "C" fn sugwelan_call(task: *mut u8, call: &Call, told: &mut Told) -> i32
     ghost held: { Checked }
@@ -41,8 +42,10 @@ pub unsafe extern "C" fn sugwelan_call(task: *mut u8, call: &Call, told: &mut To
     serve(&mut *(task as *mut CheckedTask), call, told)
 }
 
-/// Makes a further task of the same Domain, with `share` of the numbers that are spare, and writes its address to `out`:
-/// 0, or why there is none.
+/// Makes a further task of the same Domain, with `share` of the numbers that are spare, below 256, and writes its address
+/// to `out`: 0. Else `out` is left as it is. -EINVAL: `share` is 256 or more. -EBUSY: a call of the task is under way.
+/// -EBADF: it makes no more calls. -ENOSPC: fewer than `1 + share` numbers are spare. -ENOMEM: there is no memory, and the
+/// numbers may be used up.
 #[unsafe(no_mangle)]
 pub unsafe extern "C" fn sugwelan_fork(
     alloc: Global,
@@ -58,7 +61,8 @@ pub unsafe extern "C" fn sugwelan_fork(
     put(fork(alloc, &mut *(task as *mut CheckedTask), share), out)
 }
 
-/// Gives the task up and frees its block: 0, or why it may not.
+/// Gives the task up and frees its block: 0, also of a task that makes no more calls. Else it is left as it is. -EBUSY: a
+/// call of the task is under way. -EPERM: it keeps a bit or a page.
 #[unsafe(no_mangle)]
 pub unsafe extern "C" fn sugwelan_free(alloc: Global, task: *mut u8) -> i32
     ghost held: { Checked }

@@ -132,6 +132,14 @@ fn pause<R: Wait>(rt: &R, domain: &Domain, run: &AwaitRun, looks: u32) -> u32
     locks::pause(rt, domain, head_of(run.watch()), run.served, looks)
 }
 
+/// Wakes the threads that park for the lock of the head, where a turn may have given it back.
+fn wake_after(domain: &Domain, head: u16, turn: AwaitTurn) {
+    match turn {
+        AwaitTurn::Locked(_) => {}
+        _ => wake_waiters(domain, head),
+    }
+}
+
 /// Goes on with a wait from a stage to its end: waits for locks, and sleeps.
 pub fn run_await<R: Wait>(
     rt: &R,
@@ -151,7 +159,7 @@ pub fn run_await<R: Wait>(
     let mut looks = 0;
     for _ in rt.forever() {
         let turn = stretch(domain, task, run, at);
-        wake_waiters(domain, head);
+        wake_after(domain, head, turn);
         match turn {
             AwaitTurn::Again(next) => {
                 looks = 0;

@@ -213,7 +213,10 @@ pub(crate) fn run_cell<R: Wait>(
     let mut looks = 0;
     for _ in rt.forever() {
         let turn = cell_stretch(domain, task, &mut run, stage, &mut rousing);
-        wake_waiters(domain, head);
+        match turn {
+            CellTurn::Locked => {}
+            _ => wake_waiters(domain, head),
+        }
         rousing.rouse_all(domain);
         match turn {
             CellTurn::Locked => {

@@ -108,6 +108,21 @@ fn pause<R: Wait>(rt: &R, domain: &Domain, run: &PageRun, looks: u32) -> u32
     locks::pause(rt, domain, head_of(run.watch()), run.served, looks)
 }
 
+/// Wakes the threads that park for the lock of the head, where a turn may have given it back.
+#[inline(always)]
+fn wake_after(domain: &Domain, head: u16, turn: PageTurn) {
+    match turn {
+        PageTurn::Again(next) => {
+            if is_free(next) {
+                wake_waiters(domain, head);
+            }
+        }
+        PageTurn::Done(_) => wake_waiters(domain, head),
+        PageTurn::Asleep(_) => {}
+        PageTurn::Locked(_) => {}
+    }
+}
+
 /// Goes on with a wait from a stage to its end: waits for locks, and sleeps.
 #[inline(always)]
 pub fn run_page<R: Wait>(
@@ -126,7 +141,7 @@ pub fn run_page<R: Wait>(
     let mut looks = 0;
     for _ in rt.forever() {
         let turn = advance_page(domain, task, run, at);
-        wake_waiters(domain, head);
+        wake_after(domain, head, turn);
         match turn {
             PageTurn::Again(next) => {
                 looks = 0;

@@ -76,7 +76,10 @@ fn swake<R: Wait>(rt: &R, domain: &Domain, task: &mut Task, cond: u8, all: bool)
     let mut looks = 0;
     for _ in rt.forever() {
         let turn = swake_stretch(domain, task, &mut run, stage, &mut rousing);
-        wake_waiters(domain, head);
+        match turn {
+            SwakeTurn::Locked => {}
+            _ => wake_waiters(domain, head),
+        }
         rousing.rouse_all(domain);
         match turn {
             SwakeTurn::Locked => {

@@ -9,14 +9,13 @@ ghost use Rattle.wait_event.specs.Prepares.{EndsExclusive, IsFinishing, first_in
 ghost use Rattle.wait_event.specs.Waits.{Advances, IsAt, is_prepared};
 
 use crate::queueing::own_entry;
-use crate::wait_calls::pause;
+use crate::wait_calls::{pause, wake_after};
 use crate::waits::{WaitRun, WaitStage, WaitTurn, advance};
 use std::sync::Wait;
 use wait_model::heads::head_of;
 use wait_model::layout::RUNNING;
 use wait_model::tasks::{How, SleepState};
 use wait_model::watches::{Kind, Watch};
-use wait_rule::queues::wake_waiters;
 use wait_rule::tasks::set_state;
 use wait_rule::{Domain, Task};
 use wq_head::Worn;
@@ -53,7 +52,7 @@ fn run_prepare<R: Wait>(rt: &R, domain: &Domain, task: &mut Task, run: &mut Wait
     let mut looks = 0;
     for _ in rt.forever() {
         let turn = advance(domain, task, run, at);
-        wake_waiters(domain, head);
+        wake_after(domain, head, turn);
         match turn {
             WaitTurn::Again(next) => {
                 if ends_prepare(next) {
@@ -84,7 +83,7 @@ fn run_finish<R: Wait>(rt: &R, domain: &Domain, task: &mut Task, run: &mut WaitR
     let mut looks = 0;
     for _ in rt.forever() {
         let turn = advance(domain, task, run, at);
-        wake_waiters(domain, head);
+        wake_after(domain, head, turn);
         match turn {
             WaitTurn::Again(next) => {
                 looks = 0;

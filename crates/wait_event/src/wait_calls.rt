@@ -94,6 +94,21 @@ pub(crate) fn pause<R: Wait>(rt: &R, domain: &Domain, run: &WaitRun, looks: u32)
     locks::pause(rt, domain, head_of(run.watch), run.served, looks)
 }
 
+/// Wakes the threads that park for the lock of the head, where a turn may have given it back.
+#[inline(always)]
+pub(crate) fn wake_after(domain: &Domain, head: u16, turn: WaitTurn) {
+    match turn {
+        WaitTurn::Again(next) => {
+            if is_free(next) {
+                wake_waiters(domain, head);
+            }
+        }
+        WaitTurn::Done(_) => wake_waiters(domain, head),
+        WaitTurn::Asleep(_) => {}
+        WaitTurn::Locked(_) => {}
+    }
+}
+
 /// Goes on with a wait from a stage to its end: waits for locks, and sleeps.
 #[inline(always)]
 pub fn run_wait<R: Wait>(
@@ -112,7 +127,7 @@ pub fn run_wait<R: Wait>(
     let mut looks = 0;
     for _ in rt.forever() {
         let turn = advance(domain, task, run, at);
-        wake_waiters(domain, head);
+        wake_after(domain, head, turn);
         match turn {
             WaitTurn::Again(next) => {
                 looks = 0;

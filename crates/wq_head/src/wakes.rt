@@ -126,7 +126,10 @@ pub fn wake<R: Wait>(
     let mut looks = 0;
     for _ in rt.forever() {
         let turn = wake_stretch(domain, task, &mut run, stage, &mut list, &mut rousing);
-        wake_waiters(domain, head);
+        match turn {
+            WakeTurn::Locked(_) => {}
+            _ => wake_waiters(domain, head),
+        }
         rousing.rouse_all(domain);
         match turn {
             WakeTurn::Locked(next) => {

@@ -9,6 +9,7 @@ import os
 import platform
 import re
 import resource
+import signal
 import subprocess
 import sys
 import time
@@ -127,6 +128,7 @@ def measured(words):
     """Runs the command: what was seen, its status, the wall time, and the processor time that the system tells."""
     began, was = time.monotonic(), resource.getrusage(resource.RUSAGE_CHILDREN)
     ran, seen = subprocess.Popen(words, stdout=sys.stderr), Seen()
+    signal.signal(signal.SIGTERM, lambda *_: (ran.terminate(), sys.exit(143)))
     while ran.poll() is None:
         seen.look(ran.pid)
         time.sleep(PAUSE)

@@ -27,7 +27,9 @@ while [ $# -gt 0 ]; do
     shift
 done
 work=$(mktemp -d)
-trap 'rm -rf -- "$work"' EXIT
+trap 'kill $(jobs -p) 2>/dev/null; wait; rm -rf -- "$work"' EXIT
+trap 'exit 130' INT
+trap 'exit 143' TERM
 
 # Makes a kit of the same files in $work/kit. What rt keeps lies beside its kit, so with this one it has kept nothing.
 link_kit() {
@@ -57,4 +59,5 @@ else
     : >"$work/script"
     set -- rt ci ${what:+"$what"} "$@"
 fi
-COMMIT=$commit python3 "$root/bench/gate_time.py" "$@" <"$work/script"
+COMMIT=$commit python3 "$root/bench/gate_time.py" "$@" <"$work/script" &
+wait $!

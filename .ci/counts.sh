@@ -1,6 +1,6 @@
 #!/usr/bin/env bash
-# Counts what each public call takes that nothing meets, and an event of a replay: instructions, by valgrind's callgrind,
-# and calls of the system, by strace. Compares them with bench/counts.txt.
+# Counts what each public call takes that nothing meets, and an event of a replay: instructions, by valgrind's
+# callgrind, and calls of the system, by strace. Compares them with bench/counts.txt.
 #
 # usage: .ci/counts.sh            (it needs what `rt ci` built; without valgrind or strace it says so, and passes)
 #        .ci/counts.sh --write    writes the counts into the table
@@ -85,7 +85,8 @@ compare() {
         { keep(new) }
         END {
             if (!found) print "the table has no row of it"
-            else for (it in new) if (new[it] > 1.05 * old[it]) printf "%s %s, in the table %s\n", it, new[it], old[it] + 0
+            for (it in new) if (found && new[it] > 1.05 * old[it])
+                printf "%s %s, in the table %s\n", it, new[it], old[it] + 0
         }
     ' "$table" "$work/rows"
 }

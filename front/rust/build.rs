@@ -19,7 +19,7 @@ fn main() {
     let beside = PathBuf::from(env::var("CARGO_MANIFEST_DIR").expect("cargo says where the crate is")).join("../out");
     let folder = env::var("SUGWELAN_ARCHIVES").map_or(beside, PathBuf::from);
     println!("cargo:rerun-if-env-changed=SUGWELAN_ARCHIVES");
-    println!("cargo:rerun-if-changed={}", folder.display());
+    println!("cargo:rerun-if-changed=build.rs");
     let Some(libraries) = libraries(&folder) else {
         println!(
             "cargo:warning=sugwelan: no libsugwelan.a in {}. `front/try --build` makes it there; or name the folder \
@@ -30,6 +30,7 @@ fn main() {
     };
     println!("cargo:rustc-link-search=native={}", folder.display());
     for name in libraries {
+        println!("cargo:rerun-if-changed={}", folder.join(format!("lib{name}.a")).display());
         println!("cargo:rustc-link-lib=static={name}");
     }
 }

@@ -113,6 +113,6 @@ fn main() -> Result<(), Error> {
         (0..THREADS).for_each(|_| queue.put(None));
         Ok(())
     })?;
-    println!("{FUTURES} futures took a permit each");
+    println!("{FUTURES} jobs are over");
     Ok(())
 }

@@ -30,7 +30,10 @@ fn main() {
     };
     println!("cargo:rustc-link-search=native={}", folder.display());
     for name in libraries {
-        println!("cargo:rerun-if-changed={}", folder.join(format!("lib{name}.a")).display());
+        println!(
+            "cargo:rerun-if-changed={}",
+            folder.join(format!("lib{name}.a")).display()
+        );
         println!("cargo:rustc-link-lib=static={name}");
     }
 }

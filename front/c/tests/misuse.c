@@ -126,16 +126,49 @@ static void no_task(void)
     EXPECT(sugwelan_task_number(NULL), -EBADF);
     EXPECT(sugwelan_task_domain(NULL) == NULL, 1);
     EXPECT(sugwelan_wait_event(NULL, SET, SUGWELAN_UNINTERRUPTIBLE), -EBADF);
+    EXPECT(sugwelan_wait_event_exclusive(NULL, SET, SUGWELAN_UNINTERRUPTIBLE), -EBADF);
+    EXPECT(sugwelan_swait_event(NULL, SIMPLE, SUGWELAN_UNINTERRUPTIBLE), -EBADF);
     EXPECT(sugwelan_wake_up(NULL, SET, SUGWELAN_WAKE_NORMAL, 0, NULL), -EBADF);
+    EXPECT(sugwelan_set_and_wake(NULL, SET, 1, 0, NULL), -EBADF);
     EXPECT(sugwelan_take_condition(NULL, SET, NULL), -EBADF);
+    EXPECT(sugwelan_set_and_swake_one(NULL, SIMPLE, 1, NULL), -EBADF);
+    EXPECT(sugwelan_set_and_swake_all(NULL, SIMPLE, 1, NULL), -EBADF);
+    EXPECT(sugwelan_swake_up_one(NULL, SIMPLE, NULL), -EBADF);
+    EXPECT(sugwelan_swake_up_all(NULL, SIMPLE, NULL), -EBADF);
+    EXPECT(sugwelan_wait_var_event(NULL, VARIABLE, 0, SUGWELAN_UNINTERRUPTIBLE, NULL), -EBADF);
+    EXPECT(sugwelan_publish_var_and_wake(NULL, VARIABLE, 1, NULL), -EBADF);
+    EXPECT(sugwelan_wait_on_bit(NULL, WORD, KEPT, SUGWELAN_UNINTERRUPTIBLE), -EBADF);
+    EXPECT(sugwelan_wait_on_bit_lock(NULL, WORD, KEPT, SUGWELAN_UNINTERRUPTIBLE), -EBADF);
     EXPECT(sugwelan_trylock_bit(NULL, WORD, KEPT), -EBADF);
+    EXPECT(sugwelan_clear_and_wake_up_bit(NULL, WORD, KEPT, NULL), -EBADF);
+    EXPECT(sugwelan_lock_page(NULL, PAGE, SUGWELAN_UNINTERRUPTIBLE), -EBADF);
+    EXPECT(sugwelan_trylock_page(NULL, PAGE), -EBADF);
     EXPECT(sugwelan_unlock_page(NULL, PAGE, NULL), -EBADF);
-    EXPECT(sugwelan_complete(NULL, 0), -EBADF);
+    EXPECT(sugwelan_add_tally(NULL, PAGE, 1, NULL), -EBADF);
+    EXPECT(sugwelan_wait_for_completion(NULL, CELL, SUGWELAN_UNINTERRUPTIBLE), -EBADF);
+    EXPECT(sugwelan_complete(NULL, CELL), -EBADF);
+    EXPECT(sugwelan_complete_all(NULL, CELL), -EBADF);
+    EXPECT(sugwelan_reinit_completion(NULL, CELL), -EBADF);
+    EXPECT(sugwelan_try_wait_for_completion(NULL, CELL), -EBADF);
+    EXPECT(sugwelan_completion_done(NULL, CELL), -EBADF);
+    EXPECT(sugwelan_raise_signal(NULL, 0, 0), -EBADF);
     EXPECT(sugwelan_take_signal(NULL), -EBADF);
     EXPECT(sugwelan_signal_pending(NULL), -EBADF);
+}
+
+static void no_domain(void)
+{
     EXPECT(sugwelan_domain_free(NULL), -EBADF);
-    EXPECT(sugwelan_domain_complete(NULL, 0), -EBADF);
     EXPECT(sugwelan_domain_raise_signal(NULL, 0, 0), -EBADF);
+    EXPECT(sugwelan_domain_wake_up(NULL, SET, SUGWELAN_WAKE_NORMAL, 0, NULL), -EBADF);
+    EXPECT(sugwelan_domain_set_and_wake(NULL, SET, 1, 0, NULL), -EBADF);
+    EXPECT(sugwelan_domain_set_and_swake_one(NULL, SIMPLE, 1, NULL), -EBADF);
+    EXPECT(sugwelan_domain_set_and_swake_all(NULL, SIMPLE, 1, NULL), -EBADF);
+    EXPECT(sugwelan_domain_swake_up_one(NULL, SIMPLE, NULL), -EBADF);
+    EXPECT(sugwelan_domain_swake_up_all(NULL, SIMPLE, NULL), -EBADF);
+    EXPECT(sugwelan_domain_publish_var_and_wake(NULL, VARIABLE, 1, NULL), -EBADF);
+    EXPECT(sugwelan_domain_complete(NULL, CELL), -EBADF);
+    EXPECT(sugwelan_domain_complete_all(NULL, CELL), -EBADF);
 }
 
 /* No place for what is given out. */
@@ -326,6 +359,7 @@ int main(void)
     completions_out_of_range();
     bits_of_others();
     no_task();
+    no_domain();
     no_place();
     domain_out_of_range();
     numbers();

@@ -1,5 +1,6 @@
 //! A bell for each task of a Domain: who waits leaves word whom to rouse, and who wakes rings.
 
+use crate::races::Ties;
 use crate::raw::TASKS;
 use crate::Signal;
 use std::any::Any;
@@ -58,15 +59,17 @@ impl Bell {
     }
 }
 
-/// The bells of a Domain.
+/// The bells of a Domain, and what a checker of races is told.
 pub struct Bells {
     of: Vec<Bell>,
+    pub ties: Ties,
 }
 
 impl Bells {
     pub fn new() -> Bells {
         Bells {
             of: (0..TASKS).map(|_| Bell::default()).collect(),
+            ties: Ties::new(),
         }
     }
 

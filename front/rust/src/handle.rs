@@ -156,6 +156,7 @@ impl Shared {
     pub fn by_home<T>(&self, call: Call, give: impl FnOnce(&Told) -> T) -> Result<T, Error> {
         let mut roused = Vec::new();
         let answer = {
+            self.bells.ties.begin(&call);
             let mut home = lock(&self.home);
             let end = home.drive(call, |numbers| roused.extend_from_slice(numbers));
             end.unwrap_or(Err(Error::Other(raw::PARK))).map(|()| give(home.told()))
@@ -171,6 +172,7 @@ impl Shared {
             let mut raised = self.bells.raised(number);
             *raised = (*raised).max(Some(signal));
             let call = signal_call(number, signal);
+            self.bells.ties.begin(&call);
             let end = lock(&self.home).drive(call, |numbers| roused.extend_from_slice(numbers));
             end.unwrap_or(Ok(()))
         };

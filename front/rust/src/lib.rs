@@ -52,6 +52,7 @@ mod handle;
 mod lent;
 mod mutex;
 mod page;
+mod races;
 mod raw;
 mod states;
 mod task;

@@ -125,6 +125,7 @@ impl Task {
     /// Begins a call or goes on with one, until it is over, or the task asleep: None.
     fn drive(&mut self, call: Call) -> Option<Result<(), Error>> {
         let (bells, panic) = (&self.shared.bells, &mut self.panic);
+        bells.ties.begin(&call);
         let end = self.handle.drive(call, |numbers| {
             let broken = bells.ring_all(numbers);
             *panic = panic.take().or(broken);
@@ -135,6 +136,7 @@ impl Task {
 
     /// Counts what a call has taken or given back that is over.
     fn count(&mut self, call: &Call) {
+        self.shared.bells.ties.end(call, self.value());
         match call.kind {
             Kind::WaitOnBitLock | Kind::LockPage => self.kept += 1,
             Kind::TrylockBit | Kind::TrylockPage => self.kept += u32::from(self.value() != 0),
@@ -197,8 +199,10 @@ impl Task {
 
     fn advance(&mut self, call: Call) -> Option<Result<(), Error>> {
         let end = self.drive(call)?;
-        if let (Some(wait), Ok(())) = (self.under_way.take(), end) {
-            self.count(&wait.call);
+        match (self.under_way.take(), end) {
+            (Some(wait), Ok(())) => self.count(&wait.call),
+            (_, Err(Error::Signal)) => self.shared.bells.ties.signalled(self.number()),
+            _ => {}
         }
         Some(end)
     }
@@ -346,6 +350,7 @@ impl Task {
         let shared = self.shared.clone();
         let mut raised = shared.bells.raised(self.number());
         self.drive(Call::new(Kind::TakeSignal)).unwrap_or(Ok(()))?;
+        shared.bells.ties.signalled(self.number());
         Ok(raised.take())
     }
 

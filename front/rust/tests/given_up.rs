@@ -12,7 +12,7 @@ use std::sync::{mpsc, Arc};
 use std::task::{Context, Poll, Waker};
 use std::thread;
 use std::time::Duration;
-use sugwelan::{Bit, Completion, Domain, Error, Interruptible, Killable, Page, Signal, Task};
+use sugwelan::{Bit, Completion, Domain, Error, Interruptible, Killable, Left, Page, Signal, Task, Wait};
 
 const BIT: Bit = Bit::new(3, 4);
 const PAGE: Page = Page::new(5);
@@ -101,8 +101,34 @@ fn put(kind: Kind, task: &mut Task) {
     }
 }
 
-/// Begins to wait for the token, of which one is given back meanwhile, and gives up in some way, with the task or not.
+/// Polls a wait once, and forgets it where it is under way: whether it is over.
+fn forget<T, S: Left>(mut wait: Wait<'_, T, S>) -> bool {
+    let over = poll_once(Pin::new(&mut wait)).is_ready();
+    std::mem::forget(wait);
+    over
+}
+
+/// The same of a wait for the token.
+fn forgotten(kind: Kind, task: &mut Task, killable: bool) -> bool {
+    match (kind, killable) {
+        (Kind::Bit, false) => forget(task.wait_on_bit_lock(BIT, Interruptible)),
+        (Kind::Bit, true) => forget(task.wait_on_bit_lock(BIT, Killable)),
+        (Kind::Page, false) => forget(task.lock_page(PAGE, Interruptible)),
+        (Kind::Page, true) => forget(task.lock_page(PAGE, Killable)),
+        (Kind::Permit, false) => forget(PERMIT.wait(task, Interruptible)),
+        (Kind::Permit, true) => forget(PERMIT.wait(task, Killable)),
+        (Kind::Exclusive, false) => forget(task.wait_event_exclusive(PLAIN, Interruptible)),
+        (Kind::Exclusive, true) => forget(task.wait_event_exclusive(PLAIN, Killable)),
+        (Kind::Simple, _) => forget(task.swait_event(SIMPLE, Interruptible)),
+    }
+}
+
+/// Begins to wait for the token, of which one is given back meanwhile, and gives up in some way.
 fn give_up(kind: Kind, how: How, killable: bool, lost: &mut Task, put: impl FnOnce()) {
+    if how == How::Forgotten {
+        assert!(!forgotten(kind, lost, killable));
+        return put();
+    }
     let mut wait = Box::pin(get(kind, lost, killable));
     let waker = match how {
         How::WakerPanics => Waker::from(Arc::new(Broken)),
@@ -124,10 +150,7 @@ fn give_up(kind: Kind, how: How, killable: bool, lost: &mut Task, put: impl FnOn
             assert!(panics(put));
             drop(wait);
         }
-        How::Forgotten => {
-            put();
-            std::mem::forget(wait);
-        }
+        How::Forgotten => unreachable!("see above"),
     }
 }
 
@@ -167,6 +190,8 @@ fn the_next_future_gets_it() {
                 poll_once(second.as_mut()).is_ready(),
                 "{kind:?} {how:?}: woken and got nothing"
             );
+            drop(second);
+            put(kind, &mut next);
         }
     });
 }
@@ -182,8 +207,9 @@ fn the_next_thread_gets_it() {
         give_up(kind, how, killable, &mut lost, || {
             thread::spawn(move || {
                 block(kind, &mut next);
+                put(kind, &mut next);
+                drop(next);
                 says.send(()).unwrap();
-                next
             });
             thread::sleep(Duration::from_millis(1));
             put(kind, &mut keeper);
@@ -302,13 +328,9 @@ fn tasks_are_dropped_in_mid_wait() {
                                 put(kind, &mut task);
                             }
                             1 => {
-                                let mut wait = Box::pin(get(kind, &mut task, true));
-                                match poll_once(wait.as_mut()) {
-                                    Poll::Pending => std::mem::forget(wait),
-                                    Poll::Ready(()) => {
-                                        drop(wait);
-                                        put(kind, &mut task);
-                                    }
+                                let over = forgotten(kind, &mut task, true);
+                                if over && matches!(kind, Kind::Bit | Kind::Page | Kind::Permit) {
+                                    put(kind, &mut task);
                                 }
                             }
                             _ => {
@@ -323,6 +345,7 @@ fn tasks_are_dropped_in_mid_wait() {
             }
         });
         block(kind, &mut first);
+        put(kind, &mut first);
     }
 }
 

@@ -7,7 +7,8 @@ ghost use Rattle.wait_model.specs.declared.layout.TheConstants.{TASKS};
 ghost use Rattle.wait_rule.specs.Says.{IsClean, newcomer};
 ghost use Rattle.flow_copy.specs.declared.TheConstants.{SIGNALS};
 ghost use Rattle.flow_copy.specs.Plans.{fatal_of};
-ghost use Rattle.waitq_run.specs.Commands.{Copy, command_of, is_copy, reads_input, verdict_at, may_end_with};
+ghost use Rattle.waitq_run.specs.Commands.{Copy, IsFitRequest, asked_by, command_of, is_copy, may_end_with, reads_input};
+ghost use Rattle.waitq_run.specs.Commands.{verdict_at};
 ghost use Rattle.waitq_run.specs.Copying.{outside};
 ghost use Rattle.waitq_run.specs.Outcome.{Answers, Writes, IsBad, IsLong, IsNoCopyEnd, LeavesUnwritten};
 ghost use Rattle.waitq_run.specs.Run.{exit_status, is_quiet, CopyEnds, Delivers, Finishes, IfCopy, Reports, Spares};
@@ -26,32 +27,30 @@ use std::sync::Wait;
 use std::thread::Threads;
 use wait_rule::{Domain, Task};
 
-/// Does what the words say, or answers why not.
+/// Does what a command says that is no copy, or answers why not.
 fn answer<I: Source, O: Sink>(
     alloc: Global,
-    words: &[String],
+    command: Command<'_>,
     input: &mut I,
     out: &mut O,
 ) -> Result<(), Fault<'static>>
-    requires { IsFalse (is_copy (command_of (map string_bytes words.now))) }
-    ensures statuses { IsTrue (may_end_with (command_of (map string_bytes words.now)) (exit_status result)) }
-    ensures drained { OnOk result
-        (IsTrue (reads_input (command_of (map string_bytes words.now)))
+    requires no_copy { IsFalse (is_copy (Some (asked_by command))) }
+    requires fit { IsFitRequest (asked_by command) }
+    ensures statuses { IsTrue (may_end_with (Some (asked_by command.entry)) (exit_status result)) }
+    ensures drained { OnOk result (IsTrue (reads_input (Some (asked_by command.entry)))
         → IfSome (I.left input.new) (λ bytes. bytes ≡ [])) }
-    ensures outcome { IfSome (verdict_at (command_of (map string_bytes words.now)) (I.left input.old))
+    ensures outcome { IfSome (verdict_at (Some (asked_by command.entry)) (I.left input.old))
         (λ v. Answers v (O.held out.old) (O.held out.new) result) }
     ensures unwritten { LeavesUnwritten (O.held out.old) (O.held out.new) result }
     ensures no_copy { IsNoCopyEnd result }
-    ensures no_input { IsFalse (reads_input (command_of (map string_bytes words.now)))
-        → I.left input.new ≡ I.left input.old }
+    ensures no_input { IsFalse (reads_input (Some (asked_by command.entry))) → I.left input.new ≡ I.left input.old }
     ensures read { IsErrOf result Fault.Read → HasRisen (I.faults input.old) (I.faults input.new) }
     ensures write { IsErrOf result Fault.Write → HasRisen (O.faults out.old) (O.faults out.new) }
 {
-    match read_command(alloc, words) {
-        Ok(Command::Replay) => replay(alloc, input, out),
-        Ok(Command::Drill { seed, count }) => drill(alloc, seed, count, out),
-        Ok(Command::Copy { .. }) => unreachable!(),
-        Err(fault) => Err(fault),
+    match command {
+        Command::Replay => replay(alloc, input, out),
+        Command::Drill { seed, count } => drill(alloc, seed, count, out),
+        Command::Copy { .. } => unreachable!(),
     }
 }
 
@@ -70,34 +69,33 @@ fn finish<E: Sink>(err: &mut E, answer: Result<(), Fault>) -> u8
     }
 }
 
-/// Does what the words say, with `input`, `out` and `err` for the standard streams, and answers the status.
+/// Does what a command says that is no copy, with `input`, `out` and `err` for the standard streams, and answers the
+/// status.
 ///
 /// The command `replay` reads a script of `input`, plays it in a fresh core, and writes its text to `out`. The command
 /// `drill SEED COUNT` plays the script that the seed gives, of at most 20,000 calls, and writes its summary to `out`.
-/// The status is 0 where the whole text was written, 2 where the words are no command, 3 where the input is no script,
-/// 4 and 5 where a read of `input` or a write to `out` failed, 7 where memory ran out, and 8 where the input is too
-/// long or asks for too many events. Each but 0 has its line on `err`: the whole line, or a front of it where a write
-/// fails or wants memory, which changes no status. `drill` reads no input, and ends with 0, 5 or 7.
-pub fn run_alone<I: Source, O: Sink, E: Sink>(
+/// The status is 0 where the whole text was written, 3 where the input is no script, 4 and 5 where a read of `input` or a
+/// write to `out` failed, 7 where memory ran out, and 8 where the input is too long or asks for too many events. Each
+/// but 0 has its line on `err`: the whole line, or a front of it where a write fails or wants memory, which changes no
+/// status. `drill` reads no input, and ends with 0, 5 or 7.
+fn run_alone<I: Source, O: Sink, E: Sink>(
     alloc: Global,
-    words: &[String],
+    command: Command<'_>,
     input: &mut I,
     out: &mut O,
     err: &mut E,
 ) -> u8
-    requires { IsFalse (is_copy (command_of (map string_bytes words.now))) }
+    requires no_copy { IsFalse (is_copy (Some (asked_by command))) }
+    requires fit { IsFitRequest (asked_by command) }
 
-    // The words decide the command, and so which statuses there may be.
-    ensures usage { result ≡ 2 → command_of (map string_bytes words.now) ≡ None }
-    ensures refused { command_of (map string_bytes words.now) ≡ None → (result ≡ 2) ⊎ (result ≡ 7) }
-    ensures statuses { IsTrue (may_end_with (command_of (map string_bytes words.now)) result) }
-    ensures no_input { IsFalse (reads_input (command_of (map string_bytes words.now)))
-        → I.left input.new ≡ I.left input.old }
+    // The command decides which statuses there may be.
+    ensures statuses { IsTrue (may_end_with (Some (asked_by command.entry)) result) }
+    ensures no_input { IsFalse (reads_input (Some (asked_by command.entry))) → I.left input.new ≡ I.left input.old }
     ensures no_text { IsTrue (is_quiet result) → O.held out.new ≡ O.held out.old }
 
     // What the status says of the command, and what was written. The line on err is whole where none of its writes was
     // counted as failed or in want of memory.
-    ensures finishes { Finishes (verdict_at (command_of (map string_bytes words.now)) (I.left input.old))
+    ensures finishes { Finishes (verdict_at (Some (asked_by command.entry)) (I.left input.old))
         (O.held out.old) (O.held out.new) (E.held err.old) (E.held err.new)
         (HasStayed (E.faults err.old) (E.faults err.new) × HasStayed (E.wants err.old) (E.wants err.new)) result }
 
@@ -106,16 +104,14 @@ pub fn run_alone<I: Source, O: Sink, E: Sink>(
     ensures write { result ≡ 5 → HasRisen (O.faults out.old) (O.faults out.new) }
 
     // Status 0 says that an input that is read was read to its end, and that the text was written whole.
-    ensures drained { result ≡ 0 → IsTrue (reads_input (command_of (map string_bytes words.now)))
+    ensures drained { result ≡ 0 → IsTrue (reads_input (Some (asked_by command.entry)))
         → IfSome (I.left input.new) (λ bytes. bytes ≡ []) }
-    ensures done { result ≡ 0 → IfSome (verdict_at (command_of (map string_bytes words.now)) (I.left input.old))
+    ensures done { result ≡ 0 → IfSome (verdict_at (Some (asked_by command.entry)) (I.left input.old))
         (λ v. Writes v (O.held out.old) (O.held out.new)) }
-    ensures script { result ≡ 3
-        → IfSome (verdict_at (command_of (map string_bytes words.now)) (I.left input.old)) IsBad }
-    ensures long { result ≡ 8
-        → IfSome (verdict_at (command_of (map string_bytes words.now)) (I.left input.old)) IsLong }
+    ensures script { result ≡ 3 → IfSome (verdict_at (Some (asked_by command.entry)) (I.left input.old)) IsBad }
+    ensures long { result ≡ 8 → IfSome (verdict_at (Some (asked_by command.entry)) (I.left input.old)) IsLong }
 {
-    let answer = answer(alloc, words, input, out);
+    let answer = answer(alloc, command, input, out);
     finish(err, answer)
 }
 
@@ -169,7 +165,8 @@ fn run_copy<
 /// whole text was written, and no planned kill was sent; 4 where SRC can't be read or is not there, 5 where DST or
 /// `out` can't be written, 6 where a planned kill was sent, 7 where memory ran out, 8 where the source gave more than
 /// 2^40 bytes, and 9 where a queue had no place left. Where several causes stand it is the first of 7, 9, 4, 5, 8, 6.
-/// For all other words `run_alone` says what is done, and folder and task are as they were.
+/// For the other commands `run_alone` says what is done, and folder and task are as they were; so are they for words that
+/// are no command, whose status is 2, or 7 where memory ran out, with its line on `err` as of `run_alone`.
 pub fn run<
     R: Threads + Wait + Sync,
     F: Folder,
@@ -248,7 +245,7 @@ pub fn run<
                 rt, alloc, folder, out, err, domain, task, watch, gate, order,
             )
         }
-        Ok(_) => run_alone(alloc, words, input, out, err),
+        Ok(command) => run_alone(alloc, command, input, out, err),
         Err(fault) => finish(err, Err(fault)),
     }
 }

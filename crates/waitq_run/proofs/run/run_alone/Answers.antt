@@ -1,18 +1,7 @@
-use Rattle.std.proofs.Common.{sym, ◌∙◌, map}
-use Rattle.std.specs.Prelude.{string_bytes}
-use Rattle.waitq_run.specs.Commands.{command_of, verdict_at}
-use Rattle.waitq_run.proofs.Outcomes.{done_of, long_of_answer, read_of, refused_of, script_of_answer, usage_of}
+use Rattle.std.proofs.Common.{Some, sym, ◌∙◌}
+use Rattle.waitq_run.specs.Commands.{asked_by, verdict_at}
+use Rattle.waitq_run.proofs.Outcomes.{done_of, long_of_answer, read_of, script_of_answer}
 use Rattle.waitq_run.proofs.run.run_alone.Goals as goal
-
-pub returns-clause-usage : goal.returns-clause-usage
-returns-clause-usage g c =
-    usage_of (command_of (map string_bytes c.args.words.now)) c.finish.result
-    (rw c.finish.ensures.number c.answer-answer.ensures.statuses)
-
-pub returns-clause-refused : goal.returns-clause-refused
-returns-clause-refused g c =
-    refused_of (command_of (map string_bytes c.args.words.now)) c.finish.result
-    (rw c.finish.ensures.number c.answer-answer.ensures.statuses)
 
 pub returns-clause-read : goal.returns-clause-read
 returns-clause-read g c = λ e.
@@ -21,15 +10,15 @@ returns-clause-read g c = λ e.
 
 pub returns-clause-done : goal.returns-clause-done
 returns-clause-done g c = λ e.
-    done_of (verdict_at (command_of (map string_bytes c.args.words.now)) (g.I.Source.left c.args.input.now)) _ _
+    done_of (verdict_at (Some (asked_by c.args.command)) (g.I.Source.left c.args.input.now)) _ _
     c.answer-answer.result c.answer-answer.ensures.outcome (sym c.finish.ensures.number ∙ e)
 
 pub returns-clause-script : goal.returns-clause-script
 returns-clause-script g c = λ e.
-    script_of_answer (verdict_at (command_of (map string_bytes c.args.words.now)) (g.I.Source.left c.args.input.now)) _
+    script_of_answer (verdict_at (Some (asked_by c.args.command)) (g.I.Source.left c.args.input.now)) _
     _ c.answer-answer.result c.answer-answer.ensures.outcome (sym c.finish.ensures.number ∙ e)
 
 pub returns-clause-long : goal.returns-clause-long
 returns-clause-long g c = λ e.
-    long_of_answer (verdict_at (command_of (map string_bytes c.args.words.now)) (g.I.Source.left c.args.input.now)) _ _
+    long_of_answer (verdict_at (Some (asked_by c.args.command)) (g.I.Source.left c.args.input.now)) _ _
     c.answer-answer.result c.answer-answer.ensures.outcome (sym c.finish.ensures.number ∙ e)

@@ -3,12 +3,13 @@
 ghost use Rattle.std.specs.Prelude.{◌≡◌, ◌≢◌, ◌≤◌, ◌⊎◌, [], Some, None, false, map, option_map, string_bytes};
 ghost use Rattle.std.specs.Prelude.{IfErr, IfOk, IfSome};
 ghost use Rattle.std.specs.List.{list_all};
-ghost use Rattle.clap.specs.Words.{app_of, fault_of, found_of, kind_of, rows_of, rule_of, subcommand_of};
+ghost use Rattle.clap.specs.Words.{app_of, fault_of, found_of, kind_of, new_app, rows_of, rule_of, subcommand_of};
+ghost use Rattle.clap.specs.Words.{with_rule, with_subcommand};
 ghost use Rattle.clap.specs.declared.builder.command.Command.TheViews.{out-Command};
 ghost use Rattle.wait_script.specs.Number.{numeral_value};
 ghost use Rattle.waitq_run.specs.Commands.{drill_at, copy_at, is_name, command_of, asked_by, IsFitRequest};
 ghost use Rattle.waitq_run.specs.Parsed.{asked_of, asks_help, bare_app, copy_app, copy_in, drill_app, drill_in};
-ghost use Rattle.waitq_run.specs.Parsed.{entry_of, events_rule, found_text, found_texts, waitq_app};
+ghost use Rattle.waitq_run.specs.Parsed.{entry_of, events_rule, found_text, found_texts, needed, replay_app, waitq_app};
 
 use crate::events::{Plan, read_plan};
 use crate::fault::Fault;
@@ -74,14 +75,28 @@ fn read_copy<'a>(src: &'a str, dst: &'a str, events: &[&'a str]) -> Option<Comma
     Some(Command::Copy { src, dst, plan })
 }
 
+/// A subcommand with two words that it needs.
+fn two_words<'a>(
+    alloc: Global,
+    name: &'a str,
+    first: &'a str,
+    second: &'a str,
+) -> Result<clap::Command<'a>, AllocError>
+    ensures app { IfOk result (λ c. app_of c
+        ≡ with_rule (with_rule (new_app name.entry.now) (needed first.entry.now)) (needed second.entry.now)) }
+    ensures local { IfOk result (λ c. (out-Command c).has_globals ≡ false) }
+{
+    clap::Command::new(alloc, name)
+        .arg(Arg::new(alloc, first).required(true))?
+        .arg(Arg::new(alloc, second).required(true))
+}
+
 /// The words of `drill`.
 fn drill_words<'a>(alloc: Global) -> Result<clap::Command<'a>, AllocError>
     ensures app { IfOk result (λ c. app_of c ≡ drill_app) }
     ensures local { IfOk result (λ c. (out-Command c).has_globals ≡ false) }
 {
-    clap::Command::new(alloc, "drill")
-        .arg(Arg::new(alloc, "seed").required(true))?
-        .arg(Arg::new(alloc, "count").required(true))
+    two_words(alloc, "drill", "seed", "count")
 }
 
 /// The signals of `copy`.
@@ -97,10 +112,7 @@ fn copy_words<'a>(alloc: Global) -> Result<clap::Command<'a>, AllocError>
     ensures app { IfOk result (λ c. app_of c ≡ copy_app) }
     ensures local { IfOk result (λ c. (out-Command c).has_globals ≡ false) }
 {
-    clap::Command::new(alloc, "copy")
-        .arg(Arg::new(alloc, "src").required(true))?
-        .arg(Arg::new(alloc, "dst").required(true))?
-        .arg(event_words(alloc))
+    two_words(alloc, "copy", "src", "dst")?.arg(event_words(alloc))
 }
 
 /// The program without its subcommands, where nobody is helped and the first word is no name of the program.
@@ -113,18 +125,28 @@ fn bare_words<'a>(alloc: Global) -> clap::Command<'a>
         .disable_help_subcommand(true)
 }
 
+/// The program with the subcommand `replay`.
+fn with_replay<'a>(alloc: Global) -> Result<clap::Command<'a>, AllocError>
+    ensures { IfOk result (λ c. app_of c ≡ with_subcommand bare_app replay_app.top) }
+{
+    bare_words(alloc).subcommand(clap::Command::new(alloc, "replay"))
+}
+
+/// The program with the subcommands `replay` and `drill`.
+fn with_drill<'a>(alloc: Global) -> Result<clap::Command<'a>, AllocError>
+    ensures { IfOk result (λ c. app_of c
+        ≡ with_subcommand (with_subcommand bare_app replay_app.top) drill_app.top) }
+{
+    let drill = drill_words(alloc)?;
+    with_replay(alloc)?.subcommand(drill)
+}
+
 /// The words that the program takes: one of three subcommands, with its own.
 fn all_words<'a>(alloc: Global) -> Result<clap::Command<'a>, AllocError>
     ensures { IfOk result (λ c. app_of c ≡ waitq_app) }
 {
-    let bare = bare_words(alloc);
-    let replay = clap::Command::new(alloc, "replay");
-    let drill = drill_words(alloc)?;
     let copy = copy_words(alloc)?;
-    let one = bare.subcommand(replay)?;
-    let two = one.subcommand(drill)?;
-    let three = two.subcommand(copy)?;
-    Ok(three)
+    with_drill(alloc)?.subcommand(copy)
 }
 
 /// The fault that an error of a parse is: every one is `Usage` but want of memory.

@@ -1,6 +1,6 @@
 //! The command `drill`: from a seed to the summary of its script's replay.
 
-ghost use Rattle.std.specs.Prelude.{◌≡◌, ◌+◌, ◌≤◌, ◌++◌, IsErrOf, IsTrue, Some, length};
+ghost use Rattle.std.specs.Prelude.{◌≡◌, ◌+◌, ◌≤◌, ◌++◌, IfOk, IsErrOf, IsTrue, Some, codes, length};
 ghost use Rattle.arrayvec.specs.ArrayVec.{array_vec_len};
 ghost use Rattle.edge_io.specs.Faults.{HasRisen};
 ghost use Rattle.waitq_run.specs.Commands.{Drill, may_end_with};
@@ -12,7 +12,7 @@ use crate::fault::Fault;
 use crate::silent::{count_asleep, make_lines};
 use drill_gen::MOST_CALLS;
 use edge_io::{Sink, write_all};
-use std::alloc::Global;
+use std::alloc::{AllocError, Global};
 use wait_core::Core;
 use wait_model::layout::TEXT_BYTES;
 use wait_script::{LineText, push_number, push_text};
@@ -39,9 +39,35 @@ fn push_head(line: &mut LineText, seed: u64, count: u32)
     push_line(line, b" ", count.into());
 }
 
-/// Makes the script of a seed, plays it in a fresh core without its text, and writes its summary: the numbers of
-/// events made, of calls refused, and of tasks that are not runnable at the end. The script has at most 20,000 calls,
-/// and so asks for at most 800,000 events.
+/// The text of a summary, by its numbers.
+fn summary(seed: u64, count: u32, events: u32, refused: u64, asleep: u64) -> LineText
+    ensures { result.items ≡ head_line seed count ++ number_line (codes "events ") events
+        ++ number_line (codes "refused ") refused ++ number_line (codes "asleep ") asleep ++ codes "end\n" }
+{
+    let mut text = LineText::new();
+    push_head(&mut text, seed, count);
+    push_line(&mut text, b"events ", events.into());
+    push_line(&mut text, b"refused ", refused);
+    push_line(&mut text, b"asleep ", asleep);
+    push_text(&mut text, b"end\n");
+    text
+}
+
+/// Makes the script of a seed and plays it in a fresh core without its text. The summary has the numbers of events made,
+/// of calls refused, and of tasks that are not runnable at the end. The script has at most 20,000 calls, and so asks for
+/// at most 800,000 events.
+fn played(alloc: Global, seed: u64, count: u32) -> Result<LineText, AllocError>
+    requires { count ≤ MOST_CALLS }
+    ensures { IfOk result (λ text. text.items ≡ drill_text seed count) }
+{
+    let script = drill_gen::drill(alloc, seed, count)?;
+    let mut core = Core::new(alloc)?;
+    let refused = make_lines(&mut core, &script.lines);
+    let asleep = count_asleep(&core);
+    Ok(summary(seed, count, core.made(), refused, asleep))
+}
+
+/// Makes the script of a seed, plays it in a fresh core, and writes its summary.
 pub fn drill<O: Sink>(
     alloc: Global,
     seed: u64,
@@ -54,15 +80,7 @@ pub fn drill<O: Sink>(
     ensures statuses { IsTrue (may_end_with (Some (Drill seed count)) (exit_status result)) }
     ensures write { IsErrOf result Fault.Write → HasRisen (O.faults out.old) (O.faults out.new) }
 {
-    let script = drill_gen::drill(alloc, seed, count)?;
-    let mut core = Core::new(alloc)?;
-    let refused = make_lines(&mut core, &script.lines);
-    let mut text = LineText::new();
-    push_head(&mut text, seed, count);
-    push_line(&mut text, b"events ", core.made().into());
-    push_line(&mut text, b"refused ", refused);
-    push_line(&mut text, b"asleep ", count_asleep(&core));
-    push_text(&mut text, b"end\n");
+    let text = played(alloc, seed, count)?;
     write_all(out, text.as_slice())?;
     Ok(())
 }

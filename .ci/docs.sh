@@ -4,6 +4,7 @@
 # its line in examples/README.md, and each file of definitions has one of the marks of docs/READING.md.
 #
 # usage: .ci/docs.sh             (it needs what `rt ci` built)
+#        .ci/docs.sh --quick     runs no command, and needs nothing
 #        .ci/docs.sh --lines     counts the lines of the files of definitions by their marks
 #
 # Prints a line for each case that fails, and at the end 'N passed, M failed'. The status is 1 where one failed.
@@ -163,7 +164,7 @@ while read -r page; do
     follow_links "$page"
     find_paths "$page"
     find_code "$page"
-    run_commands "$page"
+    [ "${1:-}" = --quick ] || run_commands "$page"
 done < <(pages)
 compare_index
 find_marks

@@ -4,6 +4,7 @@ use crate::command::{Command, Output};
 use crate::draw::chart::{draw, Options};
 use crate::fault::Fault;
 use crate::follow::ending::first_difference;
+use crate::page::page;
 use crate::say::explain::explain;
 use crate::text::moment::Moment;
 use crate::text::script::{plain_moments, told_moments};
@@ -39,7 +40,12 @@ fn write_moments(command: &Command, moments: &[Moment], events: &str) -> Result<
                 paged: command.output == Output::Html,
                 scripted,
             };
-            draw(moments, events, &options)
+            let drawing = draw(moments, events, &options)?;
+            if !options.paged {
+                return Ok(drawing.svg);
+            }
+            let scene = drawing.scene(moments);
+            Ok(page(&scene, &drawing.svg, options.title, options.theme)?)
         }
     }
 }

@@ -7,8 +7,7 @@ use crate::draw::pen::{escaped, place, Pen};
 use crate::draw::side::{draw_feet, draw_heads, draw_queues, draw_words};
 use crate::draw::style::{style, Theme};
 use crate::fault::Fault;
-use crate::page::page;
-use crate::plan::frame::follow_all;
+use crate::plan::frame::{follow_all, Frames};
 use crate::plan::lanes::lanes_of;
 use crate::plan::measure::length_of;
 use crate::plan::places::{plan_of, put_rows, words_of, Plan};
@@ -180,9 +179,32 @@ fn begin(
     Ok(pen)
 }
 
-/// Draws a chart of moments, or a page that steps through it. `events` is the text's line of events, which stands at
-/// its foot.
-pub fn draw(moments: &[Moment], events: &str, options: &Options) -> Result<String, Fault> {
+/// A chart that was drawn: what stands in it and where, and the picture.
+pub struct Drawing {
+    rows: Vec<Row>,
+    frames: Frames,
+    plan: Plan,
+    pub svg: String,
+}
+
+impl Drawing {
+    /// What was drawn of the moments.
+    pub fn scene<'a>(&'a self, moments: &'a [Moment<'a>]) -> Scene<'a> {
+        Scene {
+            moments,
+            rows: &self.rows,
+            frames: &self.frames,
+            plan: &self.plan,
+        }
+    }
+}
+
+/// Draws a chart of moments. `events` is the text's line of events, which stands at its foot.
+///
+/// # Errors
+///
+/// It would have no row, or too many; or there is no memory.
+pub fn draw(moments: &[Moment], events: &str, options: &Options) -> Result<Drawing, Fault> {
     let rows = chart_rows(moments, options)?;
     let words = words_of(moments, &rows);
     let (acting, most) = tasks_of(moments);
@@ -195,19 +217,21 @@ pub fn draw(moments: &[Moment], events: &str, options: &Options) -> Result<Strin
     put_rows(&mut plan, &rows, notes.len(), keys.len());
     let sub = sub_title(moments, acting, &plan, options);
     let mut pen = begin(&plan, options, &sub, &notes)?;
-    let scene = Scene {
-        moments,
-        rows: rows.as_slice(),
-        frames: &frames,
-        plan: &plan,
+    let mut drawing = Drawing {
+        rows,
+        frames,
+        plan,
+        svg: String::new(),
     };
     let events = if ranged { "" } else { events };
-    draw_scene(&mut pen, &scene, &keys, options.paged, events)?;
+    draw_scene(
+        &mut pen,
+        &drawing.scene(moments),
+        &keys,
+        options.paged,
+        events,
+    )?;
     pen.raw("</svg>")?;
-    let svg = pen.svg.into_text();
-    if options.paged {
-        Ok(page(&scene, &svg, options.title, options.theme)?)
-    } else {
-        Ok(svg)
-    }
+    drawing.svg = pen.svg.into_text();
+    Ok(drawing)
 }

@@ -1,9 +1,7 @@
 //! The three workers run at once.
 
-use crate::copy::copy_all;
-use crate::gate::{Gate, Who};
-use crate::stop::Stop;
 use edge_io::{MemSink, MemSource};
+use flow_copy::{Gate, Stop, Who, copy_all};
 use func_head::NoWatchers;
 use std::sync::atomic::{AtomicU64, Ordering};
 use std::test::Fail;

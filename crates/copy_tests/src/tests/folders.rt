@@ -1,4 +1,6 @@
-use super::*;
+//! Files of a folder in memory by their names.
+
+use edge_io::{Failed, Folder, MemFolder, MemSink, OpenFault, Sink, SinkFault, Source};
 use std::test::Fail;
 
 // Whether the file of that name has these bytes.

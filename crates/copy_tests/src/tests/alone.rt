@@ -1,12 +1,9 @@
 //! One task alone does the work of all four, one after the other: ten bytes fit into the pipes.
 
-use crate::controller::controller_task;
-use crate::gate::OpenGate;
-use crate::reader::reader_task;
-use crate::relay::relay_task;
-use crate::stop::{ReaderEnd, Stop, WorkerEnd};
-use crate::writer::writer_task;
 use edge_io::{MemSink, MemSource};
+use flow_copy::{
+    OpenGate, ReaderEnd, Stop, WorkerEnd, controller_task, reader_task, relay_task, writer_task,
+};
 use func_head::NoWatchers;
 use std::test::Fail;
 use wait_rule::Domain;

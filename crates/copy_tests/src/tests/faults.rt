@@ -3,12 +3,8 @@
 ghost use Rattle.std.specs.Prelude.{◌≤◌, length};
 ghost use Rattle.flow_copy.specs.declared.TheConstants.{SIGNALS};
 
-use crate::SIGNALS;
-use crate::copy::{CopyEnd, copy_all};
-use crate::gate::{OpenGate, Who};
-use crate::plan::Planned;
-use crate::stop::Stop;
 use edge_io::{MemSink, MemSource};
+use flow_copy::{CopyEnd, OpenGate, Planned, SIGNALS, Stop, Who, copy_all};
 use func_head::NoWatchers;
 use std::alloc::{AllocError, Global};
 use std::sync::Wait;

@@ -29,6 +29,15 @@ impl Meeting {
         self.came.iter().all(|came| came.load(Ordering::SeqCst) > 0)
     }
 
+    /// Whether each worker came once, and none gave up.
+    fn was_met(&self) -> bool {
+        self.gave_up.load(Ordering::SeqCst) == 0
+            && self
+                .came
+                .iter()
+                .all(|came| came.load(Ordering::SeqCst) == 1)
+    }
+
     fn count_of(&self, who: Who) -> &AtomicU64 {
         match who {
             Who::Reader => &self.came[0],
@@ -75,9 +84,6 @@ fn workers_meet_in_their_first_turns(rt: HostRuntime) -> Result<(), Fail> {
     };
     assert_eq!(rt; end.stop, Stop::Finished);
     assert_eq!(rt; end.sink.bytes(), bytes.as_slice());
-    assert_eq!(rt; gate.gave_up.load(Ordering::SeqCst), 0);
-    for came in &gate.came {
-        assert_eq!(rt; came.load(Ordering::SeqCst), 1);
-    }
+    assert!(rt; gate.was_met());
     Ok(())
 }

@@ -1,9 +1,7 @@
 //! The three workers run at once.
 
-use crate::copy::copy_all;
-use crate::gate::{Gate, Who};
-use crate::stop::Stop;
 use edge_io::{MemSink, MemSource};
+use flow_copy::{Gate, Stop, Who, copy_all};
 use func_head::NoWatchers;
 use std::sync::atomic::{AtomicU64, Ordering};
 use std::test::Fail;
@@ -29,6 +27,15 @@ impl Meeting {
 
     fn is_whole(&self) -> bool {
         self.came.iter().all(|came| came.load(Ordering::SeqCst) > 0)
+    }
+
+    /// Whether each worker came once, and none gave up.
+    fn was_met(&self) -> bool {
+        self.gave_up.load(Ordering::SeqCst) == 0
+            && self
+                .came
+                .iter()
+                .all(|came| came.load(Ordering::SeqCst) == 1)
     }
 
     fn count_of(&self, who: Who) -> &AtomicU64 {
@@ -77,9 +84,6 @@ fn workers_meet_in_their_first_turns(rt: HostRuntime) -> Result<(), Fail> {
     };
     assert_eq!(rt; end.stop, Stop::Finished);
     assert_eq!(rt; end.sink.bytes(), bytes.as_slice());
-    assert_eq!(rt; gate.gave_up.load(Ordering::SeqCst), 0);
-    for came in &gate.came {
-        assert_eq!(rt; came.load(Ordering::SeqCst), 1);
-    }
+    assert!(rt; gate.was_met());
     Ok(())
 }

@@ -1,9 +1,7 @@
 //! Copies of several sizes.
 
-use crate::copy::copy_all;
-use crate::gate::OpenGate;
-use crate::stop::Stop;
 use edge_io::{MemSink, MemSource};
+use flow_copy::{OpenGate, Stop, copy_all};
 use func_head::NoWatchers;
 use std::test::Fail;
 use wait_rule::Domain;

@@ -1,7 +1,9 @@
+//! Heads of a caller's functions, and walks over them.
+
 ghost use Rattle.std.specs.Prelude.{◌≡◌, ◌+◌, ◌-◌, ◌^◌, ◌∷◌, [], length, min, slice_index};
 ghost use Rattle.func_head.specs.Walks.{shown_all};
 
-use super::*;
+use func_head::{FuncHead, NoWatchers, WakeFn, Watchers};
 use std::test::Fail;
 use std::thread;
 use wait_model::End;

@@ -1,6 +1,10 @@
+//! Sources and sinks in memory, and a buffer on its way to a sink.
+
 ghost use Rattle.std.specs.Prelude.{Some};
 
-use super::*;
+use edge_io::{
+    Buffer, MemSink, MemSource, ReadFault, Sink, SinkFault, Source, read_all, write_all,
+};
 use std::test::Fail;
 
 // A sink that takes at most three bytes a write.

@@ -3,12 +3,8 @@
 ghost use Rattle.std.specs.Prelude.{◌≤◌, length};
 ghost use Rattle.flow_copy.specs.declared.TheConstants.{SIGNALS};
 
-use crate::SIGNALS;
-use crate::copy::{CopyEnd, copy_all};
-use crate::gate::{OpenGate, Who};
-use crate::plan::Planned;
-use crate::stop::Stop;
 use edge_io::{MemSink, MemSource};
+use flow_copy::{CopyEnd, OpenGate, Planned, SIGNALS, Stop, Who, copy_all};
 use func_head::NoWatchers;
 use std::alloc::{AllocError, Global};
 use std::sync::Wait;
@@ -115,10 +111,9 @@ fn workers_are_killed(rt: HostRuntime) -> Result<(), Fail> {
     Ok(())
 }
 
-/// Plain signals, one for each worker at each offset: all bytes arrive all the same.
-#[test]
-fn plain_signals_change_nothing(rt: HostRuntime) -> Result<(), Fail> {
-    let mut plan = Vec::new(rt.alloc());
+/// Plain signals, one for each worker at each offset.
+fn plain_signals(alloc: Global) -> Result<Vec<Planned>, AllocError> {
+    let mut plan = Vec::new(alloc);
     for who in WORKERS {
         for offset in [0, 1, 4_096, 8_192, 20_000] {
             plan.push(Planned {
@@ -128,14 +123,20 @@ fn plain_signals_change_nothing(rt: HostRuntime) -> Result<(), Fail> {
             })?;
         }
     }
+    Ok(plan)
+}
+
+/// All bytes arrive though each worker is signalled at each offset.
+#[test]
+fn plain_signals_change_nothing(rt: HostRuntime) -> Result<(), Fail> {
+    let plan = plain_signals(rt.alloc())?;
     if plan.len() > SIGNALS {
         panic!(rt; "fifteen signals are planned")
     }
     for _ in 0..ROUNDS {
         let end = copy(&rt, rt.alloc(), &[], &[], &plan)?;
         assert_eq!(rt; end.stop, Stop::Finished);
-        assert_eq!(rt; end.reader.sent, 15);
-        assert_eq!(rt; end.moved, 60_000);
+        assert_eq!(rt; (end.reader.sent, end.moved), (15, 60_000));
         assert_eq!(rt; end.sink.bytes().len(), SIZE);
         assert!(rt; holds_front(&end));
     }

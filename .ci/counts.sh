@@ -38,13 +38,14 @@ take() {
     awk '$1 ~ /^[0-9.]+$/ && $NF != "total" { print $NF, $4 }' "$work/calls"
 }
 
-# The row of a name: what the longer of two runs takes above the shorter one, by a number of calls.
+# The row of a name: what the longer of two runs takes above the shorter one, by a number of calls. A call of the system
+# that comes less than once in a hundred is left out: a script is read by blocks, and memory grows by leaps.
 row() {
     awk -v name="$1" -v number="$2" '
         FNR == NR { few[$1] = $2; next }
-        $1 == "instructions" { text = sprintf("%.1f", ($2 - few[$1]) / number) text; next }
-        $2 != few[$1] { text = text sprintf(" %s=%.3g", $1, ($2 - few[$1]) / number) }
-        END { print name, text }
+        $1 == "instructions" { text = sprintf(" %.1f", ($2 - few[$1]) / number) text; next }
+        100 * ($2 - few[$1]) >= number { text = text sprintf(" %s=%.3g", $1, ($2 - few[$1]) / number) }
+        END { print name text }
     ' "$work/few" "$work/many"
 }
 

@@ -27,7 +27,7 @@ while [ $# -gt 0 ]; do
     shift
 done
 work=$(mktemp -d)
-trap 'kill $(jobs -p) 2>/dev/null; wait; rm -rf -- "$work"' EXIT
+trap 'kill $(jobs -p) 2>/dev/null || :; wait; rm -rf -- "$work"' EXIT
 trap 'exit 130' INT
 trap 'exit 143' TERM
 

@@ -2,7 +2,7 @@
 
 ghost use Rattle.wait_model.specs.Admission.{IsListed};
 
-use crate::engine::{Core, Stepped};
+use wait_core::{Core, Stepped};
 use wait_model::calls::{Answer, Call, Event};
 use wait_model::tasks::Sleep;
 

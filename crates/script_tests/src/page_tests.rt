@@ -1,6 +1,6 @@
-use crate::engine::{Core, StartFault};
 use crate::test_steps::{goes_on, made, ran};
 use std::test::Fail;
+use wait_core::{Core, StartFault};
 use wait_model::calls::{Call, Event};
 use wait_model::layout::{CONDITION_AT, ENTRY_AT, FIRST_BIT_WORD, FLAG_AT, HANDED};
 use wait_model::queues::Form;

@@ -1,5 +1,4 @@
 use crate::bad_lines::{BAD_LINES, BAD_LINES_OF_VERSION_2};
-use crate::{Line, ReadScript, Reason, Version, asked, read_script, write_refused, write_step};
 use edge_io::MemSink;
 use std::alloc::Global;
 use std::test::Fail;
@@ -8,6 +7,9 @@ use wait_model::calls::{Answer, Call, Event};
 use wait_model::queues::{End, Form, Walked};
 use wait_model::tasks::{How, Sleep, SleepState, Taken};
 use wait_model::watches::Mode;
+use wait_script::{
+    Line, ReadScript, Reason, Version, asked, read_script, write_refused, write_step,
+};
 
 #[test]
 fn the_first_bad_line_and_its_first_reason(rt: HostRuntime) -> Result<(), Fail> {

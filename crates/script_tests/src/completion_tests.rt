@@ -1,6 +1,6 @@
-use crate::engine::{Core, StartFault, Stepped};
 use crate::test_steps::{goes_on, made, ran};
 use std::test::Fail;
+use wait_core::{Core, StartFault, Stepped};
 use wait_model::calls::{Answer, Call, Event};
 use wait_model::layout::{CONDITION_AT, ENTRY_AT, FIRST_DONE, FIRST_DONE_HEAD, HEAD_AT};
 use wait_model::tasks::{Sleep, SleepState};

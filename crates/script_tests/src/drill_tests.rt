@@ -1,6 +1,6 @@
 //! The first calls of a seed, by its first word 0xE220A8397B1DCDAF.
 
-use crate::drill;
+use drill_gen::drill;
 use std::test::Fail;
 use wait_model::calls::Call;
 use wait_model::tasks::{How, SleepState};

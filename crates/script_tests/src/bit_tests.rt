@@ -1,6 +1,6 @@
-use crate::engine::{Core, StartFault, Stepped};
 use crate::test_steps::{goes_on, ran};
 use std::test::Fail;
+use wait_core::{Core, StartFault, Stepped};
 use wait_model::calls::{Answer, Call, Event, Ran};
 use wait_model::layout::{CONDITION_AT, ENTRY_AT, FIRST_BIT_WORD};
 use wait_model::tasks::{Sleep, SleepState};

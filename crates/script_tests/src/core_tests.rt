@@ -1,8 +1,8 @@
 ghost use Rattle.wait_model.specs.Admission.{IsListed};
 
-use crate::engine::{Core, StartFault, Stepped};
 use crate::test_steps::made;
 use std::test::Fail;
+use wait_core::{Core, StartFault, Stepped};
 use wait_model::calls::{Answer, Call, Event};
 use wait_model::layout::{BOOKMARK_AT, CONDITION_AT, ENTRY_AT, FLAG_AT, HEAD_AT};
 use wait_model::queues::{End, Form, Walked};

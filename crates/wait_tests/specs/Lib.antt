@@ -1,0 +1,6 @@
+pub mod Leaving
+pub mod EventTasks
+pub mod CompletionTasks
+pub mod BitTasks
+pub mod PageTasks
+pub mod PipeTasks

@@ -4,3 +4,4 @@ pub mod CompletionTasks
 pub mod BitTasks
 pub mod PageTasks
 pub mod PipeTasks
+pub mod Meeting

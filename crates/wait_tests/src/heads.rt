@@ -1,3 +1,5 @@
+//! Wait queues: holds of heads, adds and removes, and wakes.
+
 mod counted;
 mod leaving;
 mod listed;

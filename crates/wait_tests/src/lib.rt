@@ -19,4 +19,10 @@ mod pipes;
 #[cfg(test)]
 mod simple_queues;
 #[cfg(test)]
+mod steps;
+#[cfg(test)]
+mod users;
+#[cfg(test)]
 mod variables;
+#[cfg(test)]
+mod words;

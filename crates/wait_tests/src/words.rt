@@ -1,12 +1,15 @@
-//! Worked numbers of the heads, of the positions and of a completion's count.
+//! Worked numbers of the heads, of the positions, of a completion's count and of a task's word.
 
 use wait_model::counts::{raised_done, taken_done};
 use wait_model::heads::{bit_head, var_head};
+use wait_model::layout::NORMAL;
 use wait_model::places::{front_place, priority_place, tail_place};
 use wait_model::positions::{
     cell_at, claim_at, cond_at, entry_at, flag_at, head_at, mark_at, member_at, next_at,
     serving_at, tally_at, task_at,
 };
+use wait_model::task_words::{TaskWord, raised, slept, woken};
+use wait_model::tasks::Sleep;
 use wait_model::watches::Watch;
 
 #[test]
@@ -65,4 +68,24 @@ fn adds_wear_out_at_the_ends_of_the_places(rt: HostRuntime) {
     assert_eq!(rt; priority_place(None), Some(1 << 38));
     assert_eq!(rt; priority_place(Some(middle - 2)), None);
     assert_eq!(rt; priority_place(Some(middle - 4)), Some(middle - 2));
+}
+
+/// What a sleep leaves of a word.
+fn left(word: u64) -> u64 {
+    slept(TaskWord(word)).0.0
+}
+
+#[test]
+fn signals_wake_the_states_that_admit_them(rt: HostRuntime) {
+    assert_eq!(rt; left(0x1_0002), 0x2);
+    assert!(rt; matches!(slept(TaskWord(0x1_0002)).1, Sleep::Asleep));
+    assert_eq!(rt; left(0x3_0001), 0x3_0000);
+    assert!(rt; matches!(slept(TaskWord(0x3_0001)).1, Sleep::Signal));
+    assert_eq!(rt; left(0x3_0102), 0x2_0102);
+    assert!(rt; matches!(slept(TaskWord(0x3_0102)).1, Sleep::Asleep));
+    assert_eq!(rt; left(0x7_0102), 0x7_0000);
+    assert!(rt; matches!(slept(TaskWord(0x7_0102)).1, Sleep::Signal));
+    assert_eq!(rt; woken(TaskWord(0x2), NORMAL).0.0, 0x1_0000);
+    assert!(rt; woken(TaskWord(0x2), NORMAL).1);
+    assert_eq!(rt; raised(TaskWord(0x1_0000), true).0, 0x7_0000);
 }

@@ -2,8 +2,6 @@
 //! the lines at the end.
 #![tactic(auto)]
 
-#[cfg(test)]
-mod bad_lines;
 mod cells;
 mod ending;
 mod events;
@@ -18,8 +16,6 @@ mod reason;
 mod script;
 mod steps;
 mod summary;
-#[cfg(test)]
-mod tests;
 mod text;
 mod version;
 mod words;

@@ -1,7 +1,9 @@
 /* Round trips of two threads that park, and calls that find nobody waiting: by the library for C, by condition
  * variables of the C library, and by raw futexes. It writes `WHO NAME COUNT NANOSECONDS` for each round of each kind.
  * */
+#ifndef _GNU_SOURCE
 #define _GNU_SOURCE
+#endif
 #include "../front/c/sugwelan.h"
 #include <linux/futex.h>
 #include <pthread.h>
@@ -199,7 +201,7 @@ static void single_calls(void)
 int main(int count, char **argv)
 {
     (void)argv;
-    if (sugwelan_task_new(&tasks[0]) || sugwelan_task_fork(tasks[0], 0, &tasks[1]) ||
+    if (sugwelan_task_new(&tasks[0]) || sugwelan_task_fork(tasks[0], &tasks[1]) ||
         sugwelan_set_and_wake(tasks[0], OTHER, 1, 0, NULL))
         return 1;
     for (int round = 0; round < ROUNDS; round++) {

@@ -9,15 +9,14 @@ use std::sync::{Condvar, Mutex};
 use std::task::{Context, Poll, Waker};
 use std::thread;
 use std::time::Instant;
-use sugwelan::{BitLock, Domain, Page, State, Task};
+use sugwelan::{Bit, Domain, Killable, Page, Task, Uninterruptible as PLAIN};
 
 const ROUNDS: usize = 10;
 const TRIPS: usize = 2_000;
 const CALLS: usize = 50_000;
-const LOCK: BitLock = BitLock::new(1, 2);
+const LOCK: Bit = Bit::new(1, 2);
 const PAGE: Page = Page::new(3);
 const OTHER: u8 = 4;
-const PLAIN: State = State::Uninterruptible;
 
 /// What can be set, and waited for and taken, one for each direction of a trip.
 trait Event: Sync {
@@ -147,8 +146,9 @@ fn library(alone: bool) {
     });
     if !alone {
         one.set_and_wake(OTHER, 1, 0).unwrap();
-        calls("sugwelan", "bit", || drop(LOCK.lock(&mut one, PLAIN).unwrap()));
-        calls("sugwelan", "page", || drop(PAGE.lock(&mut one, PLAIN).unwrap()));
+        let (lock, page) = (domain.bit_lock(LOCK), domain.page_lock(PAGE));
+        calls("sugwelan", "bit", || drop(lock.lock(&mut one, PLAIN).unwrap()));
+        calls("sugwelan", "page", || drop(page.lock(&mut one, PLAIN).unwrap()));
         calls("sugwelan", "set", || set(&mut one, 0));
         calls("sugwelan", "wait", || one.wait_event(OTHER, PLAIN).block().unwrap());
         futures(one, other);
@@ -157,7 +157,7 @@ fn library(alone: bool) {
 
 async fn go(mut task: Task, first: u8, then: u8) {
     for _ in 0..TRIPS {
-        task.wait_event(first, PLAIN).await.unwrap();
+        task.wait_event(first, Killable).await.unwrap();
         task.take_condition(first).unwrap();
         set(&mut task, then);
     }

@@ -1,11 +1,16 @@
-/* Goes on with each call to its end: parks a thread whose task sleeps, and rouses those whose tasks were woken. */
+/* Goes on with each call to its end: parks a thread whose task sleeps, and rouses those whose tasks were woken. It is
+ * C11. */
+#ifndef _GNU_SOURCE
 #define _GNU_SOURCE
+#endif
 #include "sugwelan.h"
 #include <errno.h>
 #include <linux/futex.h>
+#include <pthread.h>
 #include <sched.h>
 #include <stdatomic.h>
 #include <stdbool.h>
+#include <stddef.h>
 #include <stdlib.h>
 #include <sys/syscall.h>
 #include <time.h>
@@ -16,10 +21,14 @@
 #define SUGWELAN_LOOKS 0
 #endif
 
+/* How often a thread that waits for the lock of a queue tries before it sleeps. */
+#ifndef SUGWELAN_TRIES
+#define SUGWELAN_TRIES 200
+#endif
+
 enum {
-    SPINS = 20,     /* tries to get the lock of a queue before the thread yields */
-    YIELDS = 200,   /* ... and before it sleeps */
-    NAP = 50000,    /* nanoseconds of such a sleep */
+    SPINS = 20,  /* tries to get the lock of a queue before the thread yields */
+    NAP = 50000, /* nanoseconds of a sleep behind SUGWELAN_TRIES of them */
     CACHE_LINE = 64
 };
 
@@ -30,20 +39,8 @@ struct bell {
     _Alignas(CACHE_LINE) _Atomic uint32_t word;
 };
 
-/* The bells of a Domain, one for each task. */
-struct bells {
-    struct bell of[SUGWELAN_TASKS];
-    _Atomic uint32_t tasks; /* how many tasks share them */
-};
-
-struct sugwelan_task {
-    void *handle; /* its part in the archive */
-    struct bells *bells;
-    uint32_t number;
-    atomic_bool busy; /* a thread is in a call on it */
-};
-
-/* What orders the memory of two calls is hidden in the archive from a checker of races; so it is told. */
+/* What orders the memory of two calls is hidden in the archive from a checker of races; so it is told, by a tie for
+ * each thing that calls are about. */
 #if defined(__has_feature)
 #if __has_feature(thread_sanitizer)
 #define CHECKS_RACES
@@ -51,14 +48,127 @@ struct sugwelan_task {
 #elif defined(__SANITIZE_THREAD__)
 #define CHECKS_RACES
 #endif
+
+/* The first ties of each kind of things. */
+enum {
+    CONDITION_TIES = 0,
+    VARIABLE_TIES = CONDITION_TIES + SUGWELAN_CONDITIONS,
+    BIT_TIES = VARIABLE_TIES + SUGWELAN_VARIABLES,
+    COMPLETION_TIES = BIT_TIES + SUGWELAN_WORDS * SUGWELAN_BITS,
+    SIGNAL_TIES = COMPLETION_TIES + SUGWELAN_COMPLETIONS,
+    TIES = SIGNAL_TIES + SUGWELAN_TASKS
+};
+
+struct sugwelan_domain {
+    struct bell bells[SUGWELAN_TASKS];
+    _Atomic uint32_t users; /* how many tasks are out, and 1 for the Domain until it is freed */
+    atomic_bool owned;      /* it was not freed yet */
+    pthread_mutex_t lock;   /* ... of what follows */
+    void *home;             /* the first task in the archive: it makes further ones, and calls for who has none */
+    struct sugwelan_task *spare; /* tasks that were freed */
+#ifdef CHECKS_RACES
+    uint64_t ties[TIES];
+#endif
+};
+
+struct sugwelan_task {
+    void *handle; /* its part in the archive */
+    struct sugwelan_domain *domain;
+    struct sugwelan_task *next; /* of those that were freed */
+    uint32_t number;
+    uint32_t kept;    /* how many bits and pages it keeps */
+    atomic_bool busy; /* a thread is in a call on it, or it was freed */
+};
+
+/* The archive reads and writes as many bytes. */
+_Static_assert(sizeof(struct sugwelan_call) == 24 && offsetof(struct sugwelan_call, value) == 16, "a call");
+_Static_assert(sizeof(struct sugwelan_told) == 800 && offsetof(struct sugwelan_told, rouse) == 28, "what it told");
+
 #ifdef CHECKS_RACES
 void __tsan_acquire(void *at);
 void __tsan_release(void *at);
-static void enter(struct bells *bells) { __tsan_release(bells); }
-static void leave(struct bells *bells) { __tsan_acquire(bells); }
+
+/* The tie of the thing that a call is about: below 0 where there is none. */
+static int tie_of(const struct sugwelan_call *call, uint32_t number)
+{
+    switch (call->kind) {
+    case SUGWELAN_WAIT_EVENT:
+    case SUGWELAN_SWAIT_EVENT:
+    case SUGWELAN_SET_AND_WAKE:
+    case SUGWELAN_SET_AND_SWAKE:
+    case SUGWELAN_TAKE_CONDITION:
+        return call->a < SUGWELAN_CONDITIONS ? CONDITION_TIES + (int)call->a : -1;
+    case SUGWELAN_WAIT_VAR_EVENT:
+    case SUGWELAN_PUBLISH_VAR_AND_WAKE:
+        return call->a < SUGWELAN_VARIABLES ? VARIABLE_TIES + (int)call->a : -1;
+    case SUGWELAN_WAIT_ON_BIT:
+    case SUGWELAN_WAIT_ON_BIT_LOCK:
+    case SUGWELAN_CLEAR_AND_WAKE_UP_BIT:
+    case SUGWELAN_TRYLOCK_BIT:
+        return call->a < SUGWELAN_WORDS && call->b < SUGWELAN_BITS
+                   ? BIT_TIES + (int)(call->a * SUGWELAN_BITS + call->b) : -1;
+    case SUGWELAN_LOCK_PAGE:
+    case SUGWELAN_UNLOCK_PAGE:
+    case SUGWELAN_TRYLOCK_PAGE:
+        return call->a < SUGWELAN_PAGES ? BIT_TIES + (int)(call->a * SUGWELAN_BITS) : -1;
+    case SUGWELAN_WAIT_FOR_COMPLETION:
+    case SUGWELAN_COMPLETE:
+    case SUGWELAN_COMPLETE_ALL:
+    case SUGWELAN_TRY_WAIT_FOR_COMPLETION:
+    case SUGWELAN_COMPLETION_DONE:
+        return call->a < SUGWELAN_COMPLETIONS ? COMPLETION_TIES + (int)call->a : -1;
+    case SUGWELAN_RAISE_SIGNAL:
+        return call->a < SUGWELAN_TASKS ? SIGNAL_TIES + (int)call->a : -1;
+    case SUGWELAN_TAKE_SIGNAL:
+        return SIGNAL_TIES + (int)number;
+    default:
+        return -1;
+    }
+}
+
+/* Whether a call changes what it is about, for others to see. */
+static bool publishes(uint32_t kind)
+{
+    return kind == SUGWELAN_SET_AND_WAKE || kind == SUGWELAN_SET_AND_SWAKE || kind == SUGWELAN_PUBLISH_VAR_AND_WAKE ||
+           kind == SUGWELAN_CLEAR_AND_WAKE_UP_BIT || kind == SUGWELAN_UNLOCK_PAGE || kind == SUGWELAN_COMPLETE ||
+           kind == SUGWELAN_COMPLETE_ALL || kind == SUGWELAN_RAISE_SIGNAL;
+}
+
+/* Whether a call that is over has seen what others have changed: those that try have where they have got it. */
+static bool sees(uint32_t kind, const struct sugwelan_told *told)
+{
+    bool tries = kind == SUGWELAN_TRYLOCK_BIT || kind == SUGWELAN_TRYLOCK_PAGE ||
+                 kind == SUGWELAN_TRY_WAIT_FOR_COMPLETION || kind == SUGWELAN_COMPLETION_DONE;
+    return !publishes(kind) && (!tries || told->value);
+}
+
+static void enter(struct sugwelan_domain *domain, uint32_t number, const struct sugwelan_call *call)
+{
+    int tie = tie_of(call, number);
+    if (tie >= 0 && publishes(call->kind))
+        __tsan_release(&domain->ties[tie]);
+}
+
+static void leave(struct sugwelan_domain *domain, uint32_t number, const struct sugwelan_call *call, int32_t answer,
+                  const struct sugwelan_told *told)
+{
+    int tie = tie_of(call, number);
+    if (answer == -EINTR)
+        __tsan_acquire(&domain->ties[SIGNAL_TIES + number]);
+    else if (tie >= 0 && !answer && sees(call->kind, told))
+        __tsan_acquire(&domain->ties[tie]);
+}
 #else
-static void enter(struct bells *bells) { (void)bells; }
-static void leave(struct bells *bells) { (void)bells; }
+static void enter(struct sugwelan_domain *domain, uint32_t number, const struct sugwelan_call *call)
+{
+    (void)domain, (void)number, (void)call;
+}
+
+static void leave(struct sugwelan_domain *domain, uint32_t number, const struct sugwelan_call *call, int32_t answer,
+                  const struct sugwelan_told *told)
+{
+    (void)domain, (void)number, (void)call, (void)answer, (void)told;
+}
 #endif
 
 static void relax(void)
@@ -88,32 +198,35 @@ static void park(struct bell *bell)
     atomic_store(&bell->word, QUIET);
 }
 
-static void rouse(struct bells *bells, const struct sugwelan_told *told)
+static void rouse(struct sugwelan_domain *domain, const struct sugwelan_told *told)
 {
     for (uint32_t i = 0; i < told->rouse_count; i++)
-        ring(&bells->of[told->rouse[i]]);
+        ring(&domain->bells[told->rouse[i]]);
 }
 
-/* Lets the thread go on that has the lock of the queue. */
+/* Lets the thread go on that has the lock of the queue. The sleep is a raw one: that of the C library would be a place
+ * where the thread can be cancelled, with a number drawn at the queue, behind which all others wait. */
 static void give_way(uint32_t tries)
 {
     if (tries < SPINS) {
         relax();
-    } else if (tries < YIELDS) {
+    } else if (tries < SUGWELAN_TRIES) {
         sched_yield();
     } else {
-        nanosleep(&(struct timespec){.tv_nsec = NAP}, NULL);
+        struct timespec nap = {.tv_nsec = NAP};
+        syscall(SYS_clock_nanosleep, CLOCK_MONOTONIC, 0, &nap, NULL);
     }
 }
 
 /* Makes a call to its end. */
-static int32_t run(struct sugwelan_task *task, struct sugwelan_call call, struct sugwelan_told *told)
+static int32_t run(struct sugwelan_domain *domain, void *handle, uint32_t number, struct sugwelan_call call,
+                   struct sugwelan_told *told)
 {
     uint32_t tries = 0;
     for (;;) {
         told->rouse_count = 0;
-        int32_t answer = sugwelan_call(task->handle, &call, told);
-        rouse(task->bells, told);
+        int32_t answer = sugwelan_call(handle, &call, told);
+        rouse(domain, told);
         call.kind = SUGWELAN_ADVANCE;
         switch (answer) {
         case SUGWELAN_AGAIN:
@@ -122,13 +235,53 @@ static int32_t run(struct sugwelan_task *task, struct sugwelan_call call, struct
             give_way(tries++);
             continue;
         case SUGWELAN_PARK:
-            park(&task->bells->of[task->number]);
+            park(&domain->bells[number]);
             break;
         default:
             return answer;
         }
         tries = 0;
     }
+}
+
+static bool waits_for_bit(uint32_t kind)
+{
+    return kind == SUGWELAN_WAIT_ON_BIT || kind == SUGWELAN_WAIT_ON_BIT_LOCK || kind == SUGWELAN_LOCK_PAGE;
+}
+
+/* The answer to a call that the archive answers so. Some codes of the archive are of several reasons, which the call
+ * tells apart. */
+static int32_t reason(const struct sugwelan_call *call, int32_t answer)
+{
+    if (answer == -EPERM && waits_for_bit(call->kind))
+        return -EDEADLK;
+    if (answer == -EINVAL && call->kind == SUGWELAN_SWAIT_EVENT && call->b == SUGWELAN_KILLABLE &&
+        call->a >= SUGWELAN_FIRST_SIMPLE && call->a < SUGWELAN_CONDITIONS)
+        return -EOPNOTSUPP;
+    if (answer == -EBADF)
+        return -ENOTRECOVERABLE;
+    return answer;
+}
+
+/* Makes a call: 0 or a negative errno. */
+static int32_t served(struct sugwelan_domain *domain, void *handle, uint32_t number, const struct sugwelan_call *call,
+                      struct sugwelan_told *told)
+{
+    enter(domain, number, call);
+    int32_t answer = run(domain, handle, number, *call, told);
+    leave(domain, number, call, answer, told);
+    return reason(call, answer);
+}
+
+/* Counts what the task has taken or given back by a call that is over. */
+static void count_kept(struct sugwelan_task *task, uint32_t kind, const struct sugwelan_told *told)
+{
+    if (kind == SUGWELAN_WAIT_ON_BIT_LOCK || kind == SUGWELAN_LOCK_PAGE)
+        task->kept++;
+    else if (kind == SUGWELAN_TRYLOCK_BIT || kind == SUGWELAN_TRYLOCK_PAGE)
+        task->kept += told->value != 0;
+    else if (kind == SUGWELAN_CLEAR_AND_WAKE_UP_BIT || kind == SUGWELAN_UNLOCK_PAGE)
+        task->kept--;
 }
 
 /* Lets one thread at a time in: 0 where it may go on. */
@@ -138,133 +291,228 @@ static int begin(struct sugwelan_task *task)
         return -EBADF;
     if (atomic_exchange_explicit(&task->busy, true, memory_order_acquire))
         return -EALREADY;
-    enter(task->bells);
     return 0;
 }
 
 static void end(struct sugwelan_task *task)
 {
-    leave(task->bells);
     atomic_store_explicit(&task->busy, false, memory_order_release);
 }
 
-/* Makes a call: 0 or a negative errno. `told` is as the last stretch left it. */
-static int made(struct sugwelan_task *task, struct sugwelan_call call, struct sugwelan_told *told)
+/* Who makes a call: a task, or where it is null a Domain. */
+struct caller {
+    struct sugwelan_task *task;
+    struct sugwelan_domain *domain;
+};
+
+static struct caller by_task(struct sugwelan_task *task)
 {
+    return (struct caller){task, NULL};
+}
+
+static struct caller by_domain(struct sugwelan_domain *domain)
+{
+    return (struct caller){NULL, domain};
+}
+
+/* Makes a call by the Domain's own task. Its number is 0, and no wait is among those calls. */
+static int made_at_home(struct sugwelan_domain *domain, const struct sugwelan_call *call, struct sugwelan_told *told)
+{
+    if (!domain)
+        return -EBADF;
+    pthread_mutex_lock(&domain->lock);
+    int answer = served(domain, domain->home, 0, call, told);
+    pthread_mutex_unlock(&domain->lock);
+    return answer;
+}
+
+/* Makes a call: 0 or a negative errno. `told` is as the last stretch left it. */
+static int made(struct caller who, struct sugwelan_call call, struct sugwelan_told *told)
+{
+    struct sugwelan_task *task = who.task;
+    if (who.domain)
+        return made_at_home(who.domain, &call, told);
     int answer = begin(task);
     if (answer)
         return answer;
-    answer = run(task, call, told);
+    answer = served(task->domain, task->handle, task->number, &call, told);
+    if (!answer)
+        count_kept(task, call.kind, told);
     end(task);
     return answer;
 }
 
-/* Makes a wait. */
-static int waits(struct sugwelan_task *task, struct sugwelan_call call)
+/* Makes a wait, or another call that gives nothing out. */
+static int waits(struct caller who, struct sugwelan_call call)
 {
     struct sugwelan_told told;
-    return made(task, call, &told);
+    return made(who, call, &told);
 }
 
 /* Makes a call that gives out a value. */
-static int finds(struct sugwelan_task *task, struct sugwelan_call call, uint64_t *value)
+static int finds(struct caller who, struct sugwelan_call call, uint64_t *value)
 {
     struct sugwelan_told told;
-    int answer = made(task, call, &told);
+    int answer = made(who, call, &told);
     if (!answer && value)
         *value = told.value;
     return answer;
 }
 
 /* Makes a call whose value is small and is the answer. */
-static int tells(struct sugwelan_task *task, struct sugwelan_call call)
+static int tells(struct caller who, struct sugwelan_call call)
 {
     uint64_t value = 0;
-    int answer = finds(task, call, &value);
+    int answer = finds(who, call, &value);
     return answer ? answer : (int)value;
 }
 
 /* Makes a wake. */
-static int wakes(struct sugwelan_task *task, struct sugwelan_call call, struct sugwelan_walked *walked)
+static int wakes(struct caller who, struct sugwelan_call call, struct sugwelan_walked *walked)
 {
     struct sugwelan_told told;
-    int answer = made(task, call, &told);
+    int answer = made(who, call, &told);
     if (!answer && walked)
         *walked = (struct sugwelan_walked){told.woken, told.selected, told.holds, (enum sugwelan_end)told.end};
     return answer;
 }
 
 /* Makes a wake of a simple queue. */
-static int selects(struct sugwelan_task *task, struct sugwelan_call call, uint32_t *selected)
+static int selects(struct caller who, struct sugwelan_call call, uint32_t *selected)
 {
     struct sugwelan_told told;
-    int answer = made(task, call, &told);
+    int answer = made(who, call, &told);
     if (!answer && selected)
         *selected = told.selected;
     return answer;
 }
 
-/* Makes a task of a handle, which shares the bells: 0 or -ENOMEM. */
-static int wrap(void *handle, struct bells *bells, struct sugwelan_task **out)
+int sugwelan_abi(void)
+{
+    return SUGWELAN_ABI;
+}
+
+/* One user of a Domain less; with the last one it goes, and all its tasks are spare then. */
+static void let_go(struct sugwelan_domain *domain)
+{
+    if (atomic_fetch_sub(&domain->users, 1) != 1)
+        return;
+    for (struct sugwelan_task *task = domain->spare, *next; task; task = next) {
+        next = task->next;
+        sugwelan_free(task->handle);
+        free(task);
+    }
+    sugwelan_free(domain->home);
+    pthread_mutex_destroy(&domain->lock);
+    free(domain);
+}
+
+int sugwelan_domain_new(struct sugwelan_domain **out)
+{
+    if (!out)
+        return -EINVAL;
+    struct sugwelan_domain *domain = aligned_alloc(CACHE_LINE, sizeof *domain);
+    if (!domain)
+        return -ENOMEM;
+    int answer = sugwelan_new(&domain->home);
+    if (answer) {
+        free(domain);
+        return answer;
+    }
+    for (int i = 0; i < SUGWELAN_TASKS; i++)
+        atomic_init(&domain->bells[i].word, QUIET);
+    atomic_init(&domain->users, 1);
+    atomic_init(&domain->owned, true);
+    pthread_mutex_init(&domain->lock, NULL);
+    domain->spare = NULL;
+    *out = domain;
+    return 0;
+}
+
+int sugwelan_domain_free(struct sugwelan_domain *domain)
+{
+    if (!domain)
+        return -EBADF;
+    if (!atomic_exchange(&domain->owned, false))
+        return -EALREADY;
+    let_go(domain);
+    return 0;
+}
+
+/* Makes a further task: 0 or a negative errno. */
+static int new_task(struct sugwelan_domain *domain, struct sugwelan_task **out)
 {
     struct sugwelan_told told;
     struct sugwelan_call call = {.kind = SUGWELAN_NUMBER};
     struct sugwelan_task *task = malloc(sizeof *task);
     if (!task)
         return -ENOMEM;
-    sugwelan_call(handle, &call, &told);
-    task->handle = handle;
-    task->bells = bells;
+    pthread_mutex_lock(&domain->lock);
+    int answer = sugwelan_fork(domain->home, 0, &task->handle);
+    pthread_mutex_unlock(&domain->lock);
+    if (answer) {
+        free(task);
+        return answer == -ENOSPC ? -EAGAIN : answer;
+    }
+    sugwelan_call(task->handle, &call, &told);
+    task->domain = domain;
+    task->next = NULL;
     task->number = (uint32_t)told.value;
-    atomic_init(&task->busy, false);
+    task->kept = 0;
+    atomic_init(&task->busy, true);
     *out = task;
     return 0;
 }
 
-static struct bells *new_bells(void)
+/* A task that was freed, if there is one. */
+static struct sugwelan_task *spare_task(struct sugwelan_domain *domain)
 {
-    struct bells *bells = aligned_alloc(CACHE_LINE, sizeof *bells);
-    if (!bells)
-        return NULL;
-    for (int i = 0; i < SUGWELAN_TASKS; i++)
-        atomic_init(&bells->of[i].word, QUIET);
-    atomic_init(&bells->tasks, 1);
-    return bells;
+    pthread_mutex_lock(&domain->lock);
+    struct sugwelan_task *task = domain->spare;
+    if (task)
+        domain->spare = task->next;
+    pthread_mutex_unlock(&domain->lock);
+    return task;
+}
+
+int sugwelan_domain_task(struct sugwelan_domain *domain, struct sugwelan_task **out)
+{
+    struct sugwelan_told told;
+    struct sugwelan_call call = {.kind = SUGWELAN_TAKE_SIGNAL};
+    if (!domain)
+        return -EBADF;
+    if (!out)
+        return -EINVAL;
+    struct sugwelan_task *task = spare_task(domain);
+    if (!task) {
+        int answer = new_task(domain, &task);
+        if (answer)
+            return answer;
+    }
+    /* Signals that were raised of its number before are none of its own. */
+    sugwelan_call(task->handle, &call, &told);
+    atomic_fetch_add(&domain->users, 1);
+    end(task);
+    *out = task;
+    return 0;
 }
 
 int sugwelan_task_new(struct sugwelan_task **out)
 {
-    void *handle;
-    struct bells *bells = new_bells();
-    if (!bells)
-        return -ENOMEM;
-    int answer = sugwelan_new(&handle);
-    if (!answer) {
-        answer = wrap(handle, bells, out);
-        if (answer)
-            sugwelan_free(handle);
-    }
+    struct sugwelan_domain *domain;
+    if (!out)
+        return -EINVAL;
+    int answer = sugwelan_domain_new(&domain);
     if (answer)
-        free(bells);
+        return answer;
+    answer = sugwelan_domain_task(domain, out);
+    sugwelan_domain_free(domain);
     return answer;
 }
 
-int sugwelan_task_fork(struct sugwelan_task *task, uint32_t share, struct sugwelan_task **out)
+int sugwelan_task_fork(struct sugwelan_task *task, struct sugwelan_task **out)
 {
-    void *handle;
-    int answer = begin(task);
-    if (answer)
-        return answer;
-    answer = sugwelan_fork(task->handle, share, &handle);
-    if (!answer) {
-        answer = wrap(handle, task->bells, out);
-        if (answer)
-            sugwelan_free(handle);
-        else
-            atomic_fetch_add(&task->bells->tasks, 1);
-    }
-    end(task);
-    return answer;
+    return sugwelan_domain_task(sugwelan_task_domain(task), out);
 }
 
 int sugwelan_task_free(struct sugwelan_task *task)
@@ -272,15 +520,22 @@ int sugwelan_task_free(struct sugwelan_task *task)
     int answer = begin(task);
     if (answer)
         return answer;
-    answer = sugwelan_free(task->handle);
-    if (answer) {
+    if (task->kept) {
         end(task);
-        return answer;
+        return -ENOTEMPTY;
     }
-    if (atomic_fetch_sub(&task->bells->tasks, 1) == 1)
-        free(task->bells);
-    free(task);
+    struct sugwelan_domain *domain = task->domain;
+    pthread_mutex_lock(&domain->lock);
+    task->next = domain->spare;
+    domain->spare = task;
+    pthread_mutex_unlock(&domain->lock);
+    let_go(domain);
     return 0;
+}
+
+struct sugwelan_domain *sugwelan_task_domain(struct sugwelan_task *task)
+{
+    return task ? task->domain : NULL;
 }
 
 int sugwelan_task_number(struct sugwelan_task *task)
@@ -290,145 +545,221 @@ int sugwelan_task_number(struct sugwelan_task *task)
 
 int sugwelan_wait_event(struct sugwelan_task *task, uint32_t condition, enum sugwelan_state state)
 {
-    return waits(task, (struct sugwelan_call){SUGWELAN_WAIT_EVENT, condition, state, false, 0});
+    return waits(by_task(task), (struct sugwelan_call){SUGWELAN_WAIT_EVENT, condition, state, false, 0});
 }
 
 int sugwelan_wait_event_exclusive(struct sugwelan_task *task, uint32_t condition, enum sugwelan_state state)
 {
-    return waits(task, (struct sugwelan_call){SUGWELAN_WAIT_EVENT, condition, state, true, 0});
+    return waits(by_task(task), (struct sugwelan_call){SUGWELAN_WAIT_EVENT, condition, state, true, 0});
 }
 
 int sugwelan_swait_event(struct sugwelan_task *task, uint32_t condition, enum sugwelan_state state)
 {
-    return waits(task, (struct sugwelan_call){SUGWELAN_SWAIT_EVENT, condition, state, 0, 0});
+    return waits(by_task(task), (struct sugwelan_call){SUGWELAN_SWAIT_EVENT, condition, state, 0, 0});
 }
 
 int sugwelan_wake_up(struct sugwelan_task *task, uint32_t condition, enum sugwelan_mode mode, uint32_t count,
                      struct sugwelan_walked *walked)
 {
-    return wakes(task, (struct sugwelan_call){SUGWELAN_WAKE_UP, condition, mode, count, 0}, walked);
+    return wakes(by_task(task), (struct sugwelan_call){SUGWELAN_WAKE_UP, condition, mode, count, 0}, walked);
 }
 
 int sugwelan_set_and_wake(struct sugwelan_task *task, uint32_t condition, uint64_t value, uint32_t count,
                           struct sugwelan_walked *walked)
 {
-    return wakes(task, (struct sugwelan_call){SUGWELAN_SET_AND_WAKE, condition, 0, count, value}, walked);
+    return wakes(by_task(task), (struct sugwelan_call){SUGWELAN_SET_AND_WAKE, condition, 0, count, value}, walked);
 }
 
 int sugwelan_take_condition(struct sugwelan_task *task, uint32_t condition, uint64_t *value)
 {
-    return finds(task, (struct sugwelan_call){SUGWELAN_TAKE_CONDITION, condition, 0, 0, 0}, value);
+    return finds(by_task(task), (struct sugwelan_call){SUGWELAN_TAKE_CONDITION, condition, 0, 0, 0}, value);
 }
 
 int sugwelan_set_and_swake_one(struct sugwelan_task *task, uint32_t condition, uint64_t value, uint32_t *selected)
 {
-    return selects(task, (struct sugwelan_call){SUGWELAN_SET_AND_SWAKE, condition, false, 0, value}, selected);
+    return selects(by_task(task), (struct sugwelan_call){SUGWELAN_SET_AND_SWAKE, condition, false, 0, value}, selected);
 }
 
 int sugwelan_set_and_swake_all(struct sugwelan_task *task, uint32_t condition, uint64_t value, uint32_t *selected)
 {
-    return selects(task, (struct sugwelan_call){SUGWELAN_SET_AND_SWAKE, condition, true, 0, value}, selected);
+    return selects(by_task(task), (struct sugwelan_call){SUGWELAN_SET_AND_SWAKE, condition, true, 0, value}, selected);
 }
 
 int sugwelan_swake_up_one(struct sugwelan_task *task, uint32_t condition, uint32_t *selected)
 {
-    return selects(task, (struct sugwelan_call){SUGWELAN_SWAKE_UP_ONE, condition, 0, 0, 0}, selected);
+    return selects(by_task(task), (struct sugwelan_call){SUGWELAN_SWAKE_UP_ONE, condition, 0, 0, 0}, selected);
 }
 
 int sugwelan_swake_up_all(struct sugwelan_task *task, uint32_t condition, uint32_t *selected)
 {
-    return selects(task, (struct sugwelan_call){SUGWELAN_SWAKE_UP_ALL, condition, 0, 0, 0}, selected);
+    return selects(by_task(task), (struct sugwelan_call){SUGWELAN_SWAKE_UP_ALL, condition, 0, 0, 0}, selected);
 }
 
 int sugwelan_wait_var_event(struct sugwelan_task *task, uint32_t variable, uint64_t old, enum sugwelan_state state,
                             uint64_t *found)
 {
-    return finds(task, (struct sugwelan_call){SUGWELAN_WAIT_VAR_EVENT, variable, state, 0, old}, found);
+    return finds(by_task(task), (struct sugwelan_call){SUGWELAN_WAIT_VAR_EVENT, variable, state, 0, old}, found);
 }
 
 int sugwelan_publish_var_and_wake(struct sugwelan_task *task, uint32_t variable, uint64_t value,
                                   struct sugwelan_walked *walked)
 {
-    return wakes(task, (struct sugwelan_call){SUGWELAN_PUBLISH_VAR_AND_WAKE, variable, 0, 0, value}, walked);
+    return wakes(by_task(task), (struct sugwelan_call){SUGWELAN_PUBLISH_VAR_AND_WAKE, variable, 0, 0, value}, walked);
 }
 
 int sugwelan_wait_on_bit(struct sugwelan_task *task, uint32_t word, uint32_t bit, enum sugwelan_state state)
 {
-    return waits(task, (struct sugwelan_call){SUGWELAN_WAIT_ON_BIT, word, bit, state, 0});
+    return waits(by_task(task), (struct sugwelan_call){SUGWELAN_WAIT_ON_BIT, word, bit, state, 0});
 }
 
 int sugwelan_wait_on_bit_lock(struct sugwelan_task *task, uint32_t word, uint32_t bit, enum sugwelan_state state)
 {
-    return waits(task, (struct sugwelan_call){SUGWELAN_WAIT_ON_BIT_LOCK, word, bit, state, 0});
+    return waits(by_task(task), (struct sugwelan_call){SUGWELAN_WAIT_ON_BIT_LOCK, word, bit, state, 0});
 }
 
 int sugwelan_trylock_bit(struct sugwelan_task *task, uint32_t word, uint32_t bit)
 {
-    return tells(task, (struct sugwelan_call){SUGWELAN_TRYLOCK_BIT, word, bit, 0, 0});
+    return tells(by_task(task), (struct sugwelan_call){SUGWELAN_TRYLOCK_BIT, word, bit, 0, 0});
 }
 
 int sugwelan_clear_and_wake_up_bit(struct sugwelan_task *task, uint32_t word, uint32_t bit,
                                    struct sugwelan_walked *walked)
 {
-    return wakes(task, (struct sugwelan_call){SUGWELAN_CLEAR_AND_WAKE_UP_BIT, word, bit, 0, 0}, walked);
+    return wakes(by_task(task), (struct sugwelan_call){SUGWELAN_CLEAR_AND_WAKE_UP_BIT, word, bit, 0, 0}, walked);
 }
 
 int sugwelan_lock_page(struct sugwelan_task *task, uint32_t page, enum sugwelan_state state)
 {
-    return waits(task, (struct sugwelan_call){SUGWELAN_LOCK_PAGE, page, state, 0, 0});
+    return waits(by_task(task), (struct sugwelan_call){SUGWELAN_LOCK_PAGE, page, state, 0, 0});
 }
 
 int sugwelan_trylock_page(struct sugwelan_task *task, uint32_t page)
 {
-    return tells(task, (struct sugwelan_call){SUGWELAN_TRYLOCK_PAGE, page, 0, 0, 0});
+    return tells(by_task(task), (struct sugwelan_call){SUGWELAN_TRYLOCK_PAGE, page, 0, 0, 0});
 }
 
 int sugwelan_unlock_page(struct sugwelan_task *task, uint32_t page, struct sugwelan_walked *walked)
 {
-    return wakes(task, (struct sugwelan_call){SUGWELAN_UNLOCK_PAGE, page, 0, 0, 0}, walked);
+    return wakes(by_task(task), (struct sugwelan_call){SUGWELAN_UNLOCK_PAGE, page, 0, 0, 0}, walked);
 }
 
 int sugwelan_add_tally(struct sugwelan_task *task, uint32_t page, uint64_t amount, uint64_t *before)
 {
-    return finds(task, (struct sugwelan_call){SUGWELAN_ADD_TALLY, page, 0, 0, amount}, before);
+    return finds(by_task(task), (struct sugwelan_call){SUGWELAN_ADD_TALLY, page, 0, 0, amount}, before);
 }
 
 int sugwelan_wait_for_completion(struct sugwelan_task *task, uint32_t completion, enum sugwelan_state state)
 {
-    return waits(task, (struct sugwelan_call){SUGWELAN_WAIT_FOR_COMPLETION, completion, state, 0, 0});
+    return waits(by_task(task), (struct sugwelan_call){SUGWELAN_WAIT_FOR_COMPLETION, completion, state, 0, 0});
 }
 
 int sugwelan_complete(struct sugwelan_task *task, uint32_t completion)
 {
-    return waits(task, (struct sugwelan_call){SUGWELAN_COMPLETE, completion, 0, 0, 0});
+    return waits(by_task(task), (struct sugwelan_call){SUGWELAN_COMPLETE, completion, 0, 0, 0});
 }
 
 int sugwelan_complete_all(struct sugwelan_task *task, uint32_t completion)
 {
-    return waits(task, (struct sugwelan_call){SUGWELAN_COMPLETE_ALL, completion, 0, 0, 0});
+    return waits(by_task(task), (struct sugwelan_call){SUGWELAN_COMPLETE_ALL, completion, 0, 0, 0});
 }
 
 int sugwelan_reinit_completion(struct sugwelan_task *task, uint32_t completion)
 {
-    return waits(task, (struct sugwelan_call){SUGWELAN_REINIT_COMPLETION, completion, 0, 0, 0});
+    return waits(by_task(task), (struct sugwelan_call){SUGWELAN_REINIT_COMPLETION, completion, 0, 0, 0});
 }
 
 int sugwelan_try_wait_for_completion(struct sugwelan_task *task, uint32_t completion)
 {
-    return tells(task, (struct sugwelan_call){SUGWELAN_TRY_WAIT_FOR_COMPLETION, completion, 0, 0, 0});
+    return tells(by_task(task), (struct sugwelan_call){SUGWELAN_TRY_WAIT_FOR_COMPLETION, completion, 0, 0, 0});
 }
 
 int sugwelan_completion_done(struct sugwelan_task *task, uint32_t completion)
 {
-    return tells(task, (struct sugwelan_call){SUGWELAN_COMPLETION_DONE, completion, 0, 0, 0});
+    return tells(by_task(task), (struct sugwelan_call){SUGWELAN_COMPLETION_DONE, completion, 0, 0, 0});
 }
 
 int sugwelan_raise_signal(struct sugwelan_task *task, uint32_t number, int fatal)
 {
-    return waits(task, (struct sugwelan_call){SUGWELAN_RAISE_SIGNAL, number, fatal != 0, 0, 0});
+    return waits(by_task(task), (struct sugwelan_call){SUGWELAN_RAISE_SIGNAL, number, fatal != 0, 0, 0});
 }
 
 int sugwelan_take_signal(struct sugwelan_task *task)
 {
-    return tells(task, (struct sugwelan_call){SUGWELAN_TAKE_SIGNAL, 0, 0, 0, 0});
+    return tells(by_task(task), (struct sugwelan_call){SUGWELAN_TAKE_SIGNAL, 0, 0, 0, 0});
+}
+
+/* Both calls are over at once, and no other one of the task comes between them. */
+int sugwelan_signal_pending(struct sugwelan_task *task)
+{
+    struct sugwelan_told told;
+    struct sugwelan_call call = {.kind = SUGWELAN_TAKE_SIGNAL};
+    int answer = begin(task);
+    if (answer)
+        return answer;
+    answer = served(task->domain, task->handle, task->number, &call, &told);
+    uint64_t signal = answer ? 0 : told.value;
+    if (signal) {
+        call = (struct sugwelan_call){SUGWELAN_RAISE_SIGNAL, task->number, signal == 2, 0, 0};
+        answer = served(task->domain, task->handle, task->number, &call, &told);
+    }
+    end(task);
+    return answer ? answer : (int)signal;
+}
+
+int sugwelan_domain_raise_signal(struct sugwelan_domain *domain, uint32_t number, int fatal)
+{
+    return waits(by_domain(domain), (struct sugwelan_call){SUGWELAN_RAISE_SIGNAL, number, fatal != 0, 0, 0});
+}
+
+int sugwelan_domain_wake_up(struct sugwelan_domain *domain, uint32_t condition, enum sugwelan_mode mode, uint32_t count,
+                            struct sugwelan_walked *walked)
+{
+    return wakes(by_domain(domain), (struct sugwelan_call){SUGWELAN_WAKE_UP, condition, mode, count, 0}, walked);
+}
+
+int sugwelan_domain_set_and_wake(struct sugwelan_domain *domain, uint32_t condition, uint64_t value, uint32_t count,
+                                 struct sugwelan_walked *walked)
+{
+    return wakes(by_domain(domain), (struct sugwelan_call){SUGWELAN_SET_AND_WAKE, condition, 0, count, value}, walked);
+}
+
+int sugwelan_domain_set_and_swake_one(struct sugwelan_domain *domain, uint32_t condition, uint64_t value,
+                                      uint32_t *selected)
+{
+    return selects(by_domain(domain), (struct sugwelan_call){SUGWELAN_SET_AND_SWAKE, condition, false, 0, value},
+                   selected);
+}
+
+int sugwelan_domain_set_and_swake_all(struct sugwelan_domain *domain, uint32_t condition, uint64_t value,
+                                      uint32_t *selected)
+{
+    return selects(by_domain(domain), (struct sugwelan_call){SUGWELAN_SET_AND_SWAKE, condition, true, 0, value},
+                   selected);
+}
+
+int sugwelan_domain_swake_up_one(struct sugwelan_domain *domain, uint32_t condition, uint32_t *selected)
+{
+    return selects(by_domain(domain), (struct sugwelan_call){SUGWELAN_SWAKE_UP_ONE, condition, 0, 0, 0}, selected);
+}
+
+int sugwelan_domain_swake_up_all(struct sugwelan_domain *domain, uint32_t condition, uint32_t *selected)
+{
+    return selects(by_domain(domain), (struct sugwelan_call){SUGWELAN_SWAKE_UP_ALL, condition, 0, 0, 0}, selected);
+}
+
+int sugwelan_domain_publish_var_and_wake(struct sugwelan_domain *domain, uint32_t variable, uint64_t value,
+                                         struct sugwelan_walked *walked)
+{
+    return wakes(by_domain(domain), (struct sugwelan_call){SUGWELAN_PUBLISH_VAR_AND_WAKE, variable, 0, 0, value},
+                 walked);
+}
+
+int sugwelan_domain_complete(struct sugwelan_domain *domain, uint32_t completion)
+{
+    return waits(by_domain(domain), (struct sugwelan_call){SUGWELAN_COMPLETE, completion, 0, 0, 0});
+}
+
+int sugwelan_domain_complete_all(struct sugwelan_domain *domain, uint32_t completion)
+{
+    return waits(by_domain(domain), (struct sugwelan_call){SUGWELAN_COMPLETE_ALL, completion, 0, 0, 0});
 }

@@ -3,7 +3,6 @@ pub mod Tries
 pub mod Words
 pub mod BitWaits
 pub mod BitEnds
-pub mod Tested
 pub mod Clears
 pub mod LockStays
 pub mod LockWaits

@@ -5,8 +5,6 @@ pub mod clears;
 pub mod laws;
 pub mod lock_calls;
 pub mod lock_waits;
-#[cfg(test)]
-mod tests;
 pub mod tries;
 pub mod wait_calls;
 pub mod waits;

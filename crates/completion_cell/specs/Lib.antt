@@ -2,7 +2,6 @@ pub mod Asks
 pub mod Awaits
 pub mod Completes
 pub mod AwaitEnds
-pub mod Tested
 pub mod HeldPermits
 pub mod AwaitPermits
 pub mod CellTurns

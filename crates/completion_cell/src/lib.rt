@@ -6,5 +6,3 @@ pub mod await_calls;
 pub mod awaits;
 pub mod cell_turns;
 pub mod completes;
-#[cfg(test)]
-mod tests;

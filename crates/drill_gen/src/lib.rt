@@ -3,7 +3,5 @@
 
 mod draw;
 mod lines;
-#[cfg(test)]
-mod tests;
 
 pub use lines::{MOST_CALLS, drill};

@@ -2,4 +2,3 @@ pub mod PageWaits
 pub mod PageStays
 pub mod PageEnds
 pub mod PageWords
-pub mod Tested

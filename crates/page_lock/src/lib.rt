@@ -5,8 +5,6 @@
 
 pub mod laws;
 pub mod tallies;
-#[cfg(test)]
-mod tests;
 pub mod tries;
 pub mod unlocks;
 pub mod wait_calls;

@@ -4,8 +4,6 @@
 
 pub mod laws;
 pub mod swake_turns;
-#[cfg(test)]
-mod tests;
 pub mod waits;
 pub mod wakes;
 

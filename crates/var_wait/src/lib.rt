@@ -4,8 +4,6 @@
 
 pub mod laws;
 pub mod publishes;
-#[cfg(test)]
-mod tests;
 pub mod waits;
 
 pub use publishes::publish_var_and_wake;

@@ -6,5 +6,3 @@ pub mod Preparing
 pub mod Entering
 pub mod Removing
 pub mod Words
-pub mod ReadyTasks
-pub mod Hearers

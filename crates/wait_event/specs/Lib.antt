@@ -8,4 +8,3 @@ pub mod Prepares
 pub mod Entries
 pub mod WokenWaits
 pub mod Words
-pub mod Tested

@@ -7,8 +7,6 @@ pub mod entries;
 pub mod laws;
 pub mod prepares;
 mod queueing;
-#[cfg(test)]
-mod tests;
 pub mod wait_calls;
 pub mod wait_events;
 pub mod waits;

@@ -6,8 +6,6 @@ mod cells;
 pub mod ends;
 mod looks;
 pub mod pieces;
-#[cfg(test)]
-mod tests;
 
 pub use ends::{close_read, close_write, open_read, open_write};
 pub use pieces::{PipeEnd, read_piece, write_piece};

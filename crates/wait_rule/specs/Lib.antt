@@ -48,7 +48,6 @@ pub mod TallyPlays
 pub mod PipePlays
 pub mod PageCalls
 pub mod Start
-pub mod Meeting
 pub mod Tried
 pub mod Bits
 pub mod BitPlays

@@ -2,14 +2,13 @@
 //! the lines at the end.
 #![tactic(auto)]
 
-#[cfg(test)]
-mod bad_lines;
 mod cells;
 mod ending;
 mod events;
 mod fields;
 mod forms;
 mod line;
+mod names;
 mod number;
 mod pieces;
 mod reader;
@@ -17,8 +16,6 @@ mod reason;
 mod script;
 mod steps;
 mod summary;
-#[cfg(test)]
-mod tests;
 mod text;
 mod version;
 mod words;

@@ -16,8 +16,6 @@ pub mod signals;
 pub mod simple_wakes;
 mod stretches;
 pub mod tasks;
-#[cfg(test)]
-mod tests;
 pub mod wakings;
 
 pub use calls::{Answer, Progress};

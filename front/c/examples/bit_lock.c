@@ -31,7 +31,7 @@ int main(void)
     if (sugwelan_task_new(&first))
         return 1;
     for (int i = 0; i < THREADS; i++)
-        if (sugwelan_task_fork(first, 0, &tasks[i]) || pthread_create(&threads[i], NULL, add_often, tasks[i]))
+        if (sugwelan_task_fork(first, &tasks[i]) || pthread_create(&threads[i], NULL, add_often, tasks[i]))
             return 1;
     for (int i = 0; i < THREADS; i++) {
         pthread_join(threads[i], NULL);

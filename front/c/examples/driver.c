@@ -41,7 +41,7 @@ int main(void)
     struct sugwelan_task *driver, *other;
     pthread_t thread;
     uint64_t status;
-    if (sugwelan_task_new(&driver) || sugwelan_task_fork(driver, 0, &other))
+    if (sugwelan_task_new(&driver) || sugwelan_task_fork(driver, &other))
         return 1;
     if (pthread_create(&thread, NULL, device, other))
         return 1;

@@ -63,7 +63,7 @@ int main(void)
     if (sugwelan_task_new(&giver))
         return 1;
     for (long i = 0; i < WORKERS; i++)
-        if (sugwelan_task_fork(giver, 0, &tasks[i]) || pthread_create(&threads[i], NULL, work, (void *)i))
+        if (sugwelan_task_fork(giver, &tasks[i]) || pthread_create(&threads[i], NULL, work, (void *)i))
             return 1;
     for (int job = 1; job <= JOBS; job++)
         put(giver, job);

@@ -55,7 +55,7 @@ static int makes(int memory, struct sugwelan_task **out)
 static int forks(int memory, struct sugwelan_task *task, struct sugwelan_task **out)
 {
     until = memory;
-    int answer = sugwelan_task_fork(task, 0, out);
+    int answer = sugwelan_task_fork(task, out);
     until = -1;
     EXPECT(answer, answer ? -ENOMEM : 0);
     return answer == 0;

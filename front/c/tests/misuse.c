@@ -3,7 +3,8 @@
 #include "expect.h"
 #include <string.h>
 
-enum { SET = 3, CLEAR = 4, WORD = 2, KEPT = 5, OTHER = 6, PAGE = 9, FREE_PAGE = 10, VARIABLE = 20, SIMPLE = 50, CELL = 6 };
+enum { SET = 3, CLEAR = 4, SIMPLE = 50, VARIABLE = 20, CELL = 6 };
+enum { WORD = 2, KEPT = 5, OTHER = 6, PAGE = 9, FREE_PAGE = 10 };
 enum { VALUE = 7, OLD = 8, NEW = 9, AMOUNT = 3, NO_STATE = 3, NO_MODE = 2 };
 
 static struct sugwelan_task *task;
@@ -51,7 +52,8 @@ static void conditions_out_of_range(void)
     REFUSED(sugwelan_wait_event_exclusive(task, SET, (enum sugwelan_state)NO_STATE), -EINVAL);
     REFUSED(sugwelan_swait_event(task, SUGWELAN_FIRST_SIMPLE - 1, SUGWELAN_UNINTERRUPTIBLE), -EINVAL);
     REFUSED(sugwelan_swait_event(task, SUGWELAN_CONDITIONS, SUGWELAN_UNINTERRUPTIBLE), -EINVAL);
-    REFUSED(sugwelan_swait_event(task, SIMPLE, SUGWELAN_KILLABLE), -EINVAL);
+    REFUSED(sugwelan_swait_event(task, SIMPLE, SUGWELAN_KILLABLE), -EOPNOTSUPP);
+    REFUSED(sugwelan_swait_event(task, SUGWELAN_CONDITIONS, SUGWELAN_KILLABLE), -EINVAL);
     REFUSED(sugwelan_wake_up(task, SUGWELAN_FIRST_SIMPLE, SUGWELAN_WAKE_NORMAL, 0, NULL), -EINVAL);
     REFUSED(sugwelan_wake_up(task, SET, (enum sugwelan_mode)NO_MODE, 0, NULL), -EINVAL);
     REFUSED(sugwelan_set_and_wake(task, SUGWELAN_FIRST_SIMPLE, 1, 0, NULL), -EINVAL);
@@ -107,46 +109,153 @@ static void bits_of_others(void)
     REFUSED(sugwelan_clear_and_wake_up_bit(task, WORD, OTHER, NULL), -EPERM);
     REFUSED(sugwelan_unlock_page(task, FREE_PAGE, NULL), -EPERM);
     REFUSED(sugwelan_add_tally(task, FREE_PAGE, 1, NULL), -EPERM);
-    REFUSED(sugwelan_wait_on_bit(task, WORD, KEPT, SUGWELAN_UNINTERRUPTIBLE), -EPERM);
-    REFUSED(sugwelan_wait_on_bit_lock(task, WORD, KEPT, SUGWELAN_UNINTERRUPTIBLE), -EPERM);
-    REFUSED(sugwelan_lock_page(task, PAGE, SUGWELAN_UNINTERRUPTIBLE), -EPERM);
-    REFUSED(sugwelan_wait_on_bit(task, PAGE, 0, SUGWELAN_UNINTERRUPTIBLE), -EPERM);
-    REFUSED(sugwelan_task_free(task), -EPERM);
+    REFUSED(sugwelan_wait_on_bit(task, WORD, KEPT, SUGWELAN_UNINTERRUPTIBLE), -EDEADLK);
+    REFUSED(sugwelan_wait_on_bit_lock(task, WORD, KEPT, SUGWELAN_UNINTERRUPTIBLE), -EDEADLK);
+    REFUSED(sugwelan_lock_page(task, PAGE, SUGWELAN_UNINTERRUPTIBLE), -EDEADLK);
+    REFUSED(sugwelan_wait_on_bit(task, PAGE, 0, SUGWELAN_UNINTERRUPTIBLE), -EDEADLK);
+    REFUSED(sugwelan_task_free(task), -ENOTEMPTY);
 }
 
 static void no_task(void)
 {
     struct sugwelan_task *none = NULL;
-    EXPECT(sugwelan_task_fork(NULL, 0, &none), -EBADF);
+    EXPECT(sugwelan_task_fork(NULL, &none), -EBADF);
+    EXPECT(sugwelan_domain_task(NULL, &none), -EBADF);
     EXPECT(none == NULL, 1);
     EXPECT(sugwelan_task_free(NULL), -EBADF);
     EXPECT(sugwelan_task_number(NULL), -EBADF);
+    EXPECT(sugwelan_task_domain(NULL) == NULL, 1);
     EXPECT(sugwelan_wait_event(NULL, SET, SUGWELAN_UNINTERRUPTIBLE), -EBADF);
+    EXPECT(sugwelan_wait_event_exclusive(NULL, SET, SUGWELAN_UNINTERRUPTIBLE), -EBADF);
+    EXPECT(sugwelan_swait_event(NULL, SIMPLE, SUGWELAN_UNINTERRUPTIBLE), -EBADF);
     EXPECT(sugwelan_wake_up(NULL, SET, SUGWELAN_WAKE_NORMAL, 0, NULL), -EBADF);
+    EXPECT(sugwelan_set_and_wake(NULL, SET, 1, 0, NULL), -EBADF);
     EXPECT(sugwelan_take_condition(NULL, SET, NULL), -EBADF);
+    EXPECT(sugwelan_set_and_swake_one(NULL, SIMPLE, 1, NULL), -EBADF);
+    EXPECT(sugwelan_set_and_swake_all(NULL, SIMPLE, 1, NULL), -EBADF);
+    EXPECT(sugwelan_swake_up_one(NULL, SIMPLE, NULL), -EBADF);
+    EXPECT(sugwelan_swake_up_all(NULL, SIMPLE, NULL), -EBADF);
+    EXPECT(sugwelan_wait_var_event(NULL, VARIABLE, 0, SUGWELAN_UNINTERRUPTIBLE, NULL), -EBADF);
+    EXPECT(sugwelan_publish_var_and_wake(NULL, VARIABLE, 1, NULL), -EBADF);
+    EXPECT(sugwelan_wait_on_bit(NULL, WORD, KEPT, SUGWELAN_UNINTERRUPTIBLE), -EBADF);
+    EXPECT(sugwelan_wait_on_bit_lock(NULL, WORD, KEPT, SUGWELAN_UNINTERRUPTIBLE), -EBADF);
     EXPECT(sugwelan_trylock_bit(NULL, WORD, KEPT), -EBADF);
+    EXPECT(sugwelan_clear_and_wake_up_bit(NULL, WORD, KEPT, NULL), -EBADF);
+    EXPECT(sugwelan_lock_page(NULL, PAGE, SUGWELAN_UNINTERRUPTIBLE), -EBADF);
+    EXPECT(sugwelan_trylock_page(NULL, PAGE), -EBADF);
     EXPECT(sugwelan_unlock_page(NULL, PAGE, NULL), -EBADF);
-    EXPECT(sugwelan_complete(NULL, 0), -EBADF);
+    EXPECT(sugwelan_add_tally(NULL, PAGE, 1, NULL), -EBADF);
+    EXPECT(sugwelan_wait_for_completion(NULL, CELL, SUGWELAN_UNINTERRUPTIBLE), -EBADF);
+    EXPECT(sugwelan_complete(NULL, CELL), -EBADF);
+    EXPECT(sugwelan_complete_all(NULL, CELL), -EBADF);
+    EXPECT(sugwelan_reinit_completion(NULL, CELL), -EBADF);
+    EXPECT(sugwelan_try_wait_for_completion(NULL, CELL), -EBADF);
+    EXPECT(sugwelan_completion_done(NULL, CELL), -EBADF);
+    EXPECT(sugwelan_raise_signal(NULL, 0, 0), -EBADF);
     EXPECT(sugwelan_take_signal(NULL), -EBADF);
+    EXPECT(sugwelan_signal_pending(NULL), -EBADF);
 }
 
-/* Each number is given out once. */
+static void no_domain(void)
+{
+    EXPECT(sugwelan_domain_free(NULL), -EBADF);
+    EXPECT(sugwelan_domain_raise_signal(NULL, 0, 0), -EBADF);
+    EXPECT(sugwelan_domain_wake_up(NULL, SET, SUGWELAN_WAKE_NORMAL, 0, NULL), -EBADF);
+    EXPECT(sugwelan_domain_set_and_wake(NULL, SET, 1, 0, NULL), -EBADF);
+    EXPECT(sugwelan_domain_set_and_swake_one(NULL, SIMPLE, 1, NULL), -EBADF);
+    EXPECT(sugwelan_domain_set_and_swake_all(NULL, SIMPLE, 1, NULL), -EBADF);
+    EXPECT(sugwelan_domain_swake_up_one(NULL, SIMPLE, NULL), -EBADF);
+    EXPECT(sugwelan_domain_swake_up_all(NULL, SIMPLE, NULL), -EBADF);
+    EXPECT(sugwelan_domain_publish_var_and_wake(NULL, VARIABLE, 1, NULL), -EBADF);
+    EXPECT(sugwelan_domain_complete(NULL, CELL), -EBADF);
+    EXPECT(sugwelan_domain_complete_all(NULL, CELL), -EBADF);
+}
+
+/* No place for what is given out. */
+static void no_place(void)
+{
+    EXPECT(sugwelan_task_new(NULL), -EINVAL);
+    EXPECT(sugwelan_domain_new(NULL), -EINVAL);
+    REFUSED(sugwelan_task_fork(task, NULL), -EINVAL);
+    REFUSED(sugwelan_domain_task(sugwelan_task_domain(task), NULL), -EINVAL);
+    REFUSED(sugwelan_domain_free(sugwelan_task_domain(task)), -EALREADY);
+}
+
+/* The calls of a Domain, with bad numbers. */
+static void domain_out_of_range(void)
+{
+    struct sugwelan_domain *domain = sugwelan_task_domain(task);
+    REFUSED(sugwelan_domain_raise_signal(domain, 256, 0), -EINVAL);
+    REFUSED(sugwelan_domain_wake_up(domain, SUGWELAN_FIRST_SIMPLE, SUGWELAN_WAKE_NORMAL, 0, NULL), -EINVAL);
+    REFUSED(sugwelan_domain_wake_up(domain, SET, (enum sugwelan_mode)NO_MODE, 0, NULL), -EINVAL);
+    REFUSED(sugwelan_domain_set_and_wake(domain, CLEAR + 256, 1, 0, NULL), -EINVAL);
+    REFUSED(sugwelan_domain_set_and_swake_one(domain, SUGWELAN_FIRST_SIMPLE - 1, 1, NULL), -EINVAL);
+    REFUSED(sugwelan_domain_set_and_swake_all(domain, SUGWELAN_CONDITIONS, 1, NULL), -EINVAL);
+    REFUSED(sugwelan_domain_swake_up_one(domain, SUGWELAN_FIRST_SIMPLE - 1, NULL), -EINVAL);
+    REFUSED(sugwelan_domain_swake_up_all(domain, SUGWELAN_CONDITIONS, NULL), -EINVAL);
+    REFUSED(sugwelan_domain_publish_var_and_wake(domain, SUGWELAN_FIRST_VARIABLE - 1, 1, NULL), -EINVAL);
+    REFUSED(sugwelan_domain_complete(domain, SUGWELAN_COMPLETIONS), -EINVAL);
+    REFUSED(sugwelan_domain_complete_all(domain, SUGWELAN_COMPLETIONS), -EINVAL);
+}
+
+/* So many tasks at a time; one that was freed is given out again. */
 static void numbers(void)
 {
-    struct sugwelan_task *half, *last = NULL, *none = NULL;
-    REFUSED(sugwelan_task_fork(task, 256, &none), -EINVAL);
-    REFUSED(sugwelan_task_fork(task, SUGWELAN_TASKS - 1, &none), -ENOSPC);
-    EXPECT(sugwelan_task_fork(task, SUGWELAN_TASKS - 3, &half), 0);
-    EXPECT(sugwelan_task_fork(task, 0, &last), 0);
-    EXPECT(sugwelan_task_number(half) != sugwelan_task_number(last), 1);
-    EXPECT(sugwelan_task_free(last), 0);
-    REFUSED(sugwelan_task_fork(task, 0, &none), -ENOSPC);
-    EXPECT(sugwelan_task_fork(half, 0, &last), 0);
-    EXPECT(sugwelan_trylock_bit(last, WORD, KEPT), 0);
-    EXPECT(sugwelan_clear_and_wake_up_bit(last, WORD, KEPT, NULL), -EPERM);
-    EXPECT(sugwelan_task_free(half), 0);
-    EXPECT(sugwelan_task_free(last), 0);
+    static struct sugwelan_task *rest[SUGWELAN_TASKS];
+    struct sugwelan_task *none = NULL;
+    int count = 0, number;
+    while (!sugwelan_task_fork(count ? rest[count - 1] : task, &rest[count]))
+        count++;
+    EXPECT(count, SUGWELAN_TASKS - 2);
+    REFUSED(sugwelan_task_fork(task, &none), -EAGAIN);
+    REFUSED(sugwelan_domain_task(sugwelan_task_domain(task), &none), -EAGAIN);
     EXPECT(none == NULL, 1);
+    number = sugwelan_task_number(rest[7]);
+    EXPECT(sugwelan_trylock_bit(rest[7], WORD, KEPT), 0);
+    EXPECT(sugwelan_trylock_bit(rest[7], WORD, OTHER), 1);
+    EXPECT(sugwelan_task_free(rest[7]), -ENOTEMPTY);
+    EXPECT(sugwelan_clear_and_wake_up_bit(rest[7], WORD, OTHER, NULL), 0);
+    EXPECT(sugwelan_raise_signal(rest[7], (uint32_t)number, 0), 0);
+    EXPECT(sugwelan_task_free(rest[7]), 0);
+    EXPECT(sugwelan_task_fork(task, &rest[7]), 0);
+    EXPECT(sugwelan_task_number(rest[7]), number);
+    EXPECT(sugwelan_take_signal(rest[7]), 0);
+    EXPECT(sugwelan_trylock_bit(rest[7], WORD, KEPT), 0);
+    while (count)
+        EXPECT(sugwelan_task_free(rest[--count]), 0);
+}
+
+/* A signal ends no call that need not sleep; who is to stop looks for it. */
+static void pending_signals(void)
+{
+    uint32_t own = (uint32_t)sugwelan_task_number(task);
+    EXPECT(sugwelan_signal_pending(task), 0);
+    EXPECT(sugwelan_domain_raise_signal(sugwelan_task_domain(task), own, 0), 0);
+    EXPECT(sugwelan_signal_pending(task), 1);
+    EXPECT(sugwelan_wait_event(task, SET, SUGWELAN_INTERRUPTIBLE), 0);
+    EXPECT(sugwelan_wait_event(task, CLEAR, SUGWELAN_INTERRUPTIBLE), -EINTR);
+    EXPECT(sugwelan_swait_event(task, SIMPLE, SUGWELAN_INTERRUPTIBLE), -EINTR);
+    EXPECT(sugwelan_wait_var_event(task, VARIABLE, NEW, SUGWELAN_INTERRUPTIBLE, NULL), -EINTR);
+    EXPECT(sugwelan_wait_for_completion(task, CELL, SUGWELAN_INTERRUPTIBLE), -EINTR);
+    EXPECT(sugwelan_raise_signal(task, own, 1), 0);
+    EXPECT(sugwelan_signal_pending(task), 2);
+    EXPECT(sugwelan_wait_event(task, CLEAR, SUGWELAN_KILLABLE), -EINTR);
+    EXPECT(sugwelan_wait_event_exclusive(task, CLEAR, SUGWELAN_KILLABLE), -EINTR);
+    EXPECT(sugwelan_take_signal(task), 2);
+    EXPECT(sugwelan_take_signal(task), 0);
+    EXPECT(sugwelan_signal_pending(task), 0);
+}
+
+/* A signal ends the waits for a bit and for a page that another task keeps. */
+static void signals_at_locks(void)
+{
+    struct sugwelan_task *other;
+    EXPECT(sugwelan_task_fork(task, &other), 0);
+    EXPECT(sugwelan_raise_signal(other, (uint32_t)sugwelan_task_number(other), 1), 0);
+    EXPECT(sugwelan_wait_on_bit(other, WORD, KEPT, SUGWELAN_KILLABLE), -EINTR);
+    EXPECT(sugwelan_wait_on_bit_lock(other, WORD, KEPT, SUGWELAN_INTERRUPTIBLE), -EINTR);
+    EXPECT(sugwelan_lock_page(other, PAGE, SUGWELAN_KILLABLE), -EINTR);
+    EXPECT(sugwelan_task_free(other), 0);
 }
 
 static struct sugwelan_told told;
@@ -250,7 +359,13 @@ int main(void)
     completions_out_of_range();
     bits_of_others();
     no_task();
+    no_domain();
+    no_place();
+    domain_out_of_range();
     numbers();
+    pending_signals();
+    signals_at_locks();
+    EXPECT(sugwelan_abi(), SUGWELAN_ABI);
     EXPECT(sugwelan_clear_and_wake_up_bit(task, WORD, KEPT, NULL), 0);
     EXPECT(sugwelan_unlock_page(task, PAGE, NULL), 0);
     EXPECT(sugwelan_task_free(task), 0);

@@ -16,7 +16,7 @@ static void open_domain(void)
 {
     EXPECT(sugwelan_task_new(&tasks[WAITERS]), 0);
     for (int i = 0; i < WAITERS; i++)
-        EXPECT(sugwelan_task_fork(tasks[WAITERS], 0, &tasks[i]), 0);
+        EXPECT(sugwelan_task_fork(tasks[WAITERS], &tasks[i]), 0);
 }
 
 static void close_domain(void)
@@ -81,7 +81,7 @@ static void crowds(void)
     struct sugwelan_task *setter;
     EXPECT(sugwelan_task_new(&setter), 0);
     for (int i = 0; i < CROWD; i++)
-        EXPECT(sugwelan_task_fork(setter, 0, &crowd[i]), 0);
+        EXPECT(sugwelan_task_fork(setter, &crowd[i]), 0);
     for (long round = 0; round <= rounds / CROWD_EACH; round++) {
         for (int i = 0; i < CROWD; i++)
             EXPECT(pthread_create(&threads[i], NULL, waits_at_gate, crowd[i]), 0);

@@ -177,7 +177,7 @@ int main(int count, char **words)
     atomic_store(&working, WORKERS);
     for (int i = 0; i < WORKERS; i++) {
         workers[i].random = (uint64_t)i + 1;
-        EXPECT(sugwelan_task_fork(ticker, 0, &workers[i].task), 0);
+        EXPECT(sugwelan_task_fork(ticker, &workers[i].task), 0);
     }
     for (int i = 0; i < WORKERS; i++)
         EXPECT(pthread_create(&threads[i], NULL, work, &workers[i]), 0);

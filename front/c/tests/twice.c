@@ -22,9 +22,10 @@ static void *waits(void *task)
 /* Each call while another thread is in one. */
 static void all_calls(struct sugwelan_task *task)
 {
-    struct sugwelan_task *none;
+    struct sugwelan_task *more;
     uint64_t value;
-    EXPECT(sugwelan_task_fork(task, 0, &none), -EALREADY);
+    EXPECT(sugwelan_task_fork(task, &more), 0);
+    EXPECT(sugwelan_task_free(more), 0);
     EXPECT(sugwelan_task_free(task), -EALREADY);
     EXPECT(sugwelan_wait_event(task, GATE, SUGWELAN_UNINTERRUPTIBLE), -EALREADY);
     EXPECT(sugwelan_wait_event_exclusive(task, GATE, SUGWELAN_UNINTERRUPTIBLE), -EALREADY);
@@ -54,6 +55,7 @@ static void all_calls(struct sugwelan_task *task)
     EXPECT(sugwelan_completion_done(task, CELL), -EALREADY);
     EXPECT(sugwelan_raise_signal(task, 0, 0), -EALREADY);
     EXPECT(sugwelan_take_signal(task), -EALREADY);
+    EXPECT(sugwelan_signal_pending(task), -EALREADY);
 }
 
 /* Waits until another thread is in a call on the task. */
@@ -88,7 +90,7 @@ int main(void)
     long taken[2] = {0, 0};
     alarm(PATIENCE);
     EXPECT(sugwelan_task_new(&shared), 0);
-    EXPECT(sugwelan_task_fork(shared, 0, &waker), 0);
+    EXPECT(sugwelan_task_fork(shared, &waker), 0);
     EXPECT(pthread_create(&other, NULL, waits, shared), 0);
     see_busy(shared);
     all_calls(shared);

@@ -1,7 +1,7 @@
 //! A driver hands commands to a device and waits for its interrupts. The device is a thread here.
 
 use std::thread;
-use sugwelan::{Domain, Error, State, Task};
+use sugwelan::{Domain, Error, Killable, Task};
 
 const COMMAND: u8 = 0;
 const STATUS: u8 = 1;
@@ -10,7 +10,7 @@ const STOP: u64 = 99;
 /// Waits for a condition and takes its value. Another task may have been faster; then it waits again.
 fn claim(task: &mut Task, condition: u8) -> Result<u64, Error> {
     loop {
-        task.wait_event(condition, State::Killable).block()?;
+        task.wait_event(condition, Killable).block()?;
         match task.take_condition(condition)? {
             0 => {}
             value => return Ok(value),

@@ -5,7 +5,7 @@ use std::pin::{pin, Pin};
 use std::sync::Arc;
 use std::task::{Context, Poll, Wake, Waker};
 use std::thread::{self, Thread};
-use sugwelan::{Domain, Error, State, Task};
+use sugwelan::{Domain, Error, Killable, Task};
 
 const COMMAND: u8 = 0;
 const STATUS: u8 = 1;
@@ -14,7 +14,7 @@ const COMMANDS: u64 = 3;
 /// Waits for a condition and takes its value, as a future.
 async fn claim(task: &mut Task, condition: u8) -> Result<u64, Error> {
     loop {
-        task.wait_event(condition, State::Killable).await?;
+        task.wait_event(condition, Killable).await?;
         match task.take_condition(condition)? {
             0 => {}
             value => return Ok(value),

@@ -1,43 +1,80 @@
 //! Why a call was refused, or ended otherwise than it should.
 
+use crate::raw::{Call, Kind};
 use std::fmt;
 
-/// Why a call was refused, or ended otherwise than it should. After [`Error::Invalid`], [`Error::Busy`] and
-/// [`Error::Kept`] nothing has changed.
+/// Why a call was refused, or ended otherwise than it should. After all but [`Error::Signal`], [`Error::Full`] and
+/// [`Error::Memory`] nothing has changed. Each call lists those that it may give; [`Error::Starved`] and
+/// [`Error::Other`] are of each.
 #[derive(Clone, Copy, Debug, PartialEq, Eq)]
 pub enum Error {
-    /// A number is out of its range, or there is no call to go on with.
+    /// A number is out of its range.
     Invalid,
-    /// A wait of the task is under way, whose future was dropped: [`crate::Task::resume`] goes on with it.
-    Busy,
-    /// The task does not keep the bit or page that it would give back, or keeps the one for which it would wait.
-    Kept,
-    /// A signal ended the wait.
+    /// The task keeps the bit or page itself for which it would wait.
+    Held,
+    /// The task does not keep the bit or page that it would give back, or to whose tally it would add.
+    NotHeld,
+    /// The task keeps a bit or a page, and would be given up.
+    Keeps,
+    /// A signal ended the wait, which has taken nothing.
     Signal,
-    /// No place is left in the queue; or no number is spare for a further task.
-    NoPlace,
-    /// There is no memory. The numbers of a further task may be used up.
+    /// No place is left in the queue, as after 2^37 waits at it, and the wait is over.
+    Full,
+    /// No number is spare for a further task: 255 of the Domain are in use.
+    NoNumber,
+    /// There is no memory; the number of a further task may be used up.
     Memory,
+    /// The task is of another Domain than the lock.
+    Foreign,
+    /// The wait is over, and was polled once more.
+    Over,
     /// A wake of the task came to no end, as none does, and the task makes no more calls.
     Starved,
     /// A code that this crate does not know.
     Other(i32),
 }
 
-/// The codes, as the archive has them, with what they say.
-const CODES: [(i32, Error); 7] = [
-    (-1, Error::Kept),
+/// The codes that say one thing alone.
+const CODES: [(i32, Error); 9] = [
+    (-2, Error::Over),
     (-4, Error::Signal),
     (-9, Error::Starved),
+    (-11, Error::NoNumber),
     (-12, Error::Memory),
-    (-16, Error::Busy),
     (-22, Error::Invalid),
-    (-28, Error::NoPlace),
+    (-28, Error::Full),
+    (-35, Error::Held),
+    (-131, Error::Starved),
 ];
 
+/// The code of a bit that is kept, or is not.
+const EPERM: i32 = -1;
+/// The code of a number out of its range, and of an advance with nothing to go on with.
+const EINVAL: i32 = -22;
+/// The code of a queue without a place, and of a fork without a number.
+const ENOSPC: i32 = -28;
+
 impl Error {
-    /// What a negative answer says.
-    pub(crate) fn of(code: i32) -> Error {
+    /// What a negative answer to a call says. Some codes of the archive are of two reasons, of which a kind of calls
+    /// has one.
+    pub(crate) fn of(call: &Call, code: i32) -> Error {
+        match (code, call.kind) {
+            (EPERM, Kind::WaitOnBit | Kind::WaitOnBitLock | Kind::LockPage) => Error::Held,
+            (EPERM, _) => Error::NotHeld,
+            (EINVAL, Kind::Advance) => Error::Over,
+            _ => Error::known(code),
+        }
+    }
+
+    /// What a negative answer to a fork says.
+    pub(crate) fn of_fork(code: i32) -> Error {
+        match code {
+            ENOSPC => Error::NoNumber,
+            _ => Error::known(code),
+        }
+    }
+
+    fn known(code: i32) -> Error {
         let known = CODES.iter().find(|(known, _)| *known == code);
         known.map_or(Error::Other(code), |(_, error)| *error)
     }
@@ -46,12 +83,16 @@ impl Error {
 impl fmt::Display for Error {
     fn fmt(&self, out: &mut fmt::Formatter<'_>) -> fmt::Result {
         match self {
-            Error::Invalid => out.write_str("a number is out of its range, or no call is under way"),
-            Error::Busy => out.write_str("a wait of the task is under way"),
-            Error::Kept => out.write_str("the task keeps the bit, or does not keep it"),
+            Error::Invalid => out.write_str("a number is out of its range"),
+            Error::Held => out.write_str("the task keeps the bit itself for which it would wait"),
+            Error::NotHeld => out.write_str("the task does not keep the bit"),
+            Error::Keeps => out.write_str("the task keeps a bit or a page"),
             Error::Signal => out.write_str("a signal ended the wait"),
-            Error::NoPlace => out.write_str("no place is left in the queue, or no number is spare"),
+            Error::Full => out.write_str("no place is left in the queue"),
+            Error::NoNumber => out.write_str("no number is spare for a further task"),
             Error::Memory => out.write_str("out of memory"),
+            Error::Foreign => out.write_str("the task is of another Domain than the lock"),
+            Error::Over => out.write_str("the wait is over"),
             Error::Starved => out.write_str("a wake of the task was starved"),
             Error::Other(code) => write!(out, "code {code}"),
         }

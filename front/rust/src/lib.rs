@@ -1,18 +1,18 @@
 //! Wait queues, completions, locks by bits and pages: the calls of the Linux kernel, proved to lose no wakeup, for
-//! threads and for futures.
+//! threads and for futures. What is proved is the archive beneath; this crate, which parks and rouses, is tested.
 //!
 //! A [`Domain`] has 64 conditions, 128 variables, 128 words of 64 bits, 128 pages and 64 completions, all 0 at first,
-//! and gives out up to 255 [`Task`]s. A thread or a future makes its calls by a task of its own. A call that may wait
+//! and up to 255 [`Task`]s at a time. A thread or a future makes its calls by a task of its own. A call that may wait
 //! is a [`Wait`]: [`Wait::block`] parks the thread until it is over, and `.await` lets an executor go on with other
 //! work.
 //!
 //! ```
-//! use sugwelan::{Domain, State};
+//! use sugwelan::{Domain, Uninterruptible};
 //!
 //! let domain = Domain::new()?;
 //! let (mut waiter, mut setter) = (domain.task()?, domain.task()?);
 //! std::thread::scope(|scope| {
-//!     scope.spawn(move || waiter.wait_event(0, State::Uninterruptible).block());
+//!     scope.spawn(move || waiter.wait_event(0, Uninterruptible).block());
 //!     setter.set_and_wake(0, 7, 0)
 //! })?;
 //! # Ok::<(), sugwelan::Error>(())
@@ -23,27 +23,48 @@
 //!
 //! # A future that is dropped in mid-wait
 //!
-//! It leaves its task in the wait: the entry stays in its queue, and no lock of a queue is held or asked for. Each
-//! other call of the task answers [`Error::Busy`], until [`Task::resume`] has gone on with the wait to its end. An
-//! exclusive entry may be selected by a wake meanwhile, which then wakes nobody else: so do resume an exclusive wait,
-//! and hand on what it got. Where its state admits a signal, [`Domain::raise_signal`] makes an end of the wait, which
-//! then gives [`Error::Signal`] to who resumes it.
+//! It is left: a signal of the crate's own ends the wait, which takes its entry off the queue. Where it has got a bit,
+//! a page or a permit meanwhile, that is given back, and where a wake had selected it, the next one is woken. So who
+//! gives a wait up, as `select!`, a timeout or an abort do, takes nothing from anybody else, and the task makes further
+//! calls. Signals that others have raised of the task stay. The drop may wait for a queue's lock, and parks for nobody.
 //!
-//! A task that is itself dropped in mid-wait, or while it keeps a bit, stays in the Domain as one that makes no more
-//! calls; its block of memory is not given back.
+//! Only a wait that a signal ends can be left, so futures are [`Interruptible`] or [`Killable`]; one in the state
+//! [`Uninterruptible`] has [`Wait::block`] alone. A future that is forgotten ([`std::mem::forget`]) is left with the
+//! next call of its task, or with the task; until then its entry stands in its queue, and may be selected.
+//!
+//! # Wakers that panic
+//!
+//! All others are roused first, and the call that woke comes to its end; then it panics. A wait that panics so has
+//! handed on what it got.
+//!
+//! # What is yours to keep
+//!
+//! Calls are not for signal handlers, and a Domain not for both sides of a `fork(2)`. A checker of races
+//! (`-Zsanitizer=thread`) does not see what the archive orders: pass `--cfg sugwelan_checks_races` too, and build std
+//! with it (`-Zbuild-std`).
 
 mod bells;
 mod bit_lock;
 mod completion;
+mod domain;
 mod error;
+mod handle;
+mod lent;
+mod mutex;
 mod page;
+mod races;
 mod raw;
+mod states;
 mod task;
 mod wait;
 
-pub use bit_lock::{BitGuard, BitLock};
+pub use bit_lock::{Bit, BitGuard, BitLock};
 pub use completion::Completion;
+pub use domain::Domain;
 pub use error::Error;
-pub use page::{Page, PageGuard};
-pub use task::{Domain, End, Mode, Signal, State, Task, Walked};
+pub use lent::{Lends, Lent};
+pub use mutex::{Mutex, MutexGuard};
+pub use page::{Page, PageGuard, PageLock};
+pub use states::{Interruptible, Killable, Left, Signal, Simple, State, Uninterruptible};
+pub use task::{End, Mode, Task, Walked};
 pub use wait::Wait;

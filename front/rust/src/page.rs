@@ -1,37 +1,85 @@
 //! Pages: locks that are handed over to the first who waits.
 
-use crate::{Error, State, Task};
-use std::ops::{Deref, DerefMut};
+use crate::lent::{Lends, Lent};
+use crate::raw::{Call, Kind, PAGES};
+use crate::states::{Left, State};
+use crate::{Bit, Domain, Error, Task};
 
-/// One of the 128 pages of a Domain: a lock that is handed over in the order of the queue, with a tally.
+/// One of the 128 pages of a Domain. It is bit 0 of the word of its number.
 #[derive(Clone, Copy, Debug, PartialEq, Eq)]
 pub struct Page {
-    page: u8,
+    number: u8,
 }
 
 impl Page {
-    /// The one of a number below 128. It is bit 0 of the word of that number.
-    pub const fn new(page: u8) -> Page {
-        Page { page }
+    /// The one of a number below 128. A constant of another number does not compile; else it panics.
+    ///
+    /// ```compile_fail
+    /// const PAGE: sugwelan::Page = sugwelan::Page::new(128);
+    /// # println!("{PAGE:?}");
+    /// ```
+    pub const fn new(number: u8) -> Page {
+        assert!(number < PAGES, "a Domain has pages below 128");
+        Page { number }
     }
 
-    /// Parks the thread until the task has the page.
-    pub fn lock<'t>(&self, task: &'t mut Task, state: State) -> Result<PageGuard<'t>, Error> {
+    pub(crate) fn call(self, kind: Kind) -> Call {
+        Call::new(kind).at(self.number)
+    }
+}
+
+impl From<Page> for Bit {
+    fn from(page: Page) -> Bit {
+        Bit::new(page.number, 0)
+    }
+}
+
+/// The lock that is a page, for tasks of the Domain that gave it out: it is handed over in the order of its queue, and
+/// has a tally.
+#[derive(Clone, Debug, PartialEq, Eq)]
+pub struct PageLock {
+    domain: Domain,
+    page: Page,
+}
+
+impl PageLock {
+    pub(crate) fn new(domain: Domain, page: Page) -> PageLock {
+        PageLock { domain, page }
+    }
+
+    /// The task, where it is of the lock's Domain.
+    fn own<'t>(&self, task: &'t mut impl Lends) -> Result<&'t mut Task, Error> {
+        let task = task.lent().0;
+        match task.is_of(&self.domain) {
+            true => Ok(task),
+            false => Err(Error::Foreign),
+        }
+    }
+
+    fn guard<'t>(&self, task: &'t mut Task) -> PageGuard<'t> {
+        PageGuard { page: self.page, task }
+    }
+
+    /// Parks the thread until the task has the page. Errors: [`Error::Foreign`], [`Error::Held`], [`Error::Signal`],
+    /// [`Error::Full`].
+    pub fn lock<'t>(&self, task: &'t mut impl Lends, state: impl State) -> Result<PageGuard<'t>, Error> {
+        let task = self.own(task)?;
         task.lock_page(self.page, state).block()?;
-        Ok(PageGuard { page: *self, task })
+        Ok(self.guard(task))
     }
 
-    /// The same for an executor. A wait that is dropped and resumed gives no guard: give the page back by
-    /// [`Task::unlock_page`].
-    pub async fn lock_later<'t>(&self, task: &'t mut Task, state: State) -> Result<PageGuard<'t>, Error> {
+    /// The same for an executor. Errors: as before.
+    pub async fn lock_later<'t>(&self, task: &'t mut impl Lends, state: impl Left) -> Result<PageGuard<'t>, Error> {
+        let task = self.own(task)?;
         task.lock_page(self.page, state).await?;
-        Ok(PageGuard { page: *self, task })
+        Ok(self.guard(task))
     }
 
-    /// Takes the page where nobody has it.
-    pub fn try_lock<'t>(&self, task: &'t mut Task) -> Result<Option<PageGuard<'t>>, Error> {
+    /// Takes the page where nobody has it. Errors: [`Error::Foreign`].
+    pub fn try_lock<'t>(&self, task: &'t mut impl Lends) -> Result<Option<PageGuard<'t>>, Error> {
+        let task = self.own(task)?;
         let took = task.trylock_page(self.page)?;
-        Ok(took.then(|| PageGuard { page: *self, task }))
+        Ok(took.then(|| self.guard(task)))
     }
 }
 
@@ -46,26 +94,18 @@ pub struct PageGuard<'t> {
 impl PageGuard<'_> {
     /// Adds to the page's tally, and gives the tally before.
     pub fn add(&mut self, amount: u64) -> Result<u64, Error> {
-        self.task.add_tally(self.page.page, amount)
+        self.task.add_tally(self.page, amount)
     }
-}
 
-impl Deref for PageGuard<'_> {
-    type Target = Task;
-
-    fn deref(&self) -> &Task {
-        self.task
-    }
-}
-
-impl DerefMut for PageGuard<'_> {
-    fn deref_mut(&mut self) -> &mut Task {
-        self.task
+    /// The task, for one call.
+    pub fn lend(&mut self) -> Lent<'_> {
+        Lent(self.task)
     }
 }
 
 impl Drop for PageGuard<'_> {
     fn drop(&mut self) {
-        let _ = self.task.unlock_page(self.page.page);
+        // The task keeps the page, since nothing else has had it meanwhile.
+        let _ = self.task.unlock_page(self.page);
     }
 }

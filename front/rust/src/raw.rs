@@ -1,12 +1,21 @@
 //! The exports of the archive, and the numbers by which they speak.
 
 use std::ffi::c_void;
+use std::mem::{offset_of, size_of};
 
 /// How many tasks a Domain has.
 pub const TASKS: usize = 256;
+/// How many completions it has.
+pub const COMPLETIONS: u8 = 64;
+/// How many words of bits it has, ...
+pub const WORDS: u8 = 128;
+/// ... how many bits a word has, ...
+pub const BITS: u8 = 64;
+/// ... and how many pages there are.
+pub const PAGES: u8 = 128;
 
 /// How many places there are for tasks that one call has roused.
-const ROUSED: usize = 768;
+pub const ROUSED: usize = 768;
 
 /// The call is over.
 pub const DONE: i32 = 0;
@@ -18,7 +27,7 @@ pub const LOCKED: i32 = 2;
 pub const PARK: i32 = 3;
 
 /// The kinds of calls.
-#[derive(Clone, Copy)]
+#[derive(Clone, Copy, Debug, PartialEq, Eq)]
 #[repr(u32)]
 pub enum Kind {
     Advance = 0,
@@ -52,21 +61,21 @@ pub enum Kind {
 }
 
 /// A call: its kind and its numbers.
-#[derive(Clone, Copy)]
+#[derive(Clone, Copy, Debug)]
 #[repr(C)]
 pub struct Call {
-    kind: u32,
-    a: u32,
-    b: u32,
-    c: u32,
-    value: u64,
+    pub kind: Kind,
+    pub a: u32,
+    pub b: u32,
+    pub c: u32,
+    pub value: u64,
 }
 
 impl Call {
     /// A call of a kind, all of whose numbers are 0.
     pub fn new(kind: Kind) -> Call {
         Call {
-            kind: kind as u32,
+            kind,
             a: 0,
             b: 0,
             c: 0,
@@ -93,6 +102,17 @@ impl Call {
     pub fn value(self, value: u64) -> Call {
         Call { value, ..self }
     }
+
+    /// Another call of the same first and second number.
+    pub fn of(self, kind: Kind) -> Call {
+        Call {
+            kind,
+            a: self.a,
+            b: self.b,
+            c: 0,
+            value: 0,
+        }
+    }
 }
 
 /// What a call told.
@@ -106,6 +126,10 @@ pub struct Told {
     rouse_count: u32,
     rouse: [u8; ROUSED],
 }
+
+// The archive writes as many bytes: these are asserted in `sugwelan.h` too, which a test compares.
+const _: () = assert!(size_of::<Call>() == 24 && offset_of!(Call, value) == 16);
+const _: () = assert!(size_of::<Told>() == 800 && offset_of!(Told, rouse) == 28);
 
 impl Told {
     /// Nothing.

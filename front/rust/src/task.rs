@@ -1,27 +1,14 @@
-//! Domains and their tasks.
+//! Tasks, and their calls.
 
-use crate::bells::{Bells, Sleeper};
+use crate::bells::{Panic, Sleeper};
+use crate::handle::{rethrow, signal_call, Handle, Shared};
 use crate::raw::{self, Call, Kind, Told};
-use crate::{Error, Wait};
-use std::ffi::c_void;
+use crate::states::{Simple, State};
+use crate::{Bit, Domain, Error, Page, Signal, Wait};
 use std::fmt;
 use std::mem::ManuallyDrop;
-use std::ptr::{self, NonNull};
-use std::sync::{Arc, Mutex, PoisonError};
+use std::sync::Arc;
 use std::thread;
-use std::time::Duration;
-
-/// How a task sleeps in a wait.
-#[derive(Clone, Copy, Debug, PartialEq, Eq)]
-#[repr(u32)]
-pub enum State {
-    /// No signal ends the wait.
-    Uninterruptible = 0,
-    /// Each signal ends it.
-    Interruptible = 1,
-    /// A fatal signal ends it.
-    Killable = 2,
-}
 
 /// Whom a wake meets.
 #[derive(Clone, Copy, Debug, PartialEq, Eq)]
@@ -51,14 +38,15 @@ pub struct Walked {
     pub woken: u32,
     /// How many of them by exclusive entries.
     pub selected: u32,
-    /// How often it held the queue: 0 where nobody was queued.
+    /// How often it held the queue. A wake for a variable, a bit or a page holds it only where somebody is queued; one
+    /// for a condition holds it at least once.
     pub holds: u32,
     /// Where it ended.
     pub end: End,
 }
 
 impl Walked {
-    fn of(told: &Told) -> Walked {
+    pub(crate) fn of(told: &Told) -> Walked {
         let end = match told.end {
             1 => End::Spent,
             2 => End::Stopped,
@@ -73,168 +61,105 @@ impl Walked {
     }
 }
 
-/// A signal.
-#[derive(Clone, Copy, Debug, PartialEq, Eq)]
-pub enum Signal {
-    Plain,
-    Fatal,
-}
-
-/// A Domain. It keeps its first task, by which it makes others.
-#[derive(Debug)]
-pub struct Domain {
-    first: Mutex<Task>,
-}
-
-impl Domain {
-    /// A new one. The only error is want of memory.
-    pub fn new() -> Result<Domain, Error> {
-        Ok(Domain {
-            first: Mutex::new(Task::first()?),
-        })
-    }
-
-    /// A further task: 255 times, and then [`Error::NoPlace`], since a number is given out once.
-    pub fn task(&self) -> Result<Task, Error> {
-        self.by_first(|first| first.fork(0))
-    }
-
-    /// Raises a signal of a task, by its number, and wakes it where it sleeps in a state that the signal ends.
-    pub fn raise_signal(&self, number: u8, signal: Signal) -> Result<(), Error> {
-        self.by_first(|first| first.raise_signal(number, signal))
-    }
-
-    /// Makes a call by the first task.
-    fn by_first<T>(&self, call: impl FnOnce(&mut Task) -> T) -> T {
-        call(&mut self.first.lock().unwrap_or_else(PoisonError::into_inner))
-    }
+/// A wait that is under way, and the least signal that ends it.
+struct UnderWay {
+    call: Call,
+    ended_by: Option<Signal>,
 }
 
 /// A task of a [`Domain`]. It may be sent to another thread; one thread at a time makes its calls, as `&mut self`
-/// says. When it is dropped, it is given up: see the [crate's page](crate) for one that keeps a bit or is in a wait.
+/// says. When it is dropped, it goes back to its Domain, for who wants a task next; one that keeps a bit or a page does
+/// not, and stays with the memory of its Domain: [`Task::close`] says so.
 pub struct Task {
-    handle: NonNull<c_void>,
-    bells: Arc<Bells>,
-    number: u8,
-    /// What the last stretch told.
-    told: Box<Told>,
+    handle: ManuallyDrop<Handle>,
+    shared: Arc<Shared>,
+    /// How many bits and pages it keeps.
+    kept: u32,
+    /// The wait that is under way. It is left where its future is dropped, and where that was forgotten, with the next
+    /// call.
+    under_way: Option<UnderWay>,
+    /// What a waker panicked with during a call that was to come to its end first.
+    panic: Option<Panic>,
+    /// It makes no more calls.
+    starved: bool,
 }
-
-// SAFETY: a task may go to another thread between two calls: no thread is noted in what the handle leads to, and what
-// tasks of one Domain share there are atomic words and a count of tasks that is atomic too.
-unsafe impl Send for Task {}
 
 impl fmt::Debug for Task {
     fn fmt(&self, out: &mut fmt::Formatter<'_>) -> fmt::Result {
         out.debug_struct("Task")
-            .field("number", &self.number)
+            .field("number", &self.number())
             .finish_non_exhaustive()
     }
 }
 
 impl Drop for Task {
     fn drop(&mut self) {
-        // SAFETY: the handle was given out, and is used no more. Where it is refused, the block stays as it is.
-        unsafe { raw::sugwelan_free(self.handle.as_ptr()) };
-    }
-}
-
-/// How often a lock of a queue is looked for before the thread yields, and before it naps.
-const SPINS: u32 = 20;
-const YIELDS: u32 = 200;
-const NAP: Duration = Duration::from_micros(50);
-
-/// Lets the thread go on that has the lock of the queue.
-fn give_way(tries: u32) {
-    match tries {
-        0..SPINS => std::hint::spin_loop(),
-        SPINS..YIELDS => thread::yield_now(),
-        _ => thread::sleep(NAP),
+        self.leave();
+        // SAFETY: the handle is used no more.
+        let handle = unsafe { ManuallyDrop::take(&mut self.handle) };
+        if self.is_clean() {
+            self.shared.give(handle);
+        }
+        self.rethrow();
     }
 }
 
 // Making calls.
 impl Task {
-    fn first() -> Result<Task, Error> {
-        let mut handle = ptr::null_mut();
-        // SAFETY: the pointer is that of a place for a handle.
-        let code = unsafe { raw::sugwelan_new(&mut handle) };
-        Task::of(code, handle, Arc::new(Bells::new()))
-    }
-
-    /// A further task of the same Domain, which can make `share` tasks itself: [`Error::NoPlace`] where fewer than
-    /// 1 + `share` numbers are spare.
-    pub fn fork(&mut self, share: u8) -> Result<Task, Error> {
-        let mut handle = ptr::null_mut();
-        // SAFETY: the handle was given out, `&mut self` excludes other calls on it, and the pointer is that of a place.
-        let code = unsafe { raw::sugwelan_fork(self.handle.as_ptr(), share.into(), &mut handle) };
-        Task::of(code, handle, self.bells.clone())
-    }
-
-    /// A task of what an export answered and gave out.
-    fn of(code: i32, handle: *mut c_void, bells: Arc<Bells>) -> Result<Task, Error> {
-        if code < 0 {
-            return Err(Error::of(code));
-        }
-        let handle = NonNull::new(handle).ok_or(Error::Memory)?;
-        let told = Box::new(Told::new());
-        let mut task = Task {
-            handle,
-            bells,
-            number: 0,
-            told,
-        };
-        let number = task.finds(Call::new(Kind::Number))?;
-        task.number = u8::try_from(number).map_err(|_| Error::Invalid)?;
-        Ok(task)
-    }
-
-    /// Begins a call or goes on with one, until it is over, or the task asleep: None. It waits for no other task but
-    /// for those that are about to give a queue back, so no lock is asked for when it returns.
-    pub(crate) fn drive(&mut self, call: Call) -> Option<Result<(), Error>> {
-        let mut call = call;
-        let mut tries = 0;
-        loop {
-            let code = self.stretch(&call);
-            call = Call::new(Kind::Advance);
-            match code {
-                raw::DONE => return Some(Ok(())),
-                raw::AGAIN => tries = 0,
-                raw::LOCKED => {
-                    give_way(tries);
-                    tries += 1;
-                }
-                raw::PARK => return None,
-                code => return Some(Err(Error::of(code))),
-            }
+    pub(crate) fn of(handle: Handle, shared: Arc<Shared>) -> Task {
+        Task {
+            handle: ManuallyDrop::new(handle),
+            shared,
+            kept: 0,
+            under_way: None,
+            panic: None,
+            starved: false,
         }
     }
 
-    /// One stretch of a call, after which those are roused whom it woke.
-    fn stretch(&mut self, call: &Call) -> i32 {
-        self.told.clear();
-        // SAFETY: the handle was given out, and `&mut self` excludes other calls on it.
-        let code = unsafe { raw::sugwelan_call(self.handle.as_ptr(), call, &mut *self.told) };
-        for number in self.told.roused() {
-            self.bells.ring(*number);
-        }
-        code
+    /// Whether another one may go on with the task.
+    fn is_clean(&self) -> bool {
+        self.kept == 0 && self.under_way.is_none() && !self.starved
     }
 
-    /// The value that the last call gave.
-    pub(crate) fn value(&self) -> u64 {
-        self.told.value
+    /// Begins a call or goes on with one, until it is over, or the task asleep: None.
+    fn drive(&mut self, call: Call) -> Option<Result<(), Error>> {
+        let (bells, panic) = (&self.shared.bells, &mut self.panic);
+        bells.ties.begin(&call);
+        let end = self.handle.drive(call, |numbers| {
+            let broken = bells.ring_all(numbers);
+            *panic = panic.take().or(broken);
+        });
+        self.starved |= end == Some(Err(Error::Starved));
+        end
+    }
+
+    /// Counts what a call has taken or given back that is over.
+    fn count(&mut self, call: &Call) {
+        self.shared.bells.ties.end(call, self.value());
+        match call.kind {
+            Kind::WaitOnBitLock | Kind::LockPage => self.kept += 1,
+            Kind::TrylockBit | Kind::TrylockPage => self.kept += u32::from(self.value() != 0),
+            Kind::ClearAndWakeUpBit | Kind::UnlockPage => self.kept -= 1,
+            _ => {}
+        }
     }
 
     /// A call that puts nobody asleep.
     fn at_once(&mut self, call: Call) -> Result<(), Error> {
-        self.drive(call).unwrap_or(Err(Error::Busy))
+        self.leave();
+        let end = self.drive(call).unwrap_or(Err(Error::Other(raw::PARK)));
+        if end.is_ok() {
+            self.count(&call);
+        }
+        self.rethrow();
+        end
     }
 
     /// One that gives a value.
     fn finds(&mut self, call: Call) -> Result<u64, Error> {
         self.at_once(call)?;
-        Ok(self.told.value)
+        Ok(self.value())
     }
 
     /// One that gives yes or no.
@@ -244,192 +169,315 @@ impl Task {
 
     fn wakes(&mut self, call: Call) -> Result<Walked, Error> {
         self.at_once(call)?;
-        Ok(Walked::of(&self.told))
+        Ok(Walked::of(self.handle.told()))
     }
 
     /// A wake of a simple queue.
     fn selects(&mut self, call: Call) -> Result<u32, Error> {
         self.at_once(call)?;
-        Ok(self.told.selected)
+        Ok(self.handle.told().selected)
     }
 
-    fn waits(&mut self, call: Call) -> Wait<'_, ()> {
+    fn waits<S: State>(&mut self, call: Call) -> Wait<'_, (), S> {
         Wait::new(self, call, |_| ())
+    }
+}
+
+// Waits, for `Wait`.
+impl Task {
+    /// Begins a wait, and goes on until it is over, or the task asleep: None.
+    pub(crate) fn begin_wait(&mut self, call: Call, ended_by: Option<Signal>) -> Option<Result<(), Error>> {
+        self.leave();
+        self.under_way = Some(UnderWay { call, ended_by });
+        self.advance(call)
+    }
+
+    /// Goes on with the wait that is under way.
+    pub(crate) fn go_on(&mut self) -> Option<Result<(), Error>> {
+        self.advance(Call::new(Kind::Advance))
+    }
+
+    fn advance(&mut self, call: Call) -> Option<Result<(), Error>> {
+        let end = self.drive(call)?;
+        match (self.under_way.take(), end) {
+            (Some(wait), Ok(())) => self.count(&wait.call),
+            (_, Err(Error::Signal)) => self.shared.bells.ties.signalled(self.number()),
+            _ => {}
+        }
+        Some(end)
+    }
+
+    /// Leaves the wait that is under way, where its state is one that a signal ends: a signal is raised that ends it,
+    /// and what it got is handed on. The signals of the task are as they would be without that.
+    pub(crate) fn leave(&mut self) {
+        let Some(UnderWay {
+            call,
+            ended_by: Some(signal),
+        }) = self.under_way
+        else {
+            return;
+        };
+        self.forget();
+        if self.shared.raise_to_leave(self.number(), signal).is_err() {
+            return;
+        }
+        let end = loop {
+            match self.go_on() {
+                Some(end) => break end,
+                None => thread::yield_now(),
+            }
+        };
+        self.take_own_signal();
+        if end.is_ok() {
+            self.hand_on(&call);
+        }
+    }
+
+    /// Takes the signals of the task, and raises once more what its user has raised of it.
+    fn take_own_signal(&mut self) {
+        let (number, shared) = (self.number(), self.shared.clone());
+        let raised = shared.bells.raised(number);
+        self.drive(Call::new(Kind::TakeSignal));
+        if let Some(signal) = *raised {
+            self.drive(signal_call(number, signal));
+        }
+    }
+
+    /// Hands on what a wait got that nobody will be told of: a bit or a page is given back, a permit too, and a wake
+    /// that selected the task goes to the next one.
+    fn hand_on(&mut self, wait: &Call) {
+        let call = match wait.kind {
+            Kind::WaitOnBitLock => wait.of(Kind::ClearAndWakeUpBit),
+            Kind::LockPage => Call {
+                b: 0,
+                ..wait.of(Kind::UnlockPage)
+            },
+            Kind::WaitForCompletion => Call {
+                b: 0,
+                ..wait.of(Kind::Complete)
+            },
+            Kind::SwaitEvent => Call {
+                b: 0,
+                ..wait.of(Kind::SwakeUpOne)
+            },
+            Kind::WaitEvent if wait.c != 0 => Call {
+                b: 0,
+                ..wait.of(Kind::WakeUp)
+            }
+            .with(1),
+            _ => return,
+        };
+        if let Some(Ok(())) = self.drive(call) {
+            self.count(&call);
+        }
+    }
+
+    /// The value that the last call gave.
+    pub(crate) fn value(&self) -> u64 {
+        self.handle.told().value
     }
 
     /// Leaves word whom to rouse once the task was woken: false where it was already.
     pub(crate) fn listen(&self, sleeper: Sleeper) -> bool {
-        self.bells.listen(self.number, sleeper)
+        self.shared.bells.listen(self.number(), sleeper)
     }
 
     /// Takes the word back.
     pub(crate) fn forget(&self) {
-        self.bells.forget(self.number);
+        self.shared.bells.forget(self.number());
+    }
+
+    /// Goes on with a waker's panic, if there was one.
+    pub(crate) fn rethrow(&mut self) {
+        rethrow(self.panic.take());
+    }
+
+    /// The same at the end of a wait, of which nobody will be told what it got.
+    pub(crate) fn rethrow_at_end(&mut self, call: &Call, got: bool) {
+        if self.panic.is_some() && !thread::panicking() {
+            if got {
+                self.hand_on(call);
+            }
+            self.rethrow();
+        }
+        self.panic = None;
     }
 }
 
 // Tasks and signals.
 impl Task {
-    /// The number of the task in its Domain.
+    /// The number of the task in its Domain. Once the task was given up, another one gets it.
     pub fn number(&self) -> u8 {
-        self.number
+        self.handle.number()
     }
 
-    /// Goes on with the wait that is under way since its future was dropped; what it gives is the value of a wait for
-    /// a variable, and 0 of others. [`Error::Invalid`]: no wait is under way.
-    pub fn resume(&mut self) -> Wait<'_, u64> {
-        Wait::new(self, Call::new(Kind::Advance), |value| value)
-    }
-
-    /// Gives the task up, as a drop does; or says why it can't be, and gives it back: [`Error::Busy`] in mid-wait,
-    /// [`Error::Kept`] while it keeps a bit or a page.
-    pub fn close(self) -> Result<(), (Task, Error)> {
-        // SAFETY: as in `drop`, which is not reached where the handle was given up.
-        let code = unsafe { raw::sugwelan_free(self.handle.as_ptr()) };
-        if code < 0 {
-            return Err((self, Error::of(code)));
+    /// The Domain of the task.
+    pub fn domain(&self) -> Domain {
+        Domain {
+            shared: self.shared.clone(),
         }
-        let task = ManuallyDrop::new(self);
-        // SAFETY: both are dropped once, since the task is not.
-        drop(unsafe { (ptr::read(&task.bells), ptr::read(&task.told)) });
+    }
+
+    /// Whether both are of one Domain.
+    pub(crate) fn is_of(&self, domain: &Domain) -> bool {
+        Arc::ptr_eq(&self.shared, &domain.shared)
+    }
+
+    /// A further task of the same Domain, as [`Domain::task`] gives one.
+    pub fn fork(&self) -> Result<Task, Error> {
+        self.domain().task()
+    }
+
+    /// Gives the task up, as a drop does; or says why it can't be, and gives it back: [`Error::Keeps`] while it keeps a
+    /// bit or a page.
+    pub fn close(mut self) -> Result<(), (Task, Error)> {
+        self.leave();
+        if self.kept != 0 {
+            return Err((self, Error::Keeps));
+        }
         Ok(())
     }
 
-    /// Raises a signal of a task, by its number, and wakes it where it sleeps in a state that the signal ends.
-    pub fn raise_signal(&mut self, number: u8, signal: Signal) -> Result<(), Error> {
-        let call = Call::new(Kind::RaiseSignal).at(number);
-        self.at_once(call.and((signal == Signal::Fatal).into()))
+    /// Raises a signal of a task, by its number, and wakes it where it sleeps in a state that the signal ends. A number
+    /// that no task has is good, too.
+    pub fn raise_signal(&self, number: u8, signal: Signal) -> Result<(), Error> {
+        self.shared.raise(number, signal)
     }
 
     /// Takes the signals of the task: which was the worst.
     pub fn take_signal(&mut self) -> Result<Option<Signal>, Error> {
-        Ok(match self.finds(Call::new(Kind::TakeSignal))? {
-            0 => None,
-            1 => Some(Signal::Plain),
-            _ => Some(Signal::Fatal),
-        })
+        self.leave();
+        let shared = self.shared.clone();
+        let mut raised = shared.bells.raised(self.number());
+        self.drive(Call::new(Kind::TakeSignal)).unwrap_or(Ok(()))?;
+        shared.bells.ties.signalled(self.number());
+        Ok(raised.take())
+    }
+
+    /// The worst signal of the task that it has not taken. A signal ends no call that need not sleep: who works on
+    /// without sleeping looks here whether it is to stop.
+    pub fn pending_signal(&self) -> Option<Signal> {
+        *self.shared.bells.raised(self.number())
     }
 }
 
 // Conditions and variables.
 impl Task {
-    /// Waits until a condition below 48 is set: is not 0.
-    pub fn wait_event(&mut self, condition: u8, state: State) -> Wait<'_, ()> {
-        self.waits(Call::new(Kind::WaitEvent).at(condition).and(state as u32))
+    /// Waits until a condition below 48 is set: is not 0. Errors: [`Error::Invalid`], [`Error::Signal`],
+    /// [`Error::Full`].
+    pub fn wait_event<S: State>(&mut self, condition: u8, _state: S) -> Wait<'_, (), S> {
+        self.waits(Call::new(Kind::WaitEvent).at(condition).and(S::NUMBER))
     }
 
-    /// The same, as one of those of whom a wake with a count selects only so many.
-    pub fn wait_event_exclusive(&mut self, condition: u8, state: State) -> Wait<'_, ()> {
-        self.waits(Call::new(Kind::WaitEvent).at(condition).and(state as u32).with(1))
+    /// The same, as one of those of whom a wake with a count selects only so many. Errors: as before.
+    pub fn wait_event_exclusive<S: State>(&mut self, condition: u8, _state: S) -> Wait<'_, (), S> {
+        self.waits(Call::new(Kind::WaitEvent).at(condition).and(S::NUMBER).with(1))
     }
 
-    /// Waits in the simple queue of a condition from 48 on and below 64, not killable.
-    pub fn swait_event(&mut self, condition: u8, state: State) -> Wait<'_, ()> {
-        self.waits(Call::new(Kind::SwaitEvent).at(condition).and(state as u32))
+    /// Waits in the simple queue of a condition from 48 on and below 64, not killable. Errors: [`Error::Invalid`],
+    /// [`Error::Signal`], [`Error::Full`].
+    pub fn swait_event<S: Simple>(&mut self, condition: u8, _state: S) -> Wait<'_, (), S> {
+        self.waits(Call::new(Kind::SwaitEvent).at(condition).and(S::NUMBER))
     }
 
-    /// Wakes who waits for a condition: all of them where the count is 0, else all that are not exclusive before the
-    /// last of `count` exclusive ones.
+    /// Wakes who waits for a condition below 48: all of them where the count is 0, else all that are not exclusive
+    /// before the last of `count` exclusive ones. Errors: [`Error::Invalid`].
     pub fn wake_up(&mut self, condition: u8, mode: Mode, count: u32) -> Result<Walked, Error> {
         self.wakes(Call::new(Kind::WakeUp).at(condition).and(mode as u32).with(count))
     }
 
-    /// Sets a condition to a value, and wakes as [`Task::wake_up`] does.
+    /// Sets a condition below 48 to a value, and wakes as [`Task::wake_up`] does. Errors: [`Error::Invalid`].
     pub fn set_and_wake(&mut self, condition: u8, value: u64, count: u32) -> Result<Walked, Error> {
         self.wakes(Call::new(Kind::SetAndWake).at(condition).with(count).value(value))
     }
 
-    /// Puts 0 in place of a condition's value, which it gives.
+    /// Puts 0 in place of a condition's value, which it gives. Errors: [`Error::Invalid`].
     pub fn take_condition(&mut self, condition: u8) -> Result<u64, Error> {
         self.finds(Call::new(Kind::TakeCondition).at(condition))
     }
 
     /// Sets a condition from 48 on to a value, and wakes the first who waits in its simple queue: how many it took off
-    /// the queue, as the three below.
+    /// the queue, as the three below. Errors: [`Error::Invalid`].
     pub fn set_and_swake_one(&mut self, condition: u8, value: u64) -> Result<u32, Error> {
         self.selects(Call::new(Kind::SetAndSwake).at(condition).value(value))
     }
 
-    /// The same, and wakes all.
+    /// The same, and wakes all. Errors: [`Error::Invalid`].
     pub fn set_and_swake_all(&mut self, condition: u8, value: u64) -> Result<u32, Error> {
         self.selects(Call::new(Kind::SetAndSwake).at(condition).and(1).value(value))
     }
 
-    /// Wakes the first who waits in a simple queue.
+    /// Wakes the first who waits in a simple queue. Errors: [`Error::Invalid`].
     pub fn swake_up_one(&mut self, condition: u8) -> Result<u32, Error> {
         self.selects(Call::new(Kind::SwakeUpOne).at(condition))
     }
 
-    /// Wakes all who wait in a simple queue.
+    /// Wakes all who wait in a simple queue. Errors: [`Error::Invalid`].
     pub fn swake_up_all(&mut self, condition: u8) -> Result<u32, Error> {
         self.selects(Call::new(Kind::SwakeUpAll).at(condition))
     }
 
-    /// Waits until a variable differs from `old`, and gives the value that it found.
-    pub fn wait_var_event(&mut self, variable: u8, old: u64, state: State) -> Wait<'_, u64> {
-        let call = Call::new(Kind::WaitVarEvent).at(variable).and(state as u32).value(old);
+    /// Waits until a variable differs from `old`, and gives the value that it found. Errors: [`Error::Invalid`],
+    /// [`Error::Signal`], [`Error::Full`].
+    pub fn wait_var_event<S: State>(&mut self, variable: u8, old: u64, _state: S) -> Wait<'_, u64, S> {
+        let call = Call::new(Kind::WaitVarEvent).at(variable).and(S::NUMBER).value(old);
         Wait::new(self, call, |value| value)
     }
 
-    /// Changes a variable from 16 on, and wakes who waits for it.
+    /// Changes a variable from 16 on, and wakes who waits for it. Errors: [`Error::Invalid`].
     pub fn publish_var_and_wake(&mut self, variable: u8, value: u64) -> Result<Walked, Error> {
         self.wakes(Call::new(Kind::PublishVarAndWake).at(variable).value(value))
     }
 }
 
-// Bits and pages. Guards give them back when they are dropped: `BitLock`, `Page`.
+// Bits and pages. Guards give them back when they are dropped: `BitLock`, `PageLock`, `Mutex`.
 impl Task {
-    /// Waits until a bit is clear, and does not take it.
-    pub fn wait_on_bit(&mut self, word: u8, bit: u8, state: State) -> Wait<'_, ()> {
-        self.waits(Call::new(Kind::WaitOnBit).at(word).and(bit.into()).with(state as u32))
+    /// Waits until a bit is clear, and does not take it. Errors: [`Error::Held`], [`Error::Signal`], [`Error::Full`].
+    pub fn wait_on_bit<S: State>(&mut self, bit: Bit, _state: S) -> Wait<'_, (), S> {
+        self.waits(bit.call(Kind::WaitOnBit).with(S::NUMBER))
     }
 
-    /// Waits until it has taken a bit.
-    pub fn wait_on_bit_lock(&mut self, word: u8, bit: u8, state: State) -> Wait<'_, ()> {
-        self.waits(
-            Call::new(Kind::WaitOnBitLock)
-                .at(word)
-                .and(bit.into())
-                .with(state as u32),
-        )
+    /// Waits until it has taken a bit. Errors: [`Error::Held`], [`Error::Signal`], [`Error::Full`].
+    pub fn wait_on_bit_lock<S: State>(&mut self, bit: Bit, _state: S) -> Wait<'_, (), S> {
+        self.waits(bit.call(Kind::WaitOnBitLock).with(S::NUMBER))
     }
 
     /// Takes a bit where it is clear: whether it was.
-    pub fn trylock_bit(&mut self, word: u8, bit: u8) -> Result<bool, Error> {
-        self.tells(Call::new(Kind::TrylockBit).at(word).and(bit.into()))
+    pub fn trylock_bit(&mut self, bit: Bit) -> Result<bool, Error> {
+        self.tells(bit.call(Kind::TrylockBit))
     }
 
-    /// Gives a bit back, and wakes who waits for it.
-    pub fn clear_and_wake_up_bit(&mut self, word: u8, bit: u8) -> Result<Walked, Error> {
-        self.wakes(Call::new(Kind::ClearAndWakeUpBit).at(word).and(bit.into()))
+    /// Gives a bit back, and wakes who waits for it. Errors: [`Error::NotHeld`].
+    pub fn clear_and_wake_up_bit(&mut self, bit: Bit) -> Result<Walked, Error> {
+        self.wakes(bit.call(Kind::ClearAndWakeUpBit))
     }
 
-    /// Waits until it has got a page.
-    pub fn lock_page(&mut self, page: u8, state: State) -> Wait<'_, ()> {
-        self.waits(Call::new(Kind::LockPage).at(page).and(state as u32))
+    /// Waits until it has got a page. Errors: [`Error::Held`], [`Error::Signal`], [`Error::Full`].
+    pub fn lock_page<S: State>(&mut self, page: Page, _state: S) -> Wait<'_, (), S> {
+        self.waits(page.call(Kind::LockPage).and(S::NUMBER))
     }
 
     /// Takes a page that nobody keeps: whether it has got it.
-    pub fn trylock_page(&mut self, page: u8) -> Result<bool, Error> {
-        self.tells(Call::new(Kind::TrylockPage).at(page))
+    pub fn trylock_page(&mut self, page: Page) -> Result<bool, Error> {
+        self.tells(page.call(Kind::TrylockPage))
     }
 
-    /// Gives a page back, or over to the first who waits for it.
-    pub fn unlock_page(&mut self, page: u8) -> Result<Walked, Error> {
-        self.wakes(Call::new(Kind::UnlockPage).at(page))
+    /// Gives a page back, or over to the first who waits for it. Errors: [`Error::NotHeld`].
+    pub fn unlock_page(&mut self, page: Page) -> Result<Walked, Error> {
+        self.wakes(page.call(Kind::UnlockPage))
     }
 
-    /// Adds to the tally of a page that the task keeps, and gives the tally before.
-    pub fn add_tally(&mut self, page: u8, amount: u64) -> Result<u64, Error> {
-        self.finds(Call::new(Kind::AddTally).at(page).value(amount))
+    /// Adds to the tally of a page that the task keeps, and gives the tally before. Errors: [`Error::NotHeld`].
+    pub fn add_tally(&mut self, page: Page, amount: u64) -> Result<u64, Error> {
+        self.finds(page.call(Kind::AddTally).value(amount))
     }
 
     /// A call about a completion that gives yes or no.
-    pub(crate) fn of_completion(&mut self, kind: Kind, completion: u8) -> Result<bool, Error> {
-        self.tells(Call::new(kind).at(completion))
+    pub(crate) fn of_completion(&mut self, call: Call) -> Result<bool, Error> {
+        self.tells(call)
     }
 
-    pub(crate) fn wait_for_completion(&mut self, completion: u8, state: State) -> Wait<'_, ()> {
-        self.waits(Call::new(Kind::WaitForCompletion).at(completion).and(state as u32))
+    pub(crate) fn wait_for_completion<S: State>(&mut self, call: Call) -> Wait<'_, (), S> {
+        self.waits(call.and(S::NUMBER))
     }
 }

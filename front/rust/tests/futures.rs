@@ -1,26 +1,22 @@
-//! Futures that wait and wake, by an executor of one thread and of several; and futures that are dropped in mid-wait.
+//! Futures that wait and wake, by an executor of one thread and of several.
 
 mod common;
 mod rounds;
 
-use common::{poll_once, Executor};
+use common::Executor;
 use rounds::rounds;
-use std::pin::pin;
 use std::sync::atomic::{AtomicU64, Ordering::SeqCst};
 use std::sync::Arc;
-use std::task::Poll;
 use std::thread;
-use std::time::Duration;
-use sugwelan::{BitLock, Domain, Error, Page, Signal, State, Task};
+use sugwelan::{Bit, Domain, Killable, Page, Task, Uninterruptible};
 
 const WAITERS: u64 = 4;
 const CROWD: u64 = 120;
-const PLAIN: State = State::Uninterruptible;
 
 /// Waits for a condition, and takes it.
 async fn claim(task: &mut Task, condition: u8) -> u64 {
     loop {
-        task.wait_event_exclusive(condition, PLAIN).await.unwrap();
+        task.wait_event_exclusive(condition, Killable).await.unwrap();
         match task.take_condition(condition).unwrap() {
             0 => {}
             value => return value,
@@ -56,18 +52,15 @@ fn futures_answer_each_other() {
 fn futures_and_threads_share_locks() {
     for threads in [1, 4] {
         let domain = Domain::new().unwrap();
-        let (lock, page) = (BitLock::new(4, 5), Page::new(9));
-        let inside = Arc::new(AtomicU64::new(0));
+        let count = Arc::new(domain.mutex(Bit::new(4, 5), 0));
+        let page = domain.page_lock(Page::new(9));
         let mut executor = Executor::default();
         for _ in 0..WAITERS {
-            let (mut task, inside) = (domain.task().unwrap(), inside.clone());
+            let (mut task, count, page) = (domain.task().unwrap(), count.clone(), page.clone());
             executor.spawn(async move {
                 for _ in 0..rounds() {
-                    let guard = lock.lock_later(&mut task, PLAIN).await.unwrap();
-                    assert_eq!(inside.fetch_add(1, SeqCst), 0);
-                    inside.fetch_sub(1, SeqCst);
-                    drop(guard);
-                    page.lock_later(&mut task, PLAIN).await.unwrap().add(1).unwrap();
+                    *count.lock_later(&mut task, Killable).await.unwrap() += 1;
+                    page.lock_later(&mut task, Killable).await.unwrap().add(1).unwrap();
                 }
             });
         }
@@ -75,13 +68,17 @@ fn futures_and_threads_share_locks() {
         thread::scope(|scope| {
             scope.spawn(|| executor.run(threads));
             for _ in 0..rounds() {
-                let guard = lock.lock(&mut task, PLAIN).unwrap();
-                assert_eq!(inside.fetch_add(1, SeqCst), 0);
-                inside.fetch_sub(1, SeqCst);
-                drop(guard);
+                *count.lock(&mut task, Uninterruptible).unwrap() += 1;
             }
         });
-        assert_eq!(page.lock(&mut task, PLAIN).unwrap().add(0), Ok(rounds() * WAITERS));
+        assert_eq!(
+            *count.lock(&mut task, Uninterruptible).unwrap(),
+            rounds() * (WAITERS + 1)
+        );
+        assert_eq!(
+            page.lock(&mut task, Uninterruptible).unwrap().add(0),
+            Ok(rounds() * WAITERS)
+        );
     }
 }
 
@@ -94,7 +91,7 @@ fn a_crowd_is_woken() {
     for _ in 0..CROWD {
         let (mut task, woken) = (domain.task().unwrap(), woken.clone());
         executor.spawn(async move {
-            task.wait_event(0, PLAIN).await.unwrap();
+            task.wait_event(0, Killable).await.unwrap();
             woken.fetch_add(1, SeqCst);
         });
     }
@@ -106,77 +103,4 @@ fn a_crowd_is_woken() {
     });
     executor.run(1);
     assert_eq!(woken.load(SeqCst), CROWD);
-}
-
-#[test]
-fn a_dropped_wait_goes_on() {
-    let domain = Domain::new().unwrap();
-    let (mut waiter, mut setter) = (domain.task().unwrap(), domain.task().unwrap());
-    {
-        let mut wait = pin!(waiter.wait_event_exclusive(0, PLAIN));
-        assert_eq!(poll_once(wait.as_mut()), Poll::Pending);
-        assert_eq!(poll_once(wait.as_mut()), Poll::Pending);
-    }
-    assert_eq!(waiter.take_condition(1), Err(Error::Busy));
-    assert_eq!(waiter.set_and_wake(0, 1, 0), Err(Error::Busy));
-    assert_eq!(waiter.wait_event(1, PLAIN).block(), Err(Error::Busy));
-    assert_eq!(poll_once(pin!(waiter.resume())), Poll::Pending);
-    assert_eq!(setter.set_and_wake(0, 1, 1).unwrap().selected, 1);
-    assert_eq!(waiter.resume().block(), Ok(0));
-    assert_eq!(waiter.resume().block(), Err(Error::Invalid));
-    assert_eq!(waiter.take_condition(0), Ok(1));
-}
-
-#[test]
-fn a_dropped_wait_is_resumed_by_a_thread() {
-    let domain = Domain::new().unwrap();
-    let (mut waiter, mut setter) = (domain.task().unwrap(), domain.task().unwrap());
-    assert_eq!(poll_once(pin!(waiter.wait_var_event(20, 0, PLAIN))), Poll::Pending);
-    let resumed = thread::spawn(move || waiter.resume().block());
-    thread::sleep(Duration::from_millis(10));
-    setter.publish_var_and_wake(20, 5).unwrap();
-    assert_eq!(resumed.join().unwrap(), Ok(5));
-}
-
-/// A signal makes an end of a wait whose future was dropped.
-#[test]
-fn a_dropped_wait_is_ended_by_a_signal() {
-    let domain = Domain::new().unwrap();
-    let mut waiter = domain.task().unwrap();
-    assert_eq!(
-        poll_once(pin!(waiter.wait_event(0, State::Interruptible))),
-        Poll::Pending
-    );
-    domain.raise_signal(waiter.number(), Signal::Plain).unwrap();
-    assert_eq!(poll_once(pin!(waiter.resume())), Poll::Ready(Err(Error::Signal)));
-    assert_eq!(waiter.take_signal(), Ok(Some(Signal::Plain)));
-    assert!(waiter.close().is_ok());
-}
-
-#[test]
-fn a_task_in_mid_wait_is_given_back() {
-    let domain = Domain::new().unwrap();
-    let (mut waiter, mut setter) = (domain.task().unwrap(), domain.task().unwrap());
-    assert_eq!(poll_once(pin!(waiter.wait_event(0, PLAIN))), Poll::Pending);
-    let (mut waiter, why) = waiter.close().unwrap_err();
-    assert_eq!(why, Error::Busy);
-    setter.set_and_wake(0, 1, 0).unwrap();
-    assert_eq!(poll_once(pin!(waiter.resume())), Poll::Ready(Ok(0)));
-    assert!(waiter.close().is_ok());
-}
-
-#[test]
-fn a_guard_in_mid_wait_keeps_its_bit() {
-    let domain = Domain::new().unwrap();
-    let (mut keeper, mut setter) = (domain.task().unwrap(), domain.task().unwrap());
-    let lock = BitLock::new(1, 2);
-    {
-        let mut guard = lock.lock(&mut keeper, PLAIN).unwrap();
-        assert_eq!(poll_once(pin!(guard.wait_event(0, PLAIN))), Poll::Pending);
-    }
-    assert!(lock.try_lock(&mut setter).unwrap().is_none());
-    setter.set_and_wake(0, 1, 0).unwrap();
-    assert_eq!(keeper.resume().block(), Ok(0));
-    keeper.clear_and_wake_up_bit(1, 2).unwrap();
-    assert!(lock.try_lock(&mut setter).unwrap().is_some());
 }

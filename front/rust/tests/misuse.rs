@@ -1,9 +1,12 @@
 //! Wrong calls: each says why, and nothing has changed.
 
-use sugwelan::{BitLock, Domain, Error, Mode, Page, State, Task};
+mod rounds;
 
-const PLAIN: State = State::Uninterruptible;
-const LOCK: BitLock = BitLock::new(2, 5);
+use std::thread;
+use sugwelan::{Bit, Domain, Error, Interruptible, Mode, Page, Signal, Task, Uninterruptible as PLAIN};
+
+const BIT: Bit = Bit::new(2, 5);
+const OTHER: Bit = Bit::new(2, 6);
 const PAGE: Page = Page::new(9);
 
 /// A task that keeps a bit and a page; a condition is set, a variable was changed.
@@ -11,9 +14,9 @@ fn arranged(domain: &Domain) -> Task {
     let mut task = domain.task().unwrap();
     task.set_and_wake(3, 7, 0).unwrap();
     task.publish_var_and_wake(20, 9).unwrap();
-    assert_eq!(task.trylock_bit(2, 5), Ok(true));
-    assert_eq!(task.trylock_page(9), Ok(true));
-    assert_eq!(task.add_tally(9, 3), Ok(0));
+    assert_eq!(task.trylock_bit(BIT), Ok(true));
+    assert_eq!(task.trylock_page(PAGE), Ok(true));
+    assert_eq!(task.add_tally(PAGE, 3), Ok(0));
     task
 }
 
@@ -21,9 +24,9 @@ fn arranged(domain: &Domain) -> Task {
 fn is_as_before(task: &mut Task) {
     assert_eq!(task.wait_event(3, PLAIN).block(), Ok(()));
     assert_eq!(task.wait_var_event(20, 8, PLAIN).block(), Ok(9));
-    assert!(LOCK.try_lock(task).unwrap().is_none());
-    assert!(PAGE.try_lock(task).unwrap().is_none());
-    assert_eq!(task.add_tally(9, 0), Ok(3));
+    assert!(task.domain().bit_lock(BIT).try_lock(task).unwrap().is_none());
+    assert!(task.domain().page_lock(PAGE).try_lock(task).unwrap().is_none());
+    assert_eq!(task.add_tally(PAGE, 0), Ok(3));
     assert_eq!(task.take_condition(4), Ok(0));
 }
 
@@ -35,8 +38,8 @@ fn refused<T>(task: &mut Task, why: Error, call: impl FnOnce(&mut Task) -> Resul
 
 /// Gives back what the task keeps, and the task.
 fn give_back(mut task: Task) {
-    task.clear_and_wake_up_bit(2, 5).unwrap();
-    task.unlock_page(9).unwrap();
+    task.clear_and_wake_up_bit(BIT).unwrap();
+    task.unlock_page(PAGE).unwrap();
     assert!(task.close().is_ok());
 }
 
@@ -48,7 +51,6 @@ fn numbers_out_of_range() {
     refused(&mut task, invalid, |task| task.wait_event(48, PLAIN).block());
     refused(&mut task, invalid, |task| task.wait_event_exclusive(255, PLAIN).block());
     refused(&mut task, invalid, |task| task.swait_event(47, PLAIN).block());
-    refused(&mut task, invalid, |task| task.swait_event(50, State::Killable).block());
     refused(&mut task, invalid, |task| task.wake_up(48, Mode::Normal, 0));
     refused(&mut task, invalid, |task| task.set_and_wake(48, 1, 0));
     refused(&mut task, invalid, |task| task.take_condition(64));
@@ -57,14 +59,13 @@ fn numbers_out_of_range() {
     refused(&mut task, invalid, |task| task.wait_var_event(128, 0, PLAIN).block());
     refused(&mut task, invalid, |task| task.publish_var_and_wake(15, 1));
     refused(&mut task, invalid, |task| task.publish_var_and_wake(128, 1));
-    refused(&mut task, invalid, |task| task.wait_on_bit(128, 0, PLAIN).block());
-    refused(&mut task, invalid, |task| task.wait_on_bit_lock(0, 64, PLAIN).block());
-    refused(&mut task, invalid, |task| task.trylock_bit(0, 64));
-    refused(&mut task, invalid, |task| task.clear_and_wake_up_bit(2, 64));
-    refused(&mut task, invalid, |task| task.lock_page(128, PLAIN).block());
-    refused(&mut task, invalid, |task| task.unlock_page(128));
-    refused(&mut task, invalid, |task| task.add_tally(128, 1));
-    refused(&mut task, invalid, |task| task.resume().block());
+    refused(&mut task, invalid, |task| task.domain().set_and_wake(48, 1, 0));
+    refused(&mut task, invalid, |task| task.domain().wake_up(64, Mode::Normal, 0));
+    refused(&mut task, invalid, |task| task.domain().set_and_swake_one(47, 1));
+    refused(&mut task, invalid, |task| task.domain().set_and_swake_all(64, 1));
+    refused(&mut task, invalid, |task| task.domain().swake_up_one(47));
+    refused(&mut task, invalid, |task| task.domain().swake_up_all(64));
+    refused(&mut task, invalid, |task| task.domain().publish_var_and_wake(15, 1));
     give_back(task);
 }
 
@@ -72,33 +73,92 @@ fn numbers_out_of_range() {
 fn bits_of_others() {
     let domain = Domain::new().unwrap();
     let mut task = arranged(&domain);
-    let kept = Error::Kept;
-    refused(&mut task, kept, |task| task.clear_and_wake_up_bit(2, 6));
-    refused(&mut task, kept, |task| task.unlock_page(10));
-    refused(&mut task, kept, |task| task.add_tally(10, 1));
-    refused(&mut task, kept, |task| task.wait_on_bit(2, 5, PLAIN).block());
-    refused(&mut task, kept, |task| task.wait_on_bit_lock(2, 5, PLAIN).block());
-    refused(&mut task, kept, |task| task.lock_page(9, PLAIN).block());
+    let (held, not_held) = (Error::Held, Error::NotHeld);
+    refused(&mut task, not_held, |task| task.clear_and_wake_up_bit(OTHER));
+    refused(&mut task, not_held, |task| task.unlock_page(Page::new(10)));
+    refused(&mut task, not_held, |task| task.add_tally(Page::new(10), 1));
+    refused(&mut task, held, |task| task.wait_on_bit(BIT, PLAIN).block());
+    refused(&mut task, held, |task| task.wait_on_bit_lock(BIT, PLAIN).block());
+    refused(&mut task, held, |task| task.lock_page(PAGE, PLAIN).block());
+    refused(&mut task, held, |task| task.wait_on_bit(PAGE.into(), PLAIN).block());
     let (mut task, why) = task.close().unwrap_err();
-    assert_eq!(why, kept);
+    assert_eq!(why, Error::Keeps);
     is_as_before(&mut task);
     give_back(task);
 }
 
+/// A lock knows the tasks of its own Domain from those of another one.
 #[test]
-fn numbers_are_given_out_once() {
+fn tasks_of_another_domain_get_no_lock() {
+    let (domain, other) = (Domain::new().unwrap(), Domain::new().unwrap());
+    let (mut task, mut stranger) = (domain.task().unwrap(), other.task().unwrap());
+    let (lock, page) = (domain.bit_lock(BIT), domain.page_lock(PAGE));
+    let (mutex, fair) = (domain.mutex(OTHER, 0), domain.fair_mutex(Page::new(1), 0));
+    let foreign = Some(Error::Foreign);
+    for _ in 0..2 {
+        assert_eq!(lock.lock(&mut stranger, PLAIN).err(), foreign);
+        assert_eq!(lock.try_lock(&mut stranger).err(), foreign);
+        assert_eq!(page.lock(&mut stranger, Interruptible).err(), foreign);
+        assert_eq!(page.try_lock(&mut stranger).err(), foreign);
+        assert_eq!(mutex.lock(&mut stranger, PLAIN).err(), foreign);
+        assert_eq!(fair.try_lock(&mut stranger).err(), foreign);
+    }
+    assert!(lock.lock(&mut task, PLAIN).is_ok());
+    assert!(domain != other && domain == task.domain());
+    assert!(other.bit_lock(BIT).lock(&mut stranger, PLAIN).is_ok());
+}
+
+#[test]
+fn so_many_tasks_at_a_time() {
     let domain = Domain::new().unwrap();
-    let mut share = domain.task().unwrap().fork(0);
-    assert_eq!(share.as_ref().err(), Some(&Error::NoPlace));
-    share = domain.task();
-    assert!(share.is_ok());
-    let rest: Vec<Task> = (0..253).map(|_| domain.task().unwrap()).collect();
+    let rest: Vec<Task> = (0..255).map(|_| domain.task().unwrap()).collect();
     let mut numbers: Vec<u8> = rest.iter().map(Task::number).collect();
+    numbers.sort_unstable();
     numbers.dedup();
-    assert_eq!(numbers.len(), 253);
-    assert_eq!(domain.task().err(), Some(Error::NoPlace));
+    assert_eq!(numbers.len(), 255);
+    assert_eq!(domain.task().err(), Some(Error::NoNumber));
+    assert_eq!(rest[7].fork().err(), Some(Error::NoNumber));
     drop(rest);
-    assert_eq!(domain.task().err(), Some(Error::NoPlace));
+    assert!(domain.task().is_ok());
+}
+
+/// Tasks one after the other, four at a time, many more than there are numbers.
+#[test]
+fn numbers_are_used_again() {
+    let domain = Domain::new().unwrap();
+    let count = domain.mutex(BIT, 0);
+    let each = rounds::rounds() * 25;
+    thread::scope(|scope| {
+        for _ in 0..4 {
+            let (domain, count) = (&domain, &count);
+            scope.spawn(move || {
+                for _ in 0..each {
+                    let mut task = domain.task().unwrap();
+                    assert_eq!(task.pending_signal(), None);
+                    *count.lock(&mut task, PLAIN).unwrap() += 1;
+                    domain.raise_signal(task.number(), Signal::Plain).unwrap();
+                }
+            });
+        }
+    });
+    assert_eq!(count.into_inner(), each * 4);
+}
+
+/// A signal ends no call that need not sleep; who is to stop looks for it.
+#[test]
+fn a_signal_is_seen_and_not_taken() {
+    let domain = Domain::new().unwrap();
+    let mut task = domain.task().unwrap();
+    task.set_and_wake(0, 1, 0).unwrap();
+    domain.raise_signal(task.number(), Signal::Plain).unwrap();
+    assert_eq!(task.wait_event(0, Interruptible).block(), Ok(()));
+    assert_eq!(task.pending_signal(), Some(Signal::Plain));
+    task.raise_signal(task.number(), Signal::Fatal).unwrap();
+    assert_eq!(task.pending_signal(), Some(Signal::Fatal));
+    assert_eq!(task.wait_event(1, Interruptible).block(), Err(Error::Signal));
+    assert_eq!(task.take_signal(), Ok(Some(Signal::Fatal)));
+    assert_eq!(task.take_signal(), Ok(None));
+    assert_eq!(task.pending_signal(), None);
 }
 
 /// The tasks of a Domain outlive the value by which it was made.
@@ -107,7 +167,7 @@ fn tasks_outlive_their_domain() {
     let domain = Domain::new().unwrap();
     let (mut waiter, mut setter) = (domain.task().unwrap(), domain.task().unwrap());
     drop(domain);
-    let waited = std::thread::spawn(move || waiter.wait_event(0, PLAIN).block());
+    let waited = thread::spawn(move || waiter.wait_event(0, PLAIN).block());
     setter.set_and_wake(0, 1, 0).unwrap();
     assert_eq!(waited.join().unwrap(), Ok(()));
 }

@@ -3,12 +3,12 @@
 mod rounds;
 
 use rounds::rounds;
-use std::cell::UnsafeCell;
 use std::thread;
-use sugwelan::{BitLock, Completion, Domain, Error, Page, Signal, State, Task};
+use sugwelan::{Bit, Completion, Domain, Error, Interruptible, Killable, Page, Signal, Task};
+use sugwelan::{MutexGuard, Uninterruptible as PLAIN};
 
 const WAITERS: usize = 4;
-const PLAIN: State = State::Uninterruptible;
+const BIT: Bit = Bit::new(5, 6);
 
 /// A Domain and some tasks of it.
 fn tasks(count: usize) -> (Domain, Vec<Task>) {
@@ -68,49 +68,35 @@ fn two_answer_each_other() {
     });
 }
 
-/// A count that a lock guards.
-struct Count(UnsafeCell<u64>);
-
-// SAFETY: it is reached by who has the lock alone.
-unsafe impl Sync for Count {}
-
-impl Count {
-    /// Adds 1.
-    ///
-    /// # Safety
-    /// The caller has the lock.
-    unsafe fn add(&self) {
-        // SAFETY: as the caller says.
-        unsafe { *self.0.get() += 1 };
-    }
-}
-
 #[test]
-fn a_bit_guards_a_count() {
-    let (_domain, tasks) = tasks(WAITERS);
-    let count = Count(UnsafeCell::new(0));
-    let lock = BitLock::new(3, 17);
+fn a_bit_and_a_page_guard_counts() {
+    let (domain, tasks) = tasks(WAITERS);
+    let count = domain.mutex(Bit::new(3, 17), 0);
+    let other = domain.fair_mutex(Page::new(8), 0);
     thread::scope(|scope| {
         for mut task in tasks {
-            let count = &count;
+            let (count, other) = (&count, &other);
             scope.spawn(move || {
                 for _ in 0..rounds() {
-                    let _guard = lock.lock(&mut task, PLAIN).unwrap();
-                    // SAFETY: the guard is alive.
-                    unsafe { count.add() };
+                    *count.lock(&mut task, PLAIN).unwrap() += 1;
+                    let mut first = count.lock(&mut task, Killable).unwrap();
+                    *other.lock(&mut first, PLAIN).unwrap() += 1;
+                    MutexGuard::lend(&mut first).set_and_wake(0, 1, 1).unwrap();
                 }
             });
         }
     });
-    assert_eq!(count.0.into_inner(), rounds() * WAITERS as u64);
+    assert_eq!(count.into_inner(), rounds() * WAITERS as u64);
+    assert_eq!(other.into_inner(), rounds() * WAITERS as u64);
 }
 
 #[test]
 fn a_page_counts_its_locks() {
     let (domain, tasks) = tasks(WAITERS);
-    let page = Page::new(9);
+    let page = domain.page_lock(Page::new(9));
     thread::scope(|scope| {
         for mut task in tasks {
+            let page = &page;
             scope.spawn(move || {
                 for _ in 0..rounds() {
                     page.lock(&mut task, PLAIN).unwrap().add(1).unwrap();
@@ -121,7 +107,7 @@ fn a_page_counts_its_locks() {
     let mut task = domain.task().unwrap();
     let mut guard = page.try_lock(&mut task).unwrap().unwrap();
     assert_eq!(guard.add(0), Ok(rounds() * WAITERS as u64));
-    assert_eq!(guard.set_and_wake(0, 1, 0).unwrap().woken, 0);
+    assert_eq!(guard.lend().set_and_wake(0, 1, 0).unwrap().woken, 0);
 }
 
 #[test]
@@ -151,13 +137,13 @@ fn a_bit_is_waited_for() {
     let (domain, mut tasks) = tasks(WAITERS);
     let mut keeper = domain.task().unwrap();
     for round in 0..rounds() {
-        assert_eq!(keeper.trylock_bit(5, 6), Ok(true));
+        assert_eq!(keeper.trylock_bit(BIT), Ok(true));
         thread::scope(|scope| {
             for task in &mut tasks {
-                scope.spawn(|| task.wait_on_bit(5, 6, State::Killable).block().unwrap());
+                scope.spawn(|| task.wait_on_bit(BIT, Killable).block().unwrap());
             }
             pause(round);
-            keeper.clear_and_wake_up_bit(5, 6).unwrap();
+            keeper.clear_and_wake_up_bit(BIT).unwrap();
         });
     }
 }
@@ -207,7 +193,7 @@ fn signals_end_waits() {
         thread::scope(|scope| {
             for task in &mut tasks {
                 scope.spawn(|| {
-                    assert_eq!(task.wait_event(0, State::Interruptible).block(), Err(Error::Signal));
+                    assert_eq!(task.wait_event(0, Interruptible).block(), Err(Error::Signal));
                     assert_eq!(task.take_signal(), Ok(Some(Signal::Plain)));
                 });
             }

@@ -1,4 +1,8 @@
-//! A small executor: futures are polled in turn by a number of threads, each future by one thread at a time.
+//! A small executor: futures are polled in turn by a number of threads, each future by one thread at a time; and
+//! wakers that do more or less than they should.
+
+// Each test takes a part of it.
+#![allow(dead_code)]
 
 use std::collections::VecDeque;
 use std::future::Future;
@@ -103,7 +107,30 @@ impl Executor {
 }
 
 /// Polls a future once.
-#[allow(dead_code)]
 pub fn poll_once<F: Future>(work: Pin<&mut F>) -> Poll<F::Output> {
     work.poll(&mut Context::from_waker(Waker::noop()))
+}
+
+/// A waker that counts how often it was called.
+#[derive(Default)]
+pub struct Counting(pub AtomicUsize);
+
+impl Wake for Counting {
+    fn wake(self: Arc<Counting>) {
+        self.0.fetch_add(1, SeqCst);
+    }
+}
+
+/// A waker that panics, and writes nothing of it.
+pub struct Broken;
+
+impl Wake for Broken {
+    fn wake(self: Arc<Broken>) {
+        std::panic::resume_unwind(Box::new("a waker panics"));
+    }
+}
+
+/// Whether a call panics.
+pub fn panics(call: impl FnOnce()) -> bool {
+    std::panic::catch_unwind(std::panic::AssertUnwindSafe(call)).is_err()
 }

@@ -1,9 +1,0 @@
-use Rattle.std.proofs.Common.{◌≡◌}
-use Rattle.wait_event.specs.Tested.{IsHearingOn}
-use Rattle.wait_event.proofs.tests.hearers.ends.Given as goal
-
-abbrev pub invariant-loop : goal.invariant-loop
-invariant-loop l = record {
-  of : l.task.domain ≡ l.fn.domain;
-  at : IsHearingOn l.task l.at;
-}

@@ -1,9 +1,0 @@
-use Rattle.std.proofs.Common.{ap, eqb-true}
-use Rattle.wait_rule.specs.Known.{Known}
-use Rattle.wait_rule.proofs.KnownLaws.Turns.{finds_turn}
-use Rattle.wait_rule.proofs.queue_tests.take_turn.Goals as goal
-
-pub returns-clause-turn : goal.returns-clause-turn
-returns-clause-turn c same = finds_turn c.draw-ticket.new.task c.serving_load.new.task c.args.head c.draw-ticket.result
-    c.serving_load.result (ap (λ (k : Known). k.book.ticket) c.draw-ticket.ensures) c.serving_load.ensures.step
-    (eqb-true _ _ same)

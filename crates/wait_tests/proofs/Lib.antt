@@ -1,0 +1,3 @@
+pub mod LeavingTask
+pub mod Hearers
+pub mod ReadyWaits

@@ -1,0 +1,7 @@
+pub mod Leaving
+pub mod EventTasks
+pub mod CompletionTasks
+pub mod BitTasks
+pub mod PageTasks
+pub mod PipeTasks
+pub mod Meeting

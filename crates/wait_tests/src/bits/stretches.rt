@@ -1,0 +1,103 @@
+//! A wait for a bit and the task that gives it back on one thread, which goes on with one of them at a time.
+
+ghost use Rattle.std.specs.Prelude.{◌≡◌};
+ghost use Rattle.wait_model.specs.declared.watches.Watch.TheVariants as watch;
+ghost use Rattle.wait_rule.specs.Bits.{KeepsBitOf};
+ghost use Rattle.wait_tests.specs.BitTasks.{IsAtRest, IsReadyToWait, IsWaiting};
+
+use crate::bits::alone::{give, take};
+use bit_wait::wait_calls::{begin_bit, stretch_bit, woke_bit};
+use bit_wait::waits::{BitOutcome, BitRun, BitStage, BitTurn};
+use std::sync::Wait;
+use std::test::Fail;
+use wait_model::tasks::SleepState;
+use wait_model::watches::Mode;
+use wait_rule::{Domain, Task, wake_task};
+
+/// How many orders are tried.
+const ORDERS: u32 = 400;
+
+/// How many turns the wait has at most before the bit is given back, and after it.
+const BEFORE: u32 = 12;
+
+const AFTER: u32 = 200;
+
+/// The next number of a small generator, by which the order of the turns is drawn.
+fn next_number(seed: u32) -> u32 {
+    let mixed = seed ^ seed.wrapping_shl(13);
+    let mixed = mixed ^ mixed.wrapping_shr(17);
+    mixed ^ mixed.wrapping_shl(5)
+}
+
+/// Goes on with a wait by one stretch, or looks whether it was woken.
+fn go_on(domain: &Domain, task: &mut Task, run: &mut BitRun, last: BitTurn) -> BitTurn
+    requires of { task.old.domain ≡ domain.now }
+    requires waiting { IsWaiting task.old run.old last }
+    ensures of { task.new.domain ≡ domain.now }
+    ensures waiting { IsWaiting task.new run.new result }
+{
+    match last {
+        BitTurn::Again(stage) => stretch_bit(domain, task, run, stage),
+        BitTurn::Locked(stage) => stretch_bit(domain, task, run, stage),
+        BitTurn::Asleep(stage) => {
+            if woke_bit(domain, task, run, stage) {
+                BitTurn::Again(stage)
+            } else {
+                BitTurn::Asleep(stage)
+            }
+        }
+        BitTurn::Done(outcome) => BitTurn::Done(outcome),
+    }
+}
+
+/// Wakes the waiter's task, as a walk would.
+fn rouse<R: Wait>(rt: &R, domain: &Domain, holder: &mut Task, who: u8)
+    requires of { holder.old.domain ≡ domain.now }
+    requires rest { IsAtRest holder.old }
+    ensures of { holder.new.domain ≡ domain.now }
+    ensures rest { IsAtRest holder.new }
+{
+    wake_task(rt, domain, holder, who, Mode::Normal);
+}
+
+/// Plays one order: whether the wait has ended with its bit clear.
+fn play<R: Wait>(rt: &R, domain: &Domain, holder: &mut Task, waiter: &mut Task, seed: u32) -> bool
+    requires of { (holder.old.domain ≡ domain.now) × (waiter.old.domain ≡ domain.now) }
+    requires holder { IsAtRest holder.old }
+    requires keeps { KeepsBitOf holder.old (watch.Bit 0 0) }
+    requires waiter { IsReadyToWait waiter.old }
+{
+    let who = waiter.number();
+    let mut run = begin_bit(waiter, 0, 0, SleepState::Uninterruptible);
+    let mut at = BitTurn::Again(BitStage::First);
+    for _ in 0..seed % BEFORE {
+        at = go_on(domain, waiter, &mut run, at);
+    }
+    give(domain, holder, 0, 0);
+    let mut seed = seed;
+    for _ in 0..AFTER {
+        seed = next_number(seed);
+        if seed % 3 == 0 {
+            rouse(rt, domain, holder, who);
+        } else {
+            at = go_on(domain, waiter, &mut run, at);
+        }
+    }
+    matches!(at, BitTurn::Done(BitOutcome::Over))
+}
+
+/// Whatever the order, the wait ends once the bit is clear and its task was woken.
+#[test]
+fn waits_end_in_each_order(rt: HostRuntime) -> Result<(), Fail> {
+    for order in 0..ORDERS {
+        let (domain, mut holder) = Domain::new(rt.alloc())?;
+        let Ok(mut waiter) = holder.fork(&domain, 0) else {
+            panic!(rt; "numbers are spare")
+        };
+        if !take(&domain, &mut holder, 0, 0) {
+            panic!(rt; "the bit is clear")
+        }
+        assert!(rt; play(&rt, &domain, &mut holder, &mut waiter, order + 1));
+    }
+    Ok(())
+}

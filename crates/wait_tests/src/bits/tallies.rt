@@ -1,0 +1,112 @@
+//! The tally of a page, to which two threads add while they keep the page's bit: in the end it is the sum.
+
+ghost use Rattle.std.specs.Prelude.{◌≡◌, ◌<◌, MatchBool};
+ghost use Rattle.wait_model.specs.declared.layout.TheConstants.{PAGES};
+ghost use Rattle.wait_model.specs.declared.watches.Watch.TheVariants as watch;
+ghost use Rattle.wait_rule.specs.Says.{IsClean};
+ghost use Rattle.bit_wait.specs.Holders.{IsHolder};
+
+use crate::bits::alone::{lock, unlock};
+use std::sync::Wait;
+use std::test::Fail;
+use std::thread;
+use std::thread::Threads;
+use wait_rule::tallies::tally_add;
+use wait_rule::{Domain, Task};
+
+/// How many rounds the test makes, and how often each task adds in a round.
+const ROUNDS: u32 = 300;
+
+const ADDS: u64 = 25;
+
+/// The page, and what each task adds to its tally.
+const PAGE: u8 = 3;
+
+const FIRST: u64 = 5;
+
+const SECOND: u64 = u64::MAX;
+
+/// Adds to the tally of a page whose bit the task keeps, and answers the number before.
+fn add(domain: &Domain, task: &mut Task, page: u8, amount: u64) -> u64
+    requires of { task.old.domain ≡ domain.now }
+    requires holder { IsHolder task.old (watch.Bit page 0) }
+    requires page { page < PAGES }
+    ensures of { task.new.domain ≡ domain.now }
+    ensures holder { IsHolder task.new (watch.Bit page 0) }
+{
+    tally_add(domain, task, page, amount)
+}
+
+/// Takes the page's bit, adds to its tally and gives the bit back, as soon as the bit is clear.
+fn add_once<R: Wait>(rt: &R, domain: &Domain, task: &mut Task, amount: u64)
+    requires of { task.old.domain ≡ domain.now }
+    requires clean { IsClean task.old }
+    ensures of { task.new.domain ≡ domain.now }
+    ensures clean { IsClean task.new }
+{
+    for _ in rt.forever() {
+        if lock(domain, task, PAGE, 0) {
+            add(domain, task, PAGE, amount);
+            unlock(rt, domain, task, PAGE, 0);
+            return;
+        }
+        thread::yield_now();
+    }
+    unreachable!()
+}
+
+/// The same again and again.
+fn add_often<R: Wait>(rt: &R, domain: &Domain, mut task: Task, amount: u64) -> Task
+    requires of { task.domain ≡ domain.now }
+    requires clean { IsClean task }
+    ensures of { result.domain ≡ domain.now }
+    ensures clean { IsClean result }
+{
+    for _ in 0..ADDS {
+        add_once(rt, domain, &mut task, amount);
+    }
+    task
+}
+
+/// Two tasks, each in a thread of its own.
+fn add_both<R: Threads + Wait + Sync>(
+    rt: &R,
+    domain: &Domain,
+    one: Task,
+    other: Task,
+) -> (Task, Task)
+    requires of { (one.domain ≡ domain.now) × (other.domain ≡ domain.now) }
+    requires clean { IsClean one × IsClean other }
+    ensures of { (result.0.domain ≡ domain.now) × (result.1.domain ≡ domain.now) }
+    ensures clean { IsClean result.0 × IsClean result.1 }
+{
+    thread::join(
+        rt,
+        move || -> Task
+            requires { (one.domain ≡ domain.now) × IsClean one }
+            ensures { (result.domain ≡ domain.entry.now) × IsClean result }
+        { add_often(rt, domain, one, FIRST) },
+        move || -> Task
+            requires { (other.domain ≡ domain.now) × IsClean other }
+            ensures { (result.domain ≡ domain.entry.now) × IsClean result }
+        { add_often(rt, domain, other, SECOND) },
+    )
+}
+
+/// Whatever the order of the steps, the tally is in the end what both have added, modulo 2^64.
+#[test]
+fn two_add_to_one_tally(rt: HostRuntime) -> Result<(), Fail> {
+    for _round in 0..ROUNDS {
+        let (domain, mut task) = Domain::with_looks(rt.alloc(), 0)?;
+        let Ok(other) = task.fork(&domain, 0) else {
+            panic!(rt; "numbers are spare")
+        };
+        let (mut task, other) = add_both(&rt, &domain, task, other);
+        task.join(&domain, other);
+        if !lock(&domain, &mut task, PAGE, 0) {
+            panic!(rt; "each has given the page back")
+        }
+        assert_eq!(rt; add(&domain, &mut task, PAGE, 0), 100);
+    }
+    Ok(())
+}

@@ -1,0 +1,35 @@
+//! One task alone: each call once, with what it answers where nobody else is there.
+
+use crate::completions::calls::{complete, complete_all, is_done, reinit, try_wait, wait_for};
+use std::test::Fail;
+use wait_model::tasks::SleepState;
+use wait_rule::Domain;
+
+/// The completion of the tests.
+const CELL: u8 = 1;
+
+/// What one task completes, it takes without a sleep, and nothing is left of it.
+#[test]
+fn one_is_taken(rt: HostRuntime) -> Result<(), Fail> {
+    let (domain, mut task) = Domain::new(rt.alloc())?;
+    complete(&rt, &domain, &mut task, CELL);
+    assert!(rt; wait_for(&rt, &domain, &mut task, CELL, SleepState::Interruptible));
+    assert!(rt; !try_wait(&rt, &domain, &mut task, CELL));
+    assert!(rt; !is_done(&rt, &domain, &mut task, CELL));
+    Ok(())
+}
+
+/// A completion that is done for all stays done, whoever takes of it, until it is cleared.
+#[test]
+fn all_stay_done(rt: HostRuntime) -> Result<(), Fail> {
+    let (domain, mut task) = Domain::new(rt.alloc())?;
+    complete_all(&rt, &domain, &mut task, CELL);
+    complete(&rt, &domain, &mut task, CELL);
+    assert!(rt; is_done(&rt, &domain, &mut task, CELL));
+    assert!(rt; try_wait(&rt, &domain, &mut task, CELL));
+    assert!(rt; is_done(&rt, &domain, &mut task, CELL));
+    reinit(&rt, &domain, &mut task, CELL);
+    assert!(rt; !is_done(&rt, &domain, &mut task, CELL));
+    assert!(rt; !try_wait(&rt, &domain, &mut task, CELL));
+    Ok(())
+}

@@ -1,0 +1,143 @@
+//! Calls by stretches, by who waits for no lock.
+
+ghost use Rattle.std.specs.Prelude.{◌≡◌};
+ghost use Rattle.wait_tests.specs.CompletionTasks.{IsAwaiting, IsReadyToWait, MayComplete};
+
+use crate::completions::stretches::{CELL, go_on};
+use completion_cell::await_calls::{begin_await, end_of};
+use completion_cell::awaits::{AwaitRun, AwaitStage, AwaitTurn};
+use completion_cell::cell_turns::{CellCall, CellRun, CellStage, CellTurn, cell_stretch};
+use std::process::Abort;
+use std::test::Fail;
+use wait_model::heads::head_of;
+use wait_model::tasks::SleepState;
+use wait_model::watches::Watch;
+use wait_rule::{Domain, Task};
+use wq_head::{Rousing, draw_lock};
+
+/// More stretches than a wait has that nobody keeps waiting.
+const OFTEN: u32 = 20;
+
+/// Makes a call by one stretch: its answer.
+fn call_at_once<R: Abort>(rt: &R, domain: &Domain, task: &mut Task, call: CellCall) -> bool
+    requires of { task.old.domain ≡ domain.now }
+    requires may { MayComplete task.old }
+    ensures of { task.new.domain ≡ domain.now }
+    ensures may { MayComplete task.new }
+{
+    let mut rousing = Rousing::new();
+    let mut run = CellRun::new(call, CELL);
+    let first = CellStage::First;
+    let CellTurn::Done(yes) = cell_stretch(domain, task, &mut run, first, &mut rousing) else {
+        panic!(rt; "nobody holds the lock")
+    };
+    yes
+}
+
+/// A count is there after `complete` and gone after `reinit`, and stays after `complete_all`.
+#[test]
+fn each_call_ends_by_one_stretch(rt: HostRuntime) -> Result<(), Fail> {
+    let (domain, mut task) = Domain::new(rt.alloc())?;
+    assert!(rt; !call_at_once(&rt, &domain, &mut task, CellCall::IsDone));
+    assert!(rt; !call_at_once(&rt, &domain, &mut task, CellCall::TryWait));
+    call_at_once(&rt, &domain, &mut task, CellCall::Complete);
+    assert!(rt; call_at_once(&rt, &domain, &mut task, CellCall::IsDone));
+    assert!(rt; call_at_once(&rt, &domain, &mut task, CellCall::TryWait));
+    assert!(rt; !call_at_once(&rt, &domain, &mut task, CellCall::TryWait));
+    call_at_once(&rt, &domain, &mut task, CellCall::CompleteAll);
+    assert!(rt; call_at_once(&rt, &domain, &mut task, CellCall::TryWait));
+    assert!(rt; call_at_once(&rt, &domain, &mut task, CellCall::TryWait));
+    call_at_once(&rt, &domain, &mut task, CellCall::Reinit);
+    assert!(rt; !call_at_once(&rt, &domain, &mut task, CellCall::IsDone));
+    Ok(())
+}
+
+/// A task draws its ticket after another one, and completes after it.
+fn complete_in_turn<R: Abort>(rt: &R, domain: &Domain, task: &mut Task, other: &mut Task)
+    requires of { (task.old.domain ≡ domain.now) × (other.old.domain ≡ domain.now) }
+    requires may { MayComplete task.old }
+    requires other { MayComplete other.old }
+{
+    let mut rousing = Rousing::new();
+    other.told();
+    let mut before = CellRun::new(CellCall::Complete, CELL);
+    before.ticket = draw_lock(domain, other, head_of(Watch::Done { cell: CELL }));
+    let mut run = CellRun::new(CellCall::Complete, CELL);
+    let first = CellStage::First;
+    let CellTurn::Locked = cell_stretch(domain, task, &mut run, first, &mut rousing) else {
+        panic!(rt; "the other ticket is served")
+    };
+    rousing.clear();
+    let next = CellStage::Turn;
+    let CellTurn::Done(_) = cell_stretch(domain, other, &mut before, next, &mut rousing) else {
+        panic!(rt; "it is its turn")
+    };
+    rousing.clear();
+    let CellTurn::Done(_) = cell_stretch(domain, task, &mut run, next, &mut rousing) else {
+        panic!(rt; "nobody holds the lock")
+    };
+    assert_eq!(rt; rousing.tasks().len(), 0);
+}
+
+/// A call goes on once its own ticket is served.
+#[test]
+fn call_waits_for_its_turn(rt: HostRuntime) -> Result<(), Fail> {
+    let (domain, mut task) = Domain::new(rt.alloc())?;
+    let Ok(mut other) = task.fork(&domain, 0) else {
+        panic!(rt; "a number is spare")
+    };
+    complete_in_turn(&rt, &domain, &mut task, &mut other);
+    Ok(())
+}
+
+/// Goes on with a wait until it sleeps or is over, where nobody else goes on.
+fn go_often(domain: &Domain, task: &mut Task, run: &mut AwaitRun, last: AwaitTurn) -> AwaitTurn
+    requires of { task.old.domain ≡ domain.now }
+    requires waiting { IsAwaiting task.old run.old last }
+    ensures of { task.new.domain ≡ domain.now }
+    ensures waiting { IsAwaiting task.new run.new result }
+{
+    let mut at = last;
+    for _ in 0..OFTEN {
+        at = go_on(domain, task, run, at);
+    }
+    at
+}
+
+/// A stretch completes: it names the waiter, which slept, and the wait takes the one then.
+fn complete_for_sleeper<R: Abort>(rt: &R, domain: &Domain, task: &mut Task, waiter: &mut Task)
+    requires of { (task.old.domain ≡ domain.now) × (waiter.old.domain ≡ domain.now) }
+    requires may { MayComplete task.old }
+    requires waiter { IsReadyToWait waiter.old }
+{
+    let mut wait = begin_await(waiter, CELL, SleepState::Uninterruptible);
+    let asleep = go_often(
+        domain,
+        waiter,
+        &mut wait,
+        AwaitTurn::Again(AwaitStage::First),
+    );
+    assert!(rt; matches!(asleep, AwaitTurn::Asleep(_)));
+    let mut rousing = Rousing::new();
+    let mut run = CellRun::new(CellCall::Complete, CELL);
+    let first = CellStage::First;
+    let CellTurn::Done(_) = cell_stretch(domain, task, &mut run, first, &mut rousing) else {
+        panic!(rt; "nobody holds the lock")
+    };
+    assert_eq!(rt; rousing.tasks(), [waiter.number()].as_slice());
+    let AwaitTurn::Done(outcome) = go_often(domain, waiter, &mut wait, asleep) else {
+        panic!(rt; "it was completed")
+    };
+    assert!(rt; end_of(wait, outcome).is_ok());
+}
+
+/// Whom a stretch has woken is for the caller to rouse.
+#[test]
+fn stretch_names_who_slept(rt: HostRuntime) -> Result<(), Fail> {
+    let (domain, mut task) = Domain::new(rt.alloc())?;
+    let Ok(mut waiter) = task.fork(&domain, 0) else {
+        panic!(rt; "a number is spare")
+    };
+    complete_for_sleeper(&rt, &domain, &mut task, &mut waiter);
+    Ok(())
+}

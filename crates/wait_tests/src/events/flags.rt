@@ -1,0 +1,178 @@
+//! A task that waits by the flag of an entry: alone, and in threads again and again, in Domains whose tasks park at
+//! once when they are put asleep.
+
+ghost use Rattle.std.specs.Prelude.{◌≡◌, MatchBool, None};
+ghost use Rattle.wait_rule.specs.Says.{IsClean, told_of};
+ghost use Rattle.wait_tests.specs.EventTasks.{IsCleanHearer, IsHearer};
+
+use std::sync::Wait;
+use std::test::Fail;
+use std::thread;
+use std::thread::Threads;
+use wait_event::conds::set_and_wake;
+use wait_event::entries::{add_entry, remove_entry};
+use wait_event::woken_waits::wait_woken;
+use wait_model::queues::{End, Form, Walked};
+use wait_model::tasks::SleepState;
+use wait_model::watches::{Kind, Mode, Watch};
+use wait_rule::queues::cond_load;
+use wait_rule::{Domain, Task};
+use wq_head::wakes::wake;
+
+/// How many rounds the test with threads makes.
+const ROUNDS: u32 = 300;
+
+/// The condition that is waited for.
+const WATCH: Watch = Watch::Plain { cond: 0 };
+
+/// Queues an entry of kind Woken: true where there was a place for it.
+pub(crate) fn enter<R: Wait>(rt: &R, domain: &Domain, task: &mut Task) -> bool
+    requires of { task.old.domain ≡ domain.now }
+    requires clean { IsClean task.old }
+    ensures of { task.new.domain ≡ domain.now }
+    ensures entered { MatchBool result (IsCleanHearer task.new) (IsClean task.new) }
+    ensures unmarked { (told_of task.new).mark ≡ None }
+{
+    match add_entry(rt, domain, task, 0, Kind::Woken, Form::Front) {
+        Ok(()) => true,
+        Err(_worn) => false,
+    }
+}
+
+/// Whether the condition is set.
+pub(crate) fn is_set(domain: &Domain, task: &mut Task) -> bool
+    requires of { task.old.domain ≡ domain.now }
+    requires hearer { IsHearer task.old }
+    ensures of { task.new.domain ≡ domain.now }
+    ensures hearer { IsHearer task.new }
+    ensures clean { IsCleanHearer task.old → IsCleanHearer task.new }
+{
+    cond_load(domain, task, WATCH) != 0
+}
+
+/// Waits for the flag once.
+fn hear<R: Wait>(rt: &R, domain: &Domain, task: &mut Task)
+    requires of { task.old.domain ≡ domain.now }
+    requires hearer { IsCleanHearer task.old }
+    ensures of { task.new.domain ≡ domain.now }
+    ensures hearer { IsCleanHearer task.new }
+{
+    wait_woken(rt, domain, task, SleepState::Interruptible);
+}
+
+/// Takes the entry off.
+fn leave<R: Wait>(rt: &R, domain: &Domain, task: &mut Task)
+    requires of { task.old.domain ≡ domain.now }
+    requires hearer { IsCleanHearer task.old }
+    ensures of { task.new.domain ≡ domain.now }
+    ensures clean { IsClean task.new }
+{
+    remove_entry(rt, domain, task);
+}
+
+/// Wakes all who wait for the condition, which sets the flag of the own entry.
+fn wake_all<R: Wait>(rt: &R, domain: &Domain, task: &mut Task) -> Walked
+    requires of { task.old.domain ≡ domain.now }
+    requires hearer { IsHearer task.old }
+    requires unmarked { (told_of task.old).mark ≡ None }
+    ensures of { task.new.domain ≡ domain.now }
+    ensures hearer { IsHearer task.new }
+{
+    wake(rt, domain, task, WATCH, Mode::Normal, 0)
+}
+
+/// Waits for the flag, which is set, and takes the entry off.
+fn hear_and_leave<R: Wait>(rt: &R, domain: &Domain, task: &mut Task)
+    requires of { task.old.domain ≡ domain.now }
+    requires hearer { IsHearer task.old }
+{
+    wait_woken(rt, domain, task, SleepState::Interruptible);
+    remove_entry(rt, domain, task);
+}
+
+/// A wake that comes before the wait sets the flag, though the task is not asleep: so the wait does not sleep.
+#[test]
+fn woken_before_the_sleep(rt: HostRuntime) -> Result<(), Fail> {
+    let (domain, mut task) = Domain::new(rt.alloc())?;
+    if enter(&rt, &domain, &mut task) {
+        let walked = wake_all(&rt, &domain, &mut task);
+        assert_eq!(rt; walked.selected, 0);
+        assert_eq!(rt; walked.woken, 0);
+        assert_eq!(rt; walked.holds, 1);
+        assert!(rt; matches!(walked.end, End::End));
+        hear_and_leave(&rt, &domain, &mut task);
+        return Ok(());
+    }
+    panic!(rt; "the queue is empty")
+}
+
+/// Waits for the condition by the flag of an entry, and gives the task back: true where there was a place for it.
+fn hear_once<R: Wait>(rt: &R, domain: &Domain, mut task: Task) -> (Task, bool)
+    requires of { task.domain ≡ domain.now }
+    requires clean { IsClean task }
+    ensures of { result.0.domain ≡ domain.now }
+    ensures clean { IsClean result.0 }
+{
+    if !enter(rt, domain, &mut task) {
+        return (task, false);
+    }
+    for _ in rt.forever() {
+        if is_set(domain, &mut task) {
+            leave(rt, domain, &mut task);
+            return (task, true);
+        }
+        hear(rt, domain, &mut task);
+    }
+    unreachable!()
+}
+
+/// Sets the condition, and gives the task back.
+fn set_once<R: Wait>(rt: &R, domain: &Domain, mut task: Task) -> Task
+    requires of { task.domain ≡ domain.now }
+    requires clean { IsClean task }
+    ensures of { result.domain ≡ domain.now }
+    ensures clean { IsClean result }
+{
+    set_and_wake(rt, domain, &mut task, 0, 1, Mode::Normal, 0);
+    task
+}
+
+/// A wait and a waker, each in a thread of its own.
+fn meet<R: Threads + Wait + Sync>(
+    rt: &R,
+    domain: &Domain,
+    waker: Task,
+    hearer: Task,
+) -> (Task, (Task, bool))
+    requires of { (waker.domain ≡ domain.now) × (hearer.domain ≡ domain.now) }
+    requires clean { IsClean waker × IsClean hearer }
+    ensures of { (result.0.domain ≡ domain.now) × (result.1.0.domain ≡ domain.now) }
+    ensures clean { IsClean result.0 × IsClean result.1.0 }
+{
+    thread::join(
+        rt,
+        move || -> Task
+            requires { (waker.domain ≡ domain.now) × IsClean waker }
+            ensures { (result.domain ≡ domain.entry.now) × IsClean result }
+        { set_once(rt, domain, waker) },
+        move || -> (Task, bool)
+            requires { (hearer.domain ≡ domain.now) × IsClean hearer }
+            ensures { (result.0.domain ≡ domain.entry.now) × IsClean result.0 }
+        { hear_once(rt, domain, hearer) },
+    )
+}
+
+/// Whatever the order of the steps, the wait ends, and the waker takes its task in.
+#[test]
+fn hearers_are_joined(rt: HostRuntime) -> Result<(), Fail> {
+    for _round in 0..ROUNDS {
+        let (domain, mut task) = Domain::with_looks(rt.alloc(), 0)?;
+        let Ok(hearer) = task.fork(&domain, 0) else {
+            panic!(rt; "a number is spare")
+        };
+        let (mut task, (hearer, heard)) = meet(&rt, &domain, task, hearer);
+        assert!(rt; heard);
+        task.join(&domain, hearer);
+    }
+    Ok(())
+}

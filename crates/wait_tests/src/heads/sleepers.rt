@@ -1,0 +1,231 @@
+//! Three tasks that sleep until a condition is set, and one that sets it, each in a thread of its own; again and again,
+//! in Domains whose tasks park at once when they are put asleep.
+
+ghost use Rattle.std.specs.Prelude.{◌≡◌, ◌<◌, ◌≤◌};
+ghost use Rattle.wq_head.specs.Readied.{IsAtRest, IsReady, IsUpAndFree};
+
+use crate::heads::waiting::{count_members, leave, queue_own};
+use std::process::Abort;
+use std::sync::Wait;
+use std::test::Fail;
+use std::thread;
+use std::thread::Threads;
+use wait_model::layout::{RUNNING, UNINTERRUPTIBLE};
+use wait_model::queues::Walked;
+use wait_model::watches::{Kind, Mode, Watch};
+use wait_rule::queues::{cond_load, entry_load, publish};
+use wait_rule::tasks::set_state;
+use wait_rule::{Domain, Task, schedule};
+use wq_head::wakes::wake;
+
+/// How many rounds each test makes.
+const ROUNDS: u32 = 300;
+
+/// Sleeps where the condition is not set yet.
+fn sleep_unless_set<R: Wait>(rt: &R, domain: &Domain, task: &mut Task)
+    requires of { task.old.domain ≡ domain.now }
+    requires there { IsUpAndFree task.old }
+    ensures of { task.new.domain ≡ domain.now }
+    ensures there { IsUpAndFree task.new }
+{
+    if cond_load(domain, task, Watch::Plain { cond: 0 }) == 0 {
+        schedule(rt, domain, task);
+    }
+}
+
+/// Waits once for the condition. True where its entry was still queued then: no wake has taken it off.
+fn wait_once<R: Wait>(rt: &R, domain: &Domain, mut task: Task) -> bool
+    requires of { task.domain ≡ domain.now }
+    requires ready { IsReady task }
+{
+    if !queue_own(
+        rt,
+        domain,
+        &mut task,
+        Kind::Autoremove,
+        false,
+        UNINTERRUPTIBLE,
+    ) {
+        return true;
+    }
+    sleep_unless_set(rt, domain, &mut task);
+    set_state(domain, &mut task, RUNNING);
+    leave(rt, domain, &mut task)
+}
+
+/// Looks at an entry word of another task, outside of a hold: true where it is queued.
+pub(crate) fn sees_queued(domain: &Domain, task: &mut Task, who: u8) -> bool
+    requires of { task.old.domain ≡ domain.now }
+    requires rests { IsAtRest task.old }
+    ensures of { task.new.domain ≡ domain.now }
+    ensures rests { IsAtRest task.new }
+{
+    entry_load(domain, task, who, 0).queued()
+}
+
+/// Looks until the entries of tasks 1 to 3 are all queued, so often at most.
+fn look_for_three(domain: &Domain, task: &mut Task, looks: u32)
+    requires of { task.old.domain ≡ domain.now }
+    requires rests { IsAtRest task.old }
+    ensures of { task.new.domain ≡ domain.now }
+    ensures rests { IsAtRest task.new }
+{
+    for _ in 0..looks {
+        let one = sees_queued(domain, task, 1);
+        let two = sees_queued(domain, task, 2);
+        let three = sees_queued(domain, task, 3);
+        if one && two && three {
+            return;
+        }
+        thread::yield_now();
+    }
+}
+
+/// Lets other threads run.
+fn yield_often(count: u32) {
+    for _ in 0..count {
+        thread::yield_now();
+    }
+}
+
+/// Sets the condition and wakes all who wait for it, after so many looks at their entries at most, and then so many
+/// yields.
+fn set_and_wake<R: Wait>(rt: &R, domain: &Domain, mut task: Task, looks: u32, yields: u32) -> Walked
+    requires of { task.domain ≡ domain.now }
+    requires rests { IsAtRest task }
+{
+    let watch = Watch::Plain { cond: 0 };
+    look_for_three(domain, &mut task, looks);
+    yield_often(yields);
+    publish(domain, &mut task, watch, 1);
+    wake(rt, domain, &mut task, watch, Mode::Normal, 0)
+}
+
+/// How many of three are true.
+fn count(one: bool, two: bool, three: bool) -> u32
+    ensures { result ≤ 3 }
+{
+    u32::from(one) + u32::from(two) + u32::from(three)
+}
+
+/// Two waits, each in a thread of its own.
+fn two_wait<R: Threads + Wait + Sync>(
+    rt: &R,
+    domain: &Domain,
+    second: Task,
+    third: Task,
+) -> (bool, bool)
+    requires of { (second.domain ≡ domain.now) × (third.domain ≡ domain.now) }
+    requires ready { IsReady second × IsReady third }
+{
+    thread::join(
+        rt,
+        move || -> bool
+            requires { (second.domain ≡ domain.now) × IsReady second }
+        { wait_once(rt, domain, second) },
+        move || -> bool
+            requires { (third.domain ≡ domain.now) × IsReady third }
+        { wait_once(rt, domain, third) },
+    )
+}
+
+/// Three waits, each in a thread of its own: how many entries no wake has taken off.
+fn three_wait<R: Threads + Wait + Sync>(
+    rt: &R,
+    domain: &Domain,
+    first: Task,
+    second: Task,
+    third: Task,
+) -> u32
+    requires of { (first.domain ≡ domain.now) × (second.domain ≡ domain.now) × (third.domain ≡ domain.now) }
+    requires ready { IsReady first × IsReady second × IsReady third }
+    ensures { result ≤ 3 }
+{
+    let (one, (two, three)) = thread::join(
+        rt,
+        move || -> bool
+            requires { (first.domain ≡ domain.now) × IsReady first }
+        { wait_once(rt, domain, first) },
+        move || -> (bool, bool)
+            requires { (second.domain ≡ domain.now) × IsReady second × (third.domain ≡ domain.now) × IsReady third }
+        { two_wait(rt, domain, second, third) },
+    );
+    count(one, two, three)
+}
+
+/// Three tasks wait, and a fourth one sets the condition and wakes them, each in a thread of its own: what the wake
+/// did, and how many entries it has not taken off.
+fn meet<R: Threads + Wait + Sync>(
+    rt: &R,
+    domain: &Domain,
+    waker: Task,
+    first: Task,
+    second: Task,
+    third: Task,
+    looks: u32,
+    yields: u32,
+) -> (Walked, u32)
+    requires of { (waker.domain ≡ domain.now) × (first.domain ≡ domain.now) × (second.domain ≡ domain.now)
+        × (third.domain ≡ domain.now) }
+    requires rests { IsAtRest waker }
+    requires ready { IsReady first × IsReady second × IsReady third }
+    ensures { result.1 ≤ 3 }
+{
+    thread::join(
+        rt,
+        move || -> Walked
+            requires { (waker.domain ≡ domain.now) × IsAtRest waker }
+        { set_and_wake(rt, domain, waker, looks, yields) },
+        move || -> u32
+            requires of { (first.domain ≡ domain.now) × (second.domain ≡ domain.now) × (third.domain ≡ domain.now) }
+            requires ready { IsReady first × IsReady second × IsReady third }
+            ensures { result ≤ 3 }
+        { three_wait(rt, domain, first, second, third) },
+    )
+}
+
+/// Each entry is taken off by the wake that woke its task, or by its task: whatever the order of the steps, no wakeup
+/// is lost, and no entry and no bookmark is left anywhere.
+fn walk_over_three<R: Abort + Threads + Wait + Sync>(
+    rt: &R,
+    domain: &Domain,
+    mut task: Task,
+    looks: u32,
+    yields: u32,
+)
+    requires of { task.domain ≡ domain.now }
+    requires ready { IsReady task }
+{
+    let (Ok(first), Ok(second)) = (task.fork(domain, 0), task.fork(domain, 0)) else {
+        panic!(rt; "numbers are spare")
+    };
+    let (Ok(third), Ok(mut last)) = (task.fork(domain, 0), task.fork(domain, 0)) else {
+        panic!(rt; "numbers are spare")
+    };
+    let (walked, left) = meet(rt, domain, task, first, second, third, looks, yields);
+    assert!(rt; walked.woken <= 3);
+    assert_eq!(rt; walked.woken + left, 3);
+    let (entries, marks) = count_members(domain, &mut last);
+    assert_eq!(rt; entries, 0);
+    assert_eq!(rt; marks, 0);
+}
+
+/// The condition is set at once, which may be before the tasks wait for it, while they do, or when they sleep.
+#[test]
+fn walk_over_arrivals(rt: HostRuntime) -> Result<(), Fail> {
+    for round in 0..ROUNDS {
+        let (domain, task) = Domain::with_looks(rt.alloc(), 0)?;
+        walk_over_three(&rt, &domain, task, 0, round % 100);
+    }
+    Ok(())
+}
+
+/// The condition is set once all are queued, or after many looks: while they go to sleep, or when they sleep.
+#[test]
+fn walk_over_sleepers(rt: HostRuntime) -> Result<(), Fail> {
+    for round in 0..ROUNDS {
+        let (domain, task) = Domain::with_looks(rt.alloc(), 0)?;
+        walk_over_three(&rt, &domain, task, 100_000, round % 20);
+    }
+    Ok(())
+}

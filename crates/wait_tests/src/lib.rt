@@ -1,0 +1,28 @@
+//! The tests of the crates of heads, waits and wakes: a module for each crate. They use its public calls alone, so that
+//! those crates, which have no tests of their own, are proved once. This crate has nothing but tests.
+#![tactic(auto)]
+
+#[cfg(test)]
+mod bits;
+#[cfg(test)]
+mod checked;
+#[cfg(test)]
+mod completions;
+#[cfg(test)]
+mod events;
+#[cfg(test)]
+mod heads;
+#[cfg(test)]
+mod pages;
+#[cfg(test)]
+mod pipes;
+#[cfg(test)]
+mod simple_queues;
+#[cfg(test)]
+mod steps;
+#[cfg(test)]
+mod users;
+#[cfg(test)]
+mod variables;
+#[cfg(test)]
+mod words;

@@ -1,0 +1,76 @@
+//! A wait for a page and the task that gives it back on one thread, which goes on with one of them at a time.
+
+ghost use Rattle.std.specs.Prelude.{◌≡◌};
+ghost use Rattle.wait_model.specs.declared.watches.Watch.TheVariants as watch;
+ghost use Rattle.wait_rule.specs.Says.{IsClean};
+ghost use Rattle.bit_wait.specs.Holders.{IsHolder};
+ghost use Rattle.wait_tests.specs.PageTasks.{IsLocking};
+
+use crate::pages::alone::{give, take};
+use page_lock::wait_calls::{begin_page, stretch_page, woke_page};
+use page_lock::waits::{PageOutcome, PageRun, PageStage, PageTurn};
+use std::sync::Wait;
+use std::test::Fail;
+use wait_model::tasks::SleepState;
+use wait_rule::{Domain, Task};
+
+/// How many turns the wait has at most before the page is given back, and how many after it.
+const BEFORE: u32 = 24;
+
+const AFTER: u32 = 40;
+
+/// Goes on with a wait by one stretch, or looks whether it was woken.
+fn go_on(domain: &Domain, task: &mut Task, run: &mut PageRun, last: PageTurn) -> PageTurn
+    requires of { task.old.domain ≡ domain.now }
+    requires waiting { IsLocking task.old run.old last }
+    ensures of { task.new.domain ≡ domain.now }
+    ensures waiting { IsLocking task.new run.new result }
+{
+    match last {
+        PageTurn::Again(stage) => stretch_page(domain, task, run, stage),
+        PageTurn::Locked(stage) => stretch_page(domain, task, run, stage),
+        PageTurn::Asleep(stage) => {
+            if woke_page(domain, task, run, stage) {
+                PageTurn::Again(stage)
+            } else {
+                PageTurn::Asleep(stage)
+            }
+        }
+        PageTurn::Done(outcome) => PageTurn::Done(outcome),
+    }
+}
+
+/// Plays one order, by how many turns the wait has before the page is given back: whether it ended with the page taken,
+/// so that nobody else can take it.
+fn play<R: Wait>(rt: &R, domain: &Domain, holder: &mut Task, waiter: &mut Task, turns: u32) -> bool
+    requires of { (holder.old.domain ≡ domain.now) × (waiter.old.domain ≡ domain.now) }
+    requires holder { IsHolder holder.old (watch.Bit 0 0) }
+    requires waiter { IsClean waiter.old }
+{
+    let mut run = begin_page(waiter, 0, SleepState::Uninterruptible);
+    let mut at = PageTurn::Again(PageStage::First);
+    for _ in 0..turns {
+        at = go_on(domain, waiter, &mut run, at);
+    }
+    give(rt, domain, holder, 0);
+    for _ in 0..AFTER {
+        at = go_on(domain, waiter, &mut run, at);
+    }
+    matches!(at, PageTurn::Done(PageOutcome::Over))
+}
+
+/// Wherever the wait is when the page is given back, it has the page in the end: it took it itself, or was handed it.
+#[test]
+fn waits_take_the_page_in_each_order(rt: HostRuntime) -> Result<(), Fail> {
+    for turns in 0..BEFORE {
+        let (domain, mut holder) = Domain::new(rt.alloc())?;
+        let Ok(mut waiter) = holder.fork(&domain, 0) else {
+            panic!(rt; "numbers are spare")
+        };
+        if !take(&rt, &domain, &mut holder, 0) {
+            panic!(rt; "the page is clear")
+        }
+        assert!(rt; play(&rt, &domain, &mut holder, &mut waiter, turns));
+    }
+    Ok(())
+}

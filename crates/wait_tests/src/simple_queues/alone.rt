@@ -1,0 +1,94 @@
+//! One task alone: its wakes find nobody, and its wait ends at its first look.
+
+ghost use Rattle.std.specs.Prelude.{◌≡◌};
+ghost use Rattle.wait_rule.specs.Says.{IsClean};
+
+use std::sync::Wait;
+use std::test::Fail;
+use swait_queue::waits::swait_event;
+use swait_queue::wakes::{swake_all, swake_all_locked, swake_locked, swake_one};
+use wait_model::layout::{FIRST_SIMPLE, FIRST_SIMPLE_HEAD};
+use wait_model::tasks::SleepState;
+use wait_model::watches::Watch;
+use wait_rule::queues::publish;
+use wait_rule::{Domain, Task};
+use wq_head::{lock, unlock};
+
+/// The first condition with a simple head, and that head.
+const COND: u8 = FIRST_SIMPLE as u8;
+
+const HEAD: u16 = FIRST_SIMPLE_HEAD;
+
+/// Wakes in a hold of the head: how many the two calls selected.
+fn wake_in_hold<R: Wait>(rt: &R, domain: &Domain, task: &mut Task) -> (bool, u32)
+    requires of { task.old.domain ≡ domain.now }
+    requires clean { IsClean task.old }
+    ensures of { task.new.domain ≡ domain.now }
+    ensures clean { IsClean task.new }
+{
+    lock(rt, domain, task, HEAD);
+    let one = swake_locked(rt, domain, task, HEAD);
+    let all = swake_all_locked(rt, domain, task, HEAD);
+    unlock(rt, domain, task, false);
+    (one, all)
+}
+
+/// Sets the condition, and wakes all who wait for it.
+pub(crate) fn set_and_swake<R: Wait>(rt: &R, domain: &Domain, task: &mut Task) -> u32
+    requires of { task.old.domain ≡ domain.now }
+    requires clean { IsClean task.old }
+    ensures of { task.new.domain ≡ domain.now }
+    ensures clean { IsClean task.new }
+{
+    publish(domain, task, Watch::Plain { cond: COND }, 1);
+    swake_all(rt, domain, task, COND)
+}
+
+/// Sets the condition, and wakes the first who waits for it: whether there was one.
+pub(crate) fn set_and_swake_one<R: Wait>(rt: &R, domain: &Domain, task: &mut Task) -> bool
+    requires of { task.old.domain ≡ domain.now }
+    requires clean { IsClean task.old }
+    ensures of { task.new.domain ≡ domain.now }
+    ensures clean { IsClean task.new }
+{
+    publish(domain, task, Watch::Plain { cond: COND }, 1);
+    swake_one(rt, domain, task, COND)
+}
+
+/// Wakes with nothing set before: whether there was a first one, and how many there were then.
+fn wake_unset<R: Wait>(rt: &R, domain: &Domain, task: &mut Task) -> (bool, u32)
+    requires of { task.old.domain ≡ domain.now }
+    requires clean { IsClean task.old }
+    ensures of { task.new.domain ≡ domain.now }
+    ensures clean { IsClean task.new }
+{
+    let one = swake_one(rt, domain, task, COND);
+    let all = swake_all(rt, domain, task, COND);
+    (one, all)
+}
+
+/// Who wakes with nothing set finds nobody, and owes nothing after it: the task is taken in.
+#[test]
+fn wakes_of_an_empty_queue(rt: HostRuntime) -> Result<(), Fail> {
+    let (domain, mut task) = Domain::new(rt.alloc())?;
+    let Ok(mut other) = task.fork(&domain, 0) else {
+        panic!(rt; "a number is spare")
+    };
+    let (one, all) = wake_unset(&rt, &domain, &mut other);
+    assert!(rt; !one);
+    assert_eq!(rt; all, 0);
+    let (one, all) = wake_in_hold(&rt, &domain, &mut other);
+    assert!(rt; !one);
+    assert_eq!(rt; all, 0);
+    task.join(&domain, other);
+    Ok(())
+}
+
+/// A condition that is set before the wait: nobody is woken, and the wait ends at its first look.
+#[test]
+fn set_before_the_wait(rt: HostRuntime) -> Result<(), Fail> {
+    let (domain, mut task) = Domain::new(rt.alloc())?;
+    assert_eq!(rt; set_and_swake(&rt, &domain, &mut task), 0);
+    assert!(rt; swait_event(&rt, &domain, &mut task, COND, SleepState::Uninterruptible).is_ok());
+    Ok(())
+}

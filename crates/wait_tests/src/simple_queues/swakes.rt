@@ -1,0 +1,93 @@
+//! Wakes by stretches, by who waits for no lock.
+
+ghost use Rattle.std.specs.Prelude.{◌≡◌};
+ghost use Rattle.wait_tests.specs.EventTasks.{IsReadyToWait, IsWaiting, IsWaker};
+
+use crate::simple_queues::stretches::{COND, go_on, is_over};
+use std::process::Abort;
+use std::test::Fail;
+use swait_queue::swake_turns::{SwakeRun, SwakeStage, SwakeTurn, swake_stretch};
+use swait_queue::waits::begin_swait;
+use wait_event::waits::{WaitRun, WaitStage, WaitTurn};
+use wait_model::layout::FIRST_SIMPLE_HEAD;
+use wait_model::tasks::SleepState;
+use wait_model::watches::Watch;
+use wait_rule::queues::publish;
+use wait_rule::{Domain, Task};
+use wq_head::{Rousing, lock, unlock};
+
+/// More stretches than a wait has that nobody keeps waiting.
+const OFTEN: u32 = 20;
+
+/// While another task holds the lock the wake makes no hold, and when that is given back it makes one.
+#[test]
+fn wake_waits_for_its_turn(rt: HostRuntime) -> Result<(), Fail> {
+    let (domain, mut task) = Domain::new(rt.alloc())?;
+    let Ok(mut other) = task.fork(&domain, 0) else {
+        panic!(rt; "a number is spare")
+    };
+    lock(&rt, &domain, &mut other, FIRST_SIMPLE_HEAD);
+    let mut rousing = Rousing::new();
+    let mut run = SwakeRun::new(COND, true);
+    let first = SwakeStage::First;
+    let SwakeTurn::Locked = swake_stretch(&domain, &mut task, &mut run, first, &mut rousing) else {
+        panic!(rt; "the other task holds the lock")
+    };
+    unlock(&rt, &domain, &mut other, false);
+    rousing.clear();
+    let next = SwakeStage::Turn;
+    let SwakeTurn::Done(selected) = swake_stretch(&domain, &mut task, &mut run, next, &mut rousing)
+    else {
+        panic!(rt; "nobody holds the lock")
+    };
+    assert_eq!(rt; selected, 0);
+    Ok(())
+}
+
+/// Goes on with a wait until it sleeps or is over, where nobody else goes on.
+fn go_often(domain: &Domain, task: &mut Task, run: &mut WaitRun, last: WaitTurn) -> WaitTurn
+    requires of { task.old.domain ≡ domain.now }
+    requires waiting { IsWaiting task.old run.old last }
+    ensures of { task.new.domain ≡ domain.now }
+    ensures waiting { IsWaiting task.new run.new result }
+{
+    let mut at = last;
+    for _ in 0..OFTEN {
+        at = go_on(domain, task, run, at);
+    }
+    at
+}
+
+/// A wake of one by one stretch: it names the waiter, which slept, and the wait is over then.
+fn wake_sleeper<R: Abort>(rt: &R, domain: &Domain, waker: &mut Task, waiter: &mut Task)
+    requires of { (waker.old.domain ≡ domain.now) × (waiter.old.domain ≡ domain.now) }
+    requires waker { IsWaker waker.old }
+    requires waiter { IsReadyToWait waiter.old }
+{
+    let mut wait = begin_swait(waiter, COND, SleepState::Uninterruptible);
+    let asleep = go_often(domain, waiter, &mut wait, WaitTurn::Again(WaitStage::First));
+    assert!(rt; matches!(asleep, WaitTurn::Asleep(_)));
+    publish(domain, waker, Watch::Plain { cond: COND }, 1);
+    let mut rousing = Rousing::new();
+    let mut run = SwakeRun::new(COND, false);
+    let first = SwakeStage::First;
+    let SwakeTurn::Done(selected) = swake_stretch(domain, waker, &mut run, first, &mut rousing)
+    else {
+        panic!(rt; "nobody holds the lock")
+    };
+    assert_eq!(rt; selected, 1);
+    assert_eq!(rt; rousing.tasks(), [waiter.number()].as_slice());
+    let over = go_often(domain, waiter, &mut wait, asleep);
+    assert!(rt; is_over(over));
+}
+
+/// Whom a stretch has woken is for the caller to rouse.
+#[test]
+fn stretch_names_who_slept(rt: HostRuntime) -> Result<(), Fail> {
+    let (domain, mut waker) = Domain::new(rt.alloc())?;
+    let Ok(mut waiter) = waker.fork(&domain, 0) else {
+        panic!(rt; "a number is spare")
+    };
+    wake_sleeper(&rt, &domain, &mut waker, &mut waiter);
+    Ok(())
+}

@@ -1,0 +1,150 @@
+//! Each stretch once, alone and in threads.
+
+mod pages;
+mod rounds;
+mod strangers;
+
+ghost use Rattle.std.specs.Prelude.{◌≡◌};
+ghost use Rattle.wait_rule.specs.Says.{IsClean};
+ghost use Rattle.wq_user.specs.Waiting.{IsWaiting};
+
+use std::sync::Wait;
+use std::test::Fail;
+use std::thread;
+use std::thread::Threads;
+use wait_model::tasks::{Sleep, SleepState};
+use wait_model::watches::Kind;
+use wait_rule::{Domain, Task, send_signal};
+use wq_user::events::{
+    come_and_go, hear_zero, set_zero, take_zero, wait_and_join, wait_for_zero, wait_to_be_selected,
+};
+use wq_user::holds::{look, pass, pass_and_wake, set_and_wake, wake_and_join};
+use wq_user::waits::{leave, prepare, queue, sleep};
+
+/// Sleeps and leaves the queue: true where the task was not put asleep.
+fn wait_up<R: Wait>(rt: &R, domain: &Domain, mut task: Task) -> bool
+    requires of { task.domain ≡ domain.now }
+    requires waiting { IsWaiting task }
+{
+    let slept = sleep(rt, domain, &mut task);
+    leave(rt, domain, &mut task);
+    matches!(slept, Sleep::Stay)
+}
+
+/// Sets the condition and wakes all: how many it woke.
+fn wake_up<R: Wait>(rt: &R, domain: &Domain, mut task: Task) -> u32
+    requires of { task.domain ≡ domain.now }
+    requires clean { IsClean task }
+{
+    set_and_wake(rt, domain, &mut task)
+}
+
+/// A wait and a wake, each in a thread of its own.
+fn both<R: Threads + Wait + Sync>(rt: &R, domain: &Domain, waiter: Task, waker: Task) -> (bool, u32)
+    requires of { (waiter.domain ≡ domain.now) × (waker.domain ≡ domain.now) }
+    requires waiting { IsWaiting waiter }
+    requires clean { IsClean waker }
+{
+    thread::join(
+        rt,
+        move || -> bool
+            requires { (waiter.domain ≡ domain.now) × IsWaiting waiter }
+        { wait_up(rt, domain, waiter) },
+        move || -> u32
+            requires { (waker.domain ≡ domain.now) × IsClean waker }
+        { wake_up(rt, domain, waker) },
+    )
+}
+
+/// A task that only holds and wakes is taken in.
+#[test]
+fn holds_and_wakes(rt: HostRuntime) -> Result<(), Fail> {
+    let (domain, mut task) = Domain::new(rt.alloc())?;
+    let Ok(mut other) = task.fork(&domain, 0) else {
+        panic!(rt; "numbers are spare")
+    };
+    pass(&rt, &domain, &mut other, 256);
+    assert!(rt; !look(&rt, &domain, &mut other, 256));
+    assert_eq!(rt; pass_and_wake(&rt, &domain, &mut other, 256), 0);
+    assert_eq!(rt; wake_and_join(&rt, &domain, &mut task, other), 0);
+    Ok(())
+}
+
+/// A waiter that is woken leaves and is taken in.
+#[test]
+fn waiter_leaves(rt: HostRuntime) -> Result<(), Fail> {
+    let (domain, mut task) = Domain::new(rt.alloc())?;
+    let Ok(mut waiter) = task.fork(&domain, 0) else {
+        panic!(rt; "numbers are spare")
+    };
+    let Ok(()) = queue(&rt, &domain, &mut waiter, Kind::Default) else {
+        panic!(rt; "the queue is empty")
+    };
+    prepare(&domain, &mut waiter);
+    assert_eq!(rt; set_and_wake(&rt, &domain, &mut task), 1);
+    assert!(rt; matches!(sleep(&rt, &domain, &mut waiter), Sleep::Stay));
+    leave(&rt, &domain, &mut waiter);
+    task.join(&domain, waiter);
+    Ok(())
+}
+
+/// A waiter and a waker, each in a thread of its own.
+#[test]
+fn waiter_and_waker(rt: HostRuntime) -> Result<(), Fail> {
+    let (domain, mut task) = Domain::new(rt.alloc())?;
+    let Ok(mut waiter) = task.fork(&domain, 0) else {
+        panic!(rt; "numbers are spare")
+    };
+    let Ok(()) = queue(&rt, &domain, &mut waiter, Kind::Autoremove) else {
+        panic!(rt; "the queue is empty")
+    };
+    prepare(&domain, &mut waiter);
+    let (_stayed, woken) = both(&rt, &domain, waiter, task);
+    assert_eq!(rt; woken, 1);
+    Ok(())
+}
+
+/// A condition that is set and taken, by two tasks that stay clean, and a wait that is taken in.
+#[test]
+fn condition_is_waited_for(rt: HostRuntime) -> Result<(), Fail> {
+    let (domain, mut task) = Domain::new(rt.alloc())?;
+    let Ok(mut other) = task.fork(&domain, 0) else {
+        panic!(rt; "numbers are spare")
+    };
+    assert_eq!(rt; set_zero(&rt, &domain, &mut task), 0);
+    assert!(rt; wait_for_zero(&rt, &domain, &mut other, SleepState::Interruptible));
+    assert_eq!(rt; take_zero(&domain, &mut other), 1);
+    assert_eq!(rt; set_zero(&rt, &domain, &mut task), 0);
+    wait_and_join(&rt, &domain, &mut task, other);
+    Ok(())
+}
+
+/// An exclusive wait whose condition is set, and an entry that is added and taken off: the task is taken in after both.
+#[test]
+fn exclusive_waiter_is_joined(rt: HostRuntime) -> Result<(), Fail> {
+    let (domain, mut task) = Domain::new(rt.alloc())?;
+    let Ok(mut other) = task.fork(&domain, 0) else {
+        panic!(rt; "numbers are spare")
+    };
+    assert!(rt; come_and_go(&rt, &domain, &mut other));
+    assert_eq!(rt; set_zero(&rt, &domain, &mut task), 0);
+    assert!(rt; wait_to_be_selected(&rt, &domain, &mut other, SleepState::Killable));
+    task.join(&domain, other);
+    Ok(())
+}
+
+/// A wait by the flag of an entry whose condition is set, and one that a signal ends: the task is taken in after both.
+#[test]
+fn hearer_is_joined(rt: HostRuntime) -> Result<(), Fail> {
+    let (domain, mut task) = Domain::new(rt.alloc())?;
+    let Ok(mut other) = task.fork(&domain, 0) else {
+        panic!(rt; "numbers are spare")
+    };
+    let who = other.number();
+    send_signal(&rt, &domain, &mut task, who, false);
+    assert!(rt; hear_zero(&rt, &domain, &mut other, SleepState::Interruptible));
+    assert_eq!(rt; set_zero(&rt, &domain, &mut task), 0);
+    assert!(rt; hear_zero(&rt, &domain, &mut other, SleepState::Killable));
+    task.join(&domain, other);
+    Ok(())
+}

@@ -1,0 +1,209 @@
+//! Strangers at one head: a task that waits for a bit and one that waits for a variable, each in a thread of its own,
+//! and who gives the bit back and changes the variable, again and again, in Domains whose tasks park at once when they
+//! are put asleep.
+
+ghost use Rattle.std.specs.Prelude.{◌≡◌};
+ghost use Rattle.wait_model.specs.declared.watches.Watch.TheVariants as watch;
+ghost use Rattle.bit_wait.specs.Holders.{IsHolder};
+ghost use Rattle.wait_rule.specs.Says.{IsClean};
+
+use std::sync::Wait;
+use std::test::Fail;
+use std::thread;
+use std::thread::Threads;
+use wait_rule::{Domain, Task};
+use wq_user::hashed::{
+    change, count_members, give_bit, take_bit, wait_until_changed, wait_until_clear,
+};
+use wq_user::kept::work_with_bit;
+
+/// How many rounds the test makes.
+const ROUNDS: u32 = 300;
+
+/// Who changes the variable looks a million times at most whether the waiters are there.
+const DEPTH: u8 = 20;
+
+/// Waits for the variable, and gives the task back with the value.
+fn changed_once<R: Wait>(rt: &R, domain: &Domain, mut task: Task) -> (Task, u64)
+    requires of { task.domain ≡ domain.now }
+    requires clean { IsClean task }
+    ensures of { result.0.domain ≡ domain.now }
+    ensures clean { IsClean result.0 }
+{
+    let value = wait_until_changed(rt, domain, &mut task);
+    (task, value)
+}
+
+/// Looks at most 2^depth times whether both waiters stand at their head: true once they do.
+fn see_both<R: Wait>(rt: &R, domain: &Domain, task: &mut Task, depth: u8) -> bool
+    requires of { task.old.domain ≡ domain.now }
+    requires clean { IsClean task.old }
+    ensures of { task.new.domain ≡ domain.now }
+    ensures clean { IsClean task.new }
+{
+    if depth == 0 {
+        return count_members(rt, domain, task) == 2;
+    }
+    see_both(rt, domain, task, depth - 1) || see_both(rt, domain, task, depth - 1)
+}
+
+/// Changes the variable to 7 once both waiters are queued, and gives the task back.
+fn change_once<R: Wait>(rt: &R, domain: &Domain, mut task: Task) -> Task
+    requires of { task.domain ≡ domain.now }
+    requires clean { IsClean task }
+    ensures of { result.domain ≡ domain.now }
+    ensures clean { IsClean result }
+{
+    see_both(rt, domain, &mut task, DEPTH);
+    change(rt, domain, &mut task, 7);
+    task
+}
+
+/// Waits for the bit, and gives the task back: true where it was clear.
+fn clear_once<R: Wait>(rt: &R, domain: &Domain, mut task: Task) -> (Task, bool)
+    requires of { task.domain ≡ domain.now }
+    requires clean { IsClean task }
+    ensures of { result.0.domain ≡ domain.now }
+    ensures clean { IsClean result.0 }
+{
+    let over = wait_until_clear(rt, domain, &mut task);
+    (task, over)
+}
+
+/// One who changes the variable and one who waits for that, each in a thread of its own.
+fn meet<R: Threads + Wait + Sync>(
+    rt: &R,
+    domain: &Domain,
+    changer: Task,
+    waiter: Task,
+) -> (Task, (Task, u64))
+    requires of { (changer.domain ≡ domain.now) × (waiter.domain ≡ domain.now) }
+    requires clean { IsClean changer × IsClean waiter }
+    ensures of { (result.0.domain ≡ domain.now) × (result.1.0.domain ≡ domain.now) }
+    ensures clean { IsClean result.0 × IsClean result.1.0 }
+{
+    thread::join(
+        rt,
+        move || -> Task
+            requires { (changer.domain ≡ domain.now) × IsClean changer }
+            ensures { (result.domain ≡ domain.entry.now) × IsClean result }
+        { change_once(rt, domain, changer) },
+        move || -> (Task, u64)
+            requires { (waiter.domain ≡ domain.now) × IsClean waiter }
+            ensures { (result.0.domain ≡ domain.entry.now) × IsClean result.0 }
+        { changed_once(rt, domain, waiter) },
+    )
+}
+
+/// The same while the bit is kept, which is given back after both have ended.
+fn meet_and_give<R: Threads + Wait + Sync>(
+    rt: &R,
+    domain: &Domain,
+    mut holder: Task,
+    changer: Task,
+    waiter: Task,
+) -> (Task, (Task, (Task, u64)))
+    requires of { (holder.domain ≡ domain.now) × (changer.domain ≡ domain.now) × (waiter.domain ≡ domain.now) }
+    requires holder { IsHolder holder (watch.Bit 2 16) }
+    requires clean { IsClean changer × IsClean waiter }
+    ensures of { (result.0.domain ≡ domain.now) × (result.1.0.domain ≡ domain.now)
+        × (result.1.1.0.domain ≡ domain.now) }
+    ensures clean { IsClean result.0 × IsClean result.1.0 × IsClean result.1.1.0 }
+{
+    let met = meet(rt, domain, changer, waiter);
+    give_bit(rt, domain, &mut holder);
+    (holder, met)
+}
+
+/// The same beside one who waits for the bit.
+fn meet_all<R: Threads + Wait + Sync>(
+    rt: &R,
+    domain: &Domain,
+    holder: Task,
+    changer: Task,
+    waiter: Task,
+    stranger: Task,
+) -> ((Task, (Task, (Task, u64))), (Task, bool))
+    requires of { (holder.domain ≡ domain.now) × (changer.domain ≡ domain.now) × (waiter.domain ≡ domain.now)
+        × (stranger.domain ≡ domain.now) }
+    requires holder { IsHolder holder (watch.Bit 2 16) }
+    requires clean { IsClean changer × IsClean waiter × IsClean stranger }
+    ensures of { (result.0.0.domain ≡ domain.now) × (result.0.1.0.domain ≡ domain.now)
+        × (result.0.1.1.0.domain ≡ domain.now) × (result.1.0.domain ≡ domain.now) }
+    ensures clean { IsClean result.0.0 × IsClean result.0.1.0 × IsClean result.0.1.1.0 × IsClean result.1.0 }
+{
+    thread::join(
+        rt,
+        move || -> (Task, (Task, (Task, u64)))
+            requires { (holder.domain ≡ domain.now) × IsHolder holder (watch.Bit 2 16)
+                × (changer.domain ≡ domain.now) × IsClean changer × (waiter.domain ≡ domain.now) × IsClean waiter }
+            ensures { (result.0.domain ≡ domain.entry.now) × IsClean result.0
+                × (result.1.0.domain ≡ domain.entry.now) × IsClean result.1.0
+                × (result.1.1.0.domain ≡ domain.entry.now) × IsClean result.1.1.0 }
+        { meet_and_give(rt, domain, holder, changer, waiter) },
+        move || -> (Task, bool)
+            requires { (stranger.domain ≡ domain.now) × IsClean stranger }
+            ensures { (result.0.domain ≡ domain.entry.now) × IsClean result.0 }
+        { clear_once(rt, domain, stranger) },
+    )
+}
+
+/// Whichever entry stands first at the head: who waits for the variable is woken and done while the bit is set, and who
+/// waits for the bit once that is given back. All tasks are taken in.
+#[test]
+fn strangers_on_one_head(rt: HostRuntime) -> Result<(), Fail> {
+    for _round in 0..ROUNDS {
+        let (domain, mut task) = Domain::with_looks(rt.alloc(), 0)?;
+        let (Ok(mut holder), Ok(changer)) = (task.fork(&domain, 0), task.fork(&domain, 0)) else {
+            panic!(rt; "numbers are spare")
+        };
+        let (Ok(waiter), Ok(stranger)) = (task.fork(&domain, 0), task.fork(&domain, 0)) else {
+            panic!(rt; "numbers are spare")
+        };
+        if !take_bit(&domain, &mut holder) {
+            panic!(rt; "the bit is clear")
+        }
+        let (met, over) = meet_all(&rt, &domain, holder, changer, waiter, stranger);
+        assert_eq!(rt; met.1.1.1, 7);
+        assert!(rt; over.1);
+        task.join(&domain, met.0);
+        task.join(&domain, met.1.0);
+        task.join(&domain, met.1.1.0);
+        task.join(&domain, over.0);
+    }
+    Ok(())
+}
+
+/// Who takes a bit and gives it back, and who changes a variable for nobody, takes no lock, and can be taken in.
+#[test]
+fn hashed_parts_of_one_task(rt: HostRuntime) -> Result<(), Fail> {
+    let (domain, mut task) = Domain::new(rt.alloc())?;
+    let Ok(mut other) = task.fork(&domain, 0) else {
+        panic!(rt; "numbers are spare")
+    };
+    if !take_bit(&domain, &mut other) {
+        panic!(rt; "the bit is clear")
+    }
+    assert_eq!(rt; give_bit(&rt, &domain, &mut other), 0);
+    assert!(rt; wait_until_clear(&rt, &domain, &mut other));
+    assert_eq!(rt; change(&rt, &domain, &mut other, 3), 0);
+    assert_eq!(rt; wait_until_changed(&rt, &domain, &mut other), 3);
+    assert_eq!(rt; count_members(&rt, &domain, &mut other), 0);
+    task.join(&domain, other);
+    Ok(())
+}
+
+/// Who keeps a bit sets a condition and waits for it, gives the bit back, and can be taken in.
+#[test]
+fn bit_is_kept_over_other_calls(rt: HostRuntime) -> Result<(), Fail> {
+    let (domain, mut task) = Domain::new(rt.alloc())?;
+    let Ok(mut other) = task.fork(&domain, 0) else {
+        panic!(rt; "numbers are spare")
+    };
+    let Some(holds) = work_with_bit(&rt, &domain, &mut other) else {
+        panic!(rt; "the bit is clear")
+    };
+    assert_eq!(rt; holds, 0);
+    task.join(&domain, other);
+    Ok(())
+}

@@ -1,4 +1,0 @@
-use Rattle.wq_user.proofs.stranger_tests.+see_both.Given as goal
-
-abbrev pub decreases-see_both : goal.decreases-see_both
-decreases-see_both g l = l.depth

@@ -1,17 +1,19 @@
 #!/usr/bin/env bash
-# Compares what waitq_chart draws of some worked scripts with the pictures in docs/, draws every text of examples/ with
-# and without its script, and tries what it refuses.
+# Builds waitq_chart and runs its tests, compares what it draws of some worked scripts with the pictures in docs/, draws
+# every text of examples/ with and without its script, tries what it refuses, and tests its start script on a toy.
 #
-# usage: .ci/charts.sh [--write] [PROGRAM]...    (what `rt ci` built, by each of its compilers, if none is given)
+# usage: .ci/charts.sh [--write]         (it needs cargo; layout and lints are left out where cargo has no such command)
 #
-# With --write the pictures in docs/ are made anew by the first program. Prints a line for each case that fails, and at
-# the end 'N passed, M failed'. The status is 1 where one failed or a program isn't there.
+# With --write the pictures in docs/ are made anew. Prints a line for each case that fails, and at the end 'N passed, M
+# failed'. The status is 1 where one failed.
 set -u
 
 root=$(dirname -- "$(dirname -- "$(readlink -f -- "${BASH_SOURCE[0]}")")")
+chart=$root/chart
 examples=$root/examples
 pictures="wait_set_wake one_locker_selected look_before_queueing look_after_queueing"
 work=$(mktemp -d)
+toy="$work/a toy"
 trap 'rm -rf -- "$work"' EXIT
 passed=0
 failed=0
@@ -67,6 +69,60 @@ forms() {
         '= woken 0 selected 0 holds 1 stopped' 'refused 2' 'nocall' 'asleep' 'busy h0'
 }
 
+# Runs a command of cargo in chart/.
+cargo_case() {
+    if (cd -- "$chart" && CARGO_NET_OFFLINE=true timeout 600 cargo "$@") </dev/null >"$work/out" 2>&1; then
+        passed=$((passed + 1))
+    else
+        fail "cargo $1: $(tail -n 30 -- "$work/out")"
+    fi
+}
+
+# Checks the sources, and runs the tests.
+check_sources() {
+    ! command -v rustfmt >/dev/null || cargo_case fmt --check
+    ! command -v cargo-clippy >/dev/null || cargo_case clippy --quiet --all-targets -- -D warnings
+    cargo_case test --quiet
+}
+
+# Writes a toy's source, which shows a number.
+write_toy() {
+    printf 'fn main() {\n    println!("toy {}", %s);\n}\n' "$1" >"$toy/src/main.rs"
+}
+
+# Runs a toy's start script with the PATH $3, by a link, and compares its status and a part of what it says or writes.
+start() {
+    PATH=$3 "$work/link" >"$work/out" 2>&1 </dev/null
+    local got=$?
+    if [ "$got" = "$2" ] && grep -qF -- "$4" "$work/out"; then
+        passed=$((passed + 1))
+    else
+        fail "start script: $1: status $got: $(head -c 200 -- "$work/out")"
+    fi
+}
+
+# Tests the start script on a toy.
+check_start() {
+    local tool
+    mkdir -p -- "$toy/src" "$work/bin"
+    for tool in bash date dirname env find readlink touch; do
+        ln -s -- "$(command -v "$tool")" "$work/bin/$tool"
+    done
+    cp -- "$chart/waitq_chart" "$chart/Cargo.toml" "$chart/Cargo.lock" "$toy"
+    ln -s -- "$toy/waitq_chart" "$work/link"
+    write_toy 1
+    start "no cargo" 1 "$work/bin" "waitq_chart: not built yet, and the command cargo"
+    start "a first build" 0 "$PATH" "toy 1"
+    start "built before" 0 "$work/bin" "toy 1"
+    write_toy 2
+    start "a source that changed, without cargo" 1 "$work/bin" "isn't on the PATH"
+    start "a source that changed" 0 "$PATH" "toy 2"
+    write_toy '"no end'
+    start "a source that is wrong" 1 "$PATH" "waitq_chart: not built"
+    write_toy 3
+    start "a source that is right again" 0 "$PATH" "toy 3"
+}
+
 # Tries all cases on a program.
 check() {
     local program=$1 name text first=$examples/wait_set_wake.text
@@ -97,30 +153,27 @@ check() {
     try "$program" "no line feed" 3 "no line feed" < <(printf 't1 nocall')
     try "$program" "another script's text" 3 "of the script" --script "$examples/mode_misses.waitq" <"$first"
     try "$program" "no such script" 4 "script" --script "$work/none" <"$first"
+    try "$program" "no input" 4 "the text could not be read" <&-
+    # shellcheck disable=SC2016  # the inner shell reads them
+    try bash "no room for the output" 5 "could not be written" -c '"$0" --explain >/dev/full' "$program" <"$first"
+    # shellcheck disable=SC2016
+    try bash "no output" 5 "could not be written" -c '"$0" --explain >&-' "$program" <"$first"
     try "$program" "an empty range" 3 "in the range" --lines 90-99 <"$first"
     try "$program" "too many rows" 8 "more than 2000" --full < <(yes "t1 look no" | head -n 300000)
     try "$program" "a range of a long text" 0 "Lines 299990–300000 of 300000" --lines 299990-300000 --full \
         < <(yes "t1 look no" | head -n 300000)
 }
 
-write=
-[ "${1:-}" != --write ] || { write=yes && shift; }
-if [ $# = 0 ]; then
-    set -- "$root/crates/waitq_chart/out/waitq_chart"
-    [ ! -e "$1.by-rattle" ] || set -- "$1" "$1.by-rattle"
+program=$chart/waitq_chart
+if ! "$program" --explain <"$examples/wait_set_wake.text" >"$work/out" 2>&1; then
+    fail "not built: $(tail -n 30 -- "$work/out")"
+elif [ "${1:-}" = --write ]; then
+    for name in $pictures; do
+        picture "$program" "$name" >"$root/docs/$name.svg"
+    done
 fi
-for program; do
-    if [ ! -x "$program" ]; then
-        fail "$program is not built"
-        continue
-    fi
-    if [ -n "$write" ]; then
-        for name in $pictures; do
-            picture "$program" "$name" >"$root/docs/$name.svg"
-        done
-        write=
-    fi
-    check "$program"
-done
+check_sources
+check_start
+check "$program"
 printf '%d passed, %d failed\n' "$passed" "$failed"
 [ "$failed" = 0 ]

@@ -1,9 +1,10 @@
 #!/usr/bin/env bash
 # Checks what the documents say of the repository: each link leads somewhere, each path that is named exists, code that
-# is said to come from a file stands in it, each command of ./waitq and ./waitq_chart runs as written, each script has
+# is said to come from a file stands in it, each command of ./waitq and chart/waitq_chart runs as written, each script has
 # its line in examples/README.md, and each file of definitions has one of the marks of docs/READING.md.
 #
 # usage: .ci/docs.sh             (it needs what `rt ci` built)
+#        .ci/docs.sh --quick     runs no command, and needs nothing
 #        .ci/docs.sh --lines     counts the lines of the files of definitions by their marks
 #
 # Prints a line for each case that fails, and at the end 'N passed, M failed'. The status is 1 where one failed.
@@ -79,7 +80,7 @@ find_paths() {
         else
             fail "$page: there is no $path"
         fi
-    done < <(prose "$page" | grep -oE '`(crates|docs|examples|bench|front|\.ci)/[A-Za-z0-9_./-]+`' | tr -d '`' | grep -v NAME | sort -u)
+    done < <(prose "$page" | grep -oE '`(crates|chart|docs|examples|bench|front|\.ci)/[A-Za-z0-9_./-]+`' | tr -d '`' | grep -v NAME | sort -u)
 }
 
 # Compares each block of code that is said to come from a file with that file.
@@ -111,14 +112,14 @@ run_commands() {
     mkdir -- "$work/here"
     ln -s -- "$root/examples" "$work/here/examples"
     ln -s -- "$root/crates/waitq/out/waitq" "$work/here/waitq"
-    ln -s -- "$root/crates/waitq_chart/out/waitq_chart" "$work/here/waitq_chart"
+    ln -s -- "$root/chart" "$work/here/chart"
     while read -r line; do
         if (cd -- "$work/here" && timeout 60 bash -c "$line") >"$work/out" 2>&1; then
             pass
         else
             fail "$page: status $?: $line: $(head -n 1 -- "$work/out")"
         fi
-    done < <(sed -nE 's/^    (\.\/waitq(_chart)? .*)$/\1/p' "$page" | sed -E 's/  +.*$//')
+    done < <(sed -nE 's/^    ((\.\/waitq|chart\/waitq_chart) .*)$/\1/p' "$page" | sed -E 's/  +.*$//')
 }
 
 # Looks for each script in the index, and for each line of the index among the scripts.
@@ -163,7 +164,7 @@ while read -r page; do
     follow_links "$page"
     find_paths "$page"
     find_code "$page"
-    run_commands "$page"
+    [ "${1:-}" = --quick ] || run_commands "$page"
 done < <(pages)
 compare_index
 find_marks

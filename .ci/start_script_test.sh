@@ -1,7 +1,7 @@
 #!/usr/bin/env bash
-# Tests the start script ./waitq on toy repositories: a program waitq over a library, both of a few lines, and for its
-# other name a program waitq_chart.
-# What the prover refuses is planted for the kit's rt itself; runs that change, stop or overlap while they
+# Tests the start script ./waitq on toy repositories: a program waitq over a library, both of a few lines, and at the end
+# over two more that do not stand on one another.
+# What the prover refuses is planted for the kit's rt itself; runs that change, stop, overlap or go in lanes while they
 # build have a stand-in for rt, which builds at once what the source says.
 #
 # Prints a line for each case that fails, and at the end 'N passed, M failed'. The status is 1 where one failed.
@@ -14,9 +14,9 @@ toy="$work/a toy"
 passed=0
 failed=0
 
-# Writes the source of the program $3 (waitq), which shows the number after $1, and claims that it is $2.
+# Writes the source of the program, which shows the number after $1, and claims that it is $2.
 write_program() {
-    cat >"$toy/crates/${3:-waitq}/src/main.rt" <<END
+    cat >"$toy/crates/waitq/src/main.rt" <<END
 //! Shows a number.
 #![tactic(auto)]
 
@@ -41,11 +41,10 @@ END
 
 # Writes the repository, with a copy of the start script.
 write_toy() {
-    mkdir -p -- "$toy/crates/lower/src" "$toy/crates/waitq/src" "$toy/crates/waitq_chart/src"
-    write_program 4 5 waitq_chart
+    mkdir -p -- "$toy/crates/lower/src" "$toy/crates/waitq/src" "$toy/crates/other/src"
     cp -- "$start" "$toy/waitq"
     printf 'Handles allowed: none.\n' >"$toy/HANDLES"
-    printf '# Three crates.\nwaitq: lower\nlower:\nwaitq_chart: lower\n' >"$toy/crates.txt"
+    printf '# Three crates.\nwaitq: lower\nlower:\nother: lower\n' >"$toy/crates.txt"
     cat >"$toy/crates/lower/src/lib.rt" <<'END'
 //! Numbers.
 #![tactic(auto)]
@@ -62,17 +61,23 @@ END
 }
 
 # Makes the folder $work/bin of the start script's tools, without rt, and $work/stand_in of a stand-in for rt.
-# The stand-in notes each call, does what MEDDLE says, and builds a program that shows the number of the source.
+# The stand-in notes each call, does what MEDDLE says at a run and MEDDLE_LIB at a library, and builds a program that
+# shows the number of the source.
 write_tools() {
     mkdir -- "$work/bin" "$work/stand_in"
     local tool
-    for tool in awk bash cat chmod cp cut dirname find flock mkdir mv readlink rm sed sha256sum sleep sort tail \
-        touch wc xargs; do
+    for tool in awk bash cat chmod cp cut dirname find flock mkdir mv nproc readlink rm sed seq sha256sum sleep sort \
+        tail touch wc xargs; do
         ln -s -- "$(command -v "$tool")" "$work/bin/$tool"
     done
     cat >"$work/stand_in/rt" <<'END'
 #!/usr/bin/env bash
-echo "$*" >>"$CALLS"
+echo "$* in $PWD" >>"$CALLS"
+name=${PWD##*/}
+case $1 in
+    doc) echo "${KIT:-$CALLS.kit}/START-HERE.md" ;;
+    lib) eval "${MEDDLE_LIB:-}" ;;
+esac
 [ "$1" = run ] || exit 0
 mkdir -p out
 number=$(sed -n 's/.*next(\(.*\)).*/\1/p' src/main.rt)
@@ -83,11 +88,36 @@ END
     chmod +x -- "$work/stand_in/rt"
 }
 
-# Runs the start script with the PATH $1, from another folder by a link of the name $2 (link); leaves its status, and
-# its streams in $work/out and $work/err.
+# Runs the start script with the PATH $1, from another folder by a link; leaves its status, and its streams in $work/out
+# and $work/err.
 run() {
-    (cd / && PATH=$1 CALLS=$work/calls "$work/${2:-link}" replay </dev/null >"$work/out" 2>"$work/err")
+    (cd / && PATH=$1 CALLS=$work/calls "$work/link" replay </dev/null >"$work/out" 2>"$work/err")
     status=$?
+}
+
+# Compares a number with the one that is wanted, of what the first word says.
+expect_number() {
+    if [ "$2" = "$3" ]; then
+        passed=$((passed + 1))
+    else
+        failed=$((failed + 1))
+        printf 'FAILED: %s: %s, not %s\n' "$1" "$2" "$3"
+    fi
+}
+
+# How many of the stand-ins that noted their process are there still, half a second later.
+still_there() {
+    local file count=0
+    sleep 0.5
+    for file in "$work"/calls.process.*; do
+        ! kill -0 "$(cat -- "$file")" 2>/dev/null || count=$((count + 1))
+    done
+    echo "$count"
+}
+
+# How many folders of lanes are left.
+lanes_left() {
+    find "$toy/.git" "$toy/out" -maxdepth 1 -name '*lanes' | wc -l
 }
 
 # Compares the last run with a status, what it wrote, and a part of what it said.
@@ -112,7 +142,8 @@ run "$without_rt"
 expect "no rt" 1 "" "isn't on the PATH"
 
 run "$PATH"
-expect "a first build" 0 "toy 8" "waitq: proving lower, crate 1 of 2"
+expect "a first build" 0 "toy 8" "waitq: 0 of 2 proved, under way: lower"
+expect "what it proved last" 0 "toy 8" "waitq: 1 of 2 proved, under way: waitq"
 run "$without_rt"
 expect "built before" 0 "toy 8" ""
 
@@ -162,17 +193,66 @@ wait $!
 expect "the second of two builds" 0 "stand-in 3" "another run is building the program"
 cp -- "$work/first" "$work/err"
 expect "the first of two builds" 0 "stand-in 3" "stand-in 3"
-status=$(grep -c '^run' "$work/calls")
-expect "one build" 1 "stand-in 3" ""
+expect_number "builds" "$(grep -c '^run' "$work/calls")" 1
 
-# By its other name it builds and keeps the other program, and leaves the first one.
-ln -s -- "$toy/waitq" "$work/waitq_chart"
-run "$stand_in" waitq_chart
-expect "the other name" 0 "stand-in 4" "waitq_chart: built"
-run "$without_rt" waitq_chart
-expect "the other name, built before" 0 "stand-in 4" ""
+# From here on the program stands on three libraries, of which two do not stand on one another.
+cp -r -- "$toy/crates/lower" "$toy/crates/left"
+cp -r -- "$toy/crates/lower" "$toy/crates/right"
+printf 'lower:\nleft: lower\nright: lower\nwaitq: left right lower\n' >"$toy/crates.txt"
+
+# Each of the two ends only where the other one has begun.
+meet='[ "$name" = lower ] || touch "$CALLS.met.$name"
+case $name in left) other=right ;; right) other=left ;; *) exit ;; esac
+for _ in $(seq 200); do [ ! -e "$CALLS.met.$other" ] || exit 0; sleep 0.05; done
+echo "$name was alone"; exit 1'
+: >"$work/calls"
+WAITQ_LANES=2 MEDDLE_LIB=$meet run "$stand_in"
+expect "two lanes" 0 "stand-in 3" "waitq: 1 of 4 proved, under way: left, right"
+expect "the program comes last" 0 "stand-in 3" "waitq: 3 of 4 proved, under way: waitq"
+expect_number "proofs in lanes" "$(grep -c '^lib .*in .*lanes' "$work/calls")" 3
+expect_number "libraries that the repository takes" "$(grep -c '^lib in .* toy/crates' "$work/calls")" 3
+expect_number "folders of lanes behind a build" "$(lanes_left)" 0
+
+write_program 4 5
+: >"$work/calls"
+WAITQ_LANES=1 run "$stand_in"
+expect "one lane" 0 "stand-in 4" "waitq: 1 of 4 proved, under way: left"
+expect_number "proofs in lanes, where there is one" "$(grep -c '^lib .*in .*lanes' "$work/calls")" 0
+
+write_program 5 6
+: >"$work/calls"
+KIT=/dev/null/kit WAITQ_LANES=2 run "$stand_in"
+expect "nothing is kept beside the kit" 0 "stand-in 5" "waitq: 1 of 4 proved, under way: left"
+expect_number "proofs in lanes, where they can't share" "$(grep -c '^lib .*in .*lanes' "$work/calls")" 0
+
+write_program 6 7
+WAITQ_LANES=none run "$stand_in"
+expect "no number of lanes" 1 "" "waitq: not built: WAITQ_LANES is a number"
+
+# A crate that is not proved ends the proof beside it.
+rm -f -- "$work"/calls.*
+stay='case $name in lower) ;; *) echo $$ >"$CALLS.process.$name"; exec sleep 60 ;; esac'
+WAITQ_LANES=2 MEDDLE_LIB="[ \$name != left ] || { sleep 0.5; echo left is false; exit 1; }; $stay" run "$stand_in"
+expect "a crate in a lane is not proved" 1 "" "left is false"
+expect "which one" 1 "" "waitq: not built: left is not proved; the whole of what rt said is in $toy/out/log"
+expect_number "what rt said" "$(cat -- "$toy/out/log")" "left is false"
+expect_number "processes behind it" "$(still_there)" 0
+expect_number "folders of lanes behind it" "$(lanes_left)" 0
+
+# A build that is interrupted leaves no process and no lane.
+rm -f -- "$work"/calls.*
+(cd / && PATH=$stand_in CALLS=$work/calls WAITQ_LANES=2 MEDDLE_LIB=$stay exec "$work/link" replay) </dev/null \
+    >"$work/out" 2>&1 &
+until [ -e "$work/calls.process.left" ] && [ -e "$work/calls.process.right" ]; do sleep 0.05; done
+kill -TERM $!
+wait $! 2>"$work/err"
+expect_number "the status of an interrupted build" $? 143
+expect_number "processes behind an interrupted build" "$(still_there)" 0
+expect_number "folders of lanes behind an interrupted build" "$(lanes_left)" 0
 run "$without_rt"
-expect "the first name, built before" 0 "stand-in 3" ""
+expect "a build in lanes was interrupted" 1 "" "isn't on the PATH"
+run "$stand_in"
+expect "as many lanes as the machine allows" 0 "stand-in 6" "waitq: built"
 
 printf '%d passed, %d failed\n' "$passed" "$failed"
 [ "$failed" = 0 ]

@@ -11,9 +11,8 @@
 #include <stdlib.h>
 #include <time.h>
 
-enum { ROUNDS = 10, PAIRS = 2000, MOST = 64, CELL = 1, CONDITION = 2, WORD = 3, BIT = 4, PAGE = 5 };
+enum { ROUNDS = 10, PAIRS = 5000, MOST = 64, CELL = 1, CONDITION = 2, WORD = 3, BIT = 4, PAGE = 5 };
 
-static struct sugwelan_task *tasks[MOST];
 static int threads;
 static pthread_barrier_t starts, ends;
 static sem_t permits;
@@ -117,40 +116,61 @@ static long nanoseconds(void)
     return now.tv_sec * 1000000000 + now.tv_nsec;
 }
 
-static void *works(void *task)
+/* A thread with its task, and the time of its own work. */
+struct worker {
+    pthread_t thread;
+    struct sugwelan_task *task;
+    long begun, ended;
+};
+
+static struct worker workers[MOST];
+
+static void *works(void *self)
 {
+    struct worker *me = self;
     for (int round = 0; round < ROUNDS; round++)
         for (int kind = 0; kind < KINDS; kind++) {
             pthread_barrier_wait(&starts);
+            me->begun = nanoseconds();
             for (int i = 0; i < PAIRS; i++)
-                kinds[kind].pair(task);
+                kinds[kind].pair(me->task);
+            me->ended = nanoseconds();
             pthread_barrier_wait(&ends);
         }
     return NULL;
 }
 
+/* From the first one's beginning to the last one's end. */
+static long passed(void)
+{
+    long begun = workers[0].begun, ended = workers[0].ended;
+    for (int i = 1; i < threads; i++) {
+        begun = workers[i].begun < begun ? workers[i].begun : begun;
+        ended = workers[i].ended > ended ? workers[i].ended : ended;
+    }
+    return ended - begun;
+}
+
 int main(int count, char **words)
 {
-    pthread_t others[MOST];
     threads = count > 1 ? atoi(words[1]) : 4;
     if (threads < 1 || threads > MOST)
         return 2;
-    must(sugwelan_task_new(&tasks[0]));
+    must(sugwelan_task_new(&workers[0].task));
     for (int i = 1; i < threads; i++)
-        must(sugwelan_task_fork(tasks[0], &tasks[i]));
+        must(sugwelan_task_fork(workers[0].task, &workers[i].task));
     must(sem_init(&permits, 0, 0));
     must(pthread_barrier_init(&starts, NULL, (unsigned)threads + 1));
     must(pthread_barrier_init(&ends, NULL, (unsigned)threads + 1));
     for (int i = 0; i < threads; i++)
-        must(pthread_create(&others[i], NULL, works, tasks[i]));
+        must(pthread_create(&workers[i].thread, NULL, works, &workers[i]));
     for (int round = 0; round < ROUNDS; round++)
         for (int kind = 0; kind < KINDS; kind++) {
             pthread_barrier_wait(&starts);
-            long begun = nanoseconds();
             pthread_barrier_wait(&ends);
-            printf("%s %s %d %ld\n", kinds[kind].who, kinds[kind].name, PAIRS * threads, nanoseconds() - begun);
+            printf("%s %s %d %ld\n", kinds[kind].who, kinds[kind].name, PAIRS * threads, passed());
         }
     for (int i = 0; i < threads; i++)
-        must(pthread_join(others[i], NULL));
+        must(pthread_join(workers[i].thread, NULL));
     return 0;
 }

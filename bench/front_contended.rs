@@ -8,7 +8,7 @@ use std::time::Instant;
 use sugwelan::{Bit, Completion, Domain, Page, Task, Uninterruptible as PLAIN};
 
 const ROUNDS: usize = 10;
-const PAIRS: usize = 2_000;
+const PAIRS: usize = 5_000;
 const CELL: Completion = Completion::new(1);
 const CONDITION: u8 = 2;
 const BIT: Bit = Bit::new(3, 4);
@@ -81,24 +81,26 @@ impl Counted for ByParkingLot {
     }
 }
 
-/// Lets each task's thread make pairs of calls at once.
+/// Lets each task's thread make pairs of calls at once: from the first one's beginning to the last one's end.
 fn time(who: &str, what: &str, tasks: &mut [Task], pair: impl Fn(&mut Task) + Sync) {
-    let (starts, ends) = (Barrier::new(tasks.len() + 1), Barrier::new(tasks.len() + 1));
+    let starts = Barrier::new(tasks.len());
     let count = PAIRS * tasks.len();
-    thread::scope(|scope| {
+    let times: Vec<(Instant, Instant)> = thread::scope(|scope| {
+        let mut threads = Vec::new();
         for task in tasks {
-            let (starts, ends, pair) = (&starts, &ends, &pair);
-            scope.spawn(move || {
+            let (starts, pair) = (&starts, &pair);
+            threads.push(scope.spawn(move || {
                 starts.wait();
+                let begun = Instant::now();
                 (0..PAIRS).for_each(|_| pair(task));
-                ends.wait();
-            });
+                (begun, Instant::now())
+            }));
         }
-        starts.wait();
-        let begun = Instant::now();
-        ends.wait();
-        println!("{who} {what} {count} {}", begun.elapsed().as_nanos());
+        threads.into_iter().map(|thread| thread.join().unwrap()).collect()
     });
+    let begun = times.iter().map(|(begun, _)| begun).min().unwrap();
+    let ended = times.iter().map(|(_, ended)| ended).max().unwrap();
+    println!("{who} {what} {count} {}", ended.duration_since(*begun).as_nanos());
 }
 
 fn library(domain: &Domain, tasks: &mut [Task]) {

@@ -6,7 +6,7 @@
 # nanoseconds, for a pair of calls, and ratios it writes the middle one, with the least and the greatest in brackets.
 # It needs gcc, rustc, cargo and what front/try leaves in front/out; for parking_lot that crate as Debian has it
 # (librust-parking-lot-dev): without it those lines are missing.
-# RUNS: how many runs of each kind (9). THREADS: how many threads (`4 8`). BUSY: how many loops keep processors busy
+# RUNS: how many runs of each kind (5). THREADS: how many threads (`4 8`). BUSY: how many loops keep processors busy
 # meanwhile (0). WITH: a command that starts the programs, as `taskset -c 0,1`.
 set -eu
 cd "$(dirname "$0")/.."
@@ -19,6 +19,7 @@ end() {
 }
 trap end EXIT
 archives=$PWD/front/out
+RUNS=${RUNS:-5}
 
 build_c() {
     gcc -std=gnu11 -O2 "$@" bench/front_contended.c front/c/sugwelan.c "$archives/libsugwelan.a" -lpthread

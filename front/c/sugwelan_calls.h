@@ -106,7 +106,8 @@ struct sugwelan_told {
     uint64_t value;    /* of a call that answers a value */
     uint32_t woken;    /* of a wake: how many tasks it woke */
     uint32_t selected; /* ... and how many of them by exclusive entries; of a simple queue, how many it took off */
-    uint32_t holds;    /* ... how often it held the queue: 0 where nobody was queued */
+    uint32_t holds;    /* ... how often it held the queue: of a wake for a variable, a bit or a page 0 where nobody was
+                        * queued; of one for a condition at least once */
     uint32_t end;      /* ... and one of enum sugwelan_end */
     uint32_t rouse_count;
     uint8_t rouse[SUGWELAN_ROUSED];

@@ -15,5 +15,6 @@ pub mod ReadLines
 pub mod SpelledForms
 pub mod SpelledLines
 pub mod SpelledWords
+pub mod Tables
 pub mod Truths
 pub mod Versions

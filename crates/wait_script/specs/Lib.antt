@@ -2,6 +2,7 @@ pub mod Ending
 pub mod Fields
 pub mod Forms
 pub mod Lines
+pub mod Names
 pub mod Number
 pub mod Reading
 pub mod Reasons

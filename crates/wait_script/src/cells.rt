@@ -16,7 +16,6 @@ const FIRST_SIMPLE: u8 = layout::FIRST_SIMPLE as u8;
 const LAST_SIMPLE: u8 = layout::PLAIN_CONDITIONS as u8 - 1;
 
 /// `swait CONDITION STATE`, by the words after the name.
-#[tactic(auto, using(crate::proofs::WordCounts::few2))]
 pub fn simple_wait(words: &[&[u8]]) -> Result<Call, Reason>
     ensures { result ≡ spec.simple_wait_at (map (λ w. w.now) words.now) }
 {
@@ -31,7 +30,6 @@ pub fn simple_wait(words: &[&[u8]]) -> Result<Call, Reason>
 }
 
 /// `swake CONDITION one|all`, by the words after the name.
-#[tactic(auto, using(crate::proofs::WordCounts::few2))]
 pub fn simple_wake(words: &[&[u8]]) -> Result<Call, Reason>
     ensures { result ≡ spec.simple_wake_at (map (λ w. w.now) words.now) }
 {
@@ -43,7 +41,6 @@ pub fn simple_wake(words: &[&[u8]]) -> Result<Call, Reason>
 }
 
 /// `complete COMPLETION`, by the words after the name.
-#[tactic(auto, using(crate::proofs::WordCounts::few1))]
 pub fn complete(words: &[&[u8]]) -> Result<Call, Reason>
     ensures { result ≡ spec.complete_at (map (λ w. w.now) words.now) }
 {
@@ -55,7 +52,6 @@ pub fn complete(words: &[&[u8]]) -> Result<Call, Reason>
 }
 
 /// `completeall COMPLETION`, by the words after the name.
-#[tactic(auto, using(crate::proofs::WordCounts::few1))]
 pub fn complete_all(words: &[&[u8]]) -> Result<Call, Reason>
     ensures { result ≡ spec.complete_all_at (map (λ w. w.now) words.now) }
 {
@@ -67,7 +63,6 @@ pub fn complete_all(words: &[&[u8]]) -> Result<Call, Reason>
 }
 
 /// `reinit COMPLETION`, by the words after the name.
-#[tactic(auto, using(crate::proofs::WordCounts::few1))]
 pub fn reinit(words: &[&[u8]]) -> Result<Call, Reason>
     ensures { result ≡ spec.reinit_at (map (λ w. w.now) words.now) }
 {
@@ -79,7 +74,6 @@ pub fn reinit(words: &[&[u8]]) -> Result<Call, Reason>
 }
 
 /// `waitfor COMPLETION STATE`, by the words after the name.
-#[tactic(auto, using(crate::proofs::WordCounts::few2))]
 pub fn wait_for(words: &[&[u8]]) -> Result<Call, Reason>
     ensures { result ≡ spec.wait_for_at (map (λ w. w.now) words.now) }
 {
@@ -91,7 +85,6 @@ pub fn wait_for(words: &[&[u8]]) -> Result<Call, Reason>
 }
 
 /// `trywait COMPLETION`, by the words after the name.
-#[tactic(auto, using(crate::proofs::WordCounts::few1))]
 pub fn try_wait(words: &[&[u8]]) -> Result<Call, Reason>
     ensures { result ≡ spec.try_wait_at (map (λ w. w.now) words.now) }
 {
@@ -103,7 +96,6 @@ pub fn try_wait(words: &[&[u8]]) -> Result<Call, Reason>
 }
 
 /// `isdone COMPLETION`, by the words after the name.
-#[tactic(auto, using(crate::proofs::WordCounts::few1))]
 pub fn is_done(words: &[&[u8]]) -> Result<Call, Reason>
     ensures { result ≡ spec.is_done_at (map (λ w. w.now) words.now) }
 {
@@ -115,7 +107,6 @@ pub fn is_done(words: &[&[u8]]) -> Result<Call, Reason>
 }
 
 /// `trybit BIT`, by the words after the name.
-#[tactic(auto, using(crate::proofs::WordCounts::few1))]
 pub fn try_bit(words: &[&[u8]]) -> Result<Call, Reason>
     ensures { result ≡ spec.try_bit_at (map (λ w. w.now) words.now) }
 {
@@ -127,7 +118,6 @@ pub fn try_bit(words: &[&[u8]]) -> Result<Call, Reason>
 }
 
 /// `waitbit BIT STATE`, by the words after the name.
-#[tactic(auto, using(crate::proofs::WordCounts::few2, crate::proofs::WordCounts::many2))]
 pub fn wait_bit(words: &[&[u8]]) -> Result<Call, Reason>
     ensures { result ≡ spec.wait_bit_at (map (λ w. w.now) words.now) }
 {
@@ -139,7 +129,6 @@ pub fn wait_bit(words: &[&[u8]]) -> Result<Call, Reason>
 }
 
 /// `lockbit BIT STATE`, by the words after the name.
-#[tactic(auto, using(crate::proofs::WordCounts::few2, crate::proofs::WordCounts::many2))]
 pub fn lock_bit(words: &[&[u8]]) -> Result<Call, Reason>
     ensures { result ≡ spec.lock_bit_at (map (λ w. w.now) words.now) }
 {
@@ -151,7 +140,6 @@ pub fn lock_bit(words: &[&[u8]]) -> Result<Call, Reason>
 }
 
 /// `lockpage PAGE STATE`, by the words after the name.
-#[tactic(auto, using(crate::proofs::WordCounts::few2))]
 pub fn lock_page(words: &[&[u8]]) -> Result<Call, Reason>
     ensures { result ≡ spec.lock_page_at (map (λ w. w.now) words.now) }
 {
@@ -163,7 +151,6 @@ pub fn lock_page(words: &[&[u8]]) -> Result<Call, Reason>
 }
 
 /// `clearbit BIT`, by the words after the name.
-#[tactic(auto, using(crate::proofs::WordCounts::few1))]
 pub fn clear_bit(words: &[&[u8]]) -> Result<Call, Reason>
     ensures { result ≡ spec.clear_bit_at (map (λ w. w.now) words.now) }
 {
@@ -175,7 +162,6 @@ pub fn clear_bit(words: &[&[u8]]) -> Result<Call, Reason>
 }
 
 /// `waitvar VARIABLE OLD STATE`, by the words after the name.
-#[tactic(auto, using(crate::proofs::WordCounts::few3))]
 pub fn wait_var(words: &[&[u8]]) -> Result<Call, Reason>
     ensures { result ≡ spec.wait_var_at (map (λ w. w.now) words.now) }
 {
@@ -187,7 +173,6 @@ pub fn wait_var(words: &[&[u8]]) -> Result<Call, Reason>
 }
 
 /// `setvar VARIABLE VALUE`, by the words after the name.
-#[tactic(auto, using(crate::proofs::WordCounts::few2))]
 pub fn set_var(words: &[&[u8]]) -> Result<Call, Reason>
     ensures { result ≡ spec.set_var_at (map (λ w. w.now) words.now) }
 {

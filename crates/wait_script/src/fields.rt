@@ -1,11 +1,12 @@
 //! The fields of a line: what a word says in its place, or why it says nothing there.
 
-ghost use Rattle.std.specs.Prelude.{◌≡◌, position};
+ghost use Rattle.std.specs.Prelude.{◌≡◌, map, position};
 ghost use Rattle.wait_script.specs.Fields as spec;
 ghost use Rattle.wait_script.specs.Fields.{number_within};
 ghost use Rattle.wait_script.specs.Number.{numeral_value};
 ghost use Rattle.wait_script.specs.declared.reason.Reason.TheVariants.{BadCondition};
 
+use crate::names::value_in;
 use crate::number::number;
 use crate::reason::Reason;
 use crate::words::both;
@@ -112,18 +113,27 @@ pub fn bit(text: &[u8]) -> Result<(u8, u8), Reason>
     )
 }
 
+/// The value that a table of keywords has at a word.
+fn keyword<T: Copy>(table: &[(&[u8], T)], word: &[u8]) -> Result<T, Reason>
+    ensures { result ≡ spec.keyword_at (map (λ entry. (entry.0.now, entry.1)) table.now) word.now }
+{
+    value_in(table, word).ok_or(Reason::BadForm)
+}
+
 /// How a wait sleeps: `plain`, `int`, `kill`, and exclusive as `int-ex`, `kill-ex`.
 pub fn how(word: &[u8]) -> Result<How, Reason>
     ensures { result ≡ spec.how_at word.now }
 {
-    let (state, exclusive) = match word {
-        b"plain" => (SleepState::Uninterruptible, false),
-        b"int" => (SleepState::Interruptible, false),
-        b"kill" => (SleepState::Killable, false),
-        b"int-ex" => (SleepState::Interruptible, true),
-        b"kill-ex" => (SleepState::Killable, true),
-        _ => return Err(Reason::BadForm),
-    };
+    let (state, exclusive) = keyword(
+        &[
+            (b"plain", (SleepState::Uninterruptible, false)),
+            (b"int", (SleepState::Interruptible, false)),
+            (b"kill", (SleepState::Killable, false)),
+            (b"int-ex", (SleepState::Interruptible, true)),
+            (b"kill-ex", (SleepState::Killable, true)),
+        ],
+        word,
+    )?;
     Ok(How { state, exclusive })
 }
 
@@ -131,77 +141,73 @@ pub fn how(word: &[u8]) -> Result<How, Reason>
 pub fn state(word: &[u8]) -> Result<SleepState, Reason>
     ensures { result ≡ spec.state_at word.now }
 {
-    match word {
-        b"plain" => Ok(SleepState::Uninterruptible),
-        b"int" => Ok(SleepState::Interruptible),
-        b"kill" => Ok(SleepState::Killable),
-        _ => Err(Reason::BadForm),
-    }
+    keyword(
+        &[
+            (b"plain", SleepState::Uninterruptible),
+            (b"int", SleepState::Interruptible),
+            (b"kill", SleepState::Killable),
+        ],
+        word,
+    )
 }
 
 /// The state in which a task sleeps on a simple queue: `plain` or `int`.
 pub fn simple_state(word: &[u8]) -> Result<SleepState, Reason>
     ensures { result ≡ spec.simple_state_at word.now }
 {
-    match word {
-        b"plain" => Ok(SleepState::Uninterruptible),
-        b"int" => Ok(SleepState::Interruptible),
-        _ => Err(Reason::BadForm),
-    }
+    keyword(
+        &[
+            (b"plain", SleepState::Uninterruptible),
+            (b"int", SleepState::Interruptible),
+        ],
+        word,
+    )
 }
 
 /// Which states a wake meets: `normal` or `int`.
 pub fn mode(word: &[u8]) -> Result<Mode, Reason>
     ensures { result ≡ spec.mode_at word.now }
 {
-    match word {
-        b"normal" => Ok(Mode::Normal),
-        b"int" => Ok(Mode::Interruptible),
-        _ => Err(Reason::BadForm),
-    }
+    keyword(
+        &[(b"normal", Mode::Normal), (b"int", Mode::Interruptible)],
+        word,
+    )
 }
 
 /// The kind of an entry that is added: `default` or `woken`.
 pub fn kind(word: &[u8]) -> Result<Kind, Reason>
     ensures { result ≡ spec.kind_field word.now }
 {
-    match word {
-        b"default" => Ok(Kind::Default),
-        b"woken" => Ok(Kind::Woken),
-        _ => Err(Reason::BadForm),
-    }
+    keyword(
+        &[(b"default", Kind::Default), (b"woken", Kind::Woken)],
+        word,
+    )
 }
 
 /// Where an entry is added: `front`, `tail` or `prio`.
 pub fn form(word: &[u8]) -> Result<Form, Reason>
     ensures { result ≡ spec.form_at word.now }
 {
-    match word {
-        b"front" => Ok(Form::Front),
-        b"tail" => Ok(Form::Tail),
-        b"prio" => Ok(Form::Priority),
-        _ => Err(Reason::BadForm),
-    }
+    keyword(
+        &[
+            (b"front", Form::Front),
+            (b"tail", Form::Tail),
+            (b"prio", Form::Priority),
+        ],
+        word,
+    )
 }
 
 /// Whether a signal is fatal: `plain` or `fatal`.
 pub fn fatal(word: &[u8]) -> Result<bool, Reason>
     ensures { result ≡ spec.fatal_at word.now }
 {
-    match word {
-        b"plain" => Ok(false),
-        b"fatal" => Ok(true),
-        _ => Err(Reason::BadForm),
-    }
+    keyword(&[(b"plain", false), (b"fatal", true)], word)
 }
 
 /// Whether a wake of a simple queue wakes all: `one` or `all`.
 pub fn all(word: &[u8]) -> Result<bool, Reason>
     ensures { result ≡ spec.all_at word.now }
 {
-    match word {
-        b"one" => Ok(false),
-        b"all" => Ok(true),
-        _ => Err(Reason::BadForm),
-    }
+    keyword(&[(b"one", false), (b"all", true)], word)
 }

@@ -4,6 +4,7 @@
 ghost use Rattle.std.specs.Prelude.{◌≡◌, map, codes};
 ghost use Rattle.std.specs.Str.{bytes_eq};
 ghost use Rattle.wait_script.specs.Forms as spec;
+ghost use Rattle.wait_script.specs.Names.{form_of};
 
 use crate::cells::{
     clear_bit, complete, complete_all, is_done, lock_bit, lock_page, reinit, set_var, simple_wait,
@@ -12,6 +13,7 @@ use crate::cells::{
 use crate::fields::{
     LAST_PRIORITY_TASK, condition, count, fatal, form, how, kind, mode, state, task, value,
 };
+use crate::names::{Name, name_of};
 use crate::reason::Reason;
 use crate::version::Version;
 use crate::words::both;
@@ -35,7 +37,6 @@ fn alone(words: &[&[u8]], call: Call) -> Result<Call, Reason>
 }
 
 /// `wait CONDITION HOW`, by the words after the name.
-#[tactic(auto, using(crate::proofs::WordCounts::few2))]
 fn wait(words: &[&[u8]]) -> Result<Call, Reason>
     ensures { result ≡ spec.wait_at (map (λ w. w.now) words.now) }
 {
@@ -47,7 +48,6 @@ fn wait(words: &[&[u8]]) -> Result<Call, Reason>
 }
 
 /// `set CONDITION VALUE`, by the words after the name.
-#[tactic(auto, using(crate::proofs::WordCounts::few2))]
 fn set(words: &[&[u8]]) -> Result<Call, Reason>
     ensures { result ≡ spec.set_at (map (λ w. w.now) words.now) }
 {
@@ -59,7 +59,6 @@ fn set(words: &[&[u8]]) -> Result<Call, Reason>
 }
 
 /// `take CONDITION`, by the words after the name.
-#[tactic(auto, using(crate::proofs::WordCounts::few1))]
 fn take(words: &[&[u8]]) -> Result<Call, Reason>
     ensures { result ≡ spec.take_at (map (λ w. w.now) words.now) }
 {
@@ -71,7 +70,6 @@ fn take(words: &[&[u8]]) -> Result<Call, Reason>
 }
 
 /// `read CONDITION`, by the words after the name.
-#[tactic(auto, using(crate::proofs::WordCounts::few1))]
 fn read(words: &[&[u8]]) -> Result<Call, Reason>
     ensures { result ≡ spec.read_at (map (λ w. w.now) words.now) }
 {
@@ -83,7 +81,6 @@ fn read(words: &[&[u8]]) -> Result<Call, Reason>
 }
 
 /// `wake CONDITION MODE COUNT`, by the words after the name.
-#[tactic(auto, using(crate::proofs::WordCounts::few3))]
 fn wake(version: Version, words: &[&[u8]]) -> Result<Call, Reason>
     ensures { result ≡ spec.wake_at version (map (λ w. w.now) words.now) }
 {
@@ -98,7 +95,6 @@ fn wake(version: Version, words: &[&[u8]]) -> Result<Call, Reason>
 }
 
 /// `add CONDITION KIND FORM`, by the words after the name.
-#[tactic(auto, using(crate::proofs::WordCounts::few3))]
 fn add(words: &[&[u8]]) -> Result<Call, Reason>
     ensures { result ≡ spec.add_at (map (λ w. w.now) words.now) }
 {
@@ -110,7 +106,6 @@ fn add(words: &[&[u8]]) -> Result<Call, Reason>
 }
 
 /// `woken STATE`, by the words after the name.
-#[tactic(auto, using(crate::proofs::WordCounts::few1))]
 fn woken(words: &[&[u8]]) -> Result<Call, Reason>
     ensures { result ≡ spec.woken_at (map (λ w. w.now) words.now) }
 {
@@ -122,7 +117,6 @@ fn woken(words: &[&[u8]]) -> Result<Call, Reason>
 }
 
 /// `signal TASK FORM`, by the words after the name.
-#[tactic(auto, using(crate::proofs::WordCounts::few2))]
 fn signal(version: Version, words: &[&[u8]]) -> Result<Call, Reason>
     ensures { result ≡ spec.signal_at version (map (λ w. w.now) words.now) }
 {
@@ -134,7 +128,6 @@ fn signal(version: Version, words: &[&[u8]]) -> Result<Call, Reason>
 }
 
 /// `kick TASK`, by the words after the name.
-#[tactic(auto, using(crate::proofs::WordCounts::few1))]
 fn kick(version: Version, words: &[&[u8]]) -> Result<Call, Reason>
     ensures { result ≡ spec.kick_at version (map (λ w. w.now) words.now) }
 {
@@ -145,37 +138,46 @@ fn kick(version: Version, words: &[&[u8]]) -> Result<Call, Reason>
     Ok(Call::Kick { who })
 }
 
-/// A call that scripts of all versions have, by its name and the words after it.
-fn shared(version: Version, name: &[u8], rest: &[&[u8]]) -> Result<Call, Reason>
-    ensures { result ≡ spec.call_in (spec.shared_forms version) name.now (map (λ w. w.now) rest.now) }
+/// A call that scripts of all versions have, by its name and what the words after it say.
+fn by_name(version: Version, name: Name, rest: &[&[u8]]) -> Result<Call, Reason>
+    ensures { result ≡ form_of version name (map (λ w. w.now) rest.now) }
 {
     match name {
-        b"wait" => wait(rest),
-        b"set" => set(rest),
-        b"take" => take(rest),
-        b"read" => read(rest),
-        b"wake" => wake(version, rest),
-        b"add" => add(rest),
-        b"remove" => alone(rest, Call::Remove),
-        b"woken" => woken(rest),
-        b"signal" => signal(version, rest),
-        b"accept" => alone(rest, Call::Accept),
-        b"kick" => kick(version, rest),
-        b"swait" => simple_wait(rest),
-        b"swake" => simple_wake(rest),
-        b"complete" => complete(rest),
-        b"completeall" => complete_all(rest),
-        b"reinit" => reinit(rest),
-        b"waitfor" => wait_for(rest),
-        b"trywait" => try_wait(rest),
-        b"isdone" => is_done(rest),
-        b"trybit" => try_bit(rest),
-        b"waitbit" => wait_bit(rest),
-        b"lockbit" => lock_bit(rest),
-        b"clearbit" => clear_bit(rest),
-        b"waitvar" => wait_var(rest),
-        b"setvar" => set_var(rest),
-        _ => Err(Reason::UnknownWord),
+        Name::Wait => wait(rest),
+        Name::Set => set(rest),
+        Name::Take => take(rest),
+        Name::Read => read(rest),
+        Name::Wake => wake(version, rest),
+        Name::Add => add(rest),
+        Name::Remove => alone(rest, Call::Remove),
+        Name::Woken => woken(rest),
+        Name::Signal => signal(version, rest),
+        Name::Accept => alone(rest, Call::Accept),
+        Name::Kick => kick(version, rest),
+        Name::SimpleWait => simple_wait(rest),
+        Name::SimpleWake => simple_wake(rest),
+        Name::Complete => complete(rest),
+        Name::CompleteAll => complete_all(rest),
+        Name::Reinit => reinit(rest),
+        Name::WaitFor => wait_for(rest),
+        Name::TryWait => try_wait(rest),
+        Name::IsDone => is_done(rest),
+        Name::TryBit => try_bit(rest),
+        Name::WaitBit => wait_bit(rest),
+        Name::LockBit => lock_bit(rest),
+        Name::ClearBit => clear_bit(rest),
+        Name::WaitVar => wait_var(rest),
+        Name::SetVar => set_var(rest),
+    }
+}
+
+/// A call that scripts of all versions have, by its name and the words after it.
+fn shared(version: Version, word: &[u8], rest: &[&[u8]]) -> Result<Call, Reason>
+    ensures { result ≡ spec.call_in (spec.shared_forms version) word.now (map (λ w. w.now) rest.now) }
+{
+    match name_of(word) {
+        Some(name) => by_name(version, name, rest),
+        None => Err(Reason::UnknownWord),
     }
 }
 
@@ -183,7 +185,7 @@ fn shared(version: Version, name: &[u8], rest: &[&[u8]]) -> Result<Call, Reason>
 fn is_lock_page(name: &[u8]) -> bool
     ensures { result ≡ bytes_eq name.now (codes "lockpage") }
 {
-    matches!(name, b"lockpage")
+    name == b"lockpage".as_slice()
 }
 
 /// A call of a script of version 2, by its name and the words after it.
@@ -211,14 +213,14 @@ pub fn named(version: Version, name: &[u8], rest: &[&[u8]]) -> Result<Call, Reas
 fn is_add(name: &[u8]) -> bool
     ensures { result ≡ bytes_eq name.now (codes "add") }
 {
-    matches!(name, b"add")
+    name == b"add".as_slice()
 }
 
 /// Whether a word is `prio`.
 fn is_prio(word: &[u8]) -> bool
     ensures { result ≡ bytes_eq word.now (codes "prio") }
 {
-    matches!(word, b"prio")
+    word == b"prio".as_slice()
 }
 
 /// The last task that may make a call in a script of this version: an `add` with priority is for the first tasks alone.

@@ -10,6 +10,7 @@ mod events;
 mod fields;
 mod forms;
 mod line;
+mod names;
 mod number;
 mod pieces;
 mod reader;

@@ -23,7 +23,6 @@ pub enum Line {
 }
 
 /// `step TASK COUNT`, by the words after the first.
-#[tactic(auto, using(crate::proofs::WordCounts::few_step))]
 fn step(version: Version, words: &[&[u8]]) -> Result<Line, Reason>
     ensures { result ≡ step_at version (map (λ w. w.now) words.now) }
 {
@@ -56,10 +55,12 @@ fn by_words(version: Version, words: &[&[u8]]) -> Result<Line, Reason>
     let [verb, rest @ ..] = words else {
         return Err(Reason::UnknownWord);
     };
-    match *verb {
-        b"call" => call(version, rest),
-        b"step" => step(version, rest),
-        _ => Err(Reason::UnknownWord),
+    if *verb == b"call".as_slice() {
+        call(version, rest)
+    } else if *verb == b"step".as_slice() {
+        step(version, rest)
+    } else {
+        Err(Reason::UnknownWord)
     }
 }
 

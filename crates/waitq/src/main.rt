@@ -1,42 +1,12 @@
 //! The program that replays scripts, drills, and copies files.
 #![tactic(auto)]
 
-mod command;
-mod copy;
-#[cfg(test)]
-mod copy_rows;
-mod drill;
-mod events;
-mod fault;
 mod files;
-#[cfg(test)]
-mod page_rows;
-mod play;
-#[cfg(test)]
-mod refused_rows;
-mod replay;
-mod report;
-#[cfg(test)]
-mod rows;
-mod run;
-mod silent;
 mod streams;
-#[cfg(test)]
-mod tests;
-mod told;
-#[cfg(test)]
-mod waiting_rows;
-#[cfg(test)]
-mod walks;
-mod watchers;
-mod watching;
 
-use fault::Fault;
 use files::Disk;
 use flow_copy::OpenGate;
 use func_head::FuncHead;
-use report::report;
-use run::run;
 use std::alloc::AllocError;
 use std::process::ExitCode;
 use std::sync::Wait;
@@ -44,7 +14,10 @@ use std::thread::Threads;
 use std::{env, io};
 use streams::{Reading, Writing};
 use wait_rule::Domain;
-use watchers::{Lengths, Lines};
+use waitq_run::fault::Fault;
+use waitq_run::report::report;
+use waitq_run::run::run;
+use waitq_run::watchers::{Lengths, Lines};
 
 /// The words after the program's name.
 fn words(rt: &HostRuntime) -> io::Result<Vec<String>> {

@@ -76,13 +76,18 @@ static void ordered(void)
     EXPECT(sugwelan_unlock_page(other, PAGE, NULL), 0);
 }
 
-static void *races(void *unused)
+/* A call about one thing, and a wait for the same: what EXPECT counts would order the threads. */
+static int own_calls(struct sugwelan_task *task, uint32_t cell)
+{
+    int answer = sugwelan_complete(task, cell);
+    return answer ? answer : sugwelan_wait_for_completion(task, cell, SUGWELAN_UNINTERRUPTIBLE);
+}
+
+static void *races(void *answer)
 {
     struct timespec nap = {.tv_nsec = NAP};
-    (void)unused;
     nanosleep(&nap, NULL);
-    EXPECT(sugwelan_complete(other, OTHER_CELL), 0);
-    EXPECT(sugwelan_wait_for_completion(other, OTHER_CELL, SUGWELAN_UNINTERRUPTIBLE), 0);
+    *(int *)answer = own_calls(other, OTHER_CELL);
     shared++;
     return NULL;
 }
@@ -90,11 +95,13 @@ static void *races(void *unused)
 static void unordered(void)
 {
     pthread_t thread;
-    EXPECT(pthread_create(&thread, NULL, races, NULL), 0);
+    int answer = -1, answers;
+    EXPECT(pthread_create(&thread, NULL, races, &answer), 0);
     shared++;
-    EXPECT(sugwelan_complete(one, CELL), 0);
-    EXPECT(sugwelan_wait_for_completion(one, CELL, SUGWELAN_UNINTERRUPTIBLE), 0);
+    answers = own_calls(one, CELL);
     EXPECT(pthread_join(thread, NULL), 0);
+    EXPECT(answers, 0);
+    EXPECT(answer, 0);
 }
 
 int main(int count, char **words)

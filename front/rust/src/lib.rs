@@ -39,9 +39,9 @@
 //!
 //! # What is yours to keep
 //!
-//! Calls are not for signal handlers, and a Domain not for both sides of a `fork(2)`. Under a checker of races
-//! (`-Zsanitizer=thread`) the archive's own memory orders are not seen: pass `--cfg sugwelan_checks_races` too, and
-//! build std anew (`-Zbuild-std`), or what a lock here guards is reported.
+//! Calls are not for signal handlers, and a Domain not for both sides of a `fork(2)`. A checker of races
+//! (`-Zsanitizer=thread`) does not see what the archive orders: pass `--cfg sugwelan_checks_races` too, and build std
+//! with it (`-Zbuild-std`).
 
 mod bells;
 mod bit_lock;

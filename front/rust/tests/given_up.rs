@@ -12,7 +12,7 @@ use std::sync::{mpsc, Arc};
 use std::task::{Context, Poll, Waker};
 use std::thread;
 use std::time::Duration;
-use sugwelan::{Bit, Completion, Domain, Error, Interruptible, Killable, Page, Signal, Task};
+use sugwelan::{Bit, Completion, Domain, Error, Interruptible, Killable, Left, Page, Signal, Task, Wait};
 
 const BIT: Bit = Bit::new(3, 4);
 const PAGE: Page = Page::new(5);
@@ -50,6 +50,16 @@ const HOWS: [How; 5] = [
     How::WakerPanics,
     How::Forgotten,
 ];
+
+/// What becomes of the task.
+#[derive(Clone, Copy, Debug, PartialEq, Eq)]
+enum Then {
+    Idle,
+    Calls,
+    Dropped,
+}
+
+const THENS: [Then; 3] = [Then::Idle, Then::Calls, Then::Dropped];
 
 /// Waits once, in either state that can be left.
 async fn wait(kind: Kind, task: &mut Task, killable: bool) -> Result<(), Error> {
@@ -101,8 +111,34 @@ fn put(kind: Kind, task: &mut Task) {
     }
 }
 
-/// Begins to wait for the token, of which one is given back meanwhile, and gives up in some way, with the task or not.
+/// Polls a wait once, and forgets it where it is under way: whether it is over.
+fn forget<T, S: Left>(mut wait: Wait<'_, T, S>) -> bool {
+    let over = poll_once(Pin::new(&mut wait)).is_ready();
+    std::mem::forget(wait);
+    over
+}
+
+/// The same of a wait for the token.
+fn forgotten(kind: Kind, task: &mut Task, killable: bool) -> bool {
+    match (kind, killable) {
+        (Kind::Bit, false) => forget(task.wait_on_bit_lock(BIT, Interruptible)),
+        (Kind::Bit, true) => forget(task.wait_on_bit_lock(BIT, Killable)),
+        (Kind::Page, false) => forget(task.lock_page(PAGE, Interruptible)),
+        (Kind::Page, true) => forget(task.lock_page(PAGE, Killable)),
+        (Kind::Permit, false) => forget(PERMIT.wait(task, Interruptible)),
+        (Kind::Permit, true) => forget(PERMIT.wait(task, Killable)),
+        (Kind::Exclusive, false) => forget(task.wait_event_exclusive(PLAIN, Interruptible)),
+        (Kind::Exclusive, true) => forget(task.wait_event_exclusive(PLAIN, Killable)),
+        (Kind::Simple, _) => forget(task.swait_event(SIMPLE, Interruptible)),
+    }
+}
+
+/// Begins to wait for the token, of which one is given back meanwhile, and gives up in some way.
 fn give_up(kind: Kind, how: How, killable: bool, lost: &mut Task, put: impl FnOnce()) {
+    if how == How::Forgotten {
+        assert!(!forgotten(kind, lost, killable));
+        return put();
+    }
     let mut wait = Box::pin(get(kind, lost, killable));
     let waker = match how {
         How::WakerPanics => Waker::from(Arc::new(Broken)),
@@ -124,10 +160,7 @@ fn give_up(kind: Kind, how: How, killable: bool, lost: &mut Task, put: impl FnOn
             assert!(panics(put));
             drop(wait);
         }
-        How::Forgotten => {
-            put();
-            std::mem::forget(wait);
-        }
+        How::Forgotten => unreachable!("see above"),
     }
 }
 
@@ -145,7 +178,10 @@ fn each(case: impl Fn(Kind, How, bool)) {
 #[test]
 fn the_next_future_gets_it() {
     each(|kind, how, killable| {
-        for keeps_task in [false, true] {
+        for then in THENS {
+            if then == Then::Idle && how == How::Forgotten {
+                continue;
+            }
             let domain = Domain::new().unwrap();
             let (mut keeper, mut lost, mut next) =
                 (domain.task().unwrap(), domain.task().unwrap(), domain.task().unwrap());
@@ -158,15 +194,18 @@ fn the_next_future_gets_it() {
                 assert!(second.as_mut().poll(&mut Context::from_waker(&waker)).is_pending());
                 put(kind, &mut keeper);
             });
-            match keeps_task {
-                true => assert_eq!(lost.take_signal(), Ok(None), "{kind:?} {how:?}"),
-                false => drop(lost),
+            match then {
+                Then::Idle => {}
+                Then::Calls => assert_eq!(lost.take_signal(), Ok(None), "{kind:?} {how:?}"),
+                Then::Dropped => drop(lost),
             }
             assert!(counting.0.load(SeqCst) > 0, "{kind:?} {how:?}: not woken");
             assert!(
                 poll_once(second.as_mut()).is_ready(),
                 "{kind:?} {how:?}: woken and got nothing"
             );
+            drop(second);
+            put(kind, &mut next);
         }
     });
 }
@@ -182,8 +221,9 @@ fn the_next_thread_gets_it() {
         give_up(kind, how, killable, &mut lost, || {
             thread::spawn(move || {
                 block(kind, &mut next);
+                put(kind, &mut next);
+                drop(next);
                 says.send(()).unwrap();
-                next
             });
             thread::sleep(Duration::from_millis(1));
             put(kind, &mut keeper);
@@ -302,13 +342,9 @@ fn tasks_are_dropped_in_mid_wait() {
                                 put(kind, &mut task);
                             }
                             1 => {
-                                let mut wait = Box::pin(get(kind, &mut task, true));
-                                match poll_once(wait.as_mut()) {
-                                    Poll::Pending => std::mem::forget(wait),
-                                    Poll::Ready(()) => {
-                                        drop(wait);
-                                        put(kind, &mut task);
-                                    }
+                                let over = forgotten(kind, &mut task, true);
+                                if over && matches!(kind, Kind::Bit | Kind::Page | Kind::Permit) {
+                                    put(kind, &mut task);
                                 }
                             }
                             _ => {
@@ -323,6 +359,7 @@ fn tasks_are_dropped_in_mid_wait() {
             }
         });
         block(kind, &mut first);
+        put(kind, &mut first);
     }
 }
 

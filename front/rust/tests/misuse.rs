@@ -144,22 +144,6 @@ fn numbers_are_used_again() {
     assert_eq!(count.into_inner(), each * 4);
 }
 
-/// One that keeps a bit does not go back: the bit stays taken, and its number is not used again.
-#[test]
-fn a_task_that_keeps_a_bit_is_not_used_again() {
-    let domain = Domain::new().unwrap();
-    let mut keeper = domain.task().unwrap();
-    let number = keeper.number();
-    assert_eq!(keeper.trylock_bit(BIT), Ok(true));
-    drop(keeper);
-    let mut rest: Vec<Task> = std::iter::from_fn(|| domain.task().ok()).collect();
-    assert_eq!(rest.len(), 254);
-    assert!(rest.iter().all(|task| task.number() != number));
-    assert_eq!(rest[0].trylock_bit(BIT), Ok(false));
-    std::mem::forget(domain.bit_lock(OTHER).lock(&mut rest[0], PLAIN).unwrap());
-    assert_eq!(rest.swap_remove(0).close().unwrap_err().1, Error::Keeps);
-}
-
 /// A signal ends no call that need not sleep; who is to stop looks for it.
 #[test]
 fn a_signal_is_seen_and_not_taken() {

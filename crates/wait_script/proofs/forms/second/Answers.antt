@@ -1,6 +1,6 @@
-use Rattle.std.proofs.Common.{◌≡◌, List, codes, sym, ◌∙◌, map}
+use Rattle.std.proofs.Common.{◌≡◌, codes, sym, ◌∙◌, map}
 use Rattle.wait_script.specs.declared.version.Version.TheVariants.{Two}
-use Rattle.wait_script.specs.Forms.{shared_forms, lock_page_at, named_at}
+use Rattle.wait_script.specs.Forms.{shared_forms, lock_page_at}
 use Rattle.wait_script.proofs.ReadForms.{same_name, call_more}
 use Rattle.wait_script.proofs.forms.second.Goals as goal
 

@@ -1,0 +1,63 @@
+#!/usr/bin/env bash
+# Measures what the gate takes from nothing: `rt ci --anew` in a fresh clone, with the processor seconds of each crate's
+# proof, its proof with tests, its edits, and its programs with what is run, as a table for docs/MEASURING.md.
+#
+# usage: bench/gate_time.sh [--keep] [--folder FOLDER] [NAME]...
+#        bench/gate_time.sh --start [--folder FOLDER]
+#
+# NAME: these crates and those below them alone, as `rt ci NAME..` does. --keep: plain `rt ci`, which proves only what it
+# has not kept, and is the real gate at the same time. --start: a first `./waitq` in place of the gate, with a kit that
+# keeps nothing yet. --folder: a clone that is there already, in place of one of this repository's last commit.
+#
+# It uses the processors that the caller may use (taskset). The gate's own output goes to standard error, the table and
+# the sums to standard output; the status is that of the gate. It needs rt, git and python3.
+set -eu
+
+root=$(dirname -- "$(dirname -- "$(readlink -f -- "${BASH_SOURCE[0]}")")")
+folder=
+what=--anew
+while [ $# -gt 0 ]; do
+    case $1 in
+        --keep) what= ;;
+        --start) what=--start ;;
+        --folder) folder=$(readlink -f -- "$2") && shift ;;
+        -*) sed -n '5,6s/^# *//p' -- "${BASH_SOURCE[0]}" >&2 && exit 2 ;;
+        *) break ;;
+    esac
+    shift
+done
+work=$(mktemp -d)
+trap 'kill $(jobs -p) 2>/dev/null; wait; rm -rf -- "$work"' EXIT
+trap 'exit 130' INT
+trap 'exit 143' TERM
+
+# Makes a kit of the same files in $work/kit. What rt keeps lies beside its kit, so with this one it has kept nothing.
+link_kit() {
+    local kit part
+    kit=$(dirname -- "$(rt doc)")
+    mkdir -p -- "$work/kit/rattle"
+    for part in "$kit"/*; do
+        ln -s -- "$part" "$work/kit/rattle/"
+    done
+    rm -- "$work/kit/rattle/bin"
+    cp -al -- "$kit/bin" "$work/kit/rattle/" 2>"$work/said" || cp -a -- "$kit/bin" "$work/kit/rattle/"
+    PATH=$work/kit/rattle/bin:$PATH
+}
+
+if [ -z "$folder" ]; then
+    folder=$work/clone
+    git clone -q -- "$root" "$folder"
+fi
+cd -- "$folder"
+commit=$(git log -1 --format=%h)
+[ -z "$(git status --porcelain)" ] || commit="$commit with changes"
+if [ "$what" = --start ]; then
+    link_kit
+    printf 'waitq 1\n' >"$work/script"
+    set -- ./waitq replay
+else
+    : >"$work/script"
+    set -- rt ci ${what:+"$what"} "$@"
+fi
+COMMIT=$commit python3 "$root/bench/gate_time.py" "$@" <"$work/script" &
+wait $!

@@ -1,8 +1,0 @@
-//! The plan of a chart: its rows and lanes, what stands after each row, and where everything is drawn.
-#![tactic(auto)]
-
-pub mod frame;
-pub mod lanes;
-pub mod measure;
-pub mod plan;
-pub mod rows;

@@ -1,0 +1,20 @@
+use Rattle.wait_model.specs.declared.calls.Call.TheVariants as call
+use Rattle.wait_script.specs.Fields.{page_at, state_at}
+use Rattle.wait_script.proofs.WordCounts.{few2, many2, ok2, err2}
+use Rattle.wait_script.proofs.cells.lock_page.Goals as goal
+
+pub returns-in_default : goal.returns-in_default
+returns-in_default c = few2 page_at state_at (λ word state. call.LockPage word state) c.args.words.now c.in_default.len_below
+
+pub returns-in_default-2 : goal.returns-in_default-2
+returns-in_default-2 c = many2 page_at state_at (λ word state. call.LockPage word state) c.args.words.now c.in_default.len_at_least
+
+pub returns-in_err-word : goal.returns-in_err-word
+returns-in_err-word c =
+    err2 page_at state_at (λ word state. call.LockPage word state) c.args.words.now _ c.in-len2.len_at_least c.in-len2.len_below
+    c.in_err-word.ensures c.page.ensures c.state.ensures c.from_residual.ensures.1
+
+pub returns : goal.returns
+returns c =
+    ok2 page_at state_at (λ word state. call.LockPage word state) c.args.words.now _ c.in-len2.len_at_least c.in-len2.len_below
+    c.in_ok-word.ensures c.page.ensures c.state.ensures

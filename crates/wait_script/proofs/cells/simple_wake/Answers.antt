@@ -1,0 +1,21 @@
+use Rattle.wait_model.specs.declared.calls.Call.TheVariants as call
+use Rattle.wait_model.specs.declared.layout.TheConstants.{FIRST_SIMPLE}
+use Rattle.wait_script.specs.Fields.{all_at, cond_field, last_cond}
+use Rattle.wait_script.proofs.WordCounts.{few2, many2, ok2, err2}
+use Rattle.wait_script.proofs.cells.simple_wake.Goals as goal
+
+pub returns-in_default : goal.returns-in_default
+returns-in_default c = few2 (cond_field FIRST_SIMPLE last_cond) all_at (λ cond all. call.SimpleWake cond all) c.args.words.now c.in_default.len_below
+
+pub returns-in_default-2 : goal.returns-in_default-2
+returns-in_default-2 c = many2 (cond_field FIRST_SIMPLE last_cond) all_at (λ cond all. call.SimpleWake cond all) c.args.words.now c.in_default.len_at_least
+
+pub returns-in_err-cond : goal.returns-in_err-cond
+returns-in_err-cond c =
+    err2 (cond_field FIRST_SIMPLE last_cond) all_at (λ cond all. call.SimpleWake cond all) c.args.words.now _ c.in-len2.len_at_least c.in-len2.len_below
+    c.in_err-cond.ensures c.condition.ensures c.all.ensures c.from_residual.ensures.1
+
+pub returns : goal.returns
+returns c =
+    ok2 (cond_field FIRST_SIMPLE last_cond) all_at (λ cond all. call.SimpleWake cond all) c.args.words.now _ c.in-len2.len_at_least c.in-len2.len_below
+    c.in_ok-cond.ensures c.condition.ensures c.all.ensures

@@ -1,0 +1,18 @@
+//! Worked scripts, refusals, faults and copies through `run` of `waitq_run`: tests alone, so that no proof of the program
+//! is made twice.
+#![tactic(auto)]
+
+#[cfg(test)]
+mod copy_rows;
+#[cfg(test)]
+mod page_rows;
+#[cfg(test)]
+mod refused_rows;
+#[cfg(test)]
+mod rows;
+#[cfg(test)]
+mod tests;
+#[cfg(test)]
+mod waiting_rows;
+#[cfg(test)]
+mod walks;

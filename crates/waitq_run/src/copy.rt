@@ -1,0 +1,241 @@
+//! The command `copy`: one file is copied to another by tasks in threads of their own.
+
+ghost use Rattle.std.specs.Prelude.{◌≡◌, ◌≤◌, ◌-◌, length, IfOk, IfErr, OnErr, OnOk};
+ghost use Rattle.edge_io.specs.Folders.{HasBytes, HoldsNothing};
+ghost use Rattle.wait_model.specs.declared.layout.TheConstants.{TASKS};
+ghost use Rattle.wait_rule.specs.Says.{IsClean, newcomer};
+ghost use Rattle.flow_copy.specs.declared.TheConstants.{SIGNALS};
+ghost use Rattle.flow_copy.specs.Copied.{HasNoSteps};
+ghost use Rattle.waitq_run.specs.Copying.{Concludes, CopyLeft, IsMakeFault, IsOpenFault, IsStartFault, Through};
+ghost use Rattle.waitq_run.specs.Copying.{copy_text, fault_after, outside, tells};
+
+use crate::fault::Fault;
+use crate::told::write_told;
+use crate::watching::Tellers;
+use edge_io::{Folder, OpenFault, Sink, SinkFault};
+use flow_copy::{CopyEnd, Gate, Planned, ReaderEnd, Stop, copy_all};
+use std::alloc::Global;
+use std::sync::Wait;
+use std::thread::Threads;
+use wait_rule::{Domain, Task};
+
+/// What a copy command is told: the names of the two files, and the signals to be sent meanwhile.
+#[derive(Clone, Copy)]
+pub struct Order<'a, 'p> {
+    pub src: &'a str,
+    pub dst: &'a str,
+    pub plan: &'p [Planned],
+}
+
+/// What a copy runs on: the source and the sink.
+#[derive(Drop)]
+struct Begun<S, K> {
+    source: S,
+    sink: K,
+}
+
+/// Opens the source.
+fn open_source<'a, F: Folder>(
+    alloc: Global,
+    folder: &mut F,
+    src: &'a str,
+) -> Result<F::In, Fault<'a>>
+    ensures found { IfOk result (λ source. HasBytes (F.files folder.old) src.entry.now (F.In.left source)) }
+    ensures fresh { IfOk result (λ source. F.In.faults source ≡ 0) }
+    ensures same { F.files folder.new ≡ F.files folder.old }
+    ensures reads { OnOk result (F.read_faults folder.new ≡ F.read_faults folder.old) }
+    ensures writes { F.write_faults folder.new ≡ F.write_faults folder.old }
+    ensures cause { IfErr result (λ why. IsOpenFault (F.files folder.old) (F.read_faults folder.old)
+        (F.read_faults folder.new) src.entry.now why) }
+{
+    match folder.open(alloc, src) {
+        Ok(source) => Ok(source),
+        Err(OpenFault::Failed) => Err(Fault::Read),
+        Err(OpenFault::OutOfMemory) => Err(Fault::Memory),
+        Err(OpenFault::NoSuchFile) => Err(Fault::NoFile { name: src }),
+    }
+}
+
+/// Makes the sink.
+fn create_sink<F: Folder>(
+    alloc: Global,
+    folder: &mut F,
+    dst: &str,
+) -> Result<F::Out, Fault<'static>>
+    ensures empty { IfOk result (λ sink. HoldsNothing (F.files folder.old) (F.Out.held sink)) }
+    ensures fresh { IfOk result (λ sink. F.Out.faults sink ≡ 0) }
+    ensures same { F.files folder.new ≡ F.files folder.old }
+    ensures reads { F.read_faults folder.new ≡ F.read_faults folder.old }
+    ensures writes { OnOk result (F.write_faults folder.new ≡ F.write_faults folder.old) }
+    ensures cause { IfErr result (λ why. IsMakeFault (F.write_faults folder.old) (F.write_faults folder.new) why) }
+{
+    match folder.create(alloc, dst) {
+        Ok(sink) => Ok(sink),
+        Err(OpenFault::Failed) => Err(Fault::Write),
+        Err(OpenFault::OutOfMemory | OpenFault::NoSuchFile) => Err(Fault::Memory),
+    }
+}
+
+/// Opens the source and makes the sink, in this order. Where one of these is refused it ends there, and an opened
+/// source is closed.
+fn begin<'a, F: Folder>(
+    alloc: Global,
+    folder: &mut F,
+    src: &'a str,
+    dst: &str,
+) -> Result<Begun<F::In, F::Out>, Fault<'a>>
+    ensures found { IfOk result (λ begun. HasBytes (F.files folder.old) src.entry.now (F.In.left begun.source)) }
+    ensures opened { IfOk result (λ begun. F.In.faults begun.source ≡ 0) }
+    ensures empty { IfOk result (λ begun. HoldsNothing (F.files folder.old) (F.Out.held begun.sink)) }
+    ensures made { IfOk result (λ begun. F.Out.faults begun.sink ≡ 0) }
+    ensures same { F.files folder.new ≡ F.files folder.old }
+    ensures reads { OnOk result (F.read_faults folder.new ≡ F.read_faults folder.old) }
+    ensures writes { OnOk result (F.write_faults folder.new ≡ F.write_faults folder.old) }
+    ensures cause { IfErr result (λ why. IsStartFault (F.files folder.old) (F.read_faults folder.old)
+        (F.read_faults folder.new) (F.write_faults folder.old) (F.write_faults folder.new) src.entry.now why) }
+{
+    let source = open_source(alloc, folder, src)?;
+    match create_sink(alloc, folder, dst) {
+        Ok(sink) => Ok(Begun { source, sink }),
+        Err(fault) => {
+            folder.close(source);
+            Err(fault)
+        }
+    }
+}
+
+/// Why a copy that was begun ends early, by how it stopped and by what storing its sink answered: the first of these
+/// causes.
+fn fault_after(stop: Stop, stored: Result<(), SinkFault>) -> Option<Fault<'static>>
+    ensures { result ≡ fault_after stop stored }
+{
+    match (stop, stored) {
+        (Stop::Memory, _) | (_, Err(SinkFault::OutOfMemory)) => Some(Fault::Memory),
+        (Stop::Worn { place, .. }, _) => Some(Fault::Worn { place }),
+        (Stop::ReadFault, _) => Some(Fault::Read),
+        (Stop::WriteFault, _) | (_, Err(SinkFault::Failed)) => Some(Fault::Write),
+        (Stop::Long, _) => Some(Fault::Long),
+        (Stop::Killed, _) => Some(Fault::Killed),
+        (Stop::Finished | Stop::Broken | Stop::Taken, Ok(())) => None,
+    }
+}
+
+/// What a copy left that ran: its watchers, what is told of it, how it stopped, and what storing its sink answered.
+#[derive(Drop)]
+struct Left<W> {
+    watch: W,
+    reader: ReaderEnd,
+    moved: u64,
+    stop: Stop,
+    stored: Result<(), SinkFault>,
+}
+
+/// Copies, closes the source, and stores the sink whatever the copy's stop was.
+///
+/// Memory: there was no memory for one of the copy's threads. Nothing was copied then: the source is closed, the sink is
+/// dropped and not stored, and no task has made a step.
+fn copy_through<R: Threads + Wait + Sync, F: Folder, W: Tellers + Send + Drop, G: Gate + Sync>(
+    rt: &R,
+    alloc: Global,
+    folder: &mut F,
+    domain: &Domain,
+    task: &mut Task,
+    begun: Begun<F::In, F::Out>,
+    watch: W,
+    gate: &G,
+    order: Order<'_, '_>,
+) -> Result<Left<W>, Fault<'static>>
+    requires fresh { task.old ≡ newcomer domain.now 0 1 (TASKS - 1) }
+    requires few { length order.plan.now ≤ SIGNALS }
+    requires found { HasBytes (F.files folder.old) order.src.now (F.In.left begun.source) }
+    requires opened { F.In.faults begun.source ≡ 0 }
+    requires empty { HoldsNothing (F.files folder.old) (F.Out.held begun.sink) }
+    requires made { F.Out.faults begun.sink ≡ 0 }
+    ensures through { IfOk result (λ left. Through domain.now task.new (F.files folder.old) (F.files folder.new)
+        (F.read_faults folder.old) (F.read_faults folder.new) (F.write_faults folder.old) (F.write_faults folder.new)
+        order.entry.src.now order.entry.dst.now order.entry.plan.now (W.entries watch) (W.entries left.watch)
+        left.reader left.stop left.moved left.stored) }
+    ensures memory { IfErr result (λ why. why ≡ Fault.Memory) }
+    ensures same { OnErr result (F.files folder.new ≡ F.files folder.old) }
+    ensures idle { OnErr result (HasNoSteps domain.now task.new) }
+    ensures clean { IsClean task.new }
+{
+    let Begun { source, sink } = begun;
+    let end = match copy_all(rt, domain, task, source, sink, watch, order.plan, gate) {
+        Ok(end) => end,
+        Err(unstarted) => {
+            folder.close(unstarted.source);
+            return Err(Fault::Memory);
+        }
+    };
+    let CopyEnd {
+        source,
+        sink,
+        watch,
+        reader,
+        moved,
+        stop,
+        ..
+    } = end;
+    folder.close(source);
+    let stored = folder.store(alloc, order.dst, sink);
+    Ok(Left {
+        watch,
+        reader,
+        moved,
+        stop,
+        stored,
+    })
+}
+
+/// Writes the text of a copy that has no fault, or answers the fault.
+fn conclude<O: Sink, W: Tellers>(out: &mut O, left: &Left<W>) -> Result<(), Fault<'static>>
+    ensures told { Concludes (fault_after left.now.stop left.now.stored)
+        (copy_text left.now.reader.read left.now.moved
+        (tells (W.entries left.now.watch)) left.now.reader.sent) (O.held out.old) (O.held out.new) (O.faults out.old)
+        (O.faults out.new) result }
+{
+    match fault_after(left.stop, left.stored) {
+        Some(fault) => Err(fault),
+        None => Ok(write_told(out, &left.watch, &left.reader, left.moved)?),
+    }
+}
+
+/// Copies the file `src` to the file `dst`, with the watchers at each piece that goes into it, and writes what is told
+/// of it.
+///
+/// The source is opened first, and then the sink is made; where one of these is refused, or one of the copy's tasks can't
+/// have a thread (Memory), it ends there and no file is changed. After the copy the source is closed, and the sink is
+/// stored whatever the copy's stop was.
+pub fn copy<
+    'a,
+    R: Threads + Wait + Sync,
+    F: Folder,
+    O: Sink,
+    W: Tellers + Send + Drop,
+    G: Gate + Sync,
+>(
+    rt: &R,
+    alloc: Global,
+    folder: &mut F,
+    out: &mut O,
+    domain: &Domain,
+    task: &mut Task,
+    watch: W,
+    gate: &G,
+    order: Order<'a, '_>,
+) -> Result<(), Fault<'a>>
+    requires fresh { task.old ≡ newcomer domain.now 0 1 (TASKS - 1) }
+    requires few { length order.plan.now ≤ SIGNALS }
+    ensures left { CopyLeft domain.now task.old task.new
+        (outside (F.files folder.old) (F.read_faults folder.old) (F.write_faults folder.old) (O.held out.old)
+        (O.faults out.old))
+        (outside (F.files folder.new) (F.read_faults folder.new) (F.write_faults folder.new) (O.held out.new)
+        (O.faults out.new)) order.entry.src.now order.entry.dst.now order.entry.plan.now
+        (W.entries watch) result }
+    ensures clean { IsClean task.new }
+{
+    let begun = begin(alloc, folder, order.src, order.dst)?;
+    let left = copy_through(rt, alloc, folder, domain, task, begun, watch, gate, order)?;
+    conclude(out, &left)
+}

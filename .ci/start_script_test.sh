@@ -1,6 +1,6 @@
 #!/usr/bin/env bash
-# Tests the start script ./waitq on toy repositories: a program waitq over a library, both of a few lines, and at the end
-# over two more that do not stand on one another.
+# Tests the start script ./waitq on toy repositories: a program waitq over a library, both of a few lines, and at the
+# end over two more that do not stand on one another.
 # What the prover refuses is planted for the kit's rt itself; runs that change, stop, overlap or go in lanes while they
 # build have a stand-in for rt, which builds at once what the source says.
 #

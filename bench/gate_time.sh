@@ -5,9 +5,9 @@
 # usage: bench/gate_time.sh [--keep] [--folder FOLDER] [NAME]...
 #        bench/gate_time.sh --start [--folder FOLDER]
 #
-# NAME: these crates and those below them alone, as `rt ci NAME..` does. --keep: plain `rt ci`, which proves only what it
-# has not kept, and is the real gate at the same time. --start: a first `./waitq` in place of the gate, with a kit that
-# keeps nothing yet. --folder: a clone that is there already, in place of one of this repository's last commit.
+# NAME: these crates and those below them alone, as `rt ci NAME..` does. --keep: plain `rt ci`, which proves only what
+# it has not kept, and is the real gate at the same time. --start: a first `./waitq` in place of the gate, with a kit
+# that keeps nothing yet. --folder: a clone that is there already, in place of one of this repository's last commit.
 #
 # It uses the processors that the caller may use (taskset). The gate's own output goes to standard error, the table and
 # the sums to standard output; the status is that of the gate. It needs rt, git and python3.
@@ -27,7 +27,7 @@ while [ $# -gt 0 ]; do
     shift
 done
 work=$(mktemp -d)
-trap 'kill $(jobs -p) 2>/dev/null; wait; rm -rf -- "$work"' EXIT
+trap 'kill $(jobs -p) 2>/dev/null || :; wait; rm -rf -- "$work"' EXIT
 trap 'exit 130' INT
 trap 'exit 143' TERM
 

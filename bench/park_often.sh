@@ -2,7 +2,7 @@
 # Runs the tests in which threads sleep and wake one another in many rounds, RUNS times each (20), and fails where one
 # of them fails or has not ended after LIMIT seconds (60). It needs the tests built by `rt test` in crates/wait_rule,
 # crates/wq_head, crates/wait_event, crates/swait_queue, crates/completion_cell, crates/bit_wait, crates/page_lock,
-# crates/var_wait, crates/wait_pipe, crates/flow_copy, crates/wq_user and crates/examples_threads. JOBS: how many runs
+# crates/var_wait, crates/wait_pipe, crates/copy_tests, crates/wq_user and crates/examples_threads. JOBS: how many runs
 # there are at once (1). BUSY: how many loops keep processors busy meanwhile (0).
 set -eu
 cd "$(dirname "$0")/.."
@@ -36,11 +36,11 @@ often page_lock tests::threads::tally_of_four
 often var_wait tests::threads::waiter_sees_each_value
 often wait_pipe tests::full_pieces::full_pieces_pass_one_by_one
 often wait_pipe tests::streams::bytes_come_out_as_they_went_in
-often flow_copy tests::faults::source_fails
-often flow_copy tests::faults::sink_fails
-often flow_copy tests::faults::workers_are_killed
-often flow_copy tests::faults::plain_signals_change_nothing
-often flow_copy tests::meeting::workers_meet_in_their_first_turns
+often copy_tests tests::faults::source_fails
+often copy_tests tests::faults::sink_fails
+often copy_tests tests::faults::workers_are_killed
+often copy_tests tests::faults::plain_signals_change_nothing
+often copy_tests tests::meeting::workers_meet_in_their_first_turns
 often wq_user stranger_tests::strangers_on_one_head
 often wq_user round_tests::simple_waiter_is_joined
 often wq_user round_tests::waiter_for_one_is_joined

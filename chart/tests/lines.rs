@@ -13,90 +13,26 @@ const WORD: Word = Word {
 };
 
 /// A line of each form that has no other task, with what it says.
+#[rustfmt::skip]
 fn own_forms() -> Vec<(&'static str, What)> {
     let value = u64::MAX;
     vec![
-        (
-            "load v255 18446744073709551615",
-            What::Load { word: WORD, value },
-        ),
-        (
-            "set v255 0",
-            What::Set {
-                word: WORD,
-                value: 0,
-            },
-        ),
-        (
-            "take c0 1",
-            What::Take {
-                number: 0,
-                found: 1,
-            },
-        ),
-        (
-            "tas b0.63 1",
-            What::Try {
-                word: 0,
-                bit: 63,
-                found: true,
-            },
-        ),
-        (
-            "tas b0.0 0",
-            What::Try {
-                word: 0,
-                bit: 0,
-                found: false,
-            },
-        ),
+        ("load v255 18446744073709551615", What::Load { word: WORD, value }),
+        ("set v255 0", What::Set { word: WORD, value: 0 }),
+        ("take c0 1", What::Take { number: 0, found: 1 }),
+        ("tas b0.63 1", What::Try { word: 0, bit: 63, found: true }),
+        ("tas b0.0 0", What::Try { word: 0, bit: 0, found: false }),
         ("clear b7.8", What::Clear { word: 7, bit: 8 }),
         ("lock h65535", What::Lock { head: 65535 }),
-        (
-            "unlock h256",
-            What::Unlock {
-                head: 256,
-                spent: false,
-            },
-        ),
-        (
-            "unlock h256 spent",
-            What::Unlock {
-                head: 256,
-                spent: true,
-            },
-        ),
-        (
-            "queue h0 front",
-            What::Queue {
-                head: 0,
-                form: Form::Front,
-            },
-        ),
-        (
-            "queue h0 tail",
-            What::Queue {
-                head: 0,
-                form: Form::Tail,
-            },
-        ),
-        (
-            "queue h0 prio",
-            What::Queue {
-                head: 0,
-                form: Form::Priority,
-            },
-        ),
+        ("unlock h256", What::Unlock { head: 256, spent: false }),
+        ("unlock h256 spent", What::Unlock { head: 256, spent: true }),
+        ("queue h0 front", What::Queue { head: 0, form: Form::Front }),
+        ("queue h0 tail", What::Queue { head: 0, form: Form::Tail }),
+        ("queue h0 prio", What::Queue { head: 0, form: Form::Priority }),
         ("mark h1", What::Mark { head: 1 }),
         ("unmark h1", What::Unmark { head: 1 }),
         ("queued yes", What::Queued { there: true }),
-        (
-            "active h9 no",
-            What::Active {
-                head: 9,
-                there: false,
-            },
-        ),
+        ("active h9 no", What::Active { head: 9, there: false }),
         ("look no", What::Look { pending: false }),
         ("flag yes", What::Flag { there: true }),
         ("unflag", What::Unflag),
@@ -108,43 +44,17 @@ fn own_forms() -> Vec<(&'static str, What)> {
 }
 
 /// A line of each form that means another task, and of each state, signal and answer, with what it says.
+#[rustfmt::skip]
 fn other_forms() -> Vec<(&'static str, What)> {
-    let walk = |stop| {
-        What::Ended(Answer::Walk {
-            woken: 1,
-            selected: 0,
-            holds: u32::MAX,
-            stop,
-        })
-    };
+    let walk = |stop| What::Ended(Answer::Walk { woken: 1, selected: 0, holds: u32::MAX, stop });
     vec![
-        (
-            "tas b1.2 0 t3",
-            What::TryFor {
-                word: 1,
-                bit: 2,
-                found: false,
-                who: 3,
-            },
-        ),
+        ("tas b1.2 0 t3", What::TryFor { word: 1, bit: 2, found: false, who: 3 }),
         ("handed t2", What::Handed { who: 2 }),
         ("unqueue t2", What::Unqueue { who: 2 }),
         ("wake t2 yes", What::Wake { who: 2, woke: true }),
         ("woken t255", What::Woken { who: 255 }),
-        (
-            "signal t2 plain",
-            What::Signal {
-                who: 2,
-                fatal: false,
-            },
-        ),
-        (
-            "signal t2 fatal",
-            What::Signal {
-                who: 2,
-                fatal: true,
-            },
-        ),
+        ("signal t2 plain", What::Signal { who: 2, fatal: false }),
+        ("signal t2 fatal", What::Signal { who: 2, fatal: true }),
         ("state run", What::State(State::Running)),
         ("state int", What::State(State::Interruptible)),
         ("state unint", What::State(State::Uninterruptible)),
@@ -158,14 +68,8 @@ fn other_forms() -> Vec<(&'static str, What)> {
         ("= 7", What::Ended(Answer::Value(7))),
         ("= -512", What::Ended(Answer::Minus(512))),
         ("= woken 1 selected 0 holds 4294967295 end", walk(Stop::End)),
-        (
-            "= woken 1 selected 0 holds 4294967295 spent",
-            walk(Stop::Spent),
-        ),
-        (
-            "= woken 1 selected 0 holds 4294967295 stopped",
-            walk(Stop::Stopped),
-        ),
+        ("= woken 1 selected 0 holds 4294967295 spent", walk(Stop::Spent)),
+        ("= woken 1 selected 0 holds 4294967295 stopped", walk(Stop::Stopped)),
     ]
 }
 

@@ -57,7 +57,15 @@ impl Part {
     }
 }
 
-impl Scene<'_> {
+impl<'a> Scene<'a> {
+    /// The moment of a row of one.
+    pub fn moment_in(&self, row: usize) -> Option<&'a Moment<'a>> {
+        match *self.rows.get(row)? {
+            Row::One { at } => self.moments.get(at),
+            Row::Alike { .. } => None,
+        }
+    }
+
     /// The view of a lane after a row, or before the first.
     fn view(&self, lane: usize, row: Option<usize>) -> View {
         let Some(lane) = self.plan.lanes.get(lane) else {
@@ -65,10 +73,10 @@ impl Scene<'_> {
         };
         match row {
             None => self.frames.start.view(lane.shown()),
-            Some(row) => match self.frames.after.get(row) {
-                Some(frame) => frame.view(lane.shown()),
-                None => View::ABSENT,
-            },
+            Some(row) => {
+                let frame = self.frames.after.get(row);
+                frame.map_or(View::ABSENT, |frame| frame.view(lane.shown()))
+            }
         }
     }
 
@@ -278,13 +286,8 @@ fn shade_text(shade: Shade, most: usize) -> String {
 
 /// Whether a lane's own task acts in a row, whose label then stands there.
 fn acts_in(scene: &Scene, lane: usize, row: usize) -> bool {
-    let Some(Row::One { at }) = scene.rows.get(row) else {
-        return false;
-    };
-    match scene.moments.get(*at) {
-        Some(moment) => scene.plan.lane_of(moment.task) == Some(lane),
-        None => false,
-    }
+    let moment = scene.moment_in(row);
+    moment.is_some_and(|moment| scene.plan.lane_of(moment.task) == Some(lane))
 }
 
 /// The labels of the shades, each in the row where its shade begins, or in the next one where that row is taken.

@@ -148,17 +148,10 @@ fn draw_busy(
     let y = plan.level(row).middle();
     let mut end = plan.end;
     for later in row.saturating_add(1)..scene.rows.len() {
-        let held = match scene.frames.after.get(later) {
-            Some(frame) => frame.is_held(head),
-            None => false,
-        };
-        let acts = match scene.rows.get(later) {
-            Some(Row::One { at }) => match scene.moments.get(*at) {
-                Some(moment) => moment.task == task,
-                None => false,
-            },
-            _ => false,
-        };
+        let frame = scene.frames.after.get(later);
+        let held = frame.is_some_and(|frame| frame.is_held(head));
+        let moment = scene.moment_in(later);
+        let acts = moment.is_some_and(|moment| moment.task == task);
         if !held || acts {
             end = plan.level(later).middle();
             break;
@@ -183,10 +176,7 @@ fn draw_sign(
         draw_mark(pen, plan.bar_middle(lane), y, mark)?;
     }
     if let Some(arrow) = sign.arrow {
-        let to = match target(moment) {
-            Some(task) => plan.lane_of(task),
-            None => None,
-        };
+        let to = target(moment).and_then(|task| plan.lane_of(task));
         draw_between(pen, plan, lane, to, y, arrow, false)?;
     }
     draw_label(pen, scene, lane, y, &sign.label, sign.tone.class())
@@ -393,12 +383,9 @@ fn draw_store(
 
 /// Draws the rules of all stores that owe a wake.
 pub fn draw_stores(pen: &mut Pen, scene: &Scene, labels: &[Label]) -> fmt::Result {
-    for (i, row) in scene.rows.iter().enumerate() {
-        if let Row::One { at } = *row {
-            if let (Some(moment), Some(frame)) = (scene.moments.get(at), scene.frames.after.get(i))
-            {
-                draw_store(pen, scene, i, moment, frame, labels)?;
-            }
+    for (i, frame) in scene.frames.after.iter().enumerate() {
+        if let Some(moment) = scene.moment_in(i) {
+            draw_store(pen, scene, i, moment, frame, labels)?;
         }
     }
     Ok(())
@@ -406,18 +393,13 @@ pub fn draw_stores(pen: &mut Pen, scene: &Scene, labels: &[Label]) -> fmt::Resul
 
 /// Draws all rows.
 pub fn draw_rows(pen: &mut Pen, scene: &Scene) -> fmt::Result {
-    for (i, row) in scene.rows.iter().enumerate() {
-        match *row {
-            Row::Alike { from, to, size } => draw_alike(pen, scene, i, from, to, size)?,
-            Row::One { at } => {
-                if let (Some(moment), Some(frame)) =
-                    (scene.moments.get(at), scene.frames.after.get(i))
-                {
-                    draw_lead(pen, scene, i, moment, frame)?;
-                    draw_text(pen, scene, moment, scene.plan.level(i).middle())?;
-                    draw_deed(pen, scene, i, moment, frame)?;
-                }
-            }
+    for (i, (row, frame)) in scene.rows.iter().zip(&scene.frames.after).enumerate() {
+        if let Row::Alike { from, to, size } = *row {
+            draw_alike(pen, scene, i, from, to, size)?;
+        } else if let Some(moment) = scene.moment_in(i) {
+            draw_lead(pen, scene, i, moment, frame)?;
+            draw_text(pen, scene, moment, scene.plan.level(i).middle())?;
+            draw_deed(pen, scene, i, moment, frame)?;
         }
     }
     Ok(())

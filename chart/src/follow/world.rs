@@ -105,13 +105,11 @@ impl World {
 
     /// Whether a walk that is over owed a task its wake.
     fn is_settled(&self, by: u8, head: Option<u16>, task: &Task) -> bool {
-        match &task.watch {
-            Some(watch) => self
-                .debts
+        task.watch.is_some_and(|watch| {
+            self.debts
                 .iter()
-                .any(|d| d.task == by && ends_at(&d.watch, head) && d.watch.meets(watch)),
-            None => false,
-        }
+                .any(|d| d.task == by && ends_at(&d.watch, head) && d.watch.meets(&watch))
+        })
     }
 
     /// A task owes the wake of a watch.

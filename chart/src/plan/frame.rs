@@ -99,30 +99,17 @@ impl Frame {
 
 /// Who owes a wake that a watch waits for: the first one, and how many.
 fn owing(world: &World, watch: &Watch) -> Option<(u8, u8)> {
-    let mut first: Option<u8> = None;
-    let mut count = 0u8;
-    for debt in &world.debts {
-        if debt.watch.meets(watch) {
-            first = Some(match first {
-                Some(task) => task.min(debt.task),
-                None => debt.task,
-            });
-            count = count.saturating_add(1);
-        }
-    }
-    Some((first?, count))
+    let owing = || world.debts.iter().filter(|debt| debt.watch.meets(watch));
+    let first = owing().map(|debt| debt.task).min()?;
+    Some((first, u8::try_from(owing().count()).unwrap_or(u8::MAX)))
 }
 
 /// Which task was selected for a bit and has not tried it yet.
 fn trying(world: &World, watch: &Watch) -> Option<u8> {
-    for who in 0..=u8::MAX {
-        if let Some(tried) = &world.task(who).trying {
-            if tried.meets(watch) {
-                return Some(who);
-            }
-        }
-    }
-    None
+    (0..=u8::MAX).find(|who| {
+        let tried = world.task(*who).trying;
+        tried.is_some_and(|tried| tried.meets(watch))
+    })
 }
 
 /// Why a task sleeps though what it waits for is set.

@@ -234,12 +234,8 @@ pub fn folded_rows(moments: &[Moment]) -> Result<Vec<Row>, TryReserveError> {
 /// Whether a line's number, or that of the next line, lies in a range.
 fn is_within(moments: &[Moment], at: usize, first: u32, last: u32) -> bool {
     let rest = moments.get(at..).unwrap_or(&[]);
-    for moment in rest {
-        if let Some(number) = moment.number {
-            return first <= number && number <= last;
-        }
-    }
-    false
+    let number = rest.iter().find_map(|moment| moment.number);
+    number.is_some_and(|number| first <= number && number <= last)
 }
 
 /// The rows that tell a line of a range.
@@ -252,11 +248,8 @@ pub fn rows_within(
     let mut kept = Vec::new();
     for row in rows {
         let (from, to) = row.span();
-        for at in from..to {
-            if is_within(moments, at, first, last) {
-                push(&mut kept, *row)?;
-                break;
-            }
+        if (from..to).any(|at| is_within(moments, at, first, last)) {
+            push(&mut kept, *row)?;
         }
     }
     Ok(kept)

@@ -291,10 +291,11 @@ impl fmt::Display for Answer {
                 selected,
                 holds,
                 stop,
-            } => {
-                let stop = stop.name();
-                write!(f, "woken {woken} selected {selected} holds {holds} {stop}")
-            }
+            } => write!(
+                f,
+                "woken {woken} selected {selected} holds {holds} {}",
+                stop.name()
+            ),
         }
     }
 }
@@ -305,70 +306,33 @@ impl fmt::Display for What {
             What::Load { word, value } => write!(f, "load {word} {value}"),
             What::Set { word, value } => write!(f, "set {word} {value}"),
             What::Take { number, found } => write!(f, "take c{number} {found}"),
-            What::Try { word, bit, found } => {
-                let found = digit(found);
-                write!(f, "tas b{word}.{bit} {found}")
-            }
+            What::Try { word, bit, found } => write!(f, "tas b{word}.{bit} {}", digit(found)),
             What::TryFor {
                 word,
                 bit,
                 found,
                 who,
             } => {
-                let found = digit(found);
-                write!(f, "tas b{word}.{bit} {found} t{who}")
+                write!(f, "tas b{word}.{bit} {} t{who}", digit(found))
             }
             What::Clear { word, bit } => write!(f, "clear b{word}.{bit}"),
             What::Handed { who } => write!(f, "handed t{who}"),
             What::Lock { head } => write!(f, "lock h{head}"),
-            What::Unlock { head, spent } => {
-                let spent = spent_text(spent);
-                write!(f, "unlock h{head}{spent}")
-            }
-            What::Queue { head, form } => {
-                let form = form.name();
-                write!(f, "queue h{head} {form}")
-            }
+            What::Unlock { head, spent } => write!(f, "unlock h{head}{}", spent_text(spent)),
+            What::Queue { head, form } => write!(f, "queue h{head} {}", form.name()),
             What::Unqueue { who } => write!(f, "unqueue t{who}"),
             What::Mark { head } => write!(f, "mark h{head}"),
             What::Unmark { head } => write!(f, "unmark h{head}"),
-            What::Queued { there } => {
-                let there = yes_or_no(there);
-                write!(f, "queued {there}")
-            }
-            What::Active { head, there } => {
-                let there = yes_or_no(there);
-                write!(f, "active h{head} {there}")
-            }
-            What::State(state) => {
-                let state = state.name();
-                write!(f, "state {state}")
-            }
-            What::Sleep(slept) => {
-                let slept = slept.name();
-                write!(f, "sleep {slept}")
-            }
-            What::Wake { who, woke } => {
-                let woke = yes_or_no(woke);
-                write!(f, "wake t{who} {woke}")
-            }
-            What::Signal { who, fatal } => {
-                let fatal = signal_name(fatal);
-                write!(f, "signal t{who} {fatal}")
-            }
-            What::Accept(taken) => {
-                let taken = taken.name();
-                write!(f, "accept {taken}")
-            }
-            What::Look { pending } => {
-                let pending = yes_or_no(pending);
-                write!(f, "look {pending}")
-            }
+            What::Queued { there } => write!(f, "queued {}", yes_or_no(there)),
+            What::Active { head, there } => write!(f, "active h{head} {}", yes_or_no(there)),
+            What::State(state) => write!(f, "state {}", state.name()),
+            What::Sleep(slept) => write!(f, "sleep {}", slept.name()),
+            What::Wake { who, woke } => write!(f, "wake t{who} {}", yes_or_no(woke)),
+            What::Signal { who, fatal } => write!(f, "signal t{who} {}", signal_name(fatal)),
+            What::Accept(taken) => write!(f, "accept {}", taken.name()),
+            What::Look { pending } => write!(f, "look {}", yes_or_no(pending)),
             What::Woken { who } => write!(f, "woken t{who}"),
-            What::Flag { there } => {
-                let there = yes_or_no(there);
-                write!(f, "flag {there}")
-            }
+            What::Flag { there } => write!(f, "flag {}", yes_or_no(there)),
             What::Unflag => write!(f, "unflag"),
             What::Ended(answer) => write!(f, "= {answer}"),
             What::Refused { reason } => write!(f, "refused {reason}"),

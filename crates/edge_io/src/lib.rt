@@ -10,14 +10,10 @@
 mod buffer;
 mod fails;
 mod folder;
-#[cfg(test)]
-mod folder_tests;
 mod mem_folder;
 mod memory;
 mod sink;
 mod source;
-#[cfg(test)]
-mod tests;
 mod whole;
 
 pub use buffer::{BUFFER_ROOM, Buffer};

@@ -1,14 +1,15 @@
 -- What the journal of a task has that joined the four of a copy.
-use Rattle.std.proofs.Common.{refl, sym, ap, ◌∙◌, subst, arith, append-nil}
-use Rattle.std.proofs.lemmas.Bool.{eqb-false, eqb-true, le-leb, lt-ltb}
-use Rattle.std.specs.Prelude.{ℕ, ◌≡◌, ◌≢◌, ◌-◌, ◌<◌, ◌≤◌, Bool, true, false, cond, eqb, leb, ltb, ◌&&◌, List, [], ◌++◌}
+use Rattle.std.proofs.Common.{refl, sym, ap, ◌∙◌, subst, zero, suc, arith, append-nil}
+use Rattle.std.proofs.Math.Nat.{le_refl}
+use Rattle.std.proofs.lemmas.Bool.{eqb-true, le-leb, lt-ltb}
+use Rattle.std.specs.Prelude.{ℕ, ◌≡◌, ◌+◌, ◌-◌, ◌<◌, ◌≤◌, Bool, true, false, cond, eqb, leb, ltb, ◌&&◌, List, [], ◌++◌}
 use Rattle.atomic_table.specs.Seated.{TableId}
 use Rattle.wait_model.specs.declared.layout.TheConstants.{TASKS}
 use Rattle.wait_model.specs.Words.{flag}
 use Rattle.wait_rule.specs.declared.journal.Item.{Item}
 use Rattle.wait_rule.specs.declared.journal.Journal.{Journal}
 use Rattle.wait_rule.specs.Aside.{Grows}
-use Rattle.wait_rule.specs.Journals.{fresh, has_of, one_within, owns, pushed}
+use Rattle.wait_rule.specs.Journals.{fresh, has_of, one_within, owns, pushed, times_in}
 use Rattle.wait_rule.specs.Known.{Known}
 use Rattle.wait_rule.specs.Says.{newcomer}
 use Rattle.wait_rule.specs.TableLaws.{HasAll}
@@ -115,21 +116,29 @@ within_rest t low high = by (leb 5 t) (ltb t 256) (le-leb 5 t low) (lt-ltb t 256
     by true false e f = cc
 
 past_four : (t : ℕ) → IsOther t → 5 ≤ t
-past_four t o =
-    let zero : t ≢ 0 = λ e. eqb-false 0 t o.zero (sym e) in
-    let one : t ≢ 1 = λ e. eqb-false 1 t o.one (sym e) in
-    let two : t ≢ 2 = λ e. eqb-false 2 t o.two (sym e) in
-    let three : t ≢ 3 = λ e. eqb-false 3 t o.three (sym e) in
-    let fourth : t ≢ 4 = λ e. eqb-false 4 t o.four (sym e) in
-    omega arith
+past_four zero o = cc o.zero
+past_four (suc zero) o = cc o.one
+past_four (suc (suc zero)) o = cc o.two
+past_four (suc (suc (suc zero))) o = cc o.three
+past_four (suc (suc (suc (suc zero)))) o = cc o.four
+past_four (suc (suc (suc (suc (suc n))))) o = omega arith
+
+-- one of three counts is enough
+middle_counts : (x y z : ℕ) → y ≡ 1 → 1 ≤ x + (y + z)
+middle_counts x y z is = omega (arith, is)
 
 pub four_has_all : (a b c d : List Item) → HasAll (four a b c d)
 four_has_all a b c d t few = by (number_of t)
   where
+    v : Journal
+    v = four a b c d
+
     by : Number t → 1 ≤ owns t (four a b c d)
-    by (is_zero e) = subst (λ (n : ℕ). 1 ≤ owns n (four a b c d)) (sym e) (omega arith)
-    by (is_one e) = subst (λ (n : ℕ). 1 ≤ owns n (four a b c d)) (sym e) (omega arith)
-    by (is_two e) = subst (λ (n : ℕ). 1 ≤ owns n (four a b c d)) (sym e) (omega arith)
-    by (is_three e) = subst (λ (n : ℕ). 1 ≤ owns n (four a b c d)) (sym e) (omega arith)
-    by (is_four e) = subst (λ (n : ℕ). 1 ≤ owns n (four a b c d)) (sym e) (omega arith)
-    by (is_other o) = let rest = within_rest t (past_four t o) few in omega arith
+    by (is_zero e) = subst (λ (n : ℕ). 1 ≤ owns n (four a b c d)) (sym e) (le_refl 1)
+    by (is_one e) = subst (λ (n : ℕ). 1 ≤ owns n (four a b c d)) (sym e) (le_refl 1)
+    by (is_two e) = subst (λ (n : ℕ). 1 ≤ owns n (four a b c d)) (sym e) (le_refl 1)
+    by (is_three e) = subst (λ (n : ℕ). 1 ≤ owns n (four a b c d)) (sym e) (le_refl 1)
+    by (is_four e) = subst (λ (n : ℕ). 1 ≤ owns n (four a b c d)) (sym e) (le_refl 1)
+    by (is_other o) =
+        middle_counts (flag (eqb 0 t)) (one_within 5 256 t) (times_in t v.joined)
+        (within_rest t (past_four t o) few)

@@ -12,7 +12,7 @@ use std::snapshot::Snapshot;
 use std::sync::ledger::{Blank, Book, Ledger, Share, Total};
 use std::sync::{OnceLock, OnceToken, Wait};
 use std::thread;
-use std::thread::{Promise, PromisedHandle, SpawnError, Threads};
+use std::thread::{Promise, PromisedHandle, Scope, SpawnError, Threads};
 
 /// A part of the work that is done once.
 pub trait Job: Send + Drop {
@@ -200,7 +200,120 @@ fn back<'a, L: Ledger, J: Job>(word: &OnceToken<'a, Word<L>>, reply: Reply<'a, L
     }
 }
 
+/// Says the word, by which the jobs are begun only where all are there, and whether they are.
+fn decide<'a, R: Wait, L: Ledger>(
+    rt: &R,
+    lock: &'a OnceLock<Word<L>>,
+    book: Book<L>,
+    share: Share<L>,
+    all: bool,
+) -> (OnceToken<'a, Word<L>>, bool)
+    requires book { book.total ≡ 0 }
+    requires share { (L.parts ≡ 1) × ((share.parts ≡ 1) × (share.amount ≡ 0)) }
+    ensures lock { result.0.of ≡ lock.now.id }
+    ensures word { result.1 ≡ result.0.value.begins }
+    ensures there { result.1 ≡ true → all ≡ true }
+{
+    let mut share = share;
+    let said = say(rt, lock, close(book, &mut share, all));
+    let begins = begins(lock.value(&said), &mut share);
+    (said, begins)
+}
+
+/// What all four made, where the word was to begin; else the jobs themselves.
+fn gathered<'a, L: Ledger, A: Job, B: Job, C: Job, D: Job>(
+    said: &(OnceToken<'a, Word<L>>, bool),
+    first: Reply<'a, L, A::Done, A>,
+    second: Reply<'a, L, B::Done, B>,
+    third: Reply<'a, L, C::Done, C>,
+    last: Reply<'a, L, D::Done, D>,
+) -> Result<(A::Done, B::Done, C::Done, D::Done), (A, B, C, D)>
+    requires word { said.now.1 ≡ said.now.0.value.begins }
+    requires first { first.word.of ≡ said.now.0.of }
+    requires second { second.word.of ≡ said.now.0.of }
+    requires third { third.word.of ≡ said.now.0.of }
+    requires last { last.word.of ≡ said.now.0.of }
+    ensures done { IfOk result (λ done. (first.entry.outcome ≡ Ok done.0)
+        × ((second.entry.outcome ≡ Ok done.1)
+        × ((third.entry.outcome ≡ Ok done.2) × (last.entry.outcome ≡ Ok done.3)))) }
+    ensures back { IfErr result (λ back. (first.entry.outcome ≡ Err back.0)
+        × ((second.entry.outcome ≡ Err back.1)
+        × ((third.entry.outcome ≡ Err back.2) × (last.entry.outcome ≡ Err back.3)))) }
+{
+    let (word, begins) = said;
+    if *begins {
+        Ok((
+            made(word, first),
+            made(word, second),
+            made(word, third),
+            made(word, last),
+        ))
+    } else {
+        Err((
+            back(word, first),
+            back(word, second),
+            back(word, third),
+            back(word, last),
+        ))
+    }
+}
+
 /// Starts three threads, says the word, and waits for all.
+fn begin_in<
+    's,
+    E,
+    L: Ledger + Send + Sync + 's,
+    R: Threads + Wait + Sync + 's,
+    A: Job + 's,
+    B: Job + 's,
+    C: Job + 's,
+    D: Job,
+>(
+    scope: &Scope<'s, E>,
+    rt: &'s R,
+    lock: &'s OnceLock<Word<L>>,
+    book: Book<L>,
+    share: Share<L>,
+    one: A,
+    two: B,
+    three: C,
+    four: D,
+) -> Result<(A::Done, B::Done, C::Done, D::Done), (A, B, C, D)>
+    requires book { book.total ≡ 0 }
+    requires share { (L.parts ≡ 1) × ((share.parts ≡ 1) × (share.amount ≡ 0)) }
+    requires asks { A.asks one × (B.asks two × (C.asks three × D.asks four)) }
+    ensures did { IfOk result (λ done. A.did one done.0
+        × (B.did two done.1 × (C.did three done.2 × D.did four done.3))) }
+    ensures same { IfErr result (λ back. (back.0 ≡ one) × ((back.1 ≡ two) × ((back.2 ≡ three) × (back.3 ≡ four)))) }
+{
+    let first = scope.spawn_with(
+        ask(lock, &one),
+        move ||
+            requires { A.asks one }
+        { stand_by(rt, lock, one) },
+    );
+    let second = scope.spawn_with(
+        ask(lock, &two),
+        move ||
+            requires { B.asks two }
+        { stand_by(rt, lock, two) },
+    );
+    let third = scope.spawn_with(
+        ask(lock, &three),
+        move ||
+            requires { C.asks three }
+        { stand_by(rt, lock, three) },
+    );
+    let all = first.is_ok() && second.is_ok() && third.is_ok();
+    let said = decide(rt, lock, book, share, all);
+    let last = stand_by(rt, lock, four);
+    let first = settle(rt, said.1, first);
+    let second = settle(rt, said.1, second);
+    let third = settle(rt, said.1, third);
+    gathered(&said, first, second, third, last)
+}
+
+/// The same, from a scope of its own.
 fn begin_all<L: Ledger + Send + Sync, R: Threads + Wait + Sync, A: Job, B: Job, C: Job, D: Job>(
     rt: &R,
     lock: &OnceLock<Word<L>>,
@@ -225,52 +338,11 @@ fn begin_all<L: Ledger + Send + Sync, R: Threads + Wait + Sync, A: Job, B: Job, 
             requires book { book.total ≡ 0 }
             requires share { (L.parts ≡ 1) × ((share.parts ≡ 1) × (share.amount ≡ 0)) }
             requires asks { A.asks one × (B.asks two × (C.asks three × D.asks four)) }
-            ensures { MatchResult result
-                (λ done. A.did one done.0 × (B.did two done.1 × (C.did three done.2 × D.did four done.3)))
+            ensures did { IfOk result (λ done. A.did one done.0
+                × (B.did two done.1 × (C.did three done.2 × D.did four done.3))) }
+            ensures same { IfErr result
                 (λ back. (back.0 ≡ one) × ((back.1 ≡ two) × ((back.2 ≡ three) × (back.3 ≡ four)))) }
-        {
-            let mut share = share;
-            let first = scope.spawn_with(
-                ask(lock, &one),
-                move ||
-                    requires { A.asks one }
-                { stand_by(rt, lock, one) },
-            );
-            let second = scope.spawn_with(
-                ask(lock, &two),
-                move ||
-                    requires { B.asks two }
-                { stand_by(rt, lock, two) },
-            );
-            let third = scope.spawn_with(
-                ask(lock, &three),
-                move ||
-                    requires { C.asks three }
-                { stand_by(rt, lock, three) },
-            );
-            let all = first.is_ok() && second.is_ok() && third.is_ok();
-            let said = say(rt, lock, close(book, &mut share, all));
-            let begins = begins(lock.value(&said), &mut share);
-            let last = stand_by(rt, lock, four);
-            let first = settle(rt, begins, first);
-            let second = settle(rt, begins, second);
-            let third = settle(rt, begins, third);
-            if begins {
-                Ok((
-                    made(&said, first),
-                    made(&said, second),
-                    made(&said, third),
-                    made(&said, last),
-                ))
-            } else {
-                Err((
-                    back(&said, first),
-                    back(&said, second),
-                    back(&said, third),
-                    back(&said, last),
-                ))
-            }
-        },
+        { begin_in(scope, rt, lock, book, share, one, two, three, four) },
     )
 }
 

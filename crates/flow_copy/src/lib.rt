@@ -12,8 +12,6 @@ pub mod plan;
 pub mod reader;
 pub mod relay;
 pub mod stop;
-#[cfg(test)]
-mod tests;
 pub mod workers;
 pub mod writer;
 

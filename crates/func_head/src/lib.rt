@@ -7,8 +7,6 @@
 #![tactic(auto)]
 
 mod head;
-#[cfg(test)]
-mod tests;
 mod walks;
 mod watchers;
 

@@ -1,0 +1,7 @@
+use Rattle.std.proofs.Common.{◌≡◌}
+use Rattle.wait_model.specs.declared.watches.Watch.TheVariants as watch
+use Rattle.wait_event.specs.Prepares.{MayPrepare}
+use Rattle.bench_calls.proofs.parts.repeat_parts.Given as goal
+
+abbrev pub invariant-loop : goal.invariant-loop
+invariant-loop g l = (l.task.domain ≡ l.domain) × MayPrepare l.task (watch.Plain 0)

@@ -1,0 +1,71 @@
+//! One task alone does the work of all four, one after the other: ten bytes fit into the pipes.
+
+ghost use Rattle.std.specs.Prelude.{◌≡◌};
+ghost use Rattle.flow_copy.specs.Did.{IsIdler};
+
+use edge_io::{MemSink, MemSource};
+use flow_copy::{
+    OpenGate, ReaderEnd, Stop, WorkerEnd, controller_task, reader_task, relay_task, writer_task,
+};
+use func_head::NoWatchers;
+use std::sync::Wait;
+use std::test::Fail;
+use wait_rule::{Domain, Task};
+
+/// One task does the work of a reader, of a relay and of a writer: how each ended.
+fn work_alone<R: Wait>(
+    rt: &R,
+    domain: &Domain,
+    task: &mut Task,
+    source: &mut MemSource,
+    sink: &mut MemSink,
+) -> (ReaderEnd, WorkerEnd, WorkerEnd)
+    requires of { task.old.domain ≡ domain.now }
+    requires idler { IsIdler task.old }
+    ensures of { task.new.domain ≡ domain.now }
+    ensures idler { IsIdler task.new }
+{
+    let reader = reader_task(rt, domain, task, source, &[], [0, 0, 0], &OpenGate);
+    let relay = relay_task(rt, domain, task, &OpenGate);
+    let writer = writer_task(rt, domain, task, sink, &mut NoWatchers, &OpenGate);
+    (reader, relay, writer)
+}
+
+/// All workers finish, and each counts ten bytes.
+#[test]
+fn one_task_does_all(rt: HostRuntime) -> Result<(), Fail> {
+    let (domain, mut task) = Domain::new(rt.alloc())?;
+    let mut source = MemSource::new(rt.alloc(), b"ten bytes.", &[])?;
+    let mut sink = MemSink::new(rt.alloc(), &[])?;
+    let ends = work_alone(&rt, &domain, &mut task, &mut source, &mut sink);
+    let total = controller_task(&rt, &domain, &mut task);
+    let ten = WorkerEnd {
+        stop: Stop::Finished,
+        moved: 10,
+    };
+    let reader = ReaderEnd {
+        stop: Stop::Finished,
+        read: 10,
+        sent: 0,
+        kills: 0,
+    };
+    assert_eq!(rt; ends, (reader, ten, ten));
+    assert!(rt; matches!(total, Ok(30)));
+    assert_eq!(rt; sink.bytes(), b"ten bytes.".as_slice());
+    Ok(())
+}
+
+/// An end is opened once: a second reader, relay or writer of the Domain stops at once, and has done nothing.
+#[test]
+fn second_workers_stop_as_taken(rt: HostRuntime) -> Result<(), Fail> {
+    let (domain, mut task) = Domain::new(rt.alloc())?;
+    let mut source = MemSource::new(rt.alloc(), b"abc", &[])?;
+    let mut more = MemSource::new(rt.alloc(), b"def", &[])?;
+    let mut sink = MemSink::new(rt.alloc(), &[])?;
+    work_alone(&rt, &domain, &mut task, &mut source, &mut sink);
+    let (reader, relay, writer) = work_alone(&rt, &domain, &mut task, &mut more, &mut sink);
+    assert_eq!(rt; (reader.stop, reader.read), (Stop::Taken, 0));
+    assert_eq!(rt; (relay.stop, writer.stop), (Stop::Taken, Stop::Taken));
+    assert_eq!(rt; sink.bytes(), b"abc".as_slice());
+    Ok(())
+}

@@ -244,25 +244,6 @@ static int32_t run(struct sugwelan_domain *domain, void *handle, uint32_t number
     }
 }
 
-static bool waits_for_bit(uint32_t kind)
-{
-    return kind == SUGWELAN_WAIT_ON_BIT || kind == SUGWELAN_WAIT_ON_BIT_LOCK || kind == SUGWELAN_LOCK_PAGE;
-}
-
-/* The answer to a call that the archive answers so. Some codes of the archive are of several reasons, which the call
- * tells apart. */
-static int32_t reason(const struct sugwelan_call *call, int32_t answer)
-{
-    if (answer == -EPERM && waits_for_bit(call->kind))
-        return -EDEADLK;
-    if (answer == -EINVAL && call->kind == SUGWELAN_SWAIT_EVENT && call->b == SUGWELAN_KILLABLE &&
-        call->a >= SUGWELAN_FIRST_SIMPLE && call->a < SUGWELAN_CONDITIONS)
-        return -EOPNOTSUPP;
-    if (answer == -EBADF)
-        return -ENOTRECOVERABLE;
-    return answer;
-}
-
 /* Makes a call: 0 or a negative errno. */
 static int32_t served(struct sugwelan_domain *domain, void *handle, uint32_t number, const struct sugwelan_call *call,
                       struct sugwelan_told *told)
@@ -270,7 +251,7 @@ static int32_t served(struct sugwelan_domain *domain, void *handle, uint32_t num
     enter(domain, number, call);
     int32_t answer = run(domain, handle, number, *call, told);
     leave(domain, number, call, answer, told);
-    return reason(call, answer);
+    return answer;
 }
 
 /* Counts what the task has taken or given back by a call that is over. */
@@ -452,7 +433,7 @@ static int new_task(struct sugwelan_domain *domain, struct sugwelan_task **out)
     pthread_mutex_unlock(&domain->lock);
     if (answer) {
         free(task);
-        return answer == -ENOSPC ? -EAGAIN : answer;
+        return answer;
     }
     sugwelan_call(task->handle, &call, &told);
     task->domain = domain;

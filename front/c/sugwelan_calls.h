@@ -47,7 +47,16 @@ enum sugwelan_end {
     SUGWELAN_STOPPED = 2 /* an entry stopped it: its bit was set again, or its page taken */
 };
 
-/* What a call answers; another answer is a negative errno. */
+/* What a call answers. Another answer is a negative errno, after which nothing has changed but with -EINTR and -ENOSPC:
+ *   -EINVAL           a number is out of its range, or the kind is none
+ *   -EOPNOTSUPP       a wait in a simple queue would be killable
+ *   -EBUSY            another call of the task is under way
+ *   -ENOENT           no call is under way that could go on
+ *   -EPERM            the task does not keep the bit or page that it would give back, or to whose tally it would add
+ *   -EDEADLK          the task keeps the bit or page itself for which it would wait
+ *   -EINTR            a signal ended the wait
+ *   -ENOSPC           no place is left in the queue, and the wait is over
+ *   -ENOTRECOVERABLE  a wake of the task came to no end, as none does, and it makes no more calls */
 enum sugwelan_answer {
     SUGWELAN_DONE = 0,   /* the call is over, and `told` has its result */
     SUGWELAN_AGAIN = 1,  /* advance at once */
@@ -116,15 +125,15 @@ struct sugwelan_told {
 /* A Domain and its first task, to which the 255 other numbers are spare: 0, or -ENOMEM. */
 int32_t sugwelan_new(void **out);
 
-/* A further task of the same Domain, with `share` of the task's spare numbers to give out in turn: 0, -ENOSPC where
- * fewer than 1 + share are spare, -EINVAL where share is above 255, -EBUSY, -EBADF, -ENOMEM. */
+/* A further task of the same Domain, with `share` of the task's spare numbers to give out in turn: 0, -EAGAIN where
+ * fewer than 1 + share are spare, -EINVAL where share is above 255, -EBUSY, -ENOTRECOVERABLE, -ENOMEM. */
 int32_t sugwelan_fork(void *task, uint32_t share, void **out);
 
 /* Begins a call, or goes on with it. */
 int32_t sugwelan_call(void *task, const struct sugwelan_call *call, struct sugwelan_told *told);
 
-/* Gives a task up and frees its block: 0, -EBUSY while a call is under way, -EPERM while it keeps a bit or a page. One
- * that makes no more calls may be given up. */
+/* Gives a task up and frees its block: 0, -EBUSY while a call is under way, -ENOTEMPTY while it keeps a bit or a page.
+ * One that makes no more calls may be given up. */
 int32_t sugwelan_free(void *task);
 
 #ifdef __cplusplus

@@ -15,7 +15,7 @@ use Rattle.wq_checked.specs.declared.reasons.Refused.TheVariants as reason
 use Rattle.sugwelan_c.specs.Told.{refusal_code}
 use Rattle.sugwelan_c.specs.declared.handles.Unmade.{Unmade}
 use Rattle.sugwelan_c.specs.declared.handles.Unmade.TheVariants as unmade
-use Rattle.sugwelan_c.specs.declared.replies.TheConstants.{DONE, EBUSY, EINVAL, ENOMEM, ENOSPC, EPERM}
+use Rattle.sugwelan_c.specs.declared.replies.TheConstants.{DONE, EAGAIN, EBUSY, EINVAL, ENOMEM, ENOTEMPTY}
 
 -- a task that has made no call yet
 pub record IsFresh (t : Checked) : Type 0 where
@@ -52,7 +52,7 @@ IsUnmade old now share unmade.Memory =
 abbrev pub unmade_code : Unmade → ℤ
 unmade_code unmade.Wide = EINVAL
 unmade_code (unmade.Refused e) = refusal_code e
-unmade_code unmade.Numbers = ENOSPC
+unmade_code unmade.Numbers = EAGAIN
 unmade_code unmade.Memory = ENOMEM
 
 abbrev pub HasNoFork : Checked → Checked → ℕ → ℤ → Type 0
@@ -69,7 +69,7 @@ KeepsAny ks false = (w : ℕ) → w < BIT_WORDS → KeepsSome ks w false
 
 -- A task may be freed between two calls, where it keeps nothing, and where it makes no more calls.
 abbrev pub MayFreeIf : Option Refused → KeptBits → ℤ → Type 0
-MayFreeIf None ks r = ((r ≡ DONE) × KeepsAny ks false) ⊎ ((r ≡ EPERM) × KeepsAny ks true)
+MayFreeIf None ks r = ((r ≡ DONE) × KeepsAny ks false) ⊎ ((r ≡ ENOTEMPTY) × KeepsAny ks true)
 MayFreeIf (Some reason.Starved) ks r = r ≡ DONE
 MayFreeIf (Some e) ks r = r ≡ EBUSY
 

@@ -18,18 +18,19 @@ use Rattle.wq_checked.specs.declared.reasons.Refused.TheVariants as reason
 use Rattle.sugwelan_c.specs.declared.replies.Reply.{Reply}
 use Rattle.sugwelan_c.specs.declared.replies.Reply.TheVariants as reply
 use Rattle.sugwelan_c.specs.declared.replies.Told.{Told}
-use Rattle.sugwelan_c.specs.declared.replies.TheConstants.{AGAIN, DONE, EBADF, EBUSY, EINTR, EINVAL, ENOSPC, EPERM}
+use Rattle.sugwelan_c.specs.declared.replies.TheConstants.{AGAIN, DONE, EBUSY, EDEADLK, EINTR, EINVAL, ENOENT, ENOSPC}
+use Rattle.sugwelan_c.specs.declared.replies.TheConstants.{ENOTRECOVERABLE, EOPNOTSUPP, EPERM}
 use Rattle.sugwelan_c.specs.declared.replies.TheConstants.{LOCKED, PARK, ROOM}
 
 -- the codes
 abbrev pub refusal_code : Refused → ℤ
 refusal_code reason.OutOfRange = EINVAL
-refusal_code reason.NotListed = EINVAL
+refusal_code reason.NotListed = EOPNOTSUPP
 refusal_code reason.Busy = EBUSY
-refusal_code reason.Nothing = EINVAL
+refusal_code reason.Nothing = ENOENT
 refusal_code reason.NotHeld = EPERM
-refusal_code reason.Held = EPERM
-refusal_code reason.Starved = EBADF
+refusal_code reason.Held = EDEADLK
+refusal_code reason.Starved = ENOTRECOVERABLE
 
 abbrev pub wait_code : WaitEnd → ℤ
 wait_code (wait_end.Signal seen selected) = EINTR
@@ -55,7 +56,7 @@ progress_code progress.Again = AGAIN
 progress_code progress.Locked = LOCKED
 progress_code progress.Park = PARK
 progress_code (progress.Done a) = answer_code a
-progress_code progress.Starved = EBADF
+progress_code progress.Starved = ENOTRECOVERABLE
 
 abbrev pub code_of : Reply → ℤ
 code_of (reply.Refused e) = refusal_code e

@@ -5,7 +5,7 @@ ghost use Rattle.wait_model.specs.declared.layout.TheConstants.{BIT_WORDS};
 ghost use Rattle.sugwelan_c.specs.Handles.{IsFork, IsNew, IsUnmade, KeepsAny, KeepsSome, MayFree, HasNoFork, NoNew, unmade_code};
 
 use crate::blocks::Block;
-use crate::replies::{DONE, EBUSY, EINVAL, ENOMEM, ENOSPC, EPERM, refusal_code};
+use crate::replies::{DONE, EAGAIN, EBUSY, EINVAL, ENOMEM, ENOTEMPTY, refusal_code};
 use std::alloc::Global;
 use wait_model::layout::{BIT_WORDS, WORD_BITS};
 use wq_checked::tasks::NoFork;
@@ -27,7 +27,7 @@ fn unmade_code(why: Unmade) -> i32
     match why {
         Unmade::Wide => EINVAL,
         Unmade::Refused(reason) => refusal_code(reason),
-        Unmade::Numbers => ENOSPC,
+        Unmade::Numbers => EAGAIN,
         Unmade::Memory => ENOMEM,
     }
 }
@@ -115,7 +115,7 @@ pub fn code_to_free(task: &CheckedTask) -> i32
     match task.refusal() {
         Some(Refused::Starved) => DONE,
         Some(_) => EBUSY,
-        None => { if keeps_any(task) { EPERM } else { DONE } }
+        None => { if keeps_any(task) { ENOTEMPTY } else { DONE } }
     }
 }
 

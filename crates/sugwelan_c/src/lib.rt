@@ -44,8 +44,8 @@ pub unsafe extern "C" fn sugwelan_call(task: *mut u8, call: &Call, told: &mut To
 
 /// Makes a further task of the same Domain, with `share` of the numbers that are spare, below 256, and writes its address
 /// to `out`: 0. Else `out` is left as it is. -EINVAL: `share` is 256 or more. -EBUSY: a call of the task is under way.
-/// -EBADF: it makes no more calls. -ENOSPC: fewer than `1 + share` numbers are spare. -ENOMEM: there is no memory, and the
-/// numbers may be used up.
+/// -ENOTRECOVERABLE: it makes no more calls. -EAGAIN: fewer than `1 + share` numbers are spare. -ENOMEM: there is no
+/// memory, and the numbers may be used up.
 #[unsafe(no_mangle)]
 pub unsafe extern "C" fn sugwelan_fork(
     alloc: Global,
@@ -62,7 +62,7 @@ pub unsafe extern "C" fn sugwelan_fork(
 }
 
 /// Gives the task up and frees its block: 0, also of a task that makes no more calls. Else it is left as it is. -EBUSY: a
-/// call of the task is under way. -EPERM: it keeps a bit or a page.
+/// call of the task is under way. -ENOTEMPTY: it keeps a bit or a page.
 #[unsafe(no_mangle)]
 pub unsafe extern "C" fn sugwelan_free(alloc: Global, task: *mut u8) -> i32
     ghost held: { Checked }

@@ -20,20 +20,30 @@ pub const AGAIN: i32 = 1;
 pub const LOCKED: i32 = 2;
 /// The task was put asleep, and goes on once it was roused.
 pub const PARK: i32 = 3;
-/// The task does not keep the bit or page, or keeps the one for which it would wait.
+/// The task does not keep the bit or page that it would give back, or to whose tally it would add.
 pub const EPERM: i32 = -1;
+/// No call is under way that could go on.
+pub const ENOENT: i32 = -2;
 /// A signal ended the wait.
 pub const EINTR: i32 = -4;
-/// The task makes no more calls.
-pub const EBADF: i32 = -9;
+/// No number is spare for a further task.
+pub const EAGAIN: i32 = -11;
 /// There is no memory.
 pub const ENOMEM: i32 = -12;
 /// Another call of the task is under way.
 pub const EBUSY: i32 = -16;
 /// A number is out of its range, or a kind is none.
 pub const EINVAL: i32 = -22;
-/// No place in the queue is left, or no number is spare.
+/// No place in the queue is left.
 pub const ENOSPC: i32 = -28;
+/// The task keeps the bit or page itself for which it would wait.
+pub const EDEADLK: i32 = -35;
+/// The task keeps a bit or a page, and would be given up.
+pub const ENOTEMPTY: i32 = -39;
+/// A wait in a simple queue would be killable.
+pub const EOPNOTSUPP: i32 = -95;
+/// The task makes no more calls.
+pub const ENOTRECOVERABLE: i32 = -131;
 
 /// How many tasks a call names to be roused at most.
 pub const ROOM: usize = MEMBERS as usize;
@@ -68,12 +78,12 @@ pub fn refusal_code(reason: Refused) -> i32
 {
     match reason {
         Refused::OutOfRange => EINVAL,
-        Refused::NotListed => EINVAL,
+        Refused::NotListed => EOPNOTSUPP,
         Refused::Busy => EBUSY,
-        Refused::Nothing => EINVAL,
+        Refused::Nothing => ENOENT,
         Refused::NotHeld => EPERM,
-        Refused::Held => EPERM,
-        Refused::Starved => EBADF,
+        Refused::Held => EDEADLK,
+        Refused::Starved => ENOTRECOVERABLE,
     }
 }
 
@@ -119,7 +129,7 @@ fn progress_code(told: Progress) -> i32
         Progress::Locked => LOCKED,
         Progress::Park => PARK,
         Progress::Done(answer) => answer_code(answer),
-        Progress::Starved => EBADF,
+        Progress::Starved => ENOTRECOVERABLE,
     }
 }
 

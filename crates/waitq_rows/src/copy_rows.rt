@@ -79,6 +79,24 @@ pub(crate) fn status_of<R: Threads + Wait + Sync, F: Folder, I: Source, O: Sink,
     Ok(status)
 }
 
+/// Words as the program gets them.
+pub(crate) fn list_of(alloc: Global, words: &[&str]) -> Result<Vec<String>, AllocError> {
+    let mut list = Vec::new(alloc);
+    for word in words {
+        list.push(String::from_str(alloc, word)?)?;
+    }
+    Ok(list)
+}
+
+/// A folder with the file `a`.
+fn folder_of(alloc: Global, bytes: &[u8], fails: Fails) -> Result<MemFolder, AllocError> {
+    let mut folder = MemFolder::new(alloc);
+    folder.add("a", bytes, fails.reads)?;
+    folder.fail_writes(fails.writes)?;
+    folder.fail_calls(fails.calls)?;
+    Ok(folder)
+}
+
 /// Runs words over a folder with the file `a`.
 fn run_on<R: Threads + Wait + Sync>(
     rt: &R,
@@ -87,14 +105,8 @@ fn run_on<R: Threads + Wait + Sync>(
     bytes: &[u8],
     fails: Fails,
 ) -> Result<Left, Fail> {
-    let mut list = Vec::new(alloc);
-    for word in words {
-        list.push(String::from_str(alloc, word)?)?;
-    }
-    let mut folder = MemFolder::new(alloc);
-    folder.add("a", bytes, fails.reads)?;
-    folder.fail_writes(fails.writes)?;
-    folder.fail_calls(fails.calls)?;
+    let list = list_of(alloc, words)?;
+    let mut folder = folder_of(alloc, bytes, fails)?;
     let mut input = MemSource::new(alloc, b"", &[])?;
     let mut out = MemSink::new(alloc, fails.outs)?;
     let mut err = MemSink::new(alloc, fails.errs)?;

@@ -1,6 +1,6 @@
 //! Worked scripts, refusals and faults through `run`.
 
-use crate::copy_rows::status_of;
+use crate::copy_rows::{list_of, status_of};
 use crate::page_rows::{PAGE_CALL_IN_VERSION_1, PAGE_HANDED_ON, PAGE_TAKEN_BY_STRANGER};
 use crate::refused_rows::{
     BAD_CONDITION, BAD_NUMBER, CUT_LINE, LONG_LINE, NO_HEADER, NOTHING, REFUSED_OPEN,
@@ -40,10 +40,7 @@ fn run_on<R: Threads + Wait + Sync>(
     writes: &[u64],
     errs: &[u64],
 ) -> Result<Answered, Fail> {
-    let mut list = Vec::new(alloc);
-    for word in words {
-        list.push(String::from_str(alloc, word)?)?;
-    }
+    let list = list_of(alloc, words)?;
     let mut input = MemSource::new(alloc, script, reads)?;
     let mut out = MemSink::new(alloc, writes)?;
     let mut err = MemSink::new(alloc, errs)?;

@@ -321,15 +321,20 @@ static void under_way(void *sleeper)
 
 static void handles(void)
 {
-    void *waker, *sleeper;
+    void *waker, *sleeper, *none = NULL;
     EXPECT(sugwelan_new(&waker), 0);
     EXPECT(sugwelan_fork(waker, 0, &sleeper), 0);
-    EXPECT(raw(sleeper, SUGWELAN_ADVANCE, 0, 0, 0), -EINVAL);
+    EXPECT(raw(sleeper, SUGWELAN_ADVANCE, 0, 0, 0), -ENOENT);
+    EXPECT(raw(sleeper, SUGWELAN_SWAIT_EVENT, SIMPLE, SUGWELAN_KILLABLE, 0), -EOPNOTSUPP);
+    EXPECT(raw(sleeper, SUGWELAN_UNLOCK_PAGE, PAGE, 0, 0), -EPERM);
     EXPECT(raw(sleeper, UINT32_MAX, 0, 0, 0), -EINVAL);
     EXPECT(raw(sleeper, SUGWELAN_WAIT_EVENT, CLEAR, 0, 2), -EINVAL);
     EXPECT(raw(sleeper, SUGWELAN_TRYLOCK_BIT, WORD, KEPT, 0), SUGWELAN_DONE);
     EXPECT(told.value, 1);
     EXPECT(raw(sleeper, SUGWELAN_TRYLOCK_PAGE, PAGE, 0, 0), SUGWELAN_DONE);
+    EXPECT(raw(sleeper, SUGWELAN_LOCK_PAGE, PAGE, 0, 0), -EDEADLK);
+    EXPECT(sugwelan_fork(waker, SUGWELAN_TASKS - 1, &none), -EAGAIN);
+    EXPECT(sugwelan_fork(waker, SUGWELAN_TASKS, &none), -EINVAL);
     EXPECT(go(sleeper, SUGWELAN_WAIT_EVENT, SET, 0, 0), SUGWELAN_PARK);
     under_way(sleeper);
     EXPECT(go(sleeper, SUGWELAN_ADVANCE, 0, 0, 0), SUGWELAN_PARK);
@@ -339,7 +344,7 @@ static void handles(void)
     EXPECT(told.rouse_count, 1);
     EXPECT(told.rouse[0], 1);
     EXPECT(go(sleeper, SUGWELAN_ADVANCE, 0, 0, 0), SUGWELAN_DONE);
-    EXPECT(sugwelan_free(sleeper), -EPERM);
+    EXPECT(sugwelan_free(sleeper), -ENOTEMPTY);
     EXPECT(go(sleeper, SUGWELAN_CLEAR_AND_WAKE_UP_BIT, WORD, KEPT, 0), SUGWELAN_DONE);
     EXPECT(told.rouse_count, 0);
     EXPECT(go(sleeper, SUGWELAN_UNLOCK_PAGE, PAGE, 0, 0), SUGWELAN_DONE);

@@ -1,6 +1,5 @@
 //! Why a call was refused, or ended otherwise than it should.
 
-use crate::raw::{Call, Kind};
 use std::fmt;
 
 /// Why a call was refused, or ended otherwise than it should. After all but [`Error::Signal`], [`Error::Full`] and
@@ -34,11 +33,11 @@ pub enum Error {
     Other(i32),
 }
 
-/// The codes that say one thing alone.
+/// The codes of the archive, of which each says one thing.
 const CODES: [(i32, Error); 9] = [
+    (-1, Error::NotHeld),
     (-2, Error::Over),
     (-4, Error::Signal),
-    (-9, Error::Starved),
     (-11, Error::NoNumber),
     (-12, Error::Memory),
     (-22, Error::Invalid),
@@ -47,34 +46,9 @@ const CODES: [(i32, Error); 9] = [
     (-131, Error::Starved),
 ];
 
-/// The code of a bit that is kept, or is not.
-const EPERM: i32 = -1;
-/// The code of a number out of its range, and of an advance with nothing to go on with.
-const EINVAL: i32 = -22;
-/// The code of a queue without a place, and of a fork without a number.
-const ENOSPC: i32 = -28;
-
 impl Error {
-    /// What a negative answer to a call says. Some codes of the archive are of two reasons, of which a kind of calls
-    /// has one.
-    pub(crate) fn of(call: &Call, code: i32) -> Error {
-        match (code, call.kind) {
-            (EPERM, Kind::WaitOnBit | Kind::WaitOnBitLock | Kind::LockPage) => Error::Held,
-            (EPERM, _) => Error::NotHeld,
-            (EINVAL, Kind::Advance) => Error::Over,
-            _ => Error::known(code),
-        }
-    }
-
-    /// What a negative answer to a fork says.
-    pub(crate) fn of_fork(code: i32) -> Error {
-        match code {
-            ENOSPC => Error::NoNumber,
-            _ => Error::known(code),
-        }
-    }
-
-    fn known(code: i32) -> Error {
+    /// What a negative answer says.
+    pub(crate) fn of(code: i32) -> Error {
         let known = CODES.iter().find(|(known, _)| *known == code);
         known.map_or(Error::Other(code), |(_, error)| *error)
     }

@@ -50,7 +50,7 @@ impl Handle {
         // SAFETY: the pointer is that of a place for a handle.
         match unsafe { raw::sugwelan_new(&mut at) } {
             0 => Handle::of(at),
-            code => Err(Error::of_fork(code)),
+            code => Err(Error::of(code)),
         }
     }
 
@@ -60,7 +60,7 @@ impl Handle {
         // SAFETY: the handle was given out, `&mut self` excludes other calls on it, and the pointer is that of a place.
         match unsafe { raw::sugwelan_fork(self.at.as_ptr(), 0, &mut at) } {
             0 => Handle::of(at),
-            code => Err(Error::of_fork(code)),
+            code => Err(Error::of(code)),
         }
     }
 
@@ -107,7 +107,7 @@ impl Handle {
                     tries += 1;
                 }
                 raw::PARK => return None,
-                code => return Some(Err(Error::of(&call, code))),
+                code => return Some(Err(Error::of(code))),
             }
             call = Call::new(Kind::Advance);
         }

@@ -69,9 +69,13 @@ static void all_go_on(void)
             nap();
 }
 
+/* Parks, once the main thread is in no call on the task. */
 static void *parks(void *task)
 {
-    EXPECT(sugwelan_wait_event(task, GATE, SUGWELAN_UNINTERRUPTIBLE), 0);
+    int answer;
+    while ((answer = sugwelan_wait_event(task, GATE, SUGWELAN_UNINTERRUPTIBLE)) == -EALREADY)
+        ;
+    EXPECT(answer, 0);
     pthread_testcancel();
     EXPECT(0, 1);
     return NULL;

@@ -1,11 +1,17 @@
 #!/usr/bin/env bash
 # Checks what the documents say of the repository: each link leads somewhere, each path that is named exists, code that
 # is said to come from a file stands in it, each command of ./waitq and chart/waitq_chart runs as written, each script has
-# its line in examples/README.md, and each file of definitions has one of the marks of docs/READING.md.
+# its line in examples/README.md, and each file of definitions has one of the marks of docs/READING.md. Of what the
+# documents count and name: the paths of docs/READING.md have each file that is to be believed, and about as many lines
+# as it says; a name that stands in several files of definitions is in .ci/doubled_names.txt; docs/ARCHITECTURE.md lets
+# each crate stand on what crates.txt says; each clause that docs/PROVED.md names in brackets is one of that crate; each
+# path of modules leads to something public; and docs/GLOSSARY.md has one row a word.
 #
 # usage: .ci/docs.sh             (it needs what `rt ci` built)
 #        .ci/docs.sh --quick     runs no command, and needs nothing
 #        .ci/docs.sh --lines     counts the lines of the files of definitions by their marks
+#        .ci/docs.sh --paths     counts those to be believed of each path of docs/READING.md
+#        .ci/docs.sh --names     prints the names that stand in several files of definitions, and in how many each
 #
 # Prints a line for each case that fails, and at the end 'N passed, M failed'. The status is 1 where one failed.
 set -u
@@ -156,17 +162,205 @@ count_lines() {
     done < <(tr '|' '\n' <<<"$marks")
 }
 
-if [ "${1:-}" = --lines ]; then
-    count_lines
-    exit
-fi
+# The files that each path of docs/READING.md names, one a line behind the path's number. A name is one of the crate
+# that the path has named last, or of wait_model; what is no file of either stands there as it is.
+path_files() {
+    local number word file last=
+    local crate=wait_model
+    while read -r number word; do
+        [ "$number" = "$last" ] || crate=wait_model
+        last=$number
+        if [ -d "crates/$word" ]; then
+            crate=$word
+            continue
+        fi
+        for file in "crates/$crate/specs/$word.antt" "crates/wait_model/specs/$word.antt" "$word"; do
+            if [ -f "$file" ] || [ "$file" = "$word" ]; then
+                printf '%s %s\n' "$number" "$file"
+                break
+            fi
+        done
+    done < <(awk '
+        /^## / { inside = $0 == "## Promise by promise" }
+        !inside { next }
+        match($0, /^\*\*[0-9]+\./) { number = substr($0, 3, RLENGTH - 3) }
+        number != "" {
+            for (rest = $0; match(rest, /`[A-Za-z_]+`/); rest = substr(rest, RSTART + RLENGTH))
+                print number, substr(rest, RSTART + 1, RLENGTH - 2)
+        }
+    ' docs/READING.md)
+}
+
+# The lines of the files to be believed of each path: its number and how many there are.
+count_paths() {
+    local number file
+    while read -r number file; do
+        if [ -f "$file" ] && head -n 1 -- "$file" | grep -qxF -- '-- To be believed.'; then
+            printf '%s %s\n' "$number" "$(wc -l <"$file")"
+        fi
+    done < <(path_files) | awk '{ sum[$1] += $2 } END { for (number in sum) print number, sum[number] }' | sort -n
+}
+
+# Whether a number that is said is about another one: no more than a twentieth off.
+is_about() {
+    [ $((20 * ($1 > $2 ? $1 - $2 : $2 - $1))) -le "$2" ]
+}
+
+# Compares what docs/READING.md says of its paths with the files that they name.
+compare_paths() {
+    local number word file lines said
+    while read -r number file; do
+        case $file in
+            */*) ;;
+            [A-Z]*) grep -qE "^(abbrev pub|unfoldable pub|pub record|pub data) $file( |\$)" crates/*/specs/*.antt && pass ||
+                fail "docs/READING.md: path $number: there is no $file" ;;
+        esac
+    done < <(path_files)
+    while read -r file; do
+        grep -qxF -- "$file" "$work/read" && pass || fail "docs/READING.md: no path has $file"
+    done < <(path_files | cut -d ' ' -f 2 >"$work/read"; definitions | xargs grep -lxF -- '-- To be believed.')
+    while read -r number lines; do
+        said=$(sed -nE "s/^\*\*$number\. .*\*\* \(([0-9,]+) lines.*/\1/p" docs/READING.md | tr -d ,)
+        is_about "${said:-0}" "$lines" && pass || fail "docs/READING.md: path $number has $lines lines, not $said"
+    done < <(count_paths)
+    lines=$(definitions | xargs grep -lxF -- '-- To be believed.' | xargs cat | wc -l)
+    said=$(sed -nE 's/.* had some ([0-9,]+) lines$/\1/p' docs/READING.md | tr -d ,)
+    is_about "${said:-0}" "$lines" && pass || fail "docs/READING.md: $lines lines are to be believed, not $said"
+}
+
+# The names that stand in several files of definitions, each with the number of these files.
+doubled_names() {
+    definitions | xargs awk '
+        match($0, /^(abbrev pub|unfoldable pub|pub record|pub data) [^ ]+/) {
+            split($0, words, " ")
+            if (!seen[words[3], FILENAME]++) files[words[3]]++
+        }
+        END { for (name in files) if (files[name] > 1) print name, files[name] }
+    ' | LC_ALL=C sort
+}
+
+# Compares these names with the list of them, which is to get no longer.
+compare_names() {
+    local name files
+    doubled_names >"$work/names"
+    while read -r name files; do
+        fail "$name: stands in $files files of definitions (.ci/doubled_names.txt)"
+    done < <(LC_ALL=C comm -13 .ci/doubled_names.txt "$work/names")
+    while read -r name files; do
+        fail ".ci/doubled_names.txt: $name stands in $files files no more (.ci/docs.sh --names)"
+    done < <(LC_ALL=C comm -23 .ci/doubled_names.txt "$work/names")
+    [ -s "$work/names" ] && cmp -s .ci/doubled_names.txt "$work/names" && pass
+}
+
+# Compares what docs/ARCHITECTURE.md lets each crate stand on with its line of crates.txt.
+compare_crates() {
+    local name needs said
+    while IFS=: read -r name needs; do
+        name=${name%% *}
+        needs=$(xargs -n 1 <<<"$needs" | LC_ALL=C sort | xargs)
+        said=$(awk -F ' \\| ' -v row="| \`$name\`" '
+            /^\| Crate \| What it is \| Stands on \|/ { inside = 1 }
+            /^$/ { inside = 0 }
+            inside && $1 == row { print $3 }
+        ' docs/ARCHITECTURE.md)
+        said=$(tr -d '`,' <<<"$said" | xargs -n 1 | LC_ALL=C sort | xargs)
+        [ "$said" = "${needs:-std}" ] && pass || fail "docs/ARCHITECTURE.md: $name stands on: ${needs:-std}; not: $said"
+    done <crates.txt
+}
+
+# What contracts and definitions of each crate have by a name: clauses, ghosts, functions and fields, behind the crate's.
+clause_names() {
+    find crates/*/src -name '*.rt' | xargs awk '
+        {
+            split(FILENAME, part, "/")
+            for (rest = $0; match(rest, /(ensures|requires|ghost|fn)\*? [a-z_0-9]+/); rest = substr(rest, RSTART + RLENGTH)) {
+                split(substr(rest, RSTART, RLENGTH), words, " ")
+                print part[2], words[2]
+            }
+        }'
+    definitions | xargs awk '
+        match($0, /^(abbrev pub|unfoldable pub|  pub) [a-z_0-9]+/) {
+            split(FILENAME, part, "/")
+            count = split(substr($0, RSTART, RLENGTH), words, " ")
+            print part[2], words[count]
+        }'
+}
+
+# Looks for each clause that docs/PROVED.md names in brackets, among those of the crate of which it speaks.
+find_clauses() {
+    local crate name
+    clause_names | LC_ALL=C sort -u >"$work/clauses"
+    while read -r crate name; do
+        grep -qxF -- "$crate $name" "$work/clauses" && pass || fail "docs/PROVED.md: $crate has no $name"
+    done < <(awk '
+        /^## / { inside = $0 == "## What is proved, crate by crate" }
+        match($0, /^\*\*[a-z_]+\*\* —/) { crate = substr($0, 3); sub(/\*.*/, "", crate) }
+        inside && crate != "" { text[crate] = text[crate] " " $0 }
+        END {
+            for (crate in text)
+                for (rest = text[crate]; match(rest, /\([^()]*\)/); rest = substr(rest, at + length(found))) {
+                    at = RSTART
+                    found = substr(rest, RSTART, RLENGTH)
+                    for (left = found; match(left, /`[a-z_0-9]+`/); left = substr(left, RSTART + RLENGTH))
+                        print crate, substr(left, RSTART + 1, RLENGTH - 2)
+                }
+        }' docs/PROVED.md | LC_ALL=C sort -u)
+}
+
+# Whether something public stands at a path of modules that begins with a crate, or with `laws`.
+is_public() {
+    local crate=${1%%::*} rest=${1#*::} name=${1##*::} module
+    if [ "$crate" = laws ]; then
+        grep -qE "^pub fn $name\(" crates/*/src/laws.rt
+        return
+    fi
+    module=${rest%"$name"}
+    module=${module%::}
+    case $module in
+        specs*) grep -qE "^(abbrev pub|unfoldable pub|pub record|pub data) $name( |\$)" "crates/$crate/${module//:://}.antt" ;;
+        '') grep -qE "^pub mod $name;|^pub (fn|struct|enum|const|trait) $name\b|^pub use .*\b$name\b" "crates/$crate/src/lib.rt" ;;
+        [A-Z]*) grep -qE "^ +pub fn $name\b" "crates/$crate"/src/*.rt && is_public "$crate::$module" ;;
+        *) grep -qE "^pub (fn|struct|enum|const|trait) $name\b" "crates/$crate/src/$module.rt" &&
+            grep -qxF "pub mod $module;" "crates/$crate/src/lib.rt" ;;
+    esac
+}
+
+# Looks for each path of modules that a page names in code.
+find_public() {
+    local page=$1 path
+    while read -r path; do
+        [ -d "crates/${path%%::*}" ] || [ "${path%%::*}" = laws ] || continue
+        is_public "$path" && pass || fail "$page: $path is nothing public"
+    done < <(prose "$page" | grep -oE '`[a-z_0-9]+(::[A-Za-z_0-9]+)+`' | tr -d '`' | sort -u)
+}
+
+# Looks for words that have more than one row in docs/GLOSSARY.md.
+find_doubled_words() {
+    local word
+    while read -r word; do
+        fail "docs/GLOSSARY.md: two rows: $word"
+    done < <(awk -F ' *\\| *' '/^\|/ && $2 != "Word" && $2 !~ /^-/ { print $2 }' docs/GLOSSARY.md | sort | uniq -d)
+    pass
+}
+
+case ${1:-} in
+    --lines) count_lines && exit ;;
+    --paths) count_paths && exit ;;
+    --names) doubled_names && exit ;;
+esac
 while read -r page; do
     follow_links "$page"
     find_paths "$page"
     find_code "$page"
+    find_public "$page"
     [ "${1:-}" = --quick ] || run_commands "$page"
 done < <(pages)
 compare_index
 find_marks
+compare_paths
+compare_names
+compare_crates
+find_clauses
+find_doubled_words
 printf '%d passed, %d failed\n' "$passed" "$failed"
 [ "$failed" = 0 ]

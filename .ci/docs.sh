@@ -1,11 +1,12 @@
 #!/usr/bin/env bash
 # Checks what the documents say of the repository: each link leads somewhere, each path that is named exists, code that
-# is said to come from a file stands in it, each command of ./waitq and chart/waitq_chart runs as written, each script has
-# its line in examples/README.md, and each file of definitions has one of the marks of docs/READING.md. Of what the
+# is said to come from a file stands in it, each command of ./waitq and chart/waitq_chart runs as written, each script
+# has its line in examples/README.md, and each file of definitions has one of the marks of docs/READING.md. Of what the
 # documents count and name: the paths of docs/READING.md have each file that is to be believed, and about as many lines
 # as it says; a name that stands in several files of definitions is in .ci/doubled_names.txt; docs/ARCHITECTURE.md lets
 # each crate stand on what crates.txt says; each clause that docs/PROVED.md names in brackets is one of that crate; each
-# path of modules leads to something public; and docs/GLOSSARY.md has one row a word.
+# path of modules leads to something public, each method beside the kernel's names in docs/USING.md is there, and
+# docs/GLOSSARY.md has one row a word.
 #
 # usage: .ci/docs.sh             (it needs what `rt ci` built)
 #        .ci/docs.sh --quick     runs no command, and needs nothing
@@ -24,6 +25,9 @@ passed=0
 failed=0
 marks='To be believed.|Tied by laws to what is to be believed.|A check of the definitions.|For proofs alone.'
 marks="$marks|For tests alone."
+believed='-- To be believed.'
+# How a definition begins, before its name.
+defines='^(abbrev pub|unfoldable pub|pub record|pub data)'
 
 pass() {
     passed=$((passed + 1))
@@ -195,7 +199,7 @@ path_files() {
 count_paths() {
     local number file
     while read -r number file; do
-        if [ -f "$file" ] && head -n 1 -- "$file" | grep -qxF -- '-- To be believed.'; then
+        if [ -f "$file" ] && head -n 1 -- "$file" | grep -qxF -- "$believed"; then
             printf '%s %s\n' "$number" "$(wc -l <"$file")"
         fi
     done < <(path_files) | awk '{ sum[$1] += $2 } END { for (number in sum) print number, sum[number] }' | sort -n
@@ -212,26 +216,26 @@ compare_paths() {
     while read -r number file; do
         case $file in
             */*) ;;
-            [A-Z]*) grep -qE "^(abbrev pub|unfoldable pub|pub record|pub data) $file( |\$)" crates/*/specs/*.antt && pass ||
+            [A-Z]*) grep -qE "$defines $file( |\$)" crates/*/specs/*.antt && pass ||
                 fail "docs/READING.md: path $number: there is no $file" ;;
         esac
     done < <(path_files)
     while read -r file; do
         grep -qxF -- "$file" "$work/read" && pass || fail "docs/READING.md: no path has $file"
-    done < <(path_files | cut -d ' ' -f 2 >"$work/read"; definitions | xargs grep -lxF -- '-- To be believed.')
+    done < <(path_files | cut -d ' ' -f 2 >"$work/read"; definitions | xargs grep -lxF -- "$believed")
     while read -r number lines; do
         said=$(sed -nE "s/^\*\*$number\. .*\*\* \(([0-9,]+) lines.*/\1/p" docs/READING.md | tr -d ,)
         is_about "${said:-0}" "$lines" && pass || fail "docs/READING.md: path $number has $lines lines, not $said"
     done < <(count_paths)
-    lines=$(definitions | xargs grep -lxF -- '-- To be believed.' | xargs cat | wc -l)
+    lines=$(definitions | xargs grep -lxF -- "$believed" | xargs cat | wc -l)
     said=$(sed -nE 's/.* had some ([0-9,]+) lines$/\1/p' docs/READING.md | tr -d ,)
     is_about "${said:-0}" "$lines" && pass || fail "docs/READING.md: $lines lines are to be believed, not $said"
 }
 
 # The names that stand in several files of definitions, each with the number of these files.
 doubled_names() {
-    definitions | xargs awk '
-        match($0, /^(abbrev pub|unfoldable pub|pub record|pub data) [^ ]+/) {
+    definitions | xargs awk -v defines="$defines" '
+        $0 ~ defines {
             split($0, words, " ")
             if (!seen[words[3], FILENAME]++) files[words[3]]++
         }
@@ -268,14 +272,15 @@ compare_crates() {
     done <crates.txt
 }
 
-# What contracts and definitions of each crate have by a name: clauses, ghosts, functions and fields, behind the crate's.
+# What contracts and definitions of each crate have by a name, behind the crate's: clauses, ghosts, functions, fields.
 clause_names() {
     find crates/*/src -name '*.rt' | xargs awk '
         {
             split(FILENAME, part, "/")
-            for (rest = $0; match(rest, /(ensures|requires|ghost|fn)\*? [a-z_0-9]+/); rest = substr(rest, RSTART + RLENGTH)) {
+            for (rest = $0; match(rest, /(ensures|requires|ghost|fn)\*? [a-z_0-9]+/);) {
                 split(substr(rest, RSTART, RLENGTH), words, " ")
                 print part[2], words[2]
+                rest = substr(rest, RSTART + RLENGTH)
             }
         }'
     definitions | xargs awk '
@@ -307,6 +312,12 @@ find_clauses() {
         }' docs/PROVED.md | LC_ALL=C sort -u)
 }
 
+# Whether a file of a crate has something public of that name, of its own or handed on from another file.
+has_public() {
+    grep -sqE "^pub (mod|fn|struct|enum|const|trait) $2\b" "$1" ||
+        tr '\n' ' ' <"$1" | grep -oE 'pub use [^;]*;' | grep -qw -- "$2"
+}
+
 # Whether something public stands at a path of modules that begins with a crate, or with `laws`.
 is_public() {
     local crate=${1%%::*} rest=${1#*::} name=${1##*::} module
@@ -317,10 +328,10 @@ is_public() {
     module=${rest%"$name"}
     module=${module%::}
     case $module in
-        specs*) grep -qE "^(abbrev pub|unfoldable pub|pub record|pub data) $name( |\$)" "crates/$crate/${module//:://}.antt" ;;
-        '') grep -qE "^pub mod $name;|^pub (fn|struct|enum|const|trait) $name\b|^pub use .*\b$name\b" "crates/$crate/src/lib.rt" ;;
+        specs*) grep -sqE "$defines $name( |\$)" "crates/$crate/${module//:://}.antt" ;;
+        '') has_public "crates/$crate/src/lib.rt" "$name" ;;
         [A-Z]*) grep -qE "^ +pub fn $name\b" "crates/$crate"/src/*.rt && is_public "$crate::$module" ;;
-        *) grep -qE "^pub (fn|struct|enum|const|trait) $name\b" "crates/$crate/src/$module.rt" &&
+        *) [ -f "crates/$crate/src/$module.rt" ] && has_public "crates/$crate/src/$module.rt" "$name" &&
             grep -qxF "pub mod $module;" "crates/$crate/src/lib.rt" ;;
     esac
 }
@@ -332,6 +343,18 @@ find_public() {
         [ -d "crates/${path%%::*}" ] || [ "${path%%::*}" = laws ] || continue
         is_public "$path" && pass || fail "$page: $path is nothing public"
     done < <(prose "$page" | grep -oE '`[a-z_0-9]+(::[A-Za-z_0-9]+)+`' | tr -d '`' | sort -u)
+}
+
+# Looks for each method that the table of the kernel's names has, among those of a checked task.
+find_methods() {
+    local name
+    while read -r name; do
+        grep -qE "^ +pub fn $name\(" crates/wq_checked/src/*.rt && pass || fail "docs/USING.md: no task has $name"
+    done < <(awk -F ' \\| ' '
+        /^\| Kernel \| Here \| Without proofs \|/ { inside = 1 }
+        /^$/ { inside = 0 }
+        inside { print $3 }
+    ' docs/USING.md | grep -oE '`[a-z_]+`' | tr -d '`' | sort -u)
 }
 
 # Looks for words that have more than one row in docs/GLOSSARY.md.
@@ -361,6 +384,7 @@ compare_paths
 compare_names
 compare_crates
 find_clauses
+find_methods
 find_doubled_words
 printf '%d passed, %d failed\n' "$passed" "$failed"
 [ "$failed" = 0 ]

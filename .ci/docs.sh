@@ -212,7 +212,7 @@ is_about() {
 
 # Compares what docs/READING.md says of its paths with the files that they name.
 compare_paths() {
-    local number word file lines said
+    local number file lines said
     while read -r number file; do
         case $file in
             */*) ;;
@@ -275,7 +275,7 @@ compare_crates() {
 # What contracts and definitions of each crate have by a name, behind the crate's: clauses, ghosts, functions, fields.
 clause_names() {
     find crates/*/src -name '*.rt' | xargs awk '
-        {
+        !/^ *\/\// {
             split(FILENAME, part, "/")
             for (rest = $0; match(rest, /(ensures|requires|ghost|fn)\*? [a-z_0-9]+/);) {
                 split(substr(rest, RSTART, RLENGTH), words, " ")

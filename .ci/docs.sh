@@ -93,6 +93,21 @@ find_paths() {
     done < <(prose "$page" | grep -oE '`(crates|chart|docs|examples|bench|front|\.ci)/[A-Za-z0-9_./-]+`' | tr -d '`' | grep -v NAME | sort -u)
 }
 
+# Looks for each file that a page names from its crate on, with its ending or without; docs/GLOSSARY.md has short names
+# for some crates.
+find_files() {
+    local page=$1 path
+    while read -r path; do
+        if [ -e "crates/$path" ] || [ -e "crates/$path.antt" ] || [ -e "crates/$path.rt" ] || [ -e "$path" ]; then
+            pass
+        else
+            fail "$page: there is no crates/$path"
+        fi
+    done < <(prose "$page" |
+        sed -E 's,`(model|rule|core|script)/([A-Z]),`wait_\1/specs/\2,g; s,`head/([A-Z]),`wq_head/specs/\1,g' |
+        grep -oE '`[a-z_]+/(specs|src|proofs|must-fail)(/[A-Za-z0-9_.-]+)*`' | tr -d '`' | grep -v '/X' | sort -u)
+}
+
 # Compares each block of code that is said to come from a file with that file.
 find_code() {
     local page=$1 file
@@ -374,6 +389,7 @@ esac
 while read -r page; do
     follow_links "$page"
     find_paths "$page"
+    find_files "$page"
     find_code "$page"
     find_public "$page"
     [ "${1:-}" = --quick ] || run_commands "$page"

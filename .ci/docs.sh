@@ -38,6 +38,17 @@ fail() {
     printf 'FAILED: %s\n' "$*"
 }
 
+# Passes where a command does, and else fails with the words before it.
+judge() {
+    local words=$1
+    shift
+    if "$@"; then
+        pass
+    else
+        fail "$words"
+    fi
+}
+
 # The files of definitions, without those that only name the others.
 definitions() {
     find crates/*/specs -name '*.antt' ! -name Lib.antt | LC_ALL=C sort
@@ -93,16 +104,16 @@ find_paths() {
     done < <(prose "$page" | grep -oE '`(crates|chart|docs|examples|bench|front|\.ci)/[A-Za-z0-9_./-]+`' | tr -d '`' | grep -v NAME | sort -u)
 }
 
-# Looks for each file that a page names from its crate on, with its ending or without; docs/GLOSSARY.md has short names
-# for some crates.
+# Whether a file, or a folder, of a crate is there, by its name with the ending or without.
+is_file() {
+    [ -e "crates/$1" ] || [ -e "crates/$1.antt" ] || [ -e "crates/$1.rt" ] || [ -e "$1" ]
+}
+
+# Looks for each file that a page names from its crate on; docs/GLOSSARY.md has short names for some crates.
 find_files() {
     local page=$1 path
     while read -r path; do
-        if [ -e "crates/$path" ] || [ -e "crates/$path.antt" ] || [ -e "crates/$path.rt" ] || [ -e "$path" ]; then
-            pass
-        else
-            fail "$page: there is no crates/$path"
-        fi
+        judge "$page: there is no crates/$path" is_file "$path"
     done < <(prose "$page" |
         sed -E 's,`(model|rule|core|script)/([A-Z]),`wait_\1/specs/\2,g; s,`head/([A-Z]),`wq_head/specs/\1,g' |
         grep -oE '`[a-z_]+/(specs|src|proofs|must-fail)(/[A-Za-z0-9_.-]+)*`' | tr -d '`' | grep -v '/X' | sort -u)
@@ -231,20 +242,20 @@ compare_paths() {
     while read -r number file; do
         case $file in
             */*) ;;
-            [A-Z]*) grep -qE "$defines $file( |\$)" crates/*/specs/*.antt && pass ||
-                fail "docs/READING.md: path $number: there is no $file" ;;
+            [A-Z]*) judge "docs/READING.md: path $number: there is no $file" \
+                grep -qE "$defines $file( |\$)" crates/*/specs/*.antt ;;
         esac
     done < <(path_files)
     while read -r file; do
-        grep -qxF -- "$file" "$work/read" && pass || fail "docs/READING.md: no path has $file"
+        judge "docs/READING.md: no path has $file" grep -qxF -- "$file" "$work/read"
     done < <(path_files | cut -d ' ' -f 2 >"$work/read"; definitions | xargs grep -lxF -- "$believed")
     while read -r number lines; do
         said=$(sed -nE "s/^\*\*$number\. .*\*\* \(([0-9,]+) lines.*/\1/p" docs/READING.md | tr -d ,)
-        is_about "${said:-0}" "$lines" && pass || fail "docs/READING.md: path $number has $lines lines, not $said"
+        judge "docs/READING.md: path $number has $lines lines, not $said" is_about "${said:-0}" "$lines"
     done < <(count_paths)
     lines=$(definitions | xargs grep -lxF -- "$believed" | xargs cat | wc -l)
     said=$(sed -nE 's/.* had some ([0-9,]+) lines$/\1/p' docs/READING.md | tr -d ,)
-    is_about "${said:-0}" "$lines" && pass || fail "docs/READING.md: $lines lines are to be believed, not $said"
+    judge "docs/READING.md: $lines lines are to be believed, not $said" is_about "${said:-0}" "$lines"
 }
 
 # The names that stand in several files of definitions, each with the number of these files.
@@ -268,7 +279,7 @@ compare_names() {
     while read -r name files; do
         fail ".ci/doubled_names.txt: $name stands in $files files no more (.ci/docs.sh --names)"
     done < <(LC_ALL=C comm -23 .ci/doubled_names.txt "$work/names")
-    [ -s "$work/names" ] && cmp -s .ci/doubled_names.txt "$work/names" && pass
+    judge '.ci/doubled_names.txt: not the names that are doubled' cmp -s .ci/doubled_names.txt "$work/names"
 }
 
 # Compares what docs/ARCHITECTURE.md lets each crate stand on with its line of crates.txt.
@@ -283,13 +294,13 @@ compare_crates() {
             inside && $1 == row { print $3 }
         ' docs/ARCHITECTURE.md)
         said=$(tr -d '`,' <<<"$said" | xargs -n 1 | LC_ALL=C sort | xargs)
-        [ "$said" = "${needs:-std}" ] && pass || fail "docs/ARCHITECTURE.md: $name stands on: ${needs:-std}; not: $said"
+        judge "docs/ARCHITECTURE.md: $name stands on: ${needs:-std}; not: $said" [ "$said" = "${needs:-std}" ]
     done <crates.txt
 }
 
 # What contracts and definitions of each crate have by a name, behind the crate's: clauses, ghosts, functions, fields.
 clause_names() {
-    find crates/*/src -name '*.rt' | xargs awk '
+    find crates/*/src -name '*.rt' -exec awk '
         !/^ *\/\// {
             split(FILENAME, part, "/")
             for (rest = $0; match(rest, /(ensures|requires|ghost|fn)\*? [a-z_0-9]+/);) {
@@ -297,7 +308,7 @@ clause_names() {
                 print part[2], words[2]
                 rest = substr(rest, RSTART + RLENGTH)
             }
-        }'
+        }' {} +
     definitions | xargs awk '
         match($0, /^(abbrev pub|unfoldable pub|  pub) [a-z_0-9]+/) {
             split(FILENAME, part, "/")
@@ -311,7 +322,7 @@ find_clauses() {
     local crate name
     clause_names | LC_ALL=C sort -u >"$work/clauses"
     while read -r crate name; do
-        grep -qxF -- "$crate $name" "$work/clauses" && pass || fail "docs/PROVED.md: $crate has no $name"
+        judge "docs/PROVED.md: $crate has no $name" grep -qxF -- "$crate $name" "$work/clauses"
     done < <(awk '
         /^## / { inside = $0 == "## What is proved, crate by crate" }
         match($0, /^\*\*[a-z_]+\*\* —/) { crate = substr($0, 3); sub(/\*.*/, "", crate) }
@@ -356,7 +367,7 @@ find_public() {
     local page=$1 path
     while read -r path; do
         [ -d "crates/${path%%::*}" ] || [ "${path%%::*}" = laws ] || continue
-        is_public "$path" && pass || fail "$page: $path is nothing public"
+        judge "$page: $path is nothing public" is_public "$path"
     done < <(prose "$page" | grep -oE '`[a-z_0-9]+(::[A-Za-z_0-9]+)+`' | tr -d '`' | sort -u)
 }
 
@@ -364,7 +375,7 @@ find_public() {
 find_methods() {
     local name
     while read -r name; do
-        grep -qE "^ +pub fn $name\(" crates/wq_checked/src/*.rt && pass || fail "docs/USING.md: no task has $name"
+        judge "docs/USING.md: no task has $name" grep -qE "^ +pub fn $name\(" crates/wq_checked/src/*.rt
     done < <(awk -F ' \\| ' '
         /^\| Kernel \| Here \| Without proofs \|/ { inside = 1 }
         /^$/ { inside = 0 }

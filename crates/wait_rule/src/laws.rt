@@ -1,7 +1,7 @@
 //! What the rule of a Domain says of its tables.
 
 ghost use Rattle.std.specs.Prelude.{◌≡◌};
-ghost use Rattle.wait_rule.specs.Says.{MeetsLaw};
+ghost use Rattle.wait_rule.specs.Says.{IsUp, MeetsLaw};
 ghost use Rattle.wait_rule.specs.Worn.{EntriesWearLate, MarksWearLate, HoldsWearLate, OwnWearsLate, JoinedWearsLate};
 ghost use Rattle.wait_rule.specs.Worn.{HoldsNote, NotesStay, JoinKeepsNotes};
 ghost use Rattle.wait_rule.specs.WorkedEvents.{WorkedEvents};
@@ -30,7 +30,8 @@ use crate::rule::Witness;
 impl Task {
     /// Loads the base word, which shows that there is a table that meets the whole law and has the task's own list.
     pub fn witness(&mut self, domain: &Domain)
-        requires { self.old.domain ≡ domain.now }
+        requires of { self.old.domain ≡ domain.now }
+        requires up { IsUp self.old }
         ensures same { self.new ≡ self.old }
         ensures law { MeetsLaw self.new.view }
     {

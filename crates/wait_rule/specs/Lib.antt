@@ -1,4 +1,5 @@
 pub mod Tickets
+pub mod PassedLocks
 pub mod Items
 pub mod Asked
 pub mod Pages

@@ -39,25 +39,50 @@ pub fn serving_load(domain: &Domain, task: &mut Task, head: u16) -> u64
     domain.table.shared.load::<LoadServing>(&mut task.seat, at)
 }
 
+/// A lock that was passed on: the threads that park until the next ticket of its head is served are still to be woken.
+/// It is linear: who has it wakes them, or says aloud that it hands that on.
+pub struct Passed {
+    head: u16,
+}
+
+impl Passed {
+    /// Wakes the threads that park until another number of the head is served, where a ticket of it is out: all of
+    /// them, since one alone might not be the one whose ticket is served now. `domain` is the one of the lock. It takes
+    /// no task: no word changes, and no task knows more or less after it.
+    pub fn wake(self, domain: &Domain) {
+        wake_waiters(domain, self.hand_on());
+    }
+
+    /// The head, for who wakes those that wait for it in a way of its own, as a loop that tells another language does,
+    /// or where nobody parks.
+    pub fn hand_on(self) -> u16
+        ensures { result ≡ self.head }
+    {
+        let Passed { head } = self;
+        head
+    }
+}
+
 /// Serves the next ticket of the head whose lock the task has given back. It has no ticket out from then on. No thread
-/// is woken: who parks until that number is served sleeps on until `wake_waiters`.
-pub fn serve(domain: &Domain, task: &mut Task)
+/// is woken by it: that is left to whoever has the lock that it passed on.
+pub fn serve(domain: &Domain, task: &mut Task) -> Passed
     requires of { task.old.domain ≡ domain.now }
     requires given { HasGiven task.old }
-    ensures { task.new ≡ added task.old item.Served }
+    ensures served { task.new ≡ added task.old item.Served }
+    ensures head { result.head ≡ task.old.at }
 {
-    let at = serving_at(task.head) as usize;
+    let head = task.head;
+    let at = serving_at(head) as usize;
     domain
         .table
         .shared
         .fetch_add::<Serve>(&mut task.seat, at, 1);
+    Passed { head }
 }
 
-/// Wakes the threads that park until another number of head `head` is served, where a ticket of it is out: all of
-/// them, since one alone might not be the one whose ticket is served now. Who has given back a lock of the head calls
-/// it after that, where other threads may park for it. Nothing is done where there is no such head. It takes no task:
-/// no word changes, and no task knows more or less after it.
-pub fn wake_waiters(domain: &Domain, head: u16) {
+/// Wakes the threads that park until another number of head `head` is served, where there is such a head and a ticket
+/// of it is out.
+pub(crate) fn wake_waiters(domain: &Domain, head: u16) {
     if head < HEADS {
         let drawn = domain.table.shared.peek(next_at(head) as usize);
         let at = serving_at(head) as usize;

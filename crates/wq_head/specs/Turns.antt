@@ -24,6 +24,7 @@ use Rattle.wq_head.specs.declared.wakes.WakeStage.TheVariants as stage
 use Rattle.wq_head.specs.declared.wakes.WakeTurn.{WakeTurn}
 use Rattle.wq_head.specs.declared.wakes.WakeTurn.TheVariants as turn
 use Rattle.wq_head.specs.Holds.{HasWaited}
+use Rattle.wq_head.specs.LockTurns.{FindsOther}
 use Rattle.wq_head.specs.Members.{member_of}
 use Rattle.wq_head.specs.Walks.{IsFull, MayWake, HasWoken, HasEnded, HasStarved}
 use Rattle.wq_head.specs.Walking.{
@@ -145,6 +146,19 @@ TurnsTo start new r (turn.Locked s) = IsAt start new r s
 TurnsTo start new r turn.Broken = IsAt start new r stage.Next
 TurnsTo start new r (turn.Done result) = IsOver r.aim start new result
 TurnsTo start new r (turn.Starved failed) = HasStarved r.aim new failed
+
+-- the task as a turn looks at the head: the ticket of the next hold's lock is drawn then
+abbrev pub drawn_by : Known → WakeRun → WakeStage → Known
+drawn_by old r stage.First = added old (item.Drawn (head_of r.aim.watch) r.ticket)
+drawn_by old r stage.FirstTurn = old
+drawn_by old r stage.Next = added old (item.Drawn (head_of r.aim.watch) r.ticket)
+drawn_by old r stage.NextTurn = old
+
+-- where a turn was refused the lock, it looked once, and found another number served than its ticket
+abbrev pub IsRefused : Known → Known → WakeRun → WakeStage → WakeTurn → Type 0
+IsRefused old new r s (turn.Locked at) =
+    FindsOther (drawn_by old r s) new (head_of r.aim.watch) r.ticket r.served
+IsRefused old new r s _ = Unit {0}
 
 -- no head is held after a turn, but where it starved
 abbrev pub IsOutside : Known → WakeTurn → Type 0

@@ -1,10 +1,10 @@
 //! The lock of a head for who may not wait: its ticket is drawn, and looked at from time to time.
 
-ghost use Rattle.std.specs.Prelude.{◌≡◌, ◌<◌, MatchResult};
+ghost use Rattle.std.specs.Prelude.{◌≡◌, ◌<◌, IfErr, MatchResult};
 ghost use Rattle.wait_model.specs.declared.layout.TheConstants.{HEADS};
 ghost use Rattle.wait_rule.specs.Known.{Known};
 ghost use Rattle.wait_rule.specs.Says.{IsUp, IsFree};
-ghost use Rattle.wq_head.specs.LockTurns.{AwaitsLock, TookLock};
+ghost use Rattle.wq_head.specs.LockTurns.{AwaitsLock, FindsOther, TookLock};
 
 use wait_rule::queues::{draw, lock_step, serving_load};
 use wait_rule::{Domain, Task};
@@ -32,6 +32,7 @@ pub fn lock_turn(domain: &Domain, task: &mut Task, head: u16, ticket: u64) -> Re
     ensures of { task.new.domain ≡ domain.now }
     ensures turned { (start : Known) → AwaitsLock start task.old head ticket
         → MatchResult result (λ _. TookLock start task.new head) (λ _. AwaitsLock start task.new head ticket) }
+    ensures other { IfErr result (λ served. FindsOther task.old task.new head ticket served) }
 {
     let served = serving_load(domain, task, head);
     if served != ticket {

@@ -17,8 +17,8 @@ use wait_rule::{Domain, Task};
 /// How many tasks there is room for: as many as a head can have members, each of which wakes one at most.
 const ROOM: usize = MEMBERS as usize;
 
-/// The tasks that a hold has woken and whose threads are still to be roused, in the order of their wakes.
-#[derive(Drop)]
+/// The tasks that a hold has woken and whose threads are still to be roused, in the order of their wakes. It is linear:
+/// `end` takes it once none is left, that is, once who made the wake has roused them or handed them on.
 pub struct Rousing {
     tasks: ArrayVec<u8, ROOM>,
 }
@@ -41,15 +41,15 @@ impl Rousing {
         self.tasks.push(who);
     }
 
-    /// The tasks, for who rouses them in a way of its own; `clear` follows.
+    /// The tasks, for who rouses them in a way of its own; `hand_on` follows.
     pub fn tasks(&self) -> &[u8]
         ensures { result.now ≡ tasks_in self.now }
     {
         self.tasks.as_slice()
     }
 
-    /// Takes all out.
-    pub fn clear(&mut self)
+    /// Takes all out, for who has seen to it that they are roused in a way of its own.
+    pub fn hand_on(&mut self)
         ensures { tasks_in self.new ≡ [] }
     {
         self.tasks.clear();
@@ -62,7 +62,14 @@ impl Rousing {
         for who in self.tasks.as_slice() {
             rouse(domain, *who);
         }
-        self.clear();
+        self.hand_on();
+    }
+
+    /// Ends a list in which none is left.
+    pub fn end(self)
+        requires { tasks_in self ≡ [] }
+    {
+        let Rousing { tasks: _ } = self;
     }
 }
 

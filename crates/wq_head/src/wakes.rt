@@ -3,12 +3,15 @@
 ghost use Rattle.std.specs.Prelude.{◌≡◌, ◌<◌, ◌^◌, []};
 ghost use Rattle.wait_model.specs.Watches.{head_of};
 ghost use Rattle.wait_rule.specs.Known.{Known};
+ghost use Rattle.wait_rule.specs.PassedLocks.{PassesNone};
 ghost use Rattle.wait_rule.specs.Says.{IsUp};
 ghost use Rattle.wait_rule.specs.Queues.{IsIdle};
 ghost use Rattle.wait_rule.specs.Stays.{Carries, wake_all_change};
+ghost use Rattle.wq_head.specs.declared.wakes.WakeStage.{WakeStage};
 ghost use Rattle.wq_head.specs.Roused.{IsRousing, RousesNone, tasks_in};
 ghost use Rattle.wq_head.specs.Walks.{IsFull, MayWake, HasWoken, HasEnded};
 ghost use Rattle.wq_head.specs.Turns.{InWalk, IsAt, IsServed, IsTurnStage, HasTurned, Rests, first_counts};
+ghost use Rattle.wq_head.specs.Turns.{IsRefused, drawn_by};
 
 use crate::lists::Members;
 use crate::locks::{give_back, pause};
@@ -19,7 +22,7 @@ use std::sync::Wait;
 use wait_model::heads::head_of;
 use wait_model::queues::{End, Walked, Walking};
 use wait_model::watches::{Aim, Mode, Watch};
-use wait_rule::queues::{draw, lock_step, mark_member, serving_load, wake_waiters};
+use wait_rule::queues::{Passing, draw, lock_step, mark_member, serving_load};
 use wait_rule::tries::FailedTries;
 use wait_rule::{Domain, Task};
 
@@ -121,15 +124,21 @@ pub fn wake<R: Wait>(
     let head = head_of(watch);
     let mut list = Members::new();
     let mut rousing = Rousing::new();
+    let mut passing = Passing::none();
     let mut run = WakeRun::new(watch, mode, count);
     let mut stage = WakeStage::First;
     let mut looks = 0;
     for _ in rt.forever() {
-        let turn = wake_stretch(domain, task, &mut run, stage, &mut list, &mut rousing);
-        match turn {
-            WakeTurn::Locked(_) => {}
-            _ => wake_waiters(domain, head),
-        }
+        let turn = wake_stretch(
+            domain,
+            task,
+            &mut run,
+            stage,
+            &mut list,
+            &mut rousing,
+            &mut passing,
+        );
+        passing.wake(domain);
         rousing.rouse_all(domain);
         match turn {
             WakeTurn::Locked(next) => {
@@ -140,7 +149,11 @@ pub fn wake<R: Wait>(
                 looks = 0;
                 stage = WakeStage::Next;
             }
-            WakeTurn::Done(walked) => return walked,
+            WakeTurn::Done(walked) => {
+                passing.end();
+                rousing.end();
+                return walked;
+            }
             WakeTurn::Starved(_) => {
                 for _ in rt.forever() {
                     spin_loop();
@@ -160,7 +173,8 @@ pub fn wake<R: Wait>(
 /// bookmark is out; the wake goes on at `Next`, at once. Done: the wake is over, with the answer of `wake`. In between
 /// the task makes nothing else. Starved: the word of one task changed before each of 2^64 - 1 tries to wake it, as the
 /// count says, which no run comes to; the head is held then, and the wake does not end. `list` is room for the members
-/// of a head. Where other threads may park for a lock of the head, `wake_waiters` follows each stretch.
+/// of a head. `passing`, in which no lock is left before, has the one that was given back, for the caller to wake the
+/// threads that park for it.
 pub fn wake_stretch(
     domain: &Domain,
     task: &mut Task,
@@ -168,14 +182,17 @@ pub fn wake_stretch(
     stage: WakeStage,
     list: &mut Members,
     rousing: &mut Rousing,
+    passing: &mut Passing,
 ) -> WakeTurn
     requires of { task.old.domain ≡ domain.now }
+    requires passes { PassesNone passing.old }
     requires at { (start : Known) × IsAt start task.old run.old stage }
     requires none { tasks_in rousing.old ≡ [] }
     ensures of { task.new.domain ≡ domain.now }
     ensures turned { (start : Known) → IsAt start task.old run.old stage
         → HasTurned start task.new run.old run.new result }
     ensures rests { Rests task.new run.new result }
+    ensures refused { IsRefused task.old task.new run.new stage result }
     ensures rouses { IsRousing task.old task.new rousing.new }
 {
     let head = head_of(run.aim.watch);
@@ -185,7 +202,7 @@ pub fn wake_stretch(
         return WakeTurn::Locked(at);
     }
     begin_hold(domain, task, run, at, head);
-    hold(domain, task, run, list, rousing)
+    hold(domain, task, run, list, rousing, passing)
 }
 
 /// Draws the ticket of the next hold's lock, unless it is drawn, and answers the stage at which it is.
@@ -203,6 +220,7 @@ fn draw_turn(
     ensures aim { run.new.aim ≡ run.old.aim }
     ensures drawn { (start : Known) → IsAt start task.old run.old stage → IsAt start task.new run.new result }
     ensures turn { IsTurnStage result }
+    ensures draws { task.new ≡ drawn_by task.old run.new stage }
     ensures rouses { RousesNone task.old task.new }
 {
     match stage {
@@ -255,8 +273,10 @@ fn hold(
     run: &mut WakeRun,
     list: &mut Members,
     rousing: &mut Rousing,
+    passing: &mut Passing,
 ) -> WakeTurn
     requires of { task.old.domain ≡ domain.now }
+    requires passes { PassesNone passing.old }
     requires full { IsFull run.old.aim.watch }
     requires small { run.old.aim.count < 2 ^ 32 }
     requires walks { (start : Known) × InWalk run.old.aim start task.old run.old.walk }
@@ -264,23 +284,24 @@ fn hold(
     ensures of { task.new.domain ≡ domain.now }
     ensures turned { (start : Known) → IsUp start → IsIdle start → MayWake run.old.aim.watch start
         → InWalk run.old.aim start task.old run.old.walk → HasTurned start task.new run.old run.new result }
+    ensures refused { (k : Known) (s : WakeStage) → IsRefused k task.new run.new s result }
     ensures rouses { IsRousing task.old task.new rousing.new }
 {
     match walk_hold(domain, task, run.aim, run.walk, list, rousing) {
         Hold::Passed(walk) => {
-            give_back(domain, task, false);
+            passing.put(give_back(domain, task, false));
             WakeTurn::Done(walked(walk, End::End))
         }
         Hold::Spent(walk) => {
-            give_back(domain, task, true);
+            passing.put(give_back(domain, task, true));
             WakeTurn::Done(walked(walk, End::Spent))
         }
         Hold::Stopped(walk) => {
-            give_back(domain, task, false);
+            passing.put(give_back(domain, task, false));
             WakeTurn::Done(walked(walk, End::Stopped))
         }
         Hold::Breaks(walk, before) => {
-            run.walk = break_off(domain, task, run.aim, walk, before);
+            run.walk = break_off(domain, task, run.aim, walk, before, passing);
             WakeTurn::Broken
         }
         Hold::Starved(failed) => WakeTurn::Starved(failed),

@@ -19,7 +19,7 @@ fetch_add-requires c =
           (subst HasGiven (sym c.task.view_is) c.requires.given),
     )
 
-pub returns : goal.returns
-returns c = known_after c.task.inside.seat.table_id c.fetch_add.new.seat.table_id c.task.inside.seat.me
+pub returns-clause-served : goal.returns-clause-served
+returns-clause-served c = known_after c.task.inside.seat.table_id c.fetch_add.new.seat.table_id c.task.inside.seat.me
     c.fetch_add.new.seat.me c.args.task.now item.Served c.fetch_add.ensures.0 c.fetch_add.ensures.2
     c.task.view_is

@@ -12,5 +12,8 @@ serve-requires-clause-given c = ap (λ (k : Known). k.book.ticket) c.unlock_step
 pub serve-requires-clause-of : goal.serve-requires-clause-of
 serve-requires-clause-of c = ap (λ (k : Known). k.domain) c.unlock_step.ensures ∙ c.requires.of
 
-pub returns : goal.returns
-returns c = c.serve.ensures ∙ ap (λ (k : Known). added k item.Served) c.unlock_step.ensures
+pub returns-clause-given : goal.returns-clause-given
+returns-clause-given c = c.serve.ensures.served ∙ ap (λ (k : Known). added k item.Served) c.unlock_step.ensures
+
+pub returns-clause-head : goal.returns-clause-head
+returns-clause-head c = c.serve.ensures.head ∙ ap (λ (k : Known). k.at) c.unlock_step.ensures

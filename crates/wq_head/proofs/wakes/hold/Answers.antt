@@ -17,11 +17,11 @@ returns-in-Passed-clause-turned c start up idle tries i =
     let mid = c.walk_hold.new.task in
     let over = c.in-Passed.ensures.over in record {
       aim = refl;
-      outside = subst (λ (k : Known). k.book.head ≡ None) (sym c.give_back.ensures)
+      outside = subst (λ (k : Known). k.book.head ≡ None) (sym c.give_back.ensures.given)
           (unlocked_free mid mid.at false).head;
       turns = walk_passed c.args.run.now.aim start c.args.task.now mid c.give_back.new.task c.args.run.now.walk
           c.in-Passed.walk i c.in-Passed.ensures.keeps over.0 idle c.requires.small c.requires.full over.1 over.2 over.3
-          over.4 c.give_back.ensures c.walked.result c.walked.ensures;
+          over.4 c.give_back.ensures.given c.walked.result c.walked.ensures;
     }
 
 pub returns-in-Spent-clause-turned : goal.returns-in-Spent-clause-turned
@@ -29,11 +29,11 @@ returns-in-Spent-clause-turned c start up idle tries i =
     let mid = c.walk_hold.new.task in
     let over = c.in-Spent.ensures.over in record {
       aim = refl;
-      outside = subst (λ (k : Known). k.book.head ≡ None) (sym c.give_back-in-Spent.ensures)
+      outside = subst (λ (k : Known). k.book.head ≡ None) (sym c.give_back-in-Spent.ensures.given)
           (unlocked_free mid mid.at true).head;
       turns = walk_spent c.args.run.now.aim start c.args.task.now mid c.give_back-in-Spent.new.task
           c.args.run.now.walk c.in-Spent.walk i c.in-Spent.ensures.keeps over.0 idle c.requires.small over.1 over.2
-          c.give_back-in-Spent.ensures c.walked-in-Spent.result c.walked-in-Spent.ensures;
+          c.give_back-in-Spent.ensures.given c.walked-in-Spent.result c.walked-in-Spent.ensures;
     }
 
 pub returns-in-Stopped-clause-turned : goal.returns-in-Stopped-clause-turned
@@ -41,11 +41,11 @@ returns-in-Stopped-clause-turned c start up idle tries i =
     let mid = c.walk_hold.new.task in
     let over = c.in-Stopped.ensures.over in record {
       aim = refl;
-      outside = subst (λ (k : Known). k.book.head ≡ None) (sym c.give_back-in-Stopped.ensures)
+      outside = subst (λ (k : Known). k.book.head ≡ None) (sym c.give_back-in-Stopped.ensures.given)
           (unlocked_free mid mid.at false).head;
       turns = walk_stopped c.args.run.now.aim start c.args.task.now mid c.give_back-in-Stopped.new.task
           c.args.run.now.walk c.in-Stopped.walk i c.in-Stopped.ensures.keeps over.0 idle c.requires.small over.1
-          over.2 over.3 c.give_back-in-Stopped.ensures c.walked-in-Stopped.result c.walked-in-Stopped.ensures;
+          over.2 over.3 c.give_back-in-Stopped.ensures.given c.walked-in-Stopped.result c.walked-in-Stopped.ensures;
     }
 
 pub returns-in-Breaks-clause-turned : goal.returns-in-Breaks-clause-turned
@@ -89,20 +89,20 @@ pub returns-in-Passed-clause-rouses : goal.returns-in-Passed-clause-rouses
 returns-in-Passed-clause-rouses c =
     let mid = c.walk_hold.new.task in
     rousing_on c.args.task.now mid c.give_back.new.task c.walk_hold.new.rousing
-    (subst (RousesNone mid) (sym c.give_back.ensures) (none_unlocked mid mid.at false)) c.walk_hold.ensures.rouses
+    (subst (RousesNone mid) (sym c.give_back.ensures.given) (none_unlocked mid mid.at false)) c.walk_hold.ensures.rouses
 
 pub returns-in-Spent-clause-rouses : goal.returns-in-Spent-clause-rouses
 returns-in-Spent-clause-rouses c =
     let mid = c.walk_hold.new.task in
     rousing_on c.args.task.now mid c.give_back-in-Spent.new.task c.walk_hold.new.rousing
-    (subst (RousesNone mid) (sym c.give_back-in-Spent.ensures) (none_unlocked mid mid.at true))
+    (subst (RousesNone mid) (sym c.give_back-in-Spent.ensures.given) (none_unlocked mid mid.at true))
     c.walk_hold.ensures.rouses
 
 pub returns-in-Stopped-clause-rouses : goal.returns-in-Stopped-clause-rouses
 returns-in-Stopped-clause-rouses c =
     let mid = c.walk_hold.new.task in
     rousing_on c.args.task.now mid c.give_back-in-Stopped.new.task c.walk_hold.new.rousing
-    (subst (RousesNone mid) (sym c.give_back-in-Stopped.ensures) (none_unlocked mid mid.at false))
+    (subst (RousesNone mid) (sym c.give_back-in-Stopped.ensures.given) (none_unlocked mid mid.at false))
     c.walk_hold.ensures.rouses
 
 pub returns-in-Breaks-clause-rouses : goal.returns-in-Breaks-clause-rouses

@@ -12,4 +12,4 @@ pub loop-preserved : goal.loop-preserved
 loop-preserved g c =
     let i = c.loop.invariant in
     let t = c.in-Broken.ensures.turned c.args.task.now i.1 in
-    (t.aim ∙ i.0, t.turns, c.in-Broken.ensures.of, c.rouse_all.ensures)
+    (t.aim ∙ i.0, t.turns, c.in-Broken.ensures.of, c.rouse_all.ensures, c.wake.ensures)

@@ -109,3 +109,6 @@ returns-clause-rouses c =
     (c.begin_hold.ensures.rouses ∙ (subst (RousesNone d.new.task) (sym c.serving_load-run.ensures.step)
     (none_added d.new.task (item.Serving c.head_of-head.result c.serving_load-run.result) refl) ∙ d.ensures.rouses))
     c.hold.ensures.rouses
+
+pub returns-clause-refused : goal.returns-clause-refused
+returns-clause-refused c = c.hold.ensures.refused c.args.task.now c.args.stage

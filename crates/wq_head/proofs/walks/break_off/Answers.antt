@@ -38,7 +38,7 @@ returns c =
     let made = breaks_off c.args.aim q.full c.args.task.now c.args.walk c.args.before q.going q.calling q.meets q.before
     c.mark_place-place.result c.mark_place-place.ensures c.head_of-head.result c.head_of-head.ensures
     c.mark_word_of.result c.mark_word_of.ensures c.mark_member.new.task c.give_back.new.task c.mark_member.ensures
-    c.give_back.ensures in record {
+    c.give_back.ensures.given in record {
       made = subst (λ (p : ℕ). c.give_back.new.task ≡ unlocked_with (stored_with c.args.task.now
           (step.Mark (head_of c.args.aim.watch) p)) c.args.task.now.at false) (sym r.place) made;
       place = r.place ∙ c.mark_place-place.ensures;

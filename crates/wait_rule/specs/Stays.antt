@@ -63,6 +63,10 @@ with_page x = record x { asks = true }
 unfoldable pub with_end : ℕ → Excuse → Excuse
 with_end k x = record x { ends = λ j. (j == k) || x.ends j }
 
+-- it is excused of that it may have left its entry at a completion
+unfoldable pub with_left : Excuse → Excuse
+with_left x = record x { left = true }
+
 unfoldable pub with_bits : (Watch → Bool) → Excuse → Excuse
 with_bits t x = record x { bits = λ d. t d || x.bits d }
 

@@ -7,7 +7,8 @@ use Rattle.wait_model.specs.declared.steps.Step.TheVariants as step
 use Rattle.wait_model.specs.declared.watches.Aim.{Aim}
 use Rattle.wait_model.specs.Permits.{ShowsNobody, dealt, done_head, shows_at}
 use Rattle.wait_model.specs.Runs.{own}
-use Rattle.wait_rule.specs.HandedPermits.{LeftOff, NewcomersLeaveNone, Order, OrderOf, OwesNoPermit, StaysOff}
+use Rattle.wait_rule.specs.HandedPermits.{NewcomersLeaveNone, OwesNoPermit, StaysOff}
+use Rattle.wait_rule.specs.LeftEntries.{LeftOff, Order, OrderOf}
 use Rattle.wait_rule.specs.Interleavings.{table_of}
 use Rattle.wait_rule.specs.Known.{Known}
 use Rattle.wait_rule.specs.Says.{history_of, told_of}

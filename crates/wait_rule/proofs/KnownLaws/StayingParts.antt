@@ -162,7 +162,7 @@ pub owes_also : (i : ℕ) (x : Excuse) (k : Known) → Owes x k → Owes (with_e
 unfolding with_entry
 owes_also i x k o = record {
   unmarked = o.unmarked;
-  debts = entries_debts x (with_entry i x) k refl refl refl o.debts;
+  debts = entries_debts x (with_entry i x) k refl refl refl refl o.debts;
   unqueued = λ y. out_also i y (x.entries y) ((told_of k).bits.stored y) (o.unqueued y) (y == i);
   holds = o.holds;
   tries = o.tries;
@@ -178,7 +178,7 @@ pub owes_out : (i : ℕ) (x : Excuse) (k : Known) → (told_of k).bits.stored i 
 unfolding with_entry
 owes_out i x k none o = record {
   unmarked = o.unmarked;
-  debts = entries_debts (with_entry i x) x k refl refl refl o.debts;
+  debts = entries_debts (with_entry i x) x k refl refl refl refl o.debts;
   unqueued = λ y. by y (y == i) refl (o.unqueued y);
   holds = o.holds;
   tries = o.tries;

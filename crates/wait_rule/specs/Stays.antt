@@ -118,6 +118,10 @@ only_looks = record unchanged { looks = true }
 abbrev pub queue_change : ℕ → Change
 queue_change i = record unchanged { to = with_entry i; but = only i; looks = true }
 
+-- at a completion: the task may leave it there
+abbrev pub queue_cell_change : ℕ → Change
+queue_cell_change i = record unchanged { to = λ x. with_left (with_entry i x); but = only i; looks = true }
+
 abbrev pub take_off_change : ℕ → Change
 take_off_change i = record unchanged { from = with_entry i; but = only i }
 

@@ -80,7 +80,7 @@ use Rattle.wait_rule.specs.Pipes.{
   other_end,
   with_cell,
 }
-use Rattle.wait_rule.specs.Stays.{with_end, with_wakes}
+use Rattle.wait_rule.specs.Stays.{with_end, with_left, with_wakes}
 use Rattle.wait_rule.specs.Transitions.{AreLooks, OnlyLooks}
 use Rattle.wait_rule.proofs.KnownLaws.AfterSteps.{told_added}
 use Rattle.wait_rule.proofs.KnownLaws.AskedPages.{asked_added, asks_nothing, asks_nothing_of}
@@ -170,16 +170,18 @@ wakes_told (item.Tally p n w) v is c σ none = none
 wakes_told (item.Piped k a w) v is c σ none = none
 
 -- a task that asks for no page asks for none then
+asks_none_step : (e : Step) (k : Asked) → ((x : ℕ) (f : Entry) → e ≡ step.Queue x f → is_page f.kind ≡ false)
+    → is_asking k ≡ false → is_asking (ask_step e k) ≡ false
+asks_none_step e k unpaged none = ap (λ (q : Asked). is_asking (ask_step e q)) (asks_nothing_of k none)
+    ∙ ap is_asking (asks_nothing e unpaged)
+
+unpaged_of : (p q : Bool) → (not p && q) ≡ true → p ≡ false
+unpaged_of false q is = refl
+unpaged_of true q is = absurd (cc)
+
 asks_none_then : (x : Item) (k : Asked) → item_begins_none x ≡ true → is_asking k ≡ false → is_asking (ask x k) ≡ false
-asks_none_then (item.Made e) k is none = ap (λ (q : Asked). is_asking (ask_step e q)) (asks_nothing_of k none)
-    ∙ ap is_asking (asks_nothing e (λ x f same. queues_none x f (ap begins_none (sym same) ∙ is)))
-  where
-    queues_none : (x : ℕ) (f : Entry) → begins_none (step.Queue x f) ≡ true → is_page f.kind ≡ false
-    queues_none x f quiet = by (is_page f.kind) quiet
-      where
-        by : (b : Bool) → (not b && queues_low f) ≡ true → b ≡ false
-        by false q = refl
-        by true q = absurd (cc)
+asks_none_then (item.Made e) k is none = asks_none_step e k
+    (λ x f same. unpaged_of (is_page f.kind) (queues_low f) (ap begins_none (sym same) ∙ is)) none
 asks_none_then x k is none = none
 
 -- An end of a pipe that the task has not, or that it closed, stays so over each item but a claim.
@@ -238,6 +240,14 @@ queue_low true q is = absurd (cc)
 low_head : (h : ℕ) → nat_lt h FIRST_DONE_HEAD ≡ true → h < FIRST_DONE_HEAD
 low_head h is = grind (arith, nat_tests)
 
+head_low : (h : ℕ) → h < FIRST_DONE_HEAD → nat_lt h FIRST_DONE_HEAD ≡ true
+head_low h low = grind (arith, nat_tests)
+
+-- an entry that is queued for no page and at no completion
+pub queues_quiet : (x : ℕ) (e : Entry) → not (is_page e.kind) ≡ true → head_of e.watch < FIRST_DONE_HEAD
+    → begins_none (step.Queue x e) ≡ true
+queues_quiet x e unpaged low = ap (λ (b : Bool). b && queues_low e) unpaged ∙ head_low (head_of e.watch) low
+
 step_low : (e : Step) → begins_none e ≡ true → AddsLow e
 step_low (step.Queue x e) is = low_head (head_of e.watch) (queue_low (is_page e.kind) (queues_low e) is)
 step_low e is = tt
@@ -258,15 +268,24 @@ module _ (k : Known) (i : Item) (low : AllAddLow (steps_of (i ∷ []))) (w : Lea
       (away_all d k.view.number (history_of k) (steps_of (i ∷ [])) front low
       (record { left = w.off d was; away = w.shows d was }))
 
-leaves_none_after : (x : Excuse) (old new : Known) (i : Item) → AllAddLow (steps_of (i ∷ [])) → new ≡ added old i
-    → Debts x old → x.left ≡ false → LeavesNone new
-leaves_none_after x old new i low is d none = subst LeavesNone (sym is) (record {
+pub leaves_added : (old new : Known) (i : Item) → AllAddLow (steps_of (i ∷ [])) → new ≡ added old i → LeavesNone old
+    → LeavesNone new
+leaves_added old new i low is was = subst LeavesNone (sym is) (record {
   off = λ c o. (still_away old i low was c o).left;
   shows = λ c o. (still_away old i low was c o).away;
 })
-  where
-    was : LeavesNone old
-    was = record { off = d.off none; shows = d.shows none }
+
+pub leaves_stored : (old new : Known) (e : Step) → AddsLow e → new ≡ stored_with old e → LeavesNone old
+    → LeavesNone new
+leaves_stored old new e low is was = leaves_added (added old (item.Made e)) new item.Member tt is
+    (leaves_added old (added old (item.Made e)) (item.Made e) (low, tt) refl was)
+
+pub leaves_of : (x : Excuse) (k : Known) → Debts x k → x.left ≡ false → LeavesNone k
+leaves_of x k d none = record { off = d.off none; shows = d.shows none }
+
+leaves_none_after : (x : Excuse) (old new : Known) (i : Item) → AllAddLow (steps_of (i ∷ [])) → new ≡ added old i
+    → Debts x old → x.left ≡ false → LeavesNone new
+leaves_none_after x old new i low is d none = leaves_added old new i low is (leaves_of x old d none)
 
 -- one item more: the place where a further part of `Debts` is shown for each kind of step
 item_debts : (x : Excuse) (k : Known) (i : Item) → item_begins_none i ≡ true → Debts x k → Debts x (added k i)
@@ -285,6 +304,39 @@ item_debts x k i is d = record { none = by; off = λ none. (leaves none).off; sh
         (d.none page_asked)
     by (end_unclosed e) = no_more (has_end e k) (has_end e (added k i)) (not (x.ends e))
         (λ none. end_added k i e ∙ item_closed e i (end_of e k.view.items) is none) (d.none (end_unclosed e))
+
+-- An entry that is queued at a completion: the task is excused of that it leaves it there.
+same_excused : (x : Excuse) (o : Duty) → excuses (with_left x) o ≡ excuses x o
+unfolding with_left
+same_excused x (wake_of c σ) = refl
+same_excused x page_asked = refl
+same_excused x (end_unclosed e) = refl
+
+module _ (x : Excuse) (k : Known) (i : ℕ) (f : Entry) (unpaged : is_page f.kind ≡ false) (d : Debts x k) where
+  abbrev queued_now : Known
+  queued_now = added k (item.Made (step.Queue i f))
+
+  entry_of_queue : (y : ℕ) (e : Entry) → step.Queue i f ≡ step.Queue y e → e ≡ f
+  entry_of_queue y e same = cc
+
+  queued_none : (o : Duty) → (has_duty queued_now o && not (excuses x o)) ≡ false
+  queued_none (wake_of c σ) = ap (λ (v : Told). v.duty.owes c σ && not (is_excused x c σ))
+      (told_added k (item.Made (step.Queue i f))) ∙ d.none (wake_of c σ)
+  queued_none page_asked = no_more (is_asking (asks_for k)) (is_asking (asks_for queued_now)) (not x.asks)
+      (λ none. ap is_asking (asked_added k (item.Made (step.Queue i f)))
+      ∙ asks_none_step (step.Queue i f) (asks_for k)
+      (λ y e same. ap (λ (g : Entry). is_page g.kind) (entry_of_queue y e same) ∙ unpaged) none) (d.none page_asked)
+  queued_none (end_unclosed e) = no_more (has_end e k) (has_end e queued_now) (not (x.ends e))
+      (λ none. end_added k (item.Made (step.Queue i f)) e
+      ∙ step_closed e (step.Queue i f) (end_of e k.view.items) none) (d.none (end_unclosed e))
+
+  queued_left : Debts (with_left x) queued_now
+  unfolding with_left
+  queued_left = record {
+    none = λ o. ap (λ (b : Bool). has_duty queued_now o && not b) (same_excused x o) ∙ queued_none o;
+    off = λ none. absurd (cc);
+    shows = λ none. absurd (cc);
+  }
 
 -- a publish makes the task owe wakes of its watch
 published_wakes : (s o x m : Bool) → (o && not (x || not m)) ≡ false
@@ -447,6 +499,23 @@ entries_debts x y k same asks ends left d = record {
     by page_asked = ap (λ (b : Bool). is_asking (asks_for k) && not b) asks ∙ d.none page_asked
     by (end_unclosed e) = ap (λ (f : ℕ → Bool). has_end e k && not (f e)) ends ∙ d.none (end_unclosed e)
 
+-- whether the task left an entry at a completion is one of the debts
+pub left_debts : (x : Excuse) (k : Known) → Debts x k → Debts (with_left x) k
+unfolding with_left
+left_debts x k d = record {
+  none = λ o. ap (λ (b : Bool). has_duty k o && not b) (same_excused x o) ∙ d.none o;
+  off = λ none. absurd (cc);
+  shows = λ none. absurd (cc);
+}
+
+pub off_debts : (x : Excuse) (k : Known) → (x.left ≡ false → HasLeftNone k) → (x.left ≡ false → ShowsNoOwn k)
+    → Debts (with_left x) k → Debts x k
+off_debts x k off shows d = record {
+  none = λ o. ap (λ (b : Bool). has_duty k o && not b) (sym (same_excused x o)) ∙ d.none o;
+  off = off;
+  shows = shows;
+}
+
 -- The debts are those of the list, of whatever book.
 pub list_debts : (x : Excuse) (old new : Known) → new.view ≡ old.view → Debts x old → Debts x new
 list_debts x old new same d = subst (λ (v : Journal). Debts x (seen_with new v)) (sym same)
@@ -530,6 +599,13 @@ pub stored_debts : (old new : Known) (e : Step) → begins_none e ≡ true → n
     → Debts x old → Debts x new
 stored_debts old new e quiet is x d = list_debts x (stored_with old e) new (ap (λ (k : Known). k.view) is)
     (item_debts x (added old (item.Made e)) item.Member refl (item_debts x old (item.Made e) quiet d))
+
+pub queued_debts : (old new : Known) (i : ℕ) (e : Entry) → is_page e.kind ≡ false
+    → new ≡ stored_with old (step.Queue i e) → (x : Excuse) → Debts x old → Debts (with_left x) new
+queued_debts old new i e unpaged is x d = list_debts (with_left x) (stored_with old (step.Queue i e)) new
+    (ap (λ (k : Known). k.view) is)
+    (item_debts (with_left x) (added old (item.Made (step.Queue i e))) item.Member refl
+    (queued_left x old i e unpaged d))
 
 pub unlock_debts : (old new : Known) (h : ℕ) (spent : Bool) → new ≡ unlocked_with old h spent → (x : Excuse)
     → Debts x old → Debts x new

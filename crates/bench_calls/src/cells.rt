@@ -1,7 +1,7 @@
 //! Calls of completions, by a task that has left no entry at any.
 
 ghost use Rattle.std.specs.Prelude.{◌≡◌};
-ghost use Rattle.wait_rule.specs.HandedPermits.{HasLeftNone};
+ghost use Rattle.wait_rule.specs.LeftEntries.{HasLeftNone};
 ghost use Rattle.wait_rule.specs.Says.{IsClean};
 
 use crate::names::Call;

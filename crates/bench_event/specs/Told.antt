@@ -1,6 +1,6 @@
 -- To be believed.
 -- A task between two calls by which threads tell one another to go on.
-use Rattle.wait_rule.specs.HandedPermits.{HasLeftNone}
+use Rattle.wait_rule.specs.LeftEntries.{HasLeftNone}
 use Rattle.wait_rule.specs.Known.{Known}
 use Rattle.wait_rule.specs.Says.{IsClean}
 use Rattle.bench_event.specs.declared.calls.Means.{Means}

@@ -3,7 +3,7 @@
 ghost use Rattle.std.specs.Prelude.{◌≡◌, ◌<◌};
 ghost use Rattle.wait_model.specs.declared.layout.TheConstants.{COMPLETIONS, FIRST_SIMPLE};
 ghost use Rattle.wait_rule.specs.Says.{IsClean};
-ghost use Rattle.wait_rule.specs.HandedPermits.{HasLeftNone};
+ghost use Rattle.wait_rule.specs.LeftEntries.{HasLeftNone};
 ghost use Rattle.bench_event.specs.Told.{HasLeftFor};
 
 use completion_cell::await_calls;

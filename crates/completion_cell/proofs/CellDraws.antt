@@ -5,7 +5,7 @@ use Rattle.wait_model.specs.declared.layout.TheConstants.{HEADS, COMPLETIONS}
 use Rattle.wait_model.specs.declared.steps.Step.TheVariants as step
 use Rattle.wait_model.specs.declared.watches.Watch.TheVariants as watch
 use Rattle.wait_rule.specs.declared.journal.Item.TheVariants as item
-use Rattle.wait_rule.specs.HandedPermits.{LeftOff}
+use Rattle.wait_rule.specs.LeftEntries.{LeftOff}
 use Rattle.wait_rule.specs.Known.{Known}
 use Rattle.wait_rule.specs.Queues.{IsTold}
 use Rattle.wait_rule.specs.Says.{IsFree, IsUp, added}

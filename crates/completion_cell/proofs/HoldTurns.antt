@@ -38,7 +38,7 @@ use Rattle.wait_model.proofs.PermitLaws.OwnTurns.{clash, deals_snoc, flag_small}
 use Rattle.wait_model.proofs.PermitLaws.PermitTurns.{look_seen, not_unseen}
 use Rattle.wait_model.proofs.StepLaws.UnlockSteps.{unlock_bits}
 use Rattle.wait_model.proofs.WordLaws.DecodedWords.{owner_own}
-use Rattle.wait_rule.specs.HandedPermits.{Order}
+use Rattle.wait_rule.specs.LeftEntries.{Order}
 use Rattle.wait_rule.specs.Interleavings.{table_of}
 use Rattle.wait_rule.proofs.KnownLaws.HandedSteps.{
   IsAway,

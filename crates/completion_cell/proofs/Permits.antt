@@ -37,7 +37,8 @@ use Rattle.wait_model.specs.Views.{Look, unseen, off, elsewhere, shown}
 use Rattle.wait_model.specs.Watches.{head_of, mask_of, owner}
 use Rattle.wait_rule.specs.declared.journal.Item.{Item}
 use Rattle.wait_rule.specs.declared.journal.Item.TheVariants as item
-use Rattle.wait_rule.specs.HandedPermits.{LeftOff, OwesNoPermit, StaysOff}
+use Rattle.wait_rule.specs.HandedPermits.{OwesNoPermit, StaysOff}
+use Rattle.wait_rule.specs.LeftEntries.{LeftOff}
 use Rattle.wait_rule.specs.Items.{steps_of}
 use Rattle.wait_rule.specs.Known.{Known}
 use Rattle.wait_rule.specs.Queues.{IsWholeBook, walk_of_hold}

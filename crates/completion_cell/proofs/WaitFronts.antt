@@ -46,7 +46,8 @@ use Rattle.wait_model.proofs.Functions.{put_at}
 use Rattle.wait_model.proofs.HistoryLaws.HoldLooks.{after_snoc}
 use Rattle.wait_model.proofs.PermitLaws.OwnTurns.{deals_snoc, held_is}
 use Rattle.wait_model.proofs.PermitLaws.PermitTurns.{look_seen, not_unseen, seen_of}
-use Rattle.wait_rule.specs.HandedPermits.{OwesNoPermit, dealt_of}
+use Rattle.wait_rule.specs.HandedPermits.{OwesNoPermit}
+use Rattle.wait_rule.specs.LeftEntries.{dealt_of}
 use Rattle.wait_rule.specs.Known.{Known}
 use Rattle.wait_rule.specs.Says.{history_of, told_of}
 use Rattle.wait_rule.proofs.KnownLaws.CalledPermits.{order_as}

@@ -29,7 +29,8 @@ use Rattle.wait_model.specs.Reached.{IsHome, absent}
 use Rattle.wait_model.specs.Runs.{own}
 use Rattle.wait_rule.specs.declared.journal.Item.{Item}
 use Rattle.wait_rule.specs.declared.journal.Item.TheVariants as item
-use Rattle.wait_rule.specs.HandedPermits.{LeftOff, Order, StaysOff}
+use Rattle.wait_rule.specs.HandedPermits.{StaysOff}
+use Rattle.wait_rule.specs.LeftEntries.{LeftOff, Order}
 use Rattle.wait_rule.specs.Known.{Known}
 use Rattle.wait_rule.specs.Items.{steps_of}
 use Rattle.wait_rule.specs.Queues.{at_head, index, walk_of_hold}

@@ -1,7 +1,7 @@
 -- To be believed.
 -- Where a wait for a completion leaves its own entry, turn by turn.
 use Rattle.std.specs.Prelude.{ℕ, ◌≢◌}
-use Rattle.wait_rule.specs.HandedPermits.{LeftOff}
+use Rattle.wait_rule.specs.LeftEntries.{LeftOff}
 use Rattle.wait_rule.specs.Known.{Known}
 use Rattle.completion_cell.specs.declared.awaits.AwaitStage.{AwaitStage}
 use Rattle.completion_cell.specs.declared.awaits.AwaitStage.TheVariants as stage

@@ -8,7 +8,8 @@ use Rattle.wait_model.specs.declared.watches.Watch.TheVariants as watch
 use Rattle.wait_model.specs.Watches.{head_of}
 use Rattle.wait_rule.specs.declared.journal.Item.TheVariants as item
 use Rattle.wait_rule.specs.declared.tries.FailedTries.{FailedTries}
-use Rattle.wait_rule.specs.HandedPermits.{LeftOff, StaysOff}
+use Rattle.wait_rule.specs.HandedPermits.{StaysOff}
+use Rattle.wait_rule.specs.LeftEntries.{LeftOff}
 use Rattle.wait_rule.specs.Known.{Known}
 use Rattle.wait_rule.specs.Queues.{IsTold}
 use Rattle.wait_rule.specs.Says.{IsFree, IsUp, added}

@@ -11,7 +11,7 @@ use Rattle.wait_model.specs.Fold.{view_of}
 use Rattle.wait_model.specs.Permits.{after_read, after_store, dealt, done_head}
 use Rattle.wait_model.specs.Runs.{own}
 use Rattle.wait_model.specs.Views.{unseen}
-use Rattle.wait_rule.specs.HandedPermits.{OrderOf}
+use Rattle.wait_rule.specs.LeftEntries.{OrderOf}
 use Rattle.wait_rule.specs.Known.{Known}
 use Rattle.wait_rule.specs.Says.{history_of}
 

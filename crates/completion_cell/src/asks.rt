@@ -3,7 +3,8 @@
 ghost use Rattle.std.specs.Prelude.{◌≡◌, ◌<◌, ◌-◌, MatchBool};
 ghost use Rattle.wait_model.specs.declared.layout.TheConstants.{COMPLETIONS, ALL_DONE};
 ghost use Rattle.wait_rule.specs.Counts.{StoresCount};
-ghost use Rattle.wait_rule.specs.HandedPermits.{LeftOff, StaysOff};
+ghost use Rattle.wait_rule.specs.HandedPermits.{StaysOff};
+ghost use Rattle.wait_rule.specs.LeftEntries.{LeftOff};
 ghost use Rattle.wait_rule.specs.Known.{Known};
 ghost use Rattle.wait_rule.specs.Says.{IsFree, IsUp};
 ghost use Rattle.wait_rule.specs.Stays.{Carries};

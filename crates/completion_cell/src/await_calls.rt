@@ -2,7 +2,8 @@
 
 ghost use Rattle.std.specs.Prelude.{◌≡◌, ◌≤◌, ◌<◌, MatchBool};
 ghost use Rattle.wait_model.specs.declared.layout.TheConstants.{COMPLETIONS};
-ghost use Rattle.wait_rule.specs.HandedPermits.{LeftOff, StaysOff};
+ghost use Rattle.wait_rule.specs.HandedPermits.{StaysOff};
+ghost use Rattle.wait_rule.specs.LeftEntries.{LeftOff};
 ghost use Rattle.wait_rule.specs.Queues.{IsIdle, IsTold, index};
 ghost use Rattle.wait_rule.specs.Says.{IsUp};
 ghost use Rattle.wait_rule.specs.Stays.{Carries};

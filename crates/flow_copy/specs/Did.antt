@@ -3,7 +3,7 @@
 use Rattle.std.specs.Prelude.{ℕ, ◌≡◌, ◌≢◌, ◌%◌, ◌^◌, ◌≤◌, ◌⊎◌, ◌++◌, true, List, [], length, Option, Some, IfSome}
 use Rattle.std.specs.Io.KnownBytes.{append_known, prepend_known}
 use Rattle.wait_rule.specs.Aside.{Grows}
-use Rattle.wait_rule.specs.HandedPermits.{LeftOff}
+use Rattle.wait_rule.specs.LeftEntries.{LeftOff}
 use Rattle.wait_rule.specs.Known.{Known}
 use Rattle.wait_rule.specs.Pipes.{moved_bytes, read_end, was_refused, write_end}
 use Rattle.wait_rule.specs.PipeSays.{end_at, reading, writing}

@@ -7,7 +7,7 @@ use Rattle.wait_model.specs.Watches.{page}
 use Rattle.wait_rule.specs.Aside.{Grows, signals_of}
 use Rattle.wait_rule.specs.Bits.{KeepsBitOf}
 use Rattle.wait_rule.specs.Ends.{WasWorn}
-use Rattle.wait_rule.specs.HandedPermits.{LeftOff}
+use Rattle.wait_rule.specs.LeftEntries.{LeftOff}
 use Rattle.wait_rule.specs.Known.{Known}
 use Rattle.wait_rule.specs.PipeSays.{EndsStay, end_at}
 use Rattle.wait_rule.specs.Queues.{IsIdle}

@@ -1,13 +1,12 @@
 -- To be believed.
 -- Permits of completions on a Domain: what a task knows of them by its own history, what it has to know before it
 -- queues at a completion's head and before it gives that back, and the law.
-use Rattle.std.specs.Prelude.{ℕ, ◌≡◌, ◌<◌, ◌-◌, ◌⊎◌, false, Some, None, List}
+use Rattle.std.specs.Prelude.{ℕ, ◌≡◌, ◌<◌, ◌-◌, ◌⊎◌, Some, None, List}
 use Rattle.atomic_table.specs.Seated.{TableId}
 use Rattle.wait_model.specs.declared.layout.TheConstants.{TASKS, FIRST_DONE_HEAD}
 use Rattle.wait_model.specs.declared.points.Next.{Next}
 use Rattle.wait_model.specs.declared.points.Point.{Point}
-use Rattle.wait_model.specs.declared.steps.Step.{Step}
-use Rattle.wait_model.specs.Permits.{Dealt, MayGiveBack, PermitsAreHanded, dealt}
+use Rattle.wait_model.specs.Permits.{MayGiveBack, PermitsAreHanded}
 use Rattle.wait_model.specs.Runs.{own}
 use Rattle.wait_model.specs.Tables.{Table}
 use Rattle.wait_model.specs.Watches.{head_of}
@@ -16,25 +15,11 @@ use Rattle.wait_rule.specs.declared.journal.Journal.{Journal}
 use Rattle.wait_rule.specs.HeldValues.{count_in}
 use Rattle.wait_rule.specs.Interleavings.{AreAllowed, AreHanded, TaskStep, table_of}
 use Rattle.wait_rule.specs.Known.{Known}
+use Rattle.wait_rule.specs.LeftEntries.{HasLeftNone, LeftOff, OrderOf, dealt_of}
 use Rattle.wait_rule.specs.Rule.{IsRuled}
 use Rattle.wait_rule.specs.Says.{IsShown, history_of, newcomer, told_of}
 use Rattle.wait_rule.specs.TableLaws.{HasAll, histories_in}
 use Rattle.wait_rule.specs.Transitions.{Goes, Program, Transition}
-
--- Steps of all tasks that are allowed and hand permits on, after which a task's history is this one. The rule says that
--- there are some for each history, so what is said of a task need only hold where there are.
-pub record Order (a : ℕ) (front : List Step) : Type 0 where
-  pub steps : List TaskStep
-  pub may : AreAllowed steps
-  pub on : AreHanded steps
-  pub is : (table_of steps).history a ≡ front
-
-abbrev pub OrderOf : Known → Type 0
-OrderOf k = Order k.view.number (history_of k)
-
--- what a task knows of a completion by its own history
-abbrev pub dealt_of : ℕ → Known → Dealt
-dealt_of d k = dealt d k.view.number (history_of k)
 
 -- the completion of the head that it took last, where that is one's
 abbrev pub cell_at : Known → ℕ
@@ -63,14 +48,6 @@ StepsHandPermitsOn = (xs : List TaskStep) → AreAllowed xs → AreHanded xs →
 abbrev pub AllHandPermitsOn : Type 0
 AllHandPermitsOn = (v : Journal) (law : IsShown v) → HasAll v
     → ((t : ℕ) → t < TASKS → law.table.history t ≡ histories_in v t) × PermitsAreHanded law.table
-
--- The last hold of the completion's head that the task gave back, if there was one, left the own entry off.
-abbrev pub LeftOff : ℕ → Known → Type 0
-LeftOff d k = OrderOf k → (dealt_of d k).left ≡ false
-
--- So it did of each completion's head.
-abbrev pub HasLeftNone : Known → Type 0
-HasLeftNone k = (d : ℕ) → LeftOff d k
 
 -- It leaves no own entry at any completion where none was left.
 abbrev pub StaysOff : Known → Known → Type 0

@@ -19,6 +19,7 @@ pub mod Known
 pub mod LookCounts
 pub mod MemberLooks
 pub mod Rule
+pub mod LeftEntries
 pub mod Says
 pub mod Unlocks
 pub mod TableLaws

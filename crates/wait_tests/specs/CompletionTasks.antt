@@ -1,6 +1,6 @@
 -- For tests alone.
 -- Tasks of tests: what they know between two turns.
-use Rattle.wait_rule.specs.HandedPermits.{HasLeftNone}
+use Rattle.wait_rule.specs.LeftEntries.{HasLeftNone}
 use Rattle.wait_rule.specs.Known.{Known}
 use Rattle.wait_rule.specs.Queues.{IsIdle}
 use Rattle.wait_rule.specs.Says.{IsClean, IsFree, IsUp}

@@ -10,7 +10,7 @@ use Rattle.wait_model.specs.declared.watches.Watch.TheVariants as watch
 use Rattle.wait_model.specs.Watches.{head_of, is_bit, same}
 use Rattle.wait_rule.specs.declared.journal.Item.TheVariants as item
 use Rattle.wait_rule.specs.Bits.{ClearsBit}
-use Rattle.wait_rule.specs.HandedPermits.{HasLeftNone}
+use Rattle.wait_rule.specs.LeftEntries.{HasLeftNone}
 use Rattle.wait_rule.specs.Known.{Known}
 use Rattle.wait_rule.specs.Queues.{IsIdle}
 use Rattle.wait_rule.specs.Says.{Owes, added, told_of}

@@ -5,7 +5,7 @@ use Rattle.wait_model.specs.declared.layout.TheConstants.{WORD_BITS}
 use Rattle.wait_model.specs.declared.watches.Watch.{Watch}
 use Rattle.wait_model.specs.declared.watches.Watch.TheVariants as watch
 use Rattle.wait_model.specs.Words.{bit_at}
-use Rattle.wait_rule.specs.HandedPermits.{HasLeftNone}
+use Rattle.wait_rule.specs.LeftEntries.{HasLeftNone}
 use Rattle.wait_rule.specs.Known.{Known}
 use Rattle.wait_rule.specs.Queues.{IsIdle}
 use Rattle.wait_rule.specs.Says.{Excuse, IsUp, Owes, no_excuse, told_of}

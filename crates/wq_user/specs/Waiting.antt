@@ -3,7 +3,7 @@
 use Rattle.std.specs.Prelude.{◌≡◌, Some, None}
 use Rattle.wait_model.specs.declared.watches.Watch.TheVariants as watch
 use Rattle.wait_model.specs.Watches.{head_of}
-use Rattle.wait_rule.specs.HandedPermits.{HasLeftNone}
+use Rattle.wait_rule.specs.LeftEntries.{HasLeftNone}
 use Rattle.wait_rule.specs.Known.{Known}
 use Rattle.wait_rule.specs.Says.{IsClean, IsUp, IsFree, no_excuse, told_of, Owes}
 use Rattle.wait_rule.specs.Queues.{index}

@@ -2,7 +2,7 @@
 //! completion, and is taken in.
 
 ghost use Rattle.std.specs.Prelude.{◌≡◌};
-ghost use Rattle.wait_rule.specs.HandedPermits.{HasLeftNone};
+ghost use Rattle.wait_rule.specs.LeftEntries.{HasLeftNone};
 ghost use Rattle.wait_rule.specs.Says.{IsClean};
 
 use completion_cell::asks::{is_done, reinit, try_wait};

@@ -28,7 +28,7 @@ use Rattle.wait_rule.specs.Aside.{
   raised_by,
   signals_of,
 }
-use Rattle.wait_rule.specs.HandedPermits.{LeftOff}
+use Rattle.wait_rule.specs.LeftEntries.{LeftOff}
 use Rattle.wait_rule.specs.Items.{AddsNone, steps_of}
 use Rattle.wait_rule.specs.Journals.{pushed}
 use Rattle.wait_rule.specs.Known.{Known}

@@ -7,7 +7,8 @@ use Rattle.wait_model.specs.declared.steps.Step.TheVariants as step
 use Rattle.wait_model.specs.declared.watches.Aim.{Aim}
 use Rattle.wait_model.specs.Permits.{ShowsNobody, dealt, done_head, shows_at}
 use Rattle.wait_model.specs.Runs.{own}
-use Rattle.wait_rule.specs.HandedPermits.{LeftOff, NewcomersLeaveNone, Order, OrderOf, OwesNoPermit, StaysOff}
+use Rattle.wait_rule.specs.HandedPermits.{NewcomersLeaveNone, OwesNoPermit, StaysOff}
+use Rattle.wait_rule.specs.LeftEntries.{LeftOff, Order, OrderOf, ShowsNoOwn}
 use Rattle.wait_rule.specs.Interleavings.{table_of}
 use Rattle.wait_rule.specs.Known.{Known}
 use Rattle.wait_rule.specs.Says.{history_of, told_of}
@@ -30,14 +31,18 @@ use Rattle.wait_rule.proofs.KnownLaws.HeldPermits.{
 }
 use Rattle.wait_rule.proofs.KnownLaws.Moments.{moment_of}
 
+-- who holds no lock sees no entry
+pub shows_none : (k : Known) → (told_of k).hold.head ≡ None → ShowsNoOwn k
+shows_none k out d o = ap (shows_at (done_head d)) ((moment_of (table_of o.steps)
+    (record { steps = o.steps; allowed = o.may; handed = o.on; leads = refl }) k.view.number (history_of k) []
+    (o.is ∙ sym (append-nil (history_of k)))).sees out (own k.view.number))
+
 -- who holds no lock and has left its own entry off
 pub away_of : (d : ℕ) (k : Known) → (told_of k).hold.head ≡ None → LeftOff d k → OrderOf k
     → IsAwayAt d k.view.number (history_of k)
 away_of d k out left o = record {
   left = left o;
-  away = ap (shows_at (done_head d)) ((moment_of (table_of o.steps)
-      (record { steps = o.steps; allowed = o.may; handed = o.on; leads = refl }) k.view.number (history_of k) []
-      (o.is ∙ sym (append-nil (history_of k)))).sees out (own k.view.number));
+  away = shows_none k out d o;
 }
 
 -- an order that leads to the history of the same task

@@ -79,7 +79,7 @@ module _ (old new : Known) (w b r : ℕ) (is : new ≡ added old (item.Made (ste
   unfolding with_bits
   set_owes x o = record {
     unmarked = ap (λ (v : Told). v.mark) set_told ∙ o.unmarked;
-    debts = entries_debts x (with_bits (taken_bits c clear) x) new refl refl refl
+    debts = entries_debts x (with_bits (taken_bits c clear) x) new refl refl refl refl
         (step_debts old new (step.Consume c 1 r) refl is x o.debts);
     unqueued = λ i. subst (λ (v : Told). IsOutBut (x.entries i) (v.bits.stored i)) (sym set_told) (o.unqueued i);
     holds = λ d. ap (λ (v : Told). not ((clear && same d c) || x.bits d) && v.bits.keeps d) set_told
@@ -128,7 +128,7 @@ module _ (old new : Known) (w b r : ℕ) (is : new ≡ added old (item.Made (ste
   unfolding with_bits with_wakes
   clear_owes x o = record {
     unmarked = ap (λ (v : Told). v.mark) clear_told ∙ o.unmarked;
-    debts = publish_debts d0 0 r x old new is (entries_debts (with_bit d0 x) x old refl refl refl o.debts);
+    debts = publish_debts d0 0 r x old new is (entries_debts (with_bit d0 x) x old refl refl refl refl o.debts);
     unqueued = λ i. subst (λ (v : Told). IsOutBut (x.entries i) (v.bits.stored i)) (sym clear_told) (o.unqueued i);
     holds = λ d. ap (λ (v : Told). not (x.bits d) && v.bits.keeps d) clear_told
         ∙ held_less (same d d0) (x.bits d) ((told_of old).bits.keeps d) (o.holds d);

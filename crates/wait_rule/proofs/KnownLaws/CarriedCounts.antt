@@ -29,7 +29,7 @@ or_more false b is = absurd (cc)
 
 pub excused_more : (c : Watch) (x : Excuse) (k : Known) → Owes x k → Owes (with_wakes c mode.Normal x) k
 unfolding with_wakes
-excused_more c x k o = owes_more x (with_wakes c mode.Normal x) k refl refl refl refl
+excused_more c x k o = owes_more x (with_wakes c mode.Normal x) k refl refl refl refl refl
     (λ d σ. or_more (x.wakes d σ) (same d c && meets (mask_of mode.Normal) σ)) o
 
 pub as_publish : (c : Watch) (old new : Known) → Carries unchanged old new → Carries (publish_change c) old new

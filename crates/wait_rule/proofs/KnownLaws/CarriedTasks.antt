@@ -74,11 +74,11 @@ covered true false true n more is = refl
 covered true false false n more is = is
 
 pub owes_wakes : (x y : Excuse) (k : Known) → y.entries ≡ x.entries → y.bits ≡ x.bits → y.asks ≡ x.asks
-    → y.ends ≡ x.ends
+    → y.ends ≡ x.ends → y.left ≡ x.left
     → ((c : Watch) (σ : ℕ) → ((told_of k).duty.owes c σ && not (is_excused y c σ)) ≡ false) → Owes x k → Owes y k
-owes_wakes x y k entries bits asks ends wakes o = record {
+owes_wakes x y k entries bits asks ends left wakes o = record {
   unmarked = o.unmarked;
-  debts = wakes_debts x y k asks ends wakes o.debts;
+  debts = wakes_debts x y k asks ends left wakes o.debts;
   unqueued = λ i. subst (λ (f : ℕ → Bool). IsOutBut (f i) ((told_of k).bits.stored i)) (sym entries) (o.unqueued i);
   holds = λ c. ap (λ (f : Watch → Bool). not (f c) && (told_of k).bits.keeps c) bits ∙ o.holds c;
   tries = o.tries;
@@ -86,9 +86,9 @@ owes_wakes x y k entries bits asks ends wakes o = record {
 }
 
 pub owes_more : (x y : Excuse) (k : Known) → y.entries ≡ x.entries → y.bits ≡ x.bits → y.asks ≡ x.asks
-    → y.ends ≡ x.ends
+    → y.ends ≡ x.ends → y.left ≡ x.left
     → ((c : Watch) (σ : ℕ) → x.wakes c σ ≡ true → y.wakes c σ ≡ true) → Owes x k → Owes y k
-owes_more x y k entries bits asks ends more o = owes_wakes x y k entries bits asks ends
+owes_more x y k entries bits asks ends left more o = owes_wakes x y k entries bits asks ends left
     (λ c σ. covered ((told_of k).duty.owes c σ) (x.wakes c σ) (y.wakes c σ) (not (meets (mask_of mode.Normal) σ))
     (more c σ) (o.debts.none (wake_of c σ))) o
 

@@ -6,6 +6,8 @@ use Rattle.std.specs.Prelude.{
   ◌≡◌,
   ◌==◌,
   ◌%◌,
+  ◌<◌,
+  ◌++◌,
   ◌&&◌,
   ◌||◌,
   not,
@@ -13,6 +15,7 @@ use Rattle.std.specs.Prelude.{
   true,
   false,
   if◌then◌else◌,
+  nat_lt,
   Option,
   Some,
   None,
@@ -21,6 +24,7 @@ use Rattle.std.specs.Prelude.{
   ◌∷◌,
 }
 use Rattle.std.proofs.lemmas.Bool.Decides.{nat_tests}
+use Rattle.wait_model.specs.declared.layout.TheConstants.{FIRST_DONE_HEAD}
 use Rattle.wait_model.specs.declared.watches.Watch.{Watch}
 use Rattle.wait_model.specs.declared.watches.Watch.TheVariants as watch
 use Rattle.wait_model.specs.declared.watches.Entry.{Entry}
@@ -28,7 +32,7 @@ use Rattle.wait_model.specs.declared.watches.Mode.TheVariants as mode
 use Rattle.wait_model.specs.declared.steps.Step.{Step}
 use Rattle.wait_model.specs.declared.steps.Step.TheVariants as step
 use Rattle.wait_model.specs.Tasks.{meets}
-use Rattle.wait_model.specs.Watches.{same, mask_of, is_page}
+use Rattle.wait_model.specs.Watches.{same, mask_of, is_page, head_of}
 use Rattle.wait_model.specs.Words.{entry_of}
 use Rattle.wait_model.specs.Views.{View as Told, Walk, all_cleared, all_passed, concerns}
 use Rattle.wait_model.specs.Fold.{after, after_unlock, peeks, scanned}
@@ -39,6 +43,7 @@ use Rattle.wait_rule.specs.declared.journal.Journal.{Journal}
 use Rattle.wait_rule.specs.Items.{AddsNone, Book, steps_of}
 use Rattle.wait_rule.specs.Journals.{pushed}
 use Rattle.wait_rule.specs.Known.{Known}
+use Rattle.wait_rule.specs.LeftEntries.{HasLeftNone, Order, OrderOf, ShowsNoOwn}
 use Rattle.wait_rule.specs.Notes.{tell}
 use Rattle.wait_rule.specs.Asked.{Asked, ask, ask_step, is_asking}
 use Rattle.wait_rule.specs.Says.{
@@ -52,6 +57,7 @@ use Rattle.wait_rule.specs.Says.{
   grown,
   has_duty,
   has_end,
+  history_of,
   is_excused,
   page_asked,
   seen_with,
@@ -74,10 +80,11 @@ use Rattle.wait_rule.specs.Pipes.{
   other_end,
   with_cell,
 }
-use Rattle.wait_rule.specs.Stays.{with_end, with_wakes}
+use Rattle.wait_rule.specs.Stays.{with_end, with_left, with_wakes}
 use Rattle.wait_rule.specs.Transitions.{AreLooks, OnlyLooks}
 use Rattle.wait_rule.proofs.KnownLaws.AfterSteps.{told_added}
 use Rattle.wait_rule.proofs.KnownLaws.AskedPages.{asked_added, asks_nothing, asks_nothing_of}
+use Rattle.wait_rule.proofs.KnownLaws.HandedSteps.{AddsLow, AllAddLow, IsAwayAt, away_all, order_front}
 use Rattle.wait_rule.proofs.KnownLaws.PipeItems.{
   end_append,
 }
@@ -85,15 +92,19 @@ use Rattle.wait_rule.proofs.KnownLaws.PipeWords.{
   test_on,
   test_off,
 }
+use Rattle.wait_rule.proofs.TableSteps.ItemLists.{steps_append}
 
 tested : (a b : ℕ) → (a == b) ≡ true → a ≡ b
 tested a b is = grind (arith, nat_tests)
 
--- the steps that begin no debt: all but a publish, and an entry for a page that is queued; and the items: all but a
--- claim of an end of a pipe
+-- the steps that begin no debt: all but a publish, and an entry that is queued for a page or at a completion; and the
+-- items: all but a claim of an end of a pipe
+abbrev pub queues_low : Entry → Bool
+queues_low e = nat_lt (head_of e.watch) FIRST_DONE_HEAD
+
 abbrev pub begins_none : Step → Bool
 begins_none (step.Publish c n r) = false
-begins_none (step.Queue x e) = not (is_page e.kind)
+begins_none (step.Queue x e) = not (is_page e.kind) && queues_low e
 begins_none _ = true
 
 abbrev pub item_begins_none : Item → Bool
@@ -159,16 +170,18 @@ wakes_told (item.Tally p n w) v is c σ none = none
 wakes_told (item.Piped k a w) v is c σ none = none
 
 -- a task that asks for no page asks for none then
+asks_none_step : (e : Step) (k : Asked) → ((x : ℕ) (f : Entry) → e ≡ step.Queue x f → is_page f.kind ≡ false)
+    → is_asking k ≡ false → is_asking (ask_step e k) ≡ false
+asks_none_step e k unpaged none = ap (λ (q : Asked). is_asking (ask_step e q)) (asks_nothing_of k none)
+    ∙ ap is_asking (asks_nothing e unpaged)
+
+unpaged_of : (p q : Bool) → (not p && q) ≡ true → p ≡ false
+unpaged_of false q is = refl
+unpaged_of true q is = absurd (cc)
+
 asks_none_then : (x : Item) (k : Asked) → item_begins_none x ≡ true → is_asking k ≡ false → is_asking (ask x k) ≡ false
-asks_none_then (item.Made e) k is none = ap (λ (q : Asked). is_asking (ask_step e q)) (asks_nothing_of k none)
-    ∙ ap is_asking (asks_nothing e (λ x f same. queues_none x f (ap begins_none (sym same) ∙ is)))
-  where
-    queues_none : (x : ℕ) (f : Entry) → begins_none (step.Queue x f) ≡ true → is_page f.kind ≡ false
-    queues_none x f quiet = by (is_page f.kind) quiet
-      where
-        by : (b : Bool) → not b ≡ true → b ≡ false
-        by false q = refl
-        by true q = absurd (cc)
+asks_none_then (item.Made e) k is none = asks_none_step e k
+    (λ x f same. unpaged_of (is_page f.kind) (queues_low f) (ap begins_none (sym same) ∙ is)) none
 asks_none_then x k is none = none
 
 -- An end of a pipe that the task has not, or that it closed, stays so over each item but a claim.
@@ -215,10 +228,72 @@ no_more false q n f is = ap (λ (b : Bool). b && n) (f refl)
 no_more true false n f is = refl
 no_more true true n f is = is
 
+-- What a task knows of its entries at completions stays over each item but one that queues an entry there.
+pub record LeavesNone (k : Known) : Type 0 where
+  pub off : HasLeftNone k
+  pub shows : ShowsNoOwn k
+
+queue_low : (p q : Bool) → (not p && q) ≡ true → q ≡ true
+queue_low false q is = is
+queue_low true q is = absurd (cc)
+
+low_head : (h : ℕ) → nat_lt h FIRST_DONE_HEAD ≡ true → h < FIRST_DONE_HEAD
+low_head h is = grind (arith, nat_tests)
+
+head_low : (h : ℕ) → h < FIRST_DONE_HEAD → nat_lt h FIRST_DONE_HEAD ≡ true
+head_low h low = grind (arith, nat_tests)
+
+-- an entry that is queued for no page and at no completion
+pub queues_quiet : (x : ℕ) (e : Entry) → not (is_page e.kind) ≡ true → head_of e.watch < FIRST_DONE_HEAD
+    → begins_none (step.Queue x e) ≡ true
+queues_quiet x e unpaged low = ap (λ (b : Bool). b && queues_low e) unpaged ∙ head_low (head_of e.watch) low
+
+step_low : (e : Step) → begins_none e ≡ true → AddsLow e
+step_low (step.Queue x e) is = low_head (head_of e.watch) (queue_low (is_page e.kind) (queues_low e) is)
+step_low e is = tt
+
+item_low : (i : Item) → item_begins_none i ≡ true → AllAddLow (steps_of (i ∷ []))
+item_low (item.Made e) is = (step_low e is, tt)
+item_low i is = tt
+
+module _ (k : Known) (i : Item) (low : AllAddLow (steps_of (i ∷ []))) (w : LeavesNone k) (d : ℕ) where
+  more_steps : history_of (added k i) ≡ history_of k ++ steps_of (i ∷ [])
+  more_steps = steps_append k.view.items (i ∷ [])
+
+  still_away : OrderOf (added k i) → IsAwayAt d k.view.number (history_of (added k i))
+  still_away o =
+      let front : Order k.view.number (history_of k ++ steps_of (i ∷ [])) = subst (Order k.view.number) more_steps o in
+      let was : OrderOf k = order_front k.view.number (history_of k) (steps_of (i ∷ [])) front in
+      subst (IsAwayAt d k.view.number) (sym more_steps)
+      (away_all d k.view.number (history_of k) (steps_of (i ∷ [])) front low
+      (record { left = w.off d was; away = w.shows d was }))
+
+pub leaves_added : (old new : Known) (i : Item) → AllAddLow (steps_of (i ∷ [])) → new ≡ added old i → LeavesNone old
+    → LeavesNone new
+leaves_added old new i low is was = subst LeavesNone (sym is) (record {
+  off = λ c o. (still_away old i low was c o).left;
+  shows = λ c o. (still_away old i low was c o).away;
+})
+
+pub leaves_stored : (old new : Known) (e : Step) → AddsLow e → new ≡ stored_with old e → LeavesNone old
+    → LeavesNone new
+leaves_stored old new e low is was = leaves_added (added old (item.Made e)) new item.Member tt is
+    (leaves_added old (added old (item.Made e)) (item.Made e) (low, tt) refl was)
+
+pub leaves_of : (x : Excuse) (k : Known) → Debts x k → x.left ≡ false → LeavesNone k
+leaves_of x k d none = record { off = d.off none; shows = d.shows none }
+
+leaves_none_after : (x : Excuse) (old new : Known) (i : Item) → AllAddLow (steps_of (i ∷ [])) → new ≡ added old i
+    → Debts x old → x.left ≡ false → LeavesNone new
+leaves_none_after x old new i low is d none = leaves_added old new i low is (leaves_of x old d none)
+
 -- one item more: the place where a further part of `Debts` is shown for each kind of step
 item_debts : (x : Excuse) (k : Known) (i : Item) → item_begins_none i ≡ true → Debts x k → Debts x (added k i)
-item_debts x k i is d = record { none = by }
+item_debts x k i is d = record { none = by; off = λ none. (leaves none).off; shows = λ none. (leaves none).shows }
   where
+    leaves : x.left ≡ false → LeavesNone (added k i)
+    leaves = leaves_none_after x k (added k i) i (item_low i is) refl d
+
     by : (o : Duty) → (has_duty (added k i) o && not (excuses x o)) ≡ false
     by (wake_of c σ) = no_more ((told_of k).duty.owes c σ) ((told_of (added k i)).duty.owes c σ)
         (not (is_excused x c σ))
@@ -229,6 +304,39 @@ item_debts x k i is d = record { none = by }
         (d.none page_asked)
     by (end_unclosed e) = no_more (has_end e k) (has_end e (added k i)) (not (x.ends e))
         (λ none. end_added k i e ∙ item_closed e i (end_of e k.view.items) is none) (d.none (end_unclosed e))
+
+-- An entry that is queued at a completion: the task is excused of that it leaves it there.
+same_excused : (x : Excuse) (o : Duty) → excuses (with_left x) o ≡ excuses x o
+unfolding with_left
+same_excused x (wake_of c σ) = refl
+same_excused x page_asked = refl
+same_excused x (end_unclosed e) = refl
+
+module _ (x : Excuse) (k : Known) (i : ℕ) (f : Entry) (unpaged : is_page f.kind ≡ false) (d : Debts x k) where
+  abbrev queued_now : Known
+  queued_now = added k (item.Made (step.Queue i f))
+
+  entry_of_queue : (y : ℕ) (e : Entry) → step.Queue i f ≡ step.Queue y e → e ≡ f
+  entry_of_queue y e same = cc
+
+  queued_none : (o : Duty) → (has_duty queued_now o && not (excuses x o)) ≡ false
+  queued_none (wake_of c σ) = ap (λ (v : Told). v.duty.owes c σ && not (is_excused x c σ))
+      (told_added k (item.Made (step.Queue i f))) ∙ d.none (wake_of c σ)
+  queued_none page_asked = no_more (is_asking (asks_for k)) (is_asking (asks_for queued_now)) (not x.asks)
+      (λ none. ap is_asking (asked_added k (item.Made (step.Queue i f)))
+      ∙ asks_none_step (step.Queue i f) (asks_for k)
+      (λ y e same. ap (λ (g : Entry). is_page g.kind) (entry_of_queue y e same) ∙ unpaged) none) (d.none page_asked)
+  queued_none (end_unclosed e) = no_more (has_end e k) (has_end e queued_now) (not (x.ends e))
+      (λ none. end_added k (item.Made (step.Queue i f)) e
+      ∙ step_closed e (step.Queue i f) (end_of e k.view.items) none) (d.none (end_unclosed e))
+
+  queued_left : Debts (with_left x) queued_now
+  unfolding with_left
+  queued_left = record {
+    none = λ o. ap (λ (b : Bool). has_duty queued_now o && not b) (same_excused x o) ∙ queued_none o;
+    off = λ none. absurd (cc);
+    shows = λ none. absurd (cc);
+  }
 
 -- a publish makes the task owe wakes of its watch
 published_wakes : (s o x m : Bool) → (o && not (x || not m)) ≡ false
@@ -257,7 +365,15 @@ published_none c n r x old new is d (end_unclosed e) = no_more (has_end e old) (
 pub publish_debts : (c : Watch) (n r : ℕ) (x : Excuse) (old new : Known) → new ≡ added old (item.Made
     (step.Publish c n r))
     → Debts x old → Debts (with_wakes c mode.Normal x) new
-publish_debts c n r x old new is d = record { none = published_none c n r x old new is d }
+unfolding with_wakes
+publish_debts c n r x old new is d = record {
+  none = published_none c n r x old new is d;
+  off = λ none. (leaves none).off;
+  shows = λ none. (leaves none).shows;
+}
+  where
+    leaves : x.left ≡ false → LeavesNone new
+    leaves = leaves_none_after x old new (item.Made (step.Publish c n r)) (tt, tt) is d
 
 -- A publish of the own word that closes an end: the task is excused of that end no more.
 module _ (k n r : ℕ) (odd : (n % 2 == 1) ≡ true) (x : Excuse) (old new : Known)
@@ -293,7 +409,11 @@ module _ (k n r : ℕ) (odd : (n % 2 == 1) ≡ true) (x : Excuse) (old new : Kno
           ∙ published_none (watch.Var k 0) n r (with_end k x) old new is d (end_unclosed e)
 
   pub close_debts : Debts (with_wakes (watch.Var k 0) mode.Normal x) new
-  close_debts = record { none = closed_none }
+  unfolding with_wakes with_end
+  close_debts = record { none = closed_none; off = λ none. (leaves none).off; shows = λ none. (leaves none).shows }
+    where
+      leaves : x.left ≡ false → LeavesNone new
+      leaves = leaves_none_after (with_end k x) old new (item.Made (step.Publish (watch.Var k 0) n r)) (tt, tt) is d
 
 -- A claim of an end: the task is excused of that end too where it got it.
 module _ (k w : ℕ) (x : Excuse) (old new : Known) (is : new ≡ added old (item.Piped k act.Claim w)) (d : Debts x old)
@@ -313,9 +433,12 @@ module _ (k w : ℕ) (x : Excuse) (old new : Known) (is : new ≡ added old (ite
         else end_of e old.view.items)
     end_is e = ap (has_end e) is ∙ end_added old (item.Piped k act.Claim w) e
 
+    leaves : x.left ≡ false → LeavesNone new
+    leaves = leaves_none_after x old new (item.Piped k act.Claim w) tt is d
+
     pub got_debts : Debts (with_end k x) new
     unfolding with_end
-    got_debts = record { none = by }
+    got_debts = record { none = by; off = λ none. (leaves none).off; shows = λ none. (leaves none).shows }
       where
         excused : (h b : Bool) → (h && not (true || b)) ≡ false
         excused true b = refl
@@ -334,7 +457,7 @@ module _ (k w : ℕ) (x : Excuse) (old new : Known) (is : new ≡ added old (ite
         by (end_unclosed e) = ends e (e == k) refl
 
     pub refused_debts : (w == 0) ≡ false → Debts x new
-    refused_debts found = record { none = by }
+    refused_debts found = record { none = by; off = λ none. (leaves none).off; shows = λ none. (leaves none).shows }
       where
         by : (o : Duty) → others x o
         by (wake_of c σ) = claimed_wakes c σ
@@ -348,9 +471,13 @@ module _ (k w : ℕ) (x : Excuse) (old new : Known) (is : new ≡ added old (ite
             same false f = refl
 
 -- by another excuse of wakes
-pub wakes_debts : (x y : Excuse) (k : Known) → y.asks ≡ x.asks → y.ends ≡ x.ends
+pub wakes_debts : (x y : Excuse) (k : Known) → y.asks ≡ x.asks → y.ends ≡ x.ends → y.left ≡ x.left
     → ((c : Watch) (σ : ℕ) → ((told_of k).duty.owes c σ && not (is_excused y c σ)) ≡ false) → Debts x k → Debts y k
-wakes_debts x y k asks ends wakes d = record { none = by }
+wakes_debts x y k asks ends left wakes d = record {
+  none = by;
+  off = λ none. d.off (sym left ∙ none);
+  shows = λ none. d.shows (sym left ∙ none);
+}
   where
     by : (o : Duty) → (has_duty k o && not (excuses y o)) ≡ false
     by (wake_of c σ) = wakes c σ
@@ -358,9 +485,13 @@ wakes_debts x y k asks ends wakes d = record { none = by }
     by (end_unclosed e) = ap (λ (f : ℕ → Bool). has_end e k && not (f e)) ends ∙ d.none (end_unclosed e)
 
 -- by another excuse of entries and bits
-pub entries_debts : (x y : Excuse) (k : Known) → y.wakes ≡ x.wakes → y.asks ≡ x.asks → y.ends ≡ x.ends → Debts x k
-    → Debts y k
-entries_debts x y k same asks ends d = record { none = by }
+pub entries_debts : (x y : Excuse) (k : Known) → y.wakes ≡ x.wakes → y.asks ≡ x.asks → y.ends ≡ x.ends
+    → y.left ≡ x.left → Debts x k → Debts y k
+entries_debts x y k same asks ends left d = record {
+  none = by;
+  off = λ none. d.off (sym left ∙ none);
+  shows = λ none. d.shows (sym left ∙ none);
+}
   where
     by : (o : Duty) → (has_duty k o && not (excuses y o)) ≡ false
     by (wake_of c σ) = ap (λ (f : Watch → ℕ → Bool). (told_of k).duty.owes c σ && not (f c σ
@@ -368,10 +499,27 @@ entries_debts x y k same asks ends d = record { none = by }
     by page_asked = ap (λ (b : Bool). is_asking (asks_for k) && not b) asks ∙ d.none page_asked
     by (end_unclosed e) = ap (λ (f : ℕ → Bool). has_end e k && not (f e)) ends ∙ d.none (end_unclosed e)
 
+-- whether the task left an entry at a completion is one of the debts
+pub left_debts : (x : Excuse) (k : Known) → Debts x k → Debts (with_left x) k
+unfolding with_left
+left_debts x k d = record {
+  none = λ o. ap (λ (b : Bool). has_duty k o && not b) (same_excused x o) ∙ d.none o;
+  off = λ none. absurd (cc);
+  shows = λ none. absurd (cc);
+}
+
+pub off_debts : (x : Excuse) (k : Known) → (x.left ≡ false → HasLeftNone k) → (x.left ≡ false → ShowsNoOwn k)
+    → Debts (with_left x) k → Debts x k
+off_debts x k off shows d = record {
+  none = λ o. ap (λ (b : Bool). has_duty k o && not b) (sym (same_excused x o)) ∙ d.none o;
+  off = off;
+  shows = shows;
+}
+
 -- The debts are those of the list, of whatever book.
 pub list_debts : (x : Excuse) (old new : Known) → new.view ≡ old.view → Debts x old → Debts x new
 list_debts x old new same d = subst (λ (v : Journal). Debts x (seen_with new v)) (sym same)
-    (record { none = d.none })
+    (record { none = d.none; off = d.off; shows = d.shows })
 
 -- more items
 more_debts : (x : Excuse) (k : Known) (v : Journal) (xs : List Item) → all_begin_none xs → v ≡ pushed k.view xs
@@ -451,6 +599,13 @@ pub stored_debts : (old new : Known) (e : Step) → begins_none e ≡ true → n
     → Debts x old → Debts x new
 stored_debts old new e quiet is x d = list_debts x (stored_with old e) new (ap (λ (k : Known). k.view) is)
     (item_debts x (added old (item.Made e)) item.Member refl (item_debts x old (item.Made e) quiet d))
+
+pub queued_debts : (old new : Known) (i : ℕ) (e : Entry) → is_page e.kind ≡ false
+    → new ≡ stored_with old (step.Queue i e) → (x : Excuse) → Debts x old → Debts (with_left x) new
+queued_debts old new i e unpaged is x d = list_debts (with_left x) (stored_with old (step.Queue i e)) new
+    (ap (λ (k : Known). k.view) is)
+    (item_debts (with_left x) (added old (item.Made (step.Queue i e))) item.Member refl
+    (queued_left x old i e unpaged d))
 
 pub unlock_debts : (old new : Known) (h : ℕ) (spent : Bool) → new ≡ unlocked_with old h spent → (x : Excuse)
     → Debts x old → Debts x new

@@ -46,16 +46,8 @@ use Rattle.wait_model.proofs.PermitLaws.OwnTurns.{held_is}
 use Rattle.wait_model.proofs.PermitLaws.PermitSteps.{accounted_handed, accounted_start, accounted_step}
 use Rattle.wait_model.proofs.StepLaws.UnlockSteps.{unlock_hold}
 use Rattle.wait_rule.specs.declared.journal.Item.{Item}
-use Rattle.wait_rule.specs.HandedPermits.{
-  AllHandPermitsOn,
-  FoundNoPermit,
-  OrderOf,
-  OwesNoPermit,
-  RuleHandsPermitsOn,
-  StepsHandPermitsOn,
-  cell_at,
-  dealt_of,
-}
+use Rattle.wait_rule.specs.HandedPermits.{AllHandPermitsOn, FoundNoPermit, OwesNoPermit, RuleHandsPermitsOn, StepsHandPermitsOn, cell_at}
+use Rattle.wait_rule.specs.LeftEntries.{OrderOf, dealt_of}
 use Rattle.wait_rule.specs.HeldValues.{count_in, value_after, value_from}
 use Rattle.wait_rule.specs.Interleavings.{AreAllowed, AreHanded, TaskStep, table_of}
 use Rattle.wait_rule.specs.Items.{steps_of}

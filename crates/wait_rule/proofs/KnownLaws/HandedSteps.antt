@@ -39,7 +39,7 @@ use Rattle.wait_model.proofs.PermitLaws.OwnTurns.{clash, deals_snoc, in_is}
 use Rattle.wait_model.proofs.PermitLaws.PermitTurns.{and_left, and_right, not_unseen, seen_shows}
 use Rattle.wait_model.proofs.StepLaws.UnlockSteps.{unlock_hold}
 use Rattle.wait_model.proofs.WordLaws.DecodedWords.{owner_own}
-use Rattle.wait_rule.specs.HandedPermits.{Order}
+use Rattle.wait_rule.specs.LeftEntries.{Order}
 use Rattle.wait_rule.specs.Interleavings.{AreAllowed, AreHanded, TaskStep, table_of}
 use Rattle.wait_rule.proofs.KnownLaws.HandedPermits.{accounted_of, none_done}
 use Rattle.wait_rule.proofs.KnownLaws.Moments.{kept_of, views_of}

@@ -46,7 +46,8 @@ use Rattle.wait_model.specs.Watches.{head_of, stands_at}
 use Rattle.wait_model.specs.Words.{entry_of, flag}
 use Rattle.wait_model.proofs.HistoryLaws.HoldLooks.{after_snoc}
 use Rattle.wait_model.proofs.PermitLaws.OwnTurns.{clash, deals_snoc}
-use Rattle.wait_rule.specs.HandedPermits.{Order, OrderOf, OwesNoPermit, dealt_of}
+use Rattle.wait_rule.specs.HandedPermits.{OwesNoPermit}
+use Rattle.wait_rule.specs.LeftEntries.{Order, OrderOf, dealt_of}
 use Rattle.wait_rule.specs.Interleavings.{table_of}
 use Rattle.wait_rule.specs.Known.{Known}
 use Rattle.wait_rule.specs.Says.{history_of, told_of}

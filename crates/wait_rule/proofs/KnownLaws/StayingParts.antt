@@ -9,10 +9,11 @@ use Rattle.wait_model.specs.Views.{View as Told, Bits, is_trying_for}
 use Rattle.wait_model.specs.Fold.{is_off, after_look}
 use Rattle.wait_model.proofs.Functions.{put_at, put_same}
 use Rattle.wait_rule.specs.Known.{Known}
+use Rattle.wait_rule.specs.LeftEntries.{HasLeftNone, ShowsNoOwn}
 use Rattle.wait_rule.specs.Says.{Debts, Excuse, IsOutBut, Owes, TriesNone, told_of}
 use Rattle.wait_rule.specs.Queues.{KnewEntry, index}
-use Rattle.wait_rule.specs.Stays.{Stays, StaysOwing, no_entries, with_entry}
-use Rattle.wait_rule.proofs.KnownLaws.Debts.{entries_debts}
+use Rattle.wait_rule.specs.Stays.{Stays, StaysOwing, no_entries, with_entry, with_left}
+use Rattle.wait_rule.proofs.KnownLaws.Debts.{entries_debts, left_debts, off_debts}
 
 pub stays_on : (but : ℕ → Bool) (x y z : Known) → Stays but x y → Stays but y z → Stays but x z
 stays_on but x y z one two = record {
@@ -162,7 +163,7 @@ pub owes_also : (i : ℕ) (x : Excuse) (k : Known) → Owes x k → Owes (with_e
 unfolding with_entry
 owes_also i x k o = record {
   unmarked = o.unmarked;
-  debts = entries_debts x (with_entry i x) k refl refl refl o.debts;
+  debts = entries_debts x (with_entry i x) k refl refl refl refl o.debts;
   unqueued = λ y. out_also i y (x.entries y) ((told_of k).bits.stored y) (o.unqueued y) (y == i);
   holds = o.holds;
   tries = o.tries;
@@ -178,7 +179,7 @@ pub owes_out : (i : ℕ) (x : Excuse) (k : Known) → (told_of k).bits.stored i 
 unfolding with_entry
 owes_out i x k none o = record {
   unmarked = o.unmarked;
-  debts = entries_debts (with_entry i x) x k refl refl refl o.debts;
+  debts = entries_debts (with_entry i x) x k refl refl refl refl o.debts;
   unqueued = λ y. by y (y == i) refl (o.unqueued y);
   holds = o.holds;
   tries = o.tries;
@@ -189,3 +190,27 @@ owes_out i x k none o = record {
         → IsOutBut (x.entries y) ((told_of k).bits.stored y)
     by y true same is = out_more x k y (x.entries y) (ap (told_of k).bits.stored (eqb-true y i same) ∙ none)
     by y false same is = is
+
+-- that it may have left its entry at a completion, and then that it has not
+pub owes_left : (x : Excuse) (k : Known) → Owes x k → Owes (with_left x) k
+unfolding with_left
+owes_left x k o = record {
+  unmarked = o.unmarked;
+  debts = left_debts x k o.debts;
+  unqueued = o.unqueued;
+  holds = o.holds;
+  tries = o.tries;
+  tries_none = o.tries_none;
+}
+
+pub owes_off : (x : Excuse) (k : Known) → (x.left ≡ false → HasLeftNone k) → (x.left ≡ false → ShowsNoOwn k)
+    → Owes (with_left x) k → Owes x k
+unfolding with_left
+owes_off x k off shows o = record {
+  unmarked = o.unmarked;
+  debts = off_debts x k off shows o.debts;
+  unqueued = o.unqueued;
+  holds = o.holds;
+  tries = o.tries;
+  tries_none = o.tries_none;
+}

@@ -2,7 +2,7 @@
 //! known over the wait.
 
 ghost use Rattle.std.specs.Prelude.{◌≡◌};
-ghost use Rattle.wait_rule.specs.HandedPermits.{HasLeftNone};
+ghost use Rattle.wait_rule.specs.LeftEntries.{HasLeftNone};
 ghost use Rattle.wait_rule.specs.Says.{IsClean};
 ghost use Rattle.wait_tests.specs.CompletionTasks.{IsReleased};
 

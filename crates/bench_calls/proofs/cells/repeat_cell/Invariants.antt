@@ -1,5 +1,5 @@
 use Rattle.std.proofs.Common.{◌≡◌}
-use Rattle.wait_rule.specs.HandedPermits.{HasLeftNone}
+use Rattle.wait_rule.specs.LeftEntries.{HasLeftNone}
 use Rattle.wait_rule.specs.Says.{IsClean}
 use Rattle.bench_calls.proofs.cells.repeat_cell.Given as goal
 

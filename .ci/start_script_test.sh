@@ -61,8 +61,8 @@ END
 }
 
 # Makes the folder $work/bin of the start script's tools, without rt, and $work/stand_in of a stand-in for rt.
-# The stand-in notes each call, does what MEDDLE says at a run and MEDDLE_LIB at a library, and builds a program that
-# shows the number of the source.
+# The stand-in notes each call, does what MEDDLE says at a run and MEDDLE_LIB at a library, builds a library that is its
+# name, and a program that shows the number of the source.
 write_tools() {
     mkdir -- "$work/bin" "$work/stand_in"
     local tool
@@ -75,8 +75,10 @@ write_tools() {
 echo "$* in $PWD" >>"$CALLS"
 name=${PWD##*/}
 case $1 in
-    doc) echo "${KIT:-$CALLS.kit}/START-HERE.md" ;;
-    lib) eval "${MEDDLE_LIB:-}" ;;
+    lib)
+        (eval "${MEDDLE_LIB:-}") || exit
+        mkdir -p out/rlib out/incremental && echo "$name" >out/rlib/stamp && echo "$name" >out/incremental/work
+        ;;
 esac
 [ "$1" = run ] || exit 0
 mkdir -p out
@@ -210,7 +212,8 @@ WAITQ_LANES=2 MEDDLE_LIB=$meet run "$stand_in"
 expect "two lanes" 0 "stand-in 3" "waitq: 1 of 4 proved, under way: left, right"
 expect "the program comes last" 0 "stand-in 3" "waitq: 3 of 4 proved, under way: waitq"
 expect_number "proofs in lanes" "$(grep -c '^lib .*in .*lanes' "$work/calls")" 3
-expect_number "libraries that the repository takes" "$(grep -c '^lib in .* toy/crates' "$work/calls")" 3
+expect_number "proofs of libraries" "$(grep -c '^lib' "$work/calls")" 3
+expect_number "libraries that the repository has then" "$(cat -- "$toy"/crates/*/out/rlib/stamp | xargs)" "left lower right"
 expect_number "folders of lanes behind a build" "$(lanes_left)" 0
 
 write_program 4 5
@@ -219,11 +222,24 @@ WAITQ_LANES=1 run "$stand_in"
 expect "one lane" 0 "stand-in 4" "waitq: 1 of 4 proved, under way: left"
 expect_number "proofs in lanes, where there is one" "$(grep -c '^lib .*in .*lanes' "$work/calls")" 0
 
+# Who proves a crate finds there what was built of the crates beneath it, and what earlier checks of it have kept, which
+# it may write anew; what was built of the crates beneath it may only be read.
 write_program 5 6
 : >"$work/calls"
-KIT=/dev/null/kit WAITQ_LANES=2 run "$stand_in"
-expect "nothing is kept beside the kit" 0 "stand-in 5" "waitq: 1 of 4 proved, under way: left"
-expect_number "proofs in lanes, where they can't share" "$(grep -c '^lib .*in .*lanes' "$work/calls")" 0
+finds='[ "$(cat out/incremental/work)" = "$name" ] && echo written >out/incremental/work || exit 1
+[ "$name" = lower ] || [ "$(cat ../lower/out/rlib/stamp)" = lower ] || exit 1
+[ "$name" = lower ] || [ ! -e ../lower/out/incremental ] || exit 1
+[ "$name" != left ] || { sleep 0.5; echo left is false; exit 1; }
+sleep 60'
+WAITQ_LANES=2 MEDDLE_LIB="[ \$name != lower ] || exit 0; $finds" run "$stand_in"
+expect "who proves finds what was built" 1 "" "left is false"
+expect_number "what was kept, behind a proof that failed" "$(cat -- "$toy"/crates/{left,right}/out/incremental/work | xargs)" "left right"
+
+# While fewer crates are ready than there are jobs, one has the rest of the jobs.
+: >"$work/calls"
+WAITQ_LANES=4 run "$stand_in"
+expect "four jobs" 0 "stand-in 5" "waitq: 1 of 4 proved, under way: left, right"
+expect_number "jobs" "$(sed -n 's/.*--jobs \([0-9]*\).*/\1/p' "$work/calls" | sort | xargs)" "1 3 4 4"
 
 write_program 6 7
 WAITQ_LANES=none run "$stand_in"

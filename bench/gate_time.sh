@@ -1,13 +1,15 @@
 #!/usr/bin/env bash
-# Measures what the gate takes from nothing: `rt ci --anew` in a fresh clone, with the processor seconds of each crate's
-# proof, its proof with tests, its edits, and its programs with what is run, as a table for docs/MEASURING.md.
+# Measures what the gate takes from nothing: `rt ci --anew` in a fresh clone, or `rt ci` with a kit that has no such word
+# and always starts from nothing, with the processor seconds of each crate's proof, its proof with tests, its edits, and
+# its programs with what is run, as a table for docs/MEASURING.md.
 #
 # usage: bench/gate_time.sh [--keep] [--folder FOLDER] [NAME]...
 #        bench/gate_time.sh --start [--folder FOLDER]
 #
-# NAME: these crates and those below them alone, as `rt ci NAME..` does. --keep: plain `rt ci`, which proves only what
-# it has not kept, and is the real gate at the same time. --start: a first `./waitq` in place of the gate, with a kit
-# that keeps nothing yet. --folder: a clone that is there already, in place of one of this repository's last commit.
+# NAME: these crates and those below them alone, as `rt ci NAME..` does where it takes names. --keep: plain `rt ci`, which
+# proves only what it has not kept, where it keeps something, and is the real gate at the same time. --start: a first
+# `./waitq` in place of the gate, with a kit that keeps nothing yet. --folder: a clone that is there already, in place of
+# one of this repository's last commit.
 #
 # It uses the processors that the caller may use (taskset). The gate's own output goes to standard error, the table and
 # the sums to standard output; the status is that of the gate. It needs rt, git and python3.
@@ -21,7 +23,7 @@ while [ $# -gt 0 ]; do
         --keep) what= ;;
         --start) what=--start ;;
         --folder) folder=$(readlink -f -- "$2") && shift ;;
-        -*) sed -n '5,6s/^# *//p' -- "${BASH_SOURCE[0]}" >&2 && exit 2 ;;
+        -*) sed -n '6,7s/^# *//p' -- "${BASH_SOURCE[0]}" >&2 && exit 2 ;;
         *) break ;;
     esac
     shift
@@ -44,6 +46,15 @@ link_kit() {
     PATH=$work/kit/rattle/bin:$PATH
 }
 
+# Whether the kit's gate takes a word --anew and names.
+takes_words() {
+    [[ $(rt help 2>&1 || :) == *--anew* ]]
+}
+
+if [ "$what" != --start ] && ! takes_words; then
+    what=
+    [ $# = 0 ] || { echo "gate_time.sh: the gate of this kit takes no names" >&2 && exit 2; }
+fi
 if [ -z "$folder" ]; then
     folder=$work/clone
     git clone -q -- "$root" "$folder"

@@ -6,3 +6,7 @@ pub mod await_calls;
 pub mod awaits;
 pub mod cell_turns;
 pub mod completes;
+
+pub use asks::{is_done, reinit, try_wait};
+pub use await_calls::{begin_await, wait_for};
+pub use completes::{complete, complete_all};

@@ -11,3 +11,9 @@ pub mod wait_calls;
 pub mod wait_events;
 pub mod waits;
 pub mod woken_waits;
+
+pub use conds::{set_and_wake, take_cond};
+pub use entries::{add_entry, remove_entry};
+pub use prepares::{Prepared, finish_wait, prepare_event, prepare_exclusive, prepare_to_wait};
+pub use wait_events::{WaitEnd, begin_wait, wait_event};
+pub use woken_waits::wait_woken;

@@ -23,6 +23,7 @@ pub mod LeftEntries
 pub mod Says
 pub mod Unlocks
 pub mod TableLaws
+pub mod DebtLaws
 pub mod TallyLaws
 pub mod PipeSays
 pub mod FlagLaws

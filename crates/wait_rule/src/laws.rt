@@ -20,6 +20,7 @@ ghost use Rattle.wait_rule.specs.TableLaws.{AllBalance, RuleTakesMade, AllTakeMa
 ghost use Rattle.wait_rule.specs.Aside.{CallsGrowAside, ItemsStayOff, ProgramsLeaveEnds, WalksGrowAside};
 ghost use Rattle.wait_rule.specs.PipeLaws.{RuleDelivers, JoinedDeliver, JoinedRefuse, ProgramsKeepEnds, RuleRefuses};
 ghost use Rattle.wait_rule.specs.PipeLaws.{WalksKeepEnds};
+ghost use Rattle.wait_rule.specs.DebtLaws.{CleanOwesNothing, RuleTellsDebts};
 ghost use Rattle.wait_rule.specs.TallyLaws.{RuleSumsTallies, AllSumTallies, AddsCount, JoinsCount};
 ghost use Rattle.wait_rule.specs.TallyLaws.{NewcomersCountNone, ForksCountNone, ProgramsAddNone, ProgramsKeepNumbers};
 ghost use Rattle.wait_rule.specs.Unlocks.{AllUnlocksCount};
@@ -215,4 +216,12 @@ pub fn permits_are_handed_on()
 /// answers for a signal, and of a load and a store of two tasks in one order.
 pub fn worked_events()
     ensures { WorkedEvents }
+{}
+
+/// A task that is clean owes no wake, by its history alone: since its last publish of a watch a walk of that watch is
+/// past every entry at the head, be it over several holds, or used up its count, or a look at the head found no member.
+/// Of each task whose list is in a table that meets the rule, what contracts say that it owes is what it owes so.
+pub fn clean_owes_nothing()
+    ensures clean { CleanOwesNothing }
+    ensures told { RuleTellsDebts }
 {}

@@ -9,13 +9,14 @@ ghost use Rattle.wait_event.specs.Prepares.{EndsExclusive, IsFinishing, first_in
 ghost use Rattle.wait_event.specs.Waits.{Advances, IsAt, is_prepared};
 
 use crate::queueing::own_entry;
-use crate::wait_calls::{pause, wake_after};
+use crate::wait_calls::pause;
 use crate::waits::{WaitRun, WaitStage, WaitTurn, advance};
 use std::sync::Wait;
 use wait_model::heads::head_of;
 use wait_model::layout::RUNNING;
 use wait_model::tasks::{How, SleepState};
 use wait_model::watches::{Kind, Watch};
+use wait_rule::queues::Passing;
 use wait_rule::tasks::set_state;
 use wait_rule::{Domain, Task};
 use wq_head::Worn;
@@ -47,15 +48,16 @@ fn run_prepare<R: Wait>(rt: &R, domain: &Domain, task: &mut Task, run: &mut Wait
     ensures advances { Advances task.old task.new run.old run.new stage.PrepareLock (turn.Again result) }
     ensures prepared { is_prepared result ≡ true }
 {
-    let head = head_of(run.watch);
+    let mut passing = Passing::none();
     let mut at = WaitStage::PrepareLock;
     let mut looks = 0;
     for _ in rt.forever() {
-        let turn = advance(domain, task, run, at);
-        wake_after(domain, head, turn);
+        let turn = advance(domain, task, run, at, &mut passing);
+        passing.wake(domain);
         match turn {
             WaitTurn::Again(next) => {
                 if ends_prepare(next) {
+                    passing.end();
                     return next;
                 }
                 looks = 0;
@@ -78,12 +80,12 @@ fn run_finish<R: Wait>(rt: &R, domain: &Domain, task: &mut Task, run: &mut WaitR
     requires at { IsAt task.old run.old stage.FinishLock }
     ensures { Advances task.old task.new run.old run.new stage.FinishLock (turn.Done outcome.Over) }
 {
-    let head = head_of(run.watch);
+    let mut passing = Passing::none();
     let mut at = WaitStage::FinishLock;
     let mut looks = 0;
     for _ in rt.forever() {
-        let turn = advance(domain, task, run, at);
-        wake_after(domain, head, turn);
+        let turn = advance(domain, task, run, at, &mut passing);
+        passing.wake(domain);
         match turn {
             WaitTurn::Again(next) => {
                 looks = 0;
@@ -94,7 +96,10 @@ fn run_finish<R: Wait>(rt: &R, domain: &Domain, task: &mut Task, run: &mut WaitR
                 at = next;
             }
             WaitTurn::Asleep(_next) => unreachable!(),
-            WaitTurn::Done(_outcome) => return,
+            WaitTurn::Done(_outcome) => {
+                passing.end();
+                return;
+            }
         }
     }
     unreachable!()

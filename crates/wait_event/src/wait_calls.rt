@@ -1,6 +1,7 @@
 //! Waits for plain conditions and variables: by stretches, for who may not wait, and as whole calls.
 
 ghost use Rattle.std.specs.Prelude.{◌≡◌, ◌≤◌, not, MatchBool};
+ghost use Rattle.wait_rule.specs.PassedLocks.{PassesNone};
 ghost use Rattle.wait_event.specs.declared.waits.WaitTurn.TheVariants as turn;
 ghost use Rattle.wait_event.specs.Waits.{Advances, IsAt, IsAsleepAt, IsRunning, IsStop, point_of};
 ghost use Rattle.wait_model.specs.PointFacts.{holds};
@@ -9,7 +10,7 @@ ghost use Rattle.wq_head.specs.declared.locks.TheConstants.{LOOKS};
 use crate::waits::{WaitOutcome, WaitRun, WaitStage, WaitTurn, advance};
 use std::sync::Wait;
 use wait_model::heads::head_of;
-use wait_rule::queues::wake_waiters;
+use wait_rule::queues::Passing;
 use wait_rule::tasks::awake;
 use wait_rule::{Domain, Task, wait_up};
 use wq_head::locks;
@@ -38,17 +39,24 @@ fn is_free(stage: WaitStage) -> bool
 /// Goes on with a wait from a stage up to the next one at which no head is held, for who may not wait: an executor, or
 /// a caller from another language. Again: it goes on there at once, by the next call. Locked: it waits for a lock, and
 /// goes on there when another number of the head is served. Asleep: it was put asleep, and goes on there once `woke`
-/// has answered true. Done: the wait is over. It wakes no thread: where other threads may park for a lock of the head,
-/// `wake_waiters` follows each stretch.
-pub fn stretch(domain: &Domain, task: &mut Task, run: &mut WaitRun, stage: WaitStage) -> WaitTurn
+/// has answered true. Done: the wait is over. It wakes no thread: `passing`, in which no lock is left before, has the
+/// one that was given back, for the caller to wake the threads that park for it.
+pub fn stretch(
+    domain: &Domain,
+    task: &mut Task,
+    run: &mut WaitRun,
+    stage: WaitStage,
+    passing: &mut Passing,
+) -> WaitTurn
     requires of { task.old.domain ≡ domain.now }
+    requires passes { PassesNone passing.old }
     requires at { IsAt task.old run.old stage }
     ensures advances { Advances task.old task.new run.old run.new stage result }
     ensures stops { IsStop result }
 {
     let mut at = stage;
     for _turn in 0..STRETCH {
-        match advance(domain, task, run, at) {
+        match advance(domain, task, run, at, passing) {
             WaitTurn::Again(next) => {
                 if is_free(next) {
                     return WaitTurn::Again(next);
@@ -94,21 +102,6 @@ pub(crate) fn pause<R: Wait>(rt: &R, domain: &Domain, run: &WaitRun, looks: u32)
     locks::pause(rt, domain, head_of(run.watch), run.served, looks)
 }
 
-/// Wakes the threads that park for the lock of the head, where a turn may have given it back.
-#[inline(always)]
-pub(crate) fn wake_after(domain: &Domain, head: u16, turn: WaitTurn) {
-    match turn {
-        WaitTurn::Again(next) => {
-            if is_free(next) {
-                wake_waiters(domain, head);
-            }
-        }
-        WaitTurn::Done(_) => wake_waiters(domain, head),
-        WaitTurn::Asleep(_) => {}
-        WaitTurn::Locked(_) => {}
-    }
-}
-
 /// Goes on with a wait from a stage to its end: waits for locks, and sleeps.
 #[inline(always)]
 pub fn run_wait<R: Wait>(
@@ -122,12 +115,12 @@ pub fn run_wait<R: Wait>(
     requires at { IsAt task.old run.old stage }
     ensures { Advances task.old task.new run.old run.new stage (turn.Done result) }
 {
-    let head = head_of(run.watch);
+    let mut passing = Passing::none();
     let mut at = stage;
     let mut looks = 0;
     for _ in rt.forever() {
-        let turn = advance(domain, task, run, at);
-        wake_after(domain, head, turn);
+        let turn = advance(domain, task, run, at, &mut passing);
+        passing.wake(domain);
         match turn {
             WaitTurn::Again(next) => {
                 looks = 0;
@@ -141,7 +134,10 @@ pub fn run_wait<R: Wait>(
                 looks = pause(rt, domain, run, looks);
                 at = next;
             }
-            WaitTurn::Done(outcome) => return outcome,
+            WaitTurn::Done(outcome) => {
+                passing.end();
+                return outcome;
+            }
         }
     }
     unreachable!()

@@ -1,12 +1,13 @@
 //! A wait for a plain condition or a variable as a machine of small stages: one event at most in each turn, which waits
 //! for nobody.
 
-ghost use Rattle.std.specs.Prelude.{◌≡◌, true};
+ghost use Rattle.std.specs.Prelude.{◌≡◌, ◌⊎◌, is_some, false, true};
 ghost use Rattle.wait_model.specs.Tasks.{task_of};
+ghost use Rattle.wait_rule.specs.PassedLocks.{PassesNone};
 ghost use Rattle.wait_rule.specs.Says.{IsUp};
 ghost use Rattle.wait_event.specs.declared.waits.WaitTurn.TheVariants as turn;
 ghost use Rattle.wait_event.specs.WaitPlans.{goes_to};
-ghost use Rattle.wait_event.specs.Waits.{Advances, IsAt, IsFresh, IsPlain, next_in, nothing, old_of, state_at};
+ghost use Rattle.wait_event.specs.Waits.{Advances, IsAt, IsFresh, IsPlain, IsStop, next_in, nothing, old_of, state_at};
 ghost use Rattle.wait_event.specs.Waits.{with_entry, with_own, with_value};
 ghost use Rattle.wait_event.specs.Waits.{DrawsAt, LoadsAt, LocksAt, LooksAt, ParesAt, PeeksAt, StoresAt, UnlocksAt};
 ghost use Rattle.wait_event.specs.Waits.{falls, tells_first, turn_of};
@@ -18,7 +19,7 @@ use wait_model::layout::RUNNING;
 use wait_model::task_words::{TaskWord, pending_state};
 use wait_model::tasks::{How, Sleep};
 use wait_model::watches::{Entry, Watch};
-use wait_rule::queues::{cond_load, draw, lock_step, serving_load};
+use wait_rule::queues::{Passing, cond_load, draw, lock_step, serving_load};
 use wait_rule::tasks::{load_own, set_state};
 use wait_rule::tries::sleep_try;
 use wait_rule::{Domain, Task};
@@ -196,6 +197,7 @@ fn locked(run: WaitRun, stage: WaitStage) -> WaitTurn
 fn unlocked(run: WaitRun, stage: WaitStage) -> WaitTurn
     requires here { UnlocksAt stage }
     ensures goes { next_in result ≡ goes_to run stage nothing }
+    ensures stops { IsStop result }
     ensures plain { IsPlain run result }
     ensures falls { falls stage result ≡ true }
 {
@@ -245,6 +247,7 @@ fn looked(run: WaitRun, stage: WaitStage, own: TaskWord) -> WaitTurn
 fn pared(run: WaitRun, stage: WaitStage, entry: Option<Entry>) -> WaitTurn
     requires here { ParesAt stage }
     ensures goes { next_in result ≡ goes_to run stage (with_entry entry) }
+    ensures stops { is_some entry ≡ false → IsStop result }
     ensures plain { IsPlain run result }
     ensures falls { falls stage result ≡ true }
 {
@@ -342,14 +345,22 @@ fn lock_event(domain: &Domain, task: &mut Task, run: &mut WaitRun, stage: WaitSt
 
 /// The head is given back.
 #[inline(always)]
-fn unlock_event(domain: &Domain, task: &mut Task, run: &mut WaitRun, stage: WaitStage) -> WaitTurn
+fn unlock_event(
+    domain: &Domain,
+    task: &mut Task,
+    run: &mut WaitRun,
+    stage: WaitStage,
+    passing: &mut Passing,
+) -> WaitTurn
     requires of { task.old.domain ≡ domain.now }
+    requires passes { PassesNone passing.old }
     requires here { UnlocksAt stage }
     requires at { IsAt task.old run.old stage }
     ensures advances { Advances task.old task.new run.old run.new stage result }
+    ensures passes { PassesNone passing.new ⊎ IsStop result }
     ensures falls { falls stage result ≡ true }
 {
-    give_back(domain, task, false);
+    passing.put(give_back(domain, task, false));
     unlocked(*run, stage)
 }
 
@@ -382,10 +393,17 @@ fn state_event(domain: &Domain, task: &mut Task, run: &mut WaitRun, stage: WaitS
 /// The own entry is queued where it is off, at the tail where the wait is exclusive and else at the front; where it is
 /// queued still, the state is stored. Where no place is left for it the head is given back.
 #[inline(always)]
-fn queue_event(domain: &Domain, task: &mut Task, run: &mut WaitRun) -> WaitTurn
+fn queue_event(
+    domain: &Domain,
+    task: &mut Task,
+    run: &mut WaitRun,
+    passing: &mut Passing,
+) -> WaitTurn
     requires of { task.old.domain ≡ domain.now }
+    requires passes { PassesNone passing.old }
     requires at { IsAt task.old run.old stage.PrepareQueue }
     ensures advances { Advances task.old task.new run.old run.new stage.PrepareQueue result }
+    ensures passes { PassesNone passing.new ⊎ IsStop result }
     ensures falls { falls stage.PrepareQueue result ≡ true }
 {
     let entry = own_entry(domain, task);
@@ -404,7 +422,7 @@ fn queue_event(domain: &Domain, task: &mut Task, run: &mut WaitRun) -> WaitTurn
         Err(worn) => {
             run.place = worn.place;
             own_entry(domain, task);
-            give_back(domain, task, false);
+            passing.put(give_back(domain, task, false));
             WaitTurn::Again(WaitStage::Worn)
         }
     }
@@ -412,11 +430,19 @@ fn queue_event(domain: &Domain, task: &mut Task, run: &mut WaitRun) -> WaitTurn
 
 /// The own entry is taken off where it is queued, and else the head given back.
 #[inline(always)]
-fn pare_event(domain: &Domain, task: &mut Task, run: &mut WaitRun, stage: WaitStage) -> WaitTurn
+fn pare_event(
+    domain: &Domain,
+    task: &mut Task,
+    run: &mut WaitRun,
+    stage: WaitStage,
+    passing: &mut Passing,
+) -> WaitTurn
     requires of { task.old.domain ≡ domain.now }
+    requires passes { PassesNone passing.old }
     requires here { ParesAt stage }
     requires at { IsAt task.old run.old stage }
     ensures advances { Advances task.old task.new run.old run.new stage result }
+    ensures passes { PassesNone passing.new ⊎ IsStop result }
     ensures falls { falls stage result ≡ true }
 {
     let me = task.number();
@@ -426,7 +452,7 @@ fn pare_event(domain: &Domain, task: &mut Task, run: &mut WaitRun, stage: WaitSt
         remove(domain, task, me, 0);
         return pared(*run, stage, entry);
     }
-    give_back(domain, task, false);
+    passing.put(give_back(domain, task, false));
     pared(*run, stage, entry)
 }
 
@@ -462,12 +488,21 @@ fn sleep_event(domain: &Domain, task: &mut Task, run: &mut WaitRun) -> WaitTurn
 
 /// Makes the event of a wait at a stage, or none where another number of the head is served or where the word of an
 /// exchange changed meanwhile. It waits for nobody, and by single tries it needs no runtime value. It answers as
-/// `stretch` does, but at the stages of a hold the head is still held.
+/// `stretch` does, but at the stages of a hold the head is still held. `passing`, in which no lock is left before, has
+/// the one that the turn gave back.
 #[inline(always)]
-pub fn advance(domain: &Domain, task: &mut Task, run: &mut WaitRun, stage: WaitStage) -> WaitTurn
+pub fn advance(
+    domain: &Domain,
+    task: &mut Task,
+    run: &mut WaitRun,
+    stage: WaitStage,
+    passing: &mut Passing,
+) -> WaitTurn
     requires of { task.old.domain ≡ domain.now }
+    requires passes { PassesNone passing.old }
     requires at { IsAt task.old run.old stage }
     ensures advances { Advances task.old task.new run.old run.new stage result }
+    ensures passes { PassesNone passing.new ⊎ IsStop result }
     ensures falls { falls stage result ≡ true }
 {
     match stage {
@@ -486,14 +521,14 @@ pub fn advance(domain: &Domain, task: &mut Task, run: &mut WaitRun, stage: WaitS
         WaitStage::PrepareTurn => lock_event(domain, task, run, stage),
         WaitStage::FinishTurn => lock_event(domain, task, run, stage),
         WaitStage::PrepareLook => look_event(domain, task, run, stage),
-        WaitStage::PrepareQueue => queue_event(domain, task, run),
+        WaitStage::PrepareQueue => queue_event(domain, task, run, passing),
         WaitStage::PrepareState => state_event(domain, task, run, stage),
         WaitStage::FinishState => state_event(domain, task, run, stage),
-        WaitStage::PrepareUnlock => unlock_event(domain, task, run, stage),
-        WaitStage::LeaveUnlock => unlock_event(domain, task, run, stage),
-        WaitStage::FinishUnlock => unlock_event(domain, task, run, stage),
-        WaitStage::LeaveQueue => pare_event(domain, task, run, stage),
-        WaitStage::FinishQueue => pare_event(domain, task, run, stage),
+        WaitStage::PrepareUnlock => unlock_event(domain, task, run, stage, passing),
+        WaitStage::LeaveUnlock => unlock_event(domain, task, run, stage, passing),
+        WaitStage::FinishUnlock => unlock_event(domain, task, run, stage, passing),
+        WaitStage::LeaveQueue => pare_event(domain, task, run, stage, passing),
+        WaitStage::FinishQueue => pare_event(domain, task, run, stage, passing),
         WaitStage::FinishLook => peek_event(domain, task, run, stage),
         WaitStage::Sleep => sleep_event(domain, task, run),
     }

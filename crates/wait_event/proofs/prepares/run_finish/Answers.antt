@@ -8,7 +8,7 @@ use Rattle.wait_event.proofs.Events.Parts.{advances_none, advances_on, again}
 use Rattle.wait_event.proofs.prepares.run_finish.Goals as goal
 
 pub loop-init : goal.loop-init
-loop-init g c = (advances_none c.args.task.now c.args.run.now stage.FinishLock c.requires.at, refl)
+loop-init g c = (advances_none c.args.task.now c.args.run.now stage.FinishLock c.requires.at, refl, c.none-passing.ensures)
 
 pub loop-preserved-in-Again : goal.loop-preserved-in-Again
 loop-preserved-in-Again g c =
@@ -16,6 +16,7 @@ loop-preserved-in-Again g c =
       advances_on c.args.task.now c.loop.task c.advance-turn.new.task c.args.run.now c.loop.run c.advance-turn.new.run
           stage.FinishLock c.loop.at (turn.Again c.in-Again.next) i.0.same i.0.went c.in-Again.ensures.advances,
       again_finish c.loop.at c.in-Again.next c.in-Again.ensures.falls i.1,
+      c.wake.ensures,
     )
 
 pub loop-preserved : goal.loop-preserved
@@ -25,6 +26,7 @@ loop-preserved g c =
           (advances_on c.args.task.now c.loop.task c.advance-turn.new.task c.args.run.now c.loop.run c.advance-turn.new.run
           stage.FinishLock c.loop.at (turn.Locked c.in-Locked.next) i.0.same i.0.went c.in-Locked.ensures.advances),
       locked_finish c.loop.at c.in-Locked.next c.in-Locked.ensures.falls i.1,
+      c.wake.ensures,
     )
 
 pub returns-in-Done : goal.returns-in-Done

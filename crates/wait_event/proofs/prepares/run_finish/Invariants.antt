@@ -1,3 +1,4 @@
+use Rattle.wait_rule.specs.PassedLocks.{PassesNone}
 use Rattle.std.proofs.Common.{◌≡◌, true}
 use Rattle.wait_event.specs.Waits.{Advances, is_finish}
 use Rattle.wait_event.specs.declared.waits.WaitStage.TheVariants as stage
@@ -7,3 +8,4 @@ use Rattle.wait_event.proofs.prepares.run_finish.Given as goal
 abbrev pub invariant-loop : goal.invariant-loop
 invariant-loop g l = Advances l.fn.task l.task l.fn.run l.run stage.FinishLock (turn.Again l.at)
     × (is_finish l.at ≡ true)
+    × PassesNone l.passing

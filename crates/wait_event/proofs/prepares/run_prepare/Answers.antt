@@ -6,7 +6,7 @@ use Rattle.wait_event.proofs.Events.Parts.{advances_none, advances_on, again}
 use Rattle.wait_event.proofs.prepares.run_prepare.Goals as goal
 
 pub loop-init : goal.loop-init
-loop-init g c = (advances_none c.args.task.now c.args.run.now stage.PrepareLock c.requires.at, refl)
+loop-init g c = (advances_none c.args.task.now c.args.run.now stage.PrepareLock c.requires.at, refl, c.none-passing.ensures)
 
 pub returns-then-ends_prepare-clause-advances : goal.returns-then-ends_prepare-clause-advances
 returns-then-ends_prepare-clause-advances g c =
@@ -24,6 +24,7 @@ loop-preserved-in-Again g c =
           stage.PrepareLock c.loop.at (turn.Again c.in-Again.next) i.0.same i.0.went c.in-Again.ensures.advances,
       again_prepare c.loop.at c.in-Again.next c.in-Again.ensures.falls i.1
           (sym c.ends_prepare.ensures ∙ c.if-ends_prepare.false),
+      c.wake.ensures,
     )
 
 pub loop-preserved : goal.loop-preserved
@@ -33,6 +34,7 @@ loop-preserved g c =
           (advances_on c.args.task.now c.loop.task c.advance-turn.new.task c.args.run.now c.loop.run c.advance-turn.new.run
           stage.PrepareLock c.loop.at (turn.Locked c.in-Locked.next) i.0.same i.0.went c.in-Locked.ensures.advances),
       locked_prepare c.loop.at c.in-Locked.next c.in-Locked.ensures.falls i.1,
+      c.wake.ensures,
     )
 
 pub unreachable-requires : goal.unreachable-requires

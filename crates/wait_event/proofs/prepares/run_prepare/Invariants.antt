@@ -1,3 +1,4 @@
+use Rattle.wait_rule.specs.PassedLocks.{PassesNone}
 use Rattle.std.proofs.Common.{◌≡◌, true}
 use Rattle.wait_event.specs.Waits.{Advances, is_prepare}
 use Rattle.wait_event.specs.declared.waits.WaitStage.TheVariants as stage
@@ -7,3 +8,4 @@ use Rattle.wait_event.proofs.prepares.run_prepare.Given as goal
 abbrev pub invariant-loop : goal.invariant-loop
 invariant-loop g l = Advances l.fn.task l.task l.fn.run l.run stage.PrepareLock (turn.Again l.at)
     × (is_prepare l.at ≡ true)
+    × PassesNone l.passing

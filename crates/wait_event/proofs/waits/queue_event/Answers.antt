@@ -65,7 +65,7 @@ returns-in-Err-clause-advances c = worn_advances c.args.task.now c.own_entry-ent
     c.add_by.new.task c.own_entry.new.task c.give_back.new.task c.args.run.now c.requires.at c.own_entry-entry.result
     c.own_entry-entry.ensures (sym c.is_some.ensures ∙ c.if-is_some.false) c.is_first-first.ensures.looks
     c.is_first-first.ensures.held c.in-Err.worn c.wait_form.result c.wait_form.ensures c.in-Err.ensures.worn
-    c.in-Err.ensures.held c.own_entry.result c.own_entry.ensures c.give_back.ensures c.in-Err.ensures.noted
+    c.in-Err.ensures.held c.own_entry.result c.own_entry.ensures c.give_back.ensures.given c.in-Err.ensures.noted
 
 pub add_by-requires-clause-low : goal.add_by-requires-clause-low
 add_by-requires-clause-low c = subst (λ (h : ℕ). h < FIRST_DONE_HEAD)

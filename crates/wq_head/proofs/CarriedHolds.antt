@@ -88,7 +88,7 @@ pub ended_owes : (a : Aim) (old new : Known) → Stays no_entries old new → (t
     → ((c : Watch) (σ : ℕ) → (told_of new).duty.owes c σ ≡ still_owed a (told_of old) c σ) → (x : Excuse)
     → Owes (with_wakes a.watch a.mode x) old → Owes x new
 unfolding with_wakes
-ended_owes a old new stays unmarked owes x o = owes_wakes (with_wakes a.watch a.mode x) x new refl refl refl refl
+ended_owes a old new stays unmarked owes x o = owes_wakes (with_wakes a.watch a.mode x) x new refl refl refl refl refl
     (λ c σ. ap (λ (b : Bool). b && not (is_excused x c σ)) (owes c σ)
     ∙ ended_wakes (x.wakes c σ) (same c a.watch && meets (mask_of a.mode) σ) (not (meets (mask_of mode.Normal) σ))
     ((told_of old).duty.owes c σ) (o.debts.none (wake_of c σ)))

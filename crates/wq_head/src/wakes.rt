@@ -5,7 +5,7 @@ ghost use Rattle.wait_model.specs.Watches.{head_of};
 ghost use Rattle.wait_rule.specs.Known.{Known};
 ghost use Rattle.wait_rule.specs.Says.{IsUp};
 ghost use Rattle.wait_rule.specs.Queues.{IsIdle};
-ghost use Rattle.wait_rule.specs.Stays.{Carries, wake_all_change};
+ghost use Rattle.wait_rule.specs.Stays.{Carries, StaysOwing, wake_all_change};
 ghost use Rattle.wq_head.specs.Roused.{IsRousing, RousesNone, tasks_in};
 ghost use Rattle.wq_head.specs.Walks.{IsFull, MayWake, HasWoken, HasEnded};
 ghost use Rattle.wq_head.specs.Turns.{InWalk, IsAt, IsServed, IsTurnStage, HasTurned, Rests, first_counts};
@@ -117,6 +117,7 @@ pub fn wake<R: Wait>(
     ensures idle { IsIdle task.new }
     ensures up { IsUp task.new }
     ensures carries { Carries (wake_all_change watch mode task.new.at) task.old task.new }
+    ensures owing { StaysOwing task.old task.new }
 {
     let head = head_of(watch);
     let mut list = Members::new();

@@ -11,13 +11,15 @@ use Rattle.wait_model.specs.declared.watches.Watch.TheVariants as watch
 use Rattle.wait_model.specs.Reached.{absent, IsHome}
 use Rattle.wait_model.specs.Tasks.{pending, state_mask, task_of}
 use Rattle.wait_model.specs.Watches.{head_of}
+use Rattle.wait_rule.specs.HandedPermits.{StaysOff}
 use Rattle.wait_rule.specs.HeldValues.{count_in}
 use Rattle.wait_rule.specs.Known.{Known}
 use Rattle.wait_rule.specs.Queues.{IsIdle, IsTold, index}
-use Rattle.wait_rule.specs.Says.{IsUp, history_of, told_of}
-use Rattle.wait_rule.specs.Stays.{Carries}
+use Rattle.wait_rule.specs.Says.{Excuse, IsUp, Owes, history_of, told_of}
+use Rattle.wait_rule.specs.Stays.{Carries, with_left}
 use Rattle.wait_rule.specs.Transitions.{Goes, Program, call_program}
-use Rattle.wait_rule.proofs.KnownLaws.StayingParts.{owes_also, owes_out}
+use Rattle.wait_rule.proofs.KnownLaws.StayingParts.{owes_also, owes_left, owes_off, owes_out}
+use Rattle.wait_rule.proofs.KnownLaws.CalledPermits.{shows_none}
 use Rattle.wait_event.specs.Ends.{IsOut, wait_change}
 use Rattle.wait_event.specs.Waits.{EndsWith, own_of, queues}
 use Rattle.wait_event.proofs.Events.Endings.{none_of}
@@ -72,10 +74,15 @@ module _ (old new : Known) (r q : AwaitRun) (s : AwaitStage) (o : AwaitOutcome)
   ends_out = none_of (await_watch q) ((told_of new).bits.stored (index new.view.number 0)) a.lands.ended.stands.home
 
   -- who began idle goes on as it was
-  pub ends_carried : IsUp old → IsIdle old → (told_of old).hold.head ≡ None
+  pub ends_owed : StaysOff old new → (x : Excuse) → Owes x old → Owes x new
+  ends_owed off x o = owes_off x new (λ none d. off d (o.debts.off none d)) (λ none. shows_none new a.lands.ended.stands.told)
+      (owes_out (own_of old) (with_left x) new
+      (ap (λ (n : ℕ). (told_of new).bits.stored (index n 0)) (sym a.went.keeps.number) ∙ ends_out)
+      (a.went.keeps.owes x (owes_also (own_of old) (with_left x) old (owes_left x old o))))
+
+  pub ends_carried : IsUp old → IsIdle old → (told_of old).hold.head ≡ None → StaysOff old new
       → Carries (wait_change (index old.view.number 0) new.at) old new
-  ends_carried up idle held =
-      let i = index old.view.number 0 in
+  ends_carried up idle held off =
       let keeps = a.went.keeps in
       let stands = a.lands.ended.stands in record {
         domain = keeps.domain;
@@ -92,8 +99,7 @@ module _ (old new : Known) (r q : AwaitRun) (s : AwaitStage) (o : AwaitOutcome)
         out = keeps.out;
         stands = keeps.stands;
         keeps = λ d _. keeps.keeps d;
-        owes = λ x owes. owes_out i x new (ap (λ (n : ℕ). (told_of new).bits.stored (index n 0)) (sym keeps.number)
-            ∙ ends_out) (keeps.owes x (owes_also i x old owes));
+        owes = ends_owed off;
       }
 
 -- what it says at its end

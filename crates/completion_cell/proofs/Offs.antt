@@ -14,14 +14,14 @@ use Rattle.wait_rule.specs.declared.journal.Item.TheVariants as item
 use Rattle.wait_rule.specs.Known.{Known}
 use Rattle.wait_rule.specs.Queues.{MayUnqueue, index, saw}
 use Rattle.wait_rule.specs.Says.{added, history_of, stored_with, told_of}
-use Rattle.wait_rule.specs.Stays.{Carries, only_looks, state_change, take_off_change, with_entry}
+use Rattle.wait_rule.specs.Stays.{Carries, only_looks, state_change, take_off_change, with_entry, with_left}
 use Rattle.wait_rule.specs.Transitions.{OnlyLooks, Program, by_step}
 use Rattle.wait_rule.proofs.KnownLaws.MemberBits.{bit_looks}
 use Rattle.wait_rule.proofs.KnownLaws.TaskHistories.{history_after}
 use Rattle.wait_rule.proofs.KnownLaws.Transitions.{only_none}
 use Rattle.wq_head.specs.Adds.{HasRemoved}
 use Rattle.wq_head.specs.Holds.{IsHolding}
-use Rattle.wait_event.specs.Posts.{HasSeenOwn, Keeps, Post, Stands}
+use Rattle.wait_event.specs.Posts.{HasSeenOwn, Post, Stands}
 use Rattle.wait_event.specs.Waits.{nothing, own_of}
 use Rattle.wait_event.proofs.Events.Pares.{owner_own}
 use Rattle.wait_event.proofs.Events.States.{state_keeps, state_looks, state_stands, state_up}
@@ -37,7 +37,7 @@ use Rattle.wait_event.proofs.Ground.Standing.{
   seen_shows,
   seen_stands,
 }
-use Rattle.completion_cell.specs.Awaits.{Counts, Pares, Part, StandsAt, await_head, await_program, await_watch, post_of}
+use Rattle.completion_cell.specs.Awaits.{CellKeeps, Counts, Pares, Part, StandsAt, await_head, await_program, await_watch, post_of}
 use Rattle.completion_cell.specs.declared.awaits.AwaitRun.{AwaitRun}
 use Rattle.completion_cell.proofs.Ground.{count_after_step, quiet_runs}
 use Rattle.completion_cell.proofs.Parts.{or_none, quiet_went}
@@ -82,9 +82,9 @@ module _ (old mid : Known) (r : AwaitRun) (o : Option Entry) (h : HasSeenOwn old
   seen_history = history_after old mid (step.Saw (own_of old) h.word)
       (h.is ∙ ap (λ (q : Option ℕ). added old (item.Made (saw q (own_of old) h.word))) a.stands.head)
 
-  seen_keeps : Keeps (own_of old) old mid
+  seen_keeps : CellKeeps (own_of old) old mid
   seen_keeps = keeps_of (own_of old) only_looks old mid h.carries (λ c. refl) (λ y away. refl)
-      (λ y. h.carries.owes (with_entry (own_of old) y))
+      (λ y. h.carries.owes (with_entry (own_of old) (with_left y)))
 
   pub pare_may : is_some o ≡ true → (me : ℕ) → me ≡ old.view.number → MayUnqueue mid me 0
   pare_may some me mine = by o refl some

@@ -8,7 +8,7 @@ use Rattle.wait_model.specs.declared.points.Point.{Point}
 use Rattle.wait_rule.specs.Known.{Known}
 use Rattle.wait_rule.specs.Queues.{index}
 use Rattle.wait_rule.specs.Transitions.{Goes, Program, Transition, call_program}
-use Rattle.wait_event.specs.Posts.{Keeps, Runs}
+use Rattle.wait_event.specs.Posts.{Runs}
 use Rattle.wait_event.specs.Waits.{is_queue, queues}
 use Rattle.wait_event.proofs.Ground.Keeping.{keeps_none, keeps_on}
 use Rattle.wait_event.proofs.Ground.Going.{runs_none, runs_on}
@@ -17,7 +17,7 @@ use Rattle.wait_model.specs.Reached.{IsHome}
 use Rattle.wait_rule.specs.Stays.{Carries, unchanged}
 use Rattle.wait_event.specs.Posts.{IsStateFor, Post, Stands}
 use Rattle.wait_event.proofs.Ground.Standing.{still_stands}
-use Rattle.completion_cell.specs.Awaits.{LandsNext, Part, Went, await_program}
+use Rattle.completion_cell.specs.Awaits.{CellKeeps, LandsNext, Part, Went, await_program}
 use Rattle.completion_cell.specs.declared.awaits.AwaitRun.{AwaitRun}
 use Rattle.completion_cell.proofs.Ground.{QuietRuns}
 
@@ -54,7 +54,7 @@ went_on old mid new r q w from by to a b = record {
         (λ i. call_program (a.keeps.number i) 0 (calls.WaitFor (a.cell i) (a.state i))) b.runs.goes;
   });
   keeps = keeps_on (index old.view.number 0) old mid new a.keeps
-      (subst (λ (n : ℕ). Keeps (index n 0) mid new) a.keeps.number b.keeps);
+      (subst (λ (n : ℕ). CellKeeps (index n 0) mid new) a.keeps.number b.keeps);
   queued = b.queued ∙ (ap (λ (c : Bool). c || queues b.runs.transitions) a.queued
       ∙ (or_assoc r.queued (queues a.runs.transitions) (queues b.runs.transitions)
       ∙ ap (λ (c : Bool). r.queued || c) (queues_more a.runs.transitions b.runs.transitions)));
@@ -71,7 +71,7 @@ parts_on old mid new r q w p m n a b = record {
 -- a part in which nothing is queued, and the run stays as it is
 pub quiet_part : (old new : Known) (r : AwaitRun) (p : Point) (n : Next)
     → (runs : Runs (await_program old.view.number r) old new (next.Go p) n) → queues runs.transitions ≡ false
-    → Keeps (index old.view.number 0) old new → LandsNext new r n → Part old new r r p n
+    → CellKeeps (index old.view.number 0) old new → LandsNext new r n → Part old new r r p n
 quiet_part old new r p n runs none keeps lands = record {
   went = record {
     cell = refl;
@@ -96,7 +96,7 @@ still_stands_at old new carries differs p q s head ticket stirs state home =
 
 -- what a quiet run is for a wait
 pub quiet_went : (old new : Known) (r : AwaitRun) (p : Point) (n : Next)
-    → QuietRuns (await_program old.view.number r) old new p n → Keeps (index old.view.number 0) old new
+    → QuietRuns (await_program old.view.number r) old new p n → CellKeeps (index old.view.number 0) old new
     → Went old new r r (next.Go p) n
 quiet_went old new r p n q keeps = record {
   cell = refl;
@@ -109,7 +109,7 @@ quiet_went old new r p n q keeps = record {
 -- the same with other numbers of the run
 pub quiet_as : (old new : Known) (r q : AwaitRun) (p : Point) (n : Next) → q.cell ≡ r.cell → q.state ≡ r.state
     → q.queued ≡ r.queued → QuietRuns (await_program old.view.number r) old new p n
-    → Keeps (index old.view.number 0) old new → Went old new r q (next.Go p) n
+    → CellKeeps (index old.view.number 0) old new → Went old new r q (next.Go p) n
 quiet_as old new r q p n cell state queued runs keeps = record {
   cell = cell;
   state = state;

@@ -1,6 +1,6 @@
 -- The own entry of a wait is queued where it is off, and the state is stored in which the task sleeps.
-use Rattle.std.proofs.Common.{◌∙◌, ap, sym, refl, subst, inr}
-use Rattle.std.specs.Prelude.{ℕ, ◌≡◌, ◌||◌, Bool, true, false, is_some, Option, Some, None, [], ◌∷◌, ◌++◌}
+use Rattle.std.proofs.Common.{◌∙◌, ap, arith, sym, refl, subst, inr}
+use Rattle.std.specs.Prelude.{ℕ, ◌≡◌, ◌≤◌, ◌||◌, Bool, true, false, is_some, Option, Some, None, [], ◌∷◌, ◌++◌}
 use Rattle.wait_model.specs.declared.calls.Answer.TheVariants as answer
 use Rattle.wait_model.specs.declared.calls.Event.TheVariants as event
 use Rattle.wait_model.specs.declared.points.Next.TheVariants as next
@@ -15,6 +15,7 @@ use Rattle.wait_model.specs.Points.{call_head}
 use Rattle.wait_model.specs.Programs.{go}
 use Rattle.wait_model.specs.Reached.{IsHome, absent, waits}
 use Rattle.wait_model.specs.Tasks.{state_mask}
+use Rattle.wait_model.specs.declared.layout.TheConstants.{FIRST_DONE_HEAD}
 use Rattle.wait_model.specs.Watches.{head_of}
 use Rattle.wait_rule.specs.declared.journal.Item.{Item}
 use Rattle.wait_rule.specs.declared.journal.Item.TheVariants as item
@@ -24,19 +25,19 @@ use Rattle.wait_rule.specs.Known.{Known}
 use Rattle.wait_rule.specs.Queues.{IsWholeBook, index, saw}
 use Rattle.wait_rule.specs.Says.{added, stored_with, told_of, unlocked_with}
 use Rattle.wait_rule.specs.Shown.{shown_queue}
-use Rattle.wait_rule.specs.Stays.{Carries, only_looks, queue_change, state_change, with_entry}
+use Rattle.wait_rule.specs.Stays.{Carries, only_looks, queue_cell_change, state_change, with_entry, with_left}
 use Rattle.wait_rule.specs.Transitions.{IsSeenAs, OnlyLooks, Program, by_step, is_worn}
 use Rattle.wait_rule.proofs.KnownLaws.MemberBits.{bit_looks}
 use Rattle.wait_rule.proofs.KnownLaws.Transitions.{only_looked, only_none, only_on}
 use Rattle.wait_rule.proofs.WornHeads.WornNotes.{notes_stay}
 use Rattle.wq_head.specs.declared.adds.Worn.{Worn}
-use Rattle.wq_head.specs.Adds.{HasAdded, IsForTail, IsTailWorn, tail_entry}
+use Rattle.wq_head.specs.Adds.{HasAddedForCell, IsForTail, IsTailWorn, tail_entry}
 use Rattle.wq_head.specs.Holds.{IsHolding}
 use Rattle.wq_head.specs.Looks.{Looks}
 use Rattle.wq_head.proofs.CarriedHolds.{looks_carried, unlock_carried}
 use Rattle.wq_head.proofs.OneMoreLook.{saw_looks, whole_of}
 use Rattle.wait_rule.specs.Queues.{IsTailPlace}
-use Rattle.wait_event.specs.Posts.{HasSeenOwn, Keeps, Post, Stands}
+use Rattle.wait_event.specs.Posts.{HasSeenOwn, Post, Stands}
 use Rattle.wait_event.specs.Waits.{nothing, own_of, with_entry as finds, with_worn}
 use Rattle.wait_event.proofs.Entering.{unlock_looks}
 use Rattle.wait_event.proofs.Events.FormPlaces.{form_is, form_left, form_worn}
@@ -44,7 +45,7 @@ use Rattle.wait_event.proofs.Events.States.{state_keeps, state_looks, state_stan
 use Rattle.wait_event.proofs.Events.Trails.{unlocked_history}
 use Rattle.wait_event.proofs.Events.WornPlaces.{queue_same, whole_seen}
 use Rattle.wait_event.proofs.Ground.Going.{runs_one}
-use Rattle.wait_event.proofs.Ground.Keeping.{keeps_of, keeps_on, keeps_queued}
+use Rattle.wait_event.proofs.Ground.Keeping.{keeps_of, keeps_on, once}
 use Rattle.wait_event.proofs.Ground.Standing.{
   carried_stands,
   finds_own,
@@ -55,7 +56,7 @@ use Rattle.wait_event.proofs.Ground.Standing.{
   seen_stands,
   seen_stored,
 }
-use Rattle.completion_cell.specs.Awaits.{
+use Rattle.completion_cell.specs.Awaits.{CellKeeps, 
   Counts,
   Enters,
   StandsAt,
@@ -101,6 +102,12 @@ note_on mid2 mid3 new w o own2 is noted =
 abbrev pub queued_run : AwaitRun → AwaitRun
 queued_run r = record r { queued = true }
 
+-- an entry that is queued at a completion, of which the task is excused meanwhile
+keeps_left : (old new : Known) → Carries (queue_cell_change (own_of old)) old new → CellKeeps (own_of old) old new
+unfolding with_entry with_left
+keeps_left old new c = keeps_of (own_of old) (queue_cell_change (own_of old)) old new c (λ w. refl) (λ x away. away)
+    (λ x o. once (own_of old) (with_left x) new (c.owes (with_entry (own_of old) (with_left x)) o))
+
 -- the state is stored in which the task sleeps
 state_went : (old new : Known) (r : AwaitRun) (σ : ℕ) → σ ≡ state_mask r.state
     → new ≡ added old (item.Made (step.State σ)) → Carries (state_change σ) old new
@@ -122,9 +129,9 @@ module _ (old mid : Known) (r : AwaitRun) (o : Option Entry) (h : HasSeenOwn old
   here : (e : Entry) → o ≡ Some e → head_of e.watch ≡ await_head r
   here e is = ap head_of (seen_home old mid o h p a.stands e is).0
 
-  own_keeps : Keeps (own_of old) old mid
+  own_keeps : CellKeeps (own_of old) old mid
   own_keeps = keeps_of (own_of old) only_looks old mid h.carries (λ c. refl) (λ y away. refl)
-      (λ y. h.carries.owes (with_entry (own_of old) y))
+      (λ y. h.carries.owes (with_entry (own_of old) (with_left y)))
 
   looks : OnlyLooks old mid
   looks = seen_looks old mid o h (await_head r) a.stands.head
@@ -150,7 +157,7 @@ module _ (old mid : Known) (r : AwaitRun) (o : Option Entry) (h : HasSeenOwn old
             )
             (state_looks mid new σ is carries) refl)
             (keeps_on (own_of old) old mid new own_keeps
-            (subst (λ (n : ℕ). Keeps (index n 0) mid new) h.carries.number (state_keeps mid new σ is carries)));
+            (subst (λ (n : ℕ). CellKeeps (index n 0) mid new) h.carries.number (state_keeps mid new σ is carries)));
         lands = record {
           there = a.there;
           up = state_up mid new σ is carries (h.carries.awake ∙ a.up);
@@ -171,6 +178,10 @@ module _ (old mid : Known) (r : AwaitRun) (o : Option Entry) (h : HasSeenOwn old
   pub mid_at : await_head r ≡ mid.at
   mid_at = sym (h.carries.at ∙ a.stands.at (await_head r) refl)
 
+  pub mid_done : FIRST_DONE_HEAD ≤ mid.at
+  unfolding head_of
+  mid_done = let here = mid_at in omega (arith, here)
+
   pub mid_out : is_some o ≡ false → (told_of mid).bits.stored (index mid.view.number 0) ≡ None
   mid_out none = by o refl none
     where
@@ -187,7 +198,7 @@ module _ (old mid : Known) (r : AwaitRun) (o : Option Entry) (h : HasSeenOwn old
     stands_mid = seen_stands old mid o h p absent a.stands (subst (IsHome absent (await_watch r)) (sym gone) tt)
 
     -- it is queued
-    module _ (by : Known) (x : HasAdded IsTailPlace mid by 0 (tail_entry false (await_watch r) kind.Simple))
+    module _ (by : Known) (x : HasAddedForCell mid by 0 (tail_entry false (await_watch r) kind.Simple))
         (holds : IsHolding by) where
       i : ℕ
       i = own_of old
@@ -224,12 +235,12 @@ module _ (old mid : Known) (r : AwaitRun) (o : Option Entry) (h : HasSeenOwn old
             (sym (x.is ∙ ap (λ (n : ℕ). stored_with x.seen (step.Queue n e)) same_index))
             (bit_looks x.seen (step.Queue (own_of old) e)));
         keeps = keeps_on (own_of old) old mid by own_keeps
-            (subst (λ (n : ℕ). Keeps n mid by) same_index (keeps_queued (index mid.view.number 0) mid by x.carries));
+            (subst (λ (n : ℕ). CellKeeps n mid by) same_index (keeps_left mid by x.carries));
         queued = sym (or_yes r.queued);
       }
 
       joined : Stands by (post_of r (at.Prepare preparing.State))
-      joined = carried_stands (queue_change (index mid.view.number 0)) mid by (record p { zone = absent })
+      joined = carried_stands (queue_cell_change (index mid.view.number 0)) mid by (record p { zone = absent })
           (post_of r (at.Prepare preparing.State)) x.carries stands_mid (λ j at. holds.agreed) refl stands_mid.at refl
           stands_mid.state
           (subst (IsHome waits (await_watch r)) (sym x.queued) (refl, refl))
@@ -296,13 +307,13 @@ module _ (old mid : Known) (r : AwaitRun) (o : Option Entry) (h : HasSeenOwn old
                 ) (unlock_looks mid3 new is) refl)
                 (keeps_on i old mid3 new
                 (keeps_on i old mid2 mid3 (keeps_on i old mid mid2 own_keeps
-                (subst (λ (n : ℕ). Keeps (index n 0) mid mid2) h.carries.number
+                (subst (λ (n : ℕ). CellKeeps (index n 0) mid mid2) h.carries.number
                 (keeps_of (own_of mid) only_looks mid mid2 carried (λ c. refl) (λ y away. refl)
-                (λ y. carried.owes (with_entry (own_of mid) y)))))
-                (subst (λ (n : ℕ). Keeps (index n 0) mid2 mid3) n2
+                (λ y. carried.owes (with_entry (own_of mid) (with_left y))))))
+                (subst (λ (n : ℕ). CellKeeps (index n 0) mid2 mid3) n2
                 (keeps_of (own_of mid2) only_looks mid2 mid3 again.carries (λ c. refl) (λ y away. refl)
-                (λ y. again.carries.owes (with_entry (own_of mid2) y)))))
-                (subst (λ (n : ℕ). Keeps (index n 0) mid3 new) number3 (back_keeps mid3 new is)));
+                (λ y. again.carries.owes (with_entry (own_of mid2) (with_left y))))))
+                (subst (λ (n : ℕ). CellKeeps (index n 0) mid3 new) number3 (back_keeps mid3 new is)));
             lands = record {
               there = a.there;
               up = (unlock_carried mid3 new false is).awake
@@ -326,12 +337,12 @@ off_is (Some e) none = absurd (cc)
 
 pub join_advances : (old mid : Known) (r : AwaitRun) (o : Option Entry) (h : HasSeenOwn old mid o)
     → StandsAt old r (post_of r (at.Prepare preparing.Queue)) → is_some o ≡ false → (by : Known) (c : Watch)
-    → c ≡ await_watch r → HasAdded IsTailPlace mid by 0 (tail_entry false c kind.Simple) → IsHolding by → (new : Known)
+    → c ≡ await_watch r → HasAddedForCell mid by 0 (tail_entry false c kind.Simple) → IsHolding by → (new : Known)
     (σ : ℕ) → σ ≡ state_mask r.state → new ≡ added by (item.Made (step.State σ)) → Carries (state_change σ) by new
     → Enters old new r (queued_run r) true
 join_advances old mid r o h a none by c same x holds new σ state is carries =
     join_enters old mid r o h a (off_is o none) by
-    (subst (λ (w : Watch). HasAdded IsTailPlace mid by 0 (tail_entry false w kind.Simple)) same x) holds new σ state is
+    (subst (λ (w : Watch). HasAddedForCell mid by 0 (tail_entry false w kind.Simple)) same x) holds new σ state is
     carries
 
 pub worn_advances : (old mid : Known) (r : AwaitRun) (o : Option Entry) (h : HasSeenOwn old mid o)

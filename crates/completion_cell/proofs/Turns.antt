@@ -22,12 +22,12 @@ use Rattle.wait_rule.proofs.KnownLaws.AfterSteps.{told_added}
 use Rattle.wait_rule.proofs.KnownLaws.SettledTasks.{owes_after}
 use Rattle.wait_rule.proofs.KnownLaws.Transitions.{only_none}
 use Rattle.wait_rule.proofs.KnownLaws.Turns.{finds_turn, other_number}
-use Rattle.wait_event.specs.Posts.{Keeps, Post, Stands}
+use Rattle.wait_event.specs.Posts.{Post, Stands}
 use Rattle.wait_event.specs.Waits.{nothing, own_of}
 use Rattle.wait_event.proofs.Ground.Going.{runs_looks}
 use Rattle.wait_event.proofs.Ground.Keeping.{keeps_on, keeps_same, keeps_told, placed_owing}
 use Rattle.wait_event.proofs.Ground.Standing.{draw_stands, lock_stands, serving_stands}
-use Rattle.completion_cell.specs.Awaits.{
+use Rattle.completion_cell.specs.Awaits.{CellKeeps, 
   Draws,
   Part,
   StandsAt,
@@ -82,7 +82,7 @@ module _ (old : Known) (r : AwaitRun) (w : ℕ) (waited : Bool) (a : StandsAt ol
   abbrev q : AwaitRun
   q = record r { served = w }
 
-  served_keeps : Keeps (own_of old) old served
+  served_keeps : CellKeeps (own_of old) old served
   served_keeps = keeps_same (own_of old) old served refl refl (told_added old (item.Serving h w))
       (added_debts old served (item.Serving h w) refl refl)
 
@@ -118,7 +118,7 @@ module _ (old : Known) (r : AwaitRun) (w : ℕ) (waited : Bool) (a : StandsAt ol
     locked_told : told_of locked ≡ after e (told_of served)
     locked_told = told_added served (item.Made e)
 
-    locked_keeps : Keeps (own_of old) old locked
+    locked_keeps : CellKeeps (own_of old) old locked
     locked_keeps = keeps_on (own_of old) old served locked served_keeps
         (keeps_told (own_of old) served locked refl refl (ap (λ (v : Told). v.mark) locked_told)
         (ap (λ (v : Told). v.duty.owes) locked_told) (ap (λ (v : Told). v.bits.stored) locked_told)

@@ -48,7 +48,7 @@ use Rattle.wait_rule.specs.Stays.{Carries, state_change}
 use Rattle.wait_rule.proofs.KnownLaws.HandedPermits.{cell_is}
 use Rattle.wait_rule.proofs.KnownLaws.HeldCounts.{value_snoc}
 use Rattle.wait_rule.proofs.KnownLaws.TaskHistories.{history_after}
-use Rattle.wq_head.specs.Adds.{HasAdded, IsTailWorn, tail_entry}
+use Rattle.wq_head.specs.Adds.{HasAddedForCell, IsTailWorn, tail_entry}
 use Rattle.wq_head.specs.Holds.{IsHolding}
 use Rattle.wq_head.specs.declared.adds.Worn.{Worn}
 use Rattle.wait_event.specs.Posts.{HasSeenOwn}
@@ -170,13 +170,13 @@ own_held d old new f h i held o k = held_by d old new (step.Saw (own_of old) h.w
     (own_history old new f h i held) h.carries.number (tt, (refl, refl))
 
 -- the own entry is queued, in a hold that knows the count to be 0
-pub added_held : (d : ℕ) (IsPlace : Known → ℕ → Type 0) (old new : Known) (entry : ℕ → Entry)
-    → HasAdded IsPlace old new 0 entry → Held d old new (Some 0) 0 (Some 0) 0
-added_held d IsPlace old new entry x = held_join d old x.seen new (Some 0) (Some 0) 0 0
+pub added_held : (d : ℕ) (old new : Known) (entry : ℕ → Entry)
+    → HasAddedForCell old new 0 entry → Held d old new (Some 0) 0 (Some 0) 0
+added_held d old new entry x = held_join d old x.seen new (Some 0) (Some 0) 0 0
     (held_looks d old x.seen (Some 0) 0 x.looks) (Some 0) 0
     (held_by d x.seen new (step.Queue (index old.view.number 0) (entry x.place) ∷ []) (Some 0) (Some 0) 0 0
     (stored_history x.seen new (step.Queue (index old.view.number 0) (entry x.place)) x.is)
-    (x.stays.number ∙ sym x.looks.stays.number)
+    (x.carries.number ∙ sym x.looks.stays.number)
     ((mine, refl), (refl, refl)))
   where
     mine : index old.view.number 0 ≡ own x.seen.view.number
@@ -284,13 +284,13 @@ module _ (old mid new : Known) (r : AwaitRun) (f : Option Entry) (h : HasSeenOwn
 
 pub join_deals : (old mid by new : Known) (r : AwaitRun) (f : Option Entry) (h : HasSeenOwn old mid f)
     → StandsAt old r (post_of r (at.Prepare preparing.Queue)) → (c : Watch)
-    → HasAdded IsTailPlace mid by 0 (tail_entry false c kind.Simple) → (σ : ℕ)
+    → HasAddedForCell mid by 0 (tail_entry false c kind.Simple) → (σ : ℕ)
     → new ≡ added by (item.Made (step.State σ)) → Carries (state_change σ) by new
     → Held r.cell old new (Some 0) 0 (Some 0) 0
 join_deals old mid by new r f h a c x σ is carries = held_join r.cell old mid new (Some 0) (Some 0) 0 0
     (looked old mid r f h a) (Some 0) 0
     (held_join r.cell mid by new (Some 0) (Some 0) 0 0
-    (added_held r.cell IsTailPlace mid by (tail_entry false c kind.Simple) x) (Some 0) 0
+    (added_held r.cell mid by (tail_entry false c kind.Simple) x) (Some 0) 0
     (prepares old mid r f h a by new σ is carries))
 
 module _ (old mid by last : Known) (r : AwaitRun) (f : Option Entry) (h : HasSeenOwn old mid f)

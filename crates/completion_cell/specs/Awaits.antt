@@ -45,9 +45,10 @@ use Rattle.wait_rule.specs.Ends.{WasWorn}
 use Rattle.wait_rule.specs.HeldValues.{count_in}
 use Rattle.wait_rule.specs.Known.{Known}
 use Rattle.wait_rule.specs.Says.{IsUp, IsDown, history_of, told_of}
+use Rattle.wait_rule.specs.Stays.{with_left}
 use Rattle.wait_rule.specs.Tickets.{no_ticket}
 use Rattle.wait_rule.specs.Transitions.{Program, call_program}
-use Rattle.wait_event.specs.Posts.{Post, Stands, Keeps, Runs, post_at}
+use Rattle.wait_event.specs.Posts.{KeepsBut, Post, Stands, Runs, post_at}
 use Rattle.wait_event.specs.Waits.{EndsWith, own_of, queues}
 use Rattle.completion_cell.specs.declared.awaits.AwaitRun.{AwaitRun}
 use Rattle.completion_cell.specs.declared.awaits.AwaitStage.{AwaitStage}
@@ -173,12 +174,16 @@ next_in (turn.Asleep s) = next.Go (point_of s)
 next_in (turn.Locked s) = next.Go (point_of s)
 next_in (turn.Done o) = next.Ends (answer_in o)
 
+-- what stays of the task meanwhile, but that it may leave its entry at the completion
+abbrev pub CellKeeps : ℕ → Known → Known → Type 0
+CellKeeps i old new = KeepsBut with_left i old new
+
 -- The wait went on from one place to another. It is the same call, and the run tells whether it has queued its entry.
 pub record Went (old new : Known) (r q : AwaitRun) (from to : Next) : Type 0 where
   pub cell : q.cell ≡ r.cell
   pub state : q.state ≡ r.state
   pub runs : Runs (await_program old.view.number r) old new from to
-  pub keeps : Keeps (own_of old) old new
+  pub keeps : CellKeeps (own_of old) old new
   pub queued : q.queued ≡ (r.queued || queues runs.transitions)
 
 -- and where it stands then

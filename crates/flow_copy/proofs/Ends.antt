@@ -79,7 +79,7 @@ covered true true y more is = ap not (more refl)
 covered true false true more is = refl
 covered true false false more is = is
 
-module _ (x y : Excuse) (k : Known) (wakes : y.wakes ≡ x.wakes) (asks : y.asks ≡ x.asks)
+module _ (x y : Excuse) (k : Known) (wakes : y.wakes ≡ x.wakes) (asks : y.asks ≡ x.asks) (left : y.left ≡ x.left)
     (more : (j : ℕ) → x.ends j ≡ true → y.ends j ≡ true) where
   ends_none : Debts x k → (d : Duty) → (has_duty k d && not (excuses y d)) ≡ false
   ends_none d (wake_of c σ) = ap (λ (f : Watch → ℕ → Bool). (told_of k).duty.owes c σ
@@ -90,7 +90,11 @@ module _ (x y : Excuse) (k : Known) (wakes : y.wakes ≡ x.wakes) (asks : y.asks
   pub owes_ends : y.entries ≡ x.entries → y.bits ≡ x.bits → Owes x k → Owes y k
   owes_ends entries bits o = record {
     unmarked = o.unmarked;
-    debts = record { none = ends_none o.debts };
+    debts = record {
+      none = ends_none o.debts;
+      off = λ none. o.debts.off (sym left ∙ none);
+      shows = λ none. o.debts.shows (sym left ∙ none);
+    };
     unqueued = λ i. subst (λ (f : ℕ → Bool). IsOutBut (f i) ((told_of k).bits.stored i)) (sym entries) (o.unqueued i);
     holds = λ c. ap (λ (f : Watch → Bool). not (f c) && (told_of k).bits.keeps c) bits ∙ o.holds c;
     tries = o.tries;
@@ -98,15 +102,15 @@ module _ (x y : Excuse) (k : Known) (wakes : y.wakes ≡ x.wakes) (asks : y.asks
   }
 
 pub owes_work : (k : Known) → OwesNothing k → Owes but_ends k
-owes_work k o = owes_ends no_excuse but_ends k refl refl (λ j is. refl) refl refl o
+owes_work k o = owes_ends no_excuse but_ends k refl refl refl (λ j is. refl) refl refl o
 
 owes_opened : (e : ℕ) (k : Known) → Owes (with_end e but_ends) k → Owes but_ends k
 unfolding with_end
-owes_opened e k o = owes_ends (with_end e but_ends) but_ends k refl refl (λ j is. refl) refl refl o
+owes_opened e k o = owes_ends (with_end e but_ends) but_ends k refl refl refl (λ j is. refl) refl refl o
 
 owes_unopened : (e : ℕ) (k : Known) → Owes but_ends k → Owes (with_end e but_ends) k
 unfolding with_end
-owes_unopened e k o = owes_ends but_ends (with_end e but_ends) k refl refl (λ j is. or_true (j == e)) refl refl o
+owes_unopened e k o = owes_ends but_ends (with_end e but_ends) k refl refl refl (λ j is. or_true (j == e)) refl refl o
 
 or_swapped : (a b c : Bool) → (a || (b || c)) ≡ true → (b || (a || c)) ≡ true
 or_swapped true true c is = refl

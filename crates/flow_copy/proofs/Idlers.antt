@@ -42,7 +42,7 @@ and_false false = refl
 pub but_ends_more : (k : Known) → Owes no_excuse k → Owes but_ends k
 but_ends_more k o = record {
   unmarked = o.unmarked;
-  debts = record { none = by };
+  debts = record { none = by; off = o.debts.off; shows = o.debts.shows };
   unqueued = o.unqueued;
   holds = o.holds;
   tries = o.tries;
@@ -145,7 +145,7 @@ newcomer_idles domain number next spare = record {
     free = record { head = refl; ticket = refl };
     settled = record {
       unmarked = refl;
-      debts = record { none = by };
+      debts = record { none = by; off = λ none d o. refl; shows = λ none d o. refl };
       unqueued = λ i. refl;
       holds = λ c. refl;
       tries = λ c. refl;
@@ -169,7 +169,7 @@ joined_clean domain a b c d = record {
   free = record { head = refl; ticket = refl };
   settled = record {
     unmarked = refl;
-    debts = record { none = by };
+    debts = record { none = by; off = λ none d o. refl; shows = λ none d o. refl };
     unqueued = λ i. refl;
     holds = λ w. refl;
     tries = λ w. refl;

@@ -33,7 +33,7 @@ use Rattle.wait_rule.specs.Says.{
 }
 use Rattle.wait_rule.specs.Stays.{Carries, with_bits, with_entry, with_page}
 use Rattle.wait_rule.proofs.KnownLaws.AfterSteps.{told_added}
-use Rattle.wait_rule.proofs.KnownLaws.Debts.{end_added, entries_debts}
+use Rattle.wait_rule.proofs.KnownLaws.Debts.{LeavesNone, end_added, entries_debts, leaves_added, leaves_of}
 use Rattle.wait_rule.proofs.KnownLaws.StayingParts.{owes_also, owes_out}
 use Rattle.wq_head.specs.Adds.{page_change}
 use Rattle.wait_event.specs.Posts.{Keeps}
@@ -92,7 +92,7 @@ owes_once : (i : ℕ) (c : Watch) (g : Bool) (x : Excuse) (k : Known)
 unfolding with_page with_entry with_bits
 owes_once i c g x k o = record {
   unmarked = o.unmarked;
-  debts = entries_debts (with_page (with_entry i (amid i c g x))) (amid i c g x) k refl refl refl o.debts;
+  debts = entries_debts (with_page (with_entry i (amid i c g x))) (amid i c g x) k refl refl refl refl o.debts;
   unqueued = λ y. twice (y == i) (x.entries y) ((told_of k).bits.stored y) (o.unqueued y);
   holds = o.holds;
   tries = o.tries;
@@ -151,8 +151,12 @@ module _ (i x p : ℕ) (old new : Known) (is : new ≡ added old (item.Made (ste
 
   note_debts : (f : Excuse) → Debts (amid i (page p) false f) old → Debts (amid i (page p) true f) new
   unfolding with_page with_entry with_bits
-  note_debts f d = record { none = by }
+  note_debts f d = record { none = by; off = λ none. (leaves none).off; shows = λ none. (leaves none).shows }
     where
+      leaves : f.left ≡ false → LeavesNone new
+      leaves none = leaves_added old new (item.Made (step.Unflag x (Some p))) (tt, tt) is
+          (leaves_of (amid i (page p) false f) old d none)
+
       none_and : (b : Bool) → (b && false) ≡ false
       none_and true = refl
       none_and false = refl
@@ -195,7 +199,7 @@ pub amid_from : (i : ℕ) (c : Watch) (x : Excuse) (k : Known) → Owes x k → 
 unfolding with_page with_entry with_bits
 amid_from i c x k o = owes_also i (with_page (with_bits (taken_bits c false) x)) k (record {
   unmarked = o.unmarked;
-  debts = record { none = by };
+  debts = record { none = by; off = o.debts.off; shows = o.debts.shows };
   unqueued = o.unqueued;
   holds = o.holds;
   tries = o.tries;
@@ -217,7 +221,7 @@ unfolding with_page with_bits
 amid_to i c g x k out none o =
     let u = owes_out i (with_page (with_bits (taken_bits c g) x)) k out o in record {
       unmarked = u.unmarked;
-      debts = record { none = by u };
+      debts = record { none = by u; off = u.debts.off; shows = u.debts.shows };
       unqueued = u.unqueued;
       holds = u.holds;
       tries = u.tries;

@@ -39,13 +39,16 @@ use Rattle.wait_model.specs.Watches.{head_of, misses}
 use Rattle.wait_rule.specs.declared.journal.Item.TheVariants as item
 use Rattle.wait_rule.specs.Known.{Known}
 use Rattle.wait_rule.specs.Tickets.{no_ticket}
-use Rattle.wait_rule.specs.Says.{added, told_of}
+use Rattle.wait_rule.specs.Says.{IsFree, IsUp, added, told_of}
 use Rattle.wait_rule.specs.Queues.{IsTold, index}
 use Rattle.wait_rule.specs.Stays.{Carries, state_change}
 use Rattle.wait_rule.specs.Transitions.{Goes, Program, by_step}
+use Rattle.wait_rule.proofs.KnownLaws.StayingParts.{owes_also, owes_out}
 use Rattle.wait_rule.proofs.KnownLaws.Transitions.{only_none}
 use Rattle.wait_event.specs.Posts.{HasSeenOwn, Keeps, Post, Runs, Stands}
 use Rattle.wait_event.specs.Prepares.{
+  BeginsOwing,
+  CarriesPrepare,
   EndsExclusive,
   EndsPrepare,
   HasFinished,
@@ -58,8 +61,11 @@ use Rattle.wait_event.specs.Prepares.{
   any_how,
   cond_in,
   exclusive_in,
+  finish_change,
   first_in,
+  prepare_change,
   prepared_in,
+  with_first,
 }
 use Rattle.wait_event.specs.Waits.{
   Advances,
@@ -232,6 +238,69 @@ pub exclusive_may : (old new : Known) (w : Watch) (σ : SleepState) (r : Result 
     → EndsExclusive old new w σ r → MayFinish new
 exclusive_may old new w σ (Ok b) full e = prepared_may old new (cond_in w) (exclusive_in σ) false at.Test full.1 e.0
 exclusive_may old new w σ (Err x) full e = prepared_may old new (cond_in w) (exclusive_in σ) false at.Worn full.1 e.0
+
+-- what a task carries on over a prepare and a finish
+module _ (old new : Known) (up : IsUp old) (free : IsFree old) (was : IsTold old) (now : IsTold new)
+    (keeps : Keeps (own_of old) old new) (still : IsUp new) (out : IsFree new) where
+  hold_is : (told_of new).hold.head ≡ (told_of old).hold.head
+  hold_is = now.head ∙ (out.head ∙ sym (was.head ∙ free.head))
+
+  pub queued_carried : (σ : ℕ) → new.book.state ≡ σ → Carries (prepare_change (own_of old) σ new.at) old new
+  queued_carried σ state = record {
+    domain = keeps.domain;
+    number = keeps.number;
+    awake = still ∙ sym up;
+    state = state;
+    head = out.head ∙ sym free.head;
+    ticket = out.ticket ∙ sym free.ticket;
+    hold = hold_is;
+    at = refl;
+    mark = keeps.mark;
+    fewer = λ w σ none is. keeps.fewer w σ is;
+    stored = λ x none away. absurd (cc);
+    out = keeps.out;
+    stands = keeps.stands;
+    keeps = λ d _. keeps.keeps d;
+    owes = keeps.owes;
+  }
+
+  pub left_carried : IsLeft new → Carries (finish_change (own_of old) new.at) old new
+  left_carried left = record {
+    domain = keeps.domain;
+    number = keeps.number;
+    awake = still ∙ sym up;
+    state = left.running;
+    head = out.head ∙ sym free.head;
+    ticket = out.ticket ∙ sym free.ticket;
+    hold = hold_is;
+    at = refl;
+    mark = keeps.mark;
+    fewer = λ w σ none is. keeps.fewer w σ is;
+    stored = λ x none away. absurd (cc);
+    out = keeps.out;
+    stands = keeps.stands;
+    keeps = λ d _. keeps.keeps d;
+    owes = λ x o. owes_out (own_of old) x new
+        (ap (λ (n : ℕ). (told_of new).bits.stored (index n 0)) (sym keeps.number) ∙ left.out) (keeps.owes x o);
+  }
+
+pub begins_owing : (old new : Known) → Keeps (own_of old) old new → BeginsOwing old new
+begins_owing old new keeps x o = keeps.owes x (owes_also (own_of old) x old o)
+
+module _ (old new : Known) (w : Watch) (may : MayPrepare old w) (was : IsTold old) (now : IsTold new) where
+  pub ends_carried : (how : How) (asks : Bool) (r : Result Prepared Worn) → EndsPrepare old new w how asks r
+      → CarriesPrepare old new how.state r
+  ends_carried how asks (Ok prepared.Queued) e = queued_carried old new may.up may.free was now e.0.keeps e.0.up e.0.free
+      (state_mask how.state) e.1.state
+  ends_carried how asks (Ok prepared.Signal) e = left_carried old new may.up may.free was now e.0.keeps e.0.up e.0.free
+      e.2
+  ends_carried how asks (Err x) e = left_carried old new may.up may.free was now e.0.keeps e.0.up e.0.free e.1
+
+  pub exclusive_carried : (σ : SleepState) (r : Result Bool Worn) → EndsExclusive old new w σ r
+      → CarriesPrepare old new σ (with_first r)
+  exclusive_carried σ (Ok b) e = queued_carried old new may.up may.free was now e.0.keeps e.0.up e.0.free (state_mask σ)
+      e.1.state
+  exclusive_carried σ (Err x) e = left_carried old new may.up may.free was now e.0.keeps e.0.up e.0.free e.1
 
 -- and its bookmark stays
 pub ends_mark : (old new : Known) (w : Watch) (how : How) (asks : Bool) (r : Result Prepared Worn)

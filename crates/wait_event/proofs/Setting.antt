@@ -59,7 +59,7 @@ wider false s m is = absurd (cc)
 
 owes_wider : (c : Watch) (m : Mode) (x : Excuse) (k : Known) → Owes x k → Owes (with_wakes c m x) k
 unfolding with_wakes
-owes_wider c m x k o = owes_more x (with_wakes c m x) k refl refl refl refl
+owes_wider c m x k o = owes_more x (with_wakes c m x) k refl refl refl refl refl
     (λ d σ. wider (x.wakes d σ) (same d c) (meets (mask_of m) σ)) o
 
 set_owes : (c : Watch) (m : Mode) (old mid new : Known) → Carries (publish_change c) old mid

@@ -83,7 +83,8 @@ post_at out call p = record {
 
 -- What stays of a task over a part of a call that has the entry of this index: the task, its bookmark, what it owes but
 -- for this entry, the other entries, and the bits that it keeps.
-pub record Keeps (i : ℕ) (old new : Known) : Type 0 where
+-- In between it may be excused of more.
+pub record KeepsBut (meanwhile : Excuse → Excuse) (i : ℕ) (old new : Known) : Type 0 where
   pub domain : new.domain ≡ old.domain
   pub number : new.view.number ≡ old.view.number
   pub mark : (told_of new).mark ≡ (told_of old).mark
@@ -93,7 +94,10 @@ pub record Keeps (i : ℕ) (old new : Known) : Type 0 where
       → (told_of old).bits.stored (index old.view.number slot) ≡ Some e → IsOwnKind e.kind
       → (told_of new).bits.stored (index old.view.number slot) ≡ Some e
   pub keeps : (d : Watch) → (told_of new).bits.keeps d ≡ (told_of old).bits.keeps d
-  pub owes : (x : Excuse) → Owes (with_entry i x) old → Owes (with_entry i x) new
+  pub owes : (x : Excuse) → Owes (with_entry i (meanwhile x)) old → Owes (with_entry i (meanwhile x)) new
+
+abbrev pub Keeps : ℕ → Known → Known → Type 0
+Keeps i old new = KeepsBut (λ x. x) i old new
 
 -- the task went through a program from one point to another
 pub record Runs (f : Program) (old new : Known) (from to : Next) : Type 0 where

@@ -22,8 +22,9 @@ use Rattle.wait_model.specs.Tasks.{pending, state_mask, task_of}
 use Rattle.wait_model.specs.Watches.{head_of}
 use Rattle.wait_rule.specs.Ends.{WasWorn}
 use Rattle.wait_rule.specs.Known.{Known}
-use Rattle.wait_rule.specs.Says.{IsUp, IsFree, told_of}
+use Rattle.wait_rule.specs.Says.{Excuse, IsFree, IsUp, Owes, told_of}
 use Rattle.wait_rule.specs.Queues.{index}
+use Rattle.wait_rule.specs.Stays.{Carries, Change, only, unchanged, with_entry}
 use Rattle.wq_head.specs.declared.adds.Worn.{Worn}
 use Rattle.wait_event.specs.Posts.{Keeps, Runs}
 use Rattle.wait_event.specs.Ends.{IsOut}
@@ -109,6 +110,10 @@ abbrev pub with_signal : Result (Unit {0}) Worn → Result Prepared Worn
 with_signal (Ok u) = Ok prepared.Queued
 with_signal (Err e) = Err e
 
+abbrev pub with_first : Result Bool Worn → Result Prepared Worn
+with_first (Ok first) = Ok prepared.Queued
+with_first (Err e) = Err e
+
 -- The task is awake and holds no lock, and its entry of slot 0 is off, or one of a plain condition with a full head
 -- that a wake takes off. Its state is any.
 pub record MayFinish (k : Known) : Type 0 where
@@ -138,3 +143,32 @@ pub record HasFinished (old new : Known) : Type 0 where
   pub up : IsUp new
   pub free : IsFree new
   pub left : IsLeft new
+
+-- What a prepare changes that queued the entry, or found it queued, and stored the state; and what one changes that
+-- gave the entry up, as a finish does: the task is RUNNING then, and owes the entry no more.
+abbrev pub prepare_change : ℕ → ℕ → ℕ → Change
+prepare_change i σ h = record unchanged {
+  from = with_entry i;
+  to = with_entry i;
+  but = only i;
+  looks = true;
+  state = λ _. σ;
+  at = λ _. h;
+}
+
+abbrev pub finish_change : ℕ → ℕ → Change
+finish_change i h = record unchanged {
+  from = with_entry i;
+  but = only i;
+  looks = true;
+  state = λ _. 0;
+  at = λ _. h;
+}
+
+abbrev pub CarriesPrepare : Known → Known → SleepState → Result Prepared Worn → Type 0
+CarriesPrepare old new σ (Ok prepared.Queued) = Carries (prepare_change (own_of old) (state_mask σ) new.at) old new
+CarriesPrepare old new σ _ = Carries (finish_change (own_of old) new.at) old new
+
+-- Of a task that had no entry queued: it owes the entry then.
+abbrev pub BeginsOwing : Known → Known → Type 0
+BeginsOwing old new = (x : Excuse) → Owes x old → Owes (with_entry (own_of old) x) new

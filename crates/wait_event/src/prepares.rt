@@ -5,8 +5,11 @@ ghost use Rattle.wait_event.specs.declared.waits.WaitOutcome.TheVariants as outc
 ghost use Rattle.wait_event.specs.declared.waits.WaitStage.TheVariants as stage;
 ghost use Rattle.wait_event.specs.declared.waits.WaitTurn.TheVariants as turn;
 ghost use Rattle.wait_event.specs.Prepares.{EndsPrepare, HasFinished, IsFullWatch, IsPlainWait, MayFinish, MayPrepare};
-ghost use Rattle.wait_event.specs.Prepares.{EndsExclusive, IsFinishing, first_in, prepared_in, with_signal};
-ghost use Rattle.wait_event.specs.Waits.{Advances, IsAt, is_prepared};
+ghost use Rattle.wait_event.specs.Prepares.{EndsExclusive, IsFinishing, first_in, prepared_in, with_first, with_signal};
+ghost use Rattle.wait_event.specs.Prepares.{BeginsOwing, CarriesPrepare, finish_change};
+ghost use Rattle.wait_event.specs.Waits.{Advances, IsAt, is_prepared, own_of};
+ghost use Rattle.wait_rule.specs.Queues.{IsTold};
+ghost use Rattle.wait_rule.specs.Stays.{Carries};
 
 use crate::queueing::own_entry;
 use crate::wait_calls::pause;
@@ -159,10 +162,13 @@ fn prepare<R: Wait>(
     requires full { IsFullWatch watch }
     ensures ends { EndsPrepare task.old task.new watch how asks result }
     ensures may { MayFinish task.new }
+    ensures begins { BeginsOwing task.old task.new }
+    ensures carries { CarriesPrepare task.old task.new how.state result }
 {
     task.told();
     let mut run = WaitRun::new(watch, how, asks);
     let stage = run_prepare(rt, domain, task, &mut run);
+    task.told();
     answer_at(run, stage)
 }
 
@@ -185,6 +191,8 @@ pub fn prepare_event<R: Wait>(
     requires plain { IsPlainWait watch kind }
     ensures ends { EndsPrepare task.old task.new watch how true result }
     ensures may { MayFinish task.new }
+    ensures begins { BeginsOwing task.old task.new }
+    ensures carries { CarriesPrepare task.old task.new how.state result }
 {
     let _ = kind;
     prepare(rt, domain, task, watch, how, true)
@@ -206,6 +214,8 @@ pub fn prepare_to_wait<R: Wait>(
     ensures ends { EndsPrepare task.old task.new watch (record { state = state; exclusive = false }) false
         (with_signal result) }
     ensures may { MayFinish task.new }
+    ensures begins { BeginsOwing task.old task.new }
+    ensures carries { CarriesPrepare task.old task.new state (with_signal result) }
 {
     let _ = kind;
     let how = How {
@@ -235,6 +245,8 @@ pub fn prepare_exclusive<R: Wait>(
     requires plain { IsPlainWait watch kind }
     ensures ends { EndsExclusive task.old task.new watch state result }
     ensures may { MayFinish task.new }
+    ensures begins { BeginsOwing task.old task.new }
+    ensures carries { CarriesPrepare task.old task.new state (with_first result) }
 {
     let _ = kind;
     task.told();
@@ -244,6 +256,7 @@ pub fn prepare_exclusive<R: Wait>(
     };
     let mut run = WaitRun::new(watch, how, false);
     let stage = run_prepare(rt, domain, task, &mut run);
+    task.told();
     first_at(run, stage)
 }
 
@@ -253,9 +266,21 @@ pub fn prepare_exclusive<R: Wait>(
 pub fn finish_wait<R: Wait>(rt: &R, domain: &Domain, task: &mut Task)
     requires of { task.old.domain ≡ domain.now }
     requires may { MayFinish task.old }
-    ensures { HasFinished task.old task.new }
+    ensures finished { HasFinished task.old task.new }
+    ensures carries { Carries (finish_change (own_of task.old) task.new.at) task.old task.new }
 {
     task.told();
+    take_off(rt, domain, task);
+    task.told();
+}
+
+/// Stores RUNNING, and takes the entry off if it is queued.
+fn take_off<R: Wait>(rt: &R, domain: &Domain, task: &mut Task)
+    requires of { task.old.domain ≡ domain.now }
+    requires may { MayFinish task.old }
+    requires told { IsTold task.old }
+    ensures { HasFinished task.old task.new }
+{
     set_state(domain, task, RUNNING);
     let entry = own_entry(domain, task);
     match entry {

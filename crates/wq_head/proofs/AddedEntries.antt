@@ -14,6 +14,7 @@ use Rattle.wait_model.specs.declared.layout.TheConstants.{
   FIRST_PLACE,
   FIRST_PRIORITY,
   PRIORITY_TASKS,
+  FIRST_DONE_HEAD,
 }
 use Rattle.wait_model.specs.declared.watches.Watch.{Watch}
 use Rattle.wait_model.specs.declared.watches.Kind.{Kind}
@@ -50,26 +51,29 @@ use Rattle.wait_rule.specs.Queues.{
 use Rattle.wait_rule.specs.Asked.{nothing_asked}
 use Rattle.wait_rule.specs.Pages.{uses_flag}
 use Rattle.wait_rule.specs.Says.{Debts, Excuse, IsOutBut, Owes, TriesNone, added, asks_for, told_of}
-use Rattle.wait_rule.proofs.KnownLaws.Debts.{entries_debts, stored_debts}
+use Rattle.wait_rule.proofs.KnownLaws.Debts.{entries_debts, queued_debts, queues_quiet, stored_debts}
 use Rattle.wait_rule.specs.Stays.{
   Stays,
   only,
   with_entry,
+  with_left,
   Carries,
   only_looks,
+  queue_cell_change,
   queue_change,
   take_off_change,
 }
 use Rattle.wq_head.proofs.AskedHolds.{looks_unasked}
 use Rattle.wq_head.proofs.CarriedHolds.{looks_carried}
 use Rattle.wq_head.proofs.CountedLooks.{counted_add}
-use Rattle.wait_rule.proofs.KnownLaws.StayingParts.{stays_on, stays_but, owes_also, owes_out}
+use Rattle.wait_rule.proofs.KnownLaws.StayingParts.{stays_on, stays_but, owes_also, owes_left, owes_out}
 use Rattle.wq_head.specs.declared.looks.ShownMember.{ShownMember}
 use Rattle.wq_head.specs.Holds.{IsHolding}
 use Rattle.wq_head.specs.Members.{AreStanding}
 use Rattle.wq_head.proofs.FirstAndLast.{below_or}
 use Rattle.wq_head.specs.Looks.{Looks, IsLow, AreLow, AreSeen, IsBetween, IsFirst, IsLast, place_of}
-use Rattle.wq_head.specs.Adds.{IsForPlain, IsFullKind, HasAdded, HasQueued, HasRemoved, tail_entry, priority_entry}
+use Rattle.wq_head.specs.Adds.{IsForPlain, IsFullKind, HasAdded, HasAddedForCell, HasQueued, HasRemoved}
+use Rattle.wq_head.specs.Adds.{tail_entry, priority_entry}
 use Rattle.wq_head.proofs.OneMoreLook.{saw_told, saw_looks, whole_of, looks_on, holding_on}
 use Rattle.wait_rule.specs.Says.{stored_with}
 use Rattle.wait_rule.proofs.KnownLaws.MemberBits.{told_stored}
@@ -454,6 +458,10 @@ module _ (k : Known) (stands : AreStanding k MEMBERS) where
       let here : s.place ≡ p = cc in
       let low = is.0.below in omega (arith, here, low)
 
+not_paged : (b : Bool) → not b ≡ true → b ≡ false
+not_paged false is = refl
+not_paged true is = absurd (cc)
+
 -- an entry that the task stores, and one that it takes off; the other ones stay
 other_is : (x y : ℕ) → (y == x) ≡ false → y ≡ x → ⊥
 other_is x y out same = let here = eq-eqb y x same in absurd (cc)
@@ -470,11 +478,16 @@ module _ (seen new : Known) (x : ℕ) (e : Entry) (is : new ≡ stored_with seen
       ∙ put_at (λ (s : Option Entry). s ≡ (told_of seen).bits.stored y) (told_of seen).bits.stored x (Some e) y
       (λ same. absurd (other_is x y out same)) (λ _. refl)
 
-  queue_debts : TriesNo e → (f : Excuse) → Debts f seen → Debts f new
-  queue_debts shared = stored_debts seen new (step.Queue x e) shared.1 is
+  queue_debts : TriesNo e → head_of e.watch < FIRST_DONE_HEAD → (f : Excuse) → Debts f seen → Debts f new
+  queue_debts shared low = stored_debts seen new (step.Queue x e) (queues_quiet x e shared.1 low) is
 
-  pub queue_stays : TriesNo e → Stays (only x) seen new
-  queue_stays shared = record {
+  queue_none : TriesNo e → TriesNone (told_of seen) → TriesNone (told_of new)
+  queue_none shared none y c = ap (λ (v : Told). is_trying_for (v.bits.stored y) c) queue_told
+      ∙ put_at (λ (s : Option Entry). is_trying_for s c ≡ false) (told_of seen).bits.stored x (Some e) y
+      (λ _. shared.0 c) (λ _. none y c)
+
+  pub queue_stays : TriesNo e → head_of e.watch < FIRST_DONE_HEAD → Stays (only x) seen new
+  queue_stays shared low = record {
     domain = ap (λ (k : Known). k.domain) is;
     number = ap (λ (k : Known). k.view.number) is;
     state = ap (λ (k : Known). k.book.state) is;
@@ -482,30 +495,42 @@ module _ (seen new : Known) (x : ℕ) (e : Entry) (is : new ≡ stored_with seen
     still = λ y out. inl (queue_other y out);
     stands = λ slot few out d at own. queue_other (index seen.view.number slot) out ∙ at;
     keeps = λ c. ap (λ (v : Told). v.bits.keeps c) queue_told;
-    tries_none = λ none y c. ap (λ (v : Told). is_trying_for (v.bits.stored y) c) queue_told
-        ∙ put_at (λ (s : Option Entry). is_trying_for s c ≡ false) (told_of seen).bits.stored x (Some e) y
-        (λ _. shared.0 c) (λ _. none y c);
+    tries_none = queue_none shared;
     tries = λ none c out. ap (λ (v : Told). v.bits.pending c) queue_told ∙ out;
-    debts = queue_debts shared;
+    debts = queue_debts shared low;
   }
 
-  queue_owing : TriesNo e → (f : Excuse) → Owes f seen → Owes (with_entry x f) new
+  -- what it owes then, by the debts
+  queue_owing : TriesNo e → (f : Excuse) → (Debts f seen → Debts (with_entry x f) new) → Owes f seen
+      → Owes (with_entry x f) new
   unfolding with_entry
-  queue_owing shared f o = record {
+  queue_owing shared f debts o = record {
     unmarked = ap (λ (v : Told). v.mark) queue_told ∙ o.unmarked;
-    debts = entries_debts f (with_entry x f) new refl refl refl (queue_debts shared f o.debts);
+    debts = debts o.debts;
     unqueued = λ y. subst (λ (v : Told). IsOutBut ((y == x) || f.entries y) (v.bits.stored y)) (sym queue_told)
         (put_at (λ (s : Option Entry). IsOutBut ((y == x) || f.entries y) s) (told_of seen).bits.stored x
         (Some e) y (λ here. subst (λ (b : Bool). IsOutBut (b || f.entries y) (Some e)) (sym (eq-eqb y x here)) tt)
         (λ _. (owes_also x f seen o).unqueued y));
     holds = λ c. ap (λ (v : Told). not (f.bits c) && v.bits.keeps c) queue_told ∙ o.holds c;
     tries = λ c. ap (λ (v : Told). v.bits.pending c) queue_told ∙ o.tries c;
-    tries_none = (queue_stays shared).tries_none o.tries_none;
+    tries_none = queue_none shared o.tries_none;
   }
 
-  pub queue_carried : (old : Known) → TriesNo e → Carries only_looks old seen
-      → Carries (queue_change x) old new
-  queue_carried old shared l = record {
+  low_owing : TriesNo e → head_of e.watch < FIRST_DONE_HEAD → (f : Excuse) → Owes f seen → Owes (with_entry x f) new
+  unfolding with_entry
+  low_owing shared low f = queue_owing shared f
+      (λ d. entries_debts f (with_entry x f) new refl refl refl refl (queue_debts shared low f d))
+
+  cell_owing : TriesNo e → (f : Excuse) → Owes f seen → Owes (with_left (with_entry x f)) new
+  unfolding with_entry with_left
+  cell_owing shared f o = queue_owing shared (with_left f)
+      (λ d. entries_debts (with_left f) (with_entry x (with_left f)) new refl refl refl refl
+      (queued_debts seen new x e (not_paged (is_page e.kind) shared.1) is f o.debts)) (owes_left f seen o)
+
+  queue_carried : (old : Known) (to : Excuse → Excuse) → Carries only_looks old seen
+      → ((f : Excuse) → Owes f seen → Owes (to f) new)
+      → Carries (record (queue_change x) { to = to }) old new
+  queue_carried old to l owing = record {
     domain = ap (λ (k : Known). k.domain) is ∙ l.domain;
     number = ap (λ (k : Known). k.view.number) is ∙ l.number;
     awake = ap (λ (k : Known). k.book.awake) is ∙ l.awake;
@@ -520,8 +545,15 @@ module _ (seen new : Known) (x : ℕ) (e : Entry) (is : new ≡ stored_with seen
     out = λ y away none. queue_other y away ∙ l.out y refl none;
     stands = λ slot few away d at own. queue_other (index old.view.number slot) away ∙ l.stands slot few refl d at own;
     keeps = λ d _. ap (λ (v : Told). v.bits.keeps d) queue_told ∙ l.keeps d refl;
-    owes = λ f o. queue_owing shared f (l.owes f o);
+    owes = λ f o. owing f (l.owes f o);
   }
+
+  pub low_carried : (old : Known) → TriesNo e → head_of e.watch < FIRST_DONE_HEAD → Carries only_looks old seen
+      → Carries (queue_change x) old new
+  low_carried old shared low l = queue_carried old (with_entry x) l (low_owing shared low)
+
+  pub cell_carried : (old : Known) → TriesNo e → Carries only_looks old seen → Carries (queue_cell_change x) old new
+  cell_carried old shared l = queue_carried old (λ f. with_left (with_entry x f)) l (cell_owing shared)
 
 module _ (old new : Known) (who slot : ℕ) (is : new ≡ stored_with old (step.Unqueue (index who slot))) where
   remove_told : told_of new ≡ after (step.Unqueue (index who slot)) (told_of old)
@@ -615,10 +647,10 @@ module _ (IsPlace : Known → ℕ → Type 0) (old mid new : Known) (slot p : �
   add_is : new ≡ stored_with q.seen (step.Queue x (made p))
   add_is = q.is ∙ (λ i. stored_with q.seen (step.Queue (index ((first.is i).view.number) slot) (is i)))
 
-  pub added_at : AreLow mid MEMBERS → AreSeen mid MEMBERS
+  pub added_at : head_of (made p).watch < FIRST_DONE_HEAD → AreLow mid MEMBERS → AreSeen mid MEMBERS
       → LooksAtMost (MEMBER_WORDS + length (shown_queue mid)) old mid → IsPlace q.seen e.place
       → HasAdded IsPlace old new slot made
-  added_at low seen counts place = record {
+  added_at low_head low seen counts place = record {
     place = p;
     seen = q.seen;
     looks = add_looks;
@@ -630,10 +662,34 @@ module _ (IsPlace : Known → ℕ → Type 0) (old mid new : Known) (slot p : �
     is = add_is;
     queued = queue_memberd q.seen new x (made p) add_is;
     stays = stays_on (only x) old q.seen new (stays_but (only x) old q.seen add_looks.stays)
-        (queue_stays q.seen new x (made p) add_is plain);
+        (queue_stays q.seen new x (made p) add_is plain low_head);
     counts = counted_add old mid q.seen new x (made p) q.looks seen counts q.one add_is;
-    carries = queue_carried q.seen new x (made p) add_is old plain (looks_carried old q.seen add_looks);
+    carries = low_carried q.seen new x (made p) add_is old plain low_head (looks_carried old q.seen add_looks);
   }
+
+-- the whole add of an entry for a completion
+module _ (old mid new : Known) (slot p : ℕ) (made : ℕ → Entry) (at : (made p).place ≡ p) (plain : TriesNo (made p))
+    (e : Entry) (first : Looks old mid) (is : e ≡ made p) (q : HasQueued mid new slot e) where
+  pub added_for_cell : AreLow mid MEMBERS → AreSeen mid MEMBERS
+      → LooksAtMost (MEMBER_WORDS + length (shown_queue mid)) old mid → IsTailPlace q.seen e.place
+      → HasAddedForCell old new slot made
+  added_for_cell low seen counts place =
+      let looks = add_looks IsTailPlace old mid new slot p made at plain e first is q in
+      let now = add_is IsTailPlace old mid new slot p made at plain e first is q in
+      let own = index old.view.number slot in record {
+        place = p;
+        seen = q.seen;
+        looks = looks;
+        whole = q.whole;
+        low = q.low low;
+        is_off = subst (λ (n : ℕ). (told_of q.seen).hold.book (index n slot) ≡ off)
+            (ap (λ (j : Known). j.view.number) first.is) q.is_off;
+        sort = subst (IsTailPlace q.seen) (ap (λ (f : Entry). f.place) is ∙ at) place;
+        is = now;
+        queued = queue_memberd q.seen new own (made p) now;
+        counts = counted_add old mid q.seen new own (made p) q.looks seen counts q.one now;
+        carries = cell_carried q.seen new own (made p) now old plain (looks_carried old q.seen looks);
+      }
 
 queued_holds : (seen new : Known) (x : ℕ) (e : Entry) → IsHolding seen → new ≡ stored_with seen (step.Queue x e)
     → IsHolding new

@@ -24,6 +24,7 @@ all_but_page = record {
   bits = λ c. true;
   asks = false;
   ends = λ k. true;
+  left = true;
 }
 
 none_and : (b : Bool) → (b && false) ≡ false
@@ -31,7 +32,7 @@ none_and true = refl
 none_and false = refl
 
 unasked_debts : (k : Known) → asks_for k ≡ nothing_asked → Debts all_but_page k
-unasked_debts k none = record { none = by }
+unasked_debts k none = record { none = by; off = λ q. absurd (cc); shows = λ q. absurd (cc) }
   where
     by : (o : Duty) → (has_duty k o && not (excuses all_but_page o)) ≡ false
     by (wake_of c σ) = none_and ((told_of k).duty.owes c σ)

@@ -16,6 +16,7 @@ use Rattle.wait_rule.specs.Says.{Excuse, Owes, is_excused, told_of, unlocked_wit
 use Rattle.wait_rule.specs.Queues.{IsIdle}
 use Rattle.wait_rule.specs.Stays.{
   Stays,
+  StaysOwing,
   no_entries,
   with_wakes,
   Carries,
@@ -25,7 +26,7 @@ use Rattle.wait_rule.specs.Stays.{
   wake_all_change,
 }
 use Rattle.wait_rule.proofs.KnownLaws.Turns.{told_unlocked}
-use Rattle.wait_rule.proofs.KnownLaws.CarriedTasks.{owes_wakes, stays_carried}
+use Rattle.wait_rule.proofs.KnownLaws.CarriedTasks.{owes_more, owes_wakes, stays_carried}
 use Rattle.wait_rule.proofs.KnownLaws.Debts.{unlock_fewer}
 use Rattle.wait_rule.proofs.KnownLaws.SettledTasks.{unlock_mark}
 use Rattle.wait_rule.proofs.KnownLaws.StayingParts.{stays_owing}
@@ -88,11 +89,25 @@ pub ended_owes : (a : Aim) (old new : Known) → Stays no_entries old new → (t
     → ((c : Watch) (σ : ℕ) → (told_of new).duty.owes c σ ≡ still_owed a (told_of old) c σ) → (x : Excuse)
     → Owes (with_wakes a.watch a.mode x) old → Owes x new
 unfolding with_wakes
-ended_owes a old new stays unmarked owes x o = owes_wakes (with_wakes a.watch a.mode x) x new refl refl refl refl
+ended_owes a old new stays unmarked owes x o = owes_wakes (with_wakes a.watch a.mode x) x new refl refl refl refl refl
     (λ c σ. ap (λ (b : Bool). b && not (is_excused x c σ)) (owes c σ)
     ∙ ended_wakes (x.wakes c σ) (same c a.watch && meets (mask_of a.mode) σ) (not (meets (mask_of mode.Normal) σ))
     ((told_of old).duty.owes c σ) (o.debts.none (wake_of c σ)))
     (stays_owing old new stays (unmarked ∙ sym o.unmarked) (with_wakes a.watch a.mode x) o)
+
+-- whoever is excused of the wakes too owes no more then
+more_wakes : (w s m : Bool) → w ≡ true → (w || (s && m)) ≡ true
+more_wakes true s m is = refl
+more_wakes false s m is = absurd (cc)
+
+owes_wider : (a : Aim) (x : Excuse) (k : Known) → Owes x k → Owes (with_wakes a.watch a.mode x) k
+unfolding with_wakes
+owes_wider a x k o = owes_more x (with_wakes a.watch a.mode x) k refl refl refl refl refl
+    (λ c σ. more_wakes (x.wakes c σ) (same c a.watch) (meets (mask_of a.mode) σ)) o
+
+-- so a wake of what it did not owe leaves what it owes
+pub wake_owing : (a : Aim) (old new : Known) → HasEnded old new a → StaysOwing old new
+wake_owing a old new e x o = e.settled x (owes_wider a x old o)
 
 pub wake_carried : (a : Aim) (old new : Known) → HasEnded old new a → IsIdle old → IsIdle new →
     (told_of new).hold.head ≡ None

@@ -39,7 +39,7 @@ use Rattle.wait_rule.specs.Says.{
 }
 use Rattle.wait_rule.specs.Stays.{Carries, only_looks, with_entry, with_page}
 use Rattle.wait_rule.proofs.KnownLaws.AskedPages.{asked_added}
-use Rattle.wait_rule.proofs.KnownLaws.Debts.{end_added}
+use Rattle.wait_rule.proofs.KnownLaws.Debts.{LeavesNone, end_added, leaves_of, leaves_stored}
 use Rattle.wait_rule.proofs.KnownLaws.StayingParts.{owes_also}
 use Rattle.wq_head.proofs.CarriedHolds.{looks_carried}
 use Rattle.wait_rule.specs.Shown.{shown_queue}
@@ -67,6 +67,7 @@ use Rattle.wq_head.proofs.AddedEntries.{
 }
 use Rattle.wq_head.proofs.CountedLooks.{counted_add}
 use Rattle.wq_head.proofs.OneMoreLook.{looks_on}
+use Rattle.wq_head.proofs.PermitHeads.{page_low}
 
 bit_unpaged : (k : Kind) → k ≡ kind.Bit → is_page k ≡ true → ⊥
 bit_unpaged k bit = no_paged k (ap (λ (q : Kind). not (is_page q)) bit)
@@ -181,8 +182,11 @@ module _ (seen new : Known) (x w p : ℕ)
 
   page_debts : (f : Excuse) → Debts f seen → Debts (with_page (with_entry x f)) new
   unfolding with_page with_entry
-  page_debts f d = record { none = by }
+  page_debts f d = record { none = by; off = λ none. (leaves none).off; shows = λ none. (leaves none).shows }
     where
+      leaves : f.left ≡ false → LeavesNone new
+      leaves none = leaves_stored seen new (step.Queue x e) (page_low w) is (leaves_of f seen d none)
+
       by : (o : Duty) → (has_duty new o && not (excuses (with_page (with_entry x f)) o)) ≡ false
       by (wake_of c σ) = ap (λ (v : Told). v.duty.owes c σ && not (is_excused f c σ)) told ∙ d.none (wake_of c σ)
       by page_asked = and_none (is_asking (asks_for new))

@@ -176,7 +176,7 @@ module _ (old new : Known) (h : ℕ) (s : HasFoundNone old new h MEMBER_WORDS) w
   none_ended = record {
     here = here;
     elsewhere = elsewhere;
-    settled = λ x o. owes_wakes (spares_head h x) x new refl refl refl refl
+    settled = λ x o. owes_wakes (spares_head h x) x new refl refl refl refl refl
         (λ c σ. spared x c σ (head_of c == h) (not (meets (mask_of mode.Normal) σ)) refl (o.debts.none (wake_of c σ)))
         (s.carries.owes (spares_head h x) o);
   }
@@ -194,6 +194,6 @@ pub found_none_over : (c : Watch) (old new : Known) → HasEndedAt old new (head
     → Owes (with_wakes c mode.Normal x) old → Owes x new
 unfolding with_wakes
 found_none_over c old new ended x o = ended.settled x (owes_more (with_wakes c mode.Normal x)
-    (spares_head (head_of c) x) old refl refl refl refl
+    (spares_head (head_of c) x) old refl refl refl refl refl
     (λ d σ. at_its_head (x.wakes d σ) (same d c) (meets (mask_of mode.Normal) σ) (head_of d == head_of c)
     (λ alike. eq-eqb (head_of d) (head_of c) (same_head d c alike))) o)

@@ -39,6 +39,10 @@ bit_low w k f =
     let is = ap head_of f.1.2 in
     omega (arith, low, is)
 
+pub bits_low : (w b : ℕ) → head_of (watch.Bit w b) < FIRST_DONE_HEAD
+unfolding head_of
+bits_low w b = let low = hashed_low (w * WORD_BITS + b) in omega (arith, low)
+
 pub page_low : (w : ℕ) → head_of (page w) < FIRST_DONE_HEAD
 unfolding head_of
 page_low w = let low = hashed_low (w * WORD_BITS + 0) in omega (arith, low)

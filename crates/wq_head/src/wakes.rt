@@ -6,7 +6,7 @@ ghost use Rattle.wait_rule.specs.Known.{Known};
 ghost use Rattle.wait_rule.specs.PassedLocks.{PassesNone};
 ghost use Rattle.wait_rule.specs.Says.{IsUp};
 ghost use Rattle.wait_rule.specs.Queues.{IsIdle};
-ghost use Rattle.wait_rule.specs.Stays.{Carries, wake_all_change};
+ghost use Rattle.wait_rule.specs.Stays.{Carries, StaysOwing, wake_all_change};
 ghost use Rattle.wq_head.specs.declared.wakes.WakeStage.{WakeStage};
 ghost use Rattle.wq_head.specs.Roused.{IsRousing, RousesNone, tasks_in};
 ghost use Rattle.wq_head.specs.Walks.{IsFull, MayWake, HasWoken, HasEnded};
@@ -120,6 +120,7 @@ pub fn wake<R: Wait>(
     ensures idle { IsIdle task.new }
     ensures up { IsUp task.new }
     ensures carries { Carries (wake_all_change watch mode task.new.at) task.old task.new }
+    ensures owing { StaysOwing task.old task.new }
 {
     let head = head_of(watch);
     let mut list = Members::new();

@@ -13,12 +13,12 @@ use Rattle.wait_model.specs.Tasks.{state_mask, pending, task_of}
 use Rattle.wait_model.specs.Reached.{IsHome}
 use Rattle.wait_rule.specs.declared.journal.Item.TheVariants as item
 use Rattle.wait_rule.specs.Known.{Known}
-use Rattle.wait_rule.specs.Says.{IsUp, added, history_of}
+use Rattle.wait_rule.specs.Says.{Excuse, IsUp, added, history_of}
 use Rattle.wait_rule.specs.Queues.{index}
 use Rattle.wait_rule.specs.Stays.{Carries, unchanged, with_entry, state_change}
 use Rattle.wait_rule.specs.Transitions.{OnlyLooks, by_step}
 use Rattle.wait_rule.proofs.KnownLaws.Transitions.{only_none}
-use Rattle.wait_event.specs.Posts.{Post, Stands, IsStateFor, Keeps}
+use Rattle.wait_event.specs.Posts.{Post, Stands, IsStateFor, KeepsBut}
 use Rattle.wait_event.specs.WaitPlans.{goes_to, wait_plan}
 use Rattle.wait_event.specs.Waits.{
   IsAt,
@@ -42,9 +42,9 @@ use Rattle.wait_rule.proofs.KnownLaws.TaskHistories.{history_after}
 -- a store of the state, behind looks or not
 module _ (old new : Known) (σ : ℕ) (is : new ≡ added old (item.Made (step.State σ)))
     (carries : Carries (state_change σ) old new) where
-  pub state_keeps : Keeps (index old.view.number 0) old new
-  state_keeps = keeps_of (index old.view.number 0) (state_change σ) old new carries (λ w. refl) (λ x away. refl)
-      (λ x. carries.owes (with_entry (index old.view.number 0) x))
+  pub state_keeps : {f : Excuse → Excuse} → KeepsBut f (index old.view.number 0) old new
+  state_keeps {f} = keeps_of (index old.view.number 0) (state_change σ) old new carries (λ w. refl) (λ x away. refl)
+      (λ x. carries.owes (with_entry (index old.view.number 0) (f x)))
 
   pub state_looks : OnlyLooks (added old (item.Made (step.State σ))) new
   state_looks = subst (OnlyLooks (added old (item.Made (step.State σ)))) (sym is)

@@ -14,9 +14,9 @@ use Rattle.wait_rule.specs.Stays.{StaysOwing, Change, Carries, with_entry, queue
 use Rattle.wait_rule.proofs.KnownLaws.StayingParts.{owes_also}
 use Rattle.wait_rule.proofs.KnownLaws.Debts.{entries_debts, list_debts}
 use Rattle.wait_rule.proofs.KnownLaws.SettledTasks.{owes_told}
-use Rattle.wait_event.specs.Posts.{Keeps}
+use Rattle.wait_event.specs.Posts.{Keeps, KeepsBut}
 
-pub keeps_none : (i : ℕ) (k : Known) → Keeps i k k
+pub keeps_none : {f : Excuse → Excuse} (i : ℕ) (k : Known) → KeepsBut f i k k
 keeps_none i k = record {
   domain = refl;
   number = refl;
@@ -28,7 +28,8 @@ keeps_none i k = record {
   owes = λ x o. o;
 }
 
-pub keeps_on : (i : ℕ) (old mid new : Known) → Keeps i old mid → Keeps i mid new → Keeps i old new
+pub keeps_on : {f : Excuse → Excuse} (i : ℕ) (old mid new : Known) → KeepsBut f i old mid → KeepsBut f i mid new
+    → KeepsBut f i old new
 keeps_on i old mid new a b = record {
   domain = b.domain ∙ a.domain;
   number = b.number ∙ a.number;
@@ -45,11 +46,12 @@ keeps_on i old mid new a b = record {
 }
 
 -- of a history that tells the same of wakes and entries
-pub keeps_told : (i : ℕ) (old new : Known) → new.domain ≡ old.domain → new.view.number ≡ old.view.number
+pub keeps_told : {f : Excuse → Excuse} (i : ℕ) (old new : Known) → new.domain ≡ old.domain → new.view.number ≡ old.view.number
     → (told_of new).mark ≡ (told_of old).mark → (told_of new).duty.owes ≡ (told_of old).duty.owes
     → (told_of new).bits.stored ≡ (told_of old).bits.stored
-    → ((d : Watch) → (told_of new).bits.keeps d ≡ (told_of old).bits.keeps d) → StaysOwing old new → Keeps i old new
-keeps_told i old new domain number mark duty stored keeps owing = record {
+    → ((d : Watch) → (told_of new).bits.keeps d ≡ (told_of old).bits.keeps d) → StaysOwing old new
+    → KeepsBut f i old new
+keeps_told {f} i old new domain number mark duty stored keeps owing = record {
   domain = domain;
   number = number;
   mark = mark;
@@ -57,7 +59,7 @@ keeps_told i old new domain number mark duty stored keeps owing = record {
   out = λ x away none. (λ j. stored j x) ∙ none;
   stands = λ slot few away e is own. (λ j. stored j (index old.view.number slot)) ∙ is;
   keeps = keeps;
-  owes = λ x. owing (with_entry i x);
+  owes = λ x. owing (with_entry i (f x));
 }
 
 -- of items that tell nothing
@@ -72,16 +74,17 @@ pub placed_owing : (old new : Known) → new.view ≡ old.view → StaysOwing ol
 placed_owing old new same = same_owing old new (ap (λ (v : Journal). view_of (steps_of v.items)) same)
     (λ x. list_debts x old new same)
 
-pub keeps_same : (i : ℕ) (old new : Known) → new.domain ≡ old.domain → new.view.number ≡ old.view.number
-    → told_of new ≡ told_of old → ((x : Excuse) → Debts x old → Debts x new) → Keeps i old new
+pub keeps_same : {f : Excuse → Excuse} (i : ℕ) (old new : Known) → new.domain ≡ old.domain → new.view.number ≡ old.view.number
+    → told_of new ≡ told_of old → ((x : Excuse) → Debts x old → Debts x new)
+    → KeepsBut f i old new
 keeps_same i old new domain number told debts = keeps_told i old new domain number (ap (λ (v : Told). v.mark) told)
     (ap (λ (v : Told). v.duty.owes) told) (ap (λ (v : Told). v.bits.stored) told)
     (λ d. ap (λ (v : Told). v.bits.keeps d) told) (same_owing old new told debts)
 
 -- of a call that changes no more than the own entry
-pub keeps_of : (i : ℕ) (c : Change) (old new : Known) → Carries c old new → ((w : Watch) → c.publishes w ≡ false)
+pub keeps_of : {f : Excuse → Excuse} (i : ℕ) (c : Change) (old new : Known) → Carries c old new → ((w : Watch) → c.publishes w ≡ false)
     → ((x : ℕ) → (x == i) ≡ false → c.but x ≡ false)
-    → ((x : Excuse) → Owes (with_entry i x) old → Owes (with_entry i x) new) → Keeps i old new
+    → ((x : Excuse) → Owes (with_entry i (f x)) old → Owes (with_entry i (f x)) new) → KeepsBut f i old new
 keeps_of i c old new carries none but owes = record {
   domain = carries.domain;
   number = carries.number;
@@ -98,11 +101,11 @@ twice : (a b : Bool) (s : Option Entry) → IsOutBut (a || (a || b)) s → IsOut
 twice true b s o = o
 twice false b s o = o
 
-once : (i : ℕ) (x : Excuse) (k : Known) → Owes (with_entry i (with_entry i x)) k → Owes (with_entry i x) k
+pub once : (i : ℕ) (x : Excuse) (k : Known) → Owes (with_entry i (with_entry i x)) k → Owes (with_entry i x) k
 unfolding with_entry
 once i x k o = record {
   unmarked = o.unmarked;
-  debts = entries_debts (with_entry i (with_entry i x)) (with_entry i x) k refl refl refl o.debts;
+  debts = entries_debts (with_entry i (with_entry i x)) (with_entry i x) k refl refl refl refl o.debts;
   unqueued = λ y. twice (y == i) (x.entries y) ((told_of k).bits.stored y) (o.unqueued y);
   holds = o.holds;
   tries = o.tries;
@@ -113,6 +116,7 @@ pub keeps_queued : (i : ℕ) (old new : Known) → Carries (queue_change i) old 
 keeps_queued i old new c = keeps_of i (queue_change i) old new c (λ w. refl) (λ x away. away)
     (λ x o. once i x new (c.owes (with_entry i x) o))
 
-pub keeps_taken : (i : ℕ) (old new : Known) → Carries (take_off_change i) old new → Keeps i old new
-keeps_taken i old new c = keeps_of i (take_off_change i) old new c (λ w. refl) (λ x away. away)
-    (λ x o. owes_also i x new (c.owes x o))
+pub keeps_taken : {f : Excuse → Excuse} (i : ℕ) (old new : Known) → Carries (take_off_change i) old new
+    → KeepsBut f i old new
+keeps_taken {f} i old new c = keeps_of i (take_off_change i) old new c (λ w. refl) (λ x away. away)
+    (λ x o. owes_also i (f x) new (c.owes (f x) o))

@@ -24,14 +24,14 @@ pub returns-clause-out : goal.returns-clause-out
 returns-clause-out g c = ends_out c.args.task.now c.run_await-outcome.new.task c.begin_await-run.result
     c.run_await-outcome.new.run stage.First c.run_await-outcome.result c.run_await-outcome.ensures.on
 
-pub returns-clause-carries : goal.returns-clause-carries
-returns-clause-carries g c = ends_carried c.args.task.now c.run_await-outcome.new.task c.begin_await-run.result
-    c.run_await-outcome.new.run stage.First c.run_await-outcome.result c.run_await-outcome.ensures.on c.requires.up
-    c.requires.idle (c.begin_await-run.ensures.told.head ∙ c.requires.idle.free.head)
-
 pub returns-clause-off : goal.returns-clause-off
 returns-clause-off g c = wait_keeps c.args.task.now c.run_await-outcome.new.task c.begin_await-run.result
     c.args.cell c.run_await-outcome.result c.begin_await-run.ensures.fresh.cell c.run_await-outcome.ensures.off
+
+pub returns-clause-carries : goal.returns-clause-carries
+returns-clause-carries g c = ends_carried c.args.task.now c.run_await-outcome.new.task c.begin_await-run.result
+    c.run_await-outcome.new.run stage.First c.run_await-outcome.result c.run_await-outcome.ensures.on c.requires.up
+    c.requires.idle (c.begin_await-run.ensures.told.head ∙ c.requires.idle.free.head) (returns-clause-off g c)
 
 pub run_await-outcome-requires-clause-begins : goal.run_await-outcome-requires-clause-begins
 run_await-outcome-requires-clause-begins g c = wait_begins c.args.cell c.args.task.now c.begin_await-run.result

@@ -3,6 +3,7 @@ use Rattle.wait_model.specs.Watches.{head_of}
 use Rattle.completion_cell.proofs.Queues.{
   join_advances,
   mid_at,
+  mid_done,
   mid_holds,
   mid_out,
   stay_enters,
@@ -39,7 +40,8 @@ add_tail-requires-clause-out c = mid_out c.args.task.now c.own_entry-entry.new.t
 pub returns-in-Ok-clause-enters : goal.returns-in-Ok-clause-enters
 returns-in-Ok-clause-enters c = join_advances c.args.task.now c.own_entry-entry.new.task c.args.run.now
     c.own_entry-entry.result c.own_entry-entry.ensures c.requires.at (sym c.is_some.ensures ∙ c.if-is_some.false)
-    c.add_tail.new.task c.watch.result c.watch.ensures c.in-Ok.ensures.queued c.in-Ok.ensures.held
+    c.add_tail.new.task c.watch.result c.watch.ensures (c.in-Ok.ensures.cell (mid_done c.args.task.now c.own_entry-entry.new.task
+    c.args.run.now c.own_entry-entry.result c.own_entry-entry.ensures c.requires.at)) c.in-Ok.ensures.held
     c.set_state-in-Ok.new.task c.mask-in-Ok.result c.mask-in-Ok.ensures c.set_state-in-Ok.ensures.step
     c.set_state-in-Ok.ensures.carries
 
@@ -58,7 +60,8 @@ returns-then-is_some-clause-deals c = stay_deals c.args.task.now c.own_entry-ent
 pub returns-in-Ok-clause-deals : goal.returns-in-Ok-clause-deals
 returns-in-Ok-clause-deals c = join_deals c.args.task.now c.own_entry-entry.new.task c.add_tail.new.task
     c.set_state-in-Ok.new.task c.args.run.now c.own_entry-entry.result c.own_entry-entry.ensures c.requires.at
-    c.watch.result c.in-Ok.ensures.queued c.mask-in-Ok.result c.set_state-in-Ok.ensures.step
+    c.watch.result (c.in-Ok.ensures.cell (mid_done c.args.task.now c.own_entry-entry.new.task
+    c.args.run.now c.own_entry-entry.result c.own_entry-entry.ensures c.requires.at)) c.mask-in-Ok.result c.set_state-in-Ok.ensures.step
     c.set_state-in-Ok.ensures.carries
 
 pub returns-in-Err-clause-deals : goal.returns-in-Err-clause-deals

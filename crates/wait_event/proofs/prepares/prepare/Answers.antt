@@ -1,6 +1,6 @@
 use Rattle.std.proofs.Common.{subst, sym}
 use Rattle.wait_event.specs.Prepares.{EndsPrepare}
-use Rattle.wait_event.proofs.Preparing.{ends_may, ends_prepare, prepares_at}
+use Rattle.wait_event.proofs.Preparing.{begins_owing, ends_carried, ends_mark, ends_may, ends_prepare, prepares_at}
 use Rattle.wait_event.proofs.prepares.prepare.Goals as goal
 
 pub run_prepare-stage-requires-clause-at : goal.run_prepare-stage-requires-clause-at
@@ -18,3 +18,12 @@ returns-clause-ends g c = subst
 pub returns-clause-may : goal.returns-clause-may
 returns-clause-may g c = ends_may c.args.task.now c.run_prepare-stage.new.task c.args.watch c.args.how c.args.asks
     c.answer_at.result c.requires.full (returns-clause-ends g c)
+
+pub returns-clause-begins : goal.returns-clause-begins
+returns-clause-begins g c = begins_owing c.args.task.now c.run_prepare-stage.new.task
+    (ends_mark c.args.task.now c.run_prepare-stage.new.task c.args.watch c.args.how c.args.asks
+    c.answer_at.result (returns-clause-ends g c))
+
+pub returns-clause-carries : goal.returns-clause-carries
+returns-clause-carries g c = ends_carried c.args.task.now c.run_prepare-stage.new.task c.args.watch c.requires.may
+    c.told.ensures c.told-2.ensures c.args.how c.args.asks c.answer_at.result (returns-clause-ends g c)

@@ -57,7 +57,8 @@ returns-in-Some-clause-queued c =
     added_at IsPriorityPlace c.args.task.now s.new.task c.enqueue.new.task c.args.slot c.in-Some.place
     (priority_entry c.args.watch c.args.kind) refl
     (plain_tries c.args.watch c.args.kind true true c.in-Some.place c.requires.plain) e s.ensures.looks
-    c.prior_entry.ensures q s.ensures.below s.ensures.seen s.ensures.counts
+    c.prior_entry.ensures q (plain_low c.args.watch c.args.kind c.requires.plain)
+    s.ensures.below s.ensures.seen s.ensures.counts
     (q.priority (priority_placed s.new.task s.ensures.stands s.result.last _ _ c.in-Some.place e.place s.ensures.last
     c.last_place-last.ensures c.priority_place.ensures c.in-Some.is
     (ap (λ (f : Entry). f.place) c.prior_entry.ensures)))

@@ -1,4 +1,5 @@
 use Rattle.std.proofs.Common.{◌∙◌, arith}
+use Rattle.wq_head.proofs.CarriedHolds.{wake_owing}
 use Rattle.wq_head.proofs.FullHeads.{head_small}
 use Rattle.wq_head.proofs.wakes.wake.Goals as goal
 
@@ -13,3 +14,8 @@ loop-preserved g c =
     let i = c.loop.invariant in
     let t = c.in-Broken.ensures.turned c.args.task.now i.1 in
     (t.aim ∙ i.0, t.turns, c.in-Broken.ensures.of, c.rouse_all.ensures, c.wake.ensures)
+
+pub returns-in-Done-clause-owing : goal.returns-in-Done-clause-owing
+returns-in-Done-clause-owing g c =
+    let t = c.in-Done.ensures.turned c.args.task.now c.loop.invariant.1 in
+    wake_owing c.wake_stretch-turn.new.run.aim c.args.task.now c.wake_stretch-turn.new.task t.turns.ended

@@ -10,6 +10,8 @@ pub mod OtherCalls
 pub mod FlagLaws
 pub mod PageLaws
 pub mod SpentCounts
+pub mod SetterSteps
+pub mod Setters
 pub mod AfterSteps
 pub mod SleepLooks
 pub mod Transitions

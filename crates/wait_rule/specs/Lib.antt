@@ -24,6 +24,7 @@ pub mod Says
 pub mod Unlocks
 pub mod TableLaws
 pub mod DebtLaws
+pub mod Setters
 pub mod TallyLaws
 pub mod PipeSays
 pub mod FlagLaws

@@ -13,6 +13,7 @@ ghost use Rattle.wait_rule.specs.FlagLaws.{FlagsComeFirst, RuleLosesNoFlag, Step
 ghost use Rattle.wait_rule.specs.PageLaws.{RuleHandsWhole, RuleLeavesNone, RuleTakesForWaiters, WorkedPages};
 ghost use Rattle.wait_rule.specs.SaidEvents.{RunsBegin, RunsFollow, WakesFollow, WalksFollow};
 ghost use Rattle.wait_rule.specs.Selecting.{RunsSelect, RunsTell, WordsSelect};
+ghost use Rattle.wait_rule.specs.Setters.{RuleSettlesAll, RuleWakesAll, StepsSettleAll, StepsWakeAll};
 ghost use Rattle.wait_rule.specs.TableLaws.{RuleLosesNoWake, StepsLoseNoWake, AllLoseNoWake};
 ghost use Rattle.wait_rule.specs.TableLaws.{RuleCountsSpent, AllCountSpent};
 ghost use Rattle.wait_rule.specs.TableLaws.{RuleInventsNoSignal, AllTookRaised, RuleKeepsBits, RuleBalances};
@@ -158,6 +159,17 @@ pub fn no_wake_lost()
     ensures all { AllLoseNoWake }
     ensures spent { RuleCountsSpent }
     ensures all_spent { AllCountSpent }
+{}
+
+/// Whoever a watch was set for all the while since a task published it does not sleep on it any more once a wake of that
+/// task has ended since, which used up no count; and where the task has used up none since, once it owes that wake no
+/// more. So it is after each step of each order of allowed steps, and in each table that meets the rule, by the order
+/// that leads to it.
+pub fn setters_wake_all()
+    ensures steps { StepsWakeAll }
+    ensures settled { StepsSettleAll }
+    ensures rule { RuleWakesAll }
+    ensures rule_settled { RuleSettlesAll }
 {}
 
 /// No flag of an entry of kind Woken is lost on a Domain: in each table that meets the rule, and after each step of

@@ -1,0 +1,19 @@
+use Rattle.wait_rule.proofs.KnownLaws.Setters.{
+  rule_settles_all,
+  rule_wakes_all,
+  steps_settle_all,
+  steps_wake_all,
+}
+use Rattle.wait_rule.proofs.laws.setters_wake_all.Goals as goal
+
+pub returns-clause-steps : goal.returns-clause-steps
+returns-clause-steps c = steps_wake_all
+
+pub returns-clause-settled : goal.returns-clause-settled
+returns-clause-settled c = steps_settle_all
+
+pub returns-clause-rule : goal.returns-clause-rule
+returns-clause-rule c = rule_wakes_all
+
+pub returns-clause-rule_settled : goal.returns-clause-rule_settled
+returns-clause-rule_settled c = rule_settles_all

@@ -5,4 +5,3 @@ pub mod Watched
 pub mod Turns
 pub mod Did
 pub mod Copied
-pub mod Crews

@@ -5,7 +5,6 @@
 
 pub mod controller;
 pub mod copy;
-mod crew;
 pub mod gate;
 pub mod parts;
 pub mod plan;

@@ -6,7 +6,6 @@ ghost use Rattle.flow_copy.specs.Copied.{ControlEnds, Controlled};
 ghost use Rattle.flow_copy.specs.Did.{IsIdler, ReaderDid, RelayDid, WriterDid};
 
 use crate::controller::controller_task;
-use crate::crew::{Job, all_at_once};
 use crate::gate::Gate;
 use crate::plan::Planned;
 use crate::reader::reader_task;
@@ -16,6 +15,7 @@ use crate::writer::writer_task;
 use bit_wait::BitEnd;
 use edge_io::{Sink, Source};
 use func_head::Watchers;
+use job_crew::{Job, all_at_once};
 use std::sync::Wait;
 use std::thread::Threads;
 use wait_rule::{Domain, Task};

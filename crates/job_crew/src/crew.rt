@@ -5,7 +5,7 @@
 
 ghost use Rattle.std.specs.Prelude.{◌≡◌, ◌+◌, ◌<◌, true, false, Ok, Err, IfErr, IfOk, MatchResult};
 ghost use Rattle.std.specs.Result.{ForErr, ForOk};
-ghost use Rattle.flow_copy.specs.Crews.{Comes};
+ghost use Rattle.job_crew.specs.Crews.{Comes};
 
 use std::marker::Brand;
 use std::snapshot::Snapshot;
@@ -369,7 +369,7 @@ fn with_ledger<L: Ledger + Send + Sync, R: Threads + Wait + Sync, A: Job, B: Job
 
 /// Does four jobs at once, the first three in threads of their own and the last in this one. Where one of these threads
 /// can't be had none of the jobs is begun, and all four are handed back as they were.
-pub(crate) fn all_at_once<R: Threads + Wait + Sync, A: Job, B: Job, C: Job, D: Job>(
+pub fn all_at_once<R: Threads + Wait + Sync, A: Job, B: Job, C: Job, D: Job>(
     rt: &R,
     one: A,
     two: B,

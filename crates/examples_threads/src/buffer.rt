@@ -1,12 +1,13 @@
 //! A bounded buffer: one thread puts values, another one takes them in the same order, and each sleeps while it can't
 //! go on. A slot is two conditions: the first is its value, or 0 while it is free; the second is 1 while it is free.
 
-ghost use Rattle.std.specs.Prelude.{◌<◌, IfOk};
-ghost use Rattle.examples_threads.specs.declared.buffer.TheConstants.{SLOTS};
+ghost use Rattle.std.specs.Prelude.{◌≡◌, ◌<◌, ◌+◌, IfErr, IfOk};
+ghost use Rattle.examples_threads.specs.Causes.{WaitEnded};
+ghost use Rattle.examples_threads.specs.declared.buffer.TheConstants.{HOW, SLOTS};
 
 use crate::worker::Worker;
 use std::sync::Wait;
-use wait_event::wait_events::WaitEnd;
+use wait_event::WaitEnd;
 use wait_model::tasks::{How, SleepState};
 
 /// How many values a buffer holds.
@@ -43,6 +44,8 @@ impl<'d> Side<'d> {
     /// where the head has no place left, and then nothing was put.
     pub fn put<R: Wait>(&mut self, rt: &R, value: u64) -> Result<(), WaitEnd>
         requires some { 0 < value }
+        ensures ended { IfErr result (WaitEnded self.new.worker.task (SLOTS + self.old.slot) HOW) }
+        ensures same { IfErr result (λ _. self.new.slot ≡ self.old.slot) }
     {
         self.worker.claim(rt, SLOTS + self.slot, HOW)?;
         self.worker.set(rt, self.slot, value, 0);
@@ -54,6 +57,8 @@ impl<'d> Side<'d> {
     /// comes where the head has no place left, and then nothing was taken.
     pub fn get<R: Wait>(&mut self, rt: &R) -> Result<u64, WaitEnd>
         ensures some { IfOk result (λ value. 0 < value) }
+        ensures ended { IfErr result (WaitEnded self.new.worker.task self.old.slot HOW) }
+        ensures same { IfErr result (λ _. self.new.slot ≡ self.old.slot) }
     {
         let value = self.worker.claim(rt, self.slot, HOW)?;
         self.worker.set(rt, SLOTS + self.slot, 1, 0);

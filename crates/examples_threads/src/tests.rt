@@ -8,7 +8,7 @@ use crate::worker::Worker;
 use std::sync::Wait;
 use std::test::Fail;
 use std::thread;
-use wait_event::wait_events::WaitEnd;
+use wait_event::WaitEnd;
 use wait_rule::{Domain, send_signal};
 
 /// How many values go through a buffer, and how many commands each user hands to the device.

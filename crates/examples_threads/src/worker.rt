@@ -1,12 +1,16 @@
 //! A thread's task, with what holds of it between any two of its calls.
 
-ghost use Rattle.std.specs.Prelude.{◌≡◌, ◌<◌, IfOk};
+ghost use Rattle.std.specs.Prelude.{◌≡◌, ◌<◌, IfErr, IfOk};
 ghost use Rattle.wait_model.specs.declared.layout.TheConstants.{FIRST_SIMPLE};
+ghost use Rattle.wait_model.specs.declared.queues.Walked.{Walked};
+ghost use Rattle.wait_model.specs.declared.watches.Mode.TheVariants as mode;
+ghost use Rattle.wait_rule.specs.Known.{Known};
 ghost use Rattle.wait_rule.specs.Says.{IsClean};
+ghost use Rattle.wait_event.specs.Conds.{HasSet, HasTaken};
+ghost use Rattle.examples_threads.specs.Causes.{WaitEnded};
 
 use std::sync::Wait;
-use wait_event::conds::{set_and_wake, take_cond};
-use wait_event::wait_events::{WaitEnd, wait_event};
+use wait_event::{WaitEnd, set_and_wake, take_cond, wait_event};
 use wait_model::tasks::How;
 use wait_model::watches::Mode;
 use wait_rule::{Domain, Task};
@@ -31,11 +35,13 @@ impl<'d> Worker<'d> {
     }
 
     /// Waits until condition `cond`, below `FIRST_SIMPLE`, is set, and takes its value, which is not 0. Of several who
-    /// take one condition another may be faster; then it waits again. Err Signal comes where a signal ended a wait,
-    /// and Err Worn where the head had no place left: as `wait_event` says.
+    /// take one condition another may be faster; then it waits again. Err Signal comes where a signal ended the last
+    /// wait, and Err Worn where the head had no place left: as `wait_event` says.
     pub fn claim<R: Wait>(&mut self, rt: &R, cond: u8, how: How) -> Result<u64, WaitEnd>
         requires cond { cond < FIRST_SIMPLE }
         ensures some { IfOk result (λ value. 0 < value) }
+        ensures took { IfOk result (λ value. (k : Known) × HasTaken k self.new.task cond value) }
+        ensures ended { IfErr result (WaitEnded self.new.task cond how) }
     {
         for _ in rt.forever() {
             wait_event(rt, self.domain, &mut self.task, cond, how)?;
@@ -51,6 +57,8 @@ impl<'d> Worker<'d> {
     /// of them, and with another one at most as many of those who are exclusive. Answers how many it woke.
     pub fn set<R: Wait>(&mut self, rt: &R, cond: u8, value: u64, count: u32) -> u32
         requires cond { cond < FIRST_SIMPLE }
+        ensures { (walked : Walked) × HasSet self.old.task self.new.task cond value mode.Normal count walked
+            × (result ≡ walked.woken) }
     {
         let task = &mut self.task;
         set_and_wake(rt, self.domain, task, cond, value, Mode::Normal, count).woken

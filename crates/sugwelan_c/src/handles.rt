@@ -61,7 +61,7 @@ fn fork_by(
             Err(_) => Err(Unmade::Memory),
         },
         Err(NoFork::Numbers) => Err(Unmade::Numbers),
-        Err(NoFork::Memory) => Err(Unmade::Memory),
+        Err(NoFork::Owners { full: _ }) => Err(Unmade::Memory),
         Err(NoFork::Busy) => unreachable!(),
     }
 }

@@ -1,6 +1,6 @@
 -- To be believed.
 -- When a call is refused, by the call that is under way, the bits that the task keeps, and the numbers of the call.
-use Rattle.std.specs.Prelude.{ℕ, ◌≡◌, ◌<◌, ◌+◌, Bool, true, false, Option, Some, None}
+use Rattle.std.specs.Prelude.{ℕ, ◌≡◌, ◌<◌, ◌≤◌, ◌+◌, Bool, true, false, Option, Some, None}
 use Rattle.wq_checked.specs.Checked.{Checked}
 use Rattle.wq_checked.specs.declared.calls.Running.{Running}
 use Rattle.wq_checked.specs.declared.calls.Running.TheVariants as running
@@ -42,9 +42,9 @@ stopped_reason running.Idle = Some reason.Nothing
 stopped_reason running.Starved = Some reason.Starved
 stopped_reason _ = None
 
--- No further task: no call may begin, or the new task is to have more numbers than are spare. Want of memory tells
--- nothing of either but that a call may begin.
+-- No further task: no call may begin, or the new task is to have more numbers than are spare; or neither, and no
+-- further owner of the Domain is counted, which a value tells that nothing else makes.
 abbrev pub IsNoFork : Checked → ℕ → NoFork → Type 0
 IsNoFork t share no_fork.Busy = (e : Refused) × (busy_reason t.running ≡ Some e)
 IsNoFork t share no_fork.Numbers = (busy_reason t.running ≡ None) × (t.task.view.spare < 1 + share)
-IsNoFork t share no_fork.Memory = busy_reason t.running ≡ None
+IsNoFork t share (no_fork.Owners full) = (busy_reason t.running ≡ None) × (1 + share ≤ t.task.view.spare)

@@ -11,6 +11,7 @@ pub mod beginnings;
 pub mod calls;
 pub mod cells;
 pub mod kept_bits;
+pub mod owners;
 pub mod reasons;
 pub mod signals;
 pub mod simple_wakes;

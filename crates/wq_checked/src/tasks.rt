@@ -17,6 +17,7 @@ ghost use Rattle.wq_checked.specs.declared.calls.Running.TheVariants as running;
 use crate::advances::go_on;
 use crate::calls::{Progress, Running};
 use crate::kept_bits::KeptBits;
+use crate::owners::{Full, another_owner};
 use crate::reasons::Refused;
 use std::alloc::{AllocError, Global};
 use std::marker::Model;
@@ -62,15 +63,16 @@ pub(crate) fn refusal_of(running: &Running) -> Option<Refused>
 }
 
 /// Why no further task was made; nothing has changed then. Busy: a call of the task is under way, or a wake of it was
-/// starved. Numbers: fewer numbers are spare than the new task is to have.
+/// starved. Numbers: fewer numbers are spare than the new task is to have. Owners: else, and the Domain counts no
+/// further owner, as it told in the call; the tasks of one Domain are too few for that.
 #[derive(Debug, Drop, Error)]
 pub enum NoFork {
     #[error("a call of the task is under way")]
     Busy,
     #[error("too few numbers of tasks are spare")]
     Numbers,
-    #[error("out of memory")]
-    Memory,
+    #[error("{full}")]
+    Owners { full: Full },
 }
 
 impl CheckedTask {
@@ -92,7 +94,8 @@ impl CheckedTask {
     }
 
     /// A new task of the same Domain, with this task's next number, and `share` further numbers of its own to give out.
-    /// Busy comes exactly where a call may not begin, and Numbers only where fewer than `1 + share` numbers are spare.
+    /// Busy comes exactly where a call may not begin, and Numbers exactly where else fewer than `1 + share` numbers are
+    /// spare. Owners has what told so, which nothing makes but a count of owners that is full.
     pub fn fork(&mut self, share: u8) -> Result<CheckedTask, NoFork>
         ensures refused { IfErr result (IsNoFork self.old share) }
         ensures same { IfErr result (λ _. self.new ≡ self.old) }
@@ -107,9 +110,12 @@ impl CheckedTask {
         if let Some(_) = refusal_of(&self.running) {
             return Err(NoFork::Busy);
         }
-        let domain = match Arc::try_clone(&self.domain) {
+        if self.task.spare() <= share {
+            return Err(NoFork::Numbers);
+        }
+        let domain = match another_owner(&self.domain) {
             Ok(domain) => domain,
-            Err(_) => return Err(NoFork::Memory),
+            Err(full) => return Err(NoFork::Owners { full }),
         };
         match self.task.fork(&self.domain, share) {
             Ok(task) => Ok(CheckedTask {
@@ -118,7 +124,7 @@ impl CheckedTask {
                 kept: KeptBits::none(),
                 running: Running::Idle,
             }),
-            Err(_) => Err(NoFork::Numbers),
+            Err(_) => unreachable!(),
         }
     }
 
@@ -138,7 +144,9 @@ impl CheckedTask {
 
     /// Whether the task keeps bit `bit` of bit word `word`: false for one that is not there.
     pub fn keeps(&self, word: u8, bit: u8) -> bool
-        ensures { word < BIT_WORDS → bit < WORD_BITS → result ≡ keeps_in self.now.kept (watch.Bit word bit) }
+        ensures within { word < BIT_WORDS → bit < WORD_BITS → result ≡ keeps_in self.now.kept (watch.Bit word bit) }
+        ensures no_word { BIT_WORDS ≤ word → result ≡ false }
+        ensures no_bit { WORD_BITS ≤ bit → result ≡ false }
     {
         u16::from(word) < BIT_WORDS && u16::from(bit) < WORD_BITS && self.kept.has(word, bit)
     }

@@ -1,11 +1,10 @@
 -- To be believed.
--- A task that waits for condition 0 with its entry of slot 0, and one between two calls on a completion.
+-- A task that waits for condition 0 with its entry of slot 0.
 use Rattle.std.specs.Prelude.{◌≡◌, Some, None}
 use Rattle.wait_model.specs.declared.watches.Watch.TheVariants as watch
 use Rattle.wait_model.specs.Watches.{head_of}
-use Rattle.wait_rule.specs.LeftEntries.{HasLeftNone}
 use Rattle.wait_rule.specs.Known.{Known}
-use Rattle.wait_rule.specs.Says.{IsClean, IsUp, IsFree, no_excuse, told_of, Owes}
+use Rattle.wait_rule.specs.Says.{IsUp, IsFree, no_excuse, told_of, Owes}
 use Rattle.wait_rule.specs.Queues.{index}
 use Rattle.wait_rule.specs.Stays.{with_entry, head_stored}
 
@@ -20,8 +19,3 @@ pub record IsWaiting (k : Known) : Type 0 where
   pub up : IsUp k
   pub free : IsFree k
   pub entry : HasQueuedOwn k
-
--- it owes nothing, and has left no entry at any completion
-pub record IsReleased (k : Known) : Type 0 where
-  pub clean : IsClean k
-  pub off : HasLeftNone k

@@ -1,8 +1,6 @@
-//! A task that waits for completion 0, and one that completes it: each owes nothing after it, has left no entry at a
-//! completion, and is taken in.
+//! A task that waits for completion 0, and one that completes it: each owes nothing after it, and is taken in.
 
 ghost use Rattle.std.specs.Prelude.{◌≡◌};
-ghost use Rattle.wait_rule.specs.LeftEntries.{HasLeftNone};
 ghost use Rattle.wait_rule.specs.Says.{IsClean, IsUp};
 
 use completion_cell::asks::{is_done, reinit, try_wait};
@@ -19,10 +17,8 @@ const CELL: u8 = 0;
 pub fn complete_one<R: Wait>(rt: &R, domain: &Domain, task: &mut Task)
     requires of { task.old.domain ≡ domain.now }
     requires clean { IsClean task.old }
-    requires off { HasLeftNone task.old }
     ensures of { task.new.domain ≡ domain.now }
     ensures clean { IsClean task.new }
-    ensures off { HasLeftNone task.new }
 {
     complete(rt, domain, task, CELL);
 }
@@ -31,10 +27,8 @@ pub fn complete_one<R: Wait>(rt: &R, domain: &Domain, task: &mut Task)
 fn complete_for_all<R: Wait>(rt: &R, domain: &Domain, task: &mut Task)
     requires of { task.old.domain ≡ domain.now }
     requires clean { IsClean task.old }
-    requires off { HasLeftNone task.old }
     ensures of { task.new.domain ≡ domain.now }
     ensures clean { IsClean task.new }
-    ensures off { HasLeftNone task.new }
 {
     complete_all(rt, domain, task, CELL);
 }
@@ -43,10 +37,8 @@ fn complete_for_all<R: Wait>(rt: &R, domain: &Domain, task: &mut Task)
 fn clear<R: Wait>(rt: &R, domain: &Domain, task: &mut Task)
     requires of { task.old.domain ≡ domain.now }
     requires clean { IsClean task.old }
-    requires off { HasLeftNone task.old }
     ensures of { task.new.domain ≡ domain.now }
     ensures clean { IsClean task.new }
-    ensures off { HasLeftNone task.new }
 {
     reinit(rt, domain, task, CELL);
 }
@@ -55,10 +47,8 @@ fn clear<R: Wait>(rt: &R, domain: &Domain, task: &mut Task)
 pub fn complete_and_clear<R: Wait>(rt: &R, domain: &Domain, task: &mut Task) -> bool
     requires of { task.old.domain ≡ domain.now }
     requires clean { IsClean task.old }
-    requires off { HasLeftNone task.old }
     ensures of { task.new.domain ≡ domain.now }
     ensures clean { IsClean task.new }
-    ensures off { HasLeftNone task.new }
 {
     complete_for_all(rt, domain, task);
     clear(rt, domain, task);
@@ -70,10 +60,8 @@ pub fn complete_and_clear<R: Wait>(rt: &R, domain: &Domain, task: &mut Task) -> 
 pub fn wait_for_one<R: Wait>(rt: &R, domain: &Domain, task: &mut Task, state: SleepState) -> bool
     requires of { task.old.domain ≡ domain.now }
     requires clean { IsClean task.old }
-    requires off { HasLeftNone task.old }
     ensures of { task.new.domain ≡ domain.now }
     ensures clean { IsClean task.new }
-    ensures off { HasLeftNone task.new }
 {
     wait_for(rt, domain, task, CELL, state).is_ok()
 }
@@ -82,10 +70,8 @@ pub fn wait_for_one<R: Wait>(rt: &R, domain: &Domain, task: &mut Task, state: Sl
 pub fn take_one<R: Wait>(rt: &R, domain: &Domain, task: &mut Task) -> bool
     requires of { task.old.domain ≡ domain.now }
     requires clean { IsClean task.old }
-    requires off { HasLeftNone task.old }
     ensures of { task.new.domain ≡ domain.now }
     ensures clean { IsClean task.new }
-    ensures off { HasLeftNone task.new }
 {
     try_wait(rt, domain, task, CELL)
 }
@@ -95,7 +81,6 @@ pub fn take_and_join<R: Wait>(rt: &R, domain: &Domain, into: &mut Task, mut task
     requires of { (into.old.domain ≡ domain.now) × (task.domain ≡ domain.now) }
     requires up { IsUp into.old }
     requires clean { IsClean task }
-    requires off { HasLeftNone task }
     ensures of { into.new.domain ≡ domain.now }
     ensures up { IsUp into.new }
 {
@@ -109,7 +94,6 @@ pub fn complete_and_join<R: Wait>(rt: &R, domain: &Domain, into: &mut Task, mut 
     requires of { (into.old.domain ≡ domain.now) × (task.domain ≡ domain.now) }
     requires up { IsUp into.old }
     requires clean { IsClean task }
-    requires off { HasLeftNone task }
     ensures of { into.new.domain ≡ domain.now }
     ensures up { IsUp into.new }
 {

@@ -7,7 +7,7 @@ ghost use Rattle.wait_model.specs.declared.watches.Watch.TheVariants as watch;
 ghost use Rattle.bit_wait.specs.Holders.{IsHolder};
 ghost use Rattle.wait_rule.specs.Says.{IsClean};
 
-use bit_wait::{clear_and_wake_bit, test_and_set, wait_on_bit};
+use bit_wait::{clear_and_wake_bit, test_and_set, wait_on_bit, wait_on_bit_lock};
 use std::sync::Wait;
 use var_wait::publishes::publish_var_and_wake;
 use var_wait::waits::wait_var;
@@ -44,6 +44,22 @@ pub fn give_bit<R: Wait>(rt: &R, domain: &Domain, task: &mut Task) -> u32
     ensures clean { IsClean task.new }
 {
     clear_and_wake_bit(rt, domain, task, WORD, BIT).holds
+}
+
+/// Waits until it has the bit, and gives it back: true where it had it.
+pub fn hold_bit<R: Wait>(rt: &R, domain: &Domain, task: &mut Task) -> bool
+    requires of { task.old.domain ≡ domain.now }
+    requires clean { IsClean task.old }
+    ensures of { task.new.domain ≡ domain.now }
+    ensures clean { IsClean task.new }
+{
+    match wait_on_bit_lock(rt, domain, task, WORD, BIT, SleepState::Killable) {
+        Ok(()) => {
+            clear_and_wake_bit(rt, domain, task, WORD, BIT);
+            true
+        }
+        Err(_end) => false,
+    }
 }
 
 /// Waits until the bit is clear: true where it was.

@@ -6,8 +6,9 @@ ghost use Rattle.wait_model.specs.declared.watches.Watch.TheVariants as watch;
 ghost use Rattle.bit_wait.specs.Holders.{IsHolder};
 ghost use Rattle.wait_rule.specs.Says.{IsClean, IsUp};
 
-use page_lock::{add_tally, try_lock_page, unlock_page};
+use page_lock::{add_tally, lock_page, try_lock_page, unlock_page};
 use std::sync::Wait;
+use wait_model::tasks::SleepState;
 use wait_rule::{Domain, Task};
 
 /// The page.
@@ -41,6 +42,22 @@ pub fn give_page<R: Wait>(rt: &R, domain: &Domain, task: &mut Task) -> u32
     ensures clean { IsClean task.new }
 {
     unlock_page(rt, domain, task, PAGE).holds
+}
+
+/// Waits until it has the page, and gives it back: true where it had it.
+pub fn hold_page<R: Wait>(rt: &R, domain: &Domain, task: &mut Task) -> bool
+    requires of { task.old.domain ≡ domain.now }
+    requires clean { IsClean task.old }
+    ensures of { task.new.domain ≡ domain.now }
+    ensures clean { IsClean task.new }
+{
+    match lock_page(rt, domain, task, PAGE, SleepState::Killable) {
+        Ok(()) => {
+            unlock_page(rt, domain, task, PAGE);
+            true
+        }
+        Err(_end) => false,
+    }
 }
 
 /// Takes the page, adds to its tally and gives the page back: the tally before, and None where the page was taken.

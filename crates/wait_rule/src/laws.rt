@@ -5,6 +5,7 @@ ghost use Rattle.wait_rule.specs.Says.{MeetsLaw};
 ghost use Rattle.wait_rule.specs.Worn.{EntriesWearLate, MarksWearLate, HoldsWearLate, OwnWearsLate, JoinedWearsLate};
 ghost use Rattle.wait_rule.specs.Worn.{HoldsNote, NotesStay, JoinKeepsNotes};
 ghost use Rattle.wait_rule.specs.WorkedEvents.{WorkedEvents};
+ghost use Rattle.wait_rule.specs.WorkedSetters.{WorkedSetters};
 ghost use Rattle.wait_rule.specs.WorkedHolds.{SimpleHolds, CallsRightly, PausesRightly};
 ghost use Rattle.wait_rule.specs.HandedPermits.{AllHandPermitsOn, NewcomersLeaveNone, OthersStayOff};
 ghost use Rattle.wait_rule.specs.HandedPermits.{RuleHandsPermitsOn, StepsHandPermitsOn};
@@ -168,6 +169,7 @@ pub fn setters_wake_all()
     ensures settled { StepsSettleAll }
     ensures rule { RuleWakesAll }
     ensures rule_settled { RuleSettlesAll }
+    ensures worked { WorkedSetters }
 {}
 
 /// No flag of an entry of kind Woken is lost on a Domain: in each table that meets the rule, and after each step of

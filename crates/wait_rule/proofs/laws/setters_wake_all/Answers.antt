@@ -4,6 +4,7 @@ use Rattle.wait_rule.proofs.KnownLaws.Setters.{
   steps_settle_all,
   steps_wake_all,
 }
+use Rattle.wait_rule.proofs.WorkedTests.WorkedSetters.{worked_setters}
 use Rattle.wait_rule.proofs.laws.setters_wake_all.Goals as goal
 
 pub returns-clause-steps : goal.returns-clause-steps
@@ -17,3 +18,6 @@ returns-clause-rule c = rule_wakes_all
 
 pub returns-clause-rule_settled : goal.returns-clause-rule_settled
 returns-clause-rule_settled c = rule_settles_all
+
+pub returns-clause-worked : goal.returns-clause-worked
+returns-clause-worked c = worked_setters

@@ -17,7 +17,7 @@ use Rattle.wait_model.specs.declared.steps.Step.TheVariants as step
 use Rattle.wait_model.specs.Fold.{view_of}
 use Rattle.wait_model.specs.Wakes.{Sleeps}
 use Rattle.wait_rule.specs.Interleavings.{TaskStep, table_of, AreAllowed}
-use Rattle.wait_rule.specs.Setters.{step_by, EndsItsWake, OwesNoMore}
+use Rattle.wait_rule.specs.Setters.{step_by, EndsItsWake, OwesNoMore, SetForGood}
 use Rattle.wait_rule.specs.WorkedHolds.{aim_for, worked_entry}
 
 abbrev pub the_set : Watch
@@ -64,6 +64,7 @@ pub record WorkedSetters : Type 0 where
   pub looked_allowed : AreAllowed set_and_looked
   pub looked_ends : EndsItsWake set_and_looked 1 the_set the_set UNINTERRUPTIBLE
   pub looked_settles : OwesNoMore set_and_looked 1 the_set the_set UNINTERRUPTIBLE
+  pub for_good : SetForGood (table_of set_and_looked).history 1 the_set the_set UNINTERRUPTIBLE
   pub sleeps : Sleeps (table_of set_for_it) 0 the_sleeper the_set
   pub owes : (view_of ((table_of (walk_of_one ++ set_for_it)).history 1)).duty.owes the_set UNINTERRUPTIBLE ≡ true
   pub walk_allowed : AreAllowed set_and_walked

@@ -1,7 +1,8 @@
 -- The worked orders of steps of setters, computed.
-use Rattle.std.proofs.Common.{refl, sym, ◌∙◌, arith}
-use Rattle.std.specs.Prelude.{ℕ, zero, suc, ◌≡◌, ◌+◌, ◌-◌, true, false, Option, Some, None, List, [], ◌∷◌, ◌++◌}
+use Rattle.std.proofs.Common.{refl, sym, ◌∙◌, subst, arith}
+use Rattle.std.specs.Prelude.{ℕ, zero, suc, ◌≡◌, ◌≢◌, ◌+◌, ◌-◌, true, false, Option, Some, None, List, [], ◌∷◌, ◌++◌}
 use Rattle.wait_model.specs.declared.layout.TheConstants.{ENTRIES, MEMBER_WORDS, FIRST_PLAIN_HEAD, NORMAL, RUNNABLE, UNINTERRUPTIBLE}
+use Rattle.wait_model.specs.declared.steps.Step.{Step}
 use Rattle.wait_model.specs.declared.steps.Step.TheVariants as step
 use Rattle.wait_model.specs.Watches.{hashed, head_of, owner, part_of}
 use Rattle.wait_model.specs.Tables.{met}
@@ -9,12 +10,13 @@ use Rattle.wait_model.specs.Tasks.{meets, task_of}
 use Rattle.wait_model.specs.Views.{all_below, all_cleared, all_passed}
 use Rattle.wait_model.specs.Words.{entry_of, spent_of}
 use Rattle.wait_model.specs.Fold.{view_of}
+use Rattle.wait_model.specs.Histories.{Lacks}
 use Rattle.wait_model.specs.Wakes.{Sleeps}
 use Rattle.wait_model.proofs.Functions.{put_other}
 use Rattle.wait_model.proofs.HistoryLaws.CalledEntries.{off_seen}
 use Rattle.wait_model.proofs.HistoryLaws.HoldBooks.{cleared_at}
 use Rattle.wait_rule.specs.Interleavings.{TaskStep, table_of, AreAllowed}
-use Rattle.wait_rule.specs.Setters.{step_by, StaysSet, UsesUpNone, EndsItsWake, OwesNoMore}
+use Rattle.wait_rule.specs.Setters.{step_by, uses_up, StaysSet, UsesUpNone, EndsItsWake, OwesNoMore, AllLeaveSet, SetForGood}
 use Rattle.wait_model.specs.declared.watches.Watch.{Watch}
 use Rattle.wait_model.specs.declared.watches.Entry.{Entry}
 use Rattle.wait_rule.specs.WorkedHolds.{aim_for}
@@ -212,6 +214,45 @@ looked_settles = record {
   stays = looked_stays MEMBER_WORDS;
 }
 
+looked_others : (n t : ℕ) → t ≢ 1 → (table_of (finds_none n ++ is_set)).history t ≡ []
+looked_others zero t ne = put_other {A = List Step} (λ _. []) 1 (step.Publish the_set 1 0 ∷ []) t ne
+looked_others (suc n) t ne =
+    put_other (table_of (finds_none n ++ is_set)).history 1
+    ((table_of (finds_none n ++ is_set)).history 1 ++ step.Scan FIRST_PLAIN_HEAD n 0 ∷ []) t ne
+    ∙ looked_others n t ne
+
+-- the member words, one after another
+scans_on : ℕ → ℕ → List Step
+scans_on i zero = []
+scans_on i (suc n) = step.Scan FIRST_PLAIN_HEAD i 0 ∷ scans_on (i + 1) n
+
+scans_leave : (i n : ℕ) → AllLeaveSet the_set (scans_on i n)
+unfolding scans_on
+scans_leave i zero = tt
+scans_leave i (suc n) = (λ s t m. m, scans_leave (i + 1) n)
+
+scans_whole : (i n : ℕ) → Lacks uses_up (scans_on i n)
+unfolding scans_on
+scans_whole i zero = tt
+scans_whole i (suc n) = (refl, scans_whole (i + 1) n)
+
+for_good : SetForGood (table_of set_and_looked).history 1 the_set the_set UNINTERRUPTIBLE
+unfolding scans_on
+for_good = record {
+  number = omega arith;
+  before = [];
+  publish = step.Publish the_set 1 0;
+  later = scans_on 0 MEMBER_WORDS;
+  split = refl;
+  is_publish = refl;
+  whole = scans_whole 0 MEMBER_WORDS;
+  settled = looked_settled;
+  watch = refl;
+  sets = λ s. refl;
+  own = scans_leave 0 MEMBER_WORDS;
+  others = λ t few ne. subst (AllLeaveSet the_set) (sym (looked_others MEMBER_WORDS t ne)) tt;
+}
+
 walk_settles : OwesNoMore set_and_walked 1 the_set the_set UNINTERRUPTIBLE
 walk_settles = record {
   before = put_asleep;
@@ -230,6 +271,7 @@ worked_setters = record {
   looked_allowed = looked_allowed MEMBER_WORDS;
   looked_ends = looked_ends;
   looked_settles = looked_settles;
+  for_good = for_good;
   sleeps = the_sleep;
   owes = owes;
   walk_allowed = walk_allowed;

@@ -12,6 +12,7 @@ pub mod PageLaws
 pub mod SpentCounts
 pub mod SetterSteps
 pub mod Setters
+pub mod SettersFound
 pub mod AfterSteps
 pub mod SleepLooks
 pub mod Transitions

@@ -4,5 +4,6 @@ pub mod SelectedEntry
 pub mod HandedPage
 pub mod WorkedHolds
 pub mod WorkedEvents
+pub mod WorkedSetters
 pub mod WorkedPipes
 pub mod PassedCells

@@ -44,6 +44,7 @@ pub mod Aside
 pub mod SaidEvents
 pub mod Worn
 pub mod WorkedHolds
+pub mod WorkedSetters
 pub mod Looking
 pub mod Passing
 pub mod Plays

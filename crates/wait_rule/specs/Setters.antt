@@ -1,20 +1,24 @@
 -- To be believed.
 -- A setter followed through an order of steps: it publishes a watch, and by a later step of it a wake of the watch ends
 -- that used up no count. Whoever the watch was set for all the while does not sleep on it any more.
-use Rattle.std.specs.Prelude.{ℕ, ◌≡◌, Bool, true, false, List, [], ◌∷◌, ◌++◌}
+use Rattle.std.specs.Prelude.{ℕ, ◌≡◌, ◌≢◌, ◌<◌, Bool, true, false, List, [], ◌∷◌, ◌++◌}
+use Rattle.wait_model.specs.declared.layout.TheConstants.{TASKS}
 use Rattle.wait_model.specs.declared.watches.Watch.{Watch}
 use Rattle.wait_model.specs.declared.watches.Entry.{Entry}
 use Rattle.wait_model.specs.declared.steps.Step.{Step}
 use Rattle.wait_model.specs.declared.steps.Step.TheVariants as step
 use Rattle.wait_model.specs.Watches.{same, owner}
 use Rattle.wait_model.specs.Fold.{view_of}
-use Rattle.wait_model.specs.Tables.{Table, met}
-use Rattle.wait_model.specs.Histories.{publishes}
+use Rattle.wait_model.specs.Tables.{Table, met, next}
+use Rattle.wait_model.specs.Histories.{Lacks, publishes}
 use Rattle.wait_model.specs.Owed.{EndsWake}
 use Rattle.wait_model.specs.Wakes.{Sleeps}
 use Rattle.wait_rule.specs.declared.journal.Item.{Item}
+use Rattle.wait_rule.specs.declared.journal.Journal.{Journal}
 use Rattle.wait_rule.specs.Interleavings.{TaskStep, table_of, AreAllowed}
 use Rattle.wait_rule.specs.Rule.{IsRuled}
+use Rattle.wait_rule.specs.Says.{IsShown}
+use Rattle.wait_rule.specs.TableLaws.{HasAll, histories_in}
 
 abbrev pub step_by : ℕ → Step → TaskStep
 step_by t e = record { task = t; made = e }
@@ -86,3 +90,37 @@ RuleWakesAll = (s : Table) (items : ℕ → List Item) (ruled : IsRuled s items)
 abbrev pub RuleSettlesAll : Type 0
 RuleSettlesAll = (s : Table) (items : ℕ → List Item) (ruled : IsRuled s items) (setter : ℕ) (c on : Watch) (σ : ℕ)
     → OwesNoMore ruled.whole.interleaved.steps setter c on σ → NobodySleeps s on σ
+
+-- wherever the watch is set before this step, it is set after it
+abbrev pub LeavesSet : Watch → Step → Type 0
+LeavesSet on e = (s : Table) (t : ℕ) → met s.words on ≡ true → met (next s t e).words on ≡ true
+
+abbrev pub AllLeaveSet : Watch → List Step → Type 0
+AllLeaveSet on [] = Unit {0}
+AllLeaveSet on (e ∷ es) = LeavesSet on e × AllLeaveSet on es
+
+-- By histories alone: a task has published c and so set the watch `on`, and no step of another task, and none of its own
+-- since, leaves the watch unset. It has used up no count since and owes no wake of c for tasks of state σ.
+pub record SetForGood (history : ℕ → List Step) (setter : ℕ) (c on : Watch) (σ : ℕ) : Type 0 where
+  pub number : setter < TASKS
+  pub before : List Step
+  pub publish : Step
+  pub later : List Step
+  pub split : history setter ≡ before ++ publish ∷ later
+  pub is_publish : publishes publish c ≡ true
+  pub whole : Lacks uses_up later
+  pub settled : (view_of (history setter)).duty.owes c σ ≡ false
+  pub watch : same on c ≡ true
+  pub sets : (s : Table) → met (next s setter publish).words on ≡ true
+  pub own : AllLeaveSet on later
+  pub others : (t : ℕ) → t < TASKS → t ≢ setter → AllLeaveSet on (history t)
+
+-- then nobody sleeps on the watch in that state, in each table that meets the rule
+abbrev pub RuleSetsForGood : Type 0
+RuleSetsForGood = (s : Table) (items : ℕ → List Item) → IsRuled s items → (setter : ℕ) (c on : Watch) (σ : ℕ)
+    → SetForGood s.history setter c on σ → NobodySleeps s on σ
+
+-- and in the one that a task sees, by the histories that it has when it has joined all others
+abbrev pub AllSetForGood : Type 0
+AllSetForGood = (v : Journal) (law : IsShown v) → HasAll v → (setter : ℕ) (c on : Watch) (σ : ℕ)
+    → SetForGood (histories_in v) setter c on σ → NobodySleeps law.table on σ

@@ -5,6 +5,7 @@ ghost use Rattle.wait_rule.specs.Says.{IsUp, MeetsLaw};
 ghost use Rattle.wait_rule.specs.Worn.{EntriesWearLate, MarksWearLate, HoldsWearLate, OwnWearsLate, JoinedWearsLate};
 ghost use Rattle.wait_rule.specs.Worn.{HoldsNote, NotesStay, JoinKeepsNotes};
 ghost use Rattle.wait_rule.specs.WorkedEvents.{WorkedEvents};
+ghost use Rattle.wait_rule.specs.WorkedSetters.{WorkedSetters};
 ghost use Rattle.wait_rule.specs.WorkedHolds.{SimpleHolds, CallsRightly, PausesRightly};
 ghost use Rattle.wait_rule.specs.HandedPermits.{AllHandPermitsOn, NewcomersLeaveNone, OthersStayOff};
 ghost use Rattle.wait_rule.specs.HandedPermits.{RuleHandsPermitsOn, StepsHandPermitsOn};
@@ -13,6 +14,7 @@ ghost use Rattle.wait_rule.specs.FlagLaws.{FlagsComeFirst, RuleLosesNoFlag, Step
 ghost use Rattle.wait_rule.specs.PageLaws.{RuleHandsWhole, RuleLeavesNone, RuleTakesForWaiters, WorkedPages};
 ghost use Rattle.wait_rule.specs.SaidEvents.{RunsBegin, RunsFollow, WakesFollow, WalksFollow};
 ghost use Rattle.wait_rule.specs.Selecting.{RunsSelect, RunsTell, WordsSelect};
+ghost use Rattle.wait_rule.specs.Setters.{AllSetForGood, RuleSetsForGood};
 ghost use Rattle.wait_rule.specs.Setters.{RuleSettlesAll, RuleWakesAll, StepsSettleAll, StepsWakeAll};
 ghost use Rattle.wait_rule.specs.TableLaws.{RuleLosesNoWake, StepsLoseNoWake, AllLoseNoWake};
 ghost use Rattle.wait_rule.specs.TableLaws.{RuleCountsSpent, AllCountSpent};
@@ -164,12 +166,16 @@ pub fn no_wake_lost()
 /// Whoever a watch was set for all the while since a task published it does not sleep on it any more once a wake of that
 /// task has ended since, which used up no count; and where the task has used up none since, once it owes that wake no
 /// more. So it is after each step of each order of allowed steps, and in each table that meets the rule, by the order
-/// that leads to it.
+/// that leads to it. Of a watch that nobody takes back it is told by histories alone, in each table that meets the rule,
+/// and to a task that has joined all others by those that it has.
 pub fn setters_wake_all()
     ensures steps { StepsWakeAll }
     ensures settled { StepsSettleAll }
     ensures rule { RuleWakesAll }
     ensures rule_settled { RuleSettlesAll }
+    ensures for_good { RuleSetsForGood }
+    ensures all_for_good { AllSetForGood }
+    ensures worked { WorkedSetters }
 {}
 
 /// No flag of an entry of kind Woken is lost on a Domain: in each table that meets the rule, and after each step of

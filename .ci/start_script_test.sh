@@ -235,11 +235,11 @@ WAITQ_LANES=2 MEDDLE_LIB="[ \$name != lower ] || exit 0; $finds" run "$stand_in"
 expect "who proves finds what was built" 1 "" "left is false"
 expect_number "what was kept, behind a proof that failed" "$(cat -- "$toy"/crates/{left,right}/out/incremental/work | xargs)" "left right"
 
-# While fewer crates are ready than there are jobs, one has the rest of the jobs.
+# While fewer crates are ready than there are jobs, one has a second job.
 : >"$work/calls"
 WAITQ_LANES=4 run "$stand_in"
 expect "four jobs" 0 "stand-in 5" "waitq: 1 of 4 proved, under way: left, right"
-expect_number "jobs" "$(sed -n 's/.*--jobs \([0-9]*\).*/\1/p' "$work/calls" | sort | xargs)" "1 3 4 4"
+expect_number "jobs" "$(sed -n 's/.*--jobs \([0-9]*\).*/\1/p' "$work/calls" | sort | xargs)" "1 2 2 2"
 
 write_program 6 7
 WAITQ_LANES=none run "$stand_in"

@@ -147,11 +147,44 @@ fn time_trips<R: Clock + Threads + Wait + Sync>(
 }
 
 /// Writes a line of a measurement, where one was asked for.
-fn report(rt: &HostRuntime, asked: bool, name: &str, n: u64, time: Duration) -> io::Result<()> {
+fn report<R: Print>(rt: &R, asked: bool, name: &str, n: u64, time: Duration) -> io::Result<()> {
     if asked {
         println!(rt; "{name} {n} {}", time.as_nanos())?;
     }
     Ok(())
+}
+
+/// The steps of one task, `steps` of each kind.
+fn time_steps<R: Clock + Print + Wait>(
+    rt: &R,
+    alloc: Global,
+    asked: bool,
+    steps: u64,
+) -> io::Result<()> {
+    let (domain, mut task) = Domain::new(alloc)?;
+    let start = Instant::now(rt)?;
+    let sum = loads(&domain, &mut task, steps);
+    let time = start.elapsed(rt)?;
+    report(rt, asked && sum < 2 * FATAL, "load", steps, time)?;
+    let start = Instant::now(rt)?;
+    exchanges(rt, &domain, &mut task, steps);
+    let time = start.elapsed(rt)?;
+    report(rt, asked, "exchange", steps, time)
+}
+
+/// The round trips, `trips` of each kind.
+fn time_all_trips<R: Clock + Print + Threads + Wait + Sync>(
+    rt: &R,
+    alloc: Global,
+    asked: bool,
+    trips: u64,
+) -> io::Result<()> {
+    let parked = time_trips(rt, alloc, 0, trips, Retry::Pause)?;
+    report(rt, asked, "trip_parked", trips, parked)?;
+    let yielding = time_trips(rt, alloc, 0, trips, Retry::Yield)?;
+    report(rt, asked, "trip_yielding", trips, yielding)?;
+    let looked = time_trips(rt, alloc, LOOKS, trips, Retry::Pause)?;
+    report(rt, asked, "trip_looked", trips, looked)
 }
 
 fn main(rt: HostRuntime) -> io::Result<()> {
@@ -162,24 +195,8 @@ fn main(rt: HostRuntime) -> io::Result<()> {
     } else {
         (100, 10)
     };
-    let (domain, mut task) = Domain::new(rt.alloc())?;
-
-    let start = Instant::now(&rt)?;
-    let sum = loads(&domain, &mut task, steps);
-    let time = start.elapsed(&rt)?;
-    report(&rt, asked && sum < 2 * FATAL, "load", steps, time)?;
-
-    let start = Instant::now(&rt)?;
-    exchanges(&rt, &domain, &mut task, steps);
-    let time = start.elapsed(&rt)?;
-    report(&rt, asked, "exchange", steps, time)?;
-
-    let parked = time_trips(&rt, rt.alloc(), 0, trips, Retry::Pause)?;
-    report(&rt, asked, "trip_parked", trips, parked)?;
-    let yielding = time_trips(&rt, rt.alloc(), 0, trips, Retry::Yield)?;
-    report(&rt, asked, "trip_yielding", trips, yielding)?;
-    let looked = time_trips(&rt, rt.alloc(), LOOKS, trips, Retry::Pause)?;
-    report(&rt, asked, "trip_looked", trips, looked)?;
+    time_steps(&rt, rt.alloc(), asked, steps)?;
+    time_all_trips(&rt, rt.alloc(), asked, trips)?;
     println!(rt; "done")?;
     Ok(())
 }

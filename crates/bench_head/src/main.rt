@@ -253,43 +253,100 @@ fn wait_idly<R: Clock + Threads + Wait + Sync>(rt: &R, alloc: Global) -> io::Res
     Ok(())
 }
 
-/// Writes a line of a measurement.
-fn report<R: Print>(rt: &R, name: &str, n: u64, time: Duration) -> io::Result<()> {
-    println!(rt; "{name} {n} {}", time.as_nanos())
+/// How much a round makes, and whether it writes its times.
+#[derive(Clone, Copy)]
+struct Plan {
+    steps: u64,
+    turns: u64,
+    surveys: u64,
+    writes: bool,
+}
+
+/// Writes a line of a measurement, where one was asked for.
+fn report<R: Print>(rt: &R, asked: bool, name: &str, n: u64, time: Duration) -> io::Result<()> {
+    if asked {
+        println!(rt; "{name} {n} {}", time.as_nanos())?;
+    }
+    Ok(())
+}
+
+/// Holds of one, two and four threads.
+fn round_of_holds<R: Clock + Print + Threads + Wait + Sync>(
+    rt: &R,
+    alloc: Global,
+    plan: Plan,
+) -> io::Result<()> {
+    let alone = time_holds(rt, alloc, plan.steps)?;
+    report(rt, plan.writes, "lock", plan.steps, alone)?;
+    let two = time_two(rt, alloc, plan.turns)?;
+    report(rt, plan.writes, "two", plan.turns.saturating_mul(2), two)?;
+    let four = time_four(rt, alloc, plan.turns)?;
+    report(rt, plan.writes, "four", plan.turns.saturating_mul(4), four)
+}
+
+/// Looks at a head without members, under its lock and without it, and whether none was found.
+fn round_of_looks<R: Clock + Print + Wait>(rt: &R, alloc: Global, plan: Plan) -> io::Result<bool> {
+    let (looks, found) = time_looks(rt, alloc, plan.surveys)?;
+    let (unlocked, seen) = time_unlocked_looks(rt, alloc, plan.surveys)?;
+    let is_right = found == 0 && seen == 0;
+    let asked = plan.writes && is_right;
+    report(rt, asked, "look", plan.surveys, looks)?;
+    report(rt, asked, "active", plan.surveys, unlocked)?;
+    Ok(is_right)
+}
+
+/// Wakes that call 1, 8 and 65 entries.
+fn round_of_wakes<R: Clock + Print + Wait>(rt: &R, alloc: Global, plan: Plan) -> io::Result<()> {
+    let one = time_wakes(rt, alloc, 1, plan.surveys)?;
+    report(rt, plan.writes, "wake_1", plan.surveys, one)?;
+    let eight = time_wakes(rt, alloc, 8, plan.surveys)?;
+    report(rt, plan.writes, "wake_8", plan.surveys, eight)?;
+    let most = time_wakes(rt, alloc, 65, plan.surveys)?;
+    report(rt, plan.writes, "wake_65", plan.surveys, most)
+}
+
+/// One round of all.
+fn round<R: Clock + Print + Threads + Wait + Sync>(
+    rt: &R,
+    alloc: Global,
+    plan: Plan,
+) -> io::Result<()> {
+    round_of_holds(rt, alloc, plan)?;
+    if round_of_looks(rt, alloc, plan)? {
+        round_of_wakes(rt, alloc, plan)?;
+    }
+    Ok(())
 }
 
 fn main(rt: HostRuntime) -> io::Result<()> {
     let words: Vec<String> = env::args(&rt)?.skip(1).collect(rt.alloc())?;
+    let alloc = rt.alloc();
     if words.first().is_some_and(|word| word.as_str() == "idle") {
-        return wait_idly(&rt, rt.alloc());
+        return wait_idly(&rt, alloc);
     }
-    let asked = !words.is_empty();
-    let (rounds, steps, turns, surveys): (u32, u64, u64, u64) = if asked {
-        (40, 100_000, 20_000, 2_000)
+    let (rounds, plan): (u32, Plan) = if words.is_empty() {
+        (
+            1,
+            Plan {
+                steps: 100,
+                turns: 100,
+                surveys: 10,
+                writes: false,
+            },
+        )
     } else {
-        (1, 100, 100, 10)
+        (
+            40,
+            Plan {
+                steps: 100_000,
+                turns: 20_000,
+                surveys: 2_000,
+                writes: true,
+            },
+        )
     };
     for _ in 0..rounds {
-        let alone = time_holds(&rt, rt.alloc(), steps)?;
-        let two = time_two(&rt, rt.alloc(), turns)?;
-        let four = time_four(&rt, rt.alloc(), turns)?;
-        let (looks, found) = time_looks(&rt, rt.alloc(), surveys)?;
-        let (unlocked, seen) = time_unlocked_looks(&rt, rt.alloc(), surveys)?;
-        let one = time_wakes(&rt, rt.alloc(), 1, surveys)?;
-        let eight = time_wakes(&rt, rt.alloc(), 8, surveys)?;
-        let most = time_wakes(&rt, rt.alloc(), 65, surveys)?;
-        if asked {
-            report(&rt, "lock", steps, alone)?;
-            report(&rt, "two", turns * 2, two)?;
-            report(&rt, "four", turns * 4, four)?;
-        }
-        if asked && found == 0 && seen == 0 {
-            report(&rt, "look", surveys, looks)?;
-            report(&rt, "active", surveys, unlocked)?;
-            report(&rt, "wake_1", surveys, one)?;
-            report(&rt, "wake_8", surveys, eight)?;
-            report(&rt, "wake_65", surveys, most)?;
-        }
+        round(&rt, alloc, plan)?;
     }
     println!(rt; "done")?;
     Ok(())

@@ -1,4 +1,4 @@
-use crate::test_steps::{goes_on, ran};
+use crate::test_steps::{goes_on, has, opens, ran, runs, shows};
 use std::test::Fail;
 use wait_core::{Core, StartFault, Stepped};
 use wait_model::calls::{Answer, Call, Event, Ran};
@@ -15,25 +15,49 @@ const WORD: u32 = CONDITION_AT + FIRST_BIT_WORD as u32 + 127;
 #[test]
 fn a_bit_is_cleared_by_the_task_that_keeps_it(rt: HostRuntime) -> Result<(), Fail> {
     let mut core = Core::new(rt.alloc())?;
-    assert!(rt; matches!(core.start(1, CLEAR), Err(StartFault::NotHeld)));
-    assert_eq!(rt; ran(&mut core, 1, TRY), (1, Some(1)));
-    assert_eq!(rt; core.word_at(WORD), 1 << 63);
-    assert_eq!(rt; ran(&mut core, 2, TRY), (1, Some(0)));
-    assert!(rt; matches!(core.start(2, CLEAR), Err(StartFault::NotHeld)));
-    assert_eq!(rt; ran(&mut core, 1, CLEAR), (2, None));
-    assert_eq!(rt; core.word_at(WORD), 0);
-    assert!(rt; matches!(core.start(1, CLEAR), Err(StartFault::NotHeld)));
+    shows(
+        &rt,
+        1,
+        matches!(core.start(1, CLEAR), Err(StartFault::NotHeld)),
+    );
+    runs(&rt, &mut core, 1, TRY, (1, Some(1)));
+    has(&rt, &core, WORD, 1 << 63);
+    runs(&rt, &mut core, 2, TRY, (1, Some(0)));
+    shows(
+        &rt,
+        5,
+        matches!(core.start(2, CLEAR), Err(StartFault::NotHeld)),
+    );
+    runs(&rt, &mut core, 1, CLEAR, (2, None));
+    has(&rt, &core, WORD, 0);
+    shows(
+        &rt,
+        8,
+        matches!(core.start(1, CLEAR), Err(StartFault::NotHeld)),
+    );
     Ok(())
 }
 
 #[test]
 fn the_last_task_keeps_a_bit_until_it_clears_it(rt: HostRuntime) -> Result<(), Fail> {
     let mut core = Core::new(rt.alloc())?;
-    assert!(rt; matches!(core.start(255, CLEAR), Err(StartFault::NotHeld)));
-    assert_eq!(rt; ran(&mut core, 255, TRY), (1, Some(1)));
-    assert!(rt; matches!(core.start(254, CLEAR), Err(StartFault::NotHeld)));
-    assert_eq!(rt; ran(&mut core, 255, CLEAR), (2, None));
-    assert!(rt; matches!(core.start(255, CLEAR), Err(StartFault::NotHeld)));
+    shows(
+        &rt,
+        1,
+        matches!(core.start(255, CLEAR), Err(StartFault::NotHeld)),
+    );
+    runs(&rt, &mut core, 255, TRY, (1, Some(1)));
+    shows(
+        &rt,
+        3,
+        matches!(core.start(254, CLEAR), Err(StartFault::NotHeld)),
+    );
+    runs(&rt, &mut core, 255, CLEAR, (2, None));
+    shows(
+        &rt,
+        5,
+        matches!(core.start(255, CLEAR), Err(StartFault::NotHeld)),
+    );
     Ok(())
 }
 
@@ -45,19 +69,23 @@ fn a_clear_wakes_one_that_waits_to_take_the_bit(rt: HostRuntime) -> Result<(), F
         bit: 63,
         state: SleepState::Uninterruptible,
     };
-    assert_eq!(rt; ran(&mut core, 1, TRY), (1, Some(1)));
-    assert!(rt; core.start(2, take).is_ok());
+    runs(&rt, &mut core, 1, TRY, (1, Some(1)));
+    opens(&rt, &mut core, 2, take);
     let (made, answer) = goes_on(&mut core, 2);
     assert_eq!(rt; answer, None);
-    assert!(rt; made > 0);
+    shows(&rt, 4, made > 0);
     let (made, _) = ran(&mut core, 1, CLEAR);
-    assert!(rt; made > 2);
+    shows(&rt, 5, made > 2);
     let (_, answer) = goes_on(&mut core, 2);
     assert_eq!(rt; answer, Some(0));
-    assert_eq!(rt; core.word_at(WORD), 1 << 63);
-    assert!(rt; matches!(core.start(1, CLEAR), Err(StartFault::NotHeld)));
+    has(&rt, &core, WORD, 1 << 63);
+    shows(
+        &rt,
+        8,
+        matches!(core.start(1, CLEAR), Err(StartFault::NotHeld)),
+    );
     let (_, _) = ran(&mut core, 2, CLEAR);
-    assert_eq!(rt; core.word_at(WORD), 0);
+    has(&rt, &core, WORD, 0);
     Ok(())
 }
 
@@ -85,16 +113,16 @@ fn a_look_for_members_names_no_word(rt: HostRuntime) -> Result<(), Fail> {
         old: 0,
         state: SleepState::Uninterruptible,
     };
-    assert!(rt; core.start(0, wait).is_ok());
+    opens(&rt, &mut core, 0, wait);
     let (made, answer) = goes_on(&mut core, 0);
     assert_eq!(rt; answer, None);
-    assert!(rt; made > 0);
-    assert!(rt; core.word_at(ENTRY_AT) != 0);
-    assert_eq!(rt; ran(&mut core, 1, TRY), (1, Some(1)));
-    assert_eq!(rt; ran(&mut core, 1, CLEAR), (2, None));
+    shows(&rt, 3, made > 0);
+    shows(&rt, 4, core.word_at(ENTRY_AT) != 0);
+    runs(&rt, &mut core, 1, TRY, (1, Some(1)));
+    runs(&rt, &mut core, 1, CLEAR, (2, None));
     assert_eq!(rt; last_look(core.ran()), Some((0, false)));
     let (_, _) = ran(&mut core, 1, Call::SetVar { var: 0, value: 7 });
     assert_eq!(rt; last_look(core.ran()), Some((0, true)));
-    assert_eq!(rt; core.word_at(0), 0);
+    has(&rt, &core, 0, 0);
     Ok(())
 }

@@ -1,6 +1,7 @@
 ghost use Rattle.wait_model.specs.Admission.{IsListed};
 
-use crate::test_steps::made;
+use crate::test_steps::{has, made, opens, shows};
+use std::process::Abort;
 use std::test::Fail;
 use wait_core::{Core, StartFault, Stepped};
 use wait_model::calls::{Answer, Call, Event};
@@ -63,6 +64,11 @@ fn steps(core: &mut Core, task: u8, most: u32) -> u32 {
     most
 }
 
+/// Makes up to `most` events of a task, and compares how many it made.
+fn makes(rt: &impl Abort, core: &mut Core, task: u8, most: u32, wanted: u32) {
+    assert_eq!(rt; steps(core, task, most), wanted, "task {task}");
+}
+
 /// What a walk answers that ends with its next event.
 fn walked(core: &mut Core, task: u8) -> Option<Walked> {
     match core.step(task) {
@@ -77,15 +83,15 @@ fn walked(core: &mut Core, task: u8) -> Option<Walked> {
 #[test]
 fn one_waiter_set_and_wake(rt: HostRuntime) -> Result<(), Fail> {
     let mut core = Core::new(rt.alloc())?;
-    assert!(rt; core.start(1, PLAIN).is_ok());
-    assert_eq!(rt; steps(&mut core, 1, 99), 7);
-    assert!(rt; core.start(2, Call::Set { cond: 0, value: 1 }).is_ok());
-    assert_eq!(rt; steps(&mut core, 2, 1), 1);
-    assert!(rt; core.start(2, WAKE).is_ok());
-    assert_eq!(rt; steps(&mut core, 2, 99), 4);
-    assert_eq!(rt; steps(&mut core, 1, 99), 10);
+    opens(&rt, &mut core, 1, PLAIN);
+    makes(&rt, &mut core, 1, 99, 7);
+    opens(&rt, &mut core, 2, Call::Set { cond: 0, value: 1 });
+    makes(&rt, &mut core, 2, 1, 1);
+    opens(&rt, &mut core, 2, WAKE);
+    makes(&rt, &mut core, 2, 99, 4);
+    makes(&rt, &mut core, 1, 99, 10);
     assert_eq!(rt; core.ran().len(), 25);
-    assert_eq!(rt; core.word_at(CONDITION_AT), 1);
+    has(&rt, &core, CONDITION_AT, 1);
     Ok(())
 }
 
@@ -94,29 +100,50 @@ fn wake_of_one_passes_plain_waiters_and_stops_behind_an_exclusive_one(
     rt: HostRuntime,
 ) -> Result<(), Fail> {
     let mut core = Core::new(rt.alloc())?;
-    assert!(rt; core.start(1, EXCLUSIVE).is_ok());
-    assert_eq!(rt; steps(&mut core, 1, 99), 8);
-    assert!(rt; core.start(2, EXCLUSIVE).is_ok());
-    assert_eq!(rt; steps(&mut core, 2, 99), 8);
-    assert!(rt; core.start(3, PLAIN).is_ok());
-    assert_eq!(rt; steps(&mut core, 3, 99), 7);
-    assert!(rt;
-        core.start(
-            4,
-            Call::Wake {
-                cond: 0,
-                mode: Mode::Normal,
-                count: 1
-            }
-        )
-        .is_ok()
+    opens(&rt, &mut core, 1, EXCLUSIVE);
+    makes(&rt, &mut core, 1, 99, 8);
+    opens(&rt, &mut core, 2, EXCLUSIVE);
+    makes(&rt, &mut core, 2, 99, 8);
+    opens(&rt, &mut core, 3, PLAIN);
+    makes(&rt, &mut core, 3, 99, 7);
+    opens(
+        &rt,
+        &mut core,
+        4,
+        Call::Wake {
+            cond: 0,
+            mode: Mode::Normal,
+            count: 1,
+        },
     );
-    assert!(rt; matches!(made(&mut core, 4), Some(Event::Lock { head: 256 })));
-    assert!(rt; matches!(made(&mut core, 4), Some(Event::Wake { who: 3, yes: true })));
-    assert!(rt; matches!(made(&mut core, 4), Some(Event::Unqueue { who: 3 })));
-    assert!(rt; matches!(made(&mut core, 4), Some(Event::Wake { who: 1, yes: true })));
-    assert!(rt; matches!(made(&mut core, 4), Some(Event::Unqueue { who: 1 })));
-    assert!(rt;
+    shows(
+        &rt,
+        8,
+        matches!(made(&mut core, 4), Some(Event::Lock { head: 256 })),
+    );
+    shows(
+        &rt,
+        9,
+        matches!(made(&mut core, 4), Some(Event::Wake { who: 3, yes: true })),
+    );
+    shows(
+        &rt,
+        10,
+        matches!(made(&mut core, 4), Some(Event::Unqueue { who: 3 })),
+    );
+    shows(
+        &rt,
+        11,
+        matches!(made(&mut core, 4), Some(Event::Wake { who: 1, yes: true })),
+    );
+    shows(
+        &rt,
+        12,
+        matches!(made(&mut core, 4), Some(Event::Unqueue { who: 1 })),
+    );
+    shows(
+        &rt,
+        13,
         matches!(
             walked(&mut core, 4),
             Some(Walked {
@@ -125,24 +152,38 @@ fn wake_of_one_passes_plain_waiters_and_stops_behind_an_exclusive_one(
                 holds: 1,
                 end: End::Spent
             })
-        )
+        ),
     );
-    assert_eq!(rt; core.word_at(HEAD_AT + 256), 4);
-    assert_eq!(rt; core.word_at(ENTRY_AT + 2), 0);
-    assert!(rt; core.word_at(ENTRY_AT + 4) != 0);
+    has(&rt, &core, HEAD_AT + 256, 4);
+    has(&rt, &core, ENTRY_AT + 2, 0);
+    shows(&rt, 16, core.word_at(ENTRY_AT + 4) != 0);
     Ok(())
 }
 
 #[test]
 fn flag_that_was_set_before_the_state_is_found(rt: HostRuntime) -> Result<(), Fail> {
     let mut core = Core::new(rt.alloc())?;
-    assert!(rt; core.start(1, ADD).is_ok());
-    assert_eq!(rt; steps(&mut core, 1, 99), 3);
-    assert!(rt; core.start(2, WAKE).is_ok());
-    assert!(rt; matches!(made(&mut core, 2), Some(Event::Lock { head: 256 })));
-    assert!(rt; matches!(made(&mut core, 2), Some(Event::Woken { who: 1 })));
-    assert!(rt; matches!(made(&mut core, 2), Some(Event::Wake { who: 1, yes: false })));
-    assert!(rt;
+    opens(&rt, &mut core, 1, ADD);
+    makes(&rt, &mut core, 1, 99, 3);
+    opens(&rt, &mut core, 2, WAKE);
+    shows(
+        &rt,
+        4,
+        matches!(made(&mut core, 2), Some(Event::Lock { head: 256 })),
+    );
+    shows(
+        &rt,
+        5,
+        matches!(made(&mut core, 2), Some(Event::Woken { who: 1 })),
+    );
+    shows(
+        &rt,
+        6,
+        matches!(made(&mut core, 2), Some(Event::Wake { who: 1, yes: false })),
+    );
+    shows(
+        &rt,
+        7,
         matches!(
             walked(&mut core, 2),
             Some(Walked {
@@ -151,24 +192,35 @@ fn flag_that_was_set_before_the_state_is_found(rt: HostRuntime) -> Result<(), Fa
                 holds: 1,
                 end: End::End
             })
-        )
+        ),
     );
-    assert!(rt;
-        core.start(
-            1,
-            Call::Woken {
-                state: SleepState::Interruptible
-            }
-        )
-        .is_ok()
+    opens(
+        &rt,
+        &mut core,
+        1,
+        Call::Woken {
+            state: SleepState::Interruptible,
+        },
     );
-    assert!(rt; matches!(made(&mut core, 1), Some(Event::State { state: 1 })));
-    assert!(rt; matches!(made(&mut core, 1), Some(Event::Flag { yes: true })));
-    assert!(rt; matches!(made(&mut core, 1), Some(Event::State { state: 0 })));
-    assert!(rt; matches!(made(&mut core, 1), Some(Event::Unflag)));
-    assert!(rt; core.start(1, Call::Remove).is_ok());
-    assert_eq!(rt; steps(&mut core, 1, 99), 3);
-    assert_eq!(rt; core.word_at(FLAG_AT + 2), 0);
+    shows(
+        &rt,
+        9,
+        matches!(made(&mut core, 1), Some(Event::State { state: 1 })),
+    );
+    shows(
+        &rt,
+        10,
+        matches!(made(&mut core, 1), Some(Event::Flag { yes: true })),
+    );
+    shows(
+        &rt,
+        11,
+        matches!(made(&mut core, 1), Some(Event::State { state: 0 })),
+    );
+    shows(&rt, 12, matches!(made(&mut core, 1), Some(Event::Unflag)));
+    opens(&rt, &mut core, 1, Call::Remove);
+    makes(&rt, &mut core, 1, 99, 3);
+    has(&rt, &core, FLAG_AT + 2, 0);
     Ok(())
 }
 
@@ -177,15 +229,25 @@ fn calls_on_the_own_entry_are_refused_where_it_is_not_as_they_want(
     rt: HostRuntime,
 ) -> Result<(), Fail> {
     let mut core = Core::new(rt.alloc())?;
-    assert!(rt; matches!(core.start(1, Call::Remove), Err(StartFault::NoEntry)));
-    assert!(rt; core.start(1, ADD).is_ok());
-    assert_eq!(rt; steps(&mut core, 1, 99), 3);
-    assert!(rt; matches!(core.start(1, PLAIN), Err(StartFault::EntryQueued)));
-    assert!(rt;
+    shows(
+        &rt,
+        1,
+        matches!(core.start(1, Call::Remove), Err(StartFault::NoEntry)),
+    );
+    opens(&rt, &mut core, 1, ADD);
+    makes(&rt, &mut core, 1, 99, 3);
+    shows(
+        &rt,
+        4,
+        matches!(core.start(1, PLAIN), Err(StartFault::EntryQueued)),
+    );
+    shows(
+        &rt,
+        5,
         matches!(
             core.start(1, Call::Set { cond: 64, value: 1 }),
             Err(StartFault::NoSuchCond)
-        )
+        ),
     );
     Ok(())
 }
@@ -251,13 +313,13 @@ fn walk_of_66_breaks_once(rt: HostRuntime) -> Result<(), Fail> {
 fn entry_that_moves_during_a_break_is_not_called(rt: HostRuntime) -> Result<(), Fail> {
     let mut core = Core::new(rt.alloc())?;
     add_many(&mut core, 66);
-    assert!(rt; core.start(100, WAKE).is_ok());
-    assert_eq!(rt; steps(&mut core, 100, 68), 68);
-    assert!(rt; core.word_at(BOOKMARK_AT + 100) != 0);
-    assert!(rt; core.start(0, Call::Remove).is_ok());
-    assert_eq!(rt; steps(&mut core, 0, 99), 3);
+    opens(&rt, &mut core, 100, WAKE);
+    makes(&rt, &mut core, 100, 68, 68);
+    shows(&rt, 3, core.word_at(BOOKMARK_AT + 100) != 0);
+    opens(&rt, &mut core, 0, Call::Remove);
+    makes(&rt, &mut core, 0, 99, 3);
     add_many(&mut core, 1);
-    assert_eq!(rt; steps(&mut core, 100, 999), 3);
-    assert_eq!(rt; core.word_at(BOOKMARK_AT + 100), 0);
+    makes(&rt, &mut core, 100, 999, 3);
+    has(&rt, &core, BOOKMARK_AT + 100, 0);
     Ok(())
 }

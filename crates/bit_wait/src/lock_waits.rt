@@ -1,14 +1,15 @@
 //! A wait to take a bit as a machine of small stages: one event at most in each turn, which waits for nobody.
 
-ghost use Rattle.std.specs.Prelude.{◌≡◌, true};
+ghost use Rattle.std.specs.Prelude.{◌≡◌, ◌⊎◌, is_some, false, true};
 ghost use Rattle.wait_model.specs.declared.watches.Watch.TheVariants as watch;
 ghost use Rattle.wait_model.specs.Tasks.{task_of};
 ghost use Rattle.wait_event.specs.Posts.{HasSeenOwn};
 ghost use Rattle.wait_event.specs.Waits.{nothing, with_entry, with_own, with_value};
+ghost use Rattle.wait_rule.specs.PassedLocks.{PassesNone};
 ghost use Rattle.wait_rule.specs.Says.{IsUp};
 ghost use Rattle.bit_wait.specs.declared.lock_waits.LockStage.TheVariants as stage;
 ghost use Rattle.bit_wait.specs.declared.lock_waits.LockTurn.TheVariants as turn;
-ghost use Rattle.bit_wait.specs.LockWaits.{Advances, IsAt, IsFresh, IsPlain};
+ghost use Rattle.bit_wait.specs.LockWaits.{Advances, IsAt, IsFresh, IsPlain, IsStop};
 ghost use Rattle.bit_wait.specs.LockWaits.{goes_to, next_in, state_at, falls, turn_of};
 ghost use Rattle.bit_wait.specs.LockWaits.{acted_to, end_of, slept_to};
 ghost use Rattle.bit_wait.specs.LockWaits.{DrawsAt, LoadsAt, LocksAt, ParesAt, PeeksAt, StoresAt, TriesAt, UnlocksAt};
@@ -20,7 +21,7 @@ use wait_model::tasks::{Sleep, SleepState};
 use wait_model::watches::{Entry, Watch};
 use wait_model::words::{bit_at, entry_of};
 use wait_rule::bits::bit_set;
-use wait_rule::queues::{cond_load, draw, entry_load, lock_step, serving_load};
+use wait_rule::queues::{Passing, cond_load, draw, entry_load, lock_step, serving_load};
 use wait_rule::tasks::{load_own, set_state};
 use wait_rule::tries::sleep_try;
 use wait_rule::{Domain, Task};
@@ -216,6 +217,7 @@ fn finished(failed: bool) -> LockTurn
 fn unlocked(run: LockRun, stage: LockStage) -> LockTurn
     requires here { UnlocksAt stage }
     ensures goes { next_in result ≡ goes_to run stage nothing }
+    ensures stops { IsStop result }
     ensures plain { IsPlain run result }
     ensures falls { falls stage result ≡ true }
 {
@@ -246,6 +248,7 @@ fn stated(run: LockRun, stage: LockStage) -> LockTurn
 fn pared(run: LockRun, stage: LockStage, entry: Option<Entry>) -> LockTurn
     requires here { ParesAt stage }
     ensures goes { next_in result ≡ goes_to run stage (with_entry entry) }
+    ensures stops { is_some entry ≡ false → IsStop result }
     ensures plain { IsPlain run result }
     ensures falls { falls stage result ≡ true }
 {
@@ -352,14 +355,22 @@ fn lock_event(domain: &Domain, task: &mut Task, run: &mut LockRun, stage: LockSt
 
 /// The head is given back.
 #[inline(always)]
-fn unlock_event(domain: &Domain, task: &mut Task, run: &mut LockRun, stage: LockStage) -> LockTurn
+fn unlock_event(
+    domain: &Domain,
+    task: &mut Task,
+    run: &mut LockRun,
+    stage: LockStage,
+    passing: &mut Passing,
+) -> LockTurn
     requires of { task.old.domain ≡ domain.now }
+    requires passes { PassesNone passing.old }
     requires here { UnlocksAt stage }
     requires at { IsAt task.old run.old stage }
     ensures advances { Advances task.old task.new run.old run.new stage result }
+    ensures passes { PassesNone passing.new ⊎ IsStop result }
     ensures falls { falls stage result ≡ true }
 {
-    give_back(domain, task, false);
+    passing.put(give_back(domain, task, false));
     unlocked(*run, stage)
 }
 
@@ -404,10 +415,17 @@ fn state_event(domain: &Domain, task: &mut Task, run: &mut LockRun, stage: LockS
 /// The own entry is queued at the tail, exclusive, where it is off; where it is queued still, the state is stored.
 /// Where no place is left for it the head is given back.
 #[inline(always)]
-fn queue_event(domain: &Domain, task: &mut Task, run: &mut LockRun) -> LockTurn
+fn queue_event(
+    domain: &Domain,
+    task: &mut Task,
+    run: &mut LockRun,
+    passing: &mut Passing,
+) -> LockTurn
     requires of { task.old.domain ≡ domain.now }
+    requires passes { PassesNone passing.old }
     requires at { IsAt task.old run.old stage.PrepareQueue }
     ensures advances { Advances task.old task.new run.old run.new stage.PrepareQueue result }
+    ensures passes { PassesNone passing.new ⊎ IsStop result }
     ensures falls { falls stage.PrepareQueue result ≡ true }
 {
     let entry = own_entry(domain, task);
@@ -421,7 +439,7 @@ fn queue_event(domain: &Domain, task: &mut Task, run: &mut LockRun) -> LockTurn
             run.place = worn.place;
             run.worn = true;
             own_entry(domain, task);
-            give_back(domain, task, false);
+            passing.put(give_back(domain, task, false));
             LockTurn::Again(LockStage::Worn)
         }
     }
@@ -429,11 +447,19 @@ fn queue_event(domain: &Domain, task: &mut Task, run: &mut LockRun) -> LockTurn
 
 /// The own entry is taken off where it is queued, and else the head given back.
 #[inline(always)]
-fn pare_event(domain: &Domain, task: &mut Task, run: &mut LockRun, stage: LockStage) -> LockTurn
+fn pare_event(
+    domain: &Domain,
+    task: &mut Task,
+    run: &mut LockRun,
+    stage: LockStage,
+    passing: &mut Passing,
+) -> LockTurn
     requires of { task.old.domain ≡ domain.now }
+    requires passes { PassesNone passing.old }
     requires here { ParesAt stage }
     requires at { IsAt task.old run.old stage }
     ensures advances { Advances task.old task.new run.old run.new stage result }
+    ensures passes { PassesNone passing.new ⊎ IsStop result }
     ensures falls { falls stage result ≡ true }
 {
     let me = task.number();
@@ -442,7 +468,7 @@ fn pare_event(domain: &Domain, task: &mut Task, run: &mut LockRun, stage: LockSt
         remove(domain, task, me, 0);
         return pared(*run, stage, entry);
     }
-    give_back(domain, task, false);
+    passing.put(give_back(domain, task, false));
     pared(*run, stage, entry)
 }
 
@@ -497,10 +523,13 @@ pub fn advance_lock(
     task: &mut Task,
     run: &mut LockRun,
     stage: LockStage,
+    passing: &mut Passing,
 ) -> LockTurn
     requires of { task.old.domain ≡ domain.now }
+    requires passes { PassesNone passing.old }
     requires at { IsAt task.old run.old stage }
     ensures advances { Advances task.old task.new run.old run.new stage result }
+    ensures passes { PassesNone passing.new ⊎ IsStop result }
     ensures falls { falls stage result ≡ true }
 {
     match stage {
@@ -519,12 +548,12 @@ pub fn advance_lock(
         }
         LockStage::PrepareTurn => lock_event(domain, task, run, stage),
         LockStage::FinishTurn(_) => lock_event(domain, task, run, stage),
-        LockStage::PrepareQueue => queue_event(domain, task, run),
+        LockStage::PrepareQueue => queue_event(domain, task, run, passing),
         LockStage::PrepareState => state_event(domain, task, run, stage),
         LockStage::FinishState(_) => state_event(domain, task, run, stage),
-        LockStage::PrepareUnlock => unlock_event(domain, task, run, stage),
-        LockStage::FinishUnlock(_) => unlock_event(domain, task, run, stage),
-        LockStage::FinishQueue(_) => pare_event(domain, task, run, stage),
+        LockStage::PrepareUnlock => unlock_event(domain, task, run, stage, passing),
+        LockStage::FinishUnlock(_) => unlock_event(domain, task, run, stage, passing),
+        LockStage::FinishQueue(_) => pare_event(domain, task, run, stage, passing),
         LockStage::FinishLook(_) => peek_event(domain, task, run, stage),
         LockStage::Look => look_event(domain, task, run),
         LockStage::Sleep => sleep_event(domain, task, run),

@@ -1,14 +1,15 @@
 //! A wait until a bit is clear as a machine of small stages: one event at most in each turn, which waits for nobody.
 
-ghost use Rattle.std.specs.Prelude.{◌≡◌, true};
+ghost use Rattle.std.specs.Prelude.{◌≡◌, ◌⊎◌, is_some, false, true};
 ghost use Rattle.wait_model.specs.declared.watches.Watch.TheVariants as watch;
 ghost use Rattle.wait_model.specs.Tasks.{task_of};
 ghost use Rattle.wait_event.specs.Posts.{HasSeenOwn};
 ghost use Rattle.wait_event.specs.Waits.{nothing, with_entry, with_own, with_value};
+ghost use Rattle.wait_rule.specs.PassedLocks.{PassesNone};
 ghost use Rattle.wait_rule.specs.Says.{IsUp};
 ghost use Rattle.bit_wait.specs.declared.waits.BitStage.TheVariants as stage;
 ghost use Rattle.bit_wait.specs.declared.waits.BitTurn.TheVariants as turn;
-ghost use Rattle.bit_wait.specs.BitWaits.{Advances, IsAt, IsFresh, IsPlain, goes_to, next_in, state_at, falls, turn_of};
+ghost use Rattle.bit_wait.specs.BitWaits.{Advances, IsAt, IsFresh, IsPlain, IsStop, goes_to, next_in, state_at, falls, turn_of};
 ghost use Rattle.bit_wait.specs.BitWaits.{end_of, slept_to};
 ghost use Rattle.bit_wait.specs.BitWaits.{AsksAt, DrawsAt, LoadsAt, LocksAt, ParesAt, PeeksAt, StoresAt, UnlocksAt};
 
@@ -18,7 +19,7 @@ use wait_model::task_words::{TaskWord, pending_state};
 use wait_model::tasks::{Sleep, SleepState};
 use wait_model::watches::{Entry, Kind, Watch};
 use wait_model::words::{bit_at, entry_of};
-use wait_rule::queues::{cond_load, draw, entry_load, lock_step, serving_load};
+use wait_rule::queues::{Passing, cond_load, draw, entry_load, lock_step, serving_load};
 use wait_rule::tasks::{load_own, set_state};
 use wait_rule::tries::sleep_try;
 use wait_rule::{Domain, Task};
@@ -202,6 +203,7 @@ fn finished(failed: bool) -> BitOutcome
 fn unlocked(run: BitRun, stage: BitStage) -> BitTurn
     requires here { UnlocksAt stage }
     ensures goes { next_in result ≡ goes_to run stage nothing }
+    ensures stops { IsStop result }
     ensures plain { IsPlain run result }
     ensures falls { falls stage result ≡ true }
 {
@@ -232,6 +234,7 @@ fn stated(run: BitRun, stage: BitStage) -> BitTurn
 fn pared(run: BitRun, stage: BitStage, entry: Option<Entry>) -> BitTurn
     requires here { ParesAt stage }
     ensures goes { next_in result ≡ goes_to run stage (with_entry entry) }
+    ensures stops { is_some entry ≡ false → IsStop result }
     ensures plain { IsPlain run result }
     ensures falls { falls stage result ≡ true }
 {
@@ -338,14 +341,22 @@ fn lock_event(domain: &Domain, task: &mut Task, run: &mut BitRun, stage: BitStag
 
 /// The head is given back.
 #[inline(always)]
-fn unlock_event(domain: &Domain, task: &mut Task, run: &mut BitRun, stage: BitStage) -> BitTurn
+fn unlock_event(
+    domain: &Domain,
+    task: &mut Task,
+    run: &mut BitRun,
+    stage: BitStage,
+    passing: &mut Passing,
+) -> BitTurn
     requires of { task.old.domain ≡ domain.now }
+    requires passes { PassesNone passing.old }
     requires here { UnlocksAt stage }
     requires at { IsAt task.old run.old stage }
     ensures advances { Advances task.old task.new run.old run.new stage result }
+    ensures passes { PassesNone passing.new ⊎ IsStop result }
     ensures falls { falls stage result ≡ true }
 {
-    give_back(domain, task, false);
+    passing.put(give_back(domain, task, false));
     unlocked(*run, stage)
 }
 
@@ -378,10 +389,12 @@ fn state_event(domain: &Domain, task: &mut Task, run: &mut BitRun, stage: BitSta
 /// The own entry is queued at the front where it is off; where it is queued still, the state is stored. Where no place
 /// is left for it the head is given back.
 #[inline(always)]
-fn queue_event(domain: &Domain, task: &mut Task, run: &mut BitRun) -> BitTurn
+fn queue_event(domain: &Domain, task: &mut Task, run: &mut BitRun, passing: &mut Passing) -> BitTurn
     requires of { task.old.domain ≡ domain.now }
+    requires passes { PassesNone passing.old }
     requires at { IsAt task.old run.old stage.PrepareQueue }
     ensures advances { Advances task.old task.new run.old run.new stage.PrepareQueue result }
+    ensures passes { PassesNone passing.new ⊎ IsStop result }
     ensures falls { falls stage.PrepareQueue result ≡ true }
 {
     let entry = own_entry(domain, task);
@@ -394,7 +407,7 @@ fn queue_event(domain: &Domain, task: &mut Task, run: &mut BitRun) -> BitTurn
         Err(worn) => {
             run.place = worn.place;
             own_entry(domain, task);
-            give_back(domain, task, false);
+            passing.put(give_back(domain, task, false));
             BitTurn::Again(BitStage::Worn)
         }
     }
@@ -402,11 +415,19 @@ fn queue_event(domain: &Domain, task: &mut Task, run: &mut BitRun) -> BitTurn
 
 /// The own entry is taken off where it is queued, and else the head given back.
 #[inline(always)]
-fn pare_event(domain: &Domain, task: &mut Task, run: &mut BitRun, stage: BitStage) -> BitTurn
+fn pare_event(
+    domain: &Domain,
+    task: &mut Task,
+    run: &mut BitRun,
+    stage: BitStage,
+    passing: &mut Passing,
+) -> BitTurn
     requires of { task.old.domain ≡ domain.now }
+    requires passes { PassesNone passing.old }
     requires here { ParesAt stage }
     requires at { IsAt task.old run.old stage }
     ensures advances { Advances task.old task.new run.old run.new stage result }
+    ensures passes { PassesNone passing.new ⊎ IsStop result }
     ensures falls { falls stage result ≡ true }
 {
     let me = task.number();
@@ -415,7 +436,7 @@ fn pare_event(domain: &Domain, task: &mut Task, run: &mut BitRun, stage: BitStag
         remove(domain, task, me, 0);
         return pared(*run, stage, entry);
     }
-    give_back(domain, task, false);
+    passing.put(give_back(domain, task, false));
     pared(*run, stage, entry)
 }
 
@@ -465,10 +486,18 @@ fn sleep_event(domain: &Domain, task: &mut Task, run: &mut BitRun) -> BitTurn
 /// exchange changed meanwhile. It waits for nobody, and by single tries it needs no runtime value. It answers as
 /// `stretch_bit` does, but at the stages of a hold the head is still held.
 #[inline(always)]
-pub fn advance_bit(domain: &Domain, task: &mut Task, run: &mut BitRun, stage: BitStage) -> BitTurn
+pub fn advance_bit(
+    domain: &Domain,
+    task: &mut Task,
+    run: &mut BitRun,
+    stage: BitStage,
+    passing: &mut Passing,
+) -> BitTurn
     requires of { task.old.domain ≡ domain.now }
+    requires passes { PassesNone passing.old }
     requires at { IsAt task.old run.old stage }
     ensures advances { Advances task.old task.new run.old run.new stage result }
+    ensures passes { PassesNone passing.new ⊎ IsStop result }
     ensures falls { falls stage result ≡ true }
 {
     match stage {
@@ -486,12 +515,12 @@ pub fn advance_bit(domain: &Domain, task: &mut Task, run: &mut BitRun, stage: Bi
         }
         BitStage::PrepareTurn => lock_event(domain, task, run, stage),
         BitStage::FinishTurn(_) => lock_event(domain, task, run, stage),
-        BitStage::PrepareQueue => queue_event(domain, task, run),
+        BitStage::PrepareQueue => queue_event(domain, task, run, passing),
         BitStage::PrepareState => state_event(domain, task, run, stage),
         BitStage::FinishState(_) => state_event(domain, task, run, stage),
-        BitStage::PrepareUnlock => unlock_event(domain, task, run, stage),
-        BitStage::FinishUnlock(_) => unlock_event(domain, task, run, stage),
-        BitStage::FinishQueue(_) => pare_event(domain, task, run, stage),
+        BitStage::PrepareUnlock => unlock_event(domain, task, run, stage, passing),
+        BitStage::FinishUnlock(_) => unlock_event(domain, task, run, stage, passing),
+        BitStage::FinishQueue(_) => pare_event(domain, task, run, stage, passing),
         BitStage::FinishLook(_) => peek_event(domain, task, run, stage),
         BitStage::Look => look_event(domain, task, run),
         BitStage::Sleep => sleep_event(domain, task, run),

@@ -17,7 +17,7 @@ use Rattle.wait_rule.specs.Stays.{Carries, Change, unchanged}
 use Rattle.wait_rule.specs.Tried.{IsStarved}
 use Rattle.wait_event.specs.Conds.{set_change}
 use Rattle.wait_event.specs.Entries.{hold_change}
-use Rattle.wq_head.specs.LockTurns.{AwaitsLock, TookLock}
+use Rattle.wq_head.specs.LockTurns.{AwaitsLock, FindsOther, TookLock}
 use Rattle.completion_cell.specs.declared.cell_turns.CellCall.{CellCall}
 use Rattle.completion_cell.specs.declared.cell_turns.CellCall.TheVariants as call
 use Rattle.completion_cell.specs.declared.cell_turns.CellRun.{CellRun}
@@ -119,6 +119,11 @@ abbrev pub TurnsTo : Known → Known → CellRun → CellTurn → Type 0
 TurnsTo start new r turn.Locked = IsAt start new r stage.Turn
 TurnsTo start new r (turn.Done hit) = IsOver r.call r.cell hit start new
 TurnsTo start new r (turn.Starved failed) = HasStarved r.cell new failed
+
+-- where another ticket was served, the last item is the look that found its number
+abbrev pub FoundServed : Known → CellRun → CellTurn → Type 0
+FoundServed new r turn.Locked = (base : Known) × FindsOther base new (cell_head r.cell) r.ticket r.served
+FoundServed new r _ = Unit {0}
 
 -- it is the same call
 pub record HasTurned (start new : Known) (r s : CellRun) (t : CellTurn) : Type 0 where

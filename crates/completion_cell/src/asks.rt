@@ -6,6 +6,7 @@ ghost use Rattle.wait_rule.specs.Counts.{StoresCount};
 ghost use Rattle.wait_rule.specs.HandedPermits.{StaysOff};
 ghost use Rattle.wait_rule.specs.LeftEntries.{LeftOff};
 ghost use Rattle.wait_rule.specs.Known.{Known};
+ghost use Rattle.wait_rule.specs.PassedLocks.{PassesNone};
 ghost use Rattle.wait_rule.specs.Says.{IsFree, IsUp};
 ghost use Rattle.wait_rule.specs.Stays.{Carries};
 ghost use Rattle.wait_event.specs.Entries.{hold_change};
@@ -18,12 +19,19 @@ use crate::cell_turns::{CellCall, run_cell};
 use std::sync::Wait;
 use wait_model::layout::ALL_DONE;
 use wait_rule::counts::{done_load, done_store};
+use wait_rule::queues::Passing;
 use wait_rule::{Domain, Task};
 use wq_head::locks::give_back;
 
 /// The hold of `is_done`, whose lock is taken.
-pub(crate) fn is_done_hold(domain: &Domain, task: &mut Task, cell: u8) -> bool
+pub(crate) fn is_done_hold(
+    domain: &Domain,
+    task: &mut Task,
+    cell: u8,
+    passing: &mut Passing,
+) -> bool
     requires of { task.old.domain ≡ domain.now }
+    requires passes { PassesNone passing.old }
     requires cell { cell < COMPLETIONS }
     requires holds { (start : Known) × HoldsFor call.IsDone cell start task.old }
     ensures of { task.new.domain ≡ domain.now }
@@ -32,13 +40,14 @@ pub(crate) fn is_done_hold(domain: &Domain, task: &mut Task, cell: u8) -> bool
     ensures rouses { RousesNone task.old task.new }
 {
     let _ = cell;
-    give_back(domain, task, false);
+    passing.put(give_back(domain, task, false));
     true
 }
 
 /// The hold of `reinit`, whose lock is taken.
-pub(crate) fn reinit_hold(domain: &Domain, task: &mut Task, cell: u8) -> bool
+pub(crate) fn reinit_hold(domain: &Domain, task: &mut Task, cell: u8, passing: &mut Passing) -> bool
     requires of { task.old.domain ≡ domain.now }
+    requires passes { PassesNone passing.old }
     requires cell { cell < COMPLETIONS }
     requires holds { (start : Known) × HoldsFor call.Reinit cell start task.old }
     ensures of { task.new.domain ≡ domain.now }
@@ -47,7 +56,7 @@ pub(crate) fn reinit_hold(domain: &Domain, task: &mut Task, cell: u8) -> bool
     ensures rouses { RousesNone task.old task.new }
 {
     done_store(domain, task, cell, 0);
-    give_back(domain, task, false);
+    passing.put(give_back(domain, task, false));
     true
 }
 
@@ -104,8 +113,14 @@ pub(crate) fn take_one(domain: &Domain, task: &mut Task, cell: u8, count: u32) -
 }
 
 /// The hold of `try_wait`, whose lock is taken.
-pub(crate) fn try_wait_hold(domain: &Domain, task: &mut Task, cell: u8) -> bool
+pub(crate) fn try_wait_hold(
+    domain: &Domain,
+    task: &mut Task,
+    cell: u8,
+    passing: &mut Passing,
+) -> bool
     requires of { task.old.domain ≡ domain.now }
+    requires passes { PassesNone passing.old }
     requires cell { cell < COMPLETIONS }
     requires holds { (start : Known) × HoldsFor call.TryWait cell start task.old }
     ensures of { task.new.domain ≡ domain.now }
@@ -115,7 +130,7 @@ pub(crate) fn try_wait_hold(domain: &Domain, task: &mut Task, cell: u8) -> bool
 {
     let count = done_load(domain, task, cell);
     take_one(domain, task, cell, count);
-    give_back(domain, task, false);
+    passing.put(give_back(domain, task, false));
     count != 0
 }
 

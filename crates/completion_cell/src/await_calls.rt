@@ -4,6 +4,7 @@ ghost use Rattle.std.specs.Prelude.{◌≡◌, ◌≤◌, ◌<◌, MatchBool};
 ghost use Rattle.wait_model.specs.declared.layout.TheConstants.{COMPLETIONS};
 ghost use Rattle.wait_rule.specs.HandedPermits.{StaysOff};
 ghost use Rattle.wait_rule.specs.LeftEntries.{LeftOff};
+ghost use Rattle.wait_rule.specs.PassedLocks.{PassesNone};
 ghost use Rattle.wait_rule.specs.Queues.{IsIdle, IsTold, index};
 ghost use Rattle.wait_rule.specs.Says.{IsUp};
 ghost use Rattle.wait_rule.specs.Stays.{Carries};
@@ -22,7 +23,7 @@ use std::sync::Wait;
 use wait_event::wait_events::WaitEnd;
 use wait_model::heads::head_of;
 use wait_model::tasks::{Sleep, SleepState};
-use wait_rule::queues::wake_waiters;
+use wait_rule::queues::Passing;
 use wait_rule::tasks::awake;
 use wait_rule::tries::sleep_try;
 use wait_rule::{Domain, Task, wait_up};
@@ -40,8 +41,15 @@ fn waits_in(stage: AwaitStage) -> bool
 }
 
 /// One look whether the ticket is served, and then the whole hold.
-fn turn(domain: &Domain, task: &mut Task, run: &mut AwaitRun, stage: AwaitStage) -> AwaitTurn
+fn turn(
+    domain: &Domain,
+    task: &mut Task,
+    run: &mut AwaitRun,
+    stage: AwaitStage,
+    passing: &mut Passing,
+) -> AwaitTurn
     requires of { task.old.domain ≡ domain.now }
+    requires passes { PassesNone passing.old }
     requires here { TurnsAt stage }
     requires at { IsAt task.old run.old stage }
     requires begins { BeginsOff run.old.cell stage task.old }
@@ -51,7 +59,7 @@ fn turn(domain: &Domain, task: &mut Task, run: &mut AwaitRun, stage: AwaitStage)
     let waited = waits_in(stage);
     if take_turn(domain, task, run, waited) {
         look_own(domain, task, *run, waited);
-        return hold(domain, task, run, waited);
+        return hold(domain, task, run, waited, passing);
     }
     AwaitTurn::Locked(stage)
 }
@@ -76,10 +84,17 @@ fn sleep(domain: &Domain, task: &mut Task, run: AwaitRun) -> AwaitTurn
 /// executor, or a caller from another language. At every stage no head is held. Again: it goes on there at once, by the
 /// next call. Locked: it waits for a lock, and goes on there when another number of the head is served. Asleep: it was
 /// put asleep, and goes on there once `woke` has answered true. Done: the wait is over. Before its first hold the task
-/// has left its own entry off there, and so it has when the wait is over. It wakes no thread: where other threads may
-/// park for a lock of the head, `wake_waiters` follows each stretch.
-pub fn stretch(domain: &Domain, task: &mut Task, run: &mut AwaitRun, stage: AwaitStage) -> AwaitTurn
+/// has left its own entry off there, and so it has when the wait is over. It wakes no thread: `passing`, in which
+/// no lock is left before, has the one that was given back, for the caller to wake the threads that park for it.
+pub fn stretch(
+    domain: &Domain,
+    task: &mut Task,
+    run: &mut AwaitRun,
+    stage: AwaitStage,
+    passing: &mut Passing,
+) -> AwaitTurn
     requires of { task.old.domain ≡ domain.now }
+    requires passes { PassesNone passing.old }
     requires at { IsAt task.old run.old stage }
     requires begins { BeginsOff run.old.cell stage task.old }
     ensures on { Advances task.old task.new run.old run.new stage result }
@@ -88,14 +103,14 @@ pub fn stretch(domain: &Domain, task: &mut Task, run: &mut AwaitRun, stage: Awai
     match stage {
         AwaitStage::First => {
             draw_ticket(domain, task, run, false);
-            turn(domain, task, run, AwaitStage::FirstTurn)
+            turn(domain, task, run, AwaitStage::FirstTurn, passing)
         }
         AwaitStage::Again => {
             draw_ticket(domain, task, run, true);
-            turn(domain, task, run, AwaitStage::AgainTurn)
+            turn(domain, task, run, AwaitStage::AgainTurn, passing)
         }
-        AwaitStage::FirstTurn => turn(domain, task, run, stage),
-        AwaitStage::AgainTurn => turn(domain, task, run, stage),
+        AwaitStage::FirstTurn => turn(domain, task, run, stage, passing),
+        AwaitStage::AgainTurn => turn(domain, task, run, stage, passing),
         AwaitStage::Sleep => sleep(domain, task, *run),
     }
 }
@@ -133,14 +148,6 @@ fn pause<R: Wait>(rt: &R, domain: &Domain, run: &AwaitRun, looks: u32) -> u32
     locks::pause(rt, domain, head_of(run.watch()), run.served, looks)
 }
 
-/// Wakes the threads that park for the lock of the head, where a turn may have given it back.
-fn wake_after(domain: &Domain, head: u16, turn: AwaitTurn) {
-    match turn {
-        AwaitTurn::Locked(_) => {}
-        _ => wake_waiters(domain, head),
-    }
-}
-
 /// Goes on with a wait from a stage to its end: waits for locks, and sleeps.
 pub fn run_await<R: Wait>(
     rt: &R,
@@ -155,12 +162,12 @@ pub fn run_await<R: Wait>(
     ensures on { Advances task.old task.new run.old run.new stage (turn.Done result) }
     ensures off { LeavesOff run.old.cell task.old task.new stage (turn.Done result) }
 {
-    let head = head_of(run.watch());
+    let mut passing = Passing::none();
     let mut at = stage;
     let mut looks = 0;
     for _ in rt.forever() {
-        let turn = stretch(domain, task, run, at);
-        wake_after(domain, head, turn);
+        let turn = stretch(domain, task, run, at, &mut passing);
+        passing.wake(domain);
         match turn {
             AwaitTurn::Again(next) => {
                 looks = 0;
@@ -174,7 +181,10 @@ pub fn run_await<R: Wait>(
                 looks = pause(rt, domain, run, looks);
                 at = next;
             }
-            AwaitTurn::Done(outcome) => return outcome,
+            AwaitTurn::Done(outcome) => {
+                passing.end();
+                return outcome;
+            }
         }
     }
     unreachable!()

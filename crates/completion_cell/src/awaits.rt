@@ -10,6 +10,7 @@ ghost use Rattle.wait_model.specs.declared.points.PreparePoint.TheVariants as pr
 ghost use Rattle.wait_model.specs.declared.steps.Step.TheVariants as step;
 ghost use Rattle.wait_model.specs.declared.watches.Watch.TheVariants as watch;
 ghost use Rattle.wait_model.specs.Programs.{await_after, prepares_from, zero_answer, signalled};
+ghost use Rattle.wait_rule.specs.PassedLocks.{PassesNone};
 ghost use Rattle.wait_rule.specs.Says.{IsUp, history_of};
 ghost use Rattle.wait_event.specs.Posts.{HasSeenOwn};
 ghost use Rattle.completion_cell.specs.declared.awaits.AwaitOutcome.TheVariants as outcome;
@@ -32,7 +33,7 @@ use wait_model::tasks::SleepState;
 use wait_model::watches::{Entry, Kind, Watch};
 use wait_model::words::entry_of;
 use wait_rule::counts::done_load;
-use wait_rule::queues::{draw, entry_load, lock_step, serving_load};
+use wait_rule::queues::{Passing, draw, entry_load, lock_step, serving_load};
 use wait_rule::tasks::{load_own, set_state};
 use wait_rule::{Domain, Task};
 use wq_head::locks::give_back;
@@ -171,8 +172,16 @@ fn pare(domain: &Domain, task: &mut Task, run: AwaitRun, stopped: bool, count: u
 
 /// The wait is over: one is taken of the count, unless it is at its end, and the head given back. `off` is whether the
 /// own entry was just taken off.
-fn take(domain: &Domain, task: &mut Task, run: AwaitRun, off: bool, count: u32)
+fn take(
+    domain: &Domain,
+    task: &mut Task,
+    run: AwaitRun,
+    off: bool,
+    count: u32,
+    passing: &mut Passing,
+)
     requires of { task.old.domain ≡ domain.now }
+    requires passes { PassesNone passing.old }
     requires may { MayEnd task.old run off false count }
     requires some { count ≢ 0 }
     requires permits { HasLoaded run.cell task.old count }
@@ -181,30 +190,33 @@ fn take(domain: &Domain, task: &mut Task, run: AwaitRun, off: bool, count: u32)
 {
     let _ = off;
     take_one(domain, task, run.cell, count);
-    give_back(domain, task, false);
+    passing.put(give_back(domain, task, false));
 }
 
 /// The wait is over for a signal: the head is given back.
-fn give_up(domain: &Domain, task: &mut Task, run: AwaitRun, off: bool)
+fn give_up(domain: &Domain, task: &mut Task, run: AwaitRun, off: bool, passing: &mut Passing)
     requires of { task.old.domain ≡ domain.now }
+    requires passes { PassesNone passing.old }
     requires may { MayEnd task.old run off true 0 }
     requires permits { HasLoaded run.cell task.old 0 }
     ensures ends { EndsAs task.old task.new run off true signalled }
     ensures history { history_of task.new ≡ history_of task.old ++ step.Unlock task.old.at false ∷ [] }
 {
     let _ = (run, off);
-    give_back(domain, task, false);
+    passing.put(give_back(domain, task, false));
 }
 
 /// The own entry is queued at the tail where it is off, and the state stored in which the task sleeps. Where no place
 /// is left for it the head is given back: false.
-fn enter(domain: &Domain, task: &mut Task, run: &mut AwaitRun) -> bool
+fn enter(domain: &Domain, task: &mut Task, run: &mut AwaitRun, passing: &mut Passing) -> bool
     requires of { task.old.domain ≡ domain.now }
+    requires passes { PassesNone passing.old }
     requires at { StandsAt task.old run.old (post_of run.old (at.Prepare preparing.Queue)) }
     requires zero { Counts task.old run.old 0 }
     requires permits { HasLoaded run.old.cell task.old 0 }
     ensures enters { Enters task.old task.new run.old run.new result }
     ensures deals { HeldBy run.old.cell task.old task.new result }
+    ensures passes { result ≡ true → PassesNone passing.new }
 {
     let entry = own_entry(domain, task);
     if entry.is_some() {
@@ -220,31 +232,33 @@ fn enter(domain: &Domain, task: &mut Task, run: &mut AwaitRun) -> bool
         Err(worn) => {
             run.place = worn.place;
             own_entry(domain, task);
-            give_back(domain, task, false);
+            passing.put(give_back(domain, task, false));
             false
         }
     }
 }
 
 /// From the add of a hold on: the wait goes on to its sleep, or is over since no place was left.
-fn prepare(domain: &Domain, task: &mut Task, run: &mut AwaitRun) -> AwaitTurn
+fn prepare(domain: &Domain, task: &mut Task, run: &mut AwaitRun, passing: &mut Passing) -> AwaitTurn
     requires of { task.old.domain ≡ domain.now }
+    requires passes { PassesNone passing.old }
     requires at { StandsAt task.old run.old (post_of run.old (at.Prepare preparing.Queue)) }
     requires zero { Counts task.old run.old 0 }
     requires permits { HasLoaded run.old.cell task.old 0 }
     ensures reaches { Reaches task.old task.new run.old run.new (at.Prepare preparing.Queue) result }
     ensures deals { HeldOut run.old.cell task.old task.new (Some 0) 0 }
 {
-    if enter(domain, task, run) {
-        give_back(domain, task, false);
+    if enter(domain, task, run, passing) {
+        passing.put(give_back(domain, task, false));
         return AwaitTurn::Again(AwaitStage::Sleep);
     }
     AwaitTurn::Done(AwaitOutcome::Worn)
 }
 
 /// From the look that showed a signal on: the wait is over for it.
-fn leave(domain: &Domain, task: &mut Task, run: &mut AwaitRun)
+fn leave(domain: &Domain, task: &mut Task, run: &mut AwaitRun, passing: &mut Passing)
     requires of { task.old.domain ≡ domain.now }
+    requires passes { PassesNone passing.old }
     requires at { StandsAt task.old run.old (post_of run.old (at.Await (awaiting.Run true))) }
     requires zero { Counts task.old run.old 0 }
     requires saw { SawSignal task.old run.old }
@@ -255,13 +269,14 @@ fn leave(domain: &Domain, task: &mut Task, run: &mut AwaitRun)
 {
     run_state(domain, task, *run, true);
     let found = pare(domain, task, *run, true, 0);
-    give_up(domain, task, *run, found);
+    give_up(domain, task, *run, found, passing);
     run.found = found;
 }
 
 /// From the load that showed a count on, in a wait that was in its loop: one is taken.
-fn finish(domain: &Domain, task: &mut Task, run: AwaitRun, count: u32)
+fn finish(domain: &Domain, task: &mut Task, run: AwaitRun, count: u32, passing: &mut Passing)
     requires of { task.old.domain ≡ domain.now }
+    requires passes { PassesNone passing.old }
     requires at { StandsAt task.old run (post_of run (at.Await (awaiting.Run false))) }
     requires counts { Counts task.old run count }
     requires some { count ≢ 0 }
@@ -271,7 +286,7 @@ fn finish(domain: &Domain, task: &mut Task, run: AwaitRun, count: u32)
 {
     run_state(domain, task, run, false);
     let off = pare(domain, task, run, false, count);
-    take(domain, task, run, off, count);
+    take(domain, task, run, off, count, passing);
 }
 
 /// A look for a signal, where the state admits any and the count was 0: true where it shows one.
@@ -290,8 +305,9 @@ fn look_first(domain: &Domain, task: &mut Task, run: AwaitRun) -> bool
 }
 
 /// From the load of a hold that found 0 on to the end of the turn.
-fn wait_on(domain: &Domain, task: &mut Task, run: &mut AwaitRun) -> AwaitTurn
+fn wait_on(domain: &Domain, task: &mut Task, run: &mut AwaitRun, passing: &mut Passing) -> AwaitTurn
     requires of { task.old.domain ≡ domain.now }
+    requires passes { PassesNone passing.old }
     requires at { StandsAt task.old run.old (post_of run.old (prepares_from (await_call run.old))) }
     requires zero { Counts task.old run.old 0 }
     requires loaded { EndsWith task.old (step.Load (watch.Done run.old.cell) 0 ∷ []) }
@@ -300,15 +316,23 @@ fn wait_on(domain: &Domain, task: &mut Task, run: &mut AwaitRun) -> AwaitTurn
     ensures deals { HeldOut run.old.cell task.old task.new (Some 0) 0 }
 {
     if look_first(domain, task, *run) {
-        leave(domain, task, run);
+        leave(domain, task, run, passing);
         return AwaitTurn::Done(AwaitOutcome::Signalled);
     }
-    prepare(domain, task, run)
+    prepare(domain, task, run, passing)
 }
 
 /// From the load of a hold that found a count on to the end of the wait.
-fn take_on(domain: &Domain, task: &mut Task, run: AwaitRun, waited: bool, count: u32)
+fn take_on(
+    domain: &Domain,
+    task: &mut Task,
+    run: AwaitRun,
+    waited: bool,
+    count: u32,
+    passing: &mut Passing,
+)
     requires of { task.old.domain ≡ domain.now }
+    requires passes { PassesNone passing.old }
     requires at { StandsAt task.old run (post_of run (await_after (await_call run) waited false)) }
     requires counts { Counts task.old run count }
     requires some { count ≢ 0 }
@@ -317,10 +341,10 @@ fn take_on(domain: &Domain, task: &mut Task, run: AwaitRun, waited: bool, count:
     ensures deals { (n : ℕ) → IsSettled count n → HeldOut run.cell task.old task.new (Some count) n }
 {
     if waited {
-        finish(domain, task, run, count);
+        finish(domain, task, run, count, passing);
         return;
     }
-    take(domain, task, run, true, count);
+    take(domain, task, run, true, count, passing);
 }
 
 /// A wait that was in its loop looks at its own entry before it loads the count. So it knows whether the permit that it
@@ -339,8 +363,15 @@ pub(crate) fn look_own(domain: &Domain, task: &mut Task, run: AwaitRun, waited: 
 }
 
 /// A whole hold, from its load on.
-pub(crate) fn hold(domain: &Domain, task: &mut Task, run: &mut AwaitRun, waited: bool) -> AwaitTurn
+pub(crate) fn hold(
+    domain: &Domain,
+    task: &mut Task,
+    run: &mut AwaitRun,
+    waited: bool,
+    passing: &mut Passing,
+) -> AwaitTurn
     requires of { task.old.domain ≡ domain.now }
+    requires passes { PassesNone passing.old }
     requires at { StandsAt task.old run.old (post_of run.old (at.Await (awaiting.Load waited))) }
     requires begun { HasBegun run.old.cell task.old }
     ensures reaches { Reaches task.old task.new run.old run.new (at.Await (awaiting.Load waited)) result }
@@ -348,9 +379,9 @@ pub(crate) fn hold(domain: &Domain, task: &mut Task, run: &mut AwaitRun, waited:
 {
     let count = load_count(domain, task, *run, waited);
     if count == 0 {
-        return wait_on(domain, task, run);
+        return wait_on(domain, task, run, passing);
     }
-    take_on(domain, task, *run, waited, count);
+    take_on(domain, task, *run, waited, count, passing);
     AwaitTurn::Done(AwaitOutcome::Over)
 }
 

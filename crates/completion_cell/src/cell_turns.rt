@@ -4,10 +4,12 @@ ghost use Rattle.std.specs.Prelude.{◌≡◌, ◌<◌, [], false, MatchBool, Ma
 ghost use Rattle.wait_model.specs.declared.layout.TheConstants.{COMPLETIONS};
 ghost use Rattle.wait_rule.specs.LeftEntries.{LeftOff};
 ghost use Rattle.wait_rule.specs.Known.{Known};
+ghost use Rattle.wait_rule.specs.PassedLocks.{PassesNone};
 ghost use Rattle.wait_rule.specs.Says.{IsFree, IsUp};
 ghost use Rattle.wq_head.specs.Roused.{IsRousing, RousesNone, tasks_in};
 ghost use Rattle.completion_cell.specs.declared.cell_turns.CellStage.TheVariants as stages;
 ghost use Rattle.completion_cell.specs.CellTurns.{HasStarved, HasTurned, HoldsFor, IsAt, IsFresh, IsOver, Rests, peeks};
+ghost use Rattle.completion_cell.specs.CellTurns.{FoundServed};
 
 use crate::asks::{is_done_hold, reinit_hold, try_wait_hold};
 use crate::completes::{complete_all_hold, complete_hold};
@@ -16,7 +18,7 @@ use std::sync::Wait;
 use wait_model::heads::head_of;
 use wait_model::watches::Watch;
 use wait_rule::counts::done_load;
-use wait_rule::queues::wake_waiters;
+use wait_rule::queues::Passing;
 use wait_rule::tries::FailedTries;
 use wait_rule::{Domain, Task};
 use wq_head::locks::pause;
@@ -78,22 +80,25 @@ impl CellRun {
 /// wakes, for the caller to rouse. Locked: the ticket is drawn and not served; the call goes on at `Turn` once another
 /// number of the head is served, no head is held, and in between the task makes nothing else. Done: the call is over,
 /// as by the function of its name. Starved: the word of one task changed before each of `TRIES` tries to wake it, which
-/// no run comes to; the head is held then, and the call does not end. Where other threads may park for a lock of the
-/// head, `wake_waiters` follows each stretch.
+/// no run comes to; the head is held then, and the call does not end. `passing`, in which no lock is left before, has
+/// the one that was given back, for the caller to wake the threads that park for it.
 pub fn cell_stretch(
     domain: &Domain,
     task: &mut Task,
     run: &mut CellRun,
     stage: CellStage,
     rousing: &mut Rousing,
+    passing: &mut Passing,
 ) -> CellTurn
     requires of { task.old.domain ≡ domain.now }
+    requires passes { PassesNone passing.old }
     requires at { (start : Known) × IsAt start task.old run.old stage }
     requires none { tasks_in rousing.old ≡ [] }
     ensures of { task.new.domain ≡ domain.now }
     ensures turned { (start : Known) → IsAt start task.old run.old stage
         → HasTurned start task.new run.old run.new result }
     ensures rests { Rests task.new run.new result }
+    ensures refused { FoundServed task.new run.new result }
     ensures rouses { IsRousing task.old task.new rousing.new }
 {
     if !draw_turn(domain, task, run, stage) {
@@ -105,7 +110,7 @@ pub fn cell_stretch(
             run.served = served;
             CellTurn::Locked
         }
-        Ok(()) => match hold(domain, task, *run, rousing) {
+        Ok(()) => match hold(domain, task, *run, rousing, passing) {
             Ok(yes) => CellTurn::Done(yes),
             Err(failed) => CellTurn::Starved(failed),
         },
@@ -172,8 +177,10 @@ fn hold(
     task: &mut Task,
     run: CellRun,
     rousing: &mut Rousing,
+    passing: &mut Passing,
 ) -> Result<bool, FailedTries>
     requires of { task.old.domain ≡ domain.now }
+    requires passes { PassesNone passing.old }
     requires there { run.cell < COMPLETIONS }
     requires holds { (start : Known) × HoldsFor run.call run.cell start task.old }
     requires none { tasks_in rousing.old ≡ [] }
@@ -183,11 +190,11 @@ fn hold(
     ensures rouses { IsRousing task.old task.new rousing.new }
 {
     match run.call {
-        CellCall::Complete => complete_hold(domain, task, run.cell, rousing),
-        CellCall::CompleteAll => complete_all_hold(domain, task, run.cell, rousing),
-        CellCall::IsDone => Ok(is_done_hold(domain, task, run.cell)),
-        CellCall::Reinit => Ok(reinit_hold(domain, task, run.cell)),
-        CellCall::TryWait => Ok(try_wait_hold(domain, task, run.cell)),
+        CellCall::Complete => complete_hold(domain, task, run.cell, rousing, passing),
+        CellCall::CompleteAll => complete_all_hold(domain, task, run.cell, rousing, passing),
+        CellCall::IsDone => Ok(is_done_hold(domain, task, run.cell, passing)),
+        CellCall::Reinit => Ok(reinit_hold(domain, task, run.cell, passing)),
+        CellCall::TryWait => Ok(try_wait_hold(domain, task, run.cell, passing)),
     }
 }
 
@@ -208,22 +215,24 @@ pub(crate) fn run_cell<R: Wait>(
 {
     let head = head_of(Watch::Done { cell });
     let mut rousing = Rousing::new();
+    let mut passing = Passing::none();
     let mut run = CellRun::new(call, cell);
     let mut stage = CellStage::First;
     let mut looks = 0;
     for _ in rt.forever() {
-        let turn = cell_stretch(domain, task, &mut run, stage, &mut rousing);
-        match turn {
-            CellTurn::Locked => {}
-            _ => wake_waiters(domain, head),
-        }
+        let turn = cell_stretch(domain, task, &mut run, stage, &mut rousing, &mut passing);
+        passing.wake(domain);
         rousing.rouse_all(domain);
         match turn {
             CellTurn::Locked => {
                 looks = pause(rt, domain, head, run.served, looks);
                 stage = CellStage::Turn;
             }
-            CellTurn::Done(yes) => return yes,
+            CellTurn::Done(yes) => {
+                passing.end();
+                rousing.end();
+                return yes;
+            }
             CellTurn::Starved(_) => {
                 for _ in rt.forever() {
                     spin_loop();

@@ -8,6 +8,7 @@ ghost use Rattle.wait_rule.specs.Counts.{StoresCount};
 ghost use Rattle.wait_rule.specs.HandedPermits.{StaysOff};
 ghost use Rattle.wait_rule.specs.LeftEntries.{LeftOff};
 ghost use Rattle.wait_rule.specs.Known.{Known};
+ghost use Rattle.wait_rule.specs.PassedLocks.{PassesNone};
 ghost use Rattle.wait_rule.specs.Says.{IsFree, IsUp};
 ghost use Rattle.wait_rule.specs.Stays.{Carries};
 ghost use Rattle.wait_event.specs.Conds.{set_change};
@@ -23,6 +24,7 @@ use wait_model::heads::head_of;
 use wait_model::layout::ALL_DONE;
 use wait_model::watches::Watch;
 use wait_rule::counts::{done_load, done_store};
+use wait_rule::queues::Passing;
 use wait_rule::tries::FailedTries;
 use wait_rule::{Domain, Task};
 use wq_head::locks::give_back;
@@ -50,8 +52,10 @@ pub(crate) fn complete_hold(
     task: &mut Task,
     cell: u8,
     rousing: &mut Rousing,
+    passing: &mut Passing,
 ) -> Result<bool, FailedTries>
     requires of { task.old.domain ≡ domain.now }
+    requires passes { PassesNone passing.old }
     requires cell { cell < COMPLETIONS }
     requires holds { (start : Known) × HoldsFor call.Complete cell start task.old }
     requires none { tasks_in rousing.old ≡ [] }
@@ -63,7 +67,7 @@ pub(crate) fn complete_hold(
     let count = done_load(domain, task, cell);
     raise_one(domain, task, cell, count);
     let selected = select_tries(domain, task, head_of(Watch::Done { cell }), 1, rousing)?;
-    give_back(domain, task, selected == 1);
+    passing.put(give_back(domain, task, selected == 1));
     Ok(true)
 }
 
@@ -73,8 +77,10 @@ pub(crate) fn complete_all_hold(
     task: &mut Task,
     cell: u8,
     rousing: &mut Rousing,
+    passing: &mut Passing,
 ) -> Result<bool, FailedTries>
     requires of { task.old.domain ≡ domain.now }
+    requires passes { PassesNone passing.old }
     requires cell { cell < COMPLETIONS }
     requires holds { (start : Known) × HoldsFor call.CompleteAll cell start task.old }
     requires none { tasks_in rousing.old ≡ [] }
@@ -85,7 +91,7 @@ pub(crate) fn complete_all_hold(
 {
     done_store(domain, task, cell, ALL_DONE as u32);
     select_tries(domain, task, head_of(Watch::Done { cell }), 0, rousing)?;
-    give_back(domain, task, false);
+    passing.put(give_back(domain, task, false));
     Ok(true)
 }
 

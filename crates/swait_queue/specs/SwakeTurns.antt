@@ -10,7 +10,7 @@ use Rattle.wait_rule.specs.Queues.{IsIdle}
 use Rattle.wait_rule.specs.Says.{IsUp}
 use Rattle.wait_rule.specs.Stays.{Carries, wake_all_change}
 use Rattle.wait_rule.specs.Tried.{IsStarved}
-use Rattle.wq_head.specs.LockTurns.{AwaitsLock, TookLock}
+use Rattle.wq_head.specs.LockTurns.{AwaitsLock, FindsOther, TookLock}
 use Rattle.swait_queue.specs.declared.swake_turns.SwakeRun.{SwakeRun}
 use Rattle.swait_queue.specs.declared.swake_turns.SwakeStage.{SwakeStage}
 use Rattle.swait_queue.specs.declared.swake_turns.SwakeStage.TheVariants as stage
@@ -63,6 +63,11 @@ abbrev pub TurnsTo : Known → Known → SwakeRun → SwakeTurn → Type 0
 TurnsTo start new r turn.Locked = IsAt start new r stage.Turn
 TurnsTo start new r (turn.Done n) = IsOver start new r.cond r.all n
 TurnsTo start new r (turn.Starved failed) = HasStarved r.cond new failed
+
+-- where another ticket was served, the last item is the look that found its number
+abbrev pub FoundOther : Known → SwakeRun → SwakeTurn → Type 0
+FoundOther new r turn.Locked = (base : Known) × FindsOther base new (swake_head r) r.ticket r.served
+FoundOther new r _ = Unit {0}
 
 -- it is the same wake
 pub record HasTurned (start new : Known) (r s : SwakeRun) (t : SwakeTurn) : Type 0 where

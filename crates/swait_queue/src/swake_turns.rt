@@ -2,13 +2,16 @@
 
 ghost use Rattle.std.specs.Prelude.{◌≡◌, [], MatchResult};
 ghost use Rattle.wait_rule.specs.Known.{Known};
+ghost use Rattle.wait_rule.specs.PassedLocks.{PassesNone};
 ghost use Rattle.wq_head.specs.Roused.{IsRousing, RousesNone, tasks_in};
 ghost use Rattle.swait_queue.specs.declared.swake_turns.SwakeStage.TheVariants as stages;
 ghost use Rattle.swait_queue.specs.SwakeTurns.{HasStarved, HasTurned, HoldsFor, IsAt, IsFresh, IsOver, Rests};
+ghost use Rattle.swait_queue.specs.SwakeTurns.{FoundOther};
 ghost use Rattle.swait_queue.specs.SimpleWakes.{is_spent, most_of};
 
 use wait_model::heads::head_of;
 use wait_model::watches::Watch;
+use wait_rule::queues::Passing;
 use wait_rule::tries::FailedTries;
 use wait_rule::{Domain, Task};
 use wq_head::locks::give_back;
@@ -63,21 +66,25 @@ impl SwakeRun {
 /// number of the head is served, no head is held, and in between the task makes nothing else. Done: the wake is over,
 /// as by `swake_one`, which answers true where this is 1, or by `swake_all`. Starved: the word of one task changed
 /// before each of `TRIES` tries to wake it, which no run comes to; the head is held then, and the wake does not end.
-/// Where other threads may park for a lock of the head, `wake_waiters` follows each stretch.
+/// `passing`, in which no lock is left before, has the one that was given back, for the caller to wake the threads that
+/// park for it.
 pub fn swake_stretch(
     domain: &Domain,
     task: &mut Task,
     run: &mut SwakeRun,
     stage: SwakeStage,
     rousing: &mut Rousing,
+    passing: &mut Passing,
 ) -> SwakeTurn
     requires of { task.old.domain ≡ domain.now }
+    requires passes { PassesNone passing.old }
     requires at { (start : Known) × IsAt start task.old run.old stage }
     requires none { tasks_in rousing.old ≡ [] }
     ensures of { task.new.domain ≡ domain.now }
     ensures turned { (start : Known) → IsAt start task.old run.old stage
         → HasTurned start task.new run.old run.new result }
     ensures rests { Rests task.new run.new result }
+    ensures refused { FoundOther task.new run.new result }
     ensures rouses { IsRousing task.old task.new rousing.new }
 {
     draw_turn(domain, task, run, stage);
@@ -87,7 +94,7 @@ pub fn swake_stretch(
             run.served = served;
             SwakeTurn::Locked
         }
-        Ok(()) => match hold(domain, task, *run, rousing) {
+        Ok(()) => match hold(domain, task, *run, rousing, passing) {
             Ok(selected) => SwakeTurn::Done(selected),
             Err(failed) => SwakeTurn::Starved(failed),
         },
@@ -117,8 +124,10 @@ fn hold(
     task: &mut Task,
     run: SwakeRun,
     rousing: &mut Rousing,
+    passing: &mut Passing,
 ) -> Result<u32, FailedTries>
     requires of { task.old.domain ≡ domain.now }
+    requires passes { PassesNone passing.old }
     requires holds { (start : Known) × HoldsFor start task.old run }
     requires none { tasks_in rousing.old ≡ [] }
     ensures of { task.new.domain ≡ domain.now }
@@ -128,7 +137,7 @@ fn hold(
 {
     let head = head_of(Watch::Plain { cond: run.cond });
     let selected = select_tries(domain, task, head, most_of(run.all), rousing)?;
-    give_back(domain, task, is_spent(run.all, selected));
+    passing.put(give_back(domain, task, is_spent(run.all, selected)));
     Ok(selected)
 }
 

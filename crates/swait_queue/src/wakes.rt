@@ -19,7 +19,7 @@ use std::hint::spin_loop;
 use std::sync::Wait;
 use wait_model::heads::head_of;
 use wait_model::watches::Watch;
-use wait_rule::queues::wake_waiters;
+use wait_rule::queues::Passing;
 use wait_rule::{Domain, Task};
 use wq_head::locks::pause;
 use wq_head::{Rousing, select};
@@ -71,22 +71,24 @@ fn swake<R: Wait>(rt: &R, domain: &Domain, task: &mut Task, cond: u8, all: bool)
 {
     let head = head_of(Watch::Plain { cond });
     let mut rousing = Rousing::new();
+    let mut passing = Passing::none();
     let mut run = SwakeRun::new(cond, all);
     let mut stage = SwakeStage::First;
     let mut looks = 0;
     for _ in rt.forever() {
-        let turn = swake_stretch(domain, task, &mut run, stage, &mut rousing);
-        match turn {
-            SwakeTurn::Locked => {}
-            _ => wake_waiters(domain, head),
-        }
+        let turn = swake_stretch(domain, task, &mut run, stage, &mut rousing, &mut passing);
+        passing.wake(domain);
         rousing.rouse_all(domain);
         match turn {
             SwakeTurn::Locked => {
                 looks = pause(rt, domain, head, run.served, looks);
                 stage = SwakeStage::Turn;
             }
-            SwakeTurn::Done(selected) => return selected,
+            SwakeTurn::Done(selected) => {
+                passing.end();
+                rousing.end();
+                return selected;
+            }
             SwakeTurn::Starved(_) => {
                 for _ in rt.forever() {
                     spin_loop();
@@ -117,6 +119,7 @@ pub fn swake_locked<R: Wait>(rt: &R, domain: &Domain, task: &mut Task, head: u16
     let mut rousing = Rousing::new();
     let selected = select(rt, domain, task, head, 1, &mut rousing);
     rousing.rouse_all(domain);
+    rousing.end();
     selected != 0
 }
 
@@ -138,5 +141,6 @@ pub fn swake_all_locked<R: Wait>(rt: &R, domain: &Domain, task: &mut Task, head:
     let mut rousing = Rousing::new();
     let selected = select(rt, domain, task, head, 0, &mut rousing);
     rousing.rouse_all(domain);
+    rousing.end();
     selected
 }

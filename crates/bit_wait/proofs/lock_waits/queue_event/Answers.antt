@@ -43,7 +43,7 @@ pub returns-in-Err-clause-advances : goal.returns-in-Err-clause-advances
 returns-in-Err-clause-advances c = worn_advances c.args.task.now c.own_entry-entry.new.task c.add_for_bit.new.task
     c.own_entry.new.task c.give_back.new.task c.args.run.now c.requires.at c.own_entry-entry.result
     c.own_entry-entry.ensures (sym c.is_some.ensures ∙ c.if-is_some.false) c.in-Err.worn c.in-Err.ensures.worn
-    c.in-Err.ensures.held c.own_entry.result c.own_entry.ensures c.give_back.ensures c.in-Err.ensures.noted
+    c.in-Err.ensures.held c.own_entry.result c.own_entry.ensures c.give_back.ensures.given c.in-Err.ensures.noted
 
 pub give_back-requires-clause-permits : goal.give_back-requires-clause-permits
 give_back-requires-clause-permits c = worn_owes c.args.run.now c.own_entry-entry.new.task c.add_for_bit.new.task

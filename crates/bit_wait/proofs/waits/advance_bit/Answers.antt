@@ -1,4 +1,4 @@
-use Rattle.std.proofs.Common.{refl, subst, sym}
+use Rattle.std.proofs.Common.{inl, refl, subst, sym}
 use Rattle.bit_wait.specs.BitWaits.{Advances}
 use Rattle.bit_wait.specs.declared.waits.BitStage.{BitStage}
 use Rattle.bit_wait.specs.declared.waits.BitStage.TheVariants as stage
@@ -19,3 +19,42 @@ returns-in-FinishLock-clause-advances c = subst (λ (s : BitStage). Advances c.a
     (stage.FinishLock c.in-FinishLock.failed) (stage.FinishLock c.in-FinishLock.failed)
     c.lock_event-in-FinishLock.result refl
     c.draw_event-in-FinishLock.ensures c.lock_event-in-FinishLock.ensures.advances)
+
+pub returns-in-First-clause-passes : goal.returns-in-First-clause-passes
+returns-in-First-clause-passes c = inl c.requires.passes
+
+pub returns-in-Again-clause-passes : goal.returns-in-Again-clause-passes
+returns-in-Again-clause-passes c = inl c.requires.passes
+
+pub returns-in-Load-clause-passes : goal.returns-in-Load-clause-passes
+returns-in-Load-clause-passes c = inl c.requires.passes
+
+pub returns-in-Worn-clause-passes : goal.returns-in-Worn-clause-passes
+returns-in-Worn-clause-passes c = inl c.requires.passes
+
+pub returns-in-PrepareLock-clause-passes : goal.returns-in-PrepareLock-clause-passes
+returns-in-PrepareLock-clause-passes c = inl c.requires.passes
+
+pub returns-in-FinishLock-clause-passes : goal.returns-in-FinishLock-clause-passes
+returns-in-FinishLock-clause-passes c = inl c.requires.passes
+
+pub returns-in-PrepareTurn-clause-passes : goal.returns-in-PrepareTurn-clause-passes
+returns-in-PrepareTurn-clause-passes c = inl c.requires.passes
+
+pub returns-in-FinishTurn-clause-passes : goal.returns-in-FinishTurn-clause-passes
+returns-in-FinishTurn-clause-passes c = inl c.requires.passes
+
+pub returns-in-PrepareState-clause-passes : goal.returns-in-PrepareState-clause-passes
+returns-in-PrepareState-clause-passes c = inl c.requires.passes
+
+pub returns-in-FinishState-clause-passes : goal.returns-in-FinishState-clause-passes
+returns-in-FinishState-clause-passes c = inl c.requires.passes
+
+pub returns-in-FinishLook-clause-passes : goal.returns-in-FinishLook-clause-passes
+returns-in-FinishLook-clause-passes c = inl c.requires.passes
+
+pub returns-in-Look-clause-passes : goal.returns-in-Look-clause-passes
+returns-in-Look-clause-passes c = inl c.requires.passes
+
+pub returns-in-Sleep-clause-passes : goal.returns-in-Sleep-clause-passes
+returns-in-Sleep-clause-passes c = inl c.requires.passes

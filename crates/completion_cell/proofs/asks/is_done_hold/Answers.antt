@@ -23,8 +23,8 @@ give_back-requires-clause-permits c =
 
 pub returns-clause-over : goal.returns-clause-over
 returns-clause-over c start i =
-    done_over c.args.cell start c.args.task.now c.give_back.new.task i c.give_back.ensures
+    done_over c.args.cell start c.args.task.now c.give_back.new.task i c.give_back.ensures.given
 
 pub returns-clause-rouses : goal.returns-clause-rouses
-returns-clause-rouses c = subst (RousesNone c.args.task.now) (sym c.give_back.ensures)
+returns-clause-rouses c = subst (RousesNone c.args.task.now) (sym c.give_back.ensures.given)
     (none_unlocked c.args.task.now c.args.task.now.at false)

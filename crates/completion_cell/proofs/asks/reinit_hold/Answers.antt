@@ -29,10 +29,10 @@ give_back-requires-clause-permits c = reset_owes c.args.cell c.requires.holds.0 
 
 pub returns-clause-over : goal.returns-clause-over
 returns-clause-over c start i = reset_over c.args.cell start c.args.task.now c.done_store.new.task
-    c.give_back.new.task i c.done_store.ensures true c.give_back.ensures
+    c.give_back.new.task i c.done_store.ensures true c.give_back.ensures.given
 
 pub returns-clause-rouses : goal.returns-clause-rouses
 returns-clause-rouses c =
     let m = c.done_store.new.task in
-    subst (RousesNone m) (sym c.give_back.ensures) (none_unlocked m m.at false)
+    subst (RousesNone m) (sym c.give_back.ensures.given) (none_unlocked m m.at false)
     ∙ none_set c.args.cell 0 c.args.task.now m c.done_store.ensures

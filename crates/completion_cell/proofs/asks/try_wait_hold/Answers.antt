@@ -55,13 +55,13 @@ returns-clause-over c start i =
     let k = c.args.task.now in
     let t = c.take_one in
     tried_over c.args.cell l.result start k l.new.task t.new.task c.give_back.new.task i l.ensures.step
-    l.ensures.finds l.ensures.carries t.result t.ensures.took t.ensures.stores c.give_back.ensures
+    l.ensures.finds l.ensures.carries t.result t.ensures.took t.ensures.stores c.give_back.ensures.given
 
 pub returns-clause-rouses : goal.returns-clause-rouses
 returns-clause-rouses c =
     let l = c.done_load-count in
     let k = c.args.task.now in
     let t = c.take_one in
-    subst (RousesNone t.new.task) (sym c.give_back.ensures) (none_unlocked t.new.task t.new.task.at false)
+    subst (RousesNone t.new.task) (sym c.give_back.ensures.given) (none_unlocked t.new.task t.new.task.at false)
     ∙ (none_taken c.args.cell l.result l.new.task t.new.task t.result t.ensures.stores
     ∙ none_counted c.args.cell l.result k l.new.task l.ensures.step)

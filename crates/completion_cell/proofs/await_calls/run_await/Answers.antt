@@ -10,6 +10,7 @@ pub loop-init : goal.loop-init
 loop-init g c = (
   stays_at c.args.task.now c.args.run.now c.args.stage c.requires.at,
   still_again c.args.run.now.cell c.args.task.now c.args.task.now refl refl c.args.stage,
+  c.none-passing.ensures,
 )
 
 pub loop-preserved-in-Again : goal.loop-preserved-in-Again
@@ -19,6 +20,7 @@ loop-preserved-in-Again g c =
           c.args.stage c.loop.at (turn.Again c.in-Again.next) i.0.went c.in-Again.ensures.on,
       turns_on c.args.task.now c.loop.task c.stretch-turn.new.task c.args.run.now c.loop.run c.args.stage c.loop.at
           (turn.Again c.in-Again.next) i.0.went.cell i.1 c.in-Again.ensures.off,
+      c.wake.ensures,
     )
 
 pub loop-preserved-in-Asleep : goal.loop-preserved-in-Asleep
@@ -34,6 +36,7 @@ loop-preserved-in-Asleep g c =
           c.in-Asleep.next (turn.Again c.in-Asleep.next) a.went.cell
           (asleep_again c.args.run.now.cell c.args.task.now c.stretch-turn.new.task c.args.stage c.in-Asleep.next p)
           c.rise.ensures.off,
+      c.wake.ensures,
     )
 
 pub pause-looks-requires : goal.pause-looks-requires
@@ -48,6 +51,7 @@ loop-preserved g c =
       locked_again c.args.run.now.cell c.args.task.now c.stretch-turn.new.task c.args.stage c.in-Locked.next
           (turns_on c.args.task.now c.loop.task c.stretch-turn.new.task c.args.run.now c.loop.run c.args.stage c.loop.at
           (turn.Locked c.in-Locked.next) i.0.went.cell i.1 c.in-Locked.ensures.off),
+      c.wake.ensures,
     )
 
 pub returns-in-Done-clause-on : goal.returns-in-Done-clause-on

@@ -49,7 +49,7 @@ pub returns-in-Err-clause-enters : goal.returns-in-Err-clause-enters
 returns-in-Err-clause-enters c = worn_advances c.args.task.now c.own_entry-entry.new.task c.args.run.now
     c.own_entry-entry.result c.own_entry-entry.ensures c.requires.at (sym c.is_some.ensures ∙ c.if-is_some.false)
     c.add_tail.new.task c.own_entry.new.task c.give_back.new.task c.in-Err.worn c.in-Err.ensures.worn
-    c.in-Err.ensures.held c.own_entry.result c.own_entry.ensures c.give_back.ensures c.in-Err.ensures.noted
+    c.in-Err.ensures.held c.own_entry.result c.own_entry.ensures c.give_back.ensures.given c.in-Err.ensures.noted
     c.requires.zero
 
 pub returns-then-is_some-clause-deals : goal.returns-then-is_some-clause-deals
@@ -68,7 +68,7 @@ pub returns-in-Err-clause-deals : goal.returns-in-Err-clause-deals
 returns-in-Err-clause-deals c = worn_deals c.args.task.now c.own_entry-entry.new.task c.add_tail.new.task
     c.own_entry.new.task c.args.run.now c.own_entry-entry.result c.own_entry-entry.ensures
     c.requires.at c.in-Err.worn c.in-Err.ensures.worn c.in-Err.ensures.held c.own_entry.result c.own_entry.ensures
-    c.give_back.new.task c.give_back.ensures
+    c.give_back.new.task c.give_back.ensures.given
 
 pub give_back-requires-clause-permits : goal.give_back-requires-clause-permits
 give_back-requires-clause-permits c = worn_owes_none c.args.task.now c.own_entry-entry.new.task c.add_tail.new.task

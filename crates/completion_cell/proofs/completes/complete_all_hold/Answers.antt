@@ -42,7 +42,7 @@ returns-clause-over c start i =
     let s = c.select_tries in
     every_over c.args.cell c.in_ok-select_tries.field-0 start c.args.task.now c.done_store.new.task s.new.task
     c.give_back.new.task i c.done_store.ensures c.in_ok-select_tries.ensures.selected s.ensures.hold s.ensures.keeps
-    c.give_back.ensures
+    c.give_back.ensures.given
 
 -- whom it is to rouse
 pub returns-clause-rouses : goal.returns-clause-rouses
@@ -50,7 +50,7 @@ returns-clause-rouses c =
     let k = c.args.task.now in
     let s = c.select_tries in
     rousing_on k s.new.task c.give_back.new.task s.new.rousing
-    (subst (RousesNone s.new.task) (sym c.give_back.ensures) (none_unlocked s.new.task s.new.task.at false))
+    (subst (RousesNone s.new.task) (sym c.give_back.ensures.given) (none_unlocked s.new.task s.new.task.at false))
     (rousing_from k c.done_store.new.task s.new.task s.new.rousing
     (none_set c.args.cell ALL_DONE k c.done_store.new.task c.done_store.ensures) s.ensures.rouses)
 

@@ -74,7 +74,7 @@ returns-clause-over c start i =
     let s = c.select_tries in
     one_over c.args.cell l.result c.in_ok-selected.selected start k l.new.task r.new.task s.new.task c.give_back.new.task
     i l.ensures.step l.ensures.finds l.ensures.carries r.result r.ensures.raises r.ensures.stores
-    c.in_ok-selected.ensures.selected s.ensures.hold s.ensures.keeps c.give_back.ensures
+    c.in_ok-selected.ensures.selected s.ensures.hold s.ensures.keeps c.give_back.ensures.given
 
 -- whom it is to rouse
 pub returns-clause-rouses : goal.returns-clause-rouses
@@ -84,7 +84,7 @@ returns-clause-rouses c =
     let r = c.raise_one in
     let s = c.select_tries in
     rousing_on k s.new.task c.give_back.new.task s.new.rousing
-    (subst (RousesNone s.new.task) (sym c.give_back.ensures)
+    (subst (RousesNone s.new.task) (sym c.give_back.ensures.given)
     (none_unlocked s.new.task s.new.task.at (c.in_ok-selected.selected == 1)))
     (rousing_from k r.new.task s.new.task s.new.rousing
     (none_raised c.args.cell l.result l.new.task r.new.task r.result r.ensures.stores

@@ -1,6 +1,8 @@
 //! Two tasks on one thread, which go on with one of them at a time; and calls that are refused.
 
 mod completions;
+mod limits;
+mod signals;
 
 use std::test::Fail;
 use wait_model::tasks::{How, SleepState};

@@ -1,7 +1,7 @@
 //! Completions: one task alone, and between other calls, by threads, and by stretches on one thread.
 
 mod alone;
-mod calls;
+pub(crate) mod calls;
 mod cells;
 mod others;
 mod stretches;

@@ -1,7 +1,7 @@
 //! Waits and their wakers: one task alone, by threads, and by stretches on one thread.
 
-mod alone;
-mod flags;
+pub(crate) mod alone;
+pub(crate) mod flags;
 mod hearers;
 mod selected;
 mod stretches;

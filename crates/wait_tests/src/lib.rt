@@ -13,9 +13,13 @@ mod events;
 #[cfg(test)]
 mod heads;
 #[cfg(test)]
+mod in_order;
+#[cfg(test)]
 mod pages;
 #[cfg(test)]
 mod pipes;
+#[cfg(test)]
+mod signals;
 #[cfg(test)]
 mod simple_queues;
 #[cfg(test)]

@@ -1,6 +1,6 @@
 //! Pages on one thread, and by threads. The tests stand on the contracts of the calls alone.
 
-mod alone;
+pub(crate) mod alone;
 mod short_calls;
 mod stretches;
 mod threads;

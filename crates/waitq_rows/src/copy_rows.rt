@@ -16,7 +16,7 @@ const TEXT: &str = "copied 20000 bytes\nmoved 60000\nwatch 0 20000\nwatch 1 200\
 
 /// What fails in a copy, by the numbers of the calls.
 #[derive(Clone, Copy)]
-struct Fails<'a> {
+pub(crate) struct Fails<'a> {
     reads: &'a [u64],
     writes: &'a [u64],
     calls: &'a [u64],
@@ -24,7 +24,7 @@ struct Fails<'a> {
     errs: &'a [u64],
 }
 
-const NONE: Fails<'static> = Fails {
+pub(crate) const NONE: Fails<'static> = Fails {
     reads: &[],
     writes: &[],
     calls: &[],
@@ -34,15 +34,15 @@ const NONE: Fails<'static> = Fails {
 
 /// What a run answered, wrote and left.
 #[derive(Drop)]
-struct Left {
-    status: u8,
-    text: String,
-    line: String,
+pub(crate) struct Left {
+    pub(crate) status: u8,
+    pub(crate) text: String,
+    pub(crate) line: String,
     folder: MemFolder,
 }
 
 /// Bytes of which each 100th is a newline, from the 100th on.
-fn bytes_of(alloc: Global, size: usize) -> Result<Vec<u8>, AllocError> {
+pub(crate) fn bytes_of(alloc: Global, size: usize) -> Result<Vec<u8>, AllocError> {
     let mut bytes = Vec::new(alloc);
     for at in 0..size {
         let byte = if at % 100 == 99 {
@@ -55,8 +55,37 @@ fn bytes_of(alloc: Global, size: usize) -> Result<Vec<u8>, AllocError> {
     Ok(bytes)
 }
 
-/// The status of words over a folder, with two watchers. It names no folder, source or sink, so that what `run` says of theirs
-/// stays as it is.
+/// The watchers of the program: the bytes of the pieces, and the ends of their lines.
+fn watchers_of(alloc: Global) -> Result<FuncHead, Fail> {
+    let mut watch = FuncHead::new(alloc);
+    let lengths = Box::new(alloc, Lengths { bytes: 0 })?;
+    let lines = Box::new(alloc, Lines { ends: 0 })?;
+    if watch.add_exclusive(lengths).is_err() || watch.add_exclusive(lines).is_err() {
+        return Err(AllocError)?;
+    }
+    Ok(watch)
+}
+
+/// The status of words over a folder, with these watchers. It names no folder, source or sink, so that what `run` says
+/// of theirs stays as it is.
+fn status_under<R: Threads + Wait + Sync, F: Folder, I: Source, O: Sink, E: Sink>(
+    rt: &R,
+    alloc: Global,
+    words: &[String],
+    folder: &mut F,
+    input: &mut I,
+    out: &mut O,
+    err: &mut E,
+    watch: FuncHead,
+) -> Result<u8, Fail> {
+    let (domain, mut task) = Domain::with_looks(alloc, 0)?;
+    let status = run(
+        rt, alloc, words, folder, input, out, err, &domain, &mut task, watch, &OpenGate,
+    );
+    Ok(status)
+}
+
+/// The same with the watchers of the program.
 pub(crate) fn status_of<R: Threads + Wait + Sync, F: Folder, I: Source, O: Sink, E: Sink>(
     rt: &R,
     alloc: Global,
@@ -66,17 +95,8 @@ pub(crate) fn status_of<R: Threads + Wait + Sync, F: Folder, I: Source, O: Sink,
     out: &mut O,
     err: &mut E,
 ) -> Result<u8, Fail> {
-    let (domain, mut task) = Domain::with_looks(alloc, 0)?;
-    let mut watch = FuncHead::new(alloc);
-    let lengths = Box::new(alloc, Lengths { bytes: 0 })?;
-    let lines = Box::new(alloc, Lines { ends: 0 })?;
-    if watch.add_exclusive(lengths).is_err() || watch.add_exclusive(lines).is_err() {
-        return Err(AllocError)?;
-    }
-    let status = run(
-        rt, alloc, words, folder, input, out, err, &domain, &mut task, watch, &OpenGate,
-    );
-    Ok(status)
+    let watch = watchers_of(alloc)?;
+    status_under(rt, alloc, words, folder, input, out, err, watch)
 }
 
 /// Words as the program gets them.
@@ -97,20 +117,21 @@ fn folder_of(alloc: Global, bytes: &[u8], fails: Fails) -> Result<MemFolder, All
     Ok(folder)
 }
 
-/// Runs words over a folder with the file `a`.
-fn run_on<R: Threads + Wait + Sync>(
+/// Runs words over a folder with the file `a`, with these watchers.
+pub(crate) fn run_under<R: Threads + Wait + Sync>(
     rt: &R,
     alloc: Global,
     words: &[&str],
     bytes: &[u8],
     fails: Fails,
+    watch: FuncHead,
 ) -> Result<Left, Fail> {
     let list = list_of(alloc, words)?;
     let mut folder = folder_of(alloc, bytes, fails)?;
     let mut input = MemSource::new(alloc, b"", &[])?;
     let mut out = MemSink::new(alloc, fails.outs)?;
     let mut err = MemSink::new(alloc, fails.errs)?;
-    let status = status_of(
+    let status = status_under(
         rt,
         alloc,
         &list,
@@ -118,6 +139,7 @@ fn run_on<R: Threads + Wait + Sync>(
         &mut input,
         &mut out,
         &mut err,
+        watch,
     )?;
     let text = String::from_utf8_lossy(alloc, out.bytes())?;
     let line = String::from_utf8_lossy(alloc, err.bytes())?;
@@ -129,8 +151,20 @@ fn run_on<R: Threads + Wait + Sync>(
     })
 }
 
+/// The same with the watchers of the program.
+pub(crate) fn run_on<R: Threads + Wait + Sync>(
+    rt: &R,
+    alloc: Global,
+    words: &[&str],
+    bytes: &[u8],
+    fails: Fails,
+) -> Result<Left, Fail> {
+    let watch = watchers_of(alloc)?;
+    run_under(rt, alloc, words, bytes, fails, watch)
+}
+
 /// How many bytes the file of that name has, where they are a front of these.
-fn front(left: &Left, name: &str, bytes: &[u8]) -> Option<usize> {
+pub(crate) fn front(left: &Left, name: &str, bytes: &[u8]) -> Option<usize> {
     let found = left.folder.bytes_of(name)?;
     if bytes.starts_with(found) {
         Some(found.len())

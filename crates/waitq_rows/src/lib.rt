@@ -5,6 +5,8 @@
 #[cfg(test)]
 mod copy_rows;
 #[cfg(test)]
+mod event_rows;
+#[cfg(test)]
 mod page_rows;
 #[cfg(test)]
 mod refused_rows;

@@ -29,7 +29,13 @@ fn is_queued(prepared: &Result<Prepared, Worn>) -> bool {
 }
 
 /// A prepare that looks for no signal, and its finish: true where the entry was queued.
-fn prepare_shared<R: Wait>(rt: &R, domain: &Domain, task: &mut Task, cond: u8) -> bool
+pub(crate) fn prepare_shared<R: Wait>(
+    rt: &R,
+    domain: &Domain,
+    task: &mut Task,
+    cond: u8,
+    state: SleepState,
+) -> bool
     requires of { task.old.domain ≡ domain.now }
     requires ready { IsReadyToWait task.old }
     requires full { cond < FIRST_SIMPLE }
@@ -37,20 +43,13 @@ fn prepare_shared<R: Wait>(rt: &R, domain: &Domain, task: &mut Task, cond: u8) -
     ensures ready { IsReadyToWait task.new }
 {
     let watch = Watch::Plain { cond };
-    let queued = prepare_to_wait(
-        rt,
-        domain,
-        task,
-        Kind::Autoremove,
-        watch,
-        SleepState::Interruptible,
-    );
+    let queued = prepare_to_wait(rt, domain, task, Kind::Autoremove, watch, state);
     finish_wait(rt, domain, task);
     queued.is_ok()
 }
 
 /// An exclusive one: true where its entry was the first.
-fn prepare_first<R: Wait>(rt: &R, domain: &Domain, task: &mut Task, cond: u8) -> bool
+pub(crate) fn prepare_first<R: Wait>(rt: &R, domain: &Domain, task: &mut Task, cond: u8) -> bool
     requires of { task.old.domain ≡ domain.now }
     requires ready { IsReadyToWait task.old }
     requires full { cond < FIRST_SIMPLE }
@@ -71,7 +70,13 @@ fn prepare_first<R: Wait>(rt: &R, domain: &Domain, task: &mut Task, cond: u8) ->
 }
 
 /// One that looks for a signal: true where it found none.
-fn prepare_asking<R: Wait>(rt: &R, domain: &Domain, task: &mut Task, cond: u8) -> bool
+pub(crate) fn prepare_asking<R: Wait>(
+    rt: &R,
+    domain: &Domain,
+    task: &mut Task,
+    cond: u8,
+    how: How,
+) -> bool
     requires of { task.old.domain ≡ domain.now }
     requires ready { IsReadyToWait task.old }
     requires full { cond < FIRST_SIMPLE }
@@ -79,17 +84,13 @@ fn prepare_asking<R: Wait>(rt: &R, domain: &Domain, task: &mut Task, cond: u8) -
     ensures ready { IsReadyToWait task.new }
 {
     let watch = Watch::Plain { cond };
-    let how = How {
-        state: SleepState::Interruptible,
-        exclusive: true,
-    };
     let prepared = prepare_event(rt, domain, task, Kind::Autoremove, watch, how);
     finish_wait(rt, domain, task);
     is_queued(&prepared)
 }
 
 /// An entry that is added and removed: true where there was a place for it.
-fn enter_and_leave<R: Wait>(rt: &R, domain: &Domain, task: &mut Task, form: Form) -> bool
+pub(crate) fn enter_and_leave<R: Wait>(rt: &R, domain: &Domain, task: &mut Task, form: Form) -> bool
     requires of { task.old.domain ≡ domain.now }
     requires ready { IsReadyToWait task.old }
     requires first { task.old.view.number ≡ 0 }
@@ -107,9 +108,13 @@ fn enter_and_leave<R: Wait>(rt: &R, domain: &Domain, task: &mut Task, form: Form
 #[test]
 fn prepares_of_one_task(rt: HostRuntime) -> Result<(), Fail> {
     let (domain, mut task) = Domain::new(rt.alloc())?;
-    assert!(rt; prepare_shared(&rt, &domain, &mut task, 0));
+    let how = How {
+        state: SleepState::Interruptible,
+        exclusive: true,
+    };
+    assert!(rt; prepare_shared(&rt, &domain, &mut task, 0, how.state));
     assert!(rt; prepare_first(&rt, &domain, &mut task, 0));
-    assert!(rt; prepare_asking(&rt, &domain, &mut task, 0));
+    assert!(rt; prepare_asking(&rt, &domain, &mut task, 0, how));
     Ok(())
 }
 

@@ -51,7 +51,7 @@ pub(crate) fn is_set(domain: &Domain, task: &mut Task) -> bool
 }
 
 /// Waits for the flag once.
-fn hear<R: Wait>(rt: &R, domain: &Domain, task: &mut Task)
+pub(crate) fn hear<R: Wait>(rt: &R, domain: &Domain, task: &mut Task)
     requires of { task.old.domain ≡ domain.now }
     requires hearer { IsCleanHearer task.old }
     ensures of { task.new.domain ≡ domain.now }
@@ -61,7 +61,7 @@ fn hear<R: Wait>(rt: &R, domain: &Domain, task: &mut Task)
 }
 
 /// Takes the entry off.
-fn leave<R: Wait>(rt: &R, domain: &Domain, task: &mut Task)
+pub(crate) fn leave<R: Wait>(rt: &R, domain: &Domain, task: &mut Task)
     requires of { task.old.domain ≡ domain.now }
     requires hearer { IsCleanHearer task.old }
     ensures of { task.new.domain ≡ domain.now }

@@ -1,5 +1,4 @@
 use Rattle.std.proofs.Common.{◌∙◌, false}
-use Rattle.wait_model.specs.declared.tasks.SleepState.TheVariants as states
 use Rattle.wait_model.specs.declared.watches.Watch.TheVariants as watch
 use Rattle.wait_event.specs.Prepares.{with_signal}
 use Rattle.wait_event.proofs.Preparing.{ends_mark}
@@ -12,7 +11,7 @@ prepare_to_wait-queued-requires-clause-may g c = ready_may c.args.task.now _ c.r
 pub returns-clause-of : goal.returns-clause-of
 returns-clause-of g c = ready_domain c.args.task.now c.prepare_to_wait-queued.new.task c.finish_wait.new.task
     (ends_mark c.args.task.now c.prepare_to_wait-queued.new.task (watch.Plain c.args.cond)
-    (record { state = states.Interruptible; exclusive = false }) false
+    (record { state = c.args.state; exclusive = false }) false
     (with_signal c.prepare_to_wait-queued.result)
     c.prepare_to_wait-queued.ensures.ends) c.finish_wait.ensures ∙ c.requires.of
 
@@ -20,6 +19,6 @@ pub returns-clause-ready : goal.returns-clause-ready
 returns-clause-ready g c = ready_again c.args.task.now c.prepare_to_wait-queued.new.task c.finish_wait.new.task
     c.requires.ready
     (ends_mark c.args.task.now c.prepare_to_wait-queued.new.task (watch.Plain c.args.cond)
-    (record { state = states.Interruptible; exclusive = false }) false
+    (record { state = c.args.state; exclusive = false }) false
     (with_signal c.prepare_to_wait-queued.result)
     c.prepare_to_wait-queued.ensures.ends) c.finish_wait.ensures

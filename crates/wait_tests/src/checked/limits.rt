@@ -1,0 +1,60 @@
+//! What a task answers at the ends of its numbers: every one that is spare can be given out, and no bit is kept that is
+//! not there.
+
+use std::test::Fail;
+use wait_model::layout::{BIT_WORDS, WORD_BITS};
+use wq_checked::tasks::{CheckedTask, NoFork};
+
+/// Whether a bit is kept that is not there: of a word from `BIT_WORDS` on, or from bit `WORD_BITS` on.
+fn keeps_beyond(task: &CheckedTask) -> bool {
+    for word in 0..=u8::MAX {
+        for bit in 0..=u8::MAX {
+            let is_there = u16::from(word) < BIT_WORDS && u16::from(bit) < WORD_BITS;
+            if !is_there && task.keeps(word, bit) {
+                return true;
+            }
+        }
+    }
+    false
+}
+
+/// All 255 further tasks of a Domain are made, and none after them.
+#[test]
+fn every_number_is_given_out(rt: HostRuntime) -> Result<(), Fail> {
+    let mut task = CheckedTask::start(rt.alloc())?;
+    for n in 1..=u8::MAX {
+        match task.fork(0) {
+            Ok(other) => assert_eq!(rt; other.number(), n),
+            Err(_) => panic!(rt; "a number is spare"),
+        }
+    }
+    assert!(rt; matches!(task.fork(0), Err(NoFork::Numbers)));
+    Ok(())
+}
+
+/// A task takes all that are spare to it, and its own are as many as it was given.
+#[test]
+fn shares_are_given_out(rt: HostRuntime) -> Result<(), Fail> {
+    let mut task = CheckedTask::start(rt.alloc())?;
+    let mut other = task.fork(2)?;
+    for n in 2..=3 {
+        assert!(rt; matches!(other.fork(0), Ok(third) if third.number() == n));
+    }
+    assert!(rt; matches!(other.fork(0), Err(NoFork::Numbers)));
+    assert!(rt; matches!(task.fork(252), Err(NoFork::Numbers)));
+    assert!(rt; matches!(task.fork(251), Ok(last) if last.number() == 4));
+    Ok(())
+}
+
+/// A bit that is not there is kept by nobody, whatever is.
+#[test]
+fn no_bit_is_kept_beyond_the_words(rt: HostRuntime) -> Result<(), Fail> {
+    let mut task = CheckedTask::start(rt.alloc())?;
+    assert!(rt; !keeps_beyond(&task));
+    assert!(rt; !task.keeps(127, 63));
+    assert_eq!(rt; task.test_and_set(127, 63).ok(), Some(true));
+    assert_eq!(rt; task.test_and_set(0, 0).ok(), Some(true));
+    assert!(rt; task.keeps(127, 63) && task.keeps(0, 0) && !task.keeps(0, 63));
+    assert!(rt; !keeps_beyond(&task));
+    Ok(())
+}

@@ -1,0 +1,57 @@
+//! The parts of a wait for a condition, then a wake and a wait, then an entry that is added and removed.
+
+ghost use Rattle.std.specs.Prelude.{◌≡◌};
+ghost use Rattle.wait_tests.specs.EventTasks.{IsReadyToWait};
+
+use super::met_nobody;
+use crate::events::alone::{enter_and_leave, prepare_asking, prepare_first, prepare_shared};
+use std::sync::Wait;
+use std::test::Fail;
+use wait_event::{set_and_wake, wait_event};
+use wait_model::queues::{Form, Walked};
+use wait_model::tasks::{How, SleepState};
+use wait_model::watches::Mode;
+use wait_rule::{Domain, Task};
+
+/// A wait that no signal ends, and that no wake selects.
+const SHARED: How = How {
+    state: SleepState::Uninterruptible,
+    exclusive: false,
+};
+
+/// Sets condition 0 and wakes one who waits for it.
+fn set_one<R: Wait>(rt: &R, domain: &Domain, task: &mut Task) -> Walked
+    requires of { task.old.domain ≡ domain.now }
+    requires ready { IsReadyToWait task.old }
+    ensures of { task.new.domain ≡ domain.now }
+    ensures number { task.new.view.number ≡ task.old.view.number }
+    ensures ready { IsReadyToWait task.new }
+{
+    set_and_wake(rt, domain, task, 0, 1, Mode::Normal, 1)
+}
+
+/// Waits for it: true where it was set.
+fn wait_for_it<R: Wait>(rt: &R, domain: &Domain, task: &mut Task) -> bool
+    requires of { task.old.domain ≡ domain.now }
+    requires ready { IsReadyToWait task.old }
+    ensures of { task.new.domain ≡ domain.now }
+    ensures number { task.new.view.number ≡ task.old.view.number }
+    ensures ready { IsReadyToWait task.new }
+{
+    wait_event(rt, domain, task, 0, SHARED).is_ok()
+}
+
+#[test]
+fn parts_then_a_wait_then_an_entry(rt: HostRuntime) -> Result<(), Fail> {
+    let (domain, mut task) = Domain::new(rt.alloc())?;
+    assert!(rt; prepare_shared(&rt, &domain, &mut task, 0, SHARED.state));
+    assert!(rt; prepare_first(&rt, &domain, &mut task, 0));
+    assert!(rt; prepare_asking(&rt, &domain, &mut task, 0, SHARED));
+    let walked = set_one(&rt, &domain, &mut task);
+    let over = wait_for_it(&rt, &domain, &mut task);
+    let left = enter_and_leave(&rt, &domain, &mut task, Form::Front);
+    assert!(rt; met_nobody(walked, 1));
+    assert!(rt; over);
+    assert!(rt; left);
+    Ok(())
+}

@@ -1,0 +1,94 @@
+//! Waits for a bit and for a page with their ends, and a wait for a variable with its.
+
+ghost use Rattle.std.specs.Prelude.{◌≡◌, MatchBool};
+ghost use Rattle.wait_model.specs.declared.watches.Watch.TheVariants as watch;
+ghost use Rattle.wait_rule.specs.Says.{IsClean};
+ghost use Rattle.bit_wait.specs.Holders.{IsHolder};
+
+use super::met_nobody;
+use crate::pages::alone::{give, take};
+use bit_wait::{clear_and_wake_bit, wait_on_bit, wait_on_bit_lock};
+use std::sync::Wait;
+use std::test::Fail;
+use var_wait::{publish_var_and_wake, wait_var};
+use wait_event::WaitEnd;
+use wait_model::queues::Walked;
+use wait_model::tasks::SleepState;
+use wait_rule::tasks::set_state;
+use wait_rule::{Domain, Task};
+
+/// How all of them wait.
+const STATE: SleepState = SleepState::Uninterruptible;
+
+/// Waits until bit 0 of word 0 is clear: true where it was.
+fn wait_for_bit<R: Wait>(rt: &R, domain: &Domain, task: &mut Task) -> bool
+    requires of { task.old.domain ≡ domain.now }
+    requires clean { IsClean task.old }
+    ensures of { task.new.domain ≡ domain.now }
+    ensures clean { IsClean task.new }
+{
+    let over = wait_on_bit(rt, domain, task, 0, 0, STATE).is_ok();
+    set_state(domain, task, 0);
+    over
+}
+
+/// Waits until it has taken the bit: true where it has.
+fn lock_bit<R: Wait>(rt: &R, domain: &Domain, task: &mut Task) -> bool
+    requires of { task.old.domain ≡ domain.now }
+    requires clean { IsClean task.old }
+    ensures of { task.new.domain ≡ domain.now }
+    ensures holder { MatchBool result (IsHolder task.new (watch.Bit 0 0)) (IsClean task.new) }
+{
+    match wait_on_bit_lock(rt, domain, task, 0, 0, STATE) {
+        Ok(()) => true,
+        Err(_) => false,
+    }
+}
+
+/// Gives it back: what the wake answers.
+fn give_bit<R: Wait>(rt: &R, domain: &Domain, task: &mut Task) -> Walked
+    requires of { task.old.domain ≡ domain.now }
+    requires holder { IsHolder task.old (watch.Bit 0 0) }
+    ensures of { task.new.domain ≡ domain.now }
+    ensures clean { IsClean task.new }
+{
+    clear_and_wake_bit(rt, domain, task, 0, 0)
+}
+
+#[test]
+fn bit_then_page(rt: HostRuntime) -> Result<(), Fail> {
+    let (domain, mut task) = Domain::new(rt.alloc())?;
+    let over = wait_for_bit(&rt, &domain, &mut task);
+    if !lock_bit(&rt, &domain, &mut task) {
+        panic!(rt; "the bit is clear")
+    }
+    let given = give_bit(&rt, &domain, &mut task);
+    if !take(&rt, &domain, &mut task, 1) {
+        panic!(rt; "the page is clear")
+    }
+    let unlocked = give(&rt, &domain, &mut task, 1);
+    assert!(rt; over);
+    assert!(rt; met_nobody(given, 0));
+    assert!(rt; met_nobody(unlocked, 0));
+    Ok(())
+}
+
+/// Waits until variable 20 is not 1: the value that it has.
+fn wait_for_change<R: Wait>(rt: &R, domain: &Domain, task: &mut Task) -> Result<u64, WaitEnd>
+    requires of { task.old.domain ≡ domain.now }
+    requires clean { IsClean task.old }
+    ensures of { task.new.domain ≡ domain.now }
+    ensures clean { IsClean task.new }
+{
+    wait_var(rt, domain, task, 20, 1, STATE)
+}
+
+#[test]
+fn variable_then_its_change(rt: HostRuntime) -> Result<(), Fail> {
+    let (domain, mut task) = Domain::new(rt.alloc())?;
+    let seen = wait_for_change(&rt, &domain, &mut task);
+    let walked = publish_var_and_wake(&rt, &domain, &mut task, 20, 2);
+    assert!(rt; matches!(seen, Ok(0)));
+    assert!(rt; met_nobody(walked, 0));
+    Ok(())
+}

@@ -4,6 +4,7 @@ ghost use Rattle.std.specs.Prelude.{◌≡◌, ◌<◌, ◌≤◌, not, MatchBoo
 ghost use Rattle.wait_model.specs.declared.layout.TheConstants.{BIT_WORDS};
 ghost use Rattle.wait_model.specs.PointFacts.{holds};
 ghost use Rattle.wait_model.specs.Watches as model;
+ghost use Rattle.wait_rule.specs.PassedLocks.{PassesNone};
 ghost use Rattle.wait_rule.specs.Queues.{IsIdle, IsTold};
 ghost use Rattle.wait_rule.specs.Says.{AsksNoPage, IsClean, IsUp};
 ghost use Rattle.wait_event.specs.Ends.{IsOut};
@@ -20,7 +21,7 @@ use bit_wait::BitEnd;
 use std::sync::Wait;
 use wait_model::heads::head_of;
 use wait_model::tasks::SleepState;
-use wait_rule::queues::wake_waiters;
+use wait_rule::queues::Passing;
 use wait_rule::tasks::awake;
 use wait_rule::{Domain, Task, wait_up};
 use wq_head::locks;
@@ -47,22 +48,24 @@ fn is_free(stage: PageStage) -> bool
 /// Goes on with a wait from a stage up to the next one at which no head is held, for who may not wait: an executor, or
 /// a caller from another language. Again: it goes on there at once, by the next call. Locked: it waits for a lock, and
 /// goes on there when another number of the head is served. Asleep: it was put asleep, and goes on there once
-/// `woke_page` has answered true. Done: the wait is over. It wakes no thread: where other threads may park for a lock of
-/// the head, `wake_waiters` follows each stretch.
+/// `woke_page` has answered true. Done: the wait is over. It wakes no thread: `passing`, in which no lock is left
+/// before, has the one that was given back, for the caller to wake the threads that park for it.
 pub fn stretch_page(
     domain: &Domain,
     task: &mut Task,
     run: &mut PageRun,
     stage: PageStage,
+    passing: &mut Passing,
 ) -> PageTurn
     requires of { task.old.domain ≡ domain.now }
+    requires passes { PassesNone passing.old }
     requires at { IsAt task.old run.old stage }
     ensures advances { Advances task.old task.new run.old run.new stage result }
     ensures stops { IsStop result }
 {
     let mut at = stage;
     for _turn in 0..STRETCH {
-        match advance_page(domain, task, run, at) {
+        match advance_page(domain, task, run, at, passing) {
             PageTurn::Again(next) => {
                 if is_free(next) {
                     return PageTurn::Again(next);
@@ -108,21 +111,6 @@ fn pause<R: Wait>(rt: &R, domain: &Domain, run: &PageRun, looks: u32) -> u32
     locks::pause(rt, domain, head_of(run.watch()), run.served, looks)
 }
 
-/// Wakes the threads that park for the lock of the head, where a turn may have given it back.
-#[inline(always)]
-fn wake_after(domain: &Domain, head: u16, turn: PageTurn) {
-    match turn {
-        PageTurn::Again(next) => {
-            if is_free(next) {
-                wake_waiters(domain, head);
-            }
-        }
-        PageTurn::Done(_) => wake_waiters(domain, head),
-        PageTurn::Asleep(_) => {}
-        PageTurn::Locked(_) => {}
-    }
-}
-
 /// Goes on with a wait from a stage to its end: waits for locks, and sleeps.
 #[inline(always)]
 pub fn run_page<R: Wait>(
@@ -136,12 +124,12 @@ pub fn run_page<R: Wait>(
     requires at { IsAt task.old run.old stage }
     ensures { Advances task.old task.new run.old run.new stage (turn.Done result) }
 {
-    let head = head_of(run.watch());
+    let mut passing = Passing::none();
     let mut at = stage;
     let mut looks = 0;
     for _ in rt.forever() {
-        let turn = advance_page(domain, task, run, at);
-        wake_after(domain, head, turn);
+        let turn = advance_page(domain, task, run, at, &mut passing);
+        passing.wake(domain);
         match turn {
             PageTurn::Again(next) => {
                 looks = 0;
@@ -155,7 +143,10 @@ pub fn run_page<R: Wait>(
                 looks = pause(rt, domain, run, looks);
                 at = next;
             }
-            PageTurn::Done(outcome) => return outcome,
+            PageTurn::Done(outcome) => {
+                passing.end();
+                return outcome;
+            }
         }
     }
     unreachable!()

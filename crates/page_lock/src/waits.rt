@@ -1,13 +1,14 @@
 //! A wait for a page as a machine of small stages: one event at most in each turn, which waits for nobody.
 
-ghost use Rattle.std.specs.Prelude.{◌≡◌, true};
+ghost use Rattle.std.specs.Prelude.{◌≡◌, ◌⊎◌, is_some, false, true};
 ghost use Rattle.wait_model.specs.Watches as model;
 ghost use Rattle.wait_event.specs.Posts.{HasSeenOwn};
 ghost use Rattle.wait_event.specs.Waits.{nothing, with_entry, with_value};
+ghost use Rattle.wait_rule.specs.PassedLocks.{PassesNone};
 ghost use Rattle.wait_rule.specs.Says.{IsUp};
 ghost use Rattle.page_lock.specs.declared.waits.PageStage.TheVariants as stage;
 ghost use Rattle.page_lock.specs.declared.waits.PageTurn.TheVariants as turn;
-ghost use Rattle.page_lock.specs.PageWaits.{Advances, IsAt, IsFresh, IsPlain};
+ghost use Rattle.page_lock.specs.PageWaits.{Advances, IsAt, IsFresh, IsPlain, IsStop};
 ghost use Rattle.page_lock.specs.PageWaits.{falls, goes_to, next_in, state_at, turn_of, with_flag};
 ghost use Rattle.page_lock.specs.PageWaits.{acted_to, read_to};
 ghost use Rattle.page_lock.specs.PageWaits.{DrawsAt, FlagsAt, LocksAt, StoresAt, TriesAt, UnlocksAt};
@@ -21,7 +22,7 @@ use wait_model::words::{bit_at, entry_of, flag_of};
 use wait_rule::bits::bit_set;
 use wait_rule::flags::woken_clear;
 use wait_rule::pages::{flag_load, page_note};
-use wait_rule::queues::{draw, entry_load, lock_step, serving_load};
+use wait_rule::queues::{Passing, draw, entry_load, lock_step, serving_load};
 use wait_rule::tasks::{load_own, set_state};
 use wait_rule::tries::sleep_try;
 use wait_rule::{Domain, Task};
@@ -181,6 +182,7 @@ fn locked(run: PageRun, stage: PageStage) -> PageTurn
 fn unlocked(run: PageRun, stage: PageStage) -> PageTurn
     requires here { UnlocksAt stage }
     ensures goes { next_in result ≡ goes_to run stage nothing }
+    ensures stops { IsStop result }
     ensures plain { IsPlain run result }
     ensures falls { falls stage result ≡ true }
 {
@@ -249,6 +251,7 @@ fn flagged(run: PageRun, stage: PageStage, hit: bool) -> PageTurn
 #[inline(always)]
 fn pared(run: PageRun, entry: Option<Entry>) -> PageTurn
     ensures goes { next_in result ≡ goes_to run stage.FinishQueue (with_entry entry) }
+    ensures stops { is_some entry ≡ false → IsStop result }
     ensures plain { IsPlain run result }
     ensures falls { falls stage.FinishQueue result ≡ true }
 {
@@ -344,30 +347,45 @@ fn lock_event(domain: &Domain, task: &mut Task, run: &mut PageRun, stage: PageSt
 
 /// The head is given back.
 #[inline(always)]
-fn unlock_event(domain: &Domain, task: &mut Task, run: &mut PageRun, stage: PageStage) -> PageTurn
+fn unlock_event(
+    domain: &Domain,
+    task: &mut Task,
+    run: &mut PageRun,
+    stage: PageStage,
+    passing: &mut Passing,
+) -> PageTurn
     requires of { task.old.domain ≡ domain.now }
+    requires passes { PassesNone passing.old }
     requires here { UnlocksAt stage }
     requires at { IsAt task.old run.old stage }
     ensures advances { Advances task.old task.new run.old run.new stage result }
+    ensures passes { PassesNone passing.new ⊎ IsStop result }
     ensures falls { falls stage result ≡ true }
 {
-    give_back(domain, task, false);
+    passing.put(give_back(domain, task, false));
     unlocked(*run, stage)
 }
 
 /// The own entry is queued at the tail, exclusive. Where no place is left for it the head is given back.
 #[inline(always)]
-fn queue_event(domain: &Domain, task: &mut Task, run: &mut PageRun) -> PageTurn
+fn queue_event(
+    domain: &Domain,
+    task: &mut Task,
+    run: &mut PageRun,
+    passing: &mut Passing,
+) -> PageTurn
     requires of { task.old.domain ≡ domain.now }
+    requires passes { PassesNone passing.old }
     requires at { IsAt task.old run.old stage.Queue }
     ensures advances { Advances task.old task.new run.old run.new stage.Queue result }
+    ensures passes { PassesNone passing.new ⊎ IsStop result }
     ensures falls { falls stage.Queue result ≡ true }
 {
     match add_for_page(domain, task, run.page) {
         Ok(()) => PageTurn::Again(PageStage::Try),
         Err(worn) => {
             run.place = worn.place;
-            give_back(domain, task, false);
+            passing.put(give_back(domain, task, false));
             PageTurn::Again(PageStage::Worn)
         }
     }
@@ -457,10 +475,17 @@ fn sleep_event(domain: &Domain, task: &mut Task, run: &mut PageRun) -> PageTurn
 
 /// The own entry is taken off where it is queued, and else the head given back.
 #[inline(always)]
-fn pare_event(domain: &Domain, task: &mut Task, run: &mut PageRun) -> PageTurn
+fn pare_event(
+    domain: &Domain,
+    task: &mut Task,
+    run: &mut PageRun,
+    passing: &mut Passing,
+) -> PageTurn
     requires of { task.old.domain ≡ domain.now }
+    requires passes { PassesNone passing.old }
     requires at { IsAt task.old run.old stage.FinishQueue }
     ensures advances { Advances task.old task.new run.old run.new stage.FinishQueue result }
+    ensures passes { PassesNone passing.new ⊎ IsStop result }
     ensures falls { falls stage.FinishQueue result ≡ true }
 {
     let me = task.number();
@@ -469,7 +494,7 @@ fn pare_event(domain: &Domain, task: &mut Task, run: &mut PageRun) -> PageTurn
         remove(domain, task, me, 0);
         return pared(*run, entry);
     }
-    give_back(domain, task, false);
+    passing.put(give_back(domain, task, false));
     pared(*run, entry)
 }
 
@@ -506,10 +531,13 @@ pub fn advance_page(
     task: &mut Task,
     run: &mut PageRun,
     stage: PageStage,
+    passing: &mut Passing,
 ) -> PageTurn
     requires of { task.old.domain ≡ domain.now }
+    requires passes { PassesNone passing.old }
     requires at { IsAt task.old run.old stage }
     ensures advances { Advances task.old task.new run.old run.new stage result }
+    ensures passes { PassesNone passing.new ⊎ IsStop result }
     ensures falls { falls stage result ≡ true }
 {
     match stage {
@@ -520,10 +548,10 @@ pub fn advance_page(
             lock_event(domain, task, run, PageStage::QueueTurn)
         }
         PageStage::QueueTurn => lock_event(domain, task, run, stage),
-        PageStage::Queue => queue_event(domain, task, run),
+        PageStage::Queue => queue_event(domain, task, run, passing),
         PageStage::Try => try_event(domain, task, run, stage),
         PageStage::Off => off_event(domain, task, run),
-        PageStage::QueueUnlock(_) => unlock_event(domain, task, run, stage),
+        PageStage::QueueUnlock(_) => unlock_event(domain, task, run, stage, passing),
         PageStage::Worn => try_event(domain, task, run, stage),
         PageStage::State => state_event(domain, task, run, stage),
         PageStage::Flag => flag_event(domain, task, run, stage),
@@ -536,8 +564,8 @@ pub fn advance_page(
             lock_event(domain, task, run, PageStage::FinishTurn)
         }
         PageStage::FinishTurn => lock_event(domain, task, run, stage),
-        PageStage::FinishQueue => pare_event(domain, task, run),
-        PageStage::FinishUnlock => unlock_event(domain, task, run, stage),
+        PageStage::FinishQueue => pare_event(domain, task, run, passing),
+        PageStage::FinishUnlock => unlock_event(domain, task, run, stage, passing),
         PageStage::Last => flag_event(domain, task, run, stage),
         PageStage::Clear => note_event(domain, task, run),
     }

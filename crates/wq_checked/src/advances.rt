@@ -2,6 +2,7 @@
 
 ghost use Rattle.std.specs.Prelude.{◌≡◌, ◌<◌, ◌||◌, [], true, None};
 ghost use Rattle.wait_rule.specs.Known.{Known};
+ghost use Rattle.wait_rule.specs.PassedLocks.{PassesNone};
 ghost use Rattle.wait_rule.specs.Says.{IsUp};
 ghost use Rattle.bit_wait.specs.LockEnds.{HasRested};
 ghost use Rattle.wq_head.specs.Roused.{IsRousing, tasks_in};
@@ -34,6 +35,7 @@ use wait_event::wait_events::end_of;
 use wait_event::waits::{WaitOutcome, WaitRun, WaitTurn};
 use wait_model::layout::RUNNING;
 use wait_model::watches::Watch;
+use wait_rule::queues::Passing;
 use wait_rule::tasks::set_state;
 use wait_rule::{Domain, Task};
 use wq_head::wakes::{WakeRun, WakeStage, WakeTurn, wake_stretch};
@@ -68,8 +70,10 @@ pub(crate) fn event_on(
     kept: &KeptBits,
     run: WaitRun,
     last: WaitTurn,
+    passing: &mut Passing,
 ) -> (Running, Progress)
     requires of { task.old.domain ≡ domain.now }
+    requires passes { PassesNone passing.old }
     requires sound { IsSound (running.Event run last) kept.now task.old }
     ensures of { task.new.domain ≡ domain.now }
     ensures sound { IsSound result.0 kept.now task.new }
@@ -78,7 +82,7 @@ pub(crate) fn event_on(
 {
     let _ = kept;
     let mut run = run;
-    let turn = event_turn(domain, task, &mut run, last);
+    let turn = event_turn(domain, task, &mut run, last, passing);
     event_leaves(run, turn)
 }
 
@@ -128,8 +132,10 @@ pub(crate) fn bit_on(
     kept: &KeptBits,
     run: BitRun,
     last: BitTurn,
+    passing: &mut Passing,
 ) -> (Running, Progress)
     requires of { task.old.domain ≡ domain.now }
+    requires passes { PassesNone passing.old }
     requires sound { IsSound (running.Bit run last) kept.now task.old }
     ensures of { task.new.domain ≡ domain.now }
     ensures sound { IsSound result.0 kept.now task.new }
@@ -138,7 +144,7 @@ pub(crate) fn bit_on(
 {
     let _ = kept;
     let mut run = run;
-    let turn = bit_turn(domain, task, &mut run, last);
+    let turn = bit_turn(domain, task, &mut run, last, passing);
     rest(domain, task, found_worn(turn));
     bit_leaves(run, turn)
 }
@@ -213,8 +219,10 @@ pub(crate) fn lock_on(
     kept: &mut KeptBits,
     run: LockRun,
     last: LockTurn,
+    passing: &mut Passing,
 ) -> (Running, Progress)
     requires of { task.old.domain ≡ domain.now }
+    requires passes { PassesNone passing.old }
     requires sound { IsSound (running.Lock run last) kept.old task.old }
     ensures of { task.new.domain ≡ domain.now }
     ensures sound { IsSound result.0 kept.new task.new }
@@ -223,7 +231,7 @@ pub(crate) fn lock_on(
 {
     let (word, bit) = (run.word, run.bit);
     let mut run = run;
-    let turn = lock_turn(domain, task, &mut run, last);
+    let turn = lock_turn(domain, task, &mut run, last, passing);
     rest(domain, task, may_stir(run, turn));
     note(kept, word, bit, has_bit(turn));
     lock_leaves(run, turn)
@@ -251,8 +259,10 @@ pub(crate) fn page_on(
     kept: &mut KeptBits,
     run: PageRun,
     last: PageTurn,
+    passing: &mut Passing,
 ) -> (Running, Progress)
     requires of { task.old.domain ≡ domain.now }
+    requires passes { PassesNone passing.old }
     requires sound { IsSound (running.Page run last) kept.old task.old }
     ensures of { task.new.domain ≡ domain.now }
     ensures sound { IsSound result.0 kept.new task.new }
@@ -261,7 +271,7 @@ pub(crate) fn page_on(
 {
     let page = run.page;
     let mut run = run;
-    let turn = page_turn(domain, task, &mut run, last);
+    let turn = page_turn(domain, task, &mut run, last, passing);
     note(kept, page, 0, has_page(turn));
     page_leaves(run, turn)
 }
@@ -286,8 +296,10 @@ pub(crate) fn wake_on(
     run: WakeRun,
     stage: WakeStage,
     rousing: &mut Rousing,
+    passing: &mut Passing,
 ) -> (Running, Progress)
     requires of { task.old.domain ≡ domain.now }
+    requires passes { PassesNone passing.old }
     requires none { tasks_in rousing.old ≡ [] }
     requires sound { IsSound (running.Wake run stage) kept.now task.old }
     ensures of { task.new.domain ≡ domain.now }
@@ -299,7 +311,7 @@ pub(crate) fn wake_on(
     let _ = kept;
     let mut run = run;
     let mut list = Members::new();
-    let turn = wake_stretch(domain, task, &mut run, stage, &mut list, rousing);
+    let turn = wake_stretch(domain, task, &mut run, stage, &mut list, rousing, passing);
     wake_leaves(run, turn)
 }
 
@@ -310,8 +322,10 @@ pub(crate) fn go_on(
     kept: &mut KeptBits,
     running: Running,
     rousing: &mut Rousing,
+    passing: &mut Passing,
 ) -> (Running, Progress)
     requires of { task.old.domain ≡ domain.now }
+    requires passes { PassesNone passing.old }
     requires none { tasks_in rousing.old ≡ [] }
     requires under { stopped_reason running ≡ None }
     requires sound { IsSound running kept.old task.old }
@@ -322,14 +336,14 @@ pub(crate) fn go_on(
     ensures rouses { Rouses running task.old task.new rousing.new }
 {
     match running {
-        Running::Event(run, last) => event_on(domain, task, kept, run, last),
-        Running::Bit(run, last) => bit_on(domain, task, kept, run, last),
-        Running::Lock(run, last) => lock_on(domain, task, kept, run, last),
-        Running::Page(run, last) => page_on(domain, task, kept, run, last),
-        Running::Await(run, last) => await_on(domain, task, kept, run, last),
-        Running::Wake(run, stage) => wake_on(domain, task, kept, run, stage, rousing),
-        Running::Swake(run, stage) => swake_on(domain, task, kept, run, stage, rousing),
-        Running::Cell(run, stage) => cell_on(domain, task, kept, run, stage, rousing),
+        Running::Event(run, last) => event_on(domain, task, kept, run, last, passing),
+        Running::Bit(run, last) => bit_on(domain, task, kept, run, last, passing),
+        Running::Lock(run, last) => lock_on(domain, task, kept, run, last, passing),
+        Running::Page(run, last) => page_on(domain, task, kept, run, last, passing),
+        Running::Await(run, last) => await_on(domain, task, kept, run, last, passing),
+        Running::Wake(run, stage) => wake_on(domain, task, kept, run, stage, rousing, passing),
+        Running::Swake(run, stage) => swake_on(domain, task, kept, run, stage, rousing, passing),
+        Running::Cell(run, stage) => cell_on(domain, task, kept, run, stage, rousing, passing),
         _ => unreachable!(),
     }
 }

@@ -2,6 +2,7 @@
 
 ghost use Rattle.std.specs.Prelude.{◌≡◌};
 ghost use Rattle.wait_rule.specs.Known.{Known};
+ghost use Rattle.wait_rule.specs.PassedLocks.{PassesNone};
 ghost use Rattle.completion_cell.specs.Awaits as awaits;
 ghost use Rattle.completion_cell.specs.AwaitPermits.{BeginsOff, LeavesOff};
 ghost use Rattle.wq_checked.specs.Advancing.{await_left, await_shown};
@@ -14,19 +15,27 @@ use crate::calls::{Answer, Progress, Running};
 use crate::kept_bits::KeptBits;
 use completion_cell::await_calls::{end_of, stretch, woke};
 use completion_cell::awaits::{AwaitRun, AwaitTurn};
+use wait_rule::queues::Passing;
 use wait_rule::{Domain, Task};
 
 /// One stretch: it goes on, or looks whether the task that was put asleep was woken.
-fn await_turn(domain: &Domain, task: &mut Task, run: &mut AwaitRun, last: AwaitTurn) -> AwaitTurn
+fn await_turn(
+    domain: &Domain,
+    task: &mut Task,
+    run: &mut AwaitRun,
+    last: AwaitTurn,
+    passing: &mut Passing,
+) -> AwaitTurn
     requires of { task.old.domain ≡ domain.now }
+    requires passes { PassesNone passing.old }
     requires stands { AwaitStands task.old run.old last }
     requires begins { BeginsOff run.old.cell (await_at last) task.old }
     ensures on { awaits.Advances task.old task.new run.old run.new (await_at last) result }
     ensures off { LeavesOff run.old.cell task.old task.new (await_at last) result }
 {
     match last {
-        AwaitTurn::Again(stage) => stretch(domain, task, run, stage),
-        AwaitTurn::Locked(stage) => stretch(domain, task, run, stage),
+        AwaitTurn::Again(stage) => stretch(domain, task, run, stage, passing),
+        AwaitTurn::Locked(stage) => stretch(domain, task, run, stage, passing),
         AwaitTurn::Asleep(stage) => {
             if woke(domain, task, run, stage) {
                 AwaitTurn::Again(stage)
@@ -60,8 +69,10 @@ pub(crate) fn await_on(
     kept: &KeptBits,
     run: AwaitRun,
     last: AwaitTurn,
+    passing: &mut Passing,
 ) -> (Running, Progress)
     requires of { task.old.domain ≡ domain.now }
+    requires passes { PassesNone passing.old }
     requires sound { IsSound (running.Await run last) kept.now task.old }
     ensures of { task.new.domain ≡ domain.now }
     ensures sound { IsSound result.0 kept.now task.new }
@@ -70,6 +81,6 @@ pub(crate) fn await_on(
 {
     let _ = kept;
     let mut run = run;
-    let turn = await_turn(domain, task, &mut run, last);
+    let turn = await_turn(domain, task, &mut run, last, passing);
     await_leaves(run, turn)
 }

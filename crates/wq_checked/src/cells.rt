@@ -4,6 +4,7 @@
 ghost use Rattle.std.specs.Prelude.{◌≡◌, ◌<◌, ◌≤◌, [], IfErr, IfOk, None};
 ghost use Rattle.wait_model.specs.declared.layout.TheConstants.{COMPLETIONS};
 ghost use Rattle.wait_rule.specs.Known.{Known};
+ghost use Rattle.wait_rule.specs.PassedLocks.{PassesNone};
 ghost use Rattle.wq_head.specs.Roused.{IsRousing, tasks_in};
 ghost use Rattle.completion_cell.specs.declared.cell_turns.CellCall.TheVariants as cell_call;
 ghost use Rattle.wq_checked.specs.Advancing.{cell_left, cell_shown};
@@ -21,6 +22,7 @@ use completion_cell::awaits::{AwaitStage, AwaitTurn};
 use completion_cell::cell_turns::{CellCall, CellRun, CellStage, CellTurn, cell_stretch};
 use wait_model::layout::COMPLETIONS;
 use wait_model::tasks::SleepState;
+use wait_rule::queues::Passing;
 use wait_rule::{Domain, Task};
 use wq_head::Rousing;
 
@@ -43,8 +45,10 @@ pub(crate) fn cell_on(
     run: CellRun,
     stage: CellStage,
     rousing: &mut Rousing,
+    passing: &mut Passing,
 ) -> (Running, Progress)
     requires of { task.old.domain ≡ domain.now }
+    requires passes { PassesNone passing.old }
     requires none { tasks_in rousing.old ≡ [] }
     requires sound { IsSound (running.Cell run stage) kept.now task.old }
     ensures of { task.new.domain ≡ domain.now }
@@ -55,7 +59,7 @@ pub(crate) fn cell_on(
 {
     let _ = kept;
     let mut run = run;
-    let turn = cell_stretch(domain, task, &mut run, stage, rousing);
+    let turn = cell_stretch(domain, task, &mut run, stage, rousing, passing);
     cell_leaves(run, turn)
 }
 

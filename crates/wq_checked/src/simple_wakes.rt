@@ -4,6 +4,7 @@
 ghost use Rattle.std.specs.Prelude.{◌≡◌, ◌<◌, ◌≤◌, ◌⊎◌, [], IfErr, IfOk, None};
 ghost use Rattle.wait_model.specs.declared.layout.TheConstants.{FIRST_SIMPLE, PLAIN_CONDITIONS};
 ghost use Rattle.wait_rule.specs.Known.{Known};
+ghost use Rattle.wait_rule.specs.PassedLocks.{PassesNone};
 ghost use Rattle.wq_head.specs.Roused.{IsRousing, tasks_in};
 ghost use Rattle.swait_queue.specs.SimpleWaits.{IsSimpleCond};
 ghost use Rattle.wq_checked.specs.Advancing.{swake_left, swake_shown};
@@ -19,7 +20,7 @@ use crate::tasks::{CheckedTask, refusal_of};
 use swait_queue::swake_turns::{SwakeRun, SwakeStage, SwakeTurn, swake_stretch};
 use wait_model::layout::{FIRST_SIMPLE, PLAIN_CONDITIONS};
 use wait_model::watches::Watch;
-use wait_rule::queues::publish;
+use wait_rule::queues::{Passing, publish};
 use wait_rule::{Domain, Task};
 use wq_head::Rousing;
 
@@ -42,8 +43,10 @@ pub(crate) fn swake_on(
     run: SwakeRun,
     stage: SwakeStage,
     rousing: &mut Rousing,
+    passing: &mut Passing,
 ) -> (Running, Progress)
     requires of { task.old.domain ≡ domain.now }
+    requires passes { PassesNone passing.old }
     requires none { tasks_in rousing.old ≡ [] }
     requires sound { IsSound (running.Swake run stage) kept.now task.old }
     ensures of { task.new.domain ≡ domain.now }
@@ -54,7 +57,7 @@ pub(crate) fn swake_on(
 {
     let _ = kept;
     let mut run = run;
-    let turn = swake_stretch(domain, task, &mut run, stage, rousing);
+    let turn = swake_stretch(domain, task, &mut run, stage, rousing, passing);
     swake_leaves(run, turn)
 }
 

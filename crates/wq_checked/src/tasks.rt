@@ -24,6 +24,7 @@ use std::marker::Model;
 use std::sync::Arc;
 use thiserror::Error;
 use wait_model::layout::{BIT_WORDS, WORD_BITS};
+use wait_rule::queues::Passing;
 use wait_rule::{Domain, Task};
 use wq_head::Rousing;
 
@@ -166,13 +167,23 @@ impl CheckedTask {
         ensures rouses { IfOk result (λ _. Rouses self.old.running self.old.task self.new.task rousing.new) }
         ensures none { IfErr result (λ _. tasks_in rousing.new ≡ []) }
     {
-        rousing.clear();
+        rousing.hand_on();
         match self.running {
             Running::Idle => Err(Refused::Nothing),
             Running::Starved => Err(Refused::Starved),
             running => {
                 let domain = &self.domain;
-                let (next, told) = go_on(domain, &mut self.task, &mut self.kept, running, rousing);
+                let mut passing = Passing::none();
+                let (next, told) = go_on(
+                    domain,
+                    &mut self.task,
+                    &mut self.kept,
+                    running,
+                    rousing,
+                    &mut passing,
+                );
+                // Nobody parks for a lock of this Domain, so the wake is nobody's.
+                let _ = passing.hand_on();
                 self.running = next;
                 Ok(told)
             }

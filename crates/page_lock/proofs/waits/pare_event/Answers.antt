@@ -27,7 +27,7 @@ returns-clause-advances c = advance_same c.args.task.now c.give_back.new.task c.
     c.pared-2.ensures.plain c.pared-2.ensures.goes
     (given_goes c.args.task.now c.own_entry-entry.new.task c.give_back.new.task c.args.run.now c.requires.at
     c.own_entry-entry.result c.own_entry-entry.ensures
-    (sym c.is_some.ensures ∙ c.if-is_some.false) c.give_back.ensures)
+    (sym c.is_some.ensures ∙ c.if-is_some.false) c.give_back.ensures.given)
 
 pub give_back-requires-clause-permits : goal.give_back-requires-clause-permits
 give_back-requires-clause-permits c = pare_owes c.args.task.now c.own_entry-entry.new.task c.args.run.now c.requires.at

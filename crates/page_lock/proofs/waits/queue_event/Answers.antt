@@ -25,7 +25,7 @@ returns-in-Ok-clause-advances c = join_advances c.args.task.now c.add_for_page.n
 pub returns-in-Err-clause-advances : goal.returns-in-Err-clause-advances
 returns-in-Err-clause-advances c = worn_advances c.args.task.now c.add_for_page.new.task c.give_back.new.task
     c.args.run.now c.requires.at c.in-Err.worn c.in-Err.ensures.worn c.in-Err.ensures.held c.in-Err.ensures.asks
-    c.give_back.ensures c.in-Err.ensures.noted
+    c.give_back.ensures.given c.in-Err.ensures.noted
 
 pub give_back-requires-clause-permits : goal.give_back-requires-clause-permits
 give_back-requires-clause-permits c = worn_owes c.args.task.now c.add_for_page.new.task c.args.run.now c.requires.at

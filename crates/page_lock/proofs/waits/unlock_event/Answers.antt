@@ -9,7 +9,7 @@ pub returns-clause-advances : goal.returns-clause-advances
 returns-clause-advances c = advance_same c.args.task.now c.give_back.new.task c.args.run.now c.args.stage
     c.unlocked.result
     (goes_to c.args.run.now c.args.stage nothing) c.requires.at.runs c.unlocked.ensures.plain c.unlocked.ensures.goes
-    (unlock_goes c.args.task.now c.give_back.new.task c.args.run.now c.give_back.ensures c.args.stage c.requires.here
+    (unlock_goes c.args.task.now c.give_back.new.task c.args.run.now c.give_back.ensures.given c.args.stage c.requires.here
     c.requires.at)
 
 pub give_back-requires-clause-permits : goal.give_back-requires-clause-permits

@@ -233,7 +233,8 @@ finds='[ "$(cat out/incremental/work)" = "$name" ] && echo written >out/incremen
 sleep 60'
 WAITQ_LANES=2 MEDDLE_LIB="[ \$name != lower ] || exit 0; $finds" run "$stand_in"
 expect "who proves finds what was built" 1 "" "left is false"
-expect_number "what was kept, behind a proof that failed" "$(cat -- "$toy"/crates/{left,right}/out/incremental/work | xargs)" "left right"
+expect_number "what was kept, of proofs that did not end" \
+    "$(cat -- "$toy"/crates/{left,right}/out/incremental/work | xargs)" "written written"
 
 # While fewer crates are ready than there are jobs, one has a second job.
 : >"$work/calls"

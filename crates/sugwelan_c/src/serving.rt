@@ -342,5 +342,8 @@ pub fn serve(task: &mut CheckedTask, call: &Call, told: &mut Told) -> i32
     let first = reply_to(task, want, &mut rousing);
     let reply = go_further(task, first, &mut rousing);
     tell(reply, &rousing, told);
+    // The caller rouses those that `told` names.
+    rousing.hand_on();
+    rousing.end();
     code_of(reply)
 }

@@ -4,10 +4,11 @@
 mod files;
 mod streams;
 
+use edge_io::{Folder, Sink, Source};
 use files::Disk;
 use flow_copy::OpenGate;
 use func_head::FuncHead;
-use std::alloc::AllocError;
+use std::alloc::{AllocError, Global};
 use std::process::ExitCode;
 use std::sync::Wait;
 use std::thread::Threads;
@@ -25,35 +26,53 @@ fn words(rt: &HostRuntime) -> io::Result<Vec<String>> {
     Ok(words)
 }
 
-/// Does what the words say, with two watchers for a copy: one adds up the lengths of its pieces, and one counts the
-/// ends of lines.
-fn start<R: Threads + Wait + Sync>(
-    rt: &R,
-    host: &HostRuntime,
-    words: &[String],
-) -> Result<u8, AllocError> {
-    let alloc = host.alloc();
-    let (domain, mut task) = Domain::new(alloc)?;
+/// The watchers of a copy: one adds up the lengths of its pieces, and one counts the ends of lines.
+fn watchers(alloc: Global) -> Result<FuncHead, AllocError> {
     let mut watch = FuncHead::new(alloc);
     let lengths = Box::new(alloc, Lengths { bytes: 0 })?;
     let lines = Box::new(alloc, Lines { ends: 0 })?;
     if watch.add_exclusive(lengths).is_err() || watch.add_exclusive(lines).is_err() {
         return Err(AllocError);
     }
+    Ok(watch)
+}
+
+/// Does what the words say, with a Domain of its own. It names no folder, source or sink, so that what `run` says of
+/// theirs stays as it is.
+fn run_over<R: Threads + Wait + Sync, F: Folder, I: Source, O: Sink, E: Sink>(
+    rt: &R,
+    alloc: Global,
+    words: &[String],
+    folder: &mut F,
+    input: &mut I,
+    out: &mut O,
+    err: &mut E,
+    watch: FuncHead,
+) -> Result<u8, AllocError> {
+    let (domain, mut task) = Domain::new(alloc)?;
     let status = run(
+        rt, alloc, words, folder, input, out, err, &domain, &mut task, watch, &OpenGate,
+    );
+    Ok(status)
+}
+
+/// Does what the words say, over the files and the streams of the system.
+fn start<R: Threads + Wait + Sync>(
+    rt: &R,
+    host: &HostRuntime,
+    words: &[String],
+) -> Result<u8, AllocError> {
+    let watch = watchers(host.alloc())?;
+    run_over(
         rt,
-        alloc,
+        host.alloc(),
         words,
         &mut Disk::new(host),
         &mut Reading::new(host.stdin()),
         &mut Writing::new(host.stdout()),
         &mut Writing::new(host.stderr()),
-        &domain,
-        &mut task,
         watch,
-        &OpenGate,
-    );
-    Ok(status)
+    )
 }
 
 /// The status of want of memory, whose line is written.

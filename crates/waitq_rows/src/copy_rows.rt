@@ -4,6 +4,7 @@ use edge_io::{Folder, MemFolder, MemSink, MemSource, Sink, Source};
 use flow_copy::OpenGate;
 use func_head::FuncHead;
 use std::alloc::{AllocError, Global};
+use std::process::Abort;
 use std::sync::Wait;
 use std::test::Fail;
 use std::thread::Threads;
@@ -108,6 +109,18 @@ pub(crate) fn list_of(alloc: Global, words: &[&str]) -> Result<Vec<String>, Allo
     Ok(list)
 }
 
+/// The words of a copy from `a` to `b` with events.
+fn copy_words<'a>(alloc: Global, events: &[&'a str]) -> Result<Vec<&'a str>, AllocError> {
+    let mut words = Vec::new(alloc);
+    for word in ["copy", "a", "b"] {
+        words.push(word)?;
+    }
+    for event in events {
+        words.push(*event)?;
+    }
+    Ok(words)
+}
+
 /// A folder with the file `a`.
 fn folder_of(alloc: Global, bytes: &[u8], fails: Fails) -> Result<MemFolder, AllocError> {
     let mut folder = MemFolder::new(alloc);
@@ -173,15 +186,36 @@ pub(crate) fn front(left: &Left, name: &str, bytes: &[u8]) -> Option<usize> {
     }
 }
 
+/// Compares what a run gave with a status, a text and a line.
+fn gave(rt: &impl Abort, left: &Left, status: u8, text: &str, line: &str) {
+    assert_eq!(rt; left.status, status);
+    assert_eq!(rt; left.text.as_str(), text);
+    assert_eq!(rt; left.line.as_str(), line);
+}
+
+/// Compares how many of these bytes a file has with what it is to have.
+fn has(rt: &impl Abort, left: &Left, name: &str, bytes: &[u8], wanted: Option<usize>) {
+    assert_eq!(rt; front(left, name, bytes), wanted);
+}
+
+/// Copies a file of these bytes, where nothing fails, and compares what is told and that the other file has them all.
+fn copies<R: Abort + Threads + Wait + Sync>(
+    rt: &R,
+    alloc: Global,
+    bytes: &[u8],
+    text: &str,
+) -> Result<Left, Fail> {
+    let left = run_on(rt, alloc, &["copy", "a", "b"], bytes, NONE)?;
+    gave(rt, &left, 0, text, "");
+    has(rt, &left, "b", bytes, Some(bytes.len()));
+    Ok(left)
+}
+
 #[test]
 fn a_copy_writes_its_text_and_the_file(rt: HostRuntime) -> Result<(), Fail> {
     let bytes = bytes_of(rt.alloc(), 20_000)?;
-    let left = run_on(&rt, rt.alloc(), &["copy", "a", "b"], &bytes, NONE)?;
-    assert_eq!(rt; left.status, 0);
-    assert_eq!(rt; left.text.as_str(), TEXT);
-    assert_eq!(rt; left.line.as_str(), "");
-    assert_eq!(rt; front(&left, "b", &bytes), Some(20_000));
-    assert_eq!(rt; front(&left, "a", &bytes), Some(20_000));
+    let left = copies(&rt, rt.alloc(), &bytes, TEXT)?;
+    has(&rt, &left, "a", &bytes, Some(20_000));
     Ok(())
 }
 
@@ -206,11 +240,24 @@ fn copies_of_several_sizes(rt: HostRuntime) -> Result<(), Fail> {
         ),
     ] {
         let bytes = vec![in rt.alloc(); b'x'; size]?;
-        let left = run_on(&rt, rt.alloc(), &["copy", "a", "b"], &bytes, NONE)?;
-        assert_eq!(rt; left.status, 0);
-        assert_eq!(rt; left.text.as_str(), text);
-        assert_eq!(rt; front(&left, "b", &bytes), Some(size));
+        copies(&rt, rt.alloc(), &bytes, text)?;
     }
+    Ok(())
+}
+
+/// Copies a file of these bytes, which no planned signal stops, and compares the end of what is told.
+fn sends<R: Abort + Threads + Wait + Sync>(
+    rt: &R,
+    alloc: Global,
+    bytes: &[u8],
+    events: &[&str],
+    sent: &str,
+) -> Result<(), Fail> {
+    let words = copy_words(alloc, events)?;
+    let left = run_on(rt, alloc, &words, bytes, NONE)?;
+    assert_eq!(rt; left.status, 0);
+    assert!(rt; left.text.as_str().ends_with(sent), "{sent}");
+    has(rt, &left, "b", bytes, Some(bytes.len()));
     Ok(())
 }
 
@@ -225,17 +272,7 @@ fn planned_signals_are_sent(rt: HostRuntime) -> Result<(), Fail> {
         (&["kill:writer@20001"], "signals 0\n"),
         (&["signal:writer@0"; 16], "signals 16\n"),
     ] {
-        let mut words = Vec::new(rt.alloc());
-        for word in ["copy", "a", "b"] {
-            words.push(word)?;
-        }
-        for event in events {
-            words.push(*event)?;
-        }
-        let left = run_on(&rt, rt.alloc(), &words, &bytes, NONE)?;
-        assert_eq!(rt; left.status, 0);
-        assert!(rt; left.text.as_str().ends_with(sent), "{sent}");
-        assert_eq!(rt; front(&left, "b", &bytes), Some(20_000));
+        sends(&rt, rt.alloc(), &bytes, events, sent)?;
     }
     Ok(())
 }
@@ -245,12 +282,10 @@ fn a_kill_that_was_sent_ends_with_its_status(rt: HostRuntime) -> Result<(), Fail
     let bytes = bytes_of(rt.alloc(), 20_000)?;
     for event in ["kill:writer@4096", "kill:reader@0", "kill:relay@20000"] {
         let left = run_on(&rt, rt.alloc(), &["copy", "a", "b", event], &bytes, NONE)?;
-        assert_eq!(rt; left.status, 6);
-        assert_eq!(rt; left.text.as_str(), "");
-        assert_eq!(rt; left.line.as_str(), "waitq: killed\n");
+        gave(&rt, &left, 6, "", "waitq: killed\n");
         assert!(rt; front(&left, "b", &bytes).is_some());
         if event == "kill:reader@0" {
-            assert_eq!(rt; front(&left, "b", &bytes), Some(0));
+            has(&rt, &left, "b", &bytes, Some(0));
         }
     }
     Ok(())
@@ -259,10 +294,8 @@ fn a_kill_that_was_sent_ends_with_its_status(rt: HostRuntime) -> Result<(), Fail
 #[test]
 fn a_missing_file_ends_with_its_name(rt: HostRuntime) -> Result<(), Fail> {
     let left = run_on(&rt, rt.alloc(), &["copy", "c", "b"], b"x", NONE)?;
-    assert_eq!(rt; left.status, 4);
-    assert_eq!(rt; left.text.as_str(), "");
-    assert_eq!(rt; left.line.as_str(), "waitq: no file c\n");
-    assert_eq!(rt; front(&left, "b", b""), None);
+    gave(&rt, &left, 4, "", "waitq: no file c\n");
+    has(&rt, &left, "b", b"", None);
     Ok(())
 }
 
@@ -330,30 +363,42 @@ fn faults_of_the_outside_end_with_their_statuses(rt: HostRuntime) -> Result<(), 
         ),
     ] {
         let left = run_on(&rt, rt.alloc(), &["copy", "a", "b"], &bytes, fails)?;
-        assert_eq!(rt; left.status, status);
-        assert_eq!(rt; left.text.as_str(), "");
-        assert_eq!(rt; left.line.as_str(), line);
-        assert_eq!(rt; front(&left, "b", &bytes), held);
+        gave(&rt, &left, status, "", line);
+        has(&rt, &left, "b", &bytes, held);
     }
+    write_fails(&rt, rt.alloc(), &bytes)?;
+    read_fails_of_a_killed(&rt, rt.alloc(), &bytes)
+}
+
+/// A write of the file that fails leaves a front of it.
+fn write_fails<R: Abort + Threads + Wait + Sync>(
+    rt: &R,
+    alloc: Global,
+    bytes: &[u8],
+) -> Result<(), Fail> {
     let fails = Fails {
         writes: &[2],
         ..NONE
     };
-    let left = run_on(&rt, rt.alloc(), &["copy", "a", "b"], &bytes, fails)?;
+    let left = run_on(rt, alloc, &["copy", "a", "b"], bytes, fails)?;
     assert_eq!(rt; left.status, 5);
-    assert_eq!(rt; left.line.as_str(), write);
-    assert!(rt; front(&left, "b", &bytes).is_some());
+    assert_eq!(rt; left.line.as_str(), "waitq: write failed\n");
+    assert!(rt; front(&left, "b", bytes).is_some());
+    Ok(())
+}
+
+/// A read that fails is told, though a kill was planned.
+fn read_fails_of_a_killed<R: Abort + Threads + Wait + Sync>(
+    rt: &R,
+    alloc: Global,
+    bytes: &[u8],
+) -> Result<(), Fail> {
     let fails = Fails {
         reads: &[1],
         ..NONE
     };
-    let left = run_on(
-        &rt,
-        rt.alloc(),
-        &["copy", "a", "b", "kill:writer@0"],
-        &bytes,
-        fails,
-    )?;
+    let words = ["copy", "a", "b", "kill:writer@0"];
+    let left = run_on(rt, alloc, &words, bytes, fails)?;
     assert_eq!(rt; left.status, 4);
     Ok(())
 }
@@ -396,10 +441,7 @@ fn words_that_are_no_copy_command(rt: HostRuntime) -> Result<(), Fail> {
 #[test]
 fn at_most_16_signals_are_planned(rt: HostRuntime) -> Result<(), Fail> {
     for (count, status) in [(16, 0), (17, 2)] {
-        let mut words = Vec::new(rt.alloc());
-        for word in ["copy", "a", "b"] {
-            words.push(word)?;
-        }
+        let mut words = copy_words(rt.alloc(), &[])?;
         for _ in 0..count {
             words.push("signal:reader@0")?;
         }

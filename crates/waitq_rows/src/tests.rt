@@ -59,12 +59,35 @@ fn run_on<R: Threads + Wait + Sync>(
     Ok(Answered { status, text, line })
 }
 
+/// Runs `replay` on a script, where nothing fails.
+fn replay<R: Threads + Wait + Sync>(
+    rt: &R,
+    alloc: Global,
+    script: &[u8],
+) -> Result<Answered, Fail> {
+    run_on(rt, alloc, &["replay"], script, &[], &[], &[])
+}
+
 /// Compares what a run gave with a row.
 fn meets(rt: &impl Abort, row: Row, ran: &Answered) {
     let name = row.name;
     assert_eq!(rt; ran.status, row.status, "status of {name}");
     assert_eq!(rt; ran.text.as_str(), row.text, "text of {name}");
     assert_eq!(rt; ran.line.as_str(), row.line, "line of {name}");
+}
+
+/// Runs the script of a row, and compares what it gave.
+fn replays<R: Abort + Threads + Wait + Sync>(rt: &R, alloc: Global, row: Row) -> Result<(), Fail> {
+    let ran = replay(rt, alloc, row.script.as_bytes())?;
+    meets(rt, row, &ran);
+    Ok(())
+}
+
+/// Compares what a run gave with a status, a text and a line, for the case of this number.
+fn answers(rt: &impl Abort, case: u64, ran: &Answered, status: u8, text: &str, line: &str) {
+    assert_eq!(rt; ran.status, status, "case {case}");
+    assert_eq!(rt; ran.text.as_str(), text, "case {case}");
+    assert_eq!(rt; ran.line.as_str(), line, "case {case}");
 }
 
 #[test]
@@ -88,16 +111,7 @@ fn worked_scripts_have_their_texts(rt: HostRuntime) -> Result<(), Fail> {
         PAGE_HANDED_ON,
         PAGE_TAKEN_BY_STRANGER,
     ] {
-        let ran = run_on(
-            &rt,
-            rt.alloc(),
-            &["replay"],
-            row.script.as_bytes(),
-            &[],
-            &[],
-            &[],
-        )?;
-        meets(&rt, row, &ran);
+        replays(&rt, rt.alloc(), row)?;
     }
     Ok(())
 }
@@ -115,16 +129,7 @@ fn bad_scripts_have_their_lines(rt: HostRuntime) -> Result<(), Fail> {
         TOO_MANY_EVENTS,
         PAGE_CALL_IN_VERSION_1,
     ] {
-        let ran = run_on(
-            &rt,
-            rt.alloc(),
-            &["replay"],
-            row.script.as_bytes(),
-            &[],
-            &[],
-            &[],
-        )?;
-        meets(&rt, row, &ran);
+        replays(&rt, rt.alloc(), row)?;
     }
     Ok(())
 }
@@ -147,9 +152,7 @@ fn other_words_are_refused_with_the_usage(rt: HostRuntime) -> Result<(), Fail> {
         &["drill", "-1", ""],
     ] {
         let ran = run_on(&rt, rt.alloc(), words, script, &[], &[], &[])?;
-        assert_eq!(rt; ran.status, 2, "{} words", words.len());
-        assert_eq!(rt; ran.text.as_str(), "");
-        assert_eq!(rt; ran.line.as_str(), usage);
+        answers(&rt, words.len() as u64, &ran, 2, "", usage);
     }
     Ok(())
 }
@@ -157,10 +160,8 @@ fn other_words_are_refused_with_the_usage(rt: HostRuntime) -> Result<(), Fail> {
 #[test]
 fn an_input_above_one_mebibyte_is_too_long(rt: HostRuntime) -> Result<(), Fail> {
     let bytes = vec![in rt.alloc(); b' '; 1_048_577]?;
-    let ran = run_on(&rt, rt.alloc(), &["replay"], &bytes, &[], &[], &[])?;
-    assert_eq!(rt; ran.status, 8);
-    assert_eq!(rt; ran.text.as_str(), "");
-    assert_eq!(rt; ran.line.as_str(), "waitq: input too long\n");
+    let ran = replay(&rt, rt.alloc(), &bytes)?;
+    answers(&rt, 0, &ran, 8, "", "waitq: input too long\n");
     Ok(())
 }
 
@@ -170,11 +171,21 @@ fn a_read_that_fails_ends_with_its_status(rt: HostRuntime) -> Result<(), Fail> {
     for fails in [1, 2] {
         let script = WAIT_SET_WAKE.script.as_bytes();
         let ran = run_on(&rt, rt.alloc(), &["replay"], script, &[fails], &[], &[])?;
-        assert_eq!(rt; ran.status, 4, "at call {fails}");
-        assert_eq!(rt; ran.text.as_str(), "");
-        assert_eq!(rt; ran.line.as_str(), "waitq: read failed\n");
+        answers(&rt, fails, &ran, 4, "", "waitq: read failed\n");
     }
     Ok(())
+}
+
+/// Compares what a run gave whose write failed: a front of the text, and not the whole.
+fn breaks(rt: &impl Abort, case: u64, ran: &Answered, text: &str) {
+    assert_eq!(rt; ran.status, 5, "at call {case}");
+    assert_eq!(rt;
+        ran.line.as_str(),
+        "waitq: write failed\n",
+        "at call {case}"
+    );
+    assert!(rt; text.starts_with(ran.text.as_str()), "at call {case}");
+    assert!(rt; ran.text.len() < text.len(), "at call {case}");
 }
 
 #[test]
@@ -182,19 +193,9 @@ fn a_write_that_fails_leaves_a_front_of_the_text(rt: HostRuntime) -> Result<(), 
     let row = WAIT_SET_WAKE;
     // The first call writes the lines of the steps, and the second the end lines.
     for fails in [1, 2] {
-        let ran = run_on(
-            &rt,
-            rt.alloc(),
-            &["replay"],
-            row.script.as_bytes(),
-            &[],
-            &[fails],
-            &[],
-        )?;
-        assert_eq!(rt; ran.status, 5, "at call {fails}");
-        assert!(rt; row.text.starts_with(ran.text.as_str()), "at call {fails}");
-        assert!(rt; ran.text.len() < row.text.len(), "at call {fails}");
-        assert_eq!(rt; ran.line.as_str(), "waitq: write failed\n");
+        let script = row.script.as_bytes();
+        let ran = run_on(&rt, rt.alloc(), &["replay"], script, &[], &[fails], &[])?;
+        breaks(&rt, fails, &ran, row.text);
     }
     Ok(())
 }
@@ -210,30 +211,13 @@ fn a_write_that_fails_in_mid_stream_leaves_the_lines_before_it(
         script.push_str("step 1 1\n")?;
         text.push_str("t1 nocall\n")?;
     }
-    let whole = run_on(
-        &rt,
-        rt.alloc(),
-        &["replay"],
-        script.as_bytes(),
-        &[],
-        &[],
-        &[],
-    )?;
+    let whole = replay(&rt, rt.alloc(), script.as_bytes())?;
     assert_eq!(rt; whole.status, 0);
     assert!(rt; whole.text.starts_with(text.as_str()));
-    let broken = run_on(
-        &rt,
-        rt.alloc(),
-        &["replay"],
-        script.as_bytes(),
-        &[],
-        &[2],
-        &[],
-    )?;
-    assert_eq!(rt; broken.status, 5);
+    let script = script.as_bytes();
+    let broken = run_on(&rt, rt.alloc(), &["replay"], script, &[], &[2], &[])?;
     assert!(rt; !broken.text.is_empty());
-    assert!(rt; broken.text.len() < text.len());
-    assert!(rt; text.starts_with(broken.text.as_str()));
+    breaks(&rt, 2, &broken, text.as_str());
     Ok(())
 }
 
@@ -258,9 +242,7 @@ fn drills_have_their_summaries(rt: HostRuntime) -> Result<(), Fail> {
         ),
     ] {
         let ran = run_on(&rt, rt.alloc(), &words, b"", &[1], &[], &[])?;
-        assert_eq!(rt; ran.status, 0);
-        assert_eq!(rt; ran.text.as_str(), text);
-        assert_eq!(rt; ran.line.as_str(), "");
+        answers(&rt, 0, &ran, 0, text, "");
     }
     Ok(())
 }
@@ -268,18 +250,10 @@ fn drills_have_their_summaries(rt: HostRuntime) -> Result<(), Fail> {
 #[test]
 fn a_long_drill_says_the_same_each_time(rt: HostRuntime) -> Result<(), Fail> {
     for _ in 0..2 {
-        let ran = run_on(
-            &rt,
-            rt.alloc(),
-            &["drill", "7", "20000"],
-            b"",
-            &[],
-            &[],
-            &[],
-        )?;
-        assert_eq!(rt; ran.status, 0);
+        let words = ["drill", "7", "20000"];
+        let ran = run_on(&rt, rt.alloc(), &words, b"", &[], &[], &[])?;
         let text = "drill 7 20000\nevents 5511\nrefused 18639\nasleep 16\nend\n";
-        assert_eq!(rt; ran.text.as_str(), text);
+        gives(&rt, &ran, text);
     }
     Ok(())
 }
@@ -287,9 +261,7 @@ fn a_long_drill_says_the_same_each_time(rt: HostRuntime) -> Result<(), Fail> {
 #[test]
 fn a_summary_that_cannot_be_written_ends_with_its_status(rt: HostRuntime) -> Result<(), Fail> {
     let ran = run_on(&rt, rt.alloc(), &["drill", "0", "1"], b"", &[], &[1], &[])?;
-    assert_eq!(rt; ran.status, 5);
-    assert_eq!(rt; ran.text.as_str(), "");
-    assert_eq!(rt; ran.line.as_str(), "waitq: write failed\n");
+    answers(&rt, 0, &ran, 5, "", "waitq: write failed\n");
     Ok(())
 }
 
@@ -319,15 +291,7 @@ fn walk_65(rt: HostRuntime) -> Result<(), Fail> {
     walks::push_wakes(alloc, &mut text, walk, 64, 0)?;
     walks::push_answer(alloc, &mut text, walk, 1)?;
     walks::push_end(alloc, &mut text, 262, walk, false)?;
-    let ran = run_on(
-        &rt,
-        rt.alloc(),
-        &["replay"],
-        script.as_bytes(),
-        &[],
-        &[],
-        &[],
-    )?;
+    let ran = replay(&rt, rt.alloc(), script.as_bytes())?;
     gives(&rt, &ran, text.as_str());
     Ok(())
 }
@@ -344,15 +308,7 @@ fn walk_66_breaks(rt: HostRuntime) -> Result<(), Fail> {
     let lines = text.split('\n').filter(|line| line.starts_with("t100 "));
     assert_eq!(rt; lines.count(), 72 + 1);
     walks::push_end(alloc, &mut text, 270, WALK_66, false)?;
-    let ran = run_on(
-        &rt,
-        rt.alloc(),
-        &["replay"],
-        script.as_bytes(),
-        &[],
-        &[],
-        &[],
-    )?;
+    let ran = replay(&rt, rt.alloc(), script.as_bytes())?;
     gives(&rt, &ran, text.as_str());
     Ok(())
 }
@@ -371,15 +327,7 @@ fn walk_break_and_move(rt: HostRuntime) -> Result<(), Fail> {
     text.push_str("t100 lock h256\nt100 unmark h256\n")?;
     walks::push_answer(alloc, &mut text, WALK_66, 2)?;
     walks::push_end(alloc, &mut text, 275, WALK_66, true)?;
-    let ran = run_on(
-        &rt,
-        rt.alloc(),
-        &["replay"],
-        script.as_bytes(),
-        &[],
-        &[],
-        &[],
-    )?;
+    let ran = replay(&rt, rt.alloc(), script.as_bytes())?;
     gives(&rt, &ran, text.as_str());
     Ok(())
 }
@@ -403,15 +351,7 @@ fn walk_131_breaks_twice(rt: HostRuntime) -> Result<(), Fail> {
     let lines = text.split('\n').filter(|line| line.starts_with("t200 "));
     assert_eq!(rt; lines.count(), 141 + 1);
     walks::push_end(alloc, &mut text, 534, walk, false)?;
-    let ran = run_on(
-        &rt,
-        rt.alloc(),
-        &["replay"],
-        script.as_bytes(),
-        &[],
-        &[],
-        &[],
-    )?;
+    let ran = replay(&rt, rt.alloc(), script.as_bytes())?;
     gives(&rt, &ran, text.as_str());
     Ok(())
 }

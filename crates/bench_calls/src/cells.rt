@@ -1,7 +1,6 @@
 //! Calls of completions, by a task that has left no entry at any.
 
 ghost use Rattle.std.specs.Prelude.{◌≡◌};
-ghost use Rattle.wait_rule.specs.LeftEntries.{HasLeftNone};
 ghost use Rattle.wait_rule.specs.Says.{IsClean};
 
 use crate::names::Call;
@@ -19,10 +18,8 @@ const CELL: u8 = 0;
 fn complete_one<R: Wait>(rt: &R, domain: &Domain, task: &mut Task)
     requires of { task.old.domain ≡ domain.now }
     requires clean { IsClean task.old }
-    requires off { HasLeftNone task.old }
     ensures of { task.new.domain ≡ domain.now }
     ensures clean { IsClean task.new }
-    ensures off { HasLeftNone task.new }
 {
     complete(rt, domain, task, CELL);
 }
@@ -31,10 +28,8 @@ fn complete_one<R: Wait>(rt: &R, domain: &Domain, task: &mut Task)
 fn wait_for_one<R: Wait>(rt: &R, domain: &Domain, task: &mut Task) -> bool
     requires of { task.old.domain ≡ domain.now }
     requires clean { IsClean task.old }
-    requires off { HasLeftNone task.old }
     ensures of { task.new.domain ≡ domain.now }
     ensures clean { IsClean task.new }
-    ensures off { HasLeftNone task.new }
 {
     wait_for(rt, domain, task, CELL, SleepState::Uninterruptible).is_ok()
 }
@@ -43,10 +38,8 @@ fn wait_for_one<R: Wait>(rt: &R, domain: &Domain, task: &mut Task) -> bool
 fn take_one<R: Wait>(rt: &R, domain: &Domain, task: &mut Task) -> bool
     requires of { task.old.domain ≡ domain.now }
     requires clean { IsClean task.old }
-    requires off { HasLeftNone task.old }
     ensures of { task.new.domain ≡ domain.now }
     ensures clean { IsClean task.new }
-    ensures off { HasLeftNone task.new }
 {
     try_wait(rt, domain, task, CELL)
 }
@@ -55,10 +48,8 @@ fn take_one<R: Wait>(rt: &R, domain: &Domain, task: &mut Task) -> bool
 fn once<R: Wait>(rt: &R, domain: &Domain, task: &mut Task, call: Call) -> bool
     requires of { task.old.domain ≡ domain.now }
     requires clean { IsClean task.old }
-    requires off { HasLeftNone task.old }
     ensures of { task.new.domain ≡ domain.now }
     ensures clean { IsClean task.new }
-    ensures off { HasLeftNone task.new }
 {
     complete_one(rt, domain, task);
     match call {
@@ -78,7 +69,6 @@ pub(crate) fn repeat_cell<R: Wait>(
 ) -> bool
     requires of { task.old.domain ≡ domain.now }
     requires clean { IsClean task.old }
-    requires off { HasLeftNone task.old }
 {
     let mut all = true;
     for _ in 0..n {

@@ -3,8 +3,6 @@
 ghost use Rattle.std.specs.Prelude.{◌≡◌, ◌<◌};
 ghost use Rattle.wait_model.specs.declared.layout.TheConstants.{COMPLETIONS, FIRST_SIMPLE};
 ghost use Rattle.wait_rule.specs.Says.{IsClean};
-ghost use Rattle.wait_rule.specs.LeftEntries.{HasLeftNone};
-ghost use Rattle.bench_event.specs.Told.{HasLeftFor};
 
 use completion_cell::await_calls;
 use completion_cell::completes::complete;
@@ -58,11 +56,9 @@ pub(crate) fn set<R: Wait>(rt: &R, domain: &Domain, task: &mut Task, cond: u8) -
 fn complete_one<R: Wait>(rt: &R, domain: &Domain, task: &mut Task, cell: u8)
     requires of { task.old.domain ≡ domain.now }
     requires clean { IsClean task.old }
-    requires off { HasLeftNone task.old }
     requires cell { cell < COMPLETIONS }
     ensures of { task.new.domain ≡ domain.now }
     ensures clean { IsClean task.new }
-    ensures off { HasLeftNone task.new }
 {
     complete(rt, domain, task, cell);
 }
@@ -71,11 +67,9 @@ fn complete_one<R: Wait>(rt: &R, domain: &Domain, task: &mut Task, cell: u8)
 fn await_one<R: Wait>(rt: &R, domain: &Domain, task: &mut Task, cell: u8) -> bool
     requires of { task.old.domain ≡ domain.now }
     requires clean { IsClean task.old }
-    requires off { HasLeftNone task.old }
     requires cell { cell < COMPLETIONS }
     ensures of { task.new.domain ≡ domain.now }
     ensures clean { IsClean task.new }
-    ensures off { HasLeftNone task.new }
 {
     await_calls::wait_for(rt, domain, task, cell, SleepState::Uninterruptible).is_ok()
 }
@@ -93,12 +87,10 @@ pub(crate) enum Means {
 pub(crate) fn tell<R: Wait>(rt: &R, domain: &Domain, task: &mut Task, means: Means, number: u8)
     requires of { task.old.domain ≡ domain.now }
     requires clean { IsClean task.old }
-    requires off { HasLeftFor means task.old }
     requires full { number < FIRST_SIMPLE }
     requires cell { number < COMPLETIONS }
     ensures of { task.new.domain ≡ domain.now }
     ensures clean { IsClean task.new }
-    ensures off { HasLeftFor means task.new }
 {
     match means {
         Means::Condition => {
@@ -118,12 +110,10 @@ pub(crate) fn hear<R: Wait>(
 ) -> bool
     requires of { task.old.domain ≡ domain.now }
     requires clean { IsClean task.old }
-    requires off { HasLeftFor means task.old }
     requires full { number < FIRST_SIMPLE }
     requires cell { number < COMPLETIONS }
     ensures of { task.new.domain ≡ domain.now }
     ensures clean { IsClean task.new }
-    ensures off { HasLeftFor means task.new }
 {
     match means {
         Means::Condition => receive(rt, domain, task, number),

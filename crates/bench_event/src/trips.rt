@@ -1,7 +1,7 @@
 //! Round trips of two threads: each tells the other one to go on, and waits until it is told itself.
 
 ghost use Rattle.std.specs.Prelude.{◌≡◌};
-ghost use Rattle.bench_event.specs.Told.{MayTell};
+ghost use Rattle.wait_rule.specs.Says.{IsClean};
 
 use crate::calls::{Means, hear, tell};
 use std::alloc::Global;
@@ -19,7 +19,7 @@ const BACK: u8 = 1;
 /// The side that begins, in `n` round trips: true where each of its waits ended since it was told.
 fn begin<R: Wait>(rt: &R, domain: &Domain, mut task: Task, means: Means, n: u64) -> bool
     requires of { task.domain ≡ domain.now }
-    requires may { MayTell means task }
+    requires clean { IsClean task }
 {
     let mut all = true;
     for _ in 0..n {
@@ -34,7 +34,7 @@ fn begin<R: Wait>(rt: &R, domain: &Domain, mut task: Task, means: Means, n: u64)
 /// The side that answers, in `n` round trips: true where each of its waits ended since it was told.
 fn answer<R: Wait>(rt: &R, domain: &Domain, mut task: Task, means: Means, n: u64) -> bool
     requires of { task.domain ≡ domain.now }
-    requires may { MayTell means task }
+    requires clean { IsClean task }
 {
     let mut all = true;
     for _ in 0..n {
@@ -56,15 +56,15 @@ fn round_trips<R: Threads + Wait + Sync>(
     n: u64,
 ) -> bool
     requires of { (one.domain ≡ domain.now) × (two.domain ≡ domain.now) }
-    requires may { MayTell means one × MayTell means two }
+    requires clean { IsClean one × IsClean two }
 {
     let (began, answered) = thread::join(
         rt,
         move || -> bool
-            requires { (one.domain ≡ domain.now) × MayTell means one }
+            requires { (one.domain ≡ domain.now) × IsClean one }
         { begin(rt, domain, one, means, n) },
         move || -> bool
-            requires { (two.domain ≡ domain.now) × MayTell means two }
+            requires { (two.domain ≡ domain.now) × IsClean two }
         { answer(rt, domain, two, means, n) },
     );
     began && answered

@@ -16,7 +16,7 @@ use Rattle.wait_rule.specs.HeldValues.{count_in}
 use Rattle.wait_rule.specs.Known.{Known}
 use Rattle.wait_rule.specs.Queues.{IsIdle, IsTold, index}
 use Rattle.wait_rule.specs.Says.{Excuse, IsUp, Owes, history_of, told_of}
-use Rattle.wait_rule.specs.Stays.{Carries, with_left}
+use Rattle.wait_rule.specs.Stays.{Carries, with_left_entry}
 use Rattle.wait_rule.specs.Transitions.{Goes, Program, call_program}
 use Rattle.wait_rule.proofs.KnownLaws.StayingParts.{owes_also, owes_left, owes_off, owes_out}
 use Rattle.wait_rule.proofs.KnownLaws.CalledPermits.{shows_none}
@@ -76,9 +76,9 @@ module _ (old new : Known) (r q : AwaitRun) (s : AwaitStage) (o : AwaitOutcome)
   -- who began idle goes on as it was
   pub ends_owed : StaysOff old new → (x : Excuse) → Owes x old → Owes x new
   ends_owed off x o = owes_off x new (λ none d. off d (o.debts.off none d)) (λ none. shows_none new a.lands.ended.stands.told)
-      (owes_out (own_of old) (with_left x) new
+      (owes_out (own_of old) (with_left_entry x) new
       (ap (λ (n : ℕ). (told_of new).bits.stored (index n 0)) (sym a.went.keeps.number) ∙ ends_out)
-      (a.went.keeps.owes x (owes_also (own_of old) (with_left x) old (owes_left x old o))))
+      (a.went.keeps.owes x (owes_also (own_of old) (with_left_entry x) old (owes_left x old o))))
 
   pub ends_carried : IsUp old → IsIdle old → (told_of old).hold.head ≡ None → StaysOff old new
       → Carries (wait_change (index old.view.number 0) new.at) old new

@@ -37,7 +37,7 @@ use Rattle.wait_rule.specs.Counts.{StoresCount}
 use Rattle.wait_rule.specs.Known.{Known}
 use Rattle.wait_rule.specs.Queues.{index}
 use Rattle.wait_rule.specs.Says.{told_of, unlocked_with}
-use Rattle.wait_rule.specs.Stays.{Carries, unchanged, unlock_change, with_entry, with_left}
+use Rattle.wait_rule.specs.Stays.{Carries, unchanged, unlock_change, with_entry, with_left_entry}
 use Rattle.wait_rule.specs.Tickets.{no_ticket}
 use Rattle.wait_rule.specs.Transitions.{Finds, FindsAt, IsSeenAs, Program, by_step}
 use Rattle.wait_rule.proofs.KnownLaws.Transitions.{only_none}
@@ -48,7 +48,8 @@ use Rattle.wait_event.proofs.Entering.{unlock_looks}
 use Rattle.wait_event.proofs.Ground.Keeping.{keeps_of}
 use Rattle.wait_event.proofs.Ground.Standing.{still_stands}
 use Rattle.completion_cell.specs.Asks.{Counted, TakesOne}
-use Rattle.completion_cell.specs.Awaits.{CellKeeps, 
+use Rattle.completion_cell.specs.Awaits.{
+  CellKeeps,
   EndsAs,
   MayEnd,
   StandsAt,
@@ -73,7 +74,7 @@ module _ (old new : Known) (is : new ≡ unlocked_with old old.at false) where
 
   pub back_keeps : CellKeeps (index old.view.number 0) old new
   back_keeps = keeps_of (index old.view.number 0) unlock_change old new back (λ w. refl) (λ x away. refl)
-      (λ x. back.owes (with_entry (index old.view.number 0) (with_left x)))
+      (λ x. back.owes (with_entry (index old.view.number 0) (with_left_entry x)))
 
   pub back_stands : (p q : Post) → Stands old p → q.head ≡ None → q.ticket ≡ no_ticket
       → IsStateFor q.stirs q.state old.book.state
@@ -159,7 +160,7 @@ module _ (old : Known) (r : AwaitRun) (n : ℕ) where
         (next.Go (at.Await awaiting.Unlock))
     store_went off m end less carries = quiet_went old mid r (over_at off false) (next.Go (at.Await awaiting.Unlock))
         (store_by off m) (keeps_of (index old.view.number 0) unchanged old mid carries (λ w. refl) (λ x away. refl)
-        (λ x. carries.owes (with_entry (index old.view.number 0) (with_left x))))
+        (λ x. carries.owes (with_entry (index old.view.number 0) (with_left_entry x))))
       where
         same : n ≡ s.found
         same = sym (s.finds.1 m.stands.stands.head n m.counts.0)

@@ -17,7 +17,7 @@ use Rattle.wait_rule.specs.HeldValues.{count_in}
 use Rattle.wait_rule.specs.Known.{Known}
 use Rattle.wait_rule.specs.Queues.{index}
 use Rattle.wait_rule.specs.Says.{added, history_of}
-use Rattle.wait_rule.specs.Stays.{Carries, unchanged, with_entry, with_left}
+use Rattle.wait_rule.specs.Stays.{Carries, unchanged, with_entry, with_left_entry}
 use Rattle.wait_rule.specs.Transitions.{by_step}
 use Rattle.wait_rule.proofs.KnownLaws.TaskHistories.{history_after}
 use Rattle.wait_rule.proofs.KnownLaws.Transitions.{only_none}
@@ -56,7 +56,7 @@ module _ (old new : Known) (r : AwaitRun) (v : ℕ) (is : new ≡ added old (ite
       (by_step (step.Load (watch.Done r.cell) v)) (only_none old) refl (refl, tt, tt)
       (step_behind old new (step.Load (watch.Done r.cell) v) is)) refl
       (keeps_of (index old.view.number 0) unchanged old new carries (λ w. refl) (λ x away. refl)
-      (λ x. carries.owes (with_entry (index old.view.number 0) (with_left x))))
+      (λ x. carries.owes (with_entry (index old.view.number 0) (with_left_entry x))))
       (record {
         there = a.there;
         up = carries.awake ∙ a.up;

@@ -11,7 +11,7 @@ use Rattle.wait_rule.specs.declared.journal.Item.TheVariants as item
 use Rattle.wait_rule.specs.Known.{Known}
 use Rattle.wait_rule.specs.Queues.{index}
 use Rattle.wait_rule.specs.Says.{added}
-use Rattle.wait_rule.specs.Stays.{Carries, unchanged, with_entry, with_left}
+use Rattle.wait_rule.specs.Stays.{Carries, unchanged, with_entry, with_left_entry}
 use Rattle.wait_rule.specs.Transitions.{by_step}
 use Rattle.wait_rule.proofs.KnownLaws.TaskHistories.{history_after}
 use Rattle.wait_rule.proofs.KnownLaws.Transitions.{only_none}
@@ -43,7 +43,7 @@ module _ (old new : Known) (r : AwaitRun) (w : ℕ) (is : new ≡ added old (ite
         (runs_one (await_program old.view.number r) (at.Prepare preparing.Look) old old new (with_own (task_of w))
         (by_step (step.Look w)) (only_none old) tt (refl, tt, tt) (step_behind old new (step.Look w) is)) refl
         (keeps_of (index old.view.number 0) unchanged old new carries (λ c. refl) (λ x away. refl)
-        (λ x. carries.owes (with_entry (index old.view.number 0) (with_left x))))
+        (λ x. carries.owes (with_entry (index old.view.number 0) (with_left_entry x))))
         (record {
           there = a.there;
           up = carries.awake ∙ a.up;

@@ -14,7 +14,7 @@ use Rattle.wait_rule.specs.declared.journal.Item.TheVariants as item
 use Rattle.wait_rule.specs.Known.{Known}
 use Rattle.wait_rule.specs.Queues.{MayUnqueue, index, saw}
 use Rattle.wait_rule.specs.Says.{added, history_of, stored_with, told_of}
-use Rattle.wait_rule.specs.Stays.{Carries, only_looks, state_change, take_off_change, with_entry, with_left}
+use Rattle.wait_rule.specs.Stays.{Carries, only_looks, state_change, take_off_change, with_entry, with_left_entry}
 use Rattle.wait_rule.specs.Transitions.{OnlyLooks, Program, by_step}
 use Rattle.wait_rule.proofs.KnownLaws.MemberBits.{bit_looks}
 use Rattle.wait_rule.proofs.KnownLaws.TaskHistories.{history_after}
@@ -84,7 +84,7 @@ module _ (old mid : Known) (r : AwaitRun) (o : Option Entry) (h : HasSeenOwn old
 
   seen_keeps : CellKeeps (own_of old) old mid
   seen_keeps = keeps_of (own_of old) only_looks old mid h.carries (λ c. refl) (λ y away. refl)
-      (λ y. h.carries.owes (with_entry (own_of old) (with_left y)))
+      (λ y. h.carries.owes (with_entry (own_of old) (with_left_entry y)))
 
   pub pare_may : is_some o ≡ true → (me : ℕ) → me ≡ old.view.number → MayUnqueue mid me 0
   pare_may some me mine = by o refl some

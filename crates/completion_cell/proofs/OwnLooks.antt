@@ -10,7 +10,7 @@ use Rattle.wait_model.specs.Reached.{IsHome, waits}
 use Rattle.wait_model.specs.Runs.{own}
 use Rattle.wait_rule.specs.Known.{Known}
 use Rattle.wait_rule.specs.Says.{history_of}
-use Rattle.wait_rule.specs.Stays.{only_looks, with_entry, with_left}
+use Rattle.wait_rule.specs.Stays.{only_looks, with_entry, with_left_entry}
 use Rattle.wait_event.specs.Posts.{HasSeenOwn, Post}
 use Rattle.wait_event.specs.Waits.{own_of}
 use Rattle.wait_event.proofs.Ground.Going.{runs_looks}
@@ -49,7 +49,7 @@ module _ (old mid : Known) (r : AwaitRun) (o : Option Entry) (h : HasSeenOwn old
       runs = runs_looks (await_program old.view.number r) old mid (next.Go (at.Await (awaiting.Load true)))
           (seen_looks old mid o h (await_head r) a.stands.head);
       keeps = keeps_of (own_of old) only_looks old mid h.carries (λ c. refl) (λ y away. refl)
-          (λ y. h.carries.owes (with_entry (own_of old) (with_left y)));
+          (λ y. h.carries.owes (with_entry (own_of old) (with_left_entry y)));
       queued = sym (or_none r.queued);
     };
     lands = record {

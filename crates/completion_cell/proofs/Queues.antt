@@ -25,7 +25,7 @@ use Rattle.wait_rule.specs.Known.{Known}
 use Rattle.wait_rule.specs.Queues.{IsWholeBook, index, saw}
 use Rattle.wait_rule.specs.Says.{added, stored_with, told_of, unlocked_with}
 use Rattle.wait_rule.specs.Shown.{shown_queue}
-use Rattle.wait_rule.specs.Stays.{Carries, only_looks, queue_cell_change, state_change, with_entry, with_left}
+use Rattle.wait_rule.specs.Stays.{Carries, only_looks, queue_cell_change, state_change, with_entry, with_left_entry}
 use Rattle.wait_rule.specs.Transitions.{IsSeenAs, OnlyLooks, Program, by_step, is_worn}
 use Rattle.wait_rule.proofs.KnownLaws.MemberBits.{bit_looks}
 use Rattle.wait_rule.proofs.KnownLaws.Transitions.{only_looked, only_none, only_on}
@@ -56,7 +56,8 @@ use Rattle.wait_event.proofs.Ground.Standing.{
   seen_stands,
   seen_stored,
 }
-use Rattle.completion_cell.specs.Awaits.{CellKeeps, 
+use Rattle.completion_cell.specs.Awaits.{
+  CellKeeps,
   Counts,
   Enters,
   StandsAt,
@@ -104,9 +105,9 @@ queued_run r = record r { queued = true }
 
 -- an entry that is queued at a completion, of which the task is excused meanwhile
 keeps_left : (old new : Known) → Carries (queue_cell_change (own_of old)) old new → CellKeeps (own_of old) old new
-unfolding with_entry with_left
+unfolding with_entry with_left_entry
 keeps_left old new c = keeps_of (own_of old) (queue_cell_change (own_of old)) old new c (λ w. refl) (λ x away. away)
-    (λ x o. once (own_of old) (with_left x) new (c.owes (with_entry (own_of old) (with_left x)) o))
+    (λ x o. once (own_of old) (with_left_entry x) new (c.owes (with_entry (own_of old) (with_left_entry x)) o))
 
 -- the state is stored in which the task sleeps
 state_went : (old new : Known) (r : AwaitRun) (σ : ℕ) → σ ≡ state_mask r.state
@@ -131,7 +132,7 @@ module _ (old mid : Known) (r : AwaitRun) (o : Option Entry) (h : HasSeenOwn old
 
   own_keeps : CellKeeps (own_of old) old mid
   own_keeps = keeps_of (own_of old) only_looks old mid h.carries (λ c. refl) (λ y away. refl)
-      (λ y. h.carries.owes (with_entry (own_of old) (with_left y)))
+      (λ y. h.carries.owes (with_entry (own_of old) (with_left_entry y)))
 
   looks : OnlyLooks old mid
   looks = seen_looks old mid o h (await_head r) a.stands.head
@@ -309,10 +310,10 @@ module _ (old mid : Known) (r : AwaitRun) (o : Option Entry) (h : HasSeenOwn old
                 (keeps_on i old mid2 mid3 (keeps_on i old mid mid2 own_keeps
                 (subst (λ (n : ℕ). CellKeeps (index n 0) mid mid2) h.carries.number
                 (keeps_of (own_of mid) only_looks mid mid2 carried (λ c. refl) (λ y away. refl)
-                (λ y. carried.owes (with_entry (own_of mid) (with_left y))))))
+                (λ y. carried.owes (with_entry (own_of mid) (with_left_entry y))))))
                 (subst (λ (n : ℕ). CellKeeps (index n 0) mid2 mid3) n2
                 (keeps_of (own_of mid2) only_looks mid2 mid3 again.carries (λ c. refl) (λ y away. refl)
-                (λ y. again.carries.owes (with_entry (own_of mid2) (with_left y))))))
+                (λ y. again.carries.owes (with_entry (own_of mid2) (with_left_entry y))))))
                 (subst (λ (n : ℕ). CellKeeps (index n 0) mid3 new) number3 (back_keeps mid3 new is)));
             lands = record {
               there = a.there;

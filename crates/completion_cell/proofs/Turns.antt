@@ -27,7 +27,8 @@ use Rattle.wait_event.specs.Waits.{nothing, own_of}
 use Rattle.wait_event.proofs.Ground.Going.{runs_looks}
 use Rattle.wait_event.proofs.Ground.Keeping.{keeps_on, keeps_same, keeps_told, placed_owing}
 use Rattle.wait_event.proofs.Ground.Standing.{draw_stands, lock_stands, serving_stands}
-use Rattle.completion_cell.specs.Awaits.{CellKeeps, 
+use Rattle.completion_cell.specs.Awaits.{
+  CellKeeps,
   Draws,
   Part,
   StandsAt,

@@ -45,7 +45,7 @@ use Rattle.wait_rule.specs.Ends.{WasWorn}
 use Rattle.wait_rule.specs.HeldValues.{count_in}
 use Rattle.wait_rule.specs.Known.{Known}
 use Rattle.wait_rule.specs.Says.{IsUp, IsDown, history_of, told_of}
-use Rattle.wait_rule.specs.Stays.{with_left}
+use Rattle.wait_rule.specs.Stays.{with_left_entry}
 use Rattle.wait_rule.specs.Tickets.{no_ticket}
 use Rattle.wait_rule.specs.Transitions.{Program, call_program}
 use Rattle.wait_event.specs.Posts.{KeepsBut, Post, Stands, Runs, post_at}
@@ -176,7 +176,7 @@ next_in (turn.Done o) = next.Ends (answer_in o)
 
 -- what stays of the task meanwhile, but that it may leave its entry at the completion
 abbrev pub CellKeeps : ℕ → Known → Known → Type 0
-CellKeeps i old new = KeepsBut with_left i old new
+CellKeeps i old new = KeepsBut with_left_entry i old new
 
 -- The wait went on from one place to another. It is the same call, and the run tells whether it has queued its entry.
 pub record Went (old new : Known) (r q : AwaitRun) (from to : Next) : Type 0 where

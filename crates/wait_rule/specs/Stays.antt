@@ -64,8 +64,8 @@ unfoldable pub with_end : ℕ → Excuse → Excuse
 with_end k x = record x { ends = λ j. (j == k) || x.ends j }
 
 -- it is excused of that it may have left its entry at a completion
-unfoldable pub with_left : Excuse → Excuse
-with_left x = record x { left = true }
+unfoldable pub with_left_entry : Excuse → Excuse
+with_left_entry x = record x { left = true }
 
 unfoldable pub with_bits : (Watch → Bool) → Excuse → Excuse
 with_bits t x = record x { bits = λ d. t d || x.bits d }
@@ -120,7 +120,7 @@ queue_change i = record unchanged { to = with_entry i; but = only i; looks = tru
 
 -- at a completion: the task may leave it there
 abbrev pub queue_cell_change : ℕ → Change
-queue_cell_change i = record unchanged { to = λ x. with_left (with_entry i x); but = only i; looks = true }
+queue_cell_change i = record unchanged { to = λ x. with_left_entry (with_entry i x); but = only i; looks = true }
 
 abbrev pub take_off_change : ℕ → Change
 take_off_change i = record unchanged { from = with_entry i; but = only i }

@@ -3,7 +3,7 @@
 use Rattle.wait_rule.specs.LeftEntries.{HasLeftNone}
 use Rattle.wait_rule.specs.Known.{Known}
 use Rattle.wait_rule.specs.Queues.{IsIdle}
-use Rattle.wait_rule.specs.Says.{IsClean, IsFree, IsUp}
+use Rattle.wait_rule.specs.Says.{IsFree, IsUp}
 use Rattle.wait_event.specs.Ends.{IsOut}
 use Rattle.completion_cell.specs.AwaitPermits.{LandsOff}
 use Rattle.completion_cell.specs.Awaits.{Lands}
@@ -26,9 +26,4 @@ pub record IsReadyToWait (k : Known) : Type 0 where
   pub up : IsUp k
   pub idle : IsIdle k
   pub out : IsOut k
-  pub off : HasLeftNone k
-
--- a task that owes nothing, and has left no entry at any completion
-pub record IsReleased (k : Known) : Type 0 where
-  pub clean : IsClean k
   pub off : HasLeftNone k

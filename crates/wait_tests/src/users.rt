@@ -1,6 +1,7 @@
 //! Each stretch once, alone and in threads.
 
 mod pages;
+mod pairs;
 mod rounds;
 mod strangers;
 

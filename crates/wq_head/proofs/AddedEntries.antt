@@ -56,7 +56,7 @@ use Rattle.wait_rule.specs.Stays.{
   Stays,
   only,
   with_entry,
-  with_left,
+  with_left_entry,
   Carries,
   only_looks,
   queue_cell_change,
@@ -521,10 +521,10 @@ module _ (seen new : Known) (x : ℕ) (e : Entry) (is : new ≡ stored_with seen
   low_owing shared low f = queue_owing shared f
       (λ d. entries_debts f (with_entry x f) new refl refl refl refl (queue_debts shared low f d))
 
-  cell_owing : TriesNo e → (f : Excuse) → Owes f seen → Owes (with_left (with_entry x f)) new
-  unfolding with_entry with_left
-  cell_owing shared f o = queue_owing shared (with_left f)
-      (λ d. entries_debts (with_left f) (with_entry x (with_left f)) new refl refl refl refl
+  cell_owing : TriesNo e → (f : Excuse) → Owes f seen → Owes (with_left_entry (with_entry x f)) new
+  unfolding with_entry with_left_entry
+  cell_owing shared f o = queue_owing shared (with_left_entry f)
+      (λ d. entries_debts (with_left_entry f) (with_entry x (with_left_entry f)) new refl refl refl refl
       (queued_debts seen new x e (not_paged (is_page e.kind) shared.1) is f o.debts)) (owes_left f seen o)
 
   queue_carried : (old : Known) (to : Excuse → Excuse) → Carries only_looks old seen
@@ -553,7 +553,7 @@ module _ (seen new : Known) (x : ℕ) (e : Entry) (is : new ≡ stored_with seen
   low_carried old shared low l = queue_carried old (with_entry x) l (low_owing shared low)
 
   pub cell_carried : (old : Known) → TriesNo e → Carries only_looks old seen → Carries (queue_cell_change x) old new
-  cell_carried old shared l = queue_carried old (λ f. with_left (with_entry x f)) l (cell_owing shared)
+  cell_carried old shared l = queue_carried old (λ f. with_left_entry (with_entry x f)) l (cell_owing shared)
 
 module _ (old new : Known) (who slot : ℕ) (is : new ≡ stored_with old (step.Unqueue (index who slot))) where
   remove_told : told_of new ≡ after (step.Unqueue (index who slot)) (told_of old)

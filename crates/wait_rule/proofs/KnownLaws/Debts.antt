@@ -80,7 +80,7 @@ use Rattle.wait_rule.specs.Pipes.{
   other_end,
   with_cell,
 }
-use Rattle.wait_rule.specs.Stays.{with_end, with_left, with_wakes}
+use Rattle.wait_rule.specs.Stays.{with_end, with_left_entry, with_wakes}
 use Rattle.wait_rule.specs.Transitions.{AreLooks, OnlyLooks}
 use Rattle.wait_rule.proofs.KnownLaws.AfterSteps.{told_added}
 use Rattle.wait_rule.proofs.KnownLaws.AskedPages.{asked_added, asks_nothing, asks_nothing_of}
@@ -306,8 +306,8 @@ item_debts x k i is d = record { none = by; off = λ none. (leaves none).off; sh
         (λ none. end_added k i e ∙ item_closed e i (end_of e k.view.items) is none) (d.none (end_unclosed e))
 
 -- An entry that is queued at a completion: the task is excused of that it leaves it there.
-same_excused : (x : Excuse) (o : Duty) → excuses (with_left x) o ≡ excuses x o
-unfolding with_left
+same_excused : (x : Excuse) (o : Duty) → excuses (with_left_entry x) o ≡ excuses x o
+unfolding with_left_entry
 same_excused x (wake_of c σ) = refl
 same_excused x page_asked = refl
 same_excused x (end_unclosed e) = refl
@@ -330,8 +330,8 @@ module _ (x : Excuse) (k : Known) (i : ℕ) (f : Entry) (unpaged : is_page f.kin
       (λ none. end_added k (item.Made (step.Queue i f)) e
       ∙ step_closed e (step.Queue i f) (end_of e k.view.items) none) (d.none (end_unclosed e))
 
-  queued_left : Debts (with_left x) queued_now
-  unfolding with_left
+  queued_left : Debts (with_left_entry x) queued_now
+  unfolding with_left_entry
   queued_left = record {
     none = λ o. ap (λ (b : Bool). has_duty queued_now o && not b) (same_excused x o) ∙ queued_none o;
     off = λ none. absurd (cc);
@@ -500,8 +500,8 @@ entries_debts x y k same asks ends left d = record {
     by (end_unclosed e) = ap (λ (f : ℕ → Bool). has_end e k && not (f e)) ends ∙ d.none (end_unclosed e)
 
 -- whether the task left an entry at a completion is one of the debts
-pub left_debts : (x : Excuse) (k : Known) → Debts x k → Debts (with_left x) k
-unfolding with_left
+pub left_debts : (x : Excuse) (k : Known) → Debts x k → Debts (with_left_entry x) k
+unfolding with_left_entry
 left_debts x k d = record {
   none = λ o. ap (λ (b : Bool). has_duty k o && not b) (same_excused x o) ∙ d.none o;
   off = λ none. absurd (cc);
@@ -509,7 +509,7 @@ left_debts x k d = record {
 }
 
 pub off_debts : (x : Excuse) (k : Known) → (x.left ≡ false → HasLeftNone k) → (x.left ≡ false → ShowsNoOwn k)
-    → Debts (with_left x) k → Debts x k
+    → Debts (with_left_entry x) k → Debts x k
 off_debts x k off shows d = record {
   none = λ o. ap (λ (b : Bool). has_duty k o && not b) (sym (same_excused x o)) ∙ d.none o;
   off = off;
@@ -601,10 +601,10 @@ stored_debts old new e quiet is x d = list_debts x (stored_with old e) new (ap (
     (item_debts x (added old (item.Made e)) item.Member refl (item_debts x old (item.Made e) quiet d))
 
 pub queued_debts : (old new : Known) (i : ℕ) (e : Entry) → is_page e.kind ≡ false
-    → new ≡ stored_with old (step.Queue i e) → (x : Excuse) → Debts x old → Debts (with_left x) new
-queued_debts old new i e unpaged is x d = list_debts (with_left x) (stored_with old (step.Queue i e)) new
+    → new ≡ stored_with old (step.Queue i e) → (x : Excuse) → Debts x old → Debts (with_left_entry x) new
+queued_debts old new i e unpaged is x d = list_debts (with_left_entry x) (stored_with old (step.Queue i e)) new
     (ap (λ (k : Known). k.view) is)
-    (item_debts (with_left x) (added old (item.Made (step.Queue i e))) item.Member refl
+    (item_debts (with_left_entry x) (added old (item.Made (step.Queue i e))) item.Member refl
     (queued_left x old i e unpaged d))
 
 pub unlock_debts : (old new : Known) (h : ℕ) (spent : Bool) → new ≡ unlocked_with old h spent → (x : Excuse)

@@ -12,7 +12,7 @@ use Rattle.wait_rule.specs.Known.{Known}
 use Rattle.wait_rule.specs.LeftEntries.{HasLeftNone, ShowsNoOwn}
 use Rattle.wait_rule.specs.Says.{Debts, Excuse, IsOutBut, Owes, TriesNone, told_of}
 use Rattle.wait_rule.specs.Queues.{KnewEntry, index}
-use Rattle.wait_rule.specs.Stays.{Stays, StaysOwing, no_entries, with_entry, with_left}
+use Rattle.wait_rule.specs.Stays.{Stays, StaysOwing, no_entries, with_entry, with_left_entry}
 use Rattle.wait_rule.proofs.KnownLaws.Debts.{entries_debts, left_debts, off_debts}
 
 pub stays_on : (but : ℕ → Bool) (x y z : Known) → Stays but x y → Stays but y z → Stays but x z
@@ -192,8 +192,8 @@ owes_out i x k none o = record {
     by y false same is = is
 
 -- that it may have left its entry at a completion, and then that it has not
-pub owes_left : (x : Excuse) (k : Known) → Owes x k → Owes (with_left x) k
-unfolding with_left
+pub owes_left : (x : Excuse) (k : Known) → Owes x k → Owes (with_left_entry x) k
+unfolding with_left_entry
 owes_left x k o = record {
   unmarked = o.unmarked;
   debts = left_debts x k o.debts;
@@ -204,8 +204,8 @@ owes_left x k o = record {
 }
 
 pub owes_off : (x : Excuse) (k : Known) → (x.left ≡ false → HasLeftNone k) → (x.left ≡ false → ShowsNoOwn k)
-    → Owes (with_left x) k → Owes x k
-unfolding with_left
+    → Owes (with_left_entry x) k → Owes x k
+unfolding with_left_entry
 owes_off x k off shows o = record {
   unmarked = o.unmarked;
   debts = off_debts x k off shows o.debts;

@@ -3,7 +3,7 @@
 
 ghost use Rattle.std.specs.Prelude.{◌≡◌, ◌<◌};
 ghost use Rattle.wait_model.specs.declared.layout.TheConstants.{COMPLETIONS};
-ghost use Rattle.wait_tests.specs.CompletionTasks.{IsReleased};
+ghost use Rattle.wait_rule.specs.Says.{IsClean};
 
 use completion_cell::{asks, await_calls, completes};
 use std::sync::Wait;
@@ -12,50 +12,50 @@ use wait_rule::{Domain, Task};
 
 pub fn complete<R: Wait>(rt: &R, domain: &Domain, task: &mut Task, cell: u8)
     requires of { task.old.domain ≡ domain.now }
-    requires released { IsReleased task.old }
+    requires clean { IsClean task.old }
     requires cell { cell < COMPLETIONS }
     ensures of { task.new.domain ≡ domain.now }
-    ensures released { IsReleased task.new }
+    ensures clean { IsClean task.new }
 {
     completes::complete(rt, domain, task, cell);
 }
 
 pub fn complete_all<R: Wait>(rt: &R, domain: &Domain, task: &mut Task, cell: u8)
     requires of { task.old.domain ≡ domain.now }
-    requires released { IsReleased task.old }
+    requires clean { IsClean task.old }
     requires cell { cell < COMPLETIONS }
     ensures of { task.new.domain ≡ domain.now }
-    ensures released { IsReleased task.new }
+    ensures clean { IsClean task.new }
 {
     completes::complete_all(rt, domain, task, cell);
 }
 
 pub fn reinit<R: Wait>(rt: &R, domain: &Domain, task: &mut Task, cell: u8)
     requires of { task.old.domain ≡ domain.now }
-    requires released { IsReleased task.old }
+    requires clean { IsClean task.old }
     requires cell { cell < COMPLETIONS }
     ensures of { task.new.domain ≡ domain.now }
-    ensures released { IsReleased task.new }
+    ensures clean { IsClean task.new }
 {
     asks::reinit(rt, domain, task, cell);
 }
 
 pub fn is_done<R: Wait>(rt: &R, domain: &Domain, task: &mut Task, cell: u8) -> bool
     requires of { task.old.domain ≡ domain.now }
-    requires released { IsReleased task.old }
+    requires clean { IsClean task.old }
     requires cell { cell < COMPLETIONS }
     ensures of { task.new.domain ≡ domain.now }
-    ensures released { IsReleased task.new }
+    ensures clean { IsClean task.new }
 {
     asks::is_done(rt, domain, task, cell)
 }
 
 pub fn try_wait<R: Wait>(rt: &R, domain: &Domain, task: &mut Task, cell: u8) -> bool
     requires of { task.old.domain ≡ domain.now }
-    requires released { IsReleased task.old }
+    requires clean { IsClean task.old }
     requires cell { cell < COMPLETIONS }
     ensures of { task.new.domain ≡ domain.now }
-    ensures released { IsReleased task.new }
+    ensures clean { IsClean task.new }
 {
     asks::try_wait(rt, domain, task, cell)
 }
@@ -69,10 +69,10 @@ pub fn wait_for<R: Wait>(
     state: SleepState,
 ) -> bool
     requires of { task.old.domain ≡ domain.now }
-    requires released { IsReleased task.old }
+    requires clean { IsClean task.old }
     requires cell { cell < COMPLETIONS }
     ensures of { task.new.domain ≡ domain.now }
-    ensures released { IsReleased task.new }
+    ensures clean { IsClean task.new }
 {
     await_calls::wait_for(rt, domain, task, cell, state).is_ok()
 }

@@ -2,9 +2,7 @@
 //! known over the wait.
 
 ghost use Rattle.std.specs.Prelude.{◌≡◌};
-ghost use Rattle.wait_rule.specs.LeftEntries.{HasLeftNone};
 ghost use Rattle.wait_rule.specs.Says.{IsClean};
-ghost use Rattle.wait_tests.specs.CompletionTasks.{IsReleased};
 
 use crate::completions::calls::{complete, try_wait};
 use std::sync::Wait;
@@ -23,12 +21,10 @@ const COND: u8 = 0;
 /// Waits for the condition: true where the wait ended since it was set.
 fn wait_for_set<R: Wait>(rt: &R, domain: &Domain, task: &mut Task) -> bool
     requires of { task.old.domain ≡ domain.now }
-    requires released { IsReleased task.old }
+    requires clean { IsClean task.old }
     ensures of { task.new.domain ≡ domain.now }
     ensures clean { IsClean task.new }
-    ensures off { HasLeftNone task.new }
 {
-    task.told();
     let how = How {
         state: SleepState::Uninterruptible,
         exclusive: false,
@@ -39,9 +35,9 @@ fn wait_for_set<R: Wait>(rt: &R, domain: &Domain, task: &mut Task) -> bool
 /// Completes, waits for the condition, and completes again.
 fn complete_and_wait<R: Wait>(rt: &R, domain: &Domain, task: &mut Task) -> bool
     requires of { task.old.domain ≡ domain.now }
-    requires released { IsReleased task.old }
+    requires clean { IsClean task.old }
     ensures of { task.new.domain ≡ domain.now }
-    ensures released { IsReleased task.new }
+    ensures clean { IsClean task.new }
 {
     complete(rt, domain, task, CELL);
     let over = wait_for_set(rt, domain, task);

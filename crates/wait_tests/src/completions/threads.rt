@@ -2,7 +2,7 @@
 //! are put asleep.
 
 ghost use Rattle.std.specs.Prelude.{◌≡◌};
-ghost use Rattle.wait_tests.specs.CompletionTasks.{IsReleased};
+ghost use Rattle.wait_rule.specs.Says.{IsClean};
 
 use crate::completions::calls::{complete, complete_all, is_done, reinit, try_wait, wait_for};
 use std::sync::Wait;
@@ -21,9 +21,9 @@ const CELL: u8 = 2;
 /// Waits for the completion, and gives the task back: true where it took one.
 fn wait_once<R: Wait>(rt: &R, domain: &Domain, mut task: Task) -> (Task, bool)
     requires of { task.domain ≡ domain.now }
-    requires clean { IsReleased task }
+    requires clean { IsClean task }
     ensures of { result.0.domain ≡ domain.now }
-    ensures clean { IsReleased result.0 }
+    ensures clean { IsClean result.0 }
 {
     let over = wait_for(rt, domain, &mut task, CELL, SleepState::Uninterruptible);
     (task, over)
@@ -32,9 +32,9 @@ fn wait_once<R: Wait>(rt: &R, domain: &Domain, mut task: Task) -> (Task, bool)
 /// Completes it three times, and gives the task back.
 fn complete_thrice<R: Wait>(rt: &R, domain: &Domain, mut task: Task) -> Task
     requires of { task.domain ≡ domain.now }
-    requires clean { IsReleased task }
+    requires clean { IsClean task }
     ensures of { result.domain ≡ domain.now }
-    ensures clean { IsReleased result }
+    ensures clean { IsClean result }
 {
     complete(rt, domain, &mut task, CELL);
     complete(rt, domain, &mut task, CELL);
@@ -50,19 +50,19 @@ fn two_wait<R: Threads + Wait + Sync>(
     second: Task,
 ) -> ((Task, bool), (Task, bool))
     requires of { (first.domain ≡ domain.now) × (second.domain ≡ domain.now) }
-    requires clean { IsReleased first × IsReleased second }
+    requires clean { IsClean first × IsClean second }
     ensures of { (result.0.0.domain ≡ domain.now) × (result.1.0.domain ≡ domain.now) }
-    ensures clean { IsReleased result.0.0 × IsReleased result.1.0 }
+    ensures clean { IsClean result.0.0 × IsClean result.1.0 }
 {
     thread::join(
         rt,
         move || -> (Task, bool)
-            requires { (first.domain ≡ domain.now) × IsReleased first }
-            ensures { (result.0.domain ≡ domain.entry.now) × IsReleased result.0 }
+            requires { (first.domain ≡ domain.now) × IsClean first }
+            ensures { (result.0.domain ≡ domain.entry.now) × IsClean result.0 }
         { wait_once(rt, domain, first) },
         move || -> (Task, bool)
-            requires { (second.domain ≡ domain.now) × IsReleased second }
-            ensures { (result.0.domain ≡ domain.entry.now) × IsReleased result.0 }
+            requires { (second.domain ≡ domain.now) × IsClean second }
+            ensures { (result.0.domain ≡ domain.entry.now) × IsClean result.0 }
         { wait_once(rt, domain, second) },
     )
 }
@@ -75,19 +75,19 @@ fn one_waits<R: Threads + Wait + Sync>(
     third: Task,
 ) -> (Task, (Task, bool))
     requires of { (task.domain ≡ domain.now) × (third.domain ≡ domain.now) }
-    requires clean { IsReleased task × IsReleased third }
+    requires clean { IsClean task × IsClean third }
     ensures of { (result.0.domain ≡ domain.now) × (result.1.0.domain ≡ domain.now) }
-    ensures clean { IsReleased result.0 × IsReleased result.1.0 }
+    ensures clean { IsClean result.0 × IsClean result.1.0 }
 {
     thread::join(
         rt,
         move || -> Task
-            requires { (task.domain ≡ domain.now) × IsReleased task }
-            ensures { (result.domain ≡ domain.entry.now) × IsReleased result }
+            requires { (task.domain ≡ domain.now) × IsClean task }
+            ensures { (result.domain ≡ domain.entry.now) × IsClean result }
         { complete_thrice(rt, domain, task) },
         move || -> (Task, bool)
-            requires { (third.domain ≡ domain.now) × IsReleased third }
-            ensures { (result.0.domain ≡ domain.entry.now) × IsReleased result.0 }
+            requires { (third.domain ≡ domain.now) × IsClean third }
+            ensures { (result.0.domain ≡ domain.entry.now) × IsClean result.0 }
         { wait_once(rt, domain, third) },
     )
 }
@@ -103,25 +103,25 @@ fn meet<R: Threads + Wait + Sync>(
 ) -> ((Task, (Task, bool)), ((Task, bool), (Task, bool)))
     requires of { ((task.domain ≡ domain.now) × (third.domain ≡ domain.now))
         × ((first.domain ≡ domain.now) × (second.domain ≡ domain.now)) }
-    requires clean { (IsReleased task × IsReleased third) × (IsReleased first × IsReleased second) }
+    requires clean { (IsClean task × IsClean third) × (IsClean first × IsClean second) }
     ensures of { ((result.0.0.domain ≡ domain.now) × (result.0.1.0.domain ≡ domain.now))
         × ((result.1.0.0.domain ≡ domain.now) × (result.1.1.0.domain ≡ domain.now)) }
-    ensures clean { (IsReleased result.0.0 × IsReleased result.0.1.0)
-        × (IsReleased result.1.0.0 × IsReleased result.1.1.0) }
+    ensures clean { (IsClean result.0.0 × IsClean result.0.1.0)
+        × (IsClean result.1.0.0 × IsClean result.1.1.0) }
 {
     thread::join(
         rt,
         move || -> (Task, (Task, bool))
             requires of { (task.domain ≡ domain.now) × (third.domain ≡ domain.now) }
-            requires clean { IsReleased task × IsReleased third }
+            requires clean { IsClean task × IsClean third }
             ensures { ((result.0.domain ≡ domain.entry.now) × (result.1.0.domain ≡ domain.entry.now))
-                × (IsReleased result.0 × IsReleased result.1.0) }
+                × (IsClean result.0 × IsClean result.1.0) }
         { one_waits(rt, domain, task, third) },
         move || -> ((Task, bool), (Task, bool))
             requires of { (first.domain ≡ domain.now) × (second.domain ≡ domain.now) }
-            requires clean { IsReleased first × IsReleased second }
+            requires clean { IsClean first × IsClean second }
             ensures { ((result.0.0.domain ≡ domain.entry.now) × (result.1.0.domain ≡ domain.entry.now))
-                × (IsReleased result.0.0 × IsReleased result.1.0) }
+                × (IsClean result.0.0 × IsClean result.1.0) }
         { two_wait(rt, domain, first, second) },
     )
 }

@@ -3,7 +3,6 @@
 
 ghost use Rattle.std.specs.Prelude.{◌≡◌};
 ghost use Rattle.wait_rule.specs.Says.{IsClean};
-ghost use Rattle.wq_user.specs.Waiting.{IsReleased};
 
 use std::sync::Wait;
 use std::test::Fail;
@@ -77,9 +76,9 @@ fn meet_simply<R: Threads + Wait + Sync>(
 /// Waits for the completion, and gives the task back: true where it took one.
 fn wait_once<R: Wait>(rt: &R, domain: &Domain, mut task: Task) -> (Task, bool)
     requires of { task.domain ≡ domain.now }
-    requires released { IsReleased task }
+    requires clean { IsClean task }
     ensures of { result.0.domain ≡ domain.now }
-    ensures released { IsReleased result.0 }
+    ensures clean { IsClean result.0 }
 {
     let took = wait_for_one(rt, domain, &mut task, SleepState::Uninterruptible);
     (task, took)
@@ -88,9 +87,9 @@ fn wait_once<R: Wait>(rt: &R, domain: &Domain, mut task: Task) -> (Task, bool)
 /// Completes it for one, and gives the task back.
 fn complete_once<R: Wait>(rt: &R, domain: &Domain, mut task: Task) -> Task
     requires of { task.domain ≡ domain.now }
-    requires released { IsReleased task }
+    requires clean { IsClean task }
     ensures of { result.domain ≡ domain.now }
-    ensures released { IsReleased result }
+    ensures clean { IsClean result }
 {
     complete_one(rt, domain, &mut task);
     task
@@ -104,19 +103,19 @@ fn meet<R: Threads + Wait + Sync>(
     waiter: Task,
 ) -> (Task, (Task, bool))
     requires of { (waker.domain ≡ domain.now) × (waiter.domain ≡ domain.now) }
-    requires released { IsReleased waker × IsReleased waiter }
+    requires clean { IsClean waker × IsClean waiter }
     ensures of { (result.0.domain ≡ domain.now) × (result.1.0.domain ≡ domain.now) }
-    ensures released { IsReleased result.0 × IsReleased result.1.0 }
+    ensures clean { IsClean result.0 × IsClean result.1.0 }
 {
     thread::join(
         rt,
         move || -> Task
-            requires { (waker.domain ≡ domain.now) × IsReleased waker }
-            ensures { (result.domain ≡ domain.entry.now) × IsReleased result }
+            requires { (waker.domain ≡ domain.now) × IsClean waker }
+            ensures { (result.domain ≡ domain.entry.now) × IsClean result }
         { complete_once(rt, domain, waker) },
         move || -> (Task, bool)
-            requires { (waiter.domain ≡ domain.now) × IsReleased waiter }
-            ensures { (result.0.domain ≡ domain.entry.now) × IsReleased result.0 }
+            requires { (waiter.domain ≡ domain.now) × IsClean waiter }
+            ensures { (result.0.domain ≡ domain.entry.now) × IsClean result.0 }
         { wait_once(rt, domain, waiter) },
     )
 }

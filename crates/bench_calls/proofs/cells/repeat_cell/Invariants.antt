@@ -1,7 +1,6 @@
 use Rattle.std.proofs.Common.{◌≡◌}
-use Rattle.wait_rule.specs.LeftEntries.{HasLeftNone}
 use Rattle.wait_rule.specs.Says.{IsClean}
 use Rattle.bench_calls.proofs.cells.repeat_cell.Given as goal
 
 abbrev pub invariant-loop : goal.invariant-loop
-invariant-loop g l = (l.task.domain ≡ l.domain) × IsClean l.task × HasLeftNone l.task
+invariant-loop g l = (l.task.domain ≡ l.domain) × IsClean l.task

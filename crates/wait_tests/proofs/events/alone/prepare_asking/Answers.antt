@@ -12,7 +12,7 @@ returns-clause-of g c = ready_domain c.args.task.now c.prepare_event-prepared.ne
     (ends_mark c.args.task.now c.prepare_event-prepared.new.task (watch.Plain c.args.cond)
     c.args.how true
     c.prepare_event-prepared.result
-    c.prepare_event-prepared.ensures.ends) c.finish_wait.ensures ∙ c.requires.of
+    c.prepare_event-prepared.ensures.ends) c.finish_wait.ensures.finished ∙ c.requires.of
 
 pub returns-clause-ready : goal.returns-clause-ready
 returns-clause-ready g c = ready_again c.args.task.now c.prepare_event-prepared.new.task c.finish_wait.new.task
@@ -20,4 +20,4 @@ returns-clause-ready g c = ready_again c.args.task.now c.prepare_event-prepared.
     (ends_mark c.args.task.now c.prepare_event-prepared.new.task (watch.Plain c.args.cond)
     c.args.how true
     c.prepare_event-prepared.result
-    c.prepare_event-prepared.ensures.ends) c.finish_wait.ensures
+    c.prepare_event-prepared.ensures.ends) c.finish_wait.ensures.finished

@@ -12,11 +12,11 @@ pub returns-clause-of : goal.returns-clause-of
 returns-clause-of g c = ready_domain c.args.task.now c.prepare_exclusive-first.new.task c.finish_wait.new.task
     (exclusive_mark c.args.task.now c.prepare_exclusive-first.new.task (watch.Plain c.args.cond) states.Interruptible
     c.prepare_exclusive-first.result
-    c.prepare_exclusive-first.ensures.ends) c.finish_wait.ensures ∙ c.requires.of
+    c.prepare_exclusive-first.ensures.ends) c.finish_wait.ensures.finished ∙ c.requires.of
 
 pub returns-clause-ready : goal.returns-clause-ready
 returns-clause-ready g c = ready_again c.args.task.now c.prepare_exclusive-first.new.task c.finish_wait.new.task
     c.requires.ready
     (exclusive_mark c.args.task.now c.prepare_exclusive-first.new.task (watch.Plain c.args.cond) states.Interruptible
     c.prepare_exclusive-first.result
-    c.prepare_exclusive-first.ensures.ends) c.finish_wait.ensures
+    c.prepare_exclusive-first.ensures.ends) c.finish_wait.ensures.finished

@@ -13,7 +13,7 @@ returns-clause-of g c = ready_domain c.args.task.now c.prepare_to_wait-queued.ne
     (ends_mark c.args.task.now c.prepare_to_wait-queued.new.task (watch.Plain c.args.cond)
     (record { state = c.args.state; exclusive = false }) false
     (with_signal c.prepare_to_wait-queued.result)
-    c.prepare_to_wait-queued.ensures.ends) c.finish_wait.ensures ∙ c.requires.of
+    c.prepare_to_wait-queued.ensures.ends) c.finish_wait.ensures.finished ∙ c.requires.of
 
 pub returns-clause-ready : goal.returns-clause-ready
 returns-clause-ready g c = ready_again c.args.task.now c.prepare_to_wait-queued.new.task c.finish_wait.new.task
@@ -21,4 +21,4 @@ returns-clause-ready g c = ready_again c.args.task.now c.prepare_to_wait-queued.
     (ends_mark c.args.task.now c.prepare_to_wait-queued.new.task (watch.Plain c.args.cond)
     (record { state = c.args.state; exclusive = false }) false
     (with_signal c.prepare_to_wait-queued.result)
-    c.prepare_to_wait-queued.ensures.ends) c.finish_wait.ensures
+    c.prepare_to_wait-queued.ensures.ends) c.finish_wait.ensures.finished

@@ -5,7 +5,7 @@ ghost use Rattle.std.specs.Prelude.{IfErr, IfOk, OnErr};
 ghost use Rattle.wait_model.specs.declared.layout.TheConstants.{TASKS};
 ghost use Rattle.wait_rule.specs.Aside.{GrowsAside};
 ghost use Rattle.wait_rule.specs.Journals.{left_with};
-ghost use Rattle.wait_rule.specs.Says.{IsClean, IsShown, newcomer, seen_with};
+ghost use Rattle.wait_rule.specs.Says.{IsClean, IsShown, IsUp, newcomer, seen_with};
 ghost use Rattle.wait_rule.specs.TallyLaws.{tally_in};
 ghost use Rattle.flow_copy.specs.declared.TheConstants.{COUNTED_PAGE, SIGNALS};
 ghost use Rattle.flow_copy.specs.declared.stop.Stop.TheVariants as stop;
@@ -51,9 +51,11 @@ pub struct Unstarted<S, K, W> {
 /// A task with the next number, which may give out none.
 fn fork_one(domain: &Domain, task: &mut Task) -> Task
     requires of { task.old.domain ≡ domain.now }
+    requires up { IsUp task.old }
     requires room { 1 ≤ task.old.view.spare }
     ensures new { result ≡ newcomer domain.now task.old.view.next (task.old.view.next + 1) 0 }
     ensures old { task.new ≡ seen_with task.old (left_with 0 task.old.view) }
+    ensures up { IsUp task.new }
 {
     let Ok(new) = task.fork(domain, 0) else {
         unreachable!();
@@ -81,6 +83,7 @@ fn fork_four(domain: &Domain, task: &mut Task) -> (Task, Task, Task, Task)
 fn join_four(domain: &Domain, task: &mut Task, one: Task, two: Task, three: Task, four: Task)
     requires of { (task.old.domain ≡ domain.now) × ((one.domain ≡ domain.now) × ((two.domain ≡ domain.now)
         × ((three.domain ≡ domain.now) × (four.domain ≡ domain.now)))) }
+    requires up { IsUp task.old }
     requires clean { IsClean one × (IsClean two × (IsClean three × IsClean four)) }
     ensures joined { task.new
         ≡ seen_with task.old (joined_four task.old.view one.view two.view three.view four.view) }

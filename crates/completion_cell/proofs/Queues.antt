@@ -1,6 +1,6 @@
 -- The own entry of a wait is queued where it is off, and the state is stored in which the task sleeps.
-use Rattle.std.proofs.Common.{◌∙◌, ap, arith, sym, refl, subst, inr}
-use Rattle.std.specs.Prelude.{ℕ, ◌≡◌, ◌≤◌, ◌||◌, Bool, true, false, is_some, Option, Some, None, [], ◌∷◌, ◌++◌}
+use Rattle.std.proofs.Common.{◌∙◌, ap, sym, refl, subst, inr}
+use Rattle.std.specs.Prelude.{ℕ, ◌≡◌, ◌||◌, Bool, true, false, is_some, Option, Some, None, [], ◌∷◌, ◌++◌}
 use Rattle.wait_model.specs.declared.calls.Answer.TheVariants as answer
 use Rattle.wait_model.specs.declared.calls.Event.TheVariants as event
 use Rattle.wait_model.specs.declared.points.Next.TheVariants as next
@@ -15,7 +15,6 @@ use Rattle.wait_model.specs.Points.{call_head}
 use Rattle.wait_model.specs.Programs.{go}
 use Rattle.wait_model.specs.Reached.{IsHome, absent, waits}
 use Rattle.wait_model.specs.Tasks.{state_mask}
-use Rattle.wait_model.specs.declared.layout.TheConstants.{FIRST_DONE_HEAD}
 use Rattle.wait_model.specs.Watches.{head_of}
 use Rattle.wait_rule.specs.declared.journal.Item.{Item}
 use Rattle.wait_rule.specs.declared.journal.Item.TheVariants as item
@@ -178,10 +177,6 @@ module _ (old mid : Known) (r : AwaitRun) (o : Option Entry) (h : HasSeenOwn old
 
   pub mid_at : await_head r ≡ mid.at
   mid_at = sym (h.carries.at ∙ a.stands.at (await_head r) refl)
-
-  pub mid_done : FIRST_DONE_HEAD ≤ mid.at
-  unfolding head_of
-  mid_done = let here = mid_at in omega (arith, here)
 
   pub mid_out : is_some o ≡ false → (told_of mid).bits.stored (index mid.view.number 0) ≡ None
   mid_out none = by o refl none

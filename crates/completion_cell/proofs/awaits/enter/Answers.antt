@@ -1,9 +1,14 @@
-use Rattle.std.proofs.Common.{◌∙◌, ap, sym}
+use Rattle.std.proofs.Common.{ℕ, ◌≡◌, ◌∙◌, ap, false, subst, sym}
+use Rattle.wait_model.specs.declared.watches.Entry.{Entry}
+use Rattle.wait_model.specs.declared.watches.Kind.TheVariants as kind
+use Rattle.wait_model.specs.declared.watches.Watch.{Watch}
+use Rattle.wait_model.specs.declared.watches.Watch.TheVariants as watch
+use Rattle.wait_rule.specs.Known.{Known}
+use Rattle.wq_head.specs.Adds.{HasAddedForCell, HasAddedTail, tail_entry}
 use Rattle.wait_model.specs.Watches.{head_of}
 use Rattle.completion_cell.proofs.Queues.{
   join_advances,
   mid_at,
-  mid_done,
   mid_holds,
   mid_out,
   stay_enters,
@@ -12,6 +17,10 @@ use Rattle.completion_cell.proofs.Queues.{
 }
 use Rattle.completion_cell.proofs.WaitParts.{found_zero, join_deals, stay_deals, worn_deals, worn_owes_none}
 use Rattle.completion_cell.proofs.awaits.enter.Goals as goal
+
+for_cell : (w : Watch) (d : ℕ) (old new : Known) (entry : ℕ → Entry) → w ≡ watch.Done d
+    → HasAddedTail w old new 0 entry → HasAddedForCell old new 0 entry
+for_cell w d old new entry is added = subst (λ (c : Watch). HasAddedTail c old new 0 entry) is added
 
 pub returns-then-is_some-clause-enters : goal.returns-then-is_some-clause-enters
 returns-then-is_some-clause-enters c = stay_enters c.args.task.now c.own_entry-entry.new.task c.args.run.now
@@ -40,8 +49,9 @@ add_tail-requires-clause-out c = mid_out c.args.task.now c.own_entry-entry.new.t
 pub returns-in-Ok-clause-enters : goal.returns-in-Ok-clause-enters
 returns-in-Ok-clause-enters c = join_advances c.args.task.now c.own_entry-entry.new.task c.args.run.now
     c.own_entry-entry.result c.own_entry-entry.ensures c.requires.at (sym c.is_some.ensures ∙ c.if-is_some.false)
-    c.add_tail.new.task c.watch.result c.watch.ensures (c.in-Ok.ensures.cell (mid_done c.args.task.now c.own_entry-entry.new.task
-    c.args.run.now c.own_entry-entry.result c.own_entry-entry.ensures c.requires.at)) c.in-Ok.ensures.held
+    c.add_tail.new.task c.watch.result c.watch.ensures (for_cell c.watch.result
+    c.args.run.now.cell c.own_entry-entry.new.task c.add_tail.new.task (tail_entry false c.watch.result kind.Simple)
+    c.watch.ensures c.in-Ok.ensures.queued) c.in-Ok.ensures.held
     c.set_state-in-Ok.new.task c.mask-in-Ok.result c.mask-in-Ok.ensures c.set_state-in-Ok.ensures.step
     c.set_state-in-Ok.ensures.carries
 
@@ -60,8 +70,9 @@ returns-then-is_some-clause-deals c = stay_deals c.args.task.now c.own_entry-ent
 pub returns-in-Ok-clause-deals : goal.returns-in-Ok-clause-deals
 returns-in-Ok-clause-deals c = join_deals c.args.task.now c.own_entry-entry.new.task c.add_tail.new.task
     c.set_state-in-Ok.new.task c.args.run.now c.own_entry-entry.result c.own_entry-entry.ensures c.requires.at
-    c.watch.result (c.in-Ok.ensures.cell (mid_done c.args.task.now c.own_entry-entry.new.task
-    c.args.run.now c.own_entry-entry.result c.own_entry-entry.ensures c.requires.at)) c.mask-in-Ok.result c.set_state-in-Ok.ensures.step
+    c.watch.result (for_cell c.watch.result
+    c.args.run.now.cell c.own_entry-entry.new.task c.add_tail.new.task (tail_entry false c.watch.result kind.Simple)
+    c.watch.ensures c.in-Ok.ensures.queued) c.mask-in-Ok.result c.set_state-in-Ok.ensures.step
     c.set_state-in-Ok.ensures.carries
 
 pub returns-in-Err-clause-deals : goal.returns-in-Err-clause-deals

@@ -19,11 +19,19 @@ const SHARED: How = How {
     exclusive: false,
 };
 
-/// Goes on with a call to its end: its answer, and whom its last stretches are to rouse. None where it does not end.
+/// Goes on with a call to its end: its answer. None where it does not end. Its task sleeps in no thread, so that nobody
+/// is roused.
 fn finish(task: &mut CheckedTask) -> Option<Answer> {
     let mut rousing = Rousing::new();
+    let answer = go_to_end(task, &mut rousing);
+    rousing.hand_on();
+    rousing.end();
+    answer
+}
+
+fn go_to_end(task: &mut CheckedTask, rousing: &mut Rousing) -> Option<Answer> {
     for _ in 0..MOST {
-        match task.advance(&mut rousing) {
+        match task.advance(rousing) {
             Ok(Progress::Done(answer)) => return Some(answer),
             Ok(_) => {}
             Err(_) => return None,
@@ -35,8 +43,15 @@ fn finish(task: &mut CheckedTask) -> Option<Answer> {
 /// Goes on with a call until its task was put asleep: false where it was not.
 fn doze(task: &mut CheckedTask) -> bool {
     let mut rousing = Rousing::new();
+    let asleep = go_to_sleep(task, &mut rousing);
+    rousing.hand_on();
+    rousing.end();
+    asleep
+}
+
+fn go_to_sleep(task: &mut CheckedTask, rousing: &mut Rousing) -> bool {
     for _ in 0..MOST {
-        match task.advance(&mut rousing) {
+        match task.advance(rousing) {
             Ok(Progress::Park) => return true,
             Ok(_) => {}
             Err(_) => return false,
@@ -134,5 +149,7 @@ fn wrong_calls_are_refused(rt: HostRuntime) -> Result<(), Fail> {
     assert!(rt; matches!(task.fork(0), Err(NoFork::Busy)));
     assert_eq!(rt; task.begin_page(0, killable).err(), Some(Refused::Busy));
     assert_eq!(rt; task.take_cond(0).err(), Some(Refused::Busy));
+    rousing.hand_on();
+    rousing.end();
     Ok(())
 }

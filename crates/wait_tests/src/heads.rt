@@ -8,7 +8,7 @@ mod pages;
 mod sleepers;
 mod strangers;
 mod tickets;
-mod turns;
+pub mod turns;
 mod waiting;
 
 use std::test::Fail;

@@ -12,6 +12,7 @@ use std::sync::Wait;
 use std::test::Fail;
 use wait_model::tasks::SleepState;
 use wait_model::watches::Mode;
+use wait_rule::queues::Passing;
 use wait_rule::{Domain, Task, wake_task};
 
 /// How many orders are tried.
@@ -36,9 +37,10 @@ fn go_on(domain: &Domain, task: &mut Task, run: &mut LockRun, last: LockTurn) ->
     ensures of { task.new.domain ≡ domain.now }
     ensures waiting { IsLocking task.new run.new result }
 {
-    match last {
-        LockTurn::Again(stage) => stretch_lock(domain, task, run, stage),
-        LockTurn::Locked(stage) => stretch_lock(domain, task, run, stage),
+    let mut passing = Passing::none();
+    let turn = match last {
+        LockTurn::Again(stage) => stretch_lock(domain, task, run, stage, &mut passing),
+        LockTurn::Locked(stage) => stretch_lock(domain, task, run, stage, &mut passing),
         LockTurn::Asleep(stage) => {
             if woke_lock(domain, task, run, stage) {
                 LockTurn::Again(stage)
@@ -47,7 +49,10 @@ fn go_on(domain: &Domain, task: &mut Task, run: &mut LockRun, last: LockTurn) ->
             }
         }
         LockTurn::Done(outcome) => LockTurn::Done(outcome),
-    }
+    };
+    passing.wake(domain);
+    passing.end();
+    turn
 }
 
 /// Wakes the waiter's task, as a walk would.

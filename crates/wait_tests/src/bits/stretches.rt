@@ -12,6 +12,7 @@ use std::sync::Wait;
 use std::test::Fail;
 use wait_model::tasks::SleepState;
 use wait_model::watches::Mode;
+use wait_rule::queues::Passing;
 use wait_rule::{Domain, Task, wake_task};
 
 /// How many orders are tried.
@@ -36,9 +37,10 @@ fn go_on(domain: &Domain, task: &mut Task, run: &mut BitRun, last: BitTurn) -> B
     ensures of { task.new.domain ≡ domain.now }
     ensures waiting { IsWaiting task.new run.new result }
 {
-    match last {
-        BitTurn::Again(stage) => stretch_bit(domain, task, run, stage),
-        BitTurn::Locked(stage) => stretch_bit(domain, task, run, stage),
+    let mut passing = Passing::none();
+    let turn = match last {
+        BitTurn::Again(stage) => stretch_bit(domain, task, run, stage, &mut passing),
+        BitTurn::Locked(stage) => stretch_bit(domain, task, run, stage, &mut passing),
         BitTurn::Asleep(stage) => {
             if woke_bit(domain, task, run, stage) {
                 BitTurn::Again(stage)
@@ -47,7 +49,10 @@ fn go_on(domain: &Domain, task: &mut Task, run: &mut BitRun, last: BitTurn) -> B
             }
         }
         BitTurn::Done(outcome) => BitTurn::Done(outcome),
-    }
+    };
+    passing.wake(domain);
+    passing.end();
+    turn
 }
 
 /// Wakes the waiter's task, as a walk would.

@@ -4,6 +4,7 @@ ghost use Rattle.std.specs.Prelude.{◌≡◌};
 ghost use Rattle.wait_tests.specs.CompletionTasks.{IsAwaiting, IsReadyToWait, MayComplete};
 
 use crate::completions::stretches::{CELL, go_on};
+use crate::heads::turns::end_both;
 use completion_cell::await_calls::{begin_await, end_of};
 use completion_cell::awaits::{AwaitRun, AwaitStage, AwaitTurn};
 use completion_cell::cell_turns::{CellCall, CellRun, CellStage, CellTurn, cell_stretch};
@@ -12,6 +13,7 @@ use std::test::Fail;
 use wait_model::heads::head_of;
 use wait_model::tasks::SleepState;
 use wait_model::watches::Watch;
+use wait_rule::queues::Passing;
 use wait_rule::{Domain, Task};
 use wq_head::{Rousing, draw_lock};
 
@@ -26,11 +28,20 @@ fn call_at_once<R: Abort>(rt: &R, domain: &Domain, task: &mut Task, call: CellCa
     ensures may { MayComplete task.new }
 {
     let mut rousing = Rousing::new();
+    let mut passing = Passing::none();
     let mut run = CellRun::new(call, CELL);
     let first = CellStage::First;
-    let CellTurn::Done(yes) = cell_stretch(domain, task, &mut run, first, &mut rousing) else {
+    let CellTurn::Done(yes) = cell_stretch(
+        domain,
+        task,
+        &mut run,
+        first,
+        &mut rousing,
+        &mut passing,
+    ) else {
         panic!(rt; "nobody holds the lock")
     };
+    end_both(domain, rousing, passing);
     yes
 }
 
@@ -59,24 +70,37 @@ fn complete_in_turn<R: Abort>(rt: &R, domain: &Domain, task: &mut Task, other: &
     requires other { MayComplete other.old }
 {
     let mut rousing = Rousing::new();
+    let mut passing = Passing::none();
     other.told();
     let mut before = CellRun::new(CellCall::Complete, CELL);
     before.ticket = draw_lock(domain, other, head_of(Watch::Done { cell: CELL }));
     let mut run = CellRun::new(CellCall::Complete, CELL);
     let first = CellStage::First;
-    let CellTurn::Locked = cell_stretch(domain, task, &mut run, first, &mut rousing) else {
+    let CellTurn::Locked = cell_stretch(domain, task, &mut run, first, &mut rousing, &mut passing)
+    else {
         panic!(rt; "the other ticket is served")
     };
-    rousing.clear();
+    passing.wake(domain);
+    rousing.rouse_all(domain);
     let next = CellStage::Turn;
-    let CellTurn::Done(_) = cell_stretch(domain, other, &mut before, next, &mut rousing) else {
+    let CellTurn::Done(_) = cell_stretch(
+        domain,
+        other,
+        &mut before,
+        next,
+        &mut rousing,
+        &mut passing,
+    ) else {
         panic!(rt; "it is its turn")
     };
-    rousing.clear();
-    let CellTurn::Done(_) = cell_stretch(domain, task, &mut run, next, &mut rousing) else {
+    passing.wake(domain);
+    rousing.rouse_all(domain);
+    let CellTurn::Done(_) = cell_stretch(domain, task, &mut run, next, &mut rousing, &mut passing)
+    else {
         panic!(rt; "nobody holds the lock")
     };
     assert_eq!(rt; rousing.tasks().len(), 0);
+    end_both(domain, rousing, passing);
 }
 
 /// A call goes on once its own ticket is served.
@@ -119,12 +143,15 @@ fn complete_for_sleeper<R: Abort>(rt: &R, domain: &Domain, task: &mut Task, wait
     );
     assert!(rt; matches!(asleep, AwaitTurn::Asleep(_)));
     let mut rousing = Rousing::new();
+    let mut passing = Passing::none();
     let mut run = CellRun::new(CellCall::Complete, CELL);
     let first = CellStage::First;
-    let CellTurn::Done(_) = cell_stretch(domain, task, &mut run, first, &mut rousing) else {
+    let CellTurn::Done(_) = cell_stretch(domain, task, &mut run, first, &mut rousing, &mut passing)
+    else {
         panic!(rt; "nobody holds the lock")
     };
     assert_eq!(rt; rousing.tasks(), [waiter.number()].as_slice());
+    end_both(domain, rousing, passing);
     let AwaitTurn::Done(outcome) = go_often(domain, waiter, &mut wait, asleep) else {
         panic!(rt; "it was completed")
     };

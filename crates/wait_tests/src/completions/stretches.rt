@@ -10,6 +10,7 @@ use completion_cell::completes::complete;
 use std::sync::Wait;
 use std::test::Fail;
 use wait_model::tasks::SleepState;
+use wait_rule::queues::Passing;
 use wait_rule::{Domain, Task};
 
 /// How many orders are tried.
@@ -35,9 +36,10 @@ pub fn go_on(domain: &Domain, task: &mut Task, run: &mut AwaitRun, last: AwaitTu
     ensures of { task.new.domain ≡ domain.now }
     ensures waiting { IsAwaiting task.new run.new result }
 {
-    match last {
-        AwaitTurn::Again(stage) => stretch(domain, task, run, stage),
-        AwaitTurn::Locked(stage) => stretch(domain, task, run, stage),
+    let mut passing = Passing::none();
+    let turn = match last {
+        AwaitTurn::Again(stage) => stretch(domain, task, run, stage, &mut passing),
+        AwaitTurn::Locked(stage) => stretch(domain, task, run, stage, &mut passing),
         AwaitTurn::Asleep(stage) => {
             if woke(domain, task, run, stage) {
                 AwaitTurn::Again(stage)
@@ -46,7 +48,10 @@ pub fn go_on(domain: &Domain, task: &mut Task, run: &mut AwaitRun, last: AwaitTu
             }
         }
         AwaitTurn::Done(outcome) => AwaitTurn::Done(outcome),
-    }
+    };
+    passing.wake(domain);
+    passing.end();
+    turn
 }
 
 /// Whether the wait is over, and took one.

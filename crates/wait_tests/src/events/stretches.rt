@@ -11,6 +11,7 @@ use wait_event::wait_events::begin_wait;
 use wait_event::waits::{WaitOutcome, WaitRun, WaitStage, WaitTurn};
 use wait_model::tasks::{How, SleepState};
 use wait_model::watches::Mode;
+use wait_rule::queues::Passing;
 use wait_rule::{Domain, Task};
 
 /// How many orders are tried.
@@ -33,9 +34,10 @@ pub(crate) fn go_on(domain: &Domain, task: &mut Task, run: &mut WaitRun, last: W
     ensures of { task.new.domain ≡ domain.now }
     ensures waiting { IsWaiting task.new run.new result }
 {
-    match last {
-        WaitTurn::Again(stage) => stretch(domain, task, run, stage),
-        WaitTurn::Locked(stage) => stretch(domain, task, run, stage),
+    let mut passing = Passing::none();
+    let turn = match last {
+        WaitTurn::Again(stage) => stretch(domain, task, run, stage, &mut passing),
+        WaitTurn::Locked(stage) => stretch(domain, task, run, stage, &mut passing),
         WaitTurn::Asleep(stage) => {
             if woke(domain, task, run, stage) {
                 WaitTurn::Again(stage)
@@ -44,7 +46,10 @@ pub(crate) fn go_on(domain: &Domain, task: &mut Task, run: &mut WaitRun, last: W
             }
         }
         WaitTurn::Done(outcome) => WaitTurn::Done(outcome),
-    }
+    };
+    passing.wake(domain);
+    passing.end();
+    turn
 }
 
 /// Whether the wait is over with its condition set.

@@ -7,12 +7,13 @@ ghost use Rattle.wq_head.specs.Turns.{Rests};
 ghost use Rattle.wait_tests.specs.EventTasks.{IsReadyToWait, IsWaiting, IsWaker};
 
 use crate::events::stretches::{go_on, is_over, next_number};
+use crate::heads::turns::end_both;
 use std::test::Fail;
 use wait_event::wait_events::begin_wait;
 use wait_event::waits::{WaitRun, WaitStage, WaitTurn};
 use wait_model::tasks::{How, SleepState};
 use wait_model::watches::{Mode, Watch};
-use wait_rule::queues::publish;
+use wait_rule::queues::{Passing, publish};
 use wait_rule::{Domain, Task};
 use wq_head::wakes::{WakeRun, WakeStage, WakeTurn, wake_stretch};
 use wq_head::{Members, Rousing};
@@ -54,15 +55,16 @@ fn wake_on(
     ensures of { waker.new.domain ≡ domain.now }
     ensures waking { Rests waker.new run.new result }
 {
-    let mut rousing = Rousing::new();
-    match last {
-        WakeTurn::Locked(stage) => wake_stretch(domain, waker, run, stage, list, &mut rousing),
-        WakeTurn::Broken => {
-            wake_stretch(domain, waker, run, WakeStage::Next, list, &mut rousing)
-        }
-        WakeTurn::Done(walked) => WakeTurn::Done(walked),
-        WakeTurn::Starved(failed) => WakeTurn::Starved(failed),
-    }
+    let stage = match last {
+        WakeTurn::Locked(stage) => stage,
+        WakeTurn::Broken => WakeStage::Next,
+        WakeTurn::Done(walked) => return WakeTurn::Done(walked),
+        WakeTurn::Starved(failed) => return WakeTurn::Starved(failed),
+    };
+    let (mut rousing, mut passing) = (Rousing::new(), Passing::none());
+    let turn = wake_stretch(domain, waker, run, stage, list, &mut rousing, &mut passing);
+    end_both(domain, rousing, passing);
+    turn
 }
 
 /// Goes on with the wake where it is its turn.

@@ -12,6 +12,7 @@ use wait_model::layout::{FIRST_PLAIN_HEAD, INTERRUPTIBLE};
 use wait_model::queues::End;
 use wait_model::tasks::Sleep;
 use wait_model::watches::{Kind, Mode, Watch};
+use wait_rule::queues::Passing;
 use wait_rule::tasks::sleep_exchange;
 use wait_rule::{Domain, Task};
 use wq_head::lists::Members;
@@ -19,6 +20,15 @@ use wq_head::lock_turns::{draw_lock, lock_turn};
 use wq_head::locks::{give_back, lock, unlock};
 use wq_head::rousing::Rousing;
 use wq_head::wakes::{WakeRun, WakeStage, WakeTurn, wake_stretch};
+
+/// Wakes the threads that park for the lock that was given back, and those of the tasks that were woken.
+pub fn end_both(domain: &Domain, rousing: Rousing, passing: Passing) {
+    let (mut rousing, mut passing) = (rousing, passing);
+    passing.wake(domain);
+    passing.end();
+    rousing.rouse_all(domain);
+    rousing.end();
+}
 
 /// While another task holds the lock a look finds its ticket served, and when that is given back the own one.
 #[test]
@@ -37,7 +47,7 @@ fn lock_waits_for_its_turn(rt: HostRuntime) -> Result<(), Fail> {
     let Ok(()) = lock_turn(&domain, &mut task, FIRST_PLAIN_HEAD, ticket) else {
         panic!(rt; "nobody holds the lock")
     };
-    give_back(&domain, &mut task, false);
+    give_back(&domain, &mut task, false).wake(&domain);
     Ok(())
 }
 
@@ -51,6 +61,7 @@ fn locked_until_it_is_given_back(rt: HostRuntime) -> Result<(), Fail> {
     lock(&rt, &domain, &mut other, FIRST_PLAIN_HEAD);
     let mut list = Members::new();
     let mut rousing = Rousing::new();
+    let mut passing = Passing::none();
     let mut run = WakeRun::new(Watch::Plain { cond: 0 }, Mode::Normal, 1);
     let first = wake_stretch(
         &domain,
@@ -59,19 +70,30 @@ fn locked_until_it_is_given_back(rt: HostRuntime) -> Result<(), Fail> {
         WakeStage::First,
         &mut list,
         &mut rousing,
+        &mut passing,
     );
     let WakeTurn::Locked(stage) = first else {
         panic!(rt; "the other task holds the lock")
     };
     unlock(&rt, &domain, &mut other, false);
-    rousing.clear();
-    let second = wake_stretch(&domain, &mut task, &mut run, stage, &mut list, &mut rousing);
+    passing.wake(&domain);
+    rousing.rouse_all(&domain);
+    let second = wake_stretch(
+        &domain,
+        &mut task,
+        &mut run,
+        stage,
+        &mut list,
+        &mut rousing,
+        &mut passing,
+    );
     let WakeTurn::Done(walked) = second else {
         panic!(rt; "nobody holds the lock")
     };
     assert_eq!(rt; walked.woken, 0);
     assert_eq!(rt; walked.holds, 1);
     assert!(rt; matches!(walked.end, End::End));
+    end_both(&domain, rousing, passing);
     Ok(())
 }
 
@@ -83,13 +105,23 @@ fn wake_over_66<R: Abort + Wait>(rt: &R, domain: &Domain, mut task: Task)
     assert!(rt; queue_many(rt, domain, &mut task, 66));
     let mut list = Members::new();
     let mut rousing = Rousing::new();
+    let mut passing = Passing::none();
     let mut run = WakeRun::new(Watch::Plain { cond: 0 }, Mode::Normal, 1);
     let begins = WakeStage::First;
-    let first = wake_stretch(domain, &mut task, &mut run, begins, &mut list, &mut rousing);
+    let first = wake_stretch(
+        domain,
+        &mut task,
+        &mut run,
+        begins,
+        &mut list,
+        &mut rousing,
+        &mut passing,
+    );
     let WakeTurn::Broken = first else {
         panic!(rt; "a hold calls 65 entries")
     };
-    rousing.clear();
+    passing.wake(domain);
+    rousing.rouse_all(domain);
     let goes_on = WakeStage::Next;
     let second = wake_stretch(
         domain,
@@ -98,12 +130,14 @@ fn wake_over_66<R: Abort + Wait>(rt: &R, domain: &Domain, mut task: Task)
         goes_on,
         &mut list,
         &mut rousing,
+        &mut passing,
     );
     let WakeTurn::Done(walked) = second else {
         panic!(rt; "one entry is left")
     };
     assert_eq!(rt; walked.holds, 2);
     assert_eq!(rt; walked.selected, 0);
+    end_both(domain, rousing, passing);
 }
 
 /// Between the two holds nobody holds the lock.
@@ -145,16 +179,24 @@ fn wake_sleeper<R: Abort + Wait>(rt: &R, domain: &Domain, mut task: Task)
     assert!(rt; matches!(sleep_exchange(rt, domain, &mut sleeper), Sleep::Asleep));
     let mut list = Members::new();
     let mut rousing = Rousing::new();
+    let mut passing = Passing::none();
     let mut run = WakeRun::new(Watch::Plain { cond: 0 }, Mode::Normal, 0);
     let begins = WakeStage::First;
-    let turn = wake_stretch(domain, &mut task, &mut run, begins, &mut list, &mut rousing);
+    let turn = wake_stretch(
+        domain,
+        &mut task,
+        &mut run,
+        begins,
+        &mut list,
+        &mut rousing,
+        &mut passing,
+    );
     let WakeTurn::Done(walked) = turn else {
         panic!(rt; "nobody holds the lock")
     };
     assert_eq!(rt; walked.woken, 2);
     assert_eq!(rt; rousing.tasks(), [sleeper.number()].as_slice());
-    rousing.rouse_all(domain);
-    assert!(rt; rousing.tasks().is_empty());
+    end_both(domain, rousing, passing);
 }
 
 /// Who was awake is woken too, and need not be roused.

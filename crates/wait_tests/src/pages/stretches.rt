@@ -12,6 +12,7 @@ use page_lock::waits::{PageOutcome, PageRun, PageStage, PageTurn};
 use std::sync::Wait;
 use std::test::Fail;
 use wait_model::tasks::SleepState;
+use wait_rule::queues::Passing;
 use wait_rule::{Domain, Task};
 
 /// How many turns the wait has at most before the page is given back, and how many after it.
@@ -26,9 +27,10 @@ fn go_on(domain: &Domain, task: &mut Task, run: &mut PageRun, last: PageTurn) ->
     ensures of { task.new.domain ≡ domain.now }
     ensures waiting { IsLocking task.new run.new result }
 {
-    match last {
-        PageTurn::Again(stage) => stretch_page(domain, task, run, stage),
-        PageTurn::Locked(stage) => stretch_page(domain, task, run, stage),
+    let mut passing = Passing::none();
+    let turn = match last {
+        PageTurn::Again(stage) => stretch_page(domain, task, run, stage, &mut passing),
+        PageTurn::Locked(stage) => stretch_page(domain, task, run, stage, &mut passing),
         PageTurn::Asleep(stage) => {
             if woke_page(domain, task, run, stage) {
                 PageTurn::Again(stage)
@@ -37,7 +39,10 @@ fn go_on(domain: &Domain, task: &mut Task, run: &mut PageRun, last: PageTurn) ->
             }
         }
         PageTurn::Done(outcome) => PageTurn::Done(outcome),
-    }
+    };
+    passing.wake(domain);
+    passing.end();
+    turn
 }
 
 /// Plays one order, by how many turns the wait has before the page is given back: whether it ended with the page taken,

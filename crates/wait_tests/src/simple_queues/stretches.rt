@@ -12,7 +12,7 @@ use wait_event::waits::{WaitOutcome, WaitRun, WaitStage, WaitTurn};
 use wait_model::layout::FIRST_SIMPLE;
 use wait_model::tasks::SleepState;
 use wait_model::watches::Watch;
-use wait_rule::queues::publish;
+use wait_rule::queues::{Passing, publish};
 use wait_rule::{Domain, Task};
 
 /// How many orders are tried.
@@ -38,9 +38,10 @@ pub fn go_on(domain: &Domain, task: &mut Task, run: &mut WaitRun, last: WaitTurn
     ensures of { task.new.domain ≡ domain.now }
     ensures waiting { IsWaiting task.new run.new result }
 {
-    match last {
-        WaitTurn::Again(stage) => stretch(domain, task, run, stage),
-        WaitTurn::Locked(stage) => stretch(domain, task, run, stage),
+    let mut passing = Passing::none();
+    let turn = match last {
+        WaitTurn::Again(stage) => stretch(domain, task, run, stage, &mut passing),
+        WaitTurn::Locked(stage) => stretch(domain, task, run, stage, &mut passing),
         WaitTurn::Asleep(stage) => {
             if woke(domain, task, run, stage) {
                 WaitTurn::Again(stage)
@@ -49,7 +50,10 @@ pub fn go_on(domain: &Domain, task: &mut Task, run: &mut WaitRun, last: WaitTurn
             }
         }
         WaitTurn::Done(outcome) => WaitTurn::Done(outcome),
-    }
+    };
+    passing.wake(domain);
+    passing.end();
+    turn
 }
 
 /// Whether the wait is over with its condition set.

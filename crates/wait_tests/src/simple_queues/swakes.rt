@@ -3,6 +3,7 @@
 ghost use Rattle.std.specs.Prelude.{◌≡◌};
 ghost use Rattle.wait_tests.specs.EventTasks.{IsReadyToWait, IsWaiting, IsWaker};
 
+use crate::heads::turns::end_both;
 use crate::simple_queues::stretches::{COND, go_on, is_over};
 use std::process::Abort;
 use std::test::Fail;
@@ -12,7 +13,7 @@ use wait_event::waits::{WaitRun, WaitStage, WaitTurn};
 use wait_model::layout::FIRST_SIMPLE_HEAD;
 use wait_model::tasks::SleepState;
 use wait_model::watches::Watch;
-use wait_rule::queues::publish;
+use wait_rule::queues::{Passing, publish};
 use wait_rule::{Domain, Task};
 use wq_head::{Rousing, lock, unlock};
 
@@ -28,19 +29,35 @@ fn wake_waits_for_its_turn(rt: HostRuntime) -> Result<(), Fail> {
     };
     lock(&rt, &domain, &mut other, FIRST_SIMPLE_HEAD);
     let mut rousing = Rousing::new();
+    let mut passing = Passing::none();
     let mut run = SwakeRun::new(COND, true);
     let first = SwakeStage::First;
-    let SwakeTurn::Locked = swake_stretch(&domain, &mut task, &mut run, first, &mut rousing) else {
+    let SwakeTurn::Locked = swake_stretch(
+        &domain,
+        &mut task,
+        &mut run,
+        first,
+        &mut rousing,
+        &mut passing,
+    ) else {
         panic!(rt; "the other task holds the lock")
     };
     unlock(&rt, &domain, &mut other, false);
-    rousing.clear();
+    passing.wake(&domain);
+    rousing.rouse_all(&domain);
     let next = SwakeStage::Turn;
-    let SwakeTurn::Done(selected) = swake_stretch(&domain, &mut task, &mut run, next, &mut rousing)
-    else {
+    let SwakeTurn::Done(selected) = swake_stretch(
+        &domain,
+        &mut task,
+        &mut run,
+        next,
+        &mut rousing,
+        &mut passing,
+    ) else {
         panic!(rt; "nobody holds the lock")
     };
     assert_eq!(rt; selected, 0);
+    end_both(&domain, rousing, passing);
     Ok(())
 }
 
@@ -69,14 +86,22 @@ fn wake_sleeper<R: Abort>(rt: &R, domain: &Domain, waker: &mut Task, waiter: &mu
     assert!(rt; matches!(asleep, WaitTurn::Asleep(_)));
     publish(domain, waker, Watch::Plain { cond: COND }, 1);
     let mut rousing = Rousing::new();
+    let mut passing = Passing::none();
     let mut run = SwakeRun::new(COND, false);
     let first = SwakeStage::First;
-    let SwakeTurn::Done(selected) = swake_stretch(domain, waker, &mut run, first, &mut rousing)
-    else {
+    let SwakeTurn::Done(selected) = swake_stretch(
+        domain,
+        waker,
+        &mut run,
+        first,
+        &mut rousing,
+        &mut passing,
+    ) else {
         panic!(rt; "nobody holds the lock")
     };
     assert_eq!(rt; selected, 1);
     assert_eq!(rt; rousing.tasks(), [waiter.number()].as_slice());
+    end_both(domain, rousing, passing);
     let over = go_often(domain, waiter, &mut wait, asleep);
     assert!(rt; is_over(over));
 }

@@ -81,7 +81,7 @@ fn come_for_page(domain: &Domain, task: &mut Task, word: u8) -> bool
     queue_for_page(domain, task, word);
     let found = bit_set(domain, task, word, 0);
     unlock_step(domain, task, false);
-    serve(domain, task);
+    serve(domain, task).wake(domain);
     bit_at(found, 0)
 }
 
@@ -140,7 +140,7 @@ fn hand_page<R: Wait>(rt: &R, domain: &Domain, task: &mut Task, word: u8, who: u
     lock_step(domain, task, head, None);
     let given = give_page(rt, domain, task, word, who);
     unlock_step(domain, task, false);
-    serve(domain, task);
+    serve(domain, task).wake(domain);
     given
 }
 

@@ -146,7 +146,7 @@ fn locks_alone(rt: HostRuntime) -> Result<(), Fail> {
     assert!(rt; serving_load(&domain, &mut other, FIRST_DONE_HEAD - 1) != second);
     unlock_step(&domain, &mut task, false);
     assert!(rt; serving_load(&domain, &mut other, FIRST_DONE_HEAD - 1) != second);
-    serve(&domain, &mut task);
+    serve(&domain, &mut task).wake(&domain);
     assert!(rt; serving_load(&domain, &mut other, FIRST_DONE_HEAD - 1) == second);
     task.witness(&domain);
     Ok(())

@@ -11,6 +11,7 @@ use var_wait::waits::{begin_var, end_of_var};
 use wait_event::wait_calls::{stretch, woke};
 use wait_event::waits::{WaitRun, WaitStage, WaitTurn};
 use wait_model::tasks::SleepState;
+use wait_rule::queues::Passing;
 use wait_rule::{Domain, Task};
 
 /// How many orders are tried.
@@ -36,9 +37,10 @@ fn go_on(domain: &Domain, task: &mut Task, run: &mut WaitRun, last: WaitTurn) ->
     ensures of { task.new.domain ≡ domain.now }
     ensures waiting { IsWaiting task.new run.new result }
 {
-    match last {
-        WaitTurn::Again(stage) => stretch(domain, task, run, stage),
-        WaitTurn::Locked(stage) => stretch(domain, task, run, stage),
+    let mut passing = Passing::none();
+    let turn = match last {
+        WaitTurn::Again(stage) => stretch(domain, task, run, stage, &mut passing),
+        WaitTurn::Locked(stage) => stretch(domain, task, run, stage, &mut passing),
         WaitTurn::Asleep(stage) => {
             if woke(domain, task, run, stage) {
                 WaitTurn::Again(stage)
@@ -47,7 +49,10 @@ fn go_on(domain: &Domain, task: &mut Task, run: &mut WaitRun, last: WaitTurn) ->
             }
         }
         WaitTurn::Done(outcome) => WaitTurn::Done(outcome),
-    }
+    };
+    passing.wake(domain);
+    passing.end();
+    turn
 }
 
 /// Whether the wait is over and has found the new value.

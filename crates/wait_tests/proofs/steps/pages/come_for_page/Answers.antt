@@ -41,7 +41,7 @@ returns-clause-waits c set =
     c.see_entries.new.task c.see_marks.new.task c.queue_for_page.new.task c.bit_set-found.new.task
     c.unlock_step.new.task c.serve.new.task c.see_entries.result c.see_marks.result _ c.args.word _ _
     c.see_entries.ensures c.see_marks.ensures c.queue_for_page.ensures c.bit_set-found.ensures.sets.stays
-    c.unlock_step.ensures c.serve.ensures c.requires.up c.requires.idle
+    c.unlock_step.ensures c.serve.ensures.served c.requires.up c.requires.idle
 
 pub returns-clause-asks : goal.returns-clause-asks
 returns-clause-asks c set =
@@ -51,11 +51,11 @@ returns-clause-asks c set =
     let s = c.serve.new.task in
     let w = c.args.word in
     let x = index c.see_marks.new.task.view.number 0 in
-    let same : s.view.number ≡ c.see_marks.new.task.view.number = ap (λ (k : Known). k.view.number) c.serve.ensures
+    let same : s.view.number ≡ c.see_marks.new.task.view.number = ap (λ (k : Known). k.view.number) c.serve.ensures.served
     ∙ (ap (λ (k : Known). k.view.number) c.unlock_step.ensures
     ∙ (c.bit_set-found.ensures.sets.stays.number ∙ ap (λ (k : Known). k.view.number) c.queue_for_page.ensures)) in
     subst (λ (n : ℕ). waits_at (index n 0) (asks_for s) ≡ Some w) (sym same)
-    (waits_on u s item.Served x w c.serve.ensures (λ a. refl)
+    (waits_on u s item.Served x w c.serve.ensures.served (λ a. refl)
     (waits_on b u _ x w c.unlock_step.ensures (λ a. refl)
     (waits_on q b _ x w c.bit_set-found.ensures.step (λ a. refl)
     (waits_queued c.see_marks.new.task q x w c.queue_for_page.ensures))))

@@ -227,7 +227,7 @@ or_yes false b is = absurd (cc)
 
 owes_spared : (a : Aim) (x : Excuse) (k : Known) → Owes x k → Owes (with_wakes a.watch a.mode x) k
 unfolding with_wakes
-owes_spared a x k o = owes_more x (with_wakes a.watch a.mode x) k refl refl refl refl
+owes_spared a x k o = owes_more x (with_wakes a.watch a.mode x) k refl refl refl refl refl
     (λ c σ. or_yes (x.wakes c σ) (same c a.watch && meets (mask_of a.mode) σ)) o
 
 pub entry_woken : (old new : Known) (a : Aim) → IsBack old kind.Default → HasEnded old new a → HasEntry new kind.Default

@@ -159,5 +159,5 @@ or_more false b is = absurd (cc)
 
 pub owes_wider : (c : Watch) (m : Mode) (x : Excuse) (k : Known) → Owes x k → Owes (with_wakes c m x) k
 unfolding with_wakes
-owes_wider c m x k o = owes_more x (with_wakes c m x) k refl refl refl refl
+owes_wider c m x k o = owes_more x (with_wakes c m x) k refl refl refl refl refl
     (λ d σ. or_more (x.wakes d σ) (same d c && meets (mask_of m) σ)) o

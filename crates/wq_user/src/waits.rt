@@ -32,12 +32,32 @@ pub fn queue<R: Wait>(rt: &R, domain: &Domain, task: &mut Task, kind: Kind) -> R
     ensures running { IfOk result (λ _. task.new.book.state ≡ 0) }
     ensures worn { IfErr result (λ _. IsClean task.new) }
 {
-    let watch = Watch::Plain { cond: 0 };
-    let head = head_of(watch);
+    let head = head_of(Watch::Plain { cond: 0 });
     lock(rt, domain, task, head);
-    let added = add_tail(domain, task, 0, kind, false, watch);
+    let added = add_own(domain, task, kind);
     unlock(rt, domain, task, false);
     added
+}
+
+/// Adds the own entry in a hold of its head.
+#[tactic(auto, unfolding(wait_model::specs::Watches::head_of))]
+fn add_own(domain: &Domain, task: &mut Task, kind: Kind) -> Result<(), Worn>
+    requires of { task.old.domain ≡ domain.now }
+    requires up { IsUp task.old }
+    requires held { IsHolding task.old }
+    requires at { task.old.at ≡ head_of (watch.Plain 0) }
+    requires owes { Owes no_excuse task.old }
+    requires kind { IsPlainKind kind }
+    ensures of { task.new.domain ≡ domain.now }
+    ensures up { IsUp task.new }
+    ensures held { IsHolding task.new }
+    ensures at { task.new.at ≡ task.old.at }
+    ensures state { task.new.book.state ≡ task.old.book.state }
+    ensures queued { IfOk result (λ _. HasQueuedOwn task.new) }
+    ensures worn { IfErr result (λ _. Owes no_excuse task.new) }
+{
+    let watch = Watch::Plain { cond: 0 };
+    add_tail(domain, task, 0, kind, false, watch)
 }
 
 /// Stores the state in which the task is to sleep.

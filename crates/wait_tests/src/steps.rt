@@ -163,6 +163,7 @@ fn waker<R: Wait>(rt: &R, domain: &Domain, mut task: Task, who: u8) -> Task
     ensures of { result.domain ≡ domain.now }
     ensures woken { WokeOnce who result }
     ensures joined { result.view.joined ≡ task.view.joined }
+    ensures up { IsUp result }
 {
     for _ in rt.forever() {
         if wake_task(rt, domain, &mut task, who, Mode::Normal) {
@@ -187,7 +188,8 @@ fn meet<R: Threads + Wait + Sync>(rt: &R, domain: &Domain, first: Task, second: 
         rt,
         move || -> Task
             requires { (first.domain ≡ domain.now) × IsUp first × (history_of first ≡ []) × (first.view.joined ≡ []) }
-            ensures { (result.domain ≡ domain.entry.now) × WokeOnce who result × (result.view.joined ≡ []) }
+            ensures { (result.domain ≡ domain.entry.now) × WokeOnce who result × (result.view.joined ≡ [])
+                × IsUp result }
         { waker(rt, domain, first, who) },
         move || -> Task
             requires { (second.domain ≡ domain.now) × IsClean second × (history_of second ≡ [])

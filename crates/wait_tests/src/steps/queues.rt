@@ -31,6 +31,7 @@ use wait_rule::tasks::{set_state, wake_exchange};
 /// Draws a ticket of a head: true where it is served.
 pub(crate) fn take_turn(domain: &Domain, task: &mut Task, head: u16) -> bool
     requires of { task.old.domain ≡ domain.now }
+    requires up { IsUp task.old }
     requires free { IsFree task.old }
     requires head { head < HEADS }
     ensures steps { (n : _) × (w : _) × (task.new ≡ added (added task.old (item.Drawn head n)) (item.Serving head w)) }

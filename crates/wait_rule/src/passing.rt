@@ -39,8 +39,10 @@ impl Passing {
     pub fn wake(&mut self, domain: &Domain)
         ensures { PassesNone self.new }
     {
-        wake_waiters(domain, self.head);
-        self.head = HEADS;
+        if self.head != HEADS {
+            wake_waiters(domain, self.head);
+            self.head = HEADS;
+        }
     }
 
     /// The head of the lock, for who wakes those that wait for it in a way of its own. None: there was none.

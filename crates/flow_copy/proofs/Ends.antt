@@ -120,7 +120,7 @@ or_swapped false b c is = is
 pub owes_swapped : (d e : ℕ) (x : Excuse) (k : Known) → Owes (with_end d (with_end e x)) k
     → Owes (with_end e (with_end d x)) k
 unfolding with_end
-owes_swapped d e x k o = owes_ends (with_end d (with_end e x)) (with_end e (with_end d x)) k refl refl
+owes_swapped d e x k o = owes_ends (with_end d (with_end e x)) (with_end e (with_end d x)) k refl refl refl
     (λ j is. or_swapped (j == d) (j == e) (x.ends j) is) refl refl o
 
 -- a task between its work and what comes before and after it

@@ -63,7 +63,8 @@ await_begun ks k run last u = begun_from ks u.start u.first k run last u.began u
 await_ready : (ks : KeptBits) (start new : Known) (f q : AwaitRun) (o : AwaitOutcome) → IsReady ks start
     → AwaitCame start new f q (turn.Done o) → IsReady ks new
 await_ready ks start new f q o r a =
-    let c = ends_carried start new f q stage.First o a.went r.up r.idle r.told in record {
+    let c = ends_carried start new f q stage.First o a.went r.up r.idle r.told
+    (whole_wait f.cell start new o a.off) in record {
       up = ends_up start new f q stage.First o a.went;
       idle = ends_idle start new f q stage.First o a.went r.idle.unmarked;
       told = c.hold ∙ r.told;

@@ -4,7 +4,7 @@ ghost use Rattle.std.specs.Prelude.{◌≡◌};
 ghost use Rattle.wait_tests.specs.EventTasks.{IsCleanHearer};
 
 use super::met_nobody;
-use super::simple::{swake_first, swake_in_hold, swait_after_all};
+use super::simple::{swait_after_all, swake_first, swake_in_hold};
 use crate::events::flags::{enter, hear, leave};
 use std::sync::Wait;
 use std::test::Fail;

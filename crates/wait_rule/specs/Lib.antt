@@ -21,6 +21,7 @@ pub mod Rule
 pub mod Says
 pub mod Unlocks
 pub mod TableLaws
+pub mod DebtLaws
 pub mod TallyLaws
 pub mod PipeSays
 pub mod FlagLaws

@@ -22,6 +22,7 @@ pub mod Says
 pub mod Unlocks
 pub mod TableLaws
 pub mod DebtLaws
+pub mod LosesNone
 pub mod TallyLaws
 pub mod PipeSays
 pub mod FlagLaws

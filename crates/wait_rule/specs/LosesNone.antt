@@ -35,9 +35,12 @@ OwesNoWake c m k = (d : Watch) (σ : ℕ) → same d c ≡ true → meets (mask_
     → (told_of k).duty.owes d σ ≡ false
 
 -- It owes at most this, which has no wake of the watch.
+abbrev pub HasNoWakeOf : Watch → Excuse → Type 0
+HasNoWakeOf c x = (d : Watch) (σ : ℕ) → same d c ≡ true → x.wakes d σ ≡ false
+
 pub record OwesBeside (c : Watch) (x : Excuse) (k : Known) : Type 0 where
   pub most : Owes x k
-  pub none : (d : Watch) (σ : ℕ) → same d c ≡ true → x.wakes d σ ≡ false
+  pub none : HasNoWakeOf c x
 
 -- Such tasks leave nobody; so of a call that wakes the law is what the call says that the task owes after it.
 abbrev pub SettledLeaveNone : Type 0

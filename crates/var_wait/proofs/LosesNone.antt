@@ -9,14 +9,14 @@ use Rattle.wait_model.specs.declared.watches.Watch.TheVariants as watch
 use Rattle.wait_model.specs.Tasks.{meets}
 use Rattle.wait_model.specs.Watches.{same, mask_of}
 use Rattle.wait_rule.specs.Known.{Known}
-use Rattle.wait_rule.specs.LosesNone.{OwesNoWake}
+use Rattle.wait_rule.specs.LosesNone.{OwesNoneOf}
 use Rattle.wait_rule.specs.Says.{told_of}
 use Rattle.wait_rule.proofs.KnownLaws.LosesNone.{settled_leave_none}
 use Rattle.var_wait.specs.LosesNone.{PublishesLoseNone}
 use Rattle.var_wait.specs.VarPublishes.{HasPublished}
 
 published_owes_none : (old new : Known) (v value : ℕ) (walked : Walked) → HasPublished old new v value walked
-    → OwesNoWake (watch.Var v 0) mode.Normal new
+    → OwesNoneOf (watch.Var v 0) mode.Normal new
 published_owes_none old new v value walked has (watch.Var u o) σ is met = by (eqb_tells u v)
   where
     by : ((eqb u v ≡ true) × (u ≡ v)) ⊎ ((eqb u v ≡ false) × (u ≢ v))

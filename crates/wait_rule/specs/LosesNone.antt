@@ -30,8 +30,8 @@ LeavesNoneAsleep c m k = (s : Table) (items : ℕ → List Item) → IsRuled s i
     → IsCoveredByOther k.view.number s x e ⊎ (UsedUp s x e on sleeps ⊎ IsTried s on)
 
 -- It owes no wake of the watch for those states, by what contracts say of it.
-abbrev pub OwesNoWake : Watch → Mode → Known → Type 0
-OwesNoWake c m k = (d : Watch) (σ : ℕ) → same d c ≡ true → meets (mask_of m) σ ≡ true
+abbrev pub OwesNoneOf : Watch → Mode → Known → Type 0
+OwesNoneOf c m k = (d : Watch) (σ : ℕ) → same d c ≡ true → meets (mask_of m) σ ≡ true
     → (told_of k).duty.owes d σ ≡ false
 
 -- It owes at most this, which has no wake of the watch.
@@ -44,7 +44,7 @@ pub record OwesBeside (c : Watch) (x : Excuse) (k : Known) : Type 0 where
 
 -- Such tasks leave nobody; so of a call that wakes the law is what the call says that the task owes after it.
 abbrev pub SettledLeaveNone : Type 0
-SettledLeaveNone = (c : Watch) (m : Mode) (k : Known) → OwesNoWake c m k → LeavesNoneAsleep c m k
+SettledLeaveNone = (c : Watch) (m : Mode) (k : Known) → OwesNoneOf c m k → LeavesNoneAsleep c m k
 
 abbrev pub OwersLeaveNone : Type 0
 OwersLeaveNone = (c : Watch) (x : Excuse) (k : Known) → OwesBeside c x k → LeavesNoneAsleep c mode.Normal k

@@ -5,13 +5,13 @@ use Rattle.wait_model.specs.declared.watches.Aim.{Aim}
 use Rattle.wait_model.specs.Tasks.{meets}
 use Rattle.wait_model.specs.Watches.{same, mask_of}
 use Rattle.wait_rule.specs.Known.{Known}
-use Rattle.wait_rule.specs.LosesNone.{OwesNoWake}
+use Rattle.wait_rule.specs.LosesNone.{OwesNoneOf}
 use Rattle.wait_rule.specs.Says.{told_of}
 use Rattle.wait_rule.proofs.KnownLaws.LosesNone.{settled_leave_none}
 use Rattle.wq_head.specs.LosesNone.{WakesLoseNone}
 use Rattle.wq_head.specs.Walks.{HasEnded}
 
-ended_owes_none : (old new : Known) (a : Aim) → HasEnded old new a → OwesNoWake a.watch a.mode new
+ended_owes_none : (old new : Known) (a : Aim) → HasEnded old new a → OwesNoneOf a.watch a.mode new
 ended_owes_none old new a ended d σ is met = ended.owes d σ
     ∙ by ((told_of old).duty.owes d σ) (same d a.watch) (meets (mask_of a.mode) σ) is met
   where

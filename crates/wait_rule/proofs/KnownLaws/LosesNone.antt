@@ -16,14 +16,14 @@ use Rattle.wait_model.proofs.Sameness.{same_trans}
 use Rattle.wait_rule.specs.declared.journal.Item.{Item}
 use Rattle.wait_rule.specs.Items.{steps_of}
 use Rattle.wait_rule.specs.Known.{Known}
-use Rattle.wait_rule.specs.LosesNone.{IsCoveredByOther, OwersLeaveNone, OwesBeside, OwesNoWake, SettledLeaveNone}
+use Rattle.wait_rule.specs.LosesNone.{IsCoveredByOther, OwersLeaveNone, OwesBeside, OwesNoneOf, SettledLeaveNone}
 use Rattle.wait_rule.specs.Rule.{IsRuled}
 use Rattle.wait_rule.specs.Says.{Excuse, history_of, told_of, wake_of}
 use Rattle.wait_rule.proofs.KnownLaws.PlainDebts.{rule_tells_debts}
 use Rattle.wait_rule.proofs.KnownLaws.TableLaws.{rule_loses_none}
 
 -- who covers an entry on the watch owes its wake, so a task that owes none is another
-covers_none : (c : Watch) (m : Mode) (k : Known) → OwesNoWake c m k → (s : Table) (items : ℕ → List Item)
+covers_none : (c : Watch) (m : Mode) (k : Known) → OwesNoneOf c m k → (s : Table) (items : ℕ → List Item)
     → IsRuled s items → items k.view.number ≡ k.view.items → (x : ℕ) (e : Entry) (σ : ℕ)
     → same e.watch c ≡ true → meets (mask_of m) σ ≡ true → Covering (s.history k.view.number) x e σ → ⊥
 covers_none c m k none s items ruled own x e σ is met cover =
@@ -52,7 +52,7 @@ settled_leave_none c m k none s items ruled own x e on sleeps is set met =
     by (inr rest) = inr rest
 
 -- what is not excused is not owed
-pub owes_no_wake : (c : Watch) (x : Excuse) (k : Known) → OwesBeside c x k → OwesNoWake c mode.Normal k
+pub owes_no_wake : (c : Watch) (x : Excuse) (k : Known) → OwesBeside c x k → OwesNoneOf c mode.Normal k
 owes_no_wake c x k owes d σ is met =
     by ((told_of k).duty.owes d σ) (x.wakes d σ) (meets (mask_of mode.Normal) σ) (owes.none d σ is) met
     (owes.most.debts.none (wake_of d σ))

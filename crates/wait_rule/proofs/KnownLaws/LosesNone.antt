@@ -28,9 +28,9 @@ covers_none : (c : Watch) (m : Mode) (k : Known) → OwesNoneOf c m k → (s : T
     → same e.watch c ≡ true → meets (mask_of m) σ ≡ true → Covering (s.history k.view.number) x e σ → ⊥
 covers_none c m k none s items ruled own x e σ is met cover =
     let plain : OwesWake (history_of k) e.watch σ = subst (λ es. OwesWake es e.watch σ)
-            (ruled.histories k.view.number ∙ ap steps_of own) cover.owes in
+    (ruled.histories k.view.number ∙ ap steps_of own) cover.owes in
     let owes : (told_of k).duty.owes e.watch σ ≡ true =
-            (rule_tells_debts s items ruled k.view.number k own e.watch σ).computed plain in
+    (rule_tells_debts s items ruled k.view.number k own e.watch σ).computed plain in
     let not_owed : (told_of k).duty.owes e.watch σ ≡ false = none e.watch σ is met in
     absurd (cc)
 

@@ -41,7 +41,7 @@ use Rattle.wait_model.specs.Tasks.{task_of, looks_in, state_mask, pending}
 use Rattle.wait_model.specs.Watches.{head_of}
 use Rattle.wait_model.specs.Words.{bit_at}
 use Rattle.wait_model.specs.Programs.{program, zero_answer, interrupted}
-use Rattle.wait_model.specs.Reached.{absent, holds}
+use Rattle.wait_model.specs.PointFacts.{absent, holds}
 use Rattle.wait_rule.specs.Known.{Known}
 use Rattle.wait_rule.specs.Tickets.{no_ticket}
 use Rattle.wait_rule.specs.Ends.{WasWorn}

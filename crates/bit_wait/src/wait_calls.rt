@@ -2,7 +2,7 @@
 
 ghost use Rattle.std.specs.Prelude.{◌≡◌, ◌<◌, ◌≤◌, not, MatchBool};
 ghost use Rattle.wait_model.specs.declared.layout.TheConstants.{BIT_WORDS, WORD_BITS};
-ghost use Rattle.wait_model.specs.Reached.{holds};
+ghost use Rattle.wait_model.specs.PointFacts.{holds};
 ghost use Rattle.wait_rule.specs.Queues.{IsIdle, IsTold, index};
 ghost use Rattle.wait_rule.specs.Says.{IsUp};
 ghost use Rattle.wait_rule.specs.Stays.{Carries};

@@ -36,7 +36,7 @@ use Rattle.wait_model.specs.declared.tasks.SleepState.{SleepState}
 use Rattle.wait_model.specs.declared.watches.Watch.{Watch}
 use Rattle.wait_model.specs.declared.watches.Watch.TheVariants as watch
 use Rattle.wait_model.specs.Programs.{prepares_from, zero_answer, signalled}
-use Rattle.wait_model.specs.Reached.{absent}
+use Rattle.wait_model.specs.PointFacts.{absent}
 use Rattle.wait_model.specs.Tasks.{pending, state_mask, task_of}
 use Rattle.wait_model.specs.Views.{off as gone}
 use Rattle.wait_model.specs.Watches.{head_of}

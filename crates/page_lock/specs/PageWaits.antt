@@ -44,7 +44,7 @@ use Rattle.wait_model.specs.Watches.{head_of, page}
 use Rattle.wait_model.specs.Views.{shown}
 use Rattle.wait_model.specs.Words.{bit_at, flag_of}
 use Rattle.wait_model.specs.Programs.{program, zero_answer, interrupted}
-use Rattle.wait_model.specs.Reached.{absent, holds}
+use Rattle.wait_model.specs.PointFacts.{absent, holds}
 use Rattle.wait_rule.specs.Asked.{nothing_asked, waits_for, was_given}
 use Rattle.wait_rule.specs.Bits.{KeepsBitOf}
 use Rattle.wait_rule.specs.Ends.{WasWorn}

@@ -25,7 +25,7 @@ use Rattle.wait_model.specs.declared.points.Point.TheVariants as at
 use Rattle.wait_model.specs.declared.points.Next.{Next}
 use Rattle.wait_model.specs.Points.{call_watch, head_at, state_in}
 use Rattle.wait_model.specs.Tasks.{state_mask}
-use Rattle.wait_model.specs.Reached.{Zone, absent, zone, IsHome, holds, stirs}
+use Rattle.wait_model.specs.PointFacts.{Zone, absent, zone, IsHome, holds, stirs}
 use Rattle.wait_rule.specs.Known.{Known}
 use Rattle.wait_rule.specs.Tickets.{Ticket, no_ticket, drawn, taken}
 use Rattle.wait_rule.specs.Members.{IsOwnKind}

@@ -17,7 +17,7 @@ use Rattle.wait_model.specs.declared.watches.Kind.{Kind}
 use Rattle.wait_model.specs.declared.watches.Kind.TheVariants as kind
 use Rattle.wait_model.specs.declared.watches.Watch.{Watch}
 use Rattle.wait_model.specs.declared.watches.Watch.TheVariants as watch
-use Rattle.wait_model.specs.Reached.{waits, IsHome}
+use Rattle.wait_model.specs.PointFacts.{waits, IsHome}
 use Rattle.wait_model.specs.Tasks.{pending, state_mask, task_of}
 use Rattle.wait_model.specs.Watches.{head_of}
 use Rattle.wait_rule.specs.Ends.{WasWorn}

@@ -45,7 +45,7 @@ use Rattle.wait_model.specs.declared.watches.Watch.TheVariants as watch
 use Rattle.wait_model.specs.Tasks.{task_of, state_mask, pending}
 use Rattle.wait_model.specs.Words.{entry_of}
 use Rattle.wait_model.specs.Programs.{program, zero_answer, signalled}
-use Rattle.wait_model.specs.Reached.{absent, holds, stirs}
+use Rattle.wait_model.specs.PointFacts.{absent, holds, stirs}
 use Rattle.wait_model.specs.Watches.{IsThere, head_of, misses}
 use Rattle.wait_rule.specs.Known.{Known}
 use Rattle.wait_rule.specs.Tickets.{no_ticket, taken}

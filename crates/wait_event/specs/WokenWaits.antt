@@ -13,7 +13,7 @@ use Rattle.wait_model.specs.declared.tasks.SleepState.{SleepState}
 use Rattle.wait_model.specs.declared.watches.Watch.{Watch}
 use Rattle.wait_model.specs.Points.{call_watch}
 use Rattle.wait_model.specs.Programs.{zero_answer}
-use Rattle.wait_model.specs.Reached.{free}
+use Rattle.wait_model.specs.PointFacts.{free}
 use Rattle.wait_model.specs.Tasks.{state_mask}
 use Rattle.wait_model.specs.Words.{flag_of}
 use Rattle.wait_rule.specs.Known.{Known}

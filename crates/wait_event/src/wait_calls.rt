@@ -3,7 +3,7 @@
 ghost use Rattle.std.specs.Prelude.{◌≡◌, ◌≤◌, not, MatchBool};
 ghost use Rattle.wait_event.specs.declared.waits.WaitTurn.TheVariants as turn;
 ghost use Rattle.wait_event.specs.Waits.{Advances, IsAt, IsAsleepAt, IsRunning, IsStop, point_of};
-ghost use Rattle.wait_model.specs.Reached.{holds};
+ghost use Rattle.wait_model.specs.PointFacts.{holds};
 ghost use Rattle.wq_head.specs.declared.locks.TheConstants.{LOOKS};
 
 use crate::waits::{WaitOutcome, WaitRun, WaitStage, WaitTurn, advance};

@@ -5,6 +5,7 @@ pub mod HoldWalks
 pub mod CalledEntries
 pub mod HoldBooks
 pub mod PassedPlaces
+pub mod LeftWalks
 pub mod OwedWakes
 pub mod HeadScans
 pub mod Coverings

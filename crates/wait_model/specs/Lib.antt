@@ -26,6 +26,7 @@ pub mod Sentences
 pub mod Findings
 pub mod Making
 pub mod Spoken
+pub mod PointFacts
 pub mod Reached
 pub mod Shown
 pub mod Histories

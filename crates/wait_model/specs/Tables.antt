@@ -7,6 +7,8 @@ use Rattle.std.specs.Prelude.{
   ◌/◌,
   ◌%◌,
   ◌^◌,
+  ◌≡◌,
+  ◌≤◌,
   Bool,
   true,
   false,
@@ -42,6 +44,10 @@ pub record Words : Type 0 where
   pub dones : ℕ → ℕ
   pub bits : ℕ → ℕ → Bool
   pub vars : ℕ → ℕ
+
+-- the bits above a word's own are clear
+abbrev pub AreBitsLow : Words → Type 0
+AreBitsLow w = (i k : ℕ) → WORD_BITS ≤ k → w.bits i k ≡ false
 
 -- the bookmark that a word shows
 unfoldable pub mark_of : ℕ → Option Mark

@@ -1,6 +1,6 @@
 -- Tied by laws to what is to be believed.
 -- That views tell what the histories do: the law in terms of views says the same as the one in terms of histories.
-use Rattle.std.specs.Prelude.{ℕ, ◌≡◌, Bool, true, false, ◌&&◌, ◌||◌, Option, Some, None, List, [], ◌∷◌, ◌++◌}
+use Rattle.std.specs.Prelude.{ℕ, ◌≡◌, ◌⊎◌, Bool, true, false, ◌&&◌, ◌||◌, Option, Some, None, List, [], ◌∷◌, ◌++◌}
 use Rattle.wait_model.specs.declared.watches.Watch.{Watch}
 use Rattle.wait_model.specs.declared.watches.Watch.TheVariants as watch
 use Rattle.wait_model.specs.declared.watches.Entry.{Entry}
@@ -15,7 +15,7 @@ use Rattle.wait_model.specs.Fold.{after, view_of, peeks, scanned}
 use Rattle.wait_model.specs.Runs.{state_of}
 use Rattle.wait_model.specs.Readings.{FailedLoad, ZeroLoad}
 use Rattle.wait_model.specs.Tryings.{IsTrying}
-use Rattle.wait_model.specs.Histories.{Lacks, is_mark, publishes}
+use Rattle.wait_model.specs.Histories.{Lacks, UnlocksHeld, is_mark, publishes}
 use Rattle.wait_model.specs.Owed.{Owes}
 use Rattle.wait_model.specs.Coverings.{Covering}
 
@@ -72,10 +72,11 @@ abbrev pub OwingTold : Type 0
 OwingTold = (es : List Step) (c : Watch) (σ : ℕ) → ((view_of es).duty.owes c σ ≡ true → Owing es c σ)
     × (Owing es c σ → (view_of es).duty.owes c σ ≡ true)
 
--- what is owing by the view is owed by the history, and without bookmarks the other way round too
+-- What is owing by the view is owed by the history. The other way round too, where the task gave back only locks that
+-- it held, as by allowed steps; without bookmarks always.
 abbrev pub OwesTold : Type 0
 OwesTold = (es : List Step) (c : Watch) (σ : ℕ) → (Owing es c σ → Owes es c σ)
-    × (Lacks is_mark es → Owes es c σ → Owing es c σ)
+    × (Lacks is_mark es ⊎ UnlocksHeld es → Owes es c σ → Owing es c σ)
 
 -- where the view covers an entry the history does, and without bookmarks the other way round too
 abbrev pub CoveringTold : Type 0

@@ -96,7 +96,8 @@ pub fn runs_are_orderly()
     ensures { RunsAreOrderly }
 {}
 
-/// What is owing by a view is owed by its history, and without bookmarks the other way round too.
+/// What is owing by a view is owed by its history. The other way round too, where the task gave back only locks that it
+/// held, as by allowed steps, or had no bookmark.
 pub fn owes_told()
     ensures { OwesTold }
 {}

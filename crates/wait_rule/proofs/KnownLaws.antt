@@ -1,6 +1,8 @@
 -- What a task knows after steps and looks, and what stays of it.
 pub mod Moments
 pub mod TableLaws
+pub mod PlainDebts
+pub mod LosesNone
 pub mod HandedPermits
 pub mod HandedSteps
 pub mod HeldPermits

@@ -21,6 +21,8 @@ pub mod Rule
 pub mod Says
 pub mod Unlocks
 pub mod TableLaws
+pub mod DebtLaws
+pub mod LosesNone
 pub mod TallyLaws
 pub mod PipeSays
 pub mod FlagLaws

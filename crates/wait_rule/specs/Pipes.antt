@@ -25,6 +25,7 @@ use Rattle.std.specs.Prelude.{
   length,
   take,
   drop,
+  replicate,
   flat_map,
   get_or,
 }
@@ -78,9 +79,10 @@ cell_bytes w = take (cell_length w) (drop 1 (to_le_bytes w64 w))
 abbrev pub bytes_in : List ℕ → List ℕ
 bytes_in ws = flat_map cell_bytes ws
 
--- a cell has 1 to 7 bytes
+-- a cell has 1 to 7 bytes, and the unused ones behind them are 0
 abbrev pub IsCell : ℕ → Type 0
 IsCell w = (1 ≤ cell_length w) × (cell_length w ≤ 7)
+    × (drop (1 + cell_length w) (to_le_bytes w64 w) ≡ replicate (7 - cell_length w) 0)
 
 -- What a task knows of an end of a pipe by its own list.
 pub record End : Type 0 where

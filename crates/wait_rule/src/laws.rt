@@ -1,7 +1,7 @@
 //! What the rule of a Domain says of its tables.
 
 ghost use Rattle.std.specs.Prelude.{◌≡◌};
-ghost use Rattle.wait_rule.specs.Says.{MeetsLaw};
+ghost use Rattle.wait_rule.specs.Says.{IsUp, MeetsLaw};
 ghost use Rattle.wait_rule.specs.Worn.{EntriesWearLate, MarksWearLate, HoldsWearLate, OwnWearsLate, JoinedWearsLate};
 ghost use Rattle.wait_rule.specs.Worn.{HoldsNote, NotesStay, JoinKeepsNotes};
 ghost use Rattle.wait_rule.specs.WorkedEvents.{WorkedEvents};
@@ -20,6 +20,8 @@ ghost use Rattle.wait_rule.specs.TableLaws.{AllBalance, RuleTakesMade, AllTakeMa
 ghost use Rattle.wait_rule.specs.Aside.{CallsGrowAside, ItemsStayOff, ProgramsLeaveEnds, WalksGrowAside};
 ghost use Rattle.wait_rule.specs.PipeLaws.{RuleDelivers, JoinedDeliver, JoinedRefuse, ProgramsKeepEnds, RuleRefuses};
 ghost use Rattle.wait_rule.specs.PipeLaws.{WalksKeepEnds};
+ghost use Rattle.wait_rule.specs.DebtLaws.{CleanOwesNothing, RuleTellsDebts};
+ghost use Rattle.wait_rule.specs.LosesNone.{OwersLeaveNone, SettledLeaveNone};
 ghost use Rattle.wait_rule.specs.TallyLaws.{RuleSumsTallies, AllSumTallies, AddsCount, JoinsCount};
 ghost use Rattle.wait_rule.specs.TallyLaws.{NewcomersCountNone, ForksCountNone, ProgramsAddNone, ProgramsKeepNumbers};
 ghost use Rattle.wait_rule.specs.Unlocks.{AllUnlocksCount};
@@ -30,7 +32,8 @@ use crate::rule::Witness;
 impl Task {
     /// Loads the base word, which shows that there is a table that meets the whole law and has the task's own list.
     pub fn witness(&mut self, domain: &Domain)
-        requires { self.old.domain ≡ domain.now }
+        requires of { self.old.domain ≡ domain.now }
+        requires up { IsUp self.old }
         ensures same { self.new ≡ self.old }
         ensures law { MeetsLaw self.new.view }
     {
@@ -214,4 +217,21 @@ pub fn permits_are_handed_on()
 /// answers for a signal, and of a load and a store of two tasks in one order.
 pub fn worked_events()
     ensures { WorkedEvents }
+{}
+
+/// A task that is clean owes no wake, by its history alone: since its last publish of a watch a walk of that watch is
+/// past every entry at the head, be it over several holds, or used up its count, or a look at the head found no member.
+/// Of each task whose list is in a table that meets the rule, what contracts say that it owes is what it owes so.
+pub fn clean_owes_nothing()
+    ensures clean { CleanOwesNothing }
+    ensures told { RuleTellsDebts }
+{}
+
+/// No wake is lost at a task that owes none of a watch: it leaves nobody asleep on it. In each table that meets the
+/// rule, with the task's list, whoever sleeps on the watch while it is set is covered by another task; or wakes used up
+/// their count at its head since; or, at a bit, some task is trying it. The crates of the calls that wake say of each
+/// of these that the task leaves nobody after it.
+pub fn wakers_lose_none()
+    ensures settled { SettledLeaveNone }
+    ensures owers { OwersLeaveNone }
 {}

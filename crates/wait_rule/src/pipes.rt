@@ -82,9 +82,9 @@ pub fn claim(domain: &Domain, task: &mut Task, pipe: u8, end: u8) -> bool
 }
 
 /// Stores `word` in the next cell of the write end of pipe `pipe`, below `PIPES`: a cell is one byte that says how many
-/// bytes follow, 1 to 7, and these. `at` is the cell's place in the ring: the number of cells that the task has stored,
-/// modulo `PIPE_CELLS`. That the cell is free the task has seen by a load of the reader's word. The cell is passed on
-/// by an advance.
+/// bytes follow, 1 to 7, these, and bytes that are 0 behind them. `at` is the cell's place in the ring: the number of
+/// cells that the task has stored, modulo `PIPE_CELLS`. That the cell is free the task has seen by a load of the
+/// reader's word. The cell is passed on by an advance.
 pub fn cell_store(domain: &Domain, task: &mut Task, pipe: u8, at: u16, word: u64)
     requires of { task.old.domain ≡ domain.now }
     requires up { IsUp task.old }
@@ -132,6 +132,7 @@ pub fn cell_load(domain: &Domain, task: &mut Task, pipe: u8, at: u16) -> u64
 /// what the task did. It tells the task that its counts are in order.
 pub fn own_load(domain: &Domain, task: &mut Task, pipe: u8, end: u8) -> u64
     requires of { task.old.domain ≡ domain.now }
+    requires up { IsUp task.old }
     requires pipe { pipe < PIPES }
     requires end { end < PIPE_ENDS }
     requires mine { (end_at (PIPE_ENDS * pipe + end) task.old).mine ≡ true }

@@ -4,7 +4,7 @@
 ghost use Rattle.std.specs.Prelude.{◌≡◌, ◌<◌};
 ghost use Rattle.wait_model.specs.declared.layout.TheConstants.{HEADS};
 ghost use Rattle.wait_rule.specs.declared.journal.Item.TheVariants as item;
-ghost use Rattle.wait_rule.specs.Says.{IsFree, ServesUnlocks, added};
+ghost use Rattle.wait_rule.specs.Says.{IsFree, IsUp, ServesUnlocks, added};
 ghost use Rattle.wait_rule.specs.Queues.{HasGiven};
 
 use crate::domain::{Domain, Task};
@@ -16,6 +16,7 @@ use wait_model::positions::{next_at, serving_at};
 /// Draws a ticket of head `head`, below `HEADS`: its number, modulo 2^64. The task has it out from then on.
 pub fn draw(domain: &Domain, task: &mut Task, head: u16) -> u64
     requires of { task.old.domain ≡ domain.now }
+    requires up { IsUp task.old }
     requires free { IsFree task.old }
     requires head { head < HEADS }
     ensures { task.new ≡ added task.old (item.Drawn head result) }
@@ -29,6 +30,7 @@ pub fn draw(domain: &Domain, task: &mut Task, head: u16) -> u64
 /// back, but for one whose serve is still to come: a task that has joined all others finds them in its histories.
 pub fn serving_load(domain: &Domain, task: &mut Task, head: u16) -> u64
     requires of { task.old.domain ≡ domain.now }
+    requires up { IsUp task.old }
     requires head { head < HEADS }
     ensures step { task.new ≡ added task.old (item.Serving head result) }
     ensures counts { ServesUnlocks task.old.view head result }

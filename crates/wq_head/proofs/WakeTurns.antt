@@ -125,6 +125,20 @@ module _ (start now : Known) (r : WakeRun) where
   pub free_next : IsAt start now r stage.Next → IsFree now
   free_next at = base_free r.aim at.full start now r.walk at.stands
 
+  pub up_first : IsAt start now r stage.First → IsUp now
+  up_first at = subst IsUp (sym at.stands) at.up
+
+  pub up_next : IsAt start now r stage.Next → IsUp now
+  up_next at = base_up r.aim at.full start now r.walk at.stands
+
+  -- between two looks at the ticket
+  pub up_drawn : (s : WakeStage) → IsTurnStage s → IsAt start now r s → IsUp now
+  up_drawn stage.FirstTurn turn at = ap (λ (k : Known). k.book.awake) at.stands.is ∙ at.up
+  up_drawn stage.NextTurn turn at = ap (λ (k : Known). k.book.awake) at.stands.2.is
+      ∙ base_up r.aim at.full start at.stands.0 r.walk at.stands.1
+  up_drawn stage.First turn at = absurd turn
+  up_drawn stage.Next turn at = absurd turn
+
   module _ (new : Known) (h n : ℕ) (at_h : h ≡ head_of r.aim.watch) (is : new ≡ added now (item.Drawn h n)) where
     pub draws_first : IsAt start now r stage.First → IsAt start new (record r { ticket = n }) stage.FirstTurn
     draws_first at = record {

@@ -3,7 +3,7 @@
 
 ghost use Rattle.std.specs.Prelude.{◌≡◌};
 ghost use Rattle.wait_rule.specs.HandedPermits.{HasLeftNone};
-ghost use Rattle.wait_rule.specs.Says.{IsClean};
+ghost use Rattle.wait_rule.specs.Says.{IsClean, IsUp};
 
 use completion_cell::asks::{is_done, reinit, try_wait};
 use completion_cell::await_calls::wait_for;
@@ -93,9 +93,11 @@ pub fn take_one<R: Wait>(rt: &R, domain: &Domain, task: &mut Task) -> bool
 /// Waits for one, and then is taken in by another task.
 pub fn take_and_join<R: Wait>(rt: &R, domain: &Domain, into: &mut Task, mut task: Task) -> bool
     requires of { (into.old.domain ≡ domain.now) × (task.domain ≡ domain.now) }
+    requires up { IsUp into.old }
     requires clean { IsClean task }
     requires off { HasLeftNone task }
     ensures of { into.new.domain ≡ domain.now }
+    ensures up { IsUp into.new }
 {
     let took = wait_for_one(rt, domain, &mut task, SleepState::Killable);
     into.join(domain, task);
@@ -105,9 +107,11 @@ pub fn take_and_join<R: Wait>(rt: &R, domain: &Domain, into: &mut Task, mut task
 /// Completes it for one, and then is taken in by another task.
 pub fn complete_and_join<R: Wait>(rt: &R, domain: &Domain, into: &mut Task, mut task: Task)
     requires of { (into.old.domain ≡ domain.now) × (task.domain ≡ domain.now) }
+    requires up { IsUp into.old }
     requires clean { IsClean task }
     requires off { HasLeftNone task }
     ensures of { into.new.domain ≡ domain.now }
+    ensures up { IsUp into.new }
 {
     complete_one(rt, domain, &mut task);
     into.join(domain, task);

@@ -2,7 +2,7 @@
 
 ghost use Rattle.std.specs.Prelude.{◌≡◌};
 ghost use Rattle.wait_event.specs.Entries.{HasWokenEntry, MayRemove};
-ghost use Rattle.wait_rule.specs.Says.{IsClean};
+ghost use Rattle.wait_rule.specs.Says.{IsClean, IsUp};
 ghost use Rattle.wait_rule.specs.Stays.{Carries, unchanged};
 
 use std::sync::Wait;
@@ -120,8 +120,10 @@ pub fn take_zero(domain: &Domain, task: &mut Task) -> u64
 /// Waits, and then is taken in by another task.
 pub fn wait_and_join<R: Wait>(rt: &R, domain: &Domain, task: &mut Task, mut other: Task)
     requires of { (task.old.domain ≡ domain.now) × (other.domain ≡ domain.now) }
+    requires up { IsUp task.old }
     requires clean { IsClean other }
     ensures of { task.new.domain ≡ domain.now }
+    ensures up { IsUp task.new }
 {
     wait_for_zero(rt, domain, &mut other, SleepState::Killable);
     task.join(domain, other);

@@ -4,7 +4,7 @@
 ghost use Rattle.std.specs.Prelude.{◌≡◌, MatchBool};
 ghost use Rattle.wait_model.specs.declared.watches.Watch.TheVariants as watch;
 ghost use Rattle.bit_wait.specs.Holders.{IsHolder};
-ghost use Rattle.wait_rule.specs.Says.{IsClean};
+ghost use Rattle.wait_rule.specs.Says.{IsClean, IsUp};
 
 use page_lock::{add_tally, try_lock_page, unlock_page};
 use std::sync::Wait;
@@ -67,8 +67,10 @@ pub fn count_and_join<R: Wait>(
     amount: u64,
 ) -> Option<u64>
     requires of { (into.old.domain ≡ domain.now) × (task.domain ≡ domain.now) }
+    requires up { IsUp into.old }
     requires clean { IsClean task }
     ensures of { into.new.domain ≡ domain.now }
+    ensures up { IsUp into.new }
 {
     let before = count_in_page(rt, domain, &mut task, amount);
     into.join(domain, task);

@@ -4,9 +4,9 @@ use Rattle.std.specs.Prelude.{ℕ, Bool, true, false, if◌then◌else◌}
 use Rattle.wait_model.specs.declared.calls.Event.{Event}
 use Rattle.wait_model.specs.declared.points.Given.{Given}
 use Rattle.wait_model.specs.declared.watches.Watch.{Watch}
-use Rattle.wait_model.specs.Reached.{AreBitsLow, Allows, Joins}
+use Rattle.wait_model.specs.Reached.{Allows, Joins}
 use Rattle.wait_model.specs.Runs.{State, is_publishing, after_event}
-use Rattle.wait_model.specs.Tables.{Words, next, value_of, publish, consume}
+use Rattle.wait_model.specs.Tables.{AreBitsLow, Words, next, value_of, publish, consume}
 use Rattle.wait_model.specs.Watches.{IsThere, page}
 use Rattle.wait_model.specs.Words.{head_word}
 use Rattle.wait_model.proofs.WordLaws.BitWords.{low_consumed, low_published}

@@ -29,7 +29,7 @@ use Rattle.wait_model.specs.Tasks.{meets}
 use Rattle.wait_model.specs.Watches.{same, head_of, is_bit, is_woken, mask_of, failing, owner, part_of, is_page, page}
 use Rattle.wait_model.specs.Views.{View, Walk, Hold, blank, no_hold, concerns, gone, ahead, all_passed}
 use Rattle.wait_model.specs.Fold.{after, after_all, after_unlock, view_of, hits, finds_bit_set, paused, is_for_page}
-use Rattle.wait_model.specs.Histories.{Lacks, Since, turns_lock, is_publish, is_mark}
+use Rattle.wait_model.specs.Histories.{Lacks, Since, turns_lock, is_publish}
 use Rattle.wait_model.specs.Walks.{
   WalkHold,
   calls_entry,
@@ -59,11 +59,10 @@ use Rattle.wait_model.proofs.HistoryLaws.HoldWalks.{
   IsForWalk,
   begun_for,
   walks_for,
-  for_walks,
   Locked,
   HasWalk,
-  locked_of,
   locked_for,
+  locked_front,
 }
 use Rattle.wait_model.proofs.StepLaws.UnlockSteps.{unlock_hold}
 use Rattle.wait_model.proofs.Sameness.{same_trans, same_bit, same_bit_failing}
@@ -360,7 +359,7 @@ off_seen es c x h =
     }
     by (inr q) = absurd (let z : false ≡ true = q.0 in cc)
 
--- from here on the other way round, for histories without bookmarks
+-- from here on the other way round, in holds
 hits_walk : (o : Option Walk) (mask : ℕ) → hits o mask ≡ true → HasWalk o
 hits_walk None mask h = absurd (cc)
 hits_walk (Some w) mask h = (w, refl)
@@ -528,7 +527,7 @@ flag_seen es x h = by (seen_in (flagged x) (λ e v. flags x e) renews (flagged_b
     by (inr q) = absurd (let z : false ≡ true = q.0 in cc)
 
 -- the walk has called the entry in this hold
-pub called_now : (es : List Step) (x : ℕ) (e : Entry) (σ : ℕ) (w : Walk) → Lacks is_mark es
+pub called_now : (es : List Step) (x : ℕ) (e : Entry) (σ : ℕ) (w : Walk) → Locked es
     → (view_of es).walk ≡ Some w → concerns w e.watch σ ≡ true → (k j : Bool) → is_woken e.kind ≡ k
     → is_page e.kind ≡ j → gone (view_of es) x e ≡ true → CalledNow es x e σ
 unfolding called rung flagged moot
@@ -559,8 +558,8 @@ called_now es x e σ w l is con false true kind pg g =
     by : Seen sets_moot renews blank es ⊎ ((moot blank ≡ true) × Lacks renews es) → CalledNow es x e σ
     by (inl s) =
         let c = sight_walk s.it (view_of s.earlier) s.sets in
-        found s (locked_of s.earlier (lacks_left is_mark s.earlier (s.it ∷ s.later)
-        (subst (Lacks is_mark) s.split l)) c.0) c.1
+        found s (locked_front es l s.earlier s.it s.later s.split c.1
+        (lacks_more renews turns_lock turns_of s.later s.none_since)) c.1
     by (inr q) = absurd (let z : false ≡ true = q.0 in cc)
 called_now es x e σ w l is con false false kind pg g =
     by (seen_in (called x) (sets_called x) renews (called_by x) es blank
@@ -590,31 +589,23 @@ called_now es x e σ w l is con false false kind pg g =
         → CalledNow es x e σ
     by (inl s) =
         let c = call_walk x s.it (view_of s.earlier) s.sets in
-        found s (locked_of s.earlier (lacks_left is_mark s.earlier (s.it ∷ s.later)
-        (subst (Lacks is_mark) s.split l)) c.0) c.1
+        found s (locked_front es l s.earlier s.it s.later s.split c.1
+        (lacks_more renews turns_lock turns_of s.later s.none_since)) c.1
     by (inr q) = absurd (let z : false ≡ true = q.0 in cc)
 called_now es x e σ w l is con true j kind pg g =
     by (seen_in (rung x) (sets_rung x) renews (rung_by x) es blank
     (let z : (view_of es).hold.rung x ≡ true = (rw kind at g) in z))
   where
-    found : (s : Seen (sets_rung x) renews blank es) → turns_lock s.it ≡ false → HasWalk (view_of s.earlier).walk
+    found : (s : Seen (sets_rung x) renews blank es) → turns_lock s.it ≡ false
         → Seen (λ e v. flags x e) renews blank s.earlier → CalledNow es x e σ
-    found s t has f =
-        let marks : Lacks is_mark s.earlier = lacks_left is_mark s.earlier (s.it ∷ s.later)
-        (subst (Lacks is_mark) s.split l) in
-        let k : Locked s.earlier = locked_of s.earlier marks has in
+    found s t f =
+        let k : Locked s.earlier = locked_front es l s.earlier s.it s.later s.split t
+        (lacks_more renews turns_lock turns_of s.later s.none_since) in
         let quiet : Lacks turns_lock (f.it ∷ f.later) = (
           flag_ends_none x f.it f.sets,
           lacks_more renews turns_lock turns_of f.later f.none_since,
         ) in
-        let at : IsForWalk k.aim (after_all (view_of f.earlier) (f.it ∷ f.later)).walk =
-        subst (λ (v : View). IsForWalk k.aim v.walk) (view_at s.earlier f.earlier f.it f.later f.split)
-        (locked_for s.earlier k) in
-        let old : IsForWalk k.aim (view_of f.earlier).walk =
-        for_walks k.aim (f.it ∷ f.later) (view_of f.earlier) quiet at in
-        let j : Locked f.earlier = locked_of f.earlier
-        (lacks_left is_mark f.earlier (f.it ∷ f.later) (subst (Lacks is_mark) f.split marks))
-        (old.walk, old.is) in
+        let j : Locked f.earlier = locked_front s.earlier k f.earlier f.it f.later f.split quiet.0 quiet.1 in
         let m : Locked s.earlier = further s.earlier f.earlier f.it f.later f.split quiet.0 quiet.1 j in
         let more : Locked es = further es s.earlier s.it s.later s.split t
         (lacks_more renews turns_lock turns_of s.later s.none_since) m in
@@ -645,5 +636,5 @@ called_now es x e σ w l is con true j kind pg g =
     by : Seen (sets_rung x) renews blank es ⊎ ((rung x blank ≡ true) × Lacks renews es) → CalledNow es x e σ
     by (inl s) =
         let r = rung_walk x s.it (view_of s.earlier) s.sets in
-        found s r.1 r.0 (flag_seen s.earlier x r.2)
+        found s r.1 (flag_seen s.earlier x r.2)
     by (inr q) = absurd (let z : false ≡ true = q.0 in cc)

@@ -25,7 +25,7 @@ use Rattle.wait_model.specs.Histories.{Lacks, is_mark}
 use Rattle.wait_model.specs.Walks.{CalledNow}
 use Rattle.wait_model.specs.Coverings.{Covering}
 use Rattle.wait_model.specs.Told.{CoveringTold}
-use Rattle.wait_model.proofs.HistoryLaws.HoldWalks.{AtFirst, first_in}
+use Rattle.wait_model.proofs.HistoryLaws.HoldWalks.{AtFirst, first_in, locked_of}
 use Rattle.wait_model.proofs.HistoryLaws.CalledEntries.{called_not, seen_off, off_seen, called_now}
 use Rattle.wait_model.proofs.HistoryLaws.PassedPlaces.{gone_not}
 use Rattle.wait_model.proofs.HistoryLaws.PlainReadings.{owing_told}
@@ -69,14 +69,14 @@ ahead_of es x e σ l none (Some w) is f = by (concerns w e.watch σ) refl (gone 
     by : (c : Bool) → concerns w e.watch σ ≡ c → (g : Bool) → gone (view_of es) x e ≡ g
         → (not (concerns w e.watch σ) || (nat_le w.from e.place && not (gone (view_of es) x e))) ≡ true
     by false p g q = rw p refl
-    by true p true q = absurd (none (called_now es x e σ w l is p (is_woken e.kind) (is_page e.kind) refl refl q))
+    by true p true q = absurd (none (called_now es x e σ w (locked_of es l (w, is)) is p (is_woken e.kind) (is_page e.kind) refl refl q))
     by true p false q = rw (q, f) (grind arith)
 
 told_back : (es : List Step) (x : ℕ) (e : Entry) (σ : ℕ) → Lacks is_mark es → Covering es x e σ
     → covers (view_of es) x e σ ≡ true
 told_back es x e σ l c = all ((view_of es).duty.owes e.watch σ) ((view_of es).duty.cleared e.watch x)
     (is_simple e.kind) (ahead (view_of es).walk (gone (view_of es) x e) e.watch σ e.place)
-    ((owing_told es e.watch σ).1 ((owes_told es e.watch σ).1 l c.owes))
+    ((owing_told es e.watch σ).1 ((owes_told es e.watch σ).1 (inl l) c.owes))
     (λ h. c.unseen (off_seen es e.watch x h)) (by c.uncalled)
   where
     all : (o d s a : Bool) → o ≡ true → (d ≡ true → ⊥) → (s ≡ true) ⊎ (a ≡ true)

@@ -1,6 +1,6 @@
 -- What a hold's book shows of an entry word is what the hold's last step on it tells.
-use Rattle.std.proofs.Common.{refl, ◌∙◌, ap, subst, arith, inl, inr}
-use Rattle.std.specs.Prelude.{ℕ, zero, suc, ◌≡◌, ◌<◌, ◌⊎◌, Some, Bool, true, false, ◌&&◌, List, [], ◌∷◌}
+use Rattle.std.proofs.Common.{refl, sym, ◌∙◌, ap, subst, arith, inl, inr}
+use Rattle.std.specs.Prelude.{ℕ, zero, suc, ◌≡◌, ◌<◌, ◌⊎◌, Some, None, Bool, true, false, ◌&&◌, List, [], ◌∷◌, ◌++◌}
 use Rattle.wait_model.specs.declared.layout.TheConstants.{ENTRIES}
 use Rattle.wait_model.specs.declared.watches.Watch.{Watch}
 use Rattle.wait_model.specs.declared.steps.Step.{Step}
@@ -9,6 +9,8 @@ use Rattle.wait_model.specs.Words.{entry_of}
 use Rattle.wait_model.specs.Views.{
   View,
   Walk,
+  Hold,
+  blank,
   Look,
   unseen,
   off,
@@ -20,10 +22,11 @@ use Rattle.wait_model.specs.Views.{
   look_at,
 }
 use Rattle.wait_model.specs.Fold.{after, after_all, view_of}
-use Rattle.wait_model.specs.Histories.{Lacks, Since, turns_lock}
+use Rattle.wait_model.specs.Histories.{Lacks, Since, takes_any_lock, turns_lock}
 use Rattle.wait_model.specs.Walks.{WalkHold, tells}
 use Rattle.wait_model.proofs.HistoryLaws.Stretches.{after_append, lacks_left, lacks_right}
 use Rattle.wait_model.proofs.StepLaws.PastEntries.{all_below_at}
+use Rattle.wait_model.proofs.StepLaws.UnlockSteps.{unlock_hold}
 use Rattle.wait_model.proofs.HistoryLaws.CalledEntries.{hold_view}
 
 -- what a step of a hold of h leaves in the book
@@ -63,6 +66,60 @@ books_kept : (es : List Step) (v : View) (x : ℕ) → Lacks turns_lock es → L
     → (after_all v es).hold.book x ≡ v.hold.book x
 books_kept [] v x l n = refl
 books_kept (e ∷ es) v x l n = books_kept es (after e v) x l.1 n.1 ∙ book_kept e v x l.0 n.0
+
+-- the last step that takes a lock or gives one back, or none
+turning : (es : List Step) → Since turns_lock turns_lock es ⊎ Lacks turns_lock es
+turning [] = inr tt
+turning (e ∷ es) = by (turning es) (turns_lock e) refl
+  where
+    by : Since turns_lock turns_lock es ⊎ Lacks turns_lock es → (b : Bool) → turns_lock e ≡ b
+        → Since turns_lock turns_lock (e ∷ es) ⊎ Lacks turns_lock (e ∷ es)
+    by (inl s) b h = inl (record {
+      earlier = e ∷ s.earlier;
+      it = s.it;
+      later = s.later;
+      split = ap (λ (t : List Step). e ∷ t) s.split;
+      passes = s.passes;
+      none_since = s.none_since;
+    })
+    by (inr n) true h = inl (record {
+      earlier = [];
+      it = e;
+      later = es;
+      split = refl;
+      passes = h;
+      none_since = n;
+    })
+    by (inr n) false h = inr (h, n)
+
+-- who holds a head by the view took its lock by the history, and has not given it back
+pub lock_held : (es : List Step) (h : ℕ) → (view_of es).hold.head ≡ Some h → Since takes_any_lock turns_lock es
+lock_held es h held = by (turning es)
+  where
+    kept : (s : Since turns_lock turns_lock es) → (view_of es).hold.head ≡ (after s.it (view_of s.earlier)).hold.head
+    kept s = ap (λ (t : List Step). (view_of t).hold.head) s.split
+        ∙ ap (λ (v : View). v.hold.head) (after_append blank s.earlier (s.it ∷ s.later))
+        ∙ heads_kept s.later (after s.it (view_of s.earlier)) s.none_since
+
+    last : (it : Step) (earlier later : List Step) → es ≡ earlier ++ it ∷ later → turns_lock it ≡ true
+        → Lacks turns_lock later → (view_of es).hold.head ≡ (after it (view_of earlier)).hold.head
+        → Since takes_any_lock turns_lock es
+    last (step.Lock i aim w) earlier later split t none is = record {
+      earlier = earlier;
+      it = step.Lock i aim w;
+      later = later;
+      split = split;
+      passes = refl;
+      none_since = none;
+    }
+    last (step.Unlock i sp) earlier later split t none is =
+        absurd (let z : None ≡ Some h = sym (is ∙ ap (λ (k : Hold). k.head)
+        (unlock_hold (view_of earlier) (view_of earlier).walk sp)) ∙ held in cc)
+    last e earlier later split t none is = absurd (cc)
+
+    by : Since turns_lock turns_lock es ⊎ Lacks turns_lock es → Since takes_any_lock turns_lock es
+    by (inl s) = last s.it s.earlier s.later s.split s.passes s.none_since (kept s)
+    by (inr n) = absurd (let z : None ≡ Some h = sym (heads_kept es blank n) ∙ held in cc)
 
 -- the last step that tells of an entry word, or none
 pub telling : (es : List Step) (x : ℕ) → Since (tells x) (tells x) es ⊎ Lacks (tells x) es
@@ -133,6 +190,11 @@ all_passed_of v w stop h = all_below_of ENTRIES (λ x. passed w v stop (v.hold.b
 pub all_cleared_of : (f : ℕ → Bool) → ((x : ℕ) → x < ENTRIES → f x ≡ true) → all_cleared f ≡ true
 unfolding all_cleared
 all_cleared_of f h = all_below_of ENTRIES f h
+
+pub stopped_at : (v : View) (w : Walk) (stop : ℕ → Bool) (x : ℕ) → all_passed v w stop ≡ true → x < ENTRIES
+    → passed w v stop (v.hold.book x) x ≡ true
+unfolding all_passed
+stopped_at v w stop x h lt = all_below_at ENTRIES (λ i. passed w v stop (v.hold.book i) i) x h lt
 
 pub passed_at : (v : View) (w : Walk) (x : ℕ) → all_passed v w (λ _. false) ≡ true → x < ENTRIES
     → passed w v (λ _. false) (v.hold.book x) x ≡ true

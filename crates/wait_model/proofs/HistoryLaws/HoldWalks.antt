@@ -26,8 +26,8 @@ use Rattle.wait_model.specs.declared.steps.Step.TheVariants as step
 use Rattle.wait_model.specs.Watches.{same, mask_of}
 use Rattle.wait_model.specs.Views.{View, Walk, no_hold, blank, concerns, all_passed}
 use Rattle.wait_model.specs.Fold.{after, after_all, after_unlock, begun, begun_anew, paused}
-use Rattle.wait_model.specs.Histories.{Lacks, turns_lock, is_mark}
-use Rattle.wait_model.proofs.HistoryLaws.Stretches.{after_append}
+use Rattle.wait_model.specs.Histories.{Lacks, Since, turns_lock, takes_any_lock, is_mark}
+use Rattle.wait_model.proofs.HistoryLaws.Stretches.{after_append, lacks_left, lacks_right}
 use Rattle.wait_model.proofs.Sameness.{same_refl}
 
 -- the walk under way is one of this aim
@@ -201,6 +201,81 @@ locked_for es k =
     (sym (after_append blank k.before (step.Lock k.head (Some k.aim) k.found ∷ k.inside)))
     (walks_for k.aim k.inside (after (step.Lock k.head (Some k.aim) k.found) (after_all blank k.before))
     k.within (begun_for k.aim (after_all blank k.before).walk)))
+
+-- a hold at the end of a list, in each front of it that leaves out no lock that is taken or given back
+record Front (before : List Step) (l : Step) (inside earlier : List Step) (it : Step) (later : List Step) : Type 0 where
+  more : List Step
+  front : earlier ≡ before ++ l ∷ more
+  split : inside ≡ more ++ it ∷ later
+
+front_of : (before : List Step) (l : Step) (inside earlier : List Step) (it : Step) (later : List Step)
+    → before ++ l ∷ inside ≡ earlier ++ it ∷ later → turns_lock l ≡ true → turns_lock it ≡ false
+    → Lacks turns_lock later → Front before l inside earlier it later
+front_of [] l inside [] it later eq t n k =
+    absurd (let z : l ≡ it = cc in let y : turns_lock l ≡ false = ap turns_lock z ∙ n in cc)
+front_of [] l inside (e ∷ es) it later eq t n k = record {
+  more = es;
+  front = (let z : l ≡ e = cc in ap (λ (d : Step). d ∷ es) (sym z));
+  split = (let z : inside ≡ es ++ it ∷ later = cc in z);
+}
+front_of (b ∷ bs) l inside [] it later eq t n k =
+    let z : bs ++ l ∷ inside ≡ later = cc in
+    let y : turns_lock l ≡ false = (lacks_right turns_lock bs (l ∷ inside) (subst (Lacks turns_lock) (sym z) k)).0 in
+    absurd (cc)
+front_of (b ∷ bs) l inside (e ∷ es) it later eq t n k =
+    let h : b ≡ e = cc in
+    let z : bs ++ l ∷ inside ≡ es ++ it ∷ later = cc in
+    let f = front_of bs l inside es it later z t n k in record {
+      more = f.more;
+      front = ap (λ (d : Step). d ∷ es) (sym h) ∙ ap (λ (t : List Step). b ∷ t) f.front;
+      split = f.split;
+    }
+
+pub locked_front : (es : List Step) (k : Locked es) (earlier : List Step) (it : Step) (later : List Step)
+    → es ≡ earlier ++ it ∷ later → turns_lock it ≡ false → Lacks turns_lock later → Locked earlier
+locked_front es k earlier it later eq t l =
+    let f = front_of k.before (step.Lock k.head (Some k.aim) k.found) k.inside earlier it later (sym k.split ∙ eq) refl t
+    l in record {
+      before = k.before;
+      head = k.head;
+      aim = k.aim;
+      found = k.found;
+      inside = f.more;
+      split = f.front;
+      within = lacks_left turns_lock f.more (it ∷ later) (subst (Lacks turns_lock) f.split k.within);
+    }
+
+-- a lock for no walk leaves none, and none begins in its hold
+none_kept : (e : Step) (v : View) → turns_lock e ≡ false → v.walk ≡ None → (after e v).walk ≡ None
+none_kept (step.Publish c n r) v t is = ap begun_anew is
+none_kept (step.Lock h aim w) v t is = absurd (cc)
+none_kept (step.Unlock h sp) v t is = absurd (cc)
+none_kept e v t is = is
+
+none_stays : (es : List Step) (v : View) → Lacks turns_lock es → v.walk ≡ None → (after_all v es).walk ≡ None
+none_stays [] v l is = is
+none_stays (e ∷ es) v l is = none_stays es (after e v) l.1 (none_kept e v l.0 is)
+
+-- a walk under way, where the task holds a lock, is one of the hold that it is in
+pub locked_held : (es : List Step) → Since takes_any_lock turns_lock es → HasWalk (after_all blank es).walk → Locked es
+locked_held es s w = by s.it s.split s.passes
+  where
+    by : (it : Step) → es ≡ s.earlier ++ it ∷ s.later → takes_any_lock it ≡ true → Locked es
+    by (step.Lock h None f) eq i =
+        let z : (after_all blank es).walk ≡ None = ap (λ (t : List Step). (after_all blank t).walk) eq
+        ∙ ap (λ (v : View). v.walk) (after_append blank s.earlier (step.Lock h None f ∷ s.later))
+        ∙ none_stays s.later (after (step.Lock h None f) (after_all blank s.earlier)) s.none_since refl in
+        absurd (let y : None ≡ Some w.0 = sym z ∙ w.1 in cc)
+    by (step.Lock h (Some a) f) eq i = record {
+      before = s.earlier;
+      head = h;
+      aim = a;
+      found = f;
+      inside = s.later;
+      split = eq;
+      within = s.none_since;
+    }
+    by e eq i = absurd (cc)
 
 -- without bookmarks a walk begins at place 0
 abbrev pub AtFirst : Option Walk → Type 0

@@ -61,10 +61,9 @@ use Rattle.wait_model.specs.Reached.{
   IsWalkSound,
   IsFitted,
   is_preparing,
-  IsState,
   IsSound,
 }
-use Rattle.wait_model.specs.Tasks.{pending, state_mask, looks_in, task_word, task_of}
+use Rattle.wait_model.specs.Tasks.{IsState, pending, state_mask, looks_in, task_word, task_of}
 use Rattle.wait_model.specs.Words.{Suited}
 use Rattle.wait_model.specs.Watches.{head_of, IsThere, misses, counted, is_page}
 use Rattle.wait_model.specs.Points.{

@@ -48,8 +48,7 @@ use Rattle.wait_model.specs.declared.layout.TheConstants.{WORD_BITS}
 use Rattle.wait_model.specs.declared.watches.Watch.TheVariants as watch
 use Rattle.wait_model.specs.Functions.{put}
 use Rattle.wait_model.specs.Rows.{Reads}
-use Rattle.wait_model.specs.Reached.{AreBitsLow}
-use Rattle.wait_model.specs.Tables.{Words, publish, consume}
+use Rattle.wait_model.specs.Tables.{AreBitsLow, Words, publish, consume}
 use Rattle.wait_model.specs.Words.{bit_at, flag, bit_word}
 use Rattle.wait_model.proofs.Functions.{put_at, put_case, put_same, put_other}
 

@@ -59,11 +59,11 @@ use Rattle.wait_model.specs.declared.calls.Call.TheVariants as calls
 use Rattle.wait_model.specs.Points.{call_watch, is_await, form_of}
 use Rattle.wait_model.specs.Queues.{is_exclusive}
 use Rattle.wait_model.specs.Words.{Suited}
-use Rattle.wait_model.specs.Tables.{Words, Table, next, value_of}
+use Rattle.wait_model.specs.Tables.{AreBitsLow, Words, Table, next, value_of}
 use Rattle.wait_model.specs.Locations.{Plain, Done, Bits, Var, IsLocation, position_of, cond_at, word_in}
 use Rattle.wait_model.specs.Runs.{is_publishing, set_step}
 use Rattle.wait_model.specs.Rows.{Reads, Allowed}
-use Rattle.wait_model.specs.Reached.{IsPlain, IsSimpleHead, AreBitsLow}
+use Rattle.wait_model.specs.Reached.{IsPlain, IsSimpleHead}
 use Rattle.wait_model.proofs.WordLaws.BitWords.{bit_word_reads}
 use Rattle.wait_model.specs.Admission.{IsGoing}
 use Rattle.wait_model.specs.Programs.{done_in}

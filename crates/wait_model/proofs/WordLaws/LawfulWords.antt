@@ -10,8 +10,8 @@ use Rattle.wait_model.specs.declared.queues.Member.{Member}
 use Rattle.wait_model.specs.declared.queues.Mark.{Mark}
 use Rattle.wait_model.specs.Runs.{State, own, looks, all_peeks, after_event}
 use Rattle.wait_model.specs.declared.points.Given.{Given}
-use Rattle.wait_model.specs.Reached.{IsLinked, IsState, Allows, Joins}
-use Rattle.wait_model.specs.Tasks.{meets, pending, woken, slept, raised, accepted, IsLawful}
+use Rattle.wait_model.specs.Reached.{IsLinked, Allows, Joins}
+use Rattle.wait_model.specs.Tasks.{meets, pending, woken, slept, raised, accepted, IsLawful, IsState}
 use Rattle.wait_model.specs.Tables.{Table, next, steps, value_of}
 use Rattle.wait_model.specs.Words.{head_word}
 use Rattle.wait_model.proofs.HistoryLaws.HoldLooks.{looks_same}

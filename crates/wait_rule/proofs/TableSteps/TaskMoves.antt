@@ -6,12 +6,11 @@ use prog.Atomic.{either}
 use Rattle.atomic_table.specs.Table.{step as move, Allows}
 use Rattle.wait_model.specs.declared.layout.TheConstants.{TASKS, TASK_AT}
 use Rattle.wait_model.specs.declared.steps.Step.TheVariants as step
-use Rattle.wait_model.specs.Tasks.{IsLawfulWord, task_of, task_word, woken, slept, raised}
+use Rattle.wait_model.specs.Tasks.{IsLawfulWord, IsState, task_of, task_word, woken, slept, raised}
 use Rattle.wait_model.specs.Views.{View}
 use Rattle.wait_model.specs.Tables.{Table}
 use Rattle.wait_model.specs.Locations as place
 use Rattle.wait_model.specs.Locations.{word_in}
-use Rattle.wait_model.specs.Reached.{IsState}
 use Rattle.wait_rule.specs.declared.tasks.TheConstants.{NO_STATE, NO_SIGNAL}
 use Rattle.wait_rule.specs.declared.journal.Ask.{Ask}
 use Rattle.wait_rule.specs.declared.journal.Item.{Item}

@@ -1,7 +1,7 @@
 //! Wakes with counts, over waiters of which some are exclusive.
 
 ghost use Rattle.std.specs.Prelude.{◌≡◌};
-ghost use Rattle.wait_model.specs.Reached.{IsState};
+ghost use Rattle.wait_model.specs.Tasks.{IsState};
 ghost use Rattle.wq_head.specs.Readied.{IsReady};
 
 use crate::heads::many::queue_many;

@@ -3,7 +3,7 @@
 
 ghost use Rattle.std.specs.Prelude.{◌≡◌, ◌<◌};
 ghost use Rattle.wait_model.specs.declared.layout.TheConstants.{BIT_WORDS};
-ghost use Rattle.wait_model.specs.Reached.{IsState};
+ghost use Rattle.wait_model.specs.Tasks.{IsState};
 ghost use Rattle.wq_head.specs.Readied.{IsAtRest, IsReady, IsUpAndFree};
 
 use crate::heads::sleepers::sees_queued;

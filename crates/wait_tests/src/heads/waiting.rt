@@ -3,7 +3,7 @@
 
 ghost use Rattle.std.specs.Prelude.{◌≡◌};
 ghost use Rattle.wait_model.specs.declared.layout.TheConstants.{FIRST_PLAIN_HEAD};
-ghost use Rattle.wait_model.specs.Reached.{IsState};
+ghost use Rattle.wait_model.specs.Tasks.{IsState};
 ghost use Rattle.wait_rule.specs.Says.{IsUp};
 ghost use Rattle.wq_head.specs.Holds.{IsHolding};
 ghost use Rattle.wq_head.specs.Readied.{IsPlainKind, IsReady, IsUpAndFree, StaysInHold};

@@ -1,4 +1,5 @@
-use Rattle.std.proofs.Common.{None, inl, refl}
+use Rattle.std.proofs.Common.{◌∙◌, None, ap, inl, refl}
+use Rattle.wait_rule.specs.Known.{Known}
 use Rattle.wait_rule.specs.Queues.{walk_of_hold}
 use Rattle.wq_head.proofs.AwaitedLocks.{took_lock}
 use Rattle.wq_head.proofs.DrawnTurns.{still_waits, turn_is, turn_up, turn_locked}
@@ -11,6 +12,11 @@ returns-then-served-ticket-clause-turned c start a = record {
   waits = still_waits start c.args.task.now c.serving_load-served.new.task c.args.head c.args.ticket
       c.serving_load-served.result a.waits c.serving_load-served.ensures.step c.if-served-ticket.true;
 }
+
+pub serving_load-served-requires-clause-up : goal.serving_load-served-requires-clause-up
+serving_load-served-requires-clause-up c =
+    let a = c.requires.awaits in
+    ap (λ (k : Known). k.book.awake) a.1.waits.is ∙ a.1.up
 
 pub lock_step-requires-clause-up : goal.lock_step-requires-clause-up
 lock_step-requires-clause-up c =

@@ -7,7 +7,7 @@ use Rattle.wq_head.specs.Turns.{InWalk}
 use Rattle.wq_head.specs.Walks.{IsFull, MayWake}
 use Rattle.wq_head.proofs.FullHeads.{head_small}
 use Rattle.wq_head.proofs.RousedTasks.{none_added, rousing_on, rousing_from, rousing_none}
-use Rattle.wq_head.proofs.WakeTurns.{outside_on, waits_on, served_on, rests_of}
+use Rattle.wq_head.proofs.WakeTurns.{up_drawn, outside_on, waits_on, served_on, rests_of}
 use Rattle.wq_head.proofs.wakes.wake_stretch.Goals as goal
 
 pub serving_load-run-requires-clause-head : goal.serving_load-run-requires-clause-head
@@ -15,6 +15,12 @@ serving_load-run-requires-clause-head c =
     let small = (head_small c.args.run.now.aim.watch c.requires.at.1.full) in
     let is = c.head_of-head.ensures in
     omega (arith, small, is)
+
+pub serving_load-run-requires-clause-up : goal.serving_load-run-requires-clause-up
+serving_load-run-requires-clause-up c =
+    let d = c.draw_turn-at in
+    up_drawn c.requires.at.0 d.new.task d.new.run d.result d.ensures.turn
+    (d.ensures.drawn c.requires.at.0 c.requires.at.1)
 
 -- another number is served
 pub returns-then-run-clause-turned : goal.returns-then-run-clause-turned

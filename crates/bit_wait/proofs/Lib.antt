@@ -5,3 +5,4 @@ pub mod Clearing
 pub mod Holders
 pub mod LockEvents
 pub mod LockGround
+pub mod LosesNone

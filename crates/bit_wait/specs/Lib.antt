@@ -7,3 +7,4 @@ pub mod Clears
 pub mod LockStays
 pub mod LockWaits
 pub mod LockEnds
+pub mod LosesNone

@@ -26,3 +26,4 @@ pub mod Rising
 pub mod Stretches
 pub mod Endings
 pub mod TurnPermits
+pub mod LosesNone

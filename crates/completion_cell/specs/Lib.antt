@@ -5,3 +5,4 @@ pub mod AwaitEnds
 pub mod HeldPermits
 pub mod AwaitPermits
 pub mod CellTurns
+pub mod LosesNone

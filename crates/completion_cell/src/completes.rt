@@ -99,7 +99,8 @@ pub(crate) fn complete_all_hold(
 /// hold of its head the count is raised by one, unless it is at its end, 4294967295, and the first waiter is woken and
 /// taken off its queue. So the permit that it makes is handed on, unless nobody is queued (`permits_are_handed_on` of
 /// `wait_rule::laws`). The task holds no lock; its state, its entries and its bookmark stay, and what it owes. Its last
-/// hold of the completion's head, if there was one, left its own entry off, and so does this call.
+/// hold of the completion's head, if there was one, left its own entry off, and so does this call. It leaves nobody
+/// asleep to whom it owes a wake (`laws::complete_loses_none`).
 pub fn complete<R: Wait>(rt: &R, domain: &Domain, task: &mut Task, cell: u8)
     requires of { task.old.domain ≡ domain.now }
     requires up { IsUp task.old }
@@ -117,7 +118,7 @@ pub fn complete<R: Wait>(rt: &R, domain: &Domain, task: &mut Task, cell: u8)
 
 /// Completes completion `cell`, below `COMPLETIONS`, for all waiters, those to come as well (kernel/sched/completion.c,
 /// `complete_all`): in one hold of its head the count becomes its end, 4294967295, and all waiters are woken and taken
-/// off their queue. The rest is as in `complete`.
+/// off their queue. The rest is as in `complete` (`laws::complete_all_loses_none`).
 pub fn complete_all<R: Wait>(rt: &R, domain: &Domain, task: &mut Task, cell: u8)
     requires of { task.old.domain ≡ domain.now }
     requires up { IsUp task.old }

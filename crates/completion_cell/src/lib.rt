@@ -6,6 +6,7 @@ pub mod await_calls;
 pub mod awaits;
 pub mod cell_turns;
 pub mod completes;
+pub mod laws;
 
 pub use asks::{is_done, reinit, try_wait};
 pub use await_calls::{begin_await, wait_for};

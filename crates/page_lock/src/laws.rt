@@ -1,5 +1,6 @@
 //! What whole calls on pages make, as the sentences of the model say it.
 
+ghost use Rattle.page_lock.specs.LosesNone.{UnlocksLoseNone};
 ghost use Rattle.page_lock.specs.PageWords.{PageLocksFollow};
 
 /// What a `lock_page` has made follows the sentence of `lockpage`, and the answer is the one that the sentence gives:
@@ -7,4 +8,11 @@ ghost use Rattle.page_lock.specs.PageWords.{PageLocksFollow};
 /// `unlock_page` make the same is said where bits are (`bit_wait::laws`).
 pub fn calls_follow_sentences()
     ensures locks { PageLocksFollow }
+{}
+
+/// An `unlock_page` loses no wakeup. After it, of a task that owed no wake of the page before, in each table that meets
+/// the rule, with the task's list, whoever sleeps on the page while it is clear is covered by another task that owes the
+/// wake; or some task is trying it. So this task leaves nobody.
+pub fn unlock_page_loses_none()
+    ensures { UnlocksLoseNone }
 {}

@@ -25,7 +25,7 @@ use wait_rule::{Domain, Task};
 /// waits for the page and found the bit set, by somebody who took it since the clear and whose own unlock walks again;
 /// and as `End` behind the last member, or where the look showed none. The task is idle, has no entry queued by which
 /// it would try a bit itself, and is idle afterwards; it keeps the page no more, and owes nothing of it; a holder that
-/// owed nothing else owes nothing.
+/// owed nothing else owes nothing. So it leaves nobody asleep (`laws::unlock_page_loses_none`).
 pub fn unlock_page<R: Wait>(rt: &R, domain: &Domain, task: &mut Task, page: u8) -> Walked
     requires of { task.old.domain ≡ domain.now }
     requires up { IsUp task.old }

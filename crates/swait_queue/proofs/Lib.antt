@@ -3,3 +3,4 @@ pub mod SimpleWaitEnds
 pub mod SimpleWakeEnds
 pub mod SimpleWords
 pub mod SwakeHolds
+pub mod LosesNone

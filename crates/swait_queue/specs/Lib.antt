@@ -2,3 +2,4 @@ pub mod SimpleWaits
 pub mod SimpleWakes
 pub mod SimpleWords
 pub mod SwakeTurns
+pub mod LosesNone

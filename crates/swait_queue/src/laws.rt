@@ -1,5 +1,6 @@
 //! What whole calls on simple queues make, as the sentences of the model say it.
 
+ghost use Rattle.swait_queue.specs.LosesNone.{SwakesLoseNone};
 ghost use Rattle.swait_queue.specs.SimpleWords.{SimpleWaitsFollow, SimpleWaitsHeed, SimpleWakesFollow};
 
 /// What a `swait_event`, a `swake_one` and a `swake_all` have made follows the sentences of a simple wait and of the
@@ -14,4 +15,16 @@ pub fn calls_follow_sentences()
 /// left its entry off, and then a load that found its condition not set.
 pub fn signals_are_heeded()
     ensures { SimpleWaitsHeed }
+{}
+
+/// A `swake_one` loses no wakeup, whether its task had set the condition or not. After it, in each table that meets the
+/// rule, with the task's list, whoever sleeps on the condition while it is set is covered by another task that owes the
+/// wake; or wakes used up their count at the head since. So this task leaves nobody.
+pub fn swake_one_loses_none()
+    ensures { SwakesLoseNone }
+{}
+
+/// The same of a `swake_all`.
+pub fn swake_all_loses_none()
+    ensures { SwakesLoseNone }
 {}

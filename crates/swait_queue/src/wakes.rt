@@ -27,7 +27,8 @@ use wq_head::{Rousing, select};
 /// Wakes the first task that waits in the simple queue of condition `cond`, from `FIRST_SIMPLE` on and below
 /// `PLAIN_CONDITIONS` (kernel/sched/swait.c, `swake_up_one`): takes its entry off and wakes it with NORMAL, also where
 /// it was awake. False comes exactly where the queue was empty in its hold. Afterwards the task owes no wake of the
-/// condition, and of all else what it owed, whether it had set the condition or not.
+/// condition, and of all else what it owed, whether it had set the condition or not: it leaves nobody asleep
+/// (`laws::swake_one_loses_none`).
 pub fn swake_one<R: Wait>(rt: &R, domain: &Domain, task: &mut Task, cond: u8) -> bool
     requires of { task.old.domain ≡ domain.now }
     requires up { IsUp task.old }
@@ -46,7 +47,7 @@ pub fn swake_one<R: Wait>(rt: &R, domain: &Domain, task: &mut Task, cond: u8) ->
 /// `PLAIN_CONDITIONS` (kernel/sched/swait.c, `swake_up_all`), in one hold: takes the entries off in the order of the
 /// queue, and wakes the task of each with NORMAL, also where it was awake. The answer is how many there were; none is
 /// left in the hold. Afterwards the task owes no wake of the condition, and of all else what it owed, whether it had
-/// set the condition or not.
+/// set the condition or not: it leaves nobody asleep (`laws::swake_all_loses_none`).
 pub fn swake_all<R: Wait>(rt: &R, domain: &Domain, task: &mut Task, cond: u8) -> u32
     requires of { task.old.domain ≡ domain.now }
     requires up { IsUp task.old }

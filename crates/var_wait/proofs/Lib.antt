@@ -1,3 +1,4 @@
 pub mod VarEnds
 pub mod VarWords
 pub mod Publishing
+pub mod LosesNone

@@ -1,3 +1,4 @@
 pub mod VarWaits
 pub mod VarPublishes
 pub mod VarWords
+pub mod LosesNone

@@ -23,7 +23,8 @@ use wq_head::{active, no_walk, wake};
 /// variables belong to pipes. After the store it looks without the lock whether the variable's head has members
 /// (`waitqueue_active`), and where it has any it walks over its queue with NORMAL, past the entries of bits and of
 /// other variables. `holds` is 0 exactly where the look showed none. The task is idle, and so it is afterwards; it owes
-/// nothing of the variable then, and of all others what it owed.
+/// nothing of the variable then, and of all others what it owed. So it leaves nobody asleep who saw another value
+/// (`laws::publish_var_and_wake_loses_none`).
 pub fn publish_var_and_wake<R: Wait>(
     rt: &R,
     domain: &Domain,

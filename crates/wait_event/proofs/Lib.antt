@@ -6,3 +6,4 @@ pub mod Preparing
 pub mod Entering
 pub mod Removing
 pub mod Words
+pub mod LosesNone

@@ -8,3 +8,4 @@ pub mod Prepares
 pub mod Entries
 pub mod WokenWaits
 pub mod Words
+pub mod LosesNone

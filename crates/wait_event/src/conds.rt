@@ -32,7 +32,8 @@ pub fn take_cond(domain: &Domain, task: &mut Task, cond: u8) -> u64
 /// (a store of the condition, and kernel/sched/wait.c, `__wake_up`). A count of 0 stops at no entry; another ends the
 /// wake after so many exclusive entries whose tasks were woken, which is answered as `Spent`. The task is idle, and so
 /// it is afterwards. With the Normal mode it owes nothing of the condition then; with the Interruptible one it owes
-/// what it owed of it to the others, and of all other conditions what it owed before.
+/// what it owed of it to the others, and of all other conditions what it owed before. So it leaves nobody asleep for
+/// whom the wake was (`laws::set_and_wake_loses_none`).
 pub fn set_and_wake<R: Wait>(
     rt: &R,
     domain: &Domain,

@@ -1,5 +1,6 @@
 //! What whole calls make, as the sentences of the model say it.
 
+ghost use Rattle.wait_event.specs.LosesNone.{SetsLoseNone};
 ghost use Rattle.wait_event.specs.Words.{SetsFollow, TakesFollow, WaitsFollow, WaitsHeed, WaitsSay, WokensFollow};
 
 /// What a `wait_event`, a `wait_woken`, a `take_cond` and a `set_and_wake` have made follows the sentences of a wait, a
@@ -17,4 +18,11 @@ pub fn calls_follow_sentences()
 /// left its entry off, and then a load that found its condition not set.
 pub fn signals_are_heeded()
     ensures { WaitsHeed }
+{}
+
+/// A `set_and_wake` loses no wakeup. After it, in each table that meets the rule, with the task's list, whoever sleeps
+/// on the condition while it is set, in a state that the mode meets, is covered by another task that owes the wake; or
+/// wakes used up their count at the head since that task's last look there. So this task leaves nobody.
+pub fn set_and_wake_loses_none()
+    ensures { SetsLoseNone }
 {}

@@ -2,6 +2,7 @@
 pub mod Moments
 pub mod TableLaws
 pub mod PlainDebts
+pub mod LosesNone
 pub mod HandedPermits
 pub mod HandedSteps
 pub mod HeldPermits

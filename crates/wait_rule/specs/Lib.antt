@@ -25,6 +25,7 @@ pub mod Unlocks
 pub mod TableLaws
 pub mod DebtLaws
 pub mod Setters
+pub mod LosesNone
 pub mod TallyLaws
 pub mod PipeSays
 pub mod FlagLaws

@@ -24,6 +24,7 @@ ghost use Rattle.wait_rule.specs.Aside.{CallsGrowAside, ItemsStayOff, ProgramsLe
 ghost use Rattle.wait_rule.specs.PipeLaws.{RuleDelivers, JoinedDeliver, JoinedRefuse, ProgramsKeepEnds, RuleRefuses};
 ghost use Rattle.wait_rule.specs.PipeLaws.{WalksKeepEnds};
 ghost use Rattle.wait_rule.specs.DebtLaws.{CleanOwesNothing, RuleTellsDebts};
+ghost use Rattle.wait_rule.specs.LosesNone.{OwersLeaveNone, SettledLeaveNone};
 ghost use Rattle.wait_rule.specs.TallyLaws.{RuleSumsTallies, AllSumTallies, AddsCount, JoinsCount};
 ghost use Rattle.wait_rule.specs.TallyLaws.{NewcomersCountNone, ForksCountNone, ProgramsAddNone, ProgramsKeepNumbers};
 ghost use Rattle.wait_rule.specs.Unlocks.{AllUnlocksCount};
@@ -242,4 +243,13 @@ pub fn worked_events()
 pub fn clean_owes_nothing()
     ensures clean { CleanOwesNothing }
     ensures told { RuleTellsDebts }
+{}
+
+/// No wake is lost at a task that owes none of a watch: it leaves nobody asleep on it. In each table that meets the
+/// rule, with the task's list, whoever sleeps on the watch while it is set is covered by another task; or wakes used up
+/// their count at its head since; or, at a bit, some task is trying it. The crates of the calls that wake say of each
+/// of these that the task leaves nobody after it.
+pub fn wakers_lose_none()
+    ensures settled { SettledLeaveNone }
+    ensures owers { OwersLeaveNone }
 {}

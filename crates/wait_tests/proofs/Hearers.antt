@@ -12,7 +12,7 @@ use Rattle.wait_event.specs.Waits.{own_of}
 use Rattle.wait_event.specs.WokenWaits.{HasHeard}
 
 -- what owes nothing but the own entry, by the number that the task had
-owes_own : (old new : Known) → new.view.number ≡ old.view.number → Owes (with_entry (own_of old) no_excuse) new
+pub owes_own : (old new : Known) → new.view.number ≡ old.view.number → Owes (with_entry (own_of old) no_excuse) new
     → Owes (with_entry (own_of new) no_excuse) new
 owes_own old new number = subst (λ (n : ℕ). Owes (with_entry (index n 0) no_excuse) new) (sym number)
 

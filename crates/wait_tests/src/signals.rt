@@ -3,19 +3,15 @@
 
 mod threads;
 
-ghost use Rattle.std.specs.Prelude.{◌≡◌};
-ghost use Rattle.wait_tests.specs.CompletionTasks.{IsReleased};
-
 use crate::bits::alone::take;
+use crate::completions::calls::wait_for;
 use bit_wait::{BitEnd, wait_on_bit, wait_on_bit_lock};
-use completion_cell::wait_for;
-use std::sync::Wait;
 use std::test::Fail;
 use swait_queue::swait_event;
 use wait_event::{WaitEnd, wait_event};
 use wait_model::layout::FIRST_SIMPLE;
 use wait_model::tasks::{How, SleepState};
-use wait_rule::{Domain, Task, send_signal};
+use wait_rule::{Domain, send_signal};
 
 /// Whether a signal ended a wait whose condition was not set, and which no wake had selected.
 fn is_signalled(end: Result<(), WaitEnd>) -> bool {
@@ -34,21 +30,6 @@ fn interrupted(end: Result<(), BitEnd>) -> Option<u64> {
         Err(BitEnd::Interrupted { seen }) => Some(seen),
         _ => None,
     }
-}
-
-/// Waits for completion 3: what the wait answers.
-fn await_three<R: Wait>(
-    rt: &R,
-    domain: &Domain,
-    task: &mut Task,
-    state: SleepState,
-) -> Result<(), WaitEnd>
-    requires of { task.old.domain ≡ domain.now }
-    requires released { IsReleased task.old }
-    ensures of { task.new.domain ≡ domain.now }
-    ensures released { IsReleased task.new }
-{
-    wait_for(rt, domain, task, 3, state)
 }
 
 /// A wait for a bit that is set tells what its word held.
@@ -79,7 +60,7 @@ fn signal_ends_a_wait_that_takes_a_bit(rt: HostRuntime) -> Result<(), Fail> {
     Ok(())
 }
 
-/// A wait for a completion that nobody made tells that none was done.
+/// A wait for a completion that nobody made ends without one.
 #[test]
 fn signal_ends_a_wait_for_a_completion(rt: HostRuntime) -> Result<(), Fail> {
     let (domain, mut waiter) = Domain::new(rt.alloc())?;
@@ -87,8 +68,7 @@ fn signal_ends_a_wait_for_a_completion(rt: HostRuntime) -> Result<(), Fail> {
         panic!(rt; "a number is spare")
     };
     send_signal(&rt, &domain, &mut sender, waiter.number(), false);
-    let end = await_three(&rt, &domain, &mut waiter, SleepState::Interruptible);
-    assert!(rt; is_signalled(end));
+    assert!(rt; !wait_for(&rt, &domain, &mut waiter, 3, SleepState::Interruptible));
     Ok(())
 }
 

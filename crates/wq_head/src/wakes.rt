@@ -101,7 +101,7 @@ fn begun(aim: Aim) -> Walking
 /// its task and handed it over, whatever the state of that task; the first that finds the page taken ends the walk,
 /// which answers `Stopped`. A hold that has called more than `BREAK` entries puts a bookmark before the next member,
 /// gives the lock back and goes on there, with what is left of the count. Afterwards the task owes no wake of the
-/// watch to the tasks in the states of the mode.
+/// watch to the tasks in the states of the mode, and leaves none of them asleep (`laws::wake_loses_none`).
 pub fn wake<R: Wait>(
     rt: &R,
     domain: &Domain,

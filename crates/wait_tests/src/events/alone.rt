@@ -90,7 +90,7 @@ pub(crate) fn prepare_asking<R: Wait>(
 }
 
 /// An entry that is added and removed: true where there was a place for it.
-pub(crate) fn enter_and_leave<R: Wait>(rt: &R, domain: &Domain, task: &mut Task, form: Form) -> bool
+fn enter_and_leave<R: Wait>(rt: &R, domain: &Domain, task: &mut Task, form: Form) -> bool
     requires of { task.old.domain ≡ domain.now }
     requires ready { IsReadyToWait task.old }
     requires first { task.old.view.number ≡ 0 }

@@ -4,13 +4,13 @@ ghost use Rattle.std.specs.Prelude.{◌≡◌};
 ghost use Rattle.wait_tests.specs.EventTasks.{IsReadyToWait};
 
 use super::met_nobody;
-use crate::events::alone::{enter_and_leave, prepare_asking, prepare_first, prepare_shared};
+use crate::events::alone::{prepare_asking, prepare_first, prepare_shared};
 use std::sync::Wait;
 use std::test::Fail;
-use wait_event::{set_and_wake, wait_event};
+use wait_event::{add_entry, remove_entry, set_and_wake, wait_event};
 use wait_model::queues::{Form, Walked};
 use wait_model::tasks::{How, SleepState};
-use wait_model::watches::Mode;
+use wait_model::watches::{Kind, Mode};
 use wait_rule::{Domain, Task};
 
 /// A wait that no signal ends, and that no wake selects.
@@ -24,7 +24,6 @@ fn set_one<R: Wait>(rt: &R, domain: &Domain, task: &mut Task) -> Walked
     requires of { task.old.domain ≡ domain.now }
     requires ready { IsReadyToWait task.old }
     ensures of { task.new.domain ≡ domain.now }
-    ensures number { task.new.view.number ≡ task.old.view.number }
     ensures ready { IsReadyToWait task.new }
 {
     set_and_wake(rt, domain, task, 0, 1, Mode::Normal, 1)
@@ -35,10 +34,23 @@ fn wait_for_it<R: Wait>(rt: &R, domain: &Domain, task: &mut Task) -> bool
     requires of { task.old.domain ≡ domain.now }
     requires ready { IsReadyToWait task.old }
     ensures of { task.new.domain ≡ domain.now }
-    ensures number { task.new.view.number ≡ task.old.view.number }
     ensures ready { IsReadyToWait task.new }
 {
     wait_event(rt, domain, task, 0, SHARED).is_ok()
+}
+
+/// Adds an entry at the front for condition 1, and removes it: true where there was a place for it.
+fn enter_and_leave<R: Wait>(rt: &R, domain: &Domain, task: &mut Task) -> bool
+    requires of { task.old.domain ≡ domain.now }
+    requires ready { IsReadyToWait task.old }
+{
+    match add_entry(rt, domain, task, 1, Kind::Default, Form::Front) {
+        Ok(()) => {
+            remove_entry(rt, domain, task);
+            true
+        }
+        Err(_worn) => false,
+    }
 }
 
 #[test]
@@ -49,7 +61,7 @@ fn parts_then_a_wait_then_an_entry(rt: HostRuntime) -> Result<(), Fail> {
     assert!(rt; prepare_asking(&rt, &domain, &mut task, 0, SHARED));
     let walked = set_one(&rt, &domain, &mut task);
     let over = wait_for_it(&rt, &domain, &mut task);
-    let left = enter_and_leave(&rt, &domain, &mut task, Form::Front);
+    let left = enter_and_leave(&rt, &domain, &mut task);
     assert!(rt; met_nobody(walked, 1));
     assert!(rt; over);
     assert!(rt; left);

@@ -44,18 +44,19 @@ fn set_it<R: Wait>(rt: &R, domain: &Domain, mut task: Task) -> Task
     task
 }
 
-/// Wakes task `who` until a wake has met it, in mid-wait, and raises a signal at it then.
-fn wake_then_signal<R: Wait>(rt: &R, domain: &Domain, task: &mut Task, who: u8, fatal: bool)
-    requires of { task.old.domain ≡ domain.now }
-    requires up { IsUp task.old }
+/// Wakes task `who` until a wake has met it, in mid-wait, raises a signal at it then, and gives the task back.
+fn wake_then_signal<R: Wait>(rt: &R, domain: &Domain, mut task: Task, who: u8, fatal: bool) -> Task
+    requires of { task.domain ≡ domain.now }
+    requires up { IsUp task }
 {
     for _ in rt.forever() {
-        if wake_task(rt, domain, task, who, Mode::Normal) {
-            break;
+        if wake_task(rt, domain, &mut task, who, Mode::Normal) {
+            send_signal(rt, domain, &mut task, who, fatal);
+            return task;
         }
         thread::yield_now();
     }
-    send_signal(rt, domain, task, who, fatal);
+    unreachable!()
 }
 
 /// A killable wait, and a setter that follows it, each in a thread of its own: whether the condition was set.
@@ -99,7 +100,7 @@ fn wait_and_kill<R: Threads + Wait + Sync>(
     rt: &R,
     domain: &Domain,
     waiter: Task,
-    mut sender: Task,
+    sender: Task,
 ) -> bool
     requires of { (waiter.domain ≡ domain.now) × (sender.domain ≡ domain.now) }
     requires clean { IsClean waiter × IsClean sender }
@@ -110,12 +111,9 @@ fn wait_and_kill<R: Threads + Wait + Sync>(
         move || -> (Task, bool)
             requires { (waiter.domain ≡ domain.now) × IsClean waiter }
         { wait_killable(rt, domain, waiter) },
-        move || -> bool
+        move || -> Task
             requires { (sender.domain ≡ domain.now) × IsClean sender }
-        {
-            wake_then_signal(rt, domain, &mut sender, who, true);
-            true
-        },
+        { wake_then_signal(rt, domain, sender, who, true) },
     );
     over
 }
@@ -147,7 +145,7 @@ fn lock_and_signal<R: Threads + Wait + Sync>(
     rt: &R,
     domain: &Domain,
     waiter: Task,
-    mut sender: Task,
+    sender: Task,
 ) -> Option<u64>
     requires of { (waiter.domain ≡ domain.now) × (sender.domain ≡ domain.now) }
     requires clean { IsClean waiter × IsClean sender }
@@ -158,12 +156,9 @@ fn lock_and_signal<R: Threads + Wait + Sync>(
         move || -> Option<u64>
             requires { (waiter.domain ≡ domain.now) × IsClean waiter }
         { lock_in_vain(rt, domain, waiter) },
-        move || -> bool
+        move || -> Task
             requires { (sender.domain ≡ domain.now) × IsClean sender }
-        {
-            wake_then_signal(rt, domain, &mut sender, who, false);
-            true
-        },
+        { wake_then_signal(rt, domain, sender, who, false) },
     );
     seen
 }

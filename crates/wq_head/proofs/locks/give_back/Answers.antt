@@ -3,6 +3,7 @@ use Rattle.wait_rule.specs.declared.journal.Item.TheVariants as item
 use Rattle.wait_rule.specs.Tickets.{given}
 use Rattle.wait_rule.specs.Known.{Known}
 use Rattle.wait_rule.specs.Says.{added}
+use Rattle.wq_head.proofs.CarriedHolds.{unlock_carried}
 use Rattle.wq_head.proofs.locks.give_back.Goals as goal
 
 pub serve-requires-clause-given : goal.serve-requires-clause-given
@@ -17,3 +18,6 @@ returns-clause-given c = c.serve.ensures.served ∙ ap (λ (k : Known). added k 
 
 pub returns-clause-head : goal.returns-clause-head
 returns-clause-head c = c.serve.ensures.head ∙ ap (λ (k : Known). k.at) c.unlock_step.ensures
+
+pub returns-clause-carries : goal.returns-clause-carries
+returns-clause-carries c = unlock_carried c.args.task.now c.serve.new.task c.args.spent (returns-clause-given c)

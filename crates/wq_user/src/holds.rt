@@ -8,6 +8,7 @@ use std::sync::Wait;
 use wait_model::watches::{Mode, Watch};
 use wait_rule::queues::publish;
 use wait_rule::{Domain, Task};
+use wq_head::locks::give_back;
 use wq_head::{has_members, lock, unlock, wake};
 
 /// Takes the lock of head `head`, which is none of a completion, and gives it back. The task owes nothing before and
@@ -21,6 +22,18 @@ pub fn pass<R: Wait>(rt: &R, domain: &Domain, task: &mut Task, head: u16)
 {
     lock(rt, domain, task, head);
     unlock(rt, domain, task, false);
+}
+
+/// The same, where the wake of who parks for the lock is a step of its own.
+pub fn pass_in_parts<R: Wait>(rt: &R, domain: &Domain, task: &mut Task, head: u16)
+    requires of { task.old.domain ≡ domain.now }
+    requires clean { IsClean task.old }
+    requires head { head < FIRST_DONE_HEAD }
+    ensures of { task.new.domain ≡ domain.now }
+    ensures clean { IsClean task.new }
+{
+    lock(rt, domain, task, head);
+    give_back(domain, task, false).wake(domain);
 }
 
 /// Says whether head `head`, which is none of a completion, has members.

@@ -26,17 +26,6 @@ fn words(rt: &HostRuntime) -> io::Result<Vec<String>> {
     Ok(words)
 }
 
-/// The watchers of a copy: one adds up the lengths of its pieces, and one counts the ends of lines.
-fn watchers(alloc: Global) -> Result<FuncHead, AllocError> {
-    let mut watch = FuncHead::new(alloc);
-    let lengths = Box::new(alloc, Lengths { bytes: 0 })?;
-    let lines = Box::new(alloc, Lines { ends: 0 })?;
-    if watch.add_exclusive(lengths).is_err() || watch.add_exclusive(lines).is_err() {
-        return Err(AllocError);
-    }
-    Ok(watch)
-}
-
 /// Does what the words say, with a Domain of its own. It names no folder, source or sink, so that what `run` says of
 /// theirs stays as it is.
 fn run_over<R: Threads + Wait + Sync, F: Folder, I: Source, O: Sink, E: Sink>(
@@ -56,16 +45,23 @@ fn run_over<R: Threads + Wait + Sync, F: Folder, I: Source, O: Sink, E: Sink>(
     Ok(status)
 }
 
-/// Does what the words say, over the files and the streams of the system.
+/// Does what the words say, over the files and the streams of the system, with two watchers for a copy: one adds up the
+/// lengths of its pieces, and one counts the ends of lines.
 fn start<R: Threads + Wait + Sync>(
     rt: &R,
     host: &HostRuntime,
     words: &[String],
 ) -> Result<u8, AllocError> {
-    let watch = watchers(host.alloc())?;
+    let alloc = host.alloc();
+    let mut watch = FuncHead::new(alloc);
+    let lengths = Box::new(alloc, Lengths { bytes: 0 })?;
+    let lines = Box::new(alloc, Lines { ends: 0 })?;
+    if watch.add_exclusive(lengths).is_err() || watch.add_exclusive(lines).is_err() {
+        return Err(AllocError);
+    }
     run_over(
         rt,
-        host.alloc(),
+        alloc,
         words,
         &mut Disk::new(host),
         &mut Reading::new(host.stdin()),

@@ -1,7 +1,7 @@
 //! Pieces of bytes that one task puts into a pipe, and another one takes out.
 
 ghost use Rattle.std.specs.Prelude.{◌≡◌};
-ghost use Rattle.wait_event.specs.Ends.{IsOut};
+ghost use Rattle.wait_class.specs.Posts.{IsOut};
 ghost use Rattle.wait_pipe.specs.Pieces.{IsSettled};
 ghost use Rattle.wait_rule.specs.PipeSays.{reading, writing};
 ghost use Rattle.wait_rule.specs.Queues.{IsIdle};

@@ -22,8 +22,8 @@ use Rattle.wait_rule.specs.Says.{IsFree, history_of, told_of}
 use Rattle.wait_rule.specs.Stays.{Change}
 use Rattle.wait_rule.specs.Transitions.{call_program}
 use Rattle.wait_event.specs.Ends.{wait_change}
-use Rattle.wait_event.specs.Posts.{Runs}
-use Rattle.wait_event.specs.Waits.{EndsWith}
+use Rattle.wait_class.specs.Posts.{Runs}
+use Rattle.wait_class.specs.Posts.{EndsWith}
 use Rattle.bit_wait.specs.BitWaits.{has_sleep, head_in}
 use Rattle.bit_wait.specs.declared.wait_calls.BitEnd.{BitEnd}
 use Rattle.bit_wait.specs.declared.wait_calls.BitEnd.TheVariants as bit_end

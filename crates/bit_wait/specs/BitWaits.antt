@@ -48,8 +48,8 @@ use Rattle.wait_rule.specs.Ends.{WasWorn}
 use Rattle.wait_rule.specs.Says.{IsUp, IsDown, history_of}
 use Rattle.wait_rule.specs.Queues.{index}
 use Rattle.wait_rule.specs.Transitions.{Program, call_program}
-use Rattle.wait_event.specs.Posts.{Post, Stands, post_at, Keeps, Runs}
-use Rattle.wait_event.specs.Waits.{EndsWith}
+use Rattle.wait_class.specs.Posts.{Post, Stands, post_at, Keeps, Runs}
+use Rattle.wait_class.specs.Posts.{EndsWith}
 use Rattle.bit_wait.specs.declared.waits.BitRun.{BitRun}
 use Rattle.bit_wait.specs.declared.waits.BitStage.{BitStage}
 use Rattle.bit_wait.specs.declared.waits.BitStage.TheVariants as stage

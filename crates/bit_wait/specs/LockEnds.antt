@@ -17,8 +17,8 @@ use Rattle.wait_rule.specs.declared.journal.Item.TheVariants as item
 use Rattle.wait_rule.specs.Known.{Known}
 use Rattle.wait_rule.specs.Says.{added, history_of}
 use Rattle.wait_rule.specs.Transitions.{call_program}
-use Rattle.wait_event.specs.Posts.{Runs}
-use Rattle.wait_event.specs.Waits.{EndsWith}
+use Rattle.wait_class.specs.Posts.{Runs}
+use Rattle.wait_class.specs.Posts.{EndsWith}
 use Rattle.bit_wait.specs.BitEnds.{answer_of}
 use Rattle.bit_wait.specs.BitWaits.{has_sleep}
 use Rattle.bit_wait.specs.LockWaits.{head_in}

@@ -50,9 +50,9 @@ use Rattle.wait_rule.specs.Bits.{KeepsBitOf}
 use Rattle.wait_rule.specs.Says.{IsUp, IsDown, history_of, told_of}
 use Rattle.wait_rule.specs.Queues.{index}
 use Rattle.wait_rule.specs.Transitions.{Program, call_program}
-use Rattle.wait_event.specs.Posts.{Post, Stands, post_at, Runs}
+use Rattle.wait_class.specs.Posts.{Post, Stands, post_at, Runs}
 use Rattle.bit_wait.specs.LockStays.{LockKeeps}
-use Rattle.wait_event.specs.Waits.{EndsWith}
+use Rattle.wait_class.specs.Posts.{EndsWith}
 use Rattle.bit_wait.specs.BitWaits.{has_sleep}
 use Rattle.bit_wait.specs.declared.lock_waits.LockRun.{LockRun}
 use Rattle.bit_wait.specs.declared.lock_waits.LockStage.{LockStage}

@@ -7,7 +7,7 @@ ghost use Rattle.wait_model.specs.declared.watches.Watch.TheVariants as watch;
 ghost use Rattle.wait_rule.specs.PassedLocks.{PassesNone};
 ghost use Rattle.wait_rule.specs.Queues.{IsIdle, IsTold};
 ghost use Rattle.wait_rule.specs.Says.{IsClean, IsUp};
-ghost use Rattle.wait_event.specs.Ends.{IsOut};
+ghost use Rattle.wait_class.specs.Posts.{IsOut};
 ghost use Rattle.wq_head.specs.declared.locks.TheConstants.{LOOKS};
 ghost use Rattle.bit_wait.specs.declared.lock_waits.LockStage.TheVariants as stage;
 ghost use Rattle.bit_wait.specs.declared.lock_waits.LockTurn.TheVariants as turn;

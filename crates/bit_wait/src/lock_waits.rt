@@ -3,8 +3,8 @@
 ghost use Rattle.std.specs.Prelude.{◌≡◌, ◌⊎◌, is_some, false, true};
 ghost use Rattle.wait_model.specs.declared.watches.Watch.TheVariants as watch;
 ghost use Rattle.wait_model.specs.Tasks.{task_of};
-ghost use Rattle.wait_event.specs.Posts.{HasSeenOwn};
-ghost use Rattle.wait_event.specs.Waits.{nothing, with_entry, with_own, with_value};
+ghost use Rattle.wait_class.specs.Posts.{HasSeenOwn};
+ghost use Rattle.wait_class.specs.Findings.{nothing, with_entry, with_own, with_value};
 ghost use Rattle.wait_rule.specs.PassedLocks.{PassesNone};
 ghost use Rattle.wait_rule.specs.Says.{IsUp};
 ghost use Rattle.bit_wait.specs.declared.lock_waits.LockStage.TheVariants as stage;

@@ -51,11 +51,11 @@ use Rattle.wait_rule.proofs.KnownLaws.Transitions.{only_none}
 use Rattle.wait_rule.proofs.TableSteps.ItemLists.{steps_append}
 use Rattle.wq_head.specs.Holds.{HasLocked, HasUnlocked}
 use Rattle.wait_event.specs.Entries.{hold_change}
-use Rattle.wait_event.specs.Posts.{Runs}
-use Rattle.wait_event.specs.Waits.{with_value}
+use Rattle.wait_class.specs.Posts.{Runs}
+use Rattle.wait_class.specs.Findings.{with_value}
 use Rattle.wait_event.proofs.Entering.{hold_carried, looked_carried}
-use Rattle.wait_event.proofs.Ground.Going.{runs_none, runs_on}
-use Rattle.wait_event.proofs.Events.Trails.{unlocked_history}
+use Rattle.wait_class.proofs.Ground.Going.{runs_none, runs_on}
+use Rattle.wait_class.proofs.Histories.{unlocked_history}
 use Rattle.completion_cell.specs.Asks.{BeginsWith, Counted, Decides, HasAsked, HasReset, HasTried, TakesOne, yes_or_no}
 use Rattle.completion_cell.proofs.Ground.{
   as_looks,

@@ -70,9 +70,9 @@ use Rattle.wq_head.proofs.LockWaits.{turn_of}
 use Rattle.wq_head.proofs.SelectedRuns.{lock_goes, selected_ends}
 use Rattle.wq_head.proofs.SimpleHolds.{own_done, simple_ended}
 use Rattle.wait_event.specs.Conds.{set_change}
-use Rattle.wait_event.specs.Posts.{Runs}
-use Rattle.wait_event.specs.Waits.{nothing, with_value}
-use Rattle.wait_event.proofs.Ground.Going.{runs_none, runs_on, runs_one}
+use Rattle.wait_class.specs.Posts.{Runs}
+use Rattle.wait_class.specs.Findings.{nothing, with_value}
+use Rattle.wait_class.proofs.Ground.Going.{runs_none, runs_on, runs_one}
 use Rattle.completion_cell.specs.Asks.{Counted}
 use Rattle.completion_cell.specs.Completes.{HasCompleted, HasCompletedAll, RaisesOne}
 use Rattle.completion_cell.proofs.Ground.{count_after_step, quiet_store, step_behind}

@@ -20,8 +20,10 @@ use Rattle.wait_rule.specs.Stays.{Carries, with_left_entry}
 use Rattle.wait_rule.specs.Transitions.{Goes, Program, call_program}
 use Rattle.wait_rule.proofs.KnownLaws.StayingParts.{owes_also, owes_left, owes_off, owes_out}
 use Rattle.wait_rule.proofs.KnownLaws.CalledPermits.{shows_none}
-use Rattle.wait_event.specs.Ends.{IsOut, wait_change}
-use Rattle.wait_event.specs.Waits.{EndsWith, own_of, queues}
+use Rattle.wait_class.specs.Posts.{IsOut}
+use Rattle.wait_event.specs.Ends.{wait_change}
+use Rattle.wait_class.specs.Posts.{EndsWith, own_of}
+use Rattle.wait_event.specs.Waits.{queues}
 use Rattle.wait_event.proofs.Events.Endings.{none_of}
 use Rattle.completion_cell.specs.AwaitEnds.{EndsAwait, HasAwaited, end_in}
 use Rattle.completion_cell.specs.Awaits.{

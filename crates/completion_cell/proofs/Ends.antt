@@ -42,11 +42,11 @@ use Rattle.wait_rule.specs.Tickets.{no_ticket}
 use Rattle.wait_rule.specs.Transitions.{Finds, FindsAt, IsSeenAs, Program, by_step}
 use Rattle.wait_rule.proofs.KnownLaws.Transitions.{only_none}
 use Rattle.wq_head.proofs.CarriedHolds.{unlock_carried}
-use Rattle.wait_event.specs.Posts.{IsStateFor, Post, Stands}
-use Rattle.wait_event.specs.Waits.{nothing, with_value}
+use Rattle.wait_class.specs.Posts.{IsStateFor, Post, Stands}
+use Rattle.wait_class.specs.Findings.{nothing, with_value}
 use Rattle.wait_event.proofs.Entering.{unlock_looks}
-use Rattle.wait_event.proofs.Ground.Keeping.{keeps_of}
-use Rattle.wait_event.proofs.Ground.Standing.{still_stands}
+use Rattle.wait_class.proofs.Ground.Keeping.{keeps_of}
+use Rattle.wait_class.proofs.Ground.Standing.{still_stands}
 use Rattle.completion_cell.specs.Asks.{Counted, TakesOne}
 use Rattle.completion_cell.specs.Awaits.{
   CellKeeps,

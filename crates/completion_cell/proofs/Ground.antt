@@ -66,11 +66,12 @@ use Rattle.wait_rule.proofs.TableSteps.ItemLists.{steps_append}
 use Rattle.wq_head.specs.Holds.{HasLocked}
 use Rattle.wq_head.proofs.LockWaits.{turn_looks, turn_of}
 use Rattle.wait_event.specs.Entries.{hold_change}
-use Rattle.wait_event.specs.Posts.{Runs}
-use Rattle.wait_event.specs.Waits.{is_queue, nothing, queues, with_value}
+use Rattle.wait_class.specs.Posts.{Runs}
+use Rattle.wait_event.specs.Waits.{is_queue, queues}
+use Rattle.wait_class.specs.Findings.{nothing, with_value}
 use Rattle.wait_event.proofs.Entering.{runs_lock, unlock_looks}
 use Rattle.wait_event.proofs.Events.Turns.{either_event}
-use Rattle.wait_event.proofs.Ground.Going.{runs_one}
+use Rattle.wait_class.proofs.Ground.Going.{runs_one}
 
 -- the head of a completion is there
 pub head_there : (d : ℕ) → d < COMPLETIONS → head_of (watch.Done d) < HEADS

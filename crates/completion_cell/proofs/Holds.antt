@@ -12,8 +12,8 @@ use Rattle.wait_model.specs.Programs.{await_after, prepares_from, zero_answer}
 use Rattle.wait_model.specs.Tasks.{looks_in}
 use Rattle.wait_rule.specs.Known.{Known}
 use Rattle.wait_rule.specs.Says.{history_of}
-use Rattle.wait_event.specs.Waits.{EndsWith}
-use Rattle.wait_event.proofs.Events.Trails.{ends_more}
+use Rattle.wait_class.specs.Posts.{EndsWith}
+use Rattle.wait_class.proofs.Histories.{ends_more}
 use Rattle.completion_cell.specs.Awaits.{
   Counts,
   EndsAs,

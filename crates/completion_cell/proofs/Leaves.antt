@@ -17,9 +17,10 @@ use Rattle.wait_rule.specs.Says.{history_of, unlocked_with}
 use Rattle.wait_rule.specs.Transitions.{by_step}
 use Rattle.wait_rule.proofs.KnownLaws.Transitions.{only_none}
 use Rattle.wq_head.proofs.CarriedHolds.{unlock_carried}
-use Rattle.wait_event.specs.Waits.{EndsWith, nothing, own_of}
+use Rattle.wait_class.specs.Posts.{EndsWith, own_of}
+use Rattle.wait_class.specs.Findings.{nothing}
 use Rattle.wait_event.proofs.Entering.{unlock_looks}
-use Rattle.wait_event.proofs.Events.Trails.{ends_more}
+use Rattle.wait_class.proofs.Histories.{ends_more}
 use Rattle.completion_cell.specs.Awaits.{
   EndsAs,
   Enters,

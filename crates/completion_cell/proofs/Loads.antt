@@ -21,11 +21,11 @@ use Rattle.wait_rule.specs.Stays.{Carries, unchanged, with_entry, with_left_entr
 use Rattle.wait_rule.specs.Transitions.{by_step}
 use Rattle.wait_rule.proofs.KnownLaws.TaskHistories.{history_after}
 use Rattle.wait_rule.proofs.KnownLaws.Transitions.{only_none}
-use Rattle.wait_event.specs.Posts.{Post, Stands}
-use Rattle.wait_event.specs.Waits.{with_value}
-use Rattle.wait_event.proofs.Ground.Going.{runs_one}
-use Rattle.wait_event.proofs.Ground.Keeping.{keeps_of}
-use Rattle.wait_event.proofs.Ground.Standing.{home_waits}
+use Rattle.wait_class.specs.Posts.{Post, Stands}
+use Rattle.wait_class.specs.Findings.{with_value}
+use Rattle.wait_class.proofs.Ground.Going.{runs_one}
+use Rattle.wait_class.proofs.Ground.Keeping.{keeps_of}
+use Rattle.wait_class.proofs.Ground.Standing.{home_waits}
 use Rattle.completion_cell.specs.Awaits.{Counts, Part, StandsAt, await_call, await_program, post_of}
 use Rattle.completion_cell.specs.declared.awaits.AwaitRun.{AwaitRun}
 use Rattle.completion_cell.proofs.Ground.{count_after_step, step_behind}

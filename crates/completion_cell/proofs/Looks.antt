@@ -15,10 +15,10 @@ use Rattle.wait_rule.specs.Stays.{Carries, unchanged, with_entry, with_left_entr
 use Rattle.wait_rule.specs.Transitions.{by_step}
 use Rattle.wait_rule.proofs.KnownLaws.TaskHistories.{history_after}
 use Rattle.wait_rule.proofs.KnownLaws.Transitions.{only_none}
-use Rattle.wait_event.specs.Posts.{Stands}
-use Rattle.wait_event.specs.Waits.{with_own}
-use Rattle.wait_event.proofs.Ground.Going.{runs_one}
-use Rattle.wait_event.proofs.Ground.Keeping.{keeps_of}
+use Rattle.wait_class.specs.Posts.{Stands}
+use Rattle.wait_class.specs.Findings.{with_own}
+use Rattle.wait_class.proofs.Ground.Going.{runs_one}
+use Rattle.wait_class.proofs.Ground.Keeping.{keeps_of}
 use Rattle.completion_cell.specs.Awaits.{LooksFor, StandsAt, await_program, post_of}
 use Rattle.completion_cell.specs.declared.awaits.AwaitRun.{AwaitRun}
 use Rattle.completion_cell.proofs.Ground.{step_behind}

@@ -21,14 +21,15 @@ use Rattle.wait_rule.proofs.KnownLaws.TaskHistories.{history_after}
 use Rattle.wait_rule.proofs.KnownLaws.Transitions.{only_none}
 use Rattle.wq_head.specs.Adds.{HasRemoved}
 use Rattle.wq_head.specs.Holds.{IsHolding}
-use Rattle.wait_event.specs.Posts.{HasSeenOwn, Post, Stands}
-use Rattle.wait_event.specs.Waits.{nothing, own_of}
-use Rattle.wait_event.proofs.Events.Pares.{owner_own}
-use Rattle.wait_event.proofs.Events.States.{state_keeps, state_looks, state_stands, state_up}
-use Rattle.wait_event.proofs.Events.Trails.{stored_history, two_more}
-use Rattle.wait_event.proofs.Ground.Going.{runs_looks}
-use Rattle.wait_event.proofs.Ground.Keeping.{keeps_of, keeps_on, keeps_taken}
-use Rattle.wait_event.proofs.Ground.Standing.{
+use Rattle.wait_class.specs.Posts.{HasSeenOwn, Post, Stands}
+use Rattle.wait_class.specs.Findings.{nothing}
+use Rattle.wait_class.specs.Posts.{own_of}
+use Rattle.wait_class.proofs.Ground.Standing.{owner_own}
+use Rattle.wait_class.proofs.Ground.Standing.{state_keeps, state_looks, state_stands, state_up}
+use Rattle.wait_class.proofs.Histories.{stored_history, two_more}
+use Rattle.wait_class.proofs.Ground.Going.{runs_looks}
+use Rattle.wait_class.proofs.Ground.Keeping.{keeps_of, keeps_on, keeps_taken}
+use Rattle.wait_class.proofs.Ground.Standing.{
   carried_stands,
   finds_own,
   seen_home,

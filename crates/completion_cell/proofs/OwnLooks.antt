@@ -11,11 +11,11 @@ use Rattle.wait_model.specs.Runs.{own}
 use Rattle.wait_rule.specs.Known.{Known}
 use Rattle.wait_rule.specs.Says.{history_of}
 use Rattle.wait_rule.specs.Stays.{only_looks, with_entry, with_left_entry}
-use Rattle.wait_event.specs.Posts.{HasSeenOwn, Post}
-use Rattle.wait_event.specs.Waits.{own_of}
-use Rattle.wait_event.proofs.Ground.Going.{runs_looks}
-use Rattle.wait_event.proofs.Ground.Keeping.{keeps_of}
-use Rattle.wait_event.proofs.Ground.Standing.{seen_home, seen_looks, seen_stands}
+use Rattle.wait_class.specs.Posts.{HasSeenOwn, Post}
+use Rattle.wait_class.specs.Posts.{own_of}
+use Rattle.wait_class.proofs.Ground.Going.{runs_looks}
+use Rattle.wait_class.proofs.Ground.Keeping.{keeps_of}
+use Rattle.wait_class.proofs.Ground.Standing.{seen_home, seen_looks, seen_stands}
 use Rattle.completion_cell.specs.Awaits.{
   Part,
   Reaches,

@@ -8,15 +8,15 @@ use Rattle.wait_model.specs.declared.points.Point.{Point}
 use Rattle.wait_rule.specs.Known.{Known}
 use Rattle.wait_rule.specs.Queues.{index}
 use Rattle.wait_rule.specs.Transitions.{Goes, Program, Transition, call_program}
-use Rattle.wait_event.specs.Posts.{Runs}
+use Rattle.wait_class.specs.Posts.{Runs}
 use Rattle.wait_event.specs.Waits.{is_queue, queues}
-use Rattle.wait_event.proofs.Ground.Keeping.{keeps_none, keeps_on}
-use Rattle.wait_event.proofs.Ground.Going.{runs_none, runs_on}
+use Rattle.wait_class.proofs.Ground.Keeping.{keeps_none, keeps_on}
+use Rattle.wait_class.proofs.Ground.Going.{runs_none, runs_on}
 use Rattle.wait_model.specs.declared.watches.Entry.{Entry}
 use Rattle.wait_model.specs.Reached.{IsHome}
 use Rattle.wait_rule.specs.Stays.{Carries, unchanged}
-use Rattle.wait_event.specs.Posts.{IsStateFor, Post, Stands}
-use Rattle.wait_event.proofs.Ground.Standing.{still_stands}
+use Rattle.wait_class.specs.Posts.{IsStateFor, Post, Stands}
+use Rattle.wait_class.proofs.Ground.Standing.{still_stands}
 use Rattle.completion_cell.specs.Awaits.{CellKeeps, LandsNext, Part, Went, await_program}
 use Rattle.completion_cell.specs.declared.awaits.AwaitRun.{AwaitRun}
 use Rattle.completion_cell.proofs.Ground.{QuietRuns}

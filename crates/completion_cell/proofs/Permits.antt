@@ -52,7 +52,7 @@ use Rattle.wait_rule.proofs.TableSteps.ItemLists.{steps_append}
 use Rattle.wq_head.specs.Holds.{HasLocked}
 use Rattle.wq_head.specs.Looks.{Looks}
 use Rattle.wq_head.specs.Selects.{HasSelected, Selects, SelectsFirst, ShowsNoEntry}
-use Rattle.wait_event.proofs.Events.Trails.{stored_history, two_more}
+use Rattle.wait_class.proofs.Histories.{stored_history, two_more}
 use Rattle.completion_cell.proofs.Asking.{locked_history}
 
 -- Steps of a hold, and what they make of the permits that it owes.

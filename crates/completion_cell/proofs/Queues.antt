@@ -36,16 +36,17 @@ use Rattle.wq_head.specs.Looks.{Looks}
 use Rattle.wq_head.proofs.CarriedHolds.{looks_carried, unlock_carried}
 use Rattle.wq_head.proofs.OneMoreLook.{saw_looks, whole_of}
 use Rattle.wait_rule.specs.Queues.{IsTailPlace}
-use Rattle.wait_event.specs.Posts.{HasSeenOwn, Post, Stands}
-use Rattle.wait_event.specs.Waits.{nothing, own_of, with_entry as finds, with_worn}
+use Rattle.wait_class.specs.Posts.{HasSeenOwn, Post, Stands}
+use Rattle.wait_class.specs.Findings.{nothing, with_entry as finds, with_worn}
+use Rattle.wait_class.specs.Posts.{own_of}
 use Rattle.wait_event.proofs.Entering.{unlock_looks}
-use Rattle.wait_event.proofs.Events.FormPlaces.{form_is, form_left, form_worn}
-use Rattle.wait_event.proofs.Events.States.{state_keeps, state_looks, state_stands, state_up}
-use Rattle.wait_event.proofs.Events.Trails.{unlocked_history}
-use Rattle.wait_event.proofs.Events.WornPlaces.{queue_same, whole_seen}
-use Rattle.wait_event.proofs.Ground.Going.{runs_one}
-use Rattle.wait_event.proofs.Ground.Keeping.{keeps_of, keeps_on, once}
-use Rattle.wait_event.proofs.Ground.Standing.{
+use Rattle.wait_class.proofs.FormPlaces.{form_is, form_left, form_worn}
+use Rattle.wait_class.proofs.Ground.Standing.{state_keeps, state_looks, state_stands, state_up}
+use Rattle.wait_class.proofs.Histories.{unlocked_history}
+use Rattle.wait_class.proofs.WornPlaces.{queue_same, whole_seen}
+use Rattle.wait_class.proofs.Ground.Going.{runs_one}
+use Rattle.wait_class.proofs.Ground.Keeping.{keeps_of, keeps_on, once}
+use Rattle.wait_class.proofs.Ground.Standing.{
   carried_stands,
   finds_own,
   seen_book,

@@ -19,10 +19,10 @@ use Rattle.wait_rule.proofs.KnownLaws.Debts.{looked_debts}
 use Rattle.wait_rule.proofs.KnownLaws.AfterSteps.{told_added}
 use Rattle.wait_rule.proofs.KnownLaws.Transitions.{book_told, looks_of}
 use Rattle.wait_rule.proofs.TableSteps.ItemLists.{steps_append}
-use Rattle.wait_event.specs.Posts.{IsStateFor, Post}
-use Rattle.wait_event.specs.Waits.{own_of}
-use Rattle.wait_event.proofs.Ground.Going.{runs_looks}
-use Rattle.wait_event.proofs.Ground.Keeping.{keeps_same}
+use Rattle.wait_class.specs.Posts.{IsStateFor, Post}
+use Rattle.wait_class.specs.Posts.{own_of}
+use Rattle.wait_class.proofs.Ground.Going.{runs_looks}
+use Rattle.wait_class.proofs.Ground.Keeping.{keeps_same}
 use Rattle.completion_cell.specs.Awaits.{Advances, IsAsleepAt, Went, await_program, post_of}
 use Rattle.completion_cell.specs.declared.awaits.AwaitRun.{AwaitRun}
 use Rattle.completion_cell.specs.declared.awaits.AwaitStage.{AwaitStage}

@@ -18,11 +18,12 @@ use Rattle.wait_rule.specs.Transitions.{by_step}
 use Rattle.wait_rule.proofs.KnownLaws.Debts.{added_debts}
 use Rattle.wait_rule.proofs.KnownLaws.AfterSteps.{told_added}
 use Rattle.wait_rule.proofs.KnownLaws.Transitions.{only_none}
-use Rattle.wait_event.specs.Posts.{IsStateFor, Post, Stands}
-use Rattle.wait_event.specs.Waits.{own_of, with_own}
-use Rattle.wait_event.proofs.Ground.Going.{runs_one}
-use Rattle.wait_event.proofs.Ground.Keeping.{keeps_same}
-use Rattle.wait_event.proofs.Ground.Standing.{stands_on}
+use Rattle.wait_class.specs.Posts.{IsStateFor, Post, Stands}
+use Rattle.wait_class.specs.Posts.{own_of}
+use Rattle.wait_class.specs.Findings.{with_own}
+use Rattle.wait_class.proofs.Ground.Going.{runs_one}
+use Rattle.wait_class.proofs.Ground.Keeping.{keeps_same}
+use Rattle.wait_class.proofs.Ground.Standing.{stands_on}
 use Rattle.completion_cell.specs.Awaits.{
   Advances,
   IsAt,

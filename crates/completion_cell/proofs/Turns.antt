@@ -22,11 +22,12 @@ use Rattle.wait_rule.proofs.KnownLaws.AfterSteps.{told_added}
 use Rattle.wait_rule.proofs.KnownLaws.SettledTasks.{owes_after}
 use Rattle.wait_rule.proofs.KnownLaws.Transitions.{only_none}
 use Rattle.wait_rule.proofs.KnownLaws.Turns.{finds_turn, other_number}
-use Rattle.wait_event.specs.Posts.{Post, Stands}
-use Rattle.wait_event.specs.Waits.{nothing, own_of}
-use Rattle.wait_event.proofs.Ground.Going.{runs_looks}
-use Rattle.wait_event.proofs.Ground.Keeping.{keeps_on, keeps_same, keeps_told, placed_owing}
-use Rattle.wait_event.proofs.Ground.Standing.{draw_stands, lock_stands, serving_stands}
+use Rattle.wait_class.specs.Posts.{Post, Stands}
+use Rattle.wait_class.specs.Findings.{nothing}
+use Rattle.wait_class.specs.Posts.{own_of}
+use Rattle.wait_class.proofs.Ground.Going.{runs_looks}
+use Rattle.wait_class.proofs.Ground.Keeping.{keeps_on, keeps_same, keeps_told, placed_owing}
+use Rattle.wait_class.proofs.Ground.Standing.{draw_stands, lock_stands, serving_stands}
 use Rattle.completion_cell.specs.Awaits.{
   CellKeeps,
   Draws,

@@ -51,9 +51,9 @@ use Rattle.wait_rule.proofs.KnownLaws.TaskHistories.{history_after}
 use Rattle.wq_head.specs.Adds.{HasAddedForCell, IsTailWorn, tail_entry}
 use Rattle.wq_head.specs.Holds.{IsHolding}
 use Rattle.wq_head.specs.declared.adds.Worn.{Worn}
-use Rattle.wait_event.specs.Posts.{HasSeenOwn}
-use Rattle.wait_event.specs.Waits.{own_of}
-use Rattle.wait_event.proofs.Events.Trails.{stored_history}
+use Rattle.wait_class.specs.Posts.{HasSeenOwn}
+use Rattle.wait_class.specs.Posts.{own_of}
+use Rattle.wait_class.proofs.Histories.{stored_history}
 use Rattle.completion_cell.specs.Asks.{Counted, TakesOne}
 use Rattle.completion_cell.specs.Awaits.{
   Counts,

@@ -35,7 +35,7 @@ use Rattle.wait_rule.specs.Counts.{HoldsCount}
 use Rattle.wait_rule.specs.HeldValues.{count_in}
 use Rattle.wait_rule.specs.Says.{history_of}
 use Rattle.wait_rule.specs.Transitions.{call_program}
-use Rattle.wait_event.specs.Posts.{Runs}
+use Rattle.wait_class.specs.Posts.{Runs}
 
 -- the task went through the whole program of a call, to this answer
 abbrev pub HasCalled : Known → Known → Call → Point → Answer → Type 0

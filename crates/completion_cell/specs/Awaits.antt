@@ -48,8 +48,9 @@ use Rattle.wait_rule.specs.Says.{IsUp, IsDown, history_of, told_of}
 use Rattle.wait_rule.specs.Stays.{with_left_entry}
 use Rattle.wait_rule.specs.Tickets.{no_ticket}
 use Rattle.wait_rule.specs.Transitions.{Program, call_program}
-use Rattle.wait_event.specs.Posts.{KeepsBut, Post, Stands, Runs, post_at}
-use Rattle.wait_event.specs.Waits.{EndsWith, own_of, queues}
+use Rattle.wait_class.specs.Posts.{KeepsBut, Post, Stands, Runs, post_at}
+use Rattle.wait_class.specs.Posts.{EndsWith, own_of}
+use Rattle.wait_event.specs.Waits.{queues}
 use Rattle.completion_cell.specs.declared.awaits.AwaitRun.{AwaitRun}
 use Rattle.completion_cell.specs.declared.awaits.AwaitStage.{AwaitStage}
 use Rattle.completion_cell.specs.declared.awaits.AwaitStage.TheVariants as stage

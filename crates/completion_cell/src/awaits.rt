@@ -12,7 +12,7 @@ ghost use Rattle.wait_model.specs.declared.watches.Watch.TheVariants as watch;
 ghost use Rattle.wait_model.specs.Programs.{await_after, prepares_from, zero_answer, signalled};
 ghost use Rattle.wait_rule.specs.PassedLocks.{PassesNone};
 ghost use Rattle.wait_rule.specs.Says.{IsUp, history_of};
-ghost use Rattle.wait_event.specs.Posts.{HasSeenOwn};
+ghost use Rattle.wait_class.specs.Posts.{HasSeenOwn};
 ghost use Rattle.completion_cell.specs.declared.awaits.AwaitOutcome.TheVariants as outcome;
 ghost use Rattle.completion_cell.specs.declared.awaits.AwaitStage.TheVariants as stage;
 ghost use Rattle.completion_cell.specs.declared.awaits.AwaitTurn.TheVariants as turn;
@@ -20,7 +20,7 @@ ghost use Rattle.completion_cell.specs.Awaits.{Advances, Counts, IsAt, IsAsleepA
 ghost use Rattle.completion_cell.specs.Awaits.{LooksFor, Part, StandsAt};
 ghost use Rattle.completion_cell.specs.Awaits.{Draws, EndsAs, Enters, LooksFirst, MayEnd, Pares, Reaches, SawSignal};
 ghost use Rattle.completion_cell.specs.Awaits.{TakesTurn, turn_post};
-ghost use Rattle.wait_event.specs.Waits.{EndsWith};
+ghost use Rattle.wait_class.specs.Posts.{EndsWith};
 ghost use Rattle.completion_cell.specs.Awaits.{await_call, await_watch, post_of};
 ghost use Rattle.completion_cell.specs.HeldPermits.{HasBegun, HasLoaded, Held, HeldBy, HeldOut, IsSettled};
 ghost use Rattle.completion_cell.specs.HeldPermits.{LocksBy, LooksBy};

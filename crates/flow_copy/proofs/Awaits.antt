@@ -28,8 +28,9 @@ use Rattle.wait_rule.proofs.KnownLaws.AsideCalls.{calls_grow_aside}
 use Rattle.wait_rule.proofs.KnownLaws.CarriedEnds.{programs_leave_ends}
 use Rattle.wait_event.specs.declared.wait_events.WaitEnd.{WaitEnd}
 use Rattle.wait_event.specs.declared.wait_events.WaitEnd.TheVariants as wait_end
-use Rattle.wait_event.specs.Ends.{IsOut, wait_change}
-use Rattle.wait_event.specs.Posts.{Runs}
+use Rattle.wait_class.specs.Posts.{IsOut}
+use Rattle.wait_event.specs.Ends.{wait_change}
+use Rattle.wait_class.specs.Posts.{Runs}
 use Rattle.completion_cell.specs.AwaitEnds.{EndsAwait, answer_of}
 use Rattle.bit_wait.specs.declared.wait_calls.BitEnd.{BitEnd}
 use Rattle.bit_wait.specs.declared.wait_calls.BitEnd.TheVariants as bit_end

@@ -43,8 +43,8 @@ use Rattle.wait_rule.specs.Transitions.{call_program}
 use Rattle.wait_rule.proofs.KnownLaws.AsideCalls.{calls_grow_aside}
 use Rattle.wait_rule.proofs.KnownLaws.CarriedEnds.{programs_leave_ends}
 use Rattle.wait_rule.proofs.KnownLaws.OtherCalls.{others_stay_off}
-use Rattle.wait_event.specs.Ends.{IsOut}
-use Rattle.wait_event.specs.Posts.{Runs}
+use Rattle.wait_class.specs.Posts.{IsOut}
+use Rattle.wait_class.specs.Posts.{Runs}
 use Rattle.bit_wait.specs.declared.wait_calls.BitEnd.{BitEnd}
 use Rattle.bit_wait.specs.Clears.{GivesBack, HasClearedBit}
 use Rattle.page_lock.specs.PageEnds.{EndsPageLock}

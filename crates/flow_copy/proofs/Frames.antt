@@ -23,7 +23,7 @@ use Rattle.wait_rule.proofs.KnownLaws.AsideCalls.{items_stay_off}
 use Rattle.wait_rule.proofs.KnownLaws.PipeItems.{end_append}
 use Rattle.wait_rule.proofs.KnownLaws.TallySteps.{amounts_append}
 use Rattle.wait_rule.proofs.TableSteps.ItemLists.{steps_append}
-use Rattle.wait_event.specs.Ends.{IsOut}
+use Rattle.wait_class.specs.Posts.{IsOut}
 use Rattle.wait_pipe.specs.Pieces.{Rests}
 use Rattle.flow_copy.specs.declared.TheConstants.{ENDED_CELL}
 use Rattle.flow_copy.specs.Work.{Apart, IsAtWork, SumsStay, TookKill, TookNoKill, Works, but_ends}

@@ -14,7 +14,7 @@ use Rattle.wait_rule.specs.Queues.{IsIdle}
 use Rattle.wait_rule.specs.Says.{Excuse, IsUp, Owes, history_of, no_excuse}
 use Rattle.wait_rule.specs.Stays.{with_bit}
 use Rattle.wait_rule.specs.Tallies.{amounts_of}
-use Rattle.wait_event.specs.Ends.{IsOut}
+use Rattle.wait_class.specs.Posts.{IsOut}
 use Rattle.wait_pipe.specs.declared.pieces.PipeEnd.{PipeEnd}
 use Rattle.wait_pipe.specs.declared.pieces.PipeEnd.TheVariants as pipe_end
 use Rattle.flow_copy.specs.declared.TheConstants.{COUNTED_PAGE, ENDED_CELL}

@@ -36,8 +36,8 @@ use Rattle.wait_rule.proofs.KnownLaws.AfterSteps.{told_added}
 use Rattle.wait_rule.proofs.KnownLaws.Debts.{LeavesNone, end_added, entries_debts, leaves_added, leaves_of}
 use Rattle.wait_rule.proofs.KnownLaws.StayingParts.{owes_also, owes_out}
 use Rattle.wq_head.specs.Adds.{page_change}
-use Rattle.wait_event.specs.Posts.{Keeps}
-use Rattle.wait_event.proofs.Ground.Keeping.{keeps_none}
+use Rattle.wait_class.specs.Posts.{Keeps}
+use Rattle.wait_class.proofs.Ground.Keeping.{keeps_none}
 use Rattle.page_lock.specs.PageStays.{PageKeeps, amid}
 
 -- a part that takes no bit

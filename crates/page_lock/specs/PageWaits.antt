@@ -54,8 +54,9 @@ use Rattle.wait_rule.specs.Tickets.{no_ticket}
 use Rattle.wait_rule.specs.Says.{IsUp, IsDown, asks_for, history_of, told_of}
 use Rattle.wait_rule.specs.Queues.{index}
 use Rattle.wait_rule.specs.Transitions.{Program, call_program}
-use Rattle.wait_event.specs.Posts.{Post, Stands, post_at, Runs}
-use Rattle.wait_event.specs.Waits.{EndsWith, nothing}
+use Rattle.wait_class.specs.Posts.{Post, Stands, post_at, Runs}
+use Rattle.wait_class.specs.Posts.{EndsWith}
+use Rattle.wait_class.specs.Findings.{nothing}
 use Rattle.bit_wait.specs.BitWaits.{has_sleep}
 use Rattle.page_lock.specs.PageStays.{PageKeeps}
 use Rattle.page_lock.specs.declared.waits.PageRun.{PageRun}

@@ -6,7 +6,7 @@ use Rattle.wait_model.specs.declared.tasks.SleepState.{SleepState}
 use Rattle.wait_model.specs.Sentences.{Follows}
 use Rattle.wait_rule.specs.Known.{Known}
 use Rattle.wait_rule.specs.Says.{MeetsLaw}
-use Rattle.wait_event.specs.Ends.{IsOut}
+use Rattle.wait_class.specs.Posts.{IsOut}
 use Rattle.wait_event.specs.Words.{call_says}
 use Rattle.bit_wait.specs.BitEnds.{answer_of}
 use Rattle.bit_wait.specs.declared.wait_calls.BitEnd.{BitEnd}

@@ -7,7 +7,7 @@ ghost use Rattle.wait_model.specs.Watches as model;
 ghost use Rattle.wait_rule.specs.PassedLocks.{PassesNone};
 ghost use Rattle.wait_rule.specs.Queues.{IsIdle, IsTold};
 ghost use Rattle.wait_rule.specs.Says.{AsksNoPage, IsClean, IsUp};
-ghost use Rattle.wait_event.specs.Ends.{IsOut};
+ghost use Rattle.wait_class.specs.Posts.{IsOut};
 ghost use Rattle.wq_head.specs.declared.locks.TheConstants.{LOOKS};
 ghost use Rattle.page_lock.specs.declared.waits.PageStage.TheVariants as stage;
 ghost use Rattle.page_lock.specs.declared.waits.PageTurn.TheVariants as turn;

@@ -2,8 +2,8 @@
 
 ghost use Rattle.std.specs.Prelude.{◌≡◌, ◌⊎◌, is_some, false, true};
 ghost use Rattle.wait_model.specs.Watches as model;
-ghost use Rattle.wait_event.specs.Posts.{HasSeenOwn};
-ghost use Rattle.wait_event.specs.Waits.{nothing, with_entry, with_value};
+ghost use Rattle.wait_class.specs.Posts.{HasSeenOwn};
+ghost use Rattle.wait_class.specs.Findings.{nothing, with_entry, with_value};
 ghost use Rattle.wait_rule.specs.PassedLocks.{PassesNone};
 ghost use Rattle.wait_rule.specs.Says.{IsUp};
 ghost use Rattle.page_lock.specs.declared.waits.PageStage.TheVariants as stage;

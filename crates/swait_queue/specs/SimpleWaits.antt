@@ -10,7 +10,7 @@ use Rattle.wait_model.specs.declared.tasks.SleepState.{SleepState}
 use Rattle.wait_rule.specs.Known.{Known}
 use Rattle.wait_rule.specs.Transitions.{call_program}
 use Rattle.wait_event.specs.Ends.{IsCause, answer_of}
-use Rattle.wait_event.specs.Posts.{Runs}
+use Rattle.wait_class.specs.Posts.{Runs}
 use Rattle.wait_event.specs.Waits.{queues}
 use Rattle.wait_event.specs.declared.wait_events.WaitEnd.{WaitEnd}
 

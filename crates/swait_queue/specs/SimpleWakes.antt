@@ -12,7 +12,7 @@ use Rattle.wait_rule.specs.Known.{Known}
 use Rattle.wait_rule.specs.Queues.{walk_of_hold}
 use Rattle.wait_rule.specs.Says.{Excuse, unlocked_with, Owes}
 use Rattle.wait_rule.specs.Transitions.{call_program}
-use Rattle.wait_event.specs.Posts.{Runs}
+use Rattle.wait_class.specs.Posts.{Runs}
 use Rattle.wq_head.specs.Holds.{HasLocked}
 use Rattle.wq_head.specs.Selects.{HasSelected}
 

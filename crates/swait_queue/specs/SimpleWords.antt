@@ -11,7 +11,8 @@ use Rattle.wait_rule.specs.Known.{Known}
 use Rattle.wait_rule.specs.Heeding.{EndsSignalled, trail_of}
 use Rattle.wait_rule.specs.Says.{MeetsLaw}
 use Rattle.wait_event.specs.declared.wait_events.WaitEnd.{WaitEnd}
-use Rattle.wait_event.specs.Ends.{IsOut, answer_of}
+use Rattle.wait_class.specs.Posts.{IsOut}
+use Rattle.wait_event.specs.Ends.{answer_of}
 use Rattle.wait_event.specs.Words.{call_says}
 use Rattle.swait_queue.specs.SimpleWaits.{EndsSimpleWait}
 use Rattle.swait_queue.specs.SimpleWakes.{EndsSimpleWake}

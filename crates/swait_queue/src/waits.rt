@@ -7,7 +7,8 @@ ghost use Rattle.wait_rule.specs.Queues.{IsIdle, IsTold, index};
 ghost use Rattle.wait_rule.specs.Says.{IsUp};
 ghost use Rattle.wait_rule.specs.Stays.{Carries};
 ghost use Rattle.wait_event.specs.declared.waits.WaitStage.TheVariants as stage;
-ghost use Rattle.wait_event.specs.Ends.{IsOut, wait_change};
+ghost use Rattle.wait_class.specs.Posts.{IsOut};
+ghost use Rattle.wait_event.specs.Ends.{wait_change};
 ghost use Rattle.wait_event.specs.Waits.{IsAt, IsFresh};
 ghost use Rattle.swait_queue.specs.SimpleWaits.{EndsSimpleWait, IsSimpleCond, tail_in};
 

@@ -30,11 +30,11 @@ use Rattle.wq_head.proofs.HeadLooks.{found_none_over}
 use Rattle.wq_head.specs.Scanned.{HasEndedAt, HasScanned, spares_head, unmade}
 use Rattle.wq_head.specs.Walks.{HasEnded, HasWoken, most}
 use Rattle.wait_event.specs.Conds.{set_change}
-use Rattle.wait_event.specs.Posts.{Runs}
-use Rattle.wait_event.specs.Waits.{nothing, with_value}
-use Rattle.wait_event.proofs.Events.Pares.{bare_head}
-use Rattle.wait_event.proofs.Ground.Going.{runs_on, runs_one}
-use Rattle.wait_event.proofs.Ground.WalkedCalls.{walk_ends_held, walk_goes}
+use Rattle.wait_class.specs.Posts.{Runs}
+use Rattle.wait_class.specs.Findings.{nothing, with_value}
+use Rattle.wait_class.proofs.Ground.Standing.{bare_head}
+use Rattle.wait_class.proofs.Ground.Going.{runs_on, runs_one}
+use Rattle.wait_class.proofs.Ground.WalkedCalls.{walk_ends_held, walk_goes}
 use Rattle.wait_event.proofs.Setting.{set_carries, set_idle}
 use Rattle.var_wait.specs.VarPublishes.{HasPublished, aim_of}
 

@@ -18,7 +18,7 @@ use Rattle.wait_rule.specs.Says.{added, told_of}
 use Rattle.wait_rule.specs.Transitions.{call_program}
 use Rattle.wq_head.specs.Scanned.{HasScanned, unmade}
 use Rattle.wq_head.specs.Walks.{HasEnded, HasWoken, capped}
-use Rattle.wait_event.specs.Posts.{Runs}
+use Rattle.wait_class.specs.Posts.{Runs}
 
 -- The walk of its wake: for the variable, with NORMAL, and of a count of one, which no entry lowers, since no entry for
 -- a variable is exclusive.

@@ -13,7 +13,7 @@ use Rattle.wait_model.specs.Programs.{signalled, zero_answer}
 use Rattle.wait_rule.specs.Known.{Known}
 use Rattle.wait_rule.specs.Transitions.{Transition, call_program}
 use Rattle.wait_event.specs.Ends.{IsEndCause}
-use Rattle.wait_event.specs.Posts.{Runs}
+use Rattle.wait_class.specs.Posts.{Runs}
 use Rattle.wait_event.specs.Waits.{last_loaded, queues}
 use Rattle.wait_event.specs.declared.wait_events.WaitEnd.{WaitEnd}
 use Rattle.wait_event.specs.declared.wait_events.WaitEnd.TheVariants as wait_end

@@ -12,7 +12,7 @@ use Rattle.wait_rule.specs.Known.{Known}
 use Rattle.wait_rule.specs.Heeding.{EndsSignalled, trail_of}
 use Rattle.wait_rule.specs.Says.{MeetsLaw}
 use Rattle.wait_event.specs.declared.wait_events.WaitEnd.{WaitEnd}
-use Rattle.wait_event.specs.Ends.{IsOut}
+use Rattle.wait_class.specs.Posts.{IsOut}
 use Rattle.wait_event.specs.Words.{call_says}
 use Rattle.var_wait.specs.VarPublishes.{HasPublished}
 use Rattle.var_wait.specs.VarWaits.{EndsVarWait, answer_of}

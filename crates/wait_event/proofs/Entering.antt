@@ -38,11 +38,12 @@ use Rattle.wq_head.specs.Adds.{HasAdded, IsForPlain}
 use Rattle.wq_head.specs.Holds.{HasLocked, HasUnlocked}
 use Rattle.wq_head.proofs.LockWaits.{turn_looks, turn_of}
 use Rattle.wait_event.specs.Entries.{EndsAdd, HasWokenEntry, MayRemove, add_change, hold_change}
-use Rattle.wait_event.specs.Posts.{Runs}
-use Rattle.wait_event.specs.Queueing.{IsFormPlace, IsFormWorn, form_entry}
-use Rattle.wait_event.specs.Waits.{nothing, own_of, with_worn}
-use Rattle.wait_event.proofs.Ground.Going.{runs_on, runs_one}
-use Rattle.wait_event.proofs.Events.FormPlaces.{form_is, form_left, form_worn}
+use Rattle.wait_class.specs.Posts.{Runs}
+use Rattle.wait_class.specs.Queueing.{IsFormPlace, IsFormWorn, form_entry}
+use Rattle.wait_class.specs.Findings.{nothing, with_worn}
+use Rattle.wait_class.specs.Posts.{own_of}
+use Rattle.wait_class.proofs.Ground.Going.{runs_on, runs_one}
+use Rattle.wait_class.proofs.FormPlaces.{form_is, form_left, form_worn}
 
 -- what a hold of its own carries on: the lock, what it does, and the unlock
 module _ (from to : Excuse → Excuse) (but : ℕ → Bool) (looks : Bool) (old a b new : Known) (free : IsFree old)

@@ -7,8 +7,6 @@ pub mod States
 pub mod Sleeps
 pub mod Peeks
 pub mod Pares
-pub mod WornPlaces
-pub mod FormPlaces
 pub mod Conditions
 pub mod PermitHeads
 pub mod Queues

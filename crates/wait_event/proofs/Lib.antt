@@ -1,4 +1,3 @@
-pub mod Ground
 pub mod Events
 pub mod Hearing
 pub mod Setting

@@ -45,7 +45,7 @@ use Rattle.wait_rule.specs.Stays.{Carries, state_change}
 use Rattle.wait_rule.specs.Transitions.{Goes, Program, by_step}
 use Rattle.wait_rule.proofs.KnownLaws.StayingParts.{owes_also, owes_out}
 use Rattle.wait_rule.proofs.KnownLaws.Transitions.{only_none}
-use Rattle.wait_event.specs.Posts.{HasSeenOwn, Keeps, Post, Runs, Stands}
+use Rattle.wait_class.specs.Posts.{HasSeenOwn, Keeps, Post, Runs, Stands}
 use Rattle.wait_event.specs.Prepares.{
   BeginsOwing,
   CarriesPrepare,
@@ -69,7 +69,6 @@ use Rattle.wait_event.specs.Prepares.{
 }
 use Rattle.wait_event.specs.Waits.{
   Advances,
-  EndsWith,
   IsAt,
   IsFresh,
   IsQueuedIn,
@@ -77,8 +76,6 @@ use Rattle.wait_event.specs.Waits.{
   call_for,
   is_prepared,
   left_by,
-  nothing,
-  own_of,
   point_of,
   post_in,
   queues_first,
@@ -87,6 +84,8 @@ use Rattle.wait_event.specs.Waits.{
   wait_post,
   wait_program,
 }
+use Rattle.wait_class.specs.Posts.{EndsWith, own_of}
+use Rattle.wait_class.specs.Findings.{nothing}
 use Rattle.wq_head.specs.declared.adds.Worn.{Worn}
 use Rattle.wait_event.specs.declared.prepares.Prepared.{Prepared}
 use Rattle.wait_event.specs.declared.prepares.Prepared.TheVariants as prepared
@@ -95,16 +94,16 @@ use Rattle.wait_event.specs.declared.waits.WaitRun.{WaitRun}
 use Rattle.wait_event.specs.declared.waits.WaitStage.{WaitStage}
 use Rattle.wait_event.specs.declared.waits.WaitStage.TheVariants as stage
 use Rattle.wait_event.specs.declared.waits.WaitTurn.TheVariants as turn
-use Rattle.wait_event.proofs.Ground.Going.{runs_on, runs_one}
-use Rattle.wait_event.proofs.Ground.Keeping.{keeps_on}
+use Rattle.wait_class.proofs.Ground.Going.{runs_on, runs_one}
+use Rattle.wait_class.proofs.Ground.Keeping.{keeps_on}
 use Rattle.wait_event.proofs.Events.Endings.{none_of}
 use Rattle.wait_event.proofs.Events.Peeks.{peek_from, peek_some}
 use Rattle.wait_event.proofs.Events.Plans.{runs_program}
 use Rattle.wait_event.proofs.Events.Turns.{GoesOn}
 use Rattle.wait_event.proofs.Events.Conditions.{full_runs}
-use Rattle.wait_event.proofs.Ground.Standing.{home_waits, seen_home}
+use Rattle.wait_class.proofs.Ground.Standing.{home_waits, seen_home}
 use Rattle.wait_model.specs.declared.points.Next.{Next}
-use Rattle.wait_event.proofs.Events.States.{state_keeps, state_looks, state_stands, state_up}
+use Rattle.wait_class.proofs.Ground.Standing.{state_keeps, state_looks, state_stands, state_up}
 
 pub prepares_at : (k : Known) (r : WaitRun) (w : Watch) (how : How) (asks : Bool) → IsFresh r w how asks
     → IsFullWatch w → IsTold k → MayPrepare k w → IsAt k r stage.PrepareLock

@@ -28,16 +28,17 @@ use Rattle.wq_head.specs.Adds.{HasRemoved}
 use Rattle.wq_head.specs.Holds.{HasLocked, HasUnlocked, IsHolding}
 use Rattle.wq_head.proofs.PermitHeads.{owes_low}
 use Rattle.wq_head.proofs.LockWaits.{turn_looks, turn_of, turn_told}
-use Rattle.wait_event.specs.Ends.{IsOut}
+use Rattle.wait_class.specs.Posts.{IsOut}
 use Rattle.wait_event.specs.Entries.{HasRemovedOwn, MayRemove, remove_change}
-use Rattle.wait_event.specs.Posts.{HasSeenOwn, Runs}
-use Rattle.wait_event.specs.Waits.{nothing, own_of, with_entry as finds}
+use Rattle.wait_class.specs.Posts.{HasSeenOwn, Runs}
+use Rattle.wait_class.specs.Findings.{nothing, with_entry as finds}
+use Rattle.wait_class.specs.Posts.{own_of}
 use Rattle.wait_event.proofs.Entering.{hold_carried, looked_carried, runs_lock, unlock_looks}
 use Rattle.wait_event.proofs.Events.Locks.{head_fits}
 use Rattle.wait_event.proofs.Events.PermitHeads.{cond_low}
-use Rattle.wait_event.proofs.Events.Pares.{owner_own}
-use Rattle.wait_event.proofs.Ground.Going.{runs_on, runs_one}
-use Rattle.wait_event.proofs.Ground.Standing.{seen_book, seen_is, seen_looks, seen_shows}
+use Rattle.wait_class.proofs.Ground.Standing.{owner_own}
+use Rattle.wait_class.proofs.Ground.Going.{runs_on, runs_one}
+use Rattle.wait_class.proofs.Ground.Standing.{seen_book, seen_is, seen_looks, seen_shows}
 
 head_plain : (c : ℕ) → head_of (watch.Plain c) ≡ FIRST_PLAIN_HEAD + c
 unfolding head_of

@@ -22,10 +22,10 @@ use Rattle.wait_rule.specs.Transitions.{by_step, call_program}
 use Rattle.wait_rule.proofs.KnownLaws.CarriedTasks.{owes_more}
 use Rattle.wait_rule.proofs.KnownLaws.Transitions.{only_none}
 use Rattle.wq_head.specs.Walks.{HasWoken, HasEnded}
-use Rattle.wait_event.specs.Posts.{Runs}
+use Rattle.wait_class.specs.Posts.{Runs}
 use Rattle.wait_event.specs.Conds.{HasSet, HasTaken, left_owed, set_change}
-use Rattle.wait_event.proofs.Ground.Going.{runs_one}
-use Rattle.wait_event.specs.Waits.{with_value}
+use Rattle.wait_class.proofs.Ground.Going.{runs_one}
+use Rattle.wait_class.specs.Findings.{with_value}
 
 pub takes : (old new : Known) (c v : ℕ) → new ≡ added old (item.Made (step.Consume (watch.Plain c) 0 v))
     → HasTaken old new c v

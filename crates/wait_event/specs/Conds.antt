@@ -17,7 +17,7 @@ use Rattle.wait_rule.specs.Says.{Excuse}
 use Rattle.wait_rule.specs.Stays.{Change, unchanged, with_wakes}
 use Rattle.wait_rule.specs.Transitions.{call_program}
 use Rattle.wq_head.specs.Walks.{HasWoken, HasEnded}
-use Rattle.wait_event.specs.Posts.{Runs}
+use Rattle.wait_class.specs.Posts.{Runs}
 
 -- the task went through the whole call, which answers the value that was there
 abbrev pub HasTaken : Known → Known → ℕ → ℕ → Type 0

@@ -22,8 +22,9 @@ use Rattle.wait_rule.specs.Says.{told_of}
 use Rattle.wait_rule.specs.Queues.{index}
 use Rattle.wait_rule.specs.Stays.{Change, only, unchanged}
 use Rattle.wait_rule.specs.Transitions.{call_program}
-use Rattle.wait_event.specs.Posts.{Runs}
-use Rattle.wait_event.specs.Waits.{EndsWith, IsUnset, call_for, head_of_wait, left_by, own_of, queues}
+use Rattle.wait_class.specs.Posts.{Runs}
+use Rattle.wait_class.specs.Posts.{EndsWith, own_of}
+use Rattle.wait_event.specs.Waits.{IsUnset, call_for, head_of_wait, left_by, queues}
 use Rattle.wait_event.specs.declared.waits.WaitRun.{WaitRun}
 use Rattle.wait_event.specs.declared.waits.WaitOutcome.{WaitOutcome}
 use Rattle.wait_event.specs.declared.waits.WaitOutcome.TheVariants as outcome
@@ -37,10 +38,6 @@ wait_change i h = record unchanged { but = only i; looks = true; at = λ _. h }
 pub record HasWaited (old new : Known) (w : Watch) (how : How) (from to : Next) (queued : Bool) : Type 0 where
   pub runs : Runs (call_program old.view.number 0 (call_for w how)) old new from to
   pub tells : queued ≡ queues runs.transitions
-
--- the entry of slot 0 is off
-abbrev pub IsOut : Known → Type 0
-IsOut k = (told_of k).bits.stored (index k.view.number 0) ≡ None
 
 -- The last steps of a wait that was signalled: in its last hold the look at the own word showed a signal that the state
 -- admits, and the own entry was taken off, or was off, and the head given back; then the load of the condition found

@@ -23,9 +23,9 @@ use Rattle.wait_rule.specs.Says.{IsUp, IsFree, told_of}
 use Rattle.wait_rule.specs.Stays.{Change, only, unchanged, with_entry}
 use Rattle.wait_rule.specs.Transitions.{call_program}
 use Rattle.wq_head.specs.declared.adds.Worn.{Worn}
-use Rattle.wait_event.specs.Posts.{HasSeenOwn, Runs}
-use Rattle.wait_event.specs.Queueing.{form_entry}
-use Rattle.wait_event.specs.Waits.{own_of}
+use Rattle.wait_class.specs.Posts.{HasSeenOwn, Runs}
+use Rattle.wait_class.specs.Queueing.{form_entry}
+use Rattle.wait_class.specs.Posts.{own_of}
 
 -- Each of these calls takes the lock of one head, and looks at entries. An add queues the own entry of this index, a
 -- removal takes it off, and one that finds no place changes nothing more.

@@ -1,5 +1,3 @@
-pub mod Queueing
-pub mod Posts
 pub mod Waits
 pub mod WaitPlans
 pub mod Ends

@@ -26,9 +26,10 @@ use Rattle.wait_rule.specs.Says.{Excuse, IsFree, IsUp, Owes, told_of}
 use Rattle.wait_rule.specs.Queues.{index}
 use Rattle.wait_rule.specs.Stays.{Carries, Change, only, unchanged, with_entry}
 use Rattle.wq_head.specs.declared.adds.Worn.{Worn}
-use Rattle.wait_event.specs.Posts.{Keeps, Runs}
-use Rattle.wait_event.specs.Ends.{IsOut}
-use Rattle.wait_event.specs.Waits.{EndsWith, IsQueuedIn, head_of_wait, left_by, own_of, queues_first, wait_program}
+use Rattle.wait_class.specs.Posts.{Keeps, Runs}
+use Rattle.wait_class.specs.Posts.{IsOut}
+use Rattle.wait_class.specs.Posts.{EndsWith, own_of}
+use Rattle.wait_event.specs.Waits.{IsQueuedIn, head_of_wait, left_by, queues_first, wait_program}
 use Rattle.wait_event.specs.declared.prepares.Prepared.{Prepared}
 use Rattle.wait_event.specs.declared.prepares.Prepared.TheVariants as prepared
 use Rattle.wait_event.specs.declared.waits.WaitRun.{WaitRun}

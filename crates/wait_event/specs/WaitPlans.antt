@@ -23,7 +23,7 @@ use Rattle.wait_model.specs.Tasks.{looks_in, pending, state_mask}
 use Rattle.wait_model.specs.Watches.{head_of, kind_for, misses, number_of}
 use Rattle.wait_rule.specs.Queues.{index}
 use Rattle.wait_rule.specs.Transitions.{Program}
-use Rattle.wait_event.specs.Queueing.{wait_form}
+use Rattle.wait_class.specs.Queueing.{wait_form}
 use Rattle.wait_event.specs.Waits.{asked, call_for, point_of}
 use Rattle.wait_event.specs.declared.waits.WaitRun.{WaitRun}
 use Rattle.wait_event.specs.declared.waits.WaitStage.{WaitStage}

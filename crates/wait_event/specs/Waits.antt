@@ -54,8 +54,8 @@ use Rattle.wait_rule.specs.Says.{IsUp, IsDown, history_of, told_of}
 use Rattle.wait_rule.specs.Queues.{index}
 use Rattle.wait_rule.specs.Shown.{shown_queue}
 use Rattle.wait_rule.specs.Transitions.{Program, StepOrLook, Transition, by_step, call_program}
-use Rattle.wait_event.specs.Posts.{Post, Stands, Keeps, Runs, ticket_out, zone_at}
-use Rattle.wait_event.specs.Queueing.{is_none}
+use Rattle.wait_class.specs.Posts.{Post, Stands, Keeps, Runs, ticket_out, zone_at}
+use Rattle.wait_class.specs.Queueing.{is_none}
 use Rattle.wait_event.specs.declared.waits.WaitRun.{WaitRun}
 use Rattle.wait_event.specs.declared.waits.WaitStage.{WaitStage}
 use Rattle.wait_event.specs.declared.waits.WaitStage.TheVariants as stage
@@ -152,16 +152,10 @@ wait_post r s = post_in (ticket_at s r.ticket) r (point_of s)
 
 -- Its history ends so, with the steps of the last hold that left the queue for a signal: the look at the own word
 -- showed one that the state admits, and the own entry was taken off, or was off.
-abbrev pub EndsWith : Known → List Step → Type 0
-EndsWith k es = (before : List Step) × (history_of k ≡ before ++ es)
-
 abbrev pub left_by : ℕ → ℕ → ℕ → ℕ → List Step
 left_by x h w e = step.Look w ∷ step.Saw x e ∷ (if is_some (entry_of e)
     then step.Unqueue x ∷ step.Unlock h false ∷ []
     else step.Unlock h false ∷ [])
-
-abbrev pub own_of : Known → ℕ
-own_of k = index k.view.number 0
 
 abbrev pub head_of_wait : WaitRun → ℕ
 head_of_wait r = head_of r.watch
@@ -320,34 +314,6 @@ pub record Advances (old new : Known) (r q : WaitRun) (s : WaitStage) (t : WaitT
   pub same : SameCall r q
   pub went : Went old new r q (next.Go (point_of s)) (next_in t)
   pub lands : Lands new q t
-
--- what a program finds where it asks for nothing, for a value, for an entry, and for the own record
-abbrev pub nothing : Seen
-nothing = record {
-  own = task_of 0;
-  entry = None;
-  flag = false;
-  value = 0;
-  called = None;
-  breaks = false;
-  calls = 0;
-  members = false;
-  worn = false;
-  mark = None;
-  other = task_of 0;
-}
-
-abbrev pub with_value : ℕ → Seen
-with_value r = record nothing { value = r }
-
-abbrev pub with_entry : Option Entry → Seen
-with_entry o = record nothing { entry = o }
-
-abbrev pub with_worn : Bool → Seen
-with_worn b = record nothing { worn = b }
-
-abbrev pub with_own : TaskRecord → Seen
-with_own t = record nothing { own = t }
 
 -- the stages of each kind of event
 abbrev pub LoadsAt : WaitStage → Type 0

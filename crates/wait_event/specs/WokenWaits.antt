@@ -21,8 +21,8 @@ use Rattle.wait_rule.specs.Tickets.{no_ticket}
 use Rattle.wait_rule.specs.Says.{Excuse, IsDown, IsUp, told_of, Owes}
 use Rattle.wait_rule.specs.Transitions.{Program, call_program}
 use Rattle.wait_event.specs.Entries.{HasWokenEntry}
-use Rattle.wait_event.specs.Posts.{Post, Runs, Stands, post_at}
-use Rattle.wait_event.specs.Waits.{EndsWith, own_of}
+use Rattle.wait_class.specs.Posts.{Post, Runs, Stands, post_at}
+use Rattle.wait_class.specs.Posts.{EndsWith, own_of}
 use Rattle.wait_event.specs.declared.woken_waits.WokenStage.{WokenStage}
 use Rattle.wait_event.specs.declared.woken_waits.WokenStage.TheVariants as stage
 use Rattle.wait_event.specs.declared.woken_waits.WokenTurn.{WokenTurn}

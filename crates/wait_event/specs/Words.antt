@@ -23,7 +23,8 @@ use Rattle.wait_rule.specs.Heeding.{EndsSignalled, trail_of}
 use Rattle.wait_rule.specs.Selecting.{IsTallied, selects_in, yes_in}
 use Rattle.wait_rule.specs.Transitions.{Transition, call_program, walk_program}
 use Rattle.wait_event.specs.Conds.{HasSet, HasTaken}
-use Rattle.wait_event.specs.Ends.{EndsWait, IsOut, answer_of}
+use Rattle.wait_event.specs.Ends.{EndsWait, answer_of}
+use Rattle.wait_class.specs.Posts.{IsOut}
 use Rattle.wait_event.specs.WokenWaits.{EndsWoken}
 use Rattle.wait_event.specs.declared.wait_events.WaitEnd.{WaitEnd}
 

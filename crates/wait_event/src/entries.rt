@@ -7,10 +7,10 @@ ghost use Rattle.wait_model.specs.Queues.{is_priority};
 ghost use Rattle.wait_rule.specs.Members.{IsOwnKind};
 ghost use Rattle.wait_rule.specs.Says.{AsksNoPage, IsFree, IsUp};
 ghost use Rattle.wait_rule.specs.Stays.{Carries};
-ghost use Rattle.wait_event.specs.Ends.{IsOut};
+ghost use Rattle.wait_class.specs.Posts.{IsOut};
 ghost use Rattle.wait_event.specs.Entries.{EndsAdd, HasRemovedOwn, HasWokenEntry, MayRemove};
 ghost use Rattle.wait_event.specs.Entries.{add_change, hold_change, remove_change};
-ghost use Rattle.wait_event.specs.Waits.{own_of};
+ghost use Rattle.wait_class.specs.Posts.{own_of};
 
 use crate::queueing::{add_by, own_entry};
 use std::sync::Wait;

@@ -7,7 +7,8 @@ ghost use Rattle.wait_event.specs.declared.waits.WaitTurn.TheVariants as turn;
 ghost use Rattle.wait_event.specs.Prepares.{EndsPrepare, HasFinished, IsFullWatch, IsPlainWait, MayFinish, MayPrepare};
 ghost use Rattle.wait_event.specs.Prepares.{EndsExclusive, IsFinishing, first_in, prepared_in, with_first, with_signal};
 ghost use Rattle.wait_event.specs.Prepares.{BeginsOwing, CarriesPrepare, finish_change};
-ghost use Rattle.wait_event.specs.Waits.{Advances, IsAt, is_prepared, own_of};
+ghost use Rattle.wait_event.specs.Waits.{Advances, IsAt, is_prepared};
+ghost use Rattle.wait_class.specs.Posts.{own_of};
 ghost use Rattle.wait_rule.specs.Queues.{IsTold};
 ghost use Rattle.wait_rule.specs.Stays.{Carries};
 

@@ -8,7 +8,8 @@ ghost use Rattle.wait_rule.specs.Queues.{IsIdle, IsTold, index};
 ghost use Rattle.wait_event.specs.declared.waits.WaitStage.TheVariants as stage;
 ghost use Rattle.wait_event.specs.Waits.{IsAt, IsFresh};
 ghost use Rattle.wait_rule.specs.Stays.{Carries};
-ghost use Rattle.wait_event.specs.Ends.{EndsWait, IsOut, end_in, wait_change};
+ghost use Rattle.wait_event.specs.Ends.{EndsWait, end_in, wait_change};
+ghost use Rattle.wait_class.specs.Posts.{IsOut};
 
 use crate::wait_calls::run_wait;
 use crate::waits::{WaitOutcome, WaitRun, WaitStage};

@@ -62,7 +62,8 @@ use Rattle.wait_rule.specs.Transitions.{call_program}
 use Rattle.wait_rule.proofs.KnownLaws.PipeWords.{test_off, test_on}
 use Rattle.wait_rule.proofs.KnownLaws.PipeItems.{end_append, other_r, other_w}
 use Rattle.wait_rule.proofs.KnownLaws.CarriedEnds.{programs_keep_ends}
-use Rattle.wait_event.specs.Ends.{IsOut, WasSignalled, wait_change}
+use Rattle.wait_class.specs.Posts.{IsOut}
+use Rattle.wait_event.specs.Ends.{WasSignalled, wait_change}
 use Rattle.wait_event.specs.Waits.{queues}
 use Rattle.wait_event.specs.declared.wait_events.WaitEnd.{WaitEnd}
 use Rattle.wait_event.specs.declared.wait_events.WaitEnd.TheVariants as wait_end

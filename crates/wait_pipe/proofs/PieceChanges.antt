@@ -12,7 +12,8 @@ use Rattle.wait_rule.specs.Queues.{IsIdle, index}
 use Rattle.wait_rule.specs.Says.{Excuse, IsUp, told_of}
 use Rattle.wait_rule.specs.Stays.{Carries, Change, publish_change, unchanged, wake_all_change}
 use Rattle.wait_rule.proofs.KnownLaws.CarriedTasks.{unchanged_none}
-use Rattle.wait_event.specs.Ends.{IsOut, wait_change}
+use Rattle.wait_class.specs.Posts.{IsOut}
+use Rattle.wait_event.specs.Ends.{wait_change}
 use Rattle.wait_pipe.specs.Pieces.{IsOpened, Leaves, OthersStay, LeavesAside, Rests, Waits, piece_change}
 use Rattle.wait_pipe.proofs.Asides.{quiet_none, quiet_on}
 

@@ -33,7 +33,8 @@ use Rattle.wait_rule.specs.PipeSays.{IsOpen, IsSoundEnd, KeepsEnd, end_at, readi
 use Rattle.wait_rule.specs.Queues.{IsIdle, index}
 use Rattle.wait_rule.specs.Says.{IsUp}
 use Rattle.wait_rule.specs.Stays.{Carries, Change, only, unchanged, with_end}
-use Rattle.wait_event.specs.Ends.{FoundNoPlace, IsOut, WasSignalled}
+use Rattle.wait_event.specs.Ends.{FoundNoPlace, WasSignalled}
+use Rattle.wait_class.specs.Posts.{IsOut}
 use Rattle.wait_event.specs.declared.wait_events.WaitEnd.{WaitEnd}
 use Rattle.wait_event.specs.declared.wait_events.WaitEnd.TheVariants as wait_end
 use Rattle.var_wait.specs.VarWaits.{shared_in}

@@ -11,7 +11,7 @@ ghost use Rattle.wait_rule.specs.Says.{IsUp, added};
 ghost use Rattle.wait_rule.specs.Stays.{Carries, claim_change, wake_all_change};
 ghost use Rattle.wait_model.specs.declared.watches.Mode.TheVariants as mode;
 ghost use Rattle.wait_model.specs.declared.watches.Watch.TheVariants as watch;
-ghost use Rattle.wait_event.specs.Ends.{IsOut};
+ghost use Rattle.wait_class.specs.Posts.{IsOut};
 ghost use Rattle.wait_pipe.specs.Pieces.{Ends, IsOpened, OthersStay, LeavesAside};
 
 use std::sync::Wait;

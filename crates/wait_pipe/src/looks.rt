@@ -7,7 +7,7 @@ ghost use Rattle.wait_rule.specs.Pipes.{other_end, word_counts, write_end};
 ghost use Rattle.wait_rule.specs.PipeSays.{IsOpen, end_at, writing};
 ghost use Rattle.wait_rule.specs.Queues.{IsIdle};
 ghost use Rattle.wait_rule.specs.Says.{IsUp};
-ghost use Rattle.wait_event.specs.Ends.{IsOut};
+ghost use Rattle.wait_class.specs.Posts.{IsOut};
 ghost use Rattle.wait_pipe.specs.Pieces.{HasSeen, IsReadCause, Waits, end_of_wait};
 
 use crate::ends::WRITE;

@@ -8,7 +8,7 @@ use Rattle.wait_rule.specs.Queues.{index}
 use Rattle.wait_rule.specs.Stays.{Carries, Change, unchanged, with_entry}
 use Rattle.wait_event.specs.Entries.{HasWokenEntry, MayRemove, add_change, hold_change, remove_change}
 use Rattle.wait_tests.specs.EventTasks.{IsCleanHearer, IsHearer}
-use Rattle.wait_event.specs.Waits.{own_of}
+use Rattle.wait_class.specs.Posts.{own_of}
 use Rattle.wait_event.specs.WokenWaits.{HasHeard}
 
 -- what owes nothing but the own entry, by the number that the task had

@@ -5,7 +5,7 @@ use Rattle.wait_model.specs.declared.watches.Watch.TheVariants as watch
 use Rattle.wait_model.specs.Reached.{waits, IsHome}
 use Rattle.wait_rule.specs.Known.{Known}
 use Rattle.wait_rule.specs.Queues.{index}
-use Rattle.wait_event.specs.Posts.{Keeps}
+use Rattle.wait_class.specs.Posts.{Keeps}
 use Rattle.wait_event.specs.Prepares.{HasFinished, MayPrepare, cond_in}
 use Rattle.wait_tests.specs.EventTasks.{IsReadyToWait}
 

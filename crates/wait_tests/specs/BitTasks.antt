@@ -3,7 +3,7 @@
 use Rattle.wait_rule.specs.Known.{Known}
 use Rattle.wait_rule.specs.Queues.{IsIdle}
 use Rattle.wait_rule.specs.Says.{IsUp}
-use Rattle.wait_event.specs.Ends.{IsOut}
+use Rattle.wait_class.specs.Posts.{IsOut}
 use Rattle.bit_wait.specs.BitWaits.{Lands}
 use Rattle.bit_wait.specs.LockWaits.{Lands as LockLands}
 use Rattle.bit_wait.specs.declared.lock_waits.LockRun.{LockRun}

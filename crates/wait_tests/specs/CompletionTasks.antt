@@ -4,7 +4,7 @@ use Rattle.wait_rule.specs.LeftEntries.{HasLeftNone}
 use Rattle.wait_rule.specs.Known.{Known}
 use Rattle.wait_rule.specs.Queues.{IsIdle}
 use Rattle.wait_rule.specs.Says.{IsFree, IsUp}
-use Rattle.wait_event.specs.Ends.{IsOut}
+use Rattle.wait_class.specs.Posts.{IsOut}
 use Rattle.completion_cell.specs.AwaitPermits.{LandsOff}
 use Rattle.completion_cell.specs.Awaits.{Lands}
 use Rattle.completion_cell.specs.declared.awaits.AwaitRun.{AwaitRun}

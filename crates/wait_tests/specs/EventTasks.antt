@@ -6,9 +6,10 @@ use Rattle.wait_rule.specs.Known.{Known}
 use Rattle.wait_rule.specs.Says.{IsFree, IsUp, Owes, no_excuse}
 use Rattle.wait_rule.specs.Queues.{IsIdle}
 use Rattle.wait_rule.specs.Stays.{with_entry}
-use Rattle.wait_event.specs.Ends.{IsOut}
+use Rattle.wait_class.specs.Posts.{IsOut}
 use Rattle.wait_event.specs.Entries.{HasWokenEntry}
-use Rattle.wait_event.specs.Waits.{Lands, own_of}
+use Rattle.wait_event.specs.Waits.{Lands}
+use Rattle.wait_class.specs.Posts.{own_of}
 use Rattle.wait_event.specs.WokenWaits.{LandsHearing}
 use Rattle.wait_event.specs.declared.waits.WaitRun.{WaitRun}
 use Rattle.wait_event.specs.declared.waits.WaitTurn.{WaitTurn}

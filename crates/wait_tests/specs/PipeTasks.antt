@@ -7,7 +7,7 @@ use Rattle.wait_rule.specs.PipeSays.{end_at}
 use Rattle.wait_rule.specs.Queues.{IsIdle}
 use Rattle.wait_rule.specs.Says.{IsUp, Owes, no_excuse}
 use Rattle.wait_rule.specs.Stays.{with_end}
-use Rattle.wait_event.specs.Ends.{IsOut}
+use Rattle.wait_class.specs.Posts.{IsOut}
 use Rattle.wait_pipe.specs.Pieces.{IsSettled}
 
 -- it has end k, and passed on every cell there; but for that end it owes nothing

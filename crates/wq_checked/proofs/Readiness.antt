@@ -23,7 +23,7 @@ use Rattle.wait_rule.specs.Says.{
   end_unclosed,
 }
 use Rattle.wait_rule.specs.Stays.{Carries, unchanged, with_bit, with_bits}
-use Rattle.wait_event.specs.Ends.{IsOut}
+use Rattle.wait_class.specs.Posts.{IsOut}
 use Rattle.wq_checked.specs.Kept.{IsReady, but_kept, keeps_in}
 use Rattle.wq_checked.specs.Calls.{IsSound}
 use Rattle.wq_checked.specs.Reasons.{busy_reason}

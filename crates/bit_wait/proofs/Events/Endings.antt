@@ -21,9 +21,9 @@ use Rattle.wait_rule.specs.Queues.{IsIdle, IsTold, index}
 use Rattle.wait_rule.specs.Stays.{Carries}
 use Rattle.wait_rule.specs.Transitions.{Goes, Program, call_program}
 use Rattle.wait_rule.proofs.KnownLaws.StayingParts.{owes_also, owes_out}
-use Rattle.wait_event.specs.Ends.{IsOut}
-use Rattle.wait_event.specs.Posts.{Runs}
-use Rattle.wait_event.specs.Waits.{EndsWith}
+use Rattle.wait_class.specs.Posts.{IsOut}
+use Rattle.wait_class.specs.Posts.{Runs}
+use Rattle.wait_class.specs.Posts.{EndsWith}
 use Rattle.bit_wait.specs.BitWaits.{Advances, IsAt, IsFresh, IsRunning, SameCall, answer_in, bit_in, head_in}
 use Rattle.bit_wait.specs.BitEnds.{EndsBitWait, IsIdleAfter, bit_change, end_in}
 use Rattle.bit_wait.specs.declared.wait_calls.BitEnd.TheVariants as bit_end

@@ -40,12 +40,12 @@ use Rattle.wait_rule.specs.Stays.{Carries, unchanged, with_entry}
 use Rattle.wait_rule.specs.Transitions.{OnlyLooks, Program, IsMadeFor, by_step}
 use Rattle.wait_rule.proofs.KnownLaws.Transitions.{only_none}
 use Rattle.wait_rule.proofs.KnownLaws.TaskHistories.{history_after}
-use Rattle.wait_event.specs.Posts.{Post, Stands, IsStateFor, post_at, Keeps}
-use Rattle.wait_event.specs.Waits.{with_value}
-use Rattle.wait_event.proofs.Ground.Standing.{carried_stands, home_waits}
-use Rattle.wait_event.proofs.Ground.Keeping.{keeps_of}
-use Rattle.wait_event.proofs.Ground.Going.{runs_one}
-use Rattle.wait_event.proofs.Events.Trails.{ends_more}
+use Rattle.wait_class.specs.Posts.{Post, Stands, IsStateFor, post_at, Keeps}
+use Rattle.wait_class.specs.Findings.{with_value}
+use Rattle.wait_class.proofs.Ground.Standing.{carried_stands, home_waits}
+use Rattle.wait_class.proofs.Ground.Keeping.{keeps_of}
+use Rattle.wait_class.proofs.Ground.Going.{runs_one}
+use Rattle.wait_class.proofs.Histories.{ends_more}
 use Rattle.bit_wait.specs.BitWaits.{
   AsksAt,
   IsAt,

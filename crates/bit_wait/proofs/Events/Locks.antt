@@ -31,12 +31,13 @@ use Rattle.wait_rule.proofs.KnownLaws.TaskHistories.{history_after}
 use Rattle.wait_rule.proofs.KnownLaws.Transitions.{only_none}
 use Rattle.wait_rule.proofs.KnownLaws.Turns.{finds_turn, other_number, serve_looks}
 use Rattle.wq_head.proofs.CarriedHolds.{unlock_carried}
-use Rattle.wait_event.specs.Posts.{Post, Stands, IsStateFor, post_at, Keeps}
-use Rattle.wait_event.specs.Waits.{EndsWith, nothing}
-use Rattle.wait_event.proofs.Events.Trails.{unlocked_history}
-use Rattle.wait_event.proofs.Ground.Standing.{draw_stands, serving_stands, lock_stands, still_stands}
-use Rattle.wait_event.proofs.Ground.Keeping.{keeps_of, keeps_on, keeps_same, keeps_told, placed_owing}
-use Rattle.wait_event.proofs.Ground.Going.{runs_looks, runs_one}
+use Rattle.wait_class.specs.Posts.{Post, Stands, IsStateFor, post_at, Keeps}
+use Rattle.wait_class.specs.Posts.{EndsWith}
+use Rattle.wait_class.specs.Findings.{nothing}
+use Rattle.wait_class.proofs.Histories.{unlocked_history}
+use Rattle.wait_class.proofs.Ground.Standing.{draw_stands, serving_stands, lock_stands, still_stands}
+use Rattle.wait_class.proofs.Ground.Keeping.{keeps_of, keeps_on, keeps_same, keeps_told, placed_owing}
+use Rattle.wait_class.proofs.Ground.Going.{runs_looks, runs_one}
 use Rattle.bit_wait.specs.BitWaits.{
   Advances,
   DrawsAt,

@@ -7,9 +7,9 @@ use Rattle.wait_model.specs.declared.points.Next.TheVariants as next
 use Rattle.wait_rule.specs.Known.{Known}
 use Rattle.wait_rule.specs.Queues.{index}
 use Rattle.wait_rule.specs.Transitions.{Goes, Program, call_program}
-use Rattle.wait_event.specs.Posts.{Keeps}
-use Rattle.wait_event.proofs.Ground.Keeping.{keeps_none, keeps_on}
-use Rattle.wait_event.proofs.Ground.Going.{runs_none, runs_on}
+use Rattle.wait_class.specs.Posts.{Keeps}
+use Rattle.wait_class.proofs.Ground.Keeping.{keeps_none, keeps_on}
+use Rattle.wait_class.proofs.Ground.Going.{runs_none, runs_on}
 use Rattle.bit_wait.specs.BitWaits.{
   Advances,
   IsAt,

@@ -14,11 +14,11 @@ use Rattle.wait_rule.specs.Queues.{index, saw}
 use Rattle.wait_rule.specs.Transitions.{OnlyLooks, Program, by_step}
 use Rattle.wait_rule.proofs.KnownLaws.TaskHistories.{history_after}
 use Rattle.wait_rule.proofs.KnownLaws.Transitions.{only_none}
-use Rattle.wait_event.specs.Posts.{HasSeenOwn, Stands}
-use Rattle.wait_event.specs.Waits.{with_entry as finds}
-use Rattle.wait_event.proofs.Events.Peeks.{own_keeps}
-use Rattle.wait_event.proofs.Ground.Standing.{seen_stands, seen_home, stands_as}
-use Rattle.wait_event.proofs.Ground.Going.{runs_one}
+use Rattle.wait_class.specs.Posts.{HasSeenOwn, Stands}
+use Rattle.wait_class.specs.Findings.{with_entry as finds}
+use Rattle.wait_class.proofs.Ground.Keeping.{own_keeps}
+use Rattle.wait_class.proofs.Ground.Standing.{seen_stands, seen_home, stands_as}
+use Rattle.wait_class.proofs.Ground.Going.{runs_one}
 use Rattle.bit_wait.specs.BitWaits.{
   IsAt,
   PeeksAt,

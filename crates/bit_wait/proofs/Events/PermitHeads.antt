@@ -8,7 +8,7 @@ use Rattle.wait_rule.specs.HandedPermits.{OwesNoPermit}
 use Rattle.wait_rule.specs.Known.{Known}
 use Rattle.wq_head.proofs.FullHeads.{hashed_low}
 use Rattle.wq_head.proofs.PermitHeads.{owes_low}
-use Rattle.wait_event.specs.Posts.{HasSeenOwn}
+use Rattle.wait_class.specs.Posts.{HasSeenOwn}
 use Rattle.bit_wait.specs.declared.waits.BitRun.{BitRun}
 use Rattle.bit_wait.specs.declared.waits.BitStage.{BitStage}
 use Rattle.bit_wait.specs.declared.waits.BitStage.TheVariants as stage

@@ -31,14 +31,14 @@ use Rattle.wq_head.specs.Holds.{IsHolding}
 use Rattle.wq_head.specs.Looks.{Looks}
 use Rattle.wq_head.proofs.CarriedHolds.{looks_carried}
 use Rattle.wq_head.proofs.OneMoreLook.{saw_looks, whole_of}
-use Rattle.wait_event.specs.Posts.{HasSeenOwn, IsStateFor, Keeps, Post, Stands, post_at}
-use Rattle.wait_event.specs.Waits.{with_entry as finds, with_worn}
-use Rattle.wait_event.proofs.Events.FormPlaces.{form_is, form_left, form_worn}
-use Rattle.wait_event.proofs.Events.Peeks.{own_keeps}
-use Rattle.wait_event.proofs.Events.States.{state_keeps, state_looks, state_stands, state_up}
-use Rattle.wait_event.proofs.Events.Trails.{unlocked_history}
-use Rattle.wait_event.proofs.Events.WornPlaces.{whole_seen, queue_same}
-use Rattle.wait_event.proofs.Ground.Standing.{
+use Rattle.wait_class.specs.Posts.{HasSeenOwn, IsStateFor, Keeps, Post, Stands, post_at}
+use Rattle.wait_class.specs.Findings.{with_entry as finds, with_worn}
+use Rattle.wait_class.proofs.FormPlaces.{form_is, form_left, form_worn}
+use Rattle.wait_class.proofs.Ground.Keeping.{own_keeps}
+use Rattle.wait_class.proofs.Ground.Standing.{state_keeps, state_looks, state_stands, state_up}
+use Rattle.wait_class.proofs.Histories.{unlocked_history}
+use Rattle.wait_class.proofs.WornPlaces.{whole_seen, queue_same}
+use Rattle.wait_class.proofs.Ground.Standing.{
   carried_stands,
   seen_stands,
   seen_book,
@@ -48,8 +48,8 @@ use Rattle.wait_event.proofs.Ground.Standing.{
   seen_stored,
   finds_own,
 }
-use Rattle.wait_event.proofs.Ground.Keeping.{keeps_on, keeps_queued, keeps_of}
-use Rattle.wait_event.proofs.Ground.Going.{runs_one}
+use Rattle.wait_class.proofs.Ground.Keeping.{keeps_on, keeps_queued, keeps_of}
+use Rattle.wait_class.proofs.Ground.Going.{runs_one}
 use Rattle.bit_wait.specs.BitWaits.{Advances, IsAt, IsRunning, bit_call, bit_in, bit_post, bit_program, head_in}
 use Rattle.bit_wait.specs.declared.waits.BitRun.{BitRun}
 use Rattle.bit_wait.specs.declared.waits.BitStage.TheVariants as stage

@@ -16,9 +16,9 @@ use Rattle.wait_rule.specs.Transitions.{OnlyLooks}
 use Rattle.wait_rule.proofs.TableSteps.ItemLists.{steps_append}
 use Rattle.wait_rule.proofs.KnownLaws.Debts.{looked_debts}
 use Rattle.wait_rule.proofs.KnownLaws.Transitions.{book_told, looks_of}
-use Rattle.wait_event.specs.Posts.{Post, IsStateFor}
-use Rattle.wait_event.proofs.Ground.Keeping.{keeps_same}
-use Rattle.wait_event.proofs.Ground.Going.{runs_looks}
+use Rattle.wait_class.specs.Posts.{Post, IsStateFor}
+use Rattle.wait_class.proofs.Ground.Keeping.{keeps_same}
+use Rattle.wait_class.proofs.Ground.Going.{runs_looks}
 use Rattle.bit_wait.specs.BitWaits.{Advances, IsAsleepAt, IsPlaceAfterSleep, TrailAt, bit_post, bit_program, point_of}
 use Rattle.bit_wait.specs.declared.waits.BitRun.{BitRun}
 use Rattle.bit_wait.specs.declared.waits.BitStage.{BitStage}

@@ -11,7 +11,7 @@ use Rattle.wait_rule.specs.Ends.{WasWorn}
 use Rattle.wait_rule.specs.Known.{Known}
 use Rattle.wait_rule.specs.Says.{history_of}
 use Rattle.wait_rule.proofs.WornHeads.WornNotes.{notes_stay}
-use Rattle.wait_event.proofs.Events.Trails.{ends_more}
+use Rattle.wait_class.proofs.Histories.{ends_more}
 use Rattle.bit_wait.specs.BitWaits.{
   FoundSignal,
   FoundWorn,

@@ -48,9 +48,9 @@ use Rattle.wait_model.specs.Fold.{after}
 use Rattle.wait_model.specs.Views.{View as Told, is_trying_for}
 use Rattle.wait_model.proofs.Sameness.{same_bit, same_bit_is}
 use Rattle.wait_rule.specs.Transitions.{Goes, Program, call_program}
-use Rattle.wait_event.specs.Ends.{IsOut}
-use Rattle.wait_event.specs.Posts.{IsStateFor, Runs}
-use Rattle.wait_event.specs.Waits.{EndsWith}
+use Rattle.wait_class.specs.Posts.{IsOut}
+use Rattle.wait_class.specs.Posts.{IsStateFor, Runs}
+use Rattle.wait_class.specs.Posts.{EndsWith}
 use Rattle.bit_wait.specs.Holders.{IsHolder}
 use Rattle.bit_wait.specs.LockStays.{LockKeeps, TakesBit}
 use Rattle.bit_wait.proofs.Holders.{none_taken}

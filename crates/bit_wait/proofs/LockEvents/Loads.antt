@@ -15,12 +15,12 @@ use Rattle.wait_rule.specs.Queues.{index}
 use Rattle.wait_rule.specs.Stays.{Carries, unchanged}
 use Rattle.wait_rule.specs.Transitions.{OnlyLooks, Program, by_step}
 use Rattle.wait_rule.proofs.KnownLaws.Transitions.{only_none}
-use Rattle.wait_event.specs.Posts.{Post, Stands, IsStateFor, post_at}
-use Rattle.wait_event.specs.Waits.{with_value}
-use Rattle.wait_event.proofs.Ground.Standing.{carried_stands}
+use Rattle.wait_class.specs.Posts.{Post, Stands, IsStateFor, post_at}
+use Rattle.wait_class.specs.Findings.{with_value}
+use Rattle.wait_class.proofs.Ground.Standing.{carried_stands}
 use Rattle.bit_wait.specs.LockStays.{LockKeeps}
 use Rattle.bit_wait.proofs.LockGround.{gone, lock_keeps_step}
-use Rattle.wait_event.proofs.Ground.Going.{runs_one}
+use Rattle.wait_class.proofs.Ground.Going.{runs_one}
 use Rattle.bit_wait.specs.LockWaits.{IsAt, LoadsAt, lock_call, bit_in, lock_post, lock_program, goes_to}
 use Rattle.bit_wait.specs.declared.lock_waits.LockRun.{LockRun}
 use Rattle.bit_wait.specs.declared.lock_waits.LockStage.{LockStage}

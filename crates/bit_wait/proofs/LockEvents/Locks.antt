@@ -30,10 +30,10 @@ use Rattle.wait_rule.proofs.KnownLaws.TaskHistories.{history_after}
 use Rattle.wait_rule.proofs.KnownLaws.Transitions.{only_none}
 use Rattle.wait_rule.proofs.KnownLaws.Turns.{finds_turn, other_number, serve_looks}
 use Rattle.wq_head.proofs.CarriedHolds.{unlock_carried}
-use Rattle.wait_event.specs.Posts.{Post, Stands, IsStateFor, post_at}
-use Rattle.wait_event.specs.Waits.{nothing}
-use Rattle.wait_event.proofs.Events.Trails.{unlocked_history}
-use Rattle.wait_event.proofs.Ground.Standing.{draw_stands, serving_stands, lock_stands, still_stands}
+use Rattle.wait_class.specs.Posts.{Post, Stands, IsStateFor, post_at}
+use Rattle.wait_class.specs.Findings.{nothing}
+use Rattle.wait_class.proofs.Histories.{unlocked_history}
+use Rattle.wait_class.proofs.Ground.Standing.{draw_stands, serving_stands, lock_stands, still_stands}
 use Rattle.bit_wait.specs.LockStays.{LockKeeps}
 use Rattle.bit_wait.proofs.LockGround.{
   lock_keeps_by,
@@ -44,7 +44,7 @@ use Rattle.bit_wait.proofs.LockGround.{
 }
 use Rattle.wait_model.specs.Programs.{zero_answer}
 use Rattle.wait_model.specs.Tasks.{state_mask}
-use Rattle.wait_event.proofs.Ground.Going.{runs_looks, runs_one}
+use Rattle.wait_class.proofs.Ground.Going.{runs_looks, runs_one}
 use Rattle.bit_wait.specs.LockWaits.{
   Advances,
   DrawsAt,

@@ -19,9 +19,9 @@ use Rattle.wait_rule.specs.Transitions.{OnlyLooks, IsSeenAs, by_step}
 use Rattle.wait_rule.proofs.KnownLaws.TaskHistories.{history_after}
 use Rattle.wq_head.specs.Adds.{HasRemoved}
 use Rattle.wq_head.specs.Holds.{IsHolding}
-use Rattle.wait_event.specs.Posts.{HasSeenOwn, IsStateFor, Post, Stands, post_at}
-use Rattle.wait_event.specs.Waits.{with_entry as finds}
-use Rattle.wait_event.proofs.Events.Pares.{owner_own}
+use Rattle.wait_class.specs.Posts.{HasSeenOwn, IsStateFor, Post, Stands, post_at}
+use Rattle.wait_class.specs.Findings.{with_entry as finds}
+use Rattle.wait_class.proofs.Ground.Standing.{owner_own}
 use Rattle.wait_model.specs.declared.points.BitPoint.TheVariants as biting
 use Rattle.wait_model.specs.Programs.{zero_answer}
 use Rattle.wait_model.specs.Tasks.{state_mask}
@@ -33,8 +33,8 @@ use Rattle.bit_wait.proofs.LockGround.{
   lock_keeps_unlock,
   unlocked_bits,
 }
-use Rattle.wait_event.proofs.Events.Trails.{stored_history, two_more, unlocked_history}
-use Rattle.wait_event.proofs.Ground.Standing.{
+use Rattle.wait_class.proofs.Histories.{stored_history, two_more, unlocked_history}
+use Rattle.wait_class.proofs.Ground.Standing.{
   carried_stands,
   seen_stands,
   seen_home,
@@ -42,7 +42,7 @@ use Rattle.wait_event.proofs.Ground.Standing.{
   seen_shows,
   finds_own,
 }
-use Rattle.wait_event.proofs.Ground.Going.{runs_one}
+use Rattle.wait_class.proofs.Ground.Going.{runs_one}
 use Rattle.bit_wait.specs.LockWaits.{
   IsAt,
   ParesAt,

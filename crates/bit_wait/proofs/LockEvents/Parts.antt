@@ -11,7 +11,7 @@ use Rattle.wait_model.specs.declared.watches.Watch.{Watch}
 use Rattle.wait_model.specs.declared.watches.Watch.TheVariants as watch
 use Rattle.bit_wait.specs.LockStays.{LockKeeps}
 use Rattle.bit_wait.proofs.LockGround.{lock_keeps_none, lock_keeps_on}
-use Rattle.wait_event.proofs.Ground.Going.{runs_none, runs_on}
+use Rattle.wait_class.proofs.Ground.Going.{runs_none, runs_on}
 use Rattle.bit_wait.specs.LockWaits.{
   Advances,
   IsAt,

@@ -14,14 +14,14 @@ use Rattle.wait_rule.specs.Queues.{index, saw}
 use Rattle.wait_rule.specs.Transitions.{OnlyLooks, Program, by_step}
 use Rattle.wait_rule.proofs.KnownLaws.TaskHistories.{history_after}
 use Rattle.wait_rule.proofs.KnownLaws.Transitions.{only_none}
-use Rattle.wait_event.specs.Posts.{HasSeenOwn, Stands, post_at}
-use Rattle.wait_event.specs.Waits.{with_entry as finds}
+use Rattle.wait_class.specs.Posts.{HasSeenOwn, Stands, post_at}
+use Rattle.wait_class.specs.Findings.{with_entry as finds}
 use Rattle.wait_model.specs.declared.points.BitPoint.TheVariants as biting
 use Rattle.wait_model.specs.Programs.{zero_answer}
 use Rattle.wait_model.specs.Tasks.{state_mask}
 use Rattle.bit_wait.proofs.LockGround.{lock_keeps_own}
-use Rattle.wait_event.proofs.Ground.Standing.{seen_stands, seen_home, stands_as}
-use Rattle.wait_event.proofs.Ground.Going.{runs_one}
+use Rattle.wait_class.proofs.Ground.Standing.{seen_stands, seen_home, stands_as}
+use Rattle.wait_class.proofs.Ground.Going.{runs_one}
 use Rattle.bit_wait.specs.LockWaits.{
   IsAt,
   PeeksAt,

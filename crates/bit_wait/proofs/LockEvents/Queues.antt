@@ -31,9 +31,9 @@ use Rattle.wq_head.specs.Holds.{IsHolding}
 use Rattle.wq_head.specs.Looks.{Looks}
 use Rattle.wq_head.proofs.CarriedHolds.{looks_carried}
 use Rattle.wq_head.proofs.OneMoreLook.{saw_looks, whole_of}
-use Rattle.wait_event.specs.Posts.{HasSeenOwn, IsStateFor, Post, Stands, post_at}
-use Rattle.wait_event.specs.Waits.{with_entry as finds, with_worn}
-use Rattle.wait_event.proofs.Events.FormPlaces.{form_is, form_left, form_worn}
+use Rattle.wait_class.specs.Posts.{HasSeenOwn, IsStateFor, Post, Stands, post_at}
+use Rattle.wait_class.specs.Findings.{with_entry as finds, with_worn}
+use Rattle.wait_class.proofs.FormPlaces.{form_is, form_left, form_worn}
 use Rattle.wait_model.specs.Views.{View as Told}
 use Rattle.bit_wait.specs.LockStays.{LockKeeps}
 use Rattle.bit_wait.proofs.LockGround.{
@@ -45,10 +45,10 @@ use Rattle.bit_wait.proofs.LockGround.{
   lock_keeps_unlock,
   told_stored,
 }
-use Rattle.wait_event.proofs.Events.States.{state_looks, state_stands, state_up}
-use Rattle.wait_event.proofs.Events.Trails.{unlocked_history}
-use Rattle.wait_event.proofs.Events.WornPlaces.{whole_seen, queue_same}
-use Rattle.wait_event.proofs.Ground.Standing.{
+use Rattle.wait_class.proofs.Ground.Standing.{state_looks, state_stands, state_up}
+use Rattle.wait_class.proofs.Histories.{unlocked_history}
+use Rattle.wait_class.proofs.WornPlaces.{whole_seen, queue_same}
+use Rattle.wait_class.proofs.Ground.Standing.{
   carried_stands,
   seen_stands,
   seen_book,
@@ -58,7 +58,7 @@ use Rattle.wait_event.proofs.Ground.Standing.{
   seen_stored,
   finds_own,
 }
-use Rattle.wait_event.proofs.Ground.Going.{runs_one}
+use Rattle.wait_class.proofs.Ground.Going.{runs_one}
 use Rattle.bit_wait.specs.LockWaits.{Advances, IsAt, IsRunning, lock_call, bit_in, lock_post, lock_program, head_in}
 use Rattle.bit_wait.specs.declared.lock_waits.LockRun.{LockRun}
 use Rattle.bit_wait.specs.declared.lock_waits.LockStage.TheVariants as stage

@@ -16,10 +16,10 @@ use Rattle.wait_rule.specs.Transitions.{OnlyLooks}
 use Rattle.wait_rule.proofs.TableSteps.ItemLists.{steps_append}
 use Rattle.wait_rule.proofs.KnownLaws.Debts.{looked_debts}
 use Rattle.wait_rule.proofs.KnownLaws.Transitions.{book_told, looks_of}
-use Rattle.wait_event.specs.Posts.{Post, IsStateFor}
+use Rattle.wait_class.specs.Posts.{Post, IsStateFor}
 use Rattle.bit_wait.proofs.LockGround.{lock_keeps_same}
 use Rattle.bit_wait.proofs.LockEvents.Trails.{zero_for}
-use Rattle.wait_event.proofs.Ground.Going.{runs_looks}
+use Rattle.wait_class.proofs.Ground.Going.{runs_looks}
 use Rattle.bit_wait.specs.LockWaits.{
   Advances,
   IsAsleepAt,

@@ -19,14 +19,14 @@ use Rattle.wait_rule.specs.Stays.{Carries, unchanged, state_change}
 use Rattle.wait_rule.specs.Transitions.{OnlyLooks, by_step}
 use Rattle.wait_rule.proofs.KnownLaws.TaskHistories.{history_after}
 use Rattle.wait_rule.proofs.KnownLaws.Transitions.{only_none}
-use Rattle.wait_event.specs.Posts.{Post, Runs, Stands, IsStateFor, post_at}
-use Rattle.wait_event.specs.Waits.{nothing, with_own}
-use Rattle.wait_event.proofs.Events.Trails.{ends_more}
-use Rattle.wait_event.proofs.Events.States.{state_looks, state_stands, state_up}
-use Rattle.wait_event.proofs.Ground.Standing.{still_stands}
+use Rattle.wait_class.specs.Posts.{Post, Runs, Stands, IsStateFor, post_at}
+use Rattle.wait_class.specs.Findings.{nothing, with_own}
+use Rattle.wait_class.proofs.Histories.{ends_more}
+use Rattle.wait_class.proofs.Ground.Standing.{state_looks, state_stands, state_up}
+use Rattle.wait_class.proofs.Ground.Standing.{still_stands}
 use Rattle.bit_wait.specs.LockStays.{LockKeeps}
 use Rattle.bit_wait.proofs.LockGround.{lock_keeps_step}
-use Rattle.wait_event.proofs.Ground.Going.{runs_one}
+use Rattle.wait_class.proofs.Ground.Going.{runs_one}
 use Rattle.bit_wait.specs.LockWaits.{
   Advances,
   FoundSignal,

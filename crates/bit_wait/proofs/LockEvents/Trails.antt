@@ -13,12 +13,12 @@ use Rattle.wait_rule.proofs.KnownLaws.AfterSteps.{told_added}
 use Rattle.wait_model.specs.declared.watches.Entry.{Entry}
 use Rattle.wait_model.specs.Views.{View as Told, Bits}
 use Rattle.wait_model.specs.Fold.{after}
-use Rattle.wait_event.specs.Posts.{HasSeenOwn, IsStateFor}
+use Rattle.wait_class.specs.Posts.{HasSeenOwn, IsStateFor}
 use Rattle.bit_wait.proofs.LockGround.{own_bits, told_stored}
 use Rattle.wait_rule.specs.Known.{Known}
 use Rattle.wait_rule.specs.Says.{added, history_of, stored_with, told_of}
 use Rattle.wait_rule.proofs.WornHeads.WornNotes.{notes_stay}
-use Rattle.wait_event.proofs.Events.Trails.{ends_more}
+use Rattle.wait_class.proofs.Histories.{ends_more}
 use Rattle.bit_wait.specs.LockWaits.{
   FoundSignal,
   FoundWorn,

@@ -29,10 +29,10 @@ use Rattle.wait_rule.specs.Queues.{IsAgreedHold, index}
 use Rattle.wait_rule.specs.Transitions.{OnlyLooks, Program, IsMadeFor, by_step}
 use Rattle.wait_rule.proofs.KnownLaws.Transitions.{only_none}
 use Rattle.wait_rule.proofs.KnownLaws.TaskHistories.{history_after}
-use Rattle.wait_event.specs.Posts.{Post, Stands, IsStateFor, post_at}
-use Rattle.wait_event.specs.Waits.{with_value}
-use Rattle.wait_event.proofs.Ground.Standing.{home_waits, stands_on}
-use Rattle.wait_event.proofs.Ground.Going.{runs_one}
+use Rattle.wait_class.specs.Posts.{Post, Stands, IsStateFor, post_at}
+use Rattle.wait_class.specs.Findings.{with_value}
+use Rattle.wait_class.proofs.Ground.Standing.{home_waits, stands_on}
+use Rattle.wait_class.proofs.Ground.Going.{runs_one}
 use Rattle.bit_wait.specs.LockStays.{LockKeeps}
 use Rattle.bit_wait.specs.LockWaits.{
   HasTaken,

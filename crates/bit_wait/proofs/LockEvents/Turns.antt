@@ -9,7 +9,7 @@ use Rattle.wait_rule.specs.Known.{Known}
 use Rattle.wait_rule.specs.Says.{IsUp}
 use Rattle.wait_rule.specs.Queues.{index}
 use Rattle.wait_rule.specs.Transitions.{Goes}
-use Rattle.wait_event.specs.Posts.{Stands, post_at, Runs}
+use Rattle.wait_class.specs.Posts.{Stands, post_at, Runs}
 use Rattle.bit_wait.specs.LockStays.{LockKeeps}
 use Rattle.bit_wait.specs.LockWaits.{
   Advances,

@@ -42,9 +42,9 @@ use Rattle.wait_rule.specs.Queues.{IsIdle, IsTold, index}
 use Rattle.wait_rule.specs.Says.{AsksNoPage, Duty, IsClean, IsUp, asks_for, excuses, has_duty, no_excuse, told_of}
 use Rattle.wait_rule.specs.Transitions.{Goes, Program, call_program}
 use Rattle.wait_rule.proofs.KnownLaws.AskedPages.{asks_no_page}
-use Rattle.wait_event.specs.Ends.{IsOut}
-use Rattle.wait_event.specs.Posts.{Runs}
-use Rattle.wait_event.specs.Waits.{EndsWith}
+use Rattle.wait_class.specs.Posts.{IsOut}
+use Rattle.wait_class.specs.Posts.{Runs}
+use Rattle.wait_class.specs.Posts.{EndsWith}
 use Rattle.bit_wait.specs.Holders.{IsHolder}
 use Rattle.bit_wait.proofs.Holders.{none_taken}
 use Rattle.page_lock.specs.PageStays.{PageKeeps, TakesPage}

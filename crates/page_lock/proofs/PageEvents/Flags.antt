@@ -34,11 +34,11 @@ use Rattle.wait_rule.proofs.KnownLaws.QuietFlags.{quiet_more}
 use Rattle.wait_rule.proofs.KnownLaws.ToldFlags.{told_more}
 use Rattle.wait_rule.proofs.KnownLaws.TaskHistories.{history_after}
 use Rattle.wait_rule.proofs.KnownLaws.Transitions.{only_none}
-use Rattle.wait_event.specs.Posts.{Post, Stands, IsStateFor, post_at, Keeps}
-use Rattle.wait_event.specs.Waits.{nothing}
-use Rattle.wait_event.proofs.Ground.Standing.{stands_on}
-use Rattle.wait_event.proofs.Ground.Keeping.{keeps_of}
-use Rattle.wait_event.proofs.Ground.Going.{runs_one}
+use Rattle.wait_class.specs.Posts.{Post, Stands, IsStateFor, post_at, Keeps}
+use Rattle.wait_class.specs.Findings.{nothing}
+use Rattle.wait_class.proofs.Ground.Standing.{stands_on}
+use Rattle.wait_class.proofs.Ground.Keeping.{keeps_of}
+use Rattle.wait_class.proofs.Ground.Going.{runs_one}
 use Rattle.page_lock.specs.PageStays.{PageKeeps}
 use Rattle.page_lock.specs.PageWaits.{
   FlagsAt,

@@ -26,12 +26,12 @@ use Rattle.wait_rule.proofs.KnownLaws.TaskHistories.{history_after}
 use Rattle.wait_rule.proofs.KnownLaws.Transitions.{only_none}
 use Rattle.wq_head.specs.Adds.{HasRemoved}
 use Rattle.wq_head.specs.Holds.{IsHolding}
-use Rattle.wait_event.specs.Posts.{HasSeenOwn, IsStateFor, Post, post_at}
-use Rattle.wait_event.specs.Waits.{nothing, with_entry as finds}
-use Rattle.wait_event.proofs.Events.Pares.{owner_own}
-use Rattle.wait_event.proofs.Events.Peeks.{own_keeps}
-use Rattle.wait_event.proofs.Events.Trails.{stored_history, two_more, unlocked_history}
-use Rattle.wait_event.proofs.Ground.Standing.{
+use Rattle.wait_class.specs.Posts.{HasSeenOwn, IsStateFor, Post, post_at}
+use Rattle.wait_class.specs.Findings.{nothing, with_entry as finds}
+use Rattle.wait_class.proofs.Ground.Standing.{owner_own}
+use Rattle.wait_class.proofs.Ground.Keeping.{own_keeps}
+use Rattle.wait_class.proofs.Histories.{stored_history, two_more, unlocked_history}
+use Rattle.wait_class.proofs.Ground.Standing.{
   carried_stands,
   seen_stands,
   seen_home,
@@ -39,8 +39,8 @@ use Rattle.wait_event.proofs.Ground.Standing.{
   seen_shows,
   finds_own,
 }
-use Rattle.wait_event.proofs.Ground.Keeping.{keeps_on, keeps_taken}
-use Rattle.wait_event.proofs.Ground.Going.{runs_one}
+use Rattle.wait_class.proofs.Ground.Keeping.{keeps_on, keeps_taken}
+use Rattle.wait_class.proofs.Ground.Going.{runs_one}
 use Rattle.page_lock.specs.PageStays.{PageKeeps}
 use Rattle.page_lock.specs.PageWaits.{
   IsAt,

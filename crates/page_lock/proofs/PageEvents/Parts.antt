@@ -11,7 +11,7 @@ use Rattle.wait_model.specs.declared.watches.Watch.{Watch}
 use Rattle.wait_model.specs.Watches.{page}
 use Rattle.page_lock.specs.PageStays.{PageKeeps}
 use Rattle.page_lock.proofs.PageGround.{page_keeps_none, page_keeps_on}
-use Rattle.wait_event.proofs.Ground.Going.{runs_none, runs_on}
+use Rattle.wait_class.proofs.Ground.Going.{runs_none, runs_on}
 use Rattle.page_lock.specs.PageWaits.{
   Advances,
   IsAt,

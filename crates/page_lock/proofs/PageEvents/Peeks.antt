@@ -19,11 +19,11 @@ use Rattle.wait_rule.specs.Transitions.{OnlyLooks, Program, by_step}
 use Rattle.wait_rule.proofs.KnownLaws.AskedPages.{asked_added}
 use Rattle.wait_rule.proofs.KnownLaws.TaskHistories.{history_after}
 use Rattle.wait_rule.proofs.KnownLaws.Transitions.{only_none}
-use Rattle.wait_event.specs.Posts.{HasSeenOwn}
-use Rattle.wait_event.specs.Waits.{with_entry as finds}
-use Rattle.wait_event.proofs.Events.Peeks.{own_keeps}
-use Rattle.wait_event.proofs.Ground.Standing.{seen_stands, seen_home}
-use Rattle.wait_event.proofs.Ground.Going.{runs_one}
+use Rattle.wait_class.specs.Posts.{HasSeenOwn}
+use Rattle.wait_class.specs.Findings.{with_entry as finds}
+use Rattle.wait_class.proofs.Ground.Keeping.{own_keeps}
+use Rattle.wait_class.proofs.Ground.Standing.{seen_stands, seen_home}
+use Rattle.wait_class.proofs.Ground.Going.{runs_one}
 use Rattle.page_lock.specs.PageWaits.{
   IsAt,
   goes_to,

@@ -5,7 +5,7 @@ use Rattle.wait_model.specs.declared.watches.Entry.{Entry}
 use Rattle.wait_rule.specs.HandedPermits.{OwesNoPermit}
 use Rattle.wait_rule.specs.Known.{Known}
 use Rattle.wq_head.proofs.PermitHeads.{owes_low, page_low}
-use Rattle.wait_event.specs.Posts.{HasSeenOwn}
+use Rattle.wait_class.specs.Posts.{HasSeenOwn}
 use Rattle.page_lock.specs.declared.waits.PageRun.{PageRun}
 use Rattle.page_lock.specs.declared.waits.PageStage.{PageStage}
 use Rattle.page_lock.specs.declared.waits.PageStage.TheVariants as stage

@@ -35,13 +35,13 @@ use Rattle.wq_head.specs.Adds.{HasAddedForPage, IsTailWorn, page_change, tail_en
 use Rattle.wq_head.specs.Holds.{IsHolding}
 use Rattle.wq_head.specs.Looks.{Looks}
 use Rattle.wq_head.proofs.CarriedHolds.{looks_carried}
-use Rattle.wait_event.specs.Posts.{Post, Stands, post_at}
-use Rattle.wait_event.specs.Waits.{nothing, with_worn}
-use Rattle.wait_event.proofs.Events.FormPlaces.{form_is, form_left, form_worn}
-use Rattle.wait_event.proofs.Events.Trails.{stored_history, unlocked_history}
-use Rattle.wait_event.proofs.Ground.Standing.{carried_stands}
-use Rattle.wait_event.proofs.Ground.Keeping.{keeps_of}
-use Rattle.wait_event.proofs.Ground.Going.{runs_one}
+use Rattle.wait_class.specs.Posts.{Post, Stands, post_at}
+use Rattle.wait_class.specs.Findings.{nothing, with_worn}
+use Rattle.wait_class.proofs.FormPlaces.{form_is, form_left, form_worn}
+use Rattle.wait_class.proofs.Histories.{stored_history, unlocked_history}
+use Rattle.wait_class.proofs.Ground.Standing.{carried_stands}
+use Rattle.wait_class.proofs.Ground.Keeping.{keeps_of}
+use Rattle.wait_class.proofs.Ground.Going.{runs_one}
 use Rattle.page_lock.specs.PageStays.{PageKeeps}
 use Rattle.page_lock.specs.PageWaits.{
   Advances,

@@ -20,11 +20,11 @@ use Rattle.wait_rule.proofs.TableSteps.ItemLists.{steps_append}
 use Rattle.wait_rule.proofs.KnownLaws.AskedPages.{asked_append, asked_quiet}
 use Rattle.wait_rule.proofs.KnownLaws.Debts.{looked_debts}
 use Rattle.wait_rule.proofs.KnownLaws.Transitions.{book_told, looks_of}
-use Rattle.wait_event.specs.Posts.{Post, IsStateFor}
-use Rattle.wait_event.proofs.Ground.Keeping.{keeps_same}
+use Rattle.wait_class.specs.Posts.{Post, IsStateFor}
+use Rattle.wait_class.proofs.Ground.Keeping.{keeps_same}
 use Rattle.page_lock.proofs.PageGround.{page_keeps_of}
 use Rattle.bit_wait.proofs.LockEvents.Trails.{zero_for}
-use Rattle.wait_event.proofs.Ground.Going.{runs_looks}
+use Rattle.wait_class.proofs.Ground.Going.{runs_looks}
 use Rattle.page_lock.specs.PageWaits.{
   Advances,
   IsAsleepAt,

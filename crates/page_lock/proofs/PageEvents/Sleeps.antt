@@ -19,11 +19,11 @@ use Rattle.wait_rule.proofs.KnownLaws.Debts.{added_debts}
 use Rattle.wait_rule.proofs.KnownLaws.AfterSteps.{told_added}
 use Rattle.wait_rule.proofs.KnownLaws.TaskHistories.{history_after}
 use Rattle.wait_rule.proofs.KnownLaws.Transitions.{only_none}
-use Rattle.wait_event.specs.Posts.{Post, Runs, Stands, IsStateFor}
-use Rattle.wait_event.specs.Waits.{with_own}
-use Rattle.wait_event.proofs.Ground.Standing.{stands_on}
-use Rattle.wait_event.proofs.Ground.Keeping.{keeps_same}
-use Rattle.wait_event.proofs.Ground.Going.{runs_none, runs_one}
+use Rattle.wait_class.specs.Posts.{Post, Runs, Stands, IsStateFor}
+use Rattle.wait_class.specs.Findings.{with_own}
+use Rattle.wait_class.proofs.Ground.Standing.{stands_on}
+use Rattle.wait_class.proofs.Ground.Keeping.{keeps_same}
+use Rattle.wait_class.proofs.Ground.Going.{runs_none, runs_one}
 use Rattle.page_lock.specs.PageStays.{PageKeeps}
 use Rattle.page_lock.specs.PageWaits.{
   Advances,

@@ -32,10 +32,10 @@ use Rattle.wait_rule.proofs.KnownLaws.QuietFlags.{quiet_more}
 use Rattle.wait_rule.proofs.KnownLaws.TaskHistories.{history_after}
 use Rattle.wait_rule.proofs.KnownLaws.Transitions.{only_none}
 use Rattle.wait_rule.proofs.WornHeads.WornNotes.{notes_stay}
-use Rattle.wait_event.specs.Posts.{Post, Stands, IsStateFor, post_at}
-use Rattle.wait_event.specs.Waits.{with_value}
-use Rattle.wait_event.proofs.Events.Trails.{ends_more}
-use Rattle.wait_event.proofs.Ground.Going.{runs_one}
+use Rattle.wait_class.specs.Posts.{Post, Stands, IsStateFor, post_at}
+use Rattle.wait_class.specs.Findings.{with_value}
+use Rattle.wait_class.proofs.Histories.{ends_more}
+use Rattle.wait_class.proofs.Ground.Going.{runs_one}
 use Rattle.page_lock.specs.PageStays.{PageKeeps}
 use Rattle.page_lock.specs.PageWaits.{
   IsAt,

@@ -9,7 +9,7 @@ use Rattle.wait_rule.specs.Known.{Known}
 use Rattle.wait_rule.specs.Says.{IsUp}
 use Rattle.wait_rule.specs.Queues.{index}
 use Rattle.wait_rule.specs.Transitions.{Goes}
-use Rattle.wait_event.specs.Posts.{Stands, post_at, Runs}
+use Rattle.wait_class.specs.Posts.{Stands, post_at, Runs}
 use Rattle.page_lock.specs.PageStays.{PageKeeps}
 use Rattle.page_lock.specs.PageWaits.{
   Advances,

@@ -12,7 +12,7 @@ use Rattle.wait_model.specs.declared.watches.Watch.{Watch}
 use Rattle.wait_model.specs.declared.watches.Watch.TheVariants as watch
 use Rattle.wait_model.specs.Watches.{IsThere, bare, is_simple, kind_for}
 use Rattle.wq_head.specs.Adds.{IsForPlain, IsFullKind}
-use Rattle.wait_event.specs.Queueing.{IsForBy, wait_form}
+use Rattle.wait_class.specs.Queueing.{IsForBy, wait_form}
 use Rattle.wait_event.specs.Waits.{IsRunning, IsWaitFor}
 use Rattle.wait_event.specs.declared.waits.WaitRun.{WaitRun}
 
@@ -36,20 +36,6 @@ var_runs r v old how is same low front = record {
   there = subst IsThere (sym is) low;
   suits = subst (λ (w : Watch). IsWaitFor w r.how) (sym is) (ap (λ (h : How). h.exclusive) same ∙ front);
 }
-
--- an entry for a full head may be added by each form
-pub for_by : (form : Form) (w : Watch) (k : Kind) → IsForPlain w k → IsForBy form w k
-for_by forms.Front w k is = inl is
-for_by forms.Tail w k is = inl is
-for_by forms.Priority w k is = is
-
-pub for_flags : (w : Watch) (k : Kind) → IsForPlain w k → true ≡ not (is_simple k)
-for_flags w k is = by is.3
-  where
-    by : IsFullKind k → true ≡ not (is_simple k)
-    by (inl default) = sym (ap (λ (l : Kind). not (is_simple l)) default)
-    by (inr (inl auto)) = sym (ap (λ (l : Kind). not (is_simple l)) auto)
-    by (inr (inr woken)) = sym (ap (λ (l : Kind). not (is_simple l)) woken)
 
 -- the entry of a wait may be added by the wait's form
 plain_for : (how : How) (c : ℕ) → c < PLAIN_CONDITIONS → (FIRST_SIMPLE ≤ c → how.exclusive ≡ true) → (form : Form)

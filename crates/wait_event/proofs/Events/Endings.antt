@@ -25,7 +25,6 @@ use Rattle.wait_rule.specs.Transitions.{Goes, Program, call_program}
 use Rattle.wait_rule.proofs.KnownLaws.StayingParts.{owes_also, owes_out}
 use Rattle.wait_event.specs.Waits.{
   Advances,
-  EndsWith,
   IsAt,
   IsFresh,
   IsRunning,
@@ -35,20 +34,13 @@ use Rattle.wait_event.specs.Waits.{
   asked,
   call_for,
   left_by,
-  own_of,
   point_of,
   queues,
   wait_program,
 }
-use Rattle.wait_event.specs.Ends.{
-  EndsWait,
-  FoundNoPlace,
-  HasWaited,
-  IsOut,
-  WasSignalled,
-  end_in,
-  wait_change,
-}
+use Rattle.wait_class.specs.Posts.{EndsWith, own_of}
+use Rattle.wait_event.specs.Ends.{EndsWait, FoundNoPlace, HasWaited, WasSignalled, end_in, wait_change}
+use Rattle.wait_class.specs.Posts.{IsOut}
 use Rattle.wait_event.specs.declared.waits.WaitOutcome.{WaitOutcome}
 use Rattle.wait_event.specs.declared.waits.WaitOutcome.TheVariants as outcome
 use Rattle.wait_event.specs.declared.waits.WaitRun.{WaitRun}

@@ -53,14 +53,6 @@ depth_most (at.Finish finishing.Queue failed) = omega arith
 depth_most (at.Finish finishing.Unlock failed) = omega arith
 depth_most p = omega arith
 
-pub unheld : (h r : Bool) → r ≡ not h → r ≡ true → h ≡ false
-unheld true r is up = absurd (cc)
-unheld false r is up = refl
-
-pub held_yes : (h r : Bool) → r ≡ not h → r ≡ false → h ≡ true
-held_yes true r is down = refl
-held_yes false r is down = absurd (cc)
-
 pub and_left : (a b : Bool) → (a && b) ≡ true → a ≡ true
 and_left true b is = refl
 and_left false b is = absurd (cc)
@@ -87,10 +79,6 @@ prepare_waits false t is at = absurd (cc)
 pub prepare_ends : (s : Bool) → not s ≡ true → s ≡ true → ⊥
 prepare_ends true is at = absurd (cc)
 prepare_ends false is at = absurd (cc)
-
-pub falls_by : (h : Bool) (a b : ℕ) → (not h || nat_lt a b) ≡ true → h ≡ true → a < b
-falls_by true a b is held = grind (arith, nat_tests)
-falls_by false a b is held = absurd (cc)
 
 -- a stretch under way
 pub record IsUnderWay (old new : Known) (r q : WaitRun) (s t : WaitStage) (turns : ℕ) : Type 0 where

@@ -22,23 +22,16 @@ use Rattle.wait_rule.specs.Queues.{index}
 use Rattle.wait_rule.specs.Stays.{Carries, unchanged, with_entry}
 use Rattle.wait_rule.specs.Transitions.{OnlyLooks, Program, IsMadeFor, by_step}
 use Rattle.wait_rule.proofs.KnownLaws.Transitions.{only_none}
-use Rattle.wait_event.specs.Posts.{Post, Stands, IsStateFor, Keeps}
+use Rattle.wait_class.specs.Posts.{Post, Stands, IsStateFor, Keeps}
 use Rattle.wait_event.specs.WaitPlans.{goes_to, wait_plan}
-use Rattle.wait_event.specs.Waits.{
-  IsAt,
-  LoadsAt,
-  end_post,
-  last_load,
-  post_in,
-  wait_post,
-  with_value,
-}
+use Rattle.wait_event.specs.Waits.{IsAt, LoadsAt, end_post, last_load, post_in, wait_post}
+use Rattle.wait_class.specs.Findings.{with_value}
 use Rattle.wait_event.specs.declared.waits.WaitRun.{WaitRun}
 use Rattle.wait_event.specs.declared.waits.WaitStage.{WaitStage}
 use Rattle.wait_event.specs.declared.waits.WaitStage.TheVariants as stage
-use Rattle.wait_event.proofs.Ground.Standing.{carried_stands, home_waits}
-use Rattle.wait_event.proofs.Ground.Keeping.{keeps_of}
-use Rattle.wait_event.proofs.Ground.Going.{runs_one}
+use Rattle.wait_class.proofs.Ground.Standing.{carried_stands, home_waits}
+use Rattle.wait_class.proofs.Ground.Keeping.{keeps_of}
+use Rattle.wait_class.proofs.Ground.Going.{runs_one}
 use Rattle.wait_event.proofs.Events.Turns.{LandsNext, GoesOn, either_next, either_event, or_none}
 use Rattle.wait_event.proofs.Events.Trails.{over_trail, signal_trail, worn_trail}
 use Rattle.wait_rule.proofs.KnownLaws.TaskHistories.{history_after}

@@ -38,12 +38,11 @@ use Rattle.wait_rule.proofs.KnownLaws.SettledTasks.{owes_after}
 use Rattle.wait_rule.proofs.KnownLaws.Transitions.{only_none}
 use Rattle.wait_rule.proofs.KnownLaws.Turns.{finds_turn, other_number, serve_looks}
 use Rattle.wq_head.proofs.CarriedHolds.{unlock_carried}
-use Rattle.wait_event.specs.Posts.{Post, Stands, IsStateFor, Keeps}
+use Rattle.wait_class.specs.Posts.{Post, Stands, IsStateFor, Keeps}
 use Rattle.wait_event.specs.WaitPlans.{goes_to, wait_plan}
 use Rattle.wait_event.specs.Waits.{
   Advances,
   DrawsAt,
-  EndsWith,
   IsAt,
   LeftQueue,
   LocksAt,
@@ -51,28 +50,24 @@ use Rattle.wait_event.specs.Waits.{
   UnlocksAt,
   end_post,
   head_of_wait,
-  nothing,
-  own_of,
   post_in,
   turn_of,
   wait_call,
   wait_post,
   wait_program,
 }
+use Rattle.wait_class.specs.Posts.{EndsWith, own_of}
+use Rattle.wait_class.specs.Findings.{nothing}
 use Rattle.wait_event.specs.declared.waits.WaitRun.{WaitRun}
 use Rattle.wait_event.specs.declared.waits.WaitStage.{WaitStage}
 use Rattle.wait_event.specs.declared.waits.WaitStage.TheVariants as stage
 use Rattle.wait_event.specs.declared.waits.WaitTurn.TheVariants as turn
-use Rattle.wait_event.proofs.Ground.Standing.{draw_stands, serving_stands, lock_stands, still_stands}
-use Rattle.wait_event.proofs.Ground.Keeping.{keeps_of, keeps_on, keeps_same, keeps_told, placed_owing}
-use Rattle.wait_event.proofs.Ground.Going.{runs_looks, runs_one}
+use Rattle.wait_class.proofs.Ground.Standing.{draw_stands, serving_stands, lock_stands, still_stands}
+use Rattle.wait_class.proofs.Ground.Keeping.{keeps_of, keeps_on, keeps_same, keeps_told, placed_owing}
+use Rattle.wait_class.proofs.Ground.Going.{runs_looks, runs_one}
 use Rattle.wait_event.proofs.Events.Turns.{LandsNext, GoesOn, or_none}
-use Rattle.wait_event.proofs.Events.Trails.{
-  ends_more,
-  over_trail,
-  unlocked_history,
-  queued_still,
-}
+use Rattle.wait_class.proofs.Histories.{ends_more, unlocked_history}
+use Rattle.wait_event.proofs.Events.Trails.{over_trail, queued_still}
 
 -- the heads of these conditions are there, and those of all watches
 pub head_fits : (c : ℕ) → c < PLAIN_CONDITIONS → head_of (watch.Plain c) < HEADS

@@ -19,25 +19,15 @@ use Rattle.wait_rule.specs.Stays.{take_off_change}
 use Rattle.wait_rule.specs.Transitions.{OnlyLooks, Program, IsSeenAs, by_step}
 use Rattle.wq_head.specs.Adds.{HasRemoved}
 use Rattle.wq_head.specs.Holds.{IsHolding}
-use Rattle.wait_event.specs.Posts.{HasSeenOwn, IsStateFor, Keeps, Post, Stands}
+use Rattle.wait_class.specs.Posts.{HasSeenOwn, IsStateFor, Keeps, Post, Stands}
 use Rattle.wait_event.specs.WaitPlans.{goes_to, wait_plan}
-use Rattle.wait_event.specs.Waits.{
-  EndsWith,
-  IsAt,
-  LeftQueue,
-  ParesAt,
-  TrailAt,
-  end_post,
-  head_of_wait,
-  own_of,
-  post_in,
-  wait_post,
-  with_entry as finds,
-}
+use Rattle.wait_class.specs.Posts.{EndsWith, own_of}
+use Rattle.wait_event.specs.Waits.{IsAt, LeftQueue, ParesAt, TrailAt, end_post, head_of_wait, post_in, wait_post}
+use Rattle.wait_class.specs.Findings.{with_entry as finds}
 use Rattle.wait_event.specs.declared.waits.WaitRun.{WaitRun}
 use Rattle.wait_event.specs.declared.waits.WaitStage.{WaitStage}
 use Rattle.wait_event.specs.declared.waits.WaitStage.TheVariants as stage
-use Rattle.wait_event.proofs.Ground.Standing.{
+use Rattle.wait_class.proofs.Ground.Standing.{
   carried_stands,
   seen_stands,
   seen_home,
@@ -45,13 +35,14 @@ use Rattle.wait_event.proofs.Ground.Standing.{
   seen_shows,
   finds_own,
 }
-use Rattle.wait_event.proofs.Ground.Keeping.{keeps_on, keeps_taken}
-use Rattle.wait_event.proofs.Ground.Going.{runs_one}
+use Rattle.wait_class.proofs.Ground.Keeping.{keeps_on, keeps_taken}
+use Rattle.wait_class.proofs.Ground.Going.{runs_one}
 use Rattle.wait_event.proofs.Events.Turns.{GoesOn, or_none}
-use Rattle.wait_event.proofs.Events.Trails.{ends_more, over_trail, stored_history, two_more, unlocked_history}
+use Rattle.wait_class.proofs.Histories.{ends_more, stored_history, two_more, unlocked_history}
+use Rattle.wait_event.proofs.Events.Trails.{over_trail}
 use Rattle.wait_rule.proofs.KnownLaws.TaskHistories.{history_after}
 use Rattle.wait_model.specs.Words.{entry_of}
-use Rattle.wait_event.proofs.Events.Peeks.{own_keeps}
+use Rattle.wait_class.proofs.Ground.Keeping.{own_keeps}
 use Rattle.wait_event.proofs.Events.Locks.{back_keeps, back_looks, back_stands, back_up}
 
 -- the step of the look
@@ -59,18 +50,6 @@ seen_history : (old mid : Known) (o : Option Entry) (h : HasSeenOwn old mid o) (
     → history_of mid ≡ history_of old ++ step.Saw (index old.view.number 0) h.word ∷ []
 seen_history old mid o h i held = history_after old mid (step.Saw (index old.view.number 0) h.word)
     (h.is ∙ ap (λ (q : Option ℕ). added old (item.Made (saw q (index old.view.number 0) h.word))) held)
-
--- the old value of a variable does not matter to its head
-pub bare_head : (w : Watch) → head_of (bare w) ≡ head_of w
-unfolding head_of
-bare_head (watch.Plain c) = refl
-bare_head (watch.Done d) = refl
-bare_head (watch.Bit i b) = refl
-bare_head (watch.Var v o) = refl
-
-pub owner_own : (n : ℕ) → owner (index n 0) ≡ n
-unfolding owner
-owner_own n = omega arith
 
 -- the own entry in a hold of its head, in a zone in which it may stand
 module _ (old mid : Known) (r : WaitRun) (o : Option Entry) (h : HasSeenOwn old mid o) (p : Post)

@@ -7,8 +7,8 @@ use Rattle.wait_rule.specs.Known.{Known}
 use Rattle.wait_rule.specs.Queues.{index}
 use Rattle.wait_rule.specs.Shown.{shown_queue}
 use Rattle.wait_rule.specs.Transitions.{Goes, Program, Transition}
-use Rattle.wait_event.specs.Posts.{Keeps}
-use Rattle.wait_event.specs.Queueing.{is_none}
+use Rattle.wait_class.specs.Posts.{Keeps}
+use Rattle.wait_class.specs.Queueing.{is_none}
 use Rattle.wait_event.specs.Waits.{
   Advances,
   IsAt,
@@ -31,8 +31,8 @@ use Rattle.wait_event.specs.declared.waits.WaitRun.{WaitRun}
 use Rattle.wait_event.specs.declared.waits.WaitStage.{WaitStage}
 use Rattle.wait_event.specs.declared.waits.WaitTurn.{WaitTurn}
 use Rattle.wait_event.specs.declared.waits.WaitTurn.TheVariants as turn
-use Rattle.wait_event.proofs.Ground.Keeping.{keeps_none, keeps_on}
-use Rattle.wait_event.proofs.Ground.Going.{runs_none, runs_on}
+use Rattle.wait_class.proofs.Ground.Keeping.{keeps_none, keeps_on}
+use Rattle.wait_class.proofs.Ground.Going.{runs_none, runs_on}
 use Rattle.wait_event.proofs.Events.Turns.{or_none}
 
 pub same_on : (r q w : WaitRun) → SameCall r q → SameCall q w → SameCall r w

@@ -14,27 +14,18 @@ use Rattle.wait_rule.specs.Queues.{index, saw}
 use Rattle.wait_rule.specs.Stays.{only_looks, with_entry}
 use Rattle.wait_rule.specs.Transitions.{OnlyLooks, Program, by_step}
 use Rattle.wait_rule.proofs.KnownLaws.Transitions.{only_none}
-use Rattle.wait_event.specs.Posts.{HasSeenOwn, Keeps}
+use Rattle.wait_class.specs.Posts.{HasSeenOwn, Keeps}
 use Rattle.wait_event.specs.WaitPlans.{goes_to, wait_plan}
-use Rattle.wait_event.specs.Waits.{
-  IsAt,
-  PeeksAt,
-  end_post,
-  wait_post,
-  with_entry as finds,
-}
+use Rattle.wait_event.specs.Waits.{IsAt, PeeksAt, end_post, wait_post}
+use Rattle.wait_class.specs.Findings.{with_entry as finds}
 use Rattle.wait_event.specs.declared.waits.WaitRun.{WaitRun}
 use Rattle.wait_event.specs.declared.waits.WaitStage.{WaitStage}
 use Rattle.wait_event.specs.declared.waits.WaitStage.TheVariants as stage
-use Rattle.wait_event.proofs.Ground.Standing.{seen_stands, seen_home, stands_as}
-use Rattle.wait_event.proofs.Ground.Keeping.{keeps_of}
-use Rattle.wait_event.proofs.Ground.Going.{runs_one}
+use Rattle.wait_class.proofs.Ground.Standing.{seen_stands, seen_home, stands_as}
+use Rattle.wait_class.proofs.Ground.Keeping.{keeps_of}
+use Rattle.wait_class.proofs.Ground.Going.{runs_one}
 use Rattle.wait_event.proofs.Events.Turns.{GoesOn, or_none}
 use Rattle.wait_event.proofs.Events.Trails.{over_trail}
-
-pub own_keeps : (old new : Known) (o : Option Entry) → HasSeenOwn old new o → Keeps (index old.view.number 0) old new
-own_keeps old new o h = keeps_of (index old.view.number 0) only_looks old new h.carries (λ w. refl) (λ x away. refl)
-    (λ x. h.carries.owes (with_entry (index old.view.number 0) x))
 
 module _ (old new : Known) (r : WaitRun) (a : IsAt old r stage.FinishLook) where
   abbrev f : Program

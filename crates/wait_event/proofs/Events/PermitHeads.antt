@@ -14,7 +14,7 @@ use Rattle.wq_head.proofs.PermitHeads.{owes_low}
 use Rattle.wait_event.specs.declared.waits.WaitRun.{WaitRun}
 use Rattle.wait_event.specs.declared.waits.WaitStage.{WaitStage}
 use Rattle.wait_event.specs.declared.waits.WaitStage.TheVariants as stage
-use Rattle.wait_event.specs.Posts.{HasSeenOwn}
+use Rattle.wait_class.specs.Posts.{HasSeenOwn}
 use Rattle.wait_event.specs.Waits.{IsAt, IsRunning, IsWaitFor, ParesAt, UnlocksAt}
 
 low_for : (w : Watch) (how : How) → IsThere w → IsWaitFor w how → head_of w < FIRST_DONE_HEAD

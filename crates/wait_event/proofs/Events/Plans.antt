@@ -23,8 +23,8 @@ use Rattle.wait_model.specs.Watches.{IsThere, head_of}
 use Rattle.wait_rule.specs.Known.{Known}
 use Rattle.wait_rule.specs.Queues.{index}
 use Rattle.wait_rule.specs.Transitions.{Goes, Program}
-use Rattle.wait_event.specs.Posts.{Runs}
-use Rattle.wait_event.specs.Queueing.{wait_form}
+use Rattle.wait_class.specs.Posts.{Runs}
+use Rattle.wait_class.specs.Queueing.{wait_form}
 use Rattle.wait_event.specs.WaitPlans.{gives_back, kind_in, plan, plan_program, wait_plan}
 use Rattle.wait_event.specs.Waits.{IsRunning, IsWaitFor, SameCall, asked, call_for, wait_call, wait_program}
 use Rattle.wait_event.specs.declared.waits.WaitRun.{WaitRun}

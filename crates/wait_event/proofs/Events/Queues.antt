@@ -31,14 +31,14 @@ use Rattle.wq_head.specs.Adds.{HasAdded}
 use Rattle.wq_head.specs.Holds.{IsHolding}
 use Rattle.wq_head.specs.Looks.{Looks}
 use Rattle.wq_head.proofs.CarriedHolds.{looks_carried}
-use Rattle.wait_event.specs.Posts.{HasSeenOwn, Keeps, Post, Stands}
+use Rattle.wait_class.specs.Posts.{HasSeenOwn, Keeps, Post, Stands}
 use Rattle.wait_event.specs.WaitPlans.{wait_plan}
 use Rattle.wait_event.specs.Waits.{Advances, IsAt, post_in, tells_first, wait_post}
-use Rattle.wait_event.specs.Waits.{with_entry as finds, with_worn}
+use Rattle.wait_class.specs.Findings.{with_entry as finds, with_worn}
 use Rattle.wait_event.specs.declared.waits.WaitRun.{WaitRun}
 use Rattle.wait_event.specs.declared.waits.WaitStage.TheVariants as stage
 use Rattle.wait_event.specs.declared.waits.WaitTurn.TheVariants as turn
-use Rattle.wait_event.proofs.Ground.Standing.{
+use Rattle.wait_class.proofs.Ground.Standing.{
   carried_stands,
   seen_stands,
   seen_book,
@@ -48,20 +48,20 @@ use Rattle.wait_event.proofs.Ground.Standing.{
   seen_stored,
   finds_own,
 }
-use Rattle.wait_event.proofs.Ground.Keeping.{keeps_on, keeps_queued, keeps_of}
-use Rattle.wait_event.proofs.Ground.Going.{runs_one}
+use Rattle.wait_class.proofs.Ground.Keeping.{keeps_on, keeps_queued, keeps_of}
+use Rattle.wait_class.proofs.Ground.Going.{runs_one}
 use Rattle.wait_event.proofs.Events.Turns.{GoesOn, advance_by, advance_same, or_none, or_queued}
-use Rattle.wait_event.proofs.Events.Trails.{unlocked_history}
+use Rattle.wait_class.proofs.Histories.{unlocked_history}
 use Rattle.wait_rule.proofs.WornHeads.WornNotes.{notes_stay}
 use Rattle.wait_rule.specs.Ends.{WasWorn}
 use Rattle.wait_rule.specs.declared.journal.Item.{Item}
-use Rattle.wait_event.proofs.Events.Peeks.{own_keeps}
+use Rattle.wait_class.proofs.Ground.Keeping.{own_keeps}
 use Rattle.wait_event.proofs.Events.Pares.{finds_it}
-use Rattle.wait_event.proofs.Events.States.{state_keeps, state_looks, state_stands, state_up}
+use Rattle.wait_class.proofs.Ground.Standing.{state_keeps, state_looks, state_stands, state_up}
 use Rattle.wait_event.proofs.Events.Locks.{back_keeps, back_looks, back_stands, back_up}
-use Rattle.wait_event.proofs.Events.WornPlaces.{whole_seen, queue_same}
-use Rattle.wait_event.proofs.Events.FormPlaces.{first_later, form_is, form_left, form_worn}
-use Rattle.wait_event.specs.Queueing.{IsFormPlace, IsFormWorn, TellsFirst, form_entry, wait_form}
+use Rattle.wait_class.proofs.WornPlaces.{whole_seen, queue_same}
+use Rattle.wait_class.proofs.FormPlaces.{first_later, form_is, form_left, form_worn}
+use Rattle.wait_class.specs.Queueing.{IsFormPlace, IsFormWorn, TellsFirst, form_entry, wait_form}
 use Rattle.wq_head.proofs.OneMoreLook.{saw_looks, whole_of}
 
 wait_plain : (b : Bool) → is_priority (if b then forms.Tail else forms.Front) ≡ false

@@ -17,13 +17,13 @@ use Rattle.wait_rule.proofs.TableSteps.ItemLists.{steps_append}
 use Rattle.wait_rule.proofs.KnownLaws.Debts.{looked_debts}
 use Rattle.wait_rule.proofs.KnownLaws.AfterSteps.{told_added}
 use Rattle.wait_rule.proofs.KnownLaws.Transitions.{book_told, looks_of}
-use Rattle.wait_event.specs.Posts.{Post, IsStateFor}
+use Rattle.wait_class.specs.Posts.{Post, IsStateFor}
 use Rattle.wait_event.specs.Waits.{Advances, IsAsleepAt, TrailAt, point_of, wait_call, wait_post, wait_program}
 use Rattle.wait_event.specs.declared.waits.WaitRun.{WaitRun}
 use Rattle.wait_event.specs.declared.waits.WaitStage.{WaitStage}
 use Rattle.wait_event.specs.declared.waits.WaitTurn.TheVariants as turn
-use Rattle.wait_event.proofs.Ground.Keeping.{keeps_same}
-use Rattle.wait_event.proofs.Ground.Going.{runs_looks}
+use Rattle.wait_class.proofs.Ground.Keeping.{keeps_same}
+use Rattle.wait_class.proofs.Ground.Going.{runs_looks}
 use Rattle.wait_event.proofs.Events.Turns.{or_none}
 use Rattle.wait_model.specs.declared.points.Point.{Point}
 

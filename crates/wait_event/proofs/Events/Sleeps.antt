@@ -18,24 +18,16 @@ use Rattle.wait_rule.proofs.KnownLaws.Debts.{added_debts}
 use Rattle.wait_rule.proofs.KnownLaws.AfterSteps.{told_added}
 use Rattle.wait_rule.proofs.KnownLaws.Transitions.{only_none}
 use Rattle.wait_model.specs.Reached.{IsHome}
-use Rattle.wait_event.specs.Posts.{Post, Stands, IsStateFor}
-use Rattle.wait_event.specs.Waits.{
-  Advances,
-  IsAt,
-  Went,
-  point_of,
-  wait_call,
-  wait_post,
-  wait_program,
-  with_own,
-}
+use Rattle.wait_class.specs.Posts.{Post, Stands, IsStateFor}
+use Rattle.wait_event.specs.Waits.{Advances, IsAt, Went, point_of, wait_call, wait_post, wait_program}
+use Rattle.wait_class.specs.Findings.{with_own}
 use Rattle.wait_event.specs.declared.waits.WaitRun.{WaitRun}
 use Rattle.wait_event.specs.declared.waits.WaitStage.{WaitStage}
 use Rattle.wait_event.specs.declared.waits.WaitStage.TheVariants as stage
 use Rattle.wait_event.specs.declared.waits.WaitTurn.TheVariants as turn
-use Rattle.wait_event.proofs.Ground.Standing.{stands_on}
-use Rattle.wait_event.proofs.Ground.Keeping.{keeps_none, keeps_same}
-use Rattle.wait_event.proofs.Ground.Going.{runs_none, runs_one}
+use Rattle.wait_class.proofs.Ground.Standing.{stands_on}
+use Rattle.wait_class.proofs.Ground.Keeping.{keeps_none, keeps_same}
+use Rattle.wait_class.proofs.Ground.Going.{runs_none, runs_one}
 use Rattle.wait_event.proofs.Events.Plans.{runs_program}
 use Rattle.wait_event.proofs.Events.Turns.{or_none}
 use Rattle.wait_event.specs.WaitPlans.{wait_plan}

@@ -18,48 +18,18 @@ use Rattle.wait_rule.specs.Queues.{index}
 use Rattle.wait_rule.specs.Stays.{Carries, unchanged, with_entry, state_change}
 use Rattle.wait_rule.specs.Transitions.{OnlyLooks, by_step}
 use Rattle.wait_rule.proofs.KnownLaws.Transitions.{only_none}
-use Rattle.wait_event.specs.Posts.{Post, Stands, IsStateFor, KeepsBut}
+use Rattle.wait_class.specs.Posts.{Post, Stands, IsStateFor, KeepsBut}
 use Rattle.wait_event.specs.WaitPlans.{goes_to, wait_plan}
-use Rattle.wait_event.specs.Waits.{
-  IsAt,
-  LooksAt,
-  StoresAt,
-  nothing,
-  state_at,
-  post_in,
-  wait_post,
-  with_own,
-}
+use Rattle.wait_event.specs.Waits.{IsAt, LooksAt, StoresAt, state_at, post_in, wait_post}
+use Rattle.wait_class.specs.Findings.{nothing, with_own}
 use Rattle.wait_event.specs.declared.waits.WaitRun.{WaitRun}
 use Rattle.wait_event.specs.declared.waits.WaitStage.{WaitStage}
 use Rattle.wait_event.specs.declared.waits.WaitStage.TheVariants as stage
-use Rattle.wait_event.proofs.Ground.Standing.{still_stands}
-use Rattle.wait_event.proofs.Ground.Keeping.{keeps_of}
-use Rattle.wait_event.proofs.Ground.Going.{runs_one}
+use Rattle.wait_class.proofs.Ground.Standing.{still_stands}
+use Rattle.wait_class.proofs.Ground.Keeping.{keeps_of}
+use Rattle.wait_class.proofs.Ground.Going.{runs_one}
 use Rattle.wait_event.proofs.Events.Turns.{LandsNext, GoesOn, or_none}
 use Rattle.wait_rule.proofs.KnownLaws.TaskHistories.{history_after}
-
--- a store of the state, behind looks or not
-module _ (old new : Known) (σ : ℕ) (is : new ≡ added old (item.Made (step.State σ)))
-    (carries : Carries (state_change σ) old new) where
-  pub state_keeps : {f : Excuse → Excuse} → KeepsBut f (index old.view.number 0) old new
-  state_keeps {f} = keeps_of (index old.view.number 0) (state_change σ) old new carries (λ w. refl) (λ x away. refl)
-      (λ x. carries.owes (with_entry (index old.view.number 0) (f x)))
-
-  pub state_looks : OnlyLooks (added old (item.Made (step.State σ))) new
-  state_looks = subst (OnlyLooks (added old (item.Made (step.State σ)))) (sym is)
-      (only_none (added old (item.Made (step.State σ))))
-
-  pub state_stands : (p q : Post) → Stands old p → q.head ≡ p.head → q.ticket ≡ p.ticket
-      → IsStateFor q.stirs q.state σ
-      → ((o : Option Entry) → IsHome p.zone p.watch o → IsHome q.zone q.watch o) → Stands new q
-  state_stands p q s head ticket state home = still_stands (state_change σ) old new p q carries s
-      (λ h at. ap (λ (k : Known). k.book.differs) is ∙ s.agreed h (sym head ∙ at)) refl (λ x. refl) (sym head) (λ h
-      at. s.at h (sym head ∙ at))
-      (sym ticket) state home
-
-  pub state_up : IsUp old → IsUp new
-  state_up up = carries.awake ∙ up
 
 pub state_goes : (old new : Known) (r : WaitRun) (s : WaitStage) → StoresAt s → IsAt old r s → (σ : ℕ)
     → σ ≡ state_at r s → new ≡ added old (item.Made (step.State σ)) → Carries (state_change σ) old new

@@ -37,8 +37,8 @@ use Rattle.wait_rule.specs.Says.{
 use Rattle.wait_rule.proofs.KnownLaws.TaskHistories.{history_after}
 use Rattle.wait_rule.proofs.TableSteps.ItemLists.{steps_append}
 use Rattle.wait_rule.proofs.WornHeads.WornNotes.{notes_stay}
+use Rattle.wait_class.specs.Posts.{EndsWith, own_of}
 use Rattle.wait_event.specs.Waits.{
-  EndsWith,
   FoundWorn,
   HasSeenSet,
   IsUnset,
@@ -47,35 +47,9 @@ use Rattle.wait_event.specs.Waits.{
   head_of_wait,
   last_load,
   left_by,
-  own_of,
   IsQueuedIn,
 }
 use Rattle.wait_event.specs.declared.waits.WaitRun.{WaitRun}
-
-pub ends_more : (old new : Known) (es more : List Step) → EndsWith old es → history_of new ≡ history_of old ++ more
-    → EndsWith new (es ++ more)
-ends_more old new es more e is = (e.0, is ∙ (ap (λ (l : List Step). l ++ more) e.1 ∙ append_assoc e.0 es more))
-
--- items that are no steps add nothing
-silent : (k : Known) (x : Item) → steps_of (x ∷ []) ≡ [] → history_of (added k x) ≡ history_of k
-silent k x none = steps_append k.view.items (x ∷ [])
-    ∙ (ap (λ (l : List Step). steps_of k.view.items ++ l) none ∙ append-nil (steps_of k.view.items))
-
-pub unlocked_history : (old new : Known) → new ≡ unlocked_with old old.at false
-    → history_of new ≡ history_of old ++ step.Unlock old.at false ∷ []
-unlocked_history old new is = ap history_of is
-    ∙ (silent (added old (item.Made (step.Unlock old.at false))) item.Served refl
-    ∙ history_after old (added old (item.Made (step.Unlock old.at false))) (step.Unlock old.at false) refl)
-
-pub stored_history : (old new : Known) (e : Step) → new ≡ stored_with old e → history_of new ≡ history_of old ++ e ∷ []
-stored_history old new e is = ap history_of is
-    ∙ (silent (added old (item.Made e)) item.Member refl ∙ history_after old (added old (item.Made e)) e refl)
-
--- two more
-pub two_more : (old mid new : Known) (e d : Step) → history_of mid ≡ history_of old ++ e ∷ []
-    → history_of new ≡ history_of mid ++ d ∷ [] → history_of new ≡ history_of old ++ e ∷ d ∷ []
-two_more old mid new e d one two = two ∙ (ap (λ (l : List Step). l ++ d ∷ []) one
-    ∙ append_assoc (history_of old) (e ∷ []) (d ∷ []))
 
 -- the entry that is stored stays so
 pub queued_still : (old new : Known) (σ : ℕ) → new.view.number ≡ old.view.number

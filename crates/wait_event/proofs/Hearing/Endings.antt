@@ -19,7 +19,7 @@ use Rattle.wait_event.specs.declared.woken_waits.WokenStage.{WokenStage}
 use Rattle.wait_event.specs.declared.woken_waits.WokenStage.TheVariants as stage
 use Rattle.wait_event.specs.declared.woken_waits.WokenTurn.{WokenTurn}
 use Rattle.wait_event.specs.declared.woken_waits.WokenTurn.TheVariants as turn
-use Rattle.wait_event.proofs.Ground.Going.{runs_none, runs_on}
+use Rattle.wait_class.proofs.Ground.Going.{runs_none, runs_on}
 use Rattle.wait_event.proofs.Hearing.Entries.{keeps_none, keeps_on, woken_leaves}
 
 -- a task whose entry of kind Woken is queued may begin

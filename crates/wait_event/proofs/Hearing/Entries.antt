@@ -6,9 +6,9 @@ use Rattle.wait_rule.specs.Known.{Known}
 use Rattle.wait_rule.specs.Says.{Debts, Excuse, IsFree, IsUp, told_of}
 use Rattle.wait_rule.specs.Queues.{index}
 use Rattle.wait_rule.specs.Stays.{Carries, unchanged}
-use Rattle.wait_event.proofs.Ground.Keeping.{same_owing}
+use Rattle.wait_class.proofs.Ground.Keeping.{same_owing}
 use Rattle.wait_event.specs.Entries.{HasWokenEntry, MayRemove}
-use Rattle.wait_event.specs.Waits.{own_of}
+use Rattle.wait_class.specs.Posts.{own_of}
 use Rattle.wait_event.specs.WokenWaits.{KeepsEntries}
 
 pub keeps_none : (k : Known) → KeepsEntries k k

@@ -22,8 +22,9 @@ use Rattle.wait_rule.proofs.KnownLaws.Debts.{added_debts}
 use Rattle.wait_rule.proofs.KnownLaws.AfterSteps.{told_added}
 use Rattle.wait_rule.proofs.KnownLaws.TaskHistories.{history_after}
 use Rattle.wait_rule.proofs.KnownLaws.Transitions.{only_none}
-use Rattle.wait_event.specs.Posts.{IsStateFor, Post, Stands}
-use Rattle.wait_event.specs.Waits.{EndsWith, nothing, own_of, with_own}
+use Rattle.wait_class.specs.Posts.{IsStateFor, Post, Stands}
+use Rattle.wait_class.specs.Posts.{EndsWith, own_of}
+use Rattle.wait_class.specs.Findings.{nothing, with_own}
 use Rattle.wait_event.specs.WokenWaits.{
   HasHeardSo,
   Hears,
@@ -37,8 +38,8 @@ use Rattle.wait_event.specs.WokenWaits.{
 }
 use Rattle.wait_event.specs.declared.woken_waits.WokenStage.TheVariants as stage
 use Rattle.wait_event.specs.declared.woken_waits.WokenTurn.TheVariants as turn
-use Rattle.wait_event.proofs.Ground.Standing.{stands_on}
-use Rattle.wait_event.proofs.Ground.Going.{runs_none, runs_one}
+use Rattle.wait_class.proofs.Ground.Standing.{stands_on}
+use Rattle.wait_class.proofs.Ground.Going.{runs_none, runs_one}
 use Rattle.wait_event.proofs.Hearing.Entries.{keeps_by, keeps_none, keeps_told, woken_stays}
 
 -- the last steps, with one more

@@ -16,8 +16,8 @@ use Rattle.wait_rule.specs.Transitions.{OnlyLooks}
 use Rattle.wait_rule.proofs.TableSteps.ItemLists.{steps_append}
 use Rattle.wait_rule.proofs.KnownLaws.Debts.{looked_debts}
 use Rattle.wait_rule.proofs.KnownLaws.Transitions.{book_told, looks_of}
-use Rattle.wait_event.specs.Posts.{IsStateFor, Stands}
-use Rattle.wait_event.specs.Waits.{EndsWith}
+use Rattle.wait_class.specs.Posts.{IsStateFor, Stands}
+use Rattle.wait_class.specs.Posts.{EndsWith}
 use Rattle.wait_event.specs.WokenWaits.{
   HasHeardSo,
   Hears,
@@ -31,8 +31,8 @@ use Rattle.wait_event.specs.WokenWaits.{
 }
 use Rattle.wait_event.specs.declared.woken_waits.WokenStage.TheVariants as stage
 use Rattle.wait_event.specs.declared.woken_waits.WokenTurn.TheVariants as turn
-use Rattle.wait_event.proofs.Ground.Going.{runs_looks}
-use Rattle.wait_event.proofs.Ground.Standing.{home_told}
+use Rattle.wait_class.proofs.Ground.Going.{runs_looks}
+use Rattle.wait_class.proofs.Ground.Standing.{home_told}
 use Rattle.wait_event.proofs.Hearing.Entries.{keeps_told, woken_stays}
 
 -- by looks that are no steps, and the book that it has then

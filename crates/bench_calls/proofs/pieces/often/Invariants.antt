@@ -1,5 +1,5 @@
 use Rattle.std.proofs.Common.{◌≡◌}
-use Rattle.wait_event.specs.Ends.{IsOut}
+use Rattle.wait_class.specs.Posts.{IsOut}
 use Rattle.wait_pipe.specs.Pieces.{IsSettled}
 use Rattle.wait_rule.specs.PipeSays.{reading, writing}
 use Rattle.wait_rule.specs.Queues.{IsIdle}

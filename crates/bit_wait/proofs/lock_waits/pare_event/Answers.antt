@@ -1,5 +1,5 @@
 use Rattle.std.proofs.Common.{◌∙◌, sym}
-use Rattle.wait_event.specs.Waits.{with_entry}
+use Rattle.wait_class.specs.Findings.{with_entry}
 use Rattle.bit_wait.specs.LockWaits.{goes_to}
 use Rattle.bit_wait.proofs.LockEvents.PermitHeads.{pare_owes}
 use Rattle.bit_wait.proofs.LockEvents.Turns.{advance_same}

@@ -1,4 +1,4 @@
-use Rattle.wait_event.specs.Waits.{with_entry}
+use Rattle.wait_class.specs.Findings.{with_entry}
 use Rattle.bit_wait.specs.LockWaits.{goes_to}
 use Rattle.bit_wait.proofs.LockEvents.Turns.{advance_same}
 use Rattle.bit_wait.proofs.LockEvents.Peeks.{peek_goes}

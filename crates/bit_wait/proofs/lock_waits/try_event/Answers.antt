@@ -1,5 +1,5 @@
 use Rattle.std.proofs.Common.{refl}
-use Rattle.wait_event.specs.Waits.{with_value}
+use Rattle.wait_class.specs.Findings.{with_value}
 use Rattle.bit_wait.specs.LockWaits.{goes_to}
 use Rattle.bit_wait.proofs.LockEvents.Turns.{advance_by}
 use Rattle.bit_wait.proofs.LockEvents.Tries.{may_try, try_goes}

@@ -1,4 +1,4 @@
-use Rattle.wait_event.specs.Waits.{nothing}
+use Rattle.wait_class.specs.Findings.{nothing}
 use Rattle.bit_wait.specs.LockWaits.{goes_to}
 use Rattle.bit_wait.proofs.LockEvents.PermitHeads.{unlock_owes}
 use Rattle.bit_wait.proofs.LockEvents.Turns.{advance_same}

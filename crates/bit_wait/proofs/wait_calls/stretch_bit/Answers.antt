@@ -2,7 +2,7 @@ use Rattle.std.proofs.Common.{arith}
 use Rattle.wait_model.specs.Reached.{holds}
 use Rattle.bit_wait.specs.BitWaits.{depth, point_of}
 use Rattle.bit_wait.specs.declared.waits.BitTurn.TheVariants as turn
-use Rattle.wait_event.proofs.Events.Falling.{falls_by, held_yes, unheld}
+use Rattle.wait_class.proofs.Falling.{falls_by, held_yes, unheld}
 use Rattle.bit_wait.proofs.Events.Falling.{depth_most, falls_still}
 use Rattle.bit_wait.proofs.Events.Parts.{advances_none, advances_on}
 use Rattle.wq_head.proofs.PassedOn.{none_yet}

@@ -3,7 +3,7 @@ use Rattle.wait_model.specs.declared.watches.Watch.{Watch}
 use Rattle.wait_rule.specs.Says.{added}
 use Rattle.wait_rule.specs.declared.journal.Item.TheVariants as item
 use Rattle.wait_model.specs.declared.steps.Step.TheVariants as step
-use Rattle.wait_event.specs.Waits.{with_value}
+use Rattle.wait_class.specs.Findings.{with_value}
 use Rattle.bit_wait.specs.BitWaits.{goes_to}
 use Rattle.bit_wait.proofs.Events.Turns.{advance_by}
 use Rattle.bit_wait.proofs.Events.Loads.{load_goes}

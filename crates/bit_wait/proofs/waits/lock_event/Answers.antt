@@ -1,7 +1,7 @@
 use Rattle.std.proofs.Common.{◌∙◌, ◌<◌, ℕ, ap, sym, subst, refl}
 use Rattle.wait_model.specs.declared.layout.TheConstants.{HEADS}
 use Rattle.wait_model.specs.Watches.{head_of}
-use Rattle.wait_event.specs.Waits.{nothing}
+use Rattle.wait_class.specs.Findings.{nothing}
 use Rattle.bit_wait.specs.BitWaits.{goes_to}
 use Rattle.bit_wait.proofs.Events.Turns.{advance_by}
 use Rattle.bit_wait.proofs.Events.Locks.{head_fits, other_advances, turn_out, lock_goes}

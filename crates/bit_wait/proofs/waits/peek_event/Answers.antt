@@ -1,4 +1,4 @@
-use Rattle.wait_event.specs.Waits.{with_entry}
+use Rattle.wait_class.specs.Findings.{with_entry}
 use Rattle.bit_wait.specs.BitWaits.{goes_to}
 use Rattle.bit_wait.proofs.Events.Turns.{advance_same}
 use Rattle.bit_wait.proofs.Events.Peeks.{peek_goes}

@@ -1,5 +1,5 @@
 use Rattle.std.specs.Prelude.{true}
-use Rattle.wait_event.proofs.Events.Trails.{unlocked_history}
+use Rattle.wait_class.proofs.Histories.{unlocked_history}
 use Rattle.completion_cell.proofs.WaitParts.{zero_owes_none}
 use Rattle.completion_cell.proofs.Ends.{stopped_ends}
 use Rattle.completion_cell.proofs.awaits.give_up.Goals as goal

@@ -2,7 +2,7 @@ use Rattle.std.proofs.Common.{arith}
 use Rattle.wait_model.specs.Reached.{holds}
 use Rattle.page_lock.specs.PageWaits.{depth, point_of}
 use Rattle.page_lock.specs.declared.waits.PageTurn.TheVariants as turn
-use Rattle.wait_event.proofs.Events.Falling.{falls_by, held_yes, unheld}
+use Rattle.wait_class.proofs.Falling.{falls_by, held_yes, unheld}
 use Rattle.page_lock.proofs.PageEvents.Falling.{depth_most, falls_still}
 use Rattle.page_lock.proofs.PageEvents.Parts.{advances_none, advances_on}
 use Rattle.wq_head.proofs.PassedOn.{none_yet}

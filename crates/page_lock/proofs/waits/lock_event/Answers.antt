@@ -1,7 +1,7 @@
 use Rattle.std.proofs.Common.{◌∙◌, ◌<◌, ℕ, ap, sym, subst, refl}
 use Rattle.wait_model.specs.declared.layout.TheConstants.{HEADS}
 use Rattle.wait_model.specs.Watches.{head_of}
-use Rattle.wait_event.specs.Waits.{nothing}
+use Rattle.wait_class.specs.Findings.{nothing}
 use Rattle.page_lock.specs.PageWaits.{goes_to}
 use Rattle.page_lock.proofs.PageEvents.Turns.{advance_by}
 use Rattle.page_lock.proofs.PageEvents.Locks.{head_fits, other_advances, turn_out, lock_goes}

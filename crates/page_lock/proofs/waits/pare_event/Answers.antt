@@ -1,5 +1,5 @@
 use Rattle.std.proofs.Common.{◌∙◌, sym}
-use Rattle.wait_event.specs.Waits.{with_entry}
+use Rattle.wait_class.specs.Findings.{with_entry}
 use Rattle.page_lock.specs.PageWaits.{goes_to}
 use Rattle.page_lock.specs.declared.waits.PageStage.TheVariants as stage
 use Rattle.page_lock.proofs.PageEvents.PermitHeads.{pare_owes}

@@ -1,5 +1,5 @@
 use Rattle.std.proofs.Common.{refl}
-use Rattle.wait_event.specs.Waits.{with_value}
+use Rattle.wait_class.specs.Findings.{with_value}
 use Rattle.page_lock.specs.PageWaits.{goes_to}
 use Rattle.page_lock.proofs.PageEvents.Turns.{advance_by}
 use Rattle.page_lock.proofs.PageEvents.Tries.{may_try, try_goes}

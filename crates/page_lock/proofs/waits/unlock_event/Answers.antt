@@ -1,4 +1,4 @@
-use Rattle.wait_event.specs.Waits.{nothing}
+use Rattle.wait_class.specs.Findings.{nothing}
 use Rattle.page_lock.specs.PageWaits.{goes_to}
 use Rattle.page_lock.proofs.PageEvents.PermitHeads.{unlock_owes}
 use Rattle.page_lock.proofs.PageEvents.Turns.{advance_same}

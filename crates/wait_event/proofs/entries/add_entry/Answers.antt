@@ -18,7 +18,7 @@ use Rattle.wait_event.proofs.Entering.{
   own_for,
   worn_carries,
 }
-use Rattle.wait_event.proofs.Events.Conditions.{for_by}
+use Rattle.wait_class.proofs.EntryForms.{for_by}
 use Rattle.wait_event.proofs.Events.Locks.{head_fits}
 use Rattle.wait_model.specs.declared.watches.Watch.TheVariants as watch
 use Rattle.wait_event.proofs.entries.add_entry.Goals as goal

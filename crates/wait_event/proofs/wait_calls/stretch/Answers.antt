@@ -7,14 +7,8 @@ use Rattle.wait_event.specs.Waits.{
   stays_in,
 }
 use Rattle.wait_event.specs.declared.waits.WaitTurn.TheVariants as turn
-use Rattle.wait_event.proofs.Events.Falling.{
-  depth_most,
-  falls_by,
-  held_yes,
-  stops,
-  unheld,
-  and_left,
-}
+use Rattle.wait_event.proofs.Events.Falling.{depth_most, stops, and_left}
+use Rattle.wait_class.proofs.Falling.{falls_by, held_yes, unheld}
 use Rattle.wait_event.proofs.Events.Parts.{advances_none, advances_on}
 use Rattle.wq_head.proofs.PassedOn.{none_yet}
 use Rattle.wait_event.proofs.wait_calls.stretch.Goals as goal

@@ -1,6 +1,6 @@
 use Rattle.std.proofs.Common.{refl}
 use Rattle.wait_event.specs.WaitPlans.{goes_to}
-use Rattle.wait_event.specs.Waits.{with_value}
+use Rattle.wait_class.specs.Findings.{with_value}
 use Rattle.wait_event.proofs.Events.Turns.{advance_by}
 use Rattle.wait_event.proofs.Events.Loads.{load_goes}
 use Rattle.wait_event.proofs.waits.load_event.Goals as goal

@@ -2,7 +2,7 @@ use Rattle.std.proofs.Common.{◌<◌, ℕ, sym, subst, refl}
 use Rattle.wait_event.proofs.Events.Falling.{locked_falls}
 use Rattle.wait_model.specs.declared.layout.TheConstants.{HEADS}
 use Rattle.wait_event.specs.WaitPlans.{goes_to}
-use Rattle.wait_event.specs.Waits.{nothing}
+use Rattle.wait_class.specs.Findings.{nothing}
 use Rattle.wait_event.proofs.Events.Turns.{advance_by}
 use Rattle.wait_event.proofs.Events.Locks.{lock_goes, other_advances, turn_out, watch_fits}
 use Rattle.wait_event.proofs.waits.lock_event.Goals as goal

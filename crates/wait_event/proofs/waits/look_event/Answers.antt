@@ -1,6 +1,6 @@
 use Rattle.wait_model.specs.Tasks.{task_of}
 use Rattle.wait_event.specs.WaitPlans.{goes_to}
-use Rattle.wait_event.specs.Waits.{with_own}
+use Rattle.wait_class.specs.Findings.{with_own}
 use Rattle.wait_event.proofs.Events.Turns.{advance_same}
 use Rattle.wait_event.proofs.Events.States.{look_goes}
 use Rattle.wait_event.proofs.waits.look_event.Goals as goal

@@ -1,6 +1,6 @@
 use Rattle.std.proofs.Common.{◌∙◌, refl, sym}
 use Rattle.wait_event.specs.WaitPlans.{goes_to}
-use Rattle.wait_event.specs.Waits.{with_entry}
+use Rattle.wait_class.specs.Findings.{with_entry}
 use Rattle.wait_event.proofs.Events.PermitHeads.{pare_owes}
 use Rattle.wait_event.proofs.Events.Turns.{advance_by}
 use Rattle.wait_event.proofs.Events.Pares.{pare_may, taken_goes, given_goes}

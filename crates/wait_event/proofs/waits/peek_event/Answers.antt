@@ -1,5 +1,5 @@
 use Rattle.wait_event.specs.WaitPlans.{goes_to}
-use Rattle.wait_event.specs.Waits.{with_entry}
+use Rattle.wait_class.specs.Findings.{with_entry}
 use Rattle.wait_event.proofs.Events.Turns.{advance_same}
 use Rattle.wait_event.proofs.Events.Peeks.{peek_goes}
 use Rattle.wait_event.proofs.waits.peek_event.Goals as goal

@@ -13,7 +13,7 @@ use Rattle.wait_event.proofs.Events.Queues.{
   worn_advances,
 }
 use Rattle.wait_event.proofs.Events.Conditions.{wait_for, wait_none_woken}
-use Rattle.wait_event.proofs.Events.Pares.{bare_head}
+use Rattle.wait_class.proofs.Ground.Standing.{bare_head}
 use Rattle.wait_event.proofs.waits.queue_event.Goals as goal
 
 pub returns-then-is_some-clause-advances : goal.returns-then-is_some-clause-advances

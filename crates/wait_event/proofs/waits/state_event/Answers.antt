@@ -1,5 +1,5 @@
 use Rattle.wait_event.specs.WaitPlans.{goes_to}
-use Rattle.wait_event.specs.Waits.{nothing}
+use Rattle.wait_class.specs.Findings.{nothing}
 use Rattle.wait_event.proofs.Events.Turns.{advance_same}
 use Rattle.wait_event.proofs.Events.States.{state_goes}
 use Rattle.wait_event.proofs.waits.state_event.Goals as goal

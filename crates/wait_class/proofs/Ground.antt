@@ -1,0 +1,4 @@
+pub mod Keeping
+pub mod Standing
+pub mod Going
+pub mod WalkedCalls

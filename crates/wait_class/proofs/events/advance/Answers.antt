@@ -1,0 +1,50 @@
+use Rattle.std.proofs.Common.{◌∙◌, ◌≡◌, inl, subst, sym}
+use Rattle.wait_class.specs.declared.stages.Turn.TheVariants as turn
+use Rattle.wait_class.specs.Tables.{Went}
+use Rattle.wait_class.proofs.Turns.{advances_on, falls_same, same_domain}
+use Rattle.wait_class.proofs.events.advance.Goals as goal
+
+pub lock_event-requires-clause-of : goal.lock_event-requires-clause-of
+lock_event-requires-clause-of g c = same_domain g.C.Machine.table c.lawful.ensures c.args.task.now
+    c.draw_event.new.task c.args.run.now.of c.draw_event.new.run.of (turn.Again c.args.stage)
+    (turn.Again (g.C.Machine.table.drawn_to c.args.stage)) c.draw_event.ensures.advances.went ∙ c.requires.of
+
+pub returns-in-Draw-clause-advances : goal.returns-in-Draw-clause-advances
+returns-in-Draw-clause-advances g c =
+    let t = g.C.Machine.table in
+    let d = c.draw_event.ensures.advances in
+    advances_on t c.lawful.ensures c.args.task.now c.draw_event.new.task c.lock_event.new.task c.args.run.now
+    c.draw_event.new.run c.lock_event.new.run c.args.stage c.drawn_to.result c.lock_event.result d.same
+    (subst (λ n. Went t c.args.task.now c.draw_event.new.task c.args.run.now.of c.draw_event.new.run.of (turn.Again c.args.stage)
+    (turn.Again n)) (sym c.drawn_to.ensures) d.went)
+    c.lock_event.ensures.advances
+
+pub returns-in-Draw-clause-falls : goal.returns-in-Draw-clause-falls
+returns-in-Draw-clause-falls g c =
+    let t = g.C.Machine.table in
+    falls_same t c.args.stage c.drawn_to.result (subst (λ n. t.depth n ≡ t.depth c.args.stage)
+    (sym c.drawn_to.ensures) c.draw_event.ensures.depth) c.lock_event.result c.lock_event.ensures.falls
+
+pub returns-in-Own-clause-passes : goal.returns-in-Own-clause-passes
+returns-in-Own-clause-passes g c = inl c.requires.passes
+
+pub returns-in-Load-clause-passes : goal.returns-in-Load-clause-passes
+returns-in-Load-clause-passes g c = inl c.requires.passes
+
+pub returns-in-Draw-clause-passes : goal.returns-in-Draw-clause-passes
+returns-in-Draw-clause-passes g c = inl c.requires.passes
+
+pub returns-in-Lock-clause-passes : goal.returns-in-Lock-clause-passes
+returns-in-Lock-clause-passes g c = inl c.requires.passes
+
+pub returns-in-State-clause-passes : goal.returns-in-State-clause-passes
+returns-in-State-clause-passes g c = inl c.requires.passes
+
+pub returns-in-Look-clause-passes : goal.returns-in-Look-clause-passes
+returns-in-Look-clause-passes g c = inl c.requires.passes
+
+pub returns-in-Sleep-clause-passes : goal.returns-in-Sleep-clause-passes
+returns-in-Sleep-clause-passes g c = inl c.requires.passes
+
+pub returns-in-Peek-clause-passes : goal.returns-in-Peek-clause-passes
+returns-in-Peek-clause-passes g c = inl c.requires.passes

@@ -1,0 +1,66 @@
+use Rattle.std.proofs.Common.{◌∙◌, sym, inl, inr}
+use Rattle.wait_class.proofs.Entries.{
+  gives_advances,
+  gives_falls,
+  pare_holds,
+  pare_may,
+  pare_owes,
+  pare_stops,
+  takes_advances,
+  takes_falls,
+}
+use Rattle.wait_class.proofs.events.pare_event.Goals as goal
+
+pub remove-requires-clause-held : goal.remove-requires-clause-held
+remove-requires-clause-held g c = pare_holds g.C.Machine.table c.lawful.ensures c.args.task.now
+    c.own_entry-entry.new.task c.args.run.now c.args.stage c.requires.here c.requires.at c.own_entry-entry.result
+    c.own_entry-entry.ensures
+
+pub remove-requires-clause-may : goal.remove-requires-clause-may
+remove-requires-clause-may g c = pare_may g.C.Machine.table c.lawful.ensures c.args.task.now c.own_entry-entry.new.task
+    c.args.run.now c.args.stage c.requires.here c.requires.at c.own_entry-entry.result c.own_entry-entry.ensures
+    (sym c.is_some.ensures ∙ c.if-is_some.true) c.number-me.result c.number-me.ensures.number
+
+pub returns-then-is_some-clause-advances : goal.returns-then-is_some-clause-advances
+returns-then-is_some-clause-advances g c = takes_advances g.C.Machine.table c.lawful.ensures c.args.task.now
+    c.own_entry-entry.new.task c.remove.new.task c.args.run.now c.args.stage c.requires.here c.requires.at
+    c.own_entry-entry.result c.own_entry-entry.ensures c.is_some.result c.is_some.ensures c.if-is_some.true
+    c.number-me.result c.number-me.ensures.number c.remove.ensures.removed c.remove.ensures.held c.found_to.result
+    c.found_to.ensures
+
+pub returns-then-is_some-clause-falls : goal.returns-then-is_some-clause-falls
+returns-then-is_some-clause-falls g c = takes_falls g.C.Machine.table c.lawful.ensures c.args.run.now.of c.args.stage
+    c.requires.here c.own_entry-entry.result c.is_some.result c.is_some.ensures c.if-is_some.true c.found_to.result
+    c.found_to.ensures
+
+pub give_back-requires-clause-held : goal.give_back-requires-clause-held
+give_back-requires-clause-held g c = (pare_holds g.C.Machine.table c.lawful.ensures c.args.task.now
+    c.own_entry-entry.new.task c.args.run.now c.args.stage c.requires.here c.requires.at c.own_entry-entry.result
+    c.own_entry-entry.ensures).locked
+
+pub give_back-requires-clause-agreed : goal.give_back-requires-clause-agreed
+give_back-requires-clause-agreed g c = (pare_holds g.C.Machine.table c.lawful.ensures c.args.task.now
+    c.own_entry-entry.new.task c.args.run.now c.args.stage c.requires.here c.requires.at c.own_entry-entry.result
+    c.own_entry-entry.ensures).agreed
+
+pub give_back-requires-clause-permits : goal.give_back-requires-clause-permits
+give_back-requires-clause-permits g c = pare_owes g.C.Machine.table c.lawful.ensures c.args.task.now
+    c.own_entry-entry.new.task c.args.run.now c.args.stage c.requires.here c.requires.at c.own_entry-entry.result
+    c.own_entry-entry.ensures
+
+pub returns-clause-advances : goal.returns-clause-advances
+returns-clause-advances g c = gives_advances g.C.Machine.table c.lawful.ensures c.args.task.now
+    c.own_entry-entry.new.task c.give_back.new.task c.args.run.now c.args.stage c.requires.here c.requires.at
+    c.own_entry-entry.result c.own_entry-entry.ensures c.is_some.result c.is_some.ensures c.if-is_some.false
+    c.give_back.ensures.given c.found_to-2.result c.found_to-2.ensures
+
+pub returns-clause-falls : goal.returns-clause-falls
+returns-clause-falls g c = gives_falls g.C.Machine.table c.lawful.ensures c.args.run.now.of c.args.stage
+    c.requires.here c.found_to-2.result c.found_to-2.ensures
+
+pub returns-then-is_some-clause-passes : goal.returns-then-is_some-clause-passes
+returns-then-is_some-clause-passes g c = inl c.requires.passes
+
+pub returns-clause-passes : goal.returns-clause-passes
+returns-clause-passes g c = inr (pare_stops g.C.Machine.table c.lawful.ensures c.args.run.now.of c.args.stage
+    c.requires.here c.found_to-2.result c.found_to-2.ensures)

@@ -1,0 +1,79 @@
+use Rattle.std.proofs.Common.{◌∙◌, ap, inl, inr}
+use Rattle.wait_model.specs.Tasks.{state_mask}
+use Rattle.wait_class.proofs.Queues.{
+  join_advances,
+  join_falls,
+  mid_holds,
+  queue_at,
+  queue_may,
+  queue_out,
+  stay_advances,
+  stay_falls,
+  worn_advances,
+  worn_falls,
+  worn_owes,
+  worn_stops,
+}
+use Rattle.wait_class.proofs.events.queue_event.Goals as goal
+
+pub set_state-requires-clause-may : goal.set_state-requires-clause-may
+set_state-requires-clause-may g c = queue_may g.C.Machine.table c.lawful.ensures c.args.task.now c.own_entry-entry.new.task
+    c.args.run.now c.args.stage c.requires.here c.requires.at c.own_entry-entry.result c.own_entry-entry.ensures c.mask.result (c.mask.ensures ∙ ap state_mask c.state.ensures)
+
+pub returns-then-is_some-clause-advances : goal.returns-then-is_some-clause-advances
+returns-then-is_some-clause-advances g c = stay_advances g.C.Machine.table c.lawful.ensures c.args.task.now c.own_entry-entry.new.task
+    c.set_state.new.task c.args.run.now c.args.stage c.requires.here c.requires.at c.own_entry-entry.result c.own_entry-entry.ensures
+    c.is_some.result c.is_some.ensures c.if-is_some.true c.mask.result (c.mask.ensures ∙ ap state_mask c.state.ensures)
+    c.set_state.ensures.step c.set_state.ensures.carries c.added_to.result c.added_to.ensures
+
+pub returns-then-is_some-clause-falls : goal.returns-then-is_some-clause-falls
+returns-then-is_some-clause-falls g c = stay_falls g.C.Machine.table c.lawful.ensures c.args.run.now.of c.args.stage
+    c.requires.here c.own_entry-entry.result c.is_some.result c.is_some.ensures c.if-is_some.true c.added_to.result c.added_to.ensures
+
+pub add-requires-clause-may : goal.add-requires-clause-may
+add-requires-clause-may g c = record {
+  fits = c.requires.at.fits;
+  held = mid_holds g.C.Machine.table c.lawful.ensures c.args.task.now c.own_entry-entry.new.task
+      c.args.run.now c.args.stage c.requires.here c.requires.at c.own_entry-entry.result c.own_entry-entry.ensures;
+  head = queue_at g.C.Machine.table c.lawful.ensures c.args.task.now c.own_entry-entry.new.task
+      c.args.run.now c.args.stage c.requires.here c.requires.at c.own_entry-entry.result c.own_entry-entry.ensures;
+  out = queue_out g.C.Machine.table c.lawful.ensures c.args.task.now c.own_entry-entry.new.task
+      c.own_entry-entry.result c.own_entry-entry.ensures c.is_some.result c.is_some.ensures c.if-is_some.false;
+}
+
+pub returns-in-Ok-clause-advances : goal.returns-in-Ok-clause-advances
+returns-in-Ok-clause-advances g c = join_advances g.C.Machine.table c.lawful.ensures c.args.task.now c.own_entry-entry.new.task
+    c.add.new.task c.args.run.now c.args.stage c.requires.here c.requires.at c.own_entry-entry.result c.own_entry-entry.ensures
+    c.is_some.result c.is_some.ensures c.if-is_some.false c.add.ensures.held c.in-Ok.first c.in-Ok.ensures.by
+    c.added_to-next.result c.added_to-next.ensures c.joined_at-run.result c.joined_at-run.ensures
+
+pub returns-in-Ok-clause-falls : goal.returns-in-Ok-clause-falls
+returns-in-Ok-clause-falls g c = join_falls g.C.Machine.table c.lawful.ensures c.args.run.now.of c.args.stage
+    c.requires.here c.added_to-next.result c.added_to-next.ensures
+
+pub give_back-requires-clause-permits : goal.give_back-requires-clause-permits
+give_back-requires-clause-permits g c = worn_owes g.C.Machine.table c.lawful.ensures c.args.task.now
+    c.own_entry-entry.new.task c.add.new.task c.own_entry.new.task c.args.run.now c.args.stage c.requires.here
+    c.requires.at c.own_entry-entry.result c.own_entry-entry.ensures c.in-Err.ensures.by.looks c.add.ensures.at
+    c.own_entry.result c.own_entry.ensures
+
+pub returns-in-Err-clause-advances : goal.returns-in-Err-clause-advances
+returns-in-Err-clause-advances g c = worn_advances g.C.Machine.table c.lawful.ensures c.args.task.now c.own_entry-entry.new.task
+    c.add.new.task c.own_entry.new.task c.give_back.new.task c.args.run.now c.args.stage c.requires.here c.requires.at
+    c.own_entry-entry.result c.own_entry-entry.ensures c.is_some.result c.is_some.ensures c.if-is_some.false c.in-Err.worn c.in-Err.ensures.by c.add.ensures.held
+    c.own_entry.result c.own_entry.ensures c.give_back.ensures.given c.in-Err.ensures.by.noted c.worn_at-run.result
+    c.worn_at-run.ensures c.added_to-next-in-Err.result c.added_to-next-in-Err.ensures
+
+pub returns-in-Err-clause-falls : goal.returns-in-Err-clause-falls
+returns-in-Err-clause-falls g c = worn_falls g.C.Machine.table c.lawful.ensures c.args.run.now.of c.args.stage
+    c.requires.here c.added_to-next-in-Err.result c.added_to-next-in-Err.ensures
+
+pub returns-then-is_some-clause-passes : goal.returns-then-is_some-clause-passes
+returns-then-is_some-clause-passes g c = inl c.requires.passes
+
+pub returns-in-Ok-clause-passes : goal.returns-in-Ok-clause-passes
+returns-in-Ok-clause-passes g c = inl c.requires.passes
+
+pub returns-in-Err-clause-passes : goal.returns-in-Err-clause-passes
+returns-in-Err-clause-passes g c = inr (worn_stops g.C.Machine.table c.lawful.ensures c.args.run.now.of c.args.stage
+    c.requires.here c.added_to-next-in-Err.result c.added_to-next-in-Err.ensures)

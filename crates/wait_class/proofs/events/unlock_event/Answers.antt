@@ -1,0 +1,27 @@
+use Rattle.std.proofs.Common.{inr}
+use Rattle.wait_class.proofs.Locks.{unlock_advances, unlock_agreed, unlock_falls, unlock_locked, unlock_owes, unlock_stops}
+use Rattle.wait_class.proofs.events.unlock_event.Goals as goal
+
+pub give_back-requires-clause-held : goal.give_back-requires-clause-held
+give_back-requires-clause-held g c = unlock_locked g.C.Machine.table c.lawful.ensures c.args.task.now c.args.run.now
+    c.args.stage c.requires.here c.requires.at
+
+pub give_back-requires-clause-agreed : goal.give_back-requires-clause-agreed
+give_back-requires-clause-agreed g c = unlock_agreed g.C.Machine.table c.lawful.ensures c.args.task.now c.args.run.now
+    c.args.stage c.requires.here c.requires.at
+
+pub give_back-requires-clause-permits : goal.give_back-requires-clause-permits
+give_back-requires-clause-permits g c = unlock_owes g.C.Machine.table c.lawful.ensures c.args.task.now c.args.run.now
+    c.args.stage c.requires.here c.requires.at
+
+pub returns-clause-advances : goal.returns-clause-advances
+returns-clause-advances g c = unlock_advances g.C.Machine.table c.lawful.ensures c.args.task.now c.give_back.new.task
+    c.args.run.now c.args.stage c.requires.here c.requires.at c.give_back.ensures.given c.next_of.result c.next_of.ensures
+
+pub returns-clause-falls : goal.returns-clause-falls
+returns-clause-falls g c = unlock_falls g.C.Machine.table c.lawful.ensures c.args.run.now.of c.args.stage
+    c.requires.here c.next_of.result c.next_of.ensures
+
+pub returns-clause-passes : goal.returns-clause-passes
+returns-clause-passes g c = inr (unlock_stops g.C.Machine.table c.lawful.ensures c.args.run.now.of c.args.stage
+    c.requires.here c.next_of.result c.next_of.ensures)

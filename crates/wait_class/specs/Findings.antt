@@ -1,0 +1,35 @@
+-- To be believed.
+-- What the events of a call that waits find.
+use Rattle.std.specs.Prelude.{ℕ, Bool, false, Option, None}
+use Rattle.wait_model.specs.declared.points.Seen.{Seen}
+use Rattle.wait_model.specs.declared.tasks.TaskRecord.{TaskRecord}
+use Rattle.wait_model.specs.declared.watches.Entry.{Entry}
+use Rattle.wait_model.specs.Tasks.{task_of}
+
+-- what a program finds where it asks for nothing, for a value, for an entry, and for the own record
+abbrev pub nothing : Seen
+nothing = record {
+  own = task_of 0;
+  entry = None;
+  flag = false;
+  value = 0;
+  called = None;
+  breaks = false;
+  calls = 0;
+  members = false;
+  worn = false;
+  mark = None;
+  other = task_of 0;
+}
+
+abbrev pub with_value : ℕ → Seen
+with_value r = record nothing { value = r }
+
+abbrev pub with_entry : Option Entry → Seen
+with_entry o = record nothing { entry = o }
+
+abbrev pub with_worn : Bool → Seen
+with_worn b = record nothing { worn = b }
+
+abbrev pub with_own : TaskRecord → Seen
+with_own t = record nothing { own = t }

@@ -1,0 +1,63 @@
+-- To be believed.
+-- The add of an entry in a hold, by its form.
+use Rattle.std.specs.Prelude.{ℕ, ◌≡◌, ◌&&◌, not, Bool, true, false, if◌then◌else◌, List, [], ◌∷◌, Result, Ok, Err}
+use Rattle.wait_model.specs.declared.queues.Form.{Form}
+use Rattle.wait_model.specs.declared.queues.Form.TheVariants as forms
+use Rattle.wait_model.specs.declared.queues.Member.{Member}
+use Rattle.wait_model.specs.declared.tasks.How.{How}
+use Rattle.wait_model.specs.declared.watches.Entry.{Entry}
+use Rattle.wait_model.specs.declared.watches.Kind.{Kind}
+use Rattle.wait_model.specs.declared.watches.Watch.{Watch}
+use Rattle.wait_model.specs.Queues.{is_exclusive, is_priority}
+use Rattle.wait_model.specs.Watches.{is_simple}
+use Rattle.wait_rule.specs.Known.{Known}
+use Rattle.wait_rule.specs.Queues.{IsFrontPlace, IsTailPlace, IsPriorityPlace, IsWholeBook}
+use Rattle.wait_rule.specs.Shown.{shown_queue}
+use Rattle.wq_head.specs.declared.adds.Worn.{Worn}
+use Rattle.wq_head.specs.Adds.{IsFor, IsForPlain, IsForTail, IsFrontWorn, IsTailWorn, IsPriorityWorn}
+
+-- the place that an add of a form takes, the entry that stands there, and where it finds no place; a simple entry is
+-- not exclusive
+abbrev pub IsFormPlace : Form → Known → ℕ → Type 0
+IsFormPlace forms.Front k place = IsFrontPlace k place
+IsFormPlace forms.Tail k place = IsTailPlace k place
+IsFormPlace forms.Priority k place = IsPriorityPlace k place
+
+abbrev pub form_entry : Form → Watch → Kind → ℕ → Entry
+form_entry form w k place = record {
+  watch = w;
+  place = place;
+  exclusive = is_exclusive form && not (is_simple k);
+  priority = is_priority form;
+  kind = k;
+}
+
+abbrev pub IsFormWorn : Form → Known → Known → Worn → Type 0
+IsFormWorn forms.Front old new w = IsFrontWorn old new w
+IsFormWorn forms.Tail old new w = IsTailWorn old new w
+IsFormWorn forms.Priority old new w = IsPriorityWorn old new w
+
+-- what an add of a form may queue: an entry for a simple head is added at the tail
+abbrev pub IsForBy : Form → Watch → Kind → Type 0
+IsForBy forms.Front w k = IsFor w k
+IsForBy forms.Tail w k = IsForTail w k
+IsForBy forms.Priority w k = IsForPlain w k
+
+-- the form of a wait's entry
+abbrev pub wait_form : How → Form
+wait_form how = if how.exclusive then forms.Tail else forms.Front
+
+-- an add that does not tell whether the head had a member
+abbrev pub untold : Result (Unit {0}) Worn → Result Bool Worn
+untold (Ok added) = Ok false
+untold (Err worn) = Err worn
+
+-- whether a queue has no member
+abbrev pub is_none : List Member → Bool
+is_none [] = true
+is_none (m ∷ ms) = false
+
+-- where it was asked for, the hold has seen the whole queue, and tells whether it has no member
+pub record TellsFirst (asked : Bool) (k : Known) (first : Bool) : Type 0 where
+  pub tells : first ≡ (asked && is_none (shown_queue k))
+  pub whole : asked ≡ true → IsWholeBook k

@@ -1,0 +1,159 @@
+//! Calls that wait, by stretches, for who may not wait, and to their ends.
+
+ghost use Rattle.std.specs.Prelude.{◌≡◌, ◌≤◌, MatchBool};
+ghost use Rattle.wait_rule.specs.PassedLocks.{PassesNone};
+ghost use Rattle.wait_rule.specs.Says.{IsUp};
+ghost use Rattle.wq_head.specs.declared.locks.TheConstants.{LOOKS};
+ghost use Rattle.wait_class.specs.declared.stages.Turn.TheVariants as turn;
+ghost use Rattle.wait_class.specs.Tables.{Advances, IsAsleepAt, IsAt, IsStop};
+ghost use Rattle.wait_class.specs.Wholes.{HasRested};
+
+use crate::events::advance;
+use crate::machines::Machine;
+use crate::stages::{Run, Turn};
+use std::sync::Wait;
+use wait_model::heads::head_of;
+use wait_model::layout::RUNNING;
+use wait_rule::queues::Passing;
+use wait_rule::tasks::{awake, set_state};
+use wait_rule::{Domain, Task, wait_up};
+use wq_head::locks;
+
+/// More turns than a stretch has: at most four events are left before its first turn, and fewer after each.
+const STRETCH: u8 = 5;
+
+/// Goes on with a wait from a stage up to the next one at which no head is held, for who may not wait: an executor, or
+/// a caller from another language. Again: it goes on there at once, by the next call. Locked: it waits for a lock, and
+/// goes on there when another number of the head is served. Asleep: it was put asleep, and goes on there once `woke` has
+/// answered true. Done: the wait is over. It wakes no thread: `passing` has the lock that it passed on, for whoever made
+/// the stretch.
+pub fn stretch<C: Machine>(
+    domain: &Domain,
+    task: &mut Task,
+    run: &mut Run<C>,
+    stage: C::Stage,
+    passing: &mut Passing,
+) -> Turn<C::Stage, C::Outcome>
+    requires of { task.old.domain ≡ domain.now }
+    requires passes { PassesNone passing.old }
+    requires at { IsAt C.table task.old run.old stage }
+    ensures advances { Advances C.table task.old task.new run.old run.new stage result }
+    ensures stops { IsStop C.table result }
+{
+    C::lawful();
+    let mut at = stage;
+    for _turn in 0..STRETCH {
+        match advance(domain, task, run, at, passing) {
+            Turn::Again(next) => {
+                if C::is_free(next) {
+                    return Turn::Again(next);
+                }
+                at = next;
+            }
+            Turn::Asleep(next) => return Turn::Asleep(next),
+            Turn::Locked(next) => return Turn::Locked(next),
+            Turn::Done(outcome) => return Turn::Done(outcome),
+        }
+    }
+    unreachable!()
+}
+
+/// Looks whether a wait that was put asleep was woken: true where it may go on at `stage`.
+pub fn woke<C: Machine>(domain: &Domain, task: &mut Task, run: &Run<C>, stage: C::Stage) -> bool
+    requires of { task.old.domain ≡ domain.now }
+    requires asleep { IsAsleepAt C.table task.old run.now stage }
+    ensures { MatchBool result (Advances C.table task.old task.new run.now run.now stage (turn.Again stage))
+        (Advances C.table task.old task.new run.now run.now stage (turn.Asleep stage)) }
+{
+    C::lawful();
+    let _ = (*run, stage);
+    awake(domain, task)
+}
+
+/// Waits until a wait that was put asleep was woken.
+fn rise<R: Wait, C: Machine>(
+    rt: &R,
+    domain: &Domain,
+    task: &mut Task,
+    run: &Run<C>,
+    stage: C::Stage,
+)
+    requires of { task.old.domain ≡ domain.now }
+    requires asleep { IsAsleepAt C.table task.old run.now stage }
+    ensures { Advances C.table task.old task.new run.now run.now stage (turn.Again stage) }
+{
+    C::lawful();
+    let _ = (*run, stage);
+    task.told();
+    wait_up(rt, domain, task);
+    task.told();
+}
+
+/// Between two looks at a ticket that is not served yet: some times nothing, and then the thread parks.
+fn pause<R: Wait, C: Machine>(
+    rt: &R,
+    domain: &Domain,
+    run: &Run<C>,
+    stage: C::Stage,
+    looks: u32,
+) -> u32
+    requires fits { C.table.Fits run.now.of }
+    ensures { result ≤ LOOKS }
+{
+    C::lawful();
+    locks::pause(rt, domain, head_of(run.of.watch(stage)), run.served, looks)
+}
+
+/// Goes on with a wait from a stage to its end: waits for locks, and sleeps.
+#[inline(always)]
+pub fn run<R: Wait, C: Machine>(
+    rt: &R,
+    domain: &Domain,
+    task: &mut Task,
+    run: &mut Run<C>,
+    stage: C::Stage,
+) -> C::Outcome
+    requires of { task.old.domain ≡ domain.now }
+    requires at { IsAt C.table task.old run.old stage }
+    ensures { Advances C.table task.old task.new run.old run.new stage (turn.Done result) }
+{
+    C::lawful();
+    let mut at = stage;
+    let mut looks = 0;
+    let mut passing = Passing::none();
+    for _ in rt.forever() {
+        let turn = advance(domain, task, run, at, &mut passing);
+        passing.wake(domain);
+        match turn {
+            Turn::Again(next) => {
+                looks = 0;
+                at = next;
+            }
+            Turn::Asleep(next) => {
+                rise(rt, domain, task, run, next);
+                at = next;
+            }
+            Turn::Locked(next) => {
+                looks = pause(rt, domain, run, next, looks);
+                at = next;
+            }
+            Turn::Done(outcome) => {
+                passing.end();
+                return outcome;
+            }
+        }
+    }
+    unreachable!()
+}
+
+/// Stores RUNNING where no place was left, since the task may still be in the state in which it would have slept.
+#[inline(always)]
+pub fn rest(domain: &Domain, task: &mut Task, worn: bool)
+    requires of { task.old.domain ≡ domain.now }
+    requires up { IsUp task.old }
+    ensures { HasRested task.old task.new worn }
+{
+    if worn {
+        set_state(domain, task, RUNNING);
+    }
+}

@@ -1,4 +1,0 @@
-pub mod Standing
-pub mod Keeping
-pub mod Going
-pub mod WalkedCalls

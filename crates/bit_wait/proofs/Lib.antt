@@ -1,8 +1,11 @@
 pub mod Trying
 pub mod Words
-pub mod Events
+pub mod BitLaws
 pub mod Clearing
 pub mod Holders
-pub mod LockEvents
+pub mod LockKinds
+pub mod LockLaws
+pub mod LockTries
+pub mod LockEndings
 pub mod LockGround
 pub mod LosesNone

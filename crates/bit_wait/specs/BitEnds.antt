@@ -24,18 +24,18 @@ use Rattle.wait_rule.specs.Transitions.{call_program}
 use Rattle.wait_event.specs.Ends.{wait_change}
 use Rattle.wait_class.specs.Posts.{Runs}
 use Rattle.wait_class.specs.Posts.{EndsWith}
-use Rattle.bit_wait.specs.BitWaits.{has_sleep, head_in}
+use Rattle.wait_class.specs.Tables.{has_sleep}
 use Rattle.bit_wait.specs.declared.wait_calls.BitEnd.{BitEnd}
 use Rattle.bit_wait.specs.declared.wait_calls.BitEnd.TheVariants as bit_end
 use Rattle.bit_wait.specs.declared.waits.BitOutcome.{BitOutcome}
 use Rattle.bit_wait.specs.declared.waits.BitOutcome.TheVariants as outcome
-use Rattle.bit_wait.specs.declared.waits.BitRun.{BitRun}
+use Rattle.bit_wait.specs.declared.waits.WaitBit.{WaitBit}
 
 -- the answer of a wait that has ended
-abbrev pub end_in : BitRun → BitOutcome → Result (Unit {0}) BitEnd
+abbrev pub end_in : WaitBit → BitOutcome → Result (Unit {0}) BitEnd
 end_in r outcome.Over = Ok tt
 end_in r outcome.Interrupted = Err (bit_end.Interrupted r.seen)
-end_in r outcome.Worn = Err (bit_end.Worn (head_in r) r.place)
+end_in r outcome.Worn = Err (bit_end.Worn (head_of (watch.Bit r.word r.bit)) r.place)
 
 -- the answer of the call
 abbrev pub answer_of : Result (Unit {0}) BitEnd → Answer

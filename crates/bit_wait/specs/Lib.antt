@@ -1,10 +1,10 @@
 pub mod Holders
 pub mod Tries
 pub mod Words
-pub mod BitWaits
+pub mod BitTables
 pub mod BitEnds
 pub mod Clears
 pub mod LockStays
-pub mod LockWaits
+pub mod LockTables
 pub mod LockEnds
 pub mod LosesNone

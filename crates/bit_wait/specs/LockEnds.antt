@@ -20,19 +20,19 @@ use Rattle.wait_rule.specs.Transitions.{call_program}
 use Rattle.wait_class.specs.Posts.{Runs}
 use Rattle.wait_class.specs.Posts.{EndsWith}
 use Rattle.bit_wait.specs.BitEnds.{answer_of}
-use Rattle.bit_wait.specs.BitWaits.{has_sleep}
-use Rattle.bit_wait.specs.LockWaits.{head_in}
+use Rattle.wait_class.specs.Tables.{has_sleep}
+pub use Rattle.wait_class.specs.Wholes.{HasRested}
 use Rattle.bit_wait.specs.declared.wait_calls.BitEnd.{BitEnd}
 use Rattle.bit_wait.specs.declared.wait_calls.BitEnd.TheVariants as bit_end
-use Rattle.bit_wait.specs.declared.lock_waits.LockOutcome.{LockOutcome}
-use Rattle.bit_wait.specs.declared.lock_waits.LockOutcome.TheVariants as outcome
-use Rattle.bit_wait.specs.declared.lock_waits.LockRun.{LockRun}
+use Rattle.bit_wait.specs.declared.lock_runs.LockOutcome.{LockOutcome}
+use Rattle.bit_wait.specs.declared.lock_runs.LockOutcome.TheVariants as outcome
+use Rattle.bit_wait.specs.declared.lock_runs.LockBit.{LockBit}
 
 -- the answer of a wait that has ended
-abbrev pub end_in : LockRun → LockOutcome → Result (Unit {0}) BitEnd
+abbrev pub end_in : LockBit → LockOutcome → Result (Unit {0}) BitEnd
 end_in r outcome.Over = Ok tt
 end_in r outcome.Interrupted = Err (bit_end.Interrupted r.seen)
-end_in r outcome.Worn = Err (bit_end.Worn (head_in r) r.place)
+end_in r outcome.Worn = Err (bit_end.Worn (head_of (watch.Bit r.word r.bit)) r.place)
 
 -- The last turn of a wait that a signal ended: the task slept, and then its own word showed a signal that the state
 -- admits. It has not slept since; and last of all the test-and-set found `seen`, with the bit set.
@@ -75,8 +75,3 @@ pub record EndsBitLock (old new : Known) (w b : ℕ) (st : SleepState) (result :
       (next.Ends (answer_of result))
   pub cause : IsCause ended w b st result
   pub rests : (new ≡ ended) ⊎ (new ≡ added ended (item.Made (step.State 0)))
-
--- What the task does after it: where it found no place it stores RUNNING.
-abbrev pub HasRested : Known → Known → Bool → Type 0
-HasRested ended new true = new ≡ added ended (item.Made (step.State 0))
-HasRested ended new false = new ≡ ended

@@ -4,6 +4,7 @@
 pub mod clears;
 pub mod laws;
 pub mod lock_calls;
+pub mod lock_runs;
 pub mod lock_waits;
 pub mod tries;
 pub mod wait_calls;

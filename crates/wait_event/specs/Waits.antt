@@ -54,6 +54,7 @@ use Rattle.wait_rule.specs.Says.{IsUp, IsDown, history_of, told_of}
 use Rattle.wait_rule.specs.Queues.{index}
 use Rattle.wait_rule.specs.Shown.{shown_queue}
 use Rattle.wait_rule.specs.Transitions.{Program, StepOrLook, Transition, by_step, call_program}
+use Rattle.wait_class.specs.Posts.{EndsWith, own_of}
 use Rattle.wait_class.specs.Posts.{Post, Stands, Keeps, Runs, ticket_out, zone_at}
 use Rattle.wait_class.specs.Queueing.{is_none}
 use Rattle.wait_event.specs.declared.waits.WaitRun.{WaitRun}

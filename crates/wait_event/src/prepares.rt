@@ -12,7 +12,7 @@ ghost use Rattle.wait_class.specs.Posts.{own_of};
 ghost use Rattle.wait_rule.specs.Queues.{IsTold};
 ghost use Rattle.wait_rule.specs.Stays.{Carries};
 
-use crate::queueing::own_entry;
+use wait_class::queueing::own_entry;
 use crate::wait_calls::pause;
 use crate::waits::{WaitRun, WaitStage, WaitTurn, advance};
 use std::sync::Wait;

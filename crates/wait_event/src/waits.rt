@@ -14,7 +14,7 @@ ghost use Rattle.wait_event.specs.Waits.{DrawsAt, LoadsAt, LocksAt, LooksAt, Par
 ghost use Rattle.wait_event.specs.Waits.{falls, tells_first, turn_of};
 ghost use Rattle.wait_event.specs.declared.waits.WaitStage.TheVariants as stage;
 
-use crate::queueing::{add_by, is_first, or_first, own_entry, wait_form};
+use wait_class::queueing::{add_by, is_first, or_first, own_entry, wait_form};
 use wait_model::heads::head_of;
 use wait_model::layout::RUNNING;
 use wait_model::task_words::{TaskWord, pending_state};

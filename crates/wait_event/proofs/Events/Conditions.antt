@@ -13,6 +13,7 @@ use Rattle.wait_model.specs.declared.watches.Watch.TheVariants as watch
 use Rattle.wait_model.specs.Watches.{IsThere, bare, is_simple, kind_for}
 use Rattle.wq_head.specs.Adds.{IsForPlain, IsFullKind}
 use Rattle.wait_class.specs.Queueing.{IsForBy, wait_form}
+use Rattle.wait_class.proofs.EntryForms.{for_by}
 use Rattle.wait_event.specs.Waits.{IsRunning, IsWaitFor}
 use Rattle.wait_event.specs.declared.waits.WaitRun.{WaitRun}
 

@@ -20,6 +20,7 @@ use Rattle.wait_rule.specs.Transitions.{OnlyLooks, Program, IsSeenAs, by_step}
 use Rattle.wq_head.specs.Adds.{HasRemoved}
 use Rattle.wq_head.specs.Holds.{IsHolding}
 use Rattle.wait_class.specs.Posts.{HasSeenOwn, IsStateFor, Keeps, Post, Stands}
+use Rattle.wait_class.proofs.Ground.Standing.{bare_head, owner_own}
 use Rattle.wait_event.specs.WaitPlans.{goes_to, wait_plan}
 use Rattle.wait_class.specs.Posts.{EndsWith, own_of}
 use Rattle.wait_event.specs.Waits.{IsAt, LeftQueue, ParesAt, TrailAt, end_post, head_of_wait, post_in, wait_post}

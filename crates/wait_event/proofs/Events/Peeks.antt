@@ -15,6 +15,7 @@ use Rattle.wait_rule.specs.Stays.{only_looks, with_entry}
 use Rattle.wait_rule.specs.Transitions.{OnlyLooks, Program, by_step}
 use Rattle.wait_rule.proofs.KnownLaws.Transitions.{only_none}
 use Rattle.wait_class.specs.Posts.{HasSeenOwn, Keeps}
+use Rattle.wait_class.proofs.Ground.Keeping.{own_keeps}
 use Rattle.wait_event.specs.WaitPlans.{goes_to, wait_plan}
 use Rattle.wait_event.specs.Waits.{IsAt, PeeksAt, end_post, wait_post}
 use Rattle.wait_class.specs.Findings.{with_entry as finds}

@@ -1,4 +1,5 @@
 -- A state is stored, and looked for a signal.
+use Rattle.wait_class.proofs.Ground.Standing.{state_keeps, state_looks, state_stands, state_up}
 use Rattle.wait_event.proofs.Events.Trails.{queued_still}
 use Rattle.std.proofs.Common.{◌∙◌, ap, sym, refl, subst, inr}
 use Rattle.std.specs.Prelude.{ℕ, ◌≡◌, Bool, true, false, if◌then◌else◌, Option, None}

@@ -38,6 +38,7 @@ use Rattle.wait_rule.proofs.KnownLaws.TaskHistories.{history_after}
 use Rattle.wait_rule.proofs.TableSteps.ItemLists.{steps_append}
 use Rattle.wait_rule.proofs.WornHeads.WornNotes.{notes_stay}
 use Rattle.wait_class.specs.Posts.{EndsWith, own_of}
+use Rattle.wait_class.proofs.Histories.{ends_more}
 use Rattle.wait_event.specs.Waits.{
   FoundWorn,
   HasSeenSet,

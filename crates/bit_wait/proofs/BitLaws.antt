@@ -1,0 +1,383 @@
+-- The table of a wait until a bit is clear keeps its laws; and what a whole wait says.
+use Rattle.std.proofs.Common.{◌∙◌, ap, sym, refl, subst, inl, inr, arith, append_assoc}
+use Rattle.std.specs.Prelude.{ℕ, ◌≡◌, ◌<◌, ◌+◌, ◌*◌, ◌⊎◌, ◌&&◌, not, Bool, true, false, if◌then◌else◌}
+use Rattle.std.specs.Prelude.{None, Result, IfOk, IfErr, List, [], ◌∷◌, ◌++◌}
+use Rattle.wait_model.specs.declared.layout.TheConstants.{FIRST_DONE_HEAD, WORD_BITS}
+use Rattle.wait_model.specs.declared.calls.Answer.TheVariants as answer
+use Rattle.wait_model.specs.declared.calls.Call.{Call}
+use Rattle.wait_model.specs.declared.calls.Call.TheVariants as calls
+use Rattle.wait_model.specs.declared.calls.Event.{Event}
+use Rattle.wait_model.specs.declared.points.BitPoint.TheVariants as biting
+use Rattle.wait_model.specs.declared.points.FinishPoint.TheVariants as finishing
+use Rattle.wait_model.specs.declared.points.Next.{Next}
+use Rattle.wait_model.specs.declared.points.Next.TheVariants as next
+use Rattle.wait_model.specs.declared.points.Point.TheVariants as at
+use Rattle.wait_model.specs.declared.points.PreparePoint.TheVariants as preparing
+use Rattle.wait_model.specs.declared.steps.Step.{Step}
+use Rattle.wait_model.specs.declared.steps.Step.TheVariants as step
+use Rattle.wait_model.specs.declared.tasks.SleepState.{SleepState}
+use Rattle.wait_model.specs.declared.watches.Kind.TheVariants as kind
+use Rattle.wait_model.specs.declared.watches.Watch.{Watch}
+use Rattle.wait_model.specs.declared.watches.Watch.TheVariants as watch
+use Rattle.wait_model.specs.Programs.{acted, ends_with, finished, go, load, zero_answer}
+use Rattle.wait_model.specs.PointFacts.{holds}
+use Rattle.wait_model.specs.Tasks.{looks_in, pending, state_mask, task_of}
+use Rattle.wait_model.specs.Watches.{head_of}
+use Rattle.wait_model.specs.Words.{bit_at}
+use Rattle.wait_rule.specs.Known.{Known}
+use Rattle.wait_rule.specs.Queues.{IsIdle, IsTold, index}
+use Rattle.wait_rule.specs.Says.{IsUp, history_of, told_of}
+use Rattle.wait_rule.specs.Stays.{Carries}
+use Rattle.wait_rule.proofs.KnownLaws.StayingParts.{owes_also, owes_out}
+use Rattle.wq_head.specs.Adds.{HasAdded, IsFor, IsFrontWorn, front_entry}
+use Rattle.wq_head.specs.Holds.{IsHolding}
+use Rattle.wq_head.specs.declared.adds.Worn.{Worn}
+use Rattle.wait_rule.specs.Ends.{WasWorn}
+use Rattle.wait_rule.specs.Queues.{IsFrontPlace}
+use Rattle.wq_head.proofs.FullHeads.{hashed_low}
+use Rattle.wait_class.specs.Posts.{IsOut}
+use Rattle.wait_class.specs.Posts.{Stands}
+use Rattle.wait_class.specs.Posts.{EndsWith}
+use Rattle.wait_class.specs.Findings.{with_value}
+use Rattle.wait_class.proofs.Ground.Standing.{home_waits}
+use Rattle.wait_class.specs.declared.frame_stages.Framed.{Framed}
+use Rattle.wait_class.specs.declared.frame_stages.Stage.TheVariants as stage
+use Rattle.wait_class.specs.declared.stages.Run.{Run}
+use Rattle.wait_class.specs.declared.stages.Turn.TheVariants as turn
+use Rattle.wait_class.specs.FrameLaws.{FinishLaw, IsLawfulFrame}
+use Rattle.wait_class.specs.Queueing.{untold}
+use Rattle.wait_class.specs.Tables.{has_sleep}
+use Rattle.wait_class.specs.Laws.{AddsOwn, LoadLaw, LookLaw, SleepLaw}
+use Rattle.wait_class.specs.Tables.{Advances, Calm, IsAt, Plan, Unmoved, call_plan, next_in}
+use Rattle.wait_class.proofs.CallPlans.{call_stands}
+use Rattle.wait_class.proofs.Histories.{awake_more, ends_calm, ends_still, worn_calm, worn_still}
+use Rattle.wait_class.proofs.Stays.{adds_front, wait_stays}
+use Rattle.wait_class.proofs.Ways.{finish_by, go_if, load_fork, look_by, sleep_by, way}
+use Rattle.wait_class.proofs.Wholes.{begins, ended_runs, none_of}
+use Rattle.bit_wait.specs.BitEnds.{EndsBitWait, IsCause, IsIdleAfter, answer_of, bit_change, end_in}
+use Rattle.bit_wait.specs.BitTables.{
+  FinishTrail,
+  IsFresh,
+  IsRunning,
+  TestTrail,
+  answer_in,
+  bit_frame,
+  bit_in,
+  bit_table,
+  call_in,
+  end_post,
+  loads_set,
+  set_to,
+}
+use Rattle.bit_wait.specs.declared.waits.BitOutcome.{BitOutcome}
+use Rattle.bit_wait.specs.declared.waits.BitOutcome.TheVariants as outcome
+use Rattle.bit_wait.specs.declared.waits.BitTest.{BitTest}
+use Rattle.bit_wait.specs.declared.waits.BitTest.TheVariants as test
+use Rattle.bit_wait.specs.declared.wait_calls.BitEnd.{BitEnd}
+use Rattle.bit_wait.specs.declared.waits.WaitBit.{WaitBit}
+
+run_low : (r : WaitBit) → head_of (bit_in r) < FIRST_DONE_HEAD
+unfolding head_of
+run_low r = let low = hashed_low (r.word * WORD_BITS + r.bit) in omega (arith, low)
+
+-- a signal that was found stays found while the task does not sleep
+calm_finish : (old new : Known) (r : WaitBit) (failed : Bool) (es : List Step) → has_sleep es ≡ false
+    → Calm es old new → FinishTrail old r failed → FinishTrail new r failed
+calm_finish old new r true es awake calm f = record {
+  before = f.before;
+  sleep = f.sleep;
+  look = f.look;
+  more = f.more ++ es;
+  ends = calm.history ∙ (ap (λ (l : List Step). l ++ es) f.ends
+      ∙ append_assoc f.before (loads_set r (step.Sleep f.sleep ∷ step.Look f.look ∷ f.more)) es);
+  set = f.set;
+  pends = f.pends;
+  awake = awake_more f.more es f.awake awake;
+}
+calm_finish old new r false es awake calm f = tt
+
+still_finish : (old new : Known) (r : WaitBit) (failed : Bool) → Unmoved old new → FinishTrail old r failed
+    → FinishTrail new r failed
+still_finish old new r true still f = record {
+  before = f.before;
+  sleep = f.sleep;
+  look = f.look;
+  more = f.more;
+  ends = still.history ∙ f.ends;
+  set = f.set;
+  pends = f.pends;
+  awake = f.awake;
+}
+still_finish old new r false still f = tt
+
+test_still : (old new : Known) (r : WaitBit) (x : BitTest) → Unmoved old new → TestTrail old r x → TestTrail new r x
+test_still old new r test.First still f = tt
+test_still old new r test.Load still f = ends_still old new (step.Unlock (head_of (bit_in r)) false ∷ []) still f
+test_still old new r (test.Again failed) still f = still_finish old new r failed still f
+test_still old new r test.Worn still f = record {
+  noted = worn_still old new (head_of (bit_in r)) r.place still f.noted;
+  ends = ends_still old new (step.Unlock (head_of (bit_in r)) false ∷ []) still f.ends;
+}
+
+bit_if : (b : Bool) (e : Event) → go e (at.Bit (if b then biting.Sleep else biting.Again false))
+    ≡ (if b then go e (at.Bit biting.Sleep) else go e (at.Bit (biting.Again false)))
+bit_if true e = refl
+bit_if false e = refl
+
+module _ (r : WaitBit) where
+  abbrev w : Framed WaitBit
+  w = record { wait = r }
+
+  -- the loads
+  module _ (v : ℕ) where
+    abbrev e : Event
+    e = load (call_in r) (with_value v)
+
+    abbrev q : Framed WaitBit
+    q = record { wait = record r { seen = v } }
+
+    abbrev b : Bool
+    b = bit_at v r.bit
+
+    abbrev loads_more : (old new : Known) → Calm (step.Load (bit_in r) v ∷ []) old new
+        → EndsWith old (step.Unlock (head_of (bit_in r)) false ∷ [])
+        → EndsWith new (step.Unlock (head_of (bit_in r)) false ∷ step.Load (bit_in r) v ∷ [])
+    loads_more old new calm u = ends_calm old new (step.Unlock (head_of (bit_in r)) false ∷ [])
+        (step.Load (bit_in r) v ∷ []) calm u
+
+    first_law : LoadLaw bit_table w (stage.Test test.First) v w (set_to test.First b)
+    first_law = load_fork bit_table w (stage.Test test.First) refl v w b (turn.Again stage.PrepareLock)
+        (turn.Done outcome.Over) (go e (at.Prepare preparing.Lock)) (ends_with e zero_answer) e refl (λ f. f) (λ x did. tt)
+        (λ me. refl) (refl, refl) (refl, refl) (λ k me. refl) (λ me k. (refl, tt, tt))
+        (way bit_table w (stage.Test test.First) w (turn.Again stage.PrepareLock) refl refl refl refl refl
+        (λ σ s. inl s) (home_waits (bit_in r)))
+        (way bit_table w (stage.Test test.First) w (turn.Done outcome.Over) tt refl refl refl refl (λ σ s. s)
+        (λ o h. h)) (λ old new is calm u. tt) (λ old new is calm u. tt)
+
+    load_law : LoadLaw bit_table w (stage.Test test.Load) v q (set_to test.Load b)
+    load_law = load_fork bit_table w (stage.Test test.Load) refl v q b (turn.Again stage.Sleep)
+        (turn.Again (stage.Test (test.Again false))) (go e (at.Bit biting.Sleep)) (go e (at.Bit (biting.Again false))) e
+        refl (λ f. record { word = f.word; bit = f.bit }) (λ x did. tt)
+        (λ me. bit_if b e) (refl, refl) (refl, refl)
+        (λ k me. refl) (λ me k. (refl, tt, tt))
+        (way bit_table w (stage.Test test.Load) q (turn.Again stage.Sleep) refl refl refl refl refl (λ σ s. s) (λ o h. h))
+        (way bit_table w (stage.Test test.Load) q (turn.Again (stage.Test (test.Again false))) refl refl refl refl refl
+        (λ σ s. s) (λ o h. h)) (λ old new is calm u. (loads_more old new calm u, is)) (λ old new is calm u. tt)
+
+    again_law : (failed : Bool) → LoadLaw bit_table w (stage.Test (test.Again failed)) v w (set_to (test.Again failed) b)
+    again_law failed = load_fork bit_table w (stage.Test (test.Again failed)) refl v w (b && not failed)
+        (turn.Again stage.PrepareLock) (turn.Again (stage.FinishState failed)) (go e (at.Prepare preparing.Lock))
+        (go e (at.Finish finishing.State failed)) e refl (λ f. f) (λ x did. tt)
+        (λ me. go_if (b && not failed) e (at.Prepare preparing.Lock) (at.Finish finishing.State failed)) (refl, refl)
+        (refl, refl) (λ k me. refl) (λ me k. (refl, tt, tt))
+        (way bit_table w (stage.Test (test.Again failed)) w (turn.Again stage.PrepareLock) refl refl refl refl refl
+        (λ σ s. s) (λ o h. h))
+        (way bit_table w (stage.Test (test.Again failed)) w (turn.Again (stage.FinishState failed)) refl refl refl refl
+        refl (λ σ s. s) (λ o h. h)) (λ old new is calm u. tt)
+        (λ old new is calm u. calm_finish old new r failed (step.Load (bit_in r) v ∷ []) refl calm u)
+
+    worn_law : LoadLaw bit_table w (stage.Test test.Worn) v q (set_to test.Worn b)
+    worn_law = load_fork bit_table w (stage.Test test.Worn) refl v q b (turn.Done outcome.Worn)
+        (turn.Again (stage.FinishState false)) (ends_with e answer.Worn) (go e (at.Finish finishing.State false)) e refl
+        (λ f. record { word = f.word; bit = f.bit }) (λ x did. tt) (λ me. refl) (refl, refl) (refl, refl) (λ k me. refl)
+        (λ me k. (refl, tt, tt))
+        (way bit_table w (stage.Test test.Worn) q (turn.Done outcome.Worn) tt refl refl refl refl (λ σ s. s) (λ o h. h))
+        (way bit_table w (stage.Test test.Worn) q (turn.Again (stage.FinishState false)) refl refl refl refl refl
+        (λ σ s. s) (home_waits (bit_in r)))
+        (λ old new is calm u. record {
+          head = refl;
+          noted = worn_calm old new (step.Load (bit_in r) v ∷ []) (head_of (bit_in r)) r.place calm u.noted;
+          found = v;
+          ends = loads_more old new calm u.ends;
+          set = is;
+        }) (λ old new is calm u. tt)
+
+  tests : (x : BitTest) (v : ℕ)
+      → LoadLaw bit_table w (stage.Test x) v (record { wait = bit_frame.noted r x v }) (set_to x (bit_at v r.bit))
+  tests test.First v = first_law v
+  tests test.Load v = load_law v
+  tests (test.Again failed) v = again_law v failed
+  tests test.Worn v = worn_law v
+
+  -- the sleep, the look for a signal, and the finish
+  sleep_law : (b : Bool) → looks_in r.state ≡ b
+      → SleepLaw bit_table w stage.Sleep (if b then stage.Look else stage.Test (test.Again false))
+  sleep_law true is = sleep_by bit_table w stage.Sleep refl stage.Look refl refl refl refl refl refl (λ o h. h)
+      (λ v me. ap (λ (c : Bool). next.Go (at.Bit (if c then biting.Look else biting.Again false))) is)
+      (λ v me k. tt) (λ v me k. (refl, tt, tt))
+      (λ old new v calm u. (v, ends_calm old new (loads_set r []) (step.Sleep v ∷ []) calm u.0, u.1))
+  sleep_law false is = sleep_by bit_table w stage.Sleep refl (stage.Test (test.Again false)) refl refl refl refl refl refl
+      (λ o h. h) (λ v me. ap (λ (c : Bool). next.Go (at.Bit (if c then biting.Look else biting.Again false))) is)
+      (λ v me k. tt) (λ v me k. (refl, tt, tt)) (λ old new v calm u. tt)
+
+  found : (old new : Known) (v : ℕ) (hit : Bool) → pending (state_mask r.state) (task_of v) ≡ hit
+      → Calm (step.Look v ∷ []) old new → bit_frame.LookTrail old r → FinishTrail new r hit
+  found old new v true is calm u =
+      let e = ends_calm old new (loads_set r (step.Sleep u.0 ∷ [])) (step.Look v ∷ []) calm u.1 in
+      record {
+        before = e.0;
+        sleep = u.0;
+        look = v;
+        more = [];
+        ends = e.1;
+        set = u.2;
+        pends = is;
+        awake = refl;
+      }
+  found old new v false is calm u = tt
+
+  acted_is : (hit : Bool) → acted (call_in r) hit ≡ at.Bit (biting.Again hit)
+  acted_is true = refl
+  acted_is false = refl
+
+  look_law : (hit : Bool) → LookLaw bit_table w stage.Look hit
+  look_law hit = look_by bit_table w stage.Look refl hit
+      (way bit_table w stage.Look w (turn.Again (stage.Test (test.Again hit))) refl refl refl refl refl (λ σ s. inl s)
+      (λ o h. h)) (λ v me is. ap (λ (c : Bool). next.Go (acted (call_in r) c)) is ∙ ap next.Go (acted_is hit))
+      (λ v me k. tt)
+      (λ v me k. (refl, tt, tt)) (λ old new v is calm u. found old new v hit is calm u)
+
+  finish_law : (failed : Bool) → FinishLaw bit_frame r failed
+  finish_law true = finish_by bit_frame r true tt (λ s. refl) refl refl refl tt (λ k f. f)
+  finish_law false = finish_by bit_frame r false tt (λ s. refl) refl refl refl tt (λ k f. tt)
+
+free_tests : (x : BitTest) → holds (bit_frame.test_point x) ≡ false
+free_tests test.First = refl
+free_tests test.Load = refl
+free_tests (test.Again failed) = refl
+free_tests test.Worn = refl
+
+abbrev ends_at : WaitBit → Bool → Next
+ends_at r failed = next_in bit_table (bit_frame.finished r failed)
+
+behind : (r : WaitBit) (failed : Bool) (e : Event)
+    → finished (call_in r) failed e ≡ record { event = e; next = ends_at r failed }
+behind r true e = refl
+behind r false e = refl
+
+pub bit_lawful : IsLawfulFrame bit_frame
+bit_lawful = record {
+  keeps = wait_stays;
+  there = λ r runs. (runs.word, runs.bit);
+  watches = λ r p. refl;
+  low = λ r runs. run_low r;
+  worn = λ r p. refl;
+  worn_fits = λ r p runs. record { word = runs.word; bit = runs.bit };
+  ends = ends_at;
+  goes = λ r failed. refl;
+  stands = λ r. call_stands bit_frame (ends_at r) (call_in r) refl refl refl (behind r);
+  prepared_stirs = λ r. refl;
+  prepared_zone = refl;
+  prepared_took = refl;
+  prepared_trail = λ old new r calm. (history_of old, calm.history);
+  worn_stirs = λ r. refl;
+  worn_zone = refl;
+  worn_took = refl;
+  worn_trail = λ new r p noted ends. record { noted = noted; ends = ends };
+  test_free = free_tests;
+  sleep_free = refl;
+  look_free = refl;
+  loads = λ r x is. tests r x;
+  sleeps = λ r. sleep_law r (looks_in r.state) refl;
+  looks = look_law;
+  finishes = finish_law;
+  calm = calm_finish;
+  test_still = test_still;
+  sleep_still = λ old new r calm u. (ends_still old new (loads_set r []) calm u.0, u.1);
+  look_still = λ old new r calm u. (u.0, ends_still old new (loads_set r (step.Sleep u.0 ∷ [])) calm u.1, u.2);
+}
+
+-- the add
+pub bit_for : (r : WaitBit) → IsRunning r → (c : Watch) → c ≡ bit_in r → IsFor c kind.Bit
+bit_for r runs c is = inr (inl (refl, (r.word, r.bit, is, runs.word, runs.bit)))
+
+pub bit_adds : (r : WaitBit) (c : Watch) → c ≡ bit_in r → (old new : Known) (o : Result (Unit {0}) Worn)
+    → IfOk o (λ _. HasAdded IsFrontPlace old new 0 (front_entry c kind.Bit)) → IfErr o (λ w. IsFrontWorn old new w)
+    → IfErr o (λ w. WasWorn new.view.number new.view.items w.head w.place) → IsHolding new → new.at ≡ old.at
+    → AddsOwn bit_table (record { wait = r }) stage.PrepareQueue old new (untold o)
+bit_adds r c is old new o queued worn noted held at = adds_front bit_table (record { wait = r }) stage.PrepareQueue
+    (bit_in r) kind.Bit refl refl (λ p. refl) (λ p. (refl, refl)) (λ j k x. x) old new o
+    (subst (λ (d : Watch). IfOk o (λ _. HasAdded IsFrontPlace old new 0 (front_entry d kind.Bit))) is queued) worn
+    noted held at
+
+-- how a whole wait begins, and what it says at its end
+pub begins_at : (k : Known) (r : Run (Framed WaitBit)) → IsRunning r.of.wait → IsTold k → IsUp k → IsIdle k → IsOut k
+    → IsAt bit_table k r (stage.Test test.First)
+begins_at k r runs = begins bit_table k r (stage.Test test.First) runs refl refl refl refl tt
+
+-- the cause of an answer, by the call
+abbrev CauseOf : Known → Watch → SleepState → Result (Unit {0}) BitEnd → Type 0
+CauseOf k (watch.Bit w b) st x = IsCause k w b st x
+CauseOf k _ st x = ⊥
+
+idle_by : (k : Known) (r : WaitBit) (st : SleepState) (o : BitOutcome) → state_mask r.state ≡ state_mask st → Stands k (end_post r o)
+    → (told_of k).mark ≡ None → IsIdleAfter k st (end_in r o)
+idle_by k r st outcome.Over same s unmarked = record {
+  running = s.state;
+  free = record { head = s.head; ticket = s.ticket };
+  unmarked = unmarked;
+}
+idle_by k r st outcome.Interrupted same s unmarked = record {
+  running = s.state;
+  free = record { head = s.head; ticket = s.ticket };
+  unmarked = unmarked;
+}
+idle_by k r st outcome.Worn same s unmarked = record {
+  state = subst (λ (σ : ℕ). (k.book.state ≡ 0) ⊎ (k.book.state ≡ σ)) same s.state;
+  free = record { head = s.head; ticket = s.ticket };
+  unmarked = unmarked;
+}
+
+answer_is : (r : WaitBit) (o : BitOutcome) → answer_in o ≡ answer_of (end_in r o)
+answer_is r outcome.Over = refl
+answer_is r outcome.Interrupted = refl
+answer_is r outcome.Worn = refl
+
+module _ (old new : Known) (r q : Run (Framed WaitBit)) (w b : ℕ) (st : SleepState) (fresh : IsFresh r.of.wait w b st)
+    (o : BitOutcome) (a : Advances bit_table old new r q (stage.Test test.First) (turn.Done o)) where
+  abbrev ran : WaitBit
+  ran = q.of.wait
+
+  began : bit_frame.plan_of r.of.wait ≡ call_plan (calls.WaitBit w b st)
+  began i = call_plan (calls.WaitBit (fresh.word i) (fresh.bit i) (fresh.state i))
+
+  pub ends_up : IsUp new
+  ends_up = a.lands.up
+
+  pub ends_out : IsOut new
+  ends_out = none_of (bit_in ran) ((told_of new).bits.stored (index new.view.number 0)) a.lands.stands.home
+
+  -- who began idle goes on as it was
+  pub ends_carried : IsUp old → IsIdle old → (told_of old).hold.head ≡ None
+      → Carries (bit_change (index old.view.number 0) new.at new.book.state) old new
+  ends_carried up idle held =
+      let i = index old.view.number 0 in
+      let keeps = a.went.keeps in record {
+        domain = keeps.domain;
+        number = keeps.number;
+        awake = a.lands.up ∙ sym up;
+        state = refl;
+        head = a.lands.stands.head ∙ sym idle.free.head;
+        ticket = a.lands.stands.ticket ∙ sym idle.free.ticket;
+        hold = a.lands.stands.told ∙ sym held;
+        at = refl;
+        mark = keeps.mark;
+        fewer = λ w σ none is. keeps.fewer w σ is;
+        stored = λ x none away. absurd (cc);
+        out = keeps.out;
+        stands = keeps.stands;
+        keeps = λ d _. keeps.keeps d;
+        owes = λ x owes. owes_out i x new (ap (λ (n : ℕ). (told_of new).bits.stored (index n 0)) (sym keeps.number)
+            ∙ ends_out) (keeps.owes x (owes_also i x old owes));
+      }
+
+  pub ends_idle : (told_of old).mark ≡ None → IsIdleAfter new st (end_in ran o)
+  ends_idle unmarked = idle_by new ran st o
+      (ap (λ (p : Plan). state_mask p.state) (a.same ∙ began)) a.lands.stands (a.went.keeps.mark ∙ unmarked)
+
+  pub ends_wait : EndsBitWait old new w b st (end_in ran o)
+  ends_wait = record {
+    runs = ended_runs bit_table old new r q (stage.Test test.First) o a (call_plan (calls.WaitBit w b st)) began
+        (answer_of (end_in ran o)) (answer_is ran o);
+    cause = subst (λ (p : Plan). CauseOf new p.watch p.state (end_in ran o)) (a.same ∙ began) a.lands.trail;
+  }

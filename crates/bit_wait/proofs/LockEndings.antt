@@ -1,0 +1,109 @@
+-- Whole waits: how they begin, and what they say at their end.
+use Rattle.std.proofs.Common.{◌∙◌, ap, sym, refl, subst}
+use Rattle.std.specs.Prelude.{ℕ, ◌≡◌, ◌<◌, Bool, false, Result, None}
+use Rattle.wait_model.specs.declared.layout.TheConstants.{BIT_WORDS, WORD_BITS}
+use Rattle.wait_model.specs.declared.calls.Call.{Call}
+use Rattle.wait_model.specs.declared.calls.Call.TheVariants as calls
+use Rattle.wait_model.specs.declared.tasks.SleepState.{SleepState}
+use Rattle.wait_model.specs.declared.watches.Watch.{Watch}
+use Rattle.wait_model.specs.declared.watches.Watch.TheVariants as watch
+use Rattle.wait_model.specs.Points.{call_watch}
+use Rattle.wait_model.specs.Tasks.{state_mask}
+use Rattle.wait_rule.specs.Known.{Known}
+use Rattle.wait_rule.specs.Says.{IsUp, told_of}
+use Rattle.wait_rule.specs.Queues.{IsIdle, IsTold, index}
+use Rattle.wait_class.specs.Posts.{IsOut}
+use Rattle.bit_wait.specs.BitEnds.{answer_of}
+use Rattle.bit_wait.specs.LockStays.{LockKeeps, TakesBit}
+use Rattle.bit_wait.specs.LockTables.{IsFresh, IsRunning, answer_in, end_post, bit_in, is_over, lock_frame, lock_table}
+use Rattle.bit_wait.specs.LockEnds.{EndsBitLock, HasRested, IsCause, end_in, has_taken as given}
+use Rattle.bit_wait.specs.declared.lock_runs.LockBit.{LockBit}
+use Rattle.bit_wait.specs.declared.wait_calls.BitEnd.{BitEnd}
+use Rattle.bit_wait.specs.declared.lock_runs.LockOutcome.{LockOutcome}
+use Rattle.bit_wait.specs.declared.lock_runs.LockOutcome.TheVariants as outcome
+use Rattle.bit_wait.specs.declared.lock_runs.LockTest.TheVariants as test
+use Rattle.wait_class.specs.declared.frame_stages.Framed.{Framed}
+use Rattle.wait_class.specs.declared.frame_stages.Stage.TheVariants as stage
+use Rattle.wait_class.specs.declared.stages.Run.{Run}
+use Rattle.wait_class.specs.declared.stages.Turn.TheVariants as turn
+use Rattle.wait_class.specs.Tables.{Advances, IsAt, Plan, call_plan}
+use Rattle.wait_class.proofs.Wholes.{Rested, begins, ended_runs, rest_is, rested_idle, rested_out, rests}
+use Rattle.bit_wait.proofs.LockKinds.{takes_bit}
+
+-- the numbers of a call are in their ranges
+pub fresh_runs : (r : LockBit) (w b : ℕ) (st : SleepState) → IsFresh r w b st → w < BIT_WORDS → b < WORD_BITS
+    → IsRunning r
+fresh_runs r w b st fresh few small = record {
+  word = subst (λ (n : ℕ). n < BIT_WORDS) (sym fresh.word) few;
+  bit = subst (λ (n : ℕ). n < WORD_BITS) (sym fresh.bit) small;
+}
+
+-- a task that is idle, with its entry off, may begin
+pub begins_at : (k : Known) (r : Run (Framed LockBit)) → IsRunning r.of.wait → IsTold k → IsUp k → IsIdle k → IsOut k
+    → IsAt lock_table k r (stage.Test test.First)
+begins_at k r runs = begins lock_table k r (stage.Test test.First) runs refl refl refl refl tt
+
+-- the cause of an answer, by the call
+abbrev CauseOf : Known → Watch → SleepState → Result (Unit {0}) BitEnd → Type 0
+CauseOf k (watch.Bit w b) st x = IsCause k w b st x
+CauseOf k _ st x = ⊥
+
+answer_is : (e : LockBit) (o : LockOutcome) → answer_in o ≡ answer_of (end_in e o)
+answer_is e outcome.Over = refl
+answer_is e outcome.Interrupted = refl
+answer_is e outcome.Worn = refl
+
+taken_is : (e : LockBit) (o : LockOutcome) → is_over o ≡ given (end_in e o)
+taken_is e outcome.Over = refl
+taken_is e outcome.Interrupted = refl
+taken_is e outcome.Worn = refl
+
+-- a call that ended, and what the task did then
+module _ (old ended new : Known) (r q : Run (Framed LockBit)) (w b : ℕ) (st : SleepState)
+    (fresh : IsFresh r.of.wait w b st) (o : LockOutcome)
+    (a : Advances lock_table old ended r q (stage.Test test.First) (turn.Done o))
+    (h : HasRested ended new q.of.wait.worn) where
+  abbrev e : LockBit
+  e = q.of.wait
+
+  rested : Rested ended new
+  rested = rests ended new e.worn (state_mask e.state) h a.lands.stands.state
+
+  pub ends_up : IsUp new
+  ends_up = rested.awake ∙ a.lands.up
+
+  pub ends_out : IsOut new
+  ends_out = rested_out ended new (end_post e o) a.lands.stands refl rested
+
+  pub ends_idle : (told_of old).mark ≡ None → IsIdle new
+  ends_idle unmarked = rested_idle ended new (end_post e o) a.lands.stands refl refl rested
+      (a.went.keeps.mark ∙ unmarked)
+
+  began : lock_frame.plan_of r.of.wait ≡ call_plan (calls.LockBit w b st)
+  began i = call_plan (calls.LockBit (fresh.word i) (fresh.bit i) (fresh.state i))
+
+  bit_is : bit_in e ≡ watch.Bit w b
+  bit_is = ap (λ (p : Plan). p.watch) (a.same ∙ began)
+
+  kept : LockKeeps (index old.view.number 0) (watch.Bit w b) false (given (end_in e o)) old ended
+  kept = subst (λ (g : Bool). LockKeeps (index old.view.number 0) (watch.Bit w b) false g old ended) (taken_is e o)
+      (subst (λ (c : Watch). LockKeeps (index old.view.number 0) c false (is_over o) old ended) (ap (λ (p : Plan). p.watch) began)
+      a.went.keeps)
+
+  pub ends_takes : IsUp old → IsIdle old → IsOut old → (told_of old).hold.head ≡ None
+      → TakesBit old new (watch.Bit w b) (given (end_in e o))
+  ends_takes up idle out held = takes_bit old ended new w b (given (end_in e o)) kept rested up idle out held ends_up
+      (ends_idle idle.unmarked) (rested.hold ∙ a.lands.stands.told)
+      (ap (λ (n : ℕ). (told_of new).bits.stored (index n 0)) (sym (rested.number ∙ a.went.keeps.number)) ∙ ends_out)
+      (ap (told_of new).bits.pending (sym bit_is) ∙ (rested.pending (bit_in e) ∙ a.lands.trail.tries))
+      (λ is. ap (told_of new).bits.keeps (sym bit_is)
+      ∙ (rested.keeps (bit_in e) ∙ a.lands.trail.keeps (taken_is e o ∙ is)))
+
+  pub ends_wait : EndsBitLock old new w b st (end_in e o)
+  ends_wait = record {
+    ended = ended;
+    runs = ended_runs lock_table old ended r q (stage.Test test.First) o a (call_plan (calls.LockBit w b st)) began
+        (answer_of (end_in e o)) (answer_is e o);
+    cause = subst (λ (p : Plan). CauseOf ended p.watch p.state (end_in e o)) (a.same ∙ began) a.lands.trail.cause;
+    rests = rest_is ended new e.worn h;
+  }

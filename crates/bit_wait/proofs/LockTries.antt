@@ -1,0 +1,203 @@
+-- The bit is tried.
+use Rattle.std.proofs.Common.{◌∙◌, ap, sym, refl, subst, inl}
+use Rattle.std.specs.Prelude.{ℕ, ◌≡◌, ◌&&◌, not, Bool, true, false, if◌then◌else◌, Some, [], ◌∷◌, ◌++◌}
+use Rattle.wait_model.specs.declared.calls.Answer.TheVariants as answer
+use Rattle.wait_model.specs.declared.calls.Event.{Event}
+use Rattle.wait_model.specs.declared.points.BitPoint.TheVariants as biting
+use Rattle.wait_model.specs.declared.points.FinishPoint.TheVariants as finishing
+use Rattle.wait_model.specs.declared.points.Next.TheVariants as next
+use Rattle.wait_model.specs.declared.points.Planned.{Planned}
+use Rattle.wait_model.specs.declared.points.Point.{Point}
+use Rattle.wait_model.specs.declared.points.Point.TheVariants as at
+use Rattle.wait_model.specs.declared.points.PreparePoint.TheVariants as preparing
+use Rattle.wait_model.specs.declared.steps.Step.TheVariants as step
+use Rattle.wait_model.specs.declared.watches.Watch.{Watch}
+use Rattle.wait_model.specs.Points.{given_at}
+use Rattle.wait_model.specs.Programs.{ends_with, exchange, go, interrupted, zero_answer}
+use Rattle.wait_model.specs.Tasks.{state_mask}
+use Rattle.wait_model.specs.Watches.{was_clear}
+use Rattle.wait_model.specs.Words.{bit_at}
+use Rattle.wait_rule.specs.declared.journal.Item.TheVariants as item
+use Rattle.wait_rule.specs.Bits.{SetsBit}
+use Rattle.wait_rule.specs.Ends.{WasWorn}
+use Rattle.wait_rule.specs.Known.{Known}
+use Rattle.wait_rule.specs.Queues.{IsAgreedHold, index}
+use Rattle.wait_rule.specs.Says.{added, history_of}
+use Rattle.wait_rule.specs.Transitions.{IsMadeFor, by_step}
+use Rattle.wait_rule.proofs.KnownLaws.TaskHistories.{history_after}
+use Rattle.wait_rule.proofs.WornHeads.WornNotes.{notes_stay}
+use Rattle.wait_class.specs.Posts.{IsStateFor}
+use Rattle.wait_class.specs.Findings.{with_value}
+use Rattle.wait_class.proofs.Histories.{ends_more}
+use Rattle.wait_class.proofs.Ground.Standing.{home_waits}
+use Rattle.wait_class.specs.declared.frame_stages.Framed.{Framed}
+use Rattle.wait_class.specs.declared.frame_stages.Stage.TheVariants as stage
+use Rattle.wait_class.specs.declared.stages.Run.{Run}
+use Rattle.wait_class.specs.declared.stages.Turn.TheVariants as turn
+use Rattle.wait_class.specs.Tables.{Advances, IsAt, IsPlain, falls}
+use Rattle.wait_class.proofs.Turns.{GoesOn, advance_by, zero_for}
+use Rattle.bit_wait.specs.LockStays.{LockKeeps}
+use Rattle.bit_wait.specs.LockTables.{EndTrail, LockTurn, bit_in, call_in, head_in, lock_frame, lock_table, tried_to, tries_bit}
+use Rattle.bit_wait.specs.declared.lock_runs.LockBit.{LockBit}
+use Rattle.bit_wait.specs.declared.lock_runs.LockOutcome.TheVariants as outcome
+use Rattle.bit_wait.specs.declared.lock_runs.LockTest.{LockTest}
+use Rattle.bit_wait.specs.declared.lock_runs.LockTest.TheVariants as test
+use Rattle.bit_wait.proofs.LockKinds.{either_event, set_goes}
+use Rattle.bit_wait.proofs.LockLaws.{more_signal}
+
+-- no head is held there
+pub may_try : (old : Known) (r : Run (Framed LockBit)) (x : LockTest) → IsAt lock_table old r (stage.Test x)
+    → IsAgreedHold old
+may_try old r x a h at = a.stands.agreed h (sym a.stands.head ∙ at)
+
+module _ (old new : Known) (r : Run (Framed LockBit)) (v : ℕ)
+    (is : new ≡ added old (item.Made (step.Consume (bit_in r.of.wait) 1 v)))
+    (sets : SetsBit old new (bit_in r.of.wait) (was_clear (bit_in r.of.wait) v)) where
+  abbrev w : LockBit
+  w = r.of.wait
+
+  -- the run has what it found too
+  abbrev q : Framed LockBit
+  q = record { wait = record w { seen = v } }
+
+  abbrev seen : Event
+  seen = exchange (call_in w) (with_value v)
+
+  abbrev prepares : Planned
+  prepares = go seen (at.Prepare preparing.Lock)
+
+  abbrev over : Planned
+  over = ends_with seen zero_answer
+
+  abbrev worn : Planned
+  worn = ends_with seen answer.Worn
+
+  abbrev Made : Point → Event → Type 0
+  Made p x = IsMadeFor old (Some (index old.view.number 0)) (given_at (call_in w) p) x
+      (by_step (step.Consume (bit_in w) 1 v))
+
+  more : history_of new ≡ history_of old ++ tries_bit q.wait
+  more = history_after old new (step.Consume (bit_in w) 1 v) is
+
+  zero : (σ : ℕ) → IsStateFor false (state_mask w.state) σ → IsStateFor w.worn (state_mask w.state) σ
+  zero σ s = zero_for w.worn (state_mask w.state) σ s
+
+  worn_state : IsAt lock_table old r (stage.Test test.Worn) → (σ : ℕ) → IsStateFor true (state_mask w.state) σ
+      → IsStateFor w.worn (state_mask w.state) σ
+  worn_state a σ s = subst (λ (b : Bool). IsStateFor b (state_mask w.state) σ) (sym a.trail.1) s
+
+  over_trail : was_clear (bit_in w) v ≡ true → EndTrail new q.wait outcome.Over
+  over_trail clear = record { cause = tt; keeps = λ is. sets.keeps clear; tries = sets.tries }
+
+  same_keeps : (i : ℕ) (c : Watch) (g h : Bool) (j k : Known) → LockKeeps i c g h j k → LockKeeps i c g h j k
+  same_keeps i c g h j k y = y
+
+  try_from : (x : LockTest) → lock_frame.loads x ≡ false → (a : IsAt lock_table old r (stage.Test x)) → (b : Bool)
+      → bit_at v w.bit ≡ b → GoesOn lock_table old new r.of q (stage.Test x) (tried_to x b)
+  try_from test.Load own a b set = absurd (cc)
+  try_from test.First own a true set = set_goes lock_table old new r
+      (stage.Test test.First) w.word w.bit v refl same_keeps is sets refl refl refl a q (λ x did. tt) (turn.Again stage.PrepareLock) true set refl
+      (ap (λ (c : Bool). (if c then prepares else over).next) set)
+      (either_event (Made (at.Bit biting.First)) (bit_at v w.bit) prepares over (refl, refl) (refl, refl))
+      (refl, tt, tt) refl refl (λ σ s. inl s) (home_waits (bit_in w)) tt
+  try_from test.First own a false set = set_goes lock_table old new r
+      (stage.Test test.First) w.word w.bit v refl same_keeps is sets refl refl refl a q (λ x did. tt) (turn.Done outcome.Over) false set refl
+      (ap (λ (c : Bool). (if c then prepares else over).next) set)
+      (either_event (Made (at.Bit biting.First)) (bit_at v w.bit) prepares over (refl, refl) (refl, refl))
+      (refl, tt, tt) refl refl zero (λ o h. h) (over_trail (ap not set))
+  try_from test.Again own a true set = set_goes lock_table old new r
+      (stage.Test test.Again) w.word w.bit v refl same_keeps is sets refl refl refl a q (λ x did. tt) (turn.Again stage.PrepareLock) true set refl
+      (ap (λ (c : Bool). next.Go (if c && not false then at.Prepare preparing.Lock
+      else at.Finish finishing.State false)) set)
+      (refl, refl) (refl, tt, tt) refl refl (λ σ s. s) (λ o h. h)
+      tt
+  try_from test.Again own a false set = set_goes lock_table old new r
+      (stage.Test test.Again) w.word w.bit v refl same_keeps is sets refl refl refl a q (λ x did. tt) (turn.Again (stage.FinishState false)) false set refl
+      (ap (λ (c : Bool). next.Go (if c && not false then at.Prepare preparing.Lock
+      else at.Finish finishing.State false)) set)
+      (refl, refl) (refl, tt, tt) refl refl (λ σ s. s) (λ o h. h)
+      (record { keeps = sets.keeps (ap not set); tries = sets.tries })
+  try_from test.Last own a true set = set_goes lock_table old new r
+      (stage.Test test.Last) w.word w.bit v refl same_keeps is sets refl refl refl a q (λ x did. tt) (turn.Done outcome.Interrupted) true set refl
+      (ap (λ (c : Bool). next.Ends (if c then interrupted else zero_answer)) set)
+      (refl, refl) (refl, tt, tt) refl refl zero (λ o h. h)
+      (let f = more_signal old new w.state (tries_bit q.wait) more refl a.trail in record {
+        cause = record {
+          before = f.before;
+          sleep = f.sleep;
+          look = f.look;
+          more = f.more;
+          ends = f.ends;
+          pends = f.pends;
+          awake = f.awake;
+          last = (history_of old, more);
+          set = set;
+        };
+        keeps = λ no. absurd (cc);
+        tries = sets.tries;
+      })
+  try_from test.Last own a false set = set_goes lock_table old new r
+      (stage.Test test.Last) w.word w.bit v refl same_keeps is sets refl refl refl a q (λ x did. tt) (turn.Done outcome.Over) false set refl
+      (ap (λ (c : Bool). next.Ends (if c then interrupted else zero_answer)) set)
+      (refl, refl) (refl, tt, tt) refl refl zero (λ o h. h)
+      (over_trail (ap not set))
+  try_from test.Worn own a true set = set_goes lock_table old new r
+      (stage.Test test.Worn) w.word w.bit v refl same_keeps is sets refl refl refl a q (λ x did. tt) (turn.Done outcome.Worn) true set refl
+      (ap (λ (c : Bool). (if c then worn else over).next) set)
+      (either_event (Made at.Worn) (bit_at v w.bit) worn over (refl, refl) (refl, refl))
+      (refl, tt, tt) refl refl (worn_state a) (λ o h. h) (record {
+        cause = record {
+          head = refl;
+          noted = subst (λ (k : Known). WasWorn k.view.number k.view.items (head_in w) w.place) (sym is)
+              (notes_stay old.view.number old.view.items (item.Made (step.Consume (bit_in w) 1 v) ∷ []) (head_in w)
+              w.place a.trail.0.noted);
+          found = v;
+          ends = ends_more old new (step.Unlock (head_in w) false ∷ []) (tries_bit q.wait) a.trail.0.ends more;
+          set = set;
+        };
+        keeps = λ no. absurd (cc);
+        tries = sets.tries;
+      })
+  try_from test.Worn own a false set = set_goes lock_table old new r
+      (stage.Test test.Worn) w.word w.bit v refl same_keeps is sets refl refl refl a q (λ x did. tt) (turn.Done outcome.Over) false set refl
+      (ap (λ (c : Bool). (if c then worn else over).next) set)
+      (either_event (Made at.Worn) (bit_at v w.bit) worn over (refl, refl) (refl, refl))
+      (refl, tt, tt) refl refl (worn_state a) (λ o h. h) (over_trail (ap not set))
+
+plain_tries : (x : LockTest) (b : Bool) → IsPlain lock_table (tried_to x b)
+plain_tries test.First true = refl
+plain_tries test.First false = tt
+plain_tries test.Load true = refl
+plain_tries test.Load false = tt
+plain_tries test.Again true = refl
+plain_tries test.Again false = refl
+plain_tries test.Worn true = tt
+plain_tries test.Worn false = tt
+plain_tries test.Last true = tt
+plain_tries test.Last false = tt
+
+pub tries_fall : (x : LockTest) (b : Bool) → falls lock_table (stage.Test x) (tried_to x b) ≡ true
+tries_fall test.First true = refl
+tries_fall test.First false = refl
+tries_fall test.Load true = refl
+tries_fall test.Load false = refl
+tries_fall test.Again true = refl
+tries_fall test.Again false = refl
+tries_fall test.Worn true = refl
+tries_fall test.Worn false = refl
+tries_fall test.Last true = refl
+tries_fall test.Last false = refl
+
+pub try_advances : (old new : Known) (r : Run (Framed LockBit)) (x : LockTest) → lock_frame.loads x ≡ false
+    → IsAt lock_table old r (stage.Test x) → (v : ℕ)
+    → new ≡ added old (item.Made (step.Consume (bit_in r.of.wait) 1 v))
+    → SetsBit old new (bit_in r.of.wait) (was_clear (bit_in r.of.wait) v) → (b : Bool) → b ≡ bit_at v r.of.wait.bit
+    → (u : LockTurn) → u ≡ tried_to x b
+    → Advances lock_table old new r (record r { of = record { wait = record r.of.wait { seen = v } } }) (stage.Test x) u
+try_advances old new r x own a v is sets b tells u to =
+    subst (λ (n : LockTurn). Advances lock_table old new r (record r {
+      of = record { wait = record r.of.wait { seen = v } };
+    }) (stage.Test x) n) (sym to)
+    (advance_by lock_table old new r (record r { of = record { wait = record r.of.wait { seen = v } } }) (stage.Test x)
+    (tried_to x b) refl (record { word = a.fits.word; bit = a.fits.bit }) (plain_tries x b)
+    (try_from old new r v is sets x own a b (sym tells)))

@@ -1,0 +1,154 @@
+-- To be believed.
+-- A wait until a bit is clear: its tests, where it goes on behind each, and what its places say of its last steps.
+use Rattle.std.specs.Prelude.{ℕ, ◌≡◌, ◌<◌, ◌&&◌, not, Bool, true, false, if◌then◌else◌, None, List, [], ◌∷◌}
+use Rattle.wait_model.specs.declared.layout.TheConstants.{BIT_WORDS, WORD_BITS}
+use Rattle.wait_model.specs.declared.calls.Answer.{Answer}
+use Rattle.wait_model.specs.declared.calls.Answer.TheVariants as answer
+use Rattle.wait_model.specs.declared.calls.Call.{Call}
+use Rattle.wait_model.specs.declared.calls.Call.TheVariants as calls
+use Rattle.wait_model.specs.declared.points.BitPoint.TheVariants as biting
+use Rattle.wait_model.specs.declared.points.Point.{Point}
+use Rattle.wait_model.specs.declared.points.Point.TheVariants as at
+use Rattle.wait_model.specs.declared.steps.Step.{Step}
+use Rattle.wait_model.specs.declared.steps.Step.TheVariants as step
+use Rattle.wait_model.specs.declared.tasks.SleepState.{SleepState}
+use Rattle.wait_model.specs.declared.watches.Watch.{Watch}
+use Rattle.wait_model.specs.declared.watches.Watch.TheVariants as watch
+use Rattle.wait_model.specs.Programs.{interrupted, zero_answer}
+use Rattle.wait_model.specs.PointFacts.{absent}
+use Rattle.wait_model.specs.Tasks.{looks_in, state_mask}
+use Rattle.wait_model.specs.Watches.{head_of}
+use Rattle.wait_model.specs.Words.{bit_at}
+use Rattle.wait_rule.specs.Ends.{WasWorn}
+use Rattle.wait_rule.specs.Known.{Known}
+use Rattle.wait_rule.specs.Tickets.{no_ticket}
+use Rattle.wait_class.specs.Posts.{Post}
+use Rattle.wait_class.specs.Posts.{EndsWith}
+use Rattle.wait_class.specs.declared.frame_stages.Framed.{Framed}
+use Rattle.wait_class.specs.declared.frame_stages.Stage.{Stage}
+use Rattle.wait_class.specs.declared.frame_stages.Stage.TheVariants as stage
+use Rattle.wait_class.specs.declared.stages.Turn.{Turn}
+use Rattle.wait_class.specs.declared.stages.Turn.TheVariants as turn
+use Rattle.wait_class.specs.Frames.{FrameTable, KeepsAll, framed}
+use Rattle.wait_class.specs.Tables.{Table, call_plan}
+use Rattle.bit_wait.specs.BitEnds.{IsCause, WasInterrupted, end_in}
+use Rattle.bit_wait.specs.declared.waits.BitOutcome.{BitOutcome}
+use Rattle.bit_wait.specs.declared.waits.BitOutcome.TheVariants as outcome
+use Rattle.bit_wait.specs.declared.waits.BitTest.{BitTest}
+use Rattle.bit_wait.specs.declared.waits.BitTest.TheVariants as test
+use Rattle.bit_wait.specs.declared.waits.WaitBit.{WaitBit}
+
+abbrev pub bit_in : WaitBit → Watch
+bit_in r = watch.Bit r.word r.bit
+
+-- the numbers of a wait are in their ranges
+pub record IsRunning (r : WaitBit) : Type 0 where
+  pub word : r.word < BIT_WORDS
+  pub bit : r.bit < WORD_BITS
+
+abbrev pub test_point : BitTest → Point
+test_point test.First = at.Bit biting.First
+test_point test.Load = at.Bit biting.Load
+test_point (test.Again failed) = at.Bit (biting.Again failed)
+test_point test.Worn = at.Worn
+
+-- what a load notes, and where a wait goes on that found the bit set or not, that finished, that slept, and that looked
+-- for a signal
+abbrev pub noted_at : WaitBit → BitTest → ℕ → WaitBit
+noted_at r test.First v = r
+noted_at r (test.Again failed) v = r
+noted_at r _ v = record r { seen = v }
+
+abbrev pub set_to : BitTest → Bool → Turn (Stage BitTest) BitOutcome
+set_to test.First set = if set then turn.Again stage.PrepareLock else turn.Done outcome.Over
+set_to test.Load set = if set then turn.Again stage.Sleep else turn.Again (stage.Test (test.Again false))
+set_to (test.Again failed) set = if set && not failed then turn.Again stage.PrepareLock
+    else turn.Again (stage.FinishState failed)
+set_to test.Worn set = if set then turn.Done outcome.Worn else turn.Again (stage.FinishState false)
+
+abbrev pub finished_to : WaitBit → Bool → Turn (Stage BitTest) BitOutcome
+finished_to r failed = if failed then turn.Done outcome.Interrupted else turn.Done outcome.Over
+
+abbrev pub slept_to : WaitBit → Stage BitTest
+slept_to r = if looks_in r.state then stage.Look else stage.Test (test.Again false)
+
+abbrev pub answer_in : BitOutcome → Answer
+answer_in outcome.Over = zero_answer
+answer_in outcome.Interrupted = interrupted
+answer_in outcome.Worn = answer.Worn
+
+-- The wait has ended: the task is awake, holds no head, and its entry is off. It is RUNNING, but that one which found
+-- no place may still be in the state that its last turn but one stored.
+abbrev pub is_worn : BitOutcome → Bool
+is_worn outcome.Worn = true
+is_worn _ = false
+
+abbrev pub end_post : WaitBit → BitOutcome → Post
+end_post r o = record {
+  head = None;
+  ticket = no_ticket;
+  stirs = is_worn o;
+  state = state_mask r.state;
+  zone = absent;
+  watch = bit_in r;
+}
+
+-- the steps of a turn, from the hold of its prepare on
+abbrev pub loads_set : WaitBit → List Step → List Step
+loads_set r es = step.Unlock (head_of (bit_in r)) false ∷ step.Load (bit_in r) r.seen ∷ es
+
+-- a place of the head was noted at which no place is left, and the head given back
+pub record FoundWorn (k : Known) (h p : ℕ) : Type 0 where
+  pub noted : WasWorn k.view.number k.view.items h p
+  pub ends : EndsWith k (step.Unlock h false ∷ [])
+
+abbrev pub FinishTrail : Known → WaitBit → Bool → Type 0
+FinishTrail k r true = WasInterrupted k r.word r.bit r.state r.seen
+FinishTrail k r false = Unit {0}
+
+abbrev pub TestTrail : Known → WaitBit → BitTest → Type 0
+TestTrail k r test.First = Unit {0}
+TestTrail k r test.Load = EndsWith k (step.Unlock (head_of (bit_in r)) false ∷ [])
+TestTrail k r (test.Again failed) = FinishTrail k r failed
+TestTrail k r test.Worn = FoundWorn k (head_of (bit_in r)) r.place
+
+abbrev pub call_in : WaitBit → Call
+call_in r = calls.WaitBit r.word r.bit r.state
+
+abbrev pub bit_frame : FrameTable WaitBit BitTest BitOutcome
+bit_frame = record {
+  plan_of = λ r. call_plan (call_in r);
+  Fits = IsRunning;
+  worn_at = λ r p. record r { place = p };
+  test_point = test_point;
+  loads = λ x. true;
+  took = λ x. false;
+  took_finish = λ failed. false;
+  sleep_point = at.Bit biting.Sleep;
+  look_point = at.Bit biting.Look;
+  prepared = test.Load;
+  worn_to = test.Worn;
+  finished = finished_to;
+  slept_to = slept_to;
+  looked = λ r hit. turn.Again (stage.Test (test.Again hit));
+  noted = noted_at;
+  loaded_to = λ r x v. set_to x (bit_at v r.bit);
+  answer_of = answer_in;
+  has_taken = λ o. false;
+  end_post = end_post;
+  TestTrail = TestTrail;
+  SleepTrail = λ k r. EndsWith k (loads_set r []) × (bit_at r.seen r.bit ≡ true);
+  LookTrail = λ k r. (w : ℕ) × EndsWith k (loads_set r (step.Sleep w ∷ [])) × (bit_at r.seen r.bit ≡ true);
+  FinishTrail = FinishTrail;
+  TrailEnd = λ k r o. IsCause k r.word r.bit r.state (end_in r o);
+  Keeps = KeepsAll;
+}
+
+abbrev pub bit_table : Table (Framed WaitBit) (Stage BitTest) BitOutcome
+bit_table = framed bit_frame
+
+-- a wait that has not begun
+pub record IsFresh (r : WaitBit) (w b : ℕ) (st : SleepState) : Type 0 where
+  pub word : r.word ≡ w
+  pub bit : r.bit ≡ b
+  pub state : r.state ≡ st

@@ -1,0 +1,190 @@
+-- To be believed.
+-- A wait to take a bit: its tests, where it goes on behind each, and what its places say of its last steps.
+use Rattle.std.specs.Prelude.{ℕ, ◌≡◌, ◌<◌, not, Bool, true, false, if◌then◌else◌, None, List, [], ◌∷◌, ◌++◌}
+use Rattle.wait_model.specs.declared.layout.TheConstants.{BIT_WORDS, WORD_BITS}
+use Rattle.wait_model.specs.declared.calls.Answer.{Answer}
+use Rattle.wait_model.specs.declared.calls.Answer.TheVariants as answer
+use Rattle.wait_model.specs.declared.calls.Call.{Call}
+use Rattle.wait_model.specs.declared.calls.Call.TheVariants as calls
+use Rattle.wait_model.specs.declared.points.BitPoint.TheVariants as biting
+use Rattle.wait_model.specs.declared.points.Point.{Point}
+use Rattle.wait_model.specs.declared.points.Point.TheVariants as at
+use Rattle.wait_model.specs.declared.steps.Step.{Step}
+use Rattle.wait_model.specs.declared.steps.Step.TheVariants as step
+use Rattle.wait_model.specs.declared.tasks.SleepState.{SleepState}
+use Rattle.wait_model.specs.declared.watches.Watch.{Watch}
+use Rattle.wait_model.specs.declared.watches.Watch.TheVariants as watch
+use Rattle.wait_model.specs.Programs.{interrupted, zero_answer}
+use Rattle.wait_model.specs.PointFacts.{absent}
+use Rattle.wait_model.specs.Tasks.{looks_in, pending, state_mask, task_of}
+use Rattle.wait_model.specs.Watches.{head_of}
+use Rattle.wait_model.specs.Words.{bit_at}
+use Rattle.wait_rule.specs.Bits.{KeepsBitOf}
+use Rattle.wait_rule.specs.Ends.{WasWorn}
+use Rattle.wait_rule.specs.Known.{Known}
+use Rattle.wait_rule.specs.Says.{history_of, told_of}
+use Rattle.wait_rule.specs.Tickets.{no_ticket}
+use Rattle.wait_class.specs.Posts.{Post}
+use Rattle.wait_class.specs.Posts.{EndsWith}
+use Rattle.wait_class.specs.declared.frame_stages.Framed.{Framed}
+use Rattle.wait_class.specs.declared.frame_stages.Stage.{Stage}
+use Rattle.wait_class.specs.declared.frame_stages.Stage.TheVariants as stage
+use Rattle.wait_class.specs.declared.stages.Turn.{Turn}
+use Rattle.wait_class.specs.declared.stages.Turn.TheVariants as turn
+use Rattle.wait_class.specs.Frames.{FrameTable, framed}
+use Rattle.wait_class.specs.Tables.{has_sleep}
+use Rattle.wait_class.specs.Tables.{Table, call_plan}
+use Rattle.bit_wait.specs.LockEnds.{IsCause, end_in}
+use Rattle.bit_wait.specs.LockStays.{LockKeeps}
+use Rattle.bit_wait.specs.declared.lock_runs.LockBit.{LockBit}
+use Rattle.bit_wait.specs.declared.lock_runs.LockOutcome.{LockOutcome}
+use Rattle.bit_wait.specs.declared.lock_runs.LockOutcome.TheVariants as outcome
+use Rattle.bit_wait.specs.declared.lock_runs.LockTest.{LockTest}
+use Rattle.bit_wait.specs.declared.lock_runs.LockTest.TheVariants as test
+
+abbrev pub bit_in : LockBit → Watch
+bit_in r = watch.Bit r.word r.bit
+
+abbrev pub head_in : LockBit → ℕ
+head_in r = head_of (bit_in r)
+
+-- the numbers of a wait are in their ranges
+pub record IsRunning (r : LockBit) : Type 0 where
+  pub word : r.word < BIT_WORDS
+  pub bit : r.bit < WORD_BITS
+
+abbrev pub test_point : LockTest → Point
+test_point test.First = at.Bit biting.First
+test_point test.Load = at.Bit biting.Load
+test_point test.Again = at.Bit (biting.Again false)
+test_point test.Worn = at.Worn
+test_point test.Last = at.Bit biting.Last
+
+abbrev pub loads : LockTest → Bool
+loads test.Load = true
+loads _ = false
+
+-- where a wait goes on that tried the bit and found it set or not, that loaded it, that finished, that slept, and that
+-- looked for a signal
+abbrev pub LockTurn : Type 0
+LockTurn = Turn (Stage LockTest) LockOutcome
+
+abbrev pub tried_to : LockTest → Bool → LockTurn
+tried_to test.Again set = if set then turn.Again stage.PrepareLock else turn.Again (stage.FinishState false)
+tried_to test.Last set = if set then turn.Done outcome.Interrupted else turn.Done outcome.Over
+tried_to test.Worn set = if set then turn.Done outcome.Worn else turn.Done outcome.Over
+tried_to _ set = if set then turn.Again stage.PrepareLock else turn.Done outcome.Over
+
+abbrev pub loaded_to : LockBit → LockTest → ℕ → LockTurn
+loaded_to r x v = if bit_at v r.bit then turn.Again stage.Sleep else turn.Again (stage.Test test.Again)
+
+abbrev pub finished_to : LockBit → Bool → LockTurn
+finished_to r failed = if failed then turn.Again (stage.Test test.Last) else turn.Done outcome.Over
+
+abbrev pub slept_to : LockBit → Stage LockTest
+slept_to r = if looks_in r.state then stage.Look else stage.Test test.Again
+
+abbrev pub looked_to : LockBit → Bool → LockTurn
+looked_to r hit = if hit then turn.Again (stage.FinishState true) else turn.Again (stage.Test test.Again)
+
+abbrev pub answer_in : LockOutcome → Answer
+answer_in outcome.Over = zero_answer
+answer_in outcome.Interrupted = interrupted
+answer_in outcome.Worn = answer.Worn
+
+abbrev pub is_over : LockOutcome → Bool
+is_over outcome.Over = true
+is_over _ = false
+
+-- The wait has ended: the task is awake, holds no head, and its entry is off. It is RUNNING, but that one which found
+-- no place may still be in the state that its last turn but one stored.
+abbrev pub end_post : LockBit → LockOutcome → Post
+end_post r o = record {
+  head = None;
+  ticket = no_ticket;
+  stirs = r.worn;
+  state = state_mask r.state;
+  zone = absent;
+  watch = bit_in r;
+}
+
+-- The last turn of a wait that found a signal: the task slept, and then its own word showed a signal that the state
+-- admits. It has not slept since.
+pub record FoundSignal (k : Known) (st : SleepState) : Type 0 where
+  pub before : List Step
+  pub sleep : ℕ
+  pub look : ℕ
+  pub more : List Step
+  pub ends : history_of k ≡ before ++ (step.Sleep sleep ∷ step.Look look ∷ more)
+  pub pends : pending (state_mask st) (task_of look) ≡ true
+  pub awake : has_sleep more ≡ false
+
+-- A place of the head was noted at which no place is left, and the head given back.
+pub record FoundWorn (k : Known) (h p : ℕ) (more : List Step) : Type 0 where
+  pub noted : WasWorn k.view.number k.view.items h p
+  pub ends : EndsWith k (step.Unlock h false ∷ more)
+
+-- the bit was taken, and the task is not to try it
+pub record HasTaken (k : Known) (c : Watch) : Type 0 where
+  pub keeps : KeepsBitOf k c
+  pub tries : (told_of k).bits.pending c ≡ false
+
+-- what a test-and-set of the bit adds, as the last one found it
+abbrev pub tries_bit : LockBit → List Step
+tries_bit r = step.Consume (bit_in r) 1 r.seen ∷ []
+
+abbrev pub TestTrail : Known → LockBit → LockTest → Type 0
+TestTrail k r test.Worn = FoundWorn k (head_in r) r.place [] × (r.worn ≡ true)
+TestTrail k r test.Last = FoundSignal k r.state
+TestTrail k r _ = Unit {0}
+
+abbrev pub FinishTrail : Known → LockBit → Bool → Type 0
+FinishTrail k r true = FoundSignal k r.state
+FinishTrail k r false = HasTaken k (bit_in r)
+
+-- The answer has its cause; the task keeps the bit where it took it, and is not to try it.
+pub record EndTrail (k : Known) (r : LockBit) (o : LockOutcome) : Type 0 where
+  pub cause : IsCause k r.word r.bit r.state (end_in r o)
+  pub keeps : is_over o ≡ true → KeepsBitOf k (bit_in r)
+  pub tries : (told_of k).bits.pending (bit_in r) ≡ false
+
+abbrev pub call_in : LockBit → Call
+call_in r = calls.LockBit r.word r.bit r.state
+
+abbrev pub lock_frame : FrameTable LockBit LockTest LockOutcome
+lock_frame = record {
+  plan_of = λ r. call_plan (call_in r);
+  Fits = IsRunning;
+  worn_at = λ r p. record r { place = p; worn = true };
+  test_point = test_point;
+  loads = loads;
+  took = λ x. false;
+  took_finish = not;
+  sleep_point = at.Bit biting.Sleep;
+  look_point = at.Bit biting.Look;
+  prepared = test.Load;
+  worn_to = test.Worn;
+  finished = finished_to;
+  slept_to = slept_to;
+  looked = looked_to;
+  noted = λ r x v. r;
+  loaded_to = loaded_to;
+  answer_of = answer_in;
+  has_taken = is_over;
+  end_post = end_post;
+  TestTrail = TestTrail;
+  SleepTrail = λ k r. Unit {0};
+  LookTrail = λ k r. (w : ℕ) × EndsWith k (step.Sleep w ∷ []);
+  FinishTrail = FinishTrail;
+  TrailEnd = EndTrail;
+  Keeps = LockKeeps;
+}
+
+abbrev pub lock_table : Table (Framed LockBit) (Stage LockTest) LockOutcome
+lock_table = framed lock_frame
+
+-- a wait that has not begun
+pub record IsFresh (r : LockBit) (w b : ℕ) (st : SleepState) : Type 0 where
+  pub word : r.word ≡ w
+  pub bit : r.bit ≡ b
+  pub state : r.state ≡ st

@@ -21,7 +21,7 @@ use wait_model::watches::{Entry, Kind, Watch};
 use wait_model::words::{bit_at, entry_of};
 use wait_rule::queues::{Passing, cond_load, draw, entry_load, lock_step, serving_load};
 use wait_rule::tasks::{load_own, set_state};
-use wait_rule::tries::sleep_try;
+use wait_rule::tries::{FailedTries, sleep_try};
 use wait_rule::{Domain, Task};
 use wq_head::locks::give_back;
 use wq_head::{add_front, remove};
@@ -474,7 +474,8 @@ fn sleep_event(domain: &Domain, task: &mut Task, run: &mut BitRun) -> BitTurn
     ensures falls { falls stage.Sleep result ≡ true }
 {
     let next = slept_to(run.state);
-    match sleep_try(domain, task) {
+    let mut failed = FailedTries::none();
+    match sleep_try(domain, task, &mut failed) {
         None => BitTurn::Again(BitStage::Sleep),
         Some(Sleep::Asleep) => BitTurn::Asleep(next),
         Some(Sleep::Stay) => BitTurn::Again(next),

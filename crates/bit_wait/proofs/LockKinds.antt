@@ -223,7 +223,7 @@ module _ (old ended new : Known) (w b : ℕ) (g : Bool)
         own = λ d away. o.tries_none i d;
       }) in record {
         unmarked = rest.mark ∙ m.unmarked;
-        debts = entries_debts x (with_bits (taken_bits c g) x) new refl refl refl (rest.debts x m.debts);
+        debts = entries_debts x (with_bits (taken_bits c g) x) new refl refl refl refl (rest.debts x m.debts);
         unqueued = λ y. unqueued m.unqueued y (eqb_tells y i);
         holds = λ d. held_on (taken_bits c g d) (x.bits d) ((told_of old).bits.keeps d) ((told_of new).bits.keeps d)
             (λ away. rest.keeps d ∙ k.keeps d away) (o.holds d);

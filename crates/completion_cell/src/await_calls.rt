@@ -26,7 +26,7 @@ use wait_model::heads::head_of;
 use wait_model::tasks::{Sleep, SleepState};
 use wait_rule::queues::Passing;
 use wait_rule::tasks::awake;
-use wait_rule::tries::sleep_try;
+use wait_rule::tries::{FailedTries, sleep_try};
 use wait_rule::{Domain, Task, wait_up};
 use wq_head::locks;
 
@@ -73,7 +73,8 @@ fn sleep(domain: &Domain, task: &mut Task, run: AwaitRun) -> AwaitTurn
     ensures off { LeavesOff run.cell task.old task.new stage.Sleep result }
 {
     let _ = run;
-    match sleep_try(domain, task) {
+    let mut failed = FailedTries::none();
+    match sleep_try(domain, task, &mut failed) {
         None => AwaitTurn::Again(AwaitStage::Sleep),
         Some(Sleep::Asleep) => AwaitTurn::Asleep(AwaitStage::Again),
         Some(Sleep::Stay) => AwaitTurn::Again(AwaitStage::Again),

@@ -24,7 +24,7 @@ use wait_rule::flags::woken_clear;
 use wait_rule::pages::{flag_load, page_note};
 use wait_rule::queues::{Passing, draw, entry_load, lock_step, serving_load};
 use wait_rule::tasks::{load_own, set_state};
-use wait_rule::tries::sleep_try;
+use wait_rule::tries::{FailedTries, sleep_try};
 use wait_rule::{Domain, Task};
 use wq_head::locks::give_back;
 use wq_head::{add_for_page, remove};
@@ -465,7 +465,8 @@ fn sleep_event(domain: &Domain, task: &mut Task, run: &mut PageRun) -> PageTurn
     ensures falls { falls stage.Sleep result ≡ true }
 {
     let _ = *run;
-    match sleep_try(domain, task) {
+    let mut failed = FailedTries::none();
+    match sleep_try(domain, task, &mut failed) {
         None => PageTurn::Again(PageStage::Sleep),
         Some(Sleep::Asleep) => PageTurn::Asleep(PageStage::State),
         Some(Sleep::Stay) => PageTurn::Again(PageStage::State),

@@ -22,7 +22,7 @@ use wait_model::tasks::{How, Sleep};
 use wait_model::watches::{Entry, Watch};
 use wait_rule::queues::{Passing, cond_load, draw, lock_step, serving_load};
 use wait_rule::tasks::{load_own, set_state};
-use wait_rule::tries::sleep_try;
+use wait_rule::tries::{FailedTries, sleep_try};
 use wait_rule::{Domain, Task};
 use wq_head::locks::give_back;
 use wq_head::remove;
@@ -479,7 +479,8 @@ fn sleep_event(domain: &Domain, task: &mut Task, run: &mut WaitRun) -> WaitTurn
     ensures falls { falls stage.Sleep result ≡ true }
 {
     let _ = run;
-    match sleep_try(domain, task) {
+    let mut failed = FailedTries::none();
+    match sleep_try(domain, task, &mut failed) {
         None => WaitTurn::Again(WaitStage::Sleep),
         Some(Sleep::Asleep) => WaitTurn::Asleep(WaitStage::PrepareLock),
         Some(Sleep::Stay) => WaitTurn::Again(WaitStage::PrepareLock),

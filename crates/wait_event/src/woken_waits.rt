@@ -15,7 +15,7 @@ use wait_model::layout::RUNNING;
 use wait_model::tasks::{Sleep, SleepState};
 use wait_rule::flags::{woken_clear, woken_load};
 use wait_rule::tasks::{awake, set_state};
-use wait_rule::tries::sleep_try;
+use wait_rule::tries::{FailedTries, sleep_try};
 use wait_rule::{Domain, Task, wait_up};
 
 /// A stage of a wait for a flag: where it stands in its program.
@@ -108,7 +108,8 @@ fn sleep_event(domain: &Domain, task: &mut Task, state: SleepState) -> WokenTurn
     ensures { Hears task.old task.new state stage.Sleep result }
 {
     let _ = state;
-    match sleep_try(domain, task) {
+    let mut failed = FailedTries::none();
+    match sleep_try(domain, task, &mut failed) {
         None => WokenTurn::Again(WokenStage::Sleep),
         Some(Sleep::Asleep) => WokenTurn::Asleep,
         Some(Sleep::Stay) => WokenTurn::Again(WokenStage::Run),

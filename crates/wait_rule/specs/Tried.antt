@@ -1,5 +1,5 @@
 -- To be believed.
--- What the try of a wake that was made answers, and what is counted of those that failed.
+-- What the try of a wake that was made answers, and what is counted of tries that failed, of wakes and of sleeps.
 use Rattle.std.specs.Prelude.{ℕ, ◌+◌, ◌-◌, ◌^◌, ◌≡◌, ◌&&◌, Bool, not, min, Option, Some, None}
 use Rattle.wait_model.specs.declared.steps.Step.TheVariants as step
 use Rattle.wait_model.specs.Fold.{met_task}
@@ -19,11 +19,19 @@ abbrev pub HasTried : Known → Known → ℕ → ℕ → Met → Type 0
 HasTried old new who mask tried = AddsOf old new (λ found. step.Wake who mask found)
     (λ found. (tried.met ≡ met_task mask found) × (tried.rouse ≡ rouses mask found))
 
--- The count of failed tries is as it was where a try was made. Else it is one more, or stands at the end of 64 bits.
-abbrev pub CountsFailed : FailedTries → FailedTries → Option Met → Type 0
-CountsFailed old new (Some tried) = new ≡ old
-CountsFailed old new None = new.count ≡ min (old.count + 1) (2 ^ 64 - 1)
+-- how many failed
+abbrev pub counted : FailedTries → ℕ
+counted failed = failed.count
+
+-- one more failed; the count stands at the end of 64 bits
+abbrev pub IsOneMore : FailedTries → FailedTries → Type 0
+IsOneMore old new = counted new ≡ min (counted old + 1) (2 ^ 64 - 1)
+
+-- The count of failed tries is as it was where a try was made, whatever it answered, and else one more.
+abbrev pub CountsFailed : {A : Type 0} → FailedTries → FailedTries → Option A → Type 0
+CountsFailed old new (Some answer) = new ≡ old
+CountsFailed old new None = IsOneMore old new
 
 -- so many tries failed, one after another, as no run makes
 abbrev pub IsStarved : FailedTries → Type 0
-IsStarved failed = failed.count ≡ TRIES
+IsStarved failed = counted failed ≡ TRIES

@@ -89,8 +89,13 @@ fn single_tries(rt: HostRuntime) -> Result<(), Fail> {
         panic!(rt; "a number is spare")
     };
     set_state(&domain, &mut task, UNINTERRUPTIBLE);
-    assert!(rt; matches!(sleep_try(&domain, &mut task), Some(Sleep::Asleep)));
     let mut failed = FailedTries::none();
+    assert!(rt;
+        matches!(
+            sleep_try(&domain, &mut task, &mut failed),
+            Some(Sleep::Asleep)
+        )
+    );
     let Some(tried) = wake_try(&domain, &mut other, 0, NORMAL, &mut failed) else {
         panic!(rt; "nobody changes the word meanwhile")
     };

@@ -37,8 +37,9 @@ use Rattle.wait_class.proofs.Ground.Standing.{
 use Rattle.wait_class.specs.declared.stages.Doing.TheVariants as doing
 use Rattle.wait_class.specs.declared.stages.Run.{Run}
 use Rattle.wait_class.specs.declared.stages.Turn.{Turn}
-use Rattle.wait_class.specs.Laws.{HasShown, IsHeld, IsLawful, IsOpen, LawOf, PareLaw, PeekLaw, head_in, GiveLaw, HeedLaw, mask_in}
-use Rattle.wait_class.specs.Tables.{Advances, Calm, IsAt, IsStop, Table, falls, post_of, turn_post, watch_at, watch_in}
+use Rattle.wait_class.specs.Laws.{HasShown, IsHeld, IsLawful, IsOpen, LawOf, PareLaw, PeekLaw, GiveLaw, HeedLaw, mask_in}
+use Rattle.wait_class.specs.Tables.{head_in}
+use Rattle.wait_class.specs.Tables.{Calm, IsAt, IsStop, Table, Turned, falls, post_of, turn_post, watch_at, watch_in}
 use Rattle.wait_class.proofs.CalmSteps.{calm_on, calm_peek, calm_removed, calm_saw, calm_step, calm_unlock}
 use Rattle.wait_class.proofs.Locks.{back_looks, back_stands, back_up}
 use Rattle.wait_class.proofs.Turns.{
@@ -181,10 +182,10 @@ module _ {C S O : Type 0} (t : Table C S O) where
 
     pub peek_advances : (old new : Known) (r : Run C) (s : S) → t.doing s ≡ doing.Peek → IsAt t old r s
         → (o : Option Entry) → HasSeenOwn old new o → (u : Turn S O) → u ≡ t.found_to r.of s (is_some o)
-        → Advances t old new r r s u
+        → Turned t old new r r s u
     peek_advances old new r s here a o h u to =
         let l = peek_law r.of s here o in
-        subst (λ (v : Turn S O). Advances t old new r r s v) (sym to)
+        subst (λ (v : Turn S O). Turned t old new r r s v) (sym to)
         (advance_by t old new r r s (t.found_to r.of s (is_some o)) refl a.fits l.moves.plain
         (peek_from old new r s o l a h))
 
@@ -272,22 +273,22 @@ module _ {C S O : Type 0} (t : Table C S O) where
     pub takes_advances : (old mid new : Known) (r : Run C) (s : S) → t.doing s ≡ doing.Pare → IsAt t old r s
         → (o : Option Entry) → HasSeenOwn old mid o → (b : Bool) → b ≡ is_some o → b ≡ true → (me : ℕ)
         → me ≡ old.view.number → HasRemoved mid new me 0 → IsHolding new → (u : Turn S O) → u ≡ t.found_to r.of s true
-        → Advances t old new r r s u
+        → Turned t old new r r s u
     takes_advances old mid new r s here a None h b some hit me mine x held u to = absurd (cc)
     takes_advances old mid new r s here a (Some e) h b some hit me mine x held u to =
         let l = pare_law r.of s here in
-        subst (λ (v : Turn S O). Advances t old new r r s v) (sym to)
+        subst (λ (v : Turn S O). Turned t old new r r s v) (sym to)
         (advance_by t old new r r s (t.found_to r.of s true) refl a.fits (l.takes e).plain
         (takes_from old mid new r s e l a h (subst (λ (n : ℕ). HasRemoved mid new n 0) mine x) held))
 
     pub gives_advances : (old mid new : Known) (r : Run C) (s : S) → t.doing s ≡ doing.Pare → IsAt t old r s
         → (o : Option Entry) → HasSeenOwn old mid o → (b : Bool) → b ≡ is_some o → b ≡ false
         → new ≡ unlocked_with mid mid.at false → (u : Turn S O) → u ≡ t.found_to r.of s false
-        → Advances t old new r r s u
+        → Turned t old new r r s u
     gives_advances old mid new r s here a (Some e) h b some miss is u to = absurd (cc)
     gives_advances old mid new r s here a None h b some miss is u to =
         let l = pare_law r.of s here in
-        subst (λ (v : Turn S O). Advances t old new r r s v) (sym to)
+        subst (λ (v : Turn S O). Turned t old new r r s v) (sym to)
         (advance_by t old new r r s (t.found_to r.of s false) refl a.fits l.gives.moves.plain
         (gives_from old mid new r s l.held l.opens l.gives a h is))
 
@@ -365,11 +366,11 @@ module _ {C S O : Type 0} (t : Table C S O) where
         → (o : Option Entry) → HasSeenOwn old mid o → (b : Bool) → b ≡ is_some o → b ≡ true → (w : ℕ)
         → new ≡ added mid (item.Made (step.Look w)) → Carries unchanged mid new → (hit : Bool)
         → hit ≡ pending (mask_in t r.of) (task_of w) → (u : Turn S O) → u ≡ t.heeded_to r.of s hit
-        → Advances t old new r r s u
+        → Turned t old new r r s u
     heeds_advances old mid new r s here a None h b some sure w is carries hit tells u to = absurd (cc)
     heeds_advances old mid new r s here a (Some e) h b some sure w is carries hit tells u to =
         let l = heed_law r.of s here in
-        subst (λ (v : Turn S O). Advances t old new r r s v) (sym to)
+        subst (λ (v : Turn S O). Turned t old new r r s v) (sym to)
         (advance_by t old new r r s (t.heeded_to r.of s hit) refl a.fits (l.looks hit e w (sym tells)).plain
         (heeds_from old mid new r s e hit w l a h (sym tells) is carries))
 
@@ -383,11 +384,11 @@ module _ {C S O : Type 0} (t : Table C S O) where
     pub off_advances : (old mid new : Known) (r : Run C) (s : S) → t.doing s ≡ doing.Heed → IsAt t old r s
         → (o : Option Entry) → HasSeenOwn old mid o → (b : Bool) → b ≡ is_some o → b ≡ false
         → new ≡ unlocked_with mid mid.at false → (u : Turn S O) → u ≡ t.found_to r.of s false
-        → Advances t old new r r s u
+        → Turned t old new r r s u
     off_advances old mid new r s here a (Some e) h b some miss is u to = absurd (cc)
     off_advances old mid new r s here a None h b some miss is u to =
         let l = heed_law r.of s here in
-        subst (λ (v : Turn S O). Advances t old new r r s v) (sym to)
+        subst (λ (v : Turn S O). Turned t old new r r s v) (sym to)
         (advance_by t old new r r s (t.found_to r.of s false) refl a.fits l.gives.moves.plain
         (gives_from old mid new r s l.held l.opens l.gives a h is))
 

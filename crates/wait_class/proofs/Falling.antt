@@ -1,16 +1,78 @@
 -- A stretch comes to a place at which no head is held.
-use Rattle.std.proofs.Common.{refl, arith}
+use Rattle.std.proofs.Common.{◌∙◌, ap, append_assoc, append-nil, arith, inl, inr, refl, subst, sym}
 use Rattle.std.proofs.lemmas.Bool.Decides.{nat_tests}
-use Rattle.std.specs.Prelude.{ℕ, ◌≡◌, ◌<◌, ◌≤◌, ◌+◌, ◌||◌, not, nat_lt, Bool, true, false}
+use Rattle.std.specs.Prelude.{ℕ, ◌≡◌, ◌<◌, ◌≤◌, ◌+◌, ◌⊎◌, ◌||◌, not, nat_lt, Bool, true, false, List, [], ◌∷◌, ◌++◌}
+use Rattle.wait_model.specs.declared.steps.Step.{Step}
+use Rattle.wait_model.specs.PointFacts.{holds}
 use Rattle.wait_rule.specs.Known.{Known}
+use Rattle.wait_rule.specs.Says.{history_of}
 use Rattle.wait_class.specs.declared.stages.Run.{Run}
+use Rattle.wait_rule.specs.declared.tries.FailedTries.{FailedTries}
+use Rattle.wait_rule.specs.Tried.{IsOneMore}
+use Rattle.wait_class.specs.declared.stages.Turn.{Turn}
 use Rattle.wait_class.specs.declared.stages.Turn.TheVariants as turn
-use Rattle.wait_class.specs.Tables.{Advances, Table}
+use Rattle.wait_class.specs.Tables.{Advances, HasMade, Shows, Table}
+
+-- it has made nothing yet, or an event
+abbrev pub IsBegun : {C : Type 0} → Known → Known → Run C → Run C → Type 0
+IsBegun old new r q = ((new ≡ old) × (q ≡ r)) ⊎ HasMade old new
+
+pub made_on : (old mid new : Known) → HasMade old mid → (es : List Step) → history_of new ≡ history_of mid ++ es
+    → HasMade old new
+made_on old mid new m es more = record {
+  before = m.before;
+  event = m.event;
+  behind = m.behind ++ es;
+  is = more ∙ (ap (λ (l : List Step). l ++ es) m.is
+      ∙ (append_assoc (history_of old) (m.before ++ m.event ∷ m.behind) es
+      ∙ ap (λ (l : List Step). history_of old ++ l) (append_assoc m.before (m.event ∷ m.behind) es)));
+}
+
+pub begun_on : {C : Type 0} (old mid new : Known) (r q : Run C) → IsBegun old mid r q → HasMade mid new
+    → HasMade old new
+begun_on old mid new r q (inl same) made = subst (λ (k : Known). HasMade k new) same.0 made
+begun_on old mid new r q (inr before) made = made_on old mid new before (made.before ++ made.event ∷ made.behind) made.is
+
+module _ {C S O : Type 0} (t : Table C S O) (old mid new : Known) (r q w : Run C) (n : S)
+    (begun : IsBegun old mid r q) where
+  -- where the head is held a turn has made an event
+  pub goes_made : Shows t mid new q w (turn.Again n) → holds (t.point_of n) ≡ true → HasMade old new
+  goes_made (inl made) held = begun_on old mid new r q begun made
+  goes_made (inr failed) held = absurd (let no : true ≡ false = sym held ∙ failed.free in cc)
+
+  pub goes_shown : Shows t mid new q w (turn.Again n) → Shows t old new r w (turn.Again n)
+  goes_shown (inl made) = inl (begun_on old mid new r q begun made)
+  goes_shown (inr failed) = by begun
+    where
+      by : IsBegun old mid r q → Shows t old new r w (turn.Again n)
+      by (inl same) = subst (λ (k : Known). Shows t k new r w (turn.Again n)) same.0
+          (subst (λ (p : Run C). Shows t mid new p w (turn.Again n)) same.1 (inr failed))
+      by (inr made) = inl (made_on old mid new made [] (failed.still ∙ sym (append-nil (history_of mid))))
+
+-- behind what is no event
+pub shown_behind : {C S O : Type 0} (t : Table C S O) (old mid new : Known) (r q w : Run C)
+    → history_of mid ≡ history_of old → q.failed ≡ r.failed → (u : Turn S O) → Shows t mid new q w u
+    → Shows t old new r w u
+shown_behind t old mid new r q w still kept (turn.Again n) (inl made) = inl (record {
+  before = made.before;
+  event = made.event;
+  behind = made.behind;
+  is = made.is ∙ ap (λ (l : List Step). l ++ (made.before ++ made.event ∷ made.behind)) still;
+})
+shown_behind t old mid new r q w still kept (turn.Again n) (inr failed) = inr (record {
+  count = subst (λ (f : FailedTries). IsOneMore f w.failed) kept failed.count;
+  still = failed.still ∙ still;
+  free = failed.free;
+})
+shown_behind t old mid new r q w still kept (turn.Locked n) found = found
+shown_behind t old mid new r q w still kept (turn.Asleep n) x = tt
+shown_behind t old mid new r q w still kept (turn.Done o) x = tt
 
 -- a stretch under way
 pub record IsUnderWay {C S O : Type 0} (t : Table C S O) (old new : Known) (r q : Run C) (s n : S) (turns : ℕ) :
     Type 0 where
   pub way : Advances t old new r q s (turn.Again n)
+  pub begun : IsBegun old new r q
   pub low : t.depth n + turns ≤ 4
 
 -- a place at which no head is held

@@ -1,5 +1,5 @@
 -- A ticket is drawn, the lock taken by it, and given back.
-use Rattle.std.proofs.Common.{◌∙◌, ap, sym, refl, subst}
+use Rattle.std.proofs.Common.{◌∙◌, ap, append-nil, sym, refl, subst}
 use Rattle.std.specs.Prelude.{ℕ, ◌≡◌, ◌≢◌, ◌<◌, not, Bool, true, false, Option, Some, None, List, [], ◌∷◌}
 use Rattle.wait_model.specs.declared.layout.TheConstants.{HEADS}
 use Rattle.wait_model.specs.declared.points.Next.TheVariants as next
@@ -15,7 +15,8 @@ use Rattle.wait_rule.specs.declared.journal.Item.TheVariants as item
 use Rattle.wait_rule.specs.HandedPermits.{OwesNoPermit}
 use Rattle.wait_rule.specs.Known.{Known}
 use Rattle.wait_rule.specs.Tickets.{no_ticket, drawn, taken, after_serving}
-use Rattle.wait_rule.specs.Says.{IsFree as IsFreeTask, IsUp, added, unlocked_with}
+use Rattle.wait_rule.specs.Says.{IsFree as IsFreeTask, IsUp, added, history_of, unlocked_with}
+use Rattle.wait_rule.proofs.TableSteps.ItemLists.{steps_append}
 use Rattle.wait_rule.specs.Queues.{IsAgreed, IsLocked, IsTurn, at_head, index, walk_of_hold}
 use Rattle.wait_rule.specs.Stays.{Carries, unlock_change}
 use Rattle.wait_rule.specs.Transitions.{OnlyLooks, Program}
@@ -32,8 +33,9 @@ use Rattle.wait_class.specs.declared.stages.Doing.TheVariants as doing
 use Rattle.wait_class.specs.declared.stages.Run.{Run}
 use Rattle.wait_class.specs.declared.stages.Turn.{Turn}
 use Rattle.wait_class.specs.declared.stages.Turn.TheVariants as turn
-use Rattle.wait_class.specs.Laws.{DrawLaw, IsLawful, LawOf, LockLaw, UnlockLaw, head_in}
-use Rattle.wait_class.specs.Tables.{Advances, Calm, IsAt, IsStop, Table, falls, plan_post, plan_program, post_of, run_post, turn_post, watch_in}
+use Rattle.wait_class.specs.Laws.{DrawLaw, IsLawful, LawOf, LockLaw, UnlockLaw}
+use Rattle.wait_class.specs.Tables.{head_in}
+use Rattle.wait_class.specs.Tables.{Advances, Calm, IsAt, IsStop, Table, Turned, falls, plan_post, plan_program, post_of, run_post, turn_post, watch_in}
 use Rattle.wait_class.proofs.CalmSteps.{calm_on, calm_quiet, calm_step, calm_unlock}
 use Rattle.wait_class.proofs.Turns.{GoesOn, advance_by, drawn_post, free_head, free_ticket, held_head, moves_quiet, stands_plain, stops_by}
 
@@ -120,6 +122,11 @@ module _ {C S O : Type 0} (t : Table C S O) (law : IsLawful t) where
       (sym (is ∙ ap (λ (i : ℕ). added old (item.Drawn i n)) same))
       (drawn_from old r s (draw_law r.of s here) a n)
 
+  pub draw_still : (old new : Known) (h n : ℕ) → new ≡ added old (item.Drawn h n)
+      → history_of new ≡ history_of old
+  draw_still old new h n is = ap history_of is
+      ∙ (steps_append old.view.items (item.Drawn h n ∷ []) ∙ append-nil (history_of old))
+
   pub draw_free : (old : Known) (r : Run C) (s : S) → t.doing s ≡ doing.Draw → IsAt t old r s → IsFreeTask old
   draw_free old r s here a =
       let l = draw_law r.of s here in
@@ -164,8 +171,8 @@ module _ {C S O : Type 0} (t : Table C S O) (law : IsLawful t) where
     serving_looks = record { items = item.Serving head w ∷ []; looks = (tt, tt); is = refl }
 
     -- another one is served
-    other_from : w ≢ r.ticket → Advances t old served r with_served s (turn.Locked s)
-    other_from ne = record {
+    other_lands : w ≢ r.ticket → Advances t old served r with_served s (turn.Locked s)
+    other_lands ne = record {
       same = refl;
       went = record {
         runs = runs_looks program old served (next.Go (t.point_of s)) serving_looks;
@@ -182,6 +189,12 @@ module _ {C S O : Type 0} (t : Table C S O) (law : IsLawful t) where
         trail = law.still old served r.of s
             (calm_quiet old (item.Serving head w) refl (told_added old (item.Serving head w)) refl) a.trail;
       };
+    }
+
+    other_from : w ≢ r.ticket → Turned t old served r with_served s (turn.Locked s)
+    other_from ne = record {
+      shows = record { before = old; finds = record { looked = refl; other = ne } };
+      advances = other_lands ne;
     }
 
     -- the own ticket is served, and the lock taken
@@ -224,9 +237,9 @@ module _ {C S O : Type 0} (t : Table C S O) (law : IsLawful t) where
 
   pub other_advances : (old new : Known) (r : Run C) (s : S) → t.doing s ≡ doing.Lock → IsAt t old r s → (h w : ℕ)
       → h ≡ head_in t r.of s → new ≡ added old (item.Serving h w) → w ≢ r.ticket
-      → Advances t old new r (record r { served = w }) s (turn.Locked s)
+      → Turned t old new r (record r { served = w }) s (turn.Locked s)
   other_advances old new r s here a h w same is ne =
-      subst (λ (k : Known). Advances t old k r (record r { served = w }) s (turn.Locked s))
+      subst (λ (k : Known). Turned t old k r (record r { served = w }) s (turn.Locked s))
       (sym (is ∙ ap (λ (i : ℕ). added old (item.Serving i w)) same))
       (other_from old r s (lock_law r.of s here) a w ne)
 
@@ -242,10 +255,10 @@ module _ {C S O : Type 0} (t : Table C S O) (law : IsLawful t) where
       → (h w x : ℕ) → h ≡ head_in t r.of s → mid ≡ added old (item.Serving h w)
       → new ≡ at_head h (added mid (item.Made (step.Lock h (walk_of_hold h None) x))) → (u : Turn S O)
       → u ≡ t.next_of r.of s
-      → Advances t old new r (record r { served = w }) s u
+      → Turned t old new r (record r { served = w }) s u
   lock_advances old mid new r s here a h w x same first is u to =
       let l = lock_law r.of s here in
-      subst (λ (v : Turn S O). Advances t old new r (record r { served = w }) s v) (sym to)
+      subst (λ (v : Turn S O). Turned t old new r (record r { served = w }) s v) (sym to)
       (advance_by t old new r (record r { served = w }) s (t.next_of r.of s) refl a.fits l.moves.plain
       (subst (λ (k : Known). GoesOn t old k r.of r.of s (t.next_of r.of s))
       (sym (is ∙ (λ i. at_head (same i) (added (from i)
@@ -302,10 +315,10 @@ module _ {C S O : Type 0} (t : Table C S O) (law : IsLawful t) where
       }
 
   pub unlock_advances : (old new : Known) (r : Run C) (s : S) → t.doing s ≡ doing.Unlock → IsAt t old r s
-      → new ≡ unlocked_with old old.at false → (u : Turn S O) → u ≡ t.next_of r.of s → Advances t old new r r s u
+      → new ≡ unlocked_with old old.at false → (u : Turn S O) → u ≡ t.next_of r.of s → Turned t old new r r s u
   unlock_advances old new r s here a is u to =
       let l = unlock_law r.of s here in
-      subst (λ (v : Turn S O). Advances t old new r r s v) (sym to)
+      subst (λ (v : Turn S O). Turned t old new r r s v) (sym to)
       (advance_by t old new r r s (t.next_of r.of s) refl a.fits l.moves.plain (unlock_from old new r s l a is))
 
   pub unlock_falls : (r : C) (s : S) → t.doing s ≡ doing.Unlock → (u : Turn S O) → u ≡ t.next_of r s

@@ -43,20 +43,9 @@ use Rattle.wait_class.specs.declared.stages.Added.TheVariants as adds
 use Rattle.wait_class.specs.declared.stages.Doing.TheVariants as doing
 use Rattle.wait_class.specs.declared.stages.Run.{Run}
 use Rattle.wait_class.specs.declared.stages.Turn.{Turn}
-use Rattle.wait_class.specs.Laws.{
-  HasJoined,
-  HasShown,
-  IsLawful,
-  IsWornFor,
-  IsWornOut,
-  LawOf,
-  MayJoin,
-  QueueLaw,
-  head_in,
-  is_quiet,
-  mask_in,
-}
-use Rattle.wait_class.specs.Tables.{Advances, IsAt, IsStop, Table, falls, post_of, turn_post, watch_in}
+use Rattle.wait_class.specs.Laws.{HasJoined, HasShown, IsLawful, IsWornFor, IsWornOut, LawOf, MayJoin, QueueLaw, is_quiet, mask_in}
+use Rattle.wait_class.specs.Tables.{head_in}
+use Rattle.wait_class.specs.Tables.{IsAt, IsStop, Table, Turned, falls, post_of, turn_post, watch_in}
 use Rattle.wait_class.proofs.CalmSteps.{calm_on, calm_saw, calm_step, told_stored}
 use Rattle.wait_class.proofs.Entries.{
   at_is,
@@ -321,11 +310,11 @@ module _ {C S O : Type 0} (t : Table C S O) (law : IsLawful t) where
   pub stay_advances : (old mid new : Known) (r : Run C) (s : S) → t.doing s ≡ doing.Queue → IsAt t old r s
       → (o : Option Entry) → HasSeenOwn old mid o → (b : Bool) → b ≡ is_some o → b ≡ true → (σ : ℕ)
       → σ ≡ mask_in t r.of → new ≡ added mid (item.Made (step.State σ)) → Carries (state_change σ) mid new
-      → (u : Turn S O) → u ≡ t.added_to r.of s adds.Stayed → Advances t old new r r s u
+      → (u : Turn S O) → u ≡ t.added_to r.of s adds.Stayed → Turned t old new r r s u
   stay_advances old mid new r s here a None own b tells hit σ same is carries u to = absurd (cc)
   stay_advances old mid new r s here a (Some e) own b tells hit σ same is carries u to =
       let l = queue_law r.of s here in
-      subst (λ (v : Turn S O). Advances t old new r r s v) (sym to)
+      subst (λ (v : Turn S O). Turned t old new r r s v) (sym to)
       (advance_by t old new r r s (t.added_to r.of s adds.Stayed) refl a.fits (l.stays e).plain
       (stay_from old mid r s l a e own new (is ∙ ap (λ (n : ℕ). added mid (item.Made (step.State n))) same)
       (subst (λ (n : ℕ). Carries (state_change n) mid new) same carries)))
@@ -333,13 +322,13 @@ module _ {C S O : Type 0} (t : Table C S O) (law : IsLawful t) where
   pub join_advances : (old mid new : Known) (r : Run C) (s : S) → t.doing s ≡ doing.Queue → IsAt t old r s
       → (o : Option Entry) → HasSeenOwn old mid o → (b : Bool) → b ≡ is_some o → b ≡ false → IsHolding new
       → (first : Bool) → HasJoined t r.of s mid new first → (u : Turn S O) → u ≡ t.added_to r.of s adds.Joined
-      → (q : C) → q ≡ t.joined_at r.of s first → Advances t old new r (record r { of = q }) s u
+      → (q : C) → q ≡ t.joined_at r.of s first → Turned t old new r (record r { of = q }) s u
   join_advances old mid new r s here a (Some e) own b tells miss held first x u to q notes = absurd (cc)
   join_advances old mid new r s here a None own b tells miss held first x u to q notes =
       let l = queue_law r.of s here in
       let joined = t.joined_at r.of s first in
-      subst (λ (d : C). Advances t old new r (record r { of = d }) s u) (sym notes)
-      (subst (λ (v : Turn S O). Advances t old new r (record r { of = joined }) s v) (sym to)
+      subst (λ (d : C). Turned t old new r (record r { of = d }) s u) (sym notes)
+      (subst (λ (v : Turn S O). Turned t old new r (record r { of = joined }) s v) (sym to)
       (advance_by t old new r (record r { of = joined }) s (t.added_to r.of s adds.Joined) (l.joins_same first)
       (l.joins_fits first a.fits) l.joins.plain (join_from old mid r s l a own new first held x)))
 
@@ -348,13 +337,13 @@ module _ {C S O : Type 0} (t : Table C S O) (law : IsLawful t) where
       → IsWornFor t r.of mid mid2 w → IsHolding mid2 → (v : Option Entry) → HasSeenOwn mid2 mid3 v
       → new ≡ unlocked_with mid3 mid3.at false → WasWorn mid2.view.number mid2.view.items w.head w.place → (c : C)
       → c ≡ t.worn_at r.of w.place → (u : Turn S O) → u ≡ t.added_to r.of s adds.Worn
-      → Advances t old new r (record r { of = c }) s u
+      → Turned t old new r (record r { of = c }) s u
   worn_advances old mid mid2 mid3 new r s here a (Some e) own b tells miss w x held2 v own2 is noted c kept u to =
       absurd (cc)
   worn_advances old mid mid2 mid3 new r s here a None own b tells miss w x held2 v own2 is noted c kept u to =
       let l = queue_law r.of s here in
-      subst (λ (d : C). Advances t old new r (record r { of = d }) s u) (sym kept)
-      (subst (λ (n : Turn S O). Advances t old new r (record r { of = t.worn_at r.of w.place }) s n) (sym to)
+      subst (λ (d : C). Turned t old new r (record r { of = d }) s u) (sym kept)
+      (subst (λ (n : Turn S O). Turned t old new r (record r { of = t.worn_at r.of w.place }) s n) (sym to)
       (advance_by t old new r (record r { of = t.worn_at r.of w.place }) s (t.added_to r.of s adds.Worn)
       (law.worn r.of w.place) (law.worn_fits r.of w.place a.fits) l.wears.plain
       (worn_from old mid r s l a own mid2 mid3 new w x held2 v own2 is noted)))

@@ -15,6 +15,8 @@ use Rattle.wait_rule.specs.declared.journal.Item.{Item}
 use Rattle.wait_rule.specs.declared.journal.Item.TheVariants as item
 use Rattle.wait_rule.specs.Items.{Book, after_awake, after_sleep, risen, steps_of, with_state}
 use Rattle.wait_rule.specs.Known.{Known}
+use Rattle.wait_rule.specs.declared.tries.FailedTries.{FailedTries}
+use Rattle.wait_rule.specs.Tried.{IsOneMore}
 use Rattle.wait_rule.specs.Says.{IsFree as IsFreeTask}
 use Rattle.wait_rule.specs.Queues.{IsTold, index}
 use Rattle.wait_rule.specs.Says.{IsAwakeAgain, added, grown, history_of, told_of}
@@ -31,7 +33,7 @@ use Rattle.wait_class.specs.declared.stages.Doing.TheVariants as doing
 use Rattle.wait_class.specs.declared.stages.Run.{Run}
 use Rattle.wait_class.specs.declared.stages.Turn.TheVariants as turn
 use Rattle.wait_class.specs.Laws.{IsLawful, LawOf, SleepLaw}
-use Rattle.wait_class.specs.Tables.{Advances, IsAsleepAt, IsAt, Table, Unmoved, Went, falls, plan_program, post_of, run_post, watch_in}
+use Rattle.wait_class.specs.Tables.{Advances, IsAsleepAt, IsAt, Table, Turned, Unmoved, Went, falls, plan_program, post_of, run_post, watch_in}
 use Rattle.wait_class.proofs.CalmSteps.{calm_step}
 use Rattle.wait_class.proofs.Turns.{
   advances_none,
@@ -113,9 +115,9 @@ module _ {C S O : Type 0} (t : Table C S O) (law : IsLawful t) where
     stays_book x (inl e) = ap (λ (y : Sleep). after_sleep y old.book) e
     stays_book x (inr e) = ap (λ (y : Sleep). after_sleep y old.book) e
 
-    up_to : (sleep_of (task_of w) ≡ sleeping.Stay) ⊎ (sleep_of (task_of w) ≡ sleeping.Signal)
+    up_lands : (sleep_of (task_of w) ≡ sleeping.Stay) ⊎ (sleep_of (task_of w) ≡ sleeping.Signal)
         → Advances t old slept r r s (turn.Again n)
-    up_to stays =
+    up_lands stays =
         let is = stays_book (sleep_of (task_of w)) stays in
         record {
           same = refl;
@@ -129,8 +131,12 @@ module _ {C S O : Type 0} (t : Table C S O) (law : IsLawful t) where
           };
         }
 
-    down_to : sleep_of (task_of w) ≡ sleeping.Asleep → Advances t old slept r r s (turn.Asleep n)
-    down_to asleep =
+    up_to : (sleep_of (task_of w) ≡ sleeping.Stay) ⊎ (sleep_of (task_of w) ≡ sleeping.Signal)
+        → Turned t old slept r r s (turn.Again n)
+    up_to stays = record { shows = inl passage.made; advances = up_lands stays }
+
+    down_lands : sleep_of (task_of w) ≡ sleeping.Asleep → Advances t old slept r r s (turn.Asleep n)
+    down_lands asleep =
         let is : after_sleep (sleep_of (task_of w)) old.book ≡ after_sleep sleeping.Asleep old.book =
         ap (λ (y : Sleep). after_sleep y old.book) asleep in
         record {
@@ -147,29 +153,47 @@ module _ {C S O : Type 0} (t : Table C S O) (law : IsLawful t) where
           };
         }
 
+    down_to : sleep_of (task_of w) ≡ sleeping.Asleep → Turned t old slept r r s (turn.Asleep n)
+    down_to asleep = record { shows = tt; advances = down_lands asleep }
+
   pub sleep_up : (old new : Known) (r : Run C) (s : S) → t.doing s ≡ doing.Sleep → IsAt t old r s → (w : ℕ)
       → new ≡ added old (item.Made (step.Sleep w)) → (x : Sleep) → x ≡ sleep_of (task_of w)
       → (x ≡ sleeping.Stay) ⊎ (x ≡ sleeping.Signal) → (n : S) → n ≡ t.slept_to r.of s
-      → Advances t old new r r s (turn.Again n)
-  sleep_up old new r s here a w is x tells stays n to =
-      subst (λ (m : S). Advances t old new r r s (turn.Again m)) (sym to)
-      (subst (λ (k : Known). Advances t old k r r s (turn.Again (t.slept_to r.of s))) (sym is)
+      → (f : FailedTries) → f ≡ r.failed → Turned t old new r (record r { failed = f }) s (turn.Again n)
+  sleep_up old new r s here a w is x tells stays n to f kept =
+      subst (λ (m : S). Turned t old new r (record r { failed = f }) s (turn.Again m)) (sym to)
+      (subst (λ (g : FailedTries). Turned t old new r (record r { failed = g }) s (turn.Again (t.slept_to r.of s)))
+      (sym kept)
+      (subst (λ (k : Known). Turned t old k r r s (turn.Again (t.slept_to r.of s))) (sym is)
       (up_to old r s (sleep_law r.of s here) a w
-      (elim stays [ inl e ↦ inl (sym tells ∙ e) | inr e ↦ inr (sym tells ∙ e) ])))
+      (elim stays [ inl e ↦ inl (sym tells ∙ e) | inr e ↦ inr (sym tells ∙ e) ]))))
 
   pub sleep_down : (old new : Known) (r : Run C) (s : S) → t.doing s ≡ doing.Sleep → IsAt t old r s → (w : ℕ)
       → new ≡ added old (item.Made (step.Sleep w)) → (x : Sleep) → x ≡ sleep_of (task_of w) → x ≡ sleeping.Asleep
-      → (n : S) → n ≡ t.slept_to r.of s → Advances t old new r r s (turn.Asleep n)
-  sleep_down old new r s here a w is x tells asleep n to =
-      subst (λ (m : S). Advances t old new r r s (turn.Asleep m)) (sym to)
-      (subst (λ (k : Known). Advances t old k r r s (turn.Asleep (t.slept_to r.of s))) (sym is)
-      (down_to old r s (sleep_law r.of s here) a w (sym tells ∙ asleep)))
+      → (n : S) → n ≡ t.slept_to r.of s → (f : FailedTries) → f ≡ r.failed
+      → Turned t old new r (record r { failed = f }) s (turn.Asleep n)
+  sleep_down old new r s here a w is x tells asleep n to f kept =
+      subst (λ (m : S). Turned t old new r (record r { failed = f }) s (turn.Asleep m)) (sym to)
+      (subst (λ (g : FailedTries). Turned t old new r (record r { failed = g }) s (turn.Asleep (t.slept_to r.of s)))
+      (sym kept)
+      (subst (λ (k : Known). Turned t old k r r s (turn.Asleep (t.slept_to r.of s))) (sym is)
+      (down_to old r s (sleep_law r.of s here) a w (sym tells ∙ asleep))))
 
-  -- a try that did nothing
-  pub sleep_again : (old new : Known) (r : Run C) (s : S) → IsAt t old r s → new ≡ old
-      → Advances t old new r r s (turn.Again s)
-  sleep_again old new r s a is = subst (λ (k : Known). Advances t old k r r s (turn.Again s)) (sym is)
-      (advances_none t law old r s a)
+  -- a try that failed
+  pub sleep_again : (old new : Known) (r : Run C) (s : S) → t.doing s ≡ doing.Sleep → IsAt t old r s → new ≡ old
+      → (f : FailedTries) → IsOneMore r.failed f → Turned t old new r (record r { failed = f }) s (turn.Again s)
+  sleep_again old new r s here a is f more = record {
+    advances = subst (λ (k : Known). Advances t old k r (record r { failed = f }) s (turn.Again s)) (sym is) (record {
+      same = refl;
+      went = (advances_none t law old r s a).went;
+      lands = record { fits = a.fits; up = a.up; stands = a.stands; trail = a.trail };
+    });
+    shows = inr (record {
+      count = more;
+      still = ap history_of is;
+      free = (sleep_law r.of s here).free;
+    });
+  }
 
   -- it goes on where no head is held
   pub again_falls : (r : C) (s : S) → t.doing s ≡ doing.Sleep → falls t s (turn.Again s) ≡ true

@@ -19,7 +19,7 @@ use Rattle.wait_class.specs.declared.stages.Doing.TheVariants as doing
 use Rattle.wait_class.specs.declared.stages.Run.{Run}
 use Rattle.wait_class.specs.declared.stages.Turn.{Turn}
 use Rattle.wait_class.specs.Laws.{IsLawful, LawOf, LoadLaw, LookLaw, StateLaw, mask_in}
-use Rattle.wait_class.specs.Tables.{Advances, IsAt, Table, falls, post_of, turn_post, watch_at, watch_in}
+use Rattle.wait_class.specs.Tables.{IsAt, Table, Turned, falls, post_of, turn_post, watch_at, watch_in}
 use Rattle.wait_class.proofs.CalmSteps.{calm_step, gone}
 use Rattle.wait_class.proofs.Turns.{GoesOn, advance_by, moves_going, moves_quiet, stands_plain}
 
@@ -60,10 +60,10 @@ module _ {C S O : Type 0} (t : Table C S O) (law : IsLawful t) where
 
   pub state_advances : (old new : Known) (r : Run C) (s : S) → t.doing s ≡ doing.State → IsAt t old r s → (σ : ℕ)
       → σ ≡ t.state_at r.of s → new ≡ added old (item.Made (step.State σ)) → Carries (state_change σ) old new
-      → (u : Turn S O) → u ≡ t.next_of r.of s → Advances t old new r r s u
+      → (u : Turn S O) → u ≡ t.next_of r.of s → Turned t old new r r s u
   state_advances old new r s here a σ same is carries u to =
       let l = state_law r.of s here in
-      subst (λ (v : Turn S O). Advances t old new r r s v) (sym to)
+      subst (λ (v : Turn S O). Turned t old new r r s v) (sym to)
       (advance_by t old new r r s (t.next_of r.of s) refl a.fits l.moves.plain
       (state_from old new r s l a (is ∙ ap (λ (n : ℕ). added old (item.Made (step.State n))) same)
       (subst (λ (n : ℕ). Carries (state_change n) old new) same carries)))
@@ -111,10 +111,10 @@ module _ {C S O : Type 0} (t : Table C S O) (law : IsLawful t) where
       → c ≡ watch_at t r.of s → (v : ℕ) → LoadLaw t r.of s v (t.noted r.of s v) (t.loaded_to r.of s v)
       → new ≡ added old (item.Made (step.Load c v)) → Carries unchanged old new
       → (u : Turn S O) → u ≡ t.loaded_to r.of s v → (q : C) → q ≡ t.noted r.of s v
-      → Advances t old new r (record r { of = q }) s u
+      → Turned t old new r (record r { of = q }) s u
   load_advances old new r s a c same v l is carries u to q notes =
-      subst (λ (d : C). Advances t old new r (record r { of = d }) s u) (sym notes)
-      (subst (λ (n : Turn S O). Advances t old new r (record r { of = t.noted r.of s v }) s n) (sym to)
+      subst (λ (d : C). Turned t old new r (record r { of = d }) s u) (sym notes)
+      (subst (λ (n : Turn S O). Turned t old new r (record r { of = t.noted r.of s v }) s n) (sym to)
       (advance_by t old new r (record r { of = t.noted r.of s v }) s (t.loaded_to r.of s v) l.same (l.fits a.fits)
       l.moves.plain
       (load_from old new r s v l a (is ∙ ap (λ (w : Watch). added old (item.Made (step.Load w v))) same) carries)))
@@ -153,10 +153,10 @@ module _ {C S O : Type 0} (t : Table C S O) (law : IsLawful t) where
   pub look_advances : (old new : Known) (r : Run C) (s : S) → t.doing s ≡ doing.Look → IsAt t old r s → (w : ℕ)
       → new ≡ added old (item.Made (step.Look w)) → Carries unchanged old new → (hit : Bool)
       → hit ≡ pending (mask_in t r.of) (task_of w) → (u : Turn S O) → u ≡ t.found_to r.of s hit
-      → Advances t old new r r s u
+      → Turned t old new r r s u
   look_advances old new r s here a w is carries hit tells u to =
       let l = look_law r.of s here hit in
-      subst (λ (v : Turn S O). Advances t old new r r s v) (sym to)
+      subst (λ (v : Turn S O). Turned t old new r r s v) (sym to)
       (advance_by t old new r r s (t.found_to r.of s hit) refl a.fits (l.moves w (sym tells)).plain
       (look_from old new r s hit l a w (sym tells) is carries))
 

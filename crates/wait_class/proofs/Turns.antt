@@ -1,17 +1,22 @@
 -- One turn of a call: by where its program goes, and how the task stands there; and parts one after another.
-use Rattle.std.proofs.Common.{◌∙◌, ap, sym, refl, subst, inl}
-use Rattle.std.specs.Prelude.{ℕ, ◌≡◌, ◌||◌, not, nat_lt, Bool, true, false, if◌then◌else◌, Option, Some, None, List, [], ◌∷◌}
+use Rattle.std.proofs.Common.{◌∙◌, ap, append_assoc, sym, refl, subst, inl}
+use Rattle.std.specs.Prelude.{ℕ, ◌≡◌, ◌||◌, not, nat_lt, Bool, true, false, if◌then◌else◌, Option, Some, None, List, [], ◌∷◌, ◌++◌}
 use Rattle.wait_model.specs.declared.points.Point.{Point}
 use Rattle.wait_model.specs.declared.points.Next.{Next}
 use Rattle.wait_model.specs.declared.points.Next.TheVariants as next
 use Rattle.wait_model.specs.declared.points.Seen.{Seen}
 use Rattle.wait_model.specs.declared.steps.Step.{Step}
+use Rattle.wait_model.specs.declared.steps.Step.TheVariants as step
 use Rattle.wait_model.specs.PointFacts.{holds}
+use Rattle.wait_rule.specs.declared.journal.Item.TheVariants as item
+use Rattle.wait_rule.specs.Items.{steps_of}
 use Rattle.wait_rule.specs.Known.{Known}
 use Rattle.wait_rule.specs.Queues.{index}
-use Rattle.wait_rule.specs.Says.{IsUp}
+use Rattle.wait_rule.specs.Says.{IsUp, added, history_of}
+use Rattle.wait_rule.proofs.KnownLaws.TaskHistories.{history_after}
+use Rattle.wait_rule.proofs.TableSteps.ItemLists.{steps_append}
 use Rattle.wait_rule.specs.Tickets.{taken}
-use Rattle.wait_rule.specs.Transitions.{Goes, OnlyLooks, Program, Transition, after_step_or_look, by_step}
+use Rattle.wait_rule.specs.Transitions.{Goes, OnlyLooks, Program, Transition, after_step_or_look, by_step, with_lock}
 use Rattle.wait_class.specs.Posts.{IsStateFor, Runs, Stands, ticket_out}
 use Rattle.wait_class.proofs.Ground.Going.{runs_none, runs_on}
 use Rattle.wait_class.specs.declared.stages.Run.{Run}
@@ -20,6 +25,9 @@ use Rattle.wait_class.specs.declared.stages.Turn.TheVariants as turn
 use Rattle.wait_class.specs.Laws.{IsLawful, Moves, is_quiet}
 use Rattle.wait_class.specs.Tables.{
   Advances,
+  HasMade,
+  Shows,
+  Turned,
   IsAt,
   IsPlain,
   IsStop,
@@ -68,6 +76,28 @@ pub any_for : (b : Bool) (σ s : ℕ) → IsStateFor b σ s → IsStateFor true 
 any_for true σ s is = is
 any_for false σ s is = inl is
 
+-- a step between looks
+looks_history : (old new : Known) (l : OnlyLooks old new) → history_of new ≡ history_of old ++ steps_of l.items
+looks_history old new l = ap history_of l.is ∙ steps_append old.view.items l.items
+
+placed_history : (e : Step) (k : Known) → history_of (with_lock e k) ≡ history_of k
+placed_history (step.Lock h aim w) k = refl
+placed_history e k = refl
+
+pub made_between : (e : Step) (old knew new : Known) → OnlyLooks old knew
+    → OnlyLooks (after_step_or_look (by_step e) knew) new → HasMade old new
+made_between e old knew new before behind = record {
+  before = steps_of before.items;
+  event = e;
+  behind = steps_of behind.items;
+  is = looks_history (after_step_or_look (by_step e) knew) new behind
+      ∙ (ap (λ (l : List Step). l ++ steps_of behind.items)
+      (placed_history e (added knew (item.Made e)) ∙ (history_after knew (added knew (item.Made e)) e refl
+      ∙ ap (λ (l : List Step). l ++ e ∷ []) (looks_history old knew before)))
+      ∙ (append_assoc (history_of old ++ steps_of before.items) (e ∷ []) (steps_of behind.items)
+      ∙ append_assoc (history_of old) (steps_of before.items) (e ∷ steps_of behind.items)));
+}
+
 module _ {C S O : Type 0} (t : Table C S O) where
   -- the ticket of a stage
   pub plain_post : (r : Run C) (s : S) → t.drawn s ≡ false → run_post t r s ≡ post_of t r.of s
@@ -110,6 +140,14 @@ module _ {C S O : Type 0} (t : Table C S O) where
   pub record Passage (me : ℕ) (old new : Known) (r q : C) (from to : Next) : Type 0 where
     pub runs : Runs (plan_program me 0 (t.plan_of r)) old new from to
     pub tells : t.Tells r q runs.transitions
+    pub made : HasMade old new
+
+  shows_plain : (old new : Known) (r q : Run C) (u : Turn S O) → IsPlain t u → HasMade old new
+      → Shows t old new r q u
+  shows_plain old new r q (turn.Again s) plain made = inl made
+  shows_plain old new r q (turn.Asleep s) plain made = absurd plain
+  shows_plain old new r q (turn.Locked s) plain made = absurd plain
+  shows_plain old new r q (turn.Done o) plain made = tt
 
   -- what an event's lemma gives
   pub record GoesOn (old new : Known) (r q : C) (s : S) (u : Turn S O) : Type 0 where
@@ -118,11 +156,14 @@ module _ {C S O : Type 0} (t : Table C S O) where
     pub lands : LandsOn new q u
 
   pub advance_by : (old new : Known) (r q : Run C) (s : S) (u : Turn S O) → t.plan_of q.of ≡ t.plan_of r.of
-      → t.Fits q.of → IsPlain t u → GoesOn old new r.of q.of s u → Advances t old new r q s u
+      → t.Fits q.of → IsPlain t u → GoesOn old new r.of q.of s u → Turned t old new r q s u
   advance_by old new r q s u same fits plain g = record {
-    same = same;
-    went = record { runs = g.goes.runs; tells = g.goes.tells; keeps = g.keeps };
-    lands = lands_plain new q u fits plain g.lands;
+    advances = record {
+      same = same;
+      went = record { runs = g.goes.runs; tells = g.goes.tells; keeps = g.keeps };
+      lands = lands_plain new q u fits plain g.lands;
+    };
+    shows = shows_plain old new r q u plain g.goes.made;
   }
 
   -- the transition of a step
@@ -141,6 +182,7 @@ module _ {C S O : Type 0} (t : Table C S O) where
               (record { looks = before; is = m.is me knew a ok; finds = m.finds me knew a ok }, (behind, refl));
         };
         tells = tells x refl refl;
+        made = made_between (made me knew a) old knew new before behind;
       }
 
   -- of which a run tells nothing

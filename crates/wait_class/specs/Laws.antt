@@ -40,6 +40,7 @@ use Rattle.wait_class.specs.Tables.{
   TurnTrail,
   Unmoved,
   falls,
+  head_in,
   next_in,
   plan_program,
   post_of,
@@ -65,9 +66,6 @@ pub record TellsLaws {C : Type 0} (T : C → C → List Transition → Type 0) :
   pub none : (r : C) → T r r []
   pub on : (r q w : C) (ts us : List Transition) → T r q ts → T q w us → T r w (ts ++ us)
   pub quiet : (r : C) (x : Transition) → is_quiet x.did ≡ true → T r r (x ∷ [])
-
-abbrev pub head_in : {C S O : Type 0} → Table C S O → C → S → ℕ
-head_in t r s = head_of (watch_at t r s)
 
 abbrev pub mask_in : {C S O : Type 0} → Table C S O → C → ℕ
 mask_in t r = state_mask ((t.plan_of r).state)

@@ -3,6 +3,7 @@
 use Rattle.std.specs.Prelude.{
   ℕ,
   ◌≡◌,
+  ◌⊎◌,
   ◌||◌,
   not,
   nat_lt,
@@ -33,14 +34,17 @@ use Rattle.wait_model.specs.declared.queues.Form.{Form}
 use Rattle.wait_model.specs.declared.tasks.SleepState.{SleepState}
 use Rattle.wait_model.specs.Points.{call_watch, form_of, given_at, head_at, state_in}
 use Rattle.wait_model.specs.Programs.{program}
-use Rattle.wait_model.specs.Tasks.{state_mask}
+use Rattle.wait_model.specs.Tasks.{state_mask, task_of}
 use Rattle.wait_model.specs.Watches.{head_of}
 use Rattle.wait_model.specs.PointFacts.{holds, stirs}
 use Rattle.wait_rule.specs.declared.journal.Item.{Item}
 use Rattle.wait_rule.specs.Known.{Known}
 use Rattle.wait_rule.specs.Queues.{index}
-use Rattle.wait_rule.specs.Says.{IsUp, IsDown, history_of, told_of}
+use Rattle.wait_rule.specs.declared.journal.Item.TheVariants as item
+use Rattle.wait_rule.specs.Says.{IsUp, IsDown, added, history_of, told_of}
 use Rattle.wait_rule.specs.Tickets.{taken}
+use Rattle.wait_rule.specs.Tried.{IsOneMore}
+use Rattle.wq_head.specs.LockTurns.{FindsOther}
 use Rattle.wait_rule.specs.Transitions.{Program, Transition}
 use Rattle.wait_class.specs.Posts.{Post, Stands, Runs, own_of, ticket_out, zone_at}
 use Rattle.wait_class.specs.declared.stages.Added.{Added}
@@ -141,6 +145,9 @@ watch_in t r = (t.plan_of r).watch
 abbrev pub watch_at : {C S O : Type 0} → Table C S O → C → S → Watch
 watch_at t r s = (t.plan_of r).watches (t.point_of s)
 
+abbrev pub head_in : {C S O : Type 0} → Table C S O → C → S → ℕ
+head_in t r s = head_of (watch_at t r s)
+
 abbrev pub ticket_at : {C S O : Type 0} → Table C S O → S → ℕ → Option ℕ
 ticket_at t s n = if t.drawn s then Some n else None
 
@@ -200,6 +207,41 @@ pub record Advances {C S O : Type 0} (t : Table C S O) (old new : Known) (r q : 
   pub same : t.plan_of q.of ≡ t.plan_of r.of
   pub went : Went t old new r.of q.of (turn.Again s) u
   pub lands : Lands t new q u
+
+-- the task made an event
+pub record HasMade (old new : Known) : Type 0 where
+  pub before : List Step
+  pub event : Step
+  pub behind : List Step
+  pub is : history_of new ≡ history_of old ++ (before ++ event ∷ behind)
+
+-- it made none, and one more of its tries failed, where no head is held
+pub record HasFailed {C S O : Type 0} (t : Table C S O) (old new : Known) (r q : Run C) (s : S) : Type 0 where
+  pub count : IsOneMore r.failed q.failed
+  pub still : history_of new ≡ history_of old
+  pub free : holds (t.point_of s) ≡ false
+
+-- it looked last at the number that its head serves, which is another one than its ticket
+pub record HasFoundOther {C S O : Type 0} (t : Table C S O) (new : Known) (q : Run C) (s : S) : Type 0 where
+  pub before : Known
+  pub finds : FindsOther before new (head_in t q.of s) q.ticket q.served
+
+-- What a turn has to show for its answer: that it goes on, an event or a failed try; that it waits for the lock, a look
+-- that found another number served.
+abbrev pub Shows : {C S O : Type 0} → Table C S O → Known → Known → Run C → Run C → Turn S O → Type 0
+Shows t old new r q (turn.Again s) = HasMade old new ⊎ HasFailed t old new r q s
+Shows t old new r q (turn.Locked s) = HasFoundOther t new q s
+Shows t old new r q (turn.Asleep s) = Unit {0}
+Shows t old new r q (turn.Done o) = Unit {0}
+
+pub record Turned {C S O : Type 0} (t : Table C S O) (old new : Known) (r q : Run C) (s : S) (u : Turn S O) :
+    Type 0 where
+  pub advances : Advances t old new r q s u
+  pub shows : Shows t old new r q u
+
+-- a task that was put asleep looked at its own word, and answers whether it showed that it was woken
+abbrev pub LooksAwake : Known → Known → Bool → Type 0
+LooksAwake old new awake = (found : ℕ) × (new ≡ added old (item.Awake found)) × (awake ≡ (task_of found).runnable)
 
 -- a turn goes on where no head is held, or with fewer events left
 abbrev pub falls : {C S O : Type 0} → Table C S O → S → Turn S O → Bool

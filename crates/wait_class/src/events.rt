@@ -2,9 +2,10 @@
 
 ghost use Rattle.std.specs.Prelude.{◌≡◌, ◌⊎◌, true};
 ghost use Rattle.wait_rule.specs.PassedLocks.{PassesNone};
+ghost use Rattle.wait_rule.specs.Says.{history_of};
 ghost use Rattle.wait_class.specs.declared.stages.Doing.TheVariants as doing;
 ghost use Rattle.wait_class.specs.declared.stages.Turn.TheVariants as turn;
-ghost use Rattle.wait_class.specs.Tables.{Advances, IsAt, IsStop, falls};
+ghost use Rattle.wait_class.specs.Tables.{Advances, IsAt, IsStop, Turned, falls};
 
 use crate::machines::Machine;
 use crate::queueing::own_entry;
@@ -30,7 +31,7 @@ fn load_event<C: Machine>(
     requires of { task.old.domain ≡ domain.now }
     requires here { C.table.doing stage ≡ doing.Load }
     requires at { IsAt C.table task.old run.old stage }
-    ensures advances { Advances C.table task.old task.new run.old run.new stage result }
+    ensures turned { Turned C.table task.old task.new run.old run.new stage result }
     ensures falls { falls C.table stage result ≡ true }
 {
     C::lawful();
@@ -47,6 +48,8 @@ fn draw_event<C: Machine>(domain: &Domain, task: &mut Task, run: &mut Run<C>, st
     requires here { C.table.doing stage ≡ doing.Draw }
     requires at { IsAt C.table task.old run.old stage }
     ensures advances { Advances C.table task.old task.new run.old run.new stage (turn.Again (C.table.drawn_to stage)) }
+    ensures still { history_of task.new ≡ history_of task.old }
+    ensures failed { run.new.failed ≡ run.old.failed }
     ensures locks { C.table.doing (C.table.drawn_to stage) ≡ doing.Lock }
     ensures depth { C.table.depth (C.table.drawn_to stage) ≡ C.table.depth stage }
 {
@@ -66,7 +69,7 @@ fn lock_event<C: Machine>(
     requires of { task.old.domain ≡ domain.now }
     requires here { C.table.doing stage ≡ doing.Lock }
     requires at { IsAt C.table task.old run.old stage }
-    ensures advances { Advances C.table task.old task.new run.old run.new stage result }
+    ensures turned { Turned C.table task.old task.new run.old run.new stage result }
     ensures falls { falls C.table stage result ≡ true }
 {
     C::lawful();
@@ -93,7 +96,7 @@ fn unlock_event<C: Machine>(
     requires passes { PassesNone passing.old }
     requires here { C.table.doing stage ≡ doing.Unlock }
     requires at { IsAt C.table task.old run.old stage }
-    ensures advances { Advances C.table task.old task.new run.old run.new stage result }
+    ensures turned { Turned C.table task.old task.new run.old run.new stage result }
     ensures passes { PassesNone passing.new ⊎ IsStop C.table result }
     ensures falls { falls C.table stage result ≡ true }
 {
@@ -113,7 +116,7 @@ fn state_event<C: Machine>(
     requires of { task.old.domain ≡ domain.now }
     requires here { C.table.doing stage ≡ doing.State }
     requires at { IsAt C.table task.old run.old stage }
-    ensures advances { Advances C.table task.old task.new run.old run.new stage result }
+    ensures turned { Turned C.table task.old task.new run.old run.new stage result }
     ensures falls { falls C.table stage result ≡ true }
 {
     C::lawful();
@@ -132,7 +135,7 @@ fn look_event<C: Machine>(
     requires of { task.old.domain ≡ domain.now }
     requires here { C.table.doing stage ≡ doing.Look }
     requires at { IsAt C.table task.old run.old stage }
-    ensures advances { Advances C.table task.old task.new run.old run.new stage result }
+    ensures turned { Turned C.table task.old task.new run.old run.new stage result }
     ensures falls { falls C.table stage result ≡ true }
 {
     C::lawful();
@@ -152,12 +155,12 @@ fn sleep_event<C: Machine>(
     requires of { task.old.domain ≡ domain.now }
     requires here { C.table.doing stage ≡ doing.Sleep }
     requires at { IsAt C.table task.old run.old stage }
-    ensures advances { Advances C.table task.old task.new run.old run.new stage result }
+    ensures turned { Turned C.table task.old task.new run.old run.new stage result }
     ensures falls { falls C.table stage result ≡ true }
 {
     C::lawful();
     let next = run.of.slept_to(stage);
-    match sleep_try(domain, task) {
+    match sleep_try(domain, task, &mut run.failed) {
         None => Turn::Again(stage),
         Some(Sleep::Asleep) => Turn::Asleep(next),
         Some(Sleep::Stay) => Turn::Again(next),
@@ -176,7 +179,7 @@ fn peek_event<C: Machine>(
     requires of { task.old.domain ≡ domain.now }
     requires here { C.table.doing stage ≡ doing.Peek }
     requires at { IsAt C.table task.old run.old stage }
-    ensures advances { Advances C.table task.old task.new run.old run.new stage result }
+    ensures turned { Turned C.table task.old task.new run.old run.new stage result }
     ensures falls { falls C.table stage result ≡ true }
 {
     C::lawful();
@@ -197,7 +200,7 @@ fn pare_event<C: Machine>(
     requires passes { PassesNone passing.old }
     requires here { C.table.doing stage ≡ doing.Pare }
     requires at { IsAt C.table task.old run.old stage }
-    ensures advances { Advances C.table task.old task.new run.old run.new stage result }
+    ensures turned { Turned C.table task.old task.new run.old run.new stage result }
     ensures passes { PassesNone passing.new ⊎ IsStop C.table result }
     ensures falls { falls C.table stage result ≡ true }
 {
@@ -225,7 +228,7 @@ fn heed_event<C: Machine>(
     requires passes { PassesNone passing.old }
     requires here { C.table.doing stage ≡ doing.Heed }
     requires at { IsAt C.table task.old run.old stage }
-    ensures advances { Advances C.table task.old task.new run.old run.new stage result }
+    ensures turned { Turned C.table task.old task.new run.old run.new stage result }
     ensures passes { PassesNone passing.new ⊎ IsStop C.table result }
     ensures falls { falls C.table stage result ≡ true }
 {
@@ -254,7 +257,7 @@ fn queue_event<C: Machine>(
     requires passes { PassesNone passing.old }
     requires here { C.table.doing stage ≡ doing.Queue }
     requires at { IsAt C.table task.old run.old stage }
-    ensures advances { Advances C.table task.old task.new run.old run.new stage result }
+    ensures turned { Turned C.table task.old task.new run.old run.new stage result }
     ensures passes { PassesNone passing.new ⊎ IsStop C.table result }
     ensures falls { falls C.table stage result ≡ true }
 {
@@ -294,7 +297,7 @@ pub fn advance<C: Machine>(
     requires of { task.old.domain ≡ domain.now }
     requires passes { PassesNone passing.old }
     requires at { IsAt C.table task.old run.old stage }
-    ensures advances { Advances C.table task.old task.new run.old run.new stage result }
+    ensures turned { Turned C.table task.old task.new run.old run.new stage result }
     ensures passes { PassesNone passing.new ⊎ IsStop C.table result }
     ensures falls { falls C.table stage result ≡ true }
 {

@@ -6,7 +6,7 @@ ghost use Rattle.wait_class.specs.declared.frame_stages.Stage.TheVariants as sta
 ghost use Rattle.wait_class.specs.FrameLaws.{IsLawfulFrame};
 ghost use Rattle.wait_class.specs.Frames.{FrameTable, framed};
 ghost use Rattle.wait_class.specs.Laws.{AddsOwn, MayAdd};
-ghost use Rattle.wait_class.specs.Tables.{Advances, IsAt, falls};
+ghost use Rattle.wait_class.specs.Tables.{IsAt, Turned, falls};
 
 use crate::frame_stages::{Framed, Stage};
 use crate::machines::Machine;
@@ -85,7 +85,7 @@ pub trait Frame: Waiting {
     ) -> Turn<Stage<Self::Test>, Self::Outcome>
         requires of { task.old.domain ≡ domain.now }
         requires at { IsAt (framed Self.frame) task.old run.old (stage.Test test) }
-        ensures advances { Advances (framed Self.frame) task.old task.new run.old run.new (stage.Test test) result }
+        ensures turned { Turned (framed Self.frame) task.old task.new run.old run.new (stage.Test test) result }
         ensures falls { falls (framed Self.frame) (stage.Test test) result ≡ true };
 }
 
@@ -100,7 +100,7 @@ pub fn load_test<F: Waiting>(
     requires of { task.old.domain ≡ domain.now }
     requires loads { F.frame.loads test ≡ true }
     requires at { IsAt (framed F.frame) task.old run.old (stage.Test test) }
-    ensures advances { Advances (framed F.frame) task.old task.new run.old run.new (stage.Test test) result }
+    ensures turned { Turned (framed F.frame) task.old task.new run.old run.new (stage.Test test) result }
     ensures falls { falls (framed F.frame) (stage.Test test) result ≡ true }
 {
     F::lawful();

@@ -7,7 +7,7 @@ ghost use Rattle.wait_rule.specs.Says.{IsUp};
 ghost use Rattle.wait_class.specs.declared.stages.Added.TheVariants as adds;
 ghost use Rattle.wait_class.specs.declared.stages.Doing.TheVariants as doing;
 ghost use Rattle.wait_class.specs.Laws.{AddsOwn, IsLawful, MayAdd};
-ghost use Rattle.wait_class.specs.Tables.{Advances, IsAt, Table, falls, watch_at};
+ghost use Rattle.wait_class.specs.Tables.{IsAt, Table, Turned, falls, watch_at};
 
 use crate::stages::{Added, Doing, Run, Turn};
 use wait_model::tasks::SleepState;
@@ -98,7 +98,7 @@ pub trait Machine: Copy {
         requires of { task.old.domain ≡ domain.now }
         requires here { table.doing stage ≡ doing.Own }
         requires at { IsAt table task.old run.old stage }
-        ensures advances { Advances table task.old task.new run.old run.new stage result }
+        ensures turned { Turned table task.old task.new run.old run.new stage result }
         ensures falls { falls table stage result ≡ true };
 
     /// The table keeps the laws.

@@ -5,7 +5,7 @@ ghost use Rattle.wait_rule.specs.PassedLocks.{PassesNone};
 ghost use Rattle.wait_rule.specs.Says.{IsUp};
 ghost use Rattle.wq_head.specs.declared.locks.TheConstants.{LOOKS};
 ghost use Rattle.wait_class.specs.declared.stages.Turn.TheVariants as turn;
-ghost use Rattle.wait_class.specs.Tables.{Advances, IsAsleepAt, IsAt, IsStop};
+ghost use Rattle.wait_class.specs.Tables.{Advances, IsAsleepAt, IsAt, IsStop, LooksAwake, Turned};
 ghost use Rattle.wait_class.specs.Wholes.{HasRested};
 
 use crate::events::advance;
@@ -23,7 +23,8 @@ use wq_head::locks;
 const STRETCH: u8 = 5;
 
 /// Goes on with a wait from a stage up to the next one at which no head is held, for who may not wait: an executor, or
-/// a caller from another language. Again: it goes on there at once, by the next call. Locked: it waits for a lock, and
+/// a caller from another language. Again: it has made an event, or a try to sleep failed and is counted, and it goes on
+/// there at once, by the next call. Locked: its ticket is not served yet, as its last look showed (`run.served`), and it
 /// goes on there when another number of the head is served. Asleep: it was put asleep, and goes on there once `woke` has
 /// answered true. Done: the wait is over. It wakes no thread: `passing` has the lock that it passed on, for whoever made
 /// the stretch.
@@ -37,7 +38,7 @@ pub fn stretch<C: Machine>(
     requires of { task.old.domain ≡ domain.now }
     requires passes { PassesNone passing.old }
     requires at { IsAt C.table task.old run.old stage }
-    ensures advances { Advances C.table task.old task.new run.old run.new stage result }
+    ensures turned { Turned C.table task.old task.new run.old run.new stage result }
     ensures stops { IsStop C.table result }
 {
     C::lawful();
@@ -62,7 +63,8 @@ pub fn stretch<C: Machine>(
 pub fn woke<C: Machine>(domain: &Domain, task: &mut Task, run: &Run<C>, stage: C::Stage) -> bool
     requires of { task.old.domain ≡ domain.now }
     requires asleep { IsAsleepAt C.table task.old run.now stage }
-    ensures { MatchBool result (Advances C.table task.old task.new run.now run.now stage (turn.Again stage))
+    ensures looked { LooksAwake task.old task.new result }
+    ensures advances { MatchBool result (Advances C.table task.old task.new run.now run.now stage (turn.Again stage))
         (Advances C.table task.old task.new run.now run.now stage (turn.Asleep stage)) }
 {
     C::lawful();

@@ -1,6 +1,7 @@
 use Rattle.std.proofs.Common.{◌∙◌, ◌≡◌, inl, subst, sym}
 use Rattle.wait_class.specs.declared.stages.Turn.TheVariants as turn
 use Rattle.wait_class.specs.Tables.{Went}
+use Rattle.wait_class.proofs.Falling.{shown_behind}
 use Rattle.wait_class.proofs.Turns.{advances_on, falls_same, same_domain}
 use Rattle.wait_class.proofs.events.advance.Goals as goal
 
@@ -9,15 +10,21 @@ lock_event-requires-clause-of g c = same_domain g.C.Machine.table c.lawful.ensur
     c.draw_event.new.task c.args.run.now.of c.draw_event.new.run.of (turn.Again c.args.stage)
     (turn.Again (g.C.Machine.table.drawn_to c.args.stage)) c.draw_event.ensures.advances.went ∙ c.requires.of
 
-pub returns-in-Draw-clause-advances : goal.returns-in-Draw-clause-advances
-returns-in-Draw-clause-advances g c =
+pub returns-in-Draw-clause-turned : goal.returns-in-Draw-clause-turned
+returns-in-Draw-clause-turned g c =
     let t = g.C.Machine.table in
     let d = c.draw_event.ensures.advances in
-    advances_on t c.lawful.ensures c.args.task.now c.draw_event.new.task c.lock_event.new.task c.args.run.now
-    c.draw_event.new.run c.lock_event.new.run c.args.stage c.drawn_to.result c.lock_event.result d.same
-    (subst (λ n. Went t c.args.task.now c.draw_event.new.task c.args.run.now.of c.draw_event.new.run.of (turn.Again c.args.stage)
-    (turn.Again n)) (sym c.drawn_to.ensures) d.went)
-    c.lock_event.ensures.advances
+    let l = c.lock_event.ensures.turned in
+    record {
+      advances = advances_on t c.lawful.ensures c.args.task.now c.draw_event.new.task c.lock_event.new.task
+          c.args.run.now c.draw_event.new.run c.lock_event.new.run c.args.stage c.drawn_to.result c.lock_event.result
+          d.same
+          (subst (λ n. Went t c.args.task.now c.draw_event.new.task c.args.run.now.of c.draw_event.new.run.of
+          (turn.Again c.args.stage) (turn.Again n)) (sym c.drawn_to.ensures) d.went) l.advances;
+      shows = shown_behind t c.args.task.now c.draw_event.new.task c.lock_event.new.task c.args.run.now
+          c.draw_event.new.run c.lock_event.new.run c.draw_event.ensures.still c.draw_event.ensures.failed
+          c.lock_event.result l.shows;
+    }
 
 pub returns-in-Draw-clause-falls : goal.returns-in-Draw-clause-falls
 returns-in-Draw-clause-falls g c =

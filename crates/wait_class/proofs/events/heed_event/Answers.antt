@@ -3,8 +3,8 @@ use Rattle.wait_model.specs.Tasks.{pending, state_mask, task_of}
 use Rattle.wait_class.proofs.Entries.{heed_holds, heed_owes, heed_stops, heeds_advances, heeds_falls, off_advances, off_falls}
 use Rattle.wait_class.proofs.events.heed_event.Goals as goal
 
-pub returns-then-is_some-clause-advances : goal.returns-then-is_some-clause-advances
-returns-then-is_some-clause-advances g c = heeds_advances g.C.Machine.table c.lawful.ensures c.args.task.now c.own_entry-entry.new.task
+pub returns-then-is_some-clause-turned : goal.returns-then-is_some-clause-turned
+returns-then-is_some-clause-turned g c = heeds_advances g.C.Machine.table c.lawful.ensures c.args.task.now c.own_entry-entry.new.task
     c.load_own-own.new.task c.args.run.now c.args.stage c.requires.here c.requires.at c.own_entry-entry.result c.own_entry-entry.ensures
     c.is_some.result c.is_some.ensures c.if-is_some.true c.load_own-own.result.0 c.load_own-own.ensures.step c.load_own-own.ensures.carries
     c.pending_state-hit.result (c.pending_state-hit.ensures ∙ ap (λ (m : ℕ). pending m (task_of c.load_own-own.result.0))
@@ -30,8 +30,8 @@ pub give_back-requires-clause-permits : goal.give_back-requires-clause-permits
 give_back-requires-clause-permits g c = heed_owes g.C.Machine.table c.lawful.ensures c.args.task.now c.own_entry-entry.new.task
     c.args.run.now c.args.stage c.requires.here c.requires.at c.own_entry-entry.result c.own_entry-entry.ensures
 
-pub returns-clause-advances : goal.returns-clause-advances
-returns-clause-advances g c = off_advances g.C.Machine.table c.lawful.ensures c.args.task.now c.own_entry-entry.new.task
+pub returns-clause-turned : goal.returns-clause-turned
+returns-clause-turned g c = off_advances g.C.Machine.table c.lawful.ensures c.args.task.now c.own_entry-entry.new.task
     c.give_back.new.task c.args.run.now c.args.stage c.requires.here c.requires.at c.own_entry-entry.result c.own_entry-entry.ensures
     c.is_some.result c.is_some.ensures c.if-is_some.false c.give_back.ensures.given c.found_to.result c.found_to.ensures
 

@@ -21,8 +21,8 @@ remove-requires-clause-may g c = pare_may g.C.Machine.table c.lawful.ensures c.a
     c.args.run.now c.args.stage c.requires.here c.requires.at c.own_entry-entry.result c.own_entry-entry.ensures
     (sym c.is_some.ensures ∙ c.if-is_some.true) c.number-me.result c.number-me.ensures.number
 
-pub returns-then-is_some-clause-advances : goal.returns-then-is_some-clause-advances
-returns-then-is_some-clause-advances g c = takes_advances g.C.Machine.table c.lawful.ensures c.args.task.now
+pub returns-then-is_some-clause-turned : goal.returns-then-is_some-clause-turned
+returns-then-is_some-clause-turned g c = takes_advances g.C.Machine.table c.lawful.ensures c.args.task.now
     c.own_entry-entry.new.task c.remove.new.task c.args.run.now c.args.stage c.requires.here c.requires.at
     c.own_entry-entry.result c.own_entry-entry.ensures c.is_some.result c.is_some.ensures c.if-is_some.true
     c.number-me.result c.number-me.ensures.number c.remove.ensures.removed c.remove.ensures.held c.found_to.result
@@ -48,8 +48,8 @@ give_back-requires-clause-permits g c = pare_owes g.C.Machine.table c.lawful.ens
     c.own_entry-entry.new.task c.args.run.now c.args.stage c.requires.here c.requires.at c.own_entry-entry.result
     c.own_entry-entry.ensures
 
-pub returns-clause-advances : goal.returns-clause-advances
-returns-clause-advances g c = gives_advances g.C.Machine.table c.lawful.ensures c.args.task.now
+pub returns-clause-turned : goal.returns-clause-turned
+returns-clause-turned g c = gives_advances g.C.Machine.table c.lawful.ensures c.args.task.now
     c.own_entry-entry.new.task c.give_back.new.task c.args.run.now c.args.stage c.requires.here c.requires.at
     c.own_entry-entry.result c.own_entry-entry.ensures c.is_some.result c.is_some.ensures c.if-is_some.false
     c.give_back.ensures.given c.found_to-2.result c.found_to-2.ensures

@@ -20,8 +20,8 @@ pub set_state-requires-clause-may : goal.set_state-requires-clause-may
 set_state-requires-clause-may g c = queue_may g.C.Machine.table c.lawful.ensures c.args.task.now c.own_entry-entry.new.task
     c.args.run.now c.args.stage c.requires.here c.requires.at c.own_entry-entry.result c.own_entry-entry.ensures c.mask.result (c.mask.ensures ∙ ap state_mask c.state.ensures)
 
-pub returns-then-is_some-clause-advances : goal.returns-then-is_some-clause-advances
-returns-then-is_some-clause-advances g c = stay_advances g.C.Machine.table c.lawful.ensures c.args.task.now c.own_entry-entry.new.task
+pub returns-then-is_some-clause-turned : goal.returns-then-is_some-clause-turned
+returns-then-is_some-clause-turned g c = stay_advances g.C.Machine.table c.lawful.ensures c.args.task.now c.own_entry-entry.new.task
     c.set_state.new.task c.args.run.now c.args.stage c.requires.here c.requires.at c.own_entry-entry.result c.own_entry-entry.ensures
     c.is_some.result c.is_some.ensures c.if-is_some.true c.mask.result (c.mask.ensures ∙ ap state_mask c.state.ensures)
     c.set_state.ensures.step c.set_state.ensures.carries c.added_to.result c.added_to.ensures
@@ -41,8 +41,8 @@ add-requires-clause-may g c = record {
       c.own_entry-entry.result c.own_entry-entry.ensures c.is_some.result c.is_some.ensures c.if-is_some.false;
 }
 
-pub returns-in-Ok-clause-advances : goal.returns-in-Ok-clause-advances
-returns-in-Ok-clause-advances g c = join_advances g.C.Machine.table c.lawful.ensures c.args.task.now c.own_entry-entry.new.task
+pub returns-in-Ok-clause-turned : goal.returns-in-Ok-clause-turned
+returns-in-Ok-clause-turned g c = join_advances g.C.Machine.table c.lawful.ensures c.args.task.now c.own_entry-entry.new.task
     c.add.new.task c.args.run.now c.args.stage c.requires.here c.requires.at c.own_entry-entry.result c.own_entry-entry.ensures
     c.is_some.result c.is_some.ensures c.if-is_some.false c.add.ensures.held c.in-Ok.first c.in-Ok.ensures.by
     c.added_to-next.result c.added_to-next.ensures c.joined_at-run.result c.joined_at-run.ensures
@@ -57,8 +57,8 @@ give_back-requires-clause-permits g c = worn_owes g.C.Machine.table c.lawful.ens
     c.requires.at c.own_entry-entry.result c.own_entry-entry.ensures c.in-Err.ensures.by.looks c.add.ensures.at
     c.own_entry.result c.own_entry.ensures
 
-pub returns-in-Err-clause-advances : goal.returns-in-Err-clause-advances
-returns-in-Err-clause-advances g c = worn_advances g.C.Machine.table c.lawful.ensures c.args.task.now c.own_entry-entry.new.task
+pub returns-in-Err-clause-turned : goal.returns-in-Err-clause-turned
+returns-in-Err-clause-turned g c = worn_advances g.C.Machine.table c.lawful.ensures c.args.task.now c.own_entry-entry.new.task
     c.add.new.task c.own_entry.new.task c.give_back.new.task c.args.run.now c.args.stage c.requires.here c.requires.at
     c.own_entry-entry.result c.own_entry-entry.ensures c.is_some.result c.is_some.ensures c.if-is_some.false c.in-Err.worn c.in-Err.ensures.by c.add.ensures.held
     c.own_entry.result c.own_entry.ensures c.give_back.ensures.given c.in-Err.ensures.by.noted c.worn_at-run.result

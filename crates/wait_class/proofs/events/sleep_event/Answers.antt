@@ -10,39 +10,40 @@ pub returns-in-None-clause-falls : goal.returns-in-None-clause-falls
 returns-in-None-clause-falls g c = again_falls g.C.Machine.table c.lawful.ensures c.args.run.now.of c.args.stage
     c.requires.here
 
-pub returns-in-Some-Asleep-clause-advances : goal.returns-in-Some-Asleep-clause-advances
-returns-in-Some-Asleep-clause-advances g c =
+pub returns-in-Some-Asleep-clause-turned : goal.returns-in-Some-Asleep-clause-turned
+returns-in-Some-Asleep-clause-turned g c =
     let s = c.in-Some-Asleep.ensures.step in
     sleep_down g.C.Machine.table c.lawful.ensures c.args.task.now c.sleep_try.new.task c.args.run.now c.args.stage
     c.requires.here c.requires.at s.0 s.2 c.in-Some-Asleep.field-0 s.3 c.in-Some-Asleep.field-0-is c.slept_to-next.result
-    c.slept_to-next.ensures
+    c.slept_to-next.ensures c.sleep_try.new.failed c.in-Some-Asleep.ensures.counts
 
 pub returns-in-Some-Asleep-clause-falls : goal.returns-in-Some-Asleep-clause-falls
 returns-in-Some-Asleep-clause-falls g c = down_falls g.C.Machine.table c.lawful.ensures c.args.run.now.of c.args.stage
     c.requires.here c.slept_to-next.result c.slept_to-next.ensures
 
-pub returns-in-Some-Stay-clause-advances : goal.returns-in-Some-Stay-clause-advances
-returns-in-Some-Stay-clause-advances g c =
+pub returns-in-Some-Stay-clause-turned : goal.returns-in-Some-Stay-clause-turned
+returns-in-Some-Stay-clause-turned g c =
     let s = c.in-Some-Stay.ensures.step in
     sleep_up g.C.Machine.table c.lawful.ensures c.args.task.now c.sleep_try.new.task c.args.run.now c.args.stage
     c.requires.here c.requires.at s.0 s.2 c.in-Some-Stay.field-0 s.3 (inl c.in-Some-Stay.field-0-is) c.slept_to-next.result
-    c.slept_to-next.ensures
+    c.slept_to-next.ensures c.sleep_try.new.failed c.in-Some-Stay.ensures.counts
 
 pub returns-in-Some-Stay-clause-falls : goal.returns-in-Some-Stay-clause-falls
 returns-in-Some-Stay-clause-falls g c = up_falls g.C.Machine.table c.lawful.ensures c.args.run.now.of c.args.stage
     c.requires.here c.slept_to-next.result c.slept_to-next.ensures
 
-pub returns-in-Some-Signal-clause-advances : goal.returns-in-Some-Signal-clause-advances
-returns-in-Some-Signal-clause-advances g c =
+pub returns-in-Some-Signal-clause-turned : goal.returns-in-Some-Signal-clause-turned
+returns-in-Some-Signal-clause-turned g c =
     let s = c.in-Some-Signal.ensures.step in
     sleep_up g.C.Machine.table c.lawful.ensures c.args.task.now c.sleep_try.new.task c.args.run.now c.args.stage
     c.requires.here c.requires.at s.0 s.2 c.in-Some-Signal.field-0 s.3 (inr c.in-Some-Signal.field-0-is) c.slept_to-next.result
-    c.slept_to-next.ensures
+    c.slept_to-next.ensures c.sleep_try.new.failed c.in-Some-Signal.ensures.counts
 
 pub returns-in-Some-Signal-clause-falls : goal.returns-in-Some-Signal-clause-falls
 returns-in-Some-Signal-clause-falls g c = up_falls g.C.Machine.table c.lawful.ensures c.args.run.now.of c.args.stage
     c.requires.here c.slept_to-next.result c.slept_to-next.ensures
 
-pub returns-in-None-clause-advances : goal.returns-in-None-clause-advances
-returns-in-None-clause-advances g c = sleep_again g.C.Machine.table c.lawful.ensures c.args.task.now
-    c.sleep_try.new.task c.args.run.now c.args.stage c.requires.at c.in-None.ensures.same
+pub returns-in-None-clause-turned : goal.returns-in-None-clause-turned
+returns-in-None-clause-turned g c = sleep_again g.C.Machine.table c.lawful.ensures c.args.task.now
+    c.sleep_try.new.task c.args.run.now c.args.stage c.requires.here c.requires.at c.in-None.ensures.same
+    c.sleep_try.new.failed c.in-None.ensures.counts

@@ -14,8 +14,8 @@ pub give_back-requires-clause-permits : goal.give_back-requires-clause-permits
 give_back-requires-clause-permits g c = unlock_owes g.C.Machine.table c.lawful.ensures c.args.task.now c.args.run.now
     c.args.stage c.requires.here c.requires.at
 
-pub returns-clause-advances : goal.returns-clause-advances
-returns-clause-advances g c = unlock_advances g.C.Machine.table c.lawful.ensures c.args.task.now c.give_back.new.task
+pub returns-clause-turned : goal.returns-clause-turned
+returns-clause-turned g c = unlock_advances g.C.Machine.table c.lawful.ensures c.args.task.now c.give_back.new.task
     c.args.run.now c.args.stage c.requires.here c.requires.at c.give_back.ensures.given c.next_of.result c.next_of.ensures
 
 pub returns-clause-falls : goal.returns-clause-falls

@@ -22,7 +22,7 @@ loop-preserved-in-Again g c =
     let i = c.loop.invariant.0 in (
       advances_on g.C.Machine.table c.lawful.ensures c.args.task.now c.loop.task c.advance-turn.new.task c.args.run.now
           c.loop.run c.advance-turn.new.run c.args.stage c.loop.at (turn.Again c.in-Again.next) i.same i.went
-          c.in-Again.ensures.advances,
+          c.in-Again.ensures.turned.advances,
       c.wake.ensures,
     )
 
@@ -31,7 +31,7 @@ loop-preserved-in-Asleep g c =
     let i = c.loop.invariant.0 in
     let a = advances_on g.C.Machine.table c.lawful.ensures c.args.task.now c.loop.task c.advance-turn.new.task c.args.run.now
     c.loop.run c.advance-turn.new.run c.args.stage c.loop.at (turn.Asleep c.in-Asleep.next) i.same
-    i.went c.in-Asleep.ensures.advances in (
+    i.went c.in-Asleep.ensures.turned.advances in (
       advances_on g.C.Machine.table c.lawful.ensures c.args.task.now c.advance-turn.new.task c.rise.new.task
           c.args.run.now c.advance-turn.new.run c.advance-turn.new.run c.args.stage c.in-Asleep.next
           (turn.Again c.in-Asleep.next) a.same
@@ -42,7 +42,7 @@ loop-preserved-in-Asleep g c =
 pub rise-requires-clause-of : goal.rise-requires-clause-of
 rise-requires-clause-of g c = same_domain g.C.Machine.table c.lawful.ensures c.loop.task c.advance-turn.new.task
     c.loop.run.of c.advance-turn.new.run.of (turn.Again c.loop.at) (turn.Asleep c.in-Asleep.next)
-    c.in-Asleep.ensures.advances.went
+    c.in-Asleep.ensures.turned.advances.went
     ∙ (same_domain g.C.Machine.table c.lawful.ensures c.args.task.now c.loop.task
     c.args.run.now.of c.loop.run.of (turn.Again c.args.stage) (turn.Again c.loop.at) c.loop.invariant.0.went ∙ c.requires.of)
 
@@ -53,7 +53,7 @@ loop-preserved g c =
     c.in-Locked.next
     (advances_on g.C.Machine.table c.lawful.ensures c.args.task.now c.loop.task c.advance-turn.new.task c.args.run.now
     c.loop.run c.advance-turn.new.run c.args.stage c.loop.at (turn.Locked c.in-Locked.next) i.same
-    i.went c.in-Locked.ensures.advances),
+    i.went c.in-Locked.ensures.turned.advances),
       c.wake.ensures,
     )
 
@@ -62,4 +62,4 @@ returns-in-Done g c =
     let i = c.loop.invariant.0 in
     advances_on g.C.Machine.table c.lawful.ensures c.args.task.now c.loop.task c.advance-turn.new.task c.args.run.now
     c.loop.run c.advance-turn.new.run c.args.stage c.loop.at (turn.Done c.in-Done.outcome) i.same i.went
-    c.in-Done.ensures.advances
+    c.in-Done.ensures.turned.advances

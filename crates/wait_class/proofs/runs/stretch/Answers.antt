@@ -1,8 +1,8 @@
-use Rattle.std.proofs.Common.{◌∙◌, arith}
+use Rattle.std.proofs.Common.{◌∙◌, arith, inl, inr, refl}
 use Rattle.wait_model.specs.PointFacts.{holds}
 use Rattle.wait_class.specs.declared.stages.Turn.TheVariants as turn
 use Rattle.wait_class.proofs.Falling.{falls_by, held_yes, unheld}
-use Rattle.wait_class.proofs.Falling.{falls_still}
+use Rattle.wait_class.proofs.Falling.{falls_still, goes_made, goes_shown}
 use Rattle.wq_head.proofs.PassedOn.{none_yet}
 use Rattle.wait_class.proofs.Turns.{advances_none, advances_on, same_domain}
 use Rattle.wait_class.proofs.runs.stretch.Goals as goal
@@ -11,6 +11,7 @@ pub loop-turn-init : goal.loop-turn-init
 loop-turn-init g c = (
   record {
     way = advances_none g.C.Machine.table c.lawful.ensures c.args.task.now c.args.run.now c.args.stage c.requires.at;
+    begun = inl (refl, refl);
     low = let d = c.lawful.ensures.depth c.args.stage in omega (arith, d);
   },
   c.requires.passes,
@@ -35,52 +36,68 @@ loop-turn-preserved g c =
     record {
       way = advances_on g.C.Machine.table c.lawful.ensures c.args.task.now c.loop-turn.task c.advance.new.task c.args.run.now
           c.loop-turn.run c.advance.new.run c.args.stage c.loop-turn.at (turn.Again next) i.way.same i.way.went
-          e.advances;
+          e.turned.advances;
+      begun = inr (goes_made t c.args.task.now c.loop-turn.task c.advance.new.task c.args.run.now c.loop-turn.run
+          c.advance.new.run next i.begun e.turned.shows
+          (held_yes (holds (t.point_of next)) c.is_free.result c.is_free.ensures c.if-is_free.false));
       low = omega (arith, less, i.low);
     },
       none_yet (holds (t.point_of next)) c.advance.new.passing
           (held_yes (holds (t.point_of next)) c.is_free.result c.is_free.ensures c.if-is_free.false) e.passes,
     )
 
-pub returns-then-is_free-clause-advances : goal.returns-then-is_free-clause-advances
-returns-then-is_free-clause-advances g c =
+pub returns-then-is_free-clause-turned : goal.returns-then-is_free-clause-turned
+returns-then-is_free-clause-turned g c =
     let i = c.loop-turn.invariant.0 in
-    advances_on g.C.Machine.table c.lawful.ensures c.args.task.now c.loop-turn.task c.advance.new.task c.args.run.now
+    record {
+      advances = advances_on g.C.Machine.table c.lawful.ensures c.args.task.now c.loop-turn.task c.advance.new.task c.args.run.now
     c.loop-turn.run c.advance.new.run c.args.stage c.loop-turn.at (turn.Again c.in-Again.next) i.way.same
-    i.way.went c.in-Again.ensures.advances
+    i.way.went c.in-Again.ensures.turned.advances;
+      shows = goes_shown g.C.Machine.table c.args.task.now c.loop-turn.task c.advance.new.task c.args.run.now
+          c.loop-turn.run c.advance.new.run c.in-Again.next i.begun c.in-Again.ensures.turned.shows;
+    }
 
 pub returns-then-is_free-clause-stops : goal.returns-then-is_free-clause-stops
 returns-then-is_free-clause-stops g c = unheld (holds (g.C.Machine.table.point_of c.in-Again.next)) c.is_free.result
     c.is_free.ensures c.if-is_free.true
 
-pub returns-in-Asleep-clause-advances : goal.returns-in-Asleep-clause-advances
-returns-in-Asleep-clause-advances g c =
+pub returns-in-Asleep-clause-turned : goal.returns-in-Asleep-clause-turned
+returns-in-Asleep-clause-turned g c =
     let i = c.loop-turn.invariant.0 in
-    advances_on g.C.Machine.table c.lawful.ensures c.args.task.now c.loop-turn.task c.advance.new.task c.args.run.now
+    record {
+      advances = advances_on g.C.Machine.table c.lawful.ensures c.args.task.now c.loop-turn.task c.advance.new.task c.args.run.now
     c.loop-turn.run c.advance.new.run c.args.stage c.loop-turn.at (turn.Asleep c.in-Asleep.next)
-    i.way.same i.way.went c.in-Asleep.ensures.advances
+    i.way.same i.way.went c.in-Asleep.ensures.turned.advances;
+      shows = tt;
+    }
 
 pub returns-in-Asleep-clause-stops : goal.returns-in-Asleep-clause-stops
 returns-in-Asleep-clause-stops g c = falls_still (holds (g.C.Machine.table.point_of c.in-Asleep.next))
     c.in-Asleep.ensures.falls
 
-pub returns-in-Locked-clause-advances : goal.returns-in-Locked-clause-advances
-returns-in-Locked-clause-advances g c =
+pub returns-in-Locked-clause-turned : goal.returns-in-Locked-clause-turned
+returns-in-Locked-clause-turned g c =
     let i = c.loop-turn.invariant.0 in
-    advances_on g.C.Machine.table c.lawful.ensures c.args.task.now c.loop-turn.task c.advance.new.task c.args.run.now
+    record {
+      advances = advances_on g.C.Machine.table c.lawful.ensures c.args.task.now c.loop-turn.task c.advance.new.task c.args.run.now
     c.loop-turn.run c.advance.new.run c.args.stage c.loop-turn.at (turn.Locked c.in-Locked.next)
-    i.way.same i.way.went c.in-Locked.ensures.advances
+    i.way.same i.way.went c.in-Locked.ensures.turned.advances;
+      shows = c.in-Locked.ensures.turned.shows;
+    }
 
 pub returns-in-Locked-clause-stops : goal.returns-in-Locked-clause-stops
 returns-in-Locked-clause-stops g c = falls_still (holds (g.C.Machine.table.point_of c.in-Locked.next))
     c.in-Locked.ensures.falls
 
-pub returns-in-Done-clause-advances : goal.returns-in-Done-clause-advances
-returns-in-Done-clause-advances g c =
+pub returns-in-Done-clause-turned : goal.returns-in-Done-clause-turned
+returns-in-Done-clause-turned g c =
     let i = c.loop-turn.invariant.0 in
-    advances_on g.C.Machine.table c.lawful.ensures c.args.task.now c.loop-turn.task c.advance.new.task c.args.run.now
+    record {
+      advances = advances_on g.C.Machine.table c.lawful.ensures c.args.task.now c.loop-turn.task c.advance.new.task c.args.run.now
     c.loop-turn.run c.advance.new.run c.args.stage c.loop-turn.at (turn.Done c.in-Done.outcome)
-    i.way.same i.way.went c.in-Done.ensures.advances
+    i.way.same i.way.went c.in-Done.ensures.turned.advances;
+      shows = tt;
+    }
 
 pub unreachable-requires : goal.unreachable-requires
 unreachable-requires g c = let low = c.loop-turn.invariant.0.low in absurd (omega (arith, low))

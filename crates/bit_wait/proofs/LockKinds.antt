@@ -27,6 +27,7 @@ use Rattle.wait_rule.specs.Stays.{with_bits}
 use Rattle.wait_rule.specs.Transitions.{Finds, Goes, IsMadeFor, OnlyLooks, Program, Transition, by_step}
 use Rattle.wait_rule.proofs.KnownLaws.AfterSteps.{told_added}
 use Rattle.wait_rule.proofs.KnownLaws.Debts.{added_debts, entries_debts, list_debts}
+use Rattle.wait_rule.proofs.KnownLaws.TaskHistories.{history_after}
 use Rattle.wait_rule.proofs.KnownLaws.Transitions.{only_none}
 use Rattle.wait_class.specs.Posts.{IsOut}
 use Rattle.wait_class.specs.Posts.{Post, Runs, Stands}
@@ -132,6 +133,7 @@ module _ {C S O : Type 0} (t : Table C S O) (old new : Known) (r : Run C) (s : S
             (subst (OnlyLooks (added old (item.Made e))) (sym is) (only_none (added old (item.Made e))), refl));
       };
       tells = tells did refl;
+      made = record { before = []; event = e; behind = []; is = history_after old new e is };
     };
     keeps = subst (λ (c : Watch). t.Keeps (index old.view.number 0) c (t.took s) (took_in t u) old new) (sym bit)
         (subst (λ (h : Bool). t.Keeps (index old.view.number 0) (watch.Bit w n) h (took_in t u) old new) (sym untaken)

@@ -34,7 +34,7 @@ use Rattle.wait_class.specs.declared.frame_stages.Framed.{Framed}
 use Rattle.wait_class.specs.declared.frame_stages.Stage.TheVariants as stage
 use Rattle.wait_class.specs.declared.stages.Run.{Run}
 use Rattle.wait_class.specs.declared.stages.Turn.TheVariants as turn
-use Rattle.wait_class.specs.Tables.{Advances, IsAt, IsPlain, falls}
+use Rattle.wait_class.specs.Tables.{IsAt, IsPlain, Turned, falls}
 use Rattle.wait_class.proofs.Turns.{GoesOn, advance_by, zero_for}
 use Rattle.bit_wait.specs.LockStays.{LockKeeps}
 use Rattle.bit_wait.specs.LockTables.{EndTrail, LockTurn, bit_in, call_in, head_in, lock_frame, lock_table, tried_to, tries_bit}
@@ -193,9 +193,9 @@ pub try_advances : (old new : Known) (r : Run (Framed LockBit)) (x : LockTest) �
     → new ≡ added old (item.Made (step.Consume (bit_in r.of.wait) 1 v))
     → SetsBit old new (bit_in r.of.wait) (was_clear (bit_in r.of.wait) v) → (b : Bool) → b ≡ bit_at v r.of.wait.bit
     → (u : LockTurn) → u ≡ tried_to x b
-    → Advances lock_table old new r (record r { of = record { wait = record r.of.wait { seen = v } } }) (stage.Test x) u
+    → Turned lock_table old new r (record r { of = record { wait = record r.of.wait { seen = v } } }) (stage.Test x) u
 try_advances old new r x own a v is sets b tells u to =
-    subst (λ (n : LockTurn). Advances lock_table old new r (record r {
+    subst (λ (n : LockTurn). Turned lock_table old new r (record r {
       of = record { wait = record r.of.wait { seen = v } };
     }) (stage.Test x) n) (sym to)
     (advance_by lock_table old new r (record r { of = record { wait = record r.of.wait { seen = v } } }) (stage.Test x)

@@ -6,7 +6,7 @@ ghost use Rattle.bit_wait.specs.LockTables.{finished_to, loaded_to, looked_to, s
 ghost use Rattle.wait_rule.specs.Says.{IsUp};
 ghost use Rattle.wait_class.specs.declared.frame_stages.Stage.TheVariants as stage;
 ghost use Rattle.wait_class.specs.Laws.{AddsOwn, MayAdd};
-ghost use Rattle.wait_class.specs.Tables.{Advances, IsAt, falls};
+ghost use Rattle.wait_class.specs.Tables.{IsAt, Turned, falls};
 ghost use Rattle.bit_wait.specs.LockTables.{lock_frame, lock_table};
 
 pub use crate::lock_runs::{LockBit, LockOutcome, LockTest};
@@ -59,7 +59,7 @@ fn try_test(domain: &Domain, task: &mut Task, run: &mut LockRun, test: LockTest)
     requires of { task.old.domain ≡ domain.now }
     requires tries { lock_frame.loads test ≡ false }
     requires at { IsAt lock_table task.old run.old (stage.Test test) }
-    ensures advances { Advances lock_table task.old task.new run.old run.new (stage.Test test) result }
+    ensures turned { Turned lock_table task.old task.new run.old run.new (stage.Test test) result }
     ensures falls { falls lock_table (stage.Test test) result ≡ true }
 {
     let value = bit_set(domain, task, run.of.wait.word, run.of.wait.bit);

@@ -202,11 +202,11 @@ module _ (r : WaitBit) where
   -- the sleep, the look for a signal, and the finish
   sleep_law : (b : Bool) → looks_in r.state ≡ b
       → SleepLaw bit_table w stage.Sleep (if b then stage.Look else stage.Test (test.Again false))
-  sleep_law true is = sleep_by bit_table w stage.Sleep refl stage.Look refl refl refl refl refl refl (λ o h. h)
+  sleep_law true is = sleep_by bit_table w stage.Sleep refl stage.Look refl refl refl refl refl refl refl refl (λ o h. h)
       (λ v me. ap (λ (c : Bool). next.Go (at.Bit (if c then biting.Look else biting.Again false))) is)
       (λ v me k. tt) (λ v me k. (refl, tt, tt))
       (λ old new v calm u. (v, ends_calm old new (loads_set r []) (step.Sleep v ∷ []) calm u.0, u.1))
-  sleep_law false is = sleep_by bit_table w stage.Sleep refl (stage.Test (test.Again false)) refl refl refl refl refl refl
+  sleep_law false is = sleep_by bit_table w stage.Sleep refl (stage.Test (test.Again false)) refl refl refl refl refl refl refl refl
       (λ o h. h) (λ v me. ap (λ (c : Bool). next.Go (at.Bit (if c then biting.Look else biting.Again false))) is)
       (λ v me k. tt) (λ v me k. (refl, tt, tt)) (λ old new v calm u. tt)
 

@@ -110,10 +110,10 @@ module _ (r : LockBit) where
 
   sleep_law : (b : Bool) → looks_in r.state ≡ b
       → SleepLaw lock_table w stage.Sleep (if b then stage.Look else stage.Test test.Again)
-  sleep_law true is = sleep_by lock_table w stage.Sleep refl stage.Look refl refl refl refl refl refl (λ o h. h)
+  sleep_law true is = sleep_by lock_table w stage.Sleep refl stage.Look refl refl refl refl refl refl refl refl (λ o h. h)
       (λ v me. ap (λ (c : Bool). next.Go (at.Bit (if c then biting.Look else biting.Again false))) is)
       (λ v me k. tt) (λ v me k. (refl, tt, tt)) (λ old new v calm u. (v, (history_of old, calm.history)))
-  sleep_law false is = sleep_by lock_table w stage.Sleep refl (stage.Test test.Again) refl refl refl refl refl refl
+  sleep_law false is = sleep_by lock_table w stage.Sleep refl (stage.Test test.Again) refl refl refl refl refl refl refl refl
       (λ o h. h) (λ v me. ap (λ (c : Bool). next.Go (at.Bit (if c then biting.Look else biting.Again false))) is)
       (λ v me k. tt) (λ v me k. (refl, tt, tt)) (λ old new v calm u. tt)
 

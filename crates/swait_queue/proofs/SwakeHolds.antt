@@ -9,7 +9,7 @@ use Rattle.wait_rule.specs.Known.{Known}
 use Rattle.wait_rule.specs.Says.{IsFree, IsUp, unlocked_with}
 use Rattle.wait_rule.specs.Stays.{Carries, wake_all_change}
 use Rattle.wait_rule.proofs.KnownLaws.CarriedCounts.{excused_more}
-use Rattle.wait_event.proofs.Events.Locks.{head_fits}
+use Rattle.wait_class.proofs.WatchHeads.{head_fits}
 use Rattle.wq_head.specs.LockTurns.{AwaitsLock, TookLock}
 use Rattle.wq_head.specs.Selects.{HasSelected, IsSimpleHold, KeepsHold}
 use Rattle.swait_queue.specs.declared.swake_turns.SwakeRun.{SwakeRun}

@@ -16,7 +16,7 @@ use Rattle.wait_event.specs.declared.waits.WaitOutcome.TheVariants as outcome
 use Rattle.wait_event.specs.declared.waits.WaitRun.{WaitRun}
 use Rattle.wait_event.specs.declared.waits.WaitStage.TheVariants as stage
 use Rattle.wait_event.specs.declared.waits.WaitTurn.TheVariants as turn
-use Rattle.wait_event.proofs.Events.Endings.{begun, found_worn, was_signalled}
+use Rattle.wait_event.proofs.Endings.{begun, found_worn, was_signalled}
 use Rattle.var_wait.specs.VarWaits.{EndsVarWait, shared_in, with_loaded}
 
 some_is : (x y : ℕ) → Some x ≡ Some y → x ≡ y

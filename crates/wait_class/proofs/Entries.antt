@@ -228,7 +228,7 @@ module _ {C S O : Type 0} (t : Table C S O) where
             trail = l.takes_trail old new h.word
                 (calm_on (step.Saw i h.word ∷ []) (step.Unqueue i ∷ []) old mid new
                 (calm_saw old mid (Some e) h (head_in t r.of s) (head_is old r s l.held l.opens.fresh a))
-                (calm_removed mid new i x.is)) a.trail;
+                (calm_removed mid new i x.is)) (ap is_some (sym h.reads)) a.trail;
           };
         }
 
@@ -260,7 +260,8 @@ module _ {C S O : Type 0} (t : Table C S O) where
             trail = l.trail old new h.word
                 (calm_on (step.Saw i h.word ∷ []) (step.Unlock (head_in t r.of s) false ∷ []) old mid new
                 (calm_saw old mid None h (head_in t r.of s) (head_is old r s held opens.fresh a))
-                (subst (λ (j : ℕ). Calm (step.Unlock j false ∷ []) mid new) at (calm_unlock mid new is))) a.trail;
+                (subst (λ (j : ℕ). Calm (step.Unlock j false ∷ []) mid new) at (calm_unlock mid new is)))
+                (ap is_some (sym h.reads)) a.trail;
           };
         }
 

@@ -1,6 +1,6 @@
 -- Calls that prepare and finish as all waits do keep the laws of a table.
 use Rattle.std.proofs.Common.{ap, sym, refl, subst, inl, inr, arith}
-use Rattle.std.specs.Prelude.{ℕ, ◌≡◌, ◌≤◌, ◌||◌, not, Bool, true, false, if◌then◌else◌}
+use Rattle.std.specs.Prelude.{ℕ, ◌≡◌, ◌≤◌, ◌||◌, ◌&&◌, not, Bool, true, false, if◌then◌else◌}
 use Rattle.std.specs.Prelude.{Option, Some, None, [], ◌∷◌}
 use Rattle.wait_model.specs.declared.points.Next.{Next}
 use Rattle.wait_model.specs.declared.points.Point.TheVariants as at
@@ -26,16 +26,10 @@ use Rattle.wait_class.proofs.Ground.Standing.{owner_own}
 use Rattle.wait_rule.specs.HandedPermits.{OwesNoPermit}
 use Rattle.wq_head.proofs.PermitHeads.{owes_low}
 use Rattle.wait_class.proofs.Entries.{none_in}
-use Rattle.wait_class.proofs.Turns.{free_head, free_ticket, zero_for}
+use Rattle.wait_class.proofs.Turns.{free_head, free_ticket, may_by, zero_for}
 
--- a state may be stored over what a place says
-may_by : (b : Bool) (σ : ℕ) (k : Known) → IsStateFor b σ k.book.state → MayStore σ k
-may_by true σ k (inl zero) = inr (inl zero)
-may_by true σ k (inr same) = inr (inr same)
-may_by false σ k zero = inr (inl zero)
-
-free_falls : (b c : Bool) → b ≡ false → (not b || c) ≡ true
-free_falls b c is = ap (λ (x : Bool). not x || c) is
+free_falls : (b c : Bool) → b ≡ false → ((not b || c) && true) ≡ true
+free_falls b c is = ap (λ (x : Bool). (not x || c) && true) is
 
 -- the table of a frame whose program is written out
 abbrev stood : {W T O : Type 0} → FrameTable W T O → (W → Bool → Next) → FrameTable W T O
@@ -66,6 +60,7 @@ module _ {W T O : Type 0} (e : FrameTable W T O) (ends : W → Bool → Next)
     same = refl;
     took = refl;
     depth = refl;
+    stays = λ u. refl;
     trail = λ k x. tt;
   }
 
@@ -74,6 +69,7 @@ module _ {W T O : Type 0} (e : FrameTable W T O) (ends : W → Bool → Next)
     free = refl;
     head = refl;
     drawn = refl;
+    waits = refl;
     moves = record {
       plain = refl;
       falls = refl;
@@ -249,6 +245,7 @@ module _ {W T O : Type 0} (e : FrameTable W T O) (ends : W → Bool → Next)
       same = refl;
       took = refl;
       depth = refl;
+      stays = λ u. refl;
       trail = λ k x. x;
     }
 
@@ -257,6 +254,7 @@ module _ {W T O : Type 0} (e : FrameTable W T O) (ends : W → Bool → Next)
       free = refl;
       head = refl;
       drawn = refl;
+      waits = refl;
       moves = record {
         plain = refl;
         falls = refl;
@@ -286,7 +284,7 @@ module _ {W T O : Type 0} (e : FrameTable W T O) (ends : W → Bool → Next)
       takes_leaves = record { head = refl; ticket = refl };
       takes_state = λ σ s. s;
       takes_home = tt;
-      takes_trail = λ old new w calm u. law.calm old new r.wait b
+      takes_trail = λ old new w calm shows u. law.calm old new r.wait b
           (step.Saw (index old.view.number 0) w ∷ step.Unqueue (index old.view.number 0) ∷ []) refl calm u;
       gives = record {
         moves = record {
@@ -301,7 +299,7 @@ module _ {W T O : Type 0} (e : FrameTable W T O) (ends : W → Bool → Next)
         state = λ σ s. zero_for _ _ σ s;
         home = l.home;
         permits = λ old mid w calm fits at u. low mid fits at;
-        trail = λ old new w calm u. l.trail new (law.calm old new r.wait b
+        trail = λ old new w calm shows u. l.trail new (law.calm old new r.wait b
             (step.Saw (index old.view.number 0) w ∷ step.Unlock _ false ∷ []) refl calm u);
       };
     }
@@ -373,7 +371,7 @@ module _ {W T O : Type 0} (e : FrameTable W T O) (ends : W → Bool → Next)
   rises_at old new (stage.FinishQueue b) out still u = absurd (cc)
   rises_at old new (stage.FinishUnlock b) out still u = absurd (cc)
 
-depth_most : {T : Type 0} (s : Stage T) → depth_at s ≤ 4
+depth_most : {T : Type 0} (s : Stage T) → depth_at s ≤ 5
 depth_most (stage.Test x) = omega arith
 depth_most stage.PrepareLock = omega arith
 depth_most stage.PrepareTurn = omega arith

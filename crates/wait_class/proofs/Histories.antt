@@ -1,6 +1,6 @@
 -- What a history ends with, and the places that it noted, over more steps.
 use Rattle.std.proofs.Common.{◌∙◌, ap, sym, subst, append-nil, append_assoc, refl}
-use Rattle.std.specs.Prelude.{ℕ, ◌≡◌, ◌||◌, Bool, true, false, List, [], ◌∷◌, ◌++◌}
+use Rattle.std.specs.Prelude.{ℕ, ◌≡◌, ◌||◌, ◌&&◌, Bool, true, false, List, [], ◌∷◌, ◌++◌}
 use Rattle.wait_model.specs.declared.steps.Step.{Step}
 use Rattle.wait_rule.specs.declared.journal.Item.{Item}
 use Rattle.wait_model.specs.declared.steps.Step.TheVariants as step
@@ -70,6 +70,17 @@ worn_calm old new es h p calm noted = subst (λ (l : List Item). WasWorn new.vie
 or_assoc : (a b c : Bool) → ((a || b) || c) ≡ (a || (b || c))
 or_assoc true b c = refl
 or_assoc false b c = refl
+
+pub and_both : (a b : Bool) → a ≡ true → b ≡ true → (a && b) ≡ true
+and_both a b one two = (λ i. one i && two i)
+
+pub and_left : (a b : Bool) → (a && b) ≡ true → a ≡ true
+and_left true b is = refl
+and_left false b is = absurd (cc)
+
+pub and_right : (a b : Bool) → (a && b) ≡ true → b ≡ true
+and_right true b is = is
+and_right false b is = absurd (cc)
 
 pub or_left : (a b : Bool) → (a || b) ≡ false → a ≡ false
 or_left true b is = is

@@ -1,5 +1,6 @@
 -- The proofs.
 pub mod Ground
+pub mod WatchHeads
 pub mod WornPlaces
 pub mod FormPlaces
 pub mod EntryForms

@@ -1,6 +1,6 @@
 -- One turn of a call: by where its program goes, and how the task stands there; and parts one after another.
-use Rattle.std.proofs.Common.{◌∙◌, ap, append_assoc, sym, refl, subst, inl}
-use Rattle.std.specs.Prelude.{ℕ, ◌≡◌, ◌||◌, not, nat_lt, Bool, true, false, if◌then◌else◌, Option, Some, None, List, [], ◌∷◌, ◌++◌}
+use Rattle.std.proofs.Common.{◌∙◌, ap, append_assoc, sym, refl, subst, inl, inr}
+use Rattle.std.specs.Prelude.{ℕ, ◌≡◌, ◌||◌, ◌&&◌, not, nat_lt, Bool, true, false, if◌then◌else◌, Option, Some, None, List, [], ◌∷◌, ◌++◌}
 use Rattle.wait_model.specs.declared.points.Point.{Point}
 use Rattle.wait_model.specs.declared.points.Next.{Next}
 use Rattle.wait_model.specs.declared.points.Next.TheVariants as next
@@ -12,7 +12,7 @@ use Rattle.wait_rule.specs.declared.journal.Item.TheVariants as item
 use Rattle.wait_rule.specs.Items.{steps_of}
 use Rattle.wait_rule.specs.Known.{Known}
 use Rattle.wait_rule.specs.Queues.{index}
-use Rattle.wait_rule.specs.Says.{IsUp, added, history_of}
+use Rattle.wait_rule.specs.Says.{IsUp, MayStore, added, history_of}
 use Rattle.wait_rule.proofs.KnownLaws.TaskHistories.{history_after}
 use Rattle.wait_rule.proofs.TableSteps.ItemLists.{steps_append}
 use Rattle.wait_rule.specs.Tickets.{taken}
@@ -75,6 +75,12 @@ zero_for false σ s is = is
 pub any_for : (b : Bool) (σ s : ℕ) → IsStateFor b σ s → IsStateFor true σ s
 any_for true σ s is = is
 any_for false σ s is = inl is
+
+-- a state may be stored over what a place says
+pub may_by : (b : Bool) (σ : ℕ) (k : Known) → IsStateFor b σ k.book.state → MayStore σ k
+may_by true σ k (inl zero) = inr (inl zero)
+may_by true σ k (inr same) = inr (inr same)
+may_by false σ k zero = inr (inl zero)
 
 -- a step between looks
 looks_history : (old new : Known) (l : OnlyLooks old new) → history_of new ≡ history_of old ++ steps_of l.items
@@ -245,11 +251,15 @@ module _ {C S O : Type 0} (t : Table C S O) where
     }
 
   -- a draw, and then a turn
-  pub falls_same : (s n : S) → t.depth n ≡ t.depth s → (u : Turn S O) → falls t n u ≡ true → falls t s u ≡ true
-  falls_same s n is (turn.Again m) f = ap (λ (d : ℕ). not (holds (t.point_of m)) || nat_lt (t.depth m) d) (sym is) ∙ f
-  falls_same s n is (turn.Asleep m) f = f
-  falls_same s n is (turn.Locked m) f = f
-  falls_same s n is (turn.Done o) f = f
+  pub falls_same : (s n : S) → t.depth n ≡ t.depth s → ((u : Turn S O) → t.stays n u ≡ t.stays s u) → (u : Turn S O)
+      → falls t n u ≡ true → falls t s u ≡ true
+  falls_same s n is stays (turn.Again m) f =
+      (λ i. (not (holds (t.point_of m)) || nat_lt (t.depth m) (sym is i)) && sym (stays (turn.Again m)) i) ∙ f
+  falls_same s n is stays (turn.Asleep m) f =
+      (λ i. not (holds (t.point_of m)) && sym (stays (turn.Asleep m)) i) ∙ f
+  falls_same s n is stays (turn.Locked m) f =
+      (λ i. not (holds (t.point_of m)) && sym (stays (turn.Locked m)) i) ∙ f
+  falls_same s n is stays (turn.Done o) f = sym (stays (turn.Done o)) ∙ f
 
   -- a turn after which it goes on there
   pub again : (old new : Known) (r q : Run C) (s n : S) → Advances t old new r q s (turn.Locked n)

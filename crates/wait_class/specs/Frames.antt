@@ -181,6 +181,7 @@ framed f = record {
   drawn = is_turn;
   took = took_at f;
   depth = depth_at;
+  stays = λ s u. true;
   drawn_to = drawn_behind;
   next_of = next_behind f;
   noted = noted_at f;

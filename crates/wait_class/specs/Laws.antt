@@ -135,12 +135,14 @@ pub record DrawLaw {C S O : Type 0} (t : Table C S O) (r : C) (s : S) : Type 0 w
   pub same : t.point_of (t.drawn_to s) ≡ t.point_of s
   pub took : t.took (t.drawn_to s) ≡ t.took s
   pub depth : t.depth (t.drawn_to s) ≡ t.depth s
+  pub stays : (u : Turn S O) → t.stays (t.drawn_to s) u ≡ t.stays s u
   pub trail : (k : Known) → t.Trail k r s → t.Trail k r (t.drawn_to s)
 
 pub record LockLaw {C S O : Type 0} (t : Table C S O) (r : C) (s : S) : Type 0 where
   pub free : IsFree t s
   pub head : (t.plan_of r).head (t.point_of s) ≡ head_in t r s
   pub drawn : t.drawn s ≡ true
+  pub waits : t.stays s (turn.Locked s) ≡ true
   pub moves : Moves t r s nothing ℕ (λ me k x. step.Lock (head_in t r s) (walk_of_hold (head_in t r s) None) x)
       (λ me k x. Unit {0}) (t.next_of r s)
   pub leaves : Leaves t r s (t.next_of r s) (Some (head_in t r s)) (taken (head_in t r s))
@@ -191,6 +193,8 @@ pub record SleepLaw {C S O : Type 0} (t : Table C S O) (r : C) (s n : S) : Type 
   pub fresh : t.drawn s ≡ false
   pub woken : IsFree t n
   pub place : t.asleep_at n ≡ true
+  pub tries : t.stays s (turn.Again s) ≡ true
+  pub sleeps : t.stays s (turn.Asleep n) ≡ true
   pub moves : (w : ℕ) → Moves t r s (with_own (task_of w)) (Unit {0}) (λ me k x. step.Sleep w) (λ me k x. Unit {0})
       (turn.Again n)
   pub home : HomeStays t r s (turn.Again n)
@@ -228,7 +232,7 @@ pub record GiveLaw {C S O : Type 0} (t : Table C S O) (r : C) (s : S) : Type 0 w
       → t.Fits r → mid.at ≡ head_in t r s → t.Trail old r s → OwesNoPermit mid
   pub trail : (old new : Known) (w : ℕ)
       → Calm (step.Saw (index old.view.number 0) w ∷ step.Unlock (head_in t r s) false ∷ []) old new
-      → t.Trail old r s → TurnTrail t new r (t.found_to r s false)
+      → is_some (entry_of w) ≡ false → t.Trail old r s → TurnTrail t new r (t.found_to r s false)
 
 pub record PareLaw {C S O : Type 0} (t : Table C S O) (r : C) (s : S) : Type 0 where
   pub held : IsHeld t r s
@@ -240,7 +244,7 @@ pub record PareLaw {C S O : Type 0} (t : Table C S O) (r : C) (s : S) : Type 0 w
   pub takes_home : IsHome (turn_post t r (t.found_to r s true)).zone (turn_post t r (t.found_to r s true)).watch None
   pub takes_trail : (old new : Known) (w : ℕ)
       → Calm (step.Saw (index old.view.number 0) w ∷ step.Unqueue (index old.view.number 0) ∷ []) old new
-      → t.Trail old r s → TurnTrail t new r (t.found_to r s true)
+      → is_some (entry_of w) ≡ true → t.Trail old r s → TurnTrail t new r (t.found_to r s true)
   pub gives : GiveLaw t r s
 
 -- in a hold the own entry is looked at, and then the own word for a signal
@@ -415,4 +419,4 @@ pub record IsLawful {C S O : Type 0} (t : Table C S O) : Type 0 where
   pub worn_fits : (r : C) (p : ℕ) → t.Fits r → t.Fits (t.worn_at r p)
   pub there : (r : C) (s : S) → t.Fits r → IsThere (watch_at t r s)
   pub few : (r : C) (s : S) → t.Fits r → head_in t r s < HEADS
-  pub depth : (s : S) → t.depth s ≤ 4
+  pub depth : (s : S) → t.depth s ≤ 5

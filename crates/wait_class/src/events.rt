@@ -52,6 +52,7 @@ fn draw_event<C: Machine>(domain: &Domain, task: &mut Task, run: &mut Run<C>, st
     ensures failed { run.new.failed ≡ run.old.failed }
     ensures locks { C.table.doing (C.table.drawn_to stage) ≡ doing.Lock }
     ensures depth { C.table.depth (C.table.drawn_to stage) ≡ C.table.depth stage }
+    ensures stays { (u : _) → C.table.stays (C.table.drawn_to stage) u ≡ C.table.stays stage u }
 {
     C::lawful();
     let _ = stage;

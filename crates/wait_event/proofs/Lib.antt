@@ -1,4 +1,13 @@
-pub mod Events
+pub mod PermitHeads
+pub mod Plans
+pub mod Conditions
+pub mod Tellings
+pub mod WaitTrails
+pub mod WaitLaws
+pub mod WaitAdds
+pub mod FirstLoads
+pub mod Parts
+pub mod Endings
 pub mod Hearing
 pub mod Setting
 pub mod Preparing

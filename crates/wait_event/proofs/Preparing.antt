@@ -10,6 +10,7 @@ use Rattle.std.specs.Prelude.{
   Bool,
   true,
   false,
+  is_some,
   Option,
   Some,
   None,
@@ -67,48 +68,36 @@ use Rattle.wait_event.specs.Prepares.{
   prepared_in,
   with_first,
 }
-use Rattle.wait_event.specs.Waits.{
-  Advances,
-  IsAt,
-  IsFresh,
-  IsQueuedIn,
-  SameCall,
-  call_for,
-  is_prepared,
-  left_by,
-  point_of,
-  post_in,
-  queues_first,
-  tells_first,
-  wait_call,
-  wait_post,
-  wait_program,
-}
+use Rattle.wait_rule.specs.declared.tries.FailedTries.{FailedTries}
+use Rattle.wait_event.specs.Waits.{IsFresh, IsRunning, IsQueuedIn, SameCall, is_prepared, left_by, point_of, queues_first, tells_first, wait_table}
 use Rattle.wait_class.specs.Posts.{EndsWith, own_of}
 use Rattle.wait_class.specs.Findings.{nothing}
 use Rattle.wq_head.specs.declared.adds.Worn.{Worn}
 use Rattle.wait_event.specs.declared.prepares.Prepared.{Prepared}
 use Rattle.wait_event.specs.declared.prepares.Prepared.TheVariants as prepared
 use Rattle.wait_event.specs.declared.waits.WaitOutcome.TheVariants as outcome
-use Rattle.wait_event.specs.declared.waits.WaitRun.{WaitRun}
+use Rattle.wait_event.specs.declared.waits.WaitCall.{WaitCall}
 use Rattle.wait_event.specs.declared.waits.WaitStage.{WaitStage}
 use Rattle.wait_event.specs.declared.waits.WaitStage.TheVariants as stage
-use Rattle.wait_event.specs.declared.waits.WaitTurn.TheVariants as turn
+use Rattle.wait_class.specs.declared.stages.Run.{Run}
+use Rattle.wait_class.specs.declared.stages.Turn.TheVariants as turn
+use Rattle.wait_class.specs.Tables.{Advances, IsAt, plan_post, plan_program, run_post}
+use Rattle.wait_class.proofs.Entries.{peek_advances}
+use Rattle.wait_event.specs.WaitPlans.{call_for, wait_plan, wait_program}
+use Rattle.wait_event.proofs.WaitLaws.{wait_lawful}
 use Rattle.wait_class.proofs.Ground.Going.{runs_on, runs_one}
 use Rattle.wait_class.proofs.Ground.Keeping.{keeps_on}
-use Rattle.wait_event.proofs.Events.Endings.{none_of}
-use Rattle.wait_event.proofs.Events.Peeks.{peek_from, peek_some}
-use Rattle.wait_event.proofs.Events.Plans.{runs_program}
-use Rattle.wait_event.proofs.Events.Turns.{GoesOn}
-use Rattle.wait_event.proofs.Events.Conditions.{full_runs}
+use Rattle.wait_class.proofs.Wholes.{none_of}
+use Rattle.wait_event.proofs.Plans.{program_is, runs_program}
+use Rattle.wait_event.proofs.Conditions.{full_runs}
 use Rattle.wait_class.proofs.Ground.Standing.{home_waits, seen_home}
 use Rattle.wait_model.specs.declared.points.Next.{Next}
 use Rattle.wait_class.proofs.Ground.Standing.{state_keeps, state_looks, state_stands, state_up}
 
-pub prepares_at : (k : Known) (r : WaitRun) (w : Watch) (how : How) (asks : Bool) → IsFresh r w how asks
-    → IsFullWatch w → IsTold k → MayPrepare k w → IsAt k r stage.PrepareLock
+pub prepares_at : (k : Known) (r : Run WaitCall) (w : Watch) (how : How) (asks : Bool) → IsFresh r.of w how asks
+    → IsFullWatch w → IsTold k → MayPrepare k w → IsAt wait_table k r stage.PrepareLock
 prepares_at k r w how asks fresh full told may = record {
-  runs = full_runs r (cond_in w) (fresh.watch_is ∙ full.0) full.1;
+  fits = full_runs r.of (cond_in w) (fresh.watch_is ∙ full.0) full.1;
   up = may.up;
   stands = record {
     head = may.free.head;
@@ -123,101 +112,105 @@ prepares_at k r w how asks fresh full told may = record {
   trail = tt;
 }
 
-module _ (old new : Known) (r q : WaitRun) (w : Watch) (how : How) (asks : Bool) (fresh : IsFresh r w how asks)
+module _ (old new : Known) (r q : Run WaitCall) (w : Watch) (how : How) (asks : Bool) (fresh : IsFresh r.of w how asks)
     (full : IsFullWatch w) where
-  is_plain : r.watch ≡ watch.Plain (cond_in w)
+  runs : IsRunning r.of
+  runs = full_runs r.of (cond_in w) (fresh.watch_is ∙ full.0) full.1
+
+  is_plain : r.of.watch ≡ watch.Plain (cond_in w)
   is_plain = fresh.watch_is ∙ full.0
 
-  now_plain : SameCall r q → q.watch ≡ watch.Plain (cond_in w)
+  now_plain : SameCall r.of q.of → q.of.watch ≡ watch.Plain (cond_in w)
   now_plain s = s.watch_is ∙ is_plain
 
-  is_how : SameCall r q → q.how ≡ how
+  is_how : SameCall r.of q.of → q.of.how ≡ how
   is_how s = s.how ∙ fresh.how_is
 
-  gone : (s : WaitStage) (a : Advances old new r q stage.PrepareLock (turn.Again s))
+  gone : (s : WaitStage) (a : Advances wait_table old new r q stage.PrepareLock (turn.Again s))
       → new.book.head ≡ None → new.book.ticket ≡ no_ticket
-      → IsHome waits q.watch ((told_of new).bits.stored (index new.view.number 0))
+      → IsHome waits q.of.watch ((told_of new).bits.stored (index new.view.number 0))
       → Prepares old new (cond_in w) how asks (point_of s)
   gone s a head ticket home = record {
     runs = record {
       transitions = a.went.runs.transitions;
       goes = subst (λ (f : Program). Goes f old (next.Go (at.Prepare preparing.Lock)) a.went.runs.transitions new
           (next.Go (point_of s)))
-          (λ i. wait_program (fresh.asks_is i) old.view.number (call_for (is_plain i) (fresh.how_is i)))
+          (program_is r.of.asks old.view.number r.of.watch r.of.how runs.suits
+          ∙ (λ i. wait_program (fresh.asks_is i) old.view.number (call_for (is_plain i) (fresh.how_is i))))
           a.went.runs.goes;
     };
     keeps = a.went.keeps;
     up = a.lands.up;
     free = record { head = head; ticket = ticket };
     home = subst (λ (u : Watch). IsHome waits u ((told_of new).bits.stored (index new.view.number 0)))
-        (now_plain a.same) home;
+        (now_plain a.went.tells.same) home;
   }
 
   left : (o : Option Entry) → (told_of new).bits.stored (index new.view.number 0) ≡ o
-      → IsHome absent q.watch ((told_of new).bits.stored (index new.view.number 0))
+      → IsHome absent q.of.watch ((told_of new).bits.stored (index new.view.number 0))
       → new.book.state ≡ 0 → IsLeft new
   left o is home running = record {
-    out = none_of q.watch ((told_of new).bits.stored (index new.view.number 0)) home;
+    out = none_of q.of.watch ((told_of new).bits.stored (index new.view.number 0)) home;
     running = running;
   }
 
   pub ends_prepare : (s : WaitStage) → is_prepared s ≡ true
-      → Advances old new r q stage.PrepareLock (turn.Again s) → EndsPrepare old new w how asks (prepared_in q s)
+      → Advances wait_table old new r q stage.PrepareLock (turn.Again s) → EndsPrepare old new w how asks (prepared_in q.of s)
   ends_prepare stage.Test over a = (
     gone stage.Test a a.lands.stands.head a.lands.stands.ticket a.lands.stands.home,
-    subst (λ (h : How). IsQueuedIn new (state_mask h.state)) (is_how a.same) a.lands.trail,
+    subst (λ (h : How). IsQueuedIn new (state_mask h.state)) (is_how a.went.tells.same) a.lands.trail,
   )
-  ends_prepare stage.LeaveLoad over a =
+  ends_prepare (stage.LeaveLoad found) over a =
       let t = a.lands.trail in (
-        gone stage.LeaveLoad a a.lands.stands.head a.lands.stands.ticket
-            (home_waits q.watch ((told_of new).bits.stored (index new.view.number 0)) a.lands.stands.home),
-        sym (a.same.asks ∙ fresh.asks_is) ∙ t.showed.asks,
+        gone (stage.LeaveLoad found) a a.lands.stands.head a.lands.stands.ticket
+            (home_waits q.of.watch ((told_of new).bits.stored (index new.view.number 0)) a.lands.stands.home),
+        sym (a.went.tells.same.asks ∙ fresh.asks_is) ∙ t.showed.asks,
         left _ refl a.lands.stands.home a.lands.stands.state,
         record {
           look = t.look;
           entry = t.entry;
-          showed = ap (λ (h : How). pending (state_mask h.state) (task_of t.look)) (sym (is_how a.same))
+          showed = ap (λ (h : How). pending (state_mask h.state) (task_of t.look)) (sym (is_how a.went.tells.same))
               ∙ t.showed.pends;
           ends = subst (λ (u : Watch). EndsWith new (left_by (own_of new) (head_of u) t.look t.entry ++ []))
-              (now_plain a.same) t.ends;
+              (now_plain a.went.tells.same) t.ends;
         },
       )
   ends_prepare stage.Worn over a =
       let t = a.lands.trail in (
         gone stage.Worn a a.lands.stands.head a.lands.stands.ticket
-            (home_waits q.watch ((told_of new).bits.stored (index new.view.number 0)) a.lands.stands.home),
+            (home_waits q.of.watch ((told_of new).bits.stored (index new.view.number 0)) a.lands.stands.home),
         left _ refl a.lands.stands.home a.lands.stands.state,
-        ap head_of (now_plain a.same),
+        ap head_of (now_plain a.went.tells.same),
         t.noted,
       )
   ends_prepare s over a = absurd (cc)
 
 -- an exclusive prepare that answers whether its entry is the first
-module _ (old new : Known) (r q : WaitRun) (w : Watch) (σ : SleepState)
-    (fresh : IsFresh r w (record { state = σ; exclusive = true }) false) (full : IsFullWatch w) where
+module _ (old new : Known) (r q : Run WaitCall) (w : Watch) (σ : SleepState)
+    (fresh : IsFresh r.of w (record { state = σ; exclusive = true }) false) (full : IsFullWatch w) where
   abbrev exclusive_how : How
   exclusive_how = record { state = σ; exclusive = true }
 
-  tells_it : tells_first r ≡ true
+  tells_it : tells_first r.of ≡ true
   tells_it i = (fresh.how_is i).exclusive && not (fresh.asks_is i)
 
   and_true : (b : Bool) → (b && true) ≡ b
   and_true true = refl
   and_true false = refl
 
-  first_is : (s : WaitStage) (a : Advances old new r q stage.PrepareLock (turn.Again s))
-      → q.first ≡ queues_first a.went.runs.transitions
-  first_is s a = a.went.first ∙ ((λ i. fresh.first i || (queues_first a.went.runs.transitions && tells_it i))
+  first_is : (s : WaitStage) (a : Advances wait_table old new r q stage.PrepareLock (turn.Again s))
+      → q.of.first ≡ queues_first a.went.runs.transitions
+  first_is s a = a.went.tells.first ∙ ((λ i. fresh.first i || (queues_first a.went.runs.transitions && tells_it i))
       ∙ and_true (queues_first a.went.runs.transitions))
 
   pub ends_exclusive : (s : WaitStage) → is_prepared s ≡ true
-      → (a : Advances old new r q stage.PrepareLock (turn.Again s)) → EndsExclusive old new w σ (first_in q s)
+      → (a : Advances wait_table old new r q stage.PrepareLock (turn.Again s)) → EndsExclusive old new w σ (first_in q.of s)
   unfolding ends_prepare gone
   ends_exclusive stage.Test over a =
       let e = ends_prepare old new r q w exclusive_how false fresh full stage.Test over a in
       (e.0, e.1, first_is stage.Test a)
-  ends_exclusive stage.LeaveLoad over a =
-      let no : true ≡ false = sym a.lands.trail.showed.asks ∙ (a.same.asks ∙ fresh.asks_is) in absurd (cc)
+  ends_exclusive (stage.LeaveLoad found) over a =
+      let no : true ≡ false = sym a.lands.trail.showed.asks ∙ (a.went.tells.same.asks ∙ fresh.asks_is) in absurd (cc)
   ends_exclusive stage.Worn over a = ends_prepare old new r q w exclusive_how false fresh full stage.Worn over a
   ends_exclusive s over a = absurd (cc)
 
@@ -317,25 +310,28 @@ exclusive_mark old new w σ (Err x) e = e.0.keeps
 module _ (old mid : Known) (may : MayFinish old) (told : IsTold old)
     (is : mid ≡ added old (item.Made (step.State 0))) (carries : Carries (state_change 0) old mid) where
   -- the wait that is finished
-  abbrev finished : WaitRun
+  abbrev finished : WaitCall
   finished = record {
     watch = watch.Plain may.cond;
     how = any_how;
     asks = true;
-    ticket = 0;
-    served = 0;
     place = 0;
     seen = 1;
     queued = false;
-    found = false;
     first = false;
   }
 
+  runs_so : IsRunning finished
+  runs_so = full_runs finished may.cond refl may.full
+
+  abbrev run : Run WaitCall
+  run = record { of = finished; ticket = 0; served = 0; failed = record { count = 0 } }
+
   abbrev f : Program
-  f = wait_program true old.view.number (wait_call finished)
+  f = plan_program old.view.number 0 (wait_plan true (watch.Plain may.cond) any_how)
 
   abbrev before : Post
-  before = record (wait_post finished stage.FinishState) { stirs = true; state = old.book.state }
+  before = record (run_post wait_table run stage.FinishState) { stirs = true; state = old.book.state }
 
   stands_before : Stands old before
   stands_before = record {
@@ -351,88 +347,93 @@ module _ (old mid : Known) (may : MayFinish old) (told : IsTold old)
   abbrev from : Next
   from = next.Go (at.Finish finishing.State false)
 
-  stored : Runs f old mid from (next.Go (at.Finish finishing.Look false))
+  abbrev look : Next
+  look = next.Go (at.Finish finishing.Look false)
+
+  stored : Runs f old mid from look
   stored = runs_one f (at.Finish finishing.State false) old old mid nothing (by_step (step.State 0)) (only_none old)
       refl (tt, tt, tt) (state_looks old mid 0 is carries)
 
-  looks_at : IsAt mid finished stage.FinishLook
+  looks_at : IsAt wait_table mid run stage.FinishLook
   looks_at = record {
-    runs = full_runs finished may.cond refl may.full;
+    fits = runs_so;
     up = state_up old mid 0 is carries may.up;
-    stands = state_stands old mid 0 is carries before (wait_post finished stage.FinishLook) stands_before refl refl refl
-        (λ o h. h);
+    stands = state_stands old mid 0 is carries before (run_post wait_table run stage.FinishLook) stands_before refl refl
+        refl (λ o h. h);
     trail = refl;
   }
 
-  -- the rest goes through the same program
-  then_runs : (new : Known) (to : Next) → Runs f old mid from (next.Go (at.Finish finishing.Look false))
-      → Runs (wait_program true mid.view.number (wait_call finished)) mid new (next.Go (at.Finish finishing.Look
-      false)) to
-      → Runs f old new from to
-  then_runs new to a b = runs_on f old mid new from (next.Go (at.Finish finishing.Look false)) to a
-      (subst (λ (n : ℕ). Runs (wait_program true n (wait_call finished)) mid new
-      (next.Go (at.Finish finishing.Look false)) to) carries.number b)
+  -- the rest goes through the same program, which is that of the call
+  then_runs : (new : Known) (to : Next)
+      → Runs (plan_program mid.view.number 0 (wait_plan true (watch.Plain may.cond) any_how)) mid new look to
+      → Runs (wait_program true old.view.number (call_for (watch.Plain may.cond) any_how)) old new from to
+  then_runs new to b = runs_program finished old.view.number old new from to runs_so
+      (runs_on f old mid new from look to stored
+      (subst (λ (n : ℕ). Runs (plan_program n 0 (wait_plan true (watch.Plain may.cond) any_how)) mid new look to)
+      carries.number b))
 
   then_keeps : (new : Known) → Keeps (index mid.view.number 0) mid new → Keeps (index old.view.number 0) old new
   then_keeps new k = keeps_on (index old.view.number 0) old mid new (state_keeps old mid 0 is carries)
       (subst (λ (n : ℕ). Keeps (index n 0) mid new) carries.number k)
 
+  looked : (k : Known) (o : Option Entry) → HasSeenOwn mid k o → Advances wait_table mid k run run stage.FinishLook
+      (wait_table.found_to finished stage.FinishLook (is_some o))
+  looked k o h = (peek_advances wait_table wait_lawful mid k run stage.FinishLook refl looks_at o h
+      (wait_table.found_to finished stage.FinishLook (is_some o)) refl).advances
+
   -- it was off
   pub finish_off : (k : Known) (o : Option Entry) → o ≡ None → HasSeenOwn mid k o → HasFinished old k
   finish_off k (Some e) none h = absurd (cc)
   finish_off k None none h =
-      let g = peek_from mid k finished looks_at None h in record {
+      let a = looked k None h in record {
         cond = may.cond;
-        runs = then_runs k (next.Ends zero_answer) stored (runs_program finished mid.view.number mid k
-            (next.Go (at.Finish finishing.Look false)) (next.Ends zero_answer) looks_at.runs g.runs);
-        keeps = then_keeps k g.keeps;
-        up = g.lands.0;
-        free = record { head = g.lands.1.head; ticket = g.lands.1.ticket };
+        runs = then_runs k (next.Ends zero_answer) a.went.runs;
+        keeps = then_keeps k a.went.keeps;
+        up = a.lands.up;
+        free = record { head = a.lands.stands.head; ticket = a.lands.stands.ticket };
         left = record {
-          out = none_of (watch.Plain may.cond) ((told_of k).bits.stored (index k.view.number 0)) g.lands.1.home;
-          running = g.lands.1.state;
+          out = none_of (watch.Plain may.cond) ((told_of k).bits.stored (index k.view.number 0)) a.lands.stands.home;
+          running = a.lands.stands.state;
         };
       }
 
   -- it is queued, and its watch is that of the wait
-  module _ (k : Known) (o : Option Entry) (e : Entry) (some : o ≡ Some e) (h : HasSeenOwn mid k o) (q : WaitRun)
-      (fresh : IsFinishing q e.watch) where
-    its_watch : q.watch ≡ watch.Plain may.cond
-    its_watch = fresh.watch_is ∙ (seen_home mid k o h (wait_post finished stage.FinishLook) looks_at.stands e some).0
+  module _ (k : Known) (o : Option Entry) (e : Entry) (some : o ≡ Some e) (h : HasSeenOwn mid k o) (q : Run WaitCall)
+      (fresh : IsFinishing q.of e.watch) where
+    its_watch : q.of.watch ≡ watch.Plain may.cond
+    its_watch = fresh.watch_is
+        ∙ (seen_home mid k o h (run_post wait_table run stage.FinishLook) looks_at.stands e some).0
 
-    g_some : GoesOn mid k finished finished stage.FinishLook (next.Go (at.Finish finishing.Lock false))
-    g_some = peek_some mid k finished looks_at o e some h
+    locks : Advances wait_table mid k run run stage.FinishLook (turn.Again stage.FinishLock)
+    locks = subst (λ (b : Bool). Advances wait_table mid k run run stage.FinishLook
+        (wait_table.found_to finished stage.FinishLook b)) (ap is_some some) (looked k o h)
 
-    pub lock_at : IsAt k q stage.FinishLock
+    pub lock_at : IsAt wait_table k q stage.FinishLock
     lock_at = record {
-      runs = full_runs q may.cond its_watch may.full;
-      up = g_some.lands.0;
-      stands = subst (Stands k) (λ i. post_in None (record finished {
-        watch = sym its_watch i;
-        how = sym fresh.how_is i;
-      }) (at.Finish finishing.Lock false)) g_some.lands.1;
-      trail = subst (λ (u : Watch). misses u q.seen ≡ false) (sym its_watch)
+      fits = full_runs q.of may.cond its_watch may.full;
+      up = locks.lands.up;
+      stands = subst (Stands k) (λ i. plan_post None (wait_plan (sym fresh.asks_is i) (sym its_watch i)
+          (sym fresh.how_is i)) (at.Finish finishing.Lock false)) locks.lands.stands;
+      trail = subst (λ (u : Watch). misses u q.of.seen ≡ false) (sym its_watch)
           (ap (misses (watch.Plain may.cond)) fresh.seen);
     }
 
-    pub finish_on : (new : Known) (v : WaitRun) → Advances k new q v stage.FinishLock (turn.Done outcome.Over)
-        → HasFinished old new
+    pub finish_on : (new : Known) (v : Run WaitCall)
+        → Advances wait_table k new q v stage.FinishLock (turn.Done outcome.Over) → HasFinished old new
     finish_on new v a = record {
       cond = may.cond;
-      runs = then_runs new (next.Ends zero_answer) stored
-          (runs_on (wait_program true mid.view.number (wait_call finished)) mid k new
-          (next.Go (at.Finish finishing.Look false)) (next.Go (at.Finish finishing.Lock false)) (next.Ends zero_answer)
-          (runs_program finished mid.view.number mid k (next.Go (at.Finish finishing.Look false))
-          (next.Go (at.Finish finishing.Lock false)) looks_at.runs g_some.runs)
+      runs = then_runs new (next.Ends zero_answer)
+          (runs_on (plan_program mid.view.number 0 (wait_plan true (watch.Plain may.cond) any_how)) mid k new look
+          (next.Go (at.Finish finishing.Lock false)) (next.Ends zero_answer) locks.went.runs
           (subst (λ (p : Program). Runs p k new (next.Go (at.Finish finishing.Lock false))
-          (next.Ends zero_answer)) (λ i. wait_program (fresh.asks_is i) (h.carries.number i)
-          (call_for (its_watch i) (fresh.how_is i))) a.went.runs));
-      keeps = then_keeps new (keeps_on (index mid.view.number 0) mid k new g_some.keeps
+          (next.Ends zero_answer)) (λ i. plan_program (h.carries.number i) 0 (wait_plan (fresh.asks_is i) (its_watch i)
+          (fresh.how_is i))) a.went.runs));
+      keeps = then_keeps new (keeps_on (index mid.view.number 0) mid k new locks.went.keeps
           (subst (λ (n : ℕ). Keeps (index n 0) k new) h.carries.number a.went.keeps));
       up = a.lands.up;
       free = record { head = a.lands.stands.head; ticket = a.lands.stands.ticket };
       left = record {
-        out = none_of v.watch ((told_of new).bits.stored (index new.view.number 0)) a.lands.stands.home;
+        out = none_of v.of.watch ((told_of new).bits.stored (index new.view.number 0)) a.lands.stands.home;
         running = a.lands.stands.state;
       };
     }

@@ -34,8 +34,8 @@ use Rattle.wait_class.specs.Posts.{HasSeenOwn, Runs}
 use Rattle.wait_class.specs.Findings.{nothing, with_entry as finds}
 use Rattle.wait_class.specs.Posts.{own_of}
 use Rattle.wait_event.proofs.Entering.{hold_carried, looked_carried, runs_lock, unlock_looks}
-use Rattle.wait_event.proofs.Events.Locks.{head_fits}
-use Rattle.wait_event.proofs.Events.PermitHeads.{cond_low}
+use Rattle.wait_class.proofs.WatchHeads.{head_fits}
+use Rattle.wait_event.proofs.PermitHeads.{cond_low}
 use Rattle.wait_class.proofs.Ground.Standing.{owner_own}
 use Rattle.wait_class.proofs.Ground.Going.{runs_on, runs_one}
 use Rattle.wait_class.proofs.Ground.Standing.{seen_book, seen_is, seen_looks, seen_shows}

@@ -24,8 +24,9 @@ use Rattle.wait_rule.specs.Stays.{Change, only, unchanged}
 use Rattle.wait_rule.specs.Transitions.{call_program}
 use Rattle.wait_class.specs.Posts.{Runs}
 use Rattle.wait_class.specs.Posts.{EndsWith, own_of}
-use Rattle.wait_event.specs.Waits.{IsUnset, call_for, head_of_wait, left_by, queues}
-use Rattle.wait_event.specs.declared.waits.WaitRun.{WaitRun}
+use Rattle.wait_event.specs.Waits.{IsUnset, head_of_wait, left_by, queues}
+use Rattle.wait_event.specs.WaitPlans.{call_for}
+use Rattle.wait_event.specs.declared.waits.WaitCall.{WaitCall}
 use Rattle.wait_event.specs.declared.waits.WaitOutcome.{WaitOutcome}
 use Rattle.wait_event.specs.declared.waits.WaitOutcome.TheVariants as outcome
 
@@ -60,9 +61,9 @@ pub record FoundNoPlace (k : Known) (w : Watch) (h place : ℕ) : Type 0 where
   pub unset : IsUnset w seen
 
 -- the answer of a wait that has ended
-abbrev pub end_in : WaitRun → WaitOutcome → Result (Unit {0}) WaitEnd
+abbrev pub end_in : WaitCall → WaitOutcome → Result (Unit {0}) WaitEnd
 end_in r outcome.Over = Ok tt
-end_in r outcome.Signalled = Err (wait_end.Signal r.seen (r.queued && not r.found))
+end_in r (outcome.Signalled found) = Err (wait_end.Signal r.seen (r.queued && not found))
 end_in r outcome.Worn = Err (wait_end.Worn (head_of_wait r) r.place)
 
 -- the answer of the call, and the cause of one that the watch was not set

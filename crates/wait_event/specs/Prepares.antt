@@ -29,10 +29,11 @@ use Rattle.wq_head.specs.declared.adds.Worn.{Worn}
 use Rattle.wait_class.specs.Posts.{Keeps, Runs}
 use Rattle.wait_class.specs.Posts.{IsOut}
 use Rattle.wait_class.specs.Posts.{EndsWith, own_of}
-use Rattle.wait_event.specs.Waits.{IsQueuedIn, head_of_wait, left_by, queues_first, wait_program}
+use Rattle.wait_event.specs.Waits.{IsQueuedIn, head_of_wait, left_by, queues_first}
+use Rattle.wait_event.specs.WaitPlans.{wait_program}
 use Rattle.wait_event.specs.declared.prepares.Prepared.{Prepared}
 use Rattle.wait_event.specs.declared.prepares.Prepared.TheVariants as prepared
-use Rattle.wait_event.specs.declared.waits.WaitRun.{WaitRun}
+use Rattle.wait_event.specs.declared.waits.WaitCall.{WaitCall}
 use Rattle.wait_event.specs.declared.waits.WaitStage.{WaitStage}
 use Rattle.wait_event.specs.declared.waits.WaitStage.TheVariants as stage
 
@@ -97,12 +98,12 @@ EndsExclusive old new w σ (Ok first) = (p : Prepares old new (cond_in w) (exclu
 EndsExclusive old new w σ (Err e) = EndsPrepare old new w (exclusive_in σ) false (Err e)
 
 -- what a prepare answers, by the stage at which it ended
-abbrev pub prepared_in : WaitRun → WaitStage → Result Prepared Worn
+abbrev pub prepared_in : WaitCall → WaitStage → Result Prepared Worn
 prepared_in r stage.Test = Ok prepared.Queued
-prepared_in r stage.LeaveLoad = Ok prepared.Signal
+prepared_in r (stage.LeaveLoad found) = Ok prepared.Signal
 prepared_in r _ = Err (record { head = head_of_wait r; place = r.place })
 
-abbrev pub first_in : WaitRun → WaitStage → Result Bool Worn
+abbrev pub first_in : WaitCall → WaitStage → Result Bool Worn
 first_in r stage.Test = Ok r.first
 first_in r _ = Err (record { head = head_of_wait r; place = r.place })
 
@@ -129,7 +130,7 @@ abbrev pub any_how : How
 any_how = record { state = states.Uninterruptible; exclusive = false }
 
 -- a wait for this watch of which only its finish is left: it has loaded a value that sets a plain condition
-pub record IsFinishing (r : WaitRun) (w : Watch) : Type 0 where
+pub record IsFinishing (r : WaitCall) (w : Watch) : Type 0 where
   pub watch_is : r.watch ≡ w
   pub how_is : r.how ≡ any_how
   pub asks_is : r.asks ≡ true

@@ -1,7 +1,11 @@
--- For proofs alone.
--- The program of a wait point by point, for any watch: that of its call in the model, as `proofs/Events/Plans` shows.
-use Rattle.std.specs.Prelude.{ℕ, Bool, true, false, if◌then◌else◌, is_some, Some}
+-- To be believed.
+-- The call of a wait for a watch, and its program point by point, for any watch: that of the call in the model, as
+-- `proofs/Plans` shows.
+use Rattle.std.specs.Prelude.{ℕ, ◌≡◌, ◌≤◌, Bool, true, false, if◌then◌else◌, is_some, []}
+use Rattle.wait_model.specs.declared.layout.TheConstants.{FIRST_SIMPLE}
 use Rattle.wait_model.specs.declared.calls.Answer.TheVariants as answer
+use Rattle.wait_model.specs.declared.calls.Call.{Call}
+use Rattle.wait_model.specs.declared.calls.Call.TheVariants as calls
 use Rattle.wait_model.specs.declared.calls.Event.{Event}
 use Rattle.wait_model.specs.declared.calls.Event.TheVariants as event
 use Rattle.wait_model.specs.declared.points.FinishPoint.TheVariants as finishing
@@ -17,16 +21,39 @@ use Rattle.wait_model.specs.declared.tasks.How.{How}
 use Rattle.wait_model.specs.declared.watches.Kind.{Kind}
 use Rattle.wait_model.specs.declared.watches.Kind.TheVariants as kind
 use Rattle.wait_model.specs.declared.watches.Watch.{Watch}
+use Rattle.wait_model.specs.declared.watches.Watch.TheVariants as watch
+use Rattle.wait_model.specs.PointFacts.{stirs}
 use Rattle.wait_model.specs.Points.{given_at}
 use Rattle.wait_model.specs.Programs.{ends_with, go, program, signalled, sleep_event, zero_answer}
 use Rattle.wait_model.specs.Tasks.{looks_in, pending, state_mask}
 use Rattle.wait_model.specs.Watches.{head_of, kind_for, misses, number_of}
-use Rattle.wait_rule.specs.Queues.{index}
-use Rattle.wait_rule.specs.Transitions.{Program}
+use Rattle.wait_rule.specs.Transitions.{Program, call_program}
 use Rattle.wait_class.specs.Queueing.{wait_form}
-use Rattle.wait_event.specs.Waits.{asked, call_for, point_of}
-use Rattle.wait_event.specs.declared.waits.WaitRun.{WaitRun}
-use Rattle.wait_event.specs.declared.waits.WaitStage.{WaitStage}
+use Rattle.wait_class.specs.Tables.{Plan}
+
+-- The call of a wait for a watch; plain conditions and variables have one. Its program looks for a signal in its
+-- prepare only where it asks for one.
+abbrev pub call_for : Watch → How → Call
+call_for (watch.Var v old) how = calls.WaitVar v old how.state
+call_for (watch.Plain c) how = calls.Wait c how
+call_for _ how = calls.Wait 0 how
+
+abbrev pub asked : Bool → Point → Planned → Planned
+asked asks (at.Prepare preparing.Lock) e = if asks then e
+    else record { event = e.event; next = next.Go (at.Prepare preparing.Queue) }
+asked asks p e = e
+
+abbrev pub wait_program : Bool → ℕ → Call → Program
+wait_program asks me call = record (call_program me 0 call) {
+  plan = λ p seen. asked asks p (program me call p seen);
+}
+
+-- The waits that run: for any plain condition and any variable. Where the head of a condition is a simple one it is a
+-- simple wait, whose program is that of a wait whose entry goes to the tail. A wait for a variable is not exclusive.
+abbrev pub IsWaitFor : Watch → How → Type 0
+IsWaitFor (watch.Plain c) how = FIRST_SIMPLE ≤ c → how.exclusive ≡ true
+IsWaitFor (watch.Var v old) how = how.exclusive ≡ false
+IsWaitFor _ how = ⊥
 
 -- a load of the watch's word
 abbrev pub loads : Watch → Seen → Event
@@ -87,17 +114,17 @@ kind_in w (at.Add p) = kind.Autoremove
 kind_in w (at.Page p) = kind.Page
 kind_in w p = kind_for w
 
-abbrev pub plan_program : Bool → ℕ → Watch → How → Program
-plan_program asks me w how = record {
-  plan = λ p seen. asked asks p (plan me w how p seen);
+-- the plan of a wait
+abbrev pub wait_plan : Bool → Watch → How → Plan
+wait_plan asks w how = record {
+  makes = λ me p seen. asked asks p (plan me w how p seen);
   given = λ p. record (given_at (call_for w how) p) { watch = w; kind = kind_in w p };
-  own = Some (index me 0);
-  form = Some (wait_form how);
+  watch = w;
+  state = how.state;
+  form = wait_form how;
+  numbers = [];
+  asked = false;
+  watches = λ p. w;
+  head = λ p. head_of w;
+  stirs = stirs (calls.Wait 0 how);
 }
-
-abbrev pub wait_plan : ℕ → WaitRun → Program
-wait_plan me r = plan_program r.asks me r.watch r.how
-
--- where a wait goes by what it found
-abbrev pub goes_to : WaitRun → WaitStage → Seen → Next
-goes_to r s seen = (asked r.asks (point_of s) (plan 0 r.watch r.how (point_of s) seen)).next

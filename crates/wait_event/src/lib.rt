@@ -6,7 +6,6 @@ pub mod conds;
 pub mod entries;
 pub mod laws;
 pub mod prepares;
-pub mod wait_calls;
 pub mod wait_events;
 pub mod waits;
 pub mod woken_waits;

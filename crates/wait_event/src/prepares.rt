@@ -3,19 +3,22 @@
 ghost use Rattle.std.specs.Prelude.{◌≡◌, false, true};
 ghost use Rattle.wait_event.specs.declared.waits.WaitOutcome.TheVariants as outcome;
 ghost use Rattle.wait_event.specs.declared.waits.WaitStage.TheVariants as stage;
-ghost use Rattle.wait_event.specs.declared.waits.WaitTurn.TheVariants as turn;
+ghost use Rattle.wait_class.specs.declared.stages.Turn.TheVariants as turn;
+ghost use Rattle.wait_class.specs.Tables.{Advances, IsAt};
 ghost use Rattle.wait_event.specs.Prepares.{EndsPrepare, HasFinished, IsFullWatch, IsPlainWait, MayFinish, MayPrepare};
 ghost use Rattle.wait_event.specs.Prepares.{EndsExclusive, IsFinishing, first_in, prepared_in, with_first, with_signal};
 ghost use Rattle.wait_event.specs.Prepares.{BeginsOwing, CarriesPrepare, finish_change};
-ghost use Rattle.wait_event.specs.Waits.{Advances, IsAt, is_prepared};
+ghost use Rattle.wait_event.specs.Waits.{is_prepared, wait_table};
 ghost use Rattle.wait_class.specs.Posts.{own_of};
 ghost use Rattle.wait_rule.specs.Queues.{IsTold};
 ghost use Rattle.wait_rule.specs.Stays.{Carries};
 
-use wait_class::queueing::own_entry;
-use crate::wait_calls::pause;
-use crate::waits::{WaitRun, WaitStage, WaitTurn, advance};
+use crate::waits::{WaitCall, WaitRun, WaitStage, fresh_wait};
 use std::sync::Wait;
+use wait_class::events::advance;
+use wait_class::queueing::own_entry;
+use wait_class::runs::pause;
+use wait_class::stages::{Run, Turn};
 use wait_model::heads::head_of;
 use wait_model::layout::RUNNING;
 use wait_model::tasks::{How, SleepState};
@@ -40,7 +43,7 @@ fn ends_prepare(stage: WaitStage) -> bool
     match stage {
         WaitStage::Test => true,
         WaitStage::Worn => true,
-        WaitStage::LeaveLoad => true,
+        WaitStage::LeaveLoad(_) => true,
         _ => false,
     }
 }
@@ -48,8 +51,8 @@ fn ends_prepare(stage: WaitStage) -> bool
 /// Goes on with a prepare to its end: waits for the lock.
 fn run_prepare<R: Wait>(rt: &R, domain: &Domain, task: &mut Task, run: &mut WaitRun) -> WaitStage
     requires of { task.old.domain ≡ domain.now }
-    requires at { IsAt task.old run.old stage.PrepareLock }
-    ensures advances { Advances task.old task.new run.old run.new stage.PrepareLock (turn.Again result) }
+    requires at { IsAt wait_table task.old run.old stage.PrepareLock }
+    ensures advances { Advances wait_table task.old task.new run.old run.new stage.PrepareLock (turn.Again result) }
     ensures prepared { is_prepared result ≡ true }
 {
     let mut passing = Passing::none();
@@ -59,7 +62,7 @@ fn run_prepare<R: Wait>(rt: &R, domain: &Domain, task: &mut Task, run: &mut Wait
         let turn = advance(domain, task, run, at, &mut passing);
         passing.wake(domain);
         match turn {
-            WaitTurn::Again(next) => {
+            Turn::Again(next) => {
                 if ends_prepare(next) {
                     passing.end();
                     return next;
@@ -67,12 +70,12 @@ fn run_prepare<R: Wait>(rt: &R, domain: &Domain, task: &mut Task, run: &mut Wait
                 looks = 0;
                 at = next;
             }
-            WaitTurn::Locked(next) => {
-                looks = pause(rt, domain, run, looks);
+            Turn::Locked(next) => {
+                looks = pause(rt, domain, run, next, looks);
                 at = next;
             }
-            WaitTurn::Asleep(_next) => unreachable!(),
-            WaitTurn::Done(_outcome) => unreachable!(),
+            Turn::Asleep(_next) => unreachable!(),
+            Turn::Done(_outcome) => unreachable!(),
         }
     }
     unreachable!()
@@ -81,8 +84,8 @@ fn run_prepare<R: Wait>(rt: &R, domain: &Domain, task: &mut Task, run: &mut Wait
 /// Goes on with a finish from its lock to its end: waits for the lock.
 fn run_finish<R: Wait>(rt: &R, domain: &Domain, task: &mut Task, run: &mut WaitRun)
     requires of { task.old.domain ≡ domain.now }
-    requires at { IsAt task.old run.old stage.FinishLock }
-    ensures { Advances task.old task.new run.old run.new stage.FinishLock (turn.Done outcome.Over) }
+    requires at { IsAt wait_table task.old run.old stage.FinishLock }
+    ensures { Advances wait_table task.old task.new run.old run.new stage.FinishLock (turn.Done outcome.Over) }
 {
     let mut passing = Passing::none();
     let mut at = WaitStage::FinishLock;
@@ -91,16 +94,16 @@ fn run_finish<R: Wait>(rt: &R, domain: &Domain, task: &mut Task, run: &mut WaitR
         let turn = advance(domain, task, run, at, &mut passing);
         passing.wake(domain);
         match turn {
-            WaitTurn::Again(next) => {
+            Turn::Again(next) => {
                 looks = 0;
                 at = next;
             }
-            WaitTurn::Locked(next) => {
-                looks = pause(rt, domain, run, looks);
+            Turn::Locked(next) => {
+                looks = pause(rt, domain, run, next, looks);
                 at = next;
             }
-            WaitTurn::Asleep(_next) => unreachable!(),
-            WaitTurn::Done(_outcome) => {
+            Turn::Asleep(_next) => unreachable!(),
+            Turn::Done(_outcome) => {
                 passing.end();
                 return;
             }
@@ -110,43 +113,44 @@ fn run_finish<R: Wait>(rt: &R, domain: &Domain, task: &mut Task, run: &mut WaitR
 }
 
 /// What a prepare did, by the stage at which it ended.
-fn answer_at(run: WaitRun, stage: WaitStage) -> Result<Prepared, Worn>
-    ensures { result ≡ prepared_in run stage }
+fn answer_at(wait: WaitCall, stage: WaitStage) -> Result<Prepared, Worn>
+    ensures { result ≡ prepared_in wait stage }
 {
     match stage {
         WaitStage::Test => Ok(Prepared::Queued),
-        WaitStage::LeaveLoad => Ok(Prepared::Signal),
+        WaitStage::LeaveLoad(_) => Ok(Prepared::Signal),
         _ => Err(Worn {
-            head: head_of(run.watch),
-            place: run.place,
+            head: head_of(wait.watch),
+            place: wait.place,
         }),
     }
 }
 
 /// Whether the entry of an exclusive prepare is the first, by the stage at which it ended.
-fn first_at(run: WaitRun, stage: WaitStage) -> Result<bool, Worn>
-    ensures { result ≡ first_in run stage }
+fn first_at(wait: WaitCall, stage: WaitStage) -> Result<bool, Worn>
+    ensures { result ≡ first_in wait stage }
 {
     match stage {
-        WaitStage::Test => Ok(run.first),
+        WaitStage::Test => Ok(wait.first),
         _ => Err(Worn {
-            head: head_of(run.watch),
-            place: run.place,
+            head: head_of(wait.watch),
+            place: wait.place,
         }),
     }
 }
 
 /// A wait for a plain condition of which only its finish is left, as after a load that found 1.
 fn finishing(watch: Watch) -> WaitRun
-    ensures { IsFinishing result watch }
+    ensures { IsFinishing result.of watch }
 {
     let how = How {
         state: SleepState::Uninterruptible,
         exclusive: false,
     };
-    let mut run = WaitRun::new(watch, how, true);
-    run.seen = 1;
-    run
+    Run::new(WaitCall {
+        seen: 1,
+        ..WaitCall::new(watch, how, true)
+    })
 }
 
 /// Prepares to wait in one hold, and looks for a signal in it where it asks for one.
@@ -167,10 +171,10 @@ fn prepare<R: Wait>(
     ensures carries { CarriesPrepare task.old task.new how.state result }
 {
     task.told();
-    let mut run = WaitRun::new(watch, how, asks);
+    let mut run = fresh_wait(watch, how, asks);
     let stage = run_prepare(rt, domain, task, &mut run);
     task.told();
-    answer_at(run, stage)
+    answer_at(run.of, stage)
 }
 
 /// Prepares to wait in one hold (kernel/sched/wait.c, `prepare_to_wait_event`): where a signal is pending that the
@@ -255,10 +259,10 @@ pub fn prepare_exclusive<R: Wait>(
         state,
         exclusive: true,
     };
-    let mut run = WaitRun::new(watch, how, false);
+    let mut run = fresh_wait(watch, how, false);
     let stage = run_prepare(rt, domain, task, &mut run);
     task.told();
-    first_at(run, stage)
+    first_at(run.of, stage)
 }
 
 /// Finishes a wait that was put together from parts (kernel/sched/wait.c, `finish_wait`): stores RUNNING, looks at the

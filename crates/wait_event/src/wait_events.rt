@@ -6,15 +6,16 @@ ghost use Rattle.wait_model.specs.declared.watches.Watch.TheVariants as watch;
 ghost use Rattle.wait_rule.specs.Says.{IsUp};
 ghost use Rattle.wait_rule.specs.Queues.{IsIdle, IsTold, index};
 ghost use Rattle.wait_event.specs.declared.waits.WaitStage.TheVariants as stage;
-ghost use Rattle.wait_event.specs.Waits.{IsAt, IsFresh};
+ghost use Rattle.wait_class.specs.Tables.{IsAt};
+ghost use Rattle.wait_event.specs.Waits.{IsFresh, IsRunning, wait_table};
 ghost use Rattle.wait_rule.specs.Stays.{Carries};
 ghost use Rattle.wait_event.specs.Ends.{EndsWait, end_in, wait_change};
 ghost use Rattle.wait_class.specs.Posts.{IsOut};
 
-use crate::wait_calls::run_wait;
-use crate::waits::{WaitOutcome, WaitRun, WaitStage};
+use crate::waits::{WaitCall, WaitOutcome, WaitRun, WaitStage, fresh_wait};
 use std::sync::Wait;
 use thiserror::Error;
+use wait_class::runs::run;
 use wait_model::heads::head_of;
 use wait_model::tasks::How;
 use wait_model::watches::Watch;
@@ -39,12 +40,13 @@ pub fn begin_wait(task: &Task, cond: u8, how: How) -> WaitRun
     requires idle { IsIdle task.now }
     requires full { cond < FIRST_SIMPLE }
     requires out { IsOut task.now }
-    ensures at { IsAt task.now result stage.First }
-    ensures fresh { IsFresh result (watch.Plain cond) how true }
+    ensures at { IsAt wait_table task.now result stage.First }
+    ensures fresh { IsFresh result.of (watch.Plain cond) how true }
+    ensures runs { IsRunning result.of }
     ensures told { IsTold task.now }
 {
     task.told();
-    WaitRun::new(Watch::Plain { cond }, how, true)
+    fresh_wait(Watch::Plain { cond }, how, true)
 }
 
 /// Waits until condition `cond`, below `FIRST_SIMPLE`, is set (include/linux/wait.h, `wait_event`,
@@ -70,24 +72,24 @@ pub fn wait_event<R: Wait>(
     ensures out { IsOut task.new }
     ensures carries { Carries (wait_change (index task.old.view.number 0) task.new.at) task.old task.new }
 {
-    let mut run = begin_wait(task, cond, how);
-    let outcome = run_wait(rt, domain, task, &mut run, WaitStage::First);
-    end_of(run, outcome)
+    let mut wait = begin_wait(task, cond, how);
+    let outcome = run(rt, domain, task, &mut wait, WaitStage::First);
+    end_of(wait.of, outcome)
 }
 
 /// The answer of a wait that has ended.
-pub fn end_of(run: WaitRun, outcome: WaitOutcome) -> Result<(), WaitEnd>
-    ensures { result ≡ end_in run outcome }
+pub fn end_of(wait: WaitCall, outcome: WaitOutcome) -> Result<(), WaitEnd>
+    ensures { result ≡ end_in wait outcome }
 {
     match outcome {
         WaitOutcome::Over => Ok(()),
-        WaitOutcome::Signalled => Err(WaitEnd::Signal {
-            seen: run.seen,
-            selected: run.queued && !run.found,
+        WaitOutcome::Signalled(found) => Err(WaitEnd::Signal {
+            seen: wait.seen,
+            selected: wait.queued && !found,
         }),
         WaitOutcome::Worn => Err(WaitEnd::Worn {
-            head: head_of(run.watch),
-            place: run.place,
+            head: head_of(wait.watch),
+            place: wait.place,
         }),
     }
 }

@@ -28,7 +28,8 @@ use Rattle.wait_rule.proofs.KnownLaws.OtherCalls.{others_stay_off}
 use Rattle.wait_rule.proofs.KnownLaws.TaskHistories.{history_after}
 use Rattle.wait_rule.proofs.TableSteps.ItemLists.{steps_append}
 use Rattle.wait_class.specs.Posts.{Runs}
-use Rattle.wait_event.specs.Waits.{IsRunning, IsWaitFor, call_for, wait_call, wait_program}
+use Rattle.wait_event.specs.Waits.{IsRunning, wait_call}
+use Rattle.wait_event.specs.WaitPlans.{IsWaitFor, call_for, wait_program}
 use Rattle.wait_event.specs.declared.waits.WaitRun.{WaitRun}
 use Rattle.bit_wait.specs.LockEnds.{HasRested}
 use Rattle.wq_head.specs.Scanned.{HasScanned}

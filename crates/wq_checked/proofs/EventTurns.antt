@@ -9,7 +9,8 @@ use Rattle.wait_event.specs.declared.waits.WaitStage.TheVariants as stage
 use Rattle.wait_event.specs.declared.waits.WaitOutcome.{WaitOutcome}
 use Rattle.wait_event.specs.declared.waits.WaitTurn.{WaitTurn}
 use Rattle.wait_event.specs.declared.waits.WaitTurn.TheVariants as turn
-use Rattle.wait_event.specs.Waits.{Advances, IsAt, IsRunning, IsWaitFor, SameCall}
+use Rattle.wait_event.specs.Waits.{Advances, IsAt, IsRunning, SameCall}
+use Rattle.wait_event.specs.WaitPlans.{IsWaitFor}
 use Rattle.wait_event.proofs.Events.Parts.{advances_none, advances_on}
 use Rattle.wq_checked.specs.Kept.{IsReady, but_kept}
 use Rattle.wq_checked.specs.Stages.{EventStands, event_at}
@@ -18,7 +19,7 @@ use Rattle.wq_checked.specs.Advancing.{event_left, event_shown}
 use Rattle.wq_checked.specs.declared.calls.Running.{Running}
 use Rattle.wq_checked.specs.declared.calls.Running.TheVariants as running
 use Rattle.wq_checked.specs.declared.kept_bits.KeptBits.{KeptBits}
-use Rattle.wait_event.proofs.Events.Endings.{ends_carried, ends_idle, ends_up}
+use Rattle.wait_event.proofs.Endings.{ends_carried, ends_idle, ends_up}
 use Rattle.wq_checked.specs.Calls.{IsFreshEvent}
 use Rattle.wq_checked.proofs.Elsewhere.{waits_off}
 

@@ -2,8 +2,8 @@ use Rattle.std.proofs.Common.{refl, subst, true}
 use Rattle.wait_model.specs.declared.tasks.How.{How}
 use Rattle.wait_model.specs.declared.watches.Watch.TheVariants as watch
 use Rattle.wait_event.specs.Waits.{IsFresh}
-use Rattle.wait_event.proofs.Events.Conditions.{tail_runs}
-use Rattle.wait_event.proofs.Events.Endings.{begins_at}
+use Rattle.wait_event.proofs.Conditions.{tail_runs}
+use Rattle.wait_event.proofs.Endings.{begins_at}
 use Rattle.swait_queue.specs.SimpleWaits.{tail_in}
 use Rattle.swait_queue.proofs.waits.begin_swait.Goals as goal
 

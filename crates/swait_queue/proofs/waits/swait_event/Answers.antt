@@ -1,7 +1,7 @@
 use Rattle.std.proofs.Common.{◌∙◌, subst, sym}
 use Rattle.wait_event.specs.Ends.{EndsWait}
 use Rattle.wait_event.specs.declared.waits.WaitStage.TheVariants as stage
-use Rattle.wait_event.proofs.Events.Endings.{ends_carried, ends_idle, ends_out, ends_up, ends_wait}
+use Rattle.wait_event.proofs.Endings.{ends_carried, ends_idle, ends_out, ends_up, ends_wait}
 use Rattle.swait_queue.specs.SimpleWaits.{tail_in}
 use Rattle.swait_queue.proofs.SimpleWaitEnds.{simple_wait}
 use Rattle.swait_queue.proofs.waits.swait_event.Goals as goal

@@ -2,7 +2,7 @@ use Rattle.std.proofs.Common.{◌∙◌, ◌<◌, ℕ, subst, sym}
 use Rattle.wait_model.specs.declared.layout.TheConstants.{HEADS}
 use Rattle.wait_model.specs.declared.watches.Watch.TheVariants as watch
 use Rattle.wq_head.specs.Scanned.{HasEndedAt, HasScanned}
-use Rattle.wait_event.proofs.Events.Locks.{watch_fits}
+use Rattle.wait_class.proofs.WatchHeads.{watch_fits}
 use Rattle.var_wait.proofs.Publishing.{silent, silent_leaves, walked_leaves, walked_on}
 use Rattle.var_wait.proofs.publishes.publish_var_and_wake.Goals as goal
 

@@ -2,8 +2,8 @@ use Rattle.std.proofs.Common.{refl, subst, true}
 use Rattle.wait_model.specs.declared.tasks.How.{How}
 use Rattle.wait_model.specs.declared.watches.Watch.TheVariants as watch
 use Rattle.wait_event.specs.Waits.{IsFresh}
-use Rattle.wait_event.proofs.Events.Conditions.{var_runs}
-use Rattle.wait_event.proofs.Events.Endings.{begins_at}
+use Rattle.wait_event.proofs.Conditions.{var_runs}
+use Rattle.wait_event.proofs.Endings.{begins_at}
 use Rattle.var_wait.specs.VarWaits.{shared_in}
 use Rattle.var_wait.proofs.waits.begin_var.Goals as goal
 

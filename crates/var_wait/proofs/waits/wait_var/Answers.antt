@@ -1,6 +1,6 @@
 use Rattle.std.proofs.Common.{◌∙◌, subst, sym}
 use Rattle.wait_event.specs.declared.waits.WaitStage.TheVariants as stage
-use Rattle.wait_event.proofs.Events.Endings.{ends_carried, ends_idle, ends_out, ends_up}
+use Rattle.wait_event.proofs.Endings.{ends_carried, ends_idle, ends_out, ends_up}
 use Rattle.var_wait.specs.VarWaits.{EndsVarWait}
 use Rattle.var_wait.proofs.VarEnds.{ends_var}
 use Rattle.var_wait.proofs.waits.wait_var.Goals as goal

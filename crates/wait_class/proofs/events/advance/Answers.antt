@@ -1,4 +1,4 @@
-use Rattle.std.proofs.Common.{◌∙◌, ◌≡◌, inl, subst, sym}
+use Rattle.std.proofs.Common.{◌∙◌, ◌≡◌, ap, inl, subst, sym}
 use Rattle.wait_class.specs.declared.stages.Turn.TheVariants as turn
 use Rattle.wait_class.specs.Tables.{Went}
 use Rattle.wait_class.proofs.Falling.{shown_behind}
@@ -30,7 +30,8 @@ pub returns-in-Draw-clause-falls : goal.returns-in-Draw-clause-falls
 returns-in-Draw-clause-falls g c =
     let t = g.C.Machine.table in
     falls_same t c.args.stage c.drawn_to.result (subst (λ n. t.depth n ≡ t.depth c.args.stage)
-    (sym c.drawn_to.ensures) c.draw_event.ensures.depth) c.lock_event.result c.lock_event.ensures.falls
+    (sym c.drawn_to.ensures) c.draw_event.ensures.depth)
+    (λ u. ap (λ n. t.stays n u) c.drawn_to.ensures ∙ c.draw_event.ensures.stays u) c.lock_event.result c.lock_event.ensures.falls
 
 pub returns-in-Own-clause-passes : goal.returns-in-Own-clause-passes
 returns-in-Own-clause-passes g c = inl c.requires.passes

@@ -7,7 +7,7 @@ use Rattle.wait_rule.proofs.KnownLaws.AskedPages.{asks_no_page, no_page_asked}
 use Rattle.wq_head.proofs.AskedHolds.{stays_unasked}
 use Rattle.wq_head.proofs.LockWaits.{locked_stays}
 use Rattle.wq_head.proofs.PermitHeads.{owes_low}
-use Rattle.wait_event.proofs.Events.PermitHeads.{cond_low}
+use Rattle.wait_event.proofs.PermitHeads.{cond_low}
 use Rattle.wait_event.proofs.Entering.{
   add_carries,
   add_stands,
@@ -19,7 +19,7 @@ use Rattle.wait_event.proofs.Entering.{
   worn_carries,
 }
 use Rattle.wait_class.proofs.EntryForms.{for_by}
-use Rattle.wait_event.proofs.Events.Locks.{head_fits}
+use Rattle.wait_class.proofs.WatchHeads.{head_fits}
 use Rattle.wait_model.specs.declared.watches.Watch.TheVariants as watch
 use Rattle.wait_event.proofs.entries.add_entry.Goals as goal
 

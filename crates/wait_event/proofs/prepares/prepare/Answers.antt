@@ -4,15 +4,15 @@ use Rattle.wait_event.proofs.Preparing.{begins_owing, ends_carried, ends_mark, e
 use Rattle.wait_event.proofs.prepares.prepare.Goals as goal
 
 pub run_prepare-stage-requires-clause-at : goal.run_prepare-stage-requires-clause-at
-run_prepare-stage-requires-clause-at g c = prepares_at c.args.task.now c.new-run.result c.args.watch c.args.how
-    c.args.asks c.new-run.ensures c.requires.full c.told.ensures c.requires.may
+run_prepare-stage-requires-clause-at g c = prepares_at c.args.task.now c.fresh_wait-run.result c.args.watch c.args.how
+    c.args.asks c.fresh_wait-run.ensures c.requires.full c.told.ensures c.requires.may
 
 pub returns-clause-ends : goal.returns-clause-ends
 returns-clause-ends g c = subst
     (EndsPrepare c.args.task.now c.run_prepare-stage.new.task c.args.watch c.args.how c.args.asks)
     (sym c.answer_at.ensures)
-    (ends_prepare c.args.task.now c.run_prepare-stage.new.task c.new-run.result c.run_prepare-stage.new.run
-    c.args.watch c.args.how c.args.asks c.new-run.ensures c.requires.full
+    (ends_prepare c.args.task.now c.run_prepare-stage.new.task c.fresh_wait-run.result c.run_prepare-stage.new.run
+    c.args.watch c.args.how c.args.asks c.fresh_wait-run.ensures c.requires.full
     c.run_prepare-stage.result c.run_prepare-stage.ensures.prepared c.run_prepare-stage.ensures.advances)
 
 pub returns-clause-may : goal.returns-clause-may

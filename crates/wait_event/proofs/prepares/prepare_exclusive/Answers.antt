@@ -5,15 +5,15 @@ use Rattle.wait_event.proofs.Preparing.{exclusive_may, prepares_at}
 use Rattle.wait_event.proofs.prepares.prepare_exclusive.Goals as goal
 
 pub run_prepare-stage-requires-clause-at : goal.run_prepare-stage-requires-clause-at
-run_prepare-stage-requires-clause-at g c = prepares_at c.args.task.now c.new-run.result c.args.watch
-    (exclusive_in c.args.state) false c.new-run.ensures c.requires.plain.0 c.told.ensures
+run_prepare-stage-requires-clause-at g c = prepares_at c.args.task.now c.fresh_wait-run.result c.args.watch
+    (exclusive_in c.args.state) false c.fresh_wait-run.ensures c.requires.plain.0 c.told.ensures
     c.requires.may
 
 pub returns-clause-ends : goal.returns-clause-ends
 returns-clause-ends g c = subst (EndsExclusive c.args.task.now c.run_prepare-stage.new.task c.args.watch c.args.state)
     (sym c.first_at.ensures)
-    (ends_exclusive c.args.task.now c.run_prepare-stage.new.task c.new-run.result c.run_prepare-stage.new.run
-    c.args.watch c.args.state c.new-run.ensures c.requires.plain.0 c.run_prepare-stage.result
+    (ends_exclusive c.args.task.now c.run_prepare-stage.new.task c.fresh_wait-run.result c.run_prepare-stage.new.run
+    c.args.watch c.args.state c.fresh_wait-run.ensures c.requires.plain.0 c.run_prepare-stage.result
     c.run_prepare-stage.ensures.prepared c.run_prepare-stage.ensures.advances)
 
 pub returns-clause-may : goal.returns-clause-may

@@ -3,7 +3,7 @@ use Rattle.std.specs.Prelude.{ℕ, ◌<◌}
 use Rattle.wait_model.specs.declared.layout.TheConstants.{HEADS}
 use Rattle.wait_model.specs.declared.watches.Watch.TheVariants as watch
 use Rattle.wq_head.specs.Scanned.{HasEndedAt}
-use Rattle.wait_event.proofs.Events.Locks.{watch_fits}
+use Rattle.wait_class.proofs.WatchHeads.{watch_fits}
 use Rattle.var_wait.proofs.Publishing.{silent_carries}
 use Rattle.wait_pipe.proofs.Asides.{quiet_on, scanned_quiet, woken_quiet}
 use Rattle.wait_pipe.proofs.PieceChanges.{others_on}

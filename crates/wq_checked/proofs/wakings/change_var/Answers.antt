@@ -4,7 +4,7 @@ use Rattle.wait_model.specs.declared.watches.Aim.{Aim}
 use Rattle.wait_model.specs.declared.watches.Mode.TheVariants as mode
 use Rattle.wait_model.specs.declared.watches.Watch.TheVariants as watch
 use Rattle.wq_head.specs.Scanned.{HasEndedAt, HasScanned}
-use Rattle.wait_event.proofs.Events.Locks.{watch_fits}
+use Rattle.wait_class.proofs.WatchHeads.{watch_fits}
 use Rattle.wq_checked.proofs.Publishing.{looked_waking, set_waking, silent_ready}
 use Rattle.wq_checked.proofs.WakeTurns.{first_sound}
 use Rattle.wq_checked.proofs.wakings.change_var.Goals as goal

@@ -1,0 +1,95 @@
+-- The conditions for which waits run, and the kinds and forms of their entries.
+use Rattle.std.proofs.Common.{◌∙◌, ap, sym, refl, subst, inl, inr, arith}
+use Rattle.std.proofs.lemmas.Bool.Decides.{nat_tests}
+use Rattle.std.specs.Prelude.{ℕ, ◌≡◌, ◌<◌, ◌≤◌, not, nat_lt, Bool, true, false, if◌then◌else◌}
+use Rattle.wait_model.specs.declared.layout.TheConstants.{FIRST_SIMPLE, PLAIN_CONDITIONS, VARIABLES}
+use Rattle.wait_model.specs.declared.queues.Form.{Form}
+use Rattle.wait_model.specs.declared.queues.Form.TheVariants as forms
+use Rattle.wait_model.specs.declared.tasks.How.{How}
+use Rattle.wait_model.specs.declared.watches.Kind.{Kind}
+use Rattle.wait_model.specs.declared.watches.Kind.TheVariants as kind
+use Rattle.wait_model.specs.declared.watches.Watch.{Watch}
+use Rattle.wait_model.specs.declared.watches.Watch.TheVariants as watch
+use Rattle.wait_model.specs.Watches.{IsThere, bare, is_simple, kind_for}
+use Rattle.wq_head.specs.Adds.{IsForPlain, IsFullKind}
+use Rattle.wait_class.specs.Queueing.{IsForBy, wait_form}
+use Rattle.wait_class.proofs.EntryForms.{for_by}
+use Rattle.wait_event.specs.WaitPlans.{IsWaitFor}
+use Rattle.wait_event.specs.Waits.{IsRunning}
+use Rattle.wait_event.specs.declared.waits.WaitCall.{WaitCall}
+
+-- a wait for a condition with a full head, one with a simple head whose entry goes to the tail, and one for a variable
+pub full_runs : (r : WaitCall) (c : ℕ) → r.watch ≡ watch.Plain c → c < FIRST_SIMPLE → IsRunning r
+full_runs r c is full = record {
+  there = subst IsThere (sym is) (omega (arith, full));
+  suits = subst (λ (w : Watch). IsWaitFor w r.how) (sym is) (λ high. absurd (omega (arith, full, high)));
+}
+
+pub tail_runs : (r : WaitCall) (c : ℕ) (how : How) → r.watch ≡ watch.Plain c → r.how ≡ how → c < PLAIN_CONDITIONS
+    → how.exclusive ≡ true → IsRunning r
+tail_runs r c how is same low tail = record {
+  there = subst IsThere (sym is) low;
+  suits = subst (λ (w : Watch). IsWaitFor w r.how) (sym is) (λ _. ap (λ (h : How). h.exclusive) same ∙ tail);
+}
+
+pub var_runs : (r : WaitCall) (v old : ℕ) (how : How) → r.watch ≡ watch.Var v old → r.how ≡ how → v < VARIABLES
+    → how.exclusive ≡ false → IsRunning r
+var_runs r v old how is same low front = record {
+  there = subst IsThere (sym is) low;
+  suits = subst (λ (w : Watch). IsWaitFor w r.how) (sym is) (ap (λ (h : How). h.exclusive) same ∙ front);
+}
+
+-- the entry of a wait may be added by the wait's form
+plain_for : (how : How) (c : ℕ) → c < PLAIN_CONDITIONS → (FIRST_SIMPLE ≤ c → how.exclusive ≡ true) → (form : Form)
+    → form ≡ wait_form how → (w : Watch) → w ≡ watch.Plain c → (k : Kind) → k ≡ kind_for w → IsForBy form w k
+plain_for how c there suits form is w same k its = by (nat_lt c FIRST_SIMPLE) refl
+  where
+    kind_is : k ≡ (if nat_lt c FIRST_SIMPLE then kind.Autoremove else kind.Simple)
+    kind_is = its ∙ ap kind_for same
+
+    by : (b : Bool) → nat_lt c FIRST_SIMPLE ≡ b → IsForBy form w k
+    by true low =
+        let few : c < FIRST_SIMPLE = grind (arith, nat_tests) in
+        for_by form w k (
+          c,
+          same,
+          few,
+          inr (inl (kind_is ∙ ap (λ (b : Bool). if b then kind.Autoremove else kind.Simple) low)),
+        )
+    by false far =
+        let high : FIRST_SIMPLE ≤ c = grind (arith, nat_tests) in
+        let tail : form ≡ forms.Tail = is ∙ ap (λ (b : Bool). if b then forms.Tail else forms.Front) (suits high) in
+        subst (λ (f : Form). IsForBy f w k) (sym tail)
+        (inr (
+          kind_is ∙ ap (λ (b : Bool). if b then kind.Autoremove else kind.Simple) far,
+          inl (c, same, high, there),
+        ))
+
+var_for : (how : How) (v : ℕ) → v < VARIABLES → how.exclusive ≡ false → (form : Form) → form ≡ wait_form how
+    → (w : Watch) → w ≡ watch.Var v 0 → (k : Kind) → k ≡ kind_for w → IsForBy form w k
+var_for how v there suits form is w same k its =
+    let front : form ≡ forms.Front = is ∙ ap (λ (b : Bool). if b then forms.Tail else forms.Front) suits in
+    subst (λ (f : Form). IsForBy f w k) (sym front) (inr (inr (its ∙ ap kind_for same, (v, same, there))))
+
+pub wait_for : (r : WaitCall) → IsRunning r → (form : Form) → form ≡ wait_form r.how → (w : Watch)
+    → w ≡ bare r.watch → (k : Kind) → k ≡ kind_for w → IsForBy form w k
+wait_for r runs form is w same k its = by r.watch runs.there runs.suits same
+  where
+    by : (u : Watch) → IsThere u → IsWaitFor u r.how → w ≡ bare u → IsForBy form w k
+    by (watch.Plain c) there suits from = plain_for r.how c there suits form is w from k its
+    by (watch.Var v o) there suits from = var_for r.how v there suits form is w from k its
+    by u there suits from = absurd suits
+
+-- the entry of a wait is none of kind Woken
+pub wait_none_woken : {A : Type 0} (w : Watch) (k : Kind) → k ≡ kind_for w → k ≡ kind.Woken → A
+wait_none_woken w k its woken = not_so w (sym its ∙ woken)
+  where
+    none_of : {A : Type 0} (b : Bool) → (if b then kind.Autoremove else kind.Simple) ≡ kind.Woken → A
+    none_of true is = absurd (cc)
+    none_of false is = absurd (cc)
+
+    not_so : {A : Type 0} (w : Watch) → kind_for w ≡ kind.Woken → A
+    not_so (watch.Plain c) is = none_of (nat_lt c FIRST_SIMPLE) is
+    not_so (watch.Done d) is = absurd (cc)
+    not_so (watch.Bit n b) is = absurd (cc)
+    not_so (watch.Var v o) is = absurd (cc)

@@ -1,0 +1,171 @@
+-- Whole waits: how they begin, and what they say at their end.
+use Rattle.std.proofs.Common.{◌∙◌, ap, sym, refl, subst}
+use Rattle.std.specs.Prelude.{ℕ, ◌≡◌, ◌||◌, ◌&&◌, not, Bool, true, false, Option, Some, None, [], ◌∷◌, ◌++◌}
+use Rattle.wait_model.specs.declared.calls.Call.{Call}
+use Rattle.wait_model.specs.declared.tasks.How.{How}
+use Rattle.wait_model.specs.declared.points.Point.{Point}
+use Rattle.wait_model.specs.declared.points.Point.TheVariants as at
+use Rattle.wait_model.specs.declared.points.PreparePoint.TheVariants as preparing
+use Rattle.wait_model.specs.declared.points.Next.TheVariants as next
+use Rattle.wait_model.specs.declared.points.Planned.{Planned}
+use Rattle.wait_model.specs.declared.steps.Step.TheVariants as step
+use Rattle.wait_model.specs.declared.watches.Entry.{Entry}
+use Rattle.wait_model.specs.declared.watches.Watch.{Watch}
+use Rattle.wait_model.specs.declared.watches.Watch.TheVariants as watch
+use Rattle.wait_model.specs.Programs.{program}
+use Rattle.wait_model.specs.Reached.{absent, IsHome}
+use Rattle.wait_model.specs.Tasks.{pending, state_mask, task_of}
+use Rattle.wait_model.specs.Watches.{head_of}
+use Rattle.wait_rule.specs.Ends.{WasWorn}
+use Rattle.wait_rule.specs.Known.{Known}
+use Rattle.wait_rule.specs.Says.{IsUp, told_of}
+use Rattle.wait_rule.specs.Queues.{IsIdle, IsTold, index}
+use Rattle.wait_rule.specs.Stays.{Carries}
+use Rattle.wait_rule.specs.Transitions.{Goes, Program, call_program}
+use Rattle.wait_rule.proofs.KnownLaws.StayingParts.{owes_also, owes_out}
+use Rattle.wait_event.specs.WaitPlans.{asked, call_for, wait_program}
+use Rattle.wait_event.specs.Waits.{IsFresh, IsRunning, IsUnset, SameCall, answer_in, left_by, point_of, queues, wait_table}
+use Rattle.wait_class.specs.Posts.{EndsWith, own_of}
+use Rattle.wait_event.specs.Ends.{EndsWait, FoundNoPlace, HasWaited, WasSignalled, end_in, wait_change}
+use Rattle.wait_class.specs.Posts.{IsOut}
+use Rattle.wait_event.specs.declared.waits.WaitOutcome.{WaitOutcome}
+use Rattle.wait_event.specs.declared.waits.WaitOutcome.TheVariants as outcome
+use Rattle.wait_event.specs.declared.waits.WaitCall.{WaitCall}
+use Rattle.wait_event.specs.declared.waits.WaitStage.{WaitStage}
+use Rattle.wait_event.specs.declared.waits.WaitStage.TheVariants as stage
+use Rattle.wait_class.specs.declared.stages.Run.{Run}
+use Rattle.wait_class.specs.declared.stages.Turn.TheVariants as turn
+use Rattle.wait_class.specs.Tables.{Advances, IsAt}
+use Rattle.wait_class.proofs.Wholes.{begins, none_of}
+use Rattle.wait_event.proofs.Plans.{program_is}
+
+-- a task that is idle, with its entry off, may begin
+pub begins_at : (k : Known) (r : Run WaitCall) → IsRunning r.of → IsTold k → IsUp k → IsIdle k → IsOut k
+    → IsAt wait_table k r stage.First
+begins_at k r runs = begins wait_table k r stage.First runs refl refl refl refl tt
+
+-- the program of a wait that asks for signals is that of the call
+asked_true : (p : Point) (e : Planned) → asked true p e ≡ e
+asked_true (at.Prepare preparing.Lock) e = refl
+asked_true p e = refl
+
+pub asks_program : (me : ℕ) (call : Call) → wait_program true me call ≡ call_program me 0 call
+asks_program me call i = record (call_program me 0 call) {
+  plan = λ p seen. asked_true p (program me call p seen) i;
+}
+
+module _ (old new : Known) (r q : Run WaitCall) (s : WaitStage) (o : WaitOutcome)
+    (a : Advances wait_table old new r q s (turn.Done o)) where
+  pub ends_up : IsUp new
+  ends_up = a.lands.up
+
+  pub ends_idle : (told_of old).mark ≡ None → IsIdle new
+  ends_idle unmarked = record {
+    running = a.lands.stands.state;
+    free = record { head = a.lands.stands.head; ticket = a.lands.stands.ticket };
+    unmarked = a.went.keeps.mark ∙ unmarked;
+  }
+
+  pub ends_out : IsOut new
+  ends_out = none_of q.of.watch ((told_of new).bits.stored (index new.view.number 0)) a.lands.stands.home
+
+  -- who began idle goes on as it was
+  pub ends_carried : IsUp old → IsIdle old → (told_of old).hold.head ≡ None
+      → Carries (wait_change (index old.view.number 0) new.at) old new
+  ends_carried up idle held =
+      let i = index old.view.number 0 in
+      let keeps = a.went.keeps in record {
+        domain = keeps.domain;
+        number = keeps.number;
+        awake = a.lands.up ∙ sym up;
+        state = a.lands.stands.state ∙ sym idle.running;
+        head = a.lands.stands.head ∙ sym idle.free.head;
+        ticket = a.lands.stands.ticket ∙ sym idle.free.ticket;
+        hold = a.lands.stands.told ∙ sym held;
+        at = refl;
+        mark = keeps.mark;
+        fewer = λ w σ none is. keeps.fewer w σ is;
+        stored = λ x none away. absurd (cc);
+        out = keeps.out;
+        stands = keeps.stands;
+        keeps = λ d _. keeps.keeps d;
+        owes = λ x owes. owes_out i x new (ap (λ (n : ℕ). (told_of new).bits.stored (index n 0)) (sym keeps.number)
+            ∙ ends_out) (keeps.owes x (owes_also i x old owes));
+      }
+
+-- what it says at its end
+module _ (old new : Known) (r q : Run WaitCall) (w : Watch) (how : How) (fresh : IsFresh r.of w how true)
+    (runs : IsRunning r.of) where
+  abbrev pub begun : (s : WaitStage) (o : WaitOutcome) (a : Advances wait_table old new r q s (turn.Done o))
+      → HasWaited old new w how (next.Go (point_of s)) (next.Ends (answer_in o)) (queues a.went.runs.transitions)
+  begun s o a = record {
+    runs = record {
+      transitions = a.went.runs.transitions;
+      goes = subst (λ (f : Program). Goes f old (next.Go (point_of s)) a.went.runs.transitions new
+          (next.Ends (answer_in o)))
+          (program_is r.of.asks old.view.number r.of.watch r.of.how runs.suits
+          ∙ (λ i. wait_program (fresh.asks_is i) old.view.number (call_for (fresh.watch_is i) (fresh.how_is i)))
+          ∙ asks_program old.view.number (call_for w how)) a.went.runs.goes;
+    };
+    tells = refl;
+  }
+
+  queued_is : (s : WaitStage) (o : WaitOutcome) (a : Advances wait_table old new r q s (turn.Done o))
+      → q.of.queued ≡ queues a.went.runs.transitions
+  queued_is s o a = a.went.tells.queued ∙ ap (λ (b : Bool). b || queues a.went.runs.transitions) fresh.queued
+
+  same_watch : SameCall r.of q.of → q.of.watch ≡ w
+  same_watch same = same.watch_is ∙ fresh.watch_is
+
+  how_is : SameCall r.of q.of → q.of.how ≡ how
+  how_is same = same.how ∙ fresh.how_is
+
+  -- it was signalled, and it found no place
+  pub was_signalled : (found : Bool) (a : Advances wait_table old new r q stage.First (turn.Done (outcome.Signalled found)))
+      → (selected : Bool) → selected ≡ (q.of.queued && not found)
+      → WasSignalled new w how q.of.seen selected (queues a.went.runs.transitions)
+  was_signalled found a selected tells =
+      let t = a.lands.trail in record {
+        look = t.0.look;
+        entry = t.0.entry;
+        showed = ap (λ (h : How). pending (state_mask h.state) (task_of t.0.look)) (sym (how_is a.went.tells.same))
+            ∙ t.0.showed.pends;
+        ends = subst (λ (u : Watch). EndsWith new (left_by (own_of new) (head_of u) t.0.look t.0.entry
+            ++ step.Load u q.of.seen ∷ [])) (same_watch a.went.tells.same) t.0.ends;
+        unset = subst (λ (u : Watch). IsUnset u q.of.seen) (same_watch a.went.tells.same) t.1;
+        selects = tells ∙ (λ i. queued_is stage.First (outcome.Signalled found) a i && not (t.0.found i));
+      }
+
+  pub found_worn : (a : Advances wait_table old new r q stage.First (turn.Done outcome.Worn)) → (h : ℕ)
+      → h ≡ head_of q.of.watch → FoundNoPlace new w h q.of.place
+  found_worn a h here =
+      let t = a.lands.trail in record {
+        head = here ∙ ap head_of (same_watch a.went.tells.same);
+        noted = subst (λ (i : ℕ). WasWorn new.view.number new.view.items i q.of.place) (sym here) t.0.noted;
+        seen = q.of.seen;
+        ends = subst (λ (i : ℕ). EndsWith new (step.Unlock i false ∷ step.Load w q.of.seen ∷ [])) (sym here)
+            (subst (λ (u : Watch). EndsWith new (step.Unlock (head_of q.of.watch) false ∷ step.Load u q.of.seen ∷ []))
+            (same_watch a.went.tells.same) t.0.ends);
+        unset = subst (λ (u : Watch). IsUnset u q.of.seen) (same_watch a.went.tells.same) t.1;
+      }
+
+-- for a plain condition
+module _ (old new : Known) (r q : Run WaitCall) (c : ℕ) (how : How) (fresh : IsFresh r.of (watch.Plain c) how true)
+    (runs : IsRunning r.of) where
+  pub ends_wait : (o : WaitOutcome) → Advances wait_table old new r q stage.First (turn.Done o)
+      → EndsWait old new c how (end_in q.of o)
+  ends_wait outcome.Over a = record {
+    queued = queues a.went.runs.transitions;
+    waited = begun old new r q (watch.Plain c) how fresh runs stage.First outcome.Over a;
+    cause = tt;
+  }
+  ends_wait (outcome.Signalled found) a = record {
+    queued = queues a.went.runs.transitions;
+    waited = begun old new r q (watch.Plain c) how fresh runs stage.First (outcome.Signalled found) a;
+    cause = was_signalled old new r q (watch.Plain c) how fresh runs found a (q.of.queued && not found) refl;
+  }
+  ends_wait outcome.Worn a = record {
+    queued = queues a.went.runs.transitions;
+    waited = begun old new r q (watch.Plain c) how fresh runs stage.First outcome.Worn a;
+    cause = found_worn old new r q (watch.Plain c) how fresh runs a (head_of q.of.watch) refl;
+  }

@@ -1,0 +1,125 @@
+-- The program of a wait point by point is that of its call in the model.
+use Rattle.std.proofs.Common.{ap, refl, subst}
+use Rattle.std.specs.Prelude.{ℕ, ◌≡◌, Bool, false, if◌then◌else◌, is_some, Some}
+use Rattle.wait_model.specs.declared.calls.Event.TheVariants as event
+use Rattle.wait_model.specs.declared.points.FinishPoint.TheVariants as finishing
+use Rattle.wait_model.specs.declared.points.LeavePoint.TheVariants as leaving
+use Rattle.wait_model.specs.declared.points.Next.{Next}
+use Rattle.wait_model.specs.declared.points.Next.TheVariants as next
+use Rattle.wait_model.specs.declared.points.Planned.{Planned}
+use Rattle.wait_model.specs.declared.points.Point.{Point}
+use Rattle.wait_model.specs.declared.points.Point.TheVariants as at
+use Rattle.wait_model.specs.declared.points.PreparePoint.TheVariants as preparing
+use Rattle.wait_model.specs.declared.points.Seen.{Seen}
+use Rattle.wait_model.specs.declared.queues.Form.{Form}
+use Rattle.wait_model.specs.declared.queues.Form.TheVariants as forms
+use Rattle.wait_model.specs.declared.tasks.How.{How}
+use Rattle.wait_model.specs.declared.watches.Watch.{Watch}
+use Rattle.wait_model.specs.declared.watches.Watch.TheVariants as watch
+use Rattle.wait_model.specs.Points.{given_at}
+use Rattle.wait_model.specs.Programs.{go, program}
+use Rattle.wait_model.specs.Tasks.{state_mask}
+use Rattle.wait_model.specs.Watches.{IsThere, head_of}
+use Rattle.wait_rule.specs.Known.{Known}
+use Rattle.wait_rule.specs.Queues.{index}
+use Rattle.wait_rule.specs.Transitions.{Goes, Program}
+use Rattle.wait_class.specs.Posts.{Runs}
+use Rattle.wait_class.specs.Queueing.{wait_form}
+use Rattle.wait_class.specs.Tables.{plan_program}
+use Rattle.wait_event.specs.WaitPlans.{IsWaitFor, asked, call_for, gives_back, kind_in, plan, wait_plan, wait_program}
+use Rattle.wait_event.specs.Waits.{IsRunning}
+use Rattle.wait_event.specs.declared.waits.WaitCall.{WaitCall}
+
+-- for a plain condition
+module _ (me c : ℕ) (how : How) where
+  plain_plan : (p : Point) (seen : Seen) → plan me (watch.Plain c) how p seen
+      ≡ program me (call_for (watch.Plain c) how) p seen
+  plain_plan (at.Prepare preparing.Lock) seen = refl
+  plain_plan (at.Prepare preparing.Look) seen = refl
+  plain_plan (at.Prepare preparing.Queue) seen = refl
+  plain_plan (at.Prepare preparing.State) seen = refl
+  plain_plan (at.Prepare preparing.Unlock) seen = refl
+  plain_plan (at.Leave leaving.Queue) seen = refl
+  plain_plan (at.Leave leaving.Unlock) seen = refl
+  plain_plan (at.Leave leaving.Load) seen = refl
+  plain_plan (at.Finish finishing.State false) seen = refl
+  plain_plan (at.Finish finishing.Look false) seen = refl
+  plain_plan (at.Finish finishing.Lock false) seen = refl
+  plain_plan (at.Finish finishing.Queue false) seen = refl
+  plain_plan (at.Finish finishing.Unlock false) seen = refl
+  plain_plan p seen = refl
+
+  plain_given : (p : Point) → record (given_at (call_for (watch.Plain c) how) p) {
+    watch = watch.Plain c;
+    kind = kind_in (watch.Plain c) p;
+  } ≡ given_at (call_for (watch.Plain c) how) p
+  plain_given p = refl
+
+  plain_program : (asks : Bool) → plan_program me 0 (wait_plan asks (watch.Plain c) how)
+      ≡ wait_program asks me (call_for (watch.Plain c) how)
+  plain_program asks i = record {
+    plan = λ p seen. asked asks p (plain_plan p seen i);
+    given = λ p. plain_given p i;
+    own = Some (index me 0);
+    form = Some (wait_form how);
+  }
+
+-- for a variable
+module _ (me v old : ℕ) (how : How) where
+  queues_at : Form → Seen → Planned
+  queues_at form seen =
+      if is_some seen.entry
+      then go (event.State (state_mask how.state)) (at.Prepare preparing.Unlock)
+      else if seen.worn
+      then gives_back (watch.Var v old) (next.Go at.Worn)
+      else go (event.Queue (head_of (watch.Var v old)) form) (at.Prepare preparing.State)
+
+  var_plan : (p : Point) (seen : Seen) → how.exclusive ≡ false → plan me (watch.Var v old) how p seen
+      ≡ program me (call_for (watch.Var v old) how) p seen
+  unfolding queues_at
+  var_plan (at.Prepare preparing.Lock) seen front = refl
+  var_plan (at.Prepare preparing.Look) seen front = refl
+  var_plan (at.Prepare preparing.Queue) seen front = ap (λ (b : Bool). queues_at (if b then forms.Tail
+      else forms.Front) seen) front
+  var_plan (at.Prepare preparing.State) seen front = refl
+  var_plan (at.Prepare preparing.Unlock) seen front = refl
+  var_plan (at.Leave leaving.Queue) seen front = refl
+  var_plan (at.Leave leaving.Unlock) seen front = refl
+  var_plan (at.Leave leaving.Load) seen front = refl
+  var_plan (at.Finish finishing.State false) seen front = refl
+  var_plan (at.Finish finishing.Look false) seen front = refl
+  var_plan (at.Finish finishing.Lock false) seen front = refl
+  var_plan (at.Finish finishing.Queue false) seen front = refl
+  var_plan (at.Finish finishing.Unlock false) seen front = refl
+  var_plan p seen front = refl
+
+  var_given : (p : Point) → record (given_at (call_for (watch.Var v old) how) p) {
+    watch = watch.Var v old;
+    kind = kind_in (watch.Var v old) p;
+  } ≡ given_at (call_for (watch.Var v old) how) p
+  var_given p = refl
+
+  var_program : (asks : Bool) → how.exclusive ≡ false → plan_program me 0 (wait_plan asks (watch.Var v old) how)
+      ≡ wait_program asks me (call_for (watch.Var v old) how)
+  var_program asks front i = record {
+    plan = λ p seen. asked asks p (var_plan p seen front i);
+    given = λ p. var_given p i;
+    own = Some (index me 0);
+    form = Some (if front i then forms.Tail else forms.Front);
+  }
+
+pub program_is : (asks : Bool) (me : ℕ) (w : Watch) (how : How) → IsWaitFor w how
+    → plan_program me 0 (wait_plan asks w how) ≡ wait_program asks me (call_for w how)
+program_is asks me (watch.Plain c) how suits = plain_program me c how asks
+program_is asks me (watch.Var v old) how suits = var_program me v old how asks suits
+program_is asks me w how suits = absurd suits
+
+-- who went through the one went through the other, by the same events
+abbrev pub runs_program : (r : WaitCall) (me : ℕ) (old new : Known) (from to : Next) → IsRunning r
+    → Runs (plan_program me 0 (wait_plan r.asks r.watch r.how)) old new from to
+    → Runs (wait_program r.asks me (call_for r.watch r.how)) old new from to
+runs_program r me old new from to runs x = record {
+  transitions = x.transitions;
+  goes = subst (λ (f : Program). Goes f old from x.transitions new to)
+      (program_is r.asks me r.watch r.how runs.suits) x.goes;
+}

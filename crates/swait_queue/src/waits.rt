@@ -1,4 +1,4 @@
-//! Waits in simple queues. In stretches they go on by `wait_event::wait_calls::stretch`, from `begin_swait` on.
+//! Waits in simple queues. In stretches they go on by `wait_class::runs::stretch`, from `begin_swait` on.
 
 ghost use Rattle.std.specs.Prelude.{◌≡◌, false, true};
 ghost use Rattle.wait_model.specs.declared.watches.Watch.TheVariants as watch;
@@ -9,13 +9,14 @@ ghost use Rattle.wait_rule.specs.Stays.{Carries};
 ghost use Rattle.wait_event.specs.declared.waits.WaitStage.TheVariants as stage;
 ghost use Rattle.wait_class.specs.Posts.{IsOut};
 ghost use Rattle.wait_event.specs.Ends.{wait_change};
-ghost use Rattle.wait_event.specs.Waits.{IsAt, IsFresh};
+ghost use Rattle.wait_class.specs.Tables.{IsAt};
+ghost use Rattle.wait_event.specs.Waits.{IsFresh, wait_table};
 ghost use Rattle.swait_queue.specs.SimpleWaits.{EndsSimpleWait, IsSimpleCond, tail_in};
 
 use std::sync::Wait;
-use wait_event::wait_calls::run_wait;
+use wait_class::runs::run;
 use wait_event::wait_events::{WaitEnd, end_of};
-use wait_event::waits::{WaitRun, WaitStage};
+use wait_event::waits::{WaitRun, WaitStage, fresh_wait};
 use wait_model::tasks::{How, SleepState};
 use wait_model::watches::Watch;
 use wait_rule::{Domain, Task};
@@ -29,12 +30,12 @@ pub fn begin_swait(task: &Task, cond: u8, state: SleepState) -> WaitRun
     requires simple { IsSimpleCond cond }
     requires listed { is_killable state ≡ false }
     requires out { IsOut task.now }
-    ensures at { IsAt task.now result stage.First }
-    ensures fresh { IsFresh result (watch.Plain cond) (tail_in state) true }
+    ensures at { IsAt wait_table task.now result stage.First }
+    ensures fresh { IsFresh result.of (watch.Plain cond) (tail_in state) true }
     ensures told { IsTold task.now }
 {
     task.told();
-    WaitRun::new(Watch::Plain { cond }, tail_in(state), true)
+    fresh_wait(Watch::Plain { cond }, tail_in(state), true)
 }
 
 /// At the tail, and in this state.
@@ -71,7 +72,7 @@ pub fn swait_event<R: Wait>(
     ensures out { IsOut task.new }
     ensures carries { Carries (wait_change (index task.old.view.number 0) task.new.at) task.old task.new }
 {
-    let mut run = begin_swait(task, cond, state);
-    let outcome = run_wait(rt, domain, task, &mut run, WaitStage::First);
-    end_of(run, outcome)
+    let mut wait = begin_swait(task, cond, state);
+    let outcome = run(rt, domain, task, &mut wait, WaitStage::First);
+    end_of(wait.of, outcome)
 }

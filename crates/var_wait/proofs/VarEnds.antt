@@ -10,12 +10,14 @@ use Rattle.wait_model.specs.Watches.{head_of, misses}
 use Rattle.wait_rule.specs.Known.{Known}
 use Rattle.wait_rule.specs.Transitions.{StepOrLook, Transition, by_step}
 use Rattle.wait_event.specs.Ends.{end_in}
-use Rattle.wait_event.specs.Waits.{Advances, IsFresh, last_loaded, loaded_by}
+use Rattle.wait_class.specs.declared.stages.Run.{Run}
+use Rattle.wait_class.specs.Tables.{Advances}
+use Rattle.wait_event.specs.Waits.{IsFresh, IsRunning, last_loaded, loaded_by, wait_table}
 use Rattle.wait_event.specs.declared.waits.WaitOutcome.{WaitOutcome}
 use Rattle.wait_event.specs.declared.waits.WaitOutcome.TheVariants as outcome
-use Rattle.wait_event.specs.declared.waits.WaitRun.{WaitRun}
+use Rattle.wait_event.specs.declared.waits.WaitCall.{WaitCall}
 use Rattle.wait_event.specs.declared.waits.WaitStage.TheVariants as stage
-use Rattle.wait_event.specs.declared.waits.WaitTurn.TheVariants as turn
+use Rattle.wait_class.specs.declared.stages.Turn.TheVariants as turn
 use Rattle.wait_event.proofs.Endings.{begun, found_worn, was_signalled}
 use Rattle.var_wait.specs.VarWaits.{EndsVarWait, shared_in, with_loaded}
 
@@ -37,25 +39,26 @@ loaded_one x d ne (t ∷ ts) is = loaded_on x d ts (loaded_one x d ne ts) t.did 
 differs : (x old : ℕ) → (x == old) ≡ false → x ≢ old
 differs x old unlike is = absurd (grind (arith, nat_tests))
 
-module _ (before new : Known) (r q : WaitRun) (v old : ℕ) (st : SleepState)
-    (fresh : IsFresh r (watch.Var v old) (shared_in st) true) where
-  pub ends_var : (o : WaitOutcome) → Advances before new r q stage.First (turn.Done o)
-      → EndsVarWait before new v old st (with_loaded q.seen (end_in q o))
+module _ (before new : Known) (r q : Run WaitCall) (v old : ℕ) (st : SleepState)
+    (fresh : IsFresh r.of (watch.Var v old) (shared_in st) true)
+    (runs : IsRunning r.of) where
+  pub ends_var : (o : WaitOutcome) → Advances wait_table before new r q stage.First (turn.Done o)
+      → EndsVarWait before new v old st (with_loaded q.of.seen (end_in q.of o))
   ends_var outcome.Over a =
       let ts = a.went.runs.transitions in
-      let ne : q.seen ≢ old = differs q.seen old (subst (λ (w : Watch). misses w q.seen ≡ false)
-      (a.same.watch_is ∙ fresh.watch_is) (a.lands.trail.over refl)) in record {
-        runs = (begun before new r q (watch.Var v old) (shared_in st) fresh stage.First outcome.Over a).runs;
+      let ne : q.of.seen ≢ old = differs q.of.seen old (subst (λ (w : Watch). misses w q.of.seen ≡ false)
+      (a.went.tells.same.watch_is ∙ fresh.watch_is) a.lands.trail) in record {
+        runs = (begun before new r q (watch.Var v old) (shared_in st) fresh runs stage.First outcome.Over a).runs;
         cause = (
-          loaded_one q.seen old ne ts (subst (λ (d : ℕ). Some q.seen ≡ last_loaded (Some d) ts) fresh.seen a.went.seen),
+          loaded_one q.of.seen old ne ts (subst (λ (d : ℕ). Some q.of.seen ≡ last_loaded (Some d) ts) fresh.seen a.went.tells.seen),
           ne,
         );
       }
-  ends_var outcome.Signalled a = record {
-    runs = (begun before new r q (watch.Var v old) (shared_in st) fresh stage.First outcome.Signalled a).runs;
-    cause = was_signalled before new r q (watch.Var v old) (shared_in st) fresh a (q.queued && not q.found) refl;
+  ends_var (outcome.Signalled found) a = record {
+    runs = (begun before new r q (watch.Var v old) (shared_in st) fresh runs stage.First (outcome.Signalled found) a).runs;
+    cause = was_signalled before new r q (watch.Var v old) (shared_in st) fresh runs found a (q.of.queued && not found) refl;
   }
   ends_var outcome.Worn a = record {
-    runs = (begun before new r q (watch.Var v old) (shared_in st) fresh stage.First outcome.Worn a).runs;
-    cause = found_worn before new r q (watch.Var v old) (shared_in st) fresh a (head_of q.watch) refl;
+    runs = (begun before new r q (watch.Var v old) (shared_in st) fresh runs stage.First outcome.Worn a).runs;
+    cause = found_worn before new r q (watch.Var v old) (shared_in st) fresh runs a (head_of q.of.watch) refl;
   }

@@ -1,4 +1,4 @@
-//! Waits for variables. In stretches they go on by `wait_event::wait_calls::stretch`, from `begin_var` on.
+//! Waits for variables. In stretches they go on by `wait_class::runs::stretch`, from `begin_var` on.
 
 ghost use Rattle.std.specs.Prelude.{◌≡◌, ◌<◌, true};
 ghost use Rattle.wait_model.specs.declared.layout.TheConstants.{VARIABLES};
@@ -9,13 +9,14 @@ ghost use Rattle.wait_rule.specs.Stays.{Carries};
 ghost use Rattle.wait_event.specs.declared.waits.WaitStage.TheVariants as stage;
 ghost use Rattle.wait_class.specs.Posts.{IsOut};
 ghost use Rattle.wait_event.specs.Ends.{end_in, wait_change};
-ghost use Rattle.wait_event.specs.Waits.{IsAt, IsFresh};
+ghost use Rattle.wait_class.specs.Tables.{IsAt};
+ghost use Rattle.wait_event.specs.Waits.{IsFresh, wait_table};
 ghost use Rattle.var_wait.specs.VarWaits.{EndsVarWait, shared_in, with_loaded};
 
 use std::sync::Wait;
-use wait_event::wait_calls::run_wait;
+use wait_class::runs::run;
 use wait_event::wait_events::{WaitEnd, end_of};
-use wait_event::waits::{WaitOutcome, WaitRun, WaitStage};
+use wait_event::waits::{WaitCall, WaitOutcome, WaitRun, WaitStage, fresh_wait};
 use wait_model::tasks::{How, SleepState};
 use wait_model::watches::Watch;
 use wait_rule::{Domain, Task};
@@ -27,12 +28,12 @@ pub fn begin_var(task: &Task, var: u8, old: u64, state: SleepState) -> WaitRun
     requires idle { IsIdle task.now }
     requires there { var < VARIABLES }
     requires out { IsOut task.now }
-    ensures at { IsAt task.now result stage.First }
-    ensures fresh { IsFresh result (watch.Var var old) (shared_in state) true }
+    ensures at { IsAt wait_table task.now result stage.First }
+    ensures fresh { IsFresh result.of (watch.Var var old) (shared_in state) true }
     ensures told { IsTold task.now }
 {
     task.told();
-    WaitRun::new(Watch::Var { var, old }, shared_in(state), true)
+    fresh_wait(Watch::Var { var, old }, shared_in(state), true)
 }
 
 /// At the front, and in this state.
@@ -71,18 +72,18 @@ pub fn wait_var<R: Wait>(
     ensures out { IsOut task.new }
     ensures carries { Carries (wait_change (index task.old.view.number 0) task.new.at) task.old task.new }
 {
-    let mut run = begin_var(task, var, old, state);
-    let outcome = run_wait(rt, domain, task, &mut run, WaitStage::First);
-    end_of_var(run, outcome)
+    let mut wait = begin_var(task, var, old, state);
+    let outcome = run(rt, domain, task, &mut wait, WaitStage::First);
+    end_of_var(wait.of, outcome)
 }
 
 /// The answer of a wait for a variable that has ended: the value that its last load found, or why it ended without
 /// another one than the old.
-pub fn end_of_var(run: WaitRun, outcome: WaitOutcome) -> Result<u64, WaitEnd>
-    ensures { result ≡ with_loaded run.seen (end_in run outcome) }
+pub fn end_of_var(wait: WaitCall, outcome: WaitOutcome) -> Result<u64, WaitEnd>
+    ensures { result ≡ with_loaded wait.seen (end_in wait outcome) }
 {
-    match end_of(run, outcome) {
-        Ok(()) => Ok(run.seen),
+    match end_of(wait, outcome) {
+        Ok(()) => Ok(wait.seen),
         Err(end) => Err(end),
     }
 }

@@ -7,7 +7,7 @@ ghost use Rattle.wait_rule.specs.Says.{IsUp};
 ghost use Rattle.wait_rule.specs.Queues.{IsIdle, IsTold, index};
 ghost use Rattle.wait_event.specs.declared.waits.WaitStage.TheVariants as stage;
 ghost use Rattle.wait_class.specs.Tables.{IsAt};
-ghost use Rattle.wait_event.specs.Waits.{IsFresh, IsRunning, wait_table};
+ghost use Rattle.wait_event.specs.Waits.{IsFresh, wait_table};
 ghost use Rattle.wait_rule.specs.Stays.{Carries};
 ghost use Rattle.wait_event.specs.Ends.{EndsWait, end_in, wait_change};
 ghost use Rattle.wait_class.specs.Posts.{IsOut};
@@ -42,7 +42,6 @@ pub fn begin_wait(task: &Task, cond: u8, how: How) -> WaitRun
     requires out { IsOut task.now }
     ensures at { IsAt wait_table task.now result stage.First }
     ensures fresh { IsFresh result.of (watch.Plain cond) how true }
-    ensures runs { IsRunning result.of }
     ensures told { IsTold task.now }
 {
     task.told();

@@ -8,12 +8,12 @@ use Rattle.swait_queue.specs.SimpleWaits.{tail_in}
 use Rattle.swait_queue.proofs.waits.begin_swait.Goals as goal
 
 pub returns-clause-fresh : goal.returns-clause-fresh
-returns-clause-fresh c = subst (λ (h : How). IsFresh c.new.result (watch.Plain c.args.cond) h true) c.tail_in.ensures
-    c.new.ensures
+returns-clause-fresh c = subst (λ (h : How). IsFresh c.fresh_wait.result.of (watch.Plain c.args.cond) h true) c.tail_in.ensures
+    c.fresh_wait.ensures
 
 pub returns-clause-at : goal.returns-clause-at
 returns-clause-at c =
     let fresh = returns-clause-fresh c in
-    begins_at c.args.task.now c.new.result (watch.Plain c.args.cond) (tail_in c.args.state) fresh
-    (tail_runs c.new.result c.args.cond (tail_in c.args.state) fresh.watch_is fresh.how_is c.requires.simple.plain refl)
+    begins_at c.args.task.now c.fresh_wait.result
+    (tail_runs c.fresh_wait.result.of c.args.cond (tail_in c.args.state) fresh.watch_is fresh.how_is c.requires.simple.plain refl)
     c.told.ensures c.requires.up c.requires.idle c.requires.out

@@ -7,27 +7,27 @@ use Rattle.swait_queue.proofs.SimpleWaitEnds.{simple_wait}
 use Rattle.swait_queue.proofs.waits.swait_event.Goals as goal
 
 pub returns-clause-waited : goal.returns-clause-waited
-returns-clause-waited g c = simple_wait c.args.task.now c.run_wait-outcome.new.task c.args.cond c.args.state
-    c.end_of.result (subst (EndsWait c.args.task.now c.run_wait-outcome.new.task c.args.cond (tail_in c.args.state))
+returns-clause-waited g c = simple_wait c.args.task.now c.run-outcome.new.task c.args.cond c.args.state
+    c.end_of.result (subst (EndsWait c.args.task.now c.run-outcome.new.task c.args.cond (tail_in c.args.state))
     (sym c.end_of.ensures)
-    (ends_wait c.args.task.now c.run_wait-outcome.new.task c.begin_swait-run.result c.run_wait-outcome.new.run
-    c.args.cond (tail_in c.args.state) c.begin_swait-run.ensures.fresh c.run_wait-outcome.result
-    c.run_wait-outcome.ensures))
+    (ends_wait c.args.task.now c.run-outcome.new.task c.begin_swait-wait.result c.run-outcome.new.run
+    c.args.cond (tail_in c.args.state) c.begin_swait-wait.ensures.fresh c.begin_swait-wait.ensures.at.fits c.run-outcome.result
+    c.run-outcome.ensures))
 
 pub returns-clause-up : goal.returns-clause-up
-returns-clause-up g c = ends_up c.args.task.now c.run_wait-outcome.new.task c.begin_swait-run.result
-    c.run_wait-outcome.new.run stage.First c.run_wait-outcome.result c.run_wait-outcome.ensures
+returns-clause-up g c = ends_up c.args.task.now c.run-outcome.new.task c.begin_swait-wait.result
+    c.run-outcome.new.run stage.First c.run-outcome.result c.run-outcome.ensures
 
 pub returns-clause-idle : goal.returns-clause-idle
-returns-clause-idle g c = ends_idle c.args.task.now c.run_wait-outcome.new.task c.begin_swait-run.result
-    c.run_wait-outcome.new.run stage.First c.run_wait-outcome.result c.run_wait-outcome.ensures
+returns-clause-idle g c = ends_idle c.args.task.now c.run-outcome.new.task c.begin_swait-wait.result
+    c.run-outcome.new.run stage.First c.run-outcome.result c.run-outcome.ensures
     c.requires.idle.unmarked
 
 pub returns-clause-out : goal.returns-clause-out
-returns-clause-out g c = ends_out c.args.task.now c.run_wait-outcome.new.task c.begin_swait-run.result
-    c.run_wait-outcome.new.run stage.First c.run_wait-outcome.result c.run_wait-outcome.ensures
+returns-clause-out g c = ends_out c.args.task.now c.run-outcome.new.task c.begin_swait-wait.result
+    c.run-outcome.new.run stage.First c.run-outcome.result c.run-outcome.ensures
 
 pub returns-clause-carries : goal.returns-clause-carries
-returns-clause-carries g c = ends_carried c.args.task.now c.run_wait-outcome.new.task c.begin_swait-run.result
-    c.run_wait-outcome.new.run stage.First c.run_wait-outcome.result c.run_wait-outcome.ensures c.requires.up
-    c.requires.idle (c.begin_swait-run.ensures.told.head ∙ c.requires.idle.free.head)
+returns-clause-carries g c = ends_carried c.args.task.now c.run-outcome.new.task c.begin_swait-wait.result
+    c.run-outcome.new.run stage.First c.run-outcome.result c.run-outcome.ensures c.requires.up
+    c.requires.idle (c.begin_swait-wait.ensures.told.head ∙ c.requires.idle.free.head)

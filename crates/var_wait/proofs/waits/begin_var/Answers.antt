@@ -8,12 +8,12 @@ use Rattle.var_wait.specs.VarWaits.{shared_in}
 use Rattle.var_wait.proofs.waits.begin_var.Goals as goal
 
 pub returns-clause-fresh : goal.returns-clause-fresh
-returns-clause-fresh c = subst (λ (h : How). IsFresh c.new.result (watch.Var c.args.var c.args.old) h true)
-    c.shared_in.ensures c.new.ensures
+returns-clause-fresh c = subst (λ (h : How). IsFresh c.fresh_wait.result.of (watch.Var c.args.var c.args.old) h true)
+    c.shared_in.ensures c.fresh_wait.ensures
 
 pub returns-clause-at : goal.returns-clause-at
 returns-clause-at c =
     let fresh = returns-clause-fresh c in
-    begins_at c.args.task.now c.new.result (watch.Var c.args.var c.args.old) (shared_in c.args.state) fresh
-    (var_runs c.new.result c.args.var c.args.old (shared_in c.args.state) fresh.watch_is fresh.how_is c.requires.there
+    begins_at c.args.task.now c.fresh_wait.result
+    (var_runs c.fresh_wait.result.of c.args.var c.args.old (shared_in c.args.state) fresh.watch_is fresh.how_is c.requires.there
     refl) c.told.ensures c.requires.up c.requires.idle c.requires.out

@@ -7,26 +7,26 @@ use Rattle.var_wait.proofs.waits.wait_var.Goals as goal
 
 pub returns-clause-waited : goal.returns-clause-waited
 returns-clause-waited g c = subst
-    (EndsVarWait c.args.task.now c.run_wait-outcome.new.task c.args.var c.args.old c.args.state)
+    (EndsVarWait c.args.task.now c.run-outcome.new.task c.args.var c.args.old c.args.state)
     (sym c.end_of_var.ensures)
-    (ends_var c.args.task.now c.run_wait-outcome.new.task c.begin_var-run.result c.run_wait-outcome.new.run
-    c.args.var c.args.old c.args.state c.begin_var-run.ensures.fresh c.run_wait-outcome.result
-    c.run_wait-outcome.ensures)
+    (ends_var c.args.task.now c.run-outcome.new.task c.begin_var-wait.result c.run-outcome.new.run
+    c.args.var c.args.old c.args.state c.begin_var-wait.ensures.fresh c.begin_var-wait.ensures.at.fits c.run-outcome.result
+    c.run-outcome.ensures)
 
 pub returns-clause-up : goal.returns-clause-up
-returns-clause-up g c = ends_up c.args.task.now c.run_wait-outcome.new.task c.begin_var-run.result
-    c.run_wait-outcome.new.run stage.First c.run_wait-outcome.result c.run_wait-outcome.ensures
+returns-clause-up g c = ends_up c.args.task.now c.run-outcome.new.task c.begin_var-wait.result
+    c.run-outcome.new.run stage.First c.run-outcome.result c.run-outcome.ensures
 
 pub returns-clause-idle : goal.returns-clause-idle
-returns-clause-idle g c = ends_idle c.args.task.now c.run_wait-outcome.new.task c.begin_var-run.result
-    c.run_wait-outcome.new.run stage.First c.run_wait-outcome.result c.run_wait-outcome.ensures
+returns-clause-idle g c = ends_idle c.args.task.now c.run-outcome.new.task c.begin_var-wait.result
+    c.run-outcome.new.run stage.First c.run-outcome.result c.run-outcome.ensures
     c.requires.idle.unmarked
 
 pub returns-clause-out : goal.returns-clause-out
-returns-clause-out g c = ends_out c.args.task.now c.run_wait-outcome.new.task c.begin_var-run.result
-    c.run_wait-outcome.new.run stage.First c.run_wait-outcome.result c.run_wait-outcome.ensures
+returns-clause-out g c = ends_out c.args.task.now c.run-outcome.new.task c.begin_var-wait.result
+    c.run-outcome.new.run stage.First c.run-outcome.result c.run-outcome.ensures
 
 pub returns-clause-carries : goal.returns-clause-carries
-returns-clause-carries g c = ends_carried c.args.task.now c.run_wait-outcome.new.task c.begin_var-run.result
-    c.run_wait-outcome.new.run stage.First c.run_wait-outcome.result c.run_wait-outcome.ensures c.requires.up
-    c.requires.idle (c.begin_var-run.ensures.told.head ∙ c.requires.idle.free.head)
+returns-clause-carries g c = ends_carried c.args.task.now c.run-outcome.new.task c.begin_var-wait.result
+    c.run-outcome.new.run stage.First c.run-outcome.result c.run-outcome.ensures c.requires.up
+    c.requires.idle (c.begin_var-wait.ensures.told.head ∙ c.requires.idle.free.head)

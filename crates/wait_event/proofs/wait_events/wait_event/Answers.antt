@@ -9,7 +9,7 @@ returns-clause-waited g c = subst (EndsWait c.args.task.now c.run-outcome.new.ta
     (sym c.end_of.ensures)
     (ends_wait c.args.task.now c.run-outcome.new.task c.begin_wait-wait.result c.run-outcome.new.run
     c.args.cond
-    c.args.how c.begin_wait-wait.ensures.fresh c.begin_wait-wait.ensures.runs c.run-outcome.result c.run-outcome.ensures)
+    c.args.how c.begin_wait-wait.ensures.fresh c.begin_wait-wait.ensures.at.fits c.run-outcome.result c.run-outcome.ensures)
 
 pub returns-clause-up : goal.returns-clause-up
 returns-clause-up g c = ends_up c.args.task.now c.run-outcome.new.task c.begin_wait-wait.result

@@ -9,4 +9,4 @@ draw-run-requires-clause-head c = subst (λ (n : ℕ). n < HEADS) (sym c.head_of
 
 pub returns : goal.returns
 returns c = draw_advances c.args.task.now c.draw-run.new.task c.args.run.now c.args.stage c.requires.here
-    c.requires.at c.head_of.result c.draw-run.result c.head_of.ensures c.draw-run.ensures
+    c.requires.at c.head_of.result c.draw-run.result c.head_of.ensures c.draw-run.ensures.step

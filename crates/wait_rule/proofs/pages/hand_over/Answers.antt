@@ -14,14 +14,14 @@ pub unqueue_handed-requires-clause-held : goal.unqueue_handed-requires-clause-he
 unqueue_handed-requires-clause-held g c = subst IsLocked (sym (c.wake_task-met.ensures.step.2
     ∙ ap (λ (k : Known). added k (item.Made (step.Wake c.args.who
     (mask_of mode.Normal) c.wake_task-met.ensures.step.0)))
-    c.handed_store.ensures)) c.requires.held
+    c.handed_store.ensures.step)) c.requires.held
 
 pub unqueue_handed-requires-clause-told : goal.unqueue_handed-requires-clause-told
 unqueue_handed-requires-clause-told g c = subst (λ (k : Known). HasTold k c.args.who c.args.slot)
     (sym (c.wake_task-met.ensures.step.2
     ∙ ap (λ (k : Known). added k (item.Made (step.Wake c.args.who
     (mask_of mode.Normal) c.wake_task-met.ensures.step.0)))
-    c.handed_store.ensures))
+    c.handed_store.ensures.step))
     (told_woken c.args.task.now c.args.who c.args.slot c.wake_task-met.ensures.step.0 c.requires.entry.0
     c.requires.entry.1)
 
@@ -29,11 +29,11 @@ pub returns : goal.returns
 returns g c =
     let w = c.wake_task-met.ensures.step in
     let is = w.2 ∙ ap (λ (k : Known). added k (item.Made (step.Wake c.args.who (mask_of mode.Normal) w.0)))
-    c.handed_store.ensures in
+    c.handed_store.ensures.step in
     record {
       found = w.0;
       lawful = w.1;
       answers = w.3;
-      is = c.unqueue_handed.ensures ∙ ap (λ (k : Known). stored_with k (step.Unqueue (index c.args.who c.args.slot)))
+      is = c.unqueue_handed.ensures.step ∙ ap (λ (k : Known). stored_with k (step.Unqueue (index c.args.who c.args.slot)))
           is;
     }

@@ -30,7 +30,7 @@ draw-run-requires-in-Next-clause-head c =
     omega (arith, small, is)
 
 pub returns-in-First-clause-rouses : goal.returns-in-First-clause-rouses
-returns-in-First-clause-rouses c = subst (RousesNone c.args.task.now) (sym c.draw-run.ensures)
+returns-in-First-clause-rouses c = subst (RousesNone c.args.task.now) (sym c.draw-run.ensures.step)
     (none_added c.args.task.now (item.Drawn c.args.head c.draw-run.result) refl)
 
 pub returns-in-Next-clause-drawn : goal.returns-in-Next-clause-drawn

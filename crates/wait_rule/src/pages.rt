@@ -165,7 +165,8 @@ pub fn hand_over<R: Wait>(rt: &R, domain: &Domain, task: &mut Task, who: u8, slo
     requires slot { slot < SLOTS }
     requires taken { HasTaken task.old who slot }
     requires entry { (e : Entry) × ShowsEntry task.old (index who slot) e }
-    ensures { HandsOver task.old task.new who slot result }
+    ensures hands { HandsOver task.old task.new who slot result }
+    ensures carries { Carries (take_off_change (index who slot)) task.old task.new }
 {
     handed_store(domain, task, who, slot);
     let met = wake_task(rt, domain, task, who, Mode::Normal);

@@ -2,7 +2,6 @@
 -- hold tells other tasks.
 use Rattle.std.proofs.Common.{◌∙◌, ap, sym, refl, subst}
 use Rattle.std.specs.Prelude.{ℕ, ◌≡◌, ◌&&◌, ◌||◌, ◌==◌, not, Bool, true, false, if◌then◌else◌, Option, Some, None}
-use Rattle.wait_model.specs.declared.watches.Watch.{Watch}
 use Rattle.wait_model.specs.declared.watches.Aim.{Aim}
 use Rattle.wait_model.specs.declared.steps.Step.TheVariants as step
 use Rattle.wait_model.specs.declared.tasks.Sleep.{Sleep}
@@ -54,16 +53,7 @@ use Rattle.wait_rule.specs.Tickets.{Ticket, after_serving, drawn, given, no_tick
 use Rattle.wait_model.specs.Fold.{after, view_of}
 use Rattle.wait_rule.proofs.KnownLaws.AfterSteps.{told_added}
 use Rattle.wait_rule.proofs.KnownLaws.AskedPages.{asked_added}
-use Rattle.wait_rule.proofs.KnownLaws.Debts.{
-  LeavesNone,
-  added_debts,
-  end_added,
-  item_begins_none,
-  leaves_added,
-  leaves_of,
-  list_debts,
-  wakes_told,
-}
+use Rattle.wait_rule.proofs.KnownLaws.Debts.{LeavesNone, added_debts, end_added, item_begins_none, leaves_added, list_debts, wakes_told}
 use Rattle.wait_rule.proofs.KnownLaws.SettledTasks.{owes_told, unlock_mark}
 
 -- One item more that begins no debt, over which the bookmark and all that is told of bits stay, by what it changes of the

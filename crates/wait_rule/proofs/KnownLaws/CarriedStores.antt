@@ -1,56 +1,19 @@
 -- What a task carries on over stores of own words in a hold, with and without the store of the member bit.
-use Rattle.std.proofs.Common.{◌∙◌, ap, sym, refl, subst, eq-eqb, eqb-true}
-use Rattle.std.specs.Prelude.{
-  ℕ,
-  ◌≡◌,
-  ◌≢◌,
-  ◌<◌,
-  ◌&&◌,
-  ◌||◌,
-  ◌==◌,
-  not,
-  Bool,
-  true,
-  false,
-  Option,
-  Some,
-  None,
-  [],
-  ◌∷◌,
-}
+use Rattle.std.proofs.Common.{◌∙◌, ap, sym, refl, subst, eq-eqb}
+use Rattle.std.specs.Prelude.{ℕ, ◌≡◌, ◌≢◌, ◌<◌, ◌&&◌, ◌||◌, ◌==◌, not, Bool, true, false, Option, Some, None}
 use Rattle.wait_model.specs.declared.layout.TheConstants.{FIRST_DONE_HEAD}
 use Rattle.wait_model.specs.declared.watches.Watch.{Watch}
 use Rattle.wait_model.specs.declared.watches.Entry.{Entry}
 use Rattle.wait_model.specs.declared.queues.Mark.{Mark}
-use Rattle.wait_model.specs.declared.steps.Step.{Step}
 use Rattle.wait_model.specs.declared.steps.Step.TheVariants as step
 use Rattle.wait_model.specs.Fold.{after}
-use Rattle.wait_model.specs.Views.{View as Told, Bits, Duty as Owed, is_trying_for}
+use Rattle.wait_model.specs.Views.{View as Told, is_trying_for}
 use Rattle.wait_model.specs.Watches.{head_of, is_bit, is_page, same}
 use Rattle.wait_model.proofs.Functions.{put_at, put_same}
-use Rattle.wait_rule.specs.declared.journal.Item.{Item}
 use Rattle.wait_rule.specs.declared.journal.Item.TheVariants as item
 use Rattle.wait_rule.specs.Known.{Known}
 use Rattle.wait_rule.specs.Queues.{index, marked}
-use Rattle.wait_rule.specs.Says.{
-  Debts,
-  Duty,
-  Excuse,
-  IsOutBut,
-  Owes,
-  TriesNone,
-  added,
-  asks_for,
-  end_unclosed,
-  excuses,
-  has_duty,
-  has_end,
-  is_excused,
-  page_asked,
-  stored_with,
-  told_of,
-  wake_of,
-}
+use Rattle.wait_rule.specs.Says.{Debts, Duty, Excuse, IsOutBut, Owes, TriesNone, added, asks_for, end_unclosed, excuses, has_duty, is_excused, page_asked, stored_with, told_of, wake_of}
 use Rattle.wait_rule.specs.Asked.{is_asking}
 use Rattle.wait_rule.specs.Stays.{
   Carries,
@@ -62,7 +25,7 @@ use Rattle.wait_rule.specs.Stays.{
   with_left_entry,
   with_page,
 }
-use Rattle.wait_rule.specs.Stores.{StaysOver, StoresEntry, StoresMark, TriesNoBit, mark_place}
+use Rattle.wait_rule.specs.Stores.{StaysOver, StoresEntry, StoresMark, TriesNoBit}
 use Rattle.wait_rule.proofs.KnownLaws.AfterSteps.{told_added}
 use Rattle.wait_rule.proofs.KnownLaws.Debts.{
   LeavesNone,
@@ -79,7 +42,7 @@ use Rattle.wait_rule.proofs.KnownLaws.Debts.{
   stored_debts,
 }
 use Rattle.wait_rule.proofs.KnownLaws.MemberBits.{told_stored}
-use Rattle.wait_rule.proofs.KnownLaws.StayingParts.{owes_also, owes_left, owes_out}
+use Rattle.wait_rule.proofs.KnownLaws.StayingParts.{owes_also, owes_out}
 
 -- what such a store leaves of the book
 record Beside (old new : Known) : Type 0 where

@@ -85,12 +85,6 @@ lock_stays = record {
   looks = λ i c g old new out l. lock_keeps_looks c g i old new out l;
 }
 
--- the event of a way that tests
-pub either_event : (P : Event → Type 0) (b : Bool) (x y : Planned) → P x.event → P y.event
-    → P (if b then x else y).event
-either_event P true x y one two = one
-either_event P false x y one two = two
-
 -- The bit is tried, where no head is held: by the way that it goes.
 module _ {C S O : Type 0} (t : Table C S O) (old new : Known) (r : Run C) (s : S) (w n v : ℕ)
     (bit : watch_in t r.of ≡ watch.Bit w n)

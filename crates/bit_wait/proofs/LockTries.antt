@@ -42,7 +42,8 @@ use Rattle.bit_wait.specs.declared.lock_runs.LockBit.{LockBit}
 use Rattle.bit_wait.specs.declared.lock_runs.LockOutcome.TheVariants as outcome
 use Rattle.bit_wait.specs.declared.lock_runs.LockTest.{LockTest}
 use Rattle.bit_wait.specs.declared.lock_runs.LockTest.TheVariants as test
-use Rattle.bit_wait.proofs.LockKinds.{either_event, set_goes}
+use Rattle.wait_class.proofs.Ways.{either_event}
+use Rattle.bit_wait.proofs.LockKinds.{set_goes}
 use Rattle.bit_wait.proofs.LockLaws.{more_signal}
 
 -- no head is held there

@@ -24,7 +24,7 @@ use Rattle.wait_class.specs.Posts.{IsOut}
 use Rattle.wait_event.specs.Ends.{wait_change}
 use Rattle.wait_class.specs.Posts.{EndsWith, own_of}
 use Rattle.wait_event.specs.Waits.{queues}
-use Rattle.wait_event.proofs.Endings.{none_of}
+use Rattle.wait_class.proofs.Wholes.{none_of}
 use Rattle.completion_cell.specs.AwaitEnds.{EndsAwait, HasAwaited, end_in}
 use Rattle.completion_cell.specs.Awaits.{
   Advances,

@@ -70,7 +70,7 @@ use Rattle.wait_class.specs.Posts.{Runs}
 use Rattle.wait_event.specs.Waits.{is_queue, queues}
 use Rattle.wait_class.specs.Findings.{nothing, with_value}
 use Rattle.wait_event.proofs.Entering.{runs_lock, unlock_looks}
-use Rattle.wait_event.proofs.Events.Turns.{either_event}
+use Rattle.wait_class.proofs.Ways.{either_event}
 use Rattle.wait_class.proofs.Ground.Going.{runs_one}
 
 -- the head of a completion is there

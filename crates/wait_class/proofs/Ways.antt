@@ -165,6 +165,12 @@ module _ {C S O : Type 0} (t : Table C S O) (r : C) (s : S) (fresh : t.drawn s �
     trail = trail;
   }
 
+-- the event of a way that tests
+pub either_event : (P : Event → Type 0) (b : Bool) (x y : Planned) → P x.event → P y.event
+    → P (if b then x else y).event
+either_event P true x y one two = one
+either_event P false x y one two = two
+
 -- a program that goes one of two ways behind the same event
 pub go_if : (b : Bool) (e : Event) (p q : Point) → go e (if b then p else q) ≡ (if b then go e p else go e q)
 go_if true e p q = refl

@@ -60,3 +60,5 @@ pub mod CarriedCounts
 pub mod CarriedFlags
 pub mod CarriedBits
 pub mod CarriedPages
+pub mod CarriedSteps
+pub mod CarriedStores

@@ -5,12 +5,12 @@ use Rattle.wait_model.specs.declared.layout.TheConstants.{SLOTS}
 use Rattle.wait_model.specs.declared.watches.Watch.{Watch}
 use Rattle.wait_model.specs.declared.watches.Entry.{Entry}
 use Rattle.wait_model.specs.declared.watches.Mode.TheVariants as mode
-use Rattle.wait_model.specs.Watches.{same}
+use Rattle.wait_model.specs.Watches.{page, same}
 use Rattle.wait_rule.specs.Known.{Known}
 use Rattle.wait_rule.specs.Members.{IsOwnKind}
 use Rattle.wait_rule.specs.Says.{Excuse, Owes, told_of}
 use Rattle.wait_rule.specs.Queues.{index}
-use Rattle.wait_rule.specs.Stays.{with_bit, with_bits, with_wakes}
+use Rattle.wait_rule.specs.Stays.{with_bit, with_bits, with_page, with_wakes}
 
 -- its history tells that it keeps the bit: it set it, found it clear, and has not cleared it since
 abbrev pub KeepsBitOf : Known → Watch → Type 0
@@ -53,3 +53,9 @@ pub record ClearsBit (old new : Known) (c : Watch) : Type 0 where
   pub stays : StaysBeside (λ d. same d c) old new
   pub keeps : (told_of new).bits.keeps c ≡ false
   pub owes : (x : Excuse) → Owes (with_bit c x) old → Owes (with_wakes c mode.Normal x) new
+
+-- It took note of a page that was taken for it: it keeps it from then on, and asks for none any more.
+pub record NotesPage (old new : Known) (p : ℕ) : Type 0 where
+  pub stays : StaysBeside (λ d. same d (page p)) old new
+  pub duty : (told_of new).duty ≡ (told_of old).duty
+  pub owes : (x : Excuse) → Owes (with_page x) old → Owes (with_bit (page p) x) new

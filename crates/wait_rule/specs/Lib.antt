@@ -35,6 +35,7 @@ pub mod Selecting
 pub mod WorkedEvents
 pub mod Queues
 pub mod Stays
+pub mod Stores
 pub mod Shown
 pub mod Counts
 pub mod CountPlays

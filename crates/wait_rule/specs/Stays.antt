@@ -8,11 +8,13 @@ use Rattle.wait_model.specs.declared.watches.Watch.TheVariants as watch
 use Rattle.wait_model.specs.declared.watches.Entry.{Entry}
 use Rattle.wait_model.specs.declared.watches.Mode.{Mode}
 use Rattle.wait_model.specs.declared.watches.Mode.TheVariants as mode
+use Rattle.wait_model.specs.declared.tasks.Sleep.{Sleep}
+use Rattle.wait_model.specs.declared.tasks.Sleep.TheVariants as sleep
 use Rattle.wait_model.specs.Tasks.{meets}
 use Rattle.wait_model.specs.Watches.{same, mask_of, head_of}
 use Rattle.wait_model.specs.Words.{entry_of}
 use Rattle.wait_rule.specs.Known.{Known}
-use Rattle.wait_rule.specs.Tickets.{Ticket, no_ticket, taken}
+use Rattle.wait_rule.specs.Tickets.{Ticket, given, no_ticket, taken}
 use Rattle.wait_rule.specs.Members.{IsOwnKind}
 use Rattle.wait_rule.specs.Says.{Debts, Excuse, Owes, TriesNone, told_of}
 use Rattle.wait_rule.specs.Queues.{MayUnqueue, index}
@@ -74,14 +76,15 @@ abbrev pub with_bit : Watch → Excuse → Excuse
 with_bit c x = with_bits (λ d. same d c) x
 
 -- What a call changes of a task: what it owes, from an excuse before the call to one after it; which entry words,
--- and whether it looks at others; its state; the head that it holds, the ticket that it has out, and the head that it
--- took last; and of which watches it may owe wakes anew.
+-- and whether it looks at others; its state, and whether it is awake; the head that it holds, the ticket that it has
+-- out, and the head that it took last; and of which watches it may owe wakes anew.
 pub record Change : Type 0 where
   pub from : Excuse → Excuse
   pub to : Excuse → Excuse
   pub but : ℕ → Bool
   pub looks : Bool
   pub state : ℕ → ℕ
+  pub awake : Bool → Bool
   pub head : Option ℕ → Option ℕ
   pub ticket : Ticket → Ticket
   pub at : ℕ → ℕ
@@ -94,6 +97,7 @@ unchanged = record {
   but = no_entries;
   looks = false;
   state = λ σ. σ;
+  awake = λ a. a;
   head = λ h. h;
   ticket = λ t. t;
   at = λ h. h;
@@ -148,15 +152,42 @@ close_change k = record unchanged {
   publishes = λ d. same d (watch.Var k 0);
 }
 
--- What stays of a task over a call that changes no more than this. It is the same task of the same Domain, as awake,
--- with the same bookmark out. It owes no wake that it did not owe, of any watch and state, but of what it published.
+-- The changes of single steps. A sleep, by its answer; a look at the own word, by whether the task was awake before, and
+-- whether the word is runnable; a step on the ticket that is out; an unlock whose serve is still to come; and a store of
+-- an own entry word, with no look: of an entry at a completion, of one for a page, and of another one.
+abbrev pub sleep_change : Sleep → Change
+sleep_change sleep.Asleep = record unchanged { awake = λ _. false }
+sleep_change sleep.Stay = state_change 0
+sleep_change sleep.Signal = state_change 0
+
+abbrev pub rise_change : Bool → Bool → Change
+rise_change false true = record unchanged { state = λ _. 0; awake = λ _. true }
+rise_change _ _ = unchanged
+
+abbrev pub ticket_change : (Ticket → Ticket) → Change
+ticket_change t = record unchanged { ticket = t }
+
+abbrev pub give_change : ℕ → Change
+give_change h = record unchanged { head = λ _. None; ticket = λ _. given h }
+
+abbrev pub put_change : ℕ → Change
+put_change i = record unchanged { to = with_entry i; but = only i }
+
+abbrev pub put_cell_change : ℕ → Change
+put_cell_change i = record unchanged { to = λ x. with_left_entry (with_entry i x); but = only i }
+
+abbrev pub put_page_change : ℕ → Change
+put_page_change i = record unchanged { to = λ x. with_page (with_entry i x); but = only i }
+
+-- What stays of a task over a call that changes no more than this. It is the same task of the same Domain, with the
+-- same bookmark out. It owes no wake that it did not owe, of any watch and state, but of what it published.
 -- What it had stored of an entry word stays, where the call looks at none; an own entry that no other task may take off
 -- stands in any case, and where none was stored, none is. It keeps the bits that it kept, but for what it published.
 -- What it owes is carried on for each excuse.
 pub record Carries (c : Change) (old new : Known) : Type 0 where
   pub domain : new.domain ≡ old.domain
   pub number : new.view.number ≡ old.view.number
-  pub awake : new.book.awake ≡ old.book.awake
+  pub awake : new.book.awake ≡ c.awake old.book.awake
   pub state : new.book.state ≡ c.state old.book.state
   pub head : new.book.head ≡ c.head old.book.head
   pub ticket : new.book.ticket ≡ c.ticket old.book.ticket

@@ -14,7 +14,8 @@ ghost use Rattle.wait_model.specs.Tables.{mark_of};
 ghost use Rattle.wait_model.specs.Words.{entry_of, entry_word};
 ghost use Rattle.wait_rule.specs.LookCounts.{Looked};
 ghost use Rattle.wait_rule.specs.MemberLooks.{SawWord};
-ghost use Rattle.wait_rule.specs.Stays.{Carries, unchanged};
+ghost use Rattle.wait_rule.specs.Stays.{Carries, take_off_change, unchanged};
+ghost use Rattle.wait_rule.specs.Stores.{StoresEntry, StoresMark};
 
 use crate::domain::{Domain, Task};
 use crate::queue_plays::{ScanMembers, SeeMembers, StoreMember};
@@ -31,7 +32,8 @@ pub fn member_store(domain: &Domain, task: &mut Task, head: u16, index: u16, on:
     requires head { head < HEADS }
     requires index { index < MEMBERS }
     requires may { MayStoreMember task.old head index on }
-    ensures { task.new ≡ added task.old item.Member }
+    ensures step { task.new ≡ added task.old item.Member }
+    ensures carries { Carries unchanged task.old task.new }
 {
     let at = member_at(head, (index / WORD_BITS) as u8) as usize;
     let bit = 1u64 << (index % WORD_BITS);
@@ -91,8 +93,10 @@ pub fn queue_member(domain: &Domain, task: &mut Task, slot: u8, word: EntryWord)
     requires slot { slot < SLOTS }
     requires may { (e : Entry) × (word.0 ≡ entry_word (Some e)) × MayQueue task.old slot e }
     requires permits { FoundNoPermit task.old slot }
-    ensures { (e : Entry) × (entry_of word.0 ≡ Some e)
+    ensures step { (e : Entry) × (entry_of word.0 ≡ Some e)
         × (task.new ≡ stored_with task.old (step.Queue (index task.old.view.number slot) e)) }
+    ensures stores { (e : Entry) → entry_of word.0 ≡ Some e
+        → StoresEntry (index task.old.view.number slot) e task.old task.new }
 {
     let head = task.head;
     let index = SLOTS * u16::from(task.number()) + u16::from(slot);
@@ -108,7 +112,8 @@ pub fn unqueue_member(domain: &Domain, task: &mut Task, who: u8, slot: u8)
     requires agreed { IsAgreed task.old }
     requires slot { slot < SLOTS }
     requires may { MayUnqueue task.old who slot }
-    ensures { task.new ≡ stored_with task.old (step.Unqueue (index who slot)) }
+    ensures step { task.new ≡ stored_with task.old (step.Unqueue (index who slot)) }
+    ensures carries { Carries (take_off_change (index who slot)) task.old task.new }
 {
     let head = task.head;
     let index = SLOTS * u16::from(who) + u16::from(slot);
@@ -123,7 +128,8 @@ pub fn mark_member(domain: &Domain, task: &mut Task, word: u64)
     requires held { IsLocked task.old }
     requires agreed { IsAgreed task.old }
     requires may { MayStoreMark task.old word }
-    ensures { task.new ≡ stored_with task.old (marked (mark_of word)) }
+    ensures step { task.new ≡ stored_with task.old (marked (mark_of word)) }
+    ensures stores { StoresMark (mark_of word) task.old task.new }
 {
     let head = task.head;
     let index = ENTRIES + u16::from(task.number());

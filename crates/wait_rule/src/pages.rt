@@ -9,13 +9,13 @@ ghost use Rattle.wait_model.specs.declared.steps.Step.TheVariants as step;
 ghost use Rattle.wait_model.specs.Watches.{page};
 ghost use Rattle.wait_rule.specs.declared.journal.Item.TheVariants as item;
 ghost use Rattle.wait_rule.specs.Asked.{given_at};
-ghost use Rattle.wait_rule.specs.Bits.{KeepsBitOf};
+ghost use Rattle.wait_rule.specs.Bits.{KeepsBitOf, NotesPage};
 ghost use Rattle.wait_rule.specs.PageCalls.{tried_for_play, told_play, flag_word_play, noted_play};
 ghost use Rattle.wait_rule.specs.PageCalls.{HandsOver, HasTaken, HasTold, IsFlagWord, MayTryFor};
 ghost use Rattle.wait_rule.specs.PageCalls.{QueuesNoPage, ShowsGiven, ShowsNone};
 ghost use Rattle.wait_rule.specs.Queues.{IsAgreed, IsLocked, ShowsEntry, index};
 ghost use Rattle.wait_rule.specs.Says.{IsUp, added, asks_for, stored_with};
-ghost use Rattle.wait_rule.specs.Stays.{Carries, unchanged};
+ghost use Rattle.wait_rule.specs.Stays.{Carries, take_off_change, unchanged};
 
 use crate::domain::{Domain, Task};
 use crate::journal::{Ask, Journal};
@@ -83,7 +83,8 @@ pub fn bit_set_for(domain: &Domain, task: &mut Task, word: u8, who: u8, slot: u8
     requires word { word < BIT_WORDS }
     requires slot { slot < SLOTS }
     requires may { MayTryFor task.old who slot word }
-    ensures { task.new ≡ added task.old (item.Made (step.TasFor (index who slot) word result)) }
+    ensures step { task.new ≡ added task.old (item.Made (step.TasFor (index who slot) word result)) }
+    ensures carries { Carries unchanged task.old task.new }
 {
     set_for::<Brand>(domain, task, word, who, slot)
 }
@@ -112,7 +113,8 @@ pub fn handed_store(domain: &Domain, task: &mut Task, who: u8, slot: u8)
     requires up { IsUp task.old }
     requires slot { slot < SLOTS }
     requires taken { HasTaken task.old who slot }
-    ensures { task.new ≡ added task.old (item.Made (step.Handed (index who slot))) }
+    ensures step { task.new ≡ added task.old (item.Made (step.Handed (index who slot))) }
+    ensures carries { Carries unchanged task.old task.new }
 {
     let at = flag_at(who, slot) as usize;
     domain
@@ -129,7 +131,8 @@ pub fn handed_unqueue(domain: &Domain, task: &mut Task, who: u8, slot: u8)
     requires held { IsLocked task.old }
     requires slot { slot < SLOTS }
     requires told { HasTold task.old who slot }
-    ensures { task.new ≡ added task.old (item.Made (step.Unqueue (index who slot))) }
+    ensures step { task.new ≡ added task.old (item.Made (step.Unqueue (index who slot))) }
+    ensures carries { Carries (take_off_change (index who slot)) task.old task.new }
 {
     let at = entry_at(who, slot) as usize;
     domain.table.shared.store::<Unqueued>(&mut task.seat, at, 0);
@@ -142,7 +145,8 @@ pub fn unqueue_handed(domain: &Domain, task: &mut Task, who: u8, slot: u8)
     requires held { IsLocked task.old }
     requires slot { slot < SLOTS }
     requires told { HasTold task.old who slot }
-    ensures { task.new ≡ stored_with task.old (step.Unqueue (index who slot)) }
+    ensures step { task.new ≡ stored_with task.old (step.Unqueue (index who slot)) }
+    ensures carries { Carries (take_off_change (index who slot)) task.old task.new }
 {
     let head = task.head;
     let index = SLOTS * u16::from(who) + u16::from(slot);
@@ -161,7 +165,8 @@ pub fn hand_over<R: Wait>(rt: &R, domain: &Domain, task: &mut Task, who: u8, slo
     requires slot { slot < SLOTS }
     requires taken { HasTaken task.old who slot }
     requires entry { (e : Entry) × ShowsEntry task.old (index who slot) e }
-    ensures { HandsOver task.old task.new who slot result }
+    ensures hands { HandsOver task.old task.new who slot result }
+    ensures carries { Carries (take_off_change (index who slot)) task.old task.new }
 {
     handed_store(domain, task, who, slot);
     let met = wake_task(rt, domain, task, who, Mode::Normal);
@@ -196,6 +201,7 @@ pub fn page_note(domain: &Domain, task: &mut Task, slot: u8, word: u8)
     requires off { QueuesNoPage task.old (index task.old.view.number slot) }
     ensures step { task.new ≡ added task.old (item.Made (step.Unflag (index task.old.view.number slot) (Some word))) }
     ensures keeps { KeepsBitOf task.new (page word) }
+    ensures notes { NotesPage task.old task.new word }
 {
     note_as::<Brand>(domain, task, slot, word);
 }

@@ -6,6 +6,8 @@ ghost use Rattle.wait_model.specs.declared.layout.TheConstants.{HEADS};
 ghost use Rattle.wait_rule.specs.declared.journal.Item.TheVariants as item;
 ghost use Rattle.wait_rule.specs.Says.{IsFree, IsUp, ServesUnlocks, added};
 ghost use Rattle.wait_rule.specs.Queues.{HasGiven};
+ghost use Rattle.wait_rule.specs.Stays.{Carries, ticket_change};
+ghost use Rattle.wait_rule.specs.Tickets.{after_serving, drawn, no_ticket};
 
 use crate::domain::{Domain, Task};
 use crate::queue_plays::{Draw, LoadServing, Serve};
@@ -19,7 +21,8 @@ pub fn draw(domain: &Domain, task: &mut Task, head: u16) -> u64
     requires up { IsUp task.old }
     requires free { IsFree task.old }
     requires head { head < HEADS }
-    ensures { task.new ≡ added task.old (item.Drawn head result) }
+    ensures step { task.new ≡ added task.old (item.Drawn head result) }
+    ensures carries { Carries (ticket_change (λ _. drawn head result)) task.old task.new }
 {
     let at = next_at(head) as usize;
     domain.table.shared.fetch_add::<Draw>(&mut task.seat, at, 1)
@@ -34,6 +37,7 @@ pub fn serving_load(domain: &Domain, task: &mut Task, head: u16) -> u64
     requires head { head < HEADS }
     ensures step { task.new ≡ added task.old (item.Serving head result) }
     ensures counts { ServesUnlocks task.old.view head result }
+    ensures carries { Carries (ticket_change (after_serving head result)) task.old task.new }
 {
     let at = serving_at(head) as usize;
     domain.table.shared.load::<LoadServing>(&mut task.seat, at)
@@ -70,6 +74,7 @@ pub fn serve(domain: &Domain, task: &mut Task) -> Passed
     requires given { HasGiven task.old }
     ensures served { task.new ≡ added task.old item.Served }
     ensures head { result.head ≡ task.old.at }
+    ensures carries { Carries (ticket_change (λ _. no_ticket)) task.old task.new }
 {
     let head = task.head;
     let at = serving_at(head) as usize;

@@ -156,7 +156,7 @@ wakes_after (step.Flag x w) v is c σ none = none
 wakes_after (step.TasFor x p r) v is c σ none = none
 wakes_after (step.Handed x) v is c σ none = none
 
-wakes_told : (x : Item) (v : Told) → item_begins_none x ≡ true → (c : Watch) (σ : ℕ) → v.duty.owes c σ ≡ false
+pub wakes_told : (x : Item) (v : Told) → item_begins_none x ≡ true → (c : Watch) (σ : ℕ) → v.duty.owes c σ ≡ false
     → (tell x v).duty.owes c σ ≡ false
 wakes_told (item.Made e) v is c σ none = wakes_after e v is c σ none
 wakes_told (item.Awake w) v is c σ none = none
@@ -313,7 +313,7 @@ same_excused x page_asked = refl
 same_excused x (end_unclosed e) = refl
 
 module _ (x : Excuse) (k : Known) (i : ℕ) (f : Entry) (unpaged : is_page f.kind ≡ false) (d : Debts x k) where
-  abbrev queued_now : Known
+  abbrev pub queued_now : Known
   queued_now = added k (item.Made (step.Queue i f))
 
   entry_of_queue : (y : ℕ) (e : Entry) → step.Queue i f ≡ step.Queue y e → e ≡ f
@@ -330,7 +330,7 @@ module _ (x : Excuse) (k : Known) (i : ℕ) (f : Entry) (unpaged : is_page f.kin
       (λ none. end_added k (item.Made (step.Queue i f)) e
       ∙ step_closed e (step.Queue i f) (end_of e k.view.items) none) (d.none (end_unclosed e))
 
-  queued_left : Debts (with_left_entry x) queued_now
+  pub queued_left : Debts (with_left_entry x) queued_now
   unfolding with_left_entry
   queued_left = record {
     none = λ o. ap (λ (b : Bool). has_duty queued_now o && not b) (same_excused x o) ∙ queued_none o;

@@ -11,7 +11,7 @@ use Rattle.wait_model.specs.Tables.{Table, met}
 use Rattle.wait_model.specs.Tasks.{meets}
 use Rattle.wait_model.specs.Watches.{same, mask_of, owner}
 use Rattle.wait_model.specs.Owed.{Owes as OwesWake}
-use Rattle.wait_model.specs.Wakes.{IsCovered, IsTried, Sleeps, UsedUp}
+use Rattle.wait_model.specs.Wakes.{IsCovered, IsTried, UsedUp}
 use Rattle.wait_model.proofs.Sameness.{same_trans}
 use Rattle.wait_rule.specs.declared.journal.Item.{Item}
 use Rattle.wait_rule.specs.Items.{steps_of}

@@ -2,19 +2,21 @@
 
 ghost use Rattle.std.specs.Prelude.{◌≡◌, ◌<◌, true, None};
 ghost use Rattle.wait_model.specs.declared.layout.TheConstants.{TASKS, ENTRIES, HEADS, MEMBER_WORDS, FIRST_PLAIN_HEAD};
+ghost use Rattle.wait_model.specs.declared.layout.TheConstants.{FIRST_SIMPLE_HEAD};
+ghost use Rattle.wait_model.specs.Tasks.{IsState};
 ghost use Rattle.wait_rule.specs.declared.journal.Item.TheVariants as item;
 ghost use Rattle.wait_rule.specs.Asked.{nothing_asked};
 ghost use Rattle.wait_rule.specs.Says.{IsUp, IsFree, asks_for, noted, added};
 ghost use Rattle.wait_rule.specs.Queues.{IsTurn, IsLocked, IsAgreed, MayRise};
 ghost use Rattle.wait_rule.specs.LookCounts.{Looked};
-ghost use Rattle.wait_rule.specs.Stays.{Carries, unchanged};
+ghost use Rattle.wait_rule.specs.Stays.{Carries, StaysOwing, unchanged};
 ghost use Rattle.wait_rule.specs.Looking.{HasSeenEntries, HasSeenMarks, IsSelectingHold, ShowsNone};
 
 use std::sync::Wait;
 use std::test::Fail;
 use wait_model::entry_words::EntryWord;
 use wait_model::layout::{
-    ENTRIES, FIRST_DONE_HEAD, FIRST_PLACE, FIRST_PLAIN_HEAD, MEMBER_WORDS, SLOTS, TASKS,
+    ENTRIES, FIRST_DONE_HEAD, FIRST_PLACE, FIRST_PLAIN_HEAD, MEMBER_WORDS, RUNNING, SLOTS, TASKS,
     UNINTERRUPTIBLE,
 };
 use wait_model::queues::Mark;
@@ -36,9 +38,43 @@ pub(crate) fn take_turn(domain: &Domain, task: &mut Task, head: u16) -> bool
     requires head { head < HEADS }
     ensures steps { (n : _) × (w : _) × (task.new ≡ added (added task.old (item.Drawn head n)) (item.Serving head w)) }
     ensures turn { result ≡ true → IsTurn task.new head }
+    ensures owing { StaysOwing task.old task.new }
 {
     let ticket = draw(domain, task, head);
     serving_load(domain, task, head) == ticket
+}
+
+/// A hold by single steps in which a state is stored, of a task whose ticket is served at once: whatever it is excused
+/// of, it owes no more behind it, by what each step carries. False where another ticket is served: its own is out then.
+fn pass_by_steps(domain: &Domain, task: &mut Task, head: u16, state: u32) -> bool
+    requires of { task.old.domain ≡ domain.now }
+    requires up { IsUp task.old }
+    requires running { task.old.book.state ≡ 0 }
+    requires free { IsFree task.old }
+    requires head { head < FIRST_SIMPLE_HEAD }
+    requires state { IsState state }
+    ensures owing { StaysOwing task.old task.new }
+    ensures state { result ≡ true → task.new.book.state ≡ state }
+    ensures free { result ≡ true → IsFree task.new }
+{
+    if !take_turn(domain, task, head) {
+        return false;
+    }
+    lock_step(domain, task, head, None);
+    set_state(domain, task, state);
+    unlock_step(domain, task, false);
+    serve(domain, task).wake(domain);
+    true
+}
+
+/// A task that owes nothing passes a head by single steps, and owes nothing then.
+#[test]
+fn passes_by_steps(rt: HostRuntime) -> Result<(), Fail> {
+    let (domain, mut task) = Domain::new(rt.alloc())?;
+    assert!(rt; pass_by_steps(&domain, &mut task, FIRST_PLAIN_HEAD, UNINTERRUPTIBLE));
+    set_state(&domain, &mut task, RUNNING);
+    assert!(rt; pass_by_steps(&domain, &mut task, FIRST_PLAIN_HEAD, RUNNING));
+    Ok(())
 }
 
 /// Looks at all entry words; true where none shows an entry.

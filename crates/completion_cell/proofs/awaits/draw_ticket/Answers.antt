@@ -13,8 +13,8 @@ draw-run-requires-clause-head c = subst (λ (n : ℕ). n < HEADS) (sym (c.head_o
 pub returns-clause-draws : goal.returns-clause-draws
 returns-clause-draws c = draws c.args.task.now c.draw-run.new.task c.args.run.now c.args.waited c.requires.at
     c.head_of.result
-    c.draw-run.result (c.head_of.ensures ∙ ap head_of c.watch.ensures) c.draw-run.ensures
+    c.draw-run.result (c.head_of.ensures ∙ ap head_of c.watch.ensures) c.draw-run.ensures.step
 
 pub returns-clause-same : goal.returns-clause-same
 returns-clause-same c = drawn_history c.args.task.now c.draw-run.new.task c.head_of.result c.draw-run.result
-    c.draw-run.ensures
+    c.draw-run.ensures.step

@@ -29,7 +29,7 @@ returns-then-found-run-clause-takes c = other_turn c.args.task.now c.serving_loa
 
 pub returns-clause-takes : goal.returns-clause-takes
 returns-clause-takes c =
-    let s = c.lock_step.ensures in
+    let s = c.lock_step.ensures.step in
     own_turn c.args.task.now c.serving_load-found.new.task c.lock_step.new.task c.args.run.now c.args.waited
     c.requires.at c.head_of-head.result c.serving_load-found.result s.0
     (c.head_of-head.ensures ∙ ap head_of c.watch.ensures) c.serving_load-found.ensures.step s.3
@@ -40,7 +40,7 @@ returns-then-found-run-clause-locks c = served_history c.args.task.now c.serving
 
 pub returns-clause-locks : goal.returns-clause-locks
 returns-clause-locks c =
-    let s = c.lock_step.ensures in
+    let s = c.lock_step.ensures.step in
     locked_by c.args.run.now.cell c.args.task.now c.serving_load-found.new.task c.lock_step.new.task
     c.head_of-head.result c.serving_load-found.result s.0 (c.head_of-head.ensures ∙ ap head_of c.watch.ensures)
     c.serving_load-found.ensures.step s.3

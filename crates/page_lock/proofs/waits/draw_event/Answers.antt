@@ -10,4 +10,4 @@ draw-run-requires-clause-head c = subst (λ (n : ℕ). n < HEADS) (sym (c.head_o
 
 pub returns : goal.returns
 returns c = draw_advances c.args.task.now c.draw-run.new.task c.args.run.now c.args.stage c.requires.here
-    c.requires.at c.head_of.result c.draw-run.result (c.head_of.ensures ∙ ap head_of c.watch.ensures) c.draw-run.ensures
+    c.requires.at c.head_of.result c.draw-run.result (c.head_of.ensures ∙ ap head_of c.watch.ensures) c.draw-run.ensures.step

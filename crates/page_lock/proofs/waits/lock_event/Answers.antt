@@ -34,7 +34,7 @@ pub returns-clause-advances : goal.returns-clause-advances
 returns-clause-advances c =
     let r = c.args.run.now in
     let q = record r { served = c.serving_load-found.result } in
-    let s = c.lock_step.ensures in
+    let s = c.lock_step.ensures.step in
     let g = lock_goes c.args.task.now c.serving_load-found.new.task c.lock_step.new.task r c.args.stage c.requires.here
     c.requires.at c.head_of-head.result c.serving_load-found.result s.0
     (c.head_of-head.ensures ∙ ap head_of c.watch.ensures) c.serving_load-found.ensures.step s.3 in

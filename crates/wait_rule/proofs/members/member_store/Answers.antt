@@ -4,6 +4,7 @@ use Rattle.wait_rule.specs.Known.{Known}
 use Rattle.wait_rule.specs.Queues.{MayStoreMember}
 use Rattle.wait_rule.proofs.TableSteps.BitMoves.{bit_moves}
 use Rattle.wait_rule.proofs.KnownLaws.AfterSteps.{known_after}
+use Rattle.wait_rule.proofs.KnownLaws.CarriedSteps.{member_carried}
 use Rattle.wait_rule.proofs.members.member_store.Goals as goal
 
 pub fetch_or-requires : goal.fetch_or-requires
@@ -38,10 +39,16 @@ fetch_and-requires c =
           (may.is ∙ c.if-on.false),
     )
 
-pub returns-then-on : goal.returns-then-on
-returns-then-on c = known_after c.task.inside.seat.table_id c.fetch_or.new.seat.table_id c.task.inside.seat.me
+pub returns-then-on-clause-step : goal.returns-then-on-clause-step
+returns-then-on-clause-step c = known_after c.task.inside.seat.table_id c.fetch_or.new.seat.table_id c.task.inside.seat.me
     c.fetch_or.new.seat.me c.args.task.now item.Member c.fetch_or.ensures.0 c.fetch_or.ensures.2 c.task.view_is
 
-pub returns-else-on : goal.returns-else-on
-returns-else-on c = known_after c.task.inside.seat.table_id c.fetch_and.new.seat.table_id c.task.inside.seat.me
+pub returns-else-on-clause-step : goal.returns-else-on-clause-step
+returns-else-on-clause-step c = known_after c.task.inside.seat.table_id c.fetch_and.new.seat.table_id c.task.inside.seat.me
     c.fetch_and.new.seat.me c.args.task.now item.Member c.fetch_and.ensures.0 c.fetch_and.ensures.2 c.task.view_is
+
+pub returns-then-on-clause-carries : goal.returns-then-on-clause-carries
+returns-then-on-clause-carries c = member_carried c.args.task.now _ (returns-then-on-clause-step c)
+
+pub returns-else-on-clause-carries : goal.returns-else-on-clause-carries
+returns-else-on-clause-carries c = member_carried c.args.task.now _ (returns-else-on-clause-step c)

@@ -6,6 +6,6 @@ use Rattle.wait_rule.proofs.members.unqueue_member.Goals as goal
 
 pub member_store-requires-clause-may : goal.member_store-requires-clause-may
 member_store-requires-clause-may c =
-    may_store c.args.task.now c.unqueue_store.new.task c.task.inside.head _ false _ c.unqueue_store.ensures
+    may_store c.args.task.now c.unqueue_store.new.task c.task.inside.head _ false _ c.unqueue_store.ensures.step
     (c.requires.held ∙ ap (λ (k : Known). Some k.at) (sym c.task.view_is))
     (ap (λ (x : ℕ). Some x) (omega (arith, c.from.ensures, c.from-2.ensures))) refl

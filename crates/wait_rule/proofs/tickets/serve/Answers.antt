@@ -4,6 +4,7 @@ use Rattle.wait_rule.specs.Known.{Known}
 use Rattle.wait_rule.specs.Queues.{HasGiven}
 use Rattle.wait_rule.proofs.TableSteps.TicketMoves.{serve_moves}
 use Rattle.wait_rule.proofs.KnownLaws.AfterSteps.{known_after}
+use Rattle.wait_rule.proofs.KnownLaws.CarriedSteps.{served_carried}
 use Rattle.wait_rule.proofs.tickets.serve.Goals as goal
 
 pub fetch_add-requires : goal.fetch_add-requires
@@ -23,3 +24,6 @@ pub returns-clause-served : goal.returns-clause-served
 returns-clause-served c = known_after c.task.inside.seat.table_id c.fetch_add.new.seat.table_id c.task.inside.seat.me
     c.fetch_add.new.seat.me c.args.task.now item.Served c.fetch_add.ensures.0 c.fetch_add.ensures.2
     c.task.view_is
+
+pub returns-clause-carries : goal.returns-clause-carries
+returns-clause-carries c = served_carried c.args.task.now _ (returns-clause-served c)

@@ -8,6 +8,7 @@ use Rattle.wait_rule.specs.Says.{ServesUnlocks}
 use Rattle.wait_rule.specs.Plays.{seat_with}
 use Rattle.wait_rule.proofs.TableSteps.TicketMoves.{serving_moves}
 use Rattle.wait_rule.proofs.KnownLaws.AfterSteps.{known_after}
+use Rattle.wait_rule.proofs.KnownLaws.CarriedSteps.{serving_carried}
 use Rattle.wait_rule.proofs.tickets.serving_load.Goals as goal
 
 pub load-requires : goal.load-requires
@@ -37,3 +38,6 @@ returns-clause-counts c =
     (let at = c.serving_at-at.ensures in omega arith) in
     subst (λ (v : Journal). ServesUnlocks v c.args.head c.load.result) (ap (λ (k : Known). k.view) c.task.view_is)
     (subst (λ (h : ℕ). ServesUnlocks c.task.inside.seat.me.0 h c.load.result) there c.load.ensures.2.1)
+
+pub returns-clause-carries : goal.returns-clause-carries
+returns-clause-carries c = serving_carried c.args.task.now _ c.args.head c.load.result (returns-clause-step c)

@@ -60,7 +60,7 @@ returns-then-misses-2-clause-halts c w n =
     let at_v = ap (λ (o : ℕ). index o c.slot.result) c.owner.ensures.owner ∙ c.slot.ensures.slot in
     let load = c.cond_load-value.ensures.step in
     let word = c.word.ensures in
-    let made = c.bit_set_for-found.ensures
+    let made = c.bit_set_for-found.ensures.step
     ∙ (λ i. added (load i) (item.Made (step.TasFor (at_v i) (word i) t))) in
     subst (λ (j : Known). HasStopped a k j w) (sym made)
     (try_stops a k v full w n is r (sym c.misses.ensures ∙ c.if-misses.false) t
@@ -73,11 +73,11 @@ returns-then-misses-2-clause-rouses c =
     let r = c.args.rousing.now in
     let x = index c.owner.result c.slot.result in
     roused_then k k c.bit_set_for-found.new.task r r (roused_none k r)
-    (subst (RousesNone mid) (sym c.bit_set_for-found.ensures)
+    (subst (RousesNone mid) (sym c.bit_set_for-found.ensures.step)
     (none_added mid (item.Made (step.TasFor x c.word.result c.bit_set_for-found.result)) refl)
     ∙ subst (RousesNone k) (sym c.cond_load-value.ensures.step)
     (none_added k (item.Made (step.Load c.args.aim.watch c.cond_load-value.result)) refl))
-    (ap (λ (j : Known). j.domain) c.bit_set_for-found.ensures
+    (ap (λ (j : Known). j.domain) c.bit_set_for-found.ensures.step
     ∙ ap (λ (j : Known). j.domain) c.cond_load-value.ensures.step)
 
 -- the page was free
@@ -95,7 +95,7 @@ hand_page-requires-clause-shows c =
     let at_v = ap (λ (o : ℕ). index o c.slot.result) c.owner.ensures.owner ∙ c.slot.ensures.slot in
     let load = c.cond_load-value.ensures.step in
     let word = c.word.ensures in
-    let made = c.bit_set_for-found.ensures
+    let made = c.bit_set_for-found.ensures.step
     ∙ (λ i. added (load i) (item.Made (step.TasFor (at_v i) (word i) t))) in
     let next = looked_next a k v full w n is r in
     ap (λ (j : Known). (told_of j).hold.book v.member) made
@@ -116,7 +116,7 @@ hand_page-requires-clause-taken c =
     let at_v = ap (λ (o : ℕ). index o c.slot.result) c.owner.ensures.owner ∙ c.slot.ensures.slot in
     let load = c.cond_load-value.ensures.step in
     let word = c.word.ensures in
-    let made = c.bit_set_for-found.ensures
+    let made = c.bit_set_for-found.ensures.step
     ∙ (λ i. added (load i) (item.Made (step.TasFor (at_v i) (word i) t))) in
     let mid = looked a k v full w n is r in
     ap (λ (j : Known). j.book.differs) made
@@ -135,7 +135,7 @@ returns-in-Ok-clause-called c w n =
     let at_v = ap (λ (o : ℕ). index o c.slot.result) c.owner.ensures.owner ∙ c.slot.ensures.slot in
     let load = c.cond_load-value.ensures.step in
     let word = c.word.ensures in
-    let made = c.bit_set_for-found.ensures
+    let made = c.bit_set_for-found.ensures.step
     ∙ (λ i. added (load i) (item.Made (step.TasFor (at_v i) (word i) t))) in
     page_called a k v full w n is r t (sym c.misses.ensures ∙ c.if-misses.false)
     (sym c.misses-2.ensures ∙ c.if-misses-2.false) c.hand_page.new.task
@@ -147,11 +147,11 @@ returns-in-Ok-clause-rouses c =
     let mid = c.cond_load-value.new.task in
     let x = index c.owner.result c.slot.result in
     then_roused k c.bit_set_for-found.new.task c.hand_page.new.task c.args.rousing.now c.hand_page.new.rousing
-    (subst (RousesNone mid) (sym c.bit_set_for-found.ensures)
+    (subst (RousesNone mid) (sym c.bit_set_for-found.ensures.step)
     (none_added mid (item.Made (step.TasFor x c.word.result c.bit_set_for-found.result)) refl)
     ∙ subst (RousesNone k) (sym c.cond_load-value.ensures.step)
     (none_added k (item.Made (step.Load c.args.aim.watch c.cond_load-value.result)) refl))
-    (ap (λ (j : Known). j.domain) c.bit_set_for-found.ensures
+    (ap (λ (j : Known). j.domain) c.bit_set_for-found.ensures.step
     ∙ ap (λ (j : Known). j.domain) c.cond_load-value.ensures.step)
     c.hand_page.ensures.rouses
 
@@ -161,10 +161,10 @@ returns-in-Err-clause-rouses c =
     let mid = c.cond_load-value.new.task in
     let x = index c.owner.result c.slot.result in
     then_roused k c.bit_set_for-found.new.task c.hand_page.new.task c.args.rousing.now c.hand_page.new.rousing
-    (subst (RousesNone mid) (sym c.bit_set_for-found.ensures)
+    (subst (RousesNone mid) (sym c.bit_set_for-found.ensures.step)
     (none_added mid (item.Made (step.TasFor x c.word.result c.bit_set_for-found.result)) refl)
     ∙ subst (RousesNone k) (sym c.cond_load-value.ensures.step)
     (none_added k (item.Made (step.Load c.args.aim.watch c.cond_load-value.result)) refl))
-    (ap (λ (j : Known). j.domain) c.bit_set_for-found.ensures
+    (ap (λ (j : Known). j.domain) c.bit_set_for-found.ensures.step
     ∙ ap (λ (j : Known). j.domain) c.cond_load-value.ensures.step)
     c.hand_page.ensures.rouses

@@ -33,7 +33,7 @@ returns-then-yes-clause-off c =
     let is = s.2 ∙ (λ i. added k (item.Made (step.Wake (c.owner.ensures.owner i) (c.mask.ensures i) s.0))) in record {
       found = s.0;
       met = s.3 ∙ (λ i. met_task (c.mask.ensures i) s.0);
-      is = c.unqueue_member.ensures ∙ ((λ i. stored_with (is i) (step.Unqueue (at_v i)))
+      is = c.unqueue_member.ensures.step ∙ ((λ i. stored_with (is i) (step.Unqueue (at_v i)))
           ∙ ap (λ (b : Bool). if b then stored_with (woke_by c.args.aim k c.args.visit s.0)
           (step.Unqueue c.args.visit.member) else woke_by c.args.aim k c.args.visit s.0) (sym c.if-yes.true));
     }
@@ -43,8 +43,8 @@ returns-then-yes-clause-rouses c =
     let x = index c.owner-then-yes.result c.slot.result in
     roused_then c.args.task.now c.wake_later.new.task c.unqueue_member.new.task c.args.rousing.now
     c.wake_later.new.rousing c.wake_later.ensures.rouses
-    (subst (RousesNone c.wake_later.new.task) (sym c.unqueue_member.ensures)
-    (none_stored c.wake_later.new.task (step.Unqueue x) refl)) (ap (λ (k : Known). k.domain) c.unqueue_member.ensures)
+    (subst (RousesNone c.wake_later.new.task) (sym c.unqueue_member.ensures.step)
+    (none_stored c.wake_later.new.task (step.Unqueue x) refl)) (ap (λ (k : Known). k.domain) c.unqueue_member.ensures.step)
 
 pub returns-else-yes-clause-off : goal.returns-else-yes-clause-off
 returns-else-yes-clause-off c =

@@ -37,7 +37,7 @@ pub returns-clause-turned : goal.returns-clause-turned
 returns-clause-turned c start a = took_lock start c.lock_step.new.task c.args.head a.up
     (turn_locked start c.args.task.now c.serving_load-served.new.task c.args.head c.args.ticket
     c.serving_load-served.result a.waits c.serving_load-served.ensures.step c.if-served-ticket.false
-    (walk_of_hold c.args.head None) c.lock_step.new.task c.lock_step.ensures)
+    (walk_of_hold c.args.head None) c.lock_step.new.task c.lock_step.ensures.step)
 
 pub returns-then-served-ticket-clause-other : goal.returns-then-served-ticket-clause-other
 returns-then-served-ticket-clause-other c = record {

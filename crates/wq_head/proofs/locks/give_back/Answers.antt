@@ -7,17 +7,17 @@ use Rattle.wq_head.proofs.CarriedHolds.{unlock_carried}
 use Rattle.wq_head.proofs.locks.give_back.Goals as goal
 
 pub serve-requires-clause-given : goal.serve-requires-clause-given
-serve-requires-clause-given c = ap (λ (k : Known). k.book.ticket) c.unlock_step.ensures
-    ∙ sym (ap (λ (k : Known). given k.at) c.unlock_step.ensures)
+serve-requires-clause-given c = ap (λ (k : Known). k.book.ticket) c.unlock_step.ensures.step
+    ∙ sym (ap (λ (k : Known). given k.at) c.unlock_step.ensures.step)
 
 pub serve-requires-clause-of : goal.serve-requires-clause-of
-serve-requires-clause-of c = ap (λ (k : Known). k.domain) c.unlock_step.ensures ∙ c.requires.of
+serve-requires-clause-of c = ap (λ (k : Known). k.domain) c.unlock_step.ensures.step ∙ c.requires.of
 
 pub returns-clause-given : goal.returns-clause-given
-returns-clause-given c = c.serve.ensures.served ∙ ap (λ (k : Known). added k item.Served) c.unlock_step.ensures
+returns-clause-given c = c.serve.ensures.served ∙ ap (λ (k : Known). added k item.Served) c.unlock_step.ensures.step
 
 pub returns-clause-head : goal.returns-clause-head
-returns-clause-head c = c.serve.ensures.head ∙ ap (λ (k : Known). k.at) c.unlock_step.ensures
+returns-clause-head c = c.serve.ensures.head ∙ ap (λ (k : Known). k.at) c.unlock_step.ensures.step
 
 pub returns-clause-carries : goal.returns-clause-carries
 returns-clause-carries c = unlock_carried c.args.task.now c.serve.new.task c.args.spent (returns-clause-given c)

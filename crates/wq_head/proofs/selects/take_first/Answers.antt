@@ -37,7 +37,7 @@ returns-clause-taken c =
     (l.ensures.step ∙ ap (λ (y : ℕ). added old (item.Made (saw old.book.head y l.result.0))) (index_of x))
     (subst (λ (y : ℕ). KnewEntry old y l.result.0) (index_of x) l.ensures.knew)
     (x / SLOTS) s.0 (owner_of x) s.1 c.wake_later.new.task woke (x % SLOTS) (index_of x) c.unqueue_member.new.task
-    c.unqueue_member.ensures
+    c.unqueue_member.ensures.step
 
 pub returns-clause-rouses : goal.returns-clause-rouses
 returns-clause-rouses c =
@@ -49,8 +49,8 @@ returns-clause-rouses c =
     (subst (RousesNone old) (sym l.ensures.step) (none_saw old old.book.head x l.result.0))
     (ap (λ (k : Known). k.domain) l.ensures.step)
     (roused_then l.new.task w.new.task c.unqueue_member.new.task c.args.rousing.now w.new.rousing w.ensures.rouses
-    (subst (RousesNone w.new.task) (sym c.unqueue_member.ensures) (none_stored w.new.task (step.Unqueue x) refl))
-    (ap (λ (k : Known). k.domain) c.unqueue_member.ensures))
+    (subst (RousesNone w.new.task) (sym c.unqueue_member.ensures.step) (none_stored w.new.task (step.Unqueue x) refl))
+    (ap (λ (k : Known). k.domain) c.unqueue_member.ensures.step))
 
 -- the word of the entry was loaded alone
 pub returns-in_err-wake_later-clause-taken : goal.returns-in_err-wake_later-clause-taken

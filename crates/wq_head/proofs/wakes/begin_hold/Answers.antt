@@ -56,18 +56,18 @@ pub mark_member-requires-clause-may : goal.mark_member-requires-clause-may
 mark_member-requires-clause-may c =
     let v = c.requires.served in
     goes_takes v.0 c.args.task.now c.args.run.now c.args.stage v.1 c.args.head c.requires.head c.in-NextTurn.is
-    c.lock_step.new.task c.lock_step.ensures
+    c.lock_step.new.task c.lock_step.ensures.step
 
 pub returns-in-NextTurn-clause-walks : goal.returns-in-NextTurn-clause-walks
 returns-in-NextTurn-clause-walks c start v =
     goes_walks start c.args.task.now c.args.run.now c.args.stage v c.args.head c.requires.head c.in-NextTurn.is
-    c.lock_step.new.task c.lock_step.ensures c.mark_member.new.task c.mark_member.ensures
+    c.lock_step.new.task c.lock_step.ensures.step c.mark_member.new.task c.mark_member.ensures.step
 
 pub returns-in-NextTurn-clause-rouses : goal.returns-in-NextTurn-clause-rouses
 returns-in-NextTurn-clause-rouses c =
-    let l = c.lock_step.ensures in
+    let l = c.lock_step.ensures.step in
     let rest = Some (with_left c.args.run.now.aim c.args.run.now.walk.left) in
-    subst (RousesNone c.args.task.now) (sym c.mark_member.ensures) (none_marked c.lock_step.new.task (mark_of 0)
+    subst (RousesNone c.args.task.now) (sym c.mark_member.ensures.step) (none_marked c.lock_step.new.task (mark_of 0)
     ∙ subst (RousesNone c.args.task.now) (sym l.3) (none_added c.args.task.now
     (item.Made (step.Lock c.args.head (walk_of_hold c.args.head rest) l.0)) refl))
 
@@ -89,7 +89,7 @@ lock_step-requires-in_default c =
 
 pub returns-in_default : goal.returns-in_default
 returns-in_default c =
-    let l = c.lock_step-in_default.ensures in
+    let l = c.lock_step-in_default.ensures.step in
     let k = c.lock_step-in_default.new.task in record {
       of = ap (λ (j : Known). j.domain) l.3 ∙ c.requires.of;
       aim = refl;

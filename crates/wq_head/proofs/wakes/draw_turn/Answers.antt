@@ -30,14 +30,14 @@ draw-run-requires-in-Next-clause-head c =
     omega (arith, small, is)
 
 pub returns-in-First-clause-rouses : goal.returns-in-First-clause-rouses
-returns-in-First-clause-rouses c = subst (RousesNone c.args.task.now) (sym c.draw-run.ensures)
+returns-in-First-clause-rouses c = subst (RousesNone c.args.task.now) (sym c.draw-run.ensures.step)
     (none_added c.args.task.now (item.Drawn c.args.head c.draw-run.result) refl)
 
 pub returns-in-Next-clause-drawn : goal.returns-in-Next-clause-drawn
 returns-in-Next-clause-drawn c start is_at = draws_next start c.args.task.now c.args.run.now c.draw-run-in-Next.new.task
-    c.args.head c.draw-run-in-Next.result c.requires.head c.draw-run-in-Next.ensures
+    c.args.head c.draw-run-in-Next.result c.requires.head c.draw-run-in-Next.ensures.step
     (subst (IsAt start c.args.task.now c.args.run.now) c.in-Next.is is_at)
 
 pub returns-in-Next-clause-rouses : goal.returns-in-Next-clause-rouses
-returns-in-Next-clause-rouses c = subst (RousesNone c.args.task.now) (sym c.draw-run-in-Next.ensures)
+returns-in-Next-clause-rouses c = subst (RousesNone c.args.task.now) (sym c.draw-run-in-Next.ensures.step)
     (none_added c.args.task.now (item.Drawn c.args.head c.draw-run-in-Next.result) refl)

@@ -37,7 +37,7 @@ returns c =
     let r = c.resumed.ensures in
     let made = breaks_off c.args.aim q.full c.args.task.now c.args.walk c.args.before q.going q.calling q.meets q.before
     c.mark_place-place.result c.mark_place-place.ensures c.head_of-head.result c.head_of-head.ensures
-    c.mark_word_of.result c.mark_word_of.ensures c.mark_member.new.task c.give_back.new.task c.mark_member.ensures
+    c.mark_word_of.result c.mark_word_of.ensures c.mark_member.new.task c.give_back.new.task c.mark_member.ensures.step
     c.give_back.ensures.given in record {
       made = subst (λ (p : ℕ). c.give_back.new.task ≡ unlocked_with (stored_with c.args.task.now
           (step.Mark (head_of c.args.aim.watch) p)) c.args.task.now.at false) (sym r.place) made;
@@ -50,4 +50,4 @@ returns c =
 
 pub give_back-requires-clause-permits : goal.give_back-requires-clause-permits
 give_back-requires-clause-permits c = walk_owes c.args.aim.watch c.mark_member.new.task c.requires.full
-    (ap (λ (k : Known). k.at) c.mark_member.ensures ∙ c.requires.calling.walking.held.at)
+    (ap (λ (k : Known). k.at) c.mark_member.ensures.step ∙ c.requires.calling.walking.held.at)

@@ -23,25 +23,25 @@ lock_step-requires-clause-head c = page_head_fits c.args.word c.head_of-head.res
 pub queue_for_page-requires-clause-asks : goal.queue_for_page-requires-clause-asks
 queue_for_page-requires-clause-asks c =
     let t = c.take_turn.ensures.steps in
-    let l = c.lock_step.ensures in
+    let l = c.lock_step.ensures.step in
     c.see_marks.ensures.asks ∙ c.see_entries.ensures.asks (locked_asks c.args.task.now c.take_turn.new.task
     c.lock_step.new.task c.head_of-head.result t.0 t.1 l.0 _ t.2 l.3 c.requires.asks)
 
 pub unlock_step-requires-clause-permits : goal.unlock_step-requires-clause-permits
 unlock_step-requires-clause-permits c = inl (page_head_low c.args.word c.bit_set-found.new.task.at
     (ap (λ (k : Known). k.at) c.bit_set-found.ensures.step ∙ (ap (λ (k : Known). k.at) c.queue_for_page.ensures
-    ∙ (c.see_marks.ensures.at ∙ (c.see_entries.ensures.at ∙ (ap (λ (k : Known). k.at) c.lock_step.ensures.3
+    ∙ (c.see_marks.ensures.at ∙ (c.see_entries.ensures.at ∙ (ap (λ (k : Known). k.at) c.lock_step.ensures.step.3
     ∙ c.head_of-head.ensures))))))
 
 pub returns-clause-waits : goal.returns-clause-waits
 returns-clause-waits c set =
     let t = c.take_turn.ensures.steps in
-    let l = c.lock_step.ensures in
+    let l = c.lock_step.ensures.step in
     come_idle c.args.task.now c.take_turn.new.task c.lock_step.new.task c.head_of-head.result t.0 t.1 l.0 _ t.2 l.3
     c.see_entries.new.task c.see_marks.new.task c.queue_for_page.new.task c.bit_set-found.new.task
     c.unlock_step.new.task c.serve.new.task c.see_entries.result c.see_marks.result _ c.args.word _ _
     c.see_entries.ensures c.see_marks.ensures c.queue_for_page.ensures c.bit_set-found.ensures.sets.stays
-    c.unlock_step.ensures c.serve.ensures.served c.requires.up c.requires.idle
+    c.unlock_step.ensures.step c.serve.ensures.served c.requires.up c.requires.idle
 
 pub returns-clause-asks : goal.returns-clause-asks
 returns-clause-asks c set =
@@ -52,10 +52,10 @@ returns-clause-asks c set =
     let w = c.args.word in
     let x = index c.see_marks.new.task.view.number 0 in
     let same : s.view.number ≡ c.see_marks.new.task.view.number = ap (λ (k : Known). k.view.number) c.serve.ensures.served
-    ∙ (ap (λ (k : Known). k.view.number) c.unlock_step.ensures
+    ∙ (ap (λ (k : Known). k.view.number) c.unlock_step.ensures.step
     ∙ (c.bit_set-found.ensures.sets.stays.number ∙ ap (λ (k : Known). k.view.number) c.queue_for_page.ensures)) in
     subst (λ (n : ℕ). waits_at (index n 0) (asks_for s) ≡ Some w) (sym same)
     (waits_on u s item.Served x w c.serve.ensures.served (λ a. refl)
-    (waits_on b u _ x w c.unlock_step.ensures (λ a. refl)
+    (waits_on b u _ x w c.unlock_step.ensures.step (λ a. refl)
     (waits_on q b _ x w c.bit_set-found.ensures.step (λ a. refl)
     (waits_queued c.see_marks.new.task q x w c.queue_for_page.ensures))))

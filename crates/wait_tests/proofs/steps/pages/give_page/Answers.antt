@@ -22,7 +22,7 @@ hand_over-requires-clause-entry g c =
     let k = c.args.task.now in (
       c.in-Some.entry,
       tried_shows c.entry_load.new.task c.bit_set_for.new.task (index c.args.who 0) c.args.word c.bit_set_for.result
-          c.bit_set_for.ensures c.in-Some.entry
+          c.bit_set_for.ensures.step c.in-Some.entry
           (shows_page k c.entry_load.new.task (index c.args.who 0) c.entry_load.result.0 k.at c.in-Some.entry
           c.entry_load.ensures.step c.requires.held (c.told.ensures.head ∙ c.requires.held)
           (sym c.entry.ensures ∙ c.in-Some.is)

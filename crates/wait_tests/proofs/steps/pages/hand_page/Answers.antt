@@ -11,4 +11,4 @@ lock_step-requires-clause-head g c = page_head_fits c.args.word c.head_of-head.r
 
 pub unlock_step-requires-clause-permits : goal.unlock_step-requires-clause-permits
 unlock_step-requires-clause-permits g c = inl (page_head_low c.args.word c.give_page-given.new.task.at
-    (c.give_page-given.ensures.at ∙ (ap (λ (k : Known). k.at) c.lock_step.ensures.3 ∙ c.head_of-head.ensures)))
+    (c.give_page-given.ensures.at ∙ (ap (λ (k : Known). k.at) c.lock_step.ensures.step.3 ∙ c.head_of-head.ensures)))

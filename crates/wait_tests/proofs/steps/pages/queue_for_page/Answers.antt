@@ -21,6 +21,6 @@ queue_member-requires-clause-permits c = inl (page_head_low c.args.word c.args.t
 pub returns : goal.returns
 returns c =
     let k = c.args.task.now in
-    let e = c.queue_member.ensures in
+    let e = c.queue_member.ensures.step in
     e.2 ∙ ap (λ (d : Entry). stored_with k (step.Queue (index k.view.number 0) d))
     (shown_page c.args.word c.of.result.0 e.0 c.requires.word c.of.ensures e.1)

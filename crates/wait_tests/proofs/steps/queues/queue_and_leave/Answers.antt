@@ -61,7 +61,7 @@ pub member_store-requires-clause-may : goal.member_store-requires-clause-may
 member_store-requires-clause-may c =
     let n = c.number-me.ensures in
     let k = c.args.task.now in
-    may_store k c.queue_store.new.task FIRST_PLAIN_HEAD _ true _ c.queue_store.ensures.2
+    may_store k c.queue_store.new.task FIRST_PLAIN_HEAD _ true _ c.queue_store.ensures.step.2
     (c.requires.held ∙ ap (λ (h : ℕ). Some h) c.requires.at)
     (ap (λ (x : ℕ). Some x) (sym (own_named k k c.from-own.result k.view.number (c.from-own.ensures
     ∙ n.number) refl))) refl
@@ -70,26 +70,26 @@ pub woken_set-requires-clause-may : goal.woken_set-requires-clause-may
 woken_set-requires-clause-may c =
     let n = c.number-me.ensures in
     let k = c.args.task.now in
-    let e = c.queue_store.ensures in
+    let e = c.queue_store.ensures.step in
     may_flag k c.queue_store.new.task c.member_store.new.task (index k.view.number 0) c.requires.at
     (small_index c.number-me.result k.view.number n.number n.small) c.requires.clear
     (queued_first k c.queue_store.new.task (index k.view.number 0) c.of.result.0 e.0 c.of.ensures e.1 e.2)
-    c.member_store.ensures c.number-me.result (ap (λ (i : ℕ). index i 0) n.number)
+    c.member_store.ensures.step c.number-me.result (ap (λ (i : ℕ). index i 0) n.number)
 
 pub mark_store-requires-clause-may : goal.mark_store-requires-clause-may
 mark_store-requires-clause-may c =
     let n = c.number-me.ensures in
     let k = c.args.task.now in
-    let e = c.queue_store.ensures in
+    let e = c.queue_store.ensures.step in
     inr (
       record { head = FIRST_PLAIN_HEAD; place = FIRST_PLACE - 1 },
       c.mark_word_of.ensures,
       may_mark k c.queue_store.new.task c.member_store.new.task (index k.view.number 0) c.requires.at
           (small_index c.number-me.result k.view.number n.number n.small) c.requires.clear
           (queued_first k c.queue_store.new.task (index k.view.number 0) c.of.result.0 e.0 c.of.ensures e.1 e.2)
-          c.member_store.ensures c.woken_set.new.task
+          c.member_store.ensures.step c.woken_set.new.task
           (set_flag c.member_store.new.task c.woken_set.new.task c.number-me.result k.view.number n.number
-          c.woken_set.ensures),
+          c.woken_set.ensures.step),
     )
 
 -- the number of the task and its head stay
@@ -107,32 +107,32 @@ pub member_store-requires-2-clause-may : goal.member_store-requires-2-clause-may
 member_store-requires-2-clause-may c =
     let n = c.number-me.ensures in
     let k = c.args.task.now in
-    let e = c.queue_store.ensures in
+    let e = c.queue_store.ensures.step in
     let f = c.woken_set.new.task in
-    let put = put_mark f c.mark_store.new.task c.mark_word_of.result c.mark_word_of.ensures c.mark_store.ensures in
+    let put = put_mark f c.mark_store.new.task c.mark_word_of.result c.mark_word_of.ensures c.mark_store.ensures.step in
     may_store f c.mark_store.new.task FIRST_PLAIN_HEAD _ true _ put
-    (flag_head k c.queue_store.new.task c.member_store.new.task f _ _ e.0 e.2 c.member_store.ensures c.woken_set.ensures
+    (flag_head k c.queue_store.new.task c.member_store.new.task f _ _ e.0 e.2 c.member_store.ensures.step c.woken_set.ensures.step
     ∙ (c.requires.held ∙ ap (λ (h : ℕ). Some h) c.requires.at))
     (ap (λ (x : ℕ). Some x) (sym (mark_named f f c.from-mark.result k.view.number (c.from-mark.ensures ∙ n.number)
-    (flag_number k c.queue_store.new.task c.member_store.new.task f _ _ e.0 e.2 c.member_store.ensures
-    c.woken_set.ensures)))) refl
+    (flag_number k c.queue_store.new.task c.member_store.new.task f _ _ e.0 e.2 c.member_store.ensures.step
+    c.woken_set.ensures.step)))) refl
 
 pub mark_store-requires-2-clause-may : goal.mark_store-requires-2-clause-may
 mark_store-requires-2-clause-may c =
     let n = c.number-me.ensures in
     let k = c.args.task.now in
-    let e = c.queue_store.ensures in
+    let e = c.queue_store.ensures.step in
     inl (
       refl,
       may_unmark k c.queue_store.new.task c.member_store.new.task (index k.view.number 0) c.requires.at
           (small_index c.number-me.result k.view.number n.number n.small) c.requires.clear
           (queued_first k c.queue_store.new.task (index k.view.number 0) c.of.result.0 e.0 c.of.ensures e.1 e.2)
-          c.member_store.ensures c.woken_set.new.task
+          c.member_store.ensures.step c.woken_set.new.task
           (set_flag c.member_store.new.task c.woken_set.new.task c.number-me.result k.view.number n.number
-          c.woken_set.ensures)
+          c.woken_set.ensures.step)
           c.mark_store.new.task c.member_store-2.new.task
           (put_mark c.woken_set.new.task c.mark_store.new.task c.mark_word_of.result c.mark_word_of.ensures
-          c.mark_store.ensures) c.member_store-2.ensures,
+          c.mark_store.ensures.step) c.member_store-2.ensures.step,
     )
 
 -- from before a bookmark was put until it was taken out
@@ -152,58 +152,58 @@ pub member_store-requires-3-clause-may : goal.member_store-requires-3-clause-may
 member_store-requires-3-clause-may c =
     let n = c.number-me.ensures in
     let k = c.args.task.now in
-    let e = c.queue_store.ensures in
+    let e = c.queue_store.ensures.step in
     let f = c.woken_set.new.task in
     let m = c.member_store-2.new.task in
-    let put = put_mark f c.mark_store.new.task c.mark_word_of.result c.mark_word_of.ensures c.mark_store.ensures in
-    let taken = c.mark_store-2.ensures ∙ ap (λ o. added m (item.Made (marked o))) zero_mark in
+    let put = put_mark f c.mark_store.new.task c.mark_word_of.result c.mark_word_of.ensures c.mark_store.ensures.step in
+    let taken = c.mark_store-2.ensures.step ∙ ap (λ o. added m (item.Made (marked o))) zero_mark in
     may_store m c.mark_store-2.new.task FIRST_PLAIN_HEAD _ false _ taken
-    (ap (λ (z : Known). z.book.head) c.member_store-2.ensures ∙ (ap (λ (z : Known). z.book.head) put
-    ∙ (flag_head k c.queue_store.new.task c.member_store.new.task f _ _ e.0 e.2 c.member_store.ensures
-    c.woken_set.ensures
+    (ap (λ (z : Known). z.book.head) c.member_store-2.ensures.step ∙ (ap (λ (z : Known). z.book.head) put
+    ∙ (flag_head k c.queue_store.new.task c.member_store.new.task f _ _ e.0 e.2 c.member_store.ensures.step
+    c.woken_set.ensures.step
     ∙ (c.requires.held ∙ ap (λ (h : ℕ). Some h) c.requires.at))))
     (ap (λ (x : ℕ). Some x) (sym (mark_named m m c.from-mark.result k.view.number (c.from-mark.ensures ∙ n.number)
-    (ap (λ (z : Known). z.view.number) c.member_store-2.ensures ∙ (ap (λ (z : Known). z.view.number) put
-    ∙ flag_number k c.queue_store.new.task c.member_store.new.task f _ _ e.0 e.2 c.member_store.ensures
-    c.woken_set.ensures))))) refl
+    (ap (λ (z : Known). z.view.number) c.member_store-2.ensures.step ∙ (ap (λ (z : Known). z.view.number) put
+    ∙ flag_number k c.queue_store.new.task c.member_store.new.task f _ _ e.0 e.2 c.member_store.ensures.step
+    c.woken_set.ensures.step))))) refl
 
 pub unqueue_store-requires-clause-may : goal.unqueue_store-requires-clause-may
 unqueue_store-requires-clause-may c =
     let n = c.number-me.ensures in
     let k = c.args.task.now in
-    let e = c.queue_store.ensures in
+    let e = c.queue_store.ensures.step in
     let queued = queued_first k c.queue_store.new.task (index k.view.number 0) c.of.result.0 e.0 c.of.ensures e.1 e.2 in
     let rung = set_flag c.member_store.new.task c.woken_set.new.task c.number-me.result k.view.number n.number
-    c.woken_set.ensures in
+    c.woken_set.ensures.step in
     let put = put_mark c.woken_set.new.task c.mark_store.new.task c.mark_word_of.result c.mark_word_of.ensures
-    c.mark_store.ensures in
-    let taken = c.mark_store-2.ensures ∙ ap (λ o. added c.member_store-2.new.task (item.Made (marked o))) zero_mark in
+    c.mark_store.ensures.step in
+    let taken = c.mark_store-2.ensures.step ∙ ap (λ o. added c.member_store-2.new.task (item.Made (marked o))) zero_mark in
     record {
       entry = first;
       shows = ap (λ (u : ℕ). (told_of c.member_store-3.new.task).hold.book (index u 0)) n.number
           ∙ still_first k c.queue_store.new.task c.member_store.new.task (index k.view.number 0) c.requires.at
-          (small_index c.number-me.result k.view.number n.number n.small) c.requires.clear queued c.member_store.ensures
-          c.woken_set.new.task rung c.mark_store.new.task c.member_store-2.new.task put c.member_store-2.ensures
-          c.mark_store-2.new.task c.member_store-3.new.task taken c.member_store-3.ensures;
+          (small_index c.number-me.result k.view.number n.number n.small) c.requires.clear queued c.member_store.ensures.step
+          c.woken_set.new.task rung c.mark_store.new.task c.member_store-2.new.task put c.member_store-2.ensures.step
+          c.mark_store-2.new.task c.member_store-3.new.task taken c.member_store-3.ensures.step;
       may = inl (n.number ∙ sym (out_number c.woken_set.new.task c.mark_store.new.task c.member_store-2.new.task
-          c.mark_store-2.new.task c.member_store-3.new.task _ _ put c.member_store-2.ensures taken
-          c.member_store-3.ensures
+          c.mark_store-2.new.task c.member_store-3.new.task _ _ put c.member_store-2.ensures.step taken
+          c.member_store-3.ensures.step
           ∙ flag_number k c.queue_store.new.task c.member_store.new.task c.woken_set.new.task _ _ e.0 e.2
-          c.member_store.ensures c.woken_set.ensures));
+          c.member_store.ensures.step c.woken_set.ensures.step));
     }
 
 pub member_store-requires-4-clause-may : goal.member_store-requires-4-clause-may
 member_store-requires-4-clause-may c =
     let n = c.number-me.ensures in
     let k = c.args.task.now in
-    let e = c.queue_store.ensures in
+    let e = c.queue_store.ensures.step in
     let put = put_mark c.woken_set.new.task c.mark_store.new.task c.mark_word_of.result c.mark_word_of.ensures
-    c.mark_store.ensures in
-    let taken = c.mark_store-2.ensures ∙ ap (λ o. added c.member_store-2.new.task (item.Made (marked o))) zero_mark in
-    may_store c.member_store-3.new.task c.unqueue_store.new.task FIRST_PLAIN_HEAD _ false _ c.unqueue_store.ensures
+    c.mark_store.ensures.step in
+    let taken = c.mark_store-2.ensures.step ∙ ap (λ o. added c.member_store-2.new.task (item.Made (marked o))) zero_mark in
+    may_store c.member_store-3.new.task c.unqueue_store.new.task FIRST_PLAIN_HEAD _ false _ c.unqueue_store.ensures.step
     (out_head c.woken_set.new.task c.mark_store.new.task c.member_store-2.new.task
-    c.mark_store-2.new.task c.member_store-3.new.task _ _ put c.member_store-2.ensures taken c.member_store-3.ensures
+    c.mark_store-2.new.task c.member_store-3.new.task _ _ put c.member_store-2.ensures.step taken c.member_store-3.ensures.step
     ∙ (flag_head k c.queue_store.new.task c.member_store.new.task c.woken_set.new.task _ _ e.0 e.2
-    c.member_store.ensures
-    c.woken_set.ensures ∙ (c.requires.held ∙ ap (λ (h : ℕ). Some h) c.requires.at)))
+    c.member_store.ensures.step
+    c.woken_set.ensures.step ∙ (c.requires.held ∙ ap (λ (h : ℕ). Some h) c.requires.at)))
     (ap (λ (x : ℕ). Some x) (omega arith)) refl

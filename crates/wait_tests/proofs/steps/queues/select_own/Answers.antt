@@ -28,19 +28,19 @@ pub returns-clause-rise : goal.returns-clause-rise
 returns-clause-rise g c met =
     let n = c.number-me.ensures in
     let k = c.args.task.now in
-    let e = c.queue_store.ensures in
+    let e = c.queue_store.ensures.step in
     let a = c.wake_exchange.ensures.step in
     may_rise k c.queue_store.new.task c.member_store.new.task c.set_state.new.task c.wake_exchange.new.task
     (few_tasks c.number-me.result k.view.number n.number n.small) c.requires.none c.requires.selecting
     (e.2 ∙ ap (λ (d : Entry). added k (item.Made (step.Queue (index k.view.number 0) d)))
-    (shown_chosen c.of.result.0 e.0 c.of.ensures e.1)) c.member_store.ensures
+    (shown_chosen c.of.result.0 e.0 c.of.ensures e.1)) c.member_store.ensures.step
     c.set_state.ensures.step c.number-me.result a.0 n.number
     (a.2 ∙ ap (λ (m : ℕ). added c.set_state.new.task (item.Made (step.Wake c.number-me.result m a.0))) c.mask.ensures)
     (sym (a.3 ∙ ap (λ (m : ℕ). met_task m a.0) c.mask.ensures) ∙ met)
 
 pub member_store-requires-clause-may : goal.member_store-requires-clause-may
 member_store-requires-clause-may g c =
-    let e = c.queue_store.ensures in
+    let e = c.queue_store.ensures.step in
     let n = c.number-me.ensures in
     may_store c.args.task.now c.queue_store.new.task FIRST_PLAIN_HEAD _ true _ e.2
     (c.requires.held ∙ ap (λ (h : ℕ). Some h) c.requires.at)
@@ -48,7 +48,7 @@ member_store-requires-clause-may g c =
 
 pub returns-clause-at : goal.returns-clause-at
 returns-clause-at g c =
-    let e = c.queue_store.ensures in
+    let e = c.queue_store.ensures.step in
     let a = c.wake_exchange.ensures.step in
     let at : (k j : Known) → j ≡ k → j.at ≡ k.at = λ k j. ap (λ (i : Known). i.at) in
-    at _ _ a.2 ∙ (at _ _ c.set_state.ensures.step ∙ (at _ _ c.member_store.ensures ∙ (at _ _ e.2 ∙ c.requires.at)))
+    at _ _ a.2 ∙ (at _ _ c.set_state.ensures.step ∙ (at _ _ c.member_store.ensures.step ∙ (at _ _ e.2 ∙ c.requires.at)))

@@ -17,3 +17,4 @@ pub mod CallPlans
 pub mod Ways
 pub mod Wholes
 pub mod Stays
+pub mod OwnSteps

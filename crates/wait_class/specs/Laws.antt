@@ -12,7 +12,7 @@ use Rattle.wait_model.specs.declared.queues.Form.{Form}
 use Rattle.wait_model.specs.Queues.{place_for}
 use Rattle.wait_model.specs.Runs.{entry_for}
 use Rattle.wait_model.specs.Views.{off}
-use Rattle.wait_model.specs.PointFacts.{IsHome, holds, waits}
+use Rattle.wait_model.specs.PointFacts.{IsHome, Zone, holds, pages, waits}
 use Rattle.wait_model.specs.Tasks.{pending, state_mask, task_of}
 use Rattle.wait_model.specs.Watches.{IsThere, head_of}
 use Rattle.wait_model.specs.Words.{entry_of}
@@ -197,9 +197,14 @@ pub record SleepLaw {C S O : Type 0} (t : Table C S O) (r : C) (s n : S) : Type 
   pub trail : (old new : Known) (w : ℕ) → Calm (step.Sleep w ∷ []) old new → t.Trail old r s → t.Trail new r n
 
 -- a stage at which the own entry may be queued by this call
+abbrev pub is_open : Zone → Bool
+is_open waits = true
+is_open pages = true
+is_open _ = false
+
 pub record IsOpen {C S O : Type 0} (t : Table C S O) (s : S) : Type 0 where
   pub fresh : t.drawn s ≡ false
-  pub zone : zone_at (t.point_of s) ≡ waits
+  pub zone : is_open (zone_at (t.point_of s)) ≡ true
 
 pub record PeekLaw {C S O : Type 0} (t : Table C S O) (r : C) (s : S) (o : Option Entry) : Type 0 where
   pub free : IsFree t s
@@ -208,9 +213,9 @@ pub record PeekLaw {C S O : Type 0} (t : Table C S O) (r : C) (s : S) (o : Optio
       (t.found_to r s (is_some o))
   pub leaves : Leaves t r s (t.found_to r s (is_some o)) None no_ticket
   pub state : StateStays t r s (t.found_to r s (is_some o))
-  pub home : IsHome waits (watch_at t r s) o
+  pub home : IsHome (post_of t r s).zone (watch_at t r s) o
       → IsHome (turn_post t r (t.found_to r s (is_some o))).zone (turn_post t r (t.found_to r s (is_some o))).watch o
-  pub trail : (old new : Known) (w : ℕ) → Calm (step.Peek (index old.view.number 0) w ∷ []) old new
+  pub trail : (old new : Known) (w : ℕ) → o ≡ entry_of w → Calm (step.Peek (index old.view.number 0) w ∷ []) old new
       → t.Trail old r s → TurnTrail t new r (t.found_to r s (is_some o))
 
 -- what a hold has seen of the own entry
@@ -226,7 +231,7 @@ pub record GiveLaw {C S O : Type 0} (t : Table C S O) (r : C) (s : S) : Type 0 w
   pub home : IsHome (turn_post t r (t.found_to r s false)).zone (turn_post t r (t.found_to r s false)).watch None
   pub permits : (old mid : Known) (w : ℕ) → Calm (step.Saw (index old.view.number 0) w ∷ []) old mid
       → t.Fits r → mid.at ≡ head_in t r s → t.Trail old r s → OwesNoPermit mid
-  pub trail : (old new : Known) (w : ℕ)
+  pub trail : (old new : Known) (w : ℕ) → None ≡ entry_of w
       → Calm (step.Saw (index old.view.number 0) w ∷ step.Unlock (head_in t r s) false ∷ []) old new
       → t.Trail old r s → TurnTrail t new r (t.found_to r s false)
 
@@ -238,7 +243,7 @@ pub record PareLaw {C S O : Type 0} (t : Table C S O) (r : C) (s : S) : Type 0 w
   pub takes_leaves : Leaves t r s (t.found_to r s true) (Some (head_in t r s)) (taken (head_in t r s))
   pub takes_state : StateStays t r s (t.found_to r s true)
   pub takes_home : IsHome (turn_post t r (t.found_to r s true)).zone (turn_post t r (t.found_to r s true)).watch None
-  pub takes_trail : (old new : Known) (w : ℕ)
+  pub takes_trail : (old new : Known) (w : ℕ) (e : Entry) → Some e ≡ entry_of w
       → Calm (step.Saw (index old.view.number 0) w ∷ step.Unqueue (index old.view.number 0) ∷ []) old new
       → t.Trail old r s → TurnTrail t new r (t.found_to r s true)
   pub gives : GiveLaw t r s
@@ -253,7 +258,7 @@ pub record HeedLaw {C S O : Type 0} (t : Table C S O) (r : C) (s : S) : Type 0 w
       (λ me k x. HasShown me k (Some e)) (t.heeded_to r s hit)
   pub leaves : (hit : Bool) → Leaves t r s (t.heeded_to r s hit) (Some (head_in t r s)) (taken (head_in t r s))
   pub state : (hit : Bool) → StateStays t r s (t.heeded_to r s hit)
-  pub home : (hit : Bool) (o : Option Entry) → IsHome waits (watch_at t r s) o
+  pub home : (hit : Bool) (o : Option Entry) → IsHome (post_of t r s).zone (watch_at t r s) o
       → IsHome (turn_post t r (t.heeded_to r s hit)).zone (turn_post t r (t.heeded_to r s hit)).watch o
   pub trail : (hit : Bool) (old new : Known) (v w : ℕ) → pending (mask_in t r) (task_of w) ≡ hit
       → Calm (step.Saw (index old.view.number 0) v ∷ step.Look w ∷ []) old new → t.Trail old r s
@@ -323,7 +328,7 @@ pub record QueueLaw {C S O : Type 0} (t : Table C S O) (r : C) (s : S) : Type 0 
   pub stays_leaves : Leaves t r s (t.added_to r s adds.Stayed) (Some (head_in t r s)) (taken (head_in t r s))
   pub stays_state : IsStateFor (turn_post t r (t.added_to r s adds.Stayed)).stirs
       (turn_post t r (t.added_to r s adds.Stayed)).state (mask_in t r)
-  pub stays_home : (o : Option Entry) → IsHome waits (watch_at t r s) o
+  pub stays_home : (o : Option Entry) → IsHome (post_of t r s).zone (watch_at t r s) o
       → IsHome (turn_post t r (t.added_to r s adds.Stayed)).zone (turn_post t r (t.added_to r s adds.Stayed)).watch o
   pub stays_may : (k : Known) → IsStateFor (post_of t r s).stirs (post_of t r s).state k.book.state
       → MayStore (mask_in t r) k
@@ -415,4 +420,4 @@ pub record IsLawful {C S O : Type 0} (t : Table C S O) : Type 0 where
   pub worn_fits : (r : C) (p : ℕ) → t.Fits r → t.Fits (t.worn_at r p)
   pub there : (r : C) (s : S) → t.Fits r → IsThere (watch_at t r s)
   pub few : (r : C) (s : S) → t.Fits r → head_in t r s < HEADS
-  pub depth : (s : S) → t.depth s ≤ 4
+  pub depth : (s : S) → t.depth s ≤ 5

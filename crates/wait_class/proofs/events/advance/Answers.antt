@@ -32,9 +32,6 @@ returns-in-Draw-clause-falls g c =
     falls_same t c.args.stage c.drawn_to.result (subst (λ n. t.depth n ≡ t.depth c.args.stage)
     (sym c.drawn_to.ensures) c.draw_event.ensures.depth) c.lock_event.result c.lock_event.ensures.falls
 
-pub returns-in-Own-clause-passes : goal.returns-in-Own-clause-passes
-returns-in-Own-clause-passes g c = inl c.requires.passes
-
 pub returns-in-Load-clause-passes : goal.returns-in-Load-clause-passes
 returns-in-Load-clause-passes g c = inl c.requires.passes
 

@@ -192,7 +192,7 @@ module _ {C S O : Type 0} (t : Table C S O) where
                 (subst (IsHome (turn_post t r.of u).zone (turn_post t r.of u).watch)
                 (sym (ap (λ (n : ℕ). (told_of new).bits.stored (index n 0)) h.carries.number ∙ seen_is old new o h))
                 (l.home (shown_home old new r s l.opens a o h)));
-            trail = l.trail old new h.word h.reads (calm_peek old new o h none) a.trail;
+            trail = l.trail old new h.word (calm_peek old new o h none) (ap is_some (sym h.reads)) a.trail;
           };
         }
 
@@ -241,10 +241,10 @@ module _ {C S O : Type 0} (t : Table C S O) where
                 (subst (IsHome (turn_post t r.of u).zone (turn_post t r.of u).watch)
                 (sym (ap (λ (n : ℕ). (told_of new).bits.stored (index n 0)) h.carries.number ∙ x.out))
                 l.takes_home);
-            trail = l.takes_trail old new h.word e h.reads
+            trail = l.takes_trail old new h.word
                 (calm_on (step.Saw i h.word ∷ []) (step.Unqueue i ∷ []) old mid new
                 (calm_saw old mid (Some e) h (head_in t r.of s) (head_is old r s l.held l.opens.fresh a))
-                (calm_removed mid new i x.is)) a.trail;
+                (calm_removed mid new i x.is)) (ap is_some (sym h.reads)) a.trail;
           };
         }
 
@@ -273,10 +273,11 @@ module _ {C S O : Type 0} (t : Table C S O) where
             stands = back_stands t law mid new is (record p { zone = absent }) (turn_post t r.of u) m
                 l.leaves.head l.leaves.ticket (l.state mid.book.state m.state)
                 (none_in (turn_post t r.of u).zone p.watch (turn_post t r.of u).watch l.home);
-            trail = l.trail old new h.word h.reads
+            trail = l.trail old new h.word
                 (calm_on (step.Saw i h.word ∷ []) (step.Unlock (head_in t r.of s) false ∷ []) old mid new
                 (calm_saw old mid None h (head_in t r.of s) (head_is old r s held opens.fresh a))
-                (subst (λ (j : ℕ). Calm (step.Unlock j false ∷ []) mid new) at (calm_unlock mid new is))) a.trail;
+                (subst (λ (j : ℕ). Calm (step.Unlock j false ∷ []) mid new) at (calm_unlock mid new is)))
+                (ap is_some (sym h.reads)) a.trail;
           };
         }
 

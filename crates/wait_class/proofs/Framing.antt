@@ -219,7 +219,7 @@ module _ {W T O : Type 0} (e : FrameTable W T O) (ends : W → Bool → Next)
       leaves = record { head = refl; ticket = refl };
       state = λ σ s. s;
       home = λ h. h;
-      trail = λ old new w reads calm u. law.calm old new r.wait b (step.Peek (index old.view.number 0) w ∷ []) refl calm u;
+      trail = λ old new w calm shows u. law.calm old new r.wait b (step.Peek (index old.view.number 0) w ∷ []) refl calm u;
     }
     peek_finish None = record {
       free = refl;
@@ -235,7 +235,7 @@ module _ {W T O : Type 0} (e : FrameTable W T O) (ends : W → Bool → Next)
       leaves = record { head = l.head; ticket = l.ticket };
       state = λ σ s. zero_for _ _ σ s;
       home = λ h. l.home;
-      trail = λ old new w reads calm u. l.trail new
+      trail = λ old new w calm shows u. l.trail new
           (law.calm old new r.wait b (step.Peek (index old.view.number 0) w ∷ []) refl calm u);
     }
 
@@ -286,7 +286,7 @@ module _ {W T O : Type 0} (e : FrameTable W T O) (ends : W → Bool → Next)
       takes_leaves = record { head = refl; ticket = refl };
       takes_state = λ σ s. s;
       takes_home = tt;
-      takes_trail = λ old new w e reads calm u. law.calm old new r.wait b
+      takes_trail = λ old new w calm shows u. law.calm old new r.wait b
           (step.Saw (index old.view.number 0) w ∷ step.Unqueue (index old.view.number 0) ∷ []) refl calm u;
       gives = record {
         moves = record {
@@ -301,7 +301,7 @@ module _ {W T O : Type 0} (e : FrameTable W T O) (ends : W → Bool → Next)
         state = λ σ s. zero_for _ _ σ s;
         home = l.home;
         permits = λ old mid w calm fits at u. low mid fits at;
-        trail = λ old new w reads calm u. l.trail new (law.calm old new r.wait b
+        trail = λ old new w calm shows u. l.trail new (law.calm old new r.wait b
             (step.Saw (index old.view.number 0) w ∷ step.Unlock _ false ∷ []) refl calm u);
       };
     }

@@ -215,8 +215,8 @@ pub record PeekLaw {C S O : Type 0} (t : Table C S O) (r : C) (s : S) (o : Optio
   pub state : StateStays t r s (t.found_to r s (is_some o))
   pub home : IsHome (post_of t r s).zone (watch_at t r s) o
       → IsHome (turn_post t r (t.found_to r s (is_some o))).zone (turn_post t r (t.found_to r s (is_some o))).watch o
-  pub trail : (old new : Known) (w : ℕ) → o ≡ entry_of w → Calm (step.Peek (index old.view.number 0) w ∷ []) old new
-      → t.Trail old r s → TurnTrail t new r (t.found_to r s (is_some o))
+  pub trail : (old new : Known) (w : ℕ) → Calm (step.Peek (index old.view.number 0) w ∷ []) old new
+      → is_some (entry_of w) ≡ is_some o → t.Trail old r s → TurnTrail t new r (t.found_to r s (is_some o))
 
 -- what a hold has seen of the own entry
 abbrev pub HasShown : ℕ → Known → Option Entry → Type 0
@@ -231,9 +231,9 @@ pub record GiveLaw {C S O : Type 0} (t : Table C S O) (r : C) (s : S) : Type 0 w
   pub home : IsHome (turn_post t r (t.found_to r s false)).zone (turn_post t r (t.found_to r s false)).watch None
   pub permits : (old mid : Known) (w : ℕ) → Calm (step.Saw (index old.view.number 0) w ∷ []) old mid
       → t.Fits r → mid.at ≡ head_in t r s → t.Trail old r s → OwesNoPermit mid
-  pub trail : (old new : Known) (w : ℕ) → None ≡ entry_of w
+  pub trail : (old new : Known) (w : ℕ)
       → Calm (step.Saw (index old.view.number 0) w ∷ step.Unlock (head_in t r s) false ∷ []) old new
-      → t.Trail old r s → TurnTrail t new r (t.found_to r s false)
+      → is_some (entry_of w) ≡ false → t.Trail old r s → TurnTrail t new r (t.found_to r s false)
 
 pub record PareLaw {C S O : Type 0} (t : Table C S O) (r : C) (s : S) : Type 0 where
   pub held : IsHeld t r s
@@ -243,9 +243,9 @@ pub record PareLaw {C S O : Type 0} (t : Table C S O) (r : C) (s : S) : Type 0 w
   pub takes_leaves : Leaves t r s (t.found_to r s true) (Some (head_in t r s)) (taken (head_in t r s))
   pub takes_state : StateStays t r s (t.found_to r s true)
   pub takes_home : IsHome (turn_post t r (t.found_to r s true)).zone (turn_post t r (t.found_to r s true)).watch None
-  pub takes_trail : (old new : Known) (w : ℕ) (e : Entry) → Some e ≡ entry_of w
+  pub takes_trail : (old new : Known) (w : ℕ)
       → Calm (step.Saw (index old.view.number 0) w ∷ step.Unqueue (index old.view.number 0) ∷ []) old new
-      → t.Trail old r s → TurnTrail t new r (t.found_to r s true)
+      → is_some (entry_of w) ≡ true → t.Trail old r s → TurnTrail t new r (t.found_to r s true)
   pub gives : GiveLaw t r s
 
 -- in a hold the own entry is looked at, and then the own word for a signal

@@ -1,3 +1,8 @@
 pub mod PageGround
-pub mod PageEvents
+pub mod PageTrails
+pub mod PageLaws
+pub mod PageTries
+pub mod PageFlags
+pub mod PageQueues
+pub mod PageEndings
 pub mod PageWords

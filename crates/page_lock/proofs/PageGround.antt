@@ -37,7 +37,9 @@ use Rattle.wait_rule.proofs.KnownLaws.Debts.{LeavesNone, end_added, entries_debt
 use Rattle.wait_rule.proofs.KnownLaws.StayingParts.{owes_also, owes_out}
 use Rattle.wq_head.specs.Adds.{page_change}
 use Rattle.wait_class.specs.Posts.{Keeps}
+use Rattle.wait_class.specs.Laws.{KeepsLaws}
 use Rattle.wait_class.proofs.Ground.Keeping.{keeps_none}
+use Rattle.wait_class.proofs.Stays.{wait_stays}
 use Rattle.page_lock.specs.PageStays.{PageKeeps, amid}
 
 -- a part that takes no bit
@@ -55,7 +57,7 @@ page_keeps_of i c g old new k = record {
 }
 
 -- nothing yet
-pub page_keeps_none : (i : ℕ) (c : Watch) (g : Bool) (k : Known) → PageKeeps i c g g k k
+page_keeps_none : (i : ℕ) (c : Watch) (g : Bool) (k : Known) → PageKeeps i c g g k k
 page_keeps_none i c g k = page_keeps_of i c g k k (keeps_none i k)
 
 none_before : (has had s : Bool) → (has ≡ false → had ≡ false) → (has && s) ≡ false → (had && s) ≡ false
@@ -80,6 +82,25 @@ page_keeps_on i c had by has old mid new a b = record {
   grows = λ is. a.grows (b.grows is);
   keeps = λ d away. b.keeps d away ∙ a.keeps d (none_before has by (same d c) b.grows away);
   owes = λ x o. b.owes x (a.owes x o);
+}
+
+-- what stays over each kind of event
+pub page_stays : KeepsLaws PageKeeps
+page_stays = record {
+  domain = λ i c g h old new k. k.domain;
+  number = λ i c g h old new k. k.number;
+  none = page_keeps_none;
+  on = page_keeps_on;
+  told = λ i c g old new domain number told debts. page_keeps_of i c g old new
+      (wait_stays.told i c g old new domain number told debts);
+  lock = λ i c g old h x. page_keeps_of i c g old _ (wait_stays.lock i c g old h x);
+  unlock = λ i c g old new is. page_keeps_of i c g old new (wait_stays.unlock i c g old new is);
+  state = λ i c g old new σ is carries. page_keeps_of i c g old new (wait_stays.state i c g old new σ is carries);
+  look = λ i c g old new w is carries. page_keeps_of i c g old new (wait_stays.look i c g old new w is carries);
+  load = λ i c d g old new v is carries. page_keeps_of i c g old new (wait_stays.load i c d g old new v is carries);
+  own = λ c g old new o h. page_keeps_of (index old.view.number 0) c g old new (wait_stays.own c g old new o h);
+  removed = λ i c g old new is carries. page_keeps_of i c g old new (wait_stays.removed i c g old new is carries);
+  looks = λ i c g old new out l. page_keeps_of i c g old new (wait_stays.looks i c g old new out l);
 }
 
 -- an entry of which it is excused twice

@@ -1,4 +1,4 @@
-pub mod PageWaits
+pub mod PageTables
 pub mod PageStays
 pub mod PageEnds
 pub mod PageWords

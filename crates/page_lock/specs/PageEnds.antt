@@ -1,6 +1,6 @@
 -- To be believed.
 -- What whole waits for a page say.
-use Rattle.std.specs.Prelude.{ℕ, ◌≡◌, Bool, true, false, Result, Ok, Err, List, [], ◌∷◌, ◌++◌}
+use Rattle.std.specs.Prelude.{ℕ, ◌≡◌, ◌&&◌, Bool, true, false, Result, Ok, Err, List, [], ◌∷◌, ◌++◌}
 use Rattle.wait_model.specs.declared.calls.Call.TheVariants as calls
 use Rattle.wait_model.specs.declared.tasks.SleepState.{SleepState}
 use Rattle.wait_model.specs.declared.points.PagePoint.TheVariants as paging
@@ -16,22 +16,31 @@ use Rattle.wait_rule.specs.Ends.{WasWorn}
 use Rattle.wait_rule.specs.Known.{Known}
 use Rattle.wait_rule.specs.Says.{history_of}
 use Rattle.wait_rule.specs.Transitions.{call_program}
-use Rattle.wait_class.specs.Posts.{Runs}
-use Rattle.wait_class.specs.Posts.{EndsWith}
+use Rattle.wait_class.specs.Posts.{EndsWith, Runs, own_of as own_in}
+use Rattle.wait_class.specs.Tables.{has_sleep}
 use Rattle.bit_wait.specs.BitEnds.{answer_of}
-use Rattle.bit_wait.specs.BitWaits.{has_sleep}
 use Rattle.bit_wait.specs.declared.wait_calls.BitEnd.{BitEnd}
 use Rattle.bit_wait.specs.declared.wait_calls.BitEnd.TheVariants as bit_end
-use Rattle.page_lock.specs.PageWaits.{are_calm, head_in, own_in}
 use Rattle.page_lock.specs.declared.waits.PageOutcome.{PageOutcome}
 use Rattle.page_lock.specs.declared.waits.PageOutcome.TheVariants as outcome
-use Rattle.page_lock.specs.declared.waits.PageRun.{PageRun}
+use Rattle.page_lock.specs.declared.waits.LockPage.{LockPage}
 
 -- the answer of a wait that has ended
-abbrev pub end_in : PageRun → PageOutcome → Result (Unit {0}) BitEnd
+abbrev pub end_in : LockPage → PageOutcome → Result (Unit {0}) BitEnd
 end_in r outcome.Over = Ok tt
 end_in r outcome.Interrupted = Err (bit_end.Interrupted r.seen)
-end_in r outcome.Worn = Err (bit_end.Worn (head_in r) r.place)
+end_in r outcome.Worn = Err (bit_end.Worn (head_of (page r.page)) r.place)
+
+-- steps that try no bit, queue no entry and clear no flag
+abbrev pub is_calm : Step → Bool
+is_calm (step.Queue x e) = false
+is_calm (step.Consume c n r) = false
+is_calm (step.Unflag x o) = false
+is_calm _ = true
+
+abbrev pub are_calm : List Step → Bool
+are_calm [] = true
+are_calm (e ∷ es) = is_calm e && are_calm es
 
 -- The steps of a wait that a signal ended. As soon as its entry was queued, in the same hold, the test-and-set found
 -- `seen`, with the page set, and the task made no further one. After that its own word showed a signal that the state

@@ -4,8 +4,8 @@ use Rattle.std.specs.Prelude.{ℕ, ◌≡◌, Bool, true, false, is_some, Option
 use Rattle.wait_model.specs.declared.steps.Step.TheVariants as step
 use Rattle.wait_model.specs.declared.watches.Entry.{Entry}
 use Rattle.wait_model.specs.declared.watches.Watch.{Watch}
-use Rattle.wait_model.specs.PointFacts.{Zone, absent, waits, IsHome}
-use Rattle.wait_model.specs.Watches.{head_of}
+use Rattle.wait_model.specs.PointFacts.{Zone, IsHome, absent, free, pages, parts, seated, stands, waits}
+use Rattle.wait_model.specs.Watches.{bare, head_of}
 use Rattle.wait_model.specs.Tasks.{pending, task_of}
 use Rattle.wait_model.specs.Words.{entry_of}
 use Rattle.wait_rule.specs.Tickets.{taken}
@@ -37,7 +37,7 @@ use Rattle.wait_class.proofs.Ground.Standing.{
 use Rattle.wait_class.specs.declared.stages.Doing.TheVariants as doing
 use Rattle.wait_class.specs.declared.stages.Run.{Run}
 use Rattle.wait_class.specs.declared.stages.Turn.{Turn}
-use Rattle.wait_class.specs.Laws.{HasShown, IsHeld, IsLawful, IsOpen, LawOf, PareLaw, PeekLaw, GiveLaw, HeedLaw, mask_in}
+use Rattle.wait_class.specs.Laws.{GiveLaw, HasShown, HeedLaw, IsHeld, IsLawful, IsOpen, LawOf, PareLaw, PeekLaw, is_open, mask_in}
 use Rattle.wait_class.specs.Tables.{head_in}
 use Rattle.wait_class.specs.Tables.{Calm, IsAt, IsStop, Table, Turned, falls, post_of, turn_post, watch_at, watch_in}
 use Rattle.wait_class.proofs.CalmSteps.{calm_on, calm_peek, calm_removed, calm_saw, calm_step, calm_unlock}
@@ -55,8 +55,23 @@ use Rattle.wait_class.proofs.Turns.{
 }
 
 -- what a stage says of the own entry
-zone_home : (z : Zone) → z ≡ waits → (c : Watch) (o : Option Entry) → IsHome z c o → IsHome waits c o
-zone_home z is c o h = subst (λ (y : Zone). IsHome y c o) is h
+none_open : (z : Zone) → is_open z ≡ true → (c : Watch) → IsHome z c None
+none_open waits is c = tt
+none_open pages is c = tt
+none_open absent is c = tt
+none_open free is c = tt
+none_open stands is c = absurd (cc)
+none_open seated is c = absurd (cc)
+none_open (parts k) is c = absurd (cc)
+
+watch_open : (z : Zone) → is_open z ≡ true → (c : Watch) (e : Entry) → IsHome z c (Some e) → e.watch ≡ bare c
+watch_open waits is c e h = h.0
+watch_open pages is c e h = h.0
+watch_open absent is c e h = absurd (cc)
+watch_open free is c e h = absurd (cc)
+watch_open stands is c e h = absurd (cc)
+watch_open seated is c e h = absurd (cc)
+watch_open (parts k) is c e h = absurd (cc)
 
 pub none_in : (z : Zone) (c d : Watch) → IsHome z d None → (o : Option Entry) → IsHome absent c o → IsHome z d o
 none_in z c d home None h = home
@@ -79,14 +94,14 @@ stands_with k p q s head ticket state home = record {
 module _ {C S O : Type 0} (t : Table C S O) where
   -- where the own entry is queued it is one of this call
   pub shown_home : (old mid : Known) (r : Run C) (s : S) → IsOpen t s → IsAt t old r s → (o : Option Entry)
-      → HasSeenOwn old mid o → IsHome waits (watch_at t r.of s) o
-  shown_home old mid r s opens a None h = tt
-  shown_home old mid r s opens a (Some e) h = zone_home (zone_at (t.point_of s)) opens.zone (watch_at t r.of s) (Some e)
-      (seen_home old mid (Some e) h (post_of t r.of s) (stands_plain t old r s opens.fresh a.stands) e refl)
+      → HasSeenOwn old mid o → IsHome (post_of t r.of s).zone (watch_at t r.of s) o
+  shown_home old mid r s opens a None h = none_open (zone_at (t.point_of s)) opens.zone (watch_at t r.of s)
+  shown_home old mid r s opens a (Some e) h = seen_home old mid (Some e) h (post_of t r.of s)
+      (stands_plain t old r s opens.fresh a.stands) e refl
 
   pub shown_stands : (old mid : Known) (r : Run C) (s : S) → IsOpen t s → IsAt t old r s → (o : Option Entry)
-      → HasSeenOwn old mid o → Stands mid (record (post_of t r.of s) { zone = waits })
-  shown_stands old mid r s opens a o h = seen_stands old mid o h (post_of t r.of s) waits
+      → HasSeenOwn old mid o → Stands mid (post_of t r.of s)
+  shown_stands old mid r s opens a o h = seen_stands old mid o h (post_of t r.of s) (post_of t r.of s).zone
       (stands_plain t old r s opens.fresh a.stands) (shown_home old mid r s opens a o h)
 
   -- the head that is held
@@ -114,7 +129,8 @@ module _ {C S O : Type 0} (t : Table C S O) where
   module _ (old mid : Known) (r : Run C) (s : S) (held : IsHeld t r.of s) (opens : IsOpen t s) (a : IsAt t old r s)
       (o : Option Entry) (h : HasSeenOwn old mid o) where
     entry_here : (e : Entry) → o ≡ Some e → head_of e.watch ≡ head_in t r.of s
-    entry_here e is = ap head_of (subst (IsHome waits (watch_at t r.of s)) is (shown_home old mid r s opens a o h)).0
+    entry_here e is = ap head_of (watch_open (zone_at (t.point_of s)) opens.zone (watch_at t r.of s) e
+        (subst (IsHome (post_of t r.of s).zone (watch_at t r.of s)) is (shown_home old mid r s opens a o h)))
         ∙ bare_head (watch_at t r.of s)
 
     pub shows : (f : Option Entry) → o ≡ f → HasShown old.view.number mid f
@@ -160,7 +176,7 @@ module _ {C S O : Type 0} (t : Table C S O) where
         let none : old.book.head ≡ None = (stands_plain t old r s l.opens.fresh a.stands).head ∙ free in
         let is : new ≡ added old (item.Made (step.Peek i h.word)) =
         h.is ∙ ap (λ (q : Option ℕ). added old (item.Made (saw q i h.word))) none in
-        let w : Stands new (record p { zone = waits }) = shown_stands old new r s l.opens a o h in
+        let w : Stands new p = shown_stands old new r s l.opens a o h in
         record {
           goes = moves_quiet t law r.of s (with_entry o) ℕ (λ me k w. step.Peek (index me 0) w)
               (λ me k w. o ≡ entry_of w) u l.moves old.view.number old old new h.word refl (only_none old) h.reads
@@ -170,13 +186,13 @@ module _ {C S O : Type 0} (t : Table C S O) where
               (law.keeps.own (watch_in t r.of) (t.took s) old new o h);
           lands = record {
             up = h.carries.awake ∙ a.up;
-            stands = stands_with new (record p { zone = waits }) (turn_post t r.of u) w (l.leaves.head ∙ sym free)
+            stands = stands_with new p (turn_post t r.of u) w (l.leaves.head ∙ sym free)
                 (l.leaves.ticket ∙ sym (free_ticket None (t.plan_of r.of) (t.point_of s) l.free))
                 (l.state new.book.state w.state)
                 (subst (IsHome (turn_post t r.of u).zone (turn_post t r.of u).watch)
                 (sym (ap (λ (n : ℕ). (told_of new).bits.stored (index n 0)) h.carries.number ∙ seen_is old new o h))
                 (l.home (shown_home old new r s l.opens a o h)));
-            trail = l.trail old new h.word (calm_peek old new o h none) a.trail;
+            trail = l.trail old new h.word (calm_peek old new o h none) (ap is_some (sym h.reads)) a.trail;
           };
         }
 
@@ -218,7 +234,7 @@ module _ {C S O : Type 0} (t : Table C S O) where
               (law.keeps.removed i (watch_in t r.of) (t.took s) mid new x.is x.carries));
           lands = record {
             up = x.carries.awake ∙ (h.carries.awake ∙ a.up);
-            stands = carried_stands (take_off_change i) mid new (record p { zone = waits }) (turn_post t r.of u)
+            stands = carried_stands (take_off_change i) mid new p (turn_post t r.of u)
                 x.carries m (λ j at. holds_new.agreed) (sym head) (λ j at. m.at j (sym head ∙ at))
                 (post_ticket old r s l.held l.opens.fresh a ∙ sym l.takes_leaves.ticket)
                 (l.takes_state mid.book.state m.state)
@@ -351,7 +367,7 @@ module _ {C S O : Type 0} (t : Table C S O) where
               (law.keeps.look i (watch_in t r.of) (t.took s) mid new w is carries));
           lands = record {
             up = carries.awake ∙ (h.carries.awake ∙ a.up);
-            stands = still_stands unchanged mid new (record p { zone = waits }) (turn_post t r.of u) carries m
+            stands = still_stands unchanged mid new p (turn_post t r.of u) carries m
                 (λ j at. ap (λ (k : Known). k.book.differs) is ∙ m.agreed j (sym head ∙ at)) refl (λ x. refl)
                 (sym head) (λ j at. m.at j (sym head ∙ at))
                 (post_ticket old r s l.held l.opens.fresh a ∙ sym (l.leaves hit).ticket)

@@ -215,7 +215,7 @@ module _ {W T O : Type 0} (e : FrameTable W T O) (ends : W → Bool → Next)
       leaves = record { head = refl; ticket = refl };
       state = λ σ s. s;
       home = λ h. h;
-      trail = λ old new w calm u. law.calm old new r.wait b (step.Peek (index old.view.number 0) w ∷ []) refl calm u;
+      trail = λ old new w calm shows u. law.calm old new r.wait b (step.Peek (index old.view.number 0) w ∷ []) refl calm u;
     }
     peek_finish None = record {
       free = refl;
@@ -231,7 +231,7 @@ module _ {W T O : Type 0} (e : FrameTable W T O) (ends : W → Bool → Next)
       leaves = record { head = l.head; ticket = l.ticket };
       state = λ σ s. zero_for _ _ σ s;
       home = λ h. l.home;
-      trail = λ old new w calm u. l.trail new
+      trail = λ old new w calm shows u. l.trail new
           (law.calm old new r.wait b (step.Peek (index old.view.number 0) w ∷ []) refl calm u);
     }
 

@@ -18,3 +18,4 @@ pub mod CallPlans
 pub mod Ways
 pub mod Wholes
 pub mod Stays
+pub mod OwnSteps

@@ -4,7 +4,7 @@ use Rattle.std.specs.Prelude.{ℕ, ◌≡◌, ◌&&◌, Bool, true, false, is_so
 use Rattle.wait_model.specs.declared.queues.Form.{Form}
 use Rattle.wait_model.specs.declared.steps.Step.TheVariants as step
 use Rattle.wait_model.specs.declared.watches.Entry.{Entry}
-use Rattle.wait_model.specs.PointFacts.{absent, waits, IsHome}
+use Rattle.wait_model.specs.PointFacts.{IsHome, absent}
 use Rattle.wait_model.specs.Views.{View as Told}
 use Rattle.wait_rule.specs.declared.journal.Item.{Item}
 use Rattle.wait_rule.specs.declared.journal.Item.TheVariants as item
@@ -138,7 +138,7 @@ module _ {C S O : Type 0} (t : Table C S O) (law : IsLawful t) where
               (law.keeps.state i (watch_in t r.of) (t.took s) mid new σ is carries));
           lands = record {
             up = state_up mid new σ is carries (own.carries.awake ∙ a.up);
-            stands = state_stands mid new σ is carries (record p { zone = waits }) (turn_post t r.of u)
+            stands = state_stands mid new σ is carries p (turn_post t r.of u)
                 (shown_stands t old mid r s l.opens a (Some e) own) (l.stays_leaves.head ∙ sym held_head)
                 (l.stays_leaves.ticket ∙ sym held_ticket) l.stays_state l.stays_home;
             trail = l.stays_trail old new own.word

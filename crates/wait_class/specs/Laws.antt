@@ -12,7 +12,7 @@ use Rattle.wait_model.specs.declared.queues.Form.{Form}
 use Rattle.wait_model.specs.Queues.{place_for}
 use Rattle.wait_model.specs.Runs.{entry_for}
 use Rattle.wait_model.specs.Views.{off}
-use Rattle.wait_model.specs.PointFacts.{IsHome, holds, waits}
+use Rattle.wait_model.specs.PointFacts.{IsHome, Zone, holds, pages, waits}
 use Rattle.wait_model.specs.Tasks.{pending, state_mask, task_of}
 use Rattle.wait_model.specs.Watches.{IsThere, head_of}
 use Rattle.wait_model.specs.Words.{entry_of}
@@ -201,9 +201,14 @@ pub record SleepLaw {C S O : Type 0} (t : Table C S O) (r : C) (s n : S) : Type 
   pub trail : (old new : Known) (w : ℕ) → Calm (step.Sleep w ∷ []) old new → t.Trail old r s → t.Trail new r n
 
 -- a stage at which the own entry may be queued by this call
+abbrev pub is_open : Zone → Bool
+is_open waits = true
+is_open pages = true
+is_open _ = false
+
 pub record IsOpen {C S O : Type 0} (t : Table C S O) (s : S) : Type 0 where
   pub fresh : t.drawn s ≡ false
-  pub zone : zone_at (t.point_of s) ≡ waits
+  pub zone : is_open (zone_at (t.point_of s)) ≡ true
 
 pub record PeekLaw {C S O : Type 0} (t : Table C S O) (r : C) (s : S) (o : Option Entry) : Type 0 where
   pub free : IsFree t s
@@ -212,10 +217,10 @@ pub record PeekLaw {C S O : Type 0} (t : Table C S O) (r : C) (s : S) (o : Optio
       (t.found_to r s (is_some o))
   pub leaves : Leaves t r s (t.found_to r s (is_some o)) None no_ticket
   pub state : StateStays t r s (t.found_to r s (is_some o))
-  pub home : IsHome waits (watch_at t r s) o
+  pub home : IsHome (post_of t r s).zone (watch_at t r s) o
       → IsHome (turn_post t r (t.found_to r s (is_some o))).zone (turn_post t r (t.found_to r s (is_some o))).watch o
   pub trail : (old new : Known) (w : ℕ) → Calm (step.Peek (index old.view.number 0) w ∷ []) old new
-      → t.Trail old r s → TurnTrail t new r (t.found_to r s (is_some o))
+      → is_some (entry_of w) ≡ is_some o → t.Trail old r s → TurnTrail t new r (t.found_to r s (is_some o))
 
 -- what a hold has seen of the own entry
 abbrev pub HasShown : ℕ → Known → Option Entry → Type 0
@@ -257,7 +262,7 @@ pub record HeedLaw {C S O : Type 0} (t : Table C S O) (r : C) (s : S) : Type 0 w
       (λ me k x. HasShown me k (Some e)) (t.heeded_to r s hit)
   pub leaves : (hit : Bool) → Leaves t r s (t.heeded_to r s hit) (Some (head_in t r s)) (taken (head_in t r s))
   pub state : (hit : Bool) → StateStays t r s (t.heeded_to r s hit)
-  pub home : (hit : Bool) (o : Option Entry) → IsHome waits (watch_at t r s) o
+  pub home : (hit : Bool) (o : Option Entry) → IsHome (post_of t r s).zone (watch_at t r s) o
       → IsHome (turn_post t r (t.heeded_to r s hit)).zone (turn_post t r (t.heeded_to r s hit)).watch o
   pub trail : (hit : Bool) (old new : Known) (v w : ℕ) → pending (mask_in t r) (task_of w) ≡ hit
       → Calm (step.Saw (index old.view.number 0) v ∷ step.Look w ∷ []) old new → t.Trail old r s
@@ -327,7 +332,7 @@ pub record QueueLaw {C S O : Type 0} (t : Table C S O) (r : C) (s : S) : Type 0 
   pub stays_leaves : Leaves t r s (t.added_to r s adds.Stayed) (Some (head_in t r s)) (taken (head_in t r s))
   pub stays_state : IsStateFor (turn_post t r (t.added_to r s adds.Stayed)).stirs
       (turn_post t r (t.added_to r s adds.Stayed)).state (mask_in t r)
-  pub stays_home : (o : Option Entry) → IsHome waits (watch_at t r s) o
+  pub stays_home : (o : Option Entry) → IsHome (post_of t r s).zone (watch_at t r s) o
       → IsHome (turn_post t r (t.added_to r s adds.Stayed)).zone (turn_post t r (t.added_to r s adds.Stayed)).watch o
   pub stays_may : (k : Known) → IsStateFor (post_of t r s).stirs (post_of t r s).state k.book.state
       → MayStore (mask_in t r) k

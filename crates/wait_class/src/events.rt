@@ -304,7 +304,7 @@ pub fn advance<C: Machine>(
 {
     C::lawful();
     match C::doing(stage) {
-        Doing::Own => C::own(domain, task, run, stage),
+        Doing::Own => C::own(domain, task, run, stage, passing),
         Doing::Load => load_event(domain, task, run, stage),
         Doing::Draw => {
             draw_event(domain, task, run, stage);

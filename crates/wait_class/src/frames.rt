@@ -14,7 +14,7 @@ use crate::stages::{Added, Doing, Run, Turn};
 use wait_model::layout::RUNNING;
 use wait_model::tasks::SleepState;
 use wait_model::watches::Watch;
-use wait_rule::queues::cond_load;
+use wait_rule::queues::{Passing, cond_load};
 use wait_rule::{Domain, Task};
 use wq_head::Worn;
 
@@ -279,7 +279,9 @@ impl<F: Frame> Machine for Framed<F> {
         task: &mut Task,
         run: &mut Run<Framed<F>>,
         stage: Stage<F::Test>,
+        passing: &mut Passing,
     ) -> Turn<Stage<F::Test>, F::Outcome> {
+        let _ = *passing;
         match stage {
             Stage::Test(test) => F::test(domain, task, run, test),
             _ => unreachable!(),

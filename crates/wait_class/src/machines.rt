@@ -1,17 +1,19 @@
 //! Calls that wait, as tables of stages.
 
-ghost use Rattle.std.specs.Prelude.{◌≡◌, not, true};
+ghost use Rattle.std.specs.Prelude.{◌≡◌, ◌⊎◌, not, true};
 ghost use Rattle.wait_model.specs.PointFacts.{holds};
 ghost use Rattle.wait_model.specs.Tasks.{IsState};
+ghost use Rattle.wait_rule.specs.PassedLocks.{PassesNone};
 ghost use Rattle.wait_rule.specs.Says.{IsUp};
 ghost use Rattle.wait_class.specs.declared.stages.Added.TheVariants as adds;
 ghost use Rattle.wait_class.specs.declared.stages.Doing.TheVariants as doing;
 ghost use Rattle.wait_class.specs.Laws.{AddsOwn, IsLawful, MayAdd};
-ghost use Rattle.wait_class.specs.Tables.{IsAt, Table, Turned, falls, watch_at};
+ghost use Rattle.wait_class.specs.Tables.{IsAt, IsStop, Table, Turned, falls, watch_at};
 
 use crate::stages::{Added, Doing, Run, Turn};
 use wait_model::tasks::SleepState;
 use wait_model::watches::Watch;
+use wait_rule::queues::Passing;
 use wait_rule::{Domain, Task};
 use wq_head::Worn;
 
@@ -88,17 +90,20 @@ pub trait Machine: Copy {
         requires here { table.doing stage ≡ doing.Queue }
         ensures { AddsOwn table self stage task.old task.new result };
 
-    /// Makes an event of the call's own.
+    /// Makes an event of the call's own. Where it gives its head back `passing` has the lock that it passed on.
     fn own(
         domain: &Domain,
         task: &mut Task,
         run: &mut Run<Self>,
         stage: Self::Stage,
+        passing: &mut Passing,
     ) -> Turn<Self::Stage, Self::Outcome>
         requires of { task.old.domain ≡ domain.now }
+        requires passes { PassesNone passing.old }
         requires here { table.doing stage ≡ doing.Own }
         requires at { IsAt table task.old run.old stage }
         ensures turned { Turned table task.old task.new run.old run.new stage result }
+        ensures passes { PassesNone passing.new ⊎ IsStop table result }
         ensures falls { falls table stage result ≡ true };
 
     /// The table keeps the laws.

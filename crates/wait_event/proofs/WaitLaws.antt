@@ -437,7 +437,7 @@ module _ (r : WaitCall) where
     leaves = record { head = refl; ticket = refl };
     state = λ σ s. s;
     home = λ h. h;
-    trail = λ old new w calm u. u;
+    trail = λ old new w calm shows u. u;
   }
   peek_finish None = record {
     free = refl;
@@ -453,7 +453,7 @@ module _ (r : WaitCall) where
     leaves = record { head = refl; ticket = refl };
     state = λ σ s. s;
     home = λ h. tt;
-    trail = λ old new w calm u. u;
+    trail = λ old new w calm shows u. u;
   }
 
   draw_finish : DrawLaw wait_table r stage.FinishLock

@@ -14,7 +14,7 @@ use wait_model::heads::head_of;
 use wait_model::layout::RUNNING;
 use wait_model::tasks::{How, SleepState};
 use wait_model::watches::Watch;
-use wait_rule::queues::cond_load;
+use wait_rule::queues::{Passing, cond_load};
 use wait_rule::{Domain, Task};
 use wq_head::Worn;
 
@@ -347,7 +347,14 @@ impl Machine for WaitCall {
 
     /// The first load of the condition.
     #[inline(always)]
-    fn own(domain: &Domain, task: &mut Task, run: &mut WaitRun, stage: WaitStage) -> WaitTurn {
+    fn own(
+        domain: &Domain,
+        task: &mut Task,
+        run: &mut WaitRun,
+        stage: WaitStage,
+        passing: &mut Passing,
+    ) -> WaitTurn {
+        let _ = *passing;
         let value = cond_load(domain, task, run.of.watch);
         let next = run.of.loaded_to(stage, value);
         run.of = run.of.noted(stage, value);

@@ -1,17 +1,15 @@
 use Rattle.std.proofs.Common.{◌∙◌, ap}
-use Rattle.std.specs.Prelude.{Bool}
-use Rattle.wait_model.specs.Words.{flag_of}
-use Rattle.page_lock.specs.PageWaits.{goes_to, with_flag}
-use Rattle.page_lock.proofs.PageEvents.Turns.{advance_same}
-use Rattle.page_lock.proofs.PageEvents.Flags.{flag_goes}
+use Rattle.wait_class.specs.Tables.{falls}
+use Rattle.page_lock.specs.PageTables.{page_table}
+use Rattle.page_lock.proofs.PageFlags.{flag_advances, flags_fall}
 use Rattle.page_lock.proofs.waits.flag_event.Goals as goal
 
-pub returns-clause-advances : goal.returns-clause-advances
-returns-clause-advances c =
-    let w = c.flag_load-word.result in
-    advance_same c.args.task.now c.flag_load-word.new.task c.args.run.now c.args.stage c.flagged.result
-    (goes_to c.args.run.now c.args.stage (with_flag (flag_of w))) c.requires.at.runs c.flagged.ensures.plain
-    (c.flagged.ensures.goes ∙ ap (λ (b : Bool). goes_to c.args.run.now c.args.stage (with_flag b)) c.flag_of.ensures)
-    (flag_goes c.args.task.now c.flag_load-word.new.task c.args.run.now w c.flag_load-word.ensures.step
-    c.flag_load-word.ensures.carries c.flag_load-word.ensures.given c.flag_load-word.ensures.none c.args.stage
-    c.requires.here c.requires.at)
+pub returns-clause-turned : goal.returns-clause-turned
+returns-clause-turned c = flag_advances c.args.task.now c.flag_load-word.new.task c.args.run.now c.args.stage
+    c.requires.here c.requires.at c.flag_load-word.result c.flag_load-word.ensures.step
+    c.flag_load-word.ensures.carries c.flag_load-word.ensures.given c.flag_load-word.ensures.none c.flag_of.result
+    c.flag_of.ensures c.flagged_to.result c.flagged_to.ensures
+
+pub returns-clause-falls : goal.returns-clause-falls
+returns-clause-falls c = ap (falls page_table c.args.stage) c.flagged_to.ensures
+    ∙ flags_fall c.args.run.now.of c.args.stage c.requires.here c.flag_of.result

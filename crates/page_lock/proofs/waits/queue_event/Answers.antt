@@ -1,6 +1,5 @@
-use Rattle.page_lock.proofs.PageEvents.PermitHeads.{worn_owes}
-use Rattle.std.proofs.Common.{refl, sym}
-use Rattle.page_lock.proofs.PageEvents.Queues.{join_advances, queue_asks, queue_holds, queue_out, worn_advances}
+use Rattle.std.proofs.Common.{inl, inr, refl, sym}
+use Rattle.page_lock.proofs.PageQueues.{join_advances, queue_asks, queue_holds, queue_out, worn_advances, worn_owes}
 use Rattle.page_lock.proofs.waits.queue_event.Goals as goal
 
 pub add_for_page-requires-clause-held : goal.add_for_page-requires-clause-held
@@ -10,7 +9,7 @@ pub add_for_page-requires-clause-head : goal.add_for_page-requires-clause-head
 add_for_page-requires-clause-head c = sym (c.requires.at.stands.at _ refl)
 
 pub add_for_page-requires-clause-word : goal.add_for_page-requires-clause-word
-add_for_page-requires-clause-word c = c.requires.at.runs
+add_for_page-requires-clause-word c = c.requires.at.fits
 
 pub add_for_page-requires-clause-out : goal.add_for_page-requires-clause-out
 add_for_page-requires-clause-out c = queue_out c.args.task.now c.args.run.now c.requires.at
@@ -18,15 +17,21 @@ add_for_page-requires-clause-out c = queue_out c.args.task.now c.args.run.now c.
 pub add_for_page-requires-clause-asks : goal.add_for_page-requires-clause-asks
 add_for_page-requires-clause-asks c = queue_asks c.args.task.now c.args.run.now c.requires.at
 
-pub returns-in-Ok-clause-advances : goal.returns-in-Ok-clause-advances
-returns-in-Ok-clause-advances c = join_advances c.args.task.now c.add_for_page.new.task c.args.run.now c.requires.at
+pub returns-in-Ok-clause-turned : goal.returns-in-Ok-clause-turned
+returns-in-Ok-clause-turned c = join_advances c.args.task.now c.add_for_page.new.task c.args.run.now c.requires.at
     c.in-Ok.ensures.held c.in-Ok.ensures.queued
 
-pub returns-in-Err-clause-advances : goal.returns-in-Err-clause-advances
-returns-in-Err-clause-advances c = worn_advances c.args.task.now c.add_for_page.new.task c.give_back.new.task
-    c.args.run.now c.requires.at c.in-Err.worn c.in-Err.ensures.worn c.in-Err.ensures.held c.in-Err.ensures.asks
-    c.give_back.ensures.given c.in-Err.ensures.noted
+pub returns-in-Ok-clause-passes : goal.returns-in-Ok-clause-passes
+returns-in-Ok-clause-passes c = inl c.requires.passes
 
 pub give_back-requires-clause-permits : goal.give_back-requires-clause-permits
 give_back-requires-clause-permits c = worn_owes c.args.task.now c.add_for_page.new.task c.args.run.now c.requires.at
     c.add_for_page.ensures.at
+
+pub returns-in-Err-clause-turned : goal.returns-in-Err-clause-turned
+returns-in-Err-clause-turned c = worn_advances c.args.task.now c.add_for_page.new.task c.give_back.new.task
+    c.args.run.now c.requires.at c.in-Err.worn c.in-Err.ensures.worn c.in-Err.ensures.held c.in-Err.ensures.asks
+    c.give_back.ensures.given c.in-Err.ensures.noted
+
+pub returns-in-Err-clause-passes : goal.returns-in-Err-clause-passes
+returns-in-Err-clause-passes c = inr refl

@@ -1,21 +1,17 @@
-use Rattle.std.proofs.Common.{refl}
-use Rattle.wait_class.specs.Findings.{with_value}
-use Rattle.page_lock.specs.PageWaits.{goes_to}
-use Rattle.page_lock.proofs.PageEvents.Turns.{advance_by}
-use Rattle.page_lock.proofs.PageEvents.Tries.{may_try, try_goes}
+use Rattle.std.proofs.Common.{◌∙◌, ap}
+use Rattle.wait_class.specs.Tables.{falls}
+use Rattle.page_lock.specs.PageTables.{page_table}
+use Rattle.page_lock.proofs.PageTries.{may_try, tries_fall, try_advances}
 use Rattle.page_lock.proofs.waits.try_event.Goals as goal
 
 pub bit_set-value-requires-clause-agreed : goal.bit_set-value-requires-clause-agreed
-bit_set-value-requires-clause-agreed c = may_try c.args.task.now c.args.run.now c.args.stage c.requires.here
-    c.requires.at
+bit_set-value-requires-clause-agreed c = may_try c.args.task.now c.args.run.now c.args.stage c.requires.at
 
-pub returns-clause-advances : goal.returns-clause-advances
-returns-clause-advances c =
-    let r = c.args.run.now in
-    let v = c.bit_set-value.result in
-    let a = c.requires.at in
-    advance_by c.args.task.now c.bit_set-value.new.task r (record r { seen = v }) c.args.stage c.tried.result
-    (goes_to r c.args.stage (with_value v)) (record { page = refl; state = refl })
-    a.runs c.tried.ensures.plain c.tried.ensures.goes
-    (try_goes c.args.task.now c.bit_set-value.new.task r v c.bit_set-value.ensures.step c.bit_set-value.ensures.sets
-    c.args.stage c.requires.here a)
+pub returns-clause-turned : goal.returns-clause-turned
+returns-clause-turned c = try_advances c.args.task.now c.bit_set-value.new.task c.args.run.now c.args.stage
+    c.requires.here c.requires.at c.bit_set-value.result c.bit_set-value.ensures.step c.bit_set-value.ensures.sets
+    c.bit_at.result c.bit_at.ensures c.tried_to.result c.tried_to.ensures
+
+pub returns-clause-falls : goal.returns-clause-falls
+returns-clause-falls c = ap (falls page_table c.args.stage) c.tried_to.ensures
+    ∙ tries_fall c.args.stage c.requires.here c.bit_at.result

@@ -33,9 +33,6 @@ returns-in-Draw-clause-falls g c =
     (sym c.drawn_to.ensures) c.draw_event.ensures.depth)
     (λ u. ap (λ n. t.stays n u) c.drawn_to.ensures ∙ c.draw_event.ensures.stays u) c.lock_event.result c.lock_event.ensures.falls
 
-pub returns-in-Own-clause-passes : goal.returns-in-Own-clause-passes
-returns-in-Own-clause-passes g c = inl c.requires.passes
-
 pub returns-in-Load-clause-passes : goal.returns-in-Load-clause-passes
 returns-in-Load-clause-passes g c = inl c.requires.passes
 

@@ -1,4 +1,4 @@
-use Rattle.std.proofs.Common.{◌∙◌, refl, subst, sym}
+use Rattle.std.proofs.Common.{inl}
 use Rattle.wait_class.proofs.States.{load_advances, load_agreed, load_falls}
 use Rattle.wait_event.specs.Waits.{wait_table}
 use Rattle.wait_event.specs.declared.waits.WaitStage.{WaitStage}
@@ -23,3 +23,6 @@ returns-clause-turned c = first_advances c.args.task.now c.cond_load-value.new.t
 pub returns-clause-falls : goal.returns-clause-falls
 returns-clause-falls c = first_falls c.args.run.now.of c.args.stage c.requires.here c.cond_load-value.result
     c.loaded_to-next.result c.loaded_to-next.ensures
+
+pub returns-clause-passes : goal.returns-clause-passes
+returns-clause-passes c = inl c.requires.passes

@@ -1,0 +1,166 @@
+-- Whole waits for a page: how they begin, and what they say at their end.
+use Rattle.std.proofs.Common.{◌∙◌, ap, sym, refl, subst, inl, inr}
+use Rattle.std.proofs.lemmas.Bool.Decides.{eqb_tells}
+use Rattle.std.specs.Prelude.{ℕ, ◌≡◌, ◌≢◌, ◌<◌, ◌⊎◌, ◌==◌, Bool, true, false, MatchBool, None, Result, Some}
+use Rattle.wait_model.specs.declared.layout.TheConstants.{SLOTS}
+use Rattle.wait_model.specs.declared.calls.Call.TheVariants as calls
+use Rattle.wait_model.specs.declared.tasks.SleepState.{SleepState}
+use Rattle.wait_model.specs.declared.watches.Entry.{Entry}
+use Rattle.wait_model.specs.declared.watches.Watch.{Watch}
+use Rattle.wait_model.specs.declared.watches.Watch.TheVariants as watch
+use Rattle.wait_model.specs.Watches.{page}
+use Rattle.wait_rule.specs.Asked.{nothing_asked}
+use Rattle.wait_rule.specs.Bits.{StaysBeside, taken_bits}
+use Rattle.wait_rule.specs.Known.{Known}
+use Rattle.wait_rule.specs.Members.{IsOwnKind}
+use Rattle.wait_rule.specs.Queues.{IsIdle, IsTold, index}
+use Rattle.wait_rule.specs.Says.{AsksNoPage, IsClean, IsUp, asks_for, no_excuse, told_of}
+use Rattle.wait_rule.proofs.KnownLaws.AskedPages.{asks_no_page}
+use Rattle.wait_class.specs.Posts.{IsOut, own_of}
+use Rattle.wait_class.specs.declared.stages.Run.{Run}
+use Rattle.wait_class.specs.declared.stages.Turn.TheVariants as turn
+use Rattle.wait_class.specs.Tables.{Advances, IsAt, Plan, call_plan}
+use Rattle.wait_class.proofs.Wholes.{begins, ended_runs, none_of}
+use Rattle.bit_wait.specs.BitEnds.{answer_of}
+use Rattle.bit_wait.specs.Holders.{IsHolder}
+use Rattle.bit_wait.specs.declared.wait_calls.BitEnd.{BitEnd}
+use Rattle.bit_wait.proofs.Holders.{none_taken}
+use Rattle.page_lock.specs.PageStays.{PageKeeps, TakesPage}
+use Rattle.page_lock.specs.PageEnds.{EndsPageLock, IsCause, end_in, has_taken as given}
+use Rattle.page_lock.specs.PageTables.{IsFresh, IsRunning, answer_in, is_over, page_in, page_table}
+use Rattle.page_lock.specs.declared.waits.LockPage.{LockPage}
+use Rattle.page_lock.specs.declared.waits.PageOutcome.{PageOutcome}
+use Rattle.page_lock.specs.declared.waits.PageOutcome.TheVariants as outcome
+use Rattle.page_lock.specs.declared.waits.PageStage.TheVariants as stage
+use Rattle.page_lock.proofs.PageGround.{amid_from, amid_to, unasked_asks}
+
+-- a task that is idle, with its entry off, and that asks for no page, may begin
+pub begins_at : (k : Known) (r : Run LockPage) → IsRunning r.of → IsTold k → IsUp k → IsIdle k → IsOut k → AsksNoPage k
+    → IsAt page_table k r stage.First
+begins_at k r runs told up idle out asks = begins page_table k r stage.First runs refl refl refl refl
+    (asks_no_page k asks) told up idle out
+
+-- by the parts that a whole call leaves, whatever it answers
+module _ (old new : Known) (p : ℕ) (g : Bool) (k : PageKeeps (own_of old) (page p) false g old new) (up : IsUp old)
+    (idle : IsIdle old) (out : IsOut old) (held : (told_of old).hold.head ≡ None) (up_new : IsUp new)
+    (idle_new : IsIdle new) (held_new : (told_of new).hold.head ≡ None)
+    (out_new : (told_of new).bits.stored (own_of old) ≡ None) (none : asks_for new ≡ nothing_asked)
+    (kept : g ≡ true → (told_of new).bits.keeps (page p) ≡ true) where
+  abbrev i : ℕ
+  i = own_of old
+
+  none_stored : (y : ℕ) → (told_of old).bits.stored y ≡ None → (told_of new).bits.stored y ≡ None
+  none_stored y is = by (eqb_tells y i)
+    where
+      by : (((y == i) ≡ true) × (y ≡ i)) ⊎ (((y == i) ≡ false) × (y ≢ i)) → (told_of new).bits.stored y ≡ None
+      by (inl q) = ap (told_of new).bits.stored q.1 ∙ out_new
+      by (inr q) = k.out y q.0 is
+
+  stands_on : (slot : ℕ) → slot < SLOTS → (e : Entry)
+      → (told_of old).bits.stored (index old.view.number slot) ≡ Some e → IsOwnKind e.kind
+      → (told_of new).bits.stored (index old.view.number slot) ≡ Some e
+  stands_on slot few e is own = by (eqb_tells (index old.view.number slot) i)
+    where
+      by : (((index old.view.number slot == i) ≡ true) × (index old.view.number slot ≡ i))
+          ⊎ (((index old.view.number slot == i) ≡ false) × (index old.view.number slot ≢ i))
+          → (told_of new).bits.stored (index old.view.number slot) ≡ Some e
+      by (inl q) = absurd (let no : None ≡ Some e = sym (ap (told_of old).bits.stored q.1 ∙ out) ∙ is in cc)
+      by (inr q) = k.stands slot few q.0 e is own
+
+  stays : StaysBeside (taken_bits (page p) g) old new
+  stays = record {
+    domain = k.domain;
+    number = k.number;
+    awake = up_new ∙ sym up;
+    state = idle_new.running ∙ sym idle.running;
+    head = idle_new.free.head ∙ sym idle.free.head;
+    ticket = idle_new.free.ticket ∙ sym idle.free.ticket;
+    hold = held_new ∙ sym held;
+    mark = k.mark;
+    out = none_stored;
+    stands = stands_on;
+    keeps = k.keeps;
+  }
+
+  pub takes_page : TakesPage old new p g
+  takes_page = record {
+    stays = stays;
+    keeps = kept;
+    asks = unasked_asks new none;
+    fewer = k.fewer;
+    owes = λ x o. amid_to i (page p) g x new out_new none (k.owes x (amid_from i (page p) x old o));
+  }
+
+-- the cause of an answer, by the call
+abbrev CauseOf : Known → Watch → SleepState → Result (Unit {0}) BitEnd → Type 0
+CauseOf k (watch.Bit p b) st x = IsCause k p st x
+CauseOf k _ st x = ⊥
+
+answer_is : (e : LockPage) (o : PageOutcome) → answer_in o ≡ answer_of (end_in e o)
+answer_is e outcome.Over = refl
+answer_is e outcome.Interrupted = refl
+answer_is e outcome.Worn = refl
+
+taken_is : (e : LockPage) (o : PageOutcome) → is_over o ≡ given (end_in e o)
+taken_is e outcome.Over = refl
+taken_is e outcome.Interrupted = refl
+taken_is e outcome.Worn = refl
+
+-- a call that ended
+module _ (old new : Known) (r q : Run LockPage) (p : ℕ) (st : SleepState) (fresh : IsFresh r.of p st) (o : PageOutcome)
+    (a : Advances page_table old new r q stage.First (turn.Done o)) where
+  pub ends_up : IsUp new
+  ends_up = a.lands.up
+
+  pub ends_out : IsOut new
+  ends_out = none_of (page_in q.of) ((told_of new).bits.stored (own_of new)) a.lands.stands.home
+
+  -- it is idle again
+  pub ends_idle : (told_of old).mark ≡ None → IsIdle new
+  ends_idle unmarked = record {
+    running = a.lands.stands.state;
+    free = record { head = a.lands.stands.head; ticket = a.lands.stands.ticket };
+    unmarked = a.went.keeps.mark ∙ unmarked;
+  }
+
+  began : page_table.plan_of r.of ≡ call_plan (calls.LockPage p st)
+  began i = call_plan (calls.LockPage (fresh.page i) (fresh.state i))
+
+  page_is : page_in q.of ≡ page p
+  page_is = ap (λ (x : Plan). x.watch) (a.same ∙ began)
+
+  kept_to : PageKeeps (own_of old) (page p) false (given (end_in q.of o)) old new
+  kept_to = subst (λ (g : Bool). PageKeeps (own_of old) (page p) false g old new) (taken_is q.of o)
+      (subst (λ (c : Watch). PageKeeps (own_of old) c false (is_over o) old new) (ap (λ (x : Plan). x.watch) began)
+      a.went.keeps)
+
+  pub ends_takes : IsUp old → IsIdle old → IsOut old → (told_of old).hold.head ≡ None
+      → TakesPage old new p (given (end_in q.of o))
+  ends_takes up idle out held = takes_page old new p (given (end_in q.of o)) kept_to up idle out held ends_up
+      (ends_idle idle.unmarked) a.lands.stands.told
+      (ap (λ (n : ℕ). (told_of new).bits.stored (index n 0)) (sym a.went.keeps.number) ∙ ends_out) a.lands.trail.asks
+      (λ is. ap (told_of new).bits.keeps (sym page_is) ∙ a.lands.trail.keeps (taken_is q.of o ∙ is))
+
+  -- what it says at its end
+  pub ends_wait : EndsPageLock old new p st (end_in q.of o)
+  ends_wait = record {
+    runs = ended_runs page_table old new r q stage.First o a (call_plan (calls.LockPage p st)) began
+        (answer_of (end_in q.of o)) (answer_is q.of o);
+    cause = subst (λ (x : Plan). CauseOf new x.watch x.state (end_in q.of o)) (a.same ∙ began) a.lands.trail.cause;
+  }
+
+-- who owed nothing
+pub locks_clean : (old new : Known) (p : ℕ) → IsClean old → IsUp new → IsIdle new → (g : Bool)
+    → TakesPage old new p g → MatchBool g (IsHolder new (page p)) (IsClean new)
+locks_clean old new p clean up idle true t = record {
+  up = up;
+  idle = idle;
+  keeps = t.keeps refl;
+  owes = t.owes no_excuse clean.settled;
+}
+locks_clean old new p clean up idle false t = record {
+  up = up;
+  running = idle.running;
+  free = idle.free;
+  settled = none_taken (page p) new (t.owes no_excuse clean.settled);
+}

@@ -1,0 +1,335 @@
+-- To be believed.
+-- A wait for a page: its stages, where it goes on behind each, and what its places say of what the task asks for and of
+-- its last steps.
+use Rattle.std.specs.Prelude.{ℕ, ◌≡◌, ◌<◌, ◌⊎◌, Bool, true, false, if◌then◌else◌, None, List, [], ◌∷◌, ◌++◌}
+use Rattle.wait_model.specs.declared.layout.TheConstants.{BIT_WORDS}
+use Rattle.wait_model.specs.declared.calls.Answer.{Answer}
+use Rattle.wait_model.specs.declared.calls.Answer.TheVariants as answer
+use Rattle.wait_model.specs.declared.calls.Call.{Call}
+use Rattle.wait_model.specs.declared.calls.Call.TheVariants as calls
+use Rattle.wait_model.specs.declared.points.FinishPoint.TheVariants as finishing
+use Rattle.wait_model.specs.declared.points.PagePoint.TheVariants as paging
+use Rattle.wait_model.specs.declared.points.Point.{Point}
+use Rattle.wait_model.specs.declared.points.Point.TheVariants as at
+use Rattle.wait_model.specs.declared.points.Seen.{Seen}
+use Rattle.wait_model.specs.declared.steps.Step.{Step}
+use Rattle.wait_model.specs.declared.steps.Step.TheVariants as step
+use Rattle.wait_model.specs.declared.tasks.SleepState.{SleepState}
+use Rattle.wait_model.specs.declared.watches.Entry.{Entry}
+use Rattle.wait_model.specs.declared.watches.Watch.{Watch}
+use Rattle.wait_model.specs.Programs.{interrupted, zero_answer}
+use Rattle.wait_model.specs.PointFacts.{absent}
+use Rattle.wait_model.specs.Tasks.{looks_in, pending, state_mask, task_of}
+use Rattle.wait_model.specs.Views.{shown}
+use Rattle.wait_model.specs.Watches.{head_of, page}
+use Rattle.wait_model.specs.Words.{bit_at}
+use Rattle.wait_rule.specs.Asked.{nothing_asked, waits_for, was_given}
+use Rattle.wait_rule.specs.Bits.{KeepsBitOf}
+use Rattle.wait_rule.specs.Ends.{WasWorn}
+use Rattle.wait_rule.specs.Known.{Known}
+use Rattle.wait_rule.specs.Quiet.{is_quiet, is_told}
+use Rattle.wait_rule.specs.Says.{asks_for, history_of, told_of}
+use Rattle.wait_rule.specs.Tickets.{no_ticket}
+use Rattle.wait_class.specs.Posts.{EndsWith, Post, own_of}
+use Rattle.wait_class.specs.Findings.{nothing}
+use Rattle.wait_class.specs.Tables.{Table, call_plan, has_sleep}
+use Rattle.wait_class.specs.declared.stages.Doing.{Doing}
+use Rattle.wait_class.specs.declared.stages.Doing.TheVariants as doing
+use Rattle.wait_class.specs.declared.stages.Turn.{Turn}
+use Rattle.wait_class.specs.declared.stages.Turn.TheVariants as turn
+use Rattle.page_lock.specs.PageEnds.{IsCause, are_calm, end_in}
+use Rattle.page_lock.specs.PageStays.{PageKeeps}
+use Rattle.page_lock.specs.declared.waits.LockPage.{LockPage}
+use Rattle.page_lock.specs.declared.waits.PageOutcome.{PageOutcome}
+use Rattle.page_lock.specs.declared.waits.PageOutcome.TheVariants as outcome
+use Rattle.page_lock.specs.declared.waits.PageStage.{PageStage}
+use Rattle.page_lock.specs.declared.waits.PageStage.TheVariants as stage
+
+-- The stages: the point of the program, what is done there, and whether the ticket of its lock is drawn.
+abbrev pub point_of : PageStage → Point
+point_of stage.First = at.Page paging.First
+point_of stage.Unflag = at.Page paging.Unflag
+point_of stage.QueueLock = at.Page paging.Lock
+point_of stage.QueueTurn = at.Page paging.Lock
+point_of stage.Queue = at.Page paging.Queue
+point_of stage.Try = at.Page paging.Try
+point_of stage.Off = at.Page paging.Off
+point_of (stage.QueueUnlock got) = at.Page (paging.Unlock got)
+point_of stage.Worn = at.Worn
+point_of stage.State = at.Page paging.State
+point_of stage.Flag = at.Page paging.Flag
+point_of stage.Look = at.Page paging.Look
+point_of stage.Sleep = at.Page paging.Sleep
+point_of stage.FinishState = at.Page (paging.Finish finishing.State)
+point_of stage.FinishLook = at.Page (paging.Finish finishing.Look)
+point_of stage.FinishLock = at.Page (paging.Finish finishing.Lock)
+point_of stage.FinishTurn = at.Page (paging.Finish finishing.Lock)
+point_of stage.FinishQueue = at.Page (paging.Finish finishing.Queue)
+point_of stage.FinishUnlock = at.Page (paging.Finish finishing.Unlock)
+point_of stage.Last = at.Page paging.Last
+point_of stage.Clear = at.Page paging.Clear
+
+abbrev pub doing_at : PageStage → Doing
+doing_at stage.QueueLock = doing.Draw
+doing_at stage.QueueTurn = doing.Lock
+doing_at (stage.QueueUnlock got) = doing.Unlock
+doing_at stage.State = doing.State
+doing_at stage.Look = doing.Look
+doing_at stage.Sleep = doing.Sleep
+doing_at stage.FinishState = doing.State
+doing_at stage.FinishLook = doing.Peek
+doing_at stage.FinishLock = doing.Draw
+doing_at stage.FinishTurn = doing.Lock
+doing_at stage.FinishQueue = doing.Pare
+doing_at stage.FinishUnlock = doing.Unlock
+doing_at _ = doing.Own
+
+abbrev pub is_turn : PageStage → Bool
+is_turn stage.QueueTurn = true
+is_turn stage.FinishTurn = true
+is_turn _ = false
+
+-- the stages of own events of which there are several: test-and-sets, and looks at the flag
+abbrev pub TriesAt : PageStage → Type 0
+TriesAt stage.First = Unit {0}
+TriesAt stage.Try = Unit {0}
+TriesAt stage.Worn = Unit {0}
+TriesAt _ = ⊥
+
+abbrev pub FlagsAt : PageStage → Type 0
+FlagsAt stage.Flag = Unit {0}
+FlagsAt stage.Last = Unit {0}
+FlagsAt _ = ⊥
+
+-- the call has the page by the task's own history
+abbrev pub took_at : PageStage → Bool
+took_at stage.Off = true
+took_at (stage.QueueUnlock got) = got
+took_at _ = false
+
+abbrev pub is_over : PageOutcome → Bool
+is_over outcome.Over = true
+is_over _ = false
+
+-- how many events are left at most until no head is held
+abbrev pub depth_at : PageStage → ℕ
+depth_at stage.Queue = 4
+depth_at stage.Try = 3
+depth_at stage.Off = 2
+depth_at (stage.QueueUnlock got) = 1
+depth_at stage.FinishQueue = 2
+depth_at stage.FinishUnlock = 1
+depth_at _ = 5
+
+-- where a wait goes on behind a draw, behind a lock, an unlock and a store of a state, by what it found, and behind its
+-- test-and-set and its look at the flag
+abbrev pub PageTurn : Type 0
+PageTurn = Turn PageStage PageOutcome
+
+abbrev pub drawn_to : PageStage → PageStage
+drawn_to stage.QueueLock = stage.QueueTurn
+drawn_to stage.FinishLock = stage.FinishTurn
+drawn_to s = s
+
+abbrev pub next_of : PageStage → PageTurn
+next_of stage.QueueTurn = turn.Again stage.Queue
+next_of (stage.QueueUnlock true) = turn.Done outcome.Over
+next_of (stage.QueueUnlock false) = turn.Again stage.State
+next_of stage.State = turn.Again stage.Flag
+next_of stage.FinishState = turn.Again stage.FinishLook
+next_of stage.FinishTurn = turn.Again stage.FinishQueue
+next_of stage.FinishUnlock = turn.Again stage.Last
+next_of s = turn.Again s
+
+abbrev pub found_to : PageStage → Bool → PageTurn
+found_to stage.Look hit = if hit then turn.Again stage.FinishState else turn.Again stage.Sleep
+found_to stage.FinishLook hit = if hit then turn.Again stage.FinishLock else turn.Again stage.Last
+found_to stage.FinishQueue hit = if hit then turn.Again stage.FinishUnlock else turn.Again stage.Last
+found_to s hit = turn.Again s
+
+abbrev pub tried_to : PageStage → Bool → PageTurn
+tried_to stage.Try set = if set then turn.Again (stage.QueueUnlock false) else turn.Again stage.Off
+tried_to stage.Worn set = if set then turn.Done outcome.Worn else turn.Done outcome.Over
+tried_to _ set = if set then turn.Again stage.Unflag else turn.Done outcome.Over
+
+abbrev pub flagged_to : LockPage → PageStage → Bool → PageTurn
+flagged_to r stage.Last hit = if hit then turn.Again stage.Clear else turn.Done outcome.Interrupted
+flagged_to r _ hit = if hit then turn.Again stage.FinishState
+    else if looks_in r.state then turn.Again stage.Look else turn.Again stage.Sleep
+
+abbrev pub state_at : LockPage → PageStage → ℕ
+state_at r stage.State = state_mask r.state
+state_at r _ = 0
+
+-- where a wait goes on that was put asleep
+abbrev pub is_behind_sleep : PageStage → Bool
+is_behind_sleep stage.State = true
+is_behind_sleep _ = false
+
+abbrev pub answer_in : PageOutcome → Answer
+answer_in outcome.Over = zero_answer
+answer_in outcome.Interrupted = interrupted
+answer_in outcome.Worn = answer.Worn
+
+-- the page that the call waits for, and the call
+abbrev pub page_in : LockPage → Watch
+page_in r = page r.page
+
+abbrev pub head_in : LockPage → ℕ
+head_in r = head_of (page_in r)
+
+abbrev pub page_call : LockPage → Call
+page_call r = calls.LockPage r.page r.state
+
+-- the numbers of a wait are in their ranges
+abbrev pub IsRunning : LockPage → Type 0
+IsRunning r = r.page < BIT_WORDS
+
+-- a wait that has not begun
+pub record IsFresh (r : LockPage) (p : ℕ) (st : SleepState) : Type 0 where
+  pub page : r.page ≡ p
+  pub state : r.state ≡ st
+
+-- The wait has ended: the task is RUNNING, holds no head, and its entry is off.
+abbrev pub end_post : LockPage → PageOutcome → Post
+end_post r o = record {
+  head = None;
+  ticket = no_ticket;
+  stirs = false;
+  state = state_mask r.state;
+  zone = absent;
+  watch = page_in r;
+}
+
+-- what the flag shows
+abbrev pub with_flag : Bool → Seen
+with_flag hit = record nothing { flag = hit }
+
+-- what a test-and-set of the page adds, as the last one found it
+abbrev pub tries_page : LockPage → List Step
+tries_page r = step.Consume (page_in r) 1 r.seen ∷ []
+
+-- The test-and-set that was made as soon as the entry was queued, in the same hold, found the page set. The task has
+-- tried it no more since.
+pub record FoundSet (k : Known) (r : LockPage) : Type 0 where
+  pub before : List Step
+  pub entry : Entry
+  pub more : List Step
+  pub ends : history_of k ≡ before ++ (step.Queue (own_of k) entry ∷ step.Consume (page_in r) 1 r.seen ∷ more)
+  pub set : bit_at r.seen 0 ≡ true
+  pub calm : are_calm more ≡ true
+
+-- After that the own word showed a signal that the state admits. The task has not slept since.
+pub record FoundSignal (k : Known) (r : LockPage) : Type 0 where
+  pub found : FoundSet k r
+  pub front : List Step
+  pub look : ℕ
+  pub later : List Step
+  pub looked : found.more ≡ front ++ (step.Look look ∷ later)
+  pub pends : pending (state_mask r.state) (task_of look) ≡ true
+  pub awake : has_sleep later ≡ false
+
+-- A place of the head was noted at which no place is left, and the head given back.
+pub record FoundWorn (k : Known) (r : LockPage) (more : List Step) : Type 0 where
+  pub noted : WasWorn k.view.number k.view.items (head_in r) r.place
+  pub ends : EndsWith k (step.Unlock (head_in r) false ∷ more)
+
+-- The task asks for no page; since it cleared its flag a page alone sets it; and it has been given the page that it
+-- waited for.
+abbrev pub IsUnasked : Known → Type 0
+IsUnasked k = asks_for k ≡ nothing_asked
+
+abbrev pub IsQuiet : Known → Type 0
+IsQuiet k = is_quiet (own_of k) (history_of k) ≡ true
+
+abbrev pub IsGiven : Known → LockPage → Type 0
+IsGiven k r = asks_for k ≡ was_given (own_of k) r.page
+
+-- it has queued its entry for the page, in the hold that it is in
+pub record HasJoined (k : Known) (r : LockPage) : Type 0 where
+  pub asks : asks_for k ≡ waits_for (own_of k) r.page
+  pub quiet : IsQuiet k
+  pub entry : Entry
+  pub shows : (told_of k).hold.book (own_of k) ≡ shown entry
+  pub ends : EndsWith k (step.Queue (own_of k) entry ∷ [])
+
+-- and it has taken the page in it
+pub record HasGot (k : Known) (r : LockPage) : Type 0 where
+  pub asks : asks_for k ≡ waits_for (own_of k) r.page
+  pub entry : Entry
+  pub shows : (told_of k).hold.book (own_of k) ≡ shown entry
+  pub keeps : KeepsBitOf k (page_in r)
+
+-- it has found the page set, and waits for it
+pub record IsWaiting (k : Known) (r : LockPage) : Type 0 where
+  pub asks : asks_for k ≡ waits_for (own_of k) r.page
+  pub quiet : IsQuiet k
+  pub found : FoundSet k r
+
+-- it waits no more: its flag told of the page, or it found a signal
+abbrev pub HasLeft : Known → LockPage → Type 0
+HasLeft k r = (is_told (own_of k) (history_of k) ≡ true) ⊎ FoundSignal k r
+
+-- its entry is off: it found it off, and has been given the page, or it took it off itself
+pub record IsOff (k : Known) (r : LockPage) : Type 0 where
+  pub asks : IsGiven k r ⊎ IsUnasked k
+  pub quiet : IsQuiet k
+  pub found : FoundSet k r
+
+-- what a stage says of what the task asks for, and of the last steps
+abbrev pub TrailAt : Known → LockPage → PageStage → Type 0
+TrailAt k r stage.First = IsUnasked k
+TrailAt k r stage.Unflag = IsUnasked k
+TrailAt k r stage.QueueLock = IsUnasked k × IsQuiet k
+TrailAt k r stage.QueueTurn = IsUnasked k × IsQuiet k
+TrailAt k r stage.Queue = IsUnasked k × IsQuiet k
+TrailAt k r stage.Try = HasJoined k r
+TrailAt k r stage.Off = HasGot k r
+TrailAt k r (stage.QueueUnlock true) = IsUnasked k × KeepsBitOf k (page_in r)
+TrailAt k r (stage.QueueUnlock false) = IsWaiting k r
+TrailAt k r stage.Worn = IsUnasked k × FoundWorn k r []
+TrailAt k r stage.State = IsWaiting k r
+TrailAt k r stage.Flag = IsWaiting k r
+TrailAt k r stage.Look = IsWaiting k r
+TrailAt k r stage.Sleep = IsWaiting k r
+TrailAt k r stage.FinishUnlock = IsOff k r × HasLeft k r
+TrailAt k r stage.Last = IsOff k r × HasLeft k r
+TrailAt k r stage.Clear = IsGiven k r
+TrailAt k r _ = IsWaiting k r × HasLeft k r
+
+-- The answer has its cause; the task keeps the page where it took it, and asks for none any more.
+pub record EndTrail (k : Known) (r : LockPage) (o : PageOutcome) : Type 0 where
+  pub cause : IsCause k r.page r.state (end_in r o)
+  pub keeps : is_over o ≡ true → KeepsBitOf k (page_in r)
+  pub asks : IsUnasked k
+
+abbrev pub page_table : Table LockPage PageStage PageOutcome
+page_table = record {
+  plan_of = λ r. call_plan (page_call r);
+  Fits = IsRunning;
+  worn_at = λ r p. record r { place = p };
+  asks_first = λ r. false;
+  joined_at = λ r s first. r;
+  point_of = point_of;
+  doing = doing_at;
+  drawn = is_turn;
+  took = took_at;
+  depth = depth_at;
+  drawn_to = drawn_to;
+  next_of = λ r s. next_of s;
+  noted = λ r s v. r;
+  loaded_to = λ r s v. turn.Again s;
+  found_to = λ r s hit. found_to s hit;
+  heeded_to = λ r s hit. turn.Again s;
+  slept_to = λ r s. stage.State;
+  asleep_at = is_behind_sleep;
+  added_to = λ r s a. turn.Again s;
+  state_at = state_at;
+  answer_of = answer_in;
+  has_taken = is_over;
+  end_post = end_post;
+  Tells = λ r q ts. Unit {0};
+  Trail = TrailAt;
+  TrailEnd = EndTrail;
+  Keeps = PageKeeps;
+}

@@ -370,9 +370,10 @@ impl Machine for LockPage {
         self
     }
 
+    /// It queues its entry by an event of its own, which needs no look at it.
     #[inline(always)]
     fn add(self, _domain: &Domain, _task: &mut Task, _stage: PageStage) -> Result<bool, Worn> {
-        unreachable!()
+        Ok(false)
     }
 
     #[inline(always)]

@@ -269,8 +269,10 @@ impl<F: Frame> Machine for Framed<F> {
 
     #[inline(always)]
     fn add(self, domain: &Domain, task: &mut Task, stage: Stage<F::Test>) -> Result<bool, Worn> {
-        let _ = stage;
-        F::add(self, domain, task)
+        match stage {
+            Stage::PrepareQueue => F::add(self, domain, task),
+            _ => Ok(false),
+        }
     }
 
     #[inline(always)]

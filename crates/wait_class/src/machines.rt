@@ -82,13 +82,13 @@ pub trait Machine: Copy {
     fn joined_at(self, stage: Self::Stage, first: bool) -> Self
         ensures { result ≡ table.joined_at self stage first };
 
-    /// Queues the own entry, which is off. Where the call tells it, true: the head had no member.
+    /// Queues the own entry, which is off, at a stage at which entries are queued; elsewhere what it answers says
+    /// nothing. Where the call tells it, true: the head had no member.
     fn add(self, domain: &Domain, task: &mut Task, stage: Self::Stage) -> Result<bool, Worn>
         requires of { task.old.domain ≡ domain.now }
         requires up { IsUp task.old }
         requires may { MayAdd table self stage task.old }
-        requires here { table.doing stage ≡ doing.Queue }
-        ensures { AddsOwn table self stage task.old task.new result };
+        ensures { table.doing stage ≡ doing.Queue → AddsOwn table self stage task.old task.new result };
 
     /// Makes an event of the call's own. Where it gives its head back `passing` has the lock that it passed on.
     fn own(

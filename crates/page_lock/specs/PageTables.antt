@@ -315,6 +315,7 @@ page_table = record {
   drawn = is_turn;
   took = took_at;
   depth = depth_at;
+  stays = λ s u. true;
   drawn_to = drawn_to;
   next_of = λ r s. next_of s;
   noted = λ r s v. r;

@@ -334,8 +334,7 @@ impl Machine for WaitCall {
         requires of { task.old.domain ≡ domain.now }
         requires up { IsUp task.old }
         requires may { MayAdd wait_table self stage task.old }
-        requires here { wait_table.doing stage ≡ doing.Queue }
-        ensures { AddsOwn wait_table self stage task.old task.new result }
+        ensures { wait_table.doing stage ≡ doing.Queue → AddsOwn wait_table self stage task.old task.new result }
     {
         let watch = self.watch.bare();
         let first = is_first(domain, task, head_of(watch), self.tells_first());

@@ -39,17 +39,17 @@ add_by-requires-clause-out c = out_on c.args.self c.args.task.now c.is_first-fir
     c.is_first-first.ensures.looks c.requires.may.out
 
 pub returns-in-Ok : goal.returns-in-Ok
-returns-in-Ok c = record {
+returns-in-Ok c here = record {
   held = c.in-Ok.ensures.held;
   at = c.in-Ok.ensures.at ∙ ap (λ (k : Known). k.at) c.is_first-first.ensures.looks.is;
   by = add_joins c.args.self c.args.task.now c.is_first-first.new.task c.add_by.new.task c.is_first-first.ensures.looks
-      c.args.stage c.requires.here c.is_first-first.result c.tells_first.result c.tells_first.ensures
+      c.args.stage here c.is_first-first.result c.tells_first.result c.tells_first.ensures
       c.is_first-first.ensures.tells c.wait_form.result c.wait_form.ensures c.bare-watch.result c.bare-watch.ensures
       c.kind.result c.kind.ensures c.in-Ok.ensures.queued;
 }
 
 pub returns-in-Err : goal.returns-in-Err
-returns-in-Err c = record {
+returns-in-Err c here = record {
   held = c.in-Err.ensures.held;
   at = c.in-Err.ensures.at ∙ ap (λ (k : Known). k.at) c.is_first-first.ensures.looks.is;
   by = add_wears c.args.self c.args.task.now c.is_first-first.new.task c.add_by.new.task c.is_first-first.ensures.looks

@@ -66,7 +66,7 @@ module _ (old ended new : Known) (r q : Run (Framed LockBit)) (w b : ℕ) (st : 
   abbrev e : LockBit
   e = q.of.wait
 
-  rested : Rested ended new
+  pub rested : Rested ended new
   rested = rests ended new e.worn (state_mask e.state) h a.lands.stands.state
 
   pub ends_up : IsUp new

@@ -10,21 +10,18 @@ use Rattle.wait_event.specs.declared.waits.WaitRun.{WaitRun}
 use Rattle.wait_event.specs.declared.waits.WaitStage.TheVariants as event_stage
 use Rattle.wait_event.specs.declared.waits.WaitTurn.TheVariants as event_turn
 use Rattle.wait_event.proofs.Events.Parts.{advances_none as event_none}
-use Rattle.bit_wait.specs.BitWaits as bits
-use Rattle.bit_wait.specs.declared.waits.BitRun.{BitRun}
-use Rattle.bit_wait.specs.declared.waits.BitStage.TheVariants as bit_stage
-use Rattle.bit_wait.specs.declared.waits.BitTurn.TheVariants as bit_turn
-use Rattle.bit_wait.proofs.Events.Parts.{advances_none as bit_none}
-use Rattle.bit_wait.specs.LockWaits as locks
-use Rattle.bit_wait.specs.declared.lock_waits.LockRun.{LockRun}
-use Rattle.bit_wait.specs.declared.lock_waits.LockStage.TheVariants as lock_stage
-use Rattle.bit_wait.specs.declared.lock_waits.LockTurn.TheVariants as lock_turn
-use Rattle.bit_wait.proofs.LockEvents.Parts.{advances_none as lock_none}
-use Rattle.page_lock.specs.PageWaits as pages
-use Rattle.page_lock.specs.declared.waits.PageRun.{PageRun}
+use Rattle.wait_class.specs.declared.stages.Turn.TheVariants as turn
+use Rattle.wait_class.specs.Tables.{IsAt}
+use Rattle.wait_class.proofs.Framing.{framed_lawful}
+use Rattle.wait_class.proofs.Turns.{advances_none}
+use Rattle.bit_wait.specs.BitTables as bits
+use Rattle.bit_wait.proofs.BitLaws.{bit_lawful}
+use Rattle.bit_wait.specs.LockTables as locks
+use Rattle.bit_wait.proofs.LockLaws.{lock_lawful}
+use Rattle.page_lock.specs.PageTables as pages
 use Rattle.page_lock.specs.declared.waits.PageStage.TheVariants as page_stage
-use Rattle.page_lock.specs.declared.waits.PageTurn.TheVariants as page_turn
-use Rattle.page_lock.proofs.PageEvents.Parts.{advances_none as page_none}
+use Rattle.page_lock.proofs.PageLaws.{page_lawful}
+use Rattle.wq_checked.specs.Stages.{BitRun, LockRun, PageRun, bit_first, lock_first}
 use Rattle.wq_checked.specs.Calls.{BeginsBit, BeginsEvent, BeginsLock, BeginsPage, IsUnderWay}
 use Rattle.wq_checked.specs.Kept.{IsReady}
 use Rattle.wq_checked.specs.declared.calls.Running.TheVariants as running
@@ -51,62 +48,62 @@ module _ (k : Known) (r : WaitRun) (w : Watch) (how : How) (fresh : events.IsFre
     stands = at;
   }
 
-module _ (k : Known) (r : BitRun) (at : bits.IsAt k r bit_stage.First) where
-  pub bit_begins : (w b : ℕ) (st : SleepState) → bits.IsFresh r w b st
-      → BeginsBit k k w b st (running.Bit r (bit_turn.Again bit_stage.First))
+module _ (k : Known) (r : BitRun) (at : IsAt bits.bit_table k r bit_first) where
+  pub bit_begins : (w b : ℕ) (st : SleepState) → bits.IsFresh r.of.wait w b st
+      → BeginsBit k k w b st (running.Bit r (turn.Again bit_first))
   bit_begins w b st fresh = record {
     run = r;
     fresh = fresh;
     is = refl;
     same = refl;
-    came = bit_none k r bit_stage.First at;
+    came = advances_none bits.bit_table (framed_lawful bits.bit_frame bit_lawful) k r bit_first at;
   }
 
-  pub bit_under : (ks : KeptBits) → IsReady ks k → IsUnderWay ks k (running.Bit r (bit_turn.Again bit_stage.First))
+  pub bit_under : (ks : KeptBits) → IsReady ks k → IsUnderWay ks k (running.Bit r (turn.Again bit_first))
   bit_under ks ready = record {
     start = k;
-    first = running.Bit r (bit_turn.Again bit_stage.First);
+    first = running.Bit r (turn.Again bit_first);
     began = ready;
-    came = bit_none k r bit_stage.First at;
+    came = advances_none bits.bit_table (framed_lawful bits.bit_frame bit_lawful) k r bit_first at;
     stands = at;
   }
 
-module _ (k : Known) (r : LockRun) (at : locks.IsAt k r lock_stage.First) where
-  pub lock_begins : (w b : ℕ) (st : SleepState) → locks.IsFresh r w b st
-      → BeginsLock k k w b st (running.Lock r (lock_turn.Again lock_stage.First))
+module _ (k : Known) (r : LockRun) (at : IsAt locks.lock_table k r lock_first) where
+  pub lock_begins : (w b : ℕ) (st : SleepState) → locks.IsFresh r.of.wait w b st
+      → BeginsLock k k w b st (running.Lock r (turn.Again lock_first))
   lock_begins w b st fresh = record {
     run = r;
     fresh = fresh;
     is = refl;
     same = refl;
-    came = lock_none k r lock_stage.First at;
+    came = advances_none locks.lock_table (framed_lawful locks.lock_frame lock_lawful) k r lock_first at;
   }
 
-  pub lock_under : (ks : KeptBits) → IsReady ks k → IsUnderWay ks k (running.Lock r (lock_turn.Again lock_stage.First))
+  pub lock_under : (ks : KeptBits) → IsReady ks k → IsUnderWay ks k (running.Lock r (turn.Again lock_first))
   lock_under ks ready = record {
     start = k;
-    first = running.Lock r (lock_turn.Again lock_stage.First);
+    first = running.Lock r (turn.Again lock_first);
     began = ready;
-    came = lock_none k r lock_stage.First at;
+    came = advances_none locks.lock_table (framed_lawful locks.lock_frame lock_lawful) k r lock_first at;
     stands = at;
   }
 
-module _ (k : Known) (r : PageRun) (at : pages.IsAt k r page_stage.First) where
-  pub page_begins : (p : ℕ) (st : SleepState) → pages.IsFresh r p st
-      → BeginsPage k k p st (running.Page r (page_turn.Again page_stage.First))
+module _ (k : Known) (r : PageRun) (at : IsAt pages.page_table k r page_stage.First) where
+  pub page_begins : (p : ℕ) (st : SleepState) → pages.IsFresh r.of p st
+      → BeginsPage k k p st (running.Page r (turn.Again page_stage.First))
   page_begins p st fresh = record {
     run = r;
     fresh = fresh;
     is = refl;
     same = refl;
-    came = page_none k r page_stage.First at;
+    came = advances_none pages.page_table page_lawful k r page_stage.First at;
   }
 
-  pub page_under : (ks : KeptBits) → IsReady ks k → IsUnderWay ks k (running.Page r (page_turn.Again page_stage.First))
+  pub page_under : (ks : KeptBits) → IsReady ks k → IsUnderWay ks k (running.Page r (turn.Again page_stage.First))
   page_under ks ready = record {
     start = k;
-    first = running.Page r (page_turn.Again page_stage.First);
+    first = running.Page r (turn.Again page_stage.First);
     began = ready;
-    came = page_none k r page_stage.First at;
+    came = advances_none pages.page_table page_lawful k r page_stage.First at;
     stands = at;
   }

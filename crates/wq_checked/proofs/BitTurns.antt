@@ -3,53 +3,47 @@ use Rattle.std.proofs.Common.{◌∙◌, sym, refl, subst}
 use Rattle.std.specs.Prelude.{◌≡◌, true, false}
 use Rattle.wait_model.specs.Tasks.{state_mask}
 use Rattle.wait_rule.specs.Known.{Known}
-use Rattle.bit_wait.specs.declared.waits.BitRun.{BitRun}
-use Rattle.bit_wait.specs.declared.waits.BitStage.TheVariants as stage
+use Rattle.wait_class.specs.declared.stages.Turn.TheVariants as turn
+use Rattle.wait_class.specs.Laws.{IsLawful}
+use Rattle.wait_class.specs.Tables.{Advances, IsAt}
+use Rattle.wait_class.specs.Wholes.{HasRested}
+use Rattle.wait_class.proofs.Framing.{framed_lawful}
+use Rattle.wait_class.proofs.Turns.{advances_none}
+use Rattle.wait_class.proofs.Wholes.{Rested, rests}
+use Rattle.bit_wait.specs.BitTables.{IsFresh, bit_frame, bit_table, call_in}
 use Rattle.bit_wait.specs.declared.waits.BitOutcome.{BitOutcome}
 use Rattle.bit_wait.specs.declared.waits.BitOutcome.TheVariants as outcome
-use Rattle.bit_wait.specs.declared.waits.BitTurn.{BitTurn}
-use Rattle.bit_wait.specs.declared.waits.BitTurn.TheVariants as turn
-use Rattle.bit_wait.specs.BitWaits.{Advances, IsAt, bit_call}
-use Rattle.bit_wait.proofs.Events.Parts.{advances_none, advances_on}
+use Rattle.bit_wait.proofs.BitLaws.{bit_lawful, ends_carried}
+use Rattle.wq_checked.specs.Stages.{BitRun, BitTurn, GoesFrom, StandsBy, bit_first}
+use Rattle.wq_checked.proofs.GroundTurns.{joined, stayed}
 use Rattle.wq_checked.specs.Kept.{IsReady, but_kept}
-use Rattle.wq_checked.specs.Stages.{BitStands, bit_at}
 use Rattle.wq_checked.specs.Calls.{Began, CameFrom, IsSound, IsUnderWay, WentOn}
 use Rattle.wq_checked.specs.Advancing.{bit_left, bit_shown}
 use Rattle.wq_checked.specs.declared.calls.Running.{Running}
 use Rattle.wq_checked.specs.declared.calls.Running.TheVariants as running
 use Rattle.wq_checked.specs.declared.kept_bits.KeptBits.{KeptBits}
-use Rattle.bit_wait.specs.LockEnds.{HasRested}
-use Rattle.bit_wait.proofs.Events.Endings.{ends_carried}
-use Rattle.bit_wait.proofs.LockEvents.Endings.{Rested, rests}
 use Rattle.wq_checked.specs.Calls.{is_worn}
 use Rattle.wq_checked.specs.Advancing.{bit_worn}
 use Rattle.wq_checked.proofs.Elsewhere.{bit_low, calls_off, rest_off}
 use Rattle.wq_checked.proofs.Resting.{owes_rested}
 
--- one stretch more
-pub bit_joined : (start old new : Known) (f run q : BitRun) (last t : BitTurn) → BitStands old run last
-    → Advances start old f run stage.First last → Advances old new run q (bit_at last) t
-    → Advances start new f q stage.First t
-bit_joined start old new f run q (turn.Again s) t stands a b =
-    advances_on start old new f run q stage.First s t a.same a.went b
-bit_joined start old new f run q (turn.Asleep s) t stands a b =
-    advances_on start old new f run q stage.First s t a.same a.went b
-bit_joined start old new f run q (turn.Locked s) t stands a b =
-    advances_on start old new f run q stage.First s t a.same a.went b
-bit_joined start old new f run q (turn.Done o) t stands a b = absurd stands
+abbrev law : IsLawful bit_table
+law = framed_lawful bit_frame bit_lawful
 
 -- a wait that is over leaves a ready task, once it has stored RUNNING where it found no place
-state_after : (start mid : Known) (f q : BitRun) (o : BitOutcome) → Advances start mid f q stage.First (turn.Done o)
+state_after : (start mid : Known) (f q : BitRun) (o : BitOutcome) → Advances bit_table start mid f q bit_first (turn.Done o)
     → (new : Known) → HasRested mid new (is_worn o) → Rested mid new
-state_after start mid f q outcome.Over a new h = rests mid new false (state_mask q.state) h a.lands.stands.state
-state_after start mid f q outcome.Interrupted a new h = rests mid new false (state_mask q.state) h
+state_after start mid f q outcome.Over a new h = rests mid new false (state_mask q.of.wait.state) h a.lands.stands.state
+state_after start mid f q outcome.Interrupted a new h = rests mid new false (state_mask q.of.wait.state) h
     a.lands.stands.state
-state_after start mid f q outcome.Worn a new h = rests mid new true (state_mask q.state) h a.lands.stands.state
+state_after start mid f q outcome.Worn a new h = rests mid new true (state_mask q.of.wait.state) h a.lands.stands.state
 
 pub bit_ready : (ks : KeptBits) (start mid new : Known) (f q : BitRun) (o : BitOutcome) → IsReady ks start
-    → Advances start mid f q stage.First (turn.Done o) → HasRested mid new (is_worn o) → IsReady ks new
+    → Advances bit_table start mid f q bit_first (turn.Done o) → HasRested mid new (is_worn o) → IsReady ks new
 bit_ready ks start mid new f q o r a h =
-    let c = ends_carried start mid f q o a r.up r.idle r.told in
+    let fresh : IsFresh f.of.wait f.of.wait.word f.of.wait.bit f.of.wait.state =
+    record { word = refl; bit = refl; state = refl } in
+    let c = ends_carried start mid f q f.of.wait.word f.of.wait.bit f.of.wait.state fresh o a r.up r.idle r.told in
     let x = state_after start mid f q o a new h in record {
       up = x.awake ∙ a.lands.up;
       idle = record {
@@ -61,20 +55,15 @@ bit_ready ks start mid new f q o r a h =
       keeps = λ d. x.keeps d ∙ (c.keeps d refl ∙ r.keeps d);
       owes = owes_rested mid new (but_kept ks) x (c.owes (but_kept ks) r.owes);
       off = λ d. rest_off mid new (is_worn o) h a.lands.stands.told d
-          (calls_off (bit_call f) start mid _ _ (bit_low f.word f.bit) r.told a.went.runs d (r.off d));
+          (calls_off (call_in f.of.wait) start mid _ _ (bit_low f.of.wait.word f.of.wait.bit) r.told a.went.runs d (r.off d));
     }
 
--- where it does not rest it stands as before
-stayed : (start mid new : Known) (f q : BitRun) (t : BitTurn) → new ≡ mid → Advances start mid f q stage.First t
-    → Advances start new f q stage.First t
-stayed start mid new f q t is a = subst (λ (k : Known). Advances start k f q stage.First t) (sym is) a
-
 -- what it tells, by where it stands
-tells : (start mid new : Known) (f : BitRun) (from t : BitTurn) (q : BitRun) → Advances start mid f q stage.First t
+tells : (start mid new : Known) (f : BitRun) (from t : BitTurn) (q : BitRun) → Advances bit_table start mid f q bit_first t
     → HasRested mid new (bit_worn t) → WentOn start (running.Bit f from) new (bit_left q t) (bit_shown q t)
-tells start mid new f from (turn.Again s) q a h = (stayed start mid new f q (turn.Again s) h a, refl)
-tells start mid new f from (turn.Asleep s) q a h = (stayed start mid new f q (turn.Asleep s) h a, refl)
-tells start mid new f from (turn.Locked s) q a h = (stayed start mid new f q (turn.Locked s) h a, refl)
+tells start mid new f from (turn.Again s) q a h = (stayed bit_table start mid new f q bit_first (turn.Again s) h a, refl)
+tells start mid new f from (turn.Asleep s) q a h = (stayed bit_table start mid new f q bit_first (turn.Asleep s) h a, refl)
+tells start mid new f from (turn.Locked s) q a h = (stayed bit_table start mid new f q bit_first (turn.Locked s) h a, refl)
 tells start mid new f from (turn.Done o) q a h = (
   refl,
   record { run = q; outcome = o; last = mid; went = a; rested = h; answers = refl },
@@ -82,16 +71,16 @@ tells start mid new f from (turn.Done o) q a h = (
 
 pub bit_goes : (start : Known) (first : Running) (old mid new : Known) (run q : BitRun)
     (last t : BitTurn)
-    → BitStands old run last → CameFrom start first old (running.Bit run last)
-    → Advances old mid run q (bit_at last) t → HasRested mid new (bit_worn t)
+    → StandsBy bit_table old run last → CameFrom start first old (running.Bit run last)
+    → GoesFrom bit_table old mid run q last t → HasRested mid new (bit_worn t)
     → WentOn start first new (bit_left q t) (bit_shown q t)
 bit_goes start (running.Bit f from) old mid new run q last t stands came a h = tells start mid new f from t q
-    (bit_joined start old mid f run q last t stands came a) h
+    (joined bit_table law start old mid f run q bit_first last t stands came a) h
 bit_goes start first old mid new run q last t stands came a h = absurd came
 
 -- what is kept of the task then
 under : (ks : KeptBits) (start new : Known) (f : BitRun) (from t : BitTurn) (q : BitRun)
-    → Began ks start (running.Bit f from) → Advances start new f q stage.First t → BitStands new q t
+    → Began ks start (running.Bit f from) → Advances bit_table start new f q bit_first t → StandsBy bit_table new q t
     → IsUnderWay ks new (running.Bit q t)
 under ks start new f from t q began a stands = record {
   start = start;
@@ -102,42 +91,42 @@ under ks start new f from t q began a stands = record {
 }
 
 left_sound : (ks : KeptBits) (start mid new : Known) (f : BitRun) (from t : BitTurn) (q : BitRun)
-    → IsReady ks start → Advances start mid f q stage.First t → HasRested mid new (bit_worn t)
+    → IsReady ks start → Advances bit_table start mid f q bit_first t → HasRested mid new (bit_worn t)
     → IsSound (bit_left q t) ks new
 left_sound ks start mid new f from (turn.Again s) q began a h =
-    let on = stayed start mid new f q (turn.Again s) h a in
+    let on = stayed bit_table start mid new f q bit_first (turn.Again s) h a in
     under ks start new f from (turn.Again s) q began on on.lands
 left_sound ks start mid new f from (turn.Asleep s) q began a h =
-    let on = stayed start mid new f q (turn.Asleep s) h a in
+    let on = stayed bit_table start mid new f q bit_first (turn.Asleep s) h a in
     under ks start new f from (turn.Asleep s) q began on on.lands
 left_sound ks start mid new f from (turn.Locked s) q began a h =
-    let on = stayed start mid new f q (turn.Locked s) h a in
+    let on = stayed bit_table start mid new f q bit_first (turn.Locked s) h a in
     under ks start new f from (turn.Locked s) q began on on.lands
 left_sound ks start mid new f from (turn.Done o) q began a h = bit_ready ks start mid new f q o began a h
 
 sound_from : (ks : KeptBits) (start : Known) (first : Running) (old mid new : Known) (run q : BitRun)
     (last t : BitTurn)
-    → Began ks start first → CameFrom start first old (running.Bit run last) → BitStands old run last
-    → Advances old mid run q (bit_at last) t → HasRested mid new (bit_worn t) → IsSound (bit_left q t) ks new
+    → Began ks start first → CameFrom start first old (running.Bit run last) → StandsBy bit_table old run last
+    → GoesFrom bit_table old mid run q last t → HasRested mid new (bit_worn t) → IsSound (bit_left q t) ks new
 sound_from ks start (running.Bit f from) old mid new run q last t began came stands a h =
     left_sound ks start mid new f from t q began
-    (bit_joined start old mid f run q last t stands came a) h
+    (joined bit_table law start old mid f run q bit_first last t stands came a) h
 sound_from ks start first old mid new run q last t began came stands a h = absurd came
 
 pub bit_sound : (ks : KeptBits) (old mid new : Known) (run q : BitRun)
     (last t : BitTurn)
-    → IsSound (running.Bit run last) ks old → Advances old mid run q (bit_at last) t → HasRested mid new (bit_worn t)
+    → IsSound (running.Bit run last) ks old → GoesFrom bit_table old mid run q last t → HasRested mid new (bit_worn t)
     → IsSound (bit_left q t) ks new
 bit_sound ks old mid new run q last t u a h = sound_from ks u.start u.first old mid new run q last t u.began
     u.came u.stands a h
 
 -- a call that begins
-pub bit_begins : (ks : KeptBits) (k : Known) (run : BitRun) → IsReady ks k → IsAt k run stage.First
-    → IsSound (running.Bit run (turn.Again stage.First)) ks k
+pub bit_begins : (ks : KeptBits) (k : Known) (run : BitRun) → IsReady ks k → IsAt bit_table k run bit_first
+    → IsSound (running.Bit run (turn.Again bit_first)) ks k
 bit_begins ks k run r at = record {
   start = k;
-  first = running.Bit run (turn.Again stage.First);
+  first = running.Bit run (turn.Again bit_first);
   began = r;
-  came = advances_none k run stage.First at;
+  came = advances_none bit_table law k run bit_first at;
   stands = at;
 }

@@ -31,7 +31,7 @@ use Rattle.wait_class.specs.Posts.{Runs}
 use Rattle.wait_event.specs.Waits.{IsRunning, wait_call}
 use Rattle.wait_event.specs.WaitPlans.{IsWaitFor, call_for, wait_program}
 use Rattle.wait_event.specs.declared.waits.WaitRun.{WaitRun}
-use Rattle.bit_wait.specs.LockEnds.{HasRested}
+use Rattle.wait_class.specs.Wholes.{HasRested}
 use Rattle.wq_head.specs.Scanned.{HasScanned}
 use Rattle.wq_head.specs.Turns.{IsOver}
 

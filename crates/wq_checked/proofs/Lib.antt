@@ -7,6 +7,7 @@ pub mod Begun
 pub mod Once
 pub mod Elsewhere
 pub mod EventTurns
+pub mod GroundTurns
 pub mod BitTurns
 pub mod LockTurns
 pub mod PageTurns

@@ -5,7 +5,7 @@ use Rattle.wait_model.specs.declared.watches.Entry.{Entry}
 use Rattle.wait_model.specs.Views.{is_trying_for}
 use Rattle.wait_rule.specs.Known.{Known}
 use Rattle.wait_rule.specs.Says.{Excuse, IsOutBut, Owes}
-use Rattle.bit_wait.proofs.LockEvents.Endings.{Rested}
+use Rattle.wait_class.proofs.Wholes.{Rested}
 
 pub owes_rested : (old new : Known) (x : Excuse) → Rested old new → Owes x old → Owes x new
 owes_rested old new x r o = record {

@@ -7,19 +7,9 @@ use Rattle.page_lock.specs.PageEnds as page_ends
 use Rattle.wait_event.specs.declared.waits.WaitRun.{WaitRun}
 use Rattle.wait_event.specs.declared.waits.WaitTurn.{WaitTurn}
 use Rattle.wait_event.specs.declared.waits.WaitTurn.TheVariants as event_turn
-use Rattle.bit_wait.specs.declared.waits.BitRun.{BitRun}
-use Rattle.bit_wait.specs.declared.waits.BitTurn.{BitTurn}
-use Rattle.bit_wait.specs.declared.waits.BitTurn.TheVariants as bit_turn
-use Rattle.bit_wait.specs.declared.waits.BitOutcome.{BitOutcome}
-use Rattle.bit_wait.specs.declared.waits.BitOutcome.TheVariants as bit_outcome
-use Rattle.bit_wait.specs.declared.lock_waits.LockRun.{LockRun}
-use Rattle.bit_wait.specs.declared.lock_waits.LockTurn.{LockTurn}
-use Rattle.bit_wait.specs.declared.lock_waits.LockTurn.TheVariants as lock_turn
-use Rattle.bit_wait.specs.declared.lock_waits.LockOutcome.{LockOutcome}
-use Rattle.bit_wait.specs.declared.lock_waits.LockOutcome.TheVariants as lock_outcome
-use Rattle.page_lock.specs.declared.waits.PageRun.{PageRun}
-use Rattle.page_lock.specs.declared.waits.PageTurn.{PageTurn}
-use Rattle.page_lock.specs.declared.waits.PageTurn.TheVariants as page_turn
+use Rattle.wait_class.specs.declared.stages.Turn.TheVariants as turn
+use Rattle.bit_wait.specs.declared.lock_runs.LockOutcome.{LockOutcome}
+use Rattle.bit_wait.specs.declared.lock_runs.LockOutcome.TheVariants as lock_outcome
 use Rattle.page_lock.specs.declared.waits.PageOutcome.{PageOutcome}
 use Rattle.page_lock.specs.declared.waits.PageOutcome.TheVariants as page_outcome
 use Rattle.completion_cell.specs.AwaitEnds as await_ends
@@ -38,7 +28,8 @@ use Rattle.wq_head.specs.declared.wakes.WakeRun.{WakeRun}
 use Rattle.wq_head.specs.declared.wakes.WakeStage.TheVariants as wake_stage
 use Rattle.wq_head.specs.declared.wakes.WakeTurn.{WakeTurn}
 use Rattle.wq_head.specs.declared.wakes.WakeTurn.TheVariants as wake_turn
-use Rattle.wq_checked.specs.Calls.{event_answer, event_told, bit_told, lock_told, page_told, await_told, is_worn}
+use Rattle.wq_checked.specs.Calls.{await_told, event_answer, event_told, is_worn, turn_told}
+use Rattle.wq_checked.specs.Stages.{BitRun, BitTurn, LockRun, LockTurn, PageRun, PageTurn}
 use Rattle.wq_checked.specs.declared.calls.Answer.TheVariants as answer
 use Rattle.wq_checked.specs.declared.calls.Progress.{Progress}
 use Rattle.wq_checked.specs.declared.calls.Progress.TheVariants as progress
@@ -54,28 +45,28 @@ event_shown r (event_turn.Done o) = progress.Done (event_answer r o)
 event_shown r t = event_told t
 
 abbrev pub bit_left : BitRun → BitTurn → Running
-bit_left r (bit_turn.Done o) = running.Idle
+bit_left r (turn.Done o) = running.Idle
 bit_left r t = running.Bit r t
 
 abbrev pub bit_shown : BitRun → BitTurn → Progress
-bit_shown r (bit_turn.Done o) = progress.Done (answer.Bit (bit_ends.end_in r o))
-bit_shown r t = bit_told t
+bit_shown r (turn.Done o) = progress.Done (answer.Bit (bit_ends.end_in r.of.wait o))
+bit_shown r t = turn_told t
 
 abbrev pub lock_left : LockRun → LockTurn → Running
-lock_left r (lock_turn.Done o) = running.Idle
+lock_left r (turn.Done o) = running.Idle
 lock_left r t = running.Lock r t
 
 abbrev pub lock_shown : LockRun → LockTurn → Progress
-lock_shown r (lock_turn.Done o) = progress.Done (answer.Bit (lock_ends.end_in r o))
-lock_shown r t = lock_told t
+lock_shown r (turn.Done o) = progress.Done (answer.Bit (lock_ends.end_in r.of.wait o))
+lock_shown r t = turn_told t
 
 abbrev pub page_left : PageRun → PageTurn → Running
-page_left r (page_turn.Done o) = running.Idle
+page_left r (turn.Done o) = running.Idle
 page_left r t = running.Page r t
 
 abbrev pub page_shown : PageRun → PageTurn → Progress
-page_shown r (page_turn.Done o) = progress.Done (answer.Bit (page_ends.end_in r o))
-page_shown r t = page_told t
+page_shown r (turn.Done o) = progress.Done (answer.Bit (page_ends.end_in r.of o))
+page_shown r t = turn_told t
 
 abbrev pub wake_left : WakeRun → WakeTurn → Running
 wake_left r (wake_turn.Locked s) = running.Wake r s
@@ -119,11 +110,11 @@ cell_shown (cell_turn.Starved n) = progress.Starved
 
 -- no place was left for the entry of a wait that ended so
 abbrev pub bit_worn : BitTurn → Bool
-bit_worn (bit_turn.Done o) = is_worn o
+bit_worn (turn.Done o) = is_worn o
 bit_worn _ = false
 
 abbrev pub lock_worn : LockRun → LockTurn → Bool
-lock_worn r (lock_turn.Done o) = r.worn
+lock_worn r (turn.Done o) = r.of.wait.worn
 lock_worn r _ = false
 
 -- the call took the bit or the page
@@ -136,9 +127,9 @@ page_over page_outcome.Over = true
 page_over _ = false
 
 abbrev pub lock_took : LockTurn → Bool
-lock_took (lock_turn.Done o) = lock_over o
+lock_took (turn.Done o) = lock_over o
 lock_took _ = false
 
 abbrev pub page_took : PageTurn → Bool
-page_took (page_turn.Done o) = page_over o
+page_took (turn.Done o) = page_over o
 page_took _ = false

@@ -23,29 +23,21 @@ use Rattle.wait_event.specs.declared.waits.WaitOutcome.{WaitOutcome}
 use Rattle.wait_event.specs.declared.waits.WaitTurn.{WaitTurn}
 use Rattle.wait_event.specs.declared.waits.WaitTurn.TheVariants as event_turn
 use Rattle.var_wait.specs.VarWaits.{with_loaded}
-use Rattle.bit_wait.specs.BitWaits as bits
+use Rattle.wait_class.specs.Tables.{Advances}
+use Rattle.wait_class.specs.Wholes.{HasRested}
+use Rattle.wait_class.specs.declared.stages.Turn.{Turn}
+use Rattle.wait_class.specs.declared.stages.Turn.TheVariants as turn
+use Rattle.bit_wait.specs.BitTables as bits
 use Rattle.bit_wait.specs.BitEnds as bit_ends
-use Rattle.bit_wait.specs.declared.waits.BitRun.{BitRun}
-use Rattle.bit_wait.specs.declared.waits.BitStage.TheVariants as bit_stage
 use Rattle.bit_wait.specs.declared.waits.BitOutcome.{BitOutcome}
 use Rattle.bit_wait.specs.declared.waits.BitOutcome.TheVariants as bit_outcome
-use Rattle.bit_wait.specs.declared.waits.BitTurn.{BitTurn}
-use Rattle.bit_wait.specs.declared.waits.BitTurn.TheVariants as bit_turn
-use Rattle.bit_wait.specs.LockWaits as locks
+use Rattle.bit_wait.specs.LockTables as locks
 use Rattle.bit_wait.specs.LockEnds as lock_ends
-use Rattle.bit_wait.specs.LockEnds.{HasRested}
-use Rattle.bit_wait.specs.declared.lock_waits.LockRun.{LockRun}
-use Rattle.bit_wait.specs.declared.lock_waits.LockStage.TheVariants as lock_stage
-use Rattle.bit_wait.specs.declared.lock_waits.LockOutcome.{LockOutcome}
-use Rattle.bit_wait.specs.declared.lock_waits.LockTurn.{LockTurn}
-use Rattle.bit_wait.specs.declared.lock_waits.LockTurn.TheVariants as lock_turn
-use Rattle.page_lock.specs.PageWaits as pages
+use Rattle.bit_wait.specs.declared.lock_runs.LockOutcome.{LockOutcome}
+use Rattle.page_lock.specs.PageTables as pages
 use Rattle.page_lock.specs.PageEnds as page_ends
-use Rattle.page_lock.specs.declared.waits.PageRun.{PageRun}
 use Rattle.page_lock.specs.declared.waits.PageStage.TheVariants as page_stage
 use Rattle.page_lock.specs.declared.waits.PageOutcome.{PageOutcome}
-use Rattle.page_lock.specs.declared.waits.PageTurn.{PageTurn}
-use Rattle.page_lock.specs.declared.waits.PageTurn.TheVariants as page_turn
 use Rattle.completion_cell.specs.Awaits as awaits
 use Rattle.completion_cell.specs.AwaitEnds as await_ends
 use Rattle.completion_cell.specs.AwaitPermits.{LeavesOff}
@@ -71,7 +63,16 @@ use Rattle.wq_head.specs.declared.rousing.Rousing.{Rousing}
 use Rattle.wq_head.specs.declared.wakes.WakeRun.{WakeRun}
 use Rattle.wq_head.specs.declared.wakes.WakeStage.TheVariants as wake_stage
 use Rattle.wq_checked.specs.Kept.{IsReady, but_kept, keeps_in}
-use Rattle.wq_checked.specs.Stages.{EventStands, BitStands, LockStands, PageStands, AwaitStands}
+use Rattle.wq_checked.specs.Stages.{
+  AwaitStands,
+  BitRun,
+  EventStands,
+  LockRun,
+  PageRun,
+  StandsBy,
+  bit_first,
+  lock_first,
+}
 use Rattle.wq_checked.specs.declared.calls.Answer.{Answer}
 use Rattle.wq_checked.specs.declared.calls.Answer.TheVariants as answer
 use Rattle.wq_checked.specs.declared.calls.Progress.{Progress}
@@ -101,11 +102,12 @@ pub record SwakeCame (start k : Known) (first run : SwakeRun) (s : SwakeStage) :
 abbrev pub CameFrom : Known → Running → Known → Running → Type 0
 CameFrom start (running.Event first from) k (running.Event run last) =
     events.Advances start k first run event_stage.First last
-CameFrom start (running.Bit first from) k (running.Bit run last) = bits.Advances start k first run bit_stage.First last
+CameFrom start (running.Bit first from) k (running.Bit run last) =
+    Advances bits.bit_table start k first run bit_first last
 CameFrom start (running.Lock first from) k (running.Lock run last) =
-    locks.Advances start k first run lock_stage.First last
+    Advances locks.lock_table start k first run lock_first last
 CameFrom start (running.Page first from) k (running.Page run last) =
-    pages.Advances start k first run page_stage.First last
+    Advances pages.page_table start k first run page_stage.First last
 CameFrom start (running.Await first from) k (running.Await run last) = AwaitCame start k first run last
 CameFrom start (running.Wake first from) k (running.Wake run last) = wakes.IsAt start k run last × (run.aim ≡ first.aim)
 CameFrom start (running.Swake first from) k (running.Swake run last) = SwakeCame start k first run last
@@ -137,23 +139,23 @@ pub record BitEnded (start new : Known) (first : BitRun) (a : Answer) : Type 0 w
   pub run : BitRun
   pub outcome : BitOutcome
   pub last : Known
-  pub went : bits.Advances start last first run bit_stage.First (bit_turn.Done outcome)
+  pub went : Advances bits.bit_table start last first run bit_first (turn.Done outcome)
   pub rested : HasRested last new (is_worn outcome)
-  pub answers : a ≡ answer.Bit (bit_ends.end_in run outcome)
+  pub answers : a ≡ answer.Bit (bit_ends.end_in run.of.wait outcome)
 
 pub record LockEnded (start new : Known) (first : LockRun) (a : Answer) : Type 0 where
   pub run : LockRun
   pub outcome : LockOutcome
   pub last : Known
-  pub went : locks.Advances start last first run lock_stage.First (lock_turn.Done outcome)
-  pub rested : HasRested last new run.worn
-  pub answers : a ≡ answer.Bit (lock_ends.end_in run outcome)
+  pub went : Advances locks.lock_table start last first run lock_first (turn.Done outcome)
+  pub rested : HasRested last new run.of.wait.worn
+  pub answers : a ≡ answer.Bit (lock_ends.end_in run.of.wait outcome)
 
 pub record PageEnded (start new : Known) (first : PageRun) (a : Answer) : Type 0 where
   pub run : PageRun
   pub outcome : PageOutcome
-  pub went : pages.Advances start new first run page_stage.First (page_turn.Done outcome)
-  pub answers : a ≡ answer.Bit (page_ends.end_in run outcome)
+  pub went : Advances pages.page_table start new first run page_stage.First (turn.Done outcome)
+  pub answers : a ≡ answer.Bit (page_ends.end_in run.of outcome)
 
 pub record AwaitEnded (start new : Known) (first : AwaitRun) (a : Answer) : Type 0 where
   pub run : AwaitRun
@@ -179,20 +181,10 @@ event_told (event_turn.Locked s) = progress.Locked
 event_told (event_turn.Asleep s) = progress.Park
 event_told _ = progress.Again
 
-abbrev pub bit_told : BitTurn → Progress
-bit_told (bit_turn.Locked s) = progress.Locked
-bit_told (bit_turn.Asleep s) = progress.Park
-bit_told _ = progress.Again
-
-abbrev pub lock_told : LockTurn → Progress
-lock_told (lock_turn.Locked s) = progress.Locked
-lock_told (lock_turn.Asleep s) = progress.Park
-lock_told _ = progress.Again
-
-abbrev pub page_told : PageTurn → Progress
-page_told (page_turn.Locked s) = progress.Locked
-page_told (page_turn.Asleep s) = progress.Park
-page_told _ = progress.Again
+abbrev pub turn_told : {S O : Type 0} → Turn S O → Progress
+turn_told (turn.Locked s) = progress.Locked
+turn_told (turn.Asleep s) = progress.Park
+turn_told _ = progress.Again
 
 abbrev pub await_told : AwaitTurn → Progress
 await_told (await_turn.Locked s) = progress.Locked
@@ -203,9 +195,9 @@ await_told _ = progress.Again
 -- behind a break; a call of one hold waits for its lock.
 abbrev pub Fits : Running → Progress → Type 0
 Fits (running.Event run last) p = p ≡ event_told last
-Fits (running.Bit run last) p = p ≡ bit_told last
-Fits (running.Lock run last) p = p ≡ lock_told last
-Fits (running.Page run last) p = p ≡ page_told last
+Fits (running.Bit run last) p = p ≡ turn_told last
+Fits (running.Lock run last) p = p ≡ turn_told last
+Fits (running.Page run last) p = p ≡ turn_told last
 Fits (running.Await run last) p = p ≡ await_told last
 Fits (running.Wake run last) progress.Again = Unit {0}
 Fits (running.Wake run last) progress.Locked = Unit {0}
@@ -253,9 +245,9 @@ Began ks start _ = ⊥
 -- where it stands
 abbrev pub StandsOn : Known → Running → Type 0
 StandsOn k (running.Event run last) = EventStands k run last
-StandsOn k (running.Bit run last) = BitStands k run last
-StandsOn k (running.Lock run last) = LockStands k run last
-StandsOn k (running.Page run last) = PageStands k run last
+StandsOn k (running.Bit run last) = StandsBy bits.bit_table k run last
+StandsOn k (running.Lock run last) = StandsBy locks.lock_table k run last
+StandsOn k (running.Page run last) = StandsBy pages.page_table k run last
 StandsOn k (running.Await run last) = AwaitStands k run last
 StandsOn k (running.Wake run last) = Unit {0}
 StandsOn k (running.Swake run last) = Unit {0}
@@ -286,22 +278,22 @@ pub record BeginsEvent (old new : Known) (w : Watch) (how : How) (now : Running)
 
 pub record BeginsBit (old new : Known) (w b : ℕ) (st : SleepState) (now : Running) : Type 0 where
   pub run : BitRun
-  pub fresh : bits.IsFresh run w b st
-  pub is : now ≡ running.Bit run (bit_turn.Again bit_stage.First)
+  pub fresh : bits.IsFresh run.of.wait w b st
+  pub is : now ≡ running.Bit run (turn.Again bit_first)
   pub same : new ≡ old
   pub came : CameFrom old now new now
 
 pub record BeginsLock (old new : Known) (w b : ℕ) (st : SleepState) (now : Running) : Type 0 where
   pub run : LockRun
-  pub fresh : locks.IsFresh run w b st
-  pub is : now ≡ running.Lock run (lock_turn.Again lock_stage.First)
+  pub fresh : locks.IsFresh run.of.wait w b st
+  pub is : now ≡ running.Lock run (turn.Again lock_first)
   pub same : new ≡ old
   pub came : CameFrom old now new now
 
 pub record BeginsPage (old new : Known) (p : ℕ) (st : SleepState) (now : Running) : Type 0 where
   pub run : PageRun
-  pub fresh : pages.IsFresh run p st
-  pub is : now ≡ running.Page run (page_turn.Again page_stage.First)
+  pub fresh : pages.IsFresh run.of p st
+  pub is : now ≡ running.Page run (turn.Again page_stage.First)
   pub same : new ≡ old
   pub came : CameFrom old now new now
 

@@ -7,30 +7,68 @@ use Rattle.wait_event.specs.declared.waits.WaitStage.TheVariants as event_stage
 use Rattle.wait_event.specs.declared.waits.WaitTurn.{WaitTurn}
 use Rattle.wait_event.specs.declared.waits.WaitTurn.TheVariants as event_turn
 use Rattle.wait_event.specs.Waits as events
-use Rattle.bit_wait.specs.declared.waits.BitRun.{BitRun}
-use Rattle.bit_wait.specs.declared.waits.BitStage.{BitStage}
-use Rattle.bit_wait.specs.declared.waits.BitStage.TheVariants as bit_stage
-use Rattle.bit_wait.specs.declared.waits.BitTurn.{BitTurn}
-use Rattle.bit_wait.specs.declared.waits.BitTurn.TheVariants as bit_turn
-use Rattle.bit_wait.specs.BitWaits as bits
-use Rattle.bit_wait.specs.declared.lock_waits.LockRun.{LockRun}
-use Rattle.bit_wait.specs.declared.lock_waits.LockStage.{LockStage}
-use Rattle.bit_wait.specs.declared.lock_waits.LockStage.TheVariants as lock_stage
-use Rattle.bit_wait.specs.declared.lock_waits.LockTurn.{LockTurn}
-use Rattle.bit_wait.specs.declared.lock_waits.LockTurn.TheVariants as lock_turn
-use Rattle.bit_wait.specs.LockWaits as locks
 use Rattle.completion_cell.specs.declared.awaits.AwaitRun.{AwaitRun}
 use Rattle.completion_cell.specs.declared.awaits.AwaitStage.{AwaitStage}
 use Rattle.completion_cell.specs.declared.awaits.AwaitStage.TheVariants as await_stage
 use Rattle.completion_cell.specs.declared.awaits.AwaitTurn.{AwaitTurn}
 use Rattle.completion_cell.specs.declared.awaits.AwaitTurn.TheVariants as await_turn
 use Rattle.completion_cell.specs.Awaits as awaits
-use Rattle.page_lock.specs.declared.waits.PageRun.{PageRun}
+use Rattle.wait_class.specs.declared.frame_stages.Framed.{Framed}
+use Rattle.wait_class.specs.declared.frame_stages.Stage.{Stage}
+use Rattle.wait_class.specs.declared.frame_stages.Stage.TheVariants as frame_stage
+use Rattle.wait_class.specs.declared.stages.Run.{Run}
+use Rattle.wait_class.specs.declared.stages.Turn.{Turn}
+use Rattle.wait_class.specs.declared.stages.Turn.TheVariants as turn
+use Rattle.wait_class.specs.Tables.{Advances, IsAsleepAt, IsAt, Table}
+use Rattle.bit_wait.specs.declared.waits.BitOutcome.{BitOutcome}
+use Rattle.bit_wait.specs.declared.waits.BitTest.{BitTest}
+use Rattle.bit_wait.specs.declared.waits.BitTest.TheVariants as bit_test
+use Rattle.bit_wait.specs.declared.waits.WaitBit.{WaitBit}
+use Rattle.bit_wait.specs.declared.lock_runs.LockBit.{LockBit}
+use Rattle.bit_wait.specs.declared.lock_runs.LockOutcome.{LockOutcome}
+use Rattle.bit_wait.specs.declared.lock_runs.LockTest.{LockTest}
+use Rattle.bit_wait.specs.declared.lock_runs.LockTest.TheVariants as lock_test
+use Rattle.page_lock.specs.declared.waits.LockPage.{LockPage}
+use Rattle.page_lock.specs.declared.waits.PageOutcome.{PageOutcome}
 use Rattle.page_lock.specs.declared.waits.PageStage.{PageStage}
-use Rattle.page_lock.specs.declared.waits.PageStage.TheVariants as page_stage
-use Rattle.page_lock.specs.declared.waits.PageTurn.{PageTurn}
-use Rattle.page_lock.specs.declared.waits.PageTurn.TheVariants as page_turn
-use Rattle.page_lock.specs.PageWaits as pages
+
+-- the runs of waits for bits and pages, what a stretch of them did, and where those for bits begin
+abbrev pub BitRun : Type 0
+BitRun = Run (Framed WaitBit)
+
+abbrev pub BitTurn : Type 0
+BitTurn = Turn (Stage BitTest) BitOutcome
+
+abbrev pub bit_first : Stage BitTest
+bit_first = frame_stage.Test bit_test.First
+
+abbrev pub LockRun : Type 0
+LockRun = Run (Framed LockBit)
+
+abbrev pub LockTurn : Type 0
+LockTurn = Turn (Stage LockTest) LockOutcome
+
+abbrev pub lock_first : Stage LockTest
+lock_first = frame_stage.Test lock_test.First
+
+abbrev pub PageRun : Type 0
+PageRun = Run LockPage
+
+abbrev pub PageTurn : Type 0
+PageTurn = Turn PageStage PageOutcome
+
+-- a wait for a bit or a page, by what its last stretch did; and one stretch more
+abbrev pub StandsBy : {C S O : Type 0} → Table C S O → Known → Run C → Turn S O → Type 0
+StandsBy t k r (turn.Again s) = IsAt t k r s
+StandsBy t k r (turn.Asleep s) = IsAsleepAt t k r s
+StandsBy t k r (turn.Locked s) = IsAt t k r s
+StandsBy t k r (turn.Done o) = ⊥
+
+abbrev pub GoesFrom : {C S O : Type 0} → Table C S O → Known → Known → Run C → Run C → Turn S O → Turn S O → Type 0
+GoesFrom t old new r q (turn.Again s) u = Advances t old new r q s u
+GoesFrom t old new r q (turn.Asleep s) u = Advances t old new r q s u
+GoesFrom t old new r q (turn.Locked s) u = Advances t old new r q s u
+GoesFrom t old new r q (turn.Done o) u = ⊥
 
 -- a wait for a plain condition or a variable, by what its last stretch did
 abbrev pub EventStands : Known → WaitRun → WaitTurn → Type 0
@@ -44,45 +82,6 @@ event_at (event_turn.Again s) = s
 event_at (event_turn.Asleep s) = s
 event_at (event_turn.Locked s) = s
 event_at (event_turn.Done o) = event_stage.First
-
--- a wait for a bit, by what its last stretch did
-abbrev pub BitStands : Known → BitRun → BitTurn → Type 0
-BitStands k r (bit_turn.Again s) = bits.IsAt k r s
-BitStands k r (bit_turn.Asleep s) = bits.IsAsleepAt k r s
-BitStands k r (bit_turn.Locked s) = bits.IsAt k r s
-BitStands k r (bit_turn.Done o) = ⊥
-
-abbrev pub bit_at : BitTurn → BitStage
-bit_at (bit_turn.Again s) = s
-bit_at (bit_turn.Asleep s) = s
-bit_at (bit_turn.Locked s) = s
-bit_at (bit_turn.Done o) = bit_stage.First
-
--- a wait to take a bit, by what its last stretch did
-abbrev pub LockStands : Known → LockRun → LockTurn → Type 0
-LockStands k r (lock_turn.Again s) = locks.IsAt k r s
-LockStands k r (lock_turn.Asleep s) = locks.IsAsleepAt k r s
-LockStands k r (lock_turn.Locked s) = locks.IsAt k r s
-LockStands k r (lock_turn.Done o) = ⊥
-
-abbrev pub lock_at : LockTurn → LockStage
-lock_at (lock_turn.Again s) = s
-lock_at (lock_turn.Asleep s) = s
-lock_at (lock_turn.Locked s) = s
-lock_at (lock_turn.Done o) = lock_stage.First
-
--- a wait for a page, by what its last stretch did
-abbrev pub PageStands : Known → PageRun → PageTurn → Type 0
-PageStands k r (page_turn.Again s) = pages.IsAt k r s
-PageStands k r (page_turn.Asleep s) = pages.IsAsleepAt k r s
-PageStands k r (page_turn.Locked s) = pages.IsAt k r s
-PageStands k r (page_turn.Done o) = ⊥
-
-abbrev pub page_at : PageTurn → PageStage
-page_at (page_turn.Again s) = s
-page_at (page_turn.Asleep s) = s
-page_at (page_turn.Locked s) = s
-page_at (page_turn.Done o) = page_stage.First
 
 -- a wait for a completion, by what its last stretch did
 abbrev pub AwaitStands : Known → AwaitRun → AwaitTurn → Type 0

@@ -4,7 +4,7 @@ ghost use Rattle.std.specs.Prelude.{◌≡◌, ◌<◌, ◌||◌, [], true, None
 ghost use Rattle.wait_rule.specs.Known.{Known};
 ghost use Rattle.wait_rule.specs.PassedLocks.{PassesNone};
 ghost use Rattle.wait_rule.specs.Says.{IsUp};
-ghost use Rattle.bit_wait.specs.LockEnds.{HasRested};
+ghost use Rattle.wait_class.specs.Wholes.{HasRested};
 ghost use Rattle.wq_head.specs.Roused.{IsRousing, tasks_in};
 ghost use Rattle.wait_model.specs.declared.layout.TheConstants.{BIT_WORDS, WORD_BITS};
 ghost use Rattle.wait_model.specs.declared.watches.Watch.{Watch};
@@ -24,13 +24,14 @@ use crate::calls::{Answer, Progress, Running};
 use crate::cells::cell_on;
 use crate::kept_bits::KeptBits;
 use crate::simple_wakes::swake_on;
-use crate::stretches::{bit_turn, event_turn, lock_turn, page_turn};
+use crate::stretches::{event_turn, ground_turn};
 use bit_wait::lock_waits::{LockOutcome, LockRun, LockTurn};
 use bit_wait::waits::{BitOutcome, BitRun, BitTurn};
 use bit_wait::{lock_calls, wait_calls};
 use page_lock::wait_calls as page_calls;
 use page_lock::waits::{PageOutcome, PageRun, PageTurn};
 use var_wait::end_of_var;
+use wait_class::stages::Turn;
 use wait_event::wait_events::end_of;
 use wait_event::waits::{WaitOutcome, WaitRun, WaitTurn};
 use wait_model::layout::RUNNING;
@@ -102,7 +103,7 @@ fn found_worn(turn: BitTurn) -> bool
     ensures { result ≡ bit_worn turn }
 {
     match turn {
-        BitTurn::Done(outcome) => match outcome {
+        Turn::Done(outcome) => match outcome {
             BitOutcome::Worn => true,
             _ => false,
         },
@@ -115,11 +116,11 @@ fn bit_leaves(run: BitRun, turn: BitTurn) -> (Running, Progress)
     ensures shown { result.1 ≡ bit_shown run turn }
 {
     match turn {
-        BitTurn::Again(_) => (Running::Bit(run, turn), Progress::Again),
-        BitTurn::Locked(_) => (Running::Bit(run, turn), Progress::Locked),
-        BitTurn::Asleep(_) => (Running::Bit(run, turn), Progress::Park),
-        BitTurn::Done(outcome) => {
-            let answer = Answer::Bit(wait_calls::end_of(run, outcome));
+        Turn::Again(_) => (Running::Bit(run, turn), Progress::Again),
+        Turn::Locked(_) => (Running::Bit(run, turn), Progress::Locked),
+        Turn::Asleep(_) => (Running::Bit(run, turn), Progress::Park),
+        Turn::Done(outcome) => {
+            let answer = Answer::Bit(wait_calls::end_of(run.of.wait, outcome));
             (Running::Idle, Progress::Done(answer))
         }
     }
@@ -144,7 +145,7 @@ pub(crate) fn bit_on(
 {
     let _ = kept;
     let mut run = run;
-    let turn = bit_turn(domain, task, &mut run, last, passing);
+    let turn = ground_turn(domain, task, &mut run, last, passing);
     rest(domain, task, found_worn(turn));
     bit_leaves(run, turn)
 }
@@ -154,7 +155,7 @@ fn may_stir(run: LockRun, turn: LockTurn) -> bool
     ensures { result ≡ lock_worn run turn }
 {
     match turn {
-        LockTurn::Done(_) => run.worn,
+        Turn::Done(_) => run.of.wait.worn,
         _ => false,
     }
 }
@@ -164,7 +165,7 @@ fn has_bit(turn: LockTurn) -> bool
     ensures { result ≡ lock_took turn }
 {
     match turn {
-        LockTurn::Done(outcome) => match outcome {
+        Turn::Done(outcome) => match outcome {
             LockOutcome::Over => true,
             _ => false,
         },
@@ -177,7 +178,7 @@ fn has_page(turn: PageTurn) -> bool
     ensures { result ≡ page_took turn }
 {
     match turn {
-        PageTurn::Done(outcome) => match outcome {
+        Turn::Done(outcome) => match outcome {
             PageOutcome::Over => true,
             _ => false,
         },
@@ -202,11 +203,11 @@ fn lock_leaves(run: LockRun, turn: LockTurn) -> (Running, Progress)
     ensures shown { result.1 ≡ lock_shown run turn }
 {
     match turn {
-        LockTurn::Again(_) => (Running::Lock(run, turn), Progress::Again),
-        LockTurn::Locked(_) => (Running::Lock(run, turn), Progress::Locked),
-        LockTurn::Asleep(_) => (Running::Lock(run, turn), Progress::Park),
-        LockTurn::Done(outcome) => {
-            let answer = Answer::Bit(lock_calls::end_of(run, outcome));
+        Turn::Again(_) => (Running::Lock(run, turn), Progress::Again),
+        Turn::Locked(_) => (Running::Lock(run, turn), Progress::Locked),
+        Turn::Asleep(_) => (Running::Lock(run, turn), Progress::Park),
+        Turn::Done(outcome) => {
+            let answer = Answer::Bit(lock_calls::end_of(run.of.wait, outcome));
             (Running::Idle, Progress::Done(answer))
         }
     }
@@ -229,9 +230,9 @@ pub(crate) fn lock_on(
     ensures goes { (start : Known) (first : TheRunning) → CameFrom start first task.old (running.Lock run last)
         → WentOn start first task.new result.0 result.1 }
 {
-    let (word, bit) = (run.word, run.bit);
+    let (word, bit) = (run.of.wait.word, run.of.wait.bit);
     let mut run = run;
-    let turn = lock_turn(domain, task, &mut run, last, passing);
+    let turn = ground_turn(domain, task, &mut run, last, passing);
     rest(domain, task, may_stir(run, turn));
     note(kept, word, bit, has_bit(turn));
     lock_leaves(run, turn)
@@ -242,11 +243,11 @@ fn page_leaves(run: PageRun, turn: PageTurn) -> (Running, Progress)
     ensures shown { result.1 ≡ page_shown run turn }
 {
     match turn {
-        PageTurn::Again(_) => (Running::Page(run, turn), Progress::Again),
-        PageTurn::Locked(_) => (Running::Page(run, turn), Progress::Locked),
-        PageTurn::Asleep(_) => (Running::Page(run, turn), Progress::Park),
-        PageTurn::Done(outcome) => {
-            let answer = Answer::Bit(page_calls::end_of(run, outcome));
+        Turn::Again(_) => (Running::Page(run, turn), Progress::Again),
+        Turn::Locked(_) => (Running::Page(run, turn), Progress::Locked),
+        Turn::Asleep(_) => (Running::Page(run, turn), Progress::Park),
+        Turn::Done(outcome) => {
+            let answer = Answer::Bit(page_calls::end_of(run.of, outcome));
             (Running::Idle, Progress::Done(answer))
         }
     }
@@ -269,9 +270,9 @@ pub(crate) fn page_on(
     ensures goes { (start : Known) (first : TheRunning) → CameFrom start first task.old (running.Page run last)
         → WentOn start first task.new result.0 result.1 }
 {
-    let page = run.page;
+    let page = run.of.page;
     let mut run = run;
-    let turn = page_turn(domain, task, &mut run, last, passing);
+    let turn = ground_turn(domain, task, &mut run, last, passing);
     note(kept, page, 0, has_page(turn));
     page_leaves(run, turn)
 }

@@ -15,13 +15,15 @@ use crate::calls::Running;
 use crate::reasons::Refused;
 use crate::tasks::{CheckedTask, refusal_of};
 use bit_wait::lock_calls::begin_lock;
-use bit_wait::lock_waits::{LockStage, LockTurn};
+use bit_wait::lock_waits::LockTest;
 use bit_wait::wait_calls::begin_bit;
-use bit_wait::waits::{BitStage, BitTurn};
+use bit_wait::waits::BitTest;
 use page_lock::wait_calls::begin_page;
-use page_lock::waits::{PageStage, PageTurn};
+use page_lock::waits::PageStage;
 use swait_queue::begin_swait;
 use var_wait::begin_var;
+use wait_class::frame_stages::Stage;
+use wait_class::stages::Turn;
 use wait_event::wait_events::begin_wait;
 use wait_event::waits::{WaitStage, WaitTurn};
 use wait_model::layout::{BIT_WORDS, FIRST_SIMPLE, PLAIN_CONDITIONS, VARIABLES, WORD_BITS};
@@ -130,7 +132,7 @@ impl CheckedTask {
                     return Err(Refused::Held);
                 }
                 let run = begin_bit(&self.task, word, bit, state);
-                self.running = Running::Bit(run, BitTurn::Again(BitStage::First));
+                self.running = Running::Bit(run, Turn::Again(Stage::Test(BitTest::First)));
                 Ok(())
             }
         }
@@ -156,7 +158,7 @@ impl CheckedTask {
                     return Err(Refused::Held);
                 }
                 let run = begin_lock(&self.task, word, bit, state);
-                self.running = Running::Lock(run, LockTurn::Again(LockStage::First));
+                self.running = Running::Lock(run, Turn::Again(Stage::Test(LockTest::First)));
                 Ok(())
             }
         }
@@ -182,7 +184,7 @@ impl CheckedTask {
                     return Err(Refused::Held);
                 }
                 let run = begin_page(&self.task, page, state);
-                self.running = Running::Page(run, PageTurn::Again(PageStage::First));
+                self.running = Running::Page(run, Turn::Again(PageStage::First));
                 Ok(())
             }
         }

@@ -6,10 +6,13 @@ ghost use Rattle.wait_rule.specs.Bits.{KeepsBitOf};
 ghost use Rattle.wait_tests.specs.BitTasks.{IsAtRest, IsReadyToWait, IsLocking};
 
 use crate::bits::alone::{give, take};
-use bit_wait::lock_calls::{begin_lock, stretch_lock, woke_lock};
-use bit_wait::lock_waits::{LockOutcome, LockRun, LockStage, LockTurn};
+use bit_wait::lock_calls::begin_lock;
+use bit_wait::lock_waits::{LockOutcome, LockRun, LockTest, LockTurn};
 use std::sync::Wait;
 use std::test::Fail;
+use wait_class::frame_stages::Stage;
+use wait_class::runs::{stretch, woke};
+use wait_class::stages::Turn;
 use wait_model::tasks::SleepState;
 use wait_model::watches::Mode;
 use wait_rule::queues::Passing;
@@ -39,16 +42,16 @@ fn go_on(domain: &Domain, task: &mut Task, run: &mut LockRun, last: LockTurn) ->
 {
     let mut passing = Passing::none();
     let turn = match last {
-        LockTurn::Again(stage) => stretch_lock(domain, task, run, stage, &mut passing),
-        LockTurn::Locked(stage) => stretch_lock(domain, task, run, stage, &mut passing),
-        LockTurn::Asleep(stage) => {
-            if woke_lock(domain, task, run, stage) {
-                LockTurn::Again(stage)
+        Turn::Again(stage) => stretch(domain, task, run, stage, &mut passing),
+        Turn::Locked(stage) => stretch(domain, task, run, stage, &mut passing),
+        Turn::Asleep(stage) => {
+            if woke(domain, task, run, stage) {
+                Turn::Again(stage)
             } else {
-                LockTurn::Asleep(stage)
+                Turn::Asleep(stage)
             }
         }
-        LockTurn::Done(outcome) => LockTurn::Done(outcome),
+        Turn::Done(outcome) => Turn::Done(outcome),
     };
     passing.wake(domain);
     passing.end();
@@ -74,7 +77,7 @@ fn play<R: Wait>(rt: &R, domain: &Domain, holder: &mut Task, waiter: &mut Task, 
 {
     let who = waiter.number();
     let mut run = begin_lock(waiter, 0, 0, SleepState::Uninterruptible);
-    let mut at = LockTurn::Again(LockStage::First);
+    let mut at = Turn::Again(Stage::Test(LockTest::First));
     for _ in 0..seed % BEFORE {
         at = go_on(domain, waiter, &mut run, at);
     }
@@ -89,7 +92,7 @@ fn play<R: Wait>(rt: &R, domain: &Domain, holder: &mut Task, waiter: &mut Task, 
         }
     }
     let taken = !take(domain, holder, 0, 0);
-    taken && matches!(at, LockTurn::Done(LockOutcome::Over))
+    taken && matches!(at, Turn::Done(LockOutcome::Over))
 }
 
 /// Whatever the order, the wait takes the bit once it is clear and its task was woken.

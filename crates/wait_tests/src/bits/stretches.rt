@@ -6,10 +6,13 @@ ghost use Rattle.wait_rule.specs.Bits.{KeepsBitOf};
 ghost use Rattle.wait_tests.specs.BitTasks.{IsAtRest, IsReadyToWait, IsWaiting};
 
 use crate::bits::alone::{give, take};
-use bit_wait::wait_calls::{begin_bit, stretch_bit, woke_bit};
-use bit_wait::waits::{BitOutcome, BitRun, BitStage, BitTurn};
+use bit_wait::wait_calls::begin_bit;
+use bit_wait::waits::{BitOutcome, BitRun, BitTest, BitTurn};
 use std::sync::Wait;
 use std::test::Fail;
+use wait_class::frame_stages::Stage;
+use wait_class::runs::{stretch, woke};
+use wait_class::stages::Turn;
 use wait_model::tasks::SleepState;
 use wait_model::watches::Mode;
 use wait_rule::queues::Passing;
@@ -39,16 +42,16 @@ fn go_on(domain: &Domain, task: &mut Task, run: &mut BitRun, last: BitTurn) -> B
 {
     let mut passing = Passing::none();
     let turn = match last {
-        BitTurn::Again(stage) => stretch_bit(domain, task, run, stage, &mut passing),
-        BitTurn::Locked(stage) => stretch_bit(domain, task, run, stage, &mut passing),
-        BitTurn::Asleep(stage) => {
-            if woke_bit(domain, task, run, stage) {
-                BitTurn::Again(stage)
+        Turn::Again(stage) => stretch(domain, task, run, stage, &mut passing),
+        Turn::Locked(stage) => stretch(domain, task, run, stage, &mut passing),
+        Turn::Asleep(stage) => {
+            if woke(domain, task, run, stage) {
+                Turn::Again(stage)
             } else {
-                BitTurn::Asleep(stage)
+                Turn::Asleep(stage)
             }
         }
-        BitTurn::Done(outcome) => BitTurn::Done(outcome),
+        Turn::Done(outcome) => Turn::Done(outcome),
     };
     passing.wake(domain);
     passing.end();
@@ -74,7 +77,7 @@ fn play<R: Wait>(rt: &R, domain: &Domain, holder: &mut Task, waiter: &mut Task, 
 {
     let who = waiter.number();
     let mut run = begin_bit(waiter, 0, 0, SleepState::Uninterruptible);
-    let mut at = BitTurn::Again(BitStage::First);
+    let mut at = Turn::Again(Stage::Test(BitTest::First));
     for _ in 0..seed % BEFORE {
         at = go_on(domain, waiter, &mut run, at);
     }
@@ -88,7 +91,7 @@ fn play<R: Wait>(rt: &R, domain: &Domain, holder: &mut Task, waiter: &mut Task, 
             at = go_on(domain, waiter, &mut run, at);
         }
     }
-    matches!(at, BitTurn::Done(BitOutcome::Over))
+    matches!(at, Turn::Done(BitOutcome::Over))
 }
 
 /// Whatever the order, the wait ends once the bit is clear and its task was woken.

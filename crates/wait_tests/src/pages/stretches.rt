@@ -7,10 +7,12 @@ ghost use Rattle.bit_wait.specs.Holders.{IsHolder};
 ghost use Rattle.wait_tests.specs.PageTasks.{IsLocking};
 
 use crate::pages::alone::{give, take};
-use page_lock::wait_calls::{begin_page, stretch_page, woke_page};
+use page_lock::wait_calls::begin_page;
 use page_lock::waits::{PageOutcome, PageRun, PageStage, PageTurn};
 use std::sync::Wait;
 use std::test::Fail;
+use wait_class::runs::{stretch, woke};
+use wait_class::stages::Turn;
 use wait_model::tasks::SleepState;
 use wait_rule::queues::Passing;
 use wait_rule::{Domain, Task};
@@ -29,16 +31,16 @@ fn go_on(domain: &Domain, task: &mut Task, run: &mut PageRun, last: PageTurn) ->
 {
     let mut passing = Passing::none();
     let turn = match last {
-        PageTurn::Again(stage) => stretch_page(domain, task, run, stage, &mut passing),
-        PageTurn::Locked(stage) => stretch_page(domain, task, run, stage, &mut passing),
-        PageTurn::Asleep(stage) => {
-            if woke_page(domain, task, run, stage) {
-                PageTurn::Again(stage)
+        Turn::Again(stage) => stretch(domain, task, run, stage, &mut passing),
+        Turn::Locked(stage) => stretch(domain, task, run, stage, &mut passing),
+        Turn::Asleep(stage) => {
+            if woke(domain, task, run, stage) {
+                Turn::Again(stage)
             } else {
-                PageTurn::Asleep(stage)
+                Turn::Asleep(stage)
             }
         }
-        PageTurn::Done(outcome) => PageTurn::Done(outcome),
+        Turn::Done(outcome) => Turn::Done(outcome),
     };
     passing.wake(domain);
     passing.end();
@@ -53,7 +55,7 @@ fn play<R: Wait>(rt: &R, domain: &Domain, holder: &mut Task, waiter: &mut Task, 
     requires waiter { IsClean waiter.old }
 {
     let mut run = begin_page(waiter, 0, SleepState::Uninterruptible);
-    let mut at = PageTurn::Again(PageStage::First);
+    let mut at = Turn::Again(PageStage::First);
     for _ in 0..turns {
         at = go_on(domain, waiter, &mut run, at);
     }
@@ -61,7 +63,7 @@ fn play<R: Wait>(rt: &R, domain: &Domain, holder: &mut Task, waiter: &mut Task, 
     for _ in 0..AFTER {
         at = go_on(domain, waiter, &mut run, at);
     }
-    matches!(at, PageTurn::Done(PageOutcome::Over))
+    matches!(at, Turn::Done(PageOutcome::Over))
 }
 
 /// Wherever the wait is when the page is given back, it has the page in the end: it took it itself, or was handed it.

@@ -1,5 +1,5 @@
 use Rattle.std.proofs.Common.{subst, sym}
-use Rattle.bit_wait.specs.LockEnds.{HasRested}
+use Rattle.wait_class.specs.Wholes.{HasRested}
 use Rattle.std.specs.Prelude.{Bool}
 use Rattle.wq_checked.specs.Calls.{IsSound}
 use Rattle.wq_checked.specs.Advancing.{bit_left, bit_shown}
@@ -10,7 +10,7 @@ use Rattle.wq_checked.proofs.advances.bit_on.Goals as goal
 
 pub returns-clause-sound : goal.returns-clause-sound
 returns-clause-sound c =
-    let t = c.bit_turn-turn in
+    let t = c.ground_turn-turn in
     subst (λ (r : Running). IsSound r c.args.kept.now c.rest.new.task) (sym c.bit_leaves.ensures.left)
     (bit_sound c.args.kept.now c.args.task.now t.new.task c.rest.new.task c.args.run t.new.run c.args.last t.result
     c.requires.sound t.ensures
@@ -18,7 +18,7 @@ returns-clause-sound c =
 
 pub returns-clause-goes : goal.returns-clause-goes
 returns-clause-goes c start first came =
-    let t = c.bit_turn-turn in
+    let t = c.ground_turn-turn in
     went_as start first c.rest.new.task c.bit_leaves.result.0 (bit_left t.new.run t.result) c.bit_leaves.result.1
     (bit_shown t.new.run t.result) c.bit_leaves.ensures.left c.bit_leaves.ensures.shown
     (bit_goes start first c.args.task.now t.new.task c.rest.new.task c.args.run t.new.run c.args.last t.result

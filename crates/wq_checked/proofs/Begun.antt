@@ -6,10 +6,8 @@ use Rattle.wait_model.specs.declared.tasks.SleepState.{SleepState}
 use Rattle.wait_model.specs.declared.watches.Watch.{Watch}
 use Rattle.wait_rule.specs.Known.{Known}
 use Rattle.wait_event.specs.Waits as events
-use Rattle.wait_event.specs.declared.waits.WaitRun.{WaitRun}
 use Rattle.wait_event.specs.declared.waits.WaitStage.TheVariants as event_stage
-use Rattle.wait_event.specs.declared.waits.WaitTurn.TheVariants as event_turn
-use Rattle.wait_event.proofs.Events.Parts.{advances_none as event_none}
+use Rattle.wait_event.proofs.WaitLaws.{wait_lawful}
 use Rattle.wait_class.specs.declared.stages.Turn.TheVariants as turn
 use Rattle.wait_class.specs.Tables.{IsAt}
 use Rattle.wait_class.proofs.Framing.{framed_lawful}
@@ -21,30 +19,30 @@ use Rattle.bit_wait.proofs.LockLaws.{lock_lawful}
 use Rattle.page_lock.specs.PageTables as pages
 use Rattle.page_lock.specs.declared.waits.PageStage.TheVariants as page_stage
 use Rattle.page_lock.proofs.PageLaws.{page_lawful}
-use Rattle.wq_checked.specs.Stages.{BitRun, LockRun, PageRun, bit_first, lock_first}
+use Rattle.wq_checked.specs.Stages.{BitRun, LockRun, PageRun, WaitRun, bit_first, lock_first}
 use Rattle.wq_checked.specs.Calls.{BeginsBit, BeginsEvent, BeginsLock, BeginsPage, IsUnderWay}
 use Rattle.wq_checked.specs.Kept.{IsReady}
 use Rattle.wq_checked.specs.declared.calls.Running.TheVariants as running
 use Rattle.wq_checked.specs.declared.kept_bits.KeptBits.{KeptBits}
 
-module _ (k : Known) (r : WaitRun) (w : Watch) (how : How) (fresh : events.IsFresh r w how true)
-    (at : events.IsAt k r event_stage.First) where
-  pub event_begins : BeginsEvent k k w how (running.Event r (event_turn.Again event_stage.First))
+module _ (k : Known) (r : WaitRun) (w : Watch) (how : How) (fresh : events.IsFresh r.of w how true)
+    (at : IsAt events.wait_table k r event_stage.First) where
+  pub event_begins : BeginsEvent k k w how (running.Event r (turn.Again event_stage.First))
   event_begins = record {
     run = r;
     fresh = fresh;
     is = refl;
     same = refl;
-    came = event_none k r event_stage.First at;
+    came = advances_none events.wait_table wait_lawful k r event_stage.First at;
   }
 
   pub event_under : (ks : KeptBits) → IsReady ks k
-      → IsUnderWay ks k (running.Event r (event_turn.Again event_stage.First))
+      → IsUnderWay ks k (running.Event r (turn.Again event_stage.First))
   event_under ks ready = record {
     start = k;
-    first = running.Event r (event_turn.Again event_stage.First);
+    first = running.Event r (turn.Again event_stage.First);
     began = (ready, (w, how, fresh));
-    came = event_none k r event_stage.First at;
+    came = advances_none events.wait_table wait_lawful k r event_stage.First at;
     stands = at;
   }
 

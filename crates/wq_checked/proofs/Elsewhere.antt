@@ -28,9 +28,9 @@ use Rattle.wait_rule.proofs.KnownLaws.OtherCalls.{others_stay_off}
 use Rattle.wait_rule.proofs.KnownLaws.TaskHistories.{history_after}
 use Rattle.wait_rule.proofs.TableSteps.ItemLists.{steps_append}
 use Rattle.wait_class.specs.Posts.{Runs}
-use Rattle.wait_event.specs.Waits.{IsRunning, wait_call}
+use Rattle.wait_event.specs.Waits.{IsRunning}
 use Rattle.wait_event.specs.WaitPlans.{IsWaitFor, call_for, wait_program}
-use Rattle.wait_event.specs.declared.waits.WaitRun.{WaitRun}
+use Rattle.wait_event.specs.declared.waits.WaitCall.{WaitCall}
 use Rattle.wait_class.specs.Wholes.{HasRested}
 use Rattle.wq_head.specs.Scanned.{HasScanned}
 use Rattle.wq_head.specs.Turns.{IsOver}
@@ -58,7 +58,7 @@ pub calls_off : (call : Call) (old new : Known) (from to : Next) → head_of (ca
 calls_off call old new from to low free runs = others_stay_off (call_program old.view.number 0 call) old new from to
     runs.transitions (inr (λ p. low)) free runs.goes
 
-event_low : (r : WaitRun) → IsRunning r → head_of (call_watch (wait_call r)) < FIRST_DONE_HEAD
+event_low : (r : WaitCall) → IsRunning r → head_of (call_watch (call_for r.watch r.how)) < FIRST_DONE_HEAD
 event_low r runs = by r.watch runs.there runs.suits
   where
     by : (c : Watch) → IsThere c → IsWaitFor c r.how → head_of (call_watch (call_for c r.how)) < FIRST_DONE_HEAD
@@ -67,9 +67,9 @@ event_low r runs = by r.watch runs.there runs.suits
     by (watch.Bit w b) there suits = absurd suits
     by (watch.Done d) there suits = absurd suits
 
-pub waits_off : (r : WaitRun) (old new : Known) (from to : Next) → IsRunning r → (told_of old).hold.head ≡ None
-    → Runs (wait_program r.asks old.view.number (wait_call r)) old new from to → StaysOff old new
-waits_off r old new from to runs free went = others_stay_off (wait_program r.asks old.view.number (wait_call r)) old
+pub waits_off : (r : WaitCall) (old new : Known) (from to : Next) → IsRunning r → (told_of old).hold.head ≡ None
+    → Runs (wait_program r.asks old.view.number (call_for r.watch r.how)) old new from to → StaysOff old new
+waits_off r old new from to runs free went = others_stay_off (wait_program r.asks old.view.number (call_for r.watch r.how)) old
     new from to went.transitions (inr (λ p. event_low r runs)) free went.goes
 
 -- a wake queues nothing

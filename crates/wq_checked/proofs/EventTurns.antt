@@ -4,53 +4,43 @@ use Rattle.std.proofs.Common.{◌∙◌, refl, subst}
 use Rattle.wait_model.specs.declared.watches.Watch.{Watch}
 use Rattle.wait_model.specs.Watches.{IsThere}
 use Rattle.wait_rule.specs.Known.{Known}
-use Rattle.wait_event.specs.declared.waits.WaitRun.{WaitRun}
+use Rattle.wait_class.specs.declared.stages.Turn.TheVariants as turn
+use Rattle.wait_class.specs.Tables.{Advances, IsAt}
+use Rattle.wait_class.proofs.Turns.{advances_none}
+use Rattle.wait_event.specs.declared.waits.WaitCall.{WaitCall}
 use Rattle.wait_event.specs.declared.waits.WaitStage.TheVariants as stage
 use Rattle.wait_event.specs.declared.waits.WaitOutcome.{WaitOutcome}
-use Rattle.wait_event.specs.declared.waits.WaitTurn.{WaitTurn}
-use Rattle.wait_event.specs.declared.waits.WaitTurn.TheVariants as turn
-use Rattle.wait_event.specs.Waits.{Advances, IsAt, IsRunning, SameCall}
+use Rattle.wait_event.specs.Waits.{IsRunning, SameCall, wait_table}
 use Rattle.wait_event.specs.WaitPlans.{IsWaitFor}
-use Rattle.wait_event.proofs.Events.Parts.{advances_none, advances_on}
+use Rattle.wait_event.proofs.Endings.{ends_carried, ends_idle, ends_up}
+use Rattle.wait_event.proofs.Plans.{runs_program}
+use Rattle.wait_event.proofs.WaitLaws.{wait_lawful}
 use Rattle.wq_checked.specs.Kept.{IsReady, but_kept}
-use Rattle.wq_checked.specs.Stages.{EventStands, event_at}
-use Rattle.wq_checked.specs.Calls.{Began, CameFrom, IsSound, IsUnderWay, WentOn}
+use Rattle.wq_checked.specs.Stages.{GoesFrom, StandsBy, WaitRun, WaitTurn}
+use Rattle.wq_checked.specs.Calls.{Began, CameFrom, IsFreshEvent, IsSound, IsUnderWay, WentOn}
 use Rattle.wq_checked.specs.Advancing.{event_left, event_shown}
 use Rattle.wq_checked.specs.declared.calls.Running.{Running}
 use Rattle.wq_checked.specs.declared.calls.Running.TheVariants as running
 use Rattle.wq_checked.specs.declared.kept_bits.KeptBits.{KeptBits}
-use Rattle.wait_event.proofs.Endings.{ends_carried, ends_idle, ends_up}
-use Rattle.wq_checked.specs.Calls.{IsFreshEvent}
 use Rattle.wq_checked.proofs.Elsewhere.{waits_off}
-
--- one stretch more
-pub event_joined : (start old new : Known) (f run q : WaitRun) (last t : WaitTurn) → EventStands old run last
-    → Advances start old f run stage.First last → Advances old new run q (event_at last) t
-    → Advances start new f q stage.First t
-event_joined start old new f run q (turn.Again s) t stands a b =
-    advances_on start old new f run q stage.First s t a.same a.went b
-event_joined start old new f run q (turn.Asleep s) t stands a b =
-    advances_on start old new f run q stage.First s t a.same a.went b
-event_joined start old new f run q (turn.Locked s) t stands a b =
-    advances_on start old new f run q stage.First s t a.same a.went b
-event_joined start old new f run q (turn.Done o) t stands a b = absurd stands
+use Rattle.wq_checked.proofs.GroundTurns.{joined}
 
 -- the numbers of the call are in their ranges
-stands_runs : (k : Known) (r : WaitRun) (last : WaitTurn) → EventStands k r last → IsRunning r
-stands_runs k r (turn.Again s) stands = stands.runs
-stands_runs k r (turn.Asleep s) stands = stands.runs
-stands_runs k r (turn.Locked s) stands = stands.runs
+stands_runs : (k : Known) (r : WaitRun) (last : WaitTurn) → StandsBy wait_table k r last → IsRunning r.of
+stands_runs k r (turn.Again s) stands = stands.fits
+stands_runs k r (turn.Asleep s) stands = stands.fits
+stands_runs k r (turn.Locked s) stands = stands.fits
 stands_runs k r (turn.Done o) stands = absurd stands
 
-began_runs : (f run : WaitRun) → SameCall f run → IsRunning run → IsRunning f
+began_runs : (f run : WaitCall) → SameCall f run → IsRunning run → IsRunning f
 began_runs f run same runs = record {
   there = subst IsThere same.watch_is runs.there;
   suits = subst (λ (c : Watch). IsWaitFor c f.how) same.watch_is (subst (IsWaitFor run.watch) same.how runs.suits);
 }
 
 -- a wait that is over leaves a ready task
-pub event_ready : (ks : KeptBits) (start new : Known) (f q : WaitRun) (o : WaitOutcome) → IsRunning f
-    → IsReady ks start → Advances start new f q stage.First (turn.Done o) → IsReady ks new
+pub event_ready : (ks : KeptBits) (start new : Known) (f q : WaitRun) (o : WaitOutcome) → IsRunning f.of
+    → IsReady ks start → Advances wait_table start new f q stage.First (turn.Done o) → IsReady ks new
 event_ready ks start new f q o runs r a =
     let c = ends_carried start new f q stage.First o a r.up r.idle r.told in record {
       up = ends_up start new f q stage.First o a;
@@ -58,11 +48,13 @@ event_ready ks start new f q o runs r a =
       told = a.lands.stands.told;
       keeps = λ d. c.keeps d refl ∙ r.keeps d;
       owes = c.owes (but_kept ks) r.owes;
-      off = λ d. waits_off f start new _ _ runs r.told a.went.runs d (r.off d);
+      off = λ d. waits_off f.of start new _ _ runs r.told
+          (runs_program f.of start.view.number start new _ _ runs a.went.runs) d (r.off d);
     }
 
 -- what it tells, by where it stands
-tells : (start new : Known) (f : WaitRun) (from t : WaitTurn) (q : WaitRun) → Advances start new f q stage.First t
+tells : (start new : Known) (f : WaitRun) (from t : WaitTurn) (q : WaitRun)
+    → Advances wait_table start new f q stage.First t
     → WentOn start (running.Event f from) new (event_left q t) (event_shown q t)
 tells start new f from (turn.Again s) q a = (a, refl)
 tells start new f from (turn.Asleep s) q a = (a, refl)
@@ -70,16 +62,16 @@ tells start new f from (turn.Locked s) q a = (a, refl)
 tells start new f from (turn.Done o) q a = (refl, record { run = q; outcome = o; went = a; answers = refl })
 
 pub event_goes : (start : Known) (first : Running) (old new : Known) (run q : WaitRun) (last t : WaitTurn)
-    → EventStands old run last → CameFrom start first old (running.Event run last)
-    → Advances old new run q (event_at last) t → WentOn start first new (event_left q t) (event_shown q t)
+    → StandsBy wait_table old run last → CameFrom start first old (running.Event run last)
+    → GoesFrom wait_table old new run q last t → WentOn start first new (event_left q t) (event_shown q t)
 event_goes start (running.Event f from) old new run q last t stands came a = tells start new f from t q
-    (event_joined start old new f run q last t stands came a)
+    (joined wait_table wait_lawful start old new f run q stage.First last t stands came a)
 event_goes start first old new run q last t stands came a = absurd came
 
 -- what is kept of the task then
 under : (ks : KeptBits) (start new : Known) (f : WaitRun) (from t : WaitTurn) (q : WaitRun)
-    → Began ks start (running.Event f from) → Advances start new f q stage.First t → EventStands new q t
-    → IsUnderWay ks new (running.Event q t)
+    → Began ks start (running.Event f from) → Advances wait_table start new f q stage.First t
+    → StandsBy wait_table new q t → IsUnderWay ks new (running.Event q t)
 under ks start new f from t q began a stands = record {
   start = start;
   first = running.Event f from;
@@ -88,8 +80,9 @@ under ks start new f from t q began a stands = record {
   stands = stands;
 }
 
-left_sound : (ks : KeptBits) (start new : Known) (f : WaitRun) (from t : WaitTurn) (q : WaitRun) → IsRunning f
-    → IsReady ks start × IsFreshEvent f → Advances start new f q stage.First t → IsSound (event_left q t) ks new
+left_sound : (ks : KeptBits) (start new : Known) (f : WaitRun) (from t : WaitTurn) (q : WaitRun) → IsRunning f.of
+    → IsReady ks start × IsFreshEvent f.of → Advances wait_table start new f q stage.First t
+    → IsSound (event_left q t) ks new
 left_sound ks start new f from (turn.Again s) q runs began a =
     under ks start new f from (turn.Again s) q began a a.lands
 left_sound ks start new f from (turn.Asleep s) q runs began a =
@@ -98,27 +91,35 @@ left_sound ks start new f from (turn.Locked s) q runs began a =
     under ks start new f from (turn.Locked s) q began a a.lands
 left_sound ks start new f from (turn.Done o) q runs began a = event_ready ks start new f q o runs began.0 a
 
+same_by : (start old : Known) (f run : WaitRun) (last : WaitTurn) → StandsBy wait_table old run last
+    → Advances wait_table start old f run stage.First last → SameCall f.of run.of
+same_by start old f run (turn.Again s) stands a = a.went.tells.same
+same_by start old f run (turn.Asleep s) stands a = a.went.tells.same
+same_by start old f run (turn.Locked s) stands a = a.went.tells.same
+same_by start old f run (turn.Done o) stands a = absurd stands
+
 sound_from : (ks : KeptBits) (start : Known) (first : Running) (old new : Known) (run q : WaitRun) (last t : WaitTurn)
-    → Began ks start first → CameFrom start first old (running.Event run last) → EventStands old run last
-    → Advances old new run q (event_at last) t → IsSound (event_left q t) ks new
+    → Began ks start first → CameFrom start first old (running.Event run last) → StandsBy wait_table old run last
+    → GoesFrom wait_table old new run q last t → IsSound (event_left q t) ks new
 sound_from ks start (running.Event f from) old new run q last t began came stands a =
-    left_sound ks start new f from t q (began_runs f run came.same (stands_runs old run last stands)) began
-    (event_joined start old new f run q last t stands came a)
+    left_sound ks start new f from t q
+    (began_runs f.of run.of (same_by start old f run last stands came) (stands_runs old run last stands)) began
+    (joined wait_table wait_lawful start old new f run q stage.First last t stands came a)
 sound_from ks start first old new run q last t began came stands a = absurd came
 
 pub event_sound : (ks : KeptBits) (old new : Known) (run q : WaitRun) (last t : WaitTurn)
-    → IsSound (running.Event run last) ks old → Advances old new run q (event_at last) t
+    → IsSound (running.Event run last) ks old → GoesFrom wait_table old new run q last t
     → IsSound (event_left q t) ks new
 event_sound ks old new run q last t u a = sound_from ks u.start u.first old new run q last t u.began
     u.came u.stands a
 
 -- a call that begins
-pub event_begins : (ks : KeptBits) (k : Known) (run : WaitRun) → IsReady ks k → IsFreshEvent run
-    → IsAt k run stage.First → IsSound (running.Event run (turn.Again stage.First)) ks k
+pub event_begins : (ks : KeptBits) (k : Known) (run : WaitRun) → IsReady ks k → IsFreshEvent run.of
+    → IsAt wait_table k run stage.First → IsSound (running.Event run (turn.Again stage.First)) ks k
 event_begins ks k run r fresh at = record {
   start = k;
   first = running.Event run (turn.Again stage.First);
   began = (r, fresh);
-  came = advances_none k run stage.First at;
+  came = advances_none wait_table wait_lawful k run stage.First at;
   stands = at;
 }

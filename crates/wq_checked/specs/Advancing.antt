@@ -4,9 +4,6 @@ use Rattle.std.specs.Prelude.{Bool, true, false}
 use Rattle.bit_wait.specs.BitEnds as bit_ends
 use Rattle.bit_wait.specs.LockEnds as lock_ends
 use Rattle.page_lock.specs.PageEnds as page_ends
-use Rattle.wait_event.specs.declared.waits.WaitRun.{WaitRun}
-use Rattle.wait_event.specs.declared.waits.WaitTurn.{WaitTurn}
-use Rattle.wait_event.specs.declared.waits.WaitTurn.TheVariants as event_turn
 use Rattle.wait_class.specs.declared.stages.Turn.TheVariants as turn
 use Rattle.bit_wait.specs.declared.lock_runs.LockOutcome.{LockOutcome}
 use Rattle.bit_wait.specs.declared.lock_runs.LockOutcome.TheVariants as lock_outcome
@@ -28,8 +25,8 @@ use Rattle.wq_head.specs.declared.wakes.WakeRun.{WakeRun}
 use Rattle.wq_head.specs.declared.wakes.WakeStage.TheVariants as wake_stage
 use Rattle.wq_head.specs.declared.wakes.WakeTurn.{WakeTurn}
 use Rattle.wq_head.specs.declared.wakes.WakeTurn.TheVariants as wake_turn
-use Rattle.wq_checked.specs.Calls.{await_told, event_answer, event_told, is_worn, turn_told}
-use Rattle.wq_checked.specs.Stages.{BitRun, BitTurn, LockRun, LockTurn, PageRun, PageTurn}
+use Rattle.wq_checked.specs.Calls.{await_told, event_answer, is_worn, turn_told}
+use Rattle.wq_checked.specs.Stages.{BitRun, BitTurn, LockRun, LockTurn, PageRun, PageTurn, WaitRun, WaitTurn}
 use Rattle.wq_checked.specs.declared.calls.Answer.TheVariants as answer
 use Rattle.wq_checked.specs.declared.calls.Progress.{Progress}
 use Rattle.wq_checked.specs.declared.calls.Progress.TheVariants as progress
@@ -37,12 +34,12 @@ use Rattle.wq_checked.specs.declared.calls.Running.{Running}
 use Rattle.wq_checked.specs.declared.calls.Running.TheVariants as running
 
 abbrev pub event_left : WaitRun → WaitTurn → Running
-event_left r (event_turn.Done o) = running.Idle
+event_left r (turn.Done o) = running.Idle
 event_left r t = running.Event r t
 
 abbrev pub event_shown : WaitRun → WaitTurn → Progress
-event_shown r (event_turn.Done o) = progress.Done (event_answer r o)
-event_shown r t = event_told t
+event_shown r (turn.Done o) = progress.Done (event_answer r.of o)
+event_shown r t = turn_told t
 
 abbrev pub bit_left : BitRun → BitTurn → Running
 bit_left r (turn.Done o) = running.Idle

@@ -17,11 +17,9 @@ use Rattle.wait_rule.specs.Stays.{with_wakes}
 use Rattle.wait_event.specs.Waits as events
 use Rattle.wait_event.specs.Ends as event_ends
 use Rattle.wait_event.specs.declared.wait_events.WaitEnd.{WaitEnd}
-use Rattle.wait_event.specs.declared.waits.WaitRun.{WaitRun}
+use Rattle.wait_event.specs.declared.waits.WaitCall.{WaitCall}
 use Rattle.wait_event.specs.declared.waits.WaitStage.TheVariants as event_stage
 use Rattle.wait_event.specs.declared.waits.WaitOutcome.{WaitOutcome}
-use Rattle.wait_event.specs.declared.waits.WaitTurn.{WaitTurn}
-use Rattle.wait_event.specs.declared.waits.WaitTurn.TheVariants as event_turn
 use Rattle.var_wait.specs.VarWaits.{with_loaded}
 use Rattle.wait_class.specs.Tables.{Advances}
 use Rattle.wait_class.specs.Wholes.{HasRested}
@@ -66,10 +64,10 @@ use Rattle.wq_checked.specs.Kept.{IsReady, but_kept, keeps_in}
 use Rattle.wq_checked.specs.Stages.{
   AwaitStands,
   BitRun,
-  EventStands,
   LockRun,
   PageRun,
   StandsBy,
+  WaitRun,
   bit_first,
   lock_first,
 }
@@ -101,7 +99,7 @@ pub record SwakeCame (start k : Known) (first run : SwakeRun) (s : SwakeStage) :
 -- on, with the same numbers.
 abbrev pub CameFrom : Known → Running → Known → Running → Type 0
 CameFrom start (running.Event first from) k (running.Event run last) =
-    events.Advances start k first run event_stage.First last
+    Advances events.wait_table start k first run event_stage.First last
 CameFrom start (running.Bit first from) k (running.Bit run last) =
     Advances bits.bit_table start k first run bit_first last
 CameFrom start (running.Lock first from) k (running.Lock run last) =
@@ -119,7 +117,7 @@ abbrev pub waited : Watch → ℕ → Result (Unit {0}) WaitEnd → Answer
 waited (watch.Var v old) seen r = answer.Changed (with_loaded seen r)
 waited _ seen r = answer.Waited r
 
-abbrev pub event_answer : WaitRun → WaitOutcome → Answer
+abbrev pub event_answer : WaitCall → WaitOutcome → Answer
 event_answer q o = waited q.watch q.seen (event_ends.end_in q o)
 
 -- no place was left for the entry of a wait for a bit, so that its task may still be in the state in which it would
@@ -132,8 +130,8 @@ is_worn _ = false
 pub record EventEnded (start new : Known) (first : WaitRun) (a : Answer) : Type 0 where
   pub run : WaitRun
   pub outcome : WaitOutcome
-  pub went : events.Advances start new first run event_stage.First (event_turn.Done outcome)
-  pub answers : a ≡ event_answer run outcome
+  pub went : Advances events.wait_table start new first run event_stage.First (turn.Done outcome)
+  pub answers : a ≡ event_answer run.of outcome
 
 pub record BitEnded (start new : Known) (first : BitRun) (a : Answer) : Type 0 where
   pub run : BitRun
@@ -176,11 +174,6 @@ Ended start (running.Cell first from) new (answer.Cell hit) = cells.IsOver first
 Ended _ _ _ _ = ⊥
 
 -- what a stretch tells of a call that is not over
-abbrev pub event_told : WaitTurn → Progress
-event_told (event_turn.Locked s) = progress.Locked
-event_told (event_turn.Asleep s) = progress.Park
-event_told _ = progress.Again
-
 abbrev pub turn_told : {S O : Type 0} → Turn S O → Progress
 turn_told (turn.Locked s) = progress.Locked
 turn_told (turn.Asleep s) = progress.Park
@@ -194,7 +187,7 @@ await_told _ = progress.Again
 -- What it tells fits where the call stands: a wake waits for its lock where a ticket is drawn, and goes on at once
 -- behind a break; a call of one hold waits for its lock.
 abbrev pub Fits : Running → Progress → Type 0
-Fits (running.Event run last) p = p ≡ event_told last
+Fits (running.Event run last) p = p ≡ turn_told last
 Fits (running.Bit run last) p = p ≡ turn_told last
 Fits (running.Lock run last) p = p ≡ turn_told last
 Fits (running.Page run last) p = p ≡ turn_told last
@@ -213,7 +206,7 @@ WentOn start first new now progress.Starved = now ≡ running.Starved
 WentOn start first new now p = CameFrom start first new now × Fits now p
 
 -- A wait that has not begun.
-abbrev pub IsFreshEvent : WaitRun → Type 0
+abbrev pub IsFreshEvent : WaitCall → Type 0
 IsFreshEvent r = (w : Watch) × (how : How) × events.IsFresh r w how true
 
 -- What held when a call began: the task was ready; but for a wake, which may owe wakes of its watch, as a publish left
@@ -232,7 +225,7 @@ pub record IsSwaking (ks : KeptBits) (start : Known) (cond : ℕ) : Type 0 where
   pub off : HasLeftNone start
 
 abbrev pub Began : KeptBits → Known → Running → Type 0
-Began ks start (running.Event first from) = IsReady ks start × IsFreshEvent first
+Began ks start (running.Event first from) = IsReady ks start × IsFreshEvent first.of
 Began ks start (running.Bit first from) = IsReady ks start
 Began ks start (running.Lock first from) = IsReady ks start
 Began ks start (running.Page first from) = IsReady ks start
@@ -244,7 +237,7 @@ Began ks start _ = ⊥
 
 -- where it stands
 abbrev pub StandsOn : Known → Running → Type 0
-StandsOn k (running.Event run last) = EventStands k run last
+StandsOn k (running.Event run last) = StandsBy events.wait_table k run last
 StandsOn k (running.Bit run last) = StandsBy bits.bit_table k run last
 StandsOn k (running.Lock run last) = StandsBy locks.lock_table k run last
 StandsOn k (running.Page run last) = StandsBy pages.page_table k run last
@@ -271,8 +264,8 @@ IsSound r ks k = IsUnderWay ks k r
 -- A wait has begun: nothing of the task has changed, and the wait is under way at its first stage, with these numbers.
 pub record BeginsEvent (old new : Known) (w : Watch) (how : How) (now : Running) : Type 0 where
   pub run : WaitRun
-  pub fresh : events.IsFresh run w how true
-  pub is : now ≡ running.Event run (event_turn.Again event_stage.First)
+  pub fresh : events.IsFresh run.of w how true
+  pub is : now ≡ running.Event run (turn.Again event_stage.First)
   pub same : new ≡ old
   pub came : CameFrom old now new now
 

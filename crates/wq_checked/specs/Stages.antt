@@ -1,12 +1,9 @@
 -- To be believed.
 -- Where a call stands between two of its stretches: it goes on there, or was put asleep and goes on there.
 use Rattle.wait_rule.specs.Known.{Known}
-use Rattle.wait_event.specs.declared.waits.WaitRun.{WaitRun}
+use Rattle.wait_event.specs.declared.waits.WaitCall.{WaitCall}
+use Rattle.wait_event.specs.declared.waits.WaitOutcome.{WaitOutcome}
 use Rattle.wait_event.specs.declared.waits.WaitStage.{WaitStage}
-use Rattle.wait_event.specs.declared.waits.WaitStage.TheVariants as event_stage
-use Rattle.wait_event.specs.declared.waits.WaitTurn.{WaitTurn}
-use Rattle.wait_event.specs.declared.waits.WaitTurn.TheVariants as event_turn
-use Rattle.wait_event.specs.Waits as events
 use Rattle.completion_cell.specs.declared.awaits.AwaitRun.{AwaitRun}
 use Rattle.completion_cell.specs.declared.awaits.AwaitStage.{AwaitStage}
 use Rattle.completion_cell.specs.declared.awaits.AwaitStage.TheVariants as await_stage
@@ -32,7 +29,13 @@ use Rattle.page_lock.specs.declared.waits.LockPage.{LockPage}
 use Rattle.page_lock.specs.declared.waits.PageOutcome.{PageOutcome}
 use Rattle.page_lock.specs.declared.waits.PageStage.{PageStage}
 
--- the runs of waits for bits and pages, what a stretch of them did, and where those for bits begin
+-- the runs of waits, what a stretch of them did, and where those for bits begin
+abbrev pub WaitRun : Type 0
+WaitRun = Run WaitCall
+
+abbrev pub WaitTurn : Type 0
+WaitTurn = Turn WaitStage WaitOutcome
+
 abbrev pub BitRun : Type 0
 BitRun = Run (Framed WaitBit)
 
@@ -57,7 +60,7 @@ PageRun = Run LockPage
 abbrev pub PageTurn : Type 0
 PageTurn = Turn PageStage PageOutcome
 
--- a wait for a bit or a page, by what its last stretch did; and one stretch more
+-- a wait of the ground, by what its last stretch did; and one stretch more
 abbrev pub StandsBy : {C S O : Type 0} → Table C S O → Known → Run C → Turn S O → Type 0
 StandsBy t k r (turn.Again s) = IsAt t k r s
 StandsBy t k r (turn.Asleep s) = IsAsleepAt t k r s
@@ -69,19 +72,6 @@ GoesFrom t old new r q (turn.Again s) u = Advances t old new r q s u
 GoesFrom t old new r q (turn.Asleep s) u = Advances t old new r q s u
 GoesFrom t old new r q (turn.Locked s) u = Advances t old new r q s u
 GoesFrom t old new r q (turn.Done o) u = ⊥
-
--- a wait for a plain condition or a variable, by what its last stretch did
-abbrev pub EventStands : Known → WaitRun → WaitTurn → Type 0
-EventStands k r (event_turn.Again s) = events.IsAt k r s
-EventStands k r (event_turn.Asleep s) = events.IsAsleepAt k r s
-EventStands k r (event_turn.Locked s) = events.IsAt k r s
-EventStands k r (event_turn.Done o) = ⊥
-
-abbrev pub event_at : WaitTurn → WaitStage
-event_at (event_turn.Again s) = s
-event_at (event_turn.Asleep s) = s
-event_at (event_turn.Locked s) = s
-event_at (event_turn.Done o) = event_stage.First
 
 -- a wait for a completion, by what its last stretch did
 abbrev pub AwaitStands : Known → AwaitRun → AwaitTurn → Type 0

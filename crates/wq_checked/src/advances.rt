@@ -24,7 +24,7 @@ use crate::calls::{Answer, Progress, Running};
 use crate::cells::cell_on;
 use crate::kept_bits::KeptBits;
 use crate::simple_wakes::swake_on;
-use crate::stretches::{event_turn, ground_turn};
+use crate::stretches::ground_turn;
 use bit_wait::lock_waits::{LockOutcome, LockRun, LockTurn};
 use bit_wait::waits::{BitOutcome, BitRun, BitTurn};
 use bit_wait::{lock_calls, wait_calls};
@@ -33,7 +33,7 @@ use page_lock::waits::{PageOutcome, PageRun, PageTurn};
 use var_wait::end_of_var;
 use wait_class::stages::Turn;
 use wait_event::wait_events::end_of;
-use wait_event::waits::{WaitOutcome, WaitRun, WaitTurn};
+use wait_event::waits::{WaitCall, WaitOutcome, WaitRun, WaitTurn};
 use wait_model::layout::RUNNING;
 use wait_model::watches::Watch;
 use wait_rule::queues::Passing;
@@ -43,12 +43,12 @@ use wq_head::wakes::{WakeRun, WakeStage, WakeTurn, wake_stretch};
 use wq_head::{Members, Rousing};
 
 /// The answer of a wait for a plain condition or a variable.
-fn answer_of(run: WaitRun, outcome: WaitOutcome) -> Answer
-    ensures { result ≡ event_answer run outcome }
+fn answer_of(wait: WaitCall, outcome: WaitOutcome) -> Answer
+    ensures { result ≡ event_answer wait outcome }
 {
-    match run.watch {
-        Watch::Var { .. } => Answer::Changed(end_of_var(run, outcome)),
-        _ => Answer::Waited(end_of(run, outcome)),
+    match wait.watch {
+        Watch::Var { .. } => Answer::Changed(end_of_var(wait, outcome)),
+        _ => Answer::Waited(end_of(wait, outcome)),
     }
 }
 
@@ -57,10 +57,10 @@ fn event_leaves(run: WaitRun, turn: WaitTurn) -> (Running, Progress)
     ensures shown { result.1 ≡ event_shown run turn }
 {
     match turn {
-        WaitTurn::Again(_) => (Running::Event(run, turn), Progress::Again),
-        WaitTurn::Locked(_) => (Running::Event(run, turn), Progress::Locked),
-        WaitTurn::Asleep(_) => (Running::Event(run, turn), Progress::Park),
-        WaitTurn::Done(outcome) => (Running::Idle, Progress::Done(answer_of(run, outcome))),
+        Turn::Again(_) => (Running::Event(run, turn), Progress::Again),
+        Turn::Locked(_) => (Running::Event(run, turn), Progress::Locked),
+        Turn::Asleep(_) => (Running::Event(run, turn), Progress::Park),
+        Turn::Done(outcome) => (Running::Idle, Progress::Done(answer_of(run.of, outcome))),
     }
 }
 
@@ -83,7 +83,7 @@ pub(crate) fn event_on(
 {
     let _ = kept;
     let mut run = run;
-    let turn = event_turn(domain, task, &mut run, last, passing);
+    let turn = ground_turn(domain, task, &mut run, last, passing);
     event_leaves(run, turn)
 }
 

@@ -25,7 +25,7 @@ use var_wait::begin_var;
 use wait_class::frame_stages::Stage;
 use wait_class::stages::Turn;
 use wait_event::wait_events::begin_wait;
-use wait_event::waits::{WaitStage, WaitTurn};
+use wait_event::waits::WaitStage;
 use wait_model::layout::{BIT_WORDS, FIRST_SIMPLE, PLAIN_CONDITIONS, VARIABLES, WORD_BITS};
 use wait_model::tasks::{How, SleepState};
 
@@ -56,7 +56,7 @@ impl CheckedTask {
             Some(reason) => Err(reason),
             None => {
                 let run = begin_wait(&self.task, cond, how);
-                self.running = Running::Event(run, WaitTurn::Again(WaitStage::First));
+                self.running = Running::Event(run, Turn::Again(WaitStage::First));
                 Ok(())
             }
         }
@@ -84,7 +84,7 @@ impl CheckedTask {
             Some(reason) => Err(reason),
             None => {
                 let run = begin_swait(&self.task, cond, state);
-                self.running = Running::Event(run, WaitTurn::Again(WaitStage::First));
+                self.running = Running::Event(run, Turn::Again(WaitStage::First));
                 Ok(())
             }
         }
@@ -106,7 +106,7 @@ impl CheckedTask {
             Some(reason) => Err(reason),
             None => {
                 let run = begin_var(&self.task, var, old, state);
-                self.running = Running::Event(run, WaitTurn::Again(WaitStage::First));
+                self.running = Running::Event(run, Turn::Again(WaitStage::First));
                 Ok(())
             }
         }

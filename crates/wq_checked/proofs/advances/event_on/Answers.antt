@@ -8,14 +8,14 @@ use Rattle.wq_checked.proofs.advances.event_on.Goals as goal
 
 pub returns-clause-sound : goal.returns-clause-sound
 returns-clause-sound c =
-    let t = c.event_turn-turn in
+    let t = c.ground_turn-turn in
     subst (λ (r : Running). IsSound r c.args.kept.now t.new.task) (sym c.event_leaves.ensures.left)
     (event_sound c.args.kept.now c.args.task.now t.new.task c.args.run t.new.run c.args.last t.result c.requires.sound
     t.ensures)
 
 pub returns-clause-goes : goal.returns-clause-goes
 returns-clause-goes c start first came =
-    let t = c.event_turn-turn in
+    let t = c.ground_turn-turn in
     went_as start first t.new.task c.event_leaves.result.0 (event_left t.new.run t.result) c.event_leaves.result.1
     (event_shown t.new.run t.result) c.event_leaves.ensures.left c.event_leaves.ensures.shown
     (event_goes start first c.args.task.now t.new.task c.args.run t.new.run c.args.last t.result

@@ -2,7 +2,7 @@ use Rattle.std.proofs.Common.{subst}
 use Rattle.std.specs.Prelude.{◌≡◌, None}
 use Rattle.wait_model.specs.declared.watches.Watch.TheVariants as watch
 use Rattle.wait_event.specs.declared.waits.WaitStage.TheVariants as stage
-use Rattle.wait_event.specs.declared.waits.WaitTurn.TheVariants as turn
+use Rattle.wait_class.specs.declared.stages.Turn.TheVariants as turn
 use Rattle.swait_queue.specs.SimpleWaits.{tail_in}
 use Rattle.wq_checked.specs.Calls.{BeginsEvent}
 use Rattle.wq_checked.specs.Checked.{Checked}

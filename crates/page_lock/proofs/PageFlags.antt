@@ -1,7 +1,7 @@
 -- The own flag is cleared, loaded, and cleared again to take note of the page.
 use Rattle.std.proofs.Common.{◌∙◌, ap, sym, refl, subst, inl, inr, eq-eqb}
 use Rattle.std.specs.Prelude.{ℕ, ◌≡◌, ◌&&◌, ◌||◌, ◌==◌, Bool, true, false, if◌then◌else◌}
-use Rattle.std.specs.Prelude.{Option, Some, None, [], ◌∷◌, ◌++◌}
+use Rattle.std.specs.Prelude.{Some, None, [], ◌∷◌, ◌++◌}
 use Rattle.wait_model.specs.declared.layout.TheConstants.{HANDED}
 use Rattle.wait_model.specs.declared.calls.Event.{Event}
 use Rattle.wait_model.specs.declared.calls.Event.TheVariants as event
@@ -12,7 +12,6 @@ use Rattle.wait_model.specs.declared.points.PagePoint.TheVariants as paging
 use Rattle.wait_model.specs.declared.points.Point.TheVariants as at
 use Rattle.wait_model.specs.declared.steps.Step.{Step}
 use Rattle.wait_model.specs.declared.steps.Step.TheVariants as step
-use Rattle.wait_model.specs.declared.watches.Entry.{Entry}
 use Rattle.wait_model.specs.declared.watches.Watch.{Watch}
 use Rattle.wait_model.specs.Fold.{is_off}
 use Rattle.wait_model.specs.PointFacts.{IsHome, absent}
@@ -41,7 +40,7 @@ use Rattle.wait_class.specs.Findings.{nothing}
 use Rattle.wait_class.proofs.Ground.Keeping.{keeps_of}
 use Rattle.wait_class.specs.declared.stages.Run.{Run}
 use Rattle.wait_class.specs.declared.stages.Turn.TheVariants as turn
-use Rattle.wait_class.specs.Tables.{IsAt, IsPlain, Turned, falls, next_in, post_of, took_in, turn_post}
+use Rattle.wait_class.specs.Tables.{IsAt, IsPlain, Turned, falls, post_of, turn_post}
 use Rattle.wait_class.proofs.OwnSteps.{own_goes, stands_same}
 use Rattle.wait_class.proofs.Turns.{GoesOn, advance_by}
 use Rattle.wait_class.proofs.Wholes.{none_of}
@@ -63,7 +62,7 @@ use Rattle.page_lock.specs.declared.waits.PageOutcome.TheVariants as outcome
 use Rattle.page_lock.specs.declared.waits.PageStage.{PageStage}
 use Rattle.page_lock.specs.declared.waits.PageStage.TheVariants as stage
 use Rattle.page_lock.proofs.PageGround.{page_keeps_noted, page_keeps_of}
-use Rattle.page_lock.proofs.PageTrails.{left_on, over_end, signal_on, waiting_on}
+use Rattle.page_lock.proofs.PageTrails.{over_end, signal_on, waiting_on}
 use Rattle.page_lock.proofs.PageTries.{either_event}
 
 same_number : (n : ℕ) → (n == n) ≡ true
@@ -107,8 +106,7 @@ module _ (old : Known) (run : Run LockPage) where
       (step_keeps old cleared (page_in run.of) carries) refl (refl, inl refl) (tt, tt, tt) a.up
       (stands_same old (step.Unflag (own_of old) None) (post_of page_table run.of stage.Unflag)
       (turn_post page_table run.of (turn.Again stage.QueueLock)) a.stands refl refl refl refl a.stands.state
-      a.stands.home)
-      (
+      a.stands.home) (
         asked_added old (item.Made (step.Unflag (own_of old) None))
             ∙ ap (ask_step (step.Unflag (own_of old) None)) a.trail,
         clear_quiet (none_of (page_in run.of) ((told_of old).bits.stored (own_of old)) a.stands.home),
@@ -182,8 +180,7 @@ module _ (old : Known) (run : Run LockPage) (w : ℕ) where
           (with_flag (flag_of w)) (only_none old) (only_none loaded) (λ x did. tt) kept
           (λ i. turns (set i) (looks_in r.state)) refl (refl, tt, tt) a.up
           (stands_same old e (post_of page_table r stage.Flag) (turn_post page_table r (turn.Again stage.FinishState))
-          a.stands refl refl refl refl a.stands.state a.stands.home)
-          (
+          a.stands refl refl refl refl a.stands.state a.stands.home) (
             waiting_on old loaded r (e ∷ []) refl flag_history refl refl a.trail,
             inl (flag_told a.trail.quiet set),
           )

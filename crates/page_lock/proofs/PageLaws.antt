@@ -1,18 +1,14 @@
 -- The table of a wait for a page keeps its laws.
 use Rattle.std.proofs.Common.{◌∙◌, ap, refl, inl, inr, arith}
-use Rattle.std.specs.Prelude.{ℕ, ◌≡◌, ◌≤◌, Bool, true, false, if◌then◌else◌, is_some, Option, Some, None, [], ◌∷◌}
+use Rattle.std.specs.Prelude.{◌≤◌, Bool, true, false, if◌then◌else◌, Option, Some, None, [], ◌∷◌}
 use Rattle.wait_model.specs.declared.points.FinishPoint.TheVariants as finishing
 use Rattle.wait_model.specs.declared.points.Next.TheVariants as next
 use Rattle.wait_model.specs.declared.points.PagePoint.TheVariants as paging
 use Rattle.wait_model.specs.declared.points.Point.TheVariants as at
 use Rattle.wait_model.specs.declared.steps.Step.TheVariants as step
 use Rattle.wait_model.specs.declared.watches.Entry.{Entry}
-use Rattle.wait_model.specs.Tasks.{pending, state_mask, task_of}
-use Rattle.wait_rule.specs.Known.{Known}
-use Rattle.wait_rule.specs.Queues.{index}
-use Rattle.wait_rule.specs.Says.{MayStore}
+use Rattle.wait_model.specs.Tasks.{state_mask}
 use Rattle.wq_head.proofs.PermitHeads.{owes_low, page_low}
-use Rattle.wait_class.specs.Posts.{own_of}
 use Rattle.wait_class.proofs.Ground.Standing.{owner_own}
 use Rattle.wait_class.proofs.Histories.{unmoved_by}
 use Rattle.wait_class.proofs.Ways.{look_by, sleep_by, way}
@@ -29,10 +25,8 @@ use Rattle.wait_class.specs.Laws.{
   StateLaw,
   UnlockLaw,
 }
-use Rattle.wait_class.specs.Tables.{Calm}
 use Rattle.page_lock.specs.PageTables.{depth_at, doing_at, head_in, page_in, page_table}
 use Rattle.page_lock.specs.declared.waits.LockPage.{LockPage}
-use Rattle.page_lock.specs.declared.waits.PageOutcome.TheVariants as outcome
 use Rattle.page_lock.specs.declared.waits.PageStage.{PageStage}
 use Rattle.page_lock.specs.declared.waits.PageStage.TheVariants as stage
 use Rattle.page_lock.proofs.PageGround.{page_stays}

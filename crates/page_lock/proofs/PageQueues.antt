@@ -1,6 +1,6 @@
 -- The own entry is queued at the tail, and taken off in the same hold. Where no place is left the head is given back.
 use Rattle.std.proofs.Common.{◌∙◌, ap, sym, refl, subst, inl, eq-eqb}
-use Rattle.std.specs.Prelude.{ℕ, ◌≡◌, ◌&&◌, ◌==◌, not, Bool, true, false, if◌then◌else◌, Option, Some, None}
+use Rattle.std.specs.Prelude.{ℕ, ◌≡◌, ◌&&◌, ◌==◌, not, Bool, true, false, if◌then◌else◌, Some, None}
 use Rattle.std.specs.Prelude.{List, [], ◌∷◌, ◌++◌}
 use Rattle.wait_model.specs.declared.queues.Form.TheVariants as forms
 use Rattle.wait_model.specs.declared.steps.Step.TheVariants as step
@@ -21,7 +21,7 @@ use Rattle.wait_rule.specs.Queues.{MayUnqueue, index}
 use Rattle.wait_rule.specs.Quiet.{is_quiet}
 use Rattle.wait_rule.specs.Says.{AsksNoPage, added, asks_for, history_of, stored_with, told_of, unlocked_with}
 use Rattle.wait_rule.specs.Stays.{Carries, only_looks, take_off_change}
-use Rattle.wait_rule.specs.Transitions.{AreLooks, OnlyLooks, by_step}
+use Rattle.wait_rule.specs.Transitions.{AreLooks, OnlyLooks}
 use Rattle.wait_rule.proofs.TableSteps.ItemLists.{steps_append}
 use Rattle.wait_rule.proofs.KnownLaws.MemberBits.{told_stored}
 use Rattle.wait_rule.proofs.KnownLaws.QuietFlags.{quiet_more}
@@ -46,7 +46,6 @@ use Rattle.wait_class.specs.declared.stages.Run.{Run}
 use Rattle.wait_class.specs.declared.stages.Turn.TheVariants as turn
 use Rattle.wait_class.specs.Tables.{IsAt, Turned, post_of, turn_post}
 use Rattle.page_lock.specs.PageEnds.{are_calm}
-use Rattle.page_lock.specs.PageStays.{PageKeeps}
 use Rattle.page_lock.specs.PageTables.{HasJoined, IsQuiet, head_in, page_in, page_table}
 use Rattle.page_lock.specs.declared.waits.LockPage.{LockPage}
 use Rattle.page_lock.specs.declared.waits.PageStage.TheVariants as stage
@@ -136,8 +135,7 @@ module _ (old : Known) (run : Run LockPage) (a : IsAt page_table old run stage.Q
         (only_looked old x.seen x.looks.items x.looks.same x.looks.looks x.looks.is)
         (subst (OnlyLooks (added x.seen (item.Made (step.Queue i e)))) (sym x.is)
         (record { items = item.Member ∷ []; looks = (tt, tt); is = refl }))
-        (λ y did. tt) (page_keeps_queued i (page_in r) false old new x.carries) refl
-        (
+        (λ y did. tt) (page_keeps_queued i (page_in r) false old new x.carries) refl (
           refl,
           sym seen_at,
           x.whole,
@@ -186,8 +184,7 @@ module _ (old : Known) (run : Run LockPage) (a : IsAt page_table old run stage.Q
         (back_up page_table page_lawful mid new is (carried.awake ∙ a.up))
         (back_stands page_table page_lawful mid new is p
         (turn_post page_table (record r { place = w.place }) (turn.Again stage.Worn)) mid_stands refl refl
-        mid_stands.state (λ u h. h))
-        (
+        mid_stands.state (λ u h. h)) (
           asks_more mid new (step.Unlock mid.at false ∷ []) (unlocked_history mid new is) ∙ unasked,
           record {
             noted = subst (λ (h : ℕ). WasWorn new.view.number new.view.items h w.place)

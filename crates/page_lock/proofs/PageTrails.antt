@@ -24,23 +24,7 @@ use Rattle.wait_class.specs.Posts.{own_of}
 use Rattle.wait_class.specs.Tables.{Calm, Unmoved, has_sleep}
 use Rattle.wait_class.proofs.Histories.{awake_more, ends_still, worn_still}
 use Rattle.page_lock.specs.PageEnds.{are_calm, is_calm}
-use Rattle.page_lock.specs.PageTables.{
-  EndTrail,
-  FoundSet,
-  FoundSignal,
-  FoundWorn,
-  HasGot,
-  HasJoined,
-  HasLeft,
-  IsGiven,
-  IsOff,
-  IsQuiet,
-  IsUnasked,
-  IsWaiting,
-  TrailAt,
-  head_in,
-  page_in,
-}
+use Rattle.page_lock.specs.PageTables.{EndTrail, FoundSet, FoundSignal, HasLeft, IsOff, IsQuiet, IsUnasked, IsWaiting, TrailAt, head_in, page_in}
 use Rattle.page_lock.specs.declared.waits.LockPage.{LockPage}
 use Rattle.page_lock.specs.declared.waits.PageOutcome.TheVariants as outcome
 use Rattle.page_lock.specs.declared.waits.PageStage.{PageStage}

@@ -12,7 +12,6 @@ use Rattle.wait_model.specs.declared.steps.Step.{Step}
 use Rattle.wait_model.specs.declared.steps.Step.TheVariants as step
 use Rattle.wait_model.specs.declared.watches.Entry.{Entry}
 use Rattle.wait_model.specs.declared.watches.Watch.{Watch}
-use Rattle.wait_model.specs.Fold.{after}
 use Rattle.wait_model.specs.PointFacts.{IsHome, pages, seated}
 use Rattle.wait_model.specs.Points.{given_at}
 use Rattle.wait_model.specs.Programs.{ends_with, exchange, go, zero_answer}
@@ -37,21 +36,11 @@ use Rattle.wait_class.specs.Findings.{with_value}
 use Rattle.wait_class.proofs.Histories.{ends_more}
 use Rattle.wait_class.specs.declared.stages.Run.{Run}
 use Rattle.wait_class.specs.declared.stages.Turn.TheVariants as turn
-use Rattle.wait_class.specs.Tables.{IsAt, IsPlain, Turned, TurnTrail, falls, next_in, post_of, took_in, turn_post}
+use Rattle.wait_class.specs.Tables.{IsAt, IsPlain, Turned, falls, post_of, turn_post}
 use Rattle.wait_class.proofs.OwnSteps.{own_goes, stands_same}
 use Rattle.wait_class.proofs.Turns.{GoesOn, advance_by}
 use Rattle.page_lock.specs.PageStays.{PageKeeps}
-use Rattle.page_lock.specs.PageTables.{
-  PageTurn,
-  TriesAt,
-  head_in,
-  page_call,
-  page_in,
-  page_table,
-  point_of,
-  tried_to,
-  tries_page,
-}
+use Rattle.page_lock.specs.PageTables.{PageTurn, TriesAt, head_in, page_call, page_in, page_table, tried_to, tries_page}
 use Rattle.page_lock.specs.declared.waits.LockPage.{LockPage}
 use Rattle.page_lock.specs.declared.waits.PageOutcome.TheVariants as outcome
 use Rattle.page_lock.specs.declared.waits.PageStage.{PageStage}

@@ -50,10 +50,10 @@ pub loop-preserved : goal.loop-preserved
 loop-preserved g c =
     let i = c.loop.invariant.0 in (
       again g.C.Machine.table c.args.task.now c.advance-turn.new.task c.args.run.now c.advance-turn.new.run c.args.stage
-    c.in-Locked.next
-    (advances_on g.C.Machine.table c.lawful.ensures c.args.task.now c.loop.task c.advance-turn.new.task c.args.run.now
-    c.loop.run c.advance-turn.new.run c.args.stage c.loop.at (turn.Locked c.in-Locked.next) i.same
-    i.went c.in-Locked.ensures.turned.advances),
+          c.in-Locked.next
+          (advances_on g.C.Machine.table c.lawful.ensures c.args.task.now c.loop.task c.advance-turn.new.task c.args.run.now
+          c.loop.run c.advance-turn.new.run c.args.stage c.loop.at (turn.Locked c.in-Locked.next) i.same
+          i.went c.in-Locked.ensures.turned.advances),
       c.wake.ensures,
     )
 

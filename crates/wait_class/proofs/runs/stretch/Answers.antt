@@ -36,15 +36,15 @@ loop-turn-preserved g c =
     let less = falls_by (holds (t.point_of next)) (t.depth next) (t.depth c.loop-turn.at)
     (and_left (not (holds (t.point_of next)) || nat_lt (t.depth next) (t.depth c.loop-turn.at)) _ e.falls)
     (held_yes (holds (t.point_of next)) c.is_free.result c.is_free.ensures c.if-is_free.false) in (
-    record {
-      way = advances_on g.C.Machine.table c.lawful.ensures c.args.task.now c.loop-turn.task c.advance.new.task c.args.run.now
-          c.loop-turn.run c.advance.new.run c.args.stage c.loop-turn.at (turn.Again next) i.way.same i.way.went
-          e.turned.advances;
-      begun = inr (goes_made t c.args.task.now c.loop-turn.task c.advance.new.task c.args.run.now c.loop-turn.run
-          c.advance.new.run next i.begun e.turned.shows
-          (held_yes (holds (t.point_of next)) c.is_free.result c.is_free.ensures c.if-is_free.false));
-      low = omega (arith, less, i.low);
-    },
+      record {
+        way = advances_on g.C.Machine.table c.lawful.ensures c.args.task.now c.loop-turn.task c.advance.new.task c.args.run.now
+            c.loop-turn.run c.advance.new.run c.args.stage c.loop-turn.at (turn.Again next) i.way.same i.way.went
+            e.turned.advances;
+        begun = inr (goes_made t c.args.task.now c.loop-turn.task c.advance.new.task c.args.run.now c.loop-turn.run
+            c.advance.new.run next i.begun e.turned.shows
+            (held_yes (holds (t.point_of next)) c.is_free.result c.is_free.ensures c.if-is_free.false));
+        low = omega (arith, less, i.low);
+      },
       none_yet (holds (t.point_of next)) c.advance.new.passing
           (held_yes (holds (t.point_of next)) c.is_free.result c.is_free.ensures c.if-is_free.false) e.passes,
     )
@@ -54,8 +54,8 @@ returns-then-is_free-clause-turned g c =
     let i = c.loop-turn.invariant.0 in
     record {
       advances = advances_on g.C.Machine.table c.lawful.ensures c.args.task.now c.loop-turn.task c.advance.new.task c.args.run.now
-    c.loop-turn.run c.advance.new.run c.args.stage c.loop-turn.at (turn.Again c.in-Again.next) i.way.same
-    i.way.went c.in-Again.ensures.turned.advances;
+          c.loop-turn.run c.advance.new.run c.args.stage c.loop-turn.at (turn.Again c.in-Again.next) i.way.same
+          i.way.went c.in-Again.ensures.turned.advances;
       shows = goes_shown g.C.Machine.table c.args.task.now c.loop-turn.task c.advance.new.task c.args.run.now
           c.loop-turn.run c.advance.new.run c.in-Again.next i.begun c.in-Again.ensures.turned.shows;
     }
@@ -69,8 +69,8 @@ returns-in-Asleep-clause-turned g c =
     let i = c.loop-turn.invariant.0 in
     record {
       advances = advances_on g.C.Machine.table c.lawful.ensures c.args.task.now c.loop-turn.task c.advance.new.task c.args.run.now
-    c.loop-turn.run c.advance.new.run c.args.stage c.loop-turn.at (turn.Asleep c.in-Asleep.next)
-    i.way.same i.way.went c.in-Asleep.ensures.turned.advances;
+          c.loop-turn.run c.advance.new.run c.args.stage c.loop-turn.at (turn.Asleep c.in-Asleep.next)
+          i.way.same i.way.went c.in-Asleep.ensures.turned.advances;
       shows = tt;
     }
 
@@ -83,8 +83,8 @@ returns-in-Locked-clause-turned g c =
     let i = c.loop-turn.invariant.0 in
     record {
       advances = advances_on g.C.Machine.table c.lawful.ensures c.args.task.now c.loop-turn.task c.advance.new.task c.args.run.now
-    c.loop-turn.run c.advance.new.run c.args.stage c.loop-turn.at (turn.Locked c.in-Locked.next)
-    i.way.same i.way.went c.in-Locked.ensures.turned.advances;
+          c.loop-turn.run c.advance.new.run c.args.stage c.loop-turn.at (turn.Locked c.in-Locked.next)
+          i.way.same i.way.went c.in-Locked.ensures.turned.advances;
       shows = c.in-Locked.ensures.turned.shows;
     }
 
@@ -97,8 +97,8 @@ returns-in-Done-clause-turned g c =
     let i = c.loop-turn.invariant.0 in
     record {
       advances = advances_on g.C.Machine.table c.lawful.ensures c.args.task.now c.loop-turn.task c.advance.new.task c.args.run.now
-    c.loop-turn.run c.advance.new.run c.args.stage c.loop-turn.at (turn.Done c.in-Done.outcome)
-    i.way.same i.way.went c.in-Done.ensures.turned.advances;
+          c.loop-turn.run c.advance.new.run c.args.stage c.loop-turn.at (turn.Done c.in-Done.outcome)
+          i.way.same i.way.went c.in-Done.ensures.turned.advances;
       shows = tt;
     }
 

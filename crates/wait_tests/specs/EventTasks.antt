@@ -6,18 +6,21 @@ use Rattle.wait_rule.specs.Known.{Known}
 use Rattle.wait_rule.specs.Says.{IsFree, IsUp, Owes, no_excuse}
 use Rattle.wait_rule.specs.Queues.{IsIdle}
 use Rattle.wait_rule.specs.Stays.{with_entry}
-use Rattle.wait_class.specs.Posts.{IsOut}
+use Rattle.wait_class.specs.Posts.{IsOut, own_of}
+use Rattle.wait_class.specs.Tables.{Lands}
+use Rattle.wait_class.specs.declared.stages.Run.{Run}
+use Rattle.wait_class.specs.declared.stages.Turn.{Turn}
 use Rattle.wait_event.specs.Entries.{HasWokenEntry}
-use Rattle.wait_event.specs.Waits.{Lands}
-use Rattle.wait_class.specs.Posts.{own_of}
+use Rattle.wait_event.specs.Waits.{wait_table}
 use Rattle.wait_event.specs.WokenWaits.{LandsHearing}
-use Rattle.wait_event.specs.declared.waits.WaitRun.{WaitRun}
-use Rattle.wait_event.specs.declared.waits.WaitTurn.{WaitTurn}
+use Rattle.wait_event.specs.declared.waits.WaitCall.{WaitCall}
+use Rattle.wait_event.specs.declared.waits.WaitOutcome.{WaitOutcome}
+use Rattle.wait_event.specs.declared.waits.WaitStage.{WaitStage}
 use Rattle.wait_event.specs.declared.woken_waits.WokenTurn.{WokenTurn}
 
 -- a wait stands where its last turn left it
-abbrev pub IsWaiting : Known → WaitRun → WaitTurn → Type 0
-IsWaiting k r last = Lands k r last
+abbrev pub IsWaiting : Known → Run WaitCall → Turn WaitStage WaitOutcome → Type 0
+IsWaiting k r last = Lands wait_table k r last
 
 -- a waker between two wakes
 pub record IsWaker (k : Known) : Type 0 where

@@ -25,6 +25,8 @@ mod simple_queues;
 #[cfg(test)]
 mod steps;
 #[cfg(test)]
+mod turns;
+#[cfg(test)]
 mod users;
 #[cfg(test)]
 mod variables;

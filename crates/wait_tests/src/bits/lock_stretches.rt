@@ -6,16 +6,15 @@ ghost use Rattle.wait_rule.specs.Bits.{KeepsBitOf};
 ghost use Rattle.wait_tests.specs.BitTasks.{IsAtRest, IsReadyToWait, IsLocking};
 
 use crate::bits::alone::{give, take};
+use crate::turns::{go_on, next_number};
 use bit_wait::lock_calls::begin_lock;
 use bit_wait::lock_waits::{LockOutcome, LockRun, LockTest, LockTurn};
 use std::sync::Wait;
 use std::test::Fail;
 use wait_class::frame_stages::Stage;
-use wait_class::runs::{stretch, woke};
 use wait_class::stages::Turn;
 use wait_model::tasks::SleepState;
 use wait_model::watches::Mode;
-use wait_rule::queues::Passing;
 use wait_rule::{Domain, Task, wake_task};
 
 /// How many orders are tried.
@@ -25,38 +24,6 @@ const ORDERS: u32 = 400;
 const BEFORE: u32 = 12;
 
 const AFTER: u32 = 200;
-
-/// The next number of a small generator, by which the order of the turns is drawn.
-fn next_number(seed: u32) -> u32 {
-    let mixed = seed ^ seed.wrapping_shl(13);
-    let mixed = mixed ^ mixed.wrapping_shr(17);
-    mixed ^ mixed.wrapping_shl(5)
-}
-
-/// Goes on with a wait by one stretch, or looks whether it was woken.
-fn go_on(domain: &Domain, task: &mut Task, run: &mut LockRun, last: LockTurn) -> LockTurn
-    requires of { task.old.domain ≡ domain.now }
-    requires waiting { IsLocking task.old run.old last }
-    ensures of { task.new.domain ≡ domain.now }
-    ensures waiting { IsLocking task.new run.new result }
-{
-    let mut passing = Passing::none();
-    let turn = match last {
-        Turn::Again(stage) => stretch(domain, task, run, stage, &mut passing),
-        Turn::Locked(stage) => stretch(domain, task, run, stage, &mut passing),
-        Turn::Asleep(stage) => {
-            if woke(domain, task, run, stage) {
-                Turn::Again(stage)
-            } else {
-                Turn::Asleep(stage)
-            }
-        }
-        Turn::Done(outcome) => Turn::Done(outcome),
-    };
-    passing.wake(domain);
-    passing.end();
-    turn
-}
 
 /// Wakes the waiter's task, as a walk would.
 fn rouse<R: Wait>(rt: &R, domain: &Domain, holder: &mut Task, who: u8)

@@ -3,6 +3,7 @@
 ghost use Rattle.std.specs.Prelude.{◌≡◌};
 ghost use Rattle.wait_tests.specs.CompletionTasks.{IsAwaiting, IsReadyToWait, MayComplete};
 
+use crate::turns::next_number;
 use completion_cell::asks::try_wait;
 use completion_cell::await_calls::{begin_await, stretch, woke};
 use completion_cell::awaits::{AwaitOutcome, AwaitRun, AwaitStage, AwaitTurn};
@@ -21,13 +22,6 @@ const TURNS: u32 = 600;
 
 /// The completion of the tests.
 pub const CELL: u8 = 2;
-
-/// The next number of a small generator, by which the order of the turns is drawn.
-fn next_number(seed: u32) -> u32 {
-    let mixed = seed ^ seed.wrapping_shl(13);
-    let mixed = mixed ^ mixed.wrapping_shr(17);
-    mixed ^ mixed.wrapping_shl(5)
-}
 
 /// Goes on with a wait by one stretch, or looks whether it was woken.
 pub fn go_on(domain: &Domain, task: &mut Task, run: &mut AwaitRun, last: AwaitTurn) -> AwaitTurn

@@ -7,7 +7,7 @@ ghost use Rattle.wait_tests.specs.EventTasks.{IsHearer, IsHearingOn, IsWaker};
 ghost use Rattle.wait_event.specs.WokenWaits.{IsHearing, IsHearingAsleep, LandsHearing};
 
 use crate::events::flags::{enter, is_set};
-use crate::events::stretches::next_number;
+use crate::turns::next_number;
 use std::sync::Wait;
 use std::test::Fail;
 use wait_event::conds::set_and_wake;

@@ -3,15 +3,15 @@
 ghost use Rattle.std.specs.Prelude.{◌≡◌};
 ghost use Rattle.wait_tests.specs.EventTasks.{IsReadyToWait, IsWaiting, IsWaker};
 
+use crate::turns::{go_on, next_number};
 use std::sync::Wait;
 use std::test::Fail;
 use wait_event::conds::set_and_wake;
-use wait_event::wait_calls::{stretch, woke};
 use wait_event::wait_events::begin_wait;
+use wait_class::stages::Turn;
 use wait_event::waits::{WaitOutcome, WaitRun, WaitStage, WaitTurn};
 use wait_model::tasks::{How, SleepState};
 use wait_model::watches::Mode;
-use wait_rule::queues::Passing;
 use wait_rule::{Domain, Task};
 
 /// How many orders are tried.
@@ -20,41 +20,9 @@ const ORDERS: u32 = 400;
 /// How many turns an order has at most: each wait has fewer than 30 stretches, and every third turn goes to each.
 const TURNS: u32 = 600;
 
-/// The next number of a small generator, by which the order of the turns is drawn.
-pub(crate) fn next_number(seed: u32) -> u32 {
-    let mixed = seed ^ seed.wrapping_shl(13);
-    let mixed = mixed ^ mixed.wrapping_shr(17);
-    mixed ^ mixed.wrapping_shl(5)
-}
-
-/// Goes on with a wait by one stretch, or looks whether it was woken.
-pub(crate) fn go_on(domain: &Domain, task: &mut Task, run: &mut WaitRun, last: WaitTurn) -> WaitTurn
-    requires of { task.old.domain ≡ domain.now }
-    requires waiting { IsWaiting task.old run.old last }
-    ensures of { task.new.domain ≡ domain.now }
-    ensures waiting { IsWaiting task.new run.new result }
-{
-    let mut passing = Passing::none();
-    let turn = match last {
-        WaitTurn::Again(stage) => stretch(domain, task, run, stage, &mut passing),
-        WaitTurn::Locked(stage) => stretch(domain, task, run, stage, &mut passing),
-        WaitTurn::Asleep(stage) => {
-            if woke(domain, task, run, stage) {
-                WaitTurn::Again(stage)
-            } else {
-                WaitTurn::Asleep(stage)
-            }
-        }
-        WaitTurn::Done(outcome) => WaitTurn::Done(outcome),
-    };
-    passing.wake(domain);
-    passing.end();
-    turn
-}
-
 /// Whether the wait is over with its condition set.
 pub(crate) fn is_over(last: WaitTurn) -> bool {
-    matches!(last, WaitTurn::Done(WaitOutcome::Over))
+    matches!(last, Turn::Done(WaitOutcome::Over))
 }
 
 /// Sets the condition in the turn that is the waker's.
@@ -92,8 +60,8 @@ fn play<R: Wait>(
     };
     let mut one = begin_wait(first, 0, how);
     let mut two = begin_wait(second, 0, how);
-    let mut one_at = WaitTurn::Again(WaitStage::First);
-    let mut two_at = WaitTurn::Again(WaitStage::First);
+    let mut one_at = Turn::Again(WaitStage::First);
+    let mut two_at = Turn::Again(WaitStage::First);
     let mut seed = seed;
     let mut set = false;
     for _ in 0..TURNS {

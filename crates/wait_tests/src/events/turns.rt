@@ -6,9 +6,11 @@ ghost use Rattle.wq_head.specs.declared.wakes.WakeTurn.TheVariants as turns;
 ghost use Rattle.wq_head.specs.Turns.{Rests};
 ghost use Rattle.wait_tests.specs.EventTasks.{IsReadyToWait, IsWaiting, IsWaker};
 
-use crate::events::stretches::{go_on, is_over, next_number};
+use crate::events::stretches::is_over;
 use crate::heads::turns::end_both;
+use crate::turns::{go_on, next_number};
 use std::test::Fail;
+use wait_class::stages::Turn;
 use wait_event::wait_events::begin_wait;
 use wait_event::waits::{WaitRun, WaitStage, WaitTurn};
 use wait_model::tasks::{How, SleepState};
@@ -122,8 +124,8 @@ fn play(domain: &Domain, waker: &mut Task, first: &mut Task, second: &mut Task, 
     };
     let mut one = begin_wait(first, 0, how);
     let mut two = begin_wait(second, 0, how);
-    let mut one_at = WaitTurn::Again(WaitStage::First);
-    let mut two_at = WaitTurn::Again(WaitStage::First);
+    let mut one_at = Turn::Again(WaitStage::First);
+    let mut two_at = Turn::Again(WaitStage::First);
     let mut seed = seed;
     for early in 0..BEGINS {
         seed = next_number(seed ^ early);

@@ -7,45 +7,19 @@ ghost use Rattle.bit_wait.specs.Holders.{IsHolder};
 ghost use Rattle.wait_tests.specs.PageTasks.{IsLocking};
 
 use crate::pages::alone::{give, take};
+use crate::turns::go_on;
 use page_lock::wait_calls::begin_page;
 use page_lock::waits::{PageOutcome, PageRun, PageStage, PageTurn};
 use std::sync::Wait;
 use std::test::Fail;
-use wait_class::runs::{stretch, woke};
 use wait_class::stages::Turn;
 use wait_model::tasks::SleepState;
-use wait_rule::queues::Passing;
 use wait_rule::{Domain, Task};
 
 /// How many turns the wait has at most before the page is given back, and how many after it.
 const BEFORE: u32 = 24;
 
 const AFTER: u32 = 40;
-
-/// Goes on with a wait by one stretch, or looks whether it was woken.
-fn go_on(domain: &Domain, task: &mut Task, run: &mut PageRun, last: PageTurn) -> PageTurn
-    requires of { task.old.domain ≡ domain.now }
-    requires waiting { IsLocking task.old run.old last }
-    ensures of { task.new.domain ≡ domain.now }
-    ensures waiting { IsLocking task.new run.new result }
-{
-    let mut passing = Passing::none();
-    let turn = match last {
-        Turn::Again(stage) => stretch(domain, task, run, stage, &mut passing),
-        Turn::Locked(stage) => stretch(domain, task, run, stage, &mut passing),
-        Turn::Asleep(stage) => {
-            if woke(domain, task, run, stage) {
-                Turn::Again(stage)
-            } else {
-                Turn::Asleep(stage)
-            }
-        }
-        Turn::Done(outcome) => Turn::Done(outcome),
-    };
-    passing.wake(domain);
-    passing.end();
-    turn
-}
 
 /// Plays one order, by how many turns the wait has before the page is given back: whether it ended with the page taken,
 /// so that nobody else can take it.

@@ -3,16 +3,17 @@
 ghost use Rattle.std.specs.Prelude.{◌≡◌};
 ghost use Rattle.wait_tests.specs.EventTasks.{IsReadyToWait, IsWaiting, IsWaker};
 
+use crate::turns::{go_on, next_number};
 use std::sync::Wait;
 use std::test::Fail;
 use swait_queue::waits::begin_swait;
 use swait_queue::wakes::{swake_all, swake_one};
-use wait_event::wait_calls::{stretch, woke};
+use wait_class::stages::Turn;
 use wait_event::waits::{WaitOutcome, WaitRun, WaitStage, WaitTurn};
 use wait_model::layout::FIRST_SIMPLE;
 use wait_model::tasks::SleepState;
 use wait_model::watches::Watch;
-use wait_rule::queues::{Passing, publish};
+use wait_rule::queues::publish;
 use wait_rule::{Domain, Task};
 
 /// How many orders are tried.
@@ -24,41 +25,9 @@ const TURNS: u32 = 600;
 /// The first condition with a simple head.
 pub const COND: u8 = FIRST_SIMPLE as u8;
 
-/// The next number of a small generator, by which the order of the turns is drawn.
-fn next_number(seed: u32) -> u32 {
-    let mixed = seed ^ seed.wrapping_shl(13);
-    let mixed = mixed ^ mixed.wrapping_shr(17);
-    mixed ^ mixed.wrapping_shl(5)
-}
-
-/// Goes on with a wait by one stretch, or looks whether it was woken.
-pub fn go_on(domain: &Domain, task: &mut Task, run: &mut WaitRun, last: WaitTurn) -> WaitTurn
-    requires of { task.old.domain ≡ domain.now }
-    requires waiting { IsWaiting task.old run.old last }
-    ensures of { task.new.domain ≡ domain.now }
-    ensures waiting { IsWaiting task.new run.new result }
-{
-    let mut passing = Passing::none();
-    let turn = match last {
-        WaitTurn::Again(stage) => stretch(domain, task, run, stage, &mut passing),
-        WaitTurn::Locked(stage) => stretch(domain, task, run, stage, &mut passing),
-        WaitTurn::Asleep(stage) => {
-            if woke(domain, task, run, stage) {
-                WaitTurn::Again(stage)
-            } else {
-                WaitTurn::Asleep(stage)
-            }
-        }
-        WaitTurn::Done(outcome) => WaitTurn::Done(outcome),
-    };
-    passing.wake(domain);
-    passing.end();
-    turn
-}
-
 /// Whether the wait is over with its condition set.
 pub fn is_over(last: WaitTurn) -> bool {
-    matches!(last, WaitTurn::Done(WaitOutcome::Over))
+    matches!(last, Turn::Done(WaitOutcome::Over))
 }
 
 /// Sets the condition, and wakes all, or two one after another.
@@ -94,8 +63,8 @@ fn play<R: Wait>(
 {
     let mut one = begin_swait(first, COND, SleepState::Interruptible);
     let mut two = begin_swait(second, COND, SleepState::Uninterruptible);
-    let mut one_at = WaitTurn::Again(WaitStage::First);
-    let mut two_at = WaitTurn::Again(WaitStage::First);
+    let mut one_at = Turn::Again(WaitStage::First);
+    let mut two_at = Turn::Again(WaitStage::First);
     let mut seed = seed;
     let all = seed % 2 == 0;
     let mut set = false;

@@ -4,11 +4,13 @@ ghost use Rattle.std.specs.Prelude.{◌≡◌};
 ghost use Rattle.wait_tests.specs.EventTasks.{IsReadyToWait, IsWaiting, IsWaker};
 
 use crate::heads::turns::end_both;
-use crate::simple_queues::stretches::{COND, go_on, is_over};
+use crate::simple_queues::stretches::{COND, is_over};
+use crate::turns::go_on;
 use std::process::Abort;
 use std::test::Fail;
 use swait_queue::swake_turns::{SwakeRun, SwakeStage, SwakeTurn, swake_stretch};
 use swait_queue::waits::begin_swait;
+use wait_class::stages::Turn;
 use wait_event::waits::{WaitRun, WaitStage, WaitTurn};
 use wait_model::layout::FIRST_SIMPLE_HEAD;
 use wait_model::tasks::SleepState;
@@ -82,8 +84,8 @@ fn wake_sleeper<R: Abort>(rt: &R, domain: &Domain, waker: &mut Task, waiter: &mu
     requires waiter { IsReadyToWait waiter.old }
 {
     let mut wait = begin_swait(waiter, COND, SleepState::Uninterruptible);
-    let asleep = go_often(domain, waiter, &mut wait, WaitTurn::Again(WaitStage::First));
-    assert!(rt; matches!(asleep, WaitTurn::Asleep(_)));
+    let asleep = go_often(domain, waiter, &mut wait, Turn::Again(WaitStage::First));
+    assert!(rt; matches!(asleep, Turn::Asleep(_)));
     publish(domain, waker, Watch::Plain { cond: COND }, 1);
     let mut rousing = Rousing::new();
     let mut passing = Passing::none();

@@ -4,14 +4,14 @@ ghost use Rattle.std.specs.Prelude.{◌≡◌};
 ghost use Rattle.wait_tests.specs.EventTasks.{IsReadyToWait, IsWaiting, IsWaker};
 
 use crate::variables::alone::VAR;
+use crate::turns::{go_on, next_number};
 use std::sync::Wait;
 use std::test::Fail;
 use var_wait::publishes::publish_var_and_wake;
 use var_wait::waits::{begin_var, end_of_var};
-use wait_event::wait_calls::{stretch, woke};
+use wait_class::stages::Turn;
 use wait_event::waits::{WaitRun, WaitStage, WaitTurn};
 use wait_model::tasks::SleepState;
-use wait_rule::queues::Passing;
 use wait_rule::{Domain, Task};
 
 /// How many orders are tried.
@@ -23,42 +23,10 @@ const TURNS: u32 = 600;
 /// The value that is stored.
 const VALUE: u64 = 5;
 
-/// The next number of a small generator, by which the order of the turns is drawn.
-fn next_number(seed: u32) -> u32 {
-    let mixed = seed ^ seed.wrapping_shl(13);
-    let mixed = mixed ^ mixed.wrapping_shr(17);
-    mixed ^ mixed.wrapping_shl(5)
-}
-
-/// Goes on with a wait by one stretch, or looks whether it was woken.
-fn go_on(domain: &Domain, task: &mut Task, run: &mut WaitRun, last: WaitTurn) -> WaitTurn
-    requires of { task.old.domain ≡ domain.now }
-    requires waiting { IsWaiting task.old run.old last }
-    ensures of { task.new.domain ≡ domain.now }
-    ensures waiting { IsWaiting task.new run.new result }
-{
-    let mut passing = Passing::none();
-    let turn = match last {
-        WaitTurn::Again(stage) => stretch(domain, task, run, stage, &mut passing),
-        WaitTurn::Locked(stage) => stretch(domain, task, run, stage, &mut passing),
-        WaitTurn::Asleep(stage) => {
-            if woke(domain, task, run, stage) {
-                WaitTurn::Again(stage)
-            } else {
-                WaitTurn::Asleep(stage)
-            }
-        }
-        WaitTurn::Done(outcome) => WaitTurn::Done(outcome),
-    };
-    passing.wake(domain);
-    passing.end();
-    turn
-}
-
 /// Whether the wait is over and has found the new value.
 fn has_found(run: WaitRun, last: WaitTurn) -> bool {
     match last {
-        WaitTurn::Done(outcome) => matches!(end_of_var(run, outcome), Ok(VALUE)),
+        Turn::Done(outcome) => matches!(end_of_var(run.of, outcome), Ok(VALUE)),
         _ => false,
     }
 }
@@ -90,8 +58,8 @@ fn play<R: Wait>(
 {
     let mut one = begin_var(first, VAR, 0, SleepState::Interruptible);
     let mut two = begin_var(second, VAR, 0, SleepState::Uninterruptible);
-    let mut one_at = WaitTurn::Again(WaitStage::First);
-    let mut two_at = WaitTurn::Again(WaitStage::First);
+    let mut one_at = Turn::Again(WaitStage::First);
+    let mut two_at = Turn::Again(WaitStage::First);
     let mut seed = seed;
     let mut set = false;
     for _ in 0..TURNS {

@@ -1,0 +1,47 @@
+//! One turn of a wait that others take turns with on one thread, and the numbers by which the order is drawn.
+
+ghost use Rattle.std.specs.Prelude.{◌≡◌};
+ghost use Rattle.wait_class.specs.Tables.{Lands};
+
+use wait_class::machines::Machine;
+use wait_class::runs::{stretch, woke};
+use wait_class::stages::{Run, Turn};
+use wait_rule::queues::Passing;
+use wait_rule::{Domain, Task};
+
+/// Goes on with a wait by one stretch, or looks whether it was woken.
+pub(crate) fn go_on<C: Machine>(
+    domain: &Domain,
+    task: &mut Task,
+    run: &mut Run<C>,
+    last: Turn<C::Stage, C::Outcome>,
+) -> Turn<C::Stage, C::Outcome>
+    requires of { task.old.domain ≡ domain.now }
+    requires waiting { Lands C.table task.old run.old last }
+    ensures of { task.new.domain ≡ domain.now }
+    ensures waiting { Lands C.table task.new run.new result }
+{
+    let mut passing = Passing::none();
+    let turn = match last {
+        Turn::Again(stage) => stretch(domain, task, run, stage, &mut passing),
+        Turn::Locked(stage) => stretch(domain, task, run, stage, &mut passing),
+        Turn::Asleep(stage) => {
+            if woke(domain, task, run, stage) {
+                Turn::Again(stage)
+            } else {
+                Turn::Asleep(stage)
+            }
+        }
+        Turn::Done(outcome) => Turn::Done(outcome),
+    };
+    passing.wake(domain);
+    passing.end();
+    turn
+}
+
+/// The next number of a small generator, by which the order of the turns is drawn.
+pub(crate) fn next_number(seed: u32) -> u32 {
+    let mixed = seed ^ seed.wrapping_shl(13);
+    let mixed = mixed ^ mixed.wrapping_shr(17);
+    mixed ^ mixed.wrapping_shl(5)
+}

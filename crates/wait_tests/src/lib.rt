@@ -29,4 +29,6 @@ mod users;
 #[cfg(test)]
 mod variables;
 #[cfg(test)]
+mod wants;
+#[cfg(test)]
 mod words;

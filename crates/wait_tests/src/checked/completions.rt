@@ -85,10 +85,7 @@ fn a_simple_queue_is_woken(rt: HostRuntime) -> Result<(), Fail> {
 
 /// Whether a signal ended a wait for a condition.
 fn is_signalled(answer: Option<Answer>) -> bool {
-    matches!(
-        answer,
-        Some(Answer::Waited(Err(WaitEnd::Signal { .. })))
-    )
+    matches!(answer, Some(Answer::Waited(Err(WaitEnd::Signal { .. }))))
 }
 
 /// Raises a signal at the first task: whether that told this.

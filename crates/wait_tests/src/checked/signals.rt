@@ -136,11 +136,12 @@ fn interrupt_page(holder: &mut CheckedTask, waiter: &mut CheckedTask) -> [bool; 
     ]
 }
 
-/// The page is given back, and the other one takes it, for which no signal is pending any more.
+/// The page is given back, in a call that is over at once since nobody waits, and the other one takes its signal and then
+/// the page.
 fn give_page(holder: &mut CheckedTask, waiter: &mut CheckedTask) -> [bool; 5] {
     [
         holder.unlock_page(5).is_ok(),
-        finish(holder).is_some(),
+        finish(holder).is_none(),
         takes_plain(waiter),
         waiter.begin_page(5, SleepState::Interruptible).is_ok(),
         has_got(finish(waiter)),
@@ -174,9 +175,7 @@ fn kill_await(waiter: &mut CheckedTask, sender: &mut CheckedTask) -> [bool; 6] {
 fn interrupt_swait(waiter: &mut CheckedTask, sender: &mut CheckedTask) -> [bool; 4] {
     let cond = FIRST_SIMPLE as u8;
     [
-        waiter
-            .begin_swait(cond, SleepState::Interruptible)
-            .is_ok(),
+        waiter.begin_swait(cond, SleepState::Interruptible).is_ok(),
         doze(waiter),
         raise(sender, 0, false),
         is_signalled(finish(waiter)),

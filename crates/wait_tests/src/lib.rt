@@ -31,4 +31,6 @@ mod users;
 #[cfg(test)]
 mod variables;
 #[cfg(test)]
+mod wants;
+#[cfg(test)]
 mod words;

@@ -5,6 +5,7 @@ mod threads;
 
 use crate::bits::alone::take;
 use crate::completions::calls::wait_for;
+use crate::wants::another;
 use bit_wait::{BitEnd, wait_on_bit, wait_on_bit_lock};
 use std::test::Fail;
 use swait_queue::swait_event;
@@ -36,13 +37,12 @@ fn interrupted(end: Result<(), BitEnd>) -> Option<u64> {
 #[test]
 fn signal_ends_a_wait_for_a_bit(rt: HostRuntime) -> Result<(), Fail> {
     let (domain, mut keeper) = Domain::new(rt.alloc())?;
-    let (Ok(mut waiter), Ok(mut sender)) = (keeper.fork(&domain, 0), keeper.fork(&domain, 0)) else {
-        panic!(rt; "numbers are spare")
-    };
+    let mut waiter = another(&rt, &domain, &mut keeper);
+    let mut sender = another(&rt, &domain, &mut keeper);
     assert!(rt; take(&domain, &mut keeper, 2, 5));
     send_signal(&rt, &domain, &mut sender, waiter.number(), false);
     let end = wait_on_bit(&rt, &domain, &mut waiter, 2, 5, SleepState::Interruptible);
-    assert_eq!(rt; interrupted(end), Some(32));
+    assert!(rt; interrupted(end) == Some(32));
     Ok(())
 }
 
@@ -50,13 +50,12 @@ fn signal_ends_a_wait_for_a_bit(rt: HostRuntime) -> Result<(), Fail> {
 #[test]
 fn signal_ends_a_wait_that_takes_a_bit(rt: HostRuntime) -> Result<(), Fail> {
     let (domain, mut keeper) = Domain::new(rt.alloc())?;
-    let (Ok(mut waiter), Ok(mut sender)) = (keeper.fork(&domain, 0), keeper.fork(&domain, 0)) else {
-        panic!(rt; "numbers are spare")
-    };
+    let mut waiter = another(&rt, &domain, &mut keeper);
+    let mut sender = another(&rt, &domain, &mut keeper);
     assert!(rt; take(&domain, &mut keeper, 2, 5));
     send_signal(&rt, &domain, &mut sender, waiter.number(), true);
     let end = wait_on_bit_lock(&rt, &domain, &mut waiter, 2, 5, SleepState::Killable);
-    assert_eq!(rt; interrupted(end), Some(32));
+    assert!(rt; interrupted(end) == Some(32));
     Ok(())
 }
 
@@ -64,9 +63,7 @@ fn signal_ends_a_wait_that_takes_a_bit(rt: HostRuntime) -> Result<(), Fail> {
 #[test]
 fn signal_ends_a_wait_for_a_completion(rt: HostRuntime) -> Result<(), Fail> {
     let (domain, mut waiter) = Domain::new(rt.alloc())?;
-    let Ok(mut sender) = waiter.fork(&domain, 0) else {
-        panic!(rt; "a number is spare")
-    };
+    let mut sender = another(&rt, &domain, &mut waiter);
     send_signal(&rt, &domain, &mut sender, waiter.number(), false);
     assert!(rt; !wait_for(&rt, &domain, &mut waiter, 3, SleepState::Interruptible));
     Ok(())
@@ -76,9 +73,7 @@ fn signal_ends_a_wait_for_a_completion(rt: HostRuntime) -> Result<(), Fail> {
 #[test]
 fn signal_ends_a_wait_in_a_simple_queue(rt: HostRuntime) -> Result<(), Fail> {
     let (domain, mut waiter) = Domain::new(rt.alloc())?;
-    let Ok(mut sender) = waiter.fork(&domain, 0) else {
-        panic!(rt; "a number is spare")
-    };
+    let mut sender = another(&rt, &domain, &mut waiter);
     send_signal(&rt, &domain, &mut sender, waiter.number(), false);
     let cond = FIRST_SIMPLE as u8;
     let end = swait_event(&rt, &domain, &mut waiter, cond, SleepState::Interruptible);
@@ -90,9 +85,7 @@ fn signal_ends_a_wait_in_a_simple_queue(rt: HostRuntime) -> Result<(), Fail> {
 #[test]
 fn fatal_signal_ends_a_killable_wait(rt: HostRuntime) -> Result<(), Fail> {
     let (domain, mut waiter) = Domain::new(rt.alloc())?;
-    let Ok(mut sender) = waiter.fork(&domain, 0) else {
-        panic!(rt; "a number is spare")
-    };
+    let mut sender = another(&rt, &domain, &mut waiter);
     send_signal(&rt, &domain, &mut sender, waiter.number(), true);
     let killable = How {
         state: SleepState::Killable,

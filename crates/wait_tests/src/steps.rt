@@ -10,6 +10,7 @@ ghost use Rattle.std.specs.Prelude.{◌≡◌, []};
 ghost use Rattle.wait_tests.specs.Meeting.{SleptOnce, WokeOnce, HaveMet};
 ghost use Rattle.wait_rule.specs.Says.{IsClean, IsUp, history_of};
 
+use crate::wants::another;
 use std::sync::Wait;
 use std::test::Fail;
 use std::thread;
@@ -40,7 +41,7 @@ fn alone(rt: HostRuntime) -> Result<(), Fail> {
 #[test]
 fn numbers_run_out(rt: HostRuntime) -> Result<(), Fail> {
     let (domain, mut task) = Domain::new(rt.alloc())?;
-    assert_eq!(rt; task.number(), 0);
+    assert!(rt; task.number() == 0);
     for n in 1..256u16 {
         match task.fork(&domain, 0) {
             Ok(other) => assert_eq!(rt; u16::from(other.number()), n),
@@ -61,13 +62,13 @@ fn shares_are_apart(rt: HostRuntime) -> Result<(), Fail> {
     let Ok(mut second) = task.fork(&domain, 5) else {
         panic!(rt; "a number is spare")
     };
-    assert_eq!(rt; second.number(), 1);
-    assert_eq!(rt; second.spare(), 5);
-    assert_eq!(rt; task.spare(), 249);
+    assert!(rt; second.number() == 1);
+    assert!(rt; second.spare() == 5);
+    assert!(rt; task.spare() == 249);
     let Ok(third) = second.fork(&domain, 4) else {
         panic!(rt; "5 numbers are spare")
     };
-    assert_eq!(rt; third.number(), 2);
+    assert!(rt; third.number() == 2);
     match second.fork(&domain, 0) {
         Ok(_) => panic!(rt; "no number is spare"),
         Err(none) => assert_eq!(rt; none.spare, 0),
@@ -75,7 +76,7 @@ fn shares_are_apart(rt: HostRuntime) -> Result<(), Fail> {
     let Ok(fourth) = task.fork(&domain, 248) else {
         panic!(rt; "249 numbers are spare")
     };
-    assert_eq!(rt; fourth.number(), 7);
+    assert!(rt; fourth.number() == 7);
     task.join(&domain, second);
     Ok(())
 }
@@ -85,9 +86,7 @@ fn shares_are_apart(rt: HostRuntime) -> Result<(), Fail> {
 #[test]
 fn single_tries(rt: HostRuntime) -> Result<(), Fail> {
     let (domain, mut task) = Domain::new(rt.alloc())?;
-    let Ok(mut other) = task.fork(&domain, 0) else {
-        panic!(rt; "a number is spare")
-    };
+    let mut other = another(&rt, &domain, &mut task);
     set_state(&domain, &mut task, UNINTERRUPTIBLE);
     let mut failed = FailedTries::none();
     assert!(rt;
@@ -117,12 +116,12 @@ fn signals_stop_sleeps(rt: HostRuntime) -> Result<(), Fail> {
     assert!(rt; matches!(schedule(&rt, &domain, &mut task), Sleep::Signal));
     set_state(&domain, &mut task, INTERRUPTIBLE);
     assert!(rt; matches!(schedule(&rt, &domain, &mut task), Sleep::Signal));
-    assert_eq!(rt; load_own(&domain, &mut task).0, 0x7_0000);
+    assert!(rt; load_own(&domain, &mut task).0 == 0x7_0000);
     assert!(rt; matches!(take_signal(&domain, &mut task), Taken::Fatal));
     set_state(&domain, &mut task, UNINTERRUPTIBLE);
-    assert_eq!(rt; load_own(&domain, &mut task).0, 0x1_0002);
+    assert!(rt; load_own(&domain, &mut task).0 == 0x1_0002);
     set_state(&domain, &mut task, RUNNING);
-    assert_eq!(rt; load_own(&domain, &mut task).0, 0x1_0000);
+    assert!(rt; load_own(&domain, &mut task).0 == 0x1_0000);
     Ok(())
 }
 
@@ -130,9 +129,7 @@ fn signals_stop_sleeps(rt: HostRuntime) -> Result<(), Fail> {
 #[test]
 fn wakes_meet_states(rt: HostRuntime) -> Result<(), Fail> {
     let (domain, mut task) = Domain::new(rt.alloc())?;
-    let Ok(mut other) = task.fork(&domain, 0) else {
-        panic!(rt; "a number is spare")
-    };
+    let mut other = another(&rt, &domain, &mut task);
     set_state(&domain, &mut other, UNINTERRUPTIBLE);
     assert!(rt; matches!(sleep_exchange(&rt, &domain, &mut other), Sleep::Asleep));
     assert!(rt; !awake(&domain, &mut other));
@@ -213,10 +210,8 @@ fn meet<R: Threads + Wait + Sync>(rt: &R, domain: &Domain, first: Task, second: 
 #[test]
 fn sleep_and_wake(rt: HostRuntime) -> Result<(), Fail> {
     let (domain, mut task) = Domain::new(rt.alloc())?;
-    let Ok(second) = task.fork(&domain, 0) else {
-        panic!(rt; "a number is spare")
-    };
+    let second = another(&rt, &domain, &mut task);
     let task = meet(&rt, &domain, task, second);
-    assert_eq!(rt; task.number(), 0);
+    assert!(rt; task.number() == 0);
     Ok(())
 }

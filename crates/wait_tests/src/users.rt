@@ -9,6 +9,7 @@ ghost use Rattle.std.specs.Prelude.{◌≡◌};
 ghost use Rattle.wait_rule.specs.Says.{IsClean};
 ghost use Rattle.wq_user.specs.Waiting.{IsWaiting};
 
+use crate::wants::another;
 use std::sync::Wait;
 use std::test::Fail;
 use std::thread;
@@ -61,13 +62,11 @@ fn both<R: Threads + Wait + Sync>(rt: &R, domain: &Domain, waiter: Task, waker: 
 #[test]
 fn holds_and_wakes(rt: HostRuntime) -> Result<(), Fail> {
     let (domain, mut task) = Domain::new(rt.alloc())?;
-    let Ok(mut other) = task.fork(&domain, 0) else {
-        panic!(rt; "numbers are spare")
-    };
+    let mut other = another(&rt, &domain, &mut task);
     pass(&rt, &domain, &mut other, 256);
     assert!(rt; !look(&rt, &domain, &mut other, 256));
-    assert_eq!(rt; pass_and_wake(&rt, &domain, &mut other, 256), 0);
-    assert_eq!(rt; wake_and_join(&rt, &domain, &mut task, other), 0);
+    assert!(rt; pass_and_wake(&rt, &domain, &mut other, 256) == 0);
+    assert!(rt; wake_and_join(&rt, &domain, &mut task, other) == 0);
     Ok(())
 }
 
@@ -75,14 +74,12 @@ fn holds_and_wakes(rt: HostRuntime) -> Result<(), Fail> {
 #[test]
 fn waiter_leaves(rt: HostRuntime) -> Result<(), Fail> {
     let (domain, mut task) = Domain::new(rt.alloc())?;
-    let Ok(mut waiter) = task.fork(&domain, 0) else {
-        panic!(rt; "numbers are spare")
-    };
+    let mut waiter = another(&rt, &domain, &mut task);
     let Ok(()) = queue(&rt, &domain, &mut waiter, Kind::Default) else {
         panic!(rt; "the queue is empty")
     };
     prepare(&domain, &mut waiter);
-    assert_eq!(rt; set_and_wake(&rt, &domain, &mut task), 1);
+    assert!(rt; set_and_wake(&rt, &domain, &mut task) == 1);
     assert!(rt; matches!(sleep(&rt, &domain, &mut waiter), Sleep::Stay));
     leave(&rt, &domain, &mut waiter);
     task.join(&domain, waiter);
@@ -93,15 +90,13 @@ fn waiter_leaves(rt: HostRuntime) -> Result<(), Fail> {
 #[test]
 fn waiter_and_waker(rt: HostRuntime) -> Result<(), Fail> {
     let (domain, mut task) = Domain::new(rt.alloc())?;
-    let Ok(mut waiter) = task.fork(&domain, 0) else {
-        panic!(rt; "numbers are spare")
-    };
+    let mut waiter = another(&rt, &domain, &mut task);
     let Ok(()) = queue(&rt, &domain, &mut waiter, Kind::Autoremove) else {
         panic!(rt; "the queue is empty")
     };
     prepare(&domain, &mut waiter);
     let (_stayed, woken) = both(&rt, &domain, waiter, task);
-    assert_eq!(rt; woken, 1);
+    assert!(rt; woken == 1);
     Ok(())
 }
 
@@ -109,13 +104,11 @@ fn waiter_and_waker(rt: HostRuntime) -> Result<(), Fail> {
 #[test]
 fn condition_is_waited_for(rt: HostRuntime) -> Result<(), Fail> {
     let (domain, mut task) = Domain::new(rt.alloc())?;
-    let Ok(mut other) = task.fork(&domain, 0) else {
-        panic!(rt; "numbers are spare")
-    };
-    assert_eq!(rt; set_zero(&rt, &domain, &mut task), 0);
+    let mut other = another(&rt, &domain, &mut task);
+    assert!(rt; set_zero(&rt, &domain, &mut task) == 0);
     assert!(rt; wait_for_zero(&rt, &domain, &mut other, SleepState::Interruptible));
-    assert_eq!(rt; take_zero(&domain, &mut other), 1);
-    assert_eq!(rt; set_zero(&rt, &domain, &mut task), 0);
+    assert!(rt; take_zero(&domain, &mut other) == 1);
+    assert!(rt; set_zero(&rt, &domain, &mut task) == 0);
     wait_and_join(&rt, &domain, &mut task, other);
     Ok(())
 }
@@ -124,11 +117,9 @@ fn condition_is_waited_for(rt: HostRuntime) -> Result<(), Fail> {
 #[test]
 fn exclusive_waiter_is_joined(rt: HostRuntime) -> Result<(), Fail> {
     let (domain, mut task) = Domain::new(rt.alloc())?;
-    let Ok(mut other) = task.fork(&domain, 0) else {
-        panic!(rt; "numbers are spare")
-    };
+    let mut other = another(&rt, &domain, &mut task);
     assert!(rt; come_and_go(&rt, &domain, &mut other));
-    assert_eq!(rt; set_zero(&rt, &domain, &mut task), 0);
+    assert!(rt; set_zero(&rt, &domain, &mut task) == 0);
     assert!(rt; wait_to_be_selected(&rt, &domain, &mut other, SleepState::Killable));
     task.join(&domain, other);
     Ok(())
@@ -138,13 +129,11 @@ fn exclusive_waiter_is_joined(rt: HostRuntime) -> Result<(), Fail> {
 #[test]
 fn hearer_is_joined(rt: HostRuntime) -> Result<(), Fail> {
     let (domain, mut task) = Domain::new(rt.alloc())?;
-    let Ok(mut other) = task.fork(&domain, 0) else {
-        panic!(rt; "numbers are spare")
-    };
+    let mut other = another(&rt, &domain, &mut task);
     let who = other.number();
     send_signal(&rt, &domain, &mut task, who, false);
     assert!(rt; hear_zero(&rt, &domain, &mut other, SleepState::Interruptible));
-    assert_eq!(rt; set_zero(&rt, &domain, &mut task), 0);
+    assert!(rt; set_zero(&rt, &domain, &mut task) == 0);
     assert!(rt; hear_zero(&rt, &domain, &mut other, SleepState::Killable));
     task.join(&domain, other);
     Ok(())

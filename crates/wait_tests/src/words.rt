@@ -1,5 +1,6 @@
 //! Worked numbers of the heads, of the positions, of a completion's count and of a task's word.
 
+use crate::wants::all_so;
 use wait_model::counts::{raised_done, taken_done};
 use wait_model::heads::{bit_head, var_head};
 use wait_model::layout::NORMAL;
@@ -14,78 +15,115 @@ use wait_model::watches::Watch;
 
 #[test]
 fn heads_of_bits_and_variables(rt: HostRuntime) {
-    assert_eq!(rt; bit_head(0, 0), 0);
-    assert_eq!(rt; bit_head(1, 0), 114);
-    assert_eq!(rt; bit_head(2, 16), var_head(144));
-    assert_eq!(rt; var_head(1), 97);
-    assert_eq!(rt; var_head(2), 195);
-    assert_eq!(rt; var_head(3), 37);
-    assert_eq!(rt; var_head(128), 228);
-    assert_eq!(rt; var_head(129), 70);
+    let seen = [
+        bit_head(0, 0) == 0,
+        bit_head(1, 0) == 114,
+        bit_head(2, 16) == var_head(144),
+        var_head(1) == 97,
+        var_head(2) == 195,
+        var_head(3) == 37,
+        var_head(128) == 228,
+        var_head(129) == 70,
+    ];
+    all_so(&rt, &seen);
 }
 
 #[test]
 fn counts_stay_at_their_end(rt: HostRuntime) {
-    assert_eq!(rt; raised_done(0), 1);
-    assert_eq!(rt; raised_done(0xFFFF_FFFE), 0xFFFF_FFFF);
-    assert_eq!(rt; raised_done(0xFFFF_FFFF), 0xFFFF_FFFF);
-    assert_eq!(rt; taken_done(1), 0);
-    assert_eq!(rt; taken_done(0xFFFF_FFFF), 0xFFFF_FFFF);
+    let seen = [
+        raised_done(0) == 1,
+        raised_done(0xFFFF_FFFE) == 0xFFFF_FFFF,
+        raised_done(0xFFFF_FFFF) == 0xFFFF_FFFF,
+        taken_done(1) == 0,
+        taken_done(0xFFFF_FFFF) == 0xFFFF_FFFF,
+    ];
+    all_so(&rt, &seen);
 }
 
 #[test]
 fn words_stand_one_class_behind_the_other(rt: HostRuntime) {
-    assert_eq!(rt; task_at(0), 1);
-    assert_eq!(rt; task_at(255) + 1, entry_at(0, 0));
-    assert_eq!(rt; entry_at(255, 1) + 1, flag_at(0, 0));
-    assert_eq!(rt; flag_at(255, 1) + 1, mark_at(0));
-    assert_eq!(rt; mark_at(255) + 1, head_at(0));
-    assert_eq!(rt; head_at(383) + 1, cond_at(Watch::Plain { cond: 0 }));
-    assert_eq!(rt; cond_at(Watch::Done { cell: 0 }), 1985);
-    assert_eq!(rt; cond_at(Watch::Bit { word: 0, bit: 63 }), 2049);
-    assert_eq!(rt; cond_at(Watch::Var { var: 127, old: 5 }) + 1, tally_at(0));
-    assert_eq!(rt; tally_at(127) + 1, cell_at(0, 0));
-    assert_eq!(rt; cell_at(7, 1023) + 1, claim_at(0, 0));
-    assert_eq!(rt; claim_at(7, 1) + 1, member_at(0, 0));
-    assert_eq!(rt; member_at(0, 11) + 1, member_at(1, 0));
-    assert_eq!(rt; member_at(383, 11) + 1, next_at(0));
-    assert_eq!(rt; next_at(383) + 1, serving_at(0));
-    assert_eq!(rt; serving_at(383), 16_016);
+    let of_tasks = [
+        task_at(0) == 1,
+        task_at(255) + 1 == entry_at(0, 0),
+        entry_at(255, 1) + 1 == flag_at(0, 0),
+        flag_at(255, 1) + 1 == mark_at(0),
+        mark_at(255) + 1 == head_at(0),
+    ];
+    all_so(&rt, &of_tasks);
+    let of_conditions = [
+        head_at(383) + 1 == cond_at(Watch::Plain { cond: 0 }),
+        cond_at(Watch::Done { cell: 0 }) == 1985,
+        cond_at(Watch::Bit { word: 0, bit: 63 }) == 2049,
+        cond_at(Watch::Var { var: 127, old: 5 }) + 1 == tally_at(0),
+        tally_at(127) + 1 == cell_at(0, 0),
+    ];
+    all_so(&rt, &of_conditions);
+    let of_pipes_and_heads = [
+        cell_at(7, 1023) + 1 == claim_at(0, 0),
+        claim_at(7, 1) + 1 == member_at(0, 0),
+        member_at(0, 11) + 1 == member_at(1, 0),
+        member_at(383, 11) + 1 == next_at(0),
+        next_at(383) + 1 == serving_at(0),
+        serving_at(383) == 16_016,
+    ];
+    all_so(&rt, &of_pipes_and_heads);
+}
+
+/// Whether a place is one: none is not.
+fn is_at(place: Option<u64>, wanted: u64) -> bool {
+    match place {
+        Some(at) => at == wanted,
+        None => false,
+    }
 }
 
 #[test]
 fn adds_wear_out_at_the_ends_of_the_places(rt: HostRuntime) {
     let middle = 1 << 39;
     let end = 1 << 40;
-    assert_eq!(rt; front_place(None), Some(middle + (1 << 38)));
-    assert_eq!(rt; front_place(Some(middle)), None);
-    assert_eq!(rt; front_place(Some(middle + 1)), Some(middle));
-    assert_eq!(rt; front_place(Some(middle + 2)), Some(middle));
-    assert_eq!(rt; tail_place(None), Some(middle + (1 << 38)));
-    assert_eq!(rt; tail_place(Some(end - 2)), None);
-    assert_eq!(rt; tail_place(Some(end - 3)), Some(end - 2));
-    assert_eq!(rt; tail_place(Some(end - 4)), Some(end - 2));
-    assert_eq!(rt; priority_place(None), Some(1 << 38));
-    assert_eq!(rt; priority_place(Some(middle - 2)), None);
-    assert_eq!(rt; priority_place(Some(middle - 4)), Some(middle - 2));
+    let seen = [
+        is_at(front_place(None), middle + (1 << 38)),
+        front_place(Some(middle)).is_none(),
+        is_at(front_place(Some(middle + 1)), middle),
+        is_at(front_place(Some(middle + 2)), middle),
+        is_at(tail_place(None), middle + (1 << 38)),
+        tail_place(Some(end - 2)).is_none(),
+        is_at(tail_place(Some(end - 3)), end - 2),
+        is_at(tail_place(Some(end - 4)), end - 2),
+        is_at(priority_place(None), 1 << 38),
+        priority_place(Some(middle - 2)).is_none(),
+        is_at(priority_place(Some(middle - 4)), middle - 2),
+    ];
+    all_so(&rt, &seen);
 }
 
-/// What a sleep leaves of a word.
-fn left(word: u64) -> u64 {
-    slept(TaskWord(word)).0.0
+/// Whether a task with this word is put asleep, and leaves this of it.
+fn sleeps(word: u64, left: u64) -> bool {
+    let (found, sleep) = slept(TaskWord(word));
+    found.0 == left && matches!(sleep, Sleep::Asleep)
+}
+
+/// Whether a signal keeps a task with this word awake, which leaves this of it.
+fn stays(word: u64, left: u64) -> bool {
+    let (found, sleep) = slept(TaskWord(word));
+    found.0 == left && matches!(sleep, Sleep::Signal)
+}
+
+/// Whether a wake by the mask `NORMAL` meets a task with this word, and makes it another.
+fn wakes(word: u64, wanted: u64) -> bool {
+    let (found, met) = woken(TaskWord(word), NORMAL);
+    met && found.0 == wanted
 }
 
 #[test]
 fn signals_wake_the_states_that_admit_them(rt: HostRuntime) {
-    assert_eq!(rt; left(0x1_0002), 0x2);
-    assert!(rt; matches!(slept(TaskWord(0x1_0002)).1, Sleep::Asleep));
-    assert_eq!(rt; left(0x3_0001), 0x3_0000);
-    assert!(rt; matches!(slept(TaskWord(0x3_0001)).1, Sleep::Signal));
-    assert_eq!(rt; left(0x3_0102), 0x2_0102);
-    assert!(rt; matches!(slept(TaskWord(0x3_0102)).1, Sleep::Asleep));
-    assert_eq!(rt; left(0x7_0102), 0x7_0000);
-    assert!(rt; matches!(slept(TaskWord(0x7_0102)).1, Sleep::Signal));
-    assert_eq!(rt; woken(TaskWord(0x2), NORMAL).0.0, 0x1_0000);
-    assert!(rt; woken(TaskWord(0x2), NORMAL).1);
-    assert_eq!(rt; raised(TaskWord(0x1_0000), true).0, 0x7_0000);
+    let seen = [
+        sleeps(0x1_0002, 0x2),
+        stays(0x3_0001, 0x3_0000),
+        sleeps(0x3_0102, 0x2_0102),
+        stays(0x7_0102, 0x7_0000),
+        wakes(0x2, 0x1_0000),
+        raised(TaskWord(0x1_0000), true).0 == 0x7_0000,
+    ];
+    all_so(&rt, &seen);
 }

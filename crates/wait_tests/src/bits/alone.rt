@@ -8,6 +8,7 @@ ghost use Rattle.wait_rule.specs.Says.{IsClean};
 ghost use Rattle.bit_wait.specs.Holders.{IsHolder};
 ghost use Rattle.wait_tests.specs.BitTasks.{IsAtRest};
 
+use crate::wants::another;
 use bit_wait::clears::clear_and_wake_bit;
 use bit_wait::lock_calls::wait_on_bit_lock;
 use bit_wait::tries::test_and_set;
@@ -72,11 +73,9 @@ pub(crate) fn unlock<R: Wait>(rt: &R, domain: &Domain, task: &mut Task, word: u8
 #[test]
 fn takes_no_lock_for_nobody(rt: HostRuntime) -> Result<(), Fail> {
     let (domain, mut task) = Domain::new(rt.alloc())?;
-    let Ok(mut worker) = task.fork(&domain, 0) else {
-        panic!(rt; "numbers are spare")
-    };
+    let mut worker = another(&rt, &domain, &mut task);
     if lock(&domain, &mut worker, 5, 0) {
-        assert_eq!(rt; unlock(&rt, &domain, &mut worker, 5, 0), 0);
+        assert!(rt; unlock(&rt, &domain, &mut worker, 5, 0) == 0);
         task.join(&domain, worker);
         assert!(rt; lock(&domain, &mut task, 5, 0));
         return Ok(());

@@ -7,6 +7,7 @@ ghost use Rattle.wait_rule.specs.Says.{IsClean};
 ghost use Rattle.bit_wait.specs.Holders.{IsHolder};
 
 use crate::bits::alone::{lock, unlock};
+use crate::wants::another;
 use bit_wait::lock_calls::wait_on_bit_lock;
 use std::sync::Wait;
 use std::test::Fail;
@@ -87,9 +88,7 @@ fn meet<R: Threads + Wait + Sync>(
 fn two_take_one_bit_in_turn(rt: HostRuntime) -> Result<(), Fail> {
     for _round in 0..ROUNDS {
         let (domain, mut task) = Domain::with_looks(rt.alloc(), 0)?;
-        let Ok(other) = task.fork(&domain, 0) else {
-            panic!(rt; "numbers are spare")
-        };
+        let other = another(&rt, &domain, &mut task);
         let (one, two) = meet(&rt, &domain, task, other);
         assert!(rt; one.1 && two.1);
         let mut task = one.0;

@@ -7,6 +7,7 @@ ghost use Rattle.wait_rule.specs.Says.{IsClean};
 ghost use Rattle.bit_wait.specs.Holders.{IsHolder};
 
 use crate::bits::alone::{lock, unlock};
+use crate::wants::another;
 use std::sync::Wait;
 use std::test::Fail;
 use std::thread;
@@ -98,15 +99,13 @@ fn add_both<R: Threads + Wait + Sync>(
 fn two_add_to_one_tally(rt: HostRuntime) -> Result<(), Fail> {
     for _round in 0..ROUNDS {
         let (domain, mut task) = Domain::with_looks(rt.alloc(), 0)?;
-        let Ok(other) = task.fork(&domain, 0) else {
-            panic!(rt; "numbers are spare")
-        };
+        let other = another(&rt, &domain, &mut task);
         let (mut task, other) = add_both(&rt, &domain, task, other);
         task.join(&domain, other);
         if !lock(&domain, &mut task, PAGE, 0) {
             panic!(rt; "each has given the page back")
         }
-        assert_eq!(rt; add(&domain, &mut task, PAGE, 0), 100);
+        assert!(rt; add(&domain, &mut task, PAGE, 0) == 100);
     }
     Ok(())
 }

@@ -1,6 +1,8 @@
 //! What a task answers at the ends of its numbers: every one that is spare can be given out, and no bit is kept that is
 //! not there.
 
+use super::took;
+use crate::wants::all_so;
 use std::test::Fail;
 use wait_model::layout::{BIT_WORDS, WORD_BITS};
 use wq_checked::tasks::{CheckedTask, NoFork};
@@ -23,10 +25,7 @@ fn keeps_beyond(task: &CheckedTask) -> bool {
 fn every_number_is_given_out(rt: HostRuntime) -> Result<(), Fail> {
     let mut task = CheckedTask::start(rt.alloc())?;
     for n in 1..=u8::MAX {
-        match task.fork(0) {
-            Ok(other) => assert_eq!(rt; other.number(), n),
-            Err(_) => panic!(rt; "a number is spare"),
-        }
+        assert!(rt; matches!(task.fork(0), Ok(other) if other.number() == n));
     }
     assert!(rt; matches!(task.fork(0), Err(NoFork::Numbers)));
     Ok(())
@@ -50,11 +49,14 @@ fn shares_are_given_out(rt: HostRuntime) -> Result<(), Fail> {
 #[test]
 fn no_bit_is_kept_beyond_the_words(rt: HostRuntime) -> Result<(), Fail> {
     let mut task = CheckedTask::start(rt.alloc())?;
-    assert!(rt; !keeps_beyond(&task));
-    assert!(rt; !task.keeps(127, 63));
-    assert_eq!(rt; task.test_and_set(127, 63).ok(), Some(true));
-    assert_eq!(rt; task.test_and_set(0, 0).ok(), Some(true));
-    assert!(rt; task.keeps(127, 63) && task.keeps(0, 0) && !task.keeps(0, 63));
-    assert!(rt; !keeps_beyond(&task));
+    let seen = [
+        !keeps_beyond(&task),
+        !task.keeps(127, 63),
+        took(task.test_and_set(127, 63)),
+        took(task.test_and_set(0, 0)),
+        task.keeps(127, 63) && task.keeps(0, 0) && !task.keeps(0, 63),
+        !keeps_beyond(&task),
+    ];
+    all_so(&rt, &seen);
     Ok(())
 }

@@ -1,7 +1,8 @@
 //! Waits that were put asleep, and the signals that end them or don't: a task whose stretches go on one by one, so that
 //! each of these waits has slept.
 
-use super::{doze, finish, has_got, has_waited, woke};
+use super::{doze, finish, has_got, has_waited, start_two, took, woke};
+use crate::wants::all_so;
 use bit_wait::BitEnd;
 use std::test::Fail;
 use wait_event::WaitEnd;
@@ -22,17 +23,27 @@ fn is_signalled(answer: Option<Answer>) -> bool {
     )
 }
 
-/// What the word of the bit held where a signal ended a wait for it.
-fn interrupted(answer: Option<Answer>) -> Option<u64> {
+/// Whether a signal ended a wait for a bit, whose word held this.
+fn is_interrupted(answer: Option<Answer>, wanted: u64) -> bool {
     match answer {
-        Some(Answer::Bit(Err(BitEnd::Interrupted { seen }))) => Some(seen),
-        _ => None,
+        Some(Answer::Bit(Err(BitEnd::Interrupted { seen }))) => seen == wanted,
+        _ => false,
     }
 }
 
 /// Raises a signal at a task: true where its thread is to be roused.
 fn raise(sender: &mut CheckedTask, who: u8, fatal: bool) -> bool {
     matches!(sender.raise_signal(who, fatal), Ok(Raised::Rouse))
+}
+
+/// Whether a plain signal was pending.
+fn takes_plain(task: &mut CheckedTask) -> bool {
+    matches!(task.take_signal(), Ok(Taken::Plain))
+}
+
+/// Whether a fatal one was.
+fn takes_fatal(task: &mut CheckedTask) -> bool {
+    matches!(task.take_signal(), Ok(Taken::Fatal))
 }
 
 /// A killable wait sleeps on under plain signals, and a fatal one ends it.
@@ -42,15 +53,17 @@ fn fatal_signal_alone_ends_a_killable_wait(rt: HostRuntime) -> Result<(), Fail> 
         state: SleepState::Killable,
         exclusive: false,
     };
-    let mut waiter = CheckedTask::start(rt.alloc())?;
-    let mut sender = waiter.fork(0)?;
-    waiter.begin_wait(2, killable)?;
-    assert!(rt; doze(&mut waiter));
-    assert!(rt; !raise(&mut sender, 0, false));
-    assert!(rt; doze(&mut waiter));
-    assert!(rt; raise(&mut sender, 0, true));
-    assert!(rt; is_signalled(finish(&mut waiter)));
-    assert!(rt; matches!(waiter.take_signal(), Ok(Taken::Fatal)));
+    let (mut waiter, mut sender) = start_two(&rt, rt.alloc())?;
+    let seen = [
+        waiter.begin_wait(2, killable).is_ok(),
+        doze(&mut waiter),
+        !raise(&mut sender, 0, false),
+        doze(&mut waiter),
+        raise(&mut sender, 0, true),
+        is_signalled(finish(&mut waiter)),
+        takes_fatal(&mut waiter),
+    ];
+    all_so(&rt, &seen);
     Ok(())
 }
 
@@ -61,76 +74,119 @@ fn plain_signal_stays_pending_over_a_killable_wait(rt: HostRuntime) -> Result<()
         state: SleepState::Killable,
         exclusive: true,
     };
-    let mut waiter = CheckedTask::start(rt.alloc())?;
-    let mut setter = waiter.fork(0)?;
-    assert!(rt; !raise(&mut setter, 0, false));
-    waiter.begin_wait(2, killable)?;
-    assert!(rt; doze(&mut waiter));
-    setter.set_and_wake(2, 1, 1)?;
-    assert_eq!(rt; woke(finish(&mut setter)), 1);
-    assert!(rt; has_waited(finish(&mut waiter)));
-    assert!(rt; matches!(waiter.take_signal(), Ok(Taken::Plain)));
+    let (mut waiter, mut setter) = start_two(&rt, rt.alloc())?;
+    let seen = [
+        !raise(&mut setter, 0, false),
+        waiter.begin_wait(2, killable).is_ok(),
+        doze(&mut waiter),
+        setter.set_and_wake(2, 1, 1).is_ok(),
+        woke(finish(&mut setter), 1),
+        has_waited(finish(&mut waiter)),
+        takes_plain(&mut waiter),
+    ];
+    all_so(&rt, &seen);
     Ok(())
+}
+
+/// A wait for a bit that has slept, which a plain signal ends.
+fn interrupt_wait(keeper: &mut CheckedTask, waiter: &mut CheckedTask) -> [bool; 5] {
+    let number = waiter.number();
+    [
+        waiter.begin_bit(2, 5, SleepState::Interruptible).is_ok(),
+        doze(waiter),
+        raise(keeper, number, false),
+        is_interrupted(finish(waiter), 32),
+        takes_plain(waiter),
+    ]
+}
+
+/// One that is to take it and is killable, which a fatal signal alone ends.
+fn kill_lock(keeper: &mut CheckedTask, waiter: &mut CheckedTask) -> [bool; 5] {
+    let number = waiter.number();
+    [
+        waiter.begin_lock(2, 5, SleepState::Killable).is_ok(),
+        doze(waiter),
+        !raise(keeper, number, false),
+        raise(keeper, number, true),
+        is_interrupted(finish(waiter), 32),
+    ]
 }
 
 /// A signal that its state admits ends a wait for a bit that has slept, and one to take it, and the bit stays with its
 /// keeper.
 #[test]
 fn signals_end_waits_for_a_bit(rt: HostRuntime) -> Result<(), Fail> {
-    let mut keeper = CheckedTask::start(rt.alloc())?;
-    let mut waiter = keeper.fork(0)?;
-    let number = waiter.number();
-    assert_eq!(rt; keeper.test_and_set(2, 5).ok(), Some(true));
-    waiter.begin_bit(2, 5, SleepState::Interruptible)?;
-    assert!(rt; doze(&mut waiter));
-    assert!(rt; raise(&mut keeper, number, false));
-    assert_eq!(rt; interrupted(finish(&mut waiter)), Some(32));
-    assert!(rt; matches!(waiter.take_signal(), Ok(Taken::Plain)));
-    waiter.begin_lock(2, 5, SleepState::Killable)?;
-    assert!(rt; doze(&mut waiter));
-    assert!(rt; !raise(&mut keeper, number, false));
-    assert!(rt; raise(&mut keeper, number, true));
-    assert_eq!(rt; interrupted(finish(&mut waiter)), Some(32));
+    let (mut keeper, mut waiter) = start_two(&rt, rt.alloc())?;
+    assert!(rt; took(keeper.test_and_set(2, 5)));
+    all_so(&rt, &interrupt_wait(&mut keeper, &mut waiter));
+    all_so(&rt, &kill_lock(&mut keeper, &mut waiter));
     assert!(rt; keeper.keeps(2, 5) && !waiter.keeps(2, 5));
     Ok(())
+}
+
+/// A lock of a page that has slept, which a signal ends.
+fn interrupt_page(holder: &mut CheckedTask, waiter: &mut CheckedTask) -> [bool; 5] {
+    let number = waiter.number();
+    [
+        waiter.begin_page(5, SleepState::Interruptible).is_ok(),
+        doze(waiter),
+        raise(holder, number, false),
+        is_interrupted(finish(waiter), 1),
+        holder.keeps(5, 0) && !waiter.keeps(5, 0),
+    ]
+}
+
+/// The page is given back, in a call that is over at once since nobody waits, and the other one takes its signal and then
+/// the page.
+fn give_page(holder: &mut CheckedTask, waiter: &mut CheckedTask) -> [bool; 5] {
+    [
+        holder.unlock_page(5).is_ok(),
+        finish(holder).is_none(),
+        takes_plain(waiter),
+        waiter.begin_page(5, SleepState::Interruptible).is_ok(),
+        has_got(finish(waiter)),
+    ]
 }
 
 /// It ends a lock of a page that has slept. The page stays with its holder, whose unlock then finds nobody, and the
 /// other one takes it.
 #[test]
 fn signal_ends_a_lock_of_a_page(rt: HostRuntime) -> Result<(), Fail> {
-    let mut holder = CheckedTask::start(rt.alloc())?;
-    let mut waiter = holder.fork(0)?;
-    let number = waiter.number();
-    assert_eq!(rt; holder.try_lock_page(5).ok(), Some(true));
-    waiter.begin_page(5, SleepState::Interruptible)?;
-    assert!(rt; doze(&mut waiter));
-    assert!(rt; raise(&mut holder, number, false));
-    assert_eq!(rt; interrupted(finish(&mut waiter)), Some(1));
-    assert!(rt; holder.keeps(5, 0) && !waiter.keeps(5, 0));
-    holder.unlock_page(5)?;
-    finish(&mut holder);
-    assert!(rt; matches!(waiter.take_signal(), Ok(Taken::Plain)));
-    waiter.begin_page(5, SleepState::Interruptible)?;
-    assert!(rt; has_got(finish(&mut waiter)));
+    let (mut holder, mut waiter) = start_two(&rt, rt.alloc())?;
+    assert!(rt; took(holder.try_lock_page(5)));
+    all_so(&rt, &interrupt_page(&mut holder, &mut waiter));
+    all_so(&rt, &give_page(&mut holder, &mut waiter));
     Ok(())
+}
+
+/// A wait for a completion that has slept, which a fatal signal alone ends.
+fn kill_await(waiter: &mut CheckedTask, sender: &mut CheckedTask) -> [bool; 6] {
+    [
+        waiter.begin_await(3, SleepState::Killable).is_ok(),
+        doze(waiter),
+        !raise(sender, 0, false),
+        raise(sender, 0, true),
+        is_signalled(finish(waiter)),
+        takes_fatal(waiter),
+    ]
+}
+
+/// One in a simple queue, which a plain signal ends.
+fn interrupt_swait(waiter: &mut CheckedTask, sender: &mut CheckedTask) -> [bool; 4] {
+    let cond = FIRST_SIMPLE as u8;
+    [
+        waiter.begin_swait(cond, SleepState::Interruptible).is_ok(),
+        doze(waiter),
+        raise(sender, 0, false),
+        is_signalled(finish(waiter)),
+    ]
 }
 
 /// It ends a wait for a completion that has slept, and one in a simple queue.
 #[test]
 fn signals_end_waits_for_counts_and_in_simple_queues(rt: HostRuntime) -> Result<(), Fail> {
-    let cond = FIRST_SIMPLE as u8;
-    let mut waiter = CheckedTask::start(rt.alloc())?;
-    let mut sender = waiter.fork(0)?;
-    waiter.begin_await(3, SleepState::Killable)?;
-    assert!(rt; doze(&mut waiter));
-    assert!(rt; !raise(&mut sender, 0, false));
-    assert!(rt; raise(&mut sender, 0, true));
-    assert!(rt; is_signalled(finish(&mut waiter)));
-    assert!(rt; matches!(waiter.take_signal(), Ok(Taken::Fatal)));
-    waiter.begin_swait(cond, SleepState::Interruptible)?;
-    assert!(rt; doze(&mut waiter));
-    assert!(rt; raise(&mut sender, 0, false));
-    assert!(rt; is_signalled(finish(&mut waiter)));
+    let (mut waiter, mut sender) = start_two(&rt, rt.alloc())?;
+    all_so(&rt, &kill_await(&mut waiter, &mut sender));
+    all_so(&rt, &interrupt_swait(&mut waiter, &mut sender));
     Ok(())
 }

@@ -5,6 +5,7 @@ ghost use Rattle.wait_tests.specs.CompletionTasks.{IsAwaiting, IsReadyToWait, Ma
 
 use crate::completions::stretches::{CELL, go_on};
 use crate::heads::turns::end_both;
+use crate::wants::another;
 use completion_cell::await_calls::{begin_await, end_of};
 use completion_cell::awaits::{AwaitRun, AwaitStage, AwaitTurn};
 use completion_cell::cell_turns::{CellCall, CellRun, CellStage, CellTurn, cell_stretch};
@@ -99,7 +100,7 @@ fn complete_in_turn<R: Abort>(rt: &R, domain: &Domain, task: &mut Task, other: &
     else {
         panic!(rt; "nobody holds the lock")
     };
-    assert_eq!(rt; rousing.tasks().len(), 0);
+    assert!(rt; rousing.tasks().len() == 0);
     end_both(domain, rousing, passing);
 }
 
@@ -107,9 +108,7 @@ fn complete_in_turn<R: Abort>(rt: &R, domain: &Domain, task: &mut Task, other: &
 #[test]
 fn call_waits_for_its_turn(rt: HostRuntime) -> Result<(), Fail> {
     let (domain, mut task) = Domain::new(rt.alloc())?;
-    let Ok(mut other) = task.fork(&domain, 0) else {
-        panic!(rt; "a number is spare")
-    };
+    let mut other = another(&rt, &domain, &mut task);
     complete_in_turn(&rt, &domain, &mut task, &mut other);
     Ok(())
 }
@@ -162,9 +161,7 @@ fn complete_for_sleeper<R: Abort>(rt: &R, domain: &Domain, task: &mut Task, wait
 #[test]
 fn stretch_names_who_slept(rt: HostRuntime) -> Result<(), Fail> {
     let (domain, mut task) = Domain::new(rt.alloc())?;
-    let Ok(mut waiter) = task.fork(&domain, 0) else {
-        panic!(rt; "a number is spare")
-    };
+    let mut waiter = another(&rt, &domain, &mut task);
     complete_for_sleeper(&rt, &domain, &mut task, &mut waiter);
     Ok(())
 }

@@ -5,6 +5,7 @@ ghost use Rattle.std.specs.Prelude.{◌≡◌};
 ghost use Rattle.wait_rule.specs.Says.{IsClean};
 
 use crate::completions::calls::{complete, try_wait};
+use crate::wants::another;
 use std::sync::Wait;
 use std::test::Fail;
 use wait_event::conds::set_and_wake;
@@ -49,9 +50,7 @@ fn complete_and_wait<R: Wait>(rt: &R, domain: &Domain, task: &mut Task) -> bool
 #[test]
 fn completed_around_a_wait(rt: HostRuntime) -> Result<(), Fail> {
     let (domain, mut task) = Domain::new(rt.alloc())?;
-    let Ok(mut other) = task.fork(&domain, 0) else {
-        panic!(rt; "a number is spare")
-    };
+    let mut other = another(&rt, &domain, &mut task);
     set_and_wake(&rt, &domain, &mut other, COND, 1, Mode::Normal, 0);
     assert!(rt; complete_and_wait(&rt, &domain, &mut task));
     assert!(rt; try_wait(&rt, &domain, &mut task, CELL));

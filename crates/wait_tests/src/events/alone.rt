@@ -123,9 +123,9 @@ fn prepares_of_one_task(rt: HostRuntime) -> Result<(), Fail> {
 fn set_before_the_wait(rt: HostRuntime) -> Result<(), Fail> {
     let (domain, mut task) = Domain::new(rt.alloc())?;
     let walked = set_and_wake(&rt, &domain, &mut task, 0, 1, Mode::Normal, 1);
-    assert_eq!(rt; walked.selected, 0);
-    assert_eq!(rt; walked.woken, 0);
-    assert_eq!(rt; walked.holds, 1);
+    assert!(rt; walked.selected == 0);
+    assert!(rt; walked.woken == 0);
+    assert!(rt; walked.holds == 1);
     assert!(rt; matches!(walked.end, End::End));
     let how = How {
         state: SleepState::Interruptible,

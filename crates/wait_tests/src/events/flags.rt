@@ -5,6 +5,7 @@ ghost use Rattle.std.specs.Prelude.{◌≡◌, MatchBool, None};
 ghost use Rattle.wait_rule.specs.Says.{IsClean, told_of};
 ghost use Rattle.wait_tests.specs.EventTasks.{IsCleanHearer, IsHearer};
 
+use crate::wants::another;
 use std::sync::Wait;
 use std::test::Fail;
 use std::thread;
@@ -96,9 +97,9 @@ fn woken_before_the_sleep(rt: HostRuntime) -> Result<(), Fail> {
     let (domain, mut task) = Domain::new(rt.alloc())?;
     if enter(&rt, &domain, &mut task) {
         let walked = wake_all(&rt, &domain, &mut task);
-        assert_eq!(rt; walked.selected, 0);
-        assert_eq!(rt; walked.woken, 0);
-        assert_eq!(rt; walked.holds, 1);
+        assert!(rt; walked.selected == 0);
+        assert!(rt; walked.woken == 0);
+        assert!(rt; walked.holds == 1);
         assert!(rt; matches!(walked.end, End::End));
         hear_and_leave(&rt, &domain, &mut task);
         return Ok(());
@@ -167,9 +168,7 @@ fn meet<R: Threads + Wait + Sync>(
 fn hearers_are_joined(rt: HostRuntime) -> Result<(), Fail> {
     for _round in 0..ROUNDS {
         let (domain, mut task) = Domain::with_looks(rt.alloc(), 0)?;
-        let Ok(hearer) = task.fork(&domain, 0) else {
-            panic!(rt; "a number is spare")
-        };
+        let hearer = another(&rt, &domain, &mut task);
         let (mut task, (hearer, heard)) = meet(&rt, &domain, task, hearer);
         assert!(rt; heard);
         task.join(&domain, hearer);

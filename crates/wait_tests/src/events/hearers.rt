@@ -8,6 +8,7 @@ ghost use Rattle.wait_event.specs.WokenWaits.{IsHearing, IsHearingAsleep, LandsH
 
 use crate::events::flags::{enter, is_set};
 use crate::turns::next_number;
+use crate::wants::another;
 use std::sync::Wait;
 use std::test::Fail;
 use wait_event::conds::set_and_wake;
@@ -167,10 +168,8 @@ fn ends(domain: &Domain, task: &mut Task, last: Option<WokenTurn>) -> bool
 fn hearers_end_in_each_order(rt: HostRuntime) -> Result<(), Fail> {
     for order in 0..ORDERS {
         let (domain, mut waker) = Domain::new(rt.alloc())?;
-        let (Ok(mut first), Ok(mut second)) = (waker.fork(&domain, 0), waker.fork(&domain, 0))
-        else {
-            panic!(rt; "numbers are spare")
-        };
+        let mut first = another(&rt, &domain, &mut waker);
+        let mut second = another(&rt, &domain, &mut waker);
         if !enter(&rt, &domain, &mut first) || !enter(&rt, &domain, &mut second) {
             panic!(rt; "the queue is empty")
         }

@@ -4,6 +4,7 @@
 ghost use Rattle.std.specs.Prelude.{◌≡◌};
 ghost use Rattle.wait_rule.specs.Says.{IsClean};
 
+use crate::wants::another;
 use std::sync::Wait;
 use std::test::Fail;
 use std::thread;
@@ -127,9 +128,8 @@ fn meet<R: Threads + Wait + Sync>(
 fn selected_not_lost(rt: HostRuntime) -> Result<(), Fail> {
     for _round in 0..ROUNDS {
         let (domain, mut task) = Domain::with_looks(rt.alloc(), 0)?;
-        let (Ok(waiter), Ok(sender)) = (task.fork(&domain, 0), task.fork(&domain, 0)) else {
-            panic!(rt; "numbers are spare")
-        };
+        let waiter = another(&rt, &domain, &mut task);
+        let sender = another(&rt, &domain, &mut task);
         let who = waiter.number();
         let (mut task, (one, other)) = meet(&rt, &domain, task, waiter, sender, who);
         assert!(rt; one.1);

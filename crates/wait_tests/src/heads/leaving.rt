@@ -9,6 +9,7 @@ ghost use Rattle.wq_head.specs.Holds.{IsHolding};
 ghost use Rattle.wait_tests.specs.Leaving.{HasEntry, HasLeft, IsBack, StandsQueued};
 ghost use Rattle.wq_head.specs.Readied.{IsPlainKind};
 
+use crate::wants::another;
 use std::process::Abort;
 use std::sync::Wait;
 use std::test::Fail;
@@ -141,10 +142,8 @@ fn set_and_wake<R: Wait>(rt: &R, domain: &Domain, task: &mut Task) -> u32
 #[test]
 fn waker_is_joined(rt: HostRuntime) -> Result<(), Fail> {
     let (domain, mut task) = Domain::new(rt.alloc())?;
-    let Ok(mut waker) = task.fork(&domain, 0) else {
-        panic!(rt; "numbers are spare")
-    };
-    assert_eq!(rt; set_and_wake(&rt, &domain, &mut waker), 0);
+    let mut waker = another(&rt, &domain, &mut task);
+    assert!(rt; set_and_wake(&rt, &domain, &mut waker) == 0);
     task.join(&domain, waker);
     Ok(())
 }
@@ -153,16 +152,11 @@ fn waker_is_joined(rt: HostRuntime) -> Result<(), Fail> {
 #[test]
 fn woken_waiter_is_joined(rt: HostRuntime) -> Result<(), Fail> {
     let (domain, mut task) = Domain::new(rt.alloc())?;
-    let Ok(mut waiter) = task.fork(&domain, 0) else {
-        panic!(rt; "numbers are spare")
-    };
+    let mut waiter = another(&rt, &domain, &mut task);
     queue_own(&rt, &domain, &mut waiter, Kind::Autoremove);
     prepare(&domain, &mut waiter, Kind::Autoremove);
     let watch = Watch::Plain { cond: 0 };
-    assert_eq!(rt;
-        wake(&rt, &domain, &mut task, watch, Mode::Normal, 0).woken,
-        1
-    );
+    assert!(rt; wake(&rt, &domain, &mut task, watch, Mode::Normal, 0).woken == 1);
     assert!(rt;
         matches!(
             sleep(&rt, &domain, &mut waiter, Kind::Autoremove),
@@ -178,16 +172,11 @@ fn woken_waiter_is_joined(rt: HostRuntime) -> Result<(), Fail> {
 #[test]
 fn default_entry_stays(rt: HostRuntime) -> Result<(), Fail> {
     let (domain, mut task) = Domain::new(rt.alloc())?;
-    let Ok(mut waiter) = task.fork(&domain, 0) else {
-        panic!(rt; "numbers are spare")
-    };
+    let mut waiter = another(&rt, &domain, &mut task);
     queue_own(&rt, &domain, &mut waiter, Kind::Default);
     prepare(&domain, &mut waiter, Kind::Default);
     let watch = Watch::Plain { cond: 0 };
-    assert_eq!(rt;
-        wake(&rt, &domain, &mut task, watch, Mode::Normal, 0).woken,
-        1
-    );
+    assert!(rt; wake(&rt, &domain, &mut task, watch, Mode::Normal, 0).woken == 1);
     assert!(rt; matches!(sleep(&rt, &domain, &mut waiter, Kind::Default), Sleep::Stay));
     leave_default(&rt, &domain, &mut waiter);
     task.join(&domain, waiter);
@@ -198,11 +187,9 @@ fn default_entry_stays(rt: HostRuntime) -> Result<(), Fail> {
 #[test]
 fn own_entry_stays_over_a_wake(rt: HostRuntime) -> Result<(), Fail> {
     let (domain, mut task) = Domain::new(rt.alloc())?;
-    let Ok(mut waiter) = task.fork(&domain, 0) else {
-        panic!(rt; "numbers are spare")
-    };
+    let mut waiter = another(&rt, &domain, &mut task);
     queue_own(&rt, &domain, &mut waiter, Kind::Default);
-    assert_eq!(rt; wake_with_entry(&rt, &domain, &mut waiter), 0);
+    assert!(rt; wake_with_entry(&rt, &domain, &mut waiter) == 0);
     leave_default(&rt, &domain, &mut waiter);
     task.join(&domain, waiter);
     Ok(())

@@ -4,6 +4,7 @@ ghost use Rattle.std.specs.Prelude.{◌≡◌};
 ghost use Rattle.wq_head.specs.Readied.{IsReady, IsUpAndFree};
 
 use crate::heads::waiting::queue_own;
+use crate::wants::another;
 use std::sync::Wait;
 use std::test::Fail;
 use wait_model::layout::{FIRST_PLAIN_HEAD, RUNNING};
@@ -40,16 +41,14 @@ fn is_entry_of(member: Member, who: u8) -> bool {
 #[test]
 fn members_in_order(rt: HostRuntime) -> Result<(), Fail> {
     let (domain, mut task) = Domain::new(rt.alloc())?;
-    let Ok(mut other) = task.fork(&domain, 0) else {
-        panic!(rt; "numbers are spare")
-    };
+    let mut other = another(&rt, &domain, &mut task);
     assert!(rt; queue_own(&rt, &domain, &mut task, Kind::Default, false, RUNNING));
     assert!(rt; queue_in_front(&rt, &domain, &mut other));
     let mut list = Members::new();
     lock(&rt, &domain, &mut task, FIRST_PLAIN_HEAD);
     let count = members(&domain, &mut task, FIRST_PLAIN_HEAD, &mut list);
     unlock(&rt, &domain, &mut task, false);
-    assert_eq!(rt; count, 2);
+    assert!(rt; count == 2);
     assert!(rt; is_entry_of(list.at(0), 1));
     assert!(rt; is_entry_of(list.at(1), 0));
     Ok(())
@@ -59,9 +58,7 @@ fn members_in_order(rt: HostRuntime) -> Result<(), Fail> {
 #[test]
 fn active_with_a_member(rt: HostRuntime) -> Result<(), Fail> {
     let (domain, mut task) = Domain::new(rt.alloc())?;
-    let Ok(mut other) = task.fork(&domain, 0) else {
-        panic!(rt; "numbers are spare")
-    };
+    let mut other = another(&rt, &domain, &mut task);
     assert!(rt; !active(&domain, &mut task, FIRST_PLAIN_HEAD));
     assert!(rt; queue_own(&rt, &domain, &mut other, Kind::Default, false, RUNNING));
     assert!(rt; active(&domain, &mut task, FIRST_PLAIN_HEAD));

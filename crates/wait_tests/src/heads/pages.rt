@@ -136,9 +136,9 @@ fn hand_to<R: Abort + Wait>(
     };
     assert!(rt; queue_page(rt, domain, &mut other, page, state));
     let walked = other_wakes(rt, domain, task, page, mode, 1);
-    assert_eq!(rt; walked.woken, 1);
-    assert_eq!(rt; walked.selected, 1);
-    assert_eq!(rt; walked.holds, 1);
+    assert!(rt; walked.woken == 1);
+    assert!(rt; walked.selected == 1);
+    assert!(rt; walked.holds == 1);
     assert!(rt; matches!(walked.end, End::Spent));
     assert!(rt; was_handed(domain, &mut other));
 }
@@ -177,12 +177,12 @@ fn stop_each<R: Abort + Wait>(rt: &R, domain: &Domain, mut task: Task)
     assert!(rt; other_waits(rt, domain, &mut task, 5, UNINTERRUPTIBLE));
     assert!(rt; other_waits(rt, domain, &mut task, 5, UNINTERRUPTIBLE));
     let first = other_wakes(rt, domain, &mut task, 5, Mode::Normal, 0);
-    assert_eq!(rt; first.woken, 1);
-    assert_eq!(rt; first.selected, 1);
+    assert!(rt; first.woken == 1);
+    assert!(rt; first.selected == 1);
     assert!(rt; matches!(first.end, End::Stopped));
     let second = other_wakes(rt, domain, &mut task, 5, Mode::Normal, 1);
-    assert_eq!(rt; second.woken, 0);
-    assert_eq!(rt; second.selected, 0);
+    assert!(rt; second.woken == 0);
+    assert!(rt; second.selected == 0);
     assert!(rt; matches!(second.end, End::Stopped));
 }
 
@@ -203,15 +203,15 @@ fn wake_both<R: Abort + Wait>(rt: &R, domain: &Domain, mut task: Task)
     assert!(rt; lock_other(rt, domain, &mut task, bit));
     assert!(rt; other_waits(rt, domain, &mut task, 7, UNINTERRUPTIBLE));
     let front = other_wakes(rt, domain, &mut task, 7, Mode::Normal, 0);
-    assert_eq!(rt; front.woken, 2);
-    assert_eq!(rt; front.selected, 2);
+    assert!(rt; front.woken == 2);
+    assert!(rt; front.selected == 2);
     assert!(rt; matches!(front.end, End::End));
     let other_bit = Watch::Bit { word: 9, bit: 0 };
     assert!(rt; other_waits(rt, domain, &mut task, 9, UNINTERRUPTIBLE));
     assert!(rt; lock_other(rt, domain, &mut task, other_bit));
     let behind = other_wakes(rt, domain, &mut task, 9, Mode::Normal, 0);
-    assert_eq!(rt; behind.woken, 1);
-    assert_eq!(rt; behind.selected, 1);
+    assert!(rt; behind.woken == 1);
+    assert!(rt; behind.selected == 1);
     assert!(rt; matches!(behind.end, End::End));
 }
 
@@ -307,7 +307,7 @@ fn hand_to_sleeper<R: Abort + Threads + Wait + Sync>(
     };
     let (told, walked) = meet(rt, domain, task, looker, sleeper, yields);
     assert!(rt; told);
-    assert_eq!(rt; walked.woken, 1);
+    assert!(rt; walked.woken == 1);
     assert!(rt; matches!(walked.end, End::Spent));
 }
 

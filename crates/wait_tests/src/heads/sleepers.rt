@@ -204,10 +204,10 @@ fn walk_over_three<R: Abort + Threads + Wait + Sync>(
     };
     let (walked, left) = meet(rt, domain, task, first, second, third, looks, yields);
     assert!(rt; walked.woken <= 3);
-    assert_eq!(rt; walked.woken + left, 3);
+    assert!(rt; walked.woken + left == 3);
     let (entries, marks) = count_members(domain, &mut last);
-    assert_eq!(rt; entries, 0);
-    assert_eq!(rt; marks, 0);
+    assert!(rt; entries == 0);
+    assert!(rt; marks == 0);
 }
 
 /// The condition is set at once, which may be before the tasks wait for it, while they do, or when they sleep.

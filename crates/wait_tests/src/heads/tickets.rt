@@ -3,6 +3,7 @@
 ghost use Rattle.std.specs.Prelude.{◌≡◌};
 ghost use Rattle.wait_rule.specs.Says.{IsUp, IsFree};
 
+use crate::wants::another;
 use std::sync::Wait;
 use std::test::Fail;
 use std::thread::{self, Threads};
@@ -76,14 +77,12 @@ fn four_hold<R: Threads + Wait + Sync>(
 #[test]
 fn tickets(rt: HostRuntime) -> Result<(), Fail> {
     let (domain, mut task) = Domain::new(rt.alloc())?;
-    let (Ok(two), Ok(three)) = (task.fork(&domain, 0), task.fork(&domain, 0)) else {
-        panic!(rt; "numbers are spare")
-    };
-    let (Ok(four), Ok(mut last)) = (task.fork(&domain, 0), task.fork(&domain, 0)) else {
-        panic!(rt; "numbers are spare")
-    };
+    let two = another(&rt, &domain, &mut task);
+    let three = another(&rt, &domain, &mut task);
+    let four = another(&rt, &domain, &mut task);
+    let mut last = another(&rt, &domain, &mut task);
     four_hold(&rt, &domain, task, two, three, four);
-    assert_eq!(rt; serving_load(&domain, &mut last, FIRST_PLAIN_HEAD), 2_000);
-    assert_eq!(rt; draw(&domain, &mut last, FIRST_PLAIN_HEAD), 2_000);
+    assert!(rt; serving_load(&domain, &mut last, FIRST_PLAIN_HEAD) == 2_000);
+    assert!(rt; draw(&domain, &mut last, FIRST_PLAIN_HEAD) == 2_000);
     Ok(())
 }

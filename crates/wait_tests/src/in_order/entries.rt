@@ -37,7 +37,7 @@ fn flag_then_a_simple_queue(rt: HostRuntime) -> Result<(), Fail> {
     let (all, over) = swait_after_all(&rt, &domain, &mut task);
     assert!(rt; met_nobody(walked, 1));
     assert!(rt; !first && !locked && over);
-    assert_eq!(rt; all_locked, 0);
-    assert_eq!(rt; all, 0);
+    assert!(rt; all_locked == 0);
+    assert!(rt; all == 0);
     Ok(())
 }

@@ -6,6 +6,7 @@ ghost use Rattle.wait_model.specs.declared.watches.Watch.TheVariants as watch;
 ghost use Rattle.wait_rule.specs.Says.{IsClean};
 ghost use Rattle.bit_wait.specs.Holders.{IsHolder};
 
+use crate::wants::another;
 use bit_wait::BitEnd;
 use page_lock::tallies::add_tally;
 use page_lock::unlocks::unlock_page;
@@ -61,9 +62,9 @@ fn clear_page_is_taken_at_once(rt: HostRuntime) -> Result<(), Fail> {
         panic!(rt; "the page is clear")
     }
     let walked = give(&rt, &domain, &mut task, 1);
-    assert_eq!(rt; walked.selected, 0);
-    assert_eq!(rt; walked.woken, 0);
-    assert_eq!(rt; walked.holds, 0);
+    assert!(rt; walked.selected == 0);
+    assert!(rt; walked.woken == 0);
+    assert!(rt; walked.holds == 0);
     assert!(rt; matches!(walked.end, End::End));
     Ok(())
 }
@@ -73,9 +74,7 @@ fn clear_page_is_taken_at_once(rt: HostRuntime) -> Result<(), Fail> {
 #[test]
 fn pending_signal_ends_the_wait(rt: HostRuntime) -> Result<(), Fail> {
     let (domain, mut task) = Domain::new(rt.alloc())?;
-    let Ok(mut other) = task.fork(&domain, 0) else {
-        panic!(rt; "numbers are spare")
-    };
+    let mut other = another(&rt, &domain, &mut task);
     if !take(&rt, &domain, &mut task, 3) {
         panic!(rt; "the page is clear")
     }
@@ -84,7 +83,7 @@ fn pending_signal_ends_the_wait(rt: HostRuntime) -> Result<(), Fail> {
     let end = lock_page(&rt, &domain, &mut other, 3, SleepState::Interruptible);
     assert!(rt; matches!(end, Err(BitEnd::Interrupted { seen: 1 })));
     let walked = give(&rt, &domain, &mut task, 3);
-    assert_eq!(rt; walked.selected, 0);
+    assert!(rt; walked.selected == 0);
     assert!(rt; take(&rt, &domain, &mut other, 3));
     Ok(())
 }

@@ -1,5 +1,6 @@
 //! The calls that wait for nobody but the lock of a head: a page is taken, its tally added to, and the page given back.
 
+use crate::wants::another;
 use page_lock::tallies::add_tally;
 use page_lock::tries::try_lock_page;
 use page_lock::unlocks::unlock_page;
@@ -14,9 +15,7 @@ const PAGE: u8 = 127;
 #[test]
 fn page_is_taken_once(rt: HostRuntime) -> Result<(), Fail> {
     let (domain, mut task) = Domain::new(rt.alloc())?;
-    let Ok(mut other) = task.fork(&domain, 0) else {
-        panic!(rt; "numbers are spare")
-    };
+    let mut other = another(&rt, &domain, &mut task);
     if !try_lock_page(&domain, &mut task, PAGE) {
         panic!(rt; "the page is clear")
     }
@@ -35,9 +34,9 @@ fn unlock_takes_no_lock_for_nobody(rt: HostRuntime) -> Result<(), Fail> {
         panic!(rt; "the page is clear")
     }
     let walked = unlock_page(&rt, &domain, &mut task, 1);
-    assert_eq!(rt; walked.selected, 0);
-    assert_eq!(rt; walked.woken, 0);
-    assert_eq!(rt; walked.holds, 0);
+    assert!(rt; walked.selected == 0);
+    assert!(rt; walked.woken == 0);
+    assert!(rt; walked.holds == 0);
     assert!(rt; matches!(walked.end, End::End));
     Ok(())
 }
@@ -49,9 +48,9 @@ fn tally_answers_the_sum_before(rt: HostRuntime) -> Result<(), Fail> {
     if !try_lock_page(&domain, &mut task, PAGE) {
         panic!(rt; "the page is clear")
     }
-    assert_eq!(rt; add_tally(&domain, &mut task, PAGE, 5), 0);
-    assert_eq!(rt; add_tally(&domain, &mut task, PAGE, u64::MAX), 5);
-    assert_eq!(rt; add_tally(&domain, &mut task, PAGE, 0), 4);
+    assert!(rt; add_tally(&domain, &mut task, PAGE, 5) == 0);
+    assert!(rt; add_tally(&domain, &mut task, PAGE, u64::MAX) == 5);
+    assert!(rt; add_tally(&domain, &mut task, PAGE, 0) == 4);
     unlock_page(&rt, &domain, &mut task, PAGE);
     Ok(())
 }

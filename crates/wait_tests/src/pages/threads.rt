@@ -5,6 +5,7 @@ ghost use Rattle.std.specs.Prelude.{◌≡◌, All};
 ghost use Rattle.wait_rule.specs.Says.{IsClean};
 
 use crate::pages::alone::{add, give, take};
+use crate::wants::another;
 use page_lock::tries::try_lock_page;
 use std::sync::Wait;
 use std::test::Fail;
@@ -127,9 +128,7 @@ fn last_tally(domain: &Domain, mut task: Task) -> Option<u64>
 fn two_take_one_page_in_turn(rt: HostRuntime) -> Result<(), Fail> {
     for _round in 0..ROUNDS {
         let (domain, mut task) = Domain::with_looks(rt.alloc(), 0)?;
-        let Ok(other) = task.fork(&domain, 0) else {
-            panic!(rt; "numbers are spare")
-        };
+        let other = another(&rt, &domain, &mut task);
         let (mut task, other) = add_both(&rt, &domain, task, other, ADDS);
         task.join(&domain, other);
         assert!(rt; last_tally(&domain, task) == Some(2 * ADDS));
@@ -142,15 +141,9 @@ fn two_take_one_page_in_turn(rt: HostRuntime) -> Result<(), Fail> {
 fn tally_of_four(rt: HostRuntime) -> Result<(), Fail> {
     for _round in 0..FOURS {
         let (domain, mut task) = Domain::with_looks(rt.alloc(), 0)?;
-        let Ok(one) = task.fork(&domain, 0) else {
-            panic!(rt; "numbers are spare")
-        };
-        let Ok(two) = task.fork(&domain, 0) else {
-            panic!(rt; "numbers are spare")
-        };
-        let Ok(three) = task.fork(&domain, 0) else {
-            panic!(rt; "numbers are spare")
-        };
+        let one = another(&rt, &domain, &mut task);
+        let two = another(&rt, &domain, &mut task);
+        let three = another(&rt, &domain, &mut task);
         let ((mut task, one), (two, three)) = add_four(&rt, &domain, (task, one), (two, three));
         task.join(&domain, one);
         task.join(&domain, two);

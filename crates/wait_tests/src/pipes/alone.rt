@@ -3,6 +3,7 @@
 use crate::pipes::calls::{
     are_from, end_read, end_write, fill_from, get, put, take_read, take_write,
 };
+use crate::wants::another;
 use std::test::Fail;
 use wait_pipe::pieces::PipeEnd;
 use wait_rule::Domain;
@@ -15,9 +16,7 @@ const FULL: usize = 7 * 1_024;
 #[test]
 fn piece_goes_through(rt: HostRuntime) -> Result<(), Fail> {
     let (domain, mut writer) = Domain::new(rt.alloc())?;
-    let Ok(mut reader) = writer.fork(&domain, 0) else {
-        panic!(rt; "numbers are spare")
-    };
+    let mut reader = another(&rt, &domain, &mut writer);
     if !take_write(&domain, &mut writer, 7) || !take_read(&domain, &mut reader, 7) {
         panic!(rt; "the ends are free")
     }
@@ -39,9 +38,8 @@ fn piece_goes_through(rt: HostRuntime) -> Result<(), Fail> {
 #[test]
 fn end_is_opened_once(rt: HostRuntime) -> Result<(), Fail> {
     let (domain, mut one) = Domain::new(rt.alloc())?;
-    let (Ok(mut two), Ok(mut three)) = (one.fork(&domain, 0), one.fork(&domain, 0)) else {
-        panic!(rt; "numbers are spare")
-    };
+    let mut two = another(&rt, &domain, &mut one);
+    let mut three = another(&rt, &domain, &mut one);
     assert!(rt; take_write(&domain, &mut one, 0));
     assert!(rt; !take_write(&domain, &mut two, 0));
     assert!(rt; take_read(&domain, &mut two, 0));
@@ -54,9 +52,7 @@ fn end_is_opened_once(rt: HostRuntime) -> Result<(), Fail> {
 #[test]
 fn pipe_without_reader_is_broken(rt: HostRuntime) -> Result<(), Fail> {
     let (domain, mut writer) = Domain::new(rt.alloc())?;
-    let Ok(mut reader) = writer.fork(&domain, 0) else {
-        panic!(rt; "numbers are spare")
-    };
+    let mut reader = another(&rt, &domain, &mut writer);
     if !take_write(&domain, &mut writer, 2) || !take_read(&domain, &mut reader, 2) {
         panic!(rt; "the ends are free")
     }
@@ -73,9 +69,8 @@ fn pipe_without_reader_is_broken(rt: HostRuntime) -> Result<(), Fail> {
 #[test]
 fn signal_ends_the_wait_of_a_writer(rt: HostRuntime) -> Result<(), Fail> {
     let (domain, mut writer) = Domain::new(rt.alloc())?;
-    let (Ok(mut reader), Ok(mut sender)) = (writer.fork(&domain, 0), writer.fork(&domain, 0)) else {
-        panic!(rt; "numbers are spare")
-    };
+    let mut reader = another(&rt, &domain, &mut writer);
+    let mut sender = another(&rt, &domain, &mut writer);
     if !take_write(&domain, &mut writer, 3) || !take_read(&domain, &mut reader, 3) {
         panic!(rt; "the ends are free")
     }
@@ -104,9 +99,8 @@ fn signal_ends_the_wait_of_a_writer(rt: HostRuntime) -> Result<(), Fail> {
 #[test]
 fn signal_ends_the_wait_of_a_reader(rt: HostRuntime) -> Result<(), Fail> {
     let (domain, mut writer) = Domain::new(rt.alloc())?;
-    let (Ok(mut reader), Ok(mut sender)) = (writer.fork(&domain, 0), writer.fork(&domain, 0)) else {
-        panic!(rt; "numbers are spare")
-    };
+    let mut reader = another(&rt, &domain, &mut writer);
+    let mut sender = another(&rt, &domain, &mut writer);
     if !take_write(&domain, &mut writer, 3) || !take_read(&domain, &mut reader, 3) {
         panic!(rt; "the ends are free")
     }
@@ -126,9 +120,7 @@ fn signal_ends_the_wait_of_a_reader(rt: HostRuntime) -> Result<(), Fail> {
 #[test]
 fn closed_with_cells_left(rt: HostRuntime) -> Result<(), Fail> {
     let (domain, mut writer) = Domain::new(rt.alloc())?;
-    let Ok(mut reader) = writer.fork(&domain, 0) else {
-        panic!(rt; "numbers are spare")
-    };
+    let mut reader = another(&rt, &domain, &mut writer);
     if !take_write(&domain, &mut writer, 4) || !take_read(&domain, &mut reader, 4) {
         panic!(rt; "the ends are free")
     }

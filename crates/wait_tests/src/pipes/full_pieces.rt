@@ -7,6 +7,7 @@ ghost use Rattle.wait_rule.specs.Says.{IsClean};
 use crate::pipes::calls::{
     are_from, end_read, end_write, fill_from, get, put, take_read, take_write,
 };
+use crate::wants::another;
 use std::sync::Wait;
 use std::test::Fail;
 use std::thread;
@@ -105,9 +106,7 @@ fn meet<R: Threads + Wait + Sync>(
 fn full_pieces_pass_one_by_one(rt: HostRuntime) -> Result<(), Fail> {
     for _round in 0..ROUNDS {
         let (domain, mut task) = Domain::with_looks(rt.alloc(), 0)?;
-        let Ok(reader) = task.fork(&domain, 0) else {
-            panic!(rt; "numbers are spare")
-        };
+        let reader = another(&rt, &domain, &mut task);
         let (wrote, read) = meet(&rt, &domain, task, reader);
         let (mut task, whole) = wrote;
         task.join(&domain, read.0);

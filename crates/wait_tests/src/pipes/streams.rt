@@ -7,6 +7,7 @@ ghost use Rattle.wait_rule.specs.Says.{IsClean};
 use crate::pipes::calls::{
     are_from, end_read, end_write, fill_from, get, put, take_read, take_write,
 };
+use crate::wants::another;
 use std::sync::Wait;
 use std::test::Fail;
 use std::thread;
@@ -113,9 +114,7 @@ fn meet<R: Threads + Wait + Sync>(
 fn bytes_come_out_as_they_went_in(rt: HostRuntime) -> Result<(), Fail> {
     for round in 0..ROUNDS {
         let (domain, mut task) = Domain::with_looks(rt.alloc(), 0)?;
-        let Ok(reader) = task.fork(&domain, 0) else {
-            panic!(rt; "numbers are spare")
-        };
+        let reader = another(&rt, &domain, &mut task);
         let (wrote, read) = meet(&rt, &domain, task, reader, round);
         let (mut task, sent) = wrote;
         task.join(&domain, read.0);

@@ -6,6 +6,7 @@ ghost use Rattle.wait_rule.specs.Says.{IsClean, IsUp};
 
 use super::interrupted;
 use crate::pages::alone::{give, take};
+use crate::wants::another;
 use page_lock::lock_page;
 use std::sync::Wait;
 use std::test::Fail;
@@ -86,9 +87,8 @@ fn wait_and_set<R: Threads + Wait + Sync>(
 fn killable_wait_sleeps_on_under_a_plain_signal(rt: HostRuntime) -> Result<(), Fail> {
     for _round in 0..ROUNDS {
         let (domain, mut waiter) = Domain::with_looks(rt.alloc(), 0)?;
-        let (Ok(setter), Ok(mut sender)) = (waiter.fork(&domain, 0), waiter.fork(&domain, 0)) else {
-            panic!(rt; "numbers are spare")
-        };
+        let setter = another(&rt, &domain, &mut waiter);
+        let mut sender = another(&rt, &domain, &mut waiter);
         send_signal(&rt, &domain, &mut sender, waiter.number(), false);
         assert!(rt; wait_and_set(&rt, &domain, waiter, setter));
     }
@@ -123,9 +123,7 @@ fn wait_and_kill<R: Threads + Wait + Sync>(
 fn fatal_signal_ends_a_wait_that_slept(rt: HostRuntime) -> Result<(), Fail> {
     for _round in 0..ROUNDS {
         let (domain, mut waiter) = Domain::with_looks(rt.alloc(), 0)?;
-        let Ok(sender) = waiter.fork(&domain, 0) else {
-            panic!(rt; "numbers are spare")
-        };
+        let sender = another(&rt, &domain, &mut waiter);
         assert!(rt; !wait_and_kill(&rt, &domain, waiter, sender));
     }
     Ok(())
@@ -168,16 +166,15 @@ fn lock_and_signal<R: Threads + Wait + Sync>(
 fn signal_ends_a_lock_that_slept(rt: HostRuntime) -> Result<(), Fail> {
     for _round in 0..ROUNDS {
         let (domain, mut holder) = Domain::with_looks(rt.alloc(), 0)?;
-        let (Ok(waiter), Ok(sender)) = (holder.fork(&domain, 0), holder.fork(&domain, 0)) else {
-            panic!(rt; "numbers are spare")
-        };
+        let waiter = another(&rt, &domain, &mut holder);
+        let sender = another(&rt, &domain, &mut holder);
         if !take(&rt, &domain, &mut holder, PAGE) {
             panic!(rt; "the page is clear")
         }
-        assert_eq!(rt; lock_and_signal(&rt, &domain, waiter, sender), Some(1));
+        assert!(rt; lock_and_signal(&rt, &domain, waiter, sender) == Some(1));
         let walked = give(&rt, &domain, &mut holder, PAGE);
-        assert_eq!(rt; walked.selected, 0);
-        assert_eq!(rt; walked.woken, 0);
+        assert!(rt; walked.selected == 0);
+        assert!(rt; walked.woken == 0);
     }
     Ok(())
 }

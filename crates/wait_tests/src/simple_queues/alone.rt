@@ -3,6 +3,7 @@
 ghost use Rattle.std.specs.Prelude.{◌≡◌};
 ghost use Rattle.wait_rule.specs.Says.{IsClean};
 
+use crate::wants::another;
 use std::sync::Wait;
 use std::test::Fail;
 use swait_queue::waits::swait_event;
@@ -71,15 +72,13 @@ fn wake_unset<R: Wait>(rt: &R, domain: &Domain, task: &mut Task) -> (bool, u32)
 #[test]
 fn wakes_of_an_empty_queue(rt: HostRuntime) -> Result<(), Fail> {
     let (domain, mut task) = Domain::new(rt.alloc())?;
-    let Ok(mut other) = task.fork(&domain, 0) else {
-        panic!(rt; "a number is spare")
-    };
+    let mut other = another(&rt, &domain, &mut task);
     let (one, all) = wake_unset(&rt, &domain, &mut other);
     assert!(rt; !one);
-    assert_eq!(rt; all, 0);
+    assert!(rt; all == 0);
     let (one, all) = wake_in_hold(&rt, &domain, &mut other);
     assert!(rt; !one);
-    assert_eq!(rt; all, 0);
+    assert!(rt; all == 0);
     task.join(&domain, other);
     Ok(())
 }
@@ -88,7 +87,7 @@ fn wakes_of_an_empty_queue(rt: HostRuntime) -> Result<(), Fail> {
 #[test]
 fn set_before_the_wait(rt: HostRuntime) -> Result<(), Fail> {
     let (domain, mut task) = Domain::new(rt.alloc())?;
-    assert_eq!(rt; set_and_swake(&rt, &domain, &mut task), 0);
+    assert!(rt; set_and_swake(&rt, &domain, &mut task) == 0);
     assert!(rt; swait_event(&rt, &domain, &mut task, COND, SleepState::Uninterruptible).is_ok());
     Ok(())
 }

@@ -6,6 +6,7 @@ ghost use Rattle.wait_tests.specs.EventTasks.{IsReadyToWait, IsWaiting, IsWaker}
 use crate::heads::turns::end_both;
 use crate::simple_queues::stretches::{COND, is_over};
 use crate::turns::go_on;
+use crate::wants::another;
 use std::process::Abort;
 use std::test::Fail;
 use swait_queue::swake_turns::{SwakeRun, SwakeStage, SwakeTurn, swake_stretch};
@@ -26,9 +27,7 @@ const OFTEN: u32 = 20;
 #[test]
 fn wake_waits_for_its_turn(rt: HostRuntime) -> Result<(), Fail> {
     let (domain, mut task) = Domain::new(rt.alloc())?;
-    let Ok(mut other) = task.fork(&domain, 0) else {
-        panic!(rt; "a number is spare")
-    };
+    let mut other = another(&rt, &domain, &mut task);
     lock(&rt, &domain, &mut other, FIRST_SIMPLE_HEAD);
     let mut rousing = Rousing::new();
     let mut passing = Passing::none();
@@ -58,7 +57,7 @@ fn wake_waits_for_its_turn(rt: HostRuntime) -> Result<(), Fail> {
     ) else {
         panic!(rt; "nobody holds the lock")
     };
-    assert_eq!(rt; selected, 0);
+    assert!(rt; selected == 0);
     end_both(&domain, rousing, passing);
     Ok(())
 }
@@ -101,7 +100,7 @@ fn wake_sleeper<R: Abort>(rt: &R, domain: &Domain, waker: &mut Task, waiter: &mu
     ) else {
         panic!(rt; "nobody holds the lock")
     };
-    assert_eq!(rt; selected, 1);
+    assert!(rt; selected == 1);
     assert_eq!(rt; rousing.tasks(), [waiter.number()].as_slice());
     end_both(domain, rousing, passing);
     let over = go_often(domain, waiter, &mut wait, asleep);
@@ -112,9 +111,7 @@ fn wake_sleeper<R: Abort>(rt: &R, domain: &Domain, waker: &mut Task, waiter: &mu
 #[test]
 fn stretch_names_who_slept(rt: HostRuntime) -> Result<(), Fail> {
     let (domain, mut waker) = Domain::new(rt.alloc())?;
-    let Ok(mut waiter) = waker.fork(&domain, 0) else {
-        panic!(rt; "a number is spare")
-    };
+    let mut waiter = another(&rt, &domain, &mut waker);
     wake_sleeper(&rt, &domain, &mut waker, &mut waiter);
     Ok(())
 }

@@ -5,6 +5,7 @@ ghost use Rattle.std.specs.Prelude.{◌≡◌};
 ghost use Rattle.wait_rule.specs.Says.{IsClean};
 
 use crate::simple_queues::alone::{set_and_swake, set_and_swake_one};
+use crate::wants::another;
 use std::sync::Wait;
 use std::test::Fail;
 use std::thread;
@@ -118,9 +119,8 @@ fn meet<R: Threads + Wait + Sync>(
 fn waiters_are_joined(rt: HostRuntime) -> Result<(), Fail> {
     for round in 0..ROUNDS {
         let (domain, mut task) = Domain::with_looks(rt.alloc(), 0)?;
-        let (Ok(first), Ok(second)) = (task.fork(&domain, 0), task.fork(&domain, 0)) else {
-            panic!(rt; "numbers are spare")
-        };
+        let first = another(&rt, &domain, &mut task);
+        let second = another(&rt, &domain, &mut task);
         let (mut task, (one, two)) = meet(&rt, &domain, task, first, second, round % 2 == 0);
         assert!(rt; one.1 && two.1);
         task.join(&domain, one.0);

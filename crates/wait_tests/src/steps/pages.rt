@@ -12,6 +12,7 @@ ghost use Rattle.wait_rule.specs.Queues.{IsAgreed, IsIdle, IsLocked, index};
 ghost use Rattle.wait_rule.specs.Says.{IsUp, asks_for, stored_with};
 
 use crate::steps::queues::{see_entries, see_marks, take_turn};
+use crate::wants::another;
 use std::sync::Wait;
 use std::test::Fail;
 use wait_model::entry_words::EntryWord;
@@ -168,9 +169,7 @@ fn note_page(domain: &Domain, task: &mut Task, word: u8) -> bool
 #[test]
 fn a_page_is_handed(rt: HostRuntime) -> Result<(), Fail> {
     let (domain, mut task) = Domain::new(rt.alloc())?;
-    let Ok(mut other) = task.fork(&domain, 0) else {
-        panic!(rt; "a number is spare")
-    };
+    let mut other = another(&rt, &domain, &mut task);
     if !take_page(&domain, &mut other, 3) {
         panic!(rt; "nobody has the page");
     }

@@ -4,6 +4,7 @@
 ghost use Rattle.std.specs.Prelude.{◌≡◌};
 ghost use Rattle.wait_rule.specs.Says.{IsClean};
 
+use crate::wants::another;
 use std::sync::Wait;
 use std::test::Fail;
 use std::thread;
@@ -105,9 +106,7 @@ fn two_meet<R: Threads + Wait + Sync>(rt: &R, domain: &Domain, task: Task, one: 
 fn sleeps_end(rt: HostRuntime) -> Result<(), Fail> {
     for _ in 0..BATCHES {
         let (domain, mut task) = Domain::with_looks(rt.alloc(), 0)?;
-        let Ok(one) = task.fork(&domain, 0) else {
-            panic!(rt; "a number is spare")
-        };
+        let one = another(&rt, &domain, &mut task);
         two_meet(&rt, &domain, task, one);
     }
     Ok(())
@@ -179,9 +178,8 @@ fn three_turn<R: Threads + Wait + Sync>(rt: &R, domain: &Domain, task: Task, one
 fn three_hand_on(rt: HostRuntime) -> Result<(), Fail> {
     for _ in 0..BATCHES {
         let (domain, mut task) = Domain::with_looks(rt.alloc(), 0)?;
-        let (Ok(one), Ok(two)) = (task.fork(&domain, 0), task.fork(&domain, 0)) else {
-            panic!(rt; "a number is spare")
-        };
+        let one = another(&rt, &domain, &mut task);
+        let two = another(&rt, &domain, &mut task);
         three_turn(&rt, &domain, task, one, two);
     }
     Ok(())

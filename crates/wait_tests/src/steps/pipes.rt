@@ -7,6 +7,7 @@ ghost use Rattle.wait_rule.specs.Pipes.{IsCell, end_word, read_end, write_end};
 ghost use Rattle.wait_rule.specs.PipeSays.{reading, writing};
 ghost use Rattle.wait_rule.specs.Says.{IsClean};
 
+use crate::wants::another;
 use std::sync::Wait;
 use std::test::Fail;
 use std::thread;
@@ -144,11 +145,8 @@ fn pass_alone(domain: &Domain, task: &mut Task, pipe: u8, word: u64) -> Option<u
 #[test]
 fn a_cell_is_passed(rt: HostRuntime) -> Result<(), Fail> {
     let (domain, mut task) = Domain::new(rt.alloc())?;
-    assert_eq!(rt; pass_alone(&domain, &mut task, 0, 0x4101), Some(0x4101));
-    assert_eq!(rt;
-        pass_alone(&domain, &mut task, 7, cell(513)),
-        Some(cell(513))
-    );
+    assert!(rt; pass_alone(&domain, &mut task, 0, 0x4101) == Some(0x4101));
+    assert!(rt; pass_alone(&domain, &mut task, 7, cell(513)) == Some(cell(513)));
     Ok(())
 }
 
@@ -239,10 +237,8 @@ fn two_pass<R: Threads + Wait + Sync>(rt: &R, domain: &Domain, one: Task, two: T
 #[test]
 fn cells_come_in_order(rt: HostRuntime) -> Result<(), Fail> {
     let (domain, mut task) = Domain::new(rt.alloc())?;
-    let Ok(two) = task.fork(&domain, 0) else {
-        panic!(rt; "a number is spare")
-    };
-    assert_eq!(rt; two_pass(&rt, &domain, task, two), PASSED);
+    let two = another(&rt, &domain, &mut task);
+    assert!(rt; two_pass(&rt, &domain, task, two) == PASSED);
     Ok(())
 }
 
@@ -250,9 +246,7 @@ fn cells_come_in_order(rt: HostRuntime) -> Result<(), Fail> {
 #[test]
 fn an_end_is_claimed_once(rt: HostRuntime) -> Result<(), Fail> {
     let (domain, mut task) = Domain::new(rt.alloc())?;
-    let Ok(mut two) = task.fork(&domain, 0) else {
-        panic!(rt; "a number is spare")
-    };
+    let mut two = another(&rt, &domain, &mut task);
     assert!(rt; claim(&domain, &mut task, 5, 0));
     assert!(rt; !claim(&domain, &mut task, 5, 0));
     assert!(rt; !claim(&domain, &mut two, 5, 0));

@@ -12,6 +12,7 @@ ghost use Rattle.wait_rule.specs.LookCounts.{Looked};
 ghost use Rattle.wait_rule.specs.Stays.{Carries, StaysOwing, unchanged};
 ghost use Rattle.wait_rule.specs.Looking.{HasSeenEntries, HasSeenMarks, IsSelectingHold, ShowsNone};
 
+use crate::wants::another;
 use std::sync::Wait;
 use std::test::Fail;
 use wait_model::entry_words::EntryWord;
@@ -133,9 +134,7 @@ fn see_no_bits(domain: &Domain, task: &mut Task, head: u16) -> bool
 #[test]
 fn members_without_the_lock(rt: HostRuntime) -> Result<(), Fail> {
     let (domain, mut task) = Domain::new(rt.alloc())?;
-    let Ok(mut other) = task.fork(&domain, 0) else {
-        panic!(rt; "a number is spare")
-    };
+    let mut other = another(&rt, &domain, &mut task);
     publish(&domain, &mut task, Watch::Plain { cond: 0 }, 1);
     assert!(rt; see_no_bits(&domain, &mut task, FIRST_PLAIN_HEAD));
     if !take_turn(&domain, &mut other, FIRST_PLAIN_HEAD) {
@@ -153,17 +152,14 @@ fn conditions_alone(rt: HostRuntime) -> Result<(), Fail> {
     let (domain, mut task) = Domain::new(rt.alloc())?;
     let plain = Watch::Plain { cond: 47 };
     publish(&domain, &mut task, plain, 7);
-    assert_eq!(rt; cond_load(&domain, &mut task, plain), 7);
-    assert_eq!(rt; consume(&domain, &mut task, 47), 7);
-    assert_eq!(rt; consume(&domain, &mut task, 47), 0);
+    assert!(rt; cond_load(&domain, &mut task, plain) == 7);
+    assert!(rt; consume(&domain, &mut task, 47) == 7);
+    assert!(rt; consume(&domain, &mut task, 47) == 0);
     let var = Watch::Var { var: 16, old: 3 };
     publish(&domain, &mut task, var, 5);
-    assert_eq!(rt; cond_load(&domain, &mut task, var), 5);
-    assert_eq!(rt; cond_load(&domain, &mut task, Watch::Done { cell: 63 }), 0);
-    assert_eq!(rt;
-        cond_load(&domain, &mut task, Watch::Bit { word: 127, bit: 63 }),
-        0
-    );
+    assert!(rt; cond_load(&domain, &mut task, var) == 5);
+    assert!(rt; cond_load(&domain, &mut task, Watch::Done { cell: 63 }) == 0);
+    assert!(rt; cond_load(&domain, &mut task, Watch::Bit { word: 127, bit: 63 }) == 0);
     Ok(())
 }
 
@@ -172,9 +168,7 @@ fn conditions_alone(rt: HostRuntime) -> Result<(), Fail> {
 #[test]
 fn locks_alone(rt: HostRuntime) -> Result<(), Fail> {
     let (domain, mut task) = Domain::new(rt.alloc())?;
-    let Ok(mut other) = task.fork(&domain, 0) else {
-        panic!(rt; "a number is spare")
-    };
+    let mut other = another(&rt, &domain, &mut task);
     if !take_turn(&domain, &mut task, FIRST_DONE_HEAD - 1) {
         panic!(rt; "no other ticket is out");
     }

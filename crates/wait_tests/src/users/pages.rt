@@ -1,5 +1,6 @@
 //! The parts for a page, each once, on one thread.
 
+use crate::wants::another;
 use std::test::Fail;
 use wait_rule::Domain;
 use wq_user::pages::{add_to_page, count_and_join, count_in_page, give_page, take_page};
@@ -8,17 +9,16 @@ use wq_user::pages::{add_to_page, count_and_join, count_in_page, give_page, take
 #[test]
 fn page_is_counted_in(rt: HostRuntime) -> Result<(), Fail> {
     let (domain, mut task) = Domain::new(rt.alloc())?;
-    let (Ok(mut one), Ok(two)) = (task.fork(&domain, 0), task.fork(&domain, 0)) else {
-        panic!(rt; "numbers are spare")
-    };
+    let mut one = another(&rt, &domain, &mut task);
+    let two = another(&rt, &domain, &mut task);
     if !take_page(&domain, &mut one) {
         panic!(rt; "the page is clear")
     }
-    assert_eq!(rt; count_in_page(&rt, &domain, &mut task, 7), None);
-    assert_eq!(rt; add_to_page(&domain, &mut one, 5), 0);
-    assert_eq!(rt; give_page(&rt, &domain, &mut one), 0);
-    assert_eq!(rt; count_and_join(&rt, &domain, &mut task, two, 7), Some(5));
-    assert_eq!(rt; count_in_page(&rt, &domain, &mut one, 0), Some(12));
+    assert!(rt; count_in_page(&rt, &domain, &mut task, 7) == None);
+    assert!(rt; add_to_page(&domain, &mut one, 5) == 0);
+    assert!(rt; give_page(&rt, &domain, &mut one) == 0);
+    assert!(rt; count_and_join(&rt, &domain, &mut task, two, 7) == Some(5));
+    assert!(rt; count_in_page(&rt, &domain, &mut one, 0) == Some(12));
     task.join(&domain, one);
     Ok(())
 }

@@ -4,6 +4,7 @@
 ghost use Rattle.std.specs.Prelude.{◌≡◌};
 ghost use Rattle.wait_rule.specs.Says.{IsClean};
 
+use crate::wants::another;
 use completion_cell::completes::complete_all;
 use std::sync::Wait;
 use std::test::Fail;
@@ -217,9 +218,7 @@ fn let_all_through<R: Wait>(rt: &R, domain: &Domain, task: &mut Task)
 #[test]
 fn each_pair_is_made(rt: HostRuntime) -> Result<(), Fail> {
     let (domain, mut task) = Domain::new(rt.alloc())?;
-    let Ok(mut other) = task.fork(&domain, 0) else {
-        panic!(rt; "numbers are spare")
-    };
+    let mut other = another(&rt, &domain, &mut task);
     set_zero(&rt, &domain, &mut other);
     let_all_through(&rt, &domain, &mut other);
     after_wait(&rt, &domain, &mut other);

@@ -4,6 +4,7 @@
 ghost use Rattle.std.specs.Prelude.{◌≡◌};
 ghost use Rattle.wait_rule.specs.Says.{IsClean};
 
+use crate::wants::another;
 use std::sync::Wait;
 use std::test::Fail;
 use std::thread;
@@ -124,14 +125,12 @@ fn meet<R: Threads + Wait + Sync>(
 #[test]
 fn simple_queue_of_nobody(rt: HostRuntime) -> Result<(), Fail> {
     let (domain, mut task) = Domain::new(rt.alloc())?;
-    let Ok(mut other) = task.fork(&domain, 0) else {
-        panic!(rt; "numbers are spare")
-    };
+    let mut other = another(&rt, &domain, &mut task);
     assert!(rt; !swake(&rt, &domain, &mut other));
-    assert_eq!(rt; swake_in_hold(&rt, &domain, &mut other), (false, 0));
+    assert!(rt; swake_in_hold(&rt, &domain, &mut other) == (false, 0));
     assert!(rt; !set_and_swake(&rt, &domain, &mut other));
     assert!(rt; swait(&rt, &domain, &mut other));
-    assert_eq!(rt; swake_and_join(&rt, &domain, &mut task, other), 0);
+    assert!(rt; swake_and_join(&rt, &domain, &mut task, other) == 0);
     Ok(())
 }
 
@@ -139,9 +138,8 @@ fn simple_queue_of_nobody(rt: HostRuntime) -> Result<(), Fail> {
 #[test]
 fn completion_of_nobody(rt: HostRuntime) -> Result<(), Fail> {
     let (domain, mut task) = Domain::new(rt.alloc())?;
-    let (Ok(mut one), Ok(two)) = (task.fork(&domain, 0), task.fork(&domain, 0)) else {
-        panic!(rt; "numbers are spare")
-    };
+    let mut one = another(&rt, &domain, &mut task);
+    let two = another(&rt, &domain, &mut task);
     complete_one(&rt, &domain, &mut one);
     assert!(rt; take_one(&rt, &domain, &mut one));
     assert!(rt; !take_one(&rt, &domain, &mut one));
@@ -156,12 +154,10 @@ fn completion_of_nobody(rt: HostRuntime) -> Result<(), Fail> {
 fn simple_waiter_is_joined(rt: HostRuntime) -> Result<(), Fail> {
     for round in 0..ROUNDS {
         let (domain, mut task) = Domain::with_looks(rt.alloc(), 0)?;
-        let Ok(other) = task.fork(&domain, 0) else {
-            panic!(rt; "numbers are spare")
-        };
+        let other = another(&rt, &domain, &mut task);
         let (mut task, waited) = meet_simply(&rt, &domain, task, other, round % 2 == 0);
         assert!(rt; waited.1);
-        assert_eq!(rt; swake_and_join(&rt, &domain, &mut task, waited.0), 0);
+        assert!(rt; swake_and_join(&rt, &domain, &mut task, waited.0) == 0);
     }
     Ok(())
 }
@@ -171,9 +167,7 @@ fn simple_waiter_is_joined(rt: HostRuntime) -> Result<(), Fail> {
 fn waiter_for_one_is_joined(rt: HostRuntime) -> Result<(), Fail> {
     for _round in 0..ROUNDS {
         let (domain, mut task) = Domain::with_looks(rt.alloc(), 0)?;
-        let Ok(other) = task.fork(&domain, 0) else {
-            panic!(rt; "numbers are spare")
-        };
+        let other = another(&rt, &domain, &mut task);
         let (mut task, waited) = meet(&rt, &domain, task, other);
         assert!(rt; waited.1);
         assert!(rt; !take_one(&rt, &domain, &mut task));

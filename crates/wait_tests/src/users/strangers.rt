@@ -7,6 +7,7 @@ ghost use Rattle.wait_model.specs.declared.watches.Watch.TheVariants as watch;
 ghost use Rattle.bit_wait.specs.Holders.{IsHolder};
 ghost use Rattle.wait_rule.specs.Says.{IsClean};
 
+use crate::wants::another;
 use std::sync::Wait;
 use std::test::Fail;
 use std::thread;
@@ -154,17 +155,15 @@ fn meet_all<R: Threads + Wait + Sync>(
 fn strangers_on_one_head(rt: HostRuntime) -> Result<(), Fail> {
     for _round in 0..ROUNDS {
         let (domain, mut task) = Domain::with_looks(rt.alloc(), 0)?;
-        let (Ok(mut holder), Ok(changer)) = (task.fork(&domain, 0), task.fork(&domain, 0)) else {
-            panic!(rt; "numbers are spare")
-        };
-        let (Ok(waiter), Ok(stranger)) = (task.fork(&domain, 0), task.fork(&domain, 0)) else {
-            panic!(rt; "numbers are spare")
-        };
+        let mut holder = another(&rt, &domain, &mut task);
+        let changer = another(&rt, &domain, &mut task);
+        let waiter = another(&rt, &domain, &mut task);
+        let stranger = another(&rt, &domain, &mut task);
         if !take_bit(&domain, &mut holder) {
             panic!(rt; "the bit is clear")
         }
         let (met, over) = meet_all(&rt, &domain, holder, changer, waiter, stranger);
-        assert_eq!(rt; met.1.1.1, 7);
+        assert!(rt; met.1.1.1 == 7);
         assert!(rt; over.1);
         task.join(&domain, met.0);
         task.join(&domain, met.1.0);
@@ -178,17 +177,15 @@ fn strangers_on_one_head(rt: HostRuntime) -> Result<(), Fail> {
 #[test]
 fn hashed_parts_of_one_task(rt: HostRuntime) -> Result<(), Fail> {
     let (domain, mut task) = Domain::new(rt.alloc())?;
-    let Ok(mut other) = task.fork(&domain, 0) else {
-        panic!(rt; "numbers are spare")
-    };
+    let mut other = another(&rt, &domain, &mut task);
     if !take_bit(&domain, &mut other) {
         panic!(rt; "the bit is clear")
     }
-    assert_eq!(rt; give_bit(&rt, &domain, &mut other), 0);
+    assert!(rt; give_bit(&rt, &domain, &mut other) == 0);
     assert!(rt; wait_until_clear(&rt, &domain, &mut other));
-    assert_eq!(rt; change(&rt, &domain, &mut other, 3), 0);
-    assert_eq!(rt; wait_until_changed(&rt, &domain, &mut other), 3);
-    assert_eq!(rt; count_members(&rt, &domain, &mut other), 0);
+    assert!(rt; change(&rt, &domain, &mut other, 3) == 0);
+    assert!(rt; wait_until_changed(&rt, &domain, &mut other) == 3);
+    assert!(rt; count_members(&rt, &domain, &mut other) == 0);
     task.join(&domain, other);
     Ok(())
 }
@@ -197,13 +194,11 @@ fn hashed_parts_of_one_task(rt: HostRuntime) -> Result<(), Fail> {
 #[test]
 fn bit_is_kept_over_other_calls(rt: HostRuntime) -> Result<(), Fail> {
     let (domain, mut task) = Domain::new(rt.alloc())?;
-    let Ok(mut other) = task.fork(&domain, 0) else {
-        panic!(rt; "numbers are spare")
-    };
+    let mut other = another(&rt, &domain, &mut task);
     let Some(holds) = work_with_bit(&rt, &domain, &mut other) else {
         panic!(rt; "the bit is clear")
     };
-    assert_eq!(rt; holds, 0);
+    assert!(rt; holds == 0);
     task.join(&domain, other);
     Ok(())
 }

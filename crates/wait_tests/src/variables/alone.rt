@@ -3,6 +3,7 @@
 ghost use Rattle.std.specs.Prelude.{◌≡◌};
 ghost use Rattle.wait_rule.specs.Says.{IsClean};
 
+use crate::wants::another;
 use std::sync::Wait;
 use std::test::Fail;
 use var_wait::publishes::publish_var_and_wake;
@@ -63,9 +64,9 @@ fn store_and_wait<R: Wait>(
 fn nobody_is_walked_over(rt: HostRuntime) -> Result<(), Fail> {
     let (domain, mut task) = Domain::new(rt.alloc())?;
     let walked = announce(&rt, &domain, &mut task, 2);
-    assert_eq!(rt; walked.holds, 0);
-    assert_eq!(rt; walked.woken, 0);
-    assert_eq!(rt; walked.selected, 0);
+    assert!(rt; walked.holds == 0);
+    assert!(rt; walked.woken == 0);
+    assert!(rt; walked.selected == 0);
     assert!(rt; matches!(walked.end, End::End));
     Ok(())
 }
@@ -87,9 +88,7 @@ fn another_value_is_answered(rt: HostRuntime) -> Result<(), Fail> {
 #[test]
 fn signal_is_answered(rt: HostRuntime) -> Result<(), Fail> {
     let (domain, mut task) = Domain::new(rt.alloc())?;
-    let Ok(mut sender) = task.fork(&domain, 0) else {
-        panic!(rt; "numbers are spare")
-    };
+    let mut sender = another(&rt, &domain, &mut task);
     send_signal(&rt, &domain, &mut sender, task.number(), false);
     let end = wait_var(&rt, &domain, &mut task, VAR, 0, SleepState::Interruptible);
     let found = match end {

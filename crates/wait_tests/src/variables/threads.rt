@@ -5,6 +5,7 @@ ghost use Rattle.std.specs.Prelude.{◌≡◌};
 ghost use Rattle.wait_rule.specs.Says.{IsClean};
 
 use crate::variables::alone::{VAR, announce};
+use crate::wants::another;
 use std::sync::Wait;
 use std::test::Fail;
 use std::thread;
@@ -75,9 +76,7 @@ fn meet<R: Threads + Wait + Sync>(
 fn waiter_sees_each_value(rt: HostRuntime) -> Result<(), Fail> {
     for _round in 0..ROUNDS {
         let (domain, mut task) = Domain::with_looks(rt.alloc(), 0)?;
-        let Ok(waiter) = task.fork(&domain, 0) else {
-            panic!(rt; "numbers are spare")
-        };
+        let waiter = another(&rt, &domain, &mut task);
         let (mut task, one) = meet(&rt, &domain, task, waiter);
         assert!(rt; one.1);
         task.join(&domain, one.0);

@@ -6,9 +6,9 @@ ghost use Rattle.wait_tests.specs.EventTasks.{IsReadyToWait, IsWaiting, IsWaker}
 use crate::turns::{go_on, next_number};
 use std::sync::Wait;
 use std::test::Fail;
+use wait_class::stages::Turn;
 use wait_event::conds::set_and_wake;
 use wait_event::wait_events::begin_wait;
-use wait_class::stages::Turn;
 use wait_event::waits::{WaitOutcome, WaitRun, WaitStage, WaitTurn};
 use wait_model::tasks::{How, SleepState};
 use wait_model::watches::Mode;

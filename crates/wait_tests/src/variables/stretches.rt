@@ -3,8 +3,8 @@
 ghost use Rattle.std.specs.Prelude.{◌≡◌};
 ghost use Rattle.wait_tests.specs.EventTasks.{IsReadyToWait, IsWaiting, IsWaker};
 
-use crate::variables::alone::VAR;
 use crate::turns::{go_on, next_number};
+use crate::variables::alone::VAR;
 use std::sync::Wait;
 use std::test::Fail;
 use var_wait::publishes::publish_var_and_wake;

@@ -30,8 +30,9 @@ fn finish(task: &mut CheckedTask) -> Option<Answer> {
 }
 
 fn go_to_end(task: &mut CheckedTask, rousing: &mut Rousing) -> Option<Answer> {
+    let mut passed = None;
     for _ in 0..MOST {
-        match task.advance(rousing) {
+        match task.advance(rousing, &mut passed) {
             Ok(Progress::Done(answer)) => return Some(answer),
             Ok(_) => {}
             Err(_) => return None,
@@ -50,8 +51,9 @@ fn doze(task: &mut CheckedTask) -> bool {
 }
 
 fn go_to_sleep(task: &mut CheckedTask, rousing: &mut Rousing) -> bool {
+    let mut passed = None;
     for _ in 0..MOST {
-        match task.advance(rousing) {
+        match task.advance(rousing, &mut passed) {
             Ok(Progress::Park) => return true,
             Ok(_) => {}
             Err(_) => return false,
@@ -143,7 +145,7 @@ fn wrong_calls_are_refused(rt: HostRuntime) -> Result<(), Fail> {
         task.begin_bit(1, 64, killable).err(),
         Some(Refused::OutOfRange)
     );
-    assert!(rt; matches!(task.advance(&mut rousing), Err(Refused::Nothing)));
+    assert!(rt; matches!(task.advance(&mut rousing, &mut None), Err(Refused::Nothing)));
     assert!(rt; matches!(task.fork(255), Err(NoFork::Numbers)));
     assert!(rt; task.begin_wait(0, SHARED).is_ok());
     assert!(rt; matches!(task.fork(0), Err(NoFork::Busy)));

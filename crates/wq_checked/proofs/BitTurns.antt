@@ -15,8 +15,10 @@ use Rattle.wq_checked.specs.Kept.{IsReady, but_kept}
 use Rattle.wq_checked.specs.Stages.{BitStands, bit_at}
 use Rattle.wq_checked.specs.Calls.{Began, CameFrom, IsSound, IsUnderWay, WentOn}
 use Rattle.wq_checked.specs.Advancing.{bit_left, bit_shown}
+use Rattle.wq_checked.specs.Locks.{awaited_in}
 use Rattle.wq_checked.specs.declared.calls.Running.{Running}
 use Rattle.wq_checked.specs.declared.calls.Running.TheVariants as running
+use Rattle.wq_checked.proofs.Going.{went_refused}
 use Rattle.wq_checked.specs.declared.kept_bits.KeptBits.{KeptBits}
 use Rattle.bit_wait.specs.LockEnds.{HasRested}
 use Rattle.bit_wait.proofs.Events.Endings.{ends_carried}
@@ -74,7 +76,8 @@ tells : (start mid new : Known) (f : BitRun) (from t : BitTurn) (q : BitRun) →
     → HasRested mid new (bit_worn t) → WentOn start (running.Bit f from) new (bit_left q t) (bit_shown q t)
 tells start mid new f from (turn.Again s) q a h = (stayed start mid new f q (turn.Again s) h a, refl)
 tells start mid new f from (turn.Asleep s) q a h = (stayed start mid new f q (turn.Asleep s) h a, refl)
-tells start mid new f from (turn.Locked s) q a h = (stayed start mid new f q (turn.Locked s) h a, refl)
+tells start mid new f from (turn.Locked s) q a h = went_refused start (running.Bit f from) new
+    (running.Bit q (turn.Locked s)) (awaited_in (running.Bit q (turn.Locked s))) (stayed start mid new f q (turn.Locked s) h a) refl
 tells start mid new f from (turn.Done o) q a h = (
   refl,
   record { run = q; outcome = o; last = mid; went = a; rested = h; answers = refl },

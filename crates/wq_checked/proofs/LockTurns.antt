@@ -17,8 +17,10 @@ use Rattle.wq_checked.specs.Kept.{IsReady, but_kept, keeps_in}
 use Rattle.wq_checked.specs.Stages.{LockStands, lock_at}
 use Rattle.wq_checked.specs.Calls.{Began, CameFrom, IsSound, IsUnderWay, WentOn}
 use Rattle.wq_checked.specs.Advancing.{lock_left, lock_shown}
+use Rattle.wq_checked.specs.Locks.{awaited_in}
 use Rattle.wq_checked.specs.declared.calls.Running.{Running}
 use Rattle.wq_checked.specs.declared.calls.Running.TheVariants as running
+use Rattle.wq_checked.proofs.Going.{went_refused}
 use Rattle.wq_checked.specs.declared.kept_bits.KeptBits.{KeptBits}
 use Rattle.bit_wait.specs.LockEnds.{HasRested, end_in, has_taken}
 use Rattle.bit_wait.specs.LockStays.{TakesBit}
@@ -77,7 +79,8 @@ tells : (start mid new : Known) (f : LockRun) (from t : LockTurn) (q : LockRun) 
     → HasRested mid new (lock_worn q t) → WentOn start (running.Lock f from) new (lock_left q t) (lock_shown q t)
 tells start mid new f from (turn.Again s) q a h = (stayed start mid new f q (turn.Again s) h a, refl)
 tells start mid new f from (turn.Asleep s) q a h = (stayed start mid new f q (turn.Asleep s) h a, refl)
-tells start mid new f from (turn.Locked s) q a h = (stayed start mid new f q (turn.Locked s) h a, refl)
+tells start mid new f from (turn.Locked s) q a h = went_refused start (running.Lock f from) new
+    (running.Lock q (turn.Locked s)) (awaited_in (running.Lock q (turn.Locked s))) (stayed start mid new f q (turn.Locked s) h a) refl
 tells start mid new f from (turn.Done o) q a h = (
   refl,
   record { run = q; outcome = o; last = mid; went = a; rested = h; answers = refl },

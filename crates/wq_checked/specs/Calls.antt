@@ -1,6 +1,6 @@
 -- To be believed.
 -- A call that is under way, from its beginning to its answer.
-use Rattle.std.specs.Prelude.{ℕ, ◌≡◌, ◌<◌, ◌^◌, Bool, true, false, None, Result, Ok, Err, []}
+use Rattle.std.specs.Prelude.{ℕ, ◌≡◌, ◌<◌, ◌^◌, Bool, true, false, None, Some, Result, Ok, Err, []}
 use Rattle.wait_model.specs.declared.queues.Walked.{Walked}
 use Rattle.wait_model.specs.declared.tasks.How.{How}
 use Rattle.wait_model.specs.declared.tasks.SleepState.{SleepState}
@@ -71,6 +71,7 @@ use Rattle.wq_head.specs.declared.rousing.Rousing.{Rousing}
 use Rattle.wq_head.specs.declared.wakes.WakeRun.{WakeRun}
 use Rattle.wq_head.specs.declared.wakes.WakeStage.TheVariants as wake_stage
 use Rattle.wq_checked.specs.Kept.{IsReady, but_kept, keeps_in}
+use Rattle.wq_checked.specs.Locks.{awaited_in, refused_in}
 use Rattle.wq_checked.specs.Stages.{EventStands, BitStands, LockStands, PageStands, AwaitStands}
 use Rattle.wq_checked.specs.declared.calls.Answer.{Answer}
 use Rattle.wq_checked.specs.declared.calls.Answer.TheVariants as answer
@@ -174,43 +175,43 @@ Ended start (running.Cell first from) new (answer.Cell hit) = cells.IsOver first
 Ended _ _ _ _ = ⊥
 
 -- what a stretch tells of a call that is not over
-abbrev pub event_told : WaitTurn → Progress
-event_told (event_turn.Locked s) = progress.Locked
-event_told (event_turn.Asleep s) = progress.Park
-event_told _ = progress.Again
+abbrev pub event_told : WaitRun → WaitTurn → Progress
+event_told r (event_turn.Locked s) = refused_in (running.Event r (event_turn.Locked s))
+event_told r (event_turn.Asleep s) = progress.Park
+event_told r _ = progress.Again
 
-abbrev pub bit_told : BitTurn → Progress
-bit_told (bit_turn.Locked s) = progress.Locked
-bit_told (bit_turn.Asleep s) = progress.Park
-bit_told _ = progress.Again
+abbrev pub bit_told : BitRun → BitTurn → Progress
+bit_told r (bit_turn.Locked s) = refused_in (running.Bit r (bit_turn.Locked s))
+bit_told r (bit_turn.Asleep s) = progress.Park
+bit_told r _ = progress.Again
 
-abbrev pub lock_told : LockTurn → Progress
-lock_told (lock_turn.Locked s) = progress.Locked
-lock_told (lock_turn.Asleep s) = progress.Park
-lock_told _ = progress.Again
+abbrev pub lock_told : LockRun → LockTurn → Progress
+lock_told r (lock_turn.Locked s) = refused_in (running.Lock r (lock_turn.Locked s))
+lock_told r (lock_turn.Asleep s) = progress.Park
+lock_told r _ = progress.Again
 
-abbrev pub page_told : PageTurn → Progress
-page_told (page_turn.Locked s) = progress.Locked
-page_told (page_turn.Asleep s) = progress.Park
-page_told _ = progress.Again
+abbrev pub page_told : PageRun → PageTurn → Progress
+page_told r (page_turn.Locked s) = refused_in (running.Page r (page_turn.Locked s))
+page_told r (page_turn.Asleep s) = progress.Park
+page_told r _ = progress.Again
 
-abbrev pub await_told : AwaitTurn → Progress
-await_told (await_turn.Locked s) = progress.Locked
-await_told (await_turn.Asleep s) = progress.Park
-await_told _ = progress.Again
+abbrev pub await_told : AwaitRun → AwaitTurn → Progress
+await_told r (await_turn.Locked s) = refused_in (running.Await r (await_turn.Locked s))
+await_told r (await_turn.Asleep s) = progress.Park
+await_told r _ = progress.Again
 
 -- What it tells fits where the call stands: a wake waits for its lock where a ticket is drawn, and goes on at once
--- behind a break; a call of one hold waits for its lock.
+-- behind a break; a call of one hold waits for its lock. Where it waits for a lock it tells which.
 abbrev pub Fits : Running → Progress → Type 0
-Fits (running.Event run last) p = p ≡ event_told last
-Fits (running.Bit run last) p = p ≡ bit_told last
-Fits (running.Lock run last) p = p ≡ lock_told last
-Fits (running.Page run last) p = p ≡ page_told last
-Fits (running.Await run last) p = p ≡ await_told last
+Fits (running.Event run last) p = p ≡ event_told run last
+Fits (running.Bit run last) p = p ≡ bit_told run last
+Fits (running.Lock run last) p = p ≡ lock_told run last
+Fits (running.Page run last) p = p ≡ page_told run last
+Fits (running.Await run last) p = p ≡ await_told run last
 Fits (running.Wake run last) progress.Again = Unit {0}
-Fits (running.Wake run last) progress.Locked = Unit {0}
-Fits (running.Swake run last) progress.Locked = Unit {0}
-Fits (running.Cell run last) progress.Locked = Unit {0}
+Fits (running.Wake run last) (progress.Locked a) = awaited_in (running.Wake run last) ≡ Some a
+Fits (running.Swake run last) (progress.Locked a) = awaited_in (running.Swake run last) ≡ Some a
+Fits (running.Cell run last) (progress.Locked a) = awaited_in (running.Cell run last) ≡ Some a
 Fits _ _ = ⊥
 
 -- An advance of the call: it is over, with this answer, and no call is under way; or a wake was starved; or it has come

@@ -23,6 +23,7 @@ use crate::await_turns::await_on;
 use crate::calls::{Answer, Progress, Running};
 use crate::cells::cell_on;
 use crate::kept_bits::KeptBits;
+use crate::locks::refused;
 use crate::simple_wakes::swake_on;
 use crate::stretches::{bit_turn, event_turn, lock_turn, page_turn};
 use bit_wait::lock_waits::{LockOutcome, LockRun, LockTurn};
@@ -57,7 +58,7 @@ fn event_leaves(run: WaitRun, turn: WaitTurn) -> (Running, Progress)
 {
     match turn {
         WaitTurn::Again(_) => (Running::Event(run, turn), Progress::Again),
-        WaitTurn::Locked(_) => (Running::Event(run, turn), Progress::Locked),
+        WaitTurn::Locked(_) => refused(Running::Event(run, turn)),
         WaitTurn::Asleep(_) => (Running::Event(run, turn), Progress::Park),
         WaitTurn::Done(outcome) => (Running::Idle, Progress::Done(answer_of(run, outcome))),
     }
@@ -116,7 +117,7 @@ fn bit_leaves(run: BitRun, turn: BitTurn) -> (Running, Progress)
 {
     match turn {
         BitTurn::Again(_) => (Running::Bit(run, turn), Progress::Again),
-        BitTurn::Locked(_) => (Running::Bit(run, turn), Progress::Locked),
+        BitTurn::Locked(_) => refused(Running::Bit(run, turn)),
         BitTurn::Asleep(_) => (Running::Bit(run, turn), Progress::Park),
         BitTurn::Done(outcome) => {
             let answer = Answer::Bit(wait_calls::end_of(run, outcome));
@@ -203,7 +204,7 @@ fn lock_leaves(run: LockRun, turn: LockTurn) -> (Running, Progress)
 {
     match turn {
         LockTurn::Again(_) => (Running::Lock(run, turn), Progress::Again),
-        LockTurn::Locked(_) => (Running::Lock(run, turn), Progress::Locked),
+        LockTurn::Locked(_) => refused(Running::Lock(run, turn)),
         LockTurn::Asleep(_) => (Running::Lock(run, turn), Progress::Park),
         LockTurn::Done(outcome) => {
             let answer = Answer::Bit(lock_calls::end_of(run, outcome));
@@ -243,7 +244,7 @@ fn page_leaves(run: PageRun, turn: PageTurn) -> (Running, Progress)
 {
     match turn {
         PageTurn::Again(_) => (Running::Page(run, turn), Progress::Again),
-        PageTurn::Locked(_) => (Running::Page(run, turn), Progress::Locked),
+        PageTurn::Locked(_) => refused(Running::Page(run, turn)),
         PageTurn::Asleep(_) => (Running::Page(run, turn), Progress::Park),
         PageTurn::Done(outcome) => {
             let answer = Answer::Bit(page_calls::end_of(run, outcome));
@@ -278,10 +279,10 @@ pub(crate) fn page_on(
 
 fn wake_leaves(run: WakeRun, turn: WakeTurn) -> (Running, Progress)
     ensures left { result.0 ≡ wake_left run turn }
-    ensures shown { result.1 ≡ wake_shown turn }
+    ensures shown { result.1 ≡ wake_shown run turn }
 {
     match turn {
-        WakeTurn::Locked(next) => (Running::Wake(run, next), Progress::Locked),
+        WakeTurn::Locked(next) => refused(Running::Wake(run, next)),
         WakeTurn::Broken => (Running::Wake(run, WakeStage::Next), Progress::Again),
         WakeTurn::Done(walked) => (Running::Idle, Progress::Done(Answer::Walked(walked))),
         WakeTurn::Starved(_) => (Running::Starved, Progress::Starved),

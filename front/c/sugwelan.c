@@ -23,7 +23,7 @@
 /* How often a thread looks whether its ticket of the lock of a queue is served before others go on with its call; and
  * how often whether they have before it parks. */
 #ifndef SUGWELAN_TRIES
-#define SUGWELAN_TRIES 20
+#define SUGWELAN_TRIES 50
 #endif
 #ifndef SUGWELAN_WATCHES
 #define SUGWELAN_WATCHES 200

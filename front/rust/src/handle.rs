@@ -11,9 +11,9 @@ use std::sync::{Arc, Mutex};
 use std::thread;
 
 /// How often a handle looks whether its ticket of the lock of a queue is served before others go on with its call; and
-/// how often whether they have before it is left to them.
-const TRIES: u32 = 50;
-const WATCHES: u32 = 200;
+/// how often whether they have before it is left to them. With `--cfg sugwelan_parks_at_once`, for tests, never.
+const TRIES: u32 = if cfg!(sugwelan_parks_at_once) { 0 } else { 50 };
+const WATCHES: u32 = if cfg!(sugwelan_parks_at_once) { 0 } else { 200 };
 
 /// A task of the archive. When it is dropped it is given up there; one that keeps a bit stays, with its Domain.
 pub struct Handle {

@@ -496,6 +496,8 @@ static void let_go(struct sugwelan_domain *domain)
         free(task);
     }
     sugwelan_free(domain->home);
+    for (int i = 0; i < SUGWELAN_HEADS; i++)
+        pthread_mutex_destroy(&domain->gates[i].lock);
     pthread_mutex_destroy(&domain->lock);
     free(domain);
 }

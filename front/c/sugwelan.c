@@ -29,6 +29,16 @@
 #define SUGWELAN_WATCHES 200
 #endif
 
+/* With how many calls of others it goes on at most, before it hands that on to the last one's thread. */
+#ifndef SUGWELAN_MOST
+#define SUGWELAN_MOST 64
+#endif
+
+/* For tests: how long a thread is held up that has gone on with another's call, before it says so. */
+#ifndef SUGWELAN_SLOW
+#define SUGWELAN_SLOW 0
+#endif
+
 enum { CACHE_LINE = 64 };
 
 /* What a bell says. */
@@ -67,6 +77,7 @@ struct waiter {
     struct sugwelan_told *told;
     uint32_t number;  /* of the task */
     int32_t answer;   /* of the stretch that has got the lock, ... */
+    bool goes_on;     /* ... and whether its thread is to go on with those behind it, ... */
     atomic_bool over; /* ... once this is so */
 };
 
@@ -252,8 +263,9 @@ static bool look(struct waiter *waiter)
     return waiter->answer != SUGWELAN_LOCKED || waiter->told->ticket != waiter->ticket;
 }
 
-/* Goes on with the first call that waits for a lock: true where the lock was its, and is passed on once more. */
-static bool serve_first(struct sugwelan_domain *domain, struct gate *gate)
+/* Goes on with the first call that waits for a lock: true where the lock was its and is passed on once more, and that is
+ * not handed on to its thread. */
+static bool serve_first(struct sugwelan_domain *domain, struct gate *gate, bool hands_on)
 {
     struct sugwelan_told told;
     pthread_mutex_lock(&gate->lock);
@@ -262,6 +274,8 @@ static bool serve_first(struct sugwelan_domain *domain, struct gate *gate)
         pthread_mutex_unlock(&gate->lock);
         return false;
     }
+    for (int slow = 0; slow < SUGWELAN_SLOW; slow++)
+        relax();
     uint32_t number = first->number;
     int32_t answer = first->answer;
     told.rouse_count = first->told->rouse_count;
@@ -271,25 +285,31 @@ static bool serve_first(struct sugwelan_domain *domain, struct gate *gate)
     if (answer == SUGWELAN_LOCKED) {
         first->ticket = first->told->ticket;
         put(gate, first);
+        hands_on = false;
     } else {
+        first->goes_on = hands_on;
         atomic_store(&first->over, true);
     }
     pthread_mutex_unlock(&gate->lock);
     rouse(domain, &told);
-    if (answer != SUGWELAN_LOCKED && answer != SUGWELAN_PARK)
+    if (hands_on || (answer != SUGWELAN_LOCKED && answer != SUGWELAN_PARK))
         ring(&domain->bells[number]);
-    return true;
+    return !hands_on;
+}
+
+/* Goes on with those calls that wait for a lock that was given back. */
+static void serve(struct sugwelan_domain *domain, struct gate *gate)
+{
+    for (int served = 1; atomic_load(&gate->count) && serve_first(domain, gate, served >= SUGWELAN_MOST); served++)
+        ;
 }
 
 /* What follows a stretch: those are roused whom it woke, and who waits for the lock that it gave back is served. */
 static void follow(struct sugwelan_domain *domain, const struct sugwelan_told *told)
 {
     rouse(domain, told);
-    if (told->passed < SUGWELAN_HEADS) {
-        struct gate *gate = &domain->gates[told->passed];
-        while (atomic_load(&gate->count) && serve_first(domain, gate))
-            ;
-    }
+    if (told->passed < SUGWELAN_HEADS)
+        serve(domain, &domain->gates[told->passed]);
 }
 
 /* Waits until the call has gone on that waits for a lock, and answers what its stretch did. It is among those that wait
@@ -309,8 +329,14 @@ static int32_t await_lock(struct sugwelan_domain *domain, void *handle, uint32_t
     pthread_mutex_unlock(&gate->lock);
     for (int watch = 0; watch < SUGWELAN_WATCHES && !atomic_load(&me.over); watch++)
         relax();
-    while (!atomic_load(&me.over))
+    while (!atomic_load(&me.over)) {
         park(&domain->bells[number]);
+        /* The ring may be of who woke the task behind a stretch that has put it asleep and is not told yet. */
+        pthread_mutex_lock(&gate->lock);
+        pthread_mutex_unlock(&gate->lock);
+    }
+    if (me.goes_on)
+        serve(domain, gate);
     /* Who sleeps now may have been woken since, and the bell's ring be used up. */
     return me.answer == SUGWELAN_PARK ? SUGWELAN_AGAIN : me.answer;
 }

@@ -7,7 +7,8 @@
 #include <stdbool.h>
 #include <time.h>
 
-enum { WORKERS = 8, ROUNDS = 1000, CELL = 1, CONDITION = 2, VARIABLE = 20, WORD = 3, BIT = 4, HOLD_UP = 300000, PAUSE = 1000000 };
+enum { WORKERS = 8, ROUNDS = 1000, TURNS = 10, CELL = 1, CONDITION = 2, VARIABLE = 20, WORD = 3, BIT = 4 };
+enum { HOLD_UP = 300000, PAUSE = 1000000 }; /* nanoseconds */
 
 static long rounds = ROUNDS;
 static struct sugwelan_domain *domain;
@@ -54,12 +55,16 @@ static void set_and_wait(struct worker *me, long round)
     EXPECT(sugwelan_wait_event(me->task, CONDITION, SUGWELAN_INTERRUPTIBLE), 0);
 }
 
+/* A bit is taken and given back as fast as can be, so that who waits for the lock of its queue is put asleep and woken
+ * by others at once. */
 static void take_bit(struct worker *me)
 {
-    EXPECT(sugwelan_wait_on_bit_lock(me->task, WORD, BIT, SUGWELAN_UNINTERRUPTIBLE), 0);
-    EXPECT(atomic_fetch_add(&inside, 1), 0);
-    atomic_fetch_sub(&inside, 1);
-    EXPECT(sugwelan_clear_and_wake_up_bit(me->task, WORD, BIT, NULL), 0);
+    for (int turn = 0; turn < TURNS; turn++) {
+        EXPECT(sugwelan_wait_on_bit_lock(me->task, WORD, BIT, SUGWELAN_UNINTERRUPTIBLE), 0);
+        EXPECT(atomic_fetch_add(&inside, 1), 0);
+        atomic_fetch_sub(&inside, 1);
+        EXPECT(sugwelan_clear_and_wake_up_bit(me->task, WORD, BIT, NULL), 0);
+    }
 }
 
 /* The last of a round tells the others, who wait for its number. */

@@ -9,6 +9,9 @@ use std::ptr::NonNull;
 use std::sync::atomic::{AtomicBool, AtomicI32, AtomicUsize, Ordering::SeqCst};
 use std::sync::{Arc, Mutex};
 
+/// With how many calls of others a thread goes on at most, before it hands that on to the last one's thread.
+const MOST: u32 = if cfg!(sugwelan_parks_at_once) { 2 } else { 64 };
+
 /// A task of the archive, with what its last stretch told. It is used by the handle that it belongs to; while it waits
 /// at a gate, by who has that gate's lock.
 pub struct Seat {
@@ -19,6 +22,10 @@ pub struct Seat {
     answer: AtomicI32,
     /// ... once this is so: it waits at no gate any more.
     over: AtomicBool,
+    /// Whether a thread is parked for it, or about to be; ...
+    blocks: AtomicBool,
+    /// ... and whether that is to go on with those behind it.
+    goes_on: AtomicBool,
 }
 
 // SAFETY: a task may go to another thread between two calls: no thread is noted in what the pointer leads to, and what
@@ -35,6 +42,8 @@ impl Seat {
             told: UnsafeCell::new(Told::new()),
             answer: AtomicI32::new(raw::DONE),
             over: AtomicBool::new(false),
+            blocks: AtomicBool::new(false),
+            goes_on: AtomicBool::new(false),
         }
     }
 
@@ -108,8 +117,9 @@ impl Gate {
         self.count.store(waiters.len(), SeqCst);
     }
 
-    /// Goes on with the first call that waits for the lock: true where the lock was its, and is passed on once more.
-    fn serve_first(&self, rouse: &mut dyn FnMut(&[u8])) -> bool {
+    /// Goes on with the first call that waits for the lock: true where the lock was its and is passed on once more, and
+    /// that is not handed on to its thread. A future can't be handed it: nobody may poll it.
+    fn serve_first(&self, hands_on: bool, rouse: &mut dyn FnMut(&[u8])) -> bool {
         let mut waiters = lock(&self.waiters);
         // SAFETY: the gate is locked.
         let Some(code) = waiters.first().and_then(|first| unsafe { first.look() }) else {
@@ -119,19 +129,21 @@ impl Gate {
         // SAFETY: as before.
         let told = unsafe { seat.told() };
         let (ticket, mut roused) = (told.ticket, told.roused().to_vec());
+        let hands_on = hands_on && code != raw::LOCKED && seat.blocks.load(SeqCst);
+        if hands_on || (code != raw::LOCKED && code != raw::PARK) {
+            roused.push(seat.number);
+        }
         if code == raw::LOCKED {
             self.put(&mut waiters, Waiter { ticket, seat });
         } else {
-            if code != raw::PARK {
-                roused.push(seat.number);
-            }
             self.count.store(waiters.len(), SeqCst);
             seat.answer.store(code, SeqCst);
+            seat.goes_on.store(hands_on, SeqCst);
             seat.over.store(true, SeqCst);
         }
         drop(waiters);
         rouse(&roused);
-        true
+        !hands_on
     }
 }
 
@@ -147,17 +159,20 @@ impl Gates {
     /// on themselves.
     pub fn follow(&self, passed: u32, rouse: &mut dyn FnMut(&[u8])) {
         if let Some(gate) = self.0.get(passed as usize) {
-            while gate.count.load(SeqCst) != 0 && gate.serve_first(rouse) {}
+            let mut served = 1;
+            while gate.count.load(SeqCst) != 0 && gate.serve_first(served >= MOST, rouse) {
+                served += 1;
+            }
         }
     }
 
     /// Lets a call wait for the lock of a queue. It is among those that wait before its last look, so whoever passes the
     /// lock on behind that look finds it there. Where that look has got the lock, it does not wait, and what its stretch
-    /// answered is given.
+    /// answered is given. With `blocks` the thread parks for it.
     ///
     /// # Safety
     /// The seat is its caller's, whose it is no more while it waits.
-    pub unsafe fn wait(&self, seat: &Arc<Seat>) -> Option<i32> {
+    pub unsafe fn wait(&self, seat: &Arc<Seat>, blocks: bool) -> Option<i32> {
         // SAFETY: as the caller keeps to.
         let told = unsafe { seat.told() };
         let (head, ticket) = (told.head, told.ticket);
@@ -165,6 +180,7 @@ impl Gates {
         let mut waiters = lock(&gate.waiters);
         let seat = seat.clone();
         seat.over.store(false, SeqCst);
+        seat.blocks.store(blocks, SeqCst);
         gate.put(
             &mut waiters,
             Waiter {
@@ -181,12 +197,13 @@ impl Gates {
         code
     }
 
-    /// Takes a seat back that waits at the gate of a queue: what the stretch answered that another thread has made.
-    pub fn take_back(&self, head: u32, seat: &Arc<Seat>) -> Option<i32> {
+    /// Takes a seat back that waits at the gate of a queue: what the stretch answered that another thread has made, and
+    /// whether this one is to go on with those behind it.
+    pub fn take_back(&self, head: u32, seat: &Arc<Seat>) -> Option<(i32, bool)> {
         let gate = &self.0[head as usize];
         let mut waiters = lock(&gate.waiters);
         if seat.is_over() {
-            return Some(seat.answer.load(SeqCst));
+            return Some((seat.answer.load(SeqCst), seat.goes_on.load(SeqCst)));
         }
         gate.take(&mut waiters, seat);
         None

@@ -20,6 +20,8 @@ pub struct Handle {
     seat: Arc<Seat>,
     /// The queue for whose lock its call waits: whoever passes that on goes on with it.
     gate: Option<u32>,
+    /// Whether a thread parks where it waits; else a future is polled again.
+    pub blocks: bool,
 }
 
 impl Drop for Handle {
@@ -63,6 +65,7 @@ impl Handle {
         Ok(Handle {
             seat: Arc::new(Seat::new(at, number)),
             gate: None,
+            blocks: true,
         })
     }
 
@@ -100,7 +103,7 @@ impl Handle {
     /// for who is not there. It goes on once its task was roused. After each stretch those are handed to `rouse` whom it
     /// woke.
     pub fn drive(&mut self, gates: &Gates, call: Call, rouse: &mut dyn FnMut(&[u8])) -> Option<Result<(), Error>> {
-        let mut code = match self.take_back(gates) {
+        let mut code = match self.take_back(gates, rouse) {
             Some(code) => code,
             None => self.stretch(gates, &call, rouse),
         };
@@ -117,8 +120,12 @@ impl Handle {
 
     /// Takes the call back that waits at a gate: what the stretch answered that another has made. Who was put asleep by
     /// that may have been woken since, and goes on.
-    fn take_back(&mut self, gates: &Gates) -> Option<i32> {
-        let code = gates.take_back(self.gate.take()?, &self.seat)?;
+    fn take_back(&mut self, gates: &Gates, rouse: &mut dyn FnMut(&[u8])) -> Option<i32> {
+        let head = self.gate.take()?;
+        let (code, goes_on) = gates.take_back(head, &self.seat)?;
+        if goes_on {
+            gates.follow(head, rouse);
+        }
         Some(if code == raw::PARK { raw::AGAIN } else { code })
     }
 
@@ -134,7 +141,7 @@ impl Handle {
             }
         }
         // SAFETY: the seat is this handle's, which uses it no more before it has taken it back.
-        if let Some(code) = unsafe { gates.wait(&self.seat) } {
+        if let Some(code) = unsafe { gates.wait(&self.seat, self.blocks) } {
             rouse(self.told().roused());
             gates.follow(self.told().passed, rouse);
             return Some(code);
@@ -142,7 +149,7 @@ impl Handle {
         self.gate = Some(head);
         for _ in 0..WATCHES {
             if self.seat.is_over() {
-                return self.take_back(gates);
+                return self.take_back(gates, rouse);
             }
             std::hint::spin_loop();
         }

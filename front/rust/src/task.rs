@@ -293,6 +293,11 @@ impl Task {
         }
     }
 
+    /// Whether the thread parks where the task waits, or a future is polled again.
+    pub(crate) fn set_blocks(&mut self, blocks: bool) {
+        self.handle.blocks = blocks;
+    }
+
     /// The value that the last call gave.
     pub(crate) fn value(&self) -> u64 {
         self.handle.told().value

@@ -5,7 +5,7 @@ use Rattle.wq_head.specs.declared.rousing.Rousing.{Rousing}
 use Rattle.wq_checked.specs.Checked.{Checked}
 use Rattle.wq_checked.specs.declared.calls.Progress.TheVariants as progress
 use Rattle.std.specs.Prelude.{Option, Some}
-use Rattle.sugwelan_c.specs.Served.{Further, GivesBack, goes, Names, Replies}
+use Rattle.sugwelan_c.specs.Served.{Further, GivesLock, goes, Names, Replies}
 use Rattle.sugwelan_c.specs.declared.calls.Wanted.TheVariants as wanted
 use Rattle.sugwelan_c.specs.declared.replies.Reply.{Reply}
 use Rattle.sugwelan_c.specs.declared.replies.Reply.TheVariants as reply
@@ -14,7 +14,7 @@ pub one_more : (k : Checked) (r : Reply) (ws : List ℕ) (o : Option ℕ) (betwe
     (before : List ℕ) (given : Option ℕ) (m : Checked) (q : Reply) (named : Rousing) (now : Option ℕ)
     → Further k r ws o between p before given → (p ≡ reply.On progress.Again) × (before ≡ [])
     → Replies (Some wanted.Advance) between m q → Names (Some wanted.Advance) between m q named
-    → GivesBack (Some wanted.Advance) between q given now → Further k r ws o m q (tasks_in named) now
+    → GivesLock (Some wanted.Advance) between q given now → Further k r ws o m q (tasks_in named) now
 one_more k r ws o between p before given m q named now came on replies names gives =
     let again : Further k r ws o between (reply.On progress.Again) before given =
     subst (λ (x : Reply). Further k r ws o between x before given) on.0 came in

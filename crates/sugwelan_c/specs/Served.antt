@@ -230,9 +230,9 @@ Names (Some wanted.Advance) k m (reply.On p) named = Rouses k.running k.task m.t
 Names _ k m r named = tasks_in named ≡ []
 
 -- Which lock an advance gave back, of a call that has given back this one before, or none.
-abbrev pub GivesBack : Option Wanted → Checked → Reply → Option ℕ → Option ℕ → Type 0
-GivesBack (Some wanted.Advance) k (reply.On p) before now = Passes (awaited_in k.running) p before now
-GivesBack _ k r before now = now ≡ before
+abbrev pub GivesLock : Option Wanted → Checked → Reply → Option ℕ → Option ℕ → Type 0
+GivesLock (Some wanted.Advance) k (reply.On p) before now = Passes (awaited_in k.running) p before now
+GivesLock _ k r before now = now ≡ before
 
 -- what a call asks for: by the kind that has its number
 pub record IsAsked (c : Call) (w : Option Wanted) : Type 0 where
@@ -247,7 +247,7 @@ pub data Further (k : Checked) (r : Reply) (ws : List ℕ) (o : Option ℕ) : Ch
     stays : Further k r ws o k r ws o
     goes : (between m : Checked) (q : Reply) (named : Rousing) (before now : Option ℕ)
         → Further k r ws o between (reply.On progress.Again) [] before → Replies (Some wanted.Advance) between m q
-        → Names (Some wanted.Advance) between m q named → GivesBack (Some wanted.Advance) between q before now
+        → Names (Some wanted.Advance) between m q named → GivesLock (Some wanted.Advance) between q before now
         → Further k r ws o m q (tasks_in named) now
 
 -- A call was served: it was asked for this, was replied so, was advanced further, and that is told.
@@ -260,7 +260,7 @@ pub record Serves (k m : Checked) (c : Call) (t : Told) (code : ℤ) : Type 0 wh
   pub named : Rousing
   pub names : Names want k between first named
   pub given : Option ℕ
-  pub gives : GivesBack want k first None given
+  pub gives : GivesLock want k first None given
   pub reply : Reply
   pub rousing : Rousing
   pub passed : Option ℕ

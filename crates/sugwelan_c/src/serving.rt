@@ -2,7 +2,7 @@
 
 ghost use Rattle.std.specs.Prelude.{◌≡◌, true, None, Some, []};
 ghost use Rattle.wq_head.specs.Roused.{tasks_in};
-ghost use Rattle.sugwelan_c.specs.Served.{Further, GivesBack, IsAsked, Names, Replies, Serves};
+ghost use Rattle.sugwelan_c.specs.Served.{Further, GivesLock, IsAsked, Names, Replies, Serves};
 ghost use Rattle.wq_checked.specs.declared.calls.Progress.TheVariants as progress;
 ghost use Rattle.sugwelan_c.specs.declared.calls.AtOnce.TheVariants as at_once;
 ghost use Rattle.sugwelan_c.specs.declared.calls.Simple.TheVariants as simple;
@@ -286,7 +286,7 @@ fn do_at_once(task: &mut CheckedTask, at_once: AtOnce) -> Reply
 fn go_on(task: &mut CheckedTask, rousing: &mut Rousing, passed: &mut Option<u16>) -> Reply
     ensures replies { Replies (Some wanted.Advance) task.old task.new result }
     ensures names { Names (Some wanted.Advance) task.old task.new result rousing.new }
-    ensures gives { GivesBack (Some wanted.Advance) task.old result passed.old passed.new }
+    ensures gives { GivesLock (Some wanted.Advance) task.old result passed.old passed.new }
 {
     match task.advance(rousing, passed) {
         Ok(told) => Reply::On(told),
@@ -303,7 +303,7 @@ fn reply_to(
 ) -> Reply
     ensures replies { Replies want task.old task.new result }
     ensures names { tasks_in rousing.old ≡ [] → Names want task.old task.new result rousing.new }
-    ensures gives { GivesBack want task.old result passed.old passed.new }
+    ensures gives { GivesLock want task.old result passed.old passed.new }
 {
     match want {
         None => Reply::Refused(Refused::OutOfRange),

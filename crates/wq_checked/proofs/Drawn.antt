@@ -1,10 +1,7 @@
 -- A call that tells of a lock has its ticket out.
-use Rattle.std.proofs.Common.{◌≡◌, ◌∙◌, refl, subst, sym, ap}
-use Rattle.std.specs.Prelude.{ℕ, Option, Some, None}
-use Rattle.wait_model.specs.Watches.{head_of}
-use Rattle.wait_model.specs.declared.watches.Watch.{Watch}
+use Rattle.std.proofs.Common.{◌≡◌, subst, sym, ap}
+use Rattle.std.specs.Prelude.{Option, Some, None}
 use Rattle.wait_rule.specs.Known.{Known}
-use Rattle.wait_rule.specs.Items.{Book}
 use Rattle.wait_rule.specs.Tickets.{drawn}
 use Rattle.wait_event.specs.Waits as events
 use Rattle.wait_event.specs.declared.waits.WaitRun.{WaitRun}

@@ -10,8 +10,6 @@ use Rattle.wait_event.specs.declared.waits.WaitTurn.TheVariants as event_turn
 use Rattle.bit_wait.specs.declared.waits.BitRun.{BitRun}
 use Rattle.bit_wait.specs.declared.waits.BitTurn.{BitTurn}
 use Rattle.bit_wait.specs.declared.waits.BitTurn.TheVariants as bit_turn
-use Rattle.bit_wait.specs.declared.waits.BitOutcome.{BitOutcome}
-use Rattle.bit_wait.specs.declared.waits.BitOutcome.TheVariants as bit_outcome
 use Rattle.bit_wait.specs.declared.lock_waits.LockRun.{LockRun}
 use Rattle.bit_wait.specs.declared.lock_waits.LockTurn.{LockTurn}
 use Rattle.bit_wait.specs.declared.lock_waits.LockTurn.TheVariants as lock_turn
@@ -39,7 +37,7 @@ use Rattle.wq_head.specs.declared.wakes.WakeStage.TheVariants as wake_stage
 use Rattle.wq_head.specs.declared.wakes.WakeTurn.{WakeTurn}
 use Rattle.wq_head.specs.declared.wakes.WakeTurn.TheVariants as wake_turn
 use Rattle.wq_checked.specs.Calls.{event_answer, event_told, bit_told, lock_told, page_told, await_told, is_worn}
-use Rattle.wq_checked.specs.Locks.{refused_in}
+use Rattle.wq_checked.specs.Locks.{refusal_told}
 use Rattle.wq_checked.specs.declared.calls.Answer.TheVariants as answer
 use Rattle.wq_checked.specs.declared.calls.Progress.{Progress}
 use Rattle.wq_checked.specs.declared.calls.Progress.TheVariants as progress
@@ -85,7 +83,7 @@ wake_left r (wake_turn.Done w) = running.Idle
 wake_left r (wake_turn.Starved n) = running.Starved
 
 abbrev pub wake_shown : WakeRun → WakeTurn → Progress
-wake_shown r (wake_turn.Locked s) = refused_in (running.Wake r s)
+wake_shown r (wake_turn.Locked s) = refusal_told (running.Wake r s)
 wake_shown r wake_turn.Broken = progress.Again
 wake_shown r (wake_turn.Done w) = progress.Done (answer.Walked w)
 wake_shown r (wake_turn.Starved n) = progress.Starved
@@ -104,7 +102,7 @@ swake_left r (swake_turn.Done n) = running.Idle
 swake_left r (swake_turn.Starved n) = running.Starved
 
 abbrev pub swake_shown : SwakeRun → SwakeTurn → Progress
-swake_shown r swake_turn.Locked = refused_in (running.Swake r swake_stage.Turn)
+swake_shown r swake_turn.Locked = refusal_told (running.Swake r swake_stage.Turn)
 swake_shown r (swake_turn.Done n) = progress.Done (answer.Selected n)
 swake_shown r (swake_turn.Starved n) = progress.Starved
 
@@ -114,7 +112,7 @@ cell_left r (cell_turn.Done hit) = running.Idle
 cell_left r (cell_turn.Starved n) = running.Starved
 
 abbrev pub cell_shown : CellRun → CellTurn → Progress
-cell_shown r cell_turn.Locked = refused_in (running.Cell r cell_stage.Turn)
+cell_shown r cell_turn.Locked = refusal_told (running.Cell r cell_stage.Turn)
 cell_shown r (cell_turn.Done hit) = progress.Done (answer.Cell hit)
 cell_shown r (cell_turn.Starved n) = progress.Starved
 

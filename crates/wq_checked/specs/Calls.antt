@@ -1,7 +1,6 @@
 -- To be believed.
 -- A call that is under way, from its beginning to its answer.
-use Rattle.std.specs.Prelude.{ℕ, ◌≡◌, ◌<◌, ◌^◌, Bool, true, false, None, Some, Result, Ok, Err, []}
-use Rattle.wait_model.specs.declared.queues.Walked.{Walked}
+use Rattle.std.specs.Prelude.{ℕ, ◌≡◌, ◌<◌, ◌^◌, Bool, true, false, None, Some, Result, []}
 use Rattle.wait_model.specs.declared.tasks.How.{How}
 use Rattle.wait_model.specs.declared.tasks.SleepState.{SleepState}
 use Rattle.wait_model.specs.declared.steps.Step.TheVariants as step
@@ -71,7 +70,7 @@ use Rattle.wq_head.specs.declared.rousing.Rousing.{Rousing}
 use Rattle.wq_head.specs.declared.wakes.WakeRun.{WakeRun}
 use Rattle.wq_head.specs.declared.wakes.WakeStage.TheVariants as wake_stage
 use Rattle.wq_checked.specs.Kept.{IsReady, but_kept, keeps_in}
-use Rattle.wq_checked.specs.Locks.{awaited_in, refused_in}
+use Rattle.wq_checked.specs.Locks.{awaited_in, refusal_told}
 use Rattle.wq_checked.specs.Stages.{EventStands, BitStands, LockStands, PageStands, AwaitStands}
 use Rattle.wq_checked.specs.declared.calls.Answer.{Answer}
 use Rattle.wq_checked.specs.declared.calls.Answer.TheVariants as answer
@@ -176,27 +175,27 @@ Ended _ _ _ _ = ⊥
 
 -- what a stretch tells of a call that is not over
 abbrev pub event_told : WaitRun → WaitTurn → Progress
-event_told r (event_turn.Locked s) = refused_in (running.Event r (event_turn.Locked s))
+event_told r (event_turn.Locked s) = refusal_told (running.Event r (event_turn.Locked s))
 event_told r (event_turn.Asleep s) = progress.Park
 event_told r _ = progress.Again
 
 abbrev pub bit_told : BitRun → BitTurn → Progress
-bit_told r (bit_turn.Locked s) = refused_in (running.Bit r (bit_turn.Locked s))
+bit_told r (bit_turn.Locked s) = refusal_told (running.Bit r (bit_turn.Locked s))
 bit_told r (bit_turn.Asleep s) = progress.Park
 bit_told r _ = progress.Again
 
 abbrev pub lock_told : LockRun → LockTurn → Progress
-lock_told r (lock_turn.Locked s) = refused_in (running.Lock r (lock_turn.Locked s))
+lock_told r (lock_turn.Locked s) = refusal_told (running.Lock r (lock_turn.Locked s))
 lock_told r (lock_turn.Asleep s) = progress.Park
 lock_told r _ = progress.Again
 
 abbrev pub page_told : PageRun → PageTurn → Progress
-page_told r (page_turn.Locked s) = refused_in (running.Page r (page_turn.Locked s))
+page_told r (page_turn.Locked s) = refusal_told (running.Page r (page_turn.Locked s))
 page_told r (page_turn.Asleep s) = progress.Park
 page_told r _ = progress.Again
 
 abbrev pub await_told : AwaitRun → AwaitTurn → Progress
-await_told r (await_turn.Locked s) = refused_in (running.Await r (await_turn.Locked s))
+await_told r (await_turn.Locked s) = refusal_told (running.Await r (await_turn.Locked s))
 await_told r (await_turn.Asleep s) = progress.Park
 await_told r _ = progress.Again
 

@@ -57,8 +57,8 @@ abbrev pub refused_with : Option Awaited → Progress
 refused_with (Some a) = progress.Locked a
 refused_with None = progress.Again
 
-abbrev pub refused_in : Running → Progress
-refused_in r = refused_with (awaited_in r)
+abbrev pub refusal_told : Running → Progress
+refusal_told r = refused_with (awaited_in r)
 
 -- The task has drawn the ticket of the head that is told, and waits until it is served.
 abbrev pub IsDrawn : Known → Progress → Type 0

@@ -7,7 +7,7 @@ ghost use Rattle.completion_cell.specs.Awaits as awaits;
 ghost use Rattle.page_lock.specs.PageWaits as pages;
 ghost use Rattle.wait_event.specs.Waits as events;
 ghost use Rattle.wait_model.specs.declared.watches.Watch.TheVariants as watch;
-ghost use Rattle.wq_checked.specs.Locks.{Passes, awaited_in, lock_with, refused_in, wake_ticket};
+ghost use Rattle.wq_checked.specs.Locks.{Passes, awaited_in, lock_with, refusal_told, wake_ticket};
 
 use crate::calls::{Awaited, Progress, Running};
 use bit_wait::lock_waits::{LockStage, LockTurn};
@@ -145,7 +145,7 @@ pub(crate) fn awaited(running: Running) -> Option<Awaited>
 /// A call whose stretch was refused its lock.
 pub(crate) fn refused(next: Running) -> (Running, Progress)
     ensures left { result.0 ≡ next }
-    ensures shown { result.1 ≡ refused_in next }
+    ensures shown { result.1 ≡ refusal_told next }
 {
     match awaited(next) {
         Some(lock) => (next, Progress::Locked(lock)),

@@ -1,5 +1,5 @@
 use Rattle.std.proofs.Common.{rules, ◌≡◌, subst}
-use Rattle.std.specs.Prelude.{ℕ, None, Option}
+use Rattle.std.specs.Prelude.{None, Option}
 use Rattle.wq_checked.specs.Checked.{Checked}
 use Rattle.wq_checked.specs.Locks.{Passes, awaited_in}
 use Rattle.wq_checked.specs.Reasons.{stopped_reason}

@@ -35,7 +35,7 @@ placed() {
 rustc -O --edition 2024 --crate-type cdylib -o "$made/pin.so" bench/pin.rs
 build_c -o "$made/c_front"
 build_c -DSUGWELAN_LOOKS=400 -o "$made/c_looks"
-build_rust front
+build_rust front . "$made/rust_front"
 measure "in C, both threads on processor $one" placed "$one" "$made/c_front" trips
 measure "in C, on processors $one and $other" placed "$other" "$made/c_front" trips
 measure "in C, on processors $one and $other, 400 looks before a thread parks" placed "$other" "$made/c_looks" trips

@@ -1,6 +1,6 @@
 /* Calls about one thing by many threads at once: by the library for C, and by what the C library has. It writes `WHO
  * NAME COUNT NANOSECONDS` for each round of each kind: nanoseconds of the clock for so many pairs of calls of all
- * threads together. The number of threads is given. */
+ * threads together. The number of threads is given, and for one kind alone its WHO and NAME. */
 #ifndef _GNU_SOURCE
 #define _GNU_SOURCE
 #endif
@@ -9,9 +9,10 @@
 #include <semaphore.h>
 #include <stdio.h>
 #include <stdlib.h>
+#include <string.h>
 #include <time.h>
 
-enum { ROUNDS = 10, PAIRS = 5000, MOST = 64, CELL = 1, CONDITION = 2, WORD = 3, BIT = 4, PAGE = 5 };
+enum { ROUNDS = 10, PAIRS = 5000, MOST = 64, CELL = 1, CONDITION = 2, WORD = 3, BIT = 4, PAGE = 5, HELD = 6, WORK = 500 };
 
 static int threads;
 static pthread_barrier_t starts, ends;
@@ -95,6 +96,28 @@ static void pthread_locks(struct sugwelan_task *task)
     pthread_mutex_unlock(&mutex);
 }
 
+/* What a thread does while it keeps a lock that others want. */
+static void work(void)
+{
+    for (volatile int step = 0; step < WORK; step++)
+        ;
+}
+
+static void sugwelan_held(struct sugwelan_task *task)
+{
+    must(sugwelan_wait_on_bit_lock(task, HELD, BIT, SUGWELAN_UNINTERRUPTIBLE));
+    work();
+    must(sugwelan_clear_and_wake_up_bit(task, HELD, BIT, NULL));
+}
+
+static void pthread_held(struct sugwelan_task *task)
+{
+    (void)task;
+    pthread_mutex_lock(&mutex);
+    work();
+    pthread_mutex_unlock(&mutex);
+}
+
 /* The kinds, each by all who can it. */
 static const struct kind {
     const char *who, *name;
@@ -104,10 +127,19 @@ static const struct kind {
     {"pthread", "completion", pthread_completion},   {"sugwelan", "condition", sugwelan_condition},
     {"pthread", "condition", pthread_condition},     {"sugwelan", "bit", sugwelan_bit},
     {"pthread", "bit", pthread_locks},               {"sugwelan", "page", sugwelan_page},
-    {"pthread", "page", pthread_locks},
+    {"pthread", "page", pthread_locks},              {"sugwelan", "held", sugwelan_held},
+    {"pthread", "held", pthread_held},
 };
 
 enum { KINDS = sizeof kinds / sizeof *kinds };
+
+/* Of which kind alone rounds are made. */
+static const char *only_who, *only_name;
+
+static int is_wanted(const struct kind *kind)
+{
+    return !only_name || (!strcmp(only_who, kind->who) && !strcmp(only_name, kind->name));
+}
 
 static long nanoseconds(void)
 {
@@ -130,6 +162,8 @@ static void *works(void *self)
     struct worker *me = self;
     for (int round = 0; round < ROUNDS; round++)
         for (int kind = 0; kind < KINDS; kind++) {
+            if (!is_wanted(&kinds[kind]))
+                continue;
             pthread_barrier_wait(&starts);
             me->begun = nanoseconds();
             for (int i = 0; i < PAIRS; i++)
@@ -154,8 +188,12 @@ static long passed(void)
 int main(int count, char **words)
 {
     threads = count > 1 ? atoi(words[1]) : 4;
-    if (threads < 1 || threads > MOST)
+    if (threads < 1 || threads > MOST || count == 3)
         return 2;
+    if (count > 3) {
+        only_who = words[2];
+        only_name = words[3];
+    }
     must(sugwelan_task_new(&workers[0].task));
     for (int i = 1; i < threads; i++)
         must(sugwelan_task_fork(workers[0].task, &workers[i].task));
@@ -166,6 +204,8 @@ int main(int count, char **words)
         must(pthread_create(&workers[i].thread, NULL, works, &workers[i]));
     for (int round = 0; round < ROUNDS; round++)
         for (int kind = 0; kind < KINDS; kind++) {
+            if (!is_wanted(&kinds[kind]))
+                continue;
             pthread_barrier_wait(&starts);
             pthread_barrier_wait(&ends);
             printf("%s %s %d %ld\n", kinds[kind].who, kinds[kind].name, PAIRS * threads, passed());

@@ -13,10 +13,21 @@ const CELL: Completion = Completion::new(1);
 const CONDITION: u8 = 2;
 const BIT: Bit = Bit::new(3, 4);
 const PAGE: Page = Page::new(5);
+const HELD: Bit = Bit::new(6, 4);
+const WORK: u32 = 500;
+
+/// What a thread does while it keeps a lock that others want.
+fn work() {
+    (0..WORK).for_each(|step| {
+        std::hint::black_box(step);
+    });
+}
 
 /// A number under a lock, with a condition variable.
 trait Counted: Default + Sync {
     fn add(&self);
+    /// Works under the lock.
+    fn hold(&self);
     /// Gives one permit, and takes one.
     fn give_and_take(&self);
     /// Sets it, and waits until it is set.
@@ -29,6 +40,11 @@ struct ByStd(Mutex<u64>, Condvar);
 impl Counted for ByStd {
     fn add(&self) {
         *self.0.lock().unwrap() += 1;
+    }
+
+    fn hold(&self) {
+        let _count = self.0.lock().unwrap();
+        work();
     }
 
     fn give_and_take(&self) {
@@ -66,6 +82,11 @@ impl ByParkingLot {
 impl Counted for ByParkingLot {
     fn add(&self) {
         *self.0.lock() += 1;
+    }
+
+    fn hold(&self) {
+        let _count = self.0.lock();
+        work();
     }
 
     fn give_and_take(&self) {
@@ -115,6 +136,11 @@ fn library(domain: &Domain, tasks: &mut [Task]) {
     let (bit, page) = (domain.mutex(BIT, 0), domain.fair_mutex(PAGE, 0));
     time("sugwelan", "bit", tasks, |task| *bit.lock(task, PLAIN).unwrap() += 1);
     time("sugwelan", "page", tasks, |task| *page.lock(task, PLAIN).unwrap() += 1);
+    let held = domain.mutex(HELD, 0);
+    time("sugwelan", "held", tasks, |task| {
+        let _count = held.lock(task, PLAIN).unwrap();
+        work();
+    });
 }
 
 fn plain<C: Counted>(who: &str, tasks: &mut [Task]) {
@@ -123,6 +149,7 @@ fn plain<C: Counted>(who: &str, tasks: &mut [Task]) {
     time(who, "condition", tasks, |_| condition.set_and_wait());
     time(who, "bit", tasks, |_| lock.add());
     time(who, "page", tasks, |_| lock.add());
+    time(who, "held", tasks, |_| lock.hold());
 }
 
 fn main() {

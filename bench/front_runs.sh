@@ -1,13 +1,14 @@
-# For front.sh and front_contended.sh: builds programs, makes runs of them, and writes what came out. The variables made,
-# a folder, and archives, the folder of the archive, are set before.
+# For front.sh and front_contended.sh: builds programs, makes runs of them, and writes what came out. The variable made,
+# a folder, is set before.
 
-# A program in Rust, bench/NAME.rs, with parking_lot where it can be had: NAME.
+# A program in Rust, bench/NAME.rs, over the library of a clone, with parking_lot where it can be had: NAME CLONE PROGRAM.
 build_rust() {
-    local name=$1 registry=/usr/share/cargo/registry features=()
-    rm -rf "$made/rust"
-    mkdir -p "$made/rust/src" "$made/rust/.cargo"
-    cp "bench/$name.rs" "$made/rust/src/main.rs"
-    cat >"$made/rust/Cargo.toml" <<-END
+    local name=$1 clone registry=/usr/share/cargo/registry features=()
+    clone=$(cd -- "$2" && pwd)
+    rm -rf "$made/crate"
+    mkdir -p "$made/crate/src" "$made/crate/.cargo"
+    cp "bench/$name.rs" "$made/crate/src/main.rs"
+    cat >"$made/crate/Cargo.toml" <<-END
 	[package]
 	name = "front"
 	version = "0.0.0"
@@ -15,17 +16,17 @@ build_rust() {
 	[lints.rust]
 	unexpected_cfgs = "allow"
 	[dependencies]
-	sugwelan = { path = "$PWD/front/rust" }
+	sugwelan = { path = "$clone/front/rust" }
 	END
     if ls -d $registry/parking_lot-0.12.* >/dev/null 2>&1; then
-        printf 'parking_lot = { version = "0.12", optional = true }\n' >>"$made/rust/Cargo.toml"
+        printf 'parking_lot = { version = "0.12", optional = true }\n' >>"$made/crate/Cargo.toml"
         printf '[source.crates-io]\nreplace-with = "debian"\n[source.debian]\ndirectory = "%s"\n' $registry \
-            >"$made/rust/.cargo/config.toml"
+            >"$made/crate/.cargo/config.toml"
         features=(--features parking_lot)
     fi
-    (cd "$made/rust" && SUGWELAN_ARCHIVES=$archives CARGO_TARGET_DIR=$made/target \
+    (cd "$made/crate" && SUGWELAN_ARCHIVES=$clone/front/out CARGO_TARGET_DIR=$made/target \
         cargo build --quiet --release --offline "${features[@]}")
-    cp "$made/target/release/front" "$made/rust_$name"
+    cp "$made/target/release/front" "$3"
 }
 
 # NAME NANOSECONDS, and WHO RATIO for each other kind: of one run of a program.

@@ -7,13 +7,12 @@
 #include <errno.h>
 #include <linux/futex.h>
 #include <pthread.h>
-#include <sched.h>
 #include <stdatomic.h>
 #include <stdbool.h>
 #include <stddef.h>
 #include <stdlib.h>
+#include <string.h>
 #include <sys/syscall.h>
-#include <time.h>
 #include <unistd.h>
 
 /* How often a bell is looked at before its thread parks. */
@@ -21,16 +20,26 @@
 #define SUGWELAN_LOOKS 0
 #endif
 
-/* How often a thread that waits for the lock of a queue tries before it sleeps. */
+/* How often a thread looks whether its ticket of the lock of a queue is served before others go on with its call; and
+ * how often whether they have before it parks. */
 #ifndef SUGWELAN_TRIES
-#define SUGWELAN_TRIES 200
+#define SUGWELAN_TRIES 50
+#endif
+#ifndef SUGWELAN_WATCHES
+#define SUGWELAN_WATCHES 200
 #endif
 
-enum {
-    SPINS = 20,  /* tries to get the lock of a queue before the thread yields */
-    NAP = 50000, /* nanoseconds of a sleep behind SUGWELAN_TRIES of them */
-    CACHE_LINE = 64
-};
+/* With how many calls of others it goes on at most, before it hands that on to the last one's thread. */
+#ifndef SUGWELAN_MOST
+#define SUGWELAN_MOST 64
+#endif
+
+/* For tests: how long a thread is held up that has gone on with another's call, before it says so. */
+#ifndef SUGWELAN_SLOW
+#define SUGWELAN_SLOW 0
+#endif
+
+enum { CACHE_LINE = 64 };
 
 /* What a bell says. */
 enum { QUIET, RUNG, PARKED };
@@ -59,8 +68,29 @@ enum {
     TIES = SIGNAL_TIES + SUGWELAN_TASKS
 };
 
+/* A call that waits for the lock of a queue. Whoever passes the lock on goes on with it, so that nobody waits for a
+ * thread that does not run. */
+struct waiter {
+    struct waiter *next;
+    uint64_t ticket;
+    void *handle;
+    struct sugwelan_told *told;
+    uint32_t number;  /* of the task */
+    int32_t answer;   /* of the stretch that has got the lock, ... */
+    bool goes_on;     /* ... and whether its thread is to go on with those behind it, ... */
+    atomic_bool over; /* ... once this is so */
+};
+
+/* Those that wait for the lock of a queue, by their tickets. */
+struct gate {
+    _Alignas(CACHE_LINE) _Atomic uint32_t count;
+    pthread_mutex_t lock; /* ... of what follows, and of the calls of those that wait */
+    struct waiter *first;
+};
+
 struct sugwelan_domain {
     struct bell bells[SUGWELAN_TASKS];
+    struct gate gates[SUGWELAN_HEADS];
     _Atomic uint32_t users; /* how many tasks are out, and 1 for the Domain until it is freed */
     atomic_bool owned;      /* it was not freed yet */
     pthread_mutex_t lock;   /* ... of what follows */
@@ -82,7 +112,7 @@ struct sugwelan_task {
 
 /* The archive reads and writes as many bytes. */
 _Static_assert(sizeof(struct sugwelan_call) == 24 && offsetof(struct sugwelan_call, value) == 16, "a call");
-_Static_assert(sizeof(struct sugwelan_told) == 800 && offsetof(struct sugwelan_told, rouse) == 28, "what it told");
+_Static_assert(sizeof(struct sugwelan_told) == 824 && offsetof(struct sugwelan_told, rouse) == 52, "what it told");
 
 #ifdef CHECKS_RACES
 void __tsan_acquire(void *at);
@@ -204,43 +234,151 @@ static void rouse(struct sugwelan_domain *domain, const struct sugwelan_told *to
         ring(&domain->bells[told->rouse[i]]);
 }
 
-/* Lets the thread go on that has the lock of the queue. The sleep is a raw one: that of the C library would be a place
- * where the thread can be cancelled, with a number drawn at the queue, behind which all others wait. */
-static void give_way(uint32_t tries)
+static const struct sugwelan_call ADVANCE = {.kind = SUGWELAN_ADVANCE};
+
+static void put(struct gate *gate, struct waiter *waiter)
 {
-    if (tries < SPINS) {
-        relax();
-    } else if (tries < SUGWELAN_TRIES) {
-        sched_yield();
-    } else {
-        struct timespec nap = {.tv_nsec = NAP};
-        syscall(SYS_clock_nanosleep, CLOCK_MONOTONIC, 0, &nap, NULL);
+    struct waiter **place = &gate->first;
+    while (*place && (*place)->ticket < waiter->ticket)
+        place = &(*place)->next;
+    waiter->next = *place;
+    *place = waiter;
+    atomic_fetch_add(&gate->count, 1);
+}
+
+static void take(struct gate *gate, struct waiter *waiter)
+{
+    struct waiter **place = &gate->first;
+    while (*place != waiter)
+        place = &(*place)->next;
+    *place = waiter->next;
+    atomic_fetch_sub(&gate->count, 1);
+}
+
+/* One look whether the ticket is served of a call that waits for a lock: true where it went on by that. */
+static bool look(struct waiter *waiter)
+{
+    waiter->told->rouse_count = 0;
+    waiter->answer = sugwelan_call(waiter->handle, &ADVANCE, waiter->told);
+    return waiter->answer != SUGWELAN_LOCKED || waiter->told->ticket != waiter->ticket;
+}
+
+/* Goes on with the first call that waits for a lock: true where the lock was its and is passed on once more, and that is
+ * not handed on to its thread. */
+static bool serve_first(struct sugwelan_domain *domain, struct gate *gate, bool hands_on)
+{
+    struct sugwelan_told told;
+    pthread_mutex_lock(&gate->lock);
+    struct waiter *first = gate->first;
+    if (!first || !look(first)) {
+        pthread_mutex_unlock(&gate->lock);
+        return false;
     }
+    for (int slow = 0; slow < SUGWELAN_SLOW; slow++)
+        relax();
+    uint32_t number = first->number;
+    int32_t answer = first->answer;
+    told.rouse_count = first->told->rouse_count;
+    memcpy(told.rouse, first->told->rouse, told.rouse_count);
+    first->told->rouse_count = 0;
+    take(gate, first);
+    if (answer == SUGWELAN_LOCKED) {
+        first->ticket = first->told->ticket;
+        put(gate, first);
+        hands_on = false;
+    } else {
+        first->goes_on = hands_on;
+        atomic_store(&first->over, true);
+    }
+    pthread_mutex_unlock(&gate->lock);
+    rouse(domain, &told);
+    if (hands_on || (answer != SUGWELAN_LOCKED && answer != SUGWELAN_PARK))
+        ring(&domain->bells[number]);
+    return !hands_on;
+}
+
+/* Goes on with those calls that wait for a lock that was given back. */
+static void serve(struct sugwelan_domain *domain, struct gate *gate)
+{
+    for (int served = 1; atomic_load(&gate->count) && serve_first(domain, gate, served >= SUGWELAN_MOST); served++)
+        ;
+}
+
+/* What follows a stretch: those are roused whom it woke, and who waits for the lock that it gave back is served. */
+static void follow(struct sugwelan_domain *domain, const struct sugwelan_told *told)
+{
+    rouse(domain, told);
+    if (told->passed < SUGWELAN_HEADS)
+        serve(domain, &domain->gates[told->passed]);
+}
+
+/* Waits until the call has gone on that waits for a lock, and answers what its stretch did. It is among those that wait
+ * before its last look, so whoever passes the lock on behind that look finds it there. */
+static int32_t await_lock(struct sugwelan_domain *domain, void *handle, uint32_t number, struct sugwelan_told *told)
+{
+    struct gate *gate = &domain->gates[told->head];
+    struct waiter me = {.ticket = told->ticket, .handle = handle, .told = told, .number = number};
+    pthread_mutex_lock(&gate->lock);
+    put(gate, &me);
+    if (look(&me)) {
+        take(gate, &me);
+        pthread_mutex_unlock(&gate->lock);
+        follow(domain, told);
+        return me.answer;
+    }
+    pthread_mutex_unlock(&gate->lock);
+    for (int watch = 0; watch < SUGWELAN_WATCHES && !atomic_load(&me.over); watch++)
+        relax();
+    while (!atomic_load(&me.over)) {
+        park(&domain->bells[number]);
+        /* The ring may be of who woke the task behind a stretch that has put it asleep and is not told yet. */
+        pthread_mutex_lock(&gate->lock);
+        pthread_mutex_unlock(&gate->lock);
+    }
+    if (me.goes_on)
+        serve(domain, gate);
+    /* Who sleeps now may have been woken since, and the bell's ring be used up. */
+    return me.answer == SUGWELAN_PARK ? SUGWELAN_AGAIN : me.answer;
+}
+
+/* Makes a stretch of a call. */
+static int32_t stretch(struct sugwelan_domain *domain, void *handle, const struct sugwelan_call *call,
+                       struct sugwelan_told *told)
+{
+    told->rouse_count = 0;
+    int32_t answer = sugwelan_call(handle, call, told);
+    follow(domain, told);
+    return answer;
+}
+
+/* Goes on with a call that waits for a lock: looks some times whether its ticket is served, and then waits. */
+static int32_t pass_lock(struct sugwelan_domain *domain, void *handle, uint32_t number, struct sugwelan_told *told)
+{
+    uint64_t ticket = told->ticket;
+    for (int look = 0; look < SUGWELAN_TRIES; look++) {
+        relax();
+        int32_t answer = stretch(domain, handle, &ADVANCE, told);
+        if (answer != SUGWELAN_LOCKED || told->ticket != ticket)
+            return answer;
+    }
+    return await_lock(domain, handle, number, told);
 }
 
 /* Makes a call to its end. */
-static int32_t run(struct sugwelan_domain *domain, void *handle, uint32_t number, struct sugwelan_call call,
+static int32_t run(struct sugwelan_domain *domain, void *handle, uint32_t number, const struct sugwelan_call *call,
                    struct sugwelan_told *told)
 {
-    uint32_t tries = 0;
+    int32_t answer = stretch(domain, handle, call, told);
     for (;;) {
-        told->rouse_count = 0;
-        int32_t answer = sugwelan_call(handle, &call, told);
-        rouse(domain, told);
-        call.kind = SUGWELAN_ADVANCE;
-        switch (answer) {
-        case SUGWELAN_AGAIN:
-            break;
-        case SUGWELAN_LOCKED:
-            give_way(tries++);
+        if (answer == SUGWELAN_LOCKED) {
+            answer = pass_lock(domain, handle, number, told);
             continue;
-        case SUGWELAN_PARK:
-            park(&domain->bells[number]);
-            break;
-        default:
-            return answer;
         }
-        tries = 0;
+        if (answer == SUGWELAN_PARK)
+            park(&domain->bells[number]);
+        else if (answer != SUGWELAN_AGAIN)
+            return answer;
+        answer = stretch(domain, handle, &ADVANCE, told);
     }
 }
 
@@ -249,7 +387,7 @@ static int32_t served(struct sugwelan_domain *domain, void *handle, uint32_t num
                       struct sugwelan_told *told)
 {
     enter(domain, number, call);
-    int32_t answer = run(domain, handle, number, *call, told);
+    int32_t answer = run(domain, handle, number, call, told);
     leave(domain, number, call, answer, told);
     return answer;
 }
@@ -384,6 +522,8 @@ static void let_go(struct sugwelan_domain *domain)
         free(task);
     }
     sugwelan_free(domain->home);
+    for (int i = 0; i < SUGWELAN_HEADS; i++)
+        pthread_mutex_destroy(&domain->gates[i].lock);
     pthread_mutex_destroy(&domain->lock);
     free(domain);
 }
@@ -402,6 +542,11 @@ int sugwelan_domain_new(struct sugwelan_domain **out)
     }
     for (int i = 0; i < SUGWELAN_TASKS; i++)
         atomic_init(&domain->bells[i].word, QUIET);
+    for (int i = 0; i < SUGWELAN_HEADS; i++) {
+        atomic_init(&domain->gates[i].count, 0);
+        pthread_mutex_init(&domain->gates[i].lock, NULL);
+        domain->gates[i].first = NULL;
+    }
     atomic_init(&domain->users, 1);
     atomic_init(&domain->owned, true);
     pthread_mutex_init(&domain->lock, NULL);

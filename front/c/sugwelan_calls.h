@@ -24,7 +24,8 @@ enum {
     SUGWELAN_BITS = 64,          /* bits of a word */
     SUGWELAN_PAGES = 128,
     SUGWELAN_VARIABLES = 128,
-    SUGWELAN_FIRST_VARIABLE = 16 /* the first variable that may be published */
+    SUGWELAN_FIRST_VARIABLE = 16, /* the first variable that may be published */
+    SUGWELAN_HEADS = 384         /* queues, each with a lock */
 };
 
 /* How a task sleeps in a wait. */
@@ -60,7 +61,7 @@ enum sugwelan_end {
 enum sugwelan_answer {
     SUGWELAN_DONE = 0,   /* the call is over, and `told` has its result */
     SUGWELAN_AGAIN = 1,  /* advance at once */
-    SUGWELAN_LOCKED = 2, /* it waits for the lock of a queue: advance a little later */
+    SUGWELAN_LOCKED = 2, /* it waits for the lock of a queue: advance once its ticket is served; sooner does no harm */
     SUGWELAN_PARK = 3    /* the task was put asleep: advance once it was roused; sooner does no harm */
 };
 
@@ -113,11 +114,16 @@ enum { SUGWELAN_ROUSED = 768 };
  * are to be roused: they were asleep, and are no more. */
 struct sugwelan_told {
     uint64_t value;    /* of a call that answers a value */
+    uint64_t ticket;   /* of one that waits for a lock: the ticket that it has drawn */
+    uint64_t served;   /* ... and the one that was found served in its place */
     uint32_t woken;    /* of a wake: how many tasks it woke */
     uint32_t selected; /* ... and how many of them by exclusive entries; of a simple queue, how many it took off */
     uint32_t holds;    /* ... how often it held the queue: of a wake for a variable, a bit or a page 0 where nobody was
                         * queued; of one for a condition at least once */
     uint32_t end;      /* ... and one of enum sugwelan_end */
+    uint32_t head;     /* the queue for whose lock it waits, or SUGWELAN_HEADS */
+    uint32_t passed;   /* the queue whose lock it gave back, or SUGWELAN_HEADS: the next ticket of that lock is served now.
+                        * It is told where the call is over, too, and where it waits for the next ticket already */
     uint32_t rouse_count;
     uint8_t rouse[SUGWELAN_ROUSED];
 };

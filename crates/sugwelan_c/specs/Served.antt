@@ -22,6 +22,7 @@ use Rattle.wq_checked.specs.Calls.{BeginsAwait, BeginsBit, BeginsCell, BeginsEve
 use Rattle.wq_checked.specs.Calls.{BeginsSwake, BeginsWake, CameFrom, Publishes, Rouses, SetsSimple, WentOn}
 use Rattle.wq_checked.specs.Checked.{Checked}
 use Rattle.wq_checked.specs.Kept.{keeps_in}
+use Rattle.wq_checked.specs.Locks.{IsDrawn, Passes, awaited_in}
 use Rattle.wq_checked.specs.Reasons.{IsKeeperReason, IsReason, IsSimpleReason, IsTakerReason, busy_reason}
 use Rattle.wq_checked.specs.Reasons.{stopped_reason}
 use Rattle.wq_checked.specs.Signals.{Raises, raising_left}
@@ -205,7 +206,7 @@ GoesOn k m p = (start : Known) (first : Running) → CameFrom start first k.task
 abbrev pub Replies : Option Wanted → Checked → Checked → Reply → Type 0
 Replies None k m (reply.Refused e) = (e ≡ reason.OutOfRange) × (m ≡ k)
 Replies (Some wanted.Advance) k m (reply.Refused e) = (stopped_reason k.running ≡ Some e) × (m ≡ k)
-Replies (Some wanted.Advance) k m (reply.On p) = (stopped_reason k.running ≡ None) × GoesOn k m p
+Replies (Some wanted.Advance) k m (reply.On p) = (stopped_reason k.running ≡ None) × GoesOn k m p × IsDrawn m.task p
 Replies (Some (wanted.Waiting w)) k m (reply.Refused e) = WaitingReason w k e × (m ≡ k)
 Replies (Some (wanted.Waiting w)) k m (reply.On p) = (p ≡ progress.Again) × MayWait w k × Begins w k m
 Replies (Some (wanted.Waking w)) k m (reply.Refused e) = WakingReason w k e × (m ≡ k)
@@ -228,6 +229,11 @@ abbrev pub Names : Option Wanted → Checked → Checked → Reply → Rousing �
 Names (Some wanted.Advance) k m (reply.On p) named = Rouses k.running k.task m.task named
 Names _ k m r named = tasks_in named ≡ []
 
+-- Which lock an advance gave back, of a call that has given back this one before, or none.
+abbrev pub GivesLock : Option Wanted → Checked → Reply → Option ℕ → Option ℕ → Type 0
+GivesLock (Some wanted.Advance) k (reply.On p) before now = Passes (awaited_in k.running) p before now
+GivesLock _ k r before now = now ≡ before
+
 -- what a call asks for: by the kind that has its number
 pub record IsAsked (c : Call) (w : Option Wanted) : Type 0 where
   pub kind : Option Kind
@@ -236,11 +242,13 @@ pub record IsAsked (c : Call) (w : Option Wanted) : Type 0 where
 
 -- Where a call goes on at once and names nobody, it may have been advanced further: as by calls of their own, of which
 -- each but the last one goes on at once and names nobody.
-pub data Further (k : Checked) (r : Reply) (ws : List ℕ) : Checked → Reply → List ℕ → Type 0 where
-  stays : Further k r ws k r ws
-  goes : (between m : Checked) (q : Reply) (named : Rousing)
-      → Further k r ws between (reply.On progress.Again) [] → Replies (Some wanted.Advance) between m q
-      → Names (Some wanted.Advance) between m q named → Further k r ws m q (tasks_in named)
+pub data Further (k : Checked) (r : Reply) (ws : List ℕ) (o : Option ℕ) : Checked → Reply → List ℕ → Option ℕ → Type 0
+  where
+    stays : Further k r ws o k r ws o
+    goes : (between m : Checked) (q : Reply) (named : Rousing) (before now : Option ℕ)
+        → Further k r ws o between (reply.On progress.Again) [] before → Replies (Some wanted.Advance) between m q
+        → Names (Some wanted.Advance) between m q named → GivesLock (Some wanted.Advance) between q before now
+        → Further k r ws o m q (tasks_in named) now
 
 -- A call was served: it was asked for this, was replied so, was advanced further, and that is told.
 pub record Serves (k m : Checked) (c : Call) (t : Told) (code : ℤ) : Type 0 where
@@ -251,8 +259,11 @@ pub record Serves (k m : Checked) (c : Call) (t : Told) (code : ℤ) : Type 0 wh
   pub replies : Replies want k between first
   pub named : Rousing
   pub names : Names want k between first named
+  pub given : Option ℕ
+  pub gives : GivesLock want k first None given
   pub reply : Reply
   pub rousing : Rousing
-  pub further : Further between first (tasks_in named) m reply (tasks_in rousing)
-  pub tells : Tells reply (roused_by reply (tasks_in rousing)) t
+  pub passed : Option ℕ
+  pub further : Further between first (tasks_in named) given m reply (tasks_in rousing) passed
+  pub tells : Tells reply passed (roused_by reply (tasks_in rousing)) t
   pub code_is : code ≡ code_of reply

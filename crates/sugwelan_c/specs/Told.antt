@@ -1,6 +1,6 @@
 -- To be believed.
 -- What C is told of a reply: the code, the value, the walk, and whom to rouse.
-use Rattle.std.specs.Prelude.{◌≡◌, ◌<◌, ◌∷◌, [], ℕ, ℤ, Bool, true, false, Ok, Err, List, length, nat_lt, slice_index, if◌then◌else◌}
+use Rattle.std.specs.Prelude.{◌≡◌, ◌<◌, ◌∷◌, [], ℕ, ℤ, Bool, true, false, Option, Some, None, Ok, Err, List, length, nat_lt, slice_index, if◌then◌else◌}
 use Rattle.bit_wait.specs.declared.wait_calls.BitEnd.{BitEnd}
 use Rattle.bit_wait.specs.declared.wait_calls.BitEnd.TheVariants as bit_end
 use Rattle.wait_event.specs.declared.wait_events.WaitEnd.{WaitEnd}
@@ -8,9 +8,11 @@ use Rattle.wait_event.specs.declared.wait_events.WaitEnd.TheVariants as wait_end
 use Rattle.wait_model.specs.declared.queues.End.{End}
 use Rattle.wait_model.specs.declared.queues.End.TheVariants as end
 use Rattle.wait_model.specs.declared.queues.Walked.{Walked}
+use Rattle.wait_model.specs.declared.layout.TheConstants.{HEADS}
 use Rattle.wq_head.specs.Scanned.{unmade}
 use Rattle.wq_checked.specs.declared.calls.Answer.{Answer}
 use Rattle.wq_checked.specs.declared.calls.Answer.TheVariants as answer
+use Rattle.wq_checked.specs.declared.calls.Awaited.{Awaited}
 use Rattle.wq_checked.specs.declared.calls.Progress.{Progress}
 use Rattle.wq_checked.specs.declared.calls.Progress.TheVariants as progress
 use Rattle.wq_checked.specs.declared.reasons.Refused.{Refused}
@@ -53,7 +55,7 @@ answer_code (answer.Cell b) = DONE
 
 abbrev pub progress_code : Progress → ℤ
 progress_code progress.Again = AGAIN
-progress_code progress.Locked = LOCKED
+progress_code (progress.Locked a) = LOCKED
 progress_code progress.Park = PARK
 progress_code (progress.Done a) = answer_code a
 progress_code progress.Starved = ENOTRECOVERABLE
@@ -80,6 +82,18 @@ walk_of (reply.On (progress.Done (answer.Walked w))) = w
 walk_of (reply.On (progress.Done (answer.Selected n))) = record unmade { selected = n }
 walk_of _ = unmade
 
+-- the lock that a call waits for; and a head, where there is one
+abbrev pub no_lock : Awaited
+no_lock = record { head = HEADS; ticket = 0; served = 0 }
+
+abbrev pub lock_of : Reply → Awaited
+lock_of (reply.On (progress.Locked a)) = a
+lock_of _ = no_lock
+
+abbrev pub head_number : Option ℕ → ℕ
+head_number (Some h) = h
+head_number None = HEADS
+
 -- whom to rouse: those whom an advance names, or one task
 abbrev pub roused_by : Reply → List ℕ → List ℕ
 roused_by (reply.Rouse who) ws = who ∷ []
@@ -99,7 +113,11 @@ pub record Lists (ws : List ℕ) (n : ℕ) (rouse : List ℕ) : Type 0 where
   pub count : n ≡ shown (length ws)
   pub tasks : (i : ℕ) → i < n → slice_index rouse i ≡ slice_index ws i
 
-pub record Tells (r : Reply) (ws : List ℕ) (t : Told) : Type 0 where
+pub record Tells (r : Reply) (passed : Option ℕ) (ws : List ℕ) (t : Told) : Type 0 where
+  pub head : t.head ≡ (lock_of r).head
+  pub ticket : t.ticket ≡ (lock_of r).ticket
+  pub served : t.served ≡ (lock_of r).served
+  pub passes : t.passed ≡ head_number passed
   pub value : t.value ≡ value_of r
   pub woken : t.woken ≡ (walk_of r).woken
   pub selected : t.selected ≡ (walk_of r).selected

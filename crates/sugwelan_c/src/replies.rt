@@ -3,20 +3,20 @@
 ghost use Rattle.std.specs.Prelude.{◌≡◌};
 ghost use Rattle.wq_head.specs.Roused.{tasks_in};
 ghost use Rattle.sugwelan_c.specs.Told.{Lists, Tells, answer_code, bit_code, code_of, end_number, progress_code};
-ghost use Rattle.sugwelan_c.specs.Told.{refusal_code, roused_by, value_of, wait_code, walk_of};
+ghost use Rattle.sugwelan_c.specs.Told.{head_number, lock_of, refusal_code, roused_by, value_of, wait_code, walk_of};
 
 use bit_wait::BitEnd;
 use wait_event::wait_events::WaitEnd;
-use wait_model::layout::MEMBERS;
+use wait_model::layout::{HEADS, MEMBERS};
 use wait_model::queues::{End, Walked};
-use wq_checked::{Answer, Progress, Refused};
+use wq_checked::{Answer, Awaited, Progress, Refused};
 use wq_head::{Rousing, no_walk};
 
 /// The call is over.
 pub const DONE: i32 = 0;
 /// It goes on at once, by the next advance.
 pub const AGAIN: i32 = 1;
-/// It waits for a lock, and goes on a little later.
+/// It waits for a lock, and goes on once its ticket is served.
 pub const LOCKED: i32 = 2;
 /// The task was put asleep, and goes on once it was roused.
 pub const PARK: i32 = 3;
@@ -48,17 +48,22 @@ pub const ENOTRECOVERABLE: i32 = -131;
 /// How many tasks a call names to be roused at most.
 pub const ROOM: usize = MEMBERS as usize;
 
-/// What a call tells beside its code: its value; of a wake, how many it woke, how many of them exclusively, in how many
-/// holds, and how it ended (0 at the end, 1 its count was spent, 2 a function stopped it); and the tasks that are to be
-/// roused.
+/// What a call tells beside its code: its value; of one that waits for a lock, the ticket that it has drawn, the one that
+/// was found served in its place, and the lock's head, which is `HEADS` of another; of a wake, how many it woke, how many
+/// of them exclusively, in how many holds, and how it ended (0 at the end, 1 its count was spent, 2 a function stopped
+/// it); the head whose lock it gave back, or `HEADS`; and the tasks that are to be roused.
 #[repr(C)]
 #[derive(Drop)]
 pub struct Told {
     pub value: u64,
+    pub ticket: u64,
+    pub served: u64,
     pub woken: u32,
     pub selected: u32,
     pub holds: u32,
     pub end: u32,
+    pub head: u32,
+    pub passed: u32,
     pub rouse_count: u32,
     pub rouse: [u8; ROOM],
 }
@@ -126,7 +131,7 @@ fn progress_code(told: Progress) -> i32
 {
     match told {
         Progress::Again => AGAIN,
-        Progress::Locked => LOCKED,
+        Progress::Locked(_) => LOCKED,
         Progress::Park => PARK,
         Progress::Done(answer) => answer_code(answer),
         Progress::Starved => ENOTRECOVERABLE,
@@ -184,6 +189,30 @@ fn end_number(end: End) -> u32
     }
 }
 
+/// The lock that a call waits for.
+fn lock_of(reply: Reply) -> Awaited
+    ensures { result ≡ lock_of reply }
+{
+    match reply {
+        Reply::On(Progress::Locked(lock)) => lock,
+        _ => Awaited {
+            head: HEADS,
+            ticket: 0,
+            served: 0,
+        },
+    }
+}
+
+/// The number of a head, or `HEADS` for none.
+fn head_number(head: Option<u16>) -> u32
+    ensures { result ≡ head_number head }
+{
+    match head {
+        Some(head) => u32::from(head),
+        None => u32::from(HEADS),
+    }
+}
+
 /// Writes the tasks, and answers how many they are.
 fn list_tasks(tasks: &[u8], rouse: &mut [u8; ROOM]) -> u32
     ensures { Lists tasks.now result rouse.new }
@@ -199,10 +228,15 @@ fn list_tasks(tasks: &[u8], rouse: &mut [u8; ROOM]) -> u32
     count as u32
 }
 
-/// Writes what is told of a reply, and the tasks that are to be roused.
-fn tell_with(reply: Reply, tasks: &[u8], told: &mut Told)
-    ensures { Tells reply tasks.now told.new }
+/// Writes what is told of a reply, the head whose lock was given back, and the tasks that are to be roused.
+fn tell_with(reply: Reply, passed: Option<u16>, tasks: &[u8], told: &mut Told)
+    ensures { Tells reply passed tasks.now told.new }
 {
+    let lock = lock_of(reply);
+    told.head = u32::from(lock.head);
+    told.ticket = lock.ticket;
+    told.served = lock.served;
+    told.passed = head_number(passed);
     let walk = walk_of(reply);
     told.value = value_of(reply);
     told.woken = walk.woken;
@@ -212,12 +246,13 @@ fn tell_with(reply: Reply, tasks: &[u8], told: &mut Told)
     told.rouse_count = list_tasks(tasks, &mut told.rouse);
 }
 
-/// Writes what is told of a reply; `rousing` has the tasks that an advance is to rouse.
-pub fn tell(reply: Reply, rousing: &Rousing, told: &mut Told)
-    ensures { Tells reply (roused_by reply (tasks_in rousing.now)) told.new }
+/// Writes what is told of a reply; `passed` has the head whose lock was given back, and `rousing` the tasks that an
+/// advance is to rouse.
+pub fn tell(reply: Reply, passed: Option<u16>, rousing: &Rousing, told: &mut Told)
+    ensures { Tells reply passed (roused_by reply (tasks_in rousing.now)) told.new }
 {
     match reply {
-        Reply::Rouse(who) => tell_with(reply, &[who], told),
-        _ => tell_with(reply, rousing.tasks(), told),
+        Reply::Rouse(who) => tell_with(reply, passed, &[who], told),
+        _ => tell_with(reply, passed, rousing.tasks(), told),
     }
 }

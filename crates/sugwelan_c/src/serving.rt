@@ -2,7 +2,7 @@
 
 ghost use Rattle.std.specs.Prelude.{◌≡◌, true, None, Some, []};
 ghost use Rattle.wq_head.specs.Roused.{tasks_in};
-ghost use Rattle.sugwelan_c.specs.Served.{Further, IsAsked, Names, Replies, Serves};
+ghost use Rattle.sugwelan_c.specs.Served.{Further, GivesLock, IsAsked, Names, Replies, Serves};
 ghost use Rattle.wq_checked.specs.declared.calls.Progress.TheVariants as progress;
 ghost use Rattle.sugwelan_c.specs.declared.calls.AtOnce.TheVariants as at_once;
 ghost use Rattle.sugwelan_c.specs.declared.calls.Simple.TheVariants as simple;
@@ -283,24 +283,31 @@ fn do_at_once(task: &mut CheckedTask, at_once: AtOnce) -> Reply
 }
 
 /// One stretch of the call that is under way.
-fn go_on(task: &mut CheckedTask, rousing: &mut Rousing) -> Reply
+fn go_on(task: &mut CheckedTask, rousing: &mut Rousing, passed: &mut Option<u16>) -> Reply
     ensures replies { Replies (Some wanted.Advance) task.old task.new result }
     ensures names { Names (Some wanted.Advance) task.old task.new result rousing.new }
+    ensures gives { GivesLock (Some wanted.Advance) task.old result passed.old passed.new }
 {
-    match task.advance(rousing) {
+    match task.advance(rousing, passed) {
         Ok(told) => Reply::On(told),
         Err(reason) => Reply::Refused(reason),
     }
 }
 
-/// What is done with a call. An advance names the tasks that are to be roused.
-fn reply_to(task: &mut CheckedTask, want: Option<Wanted>, rousing: &mut Rousing) -> Reply
+/// What is done with a call. An advance names the tasks that are to be roused, and tells the lock that it gave back.
+fn reply_to(
+    task: &mut CheckedTask,
+    want: Option<Wanted>,
+    rousing: &mut Rousing,
+    passed: &mut Option<u16>,
+) -> Reply
     ensures replies { Replies want task.old task.new result }
     ensures names { tasks_in rousing.old ≡ [] → Names want task.old task.new result rousing.new }
+    ensures gives { GivesLock want task.old result passed.old passed.new }
 {
     match want {
         None => Reply::Refused(Refused::OutOfRange),
-        Some(Wanted::Advance) => go_on(task, rousing),
+        Some(Wanted::Advance) => go_on(task, rousing, passed),
         Some(Wanted::Waiting(waiting)) => wait(task, waiting),
         Some(Wanted::Waking(waking)) => wake_for(task, waking),
         Some(Wanted::Simple(simple)) => wake_simply(task, simple),
@@ -320,15 +327,21 @@ fn may_go_on(reply: Reply, rousing: &Rousing) -> bool
 }
 
 /// Goes on with a call, so long as it does so at once and names nobody: by `FURTHER` stretches at most.
-fn go_further(task: &mut CheckedTask, first: Reply, rousing: &mut Rousing) -> Reply
-    ensures { Further task.old first (tasks_in rousing.old) task.new result (tasks_in rousing.new) }
+fn go_further(
+    task: &mut CheckedTask,
+    first: Reply,
+    rousing: &mut Rousing,
+    passed: &mut Option<u16>,
+) -> Reply
+    ensures { Further task.old first (tasks_in rousing.old) passed.old
+        task.new result (tasks_in rousing.new) passed.new }
 {
     let mut reply = first;
     for _stretch in 0..FURTHER {
         if !may_go_on(reply, rousing) {
             return reply;
         }
-        reply = go_on(task, rousing);
+        reply = go_on(task, rousing, passed);
     }
     reply
 }
@@ -339,9 +352,10 @@ pub fn serve(task: &mut CheckedTask, call: &Call, told: &mut Told) -> i32
 {
     let want = asked(call);
     let mut rousing = Rousing::new();
-    let first = reply_to(task, want, &mut rousing);
-    let reply = go_further(task, first, &mut rousing);
-    tell(reply, &rousing, told);
+    let mut passed = None;
+    let first = reply_to(task, want, &mut rousing, &mut passed);
+    let reply = go_further(task, first, &mut rousing, &mut passed);
+    tell(reply, passed, &rousing, told);
     // The caller rouses those that `told` names.
     rousing.hand_on();
     rousing.end();

@@ -33,8 +33,9 @@ fn finish(task: &mut CheckedTask) -> Option<Answer> {
 }
 
 fn go_to_end(task: &mut CheckedTask, rousing: &mut Rousing) -> Option<Answer> {
+    let mut passed = None;
     for _ in 0..MOST {
-        match task.advance(rousing) {
+        match task.advance(rousing, &mut passed) {
             Ok(Progress::Done(answer)) => return Some(answer),
             Ok(_) => {}
             Err(_) => return None,
@@ -53,8 +54,9 @@ fn doze(task: &mut CheckedTask) -> bool {
 }
 
 fn go_to_sleep(task: &mut CheckedTask, rousing: &mut Rousing) -> bool {
+    let mut passed = None;
     for _ in 0..MOST {
-        match task.advance(rousing) {
+        match task.advance(rousing, &mut passed) {
             Ok(Progress::Park) => return true,
             Ok(_) => {}
             Err(_) => return false,
@@ -195,7 +197,7 @@ fn refuse_busy(task: &mut CheckedTask) -> [bool; 4] {
 /// Goes on with no call.
 fn refuses_to_go_on(task: &mut CheckedTask) -> bool {
     let mut rousing = Rousing::new();
-    let refused = matches!(task.advance(&mut rousing), Err(Refused::Nothing));
+    let refused = matches!(task.advance(&mut rousing, &mut None), Err(Refused::Nothing));
     rousing.hand_on();
     rousing.end();
     refused

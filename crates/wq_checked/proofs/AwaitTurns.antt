@@ -16,8 +16,10 @@ use Rattle.wq_checked.specs.Kept.{IsReady, but_kept}
 use Rattle.wq_checked.specs.Stages.{AwaitStands, await_at}
 use Rattle.wq_checked.specs.Calls.{AwaitCame, Began, CameFrom, IsSound, IsUnderWay, WentOn}
 use Rattle.wq_checked.specs.Advancing.{await_left, await_shown}
+use Rattle.wq_checked.specs.Locks.{awaited_in}
 use Rattle.wq_checked.specs.declared.calls.Running.{Running}
 use Rattle.wq_checked.specs.declared.calls.Running.TheVariants as running
+use Rattle.wq_checked.proofs.Going.{went_refused}
 use Rattle.wq_checked.specs.declared.kept_bits.KeptBits.{KeptBits}
 
 -- one stretch more
@@ -78,7 +80,8 @@ tells : (start new : Known) (f : AwaitRun) (from t : AwaitTurn) (q : AwaitRun) â
     â†’ WentOn start (running.Await f from) new (await_left q t) (await_shown q t)
 tells start new f from (turn.Again s) q c = (c, refl)
 tells start new f from (turn.Asleep s) q c = (c, refl)
-tells start new f from (turn.Locked s) q c = (c, refl)
+tells start new f from (turn.Locked s) q c = went_refused start (running.Await f from) new
+    (running.Await q (turn.Locked s)) (awaited_in (running.Await q (turn.Locked s))) c refl
 tells start new f from (turn.Done o) q c = (
   refl,
   record { run = q; outcome = o; went = c.went; off = c.off; answers = refl },

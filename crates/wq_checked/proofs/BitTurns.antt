@@ -19,8 +19,10 @@ use Rattle.wq_checked.proofs.GroundTurns.{joined, stayed}
 use Rattle.wq_checked.specs.Kept.{IsReady, but_kept}
 use Rattle.wq_checked.specs.Calls.{Began, CameFrom, IsSound, IsUnderWay, WentOn}
 use Rattle.wq_checked.specs.Advancing.{bit_left, bit_shown}
+use Rattle.wq_checked.specs.Locks.{awaited_in}
 use Rattle.wq_checked.specs.declared.calls.Running.{Running}
 use Rattle.wq_checked.specs.declared.calls.Running.TheVariants as running
+use Rattle.wq_checked.proofs.Going.{went_refused}
 use Rattle.wq_checked.specs.declared.kept_bits.KeptBits.{KeptBits}
 use Rattle.wq_checked.specs.Calls.{is_worn}
 use Rattle.wq_checked.specs.Advancing.{bit_worn}
@@ -63,7 +65,9 @@ tells : (start mid new : Known) (f : BitRun) (from t : BitTurn) (q : BitRun) →
     → HasRested mid new (bit_worn t) → WentOn start (running.Bit f from) new (bit_left q t) (bit_shown q t)
 tells start mid new f from (turn.Again s) q a h = (stayed bit_table start mid new f q bit_first (turn.Again s) h a, refl)
 tells start mid new f from (turn.Asleep s) q a h = (stayed bit_table start mid new f q bit_first (turn.Asleep s) h a, refl)
-tells start mid new f from (turn.Locked s) q a h = (stayed bit_table start mid new f q bit_first (turn.Locked s) h a, refl)
+tells start mid new f from (turn.Locked s) q a h = went_refused start (running.Bit f from) new
+    (running.Bit q (turn.Locked s)) (awaited_in (running.Bit q (turn.Locked s)))
+    (stayed bit_table start mid new f q bit_first (turn.Locked s) h a) refl
 tells start mid new f from (turn.Done o) q a h = (
   refl,
   record { run = q; outcome = o; last = mid; went = a; rested = h; answers = refl },

@@ -89,8 +89,8 @@ module _ (start old new : Known) (f run q : CellRun) (s : CellStage) (came : Cel
   come_on h = record { at = h.turns; call = h.fresh.call_is ∙ came.call; cell = h.fresh.cell ∙ came.cell }
 
   tells : (from : CellStage) (t : CellTurn) → HasTurned start new run q t
-      → WentOn start (running.Cell f from) new (cell_left q t) (cell_shown t)
-  tells from turn.Locked h = (come_on h, tt)
+      → WentOn start (running.Cell f from) new (cell_left q t) (cell_shown q t)
+  tells from turn.Locked h = (come_on h, refl)
   tells from (turn.Done hit) h = (refl, over_as hit h)
   tells from (turn.Starved n) h = refl
 
@@ -109,7 +109,7 @@ module _ (start old new : Known) (f run q : CellRun) (s : CellStage) (came : Cel
 pub cell_goes : (start : Known) (first : Running) (old new : Known) (run q : CellRun) (s : CellStage) (t : CellTurn)
     → CameFrom start first old (running.Cell run s)
     → ((start : Known) → IsAt start old run s → HasTurned start new run q t)
-    → WentOn start first new (cell_left q t) (cell_shown t)
+    → WentOn start first new (cell_left q t) (cell_shown q t)
 cell_goes start (running.Cell f from) old new run q s t came turned = tells start old new f run q s came from t
     (turned start came.at)
 cell_goes start first old new run q s t came turned = absurd came

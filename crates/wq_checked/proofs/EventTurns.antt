@@ -19,8 +19,10 @@ use Rattle.wq_checked.specs.Kept.{IsReady, but_kept}
 use Rattle.wq_checked.specs.Stages.{GoesFrom, StandsBy, WaitRun, WaitTurn}
 use Rattle.wq_checked.specs.Calls.{Began, CameFrom, IsFreshEvent, IsSound, IsUnderWay, WentOn}
 use Rattle.wq_checked.specs.Advancing.{event_left, event_shown}
+use Rattle.wq_checked.specs.Locks.{awaited_in}
 use Rattle.wq_checked.specs.declared.calls.Running.{Running}
 use Rattle.wq_checked.specs.declared.calls.Running.TheVariants as running
+use Rattle.wq_checked.proofs.Going.{went_refused}
 use Rattle.wq_checked.specs.declared.kept_bits.KeptBits.{KeptBits}
 use Rattle.wq_checked.proofs.Elsewhere.{waits_off}
 use Rattle.wq_checked.proofs.GroundTurns.{joined}
@@ -58,7 +60,8 @@ tells : (start new : Known) (f : WaitRun) (from t : WaitTurn) (q : WaitRun)
     → WentOn start (running.Event f from) new (event_left q t) (event_shown q t)
 tells start new f from (turn.Again s) q a = (a, refl)
 tells start new f from (turn.Asleep s) q a = (a, refl)
-tells start new f from (turn.Locked s) q a = (a, refl)
+tells start new f from (turn.Locked s) q a = went_refused start (running.Event f from) new
+    (running.Event q (turn.Locked s)) (awaited_in (running.Event q (turn.Locked s))) a refl
 tells start new f from (turn.Done o) q a = (refl, record { run = q; outcome = o; went = a; answers = refl })
 
 pub event_goes : (start : Known) (first : Running) (old new : Known) (run q : WaitRun) (last t : WaitTurn)

@@ -1,12 +1,14 @@
 -- What an advance leaves under way and tells, by equations.
 use Rattle.std.proofs.Common.{sym, subst}
-use Rattle.std.specs.Prelude.{ℕ, ◌≡◌, ◌||◌, Bool}
+use Rattle.std.specs.Prelude.{ℕ, ◌≡◌, ◌||◌, Bool, Option, Some, None}
 use Rattle.wait_model.specs.declared.watches.Watch.{Watch}
 use Rattle.wait_model.specs.declared.watches.Watch.TheVariants as watch
 use Rattle.wait_rule.specs.Bits.{taken_bits}
 use Rattle.wait_rule.specs.Known.{Known}
-use Rattle.wq_checked.specs.Calls.{WentOn}
+use Rattle.wq_checked.specs.Calls.{CameFrom, Fits, WentOn}
 use Rattle.wq_checked.specs.Kept.{keeps_in}
+use Rattle.wq_checked.specs.Locks.{refused_with}
+use Rattle.wq_checked.specs.declared.calls.Awaited.{Awaited}
 use Rattle.wq_checked.specs.declared.calls.Progress.{Progress}
 use Rattle.wq_checked.specs.declared.calls.Running.{Running}
 use Rattle.wq_checked.specs.declared.kept_bits.KeptBits.{KeptBits}
@@ -15,6 +17,12 @@ pub went_as : (start : Known) (first : Running) (new : Known) (r s : Running) (p
     → WentOn start first new s u → WentOn start first new r p
 went_as start first new r s p u a b w = subst (λ (x : Running). WentOn start first new x p) (sym a)
     (subst (WentOn start first new s) (sym b) w)
+
+-- a stretch that was refused its lock
+pub went_refused : (start : Known) (first : Running) (new : Known) (now : Running) (o : Option Awaited)
+    → CameFrom start first new now → Fits now (refused_with o) → WentOn start first new now (refused_with o)
+went_refused start first new now (Some a) came fits = (came, fits)
+went_refused start first new now None came fits = (came, fits)
 
 -- the bits that are noted, by an equation
 pub noted : (ks more : KeptBits) (w b : ℕ) (g h : Bool) → g ≡ h

@@ -15,5 +15,6 @@ pub mod WakeTurns
 pub mod AwaitTurns
 pub mod SwakeTurns
 pub mod CellTurns
+pub mod Drawn
 pub mod Publishing
 pub mod OneHolds

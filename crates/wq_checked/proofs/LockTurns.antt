@@ -23,8 +23,10 @@ use Rattle.wq_checked.proofs.GroundTurns.{joined, stayed}
 use Rattle.wq_checked.specs.Kept.{IsReady, but_kept, keeps_in}
 use Rattle.wq_checked.specs.Calls.{Began, CameFrom, IsSound, IsUnderWay, WentOn}
 use Rattle.wq_checked.specs.Advancing.{lock_left, lock_shown}
+use Rattle.wq_checked.specs.Locks.{awaited_in}
 use Rattle.wq_checked.specs.declared.calls.Running.{Running}
 use Rattle.wq_checked.specs.declared.calls.Running.TheVariants as running
+use Rattle.wq_checked.proofs.Going.{went_refused}
 use Rattle.wq_checked.specs.declared.kept_bits.KeptBits.{KeptBits}
 use Rattle.wq_checked.specs.Advancing.{lock_over, lock_took, lock_worn}
 use Rattle.wait_model.specs.declared.calls.Call.TheVariants as calls
@@ -66,7 +68,9 @@ tells : (start mid new : Known) (f : LockRun) (from t : LockTurn) (q : LockRun) 
     → HasRested mid new (lock_worn q t) → WentOn start (running.Lock f from) new (lock_left q t) (lock_shown q t)
 tells start mid new f from (turn.Again s) q a h = (stayed lock_table start mid new f q lock_first (turn.Again s) h a, refl)
 tells start mid new f from (turn.Asleep s) q a h = (stayed lock_table start mid new f q lock_first (turn.Asleep s) h a, refl)
-tells start mid new f from (turn.Locked s) q a h = (stayed lock_table start mid new f q lock_first (turn.Locked s) h a, refl)
+tells start mid new f from (turn.Locked s) q a h = went_refused start (running.Lock f from) new
+    (running.Lock q (turn.Locked s)) (awaited_in (running.Lock q (turn.Locked s)))
+    (stayed lock_table start mid new f q lock_first (turn.Locked s) h a) refl
 tells start mid new f from (turn.Done o) q a h = (
   refl,
   record { run = q; outcome = o; last = mid; went = a; rested = h; answers = refl },

@@ -21,8 +21,10 @@ use Rattle.wq_checked.proofs.GroundTurns.{joined}
 use Rattle.wq_checked.specs.Kept.{IsReady, but_kept, keeps_in}
 use Rattle.wq_checked.specs.Calls.{Began, CameFrom, IsSound, IsUnderWay, WentOn}
 use Rattle.wq_checked.specs.Advancing.{page_left, page_shown}
+use Rattle.wq_checked.specs.Locks.{awaited_in}
 use Rattle.wq_checked.specs.declared.calls.Running.{Running}
 use Rattle.wq_checked.specs.declared.calls.Running.TheVariants as running
+use Rattle.wq_checked.proofs.Going.{went_refused}
 use Rattle.wq_checked.specs.declared.kept_bits.KeptBits.{KeptBits}
 use Rattle.wq_checked.specs.Advancing.{page_over, page_took}
 use Rattle.wait_model.specs.declared.calls.Call.TheVariants as calls
@@ -58,7 +60,8 @@ tells : (start new : Known) (f : PageRun) (from t : PageTurn) (q : PageRun) → 
     → WentOn start (running.Page f from) new (page_left q t) (page_shown q t)
 tells start new f from (turn.Again s) q a = (a, refl)
 tells start new f from (turn.Asleep s) q a = (a, refl)
-tells start new f from (turn.Locked s) q a = (a, refl)
+tells start new f from (turn.Locked s) q a = went_refused start (running.Page f from) new
+    (running.Page q (turn.Locked s)) (awaited_in (running.Page q (turn.Locked s))) a refl
 tells start new f from (turn.Done o) q a = (refl, record { run = q; outcome = o; went = a; answers = refl })
 
 pub page_goes : (start : Known) (first : Running) (old new : Known) (run q : PageRun)

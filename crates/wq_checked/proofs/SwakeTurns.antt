@@ -41,8 +41,8 @@ module _ (start old new : Known) (f run q : SwakeRun) (s : SwakeStage) (came : S
   come_on h = record { at = h.turns; cond = h.fresh.cond ∙ came.cond; all = h.fresh.all_is ∙ came.all }
 
   tells : (from : SwakeStage) (t : SwakeTurn) → HasTurned start new run q t
-      → WentOn start (running.Swake f from) new (swake_left q t) (swake_shown t)
-  tells from turn.Locked h = (come_on h, tt)
+      → WentOn start (running.Swake f from) new (swake_left q t) (swake_shown q t)
+  tells from turn.Locked h = (come_on h, refl)
   tells from (turn.Done n) h = (refl, over_as n h)
   tells from (turn.Starved n) h = refl
 
@@ -73,7 +73,7 @@ module _ (start old new : Known) (f run q : SwakeRun) (s : SwakeStage) (came : S
 pub swake_goes : (start : Known) (first : Running) (old new : Known) (run q : SwakeRun) (s : SwakeStage)
     (t : SwakeTurn) → CameFrom start first old (running.Swake run s)
     → ((start : Known) → IsAt start old run s → HasTurned start new run q t)
-    → WentOn start first new (swake_left q t) (swake_shown t)
+    → WentOn start first new (swake_left q t) (swake_shown q t)
 swake_goes start (running.Swake f from) old new run q s t came turned = tells start old new f run q s came from t
     (turned start came.at)
 swake_goes start first old new run q s t came turned = absurd came

@@ -48,8 +48,11 @@ wake_at ks k run s u = (u.start, at_from ks u.start u.first k run s u.came)
 
 -- what a turn tells
 tells : (start new : Known) (f : WakeRun) (from : WakeStage) (run q : WakeRun) (t : WakeTurn) → run.aim ≡ f.aim
-    → HasTurned start new run q t → WentOn start (running.Wake f from) new (wake_left q t) (wake_shown t)
-tells start new f from run q (turn.Locked s) is h = ((h.turns, h.aim ∙ is), tt)
+    → HasTurned start new run q t → WentOn start (running.Wake f from) new (wake_left q t) (wake_shown q t)
+tells start new f from run q (turn.Locked stage.First) is h = ((h.turns, h.aim ∙ is), tt)
+tells start new f from run q (turn.Locked stage.FirstTurn) is h = ((h.turns, h.aim ∙ is), refl)
+tells start new f from run q (turn.Locked stage.Next) is h = ((h.turns, h.aim ∙ is), tt)
+tells start new f from run q (turn.Locked stage.NextTurn) is h = ((h.turns, h.aim ∙ is), refl)
 tells start new f from run q turn.Broken is h = ((h.turns, h.aim ∙ is), tt)
 tells start new f from run q (turn.Done w) is h = (
   refl,
@@ -60,7 +63,7 @@ tells start new f from run q (turn.Starved n) is h = refl
 pub wake_goes : (start : Known) (first : Running) (old new : Known) (run q : WakeRun) (s : WakeStage) (t : WakeTurn)
     → CameFrom start first old (running.Wake run s)
     → ((start : Known) → IsAt start old run s → HasTurned start new run q t)
-    → WentOn start first new (wake_left q t) (wake_shown t)
+    → WentOn start first new (wake_left q t) (wake_shown q t)
 wake_goes start (running.Wake f from) old new run q s t came turned = tells start new f from run q t came.1
     (turned start came.0)
 wake_goes start first old new run q s t came turned = absurd came

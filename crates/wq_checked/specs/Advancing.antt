@@ -26,6 +26,7 @@ use Rattle.wq_head.specs.declared.wakes.WakeStage.TheVariants as wake_stage
 use Rattle.wq_head.specs.declared.wakes.WakeTurn.{WakeTurn}
 use Rattle.wq_head.specs.declared.wakes.WakeTurn.TheVariants as wake_turn
 use Rattle.wq_checked.specs.Calls.{await_told, event_answer, is_worn, turn_told}
+use Rattle.wq_checked.specs.Locks.{refusal_told}
 use Rattle.wq_checked.specs.Stages.{BitRun, BitTurn, LockRun, LockTurn, PageRun, PageTurn, WaitRun, WaitTurn}
 use Rattle.wq_checked.specs.declared.calls.Answer.TheVariants as answer
 use Rattle.wq_checked.specs.declared.calls.Progress.{Progress}
@@ -39,7 +40,7 @@ event_left r t = running.Event r t
 
 abbrev pub event_shown : WaitRun → WaitTurn → Progress
 event_shown r (turn.Done o) = progress.Done (event_answer r.of o)
-event_shown r t = turn_told t
+event_shown r t = turn_told (running.Event r t) t
 
 abbrev pub bit_left : BitRun → BitTurn → Running
 bit_left r (turn.Done o) = running.Idle
@@ -47,7 +48,7 @@ bit_left r t = running.Bit r t
 
 abbrev pub bit_shown : BitRun → BitTurn → Progress
 bit_shown r (turn.Done o) = progress.Done (answer.Bit (bit_ends.end_in r.of.wait o))
-bit_shown r t = turn_told t
+bit_shown r t = turn_told (running.Bit r t) t
 
 abbrev pub lock_left : LockRun → LockTurn → Running
 lock_left r (turn.Done o) = running.Idle
@@ -55,7 +56,7 @@ lock_left r t = running.Lock r t
 
 abbrev pub lock_shown : LockRun → LockTurn → Progress
 lock_shown r (turn.Done o) = progress.Done (answer.Bit (lock_ends.end_in r.of.wait o))
-lock_shown r t = turn_told t
+lock_shown r t = turn_told (running.Lock r t) t
 
 abbrev pub page_left : PageRun → PageTurn → Running
 page_left r (turn.Done o) = running.Idle
@@ -63,7 +64,7 @@ page_left r t = running.Page r t
 
 abbrev pub page_shown : PageRun → PageTurn → Progress
 page_shown r (turn.Done o) = progress.Done (answer.Bit (page_ends.end_in r.of o))
-page_shown r t = turn_told t
+page_shown r t = turn_told (running.Page r t) t
 
 abbrev pub wake_left : WakeRun → WakeTurn → Running
 wake_left r (wake_turn.Locked s) = running.Wake r s
@@ -71,11 +72,11 @@ wake_left r wake_turn.Broken = running.Wake r wake_stage.Next
 wake_left r (wake_turn.Done w) = running.Idle
 wake_left r (wake_turn.Starved n) = running.Starved
 
-abbrev pub wake_shown : WakeTurn → Progress
-wake_shown (wake_turn.Locked s) = progress.Locked
-wake_shown wake_turn.Broken = progress.Again
-wake_shown (wake_turn.Done w) = progress.Done (answer.Walked w)
-wake_shown (wake_turn.Starved n) = progress.Starved
+abbrev pub wake_shown : WakeRun → WakeTurn → Progress
+wake_shown r (wake_turn.Locked s) = refusal_told (running.Wake r s)
+wake_shown r wake_turn.Broken = progress.Again
+wake_shown r (wake_turn.Done w) = progress.Done (answer.Walked w)
+wake_shown r (wake_turn.Starved n) = progress.Starved
 
 abbrev pub await_left : AwaitRun → AwaitTurn → Running
 await_left r (await_turn.Done o) = running.Idle
@@ -83,27 +84,27 @@ await_left r t = running.Await r t
 
 abbrev pub await_shown : AwaitRun → AwaitTurn → Progress
 await_shown r (await_turn.Done o) = progress.Done (answer.Waited (await_ends.end_in r o))
-await_shown r t = await_told t
+await_shown r t = await_told r t
 
 abbrev pub swake_left : SwakeRun → SwakeTurn → Running
 swake_left r swake_turn.Locked = running.Swake r swake_stage.Turn
 swake_left r (swake_turn.Done n) = running.Idle
 swake_left r (swake_turn.Starved n) = running.Starved
 
-abbrev pub swake_shown : SwakeTurn → Progress
-swake_shown swake_turn.Locked = progress.Locked
-swake_shown (swake_turn.Done n) = progress.Done (answer.Selected n)
-swake_shown (swake_turn.Starved n) = progress.Starved
+abbrev pub swake_shown : SwakeRun → SwakeTurn → Progress
+swake_shown r swake_turn.Locked = refusal_told (running.Swake r swake_stage.Turn)
+swake_shown r (swake_turn.Done n) = progress.Done (answer.Selected n)
+swake_shown r (swake_turn.Starved n) = progress.Starved
 
 abbrev pub cell_left : CellRun → CellTurn → Running
 cell_left r cell_turn.Locked = running.Cell r cell_stage.Turn
 cell_left r (cell_turn.Done hit) = running.Idle
 cell_left r (cell_turn.Starved n) = running.Starved
 
-abbrev pub cell_shown : CellTurn → Progress
-cell_shown cell_turn.Locked = progress.Locked
-cell_shown (cell_turn.Done hit) = progress.Done (answer.Cell hit)
-cell_shown (cell_turn.Starved n) = progress.Starved
+abbrev pub cell_shown : CellRun → CellTurn → Progress
+cell_shown r cell_turn.Locked = refusal_told (running.Cell r cell_stage.Turn)
+cell_shown r (cell_turn.Done hit) = progress.Done (answer.Cell hit)
+cell_shown r (cell_turn.Starved n) = progress.Starved
 
 -- no place was left for the entry of a wait that ended so
 abbrev pub bit_worn : BitTurn → Bool

@@ -1,7 +1,6 @@
 -- To be believed.
 -- A call that is under way, from its beginning to its answer.
-use Rattle.std.specs.Prelude.{ℕ, ◌≡◌, ◌<◌, ◌^◌, Bool, true, false, None, Result, Ok, Err, []}
-use Rattle.wait_model.specs.declared.queues.Walked.{Walked}
+use Rattle.std.specs.Prelude.{ℕ, ◌≡◌, ◌<◌, ◌^◌, Bool, true, false, None, Some, Result, []}
 use Rattle.wait_model.specs.declared.tasks.How.{How}
 use Rattle.wait_model.specs.declared.tasks.SleepState.{SleepState}
 use Rattle.wait_model.specs.declared.steps.Step.TheVariants as step
@@ -61,6 +60,7 @@ use Rattle.wq_head.specs.declared.rousing.Rousing.{Rousing}
 use Rattle.wq_head.specs.declared.wakes.WakeRun.{WakeRun}
 use Rattle.wq_head.specs.declared.wakes.WakeStage.TheVariants as wake_stage
 use Rattle.wq_checked.specs.Kept.{IsReady, but_kept, keeps_in}
+use Rattle.wq_checked.specs.Locks.{awaited_in, refusal_told}
 use Rattle.wq_checked.specs.Stages.{
   AwaitStands,
   BitRun,
@@ -174,28 +174,28 @@ Ended start (running.Cell first from) new (answer.Cell hit) = cells.IsOver first
 Ended _ _ _ _ = ⊥
 
 -- what a stretch tells of a call that is not over
-abbrev pub turn_told : {S O : Type 0} → Turn S O → Progress
-turn_told (turn.Locked s) = progress.Locked
-turn_told (turn.Asleep s) = progress.Park
-turn_told _ = progress.Again
+abbrev pub turn_told : {S O : Type 0} → Running → Turn S O → Progress
+turn_told r (turn.Locked s) = refusal_told r
+turn_told r (turn.Asleep s) = progress.Park
+turn_told r _ = progress.Again
 
-abbrev pub await_told : AwaitTurn → Progress
-await_told (await_turn.Locked s) = progress.Locked
-await_told (await_turn.Asleep s) = progress.Park
-await_told _ = progress.Again
+abbrev pub await_told : AwaitRun → AwaitTurn → Progress
+await_told r (await_turn.Locked s) = refusal_told (running.Await r (await_turn.Locked s))
+await_told r (await_turn.Asleep s) = progress.Park
+await_told r _ = progress.Again
 
 -- What it tells fits where the call stands: a wake waits for its lock where a ticket is drawn, and goes on at once
--- behind a break; a call of one hold waits for its lock.
+-- behind a break; a call of one hold waits for its lock. Where it waits for a lock it tells which.
 abbrev pub Fits : Running → Progress → Type 0
-Fits (running.Event run last) p = p ≡ turn_told last
-Fits (running.Bit run last) p = p ≡ turn_told last
-Fits (running.Lock run last) p = p ≡ turn_told last
-Fits (running.Page run last) p = p ≡ turn_told last
-Fits (running.Await run last) p = p ≡ await_told last
+Fits (running.Event run last) p = p ≡ turn_told (running.Event run last) last
+Fits (running.Bit run last) p = p ≡ turn_told (running.Bit run last) last
+Fits (running.Lock run last) p = p ≡ turn_told (running.Lock run last) last
+Fits (running.Page run last) p = p ≡ turn_told (running.Page run last) last
+Fits (running.Await run last) p = p ≡ await_told run last
 Fits (running.Wake run last) progress.Again = Unit {0}
-Fits (running.Wake run last) progress.Locked = Unit {0}
-Fits (running.Swake run last) progress.Locked = Unit {0}
-Fits (running.Cell run last) progress.Locked = Unit {0}
+Fits (running.Wake run last) (progress.Locked a) = awaited_in (running.Wake run last) ≡ Some a
+Fits (running.Swake run last) (progress.Locked a) = awaited_in (running.Swake run last) ≡ Some a
+Fits (running.Cell run last) (progress.Locked a) = awaited_in (running.Cell run last) ≡ Some a
 Fits _ _ = ⊥
 
 -- An advance of the call: it is over, with this answer, and no call is under way; or a wake was starved; or it has come

@@ -23,6 +23,7 @@ use crate::await_turns::await_on;
 use crate::calls::{Answer, Progress, Running};
 use crate::cells::cell_on;
 use crate::kept_bits::KeptBits;
+use crate::locks::refused;
 use crate::simple_wakes::swake_on;
 use crate::stretches::ground_turn;
 use bit_wait::lock_waits::{LockOutcome, LockRun, LockTurn};
@@ -58,7 +59,7 @@ fn event_leaves(run: WaitRun, turn: WaitTurn) -> (Running, Progress)
 {
     match turn {
         Turn::Again(_) => (Running::Event(run, turn), Progress::Again),
-        Turn::Locked(_) => (Running::Event(run, turn), Progress::Locked),
+        Turn::Locked(_) => refused(Running::Event(run, turn)),
         Turn::Asleep(_) => (Running::Event(run, turn), Progress::Park),
         Turn::Done(outcome) => (Running::Idle, Progress::Done(answer_of(run.of, outcome))),
     }
@@ -117,7 +118,7 @@ fn bit_leaves(run: BitRun, turn: BitTurn) -> (Running, Progress)
 {
     match turn {
         Turn::Again(_) => (Running::Bit(run, turn), Progress::Again),
-        Turn::Locked(_) => (Running::Bit(run, turn), Progress::Locked),
+        Turn::Locked(_) => refused(Running::Bit(run, turn)),
         Turn::Asleep(_) => (Running::Bit(run, turn), Progress::Park),
         Turn::Done(outcome) => {
             let answer = Answer::Bit(wait_calls::end_of(run.of.wait, outcome));
@@ -204,7 +205,7 @@ fn lock_leaves(run: LockRun, turn: LockTurn) -> (Running, Progress)
 {
     match turn {
         Turn::Again(_) => (Running::Lock(run, turn), Progress::Again),
-        Turn::Locked(_) => (Running::Lock(run, turn), Progress::Locked),
+        Turn::Locked(_) => refused(Running::Lock(run, turn)),
         Turn::Asleep(_) => (Running::Lock(run, turn), Progress::Park),
         Turn::Done(outcome) => {
             let answer = Answer::Bit(lock_calls::end_of(run.of.wait, outcome));
@@ -244,7 +245,7 @@ fn page_leaves(run: PageRun, turn: PageTurn) -> (Running, Progress)
 {
     match turn {
         Turn::Again(_) => (Running::Page(run, turn), Progress::Again),
-        Turn::Locked(_) => (Running::Page(run, turn), Progress::Locked),
+        Turn::Locked(_) => refused(Running::Page(run, turn)),
         Turn::Asleep(_) => (Running::Page(run, turn), Progress::Park),
         Turn::Done(outcome) => {
             let answer = Answer::Bit(page_calls::end_of(run.of, outcome));
@@ -279,10 +280,10 @@ pub(crate) fn page_on(
 
 fn wake_leaves(run: WakeRun, turn: WakeTurn) -> (Running, Progress)
     ensures left { result.0 ≡ wake_left run turn }
-    ensures shown { result.1 ≡ wake_shown turn }
+    ensures shown { result.1 ≡ wake_shown run turn }
 {
     match turn {
-        WakeTurn::Locked(next) => (Running::Wake(run, next), Progress::Locked),
+        WakeTurn::Locked(next) => refused(Running::Wake(run, next)),
         WakeTurn::Broken => (Running::Wake(run, WakeStage::Next), Progress::Again),
         WakeTurn::Done(walked) => (Running::Idle, Progress::Done(Answer::Walked(walked))),
         WakeTurn::Starved(_) => (Running::Starved, Progress::Starved),

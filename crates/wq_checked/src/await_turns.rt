@@ -13,6 +13,7 @@ ghost use Rattle.wq_checked.specs.declared.calls.Running.TheVariants as running;
 
 use crate::calls::{Answer, Progress, Running};
 use crate::kept_bits::KeptBits;
+use crate::locks::refused;
 use completion_cell::await_calls::{end_of, stretch, woke};
 use completion_cell::awaits::{AwaitRun, AwaitTurn};
 use wait_rule::queues::Passing;
@@ -53,7 +54,7 @@ fn await_leaves(run: AwaitRun, turn: AwaitTurn) -> (Running, Progress)
 {
     match turn {
         AwaitTurn::Again(_) => (Running::Await(run, turn), Progress::Again),
-        AwaitTurn::Locked(_) => (Running::Await(run, turn), Progress::Locked),
+        AwaitTurn::Locked(_) => refused(Running::Await(run, turn)),
         AwaitTurn::Asleep(_) => (Running::Await(run, turn), Progress::Park),
         AwaitTurn::Done(outcome) => {
             let answer = Answer::Waited(end_of(run, outcome));

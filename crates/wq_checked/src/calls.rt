@@ -42,14 +42,23 @@ pub enum Answer {
     Cell(bool),
 }
 
+/// The lock that a call waits for: its head, below `HEADS`, the number of the ticket that the task has drawn of it, and
+/// the one that the last look found served in its place.
+#[derive(Clone, Copy)]
+pub struct Awaited {
+    pub head: u16,
+    pub ticket: u64,
+    pub served: u64,
+}
+
 /// What an advance did. Again: the call goes on at once, by the next advance. Locked: it waits for the lock of a head,
-/// and goes on a little later. Park: the task was put asleep, and the call goes on once the task was roused; an
-/// advance before that does no harm. Done: the call is over, with this answer, and another may begin. Starved: the wake
-/// came to no end, as no run does.
+/// and goes on once its ticket is served; an advance before that does no harm. Park: the task was put asleep, and the
+/// call goes on once the task was roused; an advance before that does no harm. Done: the call is over, with this answer,
+/// and another may begin. Starved: the wake came to no end, as no run does.
 #[derive(Clone, Copy)]
 pub enum Progress {
     Again,
-    Locked,
+    Locked(Awaited),
     Park,
     Done(Answer),
     Starved,

@@ -15,6 +15,7 @@ ghost use Rattle.wq_checked.specs.declared.calls.Running.TheVariants as running;
 
 use crate::calls::{Answer, Progress, Running};
 use crate::kept_bits::KeptBits;
+use crate::locks::refused;
 use crate::reasons::Refused;
 use crate::tasks::{CheckedTask, refusal_of};
 use completion_cell::await_calls::begin_await;
@@ -28,10 +29,10 @@ use wq_head::Rousing;
 
 fn cell_leaves(run: CellRun, turn: CellTurn) -> (Running, Progress)
     ensures left { result.0 ≡ cell_left run turn }
-    ensures shown { result.1 ≡ cell_shown turn }
+    ensures shown { result.1 ≡ cell_shown run turn }
 {
     match turn {
-        CellTurn::Locked => (Running::Cell(run, CellStage::Turn), Progress::Locked),
+        CellTurn::Locked => refused(Running::Cell(run, CellStage::Turn)),
         CellTurn::Done(hit) => (Running::Idle, Progress::Done(Answer::Cell(hit))),
         CellTurn::Starved(_) => (Running::Starved, Progress::Starved),
     }

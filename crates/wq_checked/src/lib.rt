@@ -11,6 +11,7 @@ pub mod beginnings;
 pub mod calls;
 pub mod cells;
 pub mod kept_bits;
+mod locks;
 pub mod owners;
 pub mod reasons;
 pub mod signals;
@@ -19,6 +20,6 @@ mod stretches;
 pub mod tasks;
 pub mod wakings;
 
-pub use calls::{Answer, Progress};
+pub use calls::{Answer, Awaited, Progress};
 pub use reasons::Refused;
 pub use tasks::CheckedTask;

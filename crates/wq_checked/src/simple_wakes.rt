@@ -15,6 +15,7 @@ ghost use Rattle.wq_checked.specs.declared.calls.Running.TheVariants as running;
 
 use crate::calls::{Answer, Progress, Running};
 use crate::kept_bits::KeptBits;
+use crate::locks::refused;
 use crate::reasons::Refused;
 use crate::tasks::{CheckedTask, refusal_of};
 use swait_queue::swake_turns::{SwakeRun, SwakeStage, SwakeTurn, swake_stretch};
@@ -26,10 +27,10 @@ use wq_head::Rousing;
 
 fn swake_leaves(run: SwakeRun, turn: SwakeTurn) -> (Running, Progress)
     ensures left { result.0 ≡ swake_left run turn }
-    ensures shown { result.1 ≡ swake_shown turn }
+    ensures shown { result.1 ≡ swake_shown run turn }
 {
     match turn {
-        SwakeTurn::Locked => (Running::Swake(run, SwakeStage::Turn), Progress::Locked),
+        SwakeTurn::Locked => refused(Running::Swake(run, SwakeStage::Turn)),
         SwakeTurn::Done(selected) => (Running::Idle, Progress::Done(Answer::Selected(selected))),
         SwakeTurn::Starved(_) => (Running::Starved, Progress::Starved),
     }

@@ -10,6 +10,7 @@ ghost use Rattle.wq_head.specs.Roused.{tasks_in};
 ghost use Rattle.wq_checked.specs.Calls.{CameFrom, Rouses, WentOn};
 ghost use Rattle.wq_checked.specs.Checked.{shared_by};
 ghost use Rattle.wq_checked.specs.Kept.{IsReady, keeps_in};
+ghost use Rattle.wq_checked.specs.Locks.{IsDrawn, Passes, awaited_in};
 ghost use Rattle.wq_checked.specs.Reasons.{IsNoFork, busy_reason, stopped_reason};
 ghost use Rattle.wq_checked.specs.declared.calls.Running.{Running as TheRunning};
 ghost use Rattle.wq_checked.specs.declared.calls.Running.TheVariants as running;
@@ -17,6 +18,7 @@ ghost use Rattle.wq_checked.specs.declared.calls.Running.TheVariants as running;
 use crate::advances::go_on;
 use crate::calls::{Progress, Running};
 use crate::kept_bits::KeptBits;
+use crate::locks::{awaited, passed_on};
 use crate::owners::{Full, another_owner};
 use crate::reasons::Refused;
 use std::alloc::{AllocError, Global};
@@ -156,8 +158,15 @@ impl CheckedTask {
     /// names then the tasks that a wake has woken in this stretch and whose threads are to be roused, in their order.
     /// Nothing comes exactly where no call is under way, and Starved exactly after a wake that was starved. Else the
     /// call has come on by its own turns, from wherever it came, or is over with the answer of the whole call.
-    /// Threads that park for a lock there are none: all calls of this Domain are made by tasks like this one.
-    pub fn advance(&mut self, rousing: &mut Rousing) -> Result<Progress, Refused>
+    /// Who was told of a lock (`Progress::Locked`) waits until its ticket is served, in a way of its own: `passed` has,
+    /// from the first stretch of a call on that gave a lock back, the head whose lock it was, for the caller to tell
+    /// those who wait for it. The locks of one call are all of one head. Threads that park for a lock of this Domain in
+    /// the way of `wait_rule` there are none: all its calls are made by tasks like this one.
+    pub fn advance(
+        &mut self,
+        rousing: &mut Rousing,
+        passed: &mut Option<u16>,
+    ) -> Result<Progress, Refused>
         ensures refused { IfErr result (λ e. stopped_reason self.old.running ≡ Some e) }
         ensures same { IfErr result (λ _. self.new ≡ self.old) }
         ensures under { IfOk result (λ _. stopped_reason self.old.running ≡ None) }
@@ -165,7 +174,10 @@ impl CheckedTask {
             → CameFrom start first self.old.task self.old.running
             → WentOn start first self.new.task self.new.running told) }
         ensures rouses { IfOk result (λ _. Rouses self.old.running self.old.task self.new.task rousing.new) }
+        ensures awaits { IfOk result (λ told. IsDrawn self.new.task told) }
+        ensures passes { IfOk result (λ told. Passes (awaited_in self.old.running) told passed.old passed.new) }
         ensures none { IfErr result (λ _. tasks_in rousing.new ≡ []) }
+        ensures passes_none { IfErr result (λ _. passed.new ≡ passed.old) }
     {
         rousing.hand_on();
         match self.running {
@@ -182,8 +194,7 @@ impl CheckedTask {
                     rousing,
                     &mut passing,
                 );
-                // Nobody parks for a lock of this Domain, so the wake is nobody's.
-                let _ = passing.hand_on();
+                *passed = passed_on(*passed, awaited(running), told, passing.hand_on());
                 self.running = next;
                 Ok(told)
             }

@@ -1,6 +1,7 @@
 //! Tasks of the archive, and the Domain that they share.
 
-use crate::bells::{lock, Bells, Panic};
+use crate::bells::{lock, Bells, Panic, Sleeper};
+use crate::gates::{Gates, Seat};
 use crate::raw::{self, Call, Kind, Told};
 use crate::{Error, Signal};
 use std::ffi::c_void;
@@ -8,38 +9,26 @@ use std::panic::resume_unwind;
 use std::ptr::{self, NonNull};
 use std::sync::{Arc, Mutex};
 use std::thread;
-use std::time::Duration;
 
-/// How often a lock of a queue is looked for before the thread yields, and before it naps.
-const SPINS: u32 = 20;
-const YIELDS: u32 = 200;
-const NAP: Duration = Duration::from_micros(50);
-
-/// Lets the thread go on that has the lock of the queue.
-fn give_way(tries: u32) {
-    match tries {
-        0..SPINS => std::hint::spin_loop(),
-        SPINS..YIELDS => thread::yield_now(),
-        _ => thread::sleep(NAP),
-    }
-}
+/// How often a handle looks whether its ticket of the lock of a queue is served before others go on with its call; and
+/// how often whether they have before it is left to them. With `--cfg sugwelan_parks_at_once`, for tests, never.
+const TRIES: u32 = if cfg!(sugwelan_parks_at_once) { 0 } else { 50 };
+const WATCHES: u32 = if cfg!(sugwelan_parks_at_once) { 0 } else { 200 };
 
 /// A task of the archive. When it is dropped it is given up there; one that keeps a bit stays, with its Domain.
 pub struct Handle {
-    at: NonNull<c_void>,
-    number: u8,
-    /// What the last stretch told.
-    told: Box<Told>,
+    seat: Arc<Seat>,
+    /// The queue for whose lock its call waits: whoever passes that on goes on with it.
+    gate: Option<u32>,
+    /// Whether a thread parks where it waits; else a future is polled again.
+    pub blocks: bool,
 }
-
-// SAFETY: a task may go to another thread between two calls: no thread is noted in what the handle leads to, and what
-// tasks of one Domain share there are atomic words and a count of tasks that is atomic too.
-unsafe impl Send for Handle {}
 
 impl Drop for Handle {
     fn drop(&mut self) {
-        // SAFETY: the handle was given out, and is used no more. Where it is refused, the block stays as it is.
-        unsafe { raw::sugwelan_free(self.at.as_ptr()) };
+        // SAFETY: the handle was given out, and is used no more. Where it is refused, the block stays as it is: so it is
+        // while a call waits at a gate.
+        unsafe { raw::sugwelan_free(self.seat.at()) };
     }
 }
 
@@ -58,65 +47,120 @@ impl Handle {
     fn fork(&mut self) -> Result<Handle, Error> {
         let mut at = ptr::null_mut();
         // SAFETY: the handle was given out, `&mut self` excludes other calls on it, and the pointer is that of a place.
-        match unsafe { raw::sugwelan_fork(self.at.as_ptr(), 0, &mut at) } {
+        match unsafe { raw::sugwelan_fork(self.seat.at(), 0, &mut at) } {
             0 => Handle::of(at),
             code => Err(Error::of(code)),
         }
     }
 
     fn of(at: *mut c_void) -> Result<Handle, Error> {
-        let mut handle = Handle {
-            at: NonNull::new(at).ok_or(Error::Memory)?,
-            number: 0,
-            told: Box::new(Told::new()),
+        let at = NonNull::new(at).ok_or(Error::Memory)?;
+        let first = Seat::new(at, 0);
+        // SAFETY: the task was given out, and nobody else knows it yet.
+        let number = unsafe {
+            first.stretch(&Call::new(Kind::Number));
+            first.told().value
         };
-        handle.stretch(&Call::new(Kind::Number));
-        handle.number = u8::try_from(handle.told.value).map_err(|_| Error::Invalid)?;
-        Ok(handle)
+        let number = u8::try_from(number).map_err(|_| Error::Invalid)?;
+        Ok(Handle {
+            seat: Arc::new(Seat::new(at, number)),
+            gate: None,
+            blocks: true,
+        })
     }
 
     pub fn number(&self) -> u8 {
-        self.number
+        self.seat.number
     }
 
+    /// Whether its call waits for the lock of a queue.
+    pub fn is_at_gate(&self) -> bool {
+        self.gate.is_some()
+    }
+
+    /// What the last stretch told, of a call that is over.
     pub fn told(&self) -> &Told {
-        &self.told
+        // SAFETY: a call that is over waits at no gate, and `&self` excludes stretches by the handle.
+        unsafe { self.seat.told() }
     }
 
-    /// One stretch of a call.
-    fn stretch(&mut self, call: &Call) -> i32 {
-        self.told.clear();
-        // SAFETY: the handle was given out, and `&mut self` excludes other calls on it.
-        unsafe { raw::sugwelan_call(self.at.as_ptr(), call, &mut *self.told) }
+    /// One stretch of a call, where none waits at a gate.
+    fn call(&mut self, call: &Call) -> i32 {
+        // SAFETY: the handle was given out, `&mut self` excludes other calls on it, and it waits at no gate.
+        unsafe { self.seat.stretch(call) }
     }
 
-    /// Begins a call or goes on with one, until it is over, or the task asleep: None. It waits for no other task but
-    /// for those that are about to give a queue back, so no lock is asked for when it returns. After each stretch those
-    /// are handed to `rouse` whom it woke.
-    pub fn drive(&mut self, call: Call, mut rouse: impl FnMut(&[u8])) -> Option<Result<(), Error>> {
-        let mut call = call;
-        let mut tries = 0;
+    /// One stretch of a call: those are roused whom it woke, and who waits for the lock that it gave back is served.
+    fn stretch(&mut self, gates: &Gates, call: &Call, rouse: &mut dyn FnMut(&[u8])) -> i32 {
+        let code = self.call(call);
+        rouse(self.told().roused());
+        gates.follow(self.told().passed, rouse);
+        code
+    }
+
+    /// Begins a call or goes on with one, until it is over, or it waits: None. It waits asleep, or for the lock of a
+    /// queue, which others pass on to it and take from it: whoever gives that lock back goes on with it, so nobody waits
+    /// for who is not there. It goes on once its task was roused. After each stretch those are handed to `rouse` whom it
+    /// woke.
+    pub fn drive(&mut self, gates: &Gates, call: Call, rouse: &mut dyn FnMut(&[u8])) -> Option<Result<(), Error>> {
+        let mut code = match self.take_back(gates, rouse) {
+            Some(code) => code,
+            None => self.stretch(gates, &call, rouse),
+        };
         loop {
-            let code = self.stretch(&call);
-            rouse(self.told.roused());
-            match code {
+            code = match code {
                 raw::DONE => return Some(Ok(())),
-                raw::AGAIN => tries = 0,
-                raw::LOCKED => {
-                    give_way(tries);
-                    tries += 1;
-                }
                 raw::PARK => return None,
+                raw::AGAIN => self.stretch(gates, &Call::new(Kind::Advance), rouse),
+                raw::LOCKED => self.pass_lock(gates, rouse)?,
                 code => return Some(Err(Error::of(code))),
-            }
-            call = Call::new(Kind::Advance);
+            };
         }
+    }
+
+    /// Takes the call back that waits at a gate: what the stretch answered that another has made. Who was put asleep by
+    /// that may have been woken since, and goes on.
+    fn take_back(&mut self, gates: &Gates, rouse: &mut dyn FnMut(&[u8])) -> Option<i32> {
+        let head = self.gate.take()?;
+        let (code, goes_on) = gates.take_back(head, &self.seat)?;
+        if goes_on {
+            gates.follow(head, rouse);
+        }
+        Some(if code == raw::PARK { raw::AGAIN } else { code })
+    }
+
+    /// Goes on with a call that waits for a lock: looks some times whether its ticket is served, and then leaves it to
+    /// others, and watches some times whether they have gone on. None: it waits at its gate.
+    fn pass_lock(&mut self, gates: &Gates, rouse: &mut dyn FnMut(&[u8])) -> Option<i32> {
+        let (ticket, head) = (self.told().ticket, self.told().head);
+        for _ in 0..TRIES {
+            std::hint::spin_loop();
+            let code = self.stretch(gates, &Call::new(Kind::Advance), rouse);
+            if code != raw::LOCKED || self.told().ticket != ticket {
+                return Some(code);
+            }
+        }
+        // SAFETY: the seat is this handle's, which uses it no more before it has taken it back.
+        if let Some(code) = unsafe { gates.wait(&self.seat, self.blocks) } {
+            rouse(self.told().roused());
+            gates.follow(self.told().passed, rouse);
+            return Some(code);
+        }
+        self.gate = Some(head);
+        for _ in 0..WATCHES {
+            if self.seat.is_over() {
+                return self.take_back(gates, rouse);
+            }
+            std::hint::spin_loop();
+        }
+        None
     }
 }
 
 /// What the tasks of a Domain share beside the Domain itself.
 pub struct Shared {
     pub bells: Bells,
+    pub gates: Gates,
     /// The first task, by which further ones are made, signals raised, and calls made for who has no task at hand.
     home: Mutex<Handle>,
     /// Tasks that were given up clean, for who wants one next.
@@ -127,6 +171,7 @@ impl Shared {
     pub fn new() -> Result<Arc<Shared>, Error> {
         Ok(Arc::new(Shared {
             bells: Bells::new(),
+            gates: Gates::new(),
             home: Mutex::new(Handle::first()?),
             spare: Mutex::default(),
         }))
@@ -139,11 +184,25 @@ impl Shared {
             Some(handle) => handle,
             None => lock(&self.home).fork()?,
         };
-        let mut raised = self.bells.raised(handle.number);
+        let mut raised = self.bells.raised(handle.number());
         *raised = None;
-        handle.stretch(&Call::new(Kind::TakeSignal));
+        handle.call(&Call::new(Kind::TakeSignal));
         drop(raised);
         Ok(handle)
+    }
+
+    /// Makes a call that puts nobody asleep. Its thread parks while it waits for a lock.
+    pub fn drive_to_end(&self, handle: &mut Handle, call: Call, rouse: &mut dyn FnMut(&[u8])) -> Result<(), Error> {
+        let mut end = handle.drive(&self.gates, call, rouse);
+        loop {
+            if let Some(end) = end {
+                return end;
+            }
+            if self.bells.listen(handle.number(), Sleeper::Thread(thread::current())) {
+                thread::park();
+            }
+            end = handle.drive(&self.gates, Call::new(Kind::Advance), rouse);
+        }
     }
 
     /// Takes a task back that keeps nothing and is in no call.
@@ -158,8 +217,8 @@ impl Shared {
         let answer = {
             self.bells.ties.begin(&call);
             let mut home = lock(&self.home);
-            let end = home.drive(call, |numbers| roused.extend_from_slice(numbers));
-            end.unwrap_or(Err(Error::Other(raw::PARK))).map(|()| give(home.told()))
+            let end = self.drive_to_end(&mut home, call, &mut |numbers| roused.extend_from_slice(numbers));
+            end.map(|()| give(home.told()))
         };
         rethrow(self.bells.ring_all(&roused));
         answer
@@ -173,8 +232,9 @@ impl Shared {
             *raised = (*raised).max(Some(signal));
             let call = signal_call(number, signal);
             self.bells.ties.begin(&call);
-            let end = lock(&self.home).drive(call, |numbers| roused.extend_from_slice(numbers));
-            end.unwrap_or(Ok(()))
+            self.drive_to_end(&mut lock(&self.home), call, &mut |numbers| {
+                roused.extend_from_slice(numbers)
+            })
         };
         rethrow(self.bells.ring_all(&roused));
         answer
@@ -183,8 +243,7 @@ impl Shared {
     /// Raises a signal that is to end a wait of a task which nobody goes on with meanwhile.
     pub fn raise_to_leave(&self, number: u8, signal: Signal) -> Result<(), Error> {
         let _raised = self.bells.raised(number);
-        let end = lock(&self.home).drive(signal_call(number, signal), |_| ());
-        end.unwrap_or(Ok(()))
+        self.drive_to_end(&mut lock(&self.home), signal_call(number, signal), &mut |_| ())
     }
 }
 

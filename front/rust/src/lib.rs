@@ -48,6 +48,7 @@ mod bit_lock;
 mod completion;
 mod domain;
 mod error;
+mod gates;
 mod handle;
 mod lent;
 mod mutex;

@@ -14,6 +14,9 @@ pub const BITS: u8 = 64;
 /// ... and how many pages there are.
 pub const PAGES: u8 = 128;
 
+/// How many queues there are, each with a lock.
+pub const HEADS: u32 = 384;
+
 /// How many places there are for tasks that one call has roused.
 pub const ROUSED: usize = 768;
 
@@ -21,7 +24,7 @@ pub const ROUSED: usize = 768;
 pub const DONE: i32 = 0;
 /// Advance at once.
 pub const AGAIN: i32 = 1;
-/// It waits for the lock of a queue: advance a little later.
+/// It waits for the lock of a queue: advance once its ticket is served.
 pub const LOCKED: i32 = 2;
 /// The task was put asleep: advance once it was roused.
 pub const PARK: i32 = 3;
@@ -119,27 +122,35 @@ impl Call {
 #[repr(C)]
 pub struct Told {
     pub value: u64,
+    pub ticket: u64,
+    _served: u64,
     pub woken: u32,
     pub selected: u32,
     pub holds: u32,
     pub end: u32,
+    pub head: u32,
+    pub passed: u32,
     rouse_count: u32,
     rouse: [u8; ROUSED],
 }
 
 // The archive writes as many bytes: these are asserted in `sugwelan.h` too, which a test compares.
 const _: () = assert!(size_of::<Call>() == 24 && offset_of!(Call, value) == 16);
-const _: () = assert!(size_of::<Told>() == 800 && offset_of!(Told, rouse) == 28);
+const _: () = assert!(size_of::<Told>() == 824 && offset_of!(Told, rouse) == 52);
 
 impl Told {
     /// Nothing.
     pub fn new() -> Told {
         Told {
             value: 0,
+            ticket: 0,
+            _served: 0,
             woken: 0,
             selected: 0,
             holds: 0,
             end: 0,
+            head: HEADS,
+            passed: HEADS,
             rouse_count: 0,
             rouse: [0; ROUSED],
         }

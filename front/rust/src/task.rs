@@ -2,7 +2,7 @@
 
 use crate::bells::{Panic, Sleeper};
 use crate::handle::{rethrow, signal_call, Handle, Shared};
-use crate::raw::{self, Call, Kind, Told};
+use crate::raw::{Call, Kind, Told};
 use crate::states::{Simple, State};
 use crate::{Bit, Domain, Error, Page, Signal, Wait};
 use std::fmt;
@@ -124,14 +124,33 @@ impl Task {
 
     /// Begins a call or goes on with one, until it is over, or the task asleep: None.
     fn drive(&mut self, call: Call) -> Option<Result<(), Error>> {
-        let (bells, panic) = (&self.shared.bells, &mut self.panic);
-        bells.ties.begin(&call);
-        let end = self.handle.drive(call, |numbers| {
-            let broken = bells.ring_all(numbers);
+        let (shared, panic) = (&self.shared, &mut self.panic);
+        shared.bells.ties.begin(&call);
+        let end = self.handle.drive(&shared.gates, call, &mut |numbers| {
+            let broken = shared.bells.ring_all(numbers);
             *panic = panic.take().or(broken);
         });
         self.starved |= end == Some(Err(Error::Starved));
         end
+    }
+
+    /// Makes a call to its end that puts nobody asleep. Its thread parks while it waits for the lock of a queue.
+    fn drive_to_end(&mut self, call: Call) -> Result<(), Error> {
+        let mut end = self.drive(call);
+        loop {
+            if let Some(end) = end {
+                return end;
+            }
+            self.doze();
+            end = self.drive(Call::new(Kind::Advance));
+        }
+    }
+
+    /// Parks the thread until the task is roused.
+    fn doze(&self) {
+        if self.listen(Sleeper::Thread(thread::current())) {
+            thread::park();
+        }
     }
 
     /// Counts what a call has taken or given back that is over.
@@ -148,7 +167,7 @@ impl Task {
     /// A call that puts nobody asleep.
     fn at_once(&mut self, call: Call) -> Result<(), Error> {
         self.leave();
-        let end = self.drive(call).unwrap_or(Err(Error::Other(raw::PARK)));
+        let end = self.drive_to_end(call);
         if end.is_ok() {
             self.count(&call);
         }
@@ -224,6 +243,7 @@ impl Task {
         let end = loop {
             match self.go_on() {
                 Some(end) => break end,
+                None if self.handle.is_at_gate() => self.doze(),
                 None => thread::yield_now(),
             }
         };
@@ -237,9 +257,10 @@ impl Task {
     fn take_own_signal(&mut self) {
         let (number, shared) = (self.number(), self.shared.clone());
         let raised = shared.bells.raised(number);
-        self.drive(Call::new(Kind::TakeSignal));
+        // Neither waits for a lock, and errors there are none.
+        let _ = self.drive_to_end(Call::new(Kind::TakeSignal));
         if let Some(signal) = *raised {
-            self.drive(signal_call(number, signal));
+            let _ = self.drive_to_end(signal_call(number, signal));
         }
     }
 
@@ -267,9 +288,14 @@ impl Task {
             .with(1),
             _ => return,
         };
-        if let Some(Ok(())) = self.drive(call) {
+        if self.drive_to_end(call).is_ok() {
             self.count(&call);
         }
+    }
+
+    /// Whether the thread parks where the task waits, or a future is polled again.
+    pub(crate) fn set_blocks(&mut self, blocks: bool) {
+        self.handle.blocks = blocks;
     }
 
     /// The value that the last call gave.
@@ -349,7 +375,7 @@ impl Task {
         self.leave();
         let shared = self.shared.clone();
         let mut raised = shared.bells.raised(self.number());
-        self.drive(Call::new(Kind::TakeSignal)).unwrap_or(Ok(()))?;
+        self.drive_to_end(Call::new(Kind::TakeSignal))?;
         shared.bells.ties.signalled(self.number());
         Ok(raised.take())
     }

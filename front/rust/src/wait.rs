@@ -80,11 +80,15 @@ impl<'t, T, S: State> Wait<'t, T, S> {
 impl<T, S: Left> Future for Wait<'_, T, S> {
     type Output = Result<T, Error>;
 
-    /// Never waits for another future: it goes on until the task is asleep in its queue, and holds nothing then.
+    /// Never waits for another future: it goes on until the task is asleep in its queue, or waits for the lock of one, and
+    /// then others go on with it.
     fn poll(self: Pin<&mut Self>, context: &mut Context<'_>) -> Poll<Self::Output> {
         let wait = self.get_mut();
         loop {
-            if let Some(end) = wait.go_on() {
+            wait.task.set_blocks(false);
+            let end = wait.go_on();
+            wait.task.set_blocks(true);
+            if let Some(end) = end {
                 return Poll::Ready(end);
             }
             wait.task.rethrow();

@@ -3,4 +3,5 @@ use Rattle.sugwelan_c.specs.Served.{Further}
 use Rattle.sugwelan_c.proofs.serving.go_further.Given as goal
 
 abbrev pub invariant-loop-stretch : goal.invariant-loop-stretch
-invariant-loop-stretch l = Further l.fn.task l.fn.first (tasks_in l.fn.rousing) l.task l.reply (tasks_in l.rousing)
+invariant-loop-stretch l = Further l.fn.task l.fn.first (tasks_in l.fn.rousing) l.fn.passed
+    l.task l.reply (tasks_in l.rousing) l.passed

@@ -1,0 +1,210 @@
+-- A call that tells of a lock has its ticket out.
+use Rattle.std.proofs.Common.{◌≡◌, ◌∙◌, subst, sym, ap}
+use Rattle.std.specs.Prelude.{ℕ, if◌then◌else◌, Option, Some, None}
+use Rattle.wait_rule.specs.Known.{Known}
+use Rattle.wait_rule.specs.Tickets.{drawn, taken}
+use Rattle.wait_class.specs.Posts.{ticket_out}
+use Rattle.wait_class.specs.Laws.{IsLawful, LawOf, LockLaw}
+use Rattle.wait_class.specs.declared.stages.Doing.{Doing}
+use Rattle.wait_class.specs.declared.stages.Doing.TheVariants as doing
+use Rattle.wait_class.specs.declared.stages.Run.{Run}
+use Rattle.wait_class.specs.declared.stages.Turn.{Turn}
+use Rattle.wait_class.specs.declared.stages.Turn.TheVariants as turn
+use Rattle.wait_class.specs.Tables.{Advances, IsAt, Table, head_in, watch_at}
+use Rattle.wait_class.proofs.Framing.{framed_lawful}
+use Rattle.wait_event.specs.Waits as events
+use Rattle.wait_event.proofs.WaitLaws.{wait_lawful}
+use Rattle.bit_wait.specs.BitTables as bits
+use Rattle.bit_wait.proofs.BitLaws.{bit_lawful}
+use Rattle.bit_wait.specs.LockTables as takes
+use Rattle.bit_wait.proofs.LockLaws.{lock_lawful}
+use Rattle.page_lock.specs.PageTables as pages
+use Rattle.page_lock.proofs.PageLaws.{page_lawful}
+use Rattle.completion_cell.specs.Awaits as awaits
+use Rattle.completion_cell.specs.CellTurns as cells
+use Rattle.completion_cell.specs.declared.awaits.AwaitRun.{AwaitRun}
+use Rattle.completion_cell.specs.declared.awaits.AwaitStage.{AwaitStage}
+use Rattle.completion_cell.specs.declared.awaits.AwaitStage.TheVariants as await_stage
+use Rattle.completion_cell.specs.declared.awaits.AwaitTurn.{AwaitTurn}
+use Rattle.completion_cell.specs.declared.awaits.AwaitTurn.TheVariants as await_turn
+use Rattle.completion_cell.specs.declared.cell_turns.CellRun.{CellRun}
+use Rattle.completion_cell.specs.declared.cell_turns.CellStage.{CellStage}
+use Rattle.completion_cell.specs.declared.cell_turns.CellStage.TheVariants as cell_stage
+use Rattle.swait_queue.specs.SwakeTurns as swakes
+use Rattle.swait_queue.specs.declared.swake_turns.SwakeRun.{SwakeRun}
+use Rattle.swait_queue.specs.declared.swake_turns.SwakeStage.{SwakeStage}
+use Rattle.swait_queue.specs.declared.swake_turns.SwakeStage.TheVariants as swake_stage
+use Rattle.wq_head.specs.Holds.{HasWaited}
+use Rattle.wq_head.specs.Turns as wakes
+use Rattle.wq_head.specs.declared.wakes.WakeRun.{WakeRun}
+use Rattle.wq_head.specs.declared.wakes.WakeStage.{WakeStage}
+use Rattle.wq_head.specs.declared.wakes.WakeStage.TheVariants as wake_stage
+use Rattle.wq_checked.specs.Calls.{CameFrom, Fits, IsSound, WentOn}
+use Rattle.wq_checked.specs.Calls.{await_told, turn_told}
+use Rattle.wq_checked.specs.Locks.{IsDrawn, awaited_in, lock_at, lock_with, refused_with, refusal_told, turn_ticket, wake_ticket}
+use Rattle.wq_checked.specs.Reasons.{stopped_reason}
+use Rattle.wq_checked.specs.declared.kept_bits.KeptBits.{KeptBits}
+use Rattle.wq_checked.specs.declared.calls.Awaited.{Awaited}
+use Rattle.wq_checked.specs.declared.calls.Progress.{Progress}
+use Rattle.wq_checked.specs.declared.calls.Progress.TheVariants as progress
+use Rattle.wq_checked.specs.declared.calls.Running.{Running}
+use Rattle.wq_checked.specs.declared.calls.Running.TheVariants as running
+
+-- the ticket of a lock is out
+abbrev IsOut : Known → Option Awaited → Type 0
+IsOut k (Some a) = k.book.ticket ≡ drawn a.head a.ticket
+IsOut k None = Unit {0}
+
+-- what a refused stretch tells is drawn where the lock's ticket is out
+refused_drawn : (k : Known) (o : Option Awaited) → IsOut k o → IsDrawn k (refused_with o)
+refused_drawn k (Some a) out = out
+refused_drawn k None out = tt
+
+awaited_drawn : (k : Known) (o : Option Awaited) (a : Awaited) → o ≡ Some a → IsOut k o → IsDrawn k (progress.Locked a)
+awaited_drawn k o a is out = subst (IsOut k) is out
+
+-- so it is where a wait of the ground waits for its lock
+module _ {C S O : Type 0} (t : Table C S O) (law : IsLawful t) (k : Known) (r : Run C) (s : S) (at : IsAt t k r s) where
+  drawn_is : LockLaw t r.of s → k.book.ticket ≡ drawn (head_in t r.of s) r.ticket
+  drawn_is l = at.stands.ticket ∙ (λ i. if l.free i then taken ((t.plan_of r.of).head (t.point_of s))
+      else ticket_out (l.head i) (if l.drawn i then Some r.ticket else None))
+
+  out_by : (d : Doing) → LawOf d t r.of s → IsOut k (lock_with (watch_at t r.of s) r.served (turn_ticket d r.ticket))
+  out_by doing.Lock l = drawn_is l
+  out_by doing.Own l = tt
+  out_by doing.Load l = tt
+  out_by doing.Draw l = tt
+  out_by doing.Unlock l = tt
+  out_by doing.State l = tt
+  out_by doing.Look l = tt
+  out_by doing.Sleep l = tt
+  out_by doing.Peek l = tt
+  out_by doing.Pare l = tt
+  out_by doing.Heed l = tt
+  out_by doing.Queue l = tt
+
+  ground_out : IsOut k (lock_at t r s)
+  ground_out = out_by (t.doing s) (law.at r.of s)
+
+await_out : (k : Known) (r : AwaitRun) (s : AwaitStage) → awaits.IsAt k r s
+    → IsOut k (lock_with (awaits.await_watch r) r.served (awaits.ticket_at s r.ticket))
+await_out k r await_stage.FirstTurn at = at.stands.ticket
+await_out k r await_stage.AgainTurn at = at.stands.ticket
+await_out k r await_stage.First at = tt
+await_out k r await_stage.Sleep at = tt
+await_out k r await_stage.Again at = tt
+
+-- who drew a ticket and waits for it has it out
+waited_out : (base now : Known) → HasWaited base now → now.book.ticket ≡ base.book.ticket
+waited_out base now w = ap (λ (k : Known). k.book.ticket) w.is
+
+wake_out : (start now : Known) (r : WakeRun) (s : WakeStage) → wakes.IsAt start now r s
+    → IsOut now (lock_with r.aim.watch r.served (wake_ticket s r.ticket))
+wake_out start now r wake_stage.First at = tt
+wake_out start now r wake_stage.FirstTurn at = waited_out _ now at.stands
+wake_out start now r wake_stage.Next at = tt
+wake_out start now r wake_stage.NextTurn at = waited_out _ now at.stands.2
+
+swake_out : (start now : Known) (r : SwakeRun) → swakes.IsAt start now r swake_stage.Turn
+    → IsOut now (awaited_in (running.Swake r swake_stage.Turn))
+swake_out start now r at = waited_out _ now at.stands.waits
+
+cell_out : (start now : Known) (r : CellRun) → cells.IsAt start now r cell_stage.Turn
+    → IsOut now (awaited_in (running.Cell r cell_stage.Turn))
+cell_out start now r at = waited_out _ now at.stands.awaits.waits
+
+-- what is told by an equation
+told_by : (k : Known) (p q : Progress) → p ≡ q → IsDrawn k q → IsDrawn k p
+told_by k p q is out = subst (IsDrawn k) (sym is) out
+
+-- a wait of the ground that tells the lock at which its last stretch was refused
+ground_drawn : {C S O : Type 0} (t : Table C S O) → IsLawful t → (start k : Known) (f r : Run C) (first : S)
+    (now : Turn S O → Running) → ((s : S) → awaited_in (now (turn.Locked s)) ≡ lock_at t r s) → (u : Turn S O)
+    (p : Progress) → Advances t start k f r first u → p ≡ turn_told (now u) u → IsDrawn k p
+ground_drawn t law start k f r first now here (turn.Locked s) p a is = told_by k p _ is
+    (refused_drawn k _ (subst (IsOut k) (sym (here s)) (ground_out t law k r s a.lands)))
+ground_drawn t law start k f r first now here (turn.Again s) p a is = told_by k p _ is tt
+ground_drawn t law start k f r first now here (turn.Asleep s) p a is = told_by k p _ is tt
+ground_drawn t law start k f r first now here (turn.Done o) p a is = told_by k p _ is tt
+
+await_drawn : (start k : Known) (f r : AwaitRun) (t : AwaitTurn) (p : Progress)
+    → awaits.Advances start k f r await_stage.First t → p ≡ await_told r t → IsDrawn k p
+await_drawn start k f r (await_turn.Locked s) p a is = told_by k p _ is (refused_drawn k _ (await_out k r s a.lands))
+await_drawn start k f r (await_turn.Again s) p a is = told_by k p _ is tt
+await_drawn start k f r (await_turn.Asleep s) p a is = told_by k p _ is tt
+await_drawn start k f r (await_turn.Done o) p a is = told_by k p _ is tt
+
+swake_drawn : (start k : Known) (r : SwakeRun) (s : SwakeStage) (p : Progress) → swakes.IsAt start k r s
+    → Fits (running.Swake r s) p → IsDrawn k p
+swake_drawn start k r swake_stage.Turn (progress.Locked a) at fits =
+    awaited_drawn k _ a fits (swake_out start k r at)
+swake_drawn start k r swake_stage.First (progress.Locked a) at fits = absurd (cc)
+swake_drawn start k r s progress.Again at fits = tt
+swake_drawn start k r s progress.Park at fits = tt
+swake_drawn start k r s (progress.Done a) at fits = tt
+swake_drawn start k r s progress.Starved at fits = tt
+
+cell_drawn : (start k : Known) (r : CellRun) (s : CellStage) (p : Progress) → cells.IsAt start k r s
+    → Fits (running.Cell r s) p → IsDrawn k p
+cell_drawn start k r cell_stage.Turn (progress.Locked a) at fits = awaited_drawn k _ a fits (cell_out start k r at)
+cell_drawn start k r cell_stage.First (progress.Locked a) at fits = absurd (cc)
+cell_drawn start k r s progress.Again at fits = tt
+cell_drawn start k r s progress.Park at fits = tt
+cell_drawn start k r s (progress.Done a) at fits = tt
+cell_drawn start k r s progress.Starved at fits = tt
+
+wake_drawn : (start k : Known) (r : WakeRun) (s : WakeStage) (p : Progress) → wakes.IsAt start k r s
+    → Fits (running.Wake r s) p → IsDrawn k p
+wake_drawn start k r s (progress.Locked a) at fits = awaited_drawn k _ a fits (wake_out start k r s at)
+wake_drawn start k r s progress.Again at fits = tt
+wake_drawn start k r s progress.Park at fits = tt
+wake_drawn start k r s (progress.Done a) at fits = tt
+wake_drawn start k r s progress.Starved at fits = tt
+
+-- what an advance tells is drawn
+came_drawn : (start : Known) (first : Running) (k : Known) (now : Running) (p : Progress) → CameFrom start first k now
+    → Fits now p → IsDrawn k p
+came_drawn start (running.Event f from) k (running.Event r t) p came fits = ground_drawn events.wait_table wait_lawful start k f r _
+    (running.Event r) (λ s. refl) t p came fits
+came_drawn start (running.Bit f from) k (running.Bit r t) p came fits = ground_drawn bits.bit_table (framed_lawful bits.bit_frame bit_lawful) start k f r _
+    (running.Bit r) (λ s. refl) t p came fits
+came_drawn start (running.Lock f from) k (running.Lock r t) p came fits = ground_drawn takes.lock_table (framed_lawful takes.lock_frame lock_lawful) start k f r _
+    (running.Lock r) (λ s. refl) t p came fits
+came_drawn start (running.Page f from) k (running.Page r t) p came fits = ground_drawn pages.page_table page_lawful start k f r _
+    (running.Page r) (λ s. refl) t p came fits
+came_drawn start (running.Await f from) k (running.Await r t) p came fits = await_drawn start k f r t p came.went fits
+came_drawn start (running.Wake f from) k (running.Wake r s) p came fits = wake_drawn start k r s p came.0 fits
+came_drawn start (running.Swake f from) k (running.Swake r s) p came fits = swake_drawn start k r s p came.at fits
+came_drawn start (running.Cell f from) k (running.Cell r s) p came fits = cell_drawn start k r s p came.at fits
+came_drawn start first k now p came fits = absurd came
+
+went_drawn : (start : Known) (first : Running) (k : Known) (now : Running) (p : Progress) → WentOn start first k now p
+    → IsDrawn k p
+went_drawn start first k now progress.Again went = tt
+went_drawn start first k now (progress.Locked a) went = came_drawn start first k now (progress.Locked a) went.0 went.1
+went_drawn start first k now progress.Park went = tt
+went_drawn start first k now (progress.Done a) went = tt
+went_drawn start first k now progress.Starved went = tt
+
+-- of a call that is under way
+pub goes_drawn : (ks : KeptBits) (old : Known) (running : Running) (k : Known) (now : Running) (p : Progress)
+    → stopped_reason running ≡ None → IsSound running ks old
+    → ((start : Known) (first : Running) → CameFrom start first old running → WentOn start first k now p) → IsDrawn k p
+goes_drawn ks old running.Idle k now p under sound goes = absurd (cc)
+goes_drawn ks old running.Starved k now p under sound goes = absurd (cc)
+goes_drawn ks old (running.Event r t) k now p under sound goes =
+    went_drawn sound.start sound.first k now p (goes sound.start sound.first sound.came)
+goes_drawn ks old (running.Bit r t) k now p under sound goes =
+    went_drawn sound.start sound.first k now p (goes sound.start sound.first sound.came)
+goes_drawn ks old (running.Lock r t) k now p under sound goes =
+    went_drawn sound.start sound.first k now p (goes sound.start sound.first sound.came)
+goes_drawn ks old (running.Page r t) k now p under sound goes =
+    went_drawn sound.start sound.first k now p (goes sound.start sound.first sound.came)
+goes_drawn ks old (running.Await r t) k now p under sound goes =
+    went_drawn sound.start sound.first k now p (goes sound.start sound.first sound.came)
+goes_drawn ks old (running.Wake r s) k now p under sound goes =
+    went_drawn sound.start sound.first k now p (goes sound.start sound.first sound.came)
+goes_drawn ks old (running.Swake r s) k now p under sound goes =
+    went_drawn sound.start sound.first k now p (goes sound.start sound.first sound.came)
+goes_drawn ks old (running.Cell r s) k now p under sound goes =
+    went_drawn sound.start sound.first k now p (goes sound.start sound.first sound.came)

@@ -4,12 +4,15 @@ use super::{doze, finish, has_waited, refuses, start_two};
 use crate::wants::all_so;
 use std::test::Fail;
 use wait_event::wait_events::WaitEnd;
+use wait_model::heads::head_of;
 use wait_model::layout::{COMPLETIONS, FIRST_SIMPLE};
 use wait_model::tasks::{How, SleepState, Taken};
+use wait_model::watches::Watch;
 use wq_checked::calls::Answer;
 use wq_checked::reasons::Refused;
 use wq_checked::signals::Raised;
 use wq_checked::tasks::CheckedTask;
+use wq_head::Rousing;
 
 /// Goes on to the end of a call about a completion: whether it told this.
 fn tells(task: &mut CheckedTask, wanted: bool) -> bool {
@@ -62,6 +65,31 @@ fn selects(task: &mut CheckedTask, wanted: u32) -> bool {
         Some(Answer::Selected(selected)) => selected == wanted,
         _ => false,
     }
+}
+
+/// One advance: the head whose lock it gave back.
+fn passed(task: &mut CheckedTask) -> Option<u16> {
+    let mut rousing = Rousing::new();
+    let mut passed = None;
+    let _ = task.advance(&mut rousing, &mut passed);
+    rousing.hand_on();
+    rousing.end();
+    passed
+}
+
+#[test]
+fn a_lock_that_was_given_back_is_told(rt: HostRuntime) -> Result<(), Fail> {
+    let head = head_of(Watch::Done { cell: 3 });
+    let mut task = CheckedTask::start(rt.alloc())?;
+    task.complete(3)?;
+    assert_eq!(rt; passed(&mut task), Some(head));
+    task.begin_await(3, SleepState::Uninterruptible)?;
+    assert_eq!(rt; passed(&mut task), Some(head));
+    task.try_wait(3)?;
+    assert_eq!(rt; passed(&mut task), None);
+    task.begin_bit(3, 4, SleepState::Uninterruptible)?;
+    assert_eq!(rt; passed(&mut task), None);
+    Ok(())
 }
 
 #[test]

@@ -105,11 +105,12 @@ plan_post out plan p = record {
 
 -- The table of a class of calls, with its stages and outcomes: the call that a run makes, whether its numbers are in
 -- their ranges, and the run that has noted a place; whether its add tells that the head had no member, and the run that
--- has noted so; of each stage the point of its program, what is done at it, whether
--- the ticket of its lock is drawn, whether the call has taken what it waits for, and how many events are left at most
--- until no head is held; which part of the call its turns stay in; the stage behind a draw; where a turn goes on by what it found, after a sleep (and whether that is such a place), and by what came
--- of an add; which state a stage stores; how the task stands at the end; what the run tells of the transitions that it
--- made; what a stage and an outcome say of its last steps; and what stays of it over a part of a call.
+-- has noted so; of each stage the point of its program, what is done at it, whether the ticket of its lock is drawn,
+-- whether the call has taken what it waits for, and how many events are left at most until no head is held; which part
+-- of the call its turns stay in; the stage behind a draw; where a turn goes on by what it found, after a sleep (and
+-- whether that is such a place), and by what came of an add; which state a stage stores; how the task stands at the
+-- end; what the run tells of the transitions that it made; what a stage and an outcome say of its last steps; and what
+-- stays of it over a part of a call.
 pub record Table (C S O : Type 0) : Type 1 where
   pub plan_of : C → Plan
   pub Fits : C → Type 0

@@ -4,10 +4,8 @@ use Rattle.std.proofs.lemmas.Bool.Decides.{eqb_tells}
 use Rattle.std.specs.Prelude.{ℕ, ◌≡◌, ◌≢◌, ◌<◌, ◌⊎◌, ◌==◌, ◌&&◌, ◌||◌, not, Bool, true, false, MatchBool}
 use Rattle.std.specs.Prelude.{if◌then◌else◌, Option, Some, None, [], ◌∷◌}
 use Rattle.wait_model.specs.declared.layout.TheConstants.{SLOTS}
-use Rattle.wait_model.specs.declared.calls.Event.{Event}
 use Rattle.wait_model.specs.declared.points.Next.{Next}
 use Rattle.wait_model.specs.declared.points.Next.TheVariants as next
-use Rattle.wait_model.specs.declared.points.Planned.{Planned}
 use Rattle.wait_model.specs.declared.steps.Step.{Step}
 use Rattle.wait_model.specs.declared.steps.Step.TheVariants as step
 use Rattle.wait_model.specs.declared.watches.Entry.{Entry}
@@ -30,9 +28,8 @@ use Rattle.wait_rule.proofs.KnownLaws.Debts.{added_debts, entries_debts, list_de
 use Rattle.wait_rule.proofs.KnownLaws.TaskHistories.{history_after}
 use Rattle.wait_rule.proofs.KnownLaws.Transitions.{only_none}
 use Rattle.wait_class.specs.Posts.{IsOut}
-use Rattle.wait_class.specs.Posts.{Post, Runs, Stands}
+use Rattle.wait_class.specs.Posts.{Post, Stands}
 use Rattle.wait_class.specs.Findings.{with_value}
-use Rattle.wait_class.proofs.Ground.Going.{runs_one}
 use Rattle.wait_class.proofs.Ground.Standing.{stands_on}
 use Rattle.wait_class.specs.declared.stages.Run.{Run}
 use Rattle.wait_class.specs.declared.stages.Turn.{Turn}
@@ -122,9 +119,10 @@ module _ {C S O : Type 0} (t : Table C S O) (old new : Known) (r : Run C) (s : S
     goes = record {
       runs = record {
         transitions = did ∷ [];
-        goes = subst (λ (m : Next). Goes f old (next.Go (t.point_of s)) (did ∷ []) new m) to
-            (record { looks = only_none old; is = made; finds = finds },
-            (subst (OnlyLooks (added old (item.Made e))) (sym is) (only_none (added old (item.Made e))), refl));
+        goes = subst (λ (m : Next). Goes f old (next.Go (t.point_of s)) (did ∷ []) new m) to (
+          record { looks = only_none old; is = made; finds = finds },
+          (subst (OnlyLooks (added old (item.Made e))) (sym is) (only_none (added old (item.Made e))), refl),
+        );
       };
       tells = tells did refl;
       made = record { before = []; event = e; behind = []; is = history_after old new e is };

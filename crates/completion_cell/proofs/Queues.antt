@@ -35,7 +35,6 @@ use Rattle.wq_head.specs.Holds.{IsHolding}
 use Rattle.wq_head.specs.Looks.{Looks}
 use Rattle.wq_head.proofs.CarriedHolds.{looks_carried, unlock_carried}
 use Rattle.wq_head.proofs.OneMoreLook.{saw_looks, whole_of}
-use Rattle.wait_rule.specs.Queues.{IsTailPlace}
 use Rattle.wait_class.specs.Posts.{HasSeenOwn, Post, Stands}
 use Rattle.wait_class.specs.Findings.{nothing, with_entry as finds, with_worn}
 use Rattle.wait_class.specs.Posts.{own_of}

@@ -42,7 +42,7 @@ use Rattle.wait_rule.specs.Counts.{StoresCount}
 use Rattle.wait_rule.specs.HandedPermits.{FoundNoPermit, OwesNoPermit}
 use Rattle.wait_rule.specs.HeldValues.{count_in}
 use Rattle.wait_rule.specs.Known.{Known}
-use Rattle.wait_rule.specs.Queues.{IsTailPlace, index, saw}
+use Rattle.wait_rule.specs.Queues.{index, saw}
 use Rattle.wait_rule.specs.Says.{added, history_of, unlocked_with}
 use Rattle.wait_rule.specs.Stays.{Carries, state_change}
 use Rattle.wait_rule.proofs.KnownLaws.HandedPermits.{cell_is}

@@ -14,20 +14,18 @@ use Rattle.wait_model.specs.declared.watches.Watch.{Watch}
 use Rattle.wait_model.specs.declared.watches.Watch.TheVariants as watch
 use Rattle.wait_model.specs.Programs.{active_event}
 use Rattle.wait_model.specs.Tasks.{meets}
-use Rattle.wait_model.specs.Watches.{head_of, mask_of, same}
-use Rattle.wait_model.proofs.Sameness.{same_head}
+use Rattle.wait_model.specs.Watches.{head_of, mask_of}
 use Rattle.wait_rule.specs.declared.journal.Item.{Item}
 use Rattle.wait_rule.specs.declared.journal.Item.TheVariants as item
 use Rattle.wait_rule.specs.Items.{Book, book_from}
 use Rattle.wait_rule.specs.Known.{Known}
 use Rattle.wait_rule.specs.Queues.{IsIdle, index}
-use Rattle.wait_rule.specs.Says.{Excuse, added, grown, told_of}
+use Rattle.wait_rule.specs.Says.{added, grown, told_of}
 use Rattle.wait_rule.specs.Stays.{Carries, publish_change, unchanged, wake_all_change, with_wakes}
 use Rattle.wait_rule.specs.Transitions.{AreScansOf, Program, by_look, by_step, call_program}
-use Rattle.wait_rule.proofs.KnownLaws.CarriedTasks.{owes_more}
 use Rattle.wait_rule.proofs.KnownLaws.Transitions.{only_none}
 use Rattle.wq_head.proofs.HeadLooks.{found_none_over}
-use Rattle.wq_head.specs.Scanned.{HasEndedAt, HasScanned, spares_head, unmade}
+use Rattle.wq_head.specs.Scanned.{HasEndedAt, HasScanned, unmade}
 use Rattle.wq_head.specs.Walks.{HasEnded, HasWoken, most}
 use Rattle.wait_event.specs.Conds.{set_change}
 use Rattle.wait_class.specs.Posts.{Runs}

@@ -6,7 +6,6 @@ use Rattle.wait_model.specs.declared.calls.Event.{Event}
 use Rattle.wait_model.specs.declared.calls.Event.TheVariants as event
 use Rattle.wait_model.specs.declared.points.FinishPoint.{FinishPoint}
 use Rattle.wait_model.specs.declared.points.FinishPoint.TheVariants as finishing
-use Rattle.wait_model.specs.declared.points.Given.{Given}
 use Rattle.wait_model.specs.declared.points.Next.{Next}
 use Rattle.wait_model.specs.declared.points.Next.TheVariants as next
 use Rattle.wait_model.specs.declared.points.Planned.{Planned}
@@ -21,7 +20,7 @@ use Rattle.wait_model.specs.PointFacts.{stirs}
 use Rattle.wait_model.specs.Tasks.{state_mask}
 use Rattle.wait_class.specs.FrameLaws.{frame_given, frame_head, frame_makes, frame_stirs, framed_plan}
 use Rattle.wait_class.specs.Frames.{FrameTable}
-use Rattle.wait_class.specs.Tables.{Plan, call_plan}
+use Rattle.wait_class.specs.Tables.{call_plan}
 
 module _ {W T O : Type 0} (f : FrameTable W T O) (ends : Bool → Next) (c : Call)
     (from : prepares_from c ≡ at.Prepare preparing.Queue) (to : prepared_at c ≡ f.test_point f.prepared)

@@ -12,7 +12,6 @@ use Rattle.wait_model.specs.Tasks.{state_mask}
 use Rattle.wait_model.specs.Watches.{head_of}
 use Rattle.wait_rule.specs.Known.{Known}
 use Rattle.wait_rule.specs.Queues.{index}
-use Rattle.wait_rule.specs.Says.{MayStore}
 use Rattle.wait_class.specs.Posts.{IsStateFor}
 use Rattle.wait_class.specs.declared.frame_stages.Framed.{Framed}
 use Rattle.wait_class.specs.declared.frame_stages.Stage.{Stage}

@@ -25,7 +25,7 @@ use Rattle.wait_rule.proofs.KnownLaws.AfterSteps.{told_added}
 use Rattle.wait_rule.proofs.KnownLaws.Transitions.{only_none}
 use Rattle.wait_rule.proofs.KnownLaws.Turns.{finds_turn, other_number, serve_looks}
 use Rattle.wq_head.proofs.CarriedHolds.{unlock_carried}
-use Rattle.wait_class.specs.Posts.{IsStateFor, Post, Runs, Stands}
+use Rattle.wait_class.specs.Posts.{IsStateFor, Post, Stands}
 use Rattle.wait_class.specs.Findings.{nothing}
 use Rattle.wait_class.proofs.Ground.Going.{runs_looks}
 use Rattle.wait_class.proofs.Ground.Standing.{draw_stands, lock_stands, serving_stands, stands_as, still_stands}

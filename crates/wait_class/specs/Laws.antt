@@ -14,7 +14,7 @@ use Rattle.wait_model.specs.Runs.{entry_for}
 use Rattle.wait_model.specs.Views.{off}
 use Rattle.wait_model.specs.PointFacts.{IsHome, Zone, holds, pages, waits}
 use Rattle.wait_model.specs.Tasks.{pending, state_mask, task_of}
-use Rattle.wait_model.specs.Watches.{IsThere, head_of}
+use Rattle.wait_model.specs.Watches.{IsThere}
 use Rattle.wait_model.specs.Words.{entry_of}
 use Rattle.wait_rule.specs.Ends.{WasWorn}
 use Rattle.wait_rule.specs.HandedPermits.{OwesNoPermit}

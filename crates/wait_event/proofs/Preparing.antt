@@ -68,7 +68,6 @@ use Rattle.wait_event.specs.Prepares.{
   prepared_in,
   with_first,
 }
-use Rattle.wait_rule.specs.declared.tries.FailedTries.{FailedTries}
 use Rattle.wait_event.specs.Waits.{IsFresh, IsRunning, IsQueuedIn, SameCall, is_prepared, left_by, point_of, queues_first, tells_first, wait_table}
 use Rattle.wait_class.specs.Posts.{EndsWith, own_of}
 use Rattle.wait_class.specs.Findings.{nothing}

@@ -1,13 +1,12 @@
 -- The add of a wait's entry.
 use Rattle.std.proofs.Common.{◌∙◌, ap, sym, refl, subst}
-use Rattle.std.specs.Prelude.{ℕ, ◌≡◌, ◌&&◌, ◌||◌, not, Bool, true, false, if◌then◌else◌, None}
+use Rattle.std.specs.Prelude.{ℕ, ◌≡◌, ◌&&◌, ◌||◌, Bool, true, false, if◌then◌else◌, None}
 use Rattle.wait_model.specs.declared.queues.Form.{Form}
 use Rattle.wait_model.specs.declared.queues.Form.TheVariants as forms
 use Rattle.wait_model.specs.declared.watches.Kind.{Kind}
 use Rattle.wait_model.specs.declared.watches.Watch.{Watch}
 use Rattle.wait_model.specs.declared.watches.Watch.TheVariants as watch
-use Rattle.wait_model.specs.Queues.{is_priority, place_for}
-use Rattle.wait_model.specs.Runs.{entry_for}
+use Rattle.wait_model.specs.Queues.{is_priority}
 use Rattle.wait_model.specs.Watches.{bare, kind_for}
 use Rattle.wait_model.specs.Views.{off}
 use Rattle.wait_rule.specs.Ends.{WasWorn}
@@ -23,7 +22,7 @@ use Rattle.wq_head.specs.Looks.{Looks}
 use Rattle.wq_head.proofs.CarriedHolds.{looks_carried}
 use Rattle.wq_head.proofs.OneMoreLook.{looks_on}
 use Rattle.wait_class.specs.declared.stages.Doing.TheVariants as doing
-use Rattle.wait_class.specs.Laws.{HasJoined, IsWornFor, MayAdd}
+use Rattle.wait_class.specs.Laws.{HasJoined, IsWornFor}
 use Rattle.wait_class.specs.Posts.{Keeps}
 use Rattle.wait_class.specs.Queueing.{IsFormPlace, IsFormWorn, TellsFirst, form_entry, is_none, wait_form}
 use Rattle.wait_class.proofs.FormPlaces.{first_later, form_is, form_left, form_worn}

@@ -5,9 +5,7 @@ use Rattle.wait_model.specs.declared.calls.Answer.TheVariants as answer
 use Rattle.wait_model.specs.declared.calls.Event.{Event}
 use Rattle.wait_model.specs.declared.calls.Event.TheVariants as event
 use Rattle.wait_model.specs.declared.points.FinishPoint.TheVariants as finishing
-use Rattle.wait_model.specs.declared.points.Given.{Given}
 use Rattle.wait_model.specs.declared.points.LeavePoint.TheVariants as leaving
-use Rattle.wait_model.specs.declared.points.Next.{Next}
 use Rattle.wait_model.specs.declared.points.Next.TheVariants as next
 use Rattle.wait_model.specs.declared.points.Planned.{Planned}
 use Rattle.wait_model.specs.declared.points.Point.TheVariants as at
@@ -25,7 +23,6 @@ use Rattle.wait_rule.specs.Says.{history_of, told_of}
 use Rattle.wait_rule.specs.Tickets.{taken}
 use Rattle.wait_rule.specs.Transitions.{IsMadeFor, by_step}
 use Rattle.wq_head.proofs.PermitHeads.{owes_low}
-use Rattle.wait_class.specs.declared.stages.Doing.TheVariants as doing
 use Rattle.wait_class.specs.declared.stages.Turn.{Turn}
 use Rattle.wait_class.specs.declared.stages.Turn.TheVariants as turn
 use Rattle.wait_class.specs.Posts.{IsStateFor}
@@ -48,19 +45,7 @@ use Rattle.wait_class.proofs.Ground.Standing.{home_waits, owner_own}
 use Rattle.wait_class.proofs.Stays.{wait_stays}
 use Rattle.wait_class.proofs.Turns.{may_by}
 use Rattle.wait_class.proofs.Ways.{go_if, load_fork, look_by, sleep_by, way}
-use Rattle.wait_event.specs.WaitPlans.{prepares_at}
-use Rattle.wait_event.specs.Waits.{
-  IsRunning,
-  Tells,
-  depth,
-  doing_at,
-  is_slept,
-  looks_first,
-  loaded_to,
-  stays_in,
-  turn_of,
-  wait_table,
-}
+use Rattle.wait_event.specs.Waits.{IsRunning, depth, doing_at, looks_first, loaded_to, stays_in, wait_table}
 use Rattle.wait_event.specs.declared.waits.WaitCall.{WaitCall}
 use Rattle.wait_event.specs.declared.waits.WaitOutcome.{WaitOutcome}
 use Rattle.wait_event.specs.declared.waits.WaitOutcome.TheVariants as outcome

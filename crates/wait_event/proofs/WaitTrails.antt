@@ -7,26 +7,15 @@ use Rattle.wait_model.specs.declared.steps.Step.TheVariants as step
 use Rattle.wait_model.specs.declared.watches.Entry.{Entry}
 use Rattle.wait_model.specs.declared.watches.Watch.{Watch}
 use Rattle.wait_model.specs.declared.watches.Watch.TheVariants as watch
-use Rattle.wait_model.specs.Watches.{head_of, misses}
+use Rattle.wait_model.specs.Watches.{misses}
 use Rattle.wait_model.specs.Words.{entry_of}
 use Rattle.wait_rule.specs.Known.{Known}
 use Rattle.wait_rule.specs.Queues.{index}
-use Rattle.wait_rule.specs.Says.{history_of, told_of}
+use Rattle.wait_rule.specs.Says.{told_of}
 use Rattle.wait_class.specs.Posts.{EndsWith, own_of}
 use Rattle.wait_class.specs.Tables.{Calm, Unmoved}
 use Rattle.wait_class.proofs.Histories.{ends_calm, ends_still, unmoved_by, worn_calm, worn_still}
-use Rattle.wait_event.specs.Waits.{
-  FoundWorn,
-  IsQueuedIn,
-  IsUnset,
-  LeftQueue,
-  SawSignal,
-  TrailAt,
-  head_of_wait,
-  is_slept,
-  last_load,
-  left_by,
-}
+use Rattle.wait_event.specs.Waits.{FoundWorn, IsQueuedIn, IsUnset, LeftQueue, TrailAt, head_of_wait, is_slept, last_load, left_by}
 use Rattle.wait_event.specs.declared.waits.WaitCall.{WaitCall}
 use Rattle.wait_event.specs.declared.waits.WaitStage.{WaitStage}
 use Rattle.wait_event.specs.declared.waits.WaitStage.TheVariants as stage

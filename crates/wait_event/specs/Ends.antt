@@ -1,6 +1,6 @@
 -- To be believed.
 -- What whole waits say.
-use Rattle.std.specs.Prelude.{ℕ, ◌≡◌, ◌&&◌, not, Bool, true, false, is_some, None, Result, Ok, Err, [], ◌∷◌, ◌++◌}
+use Rattle.std.specs.Prelude.{ℕ, ◌≡◌, ◌&&◌, not, Bool, true, false, is_some, Result, Ok, Err, [], ◌∷◌, ◌++◌}
 use Rattle.wait_model.specs.declared.calls.Answer.{Answer}
 use Rattle.wait_model.specs.declared.calls.Answer.TheVariants as answer
 use Rattle.wait_model.specs.declared.points.Point.TheVariants as at
@@ -18,8 +18,6 @@ use Rattle.wait_model.specs.Watches.{head_of}
 use Rattle.wait_model.specs.Words.{entry_of}
 use Rattle.wait_rule.specs.Ends.{WasWorn}
 use Rattle.wait_rule.specs.Known.{Known}
-use Rattle.wait_rule.specs.Says.{told_of}
-use Rattle.wait_rule.specs.Queues.{index}
 use Rattle.wait_rule.specs.Stays.{Change, only, unchanged}
 use Rattle.wait_rule.specs.Transitions.{call_program}
 use Rattle.wait_class.specs.Posts.{Runs}

@@ -12,8 +12,8 @@ ghost use Rattle.wait_event.specs.Entries.{EndsAdd, HasRemovedOwn, HasWokenEntry
 ghost use Rattle.wait_event.specs.Entries.{add_change, hold_change, remove_change};
 ghost use Rattle.wait_class.specs.Posts.{own_of};
 
-use wait_class::queueing::{add_by, own_entry};
 use std::sync::Wait;
+use wait_class::queueing::{add_by, own_entry};
 use wait_model::heads::head_of;
 use wait_model::queues::Form;
 use wait_model::watches::{Kind, Watch};

@@ -1,5 +1,5 @@
 -- A stretch of a wait for a bit: the call has come on from where it began, or it is over, and its task ready.
-use Rattle.std.proofs.Common.{◌∙◌, sym, refl, subst}
+use Rattle.std.proofs.Common.{◌∙◌, refl}
 use Rattle.std.specs.Prelude.{◌≡◌, true, false}
 use Rattle.wait_model.specs.Tasks.{state_mask}
 use Rattle.wait_rule.specs.Known.{Known}

@@ -41,7 +41,7 @@ use Rattle.wq_head.specs.declared.wakes.WakeStage.{WakeStage}
 use Rattle.wq_head.specs.declared.wakes.WakeStage.TheVariants as wake_stage
 use Rattle.wq_checked.specs.Calls.{CameFrom, Fits, IsSound, WentOn}
 use Rattle.wq_checked.specs.Calls.{await_told, turn_told}
-use Rattle.wq_checked.specs.Locks.{IsDrawn, awaited_in, lock_at, lock_with, refused_with, refusal_told, turn_ticket, wake_ticket}
+use Rattle.wq_checked.specs.Locks.{IsDrawn, awaited_in, lock_at, lock_with, refused_with, turn_ticket, wake_ticket}
 use Rattle.wq_checked.specs.Reasons.{stopped_reason}
 use Rattle.wq_checked.specs.declared.kept_bits.KeptBits.{KeptBits}
 use Rattle.wq_checked.specs.declared.calls.Awaited.{Awaited}

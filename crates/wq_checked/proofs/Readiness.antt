@@ -9,19 +9,7 @@ use Rattle.wait_rule.specs.Bits.{SetsBit, taken_bits}
 use Rattle.wait_rule.specs.HandedPermits.{StaysOff}
 use Rattle.wait_rule.specs.Known.{Known}
 use Rattle.wait_rule.specs.Queues.{IsAgreedHold, index}
-use Rattle.wait_rule.specs.Says.{
-  AsksNoPage,
-  Duty,
-  Excuse,
-  Owes,
-  excuses,
-  has_duty,
-  no_excuse,
-  told_of,
-  wake_of,
-  page_asked,
-  end_unclosed,
-}
+use Rattle.wait_rule.specs.Says.{AsksNoPage, Duty, Owes, excuses, has_duty, no_excuse, told_of, wake_of, page_asked, end_unclosed}
 use Rattle.wait_rule.specs.Stays.{Carries, unchanged, with_bit, with_bits}
 use Rattle.wait_class.specs.Posts.{IsOut}
 use Rattle.wq_checked.specs.Kept.{IsReady, but_kept, keeps_in}

@@ -1,6 +1,6 @@
 -- A stretch of a wait for a bit: the call has come on from where it began, or it is over, and its task ready.
-use Rattle.std.proofs.Common.{◌∙◌, refl}
-use Rattle.std.specs.Prelude.{◌≡◌, true, false}
+use Rattle.std.proofs.Common.{◌∙◌, refl, ap}
+use Rattle.std.specs.Prelude.{◌≡◌, Bool, true, false}
 use Rattle.wait_model.specs.Tasks.{state_mask}
 use Rattle.wait_rule.specs.Known.{Known}
 use Rattle.wait_class.specs.declared.stages.Turn.TheVariants as turn
@@ -123,6 +123,18 @@ pub bit_sound : (ks : KeptBits) (old mid new : Known) (run q : BitRun)
     → IsSound (bit_left q t) ks new
 bit_sound ks old mid new run q last t u a h = sound_from ks u.start u.first old mid new run q last t u.began
     u.came u.stands a h
+
+-- the domain stays
+rested_domain : (mid new : Known) (b : Bool) → HasRested mid new b → new.domain ≡ mid.domain
+rested_domain mid new true h = ap (λ (k : Known). k.domain) h
+rested_domain mid new false h = ap (λ (k : Known). k.domain) h
+
+pub bit_domain : (old mid new : Known) (run q : BitRun) (last t : BitTurn) → StandsBy bit_table old run last
+    → GoesFrom bit_table old mid run q last t → HasRested mid new (bit_worn t) → new.domain ≡ old.domain
+bit_domain old mid new run q (turn.Again s) t stands a h = rested_domain mid new (bit_worn t) h ∙ a.went.keeps.domain
+bit_domain old mid new run q (turn.Asleep s) t stands a h = rested_domain mid new (bit_worn t) h ∙ a.went.keeps.domain
+bit_domain old mid new run q (turn.Locked s) t stands a h = rested_domain mid new (bit_worn t) h ∙ a.went.keeps.domain
+bit_domain old mid new run q (turn.Done o) t stands a h = absurd stands
 
 -- a call that begins
 pub bit_begins : (ks : KeptBits) (k : Known) (run : BitRun) → IsReady ks k → IsAt bit_table k run bit_first

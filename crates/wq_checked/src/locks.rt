@@ -19,9 +19,9 @@ fn lock_with(watch: Watch, served: u64, ticket: Option<u64>) -> Option<Awaited>
     ensures { result ≡ lock_with watch served ticket }
 {
     match ticket {
-        Some(ticket) => Some(Awaited {
+        Some(number) => Some(Awaited {
             head: head_of(watch),
-            ticket,
+            ticket: number,
             served,
         }),
         None => None,

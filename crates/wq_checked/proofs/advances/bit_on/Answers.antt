@@ -1,12 +1,19 @@
-use Rattle.std.proofs.Common.{subst, sym}
+use Rattle.std.proofs.Common.{◌∙◌, subst, sym}
 use Rattle.wait_class.specs.Wholes.{HasRested}
 use Rattle.std.specs.Prelude.{Bool}
 use Rattle.wq_checked.specs.Calls.{IsSound}
 use Rattle.wq_checked.specs.Advancing.{bit_left, bit_shown}
 use Rattle.wq_checked.specs.declared.calls.Running.{Running}
 use Rattle.wq_checked.proofs.Going.{went_as}
-use Rattle.wq_checked.proofs.BitTurns.{bit_goes, bit_sound}
+use Rattle.wq_checked.proofs.BitTurns.{bit_domain, bit_goes, bit_sound}
 use Rattle.wq_checked.proofs.advances.bit_on.Goals as goal
+
+pub returns-clause-of : goal.returns-clause-of
+returns-clause-of c =
+    let t = c.ground_turn-turn in
+    bit_domain c.args.task.now t.new.task c.rest.new.task c.args.run t.new.run c.args.last t.result
+    c.requires.sound.stands t.ensures
+    (subst (λ (b : Bool). HasRested t.new.task c.rest.new.task b) c.found_worn.ensures c.rest.ensures) ∙ c.requires.of
 
 pub returns-clause-sound : goal.returns-clause-sound
 returns-clause-sound c =

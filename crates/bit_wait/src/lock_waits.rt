@@ -125,8 +125,8 @@ impl Waiting for LockBit {
     }
 
     #[inline(always)]
-    fn noted(self, _test: LockTest, _value: u64) -> LockBit {
-        self
+    fn note(&mut self, _test: LockTest, _value: u64) {
+        let _ = *self;
     }
 
     #[inline(always)]
@@ -139,12 +139,9 @@ impl Waiting for LockBit {
     }
 
     #[inline(always)]
-    fn worn_at(self, place: u64) -> LockBit {
-        LockBit {
-            place,
-            worn: true,
-            ..self
-        }
+    fn note_worn(&mut self, place: u64) {
+        self.place = place;
+        self.worn = true;
     }
 
     #[inline(always)]

@@ -107,14 +107,11 @@ impl Waiting for WaitBit {
     }
 
     #[inline(always)]
-    fn noted(self, test: BitTest, value: u64) -> WaitBit {
+    fn note(&mut self, test: BitTest, value: u64) {
         match test {
-            BitTest::First => self,
-            BitTest::Again(_) => self,
-            _ => WaitBit {
-                seen: value,
-                ..self
-            },
+            BitTest::First => (),
+            BitTest::Again(_) => (),
+            _ => self.seen = value,
         }
     }
 
@@ -154,8 +151,8 @@ impl Waiting for WaitBit {
     }
 
     #[inline(always)]
-    fn worn_at(self, place: u64) -> WaitBit {
-        WaitBit { place, ..self }
+    fn note_worn(&mut self, place: u64) {
+        self.place = place;
     }
 
     #[inline(always)]

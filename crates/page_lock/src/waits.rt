@@ -300,8 +300,8 @@ impl Machine for LockPage {
     }
 
     #[inline(always)]
-    fn noted(self, _stage: PageStage, _value: u64) -> LockPage {
-        self
+    fn note(&mut self, _stage: PageStage, _value: u64) {
+        let _ = *self;
     }
 
     #[inline(always)]
@@ -361,13 +361,13 @@ impl Machine for LockPage {
     }
 
     #[inline(always)]
-    fn worn_at(self, place: u64) -> LockPage {
-        LockPage { place, ..self }
+    fn note_worn(&mut self, place: u64) {
+        self.place = place;
     }
 
     #[inline(always)]
-    fn joined_at(self, _stage: PageStage, _first: bool) -> LockPage {
-        self
+    fn note_joined(&mut self, _stage: PageStage, _first: bool) {
+        let _ = *self;
     }
 
     /// It queues its entry by an event of its own, which needs no look at it.

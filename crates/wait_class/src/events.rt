@@ -37,7 +37,7 @@ fn load_event<C: Machine>(
     C::lawful();
     let value = cond_load(domain, task, run.of.watch(stage));
     let next = run.of.loaded_to(stage, value);
-    run.of = run.of.noted(stage, value);
+    run.of.note(stage, value);
     next
 }
 
@@ -271,14 +271,14 @@ fn queue_event<C: Machine>(
     match run.of.add(domain, task, stage) {
         Ok(first) => {
             let next = run.of.added_to(stage, Added::Joined);
-            run.of = run.of.joined_at(stage, first);
+            run.of.note_joined(stage, first);
             next
         }
         Err(worn) => {
             own_entry(domain, task);
             passing.put(give_back(domain, task, false));
             let next = run.of.added_to(stage, Added::Worn);
-            run.of = run.of.worn_at(worn.place);
+            run.of.note_worn(worn.place);
             next
         }
     }

@@ -52,15 +52,15 @@ pub trait Waiting: Copy {
         ensures { result ≡ frame.looked self hit };
 
     /// What it notes of what a load found, and where it goes on.
-    fn noted(self, test: Self::Test, value: u64) -> Self
-        ensures { result ≡ frame.noted self test value };
+    fn note(&mut self, test: Self::Test, value: u64)
+        ensures { self.new ≡ frame.noted self.old test value };
 
     fn loaded_to(self, test: Self::Test, value: u64) -> Turn<Stage<Self::Test>, Self::Outcome>
         ensures { result ≡ frame.loaded_to self test value };
 
     /// It notes the place that showed that none is left.
-    fn worn_at(self, place: u64) -> Self
-        ensures { result ≡ frame.worn_at self place };
+    fn note_worn(&mut self, place: u64)
+        ensures { self.new ≡ frame.worn_at self.old place };
 
     /// Queues the own entry, which is off, and answers false.
     fn add(call: Framed<Self>, domain: &Domain, task: &mut Task) -> Result<bool, Worn>
@@ -106,7 +106,7 @@ pub fn load_test<F: Waiting>(
     F::lawful();
     let value = cond_load(domain, task, run.of.wait.watch());
     let next = run.of.wait.loaded_to(test, value);
-    run.of.wait = run.of.wait.noted(test, value);
+    run.of.wait.note(test, value);
     next
 }
 
@@ -185,12 +185,9 @@ impl<F: Frame> Machine for Framed<F> {
     }
 
     #[inline(always)]
-    fn noted(self, stage: Stage<F::Test>, value: u64) -> Framed<F> {
-        match stage {
-            Stage::Test(test) => Framed {
-                wait: self.wait.noted(test, value),
-            },
-            _ => self,
+    fn note(&mut self, stage: Stage<F::Test>, value: u64) {
+        if let Stage::Test(test) = stage {
+            self.wait.note(test, value);
         }
     }
 
@@ -255,16 +252,13 @@ impl<F: Frame> Machine for Framed<F> {
     }
 
     #[inline(always)]
-    fn worn_at(self, place: u64) -> Framed<F> {
-        Framed {
-            wait: self.wait.worn_at(place),
-        }
+    fn note_worn(&mut self, place: u64) {
+        self.wait.note_worn(place);
     }
 
     #[inline(always)]
-    fn joined_at(self, stage: Stage<F::Test>, first: bool) -> Framed<F> {
-        let _ = (stage, first);
-        self
+    fn note_joined(&mut self, stage: Stage<F::Test>, first: bool) {
+        let _ = (*self, stage, first);
     }
 
     #[inline(always)]

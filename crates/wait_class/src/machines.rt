@@ -47,8 +47,8 @@ pub trait Machine: Copy {
         ensures { result ≡ table.next_of self stage };
 
     /// What it notes of what a load found, and where it goes on.
-    fn noted(self, stage: Self::Stage, value: u64) -> Self
-        ensures { result ≡ table.noted self stage value };
+    fn note(&mut self, stage: Self::Stage, value: u64)
+        ensures { self.new ≡ table.noted self.old stage value };
 
     fn loaded_to(self, stage: Self::Stage, value: u64) -> Turn<Self::Stage, Self::Outcome>
         ensures { result ≡ table.loaded_to self stage value };
@@ -75,12 +75,12 @@ pub trait Machine: Copy {
         ensures state { IsState result };
 
     /// It notes the place that showed that none is left.
-    fn worn_at(self, place: u64) -> Self
-        ensures { result ≡ table.worn_at self place };
+    fn note_worn(&mut self, place: u64)
+        ensures { self.new ≡ table.worn_at self.old place };
 
     /// It notes that it has queued its entry, and whether that is the first of its head.
-    fn joined_at(self, stage: Self::Stage, first: bool) -> Self
-        ensures { result ≡ table.joined_at self stage first };
+    fn note_joined(&mut self, stage: Self::Stage, first: bool)
+        ensures { self.new ≡ table.joined_at self.old stage first };
 
     /// Queues the own entry, which is off, at a stage at which entries are queued; elsewhere what it answers says
     /// nothing. Where the call tells it, true: the head had no member.

@@ -73,6 +73,7 @@ pub fn woke<C: Machine>(domain: &Domain, task: &mut Task, run: &Run<C>, stage: C
 }
 
 /// Waits until a wait that was put asleep was woken.
+#[inline(always)]
 fn rise<R: Wait, C: Machine>(
     rt: &R,
     domain: &Domain,
@@ -92,6 +93,7 @@ fn rise<R: Wait, C: Machine>(
 }
 
 /// Between two looks at a ticket that is not served yet: some times nothing, and then the thread parks.
+#[inline(always)]
 pub fn pause<R: Wait, C: Machine>(
     rt: &R,
     domain: &Domain,
@@ -107,8 +109,8 @@ pub fn pause<R: Wait, C: Machine>(
 }
 
 /// Goes on with a wait from a stage to its end: waits for locks, and sleeps.
-#[inline(always)]
-pub fn run<R: Wait, C: Machine>(
+#[inline(never)]
+fn run_from<R: Wait, C: Machine>(
     rt: &R,
     domain: &Domain,
     task: &mut Task,
@@ -146,6 +148,36 @@ pub fn run<R: Wait, C: Machine>(
         }
     }
     unreachable!()
+}
+
+/// Goes on with a wait from a stage to its end: waits for locks, and sleeps. Its first event is made apart, so that a
+/// wait that is over with it takes no more than that event.
+#[inline(always)]
+pub fn run<R: Wait, C: Machine>(
+    rt: &R,
+    domain: &Domain,
+    task: &mut Task,
+    run: &mut Run<C>,
+    stage: C::Stage,
+) -> C::Outcome
+    requires of { task.old.domain ≡ domain.now }
+    requires at { IsAt C.table task.old run.old stage }
+    ensures { Advances C.table task.old task.new run.old run.new stage (turn.Done result) }
+{
+    C::lawful();
+    let mut passing = Passing::none();
+    let turn = advance(domain, task, run, stage, &mut passing);
+    passing.wake(domain);
+    passing.end();
+    match turn {
+        Turn::Again(next) => run_from(rt, domain, task, run, next),
+        Turn::Locked(next) => run_from(rt, domain, task, run, next),
+        Turn::Asleep(next) => {
+            rise(rt, domain, task, run, next);
+            run_from(rt, domain, task, run, next)
+        }
+        Turn::Done(outcome) => outcome,
+    }
 }
 
 /// Stores RUNNING where no place was left, since the task may still be in the state in which it would have slept.

@@ -232,12 +232,9 @@ impl Machine for WaitCall {
     }
 
     #[inline(always)]
-    fn noted(self, stage: WaitStage, value: u64) -> WaitCall {
+    fn note(&mut self, stage: WaitStage, value: u64) {
         let _ = stage;
-        WaitCall {
-            seen: value,
-            ..self
-        }
+        self.seen = value;
     }
 
     #[inline(always)]
@@ -315,18 +312,15 @@ impl Machine for WaitCall {
     }
 
     #[inline(always)]
-    fn worn_at(self, place: u64) -> WaitCall {
-        WaitCall { place, ..self }
+    fn note_worn(&mut self, place: u64) {
+        self.place = place;
     }
 
     #[inline(always)]
-    fn joined_at(self, stage: WaitStage, first: bool) -> WaitCall {
+    fn note_joined(&mut self, stage: WaitStage, first: bool) {
         let _ = stage;
-        WaitCall {
-            queued: true,
-            first: self.first || first,
-            ..self
-        }
+        self.queued = true;
+        self.first = self.first || first;
     }
 
     #[inline(always)]
@@ -356,7 +350,7 @@ impl Machine for WaitCall {
         let _ = *passing;
         let value = cond_load(domain, task, run.of.watch);
         let next = run.of.loaded_to(stage, value);
-        run.of = run.of.noted(stage, value);
+        run.of.note(stage, value);
         next
     }
 

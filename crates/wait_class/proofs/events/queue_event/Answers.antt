@@ -45,7 +45,7 @@ pub returns-in-Ok-clause-turned : goal.returns-in-Ok-clause-turned
 returns-in-Ok-clause-turned g c = join_advances g.C.Machine.table c.lawful.ensures c.args.task.now c.own_entry-entry.new.task
     c.add.new.task c.args.run.now c.args.stage c.requires.here c.requires.at c.own_entry-entry.result c.own_entry-entry.ensures
     c.is_some.result c.is_some.ensures c.if-is_some.false (c.add.ensures c.requires.here).held c.in-Ok.first (c.in-Ok.ensures c.requires.here).by
-    c.added_to-next.result c.added_to-next.ensures c.joined_at-run.result c.joined_at-run.ensures
+    c.added_to-next.result c.added_to-next.ensures c.note_joined.new.self c.note_joined.ensures
 
 pub returns-in-Ok-clause-falls : goal.returns-in-Ok-clause-falls
 returns-in-Ok-clause-falls g c = join_falls g.C.Machine.table c.lawful.ensures c.args.run.now.of c.args.stage
@@ -61,8 +61,8 @@ pub returns-in-Err-clause-turned : goal.returns-in-Err-clause-turned
 returns-in-Err-clause-turned g c = worn_advances g.C.Machine.table c.lawful.ensures c.args.task.now c.own_entry-entry.new.task
     c.add.new.task c.own_entry.new.task c.give_back.new.task c.args.run.now c.args.stage c.requires.here c.requires.at
     c.own_entry-entry.result c.own_entry-entry.ensures c.is_some.result c.is_some.ensures c.if-is_some.false c.in-Err.worn (c.in-Err.ensures c.requires.here).by (c.add.ensures c.requires.here).held
-    c.own_entry.result c.own_entry.ensures c.give_back.ensures.given (c.in-Err.ensures c.requires.here).by.noted c.worn_at-run.result
-    c.worn_at-run.ensures c.added_to-next-in-Err.result c.added_to-next-in-Err.ensures
+    c.own_entry.result c.own_entry.ensures c.give_back.ensures.given (c.in-Err.ensures c.requires.here).by.noted c.note_worn.new.self
+    c.note_worn.ensures c.added_to-next-in-Err.result c.added_to-next-in-Err.ensures
 
 pub returns-in-Err-clause-falls : goal.returns-in-Err-clause-falls
 returns-in-Err-clause-falls g c = worn_falls g.C.Machine.table c.lawful.ensures c.args.run.now.of c.args.stage

@@ -16,8 +16,8 @@ cond_load-value-requires-clause-agreed c = load_agreed wait_table wait_lawful c.
 pub returns-clause-turned : goal.returns-clause-turned
 returns-clause-turned c = first_advances c.args.task.now c.cond_load-value.new.task c.args.run.now c.args.stage
     c.requires.here c.requires.at c.cond_load-value.result c.cond_load-value.ensures.step
-    c.cond_load-value.ensures.carries c.loaded_to-next.result c.loaded_to-next.ensures c.noted-run.result
-    c.noted-run.ensures
+    c.cond_load-value.ensures.carries c.loaded_to-next.result c.loaded_to-next.ensures c.note.new.self
+    c.note.ensures
 
 pub returns-clause-falls : goal.returns-clause-falls
 returns-clause-falls c = first_falls c.args.run.now.of c.args.stage c.requires.here c.cond_load-value.result

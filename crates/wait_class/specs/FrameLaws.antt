@@ -1,5 +1,5 @@
 -- For proofs alone.
--- What a table has to keep of a call that prepares and finishes as all waits do.
+-- What a table has to keep of a call that prepares and finishes as the waits for bits do.
 use Rattle.std.specs.Prelude.{
   ℕ,
   ◌≡◌,
@@ -46,7 +46,7 @@ use Rattle.wait_class.specs.Frames.{FrameTable, framed}
 use Rattle.wait_class.specs.Laws.{KeepsLaws, LoadLaw, LookLaw, SleepLaw}
 use Rattle.wait_class.specs.Tables.{Calm, IsPlain, Plan, TurnTrail, Unmoved, falls, has_sleep, next_in, took_in, turn_post}
 
--- a program that prepares and finishes as all waits do, and goes on so behind its finish
+-- a program that prepares and finishes as the waits for bits do, and goes on so behind its finish
 abbrev pub prepare_made : Point → Point → Watch → SleepState → Form → PreparePoint → Seen → Planned
 prepare_made full after c st form preparing.Lock seen = go (event.Lock (head_of c)) (at.Prepare preparing.Queue)
 prepare_made full after c st form preparing.Queue seen =

@@ -1,5 +1,5 @@
 -- To be believed.
--- Calls that prepare and finish as all waits do: what differs, and the table that it gives.
+-- Calls that prepare and finish as the waits for bits do: what differs, and the table that it gives.
 use Rattle.std.specs.Prelude.{ℕ, Bool, true, false, if◌then◌else◌}
 use Rattle.wait_model.specs.declared.calls.Answer.{Answer}
 use Rattle.wait_model.specs.declared.points.Point.{Point}

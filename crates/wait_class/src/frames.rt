@@ -1,4 +1,4 @@
-//! Calls that prepare and finish as all waits do: what differs are their tests.
+//! Calls that prepare and finish as the waits for bits do: what differs are their tests.
 
 ghost use Rattle.std.specs.Prelude.{◌≡◌, true};
 ghost use Rattle.wait_rule.specs.Says.{IsUp};

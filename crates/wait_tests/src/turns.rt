@@ -1,6 +1,7 @@
 //! One turn of a wait that others take turns with on one thread, and the numbers by which the order is drawn.
 
 ghost use Rattle.std.specs.Prelude.{◌≡◌};
+ghost use Rattle.wait_rule.specs.PassedLocks.{PassesNone};
 ghost use Rattle.wait_class.specs.Tables.{Lands};
 
 use wait_class::machines::Machine;
@@ -9,7 +10,36 @@ use wait_class::stages::{Run, Turn};
 use wait_rule::queues::Passing;
 use wait_rule::{Domain, Task};
 
-/// Goes on with a wait by one stretch, or looks whether it was woken.
+/// One stretch of a wait, or a look whether it was woken.
+fn turn<C: Machine>(
+    domain: &Domain,
+    task: &mut Task,
+    run: &mut Run<C>,
+    last: Turn<C::Stage, C::Outcome>,
+    passing: &mut Passing,
+) -> Turn<C::Stage, C::Outcome>
+    requires of { task.old.domain ≡ domain.now }
+    requires passes { PassesNone passing.old }
+    requires waiting { Lands C.table task.old run.old last }
+    ensures of { task.new.domain ≡ domain.now }
+    ensures waiting { Lands C.table task.new run.new result }
+{
+    C::lawful();
+    match last {
+        Turn::Again(stage) => stretch(domain, task, run, stage, passing),
+        Turn::Locked(stage) => stretch(domain, task, run, stage, passing),
+        Turn::Asleep(stage) => {
+            if woke(domain, task, run, stage) {
+                Turn::Again(stage)
+            } else {
+                Turn::Asleep(stage)
+            }
+        }
+        Turn::Done(outcome) => Turn::Done(outcome),
+    }
+}
+
+/// Goes on with a wait by one stretch, or looks whether it was woken. Who parks for a lock that it passed on is woken.
 pub(crate) fn go_on<C: Machine>(
     domain: &Domain,
     task: &mut Task,
@@ -22,21 +52,10 @@ pub(crate) fn go_on<C: Machine>(
     ensures waiting { Lands C.table task.new run.new result }
 {
     let mut passing = Passing::none();
-    let turn = match last {
-        Turn::Again(stage) => stretch(domain, task, run, stage, &mut passing),
-        Turn::Locked(stage) => stretch(domain, task, run, stage, &mut passing),
-        Turn::Asleep(stage) => {
-            if woke(domain, task, run, stage) {
-                Turn::Again(stage)
-            } else {
-                Turn::Asleep(stage)
-            }
-        }
-        Turn::Done(outcome) => Turn::Done(outcome),
-    };
+    let next = turn(domain, task, run, last, &mut passing);
     passing.wake(domain);
     passing.end();
-    turn
+    next
 }
 
 /// The next number of a small generator, by which the order of the turns is drawn.

@@ -54,6 +54,8 @@ fn pass_by_steps(domain: &Domain, task: &mut Task, head: u16, state: u32) -> boo
     requires free { IsFree task.old }
     requires head { head < FIRST_SIMPLE_HEAD }
     requires state { IsState state }
+    ensures of { task.new.domain ≡ domain.now }
+    ensures up { IsUp task.new }
     ensures owing { StaysOwing task.old task.new }
     ensures state { result ≡ true → task.new.book.state ≡ state }
     ensures free { result ≡ true → IsFree task.new }

@@ -2,6 +2,7 @@
 use Rattle.std.proofs.Common.{◌∙◌, ap, append_assoc, append-nil, arith, inl, inr, refl, subst, sym}
 use Rattle.std.proofs.lemmas.Bool.Decides.{nat_tests}
 use Rattle.std.specs.Prelude.{ℕ, ◌≡◌, ◌<◌, ◌≤◌, ◌+◌, ◌⊎◌, ◌||◌, not, nat_lt, Bool, true, false, List, [], ◌∷◌, ◌++◌}
+use Rattle.wait_model.specs.declared.layout.TheConstants.{HEADS}
 use Rattle.wait_model.specs.declared.steps.Step.{Step}
 use Rattle.wait_model.specs.PointFacts.{holds}
 use Rattle.wait_rule.specs.Known.{Known}
@@ -11,6 +12,7 @@ use Rattle.wait_rule.specs.declared.tries.FailedTries.{FailedTries}
 use Rattle.wait_rule.specs.Tried.{IsOneMore}
 use Rattle.wait_class.specs.declared.stages.Turn.{Turn}
 use Rattle.wait_class.specs.declared.stages.Turn.TheVariants as turn
+use Rattle.wait_class.specs.Handing.{HasGivenBack}
 use Rattle.wait_class.specs.Tables.{Advances, HasMade, Shows, Table}
 
 -- it has made nothing yet, or an event
@@ -73,6 +75,7 @@ pub record IsUnderWay {C S O : Type 0} (t : Table C S O) (old new : Known) (r q 
     Type 0 where
   pub way : Advances t old new r q s (turn.Again n)
   pub begun : IsBegun old new r q
+  pub given : HasGivenBack old new HEADS
   pub low : t.depth n + turns ≤ 5
 
 -- a place at which no head is held

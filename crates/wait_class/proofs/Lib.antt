@@ -12,6 +12,7 @@ pub mod Sleeps
 pub mod Entries
 pub mod Queues
 pub mod Falling
+pub mod Handed
 pub mod Framing
 pub mod Histories
 pub mod CallPlans

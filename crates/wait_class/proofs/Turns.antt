@@ -83,7 +83,7 @@ may_by true σ k (inr same) = inr (inr same)
 may_by false σ k zero = inr (inl zero)
 
 -- a step between looks
-looks_history : (old new : Known) (l : OnlyLooks old new) → history_of new ≡ history_of old ++ steps_of l.items
+pub looks_history : (old new : Known) (l : OnlyLooks old new) → history_of new ≡ history_of old ++ steps_of l.items
 looks_history old new l = ap history_of l.is ∙ steps_append old.view.items l.items
 
 placed_history : (e : Step) (k : Known) → history_of (with_lock e k) ≡ history_of k

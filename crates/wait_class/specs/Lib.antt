@@ -2,6 +2,7 @@
 pub mod Posts
 pub mod Findings
 pub mod Queueing
+pub mod Handing
 pub mod Tables
 pub mod Laws
 pub mod Frames

@@ -1,10 +1,12 @@
 //! One event at most of a call that waits, which waits for nobody.
 
 ghost use Rattle.std.specs.Prelude.{◌≡◌, ◌⊎◌, true};
+ghost use Rattle.wait_model.specs.declared.layout.TheConstants.{HEADS};
 ghost use Rattle.wait_rule.specs.PassedLocks.{PassesNone};
 ghost use Rattle.wait_rule.specs.Says.{history_of};
 ghost use Rattle.wait_class.specs.declared.stages.Doing.TheVariants as doing;
 ghost use Rattle.wait_class.specs.declared.stages.Turn.TheVariants as turn;
+ghost use Rattle.wait_class.specs.Handing.{HasGivenBack};
 ghost use Rattle.wait_class.specs.Tables.{Advances, IsAt, IsStop, Turned, falls};
 
 use crate::machines::Machine;
@@ -33,6 +35,7 @@ fn load_event<C: Machine>(
     requires at { IsAt C.table task.old run.old stage }
     ensures turned { Turned C.table task.old task.new run.old run.new stage result }
     ensures falls { falls C.table stage result ≡ true }
+    ensures given { HasGivenBack task.old task.new HEADS }
 {
     C::lawful();
     let value = cond_load(domain, task, run.of.watch(stage));
@@ -72,6 +75,7 @@ fn lock_event<C: Machine>(
     requires at { IsAt C.table task.old run.old stage }
     ensures turned { Turned C.table task.old task.new run.old run.new stage result }
     ensures falls { falls C.table stage result ≡ true }
+    ensures given { HasGivenBack task.old task.new HEADS }
 {
     C::lawful();
     let head = head_of(run.of.watch(stage));
@@ -100,6 +104,7 @@ fn unlock_event<C: Machine>(
     ensures turned { Turned C.table task.old task.new run.old run.new stage result }
     ensures passes { PassesNone passing.new ⊎ IsStop C.table result }
     ensures falls { falls C.table stage result ≡ true }
+    ensures given { HasGivenBack task.old task.new passing.new.head }
 {
     C::lawful();
     passing.put(give_back(domain, task, false));
@@ -119,6 +124,7 @@ fn state_event<C: Machine>(
     requires at { IsAt C.table task.old run.old stage }
     ensures turned { Turned C.table task.old task.new run.old run.new stage result }
     ensures falls { falls C.table stage result ≡ true }
+    ensures given { HasGivenBack task.old task.new HEADS }
 {
     C::lawful();
     set_state(domain, task, run.of.state_at(stage));
@@ -138,6 +144,7 @@ fn look_event<C: Machine>(
     requires at { IsAt C.table task.old run.old stage }
     ensures turned { Turned C.table task.old task.new run.old run.new stage result }
     ensures falls { falls C.table stage result ≡ true }
+    ensures given { HasGivenBack task.old task.new HEADS }
 {
     C::lawful();
     let own = load_own(domain, task);
@@ -158,6 +165,7 @@ fn sleep_event<C: Machine>(
     requires at { IsAt C.table task.old run.old stage }
     ensures turned { Turned C.table task.old task.new run.old run.new stage result }
     ensures falls { falls C.table stage result ≡ true }
+    ensures given { HasGivenBack task.old task.new HEADS }
 {
     C::lawful();
     let next = run.of.slept_to(stage);
@@ -182,6 +190,7 @@ fn peek_event<C: Machine>(
     requires at { IsAt C.table task.old run.old stage }
     ensures turned { Turned C.table task.old task.new run.old run.new stage result }
     ensures falls { falls C.table stage result ≡ true }
+    ensures given { HasGivenBack task.old task.new HEADS }
 {
     C::lawful();
     let entry = own_entry(domain, task);
@@ -204,6 +213,7 @@ fn pare_event<C: Machine>(
     ensures turned { Turned C.table task.old task.new run.old run.new stage result }
     ensures passes { PassesNone passing.new ⊎ IsStop C.table result }
     ensures falls { falls C.table stage result ≡ true }
+    ensures given { HasGivenBack task.old task.new passing.new.head }
 {
     C::lawful();
     let me = task.number();
@@ -232,6 +242,7 @@ fn heed_event<C: Machine>(
     ensures turned { Turned C.table task.old task.new run.old run.new stage result }
     ensures passes { PassesNone passing.new ⊎ IsStop C.table result }
     ensures falls { falls C.table stage result ≡ true }
+    ensures given { HasGivenBack task.old task.new passing.new.head }
 {
     C::lawful();
     let entry = own_entry(domain, task);
@@ -261,6 +272,7 @@ fn queue_event<C: Machine>(
     ensures turned { Turned C.table task.old task.new run.old run.new stage result }
     ensures passes { PassesNone passing.new ⊎ IsStop C.table result }
     ensures falls { falls C.table stage result ≡ true }
+    ensures given { HasGivenBack task.old task.new passing.new.head }
 {
     C::lawful();
     let entry = own_entry(domain, task);
@@ -301,6 +313,7 @@ pub fn advance<C: Machine>(
     ensures turned { Turned C.table task.old task.new run.old run.new stage result }
     ensures passes { PassesNone passing.new ⊎ IsStop C.table result }
     ensures falls { falls C.table stage result ≡ true }
+    ensures given { HasGivenBack task.old task.new passing.new.head }
 {
     C::lawful();
     match C::doing(stage) {

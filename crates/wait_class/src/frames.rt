@@ -1,10 +1,12 @@
 //! Calls that prepare and finish as the waits for bits do: what differs are their tests.
 
 ghost use Rattle.std.specs.Prelude.{◌≡◌, true};
+ghost use Rattle.wait_model.specs.declared.layout.TheConstants.{HEADS};
 ghost use Rattle.wait_rule.specs.Says.{IsUp};
 ghost use Rattle.wait_class.specs.declared.frame_stages.Stage.TheVariants as stage;
 ghost use Rattle.wait_class.specs.FrameLaws.{IsLawfulFrame};
 ghost use Rattle.wait_class.specs.Frames.{FrameTable, framed};
+ghost use Rattle.wait_class.specs.Handing.{HasGivenBack};
 ghost use Rattle.wait_class.specs.Laws.{AddsOwn, MayAdd};
 ghost use Rattle.wait_class.specs.Tables.{IsAt, Turned, falls};
 
@@ -86,7 +88,8 @@ pub trait Frame: Waiting {
         requires of { task.old.domain ≡ domain.now }
         requires at { IsAt (framed Self.frame) task.old run.old (stage.Test test) }
         ensures turned { Turned (framed Self.frame) task.old task.new run.old run.new (stage.Test test) result }
-        ensures falls { falls (framed Self.frame) (stage.Test test) result ≡ true };
+        ensures falls { falls (framed Self.frame) (stage.Test test) result ≡ true }
+        ensures given { HasGivenBack task.old task.new HEADS };
 }
 
 /// The event of a test that loads the condition.
@@ -102,6 +105,7 @@ pub fn load_test<F: Waiting>(
     requires at { IsAt (framed F.frame) task.old run.old (stage.Test test) }
     ensures turned { Turned (framed F.frame) task.old task.new run.old run.new (stage.Test test) result }
     ensures falls { falls (framed F.frame) (stage.Test test) result ≡ true }
+    ensures given { HasGivenBack task.old task.new HEADS }
 {
     F::lawful();
     let value = cond_load(domain, task, run.of.wait.watch());

@@ -7,6 +7,7 @@ ghost use Rattle.wait_rule.specs.PassedLocks.{PassesNone};
 ghost use Rattle.wait_rule.specs.Says.{IsUp};
 ghost use Rattle.wait_class.specs.declared.stages.Added.TheVariants as adds;
 ghost use Rattle.wait_class.specs.declared.stages.Doing.TheVariants as doing;
+ghost use Rattle.wait_class.specs.Handing.{HasGivenBack};
 ghost use Rattle.wait_class.specs.Laws.{AddsOwn, IsLawful, MayAdd};
 ghost use Rattle.wait_class.specs.Tables.{IsAt, IsStop, Table, Turned, falls, watch_at};
 
@@ -90,7 +91,7 @@ pub trait Machine: Copy {
         requires may { MayAdd table self stage task.old }
         ensures { table.doing stage ≡ doing.Queue → AddsOwn table self stage task.old task.new result };
 
-    /// Makes an event of the call's own. Where it gives its head back `passing` has the lock that it passed on.
+    /// Makes an event of the call's own. `passing` has the lock that it gave back, or none.
     fn own(
         domain: &Domain,
         task: &mut Task,
@@ -104,7 +105,8 @@ pub trait Machine: Copy {
         requires at { IsAt table task.old run.old stage }
         ensures turned { Turned table task.old task.new run.old run.new stage result }
         ensures passes { PassesNone passing.new ⊎ IsStop table result }
-        ensures falls { falls table stage result ≡ true };
+        ensures falls { falls table stage result ≡ true }
+        ensures given { HasGivenBack task.old task.new passing.new.head };
 
     /// The table keeps the laws.
     fn lawful()

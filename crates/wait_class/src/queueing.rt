@@ -1,6 +1,6 @@
 //! The own entry: how it is looked at, and how it is added in a hold, by its form.
 
-ghost use Rattle.std.specs.Prelude.{◌≡◌, ◌<◌, ◌||◌, not, true, Some, None, IfOk, IfErr};
+ghost use Rattle.std.specs.Prelude.{◌≡◌, ◌<◌, not, true, Some, None, IfOk, IfErr};
 ghost use Rattle.wait_model.specs.declared.layout.TheConstants.{FIRST_DONE_HEAD, PRIORITY_TASKS};
 ghost use Rattle.wait_model.specs.declared.watches.Kind.TheVariants as kinds;
 ghost use Rattle.wait_model.specs.Queues.{is_priority};
@@ -116,12 +116,4 @@ pub fn is_first(domain: &Domain, task: &mut Task, head: u16, asked: bool) -> boo
         return !has_members(domain, task, head);
     }
     false
-}
-
-/// Whether this hold found the head without a member, or an earlier one did.
-#[inline(always)]
-pub fn or_first(before: bool, now: bool) -> bool
-    ensures { result ≡ (before || now) }
-{
-    before || now
 }

@@ -1,10 +1,11 @@
 //! Calls that wait, by stretches, for who may not wait, and to their ends.
 
-ghost use Rattle.std.specs.Prelude.{◌≡◌, ◌≤◌, MatchBool};
+ghost use Rattle.std.specs.Prelude.{◌≡◌, ◌≤◌, MatchBool, true};
 ghost use Rattle.wait_rule.specs.PassedLocks.{PassesNone};
 ghost use Rattle.wait_rule.specs.Says.{IsUp};
 ghost use Rattle.wq_head.specs.declared.locks.TheConstants.{LOOKS};
 ghost use Rattle.wait_class.specs.declared.stages.Turn.TheVariants as turn;
+ghost use Rattle.wait_class.specs.Handing.{HasGivenBack};
 ghost use Rattle.wait_class.specs.Tables.{Advances, IsAsleepAt, IsAt, IsStop, LooksAwake, Turned};
 ghost use Rattle.wait_class.specs.Wholes.{HasRested};
 
@@ -26,8 +27,8 @@ const STRETCH: u8 = 6;
 /// a caller from another language. Again: it has made an event, or a try to sleep failed and is counted, and it goes on
 /// there at once, by the next call. Locked: its ticket is not served yet, as its last look showed (`run.served`), and it
 /// goes on there when another number of the head is served. Asleep: it was put asleep, and goes on there once `woke` has
-/// answered true. Done: the wait is over. It wakes no thread: `passing` has the lock that it passed on, for whoever made
-/// the stretch.
+/// answered true. Done: the wait is over. It wakes no thread: `passing` has the lock that it gave back, or none, for
+/// whoever made the stretch.
 pub fn stretch<C: Machine>(
     domain: &Domain,
     task: &mut Task,
@@ -40,6 +41,7 @@ pub fn stretch<C: Machine>(
     requires at { IsAt C.table task.old run.old stage }
     ensures turned { Turned C.table task.old task.new run.old run.new stage result }
     ensures stops { IsStop C.table result }
+    ensures given { HasGivenBack task.old task.new passing.new.head }
 {
     C::lawful();
     let mut at = stage;
@@ -184,7 +186,7 @@ pub fn run<R: Wait, C: Machine>(
 #[inline(always)]
 pub fn rest(domain: &Domain, task: &mut Task, worn: bool)
     requires of { task.old.domain ≡ domain.now }
-    requires up { IsUp task.old }
+    requires up { worn ≡ true → IsUp task.old }
     ensures { HasRested task.old task.new worn }
 {
     if worn {

@@ -1,4 +1,8 @@
 use Rattle.page_lock.proofs.PageFlags.{note_advances, note_given, note_off}
+use Rattle.std.specs.Prelude.{Some}
+use Rattle.wait_model.specs.declared.steps.Step.TheVariants as step
+use Rattle.wait_rule.specs.Queues.{index}
+use Rattle.wait_class.proofs.Handed.{given_step}
 use Rattle.page_lock.proofs.waits.note_event.Goals as goal
 
 pub page_note-requires-clause-given : goal.page_note-requires-clause-given
@@ -10,3 +14,7 @@ page_note-requires-clause-off c = note_off c.args.task.now c.args.run.now c.requ
 pub returns-clause-turned : goal.returns-clause-turned
 returns-clause-turned c = note_advances c.args.task.now c.page_note.new.task c.args.run.now c.page_note.ensures.step
     c.page_note.ensures.keeps c.requires.at
+
+pub returns-clause-given : goal.returns-clause-given
+returns-clause-given c = given_step c.args.task.now c.page_note.new.task
+    (step.Unflag (index c.args.task.now.view.number 0) (Some c.args.run.now.of.page)) c.page_note.ensures.step

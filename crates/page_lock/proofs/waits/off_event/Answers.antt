@@ -1,4 +1,7 @@
 use Rattle.page_lock.proofs.PageQueues.{off_advances, off_holds, off_may}
+use Rattle.wait_model.specs.declared.steps.Step.TheVariants as step
+use Rattle.wait_rule.specs.Queues.{index}
+use Rattle.wait_class.proofs.Handed.{given_stored}
 use Rattle.page_lock.proofs.waits.off_event.Goals as goal
 
 pub remove-requires-clause-held : goal.remove-requires-clause-held
@@ -11,3 +14,7 @@ remove-requires-clause-may c = off_may c.args.task.now c.args.run.now c.requires
 pub returns-clause-turned : goal.returns-clause-turned
 returns-clause-turned c = off_advances c.args.task.now c.remove.new.task c.args.run.now c.requires.at
     c.number-me.result c.number-me.ensures.number c.remove.ensures.removed c.remove.ensures.held
+
+pub returns-clause-given : goal.returns-clause-given
+returns-clause-given c = given_stored c.args.task.now c.remove.new.task (step.Unqueue (index c.number-me.result 0))
+    c.remove.ensures.removed.is

@@ -1,5 +1,8 @@
 use Rattle.std.proofs.Common.{inl, inr, refl, sym}
 use Rattle.page_lock.proofs.PageQueues.{join_advances, queue_asks, queue_holds, queue_out, worn_advances, worn_owes}
+use Rattle.std.proofs.Common.{◌∙◌, false}
+use Rattle.wait_model.specs.declared.layout.TheConstants.{HEADS}
+use Rattle.wait_class.proofs.Handed.{given_added, given_as, given_member_looks, given_on, given_unlocked}
 use Rattle.page_lock.proofs.waits.queue_event.Goals as goal
 
 pub add_for_page-requires-clause-held : goal.add_for_page-requires-clause-held
@@ -35,3 +38,17 @@ returns-in-Err-clause-turned c = worn_advances c.args.task.now c.add_for_page.ne
 
 pub returns-in-Err-clause-passes : goal.returns-in-Err-clause-passes
 returns-in-Err-clause-passes c = inr refl
+
+pub returns-in-Ok-clause-given : goal.returns-in-Ok-clause-given
+returns-in-Ok-clause-given c =
+    let a = c.in-Ok.ensures.queued in
+    given_as c.args.task.now c.add_for_page.new.task HEADS c.args.passing.now.head c.requires.passes
+    (given_added c.args.task.now a.seen c.add_for_page.new.task a.looks _ _ a.is)
+
+pub returns-in-Err-clause-given : goal.returns-in-Err-clause-given
+returns-in-Err-clause-given c = given_as c.args.task.now c.give_back.new.task c.add_for_page.new.task.at
+    c.put.new.self.head (c.put.ensures ∙ c.give_back.ensures.head)
+    (given_on c.args.task.now c.add_for_page.new.task c.give_back.new.task c.add_for_page.new.task.at
+    (given_member_looks c.args.task.now c.add_for_page.new.task c.in-Err.ensures.worn.looks)
+    (given_unlocked c.add_for_page.new.task c.give_back.new.task c.add_for_page.new.task.at false
+    c.give_back.ensures.given))

@@ -1,4 +1,8 @@
 use Rattle.page_lock.proofs.PageFlags.{clear_advances, may_clear}
+use Rattle.std.specs.Prelude.{None}
+use Rattle.wait_model.specs.declared.steps.Step.TheVariants as step
+use Rattle.wait_rule.specs.Queues.{index}
+use Rattle.wait_class.proofs.Handed.{given_step}
 use Rattle.page_lock.proofs.waits.unflag_event.Goals as goal
 
 pub woken_clear-requires-clause-may : goal.woken_clear-requires-clause-may
@@ -7,3 +11,7 @@ woken_clear-requires-clause-may c = may_clear c.args.task.now c.args.run.now c.r
 pub returns-clause-turned : goal.returns-clause-turned
 returns-clause-turned c = clear_advances c.args.task.now c.woken_clear.new.task c.args.run.now
     c.woken_clear.ensures.step c.woken_clear.ensures.carries c.requires.at
+
+pub returns-clause-given : goal.returns-clause-given
+returns-clause-given c = given_step c.args.task.now c.woken_clear.new.task
+    (step.Unflag (index c.args.task.now.view.number 0) None) c.woken_clear.ensures.step

@@ -3,6 +3,8 @@ use Rattle.wait_class.specs.declared.stages.Turn.TheVariants as turn
 use Rattle.wait_class.specs.Tables.{Went}
 use Rattle.wait_class.proofs.Falling.{shown_behind}
 use Rattle.wait_class.proofs.Turns.{advances_on, falls_same, same_domain}
+use Rattle.wait_model.specs.declared.layout.TheConstants.{HEADS}
+use Rattle.wait_class.proofs.Handed.{given_as, given_on, given_still}
 use Rattle.wait_class.proofs.events.advance.Goals as goal
 
 pub lock_event-requires-clause-of : goal.lock_event-requires-clause-of
@@ -53,3 +55,32 @@ returns-in-Sleep-clause-passes g c = inl c.requires.passes
 
 pub returns-in-Peek-clause-passes : goal.returns-in-Peek-clause-passes
 returns-in-Peek-clause-passes g c = inl c.requires.passes
+
+pub returns-in-Load-clause-given : goal.returns-in-Load-clause-given
+returns-in-Load-clause-given g c = given_as c.args.task.now c.load_event.new.task HEADS c.args.passing.now.head
+    c.requires.passes c.load_event.ensures.given
+
+pub returns-in-State-clause-given : goal.returns-in-State-clause-given
+returns-in-State-clause-given g c = given_as c.args.task.now c.state_event.new.task HEADS c.args.passing.now.head
+    c.requires.passes c.state_event.ensures.given
+
+pub returns-in-Look-clause-given : goal.returns-in-Look-clause-given
+returns-in-Look-clause-given g c = given_as c.args.task.now c.look_event.new.task HEADS c.args.passing.now.head
+    c.requires.passes c.look_event.ensures.given
+
+pub returns-in-Sleep-clause-given : goal.returns-in-Sleep-clause-given
+returns-in-Sleep-clause-given g c = given_as c.args.task.now c.sleep_event.new.task HEADS c.args.passing.now.head
+    c.requires.passes c.sleep_event.ensures.given
+
+pub returns-in-Peek-clause-given : goal.returns-in-Peek-clause-given
+returns-in-Peek-clause-given g c = given_as c.args.task.now c.peek_event.new.task HEADS c.args.passing.now.head
+    c.requires.passes c.peek_event.ensures.given
+
+pub returns-in-Lock-clause-given : goal.returns-in-Lock-clause-given
+returns-in-Lock-clause-given g c = given_as c.args.task.now c.lock_event-in-Lock.new.task HEADS c.args.passing.now.head
+    c.requires.passes c.lock_event-in-Lock.ensures.given
+
+pub returns-in-Draw-clause-given : goal.returns-in-Draw-clause-given
+returns-in-Draw-clause-given g c = given_as c.args.task.now c.lock_event.new.task HEADS c.args.passing.now.head
+    c.requires.passes (given_on c.args.task.now c.draw_event.new.task c.lock_event.new.task HEADS
+    (given_still c.args.task.now c.draw_event.new.task c.draw_event.ensures.still) c.lock_event.ensures.given)

@@ -1,6 +1,9 @@
-use Rattle.std.proofs.Common.{◌∙◌, ℕ, ap, inl, inr}
+use Rattle.std.proofs.Common.{false, ◌∙◌, ℕ, ap, inl, inr}
 use Rattle.wait_model.specs.Tasks.{pending, state_mask, task_of}
+use Rattle.wait_model.specs.declared.layout.TheConstants.{HEADS}
 use Rattle.wait_class.proofs.Entries.{heed_holds, heed_owes, heed_stops, heeds_advances, heeds_falls, off_advances, off_falls}
+use Rattle.wait_model.specs.declared.steps.Step.TheVariants as step
+use Rattle.wait_class.proofs.Handed.{given_as, given_on, given_seen, given_step, given_unlocked}
 use Rattle.wait_class.proofs.events.heed_event.Goals as goal
 
 pub returns-then-is_some-clause-turned : goal.returns-then-is_some-clause-turned
@@ -45,3 +48,18 @@ returns-then-is_some-clause-passes g c = inl c.requires.passes
 pub returns-clause-passes : goal.returns-clause-passes
 returns-clause-passes g c = inr (heed_stops g.C.Machine.table c.lawful.ensures c.args.run.now.of c.args.stage
     c.requires.here c.found_to.result c.found_to.ensures)
+
+pub returns-then-is_some-clause-given : goal.returns-then-is_some-clause-given
+returns-then-is_some-clause-given g c = given_as c.args.task.now c.load_own-own.new.task HEADS c.args.passing.now.head
+    c.requires.passes (given_on c.args.task.now c.own_entry-entry.new.task c.load_own-own.new.task HEADS
+    (given_seen c.args.task.now c.own_entry-entry.new.task c.own_entry-entry.result c.own_entry-entry.ensures)
+    (given_step c.own_entry-entry.new.task c.load_own-own.new.task (step.Look c.load_own-own.result.0)
+    c.load_own-own.ensures.step))
+
+pub returns-clause-given : goal.returns-clause-given
+returns-clause-given g c = given_as c.args.task.now c.give_back.new.task c.own_entry-entry.new.task.at
+    c.put.new.self.head (c.put.ensures ∙ c.give_back.ensures.head)
+    (given_on c.args.task.now c.own_entry-entry.new.task c.give_back.new.task c.own_entry-entry.new.task.at
+    (given_seen c.args.task.now c.own_entry-entry.new.task c.own_entry-entry.result c.own_entry-entry.ensures)
+    (given_unlocked c.own_entry-entry.new.task c.give_back.new.task c.own_entry-entry.new.task.at false
+    c.give_back.ensures.given))

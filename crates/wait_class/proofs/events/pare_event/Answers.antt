@@ -1,4 +1,5 @@
-use Rattle.std.proofs.Common.{◌∙◌, sym, inl, inr}
+use Rattle.std.proofs.Common.{false, ◌∙◌, sym, inl, inr}
+use Rattle.wait_model.specs.declared.layout.TheConstants.{HEADS}
 use Rattle.wait_class.proofs.Entries.{
   gives_advances,
   gives_falls,
@@ -9,6 +10,9 @@ use Rattle.wait_class.proofs.Entries.{
   takes_advances,
   takes_falls,
 }
+use Rattle.wait_model.specs.declared.steps.Step.TheVariants as step
+use Rattle.wait_rule.specs.Queues.{index}
+use Rattle.wait_class.proofs.Handed.{given_as, given_on, given_seen, given_stored, given_unlocked}
 use Rattle.wait_class.proofs.events.pare_event.Goals as goal
 
 pub remove-requires-clause-held : goal.remove-requires-clause-held
@@ -64,3 +68,18 @@ returns-then-is_some-clause-passes g c = inl c.requires.passes
 pub returns-clause-passes : goal.returns-clause-passes
 returns-clause-passes g c = inr (pare_stops g.C.Machine.table c.lawful.ensures c.args.run.now.of c.args.stage
     c.requires.here c.found_to-2.result c.found_to-2.ensures)
+
+pub returns-then-is_some-clause-given : goal.returns-then-is_some-clause-given
+returns-then-is_some-clause-given g c = given_as c.args.task.now c.remove.new.task HEADS c.args.passing.now.head
+    c.requires.passes (given_on c.args.task.now c.own_entry-entry.new.task c.remove.new.task HEADS
+    (given_seen c.args.task.now c.own_entry-entry.new.task c.own_entry-entry.result c.own_entry-entry.ensures)
+    (given_stored c.own_entry-entry.new.task c.remove.new.task (step.Unqueue (index c.number-me.result 0))
+    c.remove.ensures.removed.is))
+
+pub returns-clause-given : goal.returns-clause-given
+returns-clause-given g c = given_as c.args.task.now c.give_back.new.task c.own_entry-entry.new.task.at
+    c.put.new.self.head (c.put.ensures ∙ c.give_back.ensures.head)
+    (given_on c.args.task.now c.own_entry-entry.new.task c.give_back.new.task c.own_entry-entry.new.task.at
+    (given_seen c.args.task.now c.own_entry-entry.new.task c.own_entry-entry.result c.own_entry-entry.ensures)
+    (given_unlocked c.own_entry-entry.new.task c.give_back.new.task c.own_entry-entry.new.task.at false
+    c.give_back.ensures.given))

@@ -1,5 +1,6 @@
-use Rattle.std.proofs.Common.{◌∙◌, ap, inl, inr}
+use Rattle.std.proofs.Common.{false, ◌∙◌, ap, inl, inr}
 use Rattle.wait_model.specs.Tasks.{state_mask}
+use Rattle.wait_model.specs.declared.layout.TheConstants.{HEADS}
 use Rattle.wait_class.proofs.Queues.{
   join_advances,
   join_falls,
@@ -14,6 +15,8 @@ use Rattle.wait_class.proofs.Queues.{
   worn_owes,
   worn_stops,
 }
+use Rattle.wait_model.specs.declared.steps.Step.TheVariants as step
+use Rattle.wait_class.proofs.Handed.{given_as, given_joined, given_on, given_seen, given_member_looks, given_step, given_unlocked}
 use Rattle.wait_class.proofs.events.queue_event.Goals as goal
 
 pub set_state-requires-clause-may : goal.set_state-requires-clause-may
@@ -77,3 +80,28 @@ returns-in-Ok-clause-passes g c = inl c.requires.passes
 pub returns-in-Err-clause-passes : goal.returns-in-Err-clause-passes
 returns-in-Err-clause-passes g c = inr (worn_stops g.C.Machine.table c.lawful.ensures c.args.run.now.of c.args.stage
     c.requires.here c.added_to-next-in-Err.result c.added_to-next-in-Err.ensures)
+
+pub returns-then-is_some-clause-given : goal.returns-then-is_some-clause-given
+returns-then-is_some-clause-given g c = given_as c.args.task.now c.set_state.new.task HEADS c.args.passing.now.head
+    c.requires.passes (given_on c.args.task.now c.own_entry-entry.new.task c.set_state.new.task HEADS
+    (given_seen c.args.task.now c.own_entry-entry.new.task c.own_entry-entry.result c.own_entry-entry.ensures)
+    (given_step c.own_entry-entry.new.task c.set_state.new.task (step.State c.mask.result) c.set_state.ensures.step))
+
+pub returns-in-Ok-clause-given : goal.returns-in-Ok-clause-given
+returns-in-Ok-clause-given g c = given_as c.args.task.now c.add.new.task HEADS c.args.passing.now.head
+    c.requires.passes (given_on c.args.task.now c.own_entry-entry.new.task c.add.new.task HEADS
+    (given_seen c.args.task.now c.own_entry-entry.new.task c.own_entry-entry.result c.own_entry-entry.ensures)
+    (given_joined g.C.Machine.table c.own_entry-entry.new.task c.add.new.task c.args.run.now.of c.args.stage
+    c.in-Ok.first (c.in-Ok.ensures c.requires.here).by))
+
+pub returns-in-Err-clause-given : goal.returns-in-Err-clause-given
+returns-in-Err-clause-given g c = given_as c.args.task.now c.give_back.new.task c.own_entry.new.task.at
+    c.put.new.self.head (c.put.ensures ∙ c.give_back.ensures.head)
+    (given_on c.args.task.now c.own_entry-entry.new.task c.give_back.new.task c.own_entry.new.task.at
+    (given_seen c.args.task.now c.own_entry-entry.new.task c.own_entry-entry.result c.own_entry-entry.ensures)
+    (given_on c.own_entry-entry.new.task c.add.new.task c.give_back.new.task c.own_entry.new.task.at
+    (given_member_looks c.own_entry-entry.new.task c.add.new.task (c.in-Err.ensures c.requires.here).by.looks)
+    (given_on c.add.new.task c.own_entry.new.task c.give_back.new.task c.own_entry.new.task.at
+    (given_seen c.add.new.task c.own_entry.new.task c.own_entry.result c.own_entry.ensures)
+    (given_unlocked c.own_entry.new.task c.give_back.new.task c.own_entry.new.task.at false
+    c.give_back.ensures.given))))

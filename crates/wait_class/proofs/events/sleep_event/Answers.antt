@@ -1,5 +1,8 @@
-use Rattle.std.proofs.Common.{inl, inr}
+use Rattle.std.proofs.Common.{ap, inl, inr}
 use Rattle.wait_class.proofs.Sleeps.{again_falls, down_falls, sleep_again, sleep_down, sleep_free, sleep_up, up_falls}
+use Rattle.wait_model.specs.declared.steps.Step.TheVariants as step
+use Rattle.wait_rule.specs.Says.{history_of}
+use Rattle.wait_class.proofs.Handed.{given_step, given_still}
 use Rattle.wait_class.proofs.events.sleep_event.Goals as goal
 
 pub sleep_try-requires-clause-free : goal.sleep_try-requires-clause-free
@@ -47,3 +50,19 @@ pub returns-in-None-clause-turned : goal.returns-in-None-clause-turned
 returns-in-None-clause-turned g c = sleep_again g.C.Machine.table c.lawful.ensures c.args.task.now
     c.sleep_try.new.task c.args.run.now c.args.stage c.requires.here c.requires.at c.in-None.ensures.same
     c.sleep_try.new.failed c.in-None.ensures.counts
+
+pub returns-in-Some-Asleep-clause-given : goal.returns-in-Some-Asleep-clause-given
+returns-in-Some-Asleep-clause-given g c = given_step c.args.task.now c.sleep_try.new.task
+    (step.Sleep c.in-Some-Asleep.ensures.step.0) c.in-Some-Asleep.ensures.step.2
+
+pub returns-in-Some-Stay-clause-given : goal.returns-in-Some-Stay-clause-given
+returns-in-Some-Stay-clause-given g c = given_step c.args.task.now c.sleep_try.new.task
+    (step.Sleep c.in-Some-Stay.ensures.step.0) c.in-Some-Stay.ensures.step.2
+
+pub returns-in-Some-Signal-clause-given : goal.returns-in-Some-Signal-clause-given
+returns-in-Some-Signal-clause-given g c = given_step c.args.task.now c.sleep_try.new.task
+    (step.Sleep c.in-Some-Signal.ensures.step.0) c.in-Some-Signal.ensures.step.2
+
+pub returns-in-None-clause-given : goal.returns-in-None-clause-given
+returns-in-None-clause-given g c = given_still c.args.task.now c.sleep_try.new.task
+    (ap history_of c.in-None.ensures.same)

@@ -1,4 +1,4 @@
-use Rattle.std.proofs.Common.{◌∙◌, arith, inl, inr, refl}
+use Rattle.std.proofs.Common.{◌∙◌, arith, inl, inr, refl, sym}
 use Rattle.wait_model.specs.PointFacts.{holds}
 use Rattle.wait_class.specs.declared.stages.Turn.TheVariants as turn
 use Rattle.std.specs.Prelude.{◌||◌, nat_lt, not}
@@ -7,6 +7,8 @@ use Rattle.wait_class.proofs.Falling.{falls_by, held_yes, unheld}
 use Rattle.wait_class.proofs.Falling.{falls_still, goes_made, goes_shown}
 use Rattle.wq_head.proofs.PassedOn.{none_yet}
 use Rattle.wait_class.proofs.Turns.{advances_none, advances_on, same_domain}
+use Rattle.wait_model.specs.declared.layout.TheConstants.{HEADS}
+use Rattle.wait_class.proofs.Handed.{given_as, given_on, given_still}
 use Rattle.wait_class.proofs.runs.stretch.Goals as goal
 
 pub loop-turn-init : goal.loop-turn-init
@@ -14,6 +16,7 @@ loop-turn-init g c = (
   record {
     way = advances_none g.C.Machine.table c.lawful.ensures c.args.task.now c.args.run.now c.args.stage c.requires.at;
     begun = inl (refl, refl);
+    given = given_still c.args.task.now c.args.task.now refl;
     low = let d = c.lawful.ensures.depth c.args.stage in omega (arith, d);
   },
   c.requires.passes,
@@ -33,20 +36,22 @@ loop-turn-preserved g c =
     let i = c.loop-turn.invariant.0 in
     let e = c.in-Again.ensures in
     let next = c.in-Again.next in
+    let held = held_yes (holds (t.point_of next)) c.is_free.result c.is_free.ensures c.if-is_free.false in
+    let none = none_yet (holds (t.point_of next)) c.advance.new.passing held e.passes in
     let less = falls_by (holds (t.point_of next)) (t.depth next) (t.depth c.loop-turn.at)
     (and_left (not (holds (t.point_of next)) || nat_lt (t.depth next) (t.depth c.loop-turn.at)) _ e.falls)
-    (held_yes (holds (t.point_of next)) c.is_free.result c.is_free.ensures c.if-is_free.false) in (
+    held in (
       record {
         way = advances_on g.C.Machine.table c.lawful.ensures c.args.task.now c.loop-turn.task c.advance.new.task c.args.run.now
             c.loop-turn.run c.advance.new.run c.args.stage c.loop-turn.at (turn.Again next) i.way.same i.way.went
             e.turned.advances;
         begun = inr (goes_made t c.args.task.now c.loop-turn.task c.advance.new.task c.args.run.now c.loop-turn.run
-            c.advance.new.run next i.begun e.turned.shows
-            (held_yes (holds (t.point_of next)) c.is_free.result c.is_free.ensures c.if-is_free.false));
+            c.advance.new.run next i.begun e.turned.shows held);
+        given = given_on c.args.task.now c.loop-turn.task c.advance.new.task HEADS i.given
+            (given_as c.loop-turn.task c.advance.new.task c.advance.new.passing.head HEADS (sym none) e.given);
         low = omega (arith, less, i.low);
       },
-      none_yet (holds (t.point_of next)) c.advance.new.passing
-          (held_yes (holds (t.point_of next)) c.is_free.result c.is_free.ensures c.if-is_free.false) e.passes,
+      none,
     )
 
 pub returns-then-is_free-clause-turned : goal.returns-then-is_free-clause-turned
@@ -104,3 +109,19 @@ returns-in-Done-clause-turned g c =
 
 pub unreachable-requires : goal.unreachable-requires
 unreachable-requires g c = let low = c.loop-turn.invariant.0.low in absurd (omega (arith, low))
+
+pub returns-then-is_free-clause-given : goal.returns-then-is_free-clause-given
+returns-then-is_free-clause-given g c = given_on c.args.task.now c.loop-turn.task c.advance.new.task c.advance.new.passing.head
+    c.loop-turn.invariant.0.given c.in-Again.ensures.given
+
+pub returns-in-Asleep-clause-given : goal.returns-in-Asleep-clause-given
+returns-in-Asleep-clause-given g c = given_on c.args.task.now c.loop-turn.task c.advance.new.task c.advance.new.passing.head
+    c.loop-turn.invariant.0.given c.in-Asleep.ensures.given
+
+pub returns-in-Locked-clause-given : goal.returns-in-Locked-clause-given
+returns-in-Locked-clause-given g c = given_on c.args.task.now c.loop-turn.task c.advance.new.task c.advance.new.passing.head
+    c.loop-turn.invariant.0.given c.in-Locked.ensures.given
+
+pub returns-in-Done-clause-given : goal.returns-in-Done-clause-given
+returns-in-Done-clause-given g c = given_on c.args.task.now c.loop-turn.task c.advance.new.task c.advance.new.passing.head
+    c.loop-turn.invariant.0.given c.in-Done.ensures.given

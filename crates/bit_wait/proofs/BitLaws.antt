@@ -47,18 +47,19 @@ use Rattle.wait_class.specs.FrameLaws.{FinishLaw, IsLawfulFrame}
 use Rattle.wait_class.specs.Queueing.{untold}
 use Rattle.wait_class.specs.Tables.{has_sleep}
 use Rattle.wait_class.specs.Laws.{AddsOwn, LoadLaw, LookLaw, SleepLaw}
-use Rattle.wait_class.specs.Tables.{Advances, Calm, IsAt, Plan, Unmoved, call_plan, next_in}
+use Rattle.wait_class.specs.Tables.{Advances, IsAt, Plan, call_plan, next_in}
+use Rattle.wait_class.specs.Laws.{Calm, Unmoved}
 use Rattle.wait_class.proofs.CallPlans.{call_stands}
-use Rattle.wait_class.proofs.Histories.{awake_more, ends_calm, ends_still, worn_calm, worn_still}
+use Rattle.wait_class.proofs.Histories.{awake_more, ends_calm, ends_still, found_still, worn_calm}
 use Rattle.wait_class.proofs.Stays.{adds_front, wait_stays}
 use Rattle.wait_class.proofs.Ways.{finish_by, go_if, load_fork, look_by, sleep_by, way}
 use Rattle.wait_class.proofs.Wholes.{begins, ended_runs, none_of}
 use Rattle.bit_wait.specs.BitEnds.{EndsBitWait, IsCause, IsIdleAfter, answer_of, bit_change, end_in}
 use Rattle.bit_wait.specs.BitTables.{
-  FinishTrail,
+  BitFinishTrail,
   IsFresh,
   IsRunning,
-  TestTrail,
+  BitTestTrail,
   answer_in,
   bit_frame,
   bit_in,
@@ -81,7 +82,7 @@ run_low r = let low = hashed_low (r.word * WORD_BITS + r.bit) in omega (arith, l
 
 -- a signal that was found stays found while the task does not sleep
 calm_finish : (old new : Known) (r : WaitBit) (failed : Bool) (es : List Step) → has_sleep es ≡ false
-    → Calm es old new → FinishTrail old r failed → FinishTrail new r failed
+    → Calm es old new → BitFinishTrail old r failed → BitFinishTrail new r failed
 calm_finish old new r true es awake calm f = record {
   before = f.before;
   sleep = f.sleep;
@@ -95,8 +96,8 @@ calm_finish old new r true es awake calm f = record {
 }
 calm_finish old new r false es awake calm f = tt
 
-still_finish : (old new : Known) (r : WaitBit) (failed : Bool) → Unmoved old new → FinishTrail old r failed
-    → FinishTrail new r failed
+still_finish : (old new : Known) (r : WaitBit) (failed : Bool) → Unmoved old new → BitFinishTrail old r failed
+    → BitFinishTrail new r failed
 still_finish old new r true still f = record {
   before = f.before;
   sleep = f.sleep;
@@ -109,14 +110,11 @@ still_finish old new r true still f = record {
 }
 still_finish old new r false still f = tt
 
-test_still : (old new : Known) (r : WaitBit) (x : BitTest) → Unmoved old new → TestTrail old r x → TestTrail new r x
+test_still : (old new : Known) (r : WaitBit) (x : BitTest) → Unmoved old new → BitTestTrail old r x → BitTestTrail new r x
 test_still old new r test.First still f = tt
 test_still old new r test.Load still f = ends_still old new (step.Unlock (head_of (bit_in r)) false ∷ []) still f
 test_still old new r (test.Again failed) still f = still_finish old new r failed still f
-test_still old new r test.Worn still f = record {
-  noted = worn_still old new (head_of (bit_in r)) r.place still f.noted;
-  ends = ends_still old new (step.Unlock (head_of (bit_in r)) false ∷ []) still f.ends;
-}
+test_still old new r test.Worn still f = found_still old new (head_of (bit_in r)) r.place still f
 
 bit_if : (b : Bool) (e : Event) → go e (at.Bit (if b then biting.Sleep else biting.Again false))
     ≡ (if b then go e (at.Bit biting.Sleep) else go e (at.Bit (biting.Again false)))
@@ -210,7 +208,7 @@ module _ (r : WaitBit) where
       (λ v me k. tt) (λ v me k. (refl, tt, tt)) (λ old new v calm u. tt)
 
   found : (old new : Known) (v : ℕ) (hit : Bool) → pending (state_mask r.state) (task_of v) ≡ hit
-      → Calm (step.Look v ∷ []) old new → bit_frame.LookTrail old r → FinishTrail new r hit
+      → Calm (step.Look v ∷ []) old new → bit_frame.LookTrail old r → BitFinishTrail new r hit
   found old new v true is calm u =
       let e = ends_calm old new (loads_set r (step.Sleep u.0 ∷ [])) (step.Look v ∷ []) calm u.1 in
       record {

@@ -25,7 +25,7 @@ use Rattle.wait_class.specs.declared.frame_stages.Stage.TheVariants as stage
 use Rattle.wait_class.specs.declared.stages.Run.{Run}
 use Rattle.wait_class.specs.declared.stages.Turn.TheVariants as turn
 use Rattle.wait_class.specs.Tables.{Advances, IsAt, Plan, call_plan}
-use Rattle.wait_class.proofs.Wholes.{Rested, begins, ended_runs, rest_is, rested_idle, rested_out, rests}
+use Rattle.wait_class.proofs.Wholes.{Rested, begins, ended_runs, rested_idle, rested_out, rests}
 use Rattle.bit_wait.proofs.LockKinds.{takes_bit}
 
 -- the numbers of a call are in their ranges
@@ -103,5 +103,6 @@ module _ (old ended new : Known) (r q : Run (Framed LockBit)) (w b : ℕ) (st : 
     runs = ended_runs lock_table old ended r q (stage.Test test.First) o a (call_plan (calls.LockBit w b st)) began
         (answer_of (end_in e o)) (answer_is e o);
     cause = subst (λ (p : Plan). CauseOf ended p.watch p.state (end_in e o)) (a.same ∙ began) a.lands.trail.cause;
-    rests = rest_is ended new e.worn h;
+    worn = e.worn;
+    rests = h;
   }

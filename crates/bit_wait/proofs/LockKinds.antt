@@ -33,8 +33,9 @@ use Rattle.wait_class.specs.Findings.{with_value}
 use Rattle.wait_class.proofs.Ground.Standing.{stands_on}
 use Rattle.wait_class.specs.declared.stages.Run.{Run}
 use Rattle.wait_class.specs.declared.stages.Turn.{Turn}
-use Rattle.wait_class.specs.Laws.{HomeGoes, IsFree, KeepsLaws, StateGoes}
-use Rattle.wait_class.specs.Tables.{IsAt, Table, TurnTrail, next_in, plan_program, post_of, took_in, turn_post, watch_in}
+use Rattle.wait_class.specs.Laws.{HomeGoes, IsFreeStage, KeepsLaws, StateGoes}
+use Rattle.wait_class.specs.Tables.{IsAt, CallTable, next_in, plan_program, post_of, took_in, watch_in}
+use Rattle.wait_class.specs.Laws.{TurnTrail, turn_post}
 use Rattle.wait_class.proofs.Turns.{GoesOn, free_head, stands_plain}
 use Rattle.wait_class.proofs.Wholes.{Rested}
 use Rattle.bit_wait.specs.Holders.{IsHolder}
@@ -83,12 +84,12 @@ lock_stays = record {
 }
 
 -- The bit is tried, where no head is held: by the way that it goes.
-module _ {C S O : Type 0} (t : Table C S O) (old new : Known) (r : Run C) (s : S) (w n v : ℕ)
+module _ {C S O : Type 0} (t : CallTable C S O) (old new : Known) (r : Run C) (s : S) (w n v : ℕ)
     (bit : watch_in t r.of ≡ watch.Bit w n)
     (keeps : (i : ℕ) (c : Watch) (g h : Bool) (a b : Known) → LockKeeps i c g h a b → t.Keeps i c g h a b)
     (is : new ≡ added old (item.Made (step.Consume (watch.Bit w n) 1 v)))
     (sets : SetsBit old new (watch.Bit w n) (was_clear (watch.Bit w n) v)) (fresh : t.drawn s ≡ false)
-    (free : IsFree t s) (untaken : t.took s ≡ false) (a : IsAt t old r s) where
+    (free : IsFreeStage t s) (untaken : t.took s ≡ false) (a : IsAt t old r s) where
   abbrev e : Step
   e = step.Consume (watch.Bit w n) 1 v
 

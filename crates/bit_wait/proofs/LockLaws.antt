@@ -31,10 +31,11 @@ use Rattle.wait_class.specs.FrameLaws.{FinishLaw, IsLawfulFrame}
 use Rattle.wait_class.specs.Queueing.{untold}
 use Rattle.wait_class.specs.Tables.{has_sleep}
 use Rattle.wait_class.specs.Laws.{AddsOwn, HasJoined, IsWornFor, LoadLaw, LookLaw, SleepLaw}
-use Rattle.wait_class.specs.Tables.{Calm, Unmoved, next_in}
+use Rattle.wait_class.specs.Tables.{next_in}
+use Rattle.wait_class.specs.Laws.{Calm, Unmoved}
 use Rattle.wait_class.proofs.CallPlans.{call_stands}
 use Rattle.wait_class.proofs.Ways.{finish_by, load_by, look_by, sleep_by, way}
-use Rattle.wait_class.proofs.Histories.{awake_more, ends_calm, ends_still, worn_still}
+use Rattle.wait_class.proofs.Histories.{awake_more, ends_calm, ends_still, found_still}
 use Rattle.wq_head.proofs.FullHeads.{hashed_low}
 use Rattle.wait_model.specs.declared.layout.TheConstants.{FIRST_DONE_HEAD, WORD_BITS}
 use Rattle.wait_model.specs.Watches.{head_of}
@@ -75,13 +76,7 @@ test_still : (old new : Known) (r : LockBit) (x : LockTest) → Unmoved old new 
 test_still old new r test.First still f = tt
 test_still old new r test.Load still f = tt
 test_still old new r test.Again still f = tt
-test_still old new r test.Worn still f = (
-  record {
-    noted = worn_still old new (head_in r) r.place still f.0.noted;
-    ends = ends_still old new (step.Unlock (head_in r) false ∷ []) still f.0.ends;
-  },
-  f.1,
-)
+test_still old new r test.Worn still f = (found_still old new (head_in r) r.place still f.0, f.1)
 test_still old new r test.Last still f = record {
   before = f.before;
   sleep = f.sleep;

@@ -34,7 +34,8 @@ use Rattle.wait_class.specs.declared.frame_stages.Framed.{Framed}
 use Rattle.wait_class.specs.declared.frame_stages.Stage.TheVariants as stage
 use Rattle.wait_class.specs.declared.stages.Run.{Run}
 use Rattle.wait_class.specs.declared.stages.Turn.TheVariants as turn
-use Rattle.wait_class.specs.Tables.{IsAt, IsPlain, Turned, falls}
+use Rattle.wait_class.specs.Tables.{IsAt, Turned, falls}
+use Rattle.wait_class.specs.Laws.{IsPlain}
 use Rattle.wait_class.proofs.Turns.{GoesOn, advance_by, zero_for}
 use Rattle.bit_wait.specs.LockStays.{LockKeeps}
 use Rattle.bit_wait.specs.LockTables.{EndTrail, LockTurn, bit_in, call_in, head_in, lock_frame, lock_table, tried_to, tries_bit}

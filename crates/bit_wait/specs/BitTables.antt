@@ -19,18 +19,17 @@ use Rattle.wait_model.specs.PointFacts.{absent}
 use Rattle.wait_model.specs.Tasks.{looks_in, state_mask}
 use Rattle.wait_model.specs.Watches.{head_of}
 use Rattle.wait_model.specs.Words.{bit_at}
-use Rattle.wait_rule.specs.Ends.{WasWorn}
 use Rattle.wait_rule.specs.Known.{Known}
 use Rattle.wait_rule.specs.Tickets.{no_ticket}
 use Rattle.wait_class.specs.Posts.{Post}
-use Rattle.wait_class.specs.Posts.{EndsWith}
+use Rattle.wait_class.specs.Posts.{EndsWith, FoundWorn}
 use Rattle.wait_class.specs.declared.frame_stages.Framed.{Framed}
 use Rattle.wait_class.specs.declared.frame_stages.Stage.{Stage}
 use Rattle.wait_class.specs.declared.frame_stages.Stage.TheVariants as stage
 use Rattle.wait_class.specs.declared.stages.Turn.{Turn}
 use Rattle.wait_class.specs.declared.stages.Turn.TheVariants as turn
 use Rattle.wait_class.specs.Frames.{FrameTable, KeepsAll, framed}
-use Rattle.wait_class.specs.Tables.{Table, call_plan}
+use Rattle.wait_class.specs.Tables.{CallTable, call_plan}
 use Rattle.bit_wait.specs.BitEnds.{IsCause, WasInterrupted, end_in}
 use Rattle.bit_wait.specs.declared.waits.BitOutcome.{BitOutcome}
 use Rattle.bit_wait.specs.declared.waits.BitOutcome.TheVariants as outcome
@@ -54,10 +53,10 @@ test_point test.Worn = at.Worn
 
 -- what a load notes, and where a wait goes on that found the bit set or not, that finished, that slept, and that looked
 -- for a signal
-abbrev pub noted_at : WaitBit → BitTest → ℕ → WaitBit
-noted_at r test.First v = r
-noted_at r (test.Again failed) v = r
-noted_at r _ v = record r { seen = v }
+abbrev pub bit_noted : WaitBit → BitTest → ℕ → WaitBit
+bit_noted r test.First v = r
+bit_noted r (test.Again failed) v = r
+bit_noted r _ v = record r { seen = v }
 
 abbrev pub set_to : BitTest → Bool → Turn (Stage BitTest) BitOutcome
 set_to test.First set = if set then turn.Again stage.PrepareLock else turn.Done outcome.Over
@@ -66,8 +65,8 @@ set_to (test.Again failed) set = if set && not failed then turn.Again stage.Prep
     else turn.Again (stage.FinishState failed)
 set_to test.Worn set = if set then turn.Done outcome.Worn else turn.Again (stage.FinishState false)
 
-abbrev pub finished_to : WaitBit → Bool → Turn (Stage BitTest) BitOutcome
-finished_to r failed = if failed then turn.Done outcome.Interrupted else turn.Done outcome.Over
+abbrev pub bit_finished_to : WaitBit → Bool → Turn (Stage BitTest) BitOutcome
+bit_finished_to r failed = if failed then turn.Done outcome.Interrupted else turn.Done outcome.Over
 
 abbrev pub slept_to : WaitBit → Stage BitTest
 slept_to r = if looks_in r.state then stage.Look else stage.Test (test.Again false)
@@ -97,20 +96,15 @@ end_post r o = record {
 abbrev pub loads_set : WaitBit → List Step → List Step
 loads_set r es = step.Unlock (head_of (bit_in r)) false ∷ step.Load (bit_in r) r.seen ∷ es
 
--- a place of the head was noted at which no place is left, and the head given back
-pub record FoundWorn (k : Known) (h p : ℕ) : Type 0 where
-  pub noted : WasWorn k.view.number k.view.items h p
-  pub ends : EndsWith k (step.Unlock h false ∷ [])
+abbrev pub BitFinishTrail : Known → WaitBit → Bool → Type 0
+BitFinishTrail k r true = WasInterrupted k r.word r.bit r.state r.seen
+BitFinishTrail k r false = Unit {0}
 
-abbrev pub FinishTrail : Known → WaitBit → Bool → Type 0
-FinishTrail k r true = WasInterrupted k r.word r.bit r.state r.seen
-FinishTrail k r false = Unit {0}
-
-abbrev pub TestTrail : Known → WaitBit → BitTest → Type 0
-TestTrail k r test.First = Unit {0}
-TestTrail k r test.Load = EndsWith k (step.Unlock (head_of (bit_in r)) false ∷ [])
-TestTrail k r (test.Again failed) = FinishTrail k r failed
-TestTrail k r test.Worn = FoundWorn k (head_of (bit_in r)) r.place
+abbrev pub BitTestTrail : Known → WaitBit → BitTest → Type 0
+BitTestTrail k r test.First = Unit {0}
+BitTestTrail k r test.Load = EndsWith k (step.Unlock (head_of (bit_in r)) false ∷ [])
+BitTestTrail k r (test.Again failed) = BitFinishTrail k r failed
+BitTestTrail k r test.Worn = FoundWorn k (head_of (bit_in r)) r.place []
 
 abbrev pub call_in : WaitBit → Call
 call_in r = calls.WaitBit r.word r.bit r.state
@@ -128,23 +122,23 @@ bit_frame = record {
   look_point = at.Bit biting.Look;
   prepared = test.Load;
   worn_to = test.Worn;
-  finished = finished_to;
+  finished = bit_finished_to;
   slept_to = slept_to;
   looked = λ r hit. turn.Again (stage.Test (test.Again hit));
-  noted = noted_at;
+  noted = bit_noted;
   loaded_to = λ r x v. set_to x (bit_at v r.bit);
   answer_of = answer_in;
   has_taken = λ o. false;
   end_post = end_post;
-  TestTrail = TestTrail;
+  TestTrail = BitTestTrail;
   SleepTrail = λ k r. EndsWith k (loads_set r []) × (bit_at r.seen r.bit ≡ true);
   LookTrail = λ k r. (w : ℕ) × EndsWith k (loads_set r (step.Sleep w ∷ [])) × (bit_at r.seen r.bit ≡ true);
-  FinishTrail = FinishTrail;
+  FinishTrail = BitFinishTrail;
   TrailEnd = λ k r o. IsCause k r.word r.bit r.state (end_in r o);
   Keeps = KeepsAll;
 }
 
-abbrev pub bit_table : Table (Framed WaitBit) (Stage BitTest) BitOutcome
+abbrev pub bit_table : CallTable (Framed WaitBit) (Stage BitTest) BitOutcome
 bit_table = framed bit_frame
 
 -- a wait that has not begun

@@ -66,12 +66,13 @@ abbrev pub has_taken : Result (Unit {0}) BitEnd → Bool
 has_taken (Ok u) = true
 has_taken (Err e) = false
 
--- The task went through the whole call, and the answer is that of its program, with its cause. Where it found no place
--- it then stored RUNNING, since it may still have been in the state in which it would have slept.
+-- The task went through the whole call, and the answer is that of its program, with its cause. Where a hold of it found
+-- no place it then stored RUNNING, since it may still have been in the state in which it would have slept.
 pub record EndsBitLock (old new : Known) (w b : ℕ) (st : SleepState) (result : Result (Unit {0}) BitEnd) :
     Type 0 where
   pub ended : Known
   pub runs : Runs (call_program old.view.number 0 (calls.LockBit w b st)) old ended (next.Go (at.Bit biting.First))
       (next.Ends (answer_of result))
   pub cause : IsCause ended w b st result
-  pub rests : (new ≡ ended) ⊎ (new ≡ added ended (item.Made (step.State 0)))
+  pub worn : Bool
+  pub rests : HasRested ended new worn

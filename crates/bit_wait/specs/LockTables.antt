@@ -20,12 +20,11 @@ use Rattle.wait_model.specs.Tasks.{looks_in, pending, state_mask, task_of}
 use Rattle.wait_model.specs.Watches.{head_of}
 use Rattle.wait_model.specs.Words.{bit_at}
 use Rattle.wait_rule.specs.Bits.{KeepsBitOf}
-use Rattle.wait_rule.specs.Ends.{WasWorn}
 use Rattle.wait_rule.specs.Known.{Known}
 use Rattle.wait_rule.specs.Says.{history_of, told_of}
 use Rattle.wait_rule.specs.Tickets.{no_ticket}
 use Rattle.wait_class.specs.Posts.{Post}
-use Rattle.wait_class.specs.Posts.{EndsWith}
+use Rattle.wait_class.specs.Posts.{EndsWith, FoundWorn}
 use Rattle.wait_class.specs.declared.frame_stages.Framed.{Framed}
 use Rattle.wait_class.specs.declared.frame_stages.Stage.{Stage}
 use Rattle.wait_class.specs.declared.frame_stages.Stage.TheVariants as stage
@@ -33,7 +32,7 @@ use Rattle.wait_class.specs.declared.stages.Turn.{Turn}
 use Rattle.wait_class.specs.declared.stages.Turn.TheVariants as turn
 use Rattle.wait_class.specs.Frames.{FrameTable, framed}
 use Rattle.wait_class.specs.Tables.{has_sleep}
-use Rattle.wait_class.specs.Tables.{Table, call_plan}
+use Rattle.wait_class.specs.Tables.{CallTable, call_plan}
 use Rattle.bit_wait.specs.LockEnds.{IsCause, end_in}
 use Rattle.bit_wait.specs.LockStays.{LockKeeps}
 use Rattle.bit_wait.specs.declared.lock_runs.LockBit.{LockBit}
@@ -84,8 +83,8 @@ finished_to r failed = if failed then turn.Again (stage.Test test.Last) else tur
 abbrev pub slept_to : LockBit → Stage LockTest
 slept_to r = if looks_in r.state then stage.Look else stage.Test test.Again
 
-abbrev pub looked_to : LockBit → Bool → LockTurn
-looked_to r hit = if hit then turn.Again (stage.FinishState true) else turn.Again (stage.Test test.Again)
+abbrev pub lock_looked_to : LockBit → Bool → LockTurn
+lock_looked_to r hit = if hit then turn.Again (stage.FinishState true) else turn.Again (stage.Test test.Again)
 
 abbrev pub answer_in : LockOutcome → Answer
 answer_in outcome.Over = zero_answer
@@ -118,11 +117,6 @@ pub record FoundSignal (k : Known) (st : SleepState) : Type 0 where
   pub ends : history_of k ≡ before ++ (step.Sleep sleep ∷ step.Look look ∷ more)
   pub pends : pending (state_mask st) (task_of look) ≡ true
   pub awake : has_sleep more ≡ false
-
--- A place of the head was noted at which no place is left, and the head given back.
-pub record FoundWorn (k : Known) (h p : ℕ) (more : List Step) : Type 0 where
-  pub noted : WasWorn k.view.number k.view.items h p
-  pub ends : EndsWith k (step.Unlock h false ∷ more)
 
 -- the bit was taken, and the task is not to try it
 pub record HasTaken (k : Known) (c : Watch) : Type 0 where
@@ -166,7 +160,7 @@ lock_frame = record {
   worn_to = test.Worn;
   finished = finished_to;
   slept_to = slept_to;
-  looked = looked_to;
+  looked = lock_looked_to;
   noted = λ r x v. r;
   loaded_to = loaded_to;
   answer_of = answer_in;
@@ -180,7 +174,7 @@ lock_frame = record {
   Keeps = LockKeeps;
 }
 
-abbrev pub lock_table : Table (Framed LockBit) (Stage LockTest) LockOutcome
+abbrev pub lock_table : CallTable (Framed LockBit) (Stage LockTest) LockOutcome
 lock_table = framed lock_frame
 
 -- a wait that has not begun

@@ -40,7 +40,8 @@ use Rattle.wait_class.specs.Findings.{nothing}
 use Rattle.wait_class.proofs.Ground.Keeping.{keeps_of}
 use Rattle.wait_class.specs.declared.stages.Run.{Run}
 use Rattle.wait_class.specs.declared.stages.Turn.TheVariants as turn
-use Rattle.wait_class.specs.Tables.{IsAt, IsPlain, Turned, falls, post_of, turn_post}
+use Rattle.wait_class.specs.Tables.{IsAt, Turned, falls, post_of}
+use Rattle.wait_class.specs.Laws.{IsPlain, turn_post}
 use Rattle.wait_class.proofs.OwnSteps.{own_goes, stands_same}
 use Rattle.wait_class.proofs.Turns.{GoesOn, advance_by}
 use Rattle.wait_class.proofs.Wholes.{none_of}

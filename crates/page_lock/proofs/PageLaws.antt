@@ -15,7 +15,7 @@ use Rattle.wait_class.proofs.Ways.{look_by, sleep_by, way}
 use Rattle.wait_class.specs.declared.stages.Turn.TheVariants as turn
 use Rattle.wait_class.specs.Laws.{
   DrawLaw,
-  IsLawful,
+  IsLawfulTable,
   LawOf,
   LockLaw,
   LookLaw,
@@ -25,7 +25,7 @@ use Rattle.wait_class.specs.Laws.{
   StateLaw,
   UnlockLaw,
 }
-use Rattle.page_lock.specs.PageTables.{depth_at, doing_at, head_in, page_in, page_table}
+use Rattle.page_lock.specs.PageTables.{page_depth, doing_at, head_in, page_in, page_table}
 use Rattle.page_lock.specs.declared.waits.LockPage.{LockPage}
 use Rattle.page_lock.specs.declared.waits.PageStage.{PageStage}
 use Rattle.page_lock.specs.declared.waits.PageStage.TheVariants as stage
@@ -332,7 +332,7 @@ module _ (r : LockPage) where
   laws_at stage.Last = tt
   laws_at stage.Clear = tt
 
-depth_most : (s : PageStage) → depth_at s ≤ 5
+depth_most : (s : PageStage) → page_depth s ≤ 5
 depth_most stage.Queue = omega arith
 depth_most stage.Try = omega arith
 depth_most stage.Off = omega arith
@@ -341,7 +341,7 @@ depth_most stage.FinishQueue = omega arith
 depth_most stage.FinishUnlock = omega arith
 depth_most s = omega arith
 
-pub page_lawful : IsLawful page_table
+pub page_lawful : IsLawfulTable page_table
 page_lawful = record {
   keeps = page_stays;
   tells = record { none = λ r. tt; on = λ r q w ts us a b. tt; quiet = λ r x quiet. tt };

@@ -44,9 +44,10 @@ use Rattle.wait_class.proofs.Turns.{GoesOn, advance_by}
 use Rattle.wait_class.proofs.Wholes.{none_of}
 use Rattle.wait_class.specs.declared.stages.Run.{Run}
 use Rattle.wait_class.specs.declared.stages.Turn.TheVariants as turn
-use Rattle.wait_class.specs.Tables.{IsAt, Turned, post_of, turn_post}
+use Rattle.wait_class.specs.Tables.{IsAt, Turned, post_of}
+use Rattle.wait_class.specs.Laws.{turn_post}
 use Rattle.page_lock.specs.PageEnds.{are_calm}
-use Rattle.page_lock.specs.PageTables.{HasJoined, IsQuiet, head_in, page_in, page_table}
+use Rattle.page_lock.specs.PageTables.{HasJoinedPage, IsQuiet, head_in, page_in, page_table}
 use Rattle.page_lock.specs.declared.waits.LockPage.{LockPage}
 use Rattle.page_lock.specs.declared.waits.PageStage.TheVariants as stage
 use Rattle.page_lock.proofs.PageGround.{page_keeps_on, page_keeps_queued, page_stays, unasked_asks}
@@ -115,7 +116,7 @@ module _ (old : Known) (run : Run LockPage) (a : IsAt page_table old run stage.Q
     by_own : new ≡ stored_with x.seen (step.Queue (own_of x.seen) e)
     by_own = x.is ∙ ap (λ (n : ℕ). stored_with x.seen (step.Queue (index n 0) e)) (sym seen_number)
 
-    joined : HasJoined new r
+    joined : HasJoinedPage new r
     joined = record {
       asks = x.asks ∙ ap (λ (n : ℕ). waits_for (index n 0) r.page) (sym number);
       quiet = queue_quiet x.seen new r.page x.place by_own (looks_quiet r old x.seen x.looks a.trail.1);

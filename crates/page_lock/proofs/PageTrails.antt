@@ -21,10 +21,11 @@ use Rattle.wait_rule.specs.Says.{asks_for, history_of, told_of}
 use Rattle.wait_rule.proofs.KnownLaws.QuietFlags.{quiet_more}
 use Rattle.wait_rule.proofs.KnownLaws.ToldFlags.{told_more}
 use Rattle.wait_class.specs.Posts.{own_of}
-use Rattle.wait_class.specs.Tables.{Calm, Unmoved, has_sleep}
-use Rattle.wait_class.proofs.Histories.{awake_more, ends_still, worn_still}
+use Rattle.wait_class.specs.Tables.{has_sleep}
+use Rattle.wait_class.specs.Laws.{Calm, Unmoved}
+use Rattle.wait_class.proofs.Histories.{awake_more, ends_still, found_still}
 use Rattle.page_lock.specs.PageEnds.{are_calm, is_calm}
-use Rattle.page_lock.specs.PageTables.{EndTrail, FoundSet, FoundSignal, HasLeft, IsOff, IsQuiet, IsUnasked, IsWaiting, TrailAt, head_in, page_in}
+use Rattle.page_lock.specs.PageTables.{PageEndTrail, FoundSet, FoundSignal, HasLeft, IsOff, IsQuiet, IsUnasked, IsWaiting, TrailAt, head_in, page_in}
 use Rattle.page_lock.specs.declared.waits.LockPage.{LockPage}
 use Rattle.page_lock.specs.declared.waits.PageOutcome.TheVariants as outcome
 use Rattle.page_lock.specs.declared.waits.PageStage.{PageStage}
@@ -323,10 +324,7 @@ module _ (old new : Known) (r : LockPage) (still : Unmoved old new) where
   still_by (stage.QueueUnlock false) u = waits_still u
   still_by stage.Worn u = (
     asks_still ∙ u.0,
-    record {
-      noted = worn_still old new (head_in r) r.place still u.1.noted;
-      ends = ends_still old new (step.Unlock (head_in r) false ∷ []) still u.1.ends;
-    },
+    found_still old new (head_in r) r.place still u.1,
   )
   still_by stage.State u = waits_still u
   still_by stage.Flag u = waits_still u
@@ -342,5 +340,5 @@ module _ (old new : Known) (r : LockPage) (still : Unmoved old new) where
   still_by stage.Clear u = asks_still ∙ (u ∙ ap (λ (n : ℕ). was_given (index n 0) r.page) (sym still.number))
 
 -- an answer 0
-pub over_end : (k : Known) (r : LockPage) → KeepsBitOf k (page_in r) → IsUnasked k → EndTrail k r outcome.Over
+pub over_end : (k : Known) (r : LockPage) → KeepsBitOf k (page_in r) → IsUnasked k → PageEndTrail k r outcome.Over
 over_end k r keeps none = record { cause = tt; keeps = λ is. keeps; asks = none }

@@ -36,11 +36,12 @@ use Rattle.wait_class.specs.Findings.{with_value}
 use Rattle.wait_class.proofs.Histories.{ends_more}
 use Rattle.wait_class.specs.declared.stages.Run.{Run}
 use Rattle.wait_class.specs.declared.stages.Turn.TheVariants as turn
-use Rattle.wait_class.specs.Tables.{IsAt, IsPlain, Turned, falls, post_of, turn_post}
+use Rattle.wait_class.specs.Tables.{IsAt, Turned, falls, post_of}
+use Rattle.wait_class.specs.Laws.{IsPlain, turn_post}
 use Rattle.wait_class.proofs.OwnSteps.{own_goes, stands_same}
 use Rattle.wait_class.proofs.Turns.{GoesOn, advance_by}
 use Rattle.page_lock.specs.PageStays.{PageKeeps}
-use Rattle.page_lock.specs.PageTables.{PageTurn, TriesAt, head_in, page_call, page_in, page_table, tried_to, tries_page}
+use Rattle.page_lock.specs.PageTables.{PageTurn, TriesAt, head_in, page_call, page_in, page_table, page_tried_to, tries_page}
 use Rattle.page_lock.specs.declared.waits.LockPage.{LockPage}
 use Rattle.page_lock.specs.declared.waits.PageOutcome.TheVariants as outcome
 use Rattle.page_lock.specs.declared.waits.PageStage.{PageStage}
@@ -107,7 +108,7 @@ module _ (old : Known) (run : Run LockPage) (v : ℕ) where
     keeps_page clear = sets.keeps (ap not clear)
 
     try_from : (s : PageStage) → TriesAt s → IsAt page_table old run s → (b : Bool) → bit_at v 0 ≡ b
-        → GoesOn page_table old new r q s (tried_to s b)
+        → GoesOn page_table old new r q s (page_tried_to s b)
     try_from stage.First own a true set = own_goes page_table old old new r q stage.First (turn.Again stage.Unflag) e
         (with_value v) (only_none old) (only_none new) (λ x did. tt) (kept true set)
         (ap (λ (c : Bool). (if c then unflags else over).next) set)
@@ -184,7 +185,7 @@ module _ (old : Known) (run : Run LockPage) (v : ℕ) where
         (over_end new q (keeps_page set) (asks ∙ a.trail.0))
     try_from s own a b set = absurd own
 
-plain_tries : (s : PageStage) → TriesAt s → (b : Bool) → IsPlain page_table (tried_to s b)
+plain_tries : (s : PageStage) → TriesAt s → (b : Bool) → IsPlain page_table (page_tried_to s b)
 plain_tries stage.First own true = refl
 plain_tries stage.First own false = tt
 plain_tries stage.Try own true = refl
@@ -193,7 +194,7 @@ plain_tries stage.Worn own true = tt
 plain_tries stage.Worn own false = tt
 plain_tries s own b = absurd own
 
-pub tries_fall : (s : PageStage) → TriesAt s → (b : Bool) → falls page_table s (tried_to s b) ≡ true
+pub tries_fall : (s : PageStage) → TriesAt s → (b : Bool) → falls page_table s (page_tried_to s b) ≡ true
 tries_fall stage.First own true = refl
 tries_fall stage.First own false = refl
 tries_fall stage.Try own true = refl
@@ -205,12 +206,12 @@ tries_fall s own b = absurd own
 pub try_advances : (old new : Known) (r : Run LockPage) (s : PageStage) → TriesAt s → IsAt page_table old r s → (v : ℕ)
     → new ≡ added old (item.Made (step.Consume (page_in r.of) 1 v))
     → SetsBit old new (page_in r.of) (was_clear (page_in r.of) v) → (b : Bool) → b ≡ bit_at v 0 → (u : PageTurn)
-    → u ≡ tried_to s b → Turned page_table old new r (record r { of = record r.of { seen = v } }) s u
+    → u ≡ page_tried_to s b → Turned page_table old new r (record r { of = record r.of { seen = v } }) s u
 try_advances old new r s own a v is sets b tells u to =
     let q : Run LockPage = record r { of = record r.of { seen = v } } in
     subst (λ (n : PageTurn). Turned page_table old new r q s n) (sym to)
-    (subst (λ (k : Known). Turned page_table old k r q s (tried_to s b)) (sym is)
-    (advance_by page_table old (added old (item.Made (step.Consume (page_in r.of) 1 v))) r q s (tried_to s b) refl a.fits
+    (subst (λ (k : Known). Turned page_table old k r q s (page_tried_to s b)) (sym is)
+    (advance_by page_table old (added old (item.Made (step.Consume (page_in r.of) 1 v))) r q s (page_tried_to s b) refl a.fits
     (plain_tries s own b)
     (try_from old r v (subst (λ (k : Known). SetsBit old k (page_in r.of) (was_clear (page_in r.of) v)) is sets) s own a
     b (sym tells))))

@@ -25,14 +25,13 @@ use Rattle.wait_model.specs.Watches.{head_of, page}
 use Rattle.wait_model.specs.Words.{bit_at}
 use Rattle.wait_rule.specs.Asked.{nothing_asked, waits_for, was_given}
 use Rattle.wait_rule.specs.Bits.{KeepsBitOf}
-use Rattle.wait_rule.specs.Ends.{WasWorn}
 use Rattle.wait_rule.specs.Known.{Known}
 use Rattle.wait_rule.specs.Quiet.{is_quiet, is_told}
 use Rattle.wait_rule.specs.Says.{asks_for, history_of, told_of}
 use Rattle.wait_rule.specs.Tickets.{no_ticket}
-use Rattle.wait_class.specs.Posts.{EndsWith, Post, own_of}
+use Rattle.wait_class.specs.Posts.{EndsWith, FoundWorn, Post, own_of}
 use Rattle.wait_class.specs.Findings.{nothing}
-use Rattle.wait_class.specs.Tables.{Table, call_plan, has_sleep}
+use Rattle.wait_class.specs.Tables.{CallTable, call_plan, has_sleep}
 use Rattle.wait_class.specs.declared.stages.Doing.{Doing}
 use Rattle.wait_class.specs.declared.stages.Doing.TheVariants as doing
 use Rattle.wait_class.specs.declared.stages.Turn.{Turn}
@@ -102,24 +101,24 @@ FlagsAt stage.Last = Unit {0}
 FlagsAt _ = ⊥
 
 -- the call has the page by the task's own history
-abbrev pub took_at : PageStage → Bool
-took_at stage.Off = true
-took_at (stage.QueueUnlock got) = got
-took_at _ = false
+abbrev pub page_took : PageStage → Bool
+page_took stage.Off = true
+page_took (stage.QueueUnlock got) = got
+page_took _ = false
 
 abbrev pub is_over : PageOutcome → Bool
 is_over outcome.Over = true
 is_over _ = false
 
 -- how many events are left at most until no head is held
-abbrev pub depth_at : PageStage → ℕ
-depth_at stage.Queue = 4
-depth_at stage.Try = 3
-depth_at stage.Off = 2
-depth_at (stage.QueueUnlock got) = 1
-depth_at stage.FinishQueue = 2
-depth_at stage.FinishUnlock = 1
-depth_at _ = 5
+abbrev pub page_depth : PageStage → ℕ
+page_depth stage.Queue = 4
+page_depth stage.Try = 3
+page_depth stage.Off = 2
+page_depth (stage.QueueUnlock got) = 1
+page_depth stage.FinishQueue = 2
+page_depth stage.FinishUnlock = 1
+page_depth _ = 5
 
 -- where a wait goes on behind a draw, behind a lock, an unlock and a store of a state, by what it found, and behind its
 -- test-and-set and its look at the flag
@@ -147,10 +146,10 @@ found_to stage.FinishLook hit = if hit then turn.Again stage.FinishLock else tur
 found_to stage.FinishQueue hit = if hit then turn.Again stage.FinishUnlock else turn.Again stage.Last
 found_to s hit = turn.Again s
 
-abbrev pub tried_to : PageStage → Bool → PageTurn
-tried_to stage.Try set = if set then turn.Again (stage.QueueUnlock false) else turn.Again stage.Off
-tried_to stage.Worn set = if set then turn.Done outcome.Worn else turn.Done outcome.Over
-tried_to _ set = if set then turn.Again stage.Unflag else turn.Done outcome.Over
+abbrev pub page_tried_to : PageStage → Bool → PageTurn
+page_tried_to stage.Try set = if set then turn.Again (stage.QueueUnlock false) else turn.Again stage.Off
+page_tried_to stage.Worn set = if set then turn.Done outcome.Worn else turn.Done outcome.Over
+page_tried_to _ set = if set then turn.Again stage.Unflag else turn.Done outcome.Over
 
 abbrev pub flagged_to : LockPage → PageStage → Bool → PageTurn
 flagged_to r stage.Last hit = if hit then turn.Again stage.Clear else turn.Done outcome.Interrupted
@@ -229,11 +228,6 @@ pub record FoundSignal (k : Known) (r : LockPage) : Type 0 where
   pub pends : pending (state_mask r.state) (task_of look) ≡ true
   pub awake : has_sleep later ≡ false
 
--- A place of the head was noted at which no place is left, and the head given back.
-pub record FoundWorn (k : Known) (r : LockPage) (more : List Step) : Type 0 where
-  pub noted : WasWorn k.view.number k.view.items (head_in r) r.place
-  pub ends : EndsWith k (step.Unlock (head_in r) false ∷ more)
-
 -- The task asks for no page; since it cleared its flag a page alone sets it; and it has been given the page that it
 -- waited for.
 abbrev pub IsUnasked : Known → Type 0
@@ -246,7 +240,7 @@ abbrev pub IsGiven : Known → LockPage → Type 0
 IsGiven k r = asks_for k ≡ was_given (own_of k) r.page
 
 -- it has queued its entry for the page, in the hold that it is in
-pub record HasJoined (k : Known) (r : LockPage) : Type 0 where
+pub record HasJoinedPage (k : Known) (r : LockPage) : Type 0 where
   pub asks : asks_for k ≡ waits_for (own_of k) r.page
   pub quiet : IsQuiet k
   pub entry : Entry
@@ -283,11 +277,11 @@ TrailAt k r stage.Unflag = IsUnasked k
 TrailAt k r stage.QueueLock = IsUnasked k × IsQuiet k
 TrailAt k r stage.QueueTurn = IsUnasked k × IsQuiet k
 TrailAt k r stage.Queue = IsUnasked k × IsQuiet k
-TrailAt k r stage.Try = HasJoined k r
+TrailAt k r stage.Try = HasJoinedPage k r
 TrailAt k r stage.Off = HasGot k r
 TrailAt k r (stage.QueueUnlock true) = IsUnasked k × KeepsBitOf k (page_in r)
 TrailAt k r (stage.QueueUnlock false) = IsWaiting k r
-TrailAt k r stage.Worn = IsUnasked k × FoundWorn k r []
+TrailAt k r stage.Worn = IsUnasked k × FoundWorn k (head_in r) r.place []
 TrailAt k r stage.State = IsWaiting k r
 TrailAt k r stage.Flag = IsWaiting k r
 TrailAt k r stage.Look = IsWaiting k r
@@ -298,12 +292,12 @@ TrailAt k r stage.Clear = IsGiven k r
 TrailAt k r _ = IsWaiting k r × HasLeft k r
 
 -- The answer has its cause; the task keeps the page where it took it, and asks for none any more.
-pub record EndTrail (k : Known) (r : LockPage) (o : PageOutcome) : Type 0 where
+pub record PageEndTrail (k : Known) (r : LockPage) (o : PageOutcome) : Type 0 where
   pub cause : IsCause k r.page r.state (end_in r o)
   pub keeps : is_over o ≡ true → KeepsBitOf k (page_in r)
   pub asks : IsUnasked k
 
-abbrev pub page_table : Table LockPage PageStage PageOutcome
+abbrev pub page_table : CallTable LockPage PageStage PageOutcome
 page_table = record {
   plan_of = λ r. call_plan (page_call r);
   Fits = IsRunning;
@@ -313,8 +307,8 @@ page_table = record {
   point_of = point_of;
   doing = doing_at;
   drawn = is_turn;
-  took = took_at;
-  depth = depth_at;
+  took = page_took;
+  depth = page_depth;
   stays = λ s u. true;
   drawn_to = drawn_to;
   next_of = λ r s. next_of s;
@@ -331,6 +325,6 @@ page_table = record {
   end_post = end_post;
   Tells = λ r q ts. Unit {0};
   Trail = TrailAt;
-  TrailEnd = EndTrail;
+  TrailEnd = PageEndTrail;
   Keeps = PageKeeps;
 }

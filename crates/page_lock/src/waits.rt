@@ -10,7 +10,7 @@ ghost use Rattle.wait_class.specs.Handing.{HasGivenBack};
 ghost use Rattle.wait_class.specs.Laws.{AddsOwn, MayAdd};
 ghost use Rattle.wait_class.specs.Tables.{IsAt, IsStop, Turned, falls};
 ghost use Rattle.page_lock.specs.declared.waits.PageStage.TheVariants as stage;
-ghost use Rattle.page_lock.specs.PageTables.{TriesAt, FlagsAt, flagged_to, page_in, page_table, tried_to};
+ghost use Rattle.page_lock.specs.PageTables.{TriesAt, FlagsAt, flagged_to, page_in, page_table, page_tried_to};
 
 use wait_class::machines::Machine;
 use wait_class::stages::{Added, Doing, Run, Turn};
@@ -83,7 +83,7 @@ pub type PageRun = Run<LockPage>;
 /// Where a wait goes on that tried the page, and found it set or not.
 #[inline(always)]
 fn tried_to(stage: PageStage, set: bool) -> PageTurn
-    ensures { result ≡ tried_to stage set }
+    ensures { result ≡ page_tried_to stage set }
 {
     match stage {
         PageStage::Try => {

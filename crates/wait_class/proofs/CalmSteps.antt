@@ -29,7 +29,8 @@ use Rattle.wait_class.proofs.Histories.{
   stored_history,
   unlocked_history,
 }
-use Rattle.wait_class.specs.Tables.{Calm, has_sleep, moves_entries, state_behind}
+use Rattle.wait_class.specs.Tables.{has_sleep}
+use Rattle.wait_class.specs.Laws.{Calm, moves_entries, state_behind}
 
 -- one part after another
 pub calm_on : (es fs : List Step) (old mid new : Known) → Calm es old mid → Calm fs mid new → Calm (es ++ fs) old new

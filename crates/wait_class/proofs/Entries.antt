@@ -37,9 +37,10 @@ use Rattle.wait_class.proofs.Ground.Standing.{
 use Rattle.wait_class.specs.declared.stages.Doing.TheVariants as doing
 use Rattle.wait_class.specs.declared.stages.Run.{Run}
 use Rattle.wait_class.specs.declared.stages.Turn.{Turn}
-use Rattle.wait_class.specs.Laws.{GiveLaw, HasShown, HeedLaw, IsHeld, IsLawful, IsOpen, LawOf, PareLaw, PeekLaw, is_open, mask_in}
+use Rattle.wait_class.specs.Laws.{GiveLaw, HasShown, HeedLaw, IsHeldStage, IsLawfulTable, MayBeQueued, LawOf, PareLaw, PeekLaw, may_be_queued, mask_in}
 use Rattle.wait_class.specs.Tables.{head_in}
-use Rattle.wait_class.specs.Tables.{Calm, IsAt, IsStop, Table, Turned, falls, post_of, turn_post, watch_at, watch_in}
+use Rattle.wait_class.specs.Tables.{IsAt, IsStop, CallTable, Turned, falls, post_of, stage_watch, watch_in}
+use Rattle.wait_class.specs.Laws.{Calm, turn_post}
 use Rattle.wait_class.proofs.CalmSteps.{calm_on, calm_peek, calm_removed, calm_saw, calm_step, calm_unlock}
 use Rattle.wait_class.proofs.Locks.{back_looks, back_stands, back_up}
 use Rattle.wait_class.proofs.Turns.{
@@ -55,7 +56,7 @@ use Rattle.wait_class.proofs.Turns.{
 }
 
 -- what a stage says of the own entry
-none_open : (z : Zone) → is_open z ≡ true → (c : Watch) → IsHome z c None
+none_open : (z : Zone) → may_be_queued z ≡ true → (c : Watch) → IsHome z c None
 none_open waits is c = tt
 none_open pages is c = tt
 none_open absent is c = tt
@@ -64,7 +65,7 @@ none_open stands is c = absurd (cc)
 none_open seated is c = absurd (cc)
 none_open (parts k) is c = absurd (cc)
 
-watch_open : (z : Zone) → is_open z ≡ true → (c : Watch) (e : Entry) → IsHome z c (Some e) → e.watch ≡ bare c
+watch_open : (z : Zone) → may_be_queued z ≡ true → (c : Watch) (e : Entry) → IsHome z c (Some e) → e.watch ≡ bare c
 watch_open waits is c e h = h.0
 watch_open pages is c e h = h.0
 watch_open absent is c e h = absurd (cc)
@@ -91,21 +92,21 @@ stands_with k p q s head ticket state home = record {
   home = home;
 }
 
-module _ {C S O : Type 0} (t : Table C S O) where
+module _ {C S O : Type 0} (t : CallTable C S O) where
   -- where the own entry is queued it is one of this call
-  pub shown_home : (old mid : Known) (r : Run C) (s : S) → IsOpen t s → IsAt t old r s → (o : Option Entry)
-      → HasSeenOwn old mid o → IsHome (post_of t r.of s).zone (watch_at t r.of s) o
-  shown_home old mid r s opens a None h = none_open (zone_at (t.point_of s)) opens.zone (watch_at t r.of s)
+  pub shown_home : (old mid : Known) (r : Run C) (s : S) → MayBeQueued t s → IsAt t old r s → (o : Option Entry)
+      → HasSeenOwn old mid o → IsHome (post_of t r.of s).zone (stage_watch t r.of s) o
+  shown_home old mid r s opens a None h = none_open (zone_at (t.point_of s)) opens.zone (stage_watch t r.of s)
   shown_home old mid r s opens a (Some e) h = seen_home old mid (Some e) h (post_of t r.of s)
       (stands_plain t old r s opens.fresh a.stands) e refl
 
-  pub shown_stands : (old mid : Known) (r : Run C) (s : S) → IsOpen t s → IsAt t old r s → (o : Option Entry)
+  pub shown_stands : (old mid : Known) (r : Run C) (s : S) → MayBeQueued t s → IsAt t old r s → (o : Option Entry)
       → HasSeenOwn old mid o → Stands mid (post_of t r.of s)
   shown_stands old mid r s opens a o h = seen_stands old mid o h (post_of t r.of s) (post_of t r.of s).zone
       (stands_plain t old r s opens.fresh a.stands) (shown_home old mid r s opens a o h)
 
   -- the head that is held
-  module _ (old : Known) (r : Run C) (s : S) (held : IsHeld t r.of s) (fresh : t.drawn s ≡ false) (a : IsAt t old r s)
+  module _ (old : Known) (r : Run C) (s : S) (held : IsHeldStage t r.of s) (fresh : t.drawn s ≡ false) (a : IsAt t old r s)
     where
       pub post_head : (post_of t r.of s).head ≡ Some (head_in t r.of s)
       post_head = held_head None (t.plan_of r.of) (t.point_of s) held.holds ∙ ap Some held.head
@@ -126,12 +127,12 @@ module _ {C S O : Type 0} (t : Table C S O) where
       at_is = stands_held.at (head_in t r.of s) post_head
 
   -- the program finds the own entry so
-  module _ (old mid : Known) (r : Run C) (s : S) (held : IsHeld t r.of s) (opens : IsOpen t s) (a : IsAt t old r s)
+  module _ (old mid : Known) (r : Run C) (s : S) (held : IsHeldStage t r.of s) (opens : MayBeQueued t s) (a : IsAt t old r s)
       (o : Option Entry) (h : HasSeenOwn old mid o) where
     entry_here : (e : Entry) → o ≡ Some e → head_of e.watch ≡ head_in t r.of s
-    entry_here e is = ap head_of (watch_open (zone_at (t.point_of s)) opens.zone (watch_at t r.of s) e
-        (subst (IsHome (post_of t r.of s).zone (watch_at t r.of s)) is (shown_home old mid r s opens a o h)))
-        ∙ bare_head (watch_at t r.of s)
+    entry_here e is = ap head_of (watch_open (zone_at (t.point_of s)) opens.zone (stage_watch t r.of s) e
+        (subst (IsHome (post_of t r.of s).zone (stage_watch t r.of s)) is (shown_home old mid r s opens a o h)))
+        ∙ bare_head (stage_watch t r.of s)
 
     pub shows : (f : Option Entry) → o ≡ f → HasShown old.view.number mid f
     shows f is = finds_own old mid o h (head_in t r.of s) (head_is old r s held opens.fresh a)
@@ -158,7 +159,7 @@ module _ {C S O : Type 0} (t : Table C S O) where
           told = h.carries.hold ∙ (told_is old r s held opens.fresh a ∙ ap Some (sym at));
         }
 
-  module _ (law : IsLawful t) where
+  module _ (law : IsLawfulTable t) where
     peek_law : (r : C) (s : S) → t.doing s ≡ doing.Peek → (o : Option Entry) → PeekLaw t r s o
     peek_law r s here = subst (λ d. LawOf d t r s) here (law.at r s)
 
@@ -249,7 +250,7 @@ module _ {C S O : Type 0} (t : Table C S O) where
         }
 
     -- not queued: the head is given back
-    gives_from : (old mid new : Known) (r : Run C) (s : S) (held : IsHeld t r.of s) (opens : IsOpen t s)
+    gives_from : (old mid new : Known) (r : Run C) (s : S) (held : IsHeldStage t r.of s) (opens : MayBeQueued t s)
         (l : GiveLaw t r.of s) → IsAt t old r s
         → HasSeenOwn old mid None → new ≡ unlocked_with mid mid.at false
         → GoesOn t old new r.of r.of s (t.found_to r.of s false)

@@ -13,14 +13,14 @@ use Rattle.wait_rule.specs.Tried.{IsOneMore}
 use Rattle.wait_class.specs.declared.stages.Turn.{Turn}
 use Rattle.wait_class.specs.declared.stages.Turn.TheVariants as turn
 use Rattle.wait_class.specs.Handing.{HasGivenBack}
-use Rattle.wait_class.specs.Tables.{Advances, HasMade, Shows, Table}
+use Rattle.wait_class.specs.Tables.{Advances, MadeEvent, Shows, CallTable}
 
 -- it has made nothing yet, or an event
 abbrev pub IsBegun : {C : Type 0} → Known → Known → Run C → Run C → Type 0
-IsBegun old new r q = ((new ≡ old) × (q ≡ r)) ⊎ HasMade old new
+IsBegun old new r q = ((new ≡ old) × (q ≡ r)) ⊎ MadeEvent old new
 
-pub made_on : (old mid new : Known) → HasMade old mid → (es : List Step) → history_of new ≡ history_of mid ++ es
-    → HasMade old new
+pub made_on : (old mid new : Known) → MadeEvent old mid → (es : List Step) → history_of new ≡ history_of mid ++ es
+    → MadeEvent old new
 made_on old mid new m es more = record {
   before = m.before;
   event = m.event;
@@ -30,15 +30,15 @@ made_on old mid new m es more = record {
       ∙ ap (λ (l : List Step). history_of old ++ l) (append_assoc m.before (m.event ∷ m.behind) es)));
 }
 
-pub begun_on : {C : Type 0} (old mid new : Known) (r q : Run C) → IsBegun old mid r q → HasMade mid new
-    → HasMade old new
-begun_on old mid new r q (inl same) made = subst (λ (k : Known). HasMade k new) same.0 made
+pub begun_on : {C : Type 0} (old mid new : Known) (r q : Run C) → IsBegun old mid r q → MadeEvent mid new
+    → MadeEvent old new
+begun_on old mid new r q (inl same) made = subst (λ (k : Known). MadeEvent k new) same.0 made
 begun_on old mid new r q (inr before) made = made_on old mid new before (made.before ++ made.event ∷ made.behind) made.is
 
-module _ {C S O : Type 0} (t : Table C S O) (old mid new : Known) (r q w : Run C) (n : S)
+module _ {C S O : Type 0} (t : CallTable C S O) (old mid new : Known) (r q w : Run C) (n : S)
     (begun : IsBegun old mid r q) where
   -- where the head is held a turn has made an event
-  pub goes_made : Shows t mid new q w (turn.Again n) → holds (t.point_of n) ≡ true → HasMade old new
+  pub goes_made : Shows t mid new q w (turn.Again n) → holds (t.point_of n) ≡ true → MadeEvent old new
   goes_made (inl made) held = begun_on old mid new r q begun made
   goes_made (inr failed) held = absurd (let no : true ≡ false = sym held ∙ failed.free in cc)
 
@@ -52,7 +52,7 @@ module _ {C S O : Type 0} (t : Table C S O) (old mid new : Known) (r q w : Run C
       by (inr made) = inl (made_on old mid new made [] (failed.still ∙ sym (append-nil (history_of mid))))
 
 -- behind what is no event
-pub shown_behind : {C S O : Type 0} (t : Table C S O) (old mid new : Known) (r q w : Run C)
+pub shown_behind : {C S O : Type 0} (t : CallTable C S O) (old mid new : Known) (r q w : Run C)
     → history_of mid ≡ history_of old → q.failed ≡ r.failed → (u : Turn S O) → Shows t mid new q w u
     → Shows t old new r w u
 shown_behind t old mid new r q w still kept (turn.Again n) (inl made) = inl (record {
@@ -71,7 +71,7 @@ shown_behind t old mid new r q w still kept (turn.Asleep n) x = tt
 shown_behind t old mid new r q w still kept (turn.Done o) x = tt
 
 -- a stretch under way
-pub record IsUnderWay {C S O : Type 0} (t : Table C S O) (old new : Known) (r q : Run C) (s n : S) (turns : ℕ) :
+pub record IsUnderWay {C S O : Type 0} (t : CallTable C S O) (old new : Known) (r q : Run C) (s n : S) (turns : ℕ) :
     Type 0 where
   pub way : Advances t old new r q s (turn.Again n)
   pub begun : IsBegun old new r q

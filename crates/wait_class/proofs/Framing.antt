@@ -1,6 +1,6 @@
 -- Calls that prepare and finish as all waits do keep the laws of a table.
 use Rattle.std.proofs.Common.{ap, sym, refl, subst, inl, inr, arith}
-use Rattle.std.specs.Prelude.{ℕ, ◌≡◌, ◌≤◌, ◌||◌, ◌&&◌, not, Bool, true, false, if◌then◌else◌}
+use Rattle.std.specs.Prelude.{◌≡◌, ◌≤◌, ◌||◌, ◌&&◌, not, Bool, true, false}
 use Rattle.std.specs.Prelude.{Option, Some, None, [], ◌∷◌}
 use Rattle.wait_model.specs.declared.points.Next.{Next}
 use Rattle.wait_model.specs.declared.points.Point.TheVariants as at
@@ -19,8 +19,9 @@ use Rattle.wait_class.specs.declared.frame_stages.Stage.TheVariants as stage
 use Rattle.wait_class.specs.FrameLaws.{FinishLaw, IsLawfulFrame, framed_plan}
 use Rattle.wait_class.specs.Frames.{FrameTable, depth_at, doing_at, framed, is_outside}
 use Rattle.wait_class.proofs.Histories.{unmoved_by}
-use Rattle.wait_class.specs.Laws.{DrawLaw, IsLawful, LawOf, LockLaw, PareLaw, PeekLaw, QueueLaw, StateLaw, UnlockLaw}
-use Rattle.wait_class.specs.Tables.{Calm, Plan, Table, Unmoved, next_in}
+use Rattle.wait_class.specs.Laws.{DrawLaw, IsLawfulTable, LawOf, LockLaw, PareLaw, PeekLaw, QueueLaw, StateLaw, UnlockLaw}
+use Rattle.wait_class.specs.Tables.{Plan, CallTable, next_in}
+use Rattle.wait_class.specs.Laws.{Calm, Unmoved}
 use Rattle.wait_class.proofs.Ground.Standing.{owner_own}
 use Rattle.wait_rule.specs.HandedPermits.{OwesNoPermit}
 use Rattle.wq_head.proofs.PermitHeads.{owes_low}
@@ -40,7 +41,7 @@ module _ {W T O : Type 0} (e : FrameTable W T O) (ends : W → Bool → Next)
   abbrev f : FrameTable W T O
   f = stood e ends
 
-  abbrev t : Table (Framed W) (Stage T) O
+  abbrev t : CallTable (Framed W) (Stage T) O
   t = framed f
 
   abbrev plan : Plan
@@ -389,7 +390,7 @@ depth_most (stage.FinishUnlock b) = omega arith
 module _ {W T O : Type 0} (e : FrameTable W T O) (ends : W → Bool → Next)
     (goes : (r : W) (failed : Bool) → ends r failed ≡ next_in (framed (stood e ends)) (e.finished r failed))
     (law : IsLawfulFrame (stood e ends)) where
-  stood_lawful : IsLawful (framed (stood e ends))
+  stood_lawful : IsLawfulTable (framed (stood e ends))
   stood_lawful = record {
     keeps = law.keeps;
     at = λ r s. laws_at e ends goes law r s;
@@ -404,7 +405,7 @@ module _ {W T O : Type 0} (e : FrameTable W T O) (ends : W → Bool → Next)
     depth = depth_most;
   }
 
-pub framed_lawful : {W T O : Type 0} (f : FrameTable W T O) → IsLawfulFrame f → IsLawful (framed f)
+pub framed_lawful : {W T O : Type 0} (f : FrameTable W T O) → IsLawfulFrame f → IsLawfulTable (framed f)
 framed_lawful {W} f law =
     let same : f.plan_of ≡ (λ r. framed_plan f (law.ends r) (f.plan_of r)) = λ j r. law.stands r j in
     let there : IsLawfulFrame (stood f law.ends) = subst (λ (g : W → Plan). IsLawfulFrame (record f { plan_of = g })) same
@@ -412,5 +413,5 @@ framed_lawful {W} f law =
     let goes : (r : W) (failed : Bool) → law.ends r failed ≡ next_in (framed (stood f law.ends)) (f.finished r failed) =
     subst (λ (g : W → Plan). (r : W) (failed : Bool) → law.ends r failed
     ≡ next_in (framed (record f { plan_of = g })) (f.finished r failed)) same law.goes in
-    subst (λ (g : W → Plan). IsLawful (framed (record f { plan_of = g }))) (sym same)
+    subst (λ (g : W → Plan). IsLawfulTable (framed (record f { plan_of = g }))) (sym same)
     (stood_lawful f law.ends goes there)

@@ -8,7 +8,6 @@ use Rattle.wait_model.specs.declared.watches.Aim.{Aim}
 use Rattle.wait_model.specs.declared.watches.Entry.{Entry}
 use Rattle.wait_rule.specs.declared.journal.Item.{Item}
 use Rattle.wait_rule.specs.declared.journal.Item.TheVariants as item
-use Rattle.wait_rule.specs.declared.journal.Journal.{Journal}
 use Rattle.wait_rule.specs.Items.{steps_of}
 use Rattle.wait_rule.specs.Known.{Known}
 use Rattle.wait_rule.specs.Queues.{at_head, index, saw}
@@ -21,7 +20,8 @@ use Rattle.wq_head.specs.Looks.{Looks}
 use Rattle.wait_class.specs.Handing.{HasGivenBack, given_back_by, last_given_back}
 use Rattle.wait_class.specs.Posts.{HasSeenOwn}
 use Rattle.wait_class.specs.Laws.{HasJoined}
-use Rattle.wait_class.specs.Tables.{Calm, Table}
+use Rattle.wait_class.specs.Tables.{CallTable}
+use Rattle.wait_class.specs.Laws.{Calm}
 use Rattle.wait_class.proofs.Turns.{looks_history}
 
 -- steps one after another
@@ -118,6 +118,6 @@ pub given_added : (old seen new : Known) → Looks old seen → (x : ℕ) (entry
 given_added old seen new looks x entry is = given_on old seen new HEADS (given_member_looks old seen looks)
     (given_stored seen new (step.Queue x entry) is)
 
-pub given_joined : {C S O : Type 0} (t : Table C S O) (old new : Known) (r : C) (s : S) (first : Bool)
+pub given_joined : {C S O : Type 0} (t : CallTable C S O) (old new : Known) (r : C) (s : S) (first : Bool)
     → HasJoined t r s old new first → HasGivenBack old new HEADS
 given_joined t old new r s first j = given_added old j.seen new j.looks (index old.view.number 0) j.entry j.is

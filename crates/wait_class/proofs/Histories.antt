@@ -12,8 +12,9 @@ use Rattle.wait_rule.proofs.TableSteps.ItemLists.{steps_append}
 use Rattle.wait_rule.specs.Ends.{WasWorn}
 use Rattle.wait_rule.specs.Known.{Known}
 use Rattle.wait_rule.proofs.WornHeads.WornNotes.{notes_stay}
-use Rattle.wait_class.specs.Posts.{EndsWith}
-use Rattle.wait_class.specs.Tables.{Calm, Unmoved, has_sleep, is_sleep, moves_entries, moves_entry, state_behind}
+use Rattle.wait_class.specs.Posts.{EndsWith, FoundWorn}
+use Rattle.wait_class.specs.Tables.{has_sleep, is_sleep}
+use Rattle.wait_class.specs.Laws.{Calm, Unmoved, moves_entries, moves_entry, state_behind}
 
 pub ends_more : (old new : Known) (es more : List Step) → EndsWith old es → history_of new ≡ history_of old ++ more
     → EndsWith new (es ++ more)
@@ -66,6 +67,20 @@ pub worn_calm : (old new : Known) (es : List Step) (h p : ℕ) → Calm es old n
 worn_calm old new es h p calm noted = subst (λ (l : List Item). WasWorn new.view.number l h p) (sym calm.grown)
     (subst (λ (n : ℕ). WasWorn n (old.view.items ++ calm.items) h p) (sym calm.number)
     (notes_stay old.view.number old.view.items calm.items h p noted))
+
+-- the place that was noted stays so
+pub found_still : (old new : Known) (h p : ℕ) → Unmoved old new → FoundWorn old h p [] → FoundWorn new h p []
+found_still old new h p still f = record {
+  noted = worn_still old new h p still f.noted;
+  ends = ends_still old new (step.Unlock h false ∷ []) still f.ends;
+}
+
+pub found_calm : (old new : Known) (es : List Step) (h p : ℕ) → Calm es old new → FoundWorn old h p []
+    → FoundWorn new h p es
+found_calm old new es h p calm f = record {
+  noted = worn_calm old new es h p calm f.noted;
+  ends = ends_calm old new (step.Unlock h false ∷ []) es calm f.ends;
+}
 
 or_assoc : (a b c : Bool) → ((a || b) || c) ≡ (a || (b || c))
 or_assoc true b c = refl

@@ -8,6 +8,7 @@ use Rattle.wait_model.specs.declared.steps.Step.{Step}
 use Rattle.wait_model.specs.declared.steps.Step.TheVariants as step
 use Rattle.wait_model.specs.declared.watches.Entry.{Entry}
 use Rattle.wait_model.specs.PointFacts.{IsHome}
+use Rattle.wait_model.specs.Watches.{head_of}
 use Rattle.wait_rule.specs.declared.journal.Journal.{Journal}
 use Rattle.wait_rule.specs.Items.{steps_of}
 use Rattle.wait_model.specs.Fold.{view_of}
@@ -33,16 +34,17 @@ use Rattle.wait_class.specs.declared.stages.Doing.TheVariants as doing
 use Rattle.wait_class.specs.declared.stages.Run.{Run}
 use Rattle.wait_class.specs.declared.stages.Turn.{Turn}
 use Rattle.wait_class.specs.declared.stages.Turn.TheVariants as turn
-use Rattle.wait_class.specs.Laws.{DrawLaw, IsLawful, LawOf, LockLaw, UnlockLaw}
+use Rattle.wait_class.specs.Laws.{DrawLaw, IsLawfulTable, LawOf, LockLaw, UnlockLaw}
 use Rattle.wait_class.specs.Tables.{head_in}
-use Rattle.wait_class.specs.Tables.{Advances, Calm, IsAt, IsStop, Table, Turned, falls, plan_post, plan_program, post_of, run_post, turn_post, watch_in}
+use Rattle.wait_class.specs.Tables.{Advances, IsAt, IsStop, CallTable, Turned, falls, plan_post, plan_program, post_of, run_post, watch_in}
+use Rattle.wait_class.specs.Laws.{Calm, turn_post}
 use Rattle.wait_class.proofs.CalmSteps.{calm_on, calm_quiet, calm_step, calm_unlock}
 use Rattle.wait_class.proofs.Histories.{and_both}
 use Rattle.wait_model.specs.PointFacts.{holds}
 use Rattle.wait_class.proofs.Turns.{GoesOn, advance_by, drawn_post, free_head, free_ticket, held_head, moves_quiet, stands_plain, stops_by}
 
 -- the head is there
-pub head_fits : {C S O : Type 0} (t : Table C S O) (law : IsLawful t) (r : C) (s : S) → t.Fits r → (h : ℕ) → h ≡ head_in t r s
+pub head_fits : {C S O : Type 0} (t : CallTable C S O) (law : IsLawfulTable t) (r : C) (s : S) → t.Fits r → (h : ℕ) → h ≡ head_in t r s
     → h < HEADS
 head_fits t law r s fits h same = subst (λ (n : ℕ). n < HEADS) (sym same) (law.few r s fits)
 
@@ -61,7 +63,7 @@ placed_calm es old mid new same state c = record {
   state = λ awake. state ∙ c.state awake;
 }
 
-module _ {C S O : Type 0} (t : Table C S O) (law : IsLawful t) where
+module _ {C S O : Type 0} (t : CallTable C S O) (law : IsLawfulTable t) where
   pub draw_law : (r : C) (s : S) → t.doing s ≡ doing.Draw → DrawLaw t r s
   draw_law r s here = subst (λ d. LawOf d t r s) here (law.at r s)
 
@@ -137,6 +139,9 @@ module _ {C S O : Type 0} (t : Table C S O) (law : IsLawful t) where
         head = st.head ∙ free_head None (t.plan_of r.of) (t.point_of s) l.free;
         ticket = st.ticket ∙ free_ticket None (t.plan_of r.of) (t.point_of s) l.free;
       }
+
+  pub draw_head : (r : C) (s : S) → t.doing s ≡ doing.Draw → head_in t r s ≡ head_in t r (t.drawn_to s)
+  draw_head r s here = ap (λ (p : Point). head_of ((t.plan_of r).watches p)) (sym (draw_law r s here).same)
 
   pub draw_locks : (r : C) (s : S) → t.doing s ≡ doing.Draw → t.doing (t.drawn_to s) ≡ doing.Lock
   draw_locks r s here = (draw_law r s here).locks

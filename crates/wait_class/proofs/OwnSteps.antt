@@ -1,6 +1,6 @@
 -- An event of a call's own, by the way that it goes.
 use Rattle.std.proofs.Common.{◌∙◌, ap, refl, subst, sym}
-use Rattle.std.specs.Prelude.{Some, [], ◌≡◌, ◌∷◌, ℕ}
+use Rattle.std.specs.Prelude.{Some, [], ◌≡◌, ◌∷◌}
 use Rattle.wait_model.specs.declared.points.Next.{Next}
 use Rattle.wait_model.specs.declared.points.Next.TheVariants as next
 use Rattle.wait_model.specs.declared.points.Seen.{Seen}
@@ -26,7 +26,8 @@ use Rattle.wait_rule.specs.Transitions.{
 use Rattle.wait_rule.proofs.KnownLaws.AfterSteps.{told_added}
 use Rattle.wait_class.specs.Posts.{IsStateFor, Post, Stands}
 use Rattle.wait_class.specs.declared.stages.Turn.{Turn}
-use Rattle.wait_class.specs.Tables.{Table, TurnTrail, next_in, plan_program, took_in, turn_post, watch_in}
+use Rattle.wait_class.specs.Tables.{CallTable, next_in, plan_program, took_in, watch_in}
+use Rattle.wait_class.specs.Laws.{TurnTrail, turn_post}
 use Rattle.wait_class.proofs.Turns.{GoesOn, made_between}
 
 -- a step that leaves the book and the hold as they were, in a hold or outside of one
@@ -47,7 +48,7 @@ stands_same k e p q s book hold head ticket state home = record {
 }
 
 -- by what it found, and how the task stands behind it
-module _ {C S O : Type 0} (t : Table C S O) (old knew new : Known) (r q : C) (s : S) (u : Turn S O) (e : Step)
+module _ {C S O : Type 0} (t : CallTable C S O) (old knew new : Known) (r q : C) (s : S) (u : Turn S O) (e : Step)
     (seen : Seen) (before : OnlyLooks old knew) (behind : OnlyLooks (after_step_or_look (by_step e) knew) new) where
   abbrev f : Program
   f = plan_program old.view.number 0 (t.plan_of r)

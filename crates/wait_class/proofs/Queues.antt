@@ -43,9 +43,10 @@ use Rattle.wait_class.specs.declared.stages.Added.TheVariants as adds
 use Rattle.wait_class.specs.declared.stages.Doing.TheVariants as doing
 use Rattle.wait_class.specs.declared.stages.Run.{Run}
 use Rattle.wait_class.specs.declared.stages.Turn.{Turn}
-use Rattle.wait_class.specs.Laws.{HasJoined, HasShown, IsLawful, IsWornFor, IsWornOut, LawOf, MayJoin, QueueLaw, is_quiet, mask_in}
+use Rattle.wait_class.specs.Laws.{HasJoined, HasShown, IsLawfulTable, IsWornFor, IsWornOut, LawOf, MayJoin, QueueLaw, is_quiet, mask_in}
 use Rattle.wait_class.specs.Tables.{head_in}
-use Rattle.wait_class.specs.Tables.{IsAt, IsStop, Table, Turned, falls, post_of, turn_post, watch_in}
+use Rattle.wait_class.specs.Tables.{IsAt, IsStop, CallTable, Turned, falls, post_of, watch_in}
+use Rattle.wait_class.specs.Laws.{turn_post}
 use Rattle.wait_class.proofs.CalmSteps.{calm_on, calm_saw, calm_step, told_stored}
 use Rattle.wait_class.proofs.Entries.{
   at_is,
@@ -82,7 +83,7 @@ note_on mid2 mid3 new w o own2 is noted =
     subst (λ (k : Known). WasWorn k.view.number k.view.items w.head w.place)
     (sym (is ∙ ap (λ (k : Known). unlocked_with k mid3.at false) own2.is)) three
 
-module _ {C S O : Type 0} (t : Table C S O) (law : IsLawful t) where
+module _ {C S O : Type 0} (t : CallTable C S O) (law : IsLawfulTable t) where
   queue_law : (r : C) (s : S) → t.doing s ≡ doing.Queue → QueueLaw t r s
   queue_law r s here = subst (λ d. LawOf d t r s) here (law.at r s)
 

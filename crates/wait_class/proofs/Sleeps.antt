@@ -32,8 +32,9 @@ use Rattle.wait_class.proofs.Ground.Standing.{stands_on}
 use Rattle.wait_class.specs.declared.stages.Doing.TheVariants as doing
 use Rattle.wait_class.specs.declared.stages.Run.{Run}
 use Rattle.wait_class.specs.declared.stages.Turn.TheVariants as turn
-use Rattle.wait_class.specs.Laws.{IsLawful, LawOf, SleepLaw}
-use Rattle.wait_class.specs.Tables.{Advances, IsAsleepAt, IsAt, Table, Turned, Unmoved, Went, falls, plan_program, post_of, run_post, watch_in}
+use Rattle.wait_class.specs.Laws.{IsLawfulTable, LawOf, SleepLaw}
+use Rattle.wait_class.specs.Tables.{Advances, IsAsleepAt, IsAt, CallTable, Turned, Went, falls, plan_program, post_of, run_post, watch_in}
+use Rattle.wait_class.specs.Laws.{Unmoved}
 use Rattle.wait_class.proofs.CalmSteps.{calm_step}
 use Rattle.wait_class.proofs.Histories.{and_both}
 use Rattle.wait_model.specs.PointFacts.{holds}
@@ -49,7 +50,7 @@ use Rattle.wait_class.proofs.Turns.{
   zero_for,
 }
 
-module _ {C S O : Type 0} (t : Table C S O) (law : IsLawful t) where
+module _ {C S O : Type 0} (t : CallTable C S O) (law : IsLawfulTable t) where
   sleep_law : (r : C) (s : S) → t.doing s ≡ doing.Sleep → SleepLaw t r s (t.slept_to r s)
   sleep_law r s here = subst (λ d. LawOf d t r s) here (law.at r s)
 

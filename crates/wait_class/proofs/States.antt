@@ -18,12 +18,13 @@ use Rattle.wait_class.proofs.Ground.Standing.{still_stands}
 use Rattle.wait_class.specs.declared.stages.Doing.TheVariants as doing
 use Rattle.wait_class.specs.declared.stages.Run.{Run}
 use Rattle.wait_class.specs.declared.stages.Turn.{Turn}
-use Rattle.wait_class.specs.Laws.{IsLawful, LawOf, LoadLaw, LookLaw, StateLaw, mask_in}
-use Rattle.wait_class.specs.Tables.{IsAt, Table, Turned, falls, post_of, turn_post, watch_at, watch_in}
+use Rattle.wait_class.specs.Laws.{IsLawfulTable, LawOf, LoadLaw, LookLaw, StateLaw, mask_in}
+use Rattle.wait_class.specs.Tables.{IsAt, CallTable, Turned, falls, post_of, stage_watch, watch_in}
+use Rattle.wait_class.specs.Laws.{turn_post}
 use Rattle.wait_class.proofs.CalmSteps.{calm_step, gone}
 use Rattle.wait_class.proofs.Turns.{GoesOn, advance_by, moves_going, moves_quiet, stands_plain}
 
-module _ {C S O : Type 0} (t : Table C S O) (law : IsLawful t) where
+module _ {C S O : Type 0} (t : CallTable C S O) (law : IsLawfulTable t) where
   state_law : (r : C) (s : S) → t.doing s ≡ doing.State → StateLaw t r s
   state_law r s here = subst (λ d. LawOf d t r s) here (law.at r s)
 
@@ -80,12 +81,12 @@ module _ {C S O : Type 0} (t : Table C S O) (law : IsLawful t) where
   load_agreed old r s a h at = a.stands.agreed h (sym a.stands.head ∙ at)
 
   load_from : (old new : Known) (r : Run C) (s : S) (v : ℕ) (l : LoadLaw t r.of s v (t.noted r.of s v) (t.loaded_to r.of s v)) → IsAt t old r s
-      → new ≡ added old (item.Made (step.Load (watch_at t r.of s) v)) → Carries unchanged old new
+      → new ≡ added old (item.Made (step.Load (stage_watch t r.of s) v)) → Carries unchanged old new
       → GoesOn t old new r.of (t.noted r.of s v) s (t.loaded_to r.of s v)
   load_from old new r s v l a is carries =
       let u = t.loaded_to r.of s v in
       let p = post_of t r.of s in
-      let e : Step = step.Load (watch_at t r.of s) v in
+      let e : Step = step.Load (stage_watch t r.of s) v in
       let st = stands_plain t old r s l.fresh a.stands in
       record {
         goes = moves_going t r.of (t.noted r.of s v) s (with_value v) (Unit {0}) (λ me k x. e) (λ me k x. Unit {0}) u
@@ -94,7 +95,7 @@ module _ {C S O : Type 0} (t : Table C S O) (law : IsLawful t) where
             (λ x did knew. l.tells x did);
         keeps = subst (λ (g : Bool). t.Keeps (index old.view.number 0) (watch_in t r.of) (t.took s) g old new)
             l.moves.took
-            (law.keeps.load (index old.view.number 0) (watch_in t r.of) (watch_at t r.of s) (t.took s) old new v is
+            (law.keeps.load (index old.view.number 0) (watch_in t r.of) (stage_watch t r.of s) (t.took s) old new v is
             carries);
         lands = record {
           up = carries.awake ∙ a.up;
@@ -108,7 +109,7 @@ module _ {C S O : Type 0} (t : Table C S O) (law : IsLawful t) where
       }
 
   pub load_advances : (old new : Known) (r : Run C) (s : S) → IsAt t old r s → (c : Watch)
-      → c ≡ watch_at t r.of s → (v : ℕ) → LoadLaw t r.of s v (t.noted r.of s v) (t.loaded_to r.of s v)
+      → c ≡ stage_watch t r.of s → (v : ℕ) → LoadLaw t r.of s v (t.noted r.of s v) (t.loaded_to r.of s v)
       → new ≡ added old (item.Made (step.Load c v)) → Carries unchanged old new
       → (u : Turn S O) → u ≡ t.loaded_to r.of s v → (q : C) → q ≡ t.noted r.of s v
       → Turned t old new r (record r { of = q }) s u

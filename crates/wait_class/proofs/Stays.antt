@@ -41,7 +41,7 @@ use Rattle.wait_class.proofs.Ground.Keeping.{
 use Rattle.wait_class.specs.Frames.{KeepsAll}
 use Rattle.wait_class.specs.Laws.{AddsOwn, HasJoined, IsWornFor, KeepsLaws}
 use Rattle.wait_class.specs.Queueing.{is_none, untold}
-use Rattle.wait_class.specs.Tables.{Table, watch_at, watch_in}
+use Rattle.wait_class.specs.Tables.{CallTable, stage_watch, watch_in}
 
 pub wait_stays : KeepsLaws KeepsAll
 wait_stays = record {
@@ -75,10 +75,10 @@ wait_stays = record {
 }
 
 -- An add at the front, where the form of the call is that.
-module _ {C S O : Type 0} (t : Table C S O) (r : C) (s : S) (w : Watch) (k : Kind)
+module _ {C S O : Type 0} (t : CallTable C S O) (r : C) (s : S) (w : Watch) (k : Kind)
     (unasked : t.asks_first r ≡ false) (front : (t.plan_of r).form ≡ forms.Front)
     (given : (p : ℕ) → front_entry w k p ≡ entry_for ((t.plan_of r).given (t.point_of s)) forms.Front p)
-    (home : (p : ℕ) → IsHome waits (watch_at t r s) (Some (front_entry w k p)))
+    (home : (p : ℕ) → IsHome waits (stage_watch t r s) (Some (front_entry w k p)))
     (keeps : (old new : Known) → KeepsAll (index old.view.number 0) (watch_in t r) (t.took s) (t.took s) old new
     → t.Keeps (index old.view.number 0) (watch_in t r) (t.took s) (t.took s) old new) where
   joins_front : (old new : Known) → HasAdded IsFrontPlace old new 0 (front_entry w k)

@@ -22,30 +22,9 @@ use Rattle.wait_class.proofs.Ground.Going.{runs_none, runs_on}
 use Rattle.wait_class.specs.declared.stages.Run.{Run}
 use Rattle.wait_class.specs.declared.stages.Turn.{Turn}
 use Rattle.wait_class.specs.declared.stages.Turn.TheVariants as turn
-use Rattle.wait_class.specs.Laws.{IsLawful, Moves, is_quiet}
-use Rattle.wait_class.specs.Tables.{
-  Advances,
-  HasMade,
-  Shows,
-  Turned,
-  IsAt,
-  IsPlain,
-  IsStop,
-  Lands,
-  Plan,
-  Table,
-  TurnTrail,
-  Went,
-  falls,
-  next_in,
-  plan_post,
-  plan_program,
-  post_of,
-  run_post,
-  took_in,
-  turn_post,
-  watch_in,
-}
+use Rattle.wait_class.specs.Laws.{IsLawfulTable, Moves, is_quiet}
+use Rattle.wait_class.specs.Tables.{Advances, MadeEvent, Shows, Turned, IsAt, IsStop, Lands, Plan, CallTable, Went, falls, next_in, plan_post, plan_program, post_of, run_post, took_in, watch_in}
+use Rattle.wait_class.specs.Laws.{IsPlain, TurnTrail, turn_post}
 
 -- what a point says of the head and of the ticket
 pub free_head : (o : Option ℕ) (plan : Plan) (p : Point) → holds p ≡ false → (plan_post o plan p).head ≡ None
@@ -91,7 +70,7 @@ placed_history (step.Lock h aim w) k = refl
 placed_history e k = refl
 
 pub made_between : (e : Step) (old knew new : Known) → OnlyLooks old knew
-    → OnlyLooks (after_step_or_look (by_step e) knew) new → HasMade old new
+    → OnlyLooks (after_step_or_look (by_step e) knew) new → MadeEvent old new
 made_between e old knew new before behind = record {
   before = steps_of before.items;
   event = e;
@@ -104,7 +83,7 @@ made_between e old knew new before behind = record {
       ∙ append_assoc (history_of old) (steps_of before.items) (e ∷ steps_of behind.items)));
 }
 
-module _ {C S O : Type 0} (t : Table C S O) where
+module _ {C S O : Type 0} (t : CallTable C S O) where
   -- the ticket of a stage
   pub plain_post : (r : Run C) (s : S) → t.drawn s ≡ false → run_post t r s ≡ post_of t r.of s
   plain_post r s is = ap (λ (b : Bool). plan_post (if b then Some r.ticket else None) (t.plan_of r.of) (t.point_of s)) is
@@ -146,9 +125,9 @@ module _ {C S O : Type 0} (t : Table C S O) where
   pub record Passage (me : ℕ) (old new : Known) (r q : C) (from to : Next) : Type 0 where
     pub runs : Runs (plan_program me 0 (t.plan_of r)) old new from to
     pub tells : t.Tells r q runs.transitions
-    pub made : HasMade old new
+    pub made : MadeEvent old new
 
-  shows_plain : (old new : Known) (r q : Run C) (u : Turn S O) → IsPlain t u → HasMade old new
+  shows_plain : (old new : Known) (r q : Run C) (u : Turn S O) → IsPlain t u → MadeEvent old new
       → Shows t old new r q u
   shows_plain old new r q (turn.Again s) plain made = inl made
   shows_plain old new r q (turn.Asleep s) plain made = absurd plain
@@ -192,7 +171,7 @@ module _ {C S O : Type 0} (t : Table C S O) where
       }
 
   -- of which a run tells nothing
-  pub moves_quiet : IsLawful t → (r : C) (s : S) (seen : Seen) (A : Type 0) (made : ℕ → Known → A → Step)
+  pub moves_quiet : IsLawfulTable t → (r : C) (s : S) (seen : Seen) (A : Type 0) (made : ℕ → Known → A → Step)
       (Ok : ℕ → Known → A → Type 0) (u : Turn S O) → Moves t r s seen A made Ok u → (me : ℕ) (old knew new : Known)
       (a : A) → is_quiet (by_step (made me knew a)) ≡ true → OnlyLooks old knew → Ok me knew a
       → OnlyLooks (after_step_or_look (by_step (made me knew a)) knew) new
@@ -202,7 +181,7 @@ module _ {C S O : Type 0} (t : Table C S O) where
       (λ x did is. law.tells.quiet r x (ap is_quiet did ∙ quiet))
 
   -- parts one after another
-  module _ (law : IsLawful t) where
+  module _ (law : IsLawfulTable t) where
     pub went_on : (old mid new : Known) (r q w : C) (from by to : Turn S O) → Went t old mid r q from by
         → t.plan_of q ≡ t.plan_of r → Went t mid new q w by to → Went t old new r w from to
     went_on old mid new r q w from by to a same b =

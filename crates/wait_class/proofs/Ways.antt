@@ -18,23 +18,12 @@ use Rattle.wait_class.specs.declared.stages.Turn.{Turn}
 use Rattle.wait_class.specs.declared.stages.Turn.TheVariants as turn
 use Rattle.wait_class.specs.FrameLaws.{FinishLaw}
 use Rattle.wait_class.specs.Frames.{FrameTable, framed}
-use Rattle.wait_class.specs.Laws.{HomeGoes, IsFree, LoadLaw, LookLaw, SleepLaw, StateGoes, mask_in}
-use Rattle.wait_class.specs.Tables.{
-  Calm,
-  IsPlain,
-  Table,
-  TurnTrail,
-  falls,
-  next_in,
-  plan_program,
-  post_of,
-  took_in,
-  turn_post,
-  watch_at,
-}
+use Rattle.wait_class.specs.Laws.{HomeGoes, IsFreeStage, LoadLaw, LookLaw, SleepLaw, StateGoes, mask_in}
+use Rattle.wait_class.specs.Tables.{CallTable, falls, next_in, plan_program, post_of, took_in, stage_watch}
+use Rattle.wait_class.specs.Laws.{Calm, IsPlain, TurnTrail, turn_post}
 
 -- a way with no event of the lock
-pub record Way {C S O : Type 0} (t : Table C S O) (r : C) (s : S) (q : C) (u : Turn S O) : Type 0 where
+pub record Way {C S O : Type 0} (t : CallTable C S O) (r : C) (s : S) (q : C) (u : Turn S O) : Type 0 where
   pub plain : IsPlain t u
   pub falls : falls t s u ≡ true
   pub took : t.took s ≡ took_in t u
@@ -43,7 +32,7 @@ pub record Way {C S O : Type 0} (t : Table C S O) (r : C) (s : S) (q : C) (u : T
   pub state : StateGoes t r s q u
   pub home : HomeGoes t r s q u
 
-pub way : {C S O : Type 0} (t : Table C S O) (r : C) (s : S) (q : C) (u : Turn S O) → IsPlain t u
+pub way : {C S O : Type 0} (t : CallTable C S O) (r : C) (s : S) (q : C) (u : Turn S O) → IsPlain t u
     → falls t s u ≡ true → t.took s ≡ took_in t u → (turn_post t q u).head ≡ (post_of t r s).head
     → (turn_post t q u).ticket ≡ (post_of t r s).ticket → StateGoes t r s q u → HomeGoes t r s q u → Way t r s q u
 way t r s q u plain falls took head ticket state home = record {
@@ -56,15 +45,15 @@ way t r s q u plain falls took head ticket state home = record {
   home = home;
 }
 
-module _ {C S O : Type 0} (t : Table C S O) (r : C) (s : S) (fresh : t.drawn s ≡ false) where
+module _ {C S O : Type 0} (t : CallTable C S O) (r : C) (s : S) (fresh : t.drawn s ≡ false) where
   pub load_by : (v : ℕ) (q : C) (u : Turn S O) → t.plan_of q ≡ t.plan_of r → (t.Fits r → t.Fits q)
-      → ((x : Transition) → x.did ≡ by_step (step.Load (watch_at t r s) v) → t.Tells r q (x ∷ [])) → Way t r s q u
+      → ((x : Transition) → x.did ≡ by_step (step.Load (stage_watch t r s) v) → t.Tells r q (x ∷ [])) → Way t r s q u
       → ((me : ℕ) → ((t.plan_of r).makes me (t.point_of s) (with_value v)).next ≡ next_in t u)
       → ((me : ℕ) (k : Known) → IsMadeFor k (Some (index me 0)) ((t.plan_of r).given (t.point_of s))
-      ((t.plan_of r).makes me (t.point_of s) (with_value v)).event (by_step (step.Load (watch_at t r s) v)))
+      ((t.plan_of r).makes me (t.point_of s) (with_value v)).event (by_step (step.Load (stage_watch t r s) v)))
       → ((me : ℕ) (k : Known) → Finds k (plan_program me 0 (t.plan_of r)) (t.point_of s)
-      (by_step (step.Load (watch_at t r s) v)) (with_value v))
-      → ((old new : Known) → Calm (step.Load (watch_at t r s) v ∷ []) old new → t.Trail old r s → TurnTrail t new q u)
+      (by_step (step.Load (stage_watch t r s) v)) (with_value v))
+      → ((old new : Known) → Calm (step.Load (stage_watch t r s) v ∷ []) old new → t.Trail old r s → TurnTrail t new q u)
       → LoadLaw t r s v q u
   load_by v q u same fits tells w goes is finds trail = record {
     fresh = fresh;
@@ -88,27 +77,27 @@ module _ {C S O : Type 0} (t : Table C S O) (r : C) (s : S) (fresh : t.drawn s �
   -- a load by whose value the call goes two ways
   pub load_fork : (v : ℕ) (q : C) (b : Bool) (one two : Turn S O) (x y : Planned) (e : Event)
       → t.plan_of q ≡ t.plan_of r → (t.Fits r → t.Fits q)
-      → ((x : Transition) → x.did ≡ by_step (step.Load (watch_at t r s) v) → t.Tells r q (x ∷ []))
+      → ((x : Transition) → x.did ≡ by_step (step.Load (stage_watch t r s) v) → t.Tells r q (x ∷ []))
       → ((me : ℕ) → (t.plan_of r).makes me (t.point_of s) (with_value v) ≡ (if b then x else y))
       → (x.event ≡ e) × (x.next ≡ next_in t one) → (y.event ≡ e) × (y.next ≡ next_in t two)
       → ((k : Known) (me : ℕ) → IsMadeFor k (Some (index me 0)) ((t.plan_of r).given (t.point_of s)) e
-      (by_step (step.Load (watch_at t r s) v)))
+      (by_step (step.Load (stage_watch t r s) v)))
       → ((me : ℕ) (k : Known) → Finds k (plan_program me 0 (t.plan_of r)) (t.point_of s)
-      (by_step (step.Load (watch_at t r s) v)) (with_value v))
+      (by_step (step.Load (stage_watch t r s) v)) (with_value v))
       → Way t r s q one → Way t r s q two
-      → ((old new : Known) → b ≡ true → Calm (step.Load (watch_at t r s) v ∷ []) old new → t.Trail old r s
+      → ((old new : Known) → b ≡ true → Calm (step.Load (stage_watch t r s) v ∷ []) old new → t.Trail old r s
       → TurnTrail t new q one)
-      → ((old new : Known) → b ≡ false → Calm (step.Load (watch_at t r s) v ∷ []) old new → t.Trail old r s
+      → ((old new : Known) → b ≡ false → Calm (step.Load (stage_watch t r s) v ∷ []) old new → t.Trail old r s
       → TurnTrail t new q two) → LoadLaw t r s v q (if b then one else two)
   load_fork v q true one two x y e same fits tells plan at_x at_y made finds w1 w2 t1 t2 = load_by v q one same fits tells w1
       (λ me. ap (λ (p : Planned). p.next) (plan me) ∙ at_x.1)
       (λ me k. subst (λ (z : Event). IsMadeFor k (Some (index me 0)) ((t.plan_of r).given (t.point_of s)) z
-      (by_step (step.Load (watch_at t r s) v))) (sym (ap (λ (p : Planned). p.event) (plan me) ∙ at_x.0)) (made k me))
+      (by_step (step.Load (stage_watch t r s) v))) (sym (ap (λ (p : Planned). p.event) (plan me) ∙ at_x.0)) (made k me))
       finds (λ old new calm u. t1 old new refl calm u)
   load_fork v q false one two x y e same fits tells plan at_x at_y made finds w1 w2 t1 t2 = load_by v q two same fits tells w2
       (λ me. ap (λ (p : Planned). p.next) (plan me) ∙ at_y.1)
       (λ me k. subst (λ (z : Event). IsMadeFor k (Some (index me 0)) ((t.plan_of r).given (t.point_of s)) z
-      (by_step (step.Load (watch_at t r s) v))) (sym (ap (λ (p : Planned). p.event) (plan me) ∙ at_y.0)) (made k me))
+      (by_step (step.Load (stage_watch t r s) v))) (sym (ap (λ (p : Planned). p.event) (plan me) ∙ at_y.0)) (made k me))
       finds (λ old new calm u. t2 old new refl calm u)
 
   pub look_by : (hit : Bool) → Way t r s r (t.found_to r s hit)
@@ -136,7 +125,7 @@ module _ {C S O : Type 0} (t : Table C S O) (r : C) (s : S) (fresh : t.drawn s �
     trail = trail;
   }
 
-  pub sleep_by : (n : S) → IsFree t s → IsFree t n → t.asleep_at n ≡ true
+  pub sleep_by : (n : S) → IsFreeStage t s → IsFreeStage t n → t.asleep_at n ≡ true
       → t.stays s (turn.Again s) ≡ true → t.stays s (turn.Asleep n) ≡ true → t.drawn n ≡ false → t.took s ≡ t.took n
       → falls t s (turn.Again n) ≡ true → HomeGoes t r s r (turn.Again n)
       → ((w me : ℕ) → ((t.plan_of r).makes me (t.point_of s) (with_own (task_of w))).next ≡ next_in t (turn.Again n))

@@ -1,6 +1,6 @@
 -- Whole calls: how they begin, and how the task stands behind them.
-use Rattle.std.proofs.Common.{◌∙◌, ap, sym, refl, subst, inl, inr}
-use Rattle.std.specs.Prelude.{ℕ, ◌≡◌, ◌⊎◌, Bool, true, false, Option, Some, None}
+use Rattle.std.proofs.Common.{◌∙◌, ap, sym, refl, subst}
+use Rattle.std.specs.Prelude.{ℕ, ◌≡◌, Bool, true, false, Option, Some, None}
 use Rattle.wait_model.specs.declared.calls.Answer.{Answer}
 use Rattle.wait_model.specs.declared.points.Next.TheVariants as next
 use Rattle.wait_model.specs.declared.steps.Step.TheVariants as step
@@ -12,7 +12,7 @@ use Rattle.wait_model.specs.Views.{View as Told}
 use Rattle.wait_rule.specs.declared.journal.Item.TheVariants as item
 use Rattle.wait_rule.specs.Known.{Known}
 use Rattle.wait_rule.specs.Queues.{IsIdle, IsTold, index}
-use Rattle.wait_rule.specs.Says.{Debts, Excuse, IsUp, added, told_of}
+use Rattle.wait_rule.specs.Says.{Debts, Excuse, IsUp, told_of}
 use Rattle.wait_rule.specs.Tickets.{no_ticket}
 use Rattle.wait_rule.specs.Transitions.{Goes}
 use Rattle.wait_rule.proofs.KnownLaws.AfterSteps.{told_added}
@@ -21,12 +21,12 @@ use Rattle.wait_class.specs.Posts.{IsOut}
 use Rattle.wait_class.specs.Posts.{IsStateFor, Post, Runs, Stands, zone_at}
 use Rattle.wait_class.specs.declared.stages.Run.{Run}
 use Rattle.wait_class.specs.declared.stages.Turn.TheVariants as turn
-use Rattle.wait_class.specs.Tables.{Advances, IsAt, Plan, Table, plan_program, post_of, watch_at}
+use Rattle.wait_class.specs.Tables.{Advances, IsAt, Plan, CallTable, plan_program, post_of, stage_watch}
 use Rattle.wait_class.specs.Wholes.{HasRested}
 use Rattle.wait_class.proofs.Turns.{free_head, free_ticket, plain_post}
 
 -- a task that is idle, with its entry off, may begin
-pub begins : {C S O : Type 0} (t : Table C S O) (k : Known) (r : Run C) (s : S) → t.Fits r.of → t.drawn s ≡ false
+pub begins : {C S O : Type 0} (t : CallTable C S O) (k : Known) (r : Run C) (s : S) → t.Fits r.of → t.drawn s ≡ false
     → holds (t.point_of s) ≡ false → (t.plan_of r.of).stirs (t.point_of s) ≡ false
     → zone_at (t.point_of s) ≡ absent → t.Trail k r.of s → IsTold k → IsUp k → IsIdle k → IsOut k → IsAt t k r s
 begins t k r s fits fresh free rests zone trail told up idle out =
@@ -42,8 +42,8 @@ begins t k r s fits fresh free rests zone trail told up idle out =
         ticket = idle.free.ticket ∙ sym (free_ticket None (t.plan_of r.of) (t.point_of s) free);
         agreed = λ h is. absurd (let none : Some h ≡ None = sym is ∙ head in cc);
         state = subst (λ (b : Bool). IsStateFor b p.state k.book.state) (sym rests) idle.running;
-        home = subst (λ (z : Zone). IsHome z (watch_at t r.of s) ((told_of k).bits.stored (index k.view.number 0)))
-            (sym zone) (subst (IsHome absent (watch_at t r.of s)) (sym out) tt);
+        home = subst (λ (z : Zone). IsHome z (stage_watch t r.of s) ((told_of k).bits.stored (index k.view.number 0)))
+            (sym zone) (subst (IsHome absent (stage_watch t r.of s)) (sym out) tt);
       });
       trail = trail;
     }
@@ -103,11 +103,6 @@ rests old new true σ is state =
       debts = added_debts old new (item.Made (step.State 0)) refl is;
     }
 
-pub rest_is : (old new : Known) (b : Bool) → HasRested old new b
-    → (new ≡ old) ⊎ (new ≡ added old (item.Made (step.State 0)))
-rest_is old new true h = inr h
-rest_is old new false h = inl h
-
 -- an end with no head, no ticket and no entry: the task is idle again
 pub rested_out : (ended new : Known) (p : Post) → Stands ended p → p.zone ≡ absent → Rested ended new → IsOut new
 rested_out ended new p s zone x = ap (λ (n : ℕ). (told_of new).bits.stored (index n 0)) x.number
@@ -124,7 +119,7 @@ rested_idle ended new p s free none x unmarked = record {
 }
 
 -- the run of a whole call, by the call that it began as
-pub ended_runs : {C S O : Type 0} (t : Table C S O) (old new : Known) (r q : Run C) (s : S) (o : O)
+pub ended_runs : {C S O : Type 0} (t : CallTable C S O) (old new : Known) (r q : Run C) (s : S) (o : O)
     → Advances t old new r q s (turn.Done o) → (plan : Plan) → t.plan_of r.of ≡ plan → (x : Answer)
     → t.answer_of o ≡ x
     → Runs (plan_program old.view.number 0 plan) old new (next.Go (t.point_of s)) (next.Ends x)

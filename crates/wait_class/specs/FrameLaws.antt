@@ -44,7 +44,8 @@ use Rattle.wait_class.specs.declared.frame_stages.Stage.{Stage}
 use Rattle.wait_class.specs.declared.frame_stages.Stage.TheVariants as stage
 use Rattle.wait_class.specs.Frames.{FrameTable, framed}
 use Rattle.wait_class.specs.Laws.{KeepsLaws, LoadLaw, LookLaw, SleepLaw}
-use Rattle.wait_class.specs.Tables.{Calm, IsPlain, Plan, TurnTrail, Unmoved, falls, has_sleep, next_in, took_in, turn_post}
+use Rattle.wait_class.specs.Tables.{Plan, falls, has_sleep, next_in, took_in}
+use Rattle.wait_class.specs.Laws.{Calm, IsPlain, TurnTrail, Unmoved, turn_post}
 
 -- a program that prepares and finishes as the waits for bits do, and goes on so behind its finish
 abbrev pub prepare_made : Point → Point → Watch → SleepState → Form → PreparePoint → Seen → Planned
@@ -104,7 +105,6 @@ framed_plan f ends p = record {
   watch = p.watch;
   state = p.state;
   form = p.form;
-  numbers = p.numbers;
   asked = p.asked;
   watches = λ x. p.watch;
   head = frame_head p;

@@ -19,7 +19,7 @@ use Rattle.wait_class.specs.declared.stages.Doing.{Doing}
 use Rattle.wait_class.specs.declared.stages.Doing.TheVariants as doing
 use Rattle.wait_class.specs.declared.stages.Turn.{Turn}
 use Rattle.wait_class.specs.declared.stages.Turn.TheVariants as turn
-use Rattle.wait_class.specs.Tables.{Plan, Table}
+use Rattle.wait_class.specs.Tables.{Plan, CallTable}
 
 -- What differs: the call; its tests, with the point of each, whether it loads the condition, and whether the call has
 -- taken what it waits for there and in a finish; the points of its sleep and of its look for a signal; the tests behind
@@ -169,7 +169,7 @@ FrameTrail f k r (stage.FinishQueue failed) = f.FinishTrail k r.wait failed
 FrameTrail f k r (stage.FinishUnlock failed) = f.FinishTrail k r.wait failed
 FrameTrail f k r _ = Unit {0}
 
-abbrev pub framed : {W T O : Type 0} → FrameTable W T O → Table (Framed W) (Stage T) O
+abbrev pub framed : {W T O : Type 0} → FrameTable W T O → CallTable (Framed W) (Stage T) O
 framed f = record {
   plan_of = λ r. f.plan_of r.wait;
   Fits = λ r. f.Fits r.wait;

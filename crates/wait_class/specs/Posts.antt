@@ -15,10 +15,12 @@ use Rattle.std.specs.Prelude.{
   Some,
   None,
   List,
+  ◌∷◌,
   ◌++◌,
 }
 use Rattle.wait_model.specs.declared.layout.TheConstants.{SLOTS}
 use Rattle.wait_model.specs.declared.steps.Step.{Step}
+use Rattle.wait_model.specs.declared.steps.Step.TheVariants as step
 use Rattle.wait_model.specs.declared.watches.Watch.{Watch}
 use Rattle.wait_model.specs.declared.watches.Entry.{Entry}
 use Rattle.wait_model.specs.declared.calls.Call.{Call}
@@ -28,6 +30,7 @@ use Rattle.wait_model.specs.declared.points.Next.{Next}
 use Rattle.wait_model.specs.Points.{call_watch, head_at, state_in}
 use Rattle.wait_model.specs.Tasks.{state_mask}
 use Rattle.wait_model.specs.PointFacts.{Zone, absent, zone, IsHome, holds, stirs}
+use Rattle.wait_rule.specs.Ends.{WasWorn}
 use Rattle.wait_rule.specs.Known.{Known}
 use Rattle.wait_rule.specs.Tickets.{Ticket, no_ticket, drawn, taken}
 use Rattle.wait_rule.specs.Members.{IsOwnKind}
@@ -125,3 +128,8 @@ IsOut k = (told_of k).bits.stored (own_of k) ≡ None
 -- the history ends with these steps
 abbrev pub EndsWith : Known → List Step → Type 0
 EndsWith k es = (before : List Step) × (history_of k ≡ before ++ es)
+
+-- A place of this head was noted at which no place is left, and the head given back; these steps came behind it.
+pub record FoundWorn (k : Known) (h p : ℕ) (more : List Step) : Type 0 where
+  pub noted : WasWorn k.view.number k.view.items h p
+  pub ends : EndsWith k (step.Unlock h false ∷ more)

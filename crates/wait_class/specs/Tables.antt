@@ -38,16 +38,15 @@ use Rattle.wait_model.specs.Programs.{program}
 use Rattle.wait_model.specs.Tasks.{state_mask, task_of}
 use Rattle.wait_model.specs.Watches.{head_of}
 use Rattle.wait_model.specs.PointFacts.{holds, stirs}
-use Rattle.wait_rule.specs.declared.journal.Item.{Item}
 use Rattle.wait_rule.specs.Known.{Known}
 use Rattle.wait_rule.specs.Queues.{index}
 use Rattle.wait_rule.specs.declared.journal.Item.TheVariants as item
-use Rattle.wait_rule.specs.Says.{IsUp, IsDown, added, history_of, told_of}
+use Rattle.wait_rule.specs.Says.{IsUp, IsDown, added, history_of}
 use Rattle.wait_rule.specs.Tickets.{taken}
 use Rattle.wait_rule.specs.Tried.{IsOneMore}
 use Rattle.wq_head.specs.LockTurns.{FindsOther}
 use Rattle.wait_rule.specs.Transitions.{Program, Transition}
-use Rattle.wait_class.specs.Posts.{Post, Stands, Runs, own_of, ticket_out, zone_at}
+use Rattle.wait_class.specs.Posts.{Post, Stands, Runs, ticket_out, zone_at}
 use Rattle.wait_class.specs.declared.stages.Added.{Added}
 use Rattle.wait_class.specs.declared.stages.Doing.{Doing}
 use Rattle.wait_class.specs.declared.stages.Run.{Run}
@@ -55,7 +54,7 @@ use Rattle.wait_class.specs.declared.stages.Turn.{Turn}
 use Rattle.wait_class.specs.declared.stages.Turn.TheVariants as turn
 
 -- A call as a program: the event at each point by the number of its task and what was found there, and what its step is
--- given; what it waits for, in which state it sleeps, where it queues its entry, and its other numbers; whether its own
+-- given; what it waits for, in which state it sleeps, where it queues its entry; whether its own
 -- task was asked to leave it; for what a point loads, queues or locks, which head it locks, and whether the state may be
 -- another than RUNNING there.
 pub record Plan : Type 0 where
@@ -64,7 +63,6 @@ pub record Plan : Type 0 where
   pub watch : Watch
   pub state : SleepState
   pub form : Form
-  pub numbers : List ℕ
   pub asked : Bool
   pub watches : Point → Watch
   pub head : Point → ℕ
@@ -78,7 +76,6 @@ call_plan call = record {
   watch = call_watch call;
   state = state_in call;
   form = form_of call;
-  numbers = [];
   asked = false;
   watches = λ p. call_watch call;
   head = head_at call;
@@ -111,7 +108,7 @@ plan_post out plan p = record {
 -- whether that is such a place), and by what came of an add; which state a stage stores; how the task stands at the
 -- end; what the run tells of the transitions that it made; what a stage and an outcome say of its last steps; and what
 -- stays of it over a part of a call.
-pub record Table (C S O : Type 0) : Type 1 where
+pub record CallTable (C S O : Type 0) : Type 1 where
   pub plan_of : C → Plan
   pub Fits : C → Type 0
   pub worn_at : C → ℕ → C
@@ -141,32 +138,32 @@ pub record Table (C S O : Type 0) : Type 1 where
   pub TrailEnd : Known → C → O → Type 0
   pub Keeps : ℕ → Watch → Bool → Bool → Known → Known → Type 0
 
-abbrev pub watch_in : {C S O : Type 0} → Table C S O → C → Watch
+abbrev pub watch_in : {C S O : Type 0} → CallTable C S O → C → Watch
 watch_in t r = (t.plan_of r).watch
 
 -- what a stage is about: the condition that it loads, and whose head it locks
-abbrev pub watch_at : {C S O : Type 0} → Table C S O → C → S → Watch
-watch_at t r s = (t.plan_of r).watches (t.point_of s)
+abbrev pub stage_watch : {C S O : Type 0} → CallTable C S O → C → S → Watch
+stage_watch t r s = (t.plan_of r).watches (t.point_of s)
 
-abbrev pub head_in : {C S O : Type 0} → Table C S O → C → S → ℕ
-head_in t r s = head_of (watch_at t r s)
+abbrev pub head_in : {C S O : Type 0} → CallTable C S O → C → S → ℕ
+head_in t r s = head_of (stage_watch t r s)
 
-abbrev pub ticket_at : {C S O : Type 0} → Table C S O → S → ℕ → Option ℕ
+abbrev pub ticket_at : {C S O : Type 0} → CallTable C S O → S → ℕ → Option ℕ
 ticket_at t s n = if t.drawn s then Some n else None
 
-abbrev pub post_of : {C S O : Type 0} → Table C S O → C → S → Post
+abbrev pub post_of : {C S O : Type 0} → CallTable C S O → C → S → Post
 post_of t r s = plan_post None (t.plan_of r) (t.point_of s)
 
-abbrev pub run_post : {C S O : Type 0} → Table C S O → Run C → S → Post
+abbrev pub run_post : {C S O : Type 0} → CallTable C S O → Run C → S → Post
 run_post t r s = plan_post (ticket_at t s r.ticket) (t.plan_of r.of) (t.point_of s)
 
-pub record IsAt {C S O : Type 0} (t : Table C S O) (k : Known) (r : Run C) (s : S) : Type 0 where
+pub record IsAt {C S O : Type 0} (t : CallTable C S O) (k : Known) (r : Run C) (s : S) : Type 0 where
   pub fits : t.Fits r.of
   pub up : IsUp k
   pub stands : Stands k (run_post t r s)
   pub trail : t.Trail k r.of s
 
-pub record IsAsleepAt {C S O : Type 0} (t : Table C S O) (k : Known) (r : Run C) (s : S) : Type 0 where
+pub record IsAsleepAt {C S O : Type 0} (t : CallTable C S O) (k : Known) (r : Run C) (s : S) : Type 0 where
   pub fits : t.Fits r.of
   pub down : IsDown k
   pub place : t.asleep_at s ≡ true
@@ -174,70 +171,70 @@ pub record IsAsleepAt {C S O : Type 0} (t : Table C S O) (k : Known) (r : Run C)
   pub trail : t.Trail k r.of s
 
 -- The wait has ended.
-pub record IsEnded {C S O : Type 0} (t : Table C S O) (k : Known) (r : Run C) (o : O) : Type 0 where
+pub record IsEnded {C S O : Type 0} (t : CallTable C S O) (k : Known) (r : Run C) (o : O) : Type 0 where
   pub up : IsUp k
   pub stands : Stands k (t.end_post r.of o)
   pub trail : t.TrailEnd k r.of o
 
-abbrev pub next_in : {C S O : Type 0} → Table C S O → Turn S O → Next
+abbrev pub next_in : {C S O : Type 0} → CallTable C S O → Turn S O → Next
 next_in t (turn.Again s) = next.Go (t.point_of s)
 next_in t (turn.Asleep s) = next.Go (t.point_of s)
 next_in t (turn.Locked s) = next.Go (t.point_of s)
 next_in t (turn.Done o) = next.Ends (t.answer_of o)
 
-abbrev pub took_in : {C S O : Type 0} → Table C S O → Turn S O → Bool
+abbrev pub took_in : {C S O : Type 0} → CallTable C S O → Turn S O → Bool
 took_in t (turn.Again s) = t.took s
 took_in t (turn.Asleep s) = t.took s
 took_in t (turn.Locked s) = t.took s
 took_in t (turn.Done o) = t.has_taken o
 
 -- the wait went on from one place to another
-pub record Went {C S O : Type 0} (t : Table C S O) (old new : Known) (r q : C) (from to : Turn S O) : Type 0 where
+pub record Went {C S O : Type 0} (t : CallTable C S O) (old new : Known) (r q : C) (from to : Turn S O) : Type 0 where
   pub runs : Runs (plan_program old.view.number 0 (t.plan_of r)) old new (next_in t from) (next_in t to)
   pub tells : t.Tells r q runs.transitions
   pub keeps : t.Keeps (index old.view.number 0) (watch_in t r) (took_in t from) (took_in t to) old new
 
 -- and where it stands then
-abbrev pub Lands : {C S O : Type 0} → Table C S O → Known → Run C → Turn S O → Type 0
+abbrev pub Lands : {C S O : Type 0} → CallTable C S O → Known → Run C → Turn S O → Type 0
 Lands t new r (turn.Again s) = IsAt t new r s
 Lands t new r (turn.Asleep s) = IsAsleepAt t new r s
 Lands t new r (turn.Locked s) = IsAt t new r s
 Lands t new r (turn.Done o) = IsEnded t new r o
 
 -- what a turn did; it is the same call
-pub record Advances {C S O : Type 0} (t : Table C S O) (old new : Known) (r q : Run C) (s : S) (u : Turn S O) :
+pub record Advances {C S O : Type 0} (t : CallTable C S O) (old new : Known) (r q : Run C) (s : S) (u : Turn S O) :
     Type 0 where
   pub same : t.plan_of q.of ≡ t.plan_of r.of
   pub went : Went t old new r.of q.of (turn.Again s) u
   pub lands : Lands t new q u
 
 -- the task made an event
-pub record HasMade (old new : Known) : Type 0 where
+pub record MadeEvent (old new : Known) : Type 0 where
   pub before : List Step
   pub event : Step
   pub behind : List Step
   pub is : history_of new ≡ history_of old ++ (before ++ event ∷ behind)
 
 -- it made none, and one more of its tries failed, where no head is held
-pub record HasFailed {C S O : Type 0} (t : Table C S O) (old new : Known) (r q : Run C) (s : S) : Type 0 where
+pub record HasFailed {C S O : Type 0} (t : CallTable C S O) (old new : Known) (r q : Run C) (s : S) : Type 0 where
   pub count : IsOneMore r.failed q.failed
   pub still : history_of new ≡ history_of old
   pub free : holds (t.point_of s) ≡ false
 
 -- it looked last at the number that its head serves, which is another one than its ticket
-pub record HasFoundOther {C S O : Type 0} (t : Table C S O) (new : Known) (q : Run C) (s : S) : Type 0 where
+pub record HasFoundOther {C S O : Type 0} (t : CallTable C S O) (new : Known) (q : Run C) (s : S) : Type 0 where
   pub before : Known
   pub finds : FindsOther before new (head_in t q.of s) q.ticket q.served
 
 -- What a turn has to show for its answer: that it goes on, an event or a failed try; that it waits for the lock, a look
 -- that found another number served.
-abbrev pub Shows : {C S O : Type 0} → Table C S O → Known → Known → Run C → Run C → Turn S O → Type 0
-Shows t old new r q (turn.Again s) = HasMade old new ⊎ HasFailed t old new r q s
+abbrev pub Shows : {C S O : Type 0} → CallTable C S O → Known → Known → Run C → Run C → Turn S O → Type 0
+Shows t old new r q (turn.Again s) = MadeEvent old new ⊎ HasFailed t old new r q s
 Shows t old new r q (turn.Locked s) = HasFoundOther t new q s
 Shows t old new r q (turn.Asleep s) = Unit {0}
 Shows t old new r q (turn.Done o) = Unit {0}
 
-pub record Turned {C S O : Type 0} (t : Table C S O) (old new : Known) (r q : Run C) (s : S) (u : Turn S O) :
+pub record Turned {C S O : Type 0} (t : CallTable C S O) (old new : Known) (r q : Run C) (s : S) (u : Turn S O) :
     Type 0 where
   pub advances : Advances t old new r q s u
   pub shows : Shows t old new r q u
@@ -247,59 +244,23 @@ abbrev pub LooksAwake : Known → Known → Bool → Type 0
 LooksAwake old new awake = (found : ℕ) × (new ≡ added old (item.Awake found)) × (awake ≡ (task_of found).runnable)
 
 -- a turn goes on where no head is held, or with fewer events left, and as its class says of the parts of a call
-abbrev pub goes_down : {C S O : Type 0} → Table C S O → S → Turn S O → Bool
+abbrev pub goes_down : {C S O : Type 0} → CallTable C S O → S → Turn S O → Bool
 goes_down t s (turn.Again n) = not (holds (t.point_of n)) || nat_lt (t.depth n) (t.depth s)
 goes_down t s (turn.Asleep n) = not (holds (t.point_of n))
 goes_down t s (turn.Locked n) = not (holds (t.point_of n))
 goes_down t s (turn.Done o) = true
 
-abbrev pub falls : {C S O : Type 0} → Table C S O → S → Turn S O → Bool
+abbrev pub falls : {C S O : Type 0} → CallTable C S O → S → Turn S O → Bool
 falls t s u = goes_down t s u && t.stays s u
 
 -- it stopped where no head is held
-abbrev pub IsStop : {C S O : Type 0} → Table C S O → Turn S O → Type 0
+abbrev pub IsStop : {C S O : Type 0} → CallTable C S O → Turn S O → Type 0
 IsStop t (turn.Again s) = holds (t.point_of s) ≡ false
 IsStop t (turn.Asleep s) = holds (t.point_of s) ≡ false
 IsStop t (turn.Locked s) = holds (t.point_of s) ≡ false
 IsStop t (turn.Done o) = Unit {0}
 
--- a turn that goes on with no ticket drawn, or ends the wait
-abbrev pub IsPlain : {C S O : Type 0} → Table C S O → Turn S O → Type 0
-IsPlain t (turn.Again s) = t.drawn s ≡ false
-IsPlain t (turn.Asleep s) = ⊥
-IsPlain t (turn.Locked s) = ⊥
-IsPlain t (turn.Done o) = Unit {0}
-
--- what such a turn says of the task, and of its last steps
-abbrev pub turn_post : {C S O : Type 0} → Table C S O → C → Turn S O → Post
-turn_post t r (turn.Again s) = post_of t r s
-turn_post t r (turn.Asleep s) = post_of t r s
-turn_post t r (turn.Locked s) = post_of t r s
-turn_post t r (turn.Done o) = t.end_post r o
-
-abbrev pub TurnTrail : {C S O : Type 0} → Table C S O → Known → C → Turn S O → Type 0
-TurnTrail t k r (turn.Again s) = t.Trail k r s
-TurnTrail t k r (turn.Asleep s) = t.Trail k r s
-TurnTrail t k r (turn.Locked s) = t.Trail k r s
-TurnTrail t k r (turn.Done o) = t.TrailEnd k r o
-
--- whether steps store or take off an entry, or look at one, and the state behind them
-abbrev pub moves_entry : Step → Bool
-moves_entry (step.Queue x e) = true
-moves_entry (step.Unqueue x) = true
-moves_entry (step.Saw x w) = true
-moves_entry (step.Peek x w) = true
-moves_entry _ = false
-
-abbrev pub moves_entries : List Step → Bool
-moves_entries [] = false
-moves_entries (e ∷ es) = moves_entry e || moves_entries es
-
-abbrev pub state_behind : List Step → ℕ → ℕ
-state_behind [] σ = σ
-state_behind (step.State τ ∷ es) σ = state_behind es τ
-state_behind (e ∷ es) σ = state_behind es σ
-
+-- whether the task slept in these steps, or tried to
 abbrev pub is_sleep : Step → Bool
 is_sleep (step.Sleep w) = true
 is_sleep _ = false
@@ -307,22 +268,3 @@ is_sleep _ = false
 abbrev pub has_sleep : List Step → Bool
 has_sleep [] = false
 has_sleep (e ∷ es) = is_sleep e || has_sleep es
-
--- the list has no step more
-pub record Unmoved (old new : Known) : Type 0 where
-  pub number : new.view.number ≡ old.view.number
-  pub items : List Item
-  pub grown : new.view.items ≡ old.view.items ++ items
-  pub history : history_of new ≡ history_of old
-
--- The history has these steps more, none of which takes or gives back a bit.
-pub record Calm (es : List Step) (old new : Known) : Type 0 where
-  pub number : new.view.number ≡ old.view.number
-  pub items : List Item
-  pub grown : new.view.items ≡ old.view.items ++ items
-  pub history : history_of new ≡ history_of old ++ es
-  pub keeps : (d : Watch) → (told_of new).bits.keeps d ≡ (told_of old).bits.keeps d
-  pub tries : (d : Watch) → (told_of old).bits.keeps d ≡ true → (told_of old).bits.pending d ≡ false
-      → (told_of new).bits.pending d ≡ false
-  pub stored : moves_entries es ≡ false → (told_of new).bits.stored (own_of new) ≡ (told_of old).bits.stored (own_of old)
-  pub state : has_sleep es ≡ false → new.book.state ≡ state_behind es old.book.state

@@ -7,7 +7,7 @@ ghost use Rattle.wait_rule.specs.Says.{history_of};
 ghost use Rattle.wait_class.specs.declared.stages.Doing.TheVariants as doing;
 ghost use Rattle.wait_class.specs.declared.stages.Turn.TheVariants as turn;
 ghost use Rattle.wait_class.specs.Handing.{HasGivenBack};
-ghost use Rattle.wait_class.specs.Tables.{Advances, IsAt, IsStop, Turned, falls};
+ghost use Rattle.wait_class.specs.Tables.{Advances, IsAt, IsStop, Turned, falls, head_in};
 
 use crate::machines::Machine;
 use crate::queueing::own_entry;
@@ -44,22 +44,29 @@ fn load_event<C: Machine>(
     next
 }
 
-/// A ticket of the head is drawn.
+/// A ticket of the head is drawn, and the head answered.
 #[inline(always)]
-fn draw_event<C: Machine>(domain: &Domain, task: &mut Task, run: &mut Run<C>, stage: C::Stage)
+fn draw_event<C: Machine>(
+    domain: &Domain,
+    task: &mut Task,
+    run: &mut Run<C>,
+    stage: C::Stage,
+) -> u16
     requires of { task.old.domain ≡ domain.now }
     requires here { C.table.doing stage ≡ doing.Draw }
     requires at { IsAt C.table task.old run.old stage }
     ensures advances { Advances C.table task.old task.new run.old run.new stage (turn.Again (C.table.drawn_to stage)) }
     ensures still { history_of task.new ≡ history_of task.old }
     ensures failed { run.new.failed ≡ run.old.failed }
+    ensures head { result ≡ head_in C.table run.new.of (C.table.drawn_to stage) }
     ensures locks { C.table.doing (C.table.drawn_to stage) ≡ doing.Lock }
     ensures depth { C.table.depth (C.table.drawn_to stage) ≡ C.table.depth stage }
     ensures stays { (u : _) → C.table.stays (C.table.drawn_to stage) u ≡ C.table.stays stage u }
 {
     C::lawful();
-    let _ = stage;
-    run.ticket = draw(domain, task, head_of(run.of.watch(stage)));
+    let head = head_of(run.of.watch(stage));
+    run.ticket = draw(domain, task, head);
+    head
 }
 
 /// One look whether the ticket is served, and the lock where it is.
@@ -69,16 +76,17 @@ fn lock_event<C: Machine>(
     task: &mut Task,
     run: &mut Run<C>,
     stage: C::Stage,
+    head: u16,
 ) -> Turn<C::Stage, C::Outcome>
     requires of { task.old.domain ≡ domain.now }
     requires here { C.table.doing stage ≡ doing.Lock }
+    requires head { head ≡ head_in C.table run.old.of stage }
     requires at { IsAt C.table task.old run.old stage }
     ensures turned { Turned C.table task.old task.new run.old run.new stage result }
     ensures falls { falls C.table stage result ≡ true }
     ensures given { HasGivenBack task.old task.new HEADS }
 {
     C::lawful();
-    let head = head_of(run.of.watch(stage));
     let found = serving_load(domain, task, head);
     run.served = found;
     if found != run.ticket {
@@ -320,10 +328,13 @@ pub fn advance<C: Machine>(
         Doing::Own => C::own(domain, task, run, stage, passing),
         Doing::Load => load_event(domain, task, run, stage),
         Doing::Draw => {
-            draw_event(domain, task, run, stage);
-            lock_event(domain, task, run, C::drawn_to(stage))
+            let head = draw_event(domain, task, run, stage);
+            lock_event(domain, task, run, C::drawn_to(stage), head)
         }
-        Doing::Lock => lock_event(domain, task, run, stage),
+        Doing::Lock => {
+            let head = head_of(run.of.watch(stage));
+            lock_event(domain, task, run, stage, head)
+        }
         Doing::Unlock => unlock_event(domain, task, run, stage, passing),
         Doing::State => state_event(domain, task, run, stage),
         Doing::Look => look_event(domain, task, run, stage),

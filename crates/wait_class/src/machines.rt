@@ -8,8 +8,8 @@ ghost use Rattle.wait_rule.specs.Says.{IsUp};
 ghost use Rattle.wait_class.specs.declared.stages.Added.TheVariants as adds;
 ghost use Rattle.wait_class.specs.declared.stages.Doing.TheVariants as doing;
 ghost use Rattle.wait_class.specs.Handing.{HasGivenBack};
-ghost use Rattle.wait_class.specs.Laws.{AddsOwn, IsLawful, MayAdd};
-ghost use Rattle.wait_class.specs.Tables.{IsAt, IsStop, Table, Turned, falls, watch_at};
+ghost use Rattle.wait_class.specs.Laws.{AddsOwn, IsLawfulTable, MayAdd};
+ghost use Rattle.wait_class.specs.Tables.{IsAt, IsStop, CallTable, Turned, falls, stage_watch};
 
 use crate::stages::{Added, Doing, Run, Turn};
 use wait_model::tasks::SleepState;
@@ -24,11 +24,11 @@ pub trait Machine: Copy {
 
     type Outcome: Copy;
 
-    ghost table: { Table Self Self.Stage Self.Outcome };
+    ghost table: { CallTable Self Self.Stage Self.Outcome };
 
     /// What a stage is about, and the state in which the call sleeps.
     fn watch(self, stage: Self::Stage) -> Watch
-        ensures { result ≡ watch_at table self stage };
+        ensures { result ≡ stage_watch table self stage };
 
     fn state(self) -> SleepState
         ensures { result ≡ (table.plan_of self).state };
@@ -110,5 +110,5 @@ pub trait Machine: Copy {
 
     /// The table keeps the laws.
     fn lawful()
-        ensures { IsLawful table };
+        ensures { IsLawfulTable table };
 }

@@ -28,7 +28,7 @@ use Rattle.wait_class.specs.declared.stages.Turn.TheVariants as turn
 use Rattle.wait_class.specs.Posts.{IsStateFor}
 use Rattle.wait_class.specs.Laws.{
   DrawLaw,
-  IsLawful,
+  IsLawfulTable,
   LawOf,
   LoadLaw,
   LockLaw,
@@ -40,7 +40,8 @@ use Rattle.wait_class.specs.Laws.{
   StateLaw,
   UnlockLaw,
 }
-use Rattle.wait_class.specs.Tables.{IsPlain, TurnTrail, falls, next_in, post_of, took_in, turn_post}
+use Rattle.wait_class.specs.Tables.{falls, next_in, post_of, took_in}
+use Rattle.wait_class.specs.Laws.{IsPlain, TurnTrail, turn_post}
 use Rattle.wait_class.proofs.Ground.Standing.{home_waits, owner_own}
 use Rattle.wait_class.proofs.Stays.{wait_stays}
 use Rattle.wait_class.proofs.Turns.{may_by}
@@ -53,6 +54,8 @@ use Rattle.wait_event.specs.declared.waits.WaitStage.{WaitStage}
 use Rattle.wait_event.specs.declared.waits.WaitStage.TheVariants as stage
 use Rattle.wait_event.proofs.PermitHeads.{run_low}
 use Rattle.wait_event.proofs.Tellings.{joined_told, loaded_told, quiet_told, wait_told}
+use Rattle.wait_class.proofs.Histories.{found_calm}
+use Rattle.wait_event.specs.Waits.{last_load}
 use Rattle.wait_event.proofs.WaitTrails.{
   finds_off,
   gives_back,
@@ -61,7 +64,6 @@ use Rattle.wait_event.proofs.WaitTrails.{
   trail_rises,
   trail_still,
   unset_by,
-  worn_loads,
 }
 
 -- a turn at the one is one at the other, where the ticket of the lock is drawn
@@ -134,7 +136,7 @@ module _ (r : WaitCall) where
         (way wait_table r stage.Worn q (turn.Done outcome.Worn) tt refl refl refl refl (λ σ s. s) (λ o h. h))
         (way wait_table r stage.Worn q (turn.Again stage.FinishState) refl refl refl refl refl (λ σ s. inl s)
         (home_waits r.watch))
-        (λ old new is calm u. (worn_loads old new r v calm u, unset_by r.watch v is)) (λ old new is calm u. is)
+        (λ old new is calm u. (found_calm old new (last_load q) (head_of r.watch) r.place calm u, unset_by r.watch v is)) (λ old new is calm u. is)
 
     leave_law : (found : Bool) → LoadLaw wait_table r (stage.LeaveLoad found) v q (loaded_to r (stage.LeaveLoad found) v)
     leave_law found = load_fork wait_table r (stage.LeaveLoad found) refl v q b (turn.Done (outcome.Signalled found))
@@ -559,7 +561,7 @@ depth_most stage.FinishQueue = omega arith
 depth_most stage.FinishUnlock = omega arith
 depth_most s = omega arith
 
-pub wait_lawful : IsLawful wait_table
+pub wait_lawful : IsLawfulTable wait_table
 wait_lawful = record {
   keeps = wait_stays;
   tells = wait_told;

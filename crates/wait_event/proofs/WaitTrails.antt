@@ -13,9 +13,9 @@ use Rattle.wait_rule.specs.Known.{Known}
 use Rattle.wait_rule.specs.Queues.{index}
 use Rattle.wait_rule.specs.Says.{told_of}
 use Rattle.wait_class.specs.Posts.{EndsWith, own_of}
-use Rattle.wait_class.specs.Tables.{Calm, Unmoved}
-use Rattle.wait_class.proofs.Histories.{ends_calm, ends_still, unmoved_by, worn_calm, worn_still}
-use Rattle.wait_event.specs.Waits.{FoundWorn, IsQueuedIn, IsUnset, LeftQueue, TrailAt, head_of_wait, is_slept, last_load, left_by}
+use Rattle.wait_class.specs.Laws.{Calm, Unmoved}
+use Rattle.wait_class.proofs.Histories.{ends_calm, ends_still, found_still, unmoved_by}
+use Rattle.wait_event.specs.Waits.{IsQueuedIn, IsUnset, LeftQueue, TrailAt, head_of_wait, is_slept, last_load, left_by}
 use Rattle.wait_event.specs.declared.waits.WaitCall.{WaitCall}
 use Rattle.wait_event.specs.declared.waits.WaitStage.{WaitStage}
 use Rattle.wait_event.specs.declared.waits.WaitStage.TheVariants as stage
@@ -109,12 +109,6 @@ module _ (old new : Known) (r : WaitCall) where
         (ends_still old new (left_by (own_of old) h l.look l.entry ++ []) still l.ends);
   }
 
-  pub worn_stays : Unmoved old new → FoundWorn old r [] → FoundWorn new r []
-  worn_stays still f = record {
-    noted = worn_still old new h r.place still f.noted;
-    ends = ends_still old new (step.Unlock h false ∷ []) still f.ends;
-  }
-
 -- the last load of a wait that was signalled, and of one that found no place
 module _ (old new : Known) (r : WaitCall) (v : ℕ) (calm : Calm (step.Load r.watch v ∷ []) old new) where
   abbrev q : WaitCall
@@ -130,12 +124,6 @@ module _ (old new : Known) (r : WaitCall) (v : ℕ) (calm : Calm (step.Load r.wa
         (own_same old new calm.number)
         (subst (EndsWith new) (append_assoc (left_by (own_of old) (head_of_wait r) l.look l.entry) [] (last_load q))
         (ends_calm old new (left_by (own_of old) (head_of_wait r) l.look l.entry ++ []) (last_load q) calm l.ends));
-  }
-
-  pub worn_loads : FoundWorn old r [] → FoundWorn new q (last_load q)
-  worn_loads f = record {
-    noted = worn_calm old new (last_load q) (head_of_wait r) r.place calm f.noted;
-    ends = ends_calm old new (step.Unlock (head_of_wait r) false ∷ []) (last_load q) calm f.ends;
   }
 
 -- what stays where nothing was made
@@ -154,7 +142,7 @@ trail_still old new r stage.LeaveUnlock calm u = (
       (ends_still old new (taken_steps (own_of old) u.0 u.1) (unmoved_by old new calm) u.4),
 )
 trail_still old new r (stage.LeaveLoad found) calm u = left_still old new r found (unmoved_by old new calm) u
-trail_still old new r stage.Worn calm u = worn_stays old new r (unmoved_by old new calm) u
+trail_still old new r stage.Worn calm u = found_still old new (head_of_wait r) r.place (unmoved_by old new calm) u
 trail_still old new r stage.First calm u = u
 trail_still old new r stage.PrepareLock calm u = u
 trail_still old new r stage.PrepareTurn calm u = u

@@ -39,7 +39,6 @@ use Rattle.wait_model.specs.PointFacts.{absent}
 use Rattle.wait_model.specs.Watches.{IsThere, head_of, misses}
 use Rattle.wait_rule.specs.Known.{Known}
 use Rattle.wait_rule.specs.Tickets.{no_ticket}
-use Rattle.wait_rule.specs.Ends.{WasWorn}
 use Rattle.wait_rule.specs.Says.{told_of}
 use Rattle.wait_rule.specs.Shown.{shown_queue}
 use Rattle.wait_rule.specs.Transitions.{StepOrLook, Transition, by_step}
@@ -50,9 +49,9 @@ use Rattle.wait_class.specs.declared.stages.Doing.TheVariants as doing
 use Rattle.wait_class.specs.declared.stages.Turn.{Turn}
 use Rattle.wait_class.specs.declared.stages.Turn.TheVariants as turn
 use Rattle.wait_class.specs.Frames.{KeepsAll}
-use Rattle.wait_class.specs.Posts.{EndsWith, Post, own_of}
+use Rattle.wait_class.specs.Posts.{EndsWith, FoundWorn, Post, own_of}
 use Rattle.wait_class.specs.Queueing.{is_none}
-use Rattle.wait_class.specs.Tables.{Table}
+use Rattle.wait_class.specs.Tables.{CallTable}
 use Rattle.wait_event.specs.WaitPlans.{IsWaitFor, wait_plan}
 use Rattle.wait_event.specs.declared.waits.WaitCall.{WaitCall}
 use Rattle.wait_event.specs.declared.waits.WaitOutcome.{WaitOutcome}
@@ -170,15 +169,15 @@ turn_of s = s
 abbrev pub looks_first : Bool → Turn WaitStage WaitOutcome
 looks_first looks = if looks then turn.Again stage.PrepareLook else turn.Again stage.PrepareQueue
 
-abbrev pub next_behind : WaitCall → WaitStage → Turn WaitStage WaitOutcome
-next_behind r stage.PrepareTurn = looks_first (r.asks && looks_in r.how.state)
-next_behind r stage.PrepareState = turn.Again stage.PrepareUnlock
-next_behind r stage.PrepareUnlock = turn.Again stage.Test
-next_behind r stage.LeaveUnlock = turn.Again (stage.LeaveLoad true)
-next_behind r stage.FinishState = turn.Again stage.FinishLook
-next_behind r stage.FinishTurn = turn.Again stage.FinishQueue
-next_behind r stage.FinishUnlock = turn.Done outcome.Over
-next_behind r s = turn.Again s
+abbrev pub wait_next : WaitCall → WaitStage → Turn WaitStage WaitOutcome
+wait_next r stage.PrepareTurn = looks_first (r.asks && looks_in r.how.state)
+wait_next r stage.PrepareState = turn.Again stage.PrepareUnlock
+wait_next r stage.PrepareUnlock = turn.Again stage.Test
+wait_next r stage.LeaveUnlock = turn.Again (stage.LeaveLoad true)
+wait_next r stage.FinishState = turn.Again stage.FinishLook
+wait_next r stage.FinishTurn = turn.Again stage.FinishQueue
+wait_next r stage.FinishUnlock = turn.Done outcome.Over
+wait_next r s = turn.Again s
 
 abbrev pub missed_to : WaitStage → Turn WaitStage WaitOutcome
 missed_to stage.First = turn.Again stage.PrepareLock
@@ -256,11 +255,6 @@ pub record LeftQueue (k : Known) (r : WaitCall) (queued : Bool) (more : List Ste
   pub found : queued ≡ is_some (entry_of entry)
   pub ends : EndsWith k (left_by (own_of k) (head_of_wait r) look entry ++ more)
 
--- a place of the head was noted at which no place is left, and the head given back
-pub record FoundWorn (k : Known) (r : WaitCall) (more : List Step) : Type 0 where
-  pub noted : WasWorn k.view.number k.view.items (head_of_wait r) r.place
-  pub ends : EndsWith k (step.Unlock (head_of_wait r) false ∷ more)
-
 -- the load at which the wait ended
 abbrev pub last_load : WaitCall → List Step
 last_load r = step.Load r.watch r.seen ∷ []
@@ -290,7 +284,7 @@ TrailAt k r stage.LeaveQueue = (w : ℕ) × SawSignal r w × EndsWith k (step.Lo
 TrailAt k r stage.LeaveUnlock = (w : ℕ) × (e : ℕ) × SawSignal r w × (is_some (entry_of e) ≡ true)
     × EndsWith k (step.Look w ∷ step.Saw (own_of k) e ∷ step.Unqueue (own_of k) ∷ [])
 TrailAt k r (stage.LeaveLoad found) = LeftQueue k r found []
-TrailAt k r stage.Worn = FoundWorn k r []
+TrailAt k r stage.Worn = FoundWorn k (head_of_wait r) r.place []
 TrailAt k r stage.FinishState = HasSeenSet r
 TrailAt k r stage.FinishLook = HasSeenSet r
 TrailAt k r stage.FinishLock = HasSeenSet r
@@ -302,7 +296,7 @@ TrailAt k r _ = Unit {0}
 abbrev pub TrailEnd : Known → WaitCall → WaitOutcome → Type 0
 TrailEnd k r outcome.Over = HasSeenSet r
 TrailEnd k r (outcome.Signalled found) = LeftQueue k r found (last_load r) × IsUnset r.watch r.seen
-TrailEnd k r outcome.Worn = FoundWorn k r (last_load r) × IsUnset r.watch r.seen
+TrailEnd k r outcome.Worn = FoundWorn k (head_of_wait r) r.place (last_load r) × IsUnset r.watch r.seen
 
 -- the wait has ended: the task is awake, RUNNING, holds no head, and its entry is off
 abbrev pub end_post : WaitCall → WaitOutcome → Post
@@ -361,7 +355,7 @@ pub record Tells (r q : WaitCall) (ts : List Transition) : Type 0 where
   pub first : q.first ≡ (r.first || (queues_first ts && tells_first r))
   pub seen : Some q.seen ≡ last_loaded (Some r.seen) ts
 
-abbrev pub wait_table : Table WaitCall WaitStage WaitOutcome
+abbrev pub wait_table : CallTable WaitCall WaitStage WaitOutcome
 wait_table = record {
   plan_of = λ r. wait_plan r.asks r.watch r.how;
   Fits = IsRunning;
@@ -375,7 +369,7 @@ wait_table = record {
   depth = depth;
   stays = stays_in;
   drawn_to = turn_of;
-  next_of = next_behind;
+  next_of = wait_next;
   noted = λ r s v. record r { seen = v };
   loaded_to = loaded_to;
   found_to = found_to;

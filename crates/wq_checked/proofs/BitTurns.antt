@@ -4,7 +4,7 @@ use Rattle.std.specs.Prelude.{◌≡◌, Bool, true, false}
 use Rattle.wait_model.specs.Tasks.{state_mask}
 use Rattle.wait_rule.specs.Known.{Known}
 use Rattle.wait_class.specs.declared.stages.Turn.TheVariants as turn
-use Rattle.wait_class.specs.Laws.{IsLawful}
+use Rattle.wait_class.specs.Laws.{IsLawfulTable}
 use Rattle.wait_class.specs.Tables.{Advances, IsAt}
 use Rattle.wait_class.specs.Wholes.{HasRested}
 use Rattle.wait_class.proofs.Framing.{framed_lawful}
@@ -29,7 +29,7 @@ use Rattle.wq_checked.specs.Advancing.{bit_worn}
 use Rattle.wq_checked.proofs.Elsewhere.{bit_low, calls_off, rest_off}
 use Rattle.wq_checked.proofs.Resting.{owes_rested}
 
-abbrev law : IsLawful bit_table
+abbrev law : IsLawfulTable bit_table
 law = framed_lawful bit_frame bit_lawful
 
 -- a wait that is over leaves a ready task, once it has stored RUNNING where it found no place

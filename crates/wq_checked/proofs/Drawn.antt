@@ -4,13 +4,13 @@ use Rattle.std.specs.Prelude.{ℕ, if◌then◌else◌, Option, Some, None}
 use Rattle.wait_rule.specs.Known.{Known}
 use Rattle.wait_rule.specs.Tickets.{drawn, taken}
 use Rattle.wait_class.specs.Posts.{ticket_out}
-use Rattle.wait_class.specs.Laws.{IsLawful, LawOf, LockLaw}
+use Rattle.wait_class.specs.Laws.{IsLawfulTable, LawOf, LockLaw}
 use Rattle.wait_class.specs.declared.stages.Doing.{Doing}
 use Rattle.wait_class.specs.declared.stages.Doing.TheVariants as doing
 use Rattle.wait_class.specs.declared.stages.Run.{Run}
 use Rattle.wait_class.specs.declared.stages.Turn.{Turn}
 use Rattle.wait_class.specs.declared.stages.Turn.TheVariants as turn
-use Rattle.wait_class.specs.Tables.{Advances, IsAt, Table, head_in, watch_at}
+use Rattle.wait_class.specs.Tables.{Advances, IsAt, CallTable, head_in, stage_watch}
 use Rattle.wait_class.proofs.Framing.{framed_lawful}
 use Rattle.wait_event.specs.Waits as events
 use Rattle.wait_event.proofs.WaitLaws.{wait_lawful}
@@ -64,12 +64,12 @@ awaited_drawn : (k : Known) (o : Option Awaited) (a : Awaited) → o ≡ Some a 
 awaited_drawn k o a is out = subst (IsOut k) is out
 
 -- so it is where a wait of the ground waits for its lock
-module _ {C S O : Type 0} (t : Table C S O) (law : IsLawful t) (k : Known) (r : Run C) (s : S) (at : IsAt t k r s) where
+module _ {C S O : Type 0} (t : CallTable C S O) (law : IsLawfulTable t) (k : Known) (r : Run C) (s : S) (at : IsAt t k r s) where
   drawn_is : LockLaw t r.of s → k.book.ticket ≡ drawn (head_in t r.of s) r.ticket
   drawn_is l = at.stands.ticket ∙ (λ i. if l.free i then taken ((t.plan_of r.of).head (t.point_of s))
       else ticket_out (l.head i) (if l.drawn i then Some r.ticket else None))
 
-  out_by : (d : Doing) → LawOf d t r.of s → IsOut k (lock_with (watch_at t r.of s) r.served (turn_ticket d r.ticket))
+  out_by : (d : Doing) → LawOf d t r.of s → IsOut k (lock_with (stage_watch t r.of s) r.served (turn_ticket d r.ticket))
   out_by doing.Lock l = drawn_is l
   out_by doing.Own l = tt
   out_by doing.Load l = tt
@@ -118,7 +118,7 @@ told_by : (k : Known) (p q : Progress) → p ≡ q → IsDrawn k q → IsDrawn k
 told_by k p q is out = subst (IsDrawn k) (sym is) out
 
 -- a wait of the ground that tells the lock at which its last stretch was refused
-ground_drawn : {C S O : Type 0} (t : Table C S O) → IsLawful t → (start k : Known) (f r : Run C) (first : S)
+ground_drawn : {C S O : Type 0} (t : CallTable C S O) → IsLawfulTable t → (start k : Known) (f r : Run C) (first : S)
     (now : Turn S O → Running) → ((s : S) → awaited_in (now (turn.Locked s)) ≡ lock_at t r s) → (u : Turn S O)
     (p : Progress) → Advances t start k f r first u → p ≡ turn_told (now u) u → IsDrawn k p
 ground_drawn t law start k f r first now here (turn.Locked s) p a is = told_by k p _ is

@@ -6,7 +6,7 @@ use Rattle.wait_model.specs.declared.watches.Watch.TheVariants as watch
 use Rattle.wait_rule.specs.Bits.{taken_bits}
 use Rattle.wait_rule.specs.Known.{Known}
 use Rattle.wait_class.specs.declared.stages.Turn.TheVariants as turn
-use Rattle.wait_class.specs.Laws.{IsLawful}
+use Rattle.wait_class.specs.Laws.{IsLawfulTable}
 use Rattle.wait_class.specs.Tables.{Advances, IsAt, Plan}
 use Rattle.wait_class.specs.Wholes.{HasRested}
 use Rattle.wait_class.proofs.Framing.{framed_lawful}
@@ -33,7 +33,7 @@ use Rattle.wait_model.specs.declared.calls.Call.TheVariants as calls
 use Rattle.wq_checked.proofs.Elsewhere.{bit_low, calls_off, rest_off}
 use Rattle.wq_checked.proofs.Readiness.{keeps_more, owes_more_bits, ready_masks, ready_out}
 
-abbrev law : IsLawful lock_table
+abbrev law : IsLawfulTable lock_table
 law = framed_lawful lock_frame lock_lawful
 
 -- whether the bit was taken, by how the call ended

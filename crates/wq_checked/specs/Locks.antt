@@ -10,7 +10,7 @@ use Rattle.wait_class.specs.declared.stages.Doing.{Doing}
 use Rattle.wait_class.specs.declared.stages.Doing.TheVariants as doing
 use Rattle.wait_class.specs.declared.stages.Run.{Run}
 use Rattle.wait_class.specs.declared.stages.Turn.TheVariants as turn
-use Rattle.wait_class.specs.Tables.{Table, watch_at}
+use Rattle.wait_class.specs.Tables.{CallTable, stage_watch}
 use Rattle.wait_event.specs.Waits as events
 use Rattle.bit_wait.specs.BitTables as bits
 use Rattle.bit_wait.specs.LockTables as takes
@@ -43,8 +43,8 @@ abbrev pub turn_ticket : Doing → ℕ → Option ℕ
 turn_ticket doing.Lock n = Some n
 turn_ticket _ n = None
 
-abbrev pub lock_at : {C S O : Type 0} → Table C S O → Run C → S → Option Awaited
-lock_at t r s = lock_with (watch_at t r.of s) r.served (turn_ticket (t.doing s) r.ticket)
+abbrev pub lock_at : {C S O : Type 0} → CallTable C S O → Run C → S → Option Awaited
+lock_at t r s = lock_with (stage_watch t r.of s) r.served (turn_ticket (t.doing s) r.ticket)
 
 -- The lock that the call under way waits for, whose last stretch found another ticket served: the head of its watch,
 -- its ticket, and the number that was found.

@@ -16,7 +16,7 @@ use Rattle.wait_class.specs.declared.frame_stages.Stage.TheVariants as frame_sta
 use Rattle.wait_class.specs.declared.stages.Run.{Run}
 use Rattle.wait_class.specs.declared.stages.Turn.{Turn}
 use Rattle.wait_class.specs.declared.stages.Turn.TheVariants as turn
-use Rattle.wait_class.specs.Tables.{Advances, IsAsleepAt, IsAt, Table}
+use Rattle.wait_class.specs.Tables.{Advances, IsAsleepAt, IsAt, CallTable}
 use Rattle.bit_wait.specs.declared.waits.BitOutcome.{BitOutcome}
 use Rattle.bit_wait.specs.declared.waits.BitTest.{BitTest}
 use Rattle.bit_wait.specs.declared.waits.BitTest.TheVariants as bit_test
@@ -61,13 +61,13 @@ abbrev pub PageTurn : Type 0
 PageTurn = Turn PageStage PageOutcome
 
 -- a wait of the ground, by what its last stretch did; and one stretch more
-abbrev pub StandsBy : {C S O : Type 0} → Table C S O → Known → Run C → Turn S O → Type 0
+abbrev pub StandsBy : {C S O : Type 0} → CallTable C S O → Known → Run C → Turn S O → Type 0
 StandsBy t k r (turn.Again s) = IsAt t k r s
 StandsBy t k r (turn.Asleep s) = IsAsleepAt t k r s
 StandsBy t k r (turn.Locked s) = IsAt t k r s
 StandsBy t k r (turn.Done o) = ⊥
 
-abbrev pub GoesFrom : {C S O : Type 0} → Table C S O → Known → Known → Run C → Run C → Turn S O → Turn S O → Type 0
+abbrev pub GoesFrom : {C S O : Type 0} → CallTable C S O → Known → Known → Run C → Run C → Turn S O → Turn S O → Type 0
 GoesFrom t old new r q (turn.Again s) u = Advances t old new r q s u
 GoesFrom t old new r q (turn.Asleep s) u = Advances t old new r q s u
 GoesFrom t old new r q (turn.Locked s) u = Advances t old new r q s u

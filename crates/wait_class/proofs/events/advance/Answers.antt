@@ -1,6 +1,7 @@
 use Rattle.std.proofs.Common.{◌∙◌, ◌≡◌, ap, inl, subst, sym}
 use Rattle.wait_class.specs.declared.stages.Turn.TheVariants as turn
-use Rattle.wait_class.specs.Tables.{Went}
+use Rattle.wait_model.specs.Watches.{head_of}
+use Rattle.wait_class.specs.Tables.{Went, head_in}
 use Rattle.wait_class.proofs.Falling.{shown_behind}
 use Rattle.wait_class.proofs.Turns.{advances_on, falls_same, same_domain}
 use Rattle.wait_model.specs.declared.layout.TheConstants.{HEADS}
@@ -9,22 +10,29 @@ use Rattle.wait_class.proofs.events.advance.Goals as goal
 
 pub lock_event-requires-clause-of : goal.lock_event-requires-clause-of
 lock_event-requires-clause-of g c = same_domain g.C.Machine.table c.lawful.ensures c.args.task.now
-    c.draw_event.new.task c.args.run.now.of c.draw_event.new.run.of (turn.Again c.args.stage)
-    (turn.Again (g.C.Machine.table.drawn_to c.args.stage)) c.draw_event.ensures.advances.went ∙ c.requires.of
+    c.draw_event-head.new.task c.args.run.now.of c.draw_event-head.new.run.of (turn.Again c.args.stage)
+    (turn.Again (g.C.Machine.table.drawn_to c.args.stage)) c.draw_event-head.ensures.advances.went ∙ c.requires.of
+
+pub lock_event-requires-clause-head : goal.lock_event-requires-clause-head
+lock_event-requires-clause-head g c = c.draw_event-head.ensures.head ∙ ap (head_in g.C.Machine.table c.draw_event-head.new.run.of)
+    (sym c.drawn_to.ensures)
+
+pub lock_event-requires-in-Lock-clause-head : goal.lock_event-requires-in-Lock-clause-head
+lock_event-requires-in-Lock-clause-head g c = c.head_of-head.ensures ∙ ap head_of c.watch.ensures
 
 pub returns-in-Draw-clause-turned : goal.returns-in-Draw-clause-turned
 returns-in-Draw-clause-turned g c =
     let t = g.C.Machine.table in
-    let d = c.draw_event.ensures.advances in
+    let d = c.draw_event-head.ensures.advances in
     let l = c.lock_event.ensures.turned in
     record {
-      advances = advances_on t c.lawful.ensures c.args.task.now c.draw_event.new.task c.lock_event.new.task
-          c.args.run.now c.draw_event.new.run c.lock_event.new.run c.args.stage c.drawn_to.result c.lock_event.result
+      advances = advances_on t c.lawful.ensures c.args.task.now c.draw_event-head.new.task c.lock_event.new.task
+          c.args.run.now c.draw_event-head.new.run c.lock_event.new.run c.args.stage c.drawn_to.result c.lock_event.result
           d.same
-          (subst (λ n. Went t c.args.task.now c.draw_event.new.task c.args.run.now.of c.draw_event.new.run.of
+          (subst (λ n. Went t c.args.task.now c.draw_event-head.new.task c.args.run.now.of c.draw_event-head.new.run.of
           (turn.Again c.args.stage) (turn.Again n)) (sym c.drawn_to.ensures) d.went) l.advances;
-      shows = shown_behind t c.args.task.now c.draw_event.new.task c.lock_event.new.task c.args.run.now
-          c.draw_event.new.run c.lock_event.new.run c.draw_event.ensures.still c.draw_event.ensures.failed
+      shows = shown_behind t c.args.task.now c.draw_event-head.new.task c.lock_event.new.task c.args.run.now
+          c.draw_event-head.new.run c.lock_event.new.run c.draw_event-head.ensures.still c.draw_event-head.ensures.failed
           c.lock_event.result l.shows;
     }
 
@@ -32,8 +40,8 @@ pub returns-in-Draw-clause-falls : goal.returns-in-Draw-clause-falls
 returns-in-Draw-clause-falls g c =
     let t = g.C.Machine.table in
     falls_same t c.args.stage c.drawn_to.result (subst (λ n. t.depth n ≡ t.depth c.args.stage)
-    (sym c.drawn_to.ensures) c.draw_event.ensures.depth)
-    (λ u. ap (λ n. t.stays n u) c.drawn_to.ensures ∙ c.draw_event.ensures.stays u) c.lock_event.result c.lock_event.ensures.falls
+    (sym c.drawn_to.ensures) c.draw_event-head.ensures.depth)
+    (λ u. ap (λ n. t.stays n u) c.drawn_to.ensures ∙ c.draw_event-head.ensures.stays u) c.lock_event.result c.lock_event.ensures.falls
 
 pub returns-in-Load-clause-passes : goal.returns-in-Load-clause-passes
 returns-in-Load-clause-passes g c = inl c.requires.passes
@@ -82,5 +90,5 @@ returns-in-Lock-clause-given g c = given_as c.args.task.now c.lock_event-in-Lock
 
 pub returns-in-Draw-clause-given : goal.returns-in-Draw-clause-given
 returns-in-Draw-clause-given g c = given_as c.args.task.now c.lock_event.new.task HEADS c.args.passing.now.head
-    c.requires.passes (given_on c.args.task.now c.draw_event.new.task c.lock_event.new.task HEADS
-    (given_still c.args.task.now c.draw_event.new.task c.draw_event.ensures.still) c.lock_event.ensures.given)
+    c.requires.passes (given_on c.args.task.now c.draw_event-head.new.task c.lock_event.new.task HEADS
+    (given_still c.args.task.now c.draw_event-head.new.task c.draw_event-head.ensures.still) c.lock_event.ensures.given)

@@ -78,6 +78,7 @@ module _ {W T O : Type 0} (f : FrameTable W T O) (ends : Bool → Next) (c : Cal
     watch = (call_plan c).watch;
     state = (call_plan c).state;
     form = (call_plan c).form;
+    numbers = (call_plan c).numbers;
     asked = (call_plan c).asked;
     watches = (call_plan c).watches;
     head = λ p. heads p j;

@@ -105,6 +105,7 @@ framed_plan f ends p = record {
   watch = p.watch;
   state = p.state;
   form = p.form;
+  numbers = p.numbers;
   asked = p.asked;
   watches = λ x. p.watch;
   head = frame_head p;

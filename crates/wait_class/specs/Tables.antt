@@ -54,7 +54,7 @@ use Rattle.wait_class.specs.declared.stages.Turn.{Turn}
 use Rattle.wait_class.specs.declared.stages.Turn.TheVariants as turn
 
 -- A call as a program: the event at each point by the number of its task and what was found there, and what its step is
--- given; what it waits for, in which state it sleeps, where it queues its entry; whether its own
+-- given; what it waits for, in which state it sleeps, where it queues its entry, and its other numbers; whether its own
 -- task was asked to leave it; for what a point loads, queues or locks, which head it locks, and whether the state may be
 -- another than RUNNING there.
 pub record Plan : Type 0 where
@@ -63,6 +63,7 @@ pub record Plan : Type 0 where
   pub watch : Watch
   pub state : SleepState
   pub form : Form
+  pub numbers : List ℕ
   pub asked : Bool
   pub watches : Point → Watch
   pub head : Point → ℕ
@@ -76,6 +77,7 @@ call_plan call = record {
   watch = call_watch call;
   state = state_in call;
   form = form_of call;
+  numbers = [];
   asked = false;
   watches = λ p. call_watch call;
   head = head_at call;

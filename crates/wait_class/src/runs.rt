@@ -6,7 +6,7 @@ ghost use Rattle.wait_rule.specs.Says.{IsUp};
 ghost use Rattle.wq_head.specs.declared.locks.TheConstants.{LOOKS};
 ghost use Rattle.wait_class.specs.declared.stages.Turn.TheVariants as turn;
 ghost use Rattle.wait_class.specs.Handing.{HasGivenBack};
-ghost use Rattle.wait_class.specs.Tables.{Advances, IsAsleepAt, IsAt, IsStop, LooksAwake, Turned};
+ghost use Rattle.wait_class.specs.Tables.{Advances, IsAsleepAt, IsAt, IsStop, LooksAwake, Turned, falls};
 ghost use Rattle.wait_class.specs.Wholes.{HasRested};
 
 use crate::events::advance;
@@ -110,6 +110,28 @@ pub fn pause<R: Wait, C: Machine>(
     locks::pause(rt, domain, head_of(run.of.watch(stage)), run.served, looks)
 }
 
+/// Makes the event of a wait at a stage as `advance` does, and wakes the threads that park for the lock that it gave
+/// back.
+#[inline(always)]
+pub fn event<C: Machine>(
+    domain: &Domain,
+    task: &mut Task,
+    run: &mut Run<C>,
+    stage: C::Stage,
+) -> Turn<C::Stage, C::Outcome>
+    requires of { task.old.domain ≡ domain.now }
+    requires at { IsAt C.table task.old run.old stage }
+    ensures turned { Turned C.table task.old task.new run.old run.new stage result }
+    ensures falls { falls C.table stage result ≡ true }
+{
+    C::lawful();
+    let mut passing = Passing::none();
+    let turn = advance(domain, task, run, stage, &mut passing);
+    passing.wake(domain);
+    passing.end();
+    turn
+}
+
 /// Goes on with a wait from a stage to its end: waits for locks, and sleeps.
 #[inline(never)]
 fn run_from<R: Wait, C: Machine>(
@@ -126,11 +148,8 @@ fn run_from<R: Wait, C: Machine>(
     C::lawful();
     let mut at = stage;
     let mut looks = 0;
-    let mut passing = Passing::none();
     for _ in rt.forever() {
-        let turn = advance(domain, task, run, at, &mut passing);
-        passing.wake(domain);
-        match turn {
+        match event(domain, task, run, at) {
             Turn::Again(next) => {
                 looks = 0;
                 at = next;
@@ -143,17 +162,36 @@ fn run_from<R: Wait, C: Machine>(
                 looks = pause(rt, domain, run, next, looks);
                 at = next;
             }
-            Turn::Done(outcome) => {
-                passing.end();
-                return outcome;
-            }
+            Turn::Done(outcome) => return outcome,
         }
     }
     unreachable!()
 }
 
-/// Goes on with a wait from a stage to its end: waits for locks, and sleeps. Its first event is made apart, so that a
-/// wait that is over with it takes no more than that event.
+/// The first events of a wait, three at most. Here the stages are known beforehand, so that each is the event alone.
+#[inline(always)]
+fn first_events<C: Machine>(
+    domain: &Domain,
+    task: &mut Task,
+    run: &mut Run<C>,
+    stage: C::Stage,
+) -> Turn<C::Stage, C::Outcome>
+    requires of { task.old.domain ≡ domain.now }
+    requires at { IsAt C.table task.old run.old stage }
+    ensures { Advances C.table task.old task.new run.old run.new stage result }
+{
+    C::lawful();
+    match event(domain, task, run, stage) {
+        Turn::Again(second) => match event(domain, task, run, second) {
+            Turn::Again(third) => event(domain, task, run, third),
+            turn => turn,
+        },
+        turn => turn,
+    }
+}
+
+/// Goes on with a wait from a stage to its end: waits for locks, and sleeps. Its first events are made apart, so that a
+/// wait that is over with them takes no more than these.
 #[inline(always)]
 pub fn run<R: Wait, C: Machine>(
     rt: &R,
@@ -167,11 +205,7 @@ pub fn run<R: Wait, C: Machine>(
     ensures { Advances C.table task.old task.new run.old run.new stage (turn.Done result) }
 {
     C::lawful();
-    let mut passing = Passing::none();
-    let turn = advance(domain, task, run, stage, &mut passing);
-    passing.wake(domain);
-    passing.end();
-    match turn {
+    match first_events(domain, task, run, stage) {
         Turn::Again(next) => run_from(rt, domain, task, run, next),
         Turn::Locked(next) => run_from(rt, domain, task, run, next),
         Turn::Asleep(next) => {

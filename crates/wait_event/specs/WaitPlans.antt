@@ -122,6 +122,7 @@ wait_plan asks w how = record {
   watch = w;
   state = how.state;
   form = wait_form how;
+  numbers = [];
   asked = false;
   watches = λ p. w;
   head = λ p. head_of w;

@@ -15,15 +15,13 @@ ghost use Rattle.wait_rule.specs.Stays.{Carries};
 
 use crate::waits::{WaitCall, WaitRun, WaitStage, fresh_wait};
 use std::sync::Wait;
-use wait_class::events::advance;
 use wait_class::queueing::own_entry;
-use wait_class::runs::pause;
+use wait_class::runs::{event, pause};
 use wait_class::stages::{Run, Turn};
 use wait_model::heads::head_of;
 use wait_model::layout::RUNNING;
 use wait_model::tasks::{How, SleepState};
 use wait_model::watches::{Kind, Watch};
-use wait_rule::queues::Passing;
 use wait_rule::tasks::set_state;
 use wait_rule::{Domain, Task};
 use wq_head::Worn;
@@ -55,16 +53,12 @@ fn run_prepare<R: Wait>(rt: &R, domain: &Domain, task: &mut Task, run: &mut Wait
     ensures advances { Advances wait_table task.old task.new run.old run.new stage.PrepareLock (turn.Again result) }
     ensures prepared { is_prepared result ≡ true }
 {
-    let mut passing = Passing::none();
     let mut at = WaitStage::PrepareLock;
     let mut looks = 0;
     for _ in rt.forever() {
-        let turn = advance(domain, task, run, at, &mut passing);
-        passing.wake(domain);
-        match turn {
+        match event(domain, task, run, at) {
             Turn::Again(next) => {
                 if ends_prepare(next) {
-                    passing.end();
                     return next;
                 }
                 looks = 0;
@@ -87,13 +81,10 @@ fn run_finish<R: Wait>(rt: &R, domain: &Domain, task: &mut Task, run: &mut WaitR
     requires at { IsAt wait_table task.old run.old stage.FinishLock }
     ensures { Advances wait_table task.old task.new run.old run.new stage.FinishLock (turn.Done outcome.Over) }
 {
-    let mut passing = Passing::none();
     let mut at = WaitStage::FinishLock;
     let mut looks = 0;
     for _ in rt.forever() {
-        let turn = advance(domain, task, run, at, &mut passing);
-        passing.wake(domain);
-        match turn {
+        match event(domain, task, run, at) {
             Turn::Again(next) => {
                 looks = 0;
                 at = next;
@@ -103,10 +94,7 @@ fn run_finish<R: Wait>(rt: &R, domain: &Domain, task: &mut Task, run: &mut WaitR
                 at = next;
             }
             Turn::Asleep(_next) => unreachable!(),
-            Turn::Done(_outcome) => {
-                passing.end();
-                return;
-            }
+            Turn::Done(_outcome) => return,
         }
     }
     unreachable!()

@@ -83,6 +83,9 @@ pub(crate) fn next_bit(word: u64, from: u16) -> u16
     ensures clear { (b : ℕ) → from ≤ b → b < result → bit_at word b ≡ false }
     ensures set { result < WORD_BITS → bit_at word result ≡ true }
 {
+    if word == 0 {
+        return WORD_BITS;
+    }
     if from < WORD_BITS {
         let rest = word >> from;
         if rest == 0 {

@@ -4,62 +4,54 @@ use Rattle.wait_class.proofs.Turns.{advances_none, advances_on, again, same_doma
 use Rattle.wait_class.proofs.runs.run_from.Goals as goal
 
 pub loop-init : goal.loop-init
-loop-init g c = (
-  advances_none g.C.Machine.table c.lawful.ensures c.args.task.now c.args.run.now c.args.stage c.requires.at,
-  c.none-passing.ensures,
-)
+loop-init g c = advances_none g.C.Machine.table c.lawful.ensures c.args.task.now c.args.run.now c.args.stage
+    c.requires.at
 
-pub advance-turn-requires-clause-of : goal.advance-turn-requires-clause-of
-advance-turn-requires-clause-of g c = same_domain g.C.Machine.table c.lawful.ensures c.args.task.now c.loop.task
-    c.args.run.now.of c.loop.run.of (turn.Again c.args.stage) (turn.Again c.loop.at) c.loop.invariant.0.went
+pub event-requires-clause-of : goal.event-requires-clause-of
+event-requires-clause-of g c = same_domain g.C.Machine.table c.lawful.ensures c.args.task.now c.loop.task
+    c.args.run.now.of c.loop.run.of (turn.Again c.args.stage) (turn.Again c.loop.at) c.loop.invariant.went
     ∙ c.requires.of
 
-pub advance-turn-requires-clause-at : goal.advance-turn-requires-clause-at
-advance-turn-requires-clause-at g c = c.loop.invariant.0.lands
+pub event-requires-clause-at : goal.event-requires-clause-at
+event-requires-clause-at g c = c.loop.invariant.lands
 
 pub loop-preserved-in-Again : goal.loop-preserved-in-Again
 loop-preserved-in-Again g c =
-    let i = c.loop.invariant.0 in (
-      advances_on g.C.Machine.table c.lawful.ensures c.args.task.now c.loop.task c.advance-turn.new.task c.args.run.now
-          c.loop.run c.advance-turn.new.run c.args.stage c.loop.at (turn.Again c.in-Again.next) i.same i.went
-          c.in-Again.ensures.turned.advances,
-      c.wake.ensures,
-    )
+    let i = c.loop.invariant in
+    advances_on g.C.Machine.table c.lawful.ensures c.args.task.now c.loop.task c.event.new.task c.args.run.now
+          c.loop.run c.event.new.run c.args.stage c.loop.at (turn.Again c.in-Again.next) i.same i.went
+          c.in-Again.ensures.turned.advances
 
 pub loop-preserved-in-Asleep : goal.loop-preserved-in-Asleep
 loop-preserved-in-Asleep g c =
-    let i = c.loop.invariant.0 in
-    let a = advances_on g.C.Machine.table c.lawful.ensures c.args.task.now c.loop.task c.advance-turn.new.task c.args.run.now
-    c.loop.run c.advance-turn.new.run c.args.stage c.loop.at (turn.Asleep c.in-Asleep.next) i.same
-    i.went c.in-Asleep.ensures.turned.advances in (
-      advances_on g.C.Machine.table c.lawful.ensures c.args.task.now c.advance-turn.new.task c.rise.new.task
-          c.args.run.now c.advance-turn.new.run c.advance-turn.new.run c.args.stage c.in-Asleep.next
+    let i = c.loop.invariant in
+    let a = advances_on g.C.Machine.table c.lawful.ensures c.args.task.now c.loop.task c.event.new.task c.args.run.now
+    c.loop.run c.event.new.run c.args.stage c.loop.at (turn.Asleep c.in-Asleep.next) i.same
+    i.went c.in-Asleep.ensures.turned.advances in
+    advances_on g.C.Machine.table c.lawful.ensures c.args.task.now c.event.new.task c.rise.new.task
+          c.args.run.now c.event.new.run c.event.new.run c.args.stage c.in-Asleep.next
           (turn.Again c.in-Asleep.next) a.same
-          (record { runs = a.went.runs; tells = a.went.tells; keeps = a.went.keeps }) c.rise.ensures,
-      c.wake.ensures,
-    )
+          (record { runs = a.went.runs; tells = a.went.tells; keeps = a.went.keeps }) c.rise.ensures
 
 pub rise-requires-clause-of : goal.rise-requires-clause-of
-rise-requires-clause-of g c = same_domain g.C.Machine.table c.lawful.ensures c.loop.task c.advance-turn.new.task
-    c.loop.run.of c.advance-turn.new.run.of (turn.Again c.loop.at) (turn.Asleep c.in-Asleep.next)
+rise-requires-clause-of g c = same_domain g.C.Machine.table c.lawful.ensures c.loop.task c.event.new.task
+    c.loop.run.of c.event.new.run.of (turn.Again c.loop.at) (turn.Asleep c.in-Asleep.next)
     c.in-Asleep.ensures.turned.advances.went
     ∙ (same_domain g.C.Machine.table c.lawful.ensures c.args.task.now c.loop.task
-    c.args.run.now.of c.loop.run.of (turn.Again c.args.stage) (turn.Again c.loop.at) c.loop.invariant.0.went ∙ c.requires.of)
+    c.args.run.now.of c.loop.run.of (turn.Again c.args.stage) (turn.Again c.loop.at) c.loop.invariant.went ∙ c.requires.of)
 
 pub loop-preserved : goal.loop-preserved
 loop-preserved g c =
-    let i = c.loop.invariant.0 in (
-      again g.C.Machine.table c.args.task.now c.advance-turn.new.task c.args.run.now c.advance-turn.new.run c.args.stage
+    let i = c.loop.invariant in
+    again g.C.Machine.table c.args.task.now c.event.new.task c.args.run.now c.event.new.run c.args.stage
           c.in-Locked.next
-          (advances_on g.C.Machine.table c.lawful.ensures c.args.task.now c.loop.task c.advance-turn.new.task c.args.run.now
-          c.loop.run c.advance-turn.new.run c.args.stage c.loop.at (turn.Locked c.in-Locked.next) i.same
-          i.went c.in-Locked.ensures.turned.advances),
-      c.wake.ensures,
-    )
+          (advances_on g.C.Machine.table c.lawful.ensures c.args.task.now c.loop.task c.event.new.task c.args.run.now
+          c.loop.run c.event.new.run c.args.stage c.loop.at (turn.Locked c.in-Locked.next) i.same
+          i.went c.in-Locked.ensures.turned.advances)
 
 pub returns-in-Done : goal.returns-in-Done
 returns-in-Done g c =
-    let i = c.loop.invariant.0 in
-    advances_on g.C.Machine.table c.lawful.ensures c.args.task.now c.loop.task c.advance-turn.new.task c.args.run.now
-    c.loop.run c.advance-turn.new.run c.args.stage c.loop.at (turn.Done c.in-Done.outcome) i.same i.went
+    let i = c.loop.invariant in
+    advances_on g.C.Machine.table c.lawful.ensures c.args.task.now c.loop.task c.event.new.task c.args.run.now
+    c.loop.run c.event.new.run c.args.stage c.loop.at (turn.Done c.in-Done.outcome) i.same i.went
     c.in-Done.ensures.turned.advances

@@ -1,8 +1,6 @@
-use Rattle.wait_rule.specs.PassedLocks.{PassesNone}
 use Rattle.wait_class.specs.Tables.{Advances}
 use Rattle.wait_class.specs.declared.stages.Turn.TheVariants as turn
 use Rattle.wait_class.proofs.runs.run_from.Given as goal
 
 abbrev pub invariant-loop : goal.invariant-loop
 invariant-loop g l = Advances g.C.Machine.table l.fn.task l.task l.fn.run l.run l.fn.stage (turn.Again l.at)
-    × PassesNone l.passing

@@ -8,12 +8,12 @@ use Rattle.wait_event.proofs.WaitLaws.{wait_lawful}
 use Rattle.wait_event.proofs.prepares.run_prepare.Goals as goal
 
 pub loop-init : goal.loop-init
-loop-init g c = (advances_none wait_table wait_lawful c.args.task.now c.args.run.now stage.PrepareLock c.requires.at, refl, c.none-passing.ensures)
+loop-init g c = (advances_none wait_table wait_lawful c.args.task.now c.args.run.now stage.PrepareLock c.requires.at, refl)
 
 pub returns-then-ends_prepare-clause-advances : goal.returns-then-ends_prepare-clause-advances
 returns-then-ends_prepare-clause-advances g c =
     let i = c.loop.invariant.0 in
-    advances_on wait_table wait_lawful c.args.task.now c.loop.task c.advance-turn.new.task c.args.run.now c.loop.run c.advance-turn.new.run
+    advances_on wait_table wait_lawful c.args.task.now c.loop.task c.event.new.task c.args.run.now c.loop.run c.event.new.run
     stage.PrepareLock c.loop.at (turn.Again c.in-Again.next) i.same i.went c.in-Again.ensures.turned.advances
 
 pub returns-then-ends_prepare-clause-prepared : goal.returns-then-ends_prepare-clause-prepared
@@ -22,21 +22,19 @@ returns-then-ends_prepare-clause-prepared g c = sym c.ends_prepare.ensures ∙ c
 pub loop-preserved-in-Again : goal.loop-preserved-in-Again
 loop-preserved-in-Again g c =
     let i = c.loop.invariant in (
-      advances_on wait_table wait_lawful c.args.task.now c.loop.task c.advance-turn.new.task c.args.run.now c.loop.run c.advance-turn.new.run
+      advances_on wait_table wait_lawful c.args.task.now c.loop.task c.event.new.task c.args.run.now c.loop.run c.event.new.run
           stage.PrepareLock c.loop.at (turn.Again c.in-Again.next) i.0.same i.0.went c.in-Again.ensures.turned.advances,
       again_prepare c.loop.at c.in-Again.next c.in-Again.ensures.falls i.1
           (sym c.ends_prepare.ensures ∙ c.if-ends_prepare.false),
-      c.wake.ensures,
     )
 
 pub loop-preserved : goal.loop-preserved
 loop-preserved g c =
     let i = c.loop.invariant in (
-      again wait_table c.args.task.now c.advance-turn.new.task c.args.run.now c.advance-turn.new.run stage.PrepareLock c.in-Locked.next
-          (advances_on wait_table wait_lawful c.args.task.now c.loop.task c.advance-turn.new.task c.args.run.now c.loop.run c.advance-turn.new.run
+      again wait_table c.args.task.now c.event.new.task c.args.run.now c.event.new.run stage.PrepareLock c.in-Locked.next
+          (advances_on wait_table wait_lawful c.args.task.now c.loop.task c.event.new.task c.args.run.now c.loop.run c.event.new.run
           stage.PrepareLock c.loop.at (turn.Locked c.in-Locked.next) i.0.same i.0.went c.in-Locked.ensures.turned.advances),
       locked_prepare c.loop.at c.in-Locked.next c.in-Locked.ensures.falls i.1,
-      c.wake.ensures,
     )
 
 pub unreachable-requires : goal.unreachable-requires

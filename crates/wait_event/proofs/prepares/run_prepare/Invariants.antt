@@ -1,4 +1,3 @@
-use Rattle.wait_rule.specs.PassedLocks.{PassesNone}
 use Rattle.std.proofs.Common.{◌≡◌, true}
 use Rattle.wait_event.specs.Waits.{is_prepare, wait_table}
 use Rattle.wait_event.specs.declared.waits.WaitStage.TheVariants as stage
@@ -9,4 +8,3 @@ use Rattle.wait_event.proofs.prepares.run_prepare.Given as goal
 abbrev pub invariant-loop : goal.invariant-loop
 invariant-loop g l = Advances wait_table l.fn.task l.task l.fn.run l.run stage.PrepareLock (turn.Again l.at)
     × (is_prepare l.at ≡ true)
-    × PassesNone l.passing

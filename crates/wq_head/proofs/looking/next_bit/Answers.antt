@@ -1,7 +1,13 @@
-use Rattle.std.proofs.Common.{◌<◌, ◌/◌, ◌^◌, arith}
+use Rattle.std.proofs.Common.{◌≡◌, ◌<◌, ◌/◌, ◌^◌, arith}
 use Rattle.std.proofs.Math.Nat.{div-le_self}
 use Rattle.wq_head.proofs.NextBits.{none_from, next_low, next_clear, next_set}
 use Rattle.wq_head.proofs.looking.next_bit.Goals as goal
+
+pub returns-then-word-eq0-clause-clear : goal.returns-then-word-eq0-clause-clear
+returns-then-word-eq0-clause-clear c =
+    let none : c.args.word / 2 ^ c.args.from ≡ 0 =
+    omega (arith, c.if-word-eq0.true, div-le_self c.args.word (2 ^ c.args.from)) in
+    λ b low few. none_from c.args.word c.args.from b none low
 
 pub returns-then-rest-eq0-clause-clear : goal.returns-then-rest-eq0-clause-clear
 returns-then-rest-eq0-clause-clear c = λ b low few. none_from c.args.word c.args.from b c.if-rest-eq0.true low

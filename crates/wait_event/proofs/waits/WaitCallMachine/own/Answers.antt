@@ -4,6 +4,9 @@ use Rattle.wait_event.specs.Waits.{wait_table}
 use Rattle.wait_event.specs.declared.waits.WaitStage.TheVariants as stage
 use Rattle.wait_event.proofs.FirstLoads.{first_advances, first_falls}
 use Rattle.wait_event.proofs.WaitLaws.{wait_lawful}
+use Rattle.wait_model.specs.declared.layout.TheConstants.{HEADS}
+use Rattle.wait_model.specs.declared.steps.Step.TheVariants as step
+use Rattle.wait_class.proofs.Handed.{given_as, given_step}
 use Rattle.wait_event.proofs.waits.WaitCallMachine.own.Goals as goal
 
 pub cond_load-value-requires-clause-there : goal.cond_load-value-requires-clause-there
@@ -25,3 +28,8 @@ returns-clause-falls c = first_falls c.args.run.now.of c.args.stage c.requires.h
 
 pub returns-clause-passes : goal.returns-clause-passes
 returns-clause-passes c = inl c.requires.passes
+
+pub returns-clause-given : goal.returns-clause-given
+returns-clause-given c = given_as c.args.task.now c.cond_load-value.new.task HEADS c.args.passing.now.head
+    c.requires.passes (given_step c.args.task.now c.cond_load-value.new.task
+    (step.Load c.args.run.now.of.watch c.cond_load-value.result) c.cond_load-value.ensures.step)

@@ -20,7 +20,7 @@ use Rattle.wait_rule.specs.Ends.{WasWorn}
 use Rattle.wait_rule.specs.HandedPermits.{OwesNoPermit}
 use Rattle.wait_rule.specs.Known.{Known}
 use Rattle.wait_rule.specs.Queues.{IsWholeBook, at_head, index, walk_of_hold}
-use Rattle.wait_rule.specs.Says.{Debts, Excuse, MayStore, added, stored_with, told_of, unlocked_with}
+use Rattle.wait_rule.specs.Says.{Debts, Excuse, MayStore, added, history_of, stored_with, told_of, unlocked_with}
 use Rattle.wait_rule.specs.Shown.{shown_queue}
 use Rattle.wait_rule.specs.Stays.{Carries, state_change, take_off_change, unchanged}
 use Rattle.wait_rule.specs.Tickets.{Ticket, no_ticket, taken}
@@ -31,7 +31,7 @@ use Rattle.wq_head.specs.Looks.{Looks}
 use Rattle.wq_head.specs.declared.adds.Worn.{Worn}
 use Rattle.wait_class.specs.Queueing.{is_none}
 use Rattle.wait_class.specs.Posts.{HasSeenOwn, IsStateFor, zone_at}
-use Rattle.wait_class.specs.Posts.{EndsWith, own_of}
+use Rattle.wait_class.specs.Posts.{own_of}
 use Rattle.wait_class.specs.Findings.{nothing, with_entry, with_own, with_value, with_worn}
 use Rattle.wait_class.specs.Tables.{
   Calm,
@@ -299,6 +299,7 @@ pub record MayAdd {C S O : Type 0} (t : Table C S O) (r : C) (s : S) (k : Known)
   pub held : IsHolding k
   pub head : head_in t r s ≡ k.at
   pub out : (told_of k).bits.stored (index k.view.number 0) ≡ None
+  pub trail : (old : Known) × HasSeenOwn old k None × t.Trail old r s
 
 abbrev pub AddsBy : {C S O : Type 0} → Table C S O → C → S → Known → Known → Result Bool Worn → Type 0
 AddsBy t r s old new (Ok first) = HasJoined t r s old new first
@@ -353,7 +354,7 @@ pub record QueueLaw {C S O : Type 0} (t : Table C S O) (r : C) (s : S) : Type 0 
       (turn_post t (t.joined_at r s first) (t.added_to r s adds.Joined)).watch (Some e)
   pub joins_tells : (first : Bool) (x : Transition) (i : ℕ) (e : Entry) → x.did ≡ by_step (step.Queue i e)
       → first ≡ (t.asks_first r && is_none (shown_queue x.knew)) → t.Tells r (t.joined_at r s first) (x ∷ [])
-  pub joins_trail : (first : Bool) (old mid new : Known) → HasSeenOwn old mid None → HasJoined t r s mid new first
+  pub joins_trail : (first : Bool) (old mid new : Known) → OnlyLooks old mid → HasJoined t r s mid new first
       → t.Trail old r s → TurnTrail t new (t.joined_at r s first) (t.added_to r s adds.Joined)
   pub wears : Moves t r s (with_worn true) (Unit {0}) (λ me k x. step.Unlock k.at false)
       (λ me k x. IsWornOut (head_in t r s) ((t.plan_of r).form) me k) (t.added_to r s adds.Worn)
@@ -365,8 +366,9 @@ pub record QueueLaw {C S O : Type 0} (t : Table C S O) (r : C) (s : S) : Type 0 
       (turn_post t (t.worn_at r p) (t.added_to r s adds.Worn)).watch None
   pub wears_permits : (old last : Known) → t.Fits r → OnlyLooks old last → last.at ≡ head_in t r s → t.Trail old r s
       → OwesNoPermit last
-  pub wears_trail : (old new : Known) (p : ℕ) → WasWorn new.view.number new.view.items (head_in t r s) p
-      → EndsWith new (step.Unlock (head_in t r s) false ∷ []) → t.Trail old r s
+  pub wears_trail : (old last new : Known) (p : ℕ) → OnlyLooks old last
+      → WasWorn new.view.number new.view.items (head_in t r s) p
+      → history_of new ≡ history_of last ++ step.Unlock (head_in t r s) false ∷ [] → t.Trail old r s
       → TurnTrail t new (t.worn_at r p) (t.added_to r s adds.Worn)
 
 abbrev pub LawOf : {C S O : Type 0} → Doing → Table C S O → C → S → Type 0
@@ -424,4 +426,4 @@ pub record IsLawful {C S O : Type 0} (t : Table C S O) : Type 0 where
   pub worn_fits : (r : C) (p : ℕ) → t.Fits r → t.Fits (t.worn_at r p)
   pub there : (r : C) (s : S) → t.Fits r → IsThere (watch_at t r s)
   pub few : (r : C) (s : S) → t.Fits r → head_in t r s < HEADS
-  pub depth : (s : S) → t.depth s ≤ 5
+  pub depth : (s : S) → t.depth s ≤ 6

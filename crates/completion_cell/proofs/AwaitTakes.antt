@@ -523,7 +523,7 @@ module _ (old mid : Known) (run : Run AwaitCall) (stopped : Bool) (a : IsAt awai
             refl a.fits (plain_last stopped) (on_from stopped f is a.trail)
 
 -- a wait that stands behind its entry that was taken off
-pub stands_off : (k : Known) (run : Run AwaitCall) → Stands k (post_of await_table run.of stage.TakeStore) → IsUp k
+stands_off : (k : Known) (run : Run AwaitCall) → Stands k (post_of await_table run.of stage.TakeStore) → IsUp k
     → run.of.cell < COMPLETIONS → IsOff k k run true
 stands_off k run stands up there = record {
   there = there;
@@ -548,3 +548,22 @@ pub take_off : (old mid new : Known) (run : Run AwaitCall) (stopped : Bool) (u :
     → Turned await_table old new run run (off_stage stopped) u
 take_off old mid new run true u is p ends = absurd (cc)
 take_off old mid new run false u is p ends = ends old p
+
+-- and the ends of one that stands behind its entry that was taken off
+pub quit_here : (k new : Known) (run : Run AwaitCall) (s : AwaitStage) (u : AwaitTurn) → s ≡ stage.LeaveUnlock
+    → IsAt await_table k run s
+    → ((start : Known) → QuitsFrom start k run true → Turned await_table start new run run stage.LeaveUnlock u)
+    → Turned await_table k new run run s u
+quit_here k new run s u is a ends =
+    let b = subst (λ (z : AwaitStage). IsAt await_table k run z) is a in
+    subst (λ (z : AwaitStage). Turned await_table k new run run z u) (sym is)
+    (ends k (record { off = stands_off k run b.stands b.up b.fits; left = b.trail }))
+
+pub take_here : (k new : Known) (run : Run AwaitCall) (s : AwaitStage) (u : AwaitTurn) → s ≡ stage.TakeStore
+    → IsAt await_table k run s
+    → ((start : Known) → TakesFrom start k run true → Turned await_table start new run run stage.TakeStore u)
+    → Turned await_table k new run run s u
+take_here k new run s u is a ends =
+    let b = subst (λ (z : AwaitStage). IsAt await_table k run z) is a in
+    subst (λ (z : AwaitStage). Turned await_table k new run run z u) (sym is)
+    (ends k (record { off = stands_off k run b.stands b.up b.fits; some = b.trail }))

@@ -38,7 +38,7 @@ use Rattle.wait_class.proofs.Turns.{GoesOn, advance_by}
 use Rattle.completion_cell.specs.Awaits.{
   AwaitTurn,
   CellKeeps,
-  Tells,
+  AwaitTells,
   await_head,
   await_table,
   counted_by,
@@ -157,7 +157,7 @@ module _ (old knew new : Known) (run : Run AwaitCall) (v : ℕ) (there : run.of.
   kept = keeps_on (own_of old) old knew new keeps (keeps_of (own_of old) unchanged knew new carries (λ w. refl)
       (λ x away. refl) (λ x. carries.owes (with_entry (own_of old) (with_left_entry x))))
 
-  tells : (x : Transition) → x.did ≡ by_step e → Tells r q (x ∷ [])
+  tells : (x : Transition) → x.did ≡ by_step e → AwaitTells r q (x ∷ [])
   tells x did = told_by r q x refl refl refl (ap is_queue did)
 
   loads : (waited : Bool) → Stands knew (post_of await_table r (load_stage waited))

@@ -44,11 +44,11 @@ use Rattle.wait_event.proofs.Tellings.{or_none, queues_append, quiet_queues}
 use Rattle.completion_cell.specs.Awaits.{
   FoundNoPlace,
   HasGivenBack,
-  Tells,
+  AwaitTells,
   await_head,
   await_table,
-  depth_at,
-  doing_at,
+  await_depth,
+  await_doing,
 }
 use Rattle.completion_cell.specs.HeldPermits.{Knows}
 use Rattle.completion_cell.specs.declared.awaits.AwaitCall.{AwaitCall}
@@ -71,7 +71,7 @@ use Rattle.completion_cell.proofs.WaitFronts.{waits_may_end}
 
 -- what the run tells
 pub told_by : (r q : AwaitCall) (x : Transition) → q.cell ≡ r.cell → q.state ≡ r.state → q.queued ≡ r.queued
-    → is_queue x.did ≡ false → Tells r q (x ∷ [])
+    → is_queue x.did ≡ false → AwaitTells r q (x ∷ [])
 told_by r q x cell state queued none = record {
   cell = cell;
   state = state;
@@ -339,7 +339,7 @@ module _ (r : AwaitCall) where
     permits = λ k fits at u. waits_may_end r.cell k u.0 at u.1;
   }
 
-  laws_at : (s : AwaitStage) → LawOf (doing_at s) await_table r s
+  laws_at : (s : AwaitStage) → LawOf (await_doing s) await_table r s
   laws_at stage.First = draw_first
   laws_at stage.FirstTurn = lock_first
   laws_at stage.FirstLoad = tt
@@ -359,7 +359,7 @@ module _ (r : AwaitCall) where
   laws_at stage.TakeStore = tt
   laws_at stage.TakeUnlock = unlock_take
 
-depth_most : (s : AwaitStage) → depth_at s ≤ 6
+depth_most : (s : AwaitStage) → await_depth s ≤ 6
 depth_most stage.Look = omega arith
 depth_most stage.Queue = omega arith
 depth_most stage.State = omega arith

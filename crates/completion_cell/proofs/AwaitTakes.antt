@@ -89,12 +89,12 @@ use Rattle.completion_cell.specs.Awaits.{
   CellKeeps,
   FoundSome,
   HasGivenBack,
-  IsOff,
+  IsUnqueued,
   Pares,
   QuitsFrom,
   TakesFrom,
-  Tells,
-  TrailAt,
+  AwaitTells,
+  AwaitTrail,
   WasSignalled,
   await_call,
   await_head,
@@ -142,7 +142,7 @@ end_is n true some takes = grind (arith, nat_tests, takes, some)
 end_is n false some takes = grind (arith, nat_tests, takes, some)
 
 -- the head is given back at the end of a wait
-module _ (start k : Known) (run : Run AwaitCall) (found : Bool) (off : IsOff start k run found) (new : Known)
+module _ (start k : Known) (run : Run AwaitCall) (found : Bool) (off : IsUnqueued start k run found) (new : Known)
     (is : new ≡ unlocked_with k k.at false) where
   back_kept : CellKeeps (own_of start) start new
   back_kept = keeps_on (own_of start) start k new off.keeps
@@ -159,7 +159,7 @@ module _ (start k : Known) (run : Run AwaitCall) (found : Bool) (off : IsOff sta
         ∙ ap (λ (h : ℕ). history_of k ++ step.Unlock h false ∷ []) (off.stands.at (await_head run.of) refl),
   )
 
-module _ (start k : Known) (run : Run AwaitCall) (found : Bool) (off : IsOff start k run found) where
+module _ (start k : Known) (run : Run AwaitCall) (found : Bool) (off : IsUnqueued start k run found) where
   pub off_locked : IsLocked k
   off_locked = off.stands.head ∙ ap Some (sym (off.stands.at (await_head run.of) refl))
 
@@ -180,7 +180,7 @@ module _ (start k : Known) (run : Run AwaitCall) (found : Bool) (t : TakesFrom s
   abbrev p : Post
   p = post_of await_table r stage.TakeStore
 
-  abbrev off : IsOff start k run found
+  abbrev off : IsUnqueued start k run found
   off = t.off
 
   abbrev stands : Stands k p
@@ -212,7 +212,7 @@ module _ (start k : Known) (run : Run AwaitCall) (found : Bool) (t : TakesFrom s
   abbrev given_at : AwaitStage → Given
   given_at z = (await_table.plan_of r).given (point_of z)
 
-  none_told : (e : Step) → is_queue (by_step e) ≡ false → (x : Transition) → x.did ≡ by_step e → Tells r r (x ∷ [])
+  none_told : (e : Step) → is_queue (by_step e) ≡ false → (x : Transition) → x.did ≡ by_step e → AwaitTells r r (x ∷ [])
   none_told e none x did = told_by r r x refl refl refl (ap is_queue did ∙ none)
 
   -- one is taken
@@ -347,7 +347,7 @@ module _ (start k : Known) (run : Run AwaitCall) (found : Bool) (q : QuitsFrom s
   abbrev qr : AwaitCall
   qr = run.of
 
-  abbrev qo : IsOff start k run found
+  abbrev qo : IsUnqueued start k run found
   qo = q.off
 
   pub quit_owes : OwesNoPermit k
@@ -357,7 +357,7 @@ module _ (start k : Known) (run : Run AwaitCall) (found : Bool) (q : QuitsFrom s
     abbrev qu : Step
     qu = step.Unlock k.at false
 
-    quit_told : (x : Transition) → x.did ≡ by_step qu → Tells qr qr (x ∷ [])
+    quit_told : (x : Transition) → x.did ≡ by_step qu → AwaitTells qr qr (x ∷ [])
     quit_told x did = told_by qr qr x refl refl refl (ap is_queue did)
 
     zero_is : FindsValue k (await_watch qr) nothing
@@ -416,7 +416,7 @@ module _ (old mid : Known) (run : Run AwaitCall) (stopped : Bool) (a : IsAt awai
   entry_shows b is = ap (λ (f : Option Entry). is_some f) (sym h.reads) ∙ is
 
   -- it is off
-  off_none : o ≡ None → IsOff old mid run false
+  off_none : o ≡ None → IsUnqueued old mid run false
   off_none is = record {
     there = a.fits;
     up = h.carries.awake ∙ a.up;
@@ -433,7 +433,7 @@ module _ (old mid : Known) (run : Run AwaitCall) (stopped : Bool) (a : IsAt awai
       gone_is None out = refl
       gone_is (Some f) out = absurd (cc)
 
-      by : (b : Bool) → TrailAt old c (off_stage b) → Pares old mid run b false
+      by : (b : Bool) → AwaitTrail old c (off_stage b) → Pares old mid run b false
       by true u = record {
         off = off_none (gone_is o none);
         left = left_off old mid c h.word u saw_calm (entry_shows false none);
@@ -484,7 +484,7 @@ module _ (old mid : Known) (run : Run AwaitCall) (stopped : Bool) (a : IsAt awai
         (h.carries.number ∙ sym mine) ∙ removes.out)) tt)
 
     -- by what the hold knows of the count, at one of the two stages
-    goes : (b : Bool) (n : ℕ) (f : Entry) → o ≡ Some f → Knows mid c.cell n → TrailAt new c (last_stage b)
+    goes : (b : Bool) (n : ℕ) (f : Entry) → o ≡ Some f → Knows mid c.cell n → AwaitTrail new c (last_stage b)
         → GoesOn await_table old new c c (off_stage b) (turn.Again (last_stage b))
     goes true n f is known trail = own_goes await_table old mid new c c stage.LeaveQueue
         (turn.Again stage.LeaveUnlock) (step.Unqueue x) (record nothing { entry = Some f; value = n })
@@ -507,7 +507,7 @@ module _ (old mid : Known) (run : Run AwaitCall) (stopped : Bool) (a : IsAt awai
     plain_last true = refl
     plain_last false = refl
 
-    on_from : (b : Bool) (f : Entry) → o ≡ Some f → TrailAt old c (off_stage b)
+    on_from : (b : Bool) (f : Entry) → o ≡ Some f → AwaitTrail old c (off_stage b)
         → GoesOn await_table old new c c (off_stage b) (turn.Again (last_stage b))
     on_from true f is u = goes true 0 f is (knows_saw c.cell old mid 0 x h.word saw_calm u.knows)
         (left_queued old new c h.word u off_calm (entry_shows true (ap (λ (g : Option Entry). is_some g) is)))
@@ -524,7 +524,7 @@ module _ (old mid : Known) (run : Run AwaitCall) (stopped : Bool) (a : IsAt awai
 
 -- a wait that stands behind its entry that was taken off
 stands_off : (k : Known) (run : Run AwaitCall) → Stands k (post_of await_table run.of stage.TakeStore) → IsUp k
-    → run.of.cell < COMPLETIONS → IsOff k k run true
+    → run.of.cell < COMPLETIONS → IsUnqueued k k run true
 stands_off k run stands up there = record {
   there = there;
   up = up;

@@ -25,9 +25,9 @@ use Rattle.wait_class.proofs.Histories.{ends_calm, ends_still}
 use Rattle.completion_cell.specs.Awaits.{
   HasGivenBack,
   HasJustLocked,
-  HasLeft,
-  Leaves,
-  TrailAt,
+  HasPared,
+  LeavesBy,
+  AwaitTrail,
   WasSignalled,
   await_head,
 }
@@ -174,7 +174,7 @@ module _ (old new : Known) (still : Unmoved old new) where
   still_knows : (d n : ℕ) → Knows old d n → Knows new d n
   still_knows d n = knows_by d old new n [] nothing_made same_number (λ k. (refl, refl)) refl
 
-  still_leaves : (r : AwaitCall) (more : List Step) → Leaves old r more → Leaves new r more
+  still_leaves : (r : AwaitCall) (more : List Step) → LeavesBy old r more → LeavesBy new r more
   still_leaves r more u = record {
     word = u.word;
     pends = u.pends;
@@ -182,7 +182,7 @@ module _ (old new : Known) (still : Unmoved old new) where
     knows = still_knows r.cell 0 u.knows;
   }
 
-  pub still_by : (r : AwaitCall) (s : AwaitStage) → TrailAt old r s → TrailAt new r s
+  pub still_by : (r : AwaitCall) (s : AwaitStage) → AwaitTrail old r s → AwaitTrail new r s
   still_by r stage.First u = still_left r.cell u
   still_by r stage.FirstTurn u = still_left r.cell u
   still_by r stage.FirstLoad u = record {
@@ -201,7 +201,7 @@ module _ (old new : Known) (still : Unmoved old new) where
   still_by r stage.LeaveUnlock u = record {
     entry = u.entry;
     queued = u.queued;
-    leaves = subst (λ (n : ℕ). Leaves new r (step.State 0 ∷ step.Saw (index n 0) u.entry
+    leaves = subst (λ (n : ℕ). LeavesBy new r (step.State 0 ∷ step.Saw (index n 0) u.entry
         ∷ step.Unqueue (index n 0) ∷ [])) (sym same_number) (still_leaves r _ u.leaves);
   }
   still_by r stage.TakeState u = (still_knows r.cell r.count u.0, u.1)
@@ -222,7 +222,7 @@ gives_back old new r c = (history_of old, c.history)
 
 -- a look that showed a signal, and the store of RUNNING
 pub leaves_calm : (old new : Known) (r : AwaitCall) (more : List Step) (e : Step) → Calm (e ∷ []) old new
-    → (Knows old r.cell 0 → Knows new r.cell 0) → Leaves old r more → Leaves new r (more ++ e ∷ [])
+    → (Knows old r.cell 0 → Knows new r.cell 0) → LeavesBy old r more → LeavesBy new r (more ++ e ∷ [])
 leaves_calm old new r more e c on u = record {
   word = u.word;
   pends = u.pends;
@@ -231,16 +231,16 @@ leaves_calm old new r more e c on u = record {
 }
 
 -- the own entry was looked at, and taken off where it was queued
-module _ (old new : Known) (r : AwaitCall) (w : ℕ) (u : Leaves old r (step.State 0 ∷ [])) where
+module _ (old new : Known) (r : AwaitCall) (w : ℕ) (u : LeavesBy old r (step.State 0 ∷ [])) where
   left_by_saw : (found : Bool) (more : List Step) → Calm (step.Saw (own_of old) w ∷ more) old new
       → more ≡ (if found then step.Unqueue (own_of old) ∷ [] else []) → is_some (entry_of w) ≡ found
-      → Knows new r.cell 0 → HasLeft new r found
+      → Knows new r.cell 0 → HasPared new r found
   left_by_saw found more c is queued knows = record {
     entry = w;
     queued = queued;
-    leaves = subst (λ (n : ℕ). Leaves new r (step.State 0 ∷ step.Saw (index n 0) w
+    leaves = subst (λ (n : ℕ). LeavesBy new r (step.State 0 ∷ step.Saw (index n 0) w
         ∷ (if found then step.Unqueue (index n 0) ∷ [] else []))) (sym c.number)
-        (subst (λ (l : List Step). Leaves new r (step.State 0 ∷ step.Saw (own_of old) w ∷ l)) is (record {
+        (subst (λ (l : List Step). LeavesBy new r (step.State 0 ∷ step.Saw (own_of old) w ∷ l)) is (record {
           word = u.word;
           pends = u.pends;
           ends = ends_calm old new _ (step.Saw (own_of old) w ∷ more) c u.ends;
@@ -248,11 +248,11 @@ module _ (old new : Known) (r : AwaitCall) (w : ℕ) (u : Leaves old r (step.Sta
         }));
   }
 
-  pub left_off : Calm (step.Saw (own_of old) w ∷ []) old new → is_some (entry_of w) ≡ false → HasLeft new r false
+  pub left_off : Calm (step.Saw (own_of old) w ∷ []) old new → is_some (entry_of w) ≡ false → HasPared new r false
   left_off c none = left_by_saw false [] c refl none (knows_saw r.cell old new 0 (own_of old) w c u.knows)
 
   pub left_queued : Calm (step.Saw (own_of old) w ∷ step.Unqueue (own_of old) ∷ []) old new
-      → is_some (entry_of w) ≡ true → HasLeft new r true
+      → is_some (entry_of w) ≡ true → HasPared new r true
   left_queued c some = left_by_saw true (step.Unqueue (own_of old) ∷ []) c refl some
       (knows_off r.cell old new 0 w c u.knows)
 
@@ -269,7 +269,7 @@ module _ (old new : Known) (r : AwaitCall) (c : Calm (step.Unlock (await_head r)
   quit_ends w e true u = ends_calm old new _ (step.Unlock (await_head r) false ∷ []) c u
   quit_ends w e false u = ends_calm old new _ (step.Unlock (await_head r) false ∷ []) c u
 
-  pub has_quit : (found : Bool) → HasLeft old r found → WasSignalled new r found
+  pub has_quit : (found : Bool) → HasPared old r found → WasSignalled new r found
   has_quit found u = record {
     look = u.leaves.word;
     entry = u.entry;

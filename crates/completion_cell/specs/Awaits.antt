@@ -89,62 +89,62 @@ point_of stage.TakeQueue = at.Await (awaiting.Off false)
 point_of stage.TakeStore = at.Await (awaiting.Last false)
 point_of stage.TakeUnlock = at.Await awaiting.Unlock
 
-abbrev pub doing_at : AwaitStage → Doing
-doing_at stage.First = doing.Draw
-doing_at stage.FirstTurn = doing.Lock
-doing_at stage.Again = doing.Draw
-doing_at stage.AgainTurn = doing.Lock
-doing_at stage.Look = doing.Look
-doing_at stage.Queue = doing.Queue
-doing_at stage.State = doing.State
-doing_at stage.Unlock = doing.Unlock
-doing_at stage.Sleep = doing.Sleep
-doing_at stage.LeaveState = doing.State
-doing_at stage.TakeState = doing.State
-doing_at stage.TakeUnlock = doing.Unlock
-doing_at _ = doing.Own
+abbrev pub await_doing : AwaitStage → Doing
+await_doing stage.First = doing.Draw
+await_doing stage.FirstTurn = doing.Lock
+await_doing stage.Again = doing.Draw
+await_doing stage.AgainTurn = doing.Lock
+await_doing stage.Look = doing.Look
+await_doing stage.Queue = doing.Queue
+await_doing stage.State = doing.State
+await_doing stage.Unlock = doing.Unlock
+await_doing stage.Sleep = doing.Sleep
+await_doing stage.LeaveState = doing.State
+await_doing stage.TakeState = doing.State
+await_doing stage.TakeUnlock = doing.Unlock
+await_doing _ = doing.Own
 
-abbrev pub is_turn : AwaitStage → Bool
-is_turn stage.FirstTurn = true
-is_turn stage.AgainTurn = true
-is_turn _ = false
+abbrev pub is_await_turn : AwaitStage → Bool
+is_await_turn stage.FirstTurn = true
+is_await_turn stage.AgainTurn = true
+is_await_turn _ = false
 
 -- how many events are left at most until no head is held
-abbrev pub depth_at : AwaitStage → ℕ
-depth_at stage.Look = 4
-depth_at stage.Queue = 3
-depth_at stage.State = 2
-depth_at stage.Unlock = 1
-depth_at stage.LeaveState = 3
-depth_at stage.LeaveQueue = 2
-depth_at stage.LeaveUnlock = 1
-depth_at stage.TakeState = 4
-depth_at stage.TakeQueue = 3
-depth_at stage.TakeStore = 2
-depth_at stage.TakeUnlock = 1
-depth_at stage.FirstLoad = 5
-depth_at stage.AgainLoad = 5
-depth_at _ = 6
+abbrev pub await_depth : AwaitStage → ℕ
+await_depth stage.Look = 4
+await_depth stage.Queue = 3
+await_depth stage.State = 2
+await_depth stage.Unlock = 1
+await_depth stage.LeaveState = 3
+await_depth stage.LeaveQueue = 2
+await_depth stage.LeaveUnlock = 1
+await_depth stage.TakeState = 4
+await_depth stage.TakeQueue = 3
+await_depth stage.TakeStore = 2
+await_depth stage.TakeUnlock = 1
+await_depth stage.FirstLoad = 5
+await_depth stage.AgainLoad = 5
+await_depth _ = 6
 
 -- where a wait goes on behind a draw, behind a lock, an unlock and a store of a state, that found its count, its entry
 -- queued or a signal, or not, and that queued its entry
 abbrev pub AwaitTurn : Type 0
 AwaitTurn = Turn AwaitStage AwaitOutcome
 
-abbrev pub drawn_to : AwaitStage → AwaitStage
-drawn_to stage.First = stage.FirstTurn
-drawn_to stage.Again = stage.AgainTurn
-drawn_to s = s
+abbrev pub await_drawn : AwaitStage → AwaitStage
+await_drawn stage.First = stage.FirstTurn
+await_drawn stage.Again = stage.AgainTurn
+await_drawn s = s
 
-abbrev pub next_of : AwaitStage → AwaitTurn
-next_of stage.FirstTurn = turn.Again stage.FirstLoad
-next_of stage.AgainTurn = turn.Again stage.AgainLoad
-next_of stage.State = turn.Again stage.Unlock
-next_of stage.Unlock = turn.Again stage.Sleep
-next_of stage.LeaveState = turn.Again stage.LeaveQueue
-next_of stage.TakeState = turn.Again stage.TakeQueue
-next_of stage.TakeUnlock = turn.Done outcome.Over
-next_of s = turn.Again s
+abbrev pub await_next : AwaitStage → AwaitTurn
+await_next stage.FirstTurn = turn.Again stage.FirstLoad
+await_next stage.AgainTurn = turn.Again stage.AgainLoad
+await_next stage.State = turn.Again stage.Unlock
+await_next stage.Unlock = turn.Again stage.Sleep
+await_next stage.LeaveState = turn.Again stage.LeaveQueue
+await_next stage.TakeState = turn.Again stage.TakeQueue
+await_next stage.TakeUnlock = turn.Done outcome.Over
+await_next s = turn.Again s
 
 -- by whether the count was 0, the state admits a signal, and the wait was in its loop
 abbrev pub counted_by : Bool → Bool → Bool → AwaitTurn
@@ -154,23 +154,23 @@ counted_by zero looks waited = if zero then (if looks then turn.Again stage.Look
 abbrev pub counted_to : AwaitCall → Bool → AwaitTurn
 counted_to r waited = counted_by (r.count == 0) (looks_in r.state) waited
 
-abbrev pub found_to : AwaitStage → Bool → AwaitTurn
-found_to stage.Look hit = if hit then turn.Again stage.LeaveState else turn.Again stage.Queue
-found_to s hit = turn.Again s
+abbrev pub await_found : AwaitStage → Bool → AwaitTurn
+await_found stage.Look hit = if hit then turn.Again stage.LeaveState else turn.Again stage.Queue
+await_found s hit = turn.Again s
 
-abbrev pub added_to : Added → AwaitTurn
-added_to adds.Joined = turn.Again stage.State
-added_to adds.Stayed = turn.Again stage.Unlock
-added_to adds.Worn = turn.Done outcome.Worn
+abbrev pub joined_to : Added → AwaitTurn
+joined_to adds.Joined = turn.Again stage.State
+joined_to adds.Stayed = turn.Again stage.Unlock
+joined_to adds.Worn = turn.Done outcome.Worn
 
-abbrev pub state_at : AwaitCall → AwaitStage → ℕ
-state_at r stage.State = state_mask r.state
-state_at r _ = 0
+abbrev pub await_state : AwaitCall → AwaitStage → ℕ
+await_state r stage.State = state_mask r.state
+await_state r _ = 0
 
 -- where a wait goes on that was put asleep
-abbrev pub is_behind_sleep : AwaitStage → Bool
-is_behind_sleep stage.Again = true
-is_behind_sleep _ = false
+abbrev pub is_await_slept : AwaitStage → Bool
+is_await_slept stage.Again = true
+is_await_slept _ = false
 
 abbrev pub answer_in : AwaitOutcome → Answer
 answer_in outcome.Over = zero_answer
@@ -188,8 +188,8 @@ abbrev pub await_call : AwaitCall → Call
 await_call r = calls.WaitFor r.cell r.state
 
 -- the numbers of a wait are in their ranges
-abbrev pub IsRunning : AwaitCall → Type 0
-IsRunning r = r.cell < COMPLETIONS
+abbrev pub CellFits : AwaitCall → Type 0
+CellFits r = r.cell < COMPLETIONS
 
 -- a wait that has not begun
 pub record IsFresh (r : AwaitCall) (d : ℕ) (st : SleepState) : Type 0 where
@@ -209,7 +209,7 @@ end_post r o = record {
 }
 
 -- it is the same call, and the run tells whether it has queued its entry
-pub record Tells (r q : AwaitCall) (ts : List Transition) : Type 0 where
+pub record AwaitTells (r q : AwaitCall) (ts : List Transition) : Type 0 where
   pub cell : q.cell ≡ r.cell
   pub state : q.state ≡ r.state
   pub queued : q.queued ≡ (r.queued || queues ts)
@@ -245,17 +245,17 @@ pub record WasSignalled (k : Known) (r : AwaitCall) (found : Bool) : Type 0 wher
   pub ends : EndsWith k (left_by r.cell (own_of k) look entry)
 
 -- so far
-pub record Leaves (k : Known) (r : AwaitCall) (more : List Step) : Type 0 where
+pub record LeavesBy (k : Known) (r : AwaitCall) (more : List Step) : Type 0 where
   pub word : ℕ
   pub pends : pending (state_mask r.state) (task_of word) ≡ true
   pub ends : EndsWith k (step.Load (await_watch r) 0 ∷ step.Look word ∷ more)
   pub knows : Knows k r.cell 0
 
 -- and it has looked at its own entry, and taken it off where that was queued
-pub record HasLeft (k : Known) (r : AwaitCall) (found : Bool) : Type 0 where
+pub record HasPared (k : Known) (r : AwaitCall) (found : Bool) : Type 0 where
   pub entry : ℕ
   pub queued : is_some (entry_of entry) ≡ found
-  pub leaves : Leaves k r (step.State 0 ∷ step.Saw (own_of k) entry
+  pub leaves : LeavesBy k r (step.State 0 ∷ step.Saw (own_of k) entry
       ∷ (if found then step.Unqueue (own_of k) ∷ [] else []))
 
 -- The last hold of a wait that found no place noted it, and had loaded 0.
@@ -276,23 +276,23 @@ FoundSome k r = Knows k r.cell r.count × (r.count ≢ 0)
 
 -- What a stage says of what the hold knows, and of the last steps: before the first hold the task has left its own entry
 -- off, and a hold that is given back owes no permit.
-abbrev pub TrailAt : Known → AwaitCall → AwaitStage → Type 0
-TrailAt k r stage.First = LeftOff r.cell k
-TrailAt k r stage.FirstTurn = LeftOff r.cell k
-TrailAt k r stage.FirstLoad = HasBegun r.cell k
-TrailAt k r stage.AgainLoad = HasJustLocked k r.cell
-TrailAt k r stage.Look = Knows k r.cell 0 × EndsWith k (step.Load (await_watch r) 0 ∷ [])
-TrailAt k r stage.Queue = Knows k r.cell 0
-TrailAt k r stage.State = Knows k r.cell 0
-TrailAt k r stage.Unlock = Knows k r.cell 0
-TrailAt k r stage.LeaveState = Leaves k r []
-TrailAt k r stage.LeaveQueue = Leaves k r (step.State 0 ∷ [])
-TrailAt k r stage.LeaveUnlock = HasLeft k r true
-TrailAt k r stage.TakeState = FoundSome k r
-TrailAt k r stage.TakeQueue = FoundSome k r
-TrailAt k r stage.TakeStore = FoundSome k r
-TrailAt k r stage.TakeUnlock = (o : Option ℕ) × WaitsIn r.cell k o 0
-TrailAt k r _ = Unit {0}
+abbrev pub AwaitTrail : Known → AwaitCall → AwaitStage → Type 0
+AwaitTrail k r stage.First = LeftOff r.cell k
+AwaitTrail k r stage.FirstTurn = LeftOff r.cell k
+AwaitTrail k r stage.FirstLoad = HasBegun r.cell k
+AwaitTrail k r stage.AgainLoad = HasJustLocked k r.cell
+AwaitTrail k r stage.Look = Knows k r.cell 0 × EndsWith k (step.Load (await_watch r) 0 ∷ [])
+AwaitTrail k r stage.Queue = Knows k r.cell 0
+AwaitTrail k r stage.State = Knows k r.cell 0
+AwaitTrail k r stage.Unlock = Knows k r.cell 0
+AwaitTrail k r stage.LeaveState = LeavesBy k r []
+AwaitTrail k r stage.LeaveQueue = LeavesBy k r (step.State 0 ∷ [])
+AwaitTrail k r stage.LeaveUnlock = HasPared k r true
+AwaitTrail k r stage.TakeState = FoundSome k r
+AwaitTrail k r stage.TakeQueue = FoundSome k r
+AwaitTrail k r stage.TakeStore = FoundSome k r
+AwaitTrail k r stage.TakeUnlock = (o : Option ℕ) × WaitsIn r.cell k o 0
+AwaitTrail k r _ = Unit {0}
 
 -- The head was given back last, and the answer has its cause.
 abbrev pub TrailEnd : Known → AwaitCall → AwaitOutcome → Type 0
@@ -307,38 +307,38 @@ CellKeeps i old new = KeepsBut with_left_entry i old new
 abbrev pub await_table : Table AwaitCall AwaitStage AwaitOutcome
 await_table = record {
   plan_of = λ r. call_plan (await_call r);
-  Fits = IsRunning;
+  Fits = CellFits;
   worn_at = λ r p. record r { place = p };
   asks_first = λ r. false;
   joined_at = λ r s first. record r { queued = true };
   point_of = point_of;
-  doing = doing_at;
-  drawn = is_turn;
+  doing = await_doing;
+  drawn = is_await_turn;
   took = λ s. false;
-  depth = depth_at;
+  depth = await_depth;
   stays = λ s u. true;
-  drawn_to = drawn_to;
-  next_of = λ r s. next_of s;
+  drawn_to = await_drawn;
+  next_of = λ r s. await_next s;
   noted = λ r s v. r;
   loaded_to = λ r s v. turn.Again s;
-  found_to = λ r s hit. found_to s hit;
+  found_to = λ r s hit. await_found s hit;
   heeded_to = λ r s hit. turn.Again s;
   slept_to = λ r s. stage.Again;
-  asleep_at = is_behind_sleep;
-  added_to = λ r s a. added_to a;
-  state_at = state_at;
+  asleep_at = is_await_slept;
+  added_to = λ r s a. joined_to a;
+  state_at = await_state;
   answer_of = answer_in;
   has_taken = λ o. false;
   end_post = end_post;
-  Tells = Tells;
-  Trail = TrailAt;
+  Tells = AwaitTells;
+  Trail = AwaitTrail;
   TrailEnd = TrailEnd;
   Keeps = λ i c g h old new. CellKeeps i old new;
 }
 
 -- A wait is about to end, by looks behind the stage at which it stood: it has taken its own entry off, or its hold shows
 -- that it is off.
-pub record IsOff (start k : Known) (r : Run AwaitCall) (found : Bool) : Type 0 where
+pub record IsUnqueued (start k : Known) (r : Run AwaitCall) (found : Bool) : Type 0 where
   pub there : r.of.cell < COMPLETIONS
   pub up : IsUp k
   pub stands : Stands k (post_of await_table r.of stage.TakeStore)
@@ -348,12 +348,12 @@ pub record IsOff (start k : Known) (r : Run AwaitCall) (found : Bool) : Type 0 w
 
 -- it takes one of its count, and it was signalled
 pub record TakesFrom (start k : Known) (r : Run AwaitCall) (found : Bool) : Type 0 where
-  pub off : IsOff start k r found
+  pub off : IsUnqueued start k r found
   pub some : FoundSome k r.of
 
 pub record QuitsFrom (start k : Known) (r : Run AwaitCall) (found : Bool) : Type 0 where
-  pub off : IsOff start k r found
-  pub left : HasLeft k r.of found
+  pub off : IsUnqueued start k r found
+  pub left : HasPared k r.of found
 
 -- The own entry was looked at, and taken off where it was queued.
 abbrev pub Pares : Known → Known → Run AwaitCall → Bool → Bool → Type 0

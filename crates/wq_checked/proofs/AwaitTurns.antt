@@ -3,13 +3,13 @@ use Rattle.std.proofs.Common.{◌∙◌, refl}
 use Rattle.wait_rule.specs.Known.{Known}
 use Rattle.wait_class.specs.declared.stages.Turn.TheVariants as turn
 use Rattle.wait_class.specs.Tables.{Advances}
-use Rattle.completion_cell.specs.Awaits.{await_table}
+use Rattle.completion_cell.specs.Awaits.{AwaitTurn, await_table}
 use Rattle.completion_cell.specs.declared.awaits.AwaitOutcome.{AwaitOutcome}
 use Rattle.completion_cell.specs.declared.awaits.AwaitStage.TheVariants as stage
 use Rattle.completion_cell.proofs.AwaitLaws.{await_lawful}
 use Rattle.completion_cell.proofs.Endings.{ends_carried, ends_idle, ends_off, ends_up}
 use Rattle.wq_checked.specs.Kept.{IsReady, but_kept}
-use Rattle.wq_checked.specs.Stages.{AwaitRun, AwaitTurn, GoesFrom, StandsBy}
+use Rattle.wq_checked.specs.Stages.{AwaitRun, GoesFrom, StandsBy}
 use Rattle.wq_checked.specs.Calls.{AwaitCame, Began, CameFrom, IsSound, IsUnderWay, WentOn}
 use Rattle.wq_checked.specs.Advancing.{await_left, await_shown}
 use Rattle.wq_checked.specs.Locks.{awaited_in}

@@ -10,6 +10,7 @@ use Rattle.bit_wait.specs.declared.lock_runs.LockOutcome.TheVariants as lock_out
 use Rattle.page_lock.specs.declared.waits.PageOutcome.{PageOutcome}
 use Rattle.page_lock.specs.declared.waits.PageOutcome.TheVariants as page_outcome
 use Rattle.completion_cell.specs.AwaitEnds as await_ends
+use Rattle.completion_cell.specs.Awaits.{AwaitTurn}
 use Rattle.completion_cell.specs.declared.cell_turns.CellRun.{CellRun}
 use Rattle.completion_cell.specs.declared.cell_turns.CellStage.TheVariants as cell_stage
 use Rattle.completion_cell.specs.declared.cell_turns.CellTurn.{CellTurn}
@@ -24,7 +25,7 @@ use Rattle.wq_head.specs.declared.wakes.WakeTurn.{WakeTurn}
 use Rattle.wq_head.specs.declared.wakes.WakeTurn.TheVariants as wake_turn
 use Rattle.wq_checked.specs.Calls.{event_answer, is_worn, turn_told}
 use Rattle.wq_checked.specs.Locks.{refusal_told}
-use Rattle.wq_checked.specs.Stages.{AwaitRun, AwaitTurn, BitRun, BitTurn, LockRun, LockTurn, PageRun, PageTurn, WaitRun, WaitTurn}
+use Rattle.wq_checked.specs.Stages.{AwaitRun, BitRun, BitTurn, LockRun, LockTurn, PageRun, PageTurn, WaitRun, WaitTurn}
 use Rattle.wq_checked.specs.declared.calls.Answer.TheVariants as answer
 use Rattle.wq_checked.specs.declared.calls.Progress.{Progress}
 use Rattle.wq_checked.specs.declared.calls.Progress.TheVariants as progress

@@ -37,6 +37,7 @@ use Rattle.page_lock.specs.PageEnds as page_ends
 use Rattle.page_lock.specs.declared.waits.PageStage.TheVariants as page_stage
 use Rattle.page_lock.specs.declared.waits.PageOutcome.{PageOutcome}
 use Rattle.completion_cell.specs.Awaits as awaits
+use Rattle.completion_cell.specs.Awaits.{AwaitTurn}
 use Rattle.completion_cell.specs.AwaitEnds as await_ends
 use Rattle.completion_cell.specs.CellTurns as cells
 use Rattle.completion_cell.specs.declared.awaits.AwaitStage.TheVariants as await_stage
@@ -60,7 +61,6 @@ use Rattle.wq_checked.specs.Kept.{IsReady, but_kept, keeps_in}
 use Rattle.wq_checked.specs.Locks.{awaited_in, refusal_told}
 use Rattle.wq_checked.specs.Stages.{
   AwaitRun,
-  AwaitTurn,
   BitRun,
   LockRun,
   PageRun,

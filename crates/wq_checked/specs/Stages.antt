@@ -5,8 +5,6 @@ use Rattle.wait_event.specs.declared.waits.WaitCall.{WaitCall}
 use Rattle.wait_event.specs.declared.waits.WaitOutcome.{WaitOutcome}
 use Rattle.wait_event.specs.declared.waits.WaitStage.{WaitStage}
 use Rattle.completion_cell.specs.declared.awaits.AwaitCall.{AwaitCall}
-use Rattle.completion_cell.specs.declared.awaits.AwaitOutcome.{AwaitOutcome}
-use Rattle.completion_cell.specs.declared.awaits.AwaitStage.{AwaitStage}
 use Rattle.wait_class.specs.declared.frame_stages.Framed.{Framed}
 use Rattle.wait_class.specs.declared.frame_stages.Stage.{Stage}
 use Rattle.wait_class.specs.declared.frame_stages.Stage.TheVariants as frame_stage
@@ -59,9 +57,6 @@ PageTurn = Turn PageStage PageOutcome
 
 abbrev pub AwaitRun : Type 0
 AwaitRun = Run AwaitCall
-
-abbrev pub AwaitTurn : Type 0
-AwaitTurn = Turn AwaitStage AwaitOutcome
 
 -- a wait of the ground, by what its last stretch did; and one stretch more
 abbrev pub StandsBy : {C S O : Type 0} → Table C S O → Known → Run C → Turn S O → Type 0

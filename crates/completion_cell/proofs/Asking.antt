@@ -186,7 +186,7 @@ module _ (old a b new : Known) (d : ℕ) (s : StoresCount a b d 0)
 module _ (old new : Known) (d n : ℕ) (c : Counted old d n) (took : Bool) (takes : TakesOne n took)
     (made : MatchBool took (StoresCount old new d (n - 1)) (new ≡ old)) where
   -- where one is there and the count is not at its end
-  lowers : (n == 0) ≡ false → (found : ℕ) → found ≡ n → is_publishing (watch.Done d) found (n - 1) ≡ false
+  pub lowers : (n == 0) ≡ false → (found : ℕ) → found ≡ n → is_publishing (watch.Done d) found (n - 1) ≡ false
   lowers some found same =
       let small = c.small in
       let pos : (n == 0) ≡ false = some in
@@ -216,7 +216,7 @@ module _ (old new : Known) (d n : ℕ) (c : Counted old d n) (took : Bool) (take
       else if (ap (λ (m : ℕ). m == ALL_DONE) (shown_count n c.small) ∙ two) i then counting.Unlock true
       else counting.Store
 
-  one_less : (n == ALL_DONE) ≡ false → n - 1 ≡ taken_done (done_in n)
+  pub one_less : (n == ALL_DONE) ≡ false → n - 1 ≡ taken_done (done_in n)
   one_less ends = sym (ap taken_done (shown_count n c.small)
       ∙ ap (λ (b : Bool). if b then n else n - 1) ends)
 

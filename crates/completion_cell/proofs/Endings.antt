@@ -14,6 +14,7 @@ use Rattle.wait_model.specs.Watches.{head_of}
 use Rattle.wait_rule.specs.HandedPermits.{StaysOff}
 use Rattle.wait_rule.specs.HeldValues.{count_in}
 use Rattle.wait_rule.specs.Known.{Known}
+use Rattle.wait_rule.specs.LeftEntries.{LeftOff}
 use Rattle.wait_rule.specs.Queues.{IsIdle, IsTold, index}
 use Rattle.wait_rule.specs.Says.{Excuse, IsUp, Owes, history_of, told_of}
 use Rattle.wait_rule.specs.Stays.{Carries, with_left_entry}
@@ -24,72 +25,76 @@ use Rattle.wait_class.specs.Posts.{IsOut}
 use Rattle.wait_event.specs.Ends.{wait_change}
 use Rattle.wait_class.specs.Posts.{EndsWith, own_of}
 use Rattle.wait_event.specs.Waits.{queues}
-use Rattle.wait_class.proofs.Wholes.{none_of}
+use Rattle.wait_class.proofs.Wholes.{begins, none_of}
 use Rattle.completion_cell.specs.AwaitEnds.{EndsAwait, HasAwaited, end_in}
+use Rattle.wait_class.specs.Tables.{Advances, IsAt}
+use Rattle.wait_class.specs.declared.stages.Run.{Run}
+use Rattle.wait_class.specs.declared.stages.Turn.TheVariants as turn
 use Rattle.completion_cell.specs.Awaits.{
-  Advances,
   FoundNoPlace,
-  IsAt,
+  HasGivenBack,
   IsFresh,
+  TrailEnd,
   WasSignalled,
   answer_in,
+  await_table,
   await_watch,
   left_by,
 }
 use Rattle.completion_cell.specs.declared.awaits.AwaitOutcome.{AwaitOutcome}
 use Rattle.completion_cell.specs.declared.awaits.AwaitOutcome.TheVariants as outcome
-use Rattle.completion_cell.specs.declared.awaits.AwaitRun.{AwaitRun}
+use Rattle.completion_cell.specs.declared.awaits.AwaitCall.{AwaitCall}
 use Rattle.completion_cell.specs.declared.awaits.AwaitStage.{AwaitStage}
 use Rattle.completion_cell.specs.declared.awaits.AwaitStage.TheVariants as stage
-use Rattle.completion_cell.specs.declared.awaits.AwaitTurn.TheVariants as turn
+use Rattle.completion_cell.proofs.OtherCells.{wait_stays_off}
 
 -- a task that is idle, with its entry off, may begin
-pub begins_at : (k : Known) (r : AwaitRun) (d : ℕ) (st : SleepState) → IsFresh r d st → d < COMPLETIONS
-    → IsTold k → IsUp k → IsIdle k → IsOut k → IsAt k r stage.First
-begins_at k r d st fresh small told up idle out = record {
-  there = subst (λ (n : ℕ). n < COMPLETIONS) (sym fresh.cell) small;
-  up = up;
-  stands = record {
-    head = idle.free.head;
-    at = λ h is. absurd (cc);
-    told = told.head ∙ idle.free.head;
-    ticket = idle.free.ticket;
-    agreed = λ h is. absurd (cc);
-    state = idle.running;
-    home = subst (IsHome absent (await_watch r)) (sym out) tt;
-  };
-}
+pub begins_at : (k : Known) (r : Run AwaitCall) (d : ℕ) (st : SleepState) → IsFresh r.of d st → d < COMPLETIONS
+    → LeftOff d k → IsTold k → IsUp k → IsIdle k → IsOut k → IsAt await_table k r stage.First
+begins_at k r d st fresh small left told up idle out = begins await_table k r stage.First
+    (subst (λ (n : ℕ). n < COMPLETIONS) (sym fresh.cell) small) refl refl refl refl
+    (subst (λ (n : ℕ). LeftOff n k) (sym fresh.cell) left) told up idle out
 
-module _ (old new : Known) (r q : AwaitRun) (s : AwaitStage) (o : AwaitOutcome)
-    (a : Advances old new r q s (turn.Done o)) where
+given_back : (k : Known) (r : AwaitCall) (o : AwaitOutcome) → TrailEnd k r o → HasGivenBack k r
+given_back k r outcome.Over u = u
+given_back k r (outcome.Signalled found) u = u.0
+given_back k r outcome.Worn u = u.0
+
+module _ (old new : Known) (r q : Run AwaitCall) (s : AwaitStage) (o : AwaitOutcome)
+    (a : Advances await_table old new r q s (turn.Done o)) where
   pub ends_up : IsUp new
-  ends_up = a.lands.ended.up
+  ends_up = a.lands.up
 
   pub ends_idle : (told_of old).mark ≡ None → IsIdle new
   ends_idle unmarked = record {
-    running = a.lands.ended.stands.state;
-    free = record { head = a.lands.ended.stands.head; ticket = a.lands.ended.stands.ticket };
+    running = a.lands.stands.state;
+    free = record { head = a.lands.stands.head; ticket = a.lands.stands.ticket };
     unmarked = a.went.keeps.mark ∙ unmarked;
   }
 
   pub ends_out : IsOut new
-  ends_out = none_of (await_watch q) ((told_of new).bits.stored (index new.view.number 0)) a.lands.ended.stands.home
+  ends_out = none_of (await_watch q.of) ((told_of new).bits.stored (index new.view.number 0)) a.lands.stands.home
+
+  -- it leaves no entry at a completion
+  pub ends_off : (told_of old).hold.head ≡ None → StaysOff old new
+  ends_off free = wait_stays_off old new q.of r.of.cell r.of.state _ _ a.went.tells.cell a.went.runs free
+      (given_back new q.of o a.lands.trail) ends_out
 
   -- who began idle goes on as it was
-  pub ends_owed : StaysOff old new → (x : Excuse) → Owes x old → Owes x new
-  ends_owed off x o = owes_off x new (λ none d. off d (o.debts.off none d)) (λ none. shows_none new a.lands.ended.stands.told)
+  ends_owed : StaysOff old new → (x : Excuse) → Owes x old → Owes x new
+  ends_owed off x o = owes_off x new (λ none d. off d (o.debts.off none d)) (λ none. shows_none new a.lands.stands.told)
       (owes_out (own_of old) (with_left_entry x) new
       (ap (λ (n : ℕ). (told_of new).bits.stored (index n 0)) (sym a.went.keeps.number) ∙ ends_out)
       (a.went.keeps.owes x (owes_also (own_of old) (with_left_entry x) old (owes_left x old o))))
 
-  pub ends_carried : IsUp old → IsIdle old → (told_of old).hold.head ≡ None → StaysOff old new
+  pub ends_carried : IsUp old → IsIdle old → (told_of old).hold.head ≡ None
       → Carries (wait_change (index old.view.number 0) new.at) old new
-  ends_carried up idle held off =
+  ends_carried up idle held =
       let keeps = a.went.keeps in
-      let stands = a.lands.ended.stands in record {
+      let stands = a.lands.stands in record {
         domain = keeps.domain;
         number = keeps.number;
-        awake = a.lands.ended.up ∙ sym up;
+        awake = a.lands.up ∙ sym up;
         state = stands.state ∙ sym idle.running;
         head = stands.head ∙ sym idle.free.head;
         ticket = stands.ticket ∙ sym idle.free.ticket;
@@ -101,12 +106,12 @@ module _ (old new : Known) (r q : AwaitRun) (s : AwaitStage) (o : AwaitOutcome)
         out = keeps.out;
         stands = keeps.stands;
         keeps = λ d _. keeps.keeps d;
-        owes = ends_owed off;
+        owes = ends_owed (ends_off held);
       }
 
 -- what it says at its end
-module _ (old new : Known) (r q : AwaitRun) (d : ℕ) (st : SleepState) (fresh : IsFresh r d st) where
-  begun : (o : AwaitOutcome) (a : Advances old new r q stage.First (turn.Done o))
+module _ (old new : Known) (r q : Run AwaitCall) (d : ℕ) (st : SleepState) (fresh : IsFresh r.of d st) where
+  begun : (o : AwaitOutcome) (a : Advances await_table old new r q stage.First (turn.Done o))
       → HasAwaited old new d st (answer_in o) (queues a.went.runs.transitions)
   begun o a = record {
     runs = record {
@@ -118,40 +123,40 @@ module _ (old new : Known) (r q : AwaitRun) (d : ℕ) (st : SleepState) (fresh :
     tells = refl;
   }
 
-  queued_is : (o : AwaitOutcome) (a : Advances old new r q stage.First (turn.Done o))
-      → q.queued ≡ queues a.went.runs.transitions
-  queued_is o a = a.went.queued ∙ ap (λ (b : Bool). b || queues a.went.runs.transitions) fresh.queued
+  queued_is : (o : AwaitOutcome) (a : Advances await_table old new r q stage.First (turn.Done o))
+      → q.of.queued ≡ queues a.went.runs.transitions
+  queued_is o a = a.went.tells.queued ∙ ap (λ (b : Bool). b || queues a.went.runs.transitions) fresh.queued
 
-  cell_is : (o : AwaitOutcome) → Advances old new r q stage.First (turn.Done o) → q.cell ≡ d
-  cell_is o a = a.went.cell ∙ fresh.cell
+  cell_is : (o : AwaitOutcome) → Advances await_table old new r q stage.First (turn.Done o) → q.of.cell ≡ d
+  cell_is o a = a.went.tells.cell ∙ fresh.cell
 
-  state_is : (o : AwaitOutcome) → Advances old new r q stage.First (turn.Done o) → q.state ≡ st
-  state_is o a = a.went.state ∙ fresh.state_is
+  state_is : (o : AwaitOutcome) → Advances await_table old new r q stage.First (turn.Done o) → q.of.state ≡ st
+  state_is o a = a.went.tells.state ∙ fresh.state_is
 
-  pub ends_await : (o : AwaitOutcome) → Advances old new r q stage.First (turn.Done o)
-      → EndsAwait old new d st (end_in q o)
+  pub ends_await : (o : AwaitOutcome) → Advances await_table old new r q stage.First (turn.Done o)
+      → EndsAwait old new d st (end_in q.of o)
   ends_await outcome.Over a = record {
     queued = queues a.went.runs.transitions;
     awaited = begun outcome.Over a;
     cause = tt;
   }
-  ends_await outcome.Signalled a =
-      let t : WasSignalled new q = a.lands.trail in record {
+  ends_await (outcome.Signalled found) a =
+      let t : WasSignalled new q.of found = a.lands.trail.1 in record {
         queued = queues a.went.runs.transitions;
-        awaited = begun outcome.Signalled a;
+        awaited = begun (outcome.Signalled found) a;
         cause = record {
           look = t.look;
           entry = t.entry;
           showed = ap (λ (x : SleepState). pending (state_mask x) (task_of t.look))
-              (sym (state_is outcome.Signalled a)) ∙ t.pends;
+              (sym (state_is (outcome.Signalled found) a)) ∙ t.pends;
           ends = subst (λ (c : ℕ). EndsWith new (left_by c (own_of new) t.look t.entry))
-              (cell_is outcome.Signalled a) t.ends;
+              (cell_is (outcome.Signalled found) a) t.ends;
           unset = refl;
-          selects = λ i. queued_is outcome.Signalled a i && not (t.found i);
+          selects = λ i. queued_is (outcome.Signalled found) a i && not (t.queued i);
         };
       }
   ends_await outcome.Worn a =
-      let t : FoundNoPlace new q = a.lands.trail in record {
+      let t : FoundNoPlace new q.of = a.lands.trail.1 in record {
         queued = queues a.went.runs.transitions;
         awaited = begun outcome.Worn a;
         cause = record {

@@ -215,7 +215,7 @@ as_hold old new k = record {
 }
 
 -- looks say nothing of a count
-value_append : (c : Watch) (o : Option ℕ) (es fs : List Step)
+pub value_append : (c : Watch) (o : Option ℕ) (es fs : List Step)
     → value_from c o (es ++ fs) ≡ value_from c (value_from c o es) fs
 value_append c o [] fs = refl
 value_append c o (e ∷ es) fs = value_append c (value_after c e o) es fs

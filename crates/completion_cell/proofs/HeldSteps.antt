@@ -10,12 +10,10 @@ use Rattle.wait_rule.specs.declared.journal.Item.{Item}
 use Rattle.wait_rule.specs.declared.journal.Item.TheVariants as item
 use Rattle.wait_rule.specs.Items.{steps_of}
 use Rattle.wait_rule.specs.Known.{Known}
-use Rattle.wait_rule.specs.Says.{history_of, unlocked_with}
-use Rattle.wait_rule.specs.Transitions.{AreLooks}
+use Rattle.wait_rule.specs.Says.{history_of}
+use Rattle.wait_rule.specs.Transitions.{AreLooks, OnlyLooks}
 use Rattle.wait_rule.proofs.TableSteps.ItemLists.{steps_append}
-use Rattle.wq_head.specs.Looks.{Looks}
-use Rattle.completion_cell.specs.HeldPermits.{Deals, Held, HeldOut, counted, still_owed}
-use Rattle.completion_cell.proofs.Permits.{unlocked_steps}
+use Rattle.completion_cell.specs.HeldPermits.{Deals, Held, counted, still_owed}
 
 deals_join : (d x : ℕ) (es fs : List Step) (o p q : Option ℕ) (n m k : ℕ) → Deals d x es o n p m
     → Deals d x fs p m q k → Deals d x (es ++ fs) o n q k
@@ -35,33 +33,6 @@ module _ (d : ℕ) (old mid new : Known) (o p : Option ℕ) (n m : ℕ) (one : H
         (subst (λ (i : ℕ). Deals d (own i) two.made p m q k) one.number two.deals);
     number = two.number ∙ one.number;
   }
-
-  pub held_then_out : HeldOut d mid new p m → HeldOut d old new o n
-  held_then_out two = record {
-    made = one.made ++ two.made;
-    knows = two.knows;
-    deals = deals_join d (own old.view.number) one.made two.made o p two.knows n m 0 one.deals
-        (subst (λ (i : ℕ). Deals d (own i) two.made p m two.knows 0) one.number two.deals);
-    is = two.is ∙ (ap (λ (l : List Step). l ++ (two.made ++ step.Unlock (done_head d) false ∷ [])) one.is
-        ∙ (append_assoc (history_of old) one.made (two.made ++ step.Unlock (done_head d) false ∷ [])
-        ∙ ap (λ (l : List Step). history_of old ++ l)
-        (sym (append_assoc one.made two.made (step.Unlock (done_head d) false ∷ [])))));
-    number = two.number ∙ one.number;
-  }
-
--- the head is given back where nothing is owed
-pub held_out : (d : ℕ) (old mid new : Known) (o p : Option ℕ) (n : ℕ) → Held d old mid o n p 0
-    → mid.at ≡ done_head d → new ≡ unlocked_with mid mid.at false → HeldOut d old new o n
-held_out d old mid new o p n one at is = record {
-  made = one.made;
-  knows = p;
-  deals = one.deals;
-  is = unlocked_steps mid new false is
-      ∙ (ap (λ (l : List Step). l ++ step.Unlock mid.at false ∷ []) one.is
-      ∙ (append_assoc (history_of old) one.made (step.Unlock mid.at false ∷ [])
-      ∙ ap (λ (h : ℕ). history_of old ++ (one.made ++ step.Unlock h false ∷ [])) at));
-  number = ap (λ (k : Known). k.view.number) is ∙ one.number;
-}
 
 pub held_none : (d : ℕ) (old new : Known) (o : Option ℕ) (n : ℕ) → new ≡ old → Held d old new o n o n
 held_none d old new o n is = record {
@@ -92,12 +63,12 @@ looks_deal d x (item.Served ∷ xs) o n l = looks_deal d x xs o n l.1
 looks_deal d x (item.Tally p m w ∷ xs) o n l = absurd l.0
 looks_deal d x (item.Piped j a w ∷ xs) o n l = absurd l.0
 
-pub held_looks : (d : ℕ) (old new : Known) (o : Option ℕ) (n : ℕ) → Looks old new → Held d old new o n o n
-held_looks d old new o n l = record {
+pub held_only : (d : ℕ) (old new : Known) (o : Option ℕ) (n : ℕ) → OnlyLooks old new → Held d old new o n o n
+held_only d old new o n l = record {
   made = steps_of l.items;
   is = ap history_of l.is ∙ steps_append old.view.items l.items;
   deals = looks_deal d (own old.view.number) l.items o n l.looks;
-  number = l.stays.number;
+  number = ap (λ (k : Known). k.view.number) l.is;
 }
 
 -- a store of the count

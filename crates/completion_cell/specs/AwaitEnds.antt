@@ -26,7 +26,7 @@ use Rattle.wait_event.specs.Waits.{queues}
 use Rattle.completion_cell.specs.Awaits.{await_head, left_by}
 use Rattle.completion_cell.specs.declared.awaits.AwaitOutcome.{AwaitOutcome}
 use Rattle.completion_cell.specs.declared.awaits.AwaitOutcome.TheVariants as outcome
-use Rattle.completion_cell.specs.declared.awaits.AwaitRun.{AwaitRun}
+use Rattle.completion_cell.specs.declared.awaits.AwaitCall.{AwaitCall}
 
 -- the task went through the whole call, and whether it queued its entry
 pub record HasAwaited (old new : Known) (d : ℕ) (st : SleepState) (a : Answer) (queued : Bool) : Type 0 where
@@ -51,9 +51,9 @@ pub record IsWorn (k : Known) (d h place : ℕ) : Type 0 where
   pub zero : count_in d (history_of k) ≡ Some 0
 
 -- the answer of a wait that has ended
-abbrev pub end_in : AwaitRun → AwaitOutcome → Result (Unit {0}) WaitEnd
+abbrev pub end_in : AwaitCall → AwaitOutcome → Result (Unit {0}) WaitEnd
 end_in r outcome.Over = Ok tt
-end_in r outcome.Signalled = Err (wait_end.Signal 0 (r.queued && not r.found))
+end_in r (outcome.Signalled found) = Err (wait_end.Signal 0 (r.queued && not found))
 end_in r outcome.Worn = Err (wait_end.Worn (await_head r) r.place)
 
 -- the answer of the call, and its cause

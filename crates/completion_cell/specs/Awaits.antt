@@ -1,11 +1,13 @@
 -- To be believed.
--- A wait for a completion, in turns of a hold each: its stages, and what each turn does.
+-- A wait for a completion: its stages, where it goes on behind each, what it tells of its transitions, and what its
+-- places say of its last steps.
 use Rattle.std.specs.Prelude.{
   ℕ,
   ◌≡◌,
+  ◌≢◌,
   ◌<◌,
-  ◌≤◌,
   ◌||◌,
+  ◌==◌,
   Bool,
   true,
   false,
@@ -19,92 +21,185 @@ use Rattle.std.specs.Prelude.{
   ◌∷◌,
   ◌++◌,
 }
-use Rattle.wait_model.specs.declared.layout.TheConstants.{COMPLETIONS, ALL_DONE}
+use Rattle.wait_model.specs.declared.layout.TheConstants.{COMPLETIONS}
 use Rattle.wait_model.specs.declared.calls.Call.{Call}
 use Rattle.wait_model.specs.declared.calls.Call.TheVariants as calls
 use Rattle.wait_model.specs.declared.calls.Answer.{Answer}
 use Rattle.wait_model.specs.declared.calls.Answer.TheVariants as answer
 use Rattle.wait_model.specs.declared.points.AwaitPoint.TheVariants as awaiting
-use Rattle.wait_model.specs.declared.points.Next.{Next}
-use Rattle.wait_model.specs.declared.points.Next.TheVariants as next
 use Rattle.wait_model.specs.declared.points.Point.{Point}
 use Rattle.wait_model.specs.declared.points.Point.TheVariants as at
 use Rattle.wait_model.specs.declared.points.PreparePoint.TheVariants as preparing
 use Rattle.wait_model.specs.declared.steps.Step.{Step}
 use Rattle.wait_model.specs.declared.steps.Step.TheVariants as step
 use Rattle.wait_model.specs.declared.tasks.SleepState.{SleepState}
+use Rattle.wait_model.specs.declared.watches.Aim.{Aim}
 use Rattle.wait_model.specs.declared.watches.Watch.{Watch}
 use Rattle.wait_model.specs.declared.watches.Watch.TheVariants as watch
-use Rattle.wait_model.specs.Programs.{prepares_from, zero_answer, signalled}
+use Rattle.wait_model.specs.Permits.{done_head}
 use Rattle.wait_model.specs.PointFacts.{absent}
-use Rattle.wait_model.specs.Tasks.{pending, state_mask, task_of}
+use Rattle.wait_model.specs.Programs.{zero_answer, signalled}
+use Rattle.wait_model.specs.Tasks.{looks_in, pending, state_mask, task_of}
 use Rattle.wait_model.specs.Views.{off as gone}
 use Rattle.wait_model.specs.Watches.{head_of}
 use Rattle.wait_model.specs.Words.{entry_of}
 use Rattle.wait_rule.specs.Ends.{WasWorn}
 use Rattle.wait_rule.specs.HeldValues.{count_in}
 use Rattle.wait_rule.specs.Known.{Known}
-use Rattle.wait_rule.specs.Says.{IsUp, IsDown, history_of, told_of}
+use Rattle.wait_rule.specs.LeftEntries.{LeftOff}
+use Rattle.wait_rule.specs.Says.{IsUp, history_of, told_of}
 use Rattle.wait_rule.specs.Stays.{with_left_entry}
 use Rattle.wait_rule.specs.Tickets.{no_ticket}
-use Rattle.wait_rule.specs.Transitions.{Program, call_program}
-use Rattle.wait_class.specs.Posts.{KeepsBut, Post, Stands, Runs, post_at}
-use Rattle.wait_class.specs.Posts.{EndsWith, own_of}
+use Rattle.wait_rule.specs.Transitions.{OnlyLooks, Transition}
+use Rattle.wait_class.specs.Posts.{EndsWith, KeepsBut, Post, Stands, own_of}
+use Rattle.wait_class.specs.Tables.{CallTable, Turned, call_plan, post_of}
+use Rattle.wait_class.specs.declared.stages.Added.{Added}
+use Rattle.wait_class.specs.declared.stages.Added.TheVariants as adds
+use Rattle.wait_class.specs.declared.stages.Doing.{Doing}
+use Rattle.wait_class.specs.declared.stages.Doing.TheVariants as doing
+use Rattle.wait_class.specs.declared.stages.Run.{Run}
+use Rattle.wait_class.specs.declared.stages.Turn.{Turn}
+use Rattle.wait_class.specs.declared.stages.Turn.TheVariants as turn
 use Rattle.wait_event.specs.Waits.{queues}
-use Rattle.completion_cell.specs.declared.awaits.AwaitRun.{AwaitRun}
-use Rattle.completion_cell.specs.declared.awaits.AwaitStage.{AwaitStage}
-use Rattle.completion_cell.specs.declared.awaits.AwaitStage.TheVariants as stage
+use Rattle.completion_cell.specs.HeldPermits.{HasBegun, Knows, WaitsIn}
+use Rattle.completion_cell.specs.declared.awaits.AwaitCall.{AwaitCall}
 use Rattle.completion_cell.specs.declared.awaits.AwaitOutcome.{AwaitOutcome}
 use Rattle.completion_cell.specs.declared.awaits.AwaitOutcome.TheVariants as outcome
-use Rattle.completion_cell.specs.declared.awaits.AwaitTurn.{AwaitTurn}
-use Rattle.completion_cell.specs.declared.awaits.AwaitTurn.TheVariants as turn
+use Rattle.completion_cell.specs.declared.awaits.AwaitStage.{AwaitStage}
+use Rattle.completion_cell.specs.declared.awaits.AwaitStage.TheVariants as stage
 
--- The stages: the point of the program, and whether the ticket of its lock is drawn.
+-- The stages: the point of the program, what is done there, and whether the ticket of its lock is drawn.
 abbrev pub point_of : AwaitStage → Point
 point_of stage.First = at.Await (awaiting.Lock false)
 point_of stage.FirstTurn = at.Await (awaiting.Lock false)
-point_of stage.Sleep = at.Sleep
+point_of stage.FirstLoad = at.Await (awaiting.Load false)
 point_of stage.Again = at.Await (awaiting.Lock true)
 point_of stage.AgainTurn = at.Await (awaiting.Lock true)
+point_of stage.AgainLoad = at.Await (awaiting.Load true)
+point_of stage.Look = at.Prepare preparing.Look
+point_of stage.Queue = at.Prepare preparing.Queue
+point_of stage.State = at.Prepare preparing.State
+point_of stage.Unlock = at.Prepare preparing.Unlock
+point_of stage.Sleep = at.Sleep
+point_of stage.LeaveState = at.Await (awaiting.Run true)
+point_of stage.LeaveQueue = at.Await (awaiting.Off true)
+point_of stage.LeaveUnlock = at.Await (awaiting.Last true)
+point_of stage.TakeState = at.Await (awaiting.Run false)
+point_of stage.TakeQueue = at.Await (awaiting.Off false)
+point_of stage.TakeStore = at.Await (awaiting.Last false)
+point_of stage.TakeUnlock = at.Await awaiting.Unlock
 
-abbrev pub ticket_at : AwaitStage → ℕ → Option ℕ
-ticket_at stage.FirstTurn n = Some n
-ticket_at stage.AgainTurn n = Some n
-ticket_at _ n = None
+abbrev pub await_doing : AwaitStage → Doing
+await_doing stage.First = doing.Draw
+await_doing stage.FirstTurn = doing.Lock
+await_doing stage.Again = doing.Draw
+await_doing stage.AgainTurn = doing.Lock
+await_doing stage.Look = doing.Look
+await_doing stage.Queue = doing.Queue
+await_doing stage.State = doing.State
+await_doing stage.Unlock = doing.Unlock
+await_doing stage.Sleep = doing.Sleep
+await_doing stage.LeaveState = doing.State
+await_doing stage.TakeState = doing.State
+await_doing stage.TakeUnlock = doing.Unlock
+await_doing _ = doing.Own
 
--- the stages with a ticket drawn
-abbrev pub TurnsAt : AwaitStage → Type 0
-TurnsAt stage.FirstTurn = Unit {0}
-TurnsAt stage.AgainTurn = Unit {0}
-TurnsAt _ = ⊥
+abbrev pub is_await_turn : AwaitStage → Bool
+is_await_turn stage.FirstTurn = true
+is_await_turn stage.AgainTurn = true
+is_await_turn _ = false
 
--- whether the wait was in its loop before
-abbrev pub waits_at : AwaitStage → Bool
-waits_at stage.Again = true
-waits_at stage.AgainTurn = true
-waits_at _ = false
+-- how many events are left at most until no head is held
+abbrev pub await_depth : AwaitStage → ℕ
+await_depth stage.Look = 4
+await_depth stage.Queue = 3
+await_depth stage.State = 2
+await_depth stage.Unlock = 1
+await_depth stage.LeaveState = 3
+await_depth stage.LeaveQueue = 2
+await_depth stage.LeaveUnlock = 1
+await_depth stage.TakeState = 4
+await_depth stage.TakeQueue = 3
+await_depth stage.TakeStore = 2
+await_depth stage.TakeUnlock = 1
+await_depth stage.FirstLoad = 5
+await_depth stage.AgainLoad = 5
+await_depth _ = 6
 
-abbrev pub await_call : AwaitRun → Call
-await_call r = calls.WaitFor r.cell r.state
+-- where a wait goes on behind a draw, behind a lock, an unlock and a store of a state, that found its count, its entry
+-- queued or a signal, or not, and that queued its entry
+abbrev pub AwaitTurn : Type 0
+AwaitTurn = Turn AwaitStage AwaitOutcome
 
-abbrev pub await_watch : AwaitRun → Watch
+abbrev pub await_drawn : AwaitStage → AwaitStage
+await_drawn stage.First = stage.FirstTurn
+await_drawn stage.Again = stage.AgainTurn
+await_drawn s = s
+
+abbrev pub await_next : AwaitStage → AwaitTurn
+await_next stage.FirstTurn = turn.Again stage.FirstLoad
+await_next stage.AgainTurn = turn.Again stage.AgainLoad
+await_next stage.State = turn.Again stage.Unlock
+await_next stage.Unlock = turn.Again stage.Sleep
+await_next stage.LeaveState = turn.Again stage.LeaveQueue
+await_next stage.TakeState = turn.Again stage.TakeQueue
+await_next stage.TakeUnlock = turn.Done outcome.Over
+await_next s = turn.Again s
+
+-- by whether the count was 0, the state admits a signal, and the wait was in its loop
+abbrev pub counted_by : Bool → Bool → Bool → AwaitTurn
+counted_by zero looks waited = if zero then (if looks then turn.Again stage.Look else turn.Again stage.Queue)
+    else if waited then turn.Again stage.TakeState else turn.Again stage.TakeStore
+
+abbrev pub counted_to : AwaitCall → Bool → AwaitTurn
+counted_to r waited = counted_by (r.count == 0) (looks_in r.state) waited
+
+abbrev pub await_found : AwaitStage → Bool → AwaitTurn
+await_found stage.Look hit = if hit then turn.Again stage.LeaveState else turn.Again stage.Queue
+await_found s hit = turn.Again s
+
+abbrev pub joined_to : Added → AwaitTurn
+joined_to adds.Joined = turn.Again stage.State
+joined_to adds.Stayed = turn.Again stage.Unlock
+joined_to adds.Worn = turn.Done outcome.Worn
+
+abbrev pub await_state : AwaitCall → AwaitStage → ℕ
+await_state r stage.State = state_mask r.state
+await_state r _ = 0
+
+-- where a wait goes on that was put asleep
+abbrev pub is_await_slept : AwaitStage → Bool
+is_await_slept stage.Again = true
+is_await_slept _ = false
+
+abbrev pub answer_in : AwaitOutcome → Answer
+answer_in outcome.Over = zero_answer
+answer_in (outcome.Signalled found) = signalled
+answer_in outcome.Worn = answer.Worn
+
+-- the completion that the call waits for, and the call
+abbrev pub await_watch : AwaitCall → Watch
 await_watch r = watch.Done r.cell
 
-abbrev pub await_head : AwaitRun → ℕ
+abbrev pub await_head : AwaitCall → ℕ
 await_head r = head_of (await_watch r)
 
-abbrev pub await_program : ℕ → AwaitRun → Program
-await_program me r = call_program me 0 (await_call r)
+abbrev pub await_call : AwaitCall → Call
+await_call r = calls.WaitFor r.cell r.state
+
+-- the numbers of a wait are in their ranges
+abbrev pub CellFits : AwaitCall → Type 0
+CellFits r = r.cell < COMPLETIONS
 
 -- a wait that has not begun
-pub record IsFresh (r : AwaitRun) (d : ℕ) (st : SleepState) : Type 0 where
+pub record IsFresh (r : AwaitCall) (d : ℕ) (st : SleepState) : Type 0 where
   pub cell : r.cell ≡ d
   pub state_is : r.state ≡ st
   pub queued : r.queued ≡ false
 
 -- the wait is over: the task is awake, RUNNING, holds no head, and its entry is off
-abbrev pub end_post : AwaitRun → Post
-end_post r = record {
+abbrev pub end_post : AwaitCall → AwaitOutcome → Post
+end_post r o = record {
   head = None;
   ticket = no_ticket;
   stirs = false;
@@ -113,28 +208,27 @@ end_post r = record {
   watch = await_watch r;
 }
 
--- how the task stands where the program goes on
-pub record StandsAt (k : Known) (r : AwaitRun) (p : Post) : Type 0 where
-  pub there : r.cell < COMPLETIONS
-  pub up : IsUp k
-  pub stands : Stands k p
+-- it is the same call, and the run tells whether it has queued its entry
+pub record AwaitTells (r q : AwaitCall) (ts : List Transition) : Type 0 where
+  pub cell : q.cell ≡ r.cell
+  pub state : q.state ≡ r.state
+  pub queued : q.queued ≡ (r.queued || queues ts)
 
-abbrev pub post_of : AwaitRun → Point → Post
-post_of r p = post_at None (await_call r) p
+-- The stages at which a wait leaves its loop, for a signal or to take one of the count: before its entry is taken off,
+-- and behind that. Where the entry was found off it goes on where it stands.
+abbrev pub off_stage : Bool → AwaitStage
+off_stage true = stage.LeaveQueue
+off_stage false = stage.TakeQueue
 
-abbrev pub LandsNext : Known → AwaitRun → Next → Type 0
-LandsNext k r (next.Go p) = StandsAt k r (post_of r p)
-LandsNext k r (next.Ends a) = StandsAt k r (end_post r)
+abbrev pub last_stage : Bool → AwaitStage
+last_stage true = stage.LeaveUnlock
+last_stage false = stage.TakeStore
 
-abbrev pub IsAt : Known → AwaitRun → AwaitStage → Type 0
-IsAt k r s = StandsAt k r (post_at (ticket_at s r.ticket) (await_call r) (point_of s))
+abbrev pub quit_stage : Bool → AwaitStage
+quit_stage found = if found then stage.LeaveUnlock else stage.LeaveQueue
 
--- it was put asleep, and goes on with its next hold
-pub record IsAsleepAt (k : Known) (r : AwaitRun) (s : AwaitStage) : Type 0 where
-  pub there : r.cell < COMPLETIONS
-  pub down : IsDown k
-  pub stands : Stands k (record (post_of r (at.Await (awaiting.Lock true))) { stirs = true })
-  pub place : s ≡ stage.Again
+abbrev pub take_stage : Bool → AwaitStage
+take_stage found = if found then stage.TakeStore else stage.TakeQueue
 
 -- The last steps of a wait that was signalled: its last hold loaded 0, looked at the own word, which showed a signal
 -- that the state admits, stored RUNNING, took the own entry off or found it off, and gave the head back.
@@ -143,136 +237,126 @@ left_by d x w e = step.Load (watch.Done d) 0 ∷ step.Look w ∷ step.State 0 �
     ∷ (if is_some (entry_of e) then step.Unqueue x ∷ step.Unlock (head_of (watch.Done d)) false ∷ []
     else step.Unlock (head_of (watch.Done d)) false ∷ [])
 
-pub record WasSignalled (k : Known) (r : AwaitRun) : Type 0 where
+pub record WasSignalled (k : Known) (r : AwaitCall) (found : Bool) : Type 0 where
   pub look : ℕ
   pub entry : ℕ
   pub pends : pending (state_mask r.state) (task_of look) ≡ true
-  pub found : r.found ≡ is_some (entry_of entry)
+  pub queued : found ≡ is_some (entry_of entry)
   pub ends : EndsWith k (left_by r.cell (own_of k) look entry)
 
+-- so far
+pub record LeavesBy (k : Known) (r : AwaitCall) (more : List Step) : Type 0 where
+  pub word : ℕ
+  pub pends : pending (state_mask r.state) (task_of word) ≡ true
+  pub ends : EndsWith k (step.Load (await_watch r) 0 ∷ step.Look word ∷ more)
+  pub knows : Knows k r.cell 0
+
+-- and it has looked at its own entry, and taken it off where that was queued
+pub record HasPared (k : Known) (r : AwaitCall) (found : Bool) : Type 0 where
+  pub entry : ℕ
+  pub queued : is_some (entry_of entry) ≡ found
+  pub leaves : LeavesBy k r (step.State 0 ∷ step.Saw (own_of k) entry
+      ∷ (if found then step.Unqueue (own_of k) ∷ [] else []))
+
 -- The last hold of a wait that found no place noted it, and had loaded 0.
-pub record FoundNoPlace (k : Known) (r : AwaitRun) : Type 0 where
+pub record FoundNoPlace (k : Known) (r : AwaitCall) : Type 0 where
   pub noted : WasWorn k.view.number k.view.items (await_head r) r.place
   pub zero : count_in r.cell (history_of k) ≡ Some 0
 
-abbrev pub TrailEnd : Known → AwaitRun → AwaitOutcome → Type 0
-TrailEnd k r outcome.Over = Unit {0}
-TrailEnd k r outcome.Signalled = WasSignalled k r
-TrailEnd k r outcome.Worn = FoundNoPlace k r
+-- the task has just taken the lock of the completion's head, and given it back
+abbrev pub HasJustLocked : Known → ℕ → Type 0
+HasJustLocked k d = (aim : Option Aim) × (w : ℕ) × EndsWith k (step.Lock (done_head d) aim w ∷ [])
 
-abbrev pub answer_in : AwaitOutcome → Answer
-answer_in outcome.Over = zero_answer
-answer_in outcome.Signalled = signalled
-answer_in outcome.Worn = answer.Worn
+abbrev pub HasGivenBack : Known → AwaitCall → Type 0
+HasGivenBack k r = EndsWith k (step.Unlock (await_head r) false ∷ [])
 
-pub record IsEnded (k : Known) (r : AwaitRun) (o : AwaitOutcome) : Type 0 where
-  pub ended : StandsAt k r (end_post r)
-  pub trail : TrailEnd k r o
+-- the count that it has loaded is not 0
+abbrev pub FoundSome : Known → AwaitCall → Type 0
+FoundSome k r = Knows k r.cell r.count × (r.count ≢ 0)
 
-abbrev pub next_in : AwaitTurn → Next
-next_in (turn.Again s) = next.Go (point_of s)
-next_in (turn.Asleep s) = next.Go (point_of s)
-next_in (turn.Locked s) = next.Go (point_of s)
-next_in (turn.Done o) = next.Ends (answer_in o)
+-- What a stage says of what the hold knows, and of the last steps: before the first hold the task has left its own entry
+-- off, and a hold that is given back owes no permit.
+abbrev pub AwaitTrail : Known → AwaitCall → AwaitStage → Type 0
+AwaitTrail k r stage.First = LeftOff r.cell k
+AwaitTrail k r stage.FirstTurn = LeftOff r.cell k
+AwaitTrail k r stage.FirstLoad = HasBegun r.cell k
+AwaitTrail k r stage.AgainLoad = HasJustLocked k r.cell
+AwaitTrail k r stage.Look = Knows k r.cell 0 × EndsWith k (step.Load (await_watch r) 0 ∷ [])
+AwaitTrail k r stage.Queue = Knows k r.cell 0
+AwaitTrail k r stage.State = Knows k r.cell 0
+AwaitTrail k r stage.Unlock = Knows k r.cell 0
+AwaitTrail k r stage.LeaveState = LeavesBy k r []
+AwaitTrail k r stage.LeaveQueue = LeavesBy k r (step.State 0 ∷ [])
+AwaitTrail k r stage.LeaveUnlock = HasPared k r true
+AwaitTrail k r stage.TakeState = FoundSome k r
+AwaitTrail k r stage.TakeQueue = FoundSome k r
+AwaitTrail k r stage.TakeStore = FoundSome k r
+AwaitTrail k r stage.TakeUnlock = (o : Option ℕ) × WaitsIn r.cell k o 0
+AwaitTrail k r _ = Unit {0}
+
+-- The head was given back last, and the answer has its cause.
+abbrev pub TrailEnd : Known → AwaitCall → AwaitOutcome → Type 0
+TrailEnd k r outcome.Over = HasGivenBack k r
+TrailEnd k r (outcome.Signalled found) = HasGivenBack k r × WasSignalled k r found
+TrailEnd k r outcome.Worn = HasGivenBack k r × FoundNoPlace k r
 
 -- what stays of the task meanwhile, but that it may leave its entry at the completion
 abbrev pub CellKeeps : ℕ → Known → Known → Type 0
 CellKeeps i old new = KeepsBut with_left_entry i old new
 
--- The wait went on from one place to another. It is the same call, and the run tells whether it has queued its entry.
-pub record Went (old new : Known) (r q : AwaitRun) (from to : Next) : Type 0 where
-  pub cell : q.cell ≡ r.cell
-  pub state : q.state ≡ r.state
-  pub runs : Runs (await_program old.view.number r) old new from to
-  pub keeps : CellKeeps (own_of old) old new
-  pub queued : q.queued ≡ (r.queued || queues runs.transitions)
+abbrev pub await_table : CallTable AwaitCall AwaitStage AwaitOutcome
+await_table = record {
+  plan_of = λ r. call_plan (await_call r);
+  Fits = CellFits;
+  worn_at = λ r p. record r { place = p };
+  asks_first = λ r. false;
+  joined_at = λ r s first. record r { queued = true };
+  point_of = point_of;
+  doing = await_doing;
+  drawn = is_await_turn;
+  took = λ s. false;
+  depth = await_depth;
+  stays = λ s u. true;
+  drawn_to = await_drawn;
+  next_of = λ r s. await_next s;
+  noted = λ r s v. r;
+  loaded_to = λ r s v. turn.Again s;
+  found_to = λ r s hit. await_found s hit;
+  heeded_to = λ r s hit. turn.Again s;
+  slept_to = λ r s. stage.Again;
+  asleep_at = is_await_slept;
+  added_to = λ r s a. joined_to a;
+  state_at = await_state;
+  answer_of = answer_in;
+  has_taken = λ o. false;
+  end_post = end_post;
+  Tells = AwaitTells;
+  Trail = AwaitTrail;
+  TrailEnd = TrailEnd;
+  Keeps = λ i c g h old new. CellKeeps i old new;
+}
 
--- and where it stands then
-abbrev pub Lands : Known → AwaitRun → AwaitTurn → Type 0
-Lands new r (turn.Again s) = IsAt new r s
-Lands new r (turn.Asleep s) = IsAsleepAt new r s
-Lands new r (turn.Locked s) = IsAt new r s
-Lands new r (turn.Done o) = IsEnded new r o
+-- A wait is about to end, by looks behind the stage at which it stood: it has taken its own entry off, or its hold shows
+-- that it is off.
+pub record IsUnqueued (start k : Known) (r : Run AwaitCall) (found : Bool) : Type 0 where
+  pub there : r.of.cell < COMPLETIONS
+  pub up : IsUp k
+  pub stands : Stands k (post_of await_table r.of stage.TakeStore)
+  pub looks : OnlyLooks start k
+  pub keeps : CellKeeps (own_of start) start k
+  pub shows : found ≡ false → (told_of k).hold.book (own_of start) ≡ gone
 
--- what a turn did
-pub record Advances (old new : Known) (r q : AwaitRun) (s : AwaitStage) (t : AwaitTurn) : Type 0 where
-  pub went : Went old new r q (next.Go (point_of s)) (next_in t)
-  pub lands : Lands new q t
+-- it takes one of its count, and it was signalled
+pub record TakesFrom (start k : Known) (r : Run AwaitCall) (found : Bool) : Type 0 where
+  pub off : IsUnqueued start k r found
+  pub some : FoundSome k r.of
 
--- A part of a hold: from a point of the program on, and how the task stands then.
-pub record Part (old new : Known) (r q : AwaitRun) (p : Point) (n : Next) : Type 0 where
-  pub went : Went old new r q (next.Go p) n
-  pub lands : LandsNext new q n
+pub record QuitsFrom (start k : Known) (r : Run AwaitCall) (found : Bool) : Type 0 where
+  pub off : IsUnqueued start k r found
+  pub left : HasPared k r.of found
 
--- the latest hold has loaded or stored this count last
-abbrev pub Counts : Known → AwaitRun → ℕ → Type 0
-Counts k r n = (count_in r.cell (history_of k) ≡ Some n) × (n ≤ ALL_DONE)
-
--- a look at the own word, and whether it shows a signal that the state admits
-pub record LooksFor (old new : Known) (r : AwaitRun) (hit : Bool) : Type 0 where
-  pub word : ℕ
-  pub part : Part old new r r (at.Prepare preparing.Look)
-      (next.Go (if hit then at.Await (awaiting.Run true) else at.Prepare preparing.Queue))
-  pub tells : hit ≡ pending (state_mask r.state) (task_of word)
-  pub history : history_of new ≡ history_of old ++ step.Look word ∷ []
-
--- where a hold that is about to end the wait stands: behind the entry that it took off, or where it found it off
-abbrev pub over_at : Bool → Bool → Point
-over_at off stopped = at.Await (if off then awaiting.Last stopped else awaiting.Off stopped)
-
-pub record MayEnd (k : Known) (r : AwaitRun) (off stopped : Bool) (n : ℕ) : Type 0 where
-  pub stands : StandsAt k r (post_of r (at.Await (awaiting.Last false)))
-  pub counts : Counts k r n
-  pub found : off ≡ false → (told_of k).hold.book (own_of k) ≡ gone
-
--- the own entry was taken off, where the hold showed it
-pub record Pares (old new : Known) (r : AwaitRun) (stopped : Bool) (n : ℕ) (off : Bool) : Type 0 where
-  pub went : Went old new r r (next.Go (at.Await (awaiting.Off stopped))) (next.Go (over_at off stopped))
-  pub may : MayEnd new r off stopped n
-  pub entry : ℕ
-  pub shows : off ≡ is_some (entry_of entry)
-  pub history : history_of new ≡ history_of old ++ step.Saw (own_of old) entry
-      ∷ (if off then step.Unqueue (own_of old) ∷ [] else [])
-
--- the wait is over
-pub record EndsAs (old new : Known) (r : AwaitRun) (off stopped : Bool) (a : Answer) : Type 0 where
-  pub went : Went old new r r (next.Go (over_at off stopped)) (next.Ends a)
-  pub ended : StandsAt new r (end_post r)
-
--- The own entry is queued, and the state is stored in which the task sleeps; or no place is left for it, and the head
--- is given back.
-abbrev pub Enters : Known → Known → AwaitRun → AwaitRun → Bool → Type 0
-Enters old new r q true = Part old new r q (at.Prepare preparing.Queue) (next.Go (at.Prepare preparing.Unlock))
-Enters old new r q false = Part old new r q (at.Prepare preparing.Queue) (next.Ends answer.Worn) × FoundNoPlace new q
-
--- a part of a wait from a point on to the end of its turn
-pub record Reaches (old new : Known) (r q : AwaitRun) (p : Point) (t : AwaitTurn) : Type 0 where
-  pub went : Went old new r q (next.Go p) (next_in t)
-  pub lands : Lands new q t
-
--- The last steps of the hold so far: it loaded 0, and the look at the own word showed a signal that the state admits.
-pub record SawSignal (k : Known) (r : AwaitRun) : Type 0 where
-  pub word : ℕ
-  pub pends : pending (state_mask r.state) (task_of word) ≡ true
-  pub ends : EndsWith k (step.Load (watch.Done r.cell) 0 ∷ step.Look word ∷ [])
-
--- a look for a signal where the state admits any
-pub record LooksFirst (old new : Known) (r : AwaitRun) (hit : Bool) : Type 0 where
-  pub part : Part old new r r (prepares_from (await_call r))
-      (next.Go (if hit then at.Await (awaiting.Run true) else at.Prepare preparing.Queue))
-  pub counts : Counts new r 0
-  pub saw : hit ≡ true → SawSignal new r
-
--- with its ticket drawn the task stands so
-abbrev pub turn_post : AwaitRun → Bool → Post
-turn_post r waited = post_at (Some r.ticket) (await_call r) (at.Await (awaiting.Lock waited))
-
-pub record Draws (old new : Known) (r q : AwaitRun) (waited : Bool) : Type 0 where
-  pub went : Went old new r q (next.Go (at.Await (awaiting.Lock waited))) (next.Go (at.Await (awaiting.Lock waited)))
-  pub lands : StandsAt new q (turn_post q waited)
-
--- the lock was taken, or another number is served
-abbrev pub TakesTurn : Known → Known → AwaitRun → AwaitRun → Bool → Bool → Type 0
-TakesTurn old new r q waited true = Part old new r q (at.Await (awaiting.Lock waited))
-    (next.Go (at.Await (awaiting.Load waited)))
-TakesTurn old new r q waited false = Draws old new r q waited
+-- The own entry was looked at, and taken off where it was queued.
+abbrev pub Pares : Known → Known → Run AwaitCall → Bool → Bool → Type 0
+Pares old new r stopped true = Turned await_table old new r r (off_stage stopped) (turn.Again (last_stage stopped))
+Pares old new r true false = QuitsFrom old new r false
+Pares old new r false false = TakesFrom old new r false

@@ -1,16 +1,16 @@
 -- For proofs alone.
--- What the hold of a wait makes of permits, step by step.
+-- What the hold of a wait knows of its count, and makes of permits, step by step.
 use Rattle.std.specs.Prelude.{ℕ, ◌≡◌, ◌≢◌, ◌≤◌, ◌==◌, if◌then◌else◌, Bool, true, false}
 use Rattle.std.specs.Prelude.{Option, Some, List, [], ◌∷◌, ◌++◌}
 use Rattle.wait_model.specs.declared.layout.TheConstants.{ALL_DONE}
 use Rattle.wait_model.specs.declared.steps.Step.{Step}
 use Rattle.wait_model.specs.declared.steps.Step.TheVariants as step
-use Rattle.wait_model.specs.declared.watches.Aim.{Aim}
 use Rattle.wait_model.specs.declared.watches.Watch.TheVariants as watch
 use Rattle.wait_model.specs.Fold.{view_of}
 use Rattle.wait_model.specs.Permits.{after_read, after_store, dealt, done_head}
 use Rattle.wait_model.specs.Runs.{own}
 use Rattle.wait_model.specs.Views.{unseen}
+use Rattle.wait_rule.specs.HeldValues.{count_in}
 use Rattle.wait_rule.specs.LeftEntries.{OrderOf}
 use Rattle.wait_rule.specs.Known.{Known}
 use Rattle.wait_rule.specs.Says.{history_of}
@@ -52,14 +52,6 @@ pub record Held (d : ℕ) (old new : Known) (o : Option ℕ) (n : ℕ) (p : Opti
   pub deals : Deals d (own old.view.number) made o n p m
   pub number : new.view.number ≡ old.view.number
 
--- and the head is given back, where nothing is owed any more
-pub record HeldOut (d : ℕ) (old new : Known) (o : Option ℕ) (n : ℕ) : Type 0 where
-  pub made : List Step
-  pub knows : Option ℕ
-  pub deals : Deals d (own old.view.number) made o n knows 0
-  pub is : history_of new ≡ history_of old ++ (made ++ step.Unlock (done_head d) false ∷ [])
-  pub number : new.view.number ≡ old.view.number
-
 -- a wait that has loaded this count takes what it owes by lowering it by one
 abbrev pub IsSettled : ℕ → ℕ → Type 0
 IsSettled count n = (n ≤ 1) × (ALL_DONE ≤ count → n ≡ 0) × (count ≡ 0 → n ≡ 0)
@@ -87,17 +79,11 @@ pub record HasLoaded (d : ℕ) (k : Known) (count : ℕ) : Type 0 where
   pub settled : IsSettled count owes
   pub waits : WaitsIn d k (Some count) owes
 
--- the own entry is queued, or no place is left for it and the head was given back
-abbrev pub HeldBy : ℕ → Known → Known → Bool → Type 0
-HeldBy d old new true = Held d old new (Some 0) 0 (Some 0) 0
-HeldBy d old new false = HeldOut d old new (Some 0) 0
+-- The latest hold has loaded or stored this count last.
+abbrev pub Counts : Known → ℕ → ℕ → Type 0
+Counts k d n = (count_in d (history_of k) ≡ Some n) × (n ≤ ALL_DONE)
 
--- the lock was taken, or another number is served; and the own entry looked at, in a wait that was in its loop
-abbrev pub LocksBy : ℕ → Known → Known → Bool → Type 0
-LocksBy d old new true = (aim : Option Aim) × (w : ℕ)
-    × (history_of new ≡ history_of old ++ step.Lock (done_head d) aim w ∷ [])
-LocksBy d old new false = history_of new ≡ history_of old
-
-abbrev pub LooksBy : Known → Known → Bool → Type 0
-LooksBy old new true = (w : ℕ) × (history_of new ≡ history_of old ++ step.Saw (own old.view.number) w ∷ [])
-LooksBy old new false = history_of new ≡ history_of old
+-- The hold has loaded this count last, and knows what of it is the task's to take.
+pub record Knows (k : Known) (d n : ℕ) : Type 0 where
+  pub counts : Counts k d n
+  pub loaded : HasLoaded d k n

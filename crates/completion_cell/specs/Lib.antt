@@ -3,6 +3,5 @@ pub mod Awaits
 pub mod Completes
 pub mod AwaitEnds
 pub mod HeldPermits
-pub mod AwaitPermits
 pub mod CellTurns
 pub mod LosesNone

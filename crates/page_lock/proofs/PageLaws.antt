@@ -332,7 +332,7 @@ module _ (r : LockPage) where
   laws_at stage.Last = tt
   laws_at stage.Clear = tt
 
-depth_most : (s : PageStage) → page_depth s ≤ 5
+depth_most : (s : PageStage) → page_depth s ≤ 6
 depth_most stage.Queue = omega arith
 depth_most stage.Try = omega arith
 depth_most stage.Off = omega arith

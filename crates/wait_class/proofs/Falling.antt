@@ -76,7 +76,7 @@ pub record IsUnderWay {C S O : Type 0} (t : CallTable C S O) (old new : Known) (
   pub way : Advances t old new r q s (turn.Again n)
   pub begun : IsBegun old new r q
   pub given : HasGivenBack old new HEADS
-  pub low : t.depth n + turns ≤ 5
+  pub low : t.depth n + turns ≤ 6
 
 -- a place at which no head is held
 pub falls_still : (h : Bool) → not h ≡ true → h ≡ false

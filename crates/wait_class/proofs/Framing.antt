@@ -11,6 +11,7 @@ use Rattle.wait_model.specs.PointFacts.{Zone, IsHome, holds}
 use Rattle.wait_model.specs.Tasks.{state_mask}
 use Rattle.wait_model.specs.Watches.{head_of}
 use Rattle.wait_rule.specs.Known.{Known}
+use Rattle.wait_rule.specs.Says.{history_of}
 use Rattle.wait_rule.specs.Queues.{index}
 use Rattle.wait_class.specs.Posts.{IsStateFor}
 use Rattle.wait_class.specs.declared.frame_stages.Framed.{Framed}
@@ -115,7 +116,7 @@ module _ {W T O : Type 0} (e : FrameTable W T O) (ends : W → Bool → Next)
     joins_state = λ first σ s. s;
     joins_home = λ first e h. h;
     joins_tells = λ first x i e did is. tt;
-    joins_trail = λ first old mid new own x u. tt;
+    joins_trail = λ first old mid new looks x u. tt;
     wears = record {
       plain = refl;
       falls = free_falls (holds (f.test_point f.worn_to)) _ (law.test_free f.worn_to);
@@ -133,7 +134,7 @@ module _ {W T O : Type 0} (e : FrameTable W T O) (ends : W → Bool → Next)
         (subst (λ (b : Bool). IsStateFor b (state_mask plan.state) σ) (sym (law.worn_stirs r.wait)) s);
     wears_home = λ p. subst (λ (z : Zone). IsHome z (f.plan_of (f.worn_at r.wait p)).watch None) (sym law.worn_zone) tt;
     wears_permits = λ old last fits looks at u. low last fits at;
-    wears_trail = λ old new p noted ends u. law.worn_trail new r.wait p noted ends;
+    wears_trail = λ old last new p looks noted ends u. law.worn_trail new r.wait p noted (history_of last, ends);
   }
 
   state_prepare : StateLaw t r stage.PrepareState
@@ -371,7 +372,7 @@ module _ {W T O : Type 0} (e : FrameTable W T O) (ends : W → Bool → Next)
   rises_at old new (stage.FinishQueue b) out still u = absurd (cc)
   rises_at old new (stage.FinishUnlock b) out still u = absurd (cc)
 
-depth_most : {T : Type 0} (s : Stage T) → depth_at s ≤ 5
+depth_most : {T : Type 0} (s : Stage T) → depth_at s ≤ 6
 depth_most (stage.Test x) = omega arith
 depth_most stage.PrepareLock = omega arith
 depth_most stage.PrepareTurn = omega arith

@@ -206,7 +206,7 @@ module _ {C S O : Type 0} (t : CallTable C S O) (law : IsLawfulTable t) where
                   (subst (IsHome (turn_post t q u).zone (turn_post t q u).watch) (sym x.queued)
                   (l.joins_home first x.entry x.home));
             };
-            trail = l.joins_trail first old mid new own x a.trail;
+            trail = l.joins_trail first old mid new (looked None own) x a.trail;
           };
         }
 
@@ -272,13 +272,14 @@ module _ {C S O : Type 0} (t : CallTable C S O) (law : IsLawfulTable t) where
                 (l.wears_state w.place mid3.book.state stands3.state)
                 (none_in (turn_post t (t.worn_at r.of w.place) v).zone p.watch
                 (turn_post t (t.worn_at r.of w.place) v).watch (l.wears_home w.place));
-            trail = l.wears_trail old new w.place
+            trail = l.wears_trail old mid3 new w.place
+                (only_on old mid2 mid3 (only_on old mid mid2 (looked None own)
+                (only_looked mid mid2 x.looks.items x.looks.same x.looks.looks x.looks.is))
+                (seen_looks mid2 mid3 u own2 h head2))
                 (subst (λ (j : ℕ). WasWorn new.view.number new.view.items j w.place)
-                (x.head ∙ (own.carries.at ∙ held_at)) (note_on mid2 mid3 new w u own2 is noted)) (
-                  history_of mid3,
-                  unlocked_history mid3 new is
-                      ∙ ap (λ (j : ℕ). history_of mid3 ++ step.Unlock j false ∷ []) at3,
-                ) a.trail;
+                (x.head ∙ (own.carries.at ∙ held_at)) (note_on mid2 mid3 new w u own2 is noted))
+                (unlocked_history mid3 new is ∙ ap (λ (j : ℕ). history_of mid3 ++ step.Unlock j false ∷ []) at3)
+                a.trail;
           };
         }
 
@@ -288,6 +289,11 @@ module _ {C S O : Type 0} (t : CallTable C S O) (law : IsLawfulTable t) where
   queue_out old mid None own b tells miss = ap (λ (n : ℕ). (told_of mid).bits.stored (index n 0)) own.carries.number
       ∙ seen_is old mid None own
   queue_out old mid (Some e) own b tells miss = absurd (cc)
+
+  pub queue_seen : (old mid : Known) (o : Option Entry) → HasSeenOwn old mid o → (b : Bool) → b ≡ is_some o → b ≡ false
+      → HasSeenOwn old mid None
+  queue_seen old mid None own b tells miss = own
+  queue_seen old mid (Some e) own b tells miss = absurd (cc)
 
   pub queue_at : (old mid : Known) (r : Run C) (s : S) → t.doing s ≡ doing.Queue → IsAt t old r s → (o : Option Entry)
       → HasSeenOwn old mid o → head_in t r.of s ≡ mid.at

@@ -15,7 +15,7 @@ use Rattle.wait_rule.specs.declared.journal.Item.TheVariants as item
 use Rattle.wait_rule.specs.Ends.{WasWorn}
 use Rattle.wait_rule.specs.Known.{Known}
 use Rattle.wait_rule.specs.Queues.{at_head, index, walk_of_hold}
-use Rattle.wait_rule.specs.Says.{added}
+use Rattle.wait_rule.specs.Says.{Excuse, added}
 use Rattle.wait_rule.specs.Shown.{shown_queue}
 use Rattle.wait_rule.specs.Transitions.{is_worn}
 use Rattle.wait_rule.specs.Stays.{only_looks, state_change, unchanged, unlock_change, with_entry}
@@ -39,40 +39,45 @@ use Rattle.wait_class.proofs.Ground.Keeping.{
   placed_owing,
 }
 use Rattle.wait_class.specs.Frames.{KeepsAll}
+use Rattle.wait_class.specs.Posts.{KeepsBut}
 use Rattle.wait_class.specs.Laws.{AddsOwn, HasJoined, IsWornFor, KeepsLaws}
 use Rattle.wait_class.specs.Queueing.{is_none, untold}
 use Rattle.wait_class.specs.Tables.{CallTable, stage_watch, watch_in}
 
-pub wait_stays : KeepsLaws KeepsAll
-wait_stays = record {
+-- excused of more meanwhile
+pub stays_but : (f : Excuse → Excuse) → KeepsLaws (λ i c g h old new. KeepsBut f i old new)
+stays_but f = record {
   domain = λ i c g h old new k. k.domain;
   number = λ i c g h old new k. k.number;
   none = λ i c g k. keeps_none i k;
   on = λ i c f g h old mid new a b. keeps_on i old mid new a b;
-  told = λ i c g old new domain number told debts. keeps_same i old new domain number told debts;
+  told = λ i c g old new domain number told debts. keeps_same {f = f} i old new domain number told debts;
   lock = λ i c g old h x.
       let e : Step = step.Lock h (walk_of_hold h None) x in
       let told = told_added old (item.Made e) in
-      keeps_told i old (at_head h (added old (item.Made e))) refl refl (ap (λ (v : Told). v.mark) told)
+      keeps_told {f = f} i old (at_head h (added old (item.Made e))) refl refl (ap (λ (v : Told). v.mark) told)
       (ap (λ (v : Told). v.duty.owes) told) (ap (λ (v : Told). v.bits.stored) told)
       (λ d. ap (λ (v : Told). v.bits.keeps d) told)
       (λ y o. placed_owing (added old (item.Made e)) (at_head h (added old (item.Made e))) refl y
       (owes_after old (added old (item.Made e)) e refl refl y o));
   unlock = λ i c g old new is.
       let carries = unlock_carried old new false is in
-      keeps_of i unlock_change old new carries (λ w. refl) (λ x away. refl) (λ x. carries.owes (with_entry i x));
+      keeps_of i unlock_change old new carries (λ w. refl) (λ x away. refl) (λ x. carries.owes (with_entry i (f x)));
   state = λ i c g old new σ is carries. keeps_of i (state_change σ) old new carries (λ w. refl) (λ x away. refl)
-      (λ x. carries.owes (with_entry i x));
+      (λ x. carries.owes (with_entry i (f x)));
   look = λ i c g old new w is carries. keeps_of i unchanged old new carries (λ w. refl) (λ x away. refl)
-      (λ x. carries.owes (with_entry i x));
+      (λ x. carries.owes (with_entry i (f x)));
   load = λ i c d g old new v is carries. keeps_of i unchanged old new carries (λ w. refl) (λ x away. refl)
-      (λ x. carries.owes (with_entry i x));
+      (λ x. carries.owes (with_entry i (f x)));
   own = λ c g old new o h. own_keeps old new o h;
   removed = λ i c g old new is carries. keeps_taken i old new carries;
   looks = λ i c g old new out l.
       let carries = looks_carried old new l in
-      keeps_of i only_looks old new carries (λ w. refl) (λ x away. refl) (λ x. carries.owes (with_entry i x));
+      keeps_of i only_looks old new carries (λ w. refl) (λ x away. refl) (λ x. carries.owes (with_entry i (f x)));
 }
+
+pub wait_stays : KeepsLaws KeepsAll
+wait_stays = stays_but (λ x. x)
 
 -- An add at the front, where the form of the call is that.
 module _ {C S O : Type 0} (t : CallTable C S O) (r : C) (s : S) (w : Watch) (k : Kind)

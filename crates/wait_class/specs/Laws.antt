@@ -32,7 +32,7 @@ use Rattle.wq_head.specs.Looks.{Looks}
 use Rattle.wq_head.specs.declared.adds.Worn.{Worn}
 use Rattle.wait_class.specs.Queueing.{is_none}
 use Rattle.wait_class.specs.Posts.{HasSeenOwn, IsStateFor, Post, zone_at}
-use Rattle.wait_class.specs.Posts.{EndsWith, own_of}
+use Rattle.wait_class.specs.Posts.{own_of}
 use Rattle.wait_class.specs.Findings.{nothing, with_entry, with_own, with_value, with_worn}
 use Rattle.wait_class.specs.Tables.{CallTable, falls, has_sleep, head_in, next_in, plan_program, post_of, took_in, stage_watch, watch_in}
 use Rattle.wait_class.specs.declared.stages.Added.TheVariants as adds
@@ -341,6 +341,7 @@ pub record MayAdd {C S O : Type 0} (t : CallTable C S O) (r : C) (s : S) (k : Kn
   pub held : IsHolding k
   pub head : head_in t r s ≡ k.at
   pub out : (told_of k).bits.stored (index k.view.number 0) ≡ None
+  pub trail : (old : Known) × HasSeenOwn old k None × t.Trail old r s
 
 abbrev pub AddsBy : {C S O : Type 0} → CallTable C S O → C → S → Known → Known → Result Bool Worn → Type 0
 AddsBy t r s old new (Ok first) = HasJoined t r s old new first
@@ -395,7 +396,7 @@ pub record QueueLaw {C S O : Type 0} (t : CallTable C S O) (r : C) (s : S) : Typ
       (turn_post t (t.joined_at r s first) (t.added_to r s adds.Joined)).watch (Some e)
   pub joins_tells : (first : Bool) (x : Transition) (i : ℕ) (e : Entry) → x.did ≡ by_step (step.Queue i e)
       → first ≡ (t.asks_first r && is_none (shown_queue x.knew)) → t.Tells r (t.joined_at r s first) (x ∷ [])
-  pub joins_trail : (first : Bool) (old mid new : Known) → HasSeenOwn old mid None → HasJoined t r s mid new first
+  pub joins_trail : (first : Bool) (old mid new : Known) → OnlyLooks old mid → HasJoined t r s mid new first
       → t.Trail old r s → TurnTrail t new (t.joined_at r s first) (t.added_to r s adds.Joined)
   pub wears : Moves t r s (with_worn true) (Unit {0}) (λ me k x. step.Unlock k.at false)
       (λ me k x. IsWornOut (head_in t r s) ((t.plan_of r).form) me k) (t.added_to r s adds.Worn)
@@ -407,8 +408,9 @@ pub record QueueLaw {C S O : Type 0} (t : CallTable C S O) (r : C) (s : S) : Typ
       (turn_post t (t.worn_at r p) (t.added_to r s adds.Worn)).watch None
   pub wears_permits : (old last : Known) → t.Fits r → OnlyLooks old last → last.at ≡ head_in t r s → t.Trail old r s
       → OwesNoPermit last
-  pub wears_trail : (old new : Known) (p : ℕ) → WasWorn new.view.number new.view.items (head_in t r s) p
-      → EndsWith new (step.Unlock (head_in t r s) false ∷ []) → t.Trail old r s
+  pub wears_trail : (old last new : Known) (p : ℕ) → OnlyLooks old last
+      → WasWorn new.view.number new.view.items (head_in t r s) p
+      → history_of new ≡ history_of last ++ step.Unlock (head_in t r s) false ∷ [] → t.Trail old r s
       → TurnTrail t new (t.worn_at r p) (t.added_to r s adds.Worn)
 
 abbrev pub LawOf : {C S O : Type 0} → Doing → CallTable C S O → C → S → Type 0
@@ -466,4 +468,4 @@ pub record IsLawfulTable {C S O : Type 0} (t : CallTable C S O) : Type 0 where
   pub worn_fits : (r : C) (p : ℕ) → t.Fits r → t.Fits (t.worn_at r p)
   pub there : (r : C) (s : S) → t.Fits r → IsThere (stage_watch t r s)
   pub few : (r : C) (s : S) → t.Fits r → head_in t r s < HEADS
-  pub depth : (s : S) → t.depth s ≤ 5
+  pub depth : (s : S) → t.depth s ≤ 6

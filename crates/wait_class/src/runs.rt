@@ -20,8 +20,8 @@ use wait_rule::tasks::{awake, set_state};
 use wait_rule::{Domain, Task, wait_up};
 use wq_head::locks;
 
-/// More turns than a stretch has: at most five events are left before its first turn, and fewer after each.
-const STRETCH: u8 = 6;
+/// More turns than a stretch has: at most six events are left before its first turn, and fewer after each.
+const STRETCH: u8 = 7;
 
 /// Goes on with a wait from a stage up to the next one at which no head is held, for who may not wait: an executor, or
 /// a caller from another language. Again: it has made an event, or a try to sleep failed and is counted, and it goes on

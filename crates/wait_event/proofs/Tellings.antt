@@ -23,7 +23,7 @@ queues_more [] us = refl
 queues_more (t ∷ ts) us = or_assoc (is_queue t.did) (queues ts) (queues us)
     ∙ ap (λ (c : Bool). is_queue t.did || c) (queues_more ts us)
 
-queues_append : (b : Bool) (ts us : List Transition) → ((b || queues ts) || queues us) ≡ (b || queues (ts ++ us))
+pub queues_append : (b : Bool) (ts us : List Transition) → ((b || queues ts) || queues us) ≡ (b || queues (ts ++ us))
 queues_append b ts us = or_assoc b (queues ts) (queues us) ∙ ap (λ (c : Bool). b || c) (queues_more ts us)
 
 -- and the same of one that is queued as the first
@@ -53,7 +53,7 @@ loaded_append o (t ∷ ts) us = loaded_append (loaded_by t.did o) ts us
 tells_same : (r q : WaitCall) → SameCall r q → tells_first q ≡ tells_first r
 tells_same r q same i = (same.how i).exclusive && not (same.asks i)
 
-quiet_queues : (d : StepOrLook) → is_quiet d ≡ true → is_queue d ≡ false
+pub quiet_queues : (d : StepOrLook) → is_quiet d ≡ true → is_queue d ≡ false
 quiet_queues (by_step (step.Load w v)) quiet = absurd (cc)
 quiet_queues (by_step (step.Queue x e)) quiet = absurd (cc)
 quiet_queues (by_step _) quiet = refl

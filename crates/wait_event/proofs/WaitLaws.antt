@@ -270,7 +270,7 @@ module _ (r : WaitCall) where
     joins_state = λ first σ s. s;
     joins_home = λ first e h. h;
     joins_tells = joined_told r;
-    joins_trail = λ first old mid new own x u. ap (λ (n : ℕ). is_some ((told_of new).bits.stored (index n 0)))
+    joins_trail = λ first old mid new looks x u. ap (λ (n : ℕ). is_some ((told_of new).bits.stored (index n 0)))
         (ap (λ (k : Known). k.view.number) x.is ∙ ap (λ (k : Known). k.view.number) x.looks.is)
         ∙ ap is_some x.queued;
     wears = record {
@@ -285,7 +285,7 @@ module _ (r : WaitCall) where
     wears_state = λ p σ s. s;
     wears_home = λ p. tt;
     wears_permits = λ old last runs looks at u. low last runs at;
-    wears_trail = λ old new p noted ends u. record { noted = noted; ends = ends };
+    wears_trail = λ old last new p looks noted ends u. record { noted = noted; ends = (history_of last, ends) };
   }
 
   state_prepare : StateLaw wait_table r stage.PrepareState
@@ -550,7 +550,7 @@ module _ (r : WaitCall) where
   laws_at stage.FinishQueue = pare_finish
   laws_at stage.FinishUnlock = unlock_finish
 
-depth_most : (s : WaitStage) → depth s ≤ 5
+depth_most : (s : WaitStage) → depth s ≤ 6
 depth_most stage.PrepareLook = omega arith
 depth_most stage.PrepareQueue = omega arith
 depth_most stage.PrepareState = omega arith

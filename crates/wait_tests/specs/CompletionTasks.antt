@@ -5,15 +5,17 @@ use Rattle.wait_rule.specs.Known.{Known}
 use Rattle.wait_rule.specs.Queues.{IsIdle}
 use Rattle.wait_rule.specs.Says.{IsFree, IsUp}
 use Rattle.wait_class.specs.Posts.{IsOut}
-use Rattle.completion_cell.specs.AwaitPermits.{LandsOff}
-use Rattle.completion_cell.specs.Awaits.{Lands}
-use Rattle.completion_cell.specs.declared.awaits.AwaitRun.{AwaitRun}
-use Rattle.completion_cell.specs.declared.awaits.AwaitTurn.{AwaitTurn}
+use Rattle.wait_class.specs.Tables.{Lands}
+use Rattle.wait_class.specs.declared.stages.Run.{Run}
+use Rattle.wait_class.specs.declared.stages.Turn.{Turn}
+use Rattle.completion_cell.specs.Awaits.{await_table}
+use Rattle.completion_cell.specs.declared.awaits.AwaitCall.{AwaitCall}
+use Rattle.completion_cell.specs.declared.awaits.AwaitOutcome.{AwaitOutcome}
+use Rattle.completion_cell.specs.declared.awaits.AwaitStage.{AwaitStage}
 
 -- a wait stands where its last turn left it
-pub record IsAwaiting (k : Known) (r : AwaitRun) (last : AwaitTurn) : Type 0 where
-  pub lands : Lands k r last
-  pub off : LandsOff r.cell last k
+pub record IsAwaiting (k : Known) (r : Run AwaitCall) (last : Turn AwaitStage AwaitOutcome) : Type 0 where
+  pub lands : Lands await_table k r last
 
 -- one who completes, between two calls
 pub record MayComplete (k : Known) : Type 0 where

@@ -1,10 +1,11 @@
 -- A wait that begins: it is under way at its first stage, and nothing of its task has changed.
 use Rattle.std.proofs.Common.{refl}
-use Rattle.std.specs.Prelude.{ℕ, true}
+use Rattle.std.specs.Prelude.{ℕ, ◌≡◌, None, true}
 use Rattle.wait_model.specs.declared.tasks.How.{How}
 use Rattle.wait_model.specs.declared.tasks.SleepState.{SleepState}
 use Rattle.wait_model.specs.declared.watches.Watch.{Watch}
 use Rattle.wait_rule.specs.Known.{Known}
+use Rattle.wait_rule.specs.Says.{told_of}
 use Rattle.wait_event.specs.Waits as events
 use Rattle.wait_event.specs.declared.waits.WaitStage.TheVariants as event_stage
 use Rattle.wait_event.proofs.WaitLaws.{wait_lawful}
@@ -16,11 +17,14 @@ use Rattle.bit_wait.specs.BitTables as bits
 use Rattle.bit_wait.proofs.BitLaws.{bit_lawful}
 use Rattle.bit_wait.specs.LockTables as locks
 use Rattle.bit_wait.proofs.LockLaws.{lock_lawful}
+use Rattle.completion_cell.specs.Awaits as awaits
+use Rattle.completion_cell.specs.declared.awaits.AwaitStage.TheVariants as await_stage
+use Rattle.completion_cell.proofs.AwaitLaws.{await_lawful}
 use Rattle.page_lock.specs.PageTables as pages
 use Rattle.page_lock.specs.declared.waits.PageStage.TheVariants as page_stage
 use Rattle.page_lock.proofs.PageLaws.{page_lawful}
-use Rattle.wq_checked.specs.Stages.{BitRun, LockRun, PageRun, WaitRun, bit_first, lock_first}
-use Rattle.wq_checked.specs.Calls.{BeginsBit, BeginsEvent, BeginsLock, BeginsPage, IsUnderWay}
+use Rattle.wq_checked.specs.Stages.{AwaitRun, BitRun, LockRun, PageRun, WaitRun, bit_first, lock_first}
+use Rattle.wq_checked.specs.Calls.{AwaitCame, BeginsAwait, BeginsBit, BeginsEvent, BeginsLock, BeginsPage, IsUnderWay}
 use Rattle.wq_checked.specs.Kept.{IsReady}
 use Rattle.wq_checked.specs.declared.calls.Running.TheVariants as running
 use Rattle.wq_checked.specs.declared.kept_bits.KeptBits.{KeptBits}
@@ -103,5 +107,25 @@ module _ (k : Known) (r : PageRun) (at : IsAt pages.page_table k r page_stage.Fi
     first = running.Page r (turn.Again page_stage.First);
     began = ready;
     came = advances_none pages.page_table page_lawful k r page_stage.First at;
+    stands = at;
+  }
+
+module _ (k : Known) (r : AwaitRun) (at : IsAt awaits.await_table k r await_stage.First) where
+  await_came : (told_of k).hold.head ≡ None → AwaitCame k k r r (turn.Again await_stage.First)
+  await_came held = record {
+    went = advances_none awaits.await_table await_lawful k r await_stage.First at;
+    held = held;
+  }
+
+  pub await_begins : (d : ℕ) (st : SleepState) → awaits.IsFresh r.of d st → (told_of k).hold.head ≡ None
+      → BeginsAwait k k d st (running.Await r (turn.Again await_stage.First))
+  await_begins d st fresh held = record { run = r; fresh = fresh; is = refl; same = refl; came = await_came held }
+
+  pub await_under : (ks : KeptBits) → IsReady ks k → IsUnderWay ks k (running.Await r (turn.Again await_stage.First))
+  await_under ks ready = record {
+    start = k;
+    first = running.Await r (turn.Again await_stage.First);
+    began = ready;
+    came = await_came ready.told;
     stands = at;
   }

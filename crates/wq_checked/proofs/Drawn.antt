@@ -21,12 +21,8 @@ use Rattle.bit_wait.proofs.LockLaws.{lock_lawful}
 use Rattle.page_lock.specs.PageTables as pages
 use Rattle.page_lock.proofs.PageLaws.{page_lawful}
 use Rattle.completion_cell.specs.Awaits as awaits
+use Rattle.completion_cell.proofs.AwaitLaws.{await_lawful}
 use Rattle.completion_cell.specs.CellTurns as cells
-use Rattle.completion_cell.specs.declared.awaits.AwaitRun.{AwaitRun}
-use Rattle.completion_cell.specs.declared.awaits.AwaitStage.{AwaitStage}
-use Rattle.completion_cell.specs.declared.awaits.AwaitStage.TheVariants as await_stage
-use Rattle.completion_cell.specs.declared.awaits.AwaitTurn.{AwaitTurn}
-use Rattle.completion_cell.specs.declared.awaits.AwaitTurn.TheVariants as await_turn
 use Rattle.completion_cell.specs.declared.cell_turns.CellRun.{CellRun}
 use Rattle.completion_cell.specs.declared.cell_turns.CellStage.{CellStage}
 use Rattle.completion_cell.specs.declared.cell_turns.CellStage.TheVariants as cell_stage
@@ -40,7 +36,7 @@ use Rattle.wq_head.specs.declared.wakes.WakeRun.{WakeRun}
 use Rattle.wq_head.specs.declared.wakes.WakeStage.{WakeStage}
 use Rattle.wq_head.specs.declared.wakes.WakeStage.TheVariants as wake_stage
 use Rattle.wq_checked.specs.Calls.{CameFrom, Fits, IsSound, WentOn}
-use Rattle.wq_checked.specs.Calls.{await_told, turn_told}
+use Rattle.wq_checked.specs.Calls.{turn_told}
 use Rattle.wq_checked.specs.Locks.{IsDrawn, awaited_in, lock_at, lock_with, refused_with, turn_ticket, wake_ticket}
 use Rattle.wq_checked.specs.Reasons.{stopped_reason}
 use Rattle.wq_checked.specs.declared.kept_bits.KeptBits.{KeptBits}
@@ -86,14 +82,6 @@ module _ {C S O : Type 0} (t : CallTable C S O) (law : IsLawfulTable t) (k : Kno
   ground_out : IsOut k (lock_at t r s)
   ground_out = out_by (t.doing s) (law.at r.of s)
 
-await_out : (k : Known) (r : AwaitRun) (s : AwaitStage) → awaits.IsAt k r s
-    → IsOut k (lock_with (awaits.await_watch r) r.served (awaits.ticket_at s r.ticket))
-await_out k r await_stage.FirstTurn at = at.stands.ticket
-await_out k r await_stage.AgainTurn at = at.stands.ticket
-await_out k r await_stage.First at = tt
-await_out k r await_stage.Sleep at = tt
-await_out k r await_stage.Again at = tt
-
 -- who drew a ticket and waits for it has it out
 waited_out : (base now : Known) → HasWaited base now → now.book.ticket ≡ base.book.ticket
 waited_out base now w = ap (λ (k : Known). k.book.ticket) w.is
@@ -126,13 +114,6 @@ ground_drawn t law start k f r first now here (turn.Locked s) p a is = told_by k
 ground_drawn t law start k f r first now here (turn.Again s) p a is = told_by k p _ is tt
 ground_drawn t law start k f r first now here (turn.Asleep s) p a is = told_by k p _ is tt
 ground_drawn t law start k f r first now here (turn.Done o) p a is = told_by k p _ is tt
-
-await_drawn : (start k : Known) (f r : AwaitRun) (t : AwaitTurn) (p : Progress)
-    → awaits.Advances start k f r await_stage.First t → p ≡ await_told r t → IsDrawn k p
-await_drawn start k f r (await_turn.Locked s) p a is = told_by k p _ is (refused_drawn k _ (await_out k r s a.lands))
-await_drawn start k f r (await_turn.Again s) p a is = told_by k p _ is tt
-await_drawn start k f r (await_turn.Asleep s) p a is = told_by k p _ is tt
-await_drawn start k f r (await_turn.Done o) p a is = told_by k p _ is tt
 
 swake_drawn : (start k : Known) (r : SwakeRun) (s : SwakeStage) (p : Progress) → swakes.IsAt start k r s
     → Fits (running.Swake r s) p → IsDrawn k p
@@ -172,7 +153,8 @@ came_drawn start (running.Lock f from) k (running.Lock r t) p came fits = ground
     (running.Lock r) (λ s. refl) t p came fits
 came_drawn start (running.Page f from) k (running.Page r t) p came fits = ground_drawn pages.page_table page_lawful start k f r _
     (running.Page r) (λ s. refl) t p came fits
-came_drawn start (running.Await f from) k (running.Await r t) p came fits = await_drawn start k f r t p came.went fits
+came_drawn start (running.Await f from) k (running.Await r t) p came fits = ground_drawn awaits.await_table await_lawful start k f r _
+    (running.Await r) (λ s. refl) t p came.went fits
 came_drawn start (running.Wake f from) k (running.Wake r s) p came fits = wake_drawn start k r s p came.0 fits
 came_drawn start (running.Swake f from) k (running.Swake r s) p came fits = swake_drawn start k r s p came.at fits
 came_drawn start (running.Cell f from) k (running.Cell r s) p came fits = cell_drawn start k r s p came.at fits

@@ -1,4 +1,4 @@
--- Waits for completions, and calls of one hold, that begin.
+-- Calls of one hold that begin.
 use Rattle.std.proofs.Common.{◌∙◌, sym, refl, subst}
 use Rattle.std.specs.Prelude.{ℕ, ◌≡◌, ◌<◌, Bool}
 use Rattle.wait_model.specs.declared.layout.TheConstants.{COMPLETIONS}
@@ -16,19 +16,11 @@ use Rattle.swait_queue.specs.SimpleWaits.{IsSimpleCond}
 use Rattle.swait_queue.specs.SwakeTurns as swakes
 use Rattle.swait_queue.specs.declared.swake_turns.SwakeRun.{SwakeRun}
 use Rattle.swait_queue.specs.declared.swake_turns.SwakeStage.TheVariants as swake_stage
-use Rattle.completion_cell.specs.Awaits as awaits
 use Rattle.completion_cell.specs.CellTurns as cells
-use Rattle.completion_cell.specs.declared.awaits.AwaitRun.{AwaitRun}
-use Rattle.completion_cell.specs.declared.awaits.AwaitStage.TheVariants as await_stage
-use Rattle.completion_cell.specs.declared.awaits.AwaitTurn.TheVariants as await_turn
 use Rattle.completion_cell.specs.declared.cell_turns.CellCall.{CellCall}
 use Rattle.completion_cell.specs.declared.cell_turns.CellRun.{CellRun}
 use Rattle.completion_cell.specs.declared.cell_turns.CellStage.TheVariants as cell_stage
-use Rattle.completion_cell.proofs.Sleeps.{stays_at}
-use Rattle.completion_cell.proofs.WaitTurns.{still_again}
 use Rattle.wq_checked.specs.Calls.{
-  AwaitCame,
-  BeginsAwait,
   BeginsCell,
   BeginsSwake,
   CellCame,
@@ -43,27 +35,6 @@ use Rattle.wq_checked.specs.declared.kept_bits.KeptBits.{KeptBits}
 use Rattle.wq_checked.proofs.Elsewhere.{step_off}
 use Rattle.wq_checked.proofs.Publishing.{set_keeps, set_owes}
 use Rattle.wq_checked.proofs.WakeTurns.{owes_wider}
-
-module _ (k : Known) (r : AwaitRun) (at : awaits.IsAt k r await_stage.First) where
-  await_came : AwaitCame k k r r (await_turn.Again await_stage.First)
-  await_came = record {
-    went = stays_at k r await_stage.First at;
-    off = still_again r.cell k k refl refl await_stage.First;
-  }
-
-  pub await_begins : (d : ℕ) (st : SleepState) → awaits.IsFresh r d st
-      → BeginsAwait k k d st (running.Await r (await_turn.Again await_stage.First))
-  await_begins d st fresh = record { run = r; fresh = fresh; is = refl; same = refl; came = await_came }
-
-  pub await_under : (ks : KeptBits) → IsReady ks k
-      → IsUnderWay ks k (running.Await r (await_turn.Again await_stage.First))
-  await_under ks ready = record {
-    start = k;
-    first = running.Await r (await_turn.Again await_stage.First);
-    began = ready;
-    came = await_came;
-    stands = at;
-  }
 
 -- a call about a completion
 module _ (ks : KeptBits) (k : Known) (ready : IsReady ks k) (r : CellRun) (call : CellCall) (d : ℕ)

@@ -10,9 +10,7 @@ use Rattle.bit_wait.specs.declared.lock_runs.LockOutcome.TheVariants as lock_out
 use Rattle.page_lock.specs.declared.waits.PageOutcome.{PageOutcome}
 use Rattle.page_lock.specs.declared.waits.PageOutcome.TheVariants as page_outcome
 use Rattle.completion_cell.specs.AwaitEnds as await_ends
-use Rattle.completion_cell.specs.declared.awaits.AwaitRun.{AwaitRun}
-use Rattle.completion_cell.specs.declared.awaits.AwaitTurn.{AwaitTurn}
-use Rattle.completion_cell.specs.declared.awaits.AwaitTurn.TheVariants as await_turn
+use Rattle.completion_cell.specs.Awaits.{AwaitTurn}
 use Rattle.completion_cell.specs.declared.cell_turns.CellRun.{CellRun}
 use Rattle.completion_cell.specs.declared.cell_turns.CellStage.TheVariants as cell_stage
 use Rattle.completion_cell.specs.declared.cell_turns.CellTurn.{CellTurn}
@@ -25,9 +23,9 @@ use Rattle.wq_head.specs.declared.wakes.WakeRun.{WakeRun}
 use Rattle.wq_head.specs.declared.wakes.WakeStage.TheVariants as wake_stage
 use Rattle.wq_head.specs.declared.wakes.WakeTurn.{WakeTurn}
 use Rattle.wq_head.specs.declared.wakes.WakeTurn.TheVariants as wake_turn
-use Rattle.wq_checked.specs.Calls.{await_told, event_answer, is_worn, turn_told}
+use Rattle.wq_checked.specs.Calls.{event_answer, is_worn, turn_told}
 use Rattle.wq_checked.specs.Locks.{refusal_told}
-use Rattle.wq_checked.specs.Stages.{BitRun, BitTurn, LockRun, LockTurn, PageRun, PageTurn, WaitRun, WaitTurn}
+use Rattle.wq_checked.specs.Stages.{AwaitRun, BitRun, BitTurn, LockRun, LockTurn, PageRun, PageTurn, WaitRun, WaitTurn}
 use Rattle.wq_checked.specs.declared.calls.Answer.TheVariants as answer
 use Rattle.wq_checked.specs.declared.calls.Progress.{Progress}
 use Rattle.wq_checked.specs.declared.calls.Progress.TheVariants as progress
@@ -79,12 +77,12 @@ wake_shown r (wake_turn.Done w) = progress.Done (answer.Walked w)
 wake_shown r (wake_turn.Starved n) = progress.Starved
 
 abbrev pub await_left : AwaitRun → AwaitTurn → Running
-await_left r (await_turn.Done o) = running.Idle
+await_left r (turn.Done o) = running.Idle
 await_left r t = running.Await r t
 
 abbrev pub await_shown : AwaitRun → AwaitTurn → Progress
-await_shown r (await_turn.Done o) = progress.Done (answer.Waited (await_ends.end_in r o))
-await_shown r t = await_told r t
+await_shown r (turn.Done o) = progress.Done (answer.Waited (await_ends.end_in r.of o))
+await_shown r t = turn_told (running.Await r t) t
 
 abbrev pub swake_left : SwakeRun → SwakeTurn → Running
 swake_left r swake_turn.Locked = running.Swake r swake_stage.Turn

@@ -8,6 +8,7 @@ use Rattle.wait_model.specs.declared.watches.Aim.{Aim}
 use Rattle.wait_model.specs.declared.watches.Watch.{Watch}
 use Rattle.wait_model.specs.declared.watches.Watch.TheVariants as watch
 use Rattle.wait_model.specs.Watches as model
+use Rattle.wait_rule.specs.HandedPermits.{StaysOff}
 use Rattle.wait_rule.specs.LeftEntries.{HasLeftNone}
 use Rattle.wait_rule.specs.Known.{Known}
 use Rattle.wait_rule.specs.declared.journal.Item.TheVariants as item
@@ -36,14 +37,11 @@ use Rattle.page_lock.specs.PageEnds as page_ends
 use Rattle.page_lock.specs.declared.waits.PageStage.TheVariants as page_stage
 use Rattle.page_lock.specs.declared.waits.PageOutcome.{PageOutcome}
 use Rattle.completion_cell.specs.Awaits as awaits
+use Rattle.completion_cell.specs.Awaits.{AwaitTurn}
 use Rattle.completion_cell.specs.AwaitEnds as await_ends
-use Rattle.completion_cell.specs.AwaitPermits.{LeavesOff}
 use Rattle.completion_cell.specs.CellTurns as cells
-use Rattle.completion_cell.specs.declared.awaits.AwaitRun.{AwaitRun}
 use Rattle.completion_cell.specs.declared.awaits.AwaitStage.TheVariants as await_stage
 use Rattle.completion_cell.specs.declared.awaits.AwaitOutcome.{AwaitOutcome}
-use Rattle.completion_cell.specs.declared.awaits.AwaitTurn.{AwaitTurn}
-use Rattle.completion_cell.specs.declared.awaits.AwaitTurn.TheVariants as await_turn
 use Rattle.completion_cell.specs.declared.cell_turns.CellCall.{CellCall}
 use Rattle.completion_cell.specs.declared.cell_turns.CellRun.{CellRun}
 use Rattle.completion_cell.specs.declared.cell_turns.CellStage.{CellStage}
@@ -62,7 +60,7 @@ use Rattle.wq_head.specs.declared.wakes.WakeStage.TheVariants as wake_stage
 use Rattle.wq_checked.specs.Kept.{IsReady, but_kept, keeps_in}
 use Rattle.wq_checked.specs.Locks.{awaited_in, refusal_told}
 use Rattle.wq_checked.specs.Stages.{
-  AwaitStands,
+  AwaitRun,
   BitRun,
   LockRun,
   PageRun,
@@ -79,10 +77,10 @@ use Rattle.wq_checked.specs.declared.calls.Running.{Running}
 use Rattle.wq_checked.specs.declared.calls.Running.TheVariants as running
 use Rattle.wq_checked.specs.declared.kept_bits.KeptBits.{KeptBits}
 
--- A wait for a completion has come to here, and has left its own entry so.
+-- A wait for a completion has come to here, and began with no head held.
 pub record AwaitCame (start k : Known) (first run : AwaitRun) (last : AwaitTurn) : Type 0 where
-  pub went : awaits.Advances start k first run await_stage.First last
-  pub off : LeavesOff first.cell start k await_stage.First last
+  pub went : Advances awaits.await_table start k first run await_stage.First last
+  pub held : (told_of start).hold.head ≡ None
 
 -- the same call about a completion, and the same wake of a simple queue
 pub record CellCame (start k : Known) (first run : CellRun) (s : CellStage) : Type 0 where
@@ -158,9 +156,9 @@ pub record PageEnded (start new : Known) (first : PageRun) (a : Answer) : Type 0
 pub record AwaitEnded (start new : Known) (first : AwaitRun) (a : Answer) : Type 0 where
   pub run : AwaitRun
   pub outcome : AwaitOutcome
-  pub went : awaits.Advances start new first run await_stage.First (await_turn.Done outcome)
-  pub off : LeavesOff first.cell start new await_stage.First (await_turn.Done outcome)
-  pub answers : a ≡ answer.Waited (await_ends.end_in run outcome)
+  pub went : Advances awaits.await_table start new first run await_stage.First (turn.Done outcome)
+  pub off : StaysOff start new
+  pub answers : a ≡ answer.Waited (await_ends.end_in run.of outcome)
 
 abbrev pub Ended : Known → Running → Known → Answer → Type 0
 Ended start (running.Event first from) new a = EventEnded start new first a
@@ -179,11 +177,6 @@ turn_told r (turn.Locked s) = refusal_told r
 turn_told r (turn.Asleep s) = progress.Park
 turn_told r _ = progress.Again
 
-abbrev pub await_told : AwaitRun → AwaitTurn → Progress
-await_told r (await_turn.Locked s) = refusal_told (running.Await r (await_turn.Locked s))
-await_told r (await_turn.Asleep s) = progress.Park
-await_told r _ = progress.Again
-
 -- What it tells fits where the call stands: a wake waits for its lock where a ticket is drawn, and goes on at once
 -- behind a break; a call of one hold waits for its lock. Where it waits for a lock it tells which.
 abbrev pub Fits : Running → Progress → Type 0
@@ -191,7 +184,7 @@ Fits (running.Event run last) p = p ≡ turn_told (running.Event run last) last
 Fits (running.Bit run last) p = p ≡ turn_told (running.Bit run last) last
 Fits (running.Lock run last) p = p ≡ turn_told (running.Lock run last) last
 Fits (running.Page run last) p = p ≡ turn_told (running.Page run last) last
-Fits (running.Await run last) p = p ≡ await_told run last
+Fits (running.Await run last) p = p ≡ turn_told (running.Await run last) last
 Fits (running.Wake run last) progress.Again = Unit {0}
 Fits (running.Wake run last) (progress.Locked a) = awaited_in (running.Wake run last) ≡ Some a
 Fits (running.Swake run last) (progress.Locked a) = awaited_in (running.Swake run last) ≡ Some a
@@ -241,7 +234,7 @@ StandsOn k (running.Event run last) = StandsBy events.wait_table k run last
 StandsOn k (running.Bit run last) = StandsBy bits.bit_table k run last
 StandsOn k (running.Lock run last) = StandsBy locks.lock_table k run last
 StandsOn k (running.Page run last) = StandsBy pages.page_table k run last
-StandsOn k (running.Await run last) = AwaitStands k run last
+StandsOn k (running.Await run last) = StandsBy awaits.await_table k run last
 StandsOn k (running.Wake run last) = Unit {0}
 StandsOn k (running.Swake run last) = Unit {0}
 StandsOn k (running.Cell run last) = Unit {0}
@@ -292,8 +285,8 @@ pub record BeginsPage (old new : Known) (p : ℕ) (st : SleepState) (now : Runni
 
 pub record BeginsAwait (old new : Known) (d : ℕ) (st : SleepState) (now : Running) : Type 0 where
   pub run : AwaitRun
-  pub fresh : awaits.IsFresh run d st
-  pub is : now ≡ running.Await run (await_turn.Again await_stage.First)
+  pub fresh : awaits.IsFresh run.of d st
+  pub is : now ≡ running.Await run (turn.Again await_stage.First)
   pub same : new ≡ old
   pub came : CameFrom old now new now
 

@@ -16,7 +16,6 @@ use Rattle.bit_wait.specs.BitTables as bits
 use Rattle.bit_wait.specs.LockTables as takes
 use Rattle.page_lock.specs.PageTables as pages
 use Rattle.completion_cell.specs.Awaits as awaits
-use Rattle.completion_cell.specs.declared.awaits.AwaitTurn.TheVariants as await_turn
 use Rattle.completion_cell.specs.declared.cell_turns.CellStage.TheVariants as cell_stage
 use Rattle.swait_queue.specs.declared.swake_turns.SwakeStage.TheVariants as swake_stage
 use Rattle.wq_head.specs.declared.wakes.WakeStage.{WakeStage}
@@ -53,8 +52,7 @@ awaited_in (running.Event r (turn.Locked s)) = lock_at events.wait_table r s
 awaited_in (running.Bit r (turn.Locked s)) = lock_at bits.bit_table r s
 awaited_in (running.Lock r (turn.Locked s)) = lock_at takes.lock_table r s
 awaited_in (running.Page r (turn.Locked s)) = lock_at pages.page_table r s
-awaited_in (running.Await r (await_turn.Locked s)) =
-    lock_with (watch.Done r.cell) r.served (awaits.ticket_at s r.ticket)
+awaited_in (running.Await r (turn.Locked s)) = lock_at awaits.await_table r s
 awaited_in (running.Wake r s) = lock_with r.aim.watch r.served (wake_ticket s r.ticket)
 awaited_in (running.Swake r swake_stage.Turn) = lock_with (watch.Plain r.cond) r.served (Some r.ticket)
 awaited_in (running.Cell r cell_stage.Turn) = lock_with (watch.Done r.cell) r.served (Some r.ticket)

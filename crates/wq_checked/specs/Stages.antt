@@ -4,12 +4,7 @@ use Rattle.wait_rule.specs.Known.{Known}
 use Rattle.wait_event.specs.declared.waits.WaitCall.{WaitCall}
 use Rattle.wait_event.specs.declared.waits.WaitOutcome.{WaitOutcome}
 use Rattle.wait_event.specs.declared.waits.WaitStage.{WaitStage}
-use Rattle.completion_cell.specs.declared.awaits.AwaitRun.{AwaitRun}
-use Rattle.completion_cell.specs.declared.awaits.AwaitStage.{AwaitStage}
-use Rattle.completion_cell.specs.declared.awaits.AwaitStage.TheVariants as await_stage
-use Rattle.completion_cell.specs.declared.awaits.AwaitTurn.{AwaitTurn}
-use Rattle.completion_cell.specs.declared.awaits.AwaitTurn.TheVariants as await_turn
-use Rattle.completion_cell.specs.Awaits as awaits
+use Rattle.completion_cell.specs.declared.awaits.AwaitCall.{AwaitCall}
 use Rattle.wait_class.specs.declared.frame_stages.Framed.{Framed}
 use Rattle.wait_class.specs.declared.frame_stages.Stage.{Stage}
 use Rattle.wait_class.specs.declared.frame_stages.Stage.TheVariants as frame_stage
@@ -60,6 +55,9 @@ PageRun = Run LockPage
 abbrev pub PageTurn : Type 0
 PageTurn = Turn PageStage PageOutcome
 
+abbrev pub AwaitRun : Type 0
+AwaitRun = Run AwaitCall
+
 -- a wait of the ground, by what its last stretch did; and one stretch more
 abbrev pub StandsBy : {C S O : Type 0} → CallTable C S O → Known → Run C → Turn S O → Type 0
 StandsBy t k r (turn.Again s) = IsAt t k r s
@@ -72,16 +70,3 @@ GoesFrom t old new r q (turn.Again s) u = Advances t old new r q s u
 GoesFrom t old new r q (turn.Asleep s) u = Advances t old new r q s u
 GoesFrom t old new r q (turn.Locked s) u = Advances t old new r q s u
 GoesFrom t old new r q (turn.Done o) u = ⊥
-
--- a wait for a completion, by what its last stretch did
-abbrev pub AwaitStands : Known → AwaitRun → AwaitTurn → Type 0
-AwaitStands k r (await_turn.Again s) = awaits.IsAt k r s
-AwaitStands k r (await_turn.Asleep s) = awaits.IsAsleepAt k r s
-AwaitStands k r (await_turn.Locked s) = awaits.IsAt k r s
-AwaitStands k r (await_turn.Done o) = ⊥
-
-abbrev pub await_at : AwaitTurn → AwaitStage
-await_at (await_turn.Again s) = s
-await_at (await_turn.Asleep s) = s
-await_at (await_turn.Locked s) = s
-await_at (await_turn.Done o) = await_stage.First

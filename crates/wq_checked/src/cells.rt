@@ -19,7 +19,7 @@ use crate::locks::refused;
 use crate::reasons::Refused;
 use crate::tasks::{CheckedTask, refusal_of};
 use completion_cell::await_calls::begin_await;
-use completion_cell::awaits::{AwaitStage, AwaitTurn};
+use completion_cell::awaits::AwaitStage;
 use completion_cell::cell_turns::{CellCall, CellRun, CellStage, CellTurn, cell_stretch};
 use wait_model::layout::COMPLETIONS;
 use wait_model::tasks::SleepState;
@@ -81,7 +81,7 @@ impl CheckedTask {
             Some(reason) => Err(reason),
             None => {
                 let run = begin_await(&self.task, cell, state);
-                self.running = Running::Await(run, AwaitTurn::Again(AwaitStage::First));
+                self.running = Running::Await(run, Turn::Again(AwaitStage::First));
                 Ok(())
             }
         }

@@ -1,11 +1,9 @@
 //! The lock of a head that a call waits for, and the one that it gave back.
 
 ghost use Rattle.std.specs.Prelude.{◌≡◌};
-ghost use Rattle.completion_cell.specs.Awaits as awaits;
 ghost use Rattle.wq_checked.specs.Locks.{Passes, awaited_in, lock_at, lock_with, refusal_told, turn_ticket, wake_ticket};
 
 use crate::calls::{Awaited, Progress, Running};
-use completion_cell::awaits::{AwaitStage, AwaitTurn};
 use completion_cell::cell_turns::CellStage;
 use swait_queue::swake_turns::SwakeStage;
 use wait_class::machines::Machine;
@@ -46,16 +44,6 @@ fn lock_at<C: Machine>(run: Run<C>, stage: C::Stage) -> Option<Awaited>
     lock_with(run.of.watch(stage), run.served, ticket)
 }
 
-fn await_ticket(stage: AwaitStage, ticket: u64) -> Option<u64>
-    ensures { result ≡ awaits.ticket_at stage ticket }
-{
-    match stage {
-        AwaitStage::FirstTurn => Some(ticket),
-        AwaitStage::AgainTurn => Some(ticket),
-        _ => None,
-    }
-}
-
 fn wake_ticket(stage: WakeStage, ticket: u64) -> Option<u64>
     ensures { result ≡ wake_ticket stage ticket }
 {
@@ -75,10 +63,7 @@ pub(crate) fn awaited(running: Running) -> Option<Awaited>
         Running::Bit(run, Turn::Locked(stage)) => lock_at(run, stage),
         Running::Lock(run, Turn::Locked(stage)) => lock_at(run, stage),
         Running::Page(run, Turn::Locked(stage)) => lock_at(run, stage),
-        Running::Await(run, AwaitTurn::Locked(stage)) => {
-            let watch = Watch::Done { cell: run.cell };
-            lock_with(watch, run.served, await_ticket(stage, run.ticket))
-        }
+        Running::Await(run, Turn::Locked(stage)) => lock_at(run, stage),
         Running::Wake(run, stage) => {
             lock_with(run.aim.watch, run.served, wake_ticket(stage, run.ticket))
         }

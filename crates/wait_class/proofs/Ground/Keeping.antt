@@ -122,6 +122,7 @@ keeps_taken {f} i old new c = keeps_of i (take_off_change i) old new c (λ w. re
     (λ x o. owes_also i (f x) new (c.owes (f x) o))
 
 -- of a look at the own entry
-pub own_keeps : (old new : Known) (o : Option Entry) → HasSeenOwn old new o → Keeps (index old.view.number 0) old new
-own_keeps old new o h = keeps_of (index old.view.number 0) only_looks old new h.carries (λ w. refl) (λ x away. refl)
-    (λ x. h.carries.owes (with_entry (index old.view.number 0) x))
+pub own_keeps : {f : Excuse → Excuse} (old new : Known) (o : Option Entry) → HasSeenOwn old new o
+    → KeepsBut f (index old.view.number 0) old new
+own_keeps {f} old new o h = keeps_of (index old.view.number 0) only_looks old new h.carries (λ w. refl) (λ x away. refl)
+    (λ x. h.carries.owes (with_entry (index old.view.number 0) (f x)))

@@ -34,52 +34,114 @@ use Rattle.wait_rule.specs.Transitions.{
   by_look,
   by_step,
 }
-use Rattle.wait_rule.proofs.KnownLaws.CalledPermits.{left_on, adds_join}
+use Rattle.wait_rule.proofs.KnownLaws.CalledPermits.{left_on}
 use Rattle.wait_rule.proofs.KnownLaws.HandedSteps.{AddsLow, AllAddLow}
 use Rattle.wait_rule.proofs.KnownLaws.TaskHistories.{history_after}
 use Rattle.wait_rule.proofs.TableSteps.ItemLists.{steps_append}
 
--- More steps of a task, none of which queues an entry at a completion.
-record Low (old new : Known) : Type 0 where
-  made : List Step
-  is : history_of new ≡ history_of old ++ made
-  low : AllAddLow made
-  number : new.view.number ≡ old.view.number
+-- A step queues no entry but such a one, and so do steps.
+abbrev pub AddsBy : (Entry → Type 0) → Step → Type 0
+AddsBy P (step.Queue x e) = P e
+AddsBy P e = Unit {0}
 
-low_join : (old mid new : Known) → Low old mid → Low mid new → Low old new
-low_join old mid new one two = record {
-  made = one.made ++ two.made;
-  is = two.is ∙ (ap (λ (l : List Step). l ++ two.made) one.is ∙ append_assoc (history_of old) one.made two.made);
-  low = adds_join one.made two.made one.low two.low;
-  number = two.number ∙ one.number;
-}
+abbrev pub AllAddBy : (Entry → Type 0) → List Step → Type 0
+AllAddBy P [] = Unit {0}
+AllAddBy P (e ∷ es) = AddsBy P e × AllAddBy P es
 
-looks_low : (xs : List Item) → AreLooks xs → AllAddLow (steps_of xs)
-looks_low [] l = tt
-looks_low (item.Made (step.Saw x w) ∷ xs) l = (tt, looks_low xs l.1)
-looks_low (item.Made e ∷ xs) l = absurd l.0
-looks_low (item.Awake w ∷ xs) l = looks_low xs l.1
-looks_low (item.Bookmark t w ∷ xs) l = looks_low xs l.1
-looks_low (item.Member ∷ xs) l = looks_low xs l.1
-looks_low (item.Word w ∷ xs) l = looks_low xs l.1
-looks_low (item.Drawn h w ∷ xs) l = looks_low xs l.1
-looks_low (item.Serving h w ∷ xs) l = looks_low xs l.1
-looks_low (item.Served ∷ xs) l = looks_low xs l.1
-looks_low (item.Tally p n w ∷ xs) l = absurd l.0
-looks_low (item.Piped k a w ∷ xs) l = absurd l.0
+-- More steps of a task, which queue such entries alone.
+pub record Adding (P : Entry → Type 0) (old new : Known) : Type 0 where
+  pub made : List Step
+  pub is : history_of new ≡ history_of old ++ made
+  pub adds : AllAddBy P made
+  pub number : new.view.number ≡ old.view.number
 
-scans_low : (h : ℕ) (xs : List Item) → AreScansOf h xs → AllAddLow (steps_of xs)
-scans_low h [] l = tt
-scans_low h (item.Made (step.Scan g i w) ∷ xs) l = (tt, scans_low h xs l.1)
-scans_low h (x ∷ xs) l = absurd l.0
+module _ (P : Entry → Type 0) where
+  all_join : (es fs : List Step) → AllAddBy P es → AllAddBy P fs → AllAddBy P (es ++ fs)
+  all_join [] fs one two = two
+  all_join (e ∷ es) fs one two = (one.0, all_join es fs one.1 two)
 
-only_low : (old new : Known) → OnlyLooks old new → Low old new
-only_low old new l = record {
-  made = steps_of l.items;
-  is = ap history_of l.is ∙ steps_append old.view.items l.items;
-  low = looks_low l.items l.looks;
-  number = ap (λ (k : Known). k.view.number) l.is;
-}
+  adding_join : (old mid new : Known) → Adding P old mid → Adding P mid new → Adding P old new
+  adding_join old mid new one two = record {
+    made = one.made ++ two.made;
+    is = two.is ∙ (ap (λ (l : List Step). l ++ two.made) one.is ∙ append_assoc (history_of old) one.made two.made);
+    adds = all_join one.made two.made one.adds two.adds;
+    number = two.number ∙ one.number;
+  }
+
+  looks_add : (xs : List Item) → AreLooks xs → AllAddBy P (steps_of xs)
+  looks_add [] l = tt
+  looks_add (item.Made (step.Saw x w) ∷ xs) l = (tt, looks_add xs l.1)
+  looks_add (item.Made e ∷ xs) l = absurd l.0
+  looks_add (item.Awake w ∷ xs) l = looks_add xs l.1
+  looks_add (item.Bookmark t w ∷ xs) l = looks_add xs l.1
+  looks_add (item.Member ∷ xs) l = looks_add xs l.1
+  looks_add (item.Word w ∷ xs) l = looks_add xs l.1
+  looks_add (item.Drawn h w ∷ xs) l = looks_add xs l.1
+  looks_add (item.Serving h w ∷ xs) l = looks_add xs l.1
+  looks_add (item.Served ∷ xs) l = looks_add xs l.1
+  looks_add (item.Tally p n w ∷ xs) l = absurd l.0
+  looks_add (item.Piped j a w ∷ xs) l = absurd l.0
+
+  scans_add : (h : ℕ) (xs : List Item) → AreScansOf h xs → AllAddBy P (steps_of xs)
+  scans_add h [] l = tt
+  scans_add h (item.Made (step.Scan g i w) ∷ xs) l = (tt, scans_add h xs l.1)
+  scans_add h (x ∷ xs) l = absurd l.0
+
+  only_add : (old new : Known) → OnlyLooks old new → Adding P old new
+  only_add old new l = record {
+    made = steps_of l.items;
+    is = ap history_of l.is ∙ steps_append old.view.items l.items;
+    adds = looks_add l.items l.looks;
+    number = ap (λ (k : Known). k.view.number) l.is;
+  }
+
+  -- a program that queues such entries alone
+  module _ (f : Program) (asks : (p : Point) (k : Known) (e : Event) (s : Step) → IsStepFor k f.own (f.given p) e s
+      → AddsBy P s) where
+    made_add : (p : Point) (k : Known) (e : Event) (d : StepOrLook) → IsMadeFor k f.own (f.given p) e d
+        → Adding P k (after_step_or_look d k)
+    made_add p k e (by_step (step.Lock h aim w)) q = record {
+      made = step.Lock h aim w ∷ [];
+      is = history_after k (added k (item.Made (step.Lock h aim w))) (step.Lock h aim w) refl;
+      adds = (tt, tt);
+      number = refl;
+    }
+    made_add p k e (by_step s) q = record {
+      made = s ∷ [];
+      is = history_after k (added k (item.Made s)) s refl;
+      adds = (asks p k e s q, tt);
+      number = refl;
+    }
+    made_add p k (event.Active h hit) (by_look xs) q = record {
+      made = steps_of xs;
+      is = steps_append k.view.items xs;
+      adds = scans_add h xs q.0;
+      number = refl;
+    }
+    made_add p k e (by_look xs) q = absurd q
+
+    pub goes_adding : (old new : Known) (from to : Next) (made : List Transition) → Goes f old from made new to
+        → Adding P old new
+    goes_adding old new from to [] g = only_add old new g.0
+    goes_adding old new (next.Ends a) to (t ∷ ts) g = absurd g
+    goes_adding old new (next.Go p) to (t ∷ ts) g =
+        let one = g.0 in
+        adding_join old t.knew new (only_add old t.knew one.looks)
+        (adding_join t.knew (after_transition t) new
+        (made_add p t.knew (f.plan p t.seen).event t.did one.is)
+        (goes_adding (after_transition t) new (f.plan p t.seen).next to ts g.1))
+
+-- no entry at a completion
+abbrev IsLow : Entry → Type 0
+IsLow e = head_of e.watch < FIRST_DONE_HEAD
+
+all_low : (es : List Step) → AllAddBy IsLow es → AllAddLow es
+all_low [] k = tt
+all_low (e ∷ es) k = (one e k.0, all_low es k.1)
+  where
+    one : (e : Step) → AddsBy IsLow e → AddsLow e
+    one (step.Queue x e) k = k
+    one e k = tt
 
 -- an entry is queued for the watch of the program's event
 bare_low : (w : Watch) → head_of w < FIRST_DONE_HEAD → head_of (bare w) < FIRST_DONE_HEAD
@@ -92,48 +154,16 @@ bare_low (watch.Var v o) low = low
 never_own : {A : Type 0} (o : Option ℕ) (x : ℕ) → o ≡ None → o ≡ Some x → A
 never_own o x none is = absurd (let z : None ≡ Some x = sym none ∙ is in cc)
 
-module _ (f : Program) (elsewhere : QueuesElsewhere f) (p : Point) (k : Known) where
-  step_low : (e : Event) (s : Step) → IsStepFor k f.own (f.given p) e s → AddsLow s
-  step_low (event.Queue h form) (step.Queue x e) q = elim elsewhere [
-    | inl none ↦ never_own f.own x none q.0
-    | inr low ↦ subst (λ (d : Entry). head_of d.watch < FIRST_DONE_HEAD) (sym q.3)
-        (bare_low (f.given p).watch (low p))
-  ]
-  step_low e (step.Queue x d) q = absurd q
-  step_low e s q = tt
-
-  made_low : (e : Event) (d : StepOrLook) → IsMadeFor k f.own (f.given p) e d → Low k (after_step_or_look d k)
-  made_low e (by_step (step.Lock h aim w)) q = record {
-    made = step.Lock h aim w ∷ [];
-    is = history_after k (added k (item.Made (step.Lock h aim w))) (step.Lock h aim w) refl;
-    low = (tt, tt);
-    number = refl;
-  }
-  made_low e (by_step s) q = record {
-    made = s ∷ [];
-    is = history_after k (added k (item.Made s)) s refl;
-    low = (step_low e s q, tt);
-    number = refl;
-  }
-  made_low (event.Active h hit) (by_look xs) q = record {
-    made = steps_of xs;
-    is = steps_append k.view.items xs;
-    low = scans_low h xs q.0;
-    number = refl;
-  }
-  made_low e (by_look xs) q = absurd q
-
-goes_low : (f : Program) → QueuesElsewhere f → (old new : Known) (from to : Next) (made : List Transition)
-    → Goes f old from made new to → Low old new
-goes_low f elsewhere old new from to [] g = only_low old new g.0
-goes_low f elsewhere old new (next.Ends a) to (t ∷ ts) g = absurd g
-goes_low f elsewhere old new (next.Go p) to (t ∷ ts) g =
-    let one = g.0 in
-    low_join old t.knew new (only_low old t.knew one.looks)
-    (low_join t.knew (after_transition t) new
-    (made_low f elsewhere p t.knew (f.plan p t.seen).event t.did one.is)
-    (goes_low f elsewhere (after_transition t) new (f.plan p t.seen).next to ts g.1))
-
 pub others_stay_off : OthersStayOff
 others_stay_off f old new from to made elsewhere free g =
-    let l = goes_low f elsewhere old new from to made g in left_on old new l.made l.number l.is l.low free
+    let l = goes_adding IsLow f (λ p k e s q. low p k e s q) old new from to made g in
+    left_on old new l.made l.number l.is (all_low l.made l.adds) free
+  where
+    low : (p : Point) (k : Known) (e : Event) (s : Step) → IsStepFor k f.own (f.given p) e s → AddsBy IsLow s
+    low p k (event.Queue h form) (step.Queue x e) q = elim elsewhere [
+      | inl none ↦ never_own f.own x none q.0
+      | inr under ↦ subst (λ (d : Entry). head_of d.watch < FIRST_DONE_HEAD) (sym q.3)
+          (bare_low (f.given p).watch (under p))
+    ]
+    low p k e (step.Queue x d) q = absurd q
+    low p k e s q = tt

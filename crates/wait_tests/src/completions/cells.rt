@@ -11,6 +11,7 @@ use completion_cell::awaits::{AwaitRun, AwaitStage, AwaitTurn};
 use completion_cell::cell_turns::{CellCall, CellRun, CellStage, CellTurn, cell_stretch};
 use std::process::Abort;
 use std::test::Fail;
+use wait_class::stages::Turn;
 use wait_model::heads::head_of;
 use wait_model::tasks::SleepState;
 use wait_model::watches::Watch;
@@ -134,13 +135,9 @@ fn complete_for_sleeper<R: Abort>(rt: &R, domain: &Domain, task: &mut Task, wait
     requires waiter { IsReadyToWait waiter.old }
 {
     let mut wait = begin_await(waiter, CELL, SleepState::Uninterruptible);
-    let asleep = go_often(
-        domain,
-        waiter,
-        &mut wait,
-        AwaitTurn::Again(AwaitStage::First),
-    );
-    assert!(rt; matches!(asleep, AwaitTurn::Asleep(_)));
+    let first = Turn::Again(AwaitStage::First);
+    let asleep = go_often(domain, waiter, &mut wait, first);
+    assert!(rt; matches!(asleep, Turn::Asleep(_)));
     let mut rousing = Rousing::new();
     let mut passing = Passing::none();
     let mut run = CellRun::new(CellCall::Complete, CELL);
@@ -151,10 +148,10 @@ fn complete_for_sleeper<R: Abort>(rt: &R, domain: &Domain, task: &mut Task, wait
     };
     assert_eq!(rt; rousing.tasks(), [waiter.number()].as_slice());
     end_both(domain, rousing, passing);
-    let AwaitTurn::Done(outcome) = go_often(domain, waiter, &mut wait, asleep) else {
+    let Turn::Done(outcome) = go_often(domain, waiter, &mut wait, asleep) else {
         panic!(rt; "it was completed")
     };
-    assert!(rt; end_of(wait, outcome).is_ok());
+    assert!(rt; end_of(wait.of, outcome).is_ok());
 }
 
 /// Whom a stretch has woken is for the caller to rouse.

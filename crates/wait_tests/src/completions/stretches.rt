@@ -5,11 +5,13 @@ ghost use Rattle.wait_tests.specs.CompletionTasks.{IsAwaiting, IsReadyToWait, Ma
 
 use crate::turns::next_number;
 use completion_cell::asks::try_wait;
-use completion_cell::await_calls::{begin_await, stretch, woke};
+use completion_cell::await_calls::begin_await;
 use completion_cell::awaits::{AwaitOutcome, AwaitRun, AwaitStage, AwaitTurn};
 use completion_cell::completes::complete;
 use std::sync::Wait;
 use std::test::Fail;
+use wait_class::runs::{stretch, woke};
+use wait_class::stages::Turn;
 use wait_model::tasks::SleepState;
 use wait_rule::queues::Passing;
 use wait_rule::{Domain, Task};
@@ -32,16 +34,16 @@ pub fn go_on(domain: &Domain, task: &mut Task, run: &mut AwaitRun, last: AwaitTu
 {
     let mut passing = Passing::none();
     let turn = match last {
-        AwaitTurn::Again(stage) => stretch(domain, task, run, stage, &mut passing),
-        AwaitTurn::Locked(stage) => stretch(domain, task, run, stage, &mut passing),
-        AwaitTurn::Asleep(stage) => {
+        Turn::Again(stage) => stretch(domain, task, run, stage, &mut passing),
+        Turn::Locked(stage) => stretch(domain, task, run, stage, &mut passing),
+        Turn::Asleep(stage) => {
             if woke(domain, task, run, stage) {
-                AwaitTurn::Again(stage)
+                Turn::Again(stage)
             } else {
-                AwaitTurn::Asleep(stage)
+                Turn::Asleep(stage)
             }
         }
-        AwaitTurn::Done(outcome) => AwaitTurn::Done(outcome),
+        Turn::Done(outcome) => Turn::Done(outcome),
     };
     passing.wake(domain);
     passing.end();
@@ -50,7 +52,7 @@ pub fn go_on(domain: &Domain, task: &mut Task, run: &mut AwaitRun, last: AwaitTu
 
 /// Whether the wait is over, and took one.
 fn is_over(last: AwaitTurn) -> bool {
-    matches!(last, AwaitTurn::Done(AwaitOutcome::Over))
+    matches!(last, Turn::Done(AwaitOutcome::Over))
 }
 
 /// Completes in a turn of its own, where it is to be done still: how often it is left to be done then.
@@ -85,8 +87,8 @@ fn play<R: Wait>(
 {
     let mut one = begin_await(first, CELL, SleepState::Interruptible);
     let mut two = begin_await(second, CELL, SleepState::Uninterruptible);
-    let mut one_at = AwaitTurn::Again(AwaitStage::First);
-    let mut two_at = AwaitTurn::Again(AwaitStage::First);
+    let mut one_at = Turn::Again(AwaitStage::First);
+    let mut two_at = Turn::Again(AwaitStage::First);
     let mut seed = seed;
     let mut left = 2;
     for _ in 0..TURNS {

@@ -1,19 +1,36 @@
 use Rattle.std.proofs.Common.{◌∙◌, sym}
-use Rattle.completion_cell.proofs.Offs.{pare_may, pares_none, pares_some}
+use Rattle.completion_cell.proofs.AwaitTakes.{off_holds, off_may, pares_none, pares_some}
+use Rattle.wait_model.specs.declared.layout.TheConstants.{HEADS}
+use Rattle.wait_model.specs.declared.steps.Step.TheVariants as step
+use Rattle.wait_rule.specs.Queues.{index}
+use Rattle.wait_class.proofs.Handed.{given_on, given_seen, given_stored}
 use Rattle.completion_cell.proofs.awaits.pare.Goals as goal
 
+pub remove-requires-clause-held : goal.remove-requires-clause-held
+remove-requires-clause-held c = off_holds c.args.task.now c.own_entry-entry.new.task c.args.run.now c.args.stopped
+    c.requires.at c.own_entry-entry.result c.own_entry-entry.ensures
+
 pub remove-requires-clause-may : goal.remove-requires-clause-may
-remove-requires-clause-may c = pare_may c.args.task.now c.own_entry-entry.new.task c.args.run
-    c.own_entry-entry.result c.own_entry-entry.ensures c.args.stopped c.requires.at
-    (sym c.is_some.ensures ∙ c.if-is_some.true) c.number-me.result c.number-me.ensures.number
+remove-requires-clause-may c = off_may c.args.task.now c.own_entry-entry.new.task c.args.run.now c.args.stopped
+    c.requires.at c.own_entry-entry.result c.own_entry-entry.ensures (sym c.is_some.ensures ∙ c.if-is_some.true)
+    c.number-me.result c.number-me.ensures.number
 
-pub returns-then-is_some : goal.returns-then-is_some
-returns-then-is_some c = pares_some c.args.task.now c.own_entry-entry.new.task c.args.run
-    c.own_entry-entry.result c.own_entry-entry.ensures c.args.stopped c.requires.at c.remove.new.task
-    c.number-me.result c.number-me.ensures.number c.remove.ensures.removed c.remove.ensures.held
-    (sym c.is_some.ensures ∙ c.if-is_some.true) c.args.count c.requires.counts
+pub returns-then-is_some-clause-pares : goal.returns-then-is_some-clause-pares
+returns-then-is_some-clause-pares c = pares_some c.args.task.now c.own_entry-entry.new.task c.args.run.now c.args.stopped
+    c.requires.at c.own_entry-entry.result c.own_entry-entry.ensures c.remove.new.task c.number-me.result
+    c.number-me.ensures.number c.remove.ensures.removed c.remove.ensures.held
+    (sym c.is_some.ensures ∙ c.if-is_some.true)
 
-pub returns : goal.returns
-returns c = pares_none c.args.task.now c.own_entry-entry.new.task c.args.run
-    c.own_entry-entry.result c.own_entry-entry.ensures c.args.stopped c.requires.at
-    (sym c.is_some.ensures ∙ c.if-is_some.false) c.args.count c.requires.counts
+pub returns-clause-pares : goal.returns-clause-pares
+returns-clause-pares c = pares_none c.args.task.now c.own_entry-entry.new.task c.args.run.now c.args.stopped
+    c.requires.at c.own_entry-entry.result c.own_entry-entry.ensures (sym c.is_some.ensures ∙ c.if-is_some.false)
+
+pub returns-then-is_some-clause-given : goal.returns-then-is_some-clause-given
+returns-then-is_some-clause-given c = given_on c.args.task.now c.own_entry-entry.new.task c.remove.new.task HEADS
+    (given_seen c.args.task.now c.own_entry-entry.new.task c.own_entry-entry.result c.own_entry-entry.ensures)
+    (given_stored c.own_entry-entry.new.task c.remove.new.task (step.Unqueue (index c.number-me.result 0))
+    c.remove.ensures.removed.is)
+
+pub returns-clause-given : goal.returns-clause-given
+returns-clause-given c = given_seen c.args.task.now c.own_entry-entry.new.task c.own_entry-entry.result
+    c.own_entry-entry.ensures

@@ -8,6 +8,7 @@ use Rattle.wait_class.proofs.Queues.{
   queue_at,
   queue_may,
   queue_out,
+  queue_seen,
   stay_advances,
   stay_falls,
   worn_advances,
@@ -42,6 +43,12 @@ add-requires-clause-may g c = record {
       c.args.run.now c.args.stage c.requires.here c.requires.at c.own_entry-entry.result c.own_entry-entry.ensures;
   out = queue_out g.C.Machine.table c.lawful.ensures c.args.task.now c.own_entry-entry.new.task
       c.own_entry-entry.result c.own_entry-entry.ensures c.is_some.result c.is_some.ensures c.if-is_some.false;
+  trail = (
+    c.args.task.now,
+    queue_seen g.C.Machine.table c.lawful.ensures c.args.task.now c.own_entry-entry.new.task c.own_entry-entry.result
+        c.own_entry-entry.ensures c.is_some.result c.is_some.ensures c.if-is_some.false,
+    c.requires.at.trail,
+  );
 }
 
 pub returns-in-Ok-clause-turned : goal.returns-in-Ok-clause-turned

@@ -3,24 +3,20 @@ use Rattle.wq_checked.specs.Calls.{IsSound}
 use Rattle.wq_checked.specs.Advancing.{await_left, await_shown}
 use Rattle.wq_checked.specs.declared.calls.Running.{Running}
 use Rattle.wq_checked.proofs.Going.{went_as}
-use Rattle.wq_checked.proofs.AwaitTurns.{await_begun, await_goes, await_sound}
+use Rattle.wq_checked.proofs.AwaitTurns.{await_goes, await_sound}
 use Rattle.wq_checked.proofs.await_turns.await_on.Goals as goal
-
-pub await_turn-turn-requires-clause-begins : goal.await_turn-turn-requires-clause-begins
-await_turn-turn-requires-clause-begins c = await_begun c.args.kept.now c.args.task.now c.args.run c.args.last
-    c.requires.sound
 
 pub returns-clause-sound : goal.returns-clause-sound
 returns-clause-sound c =
-    let t = c.await_turn-turn in
+    let t = c.ground_turn-turn in
     subst (λ (r : Running). IsSound r c.args.kept.now t.new.task) (sym c.await_leaves.ensures.left)
     (await_sound c.args.kept.now c.args.task.now t.new.task c.args.run t.new.run c.args.last t.result c.requires.sound
-    t.ensures.on t.ensures.off)
+    t.ensures)
 
 pub returns-clause-goes : goal.returns-clause-goes
 returns-clause-goes c start first came =
-    let t = c.await_turn-turn in
+    let t = c.ground_turn-turn in
     went_as start first t.new.task c.await_leaves.result.0 (await_left t.new.run t.result) c.await_leaves.result.1
     (await_shown t.new.run t.result) c.await_leaves.ensures.left c.await_leaves.ensures.shown
     (await_goes start first c.args.task.now t.new.task c.args.run t.new.run c.args.last t.result
-    c.requires.sound.stands came t.ensures.on t.ensures.off)
+    c.requires.sound.stands came t.ensures)

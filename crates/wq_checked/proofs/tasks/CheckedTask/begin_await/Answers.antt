@@ -1,12 +1,12 @@
 use Rattle.std.proofs.Common.{subst}
 use Rattle.std.specs.Prelude.{◌≡◌, None}
 use Rattle.completion_cell.specs.declared.awaits.AwaitStage.TheVariants as stage
-use Rattle.completion_cell.specs.declared.awaits.AwaitTurn.TheVariants as turn
+use Rattle.wait_class.specs.declared.stages.Turn.TheVariants as turn
 use Rattle.wq_checked.specs.Calls.{BeginsAwait}
 use Rattle.wq_checked.specs.Checked.{Checked}
 use Rattle.wq_checked.specs.Reasons.{busy_reason}
 use Rattle.wq_checked.specs.declared.calls.Running.TheVariants as running
-use Rattle.wq_checked.proofs.OneHolds.{await_begins, await_under}
+use Rattle.wq_checked.proofs.Begun.{await_begins, await_under}
 use Rattle.wq_checked.proofs.Readiness.{ready_of, ready_out}
 use Rattle.wq_checked.proofs.tasks.CheckedTask.begin_await.Goals as goal
 
@@ -15,6 +15,12 @@ begin_await-run-requires-clause-out c =
     let t = c.self.inside in
     let idle : busy_reason t.running ≡ None = cc in
     ready_out t.kept t.task (ready_of t.kept t.task t.running idle c.self.invariant.1)
+
+pub begin_await-run-requires-clause-left : goal.begin_await-run-requires-clause-left
+begin_await-run-requires-clause-left c =
+    let t = c.self.inside in
+    let idle : busy_reason t.running ≡ None = cc in
+    (ready_of t.kept t.task t.running idle c.self.invariant.1).off c.args.cell
 
 pub invariant_of-self : goal.invariant_of-self
 invariant_of-self c =
@@ -29,6 +35,8 @@ pub returns-in-None-clause-begun : goal.returns-in-None-clause-begun
 returns-in-None-clause-begun c =
     let t = c.self.inside in
     let r = c.begin_await-run in
+    let idle : busy_reason t.running ≡ None = cc in
     subst (λ (s : Checked). BeginsAwait s.task t.task c.args.cell c.args.state
     (running.Await r.result (turn.Again stage.First))) c.self.view_is
-    (await_begins t.task r.result r.ensures.at c.args.cell c.args.state r.ensures.fresh)
+    (await_begins t.task r.result r.ensures.at c.args.cell c.args.state r.ensures.fresh
+    (ready_of t.kept t.task t.running idle c.self.invariant.1).told)

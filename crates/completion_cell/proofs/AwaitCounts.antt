@@ -1,0 +1,221 @@
+-- The count is loaded in a hold of a wait.
+use Rattle.std.proofs.Common.{◌∙◌, ap, sym, refl, subst, arith, eq-eqb}
+use Rattle.std.proofs.lemmas.Bool.Decides.{nat_tests}
+use Rattle.std.specs.Prelude.{ℕ, ◌≡◌, ◌≢◌, ◌<◌, ◌==◌, Bool, true, false, if◌then◌else◌, Option, Some, None, [], ◌∷◌, ◌++◌}
+use Rattle.wait_model.specs.declared.layout.TheConstants.{COMPLETIONS}
+use Rattle.wait_model.specs.declared.points.AwaitPoint.TheVariants as awaiting
+use Rattle.wait_model.specs.declared.points.Next.{Next}
+use Rattle.wait_model.specs.declared.points.Next.TheVariants as next
+use Rattle.wait_model.specs.declared.points.Point.TheVariants as at
+use Rattle.wait_model.specs.declared.points.PreparePoint.TheVariants as preparing
+use Rattle.wait_model.specs.declared.steps.Step.{Step}
+use Rattle.wait_model.specs.declared.steps.Step.TheVariants as step
+use Rattle.wait_model.specs.declared.watches.Entry.{Entry}
+use Rattle.wait_model.specs.declared.watches.Watch.TheVariants as watch
+use Rattle.wait_model.specs.PointFacts.{IsHome, waits}
+use Rattle.wait_model.specs.Tasks.{looks_in}
+use Rattle.wait_rule.specs.declared.journal.Item.TheVariants as item
+use Rattle.wait_rule.specs.Counts.{FindsCount}
+use Rattle.wait_rule.specs.HeldValues.{count_in}
+use Rattle.wait_rule.specs.Known.{Known}
+use Rattle.wait_rule.specs.Says.{IsUp, added, history_of, told_of}
+use Rattle.wait_rule.specs.Queues.{IsAgreedHold}
+use Rattle.wait_rule.specs.Stays.{Carries, unchanged, with_entry, with_left_entry}
+use Rattle.wait_rule.specs.Transitions.{OnlyLooks, Transition, by_step}
+use Rattle.wait_rule.specs.Items.{Book}
+use Rattle.wait_event.specs.Waits.{is_queue}
+use Rattle.wait_rule.proofs.KnownLaws.TaskHistories.{history_after}
+use Rattle.wait_rule.proofs.KnownLaws.Transitions.{only_none}
+use Rattle.wait_class.specs.Findings.{with_value}
+use Rattle.wait_class.specs.Posts.{HasSeenOwn, IsStateFor, Post, Stands, own_of}
+use Rattle.wait_class.specs.Tables.{IsAt, Turned, falls, next_in, post_of}
+use Rattle.wait_class.specs.Laws.{IsPlain, TurnTrail, turn_post}
+use Rattle.wait_class.specs.declared.stages.Run.{Run}
+use Rattle.wait_class.proofs.CalmSteps.{calm_saw}
+use Rattle.wait_class.proofs.Ground.Keeping.{keeps_none, keeps_of, keeps_on, own_keeps}
+use Rattle.wait_class.proofs.Ground.Standing.{home_waits, seen_book, seen_home, seen_looks, seen_stands, still_stands}
+use Rattle.wait_class.proofs.OwnSteps.{own_goes}
+use Rattle.wait_class.proofs.Turns.{GoesOn, advance_by}
+use Rattle.completion_cell.specs.Awaits.{
+  AwaitTurn,
+  CellKeeps,
+  AwaitTells,
+  await_head,
+  await_table,
+  counted_by,
+  counted_to,
+}
+use Rattle.completion_cell.specs.HeldPermits.{HasBegun, Knows}
+use Rattle.completion_cell.specs.declared.awaits.AwaitCall.{AwaitCall}
+use Rattle.completion_cell.specs.declared.awaits.AwaitStage.{AwaitStage}
+use Rattle.completion_cell.specs.declared.awaits.AwaitStage.TheVariants as stage
+use Rattle.completion_cell.proofs.AwaitLaws.{told_by}
+use Rattle.completion_cell.proofs.AwaitTrails.{again_begun, load_loaded}
+use Rattle.completion_cell.proofs.Ground.{count_after_step, step_behind}
+
+abbrev load_stage : Bool → AwaitStage
+load_stage false = stage.FirstLoad
+load_stage true = stage.AgainLoad
+
+-- where the program goes on is where the wait does
+counted_next : (zero looks waited : Bool)
+    → ◌≡◌ {A = Next} (next.Go (if zero then at.Prepare (if looks then preparing.Look else preparing.Queue)
+    else at.Await (if waited then awaiting.Run false else awaiting.Last false)))
+    (next_in await_table (counted_by zero looks waited))
+counted_next true true waited = refl
+counted_next true false waited = refl
+counted_next false looks true = refl
+counted_next false looks false = refl
+
+counted_plain : (zero looks waited : Bool) → IsPlain await_table (counted_by zero looks waited)
+counted_plain true true waited = refl
+counted_plain true false waited = refl
+counted_plain false looks true = refl
+counted_plain false looks false = refl
+
+counted_falls : (waited zero looks : Bool) → falls await_table (load_stage waited) (counted_by zero looks waited) ≡ true
+counted_falls true true true = refl
+counted_falls true true false = refl
+counted_falls true false looks = refl
+counted_falls false true true = refl
+counted_falls false true false = refl
+counted_falls false false looks = refl
+
+none_is : (v : ℕ) → (v == 0) ≡ true → v ≡ 0
+none_is v is = grind (arith, nat_tests, is)
+
+some_is : (v : ℕ) → (v == 0) ≡ false → v ≢ 0
+some_is v is = grind (arith, nat_tests, is)
+
+-- a step that changes nothing of the task leaves it standing as it stood, in another zone
+pub still_stands_at : (old new : Known) → Carries unchanged old new → new.book.differs ≡ old.book.differs → (p q : Post)
+    → Stands old p → q.head ≡ p.head → q.ticket ≡ p.ticket → q.stirs ≡ p.stirs → q.state ≡ p.state
+    → ((o : Option Entry) → IsHome p.zone p.watch o → IsHome q.zone q.watch o) → Stands new q
+still_stands_at old new carries differs p q s head ticket stirs state home =
+    still_stands unchanged old new p q carries s
+    (λ h at. differs ∙ s.agreed h (sym head ∙ at)) refl (λ x. refl) (sym head) (λ h at. s.at h (sym head ∙ at))
+    (sym ticket)
+    (subst (λ (b : Bool). IsStateFor b q.state old.book.state) (sym stirs)
+    (subst (λ (σ : ℕ). IsStateFor p.stirs σ old.book.state) (sym state) s.state)) home
+
+module _ (old knew new : Known) (run : Run AwaitCall) (v : ℕ) (there : run.of.cell < COMPLETIONS)
+    (looks : OnlyLooks old knew) (begun : HasBegun run.of.cell knew) (up : IsUp knew)
+    (keeps : CellKeeps (own_of old) old knew)
+    (is : new ≡ added knew (item.Made (step.Load (watch.Done run.of.cell) v))) (finds : FindsCount knew run.of.cell v)
+    (carries : Carries unchanged knew new) where
+  abbrev r : AwaitCall
+  r = run.of
+
+  abbrev q : AwaitCall
+  q = record r { count = v }
+
+  abbrev e : Step
+  e = step.Load (watch.Done r.cell) v
+
+  knows : Knows new r.cell v
+  knows = record {
+    counts = (
+      count_after_step r.cell knew new e (history_after knew new e is)
+          ∙ ap (λ (b : Bool). if b then Some v else count_in r.cell (history_of knew)) (eq-eqb r.cell r.cell refl),
+      finds.0,
+    );
+    loaded = load_loaded r.cell knew new v (history_after knew new e is) carries.number begun;
+  }
+
+  trail : (zero admits waited : Bool) → (v == 0) ≡ zero → TurnTrail await_table new q (counted_by zero admits waited)
+  trail true true waited none = (
+    subst (Knows new r.cell) (none_is v none) knows,
+    (
+      history_of knew,
+      history_after knew new e is
+          ∙ ap (λ (n : ℕ). history_of knew ++ step.Load (watch.Done r.cell) n ∷ []) (none_is v none),
+    ),
+  )
+  trail true false waited none = subst (Knows new r.cell) (none_is v none) knows
+  trail false admits true some = (knows, some_is v some)
+  trail false admits false some = (knows, some_is v some)
+
+  moved : (p z : Post) → Stands knew p → z.head ≡ p.head → z.ticket ≡ p.ticket → z.stirs ≡ p.stirs → z.state ≡ p.state
+      → ((o : Option Entry) → IsHome p.zone p.watch o → IsHome z.zone z.watch o) → Stands new z
+  moved = still_stands_at knew new carries (ap (λ (k : Known). k.book.differs) is)
+
+  stood : (waited zero admits : Bool) → Stands knew (post_of await_table r (load_stage waited))
+      → Stands new (turn_post await_table q (counted_by zero admits waited))
+  stood true true true s = moved _ _ s refl refl refl refl (λ o h. h)
+  stood true true false s = moved _ _ s refl refl refl refl (λ o h. h)
+  stood true false admits s = moved _ _ s refl refl refl refl (λ o h. h)
+  stood false true true s = moved _ _ s refl refl refl refl (home_waits (watch.Done r.cell))
+  stood false true false s = moved _ _ s refl refl refl refl (home_waits (watch.Done r.cell))
+  stood false false admits s = moved _ _ s refl refl refl refl (λ o h. h)
+
+  abbrev zero : Bool
+  zero = v == 0
+
+  abbrev admits : Bool
+  admits = looks_in r.state
+
+  kept : CellKeeps (own_of old) old new
+  kept = keeps_on (own_of old) old knew new keeps (keeps_of (own_of old) unchanged knew new carries (λ w. refl)
+      (λ x away. refl) (λ x. carries.owes (with_entry (own_of old) (with_left_entry x))))
+
+  tells : (x : Transition) → x.did ≡ by_step e → AwaitTells r q (x ∷ [])
+  tells x did = told_by r q x refl refl refl (ap is_queue did)
+
+  loads : (waited : Bool) → Stands knew (post_of await_table r (load_stage waited))
+      → GoesOn await_table old new r q (load_stage waited) (counted_by zero admits waited)
+  loads true s = own_goes await_table old knew new r q stage.AgainLoad (counted_by zero admits true) e (with_value v)
+      looks (step_behind knew new e is) tells kept (counted_next zero admits true) refl (refl, tt, tt)
+      (carries.awake ∙ up) (stood true zero admits s) (trail zero admits true refl)
+  loads false s = own_goes await_table old knew new r q stage.FirstLoad (counted_by zero admits false) e (with_value v)
+      looks (step_behind knew new e is) tells kept (counted_next zero admits false) refl (refl, tt, tt)
+      (carries.awake ∙ up) (stood false zero admits s) (trail zero admits false refl)
+
+  pub load_turned : (waited : Bool) → Stands knew (post_of await_table r (load_stage waited))
+      → Turned await_table old new run (record run { of = q }) (load_stage waited) (counted_to q waited)
+  load_turned waited s = advance_by await_table old new run (record run { of = q }) (load_stage waited)
+      (counted_to q waited) refl there (counted_plain zero admits waited) (loads waited s)
+
+-- the first hold
+pub first_turned : (old new : Known) (run : Run AwaitCall) (v : ℕ) → IsAt await_table old run stage.FirstLoad
+    → new ≡ added old (item.Made (step.Load (watch.Done run.of.cell) v)) → FindsCount old run.of.cell v
+    → Carries unchanged old new → (u : AwaitTurn) → u ≡ counted_to (record run.of { count = v }) false
+    → Turned await_table old new run (record run { of = record run.of { count = v } }) stage.FirstLoad u
+first_turned old new run v a is finds carries u to = subst (λ (z : AwaitTurn). Turned await_table old new run
+    (record run { of = record run.of { count = v } }) stage.FirstLoad z) (sym to)
+    (load_turned old old new run v a.fits (only_none old) a.trail a.up (keeps_none (own_of old) old) is finds carries
+    false a.stands)
+
+pub first_agreed : (old : Known) (run : Run AwaitCall) → IsAt await_table old run stage.FirstLoad → IsAgreedHold old
+first_agreed old run a i held = a.stands.agreed (await_head run.of) refl
+
+pub load_falls : (waited : Bool) (r : AwaitCall) (v : ℕ) (u : AwaitTurn)
+    → u ≡ counted_to (record r { count = v }) waited → falls await_table (load_stage waited) u ≡ true
+load_falls waited r v u to = ap (falls await_table (load_stage waited)) to
+    ∙ counted_falls waited (v == 0) (looks_in r.state)
+
+-- a further one, behind a look at the own entry
+module _ (old mid : Known) (run : Run AwaitCall) (o : Option Entry) (h : HasSeenOwn old mid o)
+    (a : IsAt await_table old run stage.AgainLoad) where
+  abbrev p : Post
+  p = post_of await_table run.of stage.AgainLoad
+
+  seen_history : history_of mid ≡ history_of old ++ step.Saw (own_of old) h.word ∷ []
+  seen_history = (calm_saw old mid o h (await_head run.of) a.stands.head).history
+
+  home : (f : Option Entry) → o ≡ f → IsHome waits p.watch f
+  home None is = tt
+  home (Some e) is = seen_home old mid o h p a.stands e is
+
+  pub again_turned : (new : Known) (v : ℕ) → new ≡ added mid (item.Made (step.Load (watch.Done run.of.cell) v))
+      → FindsCount mid run.of.cell v → Carries unchanged mid new → (u : AwaitTurn)
+      → u ≡ counted_to (record run.of { count = v }) true
+      → Turned await_table old new run (record run { of = record run.of { count = v } }) stage.AgainLoad u
+  again_turned new v is finds carries u to = subst (λ (z : AwaitTurn). Turned await_table old new run
+      (record run { of = record run.of { count = v } }) stage.AgainLoad z) (sym to)
+      (load_turned old mid new run v a.fits (seen_looks old mid o h (await_head run.of) a.stands.head)
+      (again_begun run.of.cell old mid h.word seen_history h.carries.number a.trail) (h.carries.awake ∙ a.up)
+      (own_keeps old mid o h) is finds carries true (seen_stands old mid o h p waits a.stands (home o refl)))
+
+  pub again_agreed : IsAgreedHold mid
+  again_agreed i held = ap (λ (b : Book). b.differs) (seen_book old mid o h)
+      ∙ a.stands.agreed (await_head run.of) refl

@@ -1,0 +1,399 @@
+-- The table of a wait for a completion keeps its laws.
+use Rattle.std.proofs.Common.{◌∙◌, ap, sym, refl, subst, inl, inr, arith}
+use Rattle.std.specs.Prelude.{ℕ, ◌≡◌, ◌<◌, ◌≤◌, ◌||◌, Bool, true, false, if◌then◌else◌, is_some, Option, Some, None, List, [], ◌∷◌, ◌++◌}
+use Rattle.wait_model.specs.declared.layout.TheConstants.{COMPLETIONS, HEADS}
+use Rattle.wait_model.specs.declared.points.AwaitPoint.TheVariants as awaiting
+use Rattle.wait_model.specs.declared.points.Next.TheVariants as next
+use Rattle.wait_model.specs.declared.points.Point.TheVariants as at
+use Rattle.wait_model.specs.declared.points.PreparePoint.TheVariants as preparing
+use Rattle.wait_model.specs.declared.steps.Step.TheVariants as step
+use Rattle.wait_model.specs.declared.watches.Entry.{Entry}
+use Rattle.wait_model.specs.declared.watches.Watch.TheVariants as watch
+use Rattle.wait_model.specs.Permits.{done_head}
+use Rattle.wait_model.specs.Runs.{own}
+use Rattle.wait_model.specs.Tasks.{state_mask}
+use Rattle.wait_rule.specs.HeldValues.{count_in, value_from}
+use Rattle.wait_rule.specs.Known.{Known}
+use Rattle.wait_rule.specs.Queues.{index, walk_of_hold}
+use Rattle.wait_rule.specs.Says.{history_of}
+use Rattle.wait_rule.specs.Stays.{with_left_entry}
+use Rattle.wait_rule.specs.Transitions.{OnlyLooks, StepOrLook, Transition, by_step}
+use Rattle.wait_rule.proofs.KnownLaws.Transitions.{only_looked}
+use Rattle.wait_class.specs.Posts.{EndsWith, own_of}
+use Rattle.wait_class.specs.Laws.{
+  DrawLaw,
+  HasJoined,
+  IsLawfulTable,
+  LawOf,
+  LockLaw,
+  LookLaw,
+  QueueLaw,
+  SleepLaw,
+  StateLaw,
+  UnlockLaw,
+  is_quiet,
+}
+use Rattle.wait_class.specs.Laws.{Calm}
+use Rattle.wait_class.specs.declared.stages.Turn.TheVariants as turn
+use Rattle.wait_class.proofs.Histories.{ends_calm, stored_history, unmoved_by}
+use Rattle.wait_class.proofs.Stays.{stays_but}
+use Rattle.wait_class.proofs.Turns.{may_by}
+use Rattle.wait_class.proofs.Ways.{look_by, sleep_by, way}
+use Rattle.wait_event.specs.Waits.{is_queue, queues}
+use Rattle.wait_event.proofs.Tellings.{or_none, queues_append, quiet_queues}
+use Rattle.completion_cell.specs.Awaits.{
+  FoundNoPlace,
+  HasGivenBack,
+  AwaitTells,
+  await_head,
+  await_table,
+  await_depth,
+  await_doing,
+}
+use Rattle.completion_cell.specs.HeldPermits.{Knows}
+use Rattle.completion_cell.specs.declared.awaits.AwaitCall.{AwaitCall}
+use Rattle.completion_cell.specs.declared.awaits.AwaitStage.{AwaitStage}
+use Rattle.completion_cell.specs.declared.awaits.AwaitStage.TheVariants as stage
+use Rattle.completion_cell.proofs.AwaitTrails.{
+  first_begun,
+  gives_back,
+  knows_by,
+  knows_look,
+  knows_looks,
+  knows_none,
+   knows_state,
+  knows_stayed,
+  leaves_calm,
+  still_by,
+}
+use Rattle.completion_cell.proofs.Ground.{count_after_step, head_there, looked_count}
+use Rattle.completion_cell.proofs.WaitFronts.{waits_may_end}
+
+-- what the run tells
+pub told_by : (r q : AwaitCall) (x : Transition) → q.cell ≡ r.cell → q.state ≡ r.state → q.queued ≡ r.queued
+    → is_queue x.did ≡ false → AwaitTells r q (x ∷ [])
+told_by r q x cell state queued none = record {
+  cell = cell;
+  state = state;
+  queued = queued ∙ sym (ap (λ (b : Bool). r.queued || (b || false)) none ∙ or_none r.queued);
+}
+
+or_yes : (b : Bool) → (b || (true || false)) ≡ true
+or_yes true = refl
+or_yes false = refl
+
+-- the own entry is queued, where the count is known to be 0
+joined_knows : (r : AwaitCall) (old mid new : Known) (first : Bool) → OnlyLooks old mid
+    → HasJoined await_table r stage.Queue mid new first → Knows old r.cell 0 → Knows new r.cell 0
+joined_knows r old mid new first looks x u =
+    let s = knows_looks r.cell mid x.seen 0
+    (only_looked mid x.seen x.looks.items x.looks.same x.looks.looks x.looks.is) (knows_looks r.cell old mid 0 looks u) in
+    let same : index mid.view.number 0 ≡ own x.seen.view.number =
+    ap (λ (k : Known). index k.view.number 0) (sym x.looks.is) ∙ omega arith in
+    knows_by r.cell x.seen new 0 (step.Queue (index mid.view.number 0) x.entry ∷ [])
+    (stored_history x.seen new (step.Queue (index mid.view.number 0) x.entry) x.is)
+    (ap (λ (k : Known). k.view.number) x.is) (λ k. ((same, refl), (refl, refl))) refl s
+
+module _ (r : AwaitCall) where
+  -- the locks
+  draw_first : DrawLaw await_table r stage.First
+  draw_first = record {
+    free = refl;
+    fresh = refl;
+    head = refl;
+    drawn = refl;
+    locks = refl;
+    same = refl;
+    took = refl;
+    depth = refl;
+    stays = λ u. refl;
+    trail = λ k u. u;
+  }
+
+  draw_again : DrawLaw await_table r stage.Again
+  draw_again = record {
+    free = refl;
+    fresh = refl;
+    head = refl;
+    drawn = refl;
+    locks = refl;
+    same = refl;
+    took = refl;
+    depth = refl;
+    stays = λ u. refl;
+    trail = λ k u. u;
+  }
+
+  lock_first : LockLaw await_table r stage.FirstTurn
+  lock_first = record {
+    free = refl;
+    head = refl;
+    drawn = refl;
+    waits = refl;
+    moves = record {
+      plain = refl;
+      falls = refl;
+      took = refl;
+      goes = λ me. refl;
+      is = λ me k x ok. (refl, refl);
+      finds = λ me k x ok. (tt, tt, tt);
+    };
+    leaves = record { head = refl; ticket = refl };
+    state = λ σ s. s;
+    home = λ o h. h;
+    trail = λ old new x c u. first_begun r.cell old new (walk_of_hold (await_head r) None) x c u;
+  }
+
+  lock_again : LockLaw await_table r stage.AgainTurn
+  lock_again = record {
+    free = refl;
+    head = refl;
+    drawn = refl;
+    waits = refl;
+    moves = record {
+      plain = refl;
+      falls = refl;
+      took = refl;
+      goes = λ me. refl;
+      is = λ me k x ok. (refl, refl);
+      finds = λ me k x ok. (tt, tt, tt);
+    };
+    leaves = record { head = refl; ticket = refl };
+    state = λ σ s. s;
+    home = λ o h. h;
+    trail = λ old new x c u. (walk_of_hold (await_head r) None, x, (history_of old, c.history));
+  }
+
+  -- a hold that found 0
+  look_law : (hit : Bool) → LookLaw await_table r stage.Look hit
+  look_law true = look_by await_table r stage.Look refl true
+      (way await_table r stage.Look r (turn.Again stage.LeaveState) refl refl refl refl refl (λ σ s. s) (λ o h. h))
+      (λ w me is. ap (λ (c : Bool). next.Go (if c then at.Await (awaiting.Run true) else at.Prepare preparing.Queue)) is)
+      (λ w me k. tt) (λ w me k. (refl, tt, tt)) (λ old new w is c u. record {
+        word = w;
+        pends = is;
+        ends = ends_calm old new (step.Load (watch.Done r.cell) 0 ∷ []) (step.Look w ∷ []) c u.1;
+        knows = knows_look r.cell old new 0 w c u.0;
+      })
+  look_law false = look_by await_table r stage.Look refl false
+      (way await_table r stage.Look r (turn.Again stage.Queue) refl refl refl refl refl (λ σ s. s) (λ o h. h))
+      (λ w me is. ap (λ (c : Bool). next.Go (if c then at.Await (awaiting.Run true) else at.Prepare preparing.Queue)) is)
+      (λ w me k. tt) (λ w me k. (refl, tt, tt)) (λ old new w is c u. knows_look r.cell old new 0 w c u.0)
+
+  queue_law : QueueLaw await_table r stage.Queue
+  queue_law = record {
+    held = record { holds = refl; head = refl };
+    opens = record { fresh = refl; zone = refl };
+    stays = λ e. record {
+      plain = refl;
+      falls = refl;
+      took = refl;
+      goes = λ me. refl;
+      is = λ me k x ok. refl;
+      finds = λ me k x ok. (tt, (ok, λ none. absurd (cc)), tt);
+    };
+    stays_leaves = record { head = refl; ticket = refl };
+    stays_state = inr refl;
+    stays_home = λ o h. h;
+    stays_may = λ k s. may_by false (state_mask r.state) k s;
+    stays_trail = λ old new w c queued u. knows_stayed r.cell old new 0 (own_of old) w (state_mask r.state) c u;
+    joins = record {
+      plain = refl;
+      falls = refl;
+      took = refl;
+      goes = λ me. refl;
+      is = λ me k e ok. (refl, sym ok.at, ok.whole, ok.placed);
+      finds = λ me k e ok. (tt, (ok.shows, λ none. (ok.whole, sym ok.left)), tt);
+    };
+    joins_same = λ first. refl;
+    joins_fits = λ first f. f;
+    joins_leaves = λ first. record { head = refl; ticket = refl };
+    joins_state = λ first σ s. s;
+    joins_home = λ first e h. h;
+    joins_tells = λ first x i e did is. record {
+      cell = refl;
+      state = refl;
+      queued = sym (ap (λ (d : StepOrLook). r.queued || (is_queue d || false)) did ∙ or_yes r.queued);
+    };
+    joins_trail = λ first old mid new looks x u. joined_knows r old mid new first looks x u;
+    wears = record {
+      plain = tt;
+      falls = refl;
+      took = refl;
+      goes = λ me. refl;
+      is = λ me k x ok. (ok.at, refl);
+      finds = λ me k x ok. (tt, (ok.shows, λ none. (ok.whole, sym ok.worn)), tt);
+    };
+    wears_leaves = λ p. record { head = refl; ticket = refl };
+    wears_state = λ p σ s. s;
+    wears_home = λ p. tt;
+    wears_permits = λ old last fits looks at u. knows_none r.cell last at (knows_looks r.cell old last 0 looks u);
+    wears_trail = λ old last new p looks noted is u. (
+      (history_of last, is),
+      record {
+        noted = noted;
+        zero = count_after_step r.cell last new (step.Unlock (await_head r) false) is
+            ∙ (looked_count r.cell old last looks ∙ u.counts.0);
+      },
+    );
+  }
+
+  state_law : StateLaw await_table r stage.State
+  state_law = record {
+    fresh = refl;
+    moves = record {
+      plain = refl;
+      falls = refl;
+      took = refl;
+      goes = λ me. refl;
+      is = λ me k x ok. refl;
+      finds = λ me k x ok. (tt, tt, tt);
+    };
+    leaves = record { head = refl; ticket = refl };
+    state = inr refl;
+    home = λ o h. h;
+    may = λ k s. may_by false (state_mask r.state) k s;
+    sort = inr refl;
+    trail = λ old new c u. knows_state r.cell old new 0 (state_mask r.state) c u;
+  }
+
+  unlock_law : UnlockLaw await_table r stage.Unlock
+  unlock_law = record {
+    held = record { holds = refl; head = refl };
+    fresh = refl;
+    moves = record {
+      plain = refl;
+      falls = refl;
+      took = refl;
+      goes = λ me. refl;
+      is = λ me k x ok. (ok, refl);
+      finds = λ me k x ok. (tt, tt, tt);
+    };
+    leaves = record { head = refl; ticket = refl };
+    state = λ σ s. s;
+    home = λ o h. h;
+    trail = λ old new c u. tt;
+    permits = λ k fits at u. knows_none r.cell k at u;
+  }
+
+  sleep_law : SleepLaw await_table r stage.Sleep stage.Again
+  sleep_law = sleep_by await_table r stage.Sleep refl stage.Again refl refl refl refl refl refl refl refl (λ o h. h)
+      (λ w me. refl) (λ w me k. tt) (λ w me k. (refl, tt, tt)) (λ old new w c u. tt)
+
+  -- a hold that found a signal
+  state_leave : StateLaw await_table r stage.LeaveState
+  state_leave = record {
+    fresh = refl;
+    moves = record {
+      plain = refl;
+      falls = refl;
+      took = refl;
+      goes = λ me. refl;
+      is = λ me k x ok. refl;
+      finds = λ me k x ok. (tt, tt, tt);
+    };
+    leaves = record { head = refl; ticket = refl };
+    state = refl;
+    home = λ o h. h;
+    may = λ k s. inl refl;
+    sort = inl refl;
+    trail = λ old new c u. leaves_calm old new r [] (step.State 0) c (knows_state r.cell old new 0 0 c) u;
+  }
+
+  -- a hold that takes one of the count
+  state_take : StateLaw await_table r stage.TakeState
+  state_take = record {
+    fresh = refl;
+    moves = record {
+      plain = refl;
+      falls = refl;
+      took = refl;
+      goes = λ me. refl;
+      is = λ me k x ok. refl;
+      finds = λ me k x ok. (tt, tt, tt);
+    };
+    leaves = record { head = refl; ticket = refl };
+    state = refl;
+    home = λ o h. h;
+    may = λ k s. inl refl;
+    sort = inl refl;
+    trail = λ old new c u. (knows_state r.cell old new r.count 0 c u.0, u.1);
+  }
+
+  unlock_take : UnlockLaw await_table r stage.TakeUnlock
+  unlock_take = record {
+    held = record { holds = refl; head = refl };
+    fresh = refl;
+    moves = record {
+      plain = tt;
+      falls = refl;
+      took = refl;
+      goes = λ me. refl;
+      is = λ me k x ok. (ok, refl);
+      finds = λ me k x ok. (tt, tt, tt);
+    };
+    leaves = record { head = refl; ticket = refl };
+    state = λ σ s. s;
+    home = λ o h. h;
+    trail = λ old new c u. gives_back old new r c;
+    permits = λ k fits at u. waits_may_end r.cell k u.0 at u.1;
+  }
+
+  laws_at : (s : AwaitStage) → LawOf (await_doing s) await_table r s
+  laws_at stage.First = draw_first
+  laws_at stage.FirstTurn = lock_first
+  laws_at stage.FirstLoad = tt
+  laws_at stage.Again = draw_again
+  laws_at stage.AgainTurn = lock_again
+  laws_at stage.AgainLoad = tt
+  laws_at stage.Look = λ hit. look_law hit
+  laws_at stage.Queue = queue_law
+  laws_at stage.State = state_law
+  laws_at stage.Unlock = unlock_law
+  laws_at stage.Sleep = sleep_law
+  laws_at stage.LeaveState = state_leave
+  laws_at stage.LeaveQueue = tt
+  laws_at stage.LeaveUnlock = tt
+  laws_at stage.TakeState = state_take
+  laws_at stage.TakeQueue = tt
+  laws_at stage.TakeStore = tt
+  laws_at stage.TakeUnlock = unlock_take
+
+depth_most : (s : AwaitStage) → await_depth s ≤ 6
+depth_most stage.Look = omega arith
+depth_most stage.Queue = omega arith
+depth_most stage.State = omega arith
+depth_most stage.Unlock = omega arith
+depth_most stage.LeaveState = omega arith
+depth_most stage.LeaveQueue = omega arith
+depth_most stage.LeaveUnlock = omega arith
+depth_most stage.TakeState = omega arith
+depth_most stage.TakeQueue = omega arith
+depth_most stage.TakeStore = omega arith
+depth_most stage.TakeUnlock = omega arith
+depth_most stage.FirstLoad = omega arith
+depth_most stage.AgainLoad = omega arith
+depth_most s = omega arith
+
+pub await_lawful : IsLawfulTable await_table
+await_lawful = record {
+  keeps = stays_but with_left_entry;
+  tells = record {
+    none = λ r. record { cell = refl; state = refl; queued = sym (or_none r.queued) };
+    on = λ r q w ts us a b. record {
+      cell = b.cell ∙ a.cell;
+      state = b.state ∙ a.state;
+      queued = b.queued ∙ (ap (λ (c : Bool). c || queues us) a.queued ∙ queues_append r.queued ts us);
+    };
+    quiet = λ r x quiet. told_by r r x refl refl refl (quiet_queues x.did quiet);
+  };
+  worn_tells = λ r p x quiet. told_by r (record r { place = p }) x refl refl refl (quiet_queues x.did quiet);
+  at = laws_at;
+  still = λ old new r s c u. still_by old new (unmoved_by old new c) r s u;
+  rises = λ old new r s place still u. still_by old new still r s u;
+  worn = λ r p. refl;
+  worn_fits = λ r p fits. fits;
+  there = λ r s fits. fits;
+  few = λ r s fits. head_there r.cell fits;
+  depth = depth_most;
+}

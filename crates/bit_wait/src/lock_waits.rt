@@ -5,7 +5,7 @@ ghost use Rattle.wait_model.specs.declared.watches.Watch.TheVariants as watch;
 ghost use Rattle.bit_wait.specs.LockTables.{finished_to, loaded_to, lock_looked_to, slept_to, tried_to};
 ghost use Rattle.wait_rule.specs.Says.{IsUp};
 ghost use Rattle.wait_model.specs.declared.layout.TheConstants.{HEADS};
-ghost use Rattle.wait_class.specs.Handing.{HasGivenBack};
+ghost use Rattle.wait_class.specs.Handing.{LastGiven};
 ghost use Rattle.wait_class.specs.declared.frame_stages.Stage.TheVariants as stage;
 ghost use Rattle.wait_class.specs.Laws.{AddsOwn, MayAdd};
 ghost use Rattle.wait_class.specs.Tables.{IsAt, Turned, falls};
@@ -63,7 +63,7 @@ fn try_test(domain: &Domain, task: &mut Task, run: &mut LockRun, test: LockTest)
     requires at { IsAt lock_table task.old run.old (stage.Test test) }
     ensures turned { Turned lock_table task.old task.new run.old run.new (stage.Test test) result }
     ensures falls { falls lock_table (stage.Test test) result ≡ true }
-    ensures given { HasGivenBack task.old task.new HEADS }
+    ensures given { LastGiven task.old task.new HEADS }
 {
     let value = bit_set(domain, task, run.of.wait.word, run.of.wait.bit);
     run.of.wait.seen = value;

@@ -58,7 +58,7 @@ use Rattle.wait_rule.specs.Stays.{Carries, take_off_change, unchanged, with_entr
 use Rattle.wait_rule.specs.Transitions.{FindsValue, IsMadeFor, IsSeenAs, OnlyLooks, Transition, by_step}
 use Rattle.wait_rule.proofs.KnownLaws.MemberBits.{bit_looks}
 use Rattle.wait_rule.proofs.KnownLaws.TaskHistories.{history_after}
-use Rattle.wait_class.specs.Handing.{HasGivenBack, given_back_by}
+use Rattle.wait_class.specs.Handing.{LastGiven, given_back_by}
 use Rattle.wait_class.proofs.Handed.{given_as, given_step}
 use Rattle.wait_rule.proofs.KnownLaws.Transitions.{only_none}
 use Rattle.wq_head.specs.Adds.{HasRemoved}
@@ -579,7 +579,7 @@ set_gives true w n found = refl
 set_gives false w n found = refl
 
 pub stored_count : (old new : Known) (d n : ℕ) (took : Bool) → took ≡ true
-    → MatchBool took (StoresCount old new d n) (new ≡ old) → HasGivenBack old new HEADS
+    → MatchBool took (StoresCount old new d n) (new ≡ old) → LastGiven old new HEADS
 stored_count old new d n true is s = given_as old new _ HEADS (sym (set_gives _ (watch.Done d) n s.found))
     (given_step old new (set_step (watch.Done d) n s.found) s.is)
 stored_count old new d n false is s = absurd (cc)

@@ -7,7 +7,7 @@ ghost use Rattle.wait_rule.specs.Known.{Known};
 ghost use Rattle.wait_rule.specs.PassedLocks.{PassesNone};
 ghost use Rattle.wait_rule.specs.Says.{IsUp};
 ghost use Rattle.wait_class.specs.declared.stages.Doing.TheVariants as doing;
-ghost use Rattle.wait_class.specs.Handing.{HasGivenBack};
+ghost use Rattle.wait_class.specs.Handing.{LastGiven};
 ghost use Rattle.wait_class.specs.Laws.{AddsOwn, MayAdd};
 ghost use Rattle.wait_class.specs.Tables.{IsAt, IsStop, Turned, falls};
 ghost use Rattle.completion_cell.specs.declared.awaits.AwaitStage.TheVariants as stage;
@@ -104,7 +104,7 @@ fn first_event(domain: &Domain, task: &mut Task, run: &mut AwaitRun) -> AwaitTur
     requires at { IsAt await_table task.old run.old stage.FirstLoad }
     ensures turned { Turned await_table task.old task.new run.old run.new stage.FirstLoad result }
     ensures falls { falls await_table stage.FirstLoad result ≡ true }
-    ensures given { HasGivenBack task.old task.new HEADS }
+    ensures given { LastGiven task.old task.new HEADS }
 {
     run.of.count = done_load(domain, task, run.of.cell);
     counted_to(run.of, false)
@@ -118,7 +118,7 @@ fn again_event(domain: &Domain, task: &mut Task, run: &mut AwaitRun) -> AwaitTur
     requires at { IsAt await_table task.old run.old stage.AgainLoad }
     ensures turned { Turned await_table task.old task.new run.old run.new stage.AgainLoad result }
     ensures falls { falls await_table stage.AgainLoad result ≡ true }
-    ensures given { HasGivenBack task.old task.new HEADS }
+    ensures given { LastGiven task.old task.new HEADS }
 {
     own_entry(domain, task);
     run.of.count = done_load(domain, task, run.of.cell);
@@ -131,7 +131,7 @@ fn pare(domain: &Domain, task: &mut Task, run: &AwaitRun, stopped: bool) -> bool
     requires of { task.old.domain ≡ domain.now }
     requires at { IsAt await_table task.old run.now (off_stage stopped) }
     ensures pares { Pares task.old task.new run.now stopped result }
-    ensures given { HasGivenBack task.old task.new HEADS }
+    ensures given { LastGiven task.old task.new HEADS }
 {
     let _ = (*run, stopped);
     let me = task.number();
@@ -160,7 +160,7 @@ fn take_event(
         → Turned await_table start task.new run.now run.now (take_stage found) result }
     ensures passes { PassesNone passing.new ⊎ IsStop await_table result }
     ensures falls { falls await_table (take_stage found) result ≡ true }
-    ensures given { HasGivenBack task.old task.new passing.new.head }
+    ensures given { LastGiven task.old task.new passing.new.head }
 {
     let _ = found;
     if take_one(domain, task, run.of.cell, run.of.count) {
@@ -186,7 +186,7 @@ fn quit_event(
         → Turned await_table start task.new run.now run.now (quit_stage found) result }
     ensures passes { PassesNone passing.new ⊎ IsStop await_table result }
     ensures falls { falls await_table (quit_stage found) result ≡ true }
-    ensures given { HasGivenBack task.old task.new passing.new.head }
+    ensures given { LastGiven task.old task.new passing.new.head }
 {
     let _ = *run;
     passing.put(give_back(domain, task, false));
@@ -208,7 +208,7 @@ fn off_event(
     ensures turned { Turned await_table task.old task.new run.now run.now (off_stage stopped) result }
     ensures passes { PassesNone passing.new ⊎ IsStop await_table result }
     ensures falls { falls await_table (off_stage stopped) result ≡ true }
-    ensures given { HasGivenBack task.old task.new passing.new.head }
+    ensures given { LastGiven task.old task.new passing.new.head }
 {
     let found = pare(domain, task, run, stopped);
     match (stopped, found) {

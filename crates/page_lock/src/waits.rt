@@ -6,7 +6,7 @@ ghost use Rattle.wait_model.specs.Watches as model;
 ghost use Rattle.wait_rule.specs.PassedLocks.{PassesNone};
 ghost use Rattle.wait_rule.specs.Says.{IsUp};
 ghost use Rattle.wait_class.specs.declared.stages.Doing.TheVariants as doing;
-ghost use Rattle.wait_class.specs.Handing.{HasGivenBack};
+ghost use Rattle.wait_class.specs.Handing.{LastGiven};
 ghost use Rattle.wait_class.specs.Laws.{AddsOwn, MayAdd};
 ghost use Rattle.wait_class.specs.Tables.{IsAt, IsStop, Turned, falls};
 ghost use Rattle.page_lock.specs.declared.waits.PageStage.TheVariants as stage;
@@ -143,7 +143,7 @@ fn try_event(domain: &Domain, task: &mut Task, run: &mut PageRun, stage: PageSta
     requires at { IsAt page_table task.old run.old stage }
     ensures turned { Turned page_table task.old task.new run.old run.new stage result }
     ensures falls { falls page_table stage result ≡ true }
-    ensures given { HasGivenBack task.old task.new HEADS }
+    ensures given { LastGiven task.old task.new HEADS }
 {
     let value = bit_set(domain, task, run.of.page, 0);
     run.of.seen = value;
@@ -157,7 +157,7 @@ fn unflag_event(domain: &Domain, task: &mut Task, run: &mut PageRun) -> PageTurn
     requires at { IsAt page_table task.old run.old stage.Unflag }
     ensures turned { Turned page_table task.old task.new run.old run.new stage.Unflag result }
     ensures falls { falls page_table stage.Unflag result ≡ true }
-    ensures given { HasGivenBack task.old task.new HEADS }
+    ensures given { LastGiven task.old task.new HEADS }
 {
     let _ = *run;
     woken_clear(domain, task, 0);
@@ -178,7 +178,7 @@ fn queue_event(
     ensures turned { Turned page_table task.old task.new run.old run.new stage.Queue result }
     ensures passes { PassesNone passing.new ⊎ IsStop page_table result }
     ensures falls { falls page_table stage.Queue result ≡ true }
-    ensures given { HasGivenBack task.old task.new passing.new.head }
+    ensures given { LastGiven task.old task.new passing.new.head }
 {
     match add_for_page(domain, task, run.of.page) {
         Ok(()) => Turn::Again(PageStage::Try),
@@ -197,7 +197,7 @@ fn off_event(domain: &Domain, task: &mut Task, run: &mut PageRun) -> PageTurn
     requires at { IsAt page_table task.old run.old stage.Off }
     ensures turned { Turned page_table task.old task.new run.old run.new stage.Off result }
     ensures falls { falls page_table stage.Off result ≡ true }
-    ensures given { HasGivenBack task.old task.new HEADS }
+    ensures given { LastGiven task.old task.new HEADS }
 {
     let _ = *run;
     let me = task.number();
@@ -213,7 +213,7 @@ fn flag_event(domain: &Domain, task: &mut Task, run: &mut PageRun, stage: PageSt
     requires at { IsAt page_table task.old run.old stage }
     ensures turned { Turned page_table task.old task.new run.old run.new stage result }
     ensures falls { falls page_table stage result ≡ true }
-    ensures given { HasGivenBack task.old task.new HEADS }
+    ensures given { LastGiven task.old task.new HEADS }
 {
     let word = flag_load(domain, task, 0);
     flagged_to(run.of, stage, flag_of(word))
@@ -226,7 +226,7 @@ fn note_event(domain: &Domain, task: &mut Task, run: &mut PageRun) -> PageTurn
     requires at { IsAt page_table task.old run.old stage.Clear }
     ensures turned { Turned page_table task.old task.new run.old run.new stage.Clear result }
     ensures falls { falls page_table stage.Clear result ≡ true }
-    ensures given { HasGivenBack task.old task.new passing.new.head }
+    ensures given { LastGiven task.old task.new HEADS }
 {
     page_note(domain, task, 0, run.of.page);
     Turn::Done(PageOutcome::Over)

@@ -12,7 +12,7 @@ use Rattle.wait_rule.specs.declared.tries.FailedTries.{FailedTries}
 use Rattle.wait_rule.specs.Tried.{IsOneMore}
 use Rattle.wait_class.specs.declared.stages.Turn.{Turn}
 use Rattle.wait_class.specs.declared.stages.Turn.TheVariants as turn
-use Rattle.wait_class.specs.Handing.{HasGivenBack}
+use Rattle.wait_class.specs.Handing.{LastGiven}
 use Rattle.wait_class.specs.Tables.{Advances, MadeEvent, Shows, CallTable}
 
 -- it has made nothing yet, or an event
@@ -75,7 +75,7 @@ pub record IsUnderWay {C S O : Type 0} (t : CallTable C S O) (old new : Known) (
     Type 0 where
   pub way : Advances t old new r q s (turn.Again n)
   pub begun : IsBegun old new r q
-  pub given : HasGivenBack old new HEADS
+  pub given : LastGiven old new HEADS
   pub low : t.depth n + turns ≤ 6
 
 -- a place at which no head is held

@@ -17,7 +17,7 @@ last_given_back [] h = h
 last_given_back (e ∷ es) h = last_given_back es (given_back_by e h)
 
 -- This is the head whose lock the task gave back last meanwhile, or `HEADS` where it gave none back.
-pub record HasGivenBack (old new : Known) (h : ℕ) : Type 0 where
+pub record LastGiven (old new : Known) (h : ℕ) : Type 0 where
   pub steps : List Step
   pub history : history_of new ≡ history_of old ++ steps
   pub last : h ≡ last_given_back steps HEADS

@@ -6,7 +6,7 @@ ghost use Rattle.wait_rule.specs.PassedLocks.{PassesNone};
 ghost use Rattle.wait_rule.specs.Says.{history_of};
 ghost use Rattle.wait_class.specs.declared.stages.Doing.TheVariants as doing;
 ghost use Rattle.wait_class.specs.declared.stages.Turn.TheVariants as turn;
-ghost use Rattle.wait_class.specs.Handing.{HasGivenBack};
+ghost use Rattle.wait_class.specs.Handing.{LastGiven};
 ghost use Rattle.wait_class.specs.Tables.{Advances, IsAt, IsStop, Turned, falls, head_in};
 
 use crate::machines::Machine;
@@ -35,7 +35,7 @@ fn load_event<C: Machine>(
     requires at { IsAt C.table task.old run.old stage }
     ensures turned { Turned C.table task.old task.new run.old run.new stage result }
     ensures falls { falls C.table stage result ≡ true }
-    ensures given { HasGivenBack task.old task.new HEADS }
+    ensures given { LastGiven task.old task.new HEADS }
 {
     C::lawful();
     let value = cond_load(domain, task, run.of.watch(stage));
@@ -84,7 +84,7 @@ fn lock_event<C: Machine>(
     requires at { IsAt C.table task.old run.old stage }
     ensures turned { Turned C.table task.old task.new run.old run.new stage result }
     ensures falls { falls C.table stage result ≡ true }
-    ensures given { HasGivenBack task.old task.new HEADS }
+    ensures given { LastGiven task.old task.new HEADS }
 {
     C::lawful();
     let found = serving_load(domain, task, head);
@@ -112,7 +112,7 @@ fn unlock_event<C: Machine>(
     ensures turned { Turned C.table task.old task.new run.old run.new stage result }
     ensures passes { PassesNone passing.new ⊎ IsStop C.table result }
     ensures falls { falls C.table stage result ≡ true }
-    ensures given { HasGivenBack task.old task.new passing.new.head }
+    ensures given { LastGiven task.old task.new passing.new.head }
 {
     C::lawful();
     passing.put(give_back(domain, task, false));
@@ -132,7 +132,7 @@ fn state_event<C: Machine>(
     requires at { IsAt C.table task.old run.old stage }
     ensures turned { Turned C.table task.old task.new run.old run.new stage result }
     ensures falls { falls C.table stage result ≡ true }
-    ensures given { HasGivenBack task.old task.new HEADS }
+    ensures given { LastGiven task.old task.new HEADS }
 {
     C::lawful();
     set_state(domain, task, run.of.state_at(stage));
@@ -152,7 +152,7 @@ fn look_event<C: Machine>(
     requires at { IsAt C.table task.old run.old stage }
     ensures turned { Turned C.table task.old task.new run.old run.new stage result }
     ensures falls { falls C.table stage result ≡ true }
-    ensures given { HasGivenBack task.old task.new HEADS }
+    ensures given { LastGiven task.old task.new HEADS }
 {
     C::lawful();
     let own = load_own(domain, task);
@@ -173,7 +173,7 @@ fn sleep_event<C: Machine>(
     requires at { IsAt C.table task.old run.old stage }
     ensures turned { Turned C.table task.old task.new run.old run.new stage result }
     ensures falls { falls C.table stage result ≡ true }
-    ensures given { HasGivenBack task.old task.new HEADS }
+    ensures given { LastGiven task.old task.new HEADS }
 {
     C::lawful();
     let next = run.of.slept_to(stage);
@@ -198,7 +198,7 @@ fn peek_event<C: Machine>(
     requires at { IsAt C.table task.old run.old stage }
     ensures turned { Turned C.table task.old task.new run.old run.new stage result }
     ensures falls { falls C.table stage result ≡ true }
-    ensures given { HasGivenBack task.old task.new HEADS }
+    ensures given { LastGiven task.old task.new HEADS }
 {
     C::lawful();
     let entry = own_entry(domain, task);
@@ -221,7 +221,7 @@ fn pare_event<C: Machine>(
     ensures turned { Turned C.table task.old task.new run.old run.new stage result }
     ensures passes { PassesNone passing.new ⊎ IsStop C.table result }
     ensures falls { falls C.table stage result ≡ true }
-    ensures given { HasGivenBack task.old task.new passing.new.head }
+    ensures given { LastGiven task.old task.new passing.new.head }
 {
     C::lawful();
     let me = task.number();
@@ -250,7 +250,7 @@ fn heed_event<C: Machine>(
     ensures turned { Turned C.table task.old task.new run.old run.new stage result }
     ensures passes { PassesNone passing.new ⊎ IsStop C.table result }
     ensures falls { falls C.table stage result ≡ true }
-    ensures given { HasGivenBack task.old task.new passing.new.head }
+    ensures given { LastGiven task.old task.new passing.new.head }
 {
     C::lawful();
     let entry = own_entry(domain, task);
@@ -280,7 +280,7 @@ fn queue_event<C: Machine>(
     ensures turned { Turned C.table task.old task.new run.old run.new stage result }
     ensures passes { PassesNone passing.new ⊎ IsStop C.table result }
     ensures falls { falls C.table stage result ≡ true }
-    ensures given { HasGivenBack task.old task.new passing.new.head }
+    ensures given { LastGiven task.old task.new passing.new.head }
 {
     C::lawful();
     let entry = own_entry(domain, task);
@@ -321,7 +321,7 @@ pub fn advance<C: Machine>(
     ensures turned { Turned C.table task.old task.new run.old run.new stage result }
     ensures passes { PassesNone passing.new ⊎ IsStop C.table result }
     ensures falls { falls C.table stage result ≡ true }
-    ensures given { HasGivenBack task.old task.new passing.new.head }
+    ensures given { LastGiven task.old task.new passing.new.head }
 {
     C::lawful();
     match C::doing(stage) {

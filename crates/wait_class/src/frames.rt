@@ -6,7 +6,7 @@ ghost use Rattle.wait_rule.specs.Says.{IsUp};
 ghost use Rattle.wait_class.specs.declared.frame_stages.Stage.TheVariants as stage;
 ghost use Rattle.wait_class.specs.FrameLaws.{IsLawfulFrame};
 ghost use Rattle.wait_class.specs.Frames.{FrameTable, framed};
-ghost use Rattle.wait_class.specs.Handing.{HasGivenBack};
+ghost use Rattle.wait_class.specs.Handing.{LastGiven};
 ghost use Rattle.wait_class.specs.Laws.{AddsOwn, MayAdd};
 ghost use Rattle.wait_class.specs.Tables.{IsAt, Turned, falls};
 
@@ -89,7 +89,7 @@ pub trait Frame: Waiting {
         requires at { IsAt (framed Self.frame) task.old run.old (stage.Test test) }
         ensures turned { Turned (framed Self.frame) task.old task.new run.old run.new (stage.Test test) result }
         ensures falls { falls (framed Self.frame) (stage.Test test) result ≡ true }
-        ensures given { HasGivenBack task.old task.new HEADS };
+        ensures given { LastGiven task.old task.new HEADS };
 }
 
 /// The event of a test that loads the condition.
@@ -105,7 +105,7 @@ pub fn load_test<F: Waiting>(
     requires at { IsAt (framed F.frame) task.old run.old (stage.Test test) }
     ensures turned { Turned (framed F.frame) task.old task.new run.old run.new (stage.Test test) result }
     ensures falls { falls (framed F.frame) (stage.Test test) result ≡ true }
-    ensures given { HasGivenBack task.old task.new HEADS }
+    ensures given { LastGiven task.old task.new HEADS }
 {
     F::lawful();
     let value = cond_load(domain, task, run.of.wait.watch());

@@ -7,7 +7,7 @@ ghost use Rattle.wait_rule.specs.PassedLocks.{PassesNone};
 ghost use Rattle.wait_rule.specs.Says.{IsUp};
 ghost use Rattle.wait_class.specs.declared.stages.Added.TheVariants as adds;
 ghost use Rattle.wait_class.specs.declared.stages.Doing.TheVariants as doing;
-ghost use Rattle.wait_class.specs.Handing.{HasGivenBack};
+ghost use Rattle.wait_class.specs.Handing.{LastGiven};
 ghost use Rattle.wait_class.specs.Laws.{AddsOwn, IsLawfulTable, MayAdd};
 ghost use Rattle.wait_class.specs.Tables.{IsAt, IsStop, CallTable, Turned, falls, stage_watch};
 
@@ -106,7 +106,7 @@ pub trait Machine: Copy {
         ensures turned { Turned table task.old task.new run.old run.new stage result }
         ensures passes { PassesNone passing.new ⊎ IsStop table result }
         ensures falls { falls table stage result ≡ true }
-        ensures given { HasGivenBack task.old task.new passing.new.head };
+        ensures given { LastGiven task.old task.new passing.new.head };
 
     /// The table keeps the laws.
     fn lawful()

@@ -5,7 +5,7 @@ ghost use Rattle.wait_rule.specs.PassedLocks.{PassesNone};
 ghost use Rattle.wait_rule.specs.Says.{IsUp};
 ghost use Rattle.wq_head.specs.declared.locks.TheConstants.{LOOKS};
 ghost use Rattle.wait_class.specs.declared.stages.Turn.TheVariants as turn;
-ghost use Rattle.wait_class.specs.Handing.{HasGivenBack};
+ghost use Rattle.wait_class.specs.Handing.{LastGiven};
 ghost use Rattle.wait_class.specs.Tables.{Advances, IsAsleepAt, IsAt, IsStop, LooksAwake, Turned, falls};
 ghost use Rattle.wait_class.specs.Wholes.{HasRested};
 
@@ -41,7 +41,7 @@ pub fn stretch<C: Machine>(
     requires at { IsAt C.table task.old run.old stage }
     ensures turned { Turned C.table task.old task.new run.old run.new stage result }
     ensures stops { IsStop C.table result }
-    ensures given { HasGivenBack task.old task.new passing.new.head }
+    ensures given { LastGiven task.old task.new passing.new.head }
 {
     C::lawful();
     let mut at = stage;

@@ -15,7 +15,7 @@ use Rattle.completion_cell.proofs.AwaitTakes.{
 use Rattle.std.proofs.Common.{◌∙◌, ◌-◌, false, subst}
 use Rattle.wait_model.specs.declared.layout.TheConstants.{HEADS}
 use Rattle.wait_rule.specs.Known.{Known}
-use Rattle.wait_class.specs.Handing.{HasGivenBack}
+use Rattle.wait_class.specs.Handing.{LastGiven}
 use Rattle.completion_cell.proofs.AwaitTakes.{stored_count, stays_count}
 use Rattle.wait_class.proofs.Handed.{given_as, given_unlocked}
 use Rattle.completion_cell.proofs.awaits.take_event.Goals as goal
@@ -75,7 +75,7 @@ returns-then-take_one-clause-given c = given_as c.args.task.now c.take_one.new.t
 pub returns-clause-given : goal.returns-clause-given
 returns-clause-given c = given_as c.args.task.now c.give_back.new.task c.take_one.new.task.at c.put.new.self.head
     (c.put.ensures ∙ c.give_back.ensures.head)
-    (subst (λ (k : Known). HasGivenBack k c.give_back.new.task c.take_one.new.task.at)
+    (subst (λ (k : Known). LastGiven k c.give_back.new.task c.take_one.new.task.at)
     (stays_count c.args.task.now c.take_one.new.task c.args.run.now.of.cell (c.args.run.now.of.count - 1) c.take_one.result c.if-take_one.false c.take_one.ensures.stores)
     (given_unlocked c.take_one.new.task c.give_back.new.task c.take_one.new.task.at false
     c.give_back.ensures.given))

@@ -7,7 +7,7 @@ mod many;
 mod pages;
 mod sleepers;
 mod strangers;
-mod tickets;
+pub(crate) mod tickets;
 pub mod turns;
 mod waiting;
 

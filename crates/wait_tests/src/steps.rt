@@ -1,7 +1,7 @@
 //! Single steps on the shared words, by one task and by threads.
 
 mod pages;
-mod parks;
+pub(crate) mod parks;
 mod pipes;
 mod queues;
 mod tallies;

@@ -2,8 +2,8 @@
 
 mod pages;
 mod pairs;
-mod rounds;
-mod strangers;
+pub(crate) mod rounds;
+pub(crate) mod strangers;
 
 ghost use Rattle.std.specs.Prelude.{◌≡◌};
 ghost use Rattle.wait_rule.specs.Says.{IsClean};

@@ -6,6 +6,7 @@ ghost use Rattle.wait_rule.specs.Says.{IsClean, told_of};
 ghost use Rattle.wait_tests.specs.EventTasks.{IsCleanHearer, IsHearer};
 
 use crate::meetings::{Part, two_meet};
+use crate::wants::all_so;
 use std::sync::Wait;
 use std::test::Fail;
 use wait_event::entries::{add_entry, remove_entry};
@@ -94,10 +95,13 @@ fn woken_before_the_sleep(rt: HostRuntime) -> Result<(), Fail> {
     let (domain, mut task) = Domain::new(rt.alloc())?;
     if enter(&rt, &domain, &mut task) {
         let walked = wake_all(&rt, &domain, &mut task);
-        assert!(rt; walked.selected == 0);
-        assert!(rt; walked.woken == 0);
-        assert!(rt; walked.holds == 1);
-        assert!(rt; matches!(walked.end, End::End));
+        let seen = [
+            walked.selected == 0,
+            walked.woken == 0,
+            walked.holds == 1,
+            matches!(walked.end, End::End),
+        ];
+        all_so(&rt, &seen);
         hear_and_leave(&rt, &domain, &mut task);
         return Ok(());
     }

@@ -4,6 +4,7 @@ ghost use Rattle.std.specs.Prelude.{◌≡◌};
 ghost use Rattle.wait_rule.specs.Says.{IsClean};
 
 use crate::meetings::{Part, four_meet};
+use crate::wants::all_so;
 use std::sync::Wait;
 use std::test::Fail;
 use wait_model::layout::FIRST_PLAIN_HEAD;
@@ -34,7 +35,10 @@ fn tickets(rt: HostRuntime) -> Result<(), Fail> {
     let (domain, task) = Domain::new(rt.alloc())?;
     let two = (Part::Holds, Part::Holds);
     let mut last = four_meet(&rt, &domain, task, two, two);
-    assert!(rt; serving_load(&domain, &mut last, FIRST_PLAIN_HEAD) == 2_000);
-    assert!(rt; draw(&domain, &mut last, FIRST_PLAIN_HEAD) == 2_000);
+    let seen = [
+        serving_load(&domain, &mut last, FIRST_PLAIN_HEAD) == 2_000,
+        draw(&domain, &mut last, FIRST_PLAIN_HEAD) == 2_000,
+    ];
+    all_so(&rt, &seen);
     Ok(())
 }

@@ -5,7 +5,7 @@ ghost use Rattle.std.specs.Prelude.{◌≡◌};
 ghost use Rattle.wait_rule.specs.Says.{IsClean};
 
 use crate::meetings::{Part, meet_two, two_meet};
-use crate::wants::another;
+use crate::wants::{all_so, another};
 use std::sync::Wait;
 use std::test::Fail;
 use wait_model::tasks::SleepState;
@@ -72,11 +72,14 @@ pub(crate) fn complete_for_one<R: Wait>(rt: &R, domain: &Domain, task: &mut Task
 fn simple_queue_of_nobody(rt: HostRuntime) -> Result<(), Fail> {
     let (domain, mut task) = Domain::new(rt.alloc())?;
     let mut other = another(&rt, &domain, &mut task);
-    assert!(rt; !swake(&rt, &domain, &mut other));
-    assert!(rt; swake_in_hold(&rt, &domain, &mut other) == (false, 0));
-    assert!(rt; !set_and_swake(&rt, &domain, &mut other));
-    assert!(rt; swait(&rt, &domain, &mut other));
-    assert!(rt; swake_and_join(&rt, &domain, &mut task, other) == 0);
+    let seen = [
+        !swake(&rt, &domain, &mut other),
+        swake_in_hold(&rt, &domain, &mut other) == (false, 0),
+        !set_and_swake(&rt, &domain, &mut other),
+        swait(&rt, &domain, &mut other),
+        swake_and_join(&rt, &domain, &mut task, other) == 0,
+    ];
+    all_so(&rt, &seen);
     Ok(())
 }
 
@@ -87,9 +90,12 @@ fn completion_of_nobody(rt: HostRuntime) -> Result<(), Fail> {
     let mut one = another(&rt, &domain, &mut task);
     let two = another(&rt, &domain, &mut task);
     complete_one(&rt, &domain, &mut one);
-    assert!(rt; take_one(&rt, &domain, &mut one));
-    assert!(rt; !take_one(&rt, &domain, &mut one));
-    assert!(rt; !complete_and_clear(&rt, &domain, &mut one));
+    let seen = [
+        take_one(&rt, &domain, &mut one),
+        !take_one(&rt, &domain, &mut one),
+        !complete_and_clear(&rt, &domain, &mut one),
+    ];
+    all_so(&rt, &seen);
     complete_and_join(&rt, &domain, &mut task, two);
     assert!(rt; take_and_join(&rt, &domain, &mut task, one));
     Ok(())
@@ -104,8 +110,11 @@ fn simple_waiter_is_joined(rt: HostRuntime) -> Result<(), Fail> {
         let all = round % 2 == 0;
         let parts = (Part::UserSwakes { all }, Part::UserSwaits);
         let ((mut task, _), waited) = meet_two(&rt, &domain, task, other, parts);
-        assert!(rt; waited.1);
-        assert!(rt; swake_and_join(&rt, &domain, &mut task, waited.0) == 0);
+        let seen = [
+            waited.1,
+            swake_and_join(&rt, &domain, &mut task, waited.0) == 0,
+        ];
+        all_so(&rt, &seen);
     }
     Ok(())
 }

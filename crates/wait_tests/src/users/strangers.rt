@@ -160,11 +160,14 @@ fn hashed_parts_of_one_task(rt: HostRuntime) -> Result<(), Fail> {
     if !take_bit(&domain, &mut other) {
         panic!(rt; "the bit is clear")
     }
-    assert!(rt; give_bit(&rt, &domain, &mut other) == 0);
-    assert!(rt; wait_until_clear(&rt, &domain, &mut other));
-    assert!(rt; change(&rt, &domain, &mut other, 3) == 0);
-    assert!(rt; wait_until_changed(&rt, &domain, &mut other) == 3);
-    assert!(rt; count_members(&rt, &domain, &mut other) == 0);
+    let seen = [
+        give_bit(&rt, &domain, &mut other) == 0,
+        wait_until_clear(&rt, &domain, &mut other),
+        change(&rt, &domain, &mut other, 3) == 0,
+        wait_until_changed(&rt, &domain, &mut other) == 3,
+        count_members(&rt, &domain, &mut other) == 0,
+    ];
+    all_so(&rt, &seen);
     task.join(&domain, other);
     Ok(())
 }

@@ -1,6 +1,6 @@
 #!/bin/sh
 # Times the steps of a Domain beside plain Rust. It writes the ratios of each run, and then of each name the middle one
-# with the least and the greatest. It needs rustc, and the program built by `rt run` in crates/bench_domain.
+# with the least and the greatest. It needs rustc, and the program built by `rt run` in crates/bench_threads.
 # RUNS: how many runs (5). BUSY: how many loops keep processors busy meanwhile (0). WITH: a command that starts the
 # programs, as `chrt -f 50`, by which other work gives way to them.
 set -eu
@@ -18,7 +18,7 @@ rustc -O -o "$made/plain" bench/plain.rs
 ratios() {
     {
         ${WITH:-} "$made/plain" | sed 's/^/plain /'
-        ${WITH:-} crates/bench_domain/out/bench_domain times | sed 's/^/domain /'
+        ${WITH:-} crates/bench_threads/out/bench_threads steps | sed 's/^/domain /'
     } | awk '
         $1 == "plain" { plain[$2] = $4 / $3 }
         $1 == "domain" && NF == 4 {

@@ -1,7 +1,7 @@
 #!/bin/sh
 # Times conditions that are set and waited for beside a std Condvar and a raw futex in plain Rust, and writes the ratios
 # of each run, and then of each name the middle one with the least and the greatest. It needs rustc, and the program
-# built by `rt run` in crates/bench_event. In a run each program makes 30 short rounds of each kind, in turn with the
+# built by `rt run` in crates/bench_threads. In a run each program makes 30 short rounds of each kind, in turn with the
 # other; the middle round counts. The ordinary scheduler puts the two threads of a round trip on one processor or on
 # two: bench/trips.sh times trips with the threads placed.
 # RUNS: how many runs (5). BUSY: how many loops keep processors busy meanwhile (0). WITH: a command that starts the
@@ -21,7 +21,7 @@ rustc -O -o "$made/plain" bench/events.rs
 rounds() {
     for _ in 1 2 3; do
         ${WITH:-} "$made/plain"
-        ${WITH:-} crates/bench_event/out/bench_event times | sed 's/^/domain /'
+        ${WITH:-} crates/bench_threads/out/bench_threads events | sed 's/^/domain /'
     done | awk 'NF == 4 { print $2, $1, $4 / $3 }' | sort -k 1,1 -k 2,2 -k 3,3g | awk '
         function flush() { if (name != "") print name, who, all[int((n + 1) / 2)] }
         $1 != name || $2 != who { flush(); name = $1; who = $2; n = 0 }

@@ -1,6 +1,6 @@
 #!/bin/sh
 # Times holds of a head's lock beside a std Mutex and a ticket lock in plain Rust, and writes the figures of each run. It
-# needs rustc, and the program built by `rt run` in crates/bench_head. RUNS: how many runs (7). In a run each program
+# needs rustc, and the program built by `rt run` in crates/bench_threads. RUNS: how many runs (7). In a run each program
 # makes many short rounds, three times in turn with the other. Of one thread's holds the least round counts; where
 # threads share a lock, the middle one. The first ratio is to the Mutex, the second to the plain ticket lock. A wake goes
 # over entries of tasks that are awake: it calls each, and wakes no thread.
@@ -24,7 +24,7 @@ for _ in $(seq "${RUNS:-7}"); do
     rm -f "$made/plain" "$made/head"
     for _ in 1 2 3; do
         "$plain" >>"$made/plain"
-        crates/bench_head/out/bench_head times >>"$made/head"
+        crates/bench_threads/out/bench_threads heads >>"$made/head"
     done
     { rounds plain; rounds head; } | awk '
         { least[$1, $2] = $3; middle[$1, $2] = $4 }

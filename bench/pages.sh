@@ -2,8 +2,9 @@
 # Times pages that one, two and four threads take in turn, beside plain Rust: a std Mutex, parking_lot's Mutex with its
 # fair unlock, and a lock that hands itself on to the first of its queue. It writes the nanoseconds a lock and the
 # ratios of each run, then of each name the middle ones with the least and the greatest; and how often of 1,000 locks a
-# thread had to let another one pass that came later. It needs rustc, and the program built by `rt run` in crates/bench_page;
-# for parking_lot also cargo and that crate as Debian has it (librust-parking-lot-dev): without it that column is -.
+# thread had to let another one pass that came later. It needs rustc, and the program built by `rt run` in
+# crates/bench_threads; for parking_lot also cargo and that crate as Debian has it (librust-parking-lot-dev): without it
+# that column is -.
 # RUNS: how many runs (5). BUSY: how many loops keep processors busy meanwhile (0). WITH: a command that starts the
 # programs, as `chrt -f 50`, by which other work gives way to them.
 set -eu
@@ -45,7 +46,7 @@ build
 # One run: the lines of all programs, as WHO NAME COUNT NANOSECONDS, and WHO NAME COUNT passed PASSED.
 lines() {
     ${WITH:-} "$made/pages"
-    ${WITH:-} crates/bench_page/out/bench_page times >"$made/domain"
+    ${WITH:-} crates/bench_threads/out/bench_threads pages >"$made/domain"
     awk 'NF == 3 { print "domain", $0 }' "$made/domain"
     awk '$1 == "came" { print $2, $3, $4 }' "$made/domain" | sort -k 1,1 -k 2,2n | awk '
         function flush() { if (name != "") print "domain", name, count, "passed", passed }

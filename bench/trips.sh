@@ -1,7 +1,7 @@
 #!/bin/sh
 # Times round trips of two threads by `set_and_wake` and `wait_event` beside a std Condvar and a raw futex, with the
 # threads of all programs on the same processors: both on one, and each on its own. It needs rustc, taskset, and the
-# program built by `rt run` in crates/bench_event. A run starts each program once, in turn with the other, for 10 rounds
+# program built by `rt run` in crates/bench_threads. A run starts each program once, in turn with the other, for 10 rounds
 # of each kind, whose middle one counts; of the runs' ratios it writes the middle one with the quarters and the ends.
 # RUNS: how many runs of each placement (25). ONE: the first processor (0), and OTHER: the second (1). BUSY: how many
 # loops keep processors busy meanwhile (0). WITH: a command that starts the programs, as `chrt -f 50`.
@@ -28,7 +28,7 @@ placed() {
 rounds() {
     {
         placed "$made/plain" trips
-        placed crates/bench_event/out/bench_event trips | sed 's/^/domain /'
+        placed crates/bench_threads/out/bench_threads events trips | sed 's/^/domain /'
     } | awk 'NF == 4 { print $2, $1, $4 / $3 }' | sort -k 1,1 -k 2,2 -k 3,3g | awk '
         function flush() { if (name != "") print name, who, all[int((n + 1) / 2)] }
         $1 != name || $2 != who { flush(); name = $1; who = $2; n = 0 }

@@ -2,6 +2,5 @@ pub mod Leaving
 pub mod EventTasks
 pub mod CompletionTasks
 pub mod BitTasks
-pub mod PageTasks
 pub mod PipeTasks
 pub mod Meeting

@@ -5,4 +5,4 @@ pub(crate) mod calls;
 mod cells;
 mod others;
 mod stretches;
-mod threads;
+pub(crate) mod threads;

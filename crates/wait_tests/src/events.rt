@@ -3,7 +3,7 @@
 pub(crate) mod alone;
 pub(crate) mod flags;
 mod hearers;
-mod selected;
-mod stretches;
-mod threads;
+pub(crate) mod selected;
+pub(crate) mod stretches;
+pub(crate) mod threads;
 mod turns;

@@ -7,10 +7,11 @@ mod many;
 mod pages;
 mod sleepers;
 mod strangers;
-mod tickets;
+pub(crate) mod tickets;
 pub mod turns;
 mod waiting;
 
+use crate::wants::all_so;
 use std::test::Fail;
 use wait_model::layout::FIRST_PLAIN_HEAD;
 use wait_model::queues::End;
@@ -39,8 +40,11 @@ fn added_is_member(rt: HostRuntime) -> Result<(), Fail> {
     let (domain, mut task) = Domain::new(rt.alloc())?;
     lock(&rt, &domain, &mut task, FIRST_PLAIN_HEAD);
     let watch = Watch::Plain { cond: 0 };
-    assert!(rt; add_front(&domain, &mut task, 0, Kind::Autoremove, watch).is_ok());
-    assert!(rt; has_members(&domain, &mut task, FIRST_PLAIN_HEAD));
+    let seen = [
+        add_front(&domain, &mut task, 0, Kind::Autoremove, watch).is_ok(),
+        has_members(&domain, &mut task, FIRST_PLAIN_HEAD),
+    ];
+    all_so(&rt, &seen);
     unlock(&rt, &domain, &mut task, false);
     Ok(())
 }
@@ -51,8 +55,11 @@ fn added_at_tail(rt: HostRuntime) -> Result<(), Fail> {
     let (domain, mut task) = Domain::new(rt.alloc())?;
     lock(&rt, &domain, &mut task, FIRST_PLAIN_HEAD);
     let watch = Watch::Plain { cond: 0 };
-    assert!(rt; add_tail(&domain, &mut task, 0, Kind::Default, true, watch).is_ok());
-    assert!(rt; has_members(&domain, &mut task, FIRST_PLAIN_HEAD));
+    let seen = [
+        add_tail(&domain, &mut task, 0, Kind::Default, true, watch).is_ok(),
+        has_members(&domain, &mut task, FIRST_PLAIN_HEAD),
+    ];
+    all_so(&rt, &seen);
     unlock(&rt, &domain, &mut task, false);
     Ok(())
 }
@@ -63,8 +70,11 @@ fn added_with_priority(rt: HostRuntime) -> Result<(), Fail> {
     let (domain, mut task) = Domain::new(rt.alloc())?;
     lock(&rt, &domain, &mut task, FIRST_PLAIN_HEAD);
     let watch = Watch::Plain { cond: 0 };
-    assert!(rt; add_priority(&domain, &mut task, 0, Kind::Default, watch).is_ok());
-    assert!(rt; has_members(&domain, &mut task, FIRST_PLAIN_HEAD));
+    let seen = [
+        add_priority(&domain, &mut task, 0, Kind::Default, watch).is_ok(),
+        has_members(&domain, &mut task, FIRST_PLAIN_HEAD),
+    ];
+    all_so(&rt, &seen);
     unlock(&rt, &domain, &mut task, false);
     Ok(())
 }
@@ -90,9 +100,12 @@ fn wake_alone(rt: HostRuntime) -> Result<(), Fail> {
     let (domain, mut task) = Domain::new(rt.alloc())?;
     let watch = Watch::Plain { cond: 0 };
     let walked = wake(&rt, &domain, &mut task, watch, Mode::Normal, 0);
-    assert!(rt; walked.selected == 0);
-    assert!(rt; walked.woken == 0);
-    assert!(rt; walked.holds == 1);
-    assert!(rt; matches!(walked.end, End::End));
+    let seen = [
+        walked.selected == 0,
+        walked.woken == 0,
+        walked.holds == 1,
+        matches!(walked.end, End::End),
+    ];
+    all_so(&rt, &seen);
     Ok(())
 }

@@ -15,6 +15,10 @@ mod heads;
 #[cfg(test)]
 mod in_order;
 #[cfg(test)]
+mod meetings;
+#[cfg(test)]
+mod orders;
+#[cfg(test)]
 mod pages;
 #[cfg(test)]
 mod pipes;

@@ -3,4 +3,4 @@
 pub(crate) mod alone;
 mod short_calls;
 mod stretches;
-mod threads;
+pub(crate) mod threads;

@@ -1,7 +1,7 @@
 //! Waits that a signal ends: one that is pending before, so that they end before they sleep, and one that comes in
 //! mid-wait, from another thread.
 
-mod threads;
+pub(crate) mod threads;
 
 use crate::bits::alone::take;
 use crate::completions::calls::wait_for;

@@ -2,6 +2,6 @@
 //! calls alone.
 
 mod alone;
-mod stretches;
+pub(crate) mod stretches;
 mod swakes;
-mod threads;
+pub(crate) mod threads;

@@ -1,7 +1,7 @@
 //! Single steps on the shared words, by one task and by threads.
 
 mod pages;
-mod parks;
+pub(crate) mod parks;
 mod pipes;
 mod queues;
 mod tallies;
@@ -10,7 +10,7 @@ ghost use Rattle.std.specs.Prelude.{◌≡◌, []};
 ghost use Rattle.wait_tests.specs.Meeting.{SleptOnce, WokeOnce, HaveMet};
 ghost use Rattle.wait_rule.specs.Says.{IsClean, IsUp, history_of};
 
-use crate::wants::another;
+use crate::wants::{all_so, another};
 use std::sync::Wait;
 use std::test::Fail;
 use std::thread;
@@ -27,13 +27,19 @@ use wait_rule::tries::{FailedTries, sleep_try, wake_try};
 #[test]
 fn alone(rt: HostRuntime) -> Result<(), Fail> {
     let (domain, mut task) = Domain::new(rt.alloc())?;
-    assert!(rt; matches!(schedule(&rt, &domain, &mut task), Sleep::Stay));
-    assert!(rt; matches!(sleep_exchange(&rt, &domain, &mut task), Sleep::Stay));
-    assert!(rt; !wake_task(&rt, &domain, &mut task, 0, Mode::Normal));
-    assert!(rt; !wake_exchange(&rt, &domain, &mut task, 0, NORMAL));
+    let seen = [
+        matches!(schedule(&rt, &domain, &mut task), Sleep::Stay),
+        matches!(sleep_exchange(&rt, &domain, &mut task), Sleep::Stay),
+        !wake_task(&rt, &domain, &mut task, 0, Mode::Normal),
+        !wake_exchange(&rt, &domain, &mut task, 0, NORMAL),
+    ];
+    all_so(&rt, &seen);
     send_signal(&rt, &domain, &mut task, 0, false);
-    assert!(rt; matches!(take_signal(&domain, &mut task), Taken::Plain));
-    assert!(rt; matches!(take_signal(&domain, &mut task), Taken::Nothing));
+    let seen = [
+        matches!(take_signal(&domain, &mut task), Taken::Plain),
+        matches!(take_signal(&domain, &mut task), Taken::Nothing),
+    ];
+    all_so(&rt, &seen);
     Ok(())
 }
 
@@ -62,9 +68,12 @@ fn shares_are_apart(rt: HostRuntime) -> Result<(), Fail> {
     let Ok(mut second) = task.fork(&domain, 5) else {
         panic!(rt; "a number is spare")
     };
-    assert!(rt; second.number() == 1);
-    assert!(rt; second.spare() == 5);
-    assert!(rt; task.spare() == 249);
+    let seen = [
+        second.number() == 1,
+        second.spare() == 5,
+        task.spare() == 249,
+    ];
+    all_so(&rt, &seen);
     let Ok(third) = second.fork(&domain, 4) else {
         panic!(rt; "5 numbers are spare")
     };
@@ -102,8 +111,8 @@ fn single_tries(rt: HostRuntime) -> Result<(), Fail> {
     let Some(again) = wake_try(&domain, &mut other, 0, NORMAL, &mut failed) else {
         panic!(rt; "nobody changes the word meanwhile")
     };
-    assert!(rt; !again.met && !again.rouse);
-    assert!(rt; awake(&domain, &mut task));
+    let seen = [!again.met && !again.rouse, awake(&domain, &mut task)];
+    all_so(&rt, &seen);
     Ok(())
 }
 
@@ -115,9 +124,12 @@ fn signals_stop_sleeps(rt: HostRuntime) -> Result<(), Fail> {
     set_state(&domain, &mut task, KILLABLE);
     assert!(rt; matches!(schedule(&rt, &domain, &mut task), Sleep::Signal));
     set_state(&domain, &mut task, INTERRUPTIBLE);
-    assert!(rt; matches!(schedule(&rt, &domain, &mut task), Sleep::Signal));
-    assert!(rt; load_own(&domain, &mut task).0 == 0x7_0000);
-    assert!(rt; matches!(take_signal(&domain, &mut task), Taken::Fatal));
+    let seen = [
+        matches!(schedule(&rt, &domain, &mut task), Sleep::Signal),
+        load_own(&domain, &mut task).0 == 0x7_0000,
+        matches!(take_signal(&domain, &mut task), Taken::Fatal),
+    ];
+    all_so(&rt, &seen);
     set_state(&domain, &mut task, UNINTERRUPTIBLE);
     assert!(rt; load_own(&domain, &mut task).0 == 0x1_0002);
     set_state(&domain, &mut task, RUNNING);
@@ -131,13 +143,16 @@ fn wakes_meet_states(rt: HostRuntime) -> Result<(), Fail> {
     let (domain, mut task) = Domain::new(rt.alloc())?;
     let mut other = another(&rt, &domain, &mut task);
     set_state(&domain, &mut other, UNINTERRUPTIBLE);
-    assert!(rt; matches!(sleep_exchange(&rt, &domain, &mut other), Sleep::Asleep));
-    assert!(rt; !awake(&domain, &mut other));
-    assert!(rt; !wake_task(&rt, &domain, &mut task, 1, Mode::Interruptible));
-    assert!(rt; !awake(&domain, &mut other));
-    assert!(rt; wake_task(&rt, &domain, &mut task, 1, Mode::Normal));
-    assert!(rt; !wake_task(&rt, &domain, &mut task, 1, Mode::Normal));
-    assert!(rt; awake(&domain, &mut other));
+    let seen = [
+        matches!(sleep_exchange(&rt, &domain, &mut other), Sleep::Asleep),
+        !awake(&domain, &mut other),
+        !wake_task(&rt, &domain, &mut task, 1, Mode::Interruptible),
+        !awake(&domain, &mut other),
+        wake_task(&rt, &domain, &mut task, 1, Mode::Normal),
+        !wake_task(&rt, &domain, &mut task, 1, Mode::Normal),
+        awake(&domain, &mut other),
+    ];
+    all_so(&rt, &seen);
     Ok(())
 }
 

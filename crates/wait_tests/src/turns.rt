@@ -58,6 +58,26 @@ pub(crate) fn go_on<C: Machine>(
     next
 }
 
+/// Goes on by so many turns, where nobody else goes on.
+pub(crate) fn go_often<C: Machine>(
+    domain: &Domain,
+    task: &mut Task,
+    run: &mut Run<C>,
+    last: Turn<C::Stage, C::Outcome>,
+    turns: u32,
+) -> Turn<C::Stage, C::Outcome>
+    requires of { task.old.domain ≡ domain.now }
+    requires waiting { Lands C.table task.old run.old last }
+    ensures of { task.new.domain ≡ domain.now }
+    ensures waiting { Lands C.table task.new run.new result }
+{
+    let mut at = last;
+    for _ in 0..turns {
+        at = go_on(domain, task, run, at);
+    }
+    at
+}
+
 /// The next number of a small generator, by which the order of the turns is drawn.
 pub(crate) fn next_number(seed: u32) -> u32 {
     let mixed = seed ^ seed.wrapping_shl(13);

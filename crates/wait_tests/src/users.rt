@@ -2,14 +2,14 @@
 
 mod pages;
 mod pairs;
-mod rounds;
-mod strangers;
+pub(crate) mod rounds;
+pub(crate) mod strangers;
 
 ghost use Rattle.std.specs.Prelude.{◌≡◌};
 ghost use Rattle.wait_rule.specs.Says.{IsClean};
 ghost use Rattle.wq_user.specs.Waiting.{IsWaiting};
 
-use crate::wants::another;
+use crate::wants::{all_so, another};
 use std::sync::Wait;
 use std::test::Fail;
 use std::thread;
@@ -64,9 +64,12 @@ fn holds_and_wakes(rt: HostRuntime) -> Result<(), Fail> {
     let (domain, mut task) = Domain::new(rt.alloc())?;
     let mut other = another(&rt, &domain, &mut task);
     pass(&rt, &domain, &mut other, 256);
-    assert!(rt; !look(&rt, &domain, &mut other, 256));
-    assert!(rt; pass_and_wake(&rt, &domain, &mut other, 256) == 0);
-    assert!(rt; wake_and_join(&rt, &domain, &mut task, other) == 0);
+    let seen = [
+        !look(&rt, &domain, &mut other, 256),
+        pass_and_wake(&rt, &domain, &mut other, 256) == 0,
+        wake_and_join(&rt, &domain, &mut task, other) == 0,
+    ];
+    all_so(&rt, &seen);
     Ok(())
 }
 
@@ -79,8 +82,11 @@ fn waiter_leaves(rt: HostRuntime) -> Result<(), Fail> {
         panic!(rt; "the queue is empty")
     };
     prepare(&domain, &mut waiter);
-    assert!(rt; set_and_wake(&rt, &domain, &mut task) == 1);
-    assert!(rt; matches!(sleep(&rt, &domain, &mut waiter), Sleep::Stay));
+    let seen = [
+        set_and_wake(&rt, &domain, &mut task) == 1,
+        matches!(sleep(&rt, &domain, &mut waiter), Sleep::Stay),
+    ];
+    all_so(&rt, &seen);
     leave(&rt, &domain, &mut waiter);
     task.join(&domain, waiter);
     Ok(())
@@ -105,10 +111,13 @@ fn waiter_and_waker(rt: HostRuntime) -> Result<(), Fail> {
 fn condition_is_waited_for(rt: HostRuntime) -> Result<(), Fail> {
     let (domain, mut task) = Domain::new(rt.alloc())?;
     let mut other = another(&rt, &domain, &mut task);
-    assert!(rt; set_zero(&rt, &domain, &mut task) == 0);
-    assert!(rt; wait_for_zero(&rt, &domain, &mut other, SleepState::Interruptible));
-    assert!(rt; take_zero(&domain, &mut other) == 1);
-    assert!(rt; set_zero(&rt, &domain, &mut task) == 0);
+    let seen = [
+        set_zero(&rt, &domain, &mut task) == 0,
+        wait_for_zero(&rt, &domain, &mut other, SleepState::Interruptible),
+        take_zero(&domain, &mut other) == 1,
+        set_zero(&rt, &domain, &mut task) == 0,
+    ];
+    all_so(&rt, &seen);
     wait_and_join(&rt, &domain, &mut task, other);
     Ok(())
 }
@@ -118,9 +127,12 @@ fn condition_is_waited_for(rt: HostRuntime) -> Result<(), Fail> {
 fn exclusive_waiter_is_joined(rt: HostRuntime) -> Result<(), Fail> {
     let (domain, mut task) = Domain::new(rt.alloc())?;
     let mut other = another(&rt, &domain, &mut task);
-    assert!(rt; come_and_go(&rt, &domain, &mut other));
-    assert!(rt; set_zero(&rt, &domain, &mut task) == 0);
-    assert!(rt; wait_to_be_selected(&rt, &domain, &mut other, SleepState::Killable));
+    let seen = [
+        come_and_go(&rt, &domain, &mut other),
+        set_zero(&rt, &domain, &mut task) == 0,
+        wait_to_be_selected(&rt, &domain, &mut other, SleepState::Killable),
+    ];
+    all_so(&rt, &seen);
     task.join(&domain, other);
     Ok(())
 }
@@ -132,9 +144,12 @@ fn hearer_is_joined(rt: HostRuntime) -> Result<(), Fail> {
     let mut other = another(&rt, &domain, &mut task);
     let who = other.number();
     send_signal(&rt, &domain, &mut task, who, false);
-    assert!(rt; hear_zero(&rt, &domain, &mut other, SleepState::Interruptible));
-    assert!(rt; set_zero(&rt, &domain, &mut task) == 0);
-    assert!(rt; hear_zero(&rt, &domain, &mut other, SleepState::Killable));
+    let seen = [
+        hear_zero(&rt, &domain, &mut other, SleepState::Interruptible),
+        set_zero(&rt, &domain, &mut task) == 0,
+        hear_zero(&rt, &domain, &mut other, SleepState::Killable),
+    ];
+    all_so(&rt, &seen);
     task.join(&domain, other);
     Ok(())
 }

@@ -2,5 +2,5 @@
 //! the calls alone.
 
 mod alone;
-mod stretches;
-mod threads;
+pub(crate) mod stretches;
+pub(crate) mod threads;

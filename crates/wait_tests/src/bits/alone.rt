@@ -8,7 +8,7 @@ ghost use Rattle.wait_rule.specs.Says.{IsClean};
 ghost use Rattle.bit_wait.specs.Holders.{IsHolder};
 ghost use Rattle.wait_tests.specs.BitTasks.{IsAtRest};
 
-use crate::wants::another;
+use crate::wants::{all_so, another};
 use bit_wait::clears::clear_and_wake_bit;
 use bit_wait::lock_calls::wait_on_bit_lock;
 use bit_wait::tries::test_and_set;
@@ -87,13 +87,19 @@ fn takes_no_lock_for_nobody(rt: HostRuntime) -> Result<(), Fail> {
 #[test]
 fn takes_a_bit_once(rt: HostRuntime) -> Result<(), Fail> {
     let (domain, mut task) = Domain::new(rt.alloc())?;
-    assert!(rt; take(&domain, &mut task, 127, 63));
-    assert!(rt; !take(&domain, &mut task, 127, 63));
+    let seen = [
+        take(&domain, &mut task, 127, 63),
+        !take(&domain, &mut task, 127, 63),
+    ];
+    all_so(&rt, &seen);
     if !take(&domain, &mut task, 5, 63) {
         panic!(rt; "the bit is clear")
     }
-    assert!(rt; !take(&domain, &mut task, 5, 63));
-    assert!(rt; take(&domain, &mut task, 5, 0));
+    let seen = [
+        !take(&domain, &mut task, 5, 63),
+        take(&domain, &mut task, 5, 0),
+    ];
+    all_so(&rt, &seen);
     Ok(())
 }
 
@@ -121,8 +127,11 @@ fn waits_for_no_clear_bit(rt: HostRuntime) -> Result<(), Fail> {
 #[test]
 fn takes_a_clear_bit_at_once(rt: HostRuntime) -> Result<(), Fail> {
     let (domain, mut task) = Domain::new(rt.alloc())?;
-    assert!(rt; wait_on_bit_lock(&rt, &domain, &mut task, 127, 63, SleepState::Killable).is_ok());
-    assert!(rt; !take(&domain, &mut task, 127, 63));
-    assert!(rt; take(&domain, &mut task, 127, 62));
+    let seen = [
+        wait_on_bit_lock(&rt, &domain, &mut task, 127, 63, SleepState::Killable).is_ok(),
+        !take(&domain, &mut task, 127, 63),
+        take(&domain, &mut task, 127, 62),
+    ];
+    all_so(&rt, &seen);
     Ok(())
 }

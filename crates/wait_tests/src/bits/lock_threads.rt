@@ -7,12 +7,10 @@ ghost use Rattle.wait_rule.specs.Says.{IsClean};
 ghost use Rattle.bit_wait.specs.Holders.{IsHolder};
 
 use crate::bits::alone::{lock, unlock};
-use crate::wants::another;
+use crate::meetings::{Part, two_meet};
 use bit_wait::lock_calls::wait_on_bit_lock;
 use std::sync::Wait;
 use std::test::Fail;
-use std::thread;
-use std::thread::Threads;
 use wait_model::tasks::SleepState;
 use wait_rule::{Domain, Task};
 
@@ -33,66 +31,37 @@ fn lock_in_turn<R: Wait>(rt: &R, domain: &Domain, task: &mut Task) -> bool
 }
 
 /// Takes the bit and gives it back: whether it took it.
-fn take_turn<R: Wait>(rt: &R, domain: &Domain, mut task: Task) -> (Task, bool)
-    requires of { task.domain ≡ domain.now }
-    requires clean { IsClean task }
-    ensures of { result.0.domain ≡ domain.now }
-    ensures clean { IsClean result.0 }
+fn take_turn<R: Wait>(rt: &R, domain: &Domain, task: &mut Task) -> bool
+    requires of { task.old.domain ≡ domain.now }
+    requires clean { IsClean task.old }
+    ensures of { task.new.domain ≡ domain.now }
+    ensures clean { IsClean task.new }
 {
-    if lock_in_turn(rt, domain, &mut task) {
-        unlock(rt, domain, &mut task, 0, 0);
-        return (task, true);
+    if lock_in_turn(rt, domain, task) {
+        unlock(rt, domain, task, 0, 0);
+        return true;
     }
-    (task, false)
+    false
 }
 
 /// Two turns one after the other.
-fn take_turns<R: Wait>(rt: &R, domain: &Domain, task: Task) -> (Task, bool)
-    requires of { task.domain ≡ domain.now }
-    requires clean { IsClean task }
-    ensures of { result.0.domain ≡ domain.now }
-    ensures clean { IsClean result.0 }
+pub(crate) fn take_turns<R: Wait>(rt: &R, domain: &Domain, task: &mut Task) -> bool
+    requires of { task.old.domain ≡ domain.now }
+    requires clean { IsClean task.old }
+    ensures of { task.new.domain ≡ domain.now }
+    ensures clean { IsClean task.new }
 {
-    let (task, first) = take_turn(rt, domain, task);
-    let (task, second) = take_turn(rt, domain, task);
-    (task, first && second)
-}
-
-/// Two tasks, each in a thread of its own.
-fn meet<R: Threads + Wait + Sync>(
-    rt: &R,
-    domain: &Domain,
-    one: Task,
-    other: Task,
-) -> ((Task, bool), (Task, bool))
-    requires of { (one.domain ≡ domain.now) × (other.domain ≡ domain.now) }
-    requires clean { IsClean one × IsClean other }
-    ensures of { (result.0.0.domain ≡ domain.now) × (result.1.0.domain ≡ domain.now) }
-    ensures clean { IsClean result.0.0 × IsClean result.1.0 }
-{
-    thread::join(
-        rt,
-        move || -> (Task, bool)
-            requires { (one.domain ≡ domain.now) × IsClean one }
-            ensures { (result.0.domain ≡ domain.entry.now) × IsClean result.0 }
-        { take_turns(rt, domain, one) },
-        move || -> (Task, bool)
-            requires { (other.domain ≡ domain.now) × IsClean other }
-            ensures { (result.0.domain ≡ domain.entry.now) × IsClean result.0 }
-        { take_turns(rt, domain, other) },
-    )
+    let first = take_turn(rt, domain, task);
+    let second = take_turn(rt, domain, task);
+    first && second
 }
 
 /// Whatever the order of the steps, each task takes the bit each time, and in the end it is clear.
 #[test]
 fn two_take_one_bit_in_turn(rt: HostRuntime) -> Result<(), Fail> {
     for _round in 0..ROUNDS {
-        let (domain, mut task) = Domain::with_looks(rt.alloc(), 0)?;
-        let other = another(&rt, &domain, &mut task);
-        let (one, two) = meet(&rt, &domain, task, other);
-        assert!(rt; one.1 && two.1);
-        let mut task = one.0;
-        task.join(&domain, two.0);
+        let (domain, task) = Domain::with_looks(rt.alloc(), 0)?;
+        let mut task = two_meet(&rt, &domain, task, (Part::TakesTurns, Part::TakesTurns));
         assert!(rt; lock(&domain, &mut task, 0, 0));
     }
     Ok(())

@@ -1,6 +1,7 @@
 //! One task alone: each call once, with what it answers where nobody else is there.
 
 use crate::completions::calls::{complete, complete_all, is_done, reinit, try_wait, wait_for};
+use crate::wants::all_so;
 use std::test::Fail;
 use wait_model::tasks::SleepState;
 use wait_rule::Domain;
@@ -13,9 +14,12 @@ const CELL: u8 = 1;
 fn one_is_taken(rt: HostRuntime) -> Result<(), Fail> {
     let (domain, mut task) = Domain::new(rt.alloc())?;
     complete(&rt, &domain, &mut task, CELL);
-    assert!(rt; wait_for(&rt, &domain, &mut task, CELL, SleepState::Interruptible));
-    assert!(rt; !try_wait(&rt, &domain, &mut task, CELL));
-    assert!(rt; !is_done(&rt, &domain, &mut task, CELL));
+    let seen = [
+        wait_for(&rt, &domain, &mut task, CELL, SleepState::Interruptible),
+        !try_wait(&rt, &domain, &mut task, CELL),
+        !is_done(&rt, &domain, &mut task, CELL),
+    ];
+    all_so(&rt, &seen);
     Ok(())
 }
 
@@ -25,11 +29,17 @@ fn all_stay_done(rt: HostRuntime) -> Result<(), Fail> {
     let (domain, mut task) = Domain::new(rt.alloc())?;
     complete_all(&rt, &domain, &mut task, CELL);
     complete(&rt, &domain, &mut task, CELL);
-    assert!(rt; is_done(&rt, &domain, &mut task, CELL));
-    assert!(rt; try_wait(&rt, &domain, &mut task, CELL));
-    assert!(rt; is_done(&rt, &domain, &mut task, CELL));
+    let seen = [
+        is_done(&rt, &domain, &mut task, CELL),
+        try_wait(&rt, &domain, &mut task, CELL),
+        is_done(&rt, &domain, &mut task, CELL),
+    ];
+    all_so(&rt, &seen);
     reinit(&rt, &domain, &mut task, CELL);
-    assert!(rt; !is_done(&rt, &domain, &mut task, CELL));
-    assert!(rt; !try_wait(&rt, &domain, &mut task, CELL));
+    let seen = [
+        !is_done(&rt, &domain, &mut task, CELL),
+        !try_wait(&rt, &domain, &mut task, CELL),
+    ];
+    all_so(&rt, &seen);
     Ok(())
 }

@@ -4,8 +4,8 @@ ghost use Rattle.std.specs.Prelude.{◌≡◌};
 ghost use Rattle.wait_tests.specs.CompletionTasks.{IsAwaiting, IsReadyToWait, MayComplete};
 
 use crate::completions::stretches::{CELL, go_on};
-use crate::heads::turns::end_both;
-use crate::wants::another;
+use crate::heads::turns::{end_both, rouses_only};
+use crate::wants::{all_so, another};
 use completion_cell::await_calls::{begin_await, end_of};
 use completion_cell::awaits::{AwaitRun, AwaitStage, AwaitTurn};
 use completion_cell::cell_turns::{CellCall, CellRun, CellStage, CellTurn, cell_stretch};
@@ -51,15 +51,24 @@ fn call_at_once<R: Abort>(rt: &R, domain: &Domain, task: &mut Task, call: CellCa
 #[test]
 fn each_call_ends_by_one_stretch(rt: HostRuntime) -> Result<(), Fail> {
     let (domain, mut task) = Domain::new(rt.alloc())?;
-    assert!(rt; !call_at_once(&rt, &domain, &mut task, CellCall::IsDone));
-    assert!(rt; !call_at_once(&rt, &domain, &mut task, CellCall::TryWait));
+    let seen = [
+        !call_at_once(&rt, &domain, &mut task, CellCall::IsDone),
+        !call_at_once(&rt, &domain, &mut task, CellCall::TryWait),
+    ];
+    all_so(&rt, &seen);
     call_at_once(&rt, &domain, &mut task, CellCall::Complete);
-    assert!(rt; call_at_once(&rt, &domain, &mut task, CellCall::IsDone));
-    assert!(rt; call_at_once(&rt, &domain, &mut task, CellCall::TryWait));
-    assert!(rt; !call_at_once(&rt, &domain, &mut task, CellCall::TryWait));
+    let seen = [
+        call_at_once(&rt, &domain, &mut task, CellCall::IsDone),
+        call_at_once(&rt, &domain, &mut task, CellCall::TryWait),
+        !call_at_once(&rt, &domain, &mut task, CellCall::TryWait),
+    ];
+    all_so(&rt, &seen);
     call_at_once(&rt, &domain, &mut task, CellCall::CompleteAll);
-    assert!(rt; call_at_once(&rt, &domain, &mut task, CellCall::TryWait));
-    assert!(rt; call_at_once(&rt, &domain, &mut task, CellCall::TryWait));
+    let seen = [
+        call_at_once(&rt, &domain, &mut task, CellCall::TryWait),
+        call_at_once(&rt, &domain, &mut task, CellCall::TryWait),
+    ];
+    all_so(&rt, &seen);
     call_at_once(&rt, &domain, &mut task, CellCall::Reinit);
     assert!(rt; !call_at_once(&rt, &domain, &mut task, CellCall::IsDone));
     Ok(())
@@ -146,12 +155,12 @@ fn complete_for_sleeper<R: Abort>(rt: &R, domain: &Domain, task: &mut Task, wait
     else {
         panic!(rt; "nobody holds the lock")
     };
-    assert_eq!(rt; rousing.tasks(), [waiter.number()].as_slice());
+    let named = rouses_only(&rousing, waiter.number());
     end_both(domain, rousing, passing);
     let Turn::Done(outcome) = go_often(domain, waiter, &mut wait, asleep) else {
         panic!(rt; "it was completed")
     };
-    assert!(rt; end_of(wait.of, outcome).is_ok());
+    all_so(rt, &[named, end_of(wait.of, outcome).is_ok()]);
 }
 
 /// Whom a stretch has woken is for the caller to rouse.

@@ -5,7 +5,7 @@ ghost use Rattle.std.specs.Prelude.{◌≡◌};
 ghost use Rattle.wait_rule.specs.Says.{IsClean};
 
 use crate::completions::calls::{complete, try_wait};
-use crate::wants::another;
+use crate::wants::{all_so, another};
 use std::sync::Wait;
 use std::test::Fail;
 use wait_event::conds::set_and_wake;
@@ -52,9 +52,12 @@ fn completed_around_a_wait(rt: HostRuntime) -> Result<(), Fail> {
     let (domain, mut task) = Domain::new(rt.alloc())?;
     let mut other = another(&rt, &domain, &mut task);
     set_and_wake(&rt, &domain, &mut other, COND, 1, Mode::Normal, 0);
-    assert!(rt; complete_and_wait(&rt, &domain, &mut task));
-    assert!(rt; try_wait(&rt, &domain, &mut task, CELL));
-    assert!(rt; try_wait(&rt, &domain, &mut task, CELL));
-    assert!(rt; !try_wait(&rt, &domain, &mut task, CELL));
+    let seen = [
+        complete_and_wait(&rt, &domain, &mut task),
+        try_wait(&rt, &domain, &mut task, CELL),
+        try_wait(&rt, &domain, &mut task, CELL),
+        !try_wait(&rt, &domain, &mut task, CELL),
+    ];
+    all_so(&rt, &seen);
     Ok(())
 }

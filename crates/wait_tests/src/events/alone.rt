@@ -4,6 +4,7 @@ ghost use Rattle.std.specs.Prelude.{◌≡◌, ◌<◌};
 ghost use Rattle.wait_model.specs.declared.layout.TheConstants.{FIRST_SIMPLE};
 ghost use Rattle.wait_tests.specs.EventTasks.{IsReadyToWait};
 
+use crate::wants::all_so;
 use std::sync::Wait;
 use std::test::Fail;
 use wait_event::conds::set_and_wake;
@@ -112,9 +113,12 @@ fn prepares_of_one_task(rt: HostRuntime) -> Result<(), Fail> {
         state: SleepState::Interruptible,
         exclusive: true,
     };
-    assert!(rt; prepare_shared(&rt, &domain, &mut task, 0, how.state));
-    assert!(rt; prepare_first(&rt, &domain, &mut task, 0));
-    assert!(rt; prepare_asking(&rt, &domain, &mut task, 0, how));
+    let seen = [
+        prepare_shared(&rt, &domain, &mut task, 0, how.state),
+        prepare_first(&rt, &domain, &mut task, 0),
+        prepare_asking(&rt, &domain, &mut task, 0, how),
+    ];
+    all_so(&rt, &seen);
     Ok(())
 }
 
@@ -123,10 +127,13 @@ fn prepares_of_one_task(rt: HostRuntime) -> Result<(), Fail> {
 fn set_before_the_wait(rt: HostRuntime) -> Result<(), Fail> {
     let (domain, mut task) = Domain::new(rt.alloc())?;
     let walked = set_and_wake(&rt, &domain, &mut task, 0, 1, Mode::Normal, 1);
-    assert!(rt; walked.selected == 0);
-    assert!(rt; walked.woken == 0);
-    assert!(rt; walked.holds == 1);
-    assert!(rt; matches!(walked.end, End::End));
+    let seen = [
+        walked.selected == 0,
+        walked.woken == 0,
+        walked.holds == 1,
+        matches!(walked.end, End::End),
+    ];
+    all_so(&rt, &seen);
     let how = How {
         state: SleepState::Interruptible,
         exclusive: true,

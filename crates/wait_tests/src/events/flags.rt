@@ -5,12 +5,10 @@ ghost use Rattle.std.specs.Prelude.{◌≡◌, MatchBool, None};
 ghost use Rattle.wait_rule.specs.Says.{IsClean, told_of};
 ghost use Rattle.wait_tests.specs.EventTasks.{IsCleanHearer, IsHearer};
 
-use crate::wants::another;
+use crate::meetings::{Part, two_meet};
+use crate::wants::all_so;
 use std::sync::Wait;
 use std::test::Fail;
-use std::thread;
-use std::thread::Threads;
-use wait_event::conds::set_and_wake;
 use wait_event::entries::{add_entry, remove_entry};
 use wait_event::woken_waits::wait_woken;
 use wait_model::queues::{End, Form, Walked};
@@ -97,81 +95,45 @@ fn woken_before_the_sleep(rt: HostRuntime) -> Result<(), Fail> {
     let (domain, mut task) = Domain::new(rt.alloc())?;
     if enter(&rt, &domain, &mut task) {
         let walked = wake_all(&rt, &domain, &mut task);
-        assert!(rt; walked.selected == 0);
-        assert!(rt; walked.woken == 0);
-        assert!(rt; walked.holds == 1);
-        assert!(rt; matches!(walked.end, End::End));
+        let seen = [
+            walked.selected == 0,
+            walked.woken == 0,
+            walked.holds == 1,
+            matches!(walked.end, End::End),
+        ];
+        all_so(&rt, &seen);
         hear_and_leave(&rt, &domain, &mut task);
         return Ok(());
     }
     panic!(rt; "the queue is empty")
 }
 
-/// Waits for the condition by the flag of an entry, and gives the task back: true where there was a place for it.
-fn hear_once<R: Wait>(rt: &R, domain: &Domain, mut task: Task) -> (Task, bool)
-    requires of { task.domain ≡ domain.now }
-    requires clean { IsClean task }
-    ensures of { result.0.domain ≡ domain.now }
-    ensures clean { IsClean result.0 }
+/// Waits for the condition by the flag of an entry: true where there was a place for it.
+pub(crate) fn hear_until_set<R: Wait>(rt: &R, domain: &Domain, task: &mut Task) -> bool
+    requires of { task.old.domain ≡ domain.now }
+    requires clean { IsClean task.old }
+    ensures of { task.new.domain ≡ domain.now }
+    ensures clean { IsClean task.new }
 {
-    if !enter(rt, domain, &mut task) {
-        return (task, false);
+    if !enter(rt, domain, task) {
+        return false;
     }
     for _ in rt.forever() {
-        if is_set(domain, &mut task) {
-            leave(rt, domain, &mut task);
-            return (task, true);
+        if is_set(domain, task) {
+            leave(rt, domain, task);
+            return true;
         }
-        hear(rt, domain, &mut task);
+        hear(rt, domain, task);
     }
     unreachable!()
-}
-
-/// Sets the condition, and gives the task back.
-fn set_once<R: Wait>(rt: &R, domain: &Domain, mut task: Task) -> Task
-    requires of { task.domain ≡ domain.now }
-    requires clean { IsClean task }
-    ensures of { result.domain ≡ domain.now }
-    ensures clean { IsClean result }
-{
-    set_and_wake(rt, domain, &mut task, 0, 1, Mode::Normal, 0);
-    task
-}
-
-/// A wait and a waker, each in a thread of its own.
-fn meet<R: Threads + Wait + Sync>(
-    rt: &R,
-    domain: &Domain,
-    waker: Task,
-    hearer: Task,
-) -> (Task, (Task, bool))
-    requires of { (waker.domain ≡ domain.now) × (hearer.domain ≡ domain.now) }
-    requires clean { IsClean waker × IsClean hearer }
-    ensures of { (result.0.domain ≡ domain.now) × (result.1.0.domain ≡ domain.now) }
-    ensures clean { IsClean result.0 × IsClean result.1.0 }
-{
-    thread::join(
-        rt,
-        move || -> Task
-            requires { (waker.domain ≡ domain.now) × IsClean waker }
-            ensures { (result.domain ≡ domain.entry.now) × IsClean result }
-        { set_once(rt, domain, waker) },
-        move || -> (Task, bool)
-            requires { (hearer.domain ≡ domain.now) × IsClean hearer }
-            ensures { (result.0.domain ≡ domain.entry.now) × IsClean result.0 }
-        { hear_once(rt, domain, hearer) },
-    )
 }
 
 /// Whatever the order of the steps, the wait ends, and the waker takes its task in.
 #[test]
 fn hearers_are_joined(rt: HostRuntime) -> Result<(), Fail> {
     for _round in 0..ROUNDS {
-        let (domain, mut task) = Domain::with_looks(rt.alloc(), 0)?;
-        let hearer = another(&rt, &domain, &mut task);
-        let (mut task, (hearer, heard)) = meet(&rt, &domain, task, hearer);
-        assert!(rt; heard);
-        task.join(&domain, hearer);
+        let (domain, task) = Domain::with_looks(rt.alloc(), 0)?;
+        two_meet(&rt, &domain, task, (Part::Sets { count: 0 }, Part::Hears));
     }
     Ok(())
 }

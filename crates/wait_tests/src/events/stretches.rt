@@ -1,15 +1,16 @@
 //! Two waits and a waker on one thread, which goes on with one of them at a time: what an executor does.
 
 ghost use Rattle.std.specs.Prelude.{◌≡◌};
-ghost use Rattle.wait_tests.specs.EventTasks.{IsReadyToWait, IsWaiting, IsWaker};
+ghost use Rattle.wait_tests.specs.EventTasks.{IsReadyToWait, IsWaker};
 
-use crate::turns::{go_on, next_number};
+use crate::orders::{Wakes, play_two};
+use crate::wants::another;
 use std::sync::Wait;
 use std::test::Fail;
 use wait_class::stages::Turn;
 use wait_event::conds::set_and_wake;
 use wait_event::wait_events::begin_wait;
-use wait_event::waits::{WaitOutcome, WaitRun, WaitStage, WaitTurn};
+use wait_event::waits::{WaitOutcome, WaitTurn};
 use wait_model::tasks::{How, SleepState};
 use wait_model::watches::Mode;
 use wait_rule::{Domain, Task};
@@ -17,26 +18,19 @@ use wait_rule::{Domain, Task};
 /// How many orders are tried.
 const ORDERS: u32 = 400;
 
-/// How many turns an order has at most: each wait has fewer than 30 stretches, and every third turn goes to each.
-const TURNS: u32 = 600;
-
 /// Whether the wait is over with its condition set.
 pub(crate) fn is_over(last: WaitTurn) -> bool {
     matches!(last, Turn::Done(WaitOutcome::Over))
 }
 
-/// Sets the condition in the turn that is the waker's.
-fn wake_once<R: Wait>(rt: &R, domain: &Domain, waker: &mut Task, done: bool) -> u32
+/// Sets the condition, and wakes all who wait for it.
+pub(crate) fn set_and_wake_all<R: Wait>(rt: &R, domain: &Domain, waker: &mut Task)
     requires of { waker.old.domain ≡ domain.now }
     requires waker { IsWaker waker.old }
     ensures of { waker.new.domain ≡ domain.now }
     ensures waker { IsWaker waker.new }
 {
-    if done {
-        0
-    } else {
-        set_and_wake(rt, domain, waker, 0, 1, Mode::Normal, 0).woken
-    }
+    set_and_wake(rt, domain, waker, 0, 1, Mode::Normal, 0);
 }
 
 /// Plays one order: whether both waits are over then, and no stretch is left.
@@ -58,26 +52,11 @@ fn play<R: Wait>(
         state: SleepState::Interruptible,
         exclusive: false,
     };
-    let mut one = begin_wait(first, 0, how);
-    let mut two = begin_wait(second, 0, how);
-    let mut one_at = Turn::Again(WaitStage::First);
-    let mut two_at = Turn::Again(WaitStage::First);
-    let mut seed = seed;
-    let mut set = false;
-    for _ in 0..TURNS {
-        seed = next_number(seed);
-        match seed % 5 {
-            0 | 1 => one_at = go_on(domain, first, &mut one, one_at),
-            2 | 3 => two_at = go_on(domain, second, &mut two, two_at),
-            _ => {
-                if seed % 64 < 8 {
-                    wake_once(rt, domain, waker, set);
-                    set = true;
-                }
-            }
-        }
-    }
-    is_over(one_at) && is_over(two_at)
+    let one = begin_wait(first, 0, how);
+    let two = begin_wait(second, 0, how);
+    let wakes = Wakes::Event;
+    let (first, second) = play_two(rt, domain, waker, wakes, first, one, second, two, seed);
+    is_over(first.1) && is_over(second.1)
 }
 
 /// Whatever the order, both waits end once the condition is set.
@@ -85,10 +64,8 @@ fn play<R: Wait>(
 fn waits_end_in_each_order(rt: HostRuntime) -> Result<(), Fail> {
     for order in 0..ORDERS {
         let (domain, mut waker) = Domain::new(rt.alloc())?;
-        let (Ok(mut first), Ok(mut second)) = (waker.fork(&domain, 0), waker.fork(&domain, 0))
-        else {
-            panic!(rt; "numbers are spare")
-        };
+        let mut first = another(&rt, &domain, &mut waker);
+        let mut second = another(&rt, &domain, &mut waker);
         assert!(rt; play(&rt, &domain, &mut waker, &mut first, &mut second, order + 1));
     }
     Ok(())

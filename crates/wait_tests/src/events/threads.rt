@@ -4,11 +4,9 @@
 ghost use Rattle.std.specs.Prelude.{◌≡◌};
 ghost use Rattle.wait_rule.specs.Says.{IsClean};
 
-use crate::wants::another;
+use crate::meetings::{Part, four_meet};
 use std::sync::Wait;
 use std::test::Fail;
-use std::thread;
-use std::thread::Threads;
 use wait_event::conds::set_and_wake;
 use wait_event::wait_events::wait_event;
 use wait_model::tasks::{How, SleepState};
@@ -18,97 +16,38 @@ use wait_rule::{Domain, Task};
 /// How many rounds the test makes.
 const ROUNDS: u32 = 300;
 
-/// Waits for the condition, and gives the task back: true where it was set.
-fn wait_once<R: Wait>(rt: &R, domain: &Domain, mut task: Task) -> (Task, bool)
-    requires of { task.domain ≡ domain.now }
-    requires clean { IsClean task }
-    ensures of { result.0.domain ≡ domain.now }
-    ensures clean { IsClean result.0 }
+/// Waits for condition 0: true where it was set.
+pub(crate) fn wait_for_condition<R: Wait>(rt: &R, domain: &Domain, task: &mut Task) -> bool
+    requires of { task.old.domain ≡ domain.now }
+    requires clean { IsClean task.old }
+    ensures of { task.new.domain ≡ domain.now }
+    ensures clean { IsClean task.new }
 {
     let how = How {
         state: SleepState::Uninterruptible,
         exclusive: false,
     };
-    let over = wait_event(rt, domain, &mut task, 0, how).is_ok();
-    (task, over)
+    wait_event(rt, domain, task, 0, how).is_ok()
 }
 
-/// Sets the condition, and gives the task back.
-fn set_once<R: Wait>(rt: &R, domain: &Domain, mut task: Task) -> Task
-    requires of { task.domain ≡ domain.now }
-    requires clean { IsClean task }
-    ensures of { result.domain ≡ domain.now }
-    ensures clean { IsClean result }
+/// Sets the condition, and wakes all, or so many exclusive waiters.
+pub(crate) fn set_condition<R: Wait>(rt: &R, domain: &Domain, task: &mut Task, count: u32) -> bool
+    requires of { task.old.domain ≡ domain.now }
+    requires clean { IsClean task.old }
+    ensures of { task.new.domain ≡ domain.now }
+    ensures clean { IsClean task.new }
 {
-    set_and_wake(rt, domain, &mut task, 0, 1, Mode::Normal, 0);
-    task
-}
-
-/// Two waits, each in a thread of its own.
-fn two_wait<R: Threads + Wait + Sync>(
-    rt: &R,
-    domain: &Domain,
-    first: Task,
-    second: Task,
-) -> ((Task, bool), (Task, bool))
-    requires of { (first.domain ≡ domain.now) × (second.domain ≡ domain.now) }
-    requires clean { IsClean first × IsClean second }
-    ensures of { (result.0.0.domain ≡ domain.now) × (result.1.0.domain ≡ domain.now) }
-    ensures clean { IsClean result.0.0 × IsClean result.1.0 }
-{
-    thread::join(
-        rt,
-        move || -> (Task, bool)
-            requires { (first.domain ≡ domain.now) × IsClean first }
-            ensures { (result.0.domain ≡ domain.entry.now) × IsClean result.0 }
-        { wait_once(rt, domain, first) },
-        move || -> (Task, bool)
-            requires { (second.domain ≡ domain.now) × IsClean second }
-            ensures { (result.0.domain ≡ domain.entry.now) × IsClean result.0 }
-        { wait_once(rt, domain, second) },
-    )
-}
-
-/// Two waits and a waker, each in a thread of its own.
-fn meet<R: Threads + Wait + Sync>(
-    rt: &R,
-    domain: &Domain,
-    waker: Task,
-    first: Task,
-    second: Task,
-) -> (Task, ((Task, bool), (Task, bool)))
-    requires of { (waker.domain ≡ domain.now) × (first.domain ≡ domain.now) × (second.domain ≡ domain.now) }
-    requires clean { IsClean waker × IsClean first × IsClean second }
-    ensures of { (result.0.domain ≡ domain.now) × (result.1.0.0.domain ≡ domain.now)
-        × (result.1.1.0.domain ≡ domain.now) }
-    ensures clean { IsClean result.0 × IsClean result.1.0.0 × IsClean result.1.1.0 }
-{
-    thread::join(
-        rt,
-        move || -> Task
-            requires { (waker.domain ≡ domain.now) × IsClean waker }
-            ensures { (result.domain ≡ domain.entry.now) × IsClean result }
-        { set_once(rt, domain, waker) },
-        move || -> ((Task, bool), (Task, bool))
-            requires of { (first.domain ≡ domain.now) × (second.domain ≡ domain.now) }
-            requires clean { IsClean first × IsClean second }
-            ensures { ((result.0.0.domain ≡ domain.entry.now) × (result.1.0.domain ≡ domain.entry.now))
-                × (IsClean result.0.0 × IsClean result.1.0) }
-        { two_wait(rt, domain, first, second) },
-    )
+    set_and_wake(rt, domain, task, 0, 1, Mode::Normal, count);
+    true
 }
 
 /// Whatever the order of the steps, both waits end, and the waker takes both tasks in.
 #[test]
 fn waiters_are_joined(rt: HostRuntime) -> Result<(), Fail> {
     for _round in 0..ROUNDS {
-        let (domain, mut task) = Domain::with_looks(rt.alloc(), 0)?;
-        let first = another(&rt, &domain, &mut task);
-        let second = another(&rt, &domain, &mut task);
-        let (mut task, (one, two)) = meet(&rt, &domain, task, first, second);
-        assert!(rt; one.1 && two.1);
-        task.join(&domain, one.0);
-        task.join(&domain, two.0);
+        let (domain, task) = Domain::with_looks(rt.alloc(), 0)?;
+        let waker = (Part::Sets { count: 0 }, Part::Rests);
+        four_meet(&rt, &domain, task, waker, (Part::Waits, Part::Waits));
     }
     Ok(())
 }

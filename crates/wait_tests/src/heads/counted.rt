@@ -6,6 +6,7 @@ ghost use Rattle.wq_head.specs.Readied.{IsReady};
 
 use crate::heads::many::queue_many;
 use crate::heads::waiting::queue_own;
+use crate::wants::all_so;
 use std::process::Abort;
 use std::sync::Wait;
 use std::test::Fail;
@@ -41,9 +42,12 @@ fn wake_two_exclusive<R: Abort + Wait>(rt: &R, domain: &Domain, mut task: Task, 
     requires of { task.domain ≡ domain.now }
     requires ready { IsReady task }
 {
-    assert!(rt; queue_as(rt, domain, &mut task, false, UNINTERRUPTIBLE));
-    assert!(rt; queue_as(rt, domain, &mut task, true, UNINTERRUPTIBLE));
-    assert!(rt; queue_as(rt, domain, &mut task, true, UNINTERRUPTIBLE));
+    let seen = [
+        queue_as(rt, domain, &mut task, false, UNINTERRUPTIBLE),
+        queue_as(rt, domain, &mut task, true, UNINTERRUPTIBLE),
+        queue_as(rt, domain, &mut task, true, UNINTERRUPTIBLE),
+    ];
+    all_so(rt, &seen);
     let watch = Watch::Plain { cond: 0 };
     let walked = wake(rt, domain, &mut task, watch, Mode::Normal, count);
     let right = match count {
@@ -71,9 +75,12 @@ fn wake_past_the_awake<R: Abort + Wait>(rt: &R, domain: &Domain, mut task: Task)
     requires of { task.domain ≡ domain.now }
     requires ready { IsReady task }
 {
-    assert!(rt; queue_as(rt, domain, &mut task, true, RUNNING));
-    assert!(rt; queue_as(rt, domain, &mut task, true, UNINTERRUPTIBLE));
-    assert!(rt; queue_as(rt, domain, &mut task, true, UNINTERRUPTIBLE));
+    let seen = [
+        queue_as(rt, domain, &mut task, true, RUNNING),
+        queue_as(rt, domain, &mut task, true, UNINTERRUPTIBLE),
+        queue_as(rt, domain, &mut task, true, UNINTERRUPTIBLE),
+    ];
+    all_so(rt, &seen);
     let watch = Watch::Plain { cond: 0 };
     let walked = wake(rt, domain, &mut task, watch, Mode::Normal, 1);
     assert!(rt; did(walked, 1, 1, true));
@@ -96,13 +103,16 @@ fn wake_over_a_break<R: Abort + Wait>(rt: &R, domain: &Domain, mut task: Task)
     requires of { task.domain ≡ domain.now }
     requires ready { IsReady task }
 {
-    assert!(rt; queue_many(rt, domain, &mut task, 66));
-    assert!(rt; queue_as(rt, domain, &mut task, true, UNINTERRUPTIBLE));
-    assert!(rt; queue_as(rt, domain, &mut task, true, UNINTERRUPTIBLE));
+    let seen = [
+        queue_many(rt, domain, &mut task, 66),
+        queue_as(rt, domain, &mut task, true, UNINTERRUPTIBLE),
+        queue_as(rt, domain, &mut task, true, UNINTERRUPTIBLE),
+    ];
+    all_so(rt, &seen);
     let watch = Watch::Plain { cond: 0 };
     let walked = wake(rt, domain, &mut task, watch, Mode::Normal, 1);
-    assert!(rt; walked.holds == 2);
-    assert!(rt; did(walked, 1, 1, true));
+    let seen = [walked.holds == 2, did(walked, 1, 1, true)];
+    all_so(rt, &seen);
 }
 
 /// The first hold selects nobody.

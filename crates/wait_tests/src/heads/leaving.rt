@@ -9,7 +9,7 @@ ghost use Rattle.wq_head.specs.Holds.{IsHolding};
 ghost use Rattle.wait_tests.specs.Leaving.{HasEntry, HasLeft, IsBack, StandsQueued};
 ghost use Rattle.wq_head.specs.Readied.{IsPlainKind};
 
-use crate::wants::another;
+use crate::wants::{all_so, another};
 use std::process::Abort;
 use std::sync::Wait;
 use std::test::Fail;
@@ -156,13 +156,14 @@ fn woken_waiter_is_joined(rt: HostRuntime) -> Result<(), Fail> {
     queue_own(&rt, &domain, &mut waiter, Kind::Autoremove);
     prepare(&domain, &mut waiter, Kind::Autoremove);
     let watch = Watch::Plain { cond: 0 };
-    assert!(rt; wake(&rt, &domain, &mut task, watch, Mode::Normal, 0).woken == 1);
-    assert!(rt;
+    let seen = [
+        wake(&rt, &domain, &mut task, watch, Mode::Normal, 0).woken == 1,
         matches!(
             sleep(&rt, &domain, &mut waiter, Kind::Autoremove),
             Sleep::Stay
-        )
-    );
+        ),
+    ];
+    all_so(&rt, &seen);
     leave(&rt, &domain, &mut waiter, Kind::Autoremove);
     task.join(&domain, waiter);
     Ok(())
@@ -176,8 +177,11 @@ fn default_entry_stays(rt: HostRuntime) -> Result<(), Fail> {
     queue_own(&rt, &domain, &mut waiter, Kind::Default);
     prepare(&domain, &mut waiter, Kind::Default);
     let watch = Watch::Plain { cond: 0 };
-    assert!(rt; wake(&rt, &domain, &mut task, watch, Mode::Normal, 0).woken == 1);
-    assert!(rt; matches!(sleep(&rt, &domain, &mut waiter, Kind::Default), Sleep::Stay));
+    let seen = [
+        wake(&rt, &domain, &mut task, watch, Mode::Normal, 0).woken == 1,
+        matches!(sleep(&rt, &domain, &mut waiter, Kind::Default), Sleep::Stay),
+    ];
+    all_so(&rt, &seen);
     leave_default(&rt, &domain, &mut waiter);
     task.join(&domain, waiter);
     Ok(())

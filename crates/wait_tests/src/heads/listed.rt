@@ -1,33 +1,15 @@
 //! The list of a head's members, and a look for members without the lock.
 
-ghost use Rattle.std.specs.Prelude.{◌≡◌};
-ghost use Rattle.wq_head.specs.Readied.{IsReady, IsUpAndFree};
-
+use crate::heads::strangers::queue_for;
 use crate::heads::waiting::queue_own;
-use crate::wants::another;
-use std::sync::Wait;
+use crate::wants::{all_so, another};
 use std::test::Fail;
 use wait_model::layout::{FIRST_PLAIN_HEAD, RUNNING};
 use wait_model::watches::{Kind, Watch};
-use wait_rule::{Domain, Task};
-use wq_head::adds::add_front;
+use wait_rule::Domain;
 use wq_head::lists::{Member, Members};
 use wq_head::locks::{lock, unlock};
 use wq_head::looks::{active, members};
-
-/// Queues the own entry at the front: false where there is no place.
-fn queue_in_front<R: Wait>(rt: &R, domain: &Domain, task: &mut Task) -> bool
-    requires of { task.old.domain ≡ domain.now }
-    requires ready { IsReady task.old }
-    ensures of { task.new.domain ≡ domain.now }
-    ensures there { IsUpAndFree task.new }
-{
-    lock(rt, domain, task, FIRST_PLAIN_HEAD);
-    let watch = Watch::Plain { cond: 0 };
-    let queued = add_front(domain, task, 0, Kind::Autoremove, watch).is_ok();
-    unlock(rt, domain, task, false);
-    queued
-}
 
 /// Whether a member is the entry of slot 0 of a task, and its word shows an entry.
 fn is_entry_of(member: Member, who: u8) -> bool {
@@ -42,15 +24,22 @@ fn is_entry_of(member: Member, who: u8) -> bool {
 fn members_in_order(rt: HostRuntime) -> Result<(), Fail> {
     let (domain, mut task) = Domain::new(rt.alloc())?;
     let mut other = another(&rt, &domain, &mut task);
-    assert!(rt; queue_own(&rt, &domain, &mut task, Kind::Default, false, RUNNING));
-    assert!(rt; queue_in_front(&rt, &domain, &mut other));
+    let watch = Watch::Plain { cond: 0 };
+    let seen = [
+        queue_own(&rt, &domain, &mut task, Kind::Default, false, RUNNING),
+        queue_for(&rt, &domain, &mut other, Kind::Autoremove, watch),
+    ];
+    all_so(&rt, &seen);
     let mut list = Members::new();
     lock(&rt, &domain, &mut task, FIRST_PLAIN_HEAD);
     let count = members(&domain, &mut task, FIRST_PLAIN_HEAD, &mut list);
     unlock(&rt, &domain, &mut task, false);
-    assert!(rt; count == 2);
-    assert!(rt; is_entry_of(list.at(0), 1));
-    assert!(rt; is_entry_of(list.at(1), 0));
+    let seen = [
+        count == 2,
+        is_entry_of(list.at(0), 1),
+        is_entry_of(list.at(1), 0),
+    ];
+    all_so(&rt, &seen);
     Ok(())
 }
 
@@ -59,8 +48,11 @@ fn members_in_order(rt: HostRuntime) -> Result<(), Fail> {
 fn active_with_a_member(rt: HostRuntime) -> Result<(), Fail> {
     let (domain, mut task) = Domain::new(rt.alloc())?;
     let mut other = another(&rt, &domain, &mut task);
-    assert!(rt; !active(&domain, &mut task, FIRST_PLAIN_HEAD));
-    assert!(rt; queue_own(&rt, &domain, &mut other, Kind::Default, false, RUNNING));
-    assert!(rt; active(&domain, &mut task, FIRST_PLAIN_HEAD));
+    let seen = [
+        !active(&domain, &mut task, FIRST_PLAIN_HEAD),
+        queue_own(&rt, &domain, &mut other, Kind::Default, false, RUNNING),
+        active(&domain, &mut task, FIRST_PLAIN_HEAD),
+    ];
+    all_so(&rt, &seen);
     Ok(())
 }

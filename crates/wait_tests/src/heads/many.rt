@@ -4,6 +4,7 @@ ghost use Rattle.std.specs.Prelude.{◌≡◌};
 ghost use Rattle.wq_head.specs.Readied.{IsReady};
 
 use crate::heads::waiting::{count_members, queue_own};
+use crate::wants::{all_so, another};
 use std::process::Abort;
 use std::sync::Wait;
 use std::test::Fail;
@@ -46,19 +47,20 @@ fn walk_over_many<R: Abort + Wait>(rt: &R, domain: &Domain, mut task: Task, coun
     requires of { task.domain ≡ domain.now }
     requires ready { IsReady task }
 {
-    let Ok(mut last) = task.fork(domain, 0) else {
-        panic!(rt; "numbers are spare")
-    };
+    let mut last = another(rt, domain, &mut task);
     assert!(rt; queue_many(rt, domain, &mut task, count));
     let watch = Watch::Plain { cond: 0 };
     let walked = wake(rt, domain, &mut task, watch, Mode::Normal, 0);
-    assert!(rt; walked.selected == 0);
-    assert!(rt; walked.woken == 0);
-    assert!(rt; walked.holds == holds);
-    assert!(rt; matches!(walked.end, End::End));
+    let seen = [
+        walked.selected == 0,
+        walked.woken == 0,
+        walked.holds == holds,
+        matches!(walked.end, End::End),
+    ];
+    all_so(rt, &seen);
     let (entries, marks) = count_members(domain, &mut last);
-    assert!(rt; entries == u32::from(count));
-    assert!(rt; marks == 0);
+    let seen = [entries == u32::from(count), marks == 0];
+    all_so(rt, &seen);
 }
 
 /// A hold calls 65 entries.

@@ -8,6 +8,7 @@ ghost use Rattle.wq_head.specs.Readied.{IsAtRest, IsReady, IsUpAndFree};
 
 use crate::heads::sleepers::sees_queued;
 use crate::heads::strangers::lock_other;
+use crate::wants::{all_so, another};
 use std::process::Abort;
 use std::sync::Wait;
 use std::test::Fail;
@@ -99,10 +100,8 @@ fn other_wakes<R: Abort + Wait>(
     ensures of { task.new.domain ≡ domain.now }
     ensures ready { IsReady task.new }
 {
-    match task.fork(domain, 0) {
-        Ok(mut other) => wake_page(rt, domain, &mut other, page, mode, count),
-        Err(_) => panic!(rt; "numbers are spare"),
-    }
+    let mut other = another(rt, domain, task);
+    wake_page(rt, domain, &mut other, page, mode, count)
 }
 
 /// Whether the own entry is off, and the own flag word tells that a page was taken for the task.
@@ -131,16 +130,17 @@ fn hand_to<R: Abort + Wait>(
     ensures of { task.new.domain ≡ domain.now }
     ensures ready { IsReady task.new }
 {
-    let Ok(mut other) = task.fork(domain, 0) else {
-        panic!(rt; "numbers are spare")
-    };
+    let mut other = another(rt, domain, task);
     assert!(rt; queue_page(rt, domain, &mut other, page, state));
     let walked = other_wakes(rt, domain, task, page, mode, 1);
-    assert!(rt; walked.woken == 1);
-    assert!(rt; walked.selected == 1);
-    assert!(rt; walked.holds == 1);
-    assert!(rt; matches!(walked.end, End::Spent));
-    assert!(rt; was_handed(domain, &mut other));
+    let seen = [
+        walked.woken == 1,
+        walked.selected == 1,
+        walked.holds == 1,
+        matches!(walked.end, End::Spent),
+        was_handed(domain, &mut other),
+    ];
+    all_so(rt, &seen);
 }
 
 /// It counts as woken whether the wake met the task, which has not gone to sleep yet in state RUNNING, or not; and also
@@ -174,16 +174,25 @@ fn stop_each<R: Abort + Wait>(rt: &R, domain: &Domain, mut task: Task)
     requires of { task.domain ≡ domain.now }
     requires ready { IsReady task }
 {
-    assert!(rt; other_waits(rt, domain, &mut task, 5, UNINTERRUPTIBLE));
-    assert!(rt; other_waits(rt, domain, &mut task, 5, UNINTERRUPTIBLE));
+    let seen = [
+        other_waits(rt, domain, &mut task, 5, UNINTERRUPTIBLE),
+        other_waits(rt, domain, &mut task, 5, UNINTERRUPTIBLE),
+    ];
+    all_so(rt, &seen);
     let first = other_wakes(rt, domain, &mut task, 5, Mode::Normal, 0);
-    assert!(rt; first.woken == 1);
-    assert!(rt; first.selected == 1);
-    assert!(rt; matches!(first.end, End::Stopped));
+    let seen = [
+        first.woken == 1,
+        first.selected == 1,
+        matches!(first.end, End::Stopped),
+    ];
+    all_so(rt, &seen);
     let second = other_wakes(rt, domain, &mut task, 5, Mode::Normal, 1);
-    assert!(rt; second.woken == 0);
-    assert!(rt; second.selected == 0);
-    assert!(rt; matches!(second.end, End::Stopped));
+    let seen = [
+        second.woken == 0,
+        second.selected == 0,
+        matches!(second.end, End::Stopped),
+    ];
+    all_so(rt, &seen);
 }
 
 #[test]
@@ -200,19 +209,31 @@ fn wake_both<R: Abort + Wait>(rt: &R, domain: &Domain, mut task: Task)
     requires ready { IsReady task }
 {
     let bit = Watch::Bit { word: 7, bit: 0 };
-    assert!(rt; lock_other(rt, domain, &mut task, bit));
-    assert!(rt; other_waits(rt, domain, &mut task, 7, UNINTERRUPTIBLE));
+    let seen = [
+        lock_other(rt, domain, &mut task, bit),
+        other_waits(rt, domain, &mut task, 7, UNINTERRUPTIBLE),
+    ];
+    all_so(rt, &seen);
     let front = other_wakes(rt, domain, &mut task, 7, Mode::Normal, 0);
-    assert!(rt; front.woken == 2);
-    assert!(rt; front.selected == 2);
-    assert!(rt; matches!(front.end, End::End));
+    let seen = [
+        front.woken == 2,
+        front.selected == 2,
+        matches!(front.end, End::End),
+    ];
+    all_so(rt, &seen);
     let other_bit = Watch::Bit { word: 9, bit: 0 };
-    assert!(rt; other_waits(rt, domain, &mut task, 9, UNINTERRUPTIBLE));
-    assert!(rt; lock_other(rt, domain, &mut task, other_bit));
+    let seen = [
+        other_waits(rt, domain, &mut task, 9, UNINTERRUPTIBLE),
+        lock_other(rt, domain, &mut task, other_bit),
+    ];
+    all_so(rt, &seen);
     let behind = other_wakes(rt, domain, &mut task, 9, Mode::Normal, 0);
-    assert!(rt; behind.woken == 1);
-    assert!(rt; behind.selected == 1);
-    assert!(rt; matches!(behind.end, End::End));
+    let seen = [
+        behind.woken == 1,
+        behind.selected == 1,
+        matches!(behind.end, End::End),
+    ];
+    all_so(rt, &seen);
 }
 
 #[test]
@@ -302,13 +323,11 @@ fn hand_to_sleeper<R: Abort + Threads + Wait + Sync>(
     requires of { task.domain ≡ domain.now }
     requires ready { IsReady task }
 {
-    let (Ok(sleeper), Ok(looker)) = (task.fork(domain, 0), task.fork(domain, 0)) else {
-        panic!(rt; "numbers are spare")
-    };
+    let sleeper = another(rt, domain, &mut task);
+    let looker = another(rt, domain, &mut task);
     let (told, walked) = meet(rt, domain, task, looker, sleeper, yields);
-    assert!(rt; told);
-    assert!(rt; walked.woken == 1);
-    assert!(rt; matches!(walked.end, End::Spent));
+    let seen = [told, walked.woken == 1, matches!(walked.end, End::Spent)];
+    all_so(rt, &seen);
 }
 
 #[test]

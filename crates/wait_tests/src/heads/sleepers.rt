@@ -5,6 +5,7 @@ ghost use Rattle.std.specs.Prelude.{◌≡◌, ◌<◌, ◌≤◌};
 ghost use Rattle.wq_head.specs.Readied.{IsAtRest, IsReady, IsUpAndFree};
 
 use crate::heads::waiting::{count_members, leave, queue_own};
+use crate::wants::{all_so, another};
 use std::process::Abort;
 use std::sync::Wait;
 use std::test::Fail;
@@ -196,18 +197,19 @@ fn walk_over_three<R: Abort + Threads + Wait + Sync>(
     requires of { task.domain ≡ domain.now }
     requires ready { IsReady task }
 {
-    let (Ok(first), Ok(second)) = (task.fork(domain, 0), task.fork(domain, 0)) else {
-        panic!(rt; "numbers are spare")
-    };
-    let (Ok(third), Ok(mut last)) = (task.fork(domain, 0), task.fork(domain, 0)) else {
-        panic!(rt; "numbers are spare")
-    };
+    let first = another(rt, domain, &mut task);
+    let second = another(rt, domain, &mut task);
+    let third = another(rt, domain, &mut task);
+    let mut last = another(rt, domain, &mut task);
     let (walked, left) = meet(rt, domain, task, first, second, third, looks, yields);
-    assert!(rt; walked.woken <= 3);
-    assert!(rt; walked.woken + left == 3);
     let (entries, marks) = count_members(domain, &mut last);
-    assert!(rt; entries == 0);
-    assert!(rt; marks == 0);
+    let seen = [
+        walked.woken <= 3,
+        walked.woken.saturating_add(left) == 3,
+        entries == 0,
+        marks == 0,
+    ];
+    all_so(rt, &seen);
 }
 
 /// The condition is set at once, which may be before the tasks wait for it, while they do, or when they sleep.

@@ -6,6 +6,7 @@ ghost use Rattle.wq_head.specs.Adds.{IsFor, IsForBit};
 ghost use Rattle.wq_head.specs.Readied.{IsReady, IsUpAndFree};
 ghost use Rattle.wq_head.specs.Walks.{IsFull};
 
+use crate::wants::all_so;
 use std::process::Abort;
 use std::sync::Wait;
 use std::test::Fail;
@@ -20,7 +21,13 @@ use wq_head::locks::{lock, unlock};
 use wq_head::wakes::wake;
 
 /// Queues the own entry at the front, and stores a state in the same hold: false where there is no place.
-fn queue_for<R: Wait>(rt: &R, domain: &Domain, task: &mut Task, kind: Kind, watch: Watch) -> bool
+pub(crate) fn queue_for<R: Wait>(
+    rt: &R,
+    domain: &Domain,
+    task: &mut Task,
+    kind: Kind,
+    watch: Watch,
+) -> bool
     requires of { task.old.domain ≡ domain.now }
     requires ready { IsReady task.old }
     requires suits { IsFor watch kind }
@@ -130,14 +137,20 @@ fn wake_each<R: Abort + Wait>(rt: &R, domain: &Domain, mut task: Task)
 {
     let bit = Watch::Bit { word: 2, bit: 16 };
     let var = Watch::Var { var: 16, old: 0 };
-    assert!(rt; head_of(bit) == head_of(var));
-    assert!(rt; queue_other(rt, domain, &mut task, Kind::Bit, bit));
-    assert!(rt; queue_other(rt, domain, &mut task, Kind::Var, var));
-    assert!(rt; wakes(rt, domain, &mut task, bit, 0, 1, 0));
-    assert!(rt; wakes(rt, domain, &mut task, bit, 0, 0, 0));
+    let seen = [
+        head_of(bit) == head_of(var),
+        queue_other(rt, domain, &mut task, Kind::Bit, bit),
+        queue_other(rt, domain, &mut task, Kind::Var, var),
+        wakes(rt, domain, &mut task, bit, 0, 1, 0),
+        wakes(rt, domain, &mut task, bit, 0, 0, 0),
+    ];
+    all_so(rt, &seen);
     let newer = Watch::Var { var: 16, old: 7 };
-    assert!(rt; wakes(rt, domain, &mut task, newer, 1, 1, 0));
-    assert!(rt; wakes(rt, domain, &mut task, newer, 1, 0, 0));
+    let seen = [
+        wakes(rt, domain, &mut task, newer, 1, 1, 0),
+        wakes(rt, domain, &mut task, newer, 1, 0, 0),
+    ];
+    all_so(rt, &seen);
 }
 
 /// Each wake wakes its own.
@@ -155,12 +168,15 @@ fn select_each<R: Abort + Wait>(rt: &R, domain: &Domain, mut task: Task)
 {
     let bit = Watch::Bit { word: 2, bit: 16 };
     let var = Watch::Var { var: 16, old: 0 };
-    assert!(rt; lock_other(rt, domain, &mut task, bit));
-    assert!(rt; lock_other(rt, domain, &mut task, bit));
-    assert!(rt; queue_other(rt, domain, &mut task, Kind::Var, var));
-    assert!(rt; wakes(rt, domain, &mut task, bit, 1, 1, 1));
-    assert!(rt; wakes(rt, domain, &mut task, bit, 1, 1, 1));
-    assert!(rt; wakes(rt, domain, &mut task, bit, 1, 0, 0));
+    let seen = [
+        lock_other(rt, domain, &mut task, bit),
+        lock_other(rt, domain, &mut task, bit),
+        queue_other(rt, domain, &mut task, Kind::Var, var),
+        wakes(rt, domain, &mut task, bit, 1, 1, 1),
+        wakes(rt, domain, &mut task, bit, 1, 1, 1),
+        wakes(rt, domain, &mut task, bit, 1, 0, 0),
+    ];
+    all_so(rt, &seen);
 }
 
 /// So a wake of a bit uses up its count at the first who can be woken.

@@ -5,6 +5,7 @@ ghost use Rattle.wq_head.specs.Readied.{IsReady};
 
 use crate::heads::many::queue_many;
 use crate::heads::waiting::queue_own;
+use crate::wants::{all_so, another};
 use std::process::Abort;
 use std::sync::Wait;
 use std::test::Fail;
@@ -30,19 +31,23 @@ pub fn end_both(domain: &Domain, rousing: Rousing, passing: Passing) {
     rousing.end();
 }
 
+/// Whether a task is the only one that is to be roused.
+pub fn rouses_only(rousing: &Rousing, who: u8) -> bool {
+    let tasks = rousing.tasks();
+    tasks.len() == 1 && tasks[0] == who
+}
+
 /// While another task holds the lock a look finds its ticket served, and when that is given back the own one.
 #[test]
 fn lock_waits_for_its_turn(rt: HostRuntime) -> Result<(), Fail> {
     let (domain, mut task) = Domain::new(rt.alloc())?;
-    let Ok(mut other) = task.fork(&domain, 0) else {
-        panic!(rt; "a number is spare")
-    };
+    let mut other = another(&rt, &domain, &mut task);
     lock(&rt, &domain, &mut other, FIRST_PLAIN_HEAD);
     let ticket = draw_lock(&domain, &mut task, FIRST_PLAIN_HEAD);
     let Err(served) = lock_turn(&domain, &mut task, FIRST_PLAIN_HEAD, ticket) else {
         panic!(rt; "the other task holds the lock")
     };
-    assert_eq!(rt; served.wrapping_add(1), ticket);
+    assert!(rt; served.wrapping_add(1) == ticket);
     unlock(&rt, &domain, &mut other, false);
     let Ok(()) = lock_turn(&domain, &mut task, FIRST_PLAIN_HEAD, ticket) else {
         panic!(rt; "nobody holds the lock")
@@ -55,9 +60,7 @@ fn lock_waits_for_its_turn(rt: HostRuntime) -> Result<(), Fail> {
 #[test]
 fn locked_until_it_is_given_back(rt: HostRuntime) -> Result<(), Fail> {
     let (domain, mut task) = Domain::new(rt.alloc())?;
-    let Ok(mut other) = task.fork(&domain, 0) else {
-        panic!(rt; "a number is spare")
-    };
+    let mut other = another(&rt, &domain, &mut task);
     lock(&rt, &domain, &mut other, FIRST_PLAIN_HEAD);
     let mut list = Members::new();
     let mut rousing = Rousing::new();
@@ -90,9 +93,12 @@ fn locked_until_it_is_given_back(rt: HostRuntime) -> Result<(), Fail> {
     let WakeTurn::Done(walked) = second else {
         panic!(rt; "nobody holds the lock")
     };
-    assert_eq!(rt; walked.woken, 0);
-    assert_eq!(rt; walked.holds, 1);
-    assert!(rt; matches!(walked.end, End::End));
+    let seen = [
+        walked.woken == 0,
+        walked.holds == 1,
+        matches!(walked.end, End::End),
+    ];
+    all_so(&rt, &seen);
     end_both(&domain, rousing, passing);
     Ok(())
 }
@@ -135,8 +141,7 @@ fn wake_over_66<R: Abort + Wait>(rt: &R, domain: &Domain, mut task: Task)
     let WakeTurn::Done(walked) = second else {
         panic!(rt; "one entry is left")
     };
-    assert_eq!(rt; walked.holds, 2);
-    assert_eq!(rt; walked.selected, 0);
+    all_so(rt, &[walked.holds == 2, walked.selected == 0]);
     end_both(domain, rousing, passing);
 }
 
@@ -153,30 +158,28 @@ fn wake_sleeper<R: Abort + Wait>(rt: &R, domain: &Domain, mut task: Task)
     requires of { task.domain ≡ domain.now }
     requires ready { IsReady task }
 {
-    let (Ok(mut sleeper), Ok(mut other)) = (task.fork(domain, 0), task.fork(domain, 0)) else {
-        panic!(rt; "numbers are spare")
-    };
-    assert!(rt;
+    let mut sleeper = another(rt, domain, &mut task);
+    let mut other = another(rt, domain, &mut task);
+    let seen = [
         queue_own(
             rt,
             domain,
             &mut sleeper,
             Kind::Autoremove,
             false,
-            INTERRUPTIBLE
-        )
-    );
-    assert!(rt;
+            INTERRUPTIBLE,
+        ),
         queue_own(
             rt,
             domain,
             &mut other,
             Kind::Autoremove,
             false,
-            INTERRUPTIBLE
-        )
-    );
-    assert!(rt; matches!(sleep_exchange(rt, domain, &mut sleeper), Sleep::Asleep));
+            INTERRUPTIBLE,
+        ),
+        matches!(sleep_exchange(rt, domain, &mut sleeper), Sleep::Asleep),
+    ];
+    all_so(rt, &seen);
     let mut list = Members::new();
     let mut rousing = Rousing::new();
     let mut passing = Passing::none();
@@ -194,8 +197,8 @@ fn wake_sleeper<R: Abort + Wait>(rt: &R, domain: &Domain, mut task: Task)
     let WakeTurn::Done(walked) = turn else {
         panic!(rt; "nobody holds the lock")
     };
-    assert_eq!(rt; walked.woken, 2);
-    assert_eq!(rt; rousing.tasks(), [sleeper.number()].as_slice());
+    let named = rouses_only(&rousing, sleeper.number());
+    all_so(rt, &[walked.woken == 2, named]);
     end_both(domain, rousing, passing);
 }
 

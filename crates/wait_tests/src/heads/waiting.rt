@@ -90,9 +90,12 @@ pub(crate) fn count_members(domain: &Domain, task: &mut Task) -> (u32, u32)
     let mut marks: u32 = 0;
     for number in 0..TASKS {
         let who = number as u8;
-        entries += u32::from(entry_load(domain, task, who, 0).queued());
-        entries += u32::from(entry_load(domain, task, who, 1).queued());
-        marks += u32::from(mark_load(domain, task, who) != 0);
+        let first = entry_load(domain, task, who, 0).queued();
+        let second = entry_load(domain, task, who, 1).queued();
+        let mark = mark_load(domain, task, who) != 0;
+        entries = entries.saturating_add(u32::from(first));
+        entries = entries.saturating_add(u32::from(second));
+        marks = marks.saturating_add(u32::from(mark));
     }
     (entries, marks)
 }

@@ -6,6 +6,7 @@ ghost use Rattle.wait_tests.specs.EventTasks.{IsCleanHearer};
 use super::met_nobody;
 use super::simple::{swait_after_all, swake_first, swake_in_hold};
 use crate::events::flags::{enter, hear, leave};
+use crate::wants::all_so;
 use std::sync::Wait;
 use std::test::Fail;
 use wait_model::queues::Walked;
@@ -35,9 +36,12 @@ fn flag_then_a_simple_queue(rt: HostRuntime) -> Result<(), Fail> {
     let first = swake_first(&rt, &domain, &mut task);
     let (locked, all_locked) = swake_in_hold(&rt, &domain, &mut task);
     let (all, over) = swait_after_all(&rt, &domain, &mut task);
-    assert!(rt; met_nobody(walked, 1));
-    assert!(rt; !first && !locked && over);
-    assert!(rt; all_locked == 0);
-    assert!(rt; all == 0);
+    let seen = [
+        met_nobody(walked, 1),
+        !first && !locked && over,
+        all_locked == 0,
+        all == 0,
+    ];
+    all_so(&rt, &seen);
     Ok(())
 }

@@ -5,6 +5,7 @@ ghost use Rattle.wait_tests.specs.EventTasks.{IsReadyToWait};
 
 use super::met_nobody;
 use crate::events::alone::{prepare_asking, prepare_first, prepare_shared};
+use crate::wants::all_so;
 use std::sync::Wait;
 use std::test::Fail;
 use wait_event::{add_entry, remove_entry, set_and_wake, wait_event};
@@ -56,14 +57,16 @@ fn enter_and_leave<R: Wait>(rt: &R, domain: &Domain, task: &mut Task) -> bool
 #[test]
 fn parts_then_a_wait_then_an_entry(rt: HostRuntime) -> Result<(), Fail> {
     let (domain, mut task) = Domain::new(rt.alloc())?;
-    assert!(rt; prepare_shared(&rt, &domain, &mut task, 0, SHARED.state));
-    assert!(rt; prepare_first(&rt, &domain, &mut task, 0));
-    assert!(rt; prepare_asking(&rt, &domain, &mut task, 0, SHARED));
+    let seen = [
+        prepare_shared(&rt, &domain, &mut task, 0, SHARED.state),
+        prepare_first(&rt, &domain, &mut task, 0),
+        prepare_asking(&rt, &domain, &mut task, 0, SHARED),
+    ];
+    all_so(&rt, &seen);
     let walked = set_one(&rt, &domain, &mut task);
     let over = wait_for_it(&rt, &domain, &mut task);
     let left = enter_and_leave(&rt, &domain, &mut task);
-    assert!(rt; met_nobody(walked, 1));
-    assert!(rt; over);
-    assert!(rt; left);
+    let seen = [met_nobody(walked, 1), over, left];
+    all_so(&rt, &seen);
     Ok(())
 }

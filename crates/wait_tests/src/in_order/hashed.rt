@@ -7,6 +7,7 @@ ghost use Rattle.bit_wait.specs.Holders.{IsHolder};
 
 use super::met_nobody;
 use crate::pages::alone::{give, take};
+use crate::wants::all_so;
 use bit_wait::{clear_and_wake_bit, wait_on_bit, wait_on_bit_lock};
 use std::sync::Wait;
 use std::test::Fail;
@@ -67,9 +68,8 @@ fn bit_then_page(rt: HostRuntime) -> Result<(), Fail> {
         panic!(rt; "the page is clear")
     }
     let unlocked = give(&rt, &domain, &mut task, 1);
-    assert!(rt; over);
-    assert!(rt; met_nobody(given, 0));
-    assert!(rt; met_nobody(unlocked, 0));
+    let seen = [over, met_nobody(given, 0), met_nobody(unlocked, 0)];
+    all_so(&rt, &seen);
     Ok(())
 }
 
@@ -88,7 +88,7 @@ fn variable_then_its_change(rt: HostRuntime) -> Result<(), Fail> {
     let (domain, mut task) = Domain::new(rt.alloc())?;
     let seen = wait_for_change(&rt, &domain, &mut task);
     let walked = publish_var_and_wake(&rt, &domain, &mut task, 20, 2);
-    assert!(rt; matches!(seen, Ok(0)));
-    assert!(rt; met_nobody(walked, 0));
+    let seen = [matches!(seen, Ok(0)), met_nobody(walked, 0)];
+    all_so(&rt, &seen);
     Ok(())
 }

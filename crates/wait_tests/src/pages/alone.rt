@@ -6,7 +6,7 @@ ghost use Rattle.wait_model.specs.declared.watches.Watch.TheVariants as watch;
 ghost use Rattle.wait_rule.specs.Says.{IsClean};
 ghost use Rattle.bit_wait.specs.Holders.{IsHolder};
 
-use crate::wants::another;
+use crate::wants::{all_so, another};
 use bit_wait::BitEnd;
 use page_lock::tallies::add_tally;
 use page_lock::unlocks::unlock_page;
@@ -62,10 +62,13 @@ fn clear_page_is_taken_at_once(rt: HostRuntime) -> Result<(), Fail> {
         panic!(rt; "the page is clear")
     }
     let walked = give(&rt, &domain, &mut task, 1);
-    assert!(rt; walked.selected == 0);
-    assert!(rt; walked.woken == 0);
-    assert!(rt; walked.holds == 0);
-    assert!(rt; matches!(walked.end, End::End));
+    let seen = [
+        walked.selected == 0,
+        walked.woken == 0,
+        walked.holds == 0,
+        matches!(walked.end, End::End),
+    ];
+    all_so(&rt, &seen);
     Ok(())
 }
 
@@ -83,7 +86,7 @@ fn pending_signal_ends_the_wait(rt: HostRuntime) -> Result<(), Fail> {
     let end = lock_page(&rt, &domain, &mut other, 3, SleepState::Interruptible);
     assert!(rt; matches!(end, Err(BitEnd::Interrupted { seen: 1 })));
     let walked = give(&rt, &domain, &mut task, 3);
-    assert!(rt; walked.selected == 0);
-    assert!(rt; take(&rt, &domain, &mut other, 3));
+    let seen = [walked.selected == 0, take(&rt, &domain, &mut other, 3)];
+    all_so(&rt, &seen);
     Ok(())
 }

@@ -1,6 +1,6 @@
 //! The calls that wait for nobody but the lock of a head: a page is taken, its tally added to, and the page given back.
 
-use crate::wants::another;
+use crate::wants::{all_so, another};
 use page_lock::tallies::add_tally;
 use page_lock::tries::try_lock_page;
 use page_lock::unlocks::unlock_page;
@@ -19,8 +19,11 @@ fn page_is_taken_once(rt: HostRuntime) -> Result<(), Fail> {
     if !try_lock_page(&domain, &mut task, PAGE) {
         panic!(rt; "the page is clear")
     }
-    assert!(rt; !try_lock_page(&domain, &mut other, PAGE));
-    assert!(rt; try_lock_page(&domain, &mut other, 0));
+    let seen = [
+        !try_lock_page(&domain, &mut other, PAGE),
+        try_lock_page(&domain, &mut other, 0),
+    ];
+    all_so(&rt, &seen);
     unlock_page(&rt, &domain, &mut task, PAGE);
     assert!(rt; try_lock_page(&domain, &mut other, PAGE));
     Ok(())
@@ -34,10 +37,13 @@ fn unlock_takes_no_lock_for_nobody(rt: HostRuntime) -> Result<(), Fail> {
         panic!(rt; "the page is clear")
     }
     let walked = unlock_page(&rt, &domain, &mut task, 1);
-    assert!(rt; walked.selected == 0);
-    assert!(rt; walked.woken == 0);
-    assert!(rt; walked.holds == 0);
-    assert!(rt; matches!(walked.end, End::End));
+    let seen = [
+        walked.selected == 0,
+        walked.woken == 0,
+        walked.holds == 0,
+        matches!(walked.end, End::End),
+    ];
+    all_so(&rt, &seen);
     Ok(())
 }
 
@@ -48,9 +54,12 @@ fn tally_answers_the_sum_before(rt: HostRuntime) -> Result<(), Fail> {
     if !try_lock_page(&domain, &mut task, PAGE) {
         panic!(rt; "the page is clear")
     }
-    assert!(rt; add_tally(&domain, &mut task, PAGE, 5) == 0);
-    assert!(rt; add_tally(&domain, &mut task, PAGE, u64::MAX) == 5);
-    assert!(rt; add_tally(&domain, &mut task, PAGE, 0) == 4);
+    let seen = [
+        add_tally(&domain, &mut task, PAGE, 5) == 0,
+        add_tally(&domain, &mut task, PAGE, u64::MAX) == 5,
+        add_tally(&domain, &mut task, PAGE, 0) == 4,
+    ];
+    all_so(&rt, &seen);
     unlock_page(&rt, &domain, &mut task, PAGE);
     Ok(())
 }

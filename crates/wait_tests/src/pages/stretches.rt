@@ -4,12 +4,12 @@ ghost use Rattle.std.specs.Prelude.{◌≡◌};
 ghost use Rattle.wait_model.specs.declared.watches.Watch.TheVariants as watch;
 ghost use Rattle.wait_rule.specs.Says.{IsClean};
 ghost use Rattle.bit_wait.specs.Holders.{IsHolder};
-ghost use Rattle.wait_tests.specs.PageTasks.{IsLocking};
 
 use crate::pages::alone::{give, take};
-use crate::turns::go_on;
+use crate::turns::go_often;
+use crate::wants::another;
 use page_lock::wait_calls::begin_page;
-use page_lock::waits::{PageOutcome, PageRun, PageStage, PageTurn};
+use page_lock::waits::{PageOutcome, PageStage};
 use std::sync::Wait;
 use std::test::Fail;
 use wait_class::stages::Turn;
@@ -29,14 +29,10 @@ fn play<R: Wait>(rt: &R, domain: &Domain, holder: &mut Task, waiter: &mut Task, 
     requires waiter { IsClean waiter.old }
 {
     let mut run = begin_page(waiter, 0, SleepState::Uninterruptible);
-    let mut at = Turn::Again(PageStage::First);
-    for _ in 0..turns {
-        at = go_on(domain, waiter, &mut run, at);
-    }
+    let begins = Turn::Again(PageStage::First);
+    let at = go_often(domain, waiter, &mut run, begins, turns);
     give(rt, domain, holder, 0);
-    for _ in 0..AFTER {
-        at = go_on(domain, waiter, &mut run, at);
-    }
+    let at = go_often(domain, waiter, &mut run, at, AFTER);
     matches!(at, Turn::Done(PageOutcome::Over))
 }
 
@@ -45,9 +41,7 @@ fn play<R: Wait>(rt: &R, domain: &Domain, holder: &mut Task, waiter: &mut Task, 
 fn waits_take_the_page_in_each_order(rt: HostRuntime) -> Result<(), Fail> {
     for turns in 0..BEFORE {
         let (domain, mut holder) = Domain::new(rt.alloc())?;
-        let Ok(mut waiter) = holder.fork(&domain, 0) else {
-            panic!(rt; "numbers are spare")
-        };
+        let mut waiter = another(&rt, &domain, &mut holder);
         if !take(&rt, &domain, &mut holder, 0) {
             panic!(rt; "the page is clear")
         }

@@ -3,7 +3,7 @@
 use crate::pipes::calls::{
     are_from, end_read, end_write, fill_from, get, put, take_read, take_write,
 };
-use crate::wants::another;
+use crate::wants::{all_so, another};
 use std::test::Fail;
 use wait_pipe::pieces::PipeEnd;
 use wait_rule::Domain;
@@ -27,10 +27,13 @@ fn piece_goes_through(rt: HostRuntime) -> Result<(), Fail> {
     let last = get(&rt, &domain, &mut reader, 7, &mut buf);
     end_read(&rt, &domain, &mut reader, 7);
     writer.join(&domain, reader);
-    assert!(rt; matches!(put_in, Ok(3)));
-    assert!(rt; matches!(came, Ok(3)));
-    assert!(rt; buf[0] == 5 && buf[1] == 6 && buf[2] == 7);
-    assert!(rt; matches!(last, Ok(0)));
+    let seen = [
+        matches!(put_in, Ok(3)),
+        matches!(came, Ok(3)),
+        buf[0] == 5 && buf[1] == 6 && buf[2] == 7,
+        matches!(last, Ok(0)),
+    ];
+    all_so(&rt, &seen);
     Ok(())
 }
 
@@ -40,11 +43,14 @@ fn end_is_opened_once(rt: HostRuntime) -> Result<(), Fail> {
     let (domain, mut one) = Domain::new(rt.alloc())?;
     let mut two = another(&rt, &domain, &mut one);
     let mut three = another(&rt, &domain, &mut one);
-    assert!(rt; take_write(&domain, &mut one, 0));
-    assert!(rt; !take_write(&domain, &mut two, 0));
-    assert!(rt; take_read(&domain, &mut two, 0));
-    assert!(rt; !take_read(&domain, &mut three, 0));
-    assert!(rt; take_write(&domain, &mut three, 1));
+    let seen = [
+        take_write(&domain, &mut one, 0),
+        !take_write(&domain, &mut two, 0),
+        take_read(&domain, &mut two, 0),
+        !take_read(&domain, &mut three, 0),
+        take_write(&domain, &mut three, 1),
+    ];
+    all_so(&rt, &seen);
     Ok(())
 }
 
@@ -59,8 +65,11 @@ fn pipe_without_reader_is_broken(rt: HostRuntime) -> Result<(), Fail> {
     let put_in = put(&rt, &domain, &mut writer, 2, &[1, 2]);
     end_read(&rt, &domain, &mut reader, 2);
     let broken = put(&rt, &domain, &mut writer, 2, &[3]);
-    assert!(rt; matches!(put_in, Ok(2)));
-    assert!(rt; matches!(broken, Err(PipeEnd::Broken)));
+    let seen = [
+        matches!(put_in, Ok(2)),
+        matches!(broken, Err(PipeEnd::Broken)),
+    ];
+    all_so(&rt, &seen);
     Ok(())
 }
 
@@ -85,13 +94,16 @@ fn signal_ends_the_wait_of_a_writer(rt: HostRuntime) -> Result<(), Fail> {
     let in_order = are_from(0, &buf);
     let second = put(&rt, &domain, &mut writer, 3, &bytes[..9]);
     let more = get(&rt, &domain, &mut reader, 3, &mut buf);
-    assert!(rt; matches!(first, Ok(FULL)));
-    assert!(rt; matches!(stopped, Err(PipeEnd::Interrupted { seen: 0 })));
-    assert!(rt; matches!(all, Ok(FULL)));
-    assert!(rt; in_order);
-    assert!(rt; matches!(second, Ok(9)));
-    assert!(rt; matches!(more, Ok(9)));
-    assert!(rt; are_from(FULL as u32, &buf[..9]));
+    let seen = [
+        matches!(first, Ok(FULL)),
+        matches!(stopped, Err(PipeEnd::Interrupted { seen: 0 })),
+        matches!(all, Ok(FULL)),
+        in_order,
+        matches!(second, Ok(9)),
+        matches!(more, Ok(9)),
+        are_from(FULL as u32, &buf[..9]),
+    ];
+    all_so(&rt, &seen);
     Ok(())
 }
 
@@ -109,10 +121,13 @@ fn signal_ends_the_wait_of_a_reader(rt: HostRuntime) -> Result<(), Fail> {
     let stopped = get(&rt, &domain, &mut reader, 3, &mut buf);
     let put_in = put(&rt, &domain, &mut writer, 3, &[8]);
     let came = get(&rt, &domain, &mut reader, 3, &mut buf);
-    assert!(rt; matches!(stopped, Err(PipeEnd::Interrupted { seen: 0 })));
-    assert!(rt; matches!(put_in, Ok(1)));
-    assert!(rt; matches!(came, Ok(1)));
-    assert!(rt; buf[0] == 8);
+    let seen = [
+        matches!(stopped, Err(PipeEnd::Interrupted { seen: 0 })),
+        matches!(put_in, Ok(1)),
+        matches!(came, Ok(1)),
+        buf[0] == 8,
+    ];
+    all_so(&rt, &seen);
     Ok(())
 }
 
@@ -134,9 +149,12 @@ fn closed_with_cells_left(rt: HostRuntime) -> Result<(), Fail> {
     let second = get(&rt, &domain, &mut reader, 4, &mut buf);
     assert!(rt; are_from(14, &buf[..2]));
     let third = get(&rt, &domain, &mut reader, 4, &mut buf);
-    assert!(rt; matches!(put_in, Ok(16)));
-    assert!(rt; matches!(first, Ok(14)));
-    assert!(rt; matches!(second, Ok(2)));
-    assert!(rt; matches!(third, Ok(0)));
+    let seen = [
+        matches!(put_in, Ok(16)),
+        matches!(first, Ok(14)),
+        matches!(second, Ok(2)),
+        matches!(third, Ok(0)),
+    ];
+    all_so(&rt, &seen);
     Ok(())
 }

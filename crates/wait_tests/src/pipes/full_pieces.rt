@@ -7,7 +7,7 @@ ghost use Rattle.wait_rule.specs.Says.{IsClean};
 use crate::pipes::calls::{
     are_from, end_read, end_write, fill_from, get, put, take_read, take_write,
 };
-use crate::wants::another;
+use crate::wants::{all_so, another};
 use std::sync::Wait;
 use std::test::Fail;
 use std::thread;
@@ -110,8 +110,8 @@ fn full_pieces_pass_one_by_one(rt: HostRuntime) -> Result<(), Fail> {
         let (wrote, read) = meet(&rt, &domain, task, reader);
         let (mut task, whole) = wrote;
         task.join(&domain, read.0);
-        assert!(rt; whole);
-        assert!(rt; read.1 == Some(PIECES));
+        let seen = [whole, read.1 == Some(PIECES)];
+        all_so(&rt, &seen);
     }
     Ok(())
 }

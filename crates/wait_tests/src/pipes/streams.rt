@@ -7,7 +7,7 @@ ghost use Rattle.wait_rule.specs.Says.{IsClean};
 use crate::pipes::calls::{
     are_from, end_read, end_write, fill_from, get, put, take_read, take_write,
 };
-use crate::wants::another;
+use crate::wants::{all_so, another};
 use std::sync::Wait;
 use std::test::Fail;
 use std::thread;
@@ -118,8 +118,8 @@ fn bytes_come_out_as_they_went_in(rt: HostRuntime) -> Result<(), Fail> {
         let (wrote, read) = meet(&rt, &domain, task, reader, round);
         let (mut task, sent) = wrote;
         task.join(&domain, read.0);
-        assert!(rt; SENT <= sent);
-        assert!(rt; read.1 == Some(sent));
+        let seen = [SENT <= sent, read.1 == Some(sent)];
+        all_so(&rt, &seen);
     }
     Ok(())
 }

@@ -3,7 +3,7 @@
 ghost use Rattle.std.specs.Prelude.{◌≡◌};
 ghost use Rattle.wait_rule.specs.Says.{IsClean};
 
-use crate::wants::another;
+use crate::wants::{all_so, another};
 use std::sync::Wait;
 use std::test::Fail;
 use swait_queue::waits::swait_event;
@@ -74,11 +74,11 @@ fn wakes_of_an_empty_queue(rt: HostRuntime) -> Result<(), Fail> {
     let (domain, mut task) = Domain::new(rt.alloc())?;
     let mut other = another(&rt, &domain, &mut task);
     let (one, all) = wake_unset(&rt, &domain, &mut other);
-    assert!(rt; !one);
-    assert!(rt; all == 0);
+    let seen = [!one, all == 0];
+    all_so(&rt, &seen);
     let (one, all) = wake_in_hold(&rt, &domain, &mut other);
-    assert!(rt; !one);
-    assert!(rt; all == 0);
+    let seen = [!one, all == 0];
+    all_so(&rt, &seen);
     task.join(&domain, other);
     Ok(())
 }
@@ -87,7 +87,10 @@ fn wakes_of_an_empty_queue(rt: HostRuntime) -> Result<(), Fail> {
 #[test]
 fn set_before_the_wait(rt: HostRuntime) -> Result<(), Fail> {
     let (domain, mut task) = Domain::new(rt.alloc())?;
-    assert!(rt; set_and_swake(&rt, &domain, &mut task) == 0);
-    assert!(rt; swait_event(&rt, &domain, &mut task, COND, SleepState::Uninterruptible).is_ok());
+    let seen = [
+        set_and_swake(&rt, &domain, &mut task) == 0,
+        swait_event(&rt, &domain, &mut task, COND, SleepState::Uninterruptible).is_ok(),
+    ];
+    all_so(&rt, &seen);
     Ok(())
 }

@@ -1,18 +1,18 @@
 //! Wakes by stretches, by who waits for no lock.
 
 ghost use Rattle.std.specs.Prelude.{◌≡◌};
-ghost use Rattle.wait_tests.specs.EventTasks.{IsReadyToWait, IsWaiting, IsWaker};
+ghost use Rattle.wait_tests.specs.EventTasks.{IsReadyToWait, IsWaker};
 
-use crate::heads::turns::end_both;
+use crate::heads::turns::{end_both, rouses_only};
 use crate::simple_queues::stretches::{COND, is_over};
-use crate::turns::go_on;
-use crate::wants::another;
+use crate::turns::go_often;
+use crate::wants::{all_so, another};
 use std::process::Abort;
 use std::test::Fail;
 use swait_queue::swake_turns::{SwakeRun, SwakeStage, SwakeTurn, swake_stretch};
 use swait_queue::waits::begin_swait;
 use wait_class::stages::Turn;
-use wait_event::waits::{WaitRun, WaitStage, WaitTurn};
+use wait_event::waits::WaitStage;
 use wait_model::layout::FIRST_SIMPLE_HEAD;
 use wait_model::tasks::SleepState;
 use wait_model::watches::Watch;
@@ -62,20 +62,6 @@ fn wake_waits_for_its_turn(rt: HostRuntime) -> Result<(), Fail> {
     Ok(())
 }
 
-/// Goes on with a wait until it sleeps or is over, where nobody else goes on.
-fn go_often(domain: &Domain, task: &mut Task, run: &mut WaitRun, last: WaitTurn) -> WaitTurn
-    requires of { task.old.domain ≡ domain.now }
-    requires waiting { IsWaiting task.old run.old last }
-    ensures of { task.new.domain ≡ domain.now }
-    ensures waiting { IsWaiting task.new run.new result }
-{
-    let mut at = last;
-    for _ in 0..OFTEN {
-        at = go_on(domain, task, run, at);
-    }
-    at
-}
-
 /// A wake of one by one stretch: it names the waiter, which slept, and the wait is over then.
 fn wake_sleeper<R: Abort>(rt: &R, domain: &Domain, waker: &mut Task, waiter: &mut Task)
     requires of { (waker.old.domain ≡ domain.now) × (waiter.old.domain ≡ domain.now) }
@@ -83,7 +69,8 @@ fn wake_sleeper<R: Abort>(rt: &R, domain: &Domain, waker: &mut Task, waiter: &mu
     requires waiter { IsReadyToWait waiter.old }
 {
     let mut wait = begin_swait(waiter, COND, SleepState::Uninterruptible);
-    let asleep = go_often(domain, waiter, &mut wait, Turn::Again(WaitStage::First));
+    let begins = Turn::Again(WaitStage::First);
+    let asleep = go_often(domain, waiter, &mut wait, begins, OFTEN);
     assert!(rt; matches!(asleep, Turn::Asleep(_)));
     publish(domain, waker, Watch::Plain { cond: COND }, 1);
     let mut rousing = Rousing::new();
@@ -100,11 +87,10 @@ fn wake_sleeper<R: Abort>(rt: &R, domain: &Domain, waker: &mut Task, waiter: &mu
     ) else {
         panic!(rt; "nobody holds the lock")
     };
-    assert!(rt; selected == 1);
-    assert_eq!(rt; rousing.tasks(), [waiter.number()].as_slice());
+    let named = rouses_only(&rousing, waiter.number());
     end_both(domain, rousing, passing);
-    let over = go_often(domain, waiter, &mut wait, asleep);
-    assert!(rt; is_over(over));
+    let over = go_often(domain, waiter, &mut wait, asleep, OFTEN);
+    all_so(rt, &[selected == 1, named, is_over(over)]);
 }
 
 /// Whom a stretch has woken is for the caller to rouse.

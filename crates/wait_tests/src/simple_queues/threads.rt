@@ -4,12 +4,10 @@
 ghost use Rattle.std.specs.Prelude.{◌≡◌};
 ghost use Rattle.wait_rule.specs.Says.{IsClean};
 
+use crate::meetings::{Part, four_meet};
 use crate::simple_queues::alone::{set_and_swake, set_and_swake_one};
-use crate::wants::another;
 use std::sync::Wait;
 use std::test::Fail;
-use std::thread;
-use std::thread::Threads;
 use swait_queue::waits::swait_event;
 use swait_queue::wakes::swake_one;
 use wait_model::layout::FIRST_SIMPLE;
@@ -22,15 +20,14 @@ const ROUNDS: u32 = 300;
 /// The first condition with a simple head.
 const COND: u8 = FIRST_SIMPLE as u8;
 
-/// Waits for the condition, and gives the task back: true where it was set.
-fn wait_once<R: Wait>(rt: &R, domain: &Domain, mut task: Task) -> (Task, bool)
-    requires of { task.domain ≡ domain.now }
-    requires clean { IsClean task }
-    ensures of { result.0.domain ≡ domain.now }
-    ensures clean { IsClean result.0 }
+/// Waits for the condition: true where it was set.
+pub(crate) fn swait_once<R: Wait>(rt: &R, domain: &Domain, task: &mut Task) -> bool
+    requires of { task.old.domain ≡ domain.now }
+    requires clean { IsClean task.old }
+    ensures of { task.new.domain ≡ domain.now }
+    ensures clean { IsClean task.new }
 {
-    let over = swait_event(rt, domain, &mut task, COND, SleepState::Uninterruptible).is_ok();
-    (task, over)
+    swait_event(rt, domain, task, COND, SleepState::Uninterruptible).is_ok()
 }
 
 /// Sets the condition and wakes the first who waits for it, and the next one.
@@ -44,87 +41,29 @@ fn set_and_swake_two<R: Wait>(rt: &R, domain: &Domain, task: &mut Task)
     swake_one(rt, domain, task, COND);
 }
 
-/// Sets the condition, and wakes who waits for it, all at once or one after another; gives the task back.
-fn set_once<R: Wait>(rt: &R, domain: &Domain, mut task: Task, all: bool) -> Task
-    requires of { task.domain ≡ domain.now }
-    requires clean { IsClean task }
-    ensures of { result.domain ≡ domain.now }
-    ensures clean { IsClean result }
+/// Sets the condition, and wakes who waits for it, all at once or one after another.
+pub(crate) fn swake_all_or_two<R: Wait>(rt: &R, domain: &Domain, task: &mut Task, all: bool) -> bool
+    requires of { task.old.domain ≡ domain.now }
+    requires clean { IsClean task.old }
+    ensures of { task.new.domain ≡ domain.now }
+    ensures clean { IsClean task.new }
 {
     if all {
-        set_and_swake(rt, domain, &mut task);
+        set_and_swake(rt, domain, task);
     } else {
-        set_and_swake_two(rt, domain, &mut task);
+        set_and_swake_two(rt, domain, task);
     }
-    task
-}
-
-/// Two waits, each in a thread of its own.
-fn two_wait<R: Threads + Wait + Sync>(
-    rt: &R,
-    domain: &Domain,
-    first: Task,
-    second: Task,
-) -> ((Task, bool), (Task, bool))
-    requires of { (first.domain ≡ domain.now) × (second.domain ≡ domain.now) }
-    requires clean { IsClean first × IsClean second }
-    ensures of { (result.0.0.domain ≡ domain.now) × (result.1.0.domain ≡ domain.now) }
-    ensures clean { IsClean result.0.0 × IsClean result.1.0 }
-{
-    thread::join(
-        rt,
-        move || -> (Task, bool)
-            requires { (first.domain ≡ domain.now) × IsClean first }
-            ensures { (result.0.domain ≡ domain.entry.now) × IsClean result.0 }
-        { wait_once(rt, domain, first) },
-        move || -> (Task, bool)
-            requires { (second.domain ≡ domain.now) × IsClean second }
-            ensures { (result.0.domain ≡ domain.entry.now) × IsClean result.0 }
-        { wait_once(rt, domain, second) },
-    )
-}
-
-/// Two waits and a waker, each in a thread of its own.
-fn meet<R: Threads + Wait + Sync>(
-    rt: &R,
-    domain: &Domain,
-    waker: Task,
-    first: Task,
-    second: Task,
-    all: bool,
-) -> (Task, ((Task, bool), (Task, bool)))
-    requires of { (waker.domain ≡ domain.now) × (first.domain ≡ domain.now) × (second.domain ≡ domain.now) }
-    requires clean { IsClean waker × IsClean first × IsClean second }
-    ensures of { (result.0.domain ≡ domain.now) × (result.1.0.0.domain ≡ domain.now)
-        × (result.1.1.0.domain ≡ domain.now) }
-    ensures clean { IsClean result.0 × IsClean result.1.0.0 × IsClean result.1.1.0 }
-{
-    thread::join(
-        rt,
-        move || -> Task
-            requires { (waker.domain ≡ domain.now) × IsClean waker }
-            ensures { (result.domain ≡ domain.entry.now) × IsClean result }
-        { set_once(rt, domain, waker, all) },
-        move || -> ((Task, bool), (Task, bool))
-            requires of { (first.domain ≡ domain.now) × (second.domain ≡ domain.now) }
-            requires clean { IsClean first × IsClean second }
-            ensures { ((result.0.0.domain ≡ domain.entry.now) × (result.1.0.domain ≡ domain.entry.now))
-                × (IsClean result.0.0 × IsClean result.1.0) }
-        { two_wait(rt, domain, first, second) },
-    )
+    true
 }
 
 /// Whatever the order of the steps, both waits end, and the waker takes both tasks in.
 #[test]
 fn waiters_are_joined(rt: HostRuntime) -> Result<(), Fail> {
     for round in 0..ROUNDS {
-        let (domain, mut task) = Domain::with_looks(rt.alloc(), 0)?;
-        let first = another(&rt, &domain, &mut task);
-        let second = another(&rt, &domain, &mut task);
-        let (mut task, (one, two)) = meet(&rt, &domain, task, first, second, round % 2 == 0);
-        assert!(rt; one.1 && two.1);
-        task.join(&domain, one.0);
-        task.join(&domain, two.0);
+        let (domain, task) = Domain::with_looks(rt.alloc(), 0)?;
+        let all = round % 2 == 0;
+        let waker = (Part::Swakes { all }, Part::Rests);
+        four_meet(&rt, &domain, task, waker, (Part::Swaits, Part::Swaits));
     }
     Ok(())
 }

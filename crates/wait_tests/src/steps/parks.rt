@@ -4,11 +4,10 @@
 ghost use Rattle.std.specs.Prelude.{◌≡◌};
 ghost use Rattle.wait_rule.specs.Says.{IsClean};
 
-use crate::wants::another;
+use crate::meetings::{Part, four_meet, two_meet};
 use std::sync::Wait;
 use std::test::Fail;
 use std::thread;
-use std::thread::Threads;
 use wait_model::layout::UNINTERRUPTIBLE;
 use wait_model::watches::Mode;
 use wait_rule::domain::{Domain, Task};
@@ -66,48 +65,42 @@ fn wake_up<R: Wait>(rt: &R, domain: &Domain, task: &mut Task, who: u8)
 }
 
 /// Sleeps in each round.
-fn sleeps<R: Wait>(rt: &R, domain: &Domain, mut task: Task)
-    requires of { task.domain ≡ domain.now }
-    requires clean { IsClean task }
+pub(crate) fn sleeps<R: Wait>(rt: &R, domain: &Domain, task: &mut Task) -> bool
+    requires of { task.old.domain ≡ domain.now }
+    requires clean { IsClean task.old }
+    ensures of { task.new.domain ≡ domain.now }
+    ensures clean { IsClean task.new }
 {
     for _ in 0..ROUNDS {
-        doze(rt, domain, &mut task);
+        doze(rt, domain, task);
     }
+    true
 }
 
 /// Wakes another task in each round.
-fn wakes<R: Wait>(rt: &R, domain: &Domain, mut task: Task, who: u8)
-    requires of { task.domain ≡ domain.now }
-    requires clean { IsClean task }
+pub(crate) fn wakes<R: Wait>(rt: &R, domain: &Domain, task: &mut Task, who: u8) -> bool
+    requires of { task.old.domain ≡ domain.now }
+    requires clean { IsClean task.old }
+    ensures of { task.new.domain ≡ domain.now }
+    ensures clean { IsClean task.new }
 {
     for _ in 0..ROUNDS {
-        wake_up(rt, domain, &mut task, who);
+        wake_up(rt, domain, task, who);
     }
+    true
 }
 
-/// One task sleeps and another one wakes it, each in a thread of its own.
-fn two_meet<R: Threads + Wait + Sync>(rt: &R, domain: &Domain, task: Task, one: Task)
-    requires of { (task.domain ≡ domain.now) × (one.domain ≡ domain.now) }
-    requires clean { IsClean task × IsClean one }
-{
-    thread::join(
-        rt,
-        move ||
-            requires { (task.domain ≡ domain.now) × IsClean task }
-        { wakes(rt, domain, task, 1) },
-        move ||
-            requires { (one.domain ≡ domain.now) × IsClean one }
-        { sleeps(rt, domain, one) },
-    );
-}
-
-/// A wake ends the sleep, between whatever steps of it the wake falls.
+/// A wake ends the sleep of a task whose waker has a thread of its own, between whatever steps of it the wake falls.
 #[test]
 fn sleeps_end(rt: HostRuntime) -> Result<(), Fail> {
     for _ in 0..BATCHES {
-        let (domain, mut task) = Domain::with_looks(rt.alloc(), 0)?;
-        let one = another(&rt, &domain, &mut task);
-        two_meet(&rt, &domain, task, one);
+        let (domain, task) = Domain::with_looks(rt.alloc(), 0)?;
+        two_meet(
+            &rt,
+            &domain,
+            task,
+            (Part::WakesOften { who: 1 }, Part::Sleeps),
+        );
     }
     Ok(())
 }
@@ -130,57 +123,39 @@ fn turn<R: Wait>(rt: &R, domain: &Domain, task: &mut Task, other: u8, first: boo
 
 /// In each round the turn goes round three tasks, and then round them the other way. So each of them is woken while
 /// each other one stays asleep.
-fn turns<R: Wait>(rt: &R, domain: &Domain, mut task: Task, next: u8, last: u8, first: bool)
-    requires of { task.domain ≡ domain.now }
-    requires clean { IsClean task }
+pub(crate) fn turns<R: Wait>(
+    rt: &R,
+    domain: &Domain,
+    task: &mut Task,
+    next: u8,
+    last: u8,
+    first: bool,
+) -> bool
+    requires of { task.old.domain ≡ domain.now }
+    requires clean { IsClean task.old }
+    ensures of { task.new.domain ≡ domain.now }
+    ensures clean { IsClean task.new }
 {
     for _ in 0..ROUNDS {
-        turn(rt, domain, &mut task, next, first);
-        turn(rt, domain, &mut task, last, first);
+        turn(rt, domain, task, next, first);
+        turn(rt, domain, task, last, first);
     }
+    true
 }
 
-/// Two of the three tasks, each in a thread of its own.
-fn two_turn<R: Threads + Wait + Sync>(rt: &R, domain: &Domain, one: Task, two: Task)
-    requires of { (one.domain ≡ domain.now) × (two.domain ≡ domain.now) }
-    requires clean { IsClean one × IsClean two }
-{
-    thread::join(
-        rt,
-        move ||
-            requires { (one.domain ≡ domain.now) × IsClean one }
-        { turns(rt, domain, one, 2, 0, false) },
-        move ||
-            requires { (two.domain ≡ domain.now) × IsClean two }
-        { turns(rt, domain, two, 0, 1, false) },
-    );
-}
-
-/// All three.
-fn three_turn<R: Threads + Wait + Sync>(rt: &R, domain: &Domain, task: Task, one: Task, two: Task)
-    requires of { (task.domain ≡ domain.now) × (one.domain ≡ domain.now) × (two.domain ≡ domain.now) }
-    requires clean { IsClean task × IsClean one × IsClean two }
-{
-    thread::join(
-        rt,
-        move ||
-            requires { (task.domain ≡ domain.now) × IsClean task }
-        { turns(rt, domain, task, 1, 2, true) },
-        move ||
-            requires of { (one.domain ≡ domain.now) × (two.domain ≡ domain.now) }
-            requires clean { IsClean one × IsClean two }
-        { two_turn(rt, domain, one, two) },
-    );
+/// The part of one of the three.
+fn in_turn(next: u8, last: u8, first: bool) -> Part {
+    Part::Turns { next, last, first }
 }
 
 /// A thread parks on the word of its own task, and a wake of that task wakes it.
 #[test]
 fn three_hand_on(rt: HostRuntime) -> Result<(), Fail> {
+    let firsts = (in_turn(1, 2, true), in_turn(2, 0, false));
+    let seconds = (in_turn(0, 1, false), Part::Rests);
     for _ in 0..BATCHES {
-        let (domain, mut task) = Domain::with_looks(rt.alloc(), 0)?;
-        let one = another(&rt, &domain, &mut task);
-        let two = another(&rt, &domain, &mut task);
-        three_turn(&rt, &domain, task, one, two);
+        let (domain, task) = Domain::with_looks(rt.alloc(), 0)?;
+        four_meet(&rt, &domain, task, firsts, seconds);
     }
     Ok(())
 }

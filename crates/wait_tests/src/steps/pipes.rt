@@ -7,7 +7,7 @@ ghost use Rattle.wait_rule.specs.Pipes.{IsCell, end_word, read_end, write_end};
 ghost use Rattle.wait_rule.specs.PipeSays.{reading, writing};
 ghost use Rattle.wait_rule.specs.Says.{IsClean};
 
-use crate::wants::another;
+use crate::wants::{all_so, another};
 use std::sync::Wait;
 use std::test::Fail;
 use std::thread;
@@ -145,8 +145,11 @@ fn pass_alone(domain: &Domain, task: &mut Task, pipe: u8, word: u64) -> Option<u
 #[test]
 fn a_cell_is_passed(rt: HostRuntime) -> Result<(), Fail> {
     let (domain, mut task) = Domain::new(rt.alloc())?;
-    assert!(rt; pass_alone(&domain, &mut task, 0, 0x4101) == Some(0x4101));
-    assert!(rt; pass_alone(&domain, &mut task, 7, cell(513)) == Some(cell(513)));
+    let seen = [
+        pass_alone(&domain, &mut task, 0, 0x4101) == Some(0x4101),
+        pass_alone(&domain, &mut task, 7, cell(513)) == Some(cell(513)),
+    ];
+    all_so(&rt, &seen);
     Ok(())
 }
 
@@ -247,10 +250,13 @@ fn cells_come_in_order(rt: HostRuntime) -> Result<(), Fail> {
 fn an_end_is_claimed_once(rt: HostRuntime) -> Result<(), Fail> {
     let (domain, mut task) = Domain::new(rt.alloc())?;
     let mut two = another(&rt, &domain, &mut task);
-    assert!(rt; claim(&domain, &mut task, 5, 0));
-    assert!(rt; !claim(&domain, &mut task, 5, 0));
-    assert!(rt; !claim(&domain, &mut two, 5, 0));
-    assert!(rt; claim(&domain, &mut two, 5, 1));
-    assert!(rt; !claim(&domain, &mut task, 5, 1));
+    let seen = [
+        claim(&domain, &mut task, 5, 0),
+        !claim(&domain, &mut task, 5, 0),
+        !claim(&domain, &mut two, 5, 0),
+        claim(&domain, &mut two, 5, 1),
+        !claim(&domain, &mut task, 5, 1),
+    ];
+    all_so(&rt, &seen);
     Ok(())
 }

@@ -12,7 +12,7 @@ ghost use Rattle.wait_rule.specs.LookCounts.{Looked};
 ghost use Rattle.wait_rule.specs.Stays.{Carries, StaysOwing, unchanged};
 ghost use Rattle.wait_rule.specs.Looking.{HasSeenEntries, HasSeenMarks, IsSelectingHold, ShowsNone};
 
-use crate::wants::another;
+use crate::wants::{all_so, another};
 use std::sync::Wait;
 use std::test::Fail;
 use wait_model::entry_words::EntryWord;
@@ -154,14 +154,20 @@ fn conditions_alone(rt: HostRuntime) -> Result<(), Fail> {
     let (domain, mut task) = Domain::new(rt.alloc())?;
     let plain = Watch::Plain { cond: 47 };
     publish(&domain, &mut task, plain, 7);
-    assert!(rt; cond_load(&domain, &mut task, plain) == 7);
-    assert!(rt; consume(&domain, &mut task, 47) == 7);
-    assert!(rt; consume(&domain, &mut task, 47) == 0);
+    let seen = [
+        cond_load(&domain, &mut task, plain) == 7,
+        consume(&domain, &mut task, 47) == 7,
+        consume(&domain, &mut task, 47) == 0,
+    ];
+    all_so(&rt, &seen);
     let var = Watch::Var { var: 16, old: 3 };
     publish(&domain, &mut task, var, 5);
-    assert!(rt; cond_load(&domain, &mut task, var) == 5);
-    assert!(rt; cond_load(&domain, &mut task, Watch::Done { cell: 63 }) == 0);
-    assert!(rt; cond_load(&domain, &mut task, Watch::Bit { word: 127, bit: 63 }) == 0);
+    let seen = [
+        cond_load(&domain, &mut task, var) == 5,
+        cond_load(&domain, &mut task, Watch::Done { cell: 63 }) == 0,
+        cond_load(&domain, &mut task, Watch::Bit { word: 127, bit: 63 }) == 0,
+    ];
+    all_so(&rt, &seen);
     Ok(())
 }
 

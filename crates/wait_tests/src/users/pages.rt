@@ -1,6 +1,6 @@
 //! The parts for a page, each once, on one thread.
 
-use crate::wants::another;
+use crate::wants::{all_so, another};
 use std::test::Fail;
 use wait_rule::Domain;
 use wq_user::pages::{add_to_page, count_and_join, count_in_page, give_page, take_page};
@@ -14,11 +14,14 @@ fn page_is_counted_in(rt: HostRuntime) -> Result<(), Fail> {
     if !take_page(&domain, &mut one) {
         panic!(rt; "the page is clear")
     }
-    assert!(rt; count_in_page(&rt, &domain, &mut task, 7) == None);
-    assert!(rt; add_to_page(&domain, &mut one, 5) == 0);
-    assert!(rt; give_page(&rt, &domain, &mut one) == 0);
-    assert!(rt; count_and_join(&rt, &domain, &mut task, two, 7) == Some(5));
-    assert!(rt; count_in_page(&rt, &domain, &mut one, 0) == Some(12));
+    let seen = [
+        count_in_page(&rt, &domain, &mut task, 7) == None,
+        add_to_page(&domain, &mut one, 5) == 0,
+        give_page(&rt, &domain, &mut one) == 0,
+        count_and_join(&rt, &domain, &mut task, two, 7) == Some(5),
+        count_in_page(&rt, &domain, &mut one, 0) == Some(12),
+    ];
+    all_so(&rt, &seen);
     task.join(&domain, one);
     Ok(())
 }

@@ -4,11 +4,10 @@
 ghost use Rattle.std.specs.Prelude.{◌≡◌};
 ghost use Rattle.wait_rule.specs.Says.{IsClean};
 
-use crate::wants::another;
+use crate::meetings::{Part, meet_two, two_meet};
+use crate::wants::{all_so, another};
 use std::sync::Wait;
 use std::test::Fail;
-use std::thread;
-use std::thread::Threads;
 use wait_model::tasks::SleepState;
 use wait_rule::{Domain, Task};
 use wq_user::completions::{
@@ -21,104 +20,51 @@ use wq_user::simple::{
 /// How many rounds each test in threads makes.
 const ROUNDS: u32 = 300;
 
-/// Waits in the simple queue, and gives the task back: true where the condition was set.
-fn swait_once<R: Wait>(rt: &R, domain: &Domain, mut task: Task) -> (Task, bool)
-    requires of { task.domain ≡ domain.now }
-    requires clean { IsClean task }
-    ensures of { result.0.domain ≡ domain.now }
-    ensures clean { IsClean result.0 }
+/// Waits in the simple queue: true where the condition was set.
+pub(crate) fn swait_for_zero<R: Wait>(rt: &R, domain: &Domain, task: &mut Task) -> bool
+    requires of { task.old.domain ≡ domain.now }
+    requires clean { IsClean task.old }
+    ensures of { task.new.domain ≡ domain.now }
+    ensures clean { IsClean task.new }
 {
-    let over = swait(rt, domain, &mut task);
-    (task, over)
+    swait(rt, domain, task)
 }
 
-/// Sets the condition and wakes the first or all, wakes again with nothing more set, and gives the task back.
-fn swake_once<R: Wait>(rt: &R, domain: &Domain, mut task: Task, all: bool) -> Task
-    requires of { task.domain ≡ domain.now }
-    requires clean { IsClean task }
-    ensures of { result.domain ≡ domain.now }
-    ensures clean { IsClean result }
+/// Sets the condition and wakes the first or all, and wakes again with nothing more set.
+pub(crate) fn swake_twice<R: Wait>(rt: &R, domain: &Domain, task: &mut Task, all: bool) -> bool
+    requires of { task.old.domain ≡ domain.now }
+    requires clean { IsClean task.old }
+    ensures of { task.new.domain ≡ domain.now }
+    ensures clean { IsClean task.new }
 {
     if all {
-        set_and_swake_all(rt, domain, &mut task);
+        set_and_swake_all(rt, domain, task);
     } else {
-        set_and_swake(rt, domain, &mut task);
+        set_and_swake(rt, domain, task);
     }
-    swake(rt, domain, &mut task);
-    task
+    swake(rt, domain, task);
+    true
 }
 
-/// A wait in the simple queue and a waker, each in a thread of its own.
-fn meet_simply<R: Threads + Wait + Sync>(
-    rt: &R,
-    domain: &Domain,
-    waker: Task,
-    waiter: Task,
-    all: bool,
-) -> (Task, (Task, bool))
-    requires of { (waker.domain ≡ domain.now) × (waiter.domain ≡ domain.now) }
-    requires clean { IsClean waker × IsClean waiter }
-    ensures of { (result.0.domain ≡ domain.now) × (result.1.0.domain ≡ domain.now) }
-    ensures clean { IsClean result.0 × IsClean result.1.0 }
+/// Waits for the completion: true where it took one.
+pub(crate) fn wait_for_permit<R: Wait>(rt: &R, domain: &Domain, task: &mut Task) -> bool
+    requires of { task.old.domain ≡ domain.now }
+    requires clean { IsClean task.old }
+    ensures of { task.new.domain ≡ domain.now }
+    ensures clean { IsClean task.new }
 {
-    thread::join(
-        rt,
-        move || -> Task
-            requires { (waker.domain ≡ domain.now) × IsClean waker }
-            ensures { (result.domain ≡ domain.entry.now) × IsClean result }
-        { swake_once(rt, domain, waker, all) },
-        move || -> (Task, bool)
-            requires { (waiter.domain ≡ domain.now) × IsClean waiter }
-            ensures { (result.0.domain ≡ domain.entry.now) × IsClean result.0 }
-        { swait_once(rt, domain, waiter) },
-    )
+    wait_for_one(rt, domain, task, SleepState::Uninterruptible)
 }
 
-/// Waits for the completion, and gives the task back: true where it took one.
-fn wait_once<R: Wait>(rt: &R, domain: &Domain, mut task: Task) -> (Task, bool)
-    requires of { task.domain ≡ domain.now }
-    requires clean { IsClean task }
-    ensures of { result.0.domain ≡ domain.now }
-    ensures clean { IsClean result.0 }
+/// Completes it for one.
+pub(crate) fn complete_for_one<R: Wait>(rt: &R, domain: &Domain, task: &mut Task) -> bool
+    requires of { task.old.domain ≡ domain.now }
+    requires clean { IsClean task.old }
+    ensures of { task.new.domain ≡ domain.now }
+    ensures clean { IsClean task.new }
 {
-    let took = wait_for_one(rt, domain, &mut task, SleepState::Uninterruptible);
-    (task, took)
-}
-
-/// Completes it for one, and gives the task back.
-fn complete_once<R: Wait>(rt: &R, domain: &Domain, mut task: Task) -> Task
-    requires of { task.domain ≡ domain.now }
-    requires clean { IsClean task }
-    ensures of { result.domain ≡ domain.now }
-    ensures clean { IsClean result }
-{
-    complete_one(rt, domain, &mut task);
-    task
-}
-
-/// One who waits for the completion and one who completes it, each in a thread of its own.
-fn meet<R: Threads + Wait + Sync>(
-    rt: &R,
-    domain: &Domain,
-    waker: Task,
-    waiter: Task,
-) -> (Task, (Task, bool))
-    requires of { (waker.domain ≡ domain.now) × (waiter.domain ≡ domain.now) }
-    requires clean { IsClean waker × IsClean waiter }
-    ensures of { (result.0.domain ≡ domain.now) × (result.1.0.domain ≡ domain.now) }
-    ensures clean { IsClean result.0 × IsClean result.1.0 }
-{
-    thread::join(
-        rt,
-        move || -> Task
-            requires { (waker.domain ≡ domain.now) × IsClean waker }
-            ensures { (result.domain ≡ domain.entry.now) × IsClean result }
-        { complete_once(rt, domain, waker) },
-        move || -> (Task, bool)
-            requires { (waiter.domain ≡ domain.now) × IsClean waiter }
-            ensures { (result.0.domain ≡ domain.entry.now) × IsClean result.0 }
-        { wait_once(rt, domain, waiter) },
-    )
+    complete_one(rt, domain, task);
+    true
 }
 
 /// Wakes with nothing set find nobody; a wait whose condition is set ends at once; and the task is taken in.
@@ -126,11 +72,14 @@ fn meet<R: Threads + Wait + Sync>(
 fn simple_queue_of_nobody(rt: HostRuntime) -> Result<(), Fail> {
     let (domain, mut task) = Domain::new(rt.alloc())?;
     let mut other = another(&rt, &domain, &mut task);
-    assert!(rt; !swake(&rt, &domain, &mut other));
-    assert!(rt; swake_in_hold(&rt, &domain, &mut other) == (false, 0));
-    assert!(rt; !set_and_swake(&rt, &domain, &mut other));
-    assert!(rt; swait(&rt, &domain, &mut other));
-    assert!(rt; swake_and_join(&rt, &domain, &mut task, other) == 0);
+    let seen = [
+        !swake(&rt, &domain, &mut other),
+        swake_in_hold(&rt, &domain, &mut other) == (false, 0),
+        !set_and_swake(&rt, &domain, &mut other),
+        swait(&rt, &domain, &mut other),
+        swake_and_join(&rt, &domain, &mut task, other) == 0,
+    ];
+    all_so(&rt, &seen);
     Ok(())
 }
 
@@ -141,9 +90,12 @@ fn completion_of_nobody(rt: HostRuntime) -> Result<(), Fail> {
     let mut one = another(&rt, &domain, &mut task);
     let two = another(&rt, &domain, &mut task);
     complete_one(&rt, &domain, &mut one);
-    assert!(rt; take_one(&rt, &domain, &mut one));
-    assert!(rt; !take_one(&rt, &domain, &mut one));
-    assert!(rt; !complete_and_clear(&rt, &domain, &mut one));
+    let seen = [
+        take_one(&rt, &domain, &mut one),
+        !take_one(&rt, &domain, &mut one),
+        !complete_and_clear(&rt, &domain, &mut one),
+    ];
+    all_so(&rt, &seen);
     complete_and_join(&rt, &domain, &mut task, two);
     assert!(rt; take_and_join(&rt, &domain, &mut task, one));
     Ok(())
@@ -155,9 +107,14 @@ fn simple_waiter_is_joined(rt: HostRuntime) -> Result<(), Fail> {
     for round in 0..ROUNDS {
         let (domain, mut task) = Domain::with_looks(rt.alloc(), 0)?;
         let other = another(&rt, &domain, &mut task);
-        let (mut task, waited) = meet_simply(&rt, &domain, task, other, round % 2 == 0);
-        assert!(rt; waited.1);
-        assert!(rt; swake_and_join(&rt, &domain, &mut task, waited.0) == 0);
+        let all = round % 2 == 0;
+        let parts = (Part::UserSwakes { all }, Part::UserSwaits);
+        let ((mut task, _), waited) = meet_two(&rt, &domain, task, other, parts);
+        let seen = [
+            waited.1,
+            swake_and_join(&rt, &domain, &mut task, waited.0) == 0,
+        ];
+        all_so(&rt, &seen);
     }
     Ok(())
 }
@@ -166,12 +123,10 @@ fn simple_waiter_is_joined(rt: HostRuntime) -> Result<(), Fail> {
 #[test]
 fn waiter_for_one_is_joined(rt: HostRuntime) -> Result<(), Fail> {
     for _round in 0..ROUNDS {
-        let (domain, mut task) = Domain::with_looks(rt.alloc(), 0)?;
-        let other = another(&rt, &domain, &mut task);
-        let (mut task, waited) = meet(&rt, &domain, task, other);
-        assert!(rt; waited.1);
+        let (domain, task) = Domain::with_looks(rt.alloc(), 0)?;
+        let parts = (Part::UserCompletes, Part::UserWaits);
+        let mut task = two_meet(&rt, &domain, task, parts);
         assert!(rt; !take_one(&rt, &domain, &mut task));
-        task.join(&domain, waited.0);
     }
     Ok(())
 }

@@ -7,7 +7,8 @@ ghost use Rattle.wait_model.specs.declared.watches.Watch.TheVariants as watch;
 ghost use Rattle.bit_wait.specs.Holders.{IsHolder};
 ghost use Rattle.wait_rule.specs.Says.{IsClean};
 
-use crate::wants::another;
+use crate::meetings::{Part, meet_two};
+use crate::wants::{all_so, another};
 use std::sync::Wait;
 use std::test::Fail;
 use std::thread;
@@ -24,15 +25,17 @@ const ROUNDS: u32 = 300;
 /// Who changes the variable looks a million times at most whether the waiters are there.
 const DEPTH: u8 = 20;
 
-/// Waits for the variable, and gives the task back with the value.
-fn changed_once<R: Wait>(rt: &R, domain: &Domain, mut task: Task) -> (Task, u64)
-    requires of { task.domain ≡ domain.now }
-    requires clean { IsClean task }
-    ensures of { result.0.domain ≡ domain.now }
-    ensures clean { IsClean result.0 }
+/// What the variable is changed to.
+const VALUE: u64 = 7;
+
+/// Waits for the variable: true where it is the value of the tests.
+pub(crate) fn see_change<R: Wait>(rt: &R, domain: &Domain, task: &mut Task) -> bool
+    requires of { task.old.domain ≡ domain.now }
+    requires clean { IsClean task.old }
+    ensures of { task.new.domain ≡ domain.now }
+    ensures clean { IsClean task.new }
 {
-    let value = wait_until_changed(rt, domain, &mut task);
-    (task, value)
+    wait_until_changed(rt, domain, task) == VALUE
 }
 
 /// Looks at most 2^depth times whether both waiters stand at their head: true once they do.
@@ -48,16 +51,16 @@ fn see_both<R: Wait>(rt: &R, domain: &Domain, task: &mut Task, depth: u8) -> boo
     see_both(rt, domain, task, depth - 1) || see_both(rt, domain, task, depth - 1)
 }
 
-/// Changes the variable to 7 once both waiters are queued, and gives the task back.
-fn change_once<R: Wait>(rt: &R, domain: &Domain, mut task: Task) -> Task
-    requires of { task.domain ≡ domain.now }
-    requires clean { IsClean task }
-    ensures of { result.domain ≡ domain.now }
-    ensures clean { IsClean result }
+/// Changes the variable once both waiters are queued.
+pub(crate) fn change_once<R: Wait>(rt: &R, domain: &Domain, task: &mut Task) -> bool
+    requires of { task.old.domain ≡ domain.now }
+    requires clean { IsClean task.old }
+    ensures of { task.new.domain ≡ domain.now }
+    ensures clean { IsClean task.new }
 {
-    see_both(rt, domain, &mut task, DEPTH);
-    change(rt, domain, &mut task, 7);
-    task
+    see_both(rt, domain, task, DEPTH);
+    change(rt, domain, task, VALUE);
+    true
 }
 
 /// Waits for the bit, and gives the task back: true where it was clear.
@@ -71,47 +74,24 @@ fn clear_once<R: Wait>(rt: &R, domain: &Domain, mut task: Task) -> (Task, bool)
     (task, over)
 }
 
-/// One who changes the variable and one who waits for that, each in a thread of its own.
-fn meet<R: Threads + Wait + Sync>(
-    rt: &R,
-    domain: &Domain,
-    changer: Task,
-    waiter: Task,
-) -> (Task, (Task, u64))
-    requires of { (changer.domain ≡ domain.now) × (waiter.domain ≡ domain.now) }
-    requires clean { IsClean changer × IsClean waiter }
-    ensures of { (result.0.domain ≡ domain.now) × (result.1.0.domain ≡ domain.now) }
-    ensures clean { IsClean result.0 × IsClean result.1.0 }
-{
-    thread::join(
-        rt,
-        move || -> Task
-            requires { (changer.domain ≡ domain.now) × IsClean changer }
-            ensures { (result.domain ≡ domain.entry.now) × IsClean result }
-        { change_once(rt, domain, changer) },
-        move || -> (Task, u64)
-            requires { (waiter.domain ≡ domain.now) × IsClean waiter }
-            ensures { (result.0.domain ≡ domain.entry.now) × IsClean result.0 }
-        { changed_once(rt, domain, waiter) },
-    )
-}
-
-/// The same while the bit is kept, which is given back after both have ended.
+/// One who changes the variable and one who waits for that, each in a thread of its own, while the bit is kept, which is
+/// given back after both have ended.
 fn meet_and_give<R: Threads + Wait + Sync>(
     rt: &R,
     domain: &Domain,
     mut holder: Task,
     changer: Task,
     waiter: Task,
-) -> (Task, (Task, (Task, u64)))
+) -> (Task, ((Task, bool), (Task, bool)))
     requires of { (holder.domain ≡ domain.now) × (changer.domain ≡ domain.now) × (waiter.domain ≡ domain.now) }
     requires holder { IsHolder holder (watch.Bit 2 16) }
     requires clean { IsClean changer × IsClean waiter }
-    ensures of { (result.0.domain ≡ domain.now) × (result.1.0.domain ≡ domain.now)
+    ensures of { (result.0.domain ≡ domain.now) × (result.1.0.0.domain ≡ domain.now)
         × (result.1.1.0.domain ≡ domain.now) }
-    ensures clean { IsClean result.0 × IsClean result.1.0 × IsClean result.1.1.0 }
+    ensures clean { IsClean result.0 × IsClean result.1.0.0 × IsClean result.1.1.0 }
 {
-    let met = meet(rt, domain, changer, waiter);
+    let parts = (Part::Changes, Part::SeesChange);
+    let met = meet_two(rt, domain, changer, waiter, parts);
     give_bit(rt, domain, &mut holder);
     (holder, met)
 }
@@ -124,22 +104,22 @@ fn meet_all<R: Threads + Wait + Sync>(
     changer: Task,
     waiter: Task,
     stranger: Task,
-) -> ((Task, (Task, (Task, u64))), (Task, bool))
+) -> ((Task, ((Task, bool), (Task, bool))), (Task, bool))
     requires of { (holder.domain ≡ domain.now) × (changer.domain ≡ domain.now) × (waiter.domain ≡ domain.now)
         × (stranger.domain ≡ domain.now) }
     requires holder { IsHolder holder (watch.Bit 2 16) }
     requires clean { IsClean changer × IsClean waiter × IsClean stranger }
-    ensures of { (result.0.0.domain ≡ domain.now) × (result.0.1.0.domain ≡ domain.now)
+    ensures of { (result.0.0.domain ≡ domain.now) × (result.0.1.0.0.domain ≡ domain.now)
         × (result.0.1.1.0.domain ≡ domain.now) × (result.1.0.domain ≡ domain.now) }
-    ensures clean { IsClean result.0.0 × IsClean result.0.1.0 × IsClean result.0.1.1.0 × IsClean result.1.0 }
+    ensures clean { IsClean result.0.0 × IsClean result.0.1.0.0 × IsClean result.0.1.1.0 × IsClean result.1.0 }
 {
     thread::join(
         rt,
-        move || -> (Task, (Task, (Task, u64)))
+        move || -> (Task, ((Task, bool), (Task, bool)))
             requires { (holder.domain ≡ domain.now) × IsHolder holder (watch.Bit 2 16)
                 × (changer.domain ≡ domain.now) × IsClean changer × (waiter.domain ≡ domain.now) × IsClean waiter }
             ensures { (result.0.domain ≡ domain.entry.now) × IsClean result.0
-                × (result.1.0.domain ≡ domain.entry.now) × IsClean result.1.0
+                × (result.1.0.0.domain ≡ domain.entry.now) × IsClean result.1.0.0
                 × (result.1.1.0.domain ≡ domain.entry.now) × IsClean result.1.1.0 }
         { meet_and_give(rt, domain, holder, changer, waiter) },
         move || -> (Task, bool)
@@ -163,10 +143,9 @@ fn strangers_on_one_head(rt: HostRuntime) -> Result<(), Fail> {
             panic!(rt; "the bit is clear")
         }
         let (met, over) = meet_all(&rt, &domain, holder, changer, waiter, stranger);
-        assert!(rt; met.1.1.1 == 7);
-        assert!(rt; over.1);
+        all_so(&rt, &[met.1.0.1, met.1.1.1, over.1]);
         task.join(&domain, met.0);
-        task.join(&domain, met.1.0);
+        task.join(&domain, met.1.0.0);
         task.join(&domain, met.1.1.0);
         task.join(&domain, over.0);
     }
@@ -181,11 +160,14 @@ fn hashed_parts_of_one_task(rt: HostRuntime) -> Result<(), Fail> {
     if !take_bit(&domain, &mut other) {
         panic!(rt; "the bit is clear")
     }
-    assert!(rt; give_bit(&rt, &domain, &mut other) == 0);
-    assert!(rt; wait_until_clear(&rt, &domain, &mut other));
-    assert!(rt; change(&rt, &domain, &mut other, 3) == 0);
-    assert!(rt; wait_until_changed(&rt, &domain, &mut other) == 3);
-    assert!(rt; count_members(&rt, &domain, &mut other) == 0);
+    let seen = [
+        give_bit(&rt, &domain, &mut other) == 0,
+        wait_until_clear(&rt, &domain, &mut other),
+        change(&rt, &domain, &mut other, 3) == 0,
+        wait_until_changed(&rt, &domain, &mut other) == 3,
+        count_members(&rt, &domain, &mut other) == 0,
+    ];
+    all_so(&rt, &seen);
     task.join(&domain, other);
     Ok(())
 }

@@ -3,7 +3,7 @@
 ghost use Rattle.std.specs.Prelude.{◌≡◌};
 ghost use Rattle.wait_rule.specs.Says.{IsClean};
 
-use crate::wants::another;
+use crate::wants::{all_so, another};
 use std::sync::Wait;
 use std::test::Fail;
 use var_wait::publishes::publish_var_and_wake;
@@ -64,10 +64,13 @@ fn store_and_wait<R: Wait>(
 fn nobody_is_walked_over(rt: HostRuntime) -> Result<(), Fail> {
     let (domain, mut task) = Domain::new(rt.alloc())?;
     let walked = announce(&rt, &domain, &mut task, 2);
-    assert!(rt; walked.holds == 0);
-    assert!(rt; walked.woken == 0);
-    assert!(rt; walked.selected == 0);
-    assert!(rt; matches!(walked.end, End::End));
+    let seen = [
+        walked.holds == 0,
+        walked.woken == 0,
+        walked.selected == 0,
+        matches!(walked.end, End::End),
+    ];
+    all_so(&rt, &seen);
     Ok(())
 }
 

@@ -1,24 +1,22 @@
 //! Two waits for one variable and a publisher on one thread, which goes on with one of them at a time.
 
 ghost use Rattle.std.specs.Prelude.{◌≡◌};
-ghost use Rattle.wait_tests.specs.EventTasks.{IsReadyToWait, IsWaiting, IsWaker};
+ghost use Rattle.wait_tests.specs.EventTasks.{IsReadyToWait, IsWaker};
 
-use crate::turns::{go_on, next_number};
+use crate::orders::{Wakes, play_two};
 use crate::variables::alone::VAR;
+use crate::wants::another;
 use std::sync::Wait;
 use std::test::Fail;
 use var_wait::publishes::publish_var_and_wake;
 use var_wait::waits::{begin_var, end_of_var};
 use wait_class::stages::Turn;
-use wait_event::waits::{WaitRun, WaitStage, WaitTurn};
+use wait_event::waits::{WaitRun, WaitTurn};
 use wait_model::tasks::SleepState;
 use wait_rule::{Domain, Task};
 
 /// How many orders are tried.
 const ORDERS: u32 = 400;
-
-/// How many turns an order has at most: each wait has fewer than 30 stretches, and two of five turns go to each.
-const TURNS: u32 = 600;
 
 /// The value that is stored.
 const VALUE: u64 = 5;
@@ -32,7 +30,7 @@ fn has_found(run: WaitRun, last: WaitTurn) -> bool {
 }
 
 /// Publishes the new value, and wakes who waits.
-fn announce_once<R: Wait>(rt: &R, domain: &Domain, waker: &mut Task)
+pub(crate) fn announce_value<R: Wait>(rt: &R, domain: &Domain, waker: &mut Task)
     requires of { waker.old.domain ≡ domain.now }
     requires waker { IsWaker waker.old }
     ensures of { waker.new.domain ≡ domain.now }
@@ -56,26 +54,11 @@ fn play<R: Wait>(
     requires first { IsReadyToWait first.old }
     requires second { IsReadyToWait second.old }
 {
-    let mut one = begin_var(first, VAR, 0, SleepState::Interruptible);
-    let mut two = begin_var(second, VAR, 0, SleepState::Uninterruptible);
-    let mut one_at = Turn::Again(WaitStage::First);
-    let mut two_at = Turn::Again(WaitStage::First);
-    let mut seed = seed;
-    let mut set = false;
-    for _ in 0..TURNS {
-        seed = next_number(seed);
-        match seed % 5 {
-            0 | 1 => one_at = go_on(domain, first, &mut one, one_at),
-            2 | 3 => two_at = go_on(domain, second, &mut two, two_at),
-            _ => {
-                if seed % 64 < 8 && !set {
-                    announce_once(rt, domain, waker);
-                    set = true;
-                }
-            }
-        }
-    }
-    has_found(one, one_at) && has_found(two, two_at)
+    let one = begin_var(first, VAR, 0, SleepState::Interruptible);
+    let two = begin_var(second, VAR, 0, SleepState::Uninterruptible);
+    let wakes = Wakes::Variable;
+    let (first, second) = play_two(rt, domain, waker, wakes, first, one, second, two, seed);
+    has_found(first.0, first.1) && has_found(second.0, second.1)
 }
 
 /// Whatever the order, both waits end with the value that was stored.
@@ -83,10 +66,8 @@ fn play<R: Wait>(
 fn waits_end_in_each_order(rt: HostRuntime) -> Result<(), Fail> {
     for order in 0..ORDERS {
         let (domain, mut waker) = Domain::new(rt.alloc())?;
-        let (Ok(mut first), Ok(mut second)) = (waker.fork(&domain, 0), waker.fork(&domain, 0))
-        else {
-            panic!(rt; "numbers are spare")
-        };
+        let mut first = another(&rt, &domain, &mut waker);
+        let mut second = another(&rt, &domain, &mut waker);
         assert!(rt; play(&rt, &domain, &mut waker, &mut first, &mut second, order + 1));
     }
     Ok(())

@@ -1,8 +1,6 @@
-use Rattle.std.proofs.Common.{◌≡◌, ◌≤◌, ◌*◌}
-use Rattle.wait_model.specs.declared.layout.TheConstants.{SLOTS}
+use Rattle.std.proofs.Common.{◌≡◌}
 use Rattle.wait_rule.specs.Says.{IsUp}
 use Rattle.wait_tests.proofs.heads.waiting.count_members.Given as goal
 
 abbrev pub invariant-loop-number : goal.invariant-loop-number
-invariant-loop-number l = (l.task.domain ≡ l.domain) × IsUp l.task × (l.entries ≤ SLOTS * l.number)
-    × (l.marks ≤ l.number)
+invariant-loop-number l = (l.task.domain ≡ l.domain) × IsUp l.task

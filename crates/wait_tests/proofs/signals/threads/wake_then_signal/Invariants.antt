@@ -1,9 +1,9 @@
 use Rattle.std.proofs.Common.{◌≡◌}
-use Rattle.wait_rule.specs.Says.{IsUp}
+use Rattle.wait_rule.specs.Says.{IsClean}
 use Rattle.wait_tests.proofs.signals.threads.wake_then_signal.Given as goal
 
 abbrev pub invariant-loop : goal.invariant-loop
 invariant-loop g l = record {
   of : l.task.domain ≡ l.fn.domain;
-  up : IsUp l.task;
+  clean : IsClean l.task;
 }

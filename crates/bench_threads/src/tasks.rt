@@ -1,0 +1,60 @@
+//! What several of the programs do with tasks: new ones, and a wake of one that is about to sleep.
+
+ghost use Rattle.std.specs.Prelude.{◌≡◌, All, IfOk};
+ghost use Rattle.wait_rule.specs.Says.{IsClean};
+
+use std::alloc::{AllocError, Global};
+use std::hint::spin_loop;
+use std::sync::Wait;
+use std::thread;
+use wait_model::watches::Mode;
+use wait_rule::{Domain, Task, wake_task};
+
+/// New tasks: fewer than `count` where no number is left.
+pub(crate) fn crowd(
+    alloc: Global,
+    domain: &Domain,
+    task: &mut Task,
+    count: u8,
+) -> Result<Vec<Task>, AllocError>
+    requires of { task.old.domain ≡ domain.now }
+    requires clean { IsClean task.old }
+    ensures of { IfOk result (λ _. task.new.domain ≡ domain.now) }
+    ensures clean { IfOk result (λ _. IsClean task.new) }
+    ensures tasks { IfOk result (λ v. All (λ t. (t.domain ≡ domain.now) × IsClean t) v.items) }
+{
+    let mut tasks = Vec::new(alloc);
+    for _ in 0..count {
+        let Ok(other) = task.fork(domain, 0) else {
+            return Ok(tasks);
+        };
+        tasks.push(other)?;
+    }
+    Ok(tasks)
+}
+
+/// What a waker does that finds nobody about to sleep: it pauses, or it yields its processor.
+#[derive(Clone, Copy)]
+pub(crate) enum Retry {
+    Pause,
+    Yield,
+}
+
+/// Wakes a task as soon as it is about to sleep.
+pub(crate) fn wake_up<R: Wait>(rt: &R, domain: &Domain, task: &mut Task, who: u8, retry: Retry)
+    requires of { task.old.domain ≡ domain.now }
+    requires clean { IsClean task.old }
+    ensures of { task.new.domain ≡ domain.now }
+    ensures clean { IsClean task.new }
+{
+    for _ in rt.forever() {
+        if wake_task(rt, domain, task, who, Mode::Normal) {
+            return;
+        }
+        match retry {
+            Retry::Pause => spin_loop(),
+            Retry::Yield => thread::yield_now(),
+        }
+    }
+    unreachable!()
+}

@@ -1,0 +1,13 @@
+use Rattle.std.proofs.Common.{◌≡◌}
+use Rattle.wait_tests.specs.EventTasks.{IsWaiting, IsWaker}
+use Rattle.wait_tests.proofs.orders.play_two.Given as goal
+
+abbrev pub invariant-loop : goal.invariant-loop
+invariant-loop g l = record {
+  of_waker : l.waker.domain ≡ l.fn.domain;
+  of_first : l.first.domain ≡ l.fn.domain;
+  of_second : l.second.domain ≡ l.fn.domain;
+  waker : IsWaker l.waker;
+  one : IsWaiting l.first l.one l.one_at;
+  two : IsWaiting l.second l.two l.two_at;
+}

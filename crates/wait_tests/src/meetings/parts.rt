@@ -1,0 +1,117 @@
+//! The parts that tasks play.
+
+ghost use Rattle.std.specs.Prelude.{◌≡◌};
+ghost use Rattle.wait_rule.specs.Says.{IsClean};
+
+use crate::bits::lock_threads::take_turns;
+use crate::completions::threads::{complete_thrice, take_one};
+use crate::events::flags::hear_until_set;
+use crate::events::selected::{signal, wait_exclusive};
+use crate::events::threads::{set_condition, wait_for_condition};
+use crate::heads::tickets::holds;
+use crate::pages::threads::add_often;
+use crate::signals::threads::{lock_in_vain, wait_killable, wake_then_signal};
+use crate::simple_queues::threads::{swait_once, swake_all_or_two};
+use crate::steps::parks::{sleeps, turns, wakes};
+use crate::users::rounds::{complete_for_one, swait_for_zero, swake_twice, wait_for_permit};
+use crate::users::strangers::{change_once, see_change};
+use crate::variables::threads::{announce_twice, wait_twice};
+use std::sync::Wait;
+use wait_rule::{Domain, Task};
+
+/// What a task does, which owes nothing before it and after it.
+#[derive(Clone, Copy)]
+pub(crate) enum Part {
+    /// It plays none: the others are fewer.
+    Rests,
+    /// It sets condition 0, and wakes all, or so many exclusive waiters.
+    Sets { count: u32 },
+    /// It waits for condition 0, which is set.
+    Waits,
+    /// It waits exclusively, until the condition is set or a signal ends the wait.
+    WaitsExclusively,
+    /// It sends a plain signal.
+    Signals { who: u8 },
+    /// It waits for condition 0 by the flag of an entry.
+    Hears,
+    /// It waits killable for condition 0, which is set, or a signal ends it.
+    WaitsKillable { is_set: bool },
+    /// It sends a signal once a wake has met the task in mid-wait.
+    WakesThenSignals { who: u8, fatal: bool },
+    /// It waits for the page of the tests of signals, and a signal ends the wait.
+    LocksInVain,
+    /// It sets the condition of the tests of simple queues, and wakes all, or the first two one after the other.
+    Swakes { all: bool },
+    /// It waits for it.
+    Swaits,
+    /// It completes the completion of the tests three times.
+    CompletesThrice,
+    /// It waits for that, and takes one.
+    TakesOne,
+    /// It publishes two values of the variable of the tests.
+    AnnouncesTwice,
+    /// It waits for one after the other.
+    WaitsTwice,
+    /// It takes the bit of the tests and gives it back, twice.
+    TakesTurns,
+    /// It takes the page of the tests, adds 1 to its tally, and gives it back, so often.
+    AddsToPage { times: u64 },
+    /// A user's task sets the condition of its simple queue and wakes, and wakes again.
+    UserSwakes { all: bool },
+    /// One waits in it.
+    UserSwaits,
+    /// One completes for one.
+    UserCompletes,
+    /// One waits for that.
+    UserWaits,
+    /// It changes the variable of a user's tests.
+    Changes,
+    /// It waits for that.
+    SeesChange,
+    /// It takes a head's lock and gives it back, again and again.
+    Holds,
+    /// It sleeps again and again.
+    Sleeps,
+    /// It wakes a task again and again.
+    WakesOften { who: u8 },
+    /// It wakes two tasks in turn, and sleeps.
+    Turns { next: u8, last: u8, first: bool },
+}
+
+/// Plays a part: whether it went as the part says.
+pub(crate) fn play<R: Wait>(rt: &R, domain: &Domain, task: &mut Task, part: Part) -> bool
+    requires of { task.old.domain ≡ domain.now }
+    requires clean { IsClean task.old }
+    ensures of { task.new.domain ≡ domain.now }
+    ensures clean { IsClean task.new }
+{
+    match part {
+        Part::Rests => true,
+        Part::Sets { count } => set_condition(rt, domain, task, count),
+        Part::Waits => wait_for_condition(rt, domain, task),
+        Part::WaitsExclusively => wait_exclusive(rt, domain, task),
+        Part::Signals { who } => signal(rt, domain, task, who),
+        Part::Hears => hear_until_set(rt, domain, task),
+        Part::WaitsKillable { is_set } => wait_killable(rt, domain, task, is_set),
+        Part::WakesThenSignals { who, fatal } => wake_then_signal(rt, domain, task, who, fatal),
+        Part::LocksInVain => lock_in_vain(rt, domain, task),
+        Part::Swakes { all } => swake_all_or_two(rt, domain, task, all),
+        Part::Swaits => swait_once(rt, domain, task),
+        Part::CompletesThrice => complete_thrice(rt, domain, task),
+        Part::TakesOne => take_one(rt, domain, task),
+        Part::AnnouncesTwice => announce_twice(rt, domain, task),
+        Part::WaitsTwice => wait_twice(rt, domain, task),
+        Part::TakesTurns => take_turns(rt, domain, task),
+        Part::AddsToPage { times } => add_often(rt, domain, task, times),
+        Part::UserSwakes { all } => swake_twice(rt, domain, task, all),
+        Part::UserSwaits => swait_for_zero(rt, domain, task),
+        Part::UserCompletes => complete_for_one(rt, domain, task),
+        Part::UserWaits => wait_for_permit(rt, domain, task),
+        Part::Changes => change_once(rt, domain, task),
+        Part::SeesChange => see_change(rt, domain, task),
+        Part::Holds => holds(rt, domain, task),
+        Part::Sleeps => sleeps(rt, domain, task),
+        Part::WakesOften { who } => wakes(rt, domain, task, who),
+        Part::Turns { next, last, first } => turns(rt, domain, task, next, last, first),
+    }
+}

@@ -6,7 +6,7 @@ ghost use Rattle.std.specs.Io.KnownBytes.{append_known, prepend_known};
 ghost use Rattle.edge_io.specs.Faults.{CountsFailed, CountsWanted, HasRisen};
 
 use edge_io::{Failed, Sink, SinkFault, Source};
-use flow_copy::PIECE;
+use copy_plan::PIECE;
 
 /// A source that gives one piece again and again.
 #[derive(Drop)]

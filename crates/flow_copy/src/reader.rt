@@ -3,16 +3,19 @@
 ghost use Rattle.std.specs.Prelude.{◌≡◌, ◌≤◌, Some, length};
 ghost use Rattle.wait_rule.specs.PipeSays.{writing};
 ghost use Rattle.wait_pipe.specs.Pieces.{IsSettled};
-ghost use Rattle.flow_copy.specs.declared.TheConstants.{LONGEST, SIGNALS, SOURCE_PIPE};
-ghost use Rattle.flow_copy.specs.Did.{IsIdler, ReaderDid, ReaderWorked};
-ghost use Rattle.flow_copy.specs.Turns.{Reading};
-ghost use Rattle.flow_copy.specs.Work.{IsAtWork};
+ghost use Rattle.copy_plan.specs.declared.TheConstants.{LONGEST, SIGNALS, SOURCE_PIPE};
+ghost use Rattle.copy_ends.specs.Did.{IsIdler, ReaderDid, ReaderWorked};
+ghost use Rattle.copy_turns.specs.Turns.{Reading};
+ghost use Rattle.copy_turns.specs.Work.{IsAtWork};
 
-use crate::gate::{Gate, Who};
-use crate::parts::{hand_on, is_killed};
-use crate::plan::{Planned, count_due, send_due};
-use crate::stop::{NOT_READ, ReaderEnd, Stop, stop_of};
-use crate::{ENDED_CELL, LONGEST, PIECE, SOURCE_PIPE};
+use copy_plan::gate::{Gate, Who};
+use crate::parts::hand_on;
+use copy_turns::is_killed;
+use copy_plan::Planned;
+use copy_plan::plan::count_due;
+use copy_turns::send_due;
+use copy_plan::stop::{NOT_READ, ReaderEnd, Stop, stop_of};
+use copy_plan::{ENDED_CELL, LONGEST, PIECE, SOURCE_PIPE};
 use completion_cell::completes::complete;
 use edge_io::Source;
 use std::sync::Wait;

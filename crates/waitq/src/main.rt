@@ -1,24 +1,20 @@
 //! The program that replays scripts, drills, and copies files.
 #![tactic(auto)]
 
-mod files;
-mod streams;
-
+use copy_plan::OpenGate;
+use disk_io::{Disk, Reading, Writing};
 use edge_io::{Folder, Sink, Source};
-use files::Disk;
-use flow_copy::OpenGate;
 use func_head::FuncHead;
 use std::alloc::{AllocError, Global};
 use std::process::ExitCode;
 use std::sync::Wait;
 use std::thread::Threads;
 use std::{env, io};
-use streams::{Reading, Writing};
 use wait_rule::Domain;
-use waitq_run::fault::Fault;
-use waitq_run::report::report;
+use waitq_alone::fault::Fault;
+use waitq_alone::report::report;
+use waitq_copy::watchers::{Lengths, Lines};
 use waitq_run::run::run;
-use waitq_run::watchers::{Lengths, Lines};
 
 /// The words after the program's name.
 fn words(rt: &HostRuntime) -> io::Result<Vec<String>> {

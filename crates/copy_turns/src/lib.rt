@@ -2,8 +2,8 @@
 //! and got out of one; and what turns do one after another, with its theorems.
 #![tactic(auto)]
 
-pub mod pieces;
 pub mod signals;
+pub mod transfers;
 
-pub use pieces::{get, put_whole};
 pub use signals::{is_killed, send_due};
+pub use transfers::{get, put_whole};

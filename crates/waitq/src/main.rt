@@ -13,7 +13,7 @@ use std::{env, io};
 use wait_rule::Domain;
 use waitq_alone::fault::Fault;
 use waitq_alone::report::report;
-use waitq_copy::watchers::{Lengths, Lines};
+use waitq_copy::watchers::both;
 use waitq_run::run::run;
 
 /// The words after the program's name.
@@ -49,12 +49,7 @@ fn start<R: Threads + Wait + Sync>(
     words: &[String],
 ) -> Result<u8, AllocError> {
     let alloc = host.alloc();
-    let mut watch = FuncHead::new(alloc);
-    let lengths = Box::new(alloc, Lengths { bytes: 0 })?;
-    let lines = Box::new(alloc, Lines { ends: 0 })?;
-    if watch.add_exclusive(lengths).is_err() || watch.add_exclusive(lines).is_err() {
-        return Err(AllocError);
-    }
+    let watch = both(alloc)?;
     run_over(
         rt,
         alloc,

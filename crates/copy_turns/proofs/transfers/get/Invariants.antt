@@ -1,7 +1,7 @@
 use Rattle.std.proofs.Common.{◌≡◌, [], length}
 use Rattle.wait_rule.specs.Pipes.{read_end}
 use Rattle.copy_turns.specs.Turns.{Got}
-use Rattle.copy_turns.proofs.pieces.get.Given as goal
+use Rattle.copy_turns.proofs.transfers.get.Given as goal
 
 abbrev pub invariant-loop : goal.invariant-loop
 invariant-loop g l = record {

@@ -1,7 +1,7 @@
 use Rattle.std.proofs.Common.{◌∙◌, [], refl, take}
 use Rattle.wait_rule.specs.Pipes.{read_end}
 use Rattle.copy_turns.proofs.Pieces.{got_apart, got_more, got_none, got_still, own_halts}
-use Rattle.copy_turns.proofs.pieces.get.Goals as goal
+use Rattle.copy_turns.proofs.transfers.get.Goals as goal
 
 pub loop-init : goal.loop-init
 loop-init g c = record {

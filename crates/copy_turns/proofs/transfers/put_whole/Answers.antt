@@ -1,7 +1,7 @@
 use Rattle.std.proofs.Common.{take, arith}
 use Rattle.wait_rule.specs.Pipes.{write_end}
 use Rattle.copy_turns.proofs.Pieces.{got_apart, got_none, got_still, put_front, put_more, rest_length}
-use Rattle.copy_turns.proofs.pieces.put_whole.Goals as goal
+use Rattle.copy_turns.proofs.transfers.put_whole.Goals as goal
 
 pub loop-init : goal.loop-init
 loop-init g c = record {

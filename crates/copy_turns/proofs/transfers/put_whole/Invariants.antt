@@ -1,7 +1,7 @@
 use Rattle.std.proofs.Common.{◌≤◌, length, take}
 use Rattle.wait_rule.specs.Pipes.{write_end}
 use Rattle.copy_turns.specs.Turns.{Got}
-use Rattle.copy_turns.proofs.pieces.put_whole.Given as goal
+use Rattle.copy_turns.proofs.transfers.put_whole.Given as goal
 
 abbrev pub invariant-loop : goal.invariant-loop
 invariant-loop g l = record {

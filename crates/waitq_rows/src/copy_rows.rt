@@ -1,7 +1,7 @@
 //! Copies through `run`, over a folder in memory.
 
-use edge_io::{Folder, MemFolder, MemSink, MemSource, Sink, Source};
 use copy_plan::OpenGate;
+use edge_io::{Folder, MemFolder, MemSink, MemSource, Sink, Source};
 use func_head::FuncHead;
 use std::alloc::{AllocError, Global};
 use std::process::Abort;

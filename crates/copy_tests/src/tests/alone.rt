@@ -3,8 +3,8 @@
 ghost use Rattle.std.specs.Prelude.{◌≡◌};
 ghost use Rattle.copy_ends.specs.Did.{IsIdler};
 
-use edge_io::{MemSink, MemSource};
 use copy_plan::{OpenGate, ReaderEnd, Stop, WorkerEnd};
+use edge_io::{MemSink, MemSource};
 use flow_copy::{controller_task, reader_task, relay_task, writer_task};
 use func_head::NoWatchers;
 use std::sync::Wait;

@@ -3,8 +3,8 @@
 ghost use Rattle.std.specs.Prelude.{◌≤◌, length};
 ghost use Rattle.copy_plan.specs.declared.TheConstants.{SIGNALS};
 
-use edge_io::{MemSink, MemSource};
 use copy_plan::{OpenGate, Planned, SIGNALS, Stop, Who};
+use edge_io::{MemSink, MemSource};
 use flow_copy::{CopyEnd, copy_all};
 use func_head::NoWatchers;
 use std::alloc::{AllocError, Global};

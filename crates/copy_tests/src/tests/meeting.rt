@@ -1,7 +1,7 @@
 //! The three workers run at once.
 
-use edge_io::{MemSink, MemSource};
 use copy_plan::{Gate, Stop, Who};
+use edge_io::{MemSink, MemSource};
 use flow_copy::copy_all;
 use func_head::NoWatchers;
 use std::sync::atomic::{AtomicU64, Ordering};

@@ -1,7 +1,7 @@
 //! Copies of several sizes.
 
-use edge_io::{MemSink, MemSource};
 use copy_plan::{OpenGate, Stop};
+use edge_io::{MemSink, MemSource};
 use flow_copy::copy_all;
 use func_head::NoWatchers;
 use std::test::Fail;

@@ -10,13 +10,12 @@ ghost use Rattle.copy_plan.specs.declared.TheConstants.{COUNTED_PAGE, SIGNALS};
 ghost use Rattle.copy_plan.specs.declared.stop.Stop.TheVariants as stop;
 ghost use Rattle.copy_ends.specs.Copied.{Copied, HasNoSteps, HoldsAll, HoldsGiven, NoneTaken, ReadTally, Watched};
 
-use copy_plan::COUNTED_PAGE;
-use copy_plan::gate::Gate;
-use copy_plan::Planned;
-use copy_plan::stop::{ReaderEnd, Stop, WorkerEnd};
 use crate::workers::{Parts, four_at_once};
 use copy_ends::{control_stop, fork_four, join_four};
+use copy_plan::gate::Gate;
 use copy_plan::kinds::copy_stop;
+use copy_plan::stop::{ReaderEnd, Stop, WorkerEnd};
+use copy_plan::{COUNTED_PAGE, Planned};
 use edge_io::{Sink, Source};
 use func_head::Watchers;
 use page_lock::{add_tally, try_lock_page, unlock_page};

@@ -8,12 +8,12 @@ ghost use Rattle.wait_pipe.specs.Pieces.{IsSettled};
 ghost use Rattle.copy_turns.specs.Turns.{CountedAll, HandedAll, HandedFront};
 ghost use Rattle.copy_turns.specs.Work.{Apart, IsAtWork, IsOwnHalt, Locks};
 
+use bit_wait::BitEnd;
 use copy_plan::COUNTED_PAGE;
 use copy_plan::stop::Halt;
-use bit_wait::BitEnd;
+use copy_turns::{is_killed, put_whole};
 use page_lock::{add_tally, lock_page, unlock_page};
 use std::sync::Wait;
-use copy_turns::{is_killed, put_whole};
 use wait_model::tasks::SleepState;
 use wait_rule::{Domain, Task};
 

@@ -8,12 +8,12 @@ ghost use Rattle.copy_ends.specs.Did.{IsIdler, RelayDid, RelayWorked};
 ghost use Rattle.copy_turns.specs.Turns.{Relaying};
 ghost use Rattle.copy_turns.specs.Work.{IsAtWork};
 
-use copy_plan::gate::{Gate, Who};
 use crate::parts::hand_on;
-use copy_turns::{get, is_killed};
+use completion_cell::completes::complete;
+use copy_plan::gate::{Gate, Who};
 use copy_plan::stop::{NOT_TAKEN, Stop, WorkerEnd, stop_of};
 use copy_plan::{ENDED_CELL, PIECE, SINK_PIPE, SOURCE_PIPE};
-use completion_cell::completes::complete;
+use copy_turns::{get, is_killed};
 use std::sync::Wait;
 use wait_pipe::{close_read, close_write, open_read, open_write};
 use wait_rule::{Domain, Task};

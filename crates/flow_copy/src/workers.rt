@@ -6,13 +6,13 @@ ghost use Rattle.copy_ends.specs.Copied.{ControlEnds, Controlled};
 ghost use Rattle.copy_ends.specs.Did.{IsIdler, ReaderDid, RelayDid, WriterDid};
 
 use crate::controller::controller_task;
-use copy_plan::gate::Gate;
-use copy_plan::Planned;
 use crate::reader::reader_task;
 use crate::relay::relay_task;
-use copy_plan::stop::{ReaderEnd, WorkerEnd};
 use crate::writer::writer_task;
 use bit_wait::BitEnd;
+use copy_plan::Planned;
+use copy_plan::gate::Gate;
+use copy_plan::stop::{ReaderEnd, WorkerEnd};
 use edge_io::{Sink, Source};
 use func_head::Watchers;
 use job_crew::{Job, all_at_once};

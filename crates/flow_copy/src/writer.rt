@@ -8,12 +8,12 @@ ghost use Rattle.copy_ends.specs.Did.{IsIdler, WriterDid, WriterWorked};
 ghost use Rattle.copy_turns.specs.Turns.{Writing};
 ghost use Rattle.copy_turns.specs.Work.{IsAtWork};
 
-use copy_plan::gate::{Gate, Who};
 use crate::parts::count;
-use copy_turns::{get, is_killed};
+use completion_cell::completes::complete;
+use copy_plan::gate::{Gate, Who};
 use copy_plan::stop::{NOT_TAKEN, Stop, WorkerEnd, stop_of};
 use copy_plan::{ENDED_CELL, PIECE, SINK_PIPE};
-use completion_cell::completes::complete;
+use copy_turns::{get, is_killed};
 use edge_io::{Sink, SinkFault, write_all};
 use func_head::Watchers;
 use std::sync::Wait;

@@ -13,7 +13,7 @@ use std::{env, io};
 use wait_rule::Domain;
 use waitq_alone::fault::Fault;
 use waitq_alone::report::report;
-use waitq_copy::watchers::both;
+use waitq_copy::watchers::{Lengths, Lines};
 use waitq_run::run::run;
 
 /// The words after the program's name.
@@ -41,18 +41,16 @@ fn run_over<R: Threads + Wait + Sync, F: Folder, I: Source, O: Sink, E: Sink>(
     Ok(status)
 }
 
-/// Does what the words say, over the files and the streams of the system, with two watchers for a copy: one adds up the
-/// lengths of its pieces, and one counts the ends of lines.
-fn start<R: Threads + Wait + Sync>(
+/// Does what the words say, over the files and the streams of the system.
+fn run_on<R: Threads + Wait + Sync>(
     rt: &R,
     host: &HostRuntime,
     words: &[String],
+    watch: FuncHead,
 ) -> Result<u8, AllocError> {
-    let alloc = host.alloc();
-    let watch = both(alloc)?;
     run_over(
         rt,
-        alloc,
+        host.alloc(),
         words,
         &mut Disk::new(host),
         &mut Reading::new(host.stdin()),
@@ -60,6 +58,23 @@ fn start<R: Threads + Wait + Sync>(
         &mut Writing::new(host.stderr()),
         watch,
     )
+}
+
+/// Does what the words say, with two watchers for a copy: one adds up the lengths of its pieces, and one counts the ends
+/// of lines.
+fn start<R: Threads + Wait + Sync>(
+    rt: &R,
+    host: &HostRuntime,
+    words: &[String],
+) -> Result<u8, AllocError> {
+    let alloc = host.alloc();
+    let mut watch = FuncHead::new(alloc);
+    let lengths = Box::new(alloc, Lengths { bytes: 0 })?;
+    let lines = Box::new(alloc, Lines { ends: 0 })?;
+    if watch.add_exclusive(lengths).is_err() || watch.add_exclusive(lines).is_err() {
+        return Err(AllocError);
+    }
+    run_on(rt, host, words, watch)
 }
 
 /// The status of want of memory, whose line is written.

@@ -2,8 +2,7 @@
 
 ghost use Rattle.std.specs.Prelude.{◌+◌, ◌-◌, ◌^◌, ◌==◌, ◌∷◌, [], count_by, length, min, pos, slice_index};
 
-use func_head::{FuncHead, WakeFn};
-use std::alloc::{AllocError, Global};
+use func_head::WakeFn;
 
 /// Adds up the lengths of the pieces.
 #[derive(Drop)]
@@ -52,15 +51,4 @@ impl WakeFn for Lines {
     fn tell(&self) -> u64 {
         self.ends
     }
-}
-
-/// Both of them, in this order.
-pub fn both(alloc: Global) -> Result<FuncHead, AllocError> {
-    let mut watch = FuncHead::new(alloc);
-    let lengths = Box::new(alloc, Lengths { bytes: 0 })?;
-    let lines = Box::new(alloc, Lines { ends: 0 })?;
-    if watch.add_exclusive(lengths).is_err() || watch.add_exclusive(lines).is_err() {
-        return Err(AllocError);
-    }
-    Ok(watch)
 }

@@ -5,8 +5,8 @@ ghost use Rattle.std.specs.Prelude.{length, take, []};
 ghost use Rattle.std.specs.Io.KnownBytes.{append_known, prepend_known};
 ghost use Rattle.edge_io.specs.Faults.{CountsFailed, CountsWanted, HasRisen};
 
+use copy_plan::PIECE;
 use edge_io::{Failed, Sink, SinkFault, Source};
-use flow_copy::PIECE;
 
 /// A source that gives one piece again and again.
 #[derive(Drop)]

@@ -6,7 +6,8 @@
 mod ends;
 
 use crate::ends::{Blocks, Count};
-use flow_copy::{CopyEnd, OpenGate, Stop, copy_all};
+use copy_plan::{OpenGate, Stop};
+use flow_copy::{CopyEnd, copy_all};
 use func_head::NoWatchers;
 use std::alloc::Global;
 use std::sync::Wait;

@@ -37,11 +37,11 @@ use Rattle.bit_wait.specs.declared.wait_calls.BitEnd.TheVariants as bit_end
 use Rattle.bit_wait.specs.Clears.{HasClearedBit}
 use Rattle.bit_wait.specs.Tries.{HasTriedBit}
 use Rattle.page_lock.specs.PageEnds.{EndsPageLock}
-use Rattle.flow_copy.specs.declared.TheConstants.{COUNTED_PAGE, ENDED_CELL}
-use Rattle.flow_copy.specs.Copied.{IsControlEnd, ReadTally}
-use Rattle.flow_copy.specs.Work.{Apart, IsAtWork, but_ends}
-use Rattle.flow_copy.proofs.Frames.{item_end, item_grows, item_signals, item_sum}
-use Rattle.flow_copy.proofs.PartLaws.{grows_same, grows_then}
+use Rattle.copy_plan.specs.declared.TheConstants.{COUNTED_PAGE, ENDED_CELL}
+use Rattle.copy_ends.specs.Copied.{IsControlEnd, ReadTally}
+use Rattle.copy_turns.specs.Work.{Apart, IsAtWork, but_ends}
+use Rattle.copy_turns.proofs.Frames.{item_end, item_grows, item_signals, item_sum}
+use Rattle.copy_turns.proofs.PartLaws.{grows_same, grows_then}
 
 -- no signal is admitted in state UNINTERRUPTIBLE
 admits_none : (t : TaskRecord) → pending (state_mask states.Uninterruptible) t ≡ true → ⊥

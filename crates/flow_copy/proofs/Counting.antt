@@ -49,11 +49,11 @@ use Rattle.bit_wait.specs.declared.wait_calls.BitEnd.{BitEnd}
 use Rattle.bit_wait.specs.Clears.{GivesBack, HasClearedBit}
 use Rattle.page_lock.specs.PageEnds.{EndsPageLock}
 use Rattle.page_lock.specs.PageStays.{TakesPage}
-use Rattle.flow_copy.specs.declared.TheConstants.{COUNTED_PAGE, ENDED_CELL}
-use Rattle.flow_copy.specs.Turns.{CountedAll}
-use Rattle.flow_copy.specs.Work.{Apart, IsAtWork, Locks, Works, but_ends}
-use Rattle.flow_copy.proofs.Frames.{item_end, item_grows, item_off, item_signals, item_sum, still_idle, still_out}
-use Rattle.flow_copy.proofs.PartLaws.{ends_then, grows_then, sums_then}
+use Rattle.copy_plan.specs.declared.TheConstants.{COUNTED_PAGE, ENDED_CELL}
+use Rattle.copy_turns.specs.Turns.{CountedAll}
+use Rattle.copy_turns.specs.Work.{Apart, IsAtWork, Locks, Works, but_ends}
+use Rattle.copy_turns.proofs.Frames.{item_end, item_grows, item_off, item_signals, item_sum, still_idle, still_out}
+use Rattle.copy_turns.proofs.PartLaws.{ends_then, grows_then, sums_then}
 
 -- a task at work holds no head
 pub holds_none : (k : Known) → IsTold k → IsIdle k → (told_of k).hold.head ≡ None

@@ -1,12 +1,12 @@
 //! The task that waits for the workers.
 
 ghost use Rattle.std.specs.Prelude.{◌≡◌, IfErr};
-ghost use Rattle.flow_copy.specs.Copied.{ControlEnds, Controlled, IsControlEnd};
-ghost use Rattle.flow_copy.specs.Did.{IsIdler};
+ghost use Rattle.copy_ends.specs.Copied.{ControlEnds, Controlled, IsControlEnd};
+ghost use Rattle.copy_ends.specs.Did.{IsIdler};
 
-use crate::{COUNTED_PAGE, ENDED_CELL};
 use bit_wait::BitEnd;
 use completion_cell::await_calls::wait_for;
+use copy_plan::{COUNTED_PAGE, ENDED_CELL};
 use page_lock::{add_tally, lock_page, unlock_page};
 use std::sync::Wait;
 use wait_event::wait_events::WaitEnd;

@@ -1,23 +1,21 @@
 //! The whole copy.
 
-ghost use Rattle.std.specs.Prelude.{◌≡◌, ◌≤◌, ◌+◌, ◌-◌, ◌%◌, ◌^◌, length};
+ghost use Rattle.std.specs.Prelude.{◌≡◌, ◌≤◌, ◌-◌, ◌%◌, ◌^◌, length};
 ghost use Rattle.std.specs.Prelude.{IfErr, IfOk, OnErr};
 ghost use Rattle.wait_model.specs.declared.layout.TheConstants.{TASKS};
 ghost use Rattle.wait_rule.specs.Aside.{GrowsAside};
-ghost use Rattle.wait_rule.specs.Journals.{left_with};
-ghost use Rattle.wait_rule.specs.Says.{IsClean, IsShown, IsUp, newcomer, seen_with};
+ghost use Rattle.wait_rule.specs.Says.{IsClean, newcomer};
 ghost use Rattle.wait_rule.specs.TallyLaws.{tally_in};
-ghost use Rattle.flow_copy.specs.declared.TheConstants.{COUNTED_PAGE, SIGNALS};
-ghost use Rattle.flow_copy.specs.declared.stop.Stop.TheVariants as stop;
-ghost use Rattle.flow_copy.specs.Copied.{Copied, HasNoSteps, HoldsAll, HoldsGiven, NoneTaken, ReadTally, Watched};
-ghost use Rattle.flow_copy.specs.Copied.{control_stop, copy_stop, first_or, is_of, joined_four};
+ghost use Rattle.copy_plan.specs.declared.TheConstants.{COUNTED_PAGE, SIGNALS};
+ghost use Rattle.copy_plan.specs.declared.stop.Stop.TheVariants as stop;
+ghost use Rattle.copy_ends.specs.Copied.{Copied, HasNoSteps, HoldsAll, HoldsGiven, NoneTaken, ReadTally, Watched};
 
-use crate::COUNTED_PAGE;
-use crate::gate::Gate;
-use crate::plan::Planned;
-use crate::stop::{ReaderEnd, Stop, WorkerEnd};
 use crate::workers::{Parts, four_at_once};
-use bit_wait::BitEnd;
+use copy_ends::{control_stop, fork_four, join_four};
+use copy_plan::gate::Gate;
+use copy_plan::kinds::copy_stop;
+use copy_plan::stop::{ReaderEnd, Stop, WorkerEnd};
+use copy_plan::{COUNTED_PAGE, Planned};
 use edge_io::{Sink, Source};
 use func_head::Watchers;
 use page_lock::{add_tally, try_lock_page, unlock_page};
@@ -48,53 +46,6 @@ pub struct Unstarted<S, K, W> {
     pub watch: W,
 }
 
-/// A task with the next number, which may give out none.
-fn fork_one(domain: &Domain, task: &mut Task) -> Task
-    requires of { task.old.domain ≡ domain.now }
-    requires up { IsUp task.old }
-    requires room { 1 ≤ task.old.view.spare }
-    ensures new { result ≡ newcomer domain.now task.old.view.next (task.old.view.next + 1) 0 }
-    ensures old { task.new ≡ seen_with task.old (left_with 0 task.old.view) }
-    ensures up { IsUp task.new }
-{
-    let Ok(new) = task.fork(domain, 0) else {
-        unreachable!();
-    };
-    new
-}
-
-/// The four tasks of a copy, with the next numbers.
-fn fork_four(domain: &Domain, task: &mut Task) -> (Task, Task, Task, Task)
-    requires fresh { task.old ≡ newcomer domain.now 0 1 (TASKS - 1) }
-    ensures one { result.0 ≡ newcomer domain.now 1 2 0 }
-    ensures two { result.1 ≡ newcomer domain.now 2 3 0 }
-    ensures three { result.2 ≡ newcomer domain.now 3 4 0 }
-    ensures four { result.3 ≡ newcomer domain.now 4 5 0 }
-    ensures rest { task.new ≡ newcomer domain.now 0 5 (TASKS - 5) }
-{
-    let one = fork_one(domain, task);
-    let two = fork_one(domain, task);
-    let three = fork_one(domain, task);
-    let four = fork_one(domain, task);
-    (one, two, three, four)
-}
-
-/// Takes in the histories of the four.
-fn join_four(domain: &Domain, task: &mut Task, one: Task, two: Task, three: Task, four: Task)
-    requires of { (task.old.domain ≡ domain.now) × ((one.domain ≡ domain.now) × ((two.domain ≡ domain.now)
-        × ((three.domain ≡ domain.now) × (four.domain ≡ domain.now)))) }
-    requires up { IsUp task.old }
-    requires clean { IsClean one × (IsClean two × (IsClean three × IsClean four)) }
-    ensures joined { task.new
-        ≡ seen_with task.old (joined_four task.old.view one.view two.view three.view four.view) }
-    ensures law { IsShown task.new.view }
-{
-    task.join(domain, one);
-    task.join(domain, two);
-    task.join(domain, three);
-    task.join(domain, four);
-}
-
 /// Reads the tally of the page of the copy, once its workers are joined. Nobody keeps the page then, so the first
 /// test-and-set takes it.
 fn read_moved<R: Wait>(rt: &R, domain: &Domain, task: &mut Task) -> u64
@@ -112,67 +63,6 @@ fn read_moved<R: Wait>(rt: &R, domain: &Domain, task: &mut Task) -> u64
         }
     }
     unreachable!()
-}
-
-/// The stop of a controller, as that of a worker.
-fn control_stop(total: &Result<u64, BitEnd>) -> Stop
-    ensures { result ≡ control_stop total.now }
-{
-    match *total {
-        Err(BitEnd::Worn { head, place }) => Stop::Worn { head, place },
-        Err(BitEnd::Interrupted { .. }) | Ok(_) => Stop::Finished,
-    }
-}
-
-/// A kind of stop that a copy names wherever one of its tasks stopped so.
-#[derive(Clone, Copy, Debug, PartialEq, Eq, Drop)]
-enum Kind {
-    Memory,
-    Worn,
-    ReadFault,
-    WriteFault,
-    Long,
-}
-
-/// Whether a stop is of a kind.
-fn is_of(kind: Kind, stop: Stop) -> bool
-    ensures { result ≡ is_of kind stop }
-{
-    match kind {
-        Kind::Memory => matches!(stop, Stop::Memory),
-        Kind::Worn => matches!(stop, Stop::Worn { .. }),
-        Kind::ReadFault => matches!(stop, Stop::ReadFault),
-        Kind::WriteFault => matches!(stop, Stop::WriteFault),
-        Kind::Long => matches!(stop, Stop::Long),
-    }
-}
-
-/// The first of the stops that is of a kind, or else another.
-fn first_or(kind: Kind, stops: [Stop; 4], other: Stop) -> Stop
-    ensures { result ≡ first_or kind stops other }
-{
-    for stop in &stops {
-        if is_of(kind, *stop) {
-            return *stop;
-        }
-    }
-    other
-}
-
-/// How a copy ended, by how its tasks did, and how many kills were sent.
-fn copy_stop(stops: [Stop; 4], kills: u8) -> Stop
-    ensures { result ≡ copy_stop stops kills }
-{
-    let none = if kills == 0 {
-        Stop::Finished
-    } else {
-        Stop::Killed
-    };
-    let long = first_or(Kind::Long, stops, none);
-    let unwritten = first_or(Kind::WriteFault, stops, long);
-    let unread = first_or(Kind::ReadFault, stops, unwritten);
-    let worn = first_or(Kind::Worn, stops, unread);
-    first_or(Kind::Memory, stops, worn)
 }
 
 /// Takes in the four tasks of a copy that was not begun, and gives back the rest.

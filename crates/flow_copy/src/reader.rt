@@ -3,17 +3,18 @@
 ghost use Rattle.std.specs.Prelude.{◌≡◌, ◌≤◌, Some, length};
 ghost use Rattle.wait_rule.specs.PipeSays.{writing};
 ghost use Rattle.wait_pipe.specs.Pieces.{IsSettled};
-ghost use Rattle.flow_copy.specs.declared.TheConstants.{LONGEST, SIGNALS, SOURCE_PIPE};
-ghost use Rattle.flow_copy.specs.Did.{IsIdler, ReaderDid, ReaderWorked};
-ghost use Rattle.flow_copy.specs.Turns.{Reading};
-ghost use Rattle.flow_copy.specs.Work.{IsAtWork};
+ghost use Rattle.copy_plan.specs.declared.TheConstants.{LONGEST, SIGNALS, SOURCE_PIPE};
+ghost use Rattle.copy_ends.specs.Did.{IsIdler, ReaderDid, ReaderWorked};
+ghost use Rattle.copy_turns.specs.Turns.{Reading};
+ghost use Rattle.copy_turns.specs.Work.{IsAtWork};
 
-use crate::gate::{Gate, Who};
-use crate::parts::{hand_on, is_killed};
-use crate::plan::{Planned, count_due, send_due};
-use crate::stop::{NOT_READ, ReaderEnd, Stop, stop_of};
-use crate::{ENDED_CELL, LONGEST, PIECE, SOURCE_PIPE};
+use crate::parts::hand_on;
 use completion_cell::completes::complete;
+use copy_plan::gate::{Gate, Who};
+use copy_plan::plan::count_due;
+use copy_plan::stop::{NOT_READ, ReaderEnd, Stop, stop_of};
+use copy_plan::{ENDED_CELL, LONGEST, PIECE, Planned, SOURCE_PIPE};
+use copy_turns::{is_killed, send_due};
 use edge_io::Source;
 use std::sync::Wait;
 use wait_pipe::{close_write, open_write};

@@ -3,16 +3,17 @@
 ghost use Rattle.std.specs.Prelude.{◌≡◌, Some};
 ghost use Rattle.wait_rule.specs.PipeSays.{reading, writing};
 ghost use Rattle.wait_pipe.specs.Pieces.{IsSettled};
-ghost use Rattle.flow_copy.specs.declared.TheConstants.{SINK_PIPE, SOURCE_PIPE};
-ghost use Rattle.flow_copy.specs.Did.{IsIdler, RelayDid, RelayWorked};
-ghost use Rattle.flow_copy.specs.Turns.{Relaying};
-ghost use Rattle.flow_copy.specs.Work.{IsAtWork};
+ghost use Rattle.copy_plan.specs.declared.TheConstants.{SINK_PIPE, SOURCE_PIPE};
+ghost use Rattle.copy_ends.specs.Did.{IsIdler, RelayDid, RelayWorked};
+ghost use Rattle.copy_turns.specs.Turns.{Relaying};
+ghost use Rattle.copy_turns.specs.Work.{IsAtWork};
 
-use crate::gate::{Gate, Who};
-use crate::parts::{get, hand_on, is_killed};
-use crate::stop::{NOT_TAKEN, Stop, WorkerEnd, stop_of};
-use crate::{ENDED_CELL, PIECE, SINK_PIPE, SOURCE_PIPE};
+use crate::parts::hand_on;
 use completion_cell::completes::complete;
+use copy_plan::gate::{Gate, Who};
+use copy_plan::stop::{NOT_TAKEN, Stop, WorkerEnd, stop_of};
+use copy_plan::{ENDED_CELL, PIECE, SINK_PIPE, SOURCE_PIPE};
+use copy_turns::{get, is_killed};
 use std::sync::Wait;
 use wait_pipe::{close_read, close_write, open_read, open_write};
 use wait_rule::{Domain, Task};

@@ -1,18 +1,18 @@
 //! The four tasks of a copy, each in a thread of its own.
 
 ghost use Rattle.std.specs.Prelude.{◌≡◌, ◌≤◌, length, IfErr, IfOk};
-ghost use Rattle.flow_copy.specs.declared.TheConstants.{SIGNALS};
-ghost use Rattle.flow_copy.specs.Copied.{ControlEnds, Controlled};
-ghost use Rattle.flow_copy.specs.Did.{IsIdler, ReaderDid, RelayDid, WriterDid};
+ghost use Rattle.copy_plan.specs.declared.TheConstants.{SIGNALS};
+ghost use Rattle.copy_ends.specs.Copied.{ControlEnds, Controlled};
+ghost use Rattle.copy_ends.specs.Did.{IsIdler, ReaderDid, RelayDid, WriterDid};
 
 use crate::controller::controller_task;
-use crate::gate::Gate;
-use crate::plan::Planned;
 use crate::reader::reader_task;
 use crate::relay::relay_task;
-use crate::stop::{ReaderEnd, WorkerEnd};
 use crate::writer::writer_task;
 use bit_wait::BitEnd;
+use copy_plan::Planned;
+use copy_plan::gate::Gate;
+use copy_plan::stop::{ReaderEnd, WorkerEnd};
 use edge_io::{Sink, Source};
 use func_head::Watchers;
 use job_crew::{Job, all_at_once};

@@ -3,16 +3,17 @@
 ghost use Rattle.std.specs.Prelude.{◌≡◌, Some};
 ghost use Rattle.wait_rule.specs.PipeSays.{reading};
 ghost use Rattle.wait_pipe.specs.Pieces.{IsSettled};
-ghost use Rattle.flow_copy.specs.declared.TheConstants.{SINK_PIPE};
-ghost use Rattle.flow_copy.specs.Did.{IsIdler, WriterDid, WriterWorked};
-ghost use Rattle.flow_copy.specs.Turns.{Writing};
-ghost use Rattle.flow_copy.specs.Work.{IsAtWork};
+ghost use Rattle.copy_plan.specs.declared.TheConstants.{SINK_PIPE};
+ghost use Rattle.copy_ends.specs.Did.{IsIdler, WriterDid, WriterWorked};
+ghost use Rattle.copy_turns.specs.Turns.{Writing};
+ghost use Rattle.copy_turns.specs.Work.{IsAtWork};
 
-use crate::gate::{Gate, Who};
-use crate::parts::{count, get, is_killed};
-use crate::stop::{NOT_TAKEN, Stop, WorkerEnd, stop_of};
-use crate::{ENDED_CELL, PIECE, SINK_PIPE};
+use crate::parts::count;
 use completion_cell::completes::complete;
+use copy_plan::gate::{Gate, Who};
+use copy_plan::stop::{NOT_TAKEN, Stop, WorkerEnd, stop_of};
+use copy_plan::{ENDED_CELL, PIECE, SINK_PIPE};
+use copy_turns::{get, is_killed};
 use edge_io::{Sink, SinkFault, write_all};
 use func_head::Watchers;
 use std::sync::Wait;

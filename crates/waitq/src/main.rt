@@ -1,24 +1,20 @@
 //! The program that replays scripts, drills, and copies files.
 #![tactic(auto)]
 
-mod files;
-mod streams;
-
+use copy_plan::OpenGate;
+use disk_io::{Disk, Reading, Writing};
 use edge_io::{Folder, Sink, Source};
-use files::Disk;
-use flow_copy::OpenGate;
 use func_head::FuncHead;
 use std::alloc::{AllocError, Global};
 use std::process::ExitCode;
 use std::sync::Wait;
 use std::thread::Threads;
 use std::{env, io};
-use streams::{Reading, Writing};
 use wait_rule::Domain;
-use waitq_run::fault::Fault;
-use waitq_run::report::report;
+use waitq_alone::fault::Fault;
+use waitq_alone::report::report;
+use waitq_copy::watchers::{Lengths, Lines};
 use waitq_run::run::run;
-use waitq_run::watchers::{Lengths, Lines};
 
 /// The words after the program's name.
 fn words(rt: &HostRuntime) -> io::Result<Vec<String>> {
@@ -45,8 +41,27 @@ fn run_over<R: Threads + Wait + Sync, F: Folder, I: Source, O: Sink, E: Sink>(
     Ok(status)
 }
 
-/// Does what the words say, over the files and the streams of the system, with two watchers for a copy: one adds up the
-/// lengths of its pieces, and one counts the ends of lines.
+/// Does what the words say, over the files and the streams of the system.
+fn run_on<R: Threads + Wait + Sync>(
+    rt: &R,
+    host: &HostRuntime,
+    words: &[String],
+    watch: FuncHead,
+) -> Result<u8, AllocError> {
+    run_over(
+        rt,
+        host.alloc(),
+        words,
+        &mut Disk::new(host),
+        &mut Reading::new(host.stdin()),
+        &mut Writing::new(host.stdout()),
+        &mut Writing::new(host.stderr()),
+        watch,
+    )
+}
+
+/// Does what the words say, with two watchers for a copy: one adds up the lengths of its pieces, and one counts the ends
+/// of lines.
 fn start<R: Threads + Wait + Sync>(
     rt: &R,
     host: &HostRuntime,
@@ -59,16 +74,7 @@ fn start<R: Threads + Wait + Sync>(
     if watch.add_exclusive(lengths).is_err() || watch.add_exclusive(lines).is_err() {
         return Err(AllocError);
     }
-    run_over(
-        rt,
-        alloc,
-        words,
-        &mut Disk::new(host),
-        &mut Reading::new(host.stdin()),
-        &mut Writing::new(host.stdout()),
-        &mut Writing::new(host.stderr()),
-        watch,
-    )
+    run_on(rt, host, words, watch)
 }
 
 /// The status of want of memory, whose line is written.

@@ -1,7 +1,7 @@
 //! Copies through `run`, over a folder in memory.
 
+use copy_plan::OpenGate;
 use edge_io::{Folder, MemFolder, MemSink, MemSource, Sink, Source};
-use flow_copy::OpenGate;
 use func_head::FuncHead;
 use std::alloc::{AllocError, Global};
 use std::process::Abort;
@@ -9,8 +9,8 @@ use std::sync::Wait;
 use std::test::Fail;
 use std::thread::Threads;
 use wait_rule::Domain;
+use waitq_copy::watchers::{Lengths, Lines};
 use waitq_run::run::run;
-use waitq_run::watchers::{Lengths, Lines};
 
 /// The text of a copy of 20,000 bytes, each 100th a newline.
 const TEXT: &str = "copied 20000 bytes\nmoved 60000\nwatch 0 20000\nwatch 1 200\nsignals 0\n";

@@ -6,7 +6,7 @@ use crate::copy_rows::{NONE, bytes_of, front, run_on, run_under};
 use func_head::{FuncHead, WakeFn};
 use std::alloc::AllocError;
 use std::test::Fail;
-use waitq_run::watchers::Lines;
+use waitq_copy::watchers::Lines;
 
 /// Answers the same at each call, and tells how many there were.
 #[derive(Drop)]

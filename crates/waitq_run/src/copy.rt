@@ -4,20 +4,23 @@ ghost use Rattle.std.specs.Prelude.{◌≡◌, ◌≤◌, ◌-◌, length, IfOk,
 ghost use Rattle.edge_io.specs.Folders.{HasBytes, HoldsNothing};
 ghost use Rattle.wait_model.specs.declared.layout.TheConstants.{TASKS};
 ghost use Rattle.wait_rule.specs.Says.{IsClean, newcomer};
-ghost use Rattle.flow_copy.specs.declared.TheConstants.{SIGNALS};
-ghost use Rattle.flow_copy.specs.Copied.{HasNoSteps};
-ghost use Rattle.waitq_run.specs.Copying.{Concludes, CopyLeft, IsMakeFault, IsOpenFault, IsStartFault, Through};
-ghost use Rattle.waitq_run.specs.Copying.{copy_text, fault_after, outside, tells};
+ghost use Rattle.copy_plan.specs.declared.TheConstants.{SIGNALS};
+ghost use Rattle.copy_ends.specs.Copied.{HasNoSteps};
+ghost use Rattle.waitq_copy.specs.Copying.{Concludes, CopyLeft, IsMakeFault, IsOpenFault, IsStartFault, Through};
+ghost use Rattle.waitq_copy.specs.Copying.{copy_text, fault_after, outside, tells};
 
-use crate::fault::Fault;
-use crate::told::write_told;
-use crate::watching::Tellers;
-use edge_io::{Folder, OpenFault, Sink, SinkFault};
-use flow_copy::{CopyEnd, Gate, Planned, ReaderEnd, Stop, copy_all};
+use copy_plan::{Gate, Planned, ReaderEnd, Stop};
+use edge_io::{Folder, Sink, SinkFault};
+use flow_copy::{CopyEnd, copy_all};
 use std::alloc::Global;
 use std::sync::Wait;
 use std::thread::Threads;
 use wait_rule::{Domain, Task};
+use waitq_alone::fault::Fault;
+use waitq_copy::begin::{Begun, begin};
+use waitq_copy::ending::fault_after;
+use waitq_copy::told::write_told;
+use waitq_copy::watching::Tellers;
 
 /// What a copy command is told: the names of the two files, and the signals to be sent meanwhile.
 #[derive(Clone, Copy)]
@@ -25,99 +28,6 @@ pub struct Order<'a, 'p> {
     pub src: &'a str,
     pub dst: &'a str,
     pub plan: &'p [Planned],
-}
-
-/// What a copy runs on: the source and the sink.
-#[derive(Drop)]
-struct Begun<S, K> {
-    source: S,
-    sink: K,
-}
-
-/// Opens the source.
-fn open_source<'a, F: Folder>(
-    alloc: Global,
-    folder: &mut F,
-    src: &'a str,
-) -> Result<F::In, Fault<'a>>
-    ensures found { IfOk result (λ source. HasBytes (F.files folder.old) src.entry.now (F.In.left source)) }
-    ensures fresh { IfOk result (λ source. F.In.faults source ≡ 0) }
-    ensures same { F.files folder.new ≡ F.files folder.old }
-    ensures reads { OnOk result (F.read_faults folder.new ≡ F.read_faults folder.old) }
-    ensures writes { F.write_faults folder.new ≡ F.write_faults folder.old }
-    ensures cause { IfErr result (λ why. IsOpenFault (F.files folder.old) (F.read_faults folder.old)
-        (F.read_faults folder.new) src.entry.now why) }
-{
-    match folder.open(alloc, src) {
-        Ok(source) => Ok(source),
-        Err(OpenFault::Failed) => Err(Fault::Read),
-        Err(OpenFault::OutOfMemory) => Err(Fault::Memory),
-        Err(OpenFault::NoSuchFile) => Err(Fault::NoFile { name: src }),
-    }
-}
-
-/// Makes the sink.
-fn create_sink<F: Folder>(
-    alloc: Global,
-    folder: &mut F,
-    dst: &str,
-) -> Result<F::Out, Fault<'static>>
-    ensures empty { IfOk result (λ sink. HoldsNothing (F.files folder.old) (F.Out.held sink)) }
-    ensures fresh { IfOk result (λ sink. F.Out.faults sink ≡ 0) }
-    ensures same { F.files folder.new ≡ F.files folder.old }
-    ensures reads { F.read_faults folder.new ≡ F.read_faults folder.old }
-    ensures writes { OnOk result (F.write_faults folder.new ≡ F.write_faults folder.old) }
-    ensures cause { IfErr result (λ why. IsMakeFault (F.write_faults folder.old) (F.write_faults folder.new) why) }
-{
-    match folder.create(alloc, dst) {
-        Ok(sink) => Ok(sink),
-        Err(OpenFault::Failed) => Err(Fault::Write),
-        Err(OpenFault::OutOfMemory | OpenFault::NoSuchFile) => Err(Fault::Memory),
-    }
-}
-
-/// Opens the source and makes the sink, in this order. Where one of these is refused it ends there, and an opened
-/// source is closed.
-fn begin<'a, F: Folder>(
-    alloc: Global,
-    folder: &mut F,
-    src: &'a str,
-    dst: &str,
-) -> Result<Begun<F::In, F::Out>, Fault<'a>>
-    ensures found { IfOk result (λ begun. HasBytes (F.files folder.old) src.entry.now (F.In.left begun.source)) }
-    ensures opened { IfOk result (λ begun. F.In.faults begun.source ≡ 0) }
-    ensures empty { IfOk result (λ begun. HoldsNothing (F.files folder.old) (F.Out.held begun.sink)) }
-    ensures made { IfOk result (λ begun. F.Out.faults begun.sink ≡ 0) }
-    ensures same { F.files folder.new ≡ F.files folder.old }
-    ensures reads { OnOk result (F.read_faults folder.new ≡ F.read_faults folder.old) }
-    ensures writes { OnOk result (F.write_faults folder.new ≡ F.write_faults folder.old) }
-    ensures cause { IfErr result (λ why. IsStartFault (F.files folder.old) (F.read_faults folder.old)
-        (F.read_faults folder.new) (F.write_faults folder.old) (F.write_faults folder.new) src.entry.now why) }
-{
-    let source = open_source(alloc, folder, src)?;
-    match create_sink(alloc, folder, dst) {
-        Ok(sink) => Ok(Begun { source, sink }),
-        Err(fault) => {
-            folder.close(source);
-            Err(fault)
-        }
-    }
-}
-
-/// Why a copy that was begun ends early, by how it stopped and by what storing its sink answered: the first of these
-/// causes.
-fn fault_after(stop: Stop, stored: Result<(), SinkFault>) -> Option<Fault<'static>>
-    ensures { result ≡ fault_after stop stored }
-{
-    match (stop, stored) {
-        (Stop::Memory, _) | (_, Err(SinkFault::OutOfMemory)) => Some(Fault::Memory),
-        (Stop::Worn { place, .. }, _) => Some(Fault::Worn { place }),
-        (Stop::ReadFault, _) => Some(Fault::Read),
-        (Stop::WriteFault, _) | (_, Err(SinkFault::Failed)) => Some(Fault::Write),
-        (Stop::Long, _) => Some(Fault::Long),
-        (Stop::Killed, _) => Some(Fault::Killed),
-        (Stop::Finished | Stop::Broken | Stop::Taken, Ok(())) => None,
-    }
 }
 
 /// What a copy left that ran: its watchers, what is told of it, how it stopped, and what storing its sink answered.

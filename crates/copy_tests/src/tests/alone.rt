@@ -1,12 +1,11 @@
 //! One task alone does the work of all four, one after the other: ten bytes fit into the pipes.
 
 ghost use Rattle.std.specs.Prelude.{◌≡◌};
-ghost use Rattle.flow_copy.specs.Did.{IsIdler};
+ghost use Rattle.copy_ends.specs.Did.{IsIdler};
 
+use copy_plan::{OpenGate, ReaderEnd, Stop, WorkerEnd};
 use edge_io::{MemSink, MemSource};
-use flow_copy::{
-    OpenGate, ReaderEnd, Stop, WorkerEnd, controller_task, reader_task, relay_task, writer_task,
-};
+use flow_copy::{controller_task, reader_task, relay_task, writer_task};
 use func_head::NoWatchers;
 use std::sync::Wait;
 use std::test::Fail;

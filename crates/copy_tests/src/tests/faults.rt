@@ -1,10 +1,11 @@
 //! Copies whose source or sink fails, and copies whose workers are signalled.
 
 ghost use Rattle.std.specs.Prelude.{◌≤◌, length};
-ghost use Rattle.flow_copy.specs.declared.TheConstants.{SIGNALS};
+ghost use Rattle.copy_plan.specs.declared.TheConstants.{SIGNALS};
 
+use copy_plan::{OpenGate, Planned, SIGNALS, Stop, Who};
 use edge_io::{MemSink, MemSource};
-use flow_copy::{CopyEnd, OpenGate, Planned, SIGNALS, Stop, Who, copy_all};
+use flow_copy::{CopyEnd, copy_all};
 use func_head::NoWatchers;
 use std::alloc::{AllocError, Global};
 use std::sync::Wait;

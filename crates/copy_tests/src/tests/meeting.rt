@@ -1,7 +1,8 @@
 //! The three workers run at once.
 
+use copy_plan::{Gate, Stop, Who};
 use edge_io::{MemSink, MemSource};
-use flow_copy::{Gate, Stop, Who, copy_all};
+use flow_copy::copy_all;
 use func_head::NoWatchers;
 use std::sync::atomic::{AtomicU64, Ordering};
 use std::test::Fail;

@@ -1,7 +1,8 @@
 //! Copies of several sizes.
 
+use copy_plan::{OpenGate, Stop};
 use edge_io::{MemSink, MemSource};
-use flow_copy::{OpenGate, Stop, copy_all};
+use flow_copy::copy_all;
 use func_head::NoWatchers;
 use std::test::Fail;
 use wait_rule::Domain;

@@ -1,5 +1,5 @@
 use Rattle.flow_copy.proofs.Awaits.{awaited_apart, awaited_signal}
-use Rattle.flow_copy.proofs.Idlers.{at_work, controlled}
+use Rattle.copy_ends.proofs.Idlers.{at_work, controlled}
 use Rattle.flow_copy.proofs.controller.await_one.Goals as goal
 
 pub returns-in-Ok-clause-controlled : goal.returns-in-Ok-clause-controlled

@@ -1,5 +1,5 @@
-use Rattle.flow_copy.proofs.Idlers.{controlled_same, controlled_then, ends_later}
-use Rattle.flow_copy.proofs.PartLaws.{grows_same}
+use Rattle.copy_ends.proofs.Idlers.{controlled_same, controlled_then, ends_later}
+use Rattle.copy_turns.proofs.PartLaws.{grows_same}
 use Rattle.flow_copy.proofs.controller.controller_task.Goals as goal
 
 pub loop-init : goal.loop-init

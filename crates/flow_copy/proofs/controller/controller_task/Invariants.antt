@@ -1,4 +1,4 @@
-use Rattle.flow_copy.specs.Copied.{Controlled}
+use Rattle.copy_ends.specs.Copied.{Controlled}
 use Rattle.flow_copy.proofs.controller.controller_task.Given as goal
 
 abbrev pub invariant-loop : goal.invariant-loop

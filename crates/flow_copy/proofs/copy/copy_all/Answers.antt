@@ -1,8 +1,8 @@
 use Rattle.std.proofs.Common.{ap, ◌∙◌}
 use Rattle.std.specs.Prelude.{[], ◌∷◌}
-use Rattle.flow_copy.specs.declared.stop.Stop.{Stop}
-use Rattle.flow_copy.specs.Copied.{copy_stop}
-use Rattle.flow_copy.proofs.Whole.{ensured}
+use Rattle.copy_plan.specs.declared.stop.Stop.{Stop}
+use Rattle.copy_plan.specs.Kinds.{copy_stop}
+use Rattle.copy_ends.proofs.Whole.{ensured}
 use Rattle.flow_copy.proofs.copy.copy_all.Goals as goal
 
 pub returns : goal.returns

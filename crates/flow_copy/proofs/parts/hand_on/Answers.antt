@@ -1,5 +1,5 @@
 use Rattle.wait_rule.specs.Pipes.{write_end}
-use Rattle.flow_copy.proofs.Pieces.{handed_end}
+use Rattle.copy_turns.proofs.Pieces.{handed_end}
 use Rattle.flow_copy.proofs.parts.hand_on.Goals as goal
 
 pub returns : goal.returns

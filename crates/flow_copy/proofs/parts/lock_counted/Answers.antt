@@ -1,6 +1,6 @@
 use Rattle.std.proofs.Common.{◌∙◌}
 use Rattle.flow_copy.proofs.Counting.{asks_none, locked, locks_after, unlocked}
-use Rattle.flow_copy.proofs.PartLaws.{apart_same, apart_then, took_before}
+use Rattle.copy_turns.proofs.PartLaws.{apart_same, apart_then, took_before}
 use Rattle.flow_copy.proofs.parts.lock_counted.Goals as goal
 
 pub loop-init : goal.loop-init

@@ -1,4 +1,4 @@
-use Rattle.flow_copy.specs.Work.{Apart}
+use Rattle.copy_turns.specs.Work.{Apart}
 use Rattle.flow_copy.proofs.parts.lock_counted.Given as goal
 
 abbrev pub invariant-loop : goal.invariant-loop

@@ -1,5 +1,5 @@
 use Rattle.std.specs.Prelude.{None, Some}
-use Rattle.flow_copy.proofs.ReaderTurns.{reading_none, reading_then}
+use Rattle.copy_turns.proofs.ReaderTurns.{reading_none, reading_then}
 use Rattle.flow_copy.proofs.reader.read_on.Goals as goal
 
 pub loop-init : goal.loop-init

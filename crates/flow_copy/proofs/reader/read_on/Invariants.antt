@@ -1,5 +1,5 @@
 use Rattle.std.proofs.Common.{None}
-use Rattle.flow_copy.specs.Turns.{Reading}
+use Rattle.copy_turns.specs.Turns.{Reading}
 use Rattle.flow_copy.proofs.reader.read_on.Given as goal
 
 abbrev pub invariant-loop : goal.invariant-loop

@@ -1,9 +1,9 @@
 use Rattle.std.proofs.Common.{◌∙◌, sym, subst, take, arith}
 use Rattle.std.specs.Prelude.{◌+◌, Some}
-use Rattle.flow_copy.specs.declared.stop.Stop.{Stop}
-use Rattle.flow_copy.specs.declared.stop.Stop.TheVariants as stop
-use Rattle.flow_copy.specs.Turns.{Reading}
-use Rattle.flow_copy.proofs.ReaderTurns.{
+use Rattle.copy_plan.specs.declared.stop.Stop.{Stop}
+use Rattle.copy_plan.specs.declared.stop.Stop.TheVariants as stop
+use Rattle.copy_turns.specs.Turns.{Reading}
+use Rattle.copy_turns.proofs.ReaderTurns.{
   given_length,
   given_none,
   prepend_none,

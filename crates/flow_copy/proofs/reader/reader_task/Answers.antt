@@ -1,5 +1,5 @@
-use Rattle.flow_copy.proofs.Ends.{completes}
-use Rattle.flow_copy.proofs.ReaderEnds.{reader_completes}
+use Rattle.copy_ends.proofs.Ends.{completes}
+use Rattle.copy_ends.proofs.ReaderEnds.{reader_completes}
 use Rattle.flow_copy.proofs.reader.reader_task.Goals as goal
 
 pub returns : goal.returns

@@ -1,7 +1,7 @@
 use Rattle.wait_rule.specs.Pipes.{write_end}
-use Rattle.flow_copy.specs.declared.TheConstants.{SOURCE_PIPE}
-use Rattle.flow_copy.proofs.Ends.{Closes, Opens, closes, fails, idler_works, opens}
-use Rattle.flow_copy.proofs.ReaderEnds.{reader_did, reader_fails, still_settled}
+use Rattle.copy_plan.specs.declared.TheConstants.{SOURCE_PIPE}
+use Rattle.copy_ends.proofs.Ends.{Closes, Opens, closes, fails, idler_works, opens}
+use Rattle.copy_ends.proofs.ReaderEnds.{reader_did, reader_fails, still_settled}
 use Rattle.flow_copy.proofs.reader.reader_through.Goals as goal
 
 pub returns-then-not-open_write : goal.returns-then-not-open_write

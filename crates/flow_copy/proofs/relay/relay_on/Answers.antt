@@ -1,6 +1,6 @@
 use Rattle.std.proofs.Common.{arith}
 use Rattle.std.specs.Prelude.{None, Some}
-use Rattle.flow_copy.proofs.Relays.{relaying_none, relaying_then}
+use Rattle.copy_turns.proofs.Relays.{relaying_none, relaying_then}
 use Rattle.flow_copy.proofs.relay.relay_on.Goals as goal
 
 pub loop-init : goal.loop-init

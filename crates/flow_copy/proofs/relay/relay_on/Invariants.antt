@@ -1,5 +1,5 @@
 use Rattle.std.specs.Prelude.{None}
-use Rattle.flow_copy.specs.Turns.{Relaying}
+use Rattle.copy_turns.specs.Turns.{Relaying}
 use Rattle.flow_copy.proofs.relay.relay_on.Given as goal
 
 abbrev pub invariant-loop : goal.invariant-loop

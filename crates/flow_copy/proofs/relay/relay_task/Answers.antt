@@ -1,5 +1,5 @@
-use Rattle.flow_copy.proofs.Ends.{completes}
-use Rattle.flow_copy.proofs.RelayEnds.{relay_completes}
+use Rattle.copy_ends.proofs.Ends.{completes}
+use Rattle.copy_ends.proofs.RelayEnds.{relay_completes}
 use Rattle.flow_copy.proofs.relay.relay_task.Goals as goal
 
 pub returns : goal.returns

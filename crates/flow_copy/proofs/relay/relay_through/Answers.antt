@@ -1,7 +1,7 @@
 use Rattle.wait_rule.specs.Pipes.{read_end, write_end}
-use Rattle.flow_copy.specs.declared.TheConstants.{SINK_PIPE, SOURCE_PIPE}
-use Rattle.flow_copy.proofs.Ends.{Closes, Fails, Opens, closes, fails, idler_works, opens}
-use Rattle.flow_copy.proofs.RelayEnds.{relay_did, relay_fails, relay_fails_then}
+use Rattle.copy_plan.specs.declared.TheConstants.{SINK_PIPE, SOURCE_PIPE}
+use Rattle.copy_ends.proofs.Ends.{Closes, Fails, Opens, closes, fails, idler_works, opens}
+use Rattle.copy_ends.proofs.RelayEnds.{relay_did, relay_fails, relay_fails_then}
 use Rattle.flow_copy.proofs.relay.relay_through.Goals as goal
 
 pub returns-then-not-open_read : goal.returns-then-not-open_read

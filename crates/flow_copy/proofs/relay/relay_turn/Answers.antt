@@ -1,9 +1,9 @@
 use Rattle.std.proofs.Common.{refl, sym, ap, subst, arith}
 use Rattle.std.specs.Prelude.{ℕ, ◌+◌, ◌%◌, ◌^◌, Some, [], take}
 use Rattle.std.proofs.lemmas.List.{length-take-le}
-use Rattle.flow_copy.specs.declared.stop.Stop.{Stop}
-use Rattle.flow_copy.specs.Turns.{Relaying}
-use Rattle.flow_copy.proofs.Relays.{relay_ended, relay_goes_on, relay_halted, relay_killed, relay_stopped}
+use Rattle.copy_plan.specs.declared.stop.Stop.{Stop}
+use Rattle.copy_turns.specs.Turns.{Relaying}
+use Rattle.copy_turns.proofs.Relays.{relay_ended, relay_goes_on, relay_halted, relay_killed, relay_stopped}
 use Rattle.flow_copy.proofs.relay.relay_turn.Goals as goal
 
 pub returns-then-is_killed : goal.returns-then-is_killed

@@ -1,6 +1,6 @@
 use Rattle.std.proofs.Common.{arith}
 use Rattle.std.specs.Prelude.{None, Some}
-use Rattle.flow_copy.proofs.Writes.{writing_none, writing_then}
+use Rattle.copy_turns.proofs.Writes.{writing_none, writing_then}
 use Rattle.flow_copy.proofs.writer.write_on.Goals as goal
 
 pub loop-init : goal.loop-init

@@ -1,5 +1,5 @@
 use Rattle.std.specs.Prelude.{None}
-use Rattle.flow_copy.specs.Turns.{Writing}
+use Rattle.copy_turns.specs.Turns.{Writing}
 use Rattle.flow_copy.proofs.writer.write_on.Given as goal
 
 abbrev pub invariant-loop : goal.invariant-loop

@@ -1,7 +1,7 @@
 use Rattle.wait_rule.specs.Pipes.{read_end}
-use Rattle.flow_copy.specs.declared.TheConstants.{SINK_PIPE}
-use Rattle.flow_copy.proofs.Ends.{Closes, Opens, closes, fails, idler_works, opens}
-use Rattle.flow_copy.proofs.WriteEnds.{writer_did, writer_fails}
+use Rattle.copy_plan.specs.declared.TheConstants.{SINK_PIPE}
+use Rattle.copy_ends.proofs.Ends.{Closes, Opens, closes, fails, idler_works, opens}
+use Rattle.copy_ends.proofs.WriteEnds.{writer_did, writer_fails}
 use Rattle.flow_copy.proofs.writer.write_through.Goals as goal
 
 pub returns-then-not-open_read : goal.returns-then-not-open_read

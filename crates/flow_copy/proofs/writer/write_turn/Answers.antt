@@ -2,11 +2,11 @@ use Rattle.std.proofs.Common.{refl, sym, ap, subst, arith}
 use Rattle.std.specs.Prelude.{ℕ, ◌≡◌, ◌+◌, ◌%◌, ◌^◌, Some, [], length, take}
 use Rattle.std.proofs.lemmas.List.{length-take-le}
 use Rattle.edge_io.specs.Faults.{FaultIsFailed, FaultIsWant, HasCounted}
-use Rattle.flow_copy.specs.declared.stop.Stop.{Stop}
-use Rattle.flow_copy.specs.declared.stop.Stop.TheVariants as stop
-use Rattle.flow_copy.specs.Turns.{CountedAll, Writing}
-use Rattle.flow_copy.proofs.Shown.{is_piece}
-use Rattle.flow_copy.proofs.Writes.{
+use Rattle.copy_plan.specs.declared.stop.Stop.{Stop}
+use Rattle.copy_plan.specs.declared.stop.Stop.TheVariants as stop
+use Rattle.copy_turns.specs.Turns.{CountedAll, Writing}
+use Rattle.copy_turns.proofs.Shown.{is_piece}
+use Rattle.copy_turns.proofs.Writes.{
   counted_risen,
   write_ended,
   write_fault,

@@ -1,5 +1,5 @@
-use Rattle.flow_copy.proofs.Ends.{completes}
-use Rattle.flow_copy.proofs.WriteEnds.{writer_completes}
+use Rattle.copy_ends.proofs.Ends.{completes}
+use Rattle.copy_ends.proofs.WriteEnds.{writer_completes}
 use Rattle.flow_copy.proofs.writer.writer_task.Goals as goal
 
 pub returns : goal.returns

@@ -1,4 +1,4 @@
-use Rattle.waitq_run.proofs.Passed.{passed}
+use Rattle.waitq_copy.proofs.Passed.{passed}
 use Rattle.waitq_run.proofs.copy.copy_through.Goals as goal
 
 pub returns-clause-through : goal.returns-clause-through

@@ -1,5 +1,5 @@
 use Rattle.std.specs.Prelude.{Err}
-use Rattle.waitq_run.proofs.Refusals.{left_by_want, not_killed, of_copies, refusal_answers, refusal_fits, spared}
+use Rattle.waitq_copy.proofs.Refusals.{left_by_want, not_killed, of_copies, refusal_answers, refusal_fits, spared}
 use Rattle.waitq_run.proofs.run.run.Goals as goal
 
 pub returns-in-Err-clause-statuses : goal.returns-in-Err-clause-statuses

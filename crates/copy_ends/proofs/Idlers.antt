@@ -1,0 +1,185 @@
+-- A task that is done with its work and one that begins it, and the controller, whose whole work is parts about no
+-- pipe.
+use Rattle.std.proofs.Common.{refl, sym, ◌∙◌, subst, arith}
+use Rattle.std.proofs.lemmas.Bool.{eqb-false, eqb-true}
+use Rattle.std.specs.Prelude.{ℕ, ◌≡◌, ◌-◌, ◌&&◌, eqb, not, Bool, true, false, Result, Ok, Err}
+use Rattle.atomic_table.specs.Seated.{TableId}
+use Rattle.bit_wait.specs.declared.wait_calls.BitEnd.{BitEnd}
+use Rattle.bit_wait.specs.declared.wait_calls.BitEnd.TheVariants as bit_end
+use Rattle.wait_model.specs.declared.layout.TheConstants.{TASKS}
+use Rattle.wait_rule.specs.declared.journal.Journal.{Journal}
+use Rattle.wait_rule.specs.Aside.{Grows}
+use Rattle.wait_rule.specs.Journals.{fresh}
+use Rattle.wait_rule.specs.Known.{Known}
+use Rattle.wait_rule.specs.Says.{
+  Duty,
+  IsClean,
+  Owes,
+  end_unclosed,
+  excuses,
+  has_duty,
+  newcomer,
+  no_excuse,
+  page_asked,
+  seen_with,
+  wake_of,
+}
+use Rattle.wait_rule.specs.Queues.{IsIdle, index}
+use Rattle.wait_rule.specs.Tallies.{amounts_of}
+use Rattle.wait_rule.proofs.KnownLaws.CalledPermits.{newcomers_leave_none}
+use Rattle.copy_plan.specs.declared.TheConstants.{COUNTED_PAGE, ENDED_CELL}
+use Rattle.copy_ends.specs.Copied.{ControlEnds, Controlled, ReadTally, joined_four}
+use Rattle.copy_ends.specs.Did.{IsIdler}
+use Rattle.copy_turns.specs.Turns.{CountedAll}
+use Rattle.copy_turns.specs.Work.{Apart, Counted, IsAtWork, SumsStay, but_ends}
+use Rattle.copy_turns.proofs.PartLaws.{grows_then}
+
+and_false : (b : Bool) → (b && false) ≡ false
+and_false true = refl
+and_false false = refl
+
+-- who owes nothing owes nothing but to close its ends
+pub but_ends_more : (k : Known) → Owes no_excuse k → Owes but_ends k
+but_ends_more k o = record {
+  unmarked = o.unmarked;
+  debts = record { none = by; off = o.debts.off; shows = o.debts.shows };
+  unqueued = o.unqueued;
+  holds = o.holds;
+  tries = o.tries;
+  tries_none = o.tries_none;
+}
+  where
+    by : (d : Duty) → (has_duty k d && not (excuses but_ends d)) ≡ false
+    by (wake_of c σ) = o.debts.none (wake_of c σ)
+    by page_asked = o.debts.none page_asked
+    by (end_unclosed e) = and_false (has_duty k (end_unclosed e))
+
+pub is_idle : (k : Known) → IsClean k → IsIdle k
+is_idle k clean = record { running = clean.running; free = clean.free; unmarked = clean.settled.unmarked }
+
+pub at_work : (k : Known) → IsIdler k → IsAtWork k
+at_work k i = record {
+  up = i.clean.up;
+  idle = is_idle k i.clean;
+  out = i.clean.settled.unqueued (index k.view.number 0);
+  owes = but_ends_more k i.clean.settled;
+  off = i.off;
+}
+
+-- who owed nothing owes nothing after such parts
+pub idler_after : (old new : Known) → IsIdler old → Apart old new → IsIdler new
+idler_after old new i a = record {
+  clean = record {
+    up = a.works.work.up;
+    running = a.works.work.idle.running;
+    free = a.works.work.idle.free;
+    settled = a.works.owes no_excuse i.clean.settled;
+  };
+  off = a.works.work.off;
+}
+
+pub controlled : (old new : Known) → IsIdler old → Apart old new → Controlled old new
+controlled old new i a = record {
+  served = record { idler = idler_after old new i a; domain = a.works.domain; grows = a.works.grows };
+  ends = a.ends;
+  sums = a.sums;
+  signals = a.signals;
+}
+
+pub controlled_same : (k : Known) → IsIdler k → Grows k k → Controlled k k
+controlled_same k i g = record {
+  served = record { idler = i; domain = refl; grows = g };
+  ends = λ j. refl;
+  sums = λ p. refl;
+  signals = refl;
+}
+
+pub controlled_then : (a b c : Known) → Controlled a b → Controlled b c → Controlled a c
+controlled_then a b c one two = record {
+  served = record {
+    idler = two.served.idler;
+    domain = two.served.domain ∙ one.served.domain;
+    grows = grows_then a b c one.served.grows two.served.grows;
+  };
+  ends = λ j. two.ends j ∙ one.ends j;
+  sums = λ p. two.sums p ∙ one.sums p;
+  signals = two.signals ∙ one.signals;
+}
+
+-- an add of nothing
+sums_of_none : (a b : Known) → Counted 0 a b → SumsStay a b
+sums_of_none a b n p = by (eqb COUNTED_PAGE p) refl
+  where
+    by : (t : Bool) → eqb COUNTED_PAGE p ≡ t → amounts_of p b.view.items ≡ amounts_of p a.view.items
+    by true e = subst (λ (q : ℕ). amounts_of q b.view.items ≡ amounts_of q a.view.items) (eqb-true COUNTED_PAGE p e)
+        (let own = n.own in omega arith)
+    by false e = n.others p (λ f. eqb-false COUNTED_PAGE p e (sym f))
+
+pub counted_apart : (a b : Known) → CountedAll 0 a b → Apart a b
+counted_apart a b n = record {
+  works = n.works;
+  ends = n.ends;
+  sums = sums_of_none a b n.counted;
+  signals = n.signals;
+}
+
+read_later : (a b c : Known) (total : ℕ) → Grows a b → ReadTally b c total → ReadTally a c total
+read_later a b c total one two = record {
+  mid = two.mid;
+  before = grows_then a b two.mid one two.before;
+  finds = two.finds;
+  later = two.later;
+}
+
+pub ends_later : (a b c : Known) (total : Result ℕ BitEnd) → Grows a b → ControlEnds b c total → ControlEnds a c total
+ends_later a b c (Ok total) one two = read_later a b c total one two
+ends_later a b c (Err (bit_end.Worn h p)) one two = two
+ends_later a b c (Err (bit_end.Interrupted seen)) one two = two
+
+-- a task that has made no step
+pub newcomer_idles : (domain : TableId) (number next spare : ℕ) → IsIdler (newcomer domain number next spare)
+newcomer_idles domain number next spare = record {
+  clean = record {
+    up = refl;
+    running = refl;
+    free = record { head = refl; ticket = refl };
+    settled = record {
+      unmarked = refl;
+      debts = record { none = by; off = λ none d o. refl; shows = λ none d o. refl };
+      unqueued = λ i. refl;
+      holds = λ c. refl;
+      tries = λ c. refl;
+      tries_none = λ x c. refl;
+    };
+  };
+  off = newcomers_leave_none domain number next spare ENDED_CELL;
+}
+  where
+    by : (d : Duty) → (has_duty (newcomer domain number next spare) d && not (excuses no_excuse d)) ≡ false
+    by (wake_of c σ) = refl
+    by page_asked = refl
+    by (end_unclosed e) = refl
+
+-- and one that has made none but has joined others
+pub joined_clean : (domain : TableId) (a b c d : Journal)
+    → IsClean (seen_with (newcomer domain 0 5 (TASKS - 5)) (joined_four (fresh 0 5 (TASKS - 5)) a b c d))
+joined_clean domain a b c d = record {
+  up = refl;
+  running = refl;
+  free = record { head = refl; ticket = refl };
+  settled = record {
+    unmarked = refl;
+    debts = record { none = by; off = λ none d o. refl; shows = λ none d o. refl };
+    unqueued = λ i. refl;
+    holds = λ w. refl;
+    tries = λ w. refl;
+    tries_none = λ x w. refl;
+  };
+}
+  where
+    by : (u : Duty) → (has_duty (seen_with (newcomer domain 0 5 (TASKS - 5)) (joined_four (fresh 0 5
+        (TASKS - 5)) a b c d)) u
+        && not (excuses no_excuse u)) ≡ false
+    by (wake_of w σ) = refl
+    by page_asked = refl
+    by (end_unclosed e) = refl

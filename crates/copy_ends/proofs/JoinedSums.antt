@@ -1,0 +1,116 @@
+-- The tally of the page of a copy, over the lists that were joined and what its task adds to its own.
+use Rattle.std.proofs.Common.{refl, sym, ap, ◌∙◌, subst, arith, append_assoc, append-nil}
+use Rattle.std.specs.Prelude.{ℕ, ◌≡◌, ◌+◌, ◌-◌, ◌%◌, ◌^◌, ◌<◌, List, ◌++◌}
+use Rattle.wait_model.specs.declared.layout.TheConstants.{TASKS}
+use Rattle.wait_rule.specs.declared.journal.Item.{Item}
+use Rattle.wait_rule.specs.declared.journal.Journal.{Journal}
+use Rattle.wait_rule.specs.Aside.{GrowsAside}
+use Rattle.wait_rule.specs.Journals.{fresh, has_of, joined_with, pushed}
+use Rattle.wait_rule.specs.Known.{Known}
+use Rattle.wait_rule.specs.TableLaws.{HasAll}
+use Rattle.wait_rule.specs.Tallies.{amounts_of}
+use Rattle.wait_rule.specs.TallyLaws.{tally_in}
+use Rattle.wait_rule.proofs.KnownLaws.CountedTallies.{adds_count, joins_count, newcomers_count_none, pushed_same}
+use Rattle.wait_rule.proofs.KnownLaws.FoundTallies.{all_sum_tallies}
+use Rattle.wait_rule.proofs.KnownLaws.TallySteps.{amounts_append}
+use Rattle.copy_plan.specs.declared.TheConstants.{COUNTED_PAGE}
+use Rattle.copy_ends.specs.Copied.{ReadTally}
+use Rattle.copy_ends.proofs.JoinedFour.{four, four_has_all}
+
+-- the four lists' sums
+one_counts : (number next spare p : ℕ) (xs : List Item) → number < TASKS
+    → tally_in p (pushed (fresh number next spare) xs) ≡ amounts_of p xs
+one_counts number next spare p xs few =
+    let adds = adds_count (fresh number next spare) p xs refl few in
+    let none = newcomers_count_none number next spare p in
+    omega (arith, adds, none)
+
+pub four_counts : (p : ℕ) (a b c d : List Item)
+    → tally_in p (four a b c d) ≡ amounts_of p a + amounts_of p b + amounts_of p c + amounts_of p d
+four_counts p a b c d =
+    let j0 : Journal = fresh 0 5 (TASKS - 5) in
+    let one : Journal = pushed (fresh 1 2 0) a in
+    let two : Journal = pushed (fresh 2 3 0) b in
+    let three : Journal = pushed (fresh 3 4 0) c in
+    let last : Journal = pushed (fresh 4 5 0) d in
+    let j1 : Journal = joined_with j0 one in
+    let j2 : Journal = joined_with j1 two in
+    let j3 : Journal = joined_with j2 three in
+    let n0 = newcomers_count_none 0 5 (TASKS - 5) p in
+    let e1 = joins_count j0 one p refl in
+    let e2 = joins_count j1 two p refl in
+    let e3 = joins_count j2 three p refl in
+    let e4 = joins_count j3 last p refl in
+    let n1 = one_counts 1 2 0 p a (omega arith) in
+    let n2 = one_counts 2 3 0 p b (omega arith) in
+    let n3 = one_counts 3 4 0 p c (omega arith) in
+    let n4 = one_counts 4 5 0 p d (omega arith) in
+    omega (arith, n0, e1, e2, e3, e4, n1, n2, n3, n4)
+
+-- what was pushed later
+abbrev pub Later : Journal → Known → Type 0
+Later v k = (xs : List Item) × (k.view ≡ pushed v xs)
+
+pushed_on : (v : Journal) (xs ys : List Item) → pushed (pushed v xs) ys ≡ pushed v (xs ++ ys)
+pushed_on v xs ys = ap (λ (zs : List Item). record {
+  lives = v.lives;
+  number = v.number;
+  next = v.next;
+  spare = v.spare;
+  items = zs;
+  joined = v.joined;
+}) (append_assoc v.items xs ys)
+
+added_none : (p : ℕ) (v : Journal) (xs : List Item) → amounts_of p (pushed v xs).items ≡ amounts_of p v.items
+    → amounts_of p xs ≡ 0
+added_none p v xs same = omega (arith, amounts_append p v.items xs, same)
+
+-- a number that is found after the joins is the sum of all that the lists have in the end
+pub found_tally : (a b c d : List Item) (old new : Known) (w : ℕ) → old.view ≡ four a b c d
+    → ReadTally old new w → GrowsAside old new → w ≡ tally_in COUNTED_PAGE new.view % 2 ^ 64
+found_tally a b c d old new w is r g =
+    let v : Journal = four a b c d in
+    let xs : List Item = r.before.items in
+    let ys : List Item = r.later.items in
+    let mid : r.mid.view ≡ pushed v xs = r.before.view ∙ ap (λ (j : Journal). pushed j xs) is in
+    let last : new.view ≡ pushed (pushed v xs) ys = r.later.view ∙ ap (λ (j : Journal). pushed j ys) mid in
+    let all : HasAll r.mid.view = subst HasAll (sym mid) (four_has_all a b c d) in
+    let found = all_sum_tallies r.mid.view COUNTED_PAGE w r.finds all in
+    let same : amounts_of COUNTED_PAGE (pushed v (xs ++ ys)).items ≡ amounts_of COUNTED_PAGE v.items =
+    ap (λ (j : Journal). amounts_of COUNTED_PAGE j.items) (sym (last ∙ pushed_on v xs ys))
+    ∙ (g.sums COUNTED_PAGE ∙ ap (λ (j : Journal). amounts_of COUNTED_PAGE j.items) is) in
+    let none = added_none COUNTED_PAGE v (xs ++ ys) same in
+    let zero : amounts_of COUNTED_PAGE ys ≡ 0 = omega (arith, amounts_append COUNTED_PAGE xs ys, none) in
+    found ∙ ap (λ (n : ℕ). n % 2 ^ 64) (ap (tally_in COUNTED_PAGE) mid
+    ∙ (sym (pushed_same (pushed v xs) COUNTED_PAGE ys zero) ∙ ap (tally_in COUNTED_PAGE) (sym last)))
+
+-- and that is what the four counted
+pub last_tally : (p : ℕ) (a b c d : List Item) (old new : Known) → old.view ≡ four a b c d → GrowsAside old new
+    → tally_in p new.view ≡ amounts_of p a + amounts_of p b + amounts_of p c + amounts_of p d
+last_tally p a b c d old new is g =
+    let v : Journal = four a b c d in
+    let xs : List Item = g.grows.items in
+    let last : new.view ≡ pushed v xs = g.grows.view ∙ ap (λ (j : Journal). pushed j xs) is in
+    let same : amounts_of p (pushed v xs).items ≡ amounts_of p v.items =
+    ap (λ (j : Journal). amounts_of p j.items) (sym last) ∙ (g.sums p
+    ∙ ap (λ (j : Journal). amounts_of p j.items) is) in
+    ap (tally_in p) last ∙ (pushed_same v p xs (added_none p v xs same) ∙ four_counts p a b c d)
+
+-- the lists stay where they are
+pub record HasLists (v : Journal) (a b c d : List Item) : Type 0 where
+  pub one : has_of 1 v ≡ a
+  pub two : has_of 2 v ≡ b
+  pub three : has_of 3 v ≡ c
+  pub four : has_of 4 v ≡ d
+
+pub last_lists : (a b c d : List Item) (old new : Known) → old.view ≡ four a b c d → GrowsAside old new
+    → HasLists new.view a b c d
+last_lists a b c d old new is g =
+    let last : new.view ≡ pushed (four a b c d) g.grows.items =
+    g.grows.view ∙ ap (λ (j : Journal). pushed j g.grows.items) is in
+    subst (λ (j : Journal). HasLists j a b c d) (sym last) (record {
+      one = append-nil a;
+      two = append-nil b;
+      three = append-nil c;
+      four = append-nil d;
+    })

@@ -1,0 +1,12 @@
+pub mod Copied
+pub mod Ends
+pub mod Idlers
+pub mod JoinedFour
+pub mod JoinedSums
+pub mod RaisedNone
+pub mod ReaderEnds
+pub mod RelayEnds
+pub mod Rows
+pub mod Unbegun
+pub mod Whole
+pub mod WriteEnds

@@ -1,0 +1,214 @@
+-- What a copy ensures, from what stands when its task has joined the four and read the tally.
+use Rattle.std.proofs.Common.{sym, ap, ◌∙◌, subst}
+use Rattle.std.specs.Prelude.{ℕ, ◌≡◌, ◌-◌, ◌%◌, ◌^◌, List, [], ◌∷◌, Option, Result}
+use Rattle.atomic_table.specs.Seated.{TableId}
+use Rattle.bit_wait.specs.declared.wait_calls.BitEnd.{BitEnd}
+use Rattle.wait_model.specs.declared.layout.TheConstants.{TASKS}
+use Rattle.wait_rule.specs.declared.journal.Journal.{Journal}
+use Rattle.wait_rule.specs.Aside.{GrowsAside}
+use Rattle.wait_rule.specs.Journals.{fresh, pushed}
+use Rattle.wait_rule.specs.Known.{Known}
+use Rattle.wait_rule.specs.Says.{IsShown, newcomer, seen_with}
+use Rattle.wait_rule.specs.TallyLaws.{tally_in}
+use Rattle.func_head.specs.Walks.{EntryState}
+use Rattle.copy_plan.specs.declared.TheConstants.{COUNTED_PAGE}
+use Rattle.copy_plan.specs.declared.plan.Planned.{Planned}
+use Rattle.copy_plan.specs.declared.stop.ReaderEnd.{ReaderEnd}
+use Rattle.copy_plan.specs.declared.stop.Stop.{Stop}
+use Rattle.copy_plan.specs.declared.stop.Stop.TheVariants as stop
+use Rattle.copy_plan.specs.declared.stop.WorkerEnd.{WorkerEnd}
+use Rattle.copy_ends.specs.Copied.{ControlEnds, Controlled, Copied, HoldsAll, HoldsGiven, NoneTaken, ReadTally, Watched, control_stop, joined_four}
+use Rattle.copy_plan.specs.Kinds.{copy_stop}
+use Rattle.copy_ends.specs.Did.{ReaderDid, RelayDid, WriterDid}
+use Rattle.copy_ends.proofs.Copied as copied
+use Rattle.copy_ends.proofs.JoinedFour.{four, grown_view}
+use Rattle.copy_ends.proofs.JoinedSums.{found_tally, last_lists, last_tally}
+use Rattle.copy_plan.proofs.StopKinds.{finished_names_none}
+
+-- the four tasks did their work, their lists were joined, and the tally was read
+pub record Ended (domain : TableId) (one two three fourth old new : Known) (left_old left_new : Option (List ℕ))
+    (reads_old reads_new : ℕ) (held_old held_new : Option (List ℕ)) (writes_old writes_new wants_old wants_new : ℕ)
+    (seen_old seen_new : List EntryState) (plan : List Planned) (reader : ReaderEnd) (relay writer : WorkerEnd)
+    (answer : Result ℕ BitEnd) (tally : ℕ) : Type 0 where
+  pub reads : ReaderDid (newcomer domain 1 2 0) one left_old left_new reads_old reads_new plan reader
+  pub relays : RelayDid (newcomer domain 2 3 0) two relay
+  pub writes : WriterDid (newcomer domain 3 4 0) three held_old held_new writes_old writes_new wants_old wants_new
+      seen_old seen_new writer
+  pub controls : Controlled (newcomer domain 4 5 0) fourth
+  pub ends : ControlEnds (newcomer domain 4 5 0) fourth answer
+  pub joined : old.view ≡ joined_four (fresh 0 5 (TASKS - 5)) one.view two.view three.view fourth.view
+  pub shown : IsShown old.view
+  pub found : ReadTally old new tally
+  pub aside : GrowsAside old new
+
+-- so it is where tasks of these numbers were forked, and their lists joined by the task that forked them
+pub ended_of : (domain : TableId) (t1 t2 t3 t4 one two three fourth start old new : Known)
+    (left_old left_new : Option (List ℕ)) (reads_old reads_new : ℕ) (held_old held_new : Option (List ℕ))
+    (writes_old writes_new wants_old wants_new : ℕ) (seen_old seen_new : List EntryState) (plan : List Planned)
+    (reader : ReaderEnd) (relay writer : WorkerEnd) (answer : Result ℕ BitEnd) (tally : ℕ) → t1 ≡ newcomer domain 1 2 0
+    → t2 ≡ newcomer domain 2 3 0 → t3 ≡ newcomer domain 3 4 0 → t4 ≡ newcomer domain 4 5 0
+    → start ≡ newcomer domain 0 5 (TASKS - 5)
+    → ReaderDid t1 one left_old left_new reads_old reads_new plan reader → RelayDid t2 two relay
+    → WriterDid t3 three held_old held_new writes_old writes_new wants_old wants_new seen_old seen_new writer
+    → Controlled t4 fourth
+    → ControlEnds t4 fourth answer
+    → old ≡ seen_with start (joined_four start.view one.view two.view three.view fourth.view) → IsShown old.view
+    → ReadTally old new tally → GrowsAside old new
+    → Ended domain one two three fourth old new left_old left_new reads_old reads_new held_old held_new writes_old
+    writes_new wants_old wants_new seen_old seen_new plan reader relay writer answer tally
+ended_of domain t1 t2 t3 t4 one two three fourth start old new left_old left_new reads_old reads_new held_old held_new
+    writes_old writes_new wants_old wants_new seen_old seen_new plan reader relay writer answer tally e1 e2 e3 e4
+    begins reads relays writes controls ends joined shown found aside = record {
+      reads = subst (λ (k : Known). ReaderDid k one left_old left_new reads_old reads_new plan reader) e1 reads;
+      relays = subst (λ (k : Known). RelayDid k two relay) e2 relays;
+      writes = subst
+          (λ (k : Known). WriterDid k three held_old held_new writes_old writes_new wants_old wants_new seen_old
+          seen_new writer) e3 writes;
+      controls = subst (λ (k : Known). Controlled k fourth) e4 controls;
+      ends = subst (λ (k : Known). ControlEnds k fourth answer) e4 ends;
+      joined = ap (λ (k : Known). k.view) joined
+          ∙ ap (λ (k : Known). joined_four k.view one.view two.view three.view fourth.view) begins;
+      shown = shown;
+      found = found;
+      aside = aside;
+    }
+
+-- the journal that joined them, by their lists
+four_same : (v a b c d x y z u : Journal) → a ≡ x → b ≡ y → c ≡ z → d ≡ u
+    → joined_four v a b c d ≡ joined_four v x y z u
+four_same v a b c d x y z u one two three last =
+    ap (λ (j : Journal). joined_four v j b c d) one ∙ (ap (λ (j : Journal). joined_four v x j c d) two
+    ∙ (ap (λ (j : Journal). joined_four v x y j d) three ∙ ap (λ (j : Journal). joined_four v x y z j) last))
+
+module _ (domain : TableId) (one two three fourth old new : Known) (left_old left_new : Option (List ℕ))
+    (reads_old reads_new : ℕ) (held_old held_new : Option (List ℕ)) (writes_old writes_new wants_old wants_new : ℕ)
+    (seen_old seen_new : List EntryState) (plan : List Planned) (reader : ReaderEnd) (relay writer : WorkerEnd)
+    (answer : Result ℕ BitEnd) (tally : ℕ) (e : Ended domain one two three fourth old new left_old left_new reads_old
+    reads_new held_old held_new writes_old writes_new wants_old wants_new seen_old seen_new plan reader relay writer
+    answer tally) where
+  joined_is : old.view ≡ four one.view.items two.view.items three.view.items fourth.view.items
+  joined_is = e.joined ∙ four_same (fresh 0 5 (TASKS - 5)) one.view two.view three.view fourth.view
+      (pushed (fresh 1 2 0) one.view.items) (pushed (fresh 2 3 0) two.view.items)
+      (pushed (fresh 3 4 0) three.view.items) (pushed (fresh 4 5 0) fourth.view.items)
+      (grown_view domain 1 2 0 one e.reads.worked.served.grows)
+      (grown_view domain 2 3 0 two e.relays.worked.served.grows)
+      (grown_view domain 3 4 0 three e.writes.worked.served.grows)
+      (grown_view domain 4 5 0 fourth e.controls.served.grows)
+
+  shown_four : IsShown (four one.view.items two.view.items three.view.items fourth.view.items)
+  shown_four = subst IsShown joined_is e.shown
+
+  pub is_copied : (how : Stop)
+      → how ≡ copy_stop (reader.stop ∷ relay.stop ∷ writer.stop ∷ control_stop answer ∷ []) reader.kills
+      → Copied domain new left_old left_new reads_old reads_new held_old held_new writes_old writes_new wants_old
+      wants_new seen_old seen_new plan reader relay writer how
+  is_copied how stops =
+      let lists = last_lists one.view.items two.view.items three.view.items fourth.view.items old new joined_is
+      e.aside in
+      record {
+        one = one;
+        two = two;
+        three = three;
+        four = fourth;
+        reads = e.reads;
+        relays = e.relays;
+        writes = e.writes;
+        controls = e.controls;
+        lists = (lists.one, lists.two, lists.three, lists.four);
+        total = answer;
+        ends = e.ends;
+        stops = stops;
+      }
+
+  pub takes_none : NoneTaken reader relay writer
+  takes_none = copied.none_taken domain one two three fourth left_old left_new reads_old reads_new held_old held_new
+      writes_old writes_new wants_old wants_new seen_old seen_new plan reader relay writer e.reads.worked
+      e.relays.worked e.writes.worked e.controls shown_four
+
+  pub holds_front : HoldsGiven left_old left_new held_old held_new
+  holds_front = copied.holds_given domain one two three fourth left_old left_new reads_old reads_new held_old held_new
+      writes_old writes_new wants_old wants_new seen_old seen_new plan reader relay writer e.reads.worked
+      e.relays.worked e.writes.worked e.controls shown_four
+
+  pub holds_watched : Watched left_old left_new held_old held_new seen_old seen_new writer.stop
+  holds_watched = copied.holds_watched domain one two three fourth left_old left_new reads_old reads_new held_old
+      held_new writes_old writes_new wants_old wants_new seen_old seen_new plan reader relay writer e.reads.worked
+      e.relays.worked e.writes.worked e.controls shown_four
+
+  pub counts_moved : tally ≡ tally_in COUNTED_PAGE new.view % 2 ^ 64
+  counts_moved = found_tally one.view.items two.view.items three.view.items fourth.view.items old new tally joined_is
+      e.found e.aside
+
+  pub holds_whole : (how : Stop)
+      → how ≡ copy_stop (reader.stop ∷ relay.stop ∷ writer.stop ∷ control_stop answer ∷ []) reader.kills
+      → how ≡ stop.Finished → HoldsAll left_old held_old held_new seen_old seen_new reader relay writer tally
+  holds_whole how stops done =
+      let names = finished_names_none reader.stop relay.stop writer.stop (control_stop answer) reader.kills
+      (sym stops ∙ done) in
+      let counted = copied.counted_all domain one two three fourth left_old left_new reads_old reads_new held_old
+      held_new writes_old writes_new wants_old wants_new seen_old seen_new plan reader relay writer e.reads.worked
+      e.relays.worked e.writes.worked e.controls shown_four names.kills names.one names.two names.three in
+      let sums = last_tally COUNTED_PAGE one.view.items two.view.items three.view.items fourth.view.items old new
+      joined_is e.aside in
+      record {
+        all = copied.all_finished domain one two three fourth left_old left_new reads_old reads_new held_old held_new
+            writes_old writes_new wants_old wants_new seen_old seen_new plan reader relay writer e.reads.worked
+            e.relays.worked e.writes.worked e.controls shown_four names.kills names.one names.two names.three;
+        bytes = copied.holds_all domain one two three fourth left_old left_new reads_old reads_new held_old held_new
+            writes_old writes_new wants_old wants_new seen_old seen_new plan reader relay writer e.reads.worked
+            e.relays.worked e.writes.worked e.controls shown_four names.kills names.one names.two names.three;
+        shows = copied.shows_all domain one two three fourth left_old left_new reads_old reads_new held_old held_new
+            writes_old writes_new wants_old wants_new seen_old seen_new plan reader relay writer e.reads.worked
+            e.relays.worked e.writes.worked e.controls shown_four names.kills names.one names.two names.three;
+        moved = counts_moved ∙ ap (λ (n : ℕ). n % 2 ^ 64) (sums ∙ counted);
+      }
+
+-- all that a copy ensures of its end
+pub record Ensured (domain : TableId) (new : Known) (left_old left_new : Option (List ℕ)) (reads_old reads_new : ℕ)
+    (held_old held_new : Option (List ℕ)) (writes_old writes_new wants_old wants_new : ℕ)
+    (seen_old seen_new : List EntryState) (plan : List Planned) (reader : ReaderEnd) (relay writer : WorkerEnd)
+    (tally : ℕ) (how : Stop) : Type 0 where
+  pub copied : Copied domain new left_old left_new reads_old reads_new held_old held_new writes_old writes_new wants_old
+      wants_new seen_old seen_new plan reader relay writer how
+  pub front : HoldsGiven left_old left_new held_old held_new
+  pub watched : Watched left_old left_new held_old held_new seen_old seen_new writer.stop
+  pub whole : how ≡ stop.Finished → HoldsAll left_old held_old held_new seen_old seen_new reader relay writer tally
+  pub moved : tally ≡ tally_in COUNTED_PAGE new.view % 2 ^ 64
+  pub none_taken : NoneTaken reader relay writer
+
+pub ensured : (domain : TableId) (t1 t2 t3 t4 one two three fourth start old new : Known)
+    (left_old left_new : Option (List ℕ)) (reads_old reads_new : ℕ) (held_old held_new : Option (List ℕ))
+    (writes_old writes_new wants_old wants_new : ℕ) (seen_old seen_new : List EntryState) (plan : List Planned)
+    (reader : ReaderEnd) (relay writer : WorkerEnd) (answer : Result ℕ BitEnd) (tally : ℕ) (how : Stop)
+    → t1 ≡ newcomer domain 1 2 0
+    → t2 ≡ newcomer domain 2 3 0 → t3 ≡ newcomer domain 3 4 0 → t4 ≡ newcomer domain 4 5 0
+    → start ≡ newcomer domain 0 5 (TASKS - 5)
+    → ReaderDid t1 one left_old left_new reads_old reads_new plan reader → RelayDid t2 two relay
+    → WriterDid t3 three held_old held_new writes_old writes_new wants_old wants_new seen_old seen_new writer
+    → Controlled t4 fourth
+    → ControlEnds t4 fourth answer
+    → old ≡ seen_with start (joined_four start.view one.view two.view three.view fourth.view) → IsShown old.view
+    → ReadTally old new tally → GrowsAside old new
+    → how ≡ copy_stop (reader.stop ∷ relay.stop ∷ writer.stop ∷ control_stop answer ∷ []) reader.kills
+    → Ensured domain new left_old left_new reads_old reads_new held_old held_new writes_old writes_new wants_old
+    wants_new seen_old seen_new plan reader relay writer tally how
+ensured domain t1 t2 t3 t4 one two three fourth start old new left_old left_new reads_old reads_new held_old held_new
+    writes_old writes_new wants_old wants_new seen_old seen_new plan reader relay writer answer tally how e1 e2 e3 e4
+    begins reads relays writes controls ends joined shown found aside stops =
+    let e = ended_of domain t1 t2 t3 t4 one two three fourth start old new left_old left_new reads_old reads_new
+    held_old held_new writes_old writes_new wants_old wants_new seen_old seen_new plan reader relay writer answer tally
+    e1 e2 e3 e4 begins reads relays writes controls ends joined shown found aside in
+    record {
+      copied = is_copied domain one two three fourth old new left_old left_new reads_old reads_new held_old held_new
+          writes_old writes_new wants_old wants_new seen_old seen_new plan reader relay writer answer tally e how stops;
+      front = holds_front domain one two three fourth old new left_old left_new reads_old reads_new held_old held_new
+          writes_old writes_new wants_old wants_new seen_old seen_new plan reader relay writer answer tally e;
+      watched = holds_watched domain one two three fourth old new left_old left_new reads_old reads_new held_old
+          held_new writes_old writes_new wants_old wants_new seen_old seen_new plan reader relay writer answer tally e;
+      whole = holds_whole domain one two three fourth old new left_old left_new reads_old reads_new held_old held_new
+          writes_old writes_new wants_old wants_new seen_old seen_new plan reader relay writer answer tally e how stops;
+      moved = counts_moved domain one two three fourth old new left_old left_new reads_old reads_new held_old held_new
+          writes_old writes_new wants_old wants_new seen_old seen_new plan reader relay writer answer tally e;
+      none_taken = takes_none domain one two three fourth old new left_old left_new reads_old reads_new held_old
+          held_new writes_old writes_new wants_old wants_new seen_old seen_new plan reader relay writer answer tally e;
+    }

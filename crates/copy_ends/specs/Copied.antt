@@ -1,0 +1,124 @@
+-- To be believed.
+-- What a whole copy did.
+use Rattle.std.specs.Prelude.{ℕ, ◌≡◌, ◌*◌, ◌%◌, ◌^◌, ◌++◌}
+use Rattle.std.specs.Prelude.{Option, Some, Result, Ok, Err, List, [], ◌∷◌, IfSome}
+use Rattle.std.specs.Io.KnownBytes.{append_known, prepend_known}
+use Rattle.atomic_table.specs.Seated.{TableId}
+use Rattle.bit_wait.specs.declared.wait_calls.BitEnd.{BitEnd}
+use Rattle.bit_wait.specs.declared.wait_calls.BitEnd.TheVariants as bit_end
+use Rattle.wait_rule.specs.Aside.{Grows}
+use Rattle.wait_rule.specs.Ends.{WasWorn}
+use Rattle.wait_rule.specs.declared.journal.Journal.{Journal}
+use Rattle.wait_rule.specs.Journals.{has_of, joined_with}
+use Rattle.wait_rule.specs.Known.{Known}
+use Rattle.wait_rule.specs.PipeSays.{EndsStay}
+use Rattle.wait_rule.specs.Says.{FindsTally, newcomer}
+use Rattle.edge_io.specs.Text.{HoldsPrefix}
+use Rattle.func_head.specs.Walks.{EntryState}
+use Rattle.copy_plan.specs.declared.TheConstants.{COUNTED_PAGE}
+use Rattle.copy_plan.specs.declared.plan.Planned.{Planned}
+use Rattle.copy_plan.specs.declared.stop.ReaderEnd.{ReaderEnd}
+use Rattle.copy_plan.specs.declared.stop.Stop.{Stop}
+use Rattle.copy_plan.specs.declared.stop.Stop.TheVariants as stop
+use Rattle.copy_plan.specs.declared.stop.WorkerEnd.{WorkerEnd}
+use Rattle.copy_plan.specs.Kinds.{copy_stop}
+use Rattle.copy_ends.specs.Did.{ReaderDid, RelayDid, Served, WriterDid}
+use Rattle.copy_turns.specs.Watched.{Shows}
+use Rattle.copy_turns.specs.Work.{SignalsStay, SumsStay}
+
+-- A controller waited, and read the tally of the page: it owes nothing, as before, touched no pipe, added nothing and
+-- raised no signal.
+pub record Controlled (old new : Known) : Type 0 where
+  pub served : Served old new
+  pub ends : EndsStay old new
+  pub sums : SumsStay old new
+  pub signals : SignalsStay old new
+
+-- the tally that it answers is one that it found
+pub record ReadTally (old new : Known) (total : ℕ) : Type 0 where
+  pub mid : Known
+  pub before : Grows old mid
+  pub finds : FindsTally mid.view COUNTED_PAGE total
+  pub later : Grows mid new
+
+-- it found no place in a hold; no signal ends a wait of it
+abbrev pub IsControlEnd : Known → BitEnd → Type 0
+IsControlEnd new (bit_end.Worn h p) = WasWorn new.view.number new.view.items h p
+IsControlEnd new (bit_end.Interrupted seen) = ⊥
+
+abbrev pub ControlEnds : Known → Known → Result ℕ BitEnd → Type 0
+ControlEnds old new (Ok total) = ReadTally old new total
+ControlEnds old new (Err e) = IsControlEnd new e
+
+-- the stop of a controller, as that of a worker
+abbrev pub control_stop : Result ℕ BitEnd → Stop
+control_stop (Err (bit_end.Worn h p)) = stop.Worn h p
+control_stop _ = stop.Finished
+
+-- the journal of a task that joined four others
+abbrev pub joined_four : Journal → Journal → Journal → Journal → Journal → Journal
+joined_four v a b c d = joined_with (joined_with (joined_with (joined_with v a) b) c) d
+
+-- The four tasks of a copy did their work, and their lists stand in the journal of the task that joined them.
+pub record Copied (domain : TableId) (new : Known) (left_old left_new : Option (List ℕ)) (reads_old reads_new : ℕ)
+    (held_old held_new : Option (List ℕ)) (writes_old writes_new wants_old wants_new : ℕ)
+    (seen_old seen_new : List EntryState) (plan : List Planned) (reader : ReaderEnd) (relay writer : WorkerEnd)
+    (how : Stop) : Type 0 where
+  pub one : Known
+  pub two : Known
+  pub three : Known
+  pub four : Known
+  pub reads : ReaderDid (newcomer domain 1 2 0) one left_old left_new reads_old reads_new plan reader
+  pub relays : RelayDid (newcomer domain 2 3 0) two relay
+  pub writes : WriterDid (newcomer domain 3 4 0) three held_old held_new writes_old writes_new wants_old wants_new
+      seen_old seen_new writer
+  pub controls : Controlled (newcomer domain 4 5 0) four
+  pub lists : (has_of 1 new.view ≡ one.view.items) × (has_of 2 new.view ≡ two.view.items)
+      × (has_of 3 new.view ≡ three.view.items) × (has_of 4 new.view ≡ four.view.items)
+  pub total : Result ℕ BitEnd
+  pub ends : ControlEnds (newcomer domain 4 5 0) four total
+  pub stops : how ≡ copy_stop (reader.stop ∷ relay.stop ∷ writer.stop ∷ control_stop total ∷ []) reader.kills
+
+-- The sink holds a front of what the source gave.
+pub record HoldsGiven (left_old left_new held_old held_new : Option (List ℕ)) : Type 0 where
+  pub given : List ℕ
+  pub left : left_old ≡ prepend_known given left_new
+  pub held : HoldsPrefix held_old held_new given
+
+-- The watchers were shown, piece by piece, what went into the sink, a front of what the source gave.
+pub record Watched (left_old left_new held_old held_new : Option (List ℕ)) (seen_old seen_new : List EntryState)
+    (how : Stop) : Type 0 where
+  pub given : List ℕ
+  pub front : List ℕ
+  pub rest : List ℕ
+  pub left : left_old ≡ prepend_known given left_new
+  pub parts : given ≡ front ++ rest
+  pub held : held_new ≡ append_known held_old front
+  pub shows : Shows seen_old seen_new front (Some how)
+
+-- All workers finished.
+pub record AllFinished (reader : ReaderEnd) (relay writer : WorkerEnd) : Type 0 where
+  pub reads : reader.stop ≡ stop.Finished
+  pub relays : relay.stop ≡ stop.Finished
+  pub writes : writer.stop ≡ stop.Finished
+
+-- Where the copy finished, so did all workers; the source was read to its end, the sink holds all its bytes, and the
+-- watchers were shown them all; and each byte was counted three times.
+pub record HoldsAll (left_old held_old held_new : Option (List ℕ)) (seen_old seen_new : List EntryState)
+    (reader : ReaderEnd) (relay writer : WorkerEnd) (tally : ℕ) : Type 0 where
+  pub all : AllFinished reader relay writer
+  pub bytes : IfSome left_old (λ bytes. held_new ≡ append_known held_old bytes)
+  pub shows : IfSome left_old (λ bytes. Shows seen_old seen_new bytes (Some stop.Finished))
+  pub moved : tally ≡ 3 * reader.read % 2 ^ 64
+
+abbrev pub IsNotTaken : Stop → Type 0
+IsNotTaken stop.Taken = ⊥
+IsNotTaken _ = Unit {0}
+
+abbrev pub NoneTaken : ReaderEnd → WorkerEnd → WorkerEnd → Type 0
+NoneTaken reader relay writer = IsNotTaken reader.stop × IsNotTaken relay.stop × IsNotTaken writer.stop
+
+-- A task of this Domain, of which neither the own list nor one that it joined has a step.
+pub record HasNoSteps (table : TableId) (k : Known) : Type 0 where
+  pub domain : k.domain ≡ table
+  pub lists : (number : ℕ) → has_of number k.view ≡ []

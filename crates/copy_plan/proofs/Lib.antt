@@ -1,0 +1,3 @@
+pub mod DueParts
+pub mod Dues
+pub mod StopKinds

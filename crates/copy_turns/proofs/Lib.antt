@@ -1,0 +1,10 @@
+pub mod Frames
+pub mod PartLaws
+pub mod Pieces
+pub mod ReaderTurns
+pub mod Relays
+pub mod Sends
+pub mod Shown
+pub mod Stopping
+pub mod Sums
+pub mod Writes

@@ -1,0 +1,4 @@
+pub mod Raises
+pub mod Turns
+pub mod Watched
+pub mod Work

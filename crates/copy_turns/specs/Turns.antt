@@ -1,0 +1,181 @@
+-- To be believed.
+-- What the turns of workers do, one after another: up to a turn after which the worker goes on, or to its stop.
+use Rattle.std.specs.Prelude.{ℕ, ◌≡◌, ◌≢◌, ◌+◌, ◌%◌, ◌^◌, ◌/◌, ◌<◌, ◌≤◌, ◌++◌, List, [], length}
+use Rattle.std.specs.Prelude.{true, Option, None, Some, IfSome}
+use Rattle.std.specs.Io.KnownBytes.{append_known, prepend_known}
+use Rattle.wait_model.specs.declared.layout.TheConstants.{PIPE_ENDS}
+use Rattle.wait_rule.specs.Aside.{Raised, signals_of}
+use Rattle.wait_rule.specs.Ends.{WasWorn}
+use Rattle.wait_rule.specs.Known.{Known}
+use Rattle.wait_rule.specs.Pipes.{moved_bytes, read_end, write_end}
+use Rattle.wait_rule.specs.PipeSays.{EndsStay, end_at, reading, writing}
+use Rattle.edge_io.specs.Faults.{HasCounted, HasRisen}
+use Rattle.func_head.specs.Walks.{EntryState}
+use Rattle.wait_pipe.specs.Pieces.{IsAtEnd, IsSettled, Moved}
+use Rattle.copy_plan.specs.declared.TheConstants.{LONGEST, SINK_PIPE, SOURCE_PIPE}
+use Rattle.copy_plan.specs.declared.plan.Planned.{Planned}
+use Rattle.copy_plan.specs.declared.stop.Halt.{Halt}
+use Rattle.copy_plan.specs.declared.stop.Stop.{Stop}
+use Rattle.copy_plan.specs.declared.stop.Stop.TheVariants as stop
+use Rattle.copy_plan.specs.Plans.{due_in, fatal_of}
+use Rattle.copy_turns.specs.Raises.{kills_in}
+use Rattle.copy_plan.specs.Stops.{IfFinished}
+use Rattle.copy_turns.specs.Watched.{Shows}
+use Rattle.copy_turns.specs.Work.{Counted, IsHalt, SignalsStay, SumsStay, TookKill, Works}
+
+-- All of a piece was put into the pipe of end k and counted; or a front of it was put, and nothing counted.
+pub record HandedAll (k : ℕ) (old new : Known) (bytes : List ℕ) : Type 0 where
+  pub works : Works old new
+  pub moved : Moved k old new bytes
+  pub counted : Counted (length bytes) old new
+  pub signals : SignalsStay old new
+
+pub record HandedFront (k : ℕ) (old new : Known) (bytes : List ℕ) (halt : Halt) : Type 0 where
+  pub works : Works old new
+  pub front : List ℕ
+  pub rest : List ℕ
+  pub parts : bytes ≡ front ++ rest
+  pub moved : Moved k old new front
+  pub sums : SumsStay old new
+  pub signals : SignalsStay old new
+  pub cause : IsHalt k old new halt
+
+-- Bytes came out of the pipe of end k, or went into it, and none was counted; where it was halted none came out.
+pub record Got (k : ℕ) (old new : Known) (bytes : List ℕ) : Type 0 where
+  pub works : Works old new
+  pub moved : Moved k old new bytes
+  pub sums : SumsStay old new
+  pub signals : SignalsStay old new
+
+-- The bytes were counted, and no pipe touched; or nothing was done.
+pub record CountedAll (n : ℕ) (old new : Known) : Type 0 where
+  pub works : Works old new
+  pub ends : EndsStay old new
+  pub counted : Counted n old new
+  pub signals : SignalsStay old new
+
+-- where the worker goes on, or all that there was is passed on
+abbrev pub IfWhole : Option Stop → Type 0 → Type 0
+IfWhole None X = X
+IfWhole (Some how) X = IfFinished how X
+
+-- where it has stopped
+abbrev pub IfStopped : Option Stop → (Stop → Type 0) → Type 0
+IfStopped None f = Unit {0}
+IfStopped (Some how) f = f how
+
+abbrev pub IfEnded : Option Stop → Type 0 → Type 0
+IfEnded how X = IfStopped how (λ s. IfFinished s X)
+
+-- The source has given at most `LONGEST` bytes, or the stop says that it gave more.
+abbrev pub IsLong : Option Stop → ℕ → Type 0
+IsLong (Some stop.Long) n = LONGEST < n
+IsLong _ n = n ≤ LONGEST
+
+-- Why a reader stops before the end of its source.
+abbrev pub IsReaderStop : Known → Known → Type 0 → Stop → Type 0
+IsReaderStop old new risen stop.Finished = Unit {0}
+IsReaderStop old new risen stop.Broken = (writing SOURCE_PIPE new).ended ≡ true
+IsReaderStop old new risen stop.Killed = TookKill old new
+IsReaderStop old new risen stop.ReadFault = risen
+IsReaderStop old new risen stop.Long = Unit {0}
+IsReaderStop old new risen (stop.Worn h p) = WasWorn new.view.number new.view.items h p
+IsReaderStop old new risen _ = ⊥
+
+-- signals that were raised, as many as are due, and as many fatal ones
+pub record RaisedFor (old new : Known) (due : List Planned) : Type 0 where
+  pub raised : List Raised
+  pub all : signals_of new.view.items ≡ signals_of old.view.items ++ raised
+  pub sent : length raised ≡ length due
+  pub kills : length (kills_in raised) ≡ length (fatal_of due)
+
+-- Turns of a reader. The source gave some bytes, of which a front went into the pipe, and n were counted; the signals
+-- that became due were sent.
+pub record Reading (old new : Known) (left_old left_new : Option (List ℕ)) (faults_old faults_new : ℕ)
+    (read_old read_new : ℕ) (plan : List Planned) (how : Option Stop) : Type 0 where
+  pub works : Works old new
+  pub given : List ℕ
+  pub front : List ℕ
+  pub rest : List ℕ
+  pub left : left_old ≡ prepend_known given left_new
+  pub read : read_new ≡ read_old + length given
+  pub parts : given ≡ front ++ rest
+  pub moved : Moved (write_end SOURCE_PIPE) old new front
+  pub all : IfWhole how (rest ≡ [])
+  pub whole : IfEnded how (IfSome left_new (λ bytes. bytes ≡ []))
+  pub n : ℕ
+  pub counted : Counted n old new
+  pub counts : IfWhole how (n ≡ length given)
+  pub signals : RaisedFor old new (due_in (read_old + 1) read_new plan)
+  pub long : IsLong how read_new
+  pub later : faults_old ≤ faults_new
+  pub cause : IfStopped how (IsReaderStop old new (HasRisen faults_old faults_new))
+
+-- Why a relay stops before the end of the first pipe.
+abbrev pub IsRelayStop : Known → Known → Stop → Type 0
+IsRelayStop old new stop.Finished = IsAtEnd (reading SOURCE_PIPE new)
+IsRelayStop old new stop.Broken = (writing SINK_PIPE new).ended ≡ true
+IsRelayStop old new stop.Killed = TookKill old new
+IsRelayStop old new (stop.Worn h p) = WasWorn new.view.number new.view.items h p
+IsRelayStop old new _ = ⊥
+
+-- Turns of a relay. It got some bytes from the first pipe, of which a front went into the second, and n were counted.
+pub record Relaying (old new : Known) (moved_old moved_new : ℕ) (how : Option Stop) : Type 0 where
+  pub works : Works old new
+  pub got : List ℕ
+  pub front : List ℕ
+  pub rest : List ℕ
+  pub taken : moved_bytes (reading SOURCE_PIPE new) ≡ moved_bytes (reading SOURCE_PIPE old) ++ got
+  pub sent : moved_bytes (writing SINK_PIPE new) ≡ moved_bytes (writing SINK_PIPE old) ++ front
+  pub parts : got ≡ front ++ rest
+  pub tap : IsSettled (reading SOURCE_PIPE new)
+  pub pen : IsSettled (writing SINK_PIPE new)
+  pub others : (j : ℕ) → j / PIPE_ENDS ≢ SOURCE_PIPE → j / PIPE_ENDS ≢ SINK_PIPE → end_at j new ≡ end_at j old
+  pub all : IfWhole how (rest ≡ [])
+  pub n : ℕ
+  pub counted : Counted n old new
+  pub counts : IfWhole how (n ≡ length got)
+  pub sum : moved_new ≡ (moved_old + n) % 2 ^ 64
+  pub signals : SignalsStay old new
+  pub cause : IfStopped how (IsRelayStop old new)
+
+-- Why a writer stops before the end of the second pipe. The sink's counts of faults and of wants have risen in the
+-- call.
+abbrev pub IsWriterStop : Known → Known → Type 0 → Type 0 → Stop → Type 0
+IsWriterStop old new failed wanted stop.Finished = IsAtEnd (reading SINK_PIPE new)
+IsWriterStop old new failed wanted stop.Killed = TookKill old new
+IsWriterStop old new failed wanted stop.WriteFault = failed
+IsWriterStop old new failed wanted stop.Memory = wanted
+IsWriterStop old new failed wanted (stop.Worn h p) = WasWorn new.view.number new.view.items h p
+IsWriterStop old new failed wanted _ = ⊥
+
+-- The sink's counts of faults and of wants are as they were, but for the one of the fault that stopped the writer.
+abbrev pub SinkRises : ℕ → ℕ → ℕ → ℕ → Option Stop → Type 0
+SinkRises faults_old faults_new wants_old wants_new (Some stop.WriteFault) = HasCounted faults_old faults_new
+    × (wants_new ≡ wants_old)
+SinkRises faults_old faults_new wants_old wants_new (Some stop.Memory) = (faults_new ≡ faults_old)
+    × HasCounted wants_old wants_new
+SinkRises faults_old faults_new wants_old wants_new _ = (faults_new ≡ faults_old) × (wants_new ≡ wants_old)
+
+-- Turns of a writer. It got some bytes from the second pipe, of which a front went into the sink and was shown, and n
+-- were counted.
+pub record Writing (old new : Known) (held_old held_new : Option (List ℕ)) (faults_old faults_new : ℕ)
+    (wants_old wants_new : ℕ) (seen_old seen_new : List EntryState) (moved_old moved_new : ℕ) (how : Option Stop)
+    : Type 0 where
+  pub works : Works old new
+  pub got : List ℕ
+  pub front : List ℕ
+  pub rest : List ℕ
+  pub taken : Moved (read_end SINK_PIPE) old new got
+  pub held : held_new ≡ append_known held_old front
+  pub shows : Shows seen_old seen_new front how
+  pub parts : got ≡ front ++ rest
+  pub all : IfWhole how (rest ≡ [])
+  pub n : ℕ
+  pub counted : Counted n old new
+  pub counts : IfWhole how (n ≡ length got)
+  pub sum : moved_new ≡ (moved_old + n) % 2 ^ 64
+  pub signals : SignalsStay old new
+  pub later : faults_old ≤ faults_new
+  pub rises : SinkRises faults_old faults_new wants_old wants_new how
+  pub cause : IfStopped how (IsWriterStop old new (HasRisen faults_old faults_new) (HasRisen wants_old wants_new))

@@ -1,7 +1,0 @@
-use Rattle.std.proofs.Common.{◌≡◌, drop}
-use Rattle.flow_copy.specs.Copied.{first_or}
-use Rattle.flow_copy.proofs.copy.first_or.Given as goal
-
-abbrev pub invariant-loop-stop : goal.invariant-loop-stop
-invariant-loop-stop l =
-    first_or l.kind l.fn.stops l.other ≡ first_or l.kind (drop l.stop-index l.fn.stops) l.other

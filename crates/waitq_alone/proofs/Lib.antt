@@ -1,0 +1,5 @@
+pub mod Outcomes
+pub mod PlainWords
+pub mod Playing
+pub mod ReadWords
+pub mod Reading

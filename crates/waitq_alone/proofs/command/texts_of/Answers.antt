@@ -1,0 +1,9 @@
+use Rattle.std.proofs.Common.{◌∙◌}
+use Rattle.clap.specs.Words.{found_of}
+use Rattle.clap.proofs.WalkLemmas.{raw_values-rows}
+use Rattle.waitq_alone.specs.Parsed.{found_texts}
+use Rattle.waitq_alone.proofs.command.texts_of.Goals as goal
+
+pub returns : goal.returns
+unfolding found_texts
+returns c = c.get_strs.ensures ∙ raw_values-rows (found_of c.args.given.now) c.args.id.now

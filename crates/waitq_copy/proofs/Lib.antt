@@ -1,0 +1,10 @@
+pub mod Asked
+pub mod CopyCauses
+pub mod Delivered
+pub mod Fronts
+pub mod Passed
+pub mod Refusals
+pub mod Sent
+pub mod StopCauses
+pub mod Telling
+pub mod Unbegun

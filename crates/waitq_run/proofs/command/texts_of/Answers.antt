@@ -1,9 +1,0 @@
-use Rattle.std.proofs.Common.{◌∙◌}
-use Rattle.clap.specs.Words.{found_of}
-use Rattle.clap.proofs.WalkLemmas.{raw_values-rows}
-use Rattle.waitq_run.specs.Parsed.{found_texts}
-use Rattle.waitq_run.proofs.command.texts_of.Goals as goal
-
-pub returns : goal.returns
-unfolding found_texts
-returns c = c.get_strs.ensures ∙ raw_values-rows (found_of c.args.given.now) c.args.id.now

@@ -1,31 +1,7 @@
 -- A wait takes one of its count, and before it the own entry off where it is queued.
-use Rattle.std.proofs.Common.{◌∙◌, ap, sym, refl, subst, arith, inl, inr}
+use Rattle.std.proofs.Common.{◌∙◌, ap, sym, refl, subst, arith, inl}
 use Rattle.std.proofs.lemmas.Bool.Decides.{nat_tests}
-use Rattle.std.specs.Prelude.{
-  ℕ,
-  ◌≡◌,
-  ◌≢◌,
-  ◌<◌,
-  ◌≤◌,
-  ◌⊎◌,
-  ◌+◌,
-  ◌-◌,
-  ◌==◌,
-  ◌||◌,
-  not,
-  if◌then◌else◌,
-  Bool,
-  true,
-  false,
-  is_some,
-  Option,
-  Some,
-  None,
-  [],
-  ◌∷◌,
-  ◌++◌,
-  MatchBool,
-}
+use Rattle.std.specs.Prelude.{ℕ, ◌≡◌, ◌≢◌, ◌<◌, ◌≤◌, ◌+◌, ◌-◌, ◌==◌, ◌||◌, not, if◌then◌else◌, Bool, true, false, is_some, Option, Some, None, [], ◌∷◌, ◌++◌, MatchBool}
 use Rattle.wait_model.specs.declared.layout.TheConstants.{ALL_DONE, COMPLETIONS}
 use Rattle.wait_model.specs.declared.calls.Event.TheVariants as event
 use Rattle.wait_model.specs.declared.points.AwaitPoint.TheVariants as awaiting
@@ -37,7 +13,7 @@ use Rattle.wait_model.specs.declared.steps.Step.TheVariants as step
 use Rattle.wait_model.specs.declared.watches.Entry.{Entry}
 use Rattle.wait_model.specs.declared.watches.Watch.TheVariants as watch
 use Rattle.wait_model.specs.Counts.{taken_done}
-use Rattle.wait_model.specs.Permits.{after_store, done_head}
+use Rattle.wait_model.specs.Permits.{after_store}
 use Rattle.wait_model.specs.PointFacts.{IsHome, absent, waits}
 use Rattle.wait_model.specs.Points.{call_head}
 use Rattle.wait_model.specs.Programs.{done_in, ends_with, go, is_at_end, store, zero_answer}

@@ -1,23 +1,21 @@
 -- The own entry of a wait is queued at the tail of its completion's head, or no place is left for it.
 use Rattle.std.proofs.Common.{◌∙◌, ap, sym, refl, subst, inr}
-use Rattle.std.specs.Prelude.{ℕ, ◌≡◌, false, Option, Some, None, Result, Ok, Err, IfOk, IfErr, [], ◌∷◌, ◌++◌}
+use Rattle.std.specs.Prelude.{ℕ, ◌≡◌, false, Option, Some, None, Result, Ok, Err, IfOk, IfErr}
 use Rattle.wait_model.specs.declared.queues.Form.TheVariants as forms
-use Rattle.wait_model.specs.declared.steps.Step.{Step}
 use Rattle.wait_model.specs.declared.steps.Step.TheVariants as step
 use Rattle.wait_model.specs.declared.watches.Entry.{Entry}
 use Rattle.wait_model.specs.declared.watches.Kind.TheVariants as kind
-use Rattle.wait_model.specs.declared.watches.Watch.TheVariants as watch
 use Rattle.wait_rule.specs.declared.journal.Item.TheVariants as item
 use Rattle.wait_rule.specs.Ends.{WasWorn}
 use Rattle.wait_rule.specs.HandedPermits.{FoundNoPermit}
 use Rattle.wait_rule.specs.HeldValues.{count_in}
 use Rattle.wait_rule.specs.Known.{Known}
 use Rattle.wait_rule.specs.Queues.{index, saw}
-use Rattle.wait_rule.specs.Says.{added, history_of, told_of}
+use Rattle.wait_rule.specs.Says.{added, history_of}
 use Rattle.wait_rule.specs.Stays.{Carries, queue_cell_change, with_entry, with_left_entry}
 use Rattle.wait_rule.proofs.KnownLaws.HandedPermits.{cell_is}
 use Rattle.wait_rule.proofs.KnownLaws.TaskHistories.{history_after}
-use Rattle.wq_head.specs.Adds.{HasAddedForCell, IsForTail, IsTailWorn, tail_entry}
+use Rattle.wq_head.specs.Adds.{HasAddedForCell, IsTailWorn, tail_entry}
 use Rattle.wq_head.specs.Holds.{IsHolding}
 use Rattle.wq_head.specs.declared.adds.Worn.{Worn}
 use Rattle.wait_class.specs.Laws.{AddsOwn, HasJoined, IsWornFor, MayAdd}
@@ -25,7 +23,7 @@ use Rattle.wait_class.specs.Posts.{HasSeenOwn}
 use Rattle.wait_class.specs.Queueing.{untold}
 use Rattle.wait_class.proofs.FormPlaces.{form_is, form_left, form_worn}
 use Rattle.wait_class.proofs.Ground.Keeping.{keeps_of, once}
-use Rattle.completion_cell.specs.Awaits.{CellKeeps, await_head, await_table, await_watch}
+use Rattle.completion_cell.specs.Awaits.{CellKeeps, await_table, await_watch}
 use Rattle.completion_cell.specs.declared.awaits.AwaitCall.{AwaitCall}
 use Rattle.completion_cell.specs.declared.awaits.AwaitStage.TheVariants as stage
 use Rattle.completion_cell.proofs.Ground.{count_after_step}
@@ -57,9 +55,6 @@ module _ (r : AwaitCall) (old new : Known) (m : MayAdd await_table r stage.Queue
     subst (λ (d : ℕ). count_in d (history_of old) ≡ Some 0) (sym (cell_is old.at r.cell (sym m.head)))
         (saw_count r.cell m.trail.0 old None m.trail.1 ∙ m.trail.2.counts.0),
   )
-
-  pub add_suits : IsForTail (await_watch r) kind.Simple
-  add_suits = inr (refl, inr (r.cell, refl, m.fits))
 
   joins : HasAddedForCell old new 0 (tail_entry false (await_watch r) kind.Simple)
       → HasJoined await_table r stage.Queue old new false

@@ -18,7 +18,7 @@ use Rattle.wait_rule.specs.declared.journal.Item.TheVariants as item
 use Rattle.wait_rule.specs.Counts.{FindsCount}
 use Rattle.wait_rule.specs.HeldValues.{count_in}
 use Rattle.wait_rule.specs.Known.{Known}
-use Rattle.wait_rule.specs.Says.{IsUp, added, history_of, told_of}
+use Rattle.wait_rule.specs.Says.{IsUp, added, history_of}
 use Rattle.wait_rule.specs.Queues.{IsAgreedHold}
 use Rattle.wait_rule.specs.Stays.{Carries, unchanged, with_entry, with_left_entry}
 use Rattle.wait_rule.specs.Transitions.{OnlyLooks, Transition, by_step}

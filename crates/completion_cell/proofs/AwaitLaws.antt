@@ -1,39 +1,22 @@
 -- The table of a wait for a completion keeps its laws.
-use Rattle.std.proofs.Common.{◌∙◌, ap, sym, refl, subst, inl, inr, arith}
-use Rattle.std.specs.Prelude.{ℕ, ◌≡◌, ◌<◌, ◌≤◌, ◌||◌, Bool, true, false, if◌then◌else◌, is_some, Option, Some, None, List, [], ◌∷◌, ◌++◌}
-use Rattle.wait_model.specs.declared.layout.TheConstants.{COMPLETIONS, HEADS}
+use Rattle.std.proofs.Common.{◌∙◌, ap, sym, refl, inl, inr, arith}
+use Rattle.std.specs.Prelude.{◌≡◌, ◌≤◌, ◌||◌, Bool, true, false, if◌then◌else◌, None, [], ◌∷◌}
 use Rattle.wait_model.specs.declared.points.AwaitPoint.TheVariants as awaiting
 use Rattle.wait_model.specs.declared.points.Next.TheVariants as next
 use Rattle.wait_model.specs.declared.points.Point.TheVariants as at
 use Rattle.wait_model.specs.declared.points.PreparePoint.TheVariants as preparing
 use Rattle.wait_model.specs.declared.steps.Step.TheVariants as step
-use Rattle.wait_model.specs.declared.watches.Entry.{Entry}
 use Rattle.wait_model.specs.declared.watches.Watch.TheVariants as watch
-use Rattle.wait_model.specs.Permits.{done_head}
 use Rattle.wait_model.specs.Runs.{own}
 use Rattle.wait_model.specs.Tasks.{state_mask}
-use Rattle.wait_rule.specs.HeldValues.{count_in, value_from}
 use Rattle.wait_rule.specs.Known.{Known}
 use Rattle.wait_rule.specs.Queues.{index, walk_of_hold}
 use Rattle.wait_rule.specs.Says.{history_of}
 use Rattle.wait_rule.specs.Stays.{with_left_entry}
-use Rattle.wait_rule.specs.Transitions.{OnlyLooks, StepOrLook, Transition, by_step}
+use Rattle.wait_rule.specs.Transitions.{OnlyLooks, StepOrLook, Transition}
 use Rattle.wait_rule.proofs.KnownLaws.Transitions.{only_looked}
-use Rattle.wait_class.specs.Posts.{EndsWith, own_of}
-use Rattle.wait_class.specs.Laws.{
-  DrawLaw,
-  HasJoined,
-  IsLawfulTable,
-  LawOf,
-  LockLaw,
-  LookLaw,
-  QueueLaw,
-  SleepLaw,
-  StateLaw,
-  UnlockLaw,
-  is_quiet,
-}
-use Rattle.wait_class.specs.Laws.{Calm}
+use Rattle.wait_class.specs.Posts.{own_of}
+use Rattle.wait_class.specs.Laws.{DrawLaw, HasJoined, IsLawfulTable, LawOf, LockLaw, LookLaw, QueueLaw, SleepLaw, StateLaw, UnlockLaw}
 use Rattle.wait_class.specs.declared.stages.Turn.TheVariants as turn
 use Rattle.wait_class.proofs.Histories.{ends_calm, stored_history, unmoved_by}
 use Rattle.wait_class.proofs.Stays.{stays_but}
@@ -41,15 +24,7 @@ use Rattle.wait_class.proofs.Turns.{may_by}
 use Rattle.wait_class.proofs.Ways.{look_by, sleep_by, way}
 use Rattle.wait_event.specs.Waits.{is_queue, queues}
 use Rattle.wait_event.proofs.Tellings.{or_none, queues_append, quiet_queues}
-use Rattle.completion_cell.specs.Awaits.{
-  FoundNoPlace,
-  HasGivenBack,
-  AwaitTells,
-  await_head,
-  await_table,
-  await_depth,
-  await_doing,
-}
+use Rattle.completion_cell.specs.Awaits.{AwaitTells, await_head, await_table, await_depth, await_doing}
 use Rattle.completion_cell.specs.HeldPermits.{Knows}
 use Rattle.completion_cell.specs.declared.awaits.AwaitCall.{AwaitCall}
 use Rattle.completion_cell.specs.declared.awaits.AwaitStage.{AwaitStage}
@@ -61,7 +36,7 @@ use Rattle.completion_cell.proofs.AwaitTrails.{
   knows_look,
   knows_looks,
   knows_none,
-   knows_state,
+  knows_state,
   knows_stayed,
   leaves_calm,
   still_by,

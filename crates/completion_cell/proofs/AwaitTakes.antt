@@ -1,5 +1,5 @@
 -- A wait takes one of its count, and before it the own entry off where it is queued.
-use Rattle.std.proofs.Common.{◌∙◌, ap, sym, refl, subst, arith, inl, inr}
+use Rattle.std.proofs.Common.{◌∙◌, ap, sym, refl, subst, arith, inl}
 use Rattle.std.proofs.lemmas.Bool.Decides.{nat_tests}
 use Rattle.std.specs.Prelude.{
   ℕ,
@@ -38,7 +38,7 @@ use Rattle.wait_model.specs.declared.watches.Entry.{Entry}
 use Rattle.wait_model.specs.declared.watches.Watch.{Watch}
 use Rattle.wait_model.specs.declared.watches.Watch.TheVariants as watch
 use Rattle.wait_model.specs.Counts.{taken_done}
-use Rattle.wait_model.specs.Permits.{after_store, done_head}
+use Rattle.wait_model.specs.Permits.{after_store}
 use Rattle.wait_model.specs.PointFacts.{IsHome, absent, waits}
 use Rattle.wait_model.specs.Points.{call_head}
 use Rattle.wait_model.specs.Programs.{done_in, ends_with, go, is_at_end, store, zero_answer}

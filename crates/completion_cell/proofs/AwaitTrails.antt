@@ -1,13 +1,12 @@
 -- What the stages of a wait for a completion say of its last steps, and of permits: over one event and the next.
-use Rattle.std.proofs.Common.{◌∙◌, ap, sym, refl, subst, arith, append_assoc, append-nil, eq-eqb}
-use Rattle.std.specs.Prelude.{ℕ, ◌≡◌, ◌≤◌, ◌==◌, if◌then◌else◌, Bool, true, false, is_some, Option, Some, None, List, [], ◌∷◌, ◌++◌}
+use Rattle.std.proofs.Common.{◌∙◌, ap, sym, refl, subst, arith, append-nil, eq-eqb}
+use Rattle.std.specs.Prelude.{ℕ, ◌≡◌, ◌≤◌, if◌then◌else◌, Bool, true, false, is_some, Option, Some, None, List, [], ◌∷◌, ◌++◌}
 use Rattle.wait_model.specs.declared.steps.Step.{Step}
 use Rattle.wait_model.specs.declared.steps.Step.TheVariants as step
 use Rattle.wait_model.specs.declared.watches.Aim.{Aim}
 use Rattle.wait_model.specs.declared.watches.Watch.TheVariants as watch
 use Rattle.wait_model.specs.Permits.{after_read, dealt, done_head}
 use Rattle.wait_model.specs.Runs.{own}
-use Rattle.wait_model.specs.Tasks.{pending, state_mask, task_of}
 use Rattle.wait_model.specs.Words.{entry_of}
 use Rattle.wait_model.proofs.PermitLaws.CountDebts.{read_debt, read_end}
 use Rattle.wait_rule.specs.HandedPermits.{OwesNoPermit}
@@ -31,16 +30,7 @@ use Rattle.completion_cell.specs.Awaits.{
   WasSignalled,
   await_head,
 }
-use Rattle.completion_cell.specs.HeldPermits.{
-  Deals,
-  HasBegun,
-  HasLoaded,
-  Held,
-  IsSettled,
-  Knows,
-  Waits,
-  WaitsIn,
-}
+use Rattle.completion_cell.specs.HeldPermits.{Deals, HasBegun, HasLoaded, Held, IsSettled, Knows, Waits}
 use Rattle.completion_cell.specs.declared.awaits.AwaitCall.{AwaitCall}
 use Rattle.completion_cell.specs.declared.awaits.AwaitStage.{AwaitStage}
 use Rattle.completion_cell.specs.declared.awaits.AwaitStage.TheVariants as stage

@@ -1,10 +1,10 @@
 -- What the steps of a wait's hold leave of permits, one after another.
-use Rattle.std.proofs.Common.{refl, sym, ◌∙◌, ap, subst, append_assoc, append-nil, eq-eqb}
+use Rattle.std.proofs.Common.{refl, ◌∙◌, ap, eq-eqb}
 use Rattle.std.specs.Prelude.{ℕ, ◌≡◌, ◌==◌, if◌then◌else◌, Bool, true, false, Option, Some, List, [], ◌∷◌, ◌++◌}
 use Rattle.wait_model.specs.declared.steps.Step.{Step}
 use Rattle.wait_model.specs.declared.steps.Step.TheVariants as step
 use Rattle.wait_model.specs.declared.watches.Watch.TheVariants as watch
-use Rattle.wait_model.specs.Permits.{after_store, done_head}
+use Rattle.wait_model.specs.Permits.{after_store}
 use Rattle.wait_model.specs.Runs.{is_publishing, own, set_step}
 use Rattle.wait_rule.specs.declared.journal.Item.{Item}
 use Rattle.wait_rule.specs.declared.journal.Item.TheVariants as item
@@ -13,34 +13,7 @@ use Rattle.wait_rule.specs.Known.{Known}
 use Rattle.wait_rule.specs.Says.{history_of}
 use Rattle.wait_rule.specs.Transitions.{AreLooks, OnlyLooks}
 use Rattle.wait_rule.proofs.TableSteps.ItemLists.{steps_append}
-use Rattle.completion_cell.specs.HeldPermits.{Deals, Held, counted, still_owed}
-
-deals_join : (d x : ℕ) (es fs : List Step) (o p q : Option ℕ) (n m k : ℕ) → Deals d x es o n p m
-    → Deals d x fs p m q k → Deals d x (es ++ fs) o n q k
-deals_join d x [] fs o p q n m k one two = subst (λ (c : Option ℕ). Deals d x fs c n q k) (sym one.0)
-    (subst (λ (i : ℕ). Deals d x fs p i q k) (sym one.1) two)
-deals_join d x (e ∷ es) fs o p q n m k one two = (
-  one.0,
-  deals_join d x es fs (counted d e o) p q (still_owed d e n) m k one.1 two,
-)
-
-module _ (d : ℕ) (old mid new : Known) (o p : Option ℕ) (n m : ℕ) (one : Held d old mid o n p m) where
-  pub held_join : (q : Option ℕ) (k : ℕ) → Held d mid new p m q k → Held d old new o n q k
-  held_join q k two = record {
-    made = one.made ++ two.made;
-    is = two.is ∙ (ap (λ (l : List Step). l ++ two.made) one.is ∙ append_assoc (history_of old) one.made two.made);
-    deals = deals_join d (own old.view.number) one.made two.made o p q n m k one.deals
-        (subst (λ (i : ℕ). Deals d (own i) two.made p m q k) one.number two.deals);
-    number = two.number ∙ one.number;
-  }
-
-pub held_none : (d : ℕ) (old new : Known) (o : Option ℕ) (n : ℕ) → new ≡ old → Held d old new o n o n
-held_none d old new o n is = record {
-  made = [];
-  is = ap history_of is ∙ sym (append-nil (history_of old));
-  deals = (refl, refl);
-  number = ap (λ (k : Known). k.view.number) is;
-}
+use Rattle.completion_cell.specs.HeldPermits.{Deals, Held}
 
 -- by the steps that the history has more
 pub held_by : (d : ℕ) (old new : Known) (es : List Step) (o p : Option ℕ) (n m : ℕ)

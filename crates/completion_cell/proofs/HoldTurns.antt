@@ -1,5 +1,5 @@
 -- How a hold of a wait begins, and what it leaves queued.
-use Rattle.std.proofs.Common.{refl, sym, ◌∙◌, ap, subst, arith, append_assoc, append-nil, eq-eqb}
+use Rattle.std.proofs.Common.{refl, sym, ◌∙◌, ap, subst, arith, eq-eqb}
 use Rattle.std.specs.Prelude.{
   ℕ,
   ◌≡◌,
@@ -23,8 +23,7 @@ use Rattle.wait_model.specs.declared.steps.Step.{Step}
 use Rattle.wait_model.specs.declared.steps.Step.TheVariants as step
 use Rattle.wait_model.specs.declared.watches.Aim.{Aim}
 use Rattle.wait_model.specs.declared.watches.Entry.{Entry}
-use Rattle.wait_model.specs.declared.watches.Watch.TheVariants as watch
-use Rattle.wait_model.specs.Fold.{after, view_of}
+use Rattle.wait_model.specs.Fold.{view_of}
 use Rattle.wait_model.specs.Permits.{Dealt, dealt, deals, done_head, finds_handed, none_dealt, shows_at}
 use Rattle.wait_model.specs.Runs.{own}
 use Rattle.wait_model.specs.Tables.{Table}
@@ -40,18 +39,9 @@ use Rattle.wait_model.proofs.StepLaws.UnlockSteps.{unlock_bits}
 use Rattle.wait_model.proofs.WordLaws.DecodedWords.{owner_own}
 use Rattle.wait_rule.specs.LeftEntries.{Order}
 use Rattle.wait_rule.specs.Interleavings.{table_of}
-use Rattle.wait_rule.proofs.KnownLaws.HandedSteps.{
-  IsAway,
-  IsAwayAt,
-  OrderStep,
-  away_next,
-  order_front,
-  order_step,
-  order_view,
-}
+use Rattle.wait_rule.proofs.KnownLaws.HandedSteps.{OrderStep, order_step, order_view}
 use Rattle.wait_rule.proofs.KnownLaws.Moments.{kept_of}
-use Rattle.completion_cell.specs.HeldPermits.{Deals, IsOfWait, Waits, counted, still_owed}
-use Rattle.completion_cell.proofs.WaitFronts.{wait_head}
+use Rattle.completion_cell.specs.HeldPermits.{Waits}
 
 -- the hold begins
 module _ (d a : ℕ) (front : List Step) (aim : Option Aim) (w : ℕ) where

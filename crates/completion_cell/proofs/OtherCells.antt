@@ -12,7 +12,7 @@ use Rattle.wait_model.specs.declared.steps.Step.TheVariants as step
 use Rattle.wait_model.specs.declared.tasks.SleepState.{SleepState}
 use Rattle.wait_model.specs.declared.watches.Entry.{Entry}
 use Rattle.wait_model.specs.Fold.{after, view_of}
-use Rattle.wait_model.specs.Permits.{dealt, deals, done_head, none_dealt, shows_at}
+use Rattle.wait_model.specs.Permits.{dealt, done_head, none_dealt, shows_at}
 use Rattle.wait_model.specs.Points.{given_at}
 use Rattle.wait_model.specs.Runs.{own}
 use Rattle.wait_model.specs.Views.{Look, View, blank, shown}

@@ -195,9 +195,6 @@ waits_may_end d k o at w = inr (λ order.
 pub zero_waits : (d : ℕ) (k : Known) → HasLoaded d k 0 → WaitsIn d k (Some 0) 0
 zero_waits d k h = subst (λ (n : ℕ). WaitsIn d k (Some 0) n) (h.settled.2 refl) h.waits
 
-pub zero_loaded : (d : ℕ) (k : Known) → WaitsIn d k (Some 0) 0 → HasLoaded d k 0
-zero_loaded d k w = record { owes = 0; settled = (omega arith, (λ end. refl), (λ zero. refl)); waits = w }
-
 pub loaded_on : (d : ℕ) (old new : Known) (n : ℕ) → ((k : ℕ) → Held d old new (Some n) k (Some n) k)
     → HasLoaded d old n → HasLoaded d new n
 loaded_on d old new n held h = record {

@@ -21,6 +21,7 @@ use crate::tasks::{CheckedTask, refusal_of};
 use completion_cell::await_calls::begin_await;
 use completion_cell::awaits::AwaitStage;
 use completion_cell::cell_turns::{CellCall, CellRun, CellStage, CellTurn, cell_stretch};
+use wait_class::stages::Turn;
 use wait_model::layout::COMPLETIONS;
 use wait_model::tasks::SleepState;
 use wait_rule::queues::Passing;

@@ -49,6 +49,6 @@ pub returns-in-Err-clause-given : goal.returns-in-Err-clause-given
 returns-in-Err-clause-given c = given_as c.args.task.now c.give_back.new.task c.add_for_page.new.task.at
     c.put.new.self.head (c.put.ensures ∙ c.give_back.ensures.head)
     (given_on c.args.task.now c.add_for_page.new.task c.give_back.new.task c.add_for_page.new.task.at
-    (given_member_looks c.args.task.now c.add_for_page.new.task c.in-Err.ensures.worn.looks)
+    (given_member_looks c.args.task.now c.add_for_page.new.task c.in-Err.ensures.worn.0)
     (given_unlocked c.add_for_page.new.task c.give_back.new.task c.add_for_page.new.task.at false
     c.give_back.ensures.given))

@@ -5,8 +5,8 @@
 # documents count and name: the paths of docs/READING.md have each file that is to be believed, and about as many lines
 # as it says; a name that stands in several files of definitions is in .ci/doubled_names.txt; docs/ARCHITECTURE.md lets
 # each crate stand on what crates.txt says; each clause that docs/PROVED.md names in brackets is one of that crate; each
-# path of modules leads to something public, each method beside the kernel's names in docs/USING.md is there, and
-# docs/GLOSSARY.md has one row a word.
+# path of modules leads to something public, each call beside the kernel's names in docs/USING.md is there, and
+# docs/GLOSSARY.md has one row a word. The numbers of calls are the same in C, in Rust and in the archive's sources.
 #
 # usage: .ci/docs.sh             (it needs what `rt ci` built)
 #        .ci/docs.sh --quick     runs no command, and needs nothing
@@ -371,16 +371,16 @@ find_public() {
     done < <(prose "$page" | grep -oE '`[a-z_0-9]+(::[A-Za-z_0-9]+)+`' | tr -d '`' | sort -u)
 }
 
-# Looks for each method that the table of the kernel's names has, among those of a checked task.
-find_methods() {
+# Looks for each call that the table of the kernel's names has, among those that a checked task begins.
+find_calls() {
     local name
     while read -r name; do
-        judge "docs/USING.md: no task has $name" grep -qE "^ +pub fn $name\(" crates/wq_checked/src/*.rt
+        judge "docs/USING.md: no task begins $name" grep -qE "^    $name( \{|,)" crates/wq_checked/src/calls.rt
     done < <(awk -F ' \\| ' '
         /^\| Kernel \| Here \| Without proofs \|/ { inside = 1 }
         /^$/ { inside = 0 }
         inside { print $3 }
-    ' docs/USING.md | grep -oE '`[a-z_]+`' | tr -d '`' | sort -u)
+    ' docs/USING.md | grep -oE '`[A-Za-z]+`' | tr -d '`' | sort -u)
 }
 
 # Looks for words that have more than one row in docs/GLOSSARY.md.
@@ -411,7 +411,8 @@ compare_paths
 compare_names
 compare_crates
 find_clauses
-find_methods
+find_calls
+judge 'C, Rust and the archive give a call other numbers' front/try --numbers
 find_doubled_words
 printf '%d passed, %d failed\n' "$passed" "$failed"
 [ "$failed" = 0 ]

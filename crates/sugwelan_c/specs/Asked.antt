@@ -1,70 +1,25 @@
 -- To be believed.
 -- What a call asks for, by its kind and its numbers.
-use Rattle.std.specs.Prelude.{◌≡◌, ◌≢◌, ℕ, Bool, true, false, nat_lt, Option, Some, None, if◌then◌else◌}
+use Rattle.std.specs.Prelude.{◌==◌, ℕ, Bool, true, false, nat_lt, Option, Some, None, if◌then◌else◌}
 use Prim.Native.Nat.{zero, suc}
-use Rattle.completion_cell.specs.declared.cell_turns.CellCall.{CellCall}
 use Rattle.completion_cell.specs.declared.cell_turns.CellCall.TheVariants as cell_call
 use Rattle.wait_model.specs.declared.tasks.SleepState.{SleepState}
 use Rattle.wait_model.specs.declared.tasks.SleepState.TheVariants as sleep
 use Rattle.wait_model.specs.declared.watches.Mode.{Mode}
 use Rattle.wait_model.specs.declared.watches.Mode.TheVariants as mode
+use Rattle.wq_checked.specs.declared.calls.Call.{Call as TaskCall}
+use Rattle.wq_checked.specs.declared.calls.Call.TheVariants as call
 use Rattle.sugwelan_c.specs.declared.calls.Call.{Call}
-use Rattle.sugwelan_c.specs.declared.calls.Kind.{Kind}
-use Rattle.sugwelan_c.specs.declared.calls.Kind.TheVariants as kind
-use Rattle.sugwelan_c.specs.declared.calls.WaitingKind.{WaitingKind}
-use Rattle.sugwelan_c.specs.declared.calls.WaitingKind.TheVariants as wait_kind
-use Rattle.sugwelan_c.specs.declared.calls.WakingKind.{WakingKind}
-use Rattle.sugwelan_c.specs.declared.calls.WakingKind.TheVariants as wake_kind
-use Rattle.sugwelan_c.specs.declared.calls.SimpleKind.{SimpleKind}
-use Rattle.sugwelan_c.specs.declared.calls.SimpleKind.TheVariants as simple_kind
-use Rattle.sugwelan_c.specs.declared.calls.AtOnceKind.{AtOnceKind}
-use Rattle.sugwelan_c.specs.declared.calls.AtOnceKind.TheVariants as once_kind
 use Rattle.sugwelan_c.specs.declared.calls.Wanted.{Wanted}
 use Rattle.sugwelan_c.specs.declared.calls.Wanted.TheVariants as wanted
-use Rattle.sugwelan_c.specs.declared.calls.Waiting.{Waiting}
-use Rattle.sugwelan_c.specs.declared.calls.Waiting.TheVariants as waiting
-use Rattle.sugwelan_c.specs.declared.calls.Waking.{Waking}
-use Rattle.sugwelan_c.specs.declared.calls.Waking.TheVariants as waking
-use Rattle.sugwelan_c.specs.declared.calls.Simple.{Simple}
-use Rattle.sugwelan_c.specs.declared.calls.Simple.TheVariants as simple
-use Rattle.sugwelan_c.specs.declared.calls.AtOnce.{AtOnce}
-use Rattle.sugwelan_c.specs.declared.calls.AtOnce.TheVariants as at_once
-
--- the numbers of the kinds
-abbrev pub number_of : Kind → ℕ
-number_of kind.Advance = 0
-number_of (kind.Waiting wait_kind.Event) = 1
-number_of (kind.Waiting wait_kind.SimpleEvent) = 2
-number_of (kind.Waiting wait_kind.Var) = 3
-number_of (kind.Waiting wait_kind.Bit) = 4
-number_of (kind.Waiting wait_kind.BitLock) = 5
-number_of (kind.Waiting wait_kind.Page) = 6
-number_of (kind.Waiting wait_kind.Completion) = 7
-number_of (kind.Waking wake_kind.Alone) = 10
-number_of (kind.Waking wake_kind.Set) = 11
-number_of (kind.Waking wake_kind.Var) = 12
-number_of (kind.Waking wake_kind.Bit) = 13
-number_of (kind.Waking wake_kind.Page) = 14
-number_of (kind.Simple simple_kind.One) = 15
-number_of (kind.Simple simple_kind.All) = 16
-number_of (kind.Simple simple_kind.Set) = 17
-number_of (kind.Cell cell_call.Complete) = 18
-number_of (kind.Cell cell_call.CompleteAll) = 19
-number_of (kind.Cell cell_call.Reinit) = 20
-number_of (kind.Cell cell_call.TryWait) = 21
-number_of (kind.Cell cell_call.IsDone) = 22
-number_of (kind.AtOnce once_kind.Bit) = 30
-number_of (kind.AtOnce once_kind.Page) = 31
-number_of (kind.AtOnce once_kind.Tally) = 32
-number_of (kind.AtOnce once_kind.Condition) = 33
-number_of (kind.AtOnce once_kind.Number) = 34
-number_of (kind.AtOnce once_kind.Raise) = 35
-number_of (kind.AtOnce once_kind.TakeSignal) = 36
-
--- the kind of a number, or none where no kind has it
-abbrev pub HasKind : ℕ → Option Kind → Type 0
-HasKind n None = (k : Kind) → number_of k ≢ n
-HasKind n (Some k) = number_of k ≡ n
+use Rattle.sugwelan_c.specs.declared.kinds.TheConstants.{ADVANCE, WAIT_EVENT, SWAIT_EVENT, WAIT_VAR_EVENT, WAIT_ON_BIT}
+use Rattle.sugwelan_c.specs.declared.kinds.TheConstants.{WAIT_ON_BIT_LOCK, LOCK_PAGE, WAIT_FOR_COMPLETION, WAKE_UP}
+use Rattle.sugwelan_c.specs.declared.kinds.TheConstants.{SET_AND_WAKE, PUBLISH_VAR_AND_WAKE, CLEAR_AND_WAKE_UP_BIT}
+use Rattle.sugwelan_c.specs.declared.kinds.TheConstants.{UNLOCK_PAGE, SWAKE_UP_ONE, SWAKE_UP_ALL, SET_AND_SWAKE}
+use Rattle.sugwelan_c.specs.declared.kinds.TheConstants.{COMPLETE, COMPLETE_ALL, REINIT_COMPLETION}
+use Rattle.sugwelan_c.specs.declared.kinds.TheConstants.{TRY_WAIT_FOR_COMPLETION, COMPLETION_DONE, TRYLOCK_BIT}
+use Rattle.sugwelan_c.specs.declared.kinds.TheConstants.{TRYLOCK_PAGE, ADD_TALLY, TAKE_CONDITION, NUMBER, RAISE_SIGNAL}
+use Rattle.sugwelan_c.specs.declared.kinds.TheConstants.{TAKE_SIGNAL}
 
 -- numbers that stand for something else
 abbrev pub byte_in : ℕ → Option ℕ
@@ -90,53 +45,70 @@ abbrev pub and_then : {A B : Type 0} → Option A → (A → Option B) → Optio
 and_then None f = None
 and_then (Some x) f = f x
 
--- what a call of each kind asks for: none where a number is none that it may be
-abbrev pub asks_waiting : WaitingKind → Call → Option Waiting
-asks_waiting wait_kind.Event c = and_then (byte_in c.a) (λ cond. and_then (state_in c.b) (λ st. and_then (flag_in c.c)
-    (λ alone. Some (waiting.Event cond (record { state = st; exclusive = alone })))))
-asks_waiting wait_kind.SimpleEvent c = and_then (byte_in c.a) (λ cond. and_then (state_in c.b)
-    (λ st. Some (waiting.SimpleEvent cond st)))
-asks_waiting wait_kind.Var c = and_then (byte_in c.a) (λ v. and_then (state_in c.b)
-    (λ st. Some (waiting.Var v st c.value)))
-asks_waiting wait_kind.Bit c = and_then (byte_in c.a) (λ w. and_then (byte_in c.b) (λ b. and_then (state_in c.c)
-    (λ st. Some (waiting.Bit w b st))))
-asks_waiting wait_kind.BitLock c = and_then (byte_in c.a) (λ w. and_then (byte_in c.b) (λ b. and_then (state_in c.c)
-    (λ st. Some (waiting.BitLock w b st))))
-asks_waiting wait_kind.Page c = and_then (byte_in c.a) (λ p. and_then (state_in c.b) (λ st. Some (waiting.Page p st)))
-asks_waiting wait_kind.Completion c = and_then (byte_in c.a) (λ d. and_then (state_in c.b)
-    (λ st. Some (waiting.Completion d st)))
+-- the first of two that there is
+abbrev pub either : Option TaskCall → Option TaskCall → Option TaskCall
+either (Some c) o = Some c
+either None o = o
 
-abbrev pub asks_waking : WakingKind → Call → Option Waking
-asks_waking wake_kind.Alone c = and_then (byte_in c.a) (λ cond. and_then (mode_in c.b)
-    (λ m. Some (waking.Alone cond m c.c)))
-asks_waking wake_kind.Set c = and_then (byte_in c.a) (λ cond. Some (waking.Set cond c.c c.value))
-asks_waking wake_kind.Var c = and_then (byte_in c.a) (λ v. Some (waking.Var v c.value))
-asks_waking wake_kind.Bit c = and_then (byte_in c.a) (λ w. and_then (byte_in c.b) (λ b. Some (waking.Bit w b)))
-asks_waking wake_kind.Page c = and_then (byte_in c.a) (λ p. Some (waking.Page p))
+-- The calls about a condition, with its number first. Here and below there is none where the kind is another, or a number
+-- is none that it may be.
+abbrev pub asks_cond : ℕ → Call → Option TaskCall
+asks_cond n c =
+    if c.kind == WAIT_EVENT then and_then (state_in c.b) (λ st. and_then (flag_in c.c)
+    (λ alone. Some (call.Wait n (record { state = st; exclusive = alone })))) else (
+    if c.kind == SWAIT_EVENT then and_then (state_in c.b) (λ st. Some (call.SimpleWait n st)) else (
+    if c.kind == WAKE_UP then and_then (mode_in c.b) (λ m. Some (call.Wake n m c.c)) else (
+    if c.kind == SET_AND_WAKE then Some (call.SetAndWake n c.value c.c) else (
+    if c.kind == SWAKE_UP_ONE then Some (call.SimpleWake n false) else (
+    if c.kind == SWAKE_UP_ALL then Some (call.SimpleWake n true) else (
+    if c.kind == SET_AND_SWAKE then and_then (flag_in c.b) (λ all. Some (call.SetAndSimpleWake n c.value all)) else (
+    if c.kind == TAKE_CONDITION then Some (call.Take n) else None)))))))
 
-abbrev pub asks_simple : SimpleKind → Call → Option Simple
-asks_simple simple_kind.One c = and_then (byte_in c.a) (λ cond. Some (simple.Wake cond false))
-asks_simple simple_kind.All c = and_then (byte_in c.a) (λ cond. Some (simple.Wake cond true))
-asks_simple simple_kind.Set c = and_then (byte_in c.a) (λ cond. and_then (flag_in c.b)
-    (λ all. Some (simple.Set cond all c.value)))
+-- about a variable
+abbrev pub asks_var : ℕ → Call → Option TaskCall
+asks_var n c =
+    if c.kind == WAIT_VAR_EVENT then and_then (state_in c.b) (λ st. Some (call.WaitVar n c.value st)) else (
+    if c.kind == PUBLISH_VAR_AND_WAKE then Some (call.SetVar n c.value) else None)
 
-abbrev pub asks_cell : CellCall → ℕ → Option Wanted
-asks_cell call n = and_then (byte_in n) (λ d. Some (wanted.Cell call d))
+-- about a bit of a word
+abbrev pub asks_bit : ℕ → Call → Option TaskCall
+asks_bit n c = and_then (byte_in c.b) (λ b.
+    if c.kind == WAIT_ON_BIT then and_then (state_in c.c) (λ st. Some (call.WaitBit n b st)) else (
+    if c.kind == WAIT_ON_BIT_LOCK then and_then (state_in c.c) (λ st. Some (call.LockBit n b st)) else (
+    if c.kind == CLEAR_AND_WAKE_UP_BIT then Some (call.ClearBit n b) else (
+    if c.kind == TRYLOCK_BIT then Some (call.TryBit n b) else None))))
 
-abbrev pub asks_at_once : AtOnceKind → Call → Option AtOnce
-asks_at_once once_kind.Bit c = and_then (byte_in c.a) (λ w. and_then (byte_in c.b) (λ b. Some (at_once.Bit w b)))
-asks_at_once once_kind.Page c = and_then (byte_in c.a) (λ p. Some (at_once.Page p))
-asks_at_once once_kind.Tally c = and_then (byte_in c.a) (λ p. Some (at_once.Tally p c.value))
-asks_at_once once_kind.Condition c = and_then (byte_in c.a) (λ cond. Some (at_once.Condition cond))
-asks_at_once once_kind.Number c = Some at_once.Number
-asks_at_once once_kind.Raise c = and_then (byte_in c.a) (λ who. and_then (flag_in c.b)
-    (λ fatal. Some (at_once.Raise who fatal)))
-asks_at_once once_kind.TakeSignal c = Some at_once.TakeSignal
+-- about a page, which is bit 0 of its word
+abbrev pub asks_page : ℕ → Call → Option TaskCall
+asks_page n c =
+    if c.kind == LOCK_PAGE then and_then (state_in c.b) (λ st. Some (call.LockPage n st)) else (
+    if c.kind == UNLOCK_PAGE then Some (call.ClearBit n 0) else (
+    if c.kind == TRYLOCK_PAGE then Some (call.TryBit n 0) else (
+    if c.kind == ADD_TALLY then Some (call.AddTally n c.value) else None)))
 
-abbrev pub asks : Kind → Call → Option Wanted
-asks kind.Advance c = Some wanted.Advance
-asks (kind.Waiting k) c = and_then (asks_waiting k c) (λ w. Some (wanted.Waiting w))
-asks (kind.Waking k) c = and_then (asks_waking k c) (λ w. Some (wanted.Waking w))
-asks (kind.Simple k) c = and_then (asks_simple k c) (λ w. Some (wanted.Simple w))
-asks (kind.Cell k) c = asks_cell k c.a
-asks (kind.AtOnce k) c = and_then (asks_at_once k c) (λ w. Some (wanted.AtOnce w))
+-- about a completion
+abbrev pub asks_cell : ℕ → Call → Option TaskCall
+asks_cell n c =
+    if c.kind == WAIT_FOR_COMPLETION then and_then (state_in c.b) (λ st. Some (call.WaitFor n st)) else (
+    if c.kind == COMPLETE then Some (call.Cell cell_call.Complete n) else (
+    if c.kind == COMPLETE_ALL then Some (call.Cell cell_call.CompleteAll n) else (
+    if c.kind == REINIT_COMPLETION then Some (call.Cell cell_call.Reinit n) else (
+    if c.kind == TRY_WAIT_FOR_COMPLETION then Some (call.Cell cell_call.TryWait n) else (
+    if c.kind == COMPLETION_DONE then Some (call.Cell cell_call.IsDone n) else None)))))
+
+-- a signal for a task
+abbrev pub asks_signal : ℕ → Call → Option TaskCall
+asks_signal n c =
+    if c.kind == RAISE_SIGNAL then and_then (flag_in c.b) (λ fatal. Some (call.Signal n fatal)) else None
+
+abbrev pub asks_begin : ℕ → Call → Option TaskCall
+asks_begin n c = either (either (asks_cond n c) (asks_var n c)) (either (either (asks_bit n c) (asks_page n c))
+    (either (asks_cell n c) (asks_signal n c)))
+
+-- What a call asks for, or none where it is no call.
+abbrev pub asks : Call → Option Wanted
+asks c =
+    if c.kind == ADVANCE then Some wanted.Advance else (
+    if c.kind == NUMBER then Some wanted.Number else (
+    if c.kind == TAKE_SIGNAL then Some (wanted.Begin call.Accept) else
+    and_then (byte_in c.a) (λ n. and_then (asks_begin n c) (λ q. Some (wanted.Begin q)))))

@@ -8,6 +8,8 @@ use Rattle.wait_event.specs.declared.wait_events.WaitEnd.TheVariants as wait_end
 use Rattle.wait_model.specs.declared.queues.End.{End}
 use Rattle.wait_model.specs.declared.queues.End.TheVariants as end
 use Rattle.wait_model.specs.declared.queues.Walked.{Walked}
+use Rattle.wait_model.specs.declared.tasks.Taken.{Taken}
+use Rattle.wait_model.specs.declared.tasks.Taken.TheVariants as taken
 use Rattle.wait_model.specs.declared.layout.TheConstants.{HEADS}
 use Rattle.wq_head.specs.Scanned.{unmade}
 use Rattle.wq_checked.specs.declared.calls.Answer.{Answer}
@@ -49,9 +51,7 @@ answer_code (answer.Changed (Ok v)) = DONE
 answer_code (answer.Changed (Err e)) = wait_code e
 answer_code (answer.Bit (Ok x)) = DONE
 answer_code (answer.Bit (Err e)) = bit_code e
-answer_code (answer.Walked w) = DONE
-answer_code (answer.Selected n) = DONE
-answer_code (answer.Cell b) = DONE
+answer_code _ = DONE
 
 abbrev pub progress_code : Progress → ℤ
 progress_code progress.Again = AGAIN
@@ -64,16 +64,24 @@ abbrev pub code_of : Reply → ℤ
 code_of (reply.Refused e) = refusal_code e
 code_of (reply.On p) = progress_code p
 code_of (reply.Value v) = DONE
-code_of (reply.Rouse who) = DONE
 
 -- what is told beside the code: nothing but 0 where a call has no such answer
 abbrev pub truth : Bool → ℕ
 truth true = 1
 truth false = 0
 
+-- the signals that a task took
+abbrev pub taken_number : Taken → ℕ
+taken_number taken.Nothing = 0
+taken_number taken.Plain = 1
+taken_number taken.Fatal = 2
+
 abbrev pub value_of : Reply → ℕ
 value_of (reply.On (progress.Done (answer.Changed (Ok v)))) = v
 value_of (reply.On (progress.Done (answer.Cell b))) = truth b
+value_of (reply.On (progress.Done (answer.Tried b))) = truth b
+value_of (reply.On (progress.Done (answer.Value v))) = v
+value_of (reply.On (progress.Done (answer.Accepted t))) = taken_number t
 value_of (reply.Value v) = v
 value_of _ = 0
 
@@ -94,9 +102,9 @@ abbrev pub head_number : Option ℕ → ℕ
 head_number (Some h) = h
 head_number None = HEADS
 
--- whom to rouse: those whom an advance names, or one task
+-- whom to rouse: those whom an advance names, or the one whom a signal woke
 abbrev pub roused_by : Reply → List ℕ → List ℕ
-roused_by (reply.Rouse who) ws = who ∷ []
+roused_by (reply.On (progress.Done (answer.Raised (Some who)))) ws = who ∷ []
 roused_by _ ws = ws
 
 abbrev pub end_number : End → ℕ

@@ -1,12 +1,21 @@
 //! What C asks for: a call by its kind and its numbers.
 
-ghost use Rattle.std.specs.Prelude.{◌≡◌};
-ghost use Rattle.sugwelan_c.specs.Asked.{HasKind, asks, asks_at_once, asks_cell, asks_simple, asks_waiting, asks_waking};
-ghost use Rattle.sugwelan_c.specs.Asked.{byte_in, flag_in, mode_in, state_in};
+ghost use Rattle.std.specs.Prelude.{◌≡◌, Some};
+ghost use Rattle.wq_checked.specs.declared.calls.Call.TheVariants as task_call;
+ghost use Rattle.sugwelan_c.specs.Asked.{asks, asks_begin, asks_bit, asks_cell, asks_cond, asks_page, asks_var};
+ghost use Rattle.sugwelan_c.specs.Asked.{asks_signal, byte_in, either, flag_in, mode_in, state_in};
 
+use crate::kinds::{
+    ADD_TALLY, ADVANCE, CLEAR_AND_WAKE_UP_BIT, COMPLETE, COMPLETE_ALL, COMPLETION_DONE, LOCK_PAGE,
+    NUMBER, PUBLISH_VAR_AND_WAKE, RAISE_SIGNAL, REINIT_COMPLETION, SET_AND_SWAKE, SET_AND_WAKE,
+    SWAIT_EVENT, SWAKE_UP_ALL, SWAKE_UP_ONE, TAKE_CONDITION, TAKE_SIGNAL, TRY_WAIT_FOR_COMPLETION,
+    TRYLOCK_BIT, TRYLOCK_PAGE, UNLOCK_PAGE, WAIT_EVENT, WAIT_FOR_COMPLETION, WAIT_ON_BIT,
+    WAIT_ON_BIT_LOCK, WAIT_VAR_EVENT, WAKE_UP,
+};
 use completion_cell::cell_turns::CellCall;
 use wait_model::tasks::{How, SleepState};
 use wait_model::watches::Mode;
+use wq_checked::calls::Call as TaskCall;
 
 /// A call: its kind, and its numbers. Which of them count, and what they are, hangs on the kind.
 #[repr(C)]
@@ -19,174 +28,12 @@ pub struct Call {
     pub value: u64,
 }
 
-/// The kinds of calls: to go on with the one that is under way, waits, wakes, wakes of simple queues, calls about
-/// completions, and those that are over at once.
-#[derive(Clone, Copy)]
-pub enum Kind {
-    Advance,
-    Waiting(WaitingKind),
-    Waking(WakingKind),
-    Simple(SimpleKind),
-    Cell(CellCall),
-    AtOnce(AtOnceKind),
-}
-
-/// The kinds of waits: for a plain condition, for one in its simple queue, for a variable, for a bit that is clear, to
-/// take a bit, to take a page, for a completion.
-#[derive(Clone, Copy)]
-pub enum WaitingKind {
-    Event,
-    SimpleEvent,
-    Var,
-    Bit,
-    BitLock,
-    Page,
-    Completion,
-}
-
-/// The kinds of wakes: one alone; of a condition that is set, of a variable that is stored, of a bit and of a page that
-/// are given back.
-#[derive(Clone, Copy)]
-pub enum WakingKind {
-    Alone,
-    Set,
-    Var,
-    Bit,
-    Page,
-}
-
-/// The kinds of wakes of simple queues: of one entry, of all, and of a condition that is set.
-#[derive(Clone, Copy)]
-pub enum SimpleKind {
-    One,
-    All,
-    Set,
-}
-
-/// The kinds that are over at once: a bit and a page that are taken where they are clear, an amount for a page's tally,
-/// a condition that is taken, the task's number, a signal that is raised, and the task's signals, which it takes.
-#[derive(Clone, Copy)]
-pub enum AtOnceKind {
-    Bit,
-    Page,
-    Tally,
-    Condition,
-    Number,
-    Raise,
-    TakeSignal,
-}
-
-/// A call with its numbers.
+/// What a call asks for: to go on with the call that is under way, the task's number, or a call that begins.
 #[derive(Clone, Copy)]
 pub enum Wanted {
     Advance,
-    Waiting(Waiting),
-    Waking(Waking),
-    Simple(Simple),
-    Cell { call: CellCall, cell: u8 },
-    AtOnce(AtOnce),
-}
-
-/// A wait with its numbers.
-#[derive(Clone, Copy)]
-pub enum Waiting {
-    Event {
-        cond: u8,
-        how: How,
-    },
-    SimpleEvent {
-        cond: u8,
-        state: SleepState,
-    },
-    Var {
-        var: u8,
-        state: SleepState,
-        old: u64,
-    },
-    Bit {
-        word: u8,
-        bit: u8,
-        state: SleepState,
-    },
-    BitLock {
-        word: u8,
-        bit: u8,
-        state: SleepState,
-    },
-    Page {
-        page: u8,
-        state: SleepState,
-    },
-    Completion {
-        cell: u8,
-        state: SleepState,
-    },
-}
-
-/// A wake with its numbers.
-#[derive(Clone, Copy)]
-pub enum Waking {
-    Alone { cond: u8, mode: Mode, count: u32 },
-    Set { cond: u8, count: u32, value: u64 },
-    Var { var: u8, value: u64 },
-    Bit { word: u8, bit: u8 },
-    Page { page: u8 },
-}
-
-/// A wake of a simple queue with its numbers.
-#[derive(Clone, Copy)]
-pub enum Simple {
-    Wake { cond: u8, all: bool },
-    Set { cond: u8, all: bool, value: u64 },
-}
-
-/// A call that is over at once, with its numbers.
-#[derive(Clone, Copy)]
-pub enum AtOnce {
-    Bit { word: u8, bit: u8 },
-    Page { page: u8 },
-    Tally { page: u8, amount: u64 },
-    Condition { cond: u8 },
     Number,
-    Raise { who: u8, fatal: bool },
-    TakeSignal,
-}
-
-/// The kind that has this number: None where none has.
-pub fn kind_of(number: u32) -> Option<Kind>
-    ensures { HasKind number result }
-{
-    match number {
-        0 => Some(Kind::Advance),
-        1 => Some(Kind::Waiting(WaitingKind::Event)),
-        2 => Some(Kind::Waiting(WaitingKind::SimpleEvent)),
-        3 => Some(Kind::Waiting(WaitingKind::Var)),
-        4 => Some(Kind::Waiting(WaitingKind::Bit)),
-        5 => Some(Kind::Waiting(WaitingKind::BitLock)),
-        6 => Some(Kind::Waiting(WaitingKind::Page)),
-        7 => Some(Kind::Waiting(WaitingKind::Completion)),
-        10 => Some(Kind::Waking(WakingKind::Alone)),
-        11 => Some(Kind::Waking(WakingKind::Set)),
-        12 => Some(Kind::Waking(WakingKind::Var)),
-        13 => Some(Kind::Waking(WakingKind::Bit)),
-        14 => Some(Kind::Waking(WakingKind::Page)),
-        15 => Some(Kind::Simple(SimpleKind::One)),
-        16 => Some(Kind::Simple(SimpleKind::All)),
-        17 => Some(Kind::Simple(SimpleKind::Set)),
-        18 => Some(Kind::Cell(CellCall::Complete)),
-        19 => Some(Kind::Cell(CellCall::CompleteAll)),
-        20 => Some(Kind::Cell(CellCall::Reinit)),
-        21 => Some(Kind::Cell(CellCall::TryWait)),
-        22 => Some(Kind::Cell(CellCall::IsDone)),
-        30 => Some(Kind::AtOnce(AtOnceKind::Bit)),
-        31 => Some(Kind::AtOnce(AtOnceKind::Page)),
-        32 => Some(Kind::AtOnce(AtOnceKind::Tally)),
-        33 => Some(Kind::AtOnce(AtOnceKind::Condition)),
-        34 => Some(Kind::AtOnce(AtOnceKind::Number)),
-        35 => Some(Kind::AtOnce(AtOnceKind::Raise)),
-        36 => Some(Kind::AtOnce(AtOnceKind::TakeSignal)),
-        _ => None,
-    }
+    Begin(TaskCall),
 }
 
 /// The number as a byte, where it is one.
@@ -234,163 +81,162 @@ fn mode_of(number: u32) -> Option<Mode>
     }
 }
 
-fn waiting_of(kind: WaitingKind, call: &Call) -> Option<Waiting>
-    ensures { result ≡ asks_waiting kind call.now }
+/// The first of two calls that there is.
+fn either(first: Option<TaskCall>, other: Option<TaskCall>) -> Option<TaskCall>
+    ensures { result ≡ either first other }
 {
-    let a = byte_of(call.a)?;
-    match kind {
-        WaitingKind::Event => {
+    match first {
+        Some(call) => Some(call),
+        None => other,
+    }
+}
+
+/// A call about a condition. Here and below, None is for a call about something else, and for one with a number that
+/// counts and is not of its type.
+fn cond_call(cond: u8, call: &Call) -> Option<TaskCall>
+    ensures { result ≡ asks_cond cond call.now }
+{
+    let value = call.value;
+    let count = call.c;
+    match call.kind {
+        WAIT_EVENT => {
             let state = state_of(call.b)?;
             let exclusive = flag_of(call.c)?;
             let how = How { state, exclusive };
-            Some(Waiting::Event { cond: a, how })
+            Some(TaskCall::Wait { cond, how })
         }
-        WaitingKind::SimpleEvent => {
+        SWAIT_EVENT => {
             let state = state_of(call.b)?;
-            Some(Waiting::SimpleEvent { cond: a, state })
+            Some(TaskCall::SimpleWait { cond, state })
         }
-        WaitingKind::Var => {
-            let state = state_of(call.b)?;
-            let old = call.value;
-            Some(Waiting::Var { var: a, state, old })
-        }
-        WaitingKind::Bit => {
-            let bit = byte_of(call.b)?;
-            let state = state_of(call.c)?;
-            Some(Waiting::Bit {
-                word: a,
-                bit,
-                state,
-            })
-        }
-        WaitingKind::BitLock => {
-            let bit = byte_of(call.b)?;
-            let state = state_of(call.c)?;
-            Some(Waiting::BitLock {
-                word: a,
-                bit,
-                state,
-            })
-        }
-        WaitingKind::Page => {
-            let state = state_of(call.b)?;
-            Some(Waiting::Page { page: a, state })
-        }
-        WaitingKind::Completion => {
-            let state = state_of(call.b)?;
-            Some(Waiting::Completion { cell: a, state })
-        }
-    }
-}
-
-fn waking_of(kind: WakingKind, call: &Call) -> Option<Waking>
-    ensures { result ≡ asks_waking kind call.now }
-{
-    let a = byte_of(call.a)?;
-    let value = call.value;
-    match kind {
-        WakingKind::Alone => {
+        WAKE_UP => {
             let mode = mode_of(call.b)?;
-            let count = call.c;
-            Some(Waking::Alone {
-                cond: a,
-                mode,
-                count,
-            })
+            Some(TaskCall::Wake { cond, mode, count })
         }
-        WakingKind::Set => {
-            let count = call.c;
-            Some(Waking::Set {
-                cond: a,
-                count,
-                value,
-            })
-        }
-        WakingKind::Var => Some(Waking::Var { var: a, value }),
-        WakingKind::Bit => {
-            let bit = byte_of(call.b)?;
-            Some(Waking::Bit { word: a, bit })
-        }
-        WakingKind::Page => Some(Waking::Page { page: a }),
-    }
-}
-
-fn simple_of(kind: SimpleKind, call: &Call) -> Option<Simple>
-    ensures { result ≡ asks_simple kind call.now }
-{
-    let cond = byte_of(call.a)?;
-    match kind {
-        SimpleKind::One => Some(Simple::Wake { cond, all: false }),
-        SimpleKind::All => Some(Simple::Wake { cond, all: true }),
-        SimpleKind::Set => {
+        SET_AND_WAKE => Some(TaskCall::SetAndWake { cond, value, count }),
+        SWAKE_UP_ONE => Some(TaskCall::SimpleWake { cond, all: false }),
+        SWAKE_UP_ALL => Some(TaskCall::SimpleWake { cond, all: true }),
+        SET_AND_SWAKE => {
             let all = flag_of(call.b)?;
-            let value = call.value;
-            Some(Simple::Set { cond, all, value })
+            Some(TaskCall::SetAndSimpleWake { cond, value, all })
         }
+        TAKE_CONDITION => Some(TaskCall::Take { cond }),
+        _ => None,
     }
 }
 
-fn cell_of(kind: CellCall, number: u32) -> Option<Wanted>
-    ensures { result ≡ asks_cell kind number }
+/// A call about a variable.
+fn var_call(var: u8, call: &Call) -> Option<TaskCall>
+    ensures { result ≡ asks_var var call.now }
 {
-    let cell = byte_of(number)?;
-    Some(Wanted::Cell { call: kind, cell })
+    let value = call.value;
+    match call.kind {
+        WAIT_VAR_EVENT => {
+            let state = state_of(call.b)?;
+            let old = value;
+            Some(TaskCall::WaitVar { var, old, state })
+        }
+        PUBLISH_VAR_AND_WAKE => Some(TaskCall::SetVar { var, value }),
+        _ => None,
+    }
 }
 
-fn at_once_of(kind: AtOnceKind, call: &Call) -> Option<AtOnce>
-    ensures { result ≡ asks_at_once kind call.now }
+/// A call about a bit.
+fn bit_call(word: u8, call: &Call) -> Option<TaskCall>
+    ensures { result ≡ asks_bit word call.now }
 {
-    match kind {
-        AtOnceKind::Bit => {
-            let word = byte_of(call.a)?;
-            let bit = byte_of(call.b)?;
-            Some(AtOnce::Bit { word, bit })
+    let bit = byte_of(call.b)?;
+    match call.kind {
+        WAIT_ON_BIT => {
+            let state = state_of(call.c)?;
+            Some(TaskCall::WaitBit { word, bit, state })
         }
-        AtOnceKind::Page => {
-            let page = byte_of(call.a)?;
-            Some(AtOnce::Page { page })
+        WAIT_ON_BIT_LOCK => {
+            let state = state_of(call.c)?;
+            Some(TaskCall::LockBit { word, bit, state })
         }
-        AtOnceKind::Tally => {
-            let page = byte_of(call.a)?;
-            let amount = call.value;
-            Some(AtOnce::Tally { page, amount })
+        CLEAR_AND_WAKE_UP_BIT => Some(TaskCall::ClearBit { word, bit }),
+        TRYLOCK_BIT => Some(TaskCall::TryBit { word, bit }),
+        _ => None,
+    }
+}
+
+/// A call about a page, which is bit 0 of its word.
+fn page_call(page: u8, call: &Call) -> Option<TaskCall>
+    ensures { result ≡ asks_page page call.now }
+{
+    let amount = call.value;
+    match call.kind {
+        LOCK_PAGE => {
+            let state = state_of(call.b)?;
+            Some(TaskCall::LockPage { page, state })
         }
-        AtOnceKind::Condition => {
-            let cond = byte_of(call.a)?;
-            Some(AtOnce::Condition { cond })
+        UNLOCK_PAGE => Some(TaskCall::ClearBit { word: page, bit: 0 }),
+        TRYLOCK_PAGE => Some(TaskCall::TryBit { word: page, bit: 0 }),
+        ADD_TALLY => Some(TaskCall::AddTally { page, amount }),
+        _ => None,
+    }
+}
+
+fn on_cell(cell: u8, call: CellCall) -> Option<TaskCall>
+    ensures { result ≡ Some (task_call.Cell call cell) }
+{
+    Some(TaskCall::Cell { call, cell })
+}
+
+/// A call about a completion.
+fn cell_call(cell: u8, call: &Call) -> Option<TaskCall>
+    ensures { result ≡ asks_cell cell call.now }
+{
+    match call.kind {
+        WAIT_FOR_COMPLETION => {
+            let state = state_of(call.b)?;
+            Some(TaskCall::WaitFor { cell, state })
         }
-        AtOnceKind::Number => Some(AtOnce::Number),
-        AtOnceKind::Raise => {
-            let who = byte_of(call.a)?;
+        COMPLETE => on_cell(cell, CellCall::Complete),
+        COMPLETE_ALL => on_cell(cell, CellCall::CompleteAll),
+        REINIT_COMPLETION => on_cell(cell, CellCall::Reinit),
+        TRY_WAIT_FOR_COMPLETION => on_cell(cell, CellCall::TryWait),
+        COMPLETION_DONE => on_cell(cell, CellCall::IsDone),
+        _ => None,
+    }
+}
+
+/// A signal that is raised.
+fn signal_call(who: u8, call: &Call) -> Option<TaskCall>
+    ensures { result ≡ asks_signal who call.now }
+{
+    match call.kind {
+        RAISE_SIGNAL => {
             let fatal = flag_of(call.b)?;
-            Some(AtOnce::Raise { who, fatal })
+            Some(TaskCall::Signal { who, fatal })
         }
-        AtOnceKind::TakeSignal => Some(AtOnce::TakeSignal),
+        _ => None,
     }
 }
 
-/// The call of this kind with these numbers: None where a number that counts is not of its type.
-pub fn wanted_of(kind: Kind, call: &Call) -> Option<Wanted>
-    ensures { result ≡ asks kind call.now }
+/// The call that begins, by what it is about.
+fn begun_by(a: u8, call: &Call) -> Option<TaskCall>
+    ensures { result ≡ asks_begin a call.now }
 {
-    match kind {
-        Kind::Advance => Some(Wanted::Advance),
-        Kind::Waiting(kind) => {
-            let waiting = waiting_of(kind, call)?;
-            Some(Wanted::Waiting(waiting))
-        }
-        Kind::Waking(kind) => {
-            let waking = waking_of(kind, call)?;
-            Some(Wanted::Waking(waking))
-        }
-        Kind::Simple(kind) => {
-            let simple = simple_of(kind, call)?;
-            Some(Wanted::Simple(simple))
-        }
-        Kind::Cell(kind) => cell_of(kind, call.a),
-        Kind::AtOnce(kind) => {
-            let at_once = at_once_of(kind, call)?;
-            Some(Wanted::AtOnce(at_once))
+    let shared = either(cond_call(a, call), var_call(a, call));
+    let kept = either(bit_call(a, call), page_call(a, call));
+    let counted = either(cell_call(a, call), signal_call(a, call));
+    either(shared, either(kept, counted))
+}
+
+/// What a call asks for: None where it is no call.
+pub fn wanted_of(call: &Call) -> Option<Wanted>
+    ensures { result ≡ asks call.now }
+{
+    match call.kind {
+        ADVANCE => Some(Wanted::Advance),
+        NUMBER => Some(Wanted::Number),
+        TAKE_SIGNAL => Some(Wanted::Begin(TaskCall::Accept)),
+        _ => {
+            let a = byte_of(call.a)?;
+            let begun = begun_by(a, call)?;
+            Some(Wanted::Begin(begun))
         }
     }
 }

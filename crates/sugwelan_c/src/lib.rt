@@ -12,6 +12,7 @@ pub mod addresses;
 pub mod blocks;
 pub mod calls;
 pub mod handles;
+pub mod kinds;
 pub mod replies;
 pub mod serving;
 

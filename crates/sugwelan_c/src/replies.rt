@@ -3,12 +3,13 @@
 ghost use Rattle.std.specs.Prelude.{◌≡◌};
 ghost use Rattle.wq_head.specs.Roused.{tasks_in};
 ghost use Rattle.sugwelan_c.specs.Told.{Lists, Tells, answer_code, bit_code, code_of, end_number, progress_code};
-ghost use Rattle.sugwelan_c.specs.Told.{head_number, lock_of, refusal_code, roused_by, value_of, wait_code, walk_of};
+ghost use Rattle.sugwelan_c.specs.Told.{head_number, lock_of, refusal_code, roused_by, taken_number, truth, value_of, wait_code, walk_of};
 
 use bit_wait::BitEnd;
 use wait_event::wait_events::WaitEnd;
 use wait_model::layout::{HEADS, MEMBERS};
 use wait_model::queues::{End, Walked};
+use wait_model::tasks::Taken;
 use wq_checked::{Answer, Awaited, Progress, Refused};
 use wq_head::{Rousing, no_walk};
 
@@ -68,14 +69,12 @@ pub struct Told {
     pub rouse: [u8; ROOM],
 }
 
-/// What was done with a call: it was refused; it goes on so, or is over with an answer; it was over at once, with a
-/// value, or with a task that is to be roused.
+/// What was done with a call: it was refused; it goes on so, or is over with an answer; it asked for a number.
 #[derive(Clone, Copy)]
 pub enum Reply {
     Refused(Refused),
     On(Progress),
     Value(u64),
-    Rouse(u8),
 }
 
 pub fn refusal_code(reason: Refused) -> i32
@@ -120,9 +119,7 @@ fn answer_code(answer: Answer) -> i32
         Answer::Changed(Err(end)) => wait_code(end),
         Answer::Bit(Ok(())) => DONE,
         Answer::Bit(Err(end)) => bit_code(end),
-        Answer::Walked(_) => DONE,
-        Answer::Selected(_) => DONE,
-        Answer::Cell(_) => DONE,
+        _ => DONE,
     }
 }
 
@@ -146,18 +143,37 @@ pub fn code_of(reply: Reply) -> i32
         Reply::Refused(reason) => refusal_code(reason),
         Reply::On(told) => progress_code(told),
         Reply::Value(_) => DONE,
-        Reply::Rouse(_) => DONE,
+    }
+}
+
+fn truth(so: bool) -> u64
+    ensures { result ≡ truth so }
+{
+    if so { 1 } else { 0 }
+}
+
+/// The number of the signals that a task took.
+fn taken_number(taken: Taken) -> u64
+    ensures { result ≡ taken_number taken }
+{
+    match taken {
+        Taken::Nothing => 0,
+        Taken::Plain => 1,
+        Taken::Fatal => 2,
     }
 }
 
 /// The value of a call that is over: of a wait for a variable, what its last load found; of a call about a completion,
-/// whether it was done.
+/// whether it was done; of a try, whether it took the bit; the value, or the signals, that a call at once answers.
 fn value_of(reply: Reply) -> u64
     ensures { result ≡ value_of reply }
 {
     match reply {
         Reply::On(Progress::Done(Answer::Changed(Ok(seen)))) => seen,
-        Reply::On(Progress::Done(Answer::Cell(done))) => { if done { 1 } else { 0 } }
+        Reply::On(Progress::Done(Answer::Cell(done))) => truth(done),
+        Reply::On(Progress::Done(Answer::Tried(clear))) => truth(clear),
+        Reply::On(Progress::Done(Answer::Value(value))) => value,
+        Reply::On(Progress::Done(Answer::Accepted(taken))) => taken_number(taken),
         Reply::Value(value) => value,
         _ => 0,
     }
@@ -252,7 +268,9 @@ pub fn tell(reply: Reply, passed: Option<u16>, rousing: &Rousing, told: &mut Tol
     ensures { Tells reply passed (roused_by reply (tasks_in rousing.now)) told.new }
 {
     match reply {
-        Reply::Rouse(who) => tell_with(reply, passed, &[who], told),
+        Reply::On(Progress::Done(Answer::Raised(Some(who)))) => {
+            tell_with(reply, passed, &[who], told)
+        }
         _ => tell_with(reply, passed, rousing.tasks(), told),
     }
 }

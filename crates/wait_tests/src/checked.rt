@@ -8,8 +8,8 @@ use crate::wants::all_so;
 use std::alloc::{AllocError, Global};
 use std::process::Abort;
 use std::test::Fail;
-use wait_model::tasks::{How, SleepState};
-use wq_checked::calls::{Answer, Progress};
+use wait_model::tasks::{How, SleepState, Taken};
+use wq_checked::calls::{Answer, Call, Progress};
 use wq_checked::reasons::Refused;
 use wq_checked::tasks::{CheckedTask, NoFork};
 use wq_head::Rousing;
@@ -81,24 +81,37 @@ fn woke(answer: Option<Answer>, wanted: u32) -> bool {
     }
 }
 
+/// Begins a call: false where it is refused.
+fn begins(task: &mut CheckedTask, call: Call) -> bool {
+    task.begin(call).is_ok()
+}
+
 /// Whether a call was refused for this reason.
-fn refuses(begun: Result<(), Refused>, reason: Refused) -> bool {
+fn refuses(begun: Result<Progress, Refused>, reason: Refused) -> bool {
     match begun {
-        Ok(()) => false,
+        Ok(_) => false,
         Err(told) => told == reason,
     }
 }
 
 /// Whether a bit or a page was taken.
-fn took(tried: Result<bool, Refused>) -> bool {
-    matches!(tried, Ok(true))
+fn took(tried: Result<Progress, Refused>) -> bool {
+    matches!(tried, Ok(Progress::Done(Answer::Tried(true))))
+}
+
+/// The signals that a task takes.
+fn accepted(task: &mut CheckedTask) -> Option<Taken> {
+    match task.begin(Call::Accept) {
+        Ok(Progress::Done(Answer::Accepted(taken))) => Some(taken),
+        _ => None,
+    }
 }
 
 /// Whether a number was answered, and this one.
-fn answers(told: Result<u64, Refused>, wanted: u64) -> bool {
+fn answers(told: Result<Progress, Refused>, wanted: u64) -> bool {
     match told {
-        Ok(number) => number == wanted,
-        Err(_) => false,
+        Ok(Progress::Done(Answer::Value(number))) => number == wanted,
+        _ => false,
     }
 }
 
@@ -115,12 +128,25 @@ fn start_two(rt: &impl Abort, alloc: Global) -> Result<(CheckedTask, CheckedTask
 fn a_condition_is_waited_for_and_set(rt: HostRuntime) -> Result<(), Fail> {
     let (mut setter, mut waiter) = start_two(&rt, rt.alloc())?;
     let seen = [
-        waiter.begin_wait(3, SHARED).is_ok(),
+        begins(
+            &mut waiter,
+            Call::Wait {
+                cond: 3,
+                how: SHARED,
+            },
+        ),
         doze(&mut waiter),
-        setter.set_and_wake(3, 7, 0).is_ok(),
+        begins(
+            &mut setter,
+            Call::SetAndWake {
+                cond: 3,
+                value: 7,
+                count: 0,
+            },
+        ),
         woke(finish(&mut setter), 1),
         has_waited(finish(&mut waiter)),
-        answers(waiter.take_cond(3), 7),
+        answers(waiter.begin(Call::Take { cond: 3 }), 7),
     ];
     all_so(&rt, &seen);
     Ok(())
@@ -130,10 +156,17 @@ fn a_condition_is_waited_for_and_set(rt: HostRuntime) -> Result<(), Fail> {
 fn hand_bit(keeper: &mut CheckedTask, waiter: &mut CheckedTask) -> [bool; 7] {
     let uninterruptible = SleepState::Uninterruptible;
     [
-        took(keeper.test_and_set(2, 16)),
-        waiter.begin_lock(2, 16, uninterruptible).is_ok(),
+        took(keeper.begin(Call::TryBit { word: 2, bit: 16 })),
+        begins(
+            waiter,
+            Call::LockBit {
+                word: 2,
+                bit: 16,
+                state: uninterruptible,
+            },
+        ),
         doze(waiter),
-        keeper.clear_and_wake_bit(2, 16).is_ok(),
+        begins(keeper, Call::ClearBit { word: 2, bit: 16 }),
         woke(finish(keeper), 1),
         has_got(finish(waiter)),
         waiter.keeps(2, 16),
@@ -143,13 +176,19 @@ fn hand_bit(keeper: &mut CheckedTask, waiter: &mut CheckedTask) -> [bool; 7] {
 /// So is a page, whose tally the other one then adds to.
 fn hand_page(keeper: &mut CheckedTask, waiter: &mut CheckedTask) -> [bool; 8] {
     [
-        took(keeper.try_lock_page(5)),
-        waiter.begin_page(5, SleepState::Killable).is_ok(),
+        took(keeper.begin(Call::TryBit { word: 5, bit: 0 })),
+        begins(
+            waiter,
+            Call::LockPage {
+                page: 5,
+                state: SleepState::Killable,
+            },
+        ),
         doze(waiter),
-        keeper.unlock_page(5).is_ok(),
+        begins(keeper, Call::ClearBit { word: 5, bit: 0 }),
         woke(finish(keeper), 1),
         has_got(finish(waiter)),
-        answers(waiter.add_tally(5, 2), 0),
+        answers(waiter.begin(Call::AddTally { page: 5, amount: 2 }), 0),
         !keeper.keeps(5, 0) && waiter.keeps(5, 0),
     ]
 }
@@ -166,11 +205,36 @@ fn a_bit_and_a_page_are_handed_on(rt: HostRuntime) -> Result<(), Fail> {
 fn refuse_numbers(task: &mut CheckedTask) -> [bool; 5] {
     let killable = SleepState::Killable;
     [
-        refuses(task.begin_wait(48, SHARED), Refused::OutOfRange),
-        refuses(task.begin_swait(48, killable), Refused::NotListed),
-        refuses(task.begin_var(128, 0, killable), Refused::OutOfRange),
-        matches!(task.clear_and_wake_bit(1, 1), Err(Refused::NotHeld)),
-        matches!(task.add_tally(1, 1), Err(Refused::NotHeld)),
+        refuses(
+            task.begin(Call::Wait {
+                cond: 48,
+                how: SHARED,
+            }),
+            Refused::OutOfRange,
+        ),
+        refuses(
+            task.begin(Call::SimpleWait {
+                cond: 48,
+                state: killable,
+            }),
+            Refused::NotListed,
+        ),
+        refuses(
+            task.begin(Call::WaitVar {
+                var: 128,
+                old: 0,
+                state: killable,
+            }),
+            Refused::OutOfRange,
+        ),
+        matches!(
+            task.begin(Call::ClearBit { word: 1, bit: 1 }),
+            Err(Refused::NotHeld)
+        ),
+        matches!(
+            task.begin(Call::AddTally { page: 1, amount: 1 }),
+            Err(Refused::NotHeld)
+        ),
     ]
 }
 
@@ -178,19 +242,45 @@ fn refuse_numbers(task: &mut CheckedTask) -> [bool; 5] {
 fn refuse_bits(task: &mut CheckedTask) -> [bool; 3] {
     let killable = SleepState::Killable;
     [
-        took(task.test_and_set(1, 1)),
-        refuses(task.begin_lock(1, 1, killable), Refused::Held),
-        refuses(task.begin_bit(1, 64, killable), Refused::OutOfRange),
+        took(task.begin(Call::TryBit { word: 1, bit: 1 })),
+        refuses(
+            task.begin(Call::LockBit {
+                word: 1,
+                bit: 1,
+                state: killable,
+            }),
+            Refused::Held,
+        ),
+        refuses(
+            task.begin(Call::WaitBit {
+                word: 1,
+                bit: 64,
+                state: killable,
+            }),
+            Refused::OutOfRange,
+        ),
     ]
 }
 
 /// What is asked of a task while a call of it is under way.
 fn refuse_busy(task: &mut CheckedTask) -> [bool; 4] {
     [
-        task.begin_wait(0, SHARED).is_ok(),
+        begins(
+            task,
+            Call::Wait {
+                cond: 0,
+                how: SHARED,
+            },
+        ),
         matches!(task.fork(0), Err(NoFork::Busy)),
-        refuses(task.begin_page(0, SleepState::Killable), Refused::Busy),
-        matches!(task.take_cond(0), Err(Refused::Busy)),
+        refuses(
+            task.begin(Call::LockPage {
+                page: 0,
+                state: SleepState::Killable,
+            }),
+            Refused::Busy,
+        ),
+        matches!(task.begin(Call::Take { cond: 0 }), Err(Refused::Busy)),
     ]
 }
 

@@ -1,6 +1,5 @@
 pub mod Masks
 pub mod Going
-pub mod Refusing
 pub mod Readiness
 pub mod Resting
 pub mod Begun
@@ -18,3 +17,4 @@ pub mod CellTurns
 pub mod Drawn
 pub mod Publishing
 pub mod OneHolds
+pub mod Within

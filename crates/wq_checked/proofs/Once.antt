@@ -9,7 +9,9 @@ use Rattle.wait_model.specs.declared.points.Next.TheVariants as next
 use Rattle.wait_model.specs.declared.points.Point.TheVariants as at
 use Rattle.wait_model.specs.declared.watches.Watch.{Watch}
 use Rattle.wait_model.specs.declared.watches.Watch.TheVariants as watch
+use Rattle.wait_model.specs.declared.steps.Step.TheVariants as step
 use Rattle.wait_rule.specs.declared.journal.Item.{Item}
+use Rattle.wait_rule.specs.declared.journal.Item.TheVariants as item
 use Rattle.wait_rule.specs.Aside.{IsAsideItem}
 use Rattle.wait_rule.specs.Bits.{SetsBit, taken_bits}
 use Rattle.wait_rule.specs.HandedPermits.{StaysOff}
@@ -41,3 +43,11 @@ pub item_ready : (ks : KeptBits) (old new : Known) (x : Item) → IsAsideItem x 
     → Carries unchanged old new → IsReady ks old → IsReady ks new
 item_ready ks old new x aside is carries r = ready_carried ks old new carries
     (subst (λ (k : Known). StaysOff old k) (sym is) (items_stay_off old x aside)) r
+
+-- a signal that was raised, and its wake that was tried
+pub raised_ready : (ks : KeptBits) (old mid new : Known) (who mask found met : ℕ) (fatal : Bool)
+    → mid ≡ added old (item.Made (step.Signal who fatal found)) → Carries unchanged old mid
+    → new ≡ added mid (item.Made (step.Wake who mask met)) → Carries unchanged mid new → IsReady ks old → IsReady ks new
+raised_ready ks old mid new who mask found met fatal sent still woke carries r =
+    item_ready ks mid new (item.Made (step.Wake who mask met)) tt woke carries
+    (item_ready ks old mid (item.Made (step.Signal who fatal found)) tt sent still r)

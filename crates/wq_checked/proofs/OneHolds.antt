@@ -3,7 +3,6 @@ use Rattle.std.proofs.Common.{◌∙◌, sym, refl, subst}
 use Rattle.std.specs.Prelude.{ℕ, ◌≡◌, ◌<◌, Bool}
 use Rattle.wait_model.specs.declared.layout.TheConstants.{COMPLETIONS}
 use Rattle.wait_model.specs.declared.steps.Step.TheVariants as step
-use Rattle.wait_model.specs.declared.tasks.SleepState.{SleepState}
 use Rattle.wait_model.specs.declared.watches.Mode.TheVariants as mode
 use Rattle.wait_model.specs.declared.watches.Watch.TheVariants as watch
 use Rattle.wait_rule.specs.declared.journal.Item.TheVariants as item
@@ -20,56 +19,29 @@ use Rattle.completion_cell.specs.CellTurns as cells
 use Rattle.completion_cell.specs.declared.cell_turns.CellCall.{CellCall}
 use Rattle.completion_cell.specs.declared.cell_turns.CellRun.{CellRun}
 use Rattle.completion_cell.specs.declared.cell_turns.CellStage.TheVariants as cell_stage
-use Rattle.wq_checked.specs.Calls.{
-  BeginsCell,
-  BeginsSwake,
-  CellCame,
-  IsSwaking,
-  IsUnderWay,
-  SetsSimple,
-  SwakeCame,
-}
+use Rattle.wq_checked.specs.Calls.{CameFrom, IsSwaking, IsUnderWay}
 use Rattle.wq_checked.specs.Kept.{IsReady, but_kept}
 use Rattle.wq_checked.specs.declared.calls.Running.TheVariants as running
 use Rattle.wq_checked.specs.declared.kept_bits.KeptBits.{KeptBits}
+use Rattle.wq_checked.proofs.Begun.{under}
 use Rattle.wq_checked.proofs.Elsewhere.{step_off}
 use Rattle.wq_checked.proofs.Publishing.{set_keeps, set_owes}
 use Rattle.wq_checked.proofs.WakeTurns.{owes_wider}
 
 -- a call about a completion
-module _ (ks : KeptBits) (k : Known) (ready : IsReady ks k) (r : CellRun) (call : CellCall) (d : ℕ)
-    (fresh : cells.IsFresh r call d) (there : d < COMPLETIONS) where
-  cell_came : CellCame k k r r cell_stage.First
-  cell_came = record {
-    at = record {
-      up = ready.up;
-      free = ready.idle.free;
-      there = subst (λ (n : ℕ). n < COMPLETIONS) (sym fresh.cell) there;
-      left = ready.off r.cell;
-      stands = refl;
-    };
-    call = refl;
-    cell = refl;
-  }
-
-  pub cell_begins : BeginsCell k k call d (running.Cell r cell_stage.First)
-  cell_begins = record {
-    run = r;
-    call_is = fresh.call_is;
-    cell_is = fresh.cell;
-    is = refl;
-    same = refl;
-    came = cell_came;
-  }
-
-  pub cell_under : IsUnderWay ks k (running.Cell r cell_stage.First)
-  cell_under = record {
-    start = k;
-    first = running.Cell r cell_stage.First;
-    began = ready;
-    came = cell_came;
-    stands = tt;
-  }
+pub cell_sound : (ks : KeptBits) (k : Known) (r : CellRun) (q : CellCall) (d : ℕ) → IsReady ks k → cells.IsFresh r q d
+    → d < COMPLETIONS → IsUnderWay ks k (running.Cell r cell_stage.First)
+cell_sound ks k r q d ready fresh there = under ks k (running.Cell r cell_stage.First) ready tt (record {
+  at = record {
+    up = ready.up;
+    free = ready.idle.free;
+    there = subst (λ (n : ℕ). n < COMPLETIONS) (sym fresh.cell) there;
+    left = ready.off r.cell;
+    stands = refl;
+  };
+  call = refl;
+  cell = refl;
+})
 
 -- a wake of a simple queue
 pub record Swaking (ks : KeptBits) (k : Known) (cond : ℕ) : Type 0 where
@@ -105,37 +77,13 @@ set_swaking ks old mid cond value found r is p = record {
 
 module _ (ks : KeptBits) (k : Known) (r : SwakeRun) (cond : ℕ) (all : Bool) (w : Swaking ks k cond)
     (fresh : swakes.IsFresh r cond all) (simple : IsSimpleCond cond) where
-  swake_came : SwakeCame k k r r swake_stage.First
+  pub swake_came : CameFrom k (running.Swake r swake_stage.First) k (running.Swake r swake_stage.First)
   swake_came = record {
     at = record { up = w.up; idle = w.idle; simple = subst IsSimpleCond (sym fresh.cond) simple; stands = refl };
     cond = refl;
     all = refl;
   }
 
-  pub swake_begins : BeginsSwake k cond all (running.Swake r swake_stage.First)
-  swake_begins = record {
-    run = r;
-    cond_is = fresh.cond;
-    all_is = fresh.all_is;
-    is = refl;
-    came = swake_came;
-  }
-
-  pub swake_under : IsUnderWay ks k (running.Swake r swake_stage.First)
-  swake_under = record {
-    start = k;
-    first = running.Swake r swake_stage.First;
-    began = subst (IsSwaking ks k) (sym fresh.cond) w.may;
-    came = swake_came;
-    stands = tt;
-  }
-
-pub sets_simple : (ks : KeptBits) (old mid : Known) (r : SwakeRun) (cond value found : ℕ) (all : Bool)
-    → mid ≡ added old (item.Made (step.Publish (watch.Plain cond) value found)) → Swaking ks mid cond
-    → swakes.IsFresh r cond all → IsSimpleCond cond
-    → SetsSimple old mid cond value all (running.Swake r swake_stage.First)
-sets_simple ks old mid r cond value found all is w fresh simple = record {
-  found = found;
-  published = is;
-  wakes = swake_begins ks mid r cond all w fresh simple;
-}
+  pub swake_sound : IsUnderWay ks k (running.Swake r swake_stage.First)
+  swake_sound = under ks k (running.Swake r swake_stage.First) (subst (IsSwaking ks k) (sym fresh.cond) w.may) tt
+      swake_came

@@ -1,5 +1,5 @@
 -- What a publish leaves, and a look for members after it: a task that may begin its wake, or a ready one.
-use Rattle.std.proofs.Common.{◌∙◌, ap, sym, refl, subst}
+use Rattle.std.proofs.Common.{◌∙◌, arith, ap, sym, refl, subst}
 use Rattle.std.specs.Prelude.{ℕ, ◌≡◌, ◌||◌, ◌&&◌, not, Bool, true, false}
 use Rattle.wait_model.specs.declared.steps.Step.TheVariants as step
 use Rattle.wait_model.specs.declared.watches.Aim.{Aim}
@@ -7,7 +7,7 @@ use Rattle.wait_model.specs.declared.watches.Mode.{Mode}
 use Rattle.wait_model.specs.declared.watches.Mode.TheVariants as mode
 use Rattle.wait_model.specs.declared.watches.Watch.{Watch}
 use Rattle.wait_model.specs.declared.watches.Watch.TheVariants as watch
-use Rattle.wait_model.specs.Watches.{head_of, is_bit, same}
+use Rattle.wait_model.specs.Watches.{IsThere, head_of, is_bit, same}
 use Rattle.wait_rule.specs.declared.journal.Item.TheVariants as item
 use Rattle.wait_rule.specs.Bits.{ClearsBit}
 use Rattle.wait_rule.specs.LeftEntries.{HasLeftNone}
@@ -20,17 +20,25 @@ use Rattle.wq_head.specs.Scanned.{HasEndedAt, HasScanned, unmade}
 use Rattle.wq_head.specs.Walks.{IsFull}
 use Rattle.wait_event.proofs.Setting.{set_idle}
 use Rattle.wq_checked.specs.Kept.{IsReady, but_kept, keeps_in}
-use Rattle.wq_checked.specs.Calls.{Publishes}
+use Rattle.wq_checked.specs.Begins.{LooksBehind}
+use Rattle.wq_checked.specs.Advancing.{Waking, WakesAs}
 use Rattle.wq_checked.proofs.Elsewhere.{scan_off, step_off}
 use Rattle.wq_checked.proofs.Readiness.{keeps_less, owes_given}
-use Rattle.wq_checked.proofs.WakeTurns.{Waking, first_begins, owes_wider}
-use Rattle.wq_checked.specs.Calls.{BeginsSet, WakesFirst}
+use Rattle.wq_checked.proofs.WakeTurns.{first_begins, owes_wider}
+use Rattle.wq_checked.specs.Calls.{WakesFirst}
+use Rattle.wq_checked.specs.declared.calls.Call.{Call}
 use Rattle.wq_checked.specs.declared.calls.Answer.TheVariants as answer
 use Rattle.wq_checked.specs.declared.calls.Progress.TheVariants as progress
 use Rattle.wq_checked.specs.declared.calls.Running.{Running}
 use Rattle.wq_checked.specs.declared.calls.Running.TheVariants as running
 use Rattle.wq_checked.specs.declared.kept_bits.KeptBits.{KeptBits}
 use Rattle.wait_model.specs.declared.queues.Walked.{Walked}
+
+pub full_there : (w : Watch) → IsFull w → IsThere w
+full_there (watch.Plain c) f = omega arith
+full_there (watch.Done d) f = absurd f
+full_there (watch.Bit w b) f = f
+full_there (watch.Var v o) f = f
 
 -- masks show no other watches than bits
 pub no_bit : (ks : KeptBits) (c d : Watch) → is_bit c ≡ false → same d c ≡ true → keeps_in ks d ≡ false
@@ -81,9 +89,6 @@ module _ (ks : KeptBits) (old mid : Known) (aim : Aim) (r : IsReady ks old) (val
         (set_owes ks old mid aim.watch r p not_bit);
     off = λ d. step_off old mid (step.Publish aim.watch value found) tt is r.told d (r.off d);
   }
-
-  pub begins_set : (now : Running) → WakesFirst aim now → BeginsSet old mid value aim now
-  begins_set now w = record { found = found; published = is; wakes = first_begins ks mid aim now set_waking w }
 
 -- a ready task may wake for a condition
 pub ready_waking : (ks : KeptBits) (k : Known) (aim : Aim) → IsReady ks k → IsFull aim.watch → Waking ks k aim
@@ -154,26 +159,18 @@ module _ (ks : KeptBits) (mid new : Known) (aim : Aim) (k : Waking ks mid aim) (
     off = looked_off;
   }
 
-  module _ (old : Known) (value found : ℕ)
-      (is : mid ≡ added old (item.Made (step.Publish aim.watch value found))) where
-    pub publishes_hit : (now : Running) → hit ≡ true → WakesFirst aim now
-        → Publishes old new value aim progress.Again now
-    publishes_hit now found_some w = record {
-      found = found;
-      between = mid;
-      hit = true;
-      published = is;
-      looked = subst (HasScanned mid new (head_of aim.watch)) found_some looked;
-      goes = (refl, first_begins ks new aim now looked_waking w);
-    }
+  pub looks_hit : (c : Call) → WakesAs c aim → (now : Running) → hit ≡ true → WakesFirst aim now
+      → LooksBehind c aim.watch mid new progress.Again now
+  looks_hit c wakes now found_some w = record {
+    hit = true;
+    looked = subst (HasScanned mid new (head_of aim.watch)) found_some looked;
+    goes = (refl, first_begins ks new aim now looked_waking w c wakes);
+  }
 
-    pub publishes_none : (w : Walked) → hit ≡ false → w ≡ unmade
-        → Publishes old new value aim (progress.Done (answer.Walked w)) running.Idle
-    publishes_none w found_none unmade_is = record {
-      found = found;
-      between = mid;
-      hit = false;
-      published = is;
-      looked = subst (HasScanned mid new (head_of aim.watch)) found_none looked;
-      goes = (ap (λ (v : Walked). progress.Done (answer.Walked v)) unmade_is, refl);
-    }
+  pub looks_none : (c : Call) (w : Walked) → hit ≡ false → w ≡ unmade
+      → LooksBehind c aim.watch mid new (progress.Done (answer.Walked w)) running.Idle
+  looks_none c w found_none unmade_is = record {
+    hit = false;
+    looked = subst (HasScanned mid new (head_of aim.watch)) found_none looked;
+    goes = (ap (λ (v : Walked). progress.Done (answer.Walked v)) unmade_is, refl);
+  }

@@ -21,16 +21,17 @@ use Rattle.wq_head.specs.declared.wakes.WakeStage.TheVariants as stage
 use Rattle.wq_head.specs.declared.wakes.WakeTurn.{WakeTurn}
 use Rattle.wq_head.specs.declared.wakes.WakeTurn.TheVariants as turn
 use Rattle.wq_checked.specs.Kept.{IsReady, but_kept, keeps_in}
+use Rattle.wq_checked.specs.Begins.{HasJustBegun, BeginsAs}
+use Rattle.wq_checked.specs.declared.calls.Call.{Call}
 use Rattle.wq_checked.specs.Calls.{
   Began,
-  BeginsWake,
   CameFrom,
   IsSound,
   IsWaking,
   WakesFirst,
   WentOn,
 }
-use Rattle.wq_checked.specs.Advancing.{wake_left, wake_shown}
+use Rattle.wq_checked.specs.Advancing.{Waking, WakesAs, wake_left, wake_shown}
 use Rattle.wq_checked.proofs.Elsewhere.{wakes_off}
 use Rattle.wq_checked.specs.declared.calls.Running.{Running}
 use Rattle.wq_checked.specs.declared.calls.Running.TheVariants as running
@@ -112,16 +113,6 @@ pub wake_sound : (ks : KeptBits) (old new : Known) (run q : WakeRun) (s : WakeSt
     → IsSound (wake_left q t) ks new
 wake_sound ks old new run q s t u turned = sound_from ks u.start u.first old new run q s t u.began u.came turned
 
--- A task that may begin a wake with this aim: it may owe the wakes that this one makes.
-pub record Waking (ks : KeptBits) (k : Known) (aim : Aim) : Type 0 where
-  pub up : IsUp k
-  pub idle : IsIdle k
-  pub full : IsFull aim.watch
-  pub keeps : (d : Watch) → (told_of k).bits.keeps d ≡ keeps_in ks d
-  pub told : (told_of k).hold.head ≡ None
-  pub owes : Owes (with_wakes aim.watch aim.mode (but_kept ks)) k
-  pub off : HasLeftNone k
-
 module _ (ks : KeptBits) (k : Known) (aim : Aim) (now : Running) (m : Waking ks k aim) (w : WakesFirst aim now) where
   first_at : IsAt k k w.run stage.First
   first_at = record {
@@ -133,11 +124,9 @@ module _ (ks : KeptBits) (k : Known) (aim : Aim) (now : Running) (m : Waking ks 
     stands = refl;
   }
 
-  pub first_begins : BeginsWake k aim now
-  first_begins = record {
-    run = w.run;
-    aim_is = w.aim_is;
-    is = w.is;
+  pub first_begins : (c : Call) → WakesAs c aim → HasJustBegun c k now
+  first_begins c is_first = record {
+    first = subst (BeginsAs c) (sym w.is) (is_first w.run w.aim_is);
     came = subst (λ (r : Running). CameFrom k r k r) (sym w.is) (first_at, refl);
   }
 

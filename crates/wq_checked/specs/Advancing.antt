@@ -1,6 +1,15 @@
 -- For proofs alone.
--- What a stretch of a call leaves under way and tells.
-use Rattle.std.specs.Prelude.{Bool, true, false}
+-- What a stretch of a call leaves under way and tells, and what holds where a wake begins.
+use Rattle.std.specs.Prelude.{ℕ, ◌≡◌, Bool, true, false, None}
+use Rattle.wait_model.specs.declared.watches.Aim.{Aim}
+use Rattle.wait_model.specs.declared.watches.Mode.TheVariants as mode
+use Rattle.wait_model.specs.declared.watches.Watch.{Watch}
+use Rattle.wait_rule.specs.Known.{Known}
+use Rattle.wait_rule.specs.LeftEntries.{HasLeftNone}
+use Rattle.wait_rule.specs.Queues.{IsIdle}
+use Rattle.wait_rule.specs.Says.{IsUp, Owes, told_of}
+use Rattle.wait_rule.specs.Stays.{with_wakes}
+use Rattle.wq_head.specs.Walks.{IsFull}
 use Rattle.bit_wait.specs.BitEnds as bit_ends
 use Rattle.bit_wait.specs.LockEnds as lock_ends
 use Rattle.page_lock.specs.PageEnds as page_ends
@@ -23,6 +32,10 @@ use Rattle.wq_head.specs.declared.wakes.WakeRun.{WakeRun}
 use Rattle.wq_head.specs.declared.wakes.WakeStage.TheVariants as wake_stage
 use Rattle.wq_head.specs.declared.wakes.WakeTurn.{WakeTurn}
 use Rattle.wq_head.specs.declared.wakes.WakeTurn.TheVariants as wake_turn
+use Rattle.wq_checked.specs.Begins.{BeginsAs}
+use Rattle.wq_checked.specs.Kept.{but_kept, keeps_in}
+use Rattle.wq_checked.specs.declared.calls.Call.{Call}
+use Rattle.wq_checked.specs.declared.kept_bits.KeptBits.{KeptBits}
 use Rattle.wq_checked.specs.Calls.{event_answer, is_worn, turn_told}
 use Rattle.wq_checked.specs.Locks.{refusal_told}
 use Rattle.wq_checked.specs.Stages.{AwaitRun, BitRun, BitTurn, LockRun, LockTurn, PageRun, PageTurn, WaitRun, WaitTurn}
@@ -129,3 +142,20 @@ lock_took _ = false
 abbrev pub page_took : PageTurn → Bool
 page_took (turn.Done o) = page_over o
 page_took _ = false
+
+-- A task that may begin a wake with this aim: it may owe the wakes that this one makes.
+pub record Waking (ks : KeptBits) (k : Known) (aim : Aim) : Type 0 where
+  pub up : IsUp k
+  pub idle : IsIdle k
+  pub full : IsFull aim.watch
+  pub keeps : (d : Watch) → (told_of k).bits.keeps d ≡ keeps_in ks d
+  pub told : (told_of k).hold.head ≡ None
+  pub owes : Owes (with_wakes aim.watch aim.mode (but_kept ks)) k
+  pub off : HasLeftNone k
+
+-- the wake of a variable or a bit, and a call that begins with a wake of this aim
+abbrev pub normal_wake : Watch → Aim
+normal_wake w = record { watch = w; mode = mode.Normal; count = 1 }
+
+abbrev pub WakesAs : Call → Aim → Type 0
+WakesAs c aim = (r : WakeRun) → r.aim ≡ aim → BeginsAs c (running.Wake r wake_stage.First)

@@ -254,98 +254,12 @@ IsSound running.Idle ks k = IsReady ks k
 IsSound running.Starved ks k = Unit {0}
 IsSound r ks k = IsUnderWay ks k r
 
--- A wait has begun: nothing of the task has changed, and the wait is under way at its first stage, with these numbers.
-pub record BeginsEvent (old new : Known) (w : Watch) (how : How) (now : Running) : Type 0 where
-  pub run : WaitRun
-  pub fresh : events.IsFresh run.of w how true
-  pub is : now ≡ running.Event run (turn.Again event_stage.First)
-  pub same : new ≡ old
-  pub came : CameFrom old now new now
-
-pub record BeginsBit (old new : Known) (w b : ℕ) (st : SleepState) (now : Running) : Type 0 where
-  pub run : BitRun
-  pub fresh : bits.IsFresh run.of.wait w b st
-  pub is : now ≡ running.Bit run (turn.Again bit_first)
-  pub same : new ≡ old
-  pub came : CameFrom old now new now
-
-pub record BeginsLock (old new : Known) (w b : ℕ) (st : SleepState) (now : Running) : Type 0 where
-  pub run : LockRun
-  pub fresh : locks.IsFresh run.of.wait w b st
-  pub is : now ≡ running.Lock run (turn.Again lock_first)
-  pub same : new ≡ old
-  pub came : CameFrom old now new now
-
-pub record BeginsPage (old new : Known) (p : ℕ) (st : SleepState) (now : Running) : Type 0 where
-  pub run : PageRun
-  pub fresh : pages.IsFresh run.of p st
-  pub is : now ≡ running.Page run (turn.Again page_stage.First)
-  pub same : new ≡ old
-  pub came : CameFrom old now new now
-
-pub record BeginsAwait (old new : Known) (d : ℕ) (st : SleepState) (now : Running) : Type 0 where
-  pub run : AwaitRun
-  pub fresh : awaits.IsFresh run.of d st
-  pub is : now ≡ running.Await run (turn.Again await_stage.First)
-  pub same : new ≡ old
-  pub came : CameFrom old now new now
-
--- A call about a completion has begun: nothing of the task has changed, and the call is under way before its hold.
-pub record BeginsCell (old new : Known) (call : CellCall) (d : ℕ) (now : Running) : Type 0 where
-  pub run : CellRun
-  pub call_is : run.call ≡ call
-  pub cell_is : run.cell ≡ d
-  pub is : now ≡ running.Cell run cell_stage.First
-  pub same : new ≡ old
-  pub came : CameFrom old now new now
-
--- A wake of a simple queue has begun: it is under way before its hold.
-pub record BeginsSwake (new : Known) (cond : ℕ) (all : Bool) (now : Running) : Type 0 where
-  pub run : SwakeRun
-  pub cond_is : run.cond ≡ cond
-  pub all_is : run.all ≡ all
-  pub is : now ≡ running.Swake run swake_stage.First
-  pub came : CameFrom new now new now
-
--- A simple condition was set to this value, and the wake of its queue has begun.
-pub record SetsSimple (old new : Known) (cond value : ℕ) (all : Bool) (now : Running) : Type 0 where
-  pub found : ℕ
-  pub published : new ≡ added old (item.Made (step.Publish (watch.Plain cond) value found))
-  pub wakes : BeginsSwake new cond all now
-
 -- a wake with this aim before its first hold
 pub record WakesFirst (aim : Aim) (now : Running) : Type 0 where
   pub run : WakeRun
   pub aim_is : run.aim ≡ aim
   pub small : run.aim.count < 2 ^ 32
   pub is : now ≡ running.Wake run wake_stage.First
-
--- A wake has begun with this aim: it is under way before its first hold.
-pub record BeginsWake (new : Known) (aim : Aim) (now : Running) : Type 0 where
-  pub run : WakeRun
-  pub aim_is : run.aim ≡ aim
-  pub is : now ≡ running.Wake run wake_stage.First
-  pub came : CameFrom new now new now
-
--- A watch was published with this value, and its wake has begun.
-pub record BeginsSet (old new : Known) (value : ℕ) (aim : Aim) (now : Running) : Type 0 where
-  pub found : ℕ
-  pub published : new ≡ added old (item.Made (step.Publish aim.watch value found))
-  pub wakes : BeginsWake new aim now
-
--- A watch was published with this value, and then the task looked for members of its head without the lock. Where it
--- found some the wake has begun, and else the call is over.
-abbrev pub GoesWhere : Bool → Known → Aim → Progress → Running → Type 0
-GoesWhere true new aim told now = (told ≡ progress.Again) × BeginsWake new aim now
-GoesWhere false new aim told now = (told ≡ progress.Done (answer.Walked unmade)) × (now ≡ running.Idle)
-
-pub record Publishes (old new : Known) (value : ℕ) (aim : Aim) (told : Progress) (now : Running) : Type 0 where
-  pub found : ℕ
-  pub between : Known
-  pub hit : Bool
-  pub published : between ≡ added old (item.Made (step.Publish aim.watch value found))
-  pub looked : HasScanned between new (model.head_of aim.watch) hit
-  pub goes : GoesWhere hit new aim told now
 
 -- Whom a stretch of a call names to be roused: those whom it has woken, in their order. A stretch of a wait names none.
 abbrev pub Rouses : Running → Known → Known → Rousing → Type 0

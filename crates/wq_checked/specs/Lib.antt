@@ -3,6 +3,7 @@ pub mod Kept
 pub mod Stages
 pub mod Locks
 pub mod Calls
-pub mod Advancing
 pub mod Reasons
 pub mod Signals
+pub mod Begins
+pub mod Advancing

@@ -4,7 +4,6 @@ ghost use Rattle.std.specs.Prelude.{◌≡◌, ◌<◌, ◌||◌, [], true, None
 ghost use Rattle.wait_rule.specs.Known.{Known};
 ghost use Rattle.wait_rule.specs.PassedLocks.{PassesNone};
 ghost use Rattle.wait_rule.specs.Says.{IsUp};
-ghost use Rattle.wait_class.specs.Wholes.{HasRested};
 ghost use Rattle.wq_head.specs.Roused.{IsRousing, tasks_in};
 ghost use Rattle.wait_model.specs.declared.layout.TheConstants.{BIT_WORDS, WORD_BITS};
 ghost use Rattle.wait_model.specs.declared.watches.Watch.{Watch};
@@ -32,13 +31,12 @@ use bit_wait::{lock_calls, wait_calls};
 use page_lock::wait_calls as page_calls;
 use page_lock::waits::{PageOutcome, PageRun, PageTurn};
 use var_wait::end_of_var;
+use wait_class::runs::rest;
 use wait_class::stages::Turn;
 use wait_event::wait_events::end_of;
 use wait_event::waits::{WaitCall, WaitOutcome, WaitRun, WaitTurn};
-use wait_model::layout::RUNNING;
 use wait_model::watches::Watch;
 use wait_rule::queues::Passing;
-use wait_rule::tasks::set_state;
 use wait_rule::{Domain, Task};
 use wq_head::wakes::{WakeRun, WakeStage, WakeTurn, wake_stretch};
 use wq_head::{Members, Rousing};
@@ -86,17 +84,6 @@ pub(crate) fn event_on(
     let mut run = run;
     let turn = ground_turn(domain, task, &mut run, last, passing);
     event_leaves(run, turn)
-}
-
-/// Stores RUNNING where no place was left, since the task may still be in the state in which it would have slept.
-fn rest(domain: &Domain, task: &mut Task, worn: bool)
-    requires of { task.old.domain ≡ domain.now }
-    requires up { worn ≡ true → IsUp task.old }
-    ensures { HasRested task.old task.new worn }
-{
-    if worn {
-        set_state(domain, task, RUNNING);
-    }
 }
 
 /// Whether no place was left for the entry of a wait for a bit that ended so.

@@ -1,191 +1,161 @@
-//! Waits that begin: each is tested, and goes on by `CheckedTask::advance`.
+//! Calls that begin: each is tested, and goes on by `CheckedTask::advance`.
 
-ghost use Rattle.std.specs.Prelude.{◌≡◌, ◌<◌, ◌≤◌, ◌⊎◌, true, false, IfErr, IfOk, None};
-ghost use Rattle.wait_model.specs.declared.layout.TheConstants.{BIT_WORDS, FIRST_SIMPLE, PLAIN_CONDITIONS, VARIABLES};
-ghost use Rattle.wait_model.specs.declared.layout.TheConstants.{WORD_BITS};
-ghost use Rattle.wait_model.specs.declared.watches.Watch.TheVariants as watch;
-ghost use Rattle.wait_model.specs.Tasks.{is_killable};
-ghost use Rattle.swait_queue.specs.SimpleWaits.{IsSimpleCond, tail_in};
-ghost use Rattle.var_wait.specs.VarWaits.{shared_in};
-ghost use Rattle.wq_checked.specs.Calls.{BeginsEvent, BeginsBit, BeginsLock, BeginsPage};
-ghost use Rattle.wq_checked.specs.Kept.{keeps_in};
-ghost use Rattle.wq_checked.specs.Reasons.{IsReason, IsSimpleReason, IsTakerReason, busy_reason};
+ghost use Rattle.std.specs.Prelude.{◌≡◌, true, false, IfErr, IfOk, None, Some};
+ghost use Rattle.wq_checked.specs.Begins.{Begins, HasJustBegun, is_short, is_unlisted, numbers_fit, keeping_reason};
+ghost use Rattle.wq_checked.specs.Begins.{publishes_first, refusal_to};
+ghost use Rattle.wq_checked.specs.Calls.{IsSound};
+ghost use Rattle.wq_checked.specs.Kept.{IsReady};
 
-use crate::calls::Running;
+use crate::admission::refusal_by;
+use crate::at_once::do_at_once;
+use crate::calls::{Call, Progress, Running};
+use crate::kept_bits::KeptBits;
 use crate::reasons::Refused;
-use crate::tasks::{CheckedTask, refusal_of};
+use crate::tasks::CheckedTask;
+use crate::wakings::{look, wake_of};
 use bit_wait::lock_calls::begin_lock;
 use bit_wait::lock_waits::LockTest;
 use bit_wait::wait_calls::begin_bit;
 use bit_wait::waits::BitTest;
+use completion_cell::await_calls::begin_await;
+use completion_cell::awaits::AwaitStage;
+use completion_cell::cell_turns::{CellRun, CellStage};
 use page_lock::wait_calls::begin_page;
 use page_lock::waits::PageStage;
 use swait_queue::begin_swait;
+use swait_queue::swake_turns::{SwakeRun, SwakeStage};
 use var_wait::begin_var;
 use wait_class::frame_stages::Stage;
 use wait_class::stages::Turn;
 use wait_event::wait_events::begin_wait;
 use wait_event::waits::WaitStage;
-use wait_model::layout::{BIT_WORDS, FIRST_SIMPLE, PLAIN_CONDITIONS, VARIABLES, WORD_BITS};
-use wait_model::tasks::{How, SleepState};
+use wait_model::watches::{Mode, Watch};
+use wait_rule::bits::bit_clear;
+use wait_rule::queues::publish;
+use wait_rule::{Domain, Task};
 
-/// Whether a state is the killable one.
-fn is_killable(state: SleepState) -> bool
-    ensures { result ≡ is_killable state }
+/// A call that publishes nothing and is not over at once, before its first stretch.
+fn first_of(task: &Task, kept: &KeptBits, call: Call) -> Running
+    requires ready { IsReady kept.now task.now }
+    requires within { numbers_fit call ≡ true }
+    requires listed { is_unlisted call ≡ false }
+    requires silent { publishes_first call ≡ false }
+    requires long { is_short call ≡ false }
+    ensures sound { IsSound result kept.now task.now }
+    ensures begun { HasJustBegun call task.now result }
 {
-    match state {
-        SleepState::Killable => true,
-        _ => false,
+    let _ = kept;
+    match call {
+        Call::Wait { cond, how } => {
+            let run = begin_wait(task, cond, how);
+            Running::Event(run, Turn::Again(WaitStage::First))
+        }
+        Call::SimpleWait { cond, state } => {
+            let run = begin_swait(task, cond, state);
+            Running::Event(run, Turn::Again(WaitStage::First))
+        }
+        Call::WaitVar { var, old, state } => {
+            let run = begin_var(task, var, old, state);
+            Running::Event(run, Turn::Again(WaitStage::First))
+        }
+        Call::WaitBit { word, bit, state } => {
+            let run = begin_bit(task, word, bit, state);
+            Running::Bit(run, Turn::Again(Stage::Test(BitTest::First)))
+        }
+        Call::LockBit { word, bit, state } => {
+            let run = begin_lock(task, word, bit, state);
+            Running::Lock(run, Turn::Again(Stage::Test(LockTest::First)))
+        }
+        Call::LockPage { page, state } => {
+            let run = begin_page(task, page, state);
+            Running::Page(run, Turn::Again(PageStage::First))
+        }
+        Call::WaitFor { cell, state } => {
+            let run = begin_await(task, cell, state);
+            Running::Await(run, Turn::Again(AwaitStage::First))
+        }
+        Call::Cell { call, cell } => Running::Cell(CellRun::new(call, cell), CellStage::First),
+        Call::SimpleWake { cond, all } => {
+            let run = SwakeRun::new(cond, all);
+            Running::Swake(run, SwakeStage::First)
+        }
+        Call::Wake { cond, mode, count } => wake_of(Watch::Plain { cond }, mode, count),
+        _ => unreachable!(),
+    }
+}
+
+/// A call that may begin: it publishes what it is to publish, and is under way, or is over.
+fn begin_call(
+    domain: &Domain,
+    task: &mut Task,
+    kept: &mut KeptBits,
+    call: Call,
+) -> (Running, Progress)
+    requires of { task.old.domain ≡ domain.now }
+    requires ready { IsReady kept.old task.old }
+    requires within { numbers_fit call ≡ true }
+    requires listed { is_unlisted call ≡ false }
+    requires keeps { keeping_reason call kept.old ≡ None }
+    ensures of { task.new.domain ≡ domain.now }
+    ensures sound { IsSound result.0 kept.new task.new }
+    ensures begun { Begins call task.old task.new kept.new result.1 result.0 }
+{
+    match call {
+        Call::SetAndWake { cond, value, count } => {
+            publish(domain, task, Watch::Plain { cond }, value);
+            (
+                wake_of(Watch::Plain { cond }, Mode::Normal, count),
+                Progress::Again,
+            )
+        }
+        Call::SetAndSimpleWake { cond, value, all } => {
+            publish(domain, task, Watch::Plain { cond }, value);
+            let run = SwakeRun::new(cond, all);
+            (Running::Swake(run, SwakeStage::First), Progress::Again)
+        }
+        Call::SetVar { var, value } => {
+            let watch = Watch::Var { var, old: 0 };
+            publish(domain, task, watch, value);
+            look(domain, task, kept, watch)
+        }
+        Call::ClearBit { word, bit } => {
+            bit_clear(domain, task, word, bit);
+            kept.take(word, bit);
+            look(domain, task, kept, Watch::Bit { word, bit })
+        }
+        Call::TryBit { .. }
+        | Call::AddTally { .. }
+        | Call::Take { .. }
+        | Call::Signal { .. }
+        | Call::Accept => do_at_once(domain, task, kept, call),
+        _ => (first_of(task, kept, call), Progress::Again),
     }
 }
 
 impl CheckedTask {
-    /// Begins a wait until condition `cond`, below `FIRST_SIMPLE`, is set (`wait_event`, `wait_event_interruptible`,
-    /// `wait_event_killable` and the exclusive ones). Its answer is `Answer::Waited`.
-    pub fn begin_wait(&mut self, cond: u8, how: How) -> Result<(), Refused>
-        ensures refused { IfErr result (IsReason (cond < FIRST_SIMPLE) (FIRST_SIMPLE ≤ cond) self.old.running) }
+    /// Why a call may not begin: the first reason that holds, in the order of `Refused`, and None where it may.
+    pub fn refusal_to(&self, call: Call) -> Option<Refused>
+        ensures { result ≡ refusal_to call self.now }
+    {
+        refusal_by(call, &self.running, &self.kept)
+    }
+
+    /// Begins a call, or refuses it by the first reason that holds. Again: it is under way, and goes on by `advance`.
+    /// Done: it is over already. Starved: a signal was raised, and all tries of its wake failed, as in no run.
+    pub fn begin(&mut self, call: Call) -> Result<Progress, Refused>
+        ensures refused { IfErr result (λ e. refusal_to call self.old ≡ Some e) }
         ensures same { IfErr result (λ _. self.new ≡ self.old) }
-        ensures may { IfOk result (λ _. (cond < FIRST_SIMPLE) × (busy_reason self.old.running ≡ None)) }
-        ensures begun { IfOk result (λ _. BeginsEvent self.old.task self.new.task (watch.Plain cond) how
+        ensures may { IfOk result (λ _. refusal_to call self.old ≡ None) }
+        ensures begun { IfOk result (λ told. Begins call self.old.task self.new.task self.new.kept told
             self.new.running) }
     {
-        if u16::from(cond) >= FIRST_SIMPLE {
-            return Err(Refused::OutOfRange);
-        }
-        match refusal_of(&self.running) {
+        match refusal_by(call, &self.running, &self.kept) {
             Some(reason) => Err(reason),
             None => {
-                let run = begin_wait(&self.task, cond, how);
-                self.running = Running::Event(run, Turn::Again(WaitStage::First));
-                Ok(())
-            }
-        }
-    }
-
-    /// Begins a wait until condition `cond`, from `FIRST_SIMPLE` on and below `PLAIN_CONDITIONS`, is set, in the
-    /// condition's simple queue (`swait_event_exclusive`, `swait_event_interruptible_exclusive`). The state is
-    /// uninterruptible or interruptible. Its answer is `Answer::Waited`.
-    pub fn begin_swait(&mut self, cond: u8, state: SleepState) -> Result<(), Refused>
-        ensures refused { IfErr result (IsSimpleReason (IsSimpleCond cond) ((cond < FIRST_SIMPLE)
-            ⊎ (PLAIN_CONDITIONS ≤ cond)) self.old.running (is_killable state)) }
-        ensures same { IfErr result (λ _. self.new ≡ self.old) }
-        ensures may { IfOk result (λ _. IsSimpleCond cond × (is_killable state ≡ false)
-            × (busy_reason self.old.running ≡ None)) }
-        ensures begun { IfOk result (λ _. BeginsEvent self.old.task self.new.task (watch.Plain cond) (tail_in state)
-            self.new.running) }
-    {
-        if u16::from(cond) < FIRST_SIMPLE || u16::from(cond) >= PLAIN_CONDITIONS {
-            return Err(Refused::OutOfRange);
-        }
-        if is_killable(state) {
-            return Err(Refused::NotListed);
-        }
-        match refusal_of(&self.running) {
-            Some(reason) => Err(reason),
-            None => {
-                let run = begin_swait(&self.task, cond, state);
-                self.running = Running::Event(run, Turn::Again(WaitStage::First));
-                Ok(())
-            }
-        }
-    }
-
-    /// Begins a wait until variable `var`, below `VARIABLES`, differs from `old` (`wait_var_event`). Its answer is
-    /// `Answer::Changed`, with the value that its last load found.
-    pub fn begin_var(&mut self, var: u8, old: u64, state: SleepState) -> Result<(), Refused>
-        ensures refused { IfErr result (IsReason (var < VARIABLES) (VARIABLES ≤ var) self.old.running) }
-        ensures same { IfErr result (λ _. self.new ≡ self.old) }
-        ensures may { IfOk result (λ _. (var < VARIABLES) × (busy_reason self.old.running ≡ None)) }
-        ensures begun { IfOk result (λ _. BeginsEvent self.old.task self.new.task (watch.Var var old) (shared_in state)
-            self.new.running) }
-    {
-        if u16::from(var) >= VARIABLES {
-            return Err(Refused::OutOfRange);
-        }
-        match refusal_of(&self.running) {
-            Some(reason) => Err(reason),
-            None => {
-                let run = begin_var(&self.task, var, old, state);
-                self.running = Running::Event(run, Turn::Again(WaitStage::First));
-                Ok(())
-            }
-        }
-    }
-
-    /// Begins a wait until bit `bit`, below `WORD_BITS`, of bit word `word`, below `BIT_WORDS`, is clear
-    /// (`wait_on_bit`). It does not take the bit. Its answer is `Answer::Bit`.
-    pub fn begin_bit(&mut self, word: u8, bit: u8, state: SleepState) -> Result<(), Refused>
-        ensures refused { IfErr result (IsTakerReason ((word < BIT_WORDS) × (bit < WORD_BITS)) ((BIT_WORDS ≤ word)
-            ⊎ (WORD_BITS ≤ bit)) self.old.running (keeps_in self.old.kept (watch.Bit word bit))) }
-        ensures same { IfErr result (λ _. self.new ≡ self.old) }
-        ensures may { IfOk result (λ _. (word < BIT_WORDS) × (bit < WORD_BITS) × (busy_reason self.old.running ≡ None)
-            × (keeps_in self.old.kept (watch.Bit word bit) ≡ false)) }
-        ensures begun { IfOk result (λ _. BeginsBit self.old.task self.new.task word bit state self.new.running) }
-    {
-        if u16::from(word) >= BIT_WORDS || u16::from(bit) >= WORD_BITS {
-            return Err(Refused::OutOfRange);
-        }
-        match refusal_of(&self.running) {
-            Some(reason) => Err(reason),
-            None => {
-                if self.kept.has(word, bit) {
-                    return Err(Refused::Held);
-                }
-                let run = begin_bit(&self.task, word, bit, state);
-                self.running = Running::Bit(run, Turn::Again(Stage::Test(BitTest::First)));
-                Ok(())
-            }
-        }
-    }
-
-    /// Begins a wait to take bit `bit`, below `WORD_BITS`, of bit word `word`, below `BIT_WORDS` (`wait_on_bit_lock`).
-    /// Its answer is `Answer::Bit`, and where that is Ok the task keeps the bit.
-    pub fn begin_lock(&mut self, word: u8, bit: u8, state: SleepState) -> Result<(), Refused>
-        ensures refused { IfErr result (IsTakerReason ((word < BIT_WORDS) × (bit < WORD_BITS)) ((BIT_WORDS ≤ word)
-            ⊎ (WORD_BITS ≤ bit)) self.old.running (keeps_in self.old.kept (watch.Bit word bit))) }
-        ensures same { IfErr result (λ _. self.new ≡ self.old) }
-        ensures may { IfOk result (λ _. (word < BIT_WORDS) × (bit < WORD_BITS) × (busy_reason self.old.running ≡ None)
-            × (keeps_in self.old.kept (watch.Bit word bit) ≡ false)) }
-        ensures begun { IfOk result (λ _. BeginsLock self.old.task self.new.task word bit state self.new.running) }
-    {
-        if u16::from(word) >= BIT_WORDS || u16::from(bit) >= WORD_BITS {
-            return Err(Refused::OutOfRange);
-        }
-        match refusal_of(&self.running) {
-            Some(reason) => Err(reason),
-            None => {
-                if self.kept.has(word, bit) {
-                    return Err(Refused::Held);
-                }
-                let run = begin_lock(&self.task, word, bit, state);
-                self.running = Running::Lock(run, Turn::Again(Stage::Test(LockTest::First)));
-                Ok(())
-            }
-        }
-    }
-
-    /// Begins a wait for page `page`, below `BIT_WORDS` (`lock_page`, `lock_page_killable`). Its answer is
-    /// `Answer::Bit`, and where that is Ok the task keeps the page.
-    pub fn begin_page(&mut self, page: u8, state: SleepState) -> Result<(), Refused>
-        ensures refused { IfErr result (IsTakerReason (page < BIT_WORDS) (BIT_WORDS ≤ page) self.old.running
-            (keeps_in self.old.kept (watch.Bit page 0))) }
-        ensures same { IfErr result (λ _. self.new ≡ self.old) }
-        ensures may { IfOk result (λ _. (page < BIT_WORDS) × (busy_reason self.old.running ≡ None)
-            × (keeps_in self.old.kept (watch.Bit page 0) ≡ false)) }
-        ensures begun { IfOk result (λ _. BeginsPage self.old.task self.new.task page state self.new.running) }
-    {
-        if u16::from(page) >= BIT_WORDS {
-            return Err(Refused::OutOfRange);
-        }
-        match refusal_of(&self.running) {
-            Some(reason) => Err(reason),
-            None => {
-                if self.kept.has(page, 0) {
-                    return Err(Refused::Held);
-                }
-                let run = begin_page(&self.task, page, state);
-                self.running = Running::Page(run, Turn::Again(PageStage::First));
-                Ok(())
+                let domain = &self.domain;
+                let (next, told) = begin_call(domain, &mut self.task, &mut self.kept, call);
+                self.running = next;
+                Ok(told)
             }
         }
     }

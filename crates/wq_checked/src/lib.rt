@@ -4,22 +4,22 @@
 //! so that no call waits for anybody.
 #![tactic(auto)]
 
+mod admission;
 mod advances;
-pub mod at_once;
+mod at_once;
 mod await_turns;
 pub mod beginnings;
 pub mod calls;
-pub mod cells;
+mod cells;
 pub mod kept_bits;
 mod locks;
 pub mod owners;
 pub mod reasons;
-pub mod signals;
-pub mod simple_wakes;
+mod simple_wakes;
 mod stretches;
 pub mod tasks;
-pub mod wakings;
+mod wakings;
 
-pub use calls::{Answer, Awaited, Progress};
+pub use calls::{Answer, Awaited, Call, Progress};
 pub use reasons::Refused;
 pub use tasks::CheckedTask;

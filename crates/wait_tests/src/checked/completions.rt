@@ -1,18 +1,23 @@
 //! Completions, simple queues and signals: two tasks on one thread.
 
-use super::{doze, finish, has_waited, refuses, start_two};
+use super::{accepted, begins, doze, finish, has_waited, refuses, start_two};
 use crate::wants::all_so;
+use completion_cell::cell_turns::CellCall;
 use std::test::Fail;
 use wait_event::wait_events::WaitEnd;
 use wait_model::heads::head_of;
 use wait_model::layout::{COMPLETIONS, FIRST_SIMPLE};
 use wait_model::tasks::{How, SleepState, Taken};
 use wait_model::watches::Watch;
-use wq_checked::calls::Answer;
+use wq_checked::calls::{Answer, Call, Progress};
 use wq_checked::reasons::Refused;
-use wq_checked::signals::Raised;
 use wq_checked::tasks::CheckedTask;
 use wq_head::Rousing;
+
+/// A call about a completion.
+fn on_cell(cell: u8, call: CellCall) -> Call {
+    Call::Cell { call, cell }
+}
 
 /// Goes on to the end of a call about a completion: whether it told this.
 fn tells(task: &mut CheckedTask, wanted: bool) -> bool {
@@ -25,11 +30,17 @@ fn tells(task: &mut CheckedTask, wanted: bool) -> bool {
 /// A completion that is waited for is made, and taken by who waited.
 fn make_one(maker: &mut CheckedTask, waiter: &mut CheckedTask) -> [bool; 7] {
     [
-        waiter.begin_await(3, SleepState::Uninterruptible).is_ok(),
+        begins(
+            waiter,
+            Call::WaitFor {
+                cell: 3,
+                state: SleepState::Uninterruptible,
+            },
+        ),
         doze(waiter),
-        maker.is_done(3).is_ok(),
+        begins(maker, on_cell(3, CellCall::IsDone)),
         tells(maker, false),
-        maker.complete(3).is_ok(),
+        begins(maker, on_cell(3, CellCall::Complete)),
         tells(maker, true),
         has_waited(finish(waiter)),
     ]
@@ -38,15 +49,15 @@ fn make_one(maker: &mut CheckedTask, waiter: &mut CheckedTask) -> [bool; 7] {
 /// All that are made are taken again and again, until they are begun anew.
 fn make_all(maker: &mut CheckedTask, waiter: &mut CheckedTask) -> [bool; 10] {
     [
-        maker.try_wait(3).is_ok(),
+        begins(maker, on_cell(3, CellCall::TryWait)),
         tells(maker, false),
-        maker.complete_all(3).is_ok(),
+        begins(maker, on_cell(3, CellCall::CompleteAll)),
         tells(maker, true),
-        waiter.try_wait(3).is_ok(),
+        begins(waiter, on_cell(3, CellCall::TryWait)),
         tells(waiter, true),
-        waiter.reinit(3).is_ok(),
+        begins(waiter, on_cell(3, CellCall::Reinit)),
         tells(waiter, true),
-        waiter.is_done(3).is_ok(),
+        begins(waiter, on_cell(3, CellCall::IsDone)),
         tells(waiter, false),
     ]
 }
@@ -81,13 +92,20 @@ fn passed(task: &mut CheckedTask) -> Option<u16> {
 fn a_lock_that_was_given_back_is_told(rt: HostRuntime) -> Result<(), Fail> {
     let head = head_of(Watch::Done { cell: 3 });
     let mut task = CheckedTask::start(rt.alloc())?;
-    task.complete(3)?;
+    task.begin(on_cell(3, CellCall::Complete))?;
     assert_eq!(rt; passed(&mut task), Some(head));
-    task.begin_await(3, SleepState::Uninterruptible)?;
+    task.begin(Call::WaitFor {
+        cell: 3,
+        state: SleepState::Uninterruptible,
+    })?;
     assert_eq!(rt; passed(&mut task), Some(head));
-    task.try_wait(3)?;
+    task.begin(on_cell(3, CellCall::TryWait))?;
     assert_eq!(rt; passed(&mut task), None);
-    task.begin_bit(3, 4, SleepState::Uninterruptible)?;
+    task.begin(Call::WaitBit {
+        word: 3,
+        bit: 4,
+        state: SleepState::Uninterruptible,
+    })?;
     assert_eq!(rt; passed(&mut task), None);
     Ok(())
 }
@@ -97,14 +115,25 @@ fn a_simple_queue_is_woken(rt: HostRuntime) -> Result<(), Fail> {
     let cond = FIRST_SIMPLE as u8;
     let (mut waiter, mut waker) = start_two(&rt, rt.alloc())?;
     let seen = [
-        waiter
-            .begin_swait(cond, SleepState::Uninterruptible)
-            .is_ok(),
+        begins(
+            &mut waiter,
+            Call::SimpleWait {
+                cond,
+                state: SleepState::Uninterruptible,
+            },
+        ),
         doze(&mut waiter),
-        waker.set_and_swake(cond, 1, false).is_ok(),
+        begins(
+            &mut waker,
+            Call::SetAndSimpleWake {
+                cond,
+                value: 1,
+                all: false,
+            },
+        ),
         selects(&mut waker, 1),
         has_waited(finish(&mut waiter)),
-        waker.begin_swake(cond, true).is_ok(),
+        begins(&mut waker, Call::SimpleWake { cond, all: true }),
         selects(&mut waker, 0),
     ];
     all_so(&rt, &seen);
@@ -116,11 +145,11 @@ fn is_signalled(answer: Option<Answer>) -> bool {
     matches!(answer, Some(Answer::Waited(Err(WaitEnd::Signal { .. }))))
 }
 
-/// Raises a signal at the first task: whether that told this.
-fn raises(sender: &mut CheckedTask, fatal: bool, wanted: Raised) -> bool {
-    match sender.raise_signal(0, fatal) {
-        Ok(raised) => raised == wanted,
-        Err(_) => false,
+/// Raises a signal at the first task: whether that told to rouse this one, or nobody.
+fn raises(sender: &mut CheckedTask, fatal: bool, wanted: Option<u8>) -> bool {
+    match sender.begin(Call::Signal { who: 0, fatal }) {
+        Ok(Progress::Done(Answer::Raised(roused))) => roused == wanted,
+        _ => false,
     }
 }
 
@@ -133,14 +162,14 @@ fn a_signal_ends_a_wait(rt: HostRuntime) -> Result<(), Fail> {
     let (mut waiter, mut other) = start_two(&rt, rt.alloc())?;
     assert!(rt; waiter.number() == 0);
     let seen = [
-        waiter.begin_wait(1, how).is_ok(),
+        begins(&mut waiter, Call::Wait { cond: 1, how }),
         doze(&mut waiter),
-        raises(&mut other, false, Raised::Rouse),
+        raises(&mut other, false, Some(0)),
         is_signalled(finish(&mut waiter)),
-        matches!(waiter.take_signal(), Ok(Taken::Plain)),
-        matches!(waiter.take_signal(), Ok(Taken::Nothing)),
-        raises(&mut other, true, Raised::Quiet),
-        matches!(waiter.take_signal(), Ok(Taken::Fatal)),
+        matches!(accepted(&mut waiter), Some(Taken::Plain)),
+        matches!(accepted(&mut waiter), Some(Taken::Nothing)),
+        raises(&mut other, true, None),
+        matches!(accepted(&mut waiter), Some(Taken::Fatal)),
     ];
     all_so(&rt, &seen);
     Ok(())
@@ -151,14 +180,27 @@ fn refuse_numbers(task: &mut CheckedTask) -> [bool; 8] {
     let cell = COMPLETIONS as u8;
     let out = Refused::OutOfRange;
     [
-        refuses(task.begin_await(cell, SleepState::Killable), out),
-        refuses(task.complete(cell), out),
-        refuses(task.complete_all(cell), out),
-        refuses(task.reinit(cell), out),
-        refuses(task.try_wait(cell), out),
-        refuses(task.is_done(cell), out),
-        refuses(task.begin_swake(0, true), out),
-        refuses(task.set_and_swake(64, 1, true), out),
+        refuses(
+            task.begin(Call::WaitFor {
+                cell,
+                state: SleepState::Killable,
+            }),
+            out,
+        ),
+        refuses(task.begin(on_cell(cell, CellCall::Complete)), out),
+        refuses(task.begin(on_cell(cell, CellCall::CompleteAll)), out),
+        refuses(task.begin(on_cell(cell, CellCall::Reinit)), out),
+        refuses(task.begin(on_cell(cell, CellCall::TryWait)), out),
+        refuses(task.begin(on_cell(cell, CellCall::IsDone)), out),
+        refuses(task.begin(Call::SimpleWake { cond: 0, all: true }), out),
+        refuses(
+            task.begin(Call::SetAndSimpleWake {
+                cond: 64,
+                value: 1,
+                all: true,
+            }),
+            out,
+        ),
     ]
 }
 
@@ -166,11 +208,23 @@ fn refuse_numbers(task: &mut CheckedTask) -> [bool; 8] {
 fn refuse_busy(task: &mut CheckedTask) -> [bool; 5] {
     let simple = FIRST_SIMPLE as u8;
     [
-        task.complete(0).is_ok(),
-        refuses(task.complete(0), Refused::Busy),
-        refuses(task.begin_swake(simple, true), Refused::Busy),
-        matches!(task.raise_signal(0, false), Err(Refused::Busy)),
-        matches!(task.take_signal(), Err(Refused::Busy)),
+        begins(task, on_cell(0, CellCall::Complete)),
+        refuses(task.begin(on_cell(0, CellCall::Complete)), Refused::Busy),
+        refuses(
+            task.begin(Call::SimpleWake {
+                cond: simple,
+                all: true,
+            }),
+            Refused::Busy,
+        ),
+        matches!(
+            task.begin(Call::Signal {
+                who: 0,
+                fatal: false
+            }),
+            Err(Refused::Busy)
+        ),
+        matches!(task.begin(Call::Accept), Err(Refused::Busy)),
     ]
 }
 

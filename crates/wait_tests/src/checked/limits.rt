@@ -5,6 +5,7 @@ use super::took;
 use crate::wants::all_so;
 use std::test::Fail;
 use wait_model::layout::{BIT_WORDS, WORD_BITS};
+use wq_checked::calls::Call;
 use wq_checked::tasks::{CheckedTask, NoFork};
 
 /// Whether a bit is kept that is not there: of a word from `BIT_WORDS` on, or from bit `WORD_BITS` on.
@@ -55,8 +56,8 @@ fn no_bit_is_kept_beyond_the_words(rt: HostRuntime) -> Result<(), Fail> {
     let seen = [
         !keeps_beyond(&task),
         !task.keeps(127, 63),
-        took(task.test_and_set(127, 63)),
-        took(task.test_and_set(0, 0)),
+        took(task.begin(Call::TryBit { word: 127, bit: 63 })),
+        took(task.begin(Call::TryBit { word: 0, bit: 0 })),
         task.keeps(127, 63) && task.keeps(0, 0) && !task.keeps(0, 63),
         !keeps_beyond(&task),
     ];

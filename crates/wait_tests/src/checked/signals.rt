@@ -1,15 +1,14 @@
 //! Waits that were put asleep, and the signals that end them or don't: a task whose stretches go on one by one, so that
 //! each of these waits has slept.
 
-use super::{doze, finish, has_got, has_waited, start_two, took, woke};
+use super::{accepted, begins, doze, finish, has_got, has_waited, start_two, took, woke};
 use crate::wants::all_so;
 use bit_wait::BitEnd;
 use std::test::Fail;
 use wait_event::WaitEnd;
 use wait_model::layout::FIRST_SIMPLE;
 use wait_model::tasks::{How, SleepState, Taken};
-use wq_checked::calls::Answer;
-use wq_checked::signals::Raised;
+use wq_checked::calls::{Answer, Call, Progress};
 use wq_checked::tasks::CheckedTask;
 
 /// Whether a signal ended a wait for a condition or a completion, which was not set, and no wake had selected it.
@@ -33,17 +32,20 @@ fn is_interrupted(answer: Option<Answer>, wanted: u64) -> bool {
 
 /// Raises a signal at a task: true where its thread is to be roused.
 fn raise(sender: &mut CheckedTask, who: u8, fatal: bool) -> bool {
-    matches!(sender.raise_signal(who, fatal), Ok(Raised::Rouse))
+    matches!(
+        sender.begin(Call::Signal { who, fatal }),
+        Ok(Progress::Done(Answer::Raised(Some(_))))
+    )
 }
 
 /// Whether a plain signal was pending.
 fn takes_plain(task: &mut CheckedTask) -> bool {
-    matches!(task.take_signal(), Ok(Taken::Plain))
+    matches!(accepted(task), Some(Taken::Plain))
 }
 
 /// Whether a fatal one was.
 fn takes_fatal(task: &mut CheckedTask) -> bool {
-    matches!(task.take_signal(), Ok(Taken::Fatal))
+    matches!(accepted(task), Some(Taken::Fatal))
 }
 
 /// A killable wait sleeps on under plain signals, and a fatal one ends it.
@@ -55,7 +57,13 @@ fn fatal_signal_alone_ends_a_killable_wait(rt: HostRuntime) -> Result<(), Fail> 
     };
     let (mut waiter, mut sender) = start_two(&rt, rt.alloc())?;
     let seen = [
-        waiter.begin_wait(2, killable).is_ok(),
+        begins(
+            &mut waiter,
+            Call::Wait {
+                cond: 2,
+                how: killable,
+            },
+        ),
         doze(&mut waiter),
         !raise(&mut sender, 0, false),
         doze(&mut waiter),
@@ -77,9 +85,22 @@ fn plain_signal_stays_pending_over_a_killable_wait(rt: HostRuntime) -> Result<()
     let (mut waiter, mut setter) = start_two(&rt, rt.alloc())?;
     let seen = [
         !raise(&mut setter, 0, false),
-        waiter.begin_wait(2, killable).is_ok(),
+        begins(
+            &mut waiter,
+            Call::Wait {
+                cond: 2,
+                how: killable,
+            },
+        ),
         doze(&mut waiter),
-        setter.set_and_wake(2, 1, 1).is_ok(),
+        begins(
+            &mut setter,
+            Call::SetAndWake {
+                cond: 2,
+                value: 1,
+                count: 1,
+            },
+        ),
         woke(finish(&mut setter), 1),
         has_waited(finish(&mut waiter)),
         takes_plain(&mut waiter),
@@ -92,7 +113,14 @@ fn plain_signal_stays_pending_over_a_killable_wait(rt: HostRuntime) -> Result<()
 fn interrupt_wait(keeper: &mut CheckedTask, waiter: &mut CheckedTask) -> [bool; 5] {
     let number = waiter.number();
     [
-        waiter.begin_bit(2, 5, SleepState::Interruptible).is_ok(),
+        begins(
+            waiter,
+            Call::WaitBit {
+                word: 2,
+                bit: 5,
+                state: SleepState::Interruptible,
+            },
+        ),
         doze(waiter),
         raise(keeper, number, false),
         is_interrupted(finish(waiter), 32),
@@ -104,7 +132,14 @@ fn interrupt_wait(keeper: &mut CheckedTask, waiter: &mut CheckedTask) -> [bool; 
 fn kill_lock(keeper: &mut CheckedTask, waiter: &mut CheckedTask) -> [bool; 5] {
     let number = waiter.number();
     [
-        waiter.begin_lock(2, 5, SleepState::Killable).is_ok(),
+        begins(
+            waiter,
+            Call::LockBit {
+                word: 2,
+                bit: 5,
+                state: SleepState::Killable,
+            },
+        ),
         doze(waiter),
         !raise(keeper, number, false),
         raise(keeper, number, true),
@@ -117,7 +152,7 @@ fn kill_lock(keeper: &mut CheckedTask, waiter: &mut CheckedTask) -> [bool; 5] {
 #[test]
 fn signals_end_waits_for_a_bit(rt: HostRuntime) -> Result<(), Fail> {
     let (mut keeper, mut waiter) = start_two(&rt, rt.alloc())?;
-    assert!(rt; took(keeper.test_and_set(2, 5)));
+    assert!(rt; took(keeper.begin(Call::TryBit { word: 2, bit: 5 })));
     all_so(&rt, &interrupt_wait(&mut keeper, &mut waiter));
     all_so(&rt, &kill_lock(&mut keeper, &mut waiter));
     assert!(rt; keeper.keeps(2, 5) && !waiter.keeps(2, 5));
@@ -128,7 +163,13 @@ fn signals_end_waits_for_a_bit(rt: HostRuntime) -> Result<(), Fail> {
 fn interrupt_page(holder: &mut CheckedTask, waiter: &mut CheckedTask) -> [bool; 5] {
     let number = waiter.number();
     [
-        waiter.begin_page(5, SleepState::Interruptible).is_ok(),
+        begins(
+            waiter,
+            Call::LockPage {
+                page: 5,
+                state: SleepState::Interruptible,
+            },
+        ),
         doze(waiter),
         raise(holder, number, false),
         is_interrupted(finish(waiter), 1),
@@ -140,10 +181,16 @@ fn interrupt_page(holder: &mut CheckedTask, waiter: &mut CheckedTask) -> [bool; 
 /// the page.
 fn give_page(holder: &mut CheckedTask, waiter: &mut CheckedTask) -> [bool; 5] {
     [
-        holder.unlock_page(5).is_ok(),
+        begins(holder, Call::ClearBit { word: 5, bit: 0 }),
         finish(holder).is_none(),
         takes_plain(waiter),
-        waiter.begin_page(5, SleepState::Interruptible).is_ok(),
+        begins(
+            waiter,
+            Call::LockPage {
+                page: 5,
+                state: SleepState::Interruptible,
+            },
+        ),
         has_got(finish(waiter)),
     ]
 }
@@ -153,7 +200,7 @@ fn give_page(holder: &mut CheckedTask, waiter: &mut CheckedTask) -> [bool; 5] {
 #[test]
 fn signal_ends_a_lock_of_a_page(rt: HostRuntime) -> Result<(), Fail> {
     let (mut holder, mut waiter) = start_two(&rt, rt.alloc())?;
-    assert!(rt; took(holder.try_lock_page(5)));
+    assert!(rt; took(holder.begin(Call::TryBit { word: 5, bit: 0 })));
     all_so(&rt, &interrupt_page(&mut holder, &mut waiter));
     all_so(&rt, &give_page(&mut holder, &mut waiter));
     Ok(())
@@ -162,7 +209,13 @@ fn signal_ends_a_lock_of_a_page(rt: HostRuntime) -> Result<(), Fail> {
 /// A wait for a completion that has slept, which a fatal signal alone ends.
 fn kill_await(waiter: &mut CheckedTask, sender: &mut CheckedTask) -> [bool; 6] {
     [
-        waiter.begin_await(3, SleepState::Killable).is_ok(),
+        begins(
+            waiter,
+            Call::WaitFor {
+                cell: 3,
+                state: SleepState::Killable,
+            },
+        ),
         doze(waiter),
         !raise(sender, 0, false),
         raise(sender, 0, true),
@@ -175,7 +228,13 @@ fn kill_await(waiter: &mut CheckedTask, sender: &mut CheckedTask) -> [bool; 6] {
 fn interrupt_swait(waiter: &mut CheckedTask, sender: &mut CheckedTask) -> [bool; 4] {
     let cond = FIRST_SIMPLE as u8;
     [
-        waiter.begin_swait(cond, SleepState::Interruptible).is_ok(),
+        begins(
+            waiter,
+            Call::SimpleWait {
+                cond,
+                state: SleepState::Interruptible,
+            },
+        ),
         doze(waiter),
         raise(sender, 0, false),
         is_signalled(finish(waiter)),

@@ -19,8 +19,8 @@ pub loop-preserved-in-Again : goal.loop-preserved-in-Again
 loop-preserved-in-Again g c =
     let i = c.loop.invariant in
     advances_on g.C.Machine.table c.lawful.ensures c.args.task.now c.loop.task c.event.new.task c.args.run.now
-          c.loop.run c.event.new.run c.args.stage c.loop.at (turn.Again c.in-Again.next) i.same i.went
-          c.in-Again.ensures.turned.advances
+    c.loop.run c.event.new.run c.args.stage c.loop.at (turn.Again c.in-Again.next) i.same i.went
+    c.in-Again.ensures.turned.advances
 
 pub loop-preserved-in-Asleep : goal.loop-preserved-in-Asleep
 loop-preserved-in-Asleep g c =
@@ -29,9 +29,9 @@ loop-preserved-in-Asleep g c =
     c.loop.run c.event.new.run c.args.stage c.loop.at (turn.Asleep c.in-Asleep.next) i.same
     i.went c.in-Asleep.ensures.turned.advances in
     advances_on g.C.Machine.table c.lawful.ensures c.args.task.now c.event.new.task c.rise.new.task
-          c.args.run.now c.event.new.run c.event.new.run c.args.stage c.in-Asleep.next
-          (turn.Again c.in-Asleep.next) a.same
-          (record { runs = a.went.runs; tells = a.went.tells; keeps = a.went.keeps }) c.rise.ensures
+    c.args.run.now c.event.new.run c.event.new.run c.args.stage c.in-Asleep.next
+    (turn.Again c.in-Asleep.next) a.same
+    (record { runs = a.went.runs; tells = a.went.tells; keeps = a.went.keeps }) c.rise.ensures
 
 pub rise-requires-clause-of : goal.rise-requires-clause-of
 rise-requires-clause-of g c = same_domain g.C.Machine.table c.lawful.ensures c.loop.task c.event.new.task
@@ -44,10 +44,10 @@ pub loop-preserved : goal.loop-preserved
 loop-preserved g c =
     let i = c.loop.invariant in
     again g.C.Machine.table c.args.task.now c.event.new.task c.args.run.now c.event.new.run c.args.stage
-          c.in-Locked.next
-          (advances_on g.C.Machine.table c.lawful.ensures c.args.task.now c.loop.task c.event.new.task c.args.run.now
-          c.loop.run c.event.new.run c.args.stage c.loop.at (turn.Locked c.in-Locked.next) i.same
-          i.went c.in-Locked.ensures.turned.advances)
+    c.in-Locked.next
+    (advances_on g.C.Machine.table c.lawful.ensures c.args.task.now c.loop.task c.event.new.task c.args.run.now
+    c.loop.run c.event.new.run c.args.stage c.loop.at (turn.Locked c.in-Locked.next) i.same
+    i.went c.in-Locked.ensures.turned.advances)
 
 pub returns-in-Done : goal.returns-in-Done
 returns-in-Done g c =

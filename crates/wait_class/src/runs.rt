@@ -168,30 +168,8 @@ fn run_from<R: Wait, C: Machine>(
     unreachable!()
 }
 
-/// The first events of a wait, three at most. Here the stages are known beforehand, so that each is the event alone.
-#[inline(always)]
-fn first_events<C: Machine>(
-    domain: &Domain,
-    task: &mut Task,
-    run: &mut Run<C>,
-    stage: C::Stage,
-) -> Turn<C::Stage, C::Outcome>
-    requires of { task.old.domain ≡ domain.now }
-    requires at { IsAt C.table task.old run.old stage }
-    ensures { Advances C.table task.old task.new run.old run.new stage result }
-{
-    C::lawful();
-    match event(domain, task, run, stage) {
-        Turn::Again(second) => match event(domain, task, run, second) {
-            Turn::Again(third) => event(domain, task, run, third),
-            turn => turn,
-        },
-        turn => turn,
-    }
-}
-
-/// Goes on with a wait from a stage to its end: waits for locks, and sleeps. Its first events are made apart, so that a
-/// wait that is over with them takes no more than these.
+/// Goes on with a wait from a stage to its end: waits for locks, and sleeps. Its first event is made apart, so that a
+/// wait that is over with it takes no more than that event.
 #[inline(always)]
 pub fn run<R: Wait, C: Machine>(
     rt: &R,
@@ -205,7 +183,7 @@ pub fn run<R: Wait, C: Machine>(
     ensures { Advances C.table task.old task.new run.old run.new stage (turn.Done result) }
 {
     C::lawful();
-    match first_events(domain, task, run, stage) {
+    match event(domain, task, run, stage) {
         Turn::Again(next) => run_from(rt, domain, task, run, next),
         Turn::Locked(next) => run_from(rt, domain, task, run, next),
         Turn::Asleep(next) => {

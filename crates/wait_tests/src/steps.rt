@@ -27,19 +27,13 @@ use wait_rule::tries::{FailedTries, sleep_try, wake_try};
 #[test]
 fn alone(rt: HostRuntime) -> Result<(), Fail> {
     let (domain, mut task) = Domain::new(rt.alloc())?;
-    let seen = [
-        matches!(schedule(&rt, &domain, &mut task), Sleep::Stay),
-        matches!(sleep_exchange(&rt, &domain, &mut task), Sleep::Stay),
-        !wake_task(&rt, &domain, &mut task, 0, Mode::Normal),
-        !wake_exchange(&rt, &domain, &mut task, 0, NORMAL),
-    ];
-    all_so(&rt, &seen);
+    assert!(rt; matches!(schedule(&rt, &domain, &mut task), Sleep::Stay));
+    assert!(rt; matches!(sleep_exchange(&rt, &domain, &mut task), Sleep::Stay));
+    assert!(rt; !wake_task(&rt, &domain, &mut task, 0, Mode::Normal));
+    assert!(rt; !wake_exchange(&rt, &domain, &mut task, 0, NORMAL));
     send_signal(&rt, &domain, &mut task, 0, false);
-    let seen = [
-        matches!(take_signal(&domain, &mut task), Taken::Plain),
-        matches!(take_signal(&domain, &mut task), Taken::Nothing),
-    ];
-    all_so(&rt, &seen);
+    assert!(rt; matches!(take_signal(&domain, &mut task), Taken::Plain));
+    assert!(rt; matches!(take_signal(&domain, &mut task), Taken::Nothing));
     Ok(())
 }
 

@@ -34,11 +34,8 @@ fn members_in_order(rt: HostRuntime) -> Result<(), Fail> {
     lock(&rt, &domain, &mut task, FIRST_PLAIN_HEAD);
     let count = members(&domain, &mut task, FIRST_PLAIN_HEAD, &mut list);
     unlock(&rt, &domain, &mut task, false);
-    let seen = [
-        count == 2,
-        is_entry_of(list.at(0), 1),
-        is_entry_of(list.at(1), 0),
-    ];
+    assert!(rt; count == 2);
+    let seen = [is_entry_of(list.at(0), 1), is_entry_of(list.at(1), 0)];
     all_so(&rt, &seen);
     Ok(())
 }

@@ -8,7 +8,6 @@ pub mod hashed;
 pub mod holds;
 pub mod kept;
 pub mod pages;
-pub mod pairs;
 pub mod parts;
 pub mod simple;
 pub mod waits;

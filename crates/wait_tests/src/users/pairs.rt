@@ -9,47 +9,47 @@ use completion_cell::completes::complete_all;
 use std::sync::Wait;
 use std::test::Fail;
 use wait_rule::{Domain, Task};
-use wq_user::events::set_zero;
-use wq_user::pairs::CELL;
-use wq_user::pairs::after_bit::{
+use wq_pairs::CELL;
+use wq_pairs::after_bit::{
     bit_then_bit, bit_then_complete, bit_then_page, bit_then_parts, bit_then_publish, bit_then_set,
     bit_then_wait, bit_then_wait_for, bit_then_wake,
 };
-use wq_user::pairs::after_complete::{
+use wq_pairs::after_complete::{
     complete_then_bit, complete_then_complete, complete_then_page, complete_then_parts,
     complete_then_publish, complete_then_set, complete_then_wait, complete_then_wait_for,
     complete_then_wake,
 };
-use wq_user::pairs::after_page::{
+use wq_pairs::after_page::{
     page_then_bit, page_then_complete, page_then_page, page_then_parts, page_then_publish,
     page_then_set, page_then_wait, page_then_wait_for, page_then_wake,
 };
-use wq_user::pairs::after_parts::{
+use wq_pairs::after_parts::{
     parts_then_bit, parts_then_complete, parts_then_page, parts_then_parts, parts_then_publish,
     parts_then_set, parts_then_wait, parts_then_wait_for, parts_then_wake,
 };
-use wq_user::pairs::after_publish::{
+use wq_pairs::after_publish::{
     publish_then_bit, publish_then_complete, publish_then_page, publish_then_parts,
     publish_then_publish, publish_then_set, publish_then_wait, publish_then_wait_for,
     publish_then_wake,
 };
-use wq_user::pairs::after_set::{
+use wq_pairs::after_set::{
     set_then_bit, set_then_complete, set_then_page, set_then_parts, set_then_publish, set_then_set,
     set_then_wait, set_then_wait_for, set_then_wake,
 };
-use wq_user::pairs::after_wait::{
+use wq_pairs::after_wait::{
     wait_then_bit, wait_then_complete, wait_then_page, wait_then_parts, wait_then_publish,
     wait_then_set, wait_then_wait, wait_then_wait_for, wait_then_wake,
 };
-use wq_user::pairs::after_wait_for::{
+use wq_pairs::after_wait_for::{
     wait_for_then_bit, wait_for_then_complete, wait_for_then_page, wait_for_then_parts,
     wait_for_then_publish, wait_for_then_set, wait_for_then_wait, wait_for_then_wait_for,
     wait_for_then_wake,
 };
-use wq_user::pairs::after_wake::{
+use wq_pairs::after_wake::{
     wake_then_bit, wake_then_complete, wake_then_page, wake_then_parts, wake_then_publish,
     wake_then_set, wake_then_wait, wake_then_wait_for, wake_then_wake,
 };
+use wq_user::events::set_zero;
 
 fn after_wait<R: Wait>(rt: &R, domain: &Domain, task: &mut Task)
     requires of { task.old.domain ≡ domain.now }

@@ -1,12 +1,9 @@
-//! A task that locks the page and gives it back, and then makes each other call of a driver.
+//! A task that waits for the completion, and then makes each other call of a driver.
 
 ghost use Rattle.std.specs.Prelude.{◌≡◌};
 ghost use Rattle.wait_rule.specs.Says.{IsClean};
 
-use crate::hashed::hold_bit;
-use crate::pages::hold_page;
-use crate::pairs::{CELL, COND, VAR, how};
-use crate::parts::wait_by_parts;
+use crate::{CELL, COND, VAR, how};
 use completion_cell::await_calls::wait_for;
 use completion_cell::completes::complete;
 use std::sync::Wait;
@@ -17,37 +14,40 @@ use wait_model::tasks::SleepState;
 use wait_model::watches::{Mode, Watch};
 use wait_rule::{Domain, Task};
 use wq_head::wake;
+use wq_user::hashed::hold_bit;
+use wq_user::pages::hold_page;
+use wq_user::parts::wait_by_parts;
 
-/// Locks the page and gives it back, and then waits for the condition.
-pub fn page_then_wait<R: Wait>(rt: &R, domain: &Domain, task: &mut Task)
+/// Waits for the completion, and then waits for the condition.
+pub fn wait_for_then_wait<R: Wait>(rt: &R, domain: &Domain, task: &mut Task)
     requires of { task.old.domain ≡ domain.now }
     requires clean { IsClean task.old }
     ensures of { task.new.domain ≡ domain.now }
     ensures clean { IsClean task.new }
 {
-    hold_page(rt, domain, task);
+    let _ = wait_for(rt, domain, task, CELL, SleepState::Killable);
     let _ = wait_event(rt, domain, task, COND, how());
 }
 
-/// Locks the page and gives it back, and then sets the condition and wakes who waits for it.
-pub fn page_then_set<R: Wait>(rt: &R, domain: &Domain, task: &mut Task)
+/// Waits for the completion, and then sets the condition and wakes who waits for it.
+pub fn wait_for_then_set<R: Wait>(rt: &R, domain: &Domain, task: &mut Task)
     requires of { task.old.domain ≡ domain.now }
     requires clean { IsClean task.old }
     ensures of { task.new.domain ≡ domain.now }
     ensures clean { IsClean task.new }
 {
-    hold_page(rt, domain, task);
+    let _ = wait_for(rt, domain, task, CELL, SleepState::Killable);
     set_and_wake(rt, domain, task, COND, 1, Mode::Normal, 0);
 }
 
-/// Locks the page and gives it back, and then wakes who waits for the condition.
-pub fn page_then_wake<R: Wait>(rt: &R, domain: &Domain, task: &mut Task)
+/// Waits for the completion, and then wakes who waits for the condition.
+pub fn wait_for_then_wake<R: Wait>(rt: &R, domain: &Domain, task: &mut Task)
     requires of { task.old.domain ≡ domain.now }
     requires clean { IsClean task.old }
     ensures of { task.new.domain ≡ domain.now }
     ensures clean { IsClean task.new }
 {
-    hold_page(rt, domain, task);
+    let _ = wait_for(rt, domain, task, CELL, SleepState::Killable);
     wake(
         rt,
         domain,
@@ -58,68 +58,68 @@ pub fn page_then_wake<R: Wait>(rt: &R, domain: &Domain, task: &mut Task)
     );
 }
 
-/// Locks the page and gives it back, and then completes for one.
-pub fn page_then_complete<R: Wait>(rt: &R, domain: &Domain, task: &mut Task)
+/// Waits for the completion, and then completes for one.
+pub fn wait_for_then_complete<R: Wait>(rt: &R, domain: &Domain, task: &mut Task)
     requires of { task.old.domain ≡ domain.now }
     requires clean { IsClean task.old }
     ensures of { task.new.domain ≡ domain.now }
     ensures clean { IsClean task.new }
 {
-    hold_page(rt, domain, task);
+    let _ = wait_for(rt, domain, task, CELL, SleepState::Killable);
     complete(rt, domain, task, CELL);
 }
 
-/// Locks the page and gives it back, and then waits for the completion.
-pub fn page_then_wait_for<R: Wait>(rt: &R, domain: &Domain, task: &mut Task)
+/// Waits for the completion, and then waits for the completion.
+pub fn wait_for_then_wait_for<R: Wait>(rt: &R, domain: &Domain, task: &mut Task)
     requires of { task.old.domain ≡ domain.now }
     requires clean { IsClean task.old }
     ensures of { task.new.domain ≡ domain.now }
     ensures clean { IsClean task.new }
 {
-    hold_page(rt, domain, task);
+    let _ = wait_for(rt, domain, task, CELL, SleepState::Killable);
     let _ = wait_for(rt, domain, task, CELL, SleepState::Killable);
 }
 
-/// Locks the page and gives it back, and then locks the bit and gives it back.
-pub fn page_then_bit<R: Wait>(rt: &R, domain: &Domain, task: &mut Task)
+/// Waits for the completion, and then locks the bit and gives it back.
+pub fn wait_for_then_bit<R: Wait>(rt: &R, domain: &Domain, task: &mut Task)
     requires of { task.old.domain ≡ domain.now }
     requires clean { IsClean task.old }
     ensures of { task.new.domain ≡ domain.now }
     ensures clean { IsClean task.new }
 {
-    hold_page(rt, domain, task);
+    let _ = wait_for(rt, domain, task, CELL, SleepState::Killable);
     hold_bit(rt, domain, task);
 }
 
-/// Locks the page and gives it back, and then locks the page and gives it back.
-pub fn page_then_page<R: Wait>(rt: &R, domain: &Domain, task: &mut Task)
+/// Waits for the completion, and then locks the page and gives it back.
+pub fn wait_for_then_page<R: Wait>(rt: &R, domain: &Domain, task: &mut Task)
     requires of { task.old.domain ≡ domain.now }
     requires clean { IsClean task.old }
     ensures of { task.new.domain ≡ domain.now }
     ensures clean { IsClean task.new }
 {
-    hold_page(rt, domain, task);
+    let _ = wait_for(rt, domain, task, CELL, SleepState::Killable);
     hold_page(rt, domain, task);
 }
 
-/// Locks the page and gives it back, and then publishes the variable and wakes who waits for it.
-pub fn page_then_publish<R: Wait>(rt: &R, domain: &Domain, task: &mut Task)
+/// Waits for the completion, and then publishes the variable and wakes who waits for it.
+pub fn wait_for_then_publish<R: Wait>(rt: &R, domain: &Domain, task: &mut Task)
     requires of { task.old.domain ≡ domain.now }
     requires clean { IsClean task.old }
     ensures of { task.new.domain ≡ domain.now }
     ensures clean { IsClean task.new }
 {
-    hold_page(rt, domain, task);
+    let _ = wait_for(rt, domain, task, CELL, SleepState::Killable);
     publish_var_and_wake(rt, domain, task, VAR, 1);
 }
 
-/// Locks the page and gives it back, and then waits by parts.
-pub fn page_then_parts<R: Wait>(rt: &R, domain: &Domain, task: &mut Task)
+/// Waits for the completion, and then waits by parts.
+pub fn wait_for_then_parts<R: Wait>(rt: &R, domain: &Domain, task: &mut Task)
     requires of { task.old.domain ≡ domain.now }
     requires clean { IsClean task.old }
     ensures of { task.new.domain ≡ domain.now }
     ensures clean { IsClean task.new }
 {
-    hold_page(rt, domain, task);
+    let _ = wait_for(rt, domain, task, CELL, SleepState::Killable);
     wait_by_parts(rt, domain, task, SleepState::Killable);
 }

@@ -3,10 +3,7 @@
 ghost use Rattle.std.specs.Prelude.{◌≡◌};
 ghost use Rattle.wait_rule.specs.Says.{IsClean};
 
-use crate::hashed::hold_bit;
-use crate::pages::hold_page;
-use crate::pairs::{CELL, COND, VAR, how};
-use crate::parts::wait_by_parts;
+use crate::{CELL, COND, VAR, how};
 use completion_cell::await_calls::wait_for;
 use completion_cell::completes::complete;
 use std::sync::Wait;
@@ -17,6 +14,9 @@ use wait_model::tasks::SleepState;
 use wait_model::watches::{Mode, Watch};
 use wait_rule::{Domain, Task};
 use wq_head::wake;
+use wq_user::hashed::hold_bit;
+use wq_user::pages::hold_page;
+use wq_user::parts::wait_by_parts;
 
 /// Completes for one, and then waits for the condition.
 pub fn complete_then_wait<R: Wait>(rt: &R, domain: &Domain, task: &mut Task)

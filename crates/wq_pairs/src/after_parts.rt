@@ -1,12 +1,9 @@
-//! A task that waits for the condition, and then makes each other call of a driver.
+//! A task that waits by parts, and then makes each other call of a driver.
 
 ghost use Rattle.std.specs.Prelude.{◌≡◌};
 ghost use Rattle.wait_rule.specs.Says.{IsClean};
 
-use crate::hashed::hold_bit;
-use crate::pages::hold_page;
-use crate::pairs::{CELL, COND, VAR, how};
-use crate::parts::wait_by_parts;
+use crate::{CELL, COND, VAR, how};
 use completion_cell::await_calls::wait_for;
 use completion_cell::completes::complete;
 use std::sync::Wait;
@@ -17,37 +14,40 @@ use wait_model::tasks::SleepState;
 use wait_model::watches::{Mode, Watch};
 use wait_rule::{Domain, Task};
 use wq_head::wake;
+use wq_user::hashed::hold_bit;
+use wq_user::pages::hold_page;
+use wq_user::parts::wait_by_parts;
 
-/// Waits for the condition, and then waits for the condition.
-pub fn wait_then_wait<R: Wait>(rt: &R, domain: &Domain, task: &mut Task)
+/// Waits by parts, and then waits for the condition.
+pub fn parts_then_wait<R: Wait>(rt: &R, domain: &Domain, task: &mut Task)
     requires of { task.old.domain ≡ domain.now }
     requires clean { IsClean task.old }
     ensures of { task.new.domain ≡ domain.now }
     ensures clean { IsClean task.new }
 {
-    let _ = wait_event(rt, domain, task, COND, how());
+    wait_by_parts(rt, domain, task, SleepState::Killable);
     let _ = wait_event(rt, domain, task, COND, how());
 }
 
-/// Waits for the condition, and then sets the condition and wakes who waits for it.
-pub fn wait_then_set<R: Wait>(rt: &R, domain: &Domain, task: &mut Task)
+/// Waits by parts, and then sets the condition and wakes who waits for it.
+pub fn parts_then_set<R: Wait>(rt: &R, domain: &Domain, task: &mut Task)
     requires of { task.old.domain ≡ domain.now }
     requires clean { IsClean task.old }
     ensures of { task.new.domain ≡ domain.now }
     ensures clean { IsClean task.new }
 {
-    let _ = wait_event(rt, domain, task, COND, how());
+    wait_by_parts(rt, domain, task, SleepState::Killable);
     set_and_wake(rt, domain, task, COND, 1, Mode::Normal, 0);
 }
 
-/// Waits for the condition, and then wakes who waits for the condition.
-pub fn wait_then_wake<R: Wait>(rt: &R, domain: &Domain, task: &mut Task)
+/// Waits by parts, and then wakes who waits for the condition.
+pub fn parts_then_wake<R: Wait>(rt: &R, domain: &Domain, task: &mut Task)
     requires of { task.old.domain ≡ domain.now }
     requires clean { IsClean task.old }
     ensures of { task.new.domain ≡ domain.now }
     ensures clean { IsClean task.new }
 {
-    let _ = wait_event(rt, domain, task, COND, how());
+    wait_by_parts(rt, domain, task, SleepState::Killable);
     wake(
         rt,
         domain,
@@ -58,68 +58,68 @@ pub fn wait_then_wake<R: Wait>(rt: &R, domain: &Domain, task: &mut Task)
     );
 }
 
-/// Waits for the condition, and then completes for one.
-pub fn wait_then_complete<R: Wait>(rt: &R, domain: &Domain, task: &mut Task)
+/// Waits by parts, and then completes for one.
+pub fn parts_then_complete<R: Wait>(rt: &R, domain: &Domain, task: &mut Task)
     requires of { task.old.domain ≡ domain.now }
     requires clean { IsClean task.old }
     ensures of { task.new.domain ≡ domain.now }
     ensures clean { IsClean task.new }
 {
-    let _ = wait_event(rt, domain, task, COND, how());
+    wait_by_parts(rt, domain, task, SleepState::Killable);
     complete(rt, domain, task, CELL);
 }
 
-/// Waits for the condition, and then waits for the completion.
-pub fn wait_then_wait_for<R: Wait>(rt: &R, domain: &Domain, task: &mut Task)
+/// Waits by parts, and then waits for the completion.
+pub fn parts_then_wait_for<R: Wait>(rt: &R, domain: &Domain, task: &mut Task)
     requires of { task.old.domain ≡ domain.now }
     requires clean { IsClean task.old }
     ensures of { task.new.domain ≡ domain.now }
     ensures clean { IsClean task.new }
 {
-    let _ = wait_event(rt, domain, task, COND, how());
+    wait_by_parts(rt, domain, task, SleepState::Killable);
     let _ = wait_for(rt, domain, task, CELL, SleepState::Killable);
 }
 
-/// Waits for the condition, and then locks the bit and gives it back.
-pub fn wait_then_bit<R: Wait>(rt: &R, domain: &Domain, task: &mut Task)
+/// Waits by parts, and then locks the bit and gives it back.
+pub fn parts_then_bit<R: Wait>(rt: &R, domain: &Domain, task: &mut Task)
     requires of { task.old.domain ≡ domain.now }
     requires clean { IsClean task.old }
     ensures of { task.new.domain ≡ domain.now }
     ensures clean { IsClean task.new }
 {
-    let _ = wait_event(rt, domain, task, COND, how());
+    wait_by_parts(rt, domain, task, SleepState::Killable);
     hold_bit(rt, domain, task);
 }
 
-/// Waits for the condition, and then locks the page and gives it back.
-pub fn wait_then_page<R: Wait>(rt: &R, domain: &Domain, task: &mut Task)
+/// Waits by parts, and then locks the page and gives it back.
+pub fn parts_then_page<R: Wait>(rt: &R, domain: &Domain, task: &mut Task)
     requires of { task.old.domain ≡ domain.now }
     requires clean { IsClean task.old }
     ensures of { task.new.domain ≡ domain.now }
     ensures clean { IsClean task.new }
 {
-    let _ = wait_event(rt, domain, task, COND, how());
+    wait_by_parts(rt, domain, task, SleepState::Killable);
     hold_page(rt, domain, task);
 }
 
-/// Waits for the condition, and then publishes the variable and wakes who waits for it.
-pub fn wait_then_publish<R: Wait>(rt: &R, domain: &Domain, task: &mut Task)
+/// Waits by parts, and then publishes the variable and wakes who waits for it.
+pub fn parts_then_publish<R: Wait>(rt: &R, domain: &Domain, task: &mut Task)
     requires of { task.old.domain ≡ domain.now }
     requires clean { IsClean task.old }
     ensures of { task.new.domain ≡ domain.now }
     ensures clean { IsClean task.new }
 {
-    let _ = wait_event(rt, domain, task, COND, how());
+    wait_by_parts(rt, domain, task, SleepState::Killable);
     publish_var_and_wake(rt, domain, task, VAR, 1);
 }
 
-/// Waits for the condition, and then waits by parts.
-pub fn wait_then_parts<R: Wait>(rt: &R, domain: &Domain, task: &mut Task)
+/// Waits by parts, and then waits by parts.
+pub fn parts_then_parts<R: Wait>(rt: &R, domain: &Domain, task: &mut Task)
     requires of { task.old.domain ≡ domain.now }
     requires clean { IsClean task.old }
     ensures of { task.new.domain ≡ domain.now }
     ensures clean { IsClean task.new }
 {
-    let _ = wait_event(rt, domain, task, COND, how());
+    wait_by_parts(rt, domain, task, SleepState::Killable);
     wait_by_parts(rt, domain, task, SleepState::Killable);
 }

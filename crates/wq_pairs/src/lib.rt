@@ -1,5 +1,7 @@
 //! Each ordered pair of calls that a driver makes: a task that owes nothing makes the first call and then the second,
-//! and owes nothing after both. A file for each first call, with the same second calls in the same order.
+//! and owes nothing after both. A file for each first call, with the same second calls in the same order. The crate has no
+//! proof of its own, as `wq_user` has none, over which it stands.
+#![tactic(auto)]
 
 pub mod after_bit;
 pub mod after_complete;

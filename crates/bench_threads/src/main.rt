@@ -23,6 +23,7 @@ use crate::heads::{time_heads, wait_idly};
 use crate::pages::{few_pages, time_pages};
 use crate::steps::time_domain;
 use std::alloc::Global;
+use std::io::ErrorKind;
 use std::sync::Wait;
 use std::thread::Threads;
 use std::time::Clock;
@@ -36,7 +37,7 @@ fn try_all<R: Clock + Print + Threads + Wait + Sync>(rt: &R, alloc: Global) -> i
     few_pages(rt, alloc)
 }
 
-/// The program that the words choose. Another word chooses none.
+/// The program that the words choose, or `InvalidInput` for another word.
 fn time_chosen<R: Clock + Print + Threads + Wait + Sync>(
     rt: &R,
     alloc: Global,
@@ -49,7 +50,7 @@ fn time_chosen<R: Clock + Print + Threads + Wait + Sync>(
         "heads" => time_heads(rt, alloc, true),
         "events" => time_events(rt, alloc, true, part == "trips"),
         "pages" => time_pages(rt, alloc),
-        _ => Ok(()),
+        _ => Err(io::Error::from(ErrorKind::InvalidInput)),
     }
 }
 

@@ -82,13 +82,13 @@ modelled (call.Signal who fatal) = model.Signal who fatal
 modelled call.Accept = model.Accept
 
 -- a variable is published from `CLAIMS` on: those below belong to pipes
-abbrev pub is_free : Call → Bool
-is_free (call.SetVar v x) = not (nat_lt v CLAIMS)
-is_free _ = true
+abbrev pub publishes_unclaimed : Call → Bool
+publishes_unclaimed (call.SetVar v x) = not (nat_lt v CLAIMS)
+publishes_unclaimed _ = true
 
 -- the numbers are in their ranges
 abbrev pub numbers_fit : Call → Bool
-numbers_fit c = is_free c && is_in_range 0 (modelled c)
+numbers_fit c = publishes_unclaimed c && is_in_range 0 (modelled c)
 
 -- a wait in a simple queue would sleep killable
 abbrev pub is_unlisted : Call → Bool

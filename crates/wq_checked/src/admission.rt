@@ -2,7 +2,7 @@
 
 ghost use Rattle.std.specs.Prelude.{◌≡◌, true};
 ghost use Rattle.wq_checked.specs.declared.calls.Call.TheVariants as task_call;
-ghost use Rattle.wq_checked.specs.Begins.{is_free, is_unlisted, numbers_fit, keeping_reason, modelled, refusal_by};
+ghost use Rattle.wq_checked.specs.Begins.{publishes_unclaimed, is_unlisted, numbers_fit, keeping_reason, modelled, refusal_by};
 
 use crate::calls::{Call, Running};
 use crate::kept_bits::KeptBits;
@@ -57,9 +57,9 @@ fn modelled(call: Call) -> Modelled
     }
 }
 
-/// Whether a call publishes no variable that belongs to a pipe.
-fn is_free(call: Call) -> bool
-    ensures { result ≡ is_free call }
+/// Whether a variable that a call publishes, if it does, belongs to no pipe.
+fn publishes_unclaimed(call: Call) -> bool
+    ensures { result ≡ publishes_unclaimed call }
 {
     match call {
         Call::SetVar { var, .. } => u16::from(var) >= CLAIMS,
@@ -71,7 +71,7 @@ fn is_free(call: Call) -> bool
 fn numbers_fit(call: Call) -> bool
     ensures { result ≡ numbers_fit call }
 {
-    is_free(call) && is_in_range(0, modelled(call))
+    publishes_unclaimed(call) && is_in_range(0, modelled(call))
 }
 
 /// Whether a call would sleep killable in a simple queue.

@@ -322,7 +322,7 @@ start_copy() {
 # A copy that is stopped in the midst.
 stopped() {
     local signal
-    for signal in INT TERM KILL; do
+    for signal in INT TERM HUP USR1 ALRM KILL; do
         start_copy
         holds "in the midst: no part" [ -s old.part0 ]
         kill -s "$signal" "$copy"
@@ -363,6 +363,27 @@ at_once() {
         holds "two at once: the file is none of them" is_either b sample reversed
         whole "two at once"
     done
+}
+
+# What the system is asked in which order: the part is synced before it gets the second file's name, and the folder after
+# that, so a crash leaves the old file or the copy.
+synced() {
+    local at_part at_name at_folder
+    if ! command -v strace >/dev/null || ! strace -o "$work/calls" true 2>"$work/said"; then
+        printf 'not tried: the order of syncs, since there is no strace\n'
+        return
+    fi
+    printf 'before\n' >old
+    timeout 60 strace -f -y -o "$work/calls" -e trace=fsync,fdatasync,rename,renameat,renameat2 ./waitq copy a old \
+        >"$work/out" 2>"$work/said"
+    status=$?
+    expect "syncs that are traced" 0
+    same "syncs that are traced" a old
+    at_part=$(grep -nE 'f(data)?sync\([0-9]+<.*/old\.part0>\) *= 0' "$work/calls" | cut -d : -f 1 | head -n 1)
+    at_name=$(grep -nE 'rename(at2?)?\(.*old\.part0.*= 0' "$work/calls" | cut -d : -f 1 | head -n 1)
+    at_folder=$(grep -nE "fsync\\([0-9]+<$PWD>\\)" "$work/calls" | cut -d : -f 1 | tail -n 1)
+    holds "the part is not synced before it is renamed" [ "${at_part:-99}" -lt "${at_name:-0}" ]
+    holds "the folder is not synced after the rename" [ "${at_name:-99}" -lt "${at_folder:-0}" ]
 }
 
 # Signals that are planned.
@@ -416,6 +437,7 @@ check() {
     streams
     stopped
     at_once
+    synced
     planned
     allocations
     cd -- "$root" || exit 1

@@ -14,4 +14,6 @@ pub mod Preparing
 pub mod Entering
 pub mod Removing
 pub mod Words
+pub mod PartWords
+pub mod TrailRuns
 pub mod LosesNone

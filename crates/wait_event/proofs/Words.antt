@@ -4,6 +4,8 @@ use Rattle.std.specs.Prelude.{ℕ, ◌≡◌, List, [], ◌∷◌, ◌++◌}
 use Rattle.wait_model.specs.declared.calls.Call.TheVariants as calls
 use Rattle.wait_model.specs.declared.calls.Answer.TheVariants as answer
 use Rattle.wait_model.specs.declared.points.Point.TheVariants as at
+use Rattle.wait_model.specs.declared.points.AddPoint.TheVariants as adding
+use Rattle.wait_model.specs.declared.points.RemovePoint.TheVariants as removing
 use Rattle.wait_model.specs.declared.points.WalkPoint.TheVariants as walking
 use Rattle.wait_model.specs.declared.points.WokenPoint.TheVariants as hearing
 use Rattle.wait_model.specs.declared.points.Next.{Next}
@@ -11,6 +13,7 @@ use Rattle.wait_model.specs.declared.points.Next.TheVariants as next
 use Rattle.wait_model.specs.declared.steps.Step.{Step}
 use Rattle.wait_model.specs.declared.steps.Step.TheVariants as step
 use Rattle.wait_model.specs.Programs.{zero_answer}
+use Rattle.wait_model.specs.Sentences.{Follows}
 use Rattle.wait_rule.specs.declared.journal.Item.{Item}
 use Rattle.wait_rule.specs.declared.journal.Item.TheVariants as item
 use Rattle.wait_rule.specs.declared.journal.Journal.{Journal}
@@ -37,7 +40,18 @@ use Rattle.wait_rule.proofs.SaidEvents.SelectedEntries.{runs_tell}
 use Rattle.wait_rule.proofs.SaidEvents.SelectingWalks.{runs_select}
 use Rattle.wait_rule.proofs.SaidEvents.SignalledRuns.{runs_heed}
 use Rattle.wait_event.specs.Ends.{answer_of}
-use Rattle.wait_event.specs.Words.{SetsFollow, TakesFollow, WaitsFollow, WaitsHeed, WaitsSay, WokensFollow, call_says}
+use Rattle.wait_event.specs.Entries.{add_answer}
+use Rattle.wait_event.specs.Words.{
+  AddsFollow,
+  RemovesFollow,
+  SetsFollow,
+  TakesFollow,
+  WaitsFollow,
+  WaitsHeed,
+  WaitsSay,
+  WokensFollow,
+  call_says,
+}
 use Rattle.wait_event.specs.declared.wait_events.WaitEnd.TheVariants as wait_end
 
 -- the own list, in the table that a task sees after its last step
@@ -101,6 +115,31 @@ wokens_follow old new st law e =
     (call_program old.view.number 0 (calls.Woken st)) old new (next.Go (at.Woken hearing.State))
     (next.Ends zero_answer) runs.transitions runs.goes))
     (omega arith) refl refl (λ w. absurd (cc)) (record { transitions = runs.transitions; goes = runs.goes })
+
+pub adds_follow : AddsFollow
+adds_follow old new c k f result law e =
+    let runs = e.runs in
+    runs_follow law.table law.items law.ruled (calls.Add c k f) 0 old new (add_answer result) []
+    (list_of new.view law old.view.number (number_stays
+    (call_program old.view.number 0 (calls.Add c k f)) old new (next.Go (at.Add adding.Lock))
+    (next.Ends (add_answer result)) runs.transitions runs.goes))
+    (omega arith) refl refl (λ w. absurd (cc)) (record { transitions = runs.transitions; goes = runs.goes })
+
+pub removes_follow : RemovesFollow
+removes_follow old new law h =
+    let runs = h.runs in
+    let seen = h.seen in
+    let same : seen.view.number ≡ old.view.number = h.looked.carries.number in
+    let goes : Goes (call_program seen.view.number 0 calls.Remove) seen (next.Go (at.Remove removing.Lock))
+    runs.transitions new (next.Ends zero_answer) =
+    subst (λ (n : ℕ). Goes (call_program n 0 calls.Remove) seen (next.Go (at.Remove removing.Lock)) runs.transitions new
+    (next.Ends zero_answer)) (sym same) runs.goes in
+    subst (λ (n : ℕ). Follows n calls.Remove (call_says n calls.Remove runs.transitions) zero_answer) same
+    (runs_follow law.table law.items law.ruled calls.Remove 0 seen new zero_answer []
+    (list_of new.view law seen.view.number (number_stays
+    (call_program seen.view.number 0 calls.Remove) seen new (next.Go (at.Remove removing.Lock))
+    (next.Ends zero_answer) runs.transitions goes))
+    (omega arith) refl refl (λ w. absurd (cc)) (record { transitions = runs.transitions; goes = goes }))
 
 pub takes_follow : TakesFollow
 takes_follow old new c v law h =

@@ -1,4 +1,13 @@
-use Rattle.wait_event.proofs.Words.{sets_follow, takes_follow, waits_follow, waits_say, wokens_follow}
+use Rattle.wait_event.proofs.PartWords.{finishes_follow, prepares_begin}
+use Rattle.wait_event.proofs.Words.{
+  adds_follow,
+  removes_follow,
+  sets_follow,
+  takes_follow,
+  waits_follow,
+  waits_say,
+  wokens_follow,
+}
 use Rattle.wait_event.proofs.laws.calls_follow_sentences.Goals as goal
 
 pub returns-clause-waits : goal.returns-clause-waits
@@ -15,3 +24,15 @@ returns-clause-says c = waits_say
 
 pub returns-clause-flags : goal.returns-clause-flags
 returns-clause-flags c = wokens_follow
+
+pub returns-clause-adds : goal.returns-clause-adds
+returns-clause-adds c = adds_follow
+
+pub returns-clause-removes : goal.returns-clause-removes
+returns-clause-removes c = removes_follow
+
+pub returns-clause-prepares : goal.returns-clause-prepares
+returns-clause-prepares c = prepares_begin
+
+pub returns-clause-finishes : goal.returns-clause-finishes
+returns-clause-finishes c = finishes_follow

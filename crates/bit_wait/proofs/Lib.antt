@@ -1,5 +1,6 @@
 pub mod Trying
 pub mod Words
+pub mod Heeding
 pub mod BitLaws
 pub mod Clearing
 pub mod Holders

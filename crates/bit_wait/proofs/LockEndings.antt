@@ -14,7 +14,7 @@ use Rattle.wait_class.specs.Posts.{IsOut}
 use Rattle.bit_wait.specs.BitEnds.{answer_of}
 use Rattle.bit_wait.specs.LockStays.{LockKeeps, TakesBit}
 use Rattle.bit_wait.specs.LockTables.{IsFresh, IsRunning, answer_in, end_post, bit_in, is_over, lock_frame, lock_table}
-use Rattle.bit_wait.specs.LockEnds.{EndsBitLock, HasRested, IsCause, end_in, has_taken as given}
+use Rattle.bit_wait.specs.LockEnds.{ComesBehindWorn, EndsBitLock, HasRested, IsCause, end_in, has_taken as given}
 use Rattle.bit_wait.specs.declared.lock_runs.LockBit.{LockBit}
 use Rattle.bit_wait.specs.declared.wait_calls.BitEnd.{BitEnd}
 use Rattle.bit_wait.specs.declared.lock_runs.LockOutcome.{LockOutcome}
@@ -45,6 +45,11 @@ begins_at k r runs = begins lock_table k r (stage.Test test.First) runs refl ref
 abbrev CauseOf : Known → Watch → SleepState → Result (Unit {0}) BitEnd → Type 0
 CauseOf k (watch.Bit w b) st x = IsCause k w b st x
 CauseOf k _ st x = ⊥
+
+-- and whether it came behind a hold that found no place
+abbrev BehindOf : Known → Watch → Result (Unit {0}) BitEnd → Bool → Type 0
+BehindOf k (watch.Bit w b) x worn = ComesBehindWorn k w b x worn
+BehindOf k _ x worn = ⊥
 
 answer_is : (e : LockBit) (o : LockOutcome) → answer_in o ≡ answer_of (end_in e o)
 answer_is e outcome.Over = refl
@@ -104,5 +109,6 @@ module _ (old ended new : Known) (r q : Run (Framed LockBit)) (w b : ℕ) (st : 
         (answer_of (end_in e o)) (answer_is e o);
     cause = subst (λ (p : Plan). CauseOf ended p.watch p.state (end_in e o)) (a.same ∙ began) a.lands.trail.cause;
     worn = e.worn;
+    behind = subst (λ (p : Plan). BehindOf ended p.watch (end_in e o) e.worn) (a.same ∙ began) a.lands.trail.behind;
     rests = h;
   }

@@ -39,6 +39,7 @@ use Rattle.wait_class.proofs.Histories.{awake_more, ends_calm, ends_still, found
 use Rattle.wq_head.proofs.FullHeads.{hashed_low}
 use Rattle.wait_model.specs.declared.layout.TheConstants.{FIRST_DONE_HEAD, WORD_BITS}
 use Rattle.wait_model.specs.Watches.{head_of}
+use Rattle.bit_wait.specs.LockEnds.{ComesBehindWorn}
 use Rattle.bit_wait.specs.LockTables.{FinishTrail, FoundSignal, IsRunning, TestTrail, bit_in, call_in, head_in, lock_frame, lock_table}
 use Rattle.bit_wait.specs.declared.lock_runs.LockBit.{LockBit}
 use Rattle.bit_wait.specs.declared.lock_runs.LockTest.{LockTest}
@@ -67,10 +68,10 @@ more_signal old new st es more awake f = record {
 calm_finish : (old new : Known) (r : LockBit) (failed : Bool) (es : List Step) → has_sleep es ≡ false
     → Calm es old new → FinishTrail old r failed → FinishTrail new r failed
 calm_finish old new r true es awake calm f = more_signal old new r.state es calm.history awake f
-calm_finish old new r false es awake calm f = record {
-  keeps = calm.keeps (bit_in r) ∙ f.keeps;
-  tries = calm.tries (bit_in r) f.keeps f.tries;
-}
+calm_finish old new r false es awake calm f = (
+  record { keeps = calm.keeps (bit_in r) ∙ f.0.keeps; tries = calm.tries (bit_in r) f.0.keeps f.0.tries },
+  f.1,
+)
 
 test_still : (old new : Known) (r : LockBit) (x : LockTest) → Unmoved old new → TestTrail old r x → TestTrail new r x
 test_still old new r test.First still f = tt
@@ -125,7 +126,12 @@ module _ (r : LockBit) where
   finish_law : (failed : Bool) → FinishLaw lock_frame r failed
   finish_law true = finish_by lock_frame r true refl (λ s. refl) refl refl refl tt (λ k f. f)
   finish_law false = finish_by lock_frame r false tt (λ s. refl) refl refl refl tt
-      (λ k f. record { cause = tt; keeps = λ is. f.keeps; tries = f.tries })
+      (λ k f. record {
+        cause = tt;
+        behind = subst (ComesBehindWorn k r.word r.bit (Ok tt)) (sym f.1) tt;
+        keeps = λ is. f.0.keeps;
+        tries = f.0.tries;
+      })
 
 loads_law : (r : LockBit) (x : LockTest) → lock_frame.loads x ≡ true → (v : ℕ)
     → LoadLaw lock_table (record { wait = r }) (stage.Test x) v (record { wait = r }) (lock_frame.loaded_to r x v)

@@ -1,6 +1,6 @@
 -- The bit is tried.
 use Rattle.std.proofs.Common.{◌∙◌, ap, sym, refl, subst, inl}
-use Rattle.std.specs.Prelude.{ℕ, ◌≡◌, ◌&&◌, not, Bool, true, false, if◌then◌else◌, Some, [], ◌∷◌, ◌++◌}
+use Rattle.std.specs.Prelude.{ℕ, ◌≡◌, ◌&&◌, not, Bool, true, false, if◌then◌else◌, Ok, Some, [], ◌∷◌, ◌++◌}
 use Rattle.wait_model.specs.declared.calls.Answer.TheVariants as answer
 use Rattle.wait_model.specs.declared.calls.Event.{Event}
 use Rattle.wait_model.specs.declared.points.BitPoint.TheVariants as biting
@@ -14,7 +14,6 @@ use Rattle.wait_model.specs.declared.steps.Step.TheVariants as step
 use Rattle.wait_model.specs.declared.watches.Watch.{Watch}
 use Rattle.wait_model.specs.Points.{given_at}
 use Rattle.wait_model.specs.Programs.{ends_with, exchange, go, interrupted, zero_answer}
-use Rattle.wait_model.specs.Tasks.{state_mask}
 use Rattle.wait_model.specs.Watches.{was_clear}
 use Rattle.wait_model.specs.Words.{bit_at}
 use Rattle.wait_rule.specs.declared.journal.Item.TheVariants as item
@@ -26,7 +25,7 @@ use Rattle.wait_rule.specs.Says.{added, history_of}
 use Rattle.wait_rule.specs.Transitions.{IsMadeFor, by_step}
 use Rattle.wait_rule.proofs.KnownLaws.TaskHistories.{history_after}
 use Rattle.wait_rule.proofs.WornHeads.WornNotes.{notes_stay}
-use Rattle.wait_class.specs.Posts.{IsStateFor}
+use Rattle.wait_class.specs.Posts.{EndsWith}
 use Rattle.wait_class.specs.Findings.{with_value}
 use Rattle.wait_class.proofs.Histories.{ends_more}
 use Rattle.wait_class.proofs.Ground.Standing.{home_waits}
@@ -36,9 +35,10 @@ use Rattle.wait_class.specs.declared.stages.Run.{Run}
 use Rattle.wait_class.specs.declared.stages.Turn.TheVariants as turn
 use Rattle.wait_class.specs.Tables.{IsAt, Turned, falls}
 use Rattle.wait_class.specs.Laws.{IsPlain}
-use Rattle.wait_class.proofs.Turns.{GoesOn, advance_by, zero_for}
+use Rattle.wait_class.proofs.Turns.{GoesOn, advance_by}
 use Rattle.bit_wait.specs.LockStays.{LockKeeps}
-use Rattle.bit_wait.specs.LockTables.{EndTrail, LockTurn, bit_in, call_in, head_in, lock_frame, lock_table, tried_to, tries_bit}
+use Rattle.bit_wait.specs.LockEnds.{ComesBehindWorn}
+use Rattle.bit_wait.specs.LockTables.{stands_worn, EndTrail, LockTurn, bit_in, call_in, head_in, lock_frame, lock_table, tried_to, tries_bit}
 use Rattle.bit_wait.specs.declared.lock_runs.LockBit.{LockBit}
 use Rattle.bit_wait.specs.declared.lock_runs.LockOutcome.TheVariants as outcome
 use Rattle.bit_wait.specs.declared.lock_runs.LockTest.{LockTest}
@@ -58,9 +58,12 @@ module _ (old new : Known) (r : Run (Framed LockBit)) (v : ℕ)
   abbrev w : LockBit
   w = r.of.wait
 
-  -- the run has what it found too
-  abbrev q : Framed LockBit
-  q = record { wait = record w { seen = v } }
+  -- the run has what it found too, and whether that was behind a hold that found no place
+  abbrev w_seen : LockBit
+  w_seen = record w { seen = v }
+
+  abbrev q : LockTest → Framed LockBit
+  q x = record { wait = record w { seen = v; worn = stands_worn x } }
 
   abbrev seen : Event
   seen = exchange (call_in w) (with_value v)
@@ -78,52 +81,62 @@ module _ (old new : Known) (r : Run (Framed LockBit)) (v : ℕ)
   Made p x = IsMadeFor old (Some (index old.view.number 0)) (given_at (call_in w) p) x
       (by_step (step.Consume (bit_in w) 1 v))
 
-  more : history_of new ≡ history_of old ++ tries_bit q.wait
+  more : history_of new ≡ history_of old ++ tries_bit w_seen
   more = history_after old new (step.Consume (bit_in w) 1 v) is
 
-  zero : (σ : ℕ) → IsStateFor false (state_mask w.state) σ → IsStateFor w.worn (state_mask w.state) σ
-  zero σ s = zero_for w.worn (state_mask w.state) σ s
+  over_trail : (x : LockTest) → ComesBehindWorn new w.word w.bit (Ok tt) (stands_worn x) → was_clear (bit_in w) v ≡ true
+      → EndTrail new (q x).wait outcome.Over
+  over_trail x behind clear = record {
+    cause = tt;
+    behind = behind;
+    keeps = λ is. sets.keeps clear;
+    tries = sets.tries;
+  }
 
-  worn_state : IsAt lock_table old r (stage.Test test.Worn) → (σ : ℕ) → IsStateFor true (state_mask w.state) σ
-      → IsStateFor w.worn (state_mask w.state) σ
-  worn_state a σ s = subst (λ (b : Bool). IsStateFor b (state_mask w.state) σ) (sym a.trail.1) s
+  -- behind a hold that found no place
+  worn_noted : (a : IsAt lock_table old r (stage.Test test.Worn))
+      → WasWorn new.view.number new.view.items (head_in w) w.place
+  worn_noted a = subst (λ (k : Known). WasWorn k.view.number k.view.items (head_in w) w.place) (sym is)
+      (notes_stay old.view.number old.view.items (item.Made (step.Consume (bit_in w) 1 v) ∷ []) (head_in w) w.place
+      a.trail.0.noted)
 
-  over_trail : was_clear (bit_in w) v ≡ true → EndTrail new q.wait outcome.Over
-  over_trail clear = record { cause = tt; keeps = λ is. sets.keeps clear; tries = sets.tries }
+  worn_ends : (a : IsAt lock_table old r (stage.Test test.Worn))
+      → EndsWith new (step.Unlock (head_in w) false ∷ tries_bit w_seen)
+  worn_ends a = ends_more old new (step.Unlock (head_in w) false ∷ []) (tries_bit w_seen) a.trail.0.ends more
 
   same_keeps : (i : ℕ) (c : Watch) (g h : Bool) (j k : Known) → LockKeeps i c g h j k → LockKeeps i c g h j k
   same_keeps i c g h j k y = y
 
   try_from : (x : LockTest) → lock_frame.loads x ≡ false → (a : IsAt lock_table old r (stage.Test x)) → (b : Bool)
-      → bit_at v w.bit ≡ b → GoesOn lock_table old new r.of q (stage.Test x) (tried_to x b)
+      → bit_at v w.bit ≡ b → GoesOn lock_table old new r.of (q x) (stage.Test x) (tried_to x b)
   try_from test.Load own a b set = absurd (cc)
   try_from test.First own a true set = set_goes lock_table old new r
-      (stage.Test test.First) w.word w.bit v refl same_keeps is sets refl refl refl a q (λ x did. tt) (turn.Again stage.PrepareLock) true set refl
+      (stage.Test test.First) w.word w.bit v refl same_keeps is sets refl refl refl a (q test.First) (λ x did. tt) (turn.Again stage.PrepareLock) true set refl
       (ap (λ (c : Bool). (if c then prepares else over).next) set)
       (either_event (Made (at.Bit biting.First)) (bit_at v w.bit) prepares over (refl, refl) (refl, refl))
       (refl, tt, tt) refl refl (λ σ s. inl s) (home_waits (bit_in w)) tt
   try_from test.First own a false set = set_goes lock_table old new r
-      (stage.Test test.First) w.word w.bit v refl same_keeps is sets refl refl refl a q (λ x did. tt) (turn.Done outcome.Over) false set refl
+      (stage.Test test.First) w.word w.bit v refl same_keeps is sets refl refl refl a (q test.First) (λ x did. tt) (turn.Done outcome.Over) false set refl
       (ap (λ (c : Bool). (if c then prepares else over).next) set)
       (either_event (Made (at.Bit biting.First)) (bit_at v w.bit) prepares over (refl, refl) (refl, refl))
-      (refl, tt, tt) refl refl zero (λ o h. h) (over_trail (ap not set))
+      (refl, tt, tt) refl refl (λ σ s. s) (λ o h. h) (over_trail test.First tt (ap not set))
   try_from test.Again own a true set = set_goes lock_table old new r
-      (stage.Test test.Again) w.word w.bit v refl same_keeps is sets refl refl refl a q (λ x did. tt) (turn.Again stage.PrepareLock) true set refl
+      (stage.Test test.Again) w.word w.bit v refl same_keeps is sets refl refl refl a (q test.Again) (λ x did. tt) (turn.Again stage.PrepareLock) true set refl
       (ap (λ (c : Bool). next.Go (if c && not false then at.Prepare preparing.Lock
       else at.Finish finishing.State false)) set)
       (refl, refl) (refl, tt, tt) refl refl (λ σ s. s) (λ o h. h)
       tt
   try_from test.Again own a false set = set_goes lock_table old new r
-      (stage.Test test.Again) w.word w.bit v refl same_keeps is sets refl refl refl a q (λ x did. tt) (turn.Again (stage.FinishState false)) false set refl
+      (stage.Test test.Again) w.word w.bit v refl same_keeps is sets refl refl refl a (q test.Again) (λ x did. tt) (turn.Again (stage.FinishState false)) false set refl
       (ap (λ (c : Bool). next.Go (if c && not false then at.Prepare preparing.Lock
       else at.Finish finishing.State false)) set)
       (refl, refl) (refl, tt, tt) refl refl (λ σ s. s) (λ o h. h)
-      (record { keeps = sets.keeps (ap not set); tries = sets.tries })
+      (record { keeps = sets.keeps (ap not set); tries = sets.tries }, refl)
   try_from test.Last own a true set = set_goes lock_table old new r
-      (stage.Test test.Last) w.word w.bit v refl same_keeps is sets refl refl refl a q (λ x did. tt) (turn.Done outcome.Interrupted) true set refl
+      (stage.Test test.Last) w.word w.bit v refl same_keeps is sets refl refl refl a (q test.Last) (λ x did. tt) (turn.Done outcome.Interrupted) true set refl
       (ap (λ (c : Bool). next.Ends (if c then interrupted else zero_answer)) set)
-      (refl, refl) (refl, tt, tt) refl refl zero (λ o h. h)
-      (let f = more_signal old new w.state (tries_bit q.wait) more refl a.trail in record {
+      (refl, refl) (refl, tt, tt) refl refl (λ σ s. s) (λ o h. h)
+      (let f = more_signal old new w.state (tries_bit w_seen) more refl a.trail in record {
         cause = record {
           before = f.before;
           sleep = f.sleep;
@@ -135,36 +148,36 @@ module _ (old new : Known) (r : Run (Framed LockBit)) (v : ℕ)
           last = (history_of old, more);
           set = set;
         };
+        behind = refl;
         keeps = λ no. absurd (cc);
         tries = sets.tries;
       })
   try_from test.Last own a false set = set_goes lock_table old new r
-      (stage.Test test.Last) w.word w.bit v refl same_keeps is sets refl refl refl a q (λ x did. tt) (turn.Done outcome.Over) false set refl
+      (stage.Test test.Last) w.word w.bit v refl same_keeps is sets refl refl refl a (q test.Last) (λ x did. tt) (turn.Done outcome.Over) false set refl
       (ap (λ (c : Bool). next.Ends (if c then interrupted else zero_answer)) set)
-      (refl, refl) (refl, tt, tt) refl refl zero (λ o h. h)
-      (over_trail (ap not set))
+      (refl, refl) (refl, tt, tt) refl refl (λ σ s. s) (λ o h. h)
+      (over_trail test.Last tt (ap not set))
   try_from test.Worn own a true set = set_goes lock_table old new r
-      (stage.Test test.Worn) w.word w.bit v refl same_keeps is sets refl refl refl a q (λ x did. tt) (turn.Done outcome.Worn) true set refl
+      (stage.Test test.Worn) w.word w.bit v refl same_keeps is sets refl refl refl a (q test.Worn) (λ x did. tt) (turn.Done outcome.Worn) true set refl
       (ap (λ (c : Bool). (if c then worn else over).next) set)
       (either_event (Made at.Worn) (bit_at v w.bit) worn over (refl, refl) (refl, refl))
-      (refl, tt, tt) refl refl (worn_state a) (λ o h. h) (record {
-        cause = record {
-          head = refl;
-          noted = subst (λ (k : Known). WasWorn k.view.number k.view.items (head_in w) w.place) (sym is)
-              (notes_stay old.view.number old.view.items (item.Made (step.Consume (bit_in w) 1 v) ∷ []) (head_in w)
-              w.place a.trail.0.noted);
-          found = v;
-          ends = ends_more old new (step.Unlock (head_in w) false ∷ []) (tries_bit q.wait) a.trail.0.ends more;
-          set = set;
-        };
+      (refl, tt, tt) refl refl (λ σ s. s) (λ o h. h) (record {
+        cause = record { head = refl; noted = worn_noted a; found = v; ends = worn_ends a; set = set };
+        behind = refl;
         keeps = λ no. absurd (cc);
         tries = sets.tries;
       })
   try_from test.Worn own a false set = set_goes lock_table old new r
-      (stage.Test test.Worn) w.word w.bit v refl same_keeps is sets refl refl refl a q (λ x did. tt) (turn.Done outcome.Over) false set refl
+      (stage.Test test.Worn) w.word w.bit v refl same_keeps is sets refl refl refl a (q test.Worn) (λ x did. tt) (turn.Done outcome.Over) false set refl
       (ap (λ (c : Bool). (if c then worn else over).next) set)
       (either_event (Made at.Worn) (bit_at v w.bit) worn over (refl, refl) (refl, refl))
-      (refl, tt, tt) refl refl (worn_state a) (λ o h. h) (over_trail (ap not set))
+      (refl, tt, tt) refl refl (λ σ s. s) (λ o h. h) (over_trail test.Worn (record {
+        place = w.place;
+        noted = worn_noted a;
+        found = v;
+        ends = worn_ends a;
+        clear = set;
+      }) (ap not set))
 
 plain_tries : (x : LockTest) (b : Bool) → IsPlain lock_table (tried_to x b)
 plain_tries test.First true = refl
@@ -190,16 +203,18 @@ tries_fall test.Worn false = refl
 tries_fall test.Last true = refl
 tries_fall test.Last false = refl
 
+abbrev run_after : Run (Framed LockBit) → ℕ → Bool → Run (Framed LockBit)
+run_after r v worn = record r { of = record { wait = record r.of.wait { seen = v; worn = worn } } }
+
 pub try_advances : (old new : Known) (r : Run (Framed LockBit)) (x : LockTest) → lock_frame.loads x ≡ false
     → IsAt lock_table old r (stage.Test x) → (v : ℕ)
     → new ≡ added old (item.Made (step.Consume (bit_in r.of.wait) 1 v))
-    → SetsBit old new (bit_in r.of.wait) (was_clear (bit_in r.of.wait) v) → (b : Bool) → b ≡ bit_at v r.of.wait.bit
-    → (u : LockTurn) → u ≡ tried_to x b
-    → Turned lock_table old new r (record r { of = record { wait = record r.of.wait { seen = v } } }) (stage.Test x) u
-try_advances old new r x own a v is sets b tells u to =
-    subst (λ (n : LockTurn). Turned lock_table old new r (record r {
-      of = record { wait = record r.of.wait { seen = v } };
-    }) (stage.Test x) n) (sym to)
-    (advance_by lock_table old new r (record r { of = record { wait = record r.of.wait { seen = v } } }) (stage.Test x)
+    → SetsBit old new (bit_in r.of.wait) (was_clear (bit_in r.of.wait) v) → (worn : Bool) → worn ≡ stands_worn x
+    → (b : Bool) → b ≡ bit_at v r.of.wait.bit → (u : LockTurn) → u ≡ tried_to x b
+    → Turned lock_table old new r (run_after r v worn) (stage.Test x) u
+try_advances old new r x own a v is sets worn behind b tells u to =
+    subst (λ (n : LockTurn). Turned lock_table old new r (run_after r v worn) (stage.Test x) n) (sym to)
+    (subst (λ (g : Bool). Turned lock_table old new r (run_after r v g) (stage.Test x) (tried_to x b)) (sym behind)
+    (advance_by lock_table old new r (run_after r v (stands_worn x)) (stage.Test x)
     (tried_to x b) refl (record { word = a.fits.word; bit = a.fits.bit }) (plain_tries x b)
-    (try_from old new r v is sets x own a b (sym tells)))
+    (try_from old new r v is sets x own a b (sym tells))))

@@ -1,6 +1,6 @@
 -- To be believed.
 -- What whole waits to take a bit say.
-use Rattle.std.specs.Prelude.{ℕ, ◌≡◌, ◌⊎◌, Bool, true, false, Result, Ok, Err, List, [], ◌∷◌, ◌++◌}
+use Rattle.std.specs.Prelude.{ℕ, ◌≡◌, Bool, true, false, Result, Ok, Err, List, [], ◌∷◌, ◌++◌}
 use Rattle.wait_model.specs.declared.calls.Call.TheVariants as calls
 use Rattle.wait_model.specs.declared.tasks.SleepState.{SleepState}
 use Rattle.wait_model.specs.declared.points.BitPoint.TheVariants as biting
@@ -13,9 +13,8 @@ use Rattle.wait_model.specs.Tasks.{pending, state_mask, task_of}
 use Rattle.wait_model.specs.Watches.{head_of}
 use Rattle.wait_model.specs.Words.{bit_at}
 use Rattle.wait_rule.specs.Ends.{WasWorn}
-use Rattle.wait_rule.specs.declared.journal.Item.TheVariants as item
 use Rattle.wait_rule.specs.Known.{Known}
-use Rattle.wait_rule.specs.Says.{added, history_of}
+use Rattle.wait_rule.specs.Says.{history_of}
 use Rattle.wait_rule.specs.Transitions.{call_program}
 use Rattle.wait_class.specs.Posts.{Runs}
 use Rattle.wait_class.specs.Posts.{EndsWith}
@@ -61,13 +60,29 @@ IsCause k w b st (Ok u) = Unit {0}
 IsCause k w b st (Err (bit_end.Interrupted seen)) = WasInterrupted k w b st seen
 IsCause k w b st (Err (bit_end.Worn h place)) = FoundNoPlace k w b h place
 
+-- The last hold of a wait found no place, noted it and gave the head back; then the test-and-set found the bit clear.
+pub record TookBehindWorn (k : Known) (w b : ℕ) : Type 0 where
+  pub place : ℕ
+  pub noted : WasWorn k.view.number k.view.items (head_of (watch.Bit w b)) place
+  pub found : ℕ
+  pub ends : EndsWith k (step.Unlock (head_of (watch.Bit w b)) false ∷ step.Consume (watch.Bit w b) 1 found ∷ [])
+  pub clear : bit_at found b ≡ false
+
+-- Which answers come behind a hold that found no place: Worn, and Ok where the last test-and-set took the bit even so.
+abbrev pub ComesBehindWorn : Known → ℕ → ℕ → Result (Unit {0}) BitEnd → Bool → Type 0
+ComesBehindWorn k w b (Ok u) true = TookBehindWorn k w b
+ComesBehindWorn k w b (Ok u) false = Unit {0}
+ComesBehindWorn k w b (Err (bit_end.Interrupted seen)) worn = worn ≡ false
+ComesBehindWorn k w b (Err (bit_end.Worn h place)) worn = worn ≡ true
+
 -- whether the call took the bit
 abbrev pub has_taken : Result (Unit {0}) BitEnd → Bool
 has_taken (Ok u) = true
 has_taken (Err e) = false
 
--- The task went through the whole call, and the answer is that of its program, with its cause. Where a hold of it found
--- no place it then stored RUNNING, since it may still have been in the state in which it would have slept.
+-- The task went through the whole call, and the answer is that of its program, with its cause. Where its last hold
+-- found no place, and only there, it then stored RUNNING, since it may still have been in the state in which it would
+-- have slept.
 pub record EndsBitLock (old new : Known) (w b : ℕ) (st : SleepState) (result : Result (Unit {0}) BitEnd) :
     Type 0 where
   pub ended : Known
@@ -75,4 +90,5 @@ pub record EndsBitLock (old new : Known) (w b : ℕ) (st : SleepState) (result :
       (next.Ends (answer_of result))
   pub cause : IsCause ended w b st result
   pub worn : Bool
+  pub behind : ComesBehindWorn ended w b result worn
   pub rests : HasRested ended new worn

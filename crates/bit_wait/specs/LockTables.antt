@@ -33,7 +33,7 @@ use Rattle.wait_class.specs.declared.stages.Turn.TheVariants as turn
 use Rattle.wait_class.specs.Frames.{FrameTable, framed}
 use Rattle.wait_class.specs.Tables.{has_sleep}
 use Rattle.wait_class.specs.Tables.{CallTable, call_plan}
-use Rattle.bit_wait.specs.LockEnds.{IsCause, end_in}
+use Rattle.bit_wait.specs.LockEnds.{ComesBehindWorn, IsCause, end_in}
 use Rattle.bit_wait.specs.LockStays.{LockKeeps}
 use Rattle.bit_wait.specs.declared.lock_runs.LockBit.{LockBit}
 use Rattle.bit_wait.specs.declared.lock_runs.LockOutcome.{LockOutcome}
@@ -58,6 +58,11 @@ test_point test.Load = at.Bit biting.Load
 test_point test.Again = at.Bit (biting.Again false)
 test_point test.Worn = at.Worn
 test_point test.Last = at.Bit biting.Last
+
+-- the test behind a hold that found no place
+abbrev pub stands_worn : LockTest → Bool
+stands_worn test.Worn = true
+stands_worn _ = false
 
 abbrev pub loads : LockTest → Bool
 loads test.Load = true
@@ -134,11 +139,13 @@ TestTrail k r _ = Unit {0}
 
 abbrev pub FinishTrail : Known → LockBit → Bool → Type 0
 FinishTrail k r true = FoundSignal k r.state
-FinishTrail k r false = HasTaken k (bit_in r)
+FinishTrail k r false = HasTaken k (bit_in r) × (r.worn ≡ false)
 
--- The answer has its cause; the task keeps the bit where it took it, and is not to try it.
+-- The answer has its cause, and comes behind a hold that found no place where the run says so; the task keeps the bit
+-- where it took it, and is not to try it.
 pub record EndTrail (k : Known) (r : LockBit) (o : LockOutcome) : Type 0 where
   pub cause : IsCause k r.word r.bit r.state (end_in r o)
+  pub behind : ComesBehindWorn k r.word r.bit (end_in r o) r.worn
   pub keeps : is_over o ≡ true → KeepsBitOf k (bit_in r)
   pub tries : (told_of k).bits.pending (bit_in r) ≡ false
 

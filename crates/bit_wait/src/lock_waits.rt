@@ -2,7 +2,7 @@
 
 ghost use Rattle.std.specs.Prelude.{◌≡◌, false, true};
 ghost use Rattle.wait_model.specs.declared.watches.Watch.TheVariants as watch;
-ghost use Rattle.bit_wait.specs.LockTables.{finished_to, loaded_to, lock_looked_to, slept_to, tried_to};
+ghost use Rattle.bit_wait.specs.LockTables.{finished_to, stands_worn, loaded_to, lock_looked_to, slept_to, tried_to};
 ghost use Rattle.wait_rule.specs.Says.{IsUp};
 ghost use Rattle.wait_model.specs.declared.layout.TheConstants.{HEADS};
 ghost use Rattle.wait_class.specs.Handing.{LastGiven};
@@ -55,7 +55,18 @@ fn tried_to(test: LockTest, set: bool) -> LockTurn
     }
 }
 
-/// The bit is tried, and what it found noted.
+/// Whether this is the test behind a hold that found no place.
+#[inline(always)]
+fn stands_worn(test: LockTest) -> bool
+    ensures { result ≡ stands_worn test }
+{
+    match test {
+        LockTest::Worn => true,
+        _ => false,
+    }
+}
+
+/// The bit is tried, and noted what it found, and whether that was behind a hold that found no place.
 #[inline(always)]
 fn try_test(domain: &Domain, task: &mut Task, run: &mut LockRun, test: LockTest) -> LockTurn
     requires of { task.old.domain ≡ domain.now }
@@ -67,6 +78,7 @@ fn try_test(domain: &Domain, task: &mut Task, run: &mut LockRun, test: LockTest)
 {
     let value = bit_set(domain, task, run.of.wait.word, run.of.wait.bit);
     run.of.wait.seen = value;
+    run.of.wait.worn = stands_worn(test);
     tried_to(test, bit_at(value, run.of.wait.bit))
 }
 

@@ -6,3 +6,5 @@ pub mod PageFlags
 pub mod PageQueues
 pub mod PageEndings
 pub mod PageWords
+pub mod LookedSteps
+pub mod Heeding

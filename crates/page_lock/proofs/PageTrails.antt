@@ -23,7 +23,7 @@ use Rattle.wait_rule.proofs.KnownLaws.ToldFlags.{told_more}
 use Rattle.wait_class.specs.Posts.{own_of}
 use Rattle.wait_class.specs.Tables.{has_sleep}
 use Rattle.wait_class.specs.Laws.{Calm, Unmoved}
-use Rattle.wait_class.proofs.Histories.{awake_more, ends_still, found_still}
+use Rattle.wait_class.proofs.Histories.{awake_more, found_still}
 use Rattle.page_lock.specs.PageEnds.{are_calm, is_calm}
 use Rattle.page_lock.specs.PageTables.{PageEndTrail, FoundSet, FoundSignal, HasLeft, IsOff, IsQuiet, IsUnasked, IsWaiting, TrailAt, head_in, page_in}
 use Rattle.page_lock.specs.declared.waits.LockPage.{LockPage}

@@ -3,6 +3,7 @@ use Rattle.std.proofs.Common.{◌∙◌, ap, sym, refl, subst, arith, append_ass
 use Rattle.std.specs.Prelude.{
   ℕ,
   ◌≡◌,
+  ◌≤◌,
   ◌-◌,
   ◌||◌,
   ◌==◌,
@@ -56,7 +57,7 @@ use Rattle.wait_class.specs.Findings.{with_value}
 use Rattle.wait_event.proofs.Entering.{hold_carried, looked_carried}
 use Rattle.wait_class.proofs.Ground.Going.{runs_none, runs_on}
 use Rattle.wait_class.proofs.Histories.{unlocked_history}
-use Rattle.completion_cell.specs.Asks.{BeginsWith, Counted, Decides, HasAsked, HasReset, HasTried, TakesOne, yes_or_no}
+use Rattle.completion_cell.specs.Asks.{Counted, Decides, HasAsked, HasReset, HasTried, TakesOne, yes_or_no}
 use Rattle.completion_cell.proofs.Ground.{
   as_looks,
   count_after_step,
@@ -66,6 +67,7 @@ use Rattle.completion_cell.proofs.Ground.{
   count_unlocks,
   quiet_store,
 }
+use Rattle.completion_cell.proofs.RangedLoads.{AreSmall, called_by, set_small, small_on}
 
 -- a whole hold carries on what what is done in it changes nothing of
 pub whole_carried : (old a b new : Known) → IsFree old → (told_of old).hold.head ≡ None → (h : ℕ)
@@ -91,10 +93,10 @@ pub free_on : (old mid : Known) → Carries unchanged old mid → IsFree old →
 free_on old mid k free = record { head = k.head ∙ free.head; ticket = k.ticket ∙ free.ticket }
 
 -- the first step stays the first
-begins : (old mid new : Known) (e : Step) (more : List Step) → history_of mid ≡ history_of old ++ e ∷ []
-    → history_of new ≡ history_of mid ++ more → BeginsWith old new e
-begins old mid new e more one two =
-    (more, two ∙ (ap (λ (l : List Step). l ++ more) one ∙ append_assoc (history_of old) (e ∷ []) more))
+pub steps_on : (old mid new : Known) (e : Step) (more : List Step) → history_of mid ≡ history_of old ++ e ∷ []
+    → history_of new ≡ history_of mid ++ more → history_of new ≡ history_of old ++ e ∷ more
+steps_on old mid new e more one two = two
+    ∙ (ap (λ (l : List Step). l ++ more) one ∙ append_assoc (history_of old) (e ∷ []) more)
 
 -- a lock adds one step to the history
 silent_items : (xs ys : List Item) → steps_of ys ≡ [] → steps_of (xs ++ ys) ≡ steps_of xs
@@ -123,25 +125,36 @@ module _ (old a : Known) (d v : ℕ) (is : a ≡ added old (item.Made (step.Load
   pub asked_none : v ≡ 0 → HasAsked old a d false
   asked_none zero =
       let z : (v == 0) ≡ true = grind (arith, nat_tests) in record {
-        runs = subst (λ (b : Bool). Runs (call_program old.view.number 0 (calls.IsDone d)) old a
+        runs = called_by old a (calls.IsDone d) (at.Count counting.Peek) (yes_or_no false)
+            (subst (λ (b : Bool). Runs (call_program old.view.number 0 (calls.IsDone d)) old a
             (next.Go (at.Count counting.Peek)) (if b then ends_with (load (calls.IsDone d) (with_value v)) zero_answer
             else go (load (calls.IsDone d) (with_value v)) (at.Count counting.Lock)).next) z
-            (count_peeks old.view.number (calls.IsDone d) d refl old a v is);
+            (count_peeks old.view.number (calls.IsDone d) d refl old a v is)) (step.Load (watch.Done d) v ∷ [])
+            ask_history (omega (arith, zero), tt);
         count = v;
         loads = ([], ask_history);
         tells = sym (ap not z);
       }
 
-  module _ (b new : Known) (some : (v == 0) ≡ false)
+  module _ (b new : Known) (small : v ≤ ALL_DONE) (some : (v == 0) ≡ false)
       (l : HasLocked a b (head_of (watch.Done d)) (walk_of_hold (head_of (watch.Done d)) None))
       (u : new ≡ unlocked_with b b.at false) where
     at_lock : b.at ≡ head_of (watch.Done d)
     at_lock = ap (λ (k : Known). k.at) l.is
 
+    abbrev ask_lock : Step
+    ask_lock = step.Lock (head_of (watch.Done d)) (walk_of_hold (head_of (watch.Done d)) None) l.found
+
+    asked_history : history_of new ≡ history_of old ++ step.Load (watch.Done d) v ∷ ask_lock ∷ step.Unlock b.at false ∷ []
+    asked_history = steps_on old a new (step.Load (watch.Done d) v) (ask_lock ∷ step.Unlock b.at false ∷ []) ask_history
+        (steps_on a b new ask_lock (step.Unlock b.at false ∷ []) (locked_history a b (head_of (watch.Done d)) l)
+        (unlocked_history b new u))
+
     pub asked_some : HasAsked old new d true
     asked_some =
         let f = call_program old.view.number 0 (calls.IsDone d) in record {
-          runs = runs_on f old a new (next.Go (at.Count counting.Peek)) (next.Go (at.Count counting.Lock))
+          runs = called_by old new (calls.IsDone d) (at.Count counting.Peek) (yes_or_no true)
+              (runs_on f old a new (next.Go (at.Count counting.Peek)) (next.Go (at.Count counting.Lock))
               (next.Ends (yes_or_no true))
               (subst (λ (z : Bool). Runs f old a
               (next.Go (at.Count counting.Peek))
@@ -150,13 +163,10 @@ module _ (old a : Known) (d v : ℕ) (is : a ≡ added old (item.Made (step.Load
               (count_peeks old.view.number (calls.IsDone d) d refl old a v is))
               (runs_on f a b new (next.Go (at.Count counting.Lock)) (next.Go (at.Count (counting.Unlock true)))
               (next.Ends (yes_or_no true)) (count_locks old.view.number (calls.IsDone d) d refl a b l)
-              (count_unlocks old.view.number (calls.IsDone d) d refl true b new at_lock u));
+              (count_unlocks old.view.number (calls.IsDone d) d refl true b new at_lock u)))
+              (step.Load (watch.Done d) v ∷ ask_lock ∷ step.Unlock b.at false ∷ []) asked_history (small, (tt, (tt, tt)));
           count = v;
-          loads = begins old a new (step.Load (watch.Done d) v) _ ask_history
-              (unlocked_history b new u ∙ (ap (λ (es : List Step). es ++ step.Unlock b.at false ∷ [])
-              (locked_history a b (head_of (watch.Done d)) l)
-              ∙ append_assoc (history_of a) (step.Lock (head_of (watch.Done d))
-              (walk_of_hold (head_of (watch.Done d)) None) l.found ∷ []) (step.Unlock b.at false ∷ [])));
+          loads = (ask_lock ∷ step.Unlock b.at false ∷ [], asked_history);
           tells = sym (ap not some);
         }
 
@@ -170,17 +180,26 @@ module _ (old a b new : Known) (d : ℕ) (s : StoresCount a b d 0)
   pub reset_carried : Carries unchanged a b
   reset_carried = s.consumes (publishes_none s.found)
 
+  abbrev reset_lock : Step
+  reset_lock = step.Lock (head_of (watch.Done d)) (walk_of_hold (head_of (watch.Done d)) None) l.found
+
   pub has_reset : HasReset old new d
   has_reset =
       let f = call_program old.view.number 0 (calls.Reinit d) in
-      runs_on f old a new (next.Go (at.Count counting.Lock)) (next.Go (at.Count counting.Store))
+      called_by old new (calls.Reinit d) (at.Count counting.Lock) zero_answer (runs_on f old a new (next.Go (at.Count counting.Lock)) (next.Go (at.Count counting.Store))
       (next.Ends zero_answer) (count_locks old.view.number (calls.Reinit d) d refl old a l)
       (runs_on f a b new (next.Go (at.Count counting.Store)) (next.Go (at.Count (counting.Unlock false)))
       (next.Ends zero_answer)
       (quiet_store f (at.Count counting.Store) a b (with_value s.found) d 0 s.found _ 0 _ refl refl refl refl refl tt tt
       tt a (only_none a) s.is).0
       (count_unlocks old.view.number (calls.Reinit d) d refl false b new
-      (reset_carried.at ∙ ap (λ (k : Known). k.at) l.is) u))
+      (reset_carried.at ∙ ap (λ (k : Known). k.at) l.is) u)))
+      (reset_lock ∷ set_step (watch.Done d) 0 s.found ∷ step.Unlock b.at false ∷ [])
+      (steps_on old a new reset_lock (set_step (watch.Done d) 0 s.found ∷ step.Unlock b.at false ∷ [])
+      (locked_history old a (head_of (watch.Done d)) l)
+      (steps_on a b new (set_step (watch.Done d) 0 s.found) (step.Unlock b.at false ∷ [])
+      (history_after a b (set_step (watch.Done d) 0 s.found) s.is) (unlocked_history b new u)))
+      (tt, ((set_small (watch.Done d) 0 s.found).0, (tt, tt)))
 
 -- one is taken of a count that a hold has loaded
 module _ (old new : Known) (d n : ℕ) (c : Counted old d n) (took : Bool) (takes : TakesOne n took)
@@ -243,24 +262,27 @@ module _ (old new : Known) (d n : ℕ) (c : Counted old d n) (took : Bool) (take
       (sym (after_is (n == 0) (n == ALL_DONE) refl refl)) (along (n == 0) (n == ALL_DONE) refl refl)
 
   -- the steps of the take
-  pub take_history : (es : List Step) × (history_of new ≡ history_of old ++ es)
+  pub take_history : (es : List Step) × (history_of new ≡ history_of old ++ es) × AreSmall es
   take_history = by (n == 0) (n == ALL_DONE) refl refl
     where
       by : (z e : Bool) → (n == 0) ≡ z → (n == ALL_DONE) ≡ e
-          → (es : List Step) × (history_of new ≡ history_of old ++ es)
-      by true e one two = ([], ap history_of (stored true e one two) ∙ sym (append-nil (history_of old)))
-      by false true one two = ([], ap history_of (stored false true one two) ∙ sym (append-nil (history_of old)))
+          → (es : List Step) × (history_of new ≡ history_of old ++ es) × AreSmall es
+      by true e one two = ([], ap history_of (stored true e one two) ∙ sym (append-nil (history_of old)), tt)
+      by false true one two = ([], ap history_of (stored false true one two) ∙ sym (append-nil (history_of old)), tt)
       by false false one two =
-          let s = stored false false one two in
-          (set_step (watch.Done d) (n - 1) s.found ∷ [], history_after old new _ s.is)
+          let s = stored false false one two in (
+            set_step (watch.Done d) (n - 1) s.found ∷ [],
+            history_after old new _ s.is,
+            set_small (watch.Done d) (n - 1) s.found,
+          )
 
 -- the whole calls, for the code
 pub is_done_asked : (old a b new : Known) (d v h : ℕ) → h ≡ head_of (watch.Done d)
     → a ≡ added old (item.Made (step.Load (watch.Done d) v)) → Carries unchanged old a → (v ≡ 0 → ⊥)
-    → HasLocked a b h (walk_of_hold h None) → HasUnlocked b new false → HasAsked old new d true
-is_done_asked old a b new d v h same is one ne l u =
+    → FindsCount old d v → HasLocked a b h (walk_of_hold h None) → HasUnlocked b new false → HasAsked old new d true
+is_done_asked old a b new d v h same is one ne finds l u =
     let some : (v == 0) ≡ false = grind (arith, nat_tests, ne) in
-    asked_some old a d v is one b new some (subst (λ (i : ℕ). HasLocked a b i (walk_of_hold i None)) same l) u.is
+    asked_some old a d v is one b new finds.0 some (subst (λ (i : ℕ). HasLocked a b i (walk_of_hold i None)) same l) u.is
 
 pub reinit_reset : (old a b new : Known) (d h : ℕ) → h ≡ head_of (watch.Done d)
     → HasLocked old a h (walk_of_hold h None) → StoresCount a b d 0 → HasUnlocked b new false → HasReset old new d
@@ -271,20 +293,22 @@ pub tried_none : (old a : Known) (d v : ℕ) → a ≡ added old (item.Made (ste
     → HasTried old a d false
 tried_none old a d v is zero =
     let z : (v == 0) ≡ true = grind (arith, nat_tests) in record {
-      runs = subst (λ (b : Bool). Runs (call_program old.view.number 0 (calls.TryWait d)) old a
+      runs = called_by old a (calls.TryWait d) (at.Count counting.Peek) (yes_or_no false)
+          (subst (λ (b : Bool). Runs (call_program old.view.number 0 (calls.TryWait d)) old a
           (next.Go (at.Count counting.Peek)) (if b then ends_with (load (calls.TryWait d) (with_value v)) zero_answer
           else go (load (calls.TryWait d) (with_value v)) (at.Count counting.Lock)).next) z
-          (count_peeks old.view.number (calls.TryWait d) d refl old a v is);
+          (count_peeks old.view.number (calls.TryWait d) d refl old a v is)) (step.Load (watch.Done d) v ∷ [])
+          (history_after old a (step.Load (watch.Done d) v) is) (omega (arith, zero), tt);
       first = v;
       loads = ([], history_after old a (step.Load (watch.Done d) v) is);
       count = v;
-      decides = subst (λ (b : Bool). Decides b a d v) (sym z) zero;
+      decides = subst (λ (b : Bool). Decides b old a d v v) (sym z) zero;
       tells = sym (ap not z);
     }
 
 module _ (old a b b2 : Known) (d v n h : ℕ) (same : h ≡ head_of (watch.Done d))
     (is : a ≡ added old (item.Made (step.Load (watch.Done d) v))) (one : Carries unchanged old a) (ne : v ≡ 0 → ⊥)
-    (l : HasLocked a b h (walk_of_hold h None)) (again : b2 ≡ added b (item.Made (step.Load (watch.Done d) n)))
+    (first : FindsCount old d v) (l : HasLocked a b h (walk_of_hold h None)) (again : b2 ≡ added b (item.Made (step.Load (watch.Done d) n)))
     (finds : FindsCount b d n) (two : Carries unchanged b b2) where
   pub try_counted : Counted b2 d n
   try_counted = record {
@@ -324,10 +348,26 @@ module _ (old a b b2 : Known) (d v n h : ℕ) (same : h ≡ head_of (watch.Done 
         ∙ (ap (λ (es : List Step). es ++ rest) (history_after b b2 (step.Load (watch.Done d) n) again)
         ∙ append_assoc (history_of b) (step.Load (watch.Done d) n ∷ []) rest)))
 
+    abbrev try_lock : Step
+    try_lock = step.Lock (head_of (watch.Done d)) (walk_of_hold (head_of (watch.Done d)) None) locked.found
+
+    tried_history : history_of new ≡ history_of old ++ step.Load (watch.Done d) v ∷ try_lock ∷ step.Load (watch.Done d) n
+        ∷ rest
+    tried_history = steps_on old a new (step.Load (watch.Done d) v) (try_lock ∷ step.Load (watch.Done d) n ∷ rest)
+        (history_after old a (step.Load (watch.Done d) v) is)
+        (steps_on a b new try_lock (step.Load (watch.Done d) n ∷ rest)
+        (locked_history a b (head_of (watch.Done d)) locked) after_lock)
+
+    rest_small : AreSmall rest
+    rest_small =
+        let t = take_history b2 c d n try_counted took takes made in
+        small_on t.0 (step.Unlock c.at false ∷ []) t.2 (tt, tt)
+
     pub tried_some : HasTried old new d (not (n == 0))
     tried_some =
         let f = call_program old.view.number 0 (calls.TryWait d) in record {
-          runs = runs_on f old a new (next.Go (at.Count counting.Peek)) (next.Go (at.Count counting.Lock))
+          runs = called_by old new (calls.TryWait d) (at.Count counting.Peek) (yes_or_no (not (n == 0)))
+              (runs_on f old a new (next.Go (at.Count counting.Peek)) (next.Go (at.Count counting.Lock))
               (next.Ends (yes_or_no (not (n == 0))))
               (subst (λ (z : Bool). Runs f old a (next.Go (at.Count counting.Peek))
               (if z then ends_with (load (calls.TryWait d) (with_value v)) zero_answer
@@ -343,15 +383,14 @@ module _ (old a b b2 : Known) (d v n h : ℕ) (same : h ≡ head_of (watch.Done 
               (subst (λ (m : ℕ). Runs (call_program m 0 (calls.TryWait d)) b2 c (next.Go (at.Count (count_after n)))
               (next.Go (at.Count (counting.Unlock (not (n == 0)))))) number_b2
               (take_runs b2 c d n try_counted took takes made))
-              (count_unlocks old.view.number (calls.TryWait d) d refl (not (n == 0)) c new at_c u.is))));
+              (count_unlocks old.view.number (calls.TryWait d) d refl (not (n == 0)) c new at_c u.is)))))
+              (step.Load (watch.Done d) v ∷ try_lock ∷ step.Load (watch.Done d) n ∷ rest) tried_history
+              (first.0, (tt, (finds.0, rest_small)));
           first = v;
-          loads = begins old a new (step.Load (watch.Done d) v) _ (history_after old a (step.Load (watch.Done d) v) is)
-              (after_lock ∙ (ap (λ (es : List Step). es ++ step.Load (watch.Done d) n ∷ rest)
-              (locked_history a b h l)
-              ∙ append_assoc (history_of a) (step.Lock h (walk_of_hold h None) l.found ∷ [])
-              (step.Load (watch.Done d) n ∷ rest)));
+          loads = (try_lock ∷ step.Load (watch.Done d) n ∷ rest, tried_history);
           count = n;
-          decides = subst (λ (z : Bool). Decides z new d n) (sym some) (history_of b, rest, after_lock);
+          decides = subst (λ (z : Bool). Decides z old new d v n) (sym some)
+              (walk_of_hold (head_of (watch.Done d)) None, locked.found, rest, tried_history);
           tells = refl;
         }
 

@@ -46,6 +46,7 @@ use Rattle.completion_cell.specs.Awaits.{
   counted_to,
 }
 use Rattle.completion_cell.specs.HeldPermits.{HasBegun, Knows}
+use Rattle.completion_cell.specs.LoadedCounts.{InRange}
 use Rattle.completion_cell.specs.declared.awaits.AwaitCall.{AwaitCall}
 use Rattle.completion_cell.specs.declared.awaits.AwaitStage.{AwaitStage}
 use Rattle.completion_cell.specs.declared.awaits.AwaitStage.TheVariants as stage
@@ -159,7 +160,7 @@ module _ (old knew new : Known) (run : Run AwaitCall) (v : ℕ) (there : run.of.
       (λ x away. refl) (λ x. carries.owes (with_entry (own_of old) (with_left_entry x))))
 
   tells : (x : Transition) → x.did ≡ by_step e → AwaitTells r q (x ∷ [])
-  tells x did = told_by r q x refl refl refl (ap is_queue did)
+  tells x did = told_by r q x refl refl refl (ap is_queue did) (subst InRange (sym did) finds.0)
 
   loads : (waited : Bool) → Stands knew (post_of await_table r (load_stage waited))
       → GoesOn await_table old new r q (load_stage waited) (counted_by zero admits waited)

@@ -1,5 +1,5 @@
 -- The table of a wait for a completion keeps its laws.
-use Rattle.std.proofs.Common.{◌∙◌, ap, sym, refl, inl, inr, arith}
+use Rattle.std.proofs.Common.{◌∙◌, ap, sym, refl, subst, inl, inr, arith}
 use Rattle.std.specs.Prelude.{◌≡◌, ◌≤◌, ◌||◌, Bool, true, false, if◌then◌else◌, None, [], ◌∷◌}
 use Rattle.wait_model.specs.declared.points.AwaitPoint.TheVariants as awaiting
 use Rattle.wait_model.specs.declared.points.Next.TheVariants as next
@@ -26,6 +26,7 @@ use Rattle.wait_event.specs.Waits.{is_queue, queues}
 use Rattle.wait_event.proofs.Tellings.{or_none, queues_append, quiet_queues}
 use Rattle.completion_cell.specs.Awaits.{AwaitTells, await_head, await_table, await_depth, await_doing}
 use Rattle.completion_cell.specs.HeldPermits.{Knows}
+use Rattle.completion_cell.specs.LoadedCounts.{InRange}
 use Rattle.completion_cell.specs.declared.awaits.AwaitCall.{AwaitCall}
 use Rattle.completion_cell.specs.declared.awaits.AwaitStage.{AwaitStage}
 use Rattle.completion_cell.specs.declared.awaits.AwaitStage.TheVariants as stage
@@ -42,15 +43,17 @@ use Rattle.completion_cell.proofs.AwaitTrails.{
   still_by,
 }
 use Rattle.completion_cell.proofs.Ground.{count_after_step, head_there, looked_count}
+use Rattle.completion_cell.proofs.RangedLoads.{quiet_ranged, ranged_on}
 use Rattle.completion_cell.proofs.WaitFronts.{waits_may_end}
 
 -- what the run tells
 pub told_by : (r q : AwaitCall) (x : Transition) → q.cell ≡ r.cell → q.state ≡ r.state → q.queued ≡ r.queued
-    → is_queue x.did ≡ false → AwaitTells r q (x ∷ [])
-told_by r q x cell state queued none = record {
+    → is_queue x.did ≡ false → InRange x.did → AwaitTells r q (x ∷ [])
+told_by r q x cell state queued none ranged = record {
   cell = cell;
   state = state;
   queued = queued ∙ sym (ap (λ (b : Bool). r.queued || (b || false)) none ∙ or_none r.queued);
+  ranged = (ranged, tt);
 }
 
 or_yes : (b : Bool) → (b || (true || false)) ≡ true
@@ -189,6 +192,7 @@ module _ (r : AwaitCall) where
       cell = refl;
       state = refl;
       queued = sym (ap (λ (d : StepOrLook). r.queued || (is_queue d || false)) did ∙ or_yes r.queued);
+      ranged = (subst InRange (sym did) tt, tt);
     };
     joins_trail = λ first old mid new looks x u. joined_knows r old mid new first looks x u;
     wears = record {
@@ -354,15 +358,17 @@ pub await_lawful : IsLawfulTable await_table
 await_lawful = record {
   keeps = stays_but with_left_entry;
   tells = record {
-    none = λ r. record { cell = refl; state = refl; queued = sym (or_none r.queued) };
+    none = λ r. record { cell = refl; state = refl; queued = sym (or_none r.queued); ranged = tt };
     on = λ r q w ts us a b. record {
       cell = b.cell ∙ a.cell;
       state = b.state ∙ a.state;
       queued = b.queued ∙ (ap (λ (c : Bool). c || queues us) a.queued ∙ queues_append r.queued ts us);
+      ranged = ranged_on ts us a.ranged b.ranged;
     };
-    quiet = λ r x quiet. told_by r r x refl refl refl (quiet_queues x.did quiet);
+    quiet = λ r x quiet. told_by r r x refl refl refl (quiet_queues x.did quiet) (quiet_ranged x.did quiet);
   };
-  worn_tells = λ r p x quiet. told_by r (record r { place = p }) x refl refl refl (quiet_queues x.did quiet);
+  worn_tells = λ r p x quiet. told_by r (record r { place = p }) x refl refl refl (quiet_queues x.did quiet)
+      (quiet_ranged x.did quiet);
   at = laws_at;
   still = λ old new r s c u. still_by old new (unmoved_by old new c) r s u;
   rises = λ old new r s place still u. still_by old new still r s u;

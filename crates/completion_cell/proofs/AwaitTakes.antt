@@ -7,7 +7,6 @@ use Rattle.std.specs.Prelude.{
   ◌≢◌,
   ◌<◌,
   ◌≤◌,
-  ◌⊎◌,
   ◌+◌,
   ◌-◌,
   ◌==◌,
@@ -66,7 +65,7 @@ use Rattle.wq_head.specs.Holds.{IsHolding}
 use Rattle.wait_class.specs.Findings.{nothing, with_value}
 use Rattle.wait_class.specs.Posts.{HasSeenOwn, Post, Stands, own_of}
 use Rattle.wait_class.specs.Tables.{IsAt, Turned, falls, post_of, run_post}
-use Rattle.wait_class.specs.Laws.{Calm, IsPlain, turn_post}
+use Rattle.wait_class.specs.Laws.{Calm, IsPlain, is_quiet, turn_post}
 use Rattle.wait_class.specs.declared.stages.Run.{Run}
 use Rattle.wait_class.specs.declared.stages.Turn.TheVariants as turn
 use Rattle.wait_class.proofs.Ground.Keeping.{keeps_none, keeps_of, keeps_on, keeps_taken, own_keeps}
@@ -87,6 +86,7 @@ use Rattle.wait_class.proofs.Locks.{back_looks, back_stands, back_up}
 use Rattle.wait_class.proofs.OwnSteps.{own_goes}
 use Rattle.wait_class.proofs.Turns.{GoesOn, advance_by}
 use Rattle.wait_event.specs.Waits.{is_queue}
+use Rattle.wait_event.proofs.Tellings.{quiet_queues}
 use Rattle.completion_cell.specs.Asks.{Counted, TakesOne}
 use Rattle.completion_cell.specs.Awaits.{
   AwaitTurn,
@@ -112,6 +112,7 @@ use Rattle.completion_cell.specs.Awaits.{
   take_stage,
 }
 use Rattle.completion_cell.specs.HeldPermits.{Deals, Knows, WaitsIn}
+use Rattle.completion_cell.specs.LoadedCounts.{InRange}
 use Rattle.completion_cell.specs.declared.awaits.AwaitCall.{AwaitCall}
 use Rattle.completion_cell.specs.declared.awaits.AwaitOutcome.{AwaitOutcome}
 use Rattle.completion_cell.specs.declared.awaits.AwaitOutcome.TheVariants as outcome
@@ -124,6 +125,7 @@ use Rattle.completion_cell.proofs.AwaitTrails.{has_quit, knows_none, knows_off, 
 use Rattle.completion_cell.proofs.Completing.{stored_agreed}
 use Rattle.completion_cell.proofs.Ground.{step_behind}
 use Rattle.completion_cell.proofs.HeldSteps.{held_by, store_deals}
+use Rattle.completion_cell.proofs.RangedLoads.{quiet_ranged}
 use Rattle.completion_cell.proofs.WaitFronts.{waits_may_end, waits_on}
 
 -- one is taken of a count that is there
@@ -216,8 +218,9 @@ module _ (start k : Known) (run : Run AwaitCall) (found : Bool) (t : TakesFrom s
   abbrev given_at : AwaitStage → Given
   given_at z = (await_table.plan_of r).given (point_of z)
 
-  none_told : (e : Step) → is_queue (by_step e) ≡ false → (x : Transition) → x.did ≡ by_step e → AwaitTells r r (x ∷ [])
-  none_told e none x did = told_by r r x refl refl refl (ap is_queue did ∙ none)
+  none_told : (e : Step) → is_quiet (by_step e) ≡ true → (x : Transition) → x.did ≡ by_step e → AwaitTells r r (x ∷ [])
+  none_told e quiet x did = told_by r r x refl refl refl (ap is_queue did ∙ quiet_queues (by_step e) quiet)
+      (subst InRange (sym did) (quiet_ranged (by_step e) quiet))
 
   -- one is taken
   module _ (new : Known) (made : StoresCount k new d (n - 1)) (end : (n == ALL_DONE) ≡ false) where
@@ -362,7 +365,7 @@ module _ (start k : Known) (run : Run AwaitCall) (found : Bool) (q : QuitsFrom s
     qu = step.Unlock k.at false
 
     quit_told : (x : Transition) → x.did ≡ by_step qu → AwaitTells qr qr (x ∷ [])
-    quit_told x did = told_by qr qr x refl refl refl (ap is_queue did)
+    quit_told x did = told_by qr qr x refl refl refl (ap is_queue did) (subst InRange (sym did) tt)
 
     zero_is : FindsValue k (await_watch qr) nothing
     zero_is = q.left.leaves.knows.counts.0
@@ -494,7 +497,7 @@ module _ (old mid : Known) (run : Run AwaitCall) (stopped : Bool) (a : IsAt awai
         (turn.Again stage.LeaveUnlock) (step.Unqueue x) (record nothing { entry = Some f; value = n })
         (seen_looks old mid o h hd stood_old.head)
         (subst (OnlyLooks (added mid (item.Made (step.Unqueue x)))) (sym removed) (bit_looks mid (step.Unqueue x)))
-        (λ y did. told_by c c y refl refl refl (ap is_queue did))
+        (λ y did. told_by c c y refl refl refl (ap is_queue did) (subst InRange (sym did) tt))
         (keeps_on x old mid new (own_keeps old mid o h) (keeps_taken x mid new taken)) refl (owner_own old.view.number)
         (tt, (finds_own old mid o h hd stood_old.head stood_old.told here (Some f) is, known.counts.0), refl)
         (taken.awake ∙ (h.carries.awake ∙ a.up)) (stood_new f is) trail
@@ -502,7 +505,7 @@ module _ (old mid : Known) (run : Run AwaitCall) (stopped : Bool) (a : IsAt awai
         (turn.Again stage.TakeStore) (step.Unqueue x) (record nothing { entry = Some f; value = n })
         (seen_looks old mid o h hd stood_old.head)
         (subst (OnlyLooks (added mid (item.Made (step.Unqueue x)))) (sym removed) (bit_looks mid (step.Unqueue x)))
-        (λ y did. told_by c c y refl refl refl (ap is_queue did))
+        (λ y did. told_by c c y refl refl refl (ap is_queue did) (subst InRange (sym did) tt))
         (keeps_on x old mid new (own_keeps old mid o h) (keeps_taken x mid new taken)) refl (owner_own old.view.number)
         (tt, (finds_own old mid o h hd stood_old.head stood_old.told here (Some f) is, known.counts.0), refl)
         (taken.awake ∙ (h.carries.awake ∙ a.up)) (stood_new f is) trail

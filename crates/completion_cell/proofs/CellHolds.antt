@@ -206,7 +206,7 @@ module _ (d : ℕ) (start a new : Known) (i : HoldsFor call.IsDone d start a) wh
       (cell_head d)
       i.took.carries (unchanged_none a) (unlock_carried a new false gave)) in record {
         ends = is_done_asked start i.base a new d done_peek.count (cell_head d) refl done_peek.is done_peek.carries
-            done_peek.some i.took.locked u;
+            done_peek.some done_peek.finds i.took.locked u;
         up = carries.awake ∙ i.up;
         free = gives_free a new false gave;
         carries = carries;
@@ -222,7 +222,7 @@ module _ (d n : ℕ) (start a a2 b new : Known) (i : HoldsFor call.TryWait d sta
 
   pub tried_counted : Counted a2 d n
   tried_counted = try_counted start i.base a a2 d tried_peek.count n (cell_head d) refl tried_peek.is
-      tried_peek.carries tried_peek.some i.took.locked again
+      tried_peek.carries tried_peek.some tried_peek.finds i.took.locked again
       finds loaded
 
   module _ (took : Bool) (takes : TakesOne n took) (made : MatchBool took (StoresCount a2 b d (n - 1)) (b ≡ a2)) where
@@ -250,11 +250,11 @@ module _ (d n : ℕ) (start a a2 b new : Known) (i : HoldsFor call.TryWait d sta
     tried_over gave =
         let u = unlocked b new false gave in
         let carries = try_carried start i.base a a2 d tried_peek.count n (cell_head d) refl tried_peek.is
-        tried_peek.carries tried_peek.some i.took.locked
+        tried_peek.carries tried_peek.some tried_peek.finds i.took.locked
         again finds loaded b new took takes made u i.free i.told i.took.carries (unlock_carried b new false gave)
         in record {
           ends = tried_some start i.base a a2 d tried_peek.count n (cell_head d) refl tried_peek.is tried_peek.carries
-              tried_peek.some i.took.locked again
+              tried_peek.some tried_peek.finds i.took.locked again
               finds loaded b new took takes made u;
           up = carries.awake ∙ i.up;
           free = gives_free b new false gave;

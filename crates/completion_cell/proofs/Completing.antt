@@ -21,6 +21,7 @@ use Rattle.std.specs.Prelude.{
   None,
   [],
   ◌∷◌,
+  ◌++◌,
   MatchBool,
 }
 use Rattle.std.proofs.lemmas.Bool.Decides.{nat_tests}
@@ -29,6 +30,7 @@ use Rattle.wait_model.specs.declared.calls.Call.{Call}
 use Rattle.wait_model.specs.declared.calls.Call.TheVariants as calls
 use Rattle.wait_model.specs.declared.points.Next.TheVariants as next
 use Rattle.wait_model.specs.declared.points.Point.TheVariants as at
+use Rattle.wait_model.specs.declared.points.SelectPoint.{SelectPoint}
 use Rattle.wait_model.specs.declared.points.SelectPoint.TheVariants as selecting
 use Rattle.wait_model.specs.declared.steps.Step.TheVariants as step
 use Rattle.wait_model.specs.declared.watches.Mode.TheVariants as mode
@@ -42,6 +44,7 @@ use Rattle.wait_model.specs.Fold.{begun_anew}
 use Rattle.wait_model.specs.Views.{View as Told}
 use Rattle.wait_model.specs.Watches.{head_of}
 use Rattle.wait_model.proofs.SentenceLaws.SentenceAwaits.{shown_count}
+use Rattle.wait_model.proofs.WaitLaws.OutsideStages.{either}
 use Rattle.wait_rule.specs.declared.journal.Item.TheVariants as item
 use Rattle.wait_rule.specs.Counts.{FindsCount, StoresCount}
 use Rattle.wait_rule.specs.HeldValues.{count_in}
@@ -75,6 +78,8 @@ use Rattle.wait_class.specs.Findings.{nothing, with_value}
 use Rattle.wait_class.proofs.Ground.Going.{runs_none, runs_on, runs_one}
 use Rattle.completion_cell.specs.Asks.{Counted}
 use Rattle.completion_cell.specs.Completes.{HasCompleted, HasCompletedAll, RaisesOne}
+use Rattle.completion_cell.proofs.Asking.{locked_history}
+use Rattle.completion_cell.proofs.RangedLoads.{is_selecting, ranged_by, ranged_on, selects_ranged}
 use Rattle.completion_cell.proofs.Ground.{count_after_step, quiet_store, step_behind}
 
 -- the head of a completion is a simple one
@@ -360,17 +365,34 @@ module _ (old a a2 b m new : Known) (d v n h : ℕ) (same : h ≡ head_of (watch
 
       pub has_completed : HasCompleted old new d
       has_completed =
-          let f = call_program old.view.number 0 (calls.Complete d) in
+          let call = calls.Complete d in
+          let f = call_program old.view.number 0 call in
+          let first = next.Go (at.Select selecting.Lock) in
+          let load = next.Go (at.Select selecting.Load) in
           let middle = next.Go (at.Select (if is_at_end v then selecting.Next 0 else selecting.Store)) in
-          runs_on f old a new (next.Go (at.Select selecting.Lock)) (next.Go (at.Select selecting.Load))
-          (next.Ends zero_answer) (select_locks (calls.Complete d) d refl refl old.view.number old a locked)
-          (runs_on f a a2 new (next.Go (at.Select selecting.Load)) middle (next.Ends zero_answer) load_event
-          (runs_on f a2 b new middle (next.Go (at.Select (selecting.Next 0))) (next.Ends zero_answer)
+          let over = next.Ends zero_answer in
+          let one : Runs f old a first load = select_locks call d refl refl old.view.number old a locked in
+          let rest : Runs f a2 new middle over =
+          runs_on f a2 b new middle (next.Go (at.Select (selecting.Next 0))) over
           (subst (λ (i : ℕ). Runs (call_program i 0 (calls.Complete d)) a2 b middle
           (next.Go (at.Select (selecting.Next 0)))) number_a2
           (raise_runs a2 b d v complete_counted raised raises made))
-          (select_ends_at (calls.Complete d) d refl refl old.view.number 1 n refl b m new s at_m (n == 1) (enough_one n)
-          u.is)))
+          (select_ends_at call d refl refl old.view.number 1 n refl b m new s at_m (n == 1) (enough_one n) u.is) in
+          let all : Runs f old new first over =
+          runs_on f old a new first load over one (runs_on f a a2 new load middle over load_event rest) in record {
+            transitions = all.transitions;
+            goes = all.goes;
+            ranged = ranged_on one.transitions (load_event.transitions ++ rest.transitions)
+                (ranged_by f old a first load one.transitions one.goes _
+                (locked_history old a (head_of (watch.Done d)) locked) (tt, tt))
+                (ranged_on load_event.transitions rest.transitions
+                (ranged_by f a a2 load middle load_event.transitions load_event.goes (step.Load (watch.Done d) v ∷ [])
+                (history_after a a2 (step.Load (watch.Done d) v) is) (finds.0, tt))
+                (selects_ranged old.view.number call new zero_answer rest.transitions a2
+                (at.Select (if is_at_end v then selecting.Next 0 else selecting.Store))
+                (either (λ (p : SelectPoint). is_selecting (at.Select p) ≡ true) (is_at_end v) _ _ refl refl)
+                rest.goes));
+          }
 
       pub complete_carried : Carries unlock_change m new
           → Carries (set_change (watch.Done d) mode.Normal new.at) old new
@@ -408,17 +430,28 @@ module _ (old a b m new : Known) (d n h : ℕ) (same : h ≡ head_of (watch.Done
 
     pub has_completed_all : HasCompletedAll old new d
     has_completed_all =
-        let f = call_program old.view.number 0 (calls.CompleteAll d) in
-        runs_on f old a new (next.Go (at.Select selecting.Lock)) (next.Go (at.Select selecting.Store))
-        (next.Ends zero_answer)
-        (select_locks (calls.CompleteAll d) d refl refl old.view.number old a
-        (subst (λ (i : ℕ). HasLocked old a i (walk_of_hold i None)) same l))
-        (runs_on f a b new (next.Go (at.Select selecting.Store)) (next.Go (at.Select (selecting.Next 0)))
-        (next.Ends zero_answer)
+        let call = calls.CompleteAll d in
+        let f = call_program old.view.number 0 call in
+        let first = next.Go (at.Select selecting.Lock) in
+        let store = next.Go (at.Select selecting.Store) in
+        let over = next.Ends zero_answer in
+        let all_locked : HasLocked old a (head_of (watch.Done d)) (walk_of_hold (head_of (watch.Done d)) None) =
+        subst (λ (i : ℕ). HasLocked old a i (walk_of_hold i None)) same l in
+        let one : Runs f old a first store = select_locks call d refl refl old.view.number old a all_locked in
+        let rest : Runs f a new store over =
+        runs_on f a b new store (next.Go (at.Select (selecting.Next 0))) over
         (quiet_store f (at.Select selecting.Store) a b (with_value stored.found) d ALL_DONE stored.found _ ALL_DONE _
         refl refl refl refl refl tt tt tt a (only_none a) stored.is).0
-        (select_ends_at (calls.CompleteAll d) d refl refl old.view.number 0 n refl b m new s at_all false
-        (enough_none n) u.is))
+        (select_ends_at call d refl refl old.view.number 0 n refl b m new s at_all false (enough_none n) u.is) in
+        let all : Runs f old new first over = runs_on f old a new first store over one rest in record {
+          transitions = all.transitions;
+          goes = all.goes;
+          ranged = ranged_on one.transitions rest.transitions
+              (ranged_by f old a first store one.transitions one.goes _
+              (locked_history old a (head_of (watch.Done d)) all_locked) (tt, tt))
+              (selects_ranged old.view.number call new zero_answer rest.transitions a (at.Select selecting.Store) refl
+              rest.goes);
+        }
 
     pub all_carried : Carries unlock_change m new → Carries (set_change (watch.Done d) mode.Normal new.at) old new
     all_carried back = completed_carried d old a b m new 0 n false free told

@@ -120,6 +120,7 @@ module _ (old new : Known) (r q : Run AwaitCall) (d : ℕ) (st : SleepState) (fr
           (λ i. call_program old.view.number 0 (calls.WaitFor (fresh.cell i) (fresh.state_is i))) a.went.runs.goes;
     };
     tells = refl;
+    ranged = a.went.tells.ranged;
   }
 
   queued_is : (o : AwaitOutcome) (a : Advances await_table old new r q stage.First (turn.Done o))

@@ -1,4 +1,5 @@
 pub mod Ground
+pub mod RangedLoads
 pub mod Asking
 pub mod Permits
 pub mod CallPermits
@@ -15,5 +16,9 @@ pub mod AwaitCounts
 pub mod AwaitTakes
 pub mod AwaitAdds
 pub mod OtherCells
+pub mod CellPoints
+pub mod FollowedCells
+pub mod StoppedAwaits
+pub mod Words
 pub mod Endings
 pub mod LosesNone

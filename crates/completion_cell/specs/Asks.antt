@@ -12,6 +12,7 @@ use Rattle.std.specs.Prelude.{
   false,
   pos,
   if◌then◌else◌,
+  Option,
   Some,
   List,
   ◌∷◌,
@@ -28,18 +29,22 @@ use Rattle.wait_model.specs.declared.points.Point.{Point}
 use Rattle.wait_model.specs.declared.points.Point.TheVariants as at
 use Rattle.wait_model.specs.declared.steps.Step.{Step}
 use Rattle.wait_model.specs.declared.steps.Step.TheVariants as step
+use Rattle.wait_model.specs.declared.watches.Aim.{Aim}
 use Rattle.wait_model.specs.declared.watches.Watch.TheVariants as watch
 use Rattle.wait_model.specs.Programs.{zero_answer}
+use Rattle.wait_model.specs.Watches.{head_of}
 use Rattle.wait_rule.specs.Known.{Known}
 use Rattle.wait_rule.specs.Counts.{HoldsCount}
 use Rattle.wait_rule.specs.HeldValues.{count_in}
 use Rattle.wait_rule.specs.Says.{history_of}
-use Rattle.wait_rule.specs.Transitions.{call_program}
-use Rattle.wait_class.specs.Posts.{Runs}
+use Rattle.wait_rule.specs.Transitions.{Goes, Transition, call_program}
+use Rattle.completion_cell.specs.LoadedCounts.{AreInRange}
 
--- the task went through the whole program of a call, to this answer
-abbrev pub HasCalled : Known → Known → Call → Point → Answer → Type 0
-HasCalled old new call p a = Runs (call_program old.view.number 0 call) old new (next.Go p) (next.Ends a)
+-- the task went through the whole program of a call, to this answer; the counts that it loaded have 32 bits
+pub record HasCalled (old new : Known) (call : Call) (p : Point) (a : Answer) : Type 0 where
+  pub transitions : List Transition
+  pub goes : Goes (call_program old.view.number 0 call) old (next.Go p) transitions new (next.Ends a)
+  pub ranged : AreInRange transitions
 
 abbrev pub yes_or_no : Bool → Answer
 yes_or_no hit = answer.Number (if hit then pos 1 else pos 0)
@@ -58,18 +63,19 @@ pub record HasAsked (old new : Known) (d : ℕ) (hit : Bool) : Type 0 where
 abbrev pub HasReset : Known → Known → ℕ → Type 0
 HasReset old new d = HasCalled old new (calls.Reinit d) (at.Count counting.Lock) zero_answer
 
--- The load that decides: the first one, where it found 0, and else the one of the hold.
-abbrev pub Decides : Bool → Known → ℕ → ℕ → Type 0
-Decides true new d count = count ≡ 0
-Decides false new d count = (before : List Step) × (rest : List Step)
-    × (history_of new ≡ before ++ step.Load (watch.Done d) count ∷ rest)
+-- The load that decides: the first one, where it found 0, and else that of the hold, which comes right behind its lock.
+abbrev pub Decides : Bool → Known → Known → ℕ → ℕ → ℕ → Type 0
+Decides true old new d first count = count ≡ 0
+Decides false old new d first count = (aim : Option Aim) × (word : ℕ) × (rest : List Step)
+    × (history_of new ≡ history_of old ++ step.Load (watch.Done d) first ∷ step.Lock (head_of (watch.Done d)) aim word
+    ∷ step.Load (watch.Done d) count ∷ rest)
 
 pub record HasTried (old new : Known) (d : ℕ) (hit : Bool) : Type 0 where
   pub runs : HasCalled old new (calls.TryWait d) (at.Count counting.Peek) (yes_or_no hit)
   pub first : ℕ
   pub loads : BeginsWith old new (step.Load (watch.Done d) first)
   pub count : ℕ
-  pub decides : Decides (first == 0) new d count
+  pub decides : Decides (first == 0) old new d first count
   pub tells : hit ≡ not (count == 0)
 
 -- the hold has loaded this count

@@ -27,12 +27,14 @@ use Rattle.completion_cell.specs.Awaits.{await_head, left_by}
 use Rattle.completion_cell.specs.declared.awaits.AwaitOutcome.{AwaitOutcome}
 use Rattle.completion_cell.specs.declared.awaits.AwaitOutcome.TheVariants as outcome
 use Rattle.completion_cell.specs.declared.awaits.AwaitCall.{AwaitCall}
+use Rattle.completion_cell.specs.LoadedCounts.{AreInRange}
 
--- the task went through the whole call, and whether it queued its entry
+-- the task went through the whole call, whether it queued its entry, and that the counts that it loaded have 32 bits
 pub record HasAwaited (old new : Known) (d : ℕ) (st : SleepState) (a : Answer) (queued : Bool) : Type 0 where
   pub runs : Runs (call_program old.view.number 0 (calls.WaitFor d st)) old new
       (next.Go (at.Await (awaiting.Lock false))) (next.Ends a)
   pub tells : queued ≡ queues runs.transitions
+  pub ranged : AreInRange runs.transitions
 
 -- A wait that was signalled: its last hold loaded the count as 0, which is `seen`, and the look at the own word showed
 -- a signal that the state admits. `selected` is that the hold found the entry off that the call had queued.

@@ -43,6 +43,7 @@ use Rattle.wait_class.specs.declared.stages.Turn.{Turn}
 use Rattle.wait_class.specs.declared.stages.Turn.TheVariants as turn
 use Rattle.wait_event.specs.Waits.{queues}
 use Rattle.completion_cell.specs.HeldPermits.{HasBegun, Knows, WaitsIn}
+use Rattle.completion_cell.specs.LoadedCounts.{AreInRange}
 use Rattle.completion_cell.specs.declared.awaits.AwaitCall.{AwaitCall}
 use Rattle.completion_cell.specs.declared.awaits.AwaitOutcome.{AwaitOutcome}
 use Rattle.completion_cell.specs.declared.awaits.AwaitOutcome.TheVariants as outcome
@@ -189,11 +190,12 @@ end_post r o = record {
   watch = await_watch r;
 }
 
--- it is the same call, and the run tells whether it has queued its entry
+-- it is the same call, the run tells whether it has queued its entry, and the counts that it loaded have 32 bits
 pub record AwaitTells (r q : AwaitCall) (ts : List Transition) : Type 0 where
   pub cell : q.cell ≡ r.cell
   pub state : q.state ≡ r.state
   pub queued : q.queued ≡ (r.queued || queues ts)
+  pub ranged : AreInRange ts
 
 -- The stages at which a wait leaves its loop, for a signal or to take one of the count: before its entry is taken off,
 -- and behind that. Where the entry was found off it goes on where it stands.

@@ -8,6 +8,7 @@ use Rattle.wait_model.specs.declared.watches.Watch.TheVariants as watch
 use Rattle.wait_model.specs.Watches.{head_of}
 use Rattle.wait_rule.specs.declared.journal.Item.TheVariants as item
 use Rattle.wait_rule.specs.declared.tries.FailedTries.{FailedTries}
+use Rattle.wait_rule.specs.Counts.{FindsCount}
 use Rattle.wait_rule.specs.HandedPermits.{StaysOff}
 use Rattle.wait_rule.specs.LeftEntries.{LeftOff}
 use Rattle.wait_rule.specs.Known.{Known}
@@ -49,6 +50,7 @@ pub record HasPeeked (d : ℕ) (start base : Known) : Type 0 where
   pub count : ℕ
   pub some : count ≢ 0
   pub is : base ≡ added start (item.Made (step.Load (watch.Done d) count))
+  pub finds : FindsCount start d count
   pub carries : Carries unchanged start base
 
 -- what a call did before it drew its ticket

@@ -1,3 +1,4 @@
+pub mod LoadedCounts
 pub mod Asks
 pub mod Awaits
 pub mod Completes
@@ -5,3 +6,4 @@ pub mod AwaitEnds
 pub mod HeldPermits
 pub mod CellTurns
 pub mod LosesNone
+pub mod Words

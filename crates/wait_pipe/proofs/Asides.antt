@@ -45,7 +45,7 @@ pub quiet_on : (x y z : Known) → LeavesAside x y → LeavesAside y z → Leave
 quiet_on x y z a b = record { aside = aside_join x y z a.aside b.aside; off = λ d left. b.off d (a.off d left) }
 
 -- nothing: the list is as it was
-none_more : (k : Known) → k ≡ grown k [] k.book
+pub none_more : (k : Known) → k ≡ grown k [] k.book
 none_more k = ap (λ (l : List Item). record {
   domain = k.domain;
   view = record {

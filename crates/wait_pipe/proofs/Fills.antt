@@ -34,11 +34,17 @@ use Rattle.std.proofs.Common.{
 }
 use Rattle.std.proofs.lemmas.List.{take_all}
 use Rattle.std.proofs.lemmas.Grind.{flat_map-append}
+use Rattle.std.proofs.lemmas.Bool.Decides.{nat_tests}
+use Rattle.std.specs.Prelude.{false, ◌==◌}
 use Rattle.wait_model.specs.declared.layout.TheConstants.{PIPE_CELLS, PIPE_ENDS}
+use Rattle.wait_model.specs.declared.queues.Walked.{Walked}
+use Rattle.wait_model.specs.declared.steps.Step.TheVariants as step
+use Rattle.wait_model.specs.declared.watches.Watch.TheVariants as watch
 use Rattle.wait_rule.specs.declared.journal.EndAct.TheVariants as act
+use Rattle.wait_rule.specs.declared.journal.Item.{Item}
 use Rattle.wait_rule.specs.declared.journal.Item.TheVariants as item
 use Rattle.wait_rule.specs.Known.{Known}
-use Rattle.wait_rule.specs.Says.{added}
+use Rattle.wait_rule.specs.Says.{added, grown}
 use Rattle.wait_rule.specs.Pipes.{
   End,
   bytes_in,
@@ -53,9 +59,20 @@ use Rattle.wait_rule.specs.Pipes.{
 use Rattle.wait_rule.specs.PipeSays.{EndBecomes, IsOpen, KeepsEnd, end_at, reading, writing}
 use Rattle.wait_rule.specs.Stays.{Carries, unchanged}
 use Rattle.wait_rule.proofs.KnownLaws.CarriedTasks.{unchanged_none, unchanged_on}
-use Rattle.wait_pipe.specs.Pieces.{HasSeen, IsAtEnd, IsSettled, Moved, OthersStay, LeavesAside, Waits}
+use Rattle.var_wait.specs.VarPublishes.{HasPublished}
+use Rattle.wait_pipe.specs.Pieces.{
+  HasSeen,
+  IsAtEnd,
+  IsSettled,
+  Moved,
+  OthersStay,
+  LeavesAside,
+  ShowsNoCell,
+  Waits,
+}
+use Rattle.wait_pipe.specs.Trails.{PassesCells, WakesAfter, cell_items}
 use Rattle.wait_pipe.specs.declared.looks.Look.{Look}
-use Rattle.wait_pipe.proofs.Asides.{quiet_cell, quiet_none, quiet_on}
+use Rattle.wait_pipe.proofs.Asides.{none_more, quiet_cell, quiet_none, quiet_on}
 use Rattle.wait_pipe.proofs.PieceChanges.{others_becomes, others_on}
 
 -- all the bytes of an end that has nothing outstanding
@@ -108,6 +125,52 @@ pub advanced_write : (p : ℕ) (now next : Known)
     → EndBecomes (write_end p) now next (passed (writing p now))
 advanced_write p now next = subst (λ (k : ℕ). EndBecomes k now next (passed (end_at k now))) (add-zero (PIPE_ENDS * p))
 
+-- cells that a task has stored or loaded, and no more than these, since it knew `old`
+pub record HasCells (k : ℕ) (old now : Known) : Type 0 where
+  pub cells : List ℕ
+  pub is : now ≡ grown old (cell_items k cells) old.book
+
+cells_none : (k : ℕ) (j : Known) → HasCells k j j
+cells_none k j = record { cells = []; is = none_more j }
+
+cells_append : (k w : ℕ) (ws : List ℕ)
+    → cell_items k ws ++ item.Piped k act.Cell w ∷ [] ≡ cell_items k (ws ++ w ∷ [])
+cells_append k w [] = refl
+cells_append k w (x ∷ xs) = ap (λ (l : List Item). item.Piped k act.Cell x ∷ l) (cells_append k w xs)
+
+cells_on : (k w : ℕ) (old now next : Known) → HasCells k old now → next ≡ added now (item.Piped k act.Cell w)
+    → HasCells k old next
+cells_on k w old now next h made = record {
+  cells = h.cells ++ w ∷ [];
+  is = made ∙ (ap (λ (j : Known). added j (item.Piped k act.Cell w)) h.is
+      ∙ ap (λ (l : List Item). record {
+        domain = old.domain;
+        view = record {
+          lives = old.view.lives;
+          number = old.view.number;
+          next = old.view.next;
+          spare = old.view.spare;
+          items = l;
+          joined = old.view.joined;
+        };
+        book = old.book;
+        at = old.at;
+      }) (append_assoc old.view.items (cell_items k h.cells) (item.Piped k act.Cell w ∷ [])
+      ∙ ap (λ (l : List Item). old.view.items ++ l) (cells_append k w h.cells)));
+}
+
+-- and passes on, with a wake
+pub cells_passed : (k v : ℕ) (old now next new : Known) (value found : ℕ) (walked : Walked) → HasCells k old now
+    → next ≡ added now (item.Made (step.Publish (watch.Var v 0) value found)) → v ≡ k → WakesAfter k next new walked
+    → PassesCells k old new
+cells_passed k v old now next new value found walked h made is wakes = record {
+  cells = h.cells;
+  value = value;
+  walked = walked;
+  publishes = subst (λ (j : Known). HasPublished j new k value walked) h.is (wakes now value found
+      (made ∙ ap (λ (u : ℕ). added now (item.Made (step.Publish (watch.Var u 0) value found))) is));
+}
+
 -- cells that are being stored
 pub record Filling (p : ℕ) (old now : Known) (bytes : List ℕ) (at left done : ℕ) : Type 0 where
   pub same : Carries unchanged old now
@@ -120,6 +183,7 @@ pub record Filling (p : ℕ) (old now : Known) (bytes : List ℕ) (at left done 
   pub some_done : 0 < left + done
   pub dense : length (writing p now).cells ≡ length (writing p old).cells + (done + 6) / 7
   pub whole : (done % 7 ≡ 0) ⊎ (done ≡ length bytes)
+  pub stored : HasCells (write_end p) old now
 
 pub fill_begins : (p : ℕ) (k : Known) (bytes : List ℕ) (at left : ℕ) → IsSettled (writing p k)
     → at ≡ length (writing p k).cells % word_counts
@@ -135,6 +199,7 @@ fill_begins p k bytes at left settled place room some_left = record {
   some_done = omega arith;
   dense = omega arith;
   whole = inl refl;
+  stored = cells_none (write_end p) k;
 }
 
 -- a cell that is not the last has 7 bytes
@@ -176,6 +241,7 @@ fill_goes p old now next bytes at left done end w f some_left more fits most end
       some_done = omega arith;
       dense = omega arith;
       whole = whole_next done end (length bytes) whole ends;
+      stored = cells_on (write_end p) w old now next f.stored made;
     }
 
 pub fill_ends : (p : ℕ) (old now next last : Known) (bytes : List ℕ) (at left done : ℕ) → IsSettled (writing p old)
@@ -223,6 +289,7 @@ pub record Draining (p : ℕ) (old now : Known) (size : ℕ) (buf : List ℕ) (a
   pub size_is : length buf ≡ size
   pub fits : done ≤ size
   pub some_done : 0 < left + done
+  pub loaded : HasCells (read_end p) old now
 
 pub drain_begins : (p : ℕ) (k : Known) (buf : List ℕ) (at left : ℕ) → IsSettled (reading p k)
     → at ≡ length (reading p k).cells % word_counts → left + length (reading p k).cells ≡ (reading p k).seen → 0 < left
@@ -237,6 +304,7 @@ drain_begins p k buf at left settled place there some_left = record {
   size_is = refl;
   fits = omega arith;
   some_done = omega arith;
+  loaded = cells_none (read_end p) k;
 }
 
 pub drain_goes : (p : ℕ) (old now next : Known) (size : ℕ) (buf after : List ℕ) (at left done end w : ℕ)
@@ -262,6 +330,7 @@ drain_goes p old now next size buf after at left done end w f some_left more fit
       size_is = same ∙ f.size_is;
       fits = fits;
       some_done = omega arith;
+      loaded = cells_on (read_end p) w old now next f.loaded made;
     }
 
 pub drain_ends : (p : ℕ) (old now next last : Known) (size : ℕ) (buf : List ℕ) (at left done : ℕ)
@@ -357,3 +426,36 @@ module _ (p : ℕ) (now : Known) (l : Look) where
       let all = there_is h s there is in
       let e = s.passed in
       record { ended = h.ended ∙ shut; all = omega arith }
+
+  -- what its word shows, which is what the task goes on by
+  pub word_open : (k : ℕ) → HasSeen k now l → l.closed ≡ false → l.word % 2 ≡ 0
+  word_open k h is = let test : (l.word % 2 == 1) ≡ false = sym h.closes ∙ is in grind (arith, nat_tests)
+
+  pub word_ended : (k : ℕ) → HasSeen k now l → l.closed ≡ true → l.word % 2 ≡ 1
+  word_ended k h is = let test : (l.word % 2 == 1) ≡ true = sym h.closes ∙ is in grind (arith, nat_tests)
+
+  pub none_free : HasSeen (write_end p) now l → IsSettled (writing p now) → (used : ℕ)
+      → used ≡ (l.own + word_counts - l.other) % word_counts → PIPE_CELLS ≤ used → l.closed ≡ false
+      → ShowsNoCell (write_end p) (writing p now) l.word
+  none_free h s used is most unended =
+      let free = free_is h s used is in
+      let settled = s.passed in record {
+        unended = word_open (write_end p) h unended;
+        count = (writing p now).seen;
+        shown = sym h.shows ∙ h.other;
+        full = λ write. omega arith;
+        empty = λ read. absurd (omega arith);
+      }
+
+  pub none_there : HasSeen (read_end p) now l → IsSettled (reading p now) → (there : ℕ)
+      → there ≡ (l.other + word_counts - l.own) % word_counts → there ≡ 0 → l.closed ≡ false
+      → ShowsNoCell (read_end p) (reading p now) l.word
+  none_there h s there is none unended =
+      let all = there_is h s there is in
+      let settled = s.passed in record {
+        unended = word_open (read_end p) h unended;
+        count = (reading p now).seen;
+        shown = sym h.shows ∙ h.other;
+        full = λ write. absurd (omega arith);
+        empty = λ read. omega arith;
+      }

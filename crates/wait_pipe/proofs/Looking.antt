@@ -69,7 +69,9 @@ use Rattle.wait_event.specs.declared.wait_events.WaitEnd.{WaitEnd}
 use Rattle.wait_event.specs.declared.wait_events.WaitEnd.TheVariants as wait_end
 use Rattle.var_wait.specs.VarWaits.{EndsVarWait, IsVarCause, answer_of, shared_in}
 use Rattle.wait_rule.specs.Transitions.{Transition}
-use Rattle.wait_pipe.specs.Pieces.{HasSeen, IsReadCause, OthersStay, LeavesAside, Waits, end_of_wait}
+use Rattle.wait_pipe.specs.Pieces.{HasSeen, IsReadCause, OthersStay, LeavesAside, ShowsNoCell, Waits, end_of_wait}
+use Rattle.wait_pipe.specs.Trails.{AwaitsOther, LoadsOther}
+use Rattle.wait_pipe.specs.declared.pieces.PipeEnd.{PipeEnd}
 use Rattle.wait_pipe.specs.declared.looks.Look.{Look}
 use Rattle.wait_pipe.proofs.Asides.{quiet_load, waited_quiet}
 use Rattle.wait_pipe.proofs.PieceChanges.{of_wait, rests_still}
@@ -143,9 +145,9 @@ module _ (k v r : ℕ) (old new : Known) (other : v ≡ other_end k) (pipe : v /
   }
 
   pub look_seen : IsOpen (end_at k old) → (l : Look) (own : ℕ) → own ≡ end_word (end_at k new).count (end_at k new).shut
-      → IsSoundEnd k (end_at k new) → l.own ≡ own / 2 → l.other ≡ r / 2 % word_counts → l.closed ≡ (r % 2 == 1)
-      → HasSeen k new l
-  look_seen still l own word sound own_is other_is closed_is =
+      → IsSoundEnd k (end_at k new) → l.own ≡ own / 2 → l.other ≡ r / 2 % word_counts → l.word ≡ r
+      → l.closed ≡ (r % 2 == 1) → HasSeen k new l
+  look_seen still l own word sound own_is other_is word_is closed_is =
       let made = loaded_own still in
       let shut : (end_at k new).shut ≡ false = ap (λ (e : End). e.shut) made ∙ still.unshut in
       let clear : own ≡ end_word (end_at k new).count false = word ∙ ap (end_word (end_at k new).count) shut in
@@ -154,7 +156,13 @@ module _ (k v r : ℕ) (old new : Known) (other : v ≡ other_end k) (pipe : v /
         other = omega arith;
         sound = sound;
         ended = ap (λ (e : End). e.ended) made ∙ sym closed_is;
+        shows = other_is ∙ ap (λ (w : ℕ). w / 2 % word_counts) (sym word_is);
+        closes = closed_is ∙ ap (λ (w : ℕ). w % 2 == 1) (sym word_is);
       }
+
+  pub look_loads : (w : ℕ) → w ≡ r → LoadsOther k w old new
+  look_loads w word_is = is ∙ (ap (λ (u : ℕ). added old (item.Made (step.Load (watch.Var u 0) r))) other
+      ∙ ap (λ (s : ℕ). added old (item.Made (step.Load (watch.Var (other_end k) 0) s))) (sym word_is))
 
 -- a wait for the other end's word
 pub wait_waits : (k v word : ℕ) (st : SleepState) (old new : Known) (result : Result ℕ WaitEnd) → v ≢ k
@@ -185,16 +193,40 @@ interrupted k v word seen selected queued w =
     (sym w.unset) w
 
 cause_at : (k : ℕ) (new : Known) (word : ℕ) (ts : List Transition) (result : Result ℕ WaitEnd)
-    → IsVarCause new (other_end k) word state.Interruptible ts result → IfErr (end_of_wait result) (IsReadCause k new)
-cause_at k new word ts (Ok value) c = tt
-cause_at k new word ts (Err (wait_end.Signal seen selected)) c = record {
+    → IsVarCause new (other_end k) word state.Interruptible ts result → ShowsNoCell k (end_at k new) word
+    → IfErr (end_of_wait result) (IsReadCause k new)
+cause_at k new word ts (Ok value) c none = tt
+cause_at k new word ts (Err (wait_end.Signal seen selected)) c none = record {
   selected = selected;
   queued = queues ts;
   ends = interrupted new (other_end k) word seen selected (queues ts) c;
+  none = subst (ShowsNoCell k (end_at k new)) (sym c.unset) none;
 }
-cause_at k new word ts (Err (wait_end.Worn head place)) c = record { before = word; ends = c }
+cause_at k new word ts (Err (wait_end.Worn head place)) c none = record { before = word; ends = c; none = none }
+
+-- what its word showed, it shows beside the end as the wait left it
+none_kept : (k w : ℕ) (e f : End) → KeepsEnd e f → ShowsNoCell k e w → ShowsNoCell k f w
+none_kept k w e f keeps none = record {
+  unended = none.unended;
+  count = none.count;
+  shown = none.shown;
+  full = λ write. keeps.count ∙ none.full write;
+  empty = λ read. keeps.count ∙ none.empty read;
+}
 
 pub wait_caused : (k v word : ℕ) (old new : Known) (result : Result ℕ WaitEnd) → v ≡ other_end k
-    → EndsVarWait old new v word state.Interruptible result → IfErr (end_of_wait result) (IsReadCause k new)
-wait_caused k v word old new result is w = cause_at k new word w.runs.transitions result
+    → EndsVarWait old new v word state.Interruptible result → Waits k old new → ShowsNoCell k (end_at k old) word
+    → IfErr (end_of_wait result) (IsReadCause k new)
+wait_caused k v word old new result is w waits none = cause_at k new word w.runs.transitions result
     (subst (λ (u : ℕ). IsVarCause new u word state.Interruptible w.runs.transitions result) is w.cause)
+    (none_kept k word (end_at k old) (end_at k new) waits.keeps none)
+
+pub wait_awaits : (k v word : ℕ) (old new : Known) (outcome : Result ℕ WaitEnd) (result : Result (Unit {0}) PipeEnd)
+    → v ≡ other_end k → EndsVarWait old new v word state.Interruptible outcome → result ≡ end_of_wait outcome
+    → ShowsNoCell k (end_at k old) word → AwaitsOther k word old new result
+wait_awaits k v word old new outcome result is w answers none = record {
+  none = none;
+  outcome = outcome;
+  waits = subst (λ (u : ℕ). EndsVarWait old new u word state.Interruptible outcome) is w;
+  answers = answers;
+}

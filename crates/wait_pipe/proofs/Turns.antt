@@ -1,5 +1,5 @@
 -- The turns of a task that writes a piece or reads one: it looks, and then passes on or waits.
-use Rattle.std.proofs.Common.{◌∙◌, ap, arith}
+use Rattle.std.proofs.Common.{◌∙◌, ap, arith, refl, subst}
 use Rattle.std.specs.Prelude.{
   ℕ,
   ◌≡◌,
@@ -13,6 +13,8 @@ use Rattle.std.specs.Prelude.{
   false,
   List,
   [],
+  ◌∷◌,
+  ◌++◌,
   length,
   take,
   Result,
@@ -39,6 +41,17 @@ use Rattle.wait_pipe.specs.Pieces.{
   PutNone,
   Rests,
   Waits,
+}
+use Rattle.wait_pipe.specs.Trails.{
+  AwaitsOther,
+  LoadsOther,
+  PassesCells,
+  ReadEnds,
+  ReadsPiece,
+  WaitingTurn,
+  WaitingTurns,
+  WriteEnds,
+  WritesPiece,
 }
 use Rattle.wait_pipe.proofs.PieceChanges.{rests_on, waits_on}
 use Rattle.wait_pipe.proofs.Fills.{at_end, waited_none, waited_settled, waited_then}
@@ -141,3 +154,59 @@ module _ (p : ℕ) (old now : Known) (w : Waits (read_end p) old now) (s : IsSet
 -- what it leaves of the task
 pub then_rests : (k : ℕ) (old now new : Known) → Waits k old now → Rests k now new → Rests k old new
 then_rests k old now new w r = rests_on k old now new w.rests r
+
+-- Turns that wait, one after the other.
+turns_more : (k : ℕ) (old : Known) (ts : List Known) (now new : Known) → WaitingTurns k old ts now
+    → WaitingTurn k now new (Ok tt) → WaitingTurns k old (ts ++ new ∷ []) new
+turns_more k old [] now new is turn = (subst (λ (j : Known). WaitingTurn k j new (Ok tt)) is turn, refl)
+turns_more k old (t ∷ ts) now new w turn = (w.0, turns_more k t ts now new w.1 turn)
+
+-- a task that has waited so, and goes on
+pub record Turning (k : ℕ) (old now : Known) : Type 0 where
+  pub waits : Waits k old now
+  pub turns : List Known
+  pub goes : WaitingTurns k old turns now
+
+pub turning_none : (k : ℕ) (j : Known) → Waits k j j → Turning k j j
+turning_none k j w = record { waits = w; turns = []; goes = refl }
+
+pub turning_on : (k : ℕ) (old now new : Known) → Turning k old now → Waits k now new → WaitingTurn k now new (Ok tt)
+    → Turning k old new
+turning_on k old now new t w turn = record {
+  waits = waits_on k old now new t.waits w;
+  turns = t.turns ++ new ∷ [];
+  goes = turns_more k old t.turns now new t.goes turn;
+}
+
+pub wrote_piece : (k : ℕ) (old now new : Known) (r : Result ℕ PipeEnd) → Turning k old now → WriteEnds k now new r
+    → WritesPiece k old new r
+wrote_piece k old now new r t ends = record { turns = t.turns; last = now; waits = t.goes; ends = ends }
+
+pub got_piece : (k : ℕ) (old now new : Known) (r : Result ℕ PipeEnd) → Turning k old now → ReadEnds k now new r
+    → ReadsPiece k old new r
+got_piece k old now new r t ends = record { turns = t.turns; last = now; waits = t.goes; ends = ends }
+
+-- the last one
+pub turn_of : (k w : ℕ) (old looked new : Known) (r : Result (Unit {0}) PipeEnd) → LoadsOther k w old looked
+    → AwaitsOther k w looked new r → WaitingTurn k old new r
+turn_of k w old looked new r looks waits = record { word = w; looked = looked; looks = looks; waits = waits }
+
+pub write_stops : (k : ℕ) (old new : Known) (e : PipeEnd) → IsReadCause k new e → WaitingTurn k old new (Err e)
+    → WriteEnds k old new (Err e)
+write_stops k old new pipe_end.Broken cause turn = absurd cause
+write_stops k old new (pipe_end.Interrupted seen) cause turn = turn
+write_stops k old new (pipe_end.Worn head place) cause turn = turn
+
+pub read_some : (k w n : ℕ) (old looked new : Known) → LoadsOther k w old looked → 0 < n → PassesCells k looked new
+    → ReadEnds k old new (Ok n)
+read_some k w n old looked new looks some passes = (
+  w,
+  looked,
+  looks,
+  (λ more. passes),
+  (λ none. absurd (omega arith)),
+)
+
+pub read_none : (k w : ℕ) (old looked : Known) → LoadsOther k w old looked → w % 2 ≡ 1
+    → ReadEnds k old looked (Ok 0)
+read_none k w old looked looks ended = (w, looked, looks, (λ more. absurd (omega arith)), (λ none. (refl, ended)))

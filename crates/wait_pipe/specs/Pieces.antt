@@ -9,6 +9,7 @@ use Rattle.std.specs.Prelude.{
   ◌+◌,
   ◌/◌,
   ◌%◌,
+  ◌==◌,
   ◌++◌,
   Bool,
   true,
@@ -104,12 +105,23 @@ pub record Waits (k : ℕ) (old new : Known) : Type 0 where
   pub rests : Rests k old new
 
 -- what a look at the other end of end k tells: the own count and the one that was seen, modulo `word_counts`, and
--- whether the other end was closed
+-- whether the other end was closed; the last two are what the other end's word shows
 pub record HasSeen (k : ℕ) (new : Known) (l : Look) : Type 0 where
   pub own : l.own ≡ (end_at k new).count % word_counts
   pub other : l.other ≡ (end_at k new).seen % word_counts
   pub sound : IsSoundEnd k (end_at k new)
   pub ended : (end_at k new).ended ≡ l.closed
+  pub shows : l.other ≡ l.word / 2 % word_counts
+  pub closes : l.closed ≡ (l.word % 2 == 1)
+
+-- The other end's word w shows that end open, and no cell for end k, of which the task knows e: none that is free for a
+-- write end, and none that was passed on for a read end.
+pub record ShowsNoCell (k : ℕ) (e : End) (w : ℕ) : Type 0 where
+  pub unended : w % 2 ≡ 0
+  pub count : ℕ  -- how many cells the other end had passed on
+  pub shown : w / 2 % word_counts ≡ count % word_counts
+  pub full : k % PIPE_ENDS ≡ 0 → e.count ≡ count + PIPE_CELLS
+  pub empty : k % PIPE_ENDS ≡ 1 → e.count ≡ count
 
 -- the answer of a wait for the other end
 abbrev pub end_of_wait : Result ℕ WaitEnd → Result (Unit {0}) PipeEnd
@@ -117,22 +129,26 @@ end_of_wait (Ok value) = Ok tt
 end_of_wait (Err (wait_end.Signal seen selected)) = Err (pipe_end.Interrupted seen)
 end_of_wait (Err (wait_end.Worn head place)) = Err (pipe_end.Worn head place)
 
--- A signal ended the wait for variable v, whose value was `seen` before it and is so still.
-pub record WasInterrupted (k : Known) (v seen : ℕ) : Type 0 where
+-- A signal ended the wait of end k for the other end, whose word was `seen` before it and is so still: it shows that
+-- end open, and no cell for this one.
+pub record WasInterrupted (j : Known) (k seen : ℕ) : Type 0 where
   pub selected : Bool
   pub queued : Bool
-  pub ends : WasSignalled k (watch.Var v seen) (shared_in state.Interruptible) seen selected queued
+  pub ends : WasSignalled j (watch.Var (other_end k) seen) (shared_in state.Interruptible) seen selected queued
+  pub none : ShowsNoCell k (end_at k j) seen
 
--- No place was left for the entry of the wait for variable v, which has the value from before it still.
-pub record WasFull (k : Known) (v head place : ℕ) : Type 0 where
+-- No place was left for the entry of the wait of end k for the other end, whose word is still as it was before, and
+-- shows that end open, and no cell for this one.
+pub record WasFull (j : Known) (k head place : ℕ) : Type 0 where
   pub before : ℕ
-  pub ends : FoundNoPlace k (watch.Var v before) head place
+  pub ends : FoundNoPlace j (watch.Var (other_end k) before) head place
+  pub none : ShowsNoCell k (end_at k j) before
 
 -- why a wait of end k for the other end ended, as the last steps show it; never Broken
 abbrev pub IsReadCause : ℕ → Known → PipeEnd → Type 0
 IsReadCause k new pipe_end.Broken = ⊥
-IsReadCause k new (pipe_end.Interrupted seen) = WasInterrupted new (other_end k) seen
-IsReadCause k new (pipe_end.Worn head place) = WasFull new (other_end k) head place
+IsReadCause k new (pipe_end.Interrupted seen) = WasInterrupted new k seen
+IsReadCause k new (pipe_end.Worn head place) = WasFull new k head place
 
 -- why nothing was written by end k: Broken says that the read end was seen closed
 abbrev pub IsCause : ℕ → Known → PipeEnd → Type 0

@@ -13,6 +13,7 @@ ghost use Rattle.wait_model.specs.declared.watches.Mode.TheVariants as mode;
 ghost use Rattle.wait_model.specs.declared.watches.Watch.TheVariants as watch;
 ghost use Rattle.wait_class.specs.Posts.{IsOut};
 ghost use Rattle.wait_pipe.specs.Pieces.{Ends, IsOpened, OthersStay, LeavesAside};
+ghost use Rattle.wait_pipe.specs.Trails.{ClosesEnd, WakesAfter};
 
 use std::sync::Wait;
 use wait_model::heads::head_of;
@@ -63,7 +64,7 @@ pub fn open_read(domain: &Domain, task: &mut Task, pipe: u8) -> bool
 
 /// Wakes those who wait for variable `var`, below `CLAIMS`, which is the word of an end that its task has published: a
 /// look without the lock whether the variable's head has members, and where it has any a walk over its queue with
-/// NORMAL. The task is idle, and so it is afterwards.
+/// NORMAL: with the publish, what `publish_var_and_wake` makes. The task is idle, and so it is afterwards.
 pub(crate) fn rouse<R: Wait>(rt: &R, domain: &Domain, task: &mut Task, var: u8) -> Walked
     requires of { task.old.domain ≡ domain.now }
     requires up { IsUp task.old }
@@ -75,6 +76,7 @@ pub(crate) fn rouse<R: Wait>(rt: &R, domain: &Domain, task: &mut Task, var: u8) 
     ensures idle { IsIdle task.new }
     ensures carries { Carries (wake_all_change (watch.Var var 0) mode.Normal task.new.at) task.old task.new }
     ensures quiet { LeavesAside task.old task.new }
+    ensures wakes { WakesAfter var task.old task.new result }
 {
     task.told();
     let watch = Watch::Var { var, old: 0 };
@@ -97,6 +99,7 @@ pub fn close_write<R: Wait>(rt: &R, domain: &Domain, task: &mut Task, pipe: u8)
     ensures own { writing pipe task.new ≡ closed (writing pipe task.old) }
     ensures others { OthersStay (write_end pipe) task.old task.new }
     ensures ends { Ends (write_end pipe) task.old task.new }
+    ensures closes { ClosesEnd (write_end pipe) task.old task.new }
 {
     close_end(rt, domain, task, pipe, WRITE);
 }
@@ -113,6 +116,7 @@ pub fn close_read<R: Wait>(rt: &R, domain: &Domain, task: &mut Task, pipe: u8)
     ensures own { reading pipe task.new ≡ closed (reading pipe task.old) }
     ensures others { OthersStay (read_end pipe) task.old task.new }
     ensures ends { Ends (read_end pipe) task.old task.new }
+    ensures closes { ClosesEnd (read_end pipe) task.old task.new }
 {
     close_end(rt, domain, task, pipe, READ);
 }
@@ -129,6 +133,7 @@ fn close_end<R: Wait>(rt: &R, domain: &Domain, task: &mut Task, pipe: u8, end: u
     ensures own { end_at (PIPE_ENDS * pipe + end) task.new ≡ closed (end_at (PIPE_ENDS * pipe + end) task.old) }
     ensures others { OthersStay (PIPE_ENDS * pipe + end) task.old task.new }
     ensures ends { Ends (PIPE_ENDS * pipe + end) task.old task.new }
+    ensures closes { ClosesEnd (PIPE_ENDS * pipe + end) task.old task.new }
 {
     task.told();
     close(domain, task, pipe, end);

@@ -8,7 +8,8 @@ ghost use Rattle.wait_rule.specs.PipeSays.{IsOpen, end_at, writing};
 ghost use Rattle.wait_rule.specs.Queues.{IsIdle};
 ghost use Rattle.wait_rule.specs.Says.{IsUp};
 ghost use Rattle.wait_class.specs.Posts.{IsOut};
-ghost use Rattle.wait_pipe.specs.Pieces.{HasSeen, IsReadCause, Waits, end_of_wait};
+ghost use Rattle.wait_pipe.specs.Pieces.{HasSeen, IsReadCause, ShowsNoCell, Waits, end_of_wait};
+ghost use Rattle.wait_pipe.specs.Trails.{AwaitsOther, LoadsOther};
 
 use crate::ends::WRITE;
 use crate::pieces::PipeEnd;
@@ -46,6 +47,7 @@ pub fn look_over(domain: &Domain, task: &mut Task, pipe: u8, end: u8) -> Look
     requires still { IsOpen (end_at (PIPE_ENDS * pipe + end) task.old) }
     ensures waits { Waits (PIPE_ENDS * pipe + end) task.old task.new }
     ensures seen { HasSeen (PIPE_ENDS * pipe + end) task.new result }
+    ensures loads { LoadsOther (PIPE_ENDS * pipe + end) result.word task.old task.new }
 {
     let var = PIPE_ENDS as u8 * pipe + (1 - end);
     let word = cond_load(domain, task, Watch::Var { var, old: 0 });
@@ -68,6 +70,7 @@ pub fn look_to_write(domain: &Domain, task: &mut Task, pipe: u8) -> Look
     requires still { IsOpen (writing pipe task.old) }
     ensures waits { Waits (write_end pipe) task.old task.new }
     ensures seen { HasSeen (write_end pipe) task.new result }
+    ensures loads { LoadsOther (write_end pipe) result.word task.old task.new }
 {
     look_over(domain, task, pipe, WRITE)
 }
@@ -89,7 +92,8 @@ fn other_of(own: u8) -> u8
     if own % 2 == 0 { own + 1 } else { own - 1 }
 }
 
-/// Waits until the word of the other end of end `own`, below `CLAIMS`, is not `word` any more.
+/// Waits until the word of the other end of end `own`, below `CLAIMS`, is not `word` any more, which shows that end open
+/// and no cell for this one.
 pub fn wait_for<R: Wait>(
     rt: &R,
     domain: &Domain,
@@ -102,8 +106,10 @@ pub fn wait_for<R: Wait>(
     requires idle { IsIdle task.old }
     requires out { IsOut task.old }
     requires own { own < CLAIMS }
+    requires none { ShowsNoCell own (end_at own task.old) word }
     ensures waits { Waits own task.old task.new }
     ensures cause { IfErr result (IsReadCause own task.new) }
+    ensures awaits { AwaitsOther own word task.old task.new result }
 {
     task.told();
     let var = other_of(own);

@@ -1,7 +1,7 @@
 //! Pieces of bytes that go into a pipe and come out of it.
 
 ghost use Rattle.std.specs.Prelude.{◌≡◌, ◌<◌, ◌≤◌, ◌+◌, ◌/◌, ◌%◌, take, length};
-ghost use Rattle.std.specs.Prelude.{MatchOption, MatchResult};
+ghost use Rattle.std.specs.Prelude.{MatchOption, MatchResult, Ok};
 ghost use Rattle.wait_model.specs.declared.layout.TheConstants.{PIPES, PIPE_CELLS};
 ghost use Rattle.wait_rule.specs.Pipes.{read_end, word_counts, write_end};
 ghost use Rattle.wait_rule.specs.PipeSays.{reading, writing};
@@ -9,6 +9,7 @@ ghost use Rattle.wait_rule.specs.Queues.{IsIdle};
 ghost use Rattle.wait_rule.specs.Says.{IsUp};
 ghost use Rattle.wait_class.specs.Posts.{IsOut};
 ghost use Rattle.wait_pipe.specs.Pieces.{Got, GotNone, IsSettled, Moved, Put, PutNone, Rests, Waits};
+ghost use Rattle.wait_pipe.specs.Trails.{PassesCells, ReadEnds, ReadsPiece, WaitingTurn, WriteEnds, WritesPiece};
 
 use crate::cells::{pack, unpack};
 use crate::ends::{READ, WRITE, rouse};
@@ -22,7 +23,8 @@ use wait_rule::{Domain, Task};
 /// Why no bytes went into a pipe, or came out of it. Broken: the read end was seen closed, so nothing can be sent any
 /// more; only a write answers this. Interrupted: a signal ended the wait for the other end, and the load after it found
 /// its word as it was before, `seen`. Worn: no place was left for the task's entry at head `head`, where a member
-/// stands at `place`.
+/// stands at `place`. Both come only where the other end's word showed that end open, and no cell free for a write, or
+/// none there for a read.
 #[derive(Clone, Copy, Debug, Drop, Error)]
 pub enum PipeEnd {
     #[error("the read end is closed")]
@@ -54,6 +56,7 @@ pub fn write_piece<R: Wait>(
     requires bytes { 0 < length bytes.now }
     ensures piece { MatchResult result (Put pipe task.old task.new bytes.now) (PutNone pipe task.old task.new) }
     ensures rests { Rests (write_end pipe) task.old task.new }
+    ensures goes { WritesPiece (write_end pipe) task.old task.new result }
 {
     for _ in rt.forever() {
         match write_turn(rt, domain, task, pipe, bytes) {
@@ -83,6 +86,8 @@ fn write_turn<R: Wait>(
     ensures turn { MatchOption result (Waits (write_end pipe) task.old task.new)
         (λ r. MatchResult r (Put pipe task.old task.new bytes.now) (PutNone pipe task.old task.new)) }
     ensures rests { Rests (write_end pipe) task.old task.new }
+    ensures goes { MatchOption result (WaitingTurn (write_end pipe) task.old task.new (Ok tt))
+        (WriteEnds (write_end pipe) task.old task.new) }
 {
     let look = look_to_write(domain, task, pipe);
     if look.closed {
@@ -127,6 +132,7 @@ fn fill<R: Wait>(
     ensures full { result < length bytes.now
         → (writing pipe task.new).count ≡ (writing pipe task.new).seen + PIPE_CELLS }
     ensures rests { Rests (write_end pipe) task.old task.new }
+    ensures passes { PassesCells (write_end pipe) task.old task.new }
 {
     task.told();
     let mut at = count;
@@ -171,6 +177,7 @@ pub fn read_piece<R: Wait>(
     ensures same { length buf.new ≡ length buf.old }
     ensures piece { MatchResult result (Got pipe task.old task.new buf.new) (GotNone pipe task.old task.new) }
     ensures rests { Rests (read_end pipe) task.old task.new }
+    ensures goes { ReadsPiece (read_end pipe) task.old task.new result }
 {
     for _ in rt.forever() {
         match read_turn(rt, domain, task, pipe, buf) {
@@ -201,6 +208,8 @@ fn read_turn<R: Wait>(
     ensures turn { MatchOption result (Waits (read_end pipe) task.old task.new)
         (λ r. MatchResult r (Got pipe task.old task.new buf.new) (GotNone pipe task.old task.new)) }
     ensures rests { Rests (read_end pipe) task.old task.new }
+    ensures goes { MatchOption result (WaitingTurn (read_end pipe) task.old task.new (Ok tt))
+        (ReadEnds (read_end pipe) task.old task.new) }
 {
     let look = look_over(domain, task, pipe, READ);
     let there = between(look.own, look.other);
@@ -243,6 +252,7 @@ fn drain<R: Wait>(
     ensures moved { Moved (read_end pipe) task.old task.new (take result buf.new) }
     ensures all { result + 7 ≤ length buf.new → (reading pipe task.new).count ≡ (reading pipe task.new).seen }
     ensures rests { Rests (read_end pipe) task.old task.new }
+    ensures passes { PassesCells (read_end pipe) task.old task.new }
 {
     task.told();
     let mut at = count;

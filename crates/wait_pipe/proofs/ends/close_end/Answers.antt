@@ -27,3 +27,8 @@ returns-clause-ends g c =
     c.requires.out (c.told.ensures.head ∙ c.requires.idle.free.head) c.close.ensures.carries c.rouse.ensures.carries
     (quiet_on c.args.task.now c.close.new.task c.rouse.new.task (subst (LeavesAside c.args.task.now) (sym made.1)
     (quiet_publish c.args.task.now (PIPE_ENDS * c.args.pipe + c.args.end) 0 _ made.0)) c.rouse.ensures.quiet)
+
+pub returns-clause-closes : goal.returns-clause-closes
+returns-clause-closes g c =
+    let made = c.close.ensures.step in
+    (c.rouse.result, c.rouse.ensures.wakes c.args.task.now _ made.0 made.1)

@@ -4,6 +4,7 @@ use Rattle.wait_model.specs.declared.layout.TheConstants.{PIPE_ENDS}
 use Rattle.wait_rule.specs.Pipes.{closed}
 use Rattle.wait_rule.specs.PipeSays.{IsOpen, end_at}
 use Rattle.wait_pipe.specs.Pieces.{Ends, OthersStay}
+use Rattle.wait_pipe.specs.Trails.{ClosesEnd}
 use Rattle.wait_pipe.proofs.ends.close_write.Goals as goal
 
 pub close_end-requires-clause-still : goal.close_end-requires-clause-still
@@ -21,3 +22,7 @@ returns-clause-others g c = subst (λ (k : ℕ). OthersStay k c.args.task.now c.
 pub returns-clause-ends : goal.returns-clause-ends
 returns-clause-ends g c = subst (λ (k : ℕ). Ends k c.args.task.now c.close_end.new.task)
     (add-zero (PIPE_ENDS * c.args.pipe)) c.close_end.ensures.ends
+
+pub returns-clause-closes : goal.returns-clause-closes
+returns-clause-closes g c = subst (λ (k : ℕ). ClosesEnd k c.args.task.now c.close_end.new.task)
+    (add-zero (PIPE_ENDS * c.args.pipe)) c.close_end.ensures.closes

@@ -2,9 +2,9 @@ use Rattle.std.proofs.Common.{◌∙◌, subst, sym, arith}
 use Rattle.std.specs.Prelude.{ℕ, ◌<◌}
 use Rattle.wait_model.specs.declared.layout.TheConstants.{HEADS}
 use Rattle.wait_model.specs.declared.watches.Watch.TheVariants as watch
-use Rattle.wq_head.specs.Scanned.{HasEndedAt}
+use Rattle.wq_head.specs.Scanned.{HasEndedAt, HasScanned}
 use Rattle.wait_class.proofs.WatchHeads.{watch_fits}
-use Rattle.var_wait.proofs.Publishing.{silent_carries}
+use Rattle.var_wait.proofs.Publishing.{silent, silent_carries, walked_on}
 use Rattle.wait_pipe.proofs.Asides.{quiet_on, scanned_quiet, woken_quiet}
 use Rattle.wait_pipe.proofs.PieceChanges.{others_on}
 use Rattle.wait_pipe.proofs.Rousing.{scanned_ends, still_wakes, woken_others, woken_own}
@@ -60,3 +60,17 @@ returns-then-active-clause-quiet g c = quiet_on c.args.task.now c.active.new.tas
 
 pub returns-else-active-clause-quiet : goal.returns-else-active-clause-quiet
 returns-else-active-clause-quiet g c = scanned_quiet c.args.task.now c.active.new.task _ _ c.active.ensures.scanned
+
+pub returns-then-active-clause-wakes : goal.returns-then-active-clause-wakes
+returns-then-active-clause-wakes g c = λ before value found is.
+    walked_on before c.args.task.now c.active.new.task c.args.var value found is c.active.result
+    (subst (λ (h : ℕ). HasScanned c.args.task.now c.active.new.task h c.active.result) c.head_of.ensures
+    c.active.ensures.scanned) c.wake.new.task c.if-active.true c.wake.result c.wake.ensures.woken c.wake.ensures.ended
+
+pub returns-else-active-clause-wakes : goal.returns-else-active-clause-wakes
+returns-else-active-clause-wakes g c = λ before value found is.
+    silent before c.args.task.now c.active.new.task c.args.var value found is c.active.result
+    (subst (λ (h : ℕ). HasScanned c.args.task.now c.active.new.task h c.active.result) c.head_of.ensures
+    c.active.ensures.scanned) c.if-active.false
+    (subst (HasEndedAt c.args.task.now c.active.new.task) c.head_of.ensures (c.active.ensures.ended c.if-active.false))
+    c.no_walk.result c.no_walk.ensures

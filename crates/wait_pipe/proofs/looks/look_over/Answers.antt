@@ -5,7 +5,15 @@ use Rattle.wait_rule.specs.Known.{Known}
 use Rattle.wait_rule.specs.Pipes.{End, word_counts}
 use Rattle.wait_pipe.specs.Pieces.{HasSeen, Waits}
 use Rattle.wait_pipe.specs.declared.looks.Look.{Look}
-use Rattle.wait_pipe.proofs.Looking.{idle_agreed, loaded_own, look_seen, look_waits, other_is, pipe_is}
+use Rattle.wait_pipe.proofs.Looking.{
+  idle_agreed,
+  loaded_own,
+  look_loads,
+  look_seen,
+  look_waits,
+  other_is,
+  pipe_is,
+}
 use Rattle.wait_pipe.proofs.looks.look_over.Goals as goal
 
 pub cond_load-word-requires-clause-agreed : goal.cond_load-word-requires-clause-agreed
@@ -43,4 +51,11 @@ returns-clause-seen c =
     c.cond_load-word.result c.args.task.now c.cond_load-word.new.task
     (other_is c.args.pipe c.args.end c.requires.end) (pipe_is c.args.pipe c.args.end c.requires.end)
     c.cond_load-word.ensures.step c.requires.still l c.own_load-own.result c.own_load-own.ensures.word
-    c.own_load-own.ensures.sound refl other refl)
+    c.own_load-own.ensures.sound refl other refl refl)
+
+pub returns-clause-loads : goal.returns-clause-loads
+returns-clause-loads c = c.own_load-own.ensures.same
+    ∙ look_loads (PIPE_ENDS * c.args.pipe + c.args.end) (PIPE_ENDS * c.args.pipe + (1 - c.args.end))
+    c.cond_load-word.result c.args.task.now c.cond_load-word.new.task
+    (other_is c.args.pipe c.args.end c.requires.end) (pipe_is c.args.pipe c.args.end c.requires.end)
+    c.cond_load-word.ensures.step c.cond_load-word.result refl

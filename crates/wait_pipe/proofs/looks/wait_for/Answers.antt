@@ -1,7 +1,7 @@
 use Rattle.std.proofs.Common.{◌∙◌, ap, subst, sym}
 use Rattle.std.specs.Prelude.{ℕ, ◌<◌, ◌/◌, IfErr, Result}
 use Rattle.wait_model.specs.declared.layout.TheConstants.{PIPE_ENDS, VARIABLES}
-use Rattle.wait_pipe.proofs.Looking.{other_apart, other_below, other_pipe, wait_caused, wait_waits}
+use Rattle.wait_pipe.proofs.Looking.{other_apart, other_below, other_pipe, wait_awaits, wait_caused, wait_waits}
 use Rattle.wait_pipe.specs.declared.pieces.PipeEnd.{PipeEnd}
 use Rattle.wait_pipe.specs.Pieces.{IsReadCause}
 use Rattle.wait_pipe.proofs.looks.wait_for.Goals as goal
@@ -20,7 +20,14 @@ returns-clause-waits g c = wait_waits c.args.own c.other_of-var.result c.args.wo
     c.wait_var-waited.ensures.out c.wait_var-waited.ensures.carries
 
 pub returns-clause-cause : goal.returns-clause-cause
+unfolding returns-clause-waits
 returns-clause-cause g c = subst (λ (r : Result (Unit {0}) PipeEnd). IfErr r (IsReadCause c.args.own
     c.wait_var-waited.new.task)) (sym c.answer_of.ensures)
     (wait_caused c.args.own c.other_of-var.result c.args.word c.args.task.now c.wait_var-waited.new.task
-    c.wait_var-waited.result c.other_of-var.ensures c.wait_var-waited.ensures.waited)
+    c.wait_var-waited.result c.other_of-var.ensures c.wait_var-waited.ensures.waited (returns-clause-waits g c)
+    c.requires.none)
+
+pub returns-clause-awaits : goal.returns-clause-awaits
+returns-clause-awaits g c = wait_awaits c.args.own c.other_of-var.result c.args.word c.args.task.now
+    c.wait_var-waited.new.task c.wait_var-waited.result _ c.other_of-var.ensures c.wait_var-waited.ensures.waited
+    c.answer_of.ensures c.requires.none

@@ -8,7 +8,16 @@ use Rattle.wait_rule.specs.Stays.{Carries, publish_change}
 use Rattle.wait_event.proofs.Setting.{set_idle}
 use Rattle.wait_pipe.specs.Pieces.{LeavesAside}
 use Rattle.wait_pipe.proofs.Asides.{quiet_on, quiet_publish}
-use Rattle.wait_pipe.proofs.Fills.{advanced_write, fill_begins, fill_cells, fill_ended, fill_ends, fill_full, fill_goes}
+use Rattle.wait_pipe.proofs.Fills.{
+  advanced_write,
+  cells_passed,
+  fill_begins,
+  fill_cells,
+  fill_ended,
+  fill_ends,
+  fill_full,
+  fill_goes,
+}
 use Rattle.wait_pipe.proofs.PieceChanges.{idle_still, leaves_made, still_publishes}
 use Rattle.wait_pipe.proofs.pieces.fill.Goals.{
   then-bytes-done-lt7,
@@ -105,3 +114,10 @@ returns-clause-rests g c =
     c.advance.new.task) (add-zero (PIPE_ENDS * c.args.pipe)) c.advance.ensures.carries)) c.rouse.ensures.carries
     (quiet_on c.args.task.now c.loop-left.task c.rouse.new.task c.loop-left.invariant.quiet
     (quiet_on c.loop-left.task c.advance.new.task c.rouse.new.task passes c.rouse.ensures.quiet))
+
+pub returns-clause-passes : goal.returns-clause-passes
+returns-clause-passes g c =
+    let made = c.advance.ensures.step in
+    cells_passed (write_end c.args.pipe) (PIPE_ENDS * c.args.pipe + 0) c.args.task.now c.loop-left.task
+    c.advance.new.task c.rouse.new.task (2 * c.loop-left.at) made.0 c.rouse.result c.loop-left.invariant.stored made.1
+    (add-zero (PIPE_ENDS * c.args.pipe)) c.rouse.ensures.wakes

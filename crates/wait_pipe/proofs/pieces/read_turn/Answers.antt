@@ -1,8 +1,17 @@
 use Rattle.std.proofs.Common.{◌∙◌, arith}
+use Rattle.std.specs.Prelude.{Ok, Err}
 use Rattle.wait_rule.specs.Pipes.{read_end}
-use Rattle.wait_pipe.proofs.Fills.{count_place, there_is, other_below, own_below, waited_settled}
+use Rattle.wait_pipe.proofs.Fills.{
+  count_place,
+  none_there,
+  there_is,
+  other_below,
+  own_below,
+  waited_settled,
+  word_ended,
+}
 use Rattle.wait_pipe.proofs.PieceChanges.{waits_on}
-use Rattle.wait_pipe.proofs.Turns.{got_drained, got_end, got_stopped, then_rests}
+use Rattle.wait_pipe.proofs.Turns.{got_drained, got_end, got_stopped, read_none, read_some, then_rests, turn_of}
 use Rattle.wait_pipe.proofs.pieces.read_turn.Goals as goal
 
 pub look_over-look-requires-clause-of : goal.look_over-look-requires-clause-of
@@ -71,7 +80,7 @@ pub returns-then-look-clause-turn : goal.returns-then-look-clause-turn
 returns-then-look-clause-turn g c = got_end c.args.pipe c.args.task.now c.look_over-look.new.task
     c.look_over-look.ensures.waits c.requires.settled c.look_over-look.result c.args.buf.now c.between-there.result
     c.look_over-look.ensures.seen c.between-there.ensures (let none = c.if-there-gt0.false in omega arith)
-    c.if-look.true
+    (let shut = c.if-look.true in cc)
 
 pub returns-then-look-clause-rests : goal.returns-then-look-clause-rests
 returns-then-look-clause-rests g c = c.look_over-look.ensures.waits.rests
@@ -91,6 +100,12 @@ wait_for-requires-clause-out g c = c.look_over-look.ensures.waits.rests.out
 pub wait_for-requires-clause-own : goal.wait_for-requires-clause-own
 wait_for-requires-clause-own g c = let few = c.requires.pipe in omega arith
 
+pub wait_for-requires-clause-none : goal.wait_for-requires-clause-none
+wait_for-requires-clause-none g c = none_there c.args.pipe c.look_over-look.new.task c.look_over-look.result
+    c.look_over-look.ensures.seen (waited_settled (read_end c.args.pipe) c.args.task.now
+    c.look_over-look.new.task c.look_over-look.ensures.waits c.requires.settled) c.between-there.result
+    c.between-there.ensures (let none = c.if-there-gt0.false in omega arith) c.if-look.false
+
 pub returns-in-Ok-clause-turn : goal.returns-in-Ok-clause-turn
 returns-in-Ok-clause-turn g c = waits_on (read_end c.args.pipe) c.args.task.now
     c.look_over-look.new.task c.wait_for.new.task c.look_over-look.ensures.waits c.wait_for.ensures.waits
@@ -107,3 +122,24 @@ returns-in-Err-clause-turn g c = got_stopped c.args.pipe c.args.task.now c.look_
 pub returns-in-Err-clause-rests : goal.returns-in-Err-clause-rests
 returns-in-Err-clause-rests g c = (waits_on (read_end c.args.pipe) c.args.task.now
     c.look_over-look.new.task c.wait_for.new.task c.look_over-look.ensures.waits c.wait_for.ensures.waits).rests
+
+pub returns-then-there-gt0-clause-goes : goal.returns-then-there-gt0-clause-goes
+returns-then-there-gt0-clause-goes g c = read_some (read_end c.args.pipe) c.look_over-look.result.word c.drain.result
+    c.args.task.now c.look_over-look.new.task c.drain.new.task c.look_over-look.ensures.loads c.drain.ensures.some
+    c.drain.ensures.passes
+
+pub returns-then-look-clause-goes : goal.returns-then-look-clause-goes
+returns-then-look-clause-goes g c = read_none (read_end c.args.pipe) c.look_over-look.result.word c.args.task.now
+    c.look_over-look.new.task c.look_over-look.ensures.loads
+    (word_ended c.args.pipe c.look_over-look.new.task c.look_over-look.result (read_end c.args.pipe)
+    c.look_over-look.ensures.seen (let shut = c.if-look.true in cc))
+
+pub returns-in-Ok-clause-goes : goal.returns-in-Ok-clause-goes
+returns-in-Ok-clause-goes g c = turn_of (read_end c.args.pipe) c.look_over-look.result.word c.args.task.now
+    c.look_over-look.new.task c.wait_for.new.task (Ok tt) c.look_over-look.ensures.loads
+    c.in-Ok.ensures.awaits
+
+pub returns-in-Err-clause-goes : goal.returns-in-Err-clause-goes
+returns-in-Err-clause-goes g c = turn_of (read_end c.args.pipe) c.look_over-look.result.word c.args.task.now
+    c.look_over-look.new.task c.wait_for.new.task (Err c.in-Err.end) c.look_over-look.ensures.loads
+    c.in-Err.ensures.awaits

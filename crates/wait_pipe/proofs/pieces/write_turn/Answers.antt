@@ -1,8 +1,18 @@
 use Rattle.std.proofs.Common.{◌∙◌, arith}
+use Rattle.std.specs.Prelude.{Ok, Err}
 use Rattle.wait_rule.specs.Pipes.{write_end}
-use Rattle.wait_pipe.proofs.Fills.{count_place, free_is, other_below, own_below, waited_settled}
+use Rattle.wait_pipe.proofs.Fills.{
+  count_place,
+  free_is,
+  none_free,
+  other_below,
+  own_below,
+  waited_settled,
+  word_ended,
+  word_open,
+}
 use Rattle.wait_pipe.proofs.PieceChanges.{waits_on}
-use Rattle.wait_pipe.proofs.Turns.{put_broken, put_filled, put_stopped, then_rests}
+use Rattle.wait_pipe.proofs.Turns.{put_broken, put_filled, put_stopped, then_rests, turn_of, write_stops}
 use Rattle.wait_pipe.proofs.pieces.write_turn.Goals as goal
 
 pub look_to_write-look-requires-clause-of : goal.look_to_write-look-requires-clause-of
@@ -90,6 +100,12 @@ wait_for-requires-clause-out g c = c.look_to_write-look.ensures.waits.rests.out
 pub wait_for-requires-clause-own : goal.wait_for-requires-clause-own
 wait_for-requires-clause-own g c = let few = c.requires.pipe in omega arith
 
+pub wait_for-requires-clause-none : goal.wait_for-requires-clause-none
+wait_for-requires-clause-none g c = none_free c.args.pipe c.look_to_write-look.new.task c.look_to_write-look.result
+    c.look_to_write-look.ensures.seen (waited_settled (write_end c.args.pipe) c.args.task.now
+    c.look_to_write-look.new.task c.look_to_write-look.ensures.waits c.requires.settled) c.between-used.result
+    c.between-used.ensures (let full = c.if-used-lt-PIPE_CELLS.false in omega arith) search
+
 pub returns-in-Ok-clause-turn : goal.returns-in-Ok-clause-turn
 returns-in-Ok-clause-turn g c = waits_on (write_end c.args.pipe) c.args.task.now
     c.look_to_write-look.new.task c.wait_for.new.task c.look_to_write-look.ensures.waits c.wait_for.ensures.waits
@@ -106,3 +122,33 @@ returns-in-Err-clause-turn g c = put_stopped c.args.pipe c.args.task.now c.look_
 pub returns-in-Err-clause-rests : goal.returns-in-Err-clause-rests
 returns-in-Err-clause-rests g c = (waits_on (write_end c.args.pipe) c.args.task.now
     c.look_to_write-look.new.task c.wait_for.new.task c.look_to_write-look.ensures.waits c.wait_for.ensures.waits).rests
+
+pub returns-then-look-clause-goes : goal.returns-then-look-clause-goes
+returns-then-look-clause-goes g c = (
+  c.look_to_write-look.result.word,
+  c.look_to_write-look.ensures.loads,
+  word_ended c.args.pipe c.look_to_write-look.new.task c.look_to_write-look.result (write_end c.args.pipe)
+      c.look_to_write-look.ensures.seen c.if-look.true,
+)
+
+pub returns-then-used-lt-PIPE_CELLS-clause-goes : goal.returns-then-used-lt-PIPE_CELLS-clause-goes
+returns-then-used-lt-PIPE_CELLS-clause-goes g c = (
+  c.look_to_write-look.result.word,
+  c.look_to_write-look.new.task,
+  c.look_to_write-look.ensures.loads,
+  word_open c.args.pipe c.look_to_write-look.new.task c.look_to_write-look.result (write_end c.args.pipe)
+      c.look_to_write-look.ensures.seen c.if-look.false,
+  c.fill.ensures.passes,
+)
+
+pub returns-in-Ok-clause-goes : goal.returns-in-Ok-clause-goes
+returns-in-Ok-clause-goes g c = turn_of (write_end c.args.pipe) c.look_to_write-look.result.word c.args.task.now
+    c.look_to_write-look.new.task c.wait_for.new.task (Ok tt) c.look_to_write-look.ensures.loads
+    c.in-Ok.ensures.awaits
+
+pub returns-in-Err-clause-goes : goal.returns-in-Err-clause-goes
+returns-in-Err-clause-goes g c = write_stops (write_end c.args.pipe) c.args.task.now c.wait_for.new.task c.in-Err.end
+    c.in-Err.ensures.cause
+    (turn_of (write_end c.args.pipe) c.look_to_write-look.result.word c.args.task.now
+    c.look_to_write-look.new.task c.wait_for.new.task (Err c.in-Err.end) c.look_to_write-look.ensures.loads
+    c.in-Err.ensures.awaits)

@@ -27,8 +27,9 @@ use Rattle.copy_plan.specs.declared.stop.ReaderEnd.{ReaderEnd}
 use Rattle.copy_plan.specs.declared.stop.Stop.{Stop}
 use Rattle.copy_plan.specs.declared.stop.Stop.TheVariants as stop
 use Rattle.copy_plan.specs.declared.stop.WorkerEnd.{WorkerEnd}
-use Rattle.copy_ends.specs.Copied.{AllFinished, Controlled, HoldsGiven, IsNotTaken, NoneTaken, Watched}
+use Rattle.copy_ends.specs.Copied.{AllFinished, Controlled, HoldsGiven, IsNotTaken, NoneTaken, Watched, worker_numbers}
 use Rattle.copy_ends.specs.Did.{ReaderWorked, Refused, RelayWorked, WriterWorked}
+use Rattle.copy_plan.specs.Plans.{due_at, fatal_of}
 use Rattle.copy_turns.specs.Raises.{kills_in}
 use Rattle.copy_plan.specs.Stops.{IfFinished, IfTaken}
 use Rattle.copy_turns.specs.Turns.{IsReaderStop, IsRelayStop, IsWriterStop}
@@ -37,6 +38,8 @@ use Rattle.copy_turns.specs.Work.{TookKill}
 use Rattle.copy_ends.proofs.JoinedFour.{four, four_has_all, has_one, has_two, has_three, of_each}
 use Rattle.copy_ends.proofs.RaisedNone.{RaisedNone, none_raised, took_none}
 use Rattle.copy_ends.proofs.Rows.{gave_all, in_row, no_rest}
+use Rattle.copy_plan.proofs.DueTimes.{due_at_kills}
+use Rattle.copy_turns.proofs.Sends.{sent_kills}
 use Rattle.copy_plan.proofs.StopKinds.{IsNamedNone, Plain, broken, finished, killed, named_none, taken}
 
 -- stops
@@ -100,7 +103,8 @@ module _ (domain : TableId) (one two three fourth : Known) (left_old left_new : 
     (reads_old reads_new : ℕ) (held_old held_new : Option (List ℕ)) (writes_old writes_new wants_old wants_new : ℕ)
     (seen_old seen_new : List EntryState) (plan : List Planned)
     (reader : ReaderEnd) (relay writer : WorkerEnd)
-    (reads : ReaderWorked (newcomer domain 1 2 0) one left_old left_new reads_old reads_new plan reader)
+    (reads : ReaderWorked (newcomer domain 1 2 0) one left_old left_new reads_old reads_new worker_numbers
+    plan reader)
     (relays : RelayWorked (newcomer domain 2 3 0) two relay)
     (writes : WriterWorked (newcomer domain 3 4 0) three held_old held_new writes_old writes_new wants_old wants_new
     seen_old seen_new writer)
@@ -200,8 +204,13 @@ module _ (domain : TableId) (one two three fourth : Known) (left_old left_new : 
     -- no task took a fatal signal where none was sent
     module _ (none : reader.kills ≡ 0) where
       reader_raised : RaisedNone one.view.items
-      reader_raised = ap (λ rs. length (kills_in rs)) reads.signals.all
-          ∙ (reads.signals.kills ∙ (sym reads.kills ∙ none))
+      reader_raised =
+          let raised = else_of reader.stop _ _ free.0 reads.signals in
+          let due = else_of reader.stop _ _ free.0 reads.dues in
+          ap (λ rs. length (kills_in rs)) raised.all
+          ∙ (sent_kills worker_numbers (due_at 0 raised.times plan)
+          ∙ (due_at_kills 0 raised.times reader.read raised.rise plan
+          ∙ (sym (ap (λ (ps : List Planned). length (fatal_of ps)) due) ∙ (sym reads.kills ∙ none))))
 
       took : (t : ℕ) → t < TASKS → total takes_fatal (steps_of (has_of t all_lists)) ≡ 0
       took = took_none one.view.items two.view.items three.view.items fourth.view.items shown reader_raised

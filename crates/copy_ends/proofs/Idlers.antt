@@ -2,7 +2,8 @@
 -- pipe.
 use Rattle.std.proofs.Common.{refl, sym, ◌∙◌, subst, arith}
 use Rattle.std.proofs.lemmas.Bool.{eqb-false, eqb-true}
-use Rattle.std.specs.Prelude.{ℕ, ◌≡◌, ◌-◌, ◌&&◌, eqb, not, Bool, true, false, Result, Ok, Err}
+use Rattle.std.specs.Prelude.{ℕ, zero, suc, ◌≡◌, ◌+◌, ◌-◌, ◌&&◌, eqb, not, Bool, true, false}
+use Rattle.std.specs.Prelude.{Result, Ok, Err, MatchResult}
 use Rattle.atomic_table.specs.Seated.{TableId}
 use Rattle.bit_wait.specs.declared.wait_calls.BitEnd.{BitEnd}
 use Rattle.bit_wait.specs.declared.wait_calls.BitEnd.TheVariants as bit_end
@@ -28,7 +29,15 @@ use Rattle.wait_rule.specs.Queues.{IsIdle, index}
 use Rattle.wait_rule.specs.Tallies.{amounts_of}
 use Rattle.wait_rule.proofs.KnownLaws.CalledPermits.{newcomers_leave_none}
 use Rattle.copy_plan.specs.declared.TheConstants.{COUNTED_PAGE, ENDED_CELL}
-use Rattle.copy_ends.specs.Copied.{ControlEnds, Controlled, ReadTally, joined_four}
+use Rattle.copy_ends.specs.Copied.{
+  AwaitsWorker,
+  ControlEnds,
+  Controlled,
+  IsControlEnd,
+  ReadTally,
+  WaitsTimes,
+  joined_four,
+}
 use Rattle.copy_ends.specs.Did.{IsIdler}
 use Rattle.copy_turns.specs.Turns.{CountedAll}
 use Rattle.copy_turns.specs.Work.{Apart, Counted, IsAtWork, SumsStay, but_ends}
@@ -123,18 +132,17 @@ counted_apart a b n = record {
   signals = n.signals;
 }
 
-read_later : (a b c : Known) (total : ℕ) → Grows a b → ReadTally b c total → ReadTally a c total
-read_later a b c total one two = record {
-  mid = two.mid;
-  before = grows_then a b two.mid one two.before;
-  finds = two.finds;
-  later = two.later;
-}
+-- one wait more, and the tally read behind all of them
+pub waits_more : (n m : ℕ) (a b c : Known) → m ≡ n + 1 → WaitsTimes n a b → AwaitsWorker b c → WaitsTimes m a c
+waits_more n zero a b c e one two = absurd (omega (arith, e))
+waits_more n (suc m) a b c e one two = (b, subst (λ (k : ℕ). WaitsTimes k a b) (omega (arith, e)) one, two)
 
-pub ends_later : (a b c : Known) (total : Result ℕ BitEnd) → Grows a b → ControlEnds b c total → ControlEnds a c total
-ends_later a b c (Ok total) one two = read_later a b c total one two
-ends_later a b c (Err (bit_end.Worn h p)) one two = two
-ends_later a b c (Err (bit_end.Interrupted seen)) one two = two
+pub control_ends : (n : ℕ) (a b c : Known) (total : Result ℕ BitEnd) → n ≡ 3 → WaitsTimes n a b
+    → MatchResult total (ReadTally b c) (IsControlEnd c) → ControlEnds a c total
+control_ends n a b c (Ok total) e one two =
+    record { waited = b; waits = subst (λ (k : ℕ). WaitsTimes k a b) e one; reads = two }
+control_ends n a b c (Err (bit_end.Worn h p)) e one two = two
+control_ends n a b c (Err (bit_end.Interrupted seen)) e one two = two
 
 -- a task that has made no step
 pub newcomer_idles : (domain : TableId) (number next spare : ℕ) → IsIdler (newcomer domain number next spare)

@@ -14,14 +14,14 @@ use Rattle.copy_plan.specs.declared.plan.Planned.{Planned}
 use Rattle.copy_plan.specs.declared.stop.ReaderEnd.{ReaderEnd}
 use Rattle.copy_plan.specs.declared.stop.Stop.{Stop}
 use Rattle.copy_plan.specs.declared.stop.Stop.TheVariants as stop
-use Rattle.copy_ends.specs.Did.{IsIdler, ReaderDid, ReaderWorked, Refused, Served}
+use Rattle.copy_ends.specs.Did.{IsIdler, ReaderDid, ReaderWorked, Refused, Served, WentBy}
 use Rattle.copy_plan.specs.Plans.{due_in, fatal_of, up_to}
 use Rattle.copy_turns.specs.Raises.{sent_to}
 use Rattle.copy_turns.specs.Turns.{IsReaderStop, RaisedFor, Reading}
 use Rattle.copy_turns.specs.Work.{SignalsStay}
-use Rattle.copy_ends.proofs.Ends.{Closes, Finishes, Fails, Opens, refused_later, works_idler, worn_later}
+use Rattle.copy_ends.proofs.Ends.{Closes, Finishes, Fails, Opens, refused_later, went_later, works_idler, worn_later}
 use Rattle.copy_turns.proofs.PartLaws.{counted_none, counted_sums, grows_then, sums_counted, sums_then, took_later}
-use Rattle.copy_turns.proofs.ReaderTurns.{prepend_none, raised_none, raised_sends, raised_then, reader_before}
+use Rattle.copy_turns.proofs.ReaderTurns.{prepend_none, raised_sends, raised_then, reader_before}
 use Rattle.copy_turns.proofs.Sends.{Sends}
 use Rattle.copy_turns.proofs.Stopping.{taken_map, untaken}
 
@@ -42,8 +42,9 @@ module _ (a b c : Known) (risen : Type 0) (g : Grows b c)
   reader_later stop.Long is = is
   reader_later (stop.Worn h p) is = worn_later b c h p g is
 
-raised_later : (a b c : Known) (due : List Planned) → RaisedFor a b due → SignalsStay b c → RaisedFor a c due
-raised_later a b c due r same = record { raised = r.raised; all = same ∙ r.all; sent = r.sent; kills = r.kills }
+raised_later : (a b c : Known) (targets : List ℕ) (to : ℕ) (plan : List Planned) → SignalsStay b c
+    → RaisedFor a b targets 0 to plan → RaisedFor a c targets 0 to plan
+raised_later a b c targets to plan same r = record { times = r.times; rise = r.rise; all = same ∙ r.all }
 
 not_taken : (a b : Known) (risen : Type 0) (how : Stop) → IsReaderStop a b risen how → how ≢ stop.Taken
 not_taken a b risen how is e = subst (IsReaderStop a b risen) e is
@@ -53,9 +54,9 @@ pub still_settled : (b c : Known) → IsOpened (end_at pen b) → EndsStay b c �
 still_settled b c o ends = subst IsSettled (sym (ends pen)) o.settled
 
 -- its end was opened, the signals were sent that were due, turns of it went up to a stop, and its end was closed
-module _ (a b c d e : Known) (l0 l1 : Option (List ℕ)) (f0 f1 r : ℕ) (plan : List Planned) (targets : List ℕ)
+module _ (a b c d e : Known) (l0 l1 : Option (List ℕ)) (f0 f1 r : ℕ) (targets : List ℕ) (plan : List Planned)
     (o : Opens pen a b) (s : Sends b c (sent_to targets (due_in 0 0 plan))) (how : Stop)
-    (t : Reading c d l0 l1 f0 f1 0 r plan (Some how)) (q : Closes pen d e) (idler : IsIdler a) where
+    (t : Reading c d l0 l1 f0 f1 0 r targets plan (Some how)) (q : Closes pen d e) (idler : IsIdler a) where
   settled : OwesNothing e
   settled = q.owes no_excuse (t.works.owes (with_end pen no_excuse) (s.works.owes (with_end pen no_excuse)
       (o.owes no_excuse idler.clean.settled)))
@@ -80,13 +81,13 @@ module _ (a b c d e : Known) (l0 l1 : Option (List ℕ)) (f0 f1 r : ℕ) (plan :
   whole_cause = reader_later a d e (HasRisen f0 f1) q.leaves.grows (λ is. ap (λ (x : End). x.ended) q.own ∙ is) how
       (reader_before a c d f0 f0 f1 before (omega arith) how t.cause)
 
-  due_all : RaisedFor a e (up_to r plan)
-  due_all = raised_later a d e (up_to r plan)
-      (raised_then a c d 0 0 r plan (omega arith) (omega arith)
-      (raised_sends a b c c targets (due_in 0 0 plan) o.leaves.signals s refl) t.signals) q.leaves.signals
+  due_all : RaisedFor a e targets 0 r plan
+  due_all = raised_later a d e targets r plan q.leaves.signals
+      (raised_then a c d targets 0 0 r plan
+      (raised_sends a b c c targets 0 0 plan (omega arith) o.leaves.signals s refl) t.signals)
 
   pub reader_did : (sent kills : ℕ) → sent ≡ length (up_to r plan) → kills ≡ length (fatal_of (up_to r plan))
-      → ReaderWorked a e l0 l1 f0 f1 plan (record { stop = how; read = r; sent = sent; kills = kills })
+      → ReaderWorked a e l0 l1 f0 f1 targets plan (record { stop = how; read = r; sent = sent; kills = kills })
   reader_did sent kills sends deadly =
       let never = not_taken c d (HasRisen f0 f1) how t.cause in
       record {
@@ -108,20 +109,29 @@ module _ (a b c d e : Known) (l0 l1 : Option (List ℕ)) (f0 f1 r : ℕ) (plan :
         counted = counted_sums t.n a d e (sums_counted t.n a c d (sums_then a b c o.leaves.sums s.sums) t.counted)
             q.leaves.sums;
         counts = t.counts;
+        signals = untaken how (SignalsStay a e) (RaisedFor a e targets 0 r plan) (λ i. absurd (never i)) due_all;
         due = up_to r plan;
-        signals = due_all;
         dues = untaken how (up_to r plan ≡ []) (up_to r plan ≡ up_to r plan) (λ i. absurd (never i)) refl;
         sends = sends;
         kills = deadly;
         long = t.long;
+        turns = untaken how (Unit {0}) (WentBy a e how) (λ i. tt) (record {
+          first = c;
+          last = d;
+          before = before;
+          spared = s.spared ∙ o.spared;
+          turns = t.turns;
+          later = q.leaves.grows;
+        });
         later = t.later;
         cause = untaken how (Unit {0}) (IsReaderStop a e (HasRisen f0 f1) how) (λ i. tt) whole_cause;
       }
 
 -- Its end was not to be had.
-pub reader_fails : (a b : Known) (left : Option (List ℕ)) (f : ℕ) (plan : List Planned) → IsIdler a → Fails pen a b
-    → ReaderWorked a b left left f f plan (record { stop = stop.Taken; read = 0; sent = 0; kills = 0 })
-reader_fails a b left f plan idler o = record {
+pub reader_fails : (a b : Known) (left : Option (List ℕ)) (f : ℕ) (targets : List ℕ) (plan : List Planned) → IsIdler a
+    → Fails pen a b
+    → ReaderWorked a b left left f f targets plan (record { stop = stop.Taken; read = 0; sent = 0; kills = 0 })
+reader_fails a b left f targets plan idler o = record {
   served = record {
     idler = works_idler b o.work (o.owes no_excuse idler.clean.settled);
     domain = o.leaves.domain;
@@ -141,26 +151,27 @@ reader_fails a b left f plan idler o = record {
   n = 0;
   counted = counted_none a b o.leaves.sums;
   counts = tt;
+  signals = o.leaves.signals;
   due = [];
-  signals = raised_none a b [] o.leaves.signals refl;
   dues = refl;
   sends = refl;
   kills = refl;
   long = omega arith;
+  turns = tt;
   later = omega arith;
   cause = tt;
 }
 
 -- and then the completion
-module _ (a b c : Known) (l0 l1 : Option (List ℕ)) (f0 f1 : ℕ) (plan : List Planned) (w : ReaderEnd)
-    (r : ReaderWorked a b l0 l1 f0 f1 plan w) (k : Finishes b c) where
+module _ (a b c : Known) (l0 l1 : Option (List ℕ)) (f0 f1 : ℕ) (targets : List ℕ) (plan : List Planned) (w : ReaderEnd)
+    (r : ReaderWorked a b l0 l1 f0 f1 targets plan w) (k : Finishes b c) where
   refused_still : Refused pen a b → Refused pen a c
   refused_still x = record {
     refused = refused_later pen b c k.leaves.grows x.refused;
     mine = ap (λ (e : End). e.mine) (k.ends pen) ∙ x.mine;
   }
 
-  still_worked : ReaderWorked a c l0 l1 f0 f1 plan w
+  still_worked : ReaderWorked a c l0 l1 f0 f1 targets plan w
   still_worked = record {
     served = record {
       idler = k.idler;
@@ -183,12 +194,16 @@ module _ (a b c : Known) (l0 l1 : Option (List ℕ)) (f0 f1 : ℕ) (plan : List 
     n = r.n;
     counted = counted_sums r.n a b c r.counted k.leaves.sums;
     counts = r.counts;
+    signals = taken_map w.stop (SignalsStay a b) (RaisedFor a b targets 0 w.read plan) (SignalsStay a c)
+        (RaisedFor a c targets 0 w.read plan) (λ x. k.leaves.signals ∙ x)
+        (raised_later a b c targets w.read plan k.leaves.signals) r.signals;
     due = r.due;
-    signals = raised_later a b c r.due r.signals k.leaves.signals;
     dues = r.dues;
     sends = r.sends;
     kills = r.kills;
     long = r.long;
+    turns = taken_map w.stop (Unit {0}) (WentBy a b w.stop) (Unit {0}) (WentBy a c w.stop) (λ x. x)
+        (went_later a b c w.stop k.leaves.grows) r.turns;
     later = r.later;
     cause = taken_map w.stop (Unit {0}) (IsReaderStop a b (HasRisen f0 f1) w.stop) (Unit {0})
         (IsReaderStop a c (HasRisen f0 f1) w.stop) (λ x. x)
@@ -196,7 +211,7 @@ module _ (a b c : Known) (l0 l1 : Option (List ℕ)) (f0 f1 : ℕ) (plan : List 
         r.cause;
   }
 
-  pub reader_completes : ReaderDid a c l0 l1 f0 f1 plan w
+  pub reader_completes : ReaderDid a c l0 l1 f0 f1 targets plan w
   reader_completes = record {
     worked = still_worked;
     completes = record { mid = b; before = r.served.grows; completed = k.completed };

@@ -17,7 +17,7 @@ use Rattle.copy_plan.specs.declared.stop.ReaderEnd.{ReaderEnd}
 use Rattle.copy_plan.specs.declared.stop.Stop.{Stop}
 use Rattle.copy_plan.specs.declared.stop.Stop.TheVariants as stop
 use Rattle.copy_plan.specs.declared.stop.WorkerEnd.{WorkerEnd}
-use Rattle.copy_ends.specs.Copied.{ControlEnds, Controlled, Copied, HoldsAll, HoldsGiven, NoneTaken, ReadTally, Watched, control_stop, joined_four}
+use Rattle.copy_ends.specs.Copied.{ControlEnds, Controlled, Copied, HoldsAll, HoldsGiven, NoneTaken, ReadTally, Watched, control_stop, joined_four, worker_numbers}
 use Rattle.copy_plan.specs.Kinds.{copy_stop}
 use Rattle.copy_ends.specs.Did.{ReaderDid, RelayDid, WriterDid}
 use Rattle.copy_ends.proofs.Copied as copied
@@ -30,7 +30,8 @@ pub record Ended (domain : TableId) (one two three fourth old new : Known) (left
     (reads_old reads_new : ℕ) (held_old held_new : Option (List ℕ)) (writes_old writes_new wants_old wants_new : ℕ)
     (seen_old seen_new : List EntryState) (plan : List Planned) (reader : ReaderEnd) (relay writer : WorkerEnd)
     (answer : Result ℕ BitEnd) (tally : ℕ) : Type 0 where
-  pub reads : ReaderDid (newcomer domain 1 2 0) one left_old left_new reads_old reads_new plan reader
+  pub reads : ReaderDid (newcomer domain 1 2 0) one left_old left_new reads_old reads_new
+      worker_numbers plan reader
   pub relays : RelayDid (newcomer domain 2 3 0) two relay
   pub writes : WriterDid (newcomer domain 3 4 0) three held_old held_new writes_old writes_new wants_old wants_new
       seen_old seen_new writer
@@ -45,10 +46,10 @@ pub record Ended (domain : TableId) (one two three fourth old new : Known) (left
 pub ended_of : (domain : TableId) (t1 t2 t3 t4 one two three fourth start old new : Known)
     (left_old left_new : Option (List ℕ)) (reads_old reads_new : ℕ) (held_old held_new : Option (List ℕ))
     (writes_old writes_new wants_old wants_new : ℕ) (seen_old seen_new : List EntryState) (plan : List Planned)
-    (reader : ReaderEnd) (relay writer : WorkerEnd) (answer : Result ℕ BitEnd) (tally : ℕ) → t1 ≡ newcomer domain 1 2 0
-    → t2 ≡ newcomer domain 2 3 0 → t3 ≡ newcomer domain 3 4 0 → t4 ≡ newcomer domain 4 5 0
+    (reader : ReaderEnd) (relay writer : WorkerEnd) (answer : Result ℕ BitEnd) (tally : ℕ) (targets : List ℕ)
+    → targets ≡ worker_numbers → t1 ≡ newcomer domain 1 2 0 → t2 ≡ newcomer domain 2 3 0 → t3 ≡ newcomer domain 3 4 0 → t4 ≡ newcomer domain 4 5 0
     → start ≡ newcomer domain 0 5 (TASKS - 5)
-    → ReaderDid t1 one left_old left_new reads_old reads_new plan reader → RelayDid t2 two relay
+    → ReaderDid t1 one left_old left_new reads_old reads_new targets plan reader → RelayDid t2 two relay
     → WriterDid t3 three held_old held_new writes_old writes_new wants_old wants_new seen_old seen_new writer
     → Controlled t4 fourth
     → ControlEnds t4 fourth answer
@@ -57,9 +58,11 @@ pub ended_of : (domain : TableId) (t1 t2 t3 t4 one two three fourth start old ne
     → Ended domain one two three fourth old new left_old left_new reads_old reads_new held_old held_new writes_old
     writes_new wants_old wants_new seen_old seen_new plan reader relay writer answer tally
 ended_of domain t1 t2 t3 t4 one two three fourth start old new left_old left_new reads_old reads_new held_old held_new
-    writes_old writes_new wants_old wants_new seen_old seen_new plan reader relay writer answer tally e1 e2 e3 e4
-    begins reads relays writes controls ends joined shown found aside = record {
-      reads = subst (λ (k : Known). ReaderDid k one left_old left_new reads_old reads_new plan reader) e1 reads;
+    writes_old writes_new wants_old wants_new seen_old seen_new plan reader relay writer answer tally targets
+    numbers e1 e2 e3 e4 begins reads relays writes controls ends joined shown found aside = record {
+      reads = subst (λ (k : Known). ReaderDid k one left_old left_new reads_old reads_new worker_numbers plan reader) e1
+          (subst (λ (ns : List ℕ). ReaderDid t1 one left_old left_new reads_old reads_new ns plan reader) numbers
+          reads);
       relays = subst (λ (k : Known). RelayDid k two relay) e2 relays;
       writes = subst
           (λ (k : Known). WriterDid k three held_old held_new writes_old writes_new wants_old wants_new seen_old
@@ -72,6 +75,15 @@ ended_of domain t1 t2 t3 t4 one two three fourth start old new left_old left_new
       found = found;
       aside = aside;
     }
+
+-- the numbers of the three workers' tasks
+pub numbers_are : (domain : TableId) (t1 t2 t3 : Known) (one two three : ℕ) → t1 ≡ newcomer domain 1 2 0
+    → t2 ≡ newcomer domain 2 3 0 → t3 ≡ newcomer domain 3 4 0 → one ≡ t1.view.number → two ≡ t2.view.number
+    → three ≡ t3.view.number → one ∷ two ∷ three ∷ [] ≡ worker_numbers
+numbers_are domain t1 t2 t3 one two three e1 e2 e3 n1 n2 n3 =
+    ap (λ (n : ℕ). n ∷ two ∷ three ∷ []) (n1 ∙ ap (λ (k : Known). k.view.number) e1)
+    ∙ (ap (λ (n : ℕ). 1 ∷ n ∷ three ∷ []) (n2 ∙ ap (λ (k : Known). k.view.number) e2)
+    ∙ ap (λ (n : ℕ). 1 ∷ 2 ∷ n ∷ []) (n3 ∙ ap (λ (k : Known). k.view.number) e3))
 
 -- the journal that joined them, by their lists
 four_same : (v a b c d x y z u : Journal) → a ≡ x → b ≡ y → c ≡ z → d ≡ u
@@ -180,10 +192,10 @@ pub ensured : (domain : TableId) (t1 t2 t3 t4 one two three fourth start old new
     (left_old left_new : Option (List ℕ)) (reads_old reads_new : ℕ) (held_old held_new : Option (List ℕ))
     (writes_old writes_new wants_old wants_new : ℕ) (seen_old seen_new : List EntryState) (plan : List Planned)
     (reader : ReaderEnd) (relay writer : WorkerEnd) (answer : Result ℕ BitEnd) (tally : ℕ) (how : Stop)
-    → t1 ≡ newcomer domain 1 2 0
+    (targets : List ℕ) → targets ≡ worker_numbers → t1 ≡ newcomer domain 1 2 0
     → t2 ≡ newcomer domain 2 3 0 → t3 ≡ newcomer domain 3 4 0 → t4 ≡ newcomer domain 4 5 0
     → start ≡ newcomer domain 0 5 (TASKS - 5)
-    → ReaderDid t1 one left_old left_new reads_old reads_new plan reader → RelayDid t2 two relay
+    → ReaderDid t1 one left_old left_new reads_old reads_new targets plan reader → RelayDid t2 two relay
     → WriterDid t3 three held_old held_new writes_old writes_new wants_old wants_new seen_old seen_new writer
     → Controlled t4 fourth
     → ControlEnds t4 fourth answer
@@ -193,11 +205,11 @@ pub ensured : (domain : TableId) (t1 t2 t3 t4 one two three fourth start old new
     → Ensured domain new left_old left_new reads_old reads_new held_old held_new writes_old writes_new wants_old
     wants_new seen_old seen_new plan reader relay writer tally how
 ensured domain t1 t2 t3 t4 one two three fourth start old new left_old left_new reads_old reads_new held_old held_new
-    writes_old writes_new wants_old wants_new seen_old seen_new plan reader relay writer answer tally how e1 e2 e3 e4
-    begins reads relays writes controls ends joined shown found aside stops =
+    writes_old writes_new wants_old wants_new seen_old seen_new plan reader relay writer answer tally how targets
+    numbers e1 e2 e3 e4 begins reads relays writes controls ends joined shown found aside stops =
     let e = ended_of domain t1 t2 t3 t4 one two three fourth start old new left_old left_new reads_old reads_new
     held_old held_new writes_old writes_new wants_old wants_new seen_old seen_new plan reader relay writer answer tally
-    e1 e2 e3 e4 begins reads relays writes controls ends joined shown found aside in
+    targets numbers e1 e2 e3 e4 begins reads relays writes controls ends joined shown found aside in
     record {
       copied = is_copied domain one two three fourth old new left_old left_new reads_old reads_new held_old held_new
           writes_old writes_new wants_old wants_new seen_old seen_new plan reader relay writer answer tally e how stops;

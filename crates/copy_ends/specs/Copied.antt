@@ -1,11 +1,12 @@
 -- To be believed.
 -- What a whole copy did.
-use Rattle.std.specs.Prelude.{ℕ, ◌≡◌, ◌*◌, ◌%◌, ◌^◌, ◌++◌}
+use Rattle.std.specs.Prelude.{ℕ, zero, suc, ◌≡◌, ◌*◌, ◌%◌, ◌^◌, ◌++◌}
 use Rattle.std.specs.Prelude.{Option, Some, Result, Ok, Err, List, [], ◌∷◌, IfSome}
 use Rattle.std.specs.Io.KnownBytes.{append_known, prepend_known}
 use Rattle.atomic_table.specs.Seated.{TableId}
 use Rattle.bit_wait.specs.declared.wait_calls.BitEnd.{BitEnd}
 use Rattle.bit_wait.specs.declared.wait_calls.BitEnd.TheVariants as bit_end
+use Rattle.wait_model.specs.declared.tasks.SleepState.TheVariants as state
 use Rattle.wait_rule.specs.Aside.{Grows}
 use Rattle.wait_rule.specs.Ends.{WasWorn}
 use Rattle.wait_rule.specs.declared.journal.Journal.{Journal}
@@ -13,9 +14,10 @@ use Rattle.wait_rule.specs.Journals.{has_of, joined_with}
 use Rattle.wait_rule.specs.Known.{Known}
 use Rattle.wait_rule.specs.PipeSays.{EndsStay}
 use Rattle.wait_rule.specs.Says.{FindsTally, newcomer}
+use Rattle.completion_cell.specs.AwaitEnds.{EndsAwait}
 use Rattle.edge_io.specs.Text.{HoldsPrefix}
 use Rattle.func_head.specs.Walks.{EntryState}
-use Rattle.copy_plan.specs.declared.TheConstants.{COUNTED_PAGE}
+use Rattle.copy_plan.specs.declared.TheConstants.{COUNTED_PAGE, ENDED_CELL}
 use Rattle.copy_plan.specs.declared.plan.Planned.{Planned}
 use Rattle.copy_plan.specs.declared.stop.ReaderEnd.{ReaderEnd}
 use Rattle.copy_plan.specs.declared.stop.Stop.{Stop}
@@ -46,8 +48,23 @@ abbrev pub IsControlEnd : Known → BitEnd → Type 0
 IsControlEnd new (bit_end.Worn h p) = WasWorn new.view.number new.view.items h p
 IsControlEnd new (bit_end.Interrupted seen) = ⊥
 
+-- It waited for the completion of the copy, uninterruptibly, until it was done, and took one of its count.
+abbrev pub AwaitsWorker : Known → Known → Type 0
+AwaitsWorker old new = EndsAwait old new ENDED_CELL state.Uninterruptible (Ok tt)
+
+-- so many times, one wait after another
+abbrev pub WaitsTimes : ℕ → Known → Known → Type 0
+WaitsTimes zero old new = new ≡ old
+WaitsTimes (suc n) old new = (mid : Known) × WaitsTimes n old mid × AwaitsWorker mid new
+
+-- It waited once for each of the three workers, and read the tally then.
+pub record CountsWorkers (old new : Known) (total : ℕ) : Type 0 where
+  pub waited : Known
+  pub waits : WaitsTimes 3 old waited
+  pub reads : ReadTally waited new total
+
 abbrev pub ControlEnds : Known → Known → Result ℕ BitEnd → Type 0
-ControlEnds old new (Ok total) = ReadTally old new total
+ControlEnds old new (Ok total) = CountsWorkers old new total
 ControlEnds old new (Err e) = IsControlEnd new e
 
 -- the stop of a controller, as that of a worker
@@ -59,6 +76,10 @@ control_stop _ = stop.Finished
 abbrev pub joined_four : Journal → Journal → Journal → Journal → Journal → Journal
 joined_four v a b c d = joined_with (joined_with (joined_with (joined_with v a) b) c) d
 
+-- the numbers of the reader's, the relay's and the writer's task
+abbrev pub worker_numbers : List ℕ
+worker_numbers = 1 ∷ 2 ∷ 3 ∷ []
+
 -- The four tasks of a copy did their work, and their lists stand in the journal of the task that joined them.
 pub record Copied (domain : TableId) (new : Known) (left_old left_new : Option (List ℕ)) (reads_old reads_new : ℕ)
     (held_old held_new : Option (List ℕ)) (writes_old writes_new wants_old wants_new : ℕ)
@@ -68,7 +89,8 @@ pub record Copied (domain : TableId) (new : Known) (left_old left_new : Option (
   pub two : Known
   pub three : Known
   pub four : Known
-  pub reads : ReaderDid (newcomer domain 1 2 0) one left_old left_new reads_old reads_new plan reader
+  pub reads : ReaderDid (newcomer domain 1 2 0) one left_old left_new reads_old reads_new
+      worker_numbers plan reader
   pub relays : RelayDid (newcomer domain 2 3 0) two relay
   pub writes : WriterDid (newcomer domain 3 4 0) three held_old held_new writes_old writes_new wants_old wants_new
       seen_old seen_new writer

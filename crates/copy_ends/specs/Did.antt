@@ -14,12 +14,13 @@ use Rattle.func_head.specs.Walks.{EntryState}
 use Rattle.copy_plan.specs.declared.TheConstants.{ENDED_CELL, SINK_PIPE, SOURCE_PIPE}
 use Rattle.copy_plan.specs.declared.plan.Planned.{Planned}
 use Rattle.copy_plan.specs.declared.stop.ReaderEnd.{ReaderEnd}
+use Rattle.copy_plan.specs.declared.stop.Stop.{Stop}
 use Rattle.copy_plan.specs.declared.stop.WorkerEnd.{WorkerEnd}
 use Rattle.copy_plan.specs.Plans.{fatal_of, up_to}
 use Rattle.copy_plan.specs.Stops.{IfFinished, IfTaken}
-use Rattle.copy_turns.specs.Turns.{IsLong, IsReaderStop, IsRelayStop, IsWriterStop, RaisedFor, SinkRises}
+use Rattle.copy_turns.specs.Turns.{IsLong, IsReaderStop, IsRelayStop, IsWriterStop, RaisedFor, SinkRises, Turns}
 use Rattle.copy_turns.specs.Watched.{Shows}
-use Rattle.copy_turns.specs.Work.{Counted, SignalsStay}
+use Rattle.copy_turns.specs.Work.{Counted, SignalsStay, TookNoKill}
 
 -- A task that is to do the work of a worker owes nothing, and left no entry at the completion of the copy; so it is
 -- afterwards, and its list has grown.
@@ -43,10 +44,20 @@ pub record Refused (k : ℕ) (old new : Known) : Type 0 where
   pub refused : was_refused k new.view.items ≡ true
   pub mine : (end_at k new).mine ≡ (end_at k old).mine
 
+-- It went by turns up to a stop, and took no fatal signal before the first.
+pub record WentBy (old new : Known) (how : Stop) : Type 0 where
+  pub first : Known
+  pub last : Known
+  pub before : Grows old first
+  pub spared : TookNoKill old first
+  pub turns : Turns first last (Some how)
+  pub later : Grows last new
+
 -- A reader. The source gave some bytes, `read` of them, and a front went into the first pipe: all of them, up to the
--- source's end, and each counted, where it finished. It sent the planned signals that were due.
+-- source's end, and each counted, where it finished. It sent the planned signals that were due, as they became due: those
+-- up to 0 at its beginning, and those up to `read` in all.
 pub record ReaderWorked (old new : Known) (left_old left_new : Option (List ℕ)) (faults_old faults_new : ℕ)
-    (plan : List Planned) (ended : ReaderEnd) : Type 0 where
+    (targets : List ℕ) (plan : List Planned) (ended : ReaderEnd) : Type 0 where
   pub served : Served old new
   pub claims : (k : ℕ) → k ≢ write_end SOURCE_PIPE → (end_at k new).mine ≡ (end_at k old).mine
   pub taken : IfTaken ended.stop (Refused (write_end SOURCE_PIPE) old new) ((writing SOURCE_PIPE new).mine ≡ true)
@@ -62,12 +73,13 @@ pub record ReaderWorked (old new : Known) (left_old left_new : Option (List ℕ)
   pub n : ℕ
   pub counted : Counted n old new
   pub counts : IfFinished ended.stop (n ≡ length given)
+  pub signals : IfTaken ended.stop (SignalsStay old new) (RaisedFor old new targets 0 ended.read plan)
   pub due : List Planned
-  pub signals : RaisedFor old new due
   pub dues : IfTaken ended.stop (due ≡ []) (due ≡ up_to ended.read plan)
   pub sends : ended.sent ≡ length due
   pub kills : ended.kills ≡ length (fatal_of due)
   pub long : IsLong (Some ended.stop) ended.read
+  pub turns : IfTaken ended.stop (Unit {0}) (WentBy old new ended.stop)
   pub later : faults_old ≤ faults_new
   pub cause : IfTaken ended.stop (Unit {0}) (IsReaderStop old new (HasRisen faults_old faults_new) ended.stop)
 
@@ -88,6 +100,7 @@ pub record RelayWorked (old new : Known) (ended : WorkerEnd) : Type 0 where
   pub counts : IfFinished ended.stop (n ≡ length (moved_bytes (reading SOURCE_PIPE new)))
   pub moved : ended.moved ≡ n % 2 ^ 64
   pub signals : SignalsStay old new
+  pub turns : IfTaken ended.stop (Unit {0}) (WentBy old new ended.stop)
   pub cause : IfTaken ended.stop (Unit {0}) (IsRelayStop old new ended.stop)
 
 -- A writer. A front of what it got from the second pipe went into the sink, and was shown piece by piece: all of it, up
@@ -108,6 +121,7 @@ pub record WriterWorked (old new : Known) (held_old held_new : Option (List ℕ)
   pub counts : IfFinished ended.stop (n ≡ length front)
   pub moved : ended.moved ≡ n % 2 ^ 64
   pub signals : SignalsStay old new
+  pub turns : IfTaken ended.stop (Unit {0}) (WentBy old new ended.stop)
   pub later : faults_old ≤ faults_new
   pub rises : SinkRises faults_old faults_new wants_old wants_new (Some ended.stop)
   pub cause : IfTaken ended.stop (Unit {0})
@@ -115,8 +129,8 @@ pub record WriterWorked (old new : Known) (held_old held_new : Option (List ℕ)
 
 -- And each of them completed the completion of the copy at its end, however it ended.
 pub record ReaderDid (old new : Known) (left_old left_new : Option (List ℕ)) (faults_old faults_new : ℕ)
-    (plan : List Planned) (ended : ReaderEnd) : Type 0 where
-  pub worked : ReaderWorked old new left_old left_new faults_old faults_new plan ended
+    (targets : List ℕ) (plan : List Planned) (ended : ReaderEnd) : Type 0 where
+  pub worked : ReaderWorked old new left_old left_new faults_old faults_new targets plan ended
   pub completes : Completes old new
 
 pub record RelayDid (old new : Known) (ended : WorkerEnd) : Type 0 where

@@ -92,7 +92,7 @@ pub fatal_length : (ps : List Planned) → length (fatal_of ps) ≤ length ps
 fatal_length [] = omega arith
 fatal_length (p ∷ ps) = let e = most_if p.fatal p (fatal_of ps) (length ps) (fatal_length ps) in omega arith
 
-fatal_append : (xs ys : List Planned) → fatal_of (xs ++ ys) ≡ fatal_of xs ++ fatal_of ys
+pub fatal_append : (xs ys : List Planned) → fatal_of (xs ++ ys) ≡ fatal_of xs ++ fatal_of ys
 fatal_append [] ys = refl
 fatal_append (x ∷ xs) ys = joined_if x.fatal x (fatal_of (xs ++ ys)) (fatal_of xs) (fatal_of ys) (fatal_append xs ys)
 

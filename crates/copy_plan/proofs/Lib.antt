@@ -1,3 +1,4 @@
 pub mod DueParts
 pub mod Dues
+pub mod DueTimes
 pub mod StopKinds

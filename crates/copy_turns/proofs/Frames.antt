@@ -12,6 +12,7 @@ use Rattle.wait_rule.specs.declared.journal.Item.{Item}
 use Rattle.wait_rule.specs.declared.journal.Item.TheVariants as item
 use Rattle.wait_rule.specs.Aside.{Grows, IsAsideItem, raised_by, signals_of}
 use Rattle.wait_rule.specs.HandedPermits.{StaysOff}
+use Rattle.wait_rule.specs.Items.{steps_of}
 use Rattle.wait_rule.specs.Known.{Known}
 use Rattle.wait_rule.specs.Pipes.{end_item, no_end}
 use Rattle.wait_rule.specs.PipeSays.{EndsStay, end_at}
@@ -26,7 +27,7 @@ use Rattle.wait_rule.proofs.TableSteps.ItemLists.{steps_append}
 use Rattle.wait_class.specs.Posts.{IsOut}
 use Rattle.wait_pipe.specs.Pieces.{Rests}
 use Rattle.copy_plan.specs.declared.TheConstants.{ENDED_CELL}
-use Rattle.copy_turns.specs.Work.{Apart, IsAtWork, SumsStay, TookKill, TookNoKill, Works, but_ends}
+use Rattle.copy_turns.specs.Work.{Apart, IsAtWork, SumsStay, TookKill, TookNoKill, TookOwn, Works, but_ends}
 use Rattle.copy_turns.proofs.PartLaws.{grows_then, total_append}
 
 pub signals_append : (xs ys : List Item) → signals_of (xs ++ ys) ≡ signals_of xs ++ signals_of ys
@@ -53,6 +54,11 @@ module _ (old new : Known) (x : Item) (is : new ≡ added old x) where
 
   pub item_off : IsAsideItem x → StaysOff old new
   item_off aside d left = subst (λ (k : Known). StaysOff old k) (sym is) (items_stay_off old x aside) d left
+
+  pub item_spared : total takes_fatal (steps_of (x ∷ [])) ≡ 0 → TookNoKill old new
+  item_spared none = ap (λ (k : Known). total takes_fatal (history_of k)) is
+      ∙ (ap (total takes_fatal) (steps_append old.view.items (x ∷ []))
+      ∙ (total_append takes_fatal (history_of old) (steps_of (x ∷ [])) ∙ omega (arith, none)))
 
 -- what is carried on as it was
 module _ (old new : Known) (c : Carries unchanged old new) where
@@ -133,6 +139,24 @@ pub accepted_spared : (old new : Known) (r : Taken)
 accepted_spared old new r a ne = accepted_none old new (λ found. r ≡ taken_of (task_of found)) a
     (not_taken (task_of a.0).fatal (task_of a.0).signal r a.3 ne)
 
+pub accepted_own_kill : (old new : Known) (r : Taken)
+    → AddsOf old new (λ found. step.Accept found) (λ found. r ≡ taken_of (task_of found)) → r ≡ taken.Fatal
+    → TookOwn old new true
+accepted_own_kill old new r a is = record {
+  found = a.0;
+  took = a.2;
+  shows = fatal_taken (task_of a.0).fatal (task_of a.0).signal (sym is ∙ a.3);
+}
+
+pub accepted_own_none : (old new : Known) (r : Taken)
+    → AddsOf old new (λ found. step.Accept found) (λ found. r ≡ taken_of (task_of found)) → r ≢ taken.Fatal
+    → TookOwn old new false
+accepted_own_none old new r a ne = record {
+  found = a.0;
+  took = a.2;
+  shows = not_taken (task_of a.0).fatal (task_of a.0).signal r a.3 ne;
+}
+
 -- a signal that it sends
 module _ (old new : Known) (who : ℕ) (fatal : Bool) (s : HasSignalled old new who fatal) where
   abbrev raise : Item
@@ -151,6 +175,10 @@ module _ (old new : Known) (who : ℕ) (fatal : Bool) (s : HasSignalled old new 
       let e = item_sum old (added old raise) raise refl p in
       let f = item_sum (added old raise) new (item.Made (step.Wake who _ s.1)) s.4 p in
       omega arith
+
+  pub sent_spared : TookNoKill old new
+  sent_spared = item_spared (added old raise) new (item.Made (step.Wake who _ s.1)) s.4 refl
+      ∙ item_spared old (added old raise) raise refl refl
 
   pub sent_signals : signals_of new.view.items ≡ signals_of old.view.items
       ++ (record { who = who; fatal = fatal } ∷ [])

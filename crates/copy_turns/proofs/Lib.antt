@@ -1,3 +1,4 @@
+pub mod Begins
 pub mod Frames
 pub mod PartLaws
 pub mod Pieces

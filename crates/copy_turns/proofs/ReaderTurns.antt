@@ -7,10 +7,7 @@ use Rattle.std.specs.Prelude.{
   ◌<◌,
   ◌≤◌,
   ◌++◌,
-  Bool,
-  true,
   false,
-  if◌then◌else◌,
   List,
   [],
   ◌∷◌,
@@ -24,7 +21,7 @@ use Rattle.std.specs.Prelude.{
 use Rattle.std.proofs.lemmas.List.{length-take-le}
 use Rattle.std.specs.Io.KnownBytes.{prepend_known}
 use Rattle.edge_io.specs.Faults.{HasRisen}
-use Rattle.wait_rule.specs.Aside.{Grows, Raised, signals_of}
+use Rattle.wait_rule.specs.Aside.{Grows, signals_of}
 use Rattle.wait_rule.specs.Known.{Known}
 use Rattle.wait_rule.specs.Pipes.{write_end}
 use Rattle.wait_rule.specs.PipeSays.{EndsStay, writing}
@@ -35,18 +32,20 @@ use Rattle.copy_plan.specs.declared.stop.Halt.{Halt}
 use Rattle.copy_plan.specs.declared.stop.Halt.TheVariants as halt
 use Rattle.copy_plan.specs.declared.stop.Stop.{Stop}
 use Rattle.copy_plan.specs.declared.stop.Stop.TheVariants as stop
-use Rattle.copy_plan.specs.Plans.{due_in, fatal_of}
-use Rattle.copy_turns.specs.Raises.{kills_in, sent_to}
+use Rattle.copy_plan.specs.Plans.{due_at, due_in}
+use Rattle.copy_turns.specs.Raises.{sent_to}
 use Rattle.copy_plan.specs.Stops.{stop_of}
-use Rattle.copy_turns.specs.Turns.{HandedAll, HandedFront, IfEnded, IsLong, IsReaderStop, RaisedFor, Reading}
-use Rattle.copy_turns.specs.Work.{Apart, IsAtWork, IsHalt, SignalsStay, SumsStay, Works}
-use Rattle.copy_plan.proofs.Dues.{due_none, due_split, kills_split}
+use Rattle.copy_turns.specs.Turns.{HandedAll, HandedFront, IfEnded, IsLong, IsReaderStop, RaisedFor, Reading, Turns}
+use Rattle.copy_turns.specs.Work.{Apart, IsAtWork, IsHalt, SignalsStay, SumsStay, TookOwn, Works}
+use Rattle.copy_plan.proofs.DueTimes.{due_at_then, rises_then}
+use Rattle.copy_turns.proofs.Begins.{begun, turn_on, turn_stops, turns_none, turns_then}
 use Rattle.copy_turns.proofs.PartLaws.{
   counted_none,
   counted_same,
   counted_then,
   ends_moved,
   ends_then,
+  grows_then,
   halt_before,
   moved_none,
   moved_ends,
@@ -57,7 +56,7 @@ use Rattle.copy_turns.proofs.PartLaws.{
   works_same,
   works_then,
 }
-use Rattle.copy_turns.proofs.Sends.{Sends, sent_kills, sent_length}
+use Rattle.copy_turns.proofs.Sends.{Sends, sent_append}
 use Rattle.copy_turns.proofs.Stopping.{finished, halted_whole, stopped_map, whole_map}
 
 pub prepend_twice : (a b : List ℕ) (known : Option (List ℕ))
@@ -70,53 +69,38 @@ prepend_none None = refl
 prepend_none (Some xs) = refl
 
 -- signals that were raised for a plan
-pub raised_none : (a b : Known) (due : List Planned) → SignalsStay a b → due ≡ [] → RaisedFor a b due
-raised_none a b due same none = record {
-  raised = [];
+pub raised_none : (a b : Known) (targets : List ℕ) (r : ℕ) (plan : List Planned) → SignalsStay a b
+    → RaisedFor a b targets (r + 1) r plan
+raised_none a b targets r plan same = record {
+  times = [];
+  rise = refl;
   all = same ∙ sym (append-nil (signals_of a.view.items));
-  sent = sym (ap length none);
-  kills = sym (ap (λ l. length (fatal_of l)) none);
 }
 
-pub raised_sends : (a b c d : Known) (targets : List ℕ) (due : List Planned) → SignalsStay a b
-    → Sends b c (sent_to targets due) → SignalsStay c d → RaisedFor a d due
-raised_sends a b c d targets due one two three = record {
-  raised = sent_to targets due;
-  all = three ∙ (two.signals ∙ ap (λ l. l ++ sent_to targets due) one);
-  sent = sent_length targets due;
-  kills = sent_kills targets due;
+pub raised_sends : (a b c d : Known) (targets : List ℕ) (from to : ℕ) (plan : List Planned) → from ≤ to
+    → SignalsStay a b → Sends b c (sent_to targets (due_in from to plan)) → SignalsStay c d
+    → RaisedFor a d targets from to plan
+raised_sends a b c d targets from to plan low one two three = record {
+  times = to ∷ [];
+  rise = (low, refl);
+  all = three ∙ (two.signals ∙ (ap (λ l. l ++ sent_to targets (due_in from to plan)) one
+      ∙ ap (λ ps. signals_of a.view.items ++ sent_to targets ps) (sym (append-nil (due_in from to plan)))));
 }
 
-kills_append : (xs ys : List Raised) → length (kills_in (xs ++ ys)) ≡ length (kills_in xs) + length (kills_in ys)
-kills_append [] ys = omega arith
-kills_append (x ∷ xs) ys = by x.fatal (kills_append xs ys)
-  where
-    by : (b : Bool) → length (kills_in (xs ++ ys)) ≡ length (kills_in xs) + length (kills_in ys)
-        → length (if b then x ∷ kills_in (xs ++ ys) else kills_in (xs ++ ys))
-        ≡ length (if b then x ∷ kills_in xs else kills_in xs) + length (kills_in ys)
-    by true e = omega arith
-    by false e = omega arith
-
-pub raised_then : (a b c : Known) (from mid to : ℕ) (plan : List Planned) → from ≤ mid + 1 → mid ≤ to
-    → RaisedFor a b (due_in from mid plan) → RaisedFor b c (due_in (mid + 1) to plan)
-    → RaisedFor a c (due_in from to plan)
-raised_then a b c from mid to plan low high one two = record {
-  raised = one.raised ++ two.raised;
-  all = two.all ∙ (ap (λ l. l ++ two.raised) one.all
-      ∙ append_assoc (signals_of a.view.items) one.raised two.raised);
-  sent =
-      let s = due_split from mid to low high plan in
-      let l = length-append one.raised two.raised in
-      let e = one.sent in
-      let f = two.sent in
-      omega arith;
-  kills =
-      let s = kills_split from mid to low high plan in
-      let l = kills_append one.raised two.raised in
-      let e = one.kills in
-      let f = two.kills in
-      omega arith;
-}
+pub raised_then : (a b c : Known) (targets : List ℕ) (from mid to : ℕ) (plan : List Planned)
+    → RaisedFor a b targets from mid plan → RaisedFor b c targets (mid + 1) to plan
+    → RaisedFor a c targets from to plan
+raised_then a b c targets from mid to plan one two =
+    let xs = due_at from one.times plan in
+    let ys = due_at (mid + 1) two.times plan in
+    record {
+      times = one.times ++ two.times;
+      rise = rises_then from one.times two.times mid to one.rise two.rise;
+      all = two.all ∙ (ap (λ l. l ++ sent_to targets ys) one.all
+          ∙ (append_assoc (signals_of a.view.items) (sent_to targets xs) (sent_to targets ys)
+          ∙ ap (λ l. signals_of a.view.items ++ l) (sym (sent_append targets xs ys)
+          ∙ ap (sent_to targets) (sym (due_at_then from one.times two.times mid one.rise plan)))));
+    }
 
 -- why a reader stopped, told from an earlier moment
 pub reader_before : (a b c : Known) (f0 f1 f2 : ℕ) → Grows a b → f0 ≤ f1 → (how : Stop)
@@ -148,9 +132,10 @@ halt_long halt.Killed n few = few
 halt_long (halt.Worn h p) n few = few
 
 -- no turn at all
-pub reading_none : (k : Known) (left : Option (List ℕ)) (f r : ℕ) (plan : List Planned) → IsAtWork k
-    → IsSettled (writing SOURCE_PIPE k) → r ≤ LONGEST → Reading k k left left f f r r plan None
-reading_none k left f r plan work settled few = record {
+pub reading_none : (k : Known) (left : Option (List ℕ)) (f r : ℕ) (targets : List ℕ) (plan : List Planned)
+    → IsAtWork k → IsSettled (writing SOURCE_PIPE k) → r ≤ LONGEST
+    → Reading k k left left f f r r targets plan None
+reading_none k left f r targets plan work settled few = record {
   works = works_same k work;
   given = [];
   front = [];
@@ -164,19 +149,21 @@ reading_none k left f r plan work settled few = record {
   n = 0;
   counted = counted_same k;
   counts = refl;
-  signals = raised_none k k (due_in (r + 1) r plan) refl (due_none (r + 1) r (omega arith) plan);
+  signals = raised_none k k targets r plan refl;
   long = few;
+  turns = turns_none k;
   later = omega arith;
   cause = tt;
 }
 
 -- some turns, and then others
-module _ (a b c : Known) (l0 l1 l2 : Option (List ℕ)) (f0 f1 f2 r0 r1 r2 : ℕ) (plan : List Planned) (how : Option Stop)
-    (one : Reading a b l0 l1 f0 f1 r0 r1 plan None) (two : Reading b c l1 l2 f1 f2 r1 r2 plan how) where
+module _ (a b c : Known) (l0 l1 l2 : Option (List ℕ)) (f0 f1 f2 r0 r1 r2 : ℕ) (targets : List ℕ) (plan : List Planned)
+    (how : Option Stop) (one : Reading a b l0 l1 f0 f1 r0 r1 targets plan None)
+    (two : Reading b c l1 l2 f1 f2 r1 r2 targets plan how) where
   given_front : one.given ≡ one.front
   given_front = one.parts ∙ (ap (λ l. one.front ++ l) one.all ∙ append-nil one.front)
 
-  pub reading_then : Reading a c l0 l2 f0 f2 r0 r2 plan how
+  pub reading_then : Reading a c l0 l2 f0 f2 r0 r2 targets plan how
   reading_then =
       let e = one.read in
       let f = two.read in
@@ -197,21 +184,23 @@ module _ (a b c : Known) (l0 l1 l2 : Option (List ℕ)) (f0 f1 f2 r0 r1 r2 : ℕ
         counted = counted_then one.n two.n a b c one.counted two.counted;
         counts = whole_map how (two.n ≡ length two.given) (one.n + two.n ≡ length (one.given ++ two.given))
             (λ x. let y : one.n ≡ length one.given = one.counts in omega arith) two.counts;
-        signals = raised_then a b c (r0 + 1) r1 r2 plan (omega arith) (omega arith) one.signals two.signals;
+        signals = raised_then a b c targets (r0 + 1) r1 r2 plan one.signals two.signals;
         long = two.long;
+        turns = turns_then a b c how one.turns two.turns;
         later = let x = one.later in let y = two.later in omega arith;
         cause = stopped_map how (IsReaderStop b c (HasRisen f1 f2)) (IsReaderStop a c (HasRisen f0 f2))
             (reader_before a b c f0 f1 f2 one.works.grows one.later) two.cause;
       }
 
 -- A turn in which the source gave nothing.
-module _ (a b : Known) (l0 l1 : Option (List ℕ)) (f0 f1 r : ℕ) (plan : List Planned)
+module _ (a b : Known) (l0 l1 : Option (List ℕ)) (f0 f1 r : ℕ) (targets : List ℕ) (plan : List Planned)
     (settled : IsSettled (writing SOURCE_PIPE a)) (apart : Apart a b) (left : l0 ≡ prepend_known [] l1)
     (later : f0 ≤ f1)
   where
     pub read_nothing : (how : Stop) → IsLong (Some how) r → IfEnded (Some how) (IfSome l1 (λ bytes. bytes ≡ []))
-        → IsReaderStop a b (HasRisen f0 f1) how → Reading a b l0 l1 f0 f1 r r plan (Some how)
-    read_nothing how long whole cause = record {
+        → IsReaderStop a b (HasRisen f0 f1) how → Turns a b (Some how)
+        → Reading a b l0 l1 f0 f1 r r targets plan (Some how)
+    read_nothing how long whole cause turns = record {
       works = apart.works;
       given = [];
       front = [];
@@ -225,17 +214,21 @@ module _ (a b : Known) (l0 l1 : Option (List ℕ)) (f0 f1 r : ℕ) (plan : List 
       n = 0;
       counted = counted_none a b apart.sums;
       counts = finished how (0 ≡ 0) refl;
-      signals = raised_none a b (due_in (r + 1) r plan) apart.signals (due_none (r + 1) r (omega arith) plan);
+      signals = raised_none a b targets r plan apart.signals;
       long = long;
+      turns = turns;
       later = later;
       cause = cause;
     }
 
 -- A turn in which it gave some bytes, and the signals were sent that were due then.
-module _ (a b c : Known) (l0 l1 : Option (List ℕ)) (f0 f1 r s : ℕ) (plan : List Planned) (targets : List ℕ)
+module _ (a b c : Known) (l0 l1 : Option (List ℕ)) (f0 f1 r s : ℕ) (targets : List ℕ) (plan : List Planned)
     (bytes : List ℕ) (settled : IsSettled (writing SOURCE_PIPE a)) (apart : Apart a b)
-    (left : l0 ≡ prepend_known bytes l1) (later : f0 ≤ f1) (read : s ≡ r + length bytes)
+    (own : TookOwn a b false) (left : l0 ≡ prepend_known bytes l1) (later : f0 ≤ f1) (read : s ≡ r + length bytes) (some : r < s)
     (sends : Sends b c (sent_to targets (due_in (r + 1) s plan))) where
+  low : r + 1 ≤ s
+  low = omega (arith, some)
+
   sent_works_all : Works a c
   sent_works_all = works_then a b c apart.works sends.works
 
@@ -245,7 +238,7 @@ module _ (a b c : Known) (l0 l1 : Option (List ℕ)) (f0 f1 r s : ℕ) (plan : L
   sent_sums_all : SumsStay a c
   sent_sums_all = sums_then a b c apart.sums sends.sums
 
-  pub read_long : LONGEST < s → Reading a c l0 l1 f0 f1 r s plan (Some stop.Long)
+  pub read_long : LONGEST < s → Reading a c l0 l1 f0 f1 r s targets plan (Some stop.Long)
   read_long long = record {
     works = sent_works_all;
     given = bytes;
@@ -260,14 +253,15 @@ module _ (a b c : Known) (l0 l1 : Option (List ℕ)) (f0 f1 r s : ℕ) (plan : L
     n = 0;
     counted = counted_none a c sent_sums_all;
     counts = tt;
-    signals = raised_sends a b c c targets (due_in (r + 1) s plan) apart.signals sends refl;
+    signals = raised_sends a b c c targets (r + 1) s plan low apart.signals sends refl;
     long = long;
+    turns = turn_stops a c stop.Long (begun a b c own sends.works.grows);
     later = later;
     cause = tt;
   }
 
   module _ (d : Known) (few : s ≤ LONGEST) where
-    pub read_on : HandedAll (write_end SOURCE_PIPE) c d bytes → Reading a d l0 l1 f0 f1 r s plan None
+    pub read_on : HandedAll (write_end SOURCE_PIPE) c d bytes → Reading a d l0 l1 f0 f1 r s targets plan None
     read_on h = record {
       works = works_then a c d sent_works_all h.works;
       given = bytes;
@@ -282,14 +276,15 @@ module _ (a b c : Known) (l0 l1 : Option (List ℕ)) (f0 f1 r s : ℕ) (plan : L
       n = length bytes;
       counted = sums_counted (length bytes) a c d sent_sums_all h.counted;
       counts = refl;
-      signals = raised_sends a b c d targets (due_in (r + 1) s plan) apart.signals sends h.signals;
+      signals = raised_sends a b c d targets (r + 1) s plan low apart.signals sends h.signals;
       long = few;
+      turns = turn_on a d (begun a b d own (grows_then b c d sends.works.grows h.works.grows));
       later = later;
       cause = tt;
     }
 
     pub read_halted : (how : Halt) → HandedFront (write_end SOURCE_PIPE) c d bytes how
-        → Reading a d l0 l1 f0 f1 r s plan (Some (stop_of how))
+        → Reading a d l0 l1 f0 f1 r s targets plan (Some (stop_of how))
     read_halted how h = record {
       works = works_then a c d sent_works_all h.works;
       given = bytes;
@@ -304,8 +299,10 @@ module _ (a b c : Known) (l0 l1 : Option (List ℕ)) (f0 f1 r s : ℕ) (plan : L
       n = 0;
       counted = counted_none a d (sums_then a c d sent_sums_all h.sums);
       counts = halted_whole how (0 ≡ length bytes);
-      signals = raised_sends a b c d targets (due_in (r + 1) s plan) apart.signals sends h.signals;
+      signals = raised_sends a b c d targets (r + 1) s plan low apart.signals sends h.signals;
       long = halt_long how s few;
+      turns = turn_stops a d (stop_of how)
+          (begun a b d own (grows_then b c d sends.works.grows h.works.grows));
       later = later;
       cause = halt_reads a d (HasRisen f0 f1) how
           (halt_before (write_end SOURCE_PIPE) a c d how sent_works_all.grows h.cause);

@@ -1,37 +1,18 @@
 -- What sends of planned signals have raised so far.
-use Rattle.std.proofs.Common.{refl, sym, ◌∙◌, ap, subst, append-nil, append_assoc, length-append, arith}
+use Rattle.std.proofs.Common.{refl, sym, ◌∙◌, ap, subst, append-nil, append_assoc, arith}
 use Rattle.std.proofs.lemmas.List.{take_more}
-use Rattle.std.specs.Prelude.{
-  ℕ,
-  ◌≡◌,
-  ◌≤◌,
-  ◌<◌,
-  ◌+◌,
-  ◌++◌,
-  ◌&&◌,
-  Bool,
-  true,
-  false,
-  if◌then◌else◌,
-  nat_le,
-  List,
-  [],
-  ◌∷◌,
-  length,
-  take,
-  get_or,
-}
+use Rattle.std.specs.Prelude.{ℕ, ◌≡◌, ◌≤◌, ◌<◌, ◌+◌, ◌++◌, Bool, true, false, if◌then◌else◌, List, [], ◌∷◌, length, take, get_or}
 use Rattle.wait_rule.specs.Aside.{Raised, signals_of}
 use Rattle.wait_rule.specs.Known.{Known}
 use Rattle.wait_rule.specs.PipeSays.{EndsStay}
 use Rattle.wait_rule.specs.Says.{HasSignalled}
 use Rattle.wait_rule.specs.Stays.{Carries, unchanged}
-use Rattle.copy_turns.proofs.Frames.{sent_ends, sent_signals, sent_sums, sent_works}
+use Rattle.copy_turns.proofs.Frames.{sent_ends, sent_signals, sent_spared, sent_sums, sent_works}
 use Rattle.copy_plan.specs.declared.plan.Planned.{Planned}
 use Rattle.copy_plan.proofs.DueParts.{due_passed_before, due_passed_behind, due_taken}
 use Rattle.copy_plan.specs.Plans.{due_in, fatal_of, target_of}
 use Rattle.copy_turns.specs.Raises.{kills_in, raised_for, sent_to}
-use Rattle.copy_turns.specs.Work.{IsAtWork, SumsStay, Works}
+use Rattle.copy_turns.specs.Work.{IsAtWork, SumsStay, TookNoKill, Works}
 use Rattle.copy_turns.proofs.PartLaws.{ends_then, sums_then, works_same, works_then}
 
 -- signals that were raised, and nothing else done
@@ -39,6 +20,7 @@ pub record Sends (old new : Known) (raised : List Raised) : Type 0 where
   pub works : Works old new
   pub ends : EndsStay old new
   pub sums : SumsStay old new
+  pub spared : TookNoKill old new
   pub signals : signals_of new.view.items ≡ signals_of old.view.items ++ raised
 
 pub sends_none : (k : Known) → IsAtWork k → Sends k k []
@@ -46,6 +28,7 @@ sends_none k work = record {
   works = works_same k work;
   ends = λ j. refl;
   sums = λ p. refl;
+  spared = refl;
   signals = sym (append-nil (signals_of k.view.items));
 }
 
@@ -54,6 +37,7 @@ sends_then a b c xs ys one two = record {
   works = works_then a b c one.works two.works;
   ends = ends_then a b c one.ends two.ends;
   sums = sums_then a b c one.sums two.sums;
+  spared = two.spared ∙ one.spared;
   signals = two.signals ∙ (ap (λ l. l ++ ys) one.signals ∙ append_assoc (signals_of a.view.items) xs ys);
 }
 
@@ -62,7 +46,7 @@ length_if : {A B : Type 0} (b : Bool) (x : A) (y : B) (xs : List A) (ys : List B
 length_if true x y xs ys e = omega arith
 length_if false x y xs ys e = e
 
-sent_append : (targets : List ℕ) (xs ys : List Planned) → sent_to targets (xs ++ ys)
+pub sent_append : (targets : List ℕ) (xs ys : List Planned) → sent_to targets (xs ++ ys)
     ≡ sent_to targets xs ++ sent_to targets ys
 sent_append targets [] ys = refl
 sent_append targets (x ∷ xs) ys = ap (λ l. raised_for targets x ∷ l) (sent_append targets xs ys)
@@ -104,6 +88,7 @@ module _ (ps : List Planned) (i : ℕ) (d : Planned) (within : i < length ps) wh
           works = sent_works b c who p.fatal s carries sends.works.work;
           ends = sent_ends b c who p.fatal s;
           sums = sent_sums b c who p.fatal s;
+          spared = sent_spared b c who p.fatal s;
           signals = sent_signals b c who p.fatal s ∙ ap (λ (n : ℕ). signals_of b.view.items
               ++ record { who = n; fatal = p.fatal } ∷ []) target;
         }))

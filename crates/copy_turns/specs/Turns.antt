@@ -1,10 +1,10 @@
 -- To be believed.
 -- What the turns of workers do, one after another: up to a turn after which the worker goes on, or to its stop.
-use Rattle.std.specs.Prelude.{ℕ, ◌≡◌, ◌≢◌, ◌+◌, ◌%◌, ◌^◌, ◌/◌, ◌<◌, ◌≤◌, ◌++◌, List, [], length}
-use Rattle.std.specs.Prelude.{true, Option, None, Some, IfSome}
+use Rattle.std.specs.Prelude.{ℕ, ◌≡◌, ◌≢◌, ◌+◌, ◌%◌, ◌^◌, ◌/◌, ◌<◌, ◌≤◌, ◌++◌, ◌⊎◌, List, [], ◌∷◌, length}
+use Rattle.std.specs.Prelude.{true, false, Option, None, Some, IfSome}
 use Rattle.std.specs.Io.KnownBytes.{append_known, prepend_known}
 use Rattle.wait_model.specs.declared.layout.TheConstants.{PIPE_ENDS}
-use Rattle.wait_rule.specs.Aside.{Raised, signals_of}
+use Rattle.wait_rule.specs.Aside.{Grows, signals_of}
 use Rattle.wait_rule.specs.Ends.{WasWorn}
 use Rattle.wait_rule.specs.Known.{Known}
 use Rattle.wait_rule.specs.Pipes.{moved_bytes, read_end, write_end}
@@ -17,11 +17,11 @@ use Rattle.copy_plan.specs.declared.plan.Planned.{Planned}
 use Rattle.copy_plan.specs.declared.stop.Halt.{Halt}
 use Rattle.copy_plan.specs.declared.stop.Stop.{Stop}
 use Rattle.copy_plan.specs.declared.stop.Stop.TheVariants as stop
-use Rattle.copy_plan.specs.Plans.{due_in, fatal_of}
-use Rattle.copy_turns.specs.Raises.{kills_in}
+use Rattle.copy_plan.specs.Plans.{Rises, due_at}
 use Rattle.copy_plan.specs.Stops.{IfFinished}
+use Rattle.copy_turns.specs.Raises.{sent_to}
 use Rattle.copy_turns.specs.Watched.{Shows}
-use Rattle.copy_turns.specs.Work.{Counted, IsHalt, SignalsStay, SumsStay, TookKill, Works}
+use Rattle.copy_turns.specs.Work.{Counted, IsHalt, SignalsStay, SumsStay, TookKill, TookOwn, Works}
 
 -- All of a piece was put into the pipe of end k and counted; or a front of it was put, and nothing counted.
 pub record HandedAll (k : ℕ) (old new : Known) (bytes : List ℕ) : Type 0 where
@@ -82,17 +82,42 @@ IsReaderStop old new risen stop.Long = Unit {0}
 IsReaderStop old new risen (stop.Worn h p) = WasWorn new.view.number new.view.items h p
 IsReaderStop old new risen _ = ⊥
 
--- signals that were raised, as many as are due, and as many fatal ones
-pub record RaisedFor (old new : Known) (due : List Planned) : Type 0 where
-  pub raised : List Raised
-  pub all : signals_of new.view.items ≡ signals_of old.view.items ++ raised
-  pub sent : length raised ≡ length due
-  pub kills : length (kills_in raised) ≡ length (fatal_of due)
+-- A turn begins with a take of the own signals, and none of them is fatal.
+pub record Begun (old new : Known) : Type 0 where
+  pub spared : Known
+  pub own : TookOwn old spared false
+  pub later : Grows spared new
+
+-- turns one after another, of which each but the first begins at one of the moments, and the last ends at `new`
+abbrev pub AreTurns : Known → List Known → Known → Type 0
+AreTurns old [] new = new ≡ old
+AreTurns old (k ∷ ks) new = Begun old k × AreTurns k ks new
+
+-- The turn at which a worker stops begins so too; where a fatal signal was among its own ones nothing else is done in
+-- it, and the worker stops as Killed.
+abbrev pub EndsTurns : Option Stop → Known → Known → Type 0
+EndsTurns None old new = new ≡ old
+EndsTurns (Some stop.Killed) old new = TookOwn old new true ⊎ Begun old new
+EndsTurns (Some how) old new = Begun old new
+
+-- Turns of a worker: some after which it went on, and where it stopped the one at which it did.
+pub record Turns (old new : Known) (how : Option Stop) : Type 0 where
+  pub moments : List Known
+  pub last : Known
+  pub turns : AreTurns old moments last
+  pub ends : EndsTurns how last new
+
+-- The signals of a plan that became due while the source gave bytes, from one number of them to another: at numbers that
+-- rose, those that were due then were raised, in the order of the plan, each at the task of its worker, and no other.
+pub record RaisedFor (old new : Known) (targets : List ℕ) (from to : ℕ) (plan : List Planned) : Type 0 where
+  pub times : List ℕ
+  pub rise : Rises from times to
+  pub all : signals_of new.view.items ≡ signals_of old.view.items ++ sent_to targets (due_at from times plan)
 
 -- Turns of a reader. The source gave some bytes, of which a front went into the pipe, and n were counted; the signals
 -- that became due were sent.
 pub record Reading (old new : Known) (left_old left_new : Option (List ℕ)) (faults_old faults_new : ℕ)
-    (read_old read_new : ℕ) (plan : List Planned) (how : Option Stop) : Type 0 where
+    (read_old read_new : ℕ) (targets : List ℕ) (plan : List Planned) (how : Option Stop) : Type 0 where
   pub works : Works old new
   pub given : List ℕ
   pub front : List ℕ
@@ -106,8 +131,9 @@ pub record Reading (old new : Known) (left_old left_new : Option (List ℕ)) (fa
   pub n : ℕ
   pub counted : Counted n old new
   pub counts : IfWhole how (n ≡ length given)
-  pub signals : RaisedFor old new (due_in (read_old + 1) read_new plan)
+  pub signals : RaisedFor old new targets (read_old + 1) read_new plan
   pub long : IsLong how read_new
+  pub turns : Turns old new how
   pub later : faults_old ≤ faults_new
   pub cause : IfStopped how (IsReaderStop old new (HasRisen faults_old faults_new))
 
@@ -137,6 +163,7 @@ pub record Relaying (old new : Known) (moved_old moved_new : ℕ) (how : Option 
   pub counts : IfWhole how (n ≡ length got)
   pub sum : moved_new ≡ (moved_old + n) % 2 ^ 64
   pub signals : SignalsStay old new
+  pub turns : Turns old new how
   pub cause : IfStopped how (IsRelayStop old new)
 
 -- Why a writer stops before the end of the second pipe. The sink's counts of faults and of wants have risen in the
@@ -176,6 +203,7 @@ pub record Writing (old new : Known) (held_old held_new : Option (List ℕ)) (fa
   pub counts : IfWhole how (n ≡ length got)
   pub sum : moved_new ≡ (moved_old + n) % 2 ^ 64
   pub signals : SignalsStay old new
+  pub turns : Turns old new how
   pub later : faults_old ≤ faults_new
   pub rises : SinkRises faults_old faults_new wants_old wants_new how
   pub cause : IfStopped how (IsWriterStop old new (HasRisen faults_old faults_new) (HasRisen wants_old wants_new))

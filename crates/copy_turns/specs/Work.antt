@@ -1,9 +1,12 @@
 -- To be believed.
 -- A worker between two parts of its turns, and what each part leaves as it was.
-use Rattle.std.specs.Prelude.{ℕ, ◌≡◌, ◌≢◌, ◌+◌, ◌<◌, true}
+use Rattle.std.specs.Prelude.{ℕ, ◌≡◌, ◌≢◌, ◌+◌, ◌<◌, Bool, true}
+use Rattle.wait_model.specs.declared.steps.Step.TheVariants as step
 use Rattle.wait_model.specs.SignalCounts.{takes_fatal}
+use Rattle.wait_model.specs.Tasks.{task_of}
 use Rattle.wait_model.specs.Totals.{total}
 use Rattle.wait_model.specs.Watches.{page}
+use Rattle.wait_rule.specs.declared.journal.Item.TheVariants as item
 use Rattle.wait_rule.specs.Aside.{Grows, signals_of}
 use Rattle.wait_rule.specs.Bits.{KeepsBitOf}
 use Rattle.wait_rule.specs.Ends.{WasWorn}
@@ -11,7 +14,7 @@ use Rattle.wait_rule.specs.LeftEntries.{LeftOff}
 use Rattle.wait_rule.specs.Known.{Known}
 use Rattle.wait_rule.specs.PipeSays.{EndsStay, end_at}
 use Rattle.wait_rule.specs.Queues.{IsIdle}
-use Rattle.wait_rule.specs.Says.{Excuse, IsUp, Owes, history_of, no_excuse}
+use Rattle.wait_rule.specs.Says.{Excuse, IsUp, Owes, added, history_of, no_excuse}
 use Rattle.wait_rule.specs.Stays.{with_bit}
 use Rattle.wait_rule.specs.Tallies.{amounts_of}
 use Rattle.wait_class.specs.Posts.{IsOut}
@@ -68,6 +71,12 @@ TookKill old new = total takes_fatal (history_of old) < total takes_fatal (histo
 -- and it took none
 abbrev pub TookNoKill : Known → Known → Type 0
 TookNoKill old new = total takes_fatal (history_of new) ≡ total takes_fatal (history_of old)
+
+-- As its next step it took its own signals: whether a fatal one was pending.
+pub record TookOwn (old new : Known) (fatal : Bool) : Type 0 where
+  pub found : ℕ
+  pub took : new ≡ added old (item.Made (step.Accept found))
+  pub shows : (task_of found).fatal ≡ fatal
 
 -- It has locked the page of the copy, and but for that it is as it was.
 pub record Locks (old new : Known) : Type 0 where

@@ -5,7 +5,7 @@ ghost use Rattle.wait_rule.specs.Aside.{signals_of};
 ghost use Rattle.wait_rule.specs.PipeSays.{EndsStay};
 ghost use Rattle.copy_plan.specs.Plans.{due_in};
 ghost use Rattle.copy_turns.specs.Raises.{sent_to};
-ghost use Rattle.copy_turns.specs.Work.{Apart, IsAtWork, SumsStay, TookKill, TookNoKill, Works};
+ghost use Rattle.copy_turns.specs.Work.{Apart, IsAtWork, SumsStay, TookKill, TookNoKill, TookOwn, Works};
 
 use copy_plan::Planned;
 use copy_plan::plan::target_of;
@@ -19,6 +19,7 @@ pub fn is_killed(domain: &Domain, task: &mut Task) -> bool
     requires of { task.old.domain ≡ domain.now }
     requires work { IsAtWork task.old }
     ensures apart { Apart task.old task.new }
+    ensures own { TookOwn task.old task.new result }
     ensures killed { MatchBool result (TookKill task.old task.new) (TookNoKill task.old task.new) }
 {
     match take_signal(domain, task) {
@@ -43,6 +44,7 @@ pub fn send_due<R: Wait>(
     ensures works { Works task.old task.new }
     ensures ends { EndsStay task.old task.new }
     ensures sums { SumsStay task.old task.new }
+    ensures spared { TookNoKill task.old task.new }
     ensures signals { signals_of task.new.view.items
         ≡ signals_of task.old.view.items ++ sent_to targets (due_in from to plan.now) }
 {

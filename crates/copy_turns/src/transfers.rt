@@ -5,6 +5,7 @@ ghost use Rattle.wait_model.specs.declared.layout.TheConstants.{PIPES};
 ghost use Rattle.wait_rule.specs.Pipes.{read_end, write_end};
 ghost use Rattle.wait_rule.specs.PipeSays.{reading, writing};
 ghost use Rattle.wait_pipe.specs.Pieces.{IsAtEnd, IsSettled};
+ghost use Rattle.copy_plan.specs.declared.TheConstants.{PIECE};
 ghost use Rattle.copy_turns.specs.Turns.{Got, HandedFront};
 ghost use Rattle.copy_turns.specs.Work.{Apart, GoesOnBy, HaltsBy, IsAtWork, IsOwnHalt};
 
@@ -67,8 +68,8 @@ fn halt_of(domain: &Domain, task: &mut Task, end: PipeEnd) -> Result<(), Halt>
     }
 }
 
-/// Takes bytes out of pipe `pipe`, and tries again where a signal that is not fatal ended the wait. 0 says that the
-/// write end is closed and all is taken.
+/// Takes bytes out of pipe `pipe` into a buffer of `PIECE` bytes, and tries again where a signal that is not fatal ended
+/// the wait. 0 says that the write end is closed and all is taken.
 pub fn get<R: Wait>(
     rt: &R,
     domain: &Domain,
@@ -80,7 +81,7 @@ pub fn get<R: Wait>(
     requires work { IsAtWork task.old }
     requires pipe { pipe < PIPES }
     requires settled { IsSettled (reading pipe task.old) }
-    requires buf { 7 ≤ length buf.old }
+    requires buf { length buf.old ≡ PIECE }
     ensures same { length buf.new ≡ length buf.old }
     ensures most { IfOk result (λ n. n ≤ length buf.new) }
     ensures got { MatchResult result (λ n. Got (read_end pipe) task.old task.new (take n buf.new))

@@ -1,2 +1,3 @@
 pub mod Awaits
 pub mod Counting
+pub mod PageTries

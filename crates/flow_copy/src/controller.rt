@@ -1,7 +1,7 @@
 //! The task that waits for the workers.
 
-ghost use Rattle.std.specs.Prelude.{◌≡◌, IfErr};
-ghost use Rattle.copy_ends.specs.Copied.{ControlEnds, Controlled, IsControlEnd};
+ghost use Rattle.std.specs.Prelude.{◌≡◌, MatchResult};
+ghost use Rattle.copy_ends.specs.Copied.{AwaitsWorker, ControlEnds, Controlled, IsControlEnd, ReadTally};
 ghost use Rattle.copy_ends.specs.Did.{IsIdler};
 
 use bit_wait::BitEnd;
@@ -25,7 +25,8 @@ pub fn controller_task<R: Wait>(rt: &R, domain: &Domain, task: &mut Task) -> Res
     ensures controlled { Controlled task.old task.new }
     ensures ends { ControlEnds task.old task.new result }
 {
-    for _ in 0..WORKERS {
+    for ended in 0..WORKERS {
+        let _ = ended;
         await_one(rt, domain, task)?;
     }
     read_tally(rt, domain, task)
@@ -36,7 +37,7 @@ fn await_one<R: Wait>(rt: &R, domain: &Domain, task: &mut Task) -> Result<(), Bi
     requires of { task.old.domain ≡ domain.now }
     requires idler { IsIdler task.old }
     ensures controlled { Controlled task.old task.new }
-    ensures cause { IfErr result (IsControlEnd task.new) }
+    ensures ends { MatchResult result (λ _. AwaitsWorker task.old task.new) (IsControlEnd task.new) }
 {
     match wait_for(rt, domain, task, ENDED_CELL, SleepState::Uninterruptible) {
         Ok(()) => Ok(()),
@@ -50,7 +51,7 @@ fn read_tally<R: Wait>(rt: &R, domain: &Domain, task: &mut Task) -> Result<u64, 
     requires of { task.old.domain ≡ domain.now }
     requires idler { IsIdler task.old }
     ensures controlled { Controlled task.old task.new }
-    ensures ends { ControlEnds task.old task.new result }
+    ensures ends { MatchResult result (ReadTally task.old task.new) (IsControlEnd task.new) }
 {
     task.told();
     lock_page(rt, domain, task, COUNTED_PAGE, SleepState::Uninterruptible)?;

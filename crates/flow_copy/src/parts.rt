@@ -7,6 +7,7 @@ ghost use Rattle.wait_rule.specs.PipeSays.{writing};
 ghost use Rattle.wait_pipe.specs.Pieces.{IsSettled};
 ghost use Rattle.copy_turns.specs.Turns.{CountedAll, HandedAll, HandedFront};
 ghost use Rattle.copy_turns.specs.Work.{Apart, IsAtWork, IsOwnHalt, Locks};
+ghost use Rattle.flow_copy.specs.PageWaits.{PageWaits};
 
 use bit_wait::BitEnd;
 use copy_plan::COUNTED_PAGE;
@@ -17,10 +18,12 @@ use std::sync::Wait;
 use wait_model::tasks::SleepState;
 use wait_rule::{Domain, Task};
 
-/// Locks the page of the copy, and tries again where a signal that is not fatal ended the wait.
+/// Locks the page of the copy, and waits for it interruptibly: where a signal ended a wait the own ones are taken, and it
+/// waits again unless a fatal one was among them.
 fn lock_counted<R: Wait>(rt: &R, domain: &Domain, task: &mut Task) -> Result<(), Halt>
     requires of { task.old.domain ≡ domain.now }
     requires work { IsAtWork task.old }
+    ensures waits { PageWaits task.old task.new result }
     ensures locks { MatchResult result (λ _. Locks task.old task.new) (λ _. Apart task.old task.new) }
     ensures cause { IfErr result (IsOwnHalt task.old task.new) }
 {

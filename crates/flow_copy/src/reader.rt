@@ -1,9 +1,11 @@
 //! The worker that reads the source.
 
-ghost use Rattle.std.specs.Prelude.{◌≡◌, ◌≤◌, Some, length};
+ghost use Rattle.std.specs.Prelude.{◌≡◌, ◌≤◌, ◌<◌, Some, [], length, take, IfOk, IfSome, OnErr};
+ghost use Rattle.std.specs.Io.KnownBytes.{prepend_known};
 ghost use Rattle.wait_rule.specs.PipeSays.{writing};
 ghost use Rattle.wait_pipe.specs.Pieces.{IsSettled};
-ghost use Rattle.copy_plan.specs.declared.TheConstants.{LONGEST, SIGNALS, SOURCE_PIPE};
+ghost use Rattle.edge_io.specs.Faults.{HasRisen};
+ghost use Rattle.copy_plan.specs.declared.TheConstants.{LONGEST, PIECE, SIGNALS, SOURCE_PIPE};
 ghost use Rattle.copy_ends.specs.Did.{IsIdler, ReaderDid, ReaderWorked};
 ghost use Rattle.copy_turns.specs.Turns.{Reading};
 ghost use Rattle.copy_turns.specs.Work.{IsAtWork};
@@ -15,7 +17,7 @@ use copy_plan::plan::count_due;
 use copy_plan::stop::{NOT_READ, ReaderEnd, Stop, stop_of};
 use copy_plan::{ENDED_CELL, LONGEST, PIECE, Planned, SOURCE_PIPE};
 use copy_turns::{is_killed, send_due};
-use edge_io::Source;
+use edge_io::{Failed, Source};
 use std::sync::Wait;
 use wait_pipe::{close_write, open_write};
 use wait_rule::{Domain, Task};
@@ -36,13 +38,13 @@ fn read_turn<R: Wait, S: Source>(
     requires settled { IsSettled (writing SOURCE_PIPE task.old) }
     requires short { read.old ≤ LONGEST }
     ensures turn { Reading task.old task.new (S.left source.old) (S.left source.new) (S.faults source.old)
-        (S.faults source.new) read.old read.new plan.now result }
+        (S.faults source.new) read.old read.new targets plan.now result }
 {
     if is_killed(domain, task) {
         return Some(Stop::Killed);
     }
     let mut buf = [0; PIECE];
-    let taken = match source.read(&mut buf) {
+    let taken = match take_in(source, &mut buf) {
         Ok(taken) => taken,
         Err(_) => return Some(Stop::ReadFault),
     };
@@ -61,6 +63,20 @@ fn read_turn<R: Wait, S: Source>(
     }
 }
 
+/// Reads the next bytes of a source into a buffer of `PIECE` bytes.
+fn take_in<S: Source>(source: &mut S, buf: &mut [u8]) -> Result<usize, Failed>
+    requires buf { length buf.old ≡ PIECE }
+    ensures same { length buf.new ≡ length buf.old }
+    ensures fits { IfOk result (λ n. n ≤ length buf.old) }
+    ensures bytes { IfOk result (λ n. S.left source.old ≡ prepend_known (take n buf.new) (S.left source.new)) }
+    ensures end { IfOk result (λ n. n ≡ 0 → 0 < length buf.old → IfSome (S.left source.old) (λ bytes. bytes ≡ [])) }
+    ensures nothing { OnErr result (S.left source.new ≡ S.left source.old) }
+    ensures cause { OnErr result (HasRisen (S.faults source.old) (S.faults source.new)) }
+    ensures later { S.faults source.old ≤ S.faults source.new }
+{
+    source.read(buf)
+}
+
 /// Turns up to a stop.
 fn read_on<R: Wait, S: Source, G: Gate>(
     rt: &R,
@@ -77,7 +93,7 @@ fn read_on<R: Wait, S: Source, G: Gate>(
     requires settled { IsSettled (writing SOURCE_PIPE task.old) }
     requires short { read.old ≤ LONGEST }
     ensures turns { Reading task.old task.new (S.left source.old) (S.left source.new) (S.faults source.old)
-        (S.faults source.new) read.old read.new plan.now (Some result) }
+        (S.faults source.new) read.old read.new targets plan.now (Some result) }
 {
     let mut turn: u64 = 0;
     for _ in rt.forever() {
@@ -116,7 +132,7 @@ pub fn reader_task<R: Wait, S: Source, G: Gate>(
     requires idler { IsIdler task.old }
     requires few { length plan.now ≤ SIGNALS }
     ensures did { ReaderDid task.old task.new (S.left source.old) (S.left source.new) (S.faults source.old)
-        (S.faults source.new) plan.now result }
+        (S.faults source.new) targets plan.now result }
 {
     let ended = reader_through(rt, domain, task, source, plan, targets, gate);
     complete(rt, domain, task, ENDED_CELL);
@@ -137,7 +153,7 @@ fn reader_through<R: Wait, S: Source, G: Gate>(
     requires idler { IsIdler task.old }
     requires few { length plan.now ≤ SIGNALS }
     ensures did { ReaderWorked task.old task.new (S.left source.old) (S.left source.new) (S.faults source.old)
-        (S.faults source.new) plan.now result }
+        (S.faults source.new) targets plan.now result }
 {
     if !open_write(domain, task, SOURCE_PIPE) {
         return NOT_READ;

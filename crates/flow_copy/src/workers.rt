@@ -62,7 +62,7 @@ impl<'a, R: Wait + Sync, S: Source + Send + Drop, G: Gate + Sync> Job for Reads<
     ghost asks = { λ job. (job.task.domain ≡ job.domain.now) × (IsIdler job.task × (length job.plan.now ≤ SIGNALS)) };
 
     ghost did = { λ job r. ReaderDid job.task r.0 (S.left job.source) (S.left r.1) (S.faults job.source) (S.faults r.1)
-        job.plan.now r.2 };
+        job.targets job.plan.now r.2 };
 
     fn run(self) -> Read<S> {
         let Self {
@@ -189,7 +189,7 @@ pub(crate) fn four_at_once<
         × IsIdler parts.tasks.3)) }
     requires few { length plan.now ≤ SIGNALS }
     ensures reader { IfOk result (λ made. ReaderDid parts.tasks.0 made.0.0 (S.left parts.source) (S.left made.0.1)
-        (S.faults parts.source) (S.faults made.0.1) plan.now made.0.2) }
+        (S.faults parts.source) (S.faults made.0.1) targets plan.now made.0.2) }
     ensures relay { IfOk result (λ made. RelayDid parts.tasks.1 made.1.0 made.1.1) }
     ensures writer { IfOk result (λ made. WriterDid parts.tasks.2 made.2.0 (K.held parts.sink) (K.held made.2.1)
         (K.faults parts.sink) (K.faults made.2.1) (K.wants parts.sink) (K.wants made.2.1) (W.entries parts.watch)

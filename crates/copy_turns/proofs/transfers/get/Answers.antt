@@ -1,4 +1,4 @@
-use Rattle.std.proofs.Common.{◌∙◌, [], refl, take}
+use Rattle.std.proofs.Common.{◌∙◌, [], refl, take, arith}
 use Rattle.wait_rule.specs.Pipes.{read_end}
 use Rattle.copy_turns.proofs.Pieces.{got_apart, got_more, got_none, got_still, own_halts}
 use Rattle.copy_turns.proofs.transfers.get.Goals as goal
@@ -8,6 +8,10 @@ loop-init g c = record {
   same = refl;
   got = got_none (read_end c.args.pipe) c.args.task.now c.requires.work c.requires.settled;
 }
+
+pub read_piece-requires-clause-buf : goal.read_piece-requires-clause-buf
+read_piece-requires-clause-buf g c =
+    let same = c.loop.invariant.same in let whole = c.requires.buf in omega arith
 
 pub returns-in-Ok-clause-got : goal.returns-in-Ok-clause-got
 returns-in-Ok-clause-got g c =

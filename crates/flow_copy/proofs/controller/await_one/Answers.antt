@@ -23,7 +23,7 @@ returns-in-Err-Signal-clause-controlled g c =
     (awaited_apart c.args.task.now c.wait_for.new.task _ e.waited (at_work c.args.task.now c.requires.idler) e.up e.idle
     e.out e.carries e.off)
 
-pub returns-in-Err-Signal-clause-cause : goal.returns-in-Err-Signal-clause-cause
-returns-in-Err-Signal-clause-cause g c =
+pub returns-in-Err-Signal-clause-ends : goal.returns-in-Err-Signal-clause-ends
+returns-in-Err-Signal-clause-ends g c =
     let e = rw c.in-Err-Signal.field-0-is at c.in-Err-Signal.ensures.waited in
     awaited_signal c.args.task.now c.wait_for.new.task _ _ e

@@ -1,22 +1,32 @@
-use Rattle.copy_ends.proofs.Idlers.{controlled_same, controlled_then, ends_later}
+use Rattle.std.proofs.Common.{refl, arith}
+use Rattle.copy_ends.proofs.Idlers.{control_ends, controlled_same, controlled_then, waits_more}
 use Rattle.copy_turns.proofs.PartLaws.{grows_same}
 use Rattle.flow_copy.proofs.controller.controller_task.Goals as goal
 
-pub loop-init : goal.loop-init
-loop-init g c = controlled_same c.args.task.now c.requires.idler (grows_same c.args.task.now)
+pub loop-ended-init : goal.loop-ended-init
+loop-ended-init g c = record {
+  controlled = controlled_same c.args.task.now c.requires.idler (grows_same c.args.task.now);
+  waits = refl;
+}
 
-pub loop-preserved : goal.loop-preserved
-loop-preserved g c = controlled_then c.args.task.now c.loop.task c.await_one.new.task c.loop.invariant
-    c.await_one.ensures.controlled
+pub loop-ended-preserved : goal.loop-ended-preserved
+loop-ended-preserved g c = record {
+  controlled = controlled_then c.args.task.now c.loop-ended.task c.await_one.new.task c.loop-ended.invariant.controlled
+      c.await_one.ensures.controlled;
+  waits = waits_more c.loop-ended.ended _ c.args.task.now c.loop-ended.task c.await_one.new.task refl
+      c.loop-ended.invariant.waits c.in_ok-await_one.ensures.ends;
+}
 
 pub returns-in_err-await_one-clause-controlled : goal.returns-in_err-await_one-clause-controlled
 returns-in_err-await_one-clause-controlled g c =
-    controlled_then c.args.task.now c.loop.task c.await_one.new.task c.loop.invariant c.await_one.ensures.controlled
+    controlled_then c.args.task.now c.loop-ended.task c.await_one.new.task c.loop-ended.invariant.controlled
+    c.await_one.ensures.controlled
 
 pub returns-clause-controlled : goal.returns-clause-controlled
 returns-clause-controlled g c =
-    controlled_then c.args.task.now c.loop.task c.read_tally.new.task c.loop.invariant c.read_tally.ensures.controlled
+    controlled_then c.args.task.now c.loop-ended.task c.read_tally.new.task c.loop-ended.invariant.controlled
+    c.read_tally.ensures.controlled
 
 pub returns-clause-ends : goal.returns-clause-ends
-returns-clause-ends g c = ends_later c.args.task.now c.loop.task c.read_tally.new.task c.read_tally.result
-    c.loop.invariant.served.grows c.read_tally.ensures.ends
+returns-clause-ends g c = control_ends c.loop-ended.ended c.args.task.now c.loop-ended.task c.read_tally.new.task
+    c.read_tally.result (omega arith) c.loop-ended.invariant.waits c.read_tally.ensures.ends

@@ -1,5 +1,8 @@
-use Rattle.copy_ends.specs.Copied.{Controlled}
+use Rattle.copy_ends.specs.Copied.{Controlled, WaitsTimes}
 use Rattle.flow_copy.proofs.controller.controller_task.Given as goal
 
-abbrev pub invariant-loop : goal.invariant-loop
-invariant-loop g l = Controlled l.fn.task l.task
+abbrev pub invariant-loop-ended : goal.invariant-loop-ended
+invariant-loop-ended g l = record {
+  controlled : Controlled l.fn.task l.task;
+  waits : WaitsTimes l.ended l.fn.task l.task;
+}

@@ -2,7 +2,7 @@ use Rattle.std.proofs.Common.{ap, ◌∙◌}
 use Rattle.std.specs.Prelude.{[], ◌∷◌}
 use Rattle.copy_plan.specs.declared.stop.Stop.{Stop}
 use Rattle.copy_plan.specs.Kinds.{copy_stop}
-use Rattle.copy_ends.proofs.Whole.{ensured}
+use Rattle.copy_ends.proofs.Whole.{ensured, numbers_are}
 use Rattle.flow_copy.proofs.copy.copy_all.Goals as goal
 
 pub returns : goal.returns
@@ -16,7 +16,9 @@ returns g c =
     let e = ensured c.args.domain.now forks.result.0 forks.result.1 forks.result.2 forks.result.3 made.0.0
     made.1.0 made.2.0 made.3.0 forks.new.task c.join_four.new.task
     c.read_moved-moved.new.task _ _ _ _ _ _ _ _ _ _ _ _ _ reader relay writer made.3.1
-    c.read_moved-moved.result c.copy_stop-stop.result forks.ensures.one forks.ensures.two forks.ensures.three
+    c.read_moved-moved.result c.copy_stop-stop.result _ (numbers_are c.args.domain.now forks.result.0 forks.result.1
+    forks.result.2 _ _ _ forks.ensures.one forks.ensures.two forks.ensures.three c.number.ensures.number
+    c.number-2.ensures.number c.number-3.ensures.number) forks.ensures.one forks.ensures.two forks.ensures.three
     forks.ensures.four forks.ensures.rest did.reader did.relay did.writer
     did.controller did.ends c.join_four.ensures.joined c.join_four.ensures.law
     c.read_moved-moved.ensures.reads c.read_moved-moved.ensures.aside

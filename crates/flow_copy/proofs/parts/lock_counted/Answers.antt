@@ -1,66 +1,97 @@
 use Rattle.std.proofs.Common.{◌∙◌}
 use Rattle.flow_copy.proofs.Counting.{asks_none, locked, locks_after, unlocked}
 use Rattle.copy_turns.proofs.PartLaws.{apart_same, apart_then, took_before}
+use Rattle.flow_copy.proofs.PageTries.{waited_more, waited_none, waited_until}
 use Rattle.flow_copy.proofs.parts.lock_counted.Goals as goal
 
 pub loop-init : goal.loop-init
-loop-init g c = apart_same c.args.task.now c.requires.work
+loop-init g c = record {
+  apart = apart_same c.args.task.now c.requires.work;
+  waited = waited_none c.args.task.now;
+}
 
 pub lock_page-requires-clause-of : goal.lock_page-requires-clause-of
-lock_page-requires-clause-of g c = c.loop.invariant.works.domain ∙ c.requires.of
+lock_page-requires-clause-of g c = c.loop.invariant.apart.works.domain ∙ c.requires.of
 
 pub lock_page-requires-clause-up : goal.lock_page-requires-clause-up
-lock_page-requires-clause-up g c = c.loop.invariant.works.work.up
+lock_page-requires-clause-up g c = c.loop.invariant.apart.works.work.up
 
 pub lock_page-requires-clause-idle : goal.lock_page-requires-clause-idle
-lock_page-requires-clause-idle g c = c.loop.invariant.works.work.idle
+lock_page-requires-clause-idle g c = c.loop.invariant.apart.works.work.idle
 
 pub lock_page-requires-clause-out : goal.lock_page-requires-clause-out
-lock_page-requires-clause-out g c = c.loop.invariant.works.work.out
+lock_page-requires-clause-out g c = c.loop.invariant.apart.works.work.out
 
 pub lock_page-requires-clause-asks : goal.lock_page-requires-clause-asks
-lock_page-requires-clause-asks g c = asks_none c.loop.task c.loop.invariant.works.work
+lock_page-requires-clause-asks g c = asks_none c.loop.task c.loop.invariant.apart.works.work
 
 pub returns-in-Ok-clause-locks : goal.returns-in-Ok-clause-locks
 returns-in-Ok-clause-locks g c =
     let e = c.in-Ok.ensures in
-    locks_after c.args.task.now c.loop.task c.lock_page.new.task c.loop.invariant
-    (locked c.loop.task c.lock_page.new.task _ _ c.told.ensures c.loop.invariant.works.work e.waited e.up e.idle e.out
+    locks_after c.args.task.now c.loop.task c.lock_page.new.task c.loop.invariant.apart
+    (locked c.loop.task c.lock_page.new.task _ _ c.told.ensures c.loop.invariant.apart.works.work e.waited e.up e.idle e.out
     e.takes)
 
 pub returns-in-Err-Worn-clause-locks : goal.returns-in-Err-Worn-clause-locks
 returns-in-Err-Worn-clause-locks g c =
     let e = c.in-Err-Worn.ensures in
-    apart_then c.args.task.now c.loop.task c.lock_page.new.task c.loop.invariant
-    (unlocked c.loop.task c.lock_page.new.task _ _ c.told.ensures c.loop.invariant.works.work e.waited e.up e.idle
+    apart_then c.args.task.now c.loop.task c.lock_page.new.task c.loop.invariant.apart
+    (unlocked c.loop.task c.lock_page.new.task _ _ c.told.ensures c.loop.invariant.apart.works.work e.waited e.up e.idle
     e.out e.takes)
 
 pub is_killed-requires-clause-work : goal.is_killed-requires-clause-work
 is_killed-requires-clause-work g c =
     let e = c.in-Err-Interrupted.ensures in
-    (unlocked c.loop.task c.lock_page.new.task _ _ c.told.ensures c.loop.invariant.works.work e.waited e.up e.idle
+    (unlocked c.loop.task c.lock_page.new.task _ _ c.told.ensures c.loop.invariant.apart.works.work e.waited e.up e.idle
     e.out e.takes).works.work
 
 pub returns-then-is_killed-clause-locks : goal.returns-then-is_killed-clause-locks
 returns-then-is_killed-clause-locks g c =
     let e = c.in-Err-Interrupted.ensures in
-    apart_then c.args.task.now c.loop.task c.is_killed.new.task c.loop.invariant
+    apart_then c.args.task.now c.loop.task c.is_killed.new.task c.loop.invariant.apart
     (apart_then c.loop.task c.lock_page.new.task c.is_killed.new.task
-    (unlocked c.loop.task c.lock_page.new.task _ _ c.told.ensures c.loop.invariant.works.work e.waited e.up e.idle
+    (unlocked c.loop.task c.lock_page.new.task _ _ c.told.ensures c.loop.invariant.apart.works.work e.waited e.up e.idle
     e.out e.takes) c.is_killed.ensures.apart)
 
 pub returns-then-is_killed-clause-cause : goal.returns-then-is_killed-clause-cause
 returns-then-is_killed-clause-cause g c =
     let e = c.in-Err-Interrupted.ensures in
     took_before c.args.task.now c.lock_page.new.task c.is_killed.new.task
-    (apart_then c.args.task.now c.loop.task c.lock_page.new.task c.loop.invariant
-    (unlocked c.loop.task c.lock_page.new.task _ _ c.told.ensures c.loop.invariant.works.work e.waited e.up e.idle
+    (apart_then c.args.task.now c.loop.task c.lock_page.new.task c.loop.invariant.apart
+    (unlocked c.loop.task c.lock_page.new.task _ _ c.told.ensures c.loop.invariant.apart.works.work e.waited e.up e.idle
     e.out e.takes)).works.grows c.if-is_killed.ensures.killed
 
 pub loop-preserved : goal.loop-preserved
 loop-preserved g c =
     let e = c.in-Err-Interrupted.ensures in
-    apart_then c.args.task.now c.loop.task c.is_killed.new.task c.loop.invariant
-    (apart_then c.loop.task c.lock_page.new.task c.is_killed.new.task
-    (unlocked c.loop.task c.lock_page.new.task _ _ c.told.ensures c.loop.invariant.works.work e.waited e.up e.idle
-    e.out e.takes) c.is_killed.ensures.apart)
+    record {
+      apart = apart_then c.args.task.now c.loop.task c.is_killed.new.task c.loop.invariant.apart
+          (apart_then c.loop.task c.lock_page.new.task c.is_killed.new.task
+          (unlocked c.loop.task c.lock_page.new.task _ _ c.told.ensures c.loop.invariant.apart.works.work e.waited e.up
+          e.idle e.out e.takes) c.is_killed.ensures.apart);
+      waited = waited_more c.args.task.now c.loop.task c.is_killed.new.task c.loop.invariant.waited (record {
+        mid = c.lock_page.new.task;
+        seen = _;
+        waited = rw c.in-Err-Interrupted.field-0-is at e.waited;
+        own = c.if-is_killed.ensures.own;
+      });
+    }
+
+pub returns-in-Ok-clause-waits : goal.returns-in-Ok-clause-waits
+returns-in-Ok-clause-waits g c = waited_until c.args.task.now c.loop.task c.lock_page.new.task _ c.loop.invariant.waited
+    c.in-Ok.ensures.waited
+
+pub returns-in-Err-Worn-clause-waits : goal.returns-in-Err-Worn-clause-waits
+returns-in-Err-Worn-clause-waits g c =
+    let e = rw c.in-Err-Worn.field-0-is at c.in-Err-Worn.ensures.waited in
+    waited_until c.args.task.now c.loop.task c.lock_page.new.task _ c.loop.invariant.waited e
+
+pub returns-then-is_killed-clause-waits : goal.returns-then-is_killed-clause-waits
+returns-then-is_killed-clause-waits g c =
+    let e = rw c.in-Err-Interrupted.field-0-is at c.in-Err-Interrupted.ensures.waited in
+    waited_until c.args.task.now c.loop.task c.is_killed.new.task _ c.loop.invariant.waited (record {
+      mid = c.lock_page.new.task;
+      seen = _;
+      waited = e;
+      own = c.if-is_killed.ensures.own;
+    })

@@ -1,5 +1,6 @@
 use Rattle.copy_turns.specs.Work.{Apart}
+use Rattle.flow_copy.proofs.PageTries.{Waited}
 use Rattle.flow_copy.proofs.parts.lock_counted.Given as goal
 
 abbrev pub invariant-loop : goal.invariant-loop
-invariant-loop g l = Apart l.fn.task l.task
+invariant-loop g l = record { apart : Apart l.fn.task l.task; waited : Waited l.fn.task l.task }

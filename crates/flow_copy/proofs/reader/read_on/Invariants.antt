@@ -4,4 +4,4 @@ use Rattle.flow_copy.proofs.reader.read_on.Given as goal
 
 abbrev pub invariant-loop : goal.invariant-loop
 invariant-loop g l = Reading l.fn.task l.task (g.S.Source.left l.fn.source) (g.S.Source.left l.source)
-    (g.S.Source.faults l.fn.source) (g.S.Source.faults l.source) l.fn.read l.read l.plan None
+    (g.S.Source.faults l.fn.source) (g.S.Source.faults l.source) l.fn.read l.read l.targets l.plan None

@@ -3,6 +3,8 @@ use Rattle.std.specs.Prelude.{◌+◌, Some}
 use Rattle.copy_plan.specs.declared.stop.Stop.{Stop}
 use Rattle.copy_plan.specs.declared.stop.Stop.TheVariants as stop
 use Rattle.copy_turns.specs.Turns.{Reading}
+use Rattle.copy_turns.proofs.Begins.{begun, turn_killed, turn_stops}
+use Rattle.copy_turns.proofs.PartLaws.{grows_same}
 use Rattle.copy_turns.proofs.ReaderTurns.{
   given_length,
   given_none,
@@ -19,77 +21,83 @@ pub returns-then-is_killed : goal.returns-then-is_killed
 returns-then-is_killed g c = record {
   turn = read_nothing c.args.task.now c.is_killed.new.task (g.S.Source.left c.args.source.now)
       (g.S.Source.left c.args.source.now) (g.S.Source.faults c.args.source.now) (g.S.Source.faults c.args.source.now)
-      c.args.read.now c.args.plan.now c.requires.settled c.is_killed.ensures.apart
+      c.args.read.now c.args.targets c.args.plan.now c.requires.settled c.is_killed.ensures.apart
       (prepend_none (g.S.Source.left c.args.source.now)) (omega arith) stop.Killed c.requires.short tt
-      c.if-is_killed.ensures.killed;
+      c.if-is_killed.ensures.killed (turn_killed c.args.task.now c.is_killed.new.task c.if-is_killed.ensures.own);
 }
 
 pub returns-in-Err : goal.returns-in-Err
 returns-in-Err g c = record {
   turn = read_nothing c.args.task.now c.is_killed.new.task (g.S.Source.left c.args.source.now)
-      (g.S.Source.left c.read.new.self) (g.S.Source.faults c.args.source.now) (g.S.Source.faults c.read.new.self)
-      c.args.read.now c.args.plan.now c.requires.settled c.is_killed.ensures.apart
-      (sym c.in-Err.ensures.nothing ∙ prepend_none (g.S.Source.left c.read.new.self)) c.read.ensures.later
-      stop.ReadFault c.requires.short tt c.in-Err.ensures.cause;
+      (g.S.Source.left c.take_in.new.source) (g.S.Source.faults c.args.source.now) (g.S.Source.faults c.take_in.new.source)
+      c.args.read.now c.args.targets c.args.plan.now c.requires.settled c.is_killed.ensures.apart
+      (sym c.in-Err.ensures.nothing ∙ prepend_none (g.S.Source.left c.take_in.new.source)) c.take_in.ensures.later
+      stop.ReadFault c.requires.short tt c.in-Err.ensures.cause
+      (turn_stops c.args.task.now c.is_killed.new.task stop.ReadFault (begun c.args.task.now c.is_killed.new.task
+      c.is_killed.new.task c.if-is_killed.ensures.own (grows_same c.is_killed.new.task)));
 }
 
 pub returns-then-taken-eq0 : goal.returns-then-taken-eq0
 returns-then-taken-eq0 g c =
-    let left = given_none (g.S.Source.left c.args.source.now) (g.S.Source.left c.read.new.self) c.read.new.buf
+    let left = given_none (g.S.Source.left c.args.source.now) (g.S.Source.left c.take_in.new.source) c.take_in.new.buf
     c.in-Ok.taken c.in-Ok.ensures.bytes c.if-taken-eq0.true in
     record {
       turn = read_nothing c.args.task.now c.is_killed.new.task (g.S.Source.left c.args.source.now)
-          (g.S.Source.left c.read.new.self) (g.S.Source.faults c.args.source.now) (g.S.Source.faults c.read.new.self)
-          c.args.read.now c.args.plan.now c.requires.settled c.is_killed.ensures.apart left c.read.ensures.later
+          (g.S.Source.left c.take_in.new.source) (g.S.Source.faults c.args.source.now) (g.S.Source.faults c.take_in.new.source)
+          c.args.read.now c.args.targets c.args.plan.now c.requires.settled c.is_killed.ensures.apart left c.take_in.ensures.later
           stop.Finished c.requires.short (source_ended (g.S.Source.left c.args.source.now)
-          (g.S.Source.left c.read.new.self) left (c.in-Ok.ensures.end c.if-taken-eq0.true (omega arith))) tt;
+          (g.S.Source.left c.take_in.new.source) left (c.in-Ok.ensures.end c.if-taken-eq0.true (omega arith))) tt
+          (turn_stops c.args.task.now c.is_killed.new.task stop.Finished (begun c.args.task.now c.is_killed.new.task
+          c.is_killed.new.task c.if-is_killed.ensures.own (grows_same c.is_killed.new.task)));
     }
 
 pub returns-then-read-gt-LONGEST : goal.returns-then-read-gt-LONGEST
 returns-then-read-gt-LONGEST g c =
     let fits = c.in-Ok.ensures.fits in
-    let same = c.read.auto.buf in
+    let same = c.take_in.ensures.same in
+    let some = c.if-taken-eq0.false in
     let s = c.send_due.ensures in
     record {
       turn = read_long c.args.task.now c.is_killed.new.task c.send_due.new.task (g.S.Source.left c.args.source.now)
-          (g.S.Source.left c.read.new.self) (g.S.Source.faults c.args.source.now) (g.S.Source.faults c.read.new.self)
-          c.args.read.now _ c.args.plan.now c.args.targets (take c.in-Ok.taken c.read.new.buf) c.requires.settled
-          c.is_killed.ensures.apart c.in-Ok.ensures.bytes c.read.ensures.later
-          (given_length c.read.new.buf c.in-Ok.taken c.args.read.now (omega arith))
-          (record { works = s.works; ends = s.ends; sums = s.sums; signals = s.signals })
+          (g.S.Source.left c.take_in.new.source) (g.S.Source.faults c.args.source.now) (g.S.Source.faults c.take_in.new.source)
+          c.args.read.now _ c.args.targets c.args.plan.now (take c.in-Ok.taken c.take_in.new.buf) c.requires.settled
+          c.is_killed.ensures.apart c.if-is_killed.ensures.own c.in-Ok.ensures.bytes c.take_in.ensures.later
+          (given_length c.take_in.new.buf c.in-Ok.taken c.args.read.now (omega arith)) (omega (arith, some))
+          (record { works = s.works; ends = s.ends; sums = s.sums; spared = s.spared; signals = s.signals })
           c.if-read-gt-LONGEST.true;
     }
 
 pub returns-in-Ok-hand_on : goal.returns-in-Ok-hand_on
 returns-in-Ok-hand_on g c =
     let fits = c.in-Ok.ensures.fits in
-    let same = c.read.auto.buf in
+    let same = c.take_in.ensures.same in
+    let some = c.if-taken-eq0.false in
     let s = c.send_due.ensures in
     record {
       turn = read_on c.args.task.now c.is_killed.new.task c.send_due.new.task (g.S.Source.left c.args.source.now)
-          (g.S.Source.left c.read.new.self) (g.S.Source.faults c.args.source.now) (g.S.Source.faults c.read.new.self)
-          c.args.read.now _ c.args.plan.now c.args.targets (take c.in-Ok.taken c.read.new.buf) c.requires.settled
-          c.is_killed.ensures.apart c.in-Ok.ensures.bytes c.read.ensures.later
-          (given_length c.read.new.buf c.in-Ok.taken c.args.read.now (omega arith))
-          (record { works = s.works; ends = s.ends; sums = s.sums; signals = s.signals })
+          (g.S.Source.left c.take_in.new.source) (g.S.Source.faults c.args.source.now) (g.S.Source.faults c.take_in.new.source)
+          c.args.read.now _ c.args.targets c.args.plan.now (take c.in-Ok.taken c.take_in.new.buf) c.requires.settled
+          c.is_killed.ensures.apart c.if-is_killed.ensures.own c.in-Ok.ensures.bytes c.take_in.ensures.later
+          (given_length c.take_in.new.buf c.in-Ok.taken c.args.read.now (omega arith)) (omega (arith, some))
+          (record { works = s.works; ends = s.ends; sums = s.sums; spared = s.spared; signals = s.signals })
           c.hand_on.new.task c.if-read-gt-LONGEST.false c.in-Ok-hand_on.ensures.handed;
     }
 
 pub returns-in-Err-hand_on : goal.returns-in-Err-hand_on
 returns-in-Err-hand_on g c =
     let fits = c.in-Ok.ensures.fits in
-    let same = c.read.auto.buf in
+    let same = c.take_in.ensures.same in
+    let some = c.if-taken-eq0.false in
     let s = c.send_due.ensures in
     record {
       turn = subst (λ (how : Stop). Reading c.args.task.now c.hand_on.new.task (g.S.Source.left c.args.source.now)
-          (g.S.Source.left c.read.new.self) (g.S.Source.faults c.args.source.now) (g.S.Source.faults c.read.new.self)
-          c.args.read.now (c.args.read.now + c.in-Ok.taken) c.args.plan.now (Some how)) (sym c.stop_of.ensures)
+          (g.S.Source.left c.take_in.new.source) (g.S.Source.faults c.args.source.now) (g.S.Source.faults c.take_in.new.source)
+          c.args.read.now (c.args.read.now + c.in-Ok.taken) c.args.targets c.args.plan.now (Some how)) (sym c.stop_of.ensures)
           (read_halted c.args.task.now c.is_killed.new.task c.send_due.new.task
-          (g.S.Source.left c.args.source.now) (g.S.Source.left c.read.new.self) (g.S.Source.faults c.args.source.now)
-          (g.S.Source.faults c.read.new.self) c.args.read.now (c.args.read.now + c.in-Ok.taken) c.args.plan.now
-          c.args.targets (take c.in-Ok.taken c.read.new.buf) c.requires.settled c.is_killed.ensures.apart
-          c.in-Ok.ensures.bytes
-          c.read.ensures.later (given_length c.read.new.buf c.in-Ok.taken c.args.read.now (omega arith))
-          (record { works = s.works; ends = s.ends; sums = s.sums; signals = s.signals })
+          (g.S.Source.left c.args.source.now) (g.S.Source.left c.take_in.new.source) (g.S.Source.faults c.args.source.now)
+          (g.S.Source.faults c.take_in.new.source) c.args.read.now (c.args.read.now + c.in-Ok.taken) c.args.targets
+          c.args.plan.now (take c.in-Ok.taken c.take_in.new.buf) c.requires.settled c.is_killed.ensures.apart
+          c.if-is_killed.ensures.own c.in-Ok.ensures.bytes c.take_in.ensures.later (given_length c.take_in.new.buf c.in-Ok.taken c.args.read.now (omega arith)) (omega (arith, some))
+          (record { works = s.works; ends = s.ends; sums = s.sums; spared = s.spared; signals = s.signals })
           c.hand_on.new.task c.if-read-gt-LONGEST.false c.in-Err-hand_on.halt c.in-Err-hand_on.ensures.handed);
     }

@@ -8,7 +8,7 @@ returns g c =
     record {
       did = reader_completes c.args.task.now c.reader_through-ended.new.task c.complete.new.task
           (g.S.Source.left c.args.source.now) (g.S.Source.left c.reader_through-ended.new.source)
-          (g.S.Source.faults c.args.source.now) (g.S.Source.faults c.reader_through-ended.new.source) c.args.plan.now
+          (g.S.Source.faults c.args.source.now) (g.S.Source.faults c.reader_through-ended.new.source) c.args.targets c.args.plan.now
           c.reader_through-ended.result r.did (completes c.reader_through-ended.new.task c.complete.new.task
           r.did.served.idler c.complete.ensures.completed c.complete.ensures.up c.complete.ensures.free
           c.complete.ensures.carries c.complete.ensures.off);

@@ -7,7 +7,7 @@ use Rattle.flow_copy.proofs.reader.reader_through.Goals as goal
 pub returns-then-not-open_write : goal.returns-then-not-open_write
 returns-then-not-open_write g c = record {
   did = reader_fails c.args.task.now c.open_write.new.task (g.S.Source.left c.args.source.now)
-      (g.S.Source.faults c.args.source.now) c.args.plan.now c.requires.idler
+      (g.S.Source.faults c.args.source.now) c.args.targets c.args.plan.now c.requires.idler
       (fails (write_end SOURCE_PIPE) c.open_write.ensures.step.0 c.open_write.result c.args.task.now
       c.open_write.new.task c.open_write.ensures.step.1.0 c.open_write.ensures.carries
       (idler_works c.args.task.now c.requires.idler) c.if-not-open_write.true c.open_write.ensures.step.1.1
@@ -41,8 +41,8 @@ returns g c =
       did = reader_did c.args.task.now c.open_write.new.task c.send_due.new.task c.read_on-stop.new.task
           c.close_write.new.task (g.S.Source.left c.args.source.now) (g.S.Source.left c.read_on-stop.new.source)
           (g.S.Source.faults c.args.source.now) (g.S.Source.faults c.read_on-stop.new.source)
-          c.read_on-stop.new.read c.args.plan.now c.args.targets o
-          (record { works = s.works; ends = s.ends; sums = s.sums; signals = s.signals }) c.read_on-stop.result t q
+          c.read_on-stop.new.read c.args.targets c.args.plan.now o
+          (record { works = s.works; ends = s.ends; sums = s.sums; spared = s.spared; signals = s.signals }) c.read_on-stop.result t q
           c.requires.idler c.count_due-sent.result.0 c.count_due-sent.result.1 c.count_due-sent.ensures.sent
           c.count_due-sent.ensures.kills;
     }

@@ -10,7 +10,7 @@ pub returns-then-is_killed : goal.returns-then-is_killed
 returns-then-is_killed g c = record {
   turn = relay_killed c.args.task.now c.is_killed.new.task c.args.moved.now
       (omega arith) c.requires.tap c.requires.pen c.is_killed.ensures.apart
-      c.if-is_killed.ensures.killed;
+      c.if-is_killed.ensures.own c.if-is_killed.ensures.killed;
 }
 
 pub returns-in-Err : goal.returns-in-Err
@@ -18,14 +18,14 @@ returns-in-Err g c = record {
   turn = subst (λ (s : Stop). Relaying c.args.task.now c.get.new.task c.args.moved.now
       c.args.moved.now (Some s)) (sym c.stop_of.ensures) (relay_halted c.args.task.now c.is_killed.new.task
       c.get.new.task
-      c.args.moved.now (omega arith) c.requires.pen c.is_killed.ensures.apart [] c.in-Err.ensures.got c.in-Err.halt refl
+      c.args.moved.now (omega arith) c.requires.pen c.is_killed.ensures.apart c.if-is_killed.ensures.own [] c.in-Err.ensures.got c.in-Err.halt refl
       c.in-Err.ensures.cause);
 }
 
 pub returns-then-taken-eq0 : goal.returns-then-taken-eq0
 returns-then-taken-eq0 g c = record {
   turn = relay_ended c.args.task.now c.is_killed.new.task c.get.new.task
-      c.args.moved.now (omega arith) c.requires.pen c.is_killed.ensures.apart (take c.in-Ok.taken c.get.new.buf)
+      c.args.moved.now (omega arith) c.requires.pen c.is_killed.ensures.apart c.if-is_killed.ensures.own (take c.in-Ok.taken c.get.new.buf)
       c.in-Ok.ensures.got (ap (λ (n : ℕ). take n c.get.new.buf) c.if-taken-eq0.true)
       (c.in-Ok.ensures.end c.if-taken-eq0.true);
 }
@@ -33,7 +33,7 @@ returns-then-taken-eq0 g c = record {
 pub returns-in-Ok-hand_on : goal.returns-in-Ok-hand_on
 returns-in-Ok-hand_on g c = record {
   turn = relay_goes_on c.args.task.now c.is_killed.new.task c.get.new.task
-      c.args.moved.now (omega arith) c.requires.pen c.is_killed.ensures.apart (take c.in-Ok.taken c.get.new.buf)
+      c.args.moved.now (omega arith) c.requires.pen c.is_killed.ensures.apart c.if-is_killed.ensures.own (take c.in-Ok.taken c.get.new.buf)
       c.in-Ok.ensures.got c.hand_on.new.task ((c.args.moved.now + c.in-Ok.taken) % 2 ^ 64)
       c.in-Ok-hand_on.ensures.handed
       (ap (λ (n : ℕ). (c.args.moved.now + n) % 2 ^ 64)
@@ -44,7 +44,7 @@ pub returns-in-Err-hand_on : goal.returns-in-Err-hand_on
 returns-in-Err-hand_on g c = record {
   turn = subst (λ (s : Stop). Relaying c.args.task.now c.hand_on.new.task
       c.args.moved.now c.args.moved.now (Some s)) (sym c.stop_of-in-Err-hand_on.ensures) (relay_stopped c.args.task.now
-      c.is_killed.new.task c.get.new.task c.args.moved.now (omega arith) c.requires.pen c.is_killed.ensures.apart
+      c.is_killed.new.task c.get.new.task c.args.moved.now (omega arith) c.requires.pen c.is_killed.ensures.apart c.if-is_killed.ensures.own
       (take c.in-Ok.taken c.get.new.buf) c.in-Ok.ensures.got c.hand_on.new.task c.in-Err-hand_on.halt
       c.in-Err-hand_on.ensures.handed);
 }

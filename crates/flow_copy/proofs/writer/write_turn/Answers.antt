@@ -22,7 +22,7 @@ returns-then-is_killed g c = record {
   turn = write_killed c.args.task.now c.is_killed.new.task
       (g.K.Sink.held c.args.sink.now) (g.K.Sink.faults c.args.sink.now) (g.K.Sink.wants c.args.sink.now)
       (g.W.Watchers.entries c.args.watch.now) c.args.moved.now
-      (omega arith) c.requires.settled c.is_killed.ensures.apart c.if-is_killed.ensures.killed;
+      (omega arith) c.requires.settled c.is_killed.ensures.apart c.if-is_killed.ensures.own c.if-is_killed.ensures.killed;
 }
 
 pub returns-in-Err : goal.returns-in-Err
@@ -32,7 +32,7 @@ returns-in-Err g c = record {
       (g.K.Sink.faults c.args.sink.now) (g.K.Sink.wants c.args.sink.now) (g.K.Sink.wants c.args.sink.now)
       (g.W.Watchers.entries c.args.watch.now) (g.W.Watchers.entries c.args.watch.now)
       c.args.moved.now c.args.moved.now (Some s)) (sym c.stop_of.ensures) (write_halted c.args.task.now
-      c.is_killed.new.task c.get.new.task c.args.moved.now (omega arith) c.is_killed.ensures.apart []
+      c.is_killed.new.task c.get.new.task c.args.moved.now (omega arith) c.is_killed.ensures.apart c.if-is_killed.ensures.own []
       c.in-Err.ensures.got
       (g.K.Sink.held c.args.sink.now) (g.K.Sink.faults c.args.sink.now) (g.K.Sink.wants c.args.sink.now)
       (g.W.Watchers.entries c.args.watch.now) c.in-Err.halt refl c.in-Err.ensures.cause);
@@ -41,7 +41,7 @@ returns-in-Err g c = record {
 pub returns-then-taken-eq0 : goal.returns-then-taken-eq0
 returns-then-taken-eq0 g c = record {
   turn = write_ended c.args.task.now c.is_killed.new.task c.get.new.task
-      c.args.moved.now (omega arith) c.is_killed.ensures.apart (take c.in-Ok.taken c.get.new.buf) c.in-Ok.ensures.got
+      c.args.moved.now (omega arith) c.is_killed.ensures.apart c.if-is_killed.ensures.own (take c.in-Ok.taken c.get.new.buf) c.in-Ok.ensures.got
       (g.K.Sink.held c.args.sink.now) (g.K.Sink.faults c.args.sink.now) (g.K.Sink.wants c.args.sink.now)
       (g.W.Watchers.entries c.args.watch.now) (ap (λ (n : ℕ). take n c.get.new.buf) c.if-taken-eq0.true)
       (c.in-Ok.ensures.end c.if-taken-eq0.true);
@@ -57,7 +57,7 @@ returns-in-Err-Failed g c =
     c.in-Err-Failed.ensures.failed in
     record {
       turn = write_fault c.args.task.now c.is_killed.new.task c.get.new.task c.args.moved.now (omega arith)
-          c.is_killed.ensures.apart (take c.in-Ok.taken c.get.new.buf) c.in-Ok.ensures.got
+          c.is_killed.ensures.apart c.if-is_killed.ensures.own (take c.in-Ok.taken c.get.new.buf) c.in-Ok.ensures.got
           (g.K.Sink.held c.args.sink.now)
           (g.K.Sink.held c.write_all.new.out) f0 f1 v0 v1
           (g.W.Watchers.entries c.args.watch.now) stop.WriteFault c.in-Err-Failed.ensures.text
@@ -76,7 +76,7 @@ returns-in-Err-OutOfMemory g c =
     = subst (FaultIsWant v0 v1) c.in-Err-OutOfMemory.field-0-is c.in-Err-OutOfMemory.ensures.wanted in
     record {
       turn = write_fault c.args.task.now c.is_killed.new.task c.get.new.task c.args.moved.now (omega arith)
-          c.is_killed.ensures.apart (take c.in-Ok.taken c.get.new.buf) c.in-Ok.ensures.got
+          c.is_killed.ensures.apart c.if-is_killed.ensures.own (take c.in-Ok.taken c.get.new.buf) c.in-Ok.ensures.got
           (g.K.Sink.held c.args.sink.now)
           (g.K.Sink.held c.write_all.new.out) f0 f1 v0 v1
           (g.W.Watchers.entries c.args.watch.now) stop.Memory c.in-Err-OutOfMemory.ensures.text
@@ -91,7 +91,7 @@ returns-in-Ok-count g c =
     = sym (length-take-le c.in-Ok.taken c.get.new.buf c.in-Ok.ensures.most) in
     record {
       turn = write_goes_on c.args.task.now c.is_killed.new.task c.get.new.task c.args.moved.now (omega arith)
-          c.is_killed.ensures.apart (take c.in-Ok.taken c.get.new.buf) c.in-Ok.ensures.got c.count.new.task
+          c.is_killed.ensures.apart c.if-is_killed.ensures.own (take c.in-Ok.taken c.get.new.buf) c.in-Ok.ensures.got c.count.new.task
           (g.K.Sink.held c.args.sink.now) (g.K.Sink.held c.write_all.new.out) (g.K.Sink.faults c.args.sink.now)
           (g.K.Sink.faults c.write_all.new.out) (g.K.Sink.wants c.args.sink.now) (g.K.Sink.wants c.write_all.new.out)
           (g.W.Watchers.entries c.args.watch.now) (g.W.Watchers.entries c.show.new.self)
@@ -109,7 +109,7 @@ returns-in-Err-count g c = record {
       (g.K.Sink.faults c.write_all.new.out) (g.K.Sink.wants c.args.sink.now) (g.K.Sink.wants c.write_all.new.out)
       (g.W.Watchers.entries c.args.watch.now) (g.W.Watchers.entries c.show.new.self) c.args.moved.now c.args.moved.now
       (Some s)) (sym c.stop_of-in-Err-count.ensures) (write_stopped c.args.task.now
-      c.is_killed.new.task c.get.new.task c.args.moved.now (omega arith) c.is_killed.ensures.apart
+      c.is_killed.new.task c.get.new.task c.args.moved.now (omega arith) c.is_killed.ensures.apart c.if-is_killed.ensures.own
       (take c.in-Ok.taken c.get.new.buf) c.in-Ok.ensures.got c.count.new.task (g.K.Sink.held c.args.sink.now)
       (g.K.Sink.held c.write_all.new.out) (g.K.Sink.faults c.args.sink.now) (g.K.Sink.faults c.write_all.new.out)
       (g.K.Sink.wants c.args.sink.now) (g.K.Sink.wants c.write_all.new.out)

@@ -1,5 +1,5 @@
 -- What each step on an entry, a flag, a bookmark or a condition asks of the table of words, by the law of its kind.
-use Rattle.std.proofs.Common.{refl, sym, ◌∙◌, ap, subst, arith, inl, inr}
+use Rattle.std.proofs.Common.{refl, sym, ◌∙◌, ap, subst, arith, inl, inr, append-nil}
 use Rattle.std.specs.Prelude.{
   ℕ,
   ◌≡◌,
@@ -88,6 +88,7 @@ use Rattle.wait_rule.specs.Queues.{
 use Rattle.wait_rule.specs.Plays.{Sat, seat_with}
 use Rattle.wait_rule.specs.QueuePlays.{
   entry_seen_play,
+  kept_entry_play,
   mark_seen_play,
   queued_play,
   unqueued_play,
@@ -102,6 +103,7 @@ use Rattle.wait_rule.proofs.KnownLaws.AfterSteps.{notes_after}
 use Rattle.wait_rule.proofs.KnownLaws.HandedPermits.{queue_on}
 use Rattle.wait_rule.proofs.KnownLaws.HeldHeads.{head_told}
 use Rattle.wait_rule.proofs.KnownLaws.MemberPlaces.{mark_keeps, queue_keeps}
+use Rattle.wait_rule.proofs.KnownLaws.HeadLinks.{same_links}
 use Rattle.wait_rule.proofs.KnownLaws.OwnStored.{owned}
 use Rattle.wait_rule.proofs.TableSteps.KeptSteps.{IsOwn, KeepsLaw, ChangesNone, steps, all_steps, loads}
 use Rattle.wait_rule.proofs.StepKinds.EntryKinds.{reads, sees, queues, unqueues, is_entry}
@@ -109,6 +111,7 @@ use Rattle.wait_rule.proofs.StepKinds.FlagKinds.{flags}
 use Rattle.wait_rule.proofs.StepKinds.MarkKinds.{is_mark, mark_reads, marks, unmarks}
 use Rattle.wait_rule.proofs.StepKinds.CondKinds.{cond_loads, plain_publishes, var_publishes, plain_consumes}
 use Rattle.wait_rule.proofs.TableSteps.QueueMoves.{head_seen}
+use Rattle.wait_rule.proofs.TableSteps.StateLaws.{pushed_none}
 
 -- the index of the entry whose word, or whose flag word, stands there
 pub index_at : (first at who slot : ℕ) → at ≡ first + (SLOTS * who + slot) → at - first ≡ index who slot
@@ -158,6 +161,21 @@ module _ (slots id : ℕ) (me : Sat) (lives : me.0.lives ≡ true) (x p : ℕ) (
             (head_seen s items me (book_of me.0.items).head own refl),
         (is_entry s items ruled x, knew_entry s items me x ruled own),
       )))
+
+  pub kept_moves : Allows (Holds Law) slots id me p (λ n. n) (kept_entry_play (move slots p 0 0 none) me)
+  kept_moves s r long at_id few =
+      let a = loads slots id me lives (place.Entry x) small p at refl (λ _. [])
+      (λ n. (d : TableId) → KnewEntry (known d me.0 0) (p - ENTRY_AT) n) (λ _. tt)
+      (λ _. refl) (λ _ b. refl) (λ _ b. refl) (λ _ p. refl) (λ _ k. (λ e. refl, refl))
+      (λ s items ruled own fits. (
+        subst (λ (xs : List Item). Fits (s.task me.0.number) (book_of xs)) (sym (append-nil me.0.items)) fits,
+        λ d. subst (λ (k : ℕ). KnewEntry (known d me.0 0) k (entry_word (s.entry x))) entry_there
+            (knew_entry s items me x ruled own d),
+      ))
+      (λ s items ruled own. same_links s items me.0.number [] (ap (notes_of me.0.number)
+      (append-nil (items me.0.number)))
+      ruled.linked) s r long at_id few in
+      (a.0, a.1, a.2, a.3, (a.4.0 ∙ ap (λ w. (w, me.1)) (pushed_none me.0), a.4.1))
 
   pub queue_moves : (e : Entry) (word at_last slot : ℕ) (d : TableId) → word ≡ entry_word (Some e)
       → owner x ≡ me.0.number → x ≡ index me.0.number slot → head_of e.watch ≡ at_last

@@ -2,7 +2,6 @@ use Rattle.std.proofs.Common.{refl, ◌∙◌, ap, sym, subst, arith}
 use Rattle.std.specs.Prelude.{ℕ, ◌≡◌, Some}
 use Rattle.wait_model.specs.declared.layout.TheConstants.{ENTRY_AT}
 use Rattle.wait_rule.specs.Known.{Known, known}
-use Rattle.wait_rule.specs.Plays.{Sat}
 use Rattle.wait_rule.specs.Queues.{index, KnewEntry}
 use Rattle.wait_rule.specs.Says.{told_of}
 use Rattle.wait_rule.proofs.TableSteps.MemberMoves.{index_at, kept_moves}
@@ -26,9 +25,9 @@ returns-clause-tells c e stored own =
     let d = c.task.inside.seat.table_id in
     let shows = λ (x : ℕ). KnewEntry (known d m 0) x c.load.result in
     let knew : shows (index m.number c.args.slot) =
-        subst (λ (n : ℕ). shows (index n c.args.slot)) (sym c.task.invariant.2)
-        (subst shows (index_at ENTRY_AT c.entry_at-at.result c.task.inside.number c.args.slot c.entry_at-at.ensures)
-        (c.load.ensures.2.1 d)) in
+    subst (λ (n : ℕ). shows (index n c.args.slot)) (sym c.task.invariant.2)
+    (subst shows (index_at ENTRY_AT c.entry_at-at.result c.task.inside.number c.args.slot c.entry_at-at.ensures)
+    (c.load.ensures.2.1 d)) in
     knew.stands c.args.slot c.requires.slot refl e
-        (subst (λ (k : Known). (told_of k).bits.stored (index k.view.number c.args.slot) ≡ Some e) (sym c.task.view_is)
-        stored) own
+    (subst (λ (k : Known). (told_of k).bits.stored (index k.view.number c.args.slot) ≡ Some e) (sym c.task.view_is)
+    stored) own

@@ -4,6 +4,7 @@ use Rattle.std.proofs.lemmas.Bool.Decides.{nat_tests}
 use Rattle.std.specs.Prelude.{ℕ, ◌≡◌, ◌<◌, ◌≤◌, ◌+◌, ◌⊎◌, ◌||◌, not, nat_lt, Bool, true, false, List, [], ◌∷◌, ◌++◌}
 use Rattle.wait_model.specs.declared.layout.TheConstants.{HEADS}
 use Rattle.wait_model.specs.declared.steps.Step.{Step}
+use Rattle.wait_model.specs.declared.steps.Step.TheVariants as step
 use Rattle.wait_model.specs.PointFacts.{holds}
 use Rattle.wait_rule.specs.Known.{Known}
 use Rattle.wait_rule.specs.Says.{history_of}
@@ -13,7 +14,7 @@ use Rattle.wait_rule.specs.Tried.{IsOneMore}
 use Rattle.wait_class.specs.declared.stages.Turn.{Turn}
 use Rattle.wait_class.specs.declared.stages.Turn.TheVariants as turn
 use Rattle.wait_class.specs.Handing.{LastGiven}
-use Rattle.wait_class.specs.Tables.{Advances, MadeEvent, Shows, CallTable}
+use Rattle.wait_class.specs.Tables.{Advances, MadeEvent, Shows, SleptLast, CallTable}
 
 -- it has made nothing yet, or an event
 abbrev pub IsBegun : {C : Type 0} → Known → Known → Run C → Run C → Type 0
@@ -34,6 +35,19 @@ pub begun_on : {C : Type 0} (old mid new : Known) (r q : Run C) → IsBegun old 
     → MadeEvent old new
 begun_on old mid new r q (inl same) made = subst (λ (k : Known). MadeEvent k new) same.0 made
 begun_on old mid new r q (inr before) made = made_on old mid new before (made.before ++ made.event ∷ made.behind) made.is
+
+pub slept_on : (old mid new : Known) → MadeEvent old mid → SleptLast mid new → SleptLast old new
+slept_on old mid new m x = record {
+  before = (m.before ++ m.event ∷ m.behind) ++ x.before;
+  found = x.found;
+  is = x.is ∙ ap (λ (l : List Step). l ++ step.Sleep x.found ∷ []) (ap (λ (l : List Step). l ++ x.before) m.is
+      ∙ append_assoc (history_of old) (m.before ++ m.event ∷ m.behind) x.before);
+}
+
+pub goes_slept : {C : Type 0} (old mid new : Known) (r q : Run C) → IsBegun old mid r q → SleptLast mid new
+    → SleptLast old new
+goes_slept old mid new r q (inl same) x = subst (λ (k : Known). SleptLast k new) same.0 x
+goes_slept old mid new r q (inr made) x = slept_on old mid new made x
 
 module _ {C S O : Type 0} (t : CallTable C S O) (old mid new : Known) (r q w : Run C) (n : S)
     (begun : IsBegun old mid r q) where
@@ -67,11 +81,15 @@ shown_behind t old mid new r q w still kept (turn.Again n) (inr failed) = inr (r
   free = failed.free;
 })
 shown_behind t old mid new r q w still kept (turn.Locked n) found = found
-shown_behind t old mid new r q w still kept (turn.Asleep n) x = tt
+shown_behind t old mid new r q w still kept (turn.Asleep n) x = record {
+  before = x.before;
+  found = x.found;
+  is = x.is ∙ ap (λ (l : List Step). (l ++ x.before) ++ step.Sleep x.found ∷ []) still;
+}
 shown_behind t old mid new r q w still kept (turn.Done o) x = tt
 
 -- a stretch under way
-pub record IsUnderWay {C S O : Type 0} (t : CallTable C S O) (old new : Known) (r q : Run C) (s n : S) (turns : ℕ) :
+pub record IsInStretch {C S O : Type 0} (t : CallTable C S O) (old new : Known) (r q : Run C) (s n : S) (turns : ℕ) :
     Type 0 where
   pub way : Advances t old new r q s (turn.Again n)
   pub begun : IsBegun old new r q

@@ -18,5 +18,6 @@ pub mod Histories
 pub mod CallPlans
 pub mod Ways
 pub mod Wholes
+pub mod UnderWay
 pub mod Stays
 pub mod OwnSteps

@@ -23,6 +23,7 @@ use Rattle.wait_rule.specs.Says.{IsAwakeAgain, added, grown, history_of, told_of
 use Rattle.wait_rule.specs.Transitions.{OnlyLooks}
 use Rattle.wait_rule.proofs.KnownLaws.AfterSteps.{told_added}
 use Rattle.wait_rule.proofs.KnownLaws.Debts.{added_debts, looked_debts}
+use Rattle.wait_rule.proofs.KnownLaws.TaskHistories.{history_after}
 use Rattle.wait_rule.proofs.KnownLaws.Transitions.{book_told, looks_of, only_none}
 use Rattle.wait_rule.proofs.TableSteps.ItemLists.{steps_append}
 use Rattle.wait_class.specs.Posts.{IsStateFor, Post, Stands}
@@ -33,7 +34,7 @@ use Rattle.wait_class.specs.declared.stages.Doing.TheVariants as doing
 use Rattle.wait_class.specs.declared.stages.Run.{Run}
 use Rattle.wait_class.specs.declared.stages.Turn.TheVariants as turn
 use Rattle.wait_class.specs.Laws.{IsLawfulTable, LawOf, SleepLaw}
-use Rattle.wait_class.specs.Tables.{Advances, IsAsleepAt, IsAt, CallTable, Turned, Went, falls, plan_program, post_of, run_post, watch_in}
+use Rattle.wait_class.specs.Tables.{Advances, IsAsleepAt, IsAt, CallTable, SleptLast, Turned, Went, falls, plan_program, post_of, run_post, watch_in}
 use Rattle.wait_class.specs.Laws.{Unmoved}
 use Rattle.wait_class.proofs.CalmSteps.{calm_step}
 use Rattle.wait_class.proofs.Histories.{and_both}
@@ -156,8 +157,16 @@ module _ {C S O : Type 0} (t : CallTable C S O) (law : IsLawfulTable t) where
           };
         }
 
+    slept_last : SleptLast old slept
+    slept_last = record {
+      before = [];
+      found = w;
+      is = history_after old slept (step.Sleep w) refl
+          ∙ ap (λ (l : List Step). l ++ step.Sleep w ∷ []) (sym (append-nil (history_of old)));
+    }
+
     down_to : sleep_of (task_of w) ≡ sleeping.Asleep → Turned t old slept r r s (turn.Asleep n)
-    down_to asleep = record { shows = tt; advances = down_lands asleep }
+    down_to asleep = record { shows = slept_last; advances = down_lands asleep }
 
   pub sleep_up : (old new : Known) (r : Run C) (s : S) → t.doing s ≡ doing.Sleep → IsAt t old r s → (w : ℕ)
       → new ≡ added old (item.Made (step.Sleep w)) → (x : Sleep) → x ≡ sleep_of (task_of w)

@@ -8,3 +8,4 @@ pub mod Laws
 pub mod Frames
 pub mod FrameLaws
 pub mod Wholes
+pub mod UnderWay

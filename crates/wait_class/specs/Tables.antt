@@ -228,12 +228,18 @@ pub record HasFoundOther {C S O : Type 0} (t : CallTable C S O) (new : Known) (q
   pub before : Known
   pub finds : FindsOther before new (head_in t q.of s) q.ticket q.served
 
+-- the last step of the task is a sleep
+pub record SleptLast (old new : Known) : Type 0 where
+  pub before : List Step
+  pub found : ℕ
+  pub is : history_of new ≡ (history_of old ++ before) ++ step.Sleep found ∷ []
+
 -- What a turn has to show for its answer: that it goes on, an event or a failed try; that it waits for the lock, a look
--- that found another number served.
+-- that found another number served; that it was put asleep, a sleep, which came last.
 abbrev pub Shows : {C S O : Type 0} → CallTable C S O → Known → Known → Run C → Run C → Turn S O → Type 0
 Shows t old new r q (turn.Again s) = MadeEvent old new ⊎ HasFailed t old new r q s
 Shows t old new r q (turn.Locked s) = HasFoundOther t new q s
-Shows t old new r q (turn.Asleep s) = Unit {0}
+Shows t old new r q (turn.Asleep s) = SleptLast old new
 Shows t old new r q (turn.Done o) = Unit {0}
 
 pub record Turned {C S O : Type 0} (t : CallTable C S O) (old new : Known) (r q : Run C) (s : S) (u : Turn S O) :

@@ -7,6 +7,7 @@ ghost use Rattle.wq_head.specs.declared.locks.TheConstants.{LOOKS};
 ghost use Rattle.wait_class.specs.declared.stages.Turn.TheVariants as turn;
 ghost use Rattle.wait_class.specs.Handing.{LastGiven};
 ghost use Rattle.wait_class.specs.Tables.{Advances, IsAsleepAt, IsAt, IsStop, LooksAwake, Turned, falls};
+ghost use Rattle.wait_class.specs.UnderWay.{Came, IsUnderWay};
 ghost use Rattle.wait_class.specs.Wholes.{HasRested};
 
 use crate::events::advance;
@@ -39,9 +40,14 @@ pub fn stretch<C: Machine>(
     requires of { task.old.domain ≡ domain.now }
     requires passes { PassesNone passing.old }
     requires at { IsAt C.table task.old run.old stage }
+    ensures of { task.new.domain ≡ domain.now }
     ensures turned { Turned C.table task.old task.new run.old run.new stage result }
     ensures stops { IsStop C.table result }
     ensures given { LastGiven task.old task.new passing.new.head }
+    ensures under { (c : _) → IsUnderWay C.table c task.old run.old (turn.Again stage)
+        → IsUnderWay C.table c task.new run.new result }
+    ensures came { (start : _) → (f : _) → (s : _) → Advances C.table start task.old f run.old s (turn.Again stage)
+        → Came C.table start task.new f run.new s result }
 {
     C::lawful();
     let mut at = stage;
@@ -65,9 +71,16 @@ pub fn stretch<C: Machine>(
 pub fn woke<C: Machine>(domain: &Domain, task: &mut Task, run: &Run<C>, stage: C::Stage) -> bool
     requires of { task.old.domain ≡ domain.now }
     requires asleep { IsAsleepAt C.table task.old run.now stage }
+    ensures of { task.new.domain ≡ domain.now }
     ensures looked { LooksAwake task.old task.new result }
     ensures advances { MatchBool result (Advances C.table task.old task.new run.now run.now stage (turn.Again stage))
         (Advances C.table task.old task.new run.now run.now stage (turn.Asleep stage)) }
+    ensures under { (c : _) → IsUnderWay C.table c task.old run.now (turn.Asleep stage)
+        → MatchBool result (IsUnderWay C.table c task.new run.now (turn.Again stage))
+        (IsUnderWay C.table c task.new run.now (turn.Asleep stage)) }
+    ensures came { (start : _) → (f : _) → (s : _) → Advances C.table start task.old f run.now s (turn.Asleep stage)
+        → MatchBool result (Advances C.table start task.new f run.now s (turn.Again stage))
+        (Advances C.table start task.new f run.now s (turn.Asleep stage)) }
 {
     C::lawful();
     let _ = (*run, stage);
@@ -132,6 +145,55 @@ pub fn event<C: Machine>(
     turn
 }
 
+/// Makes the event of a wait at a stage, and where a head is held then the one behind it.
+#[inline(always)]
+fn two_events<C: Machine>(
+    domain: &Domain,
+    task: &mut Task,
+    run: &mut Run<C>,
+    stage: C::Stage,
+) -> Turn<C::Stage, C::Outcome>
+    requires of { task.old.domain ≡ domain.now }
+    requires at { IsAt C.table task.old run.old stage }
+    ensures { Advances C.table task.old task.new run.old run.new stage result }
+{
+    C::lawful();
+    match event(domain, task, run, stage) {
+        Turn::Again(next) => {
+            if C::is_free(next) {
+                return Turn::Again(next);
+            }
+            event(domain, task, run, next)
+        }
+        turn => turn,
+    }
+}
+
+/// Makes the event of a wait at a stage, and where a head is held then up to two behind it. Behind a lock the stages
+/// that follow are few, and the compiler knows them here, where a loop would look anew what is done at each.
+#[inline(always)]
+fn three_events<C: Machine>(
+    domain: &Domain,
+    task: &mut Task,
+    run: &mut Run<C>,
+    stage: C::Stage,
+) -> Turn<C::Stage, C::Outcome>
+    requires of { task.old.domain ≡ domain.now }
+    requires at { IsAt C.table task.old run.old stage }
+    ensures { Advances C.table task.old task.new run.old run.new stage result }
+{
+    C::lawful();
+    match event(domain, task, run, stage) {
+        Turn::Again(next) => {
+            if C::is_free(next) {
+                return Turn::Again(next);
+            }
+            two_events(domain, task, run, next)
+        }
+        turn => turn,
+    }
+}
+
 /// Goes on with a wait from a stage to its end: waits for locks, and sleeps.
 #[inline(never)]
 fn run_from<R: Wait, C: Machine>(
@@ -149,7 +211,7 @@ fn run_from<R: Wait, C: Machine>(
     let mut at = stage;
     let mut looks = 0;
     for _ in rt.forever() {
-        match event(domain, task, run, at) {
+        match three_events(domain, task, run, at) {
             Turn::Again(next) => {
                 looks = 0;
                 at = next;

@@ -7,51 +7,51 @@ pub loop-init : goal.loop-init
 loop-init g c = advances_none g.C.Machine.table c.lawful.ensures c.args.task.now c.args.run.now c.args.stage
     c.requires.at
 
-pub event-requires-clause-of : goal.event-requires-clause-of
-event-requires-clause-of g c = same_domain g.C.Machine.table c.lawful.ensures c.args.task.now c.loop.task
+pub three_events-requires-clause-of : goal.three_events-requires-clause-of
+three_events-requires-clause-of g c = same_domain g.C.Machine.table c.lawful.ensures c.args.task.now c.loop.task
     c.args.run.now.of c.loop.run.of (turn.Again c.args.stage) (turn.Again c.loop.at) c.loop.invariant.went
     ∙ c.requires.of
 
-pub event-requires-clause-at : goal.event-requires-clause-at
-event-requires-clause-at g c = c.loop.invariant.lands
+pub three_events-requires-clause-at : goal.three_events-requires-clause-at
+three_events-requires-clause-at g c = c.loop.invariant.lands
 
 pub loop-preserved-in-Again : goal.loop-preserved-in-Again
 loop-preserved-in-Again g c =
     let i = c.loop.invariant in
-    advances_on g.C.Machine.table c.lawful.ensures c.args.task.now c.loop.task c.event.new.task c.args.run.now
-    c.loop.run c.event.new.run c.args.stage c.loop.at (turn.Again c.in-Again.next) i.same i.went
-    c.in-Again.ensures.turned.advances
+    advances_on g.C.Machine.table c.lawful.ensures c.args.task.now c.loop.task c.three_events.new.task c.args.run.now
+    c.loop.run c.three_events.new.run c.args.stage c.loop.at (turn.Again c.in-Again.next) i.same i.went
+    c.in-Again.ensures
 
 pub loop-preserved-in-Asleep : goal.loop-preserved-in-Asleep
 loop-preserved-in-Asleep g c =
     let i = c.loop.invariant in
-    let a = advances_on g.C.Machine.table c.lawful.ensures c.args.task.now c.loop.task c.event.new.task c.args.run.now
-    c.loop.run c.event.new.run c.args.stage c.loop.at (turn.Asleep c.in-Asleep.next) i.same
-    i.went c.in-Asleep.ensures.turned.advances in
-    advances_on g.C.Machine.table c.lawful.ensures c.args.task.now c.event.new.task c.rise.new.task
-    c.args.run.now c.event.new.run c.event.new.run c.args.stage c.in-Asleep.next
+    let a = advances_on g.C.Machine.table c.lawful.ensures c.args.task.now c.loop.task c.three_events.new.task c.args.run.now
+    c.loop.run c.three_events.new.run c.args.stage c.loop.at (turn.Asleep c.in-Asleep.next) i.same
+    i.went c.in-Asleep.ensures in
+    advances_on g.C.Machine.table c.lawful.ensures c.args.task.now c.three_events.new.task c.rise.new.task
+    c.args.run.now c.three_events.new.run c.three_events.new.run c.args.stage c.in-Asleep.next
     (turn.Again c.in-Asleep.next) a.same
     (record { runs = a.went.runs; tells = a.went.tells; keeps = a.went.keeps }) c.rise.ensures
 
 pub rise-requires-clause-of : goal.rise-requires-clause-of
-rise-requires-clause-of g c = same_domain g.C.Machine.table c.lawful.ensures c.loop.task c.event.new.task
-    c.loop.run.of c.event.new.run.of (turn.Again c.loop.at) (turn.Asleep c.in-Asleep.next)
-    c.in-Asleep.ensures.turned.advances.went
+rise-requires-clause-of g c = same_domain g.C.Machine.table c.lawful.ensures c.loop.task c.three_events.new.task
+    c.loop.run.of c.three_events.new.run.of (turn.Again c.loop.at) (turn.Asleep c.in-Asleep.next)
+    c.in-Asleep.ensures.went
     ∙ (same_domain g.C.Machine.table c.lawful.ensures c.args.task.now c.loop.task
     c.args.run.now.of c.loop.run.of (turn.Again c.args.stage) (turn.Again c.loop.at) c.loop.invariant.went ∙ c.requires.of)
 
 pub loop-preserved : goal.loop-preserved
 loop-preserved g c =
     let i = c.loop.invariant in
-    again g.C.Machine.table c.args.task.now c.event.new.task c.args.run.now c.event.new.run c.args.stage
+    again g.C.Machine.table c.args.task.now c.three_events.new.task c.args.run.now c.three_events.new.run c.args.stage
     c.in-Locked.next
-    (advances_on g.C.Machine.table c.lawful.ensures c.args.task.now c.loop.task c.event.new.task c.args.run.now
-    c.loop.run c.event.new.run c.args.stage c.loop.at (turn.Locked c.in-Locked.next) i.same
-    i.went c.in-Locked.ensures.turned.advances)
+    (advances_on g.C.Machine.table c.lawful.ensures c.args.task.now c.loop.task c.three_events.new.task c.args.run.now
+    c.loop.run c.three_events.new.run c.args.stage c.loop.at (turn.Locked c.in-Locked.next) i.same
+    i.went c.in-Locked.ensures)
 
 pub returns-in-Done : goal.returns-in-Done
 returns-in-Done g c =
     let i = c.loop.invariant in
-    advances_on g.C.Machine.table c.lawful.ensures c.args.task.now c.loop.task c.event.new.task c.args.run.now
-    c.loop.run c.event.new.run c.args.stage c.loop.at (turn.Done c.in-Done.outcome) i.same i.went
-    c.in-Done.ensures.turned.advances
+    advances_on g.C.Machine.table c.lawful.ensures c.args.task.now c.loop.task c.three_events.new.task c.args.run.now
+    c.loop.run c.three_events.new.run c.args.stage c.loop.at (turn.Done c.in-Done.outcome) i.same i.went
+    c.in-Done.ensures

@@ -4,9 +4,10 @@ use Rattle.wait_class.specs.declared.stages.Turn.TheVariants as turn
 use Rattle.std.specs.Prelude.{◌||◌, nat_lt, not}
 use Rattle.wait_class.proofs.Histories.{and_left}
 use Rattle.wait_class.proofs.Falling.{falls_by, held_yes, unheld}
-use Rattle.wait_class.proofs.Falling.{falls_still, goes_made, goes_shown}
+use Rattle.wait_class.proofs.Falling.{falls_still, goes_made, goes_shown, goes_slept}
 use Rattle.wq_head.proofs.PassedOn.{none_yet}
 use Rattle.wait_class.proofs.Turns.{advances_none, advances_on, same_domain}
+use Rattle.wait_class.proofs.UnderWay.{came_on, under_on}
 use Rattle.wait_model.specs.declared.layout.TheConstants.{HEADS}
 use Rattle.wait_class.proofs.Handed.{given_as, given_on, given_still}
 use Rattle.wait_class.proofs.runs.stretch.Goals as goal
@@ -76,7 +77,8 @@ returns-in-Asleep-clause-turned g c =
       advances = advances_on g.C.Machine.table c.lawful.ensures c.args.task.now c.loop-turn.task c.advance.new.task c.args.run.now
           c.loop-turn.run c.advance.new.run c.args.stage c.loop-turn.at (turn.Asleep c.in-Asleep.next)
           i.way.same i.way.went c.in-Asleep.ensures.turned.advances;
-      shows = tt;
+      shows = goes_slept c.args.task.now c.loop-turn.task c.advance.new.task c.args.run.now c.loop-turn.run i.begun
+          c.in-Asleep.ensures.turned.shows;
     }
 
 pub returns-in-Asleep-clause-stops : goal.returns-in-Asleep-clause-stops
@@ -125,3 +127,67 @@ returns-in-Locked-clause-given g c = given_on c.args.task.now c.loop-turn.task c
 pub returns-in-Done-clause-given : goal.returns-in-Done-clause-given
 returns-in-Done-clause-given g c = given_on c.args.task.now c.loop-turn.task c.advance.new.task c.advance.new.passing.head
     c.loop-turn.invariant.0.given c.in-Done.ensures.given
+
+pub returns-then-is_free-clause-under : goal.returns-then-is_free-clause-under
+returns-then-is_free-clause-under g c = λ p i. under_on g.C.Machine.table c.lawful.ensures p c.args.task.now
+    c.advance.new.task c.args.run.now c.advance.new.run c.args.stage (turn.Again c.in-Again.next) i
+    (returns-then-is_free-clause-turned g c).advances
+
+pub returns-then-is_free-clause-came : goal.returns-then-is_free-clause-came
+returns-then-is_free-clause-came g c = λ start f s a. came_on g.C.Machine.table c.lawful.ensures start c.args.task.now
+    c.advance.new.task f c.args.run.now c.advance.new.run s c.args.stage (turn.Again c.in-Again.next) a
+    (returns-then-is_free-clause-turned g c).advances
+
+pub returns-in-Asleep-clause-under : goal.returns-in-Asleep-clause-under
+returns-in-Asleep-clause-under g c = λ p i. under_on g.C.Machine.table c.lawful.ensures p c.args.task.now
+    c.advance.new.task c.args.run.now c.advance.new.run c.args.stage (turn.Asleep c.in-Asleep.next) i
+    (returns-in-Asleep-clause-turned g c).advances
+
+pub returns-in-Asleep-clause-came : goal.returns-in-Asleep-clause-came
+returns-in-Asleep-clause-came g c = λ start f s a. came_on g.C.Machine.table c.lawful.ensures start c.args.task.now
+    c.advance.new.task f c.args.run.now c.advance.new.run s c.args.stage (turn.Asleep c.in-Asleep.next) a
+    (returns-in-Asleep-clause-turned g c).advances
+
+pub returns-in-Locked-clause-under : goal.returns-in-Locked-clause-under
+returns-in-Locked-clause-under g c = λ p i. under_on g.C.Machine.table c.lawful.ensures p c.args.task.now
+    c.advance.new.task c.args.run.now c.advance.new.run c.args.stage (turn.Locked c.in-Locked.next) i
+    (returns-in-Locked-clause-turned g c).advances
+
+pub returns-in-Locked-clause-came : goal.returns-in-Locked-clause-came
+returns-in-Locked-clause-came g c = λ start f s a. came_on g.C.Machine.table c.lawful.ensures start c.args.task.now
+    c.advance.new.task f c.args.run.now c.advance.new.run s c.args.stage (turn.Locked c.in-Locked.next) a
+    (returns-in-Locked-clause-turned g c).advances
+
+pub returns-in-Done-clause-under : goal.returns-in-Done-clause-under
+returns-in-Done-clause-under g c = λ p i. under_on g.C.Machine.table c.lawful.ensures p c.args.task.now
+    c.advance.new.task c.args.run.now c.advance.new.run c.args.stage (turn.Done c.in-Done.outcome) i
+    (returns-in-Done-clause-turned g c).advances
+
+pub returns-in-Done-clause-came : goal.returns-in-Done-clause-came
+returns-in-Done-clause-came g c = λ start f s a. came_on g.C.Machine.table c.lawful.ensures start c.args.task.now
+    c.advance.new.task f c.args.run.now c.advance.new.run s c.args.stage (turn.Done c.in-Done.outcome) a
+    (returns-in-Done-clause-turned g c).advances
+
+pub returns-then-is_free-clause-of : goal.returns-then-is_free-clause-of
+returns-then-is_free-clause-of g c = same_domain g.C.Machine.table c.lawful.ensures c.args.task.now c.advance.new.task
+    c.args.run.now.of c.advance.new.run.of (turn.Again c.args.stage) (turn.Again c.in-Again.next)
+    (returns-then-is_free-clause-turned g c).advances.went
+    ∙ c.requires.of
+
+pub returns-in-Asleep-clause-of : goal.returns-in-Asleep-clause-of
+returns-in-Asleep-clause-of g c = same_domain g.C.Machine.table c.lawful.ensures c.args.task.now c.advance.new.task
+    c.args.run.now.of c.advance.new.run.of (turn.Again c.args.stage) (turn.Asleep c.in-Asleep.next)
+    (returns-in-Asleep-clause-turned g c).advances.went
+    ∙ c.requires.of
+
+pub returns-in-Locked-clause-of : goal.returns-in-Locked-clause-of
+returns-in-Locked-clause-of g c = same_domain g.C.Machine.table c.lawful.ensures c.args.task.now c.advance.new.task
+    c.args.run.now.of c.advance.new.run.of (turn.Again c.args.stage) (turn.Locked c.in-Locked.next)
+    (returns-in-Locked-clause-turned g c).advances.went
+    ∙ c.requires.of
+
+pub returns-in-Done-clause-of : goal.returns-in-Done-clause-of
+returns-in-Done-clause-of g c = same_domain g.C.Machine.table c.lawful.ensures c.args.task.now c.advance.new.task
+    c.args.run.now.of c.advance.new.run.of (turn.Again c.args.stage) (turn.Done c.in-Done.outcome)
+    (returns-in-Done-clause-turned g c).advances.went
+    ∙ c.requires.of

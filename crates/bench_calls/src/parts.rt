@@ -1,6 +1,8 @@
 //! A wait that is put together from parts, and ends before it sleeps; and the wake without a store before it.
 
 ghost use Rattle.std.specs.Prelude.{◌≡◌};
+ghost use Rattle.wait_model.specs.declared.tasks.SleepState.TheVariants as states;
+ghost use Rattle.wait_model.specs.declared.watches.Kind.TheVariants as kinds;
 ghost use Rattle.wait_model.specs.declared.watches.Watch.TheVariants as watch;
 ghost use Rattle.wait_event.specs.Prepares.{MayPrepare};
 ghost use Rattle.wait_rule.specs.Says.{IsClean};
@@ -15,9 +17,9 @@ use wq_head::wake;
 /// Prepares to wait for condition 0, and finishes: true where there was a place for the entry.
 fn once<R: Wait>(rt: &R, domain: &Domain, task: &mut Task) -> bool
     requires of { task.old.domain ≡ domain.now }
-    requires may { MayPrepare task.old (watch.Plain 0) }
+    requires may { MayPrepare task.old (watch.Plain 0) kinds.Autoremove states.Uninterruptible }
     ensures of { task.new.domain ≡ domain.now }
-    ensures may { MayPrepare task.new (watch.Plain 0) }
+    ensures may { MayPrepare task.new (watch.Plain 0) kinds.Autoremove states.Uninterruptible }
 {
     let state = SleepState::Uninterruptible;
     let watch = Watch::Plain { cond: 0 };

@@ -1,8 +1,15 @@
 -- The conditions for which waits run, and the kinds and forms of their entries.
 use Rattle.std.proofs.Common.{◌∙◌, ap, sym, refl, subst, inl, inr, arith}
 use Rattle.std.proofs.lemmas.Bool.Decides.{nat_tests}
-use Rattle.std.specs.Prelude.{ℕ, ◌≡◌, ◌<◌, ◌≤◌, not, nat_lt, Bool, true, false, if◌then◌else◌}
-use Rattle.wait_model.specs.declared.layout.TheConstants.{FIRST_SIMPLE, PLAIN_CONDITIONS, VARIABLES}
+use Rattle.std.specs.Prelude.{ℕ, ◌≡◌, ◌+◌, ◌<◌, ◌≤◌, nat_lt, Bool, true, false, if◌then◌else◌}
+use Rattle.wait_model.specs.declared.layout.TheConstants.{
+  BIT_WORDS,
+  FIRST_DONE_HEAD,
+  FIRST_SIMPLE,
+  HEADS,
+  PLAIN_CONDITIONS,
+  VARIABLES,
+}
 use Rattle.wait_model.specs.declared.queues.Form.{Form}
 use Rattle.wait_model.specs.declared.queues.Form.TheVariants as forms
 use Rattle.wait_model.specs.declared.tasks.How.{How}
@@ -10,10 +17,13 @@ use Rattle.wait_model.specs.declared.watches.Kind.{Kind}
 use Rattle.wait_model.specs.declared.watches.Kind.TheVariants as kind
 use Rattle.wait_model.specs.declared.watches.Watch.{Watch}
 use Rattle.wait_model.specs.declared.watches.Watch.TheVariants as watch
-use Rattle.wait_model.specs.Watches.{IsThere, bare, is_simple, kind_for}
-use Rattle.wq_head.specs.Adds.{IsForPlain, IsFullKind}
+use Rattle.wait_model.specs.Queues.{is_priority}
+use Rattle.wait_model.specs.Watches.{IsThere, bare, head_of, kind_for}
+use Rattle.wq_head.proofs.FullHeads.{hashed_low}
+use Rattle.wq_head.proofs.PermitHeads.{bits_low}
 use Rattle.wait_class.specs.Queueing.{IsForBy, wait_form}
 use Rattle.wait_class.proofs.EntryForms.{for_by}
+use Rattle.wait_event.specs.Prepares.{Suits}
 use Rattle.wait_event.specs.WaitPlans.{IsWaitFor}
 use Rattle.wait_event.specs.Waits.{IsRunning}
 use Rattle.wait_event.specs.declared.waits.WaitCall.{WaitCall}
@@ -93,3 +103,50 @@ wait_none_woken w k its woken = not_so w (sym its ∙ woken)
     not_so (watch.Done d) is = absurd (cc)
     not_so (watch.Bit n b) is = absurd (cc)
     not_so (watch.Var v o) is = absurd (cc)
+
+-- what a prepare may queue, by its form
+tail_or_front : (b : Bool) → is_priority (if b then forms.Tail else forms.Front) ≡ true → ⊥
+tail_or_front true is = absurd (cc)
+tail_or_front false is = absurd (cc)
+
+pub suits_few : (how : How) (form : Form) → form ≡ wait_form how → is_priority form ≡ true → ⊥
+suits_few how form is prior = tail_or_front how.exclusive (sym (ap is_priority is) ∙ prior)
+
+tail_of : (how : How) (w : Watch) (k : Kind) → how.exclusive ≡ true → IsForBy forms.Tail w k → IsForBy (wait_form how) w k
+tail_of how w k tail is = subst (λ (b : Bool). IsForBy (if b then forms.Tail else forms.Front) w k) (sym tail) is
+
+front_of : (how : How) (w : Watch) (k : Kind) → how.exclusive ≡ false → IsForBy forms.Front w k → IsForBy (wait_form how) w k
+front_of how w k front is = subst (λ (b : Bool). IsForBy (if b then forms.Tail else forms.Front) w k) (sym front) is
+
+suits_form : (w : Watch) (k : Kind) (how : How) → Suits w k how → IsForBy (wait_form how) (bare w) k
+suits_form (watch.Plain c) kind.Default how full = for_by (wait_form how) (watch.Plain c) kind.Default
+    (c, refl, full, inl refl)
+suits_form (watch.Plain c) kind.Autoremove how full = for_by (wait_form how) (watch.Plain c) kind.Autoremove
+    (c, refl, full, inr (inl refl))
+suits_form (watch.Plain c) kind.Woken how full = for_by (wait_form how) (watch.Plain c) kind.Woken
+    (c, refl, full, inr (inr refl))
+suits_form (watch.Plain c) kind.Simple how s = tail_of how (watch.Plain c) kind.Simple s.2
+    (inr (refl, inl (c, refl, s.0, s.1)))
+suits_form (watch.Bit n b) kind.Bit how s = front_of how (watch.Bit n b) kind.Bit s.2
+    (inr (inl (refl, (n, b, refl, s.0, s.1))))
+suits_form (watch.Var v o) kind.Var how s = front_of how (watch.Var v 0) kind.Var s.1 (inr (inr (refl, (v, refl, s.0))))
+suits_form w k how s = absurd s
+
+pub suits_for : (w : Watch) (k : Kind) (how : How) → Suits w k how → (form : Form) → form ≡ wait_form how → (c : Watch)
+    → c ≡ bare w → IsForBy form c k
+suits_for w k how s form is c same = subst (λ (f : Form). IsForBy f c k) (sym is)
+    (subst (λ (d : Watch). IsForBy (wait_form how) d k) (sym same) (suits_form w k how s))
+
+-- its head is none of a completion
+pub suits_low : (w : Watch) (k : Kind) (how : How) → Suits w k how → head_of w < FIRST_DONE_HEAD
+unfolding head_of
+suits_low (watch.Plain c) kind.Default how full = omega (arith, full)
+suits_low (watch.Plain c) kind.Autoremove how full = omega (arith, full)
+suits_low (watch.Plain c) kind.Woken how full = omega (arith, full)
+suits_low (watch.Plain c) kind.Simple how s = let few = s.1 in omega (arith, few)
+suits_low (watch.Bit n b) kind.Bit how s = bits_low n b
+suits_low (watch.Var v o) kind.Var how s = let low = hashed_low (BIT_WORDS + v) in omega (arith, low)
+suits_low w k how s = absurd s
+
+pub low_fits : (h : ℕ) → h < FIRST_DONE_HEAD → h < HEADS
+low_fits h low = omega (arith, low)

@@ -1,6 +1,6 @@
 -- Whole waits: how they begin, and what they say at their end.
 use Rattle.std.proofs.Common.{◌∙◌, ap, sym, refl, subst}
-use Rattle.std.specs.Prelude.{ℕ, ◌≡◌, ◌||◌, ◌&&◌, not, Bool, true, false, Option, Some, None, [], ◌∷◌, ◌++◌}
+use Rattle.std.specs.Prelude.{ℕ, ◌≡◌, ◌||◌, ◌&&◌, not, Bool, true, false, None, [], ◌∷◌, ◌++◌}
 use Rattle.wait_model.specs.declared.calls.Call.{Call}
 use Rattle.wait_model.specs.declared.tasks.How.{How}
 use Rattle.wait_model.specs.declared.points.Point.{Point}
@@ -9,16 +9,14 @@ use Rattle.wait_model.specs.declared.points.PreparePoint.TheVariants as preparin
 use Rattle.wait_model.specs.declared.points.Next.TheVariants as next
 use Rattle.wait_model.specs.declared.points.Planned.{Planned}
 use Rattle.wait_model.specs.declared.steps.Step.TheVariants as step
-use Rattle.wait_model.specs.declared.watches.Entry.{Entry}
 use Rattle.wait_model.specs.declared.watches.Watch.{Watch}
 use Rattle.wait_model.specs.declared.watches.Watch.TheVariants as watch
 use Rattle.wait_model.specs.Programs.{program}
-use Rattle.wait_model.specs.Reached.{absent, IsHome}
 use Rattle.wait_model.specs.Tasks.{pending, state_mask, task_of}
 use Rattle.wait_model.specs.Watches.{head_of}
 use Rattle.wait_rule.specs.Ends.{WasWorn}
 use Rattle.wait_rule.specs.Known.{Known}
-use Rattle.wait_rule.specs.Says.{IsUp, told_of}
+use Rattle.wait_rule.specs.Says.{IsClean, IsUp, no_excuse, told_of}
 use Rattle.wait_rule.specs.Queues.{IsIdle, IsTold, index}
 use Rattle.wait_rule.specs.Stays.{Carries}
 use Rattle.wait_rule.specs.Transitions.{Goes, Program, call_program}
@@ -92,6 +90,19 @@ module _ (old new : Known) (r q : Run WaitCall) (s : WaitStage) (o : WaitOutcome
         owes = λ x owes. owes_out i x new (ap (λ (n : ℕ). (told_of new).bits.stored (index n 0)) (sym keeps.number)
             ∙ ends_out) (keeps.owes x (owes_also i x old owes));
       }
+
+-- who began owing nothing
+pub ends_clean : (old new : Known) (r q : Run WaitCall) (s : WaitStage) (o : WaitOutcome)
+    → Advances wait_table old new r q s (turn.Done o) → IsClean old → IsTold old → IsClean new
+ends_clean old new r q s o a clean told =
+    let idle = ends_idle old new r q s o a clean.settled.unmarked in
+    let was : IsIdle old = record { running = clean.running; free = clean.free; unmarked = clean.settled.unmarked } in
+    record {
+      up = a.lands.up;
+      running = idle.running;
+      free = idle.free;
+      settled = (ends_carried old new r q s o a clean.up was (told.head ∙ clean.free.head)).owes no_excuse clean.settled;
+    }
 
 -- what it says at its end
 module _ (old new : Known) (r q : Run WaitCall) (w : Watch) (how : How) (fresh : IsFresh r.of w how true)

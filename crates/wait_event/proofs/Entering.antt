@@ -116,7 +116,7 @@ pub runs_lock : (f : Program) (p : _) (n : Next) (old a : Known) (h : ℕ) → (
     (item.Made (step.Lock h (walk_of_hold h None) l.found)))) p n → Runs f old a p n
 runs_lock f p n old a h l r = subst (λ (k : Known). Runs f old k p n) (sym l.is) r
 
-note_unlocked : (b new : Known) (w : Worn) → new ≡ unlocked_with b b.at false
+pub note_unlocked : (b new : Known) (w : Worn) → new ≡ unlocked_with b b.at false
     → WasWorn b.view.number b.view.items w.head w.place → WasWorn new.view.number new.view.items w.head w.place
 note_unlocked b new w is noted =
     let u : Item = item.Made (step.Unlock b.at false) in

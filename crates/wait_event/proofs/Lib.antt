@@ -6,11 +6,12 @@ pub mod WaitTrails
 pub mod WaitLaws
 pub mod WaitAdds
 pub mod FirstLoads
-pub mod Parts
 pub mod Endings
 pub mod Hearing
 pub mod Setting
+pub mod PartSteps
 pub mod Preparing
+pub mod Finishing
 pub mod Entering
 pub mod Removing
 pub mod Words

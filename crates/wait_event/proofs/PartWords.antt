@@ -16,6 +16,7 @@ use Rattle.wait_model.specs.declared.points.Point.TheVariants as at
 use Rattle.wait_model.specs.declared.points.PreparePoint.TheVariants as preparing
 use Rattle.wait_model.specs.declared.points.Seen.{Seen}
 use Rattle.wait_model.specs.declared.tasks.How.{How}
+use Rattle.wait_model.specs.declared.watches.Watch.{Watch}
 use Rattle.wait_model.specs.declared.watches.Watch.TheVariants as watch
 use Rattle.wait_model.specs.Phrases.{
   Phrase,
@@ -40,7 +41,8 @@ use Rattle.wait_rule.specs.Known.{Known}
 use Rattle.wait_rule.specs.SaidEvents.{said}
 use Rattle.wait_rule.specs.Transitions.{Finds, Goes, IsMadeFor, Program, Transition, after_transition}
 use Rattle.wait_class.specs.Queueing.{wait_form}
-use Rattle.wait_event.specs.Prepares.{any_how}
+use Rattle.wait_event.specs.Prepares.{finish_program}
+use Rattle.wait_event.proofs.Plans.{plain_program}
 use Rattle.wait_rule.specs.Interleavings.{IsInterleaved}
 use Rattle.wait_rule.specs.Items.{steps_of}
 use Rattle.wait_rule.specs.Says.{history_of}
@@ -269,11 +271,14 @@ module _ (me c : ℕ) (how : How) where
 pub prepares_begin : PreparesBegin
 prepares_begin old new c how asks to queued is law out p =
     let me : ℕ = old.view.number in
+    let goes : Goes (wait_program asks me (calls.Wait c how)) old (next.Go (at.Prepare preparing.Lock))
+    p.runs.transitions new (next.Go to) = subst (λ (f : Program). Goes f old (next.Go (at.Prepare preparing.Lock))
+    p.runs.transitions new (next.Go to)) (plain_program me c how asks) p.runs.goes in
     let number : new.view.number ≡ me = number_stays (wait_program asks me (calls.Wait c how)) old new
-    (next.Go (at.Prepare preparing.Lock)) (next.Go to) p.runs.transitions p.runs.goes in
+    (next.Go (at.Prepare preparing.Lock)) (next.Go to) p.runs.transitions goes in
     run_on me c how law.table law.ruled.whole.interleaved asks to is new []
     (law.ruled.histories me ∙ (ap steps_of (list_of new.view law me number) ∙ steps_append new.view.items []))
-    p.runs.transitions queued (at.Prepare preparing.Lock) old out p.runs.goes
+    p.runs.transitions queued (at.Prepare preparing.Lock) old out goes
 
 -- what is left at the points of a program, event by event
 module _ (f : Program) (Left : Point → List Event → Type 0) (Over : Answer → List Event → Type 0) where
@@ -298,19 +303,19 @@ module _ (f : Program) (Left : Point → List Event → Type 0) (Over : Answer �
         (f.plan p t.seen).next g.1)
 
 -- the finish
-module _ (me c : ℕ) where
+module _ (me : ℕ) (w : Watch) where
   abbrev ends_so : Phrase Answer
   ends_so = gives (number 0)
 
   abbrev FinishLeft : Point → Rest
-  FinishLeft (at.Finish finishing.State false) = (finishes me (watch.Plain c) true >> ends_so) ends
+  FinishLeft (at.Finish finishing.State false) = (finishes me w true >> ends_so) ends
   FinishLeft (at.Finish finishing.Look false) = ((stands true >>= λ found. when found
-      then (locks (watch.Plain c) >> (takes_off me true >> unlocks (watch.Plain c)))
+      then (locks w >> (takes_off me true >> unlocks w))
       otherwise nothing) >> ends_so) ends
-  FinishLeft (at.Finish finishing.Lock false) = ((locks (watch.Plain c)
-      >> (takes_off me true >> unlocks (watch.Plain c))) >> ends_so) ends
-  FinishLeft (at.Finish finishing.Queue false) = ((takes_off me true >> unlocks (watch.Plain c)) >> ends_so) ends
-  FinishLeft (at.Finish finishing.Unlock false) = (unlocks (watch.Plain c) >> ends_so) ends
+  FinishLeft (at.Finish finishing.Lock false) = ((locks w
+      >> (takes_off me true >> unlocks w)) >> ends_so) ends
+  FinishLeft (at.Finish finishing.Queue false) = ((takes_off me true >> unlocks w) >> ends_so) ends
+  FinishLeft (at.Finish finishing.Unlock false) = (unlocks w >> ends_so) ends
   FinishLeft _ = λ v a. Unit {0}
 
   abbrev FinishAt : Point → List Event → Type 0
@@ -320,7 +325,7 @@ module _ (me c : ℕ) where
   FinishOver b v = ends b v zero_answer
 
   abbrev g : Program
-  g = wait_program true me (calls.Wait c any_how)
+  g = finish_program me w
 
   module _ (v : List Event) where
     abbrev FinishLeads : Point → Planned → Type 0
@@ -340,7 +345,7 @@ pub finishes_follow : FinishesFollow
 finishes_follow old new h =
     let me : ℕ = old.view.number in
     let from : Next = next.Go (at.Finish finishing.State false) in
-    subst (λ (v : List Event). FinishAt me h.cond (at.Finish finishing.State false) v)
-    (append-nil (said (g me h.cond) from h.runs.transitions))
-    (run_left (g me h.cond) (FinishAt me h.cond) (FinishOver me h.cond) (λ q seen v. finish_leads me h.cond v q seen)
+    subst (λ (v : List Event). FinishAt me h.watch (at.Finish finishing.State false) v)
+    (append-nil (said (g me h.watch) from h.runs.transitions))
+    (run_left (g me h.watch) (FinishAt me h.watch) (FinishOver me h.watch) (λ q seen v. finish_leads me h.watch v q seen)
     (next.Ends zero_answer) [] refl h.runs.transitions (at.Finish finishing.State false) old new h.runs.goes)

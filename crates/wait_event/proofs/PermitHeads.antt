@@ -1,6 +1,6 @@
 -- The heads of waits for plain conditions and variables are none of a completion.
 use Rattle.std.proofs.Common.{arith}
-use Rattle.std.specs.Prelude.{ℕ, ◌≡◌, ◌+◌, ◌<◌}
+use Rattle.std.specs.Prelude.{ℕ, ◌+◌, ◌<◌}
 use Rattle.wait_model.specs.declared.layout.TheConstants.{BIT_WORDS, FIRST_DONE_HEAD, FIRST_SIMPLE}
 use Rattle.wait_model.specs.declared.tasks.How.{How}
 use Rattle.wait_model.specs.declared.watches.Watch.{Watch}

@@ -19,7 +19,7 @@ use Rattle.wait_model.specs.declared.watches.Watch.TheVariants as watch
 use Rattle.wait_model.specs.Points.{given_at}
 use Rattle.wait_model.specs.Programs.{go, program}
 use Rattle.wait_model.specs.Tasks.{state_mask}
-use Rattle.wait_model.specs.Watches.{IsThere, head_of}
+use Rattle.wait_model.specs.Watches.{head_of, kind_for}
 use Rattle.wait_rule.specs.Known.{Known}
 use Rattle.wait_rule.specs.Queues.{index}
 use Rattle.wait_rule.specs.Transitions.{Goes, Program}
@@ -51,11 +51,11 @@ module _ (me c : ℕ) (how : How) where
 
   plain_given : (p : Point) → record (given_at (call_for (watch.Plain c) how) p) {
     watch = watch.Plain c;
-    kind = kind_in (watch.Plain c) p;
+    kind = kind_in (kind_for (watch.Plain c)) p;
   } ≡ given_at (call_for (watch.Plain c) how) p
   plain_given p = refl
 
-  plain_program : (asks : Bool) → plan_program me 0 (wait_plan asks (watch.Plain c) how)
+  pub plain_program : (asks : Bool) → plan_program me 0 (wait_plan asks (watch.Plain c) how)
       ≡ wait_program asks me (call_for (watch.Plain c) how)
   plain_program asks i = record {
     plan = λ p seen. asked asks p (plain_plan p seen i);
@@ -95,7 +95,7 @@ module _ (me v old : ℕ) (how : How) where
 
   var_given : (p : Point) → record (given_at (call_for (watch.Var v old) how) p) {
     watch = watch.Var v old;
-    kind = kind_in (watch.Var v old) p;
+    kind = kind_in (kind_for (watch.Var v old)) p;
   } ≡ given_at (call_for (watch.Var v old) how) p
   var_given p = refl
 

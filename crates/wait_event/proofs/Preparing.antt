@@ -1,241 +1,471 @@
--- Prepares and finishes: how they begin, and what they say at their end.
+-- Prepares: how a task stands in its hold, and what they say at their end.
 use Rattle.std.proofs.Common.{◌∙◌, ap, sym, refl, subst, inr}
-use Rattle.std.specs.Prelude.{
-  ℕ,
-  ◌≡◌,
-  ◌<◌,
-  ◌||◌,
-  ◌&&◌,
-  not,
-  Bool,
-  true,
-  false,
-  is_some,
-  Option,
-  Some,
-  None,
-  Result,
-  Ok,
-  Err,
-  [],
-  ◌++◌,
-}
-use Rattle.wait_model.specs.declared.layout.TheConstants.{FIRST_SIMPLE}
-use Rattle.wait_model.specs.declared.tasks.How.{How}
-use Rattle.wait_model.specs.declared.tasks.SleepState.{SleepState}
+use Rattle.std.specs.Prelude.{ℕ, ◌≡◌, ◌⊎◌, ◌<◌, ◌&&◌, ◌||◌, Bool, true, false, if◌then◌else◌, is_some, Option, Some, None}
+use Rattle.std.specs.Prelude.{Result, Ok, Err, List, [], ◌∷◌, ◌++◌}
+use Rattle.wait_model.specs.declared.layout.TheConstants.{FIRST_DONE_HEAD}
+use Rattle.wait_model.specs.declared.points.LeavePoint.TheVariants as leaving
+use Rattle.wait_model.specs.declared.points.Next.{Next}
+use Rattle.wait_model.specs.declared.points.Next.TheVariants as next
 use Rattle.wait_model.specs.declared.points.Point.{Point}
 use Rattle.wait_model.specs.declared.points.Point.TheVariants as at
-use Rattle.wait_model.specs.declared.points.LeavePoint.TheVariants as leaving
 use Rattle.wait_model.specs.declared.points.PreparePoint.TheVariants as preparing
-use Rattle.wait_model.specs.declared.points.FinishPoint.TheVariants as finishing
-use Rattle.wait_model.specs.declared.points.Next.TheVariants as next
+use Rattle.wait_model.specs.declared.steps.Step.{Step}
 use Rattle.wait_model.specs.declared.steps.Step.TheVariants as step
+use Rattle.wait_model.specs.declared.tasks.How.{How}
+use Rattle.wait_model.specs.declared.tasks.SleepState.{SleepState}
 use Rattle.wait_model.specs.declared.watches.Entry.{Entry}
+use Rattle.wait_model.specs.declared.watches.Kind.{Kind}
 use Rattle.wait_model.specs.declared.watches.Watch.{Watch}
-use Rattle.wait_model.specs.declared.watches.Watch.TheVariants as watch
-use Rattle.wait_model.specs.Programs.{zero_answer}
-use Rattle.wait_model.specs.Reached.{absent, waits, IsHome}
-use Rattle.wait_model.specs.Tasks.{pending, state_mask, task_of}
-use Rattle.wait_model.specs.Watches.{head_of, misses}
+use Rattle.wait_model.specs.Tasks.{looks_in, state_mask}
+use Rattle.wait_model.specs.Watches.{head_of}
 use Rattle.wait_rule.specs.declared.journal.Item.TheVariants as item
+use Rattle.wait_rule.specs.HandedPermits.{OwesNoPermit}
 use Rattle.wait_rule.specs.Known.{Known}
-use Rattle.wait_rule.specs.Tickets.{no_ticket}
-use Rattle.wait_rule.specs.Says.{IsFree, IsUp, added, told_of}
-use Rattle.wait_rule.specs.Queues.{IsTold, index}
-use Rattle.wait_rule.specs.Stays.{Carries, state_change}
-use Rattle.wait_rule.specs.Transitions.{Goes, Program, by_step}
+use Rattle.wait_rule.specs.Queues.{IsTold, at_head, index, saw, walk_of_hold}
+use Rattle.wait_rule.specs.Says.{IsFree, IsUp, MayStore, added, history_of, stored_with, told_of, unlocked_with}
+use Rattle.wait_rule.specs.Stays.{Carries, lock_change, unlock_change, with_entry}
+use Rattle.wait_rule.specs.Transitions.{Goes, IsSeenAs, OnlyLooks, Program, Transition, by_step}
+use Rattle.wait_rule.proofs.KnownLaws.MemberBits.{bit_looks}
 use Rattle.wait_rule.proofs.KnownLaws.StayingParts.{owes_also, owes_out}
+use Rattle.wait_rule.proofs.KnownLaws.TaskHistories.{history_after}
 use Rattle.wait_rule.proofs.KnownLaws.Transitions.{only_none}
-use Rattle.wait_class.specs.Posts.{HasSeenOwn, Keeps, Post, Runs, Stands}
+use Rattle.wq_head.specs.declared.adds.Worn.{Worn}
+use Rattle.wq_head.specs.Holds.{HasLocked, HasUnlocked, IsHolding}
+use Rattle.wq_head.proofs.LockWaits.{turn_looks, turn_of}
+use Rattle.wq_head.proofs.PermitHeads.{owes_low}
+use Rattle.wait_class.specs.Findings.{nothing, with_worn, with_entry as finds}
+use Rattle.wait_class.specs.Posts.{EndsWith, IsOut, Keeps, Runs, own_of}
+use Rattle.wait_class.proofs.Ground.Going.{runs_on, runs_one}
+use Rattle.wait_class.proofs.Ground.Keeping.{keeps_of, keeps_on}
+use Rattle.wait_class.proofs.Ground.Standing.{bare_head, finds_own, owner_own, seen_looks, seen_stored}
+use Rattle.wait_class.proofs.Histories.{ends_more, stored_history, unlocked_history}
+use Rattle.wait_event.specs.declared.prepares.Part.{Part}
+use Rattle.wait_event.specs.PartSteps.{HasJoinedPart, Heeds, IsAtHead, IsWornPart, Joins, PartCarries, Pares}
+use Rattle.wait_event.specs.PartSteps.{locked_to, looked_to, program_of, unsignalled}
 use Rattle.wait_event.specs.Prepares.{
   BeginsOwing,
   CarriesPrepare,
   EndsExclusive,
-  EndsPrepare,
-  HasFinished,
-  IsFinishing,
-  IsFullWatch,
+  EndsPart,
   IsLeft,
+  IsNoWaiter,
+  IsPart,
   MayFinish,
   MayPrepare,
   Prepares,
-  any_how,
-  cond_in,
+  Suits,
+  WasAsked,
+  answers_first,
   exclusive_in,
-  finish_change,
-  first_in,
+  leave_change,
+  part_program,
   prepare_change,
-  prepared_in,
-  with_first,
+  with_none,
 }
-use Rattle.wait_event.specs.Waits.{IsFresh, IsRunning, IsQueuedIn, SameCall, is_prepared, left_by, point_of, queues_first, tells_first, wait_table}
-use Rattle.wait_class.specs.Posts.{EndsWith, own_of}
-use Rattle.wait_class.specs.Findings.{nothing}
-use Rattle.wq_head.specs.declared.adds.Worn.{Worn}
-use Rattle.wait_event.specs.declared.prepares.Prepared.{Prepared}
-use Rattle.wait_event.specs.declared.prepares.Prepared.TheVariants as prepared
-use Rattle.wait_event.specs.declared.waits.WaitOutcome.TheVariants as outcome
-use Rattle.wait_event.specs.declared.waits.WaitCall.{WaitCall}
-use Rattle.wait_event.specs.declared.waits.WaitStage.{WaitStage}
-use Rattle.wait_event.specs.declared.waits.WaitStage.TheVariants as stage
-use Rattle.wait_class.specs.declared.stages.Run.{Run}
-use Rattle.wait_class.specs.declared.stages.Turn.TheVariants as turn
-use Rattle.wait_class.specs.Tables.{Advances, IsAt, plan_post, plan_program, run_post}
-use Rattle.wait_class.proofs.Entries.{peek_advances}
-use Rattle.wait_event.specs.WaitPlans.{call_for, wait_plan, wait_program}
-use Rattle.wait_event.proofs.WaitLaws.{wait_lawful}
-use Rattle.wait_class.proofs.Ground.Going.{runs_on, runs_one}
-use Rattle.wait_class.proofs.Ground.Keeping.{keeps_on}
-use Rattle.wait_class.proofs.Wholes.{none_of}
-use Rattle.wait_event.proofs.Plans.{program_is, runs_program}
-use Rattle.wait_event.proofs.Conditions.{full_runs}
-use Rattle.wait_class.proofs.Ground.Standing.{home_waits, seen_home}
-use Rattle.wait_model.specs.declared.points.Next.{Next}
-use Rattle.wait_class.proofs.Ground.Standing.{state_keeps, state_looks, state_stands, state_up}
+use Rattle.wait_event.specs.Waits.{left_by, queues_first}
+use Rattle.wait_event.proofs.Conditions.{suits_low}
+use Rattle.wait_event.proofs.Entering.{note_unlocked, unlock_looks}
+use Rattle.wait_event.proofs.PartSteps.{IsPlanned, part_keeps, pares_out, pares_part, runs_planned, still_part}
+use Rattle.wait_event.proofs.Tellings.{firsts_more}
+use Rattle.wait_event.proofs.WaitTrails.{left_off, left_taken}
 
-pub prepares_at : (k : Known) (r : Run WaitCall) (w : Watch) (how : How) (asks : Bool) → IsFresh r.of w how asks
-    → IsFullWatch w → IsTold k → MayPrepare k w → IsAt wait_table k r stage.PrepareLock
-prepares_at k r w how asks fresh full told may = record {
-  fits = full_runs r.of (cond_in w) (fresh.watch_is ∙ full.0) full.1;
-  up = may.up;
-  stands = record {
-    head = may.free.head;
-    at = λ h is. absurd (cc);
-    told = told.head ∙ may.free.head;
-    ticket = may.free.ticket;
-    agreed = λ h is. absurd (cc);
-    state = may.running;
-    home = subst (λ (u : Watch). IsHome waits u ((told_of k).bits.stored (index k.view.number 0)))
-        (sym (fresh.watch_is ∙ full.0)) may.home;
-  };
-  trail = tt;
+-- the lock, and the unlock
+pub lock_as : (old a : Known) (r h : ℕ) → r ≡ h → HasLocked old a r (walk_of_hold r None)
+    → HasLocked old a h (walk_of_hold h None)
+lock_as old a r h is l = subst (λ (n : ℕ). HasLocked old a n (walk_of_hold n None)) is l
+
+pub carried_as : (old a : Known) (r h : ℕ) → r ≡ h → Carries (lock_change r) old a → Carries (lock_change h) old a
+carried_as old a r h is c = subst (λ (n : ℕ). Carries (lock_change n) old a) is c
+
+pub lock_keeps : (i h : ℕ) (old a : Known) → Carries (lock_change h) old a → Keeps i old a
+lock_keeps i h old a c = keeps_of i (lock_change h) old a c (λ w. refl) (λ x away. refl) (λ x. c.owes (with_entry i x))
+
+pub unlock_keeps : (i : ℕ) (c new : Known) → Carries unlock_change c new → Keeps i c new
+unlock_keeps i c new u = keeps_of i unlock_change c new u (λ w. refl) (λ x away. refl) (λ x. u.owes (with_entry i x))
+
+-- The own entry is taken off in a hold, and the head given back: at a point of a program where it looks at the entry,
+-- and at the one behind it.
+pub record IsParing (f : Program) (q u : Point) (n : Next) (me h : ℕ) : Type 0 where
+  pub takes : (k : Known) (e : Entry) → IsSeenAs ((told_of k).hold.book (index me 0)) (Some e)
+      → IsPlanned f q k (finds (Some e)) (by_step (step.Unqueue (index me 0))) (next.Go u)
+  pub gives : (k : Known) → k.at ≡ h → IsSeenAs ((told_of k).hold.book (index me 0)) None
+      → IsPlanned f q k (finds None) (by_step (step.Unlock k.at false)) n
+  pub unlocks : (k : Known) → k.at ≡ h → IsPlanned f u k nothing (by_step (step.Unlock k.at false)) n
+
+module _ (b : Known) (held : IsHolding b) (home : IsAtHead b) (c : Known) where
+  abbrev x : ℕ
+  x = own_of b
+
+  module _ (found : Bool) (y : Pares b c found) where
+    shows : (g : Option Entry) → y.entry ≡ g → IsSeenAs ((told_of y.seen).hold.book x) g
+    shows g is = finds_own b y.seen y.entry y.looked b.at held.locked held.told
+        (λ e some. home e (seen_stored b y.seen y.entry y.looked e some)) g is
+
+    looks : OnlyLooks b y.seen
+    looks = seen_looks b y.seen y.entry y.looked b.at held.locked
+
+    saw_it : y.seen ≡ added b (item.Made (step.Saw x y.looked.word))
+    saw_it = y.looked.is ∙ ap (λ (h : Option ℕ). added b (item.Made (saw h x y.looked.word))) held.locked
+
+    seen_ends : (es : List Step) → EndsWith b es → EndsWith y.seen (es ++ step.Saw x y.looked.word ∷ [])
+    seen_ends es e = ends_more b y.seen es (step.Saw x y.looked.word ∷ []) e
+        (history_after b y.seen (step.Saw x y.looked.word) saw_it)
+
+    seen_at : y.seen.at ≡ b.at
+    seen_at = y.looked.carries.at
+
+  took : (y : Pares b c true) → c ≡ stored_with y.seen (step.Unqueue x)
+  took y = y.takes.is ∙ ap (λ (n : ℕ). stored_with y.seen (step.Unqueue (index n 0))) y.looked.carries.number
+
+  took_looks : (y : Pares b c true) → OnlyLooks (added y.seen (item.Made (step.Unqueue x))) c
+  took_looks y = subst (OnlyLooks (added y.seen (item.Made (step.Unqueue x)))) (sym (took y))
+      (bit_looks y.seen (step.Unqueue x))
+
+  took_at : (y : Pares b c true) → c.at ≡ b.at
+  took_at y = y.takes.carries.at ∙ y.looked.carries.at
+
+  module _ (new : Known) (z : HasUnlocked c new false) where
+    gave : (y : Pares b c false) → new ≡ unlocked_with y.seen y.seen.at false
+    gave y = z.is ∙ ap (λ (k : Known). unlocked_with k k.at false) y.takes
+
+    module _ (f : Program) (q u : Point) (n : Next) (me h : ℕ) (r : IsParing f q u n me h) (mine : b.view.number ≡ me)
+        (here : b.at ≡ h) where
+      mine_is : x ≡ index me 0
+      mine_is = ap (λ (m : ℕ). index m 0) mine
+
+      by_taking : (y : Pares b c true) (g : Option Entry) → y.entry ≡ g → true ≡ is_some g → Runs f b new (next.Go q) n
+      by_taking y None is some = absurd (cc)
+      by_taking y (Some e) is some = runs_on f b c new (next.Go q) (next.Go u) n
+          (runs_planned f q b y.seen c (finds (Some e)) (by_step (step.Unqueue (index me 0))) (next.Go u)
+          (looks true y)
+          (r.takes y.seen e (subst (λ (i : ℕ). IsSeenAs ((told_of y.seen).hold.book i) (Some e)) mine_is
+          (shows true y (Some e) is)))
+          (subst (λ (i : ℕ). OnlyLooks (added y.seen (item.Made (step.Unqueue i))) c) mine_is (took_looks y)))
+          (runs_planned f u c c new nothing (by_step (step.Unlock c.at false)) n (only_none c)
+          (r.unlocks c (took_at y ∙ here)) (unlock_looks c new z.is))
+
+      by_giving : (y : Pares b c false) (g : Option Entry) → y.entry ≡ g → false ≡ is_some g → Runs f b new (next.Go q) n
+      by_giving y (Some e) is some = absurd (cc)
+      by_giving y None is some = runs_planned f q b y.seen new (finds None) (by_step (step.Unlock y.seen.at false)) n
+          (looks false y)
+          (r.gives y.seen (seen_at false y ∙ here)
+          (subst (λ (i : ℕ). IsSeenAs ((told_of y.seen).hold.book i) None) mine_is (shows false y None is)))
+          (unlock_looks y.seen new (gave y))
+
+      pub pared_runs : (found : Bool) → Pares b c found → Runs f b new (next.Go q) n
+      pared_runs true y = by_taking y y.entry refl y.is_found
+      pared_runs false y = by_giving y y.entry refl y.is_found
+
+    -- the last steps, behind a look for a signal
+    pub pared_ends : (found : Bool) → (y : Pares b c found) → (w h : ℕ) → b.at ≡ h → EndsWith b (step.Look w ∷ [])
+        → EndsWith new (left_by x h w y.looked.word ++ [])
+    pared_ends true y w h here e = subst (EndsWith new)
+        (sym (left_taken x h w y.looked.word (sym (y.is_found ∙ ap is_some y.looked.reads))))
+        (subst (λ (i : ℕ). EndsWith new (step.Look w ∷ step.Saw x y.looked.word ∷ step.Unqueue x ∷ step.Unlock i false
+        ∷ [])) (took_at y ∙ here)
+        (ends_more c new (step.Look w ∷ step.Saw x y.looked.word ∷ step.Unqueue x ∷ []) (step.Unlock c.at false ∷ [])
+        (ends_more y.seen c (step.Look w ∷ step.Saw x y.looked.word ∷ []) (step.Unqueue x ∷ [])
+        (seen_ends true y (step.Look w ∷ []) e) (stored_history y.seen c (step.Unqueue x) (took y)))
+        (unlocked_history c new z.is)))
+    pared_ends false y w h here e = subst (EndsWith new)
+        (sym (left_off x h w y.looked.word (sym (y.is_found ∙ ap is_some y.looked.reads))))
+        (subst (λ (i : ℕ). EndsWith new (step.Look w ∷ step.Saw x y.looked.word ∷ step.Unlock i false ∷ []))
+        (seen_at false y ∙ here)
+        (ends_more y.seen new (step.Look w ∷ step.Saw x y.looked.word ∷ []) (step.Unlock y.seen.at false ∷ [])
+        (seen_ends false y (step.Look w ∷ []) e) (unlocked_history y.seen new (gave y))))
+
+-- the same program, by another name of the task's number
+pub for_number : (p : Part) (m n : ℕ) (old new : Known) (from to : Next) → m ≡ n → Runs (program_of p m) old new from to
+    → Runs (program_of p n) old new from to
+for_number p m n old new from to is r = record {
+  transitions = r.transitions;
+  goes = subst (λ (k : ℕ). Goes (program_of p k) old from r.transitions new to) is r.goes;
 }
 
-module _ (old new : Known) (r q : Run WaitCall) (w : Watch) (how : How) (asks : Bool) (fresh : IsFresh r.of w how asks)
-    (full : IsFullWatch w) where
-  runs : IsRunning r.of
-  runs = full_runs r.of (cond_in w) (fresh.watch_is ∙ full.0) full.1
+-- a prepare's lock
+module _ (old a : Known) (w : Watch) (k : Kind) (how : How) (l : HasLocked old a (head_of w)
+    (walk_of_hold (head_of w) None)) where
+  abbrev h : ℕ
+  h = head_of w
 
-  is_plain : r.of.watch ≡ watch.Plain (cond_in w)
-  is_plain = fresh.watch_is ∙ full.0
+  abbrev turn : Known
+  turn = turn_of old a h (walk_of_hold h None) l
 
-  now_plain : SameCall r.of q.of → q.of.watch ≡ watch.Plain (cond_in w)
-  now_plain s = s.watch_is ∙ is_plain
+  abbrev locked : Known
+  locked = at_head h (added turn (item.Made (step.Lock h (walk_of_hold h None) l.found)))
 
-  is_how : SameCall r.of q.of → q.of.how ≡ how
-  is_how s = s.how ∙ fresh.how_is
+  abbrev lock_is : Transition
+  lock_is = record { seen = nothing; knew = turn; did = by_step (step.Lock h (walk_of_hold h None) l.found) }
 
-  gone : (s : WaitStage) (a : Advances wait_table old new r q stage.PrepareLock (turn.Again s))
-      → new.book.head ≡ None → new.book.ticket ≡ no_ticket
-      → IsHome waits q.of.watch ((told_of new).bits.stored (index new.view.number 0))
-      → Prepares old new (cond_in w) how asks (point_of s)
-  gone s a head ticket home = record {
-    runs = record {
-      transitions = a.went.runs.transitions;
-      goes = subst (λ (f : Program). Goes f old (next.Go (at.Prepare preparing.Lock)) a.went.runs.transitions new
-          (next.Go (point_of s)))
-          (program_is r.of.asks old.view.number r.of.watch r.of.how runs.suits
-          ∙ (λ i. wait_program (fresh.asks_is i) old.view.number (call_for (is_plain i) (fresh.how_is i))))
-          a.went.runs.goes;
-    };
-    keeps = a.went.keeps;
-    up = a.lands.up;
-    free = record { head = head; ticket = ticket };
-    home = subst (λ (u : Watch). IsHome waits u ((told_of new).bits.stored (index new.view.number 0)))
-        (now_plain a.went.tells.same) home;
-  }
+  behind : OnlyLooks locked a
+  behind = subst (OnlyLooks locked) (sym l.is) (only_none locked)
 
-  left : (o : Option Entry) → (told_of new).bits.stored (index new.view.number 0) ≡ o
-      → IsHome absent q.of.watch ((told_of new).bits.stored (index new.view.number 0))
-      → new.book.state ≡ 0 → IsLeft new
-  left o is home running = record {
-    out = none_of q.of.watch ((told_of new).bits.stored (index new.view.number 0)) home;
-    running = running;
-  }
-
-  pub ends_prepare : (s : WaitStage) → is_prepared s ≡ true
-      → Advances wait_table old new r q stage.PrepareLock (turn.Again s) → EndsPrepare old new w how asks (prepared_in q.of s)
-  ends_prepare stage.Test over a = (
-    gone stage.Test a a.lands.stands.head a.lands.stands.ticket a.lands.stands.home,
-    subst (λ (h : How). IsQueuedIn new (state_mask h.state)) (is_how a.went.tells.same) a.lands.trail,
+  -- the list of its one transition
+  pub lock_runs : (asks : Bool) → Goes (part_program asks old.view.number w k how) old
+      (next.Go (at.Prepare preparing.Lock)) (lock_is ∷ []) a
+      (next.Go (at.Prepare (if asks && looks_in how.state then preparing.Look else preparing.Queue)))
+  lock_runs true = (
+    record { looks = turn_looks old a h (walk_of_hold h None) l; is = (refl, refl); finds = (tt, tt, tt) },
+    (behind, refl),
   )
-  ends_prepare (stage.LeaveLoad found) over a =
-      let t = a.lands.trail in (
-        gone (stage.LeaveLoad found) a a.lands.stands.head a.lands.stands.ticket
-            (home_waits q.of.watch ((told_of new).bits.stored (index new.view.number 0)) a.lands.stands.home),
-        sym (a.went.tells.same.asks ∙ fresh.asks_is) ∙ t.showed.asks,
-        left _ refl a.lands.stands.home a.lands.stands.state,
+  lock_runs false = (
+    record { looks = turn_looks old a h (walk_of_hold h None) l; is = (refl, refl); finds = (tt, tt, tt) },
+    (behind, refl),
+  )
+
+-- a prepare in its hold
+module _ (p : Part) (old a b : Known) (hit : Bool) (may : MayPrepare old p.watch p.kind p.how.state) (was : IsTold old)
+    (suits : Suits p.watch p.kind p.how) (l : HasLocked old a (head_of p.watch) (walk_of_hold (head_of p.watch) None))
+    (one : Carries (lock_change (head_of p.watch)) old a) (heed : Heeds p a b hit) where
+  abbrev f : Program
+  f = program_of p old.view.number
+
+  abbrev here : ℕ
+  here = head_of p.watch
+
+  abbrev i : ℕ
+  i = own_of old
+
+  number : b.view.number ≡ old.view.number
+  number = heed.carries.number ∙ one.number
+
+  own_is : own_of b ≡ i
+  own_is = ap (λ (n : ℕ). index n 0) number
+
+  state_is : b.book.state ≡ old.book.state
+  state_is = heed.carries.state ∙ one.state
+
+  pub prepare_at : b.at ≡ here
+  prepare_at = heed.carries.at ∙ one.at
+
+  pub prepare_home : IsPart p.watch p.kind ((told_of b).bits.stored (own_of b))
+  prepare_home = subst (IsPart p.watch p.kind)
+      (sym (ap (λ (n : ℕ). (told_of b).bits.stored n) own_is
+      ∙ (heed.carries.stored i refl refl ∙ one.stored i refl refl))) may.home
+
+  pub prepare_may : MayStore (state_mask p.how.state) b
+  prepare_may = inr (subst (λ (s : ℕ). (s ≡ 0) ⊎ (s ≡ state_mask p.how.state)) (sym state_is) may.state)
+
+  pub prepare_stands : IsAtHead b
+  prepare_stands e some =
+      let x = subst (IsPart p.watch p.kind) some prepare_home in ap head_of x.0 ∙ (bare_head p.watch ∙ sym prepare_at)
+
+  pub prepare_low : (c : Known) → c.at ≡ b.at → OwesNoPermit c
+  prepare_low c same = owes_low c here (same ∙ prepare_at) (suits_low p.watch p.kind p.how suits)
+
+  pub begins : Runs f old b (next.Go (at.Prepare preparing.Lock)) (next.Go (looked_to hit))
+  begins = runs_on f old a b (next.Go (at.Prepare preparing.Lock)) (next.Go (locked_to p)) (next.Go (looked_to hit))
+      (record {
+        transitions = lock_is old a p.watch p.kind p.how l ∷ [];
+        goes = lock_runs old a p.watch p.kind p.how l p.asks;
+      })
+      (for_number p a.view.number old.view.number a b (next.Go (locked_to p)) (next.Go (looked_to hit)) one.number
+      heed.runs)
+
+  pub begins_quiet : queues_first begins.transitions ≡ false
+  unfolding begins for_number
+  begins_quiet = heed.quiet
+
+  pub keeps_to : Keeps i old b
+  keeps_to = keeps_on i old a b (lock_keeps i here old a one)
+      (subst (λ (n : ℕ). Keeps (index n 0) a b) one.number (part_keeps (λ s. s) a b (still_part a b heed.carries)))
+
+  pub held_up : IsUp b
+  held_up = heed.carries.awake ∙ (one.awake ∙ may.up)
+
+  -- behind what the hold did, the head is given back
+  module _ (c new : Known) (s : ℕ → ℕ) (did : PartCarries s b c) (z : HasUnlocked c new false)
+      (three : Carries unlock_change c new) where
+    pub last_at : c.at ≡ here
+    last_at = did.at ∙ prepare_at
+
+    pub last_up : IsUp new
+    last_up = three.awake ∙ (did.awake ∙ held_up)
+
+    pub last_keeps : Keeps i old new
+    last_keeps = keeps_on i old b new keeps_to (keeps_on i b c new
+        (subst (λ (n : ℕ). Keeps (index n 0) b c) number (part_keeps s b c did)) (unlock_keeps i c new three))
+
+    pub last_own : own_of new ≡ own_of b
+    last_own = ap (λ (n : ℕ). index n 0) (three.number ∙ did.number)
+
+    pub last_state : new.book.state ≡ s old.book.state
+    last_state = three.state ∙ (did.state ∙ ap s state_is)
+
+    pub last_stored : (told_of new).bits.stored (own_of new) ≡ (told_of c).bits.stored (own_of b)
+    last_stored = ap (told_of new).bits.stored last_own ∙ three.stored (own_of b) refl refl
+
+paring : (asks : Bool) (me : ℕ) (w : Watch) (k : Kind) (how : How)
+    → IsParing (part_program asks me w k how) (at.Leave leaving.Queue) (at.Leave leaving.Unlock)
+    (next.Go (at.Leave leaving.Load)) me (head_of w)
+paring asks me w k how = record {
+  takes = λ j e x. record { made = owner_own me; finds = (tt, x, refl); goes = refl };
+  gives = λ j at x. record { made = (at, refl); finds = (tt, x, tt); goes = refl };
+  unlocks = λ j at. record { made = (at, refl); finds = (tt, tt, tt); goes = refl };
+}
+
+or_none : (b : Bool) → (b || false) ≡ b
+or_none true = refl
+or_none false = refl
+
+-- how it ends
+module _ (p : Part) (old a b : Known) (may : MayPrepare old p.watch p.kind p.how.state) (was : IsTold old)
+    (suits : Suits p.watch p.kind p.how) (l : HasLocked old a (head_of p.watch) (walk_of_hold (head_of p.watch) None))
+    (one : Carries (lock_change (head_of p.watch)) old a) (held : IsHolding b) (c new : Known)
+    (z : HasUnlocked c new false) (three : Carries unlock_change c new) where
+  abbrev g : Program
+  g = program_of p old.view.number
+
+  -- for a signal
+  module _ (hit : Bool) (is : hit ≡ true) (heed : Heeds p a b hit) (found : Bool) (y : Pares b c found) where
+    hears : Heeds p a b true
+    hears = subst (Heeds p a b) is heed
+
+    number_to : b.view.number ≡ old.view.number
+    number_to = hears.carries.number ∙ one.number
+
+    home : IsAtHead b
+    home = prepare_stands p old a b true may was suits l one hears
+
+    did : PartCarries (λ t. t) b c
+    did = pares_part b c found y
+
+    out : IsOut new
+    out = last_stored p old a b true may was suits l one hears c new (λ t. t) did z three ∙ pares_out b c found y
+
+    was_asked : WasAsked new p.watch p.how
+    was_asked =
+        let s = hears.found refl in record {
+          look = s.word;
+          entry = y.looked.word;
+          showed = s.pends;
+          ends = subst (λ (n : ℕ). EndsWith new (left_by n (head_of p.watch) s.word y.looked.word ++ []))
+              (sym (last_own p old a b true may was suits l one hears c new (λ t. t) did z three))
+              (pared_ends b held home c new z found y s.word (head_of p.watch)
+              (prepare_at p old a b true may was suits l one hears) (history_of a, history_after a b (step.Look s.word) s.is));
+        }
+
+    pub signal_ends : EndsPart old new p (Ok None)
+    signal_ends = (
+      record {
+        runs = runs_on g old b new (next.Go (at.Prepare preparing.Lock)) (next.Go (at.Leave leaving.Queue))
+            (next.Go (at.Leave leaving.Load)) (begins p old a b true may was suits l one hears)
+            (pared_runs b held home c new z g (at.Leave leaving.Queue) (at.Leave leaving.Unlock)
+            (next.Go (at.Leave leaving.Load)) old.view.number (head_of p.watch)
+            (paring p.asks old.view.number p.watch p.kind p.how) number_to
+            (prepare_at p old a b true may was suits l one hears) found y);
+        keeps = last_keeps p old a b true may was suits l one hears c new (λ t. t) did z three;
+        up = last_up p old a b true may was suits l one hears c new (λ t. t) did z three;
+        free = z.free;
+        home = subst (IsPart p.watch p.kind) (sym out) tt;
+      },
+      (hears.found refl).asks,
+      record { out = out; state = last_state p old a b true may was suits l one hears c new (λ t. t) did z three },
+      was_asked,
+    )
+
+  -- and where it found none
+  module _ (hit : Bool) (is : hit ≡ false) (heed : Heeds p a b hit) where
+    goes_on : Heeds p a b false
+    goes_on = subst (Heeds p a b) is heed
+
+    number_on : b.view.number ≡ old.view.number
+    number_on = goes_on.carries.number ∙ one.number
+
+    module _ (first : Bool) (y : HasJoinedPart p b c first) where
+      abbrev τ : ℕ
+      τ = state_mask p.how.state
+
+      abbrev gives_back : Transition
+      gives_back = record { seen = nothing; knew = c; did = by_step (step.Unlock c.at false) }
+
+      unlocks : Runs g c new (next.Go (at.Prepare preparing.Unlock)) (next.Go at.Test)
+      unlocks = runs_one g (at.Prepare preparing.Unlock) c c new nothing (by_step (step.Unlock c.at false)) (only_none c)
+          (last_at p old a b false may was suits l one goes_on c new (λ _. τ) y.carries z three, refl) (tt, tt, tt)
+          (unlock_looks c new z.is)
+
+      whole : Runs g old new (next.Go (at.Prepare preparing.Lock)) (next.Go at.Test)
+      whole = runs_on g old b new (next.Go (at.Prepare preparing.Lock)) (next.Go (at.Prepare preparing.Queue))
+          (next.Go at.Test) (begins p old a b false may was suits l one goes_on)
+          (runs_on g b c new (next.Go (at.Prepare preparing.Queue)) (next.Go (at.Prepare preparing.Unlock))
+          (next.Go at.Test) (for_number p b.view.number old.view.number b c (next.Go (at.Prepare preparing.Queue))
+          (next.Go (at.Prepare preparing.Unlock)) number_on y.runs) unlocks)
+
+      firsts : queues_first whole.transitions ≡ queues_first y.runs.transitions
+      unfolding whole unlocks for_number
+      firsts =
+          let ts : List Transition = (begins p old a b false may was suits l one goes_on).transitions in
+          let us : List Transition = y.runs.transitions in
+          sym (firsts_more ts (us ++ gives_back ∷ []))
+          ∙ (ap (λ (d : Bool). d || queues_first (us ++ gives_back ∷ []))
+          (begins_quiet p old a b false may was suits l one goes_on)
+          ∙ (sym (firsts_more us (gives_back ∷ [])) ∙ or_none (queues_first us)))
+
+      stored_on : (told_of new).bits.stored (own_of new) ≡ Some y.entry
+      stored_on = last_stored p old a b false may was suits l one goes_on c new (λ _. τ) y.carries z three ∙ y.queued
+
+      joined_ends : EndsPart old new p (Ok (Some first))
+      joined_ends = (
         record {
-          look = t.look;
-          entry = t.entry;
-          showed = ap (λ (h : How). pending (state_mask h.state) (task_of t.look)) (sym (is_how a.went.tells.same))
-              ∙ t.showed.pends;
-          ends = subst (λ (u : Watch). EndsWith new (left_by (own_of new) (head_of u) t.look t.entry ++ []))
-              (now_plain a.went.tells.same) t.ends;
+          runs = whole;
+          keeps = last_keeps p old a b false may was suits l one goes_on c new (λ _. τ) y.carries z three;
+          up = last_up p old a b false may was suits l one goes_on c new (λ _. τ) y.carries z three;
+          free = z.free;
+          home = subst (IsPart p.watch p.kind) (sym stored_on) y.home;
         },
+        record {
+          queued = ap is_some stored_on;
+          state = last_state p old a b false may was suits l one goes_on c new (λ _. τ) y.carries z three;
+        },
+        y.tells ∙ ap (λ (d : Bool). d && answers_first p) (sym firsts),
       )
-  ends_prepare stage.Worn over a =
-      let t = a.lands.trail in (
-        gone stage.Worn a a.lands.stands.head a.lands.stands.ticket
-            (home_waits q.of.watch ((told_of new).bits.stored (index new.view.number 0)) a.lands.stands.home),
-        left _ refl a.lands.stands.home a.lands.stands.state,
-        ap head_of (now_plain a.went.tells.same),
-        t.noted,
+
+    module _ (v : Worn) (y : IsWornPart p b c v) where
+      out_on : IsOut new
+      out_on = last_stored p old a b false may was suits l one goes_on c new (λ t. t) y.carries z three ∙ y.out
+
+      worn_ends : EndsPart old new p (Err v)
+      worn_ends = (
+        record {
+          runs = runs_on g old b new (next.Go (at.Prepare preparing.Lock)) (next.Go (at.Prepare preparing.Queue))
+              (next.Go at.Worn) (begins p old a b false may was suits l one goes_on)
+              (runs_one g (at.Prepare preparing.Queue) b c new (with_worn true) (by_step (step.Unlock c.at false)) y.looks
+              (last_at p old a b false may was suits l one goes_on c new (λ t. t) y.carries z three, refl) (
+                tt,
+                (
+                  subst (λ (n : ℕ). IsSeenAs ((told_of c).hold.book (index n 0)) None) number_on y.shows,
+                  λ _. (y.whole, sym y.worn),
+                ),
+                tt,
+              ) (unlock_looks c new z.is));
+          keeps = last_keeps p old a b false may was suits l one goes_on c new (λ t. t) y.carries z three;
+          up = last_up p old a b false may was suits l one goes_on c new (λ t. t) y.carries z three;
+          free = z.free;
+          home = subst (IsPart p.watch p.kind) (sym out_on) tt;
+        },
+        record { out = out_on; state = last_state p old a b false may was suits l one goes_on c new (λ t. t) y.carries z three },
+        y.head ∙ prepare_at p old a b false may was suits l one goes_on,
+        note_unlocked c new v z.is y.noted,
       )
-  ends_prepare s over a = absurd (cc)
 
--- an exclusive prepare that answers whether its entry is the first
-module _ (old new : Known) (r q : Run WaitCall) (w : Watch) (σ : SleepState)
-    (fresh : IsFresh r.of w (record { state = σ; exclusive = true }) false) (full : IsFullWatch w) where
-  abbrev exclusive_how : How
-  exclusive_how = record { state = σ; exclusive = true }
+-- by the answer of the add
+pub join_ends : (p : Part) (old a b : Known) (may : MayPrepare old p.watch p.kind p.how.state) → IsTold old
+    → Suits p.watch p.kind p.how → HasLocked old a (head_of p.watch) (walk_of_hold (head_of p.watch) None)
+    → Carries (lock_change (head_of p.watch)) old a → IsHolding b → (c new : Known) → HasUnlocked c new false
+    → Carries unlock_change c new → (hit : Bool) → hit ≡ false → Heeds p a b hit → (r : Result Bool Worn)
+    → Joins p b c r → EndsPart old new p (unsignalled r)
+join_ends p old a b may was suits l one held c new z three hit is heed (Ok first) y =
+    joined_ends p old a b may was suits l one held c new z three hit is heed first y
+join_ends p old a b may was suits l one held c new z three hit is heed (Err v) y =
+    worn_ends p old a b may was suits l one held c new z three hit is heed v y
 
-  tells_it : tells_first r.of ≡ true
-  tells_it i = (fresh.how_is i).exclusive && not (fresh.asks_is i)
-
-  and_true : (b : Bool) → (b && true) ≡ b
-  and_true true = refl
-  and_true false = refl
-
-  first_is : (s : WaitStage) (a : Advances wait_table old new r q stage.PrepareLock (turn.Again s))
-      → q.of.first ≡ queues_first a.went.runs.transitions
-  first_is s a = a.went.tells.first ∙ ((λ i. fresh.first i || (queues_first a.went.runs.transitions && tells_it i))
-      ∙ and_true (queues_first a.went.runs.transitions))
-
-  pub ends_exclusive : (s : WaitStage) → is_prepared s ≡ true
-      → (a : Advances wait_table old new r q stage.PrepareLock (turn.Again s)) → EndsExclusive old new w σ (first_in q.of s)
-  unfolding ends_prepare gone
-  ends_exclusive stage.Test over a =
-      let e = ends_prepare old new r q w exclusive_how false fresh full stage.Test over a in
-      (e.0, e.1, first_is stage.Test a)
-  ends_exclusive (stage.LeaveLoad found) over a =
-      let no : true ≡ false = sym a.lands.trail.showed.asks ∙ (a.went.tells.same.asks ∙ fresh.asks_is) in absurd (cc)
-  ends_exclusive stage.Worn over a = ends_prepare old new r q w exclusive_how false fresh full stage.Worn over a
-  ends_exclusive s over a = absurd (cc)
-
--- whatever a prepare answered, the task may finish
-prepared_may : (old new : Known) (c : ℕ) (how : How) (asks : Bool) (p : Point) → c < FIRST_SIMPLE
-    → Prepares old new c how asks p → MayFinish new
-prepared_may old new c how asks p full x = record { cond = c; full = full; up = x.up; free = x.free; home = x.home }
-
-pub ends_may : (old new : Known) (w : Watch) (how : How) (asks : Bool) (r : Result Prepared Worn) → IsFullWatch w
-    → EndsPrepare old new w how asks r → MayFinish new
-ends_may old new w how asks (Ok prepared.Queued) full e = prepared_may old new (cond_in w) how asks at.Test full.1 e.0
-ends_may old new w how asks (Ok prepared.Signal) full e =
-    prepared_may old new (cond_in w) how asks (at.Leave leaving.Load) full.1 e.0
-ends_may old new w how asks (Err x) full e = prepared_may old new (cond_in w) how asks at.Worn full.1 e.0
-
-pub exclusive_may : (old new : Known) (w : Watch) (σ : SleepState) (r : Result Bool Worn) → IsFullWatch w
-    → EndsExclusive old new w σ r → MayFinish new
-exclusive_may old new w σ (Ok b) full e = prepared_may old new (cond_in w) (exclusive_in σ) false at.Test full.1 e.0
-exclusive_may old new w σ (Err x) full e = prepared_may old new (cond_in w) (exclusive_in σ) false at.Worn full.1 e.0
-
--- what a task carries on over a prepare and a finish
+-- what a task carries on over a prepare, and what it may do then
 module _ (old new : Known) (up : IsUp old) (free : IsFree old) (was : IsTold old) (now : IsTold new)
     (keeps : Keeps (own_of old) old new) (still : IsUp new) (out : IsFree new) where
   hold_is : (told_of new).hold.head ≡ (told_of old).hold.head
   hold_is = now.head ∙ (out.head ∙ sym (was.head ∙ free.head))
 
+  -- the entry is owed still, and the state is this one
   pub queued_carried : (σ : ℕ) → new.book.state ≡ σ → Carries (prepare_change (own_of old) σ new.at) old new
   queued_carried σ state = record {
     domain = keeps.domain;
@@ -255,12 +485,14 @@ module _ (old new : Known) (up : IsUp old) (free : IsFree old) (was : IsTold old
     owes = keeps.owes;
   }
 
-  pub left_carried : IsLeft new → Carries (finish_change (own_of old) new.at) old new
-  left_carried left = record {
+  -- the entry is off
+  pub left_carried : (s : ℕ → ℕ) → new.book.state ≡ s old.book.state → IsOut new
+      → Carries (record (leave_change (own_of old) new.at) { state = s }) old new
+  left_carried s state gone = record {
     domain = keeps.domain;
     number = keeps.number;
     awake = still ∙ sym up;
-    state = left.running;
+    state = state;
     head = out.head ∙ sym free.head;
     ticket = out.ticket ∙ sym free.ticket;
     hold = hold_is;
@@ -272,167 +504,62 @@ module _ (old new : Known) (up : IsUp old) (free : IsFree old) (was : IsTold old
     stands = keeps.stands;
     keeps = λ d _. keeps.keeps d;
     owes = λ x o. owes_out (own_of old) x new
-        (ap (λ (n : ℕ). (told_of new).bits.stored (index n 0)) (sym keeps.number) ∙ left.out) (keeps.owes x o);
+        (ap (λ (n : ℕ). (told_of new).bits.stored (index n 0)) (sym keeps.number) ∙ gone) (keeps.owes x o);
   }
 
 pub begins_owing : (old new : Known) → Keeps (own_of old) old new → BeginsOwing old new
 begins_owing old new keeps x o = keeps.owes x (owes_also (own_of old) x old o)
 
-module _ (old new : Known) (w : Watch) (may : MayPrepare old w) (was : IsTold old) (now : IsTold new) where
-  pub ends_carried : (how : How) (asks : Bool) (r : Result Prepared Worn) → EndsPrepare old new w how asks r
-      → CarriesPrepare old new how.state r
-  ends_carried how asks (Ok prepared.Queued) e = queued_carried old new may.up may.free was now e.0.keeps e.0.up e.0.free
-      (state_mask how.state) e.1.state
-  ends_carried how asks (Ok prepared.Signal) e = left_carried old new may.up may.free was now e.0.keeps e.0.up e.0.free
-      e.2
-  ends_carried how asks (Err x) e = left_carried old new may.up may.free was now e.0.keeps e.0.up e.0.free e.1
+part_low : (w : Watch) (k : Kind) (o : Option Entry) → head_of w < FIRST_DONE_HEAD → IsPart w k o → IsNoWaiter o
+part_low w k None low part = tt
+part_low w k (Some e) low part = subst (λ (h : ℕ). h < FIRST_DONE_HEAD) (sym (ap head_of part.0 ∙ bare_head w)) low
 
-  pub exclusive_carried : (σ : SleepState) (r : Result Bool Worn) → EndsExclusive old new w σ r
-      → CarriesPrepare old new σ (with_first r)
-  exclusive_carried σ (Ok b) e = queued_carried old new may.up may.free was now e.0.keeps e.0.up e.0.free (state_mask σ)
-      e.1.state
-  exclusive_carried σ (Err x) e = left_carried old new may.up may.free was now e.0.keeps e.0.up e.0.free e.1
-
--- and its bookmark stays
-pub ends_mark : (old new : Known) (w : Watch) (how : How) (asks : Bool) (r : Result Prepared Worn)
-    → EndsPrepare old new w how asks r → Keeps (index old.view.number 0) old new
-ends_mark old new w how asks (Ok prepared.Queued) e = e.0.keeps
-ends_mark old new w how asks (Ok prepared.Signal) e = e.0.keeps
-ends_mark old new w how asks (Err x) e = e.0.keeps
-
-pub exclusive_mark : (old new : Known) (w : Watch) (σ : SleepState) (r : Result Bool Worn)
-    → EndsExclusive old new w σ r → Keeps (index old.view.number 0) old new
-exclusive_mark old new w σ (Ok b) e = e.0.keeps
-exclusive_mark old new w σ (Err x) e = e.0.keeps
-
--- a finish: the state, and the look
-module _ (old mid : Known) (may : MayFinish old) (told : IsTold old)
-    (is : mid ≡ added old (item.Made (step.State 0))) (carries : Carries (state_change 0) old mid) where
-  -- the wait that is finished
-  abbrev finished : WaitCall
-  finished = record {
-    watch = watch.Plain may.cond;
-    how = any_how;
-    asks = true;
-    place = 0;
-    seen = 1;
-    queued = false;
-    first = false;
-  }
-
-  runs_so : IsRunning finished
-  runs_so = full_runs finished may.cond refl may.full
-
-  abbrev run : Run WaitCall
-  run = record { of = finished; ticket = 0; served = 0; failed = record { count = 0 } }
-
-  abbrev f : Program
-  f = plan_program old.view.number 0 (wait_plan true (watch.Plain may.cond) any_how)
-
-  abbrev before : Post
-  before = record (run_post wait_table run stage.FinishState) { stirs = true; state = old.book.state }
-
-  stands_before : Stands old before
-  stands_before = record {
-    head = may.free.head;
-    at = λ h at. absurd (cc);
-    told = told.head ∙ may.free.head;
-    ticket = may.free.ticket;
-    agreed = λ h at. absurd (cc);
-    state = inr refl;
-    home = may.home;
-  }
-
-  abbrev from : Next
-  from = next.Go (at.Finish finishing.State false)
-
-  abbrev look : Next
-  look = next.Go (at.Finish finishing.Look false)
-
-  stored : Runs f old mid from look
-  stored = runs_one f (at.Finish finishing.State false) old old mid nothing (by_step (step.State 0)) (only_none old)
-      refl (tt, tt, tt) (state_looks old mid 0 is carries)
-
-  looks_at : IsAt wait_table mid run stage.FinishLook
-  looks_at = record {
-    fits = runs_so;
-    up = state_up old mid 0 is carries may.up;
-    stands = state_stands old mid 0 is carries before (run_post wait_table run stage.FinishLook) stands_before refl refl
-        refl (λ o h. h);
-    trail = refl;
-  }
-
-  -- the rest goes through the same program, which is that of the call
-  then_runs : (new : Known) (to : Next)
-      → Runs (plan_program mid.view.number 0 (wait_plan true (watch.Plain may.cond) any_how)) mid new look to
-      → Runs (wait_program true old.view.number (call_for (watch.Plain may.cond) any_how)) old new from to
-  then_runs new to b = runs_program finished old.view.number old new from to runs_so
-      (runs_on f old mid new from look to stored
-      (subst (λ (n : ℕ). Runs (plan_program n 0 (wait_plan true (watch.Plain may.cond) any_how)) mid new look to)
-      carries.number b))
-
-  then_keeps : (new : Known) → Keeps (index mid.view.number 0) mid new → Keeps (index old.view.number 0) old new
-  then_keeps new k = keeps_on (index old.view.number 0) old mid new (state_keeps old mid 0 is carries)
-      (subst (λ (n : ℕ). Keeps (index n 0) mid new) carries.number k)
-
-  looked : (k : Known) (o : Option Entry) → HasSeenOwn mid k o → Advances wait_table mid k run run stage.FinishLook
-      (wait_table.found_to finished stage.FinishLook (is_some o))
-  looked k o h = (peek_advances wait_table wait_lawful mid k run stage.FinishLook refl looks_at o h
-      (wait_table.found_to finished stage.FinishLook (is_some o)) refl).advances
-
-  -- it was off
-  pub finish_off : (k : Known) (o : Option Entry) → o ≡ None → HasSeenOwn mid k o → HasFinished old k
-  finish_off k (Some e) none h = absurd (cc)
-  finish_off k None none h =
-      let a = looked k None h in record {
-        cond = may.cond;
-        runs = then_runs k (next.Ends zero_answer) a.went.runs;
-        keeps = then_keeps k a.went.keeps;
-        up = a.lands.up;
-        free = record { head = a.lands.stands.head; ticket = a.lands.stands.ticket };
-        left = record {
-          out = none_of (watch.Plain may.cond) ((told_of k).bits.stored (index k.view.number 0)) a.lands.stands.home;
-          running = a.lands.stands.state;
-        };
-      }
-
-  -- it is queued, and its watch is that of the wait
-  module _ (k : Known) (o : Option Entry) (e : Entry) (some : o ≡ Some e) (h : HasSeenOwn mid k o) (q : Run WaitCall)
-      (fresh : IsFinishing q.of e.watch) where
-    its_watch : q.of.watch ≡ watch.Plain may.cond
-    its_watch = fresh.watch_is
-        ∙ (seen_home mid k o h (run_post wait_table run stage.FinishLook) looks_at.stands e some).0
-
-    locks : Advances wait_table mid k run run stage.FinishLook (turn.Again stage.FinishLock)
-    locks = subst (λ (b : Bool). Advances wait_table mid k run run stage.FinishLook
-        (wait_table.found_to finished stage.FinishLook b)) (ap is_some some) (looked k o h)
-
-    pub lock_at : IsAt wait_table k q stage.FinishLock
-    lock_at = record {
-      fits = full_runs q.of may.cond its_watch may.full;
-      up = locks.lands.up;
-      stands = subst (Stands k) (λ i. plan_post None (wait_plan (sym fresh.asks_is i) (sym its_watch i)
-          (sym fresh.how_is i)) (at.Finish finishing.Lock false)) locks.lands.stands;
-      trail = subst (λ (u : Watch). misses u q.of.seen ≡ false) (sym its_watch)
-          (ap (misses (watch.Plain may.cond)) fresh.seen);
+module _ (p : Part) (old new : Known) (may : MayPrepare old p.watch p.kind p.how.state) (was : IsTold old)
+    (now : IsTold new) (suits : Suits p.watch p.kind p.how) where
+  module _ (to : Point) (x : Prepares old new p.watch p.kind p.how p.asks to) where
+    finish_may : MayFinish new
+    finish_may = record {
+      up = x.up;
+      free = x.free;
+      home = part_low p.watch p.kind ((told_of new).bits.stored (own_of new)) (suits_low p.watch p.kind p.how suits) x.home;
     }
 
-    pub finish_on : (new : Known) (v : Run WaitCall)
-        → Advances wait_table k new q v stage.FinishLock (turn.Done outcome.Over) → HasFinished old new
-    finish_on new v a = record {
-      cond = may.cond;
-      runs = then_runs new (next.Ends zero_answer)
-          (runs_on (plan_program mid.view.number 0 (wait_plan true (watch.Plain may.cond) any_how)) mid k new look
-          (next.Go (at.Finish finishing.Lock false)) (next.Ends zero_answer) locks.went.runs
-          (subst (λ (p : Program). Runs p k new (next.Go (at.Finish finishing.Lock false))
-          (next.Ends zero_answer)) (λ i. plan_program (h.carries.number i) 0 (wait_plan (fresh.asks_is i) (its_watch i)
-          (fresh.how_is i))) a.went.runs));
-      keeps = then_keeps new (keeps_on (index mid.view.number 0) mid k new locks.went.keeps
-          (subst (λ (n : ℕ). Keeps (index n 0) k new) h.carries.number a.went.keeps));
-      up = a.lands.up;
-      free = record { head = a.lands.stands.head; ticket = a.lands.stands.ticket };
-      left = record {
-        out = none_of v.of.watch ((told_of new).bits.stored (index new.view.number 0)) a.lands.stands.home;
-        running = a.lands.stands.state;
-      };
-    }
+    again_may : (new.book.state ≡ 0) ⊎ (new.book.state ≡ state_mask p.how.state)
+        → MayPrepare new p.watch p.kind p.how.state
+    again_may state = record { up = x.up; free = x.free; state = state; home = x.home }
+
+  left_state : IsLeft old new → (new.book.state ≡ 0) ⊎ (new.book.state ≡ state_mask p.how.state)
+  left_state left = subst (λ (s : ℕ). (s ≡ 0) ⊎ (s ≡ state_mask p.how.state)) (sym left.state) may.state
+
+  pub ends_may : (r : Result (Option Bool) Worn) → EndsPart old new p r → MayFinish new
+  ends_may (Ok (Some first)) e = finish_may at.Test e.0
+  ends_may (Ok None) e = finish_may (at.Leave leaving.Load) e.0
+  ends_may (Err v) e = finish_may at.Worn e.0
+
+  pub ends_again : (r : Result (Option Bool) Worn) → EndsPart old new p r → MayPrepare new p.watch p.kind p.how.state
+  ends_again (Ok (Some first)) e = again_may at.Test e.0 (inr e.1.state)
+  ends_again (Ok None) e = again_may (at.Leave leaving.Load) e.0 (left_state e.2)
+  ends_again (Err v) e = again_may at.Worn e.0 (left_state e.1)
+
+  pub ends_keeps : (r : Result (Option Bool) Worn) → EndsPart old new p r → Keeps (own_of old) old new
+  ends_keeps (Ok (Some first)) e = e.0.keeps
+  ends_keeps (Ok None) e = e.0.keeps
+  ends_keeps (Err v) e = e.0.keeps
+
+  pub ends_carried : (r : Result (Option Bool) Worn) → EndsPart old new p r → CarriesPrepare old new p.how.state (with_none r)
+  ends_carried (Ok (Some first)) e = queued_carried old new may.up may.free was now e.0.keeps e.0.up e.0.free
+      (state_mask p.how.state) e.1.state
+  ends_carried (Ok None) e = left_carried old new may.up may.free was now e.0.keeps e.0.up e.0.free (λ s. s) e.2.state
+      e.2.out
+  ends_carried (Err v) e = left_carried old new may.up may.free was now e.0.keeps e.0.up e.0.free (λ s. s) e.1.state
+      e.1.out
+
+-- of an exclusive prepare that looks for no signal
+and_true : (b : Bool) → (b && true) ≡ b
+and_true true = refl
+and_true false = refl
+
+pub exclusive_ends : (old new : Known) (k : Kind) (w : Watch) (σ : SleepState) (first : Bool)
+    → EndsPart old new (record { kind = k; watch = w; how = exclusive_in σ; asks = false }) (Ok (Some first))
+    → EndsExclusive old new w k σ (Ok first)
+exclusive_ends old new k w σ first e = (e.0, e.1, e.2 ∙ and_true (queues_first e.0.runs.transitions))

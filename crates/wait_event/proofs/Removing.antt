@@ -18,7 +18,7 @@ use Rattle.wait_rule.specs.Items.{Book}
 use Rattle.wait_rule.specs.HandedPermits.{OwesNoPermit}
 use Rattle.wait_rule.specs.Known.{Known}
 use Rattle.wait_rule.specs.Members.{IsOwnKind}
-use Rattle.wait_rule.specs.Says.{IsFree, IsUp, added, stored_with, told_of}
+use Rattle.wait_rule.specs.Says.{IsFree, added, stored_with, told_of}
 use Rattle.wait_rule.specs.Queues.{IsTold, MayUnqueue, index, at_head, walk_of_hold}
 use Rattle.wait_rule.specs.Stays.{Carries, lock_change, only, take_off_change, unlock_change, with_entry}
 use Rattle.wait_rule.specs.Transitions.{OnlyLooks, Program, by_step, call_program}
@@ -38,25 +38,25 @@ use Rattle.wait_class.proofs.WatchHeads.{head_fits}
 use Rattle.wait_event.proofs.PermitHeads.{cond_low}
 use Rattle.wait_class.proofs.Ground.Standing.{owner_own}
 use Rattle.wait_class.proofs.Ground.Going.{runs_on, runs_one}
-use Rattle.wait_class.proofs.Ground.Standing.{seen_book, seen_is, seen_looks, seen_shows}
+use Rattle.wait_class.proofs.Ground.Standing.{seen_book, seen_looks, seen_shows}
 
 head_plain : (c : ℕ) → head_of (watch.Plain c) ≡ FIRST_PLAIN_HEAD + c
 unfolding head_of
 head_plain c = refl
 
 -- the entry stands
-pub shows_own : (old seen : Known) (may : MayRemove old) (o : Option Entry) → HasSeenOwn old seen o
-    → o ≡ Some may.entry
-shows_own old seen may o own = own.reads ∙ own.knew.stands 0 (omega arith) refl may.entry may.queued may.kind
+pub not_gone : (old : Known) → MayRemove old → (o : Option Entry)
+    → ((e : Entry) → (told_of old).bits.stored (own_of old) ≡ Some e → IsOwnKind e.kind → o ≡ Some e) → o ≡ None → ⊥
+not_gone old may o tells gone =
+    let no : None ≡ Some may.entry = sym gone ∙ tells may.entry may.queued may.kind in absurd (cc)
 
-pub not_gone : (old seen : Known) → MayRemove old → (o : Option Entry) → HasSeenOwn old seen o → o ≡ None → ⊥
-not_gone old seen may o own gone =
-    let no : None ≡ Some may.entry = sym gone ∙ shows_own old seen may o own in absurd (cc)
-
-module _ (old seen : Known) (may : MayRemove old) (told : IsTold old) (o : Option Entry) (e : Entry) (on : o ≡ Some e)
-    (look : HasSeenOwn old seen o) where
+module _ (old seen : Known) (may : MayRemove old) (told : IsTold old) (e : Entry) (same : seen ≡ old)
+    (stands : (told_of old).bits.stored (own_of old) ≡ Some e) where
   same_entry : e ≡ may.entry
-  same_entry = let both : Some e ≡ Some may.entry = sym on ∙ shows_own old seen may o look in cc
+  same_entry = let both : Some e ≡ Some may.entry = sym stands ∙ may.queued in cc
+
+  same_number : seen.view.number ≡ old.view.number
+  same_number = ap (λ (k : Known). k.view.number) same
 
   about : e.watch ≡ watch.Plain may.cond
   about = ap (λ (f : Entry). f.watch) same_entry ∙ may.about
@@ -69,26 +69,20 @@ module _ (old seen : Known) (may : MayRemove old) (told : IsTold old) (o : Optio
   head_is : head_of e.watch ≡ FIRST_PLAIN_HEAD + plain_cond e.watch
   head_is = subst (λ (w : Watch). head_of w ≡ FIRST_PLAIN_HEAD + plain_cond w) (sym about) (head_plain may.cond)
 
-  pub seen_up : IsUp seen
-  seen_up = look.carries.awake ∙ may.up
-
-  pub seen_free : IsFree seen
-  seen_free = record {
-    head = look.carries.head ∙ may.free.head;
-    ticket = look.carries.ticket ∙ may.free.ticket;
-  }
+  seen_free : IsFree seen
+  seen_free = subst IsFree (sym same) may.free
 
   seen_none : (told_of seen).hold.head ≡ None
-  seen_none = look.carries.hold ∙ (told.head ∙ may.free.head)
+  seen_none = subst (λ (k : Known). (told_of k).hold.head ≡ None) (sym same) (told.head ∙ may.free.head)
 
   shown_some : (told_of seen).bits.stored (index old.view.number 0) ≡ Some e
-  shown_some = seen_is old seen o look ∙ on
+  shown_some = ap (λ (k : Known). (told_of k).bits.stored (index old.view.number 0)) same ∙ stands
 
   module _ (held : Known) (h : ℕ) (here : h ≡ head_of e.watch) (l : HasLocked seen held h (walk_of_hold h None))
       (holds : IsHolding held) (one : Carries (lock_change h) seen held) (looked : Known) (p : Option Entry)
       (again : HasSeenOwn held looked p) where
     held_stored : (told_of held).bits.stored (index held.view.number 0) ≡ Some e
-    held_stored = ap (λ (n : ℕ). (told_of held).bits.stored (index n 0)) (one.number ∙ look.carries.number)
+    held_stored = ap (λ (n : ℕ). (told_of held).bits.stored (index n 0)) (one.number ∙ same_number)
         ∙ (one.stored (index old.view.number 0) refl refl ∙ shown_some)
 
     still : p ≡ Some e
@@ -133,7 +127,7 @@ module _ (old seen : Known) (may : MayRemove old) (told : IsTold old) (o : Optio
       i = index old.view.number 0
 
       n_is : n ≡ old.view.number
-      n_is = mine ∙ look.carries.number
+      n_is = mine ∙ same_number
 
       abbrev turn : Known
       turn = turn_of seen held h (walk_of_hold h None) l
@@ -175,17 +169,12 @@ module _ (old seen : Known) (may : MayRemove old) (told : IsTold old) (o : Optio
 
       pub removed_own : HasRemovedOwn old new
       removed_own = record {
-        entry = e;
-        seen = seen;
-        looked = subst (HasSeenOwn old seen) on look;
-        runs = runs_on f seen held new (next.Go (at.Remove removing.Lock))
+        runs = subst (λ (k : Known). Runs f k new (next.Go (at.Remove removing.Lock)) (next.Ends zero_answer)) same
+            (runs_on f seen held new (next.Go (at.Remove removing.Lock))
             (next.Go (at.Remove (removing.Queue (plain_cond e.watch)))) (next.Ends zero_answer) locks
             (runs_on f held taken new (next.Go (at.Remove (removing.Queue (plain_cond e.watch))))
-            (next.Go (at.Remove (removing.Unlock (plain_cond e.watch)))) (next.Ends zero_answer) takes unlocks);
+            (next.Go (at.Remove (removing.Unlock (plain_cond e.watch)))) (next.Ends zero_answer) takes unlocks));
       }
-
-      pub removed_up : IsUp new
-      removed_up = three.awake ∙ (r.carries.awake ∙ (again.carries.awake ∙ (one.awake ∙ seen_up)))
 
       pub removed_out : IsOut new
       removed_out = ap (λ (m : ℕ). (told_of new).bits.stored (index m 0))
@@ -193,7 +182,7 @@ module _ (old seen : Known) (may : MayRemove old) (told : IsTold old) (o : Optio
           ∙ (three.stored (index n 0) refl refl ∙ r.out)
 
       pub removed_carried : Carries (remove_change (own_of old) new.at) old new
-      removed_carried = looked_carried (with_entry i) (λ y. y) (only i) true (λ _. new.at) old seen new look.carries
+      removed_carried = subst (λ (k : Known). Carries (remove_change (own_of old) new.at) k new) same
           (hold_carried (with_entry i) (λ y. y) (only i) true seen held taken new seen_free seen_none h one
           (looked_carried (with_entry i) (λ y. y) (only i) false (λ m. m) held looked taken again.carries
           (subst (λ (m : ℕ). Carries (take_off_change (index m 0)) looked taken) n_is r.carries)) three)

@@ -27,7 +27,7 @@ pub queues_append : (b : Bool) (ts us : List Transition) → ((b || queues ts) |
 queues_append b ts us = or_assoc b (queues ts) (queues us) ∙ ap (λ (c : Bool). b || c) (queues_more ts us)
 
 -- and the same of one that is queued as the first
-firsts_more : (ts us : List Transition) → (queues_first ts || queues_first us) ≡ queues_first (ts ++ us)
+pub firsts_more : (ts us : List Transition) → (queues_first ts || queues_first us) ≡ queues_first (ts ++ us)
 firsts_more [] us = refl
 firsts_more (t ∷ ts) us = or_assoc (is_queue t.did && is_none (shown_queue t.knew)) (queues_first ts) (queues_first us)
     ∙ ap (λ (c : Bool). (is_queue t.did && is_none (shown_queue t.knew)) || c) (firsts_more ts us)

@@ -13,7 +13,6 @@ use Rattle.wait_model.specs.declared.points.Next.TheVariants as next
 use Rattle.wait_model.specs.declared.steps.Step.{Step}
 use Rattle.wait_model.specs.declared.steps.Step.TheVariants as step
 use Rattle.wait_model.specs.Programs.{zero_answer}
-use Rattle.wait_model.specs.Sentences.{Follows}
 use Rattle.wait_rule.specs.declared.journal.Item.{Item}
 use Rattle.wait_rule.specs.declared.journal.Item.TheVariants as item
 use Rattle.wait_rule.specs.declared.journal.Journal.{Journal}
@@ -128,18 +127,11 @@ adds_follow old new c k f result law e =
 pub removes_follow : RemovesFollow
 removes_follow old new law h =
     let runs = h.runs in
-    let seen = h.seen in
-    let same : seen.view.number ≡ old.view.number = h.looked.carries.number in
-    let goes : Goes (call_program seen.view.number 0 calls.Remove) seen (next.Go (at.Remove removing.Lock))
-    runs.transitions new (next.Ends zero_answer) =
-    subst (λ (n : ℕ). Goes (call_program n 0 calls.Remove) seen (next.Go (at.Remove removing.Lock)) runs.transitions new
-    (next.Ends zero_answer)) (sym same) runs.goes in
-    subst (λ (n : ℕ). Follows n calls.Remove (call_says n calls.Remove runs.transitions) zero_answer) same
-    (runs_follow law.table law.items law.ruled calls.Remove 0 seen new zero_answer []
-    (list_of new.view law seen.view.number (number_stays
-    (call_program seen.view.number 0 calls.Remove) seen new (next.Go (at.Remove removing.Lock))
-    (next.Ends zero_answer) runs.transitions goes))
-    (omega arith) refl refl (λ w. absurd (cc)) (record { transitions = runs.transitions; goes = goes }))
+    runs_follow law.table law.items law.ruled calls.Remove 0 old new zero_answer []
+    (list_of new.view law old.view.number (number_stays
+    (call_program old.view.number 0 calls.Remove) old new (next.Go (at.Remove removing.Lock))
+    (next.Ends zero_answer) runs.transitions runs.goes))
+    (omega arith) refl refl (λ w. absurd (cc)) (record { transitions = runs.transitions; goes = runs.goes })
 
 pub takes_follow : TakesFollow
 takes_follow old new c v law h =

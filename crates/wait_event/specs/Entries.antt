@@ -23,7 +23,7 @@ use Rattle.wait_rule.specs.Says.{IsUp, IsFree, told_of}
 use Rattle.wait_rule.specs.Stays.{Change, only, unchanged, with_entry}
 use Rattle.wait_rule.specs.Transitions.{call_program}
 use Rattle.wq_head.specs.declared.adds.Worn.{Worn}
-use Rattle.wait_class.specs.Posts.{HasSeenOwn, Runs}
+use Rattle.wait_class.specs.Posts.{Runs}
 use Rattle.wait_class.specs.Queueing.{form_entry}
 use Rattle.wait_class.specs.Posts.{own_of}
 
@@ -77,10 +77,7 @@ pub record EndsAdd (old new : Known) (c : ℕ) (k : Kind) (f : Form) (result : R
       (next.Ends (add_answer result))
   pub entry : HasOwn old new c k f result
 
--- The task loaded the word of its entry, which shows the head, and then went through the whole call.
+-- the task went through the whole call
 pub record HasRemovedOwn (old new : Known) : Type 0 where
-  pub entry : Entry
-  pub seen : Known
-  pub looked : HasSeenOwn old seen (Some entry)
-  pub runs : Runs (call_program old.view.number 0 calls.Remove) seen new (next.Go (at.Remove removing.Lock))
+  pub runs : Runs (call_program old.view.number 0 calls.Remove) old new (next.Go (at.Remove removing.Lock))
       (next.Ends zero_answer)

@@ -3,6 +3,7 @@ pub mod WaitPlans
 pub mod Ends
 pub mod Conds
 pub mod Prepares
+pub mod PartSteps
 pub mod Entries
 pub mod WokenWaits
 pub mod Words

@@ -1,8 +1,9 @@
 -- To be believed.
--- What preparing to wait says.
-use Rattle.std.specs.Prelude.{ℕ, ◌≡◌, ◌<◌, Bool, true, false, Result, Ok, Err, [], ◌++◌}
-use Rattle.wait_model.specs.declared.layout.TheConstants.{FIRST_SIMPLE}
-use Rattle.wait_model.specs.declared.calls.Call.TheVariants as calls
+-- What preparing to wait says, and finishing.
+use Rattle.std.specs.Prelude.{ℕ, ◌≡◌, ◌⊎◌, ◌<◌, ◌≤◌, ◌&&◌, not, Bool, true, false, Option, Some, None, Result, Ok, Err, []}
+use Rattle.std.specs.Prelude.{◌++◌}
+use Rattle.wait_model.specs.declared.layout.TheConstants.{BIT_WORDS, FIRST_DONE_HEAD, FIRST_SIMPLE, PLAIN_CONDITIONS}
+use Rattle.wait_model.specs.declared.layout.TheConstants.{VARIABLES, WORD_BITS}
 use Rattle.wait_model.specs.declared.tasks.How.{How}
 use Rattle.wait_model.specs.declared.points.Point.{Point}
 use Rattle.wait_model.specs.declared.points.Point.TheVariants as at
@@ -13,101 +14,107 @@ use Rattle.wait_model.specs.declared.tasks.SleepState.{SleepState}
 use Rattle.wait_model.specs.declared.tasks.SleepState.TheVariants as states
 use Rattle.wait_model.specs.Programs.{zero_answer}
 use Rattle.wait_model.specs.declared.points.Next.TheVariants as next
+use Rattle.wait_model.specs.declared.watches.Entry.{Entry}
 use Rattle.wait_model.specs.declared.watches.Kind.{Kind}
-use Rattle.wait_model.specs.declared.watches.Kind.TheVariants as kind
+use Rattle.wait_model.specs.declared.watches.Kind.TheVariants as kinds
 use Rattle.wait_model.specs.declared.watches.Watch.{Watch}
 use Rattle.wait_model.specs.declared.watches.Watch.TheVariants as watch
-use Rattle.wait_model.specs.PointFacts.{waits, IsHome}
 use Rattle.wait_model.specs.Tasks.{pending, state_mask, task_of}
-use Rattle.wait_model.specs.Watches.{head_of}
+use Rattle.wait_model.specs.Watches.{bare, head_of, kind_for}
 use Rattle.wait_rule.specs.Ends.{WasWorn}
 use Rattle.wait_rule.specs.Known.{Known}
 use Rattle.wait_rule.specs.Says.{Excuse, IsFree, IsUp, Owes, told_of}
-use Rattle.wait_rule.specs.Queues.{index}
 use Rattle.wait_rule.specs.Stays.{Carries, Change, only, unchanged, with_entry}
+use Rattle.wait_rule.specs.Transitions.{Program}
 use Rattle.wq_head.specs.declared.adds.Worn.{Worn}
-use Rattle.wait_class.specs.Posts.{Keeps, Runs}
-use Rattle.wait_class.specs.Posts.{IsOut}
-use Rattle.wait_class.specs.Posts.{EndsWith, own_of}
-use Rattle.wait_event.specs.Waits.{IsQueuedIn, head_of_wait, left_by, queues_first}
-use Rattle.wait_event.specs.WaitPlans.{wait_program}
+use Rattle.wait_class.specs.Posts.{EndsWith, IsOut, Keeps, Runs, own_of}
+use Rattle.wait_class.specs.Tables.{plan_program}
+use Rattle.wait_event.specs.Waits.{IsQueuedIn, left_by, queues_first}
+use Rattle.wait_event.specs.WaitPlans.{part_plan}
+use Rattle.wait_event.specs.declared.prepares.Part.{Part}
 use Rattle.wait_event.specs.declared.prepares.Prepared.{Prepared}
 use Rattle.wait_event.specs.declared.prepares.Prepared.TheVariants as prepared
-use Rattle.wait_event.specs.declared.waits.WaitCall.{WaitCall}
-use Rattle.wait_event.specs.declared.waits.WaitStage.{WaitStage}
-use Rattle.wait_event.specs.declared.waits.WaitStage.TheVariants as stage
 
--- the condition that a watch names
-abbrev pub cond_in : Watch → ℕ
-cond_in (watch.Plain c) = c
-cond_in _ = 0
+-- What a prepare may queue, by the kind of the entry: one for a plain condition with a full head, at the front or at the
+-- tail; one for a plain condition with a simple head, at the tail; one for a bit and one for a variable, at the front.
+abbrev pub Suits : Watch → Kind → How → Type 0
+Suits (watch.Plain c) kinds.Default how = c < FIRST_SIMPLE
+Suits (watch.Plain c) kinds.Autoremove how = c < FIRST_SIMPLE
+Suits (watch.Plain c) kinds.Woken how = c < FIRST_SIMPLE
+Suits (watch.Plain c) kinds.Simple how = (FIRST_SIMPLE ≤ c) × (c < PLAIN_CONDITIONS) × (how.exclusive ≡ true)
+Suits (watch.Bit w b) kinds.Bit how = (w < BIT_WORDS) × (b < WORD_BITS) × (how.exclusive ≡ false)
+Suits (watch.Var v old) kinds.Var how = (v < VARIABLES) × (how.exclusive ≡ false)
+Suits _ _ how = ⊥
 
--- a plain condition with a full head, and the kind of an entry that a wake takes off
-abbrev pub IsFullWatch : Watch → Type 0
-IsFullWatch w = (w ≡ watch.Plain (cond_in w)) × (cond_in w < FIRST_SIMPLE)
+-- the own entry is off, or one of this watch and kind
+abbrev pub IsPart : Watch → Kind → Option Entry → Type 0
+IsPart w k None = Unit {0}
+IsPart w k (Some e) = (e.watch ≡ bare w) × (e.kind ≡ k)
 
-abbrev pub IsPlainWait : Watch → Kind → Type 0
-IsPlainWait w k = IsFullWatch w × (k ≡ kind.Autoremove)
+-- The task is awake, RUNNING or in the state of the prepare, and holds no lock. Its entry of slot 0 is off, or one of this
+-- watch and kind.
+pub record MayPrepare (t : Known) (w : Watch) (k : Kind) (σ : SleepState) : Type 0 where
+  pub up : IsUp t
+  pub free : IsFree t
+  pub state : (t.book.state ≡ 0) ⊎ (t.book.state ≡ state_mask σ)
+  pub home : IsPart w k ((told_of t).bits.stored (own_of t))
 
--- The task is awake in state RUNNING and holds no lock, and its entry of slot 0 is off, or one of this watch that a
--- wake takes off.
-pub record MayPrepare (k : Known) (w : Watch) : Type 0 where
-  pub up : IsUp k
-  pub free : IsFree k
-  pub running : k.book.state ≡ 0
-  pub home : IsHome waits (watch.Plain (cond_in w)) ((told_of k).bits.stored (index k.view.number 0))
+-- the program of a wait for this watch whose entry is of this kind; its prepare looks for a signal only where it asks for
+-- one
+abbrev pub part_program : Bool → ℕ → Watch → Kind → How → Program
+part_program asks me w k how = plan_program me 0 (part_plan asks w k how)
 
 -- The task went through the prepare of a wait to this point, and holds no lock. Its entry of slot 0 is off, or one of
--- this condition that a wake takes off: so it may finish, whatever the prepare answered.
-pub record Prepares (old new : Known) (c : ℕ) (how : How) (asks : Bool) (to : Point) : Type 0 where
-  pub runs : Runs (wait_program asks old.view.number (calls.Wait c how)) old new
-      (next.Go (at.Prepare preparing.Lock)) (next.Go to)
-  pub keeps : Keeps (index old.view.number 0) old new
+-- this watch and kind.
+pub record Prepares (old new : Known) (w : Watch) (k : Kind) (how : How) (asks : Bool) (to : Point) : Type 0 where
+  pub runs : Runs (part_program asks old.view.number w k how) old new (next.Go (at.Prepare preparing.Lock)) (next.Go to)
+  pub keeps : Keeps (own_of old) old new
   pub up : IsUp new
   pub free : IsFree new
-  pub home : IsHome waits (watch.Plain c) ((told_of new).bits.stored (index new.view.number 0))
+  pub home : IsPart w k ((told_of new).bits.stored (own_of new))
 
 -- the last steps of a prepare that found a signal
-pub record WasAsked (k : Known) (c : ℕ) (how : How) : Type 0 where
+pub record WasAsked (k : Known) (w : Watch) (how : How) : Type 0 where
   pub look : ℕ
   pub entry : ℕ
   pub showed : pending (state_mask how.state) (task_of look) ≡ true
-  pub ends : EndsWith k (left_by (own_of k) (head_of (watch.Plain c)) look entry ++ [])
+  pub ends : EndsWith k (left_by (own_of k) (head_of w) look entry ++ [])
 
-pub record IsLeft (k : Known) : Type 0 where
-  pub out : IsOut k
-  pub running : k.book.state ≡ 0
+-- the entry is off, and no state was stored
+pub record IsLeft (old new : Known) : Type 0 where
+  pub out : IsOut new
+  pub state : new.book.state ≡ old.book.state
 
-abbrev pub EndsPrepare : Known → Known → Watch → How → Bool → Result Prepared Worn → Type 0
-EndsPrepare old new w how asks (Ok prepared.Queued) = Prepares old new (cond_in w) how asks at.Test
+abbrev pub EndsPrepare : Known → Known → Watch → Kind → How → Bool → Result Prepared Worn → Type 0
+EndsPrepare old new w k how asks (Ok prepared.Queued) = Prepares old new w k how asks at.Test
     × IsQueuedIn new (state_mask how.state)
-EndsPrepare old new w how asks (Ok prepared.Signal) =
-    Prepares old new (cond_in w) how asks (at.Leave leaving.Load) × (asks ≡ true) × IsLeft new
-    × WasAsked new (cond_in w) how
-EndsPrepare old new w how asks (Err e) = Prepares old new (cond_in w) how asks at.Worn × IsLeft new
-    × (e.head ≡ head_of (watch.Plain (cond_in w))) × WasWorn new.view.number new.view.items e.head e.place
+EndsPrepare old new w k how asks (Ok prepared.Signal) = Prepares old new w k how asks (at.Leave leaving.Load)
+    × (asks ≡ true) × IsLeft old new × WasAsked new w how
+EndsPrepare old new w k how asks (Err e) = Prepares old new w k how asks at.Worn × IsLeft old new
+    × (e.head ≡ head_of w) × WasWorn new.view.number new.view.items e.head e.place
 
 -- An exclusive prepare that looks for no signal answers whether its entry is the first: it queued it, and its hold had
 -- shown no entry and no bookmark of the head before.
 abbrev pub exclusive_in : SleepState → How
 exclusive_in σ = record { state = σ; exclusive = true }
 
-abbrev pub EndsExclusive : Known → Known → Watch → SleepState → Result Bool Worn → Type 0
-EndsExclusive old new w σ (Ok first) = (p : Prepares old new (cond_in w) (exclusive_in σ) false at.Test)
+abbrev pub EndsExclusive : Known → Known → Watch → Kind → SleepState → Result Bool Worn → Type 0
+EndsExclusive old new w k σ (Ok first) = (p : Prepares old new w k (exclusive_in σ) false at.Test)
     × IsQueuedIn new (state_mask σ) × (first ≡ queues_first p.runs.transitions)
-EndsExclusive old new w σ (Err e) = EndsPrepare old new w (exclusive_in σ) false (Err e)
+EndsExclusive old new w k σ (Err e) = EndsPrepare old new w k (exclusive_in σ) false (Err e)
 
--- what a prepare answers, by the stage at which it ended
-abbrev pub prepared_in : WaitCall → WaitStage → Result Prepared Worn
-prepared_in r stage.Test = Ok prepared.Queued
-prepared_in r (stage.LeaveLoad found) = Ok prepared.Signal
-prepared_in r _ = Err (record { head = head_of_wait r; place = r.place })
+-- the same of a prepare by its numbers: whether its entry is the first, where it answers that, and nothing where it found
+-- a signal
+abbrev pub answers_first : Part → Bool
+answers_first p = p.how.exclusive && not p.asks
 
-abbrev pub first_in : WaitCall → WaitStage → Result Bool Worn
-first_in r stage.Test = Ok r.first
-first_in r _ = Err (record { head = head_of_wait r; place = r.place })
+abbrev pub EndsPart : Known → Known → Part → Result (Option Bool) Worn → Type 0
+EndsPart old new p (Ok (Some first)) = (x : Prepares old new p.watch p.kind p.how p.asks at.Test)
+    × IsQueuedIn new (state_mask p.how.state) × (first ≡ (queues_first x.runs.transitions && answers_first p))
+EndsPart old new p (Ok None) = EndsPrepare old new p.watch p.kind p.how p.asks (Ok prepared.Signal)
+EndsPart old new p (Err e) = EndsPrepare old new p.watch p.kind p.how p.asks (Err e)
 
--- the answer of a prepare that looks for no signal
+-- what they answer, as a prepare that may find a signal
 abbrev pub with_signal : Result (Unit {0}) Worn → Result Prepared Worn
 with_signal (Ok u) = Ok prepared.Queued
 with_signal (Err e) = Err e
@@ -116,60 +123,56 @@ abbrev pub with_first : Result Bool Worn → Result Prepared Worn
 with_first (Ok first) = Ok prepared.Queued
 with_first (Err e) = Err e
 
--- The task is awake and holds no lock, and its entry of slot 0 is off, or one of a plain condition with a full head
--- that a wake takes off. Its state is any.
+abbrev pub with_none : Result (Option Bool) Worn → Result Prepared Worn
+with_none (Ok (Some first)) = Ok prepared.Queued
+with_none (Ok None) = Ok prepared.Signal
+with_none (Err e) = Err e
+
+-- The task is awake and holds no lock, and its entry of slot 0 is off, or one that waits for no completion. Its state is
+-- any.
+abbrev pub IsNoWaiter : Option Entry → Type 0
+IsNoWaiter None = Unit {0}
+IsNoWaiter (Some e) = head_of e.watch < FIRST_DONE_HEAD
+
 pub record MayFinish (k : Known) : Type 0 where
-  pub cond : ℕ
-  pub full : cond < FIRST_SIMPLE
   pub up : IsUp k
   pub free : IsFree k
-  pub home : IsHome waits (watch.Plain cond) ((told_of k).bits.stored (index k.view.number 0))
+  pub home : IsNoWaiter ((told_of k).bits.stored (own_of k))
 
 -- how a wait that says no more of its state is named
 abbrev pub any_how : How
 any_how = record { state = states.Uninterruptible; exclusive = false }
 
--- a wait for this watch of which only its finish is left: it has loaded a value that sets a plain condition
-pub record IsFinishing (r : WaitCall) (w : Watch) : Type 0 where
-  pub watch_is : r.watch ≡ w
-  pub how_is : r.how ≡ any_how
-  pub asks_is : r.asks ≡ true
-  pub seen : r.seen ≡ 1
+abbrev pub finish_program : ℕ → Watch → Program
+finish_program me w = part_program true me w (kind_for w) any_how
 
--- The task went through the finish of a wait. It is RUNNING, holds no lock, and the entry is off.
+-- The task went through the finish of a wait for the watch of its entry, where it had one. It is RUNNING, holds no lock,
+-- and the entry is off.
 pub record HasFinished (old new : Known) : Type 0 where
-  pub cond : ℕ
-  pub runs : Runs (wait_program true old.view.number (calls.Wait cond any_how)) old new
-      (next.Go (at.Finish finishing.State false)) (next.Ends zero_answer)
-  pub keeps : Keeps (index old.view.number 0) old new
+  pub watch : Watch
+  pub about : (e : Entry) → (told_of old).bits.stored (own_of old) ≡ Some e → watch ≡ e.watch
+  pub runs : Runs (finish_program old.view.number watch) old new (next.Go (at.Finish finishing.State false))
+      (next.Ends zero_answer)
+  pub keeps : Keeps (own_of old) old new
   pub up : IsUp new
   pub free : IsFree new
-  pub left : IsLeft new
+  pub out : IsOut new
+  pub running : new.book.state ≡ 0
 
--- What a prepare changes that queued the entry, or found it queued, and stored the state; and what one changes that
--- gave the entry up, as a finish does: the task is RUNNING then, and owes the entry no more.
+-- What a prepare changes that queued the entry, or found it queued, and stored the state; what one changes that gave the
+-- entry up: the task owes it no more then; and what a finish changes besides: the task is RUNNING.
+abbrev pub leave_change : ℕ → ℕ → Change
+leave_change i h = record unchanged { from = with_entry i; but = only i; looks = true; at = λ _. h }
+
 abbrev pub prepare_change : ℕ → ℕ → ℕ → Change
-prepare_change i σ h = record unchanged {
-  from = with_entry i;
-  to = with_entry i;
-  but = only i;
-  looks = true;
-  state = λ _. σ;
-  at = λ _. h;
-}
+prepare_change i σ h = record (leave_change i h) { to = with_entry i; state = λ _. σ }
 
 abbrev pub finish_change : ℕ → ℕ → Change
-finish_change i h = record unchanged {
-  from = with_entry i;
-  but = only i;
-  looks = true;
-  state = λ _. 0;
-  at = λ _. h;
-}
+finish_change i h = record (leave_change i h) { state = λ _. 0 }
 
 abbrev pub CarriesPrepare : Known → Known → SleepState → Result Prepared Worn → Type 0
 CarriesPrepare old new σ (Ok prepared.Queued) = Carries (prepare_change (own_of old) (state_mask σ) new.at) old new
-CarriesPrepare old new σ _ = Carries (finish_change (own_of old) new.at) old new
+CarriesPrepare old new σ _ = Carries (leave_change (own_of old) new.at) old new
 
 -- Of a task that had no entry queued: it owes the entry then.
 abbrev pub BeginsOwing : Known → Known → Type 0

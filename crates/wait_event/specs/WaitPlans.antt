@@ -109,16 +109,16 @@ plan me w how (at.Finish finishing.Unlock false) seen = gives_back w (next.Ends 
 plan me w how p seen = program me (call_for w how) p seen
 
 -- the kind of an entry that is queued there
-abbrev pub kind_in : Watch → Point → Kind
-kind_in w (at.Add p) = kind.Autoremove
-kind_in w (at.Page p) = kind.Page
-kind_in w p = kind_for w
+abbrev pub kind_in : Kind → Point → Kind
+kind_in k (at.Add p) = kind.Autoremove
+kind_in k (at.Page p) = kind.Page
+kind_in k p = k
 
--- the plan of a wait
-abbrev pub wait_plan : Bool → Watch → How → Plan
-wait_plan asks w how = record {
+-- the plan of a wait whose entry is of this kind, and of a wait, whose kind is that of its watch
+abbrev pub part_plan : Bool → Watch → Kind → How → Plan
+part_plan asks w k how = record {
   makes = λ me p seen. asked asks p (plan me w how p seen);
-  given = λ p. record (given_at (call_for w how) p) { watch = w; kind = kind_in w p };
+  given = λ p. record (given_at (call_for w how) p) { watch = w; kind = kind_in k p };
   watch = w;
   state = how.state;
   form = wait_form how;
@@ -128,3 +128,6 @@ wait_plan asks w how = record {
   head = λ p. head_of w;
   stirs = stirs (calls.Wait 0 how);
 }
+
+abbrev pub wait_plan : Bool → Watch → How → Plan
+wait_plan asks w how = part_plan asks w (kind_for w) how

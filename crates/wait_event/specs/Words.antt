@@ -48,8 +48,9 @@ use Rattle.wait_event.specs.Conds.{HasSet, HasTaken}
 use Rattle.wait_event.specs.Ends.{EndsWait, answer_of}
 use Rattle.wait_event.specs.Entries.{EndsAdd, HasRemovedOwn, add_answer}
 use Rattle.wait_class.specs.Posts.{IsOut}
-use Rattle.wait_event.specs.Prepares.{HasFinished, Prepares, any_how}
+use Rattle.wait_event.specs.Prepares.{HasFinished, Prepares, finish_program}
 use Rattle.wait_event.specs.WaitPlans.{wait_program}
+use Rattle.wait_model.specs.Watches.{kind_for}
 use Rattle.wait_event.specs.WokenWaits.{EndsWoken}
 use Rattle.wait_event.specs.declared.wait_events.WaitEnd.{WaitEnd}
 use Rattle.wq_head.specs.declared.adds.Worn.{Worn}
@@ -94,7 +95,7 @@ AddsFollow = (old new : Known) (c : ℕ) (k : Kind) (f : Form) (result : Result 
     → (e : EndsAdd old new c k f result) → Follows old.view.number (calls.Add c k f)
     (call_says old.view.number (calls.Add c k f) e.runs.transitions) (add_answer result)
 
--- An entry that is taken off: all that its task makes of it behind the look at its own entry, which tells the head.
+-- an entry that is taken off
 abbrev pub RemovesFollow : Type 0
 RemovesFollow = (old new : Known) → MeetsLaw new.view → (h : HasRemovedOwn old new) → Follows old.view.number calls.Remove
     (call_says old.view.number calls.Remove h.runs.transitions) zero_answer
@@ -135,25 +136,27 @@ answer_behind at.Test = zero_answer
 answer_behind at.Worn = answer.Worn
 answer_behind _ = signalled
 
--- What a prepare makes begins such turns, and with this behind it it is whole ones, with this answer. It looks for a
--- signal where `asks` says so (`Prepares`, which the clause `ends` of each prepare has). A load of the base word after
+-- What a prepare for a plain condition makes, whose entry is of the kind of a wait, begins such turns, and with this
+-- behind it it is whole ones, with this answer. It looks for a signal where `asks` says so (`Prepares`, which the clause
+-- `ends` of each prepare has). A load of the base word after
 -- it shows the table that is asked for.
 abbrev pub prepare_says : Bool → ℕ → Call → List Transition → List Event
 prepare_says asks me call ts = said (wait_program asks me call) (next.Go (at.Prepare preparing.Lock)) ts
 
 abbrev pub PreparesBegin : Type 0
 PreparesBegin = (old new : Known) (c : ℕ) (how : How) (asks : Bool) (to : Point) (queued : Bool) → is_behind to ≡ true
-    → MeetsLaw new.view → (queued ≡ false → IsOut old) → (p : Prepares old new c how asks to)
+    → MeetsLaw new.view → (queued ≡ false → IsOut old)
+    → (p : Prepares old new (watch.Plain c) (kind_for (watch.Plain c)) how asks to)
     → (turns_by asks old.view.number c how queued) ends
     (prepare_says asks old.view.number (calls.Wait c how) p.runs.transitions ++ rest_behind c to) (answer_behind to)
 
--- What a finish makes is a finish of the sentence of a wait, to its end, with the answer of a wait whose condition is
--- met.
+-- What a finish makes is a finish of the sentence of a wait for its watch, to its end, with the answer of a wait whose
+-- condition is met.
 abbrev pub FinishesFollow : Type 0
 FinishesFollow = (old new : Known) (h : HasFinished old new)
-    → (finishes old.view.number (watch.Plain h.cond) true >> gives (number 0)) ends
-    (said (wait_program true old.view.number (calls.Wait h.cond any_how)) (next.Go (at.Finish finishing.State false))
-    h.runs.transitions) zero_answer
+    → (finishes old.view.number h.watch true >> gives (number 0)) ends
+    (said (finish_program old.view.number h.watch) (next.Go (at.Finish finishing.State false)) h.runs.transitions)
+    zero_answer
 
 -- a take
 abbrev pub TakesFollow : Type 0

@@ -1,11 +1,11 @@
 //! Entries that a task adds by itself and removes again, for who looks and sleeps in its own way.
 
-ghost use Rattle.std.specs.Prelude.{◌≡◌, ◌<◌, true, IfErr, IfOk};
+ghost use Rattle.std.specs.Prelude.{◌≡◌, ◌<◌, true, Some, IfErr, IfOk};
 ghost use Rattle.wait_model.specs.declared.layout.TheConstants.{FIRST_SIMPLE, PRIORITY_TASKS};
 ghost use Rattle.wait_model.specs.declared.watches.Kind.TheVariants as kinds;
 ghost use Rattle.wait_model.specs.Queues.{is_priority};
 ghost use Rattle.wait_rule.specs.Members.{IsOwnKind};
-ghost use Rattle.wait_rule.specs.Says.{AsksNoPage, IsFree, IsUp};
+ghost use Rattle.wait_rule.specs.Says.{AsksNoPage, IsFree, IsUp, told_of};
 ghost use Rattle.wait_rule.specs.Stays.{Carries};
 ghost use Rattle.wait_class.specs.Posts.{IsOut};
 ghost use Rattle.wait_event.specs.Entries.{EndsAdd, HasRemovedOwn, HasWokenEntry, MayRemove};
@@ -16,7 +16,9 @@ use std::sync::Wait;
 use wait_class::queueing::{add_by, own_entry};
 use wait_model::heads::head_of;
 use wait_model::queues::Form;
-use wait_model::watches::{Kind, Watch};
+use wait_model::watches::{Entry, Kind, Watch};
+use wait_model::words::entry_of;
+use wait_rule::queues::kept_entry;
 use wait_rule::{Domain, Task};
 use wq_head::{Worn, lock, remove, unlock};
 
@@ -59,6 +61,19 @@ pub fn add_entry<R: Wait>(
     added
 }
 
+/// The own entry of slot 0, which stands as the task queued it.
+fn standing_entry(domain: &Domain, task: &mut Task) -> Entry
+    requires of { task.old.domain ≡ domain.now }
+    requires may { MayRemove task.old }
+    ensures same { task.new ≡ task.old }
+    ensures stands { (told_of task.old).bits.stored (own_of task.old) ≡ Some result }
+{
+    match entry_of(kept_entry(domain, task, 0).0) {
+        Some(entry) => entry,
+        None => unreachable!(),
+    }
+}
+
 /// Takes the own entry of slot 0 off its queue, in a hold of its head (kernel/sched/wait.c, `remove_wait_queue`). It is
 /// one that the task added and that nobody else takes off; so it stands. The task holds no lock. Its state, its
 /// bookmark and its other entry stay, and what it owes.
@@ -72,14 +87,10 @@ pub fn remove_entry<R: Wait>(rt: &R, domain: &Domain, task: &mut Task)
     ensures carries { Carries (remove_change (own_of task.old) task.new.at) task.old task.new }
 {
     task.told();
-    match own_entry(domain, task) {
-        None => unreachable!(),
-        Some(entry) => {
-            let number = task.number();
-            lock(rt, domain, task, head_of(entry.watch));
-            own_entry(domain, task);
-            remove(domain, task, number, 0);
-            unlock(rt, domain, task, false);
-        }
-    }
+    let entry = standing_entry(domain, task);
+    let number = task.number();
+    lock(rt, domain, task, head_of(entry.watch));
+    own_entry(domain, task);
+    remove(domain, task, number, 0);
+    unlock(rt, domain, task, false);
 }

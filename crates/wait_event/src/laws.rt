@@ -7,9 +7,8 @@ ghost use Rattle.wait_event.specs.Words.{TakesFollow, WaitsFollow, WaitsHeed, Wa
 /// What a `wait_event`, a `wait_woken`, an `add_entry`, a `remove_entry`, a `take_cond` and a `set_and_wake` have made
 /// follows the sentences of a wait, a wait for a flag, an add, a removal, a take, a set and a wake, and their answers
 /// are those that the sentences give: by the table that a load of the base word shows after the call (`Task::witness`).
-/// Of a `remove_entry` it is said of all events behind its look at the own entry, which tells the head. What a prepare
-/// has made begins turns of such a wait, and ends in one of them as its answer says; and what a `finish_wait` has made
-/// is a finish of one.
+/// What a prepare has made begins turns of such a wait, and ends in one of them as its answer says; and what a
+/// `finish_wait` has made is a finish of one.
 pub fn calls_follow_sentences()
     ensures waits { WaitsFollow }
     ensures says { WaitsSay }

@@ -3,10 +3,12 @@
 ghost use Rattle.std.specs.Prelude.{◌≡◌, ◌<◌, true};
 ghost use Rattle.wait_model.specs.declared.layout.TheConstants.{FIRST_SIMPLE};
 ghost use Rattle.wait_model.specs.declared.watches.Watch.TheVariants as watch;
-ghost use Rattle.wait_rule.specs.Says.{IsUp};
+ghost use Rattle.wait_rule.specs.Says.{IsClean, IsUp};
 ghost use Rattle.wait_rule.specs.Queues.{IsIdle, IsTold, index};
 ghost use Rattle.wait_event.specs.declared.waits.WaitStage.TheVariants as stage;
-ghost use Rattle.wait_class.specs.Tables.{IsAt};
+ghost use Rattle.wait_class.specs.declared.stages.Turn.TheVariants as turn;
+ghost use Rattle.wait_class.specs.Tables.{Advances, IsAt};
+ghost use Rattle.wait_class.specs.UnderWay.{IsUnderWay};
 ghost use Rattle.wait_event.specs.Waits.{IsFresh, wait_table};
 ghost use Rattle.wait_rule.specs.Stays.{Carries};
 ghost use Rattle.wait_event.specs.Ends.{EndsWait, end_in, wait_change};
@@ -43,6 +45,9 @@ pub fn begin_wait(task: &Task, cond: u8, how: How) -> WaitRun
     ensures at { IsAt wait_table task.now result stage.First }
     ensures fresh { IsFresh result.of (watch.Plain cond) how true }
     ensures told { IsTold task.now }
+    ensures under { IsClean task.now
+        → IsUnderWay wait_table (wait_table.plan_of result.of) task.now result (turn.Again stage.First) }
+    ensures came { Advances wait_table task.now task.now result result stage.First (turn.Again stage.First) }
 {
     task.told();
     fresh_wait(Watch::Plain { cond }, how, true)
@@ -91,4 +96,18 @@ pub fn end_of(wait: WaitCall, outcome: WaitOutcome) -> Result<(), WaitEnd>
             place: wait.place,
         }),
     }
+}
+
+/// The answer of a wait that went on by stretches and has ended. Who owed nothing when it began owes nothing, and the
+/// answer of one for a condition that began at `start` is as that of `wait_event`.
+pub fn end_wait(task: &Task, wait: &WaitRun, outcome: WaitOutcome) -> Result<(), WaitEnd>
+    ensures is { result ≡ end_in wait.now.of outcome }
+    ensures clean { (c : _) → IsUnderWay wait_table c task.now wait.now (turn.Done outcome) → IsClean task.now }
+    ensures ends { (start : _) → (f : _) → (cond : _) → (how : _) → IsAt wait_table start f stage.First
+        → IsFresh f.of (watch.Plain cond) how true
+        → Advances wait_table start task.now f wait.now stage.First (turn.Done outcome)
+        → EndsWait start task.now cond how result }
+{
+    let _ = *task;
+    end_of(wait.of, outcome)
 }

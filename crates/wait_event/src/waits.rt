@@ -21,27 +21,29 @@ use wq_head::Worn;
 /// A stage of a wait: where it stands in its program. At `PrepareTurn` and `FinishTurn` the ticket of the lock is
 /// drawn, at `PrepareLock` and `FinishLock` it is not. At `LeaveLoad` it is told whether the hold that left the queue
 /// for a signal found the entry queued.
+// Stages at which the same is done stand side by side: where the compiler knows that one of them is at hand, it tells
+// them apart by a compare.
 #[derive(Clone, Copy)]
 pub enum WaitStage {
     First,
     PrepareLock,
+    FinishLock,
     PrepareTurn,
+    FinishTurn,
     PrepareLook,
     PrepareQueue,
     PrepareState,
-    PrepareUnlock,
-    Test,
-    Sleep,
-    Worn,
-    LeaveQueue,
-    LeaveUnlock,
-    LeaveLoad(bool),
     FinishState,
-    FinishLook,
-    FinishLock,
-    FinishTurn,
-    FinishQueue,
+    PrepareUnlock,
+    LeaveUnlock,
     FinishUnlock,
+    Test,
+    Worn,
+    LeaveLoad(bool),
+    Sleep,
+    LeaveQueue,
+    FinishQueue,
+    FinishLook,
 }
 
 /// How a wait ended: its condition was set, or it was signalled (true: its last hold found its entry queued), or no

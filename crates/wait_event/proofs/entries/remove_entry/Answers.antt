@@ -1,7 +1,6 @@
 use Rattle.wait_event.proofs.Removing.{
   head_fit,
   may_take,
-  not_gone,
   removed_carried,
   removed_out,
   removed_own,
@@ -9,44 +8,40 @@ use Rattle.wait_event.proofs.Removing.{
 }
 use Rattle.wait_event.proofs.entries.remove_entry.Goals as goal
 
-pub unreachable-requires : goal.unreachable-requires
-unreachable-requires g c = absurd (not_gone c.args.task.now c.own_entry.new.task c.requires.may c.own_entry.result
-    c.own_entry.ensures c.in-None.is)
-
 pub lock-requires-clause-head : goal.lock-requires-clause-head
-lock-requires-clause-head g c = head_fit c.args.task.now c.own_entry.new.task c.requires.may c.told.ensures
-    c.own_entry.result c.in-Some.entry c.in-Some.is c.own_entry.ensures c.head_of.result c.head_of.ensures
+lock-requires-clause-head g c = head_fit c.args.task.now c.standing_entry-entry.new.task c.requires.may c.told.ensures
+    c.standing_entry-entry.result c.standing_entry-entry.ensures.same c.standing_entry-entry.ensures.stands c.head_of.result c.head_of.ensures
 
 pub remove-requires-clause-may : goal.remove-requires-clause-may
-remove-requires-clause-may g c = may_take c.args.task.now c.own_entry.new.task c.requires.may c.told.ensures
-    c.own_entry.result c.in-Some.entry c.in-Some.is c.own_entry.ensures c.lock.new.task c.head_of.result
-    c.head_of.ensures c.lock.ensures.locked c.lock.ensures.held c.lock.ensures.carries c.own_entry-in-Some.new.task
-    c.own_entry-in-Some.result c.own_entry-in-Some.ensures c.number-number.result c.number-number.ensures.number
+remove-requires-clause-may g c = may_take c.args.task.now c.standing_entry-entry.new.task c.requires.may c.told.ensures
+    c.standing_entry-entry.result c.standing_entry-entry.ensures.same c.standing_entry-entry.ensures.stands c.lock.new.task c.head_of.result
+    c.head_of.ensures c.lock.ensures.locked c.lock.ensures.held c.lock.ensures.carries c.own_entry.new.task
+    c.own_entry.result c.own_entry.ensures c.number-number.result c.number-number.ensures.number
 
 pub returns-clause-removed : goal.returns-clause-removed
-returns-clause-removed g c = removed_own c.args.task.now c.own_entry.new.task c.requires.may c.told.ensures
-    c.own_entry.result c.in-Some.entry c.in-Some.is c.own_entry.ensures c.lock.new.task c.head_of.result
-    c.head_of.ensures c.lock.ensures.locked c.lock.ensures.held c.lock.ensures.carries c.own_entry-in-Some.new.task
-    c.own_entry-in-Some.result c.own_entry-in-Some.ensures c.number-number.result c.number-number.ensures.number
+returns-clause-removed g c = removed_own c.args.task.now c.standing_entry-entry.new.task c.requires.may c.told.ensures
+    c.standing_entry-entry.result c.standing_entry-entry.ensures.same c.standing_entry-entry.ensures.stands c.lock.new.task c.head_of.result
+    c.head_of.ensures c.lock.ensures.locked c.lock.ensures.held c.lock.ensures.carries c.own_entry.new.task
+    c.own_entry.result c.own_entry.ensures c.number-number.result c.number-number.ensures.number
     c.remove.new.task c.remove.ensures.removed c.unlock.new.task c.unlock.ensures.unlocked c.unlock.ensures.carries
 
 pub returns-clause-out : goal.returns-clause-out
-returns-clause-out g c = removed_out c.args.task.now c.own_entry.new.task c.requires.may c.told.ensures
-    c.own_entry.result c.in-Some.entry c.in-Some.is c.own_entry.ensures c.lock.new.task c.head_of.result
-    c.head_of.ensures c.lock.ensures.locked c.lock.ensures.held c.lock.ensures.carries c.own_entry-in-Some.new.task
-    c.own_entry-in-Some.result c.own_entry-in-Some.ensures c.number-number.result c.number-number.ensures.number
+returns-clause-out g c = removed_out c.args.task.now c.standing_entry-entry.new.task c.requires.may c.told.ensures
+    c.standing_entry-entry.result c.standing_entry-entry.ensures.same c.standing_entry-entry.ensures.stands c.lock.new.task c.head_of.result
+    c.head_of.ensures c.lock.ensures.locked c.lock.ensures.held c.lock.ensures.carries c.own_entry.new.task
+    c.own_entry.result c.own_entry.ensures c.number-number.result c.number-number.ensures.number
     c.remove.new.task c.remove.ensures.removed c.unlock.new.task c.unlock.ensures.unlocked c.unlock.ensures.carries
 
 pub returns-clause-carries : goal.returns-clause-carries
-returns-clause-carries g c = removed_carried c.args.task.now c.own_entry.new.task c.requires.may c.told.ensures
-    c.own_entry.result c.in-Some.entry c.in-Some.is c.own_entry.ensures c.lock.new.task c.head_of.result
-    c.head_of.ensures c.lock.ensures.locked c.lock.ensures.held c.lock.ensures.carries c.own_entry-in-Some.new.task
-    c.own_entry-in-Some.result c.own_entry-in-Some.ensures c.number-number.result c.number-number.ensures.number
+returns-clause-carries g c = removed_carried c.args.task.now c.standing_entry-entry.new.task c.requires.may c.told.ensures
+    c.standing_entry-entry.result c.standing_entry-entry.ensures.same c.standing_entry-entry.ensures.stands c.lock.new.task c.head_of.result
+    c.head_of.ensures c.lock.ensures.locked c.lock.ensures.held c.lock.ensures.carries c.own_entry.new.task
+    c.own_entry.result c.own_entry.ensures c.number-number.result c.number-number.ensures.number
     c.remove.new.task c.remove.ensures.removed c.unlock.new.task c.unlock.ensures.unlocked c.unlock.ensures.carries
 
 pub unlock-requires-clause-permits : goal.unlock-requires-clause-permits
-unlock-requires-clause-permits g c = taken_owes c.args.task.now c.own_entry.new.task c.requires.may c.told.ensures
-    c.own_entry.result c.in-Some.entry c.in-Some.is c.own_entry.ensures c.lock.new.task c.head_of.result
-    c.head_of.ensures c.lock.ensures.locked c.lock.ensures.held c.lock.ensures.carries c.own_entry-in-Some.new.task
-    c.own_entry-in-Some.result c.own_entry-in-Some.ensures c.number-number.result c.remove.new.task
+unlock-requires-clause-permits g c = taken_owes c.args.task.now c.standing_entry-entry.new.task c.requires.may c.told.ensures
+    c.standing_entry-entry.result c.standing_entry-entry.ensures.same c.standing_entry-entry.ensures.stands c.lock.new.task c.head_of.result
+    c.head_of.ensures c.lock.ensures.locked c.lock.ensures.held c.lock.ensures.carries c.own_entry.new.task
+    c.own_entry.result c.own_entry.ensures c.number-number.result c.remove.new.task
     c.remove.ensures.removed

@@ -1,7 +1,6 @@
 use Rattle.std.proofs.Common.{inl}
 use Rattle.wait_class.proofs.States.{load_agreed}
 use Rattle.wait_event.specs.Waits.{wait_table}
-use Rattle.wait_event.specs.declared.waits.WaitStage.TheVariants as stage
 use Rattle.wait_event.proofs.FirstLoads.{first_advances, first_falls}
 use Rattle.wait_event.proofs.WaitLaws.{wait_lawful}
 use Rattle.wait_model.specs.declared.layout.TheConstants.{HEADS}

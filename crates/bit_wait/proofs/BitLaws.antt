@@ -1,7 +1,7 @@
 -- The table of a wait until a bit is clear keeps its laws; and what a whole wait says.
 use Rattle.std.proofs.Common.{◌∙◌, ap, sym, refl, subst, inl, inr, arith, append_assoc}
-use Rattle.std.specs.Prelude.{ℕ, ◌≡◌, ◌<◌, ◌+◌, ◌*◌, ◌⊎◌, ◌&&◌, not, Bool, true, false, if◌then◌else◌}
-use Rattle.std.specs.Prelude.{None, Result, IfOk, IfErr, List, [], ◌∷◌, ◌++◌}
+use Rattle.std.specs.Prelude.{ℕ, ◌≡◌, ◌<◌, ◌+◌, ◌*◌, ◌&&◌, not, Bool, true, false, if◌then◌else◌}
+use Rattle.std.specs.Prelude.{Option, None, Result, IfOk, IfErr, List, [], ◌∷◌, ◌++◌}
 use Rattle.wait_model.specs.declared.layout.TheConstants.{FIRST_DONE_HEAD, WORD_BITS}
 use Rattle.wait_model.specs.declared.calls.Answer.TheVariants as answer
 use Rattle.wait_model.specs.declared.calls.Call.TheVariants as calls
@@ -16,6 +16,7 @@ use Rattle.wait_model.specs.declared.steps.Step.{Step}
 use Rattle.wait_model.specs.declared.steps.Step.TheVariants as step
 use Rattle.wait_model.specs.declared.tasks.SleepState.{SleepState}
 use Rattle.wait_model.specs.declared.watches.Kind.TheVariants as kind
+use Rattle.wait_model.specs.declared.watches.Entry.{Entry}
 use Rattle.wait_model.specs.declared.watches.Watch.{Watch}
 use Rattle.wait_model.specs.declared.watches.Watch.TheVariants as watch
 use Rattle.wait_model.specs.Programs.{acted, ends_with, finished, go, load, zero_answer}
@@ -25,7 +26,8 @@ use Rattle.wait_model.specs.Watches.{head_of}
 use Rattle.wait_model.specs.Words.{bit_at}
 use Rattle.wait_rule.specs.Known.{Known}
 use Rattle.wait_rule.specs.Queues.{IsIdle, IsTold, index}
-use Rattle.wait_rule.specs.Says.{IsUp, history_of, told_of}
+use Rattle.wait_rule.specs.Says.{Excuse, IsClean, IsOutBut, IsUp, Owes, history_of, no_excuse, told_of}
+use Rattle.wait_model.specs.Views.{is_trying_for}
 use Rattle.wait_rule.specs.Stays.{Carries}
 use Rattle.wait_rule.proofs.KnownLaws.StayingParts.{owes_also, owes_out}
 use Rattle.wq_head.specs.Adds.{HasAdded, IsFor, IsFrontWorn, front_entry}
@@ -34,12 +36,13 @@ use Rattle.wq_head.specs.declared.adds.Worn.{Worn}
 use Rattle.wait_rule.specs.Ends.{WasWorn}
 use Rattle.wait_rule.specs.Queues.{IsFrontPlace}
 use Rattle.wq_head.proofs.FullHeads.{hashed_low}
+use Rattle.wait_event.specs.Ends.{wait_change}
 use Rattle.wait_class.specs.Posts.{IsOut}
-use Rattle.wait_class.specs.Posts.{Stands}
 use Rattle.wait_class.specs.Posts.{EndsWith}
 use Rattle.wait_class.specs.Findings.{with_value}
 use Rattle.wait_class.proofs.Ground.Standing.{home_waits}
 use Rattle.wait_class.specs.declared.frame_stages.Framed.{Framed}
+use Rattle.wait_class.specs.declared.frame_stages.Stage.{Stage}
 use Rattle.wait_class.specs.declared.frame_stages.Stage.TheVariants as stage
 use Rattle.wait_class.specs.declared.stages.Run.{Run}
 use Rattle.wait_class.specs.declared.stages.Turn.TheVariants as turn
@@ -53,8 +56,9 @@ use Rattle.wait_class.proofs.CallPlans.{call_stands}
 use Rattle.wait_class.proofs.Histories.{awake_more, ends_calm, ends_still, found_still, worn_calm}
 use Rattle.wait_class.proofs.Stays.{adds_front, wait_stays}
 use Rattle.wait_class.proofs.Ways.{finish_by, go_if, load_fork, look_by, sleep_by, way}
-use Rattle.wait_class.proofs.Wholes.{begins, ended_runs, none_of}
-use Rattle.bit_wait.specs.BitEnds.{EndsBitWait, IsCause, IsIdleAfter, answer_of, bit_change, end_in}
+use Rattle.wait_class.specs.Wholes.{HasRested}
+use Rattle.wait_class.proofs.Wholes.{Rested, begins, ended_runs, none_of, rested_idle, rested_out, rests}
+use Rattle.bit_wait.specs.BitEnds.{EndsBitWait, IsCause, answer_of, end_in, finds_no_place}
 use Rattle.bit_wait.specs.BitTables.{
   BitFinishTrail,
   IsFresh,
@@ -66,6 +70,7 @@ use Rattle.bit_wait.specs.BitTables.{
   bit_table,
   call_in,
   end_post,
+  is_worn,
   loads_set,
   set_to,
 }
@@ -307,74 +312,95 @@ abbrev CauseOf : Known → Watch → SleepState → Result (Unit {0}) BitEnd →
 CauseOf k (watch.Bit w b) st x = IsCause k w b st x
 CauseOf k _ st x = ⊥
 
-idle_by : (k : Known) (r : WaitBit) (st : SleepState) (o : BitOutcome) → state_mask r.state ≡ state_mask st → Stands k (end_post r o)
-    → (told_of k).mark ≡ None → IsIdleAfter k st (end_in r o)
-idle_by k r st outcome.Over same s unmarked = record {
-  running = s.state;
-  free = record { head = s.head; ticket = s.ticket };
-  unmarked = unmarked;
-}
-idle_by k r st outcome.Interrupted same s unmarked = record {
-  running = s.state;
-  free = record { head = s.head; ticket = s.ticket };
-  unmarked = unmarked;
-}
-idle_by k r st outcome.Worn same s unmarked = record {
-  state = subst (λ (σ : ℕ). (k.book.state ≡ 0) ⊎ (k.book.state ≡ σ)) same s.state;
-  free = record { head = s.head; ticket = s.ticket };
-  unmarked = unmarked;
-}
-
 answer_is : (r : WaitBit) (o : BitOutcome) → answer_in o ≡ answer_of (end_in r o)
 answer_is r outcome.Over = refl
 answer_is r outcome.Interrupted = refl
 answer_is r outcome.Worn = refl
 
-module _ (old new : Known) (r q : Run (Framed WaitBit)) (w b : ℕ) (st : SleepState) (fresh : IsFresh r.of.wait w b st)
-    (o : BitOutcome) (a : Advances bit_table old new r q (stage.Test test.First) (turn.Done o)) where
-  abbrev ran : WaitBit
-  ran = q.of.wait
+worn_is : (r : WaitBit) (o : BitOutcome) → is_worn o ≡ finds_no_place (end_in r o)
+worn_is r outcome.Over = refl
+worn_is r outcome.Interrupted = refl
+worn_is r outcome.Worn = refl
 
-  began : bit_frame.plan_of r.of.wait ≡ call_plan (calls.WaitBit w b st)
-  began i = call_plan (calls.WaitBit (fresh.word i) (fresh.bit i) (fresh.state i))
+-- a wait that ended, from whatever stage, and what the task did then
+module _ (old ended : Known) (r q : Run (Framed WaitBit)) (s : Stage BitTest) (o : BitOutcome)
+    (a : Advances bit_table old ended r q s (turn.Done o)) (new : Known) (h : HasRested ended new (is_worn o)) where
+  rested : Rested ended new
+  rested = rests ended new (is_worn o) (state_mask q.of.wait.state) h a.lands.stands.state
 
   pub ends_up : IsUp new
-  ends_up = a.lands.up
+  ends_up = rested.awake ∙ a.lands.up
 
   pub ends_out : IsOut new
-  ends_out = none_of (bit_in ran) ((told_of new).bits.stored (index new.view.number 0)) a.lands.stands.home
+  ends_out = rested_out ended new (end_post q.of.wait o) a.lands.stands refl rested
+
+  out_then : (told_of ended).bits.stored (index old.view.number 0) ≡ None
+  out_then = ap (λ (n : ℕ). (told_of ended).bits.stored (index n 0)) (sym a.went.keeps.number)
+      ∙ none_of (bit_in q.of.wait) ((told_of ended).bits.stored (index ended.view.number 0)) a.lands.stands.home
+
+  owes_still : (x : Excuse) → Owes x ended → Owes x new
+  owes_still x o = record {
+    unmarked = rested.mark ∙ o.unmarked;
+    debts = rested.debts x o.debts;
+    unqueued = λ y. subst (IsOutBut (x.entries y)) (sym (rested.stored y)) (o.unqueued y);
+    holds = λ d. ap (λ (b : Bool). not (x.bits d) && b) (rested.keeps d) ∙ o.holds d;
+    tries = λ d. rested.pending d ∙ o.tries d;
+    tries_none = λ y d. ap (λ (s : Option Entry). is_trying_for s d) (rested.stored y) ∙ o.tries_none y d;
+  }
+
+  owes_on : (x : Excuse) → Owes x old → Owes x new
+  owes_on x owes =
+      let i = index old.view.number 0 in
+      owes_still x (owes_out i x ended out_then (a.went.keeps.owes x (owes_also i x old owes)))
+
+  pub ends_idle : (told_of old).mark ≡ None → IsIdle new
+  ends_idle unmarked = rested_idle ended new (end_post q.of.wait o) a.lands.stands refl refl rested
+      (a.went.keeps.mark ∙ unmarked)
+
+  -- who began owing nothing owes nothing
+  pub ends_clean : IsClean old → IsClean new
+  ends_clean clean = record {
+    up = ends_up;
+    running = rested.state;
+    free = (ends_idle clean.settled.unmarked).free;
+    settled = owes_on no_excuse clean.settled;
+  }
 
   -- who began idle goes on as it was
   pub ends_carried : IsUp old → IsIdle old → (told_of old).hold.head ≡ None
-      → Carries (bit_change (index old.view.number 0) new.at new.book.state) old new
+      → Carries (wait_change (index old.view.number 0) new.at) old new
   ends_carried up idle held =
-      let i = index old.view.number 0 in
-      let keeps = a.went.keeps in record {
-        domain = keeps.domain;
-        number = keeps.number;
-        awake = a.lands.up ∙ sym up;
-        state = refl;
-        head = a.lands.stands.head ∙ sym idle.free.head;
-        ticket = a.lands.stands.ticket ∙ sym idle.free.ticket;
-        hold = a.lands.stands.told ∙ sym held;
+      let keeps = a.went.keeps in
+      let stands = a.lands.stands in record {
+        domain = rested.domain ∙ keeps.domain;
+        number = rested.number ∙ keeps.number;
+        awake = ends_up ∙ sym up;
+        state = rested.state ∙ sym idle.running;
+        head = rested.head ∙ (stands.head ∙ sym idle.free.head);
+        ticket = rested.ticket ∙ (stands.ticket ∙ sym idle.free.ticket);
+        hold = rested.hold ∙ (stands.told ∙ sym held);
         at = refl;
-        mark = keeps.mark;
-        fewer = λ w σ none is. keeps.fewer w σ is;
+        mark = rested.mark ∙ keeps.mark;
+        fewer = λ w σ none is. rested.owes w σ ∙ keeps.fewer w σ is;
         stored = λ x none away. absurd (cc);
-        out = keeps.out;
-        stands = keeps.stands;
-        keeps = λ d _. keeps.keeps d;
-        owes = λ x owes. owes_out i x new (ap (λ (n : ℕ). (told_of new).bits.stored (index n 0)) (sym keeps.number)
-            ∙ ends_out) (keeps.owes x (owes_also i x old owes));
+        out = λ x away none. rested.stored x ∙ keeps.out x away none;
+        stands = λ slot few away e is own. rested.stored (index old.view.number slot)
+            ∙ keeps.stands slot few away e is own;
+        keeps = λ d _. rested.keeps d ∙ keeps.keeps d;
+        owes = λ x owes. owes_on x owes;
       }
 
-  pub ends_idle : (told_of old).mark ≡ None → IsIdleAfter new st (end_in ran o)
-  ends_idle unmarked = idle_by new ran st o
-      (ap (λ (p : Plan). state_mask p.state) (a.same ∙ began)) a.lands.stands (a.went.keeps.mark ∙ unmarked)
+module _ (old ended : Known) (r q : Run (Framed WaitBit)) (w b : ℕ) (st : SleepState) (fresh : IsFresh r.of.wait w b st)
+    (o : BitOutcome) (a : Advances bit_table old ended r q (stage.Test test.First) (turn.Done o)) (new : Known)
+    (h : HasRested ended new (is_worn o)) where
+  began : bit_frame.plan_of r.of.wait ≡ call_plan (calls.WaitBit w b st)
+  began i = call_plan (calls.WaitBit (fresh.word i) (fresh.bit i) (fresh.state i))
 
-  pub ends_wait : EndsBitWait old new w b st (end_in ran o)
+  pub ends_wait : EndsBitWait old new w b st (end_in q.of.wait o)
   ends_wait = record {
-    runs = ended_runs bit_table old new r q (stage.Test test.First) o a (call_plan (calls.WaitBit w b st)) began
-        (answer_of (end_in ran o)) (answer_is ran o);
-    cause = subst (λ (p : Plan). CauseOf new p.watch p.state (end_in ran o)) (a.same ∙ began) a.lands.trail;
+    ended = ended;
+    runs = ended_runs bit_table old ended r q (stage.Test test.First) o a (call_plan (calls.WaitBit w b st)) began
+        (answer_of (end_in q.of.wait o)) (answer_is q.of.wait o);
+    cause = subst (λ (p : Plan). CauseOf ended p.watch p.state (end_in q.of.wait o)) (a.same ∙ began) a.lands.trail;
+    rests = subst (HasRested ended new) (worn_is q.of.wait o) h;
   }

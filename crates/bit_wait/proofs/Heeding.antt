@@ -228,7 +228,7 @@ pub bit_waits_heed : BitWaitsHeed
 bit_waits_heed old new w b st seen e =
     let me : ℕ = old.view.number in
     run_led interrupted (WaitAt w b me st) (EndsBrokenOff w b) (call_program me 0 (calls.WaitBit w b st))
-    (λ p found trail h. wait_led w b me st trail p found h) e.runs.transitions (at.Bit biting.First) old new [] tt
+    (λ p found trail h. wait_led w b me st trail p found h) e.runs.transitions (at.Bit biting.First) old e.ended [] tt
     e.runs.goes
 
 pub bit_locks_heed : BitLocksHeed

@@ -1,6 +1,6 @@
 -- To be believed.
 -- What whole waits for a bit say.
-use Rattle.std.specs.Prelude.{ℕ, ◌≡◌, ◌⊎◌, true, false, None, Result, Ok, Err, List, [], ◌∷◌, ◌++◌}
+use Rattle.std.specs.Prelude.{ℕ, ◌≡◌, Bool, true, false, Result, Ok, Err, List, [], ◌∷◌, ◌++◌}
 use Rattle.wait_model.specs.declared.calls.Answer.{Answer}
 use Rattle.wait_model.specs.declared.calls.Answer.TheVariants as answer
 use Rattle.wait_model.specs.declared.calls.Call.TheVariants as calls
@@ -17,14 +17,12 @@ use Rattle.wait_model.specs.Watches.{head_of}
 use Rattle.wait_model.specs.Words.{bit_at}
 use Rattle.wait_rule.specs.Ends.{WasWorn}
 use Rattle.wait_rule.specs.Known.{Known}
-use Rattle.wait_rule.specs.Queues.{IsIdle}
-use Rattle.wait_rule.specs.Says.{IsFree, history_of, told_of}
-use Rattle.wait_rule.specs.Stays.{Change}
+use Rattle.wait_rule.specs.Says.{history_of}
 use Rattle.wait_rule.specs.Transitions.{call_program}
-use Rattle.wait_event.specs.Ends.{wait_change}
 use Rattle.wait_class.specs.Posts.{Runs}
 use Rattle.wait_class.specs.Posts.{EndsWith}
 use Rattle.wait_class.specs.Tables.{has_sleep}
+use Rattle.wait_class.specs.Wholes.{HasRested}
 use Rattle.bit_wait.specs.declared.wait_calls.BitEnd.{BitEnd}
 use Rattle.bit_wait.specs.declared.wait_calls.BitEnd.TheVariants as bit_end
 use Rattle.bit_wait.specs.declared.waits.BitOutcome.{BitOutcome}
@@ -70,23 +68,18 @@ IsCause k w b st (Ok u) = Unit {0}
 IsCause k w b st (Err (bit_end.Interrupted seen)) = WasInterrupted k w b st seen
 IsCause k w b st (Err (bit_end.Worn h place)) = FoundNoPlace k w b h place
 
--- The task went through the whole call, and the answer is that of its program, with its cause.
+-- whether a wait answers that it found no place
+abbrev pub finds_no_place : Result (Unit {0}) BitEnd → Bool
+finds_no_place (Ok u) = false
+finds_no_place (Err (bit_end.Interrupted seen)) = false
+finds_no_place (Err (bit_end.Worn h place)) = true
+
+-- The task went through the whole call, and the answer is that of its program, with its cause. Where it found no place,
+-- and only there, it then stored RUNNING, since it may still have been in the state in which it would have slept.
 pub record EndsBitWait (old new : Known) (w b : ℕ) (st : SleepState) (result : Result (Unit {0}) BitEnd) :
     Type 0 where
-  pub runs : Runs (call_program old.view.number 0 (calls.WaitBit w b st)) old new (next.Go (at.Bit biting.First))
+  pub ended : Known
+  pub runs : Runs (call_program old.view.number 0 (calls.WaitBit w b st)) old ended (next.Go (at.Bit biting.First))
       (next.Ends (answer_of result))
-  pub cause : IsCause new w b st result
-
--- What a wait changes of a task: as another wait does, and its state, which the next clause tells. It is idle
--- afterwards; but one that found no place may still be in the state in which it would have slept.
-abbrev pub bit_change : ℕ → ℕ → ℕ → Change
-bit_change i h σ = record (wait_change i h) { state = λ _. σ }
-
-pub record IsLeft (k : Known) (σ : ℕ) : Type 0 where
-  pub state : (k.book.state ≡ 0) ⊎ (k.book.state ≡ σ)
-  pub free : IsFree k
-  pub unmarked : (told_of k).mark ≡ None
-
-abbrev pub IsIdleAfter : Known → SleepState → Result (Unit {0}) BitEnd → Type 0
-IsIdleAfter k st (Err (bit_end.Worn h place)) = IsLeft k (state_mask st)
-IsIdleAfter k st _ = IsIdle k
+  pub cause : IsCause ended w b st result
+  pub rests : HasRested ended new (finds_no_place result)

@@ -1,26 +1,32 @@
 //! Waits until a bit is clear, as whole calls; `stretch` and `woke` go on with one for who may not wait.
 
-ghost use Rattle.std.specs.Prelude.{◌≡◌, ◌<◌};
+ghost use Rattle.std.specs.Prelude.{◌≡◌, ◌<◌, MatchBool};
 ghost use Rattle.wait_model.specs.declared.layout.TheConstants.{BIT_WORDS, WORD_BITS};
 ghost use Rattle.wait_rule.specs.Queues.{IsIdle, IsTold, index};
-ghost use Rattle.wait_rule.specs.Says.{IsUp};
+ghost use Rattle.wait_rule.specs.PassedLocks.{PassesNone};
+ghost use Rattle.wait_rule.specs.Says.{IsClean, IsUp};
 ghost use Rattle.wait_rule.specs.Stays.{Carries};
 ghost use Rattle.wait_class.specs.Posts.{IsOut};
 ghost use Rattle.wait_class.specs.declared.frame_stages.Stage.TheVariants as stage;
-ghost use Rattle.wait_class.specs.Tables.{IsAt};
+ghost use Rattle.wait_class.specs.declared.stages.Turn.TheVariants as turn;
+ghost use Rattle.wait_class.specs.Handing.{LastGiven};
+ghost use Rattle.wait_class.specs.Tables.{Advances, IsAsleepAt, IsAt, IsStop, Turned};
+ghost use Rattle.wait_class.specs.UnderWay.{Came, IsUnderWay};
 ghost use Rattle.bit_wait.specs.declared.waits.BitTest.TheVariants as test;
-ghost use Rattle.bit_wait.specs.BitTables.{IsFresh, bit_table};
-ghost use Rattle.bit_wait.specs.BitEnds.{EndsBitWait, IsIdleAfter, bit_change, end_in};
+ghost use Rattle.bit_wait.specs.BitTables.{IsFresh, bit_table, is_worn};
+ghost use Rattle.bit_wait.specs.BitEnds.{EndsBitWait, end_in};
+ghost use Rattle.wait_event.specs.Ends.{wait_change};
 
 use crate::waits::{BitOutcome, BitRun, BitTest, WaitBit};
 use std::sync::Wait;
 use thiserror::Error;
 use wait_class::frame_stages::{Framed, Stage};
-use wait_class::runs::run;
-use wait_class::stages::Run;
+use wait_class::runs::{rest, run, stretch, woke};
+use wait_class::stages::{Run, Turn};
 use wait_model::heads::head_of;
 use wait_model::tasks::SleepState;
 use wait_model::watches::Watch;
+use wait_rule::queues::Passing;
 use wait_rule::{Domain, Task};
 
 /// Why a wait for a bit ended though it may be set. Interrupted: its last sleep was followed by a look at the own word
@@ -47,6 +53,10 @@ pub fn begin_bit(task: &Task, word: u8, bit: u8, state: SleepState) -> BitRun
     ensures at { IsAt bit_table task.now result (stage.Test test.First) }
     ensures fresh { IsFresh result.of.wait word bit state }
     ensures told { IsTold task.now }
+    ensures under { IsClean task.now
+        → IsUnderWay bit_table (bit_table.plan_of result.of) task.now result (turn.Again (stage.Test test.First)) }
+    ensures came { Advances bit_table task.now task.now result result (stage.Test test.First)
+        (turn.Again (stage.Test test.First)) }
 {
     task.told();
     Run::new(Framed {
@@ -63,8 +73,7 @@ pub fn begin_bit(task: &Task, word: u8, bit: u8, state: SleepState) -> BitRun
 /// Waits until bit `bit`, below `WORD_BITS`, of bit word `word`, below `BIT_WORDS`, is clear (`wait_on_bit`,
 /// include/linux/wait_bit.h; `__wait_on_bit`, kernel/sched/wait_bit.c). Its entry goes to the front, not exclusive. It
 /// does not take the bit, which may be set again when it answers. The task is idle and has no entry queued, and so it
-/// is afterwards, but that after Worn its state may be the one in which it would have slept: store RUNNING then
-/// (`set_state`). It owes what it owed.
+/// is afterwards. It owes what it owed.
 pub fn wait_on_bit<R: Wait>(
     rt: &R,
     domain: &Domain,
@@ -81,14 +90,22 @@ pub fn wait_on_bit<R: Wait>(
     requires out { IsOut task.old }
     ensures waited { EndsBitWait task.old task.new word bit state result }
     ensures up { IsUp task.new }
-    ensures idle { IsIdleAfter task.new state result }
+    ensures idle { IsIdle task.new }
     ensures out { IsOut task.new }
-    ensures carries { Carries (bit_change (index task.old.view.number 0) task.new.at task.new.book.state)
-        task.old task.new }
+    ensures carries { Carries (wait_change (index task.old.view.number 0) task.new.at) task.old task.new }
 {
     let mut call = begin_bit(task, word, bit, state);
     let outcome = run(rt, domain, task, &mut call, Stage::Test(BitTest::First));
+    rest(domain, task, is_worn(outcome));
     end_of(call.of.wait, outcome)
+}
+
+/// Whether a wait ended since no place was left for its entry.
+#[inline(always)]
+fn is_worn(outcome: BitOutcome) -> bool
+    ensures { result ≡ is_worn outcome }
+{
+    matches!(outcome, BitOutcome::Worn)
 }
 
 /// The answer of a wait that has ended.
@@ -106,4 +123,64 @@ pub fn end_of(run: WaitBit, outcome: BitOutcome) -> Result<(), BitEnd>
             place: run.place,
         }),
     }
+}
+
+/// Goes on with a wait by one stretch (`wait_class::runs::stretch`).
+pub fn stretch_bit(
+    domain: &Domain,
+    task: &mut Task,
+    wait: &mut BitRun,
+    stage: Stage<BitTest>,
+    passing: &mut Passing,
+) -> Turn<Stage<BitTest>, BitOutcome>
+    requires of { task.old.domain ≡ domain.now }
+    requires passes { PassesNone passing.old }
+    requires at { IsAt bit_table task.old wait.old stage }
+    ensures turned { Turned bit_table task.old task.new wait.old wait.new stage result }
+    ensures stops { IsStop bit_table result }
+    ensures given { LastGiven task.old task.new passing.new.head }
+    ensures under { (c : _) → IsUnderWay bit_table c task.old wait.old (turn.Again stage)
+        → IsUnderWay bit_table c task.new wait.new result }
+    ensures came { (start : _) → (f : _) → (s : _) → Advances bit_table start task.old f wait.old s (turn.Again stage)
+        → Came bit_table start task.new f wait.new s result }
+{
+    stretch(domain, task, wait, stage, passing)
+}
+
+/// Looks whether a wait that was put asleep was woken (`wait_class::runs::woke`).
+pub fn woke_bit(domain: &Domain, task: &mut Task, wait: &BitRun, stage: Stage<BitTest>) -> bool
+    requires of { task.old.domain ≡ domain.now }
+    requires asleep { IsAsleepAt bit_table task.old wait.now stage }
+    ensures advances { MatchBool result (Advances bit_table task.old task.new wait.now wait.now stage (turn.Again stage))
+        (Advances bit_table task.old task.new wait.now wait.now stage (turn.Asleep stage)) }
+    ensures under { (c : _) → IsUnderWay bit_table c task.old wait.now (turn.Asleep stage)
+        → MatchBool result (IsUnderWay bit_table c task.new wait.now (turn.Again stage))
+        (IsUnderWay bit_table c task.new wait.now (turn.Asleep stage)) }
+    ensures came { (start : _) → (f : _) → (s : _) → Advances bit_table start task.old f wait.now s (turn.Asleep stage)
+        → MatchBool result (Advances bit_table start task.new f wait.now s (turn.Again stage))
+        (Advances bit_table start task.new f wait.now s (turn.Asleep stage)) }
+{
+    woke(domain, task, wait, stage)
+}
+
+/// Ends a wait that went on by stretches to its end, and answers. Where it found no place it stores RUNNING, as
+/// `wait_on_bit` does. Who owed nothing when the wait began owes nothing; and what is said of one that began at `start`
+/// is what `wait_on_bit` says.
+pub fn end_bit(
+    domain: &Domain,
+    task: &mut Task,
+    wait: &BitRun,
+    outcome: BitOutcome,
+) -> Result<(), BitEnd>
+    requires of { task.old.domain ≡ domain.now }
+    requires up { IsUp task.old }
+    ensures is { result ≡ end_in wait.now.of.wait outcome }
+    ensures of { task.new.domain ≡ domain.now }
+    ensures clean { (c : _) → IsUnderWay bit_table c task.old wait.now (turn.Done outcome) → IsClean task.new }
+    ensures ends { (start : _) → (f : _) → (word : _) → (bit : _) → (state : _) → IsFresh f.of.wait word bit state
+        → Advances bit_table start task.old f wait.now (stage.Test test.First) (turn.Done outcome)
+        → EndsBitWait start task.new word bit state result }
+{
+    rest(domain, task, is_worn(outcome));
+    end_of(wait.of.wait, outcome)
 }

@@ -15,7 +15,7 @@ use Rattle.wait_rule.specs.HeldValues.{count_in}
 use Rattle.wait_rule.specs.Known.{Known}
 use Rattle.wait_rule.specs.LeftEntries.{LeftOff}
 use Rattle.wait_rule.specs.Queues.{IsIdle, IsTold, index}
-use Rattle.wait_rule.specs.Says.{Excuse, IsUp, Owes, history_of, told_of}
+use Rattle.wait_rule.specs.Says.{Excuse, IsClean, IsUp, Owes, history_of, no_excuse, told_of}
 use Rattle.wait_rule.specs.Stays.{Carries, with_left_entry}
 use Rattle.wait_rule.specs.Transitions.{Goes, Program, call_program}
 use Rattle.wait_rule.proofs.KnownLaws.StayingParts.{owes_also, owes_left, owes_off, owes_out}
@@ -107,6 +107,19 @@ module _ (old new : Known) (r q : Run AwaitCall) (s : AwaitStage) (o : AwaitOutc
         keeps = λ d _. keeps.keeps d;
         owes = ends_owed (ends_off held);
       }
+
+-- who began owing nothing
+pub ends_clean : (old new : Known) (r q : Run AwaitCall) (s : AwaitStage) (o : AwaitOutcome)
+    → Advances await_table old new r q s (turn.Done o) → IsClean old → IsTold old → IsClean new
+ends_clean old new r q s o a clean told =
+    let idle = ends_idle old new r q s o a clean.settled.unmarked in
+    record {
+      up = a.lands.up;
+      running = idle.running;
+      free = idle.free;
+      settled = ends_owed old new r q s o a (ends_off old new r q s o a (told.head ∙ clean.free.head)) no_excuse
+          clean.settled;
+    }
 
 -- what it says at its end
 module _ (old new : Known) (r q : Run AwaitCall) (d : ℕ) (st : SleepState) (fresh : IsFresh r.of d st) where

@@ -5,10 +5,12 @@ ghost use Rattle.wait_model.specs.declared.layout.TheConstants.{COMPLETIONS};
 ghost use Rattle.wait_rule.specs.HandedPermits.{StaysOff};
 ghost use Rattle.wait_rule.specs.LeftEntries.{LeftOff};
 ghost use Rattle.wait_rule.specs.Queues.{IsIdle, IsTold, index};
-ghost use Rattle.wait_rule.specs.Says.{IsUp};
+ghost use Rattle.wait_rule.specs.Says.{IsClean, IsUp};
 ghost use Rattle.wait_rule.specs.Stays.{Carries};
 ghost use Rattle.wait_class.specs.Posts.{IsOut};
-ghost use Rattle.wait_class.specs.Tables.{IsAt};
+ghost use Rattle.wait_class.specs.declared.stages.Turn.TheVariants as turn;
+ghost use Rattle.wait_class.specs.Tables.{Advances, IsAt};
+ghost use Rattle.wait_class.specs.UnderWay.{IsUnderWay};
 ghost use Rattle.wait_event.specs.Ends.{wait_change};
 ghost use Rattle.completion_cell.specs.declared.awaits.AwaitStage.TheVariants as stage;
 ghost use Rattle.completion_cell.specs.Awaits.{IsFresh, await_table};
@@ -35,6 +37,9 @@ pub fn begin_await(task: &Task, cell: u8, state: SleepState) -> AwaitRun
     ensures at { IsAt await_table task.now result stage.First }
     ensures fresh { IsFresh result.of cell state }
     ensures told { IsTold task.now }
+    ensures under { IsClean task.now
+        → IsUnderWay await_table (await_table.plan_of result.of) task.now result (turn.Again stage.First) }
+    ensures came { Advances await_table task.now task.now result result stage.First (turn.Again stage.First) }
 {
     task.told();
     Run::new(AwaitCall {
@@ -93,4 +98,17 @@ pub fn end_of(call: AwaitCall, outcome: AwaitOutcome) -> Result<(), WaitEnd>
             place: call.place,
         }),
     }
+}
+
+/// The answer of a wait that went on by stretches and has ended. Who owed nothing when it began owes nothing, and the
+/// answer of one that began at `start` is as that of `wait_for`.
+pub fn end_await(task: &Task, wait: &AwaitRun, outcome: AwaitOutcome) -> Result<(), WaitEnd>
+    ensures is { result ≡ end_in wait.now.of outcome }
+    ensures clean { (c : _) → IsUnderWay await_table c task.now wait.now (turn.Done outcome) → IsClean task.now }
+    ensures ends { (start : _) → (f : _) → (cell : _) → (state : _) → IsFresh f.of cell state
+        → Advances await_table start task.now f wait.now stage.First (turn.Done outcome)
+        → EndsAwait start task.now cell state result }
+{
+    let _ = *task;
+    end_of(wait.of, outcome)
 }

@@ -20,6 +20,7 @@ use Rattle.wait_class.specs.Posts.{IsOut, own_of}
 use Rattle.wait_class.specs.declared.stages.Run.{Run}
 use Rattle.wait_class.specs.declared.stages.Turn.TheVariants as turn
 use Rattle.wait_class.specs.Tables.{Advances, IsAt, Plan, call_plan}
+use Rattle.wait_class.specs.UnderWay.{IsUnderWay}
 use Rattle.wait_class.proofs.Wholes.{begins, ended_runs, none_of}
 use Rattle.bit_wait.specs.BitEnds.{answer_of}
 use Rattle.bit_wait.specs.Holders.{IsHolder}
@@ -27,10 +28,11 @@ use Rattle.bit_wait.specs.declared.wait_calls.BitEnd.{BitEnd}
 use Rattle.bit_wait.proofs.Holders.{none_taken}
 use Rattle.page_lock.specs.PageStays.{PageKeeps, TakesPage}
 use Rattle.page_lock.specs.PageEnds.{EndsPageLock, IsCause, end_in, has_taken as given}
-use Rattle.page_lock.specs.PageTables.{IsFresh, IsRunning, answer_in, is_over, page_in, page_table}
+use Rattle.page_lock.specs.PageTables.{IsFresh, IsRunning, answer_in, is_over, page_in, page_table, page_took}
 use Rattle.page_lock.specs.declared.waits.LockPage.{LockPage}
 use Rattle.page_lock.specs.declared.waits.PageOutcome.{PageOutcome}
 use Rattle.page_lock.specs.declared.waits.PageOutcome.TheVariants as outcome
+use Rattle.page_lock.specs.declared.waits.PageStage.{PageStage}
 use Rattle.page_lock.specs.declared.waits.PageStage.TheVariants as stage
 use Rattle.page_lock.proofs.PageGround.{amid_from, amid_to, unasked_asks}
 
@@ -106,18 +108,15 @@ taken_is e outcome.Over = refl
 taken_is e outcome.Interrupted = refl
 taken_is e outcome.Worn = refl
 
--- a call that ended
-module _ (old new : Known) (r q : Run LockPage) (p : ℕ) (st : SleepState) (fresh : IsFresh r.of p st) (o : PageOutcome)
-    (a : Advances page_table old new r q stage.First (turn.Done o)) where
-  pub ends_up : IsUp new
-  ends_up = a.lands.up
-
-  pub ends_out : IsOut new
-  ends_out = none_of (page_in q.of) ((told_of new).bits.stored (own_of new)) a.lands.stands.home
+-- a call that ended, from a stage at which it had not taken the page
+module _ (old new : Known) (r q : Run LockPage) (p : ℕ) (st : SleepState) (fresh : IsFresh r.of p st) (s : PageStage)
+    (nothing : page_took s ≡ false) (o : PageOutcome) (a : Advances page_table old new r q s (turn.Done o)) where
+  out_by : IsOut new
+  out_by = none_of (page_in q.of) ((told_of new).bits.stored (own_of new)) a.lands.stands.home
 
   -- it is idle again
-  pub ends_idle : (told_of old).mark ≡ None → IsIdle new
-  ends_idle unmarked = record {
+  idle_by : (told_of old).mark ≡ None → IsIdle new
+  idle_by unmarked = record {
     running = a.lands.stands.state;
     free = record { head = a.lands.stands.head; ticket = a.lands.stands.ticket };
     unmarked = a.went.keeps.mark ∙ unmarked;
@@ -132,22 +131,40 @@ module _ (old new : Known) (r q : Run LockPage) (p : ℕ) (st : SleepState) (fre
   kept_to : PageKeeps (own_of old) (page p) false (given (end_in q.of o)) old new
   kept_to = subst (λ (g : Bool). PageKeeps (own_of old) (page p) false g old new) (taken_is q.of o)
       (subst (λ (c : Watch). PageKeeps (own_of old) c false (is_over o) old new) (ap (λ (x : Plan). x.watch) began)
-      a.went.keeps)
+      (subst (λ (had : Bool). PageKeeps (own_of old) (page_in r.of) had (is_over o) old new) nothing a.went.keeps))
+
+  takes_by : IsUp old → IsIdle old → IsOut old → (told_of old).hold.head ≡ None
+      → TakesPage old new p (given (end_in q.of o))
+  takes_by up idle out held = takes_page old new p (given (end_in q.of o)) kept_to up idle out held a.lands.up
+      (idle_by idle.unmarked) a.lands.stands.told
+      (ap (λ (n : ℕ). (told_of new).bits.stored (index n 0)) (sym a.went.keeps.number) ∙ out_by) a.lands.trail.asks
+      (λ is. ap (told_of new).bits.keeps (sym page_is) ∙ a.lands.trail.keeps (taken_is q.of o ∙ is))
+
+-- from its first stage
+module _ (old new : Known) (r q : Run LockPage) (p : ℕ) (st : SleepState) (fresh : IsFresh r.of p st) (o : PageOutcome)
+    (a : Advances page_table old new r q stage.First (turn.Done o)) where
+  pub ends_up : IsUp new
+  ends_up = a.lands.up
+
+  pub ends_out : IsOut new
+  ends_out = out_by old new r q p st fresh stage.First refl o a
+
+  pub ends_idle : (told_of old).mark ≡ None → IsIdle new
+  ends_idle = idle_by old new r q p st fresh stage.First refl o a
 
   pub ends_takes : IsUp old → IsIdle old → IsOut old → (told_of old).hold.head ≡ None
       → TakesPage old new p (given (end_in q.of o))
-  ends_takes up idle out held = takes_page old new p (given (end_in q.of o)) kept_to up idle out held ends_up
-      (ends_idle idle.unmarked) a.lands.stands.told
-      (ap (λ (n : ℕ). (told_of new).bits.stored (index n 0)) (sym a.went.keeps.number) ∙ ends_out) a.lands.trail.asks
-      (λ is. ap (told_of new).bits.keeps (sym page_is) ∙ a.lands.trail.keeps (taken_is q.of o ∙ is))
+  ends_takes = takes_by old new r q p st fresh stage.First refl o a
 
   -- what it says at its end
   pub ends_wait : EndsPageLock old new p st (end_in q.of o)
-  ends_wait = record {
-    runs = ended_runs page_table old new r q stage.First o a (call_plan (calls.LockPage p st)) began
-        (answer_of (end_in q.of o)) (answer_is q.of o);
-    cause = subst (λ (x : Plan). CauseOf new x.watch x.state (end_in q.of o)) (a.same ∙ began) a.lands.trail.cause;
-  }
+  ends_wait =
+      let is = began old new r q p st fresh stage.First refl o a in
+      record {
+        runs = ended_runs page_table old new r q stage.First o a (call_plan (calls.LockPage p st)) is
+            (answer_of (end_in q.of o)) (answer_is q.of o);
+        cause = subst (λ (x : Plan). CauseOf new x.watch x.state (end_in q.of o)) (a.same ∙ is) a.lands.trail.cause;
+      }
 
 -- who owed nothing
 pub locks_clean : (old new : Known) (p : ℕ) → IsClean old → IsUp new → IsIdle new → (g : Bool)
@@ -164,3 +181,24 @@ locks_clean old new p clean up idle false t = record {
   free = idle.free;
   settled = none_taken (page p) new (t.owes no_excuse clean.settled);
 }
+
+-- of a call that went on by stretches
+pub under_clean : (c : Plan) (k : Known) (q : Run LockPage) (o : PageOutcome)
+    → IsUnderWay page_table c k q (turn.Done o)
+    → MatchBool (given (end_in q.of o)) (IsHolder k c.watch) (IsClean k)
+under_clean c k q o i =
+    let r = i.began in
+    let p = r.of.page in
+    let fresh : IsFresh r.of p r.of.state = record { page = refl; state = refl } in
+    let was : IsIdle i.old = record {
+      running = i.clean.running;
+      free = i.clean.free;
+      unmarked = i.clean.settled.unmarked;
+    } in
+    let out : IsOut i.old = i.clean.settled.unqueued (own_of i.old) in
+    subst (λ (w : Watch). MatchBool (given (end_in q.of o)) (IsHolder k w) (IsClean k))
+    (ap (λ (x : Plan). x.watch) i.plan)
+    (locks_clean i.old k p i.clean i.came.lands.up
+    (idle_by i.old k r q p r.of.state fresh i.start i.nothing o i.came was.unmarked) (given (end_in q.of o))
+    (takes_by i.old k r q p r.of.state fresh i.start i.nothing o i.came i.clean.up was out
+    (i.told.head ∙ i.clean.free.head)))

@@ -6,7 +6,9 @@ ghost use Rattle.wait_model.specs.Watches as model;
 ghost use Rattle.wait_rule.specs.Queues.{IsIdle, IsTold};
 ghost use Rattle.wait_rule.specs.Says.{AsksNoPage, IsClean, IsUp};
 ghost use Rattle.wait_class.specs.Posts.{IsOut};
-ghost use Rattle.wait_class.specs.Tables.{IsAt};
+ghost use Rattle.wait_class.specs.declared.stages.Turn.TheVariants as turn;
+ghost use Rattle.wait_class.specs.Tables.{Advances, IsAt};
+ghost use Rattle.wait_class.specs.UnderWay.{IsUnderWay};
 ghost use Rattle.page_lock.specs.declared.waits.PageStage.TheVariants as stage;
 ghost use Rattle.page_lock.specs.PageTables.{IsFresh, page_table};
 ghost use Rattle.page_lock.specs.PageEnds.{EndsPageLock, end_in, has_taken};
@@ -34,6 +36,9 @@ pub fn begin_page(task: &Task, page: u8, state: SleepState) -> PageRun
     ensures at { IsAt page_table task.now result stage.First }
     ensures fresh { IsFresh result.of page state }
     ensures told { IsTold task.now }
+    ensures under { IsClean task.now
+        → IsUnderWay page_table (page_table.plan_of result.of) task.now result (turn.Again stage.First) }
+    ensures came { Advances page_table task.now task.now result result stage.First (turn.Again stage.First) }
 {
     task.told();
     Run::new(LockPage {
@@ -94,4 +99,18 @@ pub fn end_of(run: LockPage, outcome: PageOutcome) -> Result<(), BitEnd>
             place: run.place,
         }),
     }
+}
+
+/// The answer of a wait that went on by stretches and has ended. Who owed nothing when it began is a holder of the page
+/// after Ok, and owes nothing after an error; and the answer of one that began at `start` is as that of `lock_page`.
+pub fn end_page(task: &Task, wait: &PageRun, outcome: PageOutcome) -> Result<(), BitEnd>
+    ensures is { result ≡ end_in wait.now.of outcome }
+    ensures holder { (c : _) → IsUnderWay page_table c task.now wait.now (turn.Done outcome)
+        → MatchBool (has_taken result) (IsHolder task.now c.watch) (IsClean task.now) }
+    ensures ends { (start : _) → (f : _) → (page : _) → (state : _) → IsFresh f.of page state
+        → Advances page_table start task.now f wait.now stage.First (turn.Done outcome)
+        → EndsPageLock start task.now page state result }
+{
+    let _ = *task;
+    end_of(wait.of, outcome)
 }

@@ -4,12 +4,14 @@ ghost use Rattle.std.specs.Prelude.{◌≡◌, false, true};
 ghost use Rattle.wait_model.specs.declared.watches.Watch.TheVariants as watch;
 ghost use Rattle.wait_model.specs.Tasks.{is_killable};
 ghost use Rattle.wait_rule.specs.Queues.{IsIdle, IsTold, index};
-ghost use Rattle.wait_rule.specs.Says.{IsUp};
+ghost use Rattle.wait_rule.specs.Says.{IsClean, IsUp};
 ghost use Rattle.wait_rule.specs.Stays.{Carries};
 ghost use Rattle.wait_event.specs.declared.waits.WaitStage.TheVariants as stage;
 ghost use Rattle.wait_class.specs.Posts.{IsOut};
 ghost use Rattle.wait_event.specs.Ends.{wait_change};
-ghost use Rattle.wait_class.specs.Tables.{IsAt};
+ghost use Rattle.wait_class.specs.declared.stages.Turn.TheVariants as turn;
+ghost use Rattle.wait_class.specs.Tables.{Advances, IsAt};
+ghost use Rattle.wait_class.specs.UnderWay.{IsUnderWay};
 ghost use Rattle.wait_event.specs.Waits.{IsFresh, wait_table};
 ghost use Rattle.swait_queue.specs.SimpleWaits.{EndsSimpleWait, IsSimpleCond, tail_in};
 
@@ -33,6 +35,9 @@ pub fn begin_swait(task: &Task, cond: u8, state: SleepState) -> WaitRun
     ensures at { IsAt wait_table task.now result stage.First }
     ensures fresh { IsFresh result.of (watch.Plain cond) (tail_in state) true }
     ensures told { IsTold task.now }
+    ensures under { IsClean task.now
+        → IsUnderWay wait_table (wait_table.plan_of result.of) task.now result (turn.Again stage.First) }
+    ensures came { Advances wait_table task.now task.now result result stage.First (turn.Again stage.First) }
 {
     task.told();
     fresh_wait(Watch::Plain { cond }, tail_in(state), true)

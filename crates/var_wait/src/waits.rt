@@ -4,12 +4,14 @@ ghost use Rattle.std.specs.Prelude.{◌≡◌, ◌<◌, true};
 ghost use Rattle.wait_model.specs.declared.layout.TheConstants.{VARIABLES};
 ghost use Rattle.wait_model.specs.declared.watches.Watch.TheVariants as watch;
 ghost use Rattle.wait_rule.specs.Queues.{IsIdle, IsTold, index};
-ghost use Rattle.wait_rule.specs.Says.{IsUp};
+ghost use Rattle.wait_rule.specs.Says.{IsClean, IsUp};
 ghost use Rattle.wait_rule.specs.Stays.{Carries};
 ghost use Rattle.wait_event.specs.declared.waits.WaitStage.TheVariants as stage;
 ghost use Rattle.wait_class.specs.Posts.{IsOut};
 ghost use Rattle.wait_event.specs.Ends.{end_in, wait_change};
-ghost use Rattle.wait_class.specs.Tables.{IsAt};
+ghost use Rattle.wait_class.specs.declared.stages.Turn.TheVariants as turn;
+ghost use Rattle.wait_class.specs.Tables.{Advances, IsAt};
+ghost use Rattle.wait_class.specs.UnderWay.{IsUnderWay};
 ghost use Rattle.wait_event.specs.Waits.{IsFresh, wait_table};
 ghost use Rattle.var_wait.specs.VarWaits.{EndsVarWait, shared_in, with_loaded};
 
@@ -31,6 +33,9 @@ pub fn begin_var(task: &Task, var: u8, old: u64, state: SleepState) -> WaitRun
     ensures at { IsAt wait_table task.now result stage.First }
     ensures fresh { IsFresh result.of (watch.Var var old) (shared_in state) true }
     ensures told { IsTold task.now }
+    ensures under { IsClean task.now
+        → IsUnderWay wait_table (wait_table.plan_of result.of) task.now result (turn.Again stage.First) }
+    ensures came { Advances wait_table task.now task.now result result stage.First (turn.Again stage.First) }
 {
     task.told();
     fresh_wait(Watch::Var { var, old }, shared_in(state), true)
@@ -86,4 +91,19 @@ pub fn end_of_var(wait: WaitCall, outcome: WaitOutcome) -> Result<u64, WaitEnd>
         Ok(()) => Ok(wait.seen),
         Err(end) => Err(end),
     }
+}
+
+/// The answer of a wait that went on by stretches and has ended. Who owed nothing when it began owes nothing, and the
+/// answer of one that began at `start` is as that of `wait_var`.
+pub fn end_var(task: &Task, wait: &WaitRun, outcome: WaitOutcome) -> Result<u64, WaitEnd>
+    ensures is { result ≡ with_loaded wait.now.of.seen (end_in wait.now.of outcome) }
+    ensures clean { (c : _) → IsUnderWay wait_table c task.now wait.now (turn.Done outcome) → IsClean task.now }
+    ensures ends { (start : _) → (f : _) → (var : _) → (old : _) → (state : _) → IsAt wait_table start f stage.First
+        → IsFresh f.of (watch.Var var old) (shared_in state) true
+        → Advances wait_table start task.now f wait.now stage.First (turn.Done outcome)
+        → EndsVarWait start task.now var old state result }
+{
+    let _ = *task;
+    let call = wait.of;
+    end_of_var(call, outcome)
 }

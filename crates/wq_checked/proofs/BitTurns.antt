@@ -1,7 +1,6 @@
 -- A stretch of a wait for a bit: the call has come on from where it began, or it is over, and its task ready.
-use Rattle.std.proofs.Common.{◌∙◌, refl, ap}
+use Rattle.std.proofs.Common.{◌∙◌, refl, subst, ap}
 use Rattle.std.specs.Prelude.{◌≡◌, Bool, true, false}
-use Rattle.wait_model.specs.Tasks.{state_mask}
 use Rattle.wait_rule.specs.Known.{Known}
 use Rattle.wait_class.specs.declared.stages.Turn.TheVariants as turn
 use Rattle.wait_class.specs.Laws.{IsLawfulTable}
@@ -9,11 +8,10 @@ use Rattle.wait_class.specs.Tables.{Advances, IsAt}
 use Rattle.wait_class.specs.Wholes.{HasRested}
 use Rattle.wait_class.proofs.Framing.{framed_lawful}
 use Rattle.wait_class.proofs.Turns.{advances_none}
-use Rattle.wait_class.proofs.Wholes.{Rested, rests}
-use Rattle.bit_wait.specs.BitTables.{IsFresh, bit_frame, bit_table, call_in}
+use Rattle.bit_wait.specs.BitTables.{bit_frame, bit_table, call_in, is_worn as found_no_place}
 use Rattle.bit_wait.specs.declared.waits.BitOutcome.{BitOutcome}
 use Rattle.bit_wait.specs.declared.waits.BitOutcome.TheVariants as outcome
-use Rattle.bit_wait.proofs.BitLaws.{bit_lawful, ends_carried}
+use Rattle.bit_wait.proofs.BitLaws.{bit_lawful, ends_carried, ends_idle, ends_up}
 use Rattle.wq_checked.specs.Stages.{BitRun, BitTurn, GoesFrom, StandsBy, bit_first}
 use Rattle.wq_checked.proofs.GroundTurns.{joined, stayed}
 use Rattle.wq_checked.specs.Kept.{IsReady, but_kept}
@@ -27,35 +25,26 @@ use Rattle.wq_checked.specs.declared.kept_bits.KeptBits.{KeptBits}
 use Rattle.wq_checked.specs.Calls.{is_worn}
 use Rattle.wq_checked.specs.Advancing.{bit_worn}
 use Rattle.wq_checked.proofs.Elsewhere.{bit_low, calls_off, rest_off}
-use Rattle.wq_checked.proofs.Resting.{owes_rested}
 
 abbrev law : IsLawfulTable bit_table
 law = framed_lawful bit_frame bit_lawful
 
 -- a wait that is over leaves a ready task, once it has stored RUNNING where it found no place
-state_after : (start mid : Known) (f q : BitRun) (o : BitOutcome) → Advances bit_table start mid f q bit_first (turn.Done o)
-    → (new : Known) → HasRested mid new (is_worn o) → Rested mid new
-state_after start mid f q outcome.Over a new h = rests mid new false (state_mask q.of.wait.state) h a.lands.stands.state
-state_after start mid f q outcome.Interrupted a new h = rests mid new false (state_mask q.of.wait.state) h
-    a.lands.stands.state
-state_after start mid f q outcome.Worn a new h = rests mid new true (state_mask q.of.wait.state) h a.lands.stands.state
+same_worn : (o : BitOutcome) → is_worn o ≡ found_no_place o
+same_worn outcome.Over = refl
+same_worn outcome.Interrupted = refl
+same_worn outcome.Worn = refl
 
 pub bit_ready : (ks : KeptBits) (start mid new : Known) (f q : BitRun) (o : BitOutcome) → IsReady ks start
     → Advances bit_table start mid f q bit_first (turn.Done o) → HasRested mid new (is_worn o) → IsReady ks new
 bit_ready ks start mid new f q o r a h =
-    let fresh : IsFresh f.of.wait f.of.wait.word f.of.wait.bit f.of.wait.state =
-    record { word = refl; bit = refl; state = refl } in
-    let c = ends_carried start mid f q f.of.wait.word f.of.wait.bit f.of.wait.state fresh o a r.up r.idle r.told in
-    let x = state_after start mid f q o a new h in record {
-      up = x.awake ∙ a.lands.up;
-      idle = record {
-        running = x.state;
-        free = record { head = x.head ∙ a.lands.stands.head; ticket = x.ticket ∙ a.lands.stands.ticket };
-        unmarked = x.mark ∙ (a.went.keeps.mark ∙ r.idle.unmarked);
-      };
-      told = x.hold ∙ a.lands.stands.told;
-      keeps = λ d. x.keeps d ∙ (c.keeps d refl ∙ r.keeps d);
-      owes = owes_rested mid new (but_kept ks) x (c.owes (but_kept ks) r.owes);
+    let rested = subst (HasRested mid new) (same_worn o) h in
+    let c = ends_carried start mid f q bit_first o a new rested r.up r.idle r.told in record {
+      up = ends_up start mid f q bit_first o a new rested;
+      idle = ends_idle start mid f q bit_first o a new rested r.idle.unmarked;
+      told = c.hold ∙ r.told;
+      keeps = λ d. c.keeps d refl ∙ r.keeps d;
+      owes = c.owes (but_kept ks) r.owes;
       off = λ d. rest_off mid new (is_worn o) h a.lands.stands.told d
           (calls_off (call_in f.of.wait) start mid _ _ (bit_low f.of.wait.word f.of.wait.bit) r.told a.went.runs d (r.off d));
     }

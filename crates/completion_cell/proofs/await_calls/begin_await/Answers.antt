@@ -1,4 +1,9 @@
-use Rattle.std.proofs.Common.{ap}
+use Rattle.std.proofs.Common.{ap, refl}
+use Rattle.wait_class.proofs.Turns.{advances_none}
+use Rattle.wait_class.proofs.UnderWay.{begun_here}
+use Rattle.completion_cell.specs.Awaits.{await_table}
+use Rattle.completion_cell.specs.declared.awaits.AwaitStage.TheVariants as stage
+use Rattle.completion_cell.proofs.AwaitLaws.{await_lawful}
 use Rattle.completion_cell.specs.declared.awaits.AwaitCall.{AwaitCall}
 use Rattle.completion_cell.proofs.Endings.{begins_at}
 use Rattle.completion_cell.proofs.await_calls.begin_await.Goals as goal
@@ -13,3 +18,11 @@ returns-clause-fresh c = record {
 pub returns-clause-at : goal.returns-clause-at
 returns-clause-at c = begins_at c.args.task.now c.new.result c.args.cell c.args.state (returns-clause-fresh c)
     c.requires.cell c.requires.left c.told.ensures c.requires.up c.requires.idle c.requires.out
+
+pub returns-clause-under : goal.returns-clause-under
+returns-clause-under c clean = begun_here await_table await_lawful (await_table.plan_of c.new.result.of) c.args.task.now
+    c.new.result stage.First clean c.told.ensures refl refl (returns-clause-at c)
+
+pub returns-clause-came : goal.returns-clause-came
+returns-clause-came c = advances_none await_table await_lawful c.args.task.now c.new.result stage.First
+    (returns-clause-at c)

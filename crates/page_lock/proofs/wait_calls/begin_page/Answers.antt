@@ -1,5 +1,9 @@
-use Rattle.std.proofs.Common.{ap, subst, sym}
-use Rattle.page_lock.specs.PageTables.{IsRunning}
+use Rattle.std.proofs.Common.{ap, refl, subst, sym}
+use Rattle.wait_class.proofs.Turns.{advances_none}
+use Rattle.wait_class.proofs.UnderWay.{begun_here}
+use Rattle.page_lock.specs.declared.waits.PageStage.TheVariants as stage
+use Rattle.page_lock.proofs.PageLaws.{page_lawful}
+use Rattle.page_lock.specs.PageTables.{IsRunning, page_table}
 use Rattle.page_lock.specs.declared.waits.LockPage.{LockPage}
 use Rattle.page_lock.proofs.PageEndings.{begins_at}
 use Rattle.page_lock.proofs.wait_calls.begin_page.Goals as goal
@@ -13,3 +17,11 @@ returns-clause-fresh c = record {
   page = ap (λ (r : LockPage). r.page) c.new.ensures;
   state = ap (λ (r : LockPage). r.state) c.new.ensures;
 }
+
+pub returns-clause-under : goal.returns-clause-under
+returns-clause-under c clean = begun_here page_table page_lawful (page_table.plan_of c.new.result.of) c.args.task.now
+    c.new.result stage.First clean c.told.ensures refl refl (returns-clause-at c)
+
+pub returns-clause-came : goal.returns-clause-came
+returns-clause-came c = advances_none page_table page_lawful c.args.task.now c.new.result stage.First
+    (returns-clause-at c)

@@ -1,7 +1,11 @@
 use Rattle.std.proofs.Common.{refl, subst, true}
 use Rattle.wait_model.specs.declared.tasks.How.{How}
 use Rattle.wait_model.specs.declared.watches.Watch.TheVariants as watch
-use Rattle.wait_event.specs.Waits.{IsFresh}
+use Rattle.wait_class.proofs.Turns.{advances_none}
+use Rattle.wait_class.proofs.UnderWay.{begun_here}
+use Rattle.wait_event.specs.declared.waits.WaitStage.TheVariants as stage
+use Rattle.wait_event.specs.Waits.{IsFresh, wait_table}
+use Rattle.wait_event.proofs.WaitLaws.{wait_lawful}
 use Rattle.wait_event.proofs.Conditions.{var_runs}
 use Rattle.wait_event.proofs.Endings.{begins_at}
 use Rattle.var_wait.specs.VarWaits.{shared_in}
@@ -17,3 +21,11 @@ returns-clause-at c =
     begins_at c.args.task.now c.fresh_wait.result
     (var_runs c.fresh_wait.result.of c.args.var c.args.old (shared_in c.args.state) fresh.watch_is fresh.how_is c.requires.there
     refl) c.told.ensures c.requires.up c.requires.idle c.requires.out
+
+pub returns-clause-under : goal.returns-clause-under
+returns-clause-under c clean = begun_here wait_table wait_lawful (wait_table.plan_of c.fresh_wait.result.of)
+    c.args.task.now c.fresh_wait.result stage.First clean c.told.ensures refl refl (returns-clause-at c)
+
+pub returns-clause-came : goal.returns-clause-came
+returns-clause-came c = advances_none wait_table wait_lawful c.args.task.now c.fresh_wait.result stage.First
+    (returns-clause-at c)

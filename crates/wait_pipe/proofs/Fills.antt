@@ -32,7 +32,7 @@ use Rattle.std.proofs.Common.{
   length-append,
   take-add,
 }
-use Rattle.std.proofs.lemmas.List.{take_all}
+use Rattle.std.proofs.lemmas.List.{append_cancel_left, take_all}
 use Rattle.std.proofs.lemmas.Grind.{flat_map-append}
 use Rattle.std.proofs.lemmas.Bool.Decides.{nat_tests}
 use Rattle.std.specs.Prelude.{false, ◌==◌}
@@ -49,6 +49,7 @@ use Rattle.wait_rule.specs.Pipes.{
   End,
   bytes_in,
   cell_bytes,
+  end_word,
   moved_bytes,
   passed,
   read_end,
@@ -70,7 +71,7 @@ use Rattle.wait_pipe.specs.Pieces.{
   ShowsNoCell,
   Waits,
 }
-use Rattle.wait_pipe.specs.Trails.{PassesCells, WakesAfter, cell_items}
+use Rattle.wait_pipe.specs.Trails.{LoadsCells, LoadsOther, LooksOver, PassesCells, StoresCells, WakesAfter, cell_items}
 use Rattle.wait_pipe.specs.declared.looks.Look.{Look}
 use Rattle.wait_pipe.proofs.Asides.{none_more, quiet_cell, quiet_none, quiet_on}
 use Rattle.wait_pipe.proofs.PieceChanges.{others_becomes, others_on}
@@ -129,9 +130,10 @@ advanced_write p now next = subst (λ (k : ℕ). EndBecomes k now next (passed (
 pub record HasCells (k : ℕ) (old now : Known) : Type 0 where
   pub cells : List ℕ
   pub is : now ≡ grown old (cell_items k cells) old.book
+  pub grew : (end_at k now).cells ≡ (end_at k old).cells ++ cells
 
 cells_none : (k : ℕ) (j : Known) → HasCells k j j
-cells_none k j = record { cells = []; is = none_more j }
+cells_none k j = record { cells = []; is = none_more j; grew = sym (append-nil (end_at k j).cells) }
 
 cells_append : (k w : ℕ) (ws : List ℕ)
     → cell_items k ws ++ item.Piped k act.Cell w ∷ [] ≡ cell_items k (ws ++ w ∷ [])
@@ -139,8 +141,8 @@ cells_append k w [] = refl
 cells_append k w (x ∷ xs) = ap (λ (l : List Item). item.Piped k act.Cell x ∷ l) (cells_append k w xs)
 
 cells_on : (k w : ℕ) (old now next : Known) → HasCells k old now → next ≡ added now (item.Piped k act.Cell w)
-    → HasCells k old next
-cells_on k w old now next h made = record {
+    → end_at k next ≡ with_cell w (end_at k now) → HasCells k old next
+cells_on k w old now next h made own = record {
   cells = h.cells ++ w ∷ [];
   is = made ∙ (ap (λ (j : Known). added j (item.Piped k act.Cell w)) h.is
       ∙ ap (λ (l : List Item). record {
@@ -157,18 +159,31 @@ cells_on k w old now next h made = record {
         at = old.at;
       }) (append_assoc old.view.items (cell_items k h.cells) (item.Piped k act.Cell w ∷ [])
       ∙ ap (λ (l : List Item). old.view.items ++ l) (cells_append k w h.cells)));
+  grew = ap (λ (e : End). e.cells) own
+      ∙ (ap (λ (l : List ℕ). l ++ w ∷ []) h.grew ∙ append_assoc (end_at k old).cells h.cells (w ∷ []));
 }
 
+-- how many they are, and their bytes
+module _ (k : ℕ) (old now : Known) (h : HasCells k old now) where
+  cells_count : length (end_at k now).cells ≡ length (end_at k old).cells + length h.cells
+  cells_count = ap length h.grew ∙ length-append (end_at k old).cells h.cells
+
+  cells_bytes : (text : List ℕ) → Midway (end_at k old) (end_at k now) text → bytes_in h.cells ≡ text
+  cells_bytes text m = append_cancel_left (bytes_in (end_at k old).cells) (bytes_in h.cells) text
+      (sym (flat_map-append cell_bytes (end_at k old).cells h.cells) ∙ (sym (ap bytes_in h.grew) ∙ m.bytes))
+
 -- and passes on, with a wake
-pub cells_passed : (k v : ℕ) (old now next new : Known) (value found : ℕ) (walked : Walked) → HasCells k old now
-    → next ≡ added now (item.Made (step.Publish (watch.Var v 0) value found)) → v ≡ k → WakesAfter k next new walked
-    → PassesCells k old new
-cells_passed k v old now next new value found walked h made is wakes = record {
+abbrev cells_passed : (k v : ℕ) (old now next new : Known) (value found : ℕ) (walked : Walked) (text : List ℕ)
+    (h : HasCells k old now) → next ≡ added now (item.Made (step.Publish (watch.Var v 0) value found)) → v ≡ k
+    → value ≡ end_word ((end_at k old).count + length h.cells) false → bytes_in h.cells ≡ text
+    → WakesAfter k next new walked → PassesCells k old new text
+cells_passed k v old now next new value found walked text h made is counts bytes wakes = record {
   cells = h.cells;
-  value = value;
+  bytes = bytes;
   walked = walked;
-  publishes = subst (λ (j : Known). HasPublished j new k value walked) h.is (wakes now value found
-      (made ∙ ap (λ (u : ℕ). added now (item.Made (step.Publish (watch.Var u 0) value found))) is));
+  publishes = subst (λ (n : ℕ). HasPublished (grown old (cell_items k h.cells) old.book) new k n walked) counts
+      (subst (λ (j : Known). HasPublished j new k value walked) h.is (wakes now value found
+      (made ∙ ap (λ (u : ℕ). added now (item.Made (step.Publish (watch.Var u 0) value found))) is)));
 }
 
 -- cells that are being stored
@@ -241,7 +256,7 @@ fill_goes p old now next bytes at left done end w f some_left more fits most end
       some_done = omega arith;
       dense = omega arith;
       whole = whole_next done end (length bytes) whole ends;
-      stored = cells_on (write_end p) w old now next f.stored made;
+      stored = cells_on (write_end p) w old now next f.stored made step.own;
     }
 
 pub fill_ends : (p : ℕ) (old now next last : Known) (bytes : List ℕ) (at left done : ℕ) → IsSettled (writing p old)
@@ -277,6 +292,30 @@ fill_full p old now next last bytes at left done f step same none =
     ∙ f.midway.seen in
     let room = f.room in
     omega arith
+
+-- what was stored, once it is passed on
+pub fill_stores : (p v : ℕ) (old now next new : Known) (bytes : List ℕ) (at left done found : ℕ) (walked : Walked)
+    → IsSettled (writing p old) → Filling p old now bytes at left done
+    → next ≡ added now (item.Made (step.Publish (watch.Var v 0) (2 * at) found)) → v ≡ write_end p → 0 < done
+    → (done < length bytes → left ≡ 0) → WakesAfter (write_end p) next new walked
+    → StoresCells (write_end p) old new bytes done
+fill_stores p v old now next new bytes at left done found walked settled f made is some none wakes =
+    let count = cells_count (write_end p) old now f.stored in
+    let passed = settled.passed in
+    let place = f.place in
+    let room = f.room in
+    let dense = f.dense in
+    let many : length f.stored.cells ≡ (done + 6) / 7 = omega arith in
+    let fits : (writing p old).count + length f.stored.cells ≤ (writing p old).seen + PIPE_CELLS = omega arith in
+    let all : done < length bytes → (writing p old).count + length f.stored.cells ≡ (writing p old).seen + PIPE_CELLS =
+    λ few. let no_more = none few in omega arith in record {
+      passes = cells_passed (write_end p) v old now next new (2 * at) found walked (take done bytes) f.stored made is
+          (omega arith) (cells_bytes (write_end p) old now f.stored (take done bytes) f.midway) wakes;
+      some = some;
+      dense = many;
+      room = fits;
+      full = all;
+    }
 
 -- cells that are being loaded
 pub record Draining (p : ℕ) (old now : Known) (size : ℕ) (buf : List ℕ) (at left done : ℕ) : Type 0 where
@@ -330,7 +369,7 @@ drain_goes p old now next size buf after at left done end w f some_left more fit
       size_is = same ∙ f.size_is;
       fits = fits;
       some_done = omega arith;
-      loaded = cells_on (read_end p) w old now next f.loaded made;
+      loaded = cells_on (read_end p) w old now next f.loaded made step.own;
     }
 
 pub drain_ends : (p : ℕ) (old now next last : Known) (size : ℕ) (buf : List ℕ) (at left done : ℕ)
@@ -343,6 +382,26 @@ drain_ends p old now next last size buf at left done settled f step others same 
           (others_becomes (read_end p) now next (passed (reading p now)) step)) others;
       settled = subst IsSettled (sym (same ∙ step.own)) m.0;
       bytes = ap moved_bytes (same ∙ step.own) ∙ m.1;
+    }
+
+-- what was loaded, once it is passed on
+pub drain_loads : (p v : ℕ) (old now next new : Known) (size : ℕ) (buf : List ℕ) (at left done found : ℕ)
+    (walked : Walked) → IsSettled (reading p old) → Draining p old now size buf at left done
+    → next ≡ added now (item.Made (step.Publish (watch.Var v 0) (2 * at) found)) → v ≡ read_end p
+    → (done + 7 ≤ length buf → left ≡ 0) → WakesAfter (read_end p) next new walked
+    → LoadsCells (read_end p) old new buf done
+drain_loads p v old now next new size buf at left done found walked settled f made is none wakes =
+    let count = cells_count (read_end p) old now f.loaded in
+    let passed = settled.passed in
+    let place = f.place in
+    let there = f.there in
+    let fits : (reading p old).count + length f.loaded.cells ≤ (reading p old).seen = omega arith in
+    let every : done + 7 ≤ length buf → (reading p old).count + length f.loaded.cells ≡ (reading p old).seen = λ room.
+    let no_more = none room in omega arith in record {
+      passes = cells_passed (read_end p) v old now next new (2 * at) found walked (take done buf) f.loaded made is
+          (omega arith) (cells_bytes (read_end p) old now f.loaded (take done buf) f.midway) wakes;
+      there = fits;
+      all = every;
     }
 
 pub drain_all : (p : ℕ) (old now next last : Known) (size : ℕ) (buf : List ℕ) (at left done : ℕ)
@@ -433,6 +492,9 @@ module _ (p : ℕ) (now : Known) (l : Look) where
 
   pub word_ended : (k : ℕ) → HasSeen k now l → l.closed ≡ true → l.word % 2 ≡ 1
   word_ended k h is = let test : (l.word % 2 == 1) ≡ true = sym h.closes ∙ is in grind (arith, nat_tests)
+
+  abbrev pub look_shows : (k : ℕ) (old : Known) → HasSeen k now l → LoadsOther k l.word old now → LooksOver k old now
+  look_shows k old h loads = record { word = l.word; loads = loads; shown = sym h.shows ∙ h.other }
 
   pub none_free : HasSeen (write_end p) now l → IsSettled (writing p now) → (used : ℕ)
       → used ≡ (l.own + word_counts - l.other) % word_counts → PIPE_CELLS ≤ used → l.closed ≡ false

@@ -5,3 +5,5 @@ pub mod Rousing
 pub mod Looking
 pub mod Fills
 pub mod Turns
+pub mod PipeWords
+pub mod LosesNone

@@ -205,7 +205,7 @@ cause_at k new word ts (Err (wait_end.Signal seen selected)) c none = record {
 cause_at k new word ts (Err (wait_end.Worn head place)) c none = record { before = word; ends = c; none = none }
 
 -- what its word showed, it shows beside the end as the wait left it
-none_kept : (k w : ℕ) (e f : End) → KeepsEnd e f → ShowsNoCell k e w → ShowsNoCell k f w
+pub none_kept : (k w : ℕ) (e f : End) → KeepsEnd e f → ShowsNoCell k e w → ShowsNoCell k f w
 none_kept k w e f keeps none = record {
   unended = none.unended;
   count = none.count;
@@ -223,9 +223,10 @@ wait_caused k v word old new result is w waits none = cause_at k new word w.runs
 
 pub wait_awaits : (k v word : ℕ) (old new : Known) (outcome : Result ℕ WaitEnd) (result : Result (Unit {0}) PipeEnd)
     → v ≡ other_end k → EndsVarWait old new v word state.Interruptible outcome → result ≡ end_of_wait outcome
-    → ShowsNoCell k (end_at k old) word → AwaitsOther k word old new result
-wait_awaits k v word old new outcome result is w answers none = record {
+    → ShowsNoCell k (end_at k old) word → IsOut old → AwaitsOther k word old new result
+wait_awaits k v word old new outcome result is w answers none out = record {
   none = none;
+  out = out;
   outcome = outcome;
   waits = subst (λ (u : ℕ). EndsVarWait old new u word state.Interruptible outcome) is w;
   answers = answers;

@@ -2,6 +2,8 @@
 use Rattle.std.proofs.Common.{◌∙◌, ap, arith, refl, subst}
 use Rattle.std.specs.Prelude.{
   ℕ,
+  zero,
+  suc,
   ◌≡◌,
   ◌<◌,
   ◌≤◌,
@@ -25,7 +27,7 @@ use Rattle.std.specs.Prelude.{
 use Rattle.wait_model.specs.declared.layout.TheConstants.{PIPE_CELLS}
 use Rattle.wait_rule.specs.Known.{Known}
 use Rattle.wait_rule.specs.Pipes.{read_end, word_counts, write_end}
-use Rattle.wait_rule.specs.PipeSays.{reading, writing}
+use Rattle.wait_rule.specs.PipeSays.{end_at, reading, writing}
 use Rattle.wait_pipe.specs.declared.looks.Look.{Look}
 use Rattle.wait_pipe.specs.declared.pieces.PipeEnd.{PipeEnd}
 use Rattle.wait_pipe.specs.declared.pieces.PipeEnd.TheVariants as pipe_end
@@ -44,10 +46,14 @@ use Rattle.wait_pipe.specs.Pieces.{
 }
 use Rattle.wait_pipe.specs.Trails.{
   AwaitsOther,
+  FillsCells,
+  LoadsCells,
   LoadsOther,
-  PassesCells,
+  LooksOver,
   ReadEnds,
   ReadsPiece,
+  SeesClosed,
+  StoresCells,
   WaitingTurn,
   WaitingTurns,
   WriteEnds,
@@ -178,35 +184,42 @@ turning_on k old now new t w turn = record {
   goes = turns_more k old t.turns now new t.goes turn;
 }
 
-pub wrote_piece : (k : ℕ) (old now new : Known) (r : Result ℕ PipeEnd) → Turning k old now → WriteEnds k now new r
-    → WritesPiece k old new r
-wrote_piece k old now new r t ends = record { turns = t.turns; last = now; waits = t.goes; ends = ends }
+pub wrote_piece : (k : ℕ) (old now new : Known) (text : List ℕ) (r : Result ℕ PipeEnd) → Turning k old now
+    → WriteEnds k now new text r → WritesPiece k old new text r
+wrote_piece k old now new text r t ends = record { turns = t.turns; last = now; waits = t.goes; ends = ends }
 
-pub got_piece : (k : ℕ) (old now new : Known) (r : Result ℕ PipeEnd) → Turning k old now → ReadEnds k now new r
-    → ReadsPiece k old new r
-got_piece k old now new r t ends = record { turns = t.turns; last = now; waits = t.goes; ends = ends }
+pub got_piece : (k : ℕ) (old now new : Known) (buf : List ℕ) (r : Result ℕ PipeEnd) → Turning k old now
+    → ReadEnds k now new buf r → ReadsPiece k old new buf r
+got_piece k old now new buf r t ends = record { turns = t.turns; last = now; waits = t.goes; ends = ends }
 
 -- the last one
 pub turn_of : (k w : ℕ) (old looked new : Known) (r : Result (Unit {0}) PipeEnd) → LoadsOther k w old looked
     → AwaitsOther k w looked new r → WaitingTurn k old new r
 turn_of k w old looked new r looks waits = record { word = w; looked = looked; looks = looks; waits = waits }
 
-pub write_stops : (k : ℕ) (old new : Known) (e : PipeEnd) → IsReadCause k new e → WaitingTurn k old new (Err e)
-    → WriteEnds k old new (Err e)
-write_stops k old new pipe_end.Broken cause turn = absurd cause
-write_stops k old new (pipe_end.Interrupted seen) cause turn = turn
-write_stops k old new (pipe_end.Worn head place) cause turn = turn
+pub write_stops : (k : ℕ) (old new : Known) (text : List ℕ) (e : PipeEnd) → IsReadCause k new e
+    → WaitingTurn k old new (Err e) → WriteEnds k old new text (Err e)
+write_stops k old new text pipe_end.Broken cause turn = absurd cause
+write_stops k old new text (pipe_end.Interrupted seen) cause turn = turn
+write_stops k old new text (pipe_end.Worn head place) cause turn = turn
 
-pub read_some : (k w n : ℕ) (old looked new : Known) → LoadsOther k w old looked → 0 < n → PassesCells k looked new
-    → ReadEnds k old new (Ok n)
-read_some k w n old looked new looks some passes = (
-  w,
-  looked,
-  looks,
-  (λ more. passes),
-  (λ none. absurd (omega arith)),
-)
+pub wrote_some : (k n : ℕ) (old looked new : Known) (text : List ℕ) (l : LooksOver k old looked) → l.word % 2 ≡ 0
+    → StoresCells k looked new text n → FillsCells k old new text n
+wrote_some k n old looked new text l unended stores = record {
+  looked = looked;
+  looks = l;
+  unended = unended;
+  stores = stores;
+}
 
-pub read_none : (k w : ℕ) (old looked : Known) → LoadsOther k w old looked → w % 2 ≡ 1
-    → ReadEnds k old looked (Ok 0)
-read_none k w old looked looks ended = (w, looked, looks, (λ more. absurd (omega arith)), (λ none. (refl, ended)))
+pub saw_closed : (k : ℕ) (old new : Known) (l : LooksOver k old new) → l.word % 2 ≡ 1 → SeesClosed k old new
+saw_closed k old new l ended = record { looks = l; ended = ended }
+
+pub read_some : (k n : ℕ) (old looked new : Known) (buf : List ℕ) → LooksOver k old looked → 0 < n
+    → LoadsCells k looked new buf n → ReadEnds k old new buf (Ok n)
+read_some k zero old looked new buf l some loads = absurd (omega arith)
+read_some k (suc n) old looked new buf l some loads = record { looked = looked; looks = l; loads = loads }
+
+pub read_none : (k : ℕ) (old looked : Known) (buf : List ℕ) → SeesClosed k old looked
+    → (end_at k looked).count ≡ (end_at k looked).seen → ReadEnds k old looked buf (Ok 0)
+read_none k old looked buf closed all = record { closed = closed; all = all }

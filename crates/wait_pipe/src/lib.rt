@@ -4,6 +4,7 @@
 
 mod cells;
 pub mod ends;
+pub mod laws;
 mod looks;
 pub mod pieces;
 

@@ -9,7 +9,7 @@ ghost use Rattle.wait_rule.specs.Queues.{IsIdle};
 ghost use Rattle.wait_rule.specs.Says.{IsUp};
 ghost use Rattle.wait_class.specs.Posts.{IsOut};
 ghost use Rattle.wait_pipe.specs.Pieces.{Got, GotNone, IsSettled, Moved, Put, PutNone, Rests, Waits};
-ghost use Rattle.wait_pipe.specs.Trails.{PassesCells, ReadEnds, ReadsPiece, WaitingTurn, WriteEnds, WritesPiece};
+ghost use Rattle.wait_pipe.specs.Trails.{LoadsCells, ReadEnds, ReadsPiece, StoresCells, WaitingTurn, WriteEnds, WritesPiece};
 
 use crate::cells::{pack, unpack};
 use crate::ends::{READ, WRITE, rouse};
@@ -56,7 +56,7 @@ pub fn write_piece<R: Wait>(
     requires bytes { 0 < length bytes.now }
     ensures piece { MatchResult result (Put pipe task.old task.new bytes.now) (PutNone pipe task.old task.new) }
     ensures rests { Rests (write_end pipe) task.old task.new }
-    ensures goes { WritesPiece (write_end pipe) task.old task.new result }
+    ensures goes { WritesPiece (write_end pipe) task.old task.new bytes.now result }
 {
     for _ in rt.forever() {
         match write_turn(rt, domain, task, pipe, bytes) {
@@ -87,7 +87,7 @@ fn write_turn<R: Wait>(
         (λ r. MatchResult r (Put pipe task.old task.new bytes.now) (PutNone pipe task.old task.new)) }
     ensures rests { Rests (write_end pipe) task.old task.new }
     ensures goes { MatchOption result (WaitingTurn (write_end pipe) task.old task.new (Ok tt))
-        (WriteEnds (write_end pipe) task.old task.new) }
+        (WriteEnds (write_end pipe) task.old task.new bytes.now) }
 {
     let look = look_to_write(domain, task, pipe);
     if look.closed {
@@ -132,7 +132,7 @@ fn fill<R: Wait>(
     ensures full { result < length bytes.now
         → (writing pipe task.new).count ≡ (writing pipe task.new).seen + PIPE_CELLS }
     ensures rests { Rests (write_end pipe) task.old task.new }
-    ensures passes { PassesCells (write_end pipe) task.old task.new }
+    ensures stores { StoresCells (write_end pipe) task.old task.new bytes.now result }
 {
     task.told();
     let mut at = count;
@@ -177,7 +177,7 @@ pub fn read_piece<R: Wait>(
     ensures same { length buf.new ≡ length buf.old }
     ensures piece { MatchResult result (Got pipe task.old task.new buf.new) (GotNone pipe task.old task.new) }
     ensures rests { Rests (read_end pipe) task.old task.new }
-    ensures goes { ReadsPiece (read_end pipe) task.old task.new result }
+    ensures goes { ReadsPiece (read_end pipe) task.old task.new buf.new result }
 {
     for _ in rt.forever() {
         match read_turn(rt, domain, task, pipe, buf) {
@@ -209,7 +209,7 @@ fn read_turn<R: Wait>(
         (λ r. MatchResult r (Got pipe task.old task.new buf.new) (GotNone pipe task.old task.new)) }
     ensures rests { Rests (read_end pipe) task.old task.new }
     ensures goes { MatchOption result (WaitingTurn (read_end pipe) task.old task.new (Ok tt))
-        (ReadEnds (read_end pipe) task.old task.new) }
+        (ReadEnds (read_end pipe) task.old task.new buf.new) }
 {
     let look = look_over(domain, task, pipe, READ);
     let there = between(look.own, look.other);
@@ -252,7 +252,7 @@ fn drain<R: Wait>(
     ensures moved { Moved (read_end pipe) task.old task.new (take result buf.new) }
     ensures all { result + 7 ≤ length buf.new → (reading pipe task.new).count ≡ (reading pipe task.new).seen }
     ensures rests { Rests (read_end pipe) task.old task.new }
-    ensures passes { PassesCells (read_end pipe) task.old task.new }
+    ensures loads { LoadsCells (read_end pipe) task.old task.new buf.new result }
 {
     task.told();
     let mut at = count;

@@ -30,4 +30,4 @@ returns-clause-cause g c = subst (λ (r : Result (Unit {0}) PipeEnd). IfErr r (I
 pub returns-clause-awaits : goal.returns-clause-awaits
 returns-clause-awaits g c = wait_awaits c.args.own c.other_of-var.result c.args.word c.args.task.now
     c.wait_var-waited.new.task c.wait_var-waited.result _ c.other_of-var.ensures c.wait_var-waited.ensures.waited
-    c.answer_of.ensures c.requires.none
+    c.answer_of.ensures c.requires.none c.requires.out

@@ -1,11 +1,11 @@
-use Rattle.std.proofs.Common.{◌≡◌, ◌∙◌, arith, length, refl, subst, sym}
+use Rattle.std.proofs.Common.{◌≡◌, ◌≤◌, ◌+◌, ◌∙◌, arith, length, refl, subst, sym}
 use Rattle.std.specs.Prelude.{◌*◌}
 use Rattle.wait_model.specs.declared.watches.Watch.TheVariants as watch
 use Rattle.wait_rule.specs.Pipes.{read_end}
 use Rattle.wait_event.proofs.Setting.{set_idle}
 use Rattle.wait_pipe.specs.Pieces.{LeavesAside}
 use Rattle.wait_pipe.proofs.Asides.{quiet_on, quiet_publish}
-use Rattle.wait_pipe.proofs.Fills.{cells_passed, drain_all, drain_begins, drain_ends, drain_goes}
+use Rattle.wait_pipe.proofs.Fills.{drain_all, drain_begins, drain_ends, drain_goes, drain_loads}
 use Rattle.wait_pipe.proofs.PieceChanges.{idle_still, leaves_made, still_publishes}
 use Rattle.wait_pipe.proofs.pieces.drain.Goals.{then-loop-left-test+else-done-buf, else-loop-left-test}
 use Rattle.wait_pipe.proofs.pieces.drain.Goals as goal
@@ -64,9 +64,15 @@ returns-clause-all g c = λ room.
     c.rouse.new.task (length c.args.buf.now) c.loop-left.buf c.loop-left.at c.loop-left.left c.loop-left.done
     c.loop-left.invariant c.advance.ensures.becomes c.rouse.ensures.own none
 
-pub returns-clause-passes : goal.returns-clause-passes
-returns-clause-passes g c =
+pub returns-clause-loads : goal.returns-clause-loads
+returns-clause-loads g c =
     let made = c.advance.ensures.step in
-    cells_passed (read_end c.args.pipe) (read_end c.args.pipe) c.args.task.now c.loop-left.task
-    c.advance.new.task c.rouse.new.task (2 * c.loop-left.at) made.0 c.rouse.result c.loop-left.invariant.loaded made.1
-    refl c.rouse.ensures.wakes
+    let size = c.loop-left.invariant.size_is in
+    let none : c.loop-left.done + 7 ≤ length c.loop-left.buf → c.loop-left.left ≡ 0 = λ room.
+    elim c.loop-left-test.branch [
+      | then-loop-left-test+else-done-buf w ↦ let all = w.if-done-buf in absurd (omega arith)
+      | else-loop-left-test w ↦ let none = w.loop-left-test in omega arith
+    ] in
+    drain_loads c.args.pipe (read_end c.args.pipe) c.args.task.now c.loop-left.task c.advance.new.task
+    c.rouse.new.task (length c.args.buf.now) c.loop-left.buf c.loop-left.at c.loop-left.left c.loop-left.done made.0
+    c.rouse.result c.requires.settled c.loop-left.invariant made.1 refl none c.rouse.ensures.wakes

@@ -10,13 +10,13 @@ use Rattle.wait_pipe.specs.Pieces.{LeavesAside}
 use Rattle.wait_pipe.proofs.Asides.{quiet_on, quiet_publish}
 use Rattle.wait_pipe.proofs.Fills.{
   advanced_write,
-  cells_passed,
   fill_begins,
   fill_cells,
   fill_ended,
   fill_ends,
   fill_full,
   fill_goes,
+  fill_stores,
 }
 use Rattle.wait_pipe.proofs.PieceChanges.{idle_still, leaves_made, still_publishes}
 use Rattle.wait_pipe.proofs.pieces.fill.Goals.{
@@ -115,9 +115,21 @@ returns-clause-rests g c =
     (quiet_on c.args.task.now c.loop-left.task c.rouse.new.task c.loop-left.invariant.quiet
     (quiet_on c.loop-left.task c.advance.new.task c.rouse.new.task passes c.rouse.ensures.quiet))
 
-pub returns-clause-passes : goal.returns-clause-passes
-returns-clause-passes g c =
+pub returns-clause-stores : goal.returns-clause-stores
+returns-clause-stores g c =
     let made = c.advance.ensures.step in
-    cells_passed (write_end c.args.pipe) (PIPE_ENDS * c.args.pipe + 0) c.args.task.now c.loop-left.task
-    c.advance.new.task c.rouse.new.task (2 * c.loop-left.at) made.0 c.rouse.result c.loop-left.invariant.stored made.1
-    (add-zero (PIPE_ENDS * c.args.pipe)) c.rouse.ensures.wakes
+    let none : c.loop-left.done < length c.args.bytes.now → c.loop-left.left ≡ 0 = λ few.
+    elim c.loop-left-test.branch [
+      | then-loop-left-test+else-done-bytes w ↦ let all = w.if-done-bytes in absurd (omega arith)
+      | else-loop-left-test w ↦ let none = w.loop-left-test in omega arith
+    ] in
+    let some_bytes = c.requires.bytes in
+    let some_done = c.loop-left.invariant.some_done in
+    let some : 0 < c.loop-left.done = elim c.loop-left-test.branch [
+      | then-loop-left-test+else-done-bytes w ↦ let all = w.if-done-bytes in omega arith
+      | else-loop-left-test w ↦ let none_left = w.loop-left-test in omega arith
+    ] in
+    fill_stores c.args.pipe (PIPE_ENDS * c.args.pipe + 0) c.args.task.now c.loop-left.task
+    c.advance.new.task c.rouse.new.task c.args.bytes.now c.loop-left.at c.loop-left.left c.loop-left.done made.0
+    c.rouse.result c.requires.settled c.loop-left.invariant made.1 (add-zero (PIPE_ENDS * c.args.pipe)) some none
+    c.rouse.ensures.wakes

@@ -39,4 +39,4 @@ returns-in-Some-read_turn-clause-rests g c = then_rests (read_end c.args.pipe) c
 
 pub returns-in-Some-read_turn-clause-goes : goal.returns-in-Some-read_turn-clause-goes
 returns-in-Some-read_turn-clause-goes g c = got_piece (read_end c.args.pipe) c.args.task.now c.loop.task
-    c.read_turn.new.task c.in-Some-read_turn.end c.loop.invariant c.in-Some-read_turn.ensures.goes
+    c.read_turn.new.task _ c.in-Some-read_turn.end c.loop.invariant c.in-Some-read_turn.ensures.goes

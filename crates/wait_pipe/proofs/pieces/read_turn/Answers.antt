@@ -2,7 +2,9 @@ use Rattle.std.proofs.Common.{◌∙◌, arith}
 use Rattle.std.specs.Prelude.{Ok, Err}
 use Rattle.wait_rule.specs.Pipes.{read_end}
 use Rattle.wait_pipe.proofs.Fills.{
+  at_end,
   count_place,
+  look_shows,
   none_there,
   there_is,
   other_below,
@@ -11,7 +13,16 @@ use Rattle.wait_pipe.proofs.Fills.{
   word_ended,
 }
 use Rattle.wait_pipe.proofs.PieceChanges.{waits_on}
-use Rattle.wait_pipe.proofs.Turns.{got_drained, got_end, got_stopped, read_none, read_some, then_rests, turn_of}
+use Rattle.wait_pipe.proofs.Turns.{
+  got_drained,
+  got_end,
+  got_stopped,
+  read_none,
+  read_some,
+  saw_closed,
+  then_rests,
+  turn_of,
+}
 use Rattle.wait_pipe.proofs.pieces.read_turn.Goals as goal
 
 pub look_over-look-requires-clause-of : goal.look_over-look-requires-clause-of
@@ -124,15 +135,26 @@ returns-in-Err-clause-rests g c = (waits_on (read_end c.args.pipe) c.args.task.n
     c.look_over-look.new.task c.wait_for.new.task c.look_over-look.ensures.waits c.wait_for.ensures.waits).rests
 
 pub returns-then-there-gt0-clause-goes : goal.returns-then-there-gt0-clause-goes
-returns-then-there-gt0-clause-goes g c = read_some (read_end c.args.pipe) c.look_over-look.result.word c.drain.result
-    c.args.task.now c.look_over-look.new.task c.drain.new.task c.look_over-look.ensures.loads c.drain.ensures.some
-    c.drain.ensures.passes
+returns-then-there-gt0-clause-goes g c = read_some (read_end c.args.pipe) c.drain.result c.args.task.now
+    c.look_over-look.new.task c.drain.new.task c.drain.new.buf
+    (look_shows c.args.pipe c.look_over-look.new.task c.look_over-look.result (read_end c.args.pipe)
+    c.args.task.now c.look_over-look.ensures.seen c.look_over-look.ensures.loads) c.drain.ensures.some
+    c.drain.ensures.loads
 
 pub returns-then-look-clause-goes : goal.returns-then-look-clause-goes
-returns-then-look-clause-goes g c = read_none (read_end c.args.pipe) c.look_over-look.result.word c.args.task.now
-    c.look_over-look.new.task c.look_over-look.ensures.loads
-    (word_ended c.args.pipe c.look_over-look.new.task c.look_over-look.result (read_end c.args.pipe)
-    c.look_over-look.ensures.seen (let shut = c.if-look.true in cc))
+returns-then-look-clause-goes g c =
+    let shut = c.if-look.true in
+    let seen = c.look_over-look.ensures.seen in
+    let end = at_end c.args.pipe c.look_over-look.new.task c.look_over-look.result seen
+    (waited_settled (read_end c.args.pipe) c.args.task.now c.look_over-look.new.task c.look_over-look.ensures.waits
+    c.requires.settled) c.between-there.result c.between-there.ensures
+    (let none = c.if-there-gt0.false in omega arith) (let is = shut in cc) in
+    read_none (read_end c.args.pipe) c.args.task.now c.look_over-look.new.task c.args.buf.now
+    (saw_closed (read_end c.args.pipe) c.args.task.now c.look_over-look.new.task
+    (look_shows c.args.pipe c.look_over-look.new.task c.look_over-look.result (read_end c.args.pipe)
+    c.args.task.now seen c.look_over-look.ensures.loads)
+    (word_ended c.args.pipe c.look_over-look.new.task c.look_over-look.result (read_end c.args.pipe) seen
+    (let is = shut in cc))) end.all
 
 pub returns-in-Ok-clause-goes : goal.returns-in-Ok-clause-goes
 returns-in-Ok-clause-goes g c = turn_of (read_end c.args.pipe) c.look_over-look.result.word c.args.task.now

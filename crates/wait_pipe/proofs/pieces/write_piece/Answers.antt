@@ -39,4 +39,4 @@ returns-in-Some-write_turn-clause-rests g c = then_rests (write_end c.args.pipe)
 
 pub returns-in-Some-write_turn-clause-goes : goal.returns-in-Some-write_turn-clause-goes
 returns-in-Some-write_turn-clause-goes g c = wrote_piece (write_end c.args.pipe) c.args.task.now c.loop.task
-    c.write_turn.new.task c.in-Some-write_turn.end c.loop.invariant c.in-Some-write_turn.ensures.goes
+    c.write_turn.new.task _ c.in-Some-write_turn.end c.loop.invariant c.in-Some-write_turn.ensures.goes

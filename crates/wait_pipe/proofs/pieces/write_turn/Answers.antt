@@ -4,6 +4,7 @@ use Rattle.wait_rule.specs.Pipes.{write_end}
 use Rattle.wait_pipe.proofs.Fills.{
   count_place,
   free_is,
+  look_shows,
   none_free,
   other_below,
   own_below,
@@ -12,7 +13,16 @@ use Rattle.wait_pipe.proofs.Fills.{
   word_open,
 }
 use Rattle.wait_pipe.proofs.PieceChanges.{waits_on}
-use Rattle.wait_pipe.proofs.Turns.{put_broken, put_filled, put_stopped, then_rests, turn_of, write_stops}
+use Rattle.wait_pipe.proofs.Turns.{
+  put_broken,
+  put_filled,
+  put_stopped,
+  saw_closed,
+  then_rests,
+  turn_of,
+  write_stops,
+  wrote_some,
+}
 use Rattle.wait_pipe.proofs.pieces.write_turn.Goals as goal
 
 pub look_to_write-look-requires-clause-of : goal.look_to_write-look-requires-clause-of
@@ -124,22 +134,19 @@ returns-in-Err-clause-rests g c = (waits_on (write_end c.args.pipe) c.args.task.
     c.look_to_write-look.new.task c.wait_for.new.task c.look_to_write-look.ensures.waits c.wait_for.ensures.waits).rests
 
 pub returns-then-look-clause-goes : goal.returns-then-look-clause-goes
-returns-then-look-clause-goes g c = (
-  c.look_to_write-look.result.word,
-  c.look_to_write-look.ensures.loads,
-  word_ended c.args.pipe c.look_to_write-look.new.task c.look_to_write-look.result (write_end c.args.pipe)
-      c.look_to_write-look.ensures.seen c.if-look.true,
-)
+returns-then-look-clause-goes g c = saw_closed (write_end c.args.pipe) c.args.task.now c.look_to_write-look.new.task
+    (look_shows c.args.pipe c.look_to_write-look.new.task c.look_to_write-look.result (write_end c.args.pipe)
+    c.args.task.now c.look_to_write-look.ensures.seen c.look_to_write-look.ensures.loads)
+    (word_ended c.args.pipe c.look_to_write-look.new.task c.look_to_write-look.result (write_end c.args.pipe)
+    c.look_to_write-look.ensures.seen c.if-look.true)
 
 pub returns-then-used-lt-PIPE_CELLS-clause-goes : goal.returns-then-used-lt-PIPE_CELLS-clause-goes
-returns-then-used-lt-PIPE_CELLS-clause-goes g c = (
-  c.look_to_write-look.result.word,
-  c.look_to_write-look.new.task,
-  c.look_to_write-look.ensures.loads,
-  word_open c.args.pipe c.look_to_write-look.new.task c.look_to_write-look.result (write_end c.args.pipe)
-      c.look_to_write-look.ensures.seen c.if-look.false,
-  c.fill.ensures.passes,
-)
+returns-then-used-lt-PIPE_CELLS-clause-goes g c = wrote_some (write_end c.args.pipe) c.fill.result c.args.task.now
+    c.look_to_write-look.new.task c.fill.new.task c.args.bytes.now
+    (look_shows c.args.pipe c.look_to_write-look.new.task c.look_to_write-look.result (write_end c.args.pipe)
+    c.args.task.now c.look_to_write-look.ensures.seen c.look_to_write-look.ensures.loads)
+    (word_open c.args.pipe c.look_to_write-look.new.task c.look_to_write-look.result (write_end c.args.pipe)
+    c.look_to_write-look.ensures.seen c.if-look.false) c.fill.ensures.stores
 
 pub returns-in-Ok-clause-goes : goal.returns-in-Ok-clause-goes
 returns-in-Ok-clause-goes g c = turn_of (write_end c.args.pipe) c.look_to_write-look.result.word c.args.task.now
@@ -147,8 +154,8 @@ returns-in-Ok-clause-goes g c = turn_of (write_end c.args.pipe) c.look_to_write-
     c.in-Ok.ensures.awaits
 
 pub returns-in-Err-clause-goes : goal.returns-in-Err-clause-goes
-returns-in-Err-clause-goes g c = write_stops (write_end c.args.pipe) c.args.task.now c.wait_for.new.task c.in-Err.end
-    c.in-Err.ensures.cause
+returns-in-Err-clause-goes g c = write_stops (write_end c.args.pipe) c.args.task.now c.wait_for.new.task
+    c.args.bytes.now c.in-Err.end c.in-Err.ensures.cause
     (turn_of (write_end c.args.pipe) c.look_to_write-look.result.word c.args.task.now
     c.look_to_write-look.new.task c.wait_for.new.task (Err c.in-Err.end) c.look_to_write-look.ensures.loads
     c.in-Err.ensures.awaits)

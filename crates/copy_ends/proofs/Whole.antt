@@ -113,7 +113,7 @@ module _ (domain : TableId) (one two three fourth old new : Known) (left_old lef
   pub is_copied : (how : Stop)
       → how ≡ copy_stop (reader.stop ∷ relay.stop ∷ writer.stop ∷ control_stop answer ∷ []) reader.kills
       → Copied domain new left_old left_new reads_old reads_new held_old held_new writes_old writes_new wants_old
-      wants_new seen_old seen_new plan reader relay writer how
+      wants_new seen_old seen_new plan reader relay writer how answer
   is_copied how stops =
       let lists = last_lists one.view.items two.view.items three.view.items fourth.view.items old new joined_is
       e.aside in
@@ -127,7 +127,6 @@ module _ (domain : TableId) (one two three fourth old new : Known) (left_old lef
         writes = e.writes;
         controls = e.controls;
         lists = (lists.one, lists.two, lists.three, lists.four);
-        total = answer;
         ends = e.ends;
         stops = stops;
       }
@@ -179,9 +178,9 @@ module _ (domain : TableId) (one two three fourth old new : Known) (left_old lef
 pub record Ensured (domain : TableId) (new : Known) (left_old left_new : Option (List ℕ)) (reads_old reads_new : ℕ)
     (held_old held_new : Option (List ℕ)) (writes_old writes_new wants_old wants_new : ℕ)
     (seen_old seen_new : List EntryState) (plan : List Planned) (reader : ReaderEnd) (relay writer : WorkerEnd)
-    (tally : ℕ) (how : Stop) : Type 0 where
+    (tally : ℕ) (how : Stop) (answer : Result ℕ BitEnd) : Type 0 where
   pub copied : Copied domain new left_old left_new reads_old reads_new held_old held_new writes_old writes_new wants_old
-      wants_new seen_old seen_new plan reader relay writer how
+      wants_new seen_old seen_new plan reader relay writer how answer
   pub front : HoldsGiven left_old left_new held_old held_new
   pub watched : Watched left_old left_new held_old held_new seen_old seen_new writer.stop
   pub whole : how ≡ stop.Finished → HoldsAll left_old held_old held_new seen_old seen_new reader relay writer tally
@@ -203,7 +202,7 @@ pub ensured : (domain : TableId) (t1 t2 t3 t4 one two three fourth start old new
     → ReadTally old new tally → GrowsAside old new
     → how ≡ copy_stop (reader.stop ∷ relay.stop ∷ writer.stop ∷ control_stop answer ∷ []) reader.kills
     → Ensured domain new left_old left_new reads_old reads_new held_old held_new writes_old writes_new wants_old
-    wants_new seen_old seen_new plan reader relay writer tally how
+    wants_new seen_old seen_new plan reader relay writer tally how answer
 ensured domain t1 t2 t3 t4 one two three fourth start old new left_old left_new reads_old reads_new held_old held_new
     writes_old writes_new wants_old wants_new seen_old seen_new plan reader relay writer answer tally how targets
     numbers e1 e2 e3 e4 begins reads relays writes controls ends joined shown found aside stops =

@@ -80,11 +80,12 @@ joined_four v a b c d = joined_with (joined_with (joined_with (joined_with v a) 
 abbrev pub worker_numbers : List ℕ
 worker_numbers = 1 ∷ 2 ∷ 3 ∷ []
 
--- The four tasks of a copy did their work, and their lists stand in the journal of the task that joined them.
+-- The four tasks of a copy did their work, and their lists stand in the journal of the task that joined them. The
+-- controller answered `total`.
 pub record Copied (domain : TableId) (new : Known) (left_old left_new : Option (List ℕ)) (reads_old reads_new : ℕ)
     (held_old held_new : Option (List ℕ)) (writes_old writes_new wants_old wants_new : ℕ)
     (seen_old seen_new : List EntryState) (plan : List Planned) (reader : ReaderEnd) (relay writer : WorkerEnd)
-    (how : Stop) : Type 0 where
+    (how : Stop) (total : Result ℕ BitEnd) : Type 0 where
   pub one : Known
   pub two : Known
   pub three : Known
@@ -97,7 +98,6 @@ pub record Copied (domain : TableId) (new : Known) (left_old left_new : Option (
   pub controls : Controlled (newcomer domain 4 5 0) four
   pub lists : (has_of 1 new.view ≡ one.view.items) × (has_of 2 new.view ≡ two.view.items)
       × (has_of 3 new.view ≡ three.view.items) × (has_of 4 new.view ≡ four.view.items)
-  pub total : Result ℕ BitEnd
   pub ends : ControlEnds (newcomer domain 4 5 0) four total
   pub stops : how ≡ copy_stop (reader.stop ∷ relay.stop ∷ writer.stop ∷ control_stop total ∷ []) reader.kills
 

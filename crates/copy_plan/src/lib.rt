@@ -7,7 +7,7 @@ pub mod kinds;
 pub mod plan;
 pub mod stop;
 
-pub use gate::{Gate, OpenGate, Who};
+pub use gate::{Gate, GatePass, OpenGate, Who, pass_gate};
 pub use plan::Planned;
 pub use stop::{ReaderEnd, Stop, WorkerEnd};
 

@@ -3,13 +3,28 @@ use Rattle.std.proofs.Common.{refl, subst, inl, inr}
 use Rattle.std.specs.Prelude.{◌++◌, true, false, List, [], ◌∷◌, Option, None, Some}
 use Rattle.wait_rule.specs.Aside.{Grows}
 use Rattle.wait_rule.specs.Known.{Known}
+use Rattle.wait_rule.specs.PipeSays.{EndsStay}
 use Rattle.copy_plan.specs.declared.stop.Stop.{Stop}
 use Rattle.copy_plan.specs.declared.stop.Stop.TheVariants as stop
 use Rattle.copy_turns.specs.Turns.{AreTurns, Begun, EndsTurns, Turns}
-use Rattle.copy_turns.specs.Work.{TookOwn}
+use Rattle.copy_turns.specs.Work.{SignalsStay, TookOwn}
+use Rattle.copy_turns.proofs.PartLaws.{grows_same}
 
-pub begun : (a b c : Known) → TookOwn a b false → Grows b c → Begun a c
-begun a b c own later = record { spared = b; own = own; later = later }
+-- signals were raised, and then other things were done
+pub begun : (a b c d : Known) → TookOwn a b false → Grows b c → EndsStay b c → Grows c d → SignalsStay c d → Begun a d
+begun a b c d own sends unmoved later silent = record {
+  spared = b;
+  own = own;
+  sent = c;
+  sends = sends;
+  unmoved = unmoved;
+  later = later;
+  silent = silent;
+}
+
+-- none was raised
+pub begun_silent : (a b d : Known) → TookOwn a b false → Grows b d → SignalsStay b d → Begun a d
+begun_silent a b d own = begun a b b d own (grows_same b) (λ j. refl)
 
 pub turns_none : (k : Known) → Turns k k None
 turns_none k = record { moments = []; last = k; turns = refl; ends = refl }

@@ -45,7 +45,7 @@ use Rattle.copy_turns.proofs.PartLaws.{
   counted_then,
   ends_moved,
   ends_then,
-  grows_then,
+  grows_same,
   halt_before,
   moved_none,
   moved_ends,
@@ -255,7 +255,7 @@ module _ (a b c : Known) (l0 l1 : Option (List ℕ)) (f0 f1 r s : ℕ) (targets 
     counts = tt;
     signals = raised_sends a b c c targets (r + 1) s plan low apart.signals sends refl;
     long = long;
-    turns = turn_stops a c stop.Long (begun a b c own sends.works.grows);
+    turns = turn_stops a c stop.Long (begun a b c c own sends.works.grows sends.ends (grows_same c) refl);
     later = later;
     cause = tt;
   }
@@ -278,7 +278,7 @@ module _ (a b c : Known) (l0 l1 : Option (List ℕ)) (f0 f1 r s : ℕ) (targets 
       counts = refl;
       signals = raised_sends a b c d targets (r + 1) s plan low apart.signals sends h.signals;
       long = few;
-      turns = turn_on a d (begun a b d own (grows_then b c d sends.works.grows h.works.grows));
+      turns = turn_on a d (begun a b c d own sends.works.grows sends.ends h.works.grows h.signals);
       later = later;
       cause = tt;
     }
@@ -302,7 +302,7 @@ module _ (a b c : Known) (l0 l1 : Option (List ℕ)) (f0 f1 r s : ℕ) (targets 
       signals = raised_sends a b c d targets (r + 1) s plan low apart.signals sends h.signals;
       long = halt_long how s few;
       turns = turn_stops a d (stop_of how)
-          (begun a b d own (grows_then b c d sends.works.grows h.works.grows));
+          (begun a b c d own sends.works.grows sends.ends h.works.grows h.signals);
       later = later;
       cause = halt_reads a d (HasRisen f0 f1) how
           (halt_before (write_end SOURCE_PIPE) a c d how sent_works_all.grows h.cause);

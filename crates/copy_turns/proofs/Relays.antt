@@ -16,7 +16,7 @@ use Rattle.copy_plan.specs.declared.stop.Stop.TheVariants as stop
 use Rattle.copy_plan.specs.Stops.{stop_of}
 use Rattle.copy_turns.specs.Turns.{Got, HandedAll, HandedFront, IsRelayStop, Relaying}
 use Rattle.copy_turns.specs.Work.{Apart, IsAtWork, IsHalt, IsOwnHalt, TookKill, TookOwn}
-use Rattle.copy_turns.proofs.Begins.{begun, turn_killed, turn_on, turn_stops, turns_none, turns_then}
+use Rattle.copy_turns.proofs.Begins.{begun_silent, turn_killed, turn_on, turn_stops, turns_none, turns_then}
 use Rattle.copy_turns.proofs.PartLaws.{
   counted_none,
   counted_same,
@@ -167,7 +167,7 @@ module _ (a b c : Known) (m : ℕ) (small : m < 2 ^ 64) (pen : IsSettled (writin
     counts = finished how (0 ≡ length bytes) (sym (ap length none));
     sum = sum_none m small;
     signals = g.signals ∙ apart.signals;
-    turns = turn_stops a c how (begun a b c own g.works.grows);
+    turns = turn_stops a c how (begun_silent a b c own g.works.grows g.signals);
     cause = cause;
   }
 
@@ -212,7 +212,8 @@ module _ (a b c : Known) (m : ℕ) (small : m < 2 ^ 64) (pen : IsSettled (writin
       counts = refl;
       sum = sum;
       signals = w.signals ∙ (g.signals ∙ apart.signals);
-      turns = turn_on a d (begun a b d own (grows_then b c d g.works.grows w.works.grows));
+      turns = turn_on a d (begun_silent a b d own
+          (grows_then b c d g.works.grows w.works.grows) (w.signals ∙ g.signals));
       cause = tt;
     }
 
@@ -235,6 +236,7 @@ module _ (a b c : Known) (m : ℕ) (small : m < 2 ^ 64) (pen : IsSettled (writin
       counts = halted_whole h (0 ≡ length bytes);
       sum = sum_none m small;
       signals = w.signals ∙ (g.signals ∙ apart.signals);
-      turns = turn_stops a d (stop_of h) (begun a b d own (grows_then b c d g.works.grows w.works.grows));
+      turns = turn_stops a d (stop_of h) (begun_silent a b d own
+          (grows_then b c d g.works.grows w.works.grows) (w.signals ∙ g.signals));
       cause = relay_before a c d (works_then a b c apart.works g.works).grows (stop_of h) (halt_stops c d h w.cause);
     }

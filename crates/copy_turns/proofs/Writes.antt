@@ -21,7 +21,7 @@ use Rattle.copy_plan.specs.Stops.{stop_of}
 use Rattle.copy_turns.specs.Turns.{CountedAll, Got, IfWhole, IsWriterStop, SinkRises, Writing}
 use Rattle.copy_turns.specs.Watched.{IsPiece, UnlessFailed}
 use Rattle.copy_turns.specs.Work.{Apart, IsAtWork, IsOwnHalt, TookKill, TookOwn}
-use Rattle.copy_turns.proofs.Begins.{begun, turn_killed, turn_on, turn_stops, turns_none, turns_then}
+use Rattle.copy_turns.proofs.Begins.{begun_silent, turn_killed, turn_on, turn_stops, turns_none, turns_then}
 use Rattle.copy_turns.proofs.PartLaws.{
   counted_none,
   counted_same,
@@ -189,7 +189,7 @@ module _ (a b c : Known) (m : ℕ) (small : m < 2 ^ 64) (apart : Apart a b) (own
     counts = finished how (0 ≡ length bytes) (sym (ap length none));
     sum = sum_none m small;
     signals = g.signals ∙ apart.signals;
-    turns = turn_stops a c how (begun a b c own g.works.grows);
+    turns = turn_stops a c how (begun_silent a b c own g.works.grows g.signals);
     later = omega arith;
     rises = rises;
     cause = cause;
@@ -226,7 +226,7 @@ module _ (a b c : Known) (m : ℕ) (small : m < 2 ^ 64) (apart : Apart a b) (own
     counts = unfinished (0 ≡ length bytes);
     sum = sum_none m small;
     signals = g.signals ∙ apart.signals;
-    turns = turn_stops a c how (begun a b c own g.works.grows);
+    turns = turn_stops a c how (begun_silent a b c own g.works.grows g.signals);
     later = later;
     rises = rises;
     cause = cause;
@@ -252,7 +252,8 @@ module _ (a b c : Known) (m : ℕ) (small : m < 2 ^ 64) (apart : Apart a b) (own
       counts = refl;
       sum = sum;
       signals = w.signals ∙ (g.signals ∙ apart.signals);
-      turns = turn_on a d (begun a b d own (grows_then b c d g.works.grows w.works.grows));
+      turns = turn_on a d (begun_silent a b d own
+          (grows_then b c d g.works.grows w.works.grows) (w.signals ∙ g.signals));
       later = omega arith;
       rises = (fs, vs);
       cause = tt;
@@ -275,7 +276,8 @@ module _ (a b c : Known) (m : ℕ) (small : m < 2 ^ 64) (apart : Apart a b) (own
       counts = halted_whole h (0 ≡ length bytes);
       sum = sum_none m small;
       signals = w.signals ∙ (g.signals ∙ apart.signals);
-      turns = turn_stops a d (stop_of h) (begun a b d own (grows_then b c d g.works.grows w.works.grows));
+      turns = turn_stops a d (stop_of h) (begun_silent a b d own
+          (grows_then b c d g.works.grows w.works.grows) (w.signals ∙ g.signals));
       later = omega arith;
       rises = subst (λ f. SinkRises f0 f v0 v1 (Some (stop_of h))) (sym fs)
           (subst (λ v. SinkRises f0 f0 v0 v (Some (stop_of h))) (sym vs) (halt_rises f0 v0 h));

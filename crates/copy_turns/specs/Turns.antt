@@ -82,11 +82,16 @@ IsReaderStop old new risen stop.Long = Unit {0}
 IsReaderStop old new risen (stop.Worn h p) = WasWorn new.view.number new.view.items h p
 IsReaderStop old new risen _ = ⊥
 
--- A turn begins with a take of the own signals, and none of them is fatal.
+-- A turn begins with a take of the own signals, and none of them is fatal. What signals of others it raises come behind
+-- that, before a byte is put into a pipe or taken out of one; and none after.
 pub record Begun (old new : Known) : Type 0 where
   pub spared : Known
   pub own : TookOwn old spared false
-  pub later : Grows spared new
+  pub sent : Known
+  pub sends : Grows spared sent
+  pub unmoved : EndsStay spared sent
+  pub later : Grows sent new
+  pub silent : SignalsStay sent new
 
 -- turns one after another, of which each but the first begins at one of the moments, and the last ends at `new`
 abbrev pub AreTurns : Known → List Known → Known → Type 0

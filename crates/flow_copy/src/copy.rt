@@ -11,6 +11,7 @@ ghost use Rattle.copy_plan.specs.declared.stop.Stop.TheVariants as stop;
 ghost use Rattle.copy_ends.specs.Copied.{Copied, HasNoSteps, HoldsAll, HoldsGiven, NoneTaken, ReadTally, Watched};
 
 use crate::workers::{Parts, four_at_once};
+use bit_wait::BitEnd;
 use copy_ends::{control_stop, fork_four, join_four};
 use copy_plan::gate::Gate;
 use copy_plan::kinds::copy_stop;
@@ -23,8 +24,8 @@ use std::sync::Wait;
 use std::thread::Threads;
 use wait_rule::{Domain, Task};
 
-/// What a copy left: the source, the sink and the watchers, how each worker ended, the sum of what they counted, modulo
-/// 2^64, and how the copy ended.
+/// What a copy left: the source, the sink and the watchers, how each worker ended, what the controller answered, the sum
+/// of what the workers counted, modulo 2^64, and how the copy ended.
 #[derive(Drop)]
 pub struct CopyEnd<S, K, W> {
     pub source: S,
@@ -33,6 +34,7 @@ pub struct CopyEnd<S, K, W> {
     pub reader: ReaderEnd,
     pub relay: WorkerEnd,
     pub writer: WorkerEnd,
+    pub total: Result<u64, BitEnd>,
     pub moved: u64,
     pub stop: Stop,
 }
@@ -126,7 +128,7 @@ pub fn copy_all<
     ensures copied { IfOk result (λ end. Copied domain.now task.new (S.left source) (S.left end.source)
         (S.faults source) (S.faults end.source) (K.held sink) (K.held end.sink) (K.faults sink) (K.faults end.sink)
         (K.wants sink) (K.wants end.sink) (W.entries watch) (W.entries end.watch) plan.now end.reader end.relay
-        end.writer end.stop) }
+        end.writer end.stop end.total) }
     ensures front { IfOk result (λ end. HoldsGiven (S.left source) (S.left end.source) (K.held sink)
         (K.held end.sink)) }
     ensures watched { IfOk result (λ end. Watched (S.left source) (S.left end.source) (K.held sink) (K.held end.sink)
@@ -167,6 +169,7 @@ pub fn copy_all<
         reader,
         relay,
         writer,
+        total,
         moved,
         stop,
     })

@@ -5,6 +5,7 @@ ghost use Rattle.std.specs.Io.KnownBytes.{prepend_known};
 ghost use Rattle.wait_rule.specs.PipeSays.{writing};
 ghost use Rattle.wait_pipe.specs.Pieces.{IsSettled};
 ghost use Rattle.edge_io.specs.Faults.{HasRisen};
+ghost use Rattle.copy_plan.specs.declared.gate.Who.TheVariants as who;
 ghost use Rattle.copy_plan.specs.declared.TheConstants.{LONGEST, PIECE, SIGNALS, SOURCE_PIPE};
 ghost use Rattle.copy_ends.specs.Did.{IsIdler, ReaderDid, ReaderWorked};
 ghost use Rattle.copy_turns.specs.Turns.{Reading};
@@ -12,7 +13,7 @@ ghost use Rattle.copy_turns.specs.Work.{IsAtWork};
 
 use crate::parts::hand_on;
 use completion_cell::completes::complete;
-use copy_plan::gate::{Gate, Who};
+use copy_plan::gate::{Gate, GatePass, Who, pass_gate};
 use copy_plan::plan::count_due;
 use copy_plan::stop::{NOT_READ, ReaderEnd, Stop, stop_of};
 use copy_plan::{ENDED_CELL, LONGEST, PIECE, Planned, SOURCE_PIPE};
@@ -28,6 +29,7 @@ fn read_turn<R: Wait, S: Source>(
     rt: &R,
     domain: &Domain,
     task: &mut Task,
+    pass: GatePass,
     source: &mut S,
     plan: &[Planned],
     targets: [u8; 3],
@@ -35,11 +37,13 @@ fn read_turn<R: Wait, S: Source>(
 ) -> Option<Stop>
     requires of { task.old.domain ≡ domain.now }
     requires work { IsAtWork task.old }
+    requires own { pass.who ≡ who.Reader }
     requires settled { IsSettled (writing SOURCE_PIPE task.old) }
     requires short { read.old ≤ LONGEST }
     ensures turn { Reading task.old task.new (S.left source.old) (S.left source.new) (S.faults source.old)
         (S.faults source.new) read.old read.new targets plan.now result }
 {
+    pass.spend();
     if is_killed(domain, task) {
         return Some(Stop::Killed);
     }
@@ -98,8 +102,8 @@ fn read_on<R: Wait, S: Source, G: Gate>(
     let mut turn: u64 = 0;
     for _ in rt.forever() {
         turn = turn.saturating_add(1);
-        gate.pass(Who::Reader, turn);
-        match read_turn(rt, domain, task, source, plan, targets, read) {
+        let pass = pass_gate(gate, Who::Reader, turn);
+        match read_turn(rt, domain, task, pass, source, plan, targets, read) {
             None => {}
             Some(stop) => return stop,
         }

@@ -3,6 +3,7 @@
 ghost use Rattle.std.specs.Prelude.{◌≡◌, Some};
 ghost use Rattle.wait_rule.specs.PipeSays.{reading, writing};
 ghost use Rattle.wait_pipe.specs.Pieces.{IsSettled};
+ghost use Rattle.copy_plan.specs.declared.gate.Who.TheVariants as who;
 ghost use Rattle.copy_plan.specs.declared.TheConstants.{SINK_PIPE, SOURCE_PIPE};
 ghost use Rattle.copy_ends.specs.Did.{IsIdler, RelayDid, RelayWorked};
 ghost use Rattle.copy_turns.specs.Turns.{Relaying};
@@ -10,7 +11,7 @@ ghost use Rattle.copy_turns.specs.Work.{IsAtWork};
 
 use crate::parts::hand_on;
 use completion_cell::completes::complete;
-use copy_plan::gate::{Gate, Who};
+use copy_plan::gate::{Gate, GatePass, Who, pass_gate};
 use copy_plan::stop::{NOT_TAKEN, Stop, WorkerEnd, stop_of};
 use copy_plan::{ENDED_CELL, PIECE, SINK_PIPE, SOURCE_PIPE};
 use copy_turns::{get, is_killed};
@@ -20,14 +21,22 @@ use wait_rule::{Domain, Task};
 
 /// A turn: takes the own signals, takes a piece out of the first pipe, and puts it into the second. `moved` is what the
 /// relay has counted, modulo 2^64. None where it goes on.
-fn relay_turn<R: Wait>(rt: &R, domain: &Domain, task: &mut Task, moved: &mut u64) -> Option<Stop>
+fn relay_turn<R: Wait>(
+    rt: &R,
+    domain: &Domain,
+    task: &mut Task,
+    pass: GatePass,
+    moved: &mut u64,
+) -> Option<Stop>
     requires of { task.old.domain ≡ domain.now }
     requires work { IsAtWork task.old }
+    requires own { pass.who ≡ who.Relay }
     requires tap { IsSettled (reading SOURCE_PIPE task.old) }
     requires pen { IsSettled (writing SINK_PIPE task.old) }
     ensures turn { Relaying task.old task.new moved.old moved.new result }
 {
     let counted = *moved;
+    pass.spend();
     if is_killed(domain, task) {
         return Some(Stop::Killed);
     }
@@ -60,8 +69,8 @@ fn relay_on<R: Wait, G: Gate>(rt: &R, domain: &Domain, task: &mut Task, gate: &G
     let mut turn: u64 = 0;
     for _ in rt.forever() {
         turn = turn.saturating_add(1);
-        gate.pass(Who::Relay, turn);
-        if let Some(stop) = relay_turn(rt, domain, task, &mut moved) {
+        let pass = pass_gate(gate, Who::Relay, turn);
+        if let Some(stop) = relay_turn(rt, domain, task, pass, &mut moved) {
             return WorkerEnd { stop, moved };
         }
     }

@@ -3,6 +3,7 @@
 ghost use Rattle.std.specs.Prelude.{◌≡◌, Some};
 ghost use Rattle.wait_rule.specs.PipeSays.{reading};
 ghost use Rattle.wait_pipe.specs.Pieces.{IsSettled};
+ghost use Rattle.copy_plan.specs.declared.gate.Who.TheVariants as who;
 ghost use Rattle.copy_plan.specs.declared.TheConstants.{SINK_PIPE};
 ghost use Rattle.copy_ends.specs.Did.{IsIdler, WriterDid, WriterWorked};
 ghost use Rattle.copy_turns.specs.Turns.{Writing};
@@ -10,7 +11,7 @@ ghost use Rattle.copy_turns.specs.Work.{IsAtWork};
 
 use crate::parts::count;
 use completion_cell::completes::complete;
-use copy_plan::gate::{Gate, Who};
+use copy_plan::gate::{Gate, GatePass, Who, pass_gate};
 use copy_plan::stop::{NOT_TAKEN, Stop, WorkerEnd, stop_of};
 use copy_plan::{ENDED_CELL, PIECE, SINK_PIPE};
 use copy_turns::{get, is_killed};
@@ -26,17 +27,20 @@ fn write_turn<R: Wait, K: Sink, W: Watchers>(
     rt: &R,
     domain: &Domain,
     task: &mut Task,
+    pass: GatePass,
     sink: &mut K,
     watch: &mut W,
     moved: &mut u64,
 ) -> Option<Stop>
     requires of { task.old.domain ≡ domain.now }
     requires work { IsAtWork task.old }
+    requires own { pass.who ≡ who.Writer }
     requires settled { IsSettled (reading SINK_PIPE task.old) }
     ensures turn { Writing task.old task.new (K.held sink.old) (K.held sink.new) (K.faults sink.old) (K.faults sink.new)
         (K.wants sink.old) (K.wants sink.new) (W.entries watch.old) (W.entries watch.new) moved.old moved.new result }
 {
     let counted = *moved;
+    pass.spend();
     if is_killed(domain, task) {
         return Some(Stop::Killed);
     }
@@ -83,8 +87,8 @@ fn write_on<R: Wait, K: Sink, W: Watchers, G: Gate>(
     let mut turn: u64 = 0;
     for _ in rt.forever() {
         turn = turn.saturating_add(1);
-        gate.pass(Who::Writer, turn);
-        if let Some(stop) = write_turn(rt, domain, task, sink, watch, &mut moved) {
+        let pass = pass_gate(gate, Who::Writer, turn);
+        if let Some(stop) = write_turn(rt, domain, task, pass, sink, watch, &mut moved) {
             return WorkerEnd { stop, moved };
         }
     }

@@ -90,19 +90,19 @@ module _ (domain : TableId) (task : Known) (old new : Outside) (src dst : List �
     (t : Through domain task old.files new.files old.reads new.reads old.writes new.writes src dst plan seen_old
     seen_new reader how moved stored) where
   risen_read : how ≡ stop.ReadFault → HasRisen old.reads new.reads
-  risen_read e = t.reads (read_fault_of _ _ _ _ _ _ _ _ _ _ _ _ _ _ _ _ _ t.copied e)
+  risen_read e = t.reads (read_fault_of _ _ _ _ _ _ _ _ _ _ _ _ _ _ _ _ _ _ t.copied e)
 
   risen_write : (how ≡ stop.WriteFault) ⊎ (stored ≡ Err sink.Failed) → HasRisen old.writes new.writes
-  risen_write (inl e) = t.writes (write_fault_of _ _ _ _ _ _ _ _ _ _ _ _ _ _ _ _ _ t.copied e)
+  risen_write (inl e) = t.writes (write_fault_of _ _ _ _ _ _ _ _ _ _ _ _ _ _ _ _ _ _ t.copied e)
   risen_write (inr e) = t.refused e
 
   full : (p : ℕ) → (h : ℕ) × (how ≡ stop.Worn h p) → WasFull task p
-  full p w = worn_of _ _ _ _ _ _ _ _ _ _ _ _ _ _ _ _ _ t.copied w.0 p w.1
+  full p w = worn_of _ _ _ _ _ _ _ _ _ _ _ _ _ _ _ _ _ _ t.copied w.0 p w.1
 
   pub finishes : Fine how stored → how ≡ stop.Finished
   finishes (finished e s) = e
-  finishes (broken e) = absurd (not_broken _ _ _ _ _ _ _ _ _ _ _ _ _ _ _ _ _ t.copied e)
-  finishes (taken e) = absurd (not_taken _ _ _ _ _ _ _ _ _ _ _ _ _ _ _ _ _ t.copied e)
+  finishes (broken e) = absurd (not_broken _ _ _ _ _ _ _ _ _ _ _ _ _ _ _ _ _ _ t.copied e)
+  finishes (taken e) = absurd (not_taken _ _ _ _ _ _ _ _ _ _ _ _ _ _ _ _ _ _ t.copied e)
 
   reads_short : how ≡ stop.Finished → reader.read ≤ LONGEST
   reads_short e = short_of reader.stop reader.read (t.whole e).all.reads t.copied.reads.worked.long
@@ -120,9 +120,9 @@ module _ (domain : TableId) (task : Known) (old new : Outside) (src dst : List �
       read = λ e. risen_read (after_read how stored (is ∙ ap Some (same fault.Read e)));
       write = λ e. inl (risen_write (after_write how stored (is ∙ ap Some (same fault.Write e))));
       worn = λ p e. full p (after_worn how stored p (is ∙ ap Some (same (fault.Worn p) e)));
-      long = λ e. long_of _ _ _ _ _ _ _ _ _ _ _ _ _ _ _ _ _ t.copied
+      long = λ e. long_of _ _ _ _ _ _ _ _ _ _ _ _ _ _ _ _ _ _ t.copied
           (after_long how stored (is ∙ ap Some (same fault.Long e)));
-      killed = λ e. killed_of _ _ _ _ _ _ _ _ _ _ _ _ _ _ _ _ _ t.copied
+      killed = λ e. killed_of _ _ _ _ _ _ _ _ _ _ _ _ _ _ _ _ _ _ t.copied
           (after_killed how stored (is ∙ ap Some (same fault.Killed e)));
       finished = λ e. absurd (never e);
       spared = λ e. absurd (never e);
@@ -142,7 +142,7 @@ module _ (domain : TableId) (task : Known) (old new : Outside) (src dst : List �
       long = λ e. absurd (no_text fault.Long e c);
       killed = λ e. absurd (no_text fault.Killed e c);
       finished = λ e. done;
-      spared = λ e. finished_of _ _ _ _ _ _ _ _ _ _ _ _ _ _ _ _ _ t.copied done;
+      spared = λ e. finished_of _ _ _ _ _ _ _ _ _ _ _ _ _ _ _ _ _ _ t.copied done;
       short = λ e. reads_short done;
       counted = λ e. thrice reader.read moved (reads_short done) (t.whole done).moved;
     }

@@ -6,6 +6,7 @@ use Rattle.edge_io.specs.declared.sink.SinkFault.{SinkFault}
 use Rattle.edge_io.specs.declared.sink.SinkFault.TheVariants as sink
 use Rattle.edge_io.specs.Faults.{HasRisen}
 use Rattle.edge_io.specs.Folders.{Files, HasBytes, HoldsNothing, Stores}
+use Rattle.bit_wait.specs.declared.wait_calls.BitEnd.{BitEnd}
 use Rattle.wait_rule.specs.Known.{Known}
 use Rattle.wait_rule.specs.TallyLaws.{tally_in}
 use Rattle.func_head.specs.Walks.{EntryState}
@@ -29,10 +30,10 @@ module _ (domain : TableId) (task : Known) (files_old files_mid files_new : Opti
     (reads_old reads_mid reads_new writes_old writes_mid writes_new : ℕ) (src dst : List ℕ) (plan : List Planned)
     (left_old left_new held_old held_new : Option (List ℕ)) (opened read_faults made write_faults : ℕ)
     (wants_old wants_new : ℕ) (seen_old seen_new : List EntryState) (reader : ReaderEnd) (relay writer : WorkerEnd)
-    (how : Stop) (moved : ℕ) (stored : Result (Unit {0}) SinkFault) where
+    (how : Stop) (moved : ℕ) (stored : Result (Unit {0}) SinkFault) (total : Result ℕ BitEnd) where
   pub passed : HasBytes files_old src left_old → opened ≡ 0 → HoldsNothing files_old held_old → made ≡ 0
       → Copied domain task left_old left_new opened read_faults held_old held_new made write_faults wants_old wants_new
-      seen_old seen_new plan reader relay writer how
+      seen_old seen_new plan reader relay writer how total
       → HoldsGiven left_old left_new held_old held_new
       → Watched left_old left_new held_old held_new seen_old seen_new writer.stop
       → (how ≡ stop.Finished → HoldsAll left_old held_old held_new seen_old seen_new reader relay writer moved)
@@ -57,16 +58,17 @@ module _ (domain : TableId) (task : Known) (files_old files_mid files_new : Opti
         writer = writer;
         found = found;
         empty = empty;
+        total = total;
         copied = subst (λ (n : ℕ). Copied domain task left_old left_new 0 read_faults held_old held_new n write_faults
-            wants_old wants_new seen_old seen_new plan reader relay writer how) at_once
+            wants_old wants_new seen_old seen_new plan reader relay writer how total) at_once
             (subst (λ (n : ℕ). Copied domain task left_old left_new n read_faults held_old held_new made write_faults
-            wants_old wants_new seen_old seen_new plan reader relay writer how) at_first copied);
+            wants_old wants_new seen_old seen_new plan reader relay writer how total) at_first copied);
         front = front;
         watched = watched;
         whole = whole;
-        size = λ e. size_of _ _ _ _ _ _ _ _ _ _ _ _ _ _ _ _ _ _ _ copied (whole e).all.reads;
-        sent = sent_of _ _ _ _ _ _ _ _ _ _ _ _ _ _ _ _ _ _ _ copied none_taken;
-        kills = kills_are _ _ _ _ _ _ _ _ _ _ _ _ _ _ _ _ _ _ _ copied none_taken;
+        size = λ e. size_of _ _ _ _ _ _ _ _ _ _ _ _ _ _ _ _ _ _ _ _ copied (whole e).all.reads;
+        sent = sent_of _ _ _ _ _ _ _ _ _ _ _ _ _ _ _ _ _ _ _ _ copied none_taken;
+        kills = kills_are _ _ _ _ _ _ _ _ _ _ _ _ _ _ _ _ _ _ _ _ copied none_taken;
         tally = tally;
         none_taken = none_taken;
         stores = is_stored stored files_old files_mid files_new dst held_new closed stores same;

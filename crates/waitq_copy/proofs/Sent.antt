@@ -1,7 +1,8 @@
 -- How much the reader of a copy read, and which planned signals it sent.
 use Rattle.std.proofs.Common.{◌≡◌, ℕ, ◌<◌, List, [], ◌∷◌, length, refl, sym, ap, ◌∙◌, subst, Bool, true, false, arith}
-use Rattle.std.specs.Prelude.{Option, IfSome, ◌&&◌, nat_le, if◌then◌else◌}
+use Rattle.std.specs.Prelude.{Option, Result, IfSome, ◌&&◌, nat_le, if◌then◌else◌}
 use Rattle.atomic_table.specs.Seated.{TableId}
+use Rattle.bit_wait.specs.declared.wait_calls.BitEnd.{BitEnd}
 use Rattle.wait_rule.specs.Known.{Known}
 use Rattle.func_head.specs.Walks.{EntryState}
 use Rattle.copy_plan.specs.declared.plan.Planned.{Planned}
@@ -21,9 +22,9 @@ own s X Y n h = h
 module _ (domain : TableId) (task : Known) (left_old left_new : Option (List ℕ)) (reads_old reads_new : ℕ)
     (held_old held_new : Option (List ℕ)) (writes_old writes_new wants_old wants_new : ℕ)
     (seen_old seen_new : List EntryState) (plan : List Planned) (reader : ReaderEnd) (relay writer : WorkerEnd)
-    (how : Stop)
+    (how : Stop) (total : Result ℕ BitEnd)
     (c : Copied domain task left_old left_new reads_old reads_new held_old held_new writes_old writes_new wants_old
-    wants_new seen_old seen_new plan reader relay writer how) where
+    wants_new seen_old seen_new plan reader relay writer how total) where
   due_is : NoneTaken reader relay writer → c.reads.worked.due ≡ up_to reader.read plan
   due_is n = own reader.stop _ _ n.0 c.reads.worked.dues
 

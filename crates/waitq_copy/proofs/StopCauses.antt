@@ -201,12 +201,12 @@ rises (suc n) h = omega arith
 module _ (domain : TableId) (task : Known) (left_old left_new : Option (List ℕ)) (reads_new : ℕ)
     (held_old held_new : Option (List ℕ)) (writes_new wants_old wants_new : ℕ)
     (seen_old seen_new : List EntryState) (plan : List Planned) (reader : ReaderEnd) (relay writer : WorkerEnd)
-    (how : Stop)
+    (how : Stop) (total : Result ℕ BitEnd)
     (c : Copied domain task left_old left_new 0 reads_new held_old held_new 0 writes_new wants_old wants_new seen_old
-    seen_new plan reader relay writer how) where
-  cause : (s : Stop) → how ≡ s → Cause (reader.stop ∷ relay.stop ∷ writer.stop ∷ control_stop c.total ∷ [])
+    seen_new plan reader relay writer how total) where
+  cause : (s : Stop) → how ≡ s → Cause (reader.stop ∷ relay.stop ∷ writer.stop ∷ control_stop total ∷ [])
       reader.kills s
-  cause s e = cause_of reader.stop relay.stop writer.stop (control_stop c.total) reader.kills s
+  cause s e = cause_of reader.stop relay.stop writer.stop (control_stop total) reader.kills s
       (sym c.stops ∙ e)
 
   reader_stop : (s : Stop) → reader.stop ≡ s
@@ -223,17 +223,17 @@ module _ (domain : TableId) (task : Known) (left_old left_new : Option (List ℕ
   writer_stop s e = subst (λ (x : Stop). IfTaken x (Unit {0}) (IsWriterStop (newcomer domain 3 4 0) c.three
       (HasRisen 0 writes_new) (HasRisen wants_old wants_new) x)) e c.writes.worked.cause
 
-  no_control : (s : Stop) → (s ≡ stop.Finished → ⊥) → ((h p : ℕ) → s ≡ stop.Worn h p → ⊥) → control_stop c.total ≡ s → ⊥
-  no_control s nf nw e = by (controls c.total s e)
+  no_control : (s : Stop) → (s ≡ stop.Finished → ⊥) → ((h p : ℕ) → s ≡ stop.Worn h p → ⊥) → control_stop total ≡ s → ⊥
+  no_control s nf nw e = by (controls total s e)
     where
-      by : (s ≡ stop.Finished) ⊎ ((h : ℕ) × (p : ℕ) × (c.total ≡ Err (bit_end.Worn h p)) × (s ≡ stop.Worn h p)) → ⊥
+      by : (s ≡ stop.Finished) ⊎ ((h : ℕ) × (p : ℕ) × (total ≡ Err (bit_end.Worn h p)) × (s ≡ stop.Worn h p)) → ⊥
       by (inl f) = nf f
       by (inr w) = nw w.0 w.1 w.3
 
   pub read_fault_of : how ≡ stop.ReadFault → 0 < reads_new
   read_fault_of e = by (among_named _ reader.kills stop.ReadFault (λ f. cc f) (λ f. cc f) (cause stop.ReadFault e))
     where
-      by : Among stop.ReadFault (reader.stop ∷ relay.stop ∷ writer.stop ∷ control_stop c.total ∷ []) → 0 < reads_new
+      by : Among stop.ReadFault (reader.stop ∷ relay.stop ∷ writer.stop ∷ control_stop total ∷ []) → 0 < reads_new
       by (inl f) = rises reads_new (reader_stop stop.ReadFault f)
       by (inr (inl f)) = absurd (relay_stop stop.ReadFault f)
       by (inr (inr (inl f))) = absurd (writer_stop stop.ReadFault f)
@@ -243,7 +243,7 @@ module _ (domain : TableId) (task : Known) (left_old left_new : Option (List ℕ
   pub write_fault_of : how ≡ stop.WriteFault → 0 < writes_new
   write_fault_of e = by (among_named _ reader.kills stop.WriteFault (λ f. cc f) (λ f. cc f) (cause stop.WriteFault e))
     where
-      by : Among stop.WriteFault (reader.stop ∷ relay.stop ∷ writer.stop ∷ control_stop c.total ∷ []) → 0 < writes_new
+      by : Among stop.WriteFault (reader.stop ∷ relay.stop ∷ writer.stop ∷ control_stop total ∷ []) → 0 < writes_new
       by (inl f) = absurd (reader_stop stop.WriteFault f)
       by (inr (inl f)) = absurd (relay_stop stop.WriteFault f)
       by (inr (inr (inl f))) = rises writes_new (writer_stop stop.WriteFault f)
@@ -253,7 +253,7 @@ module _ (domain : TableId) (task : Known) (left_old left_new : Option (List ℕ
   pub long_of : how ≡ stop.Long → LONGEST < reader.read
   long_of e = by (among_named _ reader.kills stop.Long (λ f. cc f) (λ f. cc f) (cause stop.Long e))
     where
-      by : Among stop.Long (reader.stop ∷ relay.stop ∷ writer.stop ∷ control_stop c.total ∷ []) → LONGEST < reader.read
+      by : Among stop.Long (reader.stop ∷ relay.stop ∷ writer.stop ∷ control_stop total ∷ []) → LONGEST < reader.read
       by (inl f) = subst (λ (x : Stop). IsLong (Some x) reader.read) f c.reads.worked.long
       by (inr (inl f)) = absurd (relay_stop stop.Long f)
       by (inr (inr (inl f))) = absurd (writer_stop stop.Long f)
@@ -263,7 +263,7 @@ module _ (domain : TableId) (task : Known) (left_old left_new : Option (List ℕ
   pub worn_of : (h p : ℕ) → how ≡ stop.Worn h p → WasFull task p
   worn_of h p e = by (among_named _ reader.kills (stop.Worn h p) (λ f. cc f) (λ f. cc f) (cause (stop.Worn h p) e))
     where
-      counted : (h2 p2 : ℕ) → c.total ≡ Err (bit_end.Worn h2 p2) → stop.Worn h p ≡ stop.Worn h2 p2 → WasFull task p
+      counted : (h2 p2 : ℕ) → total ≡ Err (bit_end.Worn h2 p2) → stop.Worn h p ≡ stop.Worn h2 p2 → WasFull task p
       counted h2 p2 t s =
           let w : WasWorn c.four.view.number c.four.view.items h2 p2 =
           subst (λ (r : Result ℕ BitEnd). ControlEnds (newcomer domain 4 5 0) c.four r) t c.ends in
@@ -273,19 +273,19 @@ module _ (domain : TableId) (task : Known) (left_old left_new : Option (List ℕ
           (subst (λ (x : ℕ). WasWorn c.four.view.number c.four.view.items h x) same_place
           (subst (λ (x : ℕ). WasWorn c.four.view.number c.four.view.items x p2) same_head w))
 
-      control : ((stop.Worn h p) ≡ stop.Finished) ⊎ ((h2 : ℕ) × (p2 : ℕ) × (c.total ≡ Err (bit_end.Worn h2 p2))
+      control : ((stop.Worn h p) ≡ stop.Finished) ⊎ ((h2 : ℕ) × (p2 : ℕ) × (total ≡ Err (bit_end.Worn h2 p2))
           × ((stop.Worn h p) ≡ stop.Worn h2 p2)) → WasFull task p
       control (inl f) = absurd (cc f)
       control (inr w) = counted w.0 w.1 w.2 w.3
 
-      by : Among (stop.Worn h p) (reader.stop ∷ relay.stop ∷ writer.stop ∷ control_stop c.total ∷ []) → WasFull task p
+      by : Among (stop.Worn h p) (reader.stop ∷ relay.stop ∷ writer.stop ∷ control_stop total ∷ []) → WasFull task p
       by (inl f) = full_at task c.one domain 1 2 h p c.reads.worked.served.grows c.lists.0
           (reader_stop (stop.Worn h p) f)
       by (inr (inl f)) = full_at task c.two domain 2 3 h p c.relays.worked.served.grows c.lists.1
           (relay_stop (stop.Worn h p) f)
       by (inr (inr (inl f))) = full_at task c.three domain 3 4 h p c.writes.worked.served.grows c.lists.2
           (writer_stop (stop.Worn h p) f)
-      by (inr (inr (inr (inl f)))) = control (controls c.total (stop.Worn h p) f)
+      by (inr (inr (inr (inl f)))) = control (controls total (stop.Worn h p) f)
       by (inr (inr (inr (inr f)))) = absurd f
 
   pub killed_of : how ≡ stop.Killed → 0 < reader.kills

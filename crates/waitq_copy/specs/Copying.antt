@@ -10,6 +10,7 @@ use Rattle.edge_io.specs.declared.sink.SinkFault.TheVariants as sink
 use Rattle.edge_io.specs.Faults.{HasRisen}
 use Rattle.edge_io.specs.Folders.{Files, HasBytes, HasNone, HoldsNothing, Stores}
 use Rattle.edge_io.specs.Text.{HoldsPrefix}
+use Rattle.bit_wait.specs.declared.wait_calls.BitEnd.{BitEnd}
 use Rattle.wait_rule.specs.Ends.{WasWorn}
 use Rattle.wait_rule.specs.Journals.{has_of}
 use Rattle.wait_rule.specs.Known.{Known}
@@ -166,8 +167,9 @@ pub record Through (domain : TableId) (task : Known) (files_old files_new : Opti
   pub writer : WorkerEnd
   pub found : HasBytes files_old src left_old
   pub empty : HoldsNothing files_old held_old
+  pub total : Result ℕ BitEnd
   pub copied : Copied domain task left_old left_new 0 read_faults held_old held_new 0 write_faults wants_old wants_new
-      seen_old seen_new plan reader relay writer how
+      seen_old seen_new plan reader relay writer how total
   pub front : HoldsGiven left_old left_new held_old held_new
   pub watched : Watched left_old left_new held_old held_new seen_old seen_new writer.stop
   pub whole : how ≡ stop.Finished → HoldsAll left_old held_old held_new seen_old seen_new reader relay writer moved

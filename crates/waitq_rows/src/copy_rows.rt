@@ -291,6 +291,24 @@ fn a_kill_that_was_sent_ends_with_its_status(rt: HostRuntime) -> Result<(), Fail
     Ok(())
 }
 
+/// A kill that is sent before the first read stops its own worker at the beginning of its next turn: of what went on
+/// through this one no more has arrived than the piece of one turn.
+#[test]
+fn a_kill_at_0_stops_its_own_worker(rt: HostRuntime) -> Result<(), Fail> {
+    let bytes = bytes_of(rt.alloc(), 20_000)?;
+    for (event, most) in [
+        ("kill:reader@0", 0),
+        ("kill:relay@0", 4_096),
+        ("kill:writer@0", 4_096),
+    ] {
+        let left = run_on(&rt, rt.alloc(), &["copy", "a", "b", event], &bytes, NONE)?;
+        gave(&rt, &left, 6, "", "waitq: killed\n");
+        let arrived = front(&left, "b", &bytes);
+        assert!(rt; arrived.is_some_and(|size| size <= most), "{event}");
+    }
+    Ok(())
+}
+
 #[test]
 fn a_missing_file_ends_with_its_name(rt: HostRuntime) -> Result<(), Fail> {
     let left = run_on(&rt, rt.alloc(), &["copy", "c", "b"], b"x", NONE)?;

@@ -88,8 +88,17 @@ fn sink_fails(rt: HostRuntime) -> Result<(), Fail> {
     Ok(())
 }
 
+/// How a worker stopped.
+fn stop_of(end: &CopyEnd<MemSource, MemSink, NoWatchers>, who: Who) -> Stop {
+    match who {
+        Who::Reader => end.reader.stop,
+        Who::Relay => end.relay.stop,
+        Who::Writer => end.writer.stop,
+    }
+}
+
 /// A kill for each worker: what arrived is a front, and the copy says that it was killed exactly where the kill was
-/// sent.
+/// sent. One that was sent before the first read has stopped its own worker.
 #[test]
 fn workers_are_killed(rt: HostRuntime) -> Result<(), Fail> {
     for who in WORKERS {
@@ -105,6 +114,9 @@ fn workers_are_killed(rt: HostRuntime) -> Result<(), Fail> {
                 let stop = if sent { Stop::Killed } else { Stop::Finished };
                 assert_eq!(rt; end.stop, stop);
                 assert_eq!(rt; end.reader.kills, u8::from(sent));
+                if offset == 0 {
+                    assert_eq!(rt; stop_of(&end, who), Stop::Killed);
+                }
                 assert!(rt; holds_front(&end));
             }
         }
@@ -127,7 +139,8 @@ fn plain_signals(alloc: Global) -> Result<Vec<Planned>, AllocError> {
     Ok(plan)
 }
 
-/// All bytes arrive though each worker is signalled at each offset.
+/// All bytes arrive though each worker is signalled at each offset, and the controller has waited for all that they
+/// counted.
 #[test]
 fn plain_signals_change_nothing(rt: HostRuntime) -> Result<(), Fail> {
     let plan = plain_signals(rt.alloc())?;
@@ -138,6 +151,7 @@ fn plain_signals_change_nothing(rt: HostRuntime) -> Result<(), Fail> {
         let end = copy(&rt, rt.alloc(), &[], &[], &plan)?;
         assert_eq!(rt; end.stop, Stop::Finished);
         assert_eq!(rt; (end.reader.sent, end.moved), (15, 60_000));
+        assert!(rt; matches!(end.total, Ok(60_000)));
         assert_eq!(rt; end.sink.bytes().len(), SIZE);
         assert!(rt; holds_front(&end));
     }

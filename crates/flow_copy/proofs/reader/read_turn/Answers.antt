@@ -1,9 +1,9 @@
-use Rattle.std.proofs.Common.{◌∙◌, sym, subst, take, arith}
+use Rattle.std.proofs.Common.{◌∙◌, refl, sym, subst, take, arith}
 use Rattle.std.specs.Prelude.{◌+◌, Some}
 use Rattle.copy_plan.specs.declared.stop.Stop.{Stop}
 use Rattle.copy_plan.specs.declared.stop.Stop.TheVariants as stop
 use Rattle.copy_turns.specs.Turns.{Reading}
-use Rattle.copy_turns.proofs.Begins.{begun, turn_killed, turn_stops}
+use Rattle.copy_turns.proofs.Begins.{begun_silent, turn_killed, turn_stops}
 use Rattle.copy_turns.proofs.PartLaws.{grows_same}
 use Rattle.copy_turns.proofs.ReaderTurns.{
   given_length,
@@ -33,8 +33,8 @@ returns-in-Err g c = record {
       c.args.read.now c.args.targets c.args.plan.now c.requires.settled c.is_killed.ensures.apart
       (sym c.in-Err.ensures.nothing ∙ prepend_none (g.S.Source.left c.take_in.new.source)) c.take_in.ensures.later
       stop.ReadFault c.requires.short tt c.in-Err.ensures.cause
-      (turn_stops c.args.task.now c.is_killed.new.task stop.ReadFault (begun c.args.task.now c.is_killed.new.task
-      c.is_killed.new.task c.if-is_killed.ensures.own (grows_same c.is_killed.new.task)));
+      (turn_stops c.args.task.now c.is_killed.new.task stop.ReadFault (begun_silent c.args.task.now c.is_killed.new.task
+      c.is_killed.new.task c.if-is_killed.ensures.own (grows_same c.is_killed.new.task) refl));
 }
 
 pub returns-then-taken-eq0 : goal.returns-then-taken-eq0
@@ -47,8 +47,8 @@ returns-then-taken-eq0 g c =
           c.args.read.now c.args.targets c.args.plan.now c.requires.settled c.is_killed.ensures.apart left c.take_in.ensures.later
           stop.Finished c.requires.short (source_ended (g.S.Source.left c.args.source.now)
           (g.S.Source.left c.take_in.new.source) left (c.in-Ok.ensures.end c.if-taken-eq0.true (omega arith))) tt
-          (turn_stops c.args.task.now c.is_killed.new.task stop.Finished (begun c.args.task.now c.is_killed.new.task
-          c.is_killed.new.task c.if-is_killed.ensures.own (grows_same c.is_killed.new.task)));
+          (turn_stops c.args.task.now c.is_killed.new.task stop.Finished (begun_silent c.args.task.now c.is_killed.new.task
+          c.is_killed.new.task c.if-is_killed.ensures.own (grows_same c.is_killed.new.task) refl));
     }
 
 pub returns-then-read-gt-LONGEST : goal.returns-then-read-gt-LONGEST

@@ -18,6 +18,6 @@ returns-clause-through g c =
     (g.F.Out.Sink.held did.sink) (g.F.In.Source.faults begun.source) (g.F.In.Source.faults did.source)
     (g.F.Out.Sink.faults begun.sink) (g.F.Out.Sink.faults did.sink) (g.F.Out.Sink.wants begun.sink)
     (g.F.Out.Sink.wants did.sink) (g.W.Watchers.entries c.args.watch) (g.W.Watchers.entries did.watch) did.reader
-    did.relay did.writer did.stop did.moved c.store-stored.result c.requires.found c.requires.opened c.requires.empty
+    did.relay did.writer did.stop did.moved c.store-stored.result did.total c.requires.found c.requires.opened c.requires.empty
     c.requires.made said.copied said.front said.watched said.whole said.moved said.none_taken c.close-2.ensures.same
     c.close-2.ensures.risen c.close-2.ensures.kept stored.stored stored.same stored.cause stored.risen stored.kept

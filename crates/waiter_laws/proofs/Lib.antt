@@ -1,0 +1,16 @@
+-- The proofs.
+pub mod PointRuns
+pub mod TestedWaits
+pub mod AwaitedCounts
+pub mod TriedPages
+pub mod Sleepers
+pub mod Listening
+pub mod LastSleeps
+pub mod BitSleeps
+pub mod Stretches
+pub mod HistoryRuns
+pub mod QueuedOrders
+pub mod QueuedWaits
+pub mod RousedTasks
+pub mod Settled
+pub mod WorkedWaits

@@ -1,0 +1,54 @@
+-- To be believed.
+-- Whoever a wait for a flag has put asleep sleeps on each watch that it tested since its flag was cleared.
+use Rattle.std.specs.Prelude.{ℕ, ◌≡◌, ◌<◌, true, false, Some, List, ◌∷◌, ◌++◌}
+use Rattle.wait_model.specs.declared.layout.TheConstants.{SLOTS}
+use Rattle.wait_model.specs.declared.calls.Call.TheVariants as calls
+use Rattle.wait_model.specs.declared.points.Next.TheVariants as next
+use Rattle.wait_model.specs.declared.points.Point.TheVariants as at
+use Rattle.wait_model.specs.declared.points.WokenPoint.TheVariants as hearing
+use Rattle.wait_model.specs.declared.steps.Step.{Step}
+use Rattle.wait_model.specs.declared.tasks.SleepState.{SleepState}
+use Rattle.wait_model.specs.declared.watches.Entry.{Entry}
+use Rattle.wait_model.specs.declared.watches.Kind.TheVariants as kind
+use Rattle.wait_model.specs.declared.watches.Watch.{Watch}
+use Rattle.wait_model.specs.Histories.{Lacks}
+use Rattle.wait_model.specs.Readings.{clears_flag, fails}
+use Rattle.wait_model.specs.Tables.{Table}
+use Rattle.wait_model.specs.Watches.{same}
+use Rattle.wait_rule.specs.declared.journal.Item.{Item}
+use Rattle.wait_rule.specs.Known.{Known}
+use Rattle.wait_rule.specs.Queues.{index}
+use Rattle.wait_rule.specs.Rule.{IsRuled}
+use Rattle.wait_rule.specs.Says.{history_of, told_of}
+use Rattle.wait_rule.specs.Transitions.{Goes, IsTransition, OnlyLooks, Transition, after_transition, call_program}
+use Rattle.waiter_laws.specs.Asleep.{SleepsSafely}
+
+-- Since it queued entry x and cleared its flag the task loaded the watch, and the test failed. The caller of a wait for
+-- a flag does that before the call.
+pub record HasTestedUnheard (es : List Step) (x : ℕ) (c : Watch) : Type 0 where
+  pub before : List Step
+  pub load : Step
+  pub later : List Step
+  pub split : es ≡ before ++ load ∷ later
+  pub is_load : fails load c ≡ true
+  pub uncleared : Lacks (clears_flag x) later
+  pub is_last : Lacks (λ e. fails e c) later
+
+-- The task went through the wait up to its sleep, and made that; since then it has looked at words alone.
+pub record EndsListening (slot : ℕ) (st : SleepState) (old new : Known) : Type 0 where
+  pub before : List Transition
+  pub came : Known
+  pub comes : Goes (call_program old.view.number slot (calls.Woken st)) old (next.Go (at.Woken hearing.State)) before
+      came (next.Go (at.Woken hearing.Sleep))
+  pub sleep : Transition
+  pub sleeps : IsTransition (call_program old.view.number slot (calls.Woken st)) (at.Woken hearing.Sleep) came sleep
+  pub looked : OnlyLooks (after_transition sleep) new
+
+-- In each table that meets the rule, with the list of such a task that was not woken, it sleeps on the watch, if its
+-- entry is one of kind Woken for that: by its own list, since no other task takes such an entry off.
+abbrev pub ListenersAreKept : Type 0
+ListenersAreKept = (slot : ℕ) (st : SleepState) (old new : Known) (e : Entry) (c : Watch) → slot < SLOTS
+    → EndsListening slot st old new → HasTestedUnheard (history_of old) (index old.view.number slot) c
+    → (told_of new).bits.stored (index old.view.number slot) ≡ Some e → e.kind ≡ kind.Woken → same c e.watch ≡ true
+    → (s : Table) (items : ℕ → List Item) → IsRuled s items → items old.view.number ≡ new.view.items
+    → (s.task old.view.number).runnable ≡ false → SleepsSafely s (index old.view.number slot) e c

@@ -1,3 +1,2 @@
 pub mod LeavingTask
 pub mod Hearers
-pub mod ReadyWaits

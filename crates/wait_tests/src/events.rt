@@ -3,6 +3,7 @@
 pub(crate) mod alone;
 pub(crate) mod flags;
 mod hearers;
+pub(crate) mod parts;
 pub(crate) mod selected;
 pub(crate) mod stretches;
 pub(crate) mod threads;

@@ -4,6 +4,7 @@ mod pages;
 mod pairs;
 pub(crate) mod rounds;
 pub(crate) mod strangers;
+mod stretched;
 
 ghost use Rattle.std.specs.Prelude.{◌≡◌};
 ghost use Rattle.wait_rule.specs.Says.{IsClean};
@@ -21,6 +22,9 @@ use wq_user::events::{
     come_and_go, hear_zero, set_zero, take_zero, wait_and_join, wait_for_zero, wait_to_be_selected,
 };
 use wq_user::holds::{look, pass, pass_and_wake, set_and_wake, wake_and_join};
+use wq_user::parts::{
+    look_for_bit, wait_at_simple, wait_by_default, wait_by_parts, wait_for_change,
+};
 use wq_user::waits::{leave, prepare, queue, sleep};
 
 /// Sleeps and leaves the queue: true where the task was not put asleep.
@@ -148,6 +152,25 @@ fn hearer_is_joined(rt: HostRuntime) -> Result<(), Fail> {
         hear_zero(&rt, &domain, &mut other, SleepState::Interruptible),
         set_zero(&rt, &domain, &mut task) == 0,
         hear_zero(&rt, &domain, &mut other, SleepState::Killable),
+    ];
+    all_so(&rt, &seen);
+    task.join(&domain, other);
+    Ok(())
+}
+
+/// Waits by parts for what is set, and such that a signal ends in their sleep: the task is taken in after all.
+#[test]
+fn waiter_by_parts_is_joined(rt: HostRuntime) -> Result<(), Fail> {
+    let (domain, mut task) = Domain::new(rt.alloc())?;
+    let mut other = another(&rt, &domain, &mut task);
+    let who = other.number();
+    send_signal(&rt, &domain, &mut task, who, true);
+    let seen = [
+        look_for_bit(&rt, &domain, &mut other),
+        wait_for_change(&rt, &domain, &mut other, 1),
+        wait_at_simple(&rt, &domain, &mut other),
+        wait_by_default(&rt, &domain, &mut other),
+        wait_by_parts(&rt, &domain, &mut other, SleepState::Interruptible),
     ];
     all_so(&rt, &seen);
     task.join(&domain, other);

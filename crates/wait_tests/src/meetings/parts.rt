@@ -6,6 +6,7 @@ ghost use Rattle.wait_rule.specs.Says.{IsClean};
 use crate::bits::lock_threads::take_turns;
 use crate::completions::threads::{complete_thrice, take_one};
 use crate::events::flags::hear_until_set;
+use crate::events::parts::{see_by_turns, wait_by_turns};
 use crate::events::selected::{signal, wait_exclusive};
 use crate::events::threads::{set_condition, wait_for_condition};
 use crate::heads::tickets::holds;
@@ -28,6 +29,8 @@ pub(crate) enum Part {
     Sets { count: u32 },
     /// It waits for condition 0, which is set.
     Waits,
+    /// It waits for it by parts.
+    WaitsByTurns,
     /// It waits exclusively, until the condition is set or a signal ends the wait.
     WaitsExclusively,
     /// It sends a plain signal.
@@ -52,6 +55,8 @@ pub(crate) enum Part {
     AnnouncesTwice,
     /// It waits for one after the other.
     WaitsTwice,
+    /// It does so by parts.
+    SeesByTurns,
     /// It takes the bit of the tests and gives it back, twice.
     TakesTurns,
     /// It takes the page of the tests, adds 1 to its tally, and gives it back, so often.
@@ -89,6 +94,7 @@ pub(crate) fn play<R: Wait>(rt: &R, domain: &Domain, task: &mut Task, part: Part
         Part::Rests => true,
         Part::Sets { count } => set_condition(rt, domain, task, count),
         Part::Waits => wait_for_condition(rt, domain, task),
+        Part::WaitsByTurns => wait_by_turns(rt, domain, task),
         Part::WaitsExclusively => wait_exclusive(rt, domain, task),
         Part::Signals { who } => signal(rt, domain, task, who),
         Part::Hears => hear_until_set(rt, domain, task),
@@ -101,6 +107,7 @@ pub(crate) fn play<R: Wait>(rt: &R, domain: &Domain, task: &mut Task, part: Part
         Part::TakesOne => take_one(rt, domain, task),
         Part::AnnouncesTwice => announce_twice(rt, domain, task),
         Part::WaitsTwice => wait_twice(rt, domain, task),
+        Part::SeesByTurns => see_by_turns(rt, domain, task),
         Part::TakesTurns => take_turns(rt, domain, task),
         Part::AddsToPage { times } => add_often(rt, domain, task, times),
         Part::UserSwakes { all } => swake_twice(rt, domain, task, all),

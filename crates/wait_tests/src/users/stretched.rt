@@ -1,0 +1,30 @@
+//! Waits by stretches of one task alone, each of which finds what it waits for.
+
+use crate::wants::{all_so, another};
+use std::test::Fail;
+use wait_model::tasks::{How, SleepState};
+use wait_rule::Domain;
+use wq_user::completions::complete_one;
+use wq_user::events::set_zero;
+use wq_user::stretched::{take_by_stretches, wait_by_stretches, wait_var_by_stretches};
+
+/// Each ends as its whole call does, and the task is taken in.
+#[test]
+fn waits_by_stretches_are_over(rt: HostRuntime) -> Result<(), Fail> {
+    let (domain, mut task) = Domain::new(rt.alloc())?;
+    let mut other = another(&rt, &domain, &mut task);
+    let how = How {
+        state: SleepState::Interruptible,
+        exclusive: false,
+    };
+    complete_one(&rt, &domain, &mut task);
+    let seen = [
+        set_zero(&rt, &domain, &mut task) == 0,
+        wait_by_stretches(&rt, &domain, &mut other, how),
+        wait_var_by_stretches(&rt, &domain, &mut other, 1, SleepState::Killable),
+        take_by_stretches(&rt, &domain, &mut other, SleepState::Killable),
+    ];
+    all_so(&rt, &seen);
+    task.join(&domain, other);
+    Ok(())
+}

@@ -1,0 +1,11 @@
+use Rattle.std.specs.Prelude.{◌≡◌}
+use Rattle.wait_class.specs.declared.stages.Turn.TheVariants as turn
+use Rattle.wait_class.specs.Tables.{IsAt, Plan}
+use Rattle.wait_class.specs.UnderWay.{IsUnderWay}
+use Rattle.wq_user.proofs.stretched.go_on.Given as goal
+
+abbrev pub invariant-loop : goal.invariant-loop
+invariant-loop g l = (l.task.domain ≡ l.domain)
+    × (IsAt g.C.Machine.table l.task l.run l.at
+    × ((c : Plan) → IsUnderWay g.C.Machine.table c l.fn.task l.fn.run (turn.Again l.fn.stage)
+    → IsUnderWay g.C.Machine.table c l.task l.run (turn.Again l.at)))

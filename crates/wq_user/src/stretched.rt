@@ -1,0 +1,140 @@
+//! A task that waits by stretches, none of which waits for anybody: it owes nothing once the wait is over.
+
+ghost use Rattle.std.specs.Prelude.{◌≡◌};
+ghost use Rattle.wait_rule.specs.Says.{IsClean, IsUp};
+ghost use Rattle.wait_class.specs.declared.stages.Turn.TheVariants as turn;
+ghost use Rattle.wait_class.specs.Tables.{IsAsleepAt, IsAt, Lands};
+ghost use Rattle.wait_class.specs.UnderWay.{IsUnderWay};
+
+use completion_cell::await_calls::{begin_await, end_await};
+use completion_cell::awaits::AwaitStage;
+use std::sync::Wait;
+use var_wait::waits::{begin_var, end_var};
+use wait_class::machines::Machine;
+use wait_class::runs::{stretch, woke};
+use wait_class::stages::{Run, Turn};
+use wait_event::wait_events::{begin_wait, end_wait};
+use wait_event::waits::WaitStage;
+use wait_model::tasks::{How, SleepState};
+use wait_rule::queues::Passing;
+use wait_rule::{Domain, Task};
+
+/// Makes one stretch, and wakes who parks for the lock that it gave back.
+fn one_stretch<C: Machine>(
+    domain: &Domain,
+    task: &mut Task,
+    run: &mut Run<C>,
+    stage: C::Stage,
+) -> Turn<C::Stage, C::Outcome>
+    requires of { task.old.domain ≡ domain.now }
+    requires at { IsAt C.table task.old run.old stage }
+    ensures of { task.new.domain ≡ domain.now }
+    ensures lands { Lands C.table task.new run.new result }
+    ensures under { (c : _) → IsUnderWay C.table c task.old run.old (turn.Again stage)
+        → IsUnderWay C.table c task.new run.new result }
+{
+    let mut passing = Passing::none();
+    let turn = stretch(domain, task, run, stage, &mut passing);
+    passing.wake(domain);
+    passing.end();
+    turn
+}
+
+/// Looks again and again until a wait that was put asleep was woken.
+fn doze<R: Wait, C: Machine>(
+    rt: &R,
+    domain: &Domain,
+    task: &mut Task,
+    run: &Run<C>,
+    stage: C::Stage,
+)
+    requires of { task.old.domain ≡ domain.now }
+    requires asleep { IsAsleepAt C.table task.old run.now stage }
+    ensures of { task.new.domain ≡ domain.now }
+    ensures at { IsAt C.table task.new run.now stage }
+    ensures under { (c : _) → IsUnderWay C.table c task.old run.now (turn.Asleep stage)
+        → IsUnderWay C.table c task.new run.now (turn.Again stage) }
+{
+    for _ in rt.forever() {
+        if woke(domain, task, run, stage) {
+            return;
+        }
+    }
+}
+
+/// Goes on with a wait to its end by stretches.
+fn go_on<R: Wait, C: Machine>(
+    rt: &R,
+    domain: &Domain,
+    task: &mut Task,
+    run: &mut Run<C>,
+    stage: C::Stage,
+) -> C::Outcome
+    requires of { task.old.domain ≡ domain.now }
+    requires at { IsAt C.table task.old run.old stage }
+    ensures of { task.new.domain ≡ domain.now }
+    ensures up { IsUp task.new }
+    ensures under { (c : _) → IsUnderWay C.table c task.old run.old (turn.Again stage)
+        → IsUnderWay C.table c task.new run.new (turn.Done result) }
+{
+    let mut at = stage;
+    for _ in rt.forever() {
+        match one_stretch(domain, task, run, at) {
+            Turn::Again(next) => at = next,
+            Turn::Locked(next) => at = next,
+            Turn::Asleep(next) => {
+                doze(rt, domain, task, run, next);
+                at = next;
+            }
+            Turn::Done(outcome) => return outcome,
+        }
+    }
+    unreachable!()
+}
+
+/// Waits for condition 0: true where it was set, and false where a signal ended the wait, or no place was left.
+pub fn wait_by_stretches<R: Wait>(rt: &R, domain: &Domain, task: &mut Task, how: How) -> bool
+    requires of { task.old.domain ≡ domain.now }
+    requires clean { IsClean task.old }
+    ensures of { task.new.domain ≡ domain.now }
+    ensures clean { IsClean task.new }
+{
+    let mut wait = begin_wait(task, 0, how);
+    let outcome = go_on(rt, domain, task, &mut wait, WaitStage::First);
+    end_wait(task, &wait, outcome).is_ok()
+}
+
+/// Waits until variable 0 differs from `old`: true where it did.
+pub fn wait_var_by_stretches<R: Wait>(
+    rt: &R,
+    domain: &Domain,
+    task: &mut Task,
+    old: u64,
+    state: SleepState,
+) -> bool
+    requires of { task.old.domain ≡ domain.now }
+    requires clean { IsClean task.old }
+    ensures of { task.new.domain ≡ domain.now }
+    ensures clean { IsClean task.new }
+{
+    let mut wait = begin_var(task, 0, old, state);
+    let outcome = go_on(rt, domain, task, &mut wait, WaitStage::First);
+    end_var(task, &wait, outcome).is_ok()
+}
+
+/// Waits until completion 0 is done, and takes one: true where it took one.
+pub fn take_by_stretches<R: Wait>(
+    rt: &R,
+    domain: &Domain,
+    task: &mut Task,
+    state: SleepState,
+) -> bool
+    requires of { task.old.domain ≡ domain.now }
+    requires clean { IsClean task.old }
+    ensures of { task.new.domain ≡ domain.now }
+    ensures clean { IsClean task.new }
+{
+    let mut wait = begin_await(task, 0, state);
+    let outcome = go_on(rt, domain, task, &mut wait, AwaitStage::First);
+    end_await(task, &wait, outcome).is_ok()
+}

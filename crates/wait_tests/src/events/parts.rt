@@ -62,7 +62,9 @@ fn prepare_for_flag<R: Wait>(rt: &R, domain: &Domain, task: &mut Task) -> bool
 }
 
 /// An interruptible wait.
-fn how_in(exclusive: bool) -> How {
+fn how_in(exclusive: bool) -> How
+    ensures { result.exclusive ≡ exclusive }
+{
     How {
         state: SleepState::Interruptible,
         exclusive,

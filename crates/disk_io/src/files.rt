@@ -36,6 +36,7 @@ pub struct Disk<'r> {
     source: Seen,
     read_faults: u64,
     write_faults: u64,
+    opened: u64,
 }
 
 /// A file that is written beside the one whose name it gets in the end. One that is dropped before that is removed.
@@ -122,6 +123,7 @@ impl<'r> Disk<'r> {
             },
             read_faults: 0,
             write_faults: 0,
+            opened: 0,
         }
     }
 
@@ -225,10 +227,16 @@ impl<'r> Folder for Disk<'r> {
 
     ghost write_faults = { λ disk. disk.write_faults };
 
-    /// A folder can't be read as a file.
+    ghost opened = { λ disk. disk.opened };
+
+    /// A folder can't be read as a file. OutOfMemory also where 2^64 - 1 sources are open.
     fn open(&mut self, _alloc: Global, name: &str) -> Result<Reading<File>, OpenFault> {
         let error = match self.open_file(name) {
             Ok((file, source)) => {
+                let Some(opened) = self.opened.checked_add(1) else {
+                    return Err(OpenFault::OutOfMemory);
+                };
+                self.opened = opened;
                 self.source = source;
                 return Ok(Reading::new(file));
             }
@@ -264,6 +272,7 @@ impl<'r> Folder for Disk<'r> {
         if input.faults > 0 {
             self.read_faults = one_more(self.read_faults);
         }
+        self.opened = self.opened.saturating_sub(1);
     }
 
     /// Renames the part to that name, also where a write to it has failed. Where that can't be done the part is removed,

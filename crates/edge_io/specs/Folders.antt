@@ -69,14 +69,15 @@ pub record FileState : Type 0 where
   pub bytes : List ℕ
   pub fails : List ℕ
 
--- a folder in memory: its files, which writes of its new sinks fail, its calls of `open`, `create` and `store`, and its
--- two counts of faults
+-- a folder in memory: its files, which writes of its new sinks fail, its calls of `open`, `create` and `store`, its two
+-- counts of faults, and how many sources of it are open
 pub record FolderState : Type 0 where
   pub files : List FileState
   pub fails : List ℕ
   pub calls : Calls
   pub read_faults : ℕ
   pub write_faults : ℕ
+  pub opened : ℕ
 
 -- the file of this name
 abbrev pub file_at : List FileState → List ℕ → Option FileState

@@ -1,5 +1,5 @@
 ghost use Rattle.std.specs.Prelude.{◌≡◌, ◌<◌, ◌≤◌, ◌+◌, ◌-◌, ◌^◌, ◌↔◌, [], Some, None, min, option_map, bytes_eq};
-ghost use Rattle.std.specs.Prelude.{IfOk, IfSome, IsTrue, IsFalse, OnErr, IsErrOf};
+ghost use Rattle.std.specs.Prelude.{IfOk, IfSome, IsTrue, IsFalse, OnOk, OnErr, IsErrOf};
 ghost use Rattle.edge_io.specs.Faults.{HasRisen, HasCounted, CountsFailed};
 ghost use Rattle.edge_io.specs.Fails.{FailsNext, CountsCall, IsFresh};
 ghost use Rattle.edge_io.specs.Folders.{HasBytes, HasNone, HoldsNothing, Stores, CountsOpening, FileState, FolderState};
@@ -151,7 +151,8 @@ fn store_in(
 /// calls of the folder itself.
 ///
 /// Contracts see the files with the reads of each that fail, the writes of new sinks that fail, the calls of `open`,
-/// `create` and `store`, and the two counts of faults. It tells all its files. No two files have one name.
+/// `create` and `store`, the two counts of faults, and the count of open sources. It tells all its files. No two files
+/// have one name.
 #[derive(Drop)]
 pub struct MemFolder {
     alloc: Global,
@@ -160,6 +161,7 @@ pub struct MemFolder {
     calls: Fails,
     read_faults: u64,
     write_faults: u64,
+    opened: u64,
 }
 
 impl Model for MemFolder {
@@ -171,6 +173,7 @@ impl Model for MemFolder {
       calls = f.calls;
       read_faults = f.read_faults;
       write_faults = f.write_faults;
+      opened = f.opened;
     } };
 }
 
@@ -181,6 +184,7 @@ impl MemFolder {
         ensures fails { result.fails ≡ [] }
         ensures calls { IsFresh result.calls [] }
         ensures faults { (result.read_faults ≡ 0) × (result.write_faults ≡ 0) }
+        ensures opened { result.opened ≡ 0 }
     {
         MemFolder {
             alloc,
@@ -189,6 +193,7 @@ impl MemFolder {
             calls: Fails::none(alloc),
             read_faults: 0,
             write_faults: 0,
+            opened: 0,
         }
     }
 
@@ -253,7 +258,10 @@ impl Folder for MemFolder {
 
     ghost write_faults = { λ f. f.write_faults };
 
+    ghost opened = { λ f. f.opened };
+
     /// Opens the file with a copy of its bytes. Failed at just the numbers of `fail_calls`, whatever the name is.
+    /// OutOfMemory also where 2^64 - 1 sources are open.
     fn open(&mut self, alloc: Global, name: &str) -> Result<MemSource, OpenFault>
         ensures found { IfOk result (λ input. HasBytes (Some (bytes_at self.old.files)) name.now (Some input.left)) }
         ensures fresh { IfOk result (λ input. input.reads.faults ≡ 0) }
@@ -261,6 +269,8 @@ impl Folder for MemFolder {
         ensures same { Some (bytes_at self.new.files) ≡ Some (bytes_at self.old.files) }
         ensures failed { CountsOpening self.old.read_faults self.new.read_faults result }
         ensures kept { self.new.write_faults ≡ self.old.write_faults }
+        ensures given { OnOk result (self.new.opened ≡ self.old.opened + 1) }
+        ensures not_given { OnErr result (self.new.opened ≡ self.old.opened) }
         ensures exact { IsErrOf result OpenFault.Failed ↔ FailsNext self.old.calls }
         ensures lacks { IsErrOf result OpenFault.NoSuchFile
             ↔ (FailsNext self.old.calls → ⊥) × (bytes_at self.old.files name.now ≡ None) }
@@ -275,7 +285,12 @@ impl Folder for MemFolder {
         if fails {
             return Err(OpenFault::Failed);
         }
-        open_in(&self.files, alloc, name)
+        let input = open_in(&self.files, alloc, name)?;
+        let Some(opened) = self.opened.checked_add(1) else {
+            return Err(OpenFault::OutOfMemory);
+        };
+        self.opened = opened;
+        Ok(input)
     }
 
     /// Makes a sink in memory. Failed at just the numbers of `fail_calls`.
@@ -286,6 +301,7 @@ impl Folder for MemFolder {
         ensures same { Some (bytes_at self.new.files) ≡ Some (bytes_at self.old.files) }
         ensures failed { CountsOpening self.old.write_faults self.new.write_faults result }
         ensures kept { self.new.read_faults ≡ self.old.read_faults }
+        ensures as_open { self.new.opened ≡ self.old.opened }
         ensures exact { IsErrOf result OpenFault.Failed ↔ FailsNext self.old.calls }
         ensures writes { IfOk result (λ out. IsFresh out.writes self.old.fails) }
         ensures calls { CountsCall self.old.calls self.new.calls }
@@ -308,12 +324,14 @@ impl Folder for MemFolder {
         ensures quiet { input.reads.faults ≡ 0 → self.new.read_faults ≡ self.old.read_faults }
         ensures later { self.old.read_faults ≤ self.new.read_faults }
         ensures kept { self.new.write_faults ≡ self.old.write_faults }
+        ensures taken_back { self.new.opened ≡ self.old.opened - 1 }
         ensures counted { 0 < input.reads.faults → HasCounted self.old.read_faults self.new.read_faults }
         ensures calls { self.new.calls ≡ self.old.calls }
         ensures files { self.new.files ≡ self.old.files }
         ensures fails { self.new.fails ≡ self.old.fails }
     {
         self.read_faults = counted(self.read_faults, input.has_failed());
+        self.opened = self.opened.saturating_sub(1);
     }
 
     /// Keeps what the sink holds as the file of that name, of which no read fails. Failed at just the numbers of
@@ -330,6 +348,7 @@ impl Folder for MemFolder {
             → CountsFailed self.old.write_faults self.new.write_faults result }
         ensures later { self.old.write_faults ≤ self.new.write_faults }
         ensures kept { self.new.read_faults ≡ self.old.read_faults }
+        ensures as_open { self.new.opened ≡ self.old.opened }
         ensures exact { IsErrOf result SinkFault.Failed ↔ FailsNext self.old.calls }
         ensures calls { CountsCall self.old.calls self.new.calls }
         ensures files { IfOk result (λ _. self.new.files

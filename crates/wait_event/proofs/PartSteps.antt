@@ -48,6 +48,7 @@ use Rattle.wait_class.proofs.Ground.Standing.{bare_head, finds_own, seen_is, see
 use Rattle.wait_class.proofs.Histories.{and_left}
 use Rattle.wait_class.proofs.WornPlaces.{queue_same, whole_seen}
 use Rattle.wait_event.specs.Prepares.{IsPart, answers_first}
+use Rattle.wait_event.specs.WaitPlans.{behind_prepare}
 use Rattle.wait_event.specs.PartSteps.{HasJoinedPart, Heeds, IsAtHead, IsWornPart, Joins, PartCarries, Pares, asks_one, looked_to, part_change, program_of}
 use Rattle.wait_event.specs.declared.prepares.Part.{Part}
 
@@ -160,6 +161,11 @@ heeds_none p old none =
       found = λ never. absurd (cc);
     }
 
+-- a look does not end it
+pub heard_next : (hit : Bool) → behind_prepare (next.Go (looked_to hit)) ≡ next.Go (looked_to hit)
+heard_next true = refl
+heard_next false = refl
+
 pub heeds_look : (p : Part) (old new : Known) (w : ℕ) (hit : Bool) → asks_one p ≡ true
     → hit ≡ pending (state_mask p.how.state) (task_of w) → new ≡ added old (item.Made (step.Look w))
     → Carries unchanged old new → Heeds p old new hit
@@ -173,8 +179,9 @@ heeds_look p old new w hit one tells is carries =
         transitions = r.transitions;
         goes = subst (λ (b : Bool). Goes f old (next.Go (at.Prepare (if b then preparing.Look else preparing.Queue)))
             r.transitions new (next.Go (looked_to hit))) (sym one)
+            (subst (Goes f old (next.Go (at.Prepare preparing.Look)) r.transitions new) (heard_next hit)
             (subst (λ (b : Bool). Goes f old (next.Go (at.Prepare preparing.Look)) r.transitions new
-            (next.Go (looked_to b))) (sym tells) r.goes);
+            (behind_prepare (next.Go (looked_to b)))) (sym tells) r.goes));
       };
       quiet = refl;
       carries = carries;

@@ -1,9 +1,7 @@
--- What prepares and finishes make: it begins turns of a wait, and it is a finish of one.
-use Rattle.std.proofs.Common.{refl, sym, ◌∙◌, ap, subst, append-nil, append_assoc, arith}
-use Rattle.std.specs.Prelude.{ℕ, zero, suc, ◌≡◌, Bool, true, false, not, if◌then◌else◌, Option, None, is_some, List, [], ◌∷◌, ◌++◌}
+-- What prepares and finishes make: a prepare and a finish of the sentences.
+use Rattle.std.proofs.Common.{refl, ◌∙◌, ap, subst, append-nil, append_assoc}
+use Rattle.std.specs.Prelude.{ℕ, ◌≡◌, Bool, true, false, if◌then◌else◌, Option, None, Some, is_some, List, [], ◌∷◌, ◌++◌}
 use Rattle.wait_model.specs.declared.calls.Answer.{Answer}
-use Rattle.wait_model.specs.declared.calls.Call.{Call}
-use Rattle.wait_model.specs.declared.calls.Call.TheVariants as calls
 use Rattle.wait_model.specs.declared.calls.Event.{Event}
 use Rattle.wait_model.specs.declared.calls.Event.TheVariants as event
 use Rattle.wait_model.specs.declared.points.FinishPoint.TheVariants as finishing
@@ -15,93 +13,102 @@ use Rattle.wait_model.specs.declared.points.Point.{Point}
 use Rattle.wait_model.specs.declared.points.Point.TheVariants as at
 use Rattle.wait_model.specs.declared.points.PreparePoint.TheVariants as preparing
 use Rattle.wait_model.specs.declared.points.Seen.{Seen}
+use Rattle.wait_model.specs.declared.steps.Step.{Step}
 use Rattle.wait_model.specs.declared.tasks.How.{How}
+use Rattle.wait_model.specs.declared.watches.Entry.{Entry}
+use Rattle.wait_model.specs.declared.watches.Kind.{Kind}
 use Rattle.wait_model.specs.declared.watches.Watch.{Watch}
-use Rattle.wait_model.specs.declared.watches.Watch.TheVariants as watch
+use Rattle.wait_model.specs.Findings.{none_noted, notes}
 use Rattle.wait_model.specs.Phrases.{
   Phrase,
   Rest,
   ◌>>=◌,
   ◌>>◌,
-  after_turn,
   ends,
   finds,
   gives,
-  leaves,
   makes,
-  turns,
   when◌then◌otherwise◌,
 }
-use Rattle.wait_model.specs.Programs.{call_fails, go, zero_answer}
-use Rattle.wait_model.specs.SentenceSteps.{Prepared, enters, finishes, is_met, is_ready, is_signalled, is_worn, locks, nothing, number, sleeps, stands, takes_off, unlocks}
-use Rattle.wait_model.specs.SentenceWaits.{goes_on, may_stand}
-use Rattle.wait_model.specs.Tasks.{looks_in, pending, sleep_of, state_mask}
+use Rattle.wait_model.specs.Programs.{go, zero_answer}
+use Rattle.wait_model.specs.SentenceSteps.{
+  Prepared,
+  enters,
+  finishes,
+  is_ready,
+  is_signalled,
+  is_worn,
+  locks,
+  nothing,
+  number,
+  stands,
+  takes_off,
+  unlocks,
+}
+use Rattle.wait_model.specs.Tables.{Table}
+use Rattle.wait_model.specs.Tasks.{looks_in, pending, state_mask}
+use Rattle.wait_model.specs.Watches.{head_of}
 use Rattle.wait_model.proofs.WaitLaws.OutsideStages.{either}
-use Rattle.wait_rule.specs.Known.{Known}
-use Rattle.wait_rule.specs.SaidEvents.{said}
-use Rattle.wait_rule.specs.Transitions.{Finds, Goes, IsMadeFor, Program, Transition, after_transition}
-use Rattle.wait_class.specs.Queueing.{wait_form}
-use Rattle.wait_event.specs.Prepares.{finish_program}
-use Rattle.wait_event.proofs.Plans.{plain_program}
 use Rattle.wait_rule.specs.Interleavings.{IsInterleaved}
 use Rattle.wait_rule.specs.Items.{steps_of}
-use Rattle.wait_rule.specs.Says.{history_of}
+use Rattle.wait_rule.specs.Known.{Known}
 use Rattle.wait_rule.specs.Queues.{index}
-use Rattle.wait_rule.proofs.TableSteps.ItemLists.{steps_append}
+use Rattle.wait_rule.specs.SaidEvents.{said}
+use Rattle.wait_rule.specs.Says.{history_of, told_of}
+use Rattle.wait_rule.specs.Transitions.{
+  Finds,
+  FindsAt,
+  Goes,
+  IsSeenAs,
+  Program,
+  StepOrLook,
+  Transition,
+  after_transition,
+  by_look,
+  by_step,
+}
+use Rattle.wait_rule.proofs.KnownLaws.Moments.{moment_of}
 use Rattle.wait_rule.proofs.SaidEvents.Fronts.{IsOff, number_stays, off_on, off_still, step_follows, steps_made}
-use Rattle.wait_rule.proofs.SaidEvents.FollowedRuns.{found_off}
-use Rattle.wait_model.specs.Findings.{none_noted, notes}
-use Rattle.wait_model.specs.Points.{call_head, form_of}
-use Rattle.wait_model.specs.Tables.{Table}
-use Rattle.wait_model.specs.declared.steps.Step.{Step}
-use Rattle.wait_model.specs.declared.watches.Entry.{Entry}
+use Rattle.wait_rule.proofs.SaidEvents.OwnFindings.{own_off}
+use Rattle.wait_rule.proofs.TableSteps.ItemLists.{steps_append}
+use Rattle.wait_class.specs.Queueing.{wait_form}
+use Rattle.wait_class.proofs.Ground.Standing.{owner_own}
+use Rattle.wait_event.specs.Prepares.{finish_program, prepare_program}
+use Rattle.wait_event.specs.WaitPlans.{asked, behind_prepare, gives_back, looks_for, plan}
+use Rattle.wait_event.specs.Words.{FinishesFollow, PreparesFollow, prepared_as, prepares_by}
 use Rattle.wait_event.proofs.Words.{list_of}
-use Rattle.wait_event.specs.WaitPlans.{wait_program}
-use Rattle.wait_event.specs.Words.{FinishesFollow, PreparesBegin, answer_behind, is_behind, rest_behind, turn_by}
 
-module _ (me c : ℕ) (how : How) where
-  abbrev call : Call
-  call = calls.Wait c how
+-- A prepare: what is left of it at each of its points. `q` is whether the own entry may stand there.
+module _ (asks : Bool) (me : ℕ) (w : Watch) (k : Kind) (how : How) where
+  abbrev f : Program
+  f = prepare_program asks me w k how
 
-  -- what is left of a turn that has prepared, and of the turns behind it, n at most
-  abbrev onward : Bool → Bool → ℕ → Prepared → Phrase Answer
-  onward asks queued n done = (is_met (watch.Plain c) >>= λ now_met.
-      when now_met then (finishes me (watch.Plain c) (may_stand done queued) >> gives (leaves (number 0)))
-      otherwise goes_on done) >>= after_turn (turns n (turn_by asks me c how))
+  abbrev x : ℕ
+  x = index me 0
 
-  abbrev entered_as : Bool → Prepared
-  entered_as b = if b then is_ready else is_worn
+  abbrev answers : Prepared → Phrase Answer
+  answers done = gives (prepared_as done)
 
   abbrev enters_it : Bool → Phrase Prepared
-  enters_it queued = enters (watch.Plain c) how.state (wait_form how) queued >>= λ b. gives (entered_as b)
+  enters_it q = enters w how.state (wait_form how) q >>= λ b. gives (if b then is_ready else is_worn)
 
   abbrev heeds : Bool → Bool → Phrase Prepared
-  heeds queued signal = when signal
-      then (takes_off me queued >> (unlocks (watch.Plain c) >> gives is_signalled))
-      otherwise enters_it queued
+  heeds q signal = when signal then (takes_off me q >> (unlocks w >> gives is_signalled)) otherwise enters_it q
 
-  -- what is left at each point of a prepare, and between two
-  abbrev LeftFor : Bool → Bool → ℕ → Point → Rest
-  LeftFor asks q n (at.Prepare preparing.Lock) = turns n (turn_by asks me c how) q ends
-  LeftFor asks q n (at.Prepare preparing.Look) = ((finds event.Look >>= heeds q) >>= onward asks q n) ends
-  LeftFor asks q n (at.Prepare preparing.Queue) = (enters_it q >>= onward asks q n) ends
-  LeftFor asks q n (at.Prepare preparing.State) = (makes (event.State (state_mask how.state))
-      >> (unlocks (watch.Plain c) >> onward asks q n is_ready)) ends
-  LeftFor asks q n (at.Prepare preparing.Unlock) = (unlocks (watch.Plain c) >> onward asks q n is_ready) ends
-  LeftFor asks q n at.Test = onward asks q n is_ready ends
-  LeftFor asks q n at.Sleep = (sleeps >> turns n (turn_by asks me c how) true) ends
-  LeftFor asks q n (at.Leave leaving.Queue) = (takes_off me q
-      >> (unlocks (watch.Plain c) >> onward asks q n is_signalled)) ends
-  LeftFor asks q n (at.Leave leaving.Unlock) = (unlocks (watch.Plain c) >> onward asks q n is_signalled) ends
-  LeftFor asks q n (at.Leave leaving.Load) = onward asks q n is_signalled ends
-  LeftFor asks q n at.Worn = onward asks q n is_worn ends
-  LeftFor asks q n (at.Finish p false) = λ v a. ⊥
-  LeftFor asks q n _ = λ v a. Unit {0}
+  abbrev LeftFor : Bool → Point → Rest
+  LeftFor q (at.Prepare preparing.Lock) = (prepares_by asks me w how q >>= answers) ends
+  LeftFor q (at.Prepare preparing.Look) = ((finds event.Look >>= heeds q) >>= answers) ends
+  LeftFor q (at.Prepare preparing.Queue) = (enters_it q >>= answers) ends
+  LeftFor q (at.Prepare preparing.State) =
+      (makes (event.State (state_mask how.state)) >> (unlocks w >> answers is_ready)) ends
+  LeftFor q (at.Prepare preparing.Unlock) = (unlocks w >> answers is_ready) ends
+  LeftFor q (at.Leave leaving.Queue) = (takes_off me q >> (unlocks w >> answers is_signalled)) ends
+  LeftFor q (at.Leave leaving.Unlock) = (unlocks w >> answers is_signalled) ends
+  LeftFor q _ = λ v a. Unit {0}
 
   -- whether the own entry may stand after an event
   abbrev stands_by : Event → Bool → Bool
   stands_by (event.Queue h form) q = true
-  stands_by (event.Sleep x) q = true
   stands_by _ q = q
 
   -- where it matters whether it does
@@ -111,174 +118,137 @@ module _ (me c : ℕ) (how : How) where
   reads _ = false
 
   module _ (a : Answer) where
-    abbrev Left : Bool → Bool → Point → List Event → Type 0
-    Left asks q p v = (n : ℕ) × LeftFor asks q n p v a
+    abbrev LeftBehind : Bool → Next → List Event → Type 0
+    LeftBehind q (next.Go p) v = LeftFor q p v a
+    LeftBehind q (next.Ends b) v = ends b v a
 
-    abbrev LeftBehind : Bool → Bool → Next → List Event → Type 0
-    LeftBehind asks q (next.Go p) v = Left asks q p v
-    LeftBehind asks q (next.Ends b) v = ⊥
+    module _ (v : List Event) (q : Bool) where
+      -- an event at a point leads to what is left behind it
+      abbrev Leads : Point → Planned → Type 0
+      Leads p e = LeftBehind (stands_by e.event q) (behind_prepare e.next) v → LeftFor q p (e.event ∷ v) a
 
-    module _ (v : List Event) where
-      abbrev Leads : Bool → Bool → Point → Planned → Type 0
-      Leads asks q p x = LeftBehind asks (stands_by x.event q) x.next v → Left asks q p (x.event ∷ v)
+      abbrev LeadsTo : Point → Planned → Type 0
+      LeadsTo p e = LeftBehind q (behind_prepare e.next) v → LeftFor q p (e.event ∷ v) a
 
-      -- the lock, of a prepare that asks for a look or not
-      looks_lead : (q : Bool) (n : ℕ) (b : Bool)
-          → LeftFor true q n (at.Prepare (if b then preparing.Look else preparing.Queue)) v a
-          → (((when b then finds event.Look otherwise gives false) >>= heeds q) >>= onward true q n) ends v a
-      looks_lead q n true h = h
-      looks_lead q n false h = h
+      looks_lead : (b : Bool) → LeftFor q (at.Prepare (if b then preparing.Look else preparing.Queue)) v a
+          → (((when b then finds event.Look otherwise gives false) >>= heeds q) >>= answers) ends v a
+      looks_lead true h = h
+      looks_lead false h = h
 
-      lock_leads : (asks q : Bool) (seen : Seen) → Leads asks q (at.Prepare preparing.Lock)
-          ((wait_program asks me call).plan (at.Prepare preparing.Lock) seen)
-      lock_leads true q seen h = (suc h.0, (refl, looks_lead q h.0 (looks_in how.state) h.1))
-      lock_leads false q seen h = (suc h.0, (refl, h.1))
+      look_leads : (hit : Bool) → LeadsTo (at.Prepare preparing.Look) (looks_for hit)
+      look_leads true h = (true, (refl, h))
+      look_leads false h = (false, (refl, h))
 
-      look_leads : (asks q hit : Bool)
-          → Left asks q (if hit then at.Leave leaving.Queue else at.Prepare preparing.Queue) v
-          → Left asks q (at.Prepare preparing.Look) (event.Look hit ∷ v)
-      look_leads asks q true h = (h.0, (true, (refl, h.1)))
-      look_leads asks q false h = (h.0, (false, (refl, h.1)))
+    -- the add; an entry that can't be queued is off
+    abbrev adds_at : Bool → Option Entry → Planned
+    adds_at worn entry = if is_some entry
+        then go (event.State (state_mask how.state)) (at.Prepare preparing.Unlock)
+        else if worn
+        then gives_back w (next.Go at.Worn)
+        else go (event.Queue (head_of w) (wait_form how)) (at.Prepare preparing.State)
 
-      -- the add; an entry that can't be queued is off
-      abbrev adds_at : Bool → Option Entry → Planned
-      adds_at worn entry = if is_some entry
-          then go (event.State (state_mask how.state)) (at.Prepare preparing.Unlock)
-          else if worn
-          then record { event = event.Unlock (call_head call) false; next = next.Go at.Worn }
-          else go (event.Queue (call_head call) (form_of call)) (at.Prepare preparing.State)
+    abbrev pares_at : Option Entry → Planned
+    pares_at entry = if is_some entry
+        then go (event.Unqueue me) (at.Leave leaving.Unlock)
+        else gives_back w (next.Go (at.Leave leaving.Load))
 
-      queue_leads : (asks q worn : Bool) (entry : Option Entry) → (q ≡ false → entry ≡ None)
-          → Leads asks q (at.Prepare preparing.Queue) (adds_at worn entry)
-      queue_leads asks true worn entry off = either (Leads asks true (at.Prepare preparing.Queue)) (is_some entry) _ _
-          (λ k. (k.0, (true, (refl, k.1))))
-          (either (Leads asks true (at.Prepare preparing.Queue)) worn _ _ (λ k. (k.0, (false, (true, (refl, k.1)))))
-          (λ k. (k.0, (false, (false, (refl, k.1))))))
-      queue_leads asks false worn entry off = subst
-          (λ (o : Option Entry). Leads asks false (at.Prepare preparing.Queue) (adds_at worn o)) (sym (off refl))
-          (either (Leads asks false (at.Prepare preparing.Queue)) worn _ _ (λ k. (k.0, (true, (refl, k.1))))
-          (λ k. (k.0, (false, (refl, k.1)))))
+    queue_leads : (v : List Event) (q worn : Bool) (entry : Option Entry) → (q ≡ false → entry ≡ None)
+        → Leads v q (at.Prepare preparing.Queue) (adds_at worn entry)
+    queue_leads v true worn (Some e) off h = (true, (refl, h))
+    queue_leads v true true None off h = (false, (true, (refl, h)))
+    queue_leads v true false None off h = (false, (false, (refl, h)))
+    queue_leads v false worn (Some e) off h = absurd (let z : Some e ≡ None = off refl in cc)
+    queue_leads v false true None off h = (true, (refl, h))
+    queue_leads v false false None off h = (false, (refl, h))
 
-      abbrev pares_at : Option Entry → Planned
-      pares_at entry = if is_some entry
-          then go (event.Unqueue me) (at.Leave leaving.Unlock)
-          else go (event.Unlock (call_head call) false) (at.Leave leaving.Load)
+    leave_leads : (v : List Event) (q : Bool) (entry : Option Entry) → (q ≡ false → entry ≡ None)
+        → Leads v q (at.Leave leaving.Queue) (pares_at entry)
+    leave_leads v true (Some e) off h = (true, (refl, h))
+    leave_leads v true None off h = (false, (refl, h))
+    leave_leads v false (Some e) off h = absurd (let z : Some e ≡ None = off refl in cc)
+    leave_leads v false None off h = (refl, h)
 
-      leave_leads : (asks q : Bool) (entry : Option Entry) → (q ≡ false → entry ≡ None)
-          → Leads asks q (at.Leave leaving.Queue) (pares_at entry)
-      leave_leads asks true entry off = either (Leads asks true (at.Leave leaving.Queue)) (is_some entry) _ _
-          (λ k. (k.0, (true, (refl, k.1)))) (λ k. (k.0, (false, (refl, k.1))))
-      leave_leads asks false entry off = subst
-          (λ (o : Option Entry). Leads asks false (at.Leave leaving.Queue) (pares_at o)) (sym (off refl))
-          (λ k. (k.0, (refl, k.1)))
+    lock_leads : (b : Bool) → b ≡ asks → (v : List Event) (q : Bool) (seen : Seen)
+        → Leads v q (at.Prepare preparing.Lock) (asked b (at.Prepare preparing.Lock) (plan me w how (at.Prepare preparing.Lock) seen))
+    lock_leads true is v q seen h = subst (λ (c : Bool). ((prepares_by c me w how q >>= answers) ends)
+        (event.Lock (head_of w) ∷ v) a) is (refl, looks_lead v q (looks_in how.state) h)
+    lock_leads false is v q seen h = subst (λ (c : Bool). ((prepares_by c me w how q >>= answers) ends)
+        (event.Lock (head_of w) ∷ v) a) is (refl, h)
 
-      met_leads : (asks q : Bool) (n : ℕ) (b : Bool)
-          → LeftFor asks q n (if b then at.Sleep else at.Finish finishing.State false) v a
-          → ((when not b then (finishes me (watch.Plain c) true >> gives (leaves (number 0))) otherwise goes_on is_ready)
-          >>= after_turn (turns n (turn_by asks me c how))) ends v a
-      met_leads asks q n true h = h
-      met_leads asks q n false h = absurd h
-
-      leads : (asks q : Bool) (p : Point) (seen : Seen) → (q ≡ false → reads p ≡ true → seen.entry ≡ None)
-          → Leads asks q p ((wait_program asks me call).plan p seen)
-      leads asks q (at.Prepare preparing.Lock) seen off h = lock_leads asks q seen h
-      leads asks q (at.Prepare preparing.Look) seen off h = look_leads asks q
-          (pending (state_mask how.state) seen.own) h
-      leads asks q (at.Prepare preparing.Queue) seen off h = queue_leads asks q seen.worn seen.entry
-          (λ z. off z refl) h
-      leads asks q (at.Prepare preparing.State) seen off h = (h.0, (refl, h.1))
-      leads asks q (at.Prepare preparing.Unlock) seen off h = (h.0, (refl, h.1))
-      leads asks q at.Test seen off h = (h.0, (seen.value, (refl, met_leads asks q h.0 (call_fails call seen) h.1)))
-      leads asks q at.Sleep seen off h = (h.0, (sleep_of seen.own, (refl, h.1)))
-      leads asks q at.Worn seen off h = either (Leads asks q at.Worn) (call_fails call seen) _ _ (λ k. absurd k)
-          (λ k. absurd k.1) h
-      leads asks q (at.Leave leaving.Queue) seen off h = leave_leads asks q seen.entry (λ z. off z refl) h
-      leads asks q (at.Leave leaving.Unlock) seen off h = (h.0, (refl, h.1))
-      leads asks q (at.Leave leaving.Load) seen off h = either (Leads asks q (at.Leave leaving.Load))
-          (call_fails call seen) _ _ (λ k. absurd k) (λ k. absurd k.1) h
-      leads asks q (at.Finish finishing.State false) seen off h = absurd h.1
-      leads asks q (at.Finish finishing.Look false) seen off h = either (Leads asks q (at.Finish finishing.Look false))
-          (is_some seen.entry) _ _ (λ k. absurd k.1) (λ k. absurd k) h
-      leads asks q (at.Finish finishing.Lock false) seen off h = absurd h.1
-      leads asks q (at.Finish finishing.Queue false) seen off h = either (Leads asks q (at.Finish finishing.Queue false))
-          (is_some seen.entry) _ _ (λ k. absurd k.1) (λ k. absurd k) h
-      leads asks q (at.Finish finishing.Unlock false) seen off h = absurd h
-      leads asks q p seen off h = (zero, tt)
-
-  -- how a wait may end from there
-  ends_at : (asks q : Bool) (to : Point) → is_behind to ≡ true → Left (answer_behind to) asks q to (rest_behind c to)
-  ends_at asks q at.Test is = (zero, (1, (refl, (refl, (false, (refl, refl))))))
-  ends_at asks q at.Worn is = (zero, (0, (refl, refl)))
-  ends_at asks q (at.Leave leaving.Load) is = (zero, (0, (refl, refl)))
-  ends_at asks q p is = absurd (cc)
+    leads : (v : List Event) (q : Bool) (p : Point) (seen : Seen) → (q ≡ false → reads p ≡ true → seen.entry ≡ None)
+        → LeftBehind (stands_by (f.plan p seen).event q) (f.plan p seen).next v → LeftFor q p ((f.plan p seen).event ∷ v) a
+    leads v q (at.Prepare preparing.Lock) seen off h = lock_leads asks refl v q seen h
+    leads v q (at.Prepare preparing.Look) seen off h = look_leads v q (pending (state_mask how.state) seen.own) h
+    leads v q (at.Prepare preparing.Queue) seen off h = queue_leads v q seen.worn seen.entry (λ z. off z refl) h
+    leads v q (at.Prepare preparing.State) seen off h = (refl, h)
+    leads v q (at.Prepare preparing.Unlock) seen off h = (refl, h)
+    leads v q (at.Leave leaving.Queue) seen off h = leave_leads v q seen.entry (λ z. off z refl) h
+    leads v q (at.Leave leaving.Unlock) seen off h = (refl, h)
+    leads v q p seen off h = tt
 
   -- an entry that does not stand after an event did not stand before it, and the event did not queue it
   stays_off : (e : Event) (q : Bool) → stands_by e q ≡ false → (q ≡ false) × ((notes none_noted e).queued ≡ false)
   stays_off (event.Queue h form) q is = absurd (cc)
-  stays_off (event.Sleep x) q is = absurd (cc)
   stays_off e q is = (is, refl)
 
   -- whole prepares
-  module _ (s : Table) (all : IsInterleaved s) (asks : Bool) (to : Point) (behind : is_behind to ≡ true) (new : Known)
-      (later : List Step) (split : s.history me ≡ history_of new ++ later) where
-    abbrev f : Program
-    f = wait_program asks me call
-
-    abbrev x : ℕ
-    x = index me 0
-
+  module _ (s : Table) (all : IsInterleaved s) (a : Answer) (new : Known) (later : List Step)
+      (split : s.history me ≡ history_of new ++ later) where
     -- what it finds of an entry that is off
-    found : (t : Transition) (rest : List Step) → s.history me ≡ history_of t.knew ++ (steps_made t.did ++ rest)
-        → IsOff t.knew x → (p : Point) → IsMadeFor t.knew f.own (f.given p) (f.plan p t.seen).event t.did
-        → Finds t.knew f p t.did t.seen → reads p ≡ true → t.seen.entry ≡ None
-    found t rest cut out (at.Prepare preparing.Queue) made finds is = found_off s all me call 0 (omega arith) refl refl
-        t rest cut out (at.Prepare preparing.Queue) made finds refl
-    found t rest cut out (at.Leave leaving.Queue) made finds is = found_off s all me call 0 (omega arith) refl refl
-        t rest cut out (at.Leave leaving.Queue) made finds refl
-    found t rest cut out p made finds is = absurd (cc)
+    module _ (t : Transition) (rest : List Step) (cut : s.history me ≡ history_of t.knew ++ (steps_made t.did ++ rest))
+        (out : IsOff t.knew x) where
+      seen_off : IsSeenAs ((told_of t.knew).hold.book x) t.seen.entry → t.seen.entry ≡ None
+      seen_off = own_off me (history_of t.knew)
+          (moment_of s all me (history_of t.knew) (steps_made t.did ++ rest) cut) x (owner_own me) out t.seen.entry
 
-    abbrev Rests : Bool → Point → List Event → Type 0
-    Rests q p v = Left (answer_behind to) asks q p v
+      finds_at : (p : Point) (did : StepOrLook) → Finds t.knew f p did t.seen
+          → FindsAt t.knew (Some x) f.form (f.given p) p t.seen
+      finds_at p (by_step e) finds = finds.1
+      finds_at p (by_look xs) finds = finds
+
+      found : (p : Point) → Finds t.knew f p t.did t.seen → reads p ≡ true → t.seen.entry ≡ None
+      found (at.Prepare preparing.Queue) finds is = seen_off (finds_at (at.Prepare preparing.Queue) t.did finds).0
+      found (at.Leave leaving.Queue) finds is = seen_off (finds_at (at.Leave leaving.Queue) t.did finds)
+      found p finds is = absurd (cc)
+
+    abbrev said_on : List Transition → Next → List Event
+    said_on ts n = said f n ts
 
     tail_on : (ts : List Transition) (q : Bool) (j : Known)
-        → ((p : Point) → Goes f j (next.Go p) ts new (next.Go to) → Rests q p (said f (next.Go p) ts ++ rest_behind c to))
-        → (n : Next) → Goes f j n ts new (next.Go to)
-        → LeftBehind (answer_behind to) asks q n (said f n ts ++ rest_behind c to)
+        → ((p : Point) → Goes f j (next.Go p) ts new (next.Ends a) → LeftFor q p (said_on ts (next.Go p)) a)
+        → (n : Next) → Goes f j n ts new (next.Ends a) → LeftBehind a q n (said_on ts n)
     tail_on ts q j rec (next.Go p) g = rec p g
-    tail_on [] q j rec (next.Ends b) g = absurd (let z : next.Go to ≡ next.Ends b = g.1 in cc)
+    tail_on [] q j rec (next.Ends b) g = let z : next.Ends a ≡ next.Ends b = g.1 in
+        let y : a ≡ b = cc in y
     tail_on (t ∷ ts) q j rec (next.Ends b) g = absurd g
 
     run_on : (ts : List Transition) (q : Bool) (p : Point) (old : Known) → (q ≡ false → IsOff old x)
-        → Goes f old (next.Go p) ts new (next.Go to) → Rests q p (said f (next.Go p) ts ++ rest_behind c to)
-    run_on [] q p old off g = subst (λ (r : Point). Rests q r (rest_behind c to))
-        (let z : next.Go to ≡ next.Go p = g.1 in let y : to ≡ p = cc in y) (ends_at asks q to behind)
+        → Goes f old (next.Go p) ts new (next.Ends a) → LeftFor q p (said_on ts (next.Go p)) a
+    run_on [] q p old off g = absurd (let z : next.Ends a ≡ next.Go p = g.1 in cc)
     run_on (t ∷ ts) q p old off g =
         let e : Event = (f.plan p t.seen).event in
         let nx : Next = (f.plan p t.seen).next in
-        let r = step_follows f new nx (next.Go to) t ts g.1 in
+        let r = step_follows f new nx (next.Ends a) t ts g.1 in
         let cut : s.history me ≡ history_of t.knew ++ (steps_made t.did ++ (r.0 ++ later)) =
         split ∙ (ap (λ (es : List Step). es ++ later) r.1
         ∙ (append_assoc (history_of t.knew) (steps_made t.did ++ r.0) later
         ∙ ap (λ (es : List Step). history_of t.knew ++ es) (append_assoc (steps_made t.did) r.0 later))) in
-        leads (answer_behind to) (said f nx ts ++ rest_behind c to) asks q p t.seen
-        (λ z is. found t (r.0 ++ later) cut (off_on old t.knew x g.0.looks (off z)) p g.0.is g.0.finds is)
+        leads a (said_on ts nx) q p t.seen
+        (λ z is. found t (r.0 ++ later) cut (off_on old t.knew x g.0.looks (off z)) p g.0.finds is)
         (tail_on ts (stands_by e q) (after_transition t)
         (λ p2 on. run_on ts (stands_by e q) p2 (after_transition t)
         (λ z. let y = stays_off e q z in
         off_still t.knew f.own (f.given p) e t.did none_noted x g.0.is y.1
         (off_on old t.knew x g.0.looks (off y.0))) on) nx g.1)
 
-pub prepares_begin : PreparesBegin
-prepares_begin old new c how asks to queued is law out p =
+pub prepares_follow : PreparesFollow
+prepares_follow old new w k how asks a queued law out p =
     let me : ℕ = old.view.number in
-    let goes : Goes (wait_program asks me (calls.Wait c how)) old (next.Go (at.Prepare preparing.Lock))
-    p.runs.transitions new (next.Go to) = subst (λ (f : Program). Goes f old (next.Go (at.Prepare preparing.Lock))
-    p.runs.transitions new (next.Go to)) (plain_program me c how asks) p.runs.goes in
-    let number : new.view.number ≡ me = number_stays (wait_program asks me (calls.Wait c how)) old new
-    (next.Go (at.Prepare preparing.Lock)) (next.Go to) p.runs.transitions goes in
-    run_on me c how law.table law.ruled.whole.interleaved asks to is new []
+    let number : new.view.number ≡ me = number_stays (prepare_program asks me w k how) old new
+    (next.Go (at.Prepare preparing.Lock)) (next.Ends a) p.runs.transitions p.runs.goes in
+    run_on asks me w k how law.table law.ruled.whole.interleaved a new []
     (law.ruled.histories me ∙ (ap steps_of (list_of new.view law me number) ∙ steps_append new.view.items []))
-    p.runs.transitions queued (at.Prepare preparing.Lock) old out goes
+    p.runs.transitions queued (at.Prepare preparing.Lock) old out p.runs.goes
 
 -- what is left at the points of a program, event by event
 module _ (f : Program) (Left : Point → List Event → Type 0) (Over : Answer → List Event → Type 0) where

@@ -3,6 +3,8 @@ use Rattle.std.proofs.Common.{◌∙◌, ap, sym, refl, subst, inr}
 use Rattle.std.specs.Prelude.{ℕ, ◌≡◌, ◌⊎◌, ◌<◌, ◌&&◌, ◌||◌, Bool, true, false, if◌then◌else◌, is_some, Option, Some, None}
 use Rattle.std.specs.Prelude.{Result, Ok, Err, List, [], ◌∷◌, ◌++◌}
 use Rattle.wait_model.specs.declared.layout.TheConstants.{FIRST_DONE_HEAD}
+use Rattle.wait_model.specs.declared.calls.Answer.{Answer}
+use Rattle.wait_model.specs.declared.calls.Answer.TheVariants as answer
 use Rattle.wait_model.specs.declared.points.LeavePoint.TheVariants as leaving
 use Rattle.wait_model.specs.declared.points.Next.{Next}
 use Rattle.wait_model.specs.declared.points.Next.TheVariants as next
@@ -16,6 +18,7 @@ use Rattle.wait_model.specs.declared.tasks.SleepState.{SleepState}
 use Rattle.wait_model.specs.declared.watches.Entry.{Entry}
 use Rattle.wait_model.specs.declared.watches.Kind.{Kind}
 use Rattle.wait_model.specs.declared.watches.Watch.{Watch}
+use Rattle.wait_model.specs.Programs.{signalled, zero_answer}
 use Rattle.wait_model.specs.Tasks.{looks_in, state_mask}
 use Rattle.wait_model.specs.Watches.{head_of}
 use Rattle.wait_rule.specs.declared.journal.Item.TheVariants as item
@@ -58,7 +61,7 @@ use Rattle.wait_event.specs.Prepares.{
   answers_first,
   exclusive_in,
   leave_change,
-  part_program,
+  prepare_program,
   prepare_change,
   with_none,
 }
@@ -201,7 +204,7 @@ module _ (old a : Known) (w : Watch) (k : Kind) (how : How) (l : HasLocked old a
   behind = subst (OnlyLooks locked) (sym l.is) (only_none locked)
 
   -- the list of its one transition
-  pub lock_runs : (asks : Bool) → Goes (part_program asks old.view.number w k how) old
+  pub lock_runs : (asks : Bool) → Goes (prepare_program asks old.view.number w k how) old
       (next.Go (at.Prepare preparing.Lock)) (lock_is ∷ []) a
       (next.Go (at.Prepare (if asks && looks_in how.state then preparing.Look else preparing.Queue)))
   lock_runs true = (
@@ -296,8 +299,8 @@ module _ (p : Part) (old a b : Known) (hit : Bool) (may : MayPrepare old p.watch
     last_stored = ap (told_of new).bits.stored last_own ∙ three.stored (own_of b) refl refl
 
 paring : (asks : Bool) (me : ℕ) (w : Watch) (k : Kind) (how : How)
-    → IsParing (part_program asks me w k how) (at.Leave leaving.Queue) (at.Leave leaving.Unlock)
-    (next.Go (at.Leave leaving.Load)) me (head_of w)
+    → IsParing (prepare_program asks me w k how) (at.Leave leaving.Queue) (at.Leave leaving.Unlock)
+    (next.Ends signalled) me (head_of w)
 paring asks me w k how = record {
   takes = λ j e x. record { made = owner_own me; finds = (tt, x, refl); goes = refl };
   gives = λ j at x. record { made = (at, refl); finds = (tt, x, tt); goes = refl };
@@ -349,9 +352,9 @@ module _ (p : Part) (old a b : Known) (may : MayPrepare old p.watch p.kind p.how
     signal_ends = (
       record {
         runs = runs_on g old b new (next.Go (at.Prepare preparing.Lock)) (next.Go (at.Leave leaving.Queue))
-            (next.Go (at.Leave leaving.Load)) (begins p old a b true may was suits l one hears)
+            (next.Ends signalled) (begins p old a b true may was suits l one hears)
             (pared_runs b held home c new z g (at.Leave leaving.Queue) (at.Leave leaving.Unlock)
-            (next.Go (at.Leave leaving.Load)) old.view.number (head_of p.watch)
+            (next.Ends signalled) old.view.number (head_of p.watch)
             (paring p.asks old.view.number p.watch p.kind p.how) number_to
             (prepare_at p old a b true may was suits l one hears) found y);
         keeps = last_keeps p old a b true may was suits l one hears c new (λ t. t) did z three;
@@ -379,16 +382,16 @@ module _ (p : Part) (old a b : Known) (may : MayPrepare old p.watch p.kind p.how
       abbrev gives_back : Transition
       gives_back = record { seen = nothing; knew = c; did = by_step (step.Unlock c.at false) }
 
-      unlocks : Runs g c new (next.Go (at.Prepare preparing.Unlock)) (next.Go at.Test)
+      unlocks : Runs g c new (next.Go (at.Prepare preparing.Unlock)) (next.Ends zero_answer)
       unlocks = runs_one g (at.Prepare preparing.Unlock) c c new nothing (by_step (step.Unlock c.at false)) (only_none c)
           (last_at p old a b false may was suits l one goes_on c new (λ _. τ) y.carries z three, refl) (tt, tt, tt)
           (unlock_looks c new z.is)
 
-      whole : Runs g old new (next.Go (at.Prepare preparing.Lock)) (next.Go at.Test)
+      whole : Runs g old new (next.Go (at.Prepare preparing.Lock)) (next.Ends zero_answer)
       whole = runs_on g old b new (next.Go (at.Prepare preparing.Lock)) (next.Go (at.Prepare preparing.Queue))
-          (next.Go at.Test) (begins p old a b false may was suits l one goes_on)
+          (next.Ends zero_answer) (begins p old a b false may was suits l one goes_on)
           (runs_on g b c new (next.Go (at.Prepare preparing.Queue)) (next.Go (at.Prepare preparing.Unlock))
-          (next.Go at.Test) (for_number p b.view.number old.view.number b c (next.Go (at.Prepare preparing.Queue))
+          (next.Ends zero_answer) (for_number p b.view.number old.view.number b c (next.Go (at.Prepare preparing.Queue))
           (next.Go (at.Prepare preparing.Unlock)) number_on y.runs) unlocks)
 
       firsts : queues_first whole.transitions ≡ queues_first y.runs.transitions
@@ -428,7 +431,7 @@ module _ (p : Part) (old a b : Known) (may : MayPrepare old p.watch p.kind p.how
       worn_ends = (
         record {
           runs = runs_on g old b new (next.Go (at.Prepare preparing.Lock)) (next.Go (at.Prepare preparing.Queue))
-              (next.Go at.Worn) (begins p old a b false may was suits l one goes_on)
+              (next.Ends answer.Worn) (begins p old a b false may was suits l one goes_on)
               (runs_one g (at.Prepare preparing.Queue) b c new (with_worn true) (by_step (step.Unlock c.at false)) y.looks
               (last_at p old a b false may was suits l one goes_on c new (λ t. t) y.carries z three, refl) (
                 tt,
@@ -516,7 +519,7 @@ part_low w k (Some e) low part = subst (λ (h : ℕ). h < FIRST_DONE_HEAD) (sym 
 
 module _ (p : Part) (old new : Known) (may : MayPrepare old p.watch p.kind p.how.state) (was : IsTold old)
     (now : IsTold new) (suits : Suits p.watch p.kind p.how) where
-  module _ (to : Point) (x : Prepares old new p.watch p.kind p.how p.asks to) where
+  module _ (a : Answer) (x : Prepares old new p.watch p.kind p.how p.asks a) where
     finish_may : MayFinish new
     finish_may = record {
       up = x.up;
@@ -532,14 +535,14 @@ module _ (p : Part) (old new : Known) (may : MayPrepare old p.watch p.kind p.how
   left_state left = subst (λ (s : ℕ). (s ≡ 0) ⊎ (s ≡ state_mask p.how.state)) (sym left.state) may.state
 
   pub ends_may : (r : Result (Option Bool) Worn) → EndsPart old new p r → MayFinish new
-  ends_may (Ok (Some first)) e = finish_may at.Test e.0
-  ends_may (Ok None) e = finish_may (at.Leave leaving.Load) e.0
-  ends_may (Err v) e = finish_may at.Worn e.0
+  ends_may (Ok (Some first)) e = finish_may zero_answer e.0
+  ends_may (Ok None) e = finish_may signalled e.0
+  ends_may (Err v) e = finish_may answer.Worn e.0
 
   pub ends_again : (r : Result (Option Bool) Worn) → EndsPart old new p r → MayPrepare new p.watch p.kind p.how.state
-  ends_again (Ok (Some first)) e = again_may at.Test e.0 (inr e.1.state)
-  ends_again (Ok None) e = again_may (at.Leave leaving.Load) e.0 (left_state e.2)
-  ends_again (Err v) e = again_may at.Worn e.0 (left_state e.1)
+  ends_again (Ok (Some first)) e = again_may zero_answer e.0 (inr e.1.state)
+  ends_again (Ok None) e = again_may signalled e.0 (left_state e.2)
+  ends_again (Err v) e = again_may answer.Worn e.0 (left_state e.1)
 
   pub ends_keeps : (r : Result (Option Bool) Worn) → EndsPart old new p r → Keeps (own_of old) old new
   ends_keeps (Ok (Some first)) e = e.0.keeps

@@ -23,12 +23,12 @@ use Rattle.wq_head.specs.declared.adds.Worn.{Worn}
 use Rattle.wq_head.specs.Adds.{HasRemoved}
 use Rattle.wait_class.specs.Posts.{HasSeenOwn, Runs, own_of}
 use Rattle.wait_class.specs.Queueing.{wait_form}
-use Rattle.wait_event.specs.Prepares.{IsPart, answers_first, part_program}
+use Rattle.wait_event.specs.Prepares.{IsPart, answers_first, prepare_program}
 use Rattle.wait_event.specs.Waits.{queues_first}
 use Rattle.wait_event.specs.declared.prepares.Part.{Part}
 
 abbrev pub program_of : Part → ℕ → Program
-program_of p me = part_program p.asks me p.watch p.kind p.how
+program_of p me = prepare_program p.asks me p.watch p.kind p.how
 
 -- what a step in the hold changes: the own entry, and the state
 abbrev pub part_change : ℕ → (ℕ → ℕ) → Change

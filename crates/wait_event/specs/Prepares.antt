@@ -5,14 +5,14 @@ use Rattle.std.specs.Prelude.{◌++◌}
 use Rattle.wait_model.specs.declared.layout.TheConstants.{BIT_WORDS, FIRST_DONE_HEAD, FIRST_SIMPLE, PLAIN_CONDITIONS}
 use Rattle.wait_model.specs.declared.layout.TheConstants.{VARIABLES, WORD_BITS}
 use Rattle.wait_model.specs.declared.tasks.How.{How}
-use Rattle.wait_model.specs.declared.points.Point.{Point}
 use Rattle.wait_model.specs.declared.points.Point.TheVariants as at
 use Rattle.wait_model.specs.declared.points.PreparePoint.TheVariants as preparing
-use Rattle.wait_model.specs.declared.points.LeavePoint.TheVariants as leaving
 use Rattle.wait_model.specs.declared.points.FinishPoint.TheVariants as finishing
 use Rattle.wait_model.specs.declared.tasks.SleepState.{SleepState}
 use Rattle.wait_model.specs.declared.tasks.SleepState.TheVariants as states
-use Rattle.wait_model.specs.Programs.{zero_answer}
+use Rattle.wait_model.specs.declared.calls.Answer.{Answer}
+use Rattle.wait_model.specs.declared.calls.Answer.TheVariants as answer
+use Rattle.wait_model.specs.Programs.{signalled, zero_answer}
 use Rattle.wait_model.specs.declared.points.Next.TheVariants as next
 use Rattle.wait_model.specs.declared.watches.Entry.{Entry}
 use Rattle.wait_model.specs.declared.watches.Kind.{Kind}
@@ -30,7 +30,7 @@ use Rattle.wq_head.specs.declared.adds.Worn.{Worn}
 use Rattle.wait_class.specs.Posts.{EndsWith, IsOut, Keeps, Runs, own_of}
 use Rattle.wait_class.specs.Tables.{plan_program}
 use Rattle.wait_event.specs.Waits.{IsQueuedIn, left_by, queues_first}
-use Rattle.wait_event.specs.WaitPlans.{part_plan}
+use Rattle.wait_event.specs.WaitPlans.{part_plan, prepare_plan}
 use Rattle.wait_event.specs.declared.prepares.Part.{Part}
 use Rattle.wait_event.specs.declared.prepares.Prepared.{Prepared}
 use Rattle.wait_event.specs.declared.prepares.Prepared.TheVariants as prepared
@@ -59,15 +59,15 @@ pub record MayPrepare (t : Known) (w : Watch) (k : Kind) (σ : SleepState) : Typ
   pub state : (t.book.state ≡ 0) ⊎ (t.book.state ≡ state_mask σ)
   pub home : IsPart w k ((told_of t).bits.stored (own_of t))
 
--- the program of a wait for this watch whose entry is of this kind; its prepare looks for a signal only where it asks for
--- one
-abbrev pub part_program : Bool → ℕ → Watch → Kind → How → Program
-part_program asks me w k how = plan_program me 0 (part_plan asks w k how)
+-- the program of a prepare for this watch, whose entry is of this kind; it looks for a signal only where it asks for one
+abbrev pub prepare_program : Bool → ℕ → Watch → Kind → How → Program
+prepare_program asks me w k how = plan_program me 0 (prepare_plan asks w k how)
 
--- The task went through the prepare of a wait to this point, and holds no lock. Its entry of slot 0 is off, or one of
--- this watch and kind.
-pub record Prepares (old new : Known) (w : Watch) (k : Kind) (how : How) (asks : Bool) (to : Point) : Type 0 where
-  pub runs : Runs (part_program asks old.view.number w k how) old new (next.Go (at.Prepare preparing.Lock)) (next.Go to)
+-- The task went through a prepare to its end, which is one hold, with this answer, and holds no lock. Its entry of slot 0
+-- is off, or one of this watch and kind.
+pub record Prepares (old new : Known) (w : Watch) (k : Kind) (how : How) (asks : Bool) (a : Answer) : Type 0 where
+  pub runs : Runs (prepare_program asks old.view.number w k how) old new (next.Go (at.Prepare preparing.Lock))
+      (next.Ends a)
   pub keeps : Keeps (own_of old) old new
   pub up : IsUp new
   pub free : IsFree new
@@ -86,11 +86,11 @@ pub record IsLeft (old new : Known) : Type 0 where
   pub state : new.book.state ≡ old.book.state
 
 abbrev pub EndsPrepare : Known → Known → Watch → Kind → How → Bool → Result Prepared Worn → Type 0
-EndsPrepare old new w k how asks (Ok prepared.Queued) = Prepares old new w k how asks at.Test
+EndsPrepare old new w k how asks (Ok prepared.Queued) = Prepares old new w k how asks zero_answer
     × IsQueuedIn new (state_mask how.state)
-EndsPrepare old new w k how asks (Ok prepared.Signal) = Prepares old new w k how asks (at.Leave leaving.Load)
+EndsPrepare old new w k how asks (Ok prepared.Signal) = Prepares old new w k how asks signalled
     × (asks ≡ true) × IsLeft old new × WasAsked new w how
-EndsPrepare old new w k how asks (Err e) = Prepares old new w k how asks at.Worn × IsLeft old new
+EndsPrepare old new w k how asks (Err e) = Prepares old new w k how asks answer.Worn × IsLeft old new
     × (e.head ≡ head_of w) × WasWorn new.view.number new.view.items e.head e.place
 
 -- An exclusive prepare that looks for no signal answers whether its entry is the first: it queued it, and its hold had
@@ -99,7 +99,7 @@ abbrev pub exclusive_in : SleepState → How
 exclusive_in σ = record { state = σ; exclusive = true }
 
 abbrev pub EndsExclusive : Known → Known → Watch → Kind → SleepState → Result Bool Worn → Type 0
-EndsExclusive old new w k σ (Ok first) = (p : Prepares old new w k (exclusive_in σ) false at.Test)
+EndsExclusive old new w k σ (Ok first) = (p : Prepares old new w k (exclusive_in σ) false zero_answer)
     × IsQueuedIn new (state_mask σ) × (first ≡ queues_first p.runs.transitions)
 EndsExclusive old new w k σ (Err e) = EndsPrepare old new w k (exclusive_in σ) false (Err e)
 
@@ -109,7 +109,7 @@ abbrev pub answers_first : Part → Bool
 answers_first p = p.how.exclusive && not p.asks
 
 abbrev pub EndsPart : Known → Known → Part → Result (Option Bool) Worn → Type 0
-EndsPart old new p (Ok (Some first)) = (x : Prepares old new p.watch p.kind p.how p.asks at.Test)
+EndsPart old new p (Ok (Some first)) = (x : Prepares old new p.watch p.kind p.how p.asks zero_answer)
     × IsQueuedIn new (state_mask p.how.state) × (first ≡ (queues_first x.runs.transitions && answers_first p))
 EndsPart old new p (Ok None) = EndsPrepare old new p.watch p.kind p.how p.asks (Ok prepared.Signal)
 EndsPart old new p (Err e) = EndsPrepare old new p.watch p.kind p.how p.asks (Err e)
@@ -144,7 +144,7 @@ abbrev pub any_how : How
 any_how = record { state = states.Uninterruptible; exclusive = false }
 
 abbrev pub finish_program : ℕ → Watch → Program
-finish_program me w = part_program true me w (kind_for w) any_how
+finish_program me w = plan_program me 0 (part_plan true w (kind_for w) any_how)
 
 -- The task went through the finish of a wait for the watch of its entry, where it had one. It is RUNNING, holds no lock,
 -- and the entry is off.

@@ -131,3 +131,18 @@ part_plan asks w k how = record {
 
 abbrev pub wait_plan : Bool → Watch → How → Plan
 wait_plan asks w how = part_plan asks w (kind_for w) how
+
+-- A prepare is a program of its own: where a wait goes on from it, it ends, with what it found.
+abbrev pub behind_prepare : Next → Next
+behind_prepare (next.Go at.Test) = next.Ends zero_answer
+behind_prepare (next.Go at.Worn) = next.Ends answer.Worn
+behind_prepare (next.Go (at.Leave leaving.Load)) = next.Ends signalled
+behind_prepare n = n
+
+abbrev pub prepares_alone : Planned → Planned
+prepares_alone e = record { event = e.event; next = behind_prepare e.next }
+
+abbrev pub prepare_plan : Bool → Watch → Kind → How → Plan
+prepare_plan asks w k how = record (part_plan asks w k how) {
+  makes = λ me p seen. prepares_alone (asked asks p (plan me w how p seen));
+}

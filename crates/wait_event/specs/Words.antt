@@ -1,18 +1,15 @@
 -- To be believed.
 -- Whole calls as lists of events: what each makes follows its sentence, and a wait that answers for a signal has found
 -- one in its last turn.
-use Rattle.std.specs.Prelude.{ℕ, ◌≡◌, ◌<◌, Bool, true, false, if◌then◌else◌, Result, Err, List, [], ◌∷◌, ◌++◌}
+use Rattle.std.specs.Prelude.{ℕ, ◌≡◌, ◌<◌, Bool, true, false, if◌then◌else◌, Result, Err, List, []}
 use Rattle.wait_model.specs.declared.layout.TheConstants.{PLAIN_CONDITIONS}
 use Rattle.wait_model.specs.declared.calls.Call.{Call}
 use Rattle.wait_model.specs.declared.calls.Call.TheVariants as calls
 use Rattle.wait_model.specs.declared.calls.Event.{Event}
-use Rattle.wait_model.specs.declared.calls.Event.TheVariants as event
 use Rattle.wait_model.specs.declared.calls.Answer.{Answer}
 use Rattle.wait_model.specs.declared.calls.Answer.TheVariants as answer
 use Rattle.wait_model.specs.declared.points.FinishPoint.TheVariants as finishing
-use Rattle.wait_model.specs.declared.points.LeavePoint.TheVariants as leaving
 use Rattle.wait_model.specs.declared.points.PreparePoint.TheVariants as preparing
-use Rattle.wait_model.specs.declared.points.Point.{Point}
 use Rattle.wait_model.specs.declared.points.Point.TheVariants as at
 use Rattle.wait_model.specs.declared.points.WalkPoint.TheVariants as walking
 use Rattle.wait_model.specs.declared.points.Next.TheVariants as next
@@ -23,19 +20,18 @@ use Rattle.wait_model.specs.declared.tasks.SleepState.{SleepState}
 use Rattle.wait_model.specs.declared.watches.Kind.{Kind}
 use Rattle.wait_model.specs.declared.watches.Mode.{Mode}
 use Rattle.wait_model.specs.Programs.{program_start, signalled, zero_answer}
-use Rattle.wait_model.specs.declared.watches.Watch.TheVariants as watch
-use Rattle.wait_model.specs.Phrases.{Phrase, ◌>>=◌, ◌>>◌, Turn, ends, gives, leaves, repeat, when◌then◌otherwise◌}
+use Rattle.wait_model.specs.declared.watches.Watch.{Watch}
+use Rattle.wait_model.specs.Phrases.{Phrase, ◌>>=◌, ◌>>◌, ends, gives}
 use Rattle.wait_model.specs.SentenceSteps.{
   Prepared,
   finishes,
-  is_met,
   is_ready,
+  is_signalled,
   is_worn,
   number,
   prepares,
   prepares_event,
 }
-use Rattle.wait_model.specs.SentenceWaits.{goes_on, may_stand}
 use Rattle.wait_model.specs.Sentences.{Follows}
 use Rattle.wait_class.specs.Queueing.{wait_form}
 use Rattle.wait_rule.specs.Known.{Known}
@@ -48,9 +44,7 @@ use Rattle.wait_event.specs.Conds.{HasSet, HasTaken}
 use Rattle.wait_event.specs.Ends.{EndsWait, answer_of}
 use Rattle.wait_event.specs.Entries.{EndsAdd, HasRemovedOwn, add_answer}
 use Rattle.wait_class.specs.Posts.{IsOut}
-use Rattle.wait_event.specs.Prepares.{HasFinished, Prepares, finish_program}
-use Rattle.wait_event.specs.WaitPlans.{wait_program}
-use Rattle.wait_model.specs.Watches.{kind_for}
+use Rattle.wait_event.specs.Prepares.{HasFinished, Prepares, finish_program, prepare_program}
 use Rattle.wait_event.specs.WokenWaits.{EndsWoken}
 use Rattle.wait_event.specs.declared.wait_events.WaitEnd.{WaitEnd}
 use Rattle.wq_head.specs.declared.adds.Worn.{Worn}
@@ -100,55 +94,31 @@ abbrev pub RemovesFollow : Type 0
 RemovesFollow = (old new : Known) → MeetsLaw new.view → (h : HasRemovedOwn old new) → Follows old.view.number calls.Remove
     (call_says old.view.number calls.Remove h.runs.transitions) zero_answer
 
--- The turns of a wait that is built from parts: each prepares in a hold, with a look for a signal where it asks for one,
--- and goes on as a turn of the sentence of a wait does. Where it asks they are the turns of that sentence. `queued` is
+-- A prepare, with a look for a signal where it asks for one: then it is what each turn of a wait begins with. `queued` is
 -- whether the own entry may be queued already.
-abbrev pub prepares_by : Bool → ℕ → ℕ → How → Bool → Phrase Prepared
-prepares_by true me c how queued = prepares_event me (watch.Plain c) how.state (wait_form how) queued
-prepares_by false me c how queued = do
-  entered ← prepares (watch.Plain c) how.state (wait_form how) queued
+abbrev pub prepares_by : Bool → ℕ → Watch → How → Bool → Phrase Prepared
+prepares_by true me w how queued = prepares_event me w how.state (wait_form how) queued
+prepares_by false me w how queued = do
+  entered ← prepares w how.state (wait_form how) queued
   gives (if entered then is_ready else is_worn)
 
-abbrev pub turn_by : Bool → ℕ → ℕ → How → Bool → Phrase (Turn Bool Answer)
-turn_by asks me c how queued = do
-  done ← prepares_by asks me c how queued
-  now_met ← is_met (watch.Plain c)
-  when now_met then (do finishes me (watch.Plain c) (may_stand done queued); gives (leaves (number 0)))
-      otherwise goes_on done
+-- what it answers: the entry stands and the state is stored, a signal was found, or no place was left
+abbrev pub prepared_as : Prepared → Answer
+prepared_as is_ready = zero_answer
+prepared_as is_signalled = signalled
+prepared_as is_worn = answer.Worn
 
-abbrev pub turns_by : Bool → ℕ → ℕ → How → Bool → Phrase Answer
-turns_by asks me c how queued = repeat (turn_by asks me c how) queued
+abbrev pub prepare_says : Bool → ℕ → Watch → Kind → How → List Transition → List Event
+prepare_says asks me w k how ts = said (prepare_program asks me w k how) (next.Go (at.Prepare preparing.Lock)) ts
 
--- What may come behind a prepare, by the place behind it: one that queued its entry, a load that finds the condition
--- set, and a finish that finds the entry off; one that found a signal or no place, a load that finds it not set.
-abbrev pub is_behind : Point → Bool
-is_behind at.Test = true
-is_behind at.Worn = true
-is_behind (at.Leave leaving.Load) = true
-is_behind _ = false
-
-abbrev pub rest_behind : ℕ → Point → List Event
-rest_behind c at.Test = event.Load c 1 ∷ event.State 0 ∷ event.Queued false ∷ []
-rest_behind c _ = event.Load c 0 ∷ []
-
-abbrev pub answer_behind : Point → Answer
-answer_behind at.Test = zero_answer
-answer_behind at.Worn = answer.Worn
-answer_behind _ = signalled
-
--- What a prepare for a plain condition makes, whose entry is of the kind of a wait, begins such turns, and with this
--- behind it it is whole ones, with this answer. It looks for a signal where `asks` says so (`Prepares`, which the clause
--- `ends` of each prepare has). A load of the base word after
--- it shows the table that is asked for.
-abbrev pub prepare_says : Bool → ℕ → Call → List Transition → List Event
-prepare_says asks me call ts = said (wait_program asks me call) (next.Go (at.Prepare preparing.Lock)) ts
-
-abbrev pub PreparesBegin : Type 0
-PreparesBegin = (old new : Known) (c : ℕ) (how : How) (asks : Bool) (to : Point) (queued : Bool) → is_behind to ≡ true
-    → MeetsLaw new.view → (queued ≡ false → IsOut old)
-    → (p : Prepares old new (watch.Plain c) (kind_for (watch.Plain c)) how asks to)
-    → (turns_by asks old.view.number c how queued) ends
-    (prepare_says asks old.view.number (calls.Wait c how) p.runs.transitions ++ rest_behind c to) (answer_behind to)
+-- What a prepare makes is one prepare of the sentences and nothing more, for each watch and with an entry of each kind,
+-- and answers as that does. It looks for a signal where `asks` says so (`Prepares`, which the clause `ends` of each
+-- prepare has). A load of the base word after it shows the table that is asked for.
+abbrev pub PreparesFollow : Type 0
+PreparesFollow = (old new : Known) (w : Watch) (k : Kind) (how : How) (asks : Bool) (a : Answer) (queued : Bool)
+    → MeetsLaw new.view → (queued ≡ false → IsOut old) → (p : Prepares old new w k how asks a)
+    → (prepares_by asks old.view.number w how queued >>= λ done. gives (prepared_as done)) ends
+    (prepare_says asks old.view.number w k how p.runs.transitions) a
 
 -- What a finish makes is a finish of the sentence of a wait for its watch, to its end, with the answer of a wait whose
 -- condition is met.

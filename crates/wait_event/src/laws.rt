@@ -1,21 +1,21 @@
 //! What whole calls make, as the sentences of the model say it.
 
 ghost use Rattle.wait_event.specs.LosesNone.{SetsLoseNone};
-ghost use Rattle.wait_event.specs.Words.{AddsFollow, FinishesFollow, PreparesBegin, RemovesFollow, SetsFollow};
+ghost use Rattle.wait_event.specs.Words.{AddsFollow, FinishesFollow, PreparesFollow, RemovesFollow, SetsFollow};
 ghost use Rattle.wait_event.specs.Words.{TakesFollow, WaitsFollow, WaitsHeed, WaitsSay, WokensFollow};
 
 /// What a `wait_event`, a `wait_woken`, an `add_entry`, a `remove_entry`, a `take_cond` and a `set_and_wake` have made
 /// follows the sentences of a wait, a wait for a flag, an add, a removal, a take, a set and a wake, and their answers
 /// are those that the sentences give: by the table that a load of the base word shows after the call (`Task::witness`).
-/// What a prepare has made begins turns of such a wait, and ends in one of them as its answer says; and what a
-/// `finish_wait` has made is a finish of one.
+/// What a prepare has made is one prepare of the sentences and nothing more, for each watch and each kind of entry, and
+/// it answers as that does; and what a `finish_wait` has made is a finish of a wait.
 pub fn calls_follow_sentences()
     ensures waits { WaitsFollow }
     ensures says { WaitsSay }
     ensures flags { WokensFollow }
     ensures adds { AddsFollow }
     ensures removes { RemovesFollow }
-    ensures prepares { PreparesBegin }
+    ensures prepares { PreparesFollow }
     ensures finishes { FinishesFollow }
     ensures takes { TakesFollow }
     ensures sets { SetsFollow }

@@ -8,9 +8,8 @@ use Rattle.wait_class.specs.Tables.{Advances, IsAt}
 use Rattle.wait_class.specs.Wholes.{HasRested}
 use Rattle.wait_class.proofs.Framing.{framed_lawful}
 use Rattle.wait_class.proofs.Turns.{advances_none}
-use Rattle.bit_wait.specs.BitTables.{bit_frame, bit_table, call_in, is_worn as found_no_place}
+use Rattle.bit_wait.specs.BitTables.{bit_frame, bit_table, call_in, is_worn}
 use Rattle.bit_wait.specs.declared.waits.BitOutcome.{BitOutcome}
-use Rattle.bit_wait.specs.declared.waits.BitOutcome.TheVariants as outcome
 use Rattle.bit_wait.proofs.BitLaws.{bit_lawful, ends_carried, ends_idle, ends_up}
 use Rattle.wq_checked.specs.Stages.{BitRun, BitTurn, GoesFrom, StandsBy, bit_first}
 use Rattle.wq_checked.proofs.GroundTurns.{joined, stayed}
@@ -22,7 +21,6 @@ use Rattle.wq_checked.specs.declared.calls.Running.{Running}
 use Rattle.wq_checked.specs.declared.calls.Running.TheVariants as running
 use Rattle.wq_checked.proofs.Going.{went_refused}
 use Rattle.wq_checked.specs.declared.kept_bits.KeptBits.{KeptBits}
-use Rattle.wq_checked.specs.Calls.{is_worn}
 use Rattle.wq_checked.specs.Advancing.{bit_worn}
 use Rattle.wq_checked.proofs.Elsewhere.{bit_low, calls_off, rest_off}
 
@@ -30,18 +28,12 @@ abbrev law : IsLawfulTable bit_table
 law = framed_lawful bit_frame bit_lawful
 
 -- a wait that is over leaves a ready task, once it has stored RUNNING where it found no place
-same_worn : (o : BitOutcome) → is_worn o ≡ found_no_place o
-same_worn outcome.Over = refl
-same_worn outcome.Interrupted = refl
-same_worn outcome.Worn = refl
-
 pub bit_ready : (ks : KeptBits) (start mid new : Known) (f q : BitRun) (o : BitOutcome) → IsReady ks start
     → Advances bit_table start mid f q bit_first (turn.Done o) → HasRested mid new (is_worn o) → IsReady ks new
 bit_ready ks start mid new f q o r a h =
-    let rested = subst (HasRested mid new) (same_worn o) h in
-    let c = ends_carried start mid f q bit_first o a new rested r.up r.idle r.told in record {
-      up = ends_up start mid f q bit_first o a new rested;
-      idle = ends_idle start mid f q bit_first o a new rested r.idle.unmarked;
+    let c = ends_carried start mid f q bit_first o a new h r.up r.idle r.told in record {
+      up = ends_up start mid f q bit_first o a new h;
+      idle = ends_idle start mid f q bit_first o a new h r.idle.unmarked;
       told = c.hold ∙ r.told;
       keeps = λ d. c.keeps d refl ∙ r.keeps d;
       owes = c.owes (but_kept ks) r.owes;

@@ -10,6 +10,7 @@ use Rattle.wait_rule.specs.Queues.{IsIdle}
 use Rattle.wait_rule.specs.Says.{IsUp, Owes, told_of}
 use Rattle.wait_rule.specs.Stays.{with_wakes}
 use Rattle.wq_head.specs.Walks.{IsFull}
+use Rattle.bit_wait.specs.BitTables.{is_worn}
 use Rattle.bit_wait.specs.BitEnds as bit_ends
 use Rattle.bit_wait.specs.LockEnds as lock_ends
 use Rattle.page_lock.specs.PageEnds as page_ends
@@ -36,7 +37,7 @@ use Rattle.wq_checked.specs.Begins.{BeginsAs}
 use Rattle.wq_checked.specs.Kept.{but_kept, keeps_in}
 use Rattle.wq_checked.specs.declared.calls.Call.{Call}
 use Rattle.wq_checked.specs.declared.kept_bits.KeptBits.{KeptBits}
-use Rattle.wq_checked.specs.Calls.{event_answer, is_worn, turn_told}
+use Rattle.wq_checked.specs.Calls.{event_answer, turn_told}
 use Rattle.wq_checked.specs.Locks.{refusal_told}
 use Rattle.wq_checked.specs.Stages.{AwaitRun, BitRun, BitTurn, LockRun, LockTurn, PageRun, PageTurn, WaitRun, WaitTurn}
 use Rattle.wq_checked.specs.declared.calls.Answer.TheVariants as answer

@@ -28,7 +28,6 @@ use Rattle.wait_class.specs.declared.stages.Turn.TheVariants as turn
 use Rattle.bit_wait.specs.BitTables as bits
 use Rattle.bit_wait.specs.BitEnds as bit_ends
 use Rattle.bit_wait.specs.declared.waits.BitOutcome.{BitOutcome}
-use Rattle.bit_wait.specs.declared.waits.BitOutcome.TheVariants as bit_outcome
 use Rattle.bit_wait.specs.LockTables as locks
 use Rattle.bit_wait.specs.LockEnds as lock_ends
 use Rattle.bit_wait.specs.declared.lock_runs.LockOutcome.{LockOutcome}
@@ -118,12 +117,6 @@ waited _ seen r = answer.Waited r
 abbrev pub event_answer : WaitCall → WaitOutcome → Answer
 event_answer q o = waited q.watch q.seen (event_ends.end_in q o)
 
--- no place was left for the entry of a wait for a bit, so that its task may still be in the state in which it would
--- have slept
-abbrev pub is_worn : BitOutcome → Bool
-is_worn bit_outcome.Worn = true
-is_worn _ = false
-
 -- how each kind of call ended, with its answer: by such a turn, after which a wait for a bit may have stored RUNNING
 pub record EventEnded (start new : Known) (first : WaitRun) (a : Answer) : Type 0 where
   pub run : WaitRun
@@ -136,7 +129,7 @@ pub record BitEnded (start new : Known) (first : BitRun) (a : Answer) : Type 0 w
   pub outcome : BitOutcome
   pub last : Known
   pub went : Advances bits.bit_table start last first run bit_first (turn.Done outcome)
-  pub rested : HasRested last new (is_worn outcome)
+  pub rested : HasRested last new (bits.is_worn outcome)
   pub answers : a ≡ answer.Bit (bit_ends.end_in run.of.wait outcome)
 
 pub record LockEnded (start new : Known) (first : LockRun) (a : Answer) : Type 0 where

@@ -1,4 +1,4 @@
-use Rattle.wait_event.proofs.PartWords.{finishes_follow, prepares_begin}
+use Rattle.wait_event.proofs.PartWords.{finishes_follow, prepares_follow}
 use Rattle.wait_event.proofs.Words.{
   adds_follow,
   removes_follow,
@@ -32,7 +32,7 @@ pub returns-clause-removes : goal.returns-clause-removes
 returns-clause-removes c = removes_follow
 
 pub returns-clause-prepares : goal.returns-clause-prepares
-returns-clause-prepares c = prepares_begin
+returns-clause-prepares c = prepares_follow
 
 pub returns-clause-finishes : goal.returns-clause-finishes
 returns-clause-finishes c = finishes_follow

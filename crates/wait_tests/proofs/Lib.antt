@@ -1,2 +1,1 @@
-pub mod LeavingTask
 pub mod Hearers

@@ -1,17 +1,13 @@
-//! The tests of the crates of heads, waits and wakes: a module for each crate. They use its public calls alone, so that
-//! those crates, which have no tests of their own, are proved once. This crate has nothing but tests.
+//! The tests of the crates of waits and wakes: a module for each crate. They use its public calls alone, so that those
+//! crates, which have no tests of their own, are proved once. This crate has nothing but tests.
 #![tactic(auto)]
 
 #[cfg(test)]
 mod bits;
 #[cfg(test)]
-mod checked;
-#[cfg(test)]
 mod completions;
 #[cfg(test)]
 mod events;
-#[cfg(test)]
-mod heads;
 #[cfg(test)]
 mod in_order;
 #[cfg(test)]
@@ -21,20 +17,12 @@ mod orders;
 #[cfg(test)]
 mod pages;
 #[cfg(test)]
-mod pipes;
-#[cfg(test)]
 mod signals;
 #[cfg(test)]
 mod simple_queues;
 #[cfg(test)]
-mod steps;
-#[cfg(test)]
 mod turns;
-#[cfg(test)]
-mod users;
 #[cfg(test)]
 mod variables;
 #[cfg(test)]
 mod wants;
-#[cfg(test)]
-mod words;

@@ -4,13 +4,13 @@ ghost use Rattle.std.specs.Prelude.{◌≡◌};
 ghost use Rattle.wait_tests.specs.CompletionTasks.{IsAwaiting, IsReadyToWait, MayComplete};
 
 use crate::completions::stretches::{CELL, go_on};
-use crate::heads::turns::{end_both, rouses_only};
 use crate::wants::{all_so, another};
 use completion_cell::await_calls::{begin_await, end_of};
 use completion_cell::awaits::{AwaitRun, AwaitStage, AwaitTurn};
 use completion_cell::cell_turns::{CellCall, CellRun, CellStage, CellTurn, cell_stretch};
 use std::process::Abort;
 use std::test::Fail;
+use test_tasks::ends::{end_both, rouses_only};
 use wait_class::stages::Turn;
 use wait_model::heads::head_of;
 use wait_model::tasks::SleepState;

@@ -7,9 +7,9 @@ ghost use Rattle.wq_head.specs.Turns.{Rests};
 ghost use Rattle.wait_tests.specs.EventTasks.{IsReadyToWait, IsWaiting, IsWaker};
 
 use crate::events::stretches::is_over;
-use crate::heads::turns::end_both;
 use crate::turns::{go_on, next_number};
 use std::test::Fail;
+use test_tasks::ends::end_both;
 use wait_class::stages::Turn;
 use wait_event::wait_events::begin_wait;
 use wait_event::waits::{WaitRun, WaitStage, WaitTurn};

@@ -1,23 +1,17 @@
 //! The parts that tasks play.
 
-ghost use Rattle.std.specs.Prelude.{◌≡◌};
-ghost use Rattle.wait_rule.specs.Says.{IsClean};
-
 use crate::bits::lock_threads::take_turns;
 use crate::completions::threads::{complete_thrice, take_one};
 use crate::events::flags::hear_until_set;
 use crate::events::parts::{see_by_turns, wait_by_turns};
 use crate::events::selected::{signal, wait_exclusive};
 use crate::events::threads::{set_condition, wait_for_condition};
-use crate::heads::tickets::holds;
 use crate::pages::threads::add_often;
 use crate::signals::threads::{lock_in_vain, wait_killable, wake_then_signal};
 use crate::simple_queues::threads::{swait_once, swake_all_or_two};
-use crate::steps::parks::{sleeps, turns, wakes};
-use crate::users::rounds::{complete_for_one, swait_for_zero, swake_twice, wait_for_permit};
-use crate::users::strangers::{change_once, see_change};
 use crate::variables::threads::{announce_twice, wait_twice};
 use std::sync::Wait;
+use test_tasks::meetings;
 use wait_rule::{Domain, Task};
 
 /// What a task does, which owes nothing before it and after it.
@@ -61,64 +55,30 @@ pub(crate) enum Part {
     TakesTurns,
     /// It takes the page of the tests, adds 1 to its tally, and gives it back, so often.
     AddsToPage { times: u64 },
-    /// A user's task sets the condition of its simple queue and wakes, and wakes again.
-    UserSwakes { all: bool },
-    /// One waits in it.
-    UserSwaits,
-    /// One completes for one.
-    UserCompletes,
-    /// One waits for that.
-    UserWaits,
-    /// It changes the variable of a user's tests.
-    Changes,
-    /// It waits for that.
-    SeesChange,
-    /// It takes a head's lock and gives it back, again and again.
-    Holds,
-    /// It sleeps again and again.
-    Sleeps,
-    /// It wakes a task again and again.
-    WakesOften { who: u8 },
-    /// It wakes two tasks in turn, and sleeps.
-    Turns { next: u8, last: u8, first: bool },
 }
 
-/// Plays a part: whether it went as the part says.
-pub(crate) fn play<R: Wait>(rt: &R, domain: &Domain, task: &mut Task, part: Part) -> bool
-    requires of { task.old.domain ≡ domain.now }
-    requires clean { IsClean task.old }
-    ensures of { task.new.domain ≡ domain.now }
-    ensures clean { IsClean task.new }
-{
-    match part {
-        Part::Rests => true,
-        Part::Sets { count } => set_condition(rt, domain, task, count),
-        Part::Waits => wait_for_condition(rt, domain, task),
-        Part::WaitsByTurns => wait_by_turns(rt, domain, task),
-        Part::WaitsExclusively => wait_exclusive(rt, domain, task),
-        Part::Signals { who } => signal(rt, domain, task, who),
-        Part::Hears => hear_until_set(rt, domain, task),
-        Part::WaitsKillable { is_set } => wait_killable(rt, domain, task, is_set),
-        Part::WakesThenSignals { who, fatal } => wake_then_signal(rt, domain, task, who, fatal),
-        Part::LocksInVain => lock_in_vain(rt, domain, task),
-        Part::Swakes { all } => swake_all_or_two(rt, domain, task, all),
-        Part::Swaits => swait_once(rt, domain, task),
-        Part::CompletesThrice => complete_thrice(rt, domain, task),
-        Part::TakesOne => take_one(rt, domain, task),
-        Part::AnnouncesTwice => announce_twice(rt, domain, task),
-        Part::WaitsTwice => wait_twice(rt, domain, task),
-        Part::SeesByTurns => see_by_turns(rt, domain, task),
-        Part::TakesTurns => take_turns(rt, domain, task),
-        Part::AddsToPage { times } => add_often(rt, domain, task, times),
-        Part::UserSwakes { all } => swake_twice(rt, domain, task, all),
-        Part::UserSwaits => swait_for_zero(rt, domain, task),
-        Part::UserCompletes => complete_for_one(rt, domain, task),
-        Part::UserWaits => wait_for_permit(rt, domain, task),
-        Part::Changes => change_once(rt, domain, task),
-        Part::SeesChange => see_change(rt, domain, task),
-        Part::Holds => holds(rt, domain, task),
-        Part::Sleeps => sleeps(rt, domain, task),
-        Part::WakesOften { who } => wakes(rt, domain, task, who),
-        Part::Turns { next, last, first } => turns(rt, domain, task, next, last, first),
+impl meetings::Part for Part {
+    fn play<R: Wait>(self, rt: &R, domain: &Domain, task: &mut Task) -> bool {
+        match self {
+            Part::Rests => true,
+            Part::Sets { count } => set_condition(rt, domain, task, count),
+            Part::Waits => wait_for_condition(rt, domain, task),
+            Part::WaitsByTurns => wait_by_turns(rt, domain, task),
+            Part::WaitsExclusively => wait_exclusive(rt, domain, task),
+            Part::Signals { who } => signal(rt, domain, task, who),
+            Part::Hears => hear_until_set(rt, domain, task),
+            Part::WaitsKillable { is_set } => wait_killable(rt, domain, task, is_set),
+            Part::WakesThenSignals { who, fatal } => wake_then_signal(rt, domain, task, who, fatal),
+            Part::LocksInVain => lock_in_vain(rt, domain, task),
+            Part::Swakes { all } => swake_all_or_two(rt, domain, task, all),
+            Part::Swaits => swait_once(rt, domain, task),
+            Part::CompletesThrice => complete_thrice(rt, domain, task),
+            Part::TakesOne => take_one(rt, domain, task),
+            Part::AnnouncesTwice => announce_twice(rt, domain, task),
+            Part::WaitsTwice => wait_twice(rt, domain, task),
+            Part::SeesByTurns => see_by_turns(rt, domain, task),
+            Part::TakesTurns => take_turns(rt, domain, task),
+            Part::AddsToPage { times } => add_often(rt, domain, task, times),
+        }
     }
 }

@@ -5,13 +5,14 @@ ghost use Rattle.std.specs.Prelude.{◌≡◌};
 ghost use Rattle.wait_rule.specs.Says.{IsClean};
 
 use super::interrupted;
-use crate::meetings::{Part, meet_two, two_meet};
+use crate::meetings::{Part, two_meet};
 use crate::pages::alone::{give, take};
 use crate::wants::{all_so, another};
 use page_lock::lock_page;
 use std::sync::Wait;
 use std::test::Fail;
 use std::thread;
+use test_tasks::meetings::meet_two;
 use wait_model::tasks::SleepState;
 use wait_model::watches::Mode;
 use wait_rule::{Domain, Task, send_signal, wake_task};

@@ -3,7 +3,6 @@
 ghost use Rattle.std.specs.Prelude.{◌≡◌};
 ghost use Rattle.wait_tests.specs.EventTasks.{IsReadyToWait, IsWaker};
 
-use crate::heads::turns::{end_both, rouses_only};
 use crate::simple_queues::stretches::{COND, is_over};
 use crate::turns::go_often;
 use crate::wants::{all_so, another};
@@ -11,6 +10,7 @@ use std::process::Abort;
 use std::test::Fail;
 use swait_queue::swake_turns::{SwakeRun, SwakeStage, SwakeTurn, swake_stretch};
 use swait_queue::waits::begin_swait;
+use test_tasks::ends::{end_both, rouses_only};
 use wait_class::stages::Turn;
 use wait_event::waits::WaitStage;
 use wait_model::layout::FIRST_SIMPLE_HEAD;

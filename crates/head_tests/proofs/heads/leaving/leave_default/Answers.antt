@@ -1,0 +1,18 @@
+use Rattle.std.proofs.Common.{None}
+use Rattle.wait_model.specs.declared.layout.TheConstants.{FIRST_PLAIN_HEAD}
+use Rattle.wait_model.specs.declared.watches.Kind.TheVariants as kind
+use Rattle.wait_rule.specs.Queues.{walk_of_hold}
+use Rattle.head_tests.proofs.LeavingTask.{entry_locked, left_clean}
+use Rattle.head_tests.proofs.heads.leaving.leave_default.Goals as goal
+
+pub take_default-requires-clause-entry : goal.take_default-requires-clause-entry
+take_default-requires-clause-entry g c =
+    let l = c.lock.ensures in
+    entry_locked c.args.task.now c.lock.new.task kind.Default FIRST_PLAIN_HEAD
+    (walk_of_hold FIRST_PLAIN_HEAD None) l.locked l.stays l.settled
+    c.requires.back.queued.entry
+
+pub returns-clause-clean : goal.returns-clause-clean
+returns-clause-clean g c = left_clean c.args.task.now c.lock.new.task c.take_default.new.task c.unlock.new.task
+    kind.Default c.requires.back
+    c.lock.ensures.stays c.take_default.ensures c.unlock.ensures.unlocked

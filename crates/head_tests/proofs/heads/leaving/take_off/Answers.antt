@@ -1,0 +1,31 @@
+use Rattle.std.proofs.Common.{◌∙◌, sym}
+use Rattle.wq_head.proofs.ReadyTasks.{look_holds}
+use Rattle.head_tests.proofs.LeavingTask.{off_left, on_may, removed_left}
+use Rattle.head_tests.proofs.heads.leaving.take_off.Goals as goal
+
+pub remove-requires-clause-held : goal.remove-requires-clause-held
+remove-requires-clause-held c =
+    let s = c.entry_load-word.ensures in
+    look_holds c.args.task.now c.entry_load-word.new.task c.number-who.result c.entry_load-word.result.0 c.requires.held
+    s.step s.knew
+
+pub remove-requires-clause-may : goal.remove-requires-clause-may
+remove-requires-clause-may c =
+    let s = c.entry_load-word.ensures in
+    let q = c.requires in
+    on_may c.args.task.now c.entry_load-word.new.task c.number-who.result c.entry_load-word.result.0 c.args.kind
+    c.number-who.ensures.number q.held q.at q.entry s.step s.knew _ (sym c.entry_of.ensures ∙ c.in-Some.is)
+
+pub returns-in-None : goal.returns-in-None
+returns-in-None c =
+    let s = c.entry_load-word.ensures in
+    let q = c.requires in
+    off_left c.args.task.now c.entry_load-word.new.task c.number-who.result c.entry_load-word.result.0 c.args.kind
+    c.number-who.ensures.number q.held q.at q.entry s.step s.knew (sym c.entry_of.ensures ∙ c.in-None.is)
+
+pub returns-in-Some : goal.returns-in-Some
+returns-in-Some c =
+    let s = c.entry_load-word.ensures in
+    let q = c.requires in
+    removed_left c.args.task.now c.entry_load-word.new.task c.number-who.result c.entry_load-word.result.0 c.args.kind
+    c.number-who.ensures.number q.held q.at q.entry s.step s.knew c.remove.new.task c.remove.ensures.removed

@@ -1,0 +1,24 @@
+use Rattle.std.proofs.Common.{◌∙◌, None, sym, arith}
+use Rattle.wait_rule.specs.Queues.{walk_of_hold}
+use Rattle.wq_head.proofs.FullHeads.{head_small}
+use Rattle.wq_head.proofs.PermitHeads.{walk_owes}
+use Rattle.wq_head.proofs.LockWaits.{locked_stored, locked_at}
+use Rattle.head_tests.proofs.heads.strangers.queue_lock.Goals as goal
+
+pub lock-requires-clause-head : goal.lock-requires-clause-head
+lock-requires-clause-head g c =
+    let small = head_small c.args.watch c.requires.full in
+    let is = c.head_of.ensures in
+    omega (arith, small, is)
+
+pub add_for_bit-requires-clause-head : goal.add_for_bit-requires-clause-head
+add_for_bit-requires-clause-head g c = sym c.head_of.ensures
+    ∙ sym (locked_at _ c.lock.new.task c.head_of.result (walk_of_hold c.head_of.result None) c.lock.ensures.locked)
+
+pub add_for_bit-requires-clause-out : goal.add_for_bit-requires-clause-out
+add_for_bit-requires-clause-out g c = locked_stored c.args.task.now c.lock.new.task c.head_of.result
+    (walk_of_hold c.head_of.result None) c.lock.ensures.locked _ (c.requires.ready.out _)
+
+pub unlock-requires-clause-permits : goal.unlock-requires-clause-permits
+unlock-requires-clause-permits g c = walk_owes c.args.watch c.set_state.new.task c.requires.full
+    (c.set_state.ensures.carries.at ∙ (c.add_for_bit.ensures.at ∙ (c.lock.ensures.carries.at ∙ c.head_of.ensures)))

@@ -1,0 +1,18 @@
+use Rattle.std.proofs.Common.{◌∙◌, None, sym}
+use Rattle.wait_model.specs.declared.layout.TheConstants.{FIRST_PLAIN_HEAD}
+use Rattle.wq_head.proofs.AskedHolds.{locked_asks}
+use Rattle.wq_head.proofs.LockWaits.{locked_stored, locked_at}
+use Rattle.wq_head.proofs.ReadyTasks.{first_head}
+use Rattle.head_tests.proofs.heads.waiting.queue_own.Goals as goal
+
+pub add_tail-requires-clause-head : goal.add_tail-requires-clause-head
+add_tail-requires-clause-head g c = first_head
+    ∙ sym (locked_at _ c.lock.new.task FIRST_PLAIN_HEAD None c.lock.ensures.locked)
+
+pub add_tail-requires-clause-out : goal.add_tail-requires-clause-out
+add_tail-requires-clause-out g c = locked_stored c.args.task.now c.lock.new.task FIRST_PLAIN_HEAD None
+    c.lock.ensures.locked _ (c.requires.ready.out _)
+
+pub add_tail-requires-clause-asks : goal.add_tail-requires-clause-asks
+add_tail-requires-clause-asks g c woken = locked_asks c.args.task.now c.lock.new.task FIRST_PLAIN_HEAD None
+    c.lock.ensures.locked c.requires.ready.asks

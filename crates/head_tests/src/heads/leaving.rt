@@ -1,0 +1,200 @@
+//! A task that queues its entry, sleeps, is woken and leaves: it is clean then, by what the calls promise, and is
+//! joined.
+
+ghost use Rattle.std.specs.Prelude.{◌≡◌};
+ghost use Rattle.wait_model.specs.declared.layout.TheConstants.{FIRST_PLAIN_HEAD};
+ghost use Rattle.wait_model.specs.declared.watches.Kind.TheVariants as kind;
+ghost use Rattle.wait_rule.specs.Says.{IsClean, IsUp};
+ghost use Rattle.wq_head.specs.Holds.{IsHolding};
+ghost use Rattle.head_tests.specs.Leaving.{HasEntry, HasLeft, IsBack, StandsQueued};
+ghost use Rattle.wq_head.specs.Readied.{IsPlainKind};
+
+use crate::wants::{all_so, another};
+use std::process::Abort;
+use std::sync::Wait;
+use std::test::Fail;
+use wait_model::layout::{FIRST_PLAIN_HEAD, UNINTERRUPTIBLE};
+use wait_model::tasks::Sleep;
+use wait_model::watches::{Kind, Mode, Watch};
+use wait_model::words::entry_of;
+use wait_rule::queues::{entry_load, publish};
+use wait_rule::tasks::set_state;
+use wait_rule::{Domain, Task, schedule};
+use wq_head::adds::{add_tail, remove};
+use wq_head::locks::{lock, unlock};
+use wq_head::wakes::wake;
+
+/// Queues the own entry at the head of condition 0.
+fn queue_own<R: Abort + Wait>(rt: &R, domain: &Domain, task: &mut Task, kind: Kind)
+    requires of { task.old.domain ≡ domain.now }
+    requires clean { IsClean task.old }
+    requires kind { IsPlainKind kind }
+    ensures of { task.new.domain ≡ domain.now }
+    ensures queued { IsBack task.new kind }
+{
+    lock(rt, domain, task, FIRST_PLAIN_HEAD);
+    let watch = Watch::Plain { cond: 0 };
+    let Ok(()) = add_tail(domain, task, 0, kind, false, watch) else {
+        panic!(rt; "the queue is empty")
+    };
+    unlock(rt, domain, task, false);
+}
+
+/// Stores the state in which it is to sleep.
+fn prepare(domain: &Domain, task: &mut Task, kind: Kind)
+    requires of { task.old.domain ≡ domain.now }
+    requires back { IsBack task.old kind }
+    ensures of { task.new.domain ≡ domain.now }
+    ensures queued { StandsQueued task.new kind }
+{
+    set_state(domain, task, UNINTERRUPTIBLE);
+}
+
+/// Sleeps until woken.
+fn sleep<R: Wait>(rt: &R, domain: &Domain, task: &mut Task, kind: Kind) -> Sleep
+    requires of { task.old.domain ≡ domain.now }
+    requires queued { StandsQueued task.old kind }
+    ensures of { task.new.domain ≡ domain.now }
+    ensures back { IsBack task.new kind }
+{
+    schedule(rt, domain, task)
+}
+
+/// Takes the own entry off, if it is still queued.
+fn take_off(domain: &Domain, task: &mut Task, kind: Kind)
+    requires of { task.old.domain ≡ domain.now }
+    requires up { IsUp task.old }
+    requires held { IsHolding task.old }
+    requires at { task.old.at ≡ FIRST_PLAIN_HEAD }
+    requires entry { HasEntry task.old kind }
+    ensures { HasLeft task.old task.new }
+{
+    let who = task.number();
+    let word = entry_load(domain, task, who, 0);
+    match entry_of(word.0) {
+        None => {}
+        Some(_) => remove(domain, task, who, 0),
+    }
+}
+
+/// Takes the own entry of kind `Default` off. It is still queued, since no other task takes off such an entry.
+fn take_default(domain: &Domain, task: &mut Task)
+    requires of { task.old.domain ≡ domain.now }
+    requires up { IsUp task.old }
+    requires held { IsHolding task.old }
+    requires at { task.old.at ≡ FIRST_PLAIN_HEAD }
+    requires entry { HasEntry task.old kind.Default }
+    ensures { HasLeft task.old task.new }
+{
+    let who = task.number();
+    entry_load(domain, task, who, 0);
+    remove(domain, task, who, 0);
+}
+
+/// Leaves the queue.
+fn leave<R: Wait>(rt: &R, domain: &Domain, task: &mut Task, kind: Kind)
+    requires of { task.old.domain ≡ domain.now }
+    requires back { IsBack task.old kind }
+    ensures of { task.new.domain ≡ domain.now }
+    ensures clean { IsClean task.new }
+{
+    lock(rt, domain, task, FIRST_PLAIN_HEAD);
+    take_off(domain, task, kind);
+    unlock(rt, domain, task, false);
+}
+
+/// Leaves the queue with an entry of kind `Default`.
+fn leave_default<R: Wait>(rt: &R, domain: &Domain, task: &mut Task)
+    requires of { task.old.domain ≡ domain.now }
+    requires back { IsBack task.old kind.Default }
+    ensures of { task.new.domain ≡ domain.now }
+    ensures clean { IsClean task.new }
+{
+    lock(rt, domain, task, FIRST_PLAIN_HEAD);
+    take_default(domain, task);
+    unlock(rt, domain, task, false);
+}
+
+/// Wakes all who wait for condition 0, and goes on with its own entry queued.
+fn wake_with_entry<R: Wait>(rt: &R, domain: &Domain, task: &mut Task) -> u32
+    requires of { task.old.domain ≡ domain.now }
+    requires back { IsBack task.old kind.Default }
+    ensures of { task.new.domain ≡ domain.now }
+    ensures back { IsBack task.new kind.Default }
+{
+    let watch = Watch::Plain { cond: 0 };
+    wake(rt, domain, task, watch, Mode::Normal, 0).woken
+}
+
+/// Sets condition 0 and wakes all who wait for it.
+fn set_and_wake<R: Wait>(rt: &R, domain: &Domain, task: &mut Task) -> u32
+    requires of { task.old.domain ≡ domain.now }
+    requires clean { IsClean task.old }
+    ensures of { task.new.domain ≡ domain.now }
+    ensures clean { IsClean task.new }
+{
+    let watch = Watch::Plain { cond: 0 };
+    publish(domain, task, watch, 1);
+    wake(rt, domain, task, watch, Mode::Normal, 0).woken
+}
+
+/// A waker that set the condition owes nothing more after its wake of all.
+#[test]
+fn waker_is_joined(rt: HostRuntime) -> Result<(), Fail> {
+    let (domain, mut task) = Domain::new(rt.alloc())?;
+    let mut waker = another(&rt, &domain, &mut task);
+    assert!(rt; set_and_wake(&rt, &domain, &mut waker) == 0);
+    task.join(&domain, waker);
+    Ok(())
+}
+
+/// A waiter whose entry the wake takes off.
+#[test]
+fn woken_waiter_is_joined(rt: HostRuntime) -> Result<(), Fail> {
+    let (domain, mut task) = Domain::new(rt.alloc())?;
+    let mut waiter = another(&rt, &domain, &mut task);
+    queue_own(&rt, &domain, &mut waiter, Kind::Autoremove);
+    prepare(&domain, &mut waiter, Kind::Autoremove);
+    let watch = Watch::Plain { cond: 0 };
+    let seen = [
+        wake(&rt, &domain, &mut task, watch, Mode::Normal, 0).woken == 1,
+        matches!(
+            sleep(&rt, &domain, &mut waiter, Kind::Autoremove),
+            Sleep::Stay
+        ),
+    ];
+    all_so(&rt, &seen);
+    leave(&rt, &domain, &mut waiter, Kind::Autoremove);
+    task.join(&domain, waiter);
+    Ok(())
+}
+
+/// A waiter whose entry stays over the wake of another task, and that takes it off itself.
+#[test]
+fn default_entry_stays(rt: HostRuntime) -> Result<(), Fail> {
+    let (domain, mut task) = Domain::new(rt.alloc())?;
+    let mut waiter = another(&rt, &domain, &mut task);
+    queue_own(&rt, &domain, &mut waiter, Kind::Default);
+    prepare(&domain, &mut waiter, Kind::Default);
+    let watch = Watch::Plain { cond: 0 };
+    let seen = [
+        wake(&rt, &domain, &mut task, watch, Mode::Normal, 0).woken == 1,
+        matches!(sleep(&rt, &domain, &mut waiter, Kind::Default), Sleep::Stay),
+    ];
+    all_so(&rt, &seen);
+    leave_default(&rt, &domain, &mut waiter);
+    task.join(&domain, waiter);
+    Ok(())
+}
+
+/// A waiter that wakes others while its own entry is queued.
+#[test]
+fn own_entry_stays_over_a_wake(rt: HostRuntime) -> Result<(), Fail> {
+    let (domain, mut task) = Domain::new(rt.alloc())?;
+    let mut waiter = another(&rt, &domain, &mut task);
+    queue_own(&rt, &domain, &mut waiter, Kind::Default);
+    assert!(rt; wake_with_entry(&rt, &domain, &mut waiter) == 0);
+    leave_default(&rt, &domain, &mut waiter);
+    task.join(&domain, waiter);
+    Ok(())
+}

@@ -1,0 +1,37 @@
+//! The parts that tasks play.
+
+use crate::users::rounds::{complete_for_one, swait_for_zero, swake_twice, wait_for_permit};
+use crate::users::strangers::{change_once, see_change};
+use std::sync::Wait;
+use test_tasks::meetings;
+use wait_rule::{Domain, Task};
+
+/// What a task does, which owes nothing before it and after it.
+#[derive(Clone, Copy)]
+pub(crate) enum Part {
+    /// A user's task sets the condition of its simple queue and wakes, and wakes again.
+    UserSwakes { all: bool },
+    /// One waits in it.
+    UserSwaits,
+    /// One completes for one.
+    UserCompletes,
+    /// One waits for that.
+    UserWaits,
+    /// It changes the variable of a user's tests.
+    Changes,
+    /// It waits for that.
+    SeesChange,
+}
+
+impl meetings::Part for Part {
+    fn play<R: Wait>(self, rt: &R, domain: &Domain, task: &mut Task) -> bool {
+        match self {
+            Part::UserSwakes { all } => swake_twice(rt, domain, task, all),
+            Part::UserSwaits => swait_for_zero(rt, domain, task),
+            Part::UserCompletes => complete_for_one(rt, domain, task),
+            Part::UserWaits => wait_for_permit(rt, domain, task),
+            Part::Changes => change_once(rt, domain, task),
+            Part::SeesChange => see_change(rt, domain, task),
+        }
+    }
+}

@@ -1,0 +1,120 @@
+//! The calls of tests: for tasks that owe nothing, and for those that owe nothing but that their end is closed.
+
+ghost use Rattle.std.specs.Prelude.{◌≡◌, ◌<◌, ◌≤◌, MatchBool, IfOk, length};
+ghost use Rattle.wait_model.specs.declared.layout.TheConstants.{PIPES};
+ghost use Rattle.wait_rule.specs.Says.{IsClean};
+ghost use Rattle.user_tests.specs.PipeTasks.{IsReader, IsWriter};
+
+use std::sync::Wait;
+use wait_pipe::ends::{close_read, close_write, open_read, open_write};
+use wait_pipe::pieces::{PipeEnd, read_piece, write_piece};
+use wait_rule::{Domain, Task};
+
+/// Takes the write end of a pipe: true where it has it.
+pub(crate) fn take_write(domain: &Domain, task: &mut Task, pipe: u8) -> bool
+    requires of { task.old.domain ≡ domain.now }
+    requires clean { IsClean task.old }
+    requires pipe { pipe < PIPES }
+    ensures of { task.new.domain ≡ domain.now }
+    ensures writer { MatchBool result (IsWriter pipe task.new) (IsClean task.new) }
+{
+    open_write(domain, task, pipe)
+}
+
+/// Takes the read end of a pipe: true where it has it.
+pub(crate) fn take_read(domain: &Domain, task: &mut Task, pipe: u8) -> bool
+    requires of { task.old.domain ≡ domain.now }
+    requires clean { IsClean task.old }
+    requires pipe { pipe < PIPES }
+    ensures of { task.new.domain ≡ domain.now }
+    ensures reader { MatchBool result (IsReader pipe task.new) (IsClean task.new) }
+{
+    open_read(domain, task, pipe)
+}
+
+/// Puts a piece in: how many bytes went in, or why none did.
+pub(crate) fn put<R: Wait>(
+    rt: &R,
+    domain: &Domain,
+    task: &mut Task,
+    pipe: u8,
+    bytes: &[u8],
+) -> Result<usize, PipeEnd>
+    requires of { task.old.domain ≡ domain.now }
+    requires writer { IsWriter pipe task.old }
+    requires pipe { pipe < PIPES }
+    requires bytes { 0 < length bytes.now }
+    ensures of { task.new.domain ≡ domain.now }
+    ensures writer { IsWriter pipe task.new }
+    ensures some { IfOk result (λ n. 0 < n) }
+    ensures most { IfOk result (λ n. n ≤ length bytes.now) }
+{
+    write_piece(rt, domain, task, pipe, bytes)
+}
+
+/// Takes a piece out: how many bytes came, or why none did.
+pub(crate) fn get<R: Wait>(
+    rt: &R,
+    domain: &Domain,
+    task: &mut Task,
+    pipe: u8,
+    buf: &mut [u8],
+) -> Result<usize, PipeEnd>
+    requires of { task.old.domain ≡ domain.now }
+    requires reader { IsReader pipe task.old }
+    requires pipe { pipe < PIPES }
+    requires buf { 7 ≤ length buf.old }
+    ensures of { task.new.domain ≡ domain.now }
+    ensures reader { IsReader pipe task.new }
+    ensures most { IfOk result (λ n. n ≤ length buf.new) }
+{
+    read_piece(rt, domain, task, pipe, buf)
+}
+
+/// Closes the write end.
+pub(crate) fn end_write<R: Wait>(rt: &R, domain: &Domain, task: &mut Task, pipe: u8)
+    requires of { task.old.domain ≡ domain.now }
+    requires writer { IsWriter pipe task.old }
+    requires pipe { pipe < PIPES }
+    ensures of { task.new.domain ≡ domain.now }
+    ensures clean { IsClean task.new }
+{
+    close_write(rt, domain, task, pipe);
+}
+
+/// Closes the read end.
+pub(crate) fn end_read<R: Wait>(rt: &R, domain: &Domain, task: &mut Task, pipe: u8)
+    requires of { task.old.domain ≡ domain.now }
+    requires reader { IsReader pipe task.old }
+    requires pipe { pipe < PIPES }
+    ensures of { task.new.domain ≡ domain.now }
+    ensures clean { IsClean task.new }
+{
+    close_read(rt, domain, task, pipe);
+}
+
+/// The byte at a place of a stream.
+fn byte_at(place: u32) -> u8 {
+    (place % 251) as u8
+}
+
+/// Writes the bytes of a stream from this place on into a buffer.
+pub(crate) fn fill_from(place: u32, buf: &mut [u8]) {
+    let mut at = place;
+    for byte in buf.iter_mut() {
+        *byte = byte_at(at);
+        at = at.wrapping_add(1);
+    }
+}
+
+/// Whether these are the bytes of a stream from this place on.
+pub(crate) fn are_from(place: u32, bytes: &[u8]) -> bool {
+    let mut at = place;
+    for byte in bytes {
+        if *byte != byte_at(at) {
+            return false;
+        }
+        at = at.wrapping_add(1);
+    }
+    true
+}

@@ -1,0 +1,133 @@
+//! Simple queues and completions: each part once by one task alone, and waits in threads of their own, again and again,
+//! in Domains whose tasks park at once when they are put asleep.
+
+ghost use Rattle.std.specs.Prelude.{◌≡◌};
+ghost use Rattle.wait_rule.specs.Says.{IsClean};
+
+use crate::meetings::{Part, two_meet};
+use crate::wants::{all_so, another};
+use std::sync::Wait;
+use std::test::Fail;
+use test_tasks::meetings::meet_two;
+use wait_model::tasks::SleepState;
+use wait_rule::{Domain, Task};
+use wq_user::completions::{
+    complete_and_clear, complete_and_join, complete_one, take_and_join, take_one, wait_for_one,
+};
+use wq_user::simple::{
+    set_and_swake, set_and_swake_all, swait, swake, swake_and_join, swake_in_hold,
+};
+
+/// How many rounds each test in threads makes.
+const ROUNDS: u32 = 300;
+
+/// Waits in the simple queue: true where the condition was set.
+pub(crate) fn swait_for_zero<R: Wait>(rt: &R, domain: &Domain, task: &mut Task) -> bool
+    requires of { task.old.domain ≡ domain.now }
+    requires clean { IsClean task.old }
+    ensures of { task.new.domain ≡ domain.now }
+    ensures clean { IsClean task.new }
+{
+    swait(rt, domain, task)
+}
+
+/// Sets the condition and wakes the first or all, and wakes again with nothing more set.
+pub(crate) fn swake_twice<R: Wait>(rt: &R, domain: &Domain, task: &mut Task, all: bool) -> bool
+    requires of { task.old.domain ≡ domain.now }
+    requires clean { IsClean task.old }
+    ensures of { task.new.domain ≡ domain.now }
+    ensures clean { IsClean task.new }
+{
+    if all {
+        set_and_swake_all(rt, domain, task);
+    } else {
+        set_and_swake(rt, domain, task);
+    }
+    swake(rt, domain, task);
+    true
+}
+
+/// Waits for the completion: true where it took one.
+pub(crate) fn wait_for_permit<R: Wait>(rt: &R, domain: &Domain, task: &mut Task) -> bool
+    requires of { task.old.domain ≡ domain.now }
+    requires clean { IsClean task.old }
+    ensures of { task.new.domain ≡ domain.now }
+    ensures clean { IsClean task.new }
+{
+    wait_for_one(rt, domain, task, SleepState::Uninterruptible)
+}
+
+/// Completes it for one.
+pub(crate) fn complete_for_one<R: Wait>(rt: &R, domain: &Domain, task: &mut Task) -> bool
+    requires of { task.old.domain ≡ domain.now }
+    requires clean { IsClean task.old }
+    ensures of { task.new.domain ≡ domain.now }
+    ensures clean { IsClean task.new }
+{
+    complete_one(rt, domain, task);
+    true
+}
+
+/// Wakes with nothing set find nobody; a wait whose condition is set ends at once; and the task is taken in.
+#[test]
+fn simple_queue_of_nobody(rt: HostRuntime) -> Result<(), Fail> {
+    let (domain, mut task) = Domain::new(rt.alloc())?;
+    let mut other = another(&rt, &domain, &mut task);
+    let seen = [
+        !swake(&rt, &domain, &mut other),
+        swake_in_hold(&rt, &domain, &mut other) == (false, 0),
+        !set_and_swake(&rt, &domain, &mut other),
+        swait(&rt, &domain, &mut other),
+        swake_and_join(&rt, &domain, &mut task, other) == 0,
+    ];
+    all_so(&rt, &seen);
+    Ok(())
+}
+
+/// A completion is taken as often as it was completed; one that is cleared is not done; and both tasks are taken in.
+#[test]
+fn completion_of_nobody(rt: HostRuntime) -> Result<(), Fail> {
+    let (domain, mut task) = Domain::new(rt.alloc())?;
+    let mut one = another(&rt, &domain, &mut task);
+    let two = another(&rt, &domain, &mut task);
+    complete_one(&rt, &domain, &mut one);
+    let seen = [
+        take_one(&rt, &domain, &mut one),
+        !take_one(&rt, &domain, &mut one),
+        !complete_and_clear(&rt, &domain, &mut one),
+    ];
+    all_so(&rt, &seen);
+    complete_and_join(&rt, &domain, &mut task, two);
+    assert!(rt; take_and_join(&rt, &domain, &mut task, one));
+    Ok(())
+}
+
+/// Whatever the order of the steps, a wait in the simple queue ends, and its task is taken in.
+#[test]
+fn simple_waiter_is_joined(rt: HostRuntime) -> Result<(), Fail> {
+    for round in 0..ROUNDS {
+        let (domain, mut task) = Domain::with_looks(rt.alloc(), 0)?;
+        let other = another(&rt, &domain, &mut task);
+        let all = round % 2 == 0;
+        let parts = (Part::UserSwakes { all }, Part::UserSwaits);
+        let ((mut task, _), waited) = meet_two(&rt, &domain, task, other, parts);
+        let seen = [
+            waited.1,
+            swake_and_join(&rt, &domain, &mut task, waited.0) == 0,
+        ];
+        all_so(&rt, &seen);
+    }
+    Ok(())
+}
+
+/// Whatever the order of the steps, a wait for the completion takes the one that there is, and its task is taken in.
+#[test]
+fn waiter_for_one_is_joined(rt: HostRuntime) -> Result<(), Fail> {
+    for _round in 0..ROUNDS {
+        let (domain, task) = Domain::with_looks(rt.alloc(), 0)?;
+        let parts = (Part::UserCompletes, Part::UserWaits);
+        let mut task = two_meet(&rt, &domain, task, parts);
+        assert!(rt; !take_one(&rt, &domain, &mut task));
+    }
+    Ok(())
+}

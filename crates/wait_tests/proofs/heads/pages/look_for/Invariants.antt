@@ -1,6 +1,0 @@
-use Rattle.std.proofs.Common.{◌≡◌}
-use Rattle.wq_head.specs.Readied.{IsAtRest}
-use Rattle.wait_tests.proofs.heads.pages.look_for.Given as goal
-
-abbrev pub invariant-loop : goal.invariant-loop
-invariant-loop g l = (l.task.domain ≡ l.domain) × IsAtRest l.task

@@ -1,6 +1,0 @@
-use Rattle.std.proofs.Common.{◌≡◌}
-use Rattle.wait_rule.specs.Says.{IsUp}
-use Rattle.wait_tests.proofs.heads.waiting.count_members.Given as goal
-
-abbrev pub invariant-loop-number : goal.invariant-loop-number
-invariant-loop-number l = (l.task.domain ≡ l.domain) × IsUp l.task

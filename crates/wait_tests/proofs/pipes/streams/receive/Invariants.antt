@@ -1,7 +1,0 @@
-use Rattle.std.proofs.Common.{◌≡◌}
-use Rattle.wait_tests.specs.PipeTasks.{IsReader}
-use Rattle.wait_tests.proofs.pipes.streams.receive.Given as goal
-
--- between two pieces it owes nothing but its end
-abbrev pub invariant-loop-turn : goal.invariant-loop-turn
-invariant-loop-turn g l = record { of_domain : l.task.domain ≡ l.fn.domain; user : IsReader 5 l.task }

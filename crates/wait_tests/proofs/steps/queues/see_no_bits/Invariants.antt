@@ -1,9 +1,0 @@
-use Rattle.wait_rule.specs.LookCounts.{Looked}
-use Rattle.wait_rule.specs.Stays.{Carries, unchanged}
-use Rattle.wait_tests.proofs.steps.queues.see_no_bits.Given as goal
-
-abbrev pub invariant-loop-i : goal.invariant-loop-i
-invariant-loop-i l = record {
-  looks : Looked l.i l.fn.task l.task;
-  carries : Carries unchanged l.fn.task l.task;
-}

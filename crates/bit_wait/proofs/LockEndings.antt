@@ -1,6 +1,6 @@
 -- Whole waits: how they begin, and what they say at their end.
 use Rattle.std.proofs.Common.{◌∙◌, ap, sym, refl, subst}
-use Rattle.std.specs.Prelude.{ℕ, ◌≡◌, ◌<◌, Bool, false, Result, None}
+use Rattle.std.specs.Prelude.{ℕ, ◌≡◌, ◌<◌, Bool, false, MatchBool, Result, None}
 use Rattle.wait_model.specs.declared.layout.TheConstants.{BIT_WORDS, WORD_BITS}
 use Rattle.wait_model.specs.declared.calls.Call.TheVariants as calls
 use Rattle.wait_model.specs.declared.tasks.SleepState.{SleepState}
@@ -8,9 +8,9 @@ use Rattle.wait_model.specs.declared.watches.Watch.{Watch}
 use Rattle.wait_model.specs.declared.watches.Watch.TheVariants as watch
 use Rattle.wait_model.specs.Tasks.{state_mask}
 use Rattle.wait_rule.specs.Known.{Known}
-use Rattle.wait_rule.specs.Says.{IsUp, told_of}
+use Rattle.wait_rule.specs.Says.{IsClean, IsUp, told_of}
 use Rattle.wait_rule.specs.Queues.{IsIdle, IsTold, index}
-use Rattle.wait_class.specs.Posts.{IsOut}
+use Rattle.wait_class.specs.Posts.{IsOut, own_of}
 use Rattle.bit_wait.specs.BitEnds.{answer_of}
 use Rattle.bit_wait.specs.LockStays.{LockKeeps, TakesBit}
 use Rattle.bit_wait.specs.LockTables.{IsFresh, IsRunning, answer_in, end_post, bit_in, is_over, lock_frame, lock_table}
@@ -19,14 +19,18 @@ use Rattle.bit_wait.specs.declared.lock_runs.LockBit.{LockBit}
 use Rattle.bit_wait.specs.declared.wait_calls.BitEnd.{BitEnd}
 use Rattle.bit_wait.specs.declared.lock_runs.LockOutcome.{LockOutcome}
 use Rattle.bit_wait.specs.declared.lock_runs.LockOutcome.TheVariants as outcome
+use Rattle.bit_wait.specs.declared.lock_runs.LockTest.{LockTest}
 use Rattle.bit_wait.specs.declared.lock_runs.LockTest.TheVariants as test
 use Rattle.wait_class.specs.declared.frame_stages.Framed.{Framed}
+use Rattle.wait_class.specs.declared.frame_stages.Stage.{Stage}
 use Rattle.wait_class.specs.declared.frame_stages.Stage.TheVariants as stage
 use Rattle.wait_class.specs.declared.stages.Run.{Run}
 use Rattle.wait_class.specs.declared.stages.Turn.TheVariants as turn
 use Rattle.wait_class.specs.Tables.{Advances, IsAt, Plan, call_plan}
+use Rattle.wait_class.specs.UnderWay.{IsUnderWay}
+use Rattle.bit_wait.specs.Holders.{IsHolder}
 use Rattle.wait_class.proofs.Wholes.{Rested, begins, ended_runs, rested_idle, rested_out, rests}
-use Rattle.bit_wait.proofs.LockKinds.{takes_bit}
+use Rattle.bit_wait.proofs.LockKinds.{locks_clean, takes_bit}
 
 -- the numbers of a call are in their ranges
 pub fresh_runs : (r : LockBit) (w b : ℕ) (st : SleepState) → IsFresh r w b st → w < BIT_WORDS → b < WORD_BITS
@@ -61,25 +65,24 @@ taken_is e outcome.Over = refl
 taken_is e outcome.Interrupted = refl
 taken_is e outcome.Worn = refl
 
--- a call that ended, and what the task did then
+-- a call that ended, from a stage at which it had not taken the bit, and what the task did then
 module _ (old ended new : Known) (r q : Run (Framed LockBit)) (w b : ℕ) (st : SleepState)
-    (fresh : IsFresh r.of.wait w b st) (o : LockOutcome)
-    (a : Advances lock_table old ended r q (stage.Test test.First) (turn.Done o))
-    (h : HasRested ended new q.of.wait.worn) where
+    (fresh : IsFresh r.of.wait w b st) (s : Stage LockTest) (nothing : lock_table.took s ≡ false) (o : LockOutcome)
+    (a : Advances lock_table old ended r q s (turn.Done o)) (h : HasRested ended new q.of.wait.worn) where
   abbrev e : LockBit
   e = q.of.wait
 
-  pub rested : Rested ended new
+  rested : Rested ended new
   rested = rests ended new e.worn (state_mask e.state) h a.lands.stands.state
 
-  pub ends_up : IsUp new
-  ends_up = rested.awake ∙ a.lands.up
+  up_by : IsUp new
+  up_by = rested.awake ∙ a.lands.up
 
-  pub ends_out : IsOut new
-  ends_out = rested_out ended new (end_post e o) a.lands.stands refl rested
+  out_by : IsOut new
+  out_by = rested_out ended new (end_post e o) a.lands.stands refl rested
 
-  pub ends_idle : (told_of old).mark ≡ None → IsIdle new
-  ends_idle unmarked = rested_idle ended new (end_post e o) a.lands.stands refl refl rested
+  idle_by : (told_of old).mark ≡ None → IsIdle new
+  idle_by unmarked = rested_idle ended new (end_post e o) a.lands.stands refl refl rested
       (a.went.keeps.mark ∙ unmarked)
 
   began : lock_frame.plan_of r.of.wait ≡ call_plan (calls.LockBit w b st)
@@ -91,24 +94,72 @@ module _ (old ended new : Known) (r q : Run (Framed LockBit)) (w b : ℕ) (st : 
   kept : LockKeeps (index old.view.number 0) (watch.Bit w b) false (given (end_in e o)) old ended
   kept = subst (λ (g : Bool). LockKeeps (index old.view.number 0) (watch.Bit w b) false g old ended) (taken_is e o)
       (subst (λ (c : Watch). LockKeeps (index old.view.number 0) c false (is_over o) old ended) (ap (λ (p : Plan). p.watch) began)
-      a.went.keeps)
+      (subst (λ (had : Bool). LockKeeps (index old.view.number 0) (bit_in r.of.wait) had (is_over o) old ended) nothing
+      a.went.keeps))
 
-  pub ends_takes : IsUp old → IsIdle old → IsOut old → (told_of old).hold.head ≡ None
+  takes_by : IsUp old → IsIdle old → IsOut old → (told_of old).hold.head ≡ None
       → TakesBit old new (watch.Bit w b) (given (end_in e o))
-  ends_takes up idle out held = takes_bit old ended new w b (given (end_in e o)) kept rested up idle out held ends_up
-      (ends_idle idle.unmarked) (rested.hold ∙ a.lands.stands.told)
-      (ap (λ (n : ℕ). (told_of new).bits.stored (index n 0)) (sym (rested.number ∙ a.went.keeps.number)) ∙ ends_out)
+  takes_by up idle out held = takes_bit old ended new w b (given (end_in e o)) kept rested up idle out held up_by
+      (idle_by idle.unmarked) (rested.hold ∙ a.lands.stands.told)
+      (ap (λ (n : ℕ). (told_of new).bits.stored (index n 0)) (sym (rested.number ∙ a.went.keeps.number)) ∙ out_by)
       (ap (told_of new).bits.pending (sym bit_is) ∙ (rested.pending (bit_in e) ∙ a.lands.trail.tries))
       (λ is. ap (told_of new).bits.keeps (sym bit_is)
       ∙ (rested.keeps (bit_in e) ∙ a.lands.trail.keeps (taken_is e o ∙ is)))
 
-  pub ends_wait : EndsBitLock old new w b st (end_in e o)
-  ends_wait = record {
-    ended = ended;
-    runs = ended_runs lock_table old ended r q (stage.Test test.First) o a (call_plan (calls.LockBit w b st)) began
-        (answer_of (end_in e o)) (answer_is e o);
-    cause = subst (λ (p : Plan). CauseOf ended p.watch p.state (end_in e o)) (a.same ∙ began) a.lands.trail.cause;
-    worn = e.worn;
-    behind = subst (λ (p : Plan). BehindOf ended p.watch (end_in e o) e.worn) (a.same ∙ began) a.lands.trail.behind;
-    rests = h;
-  }
+-- from its first stage
+module _ (old ended new : Known) (r q : Run (Framed LockBit)) (w b : ℕ) (st : SleepState)
+    (fresh : IsFresh r.of.wait w b st) (o : LockOutcome)
+    (a : Advances lock_table old ended r q (stage.Test test.First) (turn.Done o))
+    (h : HasRested ended new q.of.wait.worn) where
+  abbrev first : Stage LockTest
+  first = stage.Test test.First
+
+  pub ends_up : IsUp new
+  ends_up = up_by old ended new r q w b st fresh first refl o a h
+
+  pub ends_out : IsOut new
+  ends_out = out_by old ended new r q w b st fresh first refl o a h
+
+  pub ends_idle : (told_of old).mark ≡ None → IsIdle new
+  ends_idle = idle_by old ended new r q w b st fresh first refl o a h
+
+  pub ends_takes : IsUp old → IsIdle old → IsOut old → (told_of old).hold.head ≡ None
+      → TakesBit old new (watch.Bit w b) (given (end_in q.of.wait o))
+  ends_takes = takes_by old ended new r q w b st fresh first refl o a h
+
+  -- what it says at its end
+  pub ends_wait : EndsBitLock old new w b st (end_in q.of.wait o)
+  ends_wait =
+      let is = began old ended new r q w b st fresh first refl o a h in record {
+        ended = ended;
+        runs = ended_runs lock_table old ended r q first o a (call_plan (calls.LockBit w b st)) is
+            (answer_of (end_in q.of.wait o)) (answer_is q.of.wait o);
+        cause = subst (λ (p : Plan). CauseOf ended p.watch p.state (end_in q.of.wait o)) (a.same ∙ is) a.lands.trail.cause;
+        worn = q.of.wait.worn;
+        behind = subst (λ (p : Plan). BehindOf ended p.watch (end_in q.of.wait o) q.of.wait.worn) (a.same ∙ is)
+            a.lands.trail.behind;
+        rests = h;
+      }
+
+-- of a call that went on by stretches
+pub under_clean : (c : Plan) (ended new : Known) (q : Run (Framed LockBit)) (o : LockOutcome)
+    → IsUnderWay lock_table c ended q (turn.Done o) → HasRested ended new q.of.wait.worn
+    → MatchBool (given (end_in q.of.wait o)) (IsHolder new c.watch) (IsClean new)
+under_clean c ended new q o i h =
+    let r = i.began in
+    let w = r.of.wait.word in
+    let b = r.of.wait.bit in
+    let st = r.of.wait.state in
+    let fresh : IsFresh r.of.wait w b st = record { word = refl; bit = refl; state = refl } in
+    let was : IsIdle i.old = record {
+      running = i.clean.running;
+      free = i.clean.free;
+      unmarked = i.clean.settled.unmarked;
+    } in
+    let out : IsOut i.old = i.clean.settled.unqueued (own_of i.old) in
+    subst (λ (d : Watch). MatchBool (given (end_in q.of.wait o)) (IsHolder new d) (IsClean new))
+    (ap (λ (x : Plan). x.watch) i.plan)
+    (locks_clean i.old new (watch.Bit w b) i.clean (up_by i.old ended new r q w b st fresh i.start i.nothing o i.came h)
+    (idle_by i.old ended new r q w b st fresh i.start i.nothing o i.came h was.unmarked) (given (end_in q.of.wait o))
+    (takes_by i.old ended new r q w b st fresh i.start i.nothing o i.came h i.clean.up was out
+    (i.told.head ∙ i.clean.free.head)))

@@ -4,10 +4,14 @@ ghost use Rattle.std.specs.Prelude.{◌≡◌, ◌<◌, MatchBool};
 ghost use Rattle.wait_model.specs.declared.layout.TheConstants.{BIT_WORDS, WORD_BITS};
 ghost use Rattle.wait_model.specs.declared.watches.Watch.TheVariants as watch;
 ghost use Rattle.wait_rule.specs.Queues.{IsIdle, IsTold};
+ghost use Rattle.wait_rule.specs.PassedLocks.{PassesNone};
 ghost use Rattle.wait_rule.specs.Says.{IsClean, IsUp};
 ghost use Rattle.wait_class.specs.Posts.{IsOut};
 ghost use Rattle.wait_class.specs.declared.frame_stages.Stage.TheVariants as stage;
-ghost use Rattle.wait_class.specs.Tables.{IsAt};
+ghost use Rattle.wait_class.specs.declared.stages.Turn.TheVariants as turn;
+ghost use Rattle.wait_class.specs.Handing.{LastGiven};
+ghost use Rattle.wait_class.specs.Tables.{Advances, IsAsleepAt, IsAt, IsStop, Turned};
+ghost use Rattle.wait_class.specs.UnderWay.{Came, IsUnderWay};
 ghost use Rattle.bit_wait.specs.declared.lock_runs.LockTest.TheVariants as test;
 ghost use Rattle.bit_wait.specs.LockTables.{IsFresh, lock_table};
 ghost use Rattle.bit_wait.specs.LockEnds.{EndsBitLock, end_in, has_taken};
@@ -18,11 +22,12 @@ use crate::lock_waits::{LockBit, LockOutcome, LockRun, LockTest};
 use crate::wait_calls::BitEnd;
 use std::sync::Wait;
 use wait_class::frame_stages::{Framed, Stage};
-use wait_class::runs::{rest, run};
-use wait_class::stages::Run;
+use wait_class::runs::{rest, run, stretch, woke};
+use wait_class::stages::{Run, Turn};
 use wait_model::heads::head_of;
 use wait_model::tasks::SleepState;
 use wait_model::watches::Watch;
+use wait_rule::queues::Passing;
 use wait_rule::{Domain, Task};
 
 /// A wait to take bit `bit`, below `WORD_BITS`, of bit word `word`, below `BIT_WORDS`, that is about to begin:
@@ -36,6 +41,10 @@ pub fn begin_lock(task: &Task, word: u8, bit: u8, state: SleepState) -> LockRun
     ensures at { IsAt lock_table task.now result (stage.Test test.First) }
     ensures fresh { IsFresh result.of.wait word bit state }
     ensures told { IsTold task.now }
+    ensures under { IsClean task.now
+        → IsUnderWay lock_table (lock_table.plan_of result.of) task.now result (turn.Again (stage.Test test.First)) }
+    ensures came { Advances lock_table task.now task.now result result (stage.Test test.First)
+        (turn.Again (stage.Test test.First)) }
 {
     task.told();
     Run::new(Framed {
@@ -83,6 +92,67 @@ pub fn wait_on_bit_lock<R: Wait>(
     let outcome = run(rt, domain, task, &mut call, Stage::Test(LockTest::First));
     rest(domain, task, call.of.wait.worn);
     end_of(call.of.wait, outcome)
+}
+
+/// Goes on with a wait by one stretch (`wait_class::runs::stretch`).
+pub fn stretch_lock(
+    domain: &Domain,
+    task: &mut Task,
+    wait: &mut LockRun,
+    stage: Stage<LockTest>,
+    passing: &mut Passing,
+) -> Turn<Stage<LockTest>, LockOutcome>
+    requires of { task.old.domain ≡ domain.now }
+    requires passes { PassesNone passing.old }
+    requires at { IsAt lock_table task.old wait.old stage }
+    ensures turned { Turned lock_table task.old task.new wait.old wait.new stage result }
+    ensures stops { IsStop lock_table result }
+    ensures given { LastGiven task.old task.new passing.new.head }
+    ensures under { (c : _) → IsUnderWay lock_table c task.old wait.old (turn.Again stage)
+        → IsUnderWay lock_table c task.new wait.new result }
+    ensures came { (start : _) → (f : _) → (s : _) → Advances lock_table start task.old f wait.old s (turn.Again stage)
+        → Came lock_table start task.new f wait.new s result }
+{
+    stretch(domain, task, wait, stage, passing)
+}
+
+/// Looks whether a wait that was put asleep was woken (`wait_class::runs::woke`).
+pub fn woke_lock(domain: &Domain, task: &mut Task, wait: &LockRun, stage: Stage<LockTest>) -> bool
+    requires of { task.old.domain ≡ domain.now }
+    requires asleep { IsAsleepAt lock_table task.old wait.now stage }
+    ensures advances { MatchBool result (Advances lock_table task.old task.new wait.now wait.now stage (turn.Again stage))
+        (Advances lock_table task.old task.new wait.now wait.now stage (turn.Asleep stage)) }
+    ensures under { (c : _) → IsUnderWay lock_table c task.old wait.now (turn.Asleep stage)
+        → MatchBool result (IsUnderWay lock_table c task.new wait.now (turn.Again stage))
+        (IsUnderWay lock_table c task.new wait.now (turn.Asleep stage)) }
+    ensures came { (start : _) → (f : _) → (s : _) → Advances lock_table start task.old f wait.now s (turn.Asleep stage)
+        → MatchBool result (Advances lock_table start task.new f wait.now s (turn.Again stage))
+        (Advances lock_table start task.new f wait.now s (turn.Asleep stage)) }
+{
+    woke(domain, task, wait, stage)
+}
+
+/// Ends a wait that went on by stretches to its end, and answers. Where its last hold found no place it stores RUNNING,
+/// as `wait_on_bit_lock` does. Who owed nothing when the wait began is a holder of the bit after Ok, and owes nothing
+/// after an error; and what is said of one that began at `start` is what `wait_on_bit_lock` says.
+pub fn end_lock(
+    domain: &Domain,
+    task: &mut Task,
+    wait: &LockRun,
+    outcome: LockOutcome,
+) -> Result<(), BitEnd>
+    requires of { task.old.domain ≡ domain.now }
+    requires up { IsUp task.old }
+    ensures is { result ≡ end_in wait.now.of.wait outcome }
+    ensures of { task.new.domain ≡ domain.now }
+    ensures holder { (c : _) → IsUnderWay lock_table c task.old wait.now (turn.Done outcome)
+        → MatchBool (has_taken result) (IsHolder task.new c.watch) (IsClean task.new) }
+    ensures ends { (start : _) → (f : _) → (word : _) → (bit : _) → (state : _) → IsFresh f.of.wait word bit state
+        → Advances lock_table start task.old f wait.now (stage.Test test.First) (turn.Done outcome)
+        → EndsBitLock start task.new word bit state result }
+{
+    rest(domain, task, wait.of.wait.worn);
+    end_of(wait.of.wait, outcome)
 }
 
 /// The answer of a wait that has ended.

@@ -63,7 +63,7 @@ fn doze<R: Wait, C: Machine>(
 }
 
 /// Goes on with a wait to its end by stretches.
-fn go_on<R: Wait, C: Machine>(
+pub(crate) fn go_on<R: Wait, C: Machine>(
     rt: &R,
     domain: &Domain,
     task: &mut Task,

@@ -5,6 +5,7 @@ use Rattle.std.specs.Prelude.{ℕ, ◌≡◌, ◌≢◌, ◌<◌, ◌==◌, Bool
 use Rattle.wait_model.specs.declared.layout.TheConstants.{SLOTS}
 use Rattle.wait_model.specs.declared.calls.Call.TheVariants as calls
 use Rattle.wait_model.specs.declared.calls.Event.TheVariants as event
+use Rattle.wait_model.specs.declared.points.Next.{Next}
 use Rattle.wait_model.specs.declared.points.Next.TheVariants as next
 use Rattle.wait_model.specs.declared.points.Point.{Point}
 use Rattle.wait_model.specs.declared.points.Point.TheVariants as at
@@ -18,7 +19,7 @@ use Rattle.wait_model.specs.declared.watches.Kind.TheVariants as kind
 use Rattle.wait_model.specs.declared.watches.Watch.{Watch}
 use Rattle.wait_model.specs.Histories.{Since}
 use Rattle.wait_model.specs.Points.{given_at}
-use Rattle.wait_model.specs.Programs.{program}
+use Rattle.wait_model.specs.Programs.{program, zero_answer}
 use Rattle.wait_model.specs.Readings.{FailedBy, UnheardLoad, clears_flag, fails, outdates, reads_no}
 use Rattle.wait_model.specs.Tasks.{sleep_of, state_mask}
 use Rattle.wait_model.specs.Views.{View}
@@ -34,18 +35,31 @@ use Rattle.wait_rule.specs.Queues.{index}
 use Rattle.wait_rule.specs.Says.{history_of, told_of}
 use Rattle.wait_rule.specs.Transitions.{
   FindsStep,
+  Goes,
   IsMadeFor,
   IsStepFor,
+  IsTransition,
+  OnlyLooks,
+  Program,
   StepOrLook,
+  Transition,
   after_step_or_look,
   after_transition,
   by_look,
   by_step,
   call_program,
 }
+use Rattle.wait_event.specs.WokenWaits.{woken_program}
+use Rattle.wait_event.proofs.Hearing.Endings.{hears_on}
 use Rattle.wait_rule.proofs.TableSteps.MemberMoves.{own_index}
 use Rattle.waiter_laws.proofs.HistoryRuns.{IsLed, Leads, only_still, run, step_history}
-use Rattle.waiter_laws.specs.Listening.{EndsListening, HasTestedUnheard, ListenersAreKept}
+use Rattle.waiter_laws.specs.Listening.{
+  EndsListening,
+  HasTestedUnheard,
+  HearingsAreOne,
+  ListenersAreKept,
+  StretchesEndListening,
+}
 
 -- a step after which the test is still unheard, and one after which the flag is still read as not set
 tested_on : (es : List Step) (x : ℕ) (c : Watch) (e : Step) → clears_flag x e ≡ false → fails e c ≡ false
@@ -220,3 +234,42 @@ listeners_are_kept slot st old new e c small z tested stored woken is s items ru
           (sym history) (by_flag e.kind (is_page e.kind) (is_done c) (history_of new) at_own c woken
           (unheard slot st old new c z tested)));
     }
+
+-- by stretches: behind the sleep nothing leads back to the place where a task goes on
+module _ (me : ℕ) (st : SleepState) (mid new : Known) where
+  abbrev f : Program
+  f = woken_program me st
+
+  abbrev run_point : Next
+  run_point = next.Go (at.Woken hearing.Run)
+
+  -- the sleep and looks behind it
+  abbrev Slept : Type 0
+  Slept = (t : Transition) × IsTransition f (at.Woken hearing.Sleep) mid t × OnlyLooks (after_transition t) new
+
+  from_run : (k : Known) (us : List Transition) → Goes f k run_point us new run_point → OnlyLooks k new
+  from_run k [] g = g.0
+  from_run k (u ∷ []) g = absurd (let z : run_point ≡ next.Go (at.Woken hearing.Clear) = g.1.1 in cc)
+  from_run k (u ∷ v ∷ []) g = absurd (let z : run_point ≡ next.Ends zero_answer = g.1.1.1 in cc)
+  from_run k (u ∷ v ∷ w ∷ ws) g = absurd g.1.1
+
+  slept_in : (ts : List Transition) → Goes f mid (next.Go (at.Woken hearing.Sleep)) ts new run_point → Slept
+  slept_in [] g = absurd (let z : run_point ≡ next.Go (at.Woken hearing.Sleep) = g.1 in cc)
+  slept_in (t ∷ ts) g = (t, g.0, from_run (after_transition t) ts g.1)
+
+pub stretches_end_listening : StretchesEndListening
+stretches_end_listening st old new z =
+    let runs = z.slept.went.runs in
+    let slept = slept_in old.view.number st z.mid new runs.transitions
+    (subst (λ (n : ℕ). Goes (woken_program n st) z.mid (next.Go (at.Woken hearing.Sleep)) runs.transitions new
+    (next.Go (at.Woken hearing.Run))) z.came.went.keeps.number runs.goes) in record {
+      before = z.came.went.runs.transitions;
+      came = z.mid;
+      comes = z.came.went.runs.goes;
+      sleep = slept.0;
+      sleeps = slept.1;
+      looked = slept.2;
+    }
+
+pub hearings_are_one : HearingsAreOne
+hearings_are_one old mid new st s n u a b = hears_on old mid new st s n u a.went b

@@ -21,6 +21,11 @@ use Rattle.wait_rule.specs.Queues.{index}
 use Rattle.wait_rule.specs.Rule.{IsRuled}
 use Rattle.wait_rule.specs.Says.{history_of, told_of}
 use Rattle.wait_rule.specs.Transitions.{Goes, IsTransition, OnlyLooks, Transition, after_transition, call_program}
+use Rattle.wait_event.specs.declared.woken_waits.WokenStage.{WokenStage}
+use Rattle.wait_event.specs.declared.woken_waits.WokenStage.TheVariants as stage
+use Rattle.wait_event.specs.declared.woken_waits.WokenTurn.{WokenTurn}
+use Rattle.wait_event.specs.declared.woken_waits.WokenTurn.TheVariants as turn
+use Rattle.wait_event.specs.WokenWaits.{Hears}
 use Rattle.waiter_laws.specs.Asleep.{SleepsSafely}
 
 -- Since it queued entry x and cleared its flag the task loaded the watch, and the test failed. The caller of a wait for
@@ -52,3 +57,19 @@ ListenersAreKept = (slot : ℕ) (st : SleepState) (old new : Known) (e : Entry) 
     → (told_of new).bits.stored (index old.view.number slot) ≡ Some e → e.kind ≡ kind.Woken → same c e.watch ≡ true
     → (s : Table) (items : ℕ → List Item) → IsRuled s items → items old.view.number ≡ new.view.items
     → (s.task old.view.number).runnable ≡ false → SleepsSafely s (index old.view.number slot) e c
+
+-- The same of one that goes on by stretches: they came from the beginning of the wait to its sleep, and the last one put
+-- the task asleep.
+pub record StretchesListen (st : SleepState) (old new : Known) : Type 0 where
+  pub mid : Known
+  pub came : Hears old mid st stage.State (turn.Again stage.Sleep)
+  pub slept : Hears mid new st stage.Sleep turn.Asleep
+
+-- Then the task has made what it makes where the whole call puts it asleep, so that it is kept as one that did.
+abbrev pub StretchesEndListening : Type 0
+StretchesEndListening = (st : SleepState) (old new : Known) → StretchesListen st old new → EndsListening 0 st old new
+
+-- Stretches one after another are one.
+abbrev pub HearingsAreOne : Type 0
+HearingsAreOne = (old mid new : Known) (st : SleepState) (s n : WokenStage) (u : WokenTurn)
+    → Hears old mid st s (turn.Again n) → Hears mid new st n u → Hears old new st s u

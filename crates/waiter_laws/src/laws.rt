@@ -6,7 +6,7 @@ ghost use Rattle.completion_cell.specs.Awaits.{await_table};
 ghost use Rattle.page_lock.specs.PageTables.{page_table};
 ghost use Rattle.wait_event.specs.Waits.{wait_table};
 ghost use Rattle.waiter_laws.specs.Asleep.{SleepersAreKept};
-ghost use Rattle.waiter_laws.specs.Listening.{ListenersAreKept};
+ghost use Rattle.waiter_laws.specs.Listening.{HearingsAreOne, ListenersAreKept, StretchesEndListening};
 ghost use Rattle.waiter_laws.specs.Queued.{SleepersAreQueued, StepsTakeOffWoken};
 ghost use Rattle.waiter_laws.specs.Settled.{CellsSettle, SettledWakeAll, SwakesSettle, WakesSettle};
 ghost use Rattle.waiter_laws.specs.Stretches.{AwaitersAreKept, BitLockersAreKept, BitWaitersAreKept};
@@ -33,9 +33,12 @@ pub fn sleepers_are_queued()
 
 /// Whoever waits for a flag is not lost either. A task whose last event is the sleep of a `wait_woken`, which before
 /// that call had tested a watch since it queued its entry and cleared its flag, sleeps on the watch as long as it was
-/// not woken; its entry stands, since no other task takes it off.
+/// not woken; its entry stands, since no other task takes it off. Nor is whoever stretches of such a wait put asleep: it
+/// has made what it makes in the whole call up to there (`stretches`). Stretches one after another count as one.
 pub fn no_listener_lost()
-    ensures { ListenersAreKept }
+    ensures asleep { ListenersAreKept }
+    ensures stretches { StretchesEndListening }
+    ensures join { HearingsAreOne }
 {}
 
 /// Nor is whoever stretches put asleep: who began a wait for a plain condition or a variable (`waits`), one for a

@@ -1,5 +1,5 @@
 //! What a user of heads does between calls: stretches of calls, each with a contract that follows from the contracts of
-//! the calls alone. The crate has no proof of its own; of four loops it says what they keep.
+//! the calls alone. The crate has no proof of its own; of six loops it says what they keep.
 #![tactic(auto)]
 
 pub mod completions;
@@ -12,4 +12,5 @@ pub mod parts;
 pub mod simple;
 pub mod stretched;
 pub mod stretched_bits;
+pub mod stretched_locks;
 pub mod waits;

@@ -15,9 +15,9 @@ ghost use Rattle.bit_wait.specs.Holders.{IsHolder};
 use crate::stretched::go_on;
 use bit_wait::wait_calls::{begin_bit, end_bit, stretch_bit, woke_bit};
 use bit_wait::waits::{BitOutcome, BitRun, BitTest};
+use page_lock::unlock_page;
 use page_lock::wait_calls::{begin_page, end_page};
 use page_lock::waits::PageStage;
-use page_lock::unlock_page;
 use std::sync::Wait;
 use wait_class::frame_stages::Stage;
 use wait_class::stages::Turn;
@@ -143,7 +143,12 @@ fn give_page<R: Wait>(rt: &R, domain: &Domain, task: &mut Task, page: u8)
 }
 
 /// Takes page 0 by stretches, and gives it back: true where it took it.
-pub fn hold_by_stretches<R: Wait>(rt: &R, domain: &Domain, task: &mut Task, state: SleepState) -> bool
+pub fn hold_by_stretches<R: Wait>(
+    rt: &R,
+    domain: &Domain,
+    task: &mut Task,
+    state: SleepState,
+) -> bool
     requires of { task.old.domain ≡ domain.now }
     requires clean { IsClean task.old }
     ensures of { task.new.domain ≡ domain.now }

@@ -7,6 +7,8 @@ use wait_rule::Domain;
 use wq_user::completions::complete_one;
 use wq_user::events::set_zero;
 use wq_user::stretched::{take_by_stretches, wait_by_stretches, wait_var_by_stretches};
+use wq_user::stretched_bits::{hold_by_stretches, look_by_stretches};
+use wq_user::stretched_locks::hold_bit_by_stretches;
 
 /// Each ends as its whole call does, and the task is taken in.
 #[test]
@@ -23,6 +25,9 @@ fn waits_by_stretches_are_over(rt: HostRuntime) -> Result<(), Fail> {
         wait_by_stretches(&rt, &domain, &mut other, how),
         wait_var_by_stretches(&rt, &domain, &mut other, 1, SleepState::Killable),
         take_by_stretches(&rt, &domain, &mut other, SleepState::Killable),
+        look_by_stretches(&rt, &domain, &mut other, SleepState::Killable),
+        hold_by_stretches(&rt, &domain, &mut other, SleepState::Killable),
+        hold_bit_by_stretches(&rt, &domain, &mut other, SleepState::Interruptible),
     ];
     all_so(&rt, &seen);
     task.join(&domain, other);

@@ -59,6 +59,12 @@ impl<'a, L: Ledger, J: Job> Promise<Reply<'a, L, J::Done, J>> for Asked<'a, L, J
     ghost kept_by = { λ p r. (r.word.of ≡ p.lock.now.id) × Comes J J.Done J.did p.job.value r.outcome };
 }
 
+/// What a thread was asked for: its hand, or, where none could be had, what it was to do.
+struct Begun<T, P: Promise<T>, F: FnOnce() -> T> {
+    hand: Result<PromisedHandle<T, P>, SpawnError<F>>,
+    asked: Snapshot<P>,
+}
+
 fn ask<'a, L: Ledger, J: Job>(lock: &'a OnceLock<Word<L>>, job: &J) -> Asked<'a, L, J>
     ensures lock { result.lock.now.id ≡ lock.now.id }
     ensures job { result.job.value ≡ job.now }
@@ -142,18 +148,40 @@ fn begins<L: Ledger>(word: &Word<L>, share: &mut Share<L>) -> bool
     word.begins
 }
 
+/// Asks for a thread.
+fn begin<'s, E, T: Send + Drop + 's, P: Promise<T> + Drop, F: FnOnce() -> T + Send + 's>(
+    scope: &Scope<'s, E>,
+    promise: P,
+    does: F,
+) -> Begun<T, P, F>
+    requires callable { F.pre does }
+    requires keeps { (r : T) → F.post does r → P.kept_by promise r }
+    ensures asked { result.asked.value ≡ promise }
+    ensures same { IfOk result.hand (λ handle. handle.promise ≡ result.asked.value) }
+    ensures callable { IfErr result.hand (λ refused. F.pre refused.value) }
+    ensures keeps { IfErr result.hand
+        (λ refused. (r : T) → F.post refused.value r → P.kept_by result.asked.value r) }
+{
+    let asked = Snapshot::of(&promise);
+    let hand = scope.spawn_with(promise, does);
+    Begun { hand, asked }
+}
+
 /// Waits for the end of a thread; where there is none, what it was to do is done here, and the word was that nothing
 /// begins.
 fn settle<R: Threads, T, P: Promise<T>, F: FnOnce() -> T>(
     rt: &R,
     begins: bool,
-    hand: Result<PromisedHandle<T, P>, SpawnError<F>>,
+    begun: Begun<T, P, F>,
 ) -> T
-    requires idle { IfErr hand (λ _. begins ≡ false) }
-    requires callable { IfErr hand (λ refused. F.pre refused.value) }
-    ensures kept { MatchResult hand (λ handle. P.kept_by handle.promise result)
-        (λ refused. F.post refused.value result) }
+    requires idle { IfErr begun.hand (λ _. begins ≡ false) }
+    requires same { IfOk begun.hand (λ handle. handle.promise ≡ begun.asked.value) }
+    requires callable { IfErr begun.hand (λ refused. F.pre refused.value) }
+    requires keeps { IfErr begun.hand
+        (λ refused. (r : T) → F.post refused.value r → P.kept_by begun.asked.value r) }
+    ensures kept { P.kept_by begun.asked.value result }
 {
+    let Begun { hand, asked: _ } = begun;
     match hand {
         Ok(handle) => handle.join(rt),
         Err(refused) => {
@@ -286,25 +314,28 @@ fn begin_in<
         × (B.did two done.1 × (C.did three done.2 × D.did four done.3))) }
     ensures same { IfErr result (λ back. (back.0 ≡ one) × ((back.1 ≡ two) × ((back.2 ≡ three) × (back.3 ≡ four)))) }
 {
-    let first = scope.spawn_with(
+    let first = begin(
+        scope,
         ask(lock, &one),
         move ||
             requires { A.asks one }
         { stand_by(rt, lock, one) },
     );
-    let second = scope.spawn_with(
+    let second = begin(
+        scope,
         ask(lock, &two),
         move ||
             requires { B.asks two }
         { stand_by(rt, lock, two) },
     );
-    let third = scope.spawn_with(
+    let third = begin(
+        scope,
         ask(lock, &three),
         move ||
             requires { C.asks three }
         { stand_by(rt, lock, three) },
     );
-    let all = first.is_ok() && second.is_ok() && third.is_ok();
+    let all = first.hand.is_ok() && second.hand.is_ok() && third.hand.is_ok();
     let said = decide(rt, lock, book, share, all);
     let last = stand_by(rt, lock, four);
     let first = settle(rt, said.1, first);

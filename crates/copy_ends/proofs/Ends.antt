@@ -63,10 +63,9 @@ use Rattle.wait_event.specs.Conds.{set_change}
 use Rattle.completion_cell.specs.Completes.{HasCompleted}
 use Rattle.wait_pipe.specs.Pieces.{Ends, IsAtEnd, OthersStay}
 use Rattle.copy_plan.specs.declared.TheConstants.{ENDED_CELL}
-use Rattle.copy_plan.specs.declared.stop.Stop.{Stop}
-use Rattle.copy_ends.specs.Did.{IsIdler, WentBy}
-use Rattle.copy_turns.specs.Work.{IsAtWork, SignalsStay, SumsStay, TookNoKill, but_ends}
-use Rattle.copy_turns.proofs.Frames.{item_grows, item_off, item_signals, item_spared, item_sum}
+use Rattle.copy_ends.specs.Did.{IsIdler}
+use Rattle.copy_turns.specs.Work.{IsAtWork, SignalsStay, SumsStay, but_ends}
+use Rattle.copy_turns.proofs.Frames.{item_grows, item_off, item_signals, item_sum}
 use Rattle.copy_turns.proofs.PartLaws.{grows_then, sums_then}
 
 or_true : (a : Bool) → (a || true) ≡ true
@@ -161,7 +160,6 @@ pub record Opens (k : ℕ) (old new : Known) : Type 0 where
   pub work : IsAtWork new
   pub owes : (x : Excuse) → Owes x old → Owes (with_end k x) new
   pub becomes : EndBecomes k old new new_end
-  pub spared : TookNoKill old new
 
 pub record Fails (k : ℕ) (old new : Known) : Type 0 where
   pub leaves : Leaves old new
@@ -194,17 +192,6 @@ same_number k = grind (arith, nat_tests)
 
 pub end_closed : (e : End) → IsAtEnd e → IsAtEnd (closed e)
 end_closed e is = record { ended = is.ended; all = is.all }
-
--- turns of a worker, told later
-pub went_later : (a b c : Known) (how : Stop) → Grows b c → WentBy a b how → WentBy a c how
-went_later a b c how g w = record {
-  first = w.first;
-  last = w.last;
-  before = w.before;
-  spared = w.spared;
-  turns = w.turns;
-  later = grows_then w.last b c w.later g;
-}
 
 -- what was refused and what was noted, told of a longer list
 refused_append : (k : ℕ) (xs ys : List Item) → was_refused k (xs ++ ys) ≡ (was_refused k xs || was_refused k ys)
@@ -260,7 +247,6 @@ module _ (k found : ℕ) (got : Bool) (old new : Known) (is : new ≡ added old 
         leaves = claim_leaves;
         work = claim_work (owes_opened k new (owes but_ends work.owes));
         owes = owes;
-        spared = item_spared old new (item.Piped k act.Claim found) is refl;
         becomes = subst (λ (b : Bool). EndBecomes k old new (if b then new_end else end_at k old)) hit becomes;
       }
 

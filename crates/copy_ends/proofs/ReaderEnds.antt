@@ -14,12 +14,12 @@ use Rattle.copy_plan.specs.declared.plan.Planned.{Planned}
 use Rattle.copy_plan.specs.declared.stop.ReaderEnd.{ReaderEnd}
 use Rattle.copy_plan.specs.declared.stop.Stop.{Stop}
 use Rattle.copy_plan.specs.declared.stop.Stop.TheVariants as stop
-use Rattle.copy_ends.specs.Did.{IsIdler, ReaderDid, ReaderWorked, Refused, Served, WentBy}
+use Rattle.copy_ends.specs.Did.{IsIdler, ReaderDid, ReaderWorked, Refused, Served}
 use Rattle.copy_plan.specs.Plans.{due_in, fatal_of, up_to}
 use Rattle.copy_turns.specs.Raises.{sent_to}
 use Rattle.copy_turns.specs.Turns.{IsReaderStop, RaisedFor, Reading}
 use Rattle.copy_turns.specs.Work.{SignalsStay}
-use Rattle.copy_ends.proofs.Ends.{Closes, Finishes, Fails, Opens, refused_later, went_later, works_idler, worn_later}
+use Rattle.copy_ends.proofs.Ends.{Closes, Finishes, Fails, Opens, refused_later, works_idler, worn_later}
 use Rattle.copy_turns.proofs.PartLaws.{counted_none, counted_sums, grows_then, sums_counted, sums_then, took_later}
 use Rattle.copy_turns.proofs.ReaderTurns.{prepend_none, raised_sends, raised_then, reader_before}
 use Rattle.copy_turns.proofs.Sends.{Sends}
@@ -115,14 +115,6 @@ module _ (a b c d e : Known) (l0 l1 : Option (List ℕ)) (f0 f1 r : ℕ) (target
         sends = sends;
         kills = deadly;
         long = t.long;
-        turns = untaken how (Unit {0}) (WentBy a e how) (λ i. tt) (record {
-          first = c;
-          last = d;
-          before = before;
-          spared = s.spared ∙ o.spared;
-          turns = t.turns;
-          later = q.leaves.grows;
-        });
         later = t.later;
         cause = untaken how (Unit {0}) (IsReaderStop a e (HasRisen f0 f1) how) (λ i. tt) whole_cause;
       }
@@ -157,7 +149,6 @@ reader_fails a b left f targets plan idler o = record {
   sends = refl;
   kills = refl;
   long = omega arith;
-  turns = tt;
   later = omega arith;
   cause = tt;
 }
@@ -202,8 +193,6 @@ module _ (a b c : Known) (l0 l1 : Option (List ℕ)) (f0 f1 : ℕ) (targets : Li
     sends = r.sends;
     kills = r.kills;
     long = r.long;
-    turns = taken_map w.stop (Unit {0}) (WentBy a b w.stop) (Unit {0}) (WentBy a c w.stop) (λ x. x)
-        (went_later a b c w.stop k.leaves.grows) r.turns;
     later = r.later;
     cause = taken_map w.stop (Unit {0}) (IsReaderStop a b (HasRisen f0 f1) w.stop) (Unit {0})
         (IsReaderStop a c (HasRisen f0 f1) w.stop) (λ x. x)

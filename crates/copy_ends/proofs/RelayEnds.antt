@@ -12,7 +12,7 @@ use Rattle.copy_plan.specs.declared.TheConstants.{SINK_PIPE, SOURCE_PIPE}
 use Rattle.copy_plan.specs.declared.stop.Stop.{Stop}
 use Rattle.copy_plan.specs.declared.stop.Stop.TheVariants as stop
 use Rattle.copy_plan.specs.declared.stop.WorkerEnd.{WorkerEnd}
-use Rattle.copy_ends.specs.Did.{IsIdler, Refused, RelayDid, RelayWorked, Served, WentBy}
+use Rattle.copy_ends.specs.Did.{IsIdler, Refused, RelayDid, RelayWorked, Served}
 use Rattle.copy_turns.specs.Turns.{IsRelayStop, Relaying}
 use Rattle.copy_ends.proofs.Ends.{
   Closes,
@@ -24,7 +24,6 @@ use Rattle.copy_ends.proofs.Ends.{
   leaves_then,
   owes_swapped,
   refused_later,
-  went_later,
   works_idler,
   worn_later,
 }
@@ -119,14 +118,6 @@ module _ (a b c d e f : Known) (o : Opens tap a b) (p : Opens pen b c) (m : ℕ)
         (λ i. i ∙ sym (ap length tap_moved)) t.counts;
     moved = t.sum ∙ ap (λ (k : ℕ). k % 2 ^ 64) (zero-add t.n);
     signals = behind.signals ∙ (t.signals ∙ before.signals);
-    turns = untaken how (Unit {0}) (WentBy a f how) (λ i. tt) (record {
-      first = c;
-      last = d;
-      before = before.grows;
-      spared = p.spared ∙ o.spared;
-      turns = t.turns;
-      later = behind.grows;
-    });
     cause = untaken how (Unit {0}) (IsRelayStop a f how) (λ i. tt) whole_cause;
   }
 
@@ -151,7 +142,6 @@ relay_fails a b idler o = record {
   counts = tt;
   moved = refl;
   signals = o.leaves.signals;
-  turns = tt;
   cause = tt;
 }
 
@@ -182,7 +172,6 @@ module _ (a b c d : Known) (idler : IsIdler a) (o : Opens tap a b) (p : Fails pe
     counts = tt;
     moved = refl;
     signals = failed.signals;
-    turns = tt;
     cause = tt;
   }
 
@@ -221,8 +210,6 @@ module _ (a b c : Known) (w : WorkerEnd) (r : RelayWorked a b w) (k : Finishes b
         (λ i. i ∙ sym (ap (λ (e : End). length (moved_bytes e)) (k.ends tap))) r.counts;
     moved = r.moved;
     signals = k.leaves.signals ∙ r.signals;
-    turns = taken_map w.stop (Unit {0}) (WentBy a b w.stop) (Unit {0}) (WentBy a c w.stop) (λ x. x)
-        (went_later a b c w.stop k.leaves.grows) r.turns;
     cause = taken_map w.stop (Unit {0}) (IsRelayStop a b w.stop) (Unit {0}) (IsRelayStop a c w.stop) (λ x. x)
         (relay_later a b c k.leaves.grows (subst IsAtEnd (sym (k.ends tap)))
         (λ is. ap (λ (e : End). e.ended) (k.ends pen) ∙ is) w.stop) r.cause;

@@ -6,7 +6,7 @@ use Rattle.bit_wait.specs.declared.wait_calls.BitEnd.{BitEnd}
 use Rattle.wait_model.specs.declared.layout.TheConstants.{TASKS}
 use Rattle.wait_rule.specs.declared.journal.Journal.{Journal}
 use Rattle.wait_rule.specs.Aside.{GrowsAside}
-use Rattle.wait_rule.specs.Journals.{fresh, pushed}
+use Rattle.wait_rule.specs.Journals.{fresh, has_of, pushed}
 use Rattle.wait_rule.specs.Known.{Known}
 use Rattle.wait_rule.specs.Says.{IsShown, newcomer, seen_with}
 use Rattle.wait_rule.specs.TallyLaws.{tally_in}
@@ -110,26 +110,30 @@ module _ (domain : TableId) (one two three fourth old new : Known) (left_old lef
   shown_four : IsShown (four one.view.items two.view.items three.view.items fourth.view.items)
   shown_four = subst IsShown joined_is e.shown
 
+  pub has_lists : (has_of 1 new.view ≡ one.view.items) × (has_of 2 new.view ≡ two.view.items)
+      × (has_of 3 new.view ≡ three.view.items) × (has_of 4 new.view ≡ fourth.view.items)
+  has_lists =
+      let lists = last_lists one.view.items two.view.items three.view.items fourth.view.items old new joined_is
+      e.aside in
+      (lists.one, lists.two, lists.three, lists.four)
+
   pub is_copied : (how : Stop)
       → how ≡ copy_stop (reader.stop ∷ relay.stop ∷ writer.stop ∷ control_stop answer ∷ []) reader.kills
       → Copied domain new left_old left_new reads_old reads_new held_old held_new writes_old writes_new wants_old
       wants_new seen_old seen_new plan reader relay writer how answer
-  is_copied how stops =
-      let lists = last_lists one.view.items two.view.items three.view.items fourth.view.items old new joined_is
-      e.aside in
-      record {
-        one = one;
-        two = two;
-        three = three;
-        four = fourth;
-        reads = e.reads;
-        relays = e.relays;
-        writes = e.writes;
-        controls = e.controls;
-        lists = (lists.one, lists.two, lists.three, lists.four);
-        ends = e.ends;
-        stops = stops;
-      }
+  is_copied how stops = record {
+    one = one;
+    two = two;
+    three = three;
+    four = fourth;
+    reads = e.reads;
+    relays = e.relays;
+    writes = e.writes;
+    controls = e.controls;
+    lists = has_lists;
+    ends = e.ends;
+    stops = stops;
+  }
 
   pub takes_none : NoneTaken reader relay writer
   takes_none = copied.none_taken domain one two three fourth left_old left_new reads_old reads_new held_old held_new
@@ -175,7 +179,7 @@ module _ (domain : TableId) (one two three fourth old new : Known) (left_old lef
       }
 
 -- all that a copy ensures of its end
-pub record Ensured (domain : TableId) (new : Known) (left_old left_new : Option (List ℕ)) (reads_old reads_new : ℕ)
+pub record Ensured (domain : TableId) (one two three fourth new : Known) (left_old left_new : Option (List ℕ)) (reads_old reads_new : ℕ)
     (held_old held_new : Option (List ℕ)) (writes_old writes_new wants_old wants_new : ℕ)
     (seen_old seen_new : List EntryState) (plan : List Planned) (reader : ReaderEnd) (relay writer : WorkerEnd)
     (tally : ℕ) (how : Stop) (answer : Result ℕ BitEnd) : Type 0 where
@@ -186,6 +190,8 @@ pub record Ensured (domain : TableId) (new : Known) (left_old left_new : Option 
   pub whole : how ≡ stop.Finished → HoldsAll left_old held_old held_new seen_old seen_new reader relay writer tally
   pub moved : tally ≡ tally_in COUNTED_PAGE new.view % 2 ^ 64
   pub none_taken : NoneTaken reader relay writer
+  pub lists : (has_of 1 new.view ≡ one.view.items) × (has_of 2 new.view ≡ two.view.items)
+      × (has_of 3 new.view ≡ three.view.items) × (has_of 4 new.view ≡ fourth.view.items)
 
 pub ensured : (domain : TableId) (t1 t2 t3 t4 one two three fourth start old new : Known)
     (left_old left_new : Option (List ℕ)) (reads_old reads_new : ℕ) (held_old held_new : Option (List ℕ))
@@ -201,8 +207,8 @@ pub ensured : (domain : TableId) (t1 t2 t3 t4 one two three fourth start old new
     → old ≡ seen_with start (joined_four start.view one.view two.view three.view fourth.view) → IsShown old.view
     → ReadTally old new tally → GrowsAside old new
     → how ≡ copy_stop (reader.stop ∷ relay.stop ∷ writer.stop ∷ control_stop answer ∷ []) reader.kills
-    → Ensured domain new left_old left_new reads_old reads_new held_old held_new writes_old writes_new wants_old
-    wants_new seen_old seen_new plan reader relay writer tally how answer
+    → Ensured domain one two three fourth new left_old left_new reads_old reads_new held_old held_new writes_old
+    writes_new wants_old wants_new seen_old seen_new plan reader relay writer tally how answer
 ensured domain t1 t2 t3 t4 one two three fourth start old new left_old left_new reads_old reads_new held_old held_new
     writes_old writes_new wants_old wants_new seen_old seen_new plan reader relay writer answer tally how targets
     numbers e1 e2 e3 e4 begins reads relays writes controls ends joined shown found aside stops =
@@ -222,4 +228,6 @@ ensured domain t1 t2 t3 t4 one two three fourth start old new left_old left_new 
           writes_old writes_new wants_old wants_new seen_old seen_new plan reader relay writer answer tally e;
       none_taken = takes_none domain one two three fourth old new left_old left_new reads_old reads_new held_old
           held_new writes_old writes_new wants_old wants_new seen_old seen_new plan reader relay writer answer tally e;
+      lists = has_lists domain one two three fourth old new left_old left_new reads_old reads_new held_old held_new
+          writes_old writes_new wants_old wants_new seen_old seen_new plan reader relay writer answer tally e;
     }

@@ -14,9 +14,9 @@ use Rattle.copy_plan.specs.declared.TheConstants.{SINK_PIPE}
 use Rattle.copy_plan.specs.declared.stop.Stop.{Stop}
 use Rattle.copy_plan.specs.declared.stop.Stop.TheVariants as stop
 use Rattle.copy_plan.specs.declared.stop.WorkerEnd.{WorkerEnd}
-use Rattle.copy_ends.specs.Did.{IsIdler, Refused, WentBy, WriterDid, WriterWorked}
+use Rattle.copy_ends.specs.Did.{IsIdler, Refused, WriterDid, WriterWorked}
 use Rattle.copy_turns.specs.Turns.{IsWriterStop, Writing}
-use Rattle.copy_ends.proofs.Ends.{Closes, Finishes, Fails, Opens, end_closed, refused_later, went_later, works_idler, worn_later}
+use Rattle.copy_ends.proofs.Ends.{Closes, Finishes, Fails, Opens, end_closed, refused_later, works_idler, worn_later}
 use Rattle.copy_turns.proofs.PartLaws.{counted_none, counted_sums, grows_then, sums_counted, took_later}
 use Rattle.copy_turns.proofs.Shown.{shows_none}
 use Rattle.copy_turns.proofs.Stopping.{finished_both, taken_map, untaken}
@@ -85,14 +85,6 @@ module _ (a b c d : Known) (o : Opens tap a b) (h0 h1 : Option (List ℕ)) (f0 f
         (λ none i. i ∙ ap length (got_front none)) t.all t.counts;
     moved = t.sum ∙ ap (λ (k : ℕ). k % 2 ^ 64) (zero-add t.n);
     signals = q.leaves.signals ∙ (t.signals ∙ o.leaves.signals);
-    turns = untaken how (Unit {0}) (WentBy a d how) (λ i. tt) (record {
-      first = b;
-      last = c;
-      before = o.leaves.grows;
-      spared = o.spared;
-      turns = t.turns;
-      later = q.leaves.grows;
-    });
     later = t.later;
     rises = t.rises;
     cause = untaken how (Unit {0}) (IsWriterStop a d (HasRisen f0 f1) (HasRisen v0 v1) how) (λ i. tt) whole_cause;
@@ -123,7 +115,6 @@ writer_fails a b h f v s idler o = record {
   counts = tt;
   moved = refl;
   signals = o.leaves.signals;
-  turns = tt;
   later = omega arith;
   rises = (refl, refl);
   cause = tt;
@@ -157,8 +148,6 @@ module _ (a b c : Known) (h0 h1 : Option (List ℕ)) (f0 f1 v0 v1 : ℕ) (s0 s1 
     counts = r.counts;
     moved = r.moved;
     signals = k.leaves.signals ∙ r.signals;
-    turns = taken_map w.stop (Unit {0}) (WentBy a b w.stop) (Unit {0}) (WentBy a c w.stop) (λ x. x)
-        (went_later a b c w.stop k.leaves.grows) r.turns;
     later = r.later;
     rises = r.rises;
     cause = taken_map w.stop (Unit {0}) (IsWriterStop a b (HasRisen f0 f1) (HasRisen v0 v1) w.stop) (Unit {0})

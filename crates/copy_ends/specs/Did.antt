@@ -14,13 +14,12 @@ use Rattle.func_head.specs.Walks.{EntryState}
 use Rattle.copy_plan.specs.declared.TheConstants.{ENDED_CELL, SINK_PIPE, SOURCE_PIPE}
 use Rattle.copy_plan.specs.declared.plan.Planned.{Planned}
 use Rattle.copy_plan.specs.declared.stop.ReaderEnd.{ReaderEnd}
-use Rattle.copy_plan.specs.declared.stop.Stop.{Stop}
 use Rattle.copy_plan.specs.declared.stop.WorkerEnd.{WorkerEnd}
 use Rattle.copy_plan.specs.Plans.{fatal_of, up_to}
 use Rattle.copy_plan.specs.Stops.{IfFinished, IfTaken}
-use Rattle.copy_turns.specs.Turns.{IsLong, IsReaderStop, IsRelayStop, IsWriterStop, RaisedFor, SinkRises, Turns}
+use Rattle.copy_turns.specs.Turns.{IsLong, IsReaderStop, IsRelayStop, IsWriterStop, RaisedFor, SinkRises}
 use Rattle.copy_turns.specs.Watched.{Shows}
-use Rattle.copy_turns.specs.Work.{Counted, SignalsStay, TookNoKill}
+use Rattle.copy_turns.specs.Work.{Counted, SignalsStay}
 
 -- A task that is to do the work of a worker owes nothing, and left no entry at the completion of the copy; so it is
 -- afterwards, and its list has grown.
@@ -43,15 +42,6 @@ pub record Completes (old new : Known) : Type 0 where
 pub record Refused (k : ℕ) (old new : Known) : Type 0 where
   pub refused : was_refused k new.view.items ≡ true
   pub mine : (end_at k new).mine ≡ (end_at k old).mine
-
--- It went by turns up to a stop, and took no fatal signal before the first.
-pub record WentBy (old new : Known) (how : Stop) : Type 0 where
-  pub first : Known
-  pub last : Known
-  pub before : Grows old first
-  pub spared : TookNoKill old first
-  pub turns : Turns first last (Some how)
-  pub later : Grows last new
 
 -- A reader. The source gave some bytes, `read` of them, and a front went into the first pipe: all of them, up to the
 -- source's end, and each counted, where it finished. It sent the planned signals that were due, as they became due: those
@@ -79,7 +69,6 @@ pub record ReaderWorked (old new : Known) (left_old left_new : Option (List ℕ)
   pub sends : ended.sent ≡ length due
   pub kills : ended.kills ≡ length (fatal_of due)
   pub long : IsLong (Some ended.stop) ended.read
-  pub turns : IfTaken ended.stop (Unit {0}) (WentBy old new ended.stop)
   pub later : faults_old ≤ faults_new
   pub cause : IfTaken ended.stop (Unit {0}) (IsReaderStop old new (HasRisen faults_old faults_new) ended.stop)
 
@@ -100,7 +89,6 @@ pub record RelayWorked (old new : Known) (ended : WorkerEnd) : Type 0 where
   pub counts : IfFinished ended.stop (n ≡ length (moved_bytes (reading SOURCE_PIPE new)))
   pub moved : ended.moved ≡ n % 2 ^ 64
   pub signals : SignalsStay old new
-  pub turns : IfTaken ended.stop (Unit {0}) (WentBy old new ended.stop)
   pub cause : IfTaken ended.stop (Unit {0}) (IsRelayStop old new ended.stop)
 
 -- A writer. A front of what it got from the second pipe went into the sink, and was shown piece by piece: all of it, up
@@ -121,7 +109,6 @@ pub record WriterWorked (old new : Known) (held_old held_new : Option (List ℕ)
   pub counts : IfFinished ended.stop (n ≡ length front)
   pub moved : ended.moved ≡ n % 2 ^ 64
   pub signals : SignalsStay old new
-  pub turns : IfTaken ended.stop (Unit {0}) (WentBy old new ended.stop)
   pub later : faults_old ≤ faults_new
   pub rises : SinkRises faults_old faults_new wants_old wants_new (Some ended.stop)
   pub cause : IfTaken ended.stop (Unit {0})

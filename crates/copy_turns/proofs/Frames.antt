@@ -91,6 +91,26 @@ module _ (old new : Known) (c : Carries unchanged old new) where
     claims = λ j. ap (λ e. e.mine) (ends j);
   }
 
+-- whether a fatal one is among them
+module _ (old new : Known) (found : ℕ) (is : new ≡ added old (item.Made (step.Accept found))) where
+  own_total : total takes_fatal (history_of new) ≡ total takes_fatal (history_of old)
+      + (flag (task_of found).fatal + 0)
+  own_total = ap (λ (k : Known). total takes_fatal (history_of k)) is
+      ∙ (ap (total takes_fatal) (steps_append old.view.items (item.Made (step.Accept found) ∷ []))
+      ∙ total_append takes_fatal (history_of old) (step.Accept found ∷ []))
+
+  own_fatal : (task_of found).fatal ≡ true → TookKill old new
+  own_fatal fatal = let e = own_total in let f = ap flag fatal in omega arith
+
+  own_none : (task_of found).fatal ≡ false → TookNoKill old new
+  own_none none = let e = own_total in let f = ap flag none in omega arith
+
+pub own_kills : (old new : Known) → TookOwn old new true → TookKill old new
+own_kills old new t = own_fatal old new t.found t.took t.shows
+
+pub own_spares : (old new : Known) → TookOwn old new false → TookNoKill old new
+own_spares old new t = own_none old new t.found t.took t.shows
+
 -- the own signals that it takes
 module _ (old new : Known) (tells : ℕ → Type 0) (a : AddsOf old new (λ found. step.Accept found) tells) where
   pub accepted_apart : Carries unchanged old new → IsAtWork old → Apart old new
@@ -104,18 +124,6 @@ module _ (old new : Known) (tells : ℕ → Type 0) (a : AddsOf old new (λ foun
         signals = item_signals old new (item.Made (step.Accept a.0)) a.2 ∙ append-nil (signals_of old.view.items);
       }
 
-  accepted_total : total takes_fatal (history_of new) ≡ total takes_fatal (history_of old)
-      + (flag (task_of a.0).fatal + 0)
-  accepted_total = ap (λ (k : Known). total takes_fatal (history_of k)) a.2
-      ∙ (ap (total takes_fatal) (steps_append old.view.items (item.Made (step.Accept a.0) ∷ []))
-      ∙ total_append takes_fatal (history_of old) (step.Accept a.0 ∷ []))
-
-  pub accepted_fatal : (task_of a.0).fatal ≡ true → TookKill old new
-  accepted_fatal is = let e = accepted_total in let f = ap flag is in omega arith
-
-  pub accepted_none : (task_of a.0).fatal ≡ false → TookNoKill old new
-  accepted_none is = let e = accepted_total in let f = ap flag is in omega arith
-
 fatal_taken : (f s : Bool) → taken.Fatal ≡ (if f then taken.Fatal else if s then taken.Plain else taken.Nothing)
     → f ≡ true
 fatal_taken true s is = refl
@@ -125,7 +133,7 @@ fatal_taken false false is = absurd (cc)
 pub accepted_kill : (old new : Known) (r : Taken)
     → AddsOf old new (λ found. step.Accept found) (λ found. r ≡ taken_of (task_of found)) → r ≡ taken.Fatal
     → TookKill old new
-accepted_kill old new r a is = accepted_fatal old new (λ found. r ≡ taken_of (task_of found)) a
+accepted_kill old new r a is = own_fatal old new a.0 a.2
     (fatal_taken (task_of a.0).fatal (task_of a.0).signal (sym is ∙ a.3))
 
 not_taken : (f s : Bool) (r : Taken) → r ≡ (if f then taken.Fatal else if s then taken.Plain else taken.Nothing)
@@ -136,7 +144,7 @@ not_taken true s r is ne = absurd (ne is)
 pub accepted_spared : (old new : Known) (r : Taken)
     → AddsOf old new (λ found. step.Accept found) (λ found. r ≡ taken_of (task_of found)) → r ≢ taken.Fatal
     → TookNoKill old new
-accepted_spared old new r a ne = accepted_none old new (λ found. r ≡ taken_of (task_of found)) a
+accepted_spared old new r a ne = own_none old new a.0 a.2
     (not_taken (task_of a.0).fatal (task_of a.0).signal r a.3 ne)
 
 pub accepted_own_kill : (old new : Known) (r : Taken)

@@ -1,4 +1,3 @@
-pub mod Begins
 pub mod Frames
 pub mod PartLaws
 pub mod Pieces
@@ -8,4 +7,5 @@ pub mod Sends
 pub mod Shown
 pub mod Stopping
 pub mod Sums
+pub mod Trails
 pub mod Writes

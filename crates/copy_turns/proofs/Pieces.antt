@@ -30,7 +30,7 @@ use Rattle.copy_plan.specs.declared.stop.Halt.{Halt}
 use Rattle.copy_plan.specs.declared.stop.Halt.TheVariants as halt
 use Rattle.copy_turns.specs.Turns.{CountedAll, Got, HandedAll, HandedFront}
 use Rattle.copy_turns.specs.Work.{Apart, HaltsBy, IsAtWork, IsHalt, IsOwnHalt}
-use Rattle.copy_turns.proofs.Frames.{piece_works}
+use Rattle.copy_turns.proofs.Frames.{own_kills, piece_works}
 use Rattle.copy_turns.proofs.PartLaws.{
   halt_before,
   moved_ends,
@@ -102,13 +102,15 @@ module _ (k : ℕ) (a c d : Known) (grows : Grows a c) where
 
   pub halts : (e : PipeEnd) (h : Halt) → IsCause k c e → HaltsBy c d e h → IsHalt k a d h
   halts pipe_end.Broken h cause by = subst (IsHalt k a d) (sym by.0) (same_halt halt.Broken by.1 cause)
-  halts (pipe_end.Interrupted seen) h cause by = subst (IsHalt k a d) (sym by.0) (took_before a c d grows by.1)
+  halts (pipe_end.Interrupted seen) h cause by = subst (IsHalt k a d) (sym by.0)
+      (took_before a c d grows (own_kills c d by.1))
   halts (pipe_end.Worn head place) h cause by = subst (IsHalt k a d) (sym by.0)
       (same_halt (halt.Worn head place) by.1 cause.ends.noted)
 
   pub own_halts : (e : PipeEnd) (h : Halt) → IsReadCause k c e → HaltsBy c d e h → IsOwnHalt a d h
   own_halts pipe_end.Broken h cause by = absurd cause
-  own_halts (pipe_end.Interrupted seen) h cause by = subst (IsOwnHalt a d) (sym by.0) (took_before a c d grows by.1)
+  own_halts (pipe_end.Interrupted seen) h cause by = subst (IsOwnHalt a d) (sym by.0)
+      (took_before a c d grows (own_kills c d by.1))
   own_halts (pipe_end.Worn head place) h cause by = subst (IsOwnHalt a d) (sym by.0)
       (subst (λ (x : Known). IsOwnHalt a x (halt.Worn head place)) (sym by.1) cause.ends.noted)
 

@@ -1,23 +1,6 @@
 -- The turns of a reader.
 use Rattle.std.proofs.Common.{refl, sym, ◌∙◌, ap, subst, append_assoc, append-nil, arith, length-append}
-use Rattle.std.specs.Prelude.{
-  ℕ,
-  ◌≡◌,
-  ◌+◌,
-  ◌<◌,
-  ◌≤◌,
-  ◌++◌,
-  false,
-  List,
-  [],
-  ◌∷◌,
-  length,
-  take,
-  Option,
-  None,
-  Some,
-  IfSome,
-}
+use Rattle.std.specs.Prelude.{ℕ, ◌≡◌, ◌+◌, ◌<◌, ◌≤◌, ◌++◌, List, [], ◌∷◌, length, take, Option, None, Some, IfSome}
 use Rattle.std.proofs.lemmas.List.{length-take-le}
 use Rattle.std.specs.Io.KnownBytes.{prepend_known}
 use Rattle.edge_io.specs.Faults.{HasRisen}
@@ -35,27 +18,10 @@ use Rattle.copy_plan.specs.declared.stop.Stop.TheVariants as stop
 use Rattle.copy_plan.specs.Plans.{due_at, due_in}
 use Rattle.copy_turns.specs.Raises.{sent_to}
 use Rattle.copy_plan.specs.Stops.{stop_of}
-use Rattle.copy_turns.specs.Turns.{HandedAll, HandedFront, IfEnded, IsLong, IsReaderStop, RaisedFor, Reading, Turns}
-use Rattle.copy_turns.specs.Work.{Apart, IsAtWork, IsHalt, SignalsStay, SumsStay, TookOwn, Works}
+use Rattle.copy_turns.specs.Turns.{HandedAll, HandedFront, IfEnded, IsLong, IsReaderStop, RaisedFor, Reading}
+use Rattle.copy_turns.specs.Work.{Apart, IsAtWork, IsHalt, SignalsStay, SumsStay, Works}
 use Rattle.copy_plan.proofs.DueTimes.{due_at_then, rises_then}
-use Rattle.copy_turns.proofs.Begins.{begun, turn_on, turn_stops, turns_none, turns_then}
-use Rattle.copy_turns.proofs.PartLaws.{
-  counted_none,
-  counted_same,
-  counted_then,
-  ends_moved,
-  ends_then,
-  grows_same,
-  halt_before,
-  moved_none,
-  moved_ends,
-  moved_then,
-  sums_counted,
-  sums_then,
-  took_before,
-  works_same,
-  works_then,
-}
+use Rattle.copy_turns.proofs.PartLaws.{counted_none, counted_same, counted_then, ends_moved, ends_then, halt_before, moved_none, moved_ends, moved_then, sums_counted, sums_then, took_before, works_same, works_then}
 use Rattle.copy_turns.proofs.Sends.{Sends, sent_append}
 use Rattle.copy_turns.proofs.Stopping.{finished, halted_whole, stopped_map, whole_map}
 
@@ -151,7 +117,6 @@ reading_none k left f r targets plan work settled few = record {
   counts = refl;
   signals = raised_none k k targets r plan refl;
   long = few;
-  turns = turns_none k;
   later = omega arith;
   cause = tt;
 }
@@ -186,7 +151,6 @@ module _ (a b c : Known) (l0 l1 l2 : Option (List ℕ)) (f0 f1 f2 r0 r1 r2 : ℕ
             (λ x. let y : one.n ≡ length one.given = one.counts in omega arith) two.counts;
         signals = raised_then a b c targets (r0 + 1) r1 r2 plan one.signals two.signals;
         long = two.long;
-        turns = turns_then a b c how one.turns two.turns;
         later = let x = one.later in let y = two.later in omega arith;
         cause = stopped_map how (IsReaderStop b c (HasRisen f1 f2)) (IsReaderStop a c (HasRisen f0 f2))
             (reader_before a b c f0 f1 f2 one.works.grows one.later) two.cause;
@@ -198,9 +162,9 @@ module _ (a b : Known) (l0 l1 : Option (List ℕ)) (f0 f1 r : ℕ) (targets : Li
     (later : f0 ≤ f1)
   where
     pub read_nothing : (how : Stop) → IsLong (Some how) r → IfEnded (Some how) (IfSome l1 (λ bytes. bytes ≡ []))
-        → IsReaderStop a b (HasRisen f0 f1) how → Turns a b (Some how)
+        → IsReaderStop a b (HasRisen f0 f1) how
         → Reading a b l0 l1 f0 f1 r r targets plan (Some how)
-    read_nothing how long whole cause turns = record {
+    read_nothing how long whole cause = record {
       works = apart.works;
       given = [];
       front = [];
@@ -216,7 +180,6 @@ module _ (a b : Known) (l0 l1 : Option (List ℕ)) (f0 f1 r : ℕ) (targets : Li
       counts = finished how (0 ≡ 0) refl;
       signals = raised_none a b targets r plan apart.signals;
       long = long;
-      turns = turns;
       later = later;
       cause = cause;
     }
@@ -224,7 +187,7 @@ module _ (a b : Known) (l0 l1 : Option (List ℕ)) (f0 f1 r : ℕ) (targets : Li
 -- A turn in which it gave some bytes, and the signals were sent that were due then.
 module _ (a b c : Known) (l0 l1 : Option (List ℕ)) (f0 f1 r s : ℕ) (targets : List ℕ) (plan : List Planned)
     (bytes : List ℕ) (settled : IsSettled (writing SOURCE_PIPE a)) (apart : Apart a b)
-    (own : TookOwn a b false) (left : l0 ≡ prepend_known bytes l1) (later : f0 ≤ f1) (read : s ≡ r + length bytes) (some : r < s)
+    (left : l0 ≡ prepend_known bytes l1) (later : f0 ≤ f1) (read : s ≡ r + length bytes) (some : r < s)
     (sends : Sends b c (sent_to targets (due_in (r + 1) s plan))) where
   low : r + 1 ≤ s
   low = omega (arith, some)
@@ -255,7 +218,6 @@ module _ (a b c : Known) (l0 l1 : Option (List ℕ)) (f0 f1 r s : ℕ) (targets 
     counts = tt;
     signals = raised_sends a b c c targets (r + 1) s plan low apart.signals sends refl;
     long = long;
-    turns = turn_stops a c stop.Long (begun a b c c own sends.works.grows sends.ends (grows_same c) refl);
     later = later;
     cause = tt;
   }
@@ -278,7 +240,6 @@ module _ (a b c : Known) (l0 l1 : Option (List ℕ)) (f0 f1 r s : ℕ) (targets 
       counts = refl;
       signals = raised_sends a b c d targets (r + 1) s plan low apart.signals sends h.signals;
       long = few;
-      turns = turn_on a d (begun a b c d own sends.works.grows sends.ends h.works.grows h.signals);
       later = later;
       cause = tt;
     }
@@ -301,8 +262,6 @@ module _ (a b c : Known) (l0 l1 : Option (List ℕ)) (f0 f1 r s : ℕ) (targets 
       counts = halted_whole how (0 ≡ length bytes);
       signals = raised_sends a b c d targets (r + 1) s plan low apart.signals sends h.signals;
       long = halt_long how s few;
-      turns = turn_stops a d (stop_of how)
-          (begun a b c d own sends.works.grows sends.ends h.works.grows h.signals);
       later = later;
       cause = halt_reads a d (HasRisen f0 f1) how
           (halt_before (write_end SOURCE_PIPE) a c d how sent_works_all.grows h.cause);

@@ -1,7 +1,7 @@
 -- The turns of a relay.
 use Rattle.std.proofs.Common.{refl, sym, ◌∙◌, ap, subst, append_assoc, append-nil, arith, length-append}
 use Rattle.std.specs.Prelude.{ℕ, ◌≡◌, ◌≢◌, ◌+◌, ◌%◌, ◌^◌, ◌/◌, ◌<◌, List, [], ◌++◌, length}
-use Rattle.std.specs.Prelude.{true, false, Option, None, Some}
+use Rattle.std.specs.Prelude.{Option, None, Some}
 use Rattle.wait_model.specs.declared.layout.TheConstants.{PIPE_ENDS}
 use Rattle.wait_rule.specs.Aside.{Grows}
 use Rattle.wait_rule.specs.Known.{Known}
@@ -15,20 +15,8 @@ use Rattle.copy_plan.specs.declared.stop.Stop.{Stop}
 use Rattle.copy_plan.specs.declared.stop.Stop.TheVariants as stop
 use Rattle.copy_plan.specs.Stops.{stop_of}
 use Rattle.copy_turns.specs.Turns.{Got, HandedAll, HandedFront, IsRelayStop, Relaying}
-use Rattle.copy_turns.specs.Work.{Apart, IsAtWork, IsHalt, IsOwnHalt, TookKill, TookOwn}
-use Rattle.copy_turns.proofs.Begins.{begun_silent, turn_killed, turn_on, turn_stops, turns_none, turns_then}
-use Rattle.copy_turns.proofs.PartLaws.{
-  counted_none,
-  counted_same,
-  counted_then,
-  ends_moved,
-  grows_then,
-  sums_counted,
-  sums_then,
-  took_before,
-  works_same,
-  works_then,
-}
+use Rattle.copy_turns.specs.Work.{Apart, IsAtWork, IsHalt, IsOwnHalt, TookKill}
+use Rattle.copy_turns.proofs.PartLaws.{counted_none, counted_same, counted_then, ends_moved, sums_counted, sums_then, took_before, works_same, works_then}
 use Rattle.copy_turns.proofs.Stopping.{finished, halted_whole, own_halt, stopped_map, whole_map}
 use Rattle.copy_turns.proofs.Sums.{sum_none, sum_then}
 
@@ -78,7 +66,6 @@ relaying_none k m small work tap pen = record {
   counts = refl;
   sum = sum_none m small;
   signals = refl;
-  turns = turns_none k;
   cause = tt;
 }
 
@@ -111,15 +98,14 @@ module _ (a b c : Known) (k m n : ℕ) (how : Option Stop) (one : Relaying a b k
         two.counts;
     sum = sum_then k m n one.n two.n one.sum two.sum;
     signals = two.signals ∙ one.signals;
-    turns = turns_then a b c how one.turns two.turns;
     cause = stopped_map how (IsRelayStop b c) (IsRelayStop a c) (relay_before a b c one.works.grows) two.cause;
   }
 
 -- a turn that ended before it took a piece
 pub relay_killed : (a b : Known) (m : ℕ) → m < 2 ^ 64 → IsSettled (reading SOURCE_PIPE a)
-    → IsSettled (writing SINK_PIPE a) → Apart a b → TookOwn a b true → TookKill a b
+    → IsSettled (writing SINK_PIPE a) → Apart a b → TookKill a b
     → Relaying a b m m (Some stop.Killed)
-relay_killed a b m small tap pen apart own took = record {
+relay_killed a b m small tap pen apart took = record {
   works = apart.works;
   got = [];
   front = [];
@@ -136,13 +122,12 @@ relay_killed a b m small tap pen apart own took = record {
   counts = tt;
   sum = sum_none m small;
   signals = apart.signals;
-  turns = turn_killed a b own;
   cause = took;
 }
 
 -- The turn got a piece, or none.
 module _ (a b c : Known) (m : ℕ) (small : m < 2 ^ 64) (pen : IsSettled (writing SINK_PIPE a)) (apart : Apart a b)
-    (own : TookOwn a b false) (bytes : List ℕ) (g : Got (read_end SOURCE_PIPE) b c bytes) where
+    (bytes : List ℕ) (g : Got (read_end SOURCE_PIPE) b c bytes) where
   got_moved : Moved (read_end SOURCE_PIPE) a c bytes
   got_moved = ends_moved (read_end SOURCE_PIPE) a b c bytes apart.ends g.moved
 
@@ -167,7 +152,6 @@ module _ (a b c : Known) (m : ℕ) (small : m < 2 ^ 64) (pen : IsSettled (writin
     counts = finished how (0 ≡ length bytes) (sym (ap length none));
     sum = sum_none m small;
     signals = g.signals ∙ apart.signals;
-    turns = turn_stops a c how (begun_silent a b c own g.works.grows g.signals);
     cause = cause;
   }
 
@@ -212,8 +196,6 @@ module _ (a b c : Known) (m : ℕ) (small : m < 2 ^ 64) (pen : IsSettled (writin
       counts = refl;
       sum = sum;
       signals = w.signals ∙ (g.signals ∙ apart.signals);
-      turns = turn_on a d (begun_silent a b d own
-          (grows_then b c d g.works.grows w.works.grows) (w.signals ∙ g.signals));
       cause = tt;
     }
 
@@ -236,7 +218,5 @@ module _ (a b c : Known) (m : ℕ) (small : m < 2 ^ 64) (pen : IsSettled (writin
       counts = halted_whole h (0 ≡ length bytes);
       sum = sum_none m small;
       signals = w.signals ∙ (g.signals ∙ apart.signals);
-      turns = turn_stops a d (stop_of h) (begun_silent a b d own
-          (grows_then b c d g.works.grows w.works.grows) (w.signals ∙ g.signals));
       cause = relay_before a c d (works_then a b c apart.works g.works).grows (stop_of h) (halt_stops c d h w.cause);
     }

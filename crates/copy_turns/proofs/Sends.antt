@@ -12,7 +12,9 @@ use Rattle.copy_plan.specs.declared.plan.Planned.{Planned}
 use Rattle.copy_plan.proofs.DueParts.{due_passed_before, due_passed_behind, due_taken}
 use Rattle.copy_plan.specs.Plans.{due_in, fatal_of, target_of}
 use Rattle.copy_turns.specs.Raises.{kills_in, raised_for, sent_to}
+use Rattle.copy_turns.specs.Transfers.{SendsEach}
 use Rattle.copy_turns.specs.Work.{IsAtWork, SumsStay, TookNoKill, Works}
+use Rattle.copy_turns.proofs.Trails.{sends_each_then}
 use Rattle.copy_turns.proofs.PartLaws.{ends_then, sums_then, works_same, works_then}
 
 -- signals that were raised, and nothing else done
@@ -22,6 +24,7 @@ pub record Sends (old new : Known) (raised : List Raised) : Type 0 where
   pub sums : SumsStay old new
   pub spared : TookNoKill old new
   pub signals : signals_of new.view.items ≡ signals_of old.view.items ++ raised
+  pub each : SendsEach raised old new
 
 pub sends_none : (k : Known) → IsAtWork k → Sends k k []
 sends_none k work = record {
@@ -30,6 +33,7 @@ sends_none k work = record {
   sums = λ p. refl;
   spared = refl;
   signals = sym (append-nil (signals_of k.view.items));
+  each = refl;
 }
 
 pub sends_then : (a b c : Known) (xs ys : List Raised) → Sends a b xs → Sends b c ys → Sends a c (xs ++ ys)
@@ -39,6 +43,7 @@ sends_then a b c xs ys one two = record {
   sums = sums_then a b c one.sums two.sums;
   spared = two.spared ∙ one.spared;
   signals = two.signals ∙ (ap (λ l. l ++ ys) one.signals ∙ append_assoc (signals_of a.view.items) xs ys);
+  each = sends_each_then xs ys a b c one.each two.each;
 }
 
 length_if : {A B : Type 0} (b : Bool) (x : A) (y : B) (xs : List A) (ys : List B) → length xs ≡ length ys
@@ -91,6 +96,7 @@ module _ (ps : List Planned) (i : ℕ) (d : Planned) (within : i < length ps) wh
           spared = sent_spared b c who p.fatal s;
           signals = sent_signals b c who p.fatal s ∙ ap (λ (n : ℕ). signals_of b.view.items
               ++ record { who = n; fatal = p.fatal } ∷ []) target;
+          each = (c, subst (λ (n : ℕ). HasSignalled b c n p.fatal) target s, refl);
         }))
 
     module _ (end : Known) (same : end ≡ b) where

@@ -1,7 +1,7 @@
 -- The turns of a writer.
 use Rattle.std.proofs.Common.{refl, sym, ◌∙◌, ap, subst, append_assoc, append-nil, arith, length-append}
 use Rattle.std.specs.Prelude.{ℕ, ◌≡◌, ◌+◌, ◌%◌, ◌^◌, ◌<◌, ◌≤◌, List, [], ◌++◌, length}
-use Rattle.std.specs.Prelude.{true, false, Option, None, Some}
+use Rattle.std.specs.Prelude.{Option, None, Some}
 use Rattle.std.specs.Io.KnownBytes.{append_known}
 use Rattle.wait_rule.specs.Aside.{Grows}
 use Rattle.wait_rule.specs.Known.{Known}
@@ -20,23 +20,8 @@ use Rattle.copy_plan.specs.declared.stop.Stop.TheVariants as stop
 use Rattle.copy_plan.specs.Stops.{stop_of}
 use Rattle.copy_turns.specs.Turns.{CountedAll, Got, IfWhole, IsWriterStop, SinkRises, Writing}
 use Rattle.copy_turns.specs.Watched.{IsPiece, UnlessFailed}
-use Rattle.copy_turns.specs.Work.{Apart, IsAtWork, IsOwnHalt, TookKill, TookOwn}
-use Rattle.copy_turns.proofs.Begins.{begun_silent, turn_killed, turn_on, turn_stops, turns_none, turns_then}
-use Rattle.copy_turns.proofs.PartLaws.{
-  counted_none,
-  counted_same,
-  counted_then,
-  ends_moved,
-  grows_then,
-  moved_ends,
-  moved_none,
-  moved_then,
-  sums_counted,
-  sums_then,
-  took_before,
-  works_same,
-  works_then,
-}
+use Rattle.copy_turns.specs.Work.{Apart, IsAtWork, IsOwnHalt, TookKill}
+use Rattle.copy_turns.proofs.PartLaws.{counted_none, counted_same, counted_then, ends_moved, moved_ends, moved_none, moved_then, sums_counted, sums_then, took_before, works_same, works_then}
 use Rattle.copy_turns.proofs.Shown.{shows_none, shows_one, shows_part, shows_then}
 use Rattle.copy_turns.proofs.Stopping.{finished, halted_whole, stopped_map, whole_map}
 use Rattle.copy_turns.proofs.Sums.{sum_none, sum_then}
@@ -99,7 +84,6 @@ writing_none k held f v s m small work tap = record {
   counts = refl;
   sum = sum_none m small;
   signals = refl;
-  turns = turns_none k;
   later = omega arith;
   rises = (refl, refl);
   cause = tt;
@@ -131,7 +115,6 @@ module _ (a b c : Known) (h0 h1 h2 : Option (List ℕ)) (f0 f1 f2 v0 v1 v2 : ℕ
         two.counts;
     sum = sum_then k m n one.n two.n one.sum two.sum;
     signals = two.signals ∙ one.signals;
-    turns = turns_then a b c how one.turns two.turns;
     later = let p = one.later in let q = two.later in omega arith;
     rises = rises_then f0 f1 f2 v0 v1 v2 how one.rises.0 one.rises.1 two.rises;
     cause = stopped_map how (IsWriterStop b c (HasRisen f1 f2) (HasRisen v1 v2))
@@ -142,9 +125,9 @@ module _ (a b c : Known) (h0 h1 h2 : Option (List ℕ)) (f0 f1 f2 v0 v1 v2 : ℕ
 
 -- a turn that ended before it took a piece
 pub write_killed : (a b : Known) (held : Option (List ℕ)) (f v : ℕ) (s : List EntryState) (m : ℕ) → m < 2 ^ 64
-    → IsSettled (reading SINK_PIPE a) → Apart a b → TookOwn a b true → TookKill a b
+    → IsSettled (reading SINK_PIPE a) → Apart a b → TookKill a b
     → Writing a b held held f f v v s s m m (Some stop.Killed)
-write_killed a b held f v s m small tap apart own took = record {
+write_killed a b held f v s m small tap apart took = record {
   works = apart.works;
   got = [];
   front = [];
@@ -159,14 +142,13 @@ write_killed a b held f v s m small tap apart own took = record {
   counts = tt;
   sum = sum_none m small;
   signals = apart.signals;
-  turns = turn_killed a b own;
   later = omega arith;
   rises = (refl, refl);
   cause = took;
 }
 
 -- The turn got a piece, or none.
-module _ (a b c : Known) (m : ℕ) (small : m < 2 ^ 64) (apart : Apart a b) (own : TookOwn a b false)
+module _ (a b c : Known) (m : ℕ) (small : m < 2 ^ 64) (apart : Apart a b)
     (bytes : List ℕ) (g : Got (read_end SINK_PIPE) b c bytes) where
   got_moved : Moved (read_end SINK_PIPE) a c bytes
   got_moved = ends_moved (read_end SINK_PIPE) a b c bytes apart.ends g.moved
@@ -189,7 +171,6 @@ module _ (a b c : Known) (m : ℕ) (small : m < 2 ^ 64) (apart : Apart a b) (own
     counts = finished how (0 ≡ length bytes) (sym (ap length none));
     sum = sum_none m small;
     signals = g.signals ∙ apart.signals;
-    turns = turn_stops a c how (begun_silent a b c own g.works.grows g.signals);
     later = omega arith;
     rises = rises;
     cause = cause;
@@ -226,7 +207,6 @@ module _ (a b c : Known) (m : ℕ) (small : m < 2 ^ 64) (apart : Apart a b) (own
     counts = unfinished (0 ≡ length bytes);
     sum = sum_none m small;
     signals = g.signals ∙ apart.signals;
-    turns = turn_stops a c how (begun_silent a b c own g.works.grows g.signals);
     later = later;
     rises = rises;
     cause = cause;
@@ -252,8 +232,6 @@ module _ (a b c : Known) (m : ℕ) (small : m < 2 ^ 64) (apart : Apart a b) (own
       counts = refl;
       sum = sum;
       signals = w.signals ∙ (g.signals ∙ apart.signals);
-      turns = turn_on a d (begun_silent a b d own
-          (grows_then b c d g.works.grows w.works.grows) (w.signals ∙ g.signals));
       later = omega arith;
       rises = (fs, vs);
       cause = tt;
@@ -276,8 +254,6 @@ module _ (a b c : Known) (m : ℕ) (small : m < 2 ^ 64) (apart : Apart a b) (own
       counts = halted_whole h (0 ≡ length bytes);
       sum = sum_none m small;
       signals = w.signals ∙ (g.signals ∙ apart.signals);
-      turns = turn_stops a d (stop_of h) (begun_silent a b d own
-          (grows_then b c d g.works.grows w.works.grows) (w.signals ∙ g.signals));
       later = omega arith;
       rises = subst (λ f. SinkRises f0 f v0 v1 (Some (stop_of h))) (sym fs)
           (subst (λ v. SinkRises f0 f0 v0 v (Some (stop_of h))) (sym vs) (halt_rises f0 v0 h));

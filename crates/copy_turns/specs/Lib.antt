@@ -1,4 +1,5 @@
 pub mod Raises
+pub mod Transfers
 pub mod Turns
 pub mod Watched
 pub mod Work

@@ -1,10 +1,10 @@
 -- To be believed.
--- What the turns of workers do, one after another: up to a turn after which the worker goes on, or to its stop.
-use Rattle.std.specs.Prelude.{ℕ, ◌≡◌, ◌≢◌, ◌+◌, ◌%◌, ◌^◌, ◌/◌, ◌<◌, ◌≤◌, ◌++◌, ◌⊎◌, List, [], ◌∷◌, length}
-use Rattle.std.specs.Prelude.{true, false, Option, None, Some, IfSome}
+-- What turns of workers come to, one after another: up to a turn after which the worker goes on, or to its stop.
+use Rattle.std.specs.Prelude.{ℕ, ◌≡◌, ◌≢◌, ◌+◌, ◌%◌, ◌^◌, ◌/◌, ◌<◌, ◌≤◌, ◌++◌, List, [], length}
+use Rattle.std.specs.Prelude.{true, Option, None, Some, IfSome}
 use Rattle.std.specs.Io.KnownBytes.{append_known, prepend_known}
 use Rattle.wait_model.specs.declared.layout.TheConstants.{PIPE_ENDS}
-use Rattle.wait_rule.specs.Aside.{Grows, signals_of}
+use Rattle.wait_rule.specs.Aside.{signals_of}
 use Rattle.wait_rule.specs.Ends.{WasWorn}
 use Rattle.wait_rule.specs.Known.{Known}
 use Rattle.wait_rule.specs.Pipes.{moved_bytes, read_end, write_end}
@@ -21,7 +21,7 @@ use Rattle.copy_plan.specs.Plans.{Rises, due_at}
 use Rattle.copy_plan.specs.Stops.{IfFinished}
 use Rattle.copy_turns.specs.Raises.{sent_to}
 use Rattle.copy_turns.specs.Watched.{Shows}
-use Rattle.copy_turns.specs.Work.{Counted, IsHalt, SignalsStay, SumsStay, TookKill, TookOwn, Works}
+use Rattle.copy_turns.specs.Work.{Counted, IsHalt, SignalsStay, SumsStay, TookKill, Works}
 
 -- All of a piece was put into the pipe of end k and counted; or a front of it was put, and nothing counted.
 pub record HandedAll (k : ℕ) (old new : Known) (bytes : List ℕ) : Type 0 where
@@ -82,36 +82,6 @@ IsReaderStop old new risen stop.Long = Unit {0}
 IsReaderStop old new risen (stop.Worn h p) = WasWorn new.view.number new.view.items h p
 IsReaderStop old new risen _ = ⊥
 
--- A turn begins with a take of the own signals, and none of them is fatal. What signals of others it raises come behind
--- that, before a byte is put into a pipe or taken out of one; and none after.
-pub record Begun (old new : Known) : Type 0 where
-  pub spared : Known
-  pub own : TookOwn old spared false
-  pub sent : Known
-  pub sends : Grows spared sent
-  pub unmoved : EndsStay spared sent
-  pub later : Grows sent new
-  pub silent : SignalsStay sent new
-
--- turns one after another, of which each but the first begins at one of the moments, and the last ends at `new`
-abbrev pub AreTurns : Known → List Known → Known → Type 0
-AreTurns old [] new = new ≡ old
-AreTurns old (k ∷ ks) new = Begun old k × AreTurns k ks new
-
--- The turn at which a worker stops begins so too; where a fatal signal was among its own ones nothing else is done in
--- it, and the worker stops as Killed.
-abbrev pub EndsTurns : Option Stop → Known → Known → Type 0
-EndsTurns None old new = new ≡ old
-EndsTurns (Some stop.Killed) old new = TookOwn old new true ⊎ Begun old new
-EndsTurns (Some how) old new = Begun old new
-
--- Turns of a worker: some after which it went on, and where it stopped the one at which it did.
-pub record Turns (old new : Known) (how : Option Stop) : Type 0 where
-  pub moments : List Known
-  pub last : Known
-  pub turns : AreTurns old moments last
-  pub ends : EndsTurns how last new
-
 -- The signals of a plan that became due while the source gave bytes, from one number of them to another: at numbers that
 -- rose, those that were due then were raised, in the order of the plan, each at the task of its worker, and no other.
 pub record RaisedFor (old new : Known) (targets : List ℕ) (from to : ℕ) (plan : List Planned) : Type 0 where
@@ -138,7 +108,6 @@ pub record Reading (old new : Known) (left_old left_new : Option (List ℕ)) (fa
   pub counts : IfWhole how (n ≡ length given)
   pub signals : RaisedFor old new targets (read_old + 1) read_new plan
   pub long : IsLong how read_new
-  pub turns : Turns old new how
   pub later : faults_old ≤ faults_new
   pub cause : IfStopped how (IsReaderStop old new (HasRisen faults_old faults_new))
 
@@ -168,7 +137,6 @@ pub record Relaying (old new : Known) (moved_old moved_new : ℕ) (how : Option 
   pub counts : IfWhole how (n ≡ length got)
   pub sum : moved_new ≡ (moved_old + n) % 2 ^ 64
   pub signals : SignalsStay old new
-  pub turns : Turns old new how
   pub cause : IfStopped how (IsRelayStop old new)
 
 -- Why a writer stops before the end of the second pipe. The sink's counts of faults and of wants have risen in the
@@ -208,7 +176,6 @@ pub record Writing (old new : Known) (held_old held_new : Option (List ℕ)) (fa
   pub counts : IfWhole how (n ≡ length got)
   pub sum : moved_new ≡ (moved_old + n) % 2 ^ 64
   pub signals : SignalsStay old new
-  pub turns : Turns old new how
   pub later : faults_old ≤ faults_new
   pub rises : SinkRises faults_old faults_new wants_old wants_new how
   pub cause : IfStopped how (IsWriterStop old new (HasRisen faults_old faults_new) (HasRisen wants_old wants_new))

@@ -1,6 +1,6 @@
 -- To be believed.
 -- A worker between two parts of its turns, and what each part leaves as it was.
-use Rattle.std.specs.Prelude.{ℕ, ◌≡◌, ◌≢◌, ◌+◌, ◌<◌, Bool, true}
+use Rattle.std.specs.Prelude.{ℕ, ◌≡◌, ◌≢◌, ◌+◌, ◌<◌, Bool, true, false}
 use Rattle.wait_model.specs.declared.steps.Step.TheVariants as step
 use Rattle.wait_model.specs.SignalCounts.{takes_fatal}
 use Rattle.wait_model.specs.Tasks.{task_of}
@@ -108,10 +108,10 @@ IsOwnHalt old new (halt.Worn h p) = WasWorn new.view.number new.view.items h p
 -- What a call on a pipe that ended early makes of a part: who was interrupted, and took a fatal signal, is halted.
 abbrev pub HaltsBy : Known → Known → PipeEnd → Halt → Type 0
 HaltsBy old new pipe_end.Broken h = (h ≡ halt.Broken) × (new ≡ old)
-HaltsBy old new (pipe_end.Interrupted seen) h = (h ≡ halt.Killed) × TookKill old new
+HaltsBy old new (pipe_end.Interrupted seen) h = (h ≡ halt.Killed) × TookOwn old new true
 HaltsBy old new (pipe_end.Worn head place) h = (h ≡ halt.Worn head place) × (new ≡ old)
 
 -- It goes on only where it was interrupted and took none.
 abbrev pub GoesOnBy : Known → Known → PipeEnd → Type 0
-GoesOnBy old new (pipe_end.Interrupted seen) = TookNoKill old new
+GoesOnBy old new (pipe_end.Interrupted seen) = TookOwn old new false
 GoesOnBy old new _ = ⊥

@@ -5,6 +5,7 @@ ghost use Rattle.wait_rule.specs.Aside.{signals_of};
 ghost use Rattle.wait_rule.specs.PipeSays.{EndsStay};
 ghost use Rattle.copy_plan.specs.Plans.{due_in};
 ghost use Rattle.copy_turns.specs.Raises.{sent_to};
+ghost use Rattle.copy_turns.specs.Transfers.{SendsEach};
 ghost use Rattle.copy_turns.specs.Work.{Apart, IsAtWork, SumsStay, TookKill, TookNoKill, TookOwn, Works};
 
 use copy_plan::Planned;
@@ -47,6 +48,7 @@ pub fn send_due<R: Wait>(
     ensures spared { TookNoKill task.old task.new }
     ensures signals { signals_of task.new.view.items
         ≡ signals_of task.old.view.items ++ sent_to targets (due_in from to plan.now) }
+    ensures goes { SendsEach (sent_to targets (due_in from to plan.now)) task.old task.new }
 {
     for planned in plan {
         if from <= planned.offset && planned.offset <= to {

@@ -5,7 +5,7 @@ ghost use Rattle.wait_model.specs.declared.layout.TheConstants.{PIPES};
 ghost use Rattle.wait_rule.specs.Pipes.{read_end, write_end};
 ghost use Rattle.wait_rule.specs.PipeSays.{reading, writing};
 ghost use Rattle.wait_pipe.specs.Pieces.{IsAtEnd, IsSettled};
-ghost use Rattle.copy_plan.specs.declared.TheConstants.{PIECE};
+ghost use Rattle.copy_turns.specs.Transfers.{GetsPiece, PutsWhole};
 ghost use Rattle.copy_turns.specs.Turns.{Got, HandedFront};
 ghost use Rattle.copy_turns.specs.Work.{Apart, GoesOnBy, HaltsBy, IsAtWork, IsOwnHalt};
 
@@ -29,6 +29,7 @@ pub fn put_whole<R: Wait>(
     requires settled { IsSettled (writing pipe task.old) }
     ensures put { MatchResult result (λ _. Got (write_end pipe) task.old task.new bytes.now)
         (λ halt. HandedFront (write_end pipe) task.old task.new bytes.now halt) }
+    ensures goes { PutsWhole (write_end pipe) task.old task.new bytes.now result }
 {
     let mut done = 0;
     for _ in rt.forever() {
@@ -68,7 +69,7 @@ fn halt_of(domain: &Domain, task: &mut Task, end: PipeEnd) -> Result<(), Halt>
     }
 }
 
-/// Takes bytes out of pipe `pipe` into a buffer of `PIECE` bytes, and tries again where a signal that is not fatal ended
+/// Takes bytes out of pipe `pipe` into a buffer of 7 bytes at least, and tries again where a signal that is not fatal ended
 /// the wait. 0 says that the write end is closed and all is taken.
 pub fn get<R: Wait>(
     rt: &R,
@@ -81,13 +82,14 @@ pub fn get<R: Wait>(
     requires work { IsAtWork task.old }
     requires pipe { pipe < PIPES }
     requires settled { IsSettled (reading pipe task.old) }
-    requires buf { length buf.old ≡ PIECE }
+    requires buf { 7 ≤ length buf.old }
     ensures same { length buf.new ≡ length buf.old }
     ensures most { IfOk result (λ n. n ≤ length buf.new) }
     ensures got { MatchResult result (λ n. Got (read_end pipe) task.old task.new (take n buf.new))
         (λ _. Got (read_end pipe) task.old task.new []) }
     ensures end { IfOk result (λ n. n ≡ 0 → IsAtEnd (reading pipe task.new)) }
     ensures cause { IfErr result (IsOwnHalt task.old task.new) }
+    ensures goes { GetsPiece (read_end pipe) task.old task.new buf.new result }
 {
     for _ in rt.forever() {
         match read_piece(rt, domain, task, pipe, buf) {

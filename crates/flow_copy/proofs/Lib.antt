@@ -1,3 +1,5 @@
 pub mod Awaits
 pub mod Counting
-pub mod PageTries
+pub mod Sparing
+pub mod SparingCalls
+pub mod Words

@@ -1,1 +1,3 @@
 pub mod PageWaits
+pub mod Workers
+pub mod KilledWorkers

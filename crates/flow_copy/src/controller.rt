@@ -1,8 +1,9 @@
 //! The task that waits for the workers.
 
-ghost use Rattle.std.specs.Prelude.{◌≡◌, MatchResult};
+ghost use Rattle.std.specs.Prelude.{◌≡◌, IfErr, MatchResult};
 ghost use Rattle.copy_ends.specs.Copied.{AwaitsWorker, ControlEnds, Controlled, IsControlEnd, ReadTally};
 ghost use Rattle.copy_ends.specs.Did.{IsIdler};
+ghost use Rattle.flow_copy.specs.Workers.{ControllerGoes, LosesWait, ReadsLocked};
 
 use bit_wait::BitEnd;
 use completion_cell::await_calls::wait_for;
@@ -24,6 +25,7 @@ pub fn controller_task<R: Wait>(rt: &R, domain: &Domain, task: &mut Task) -> Res
     requires idler { IsIdler task.old }
     ensures controlled { Controlled task.old task.new }
     ensures ends { ControlEnds task.old task.new result }
+    ensures goes { ControllerGoes task.old task.new result }
 {
     for ended in 0..WORKERS {
         let _ = ended;
@@ -38,6 +40,7 @@ fn await_one<R: Wait>(rt: &R, domain: &Domain, task: &mut Task) -> Result<(), Bi
     requires idler { IsIdler task.old }
     ensures controlled { Controlled task.old task.new }
     ensures ends { MatchResult result (λ _. AwaitsWorker task.old task.new) (IsControlEnd task.new) }
+    ensures loses { IfErr result (LosesWait task.old task.new) }
 {
     match wait_for(rt, domain, task, ENDED_CELL, SleepState::Uninterruptible) {
         Ok(()) => Ok(()),
@@ -52,6 +55,7 @@ fn read_tally<R: Wait>(rt: &R, domain: &Domain, task: &mut Task) -> Result<u64, 
     requires idler { IsIdler task.old }
     ensures controlled { Controlled task.old task.new }
     ensures ends { MatchResult result (ReadTally task.old task.new) (IsControlEnd task.new) }
+    ensures goes { ReadsLocked task.old task.new result }
 {
     task.told();
     lock_page(rt, domain, task, COUNTED_PAGE, SleepState::Uninterruptible)?;

@@ -8,6 +8,7 @@ ghost use Rattle.wait_rule.specs.Says.{IsClean, newcomer};
 ghost use Rattle.wait_rule.specs.TallyLaws.{tally_in};
 ghost use Rattle.copy_plan.specs.declared.TheConstants.{COUNTED_PAGE, SIGNALS};
 ghost use Rattle.copy_plan.specs.declared.stop.Stop.TheVariants as stop;
+ghost use Rattle.flow_copy.specs.Workers.{FollowsPrograms};
 ghost use Rattle.copy_ends.specs.Copied.{Copied, HasNoSteps, HoldsAll, HoldsGiven, NoneTaken, ReadTally, Watched};
 
 use crate::workers::{Parts, four_at_once};
@@ -129,6 +130,8 @@ pub fn copy_all<
         (S.faults source) (S.faults end.source) (K.held sink) (K.held end.sink) (K.faults sink) (K.faults end.sink)
         (K.wants sink) (K.wants end.sink) (W.entries watch) (W.entries end.watch) plan.now end.reader end.relay
         end.writer end.stop end.total) }
+    ensures goes { IfOk result (λ end. FollowsPrograms domain.now task.new (S.left source) (S.left end.source) plan.now
+        end.reader end.relay end.writer end.total) }
     ensures front { IfOk result (λ end. HoldsGiven (S.left source) (S.left end.source) (K.held sink)
         (K.held end.sink)) }
     ensures watched { IfOk result (λ end. Watched (S.left source) (S.left end.source) (K.held sink) (K.held end.sink)

@@ -8,6 +8,7 @@ ghost use Rattle.wait_pipe.specs.Pieces.{IsSettled};
 ghost use Rattle.copy_turns.specs.Turns.{CountedAll, HandedAll, HandedFront};
 ghost use Rattle.copy_turns.specs.Work.{Apart, IsAtWork, IsOwnHalt, Locks};
 ghost use Rattle.flow_copy.specs.PageWaits.{PageWaits};
+ghost use Rattle.flow_copy.specs.Workers.{CountsBytes, HandsBytes};
 
 use bit_wait::BitEnd;
 use copy_plan::COUNTED_PAGE;
@@ -53,6 +54,7 @@ pub(crate) fn count<R: Wait>(
     requires work { IsAtWork task.old }
     ensures counts { MatchResult result (λ _. CountedAll amount task.old task.new) (λ _. Apart task.old task.new) }
     ensures cause { IfErr result (IsOwnHalt task.old task.new) }
+    ensures goes { CountsBytes amount task.old task.new result }
 {
     lock_counted(rt, domain, task)?;
     add_tally(domain, task, COUNTED_PAGE, amount);
@@ -75,6 +77,7 @@ pub(crate) fn hand_on<R: Wait>(
     requires settled { IsSettled (writing pipe task.old) }
     ensures handed { MatchResult result (λ _. HandedAll (write_end pipe) task.old task.new bytes.now)
         (λ halt. HandedFront (write_end pipe) task.old task.new bytes.now halt) }
+    ensures goes { HandsBytes (write_end pipe) task.old task.new bytes.now result }
 {
     put_whole(rt, domain, task, pipe, bytes)?;
     count(rt, domain, task, bytes.len() as u64)

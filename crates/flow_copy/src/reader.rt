@@ -10,6 +10,7 @@ ghost use Rattle.copy_plan.specs.declared.TheConstants.{LONGEST, PIECE, SIGNALS,
 ghost use Rattle.copy_ends.specs.Did.{IsIdler, ReaderDid, ReaderWorked};
 ghost use Rattle.copy_turns.specs.Turns.{Reading};
 ghost use Rattle.copy_turns.specs.Work.{IsAtWork};
+ghost use Rattle.flow_copy.specs.Workers.{FromSource, ReaderGoes, ReaderTurn, ReaderTurns, ReaderWorks};
 
 use crate::parts::hand_on;
 use completion_cell::completes::complete;
@@ -42,6 +43,8 @@ fn read_turn<R: Wait, S: Source>(
     requires short { read.old ≤ LONGEST }
     ensures turn { Reading task.old task.new (S.left source.old) (S.left source.new) (S.faults source.old)
         (S.faults source.new) read.old read.new targets plan.now result }
+    ensures goes { FromSource (S.left source.old) (S.left source.new) read.old read.new
+        (λ piece. ReaderTurn targets plan.now read.old task.old task.new piece result) }
 {
     pass.spend();
     if is_killed(domain, task) {
@@ -98,6 +101,8 @@ fn read_on<R: Wait, S: Source, G: Gate>(
     requires short { read.old ≤ LONGEST }
     ensures turns { Reading task.old task.new (S.left source.old) (S.left source.new) (S.faults source.old)
         (S.faults source.new) read.old read.new targets plan.now (Some result) }
+    ensures goes { FromSource (S.left source.old) (S.left source.new) read.old read.new
+        (λ bytes. ReaderTurns targets plan.now read.old task.old bytes task.new (Some result)) }
 {
     let mut turn: u64 = 0;
     for _ in rt.forever() {
@@ -137,6 +142,8 @@ pub fn reader_task<R: Wait, S: Source, G: Gate>(
     requires few { length plan.now ≤ SIGNALS }
     ensures did { ReaderDid task.old task.new (S.left source.old) (S.left source.new) (S.faults source.old)
         (S.faults source.new) targets plan.now result }
+    ensures goes { FromSource (S.left source.old) (S.left source.new) 0 result.read
+        (λ bytes. ReaderGoes targets plan.now task.old task.new bytes result.stop) }
 {
     let ended = reader_through(rt, domain, task, source, plan, targets, gate);
     complete(rt, domain, task, ENDED_CELL);
@@ -158,6 +165,8 @@ fn reader_through<R: Wait, S: Source, G: Gate>(
     requires few { length plan.now ≤ SIGNALS }
     ensures did { ReaderWorked task.old task.new (S.left source.old) (S.left source.new) (S.faults source.old)
         (S.faults source.new) targets plan.now result }
+    ensures goes { FromSource (S.left source.old) (S.left source.new) 0 result.read
+        (λ bytes. ReaderWorks targets plan.now task.old task.new bytes result.stop) }
 {
     if !open_write(domain, task, SOURCE_PIPE) {
         return NOT_READ;

@@ -8,6 +8,7 @@ ghost use Rattle.copy_plan.specs.declared.TheConstants.{SINK_PIPE, SOURCE_PIPE};
 ghost use Rattle.copy_ends.specs.Did.{IsIdler, RelayDid, RelayWorked};
 ghost use Rattle.copy_turns.specs.Turns.{Relaying};
 ghost use Rattle.copy_turns.specs.Work.{IsAtWork};
+ghost use Rattle.flow_copy.specs.Workers.{RelayGoes, RelayTurn, RelayTurns, RelayWorks};
 
 use crate::parts::hand_on;
 use completion_cell::completes::complete;
@@ -34,6 +35,7 @@ fn relay_turn<R: Wait>(
     requires tap { IsSettled (reading SOURCE_PIPE task.old) }
     requires pen { IsSettled (writing SINK_PIPE task.old) }
     ensures turn { Relaying task.old task.new moved.old moved.new result }
+    ensures goes { (piece : _) × RelayTurn piece task.old task.new result }
 {
     let counted = *moved;
     pass.spend();
@@ -64,6 +66,7 @@ fn relay_on<R: Wait, G: Gate>(rt: &R, domain: &Domain, task: &mut Task, gate: &G
     requires tap { IsSettled (reading SOURCE_PIPE task.old) }
     requires pen { IsSettled (writing SINK_PIPE task.old) }
     ensures turns { Relaying task.old task.new 0 result.moved (Some result.stop) }
+    ensures goes { (bytes : _) × RelayTurns task.old bytes task.new (Some result.stop) }
 {
     let mut moved = 0;
     let mut turn: u64 = 0;
@@ -88,6 +91,7 @@ pub fn relay_task<R: Wait, G: Gate>(rt: &R, domain: &Domain, task: &mut Task, ga
     requires of { task.old.domain ≡ domain.now }
     requires idler { IsIdler task.old }
     ensures did { RelayDid task.old task.new result }
+    ensures goes { RelayGoes task.old task.new result.stop }
 {
     let ended = relay_through(rt, domain, task, gate);
     complete(rt, domain, task, ENDED_CELL);
@@ -99,6 +103,7 @@ fn relay_through<R: Wait, G: Gate>(rt: &R, domain: &Domain, task: &mut Task, gat
     requires of { task.old.domain ≡ domain.now }
     requires idler { IsIdler task.old }
     ensures did { RelayWorked task.old task.new result }
+    ensures goes { RelayWorks task.old task.new result.stop }
 {
     if !open_read(domain, task, SOURCE_PIPE) {
         return NOT_TAKEN;

@@ -4,6 +4,7 @@ ghost use Rattle.std.specs.Prelude.{◌≡◌, ◌≤◌, length, IfErr, IfOk};
 ghost use Rattle.copy_plan.specs.declared.TheConstants.{SIGNALS};
 ghost use Rattle.copy_ends.specs.Copied.{ControlEnds, Controlled};
 ghost use Rattle.copy_ends.specs.Did.{IsIdler, ReaderDid, RelayDid, WriterDid};
+ghost use Rattle.flow_copy.specs.Workers.{ControllerGoes, FromSource, ReaderGoes, RelayGoes, WriterGoes};
 
 use crate::controller::controller_task;
 use crate::reader::reader_task;
@@ -62,7 +63,8 @@ impl<'a, R: Wait + Sync, S: Source + Send + Drop, G: Gate + Sync> Job for Reads<
     ghost asks = { λ job. (job.task.domain ≡ job.domain.now) × (IsIdler job.task × (length job.plan.now ≤ SIGNALS)) };
 
     ghost did = { λ job r. ReaderDid job.task r.0 (S.left job.source) (S.left r.1) (S.faults job.source) (S.faults r.1)
-        job.targets job.plan.now r.2 };
+        job.targets job.plan.now r.2 × FromSource (S.left job.source) (S.left r.1) 0 r.2.read
+        (λ bytes. ReaderGoes job.targets job.plan.now job.task r.0 bytes r.2.stop) };
 
     fn run(self) -> Read<S> {
         let Self {
@@ -93,7 +95,7 @@ impl<'a, R: Wait + Sync, G: Gate + Sync> Job for Relays<'a, R, G> {
 
     ghost asks = { λ job. (job.task.domain ≡ job.domain.now) × IsIdler job.task };
 
-    ghost did = { λ job r. RelayDid job.task r.0 r.1 };
+    ghost did = { λ job r. RelayDid job.task r.0 r.1 × RelayGoes job.task r.0 r.1.stop };
 
     fn run(self) -> Relayed {
         let Self {
@@ -125,7 +127,7 @@ impl<'a, R: Wait + Sync, K: Sink + Send + Drop, W: Watchers + Send + Drop, G: Ga
     ghost asks = { λ job. (job.task.domain ≡ job.domain.now) × IsIdler job.task };
 
     ghost did = { λ job r. WriterDid job.task r.0 (K.held job.sink) (K.held r.1) (K.faults job.sink) (K.faults r.1)
-        (K.wants job.sink) (K.wants r.1) (W.entries job.watch) (W.entries r.2) r.3 };
+        (K.wants job.sink) (K.wants r.1) (W.entries job.watch) (W.entries r.2) r.3 × WriterGoes job.task r.0 r.3.stop };
 
     fn run(self) -> Written<K, W> {
         let Self {
@@ -154,7 +156,7 @@ impl<'a, R: Wait + Sync> Job for Controls<'a, R> {
 
     ghost asks = { λ job. (job.task.domain ≡ job.domain.now) × IsIdler job.task };
 
-    ghost did = { λ job r. Controlled job.task r.0 × ControlEnds job.task r.0 r.1 };
+    ghost did = { λ job r. Controlled job.task r.0 × (ControlEnds job.task r.0 r.1 × ControllerGoes job.task r.0 r.1) };
 
     fn run(self) -> Counted {
         let Self {
@@ -196,6 +198,11 @@ pub(crate) fn four_at_once<
         (W.entries made.2.2) made.2.3) }
     ensures controller { IfOk result (λ made. Controlled parts.tasks.3 made.3.0) }
     ensures ends { IfOk result (λ made. ControlEnds parts.tasks.3 made.3.0 made.3.1) }
+    ensures reader_goes { IfOk result (λ made. FromSource (S.left parts.source) (S.left made.0.1) 0 made.0.2.read
+        (λ bytes. ReaderGoes targets plan.now parts.tasks.0 made.0.0 bytes made.0.2.stop)) }
+    ensures relay_goes { IfOk result (λ made. RelayGoes parts.tasks.1 made.1.0 made.1.1.stop) }
+    ensures writer_goes { IfOk result (λ made. WriterGoes parts.tasks.2 made.2.0 made.2.3.stop) }
+    ensures controller_goes { IfOk result (λ made. ControllerGoes parts.tasks.3 made.3.0 made.3.1) }
     ensures same { IfErr result (λ back. back ≡ parts) }
 {
     let Parts {

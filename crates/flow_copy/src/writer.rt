@@ -8,6 +8,7 @@ ghost use Rattle.copy_plan.specs.declared.TheConstants.{SINK_PIPE};
 ghost use Rattle.copy_ends.specs.Did.{IsIdler, WriterDid, WriterWorked};
 ghost use Rattle.copy_turns.specs.Turns.{Writing};
 ghost use Rattle.copy_turns.specs.Work.{IsAtWork};
+ghost use Rattle.flow_copy.specs.Workers.{WriterGoes, WriterTurn, WriterTurns, WriterWorks};
 
 use crate::parts::count;
 use completion_cell::completes::complete;
@@ -38,6 +39,7 @@ fn write_turn<R: Wait, K: Sink, W: Watchers>(
     requires settled { IsSettled (reading SINK_PIPE task.old) }
     ensures turn { Writing task.old task.new (K.held sink.old) (K.held sink.new) (K.faults sink.old) (K.faults sink.new)
         (K.wants sink.old) (K.wants sink.new) (W.entries watch.old) (W.entries watch.new) moved.old moved.new result }
+    ensures goes { (piece : _) × WriterTurn piece task.old task.new result }
 {
     let counted = *moved;
     pass.spend();
@@ -82,6 +84,7 @@ fn write_on<R: Wait, K: Sink, W: Watchers, G: Gate>(
     ensures turns { Writing task.old task.new (K.held sink.old) (K.held sink.new) (K.faults sink.old)
         (K.faults sink.new) (K.wants sink.old) (K.wants sink.new) (W.entries watch.old) (W.entries watch.new) 0
         result.moved (Some result.stop) }
+    ensures goes { (bytes : _) × WriterTurns task.old bytes task.new (Some result.stop) }
 {
     let mut moved = 0;
     let mut turn: u64 = 0;
@@ -115,6 +118,7 @@ pub fn writer_task<R: Wait, K: Sink, W: Watchers, G: Gate>(
     requires idler { IsIdler task.old }
     ensures did { WriterDid task.old task.new (K.held sink.old) (K.held sink.new) (K.faults sink.old)
         (K.faults sink.new) (K.wants sink.old) (K.wants sink.new) (W.entries watch.old) (W.entries watch.new) result }
+    ensures goes { WriterGoes task.old task.new result.stop }
 {
     let ended = write_through(rt, domain, task, sink, watch, gate);
     complete(rt, domain, task, ENDED_CELL);
@@ -134,6 +138,7 @@ fn write_through<R: Wait, K: Sink, W: Watchers, G: Gate>(
     requires idler { IsIdler task.old }
     ensures did { WriterWorked task.old task.new (K.held sink.old) (K.held sink.new) (K.faults sink.old)
         (K.faults sink.new) (K.wants sink.old) (K.wants sink.new) (W.entries watch.old) (W.entries watch.new) result }
+    ensures goes { WriterWorks task.old task.new result.stop }
 {
     if !open_read(domain, task, SINK_PIPE) {
         return NOT_TAKEN;

@@ -1,12 +1,15 @@
 use Rattle.std.proofs.Common.{◌∙◌, [], refl, take, arith}
 use Rattle.wait_rule.specs.Pipes.{read_end}
 use Rattle.copy_turns.proofs.Pieces.{got_apart, got_more, got_none, got_still, own_halts}
+use Rattle.copy_turns.specs.Transfers.{no_part}
+use Rattle.copy_turns.proofs.Trails.{gets_again, gets_halted, gets_piece}
 use Rattle.copy_turns.proofs.transfers.get.Goals as goal
 
 pub loop-init : goal.loop-init
 loop-init g c = record {
   same = refl;
   got = got_none (read_end c.args.pipe) c.args.task.now c.requires.work c.requires.settled;
+  gets = no_part;
 }
 
 pub read_piece-requires-clause-buf : goal.read_piece-requires-clause-buf
@@ -41,4 +44,17 @@ loop-preserved g c =
       got = got_apart (read_end c.args.pipe) c.args.task.now c.read_piece.new.task c.halt_of.new.task []
           (got_still (read_end c.args.pipe) c.args.task.now c.loop.task c.read_piece.new.task [] c.loop.invariant.got
           e.rests e.piece.moved) c.halt_of.ensures.apart;
+      gets = gets_again (read_end c.args.pipe) c.args.task.now c.loop.task c.read_piece.new.task c.loop.invariant.gets
+          c.read_piece.new.buf c.halt_of.new.task c.in-Err.end e.goes c.in_default.ensures.halts;
     }
+
+pub returns-in-Ok-clause-goes : goal.returns-in-Ok-clause-goes
+returns-in-Ok-clause-goes g c = gets_piece (read_end c.args.pipe) c.args.task.now c.loop.task c.read_piece.new.task
+    c.loop.invariant.gets c.read_piece.new.buf c.in-Ok.n c.in-Ok.ensures.goes
+
+pub returns-in-Err-halt_of-clause-goes : goal.returns-in-Err-halt_of-clause-goes
+returns-in-Err-halt_of-clause-goes g c =
+    let e = c.in-Err.ensures in
+    gets_halted (read_end c.args.pipe) c.args.task.now c.loop.task c.read_piece.new.task c.loop.invariant.gets
+    c.read_piece.new.buf c.halt_of.new.task c.in-Err.end c.in-Err-halt_of.halt e.goes e.piece.cause
+    c.in-Err-halt_of.ensures.halts

@@ -27,3 +27,8 @@ pub returns-in-Err-Signal-clause-ends : goal.returns-in-Err-Signal-clause-ends
 returns-in-Err-Signal-clause-ends g c =
     let e = rw c.in-Err-Signal.field-0-is at c.in-Err-Signal.ensures.waited in
     awaited_signal c.args.task.now c.wait_for.new.task _ _ e
+
+pub returns-in-Err-Signal-clause-loses : goal.returns-in-Err-Signal-clause-loses
+returns-in-Err-Signal-clause-loses g c =
+    let e = rw c.in-Err-Signal.field-0-is at c.in-Err-Signal.ensures.waited in
+    awaited_signal c.args.task.now c.wait_for.new.task _ _ e

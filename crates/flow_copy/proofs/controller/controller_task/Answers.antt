@@ -1,6 +1,10 @@
 use Rattle.std.proofs.Common.{refl, arith}
 use Rattle.copy_ends.proofs.Idlers.{control_ends, controlled_same, controlled_then, waits_more}
 use Rattle.copy_turns.proofs.PartLaws.{grows_same}
+use Rattle.std.proofs.Common.{rules, subst}
+use Rattle.std.specs.Prelude.{ℕ, ◌≡◌, Err}
+use Rattle.copy_ends.specs.Copied.{WaitsTimes}
+use Rattle.flow_copy.specs.Workers.{ControllerGoes, lost_wait, saw_all}
 use Rattle.flow_copy.proofs.controller.controller_task.Goals as goal
 
 pub loop-ended-init : goal.loop-ended-init
@@ -30,3 +34,17 @@ returns-clause-controlled g c =
 pub returns-clause-ends : goal.returns-clause-ends
 returns-clause-ends g c = control_ends c.loop-ended.ended c.args.task.now c.loop-ended.task c.read_tally.new.task
     c.read_tally.result (omega arith) c.loop-ended.invariant.waits c.read_tally.ensures.ends
+
+pub returns-in_err-await_one-clause-goes : goal.returns-in_err-await_one-clause-goes
+returns-in_err-await_one-clause-goes g c =
+    let lost : ControllerGoes c.args.task.now c.await_one.new.task (Err c.in_err-await_one.field-0.0)
+    = lost_wait c.loop-ended.ended c.loop-ended.task c.in_err-await_one.field-0.0 (omega arith)
+    c.loop-ended.invariant.waits c.in_err-await_one.ensures.loses in
+    search rules
+
+pub returns-clause-goes : goal.returns-clause-goes
+returns-clause-goes g c =
+    let all : c.loop-ended.ended ≡ 3 = omega arith in
+    saw_all c.loop-ended.task c.read_tally.result
+    (subst (λ (n : ℕ). WaitsTimes n c.args.task.now c.loop-ended.task) all c.loop-ended.invariant.waits)
+    c.read_tally.ensures.goes

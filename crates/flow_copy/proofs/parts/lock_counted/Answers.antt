@@ -1,13 +1,16 @@
 use Rattle.std.proofs.Common.{◌∙◌}
+use Rattle.std.specs.Prelude.{Ok, Err}
+use Rattle.copy_plan.specs.declared.stop.Halt.TheVariants as halt
 use Rattle.flow_copy.proofs.Counting.{asks_none, locked, locks_after, unlocked}
 use Rattle.copy_turns.proofs.PartLaws.{apart_same, apart_then, took_before}
-use Rattle.flow_copy.proofs.PageTries.{waited_more, waited_none, waited_until}
+use Rattle.copy_turns.specs.Transfers.{no_part, one_more}
+use Rattle.flow_copy.proofs.Words.{waited_until}
 use Rattle.flow_copy.proofs.parts.lock_counted.Goals as goal
 
 pub loop-init : goal.loop-init
 loop-init g c = record {
   apart = apart_same c.args.task.now c.requires.work;
-  waited = waited_none c.args.task.now;
+  waited = no_part;
 }
 
 pub lock_page-requires-clause-of : goal.lock_page-requires-clause-of
@@ -69,29 +72,28 @@ loop-preserved g c =
           (apart_then c.loop.task c.lock_page.new.task c.is_killed.new.task
           (unlocked c.loop.task c.lock_page.new.task _ _ c.told.ensures c.loop.invariant.apart.works.work e.waited e.up
           e.idle e.out e.takes) c.is_killed.ensures.apart);
-      waited = waited_more c.args.task.now c.loop.task c.is_killed.new.task c.loop.invariant.waited (record {
+      waited = one_more c.loop.task c.is_killed.new.task c.loop.invariant.waited (record {
         mid = c.lock_page.new.task;
-        seen = _;
-        waited = rw c.in-Err-Interrupted.field-0-is at e.waited;
+        ended = (_, rw c.in-Err-Interrupted.field-0-is at e.waited);
         own = c.if-is_killed.ensures.own;
       });
     }
 
 pub returns-in-Ok-clause-waits : goal.returns-in-Ok-clause-waits
-returns-in-Ok-clause-waits g c = waited_until c.args.task.now c.loop.task c.lock_page.new.task _ c.loop.invariant.waited
-    c.in-Ok.ensures.waited
+returns-in-Ok-clause-waits g c = waited_until c.args.task.now c.loop.task c.lock_page.new.task (Ok tt)
+    c.loop.invariant.waited c.in-Ok.ensures.waited
 
 pub returns-in-Err-Worn-clause-waits : goal.returns-in-Err-Worn-clause-waits
 returns-in-Err-Worn-clause-waits g c =
     let e = rw c.in-Err-Worn.field-0-is at c.in-Err-Worn.ensures.waited in
-    waited_until c.args.task.now c.loop.task c.lock_page.new.task _ c.loop.invariant.waited e
+    waited_until c.args.task.now c.loop.task c.lock_page.new.task
+    (Err (halt.Worn c.in-Err-Worn.head c.in-Err-Worn.place)) c.loop.invariant.waited e
 
 pub returns-then-is_killed-clause-waits : goal.returns-then-is_killed-clause-waits
 returns-then-is_killed-clause-waits g c =
     let e = rw c.in-Err-Interrupted.field-0-is at c.in-Err-Interrupted.ensures.waited in
-    waited_until c.args.task.now c.loop.task c.is_killed.new.task _ c.loop.invariant.waited (record {
+    waited_until c.args.task.now c.loop.task c.is_killed.new.task (Err halt.Killed) c.loop.invariant.waited (record {
       mid = c.lock_page.new.task;
-      seen = _;
-      waited = e;
+      ended = (_, e);
       own = c.if-is_killed.ensures.own;
     })

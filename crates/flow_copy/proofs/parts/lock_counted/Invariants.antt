@@ -1,5 +1,5 @@
 use Rattle.copy_turns.specs.Work.{Apart}
-use Rattle.flow_copy.proofs.PageTries.{Waited}
+use Rattle.flow_copy.proofs.Words.{Waited}
 use Rattle.flow_copy.proofs.parts.lock_counted.Given as goal
 
 abbrev pub invariant-loop : goal.invariant-loop

@@ -1,10 +1,8 @@
-use Rattle.std.proofs.Common.{◌∙◌, refl, sym, subst, take, arith}
+use Rattle.std.proofs.Common.{◌∙◌, sym, subst, take, arith}
 use Rattle.std.specs.Prelude.{◌+◌, Some}
 use Rattle.copy_plan.specs.declared.stop.Stop.{Stop}
 use Rattle.copy_plan.specs.declared.stop.Stop.TheVariants as stop
 use Rattle.copy_turns.specs.Turns.{Reading}
-use Rattle.copy_turns.proofs.Begins.{begun_silent, turn_killed, turn_stops}
-use Rattle.copy_turns.proofs.PartLaws.{grows_same}
 use Rattle.copy_turns.proofs.ReaderTurns.{
   given_length,
   given_none,
@@ -15,6 +13,8 @@ use Rattle.copy_turns.proofs.ReaderTurns.{
   read_on,
   source_ended,
 }
+use Rattle.flow_copy.specs.Workers.{ReaderTurn, reader_killed, source_ended as ended, source_failed}
+use Rattle.flow_copy.proofs.Words.{gave_halted, gave_long, gave_none, gave_nothing, gave_piece}
 use Rattle.flow_copy.proofs.reader.read_turn.Goals as goal
 
 pub returns-then-is_killed : goal.returns-then-is_killed
@@ -23,7 +23,10 @@ returns-then-is_killed g c = record {
       (g.S.Source.left c.args.source.now) (g.S.Source.faults c.args.source.now) (g.S.Source.faults c.args.source.now)
       c.args.read.now c.args.targets c.args.plan.now c.requires.settled c.is_killed.ensures.apart
       (prepend_none (g.S.Source.left c.args.source.now)) (omega arith) stop.Killed c.requires.short tt
-      c.if-is_killed.ensures.killed (turn_killed c.args.task.now c.is_killed.new.task c.if-is_killed.ensures.own);
+      c.if-is_killed.ensures.killed;
+  goes = gave_none (g.S.Source.left c.args.source.now) c.args.read.now
+      (λ piece. ReaderTurn c.args.targets c.args.plan.now c.args.read.now c.args.task.now c.is_killed.new.task piece
+      (Some stop.Killed)) (reader_killed c.if-is_killed.ensures.own);
 }
 
 pub returns-in-Err : goal.returns-in-Err
@@ -32,9 +35,11 @@ returns-in-Err g c = record {
       (g.S.Source.left c.take_in.new.source) (g.S.Source.faults c.args.source.now) (g.S.Source.faults c.take_in.new.source)
       c.args.read.now c.args.targets c.args.plan.now c.requires.settled c.is_killed.ensures.apart
       (sym c.in-Err.ensures.nothing ∙ prepend_none (g.S.Source.left c.take_in.new.source)) c.take_in.ensures.later
-      stop.ReadFault c.requires.short tt c.in-Err.ensures.cause
-      (turn_stops c.args.task.now c.is_killed.new.task stop.ReadFault (begun_silent c.args.task.now c.is_killed.new.task
-      c.is_killed.new.task c.if-is_killed.ensures.own (grows_same c.is_killed.new.task) refl));
+      stop.ReadFault c.requires.short tt c.in-Err.ensures.cause;
+  goes = gave_nothing (g.S.Source.left c.args.source.now) (g.S.Source.left c.take_in.new.source) c.args.read.now
+      (λ piece. ReaderTurn c.args.targets c.args.plan.now c.args.read.now c.args.task.now c.is_killed.new.task piece
+      (Some stop.ReadFault)) (sym c.in-Err.ensures.nothing ∙ prepend_none (g.S.Source.left c.take_in.new.source))
+      (source_failed c.if-is_killed.ensures.own);
 }
 
 pub returns-then-taken-eq0 : goal.returns-then-taken-eq0
@@ -46,9 +51,10 @@ returns-then-taken-eq0 g c =
           (g.S.Source.left c.take_in.new.source) (g.S.Source.faults c.args.source.now) (g.S.Source.faults c.take_in.new.source)
           c.args.read.now c.args.targets c.args.plan.now c.requires.settled c.is_killed.ensures.apart left c.take_in.ensures.later
           stop.Finished c.requires.short (source_ended (g.S.Source.left c.args.source.now)
-          (g.S.Source.left c.take_in.new.source) left (c.in-Ok.ensures.end c.if-taken-eq0.true (omega arith))) tt
-          (turn_stops c.args.task.now c.is_killed.new.task stop.Finished (begun_silent c.args.task.now c.is_killed.new.task
-          c.is_killed.new.task c.if-is_killed.ensures.own (grows_same c.is_killed.new.task) refl));
+          (g.S.Source.left c.take_in.new.source) left (c.in-Ok.ensures.end c.if-taken-eq0.true (omega arith))) tt;
+      goes = gave_nothing (g.S.Source.left c.args.source.now) (g.S.Source.left c.take_in.new.source) c.args.read.now
+          (λ piece. ReaderTurn c.args.targets c.args.plan.now c.args.read.now c.args.task.now c.is_killed.new.task piece
+          (Some stop.Finished)) left (ended c.if-is_killed.ensures.own);
     }
 
 pub returns-then-read-gt-LONGEST : goal.returns-then-read-gt-LONGEST
@@ -61,10 +67,14 @@ returns-then-read-gt-LONGEST g c =
       turn = read_long c.args.task.now c.is_killed.new.task c.send_due.new.task (g.S.Source.left c.args.source.now)
           (g.S.Source.left c.take_in.new.source) (g.S.Source.faults c.args.source.now) (g.S.Source.faults c.take_in.new.source)
           c.args.read.now _ c.args.targets c.args.plan.now (take c.in-Ok.taken c.take_in.new.buf) c.requires.settled
-          c.is_killed.ensures.apart c.if-is_killed.ensures.own c.in-Ok.ensures.bytes c.take_in.ensures.later
+          c.is_killed.ensures.apart c.in-Ok.ensures.bytes c.take_in.ensures.later
           (given_length c.take_in.new.buf c.in-Ok.taken c.args.read.now (omega arith)) (omega (arith, some))
-          (record { works = s.works; ends = s.ends; sums = s.sums; spared = s.spared; signals = s.signals })
+          (record { works = s.works; ends = s.ends; sums = s.sums; spared = s.spared; signals = s.signals; each = s.goes })
           c.if-read-gt-LONGEST.true;
+      goes = gave_long c.args.targets c.args.plan.now c.args.read.now c.in-Ok.taken c.take_in.new.buf
+          (g.S.Source.left c.args.source.now) (g.S.Source.left c.take_in.new.source) c.args.task.now
+          c.is_killed.new.task c.send_due.new.task c.if-is_killed.ensures.own
+          (given_length c.take_in.new.buf c.in-Ok.taken c.args.read.now (omega arith)) c.in-Ok.ensures.bytes s.goes c.if-read-gt-LONGEST.true;
     }
 
 pub returns-in-Ok-hand_on : goal.returns-in-Ok-hand_on
@@ -77,10 +87,15 @@ returns-in-Ok-hand_on g c =
       turn = read_on c.args.task.now c.is_killed.new.task c.send_due.new.task (g.S.Source.left c.args.source.now)
           (g.S.Source.left c.take_in.new.source) (g.S.Source.faults c.args.source.now) (g.S.Source.faults c.take_in.new.source)
           c.args.read.now _ c.args.targets c.args.plan.now (take c.in-Ok.taken c.take_in.new.buf) c.requires.settled
-          c.is_killed.ensures.apart c.if-is_killed.ensures.own c.in-Ok.ensures.bytes c.take_in.ensures.later
+          c.is_killed.ensures.apart c.in-Ok.ensures.bytes c.take_in.ensures.later
           (given_length c.take_in.new.buf c.in-Ok.taken c.args.read.now (omega arith)) (omega (arith, some))
-          (record { works = s.works; ends = s.ends; sums = s.sums; spared = s.spared; signals = s.signals })
+          (record { works = s.works; ends = s.ends; sums = s.sums; spared = s.spared; signals = s.signals; each = s.goes })
           c.hand_on.new.task c.if-read-gt-LONGEST.false c.in-Ok-hand_on.ensures.handed;
+      goes = gave_piece c.args.targets c.args.plan.now c.args.read.now c.in-Ok.taken c.take_in.new.buf
+          (g.S.Source.left c.args.source.now) (g.S.Source.left c.take_in.new.source) c.args.task.now
+          c.is_killed.new.task c.send_due.new.task c.if-is_killed.ensures.own
+          (given_length c.take_in.new.buf c.in-Ok.taken c.args.read.now (omega arith)) c.in-Ok.ensures.bytes s.goes
+          c.hand_on.new.task _ c.in-Ok-hand_on.ensures.goes;
     }
 
 pub returns-in-Err-hand_on : goal.returns-in-Err-hand_on
@@ -96,8 +111,12 @@ returns-in-Err-hand_on g c =
           (read_halted c.args.task.now c.is_killed.new.task c.send_due.new.task
           (g.S.Source.left c.args.source.now) (g.S.Source.left c.take_in.new.source) (g.S.Source.faults c.args.source.now)
           (g.S.Source.faults c.take_in.new.source) c.args.read.now (c.args.read.now + c.in-Ok.taken) c.args.targets
-          c.args.plan.now (take c.in-Ok.taken c.take_in.new.buf) c.requires.settled c.is_killed.ensures.apart
-          c.if-is_killed.ensures.own c.in-Ok.ensures.bytes c.take_in.ensures.later (given_length c.take_in.new.buf c.in-Ok.taken c.args.read.now (omega arith)) (omega (arith, some))
-          (record { works = s.works; ends = s.ends; sums = s.sums; spared = s.spared; signals = s.signals })
+          c.args.plan.now (take c.in-Ok.taken c.take_in.new.buf) c.requires.settled c.is_killed.ensures.apart c.in-Ok.ensures.bytes c.take_in.ensures.later (given_length c.take_in.new.buf c.in-Ok.taken c.args.read.now (omega arith)) (omega (arith, some))
+          (record { works = s.works; ends = s.ends; sums = s.sums; spared = s.spared; signals = s.signals; each = s.goes })
           c.hand_on.new.task c.if-read-gt-LONGEST.false c.in-Err-hand_on.halt c.in-Err-hand_on.ensures.handed);
+      goes = gave_halted c.args.targets c.args.plan.now c.args.read.now c.in-Ok.taken c.take_in.new.buf
+          (g.S.Source.left c.args.source.now) (g.S.Source.left c.take_in.new.source) c.args.task.now
+          c.is_killed.new.task c.send_due.new.task c.if-is_killed.ensures.own
+          (given_length c.take_in.new.buf c.in-Ok.taken c.args.read.now (omega arith)) c.in-Ok.ensures.bytes s.goes
+          c.hand_on.new.task c.in-Err-hand_on.halt c.stop_of.result c.in-Err-hand_on.ensures.goes c.stop_of.ensures;
     }

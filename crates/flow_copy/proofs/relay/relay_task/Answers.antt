@@ -8,4 +8,5 @@ returns g c = record {
       c.relay_through-ended.result c.relay_through-ended.ensures.did (completes c.relay_through-ended.new.task
       c.complete.new.task c.relay_through-ended.ensures.did.served.idler c.complete.ensures.completed
       c.complete.ensures.up c.complete.ensures.free c.complete.ensures.carries c.complete.ensures.off);
+  goes = (c.relay_through-ended.new.task, c.relay_through-ended.ensures.goes, c.complete.ensures.completed);
 }

@@ -12,4 +12,5 @@ returns g c = record {
       c.write_through-ended.ensures.did (completes c.write_through-ended.new.task c.complete.new.task
       c.write_through-ended.ensures.did.served.idler c.complete.ensures.completed c.complete.ensures.up
       c.complete.ensures.free c.complete.ensures.carries c.complete.ensures.off);
+  goes = (c.write_through-ended.new.task, c.write_through-ended.ensures.goes, c.complete.ensures.completed);
 }

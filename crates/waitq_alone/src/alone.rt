@@ -30,7 +30,7 @@ fn answer<I: Source, O: Sink>(
         (λ v. Answers v (O.held out.old) (O.held out.new) result) }
     ensures unwritten { LeavesUnwritten (O.held out.old) (O.held out.new) result }
     ensures no_copy { IsNoCopyEnd result }
-    ensures no_input { IsFalse (reads_input (Some (asked_by command.entry))) → I.left input.new ≡ I.left input.old }
+    ensures no_input { IsFalse (reads_input (Some (asked_by command.entry))) → input.new ≡ input.old }
     ensures read { IsErrOf result Fault.Read → HasRisen (I.faults input.old) (I.faults input.new) }
     ensures write { IsErrOf result Fault.Write → HasRisen (O.faults out.old) (O.faults out.new) }
 {
@@ -64,7 +64,7 @@ pub fn finish<E: Sink>(err: &mut E, answer: Result<(), Fault>) -> u8
 /// The status is 0 where the whole text was written, 3 where the input is no script, 4 and 5 where a read of `input` or a
 /// write to `out` failed, 7 where memory ran out, and 8 where the input is too long or asks for too many events. Each
 /// but 0 has its line on `err`: the whole line, or a front of it where a write fails or wants memory, which changes no
-/// status. `drill` reads no input, and ends with 0, 5 or 7.
+/// status. `drill` leaves the input untouched, and ends with 0, 5 or 7.
 pub fn run_alone<I: Source, O: Sink, E: Sink>(
     alloc: Global,
     command: Command<'_>,
@@ -77,7 +77,7 @@ pub fn run_alone<I: Source, O: Sink, E: Sink>(
 
     // The command decides which statuses there may be.
     ensures statuses { IsTrue (may_end_with (Some (asked_by command.entry)) result) }
-    ensures no_input { IsFalse (reads_input (Some (asked_by command.entry))) → I.left input.new ≡ I.left input.old }
+    ensures no_input { IsFalse (reads_input (Some (asked_by command.entry))) → input.new ≡ input.old }
     ensures no_text { IsTrue (is_quiet result) → O.held out.new ≡ O.held out.old }
 
     // What the status says of the command, and what was written. The line on err is whole where none of its writes was

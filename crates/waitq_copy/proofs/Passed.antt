@@ -1,5 +1,5 @@
 -- From the contracts of a copy's parts to what the copy did.
-use Rattle.std.proofs.Common.{◌≡◌, ℕ, ◌%◌, ◌^◌, ◌<◌, List, sym, ◌∙◌, subst}
+use Rattle.std.proofs.Common.{◌≡◌, ℕ, ◌%◌, ◌^◌, ◌<◌, List, ◌∙◌, subst}
 use Rattle.std.specs.Prelude.{Option, Result, Ok, Err, IfOk, OnErr, IsErrOf}
 use Rattle.atomic_table.specs.Seated.{TableId}
 use Rattle.edge_io.specs.declared.sink.SinkFault.{SinkFault}
@@ -26,8 +26,8 @@ pub is_stored : (r : Result (Unit {0}) SinkFault) (old mid new : Option Files) (
 is_stored (Ok x) old mid new dst held e s n = subst (λ (o : Option Files). Stores o new dst held) e s
 is_stored (Err y) old mid new dst held e s n = n ∙ e
 
-module _ (domain : TableId) (task : Known) (files_old files_mid files_new : Option Files)
-    (reads_old reads_mid reads_new writes_old writes_mid writes_new : ℕ) (src dst : List ℕ) (plan : List Planned)
+module _ (domain : TableId) (task : Known) (files_old files_new : Option Files)
+    (reads_old reads_new writes_old writes_new : ℕ) (src dst : List ℕ) (plan : List Planned)
     (left_old left_new held_old held_new : Option (List ℕ)) (opened read_faults made write_faults : ℕ)
     (wants_old wants_new : ℕ) (seen_old seen_new : List EntryState) (reader : ReaderEnd) (relay writer : WorkerEnd)
     (how : Stop) (moved : ℕ) (stored : Result (Unit {0}) SinkFault) (total : Result ℕ BitEnd) where
@@ -38,14 +38,13 @@ module _ (domain : TableId) (task : Known) (files_old files_mid files_new : Opti
       → Watched left_old left_new held_old held_new seen_old seen_new writer.stop
       → (how ≡ stop.Finished → HoldsAll left_old held_old held_new seen_old seen_new reader relay writer moved)
       → moved ≡ tally_in COUNTED_PAGE task.view % 2 ^ 64 → NoneTaken reader relay writer
-      → files_mid ≡ files_old → (0 < read_faults → HasRisen reads_old reads_mid) → writes_mid ≡ writes_old
-      → IfOk stored (λ _. Stores files_mid files_new dst held_new) → OnErr stored (files_new ≡ files_mid)
-      → (IsErrOf stored sink.Failed → HasRisen writes_mid writes_new)
-      → (0 < write_faults → HasRisen writes_mid writes_new) → reads_new ≡ reads_mid
+      → IsStored stored files_old files_new dst held_new → (0 < read_faults → HasRisen reads_old reads_new)
+      → (0 < write_faults → HasRisen writes_old writes_new)
+      → (IsErrOf stored sink.Failed → HasRisen writes_old writes_new)
       → Through domain task files_old files_new reads_old reads_new writes_old writes_new src dst plan seen_old
       seen_new reader how moved stored
-  passed found at_first empty at_once copied front watched whole tally none_taken closed risen_read kept_write stores
-      same failed risen_write kept_read = record {
+  passed found at_first empty at_once copied front watched whole tally none_taken stores reads writes refused =
+      record {
         left_old = left_old;
         left_new = left_new;
         held_old = held_old;
@@ -71,10 +70,10 @@ module _ (domain : TableId) (task : Known) (files_old files_mid files_new : Opti
         kills = kills_are _ _ _ _ _ _ _ _ _ _ _ _ _ _ _ _ _ _ _ _ copied none_taken;
         tally = tally;
         none_taken = none_taken;
-        stores = is_stored stored files_old files_mid files_new dst held_new closed stores same;
-        reads = λ lt. subst (λ (n : ℕ). HasRisen reads_old n) (sym kept_read) (risen_read lt);
-        writes = λ lt. subst (λ (n : ℕ). HasRisen n writes_new) kept_write (risen_write lt);
-        refused = λ e. subst (λ (n : ℕ). HasRisen n writes_new) kept_write (failed e);
+        stores = stores;
+        reads = reads;
+        writes = writes;
+        refused = refused;
       }
 
 -- over what was so before the source was opened and the sink was made

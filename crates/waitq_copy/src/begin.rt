@@ -1,6 +1,6 @@
 //! How a copy begins: its source is opened, and its sink made.
 
-ghost use Rattle.std.specs.Prelude.{◌≡◌, IfOk, IfErr, OnOk};
+ghost use Rattle.std.specs.Prelude.{◌≡◌, ◌+◌, IfOk, IfErr, OnOk, OnErr};
 ghost use Rattle.edge_io.specs.Folders.{HasBytes, HoldsNothing};
 ghost use Rattle.waitq_copy.specs.Copying.{IsMakeFault, IsOpenFault, IsStartFault};
 
@@ -28,6 +28,8 @@ fn open_source<'a, F: Folder>(
     ensures writes { F.write_faults folder.new ≡ F.write_faults folder.old }
     ensures cause { IfErr result (λ why. IsOpenFault (F.files folder.old) (F.read_faults folder.old)
         (F.read_faults folder.new) src.entry.now why) }
+    ensures given { OnOk result (F.opened folder.new ≡ F.opened folder.old + 1) }
+    ensures not_given { OnErr result (F.opened folder.new ≡ F.opened folder.old) }
 {
     match folder.open(alloc, src) {
         Ok(source) => Ok(source),
@@ -49,6 +51,7 @@ fn create_sink<F: Folder>(
     ensures reads { F.read_faults folder.new ≡ F.read_faults folder.old }
     ensures writes { OnOk result (F.write_faults folder.new ≡ F.write_faults folder.old) }
     ensures cause { IfErr result (λ why. IsMakeFault (F.write_faults folder.old) (F.write_faults folder.new) why) }
+    ensures as_open { F.opened folder.new ≡ F.opened folder.old }
 {
     match folder.create(alloc, dst) {
         Ok(sink) => Ok(sink),
@@ -58,7 +61,7 @@ fn create_sink<F: Folder>(
 }
 
 /// Opens the source and makes the sink, in this order. Where one of these is refused it ends there, and an opened
-/// source is closed.
+/// source is closed: one source more is open where Ok is answered, and else as many as before.
 pub fn begin<'a, F: Folder>(
     alloc: Global,
     folder: &mut F,
@@ -74,6 +77,8 @@ pub fn begin<'a, F: Folder>(
     ensures writes { OnOk result (F.write_faults folder.new ≡ F.write_faults folder.old) }
     ensures cause { IfErr result (λ why. IsStartFault (F.files folder.old) (F.read_faults folder.old)
         (F.read_faults folder.new) (F.write_faults folder.old) (F.write_faults folder.new) src.entry.now why) }
+    ensures given { OnOk result (F.opened folder.new ≡ F.opened folder.old + 1) }
+    ensures closes { OnErr result (F.opened folder.new ≡ F.opened folder.old) }
 {
     let source = open_source(alloc, folder, src)?;
     match create_sink(alloc, folder, dst) {

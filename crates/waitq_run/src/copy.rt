@@ -1,13 +1,14 @@
 //! The command `copy`: one file is copied to another by tasks in threads of their own.
 
-ghost use Rattle.std.specs.Prelude.{◌≡◌, ◌≤◌, ◌-◌, length, IfOk, IfErr, OnErr, OnOk};
+ghost use Rattle.std.specs.Prelude.{◌≡◌, ◌<◌, ◌≤◌, ◌-◌, length, IfOk, IfErr, IsErrOf, OnErr, OnOk};
+ghost use Rattle.edge_io.specs.Faults.{HasRisen};
 ghost use Rattle.edge_io.specs.Folders.{HasBytes, HoldsNothing};
 ghost use Rattle.wait_model.specs.declared.layout.TheConstants.{TASKS};
 ghost use Rattle.wait_rule.specs.Says.{IsClean, newcomer};
 ghost use Rattle.copy_plan.specs.declared.TheConstants.{SIGNALS};
 ghost use Rattle.copy_ends.specs.Copied.{HasNoSteps};
-ghost use Rattle.waitq_copy.specs.Copying.{Concludes, CopyLeft, IsMakeFault, IsOpenFault, IsStartFault, Through};
-ghost use Rattle.waitq_copy.specs.Copying.{copy_text, fault_after, outside, tells};
+ghost use Rattle.waitq_copy.specs.Copying.{Concludes, CopyLeft, IsMakeFault, IsOpenFault, IsStartFault, IsStored};
+ghost use Rattle.waitq_copy.specs.Copying.{Through, copy_text, fault_after, outside, tells};
 
 use copy_plan::{Gate, Planned, ReaderEnd, Stop};
 use edge_io::{Folder, Sink, SinkFault};
@@ -40,7 +41,27 @@ struct Left<W> {
     stored: Result<(), SinkFault>,
 }
 
-/// Copies, closes the source, and stores the sink whatever the copy's stop was.
+/// Closes the source of a copy that ended, and stores its sink.
+fn close_and_store<F: Folder>(
+    alloc: Global,
+    folder: &mut F,
+    source: F::In,
+    sink: F::Out,
+    dst: &str,
+) -> Result<(), SinkFault>
+    ensures closes { F.opened folder.new ≡ F.opened folder.old - 1 }
+    ensures stored { IsStored result (F.files folder.old) (F.files folder.new) dst.now (F.Out.held sink) }
+    ensures reads { 0 < F.In.faults source → HasRisen (F.read_faults folder.old) (F.read_faults folder.new) }
+    ensures writes { 0 < F.Out.faults sink → HasRisen (F.write_faults folder.old) (F.write_faults folder.new) }
+    ensures refused { IsErrOf result SinkFault.Failed
+        → HasRisen (F.write_faults folder.old) (F.write_faults folder.new) }
+{
+    folder.close(source);
+    folder.store(alloc, dst, sink)
+}
+
+/// Copies, closes the source, and stores the sink whatever the copy's stop was. One source fewer is open then, whatever
+/// is answered.
 ///
 /// Memory: there was no memory for one of the copy's threads. Nothing was copied then: the source is closed, the sink is
 /// dropped and not stored, and no task has made a step.
@@ -65,6 +86,7 @@ fn copy_through<R: Threads + Wait + Sync, F: Folder, W: Tellers + Send + Drop, G
         (F.read_faults folder.old) (F.read_faults folder.new) (F.write_faults folder.old) (F.write_faults folder.new)
         order.entry.src.now order.entry.dst.now order.entry.plan.now (W.entries watch) (W.entries left.watch)
         left.reader left.stop left.moved left.stored) }
+    ensures closes { F.opened folder.new ≡ F.opened folder.old - 1 }
     ensures memory { IfErr result (λ why. why ≡ Fault.Memory) }
     ensures same { OnErr result (F.files folder.new ≡ F.files folder.old) }
     ensures idle { OnErr result (HasNoSteps domain.now task.new) }
@@ -87,8 +109,7 @@ fn copy_through<R: Threads + Wait + Sync, F: Folder, W: Tellers + Send + Drop, G
         stop,
         ..
     } = end;
-    folder.close(source);
-    let stored = folder.store(alloc, order.dst, sink);
+    let stored = close_and_store(alloc, folder, source, sink, order.dst);
     Ok(Left {
         watch,
         reader,
@@ -116,7 +137,7 @@ fn conclude<O: Sink, W: Tellers>(out: &mut O, left: &Left<W>) -> Result<(), Faul
 ///
 /// The source is opened first, and then the sink is made; where one of these is refused, or one of the copy's tasks can't
 /// have a thread (Memory), it ends there and no file is changed. After the copy the source is closed, and the sink is
-/// stored whatever the copy's stop was.
+/// stored whatever the copy's stop was. Whatever is answered, no source is open that was not before (`closes`).
 pub fn copy<
     'a,
     R: Threads + Wait + Sync,
@@ -143,6 +164,7 @@ pub fn copy<
         (outside (F.files folder.new) (F.read_faults folder.new) (F.write_faults folder.new) (O.held out.new)
         (O.faults out.new)) order.entry.src.now order.entry.dst.now order.entry.plan.now
         (W.entries watch) result }
+    ensures closes { F.opened folder.new ≡ F.opened folder.old }
     ensures clean { IsClean task.new }
 {
     let begun = begin(alloc, folder, order.src, order.dst)?;

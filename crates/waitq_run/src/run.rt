@@ -61,6 +61,7 @@ fn run_copy<
         → Delivers order.entry.src.now order.entry.dst.now (F.files folder.old) (F.files folder.new) }
     ensures spares { Spares order.entry.src.now order.entry.dst.now (F.files folder.old) (F.files folder.new) }
     ensures plain { fatal_of order.entry.plan.now ≡ [] → result ≢ 6 }
+    ensures closes { F.opened folder.new ≡ F.opened folder.old }
     ensures clean { IsClean task.new }
 {
     let answer = copy(rt, alloc, folder, out, domain, task, watch, gate, order);
@@ -75,6 +76,8 @@ fn run_copy<
 /// whole text was written, and no planned kill was sent; 4 where SRC can't be read or is not there, 5 where DST or
 /// `out` can't be written, 6 where a planned kill was sent, 7 where memory ran out, 8 where the source gave more than
 /// 2^40 bytes, and 9 where a queue had no place left. Where several causes stand it is the first of 7, 9, 4, 5, 8, 6.
+/// The source is closed whatever the status is. Of the commands only `replay` touches `input`.
+///
 /// For the other commands `run_alone` says what is done, and folder and task are as they were; so are they for words that
 /// are no command, whose status is 2, or 7 where memory ran out, with its line on `err` as of `run_alone`.
 pub fn run<
@@ -104,8 +107,7 @@ pub fn run<
     ensures usage { result ≡ 2 → command_of (map string_bytes words.now) ≡ None }
     ensures refused { command_of (map string_bytes words.now) ≡ None → (result ≡ 2) ⊎ (result ≡ 7) }
     ensures statuses { IsTrue (may_end_with (command_of (map string_bytes words.now)) result) }
-    ensures no_input { IsFalse (reads_input (command_of (map string_bytes words.now)))
-        → I.left input.new ≡ I.left input.old }
+    ensures no_input { IsFalse (reads_input (command_of (map string_bytes words.now))) → input.new ≡ input.old }
     ensures no_text { IsTrue (is_quiet result) → O.held out.new ≡ O.held out.old }
 
     // What the status says of a command that is no copy, as of `run_alone`.
@@ -128,7 +130,8 @@ pub fn run<
         → (folder.new ≡ folder.old) × (task.new ≡ task.old) }
 
     // What a copy leaves, with the cause of each of its answers; what is delivered where it went well; what becomes of
-    // the files whatever the status is; and that plain signals end no copy.
+    // the files whatever the status is; that plain signals end no copy; and, whatever the words and the status are, that
+    // as many sources of the folder are open as before.
     ensures copies { IfCopy (command_of (map string_bytes words.now)) (λ src dst plan.
         CopyEnds domain.now task.old task.new
         (outside (F.files folder.old) (F.read_faults folder.old) (F.write_faults folder.old) (O.held out.old)
@@ -142,6 +145,7 @@ pub fn run<
         Spares src dst (F.files folder.old) (F.files folder.new)) }
     ensures plain { IfCopy (command_of (map string_bytes words.now)) (λ src dst plan.
         fatal_of plan ≡ [] → result ≢ 6) }
+    ensures closes { F.opened folder.new ≡ F.opened folder.old }
     ensures clean { IsClean task.new }
 {
     match read_command(alloc, words) {

@@ -46,8 +46,8 @@ returns-in_err-begun-clause-left g c =
       answered = answered;
       task = task_kept c.args.task.now why;
       files = c.in_err-begun.ensures.same;
-      held = refl;
-      faults = refl;
+      held = refl {a = g.O.Sink.held c.args.out.now};
+      faults = refl {a = g.O.Sink.faults c.args.out.now};
       cause = c.in_err-begun.ensures.cause;
     })
 
@@ -59,8 +59,9 @@ returns-in_err-left-clause-left g c =
       answered = answered ∙ ap Err c.in_err-left.ensures.memory;
       task = lists_kept c.args.domain.now c.args.task.now c.copy_through.new.task c.requires.fresh
           c.in_err-left.ensures.idle;
-      files = c.in_err-left.ensures.same ∙ c.begin.ensures.same;
-      held = refl;
-      faults = refl;
+      files = ◌∙◌ {a = g.F.Folder.files c.copy_through.new.folder} {b = g.F.Folder.files c.begin.new.folder}
+          {c = g.F.Folder.files c.args.folder.now} c.in_err-left.ensures.same c.begin.ensures.same;
+      held = refl {a = g.O.Sink.held c.args.out.now};
+      faults = refl {a = g.O.Sink.faults c.args.out.now};
       cause = record { cause = inl tt };
     })

@@ -47,7 +47,6 @@ use Rattle.wait_class.specs.declared.frame_stages.Stage.TheVariants as stage
 use Rattle.wait_class.specs.declared.stages.Run.{Run}
 use Rattle.wait_class.specs.declared.stages.Turn.TheVariants as turn
 use Rattle.wait_class.specs.FrameLaws.{FinishLaw, IsLawfulFrame}
-use Rattle.wait_class.specs.Queueing.{untold}
 use Rattle.wait_class.specs.Tables.{has_sleep}
 use Rattle.wait_class.specs.Laws.{AddsOwn, LoadLaw, LookLaw, SleepLaw}
 use Rattle.wait_class.specs.Tables.{Advances, IsAt, Plan, call_plan, next_in}
@@ -204,11 +203,11 @@ module _ (r : WaitBit) where
   -- the sleep, the look for a signal, and the finish
   sleep_law : (b : Bool) → looks_in r.state ≡ b
       → SleepLaw bit_table w stage.Sleep (if b then stage.Look else stage.Test (test.Again false))
-  sleep_law true is = sleep_by bit_table w stage.Sleep refl stage.Look refl refl refl refl refl refl refl refl (λ o h. h)
+  sleep_law true is = sleep_by bit_table w stage.Sleep refl stage.Look refl refl refl refl refl refl (λ o h. h)
       (λ v me. ap (λ (c : Bool). next.Go (at.Bit (if c then biting.Look else biting.Again false))) is)
       (λ v me k. tt) (λ v me k. (refl, tt, tt))
       (λ old new v calm u. (v, ends_calm old new (loads_set r []) (step.Sleep v ∷ []) calm u.0, u.1))
-  sleep_law false is = sleep_by bit_table w stage.Sleep refl (stage.Test (test.Again false)) refl refl refl refl refl refl refl refl
+  sleep_law false is = sleep_by bit_table w stage.Sleep refl (stage.Test (test.Again false)) refl refl refl refl refl refl
       (λ o h. h) (λ v me. ap (λ (c : Bool). next.Go (at.Bit (if c then biting.Look else biting.Again false))) is)
       (λ v me k. tt) (λ v me k. (refl, tt, tt)) (λ old new v calm u. tt)
 
@@ -296,9 +295,9 @@ bit_for r runs c is = inr (inl (refl, (r.word, r.bit, is, runs.word, runs.bit)))
 pub bit_adds : (r : WaitBit) (c : Watch) → c ≡ bit_in r → (old new : Known) (o : Result (Unit {0}) Worn)
     → IfOk o (λ _. HasAdded IsFrontPlace old new 0 (front_entry c kind.Bit)) → IfErr o (λ w. IsFrontWorn old new w)
     → IfErr o (λ w. WasWorn new.view.number new.view.items w.head w.place) → IsHolding new → new.at ≡ old.at
-    → AddsOwn bit_table (record { wait = r }) stage.PrepareQueue old new (untold o)
+    → AddsOwn bit_table (record { wait = r }) stage.PrepareQueue old new o
 bit_adds r c is old new o queued worn noted held at = adds_front bit_table (record { wait = r }) stage.PrepareQueue
-    (bit_in r) kind.Bit refl refl (λ p. refl) (λ p. (refl, refl)) (λ j k x. x) old new o
+    (bit_in r) kind.Bit refl (λ p. refl) (λ p. (refl, refl)) (λ j k x. x) old new o
     (subst (λ (d : Watch). IfOk o (λ _. HasAdded IsFrontPlace old new 0 (front_entry d kind.Bit))) is queued) worn
     noted held at
 

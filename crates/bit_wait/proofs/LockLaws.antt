@@ -28,7 +28,6 @@ use Rattle.wait_class.specs.declared.frame_stages.Framed.{Framed}
 use Rattle.wait_class.specs.declared.frame_stages.Stage.TheVariants as stage
 use Rattle.wait_class.specs.declared.stages.Turn.TheVariants as turn
 use Rattle.wait_class.specs.FrameLaws.{FinishLaw, IsLawfulFrame}
-use Rattle.wait_class.specs.Queueing.{untold}
 use Rattle.wait_class.specs.Tables.{has_sleep}
 use Rattle.wait_class.specs.Laws.{AddsOwn, HasJoined, IsWornFor, LoadLaw, LookLaw, SleepLaw}
 use Rattle.wait_class.specs.Tables.{next_in}
@@ -106,10 +105,10 @@ module _ (r : LockBit) where
 
   sleep_law : (b : Bool) → looks_in r.state ≡ b
       → SleepLaw lock_table w stage.Sleep (if b then stage.Look else stage.Test test.Again)
-  sleep_law true is = sleep_by lock_table w stage.Sleep refl stage.Look refl refl refl refl refl refl refl refl (λ o h. h)
+  sleep_law true is = sleep_by lock_table w stage.Sleep refl stage.Look refl refl refl refl refl refl (λ o h. h)
       (λ v me. ap (λ (c : Bool). next.Go (at.Bit (if c then biting.Look else biting.Again false))) is)
       (λ v me k. tt) (λ v me k. (refl, tt, tt)) (λ old new v calm u. (v, (history_of old, calm.history)))
-  sleep_law false is = sleep_by lock_table w stage.Sleep refl (stage.Test test.Again) refl refl refl refl refl refl refl refl
+  sleep_law false is = sleep_by lock_table w stage.Sleep refl (stage.Test test.Again) refl refl refl refl refl refl
       (λ o h. h) (λ v me. ap (λ (c : Bool). next.Go (at.Bit (if c then biting.Look else biting.Again false))) is)
       (λ v me k. tt) (λ v me k. (refl, tt, tt)) (λ old new v calm u. tt)
 
@@ -194,7 +193,7 @@ lock_for r runs c is = (refl, (r.word, r.bit, is, runs.word, runs.bit))
 
 lock_joins : (r : LockBit) (old new : Known) → (told_of old).bits.stored (index old.view.number 0) ≡ None
     → HasAddedForBit old new 0 (tail_entry true (bit_in r) kind.Bit)
-    → HasJoined lock_table (record { wait = r }) stage.PrepareQueue old new false
+    → HasJoined lock_table (record { wait = r }) stage.PrepareQueue old new
 lock_joins r old new out x = record {
   seen = x.seen;
   entry = tail_entry true (bit_in r) kind.Bit x.place;
@@ -203,7 +202,6 @@ lock_joins r old new out x = record {
   is_off = x.is_off;
   placed = ap (tail_entry true (bit_in r) kind.Bit) (sym (form_is x.seen x.low forms.Tail x.place x.sort));
   left = form_left x.seen x.low forms.Tail x.place x.sort;
-  tells = refl;
   is = x.is;
   queued = x.queued;
   home = (refl, refl);
@@ -222,7 +220,7 @@ pub lock_adds : (r : LockBit) (c : Watch) → c ≡ bit_in r → (old new : Know
     → (told_of old).bits.stored (index old.view.number 0) ≡ None
     → IfOk o (λ _. HasAddedForBit old new 0 (tail_entry true c kind.Bit)) → IfErr o (λ w. IsTailWorn old new w)
     → IfErr o (λ w. WasWorn new.view.number new.view.items w.head w.place) → IsHolding new → new.at ≡ old.at
-    → AddsOwn lock_table (record { wait = r }) stage.PrepareQueue old new (untold o)
+    → AddsOwn lock_table (record { wait = r }) stage.PrepareQueue old new o
 lock_adds r c is old new (Ok u) out queued worn noted held at = record {
   held = held;
   at = at;

@@ -14,7 +14,6 @@ ghost use Rattle.bit_wait.specs.LockTables.{lock_frame, lock_table};
 pub use crate::lock_runs::{LockBit, LockOutcome, LockTest};
 use wait_class::frame_stages::{Framed, Stage};
 use wait_class::frames::{Frame, Waiting, load_test};
-use wait_class::queueing::untold;
 use wait_class::stages::{Run, Turn};
 use wait_model::tasks::SleepState;
 use wait_model::watches::Watch;
@@ -160,13 +159,13 @@ impl Waiting for LockBit {
     }
 
     #[inline(always)]
-    fn add(call: Framed<LockBit>, domain: &Domain, task: &mut Task) -> Result<bool, Worn>
+    fn add(call: Framed<LockBit>, domain: &Domain, task: &mut Task) -> Result<(), Worn>
         requires of { task.old.domain ≡ domain.now }
         requires up { IsUp task.old }
         requires may { MayAdd lock_table call stage.PrepareQueue task.old }
         ensures { AddsOwn lock_table call stage.PrepareQueue task.old task.new result }
     {
-        untold(add_for_bit(domain, task, call.wait.watch()))
+        add_for_bit(domain, task, call.wait.watch())
     }
 
     #[inline(always)]

@@ -8,7 +8,6 @@ ghost use Rattle.bit_wait.specs.BitTables.{bit_frame, bit_table};
 
 use wait_class::frame_stages::{Framed, Stage};
 use wait_class::frames::{Frame, Waiting, load_test};
-use wait_class::queueing::untold;
 use wait_class::stages::{Run, Turn};
 use wait_model::tasks::SleepState;
 use wait_model::watches::{Kind, Watch};
@@ -156,13 +155,13 @@ impl Waiting for WaitBit {
     }
 
     #[inline(always)]
-    fn add(call: Framed<WaitBit>, domain: &Domain, task: &mut Task) -> Result<bool, Worn>
+    fn add(call: Framed<WaitBit>, domain: &Domain, task: &mut Task) -> Result<(), Worn>
         requires of { task.old.domain ≡ domain.now }
         requires up { IsUp task.old }
         requires may { MayAdd bit_table call stage.PrepareQueue task.old }
         ensures { AddsOwn bit_table call stage.PrepareQueue task.old task.new result }
     {
-        untold(add_front(domain, task, 0, Kind::Bit, call.wait.watch()))
+        add_front(domain, task, 0, Kind::Bit, call.wait.watch())
     }
 
     #[inline(always)]

@@ -20,7 +20,6 @@ use Rattle.wq_head.specs.Holds.{IsHolding}
 use Rattle.wq_head.specs.declared.adds.Worn.{Worn}
 use Rattle.wait_class.specs.Laws.{AddsOwn, HasJoined, IsWornFor, MayAdd}
 use Rattle.wait_class.specs.Posts.{HasSeenOwn}
-use Rattle.wait_class.specs.Queueing.{untold}
 use Rattle.wait_class.proofs.FormPlaces.{form_is, form_left, form_worn}
 use Rattle.wait_class.proofs.Ground.Keeping.{keeps_of, once}
 use Rattle.completion_cell.specs.Awaits.{CellKeeps, await_table, await_watch}
@@ -57,7 +56,7 @@ module _ (r : AwaitCall) (old new : Known) (m : MayAdd await_table r stage.Queue
   )
 
   joins : HasAddedForCell old new 0 (tail_entry false (await_watch r) kind.Simple)
-      → HasJoined await_table r stage.Queue old new false
+      → HasJoined await_table r stage.Queue old new
   joins x = record {
     seen = x.seen;
     entry = tail_entry false (await_watch r) kind.Simple x.place;
@@ -66,7 +65,6 @@ module _ (r : AwaitCall) (old new : Known) (m : MayAdd await_table r stage.Queue
     is_off = x.is_off;
     placed = ap (tail_entry false (await_watch r) kind.Simple) (sym (form_is x.seen x.low forms.Tail x.place x.sort));
     left = form_left x.seen x.low forms.Tail x.place x.sort;
-    tells = refl;
     is = x.is;
     queued = x.queued;
     home = (refl, refl);
@@ -83,6 +81,6 @@ module _ (r : AwaitCall) (old new : Known) (m : MayAdd await_table r stage.Queue
       → IfOk o (λ _. HasAddedForCell old new 0 (tail_entry false (await_watch r) kind.Simple))
       → IfErr o (λ w. IsTailWorn old new w)
       → IfErr o (λ w. WasWorn new.view.number new.view.items w.head w.place) → IsHolding new → new.at ≡ old.at
-      → AddsOwn await_table r stage.Queue old new (untold o)
+      → AddsOwn await_table r stage.Queue old new o
   adds_cell (Ok u) queued worn noted held at = record { held = held; at = at; by = joins queued }
   adds_cell (Err w) queued worn noted held at = record { held = held; at = at; by = wears w worn noted }

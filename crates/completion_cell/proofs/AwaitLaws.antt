@@ -61,9 +61,9 @@ or_yes true = refl
 or_yes false = refl
 
 -- the own entry is queued, where the count is known to be 0
-joined_knows : (r : AwaitCall) (old mid new : Known) (first : Bool) → OnlyLooks old mid
-    → HasJoined await_table r stage.Queue mid new first → Knows old r.cell 0 → Knows new r.cell 0
-joined_knows r old mid new first looks x u =
+joined_knows : (r : AwaitCall) (old mid new : Known) → OnlyLooks old mid → HasJoined await_table r stage.Queue mid new
+    → Knows old r.cell 0 → Knows new r.cell 0
+joined_knows r old mid new looks x u =
     let s = knows_looks r.cell mid x.seen 0
     (only_looked mid x.seen x.looks.items x.looks.same x.looks.looks x.looks.is) (knows_looks r.cell old mid 0 looks u) in
     let same : index mid.view.number 0 ≡ own x.seen.view.number =
@@ -84,7 +84,6 @@ module _ (r : AwaitCall) where
     same = refl;
     took = refl;
     depth = refl;
-    stays = λ u. refl;
     trail = λ k u. u;
   }
 
@@ -98,7 +97,6 @@ module _ (r : AwaitCall) where
     same = refl;
     took = refl;
     depth = refl;
-    stays = λ u. refl;
     trail = λ k u. u;
   }
 
@@ -107,7 +105,6 @@ module _ (r : AwaitCall) where
     free = refl;
     head = refl;
     drawn = refl;
-    waits = refl;
     moves = record {
       plain = refl;
       falls = refl;
@@ -127,7 +124,6 @@ module _ (r : AwaitCall) where
     free = refl;
     head = refl;
     drawn = refl;
-    waits = refl;
     moves = record {
       plain = refl;
       falls = refl;
@@ -183,18 +179,18 @@ module _ (r : AwaitCall) where
       is = λ me k e ok. (refl, sym ok.at, ok.whole, ok.placed);
       finds = λ me k e ok. (tt, (ok.shows, λ none. (ok.whole, sym ok.left)), tt);
     };
-    joins_same = λ first. refl;
-    joins_fits = λ first f. f;
-    joins_leaves = λ first. record { head = refl; ticket = refl };
-    joins_state = λ first σ s. s;
-    joins_home = λ first e h. h;
-    joins_tells = λ first x i e did is. record {
+    joins_same = refl;
+    joins_fits = λ f. f;
+    joins_leaves = record { head = refl; ticket = refl };
+    joins_state = λ σ s. s;
+    joins_home = λ e h. h;
+    joins_tells = λ x i e did. record {
       cell = refl;
       state = refl;
       queued = sym (ap (λ (d : StepOrLook). r.queued || (is_queue d || false)) did ∙ or_yes r.queued);
       ranged = (subst InRange (sym did) tt, tt);
     };
-    joins_trail = λ first old mid new looks x u. joined_knows r old mid new first looks x u;
+    joins_trail = joined_knows r;
     wears = record {
       plain = tt;
       falls = refl;
@@ -256,7 +252,7 @@ module _ (r : AwaitCall) where
   }
 
   sleep_law : SleepLaw await_table r stage.Sleep stage.Again
-  sleep_law = sleep_by await_table r stage.Sleep refl stage.Again refl refl refl refl refl refl refl refl (λ o h. h)
+  sleep_law = sleep_by await_table r stage.Sleep refl stage.Again refl refl refl refl refl refl (λ o h. h)
       (λ w me. refl) (λ w me k. tt) (λ w me k. (refl, tt, tt)) (λ old new w c u. tt)
 
   -- a hold that found a signal

@@ -292,14 +292,12 @@ await_table = record {
   plan_of = λ r. call_plan (await_call r);
   Fits = CellFits;
   worn_at = λ r p. record r { place = p };
-  asks_first = λ r. false;
-  joined_at = λ r s first. record r { queued = true };
+  joined_at = λ r s. record r { queued = true };
   point_of = point_of;
   doing = await_doing;
   drawn = is_await_turn;
   took = λ s. false;
   depth = await_depth;
-  stays = λ s u. true;
   drawn_to = await_drawn;
   next_of = λ r s. await_next s;
   noted = λ r s v. r;

@@ -16,7 +16,7 @@ ghost use Rattle.completion_cell.specs.Awaits.{off_stage, quit_stage, take_stage
 
 use crate::asks::take_one;
 use wait_class::machines::Machine;
-use wait_class::queueing::{own_entry, untold};
+use wait_class::queueing::own_entry;
 use wait_class::stages::{Added, Doing, Run, Turn};
 use wait_model::layout::RUNNING;
 use wait_model::tasks::SleepState;
@@ -347,13 +347,13 @@ impl Machine for AwaitCall {
     }
 
     #[inline(always)]
-    fn note_joined(&mut self, _stage: AwaitStage, _first: bool) {
+    fn note_joined(&mut self, _stage: AwaitStage) {
         self.queued = true;
     }
 
     /// The own entry is queued at the tail, in a hold that has loaded the count as 0.
     #[inline(always)]
-    fn add(self, domain: &Domain, task: &mut Task, stage: AwaitStage) -> Result<bool, Worn>
+    fn add(self, domain: &Domain, task: &mut Task, stage: AwaitStage) -> Result<(), Worn>
         requires of { task.old.domain ≡ domain.now }
         requires up { IsUp task.old }
         requires may { MayAdd await_table self stage task.old }
@@ -362,9 +362,9 @@ impl Machine for AwaitCall {
         match stage {
             AwaitStage::Queue => {
                 let watch = Watch::Done { cell: self.cell };
-                untold(add_tail(domain, task, 0, Kind::Simple, false, watch))
+                add_tail(domain, task, 0, Kind::Simple, false, watch)
             }
-            _ => Ok(false),
+            _ => Ok(()),
         }
     }
 

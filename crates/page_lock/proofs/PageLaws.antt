@@ -56,7 +56,6 @@ module _ (r : LockPage) where
     same = refl;
     took = refl;
     depth = refl;
-    stays = λ u. refl;
     trail = λ k u. u;
   }
 
@@ -65,7 +64,6 @@ module _ (r : LockPage) where
     free = refl;
     head = refl;
     drawn = refl;
-    waits = refl;
     moves = record {
       plain = refl;
       falls = refl;
@@ -156,7 +154,7 @@ module _ (r : LockPage) where
       (λ old new w is c u. waits_calm old new r (step.Look w ∷ []) c refl (λ k. refl) u)
 
   sleep_law : SleepLaw page_table r stage.Sleep stage.State
-  sleep_law = sleep_by page_table r stage.Sleep refl stage.State refl refl refl refl refl refl refl refl (λ o h. h)
+  sleep_law = sleep_by page_table r stage.Sleep refl stage.State refl refl refl refl refl refl (λ o h. h)
       (λ w me. refl) (λ w me k. tt) (λ w me k. (refl, tt, tt))
       (λ old new w c u. waits_calm old new r (step.Sleep w ∷ []) c refl (λ k. refl) u)
 
@@ -227,7 +225,6 @@ module _ (r : LockPage) where
     same = refl;
     took = refl;
     depth = refl;
-    stays = λ u. refl;
     trail = λ k u. u;
   }
 
@@ -236,7 +233,6 @@ module _ (r : LockPage) where
     free = refl;
     head = refl;
     drawn = refl;
-    waits = refl;
     moves = record {
       plain = refl;
       falls = refl;

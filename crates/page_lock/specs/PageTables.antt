@@ -302,14 +302,12 @@ page_table = record {
   plan_of = λ r. call_plan (page_call r);
   Fits = IsRunning;
   worn_at = λ r p. record r { place = p };
-  asks_first = λ r. false;
-  joined_at = λ r s first. r;
+  joined_at = λ r s. r;
   point_of = point_of;
   doing = doing_at;
   drawn = is_turn;
   took = page_took;
   depth = page_depth;
-  stays = λ s u. true;
   drawn_to = drawn_to;
   next_of = λ r s. next_of s;
   noted = λ r s v. r;

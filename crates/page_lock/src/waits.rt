@@ -374,14 +374,14 @@ impl Machine for LockPage {
     }
 
     #[inline(always)]
-    fn note_joined(&mut self, _stage: PageStage, _first: bool) {
+    fn note_joined(&mut self, _stage: PageStage) {
         let _ = *self;
     }
 
     /// It queues its entry by an event of its own, which needs no look at it.
     #[inline(always)]
-    fn add(self, _domain: &Domain, _task: &mut Task, _stage: PageStage) -> Result<bool, Worn> {
-        Ok(false)
+    fn add(self, _domain: &Domain, _task: &mut Task, _stage: PageStage) -> Result<(), Worn> {
+        Ok(())
     }
 
     #[inline(always)]

@@ -1,6 +1,6 @@
 //! Waits in simple queues. In stretches they go on by `wait_class::runs::stretch`, from `begin_swait` on.
 
-ghost use Rattle.std.specs.Prelude.{◌≡◌, false, true};
+ghost use Rattle.std.specs.Prelude.{◌≡◌, false};
 ghost use Rattle.wait_model.specs.declared.watches.Watch.TheVariants as watch;
 ghost use Rattle.wait_model.specs.Tasks.{is_killable};
 ghost use Rattle.wait_rule.specs.Queues.{IsIdle, IsTold, index};
@@ -33,14 +33,14 @@ pub fn begin_swait(task: &Task, cond: u8, state: SleepState) -> WaitRun
     requires listed { is_killable state ≡ false }
     requires out { IsOut task.now }
     ensures at { IsAt wait_table task.now result stage.First }
-    ensures fresh { IsFresh result.of (watch.Plain cond) (tail_in state) true }
+    ensures fresh { IsFresh result.of (watch.Plain cond) (tail_in state) }
     ensures told { IsTold task.now }
     ensures under { IsClean task.now
         → IsUnderWay wait_table (wait_table.plan_of result.of) task.now result (turn.Again stage.First) }
     ensures came { Advances wait_table task.now task.now result result stage.First (turn.Again stage.First) }
 {
     task.told();
-    fresh_wait(Watch::Plain { cond }, tail_in(state), true)
+    fresh_wait(Watch::Plain { cond }, tail_in(state))
 }
 
 /// At the tail, and in this state.

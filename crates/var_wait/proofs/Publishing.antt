@@ -1,6 +1,6 @@
 -- A variable is published, its head looked at without the lock, and its waiters woken.
 use Rattle.std.proofs.Common.{◌∙◌, ap, eq-eqb, sym, refl, subst, arith}
-use Rattle.std.specs.Prelude.{ℕ, ◌≡◌, ◌<◌, ◌==◌, ◌||◌, ◌&&◌, not, min, Bool, true, false, Some, None, List, [], ◌∷◌}
+use Rattle.std.specs.Prelude.{ℕ, ◌≡◌, ◌<◌, ◌==◌, ◌&&◌, not, min, Bool, true, false, Some, None, List, [], ◌∷◌}
 use Rattle.wait_model.specs.declared.calls.Answer.TheVariants as answer
 use Rattle.wait_model.specs.declared.calls.Call.TheVariants as calls
 use Rattle.wait_model.specs.declared.points.Point.TheVariants as at

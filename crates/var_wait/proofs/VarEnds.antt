@@ -1,7 +1,7 @@
 -- The end of a wait for a variable.
 use Rattle.std.proofs.Common.{◌∙◌, sym, refl, subst, arith}
 use Rattle.std.proofs.lemmas.Bool.Decides.{nat_tests}
-use Rattle.std.specs.Prelude.{ℕ, ◌≡◌, ◌≢◌, ◌==◌, ◌&&◌, not, false, true, None, Some, List, [], ◌∷◌}
+use Rattle.std.specs.Prelude.{ℕ, ◌≡◌, ◌≢◌, ◌==◌, ◌&&◌, not, false, None, Some, List, [], ◌∷◌}
 use Rattle.wait_model.specs.declared.steps.Step.TheVariants as step
 use Rattle.wait_model.specs.declared.tasks.SleepState.{SleepState}
 use Rattle.wait_model.specs.declared.watches.Watch.{Watch}
@@ -40,7 +40,7 @@ differs : (x old : ℕ) → (x == old) ≡ false → x ≢ old
 differs x old unlike is = absurd (grind (arith, nat_tests))
 
 module _ (before new : Known) (r q : Run WaitCall) (v old : ℕ) (st : SleepState)
-    (fresh : IsFresh r.of (watch.Var v old) (shared_in st) true)
+    (fresh : IsFresh r.of (watch.Var v old) (shared_in st))
     (runs : IsRunning r.of) where
   pub ends_var : (o : WaitOutcome) → Advances wait_table before new r q stage.First (turn.Done o)
       → EndsVarWait before new v old st (with_loaded q.of.seen (end_in q.of o))

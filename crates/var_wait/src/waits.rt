@@ -1,6 +1,6 @@
 //! Waits for variables. In stretches they go on by `wait_class::runs::stretch`, from `begin_var` on.
 
-ghost use Rattle.std.specs.Prelude.{◌≡◌, ◌<◌, true};
+ghost use Rattle.std.specs.Prelude.{◌≡◌, ◌<◌};
 ghost use Rattle.wait_model.specs.declared.layout.TheConstants.{VARIABLES};
 ghost use Rattle.wait_model.specs.declared.watches.Watch.TheVariants as watch;
 ghost use Rattle.wait_rule.specs.Queues.{IsIdle, IsTold, index};
@@ -31,14 +31,14 @@ pub fn begin_var(task: &Task, var: u8, old: u64, state: SleepState) -> WaitRun
     requires there { var < VARIABLES }
     requires out { IsOut task.now }
     ensures at { IsAt wait_table task.now result stage.First }
-    ensures fresh { IsFresh result.of (watch.Var var old) (shared_in state) true }
+    ensures fresh { IsFresh result.of (watch.Var var old) (shared_in state) }
     ensures told { IsTold task.now }
     ensures under { IsClean task.now
         → IsUnderWay wait_table (wait_table.plan_of result.of) task.now result (turn.Again stage.First) }
     ensures came { Advances wait_table task.now task.now result result stage.First (turn.Again stage.First) }
 {
     task.told();
-    fresh_wait(Watch::Var { var, old }, shared_in(state), true)
+    fresh_wait(Watch::Var { var, old }, shared_in(state))
 }
 
 /// At the front, and in this state.
@@ -99,7 +99,7 @@ pub fn end_var(task: &Task, wait: &WaitRun, outcome: WaitOutcome) -> Result<u64,
     ensures is { result ≡ with_loaded wait.now.of.seen (end_in wait.now.of outcome) }
     ensures clean { (c : _) → IsUnderWay wait_table c task.now wait.now (turn.Done outcome) → IsClean task.now }
     ensures ends { (start : _) → (f : _) → (var : _) → (old : _) → (state : _) → IsAt wait_table start f stage.First
-        → IsFresh f.of (watch.Var var old) (shared_in state) true
+        → IsFresh f.of (watch.Var var old) (shared_in state)
         → Advances wait_table start task.now f wait.now stage.First (turn.Done outcome)
         → EndsVarWait start task.now var old state result }
 {

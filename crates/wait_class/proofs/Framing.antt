@@ -1,6 +1,6 @@
 -- Calls that prepare and finish as all waits do keep the laws of a table.
 use Rattle.std.proofs.Common.{ap, sym, refl, subst, inl, inr, arith}
-use Rattle.std.specs.Prelude.{◌≡◌, ◌≤◌, ◌||◌, ◌&&◌, not, Bool, true, false}
+use Rattle.std.specs.Prelude.{◌≡◌, ◌≤◌, ◌||◌, not, Bool, true, false}
 use Rattle.std.specs.Prelude.{Option, Some, None, [], ◌∷◌}
 use Rattle.wait_model.specs.declared.points.Next.{Next}
 use Rattle.wait_model.specs.declared.points.Point.TheVariants as at
@@ -29,8 +29,8 @@ use Rattle.wq_head.proofs.PermitHeads.{owes_low}
 use Rattle.wait_class.proofs.Entries.{none_in}
 use Rattle.wait_class.proofs.Turns.{free_head, free_ticket, may_by, zero_for}
 
-free_falls : (b c : Bool) → b ≡ false → ((not b || c) && true) ≡ true
-free_falls b c is = ap (λ (x : Bool). (not x || c) && true) is
+free_falls : (b c : Bool) → b ≡ false → (not b || c) ≡ true
+free_falls b c is = ap (λ (x : Bool). not x || c) is
 
 -- the table of a frame whose program is written out
 abbrev stood : {W T O : Type 0} → FrameTable W T O → (W → Bool → Next) → FrameTable W T O
@@ -61,7 +61,6 @@ module _ {W T O : Type 0} (e : FrameTable W T O) (ends : W → Bool → Next)
     same = refl;
     took = refl;
     depth = refl;
-    stays = λ u. refl;
     trail = λ k x. tt;
   }
 
@@ -70,7 +69,6 @@ module _ {W T O : Type 0} (e : FrameTable W T O) (ends : W → Bool → Next)
     free = refl;
     head = refl;
     drawn = refl;
-    waits = refl;
     moves = record {
       plain = refl;
       falls = refl;
@@ -110,13 +108,13 @@ module _ {W T O : Type 0} (e : FrameTable W T O) (ends : W → Bool → Next)
       is = λ me k e ok. (refl, sym ok.at, ok.whole, ok.placed);
       finds = λ me k e ok. (tt, (ok.shows, λ none. (ok.whole, sym ok.left)), tt);
     };
-    joins_same = λ first. refl;
-    joins_fits = λ first fits. fits;
-    joins_leaves = λ first. record { head = refl; ticket = refl };
-    joins_state = λ first σ s. s;
-    joins_home = λ first e h. h;
-    joins_tells = λ first x i e did is. tt;
-    joins_trail = λ first old mid new looks x u. tt;
+    joins_same = refl;
+    joins_fits = λ fits. fits;
+    joins_leaves = record { head = refl; ticket = refl };
+    joins_state = λ σ s. s;
+    joins_home = λ e h. h;
+    joins_tells = λ x i e did. tt;
+    joins_trail = λ old mid new looks x u. tt;
     wears = record {
       plain = refl;
       falls = free_falls (holds (f.test_point f.worn_to)) _ (law.test_free f.worn_to);
@@ -246,7 +244,6 @@ module _ {W T O : Type 0} (e : FrameTable W T O) (ends : W → Bool → Next)
       same = refl;
       took = refl;
       depth = refl;
-      stays = λ u. refl;
       trail = λ k x. x;
     }
 
@@ -255,7 +252,6 @@ module _ {W T O : Type 0} (e : FrameTable W T O) (ends : W → Bool → Next)
       free = refl;
       head = refl;
       drawn = refl;
-      waits = refl;
       moves = record {
         plain = refl;
         falls = refl;

@@ -118,6 +118,6 @@ pub given_added : (old seen new : Known) → Looks old seen → (x : ℕ) (entry
 given_added old seen new looks x entry is = given_on old seen new HEADS (given_member_looks old seen looks)
     (given_stored seen new (step.Queue x entry) is)
 
-pub given_joined : {C S O : Type 0} (t : CallTable C S O) (old new : Known) (r : C) (s : S) (first : Bool)
-    → HasJoined t r s old new first → LastGiven old new HEADS
-given_joined t old new r s first j = given_added old j.seen new j.looks (index old.view.number 0) j.entry j.is
+pub given_joined : {C S O : Type 0} (t : CallTable C S O) (old new : Known) (r : C) (s : S)
+    → HasJoined t r s old new → LastGiven old new HEADS
+given_joined t old new r s j = given_added old j.seen new j.looks (index old.view.number 0) j.entry j.is

@@ -39,8 +39,6 @@ use Rattle.wait_class.specs.Tables.{head_in}
 use Rattle.wait_class.specs.Tables.{Advances, IsAt, IsStop, CallTable, Turned, falls, plan_post, plan_program, post_of, run_post, watch_in}
 use Rattle.wait_class.specs.Laws.{Calm, turn_post}
 use Rattle.wait_class.proofs.CalmSteps.{calm_on, calm_quiet, calm_step, calm_unlock}
-use Rattle.wait_class.proofs.Histories.{and_both}
-use Rattle.wait_model.specs.PointFacts.{holds}
 use Rattle.wait_class.proofs.Turns.{GoesOn, advance_by, drawn_post, free_head, free_ticket, held_head, moves_quiet, stands_plain, stops_by}
 
 -- the head is there
@@ -145,9 +143,6 @@ module _ {C S O : Type 0} (t : CallTable C S O) (law : IsLawfulTable t) where
 
   pub draw_locks : (r : C) (s : S) → t.doing s ≡ doing.Draw → t.doing (t.drawn_to s) ≡ doing.Lock
   draw_locks r s here = (draw_law r s here).locks
-
-  pub draw_stays : (r : C) (s : S) → t.doing s ≡ doing.Draw → (u : Turn S O) → t.stays (t.drawn_to s) u ≡ t.stays s u
-  draw_stays r s here = (draw_law r s here).stays
 
   pub draw_depth : (r : C) (s : S) → t.doing s ≡ doing.Draw → t.depth (t.drawn_to s) ≡ t.depth s
   draw_depth r s here = (draw_law r s here).depth
@@ -254,8 +249,7 @@ module _ {C S O : Type 0} (t : CallTable C S O) (law : IsLawfulTable t) where
       (other_from old r s (lock_law r.of s here) a w ne)
 
   pub locked_falls : (r : C) (s : S) → t.doing s ≡ doing.Lock → falls t s (turn.Locked s) ≡ true
-  locked_falls r s here =
-      let l = lock_law r s here in and_both (not (holds (t.point_of s))) _ (ap not l.free) l.waits
+  locked_falls r s here = ap not (lock_law r s here).free
 
   pub turn_out : (old mid : Known) (r : Run C) (s : S) → t.doing s ≡ doing.Lock → IsAt t old r s → (h w : ℕ)
       → h ≡ head_in t r.of s → mid ≡ added old (item.Serving h w) → w ≡ r.ticket → IsTurn mid h

@@ -1,6 +1,6 @@
 -- The own entry is queued where it is off, and else the state stored. Where no place is left the head is given back.
 use Rattle.std.proofs.Common.{◌∙◌, ap, sym, refl, subst}
-use Rattle.std.specs.Prelude.{ℕ, ◌≡◌, ◌&&◌, Bool, true, false, is_some, Option, Some, None, [], ◌∷◌, ◌++◌}
+use Rattle.std.specs.Prelude.{ℕ, ◌≡◌, Bool, true, false, is_some, Option, Some, None, [], ◌∷◌, ◌++◌}
 use Rattle.wait_model.specs.declared.queues.Form.{Form}
 use Rattle.wait_model.specs.declared.steps.Step.TheVariants as step
 use Rattle.wait_model.specs.declared.watches.Entry.{Entry}
@@ -25,7 +25,6 @@ use Rattle.wq_head.specs.Looks.{Looks}
 use Rattle.wq_head.proofs.CarriedHolds.{looks_carried}
 use Rattle.wq_head.proofs.OneMoreLook.{saw_looks, whole_of}
 use Rattle.wait_class.specs.Posts.{HasSeenOwn, IsStateFor, Post, Stands, own_of}
-use Rattle.wait_class.specs.Queueing.{is_none}
 use Rattle.wait_rule.proofs.KnownLaws.AfterSteps.{told_added}
 use Rattle.wait_class.specs.Findings.{with_entry, with_worn}
 use Rattle.wait_class.proofs.Ground.Standing.{state_looks, state_stands, state_up}
@@ -151,12 +150,11 @@ module _ {C S O : Type 0} (t : CallTable C S O) (law : IsLawfulTable t) where
         }
 
     -- it is queued
-    join_from : (own : HasSeenOwn old mid None) (new : Known) (first : Bool) → IsHolding new
-        → HasJoined t r.of s mid new first
-        → GoesOn t old new r.of (t.joined_at r.of s first) s (t.added_to r.of s adds.Joined)
-    join_from own new first held x =
+    join_from : (own : HasSeenOwn old mid None) (new : Known) → IsHolding new → HasJoined t r.of s mid new
+        → GoesOn t old new r.of (t.joined_at r.of s) s (t.added_to r.of s adds.Joined)
+    join_from own new held x =
         let u = t.added_to r.of s adds.Joined in
-        let q = t.joined_at r.of s first in
+        let q = t.joined_at r.of s in
         let number = own.carries.number in
         let same : index mid.view.number 0 ≡ i = ap (λ (n : ℕ). index n 0) number in
         let at : x.seen.at ≡ h = ap (λ (k : Known). k.at) x.looks.is ∙ (own.carries.at ∙ held_at) in
@@ -164,7 +162,7 @@ module _ {C S O : Type 0} (t : CallTable C S O) (law : IsLawfulTable t) where
         x.is ∙ ap (λ (n : ℕ). stored_with x.seen (step.Queue n x.entry)) same in
         let carried = looks_carried mid x.seen x.looks in
         let m = shown_stands t old mid r s l.opens a None own in
-        let head : (turn_post t q u).head ≡ p.head = (l.joins_leaves first).head ∙ sym held_head in
+        let head : (turn_post t q u).head ≡ p.head = l.joins_leaves.head ∙ sym held_head in
         record {
           goes = moves_going t r.of q s (with_entry None) Entry (λ me k e. step.Queue (index me 0) e)
               (MayJoin h form ((t.plan_of r.of).given (t.point_of s))) u l.joins old.view.number old x.seen new
@@ -181,8 +179,7 @@ module _ {C S O : Type 0} (t : CallTable C S O) (law : IsLawfulTable t) where
               })
               (subst (OnlyLooks (added x.seen (item.Made (step.Queue i x.entry)))) (sym is_new)
               (record { items = item.Member ∷ []; looks = (tt, tt); is = refl }))
-              (λ y did knew. l.joins_tells first y i x.entry did
-              (x.tells ∙ ap (λ (k : Known). t.asks_first r.of && is_none (shown_queue k)) (sym knew)));
+              (λ y did. l.joins_tells y i x.entry did);
           keeps = subst (λ (g : Bool). t.Keeps i (watch_in t r.of) (t.took s) g old new) l.joins.took
               (law.keeps.on i (watch_in t r.of) (t.took s) (t.took s) (t.took s) old mid new
               (law.keeps.own (watch_in t r.of) (t.took s) old mid None own)
@@ -196,17 +193,17 @@ module _ {C S O : Type 0} (t : CallTable C S O) (law : IsLawfulTable t) where
               told = ap (λ (v : Told). v.hold.head) (told_stored x.seen new (step.Queue i x.entry) is_new)
                   ∙ (carried.hold ∙ (m.told ∙ sym head));
               ticket = ap (λ (k : Known). k.book.ticket) is_new
-                  ∙ (carried.ticket ∙ (m.ticket ∙ (held_ticket ∙ sym (l.joins_leaves first).ticket)));
+                  ∙ (carried.ticket ∙ (m.ticket ∙ (held_ticket ∙ sym l.joins_leaves.ticket)));
               agreed = λ j here. held.agreed;
               state = subst (IsStateFor (turn_post t q u).stirs (turn_post t q u).state)
-                  (sym (ap (λ (k : Known). k.book.state) is_new ∙ carried.state)) (l.joins_state first mid.book.state m.state);
+                  (sym (ap (λ (k : Known). k.book.state) is_new ∙ carried.state)) (l.joins_state mid.book.state m.state);
               home = subst (λ (n : ℕ). IsHome (turn_post t q u).zone (turn_post t q u).watch
                   ((told_of new).bits.stored (index n 0)))
                   (sym (ap (λ (k : Known). k.view.number) is_new ∙ carried.number))
                   (subst (IsHome (turn_post t q u).zone (turn_post t q u).watch) (sym x.queued)
-                  (l.joins_home first x.entry x.home));
+                  (l.joins_home x.entry x.home));
             };
-            trail = l.joins_trail first old mid new (looked None own) x a.trail;
+            trail = l.joins_trail old mid new (looked None own) x a.trail;
           };
         }
 
@@ -255,7 +252,7 @@ module _ {C S O : Type 0} (t : CallTable C S O) (law : IsLawfulTable t) where
                 worn = ap (is_worn form) queue3 ∙ x.worn;
               })
               (back_looks t law mid3 new is)
-              (λ y did knew. law.worn_tells r.of w.place y (ap is_quiet did));
+              (λ y did. law.worn_tells r.of w.place y (ap is_quiet did));
           keeps = subst (λ (g : Bool). t.Keeps i (watch_in t r.of) (t.took s) g old new) l.wears.took
               (law.keeps.on i (watch_in t r.of) (t.took s) (t.took s) (t.took s) old mid3 new
               (law.keeps.on i (watch_in t r.of) (t.took s) (t.took s) (t.took s) old mid2 mid3
@@ -328,16 +325,16 @@ module _ {C S O : Type 0} (t : CallTable C S O) (law : IsLawfulTable t) where
 
   pub join_advances : (old mid new : Known) (r : Run C) (s : S) → t.doing s ≡ doing.Queue → IsAt t old r s
       → (o : Option Entry) → HasSeenOwn old mid o → (b : Bool) → b ≡ is_some o → b ≡ false → IsHolding new
-      → (first : Bool) → HasJoined t r.of s mid new first → (u : Turn S O) → u ≡ t.added_to r.of s adds.Joined
-      → (q : C) → q ≡ t.joined_at r.of s first → Turned t old new r (record r { of = q }) s u
-  join_advances old mid new r s here a (Some e) own b tells miss held first x u to q notes = absurd (cc)
-  join_advances old mid new r s here a None own b tells miss held first x u to q notes =
+      → HasJoined t r.of s mid new → (u : Turn S O) → u ≡ t.added_to r.of s adds.Joined
+      → (q : C) → q ≡ t.joined_at r.of s → Turned t old new r (record r { of = q }) s u
+  join_advances old mid new r s here a (Some e) own b tells miss held x u to q notes = absurd (cc)
+  join_advances old mid new r s here a None own b tells miss held x u to q notes =
       let l = queue_law r.of s here in
-      let joined = t.joined_at r.of s first in
+      let joined = t.joined_at r.of s in
       subst (λ (d : C). Turned t old new r (record r { of = d }) s u) (sym notes)
       (subst (λ (v : Turn S O). Turned t old new r (record r { of = joined }) s v) (sym to)
-      (advance_by t old new r (record r { of = joined }) s (t.added_to r.of s adds.Joined) (l.joins_same first)
-      (l.joins_fits first a.fits) l.joins.plain (join_from old mid r s l a own new first held x)))
+      (advance_by t old new r (record r { of = joined }) s (t.added_to r.of s adds.Joined) l.joins_same
+      (l.joins_fits a.fits) l.joins.plain (join_from old mid r s l a own new held x)))
 
   pub worn_advances : (old mid mid2 mid3 new : Known) (r : Run C) (s : S) → t.doing s ≡ doing.Queue → IsAt t old r s
       → (o : Option Entry) → HasSeenOwn old mid o → (b : Bool) → b ≡ is_some o → b ≡ false → (w : Worn)

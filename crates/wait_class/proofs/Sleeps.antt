@@ -37,8 +37,6 @@ use Rattle.wait_class.specs.Laws.{IsLawfulTable, LawOf, SleepLaw}
 use Rattle.wait_class.specs.Tables.{Advances, IsAsleepAt, IsAt, CallTable, SleptLast, Turned, Went, falls, plan_program, post_of, run_post, watch_in}
 use Rattle.wait_class.specs.Laws.{Unmoved}
 use Rattle.wait_class.proofs.CalmSteps.{calm_step}
-use Rattle.wait_class.proofs.Histories.{and_both}
-use Rattle.wait_model.specs.PointFacts.{holds}
 use Rattle.wait_class.proofs.Turns.{
   advances_none,
   any_for,
@@ -209,10 +207,7 @@ module _ {C S O : Type 0} (t : CallTable C S O) (law : IsLawfulTable t) where
 
   -- it goes on where no head is held
   pub again_falls : (r : C) (s : S) → t.doing s ≡ doing.Sleep → falls t s (turn.Again s) ≡ true
-  again_falls r s here =
-      let l = sleep_law r s here in
-      and_both (not (holds (t.point_of s)) || nat_lt (t.depth s) (t.depth s)) _
-      (ap (λ (b : Bool). not b || nat_lt (t.depth s) (t.depth s)) l.free) l.tries
+  again_falls r s here = ap (λ (b : Bool). not b || nat_lt (t.depth s) (t.depth s)) (sleep_law r s here).free
 
   pub up_falls : (r : C) (s : S) → t.doing s ≡ doing.Sleep → (n : S) → n ≡ t.slept_to r s
       → falls t s (turn.Again n) ≡ true
@@ -220,10 +215,7 @@ module _ {C S O : Type 0} (t : CallTable C S O) (law : IsLawfulTable t) where
 
   pub down_falls : (r : C) (s : S) → t.doing s ≡ doing.Sleep → (n : S) → n ≡ t.slept_to r s
       → falls t s (turn.Asleep n) ≡ true
-  down_falls r s here n to =
-      let l = sleep_law r s here in
-      ap (λ (m : S). falls t s (turn.Asleep m)) to
-      ∙ and_both (not (holds (t.point_of (t.slept_to r s)))) _ (ap not l.woken) l.sleeps
+  down_falls r s here n to = ap (λ (m : S). falls t s (turn.Asleep m)) to ∙ ap not (sleep_law r s here).woken
 
   -- asleep: by the book that it has then, and a history that is the same
   module _ (old new : Known) (r : Run C) (s : S) (a : IsAsleepAt t old r s) (looks : OnlyLooks old new) (xs : List Item)

@@ -92,7 +92,7 @@ module _ {C S O : Type 0} (t : CallTable C S O) (law : IsLawfulTable t) where
         goes = moves_going t r.of (t.noted r.of s v) s (with_value v) (Unit {0}) (λ me k x. e) (λ me k x. Unit {0}) u
             l.moves old.view.number old old new tt (only_none old) tt
             (subst (OnlyLooks (added old (item.Made e))) (sym is) (only_none (added old (item.Made e))))
-            (λ x did knew. l.tells x did);
+            (λ x did. l.tells x did);
         keeps = subst (λ (g : Bool). t.Keeps (index old.view.number 0) (watch_in t r.of) (t.took s) g old new)
             l.moves.took
             (law.keeps.load (index old.view.number 0) (watch_in t r.of) (stage_watch t r.of s) (t.took s) old new v is

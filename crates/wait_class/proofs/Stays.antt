@@ -1,6 +1,6 @@
 -- What stays of a task over a call that takes nothing; and its add at the front.
 use Rattle.std.proofs.Common.{◌∙◌, ap, sym, refl}
-use Rattle.std.specs.Prelude.{Bool, Err, IfErr, IfOk, None, Ok, Result, Some, false, ℕ, ◌&&◌, ◌≡◌}
+use Rattle.std.specs.Prelude.{Err, IfErr, IfOk, None, Ok, Result, Some, false, ℕ, ◌≡◌}
 use Rattle.wait_model.specs.declared.queues.Form.{Form}
 use Rattle.wait_model.specs.declared.queues.Form.TheVariants as forms
 use Rattle.wait_model.specs.declared.steps.Step.{Step}
@@ -41,7 +41,6 @@ use Rattle.wait_class.proofs.Ground.Keeping.{
 use Rattle.wait_class.specs.Frames.{KeepsAll}
 use Rattle.wait_class.specs.Posts.{KeepsBut}
 use Rattle.wait_class.specs.Laws.{AddsOwn, HasJoined, IsWornFor, KeepsLaws}
-use Rattle.wait_class.specs.Queueing.{is_none, untold}
 use Rattle.wait_class.specs.Tables.{CallTable, stage_watch, watch_in}
 
 -- excused of more meanwhile
@@ -81,13 +80,13 @@ wait_stays = stays_but (λ x. x)
 
 -- An add at the front, where the form of the call is that.
 module _ {C S O : Type 0} (t : CallTable C S O) (r : C) (s : S) (w : Watch) (k : Kind)
-    (unasked : t.asks_first r ≡ false) (front : (t.plan_of r).form ≡ forms.Front)
+    (front : (t.plan_of r).form ≡ forms.Front)
     (given : (p : ℕ) → front_entry w k p ≡ entry_for ((t.plan_of r).given (t.point_of s)) forms.Front p)
     (home : (p : ℕ) → IsHome waits (stage_watch t r s) (Some (front_entry w k p)))
     (keeps : (old new : Known) → KeepsAll (index old.view.number 0) (watch_in t r) (t.took s) (t.took s) old new
     → t.Keeps (index old.view.number 0) (watch_in t r) (t.took s) (t.took s) old new) where
   joins_front : (old new : Known) → HasAdded IsFrontPlace old new 0 (front_entry w k)
-      → HasJoined t r s old new false
+      → HasJoined t r s old new
   joins_front old new x = record {
     seen = x.seen;
     entry = front_entry w k x.place;
@@ -99,7 +98,6 @@ module _ {C S O : Type 0} (t : CallTable C S O) (r : C) (s : S) (w : Watch) (k :
         ∙ ap (λ (f : Form). entry_for ((t.plan_of r).given (t.point_of s)) f (place_for f (shown_queue x.seen)))
         (sym front));
     left = ap (λ (f : Form). is_worn f (shown_queue x.seen)) front ∙ form_left x.seen x.low forms.Front x.place x.sort;
-    tells = sym (ap (λ (b : Bool). b && is_none (shown_queue x.seen)) unasked);
     is = x.is;
     queued = x.queued;
     home = home x.place;
@@ -121,7 +119,7 @@ module _ {C S O : Type 0} (t : CallTable C S O) (r : C) (s : S) (w : Watch) (k :
   pub adds_front : (old new : Known) (o : Result (Unit {0}) Worn)
       → IfOk o (λ _. HasAdded IsFrontPlace old new 0 (front_entry w k)) → IfErr o (λ v. IsFrontWorn old new v)
       → IfErr o (λ v. WasWorn new.view.number new.view.items v.head v.place) → IsHolding new → new.at ≡ old.at
-      → AddsOwn t r s old new (untold o)
+      → AddsOwn t r s old new o
   adds_front old new (Ok u) queued worn noted held at = record {
     held = held;
     at = at;

@@ -1,6 +1,6 @@
 -- One turn of a call: by where its program goes, and how the task stands there; and parts one after another.
 use Rattle.std.proofs.Common.{◌∙◌, ap, append_assoc, sym, refl, subst, inl, inr}
-use Rattle.std.specs.Prelude.{ℕ, ◌≡◌, ◌||◌, ◌&&◌, not, nat_lt, Bool, true, false, if◌then◌else◌, Option, Some, None, List, [], ◌∷◌, ◌++◌}
+use Rattle.std.specs.Prelude.{ℕ, ◌≡◌, ◌||◌, not, nat_lt, Bool, true, false, if◌then◌else◌, Option, Some, None, List, [], ◌∷◌, ◌++◌}
 use Rattle.wait_model.specs.declared.points.Point.{Point}
 use Rattle.wait_model.specs.declared.points.Next.{Next}
 use Rattle.wait_model.specs.declared.points.Next.TheVariants as next
@@ -155,7 +155,7 @@ module _ {C S O : Type 0} (t : CallTable C S O) where
   pub moves_going : (r q : C) (s : S) (seen : Seen) (A : Type 0) (made : ℕ → Known → A → Step)
       (Ok : ℕ → Known → A → Type 0) (u : Turn S O) → Moves t r s seen A made Ok u → (me : ℕ) (old knew new : Known)
       (a : A) → OnlyLooks old knew → Ok me knew a → OnlyLooks (after_step_or_look (by_step (made me knew a)) knew) new
-      → ((x : Transition) → x.did ≡ by_step (made me knew a) → x.knew ≡ knew → t.Tells r q (x ∷ []))
+      → ((x : Transition) → x.did ≡ by_step (made me knew a) → t.Tells r q (x ∷ []))
       → Passage me old new r q (next.Go (t.point_of s)) (next_in t u)
   moves_going r q s seen A made Ok u m me old knew new a before ok behind tells =
       let f : Program = plan_program me 0 (t.plan_of r) in
@@ -166,7 +166,7 @@ module _ {C S O : Type 0} (t : CallTable C S O) where
           goes = subst (λ (n : Next). Goes f old (next.Go (t.point_of s)) (x ∷ []) new n) (m.goes me)
               (record { looks = before; is = m.is me knew a ok; finds = m.finds me knew a ok }, (behind, refl));
         };
-        tells = tells x refl refl;
+        tells = tells x refl;
         made = made_between (made me knew a) old knew new before behind;
       }
 
@@ -178,7 +178,7 @@ module _ {C S O : Type 0} (t : CallTable C S O) where
       → Passage me old new r r (next.Go (t.point_of s)) (next_in t u)
   moves_quiet law r s seen A made Ok u m me old knew new a quiet before ok behind =
       moves_going r r s seen A made Ok u m me old knew new a before ok behind
-      (λ x did is. law.tells.quiet r x (ap is_quiet did ∙ quiet))
+      (λ x did. law.tells.quiet r x (ap is_quiet did ∙ quiet))
 
   -- parts one after another
   module _ (law : IsLawfulTable t) where
@@ -230,15 +230,11 @@ module _ {C S O : Type 0} (t : CallTable C S O) where
     }
 
   -- a draw, and then a turn
-  pub falls_same : (s n : S) → t.depth n ≡ t.depth s → ((u : Turn S O) → t.stays n u ≡ t.stays s u) → (u : Turn S O)
-      → falls t n u ≡ true → falls t s u ≡ true
-  falls_same s n is stays (turn.Again m) f =
-      (λ i. (not (holds (t.point_of m)) || nat_lt (t.depth m) (sym is i)) && sym (stays (turn.Again m)) i) ∙ f
-  falls_same s n is stays (turn.Asleep m) f =
-      (λ i. not (holds (t.point_of m)) && sym (stays (turn.Asleep m)) i) ∙ f
-  falls_same s n is stays (turn.Locked m) f =
-      (λ i. not (holds (t.point_of m)) && sym (stays (turn.Locked m)) i) ∙ f
-  falls_same s n is stays (turn.Done o) f = sym (stays (turn.Done o)) ∙ f
+  pub falls_same : (s n : S) → t.depth n ≡ t.depth s → (u : Turn S O) → falls t n u ≡ true → falls t s u ≡ true
+  falls_same s n is (turn.Again m) f = (λ i. not (holds (t.point_of m)) || nat_lt (t.depth m) (sym is i)) ∙ f
+  falls_same s n is (turn.Asleep m) f = f
+  falls_same s n is (turn.Locked m) f = f
+  falls_same s n is (turn.Done o) f = f
 
   -- a turn after which it goes on there
   pub again : (old new : Known) (r q : Run C) (s n : S) → Advances t old new r q s (turn.Locked n)

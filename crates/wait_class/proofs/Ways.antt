@@ -126,7 +126,7 @@ module _ {C S O : Type 0} (t : CallTable C S O) (r : C) (s : S) (fresh : t.drawn
   }
 
   pub sleep_by : (n : S) → IsFreeStage t s → IsFreeStage t n → t.asleep_at n ≡ true
-      → t.stays s (turn.Again s) ≡ true → t.stays s (turn.Asleep n) ≡ true → t.drawn n ≡ false → t.took s ≡ t.took n
+      → t.drawn n ≡ false → t.took s ≡ t.took n
       → falls t s (turn.Again n) ≡ true → HomeGoes t r s r (turn.Again n)
       → ((w me : ℕ) → ((t.plan_of r).makes me (t.point_of s) (with_own (task_of w))).next ≡ next_in t (turn.Again n))
       → ((w me : ℕ) (k : Known) → IsMadeFor k (Some (index me 0)) ((t.plan_of r).given (t.point_of s))
@@ -135,13 +135,11 @@ module _ {C S O : Type 0} (t : CallTable C S O) (r : C) (s : S) (fresh : t.drawn
       (with_own (task_of w)))
       → ((old new : Known) (w : ℕ) → Calm (step.Sleep w ∷ []) old new → t.Trail old r s → t.Trail new r n)
       → SleepLaw t r s n
-  sleep_by n free woken place tries sleeps plain took falls home goes is finds trail = record {
+  sleep_by n free woken place plain took falls home goes is finds trail = record {
     free = free;
     fresh = fresh;
     woken = woken;
     place = place;
-    tries = tries;
-    sleeps = sleeps;
     moves = λ w. record {
       plain = plain;
       falls = falls;

@@ -174,14 +174,12 @@ framed f = record {
   plan_of = λ r. f.plan_of r.wait;
   Fits = λ r. f.Fits r.wait;
   worn_at = λ r p. record { wait = f.worn_at r.wait p };
-  asks_first = λ r. false;
-  joined_at = λ r s first. r;
+  joined_at = λ r s. r;
   point_of = point_at f;
   doing = doing_at f;
   drawn = is_turn;
   took = took_at f;
   depth = depth_at;
-  stays = λ s u. true;
   drawn_to = drawn_behind;
   next_of = next_behind f;
   noted = noted_at f;

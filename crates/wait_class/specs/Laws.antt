@@ -1,6 +1,6 @@
 -- For proofs alone.
 -- What a table has to keep, by what is done at each of its stages.
-use Rattle.std.specs.Prelude.{ℕ, ◌≡◌, ◌≤◌, ◌<◌, ◌⊎◌, ◌||◌, ◌&&◌, Bool, true, false, is_some, Option, Some, None, Result, Ok, Err, List, [], ◌∷◌, ◌++◌}
+use Rattle.std.specs.Prelude.{ℕ, ◌≡◌, ◌≤◌, ◌<◌, ◌⊎◌, ◌||◌, Bool, true, false, is_some, Option, Some, None, Result, Ok, Err, List, [], ◌∷◌, ◌++◌}
 use Rattle.wait_model.specs.declared.layout.TheConstants.{HEADS}
 use Rattle.wait_model.specs.declared.points.Seen.{Seen}
 use Rattle.wait_model.specs.declared.steps.Step.{Step}
@@ -30,7 +30,6 @@ use Rattle.wait_rule.specs.declared.journal.Item.TheVariants as item
 use Rattle.wq_head.specs.Holds.{IsHolding}
 use Rattle.wq_head.specs.Looks.{Looks}
 use Rattle.wq_head.specs.declared.adds.Worn.{Worn}
-use Rattle.wait_class.specs.Queueing.{is_none}
 use Rattle.wait_class.specs.Posts.{HasSeenOwn, IsStateFor, Post, zone_at}
 use Rattle.wait_class.specs.Posts.{own_of}
 use Rattle.wait_class.specs.Findings.{nothing, with_entry, with_own, with_value, with_worn}
@@ -177,14 +176,12 @@ pub record DrawLaw {C S O : Type 0} (t : CallTable C S O) (r : C) (s : S) : Type
   pub same : t.point_of (t.drawn_to s) ≡ t.point_of s
   pub took : t.took (t.drawn_to s) ≡ t.took s
   pub depth : t.depth (t.drawn_to s) ≡ t.depth s
-  pub stays : (u : Turn S O) → t.stays (t.drawn_to s) u ≡ t.stays s u
   pub trail : (k : Known) → t.Trail k r s → t.Trail k r (t.drawn_to s)
 
 pub record LockLaw {C S O : Type 0} (t : CallTable C S O) (r : C) (s : S) : Type 0 where
   pub free : IsFreeStage t s
   pub head : (t.plan_of r).head (t.point_of s) ≡ head_in t r s
   pub drawn : t.drawn s ≡ true
-  pub waits : t.stays s (turn.Locked s) ≡ true
   pub moves : Moves t r s nothing ℕ (λ me k x. step.Lock (head_in t r s) (walk_of_hold (head_in t r s) None) x)
       (λ me k x. Unit {0}) (t.next_of r s)
   pub leaves : LeavesHead t r s (t.next_of r s) (Some (head_in t r s)) (taken (head_in t r s))
@@ -235,8 +232,6 @@ pub record SleepLaw {C S O : Type 0} (t : CallTable C S O) (r : C) (s n : S) : T
   pub fresh : t.drawn s ≡ false
   pub woken : IsFreeStage t n
   pub place : t.asleep_at n ≡ true
-  pub tries : t.stays s (turn.Again s) ≡ true
-  pub sleeps : t.stays s (turn.Asleep n) ≡ true
   pub moves : (w : ℕ) → Moves t r s (with_own (task_of w)) (Unit {0}) (λ me k x. step.Sleep w) (λ me k x. Unit {0})
       (turn.Again n)
   pub home : HomeStays t r s (turn.Again n)
@@ -310,9 +305,8 @@ pub record HeedLaw {C S O : Type 0} (t : CallTable C S O) (r : C) (s : S) : Type
       → Calm (step.Saw (index old.view.number 0) v ∷ step.Look w ∷ []) old new → t.Trail old r s
       → TurnTrail t new r (t.heeded_to r s hit)
 
--- The own entry, which the hold had seen off, was queued at the place of its form. Where the call tells it, `first` is
--- whether the hold showed no member before.
-pub record HasJoined {C S O : Type 0} (t : CallTable C S O) (r : C) (s : S) (old new : Known) (first : Bool) : Type 0 where
+-- The own entry, which the hold had seen off, was queued at the place of its form.
+pub record HasJoined {C S O : Type 0} (t : CallTable C S O) (r : C) (s : S) (old new : Known) : Type 0 where
   pub seen : Known
   pub entry : Entry
   pub looks : Looks old seen
@@ -321,7 +315,6 @@ pub record HasJoined {C S O : Type 0} (t : CallTable C S O) (r : C) (s : S) (old
   pub placed : entry ≡ entry_for ((t.plan_of r).given (t.point_of s)) ((t.plan_of r).form)
       (place_for ((t.plan_of r).form) (shown_queue seen))
   pub left : is_worn ((t.plan_of r).form) (shown_queue seen) ≡ false
-  pub tells : first ≡ (t.asks_first r && is_none (shown_queue seen))
   pub is : new ≡ stored_with seen (step.Queue (index old.view.number 0) entry)
   pub queued : (told_of new).bits.stored (index old.view.number 0) ≡ Some entry
   pub home : IsHome waits (stage_watch t r s) (Some entry)
@@ -343,12 +336,12 @@ pub record MayAdd {C S O : Type 0} (t : CallTable C S O) (r : C) (s : S) (k : Kn
   pub out : (told_of k).bits.stored (index k.view.number 0) ≡ None
   pub trail : (old : Known) × HasSeenOwn old k None × t.Trail old r s
 
-abbrev pub AddsBy : {C S O : Type 0} → CallTable C S O → C → S → Known → Known → Result Bool Worn → Type 0
-AddsBy t r s old new (Ok first) = HasJoined t r s old new first
+abbrev pub AddsBy : {C S O : Type 0} → CallTable C S O → C → S → Known → Known → Result (Unit {0}) Worn → Type 0
+AddsBy t r s old new (Ok added) = HasJoined t r s old new
 AddsBy t r s old new (Err w) = IsWornFor t r old new w
 
 pub record AddsOwn {C S O : Type 0} (t : CallTable C S O) (r : C) (s : S) (old new : Known)
-    (o : Result Bool Worn) : Type 0 where
+    (o : Result (Unit {0}) Worn) : Type 0 where
   pub held : IsHolding new
   pub at : new.at ≡ old.at
   pub by : AddsBy t r s old new o
@@ -386,18 +379,18 @@ pub record QueueLaw {C S O : Type 0} (t : CallTable C S O) (r : C) (s : S) : Typ
   pub joins : Moves t r s (with_entry None) Entry (λ me k e. step.Queue (index me 0) e)
       (MayJoin (head_in t r s) ((t.plan_of r).form) ((t.plan_of r).given (t.point_of s)))
       (t.added_to r s adds.Joined)
-  pub joins_same : (first : Bool) → t.plan_of (t.joined_at r s first) ≡ t.plan_of r
-  pub joins_fits : (first : Bool) → t.Fits r → t.Fits (t.joined_at r s first)
-  pub joins_leaves : (first : Bool) → LeavesHead t (t.joined_at r s first) s (t.added_to r s adds.Joined)
-      (Some (head_in t r s)) (taken (head_in t r s))
-  pub joins_state : (first : Bool) → StateGoes t r s (t.joined_at r s first) (t.added_to r s adds.Joined)
-  pub joins_home : (first : Bool) (e : Entry) → IsHome waits (stage_watch t r s) (Some e)
-      → IsHome (turn_post t (t.joined_at r s first) (t.added_to r s adds.Joined)).zone
-      (turn_post t (t.joined_at r s first) (t.added_to r s adds.Joined)).watch (Some e)
-  pub joins_tells : (first : Bool) (x : Transition) (i : ℕ) (e : Entry) → x.did ≡ by_step (step.Queue i e)
-      → first ≡ (t.asks_first r && is_none (shown_queue x.knew)) → t.Tells r (t.joined_at r s first) (x ∷ [])
-  pub joins_trail : (first : Bool) (old mid new : Known) → OnlyLooks old mid → HasJoined t r s mid new first
-      → t.Trail old r s → TurnTrail t new (t.joined_at r s first) (t.added_to r s adds.Joined)
+  pub joins_same : t.plan_of (t.joined_at r s) ≡ t.plan_of r
+  pub joins_fits : t.Fits r → t.Fits (t.joined_at r s)
+  pub joins_leaves : LeavesHead t (t.joined_at r s) s (t.added_to r s adds.Joined) (Some (head_in t r s))
+      (taken (head_in t r s))
+  pub joins_state : StateGoes t r s (t.joined_at r s) (t.added_to r s adds.Joined)
+  pub joins_home : (e : Entry) → IsHome waits (stage_watch t r s) (Some e)
+      → IsHome (turn_post t (t.joined_at r s) (t.added_to r s adds.Joined)).zone
+      (turn_post t (t.joined_at r s) (t.added_to r s adds.Joined)).watch (Some e)
+  pub joins_tells : (x : Transition) (i : ℕ) (e : Entry) → x.did ≡ by_step (step.Queue i e)
+      → t.Tells r (t.joined_at r s) (x ∷ [])
+  pub joins_trail : (old mid new : Known) → OnlyLooks old mid → HasJoined t r s mid new → t.Trail old r s
+      → TurnTrail t new (t.joined_at r s) (t.added_to r s adds.Joined)
   pub wears : Moves t r s (with_worn true) (Unit {0}) (λ me k x. step.Unlock k.at false)
       (λ me k x. IsWornOut (head_in t r s) ((t.plan_of r).form) me k) (t.added_to r s adds.Worn)
   pub wears_leaves : (p : ℕ) → LeavesHead t (t.worn_at r p) s (t.added_to r s adds.Worn) None no_ticket

@@ -1,6 +1,6 @@
 -- To be believed.
 -- The add of an entry in a hold, by its form.
-use Rattle.std.specs.Prelude.{ℕ, ◌≡◌, ◌&&◌, not, Bool, true, false, if◌then◌else◌, List, [], ◌∷◌, Result, Ok, Err}
+use Rattle.std.specs.Prelude.{ℕ, ◌≡◌, ◌&&◌, not, Bool, true, false, if◌then◌else◌, List, [], ◌∷◌}
 use Rattle.wait_model.specs.declared.queues.Form.{Form}
 use Rattle.wait_model.specs.declared.queues.Form.TheVariants as forms
 use Rattle.wait_model.specs.declared.queues.Member.{Member}
@@ -46,11 +46,6 @@ IsForBy forms.Priority w k = IsForPlain w k
 -- the form of a wait's entry
 abbrev pub wait_form : How → Form
 wait_form how = if how.exclusive then forms.Tail else forms.Front
-
--- an add that does not tell whether the head had a member
-abbrev pub untold : Result (Unit {0}) Worn → Result Bool Worn
-untold (Ok added) = Ok false
-untold (Err worn) = Err worn
 
 -- whether a queue has no member
 abbrev pub is_none : List Member → Bool

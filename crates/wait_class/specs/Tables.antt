@@ -5,7 +5,6 @@ use Rattle.std.specs.Prelude.{
   ◌≡◌,
   ◌⊎◌,
   ◌||◌,
-  ◌&&◌,
   not,
   nat_lt,
   Bool,
@@ -103,25 +102,22 @@ plan_post out plan p = record {
 }
 
 -- The table of a class of calls, with its stages and outcomes: the call that a run makes, whether its numbers are in
--- their ranges, and the run that has noted a place; whether its add tells that the head had no member, and the run that
--- has noted so; of each stage the point of its program, what is done at it, whether the ticket of its lock is drawn,
--- whether the call has taken what it waits for, and how many events are left at most until no head is held; which part
--- of the call its turns stay in; the stage behind a draw; where a turn goes on by what it found, after a sleep (and
--- whether that is such a place), and by what came of an add; which state a stage stores; how the task stands at the
--- end; what the run tells of the transitions that it made; what a stage and an outcome say of its last steps; and what
--- stays of it over a part of a call.
+-- their ranges, and the run that has noted a place, and that it has queued its entry; of each stage the point of its
+-- program, what is done at it, whether the ticket of its lock is drawn, whether the call has taken what it waits for,
+-- and how many events are left at most until no head is held; the stage behind a draw; where a turn goes on by what it
+-- found, after a sleep (and whether that is such a place), and by what came of an add; which state a stage stores; how
+-- the task stands at the end; what the run tells of the transitions that it made; what a stage and an outcome say of its
+-- last steps; and what stays of it over a part of a call.
 pub record CallTable (C S O : Type 0) : Type 1 where
   pub plan_of : C → Plan
   pub Fits : C → Type 0
   pub worn_at : C → ℕ → C
-  pub asks_first : C → Bool
-  pub joined_at : C → S → Bool → C
+  pub joined_at : C → S → C
   pub point_of : S → Point
   pub doing : S → Doing
   pub drawn : S → Bool
   pub took : S → Bool
   pub depth : S → ℕ
-  pub stays : S → Turn S O → Bool
   pub drawn_to : S → S
   pub next_of : C → S → Turn S O
   pub noted : C → S → ℕ → C
@@ -251,15 +247,12 @@ pub record Turned {C S O : Type 0} (t : CallTable C S O) (old new : Known) (r q 
 abbrev pub LooksAwake : Known → Known → Bool → Type 0
 LooksAwake old new awake = (found : ℕ) × (new ≡ added old (item.Awake found)) × (awake ≡ (task_of found).runnable)
 
--- a turn goes on where no head is held, or with fewer events left, and as its class says of the parts of a call
-abbrev pub goes_down : {C S O : Type 0} → CallTable C S O → S → Turn S O → Bool
-goes_down t s (turn.Again n) = not (holds (t.point_of n)) || nat_lt (t.depth n) (t.depth s)
-goes_down t s (turn.Asleep n) = not (holds (t.point_of n))
-goes_down t s (turn.Locked n) = not (holds (t.point_of n))
-goes_down t s (turn.Done o) = true
-
+-- a turn goes on where no head is held, or with fewer events left
 abbrev pub falls : {C S O : Type 0} → CallTable C S O → S → Turn S O → Bool
-falls t s u = goes_down t s u && t.stays s u
+falls t s (turn.Again n) = not (holds (t.point_of n)) || nat_lt (t.depth n) (t.depth s)
+falls t s (turn.Asleep n) = not (holds (t.point_of n))
+falls t s (turn.Locked n) = not (holds (t.point_of n))
+falls t s (turn.Done o) = true
 
 -- it stopped where no head is held
 abbrev pub IsStop : {C S O : Type 0} → CallTable C S O → Turn S O → Type 0

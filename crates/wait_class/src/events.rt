@@ -61,7 +61,6 @@ fn draw_event<C: Machine>(
     ensures head { result ≡ head_in C.table run.new.of (C.table.drawn_to stage) }
     ensures locks { C.table.doing (C.table.drawn_to stage) ≡ doing.Lock }
     ensures depth { C.table.depth (C.table.drawn_to stage) ≡ C.table.depth stage }
-    ensures stays { (u : _) → C.table.stays (C.table.drawn_to stage) u ≡ C.table.stays stage u }
 {
     C::lawful();
     let head = head_of(run.of.watch(stage));
@@ -289,9 +288,9 @@ fn queue_event<C: Machine>(
         return run.of.added_to(stage, Added::Stayed);
     }
     match run.of.add(domain, task, stage) {
-        Ok(first) => {
+        Ok(()) => {
             let next = run.of.added_to(stage, Added::Joined);
-            run.of.note_joined(stage, first);
+            run.of.note_joined(stage);
             next
         }
         Err(worn) => {

@@ -64,8 +64,8 @@ pub trait Waiting: Copy {
     fn note_worn(&mut self, place: u64)
         ensures { self.new ≡ frame.worn_at self.old place };
 
-    /// Queues the own entry, which is off, and answers false.
-    fn add(call: Framed<Self>, domain: &Domain, task: &mut Task) -> Result<bool, Worn>
+    /// Queues the own entry, which is off.
+    fn add(call: Framed<Self>, domain: &Domain, task: &mut Task) -> Result<(), Worn>
         requires of { task.old.domain ≡ domain.now }
         requires up { IsUp task.old }
         requires may { MayAdd (framed frame) call stage.PrepareQueue task.old }
@@ -261,15 +261,15 @@ impl<F: Frame> Machine for Framed<F> {
     }
 
     #[inline(always)]
-    fn note_joined(&mut self, stage: Stage<F::Test>, first: bool) {
-        let _ = (*self, stage, first);
+    fn note_joined(&mut self, stage: Stage<F::Test>) {
+        let _ = (*self, stage);
     }
 
     #[inline(always)]
-    fn add(self, domain: &Domain, task: &mut Task, stage: Stage<F::Test>) -> Result<bool, Worn> {
+    fn add(self, domain: &Domain, task: &mut Task, stage: Stage<F::Test>) -> Result<(), Worn> {
         match stage {
             Stage::PrepareQueue => F::add(self, domain, task),
-            _ => Ok(false),
+            _ => Ok(()),
         }
     }
 

@@ -79,13 +79,13 @@ pub trait Machine: Copy {
     fn note_worn(&mut self, place: u64)
         ensures { self.new ≡ table.worn_at self.old place };
 
-    /// It notes that it has queued its entry, and whether that is the first of its head.
-    fn note_joined(&mut self, stage: Self::Stage, first: bool)
-        ensures { self.new ≡ table.joined_at self.old stage first };
+    /// It notes that it has queued its entry.
+    fn note_joined(&mut self, stage: Self::Stage)
+        ensures { self.new ≡ table.joined_at self.old stage };
 
     /// Queues the own entry, which is off, at a stage at which entries are queued; elsewhere what it answers says
-    /// nothing. Where the call tells it, true: the head had no member.
-    fn add(self, domain: &Domain, task: &mut Task, stage: Self::Stage) -> Result<bool, Worn>
+    /// nothing.
+    fn add(self, domain: &Domain, task: &mut Task, stage: Self::Stage) -> Result<(), Worn>
         requires of { task.old.domain ≡ domain.now }
         requires up { IsUp task.old }
         requires may { MayAdd table self stage task.old }

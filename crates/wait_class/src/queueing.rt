@@ -13,7 +13,7 @@ ghost use Rattle.wq_head.specs.Adds.{HasAdded};
 ghost use Rattle.wq_head.specs.Holds.{IsHolding};
 ghost use Rattle.wq_head.specs.Looks.{Looks};
 ghost use Rattle.wait_class.specs.Posts.{HasSeenOwn};
-ghost use Rattle.wait_class.specs.Queueing.{IsForBy, IsFormPlace, IsFormWorn, TellsFirst, form_entry, untold, wait_form};
+ghost use Rattle.wait_class.specs.Queueing.{IsForBy, IsFormPlace, IsFormWorn, TellsFirst, form_entry, wait_form};
 
 use wait_model::queues::Form;
 use wait_model::tasks::How;
@@ -78,17 +78,6 @@ pub fn add_by(
         Form::Front => add_front(domain, task, 0, kind, watch),
         Form::Tail => add_tail(domain, task, 0, kind, has_flags(kind), watch),
         Form::Priority => add_priority(domain, task, 0, kind, watch),
-    }
-}
-
-/// An add of a call that does not tell whether the head had a member.
-#[inline(always)]
-pub fn untold(added: Result<(), Worn>) -> Result<bool, Worn>
-    ensures { result ≡ untold added }
-{
-    match added {
-        Ok(()) => Ok(false),
-        Err(worn) => Err(worn),
     }
 }
 

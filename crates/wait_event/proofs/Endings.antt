@@ -1,17 +1,11 @@
 -- Whole waits: how they begin, and what they say at their end.
 use Rattle.std.proofs.Common.{◌∙◌, ap, sym, refl, subst}
-use Rattle.std.specs.Prelude.{ℕ, ◌≡◌, ◌||◌, ◌&&◌, not, Bool, true, false, None, [], ◌∷◌, ◌++◌}
-use Rattle.wait_model.specs.declared.calls.Call.{Call}
+use Rattle.std.specs.Prelude.{ℕ, ◌≡◌, ◌||◌, ◌&&◌, not, Bool, false, None, [], ◌∷◌, ◌++◌}
 use Rattle.wait_model.specs.declared.tasks.How.{How}
-use Rattle.wait_model.specs.declared.points.Point.{Point}
-use Rattle.wait_model.specs.declared.points.Point.TheVariants as at
-use Rattle.wait_model.specs.declared.points.PreparePoint.TheVariants as preparing
 use Rattle.wait_model.specs.declared.points.Next.TheVariants as next
-use Rattle.wait_model.specs.declared.points.Planned.{Planned}
 use Rattle.wait_model.specs.declared.steps.Step.TheVariants as step
 use Rattle.wait_model.specs.declared.watches.Watch.{Watch}
 use Rattle.wait_model.specs.declared.watches.Watch.TheVariants as watch
-use Rattle.wait_model.specs.Programs.{program}
 use Rattle.wait_model.specs.Tasks.{pending, state_mask, task_of}
 use Rattle.wait_model.specs.Watches.{head_of}
 use Rattle.wait_rule.specs.Ends.{WasWorn}
@@ -21,7 +15,7 @@ use Rattle.wait_rule.specs.Queues.{IsIdle, IsTold, index}
 use Rattle.wait_rule.specs.Stays.{Carries}
 use Rattle.wait_rule.specs.Transitions.{Goes, Program, call_program}
 use Rattle.wait_rule.proofs.KnownLaws.StayingParts.{owes_also, owes_out}
-use Rattle.wait_event.specs.WaitPlans.{asked, call_for, wait_program}
+use Rattle.wait_event.specs.WaitPlans.{call_for}
 use Rattle.wait_event.specs.Waits.{IsFresh, IsRunning, IsUnset, SameCall, answer_in, left_by, point_of, queues, wait_table}
 use Rattle.wait_class.specs.Posts.{EndsWith, own_of}
 use Rattle.wait_event.specs.Ends.{EndsWait, FoundNoPlace, HasWaited, WasSignalled, end_in, wait_change}
@@ -41,16 +35,6 @@ use Rattle.wait_event.proofs.Plans.{program_is}
 pub begins_at : (k : Known) (r : Run WaitCall) → IsRunning r.of → IsTold k → IsUp k → IsIdle k → IsOut k
     → IsAt wait_table k r stage.First
 begins_at k r runs = begins wait_table k r stage.First runs refl refl refl refl tt
-
--- the program of a wait that asks for signals is that of the call
-asked_true : (p : Point) (e : Planned) → asked true p e ≡ e
-asked_true (at.Prepare preparing.Lock) e = refl
-asked_true p e = refl
-
-pub asks_program : (me : ℕ) (call : Call) → wait_program true me call ≡ call_program me 0 call
-asks_program me call i = record (call_program me 0 call) {
-  plan = λ p seen. asked_true p (program me call p seen) i;
-}
 
 module _ (old new : Known) (r q : Run WaitCall) (s : WaitStage) (o : WaitOutcome)
     (a : Advances wait_table old new r q s (turn.Done o)) where
@@ -105,7 +89,7 @@ ends_clean old new r q s o a clean told =
     }
 
 -- what it says at its end
-module _ (old new : Known) (r q : Run WaitCall) (w : Watch) (how : How) (fresh : IsFresh r.of w how true)
+module _ (old new : Known) (r q : Run WaitCall) (w : Watch) (how : How) (fresh : IsFresh r.of w how)
     (runs : IsRunning r.of) where
   abbrev pub begun : (s : WaitStage) (o : WaitOutcome) (a : Advances wait_table old new r q s (turn.Done o))
       → HasWaited old new w how (next.Go (point_of s)) (next.Ends (answer_in o)) (queues a.went.runs.transitions)
@@ -114,9 +98,8 @@ module _ (old new : Known) (r q : Run WaitCall) (w : Watch) (how : How) (fresh :
       transitions = a.went.runs.transitions;
       goes = subst (λ (f : Program). Goes f old (next.Go (point_of s)) a.went.runs.transitions new
           (next.Ends (answer_in o)))
-          (program_is r.of.asks old.view.number r.of.watch r.of.how runs.suits
-          ∙ (λ i. wait_program (fresh.asks_is i) old.view.number (call_for (fresh.watch_is i) (fresh.how_is i)))
-          ∙ asks_program old.view.number (call_for w how)) a.went.runs.goes;
+          (program_is old.view.number r.of.watch r.of.how runs.suits
+          ∙ (λ i. call_program old.view.number 0 (call_for (fresh.watch_is i) (fresh.how_is i)))) a.went.runs.goes;
     };
     tells = refl;
   }
@@ -140,7 +123,7 @@ module _ (old new : Known) (r q : Run WaitCall) (w : Watch) (how : How) (fresh :
         look = t.0.look;
         entry = t.0.entry;
         showed = ap (λ (h : How). pending (state_mask h.state) (task_of t.0.look)) (sym (how_is a.went.tells.same))
-            ∙ t.0.showed.pends;
+            ∙ t.0.showed;
         ends = subst (λ (u : Watch). EndsWith new (left_by (own_of new) (head_of u) t.0.look t.0.entry
             ++ step.Load u q.of.seen ∷ [])) (same_watch a.went.tells.same) t.0.ends;
         unset = subst (λ (u : Watch). IsUnset u q.of.seen) (same_watch a.went.tells.same) t.1;
@@ -161,7 +144,7 @@ module _ (old new : Known) (r q : Run WaitCall) (w : Watch) (how : How) (fresh :
       }
 
 -- for a plain condition
-module _ (old new : Known) (r q : Run WaitCall) (c : ℕ) (how : How) (fresh : IsFresh r.of (watch.Plain c) how true)
+module _ (old new : Known) (r q : Run WaitCall) (c : ℕ) (how : How) (fresh : IsFresh r.of (watch.Plain c) how)
     (runs : IsRunning r.of) where
   pub ends_wait : (o : WaitOutcome) → Advances wait_table old new r q stage.First (turn.Done o)
       → EndsWait old new c how (end_in q.of o)

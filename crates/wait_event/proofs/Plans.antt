@@ -1,6 +1,6 @@
 -- The program of a wait point by point is that of its call in the model.
-use Rattle.std.proofs.Common.{ap, refl, subst}
-use Rattle.std.specs.Prelude.{ℕ, ◌≡◌, Bool, false, if◌then◌else◌, is_some, Some}
+use Rattle.std.proofs.Common.{◌∙◌, ap, refl, subst}
+use Rattle.std.specs.Prelude.{ℕ, ◌≡◌, Bool, true, false, if◌then◌else◌, is_some, Some}
 use Rattle.wait_model.specs.declared.calls.Event.TheVariants as event
 use Rattle.wait_model.specs.declared.points.FinishPoint.TheVariants as finishing
 use Rattle.wait_model.specs.declared.points.LeavePoint.TheVariants as leaving
@@ -22,13 +22,18 @@ use Rattle.wait_model.specs.Tasks.{state_mask}
 use Rattle.wait_model.specs.Watches.{head_of, kind_for}
 use Rattle.wait_rule.specs.Known.{Known}
 use Rattle.wait_rule.specs.Queues.{index}
-use Rattle.wait_rule.specs.Transitions.{Goes, Program}
+use Rattle.wait_rule.specs.Transitions.{Goes, Program, call_program}
 use Rattle.wait_class.specs.Posts.{Runs}
 use Rattle.wait_class.specs.Queueing.{wait_form}
 use Rattle.wait_class.specs.Tables.{plan_program}
-use Rattle.wait_event.specs.WaitPlans.{IsWaitFor, asked, call_for, gives_back, kind_in, plan, wait_plan, wait_program}
+use Rattle.wait_event.specs.WaitPlans.{IsWaitFor, asked, call_for, gives_back, kind_in, plan, wait_plan}
 use Rattle.wait_event.specs.Waits.{IsRunning}
 use Rattle.wait_event.specs.declared.waits.WaitCall.{WaitCall}
+
+-- a wait asks for signals
+asked_true : (p : Point) (e : Planned) → asked true p e ≡ e
+asked_true (at.Prepare preparing.Lock) e = refl
+asked_true p e = refl
 
 -- for a plain condition
 module _ (me c : ℕ) (how : How) where
@@ -55,10 +60,9 @@ module _ (me c : ℕ) (how : How) where
   } ≡ given_at (call_for (watch.Plain c) how) p
   plain_given p = refl
 
-  pub plain_program : (asks : Bool) → plan_program me 0 (wait_plan asks (watch.Plain c) how)
-      ≡ wait_program asks me (call_for (watch.Plain c) how)
-  plain_program asks i = record {
-    plan = λ p seen. asked asks p (plain_plan p seen i);
+  pub plain_program : plan_program me 0 (wait_plan (watch.Plain c) how) ≡ call_program me 0 (call_for (watch.Plain c) how)
+  plain_program i = record {
+    plan = λ p seen. (ap (asked true p) (plain_plan p seen) ∙ asked_true p (program me (call_for (watch.Plain c) how) p seen)) i;
     given = λ p. plain_given p i;
     own = Some (index me 0);
     form = Some (wait_form how);
@@ -99,27 +103,28 @@ module _ (me v old : ℕ) (how : How) where
   } ≡ given_at (call_for (watch.Var v old) how) p
   var_given p = refl
 
-  var_program : (asks : Bool) → how.exclusive ≡ false → plan_program me 0 (wait_plan asks (watch.Var v old) how)
-      ≡ wait_program asks me (call_for (watch.Var v old) how)
-  var_program asks front i = record {
-    plan = λ p seen. asked asks p (var_plan p seen front i);
+  var_program : how.exclusive ≡ false → plan_program me 0 (wait_plan (watch.Var v old) how)
+      ≡ call_program me 0 (call_for (watch.Var v old) how)
+  var_program front i = record {
+    plan = λ p seen. (ap (asked true p) (var_plan p seen front)
+        ∙ asked_true p (program me (call_for (watch.Var v old) how) p seen)) i;
     given = λ p. var_given p i;
     own = Some (index me 0);
     form = Some (if front i then forms.Tail else forms.Front);
   }
 
-pub program_is : (asks : Bool) (me : ℕ) (w : Watch) (how : How) → IsWaitFor w how
-    → plan_program me 0 (wait_plan asks w how) ≡ wait_program asks me (call_for w how)
-program_is asks me (watch.Plain c) how suits = plain_program me c how asks
-program_is asks me (watch.Var v old) how suits = var_program me v old how asks suits
-program_is asks me w how suits = absurd suits
+pub program_is : (me : ℕ) (w : Watch) (how : How) → IsWaitFor w how
+    → plan_program me 0 (wait_plan w how) ≡ call_program me 0 (call_for w how)
+program_is me (watch.Plain c) how suits = plain_program me c how
+program_is me (watch.Var v old) how suits = var_program me v old how suits
+program_is me w how suits = absurd suits
 
 -- who went through the one went through the other, by the same events
 abbrev pub runs_program : (r : WaitCall) (me : ℕ) (old new : Known) (from to : Next) → IsRunning r
-    → Runs (plan_program me 0 (wait_plan r.asks r.watch r.how)) old new from to
-    → Runs (wait_program r.asks me (call_for r.watch r.how)) old new from to
+    → Runs (plan_program me 0 (wait_plan r.watch r.how)) old new from to
+    → Runs (call_program me 0 (call_for r.watch r.how)) old new from to
 runs_program r me old new from to runs x = record {
   transitions = x.transitions;
   goes = subst (λ (f : Program). Goes f old from x.transitions new to)
-      (program_is r.asks me r.watch r.how runs.suits) x.goes;
+      (program_is me r.watch r.how runs.suits) x.goes;
 }

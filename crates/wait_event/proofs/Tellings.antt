@@ -1,13 +1,13 @@
 -- What a run tells of its transitions: part after part, and of one that is no load and no add.
 use Rattle.std.proofs.Common.{◌∙◌, ap, sym, refl}
-use Rattle.std.specs.Prelude.{ℕ, ◌≡◌, ◌||◌, ◌&&◌, not, Bool, true, false, Option, Some, List, [], ◌∷◌, ◌++◌}
+use Rattle.std.specs.Prelude.{ℕ, ◌≡◌, ◌||◌, ◌&&◌, Bool, true, false, Option, Some, List, [], ◌∷◌, ◌++◌}
 use Rattle.wait_model.specs.declared.steps.Step.TheVariants as step
 use Rattle.wait_model.specs.declared.watches.Entry.{Entry}
 use Rattle.wait_rule.specs.Shown.{shown_queue}
 use Rattle.wait_rule.specs.Transitions.{StepOrLook, Transition, by_look, by_step}
 use Rattle.wait_class.specs.Laws.{TellsLaws, is_quiet}
 use Rattle.wait_class.specs.Queueing.{is_none}
-use Rattle.wait_event.specs.Waits.{SameCall, Tells, is_queue, last_loaded, loaded_by, queues, queues_first, tells_first}
+use Rattle.wait_event.specs.Waits.{SameCall, Tells, is_queue, last_loaded, loaded_by, queues, queues_first}
 use Rattle.wait_event.specs.declared.waits.WaitCall.{WaitCall}
 
 pub or_none : (b : Bool) → (b || false) ≡ b
@@ -32,26 +32,10 @@ firsts_more [] us = refl
 firsts_more (t ∷ ts) us = or_assoc (is_queue t.did && is_none (shown_queue t.knew)) (queues_first ts) (queues_first us)
     ∙ ap (λ (c : Bool). (is_queue t.did && is_none (shown_queue t.knew)) || c) (firsts_more ts us)
 
-and_or : (a b c : Bool) → ((a && c) || (b && c)) ≡ ((a || b) && c)
-and_or true true true = refl
-and_or true true false = refl
-and_or true false true = refl
-and_or true false false = refl
-and_or false b c = refl
-
-firsts_append : (b c : Bool) (ts us : List Transition)
-    → ((b || (queues_first ts && c)) || (queues_first us && c)) ≡ (b || (queues_first (ts ++ us) && c))
-firsts_append b c ts us = or_assoc b (queues_first ts && c) (queues_first us && c)
-    ∙ ap (λ (d : Bool). b || d) (and_or (queues_first ts) (queues_first us) c
-    ∙ ap (λ (d : Bool). d && c) (firsts_more ts us))
-
 -- the last load of both
 loaded_append : (o : Option ℕ) (ts us : List Transition) → last_loaded (last_loaded o ts) us ≡ last_loaded o (ts ++ us)
 loaded_append o [] us = refl
 loaded_append o (t ∷ ts) us = loaded_append (loaded_by t.did o) ts us
-
-tells_same : (r q : WaitCall) → SameCall r q → tells_first q ≡ tells_first r
-tells_same r q same i = (same.how i).exclusive && not (same.asks i)
 
 pub quiet_queues : (d : StepOrLook) → is_quiet d ≡ true → is_queue d ≡ false
 quiet_queues (by_step (step.Load w v)) quiet = absurd (cc)
@@ -67,21 +51,17 @@ quiet_loads (by_look xs) o quiet = refl
 
 pub none_told : (r : WaitCall) → Tells r r []
 none_told r = record {
-  same = record { watch_is = refl; how = refl; asks = refl };
+  same = record { watch_is = refl; how = refl };
   queued = sym (or_none r.queued);
-  first = sym (or_none r.first);
   seen = refl;
 }
 
 -- it tells nothing of a quiet one, whatever else it notes
 pub quiet_told : (r q : WaitCall) (x : Transition) → is_quiet x.did ≡ true → SameCall r q → q.queued ≡ r.queued
-    → q.first ≡ r.first → q.seen ≡ r.seen → Tells r q (x ∷ [])
-quiet_told r q x quiet same queued first seen = record {
+    → q.seen ≡ r.seen → Tells r q (x ∷ [])
+quiet_told r q x quiet same queued seen = record {
   same = same;
   queued = queued ∙ sym (ap (λ (b : Bool). r.queued || (b || false)) (quiet_queues x.did quiet) ∙ or_none r.queued);
-  first = first
-      ∙ sym (ap (λ (b : Bool). r.first || (((b && is_none (shown_queue x.knew)) || false) && tells_first r))
-      (quiet_queues x.did quiet) ∙ or_none r.first);
   seen = ap Some seen ∙ sym (quiet_loads x.did (Some r.seen) quiet);
 }
 
@@ -90,11 +70,8 @@ told_on r q w ts us a b = record {
   same = record {
     watch_is = b.same.watch_is ∙ a.same.watch_is;
     how = b.same.how ∙ a.same.how;
-    asks = b.same.asks ∙ a.same.asks;
   };
   queued = b.queued ∙ (ap (λ (c : Bool). c || queues us) a.queued ∙ queues_append r.queued ts us);
-  first = b.first ∙ ((λ i. a.first i || (queues_first us && tells_same r q a.same i))
-      ∙ firsts_append r.first (tells_first r) ts us);
   seen = b.seen ∙ (ap (λ (o : Option ℕ). last_loaded o us) a.seen ∙ loaded_append (Some r.seen) ts us);
 }
 
@@ -102,17 +79,15 @@ pub wait_told : TellsLaws Tells
 wait_told = record {
   none = none_told;
   on = told_on;
-  quiet = λ r x quiet. quiet_told r r x quiet (record { watch_is = refl; how = refl; asks = refl }) refl refl refl;
+  quiet = λ r x quiet. quiet_told r r x quiet (record { watch_is = refl; how = refl }) refl refl;
 }
 
 -- of a load
 pub loaded_told : (r : WaitCall) (v : ℕ) (x : Transition) → x.did ≡ by_step (step.Load r.watch v)
     → Tells r (record r { seen = v }) (x ∷ [])
 loaded_told r v x did = record {
-  same = record { watch_is = refl; how = refl; asks = refl };
+  same = record { watch_is = refl; how = refl };
   queued = sym (ap (λ (d : StepOrLook). r.queued || (is_queue d || false)) did ∙ or_none r.queued);
-  first = sym (ap (λ (d : StepOrLook). r.first || (((is_queue d && is_none (shown_queue x.knew)) || false)
-      && tells_first r)) did ∙ or_none r.first);
   seen = sym (ap (λ (d : StepOrLook). loaded_by d (Some r.seen)) did);
 }
 
@@ -121,20 +96,10 @@ or_true : (b : Bool) → (b || true) ≡ true
 or_true true = refl
 or_true false = refl
 
-swapped : (a b : Bool) → (a && b) ≡ ((b || false) && a)
-swapped true true = refl
-swapped true false = refl
-swapped false true = refl
-swapped false false = refl
-
-pub joined_told : (r : WaitCall) (first : Bool) (x : Transition) (i : ℕ) (e : Entry)
-    → x.did ≡ by_step (step.Queue i e) → first ≡ (tells_first r && is_none (shown_queue x.knew))
-    → Tells r (record r { queued = true; first = r.first || first }) (x ∷ [])
-joined_told r first x i e did tells = record {
-  same = record { watch_is = refl; how = refl; asks = refl };
+pub joined_told : (r : WaitCall) (x : Transition) (i : ℕ) (e : Entry) → x.did ≡ by_step (step.Queue i e)
+    → Tells r (record r { queued = true }) (x ∷ [])
+joined_told r x i e did = record {
+  same = record { watch_is = refl; how = refl };
   queued = sym (ap (λ (d : StepOrLook). r.queued || (is_queue d || false)) did ∙ or_true r.queued);
-  first = ap (λ (b : Bool). r.first || b) (tells ∙ swapped (tells_first r) (is_none (shown_queue x.knew)))
-      ∙ sym (ap (λ (d : StepOrLook). r.first || (((is_queue d && is_none (shown_queue x.knew)) || false)
-      && tells_first r)) did);
   seen = sym (ap (λ (d : StepOrLook). loaded_by d (Some r.seen)) did);
 }

@@ -1,16 +1,14 @@
 -- The table of a wait keeps the laws.
 use Rattle.std.proofs.Common.{◌∙◌, ap, sym, refl, inl, inr, arith}
-use Rattle.std.specs.Prelude.{ℕ, ◌≡◌, ◌≤◌, ◌&&◌, Bool, true, false, if◌then◌else◌, is_some, Option, Some, None}
+use Rattle.std.specs.Prelude.{ℕ, ◌≡◌, ◌≤◌, Bool, true, false, if◌then◌else◌, is_some, Option, Some, None}
 use Rattle.wait_model.specs.declared.calls.Answer.TheVariants as answer
 use Rattle.wait_model.specs.declared.calls.Event.{Event}
 use Rattle.wait_model.specs.declared.calls.Event.TheVariants as event
 use Rattle.wait_model.specs.declared.points.FinishPoint.TheVariants as finishing
 use Rattle.wait_model.specs.declared.points.LeavePoint.TheVariants as leaving
 use Rattle.wait_model.specs.declared.points.Next.TheVariants as next
-use Rattle.wait_model.specs.declared.points.Planned.{Planned}
 use Rattle.wait_model.specs.declared.points.Point.TheVariants as at
 use Rattle.wait_model.specs.declared.points.PreparePoint.TheVariants as preparing
-use Rattle.wait_model.specs.declared.steps.Step.TheVariants as step
 use Rattle.wait_model.specs.declared.watches.Entry.{Entry}
 use Rattle.wait_model.specs.Programs.{ends_with, go, signalled, zero_answer}
 use Rattle.wait_model.specs.Tasks.{looks_in, state_mask}
@@ -18,12 +16,10 @@ use Rattle.wait_model.specs.Watches.{head_of, misses, number_of}
 use Rattle.wait_model.specs.PointFacts.{IsHome}
 use Rattle.wait_rule.specs.HandedPermits.{OwesNoPermit}
 use Rattle.wait_rule.specs.Known.{Known}
-use Rattle.wait_rule.specs.Queues.{index, walk_of_hold}
+use Rattle.wait_rule.specs.Queues.{index}
 use Rattle.wait_rule.specs.Says.{history_of, told_of}
 use Rattle.wait_rule.specs.Tickets.{taken}
-use Rattle.wait_rule.specs.Transitions.{IsMadeFor, by_step}
 use Rattle.wq_head.proofs.PermitHeads.{owes_low}
-use Rattle.wait_class.specs.declared.stages.Turn.{Turn}
 use Rattle.wait_class.specs.declared.stages.Turn.TheVariants as turn
 use Rattle.wait_class.specs.Posts.{IsStateFor}
 use Rattle.wait_class.specs.Laws.{
@@ -46,9 +42,8 @@ use Rattle.wait_class.proofs.Ground.Standing.{home_waits, owner_own}
 use Rattle.wait_class.proofs.Stays.{wait_stays}
 use Rattle.wait_class.proofs.Turns.{may_by}
 use Rattle.wait_class.proofs.Ways.{go_if, load_fork, look_by, sleep_by, way}
-use Rattle.wait_event.specs.Waits.{IsRunning, depth, doing_at, looks_first, loaded_to, stays_in, wait_table}
+use Rattle.wait_event.specs.Waits.{IsRunning, depth, doing_at, looks_first, loaded_to, wait_table}
 use Rattle.wait_event.specs.declared.waits.WaitCall.{WaitCall}
-use Rattle.wait_event.specs.declared.waits.WaitOutcome.{WaitOutcome}
 use Rattle.wait_event.specs.declared.waits.WaitOutcome.TheVariants as outcome
 use Rattle.wait_event.specs.declared.waits.WaitStage.{WaitStage}
 use Rattle.wait_event.specs.declared.waits.WaitStage.TheVariants as stage
@@ -66,32 +61,11 @@ use Rattle.wait_event.proofs.WaitTrails.{
   unset_by,
 }
 
--- a turn at the one is one at the other, where the ticket of the lock is drawn
-prepare_stays : (u : Turn WaitStage WaitOutcome) → stays_in stage.PrepareTurn u ≡ stays_in stage.PrepareLock u
-prepare_stays (turn.Again s) = refl
-prepare_stays (turn.Asleep s) = refl
-prepare_stays (turn.Locked s) = refl
-prepare_stays (turn.Done o) = refl
-
-finish_stays : (u : Turn WaitStage WaitOutcome) → stays_in stage.FinishTurn u ≡ stays_in stage.FinishLock u
-finish_stays (turn.Again s) = refl
-finish_stays (turn.Asleep s) = refl
-finish_stays (turn.Locked s) = refl
-finish_stays (turn.Done o) = refl
-
 -- behind the lock of a prepare: whether it looks for a signal
-abbrev locks : Event → Bool → Bool → Planned
-locks e asks looks = if asks then go e (at.Prepare (if looks then preparing.Look else preparing.Queue))
-    else record { event = e; next = next.Go (at.Prepare preparing.Queue) }
-
-locks_to : (e : Event) (asks looks : Bool) → (locks e asks looks).next ≡ next_in wait_table (looks_first (asks && looks))
-locks_to e true true = refl
-locks_to e true false = refl
-locks_to e false looks = refl
-
-locks_by : (P : Event → Type 0) (e : Event) (asks looks : Bool) → P e → P (locks e asks looks).event
-locks_by P e true looks made = made
-locks_by P e false looks made = made
+locks_to : (looks : Bool)
+    → next.Go (at.Prepare (if looks then preparing.Look else preparing.Queue)) ≡ next_in wait_table (looks_first looks)
+locks_to true = refl
+locks_to false = refl
 
 module _ (r : WaitCall) where
   low : (k : Known) → IsRunning r → k.at ≡ head_of r.watch → OwesNoPermit k
@@ -160,12 +134,8 @@ module _ (r : WaitCall) where
     same = refl;
     took = refl;
     depth = refl;
-    stays = prepare_stays;
     trail = λ k x. x;
   }
-
-  abbrev takes_lock : Event
-  takes_lock = event.Lock (head_of r.watch)
 
   plain_lock : (b : Bool) → IsPlain wait_table (looks_first b)
   plain_lock true = refl
@@ -197,10 +167,9 @@ module _ (r : WaitCall) where
   home_lock true o h = h
   home_lock false o h = h
 
-  trail_lock : (asks looks : Bool) (k : Known) → r.asks ≡ asks → TurnTrail wait_table k r (looks_first (asks && looks))
-  trail_lock true true k is = is
-  trail_lock true false k is = tt
-  trail_lock false looks k is = tt
+  trail_lock : (b : Bool) (k : Known) → TurnTrail wait_table k r (looks_first b)
+  trail_lock true k = tt
+  trail_lock false k = tt
 
   lock_prepare : LockLaw wait_table r stage.PrepareTurn
   lock_prepare =
@@ -209,22 +178,18 @@ module _ (r : WaitCall) where
         free = refl;
         head = refl;
         drawn = refl;
-        waits = refl;
         moves = record {
-          plain = plain_lock (r.asks && looks);
-          falls = falls_lock (r.asks && looks);
-          took = took_lock (r.asks && looks);
-          goes = λ me. locks_to takes_lock r.asks looks;
-          is = λ me k x ok. locks_by (λ (d : Event). IsMadeFor k (Some (index me 0))
-              ((wait_table.plan_of r).given (at.Prepare preparing.Lock)) d
-              (by_step (step.Lock (head_of r.watch) (walk_of_hold (head_of r.watch) None) x))) takes_lock r.asks looks
-              (refl, refl);
+          plain = plain_lock looks;
+          falls = falls_lock looks;
+          took = took_lock looks;
+          goes = λ me. locks_to looks;
+          is = λ me k x ok. (refl, refl);
           finds = λ me k x ok. (tt, tt, tt);
         };
-        leaves = record { head = head_lock (r.asks && looks); ticket = ticket_lock (r.asks && looks) };
-        state = state_lock (r.asks && looks);
-        home = home_lock (r.asks && looks);
-        trail = λ old new x calm u. trail_lock r.asks looks new refl;
+        leaves = record { head = head_lock looks; ticket = ticket_lock looks };
+        state = state_lock looks;
+        home = home_lock looks;
+        trail = λ old new x calm u. trail_lock looks new;
       }
 
   look_prepare : (hit : Bool) → LookLaw wait_table r stage.PrepareLook hit
@@ -232,7 +197,7 @@ module _ (r : WaitCall) where
       (way wait_table r stage.PrepareLook r (turn.Again stage.LeaveQueue) refl refl refl refl refl (λ σ s. s) (λ o h. h))
       (λ w me is. ap (λ (c : Bool). next.Go (if c then at.Leave leaving.Queue else at.Prepare preparing.Queue)) is)
       (λ w me k. tt) (λ w me k. (refl, tt, tt))
-      (λ old new w is calm u. (w, record { asks = u; pends = is }, (history_of old, calm.history)))
+      (λ old new w is calm u. (w, is, (history_of old, calm.history)))
   look_prepare false = look_by wait_table r stage.PrepareLook refl false
       (way wait_table r stage.PrepareLook r (turn.Again stage.PrepareQueue) refl refl refl refl refl (λ σ s. s)
       (λ o h. h))
@@ -264,13 +229,13 @@ module _ (r : WaitCall) where
       is = λ me k e ok. (refl, sym ok.at, ok.whole, ok.placed);
       finds = λ me k e ok. (tt, (ok.shows, λ none. (ok.whole, sym ok.left)), tt);
     };
-    joins_same = λ first. refl;
-    joins_fits = λ first f. record { there = f.there; suits = f.suits };
-    joins_leaves = λ first. record { head = refl; ticket = refl };
-    joins_state = λ first σ s. s;
-    joins_home = λ first e h. h;
+    joins_same = refl;
+    joins_fits = λ f. record { there = f.there; suits = f.suits };
+    joins_leaves = record { head = refl; ticket = refl };
+    joins_state = λ σ s. s;
+    joins_home = λ e h. h;
     joins_tells = joined_told r;
-    joins_trail = λ first old mid new looks x u. ap (λ (n : ℕ). is_some ((told_of new).bits.stored (index n 0)))
+    joins_trail = λ old mid new looks x u. ap (λ (n : ℕ). is_some ((told_of new).bits.stored (index n 0)))
         (ap (λ (k : Known). k.view.number) x.is ∙ ap (λ (k : Known). k.view.number) x.looks.is)
         ∙ ap is_some x.queued;
     wears = record {
@@ -333,8 +298,8 @@ module _ (r : WaitCall) where
   }
 
   sleep_law : SleepLaw wait_table r stage.Sleep stage.PrepareLock
-  sleep_law = sleep_by wait_table r stage.Sleep refl stage.PrepareLock refl refl refl refl refl refl refl refl
-      (λ o h. h) (λ w me. refl) (λ w me k. tt) (λ w me k. (refl, tt, tt)) (λ old new w calm u. tt)
+  sleep_law = sleep_by wait_table r stage.Sleep refl stage.PrepareLock refl refl refl refl refl refl (λ o h. h)
+      (λ w me. refl) (λ w me k. tt) (λ w me k. (refl, tt, tt)) (λ old new w calm u. tt)
 
   -- leaving the queue for a signal
   pare_leave : PareLaw wait_table r stage.LeaveQueue
@@ -453,7 +418,6 @@ module _ (r : WaitCall) where
     same = refl;
     took = refl;
     depth = refl;
-    stays = finish_stays;
     trail = λ k x. x;
   }
 
@@ -462,7 +426,6 @@ module _ (r : WaitCall) where
     free = refl;
     head = refl;
     drawn = refl;
-    waits = refl;
     moves = record {
       plain = refl;
       falls = refl;
@@ -566,7 +529,7 @@ wait_lawful = record {
   keeps = wait_stays;
   tells = wait_told;
   worn_tells = λ r p x quiet. quiet_told r (record r { place = p }) x quiet
-      (record { watch_is = refl; how = refl; asks = refl }) refl refl refl;
+      (record { watch_is = refl; how = refl }) refl refl;
   at = laws_at;
   still = trail_still;
   rises = trail_rises;

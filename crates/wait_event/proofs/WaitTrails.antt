@@ -118,7 +118,7 @@ module _ (old new : Known) (r : WaitCall) (v : ℕ) (calm : Calm (step.Load r.wa
   left_loads found l = record {
     look = l.look;
     entry = l.entry;
-    showed = record { asks = l.showed.asks; pends = l.showed.pends };
+    showed = l.showed;
     found = l.found;
     ends = subst (λ (x : ℕ). EndsWith new (left_by x (head_of_wait r) l.look l.entry ++ last_load q))
         (own_same old new calm.number)

@@ -27,26 +27,20 @@ use Rattle.wait_model.specs.Points.{given_at}
 use Rattle.wait_model.specs.Programs.{ends_with, go, program, signalled, sleep_event, zero_answer}
 use Rattle.wait_model.specs.Tasks.{looks_in, pending, state_mask}
 use Rattle.wait_model.specs.Watches.{head_of, kind_for, misses, number_of}
-use Rattle.wait_rule.specs.Transitions.{Program, call_program}
 use Rattle.wait_class.specs.Queueing.{wait_form}
 use Rattle.wait_class.specs.Tables.{Plan}
 
--- The call of a wait for a watch; plain conditions and variables have one. Its program looks for a signal in its
--- prepare only where it asks for one.
+-- the call of a wait for a watch; plain conditions and variables have one
 abbrev pub call_for : Watch → How → Call
 call_for (watch.Var v old) how = calls.WaitVar v old how.state
 call_for (watch.Plain c) how = calls.Wait c how
 call_for _ how = calls.Wait 0 how
 
+-- a program whose prepare looks for a signal only where it asks for one
 abbrev pub asked : Bool → Point → Planned → Planned
 asked asks (at.Prepare preparing.Lock) e = if asks then e
     else record { event = e.event; next = next.Go (at.Prepare preparing.Queue) }
 asked asks p e = e
-
-abbrev pub wait_program : Bool → ℕ → Call → Program
-wait_program asks me call = record (call_program me 0 call) {
-  plan = λ p seen. asked asks p (program me call p seen);
-}
 
 -- The waits that run: for any plain condition and any variable. Where the head of a condition is a simple one it is a
 -- simple wait, whose program is that of a wait whose entry goes to the tail. A wait for a variable is not exclusive.
@@ -129,8 +123,8 @@ part_plan asks w k how = record {
   stirs = stirs (calls.Wait 0 how);
 }
 
-abbrev pub wait_plan : Bool → Watch → How → Plan
-wait_plan asks w how = part_plan asks w (kind_for w) how
+abbrev pub wait_plan : Watch → How → Plan
+wait_plan w how = part_plan true w (kind_for w) how
 
 -- A prepare is a program of its own: where a wait goes on from it, it ends, with what it found.
 abbrev pub behind_prepare : Next → Next

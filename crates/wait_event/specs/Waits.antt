@@ -1,25 +1,7 @@
 -- To be believed.
 -- A wait for a plain condition or a variable: its stages, where it goes on behind each, what it tells of its
 -- transitions, and what its places say of its last steps.
-use Rattle.std.specs.Prelude.{
-  ℕ,
-  ◌≡◌,
-  ◌||◌,
-  ◌&&◌,
-  not,
-  Bool,
-  true,
-  false,
-  if◌then◌else◌,
-  is_some,
-  Option,
-  Some,
-  None,
-  List,
-  [],
-  ◌∷◌,
-  ◌++◌,
-}
+use Rattle.std.specs.Prelude.{ℕ, ◌≡◌, ◌||◌, ◌&&◌, Bool, true, false, if◌then◌else◌, is_some, Option, Some, None, List, [], ◌∷◌, ◌++◌}
 use Rattle.wait_model.specs.declared.calls.Answer.{Answer}
 use Rattle.wait_model.specs.declared.calls.Answer.TheVariants as answer
 use Rattle.wait_model.specs.declared.tasks.How.{How}
@@ -119,46 +101,6 @@ depth stage.FinishQueue = 2
 depth stage.FinishUnlock = 1
 depth _ = 5
 
--- the stages of a prepare, and those after it
-abbrev pub is_prepare : WaitStage → Bool
-is_prepare stage.PrepareLock = true
-is_prepare stage.PrepareTurn = true
-is_prepare stage.PrepareLook = true
-is_prepare stage.PrepareQueue = true
-is_prepare stage.PrepareState = true
-is_prepare stage.PrepareUnlock = true
-is_prepare stage.LeaveQueue = true
-is_prepare stage.LeaveUnlock = true
-is_prepare _ = false
-
-abbrev pub is_prepared : WaitStage → Bool
-is_prepared stage.Test = true
-is_prepared stage.Worn = true
-is_prepared (stage.LeaveLoad found) = true
-is_prepared _ = false
-
--- the stages of a finish, which ends the wait with 0
-abbrev pub is_finish : WaitStage → Bool
-is_finish stage.FinishState = true
-is_finish stage.FinishLook = true
-is_finish stage.FinishLock = true
-is_finish stage.FinishTurn = true
-is_finish stage.FinishQueue = true
-is_finish stage.FinishUnlock = true
-is_finish _ = false
-
-abbrev pub is_over : WaitOutcome → Bool
-is_over outcome.Over = true
-is_over _ = false
-
--- a prepare goes on to its end, and so does a finish; there is no other way out
-abbrev pub stays_in : WaitStage → Turn WaitStage WaitOutcome → Bool
-stays_in s (turn.Again t) = (not (is_prepare s) || (is_prepare t || is_prepared t))
-    && (not (is_finish s) || is_finish t)
-stays_in s (turn.Asleep t) = not (is_prepare s) && not (is_finish s)
-stays_in s (turn.Locked t) = (not (is_prepare s) || is_prepare t) && (not (is_finish s) || is_finish t)
-stays_in s (turn.Done o) = not (is_prepare s) && (not (is_finish s) || is_over o)
-
 -- where a wait goes on behind a draw, behind a lock, an unlock and a store of a state, that found its condition not set
 -- or set, that found its entry queued or a signal, or not, and that queued its entry
 abbrev pub turn_of : WaitStage → WaitStage
@@ -170,7 +112,7 @@ abbrev pub looks_first : Bool → Turn WaitStage WaitOutcome
 looks_first looks = if looks then turn.Again stage.PrepareLook else turn.Again stage.PrepareQueue
 
 abbrev pub wait_next : WaitCall → WaitStage → Turn WaitStage WaitOutcome
-wait_next r stage.PrepareTurn = looks_first (r.asks && looks_in r.how.state)
+wait_next r stage.PrepareTurn = looks_first (looks_in r.how.state)
 wait_next r stage.PrepareState = turn.Again stage.PrepareUnlock
 wait_next r stage.PrepareUnlock = turn.Again stage.Test
 wait_next r stage.LeaveUnlock = turn.Again (stage.LeaveLoad true)
@@ -221,13 +163,11 @@ old_of (watch.Var v old) = old
 old_of _ = 0
 
 -- a wait that has not begun
-pub record IsFresh (r : WaitCall) (w : Watch) (how : How) (asks : Bool) : Type 0 where
+pub record IsFresh (r : WaitCall) (w : Watch) (how : How) : Type 0 where
   pub watch_is : r.watch ≡ w
   pub how_is : r.how ≡ how
-  pub asks_is : r.asks ≡ asks
   pub seen : r.seen ≡ old_of w
   pub queued : r.queued ≡ false
-  pub first : r.first ≡ false
 
 pub record IsRunning (r : WaitCall) : Type 0 where
   pub there : IsThere r.watch
@@ -243,11 +183,11 @@ left_by x h w e = step.Look w ∷ step.Saw x e ∷ (if is_some (entry_of e)
 abbrev pub head_of_wait : WaitCall → ℕ
 head_of_wait r = head_of r.watch
 
--- the look showed this word, and the hold the own entry as this word
-pub record SawSignal (r : WaitCall) (w : ℕ) : Type 0 where
-  pub asks : r.asks ≡ true
-  pub pends : pending (state_mask r.how.state) (task_of w) ≡ true
+-- the look showed this word, in which a signal is pending that the state admits
+abbrev pub SawSignal : WaitCall → ℕ → Type 0
+SawSignal r w = pending (state_mask r.how.state) (task_of w) ≡ true
 
+-- and the hold the own entry as this word
 pub record LeftQueue (k : Known) (r : WaitCall) (queued : Bool) (more : List Step) : Type 0 where
   pub look : ℕ
   pub entry : ℕ
@@ -276,7 +216,6 @@ pub record IsQueuedIn (k : Known) (σ : ℕ) : Type 0 where
 
 -- what a stage and an outcome say of the last steps
 abbrev pub TrailAt : Known → WaitCall → WaitStage → Type 0
-TrailAt k r stage.PrepareLook = r.asks ≡ true
 TrailAt k r stage.PrepareState = is_some ((told_of k).bits.stored (own_of k)) ≡ true
 TrailAt k r stage.PrepareUnlock = IsQueuedIn k (state_mask r.how.state)
 TrailAt k r stage.Test = IsQueuedIn k (state_mask r.how.state)
@@ -318,7 +257,6 @@ answer_in outcome.Worn = answer.Worn
 pub record SameCall (r q : WaitCall) : Type 0 where
   pub watch_is : q.watch ≡ r.watch
   pub how : q.how ≡ r.how
-  pub asks : q.asks ≡ r.asks
 
 -- whether the task queued an entry in one of these transitions
 abbrev pub is_queue : StepOrLook → Bool
@@ -343,31 +281,23 @@ abbrev pub last_loaded : Option ℕ → List Transition → Option ℕ
 last_loaded o [] = o
 last_loaded o (t ∷ ts) = last_loaded (loaded_by t.did o) ts
 
--- a prepare that answers that: it is exclusive, and looks for no signal
-abbrev pub tells_first : WaitCall → Bool
-tells_first r = r.how.exclusive && not r.asks
-
--- The run tells whether it has queued its entry, a prepare that answers it whether as the first member of its head, and
--- what the last load found.
+-- the run tells whether it has queued its entry, and what the last load found
 pub record Tells (r q : WaitCall) (ts : List Transition) : Type 0 where
   pub same : SameCall r q
   pub queued : q.queued ≡ (r.queued || queues ts)
-  pub first : q.first ≡ (r.first || (queues_first ts && tells_first r))
   pub seen : Some q.seen ≡ last_loaded (Some r.seen) ts
 
 abbrev pub wait_table : CallTable WaitCall WaitStage WaitOutcome
 wait_table = record {
-  plan_of = λ r. wait_plan r.asks r.watch r.how;
+  plan_of = λ r. wait_plan r.watch r.how;
   Fits = IsRunning;
   worn_at = λ r p. record r { place = p };
-  asks_first = tells_first;
-  joined_at = λ r s first. record r { queued = true; first = r.first || first };
+  joined_at = λ r s. record r { queued = true };
   point_of = point_of;
   doing = doing_at;
   drawn = is_turn;
   took = λ s. false;
   depth = depth;
-  stays = stays_in;
   drawn_to = turn_of;
   next_of = wait_next;
   noted = λ r s v. record r { seen = v };

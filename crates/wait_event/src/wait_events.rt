@@ -1,6 +1,6 @@
 //! `wait_event`, and the parts of it that drivers call by themselves.
 
-ghost use Rattle.std.specs.Prelude.{◌≡◌, ◌<◌, true};
+ghost use Rattle.std.specs.Prelude.{◌≡◌, ◌<◌};
 ghost use Rattle.wait_model.specs.declared.layout.TheConstants.{FIRST_SIMPLE};
 ghost use Rattle.wait_model.specs.declared.watches.Watch.TheVariants as watch;
 ghost use Rattle.wait_rule.specs.Says.{IsClean, IsUp};
@@ -43,14 +43,14 @@ pub fn begin_wait(task: &Task, cond: u8, how: How) -> WaitRun
     requires full { cond < FIRST_SIMPLE }
     requires out { IsOut task.now }
     ensures at { IsAt wait_table task.now result stage.First }
-    ensures fresh { IsFresh result.of (watch.Plain cond) how true }
+    ensures fresh { IsFresh result.of (watch.Plain cond) how }
     ensures told { IsTold task.now }
     ensures under { IsClean task.now
         → IsUnderWay wait_table (wait_table.plan_of result.of) task.now result (turn.Again stage.First) }
     ensures came { Advances wait_table task.now task.now result result stage.First (turn.Again stage.First) }
 {
     task.told();
-    fresh_wait(Watch::Plain { cond }, how, true)
+    fresh_wait(Watch::Plain { cond }, how)
 }
 
 /// Waits until condition `cond`, below `FIRST_SIMPLE`, is set (include/linux/wait.h, `wait_event`,
@@ -104,7 +104,7 @@ pub fn end_wait(task: &Task, wait: &WaitRun, outcome: WaitOutcome) -> Result<(),
     ensures is { result ≡ end_in wait.now.of outcome }
     ensures clean { (c : _) → IsUnderWay wait_table c task.now wait.now (turn.Done outcome) → IsClean task.now }
     ensures ends { (start : _) → (f : _) → (cond : _) → (how : _) → IsAt wait_table start f stage.First
-        → IsFresh f.of (watch.Plain cond) how true
+        → IsFresh f.of (watch.Plain cond) how
         → Advances wait_table start task.now f wait.now stage.First (turn.Done outcome)
         → EndsWait start task.now cond how result }
 {

@@ -1,16 +1,15 @@
 //! A wait for a plain condition or a variable: its stages, and where it goes on behind each.
 
-ghost use Rattle.std.specs.Prelude.{◌≡◌, ◌||◌};
+ghost use Rattle.std.specs.Prelude.{◌≡◌};
 ghost use Rattle.wait_model.specs.Tasks.{IsState};
 ghost use Rattle.wait_rule.specs.Says.{IsUp};
 ghost use Rattle.wait_class.specs.declared.stages.Doing.TheVariants as doing;
 ghost use Rattle.wait_class.specs.Laws.{AddsOwn, MayAdd};
-ghost use Rattle.wait_event.specs.Waits.{IsFresh, met_to, missed_to, old_of, tells_first, wait_table};
+ghost use Rattle.wait_event.specs.Waits.{IsFresh, met_to, missed_to, old_of, wait_table};
 
 use wait_class::machines::Machine;
-use wait_class::queueing::{add_by, is_first, wait_form};
+use wait_class::queueing::{add_by, wait_form};
 use wait_class::stages::{Added, Doing, Run, Turn};
-use wait_model::heads::head_of;
 use wait_model::layout::RUNNING;
 use wait_model::tasks::{How, SleepState};
 use wait_model::watches::Watch;
@@ -63,16 +62,12 @@ pub struct WaitCall {
     /// a variable is not exclusive.
     pub watch: Watch,
     pub how: How,
-    /// Whether a prepare looks for a signal.
-    pub asks: bool,
     /// The place that showed the last add that no place was left.
     pub place: u64,
     /// What the last load of the condition found; before the first one, a value that does not set the watch.
     pub seen: u64,
     /// Whether the wait has queued its entry.
     pub queued: bool,
-    /// Whether the hold that queued the entry showed no member of the head before, where the wait answers that.
-    pub first: bool,
 }
 
 pub type WaitTurn = Turn<WaitStage, WaitOutcome>;
@@ -80,35 +75,25 @@ pub type WaitTurn = Turn<WaitStage, WaitOutcome>;
 pub type WaitRun = Run<WaitCall>;
 
 impl WaitCall {
-    /// A wait that has not begun. `asks` is whether its prepare looks for a signal.
-    pub fn new(watch: Watch, how: How, asks: bool) -> WaitCall
-        ensures { IsFresh result watch how asks }
+    /// A wait that has not begun.
+    pub fn new(watch: Watch, how: How) -> WaitCall
+        ensures { IsFresh result watch how }
     {
         WaitCall {
             watch,
             how,
-            asks,
             place: 0,
             seen: old_of(watch),
             queued: false,
-            first: false,
         }
-    }
-
-    /// Whether it answers that its entry is the first one: an exclusive prepare that looks for no signal.
-    #[inline(always)]
-    fn tells_first(self) -> bool
-        ensures { result ≡ tells_first self }
-    {
-        self.how.exclusive && !self.asks
     }
 }
 
-/// A wait that has not begun, and has drawn no ticket. `asks` is whether its prepare looks for a signal.
-pub fn fresh_wait(watch: Watch, how: How, asks: bool) -> WaitRun
-    ensures { IsFresh result.of watch how asks }
+/// A wait that has not begun, and has drawn no ticket.
+pub fn fresh_wait(watch: Watch, how: How) -> WaitRun
+    ensures { IsFresh result.of watch how }
 {
-    Run::new(WaitCall::new(watch, how, asks))
+    Run::new(WaitCall::new(watch, how))
 }
 
 /// The old value of a variable's watch, and 0 of every other one: a load that finds it does not set the watch.
@@ -217,7 +202,7 @@ impl Machine for WaitCall {
     fn next_of(self, stage: WaitStage) -> WaitTurn {
         match stage {
             WaitStage::PrepareTurn => {
-                if self.asks && self.how.state.looks() {
+                if self.how.state.looks() {
                     Turn::Again(WaitStage::PrepareLook)
                 } else {
                     Turn::Again(WaitStage::PrepareQueue)
@@ -319,25 +304,20 @@ impl Machine for WaitCall {
     }
 
     #[inline(always)]
-    fn note_joined(&mut self, stage: WaitStage, first: bool) {
+    fn note_joined(&mut self, stage: WaitStage) {
         let _ = stage;
         self.queued = true;
-        self.first = self.first || first;
     }
 
     #[inline(always)]
-    fn add(self, domain: &Domain, task: &mut Task, stage: WaitStage) -> Result<bool, Worn>
+    fn add(self, domain: &Domain, task: &mut Task, stage: WaitStage) -> Result<(), Worn>
         requires of { task.old.domain ≡ domain.now }
         requires up { IsUp task.old }
         requires may { MayAdd wait_table self stage task.old }
         ensures { wait_table.doing stage ≡ doing.Queue → AddsOwn wait_table self stage task.old task.new result }
     {
         let watch = self.watch.bare();
-        let first = is_first(domain, task, head_of(watch), self.tells_first());
-        match add_by(domain, task, wait_form(self.how), watch.kind(), watch) {
-            Ok(()) => Ok(first),
-            Err(worn) => Err(worn),
-        }
+        add_by(domain, task, wait_form(self.how), watch.kind(), watch)
     }
 
     /// The first load of the condition.

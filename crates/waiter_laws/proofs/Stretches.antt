@@ -30,9 +30,8 @@ use Rattle.wait_class.proofs.Turns.{advances_on}
 use Rattle.wait_event.specs.declared.waits.WaitCall.{WaitCall}
 use Rattle.wait_event.specs.declared.waits.WaitStage.{WaitStage}
 use Rattle.wait_event.specs.declared.waits.WaitStage.TheVariants as wait_stage
-use Rattle.wait_event.specs.WaitPlans.{call_for, wait_program}
+use Rattle.wait_event.specs.WaitPlans.{call_for}
 use Rattle.wait_event.specs.Waits.{is_slept, point_of, wait_table}
-use Rattle.wait_event.proofs.Endings.{asks_program}
 use Rattle.wait_event.proofs.Plans.{runs_program}
 use Rattle.completion_cell.specs.declared.awaits.AwaitCall.{AwaitCall}
 use Rattle.completion_cell.specs.declared.awaits.AwaitStage.{AwaitStage}
@@ -100,7 +99,7 @@ slept_place : (s : WaitStage) → is_slept s ≡ true → point_of s ≡ at.Prep
 slept_place wait_stage.PrepareLock is = refl
 slept_place s is = absurd (cc)
 
-module _ (old new : Known) (r q : Run WaitCall) (asks : r.of.asks ≡ true)
+module _ (old new : Known) (r q : Run WaitCall)
     (z : WasPutAsleep wait_table wait_stage.First old new r q) where
   abbrev who : ℕ
   who = old.view.number
@@ -114,10 +113,8 @@ module _ (old new : Known) (r q : Run WaitCall) (asks : r.of.asks ≡ true)
   runs : Runs (call_program who 0 call) old new (next.Go at.First) (next.Go (at.Prepare preparing.Lock))
   runs = subst (λ (p : Point). Runs (call_program who 0 call) old new (next.Go at.First) (next.Go p))
       (slept_place z.place z.advances.lands.place)
-      (subst (λ (f : Program). Runs f old new (next.Go at.First) (next.Go (point_of z.place))) (asks_program who call)
-      (subst (λ (b : Bool). Runs (wait_program b who call) old new (next.Go at.First) (next.Go (point_of z.place))) asks
       (runs_program r.of who old new (next.Go at.First) (next.Go (point_of z.place)) z.began.fits
-      z.advances.went.runs)))
+      z.advances.went.runs)
 
   here : Here (call_program who 0 call) (TestedAt (is_bit_wait call) (index who 0) (call_watch call)) (call_watch call)
       (kind_for (call_watch call)) (index who 0) (tested_led who call tests) (next.Go (at.Prepare preparing.Lock)) new
@@ -130,8 +127,7 @@ module _ (old new : Known) (r q : Run WaitCall) (asks : r.of.asks ≡ true)
       (here.0 (plain_for r.of.watch r.of.how) z.advances.lands.down)
 
 pub waiters_are_kept : WaitersAreKept
-waiters_are_kept old new r q asks z = kept_by (call_for r.of.watch r.of.how) old new
-    (waiter_slept old new r q asks z)
+waiters_are_kept old new r q z = kept_by (call_for r.of.watch r.of.how) old new (waiter_slept old new r q z)
 
 -- a wait for a completion
 await_place : (s : AwaitStage) → is_await_slept s ≡ true → await_point s ≡ at.Await (awaiting.Lock true)

@@ -1,6 +1,5 @@
 -- To be believed.
 -- Whoever stretches of a wait have put asleep is a waiter of the law on lost wakes.
-use Rattle.std.specs.Prelude.{◌≡◌, true}
 use Rattle.wait_rule.specs.Known.{Known}
 use Rattle.wait_class.specs.declared.frame_stages.Framed.{Framed}
 use Rattle.wait_class.specs.declared.frame_stages.Stage.TheVariants as stage
@@ -36,11 +35,10 @@ pub record WasPutAsleep {C S O : Type 0} (t : CallTable C S O) (first : S) (old 
     pub place : S
     pub advances : Advances t old new r q first (turn.Asleep place)
 
--- a wait for a plain condition, also one with a simple queue, or for a variable, which looks for signals as whole waits
--- do
+-- a wait for a plain condition, also one with a simple queue, or for a variable
 abbrev pub WaitersAreKept : Type 0
-WaitersAreKept = (old new : Known) (r q : Run WaitCall) → r.of.asks ≡ true
-    → WasPutAsleep wait_table wait_stage.First old new r q → IsKept (call_for r.of.watch r.of.how) old new
+WaitersAreKept = (old new : Known) (r q : Run WaitCall) → WasPutAsleep wait_table wait_stage.First old new r q
+    → IsKept (call_for r.of.watch r.of.how) old new
 
 -- a wait for a completion, and one for a page
 abbrev pub AwaitersAreKept : Type 0

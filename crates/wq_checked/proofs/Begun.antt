@@ -38,7 +38,7 @@ pub event_came : (k : Known) (r : WaitRun) → IsAt events.wait_table k r event_
 event_came k r at = advances_none events.wait_table wait_lawful k r event_stage.First at
 
 pub event_sound : (ks : KeptBits) (k : Known) (r : WaitRun) (w : Watch) (how : How) → IsReady ks k
-    → events.IsFresh r.of w how true → IsAt events.wait_table k r event_stage.First
+    → events.IsFresh r.of w how → IsAt events.wait_table k r event_stage.First
     → IsUnderWay ks k (running.Event r (turn.Again event_stage.First))
 event_sound ks k r w how ready fresh at = under ks k (running.Event r (turn.Again event_stage.First))
     (ready, (w, how, fresh)) at (event_came k r at)

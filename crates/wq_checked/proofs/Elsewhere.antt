@@ -29,7 +29,7 @@ use Rattle.wait_rule.proofs.KnownLaws.TaskHistories.{history_after}
 use Rattle.wait_rule.proofs.TableSteps.ItemLists.{steps_append}
 use Rattle.wait_class.specs.Posts.{Runs}
 use Rattle.wait_event.specs.Waits.{IsRunning}
-use Rattle.wait_event.specs.WaitPlans.{IsWaitFor, call_for, wait_program}
+use Rattle.wait_event.specs.WaitPlans.{IsWaitFor, call_for}
 use Rattle.wait_event.specs.declared.waits.WaitCall.{WaitCall}
 use Rattle.wait_class.specs.Wholes.{HasRested}
 use Rattle.wq_head.specs.Scanned.{HasScanned}
@@ -68,9 +68,9 @@ event_low r runs = by r.watch runs.there runs.suits
     by (watch.Done d) there suits = absurd suits
 
 pub waits_off : (r : WaitCall) (old new : Known) (from to : Next) → IsRunning r → (told_of old).hold.head ≡ None
-    → Runs (wait_program r.asks old.view.number (call_for r.watch r.how)) old new from to → StaysOff old new
-waits_off r old new from to runs free went = others_stay_off (wait_program r.asks old.view.number (call_for r.watch r.how)) old
-    new from to went.transitions (inr (λ p. event_low r runs)) free went.goes
+    → Runs (call_program old.view.number 0 (call_for r.watch r.how)) old new from to → StaysOff old new
+waits_off r old new from to runs free went = calls_off (call_for r.watch r.how) old new from to (event_low r runs) free
+    went
 
 -- a wake queues nothing
 pub wakes_off : (a : Aim) (start new : Known) (w : Walked) → (told_of start).hold.head ≡ None → IsOver a start new w

@@ -3,6 +3,7 @@ use Rattle.std.proofs.Common.{◌∙◌, ap, refl, subst}
 use Rattle.std.specs.Prelude.{◌≡◌, ◌||◌, Bool}
 use Rattle.wait_model.specs.declared.watches.Watch.{Watch}
 use Rattle.wait_model.specs.declared.watches.Watch.TheVariants as watch
+use Rattle.wait_model.specs.Tasks.{state_mask}
 use Rattle.wait_rule.specs.Bits.{taken_bits}
 use Rattle.wait_rule.specs.Known.{Known}
 use Rattle.wait_class.specs.declared.stages.Turn.TheVariants as turn
@@ -11,12 +12,13 @@ use Rattle.wait_class.specs.Tables.{Advances, IsAt, Plan}
 use Rattle.wait_class.specs.Wholes.{HasRested}
 use Rattle.wait_class.proofs.Framing.{framed_lawful}
 use Rattle.wait_class.proofs.Turns.{advances_none}
+use Rattle.wait_class.proofs.Wholes.{rests}
 use Rattle.bit_wait.specs.LockEnds.{end_in, has_taken}
 use Rattle.bit_wait.specs.LockStays.{TakesBit}
 use Rattle.bit_wait.specs.LockTables.{IsFresh, lock_frame, lock_table}
 use Rattle.bit_wait.specs.declared.lock_runs.LockOutcome.{LockOutcome}
 use Rattle.bit_wait.specs.declared.lock_runs.LockOutcome.TheVariants as outcome
-use Rattle.bit_wait.proofs.LockEndings.{ends_idle, ends_takes, ends_up, rested}
+use Rattle.bit_wait.proofs.LockEndings.{ends_idle, ends_takes, ends_up}
 use Rattle.bit_wait.proofs.LockLaws.{lock_lawful}
 use Rattle.wq_checked.specs.Stages.{GoesFrom, LockRun, LockTurn, StandsBy, lock_first}
 use Rattle.wq_checked.proofs.GroundTurns.{joined, stayed}
@@ -48,7 +50,7 @@ pub lock_ready : (ks more : KeptBits) (start mid new : Known) (f q : LockRun) (o
     → IsReady ks start → Advances lock_table start mid f q lock_first (turn.Done o) → HasRested mid new q.of.wait.worn → IsReady more new
 lock_ready ks more start mid new f q o notes r a h =
     let fresh : IsFresh f.of.wait f.of.wait.word f.of.wait.bit f.of.wait.state = record { word = refl; bit = refl; state = refl } in
-    let x = rested start mid new f q f.of.wait.word f.of.wait.bit f.of.wait.state fresh o a h in
+    let x = rests mid new q.of.wait.worn (state_mask q.of.wait.state) h a.lands.stands.state in
     let t = subst (λ (g : Bool). TakesBit start new (watch.Bit f.of.wait.word f.of.wait.bit) g) (took_is q o)
     (ends_takes start mid new f q f.of.wait.word f.of.wait.bit f.of.wait.state fresh o a h r.up r.idle (ready_out ks start r) r.told) in
     record {

@@ -124,11 +124,11 @@ refusal_to c t = refusal_by c t.running t.kept
 -- The call under way is this one before its first stretch, with its numbers.
 abbrev pub BeginsAs : Call → Running → Type 0
 BeginsAs (call.Wait c how) (running.Event r (turn.Again event_stage.First)) =
-    events.IsFresh r.of (watch.Plain c) how true
+    events.IsFresh r.of (watch.Plain c) how
 BeginsAs (call.SimpleWait c st) (running.Event r (turn.Again event_stage.First)) =
-    events.IsFresh r.of (watch.Plain c) (tail_in st) true
+    events.IsFresh r.of (watch.Plain c) (tail_in st)
 BeginsAs (call.WaitVar v old st) (running.Event r (turn.Again event_stage.First)) =
-    events.IsFresh r.of (watch.Var v old) (shared_in st) true
+    events.IsFresh r.of (watch.Var v old) (shared_in st)
 BeginsAs (call.WaitBit w b st) (running.Bit r (turn.Again (frame_stage.Test bit_test.First))) =
     bits.IsFresh r.of.wait w b st
 BeginsAs (call.LockBit w b st) (running.Lock r (turn.Again (frame_stage.Test lock_test.First))) =

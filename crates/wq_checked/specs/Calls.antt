@@ -193,7 +193,7 @@ WentOn start first new now p = CameFrom start first new now × Fits now p
 
 -- A wait that has not begun.
 abbrev pub IsFreshEvent : WaitCall → Type 0
-IsFreshEvent r = (w : Watch) × (how : How) × events.IsFresh r w how true
+IsFreshEvent r = (w : Watch) × (how : How) × events.IsFresh r w how
 
 -- What held when a call began: the task was ready; but for a wake, which may owe wakes of its watch, as a publish left
 -- it.

@@ -1,4 +1,4 @@
-use Rattle.std.proofs.Common.{refl, subst, true}
+use Rattle.std.proofs.Common.{refl, subst}
 use Rattle.wait_model.specs.declared.tasks.How.{How}
 use Rattle.wait_model.specs.declared.watches.Watch.TheVariants as watch
 use Rattle.wait_class.proofs.Turns.{advances_none}
@@ -12,7 +12,7 @@ use Rattle.swait_queue.specs.SimpleWaits.{tail_in}
 use Rattle.swait_queue.proofs.waits.begin_swait.Goals as goal
 
 pub returns-clause-fresh : goal.returns-clause-fresh
-returns-clause-fresh c = subst (λ (h : How). IsFresh c.fresh_wait.result.of (watch.Plain c.args.cond) h true) c.tail_in.ensures
+returns-clause-fresh c = subst (λ (h : How). IsFresh c.fresh_wait.result.of (watch.Plain c.args.cond) h) c.tail_in.ensures
     c.fresh_wait.ensures
 
 pub returns-clause-at : goal.returns-clause-at

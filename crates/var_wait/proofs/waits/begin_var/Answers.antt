@@ -1,4 +1,4 @@
-use Rattle.std.proofs.Common.{refl, subst, true}
+use Rattle.std.proofs.Common.{refl, subst}
 use Rattle.wait_model.specs.declared.tasks.How.{How}
 use Rattle.wait_model.specs.declared.watches.Watch.TheVariants as watch
 use Rattle.wait_class.proofs.Turns.{advances_none}
@@ -12,7 +12,7 @@ use Rattle.var_wait.specs.VarWaits.{shared_in}
 use Rattle.var_wait.proofs.waits.begin_var.Goals as goal
 
 pub returns-clause-fresh : goal.returns-clause-fresh
-returns-clause-fresh c = subst (λ (h : How). IsFresh c.fresh_wait.result.of (watch.Var c.args.var c.args.old) h true)
+returns-clause-fresh c = subst (λ (h : How). IsFresh c.fresh_wait.result.of (watch.Var c.args.var c.args.old) h)
     c.shared_in.ensures c.fresh_wait.ensures
 
 pub returns-clause-at : goal.returns-clause-at

@@ -41,7 +41,7 @@ returns-in-Draw-clause-falls g c =
     let t = g.C.Machine.table in
     falls_same t c.args.stage c.drawn_to.result (subst (λ n. t.depth n ≡ t.depth c.args.stage)
     (sym c.drawn_to.ensures) c.draw_event-head.ensures.depth)
-    (λ u. ap (λ n. t.stays n u) c.drawn_to.ensures ∙ c.draw_event-head.ensures.stays u) c.lock_event.result c.lock_event.ensures.falls
+    c.lock_event.result c.lock_event.ensures.falls
 
 pub returns-in-Load-clause-passes : goal.returns-in-Load-clause-passes
 returns-in-Load-clause-passes g c = inl c.requires.passes

@@ -54,7 +54,7 @@ add-requires-clause-may g c = record {
 pub returns-in-Ok-clause-turned : goal.returns-in-Ok-clause-turned
 returns-in-Ok-clause-turned g c = join_advances g.C.Machine.table c.lawful.ensures c.args.task.now c.own_entry-entry.new.task
     c.add.new.task c.args.run.now c.args.stage c.requires.here c.requires.at c.own_entry-entry.result c.own_entry-entry.ensures
-    c.is_some.result c.is_some.ensures c.if-is_some.false (c.add.ensures c.requires.here).held c.in-Ok.first (c.in-Ok.ensures c.requires.here).by
+    c.is_some.result c.is_some.ensures c.if-is_some.false (c.add.ensures c.requires.here).held (c.in-Ok.ensures c.requires.here).by
     c.added_to-next.result c.added_to-next.ensures c.note_joined.new.self c.note_joined.ensures
 
 pub returns-in-Ok-clause-falls : goal.returns-in-Ok-clause-falls
@@ -99,7 +99,7 @@ returns-in-Ok-clause-given g c = given_as c.args.task.now c.add.new.task HEADS c
     c.requires.passes (given_on c.args.task.now c.own_entry-entry.new.task c.add.new.task HEADS
     (given_seen c.args.task.now c.own_entry-entry.new.task c.own_entry-entry.result c.own_entry-entry.ensures)
     (given_joined g.C.Machine.table c.own_entry-entry.new.task c.add.new.task c.args.run.now.of c.args.stage
-    c.in-Ok.first (c.in-Ok.ensures c.requires.here).by))
+    (c.in-Ok.ensures c.requires.here).by))
 
 pub returns-in-Err-clause-given : goal.returns-in-Err-clause-given
 returns-in-Err-clause-given g c = given_as c.args.task.now c.give_back.new.task c.own_entry.new.task.at

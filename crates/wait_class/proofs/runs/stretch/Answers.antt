@@ -1,8 +1,6 @@
 use Rattle.std.proofs.Common.{◌∙◌, arith, inl, inr, refl, sym}
 use Rattle.wait_model.specs.PointFacts.{holds}
 use Rattle.wait_class.specs.declared.stages.Turn.TheVariants as turn
-use Rattle.std.specs.Prelude.{◌||◌, nat_lt, not}
-use Rattle.wait_class.proofs.Histories.{and_left}
 use Rattle.wait_class.proofs.Falling.{falls_by, held_yes, unheld}
 use Rattle.wait_class.proofs.Falling.{falls_still, goes_made, goes_shown, goes_slept}
 use Rattle.wq_head.proofs.PassedOn.{none_yet}
@@ -40,7 +38,7 @@ loop-turn-preserved g c =
     let held = held_yes (holds (t.point_of next)) c.is_free.result c.is_free.ensures c.if-is_free.false in
     let none = none_yet (holds (t.point_of next)) c.advance.new.passing held e.passes in
     let less = falls_by (holds (t.point_of next)) (t.depth next) (t.depth c.loop-turn.at)
-    (and_left (not (holds (t.point_of next)) || nat_lt (t.depth next) (t.depth c.loop-turn.at)) _ e.falls)
+    e.falls
     held in (
       record {
         way = advances_on g.C.Machine.table c.lawful.ensures c.args.task.now c.loop-turn.task c.advance.new.task c.args.run.now
@@ -83,7 +81,7 @@ returns-in-Asleep-clause-turned g c =
 
 pub returns-in-Asleep-clause-stops : goal.returns-in-Asleep-clause-stops
 returns-in-Asleep-clause-stops g c = falls_still (holds (g.C.Machine.table.point_of c.in-Asleep.next))
-    (and_left (not (holds (g.C.Machine.table.point_of c.in-Asleep.next))) _ c.in-Asleep.ensures.falls)
+    c.in-Asleep.ensures.falls
 
 pub returns-in-Locked-clause-turned : goal.returns-in-Locked-clause-turned
 returns-in-Locked-clause-turned g c =
@@ -97,7 +95,7 @@ returns-in-Locked-clause-turned g c =
 
 pub returns-in-Locked-clause-stops : goal.returns-in-Locked-clause-stops
 returns-in-Locked-clause-stops g c = falls_still (holds (g.C.Machine.table.point_of c.in-Locked.next))
-    (and_left (not (holds (g.C.Machine.table.point_of c.in-Locked.next))) _ c.in-Locked.ensures.falls)
+    c.in-Locked.ensures.falls
 
 pub returns-in-Done-clause-turned : goal.returns-in-Done-clause-turned
 returns-in-Done-clause-turned g c =

@@ -1,9 +1,4 @@
-use Rattle.std.proofs.Common.{◌∙◌, ap, subst, sym}
-use Rattle.std.specs.Prelude.{Bool, Result}
-use Rattle.wait_class.specs.declared.frame_stages.Stage.TheVariants as stage
-use Rattle.wait_class.specs.Laws.{AddsOwn}
-use Rattle.wq_head.specs.declared.adds.Worn.{Worn}
-use Rattle.bit_wait.specs.LockTables.{lock_table}
+use Rattle.std.proofs.Common.{◌∙◌, ap}
 use Rattle.wait_model.specs.Watches.{head_of}
 use Rattle.bit_wait.proofs.LockLaws.{lock_adds, lock_for}
 use Rattle.bit_wait.proofs.lock_waits.LockBitWaiting.add.Goals as goal
@@ -23,7 +18,5 @@ add_for_bit-requires-clause-out c = c.requires.may.out
 pub returns : goal.returns
 returns c =
     let a = c.add_for_bit.ensures in
-    subst (λ (o : Result Bool Worn). AddsOwn lock_table (record { wait = c.args.call.wait }) stage.PrepareQueue
-    c.args.task.now c.add_for_bit.new.task o) (sym c.untold.ensures)
-    (lock_adds c.args.call.wait c.watch.result c.watch.ensures c.args.task.now c.add_for_bit.new.task
-    c.add_for_bit.result c.requires.may.out a.queued a.worn a.noted a.held a.at)
+    lock_adds c.args.call.wait c.watch.result c.watch.ensures c.args.task.now c.add_for_bit.new.task
+    c.add_for_bit.result c.requires.may.out a.queued a.worn a.noted a.held a.at

@@ -1,10 +1,7 @@
 use Rattle.std.proofs.Common.{subst, sym}
-use Rattle.std.specs.Prelude.{Bool, Result}
 use Rattle.wait_class.specs.Laws.{AddsOwn, MayAdd}
-use Rattle.wq_head.specs.declared.adds.Worn.{Worn}
 use Rattle.completion_cell.specs.Awaits.{await_table}
 use Rattle.completion_cell.specs.declared.awaits.AwaitStage.{AwaitStage}
-use Rattle.completion_cell.specs.declared.awaits.AwaitStage.TheVariants as stage
 use Rattle.completion_cell.proofs.AwaitAdds.{add_permits, adds_cell}
 use Rattle.completion_cell.proofs.awaits.AwaitCallMachine.add.Goals as goal
 
@@ -15,10 +12,8 @@ add_tail-requires-clause-permits c = add_permits c.args.self c.args.task.now c.a
 pub returns-in-Queue : goal.returns-in-Queue
 returns-in-Queue c here =
     let a = c.add_tail.ensures in
-    subst (λ (s : AwaitStage). AddsOwn await_table c.args.self s c.args.task.now c.add_tail.new.task c.untold.result)
+    subst (λ (s : AwaitStage). AddsOwn await_table c.args.self s c.args.task.now c.add_tail.new.task c.add_tail.result)
     (sym c.in-Queue.is)
-    (subst (λ (o : Result Bool Worn). AddsOwn await_table c.args.self stage.Queue c.args.task.now c.add_tail.new.task o)
-    (sym c.untold.ensures)
     (adds_cell c.args.self c.args.task.now c.add_tail.new.task
     (subst (λ (s : AwaitStage). MayAdd await_table c.args.self s c.args.task.now) c.in-Queue.is c.requires.may)
-    c.add_tail.result a.queued a.worn a.noted a.held a.at))
+    c.add_tail.result a.queued a.worn a.noted a.held a.at)

@@ -31,7 +31,7 @@ use wait_rule::queues::Passing;
 use wait_rule::{Domain, Task};
 
 /// A wait to take bit `bit`, below `WORD_BITS`, of bit word `word`, below `BIT_WORDS`, that is about to begin:
-/// `stretch` goes on with it at `LockTest::First`. The task is idle and has no entry queued.
+/// `stretch_lock` goes on with it at `Stage::Test(LockTest::First)`. The task is idle and has no entry queued.
 pub fn begin_lock(task: &Task, word: u8, bit: u8, state: SleepState) -> LockRun
     requires up { IsUp task.now }
     requires idle { IsIdle task.now }
@@ -155,7 +155,7 @@ pub fn end_lock(
     end_of(wait.of.wait, outcome)
 }
 
-/// The answer of a wait that has ended.
+/// The answer of a wait that has ended. It stores nothing: `end_lock` stores RUNNING where no place was left.
 pub fn end_of(run: LockBit, outcome: LockOutcome) -> Result<(), BitEnd>
     ensures { result ≡ end_in run outcome }
 {

@@ -43,7 +43,7 @@ pub enum BitEnd {
 }
 
 /// A wait until bit `bit`, below `WORD_BITS`, of bit word `word`, below `BIT_WORDS`, is clear, that is about to begin:
-/// `stretch` goes on with it at `BitTest::First`. The task is idle and has no entry queued.
+/// `stretch_bit` goes on with it at `Stage::Test(BitTest::First)`. The task is idle and has no entry queued.
 pub fn begin_bit(task: &Task, word: u8, bit: u8, state: SleepState) -> BitRun
     requires up { IsUp task.now }
     requires idle { IsIdle task.now }
@@ -108,7 +108,7 @@ fn is_worn(outcome: BitOutcome) -> bool
     matches!(outcome, BitOutcome::Worn)
 }
 
-/// The answer of a wait that has ended.
+/// The answer of a wait that has ended. It stores nothing: `end_bit` stores RUNNING where no place was left.
 pub fn end_of(run: WaitBit, outcome: BitOutcome) -> Result<(), BitEnd>
     ensures { result ≡ end_in run outcome }
 {

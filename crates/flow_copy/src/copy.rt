@@ -104,7 +104,8 @@ fn take_back<S, K, W>(domain: &Domain, task: &mut Task, parts: Parts<S, K, W>) -
 /// that was counted. `stop` is the first of Memory, Worn, ReadFault, WriteFault, Long that is the stop of a worker,
 /// or, of Worn, that of the controller; else Killed, exactly where a fatal signal that was planned was sent; else
 /// Finished. Where it is Finished all three workers have finished, the source was read to its end, the sink holds all
-/// its bytes, and the watchers were shown them all. No worker stops as Taken.
+/// its bytes, and the watchers were shown them all. No worker stops as Taken. What each of the four made, from its first
+/// step to its last, is a word of its program (`goes`).
 ///
 /// Unstarted: there was no memory for the thread of one of the three. None of them has begun then: source, sink and
 /// watchers come back as they were passed in, and no task has made a step.

@@ -121,8 +121,8 @@ fn read_on<R: Wait, S: Source, G: Gate>(
 /// The task owes nothing, and so it is afterwards. It opens the write end of the pipe, and stops as Taken exactly where
 /// it was opened before. At the beginning of each turn it passes the gate and takes its own signals: it stops as Killed
 /// where a fatal one was pending, also where one ended a wait of it for the pipe or for the page. After it has opened
-/// its end, and after each read, it sends the planned signals whose offset is at most the number of bytes that the
-/// source has given, each once, in the order of the plan; `targets` are the numbers of the tasks that are reader, relay
+/// its end, and in each turn before it puts the bytes that came in it, it sends the planned signals whose offset is at
+/// most the number of bytes that the source has given, each once, in the order of the plan; `targets` are the numbers of the tasks that are reader, relay
 /// and writer. Where more than `LONGEST` bytes were given it stops as Long before it puts the last piece, and where the
 /// source failed as ReadFault. Broken: the read end of the pipe was closed. Worn: a wait found no place. Finished
 /// exactly where the end of the source was read and all went in. After each piece that went in wholly it locks page

@@ -24,7 +24,7 @@ use wait_model::watches::Watch;
 use wait_rule::{Domain, Task};
 
 /// A wait for variable `var`, below `VARIABLES`, to differ from `old`, that is about to begin: `stretch` goes on with
-/// it at `WaitStage::First`, and `end_of_var` is its answer. The task is idle and has no entry queued.
+/// it at `WaitStage::First`, and `end_var` makes its answer. The task is idle and has no entry queued.
 pub fn begin_var(task: &Task, var: u8, old: u64, state: SleepState) -> WaitRun
     requires up { IsUp task.now }
     requires idle { IsIdle task.now }

@@ -1,4 +1,4 @@
-//! `wait_event`, and the parts of it that drivers call by themselves.
+//! `wait_event`, as a whole call and by stretches.
 
 ghost use Rattle.std.specs.Prelude.{◌≡◌, ◌<◌};
 ghost use Rattle.wait_model.specs.declared.layout.TheConstants.{FIRST_SIMPLE};

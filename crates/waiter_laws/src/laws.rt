@@ -33,8 +33,9 @@ pub fn sleepers_are_queued()
 
 /// Whoever waits for a flag is not lost either. A task whose last event is the sleep of a `wait_woken`, which before
 /// that call had tested a watch since it queued its entry and cleared its flag, sleeps on the watch as long as it was
-/// not woken; its entry stands, since no other task takes it off. Nor is whoever stretches of such a wait put asleep: it
-/// has made what it makes in the whole call up to there (`stretches`). Stretches one after another count as one.
+/// not woken; its entry stands, since no other task takes it off (`asleep`). Nor is whoever stretches of such a wait put
+/// asleep: it has made what it makes in the whole call up to there (`stretches`). Stretches one after another count as
+/// one (`join`).
 pub fn no_listener_lost()
     ensures asleep { ListenersAreKept }
     ensures stretches { StretchesEndListening }

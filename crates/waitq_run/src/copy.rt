@@ -137,7 +137,8 @@ fn conclude<O: Sink, W: Tellers>(out: &mut O, left: &Left<W>) -> Result<(), Faul
 ///
 /// The source is opened first, and then the sink is made; where one of these is refused, or one of the copy's tasks can't
 /// have a thread (Memory), it ends there and no file is changed. After the copy the source is closed, and the sink is
-/// stored whatever the copy's stop was. Whatever is answered, no source is open that was not before (`closes`).
+/// stored whatever the copy's stop was. Whatever is answered, as many sources of the folder are open as
+/// before (`closes`).
 pub fn copy<
     'a,
     R: Threads + Wait + Sync,

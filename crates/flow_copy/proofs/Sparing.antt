@@ -330,9 +330,9 @@ reader_spared : {targets : List ℕ} {plan : List Planned} {read : ℕ} {a b : K
 reader_spared {a = a} {b = b} (reader_killed own) = own_killed a b own
 reader_spared {a = a} {b = b} (source_ended own) = own_spares a b own
 reader_spared {a = a} {b = b} (source_failed own) = own_spares a b own
-reader_spared {a = a} {b = b} (source_long mid piece own sends long) =
+reader_spared {a = a} {b = b} (source_long mid piece own some sends long) =
     spared_then a mid b (own_spares a mid own) (sends_spared _ mid b sends)
-reader_spared {a = a} {b = b} (reader_hands mid sent piece r own sends hands) =
+reader_spared {a = a} {b = b} (reader_hands mid sent piece r own some fits sends hands) =
     turn_behind (stops_by r) a sent b
     (spared_then a mid sent (own_spares a mid own) (sends_spared _ mid sent sends))
     (by_part r sent b (hands_spared hands))

@@ -6,6 +6,7 @@ use Rattle.std.specs.Prelude.{
   ◌==◌,
   ◌+◌,
   ◌<◌,
+  ◌≤◌,
   ◌++◌,
   Bool,
   true,
@@ -33,6 +34,9 @@ use Rattle.wait_rule.specs.Says.{added, newcomer}
 use Rattle.wait_pipe.specs.Trails.{ClosesEnd}
 use Rattle.bit_wait.specs.Clears.{HasClearedBit}
 use Rattle.bit_wait.specs.declared.wait_calls.BitEnd.{BitEnd}
+use Rattle.bit_wait.specs.declared.wait_calls.BitEnd.TheVariants as bit_end
+use Rattle.page_lock.specs.PageEnds.{EndsPageLock}
+use Rattle.wait_model.specs.declared.tasks.SleepState.TheVariants as state
 use Rattle.copy_plan.specs.declared.TheConstants.{COUNTED_PAGE, LONGEST, SOURCE_PIPE}
 use Rattle.copy_plan.specs.declared.plan.Planned.{Planned}
 use Rattle.copy_plan.specs.declared.stop.Halt.{Halt}
@@ -47,6 +51,7 @@ use Rattle.copy_turns.specs.Transfers.{Again, GetsPiece, Heard, SendsEach}
 use Rattle.copy_turns.specs.Work.{TookOwn}
 use Rattle.copy_turns.proofs.ReaderTurns.{prepend_none, prepend_twice}
 use Rattle.copy_ends.specs.Copied.{worker_numbers}
+use Rattle.flow_copy.proofs.Awaits.{locked_end}
 use Rattle.flow_copy.specs.PageWaits.{InterruptedWait, LastWaits, PageWaits}
 use Rattle.flow_copy.specs.Workers.{
   AddsLocked,
@@ -56,11 +61,13 @@ use Rattle.flow_copy.specs.Workers.{
   FollowsPrograms,
   FromSource,
   GetterTurn,
+  IsPiece,
   HandsBytes,
   ReaderGoes,
   ReaderTurn,
   ReaderTurns,
   ReaderWorks,
+  ReadsLocked,
   RelayGoes,
   RelayTurn,
   RelayTurns,
@@ -125,7 +132,7 @@ gave_nothing l0 l1 read Made left made = record { bytes = []; left = left; read 
 
 module _ (targets : List ℕ) (plan : List Planned) (read n : ℕ) (buf : List ℕ) (l0 l1 : Option (List ℕ))
     (a b c : Known) (own : TookOwn a b false) (same : read + n ≡ read + length (take n buf))
-    (left : l0 ≡ prepend_known (take n buf) l1)
+    (left : l0 ≡ prepend_known (take n buf) l1) (some : IsPiece (take n buf))
     (sends : SendsEach (sent_to targets (due_in (read + 1) (read + n) plan)) b c) where
   sends_due : SendsEach (sent_to targets (due_in (read + 1) (read + length (take n buf)) plan)) b c
   sends_due = subst (λ (m : ℕ). SendsEach (sent_to targets (due_in (read + 1) m plan)) b c) same sends
@@ -136,23 +143,24 @@ module _ (targets : List ℕ) (plan : List Planned) (read n : ℕ) (buf : List �
     bytes = take n buf;
     left = left;
     read = same;
-    made = source_long b (take n buf) own sends_due (subst (λ (m : ℕ). LONGEST < m) same long);
+    made = source_long b (take n buf) own some sends_due (subst (λ (m : ℕ). LONGEST < m) same long);
   }
 
-  pub gave_piece : (d : Known) (r : Result (Unit {0}) Halt) → HandsBytes (write_end SOURCE_PIPE) c d (take n buf) r
+  pub gave_piece : read + n ≤ LONGEST → (d : Known) (r : Result (Unit {0}) Halt)
+      → HandsBytes (write_end SOURCE_PIPE) c d (take n buf) r
       → FromSource l0 l1 read (read + n) (λ piece. ReaderTurn targets plan read a d piece (stops_by r))
-  gave_piece d r hands = record {
+  gave_piece fits d r hands = record {
     bytes = take n buf;
     left = left;
     read = same;
-    made = reader_hands b c (take n buf) r own sends_due hands;
+    made = reader_hands b c (take n buf) r own some (subst (λ (m : ℕ). m ≤ LONGEST) same fits) sends_due hands;
   }
 
-  pub gave_halted : (d : Known) (h : Halt) (how : Stop) → HandsBytes (write_end SOURCE_PIPE) c d (take n buf) (Err h)
-      → how ≡ stop_of h → FromSource l0 l1 read (read + n) (λ piece. ReaderTurn targets plan read a d piece (Some how))
-  gave_halted d h how hands is = subst
+  pub gave_halted : read + n ≤ LONGEST → (d : Known) (h : Halt) (how : Stop)
+      → HandsBytes (write_end SOURCE_PIPE) c d (take n buf) (Err h) → how ≡ stop_of h → FromSource l0 l1 read (read + n) (λ piece. ReaderTurn targets plan read a d piece (Some how))
+  gave_halted fits d h how hands is = subst
       (λ (s : Stop). FromSource l0 l1 read (read + n) (λ piece. ReaderTurn targets plan read a d piece (Some s)))
-      (sym is) (gave_piece d (Err h) hands)
+      (sym is) (gave_piece fits d (Err h) hands)
 
 -- a turn behind others
 module _ (targets : List ℕ) (plan : List Planned) (r0 r1 r2 : ℕ) (l0 l1 l2 : Option (List ℕ)) (a b c : Known)
@@ -219,3 +227,9 @@ follows domain t1 t2 t3 t4 one two three four new l0 l1 plan reader relay writer
       controls = subst (λ (k : Known). ControllerGoes k four total) e4 controls;
       lists = lists;
     }
+
+-- no signal ends the controller's wait for the page
+pub loses_page : (old new : Known) (e : BitEnd) → EndsPageLock old new COUNTED_PAGE state.Uninterruptible (Err e)
+    → ReadsLocked old new (Err e)
+loses_page old new (bit_end.Worn h p) waited = waited
+loses_page old new (bit_end.Interrupted seen) waited = absurd (locked_end old new (bit_end.Interrupted seen) waited)

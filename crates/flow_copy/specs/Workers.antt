@@ -7,6 +7,7 @@ use Rattle.std.specs.Prelude.{
   ◌==◌,
   ◌+◌,
   ◌<◌,
+  ◌≤◌,
   ◌++◌,
   Bool,
   true,
@@ -77,18 +78,24 @@ abbrev pub stops_by : Result (Unit {0}) Halt → Option Stop
 stops_by (Ok u) = None
 stops_by (Err h) = Some (stop_of h)
 
+-- what a source gives at a time
+abbrev pub IsPiece : List ℕ → Type 0
+IsPiece bytes = (0 < length bytes) × (length bytes ≤ PIECE)
+
 -- A turn begins with a take of the own signals, and is over where a fatal one was among them. That of a reader whose
 -- source gave `read` bytes before: the source is at its end, or fails, or gives a piece; then the signals are sent that
--- are due then; and then the piece is handed on, unless the source gave too many bytes.
+-- are due then; and then the piece is handed on, unless the source gave too many bytes. That the source is at its end,
+-- or failed, is no step of the task: `Reading` says it.
 pub data ReaderTurn (targets : List ℕ) (plan : List Planned) (read : ℕ) (old new : Known) : List ℕ → Option Stop
     → Type 0 where
   reader_killed : TookOwn old new true → ReaderTurn targets plan read old new [] (Some stop.Killed)
   source_ended : TookOwn old new false → ReaderTurn targets plan read old new [] (Some stop.Finished)
   source_failed : TookOwn old new false → ReaderTurn targets plan read old new [] (Some stop.ReadFault)
-  source_long : (own : Known) (piece : List ℕ) → TookOwn old own false
+  source_long : (own : Known) (piece : List ℕ) → TookOwn old own false → IsPiece piece
       → SendsEach (sent_to targets (due_in (read + 1) (read + length piece) plan)) own new
       → LONGEST < read + length piece → ReaderTurn targets plan read old new piece (Some stop.Long)
   reader_hands : (own sent : Known) (piece : List ℕ) (r : Result (Unit {0}) Halt) → TookOwn old own false
+      → IsPiece piece → read + length piece ≤ LONGEST
       → SendsEach (sent_to targets (due_in (read + 1) (read + length piece) plan)) own sent
       → HandsBytes (write_end SOURCE_PIPE) sent new piece r → ReaderTurn targets plan read old new piece (stops_by r)
 
@@ -188,13 +195,15 @@ abbrev pub LosesWait : Known → Known → BitEnd → Type 0
 LosesWait old new (bit_end.Worn h p) = EndsAwait old new ENDED_CELL state.Uninterruptible (Err (wait_end.Worn h p))
 LosesWait old new (bit_end.Interrupted seen) = ⊥
 
--- It locks the page, uninterruptibly, adds 0 to its tally, which it answers, and unlocks it.
+-- It locks the page, uninterruptibly, adds 0 to its tally, which it answers, and unlocks it; or finds no place.
 abbrev pub ReadsLocked : Known → Known → Result ℕ BitEnd → Type 0
 ReadsLocked old new (Ok total) = (locked : Known)
     × EndsPageLock old locked COUNTED_PAGE state.Uninterruptible (Ok tt) × AddsLocked 0 total locked new
-ReadsLocked old new (Err e) = EndsPageLock old new COUNTED_PAGE state.Uninterruptible (Err e)
+ReadsLocked old new (Err (bit_end.Worn h p)) = EndsPageLock old new COUNTED_PAGE state.Uninterruptible
+    (Err (bit_end.Worn h p))
+ReadsLocked old new (Err (bit_end.Interrupted seen)) = ⊥
 
--- The controller waits for each of the three, and reads the tally then.
+-- The controller waits for each of the three, and reads the tally then; or one of the waits found no place.
 pub data ControllerGoes (old new : Known) : Result ℕ BitEnd → Type 0 where
   saw_all : (waited : Known) (r : Result ℕ BitEnd) → WaitsTimes 3 old waited → ReadsLocked waited new r
       → ControllerGoes old new r

@@ -2,7 +2,7 @@ use Rattle.std.proofs.Common.{rules}
 use Rattle.flow_copy.proofs.Awaits.{locked_end, read_tally}
 use Rattle.flow_copy.proofs.Counting.{counted_all, locked, unlocked}
 use Rattle.copy_ends.proofs.Idlers.{at_work, controlled, counted_apart}
-use Rattle.flow_copy.proofs.Words.{adds_locked}
+use Rattle.flow_copy.proofs.Words.{adds_locked, loses_page}
 use Rattle.flow_copy.proofs.controller.read_tally.Goals as goal
 
 pub returns-in_err-lock_page-clause-controlled : goal.returns-in_err-lock_page-clause-controlled
@@ -16,6 +16,12 @@ returns-in_err-lock_page-clause-controlled g c =
 pub returns-in_err-lock_page-clause-ends : goal.returns-in_err-lock_page-clause-ends
 returns-in_err-lock_page-clause-ends g c =
     let e = locked_end c.args.task.now c.lock_page.new.task c.in_err-lock_page.field-0.0
+    c.in_err-lock_page.ensures.waited in
+    search rules
+
+pub returns-in_err-lock_page-clause-goes : goal.returns-in_err-lock_page-clause-goes
+returns-in_err-lock_page-clause-goes g c =
+    let e = loses_page c.args.task.now c.lock_page.new.task c.in_err-lock_page.field-0.0
     c.in_err-lock_page.ensures.waited in
     search rules
 

@@ -63,6 +63,7 @@ returns-then-read-gt-LONGEST g c =
     let same = c.take_in.ensures.same in
     let some = c.if-taken-eq0.false in
     let s = c.send_due.ensures in
+    let given = given_length c.take_in.new.buf c.in-Ok.taken c.args.read.now (omega arith) in
     record {
       turn = read_long c.args.task.now c.is_killed.new.task c.send_due.new.task (g.S.Source.left c.args.source.now)
           (g.S.Source.left c.take_in.new.source) (g.S.Source.faults c.args.source.now) (g.S.Source.faults c.take_in.new.source)
@@ -74,7 +75,8 @@ returns-then-read-gt-LONGEST g c =
       goes = gave_long c.args.targets c.args.plan.now c.args.read.now c.in-Ok.taken c.take_in.new.buf
           (g.S.Source.left c.args.source.now) (g.S.Source.left c.take_in.new.source) c.args.task.now
           c.is_killed.new.task c.send_due.new.task c.if-is_killed.ensures.own
-          (given_length c.take_in.new.buf c.in-Ok.taken c.args.read.now (omega arith)) c.in-Ok.ensures.bytes s.goes c.if-read-gt-LONGEST.true;
+          (given_length c.take_in.new.buf c.in-Ok.taken c.args.read.now (omega arith)) c.in-Ok.ensures.bytes
+          (omega (arith, some, given), omega (arith, given)) s.goes c.if-read-gt-LONGEST.true;
     }
 
 pub returns-in-Ok-hand_on : goal.returns-in-Ok-hand_on
@@ -83,6 +85,7 @@ returns-in-Ok-hand_on g c =
     let same = c.take_in.ensures.same in
     let some = c.if-taken-eq0.false in
     let s = c.send_due.ensures in
+    let given = given_length c.take_in.new.buf c.in-Ok.taken c.args.read.now (omega arith) in
     record {
       turn = read_on c.args.task.now c.is_killed.new.task c.send_due.new.task (g.S.Source.left c.args.source.now)
           (g.S.Source.left c.take_in.new.source) (g.S.Source.faults c.args.source.now) (g.S.Source.faults c.take_in.new.source)
@@ -94,8 +97,9 @@ returns-in-Ok-hand_on g c =
       goes = gave_piece c.args.targets c.args.plan.now c.args.read.now c.in-Ok.taken c.take_in.new.buf
           (g.S.Source.left c.args.source.now) (g.S.Source.left c.take_in.new.source) c.args.task.now
           c.is_killed.new.task c.send_due.new.task c.if-is_killed.ensures.own
-          (given_length c.take_in.new.buf c.in-Ok.taken c.args.read.now (omega arith)) c.in-Ok.ensures.bytes s.goes
-          c.hand_on.new.task _ c.in-Ok-hand_on.ensures.goes;
+          (given_length c.take_in.new.buf c.in-Ok.taken c.args.read.now (omega arith)) c.in-Ok.ensures.bytes
+          (omega (arith, some, given), omega (arith, given)) s.goes
+          c.if-read-gt-LONGEST.false c.hand_on.new.task _ c.in-Ok-hand_on.ensures.goes;
     }
 
 pub returns-in-Err-hand_on : goal.returns-in-Err-hand_on
@@ -104,6 +108,7 @@ returns-in-Err-hand_on g c =
     let same = c.take_in.ensures.same in
     let some = c.if-taken-eq0.false in
     let s = c.send_due.ensures in
+    let given = given_length c.take_in.new.buf c.in-Ok.taken c.args.read.now (omega arith) in
     record {
       turn = subst (λ (how : Stop). Reading c.args.task.now c.hand_on.new.task (g.S.Source.left c.args.source.now)
           (g.S.Source.left c.take_in.new.source) (g.S.Source.faults c.args.source.now) (g.S.Source.faults c.take_in.new.source)
@@ -117,6 +122,8 @@ returns-in-Err-hand_on g c =
       goes = gave_halted c.args.targets c.args.plan.now c.args.read.now c.in-Ok.taken c.take_in.new.buf
           (g.S.Source.left c.args.source.now) (g.S.Source.left c.take_in.new.source) c.args.task.now
           c.is_killed.new.task c.send_due.new.task c.if-is_killed.ensures.own
-          (given_length c.take_in.new.buf c.in-Ok.taken c.args.read.now (omega arith)) c.in-Ok.ensures.bytes s.goes
-          c.hand_on.new.task c.in-Err-hand_on.halt c.stop_of.result c.in-Err-hand_on.ensures.goes c.stop_of.ensures;
+          (given_length c.take_in.new.buf c.in-Ok.taken c.args.read.now (omega arith)) c.in-Ok.ensures.bytes
+          (omega (arith, some, given), omega (arith, given)) s.goes
+          c.if-read-gt-LONGEST.false c.hand_on.new.task c.in-Err-hand_on.halt c.stop_of.result
+          c.in-Err-hand_on.ensures.goes c.stop_of.ensures;
     }

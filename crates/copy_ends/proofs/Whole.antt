@@ -1,10 +1,13 @@
 -- What a copy ensures, from what stands when its task has joined the four and read the tally.
-use Rattle.std.proofs.Common.{sym, ap, ◌∙◌, subst}
-use Rattle.std.specs.Prelude.{ℕ, ◌≡◌, ◌-◌, ◌%◌, ◌^◌, List, [], ◌∷◌, Option, Result}
+use Rattle.std.proofs.Common.{sym, ap, ◌∙◌, subst, arith}
+use Rattle.std.specs.Prelude.{ℕ, ◌≡◌, ◌<◌, ◌-◌, ◌%◌, ◌^◌, List, [], ◌∷◌, Option, Result}
 use Rattle.atomic_table.specs.Seated.{TableId}
 use Rattle.bit_wait.specs.declared.wait_calls.BitEnd.{BitEnd}
 use Rattle.wait_model.specs.declared.layout.TheConstants.{TASKS}
+use Rattle.wait_rule.specs.declared.journal.Item.{Item}
 use Rattle.wait_rule.specs.declared.journal.Journal.{Journal}
+use Rattle.wait_rule.specs.Ends.{WasWorn}
+use Rattle.wait_rule.proofs.WornHeads.WornNotes.{joined_late}
 use Rattle.wait_rule.specs.Aside.{GrowsAside}
 use Rattle.wait_rule.specs.Journals.{fresh, has_of, pushed}
 use Rattle.wait_rule.specs.Known.{Known}
@@ -17,11 +20,11 @@ use Rattle.copy_plan.specs.declared.stop.ReaderEnd.{ReaderEnd}
 use Rattle.copy_plan.specs.declared.stop.Stop.{Stop}
 use Rattle.copy_plan.specs.declared.stop.Stop.TheVariants as stop
 use Rattle.copy_plan.specs.declared.stop.WorkerEnd.{WorkerEnd}
-use Rattle.copy_ends.specs.Copied.{ControlEnds, Controlled, Copied, HoldsAll, HoldsGiven, NoneTaken, ReadTally, Watched, control_stop, joined_four, worker_numbers}
+use Rattle.copy_ends.specs.Copied.{ControlEnds, Controlled, Copied, HoldsAll, HoldsGiven, NoneTaken, NotesAreLate, ReadTally, Watched, WearsLate, control_stop, joined_four, worker_numbers}
 use Rattle.copy_plan.specs.Kinds.{copy_stop}
 use Rattle.copy_ends.specs.Did.{ReaderDid, RelayDid, WriterDid}
 use Rattle.copy_ends.proofs.Copied as copied
-use Rattle.copy_ends.proofs.JoinedFour.{four, grown_view}
+use Rattle.copy_ends.proofs.JoinedFour.{four, four_has_all, grown_view, has_four, has_one, has_three, has_two}
 use Rattle.copy_ends.proofs.JoinedSums.{found_tally, last_lists, last_tally}
 use Rattle.copy_plan.proofs.StopKinds.{finished_names_none}
 
@@ -117,6 +120,29 @@ module _ (domain : TableId) (one two three fourth old new : Known) (left_old lef
       e.aside in
       (lists.one, lists.two, lists.three, lists.four)
 
+  -- a note in one of the lists is one in the table that showed them
+  note_late : (t : ℕ) → t < TASKS → (list : List Item) → has_of t new.view ≡ list
+      → has_of t (four one.view.items two.view.items three.view.items fourth.view.items) ≡ list
+      → NotesAreLate (four one.view.items two.view.items three.view.items fourth.view.items) shown_four t new
+  note_late t small list now then h p noted = joined_late
+      (four one.view.items two.view.items three.view.items fourth.view.items) shown_four t h p
+      (four_has_all one.view.items two.view.items three.view.items fourth.view.items t small)
+      (subst (λ (l : List Item). WasWorn t l h p) (now ∙ sym then) noted)
+
+  wears_late : WearsLate new
+  wears_late =
+      let a = one.view.items in
+      let b = two.view.items in
+      let c = three.view.items in
+      let d = fourth.view.items in record {
+        shown = four a b c d;
+        law = shown_four;
+        reader = note_late 1 (omega arith) a has_lists.0 (has_one a b c d);
+        relay = note_late 2 (omega arith) b has_lists.1 (has_two a b c d);
+        writer = note_late 3 (omega arith) c has_lists.2 (has_three a b c d);
+        controller = note_late 4 (omega arith) d has_lists.3 (has_four a b c d);
+      }
+
   pub is_copied : (how : Stop)
       → how ≡ copy_stop (reader.stop ∷ relay.stop ∷ writer.stop ∷ control_stop answer ∷ []) reader.kills
       → Copied domain new left_old left_new reads_old reads_new held_old held_new writes_old writes_new wants_old
@@ -133,6 +159,7 @@ module _ (domain : TableId) (one two three fourth old new : Known) (left_old lef
     lists = has_lists;
     ends = e.ends;
     stops = stops;
+    late = wears_late;
   }
 
   pub takes_none : NoneTaken reader relay writer

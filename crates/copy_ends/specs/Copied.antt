@@ -1,6 +1,6 @@
 -- To be believed.
 -- What a whole copy did.
-use Rattle.std.specs.Prelude.{ℕ, zero, suc, ◌≡◌, ◌*◌, ◌%◌, ◌^◌, ◌++◌}
+use Rattle.std.specs.Prelude.{ℕ, zero, suc, ◌≡◌, ◌≤◌, ◌*◌, ◌%◌, ◌^◌, ◌++◌}
 use Rattle.std.specs.Prelude.{Option, Some, Result, Ok, Err, List, [], ◌∷◌, IfSome}
 use Rattle.std.specs.Io.KnownBytes.{append_known, prepend_known}
 use Rattle.atomic_table.specs.Seated.{TableId}
@@ -8,12 +8,13 @@ use Rattle.bit_wait.specs.declared.wait_calls.BitEnd.{BitEnd}
 use Rattle.bit_wait.specs.declared.wait_calls.BitEnd.TheVariants as bit_end
 use Rattle.wait_model.specs.declared.tasks.SleepState.TheVariants as state
 use Rattle.wait_rule.specs.Aside.{Grows}
-use Rattle.wait_rule.specs.Ends.{WasWorn}
+use Rattle.wait_rule.specs.Ends.{WasWorn, worn_adds}
 use Rattle.wait_rule.specs.declared.journal.Journal.{Journal}
 use Rattle.wait_rule.specs.Journals.{has_of, joined_with}
 use Rattle.wait_rule.specs.Known.{Known}
 use Rattle.wait_rule.specs.PipeSays.{EndsStay}
-use Rattle.wait_rule.specs.Says.{FindsTally, newcomer}
+use Rattle.wait_rule.specs.Places.{queued_at}
+use Rattle.wait_rule.specs.Says.{FindsTally, IsShown, newcomer}
 use Rattle.completion_cell.specs.AwaitEnds.{EndsAwait}
 use Rattle.edge_io.specs.Text.{HoldsPrefix}
 use Rattle.func_head.specs.Walks.{EntryState}
@@ -80,6 +81,19 @@ joined_four v a b c d = joined_with (joined_with (joined_with (joined_with v a) 
 abbrev pub worker_numbers : List ℕ
 worker_numbers = 1 ∷ 2 ∷ 3 ∷ []
 
+-- Where the list of the task of this number notes that a head had no place left, at least 2^37 entries were queued there:
+-- so it was in the table that showed all lists as they were joined.
+abbrev pub NotesAreLate : (v : Journal) → IsShown v → ℕ → Known → Type 0
+NotesAreLate v law t k = (h p : ℕ) → WasWorn t (has_of t k.view) h p → worn_adds ≤ queued_at h law.table.history
+
+pub record WearsLate (new : Known) : Type 0 where
+  pub shown : Journal
+  pub law : IsShown shown
+  pub reader : NotesAreLate shown law 1 new
+  pub relay : NotesAreLate shown law 2 new
+  pub writer : NotesAreLate shown law 3 new
+  pub controller : NotesAreLate shown law 4 new
+
 -- The four tasks of a copy did their work, and their lists stand in the journal of the task that joined them. The
 -- controller answered `total`.
 pub record Copied (domain : TableId) (new : Known) (left_old left_new : Option (List ℕ)) (reads_old reads_new : ℕ)
@@ -100,6 +114,7 @@ pub record Copied (domain : TableId) (new : Known) (left_old left_new : Option (
       × (has_of 3 new.view ≡ three.view.items) × (has_of 4 new.view ≡ four.view.items)
   pub ends : ControlEnds (newcomer domain 4 5 0) four total
   pub stops : how ≡ copy_stop (reader.stop ∷ relay.stop ∷ writer.stop ∷ control_stop total ∷ []) reader.kills
+  pub late : WearsLate new
 
 -- The sink holds a front of what the source gave.
 pub record HoldsGiven (left_old left_new held_old held_new : Option (List ℕ)) : Type 0 where

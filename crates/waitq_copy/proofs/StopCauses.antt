@@ -19,7 +19,7 @@ use Rattle.copy_plan.specs.declared.stop.ReaderEnd.{ReaderEnd}
 use Rattle.copy_plan.specs.declared.stop.Stop.{Stop}
 use Rattle.copy_plan.specs.declared.stop.Stop.TheVariants as stop
 use Rattle.copy_plan.specs.declared.stop.WorkerEnd.{WorkerEnd}
-use Rattle.copy_ends.specs.Copied.{Copied, ControlEnds, control_stop}
+use Rattle.copy_ends.specs.Copied.{Copied, ControlEnds, NotesAreLate, WearsLate, control_stop}
 use Rattle.copy_plan.specs.Kinds.{copy_stop}
 use Rattle.copy_plan.specs.Stops.{IfTaken}
 use Rattle.copy_turns.specs.Turns.{IsLong, IsReaderStop, IsRelayStop, IsWriterStop}
@@ -186,13 +186,19 @@ controls (Err (bit_end.Worn h p)) how e = inr (h, p, refl, sym e)
 controls (Err (bit_end.Interrupted seen)) how e = inl (sym e)
 
 full_at : (task k : Known) (domain : TableId) (number next h p : ℕ) → Grows (newcomer domain number next 0) k
-    → has_of number task.view ≡ k.view.items → WasWorn k.view.number k.view.items h p → WasFull task p
-full_at task k domain number next h p g l w = record {
-  number = number;
-  head = h;
-  worn = subst (λ (items : _). WasWorn number items h p) (sym l)
-      (subst (λ (n : ℕ). WasWorn n k.view.items h p) (ap (λ v. v.number) g.view) w);
-}
+    → has_of number task.view ≡ k.view.items → (late : WearsLate task)
+    → NotesAreLate late.shown late.law number task → WasWorn k.view.number k.view.items h p → WasFull task p
+full_at task k domain number next h p g l late notes w =
+    let worn : WasWorn number (has_of number task.view) h p =
+    subst (λ (items : _). WasWorn number items h p) (sym l)
+    (subst (λ (n : ℕ). WasWorn n k.view.items h p) (ap (λ v. v.number) g.view) w) in record {
+      number = number;
+      head = h;
+      worn = worn;
+      shown = late.shown;
+      law = late.law;
+      late = notes h p worn;
+    }
 
 rises : (n : ℕ) → HasRisen 0 n → 0 < n
 rises zero h = h (omega arith)
@@ -269,7 +275,7 @@ module _ (domain : TableId) (task : Known) (left_old left_new : Option (List ℕ
           subst (λ (r : Result ℕ BitEnd). ControlEnds (newcomer domain 4 5 0) c.four r) t c.ends in
           let same_head : h2 ≡ h = cc s in
           let same_place : p2 ≡ p = cc s in
-          full_at task c.four domain 4 5 h p c.controls.served.grows c.lists.3
+          full_at task c.four domain 4 5 h p c.controls.served.grows c.lists.3 c.late c.late.controller
           (subst (λ (x : ℕ). WasWorn c.four.view.number c.four.view.items h x) same_place
           (subst (λ (x : ℕ). WasWorn c.four.view.number c.four.view.items x p2) same_head w))
 
@@ -279,11 +285,11 @@ module _ (domain : TableId) (task : Known) (left_old left_new : Option (List ℕ
       control (inr w) = counted w.0 w.1 w.2 w.3
 
       by : Among (stop.Worn h p) (reader.stop ∷ relay.stop ∷ writer.stop ∷ control_stop total ∷ []) → WasFull task p
-      by (inl f) = full_at task c.one domain 1 2 h p c.reads.worked.served.grows c.lists.0
+      by (inl f) = full_at task c.one domain 1 2 h p c.reads.worked.served.grows c.lists.0 c.late c.late.reader
           (reader_stop (stop.Worn h p) f)
-      by (inr (inl f)) = full_at task c.two domain 2 3 h p c.relays.worked.served.grows c.lists.1
+      by (inr (inl f)) = full_at task c.two domain 2 3 h p c.relays.worked.served.grows c.lists.1 c.late c.late.relay
           (relay_stop (stop.Worn h p) f)
-      by (inr (inr (inl f))) = full_at task c.three domain 3 4 h p c.writes.worked.served.grows c.lists.2
+      by (inr (inr (inl f))) = full_at task c.three domain 3 4 h p c.writes.worked.served.grows c.lists.2 c.late c.late.writer
           (writer_stop (stop.Worn h p) f)
       by (inr (inr (inr (inl f)))) = control (controls total (stop.Worn h p) f)
       by (inr (inr (inr (inr f)))) = absurd f

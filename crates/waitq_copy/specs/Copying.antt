@@ -11,7 +11,10 @@ use Rattle.edge_io.specs.Faults.{HasRisen}
 use Rattle.edge_io.specs.Folders.{Files, HasBytes, HasNone, HoldsNothing, Stores}
 use Rattle.edge_io.specs.Text.{HoldsPrefix}
 use Rattle.bit_wait.specs.declared.wait_calls.BitEnd.{BitEnd}
-use Rattle.wait_rule.specs.Ends.{WasWorn}
+use Rattle.wait_rule.specs.declared.journal.Journal.{Journal}
+use Rattle.wait_rule.specs.Ends.{WasWorn, worn_adds}
+use Rattle.wait_rule.specs.Places.{queued_at}
+use Rattle.wait_rule.specs.Says.{IsShown}
 use Rattle.wait_rule.specs.Journals.{has_of}
 use Rattle.wait_rule.specs.Known.{Known}
 use Rattle.wait_rule.specs.TallyLaws.{tally_in}
@@ -129,11 +132,15 @@ abbrev pub IsStored : Result (Unit {0}) SinkFault → Option Files → Option Fi
 IsStored (Ok x) old new dst held = Stores old new dst held
 IsStored (Err e) old new dst held = new ≡ old
 
--- A hold of a worker, or of the controller, found no place, and stands in the task's journal.
+-- A hold of a worker, or of the controller, found no place, and stands in the task's journal; and at least 2^37 entries
+-- were queued at its head, in the table that showed the lists as they were joined.
 pub record WasFull (task : Known) (place : ℕ) : Type 0 where
   pub number : ℕ
   pub head : ℕ
   pub worn : WasWorn number (has_of number task.view) head place
+  pub shown : Journal
+  pub law : IsShown shown
+  pub late : worn_adds ≤ queued_at head law.table.history
 
 -- The cause of each answer of a copy that ran.
 pub record Causes (task : Known) (old new : Outside) (reader : ReaderEnd) (how : Stop) (moved : ℕ)

@@ -53,12 +53,14 @@ impl Passed {
     /// Wakes the threads that park until another number of the head is served, where a ticket of it is out: all of
     /// them, since one alone might not be the one whose ticket is served now. `domain` is the one of the lock. It takes
     /// no task: no word changes, and no task knows more or less after it.
+    #[inline(always)]
     pub fn wake(self, domain: &Domain) {
         wake_waiters(domain, self.hand_on());
     }
 
     /// The head, for who wakes those that wait for it in a way of its own, as a loop that tells another language does,
     /// or where nobody parks.
+    #[inline(always)]
     pub fn hand_on(self) -> u16
         ensures { result ≡ self.head }
     {
@@ -69,6 +71,7 @@ impl Passed {
 
 /// Serves the next ticket of the head whose lock the task has given back. It has no ticket out from then on. No thread
 /// is woken by it: that is left to whoever has the lock that it passed on.
+#[inline(always)]
 pub fn serve(domain: &Domain, task: &mut Task) -> Passed
     requires of { task.old.domain ≡ domain.now }
     requires given { HasGiven task.old }
@@ -87,6 +90,7 @@ pub fn serve(domain: &Domain, task: &mut Task) -> Passed
 
 /// Wakes the threads that park until another number of head `head` is served, where there is such a head and a ticket
 /// of it is out.
+#[inline(always)]
 pub(crate) fn wake_waiters(domain: &Domain, head: u16) {
     if head < HEADS {
         let drawn = domain.table.shared.peek(next_at(head) as usize);

@@ -1,0 +1,5 @@
+-- The proofs.
+pub mod Awake
+pub mod Leaving
+pub mod Ways
+pub mod AskedPlans

@@ -1,0 +1,191 @@
+-- Waits under way that may have been asked to leave.
+use Rattle.std.proofs.Common.{◌∙◌, ap, subst, sym}
+use Rattle.std.specs.Prelude.{ℕ, ◌≡◌, ◌≤◌, ◌+◌, Bool, true, false, Some}
+use Rattle.wait_model.specs.declared.layout.TheConstants.{HEADS}
+use Rattle.wait_model.specs.declared.watches.Watch.{Watch}
+use Rattle.wait_rule.specs.Known.{Known}
+use Rattle.wait_rule.specs.Queues.{index}
+use Rattle.wait_class.specs.Handing.{LastGiven}
+use Rattle.wait_class.specs.declared.stages.Run.{Run}
+use Rattle.wait_class.specs.declared.stages.Turn.{Turn}
+use Rattle.wait_class.specs.declared.stages.Turn.TheVariants as turn
+use Rattle.wait_class.specs.Laws.{IsLawfulTable}
+use Rattle.wait_class.specs.Tables.{Advances, CallTable, IsAt, Lands, Plan, took_in, watch_in}
+use Rattle.wait_class.specs.UnderWay.{IsUnderWay, going}
+use Rattle.wait_class.proofs.Turns.{advances_none, advances_on, again}
+use Rattle.wait_class.proofs.UnderWay.{woke_on}
+use Rattle.wait_leave.specs.ExitLaws.{AreLawfulExits}
+use Rattle.wait_leave.specs.declared.exits.Exit.{Exit}
+use Rattle.wait_leave.specs.Leaves.{Exits, GoesOut, Leaves, asked_run, stays_awake, with_asked}
+use Rattle.wait_leave.specs.OnTheWay.{IsAwakeSince, IsOnWay, OnTheWay, left_at, straight}
+use Rattle.wait_leave.proofs.Leaving.{leaves_again, leaves_lands, leaves_on, leaves_risen}
+
+module _ {C S O : Type 0} (A : Type 0) (t : CallTable C S O) (x : Exits C S O) (law : AreLawfulExits t x)
+    (lawful : IsLawfulTable t) (old : Known) (r : Run C) (s : S) where
+  pub way_none : IsAt t old r s → OnTheWay A t x old r s old r (turn.Again s)
+  way_none a = straight old r (turn.Again s) (advances_none t lawful old r s a)
+
+  -- one turn of it
+  pub way_out : (new : Known) (q : Run C) (u : Turn S O) → A → IsAt t old r s → Leaves t x old new r q s u
+      → OnTheWay A t x old r s new q u
+  way_out new q u cause a l = left_at old r s new q u cause (way_none a) l
+
+  pub way_lands : (new : Known) (q : Run C) (u : Turn S O) → OnTheWay A t x old r s new q u → Lands t new q u
+  way_lands _ _ _ (straight new q u a) = a.lands
+  way_lands _ _ _ (left_at mid m n new q u cause w l) = leaves_lands t x law lawful mid new m q n u l
+
+  pub way_on : (mid new : Known) (m q : Run C) (n : S) (u : Turn S O) → OnTheWay A t x old r s mid m (turn.Again n)
+      → Advances t mid new m q n u → OnTheWay A t x old r s new q u
+  way_on _ new _ q n u (straight mid m _ b) a =
+      straight new q u (advances_on t lawful old mid new r m q s n u b.same b.went a)
+  way_on _ new _ q n u (left_at k j i mid m _ cause w l) a = left_at k j i new q u cause w
+      (leaves_on t x law lawful k mid new j m q i n u l a)
+
+  -- and another way from there
+  then_on : (mid : Known) (m : Run C) (n : S) → OnTheWay A t x old r s mid m (turn.Again n) → (new : Known) (q : Run C)
+      (u : Turn S O) → OnTheWay A t x mid m n new q u → OnTheWay A t x old r s new q u
+  then_on mid m n w _ _ _ (straight new q u a) = way_on mid new m q n u w a
+  then_on mid m n w _ _ _ (left_at k j i new q u cause v l) = left_at k j i new q u cause
+      (then_on mid m n w k j (turn.Again i) v) l
+
+  pub way_then : (mid new : Known) (m q : Run C) (n : S) (u : Turn S O) → OnTheWay A t x old r s mid m (turn.Again n)
+      → OnTheWay A t x mid m n new q u → OnTheWay A t x old r s new q u
+  way_then mid new m q n u w v = then_on mid m n w new q u v
+
+  pub way_again : (new : Known) (q : Run C) (n : S) → OnTheWay A t x old r s new q (turn.Locked n)
+      → OnTheWay A t x old r s new q (turn.Again n)
+  way_again _ _ n (straight new q _ a) = straight new q (turn.Again n) (again t old new r q s n a)
+  way_again _ _ n (left_at k j i new q _ cause w l) = left_at k j i new q (turn.Again n) cause w
+      (leaves_again t x law lawful k new j q i n l)
+
+  pub way_risen : (mid new : Known) (q : Run C) (n : S) → OnTheWay A t x old r s mid q (turn.Asleep n)
+      → Advances t mid new q q n (turn.Again n) → OnTheWay A t x old r s new q (turn.Again n)
+  way_risen _ new _ n (straight mid q _ b) a = straight new q (turn.Again n)
+      (woke_on t lawful old mid new r q q s n (turn.Again n) b a)
+  way_risen _ new _ n (left_at k j i mid q _ cause w l) a = left_at k j i new q (turn.Again n) cause w
+      (leaves_risen t x law lawful k mid new j q i n l a)
+
+  pub way_going : (new : Known) (q : Run C) (u : Turn S O) → OnTheWay A t x old r s new q u
+      → OnTheWay A t x old r s new q (going u)
+  way_going new q (turn.Again n) w = w
+  way_going new q (turn.Asleep n) w = w
+  way_going new q (turn.Locked n) w = way_again new q n w
+  way_going new q (turn.Done o) w = w
+
+  -- it is the same call
+  out_same : (e u : Turn S O) (k new : Known) (m q : Run C) → GoesOut t k new m q e u → t.plan_of q.of ≡ t.plan_of m.of
+  out_same (turn.Again n) u k new m q a = a.same
+  out_same (turn.Asleep n) u k new m q a = absurd a
+  out_same (turn.Locked n) u k new m q a = absurd a
+  out_same (turn.Done o) u k new m q a = ap (λ (p : Run C). t.plan_of p.of) a.same
+
+  leaves_same : (k new : Known) (m q : Run C) (n : S) (u : Turn S O) → Leaves t x k new m q n u
+      → t.plan_of q.of ≡ with_asked true (t.plan_of m.of)
+  leaves_same k new m q n u l = out_same l.exit.to u l.rested new (asked_run x m) q l.on
+      ∙ (law.at m.of n l.exit l.is).same
+
+  pub way_plan : (new : Known) (q : Run C) (u : Turn S O) → OnTheWay A t x old r s new q u
+      → with_asked false (t.plan_of q.of) ≡ with_asked false (t.plan_of r.of)
+  way_plan _ _ _ (straight new q u a) = ap (with_asked false) a.same
+  way_plan _ _ _ (left_at mid m n new q u cause w l) = ap (with_asked false) (leaves_same mid new m q n u l)
+      ∙ way_plan mid m (turn.Again n) w
+
+  -- whose plan says so has been asked, and had a cause
+  pub way_asked : (new : Known) (q : Run C) (u : Turn S O) → OnTheWay A t x old r s new q u
+      → (t.plan_of r.of).asked ≡ false → (t.plan_of q.of).asked ≡ true → A
+  way_asked _ _ _ (straight new q u a) not_yet now =
+      absurd (let no : true ≡ false = sym now ∙ (ap (λ (p : Plan). p.asked) a.same ∙ not_yet) in cc)
+  way_asked _ _ _ (left_at mid m n new q u cause w l) not_yet now = cause
+
+  -- what stays of the task
+  out_keeps : (e u : Turn S O) (k new : Known) (m q : Run C) → GoesOut t k new m q e u
+      → t.Keeps (index k.view.number 0) (watch_in t m.of) (took_in t e) (took_in t u) k new
+  out_keeps (turn.Again n) u k new m q a = a.went.keeps
+  out_keeps (turn.Asleep n) u k new m q a = absurd a
+  out_keeps (turn.Locked n) u k new m q a = absurd a
+  out_keeps (turn.Done o) u k new m q a = subst (λ (v : Turn S O). t.Keeps (index k.view.number 0) (watch_in t m.of)
+      (took_in t (turn.Done o)) (took_in t v) k new) (sym a.to)
+      (subst (λ (j : Known). t.Keeps (index k.view.number 0) (watch_in t m.of) (took_in t (turn.Done o))
+      (took_in t (turn.Done o)) k j) (sym a.still)
+      (lawful.keeps.none (index k.view.number 0) (watch_in t m.of) (took_in t (turn.Done o)) k))
+
+  leaves_keeps : (k new : Known) (m q : Run C) (n : S) (u : Turn S O) → Leaves t x k new m q n u
+      → t.Keeps (index k.view.number 0) (watch_in t m.of) (t.took n) (took_in t u) k new
+  leaves_keeps k new m q n u l =
+      let i = index k.view.number 0 in
+      let c = watch_in t m.of in
+      let e = law.at m.of n l.exit l.is in
+      let number = lawful.keeps.number i c (t.took n) (t.took n) k l.rested l.keeps in
+      lawful.keeps.on i c (t.took n) (t.took n) (took_in t u) k l.rested new l.keeps
+      (subst (λ (g : Bool). t.Keeps i c g (took_in t u) l.rested new) (sym e.took)
+      (subst (λ (j : ℕ). t.Keeps (index j 0) c (took_in t l.exit.to) (took_in t u) l.rested new) number
+      (subst (λ (d : Watch). t.Keeps (index l.rested.view.number 0) d (took_in t l.exit.to) (took_in t u) l.rested new)
+      (ap (λ (p : Plan). p.watch) e.same) (out_keeps l.exit.to u l.rested new (asked_run x m) q l.on))))
+
+  pub way_keeps : (new : Known) (q : Run C) (u : Turn S O) → OnTheWay A t x old r s new q u
+      → t.Keeps (index old.view.number 0) (watch_in t r.of) (t.took s) (took_in t u) old new
+  way_keeps _ _ _ (straight new q u a) = a.went.keeps
+  way_keeps _ _ _ (left_at mid m n new q u cause w l) =
+      let i = index old.view.number 0 in
+      let before = way_keeps mid m (turn.Again n) w in
+      let number = lawful.keeps.number i (watch_in t r.of) (t.took s) (t.took n) old mid before in
+      lawful.keeps.on i (watch_in t r.of) (t.took s) (t.took n) (took_in t u) old mid new before
+      (subst (λ (j : ℕ). t.Keeps (index j 0) (watch_in t r.of) (t.took n) (took_in t u) mid new) number
+      (subst (λ (d : Watch). t.Keeps (index mid.view.number 0) d (t.took n) (took_in t u) mid new)
+      (ap (λ (p : Plan). p.watch) (way_plan mid m (turn.Again n) w)) (leaves_keeps mid new m q n u l)))
+
+  pub way_domain : (new : Known) (q : Run C) (u : Turn S O) → OnTheWay A t x old r s new q u → new.domain ≡ old.domain
+  way_domain new q u w = lawful.keeps.domain (index old.view.number 0) (watch_in t r.of) (t.took s) (took_in t u) old
+      new (way_keeps new q u w)
+
+-- a stretch of one
+pub record IsOutStretch {C S O : Type 0} (t : CallTable C S O) (x : Exits C S O) (old new : Known) (r q : Run C) (s n : S)
+    (turns : ℕ) : Type 0 where
+  pub way : OnTheWay (Unit {0}) t x old r s new q (turn.Again n)
+  pub given : LastGiven old new HEADS
+  pub low : t.depth n + turns ≤ 6
+
+-- a way that is left whatever the cause
+pub way_for : {C S O : Type 0} (A : Type 0) → A → (t : CallTable C S O) (x : Exits C S O) (old : Known) (r : Run C)
+    (s : S) (new : Known) (q : Run C) (u : Turn S O) → OnTheWay (Unit {0}) t x old r s new q u
+    → OnTheWay A t x old r s new q u
+way_for A cause t x old r s _ _ _ (straight new q u a) = straight new q u a
+way_for A cause t x old r s _ _ _ (left_at mid m n new q u c w l) = left_at mid m n new q u cause
+    (way_for A cause t x old r s mid m (turn.Again n) w) l
+
+-- where each exit leads to a point from which on the program sleeps no more
+pub awake_since : {C S O : Type 0} {A : Type 0} (t : CallTable C S O) (x : Exits C S O)
+    (awake : (r : C) (s : S) (e : Exit S O) → x.exit r s ≡ Some e → stays_awake t x e.to ≡ true) (old : Known) (r : Run C)
+    (s : S) (new : Known) (q : Run C) (u : Turn S O) (w : OnTheWay A t x old r s new q u) → IsAwakeSince new q u w
+awake_since t x awake old r s _ _ _ (straight new q u a) = tt
+awake_since t x awake old r s _ _ _ (left_at mid m n new q u cause w l) = l.awake (awake m.of n l.exit l.is)
+
+-- a call that is on its way
+pub on_way_then : {C S O : Type 0} (A : Type 0) (t : CallTable C S O) (x : Exits C S O) (law : AreLawfulExits t x)
+    (lawful : IsLawfulTable t) (c : Plan) (mid new : Known) (m q : Run C) (n : S) (u : Turn S O)
+    → IsOnWay A t x c mid m (turn.Again n) → OnTheWay A t x mid m n new q u → IsOnWay A t x c new q u
+on_way_then A t x law lawful c mid new m q n u i w = record {
+  old = i.old;
+  began = i.began;
+  start = i.start;
+  clean = i.clean;
+  told = i.told;
+  nothing = i.nothing;
+  plan = i.plan;
+  came = way_going A t x law lawful i.old i.began i.start new q u
+      (way_then A t x law lawful i.old i.began i.start mid new m q n u i.came w);
+}
+
+-- a call that nobody asked to leave yet is on its way
+pub under_way_is : {C S O : Type 0} (A : Type 0) (t : CallTable C S O) (x : Exits C S O) (c : Plan) (k : Known) (r : Run C)
+    (u : Turn S O) → IsUnderWay t c k r u → IsOnWay A t x c k r u
+under_way_is A t x c k r u i = record {
+  old = i.old;
+  began = i.began;
+  start = i.start;
+  clean = i.clean;
+  told = i.told;
+  nothing = i.nothing;
+  plan = i.plan;
+  came = straight k r (going u) i.came;
+}

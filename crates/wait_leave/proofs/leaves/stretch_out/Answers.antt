@@ -1,0 +1,117 @@
+use Rattle.std.proofs.Common.{◌∙◌, arith, refl, sym}
+use Rattle.wait_model.specs.declared.layout.TheConstants.{HEADS}
+use Rattle.wait_model.specs.PointFacts.{holds}
+use Rattle.wait_class.specs.declared.stages.Turn.TheVariants as turn
+use Rattle.wait_class.proofs.Falling.{falls_by, falls_still, held_yes, unheld}
+use Rattle.wait_class.proofs.Handed.{given_as, given_on, given_still}
+use Rattle.wq_head.proofs.PassedOn.{none_yet}
+use Rattle.wait_leave.proofs.Ways.{on_way_then, way_domain, way_lands, way_none, way_then}
+use Rattle.wait_leave.proofs.leaves.stretch_out.Goals as goal
+
+pub loop-turn-init : goal.loop-turn-init
+loop-turn-init g c = (
+  record {
+    way = way_none (Unit {0}) g.C.Machine.table g.C.Leavable.exits c.may_leave.ensures c.lawful.ensures
+        c.args.task.now c.args.call.now c.args.stage c.requires.at;
+    given = given_still c.args.task.now c.args.task.now refl;
+    low = let d = c.lawful.ensures.depth c.args.stage in omega (arith, d);
+  },
+  c.requires.passes,
+)
+
+pub turn_out-requires-clause-of : goal.turn_out-requires-clause-of
+turn_out-requires-clause-of g c = way_domain (Unit {0}) g.C.Machine.table g.C.Leavable.exits c.may_leave.ensures c.lawful.ensures
+    c.args.task.now c.args.call.now c.args.stage c.loop-turn.task c.loop-turn.call
+    (turn.Again c.loop-turn.at) c.loop-turn.invariant.0.way
+    ∙ c.requires.of
+
+pub turn_out-requires-clause-at : goal.turn_out-requires-clause-at
+turn_out-requires-clause-at g c = way_lands (Unit {0}) g.C.Machine.table g.C.Leavable.exits c.may_leave.ensures c.lawful.ensures
+    c.args.task.now c.args.call.now c.args.stage c.loop-turn.task c.loop-turn.call
+    (turn.Again c.loop-turn.at) c.loop-turn.invariant.0.way
+
+pub loop-turn-preserved : goal.loop-turn-preserved
+loop-turn-preserved g c =
+    let t = g.C.Machine.table in
+    let i = c.loop-turn.invariant.0 in
+    let e = c.in-Again.ensures in
+    let next = c.in-Again.next in
+    let held = held_yes (holds (t.point_of next)) c.is_free.result c.is_free.ensures c.if-is_free.false in
+    let none = none_yet (holds (t.point_of next)) c.turn_out.new.passing held e.passes in
+    let less = falls_by (holds (t.point_of next)) (t.depth next) (t.depth c.loop-turn.at) e.falls held in (
+      record {
+        way = way_then (Unit {0}) g.C.Machine.table g.C.Leavable.exits c.may_leave.ensures c.lawful.ensures
+            c.args.task.now c.args.call.now c.args.stage c.loop-turn.task c.turn_out.new.task c.loop-turn.call c.turn_out.new.call c.loop-turn.at (turn.Again next) i.way e.way;
+        given = given_on c.args.task.now c.loop-turn.task c.turn_out.new.task HEADS i.given
+            (given_as c.loop-turn.task c.turn_out.new.task c.turn_out.new.passing.head HEADS (sym none) e.given);
+        low = omega (arith, less, i.low);
+      },
+      none,
+    )
+
+pub returns-then-is_free-clause-stops : goal.returns-then-is_free-clause-stops
+returns-then-is_free-clause-stops g c = unheld (holds (g.C.Machine.table.point_of c.in-Again.next)) c.is_free.result
+    c.is_free.ensures c.if-is_free.true
+
+pub returns-in-Asleep-clause-stops : goal.returns-in-Asleep-clause-stops
+returns-in-Asleep-clause-stops g c = falls_still (holds (g.C.Machine.table.point_of c.in-Asleep.next))
+    c.in-Asleep.ensures.falls
+
+pub returns-in-Locked-clause-stops : goal.returns-in-Locked-clause-stops
+returns-in-Locked-clause-stops g c = falls_still (holds (g.C.Machine.table.point_of c.in-Locked.next))
+    c.in-Locked.ensures.falls
+
+pub unreachable-requires : goal.unreachable-requires
+unreachable-requires g c = let low = c.loop-turn.invariant.0.low in absurd (omega (arith, low))
+
+pub returns-then-is_free-clause-way : goal.returns-then-is_free-clause-way
+returns-then-is_free-clause-way g c = way_then (Unit {0}) g.C.Machine.table g.C.Leavable.exits c.may_leave.ensures c.lawful.ensures
+    c.args.task.now c.args.call.now c.args.stage c.loop-turn.task c.turn_out.new.task c.loop-turn.call c.turn_out.new.call c.loop-turn.at
+    (turn.Again c.in-Again.next) c.loop-turn.invariant.0.way c.in-Again.ensures.way
+
+pub returns-then-is_free-clause-given : goal.returns-then-is_free-clause-given
+returns-then-is_free-clause-given g c = given_on c.args.task.now c.loop-turn.task c.turn_out.new.task c.turn_out.new.passing.head
+    c.loop-turn.invariant.0.given c.in-Again.ensures.given
+
+pub returns-then-is_free-clause-under : goal.returns-then-is_free-clause-under
+returns-then-is_free-clause-under g c p i = on_way_then (Unit {0}) g.C.Machine.table g.C.Leavable.exits c.may_leave.ensures c.lawful.ensures
+    p c.args.task.now c.turn_out.new.task c.args.call.now c.turn_out.new.call c.args.stage (turn.Again c.in-Again.next) i (returns-then-is_free-clause-way g c)
+
+pub returns-in-Asleep-clause-way : goal.returns-in-Asleep-clause-way
+returns-in-Asleep-clause-way g c = way_then (Unit {0}) g.C.Machine.table g.C.Leavable.exits c.may_leave.ensures c.lawful.ensures
+    c.args.task.now c.args.call.now c.args.stage c.loop-turn.task c.turn_out.new.task c.loop-turn.call c.turn_out.new.call c.loop-turn.at
+    (turn.Asleep c.in-Asleep.next) c.loop-turn.invariant.0.way c.in-Asleep.ensures.way
+
+pub returns-in-Asleep-clause-given : goal.returns-in-Asleep-clause-given
+returns-in-Asleep-clause-given g c = given_on c.args.task.now c.loop-turn.task c.turn_out.new.task c.turn_out.new.passing.head
+    c.loop-turn.invariant.0.given c.in-Asleep.ensures.given
+
+pub returns-in-Asleep-clause-under : goal.returns-in-Asleep-clause-under
+returns-in-Asleep-clause-under g c p i = on_way_then (Unit {0}) g.C.Machine.table g.C.Leavable.exits c.may_leave.ensures c.lawful.ensures
+    p c.args.task.now c.turn_out.new.task c.args.call.now c.turn_out.new.call c.args.stage (turn.Asleep c.in-Asleep.next) i (returns-in-Asleep-clause-way g c)
+
+pub returns-in-Locked-clause-way : goal.returns-in-Locked-clause-way
+returns-in-Locked-clause-way g c = way_then (Unit {0}) g.C.Machine.table g.C.Leavable.exits c.may_leave.ensures c.lawful.ensures
+    c.args.task.now c.args.call.now c.args.stage c.loop-turn.task c.turn_out.new.task c.loop-turn.call c.turn_out.new.call c.loop-turn.at
+    (turn.Locked c.in-Locked.next) c.loop-turn.invariant.0.way c.in-Locked.ensures.way
+
+pub returns-in-Locked-clause-given : goal.returns-in-Locked-clause-given
+returns-in-Locked-clause-given g c = given_on c.args.task.now c.loop-turn.task c.turn_out.new.task c.turn_out.new.passing.head
+    c.loop-turn.invariant.0.given c.in-Locked.ensures.given
+
+pub returns-in-Locked-clause-under : goal.returns-in-Locked-clause-under
+returns-in-Locked-clause-under g c p i = on_way_then (Unit {0}) g.C.Machine.table g.C.Leavable.exits c.may_leave.ensures c.lawful.ensures
+    p c.args.task.now c.turn_out.new.task c.args.call.now c.turn_out.new.call c.args.stage (turn.Locked c.in-Locked.next) i (returns-in-Locked-clause-way g c)
+
+pub returns-in-Done-clause-way : goal.returns-in-Done-clause-way
+returns-in-Done-clause-way g c = way_then (Unit {0}) g.C.Machine.table g.C.Leavable.exits c.may_leave.ensures c.lawful.ensures
+    c.args.task.now c.args.call.now c.args.stage c.loop-turn.task c.turn_out.new.task c.loop-turn.call c.turn_out.new.call c.loop-turn.at
+    (turn.Done c.in-Done.outcome) c.loop-turn.invariant.0.way c.in-Done.ensures.way
+
+pub returns-in-Done-clause-given : goal.returns-in-Done-clause-given
+returns-in-Done-clause-given g c = given_on c.args.task.now c.loop-turn.task c.turn_out.new.task c.turn_out.new.passing.head
+    c.loop-turn.invariant.0.given c.in-Done.ensures.given
+
+pub returns-in-Done-clause-under : goal.returns-in-Done-clause-under
+returns-in-Done-clause-under g c p i = on_way_then (Unit {0}) g.C.Machine.table g.C.Leavable.exits c.may_leave.ensures c.lawful.ensures
+    p c.args.task.now c.turn_out.new.task c.args.call.now c.turn_out.new.call c.args.stage (turn.Done c.in-Done.outcome) i (returns-in-Done-clause-way g c)

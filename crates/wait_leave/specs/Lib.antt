@@ -1,0 +1,4 @@
+-- What contracts cite.
+pub mod Leaves
+pub mod ExitLaws
+pub mod OnTheWay

@@ -8,5 +8,5 @@ pub mod waits;
 pub mod wakes;
 
 pub use swake_turns::{SwakeRun, SwakeStage, SwakeTurn, swake_stretch};
-pub use waits::{begin_swait, swait_event};
+pub use waits::{begin_swait, swait_event, swait_event_until};
 pub use wakes::{swake_all, swake_all_locked, swake_locked, swake_one};

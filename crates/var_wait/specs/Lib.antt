@@ -1,4 +1,5 @@
 pub mod VarWaits
+pub mod VarLeaves
 pub mod VarPublishes
 pub mod VarWords
 pub mod LosesNone

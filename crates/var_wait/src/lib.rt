@@ -7,4 +7,4 @@ pub mod publishes;
 pub mod waits;
 
 pub use publishes::publish_var_and_wake;
-pub use waits::{begin_var, end_of_var, wait_var};
+pub use waits::{begin_var, end_of_var, until_of_var, wait_var, wait_var_until};

@@ -1,6 +1,6 @@
 //! Waits for variables. In stretches they go on by `wait_class::runs::stretch`, from `begin_var` on.
 
-ghost use Rattle.std.specs.Prelude.{◌≡◌, ◌<◌};
+ghost use Rattle.std.specs.Prelude.{◌≡◌, ◌<◌, true};
 ghost use Rattle.wait_model.specs.declared.layout.TheConstants.{VARIABLES};
 ghost use Rattle.wait_model.specs.declared.watches.Watch.TheVariants as watch;
 ghost use Rattle.wait_rule.specs.Queues.{IsIdle, IsTold, index};
@@ -12,13 +12,17 @@ ghost use Rattle.wait_event.specs.Ends.{end_in, wait_change};
 ghost use Rattle.wait_class.specs.declared.stages.Turn.TheVariants as turn;
 ghost use Rattle.wait_class.specs.Tables.{Advances, IsAt};
 ghost use Rattle.wait_class.specs.UnderWay.{IsUnderWay};
+ghost use Rattle.wait_event.specs.WaitLeaves.{wait_until_in};
 ghost use Rattle.wait_event.specs.Waits.{IsFresh, wait_table};
+ghost use Rattle.var_wait.specs.VarLeaves.{EndsVarUntil, until_loaded};
 ghost use Rattle.var_wait.specs.VarWaits.{EndsVarWait, shared_in, with_loaded};
 
 use std::sync::Wait;
 use wait_class::runs::run;
 use wait_event::wait_events::{WaitEnd, end_of};
+use wait_event::wait_leaves::{WaitUntil, until_of};
 use wait_event::waits::{WaitCall, WaitOutcome, WaitRun, WaitStage, fresh_wait};
+use wait_leave::run_asked;
 use wait_model::tasks::{How, SleepState};
 use wait_model::watches::Watch;
 use wait_rule::{Domain, Task};
@@ -106,4 +110,45 @@ pub fn end_var(task: &Task, wait: &WaitRun, outcome: WaitOutcome) -> Result<u64,
     let _ = *task;
     let call = wait.of;
     end_of_var(call, outcome)
+}
+
+/// Waits as `wait_var` does, but leaves the wait once `asks` has answered true: it is asked before each event while its
+/// task is awake, so before it goes asleep and once it was woken. Who stores what `asks` reads and then wakes the task
+/// (`wake_task`) is heard. Left: asked so, its entry off, and its last load found `seen`, which is `old`. Over: as
+/// `wait_var` answers.
+pub fn wait_var_until<R: Wait, Q: Fn() -> bool>(
+    rt: &R,
+    domain: &Domain,
+    task: &mut Task,
+    var: u8,
+    old: u64,
+    state: SleepState,
+    asks: Q,
+) -> WaitUntil<Result<u64, WaitEnd>>
+    requires of { task.old.domain ≡ domain.now }
+    requires up { IsUp task.old }
+    requires idle { IsIdle task.old }
+    requires there { var < VARIABLES }
+    requires out { IsOut task.old }
+    requires asks { Q.IsAlwaysCallable asks }
+    ensures waited { EndsVarUntil (Q.post asks true) task.old task.new var old state result }
+    ensures up { IsUp task.new }
+    ensures idle { IsIdle task.new }
+    ensures out { IsOut task.new }
+    ensures carries { Carries (wait_change (index task.old.view.number 0) task.new.at) task.old task.new }
+{
+    let mut wait = begin_var(task, var, old, state);
+    let outcome = run_asked(rt, domain, task, &mut wait, WaitStage::First, asks);
+    until_of_var(wait.of, outcome)
+}
+
+/// The answer of a wait for a variable that has ended, and may have been left (`wait_event::leave_wait`).
+pub fn until_of_var(wait: WaitCall, outcome: WaitOutcome) -> WaitUntil<Result<u64, WaitEnd>>
+    ensures { result ≡ until_loaded wait.seen (wait_until_in wait outcome) }
+{
+    match until_of(wait, outcome) {
+        WaitUntil::Over(Ok(())) => WaitUntil::Over(Ok(wait.seen)),
+        WaitUntil::Over(Err(end)) => WaitUntil::Over(Err(end)),
+        WaitUntil::Left { seen, selected } => WaitUntil::Left { seen, selected },
+    }
 }

@@ -16,10 +16,10 @@ use Rattle.wait_rule.specs.Stays.{Carries}
 use Rattle.wait_rule.specs.Transitions.{Goes, Program, call_program}
 use Rattle.wait_rule.proofs.KnownLaws.StayingParts.{owes_also, owes_out}
 use Rattle.wait_event.specs.WaitPlans.{call_for}
-use Rattle.wait_event.specs.Waits.{IsFresh, IsRunning, IsUnset, SameCall, answer_in, left_by, point_of, queues, wait_table}
+use Rattle.wait_event.specs.Waits.{IsFresh, IsRunning, IsUnset, LeftQueue, LeftSo, SameCall, answer_in, last_load, left_by, point_of, queues, wait_table}
 use Rattle.wait_class.specs.Posts.{EndsWith, own_of}
 use Rattle.wait_event.specs.Ends.{EndsWait, FoundNoPlace, HasWaited, WasSignalled, end_in, wait_change}
-use Rattle.wait_class.specs.Posts.{IsOut}
+use Rattle.wait_class.specs.Posts.{IsOut, Keeps}
 use Rattle.wait_event.specs.declared.waits.WaitOutcome.{WaitOutcome}
 use Rattle.wait_event.specs.declared.waits.WaitOutcome.TheVariants as outcome
 use Rattle.wait_event.specs.declared.waits.WaitCall.{WaitCall}
@@ -27,7 +27,7 @@ use Rattle.wait_event.specs.declared.waits.WaitStage.{WaitStage}
 use Rattle.wait_event.specs.declared.waits.WaitStage.TheVariants as stage
 use Rattle.wait_class.specs.declared.stages.Run.{Run}
 use Rattle.wait_class.specs.declared.stages.Turn.TheVariants as turn
-use Rattle.wait_class.specs.Tables.{Advances, IsAt}
+use Rattle.wait_class.specs.Tables.{Advances, IsAt, IsEnded, Plan}
 use Rattle.wait_class.proofs.Wholes.{begins, none_of}
 use Rattle.wait_event.proofs.Plans.{program_is}
 
@@ -36,34 +36,31 @@ pub begins_at : (k : Known) (r : Run WaitCall) → IsRunning r.of → IsTold k �
     → IsAt wait_table k r stage.First
 begins_at k r runs = begins wait_table k r stage.First runs refl refl refl refl tt
 
-module _ (old new : Known) (r q : Run WaitCall) (s : WaitStage) (o : WaitOutcome)
-    (a : Advances wait_table old new r q s (turn.Done o)) where
-  pub ends_up : IsUp new
-  ends_up = a.lands.up
-
-  pub ends_idle : (told_of old).mark ≡ None → IsIdle new
-  ends_idle unmarked = record {
-    running = a.lands.stands.state;
-    free = record { head = a.lands.stands.head; ticket = a.lands.stands.ticket };
-    unmarked = a.went.keeps.mark ∙ unmarked;
+-- how a task stands whose wait has ended, whatever way it came there
+module _ (old new : Known) (q : Run WaitCall) (o : WaitOutcome) (over : IsEnded wait_table new q o)
+    (keeps : Keeps (index old.view.number 0) old new) where
+  pub over_idle : (told_of old).mark ≡ None → IsIdle new
+  over_idle unmarked = record {
+    running = over.stands.state;
+    free = record { head = over.stands.head; ticket = over.stands.ticket };
+    unmarked = keeps.mark ∙ unmarked;
   }
 
-  pub ends_out : IsOut new
-  ends_out = none_of q.of.watch ((told_of new).bits.stored (index new.view.number 0)) a.lands.stands.home
+  pub over_out : IsOut new
+  over_out = none_of q.of.watch ((told_of new).bits.stored (index new.view.number 0)) over.stands.home
 
   -- who began idle goes on as it was
-  pub ends_carried : IsUp old → IsIdle old → (told_of old).hold.head ≡ None
+  pub over_carried : IsUp old → IsIdle old → (told_of old).hold.head ≡ None
       → Carries (wait_change (index old.view.number 0) new.at) old new
-  ends_carried up idle held =
-      let i = index old.view.number 0 in
-      let keeps = a.went.keeps in record {
+  over_carried up idle held =
+      let i = index old.view.number 0 in record {
         domain = keeps.domain;
         number = keeps.number;
-        awake = a.lands.up ∙ sym up;
-        state = a.lands.stands.state ∙ sym idle.running;
-        head = a.lands.stands.head ∙ sym idle.free.head;
-        ticket = a.lands.stands.ticket ∙ sym idle.free.ticket;
-        hold = a.lands.stands.told ∙ sym held;
+        awake = over.up ∙ sym up;
+        state = over.stands.state ∙ sym idle.running;
+        head = over.stands.head ∙ sym idle.free.head;
+        ticket = over.stands.ticket ∙ sym idle.free.ticket;
+        hold = over.stands.told ∙ sym held;
         at = refl;
         mark = keeps.mark;
         fewer = λ w σ none is. keeps.fewer w σ is;
@@ -72,21 +69,39 @@ module _ (old new : Known) (r q : Run WaitCall) (s : WaitStage) (o : WaitOutcome
         stands = keeps.stands;
         keeps = λ d _. keeps.keeps d;
         owes = λ x owes. owes_out i x new (ap (λ (n : ℕ). (told_of new).bits.stored (index n 0)) (sym keeps.number)
-            ∙ ends_out) (keeps.owes x (owes_also i x old owes));
+            ∙ over_out) (keeps.owes x (owes_also i x old owes));
       }
 
--- who began owing nothing
+  -- who began owing nothing
+  pub over_clean : IsClean old → IsTold old → IsClean new
+  over_clean clean told =
+      let idle = over_idle clean.settled.unmarked in
+      let was : IsIdle old = record { running = clean.running; free = clean.free; unmarked = clean.settled.unmarked } in
+      record {
+        up = over.up;
+        running = idle.running;
+        free = idle.free;
+        settled = (over_carried clean.up was (told.head ∙ clean.free.head)).owes no_excuse clean.settled;
+      }
+
+module _ (old new : Known) (r q : Run WaitCall) (s : WaitStage) (o : WaitOutcome)
+    (a : Advances wait_table old new r q s (turn.Done o)) where
+  pub ends_up : IsUp new
+  ends_up = a.lands.up
+
+  pub ends_idle : (told_of old).mark ≡ None → IsIdle new
+  ends_idle = over_idle old new q o a.lands a.went.keeps
+
+  pub ends_out : IsOut new
+  ends_out = over_out old new q o a.lands a.went.keeps
+
+  pub ends_carried : IsUp old → IsIdle old → (told_of old).hold.head ≡ None
+      → Carries (wait_change (index old.view.number 0) new.at) old new
+  ends_carried = over_carried old new q o a.lands a.went.keeps
+
 pub ends_clean : (old new : Known) (r q : Run WaitCall) (s : WaitStage) (o : WaitOutcome)
     → Advances wait_table old new r q s (turn.Done o) → IsClean old → IsTold old → IsClean new
-ends_clean old new r q s o a clean told =
-    let idle = ends_idle old new r q s o a clean.settled.unmarked in
-    let was : IsIdle old = record { running = clean.running; free = clean.free; unmarked = clean.settled.unmarked } in
-    record {
-      up = a.lands.up;
-      running = idle.running;
-      free = idle.free;
-      settled = (ends_carried old new r q s o a clean.up was (told.head ∙ clean.free.head)).owes no_excuse clean.settled;
-    }
+ends_clean old new r q s o a = over_clean old new q o a.lands a.went.keeps
 
 -- what it says at its end
 module _ (old new : Known) (r q : Run WaitCall) (w : Watch) (how : How) (fresh : IsFresh r.of w how)
@@ -114,12 +129,19 @@ module _ (old new : Known) (r q : Run WaitCall) (w : Watch) (how : How) (fresh :
   how_is : SameCall r.of q.of → q.of.how ≡ how
   how_is same = same.how ∙ fresh.how_is
 
+  -- it was not asked to leave
+  signal_left : (found : Bool) → Advances wait_table old new r q stage.First (turn.Done (outcome.Signalled found))
+      → LeftSo q.of.asked new q.of found (last_load q.of) → LeftQueue new q.of found (last_load q.of)
+  signal_left found a = subst (λ (b : Bool). LeftSo b new q.of found (last_load q.of)
+      → LeftQueue new q.of found (last_load q.of)) (sym (ap (λ (p : Plan). p.asked) a.same ∙ fresh.unasked)) (λ l. l)
+
   -- it was signalled, and it found no place
   pub was_signalled : (found : Bool) (a : Advances wait_table old new r q stage.First (turn.Done (outcome.Signalled found)))
       → (selected : Bool) → selected ≡ (q.of.queued && not found)
       → WasSignalled new w how q.of.seen selected (queues a.went.runs.transitions)
   was_signalled found a selected tells =
-      let t = a.lands.trail in record {
+      let t : LeftQueue new q.of found (last_load q.of) × IsUnset q.of.watch q.of.seen
+      = (signal_left found a a.lands.trail.0, a.lands.trail.1) in record {
         look = t.0.look;
         entry = t.0.entry;
         showed = ap (λ (h : How). pending (state_mask h.state) (task_of t.0.look)) (sym (how_is a.went.tells.same))

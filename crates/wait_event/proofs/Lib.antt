@@ -7,6 +7,7 @@ pub mod WaitLaws
 pub mod WaitAdds
 pub mod FirstLoads
 pub mod Endings
+pub mod WaitLeaving
 pub mod Hearing
 pub mod Setting
 pub mod PartSteps

@@ -55,6 +55,7 @@ use Rattle.wait_event.proofs.WaitTrails.{
   finds_off,
   gives_back,
   left_loads,
+  signal_seen,
   takes_entry,
   trail_rises,
   trail_still,
@@ -121,7 +122,7 @@ module _ (r : WaitCall) where
         (λ σ s. s) (λ o h. h))
         (way wait_table r (stage.LeaveLoad found) q (turn.Again stage.FinishState) refl refl refl refl refl (λ σ s. inl s)
         (home_waits r.watch))
-        (λ old new is calm u. (left_loads old new r v calm found u, unset_by r.watch v is)) (λ old new is calm u. is)
+        (λ old new is calm u. (left_loads old new r v calm r.asked found u, unset_by r.watch v is)) (λ old new is calm u. is)
 
   -- the prepare
   draw_prepare : DrawLaw wait_table r stage.PrepareLock
@@ -197,7 +198,7 @@ module _ (r : WaitCall) where
       (way wait_table r stage.PrepareLook r (turn.Again stage.LeaveQueue) refl refl refl refl refl (λ σ s. s) (λ o h. h))
       (λ w me is. ap (λ (c : Bool). next.Go (if c then at.Leave leaving.Queue else at.Prepare preparing.Queue)) is)
       (λ w me k. tt) (λ w me k. (refl, tt, tt))
-      (λ old new w is calm u. (w, is, (history_of old, calm.history)))
+      (λ old new w is calm u. signal_seen r.asked new r w is (history_of old, calm.history))
   look_prepare false = look_by wait_table r stage.PrepareLook refl false
       (way wait_table r stage.PrepareLook r (turn.Again stage.PrepareQueue) refl refl refl refl refl (λ σ s. s)
       (λ o h. h))
@@ -317,7 +318,7 @@ module _ (r : WaitCall) where
     takes_leaves = record { head = refl; ticket = refl };
     takes_state = λ σ s. s;
     takes_home = tt;
-    takes_trail = λ old new w calm shows u. takes_entry old new r w calm shows u;
+    takes_trail = λ old new w calm shows u. takes_entry old new r r.asked w calm shows u;
     gives = record {
       moves = record {
         plain = refl;
@@ -331,7 +332,7 @@ module _ (r : WaitCall) where
       state = λ σ s. s;
       home = tt;
       permits = λ old mid w calm runs at u. low mid runs at;
-      trail = λ old new w calm shows u. finds_off old new r w calm shows u;
+      trail = λ old new w calm shows u. finds_off old new r r.asked w calm shows u;
     };
   }
 
@@ -350,7 +351,7 @@ module _ (r : WaitCall) where
     leaves = record { head = refl; ticket = refl };
     state = λ σ s. s;
     home = λ o h. h;
-    trail = λ old new calm u. gives_back old new r calm u;
+    trail = λ old new calm u. gives_back old new r r.asked calm u;
     permits = λ k runs at u. low k runs at;
   }
 

@@ -11,11 +11,26 @@ use Rattle.wait_model.specs.Watches.{misses}
 use Rattle.wait_model.specs.Words.{entry_of}
 use Rattle.wait_rule.specs.Known.{Known}
 use Rattle.wait_rule.specs.Queues.{index}
-use Rattle.wait_rule.specs.Says.{told_of}
+use Rattle.wait_rule.specs.Says.{history_of, told_of}
 use Rattle.wait_class.specs.Posts.{EndsWith, own_of}
 use Rattle.wait_class.specs.Laws.{Calm, Unmoved}
 use Rattle.wait_class.proofs.Histories.{ends_calm, ends_still, found_still, unmoved_by}
-use Rattle.wait_event.specs.Waits.{IsQueuedIn, IsUnset, LeftQueue, TrailAt, head_of_wait, is_slept, last_load, left_by}
+use Rattle.wait_event.specs.Waits.{
+  GoesOff,
+  IsQueuedIn,
+  IsUnset,
+  LeftQueue,
+  LeftSo,
+  PartedQueue,
+  SawSignal,
+  TakesOff,
+  TrailAt,
+  head_of_wait,
+  is_slept,
+  last_load,
+  left_by,
+  off_by,
+}
 use Rattle.wait_event.specs.declared.waits.WaitCall.{WaitCall}
 use Rattle.wait_event.specs.declared.waits.WaitStage.{WaitStage}
 use Rattle.wait_event.specs.declared.waits.WaitStage.TheVariants as stage
@@ -43,29 +58,41 @@ queued_still old new σ calm q = record {
   state = calm.state refl ∙ q.state;
 }
 
--- the entry is taken off after a signal, and the head given back
+-- the entry is taken off, and the head given back
+abbrev pub off_steps : ℕ → ℕ → List Step
+off_steps x e = step.Saw x e ∷ step.Unqueue x ∷ []
+
 abbrev pub taken_steps : ℕ → ℕ → ℕ → List Step
-taken_steps x w e = step.Look w ∷ step.Saw x e ∷ step.Unqueue x ∷ []
+taken_steps x w e = step.Look w ∷ off_steps x e
+
+pub parted_taken : (x h e : ℕ) → is_some (entry_of e) ≡ true
+    → off_by x h e ++ [] ≡ off_steps x e ++ step.Unlock h false ∷ []
+parted_taken x h e is = ap (λ (b : Bool). step.Saw x e ∷ ((if b
+    then step.Unqueue x ∷ step.Unlock h false ∷ []
+    else step.Unlock h false ∷ []) ++ [])) is
+
+pub parted_off : (x h e : ℕ) → is_some (entry_of e) ≡ false
+    → off_by x h e ++ [] ≡ step.Saw x e ∷ step.Unlock h false ∷ []
+parted_off x h e is = ap (λ (b : Bool). step.Saw x e ∷ ((if b
+    then step.Unqueue x ∷ step.Unlock h false ∷ []
+    else step.Unlock h false ∷ []) ++ [])) is
 
 pub left_taken : (x h w e : ℕ) → is_some (entry_of e) ≡ true
     → left_by x h w e ++ [] ≡ taken_steps x w e ++ step.Unlock h false ∷ []
-left_taken x h w e is = ap (λ (b : Bool). step.Look w ∷ step.Saw x e ∷ ((if b
-    then step.Unqueue x ∷ step.Unlock h false ∷ []
-    else step.Unlock h false ∷ []) ++ [])) is
+left_taken x h w e is = ap (λ (l : List Step). step.Look w ∷ l) (parted_taken x h e is)
 
 pub left_off : (x h w e : ℕ) → is_some (entry_of e) ≡ false
     → left_by x h w e ++ [] ≡ step.Look w ∷ step.Saw x e ∷ step.Unlock h false ∷ []
-left_off x h w e is = ap (λ (b : Bool). step.Look w ∷ step.Saw x e ∷ ((if b
-    then step.Unqueue x ∷ step.Unlock h false ∷ []
-    else step.Unlock h false ∷ []) ++ [])) is
+left_off x h w e is = ap (λ (l : List Step). step.Look w ∷ l) (parted_off x h e is)
 
+-- a wait that left for a signal
 module _ (old new : Known) (r : WaitCall) where
   abbrev h : ℕ
   h = head_of_wait r
 
-  pub takes_entry : (w : ℕ) → Calm (step.Saw (own_of old) w ∷ step.Unqueue (own_of old) ∷ []) old new
-      → is_some (entry_of w) ≡ true → TrailAt old r stage.LeaveQueue → TrailAt new r stage.LeaveUnlock
-  takes_entry w calm shows u = (
+  signal_takes : (w : ℕ) → Calm (step.Saw (own_of old) w ∷ step.Unqueue (own_of old) ∷ []) old new
+      → is_some (entry_of w) ≡ true → GoesOff false old r → TakesOff false new r
+  signal_takes w calm shows u = (
     u.0,
     w,
     u.1,
@@ -74,8 +101,8 @@ module _ (old new : Known) (r : WaitCall) where
         (ends_calm old new (step.Look u.0 ∷ []) (step.Saw (own_of old) w ∷ step.Unqueue (own_of old) ∷ []) calm u.2),
   )
 
-  pub gives_back : Calm (step.Unlock h false ∷ []) old new → TrailAt old r stage.LeaveUnlock → LeftQueue new r true []
-  gives_back calm u = record {
+  signal_gives : Calm (step.Unlock h false ∷ []) old new → TakesOff false old r → LeftQueue new r true []
+  signal_gives calm u = record {
     look = u.0;
     entry = u.1;
     showed = u.2;
@@ -86,9 +113,9 @@ module _ (old new : Known) (r : WaitCall) where
         (ends_calm old new (taken_steps (own_of old) u.0 u.1) (step.Unlock h false ∷ []) calm u.4));
   }
 
-  pub finds_off : (w : ℕ) → Calm (step.Saw (own_of old) w ∷ step.Unlock h false ∷ []) old new
-      → is_some (entry_of w) ≡ false → TrailAt old r stage.LeaveQueue → LeftQueue new r false []
-  finds_off w calm shows u = record {
+  signal_off : (w : ℕ) → Calm (step.Saw (own_of old) w ∷ step.Unlock h false ∷ []) old new
+      → is_some (entry_of w) ≡ false → GoesOff false old r → LeftQueue new r false []
+  signal_off w calm shows u = record {
     look = u.0;
     entry = w;
     showed = u.1;
@@ -99,8 +126,8 @@ module _ (old new : Known) (r : WaitCall) where
         (ends_calm old new (step.Look u.0 ∷ []) (step.Saw (own_of old) w ∷ step.Unlock h false ∷ []) calm u.2));
   }
 
-  pub left_still : (found : Bool) → Unmoved old new → LeftQueue old r found [] → LeftQueue new r found []
-  left_still found still l = record {
+  signal_still : (found : Bool) → Unmoved old new → LeftQueue old r found [] → LeftQueue new r found []
+  signal_still found still l = record {
     look = l.look;
     entry = l.entry;
     showed = l.showed;
@@ -109,13 +136,94 @@ module _ (old new : Known) (r : WaitCall) where
         (ends_still old new (left_by (own_of old) h l.look l.entry ++ []) still l.ends);
   }
 
--- the last load of a wait that was signalled, and of one that found no place
+  -- and one that was asked to
+  asked_takes : (w : ℕ) → Calm (step.Saw (own_of old) w ∷ step.Unqueue (own_of old) ∷ []) old new
+      → is_some (entry_of w) ≡ true → TakesOff true new r
+  asked_takes w calm shows = (
+    w,
+    shows,
+    subst (λ (x : ℕ). EndsWith new (off_steps x w)) (own_same old new calm.number) (history_of old, calm.history),
+  )
+
+  asked_gives : Calm (step.Unlock h false ∷ []) old new → TakesOff true old r → PartedQueue new r true []
+  asked_gives calm u = record {
+    entry = u.0;
+    found = sym u.1;
+    ends = subst (EndsWith new) (sym (parted_taken (own_of new) h u.0 u.1))
+        (subst (λ (x : ℕ). EndsWith new (off_steps x u.0 ++ step.Unlock h false ∷ [])) (own_same old new calm.number)
+        (ends_calm old new (off_steps (own_of old) u.0) (step.Unlock h false ∷ []) calm u.2));
+  }
+
+  asked_off : (w : ℕ) → Calm (step.Saw (own_of old) w ∷ step.Unlock h false ∷ []) old new
+      → is_some (entry_of w) ≡ false → PartedQueue new r false []
+  asked_off w calm shows = record {
+    entry = w;
+    found = sym shows;
+    ends = subst (EndsWith new) (sym (parted_off (own_of new) h w shows))
+        (subst (λ (x : ℕ). EndsWith new (step.Saw x w ∷ step.Unlock h false ∷ [])) (own_same old new calm.number)
+        (history_of old, calm.history));
+  }
+
+  asked_still : (found : Bool) → Unmoved old new → PartedQueue old r found [] → PartedQueue new r found []
+  asked_still found still l = record {
+    entry = l.entry;
+    found = l.found;
+    ends = subst (λ (x : ℕ). EndsWith new (off_by x h l.entry ++ [])) (own_same old new still.number)
+        (ends_still old new (off_by (own_of old) h l.entry ++ []) still l.ends);
+  }
+
+  -- either
+  pub takes_entry : (b : Bool) (w : ℕ) → Calm (step.Saw (own_of old) w ∷ step.Unqueue (own_of old) ∷ []) old new
+      → is_some (entry_of w) ≡ true → GoesOff b old r → TakesOff b new r
+  takes_entry true w calm shows u = asked_takes w calm shows
+  takes_entry false w calm shows u = signal_takes w calm shows u
+
+  pub gives_back : (b : Bool) → Calm (step.Unlock h false ∷ []) old new → TakesOff b old r → LeftSo b new r true []
+  gives_back true calm u = asked_gives calm u
+  gives_back false calm u = signal_gives calm u
+
+  pub finds_off : (b : Bool) (w : ℕ) → Calm (step.Saw (own_of old) w ∷ step.Unlock h false ∷ []) old new
+      → is_some (entry_of w) ≡ false → GoesOff b old r → LeftSo b new r false []
+  finds_off true w calm shows u = asked_off w calm shows
+  finds_off false w calm shows u = signal_off w calm shows u
+
+  pub left_still : (b found : Bool) → Unmoved old new → LeftSo b old r found [] → LeftSo b new r found []
+  left_still true found still l = asked_still found still l
+  left_still false found still l = signal_still found still l
+
+  goes_still : (b : Bool) → Unmoved old new → GoesOff b old r → GoesOff b new r
+  goes_still true still u = tt
+  goes_still false still u = (u.0, u.1, ends_still old new (step.Look u.0 ∷ []) still u.2)
+
+  takes_still : (b : Bool) → Unmoved old new → TakesOff b old r → TakesOff b new r
+  takes_still true still u = (
+    u.0,
+    u.1,
+    subst (λ (x : ℕ). EndsWith new (off_steps x u.0)) (own_same old new still.number)
+        (ends_still old new (off_steps (own_of old) u.0) still u.2),
+  )
+  takes_still false still u = (
+    u.0,
+    u.1,
+    u.2,
+    u.3,
+    subst (λ (x : ℕ). EndsWith new (taken_steps x u.0 u.1)) (own_same old new still.number)
+        (ends_still old new (taken_steps (own_of old) u.0 u.1) still u.4),
+  )
+
+-- a signal was found by a wait that was asked, or not
+pub signal_seen : (b : Bool) (k : Known) (r : WaitCall) (w : ℕ) → SawSignal r w → EndsWith k (step.Look w ∷ [])
+    → GoesOff b k r
+signal_seen true k r w is ends = tt
+signal_seen false k r w is ends = (w, is, ends)
+
+-- the last load of a wait that left its queue
 module _ (old new : Known) (r : WaitCall) (v : ℕ) (calm : Calm (step.Load r.watch v ∷ []) old new) where
   abbrev q : WaitCall
   q = record r { seen = v }
 
-  pub left_loads : (found : Bool) → LeftQueue old r found [] → LeftQueue new q found (last_load q)
-  left_loads found l = record {
+  signal_loads : (found : Bool) → LeftQueue old r found [] → LeftQueue new q found (last_load q)
+  signal_loads found l = record {
     look = l.look;
     entry = l.entry;
     showed = l.showed;
@@ -126,22 +234,28 @@ module _ (old new : Known) (r : WaitCall) (v : ℕ) (calm : Calm (step.Load r.wa
         (ends_calm old new (left_by (own_of old) (head_of_wait r) l.look l.entry ++ []) (last_load q) calm l.ends));
   }
 
+  asked_loads : (found : Bool) → PartedQueue old r found [] → PartedQueue new q found (last_load q)
+  asked_loads found l = record {
+    entry = l.entry;
+    found = l.found;
+    ends = subst (λ (x : ℕ). EndsWith new (off_by x (head_of_wait r) l.entry ++ last_load q))
+        (own_same old new calm.number)
+        (subst (EndsWith new) (append_assoc (off_by (own_of old) (head_of_wait r) l.entry) [] (last_load q))
+        (ends_calm old new (off_by (own_of old) (head_of_wait r) l.entry ++ []) (last_load q) calm l.ends));
+  }
+
+  pub left_loads : (b found : Bool) → LeftSo b old r found [] → LeftSo b new q found (last_load q)
+  left_loads true found l = asked_loads found l
+  left_loads false found l = signal_loads found l
+
 -- what stays where nothing was made
 pub trail_still : (old new : Known) (r : WaitCall) (s : WaitStage) → Calm [] old new → TrailAt old r s → TrailAt new r s
 trail_still old new r stage.PrepareState calm u = queued_calm [] old new calm (calm.stored refl) u
 trail_still old new r stage.PrepareUnlock calm u = queued_still old new _ calm u
 trail_still old new r stage.Test calm u = queued_still old new _ calm u
-trail_still old new r stage.LeaveQueue calm u =
-    (u.0, u.1, ends_still old new (step.Look u.0 ∷ []) (unmoved_by old new calm) u.2)
-trail_still old new r stage.LeaveUnlock calm u = (
-  u.0,
-  u.1,
-  u.2,
-  u.3,
-  subst (λ (x : ℕ). EndsWith new (taken_steps x u.0 u.1)) (own_same old new calm.number)
-      (ends_still old new (taken_steps (own_of old) u.0 u.1) (unmoved_by old new calm) u.4),
-)
-trail_still old new r (stage.LeaveLoad found) calm u = left_still old new r found (unmoved_by old new calm) u
+trail_still old new r stage.LeaveQueue calm u = goes_still old new r r.asked (unmoved_by old new calm) u
+trail_still old new r stage.LeaveUnlock calm u = takes_still old new r r.asked (unmoved_by old new calm) u
+trail_still old new r (stage.LeaveLoad found) calm u = left_still old new r r.asked found (unmoved_by old new calm) u
 trail_still old new r stage.Worn calm u = found_still old new (head_of_wait r) r.place (unmoved_by old new calm) u
 trail_still old new r stage.First calm u = u
 trail_still old new r stage.PrepareLock calm u = u

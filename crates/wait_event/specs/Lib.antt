@@ -1,6 +1,7 @@
 pub mod Waits
 pub mod WaitPlans
 pub mod Ends
+pub mod WaitLeaves
 pub mod Conds
 pub mod Prepares
 pub mod PartSteps

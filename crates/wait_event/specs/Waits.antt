@@ -168,17 +168,21 @@ pub record IsFresh (r : WaitCall) (w : Watch) (how : How) : Type 0 where
   pub how_is : r.how ≡ how
   pub seen : r.seen ≡ old_of w
   pub queued : r.queued ≡ false
+  pub unasked : r.asked ≡ false
 
 pub record IsRunning (r : WaitCall) : Type 0 where
   pub there : IsThere r.watch
   pub suits : IsWaitFor r.watch r.how
 
--- Its last hold that left the queue for a signal: the look at the own word showed one that the state admits, and the
--- own entry was taken off, or was off.
-abbrev pub left_by : ℕ → ℕ → ℕ → ℕ → List Step
-left_by x h w e = step.Look w ∷ step.Saw x e ∷ (if is_some (entry_of e)
+-- The last hold of a wait that left its queue: the own entry was taken off, or was off, and the head given back.
+abbrev pub off_by : ℕ → ℕ → ℕ → List Step
+off_by x h e = step.Saw x e ∷ (if is_some (entry_of e)
     then step.Unqueue x ∷ step.Unlock h false ∷ []
     else step.Unlock h false ∷ [])
+
+-- where it left for a signal, the look at the own word came before, and showed one that the state admits
+abbrev pub left_by : ℕ → ℕ → ℕ → ℕ → List Step
+left_by x h w e = step.Look w ∷ off_by x h e
 
 abbrev pub head_of_wait : WaitCall → ℕ
 head_of_wait r = head_of r.watch
@@ -194,6 +198,27 @@ pub record LeftQueue (k : Known) (r : WaitCall) (queued : Bool) (more : List Ste
   pub showed : SawSignal r look
   pub found : queued ≡ is_some (entry_of entry)
   pub ends : EndsWith k (left_by (own_of k) (head_of_wait r) look entry ++ more)
+
+-- a hold that left the queue since its task was asked to found the own entry as this word
+pub record PartedQueue (k : Known) (r : WaitCall) (queued : Bool) (more : List Step) : Type 0 where
+  pub entry : ℕ
+  pub found : queued ≡ is_some (entry_of entry)
+  pub ends : EndsWith k (off_by (own_of k) (head_of_wait r) entry ++ more)
+
+-- why it left its queue: it was asked to, or found a signal
+abbrev pub LeftSo : Bool → Known → WaitCall → Bool → List Step → Type 0
+LeftSo true k r queued more = PartedQueue k r queued more
+LeftSo false k r queued more = LeftQueue k r queued more
+
+abbrev pub GoesOff : Bool → Known → WaitCall → Type 0
+GoesOff true k r = Unit {0}
+GoesOff false k r = (w : ℕ) × SawSignal r w × EndsWith k (step.Look w ∷ [])
+
+abbrev pub TakesOff : Bool → Known → WaitCall → Type 0
+TakesOff true k r = (e : ℕ) × (is_some (entry_of e) ≡ true)
+    × EndsWith k (step.Saw (own_of k) e ∷ step.Unqueue (own_of k) ∷ [])
+TakesOff false k r = (w : ℕ) × (e : ℕ) × SawSignal r w × (is_some (entry_of e) ≡ true)
+    × EndsWith k (step.Look w ∷ step.Saw (own_of k) e ∷ step.Unqueue (own_of k) ∷ [])
 
 -- the load at which the wait ended
 abbrev pub last_load : WaitCall → List Step
@@ -219,10 +244,9 @@ abbrev pub TrailAt : Known → WaitCall → WaitStage → Type 0
 TrailAt k r stage.PrepareState = is_some ((told_of k).bits.stored (own_of k)) ≡ true
 TrailAt k r stage.PrepareUnlock = IsQueuedIn k (state_mask r.how.state)
 TrailAt k r stage.Test = IsQueuedIn k (state_mask r.how.state)
-TrailAt k r stage.LeaveQueue = (w : ℕ) × SawSignal r w × EndsWith k (step.Look w ∷ [])
-TrailAt k r stage.LeaveUnlock = (w : ℕ) × (e : ℕ) × SawSignal r w × (is_some (entry_of e) ≡ true)
-    × EndsWith k (step.Look w ∷ step.Saw (own_of k) e ∷ step.Unqueue (own_of k) ∷ [])
-TrailAt k r (stage.LeaveLoad found) = LeftQueue k r found []
+TrailAt k r stage.LeaveQueue = GoesOff r.asked k r
+TrailAt k r stage.LeaveUnlock = TakesOff r.asked k r
+TrailAt k r (stage.LeaveLoad found) = LeftSo r.asked k r found []
 TrailAt k r stage.Worn = FoundWorn k (head_of_wait r) r.place []
 TrailAt k r stage.FinishState = HasSeenSet r
 TrailAt k r stage.FinishLook = HasSeenSet r
@@ -234,7 +258,7 @@ TrailAt k r _ = Unit {0}
 
 abbrev pub TrailEnd : Known → WaitCall → WaitOutcome → Type 0
 TrailEnd k r outcome.Over = HasSeenSet r
-TrailEnd k r (outcome.Signalled found) = LeftQueue k r found (last_load r) × IsUnset r.watch r.seen
+TrailEnd k r (outcome.Signalled found) = LeftSo r.asked k r found (last_load r) × IsUnset r.watch r.seen
 TrailEnd k r outcome.Worn = FoundWorn k (head_of_wait r) r.place (last_load r) × IsUnset r.watch r.seen
 
 -- the wait has ended: the task is awake, RUNNING, holds no head, and its entry is off
@@ -289,7 +313,7 @@ pub record Tells (r q : WaitCall) (ts : List Transition) : Type 0 where
 
 abbrev pub wait_table : CallTable WaitCall WaitStage WaitOutcome
 wait_table = record {
-  plan_of = λ r. wait_plan r.watch r.how;
+  plan_of = λ r. record (wait_plan r.watch r.how) { asked = r.asked };
   Fits = IsRunning;
   worn_at = λ r p. record r { place = p };
   joined_at = λ r s. record r { queued = true };

@@ -19,7 +19,7 @@ use wq_head::Worn;
 
 /// A stage of a wait: where it stands in its program. At `PrepareTurn` and `FinishTurn` the ticket of the lock is
 /// drawn, at `PrepareLock` and `FinishLock` it is not. At `LeaveLoad` it is told whether the hold that left the queue
-/// for a signal found the entry queued.
+/// found the entry queued.
 // Stages at which the same is done stand side by side: where the compiler knows that one of them is at hand, it tells
 // them apart by a compare.
 #[derive(Clone, Copy)]
@@ -45,8 +45,8 @@ pub enum WaitStage {
     FinishLook,
 }
 
-/// How a wait ended: its condition was set, or it was signalled (true: its last hold found its entry queued), or no
-/// place was left for its entry.
+/// How a wait ended: its condition was set, or it left its queue for a signal, or since it was asked to (true: its last
+/// hold found its entry queued), or no place was left for its entry.
 #[derive(Clone, Copy)]
 pub enum WaitOutcome {
     Over,
@@ -68,6 +68,8 @@ pub struct WaitCall {
     pub seen: u64,
     /// Whether the wait has queued its entry.
     pub queued: bool,
+    /// Whether its task was asked to leave it.
+    pub asked: bool,
 }
 
 pub type WaitTurn = Turn<WaitStage, WaitOutcome>;
@@ -85,6 +87,7 @@ impl WaitCall {
             place: 0,
             seen: old_of(watch),
             queued: false,
+            asked: false,
         }
     }
 }

@@ -39,7 +39,9 @@ use Rattle.completion_cell.proofs.AwaitTrails.{
   knows_none,
   knows_state,
   knows_stayed,
+  knows_for,
   leaves_calm,
+  leaves_for,
   still_by,
 }
 use Rattle.completion_cell.proofs.Ground.{count_after_step, head_there, looked_count}
@@ -143,12 +145,12 @@ module _ (r : AwaitCall) where
   look_law true = look_by await_table r stage.Look refl true
       (way await_table r stage.Look r (turn.Again stage.LeaveState) refl refl refl refl refl (λ σ s. s) (λ o h. h))
       (λ w me is. ap (λ (c : Bool). next.Go (if c then at.Await (awaiting.Run true) else at.Prepare preparing.Queue)) is)
-      (λ w me k. tt) (λ w me k. (refl, tt, tt)) (λ old new w is c u. record {
+      (λ w me k. tt) (λ w me k. (refl, tt, tt)) (λ old new w is c u. leaves_for new r [] (record {
         word = w;
         pends = is;
         ends = ends_calm old new (step.Load (watch.Done r.cell) 0 ∷ []) (step.Look w ∷ []) c u.1;
         knows = knows_look r.cell old new 0 w c u.0;
-      })
+      }) r.asked)
   look_law false = look_by await_table r stage.Look refl false
       (way await_table r stage.Look r (turn.Again stage.Queue) refl refl refl refl refl (λ σ s. s) (λ o h. h))
       (λ w me is. ap (λ (c : Bool). next.Go (if c then at.Await (awaiting.Run true) else at.Prepare preparing.Queue)) is)
@@ -272,7 +274,8 @@ module _ (r : AwaitCall) where
     home = λ o h. h;
     may = λ k s. inl refl;
     sort = inl refl;
-    trail = λ old new c u. leaves_calm old new r [] (step.State 0) c (knows_state r.cell old new 0 0 c) u;
+    trail = λ old new c u. leaves_calm old new r [] (step.State 0 ∷ []) r.asked c
+        (knows_state r.cell old new 0 0 c (knows_for old r [] r.asked u)) u;
   }
 
   -- a hold that takes one of the count

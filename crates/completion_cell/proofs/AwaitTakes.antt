@@ -99,7 +99,7 @@ use Rattle.completion_cell.specs.Awaits.{
   TakesFrom,
   AwaitTells,
   AwaitTrail,
-  WasSignalled,
+  WhyStopped,
   await_call,
   await_head,
   await_table,
@@ -121,7 +121,7 @@ use Rattle.completion_cell.specs.declared.awaits.AwaitStage.TheVariants as stage
 use Rattle.completion_cell.proofs.Asking.{lowers, one_less, take_carried}
 use Rattle.completion_cell.proofs.AwaitCounts.{still_stands_at}
 use Rattle.completion_cell.proofs.AwaitLaws.{await_lawful, told_by}
-use Rattle.completion_cell.proofs.AwaitTrails.{has_quit, knows_none, knows_off, knows_saw, left_off, left_queued}
+use Rattle.completion_cell.proofs.AwaitTrails.{has_quit, knows_for, knows_none, knows_off, knows_saw, left_off, left_queued}
 use Rattle.completion_cell.proofs.Completing.{stored_agreed}
 use Rattle.completion_cell.proofs.Ground.{step_behind}
 use Rattle.completion_cell.proofs.HeldSteps.{held_by, store_deals}
@@ -357,8 +357,11 @@ module _ (start k : Known) (run : Run AwaitCall) (found : Bool) (q : QuitsFrom s
   abbrev qo : IsUnqueued start k run found
   qo = q.off
 
+  known : Knows k qr.cell 0
+  known = knows_for k qr _ qr.asked q.left.leaves
+
   pub quit_owes : OwesNoPermit k
-  quit_owes = knows_none qr.cell k (qo.stands.at (await_head qr) refl) q.left.leaves.knows
+  quit_owes = knows_none qr.cell k (qo.stands.at (await_head qr) refl) known
 
   module _ (new : Known) (is : new ≡ unlocked_with k k.at false) where
     abbrev qu : Step
@@ -368,9 +371,9 @@ module _ (start k : Known) (run : Run AwaitCall) (found : Bool) (q : QuitsFrom s
     quit_told x did = told_by qr qr x refl refl refl (ap is_queue did) (subst InRange (sym did) tt)
 
     zero_is : FindsValue k (await_watch qr) nothing
-    zero_is = q.left.leaves.knows.counts.0
+    zero_is = known.counts.0
 
-    quits : (b : Bool) → (b ≡ false → (told_of k).hold.book (own_of start) ≡ gone) → WasSignalled new qr b
+    quits : (b : Bool) → (b ≡ false → (told_of k).hold.book (own_of start) ≡ gone) → WhyStopped qr.asked new qr b
         → GoesOn await_table start new qr qr (quit_stage b) (turn.Done (outcome.Signalled b))
     quits false seen was = own_goes await_table start k new qr qr stage.LeaveQueue (turn.Done (outcome.Signalled false))
         qu nothing qo.looks (back_looks await_table await_lawful k new is) quit_told (back_kept start k run found qo new is)
@@ -516,7 +519,8 @@ module _ (old mid : Known) (run : Run AwaitCall) (stopped : Bool) (a : IsAt awai
 
     on_from : (b : Bool) (f : Entry) → o ≡ Some f → AwaitTrail old c (off_stage b)
         → GoesOn await_table old new c c (off_stage b) (turn.Again (last_stage b))
-    on_from true f is u = goes true 0 f is (knows_saw c.cell old mid 0 x h.word saw_calm u.knows)
+    on_from true f is u = goes true 0 f is (knows_saw c.cell old mid 0 x h.word saw_calm
+        (knows_for old c (step.State 0 ∷ []) c.asked u))
         (left_queued old new c h.word u off_calm (entry_shows true (ap (λ (g : Option Entry). is_some g) is)))
     on_from false f is u = goes false c.count f is (knows_saw c.cell old mid c.count x h.word saw_calm u.0)
         (knows_off c.cell old new c.count h.word off_calm u.0, u.1)

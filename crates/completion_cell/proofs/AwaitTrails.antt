@@ -1,5 +1,5 @@
 -- What the stages of a wait for a completion say of its last steps, and of permits: over one event and the next.
-use Rattle.std.proofs.Common.{◌∙◌, ap, sym, refl, subst, arith, append-nil, eq-eqb}
+use Rattle.std.proofs.Common.{◌∙◌, ap, sym, refl, subst, arith, append-nil, append_assoc, eq-eqb}
 use Rattle.std.specs.Prelude.{ℕ, ◌≡◌, ◌≤◌, if◌then◌else◌, Bool, true, false, is_some, Option, Some, None, List, [], ◌∷◌, ◌++◌}
 use Rattle.wait_model.specs.declared.steps.Step.{Step}
 use Rattle.wait_model.specs.declared.steps.Step.TheVariants as step
@@ -21,20 +21,12 @@ use Rattle.wait_rule.proofs.KnownLaws.HandedSteps.{order_front}
 use Rattle.wait_class.specs.Posts.{EndsWith, own_of}
 use Rattle.wait_class.specs.Laws.{Calm, Unmoved}
 use Rattle.wait_class.proofs.Histories.{ends_calm, ends_still}
-use Rattle.completion_cell.specs.Awaits.{
-  HasGivenBack,
-  HasJustLocked,
-  HasPared,
-  LeavesBy,
-  AwaitTrail,
-  WasSignalled,
-  await_head,
-}
+use Rattle.completion_cell.specs.Awaits.{HasGivenBack, HasJustLocked, HasPared, LeavesBy, LeavesFor, AwaitTrail, WhyStopped, await_head}
 use Rattle.completion_cell.specs.HeldPermits.{Deals, HasBegun, HasLoaded, Held, IsSettled, Knows, Waits}
 use Rattle.completion_cell.specs.declared.awaits.AwaitCall.{AwaitCall}
 use Rattle.completion_cell.specs.declared.awaits.AwaitStage.{AwaitStage}
 use Rattle.completion_cell.specs.declared.awaits.AwaitStage.TheVariants as stage
-use Rattle.completion_cell.proofs.Ground.{looked_count, value_append}
+use Rattle.completion_cell.proofs.Ground.{count_after_step, looked_count, value_append}
 use Rattle.completion_cell.proofs.HeldSteps.{held_by, held_only}
 use Rattle.completion_cell.proofs.HoldTurns.{begins_looking, begins_off, found, found_few}
 use Rattle.completion_cell.proofs.WaitFronts.{loaded_on, waits_may_end, waits_on, zero_waits}
@@ -145,6 +137,21 @@ module _ (d : ℕ) (old new : Known) where
             (begins_looking d a front u.0 u.1 w));
       }
 
+-- it goes out for a signal, and what its hold knows then
+pub leaves_for : (k : Known) (r : AwaitCall) (more : List Step) → LeavesBy k r more → (b : Bool) → LeavesFor b k r more
+leaves_for k r more u true = (
+  u.knows,
+  (
+    u.ends.0 ++ step.Load (watch.Done r.cell) 0 ∷ step.Look u.word ∷ [],
+    u.ends.1 ∙ sym (append_assoc u.ends.0 (step.Load (watch.Done r.cell) 0 ∷ step.Look u.word ∷ []) more),
+  ),
+)
+leaves_for k r more u false = u
+
+pub knows_for : (k : Known) (r : AwaitCall) (more : List Step) (b : Bool) → LeavesFor b k r more → Knows k r.cell 0
+knows_for k r more true u = u.0
+knows_for k r more false u = u.knows
+
 -- where nothing is made each stage says what it said
 module _ (old new : Known) (still : Unmoved old new) where
   same_number : new.view.number ≡ old.view.number
@@ -172,6 +179,10 @@ module _ (old new : Known) (still : Unmoved old new) where
     knows = still_knows r.cell 0 u.knows;
   }
 
+  still_for : (r : AwaitCall) (more : List Step) (b : Bool) → LeavesFor b old r more → LeavesFor b new r more
+  still_for r more true u = (still_knows r.cell 0 u.0, ends_still old new _ still u.1)
+  still_for r more false u = still_leaves r more u
+
   pub still_by : (r : AwaitCall) (s : AwaitStage) → AwaitTrail old r s → AwaitTrail new r s
   still_by r stage.First u = still_left r.cell u
   still_by r stage.FirstTurn u = still_left r.cell u
@@ -186,13 +197,13 @@ module _ (old new : Known) (still : Unmoved old new) where
   still_by r stage.Queue u = still_knows r.cell 0 u
   still_by r stage.State u = still_knows r.cell 0 u
   still_by r stage.Unlock u = still_knows r.cell 0 u
-  still_by r stage.LeaveState u = still_leaves r [] u
-  still_by r stage.LeaveQueue u = still_leaves r (step.State 0 ∷ []) u
+  still_by r stage.LeaveState u = still_for r [] r.asked u
+  still_by r stage.LeaveQueue u = still_for r (step.State 0 ∷ []) r.asked u
   still_by r stage.LeaveUnlock u = record {
     entry = u.entry;
     queued = u.queued;
-    leaves = subst (λ (n : ℕ). LeavesBy new r (step.State 0 ∷ step.Saw (index n 0) u.entry
-        ∷ step.Unqueue (index n 0) ∷ [])) (sym same_number) (still_leaves r _ u.leaves);
+    leaves = subst (λ (n : ℕ). LeavesFor r.asked new r (step.State 0 ∷ step.Saw (index n 0) u.entry
+        ∷ step.Unqueue (index n 0) ∷ [])) (sym same_number) (still_for r _ r.asked u.leaves);
   }
   still_by r stage.TakeState u = (still_knows r.cell r.count u.0, u.1)
   still_by r stage.TakeQueue u = (still_knows r.cell r.count u.0, u.1)
@@ -210,43 +221,48 @@ pub gives_back : (old new : Known) (r : AwaitCall) → Calm (step.Unlock (await_
     → HasGivenBack new r
 gives_back old new r c = (history_of old, c.history)
 
--- a look that showed a signal, and the store of RUNNING
-pub leaves_calm : (old new : Known) (r : AwaitCall) (more : List Step) (e : Step) → Calm (e ∷ []) old new
-    → (Knows old r.cell 0 → Knows new r.cell 0) → LeavesBy old r more → LeavesBy new r (more ++ e ∷ [])
-leaves_calm old new r more e c on u = record {
+-- on the way out, and these steps more
+pub leaves_calm : (old new : Known) (r : AwaitCall) (more es : List Step) (b : Bool) → Calm es old new
+    → Knows new r.cell 0 → LeavesFor b old r more → LeavesFor b new r (more ++ es)
+leaves_calm old new r more es true c knows u = (knows, ends_calm old new more es c u.1)
+leaves_calm old new r more es false c knows u = record {
   word = u.word;
   pends = u.pends;
-  ends = ends_calm old new (step.Load (watch.Done r.cell) 0 ∷ step.Look u.word ∷ more) (e ∷ []) c u.ends;
-  knows = on u.knows;
+  ends = ends_calm old new (step.Load (watch.Done r.cell) 0 ∷ step.Look u.word ∷ more) es c u.ends;
+  knows = knows;
 }
 
 -- the own entry was looked at, and taken off where it was queued
-module _ (old new : Known) (r : AwaitCall) (w : ℕ) (u : LeavesBy old r (step.State 0 ∷ [])) where
+module _ (old new : Known) (r : AwaitCall) (w : ℕ) (u : LeavesFor r.asked old r (step.State 0 ∷ [])) where
+  known : Knows old r.cell 0
+  known = knows_for old r (step.State 0 ∷ []) r.asked u
+
   left_by_saw : (found : Bool) (more : List Step) → Calm (step.Saw (own_of old) w ∷ more) old new
       → more ≡ (if found then step.Unqueue (own_of old) ∷ [] else []) → is_some (entry_of w) ≡ found
       → Knows new r.cell 0 → HasPared new r found
   left_by_saw found more c is queued knows = record {
     entry = w;
     queued = queued;
-    leaves = subst (λ (n : ℕ). LeavesBy new r (step.State 0 ∷ step.Saw (index n 0) w
+    leaves = subst (λ (n : ℕ). LeavesFor r.asked new r (step.State 0 ∷ step.Saw (index n 0) w
         ∷ (if found then step.Unqueue (index n 0) ∷ [] else []))) (sym c.number)
-        (subst (λ (l : List Step). LeavesBy new r (step.State 0 ∷ step.Saw (own_of old) w ∷ l)) is (record {
-          word = u.word;
-          pends = u.pends;
-          ends = ends_calm old new _ (step.Saw (own_of old) w ∷ more) c u.ends;
-          knows = knows;
-        }));
+        (subst (λ (l : List Step). LeavesFor r.asked new r (step.State 0 ∷ step.Saw (own_of old) w ∷ l)) is
+        (leaves_calm old new r (step.State 0 ∷ []) (step.Saw (own_of old) w ∷ more) r.asked c knows u));
   }
 
   pub left_off : Calm (step.Saw (own_of old) w ∷ []) old new → is_some (entry_of w) ≡ false → HasPared new r false
-  left_off c none = left_by_saw false [] c refl none (knows_saw r.cell old new 0 (own_of old) w c u.knows)
+  left_off c none = left_by_saw false [] c refl none (knows_saw r.cell old new 0 (own_of old) w c known)
 
   pub left_queued : Calm (step.Saw (own_of old) w ∷ step.Unqueue (own_of old) ∷ []) old new
       → is_some (entry_of w) ≡ true → HasPared new r true
   left_queued c some = left_by_saw true (step.Unqueue (own_of old) ∷ []) c refl some
-      (knows_off r.cell old new 0 w c u.knows)
+      (knows_off r.cell old new 0 w c known)
 
 -- and the head is given back
+abbrev out_steps : AwaitCall → ℕ → ℕ → Bool → List Step
+out_steps r e x queued = step.State 0 ∷ step.Saw x e
+    ∷ (if queued then step.Unqueue x ∷ step.Unlock (await_head r) false ∷ []
+    else step.Unlock (await_head r) false ∷ [])
+
 abbrev quit_steps : AwaitCall → ℕ → ℕ → ℕ → Bool → List Step
 quit_steps r w e x queued = step.Load (watch.Done r.cell) 0 ∷ step.Look w ∷ step.State 0 ∷ step.Saw x e
     ∷ (if queued then step.Unqueue x ∷ step.Unlock (await_head r) false ∷ []
@@ -259,13 +275,31 @@ module _ (old new : Known) (r : AwaitCall) (c : Calm (step.Unlock (await_head r)
   quit_ends w e true u = ends_calm old new _ (step.Unlock (await_head r) false ∷ []) c u
   quit_ends w e false u = ends_calm old new _ (step.Unlock (await_head r) false ∷ []) c u
 
-  pub has_quit : (found : Bool) → HasPared old r found → WasSignalled new r found
-  has_quit found u = record {
-    look = u.leaves.word;
-    entry = u.entry;
-    pends = u.leaves.pends;
-    queued = sym u.queued;
-    ends = subst (λ (b : Bool). EndsWith new (quit_steps r u.leaves.word u.entry (own_of new) b)) (sym u.queued)
-        (subst (λ (n : ℕ). EndsWith new (quit_steps r u.leaves.word u.entry (index n 0) found)) (sym c.number)
-        (quit_ends u.leaves.word u.entry found u.leaves.ends));
+  out_ends : (e : ℕ) (queued : Bool) → EndsWith old (step.State 0 ∷ step.Saw (own_of old) e
+      ∷ (if queued then step.Unqueue (own_of old) ∷ [] else []))
+      → EndsWith new (out_steps r e (own_of old) queued)
+  out_ends e true u = ends_calm old new _ (step.Unlock (await_head r) false ∷ []) c u
+  out_ends e false u = ends_calm old new _ (step.Unlock (await_head r) false ∷ []) c u
+
+  quit_for : (found : Bool) (e : ℕ) → is_some (entry_of e) ≡ found → (b : Bool)
+      → LeavesFor b old r (step.State 0 ∷ step.Saw (own_of old) e
+      ∷ (if found then step.Unqueue (own_of old) ∷ [] else [])) → WhyStopped b new r found
+  quit_for found e queued true u = record {
+    entry = e;
+    queued = sym queued;
+    zero = count_after_step r.cell old new (step.Unlock (await_head r) false) c.history ∙ u.0.counts.0;
+    ends = subst (λ (q : Bool). EndsWith new (out_steps r e (own_of new) q)) (sym queued)
+        (subst (λ (n : ℕ). EndsWith new (out_steps r e (index n 0) found)) (sym c.number) (out_ends e found u.1));
   }
+  quit_for found e queued false u = record {
+    look = u.word;
+    entry = e;
+    pends = u.pends;
+    queued = sym queued;
+    ends = subst (λ (b : Bool). EndsWith new (quit_steps r u.word e (own_of new) b)) (sym queued)
+        (subst (λ (n : ℕ). EndsWith new (quit_steps r u.word e (index n 0) found)) (sym c.number)
+        (quit_ends u.word e found u.ends));
+  }
+
+  pub has_quit : (found : Bool) → HasPared old r found → WhyStopped r.asked new r found
+  has_quit found u = quit_for found u.entry u.queued r.asked u.leaves

@@ -26,15 +26,17 @@ use Rattle.wait_class.specs.Posts.{EndsWith, own_of}
 use Rattle.wait_event.specs.Waits.{queues}
 use Rattle.wait_class.proofs.Wholes.{begins, none_of}
 use Rattle.completion_cell.specs.AwaitEnds.{EndsAwait, HasAwaited, end_in}
-use Rattle.wait_class.specs.Tables.{Advances, IsAt}
+use Rattle.wait_class.specs.Tables.{Advances, IsAt, IsEnded, Plan}
 use Rattle.wait_class.specs.declared.stages.Run.{Run}
 use Rattle.wait_class.specs.declared.stages.Turn.TheVariants as turn
 use Rattle.completion_cell.specs.Awaits.{
+  CellKeeps,
   FoundNoPlace,
   HasGivenBack,
   IsFresh,
   TrailEnd,
   WasSignalled,
+  WhyStopped,
   answer_in,
   await_table,
   await_watch,
@@ -54,46 +56,38 @@ begins_at k r d st fresh small left told up idle out = begins await_table k r st
     (subst (λ (n : ℕ). n < COMPLETIONS) (sym fresh.cell) small) refl refl refl refl
     (subst (λ (n : ℕ). LeftOff n k) (sym fresh.cell) left) told up idle out
 
-given_back : (k : Known) (r : AwaitCall) (o : AwaitOutcome) → TrailEnd k r o → HasGivenBack k r
+pub given_back : (k : Known) (r : AwaitCall) (o : AwaitOutcome) → TrailEnd k r o → HasGivenBack k r
 given_back k r outcome.Over u = u
 given_back k r (outcome.Signalled found) u = u.0
 given_back k r outcome.Worn u = u.0
 
-module _ (old new : Known) (r q : Run AwaitCall) (s : AwaitStage) (o : AwaitOutcome)
-    (a : Advances await_table old new r q s (turn.Done o)) where
-  pub ends_up : IsUp new
-  ends_up = a.lands.up
-
-  pub ends_idle : (told_of old).mark ≡ None → IsIdle new
-  ends_idle unmarked = record {
-    running = a.lands.stands.state;
-    free = record { head = a.lands.stands.head; ticket = a.lands.stands.ticket };
-    unmarked = a.went.keeps.mark ∙ unmarked;
+-- A wait that ended; it was asked to leave on its way or not.
+module _ (old new : Known) (q : Run AwaitCall) (o : AwaitOutcome) (ended : IsEnded await_table new q o)
+    (keeps : CellKeeps (own_of old) old new) where
+  pub idle_by : (told_of old).mark ≡ None → IsIdle new
+  idle_by unmarked = record {
+    running = ended.stands.state;
+    free = record { head = ended.stands.head; ticket = ended.stands.ticket };
+    unmarked = keeps.mark ∙ unmarked;
   }
 
-  pub ends_out : IsOut new
-  ends_out = none_of (await_watch q.of) ((told_of new).bits.stored (index new.view.number 0)) a.lands.stands.home
+  pub out_by : IsOut new
+  out_by = none_of (await_watch q.of) ((told_of new).bits.stored (index new.view.number 0)) ended.stands.home
 
-  -- it leaves no entry at a completion
-  pub ends_off : (told_of old).hold.head ≡ None → StaysOff old new
-  ends_off free = wait_stays_off old new q.of r.of.cell r.of.state _ _ a.went.tells.cell a.went.runs free
-      (given_back new q.of o a.lands.trail) ends_out
-
-  -- who began idle goes on as it was
-  ends_owed : StaysOff old new → (x : Excuse) → Owes x old → Owes x new
-  ends_owed off x o = owes_off x new (λ none d. off d (o.debts.off none d)) (λ none. shows_none new a.lands.stands.told)
+  -- who began idle goes on as it was, and leaves no entry at a completion
+  pub owed_by : StaysOff old new → (x : Excuse) → Owes x old → Owes x new
+  owed_by off x o = owes_off x new (λ none d. off d (o.debts.off none d)) (λ none. shows_none new ended.stands.told)
       (owes_out (own_of old) (with_left_entry x) new
-      (ap (λ (n : ℕ). (told_of new).bits.stored (index n 0)) (sym a.went.keeps.number) ∙ ends_out)
-      (a.went.keeps.owes x (owes_also (own_of old) (with_left_entry x) old (owes_left x old o))))
+      (ap (λ (n : ℕ). (told_of new).bits.stored (index n 0)) (sym keeps.number) ∙ out_by)
+      (keeps.owes x (owes_also (own_of old) (with_left_entry x) old (owes_left x old o))))
 
-  pub ends_carried : IsUp old → IsIdle old → (told_of old).hold.head ≡ None
+  pub carried_by : StaysOff old new → IsUp old → IsIdle old → (told_of old).hold.head ≡ None
       → Carries (wait_change (index old.view.number 0) new.at) old new
-  ends_carried up idle held =
-      let keeps = a.went.keeps in
-      let stands = a.lands.stands in record {
+  carried_by off up idle held =
+      let stands = ended.stands in record {
         domain = keeps.domain;
         number = keeps.number;
-        awake = a.lands.up ∙ sym up;
+        awake = ended.up ∙ sym up;
         state = stands.state ∙ sym idle.running;
         head = stands.head ∙ sym idle.free.head;
         ticket = stands.ticket ∙ sym idle.free.ticket;
@@ -105,21 +99,45 @@ module _ (old new : Known) (r q : Run AwaitCall) (s : AwaitStage) (o : AwaitOutc
         out = keeps.out;
         stands = keeps.stands;
         keeps = λ d _. keeps.keeps d;
-        owes = ends_owed (ends_off held);
+        owes = owed_by off;
       }
+
+  -- who began owing nothing
+  pub clean_by : StaysOff old new → IsClean old → IsClean new
+  clean_by off clean =
+      let idle = idle_by clean.settled.unmarked in
+      record {
+        up = ended.up;
+        running = idle.running;
+        free = idle.free;
+        settled = owed_by off no_excuse clean.settled;
+      }
+
+module _ (old new : Known) (r q : Run AwaitCall) (s : AwaitStage) (o : AwaitOutcome)
+    (a : Advances await_table old new r q s (turn.Done o)) where
+  pub ends_up : IsUp new
+  ends_up = a.lands.up
+
+  pub ends_idle : (told_of old).mark ≡ None → IsIdle new
+  ends_idle = idle_by old new q o a.lands a.went.keeps
+
+  pub ends_out : IsOut new
+  ends_out = out_by old new q o a.lands a.went.keeps
+
+  -- it leaves no entry at a completion
+  pub ends_off : (told_of old).hold.head ≡ None → StaysOff old new
+  ends_off free = wait_stays_off old new q.of r.of.cell r.of.state _ _ a.went.tells.cell a.went.runs free
+      (given_back new q.of o a.lands.trail) ends_out
+
+  pub ends_carried : IsUp old → IsIdle old → (told_of old).hold.head ≡ None
+      → Carries (wait_change (index old.view.number 0) new.at) old new
+  ends_carried up idle held = carried_by old new q o a.lands a.went.keeps (ends_off held) up idle held
 
 -- who began owing nothing
 pub ends_clean : (old new : Known) (r q : Run AwaitCall) (s : AwaitStage) (o : AwaitOutcome)
     → Advances await_table old new r q s (turn.Done o) → IsClean old → IsTold old → IsClean new
-ends_clean old new r q s o a clean told =
-    let idle = ends_idle old new r q s o a clean.settled.unmarked in
-    record {
-      up = a.lands.up;
-      running = idle.running;
-      free = idle.free;
-      settled = ends_owed old new r q s o a (ends_off old new r q s o a (told.head ∙ clean.free.head)) no_excuse
-          clean.settled;
-    }
+ends_clean old new r q s o a clean told = clean_by old new q o a.lands a.went.keeps
+    (ends_off old new r q s o a (told.head ∙ clean.free.head)) clean
 
 -- what it says at its end
 module _ (old new : Known) (r q : Run AwaitCall) (d : ℕ) (st : SleepState) (fresh : IsFresh r.of d st) where
@@ -154,7 +172,8 @@ module _ (old new : Known) (r q : Run AwaitCall) (d : ℕ) (st : SleepState) (fr
     cause = tt;
   }
   ends_await (outcome.Signalled found) a =
-      let t : WasSignalled new q.of found = a.lands.trail.1 in record {
+      let t : WasSignalled new q.of found = subst (λ (b : Bool). WhyStopped b new q.of found)
+      (ap (λ (x : Plan). x.asked) a.same ∙ fresh.unasked) a.lands.trail.1 in record {
         queued = queues a.went.runs.transitions;
         awaited = begun (outcome.Signalled found) a;
         cause = record {

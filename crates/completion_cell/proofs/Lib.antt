@@ -21,4 +21,5 @@ pub mod FollowedCells
 pub mod StoppedAwaits
 pub mod Words
 pub mod Endings
+pub mod AwaitLeaving
 pub mod LosesNone

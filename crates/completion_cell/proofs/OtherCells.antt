@@ -28,14 +28,14 @@ use Rattle.wait_rule.specs.Says.{history_of, told_of}
 use Rattle.wait_rule.specs.Transitions.{IsStepFor, call_program}
 use Rattle.wait_rule.proofs.KnownLaws.CalledPermits.{away_of, order_as}
 use Rattle.wait_rule.proofs.KnownLaws.HandedSteps.{IsAway, IsAwayAt, OrderStep, away_next, order_front, order_step}
-use Rattle.wait_rule.proofs.KnownLaws.OtherCalls.{AddsBy, AllAddBy, goes_adding}
+use Rattle.wait_rule.proofs.KnownLaws.OtherCalls.{Adding, AddsBy, AllAddBy, goes_adding}
 use Rattle.wait_class.specs.Posts.{Runs}
 use Rattle.completion_cell.specs.Awaits.{HasGivenBack}
 use Rattle.completion_cell.specs.declared.awaits.AwaitCall.{AwaitCall}
 use Rattle.completion_cell.proofs.HoldTurns.{head_apart, home_left}
 
 -- an entry of another completion
-abbrev IsAside : ℕ → Entry → Type 0
+abbrev pub IsAside : ℕ → Entry → Type 0
 IsAside c e = (head_of e.watch == done_head c) ≡ false
 
 aside_next : (c a : ℕ) (front : List Step) (e : Step) → OrderStep a front e → AddsBy (IsAside c) e → IsAwayAt c a front
@@ -74,12 +74,16 @@ module _ (c d : ℕ) (st : SleepState) (ne : c ≢ d) (me : ℕ) where
   asks p k e (step.Queue x f) q = absurd q
   asks p k e s q = tt
 
-wait_others : (c d : ℕ) (st : SleepState) → c ≢ d → (old new : Known) (from to : Next)
-    → Runs (call_program old.view.number 0 (calls.WaitFor d st)) old new from to → (told_of old).hold.head ≡ None
+pub wait_adds : (c d : ℕ) (st : SleepState) → c ≢ d → (old new : Known) (from to : Next)
+    → Runs (call_program old.view.number 0 (calls.WaitFor d st)) old new from to → Adding (IsAside c) old new
+wait_adds c d st ne old new from to runs = goes_adding (IsAside c)
+    (call_program old.view.number 0 (calls.WaitFor d st)) (asks c d st ne old.view.number) old new from to
+    runs.transitions runs.goes
+
+-- over such steps the own entry stays off at a completion
+pub aside_stays : (c : ℕ) (old new : Known) → Adding (IsAside c) old new → (told_of old).hold.head ≡ None
     → LeftOff c old → LeftOff c new
-wait_others c d st ne old new from to runs free left order =
-    let l = goes_adding (IsAside c) (call_program old.view.number 0 (calls.WaitFor d st))
-    (asks c d st ne old.view.number) old new from to runs.transitions runs.goes in
+aside_stays c old new l free left order =
     let a = old.view.number in
     let front = order_as a new (history_of old ++ l.made) l.number l.is order in
     let w = aside_all c a (history_of old) l.made front l.adds
@@ -87,8 +91,28 @@ wait_others c d st ne old new from to runs free left order =
     subst (λ (i : ℕ). (dealt c i (history_of new)).left ≡ false) (sym l.number)
     (subst (λ (l : List Step). (dealt c a l).left ≡ false) (sym l.is) w.left)
 
+wait_others : (c d : ℕ) (st : SleepState) → c ≢ d → (old new : Known) (from to : Next)
+    → Runs (call_program old.view.number 0 (calls.WaitFor d st)) old new from to → (told_of old).hold.head ≡ None
+    → LeftOff c old → LeftOff c new
+wait_others c d st ne old new from to runs = aside_stays c old new (wait_adds c d st ne old new from to runs)
+
+-- such steps, one after the other
+all_aside : (c : ℕ) (es fs : List Step) → AllAddBy (IsAside c) es → AllAddBy (IsAside c) fs
+    → AllAddBy (IsAside c) (es ++ fs)
+all_aside c [] fs one two = two
+all_aside c (e ∷ es) fs one two = (one.0, all_aside c es fs one.1 two)
+
+pub aside_on : (c : ℕ) (old mid new : Known) → Adding (IsAside c) old mid → Adding (IsAside c) mid new
+    → Adding (IsAside c) old new
+aside_on c old mid new one two = record {
+  made = one.made ++ two.made;
+  is = two.is ∙ (ap (λ (l : List Step). l ++ two.made) one.is ∙ append_assoc (history_of old) one.made two.made);
+  adds = all_aside c one.made two.made one.adds two.adds;
+  number = two.number ∙ one.number;
+}
+
 -- who has given the head back, and knows its own entry to be off
-given_off : (new : Known) (r : AwaitCall) → HasGivenBack new r
+pub given_off : (new : Known) (r : AwaitCall) → HasGivenBack new r
     → (told_of new).bits.stored (index new.view.number 0) ≡ None → LeftOff r.cell new
 given_off new r back none order =
     let a = new.view.number in

@@ -42,6 +42,7 @@ use Rattle.wait_class.specs.declared.stages.Run.{Run}
 use Rattle.wait_class.specs.declared.stages.Turn.{Turn}
 use Rattle.wait_class.specs.declared.stages.Turn.TheVariants as turn
 use Rattle.wait_event.specs.Waits.{queues}
+use Rattle.wait_leave.specs.Leaves.{with_asked}
 use Rattle.completion_cell.specs.HeldPermits.{HasBegun, Knows, WaitsIn}
 use Rattle.completion_cell.specs.LoadedCounts.{AreInRange}
 use Rattle.completion_cell.specs.declared.awaits.AwaitCall.{AwaitCall}
@@ -91,15 +92,16 @@ is_await_turn stage.FirstTurn = true
 is_await_turn stage.AgainTurn = true
 is_await_turn _ = false
 
--- how many events are left at most until no head is held
+-- How many events are left at most until no head is held; behind a signal one fewer is told, since a wait that is asked
+-- to leave goes there from its add.
 abbrev pub await_depth : AwaitStage → ℕ
 await_depth stage.Look = 4
 await_depth stage.Queue = 3
 await_depth stage.State = 2
 await_depth stage.Unlock = 1
-await_depth stage.LeaveState = 3
-await_depth stage.LeaveQueue = 2
-await_depth stage.LeaveUnlock = 1
+await_depth stage.LeaveState = 2
+await_depth stage.LeaveQueue = 1
+await_depth stage.LeaveUnlock = 0
 await_depth stage.TakeState = 4
 await_depth stage.TakeQueue = 3
 await_depth stage.TakeStore = 2
@@ -178,6 +180,7 @@ pub record IsFresh (r : AwaitCall) (d : ℕ) (st : SleepState) : Type 0 where
   pub cell : r.cell ≡ d
   pub state_is : r.state ≡ st
   pub queued : r.queued ≡ false
+  pub unasked : r.asked ≡ false
 
 -- the wait is over: the task is awake, RUNNING, holds no head, and its entry is off
 abbrev pub end_post : AwaitCall → AwaitOutcome → Post
@@ -234,12 +237,36 @@ pub record LeavesBy (k : Known) (r : AwaitCall) (more : List Step) : Type 0 wher
   pub ends : EndsWith k (step.Load (await_watch r) 0 ∷ step.Look word ∷ more)
   pub knows : Knows k r.cell 0
 
+-- It goes out of its hold, which has loaded 0: it was asked to leave, and has made these steps since; or a signal ends
+-- it.
+abbrev pub LeavesFor : Bool → Known → AwaitCall → List Step → Type 0
+LeavesFor true k r more = Knows k r.cell 0 × EndsWith k more
+LeavesFor false k r more = LeavesBy k r more
+
 -- and it has looked at its own entry, and taken it off where that was queued
 pub record HasPared (k : Known) (r : AwaitCall) (found : Bool) : Type 0 where
   pub entry : ℕ
   pub queued : is_some (entry_of entry) ≡ found
-  pub leaves : LeavesBy k r (step.State 0 ∷ step.Saw (own_of k) entry
+  pub leaves : LeavesFor r.asked k r (step.State 0 ∷ step.Saw (own_of k) entry
       ∷ (if found then step.Unqueue (own_of k) ∷ [] else []))
+
+-- The last hold of a wait that was asked to leave had loaded 0, and the task stored no other count since. Last of all it
+-- stored RUNNING, took the own entry off or found it off, and gave the head back.
+abbrev pub out_by : ℕ → ℕ → ℕ → List Step
+out_by d x e = step.State 0 ∷ step.Saw x e
+    ∷ (if is_some (entry_of e) then step.Unqueue x ∷ step.Unlock (head_of (watch.Done d)) false ∷ []
+    else step.Unlock (head_of (watch.Done d)) false ∷ [])
+
+pub record WasAwaitLeft (k : Known) (d : ℕ) (found : Bool) : Type 0 where
+  pub entry : ℕ
+  pub queued : found ≡ is_some (entry_of entry)
+  pub zero : count_in d (history_of k) ≡ Some 0
+  pub ends : EndsWith k (out_by d (own_of k) entry)
+
+-- why a wait stopped whose hold had loaded 0: it was asked to leave, or a signal ended it
+abbrev pub WhyStopped : Bool → Known → AwaitCall → Bool → Type 0
+WhyStopped true k r found = WasAwaitLeft k r.cell found
+WhyStopped false k r found = WasSignalled k r found
 
 -- The last hold of a wait that found no place noted it, and had loaded 0.
 pub record FoundNoPlace (k : Known) (r : AwaitCall) : Type 0 where
@@ -268,8 +295,8 @@ AwaitTrail k r stage.Look = Knows k r.cell 0 × EndsWith k (step.Load (await_wat
 AwaitTrail k r stage.Queue = Knows k r.cell 0
 AwaitTrail k r stage.State = Knows k r.cell 0
 AwaitTrail k r stage.Unlock = Knows k r.cell 0
-AwaitTrail k r stage.LeaveState = LeavesBy k r []
-AwaitTrail k r stage.LeaveQueue = LeavesBy k r (step.State 0 ∷ [])
+AwaitTrail k r stage.LeaveState = LeavesFor r.asked k r []
+AwaitTrail k r stage.LeaveQueue = LeavesFor r.asked k r (step.State 0 ∷ [])
 AwaitTrail k r stage.LeaveUnlock = HasPared k r true
 AwaitTrail k r stage.TakeState = FoundSome k r
 AwaitTrail k r stage.TakeQueue = FoundSome k r
@@ -280,7 +307,7 @@ AwaitTrail k r _ = Unit {0}
 -- The head was given back last, and the answer has its cause.
 abbrev pub TrailEnd : Known → AwaitCall → AwaitOutcome → Type 0
 TrailEnd k r outcome.Over = HasGivenBack k r
-TrailEnd k r (outcome.Signalled found) = HasGivenBack k r × WasSignalled k r found
+TrailEnd k r (outcome.Signalled found) = HasGivenBack k r × WhyStopped r.asked k r found
 TrailEnd k r outcome.Worn = HasGivenBack k r × FoundNoPlace k r
 
 -- what stays of the task meanwhile, but that it may leave its entry at the completion
@@ -289,7 +316,7 @@ CellKeeps i old new = KeepsBut with_left_entry i old new
 
 abbrev pub await_table : CallTable AwaitCall AwaitStage AwaitOutcome
 await_table = record {
-  plan_of = λ r. call_plan (await_call r);
+  plan_of = λ r. with_asked r.asked (call_plan (await_call r));
   Fits = CellFits;
   worn_at = λ r p. record r { place = p };
   joined_at = λ r s. record r { queued = true };

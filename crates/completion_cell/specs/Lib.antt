@@ -3,6 +3,7 @@ pub mod Asks
 pub mod Awaits
 pub mod Completes
 pub mod AwaitEnds
+pub mod AwaitLeaves
 pub mod HeldPermits
 pub mod CellTurns
 pub mod LosesNone

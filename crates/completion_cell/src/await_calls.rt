@@ -48,6 +48,7 @@ pub fn begin_await(task: &Task, cell: u8, state: SleepState) -> AwaitRun
         count: 0,
         place: 0,
         queued: false,
+        asked: false,
     })
 }
 

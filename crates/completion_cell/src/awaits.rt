@@ -73,6 +73,8 @@ pub struct AwaitCall {
     pub place: u64,
     /// Whether the wait has queued its entry.
     pub queued: bool,
+    /// Its task was asked to leave it.
+    pub asked: bool,
 }
 
 pub type AwaitTurn = Turn<AwaitStage, AwaitOutcome>;

@@ -7,7 +7,9 @@ pub mod awaits;
 pub mod cell_turns;
 pub mod completes;
 pub mod laws;
+pub mod leaves;
 
 pub use asks::{is_done, reinit, try_wait};
 pub use await_calls::{begin_await, wait_for};
 pub use completes::{complete, complete_all};
+pub use leaves::wait_for_until;

@@ -13,6 +13,7 @@ returns-clause-fresh c = record {
   cell = ap (λ (r : AwaitCall). r.cell) c.new.ensures;
   state_is = ap (λ (r : AwaitCall). r.state) c.new.ensures;
   queued = ap (λ (r : AwaitCall). r.queued) c.new.ensures;
+  unasked = ap (λ (r : AwaitCall). r.asked) c.new.ensures;
 }
 
 pub returns-clause-at : goal.returns-clause-at

@@ -28,7 +28,7 @@ use Rattle.wait_rule.specs.Known.{Known}
 use Rattle.wait_rule.specs.Queues.{IsIdle, IsTold, index}
 use Rattle.wait_rule.specs.Says.{Excuse, IsClean, IsOutBut, IsUp, Owes, history_of, no_excuse, told_of}
 use Rattle.wait_model.specs.Views.{is_trying_for}
-use Rattle.wait_rule.specs.Stays.{Carries}
+use Rattle.wait_rule.specs.Stays.{Carries, with_entry}
 use Rattle.wait_rule.proofs.KnownLaws.StayingParts.{owes_also, owes_out}
 use Rattle.wq_head.specs.Adds.{HasAdded, IsFor, IsFrontWorn, front_entry}
 use Rattle.wq_head.specs.Holds.{IsHolding}
@@ -37,32 +37,36 @@ use Rattle.wait_rule.specs.Ends.{WasWorn}
 use Rattle.wait_rule.specs.Queues.{IsFrontPlace}
 use Rattle.wq_head.proofs.FullHeads.{hashed_low}
 use Rattle.wait_event.specs.Ends.{wait_change}
-use Rattle.wait_class.specs.Posts.{IsOut}
+use Rattle.wait_class.specs.Posts.{IsOut, Keeps}
 use Rattle.wait_class.specs.Posts.{EndsWith}
 use Rattle.wait_class.specs.Findings.{with_value}
 use Rattle.wait_class.proofs.Ground.Standing.{home_waits}
 use Rattle.wait_class.specs.declared.frame_stages.Framed.{Framed}
-use Rattle.wait_class.specs.declared.frame_stages.Stage.{Stage}
 use Rattle.wait_class.specs.declared.frame_stages.Stage.TheVariants as stage
 use Rattle.wait_class.specs.declared.stages.Run.{Run}
 use Rattle.wait_class.specs.declared.stages.Turn.TheVariants as turn
 use Rattle.wait_class.specs.FrameLaws.{FinishLaw, IsLawfulFrame}
 use Rattle.wait_class.specs.Tables.{has_sleep}
 use Rattle.wait_class.specs.Laws.{AddsOwn, LoadLaw, LookLaw, SleepLaw}
-use Rattle.wait_class.specs.Tables.{Advances, IsAt, Plan, call_plan, next_in}
+use Rattle.wait_class.specs.Tables.{Advances, IsAt, IsEnded, Plan, call_plan, next_in}
 use Rattle.wait_class.specs.Laws.{Calm, Unmoved}
 use Rattle.wait_class.proofs.CallPlans.{call_stands}
+use Rattle.wait_leave.specs.Leaves.{with_asked}
+use Rattle.wait_leave.proofs.AskedPlans.{asked_stands}
 use Rattle.wait_class.proofs.Histories.{awake_more, ends_calm, ends_still, found_still, worn_calm}
 use Rattle.wait_class.proofs.Stays.{adds_front, wait_stays}
 use Rattle.wait_class.proofs.Ways.{finish_by, go_if, load_fork, look_by, sleep_by, way}
 use Rattle.wait_class.specs.Wholes.{HasRested}
 use Rattle.wait_class.proofs.Wholes.{Rested, begins, ended_runs, none_of, rested_idle, rested_out, rests}
-use Rattle.bit_wait.specs.BitEnds.{EndsBitWait, IsCause, answer_of, end_in, finds_no_place}
+use Rattle.bit_wait.specs.BitEnds.{EndsBitWait, HasLoaded, IsCause, WasInterrupted, answer_of, end_in, finds_no_place}
 use Rattle.bit_wait.specs.BitTables.{
+  BitAgainTrail,
+  BitCauseIn,
   BitFinishTrail,
+  BitTestTrail,
+  BitWhyFailed,
   IsFresh,
   IsRunning,
-  BitTestTrail,
   answer_in,
   bit_frame,
   bit_in,
@@ -85,9 +89,9 @@ unfolding head_of
 run_low r = let low = hashed_low (r.word * WORD_BITS + r.bit) in omega (arith, low)
 
 -- a signal that was found stays found while the task does not sleep
-calm_finish : (old new : Known) (r : WaitBit) (failed : Bool) (es : List Step) → has_sleep es ≡ false
-    → Calm es old new → BitFinishTrail old r failed → BitFinishTrail new r failed
-calm_finish old new r true es awake calm f = record {
+more_signal : (old new : Known) (r : WaitBit) (es : List Step) → has_sleep es ≡ false → Calm es old new
+    → WasInterrupted old r.word r.bit r.state r.seen → WasInterrupted new r.word r.bit r.state r.seen
+more_signal old new r es awake calm f = record {
   before = f.before;
   sleep = f.sleep;
   look = f.look;
@@ -98,11 +102,32 @@ calm_finish old new r true es awake calm f = record {
   pends = f.pends;
   awake = awake_more f.more es f.awake awake;
 }
+
+-- and a load has been made
+more_loaded : (old new : Known) (w b v : ℕ) (es : List Step) → has_sleep es ≡ false → Calm es old new
+    → HasLoaded old w b v → HasLoaded new w b v
+more_loaded old new w b v es awake calm f = record {
+  before = f.before;
+  more = f.more ++ es;
+  ends = calm.history ∙ (ap (λ (l : List Step). l ++ es) f.ends
+      ∙ append_assoc f.before (step.Load (watch.Bit w b) v ∷ f.more) es);
+  awake = awake_more f.more es f.awake awake;
+}
+
+more_failed : (old new : Known) (r : WaitBit) (es : List Step) → has_sleep es ≡ false → Calm es old new → (b : Bool)
+    → BitWhyFailed b old r → BitWhyFailed b new r
+more_failed old new r es awake calm true f = more_loaded old new r.word r.bit r.last es awake calm f
+more_failed old new r es awake calm false f = more_signal old new r es awake calm f
+
+calm_finish : (old new : Known) (r : WaitBit) (failed : Bool) (es : List Step) → has_sleep es ≡ false
+    → Calm es old new → BitFinishTrail old r failed → BitFinishTrail new r failed
+calm_finish old new r true es awake calm f = more_failed old new r es awake calm r.asked f
 calm_finish old new r false es awake calm f = tt
 
-still_finish : (old new : Known) (r : WaitBit) (failed : Bool) → Unmoved old new → BitFinishTrail old r failed
-    → BitFinishTrail new r failed
-still_finish old new r true still f = record {
+still_again : (old new : Known) (r : WaitBit) → Unmoved old new → (b : Bool) → BitAgainTrail b old r
+    → BitAgainTrail b new r
+still_again old new r still true f = tt
+still_again old new r still false f = record {
   before = f.before;
   sleep = f.sleep;
   look = f.look;
@@ -112,12 +137,12 @@ still_finish old new r true still f = record {
   pends = f.pends;
   awake = f.awake;
 }
-still_finish old new r false still f = tt
 
 test_still : (old new : Known) (r : WaitBit) (x : BitTest) → Unmoved old new → BitTestTrail old r x → BitTestTrail new r x
 test_still old new r test.First still f = tt
 test_still old new r test.Load still f = ends_still old new (step.Unlock (head_of (bit_in r)) false ∷ []) still f
-test_still old new r (test.Again failed) still f = still_finish old new r failed still f
+test_still old new r (test.Again true) still f = still_again old new r still r.asked f
+test_still old new r (test.Again false) still f = tt
 test_still old new r test.Worn still f = found_still old new (head_of (bit_in r)) r.place still f
 
 bit_if : (b : Bool) (e : Event) → go e (at.Bit (if b then biting.Sleep else biting.Again false))
@@ -137,8 +162,22 @@ module _ (r : WaitBit) where
     abbrev q : Framed WaitBit
     q = record { wait = record r { seen = v } }
 
+    -- behind a sleep, or a question to leave
+    abbrev z : Framed WaitBit
+    z = record { wait = record r { last = v } }
+
     abbrev b : Bool
     b = bit_at v r.bit
+
+    failed_on : (old new : Known) → Calm (step.Load (bit_in r) v ∷ []) old new → (a : Bool) → BitAgainTrail a old r
+        → BitWhyFailed a new z.wait
+    failed_on old new calm true f = record { before = history_of old; more = []; ends = calm.history; awake = refl }
+    failed_on old new calm false f = more_signal old new r (step.Load (bit_in r) v ∷ []) refl calm f
+
+    fails_on : (old new : Known) → Calm (step.Load (bit_in r) v ∷ []) old new → (failed : Bool)
+        → BitTestTrail old r (test.Again failed) → BitFinishTrail new z.wait failed
+    fails_on old new calm true f = failed_on old new calm r.asked f
+    fails_on old new calm false f = tt
 
     abbrev loads_more : (old new : Known) → Calm (step.Load (bit_in r) v ∷ []) old new
         → EndsWith old (step.Unlock (head_of (bit_in r)) false ∷ [])
@@ -165,17 +204,17 @@ module _ (r : WaitBit) where
         (way bit_table w (stage.Test test.Load) q (turn.Again (stage.Test (test.Again false))) refl refl refl refl refl
         (λ σ s. s) (λ o h. h)) (λ old new is calm u. (loads_more old new calm u, is)) (λ old new is calm u. tt)
 
-    again_law : (failed : Bool) → LoadLaw bit_table w (stage.Test (test.Again failed)) v w (set_to (test.Again failed) b)
-    again_law failed = load_fork bit_table w (stage.Test (test.Again failed)) refl v w (b && not failed)
+    again_law : (failed : Bool) → LoadLaw bit_table w (stage.Test (test.Again failed)) v z (set_to (test.Again failed) b)
+    again_law failed = load_fork bit_table w (stage.Test (test.Again failed)) refl v z (b && not failed)
         (turn.Again stage.PrepareLock) (turn.Again (stage.FinishState failed)) (go e (at.Prepare preparing.Lock))
-        (go e (at.Finish finishing.State failed)) e refl (λ f. f) (λ x did. tt)
+        (go e (at.Finish finishing.State failed)) e refl (λ f. record { word = f.word; bit = f.bit }) (λ x did. tt)
         (λ me. go_if (b && not failed) e (at.Prepare preparing.Lock) (at.Finish finishing.State failed)) (refl, refl)
         (refl, refl) (λ k me. refl) (λ me k. (refl, tt, tt))
-        (way bit_table w (stage.Test (test.Again failed)) w (turn.Again stage.PrepareLock) refl refl refl refl refl
+        (way bit_table w (stage.Test (test.Again failed)) z (turn.Again stage.PrepareLock) refl refl refl refl refl
         (λ σ s. s) (λ o h. h))
-        (way bit_table w (stage.Test (test.Again failed)) w (turn.Again (stage.FinishState failed)) refl refl refl refl
+        (way bit_table w (stage.Test (test.Again failed)) z (turn.Again (stage.FinishState failed)) refl refl refl refl
         refl (λ σ s. s) (λ o h. h)) (λ old new is calm u. tt)
-        (λ old new is calm u. calm_finish old new r failed (step.Load (bit_in r) v ∷ []) refl calm u)
+        (λ old new is calm u. fails_on old new calm failed u)
 
     worn_law : LoadLaw bit_table w (stage.Test test.Worn) v q (set_to test.Worn b)
     worn_law = load_fork bit_table w (stage.Test test.Worn) refl v q b (turn.Done outcome.Worn)
@@ -211,11 +250,15 @@ module _ (r : WaitBit) where
       (λ o h. h) (λ v me. ap (λ (c : Bool). next.Go (at.Bit (if c then biting.Look else biting.Again false))) is)
       (λ v me k. tt) (λ v me k. (refl, tt, tt)) (λ old new v calm u. tt)
 
+  again_by : (k : Known) → WasInterrupted k r.word r.bit r.state r.seen → (b : Bool) → BitAgainTrail b k r
+  again_by k f true = tt
+  again_by k f false = f
+
   found : (old new : Known) (v : ℕ) (hit : Bool) → pending (state_mask r.state) (task_of v) ≡ hit
-      → Calm (step.Look v ∷ []) old new → bit_frame.LookTrail old r → BitFinishTrail new r hit
+      → Calm (step.Look v ∷ []) old new → bit_frame.LookTrail old r → BitTestTrail new r (test.Again hit)
   found old new v true is calm u =
       let e = ends_calm old new (loads_set r (step.Sleep u.0 ∷ [])) (step.Look v ∷ []) calm u.1 in
-      record {
+      again_by new (record {
         before = e.0;
         sleep = u.0;
         look = v;
@@ -224,7 +267,7 @@ module _ (r : WaitBit) where
         set = u.2;
         pends = is;
         awake = refl;
-      }
+      }) r.asked
   found old new v false is calm u = tt
 
   acted_is : (hit : Bool) → acted (call_in r) hit ≡ at.Bit (biting.Again hit)
@@ -266,7 +309,8 @@ bit_lawful = record {
   worn_fits = λ r p runs. record { word = runs.word; bit = runs.bit };
   ends = ends_at;
   goes = λ r failed. refl;
-  stands = λ r. call_stands bit_frame (ends_at r) (call_in r) refl refl refl (behind r);
+  stands = λ r. asked_stands bit_frame (ends_at r) (call_plan (call_in r)) r.asked
+      (call_stands bit_frame (ends_at r) (call_in r) refl refl refl (behind r));
   prepared_stirs = λ r. refl;
   prepared_zone = refl;
   prepared_took = refl;
@@ -311,6 +355,13 @@ abbrev CauseOf : Known → Watch → SleepState → Result (Unit {0}) BitEnd →
 CauseOf k (watch.Bit w b) st x = IsCause k w b st x
 CauseOf k _ st x = ⊥
 
+-- a wait that was not asked to leave
+cause_is : (k : Known) (r : WaitBit) (o : BitOutcome) → r.asked ≡ false → BitCauseIn k r o
+    → IsCause k r.word r.bit r.state (end_in r o)
+cause_is k r outcome.Over none x = tt
+cause_is k r outcome.Interrupted none x = subst (λ (b : Bool). BitWhyFailed b k r) none x
+cause_is k r outcome.Worn none x = x
+
 answer_is : (r : WaitBit) (o : BitOutcome) → answer_in o ≡ answer_of (end_in r o)
 answer_is r outcome.Over = refl
 answer_is r outcome.Interrupted = refl
@@ -322,20 +373,20 @@ worn_is r outcome.Interrupted = refl
 worn_is r outcome.Worn = refl
 
 -- a wait that ended, from whatever stage, and what the task did then
-module _ (old ended : Known) (r q : Run (Framed WaitBit)) (s : Stage BitTest) (o : BitOutcome)
-    (a : Advances bit_table old ended r q s (turn.Done o)) (new : Known) (h : HasRested ended new (is_worn o)) where
+module _ (old ended : Known) (q : Run (Framed WaitBit)) (o : BitOutcome) (kept : Keeps (index old.view.number 0) old ended)
+    (at_end : IsEnded bit_table ended q o) (new : Known) (h : HasRested ended new (is_worn o)) where
   rested : Rested ended new
-  rested = rests ended new (is_worn o) (state_mask q.of.wait.state) h a.lands.stands.state
+  rested = rests ended new (is_worn o) (state_mask q.of.wait.state) h at_end.stands.state
 
   pub ends_up : IsUp new
-  ends_up = rested.awake ∙ a.lands.up
+  ends_up = rested.awake ∙ at_end.up
 
   pub ends_out : IsOut new
-  ends_out = rested_out ended new (end_post q.of.wait o) a.lands.stands refl rested
+  ends_out = rested_out ended new (end_post q.of.wait o) at_end.stands refl rested
 
   out_then : (told_of ended).bits.stored (index old.view.number 0) ≡ None
-  out_then = ap (λ (n : ℕ). (told_of ended).bits.stored (index n 0)) (sym a.went.keeps.number)
-      ∙ none_of (bit_in q.of.wait) ((told_of ended).bits.stored (index ended.view.number 0)) a.lands.stands.home
+  out_then = ap (λ (n : ℕ). (told_of ended).bits.stored (index n 0)) (sym kept.number)
+      ∙ none_of (bit_in q.of.wait) ((told_of ended).bits.stored (index ended.view.number 0)) at_end.stands.home
 
   owes_still : (x : Excuse) → Owes x ended → Owes x new
   owes_still x o = record {
@@ -350,11 +401,25 @@ module _ (old ended : Known) (r q : Run (Framed WaitBit)) (s : Stage BitTest) (o
   owes_on : (x : Excuse) → Owes x old → Owes x new
   owes_on x owes =
       let i = index old.view.number 0 in
-      owes_still x (owes_out i x ended out_then (a.went.keeps.owes x (owes_also i x old owes)))
+      owes_still x (owes_out i x ended out_then (kept.owes x (owes_also i x old owes)))
+
+  pub ends_kept : Keeps (index old.view.number 0) old new
+  ends_kept =
+      let i = index old.view.number 0 in
+      wait_stays.on i (bit_in q.of.wait) false false false old ended new kept (record {
+        domain = rested.domain;
+        number = rested.number;
+        mark = rested.mark;
+        fewer = λ w σ is. rested.owes w σ ∙ is;
+        out = λ x away none. rested.stored x ∙ none;
+        stands = λ slot few away e is own. rested.stored (index ended.view.number slot) ∙ is;
+        keeps = λ d. rested.keeps d;
+        owes = λ x owes. owes_still (with_entry i x) owes;
+      })
 
   pub ends_idle : (told_of old).mark ≡ None → IsIdle new
-  ends_idle unmarked = rested_idle ended new (end_post q.of.wait o) a.lands.stands refl refl rested
-      (a.went.keeps.mark ∙ unmarked)
+  ends_idle unmarked = rested_idle ended new (end_post q.of.wait o) at_end.stands refl refl rested
+      (kept.mark ∙ unmarked)
 
   -- who began owing nothing owes nothing
   pub ends_clean : IsClean old → IsClean new
@@ -369,8 +434,8 @@ module _ (old ended : Known) (r q : Run (Framed WaitBit)) (s : Stage BitTest) (o
   pub ends_carried : IsUp old → IsIdle old → (told_of old).hold.head ≡ None
       → Carries (wait_change (index old.view.number 0) new.at) old new
   ends_carried up idle held =
-      let keeps = a.went.keeps in
-      let stands = a.lands.stands in record {
+      let keeps = kept in
+      let stands = at_end.stands in record {
         domain = rested.domain ∙ keeps.domain;
         number = rested.number ∙ keeps.number;
         awake = ends_up ∙ sym up;
@@ -392,14 +457,16 @@ module _ (old ended : Known) (r q : Run (Framed WaitBit)) (s : Stage BitTest) (o
 module _ (old ended : Known) (r q : Run (Framed WaitBit)) (w b : ℕ) (st : SleepState) (fresh : IsFresh r.of.wait w b st)
     (o : BitOutcome) (a : Advances bit_table old ended r q (stage.Test test.First) (turn.Done o)) (new : Known)
     (h : HasRested ended new (is_worn o)) where
-  began : bit_frame.plan_of r.of.wait ≡ call_plan (calls.WaitBit w b st)
-  began i = call_plan (calls.WaitBit (fresh.word i) (fresh.bit i) (fresh.state i))
+  began : bit_frame.plan_of r.of.wait ≡ with_asked r.of.wait.asked (call_plan (calls.WaitBit w b st))
+  began i = with_asked r.of.wait.asked (call_plan (calls.WaitBit (fresh.word i) (fresh.bit i) (fresh.state i)))
 
   pub ends_wait : EndsBitWait old new w b st (end_in q.of.wait o)
   ends_wait = record {
     ended = ended;
-    runs = ended_runs bit_table old ended r q (stage.Test test.First) o a (call_plan (calls.WaitBit w b st)) began
+    runs = ended_runs bit_table old ended r q (stage.Test test.First) o a
+        (with_asked r.of.wait.asked (call_plan (calls.WaitBit w b st))) began
         (answer_of (end_in q.of.wait o)) (answer_is q.of.wait o);
-    cause = subst (λ (p : Plan). CauseOf ended p.watch p.state (end_in q.of.wait o)) (a.same ∙ began) a.lands.trail;
+    cause = subst (λ (p : Plan). CauseOf ended p.watch p.state (end_in q.of.wait o)) (a.same ∙ began)
+        (cause_is ended q.of.wait o (ap (λ (p : Plan). p.asked) a.same ∙ fresh.unasked) a.lands.trail);
     rests = subst (HasRested ended new) (worn_is q.of.wait o) h;
   }

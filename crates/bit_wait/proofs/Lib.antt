@@ -2,11 +2,13 @@ pub mod Trying
 pub mod Words
 pub mod Heeding
 pub mod BitLaws
+pub mod BitLeaving
 pub mod Clearing
 pub mod Holders
 pub mod LockKinds
 pub mod LockLaws
 pub mod LockTries
 pub mod LockEndings
+pub mod LockLeaving
 pub mod LockGround
 pub mod LosesNone

@@ -13,7 +13,7 @@ use Rattle.wait_rule.specs.Queues.{IsIdle, IsTold, index}
 use Rattle.wait_class.specs.Posts.{IsOut, own_of}
 use Rattle.bit_wait.specs.BitEnds.{answer_of}
 use Rattle.bit_wait.specs.LockStays.{LockKeeps, TakesBit}
-use Rattle.bit_wait.specs.LockTables.{IsFresh, IsRunning, answer_in, end_post, bit_in, is_over, lock_frame, lock_table}
+use Rattle.bit_wait.specs.LockTables.{CauseIn, IsFresh, IsRunning, WhyFailed, answer_in, end_post, bit_in, is_over, lock_frame, lock_table}
 use Rattle.bit_wait.specs.LockEnds.{ComesBehindWorn, EndsBitLock, HasRested, IsCause, end_in, has_taken as given}
 use Rattle.bit_wait.specs.declared.lock_runs.LockBit.{LockBit}
 use Rattle.bit_wait.specs.declared.wait_calls.BitEnd.{BitEnd}
@@ -28,6 +28,7 @@ use Rattle.wait_class.specs.declared.stages.Run.{Run}
 use Rattle.wait_class.specs.declared.stages.Turn.TheVariants as turn
 use Rattle.wait_class.specs.Tables.{Advances, IsAt, Plan, call_plan}
 use Rattle.wait_class.specs.UnderWay.{IsUnderWay}
+use Rattle.wait_leave.specs.Leaves.{with_asked}
 use Rattle.bit_wait.specs.Holders.{IsHolder}
 use Rattle.wait_class.proofs.Wholes.{Rested, begins, ended_runs, rested_idle, rested_out, rests}
 use Rattle.bit_wait.proofs.LockKinds.{locks_clean, takes_bit}
@@ -54,6 +55,13 @@ CauseOf k _ st x = ⊥
 abbrev BehindOf : Known → Watch → Result (Unit {0}) BitEnd → Bool → Type 0
 BehindOf k (watch.Bit w b) x worn = ComesBehindWorn k w b x worn
 BehindOf k _ x worn = ⊥
+
+-- a wait that was not asked to leave
+cause_is : (k : Known) (e : LockBit) (o : LockOutcome) → e.asked ≡ false → CauseIn k e o
+    → IsCause k e.word e.bit e.state (end_in e o)
+cause_is k e outcome.Over none x = tt
+cause_is k e outcome.Interrupted none x = subst (λ (b : Bool). WhyFailed b k e) none x
+cause_is k e outcome.Worn none x = x
 
 answer_is : (e : LockBit) (o : LockOutcome) → answer_in o ≡ answer_of (end_in e o)
 answer_is e outcome.Over = refl
@@ -85,8 +93,8 @@ module _ (old ended new : Known) (r q : Run (Framed LockBit)) (w b : ℕ) (st : 
   idle_by unmarked = rested_idle ended new (end_post e o) a.lands.stands refl refl rested
       (a.went.keeps.mark ∙ unmarked)
 
-  began : lock_frame.plan_of r.of.wait ≡ call_plan (calls.LockBit w b st)
-  began i = call_plan (calls.LockBit (fresh.word i) (fresh.bit i) (fresh.state i))
+  began : lock_frame.plan_of r.of.wait ≡ with_asked r.of.wait.asked (call_plan (calls.LockBit w b st))
+  began i = with_asked r.of.wait.asked (call_plan (calls.LockBit (fresh.word i) (fresh.bit i) (fresh.state i)))
 
   bit_is : bit_in e ≡ watch.Bit w b
   bit_is = ap (λ (p : Plan). p.watch) (a.same ∙ began)
@@ -128,13 +136,14 @@ module _ (old ended new : Known) (r q : Run (Framed LockBit)) (w b : ℕ) (st : 
   ends_takes = takes_by old ended new r q w b st fresh first refl o a h
 
   -- what it says at its end
-  pub ends_wait : EndsBitLock old new w b st (end_in q.of.wait o)
-  ends_wait =
+  pub ends_wait : r.of.wait.asked ≡ false → EndsBitLock old new w b st (end_in q.of.wait o)
+  ends_wait unasked =
       let is = began old ended new r q w b st fresh first refl o a h in record {
         ended = ended;
-        runs = ended_runs lock_table old ended r q first o a (call_plan (calls.LockBit w b st)) is
+        runs = ended_runs lock_table old ended r q first o a (with_asked r.of.wait.asked (call_plan (calls.LockBit w b st))) is
             (answer_of (end_in q.of.wait o)) (answer_is q.of.wait o);
-        cause = subst (λ (p : Plan). CauseOf ended p.watch p.state (end_in q.of.wait o)) (a.same ∙ is) a.lands.trail.cause;
+        cause = subst (λ (p : Plan). CauseOf ended p.watch p.state (end_in q.of.wait o)) (a.same ∙ is)
+            (cause_is ended q.of.wait o (ap (λ (p : Plan). p.asked) a.same ∙ unasked) a.lands.trail.cause);
         worn = q.of.wait.worn;
         behind = subst (λ (p : Plan). BehindOf ended p.watch (end_in q.of.wait o) q.of.wait.worn) (a.same ∙ is)
             a.lands.trail.behind;

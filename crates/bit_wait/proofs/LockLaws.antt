@@ -30,7 +30,8 @@ use Rattle.wait_class.specs.declared.stages.Turn.TheVariants as turn
 use Rattle.wait_class.specs.FrameLaws.{FinishLaw, IsLawfulFrame}
 use Rattle.wait_class.specs.Tables.{has_sleep}
 use Rattle.wait_class.specs.Laws.{AddsOwn, HasJoined, IsWornFor, LoadLaw, LookLaw, SleepLaw}
-use Rattle.wait_class.specs.Tables.{next_in}
+use Rattle.wait_class.specs.Tables.{call_plan, next_in}
+use Rattle.wait_leave.proofs.AskedPlans.{asked_stands}
 use Rattle.wait_class.specs.Laws.{Calm, Unmoved}
 use Rattle.wait_class.proofs.CallPlans.{call_stands}
 use Rattle.wait_class.proofs.Ways.{finish_by, load_by, look_by, sleep_by, way}
@@ -39,7 +40,7 @@ use Rattle.wq_head.proofs.FullHeads.{hashed_low}
 use Rattle.wait_model.specs.declared.layout.TheConstants.{FIRST_DONE_HEAD, WORD_BITS}
 use Rattle.wait_model.specs.Watches.{head_of}
 use Rattle.bit_wait.specs.LockEnds.{ComesBehindWorn}
-use Rattle.bit_wait.specs.LockTables.{FinishTrail, FoundSignal, IsRunning, TestTrail, bit_in, call_in, head_in, lock_frame, lock_table}
+use Rattle.bit_wait.specs.LockTables.{FailTrail, FinishTrail, FoundSignal, IsRunning, TestTrail, bit_in, call_in, head_in, lock_frame, lock_table}
 use Rattle.bit_wait.specs.declared.lock_runs.LockBit.{LockBit}
 use Rattle.bit_wait.specs.declared.lock_runs.LockTest.{LockTest}
 use Rattle.bit_wait.specs.declared.lock_runs.LockTest.TheVariants as test
@@ -64,9 +65,31 @@ more_signal old new st es more awake f = record {
   awake = awake_more f.more es f.awake awake;
 }
 
+-- and who was asked to leave has been asked
+more_failed : (old new : Known) (r : LockBit) (es : List Step) → history_of new ≡ history_of old ++ es
+    → has_sleep es ≡ false → (b : Bool) → FailTrail b old r → FailTrail b new r
+more_failed old new r es more awake true f = tt
+more_failed old new r es more awake false f = more_signal old new r.state es more awake f
+
+failed_by : (k : Known) (r : LockBit) → FoundSignal k r.state → (b : Bool) → FailTrail b k r
+failed_by k r f true = tt
+failed_by k r f false = f
+
+still_failed : (old new : Known) (r : LockBit) → Unmoved old new → (b : Bool) → FailTrail b old r → FailTrail b new r
+still_failed old new r still true f = tt
+still_failed old new r still false f = record {
+  before = f.before;
+  sleep = f.sleep;
+  look = f.look;
+  more = f.more;
+  ends = still.history ∙ f.ends;
+  pends = f.pends;
+  awake = f.awake;
+}
+
 calm_finish : (old new : Known) (r : LockBit) (failed : Bool) (es : List Step) → has_sleep es ≡ false
     → Calm es old new → FinishTrail old r failed → FinishTrail new r failed
-calm_finish old new r true es awake calm f = more_signal old new r.state es calm.history awake f
+calm_finish old new r true es awake calm f = more_failed old new r es calm.history awake r.asked f
 calm_finish old new r false es awake calm f = (
   record { keeps = calm.keeps (bit_in r) ∙ f.0.keeps; tries = calm.tries (bit_in r) f.0.keeps f.0.tries },
   f.1,
@@ -77,15 +100,7 @@ test_still old new r test.First still f = tt
 test_still old new r test.Load still f = tt
 test_still old new r test.Again still f = tt
 test_still old new r test.Worn still f = (found_still old new (head_in r) r.place still f.0, f.1)
-test_still old new r test.Last still f = record {
-  before = f.before;
-  sleep = f.sleep;
-  look = f.look;
-  more = f.more;
-  ends = still.history ∙ f.ends;
-  pends = f.pends;
-  awake = f.awake;
-}
+test_still old new r test.Last still f = still_failed old new r still r.asked f
 
 module _ (r : LockBit) where
   abbrev w : Framed LockBit
@@ -117,7 +132,8 @@ module _ (r : LockBit) where
       (λ v me is. ap (λ (c : Bool). next.Go (acted (call_in r) c)) is) (λ v me k. tt)
       (λ v me k. (refl, tt, tt)) (λ old new v is calm u.
       let e = ends_calm old new (step.Sleep u.0 ∷ []) (step.Look v ∷ []) calm u.1 in
-      record { before = e.0; sleep = u.0; look = v; more = []; ends = e.1; pends = is; awake = refl })
+      failed_by new r (record { before = e.0; sleep = u.0; look = v; more = []; ends = e.1; pends = is; awake = refl })
+      r.asked)
   look_law false = look_by lock_table w stage.Look refl false (way lock_table w stage.Look w (turn.Again (stage.Test test.Again)) refl refl refl refl refl (λ σ s. inl s) (λ o h. h))
       (λ v me is. ap (λ (c : Bool). next.Go (acted (call_in r) c)) is) (λ v me k. tt)
       (λ v me k. (refl, tt, tt)) (λ old new v is calm u. tt)
@@ -165,7 +181,8 @@ lock_lawful = record {
   worn_fits = λ r p runs. record { word = runs.word; bit = runs.bit };
   ends = ends_at;
   goes = λ r failed. refl;
-  stands = λ r. call_stands lock_frame (ends_at r) (call_in r) refl refl refl (behind r);
+  stands = λ r. asked_stands lock_frame (ends_at r) (call_plan (call_in r)) r.asked
+      (call_stands lock_frame (ends_at r) (call_in r) refl refl refl (behind r));
   prepared_stirs = λ r. refl;
   prepared_zone = refl;
   prepared_took = refl;

@@ -38,7 +38,7 @@ use Rattle.wait_class.specs.Laws.{IsPlain}
 use Rattle.wait_class.proofs.Turns.{GoesOn, advance_by}
 use Rattle.bit_wait.specs.LockStays.{LockKeeps}
 use Rattle.bit_wait.specs.LockEnds.{ComesBehindWorn}
-use Rattle.bit_wait.specs.LockTables.{stands_worn, EndTrail, LockTurn, bit_in, call_in, head_in, lock_frame, lock_table, tried_to, tries_bit}
+use Rattle.bit_wait.specs.LockTables.{stands_worn, EndTrail, FailTrail, WhyFailed, LockTurn, bit_in, call_in, head_in, lock_frame, lock_table, tried_to, tries_bit}
 use Rattle.bit_wait.specs.declared.lock_runs.LockBit.{LockBit}
 use Rattle.bit_wait.specs.declared.lock_runs.LockOutcome.TheVariants as outcome
 use Rattle.bit_wait.specs.declared.lock_runs.LockTest.{LockTest}
@@ -104,6 +104,22 @@ module _ (old new : Known) (r : Run (Framed LockBit)) (v : ℕ)
       → EndsWith new (step.Unlock (head_in w) false ∷ tries_bit w_seen)
   worn_ends a = ends_more old new (step.Unlock (head_in w) false ∷ []) (tries_bit w_seen) a.trail.0.ends more
 
+  -- what a wait that failed found at last
+  why : (b : Bool) → FailTrail b old w → bit_at v w.bit ≡ true → WhyFailed b new (q test.Last).wait
+  why true f set = record { last = (history_of old, more); set = set }
+  why false f set =
+      let g = more_signal old new w.state (tries_bit w_seen) more refl f in record {
+        before = g.before;
+        sleep = g.sleep;
+        look = g.look;
+        more = g.more;
+        ends = g.ends;
+        pends = g.pends;
+        awake = g.awake;
+        last = (history_of old, more);
+        set = set;
+      }
+
   same_keeps : (i : ℕ) (c : Watch) (g h : Bool) (j k : Known) → LockKeeps i c g h j k → LockKeeps i c g h j k
   same_keeps i c g h j k y = y
 
@@ -136,18 +152,8 @@ module _ (old new : Known) (r : Run (Framed LockBit)) (v : ℕ)
       (stage.Test test.Last) w.word w.bit v refl same_keeps is sets refl refl refl a (q test.Last) (λ x did. tt) (turn.Done outcome.Interrupted) true set refl
       (ap (λ (c : Bool). next.Ends (if c then interrupted else zero_answer)) set)
       (refl, refl) (refl, tt, tt) refl refl (λ σ s. s) (λ o h. h)
-      (let f = more_signal old new w.state (tries_bit w_seen) more refl a.trail in record {
-        cause = record {
-          before = f.before;
-          sleep = f.sleep;
-          look = f.look;
-          more = f.more;
-          ends = f.ends;
-          pends = f.pends;
-          awake = f.awake;
-          last = (history_of old, more);
-          set = set;
-        };
+      (record {
+        cause = why w.asked a.trail set;
         behind = refl;
         keeps = λ no. absurd (cc);
         tries = sets.tries;

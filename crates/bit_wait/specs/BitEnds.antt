@@ -54,6 +54,13 @@ pub record WasInterrupted (k : Known) (w b : ℕ) (st : SleepState) (seen : ℕ)
   pub pends : pending (state_mask st) (task_of look) ≡ true
   pub awake : has_sleep more ≡ false
 
+-- The last turn of a wait that was asked to leave: it loaded the bit's word, and found `last`. It has not slept since.
+pub record HasLoaded (k : Known) (w b last : ℕ) : Type 0 where
+  pub before : List Step
+  pub more : List Step
+  pub ends : history_of k ≡ before ++ (step.Load (watch.Bit w b) last ∷ more)
+  pub awake : has_sleep more ≡ false
+
 -- The last steps of a wait that found no place: its hold noted it, and gave the head back; then the load found the bit
 -- set.
 pub record FoundNoPlace (k : Known) (w b h place : ℕ) : Type 0 where

@@ -30,7 +30,8 @@ use Rattle.wait_class.specs.declared.stages.Turn.{Turn}
 use Rattle.wait_class.specs.declared.stages.Turn.TheVariants as turn
 use Rattle.wait_class.specs.Frames.{FrameTable, KeepsAll, framed}
 use Rattle.wait_class.specs.Tables.{CallTable, call_plan}
-use Rattle.bit_wait.specs.BitEnds.{IsCause, WasInterrupted, end_in}
+use Rattle.bit_wait.specs.BitEnds.{FoundNoPlace, HasLoaded, WasInterrupted}
+use Rattle.wait_leave.specs.Leaves.{with_asked}
 use Rattle.bit_wait.specs.declared.waits.BitOutcome.{BitOutcome}
 use Rattle.bit_wait.specs.declared.waits.BitOutcome.TheVariants as outcome
 use Rattle.bit_wait.specs.declared.waits.BitTest.{BitTest}
@@ -55,7 +56,7 @@ test_point test.Worn = at.Worn
 -- for a signal
 abbrev pub bit_noted : WaitBit → BitTest → ℕ → WaitBit
 bit_noted r test.First v = r
-bit_noted r (test.Again failed) v = r
+bit_noted r (test.Again failed) v = record r { last = v }
 bit_noted r _ v = record r { seen = v }
 
 abbrev pub set_to : BitTest → Bool → Turn (Stage BitTest) BitOutcome
@@ -96,14 +97,31 @@ end_post r o = record {
 abbrev pub loads_set : WaitBit → List Step → List Step
 loads_set r es = step.Unlock (head_of (bit_in r)) false ∷ step.Load (bit_in r) r.seen ∷ es
 
+-- why it fails: it was asked to leave, and has loaded the bit since, or it found a signal
+abbrev pub BitWhyFailed : Bool → Known → WaitBit → Type 0
+BitWhyFailed true k r = HasLoaded k r.word r.bit r.last
+BitWhyFailed false k r = WasInterrupted k r.word r.bit r.state r.seen
+
+-- and what is said of that before the load behind
+abbrev pub BitAgainTrail : Bool → Known → WaitBit → Type 0
+BitAgainTrail true k r = Unit {0}
+BitAgainTrail false k r = WasInterrupted k r.word r.bit r.state r.seen
+
 abbrev pub BitFinishTrail : Known → WaitBit → Bool → Type 0
-BitFinishTrail k r true = WasInterrupted k r.word r.bit r.state r.seen
+BitFinishTrail k r true = BitWhyFailed r.asked k r
 BitFinishTrail k r false = Unit {0}
+
+-- the cause of an end
+abbrev pub BitCauseIn : Known → WaitBit → BitOutcome → Type 0
+BitCauseIn k r outcome.Over = Unit {0}
+BitCauseIn k r outcome.Interrupted = BitWhyFailed r.asked k r
+BitCauseIn k r outcome.Worn = FoundNoPlace k r.word r.bit (head_of (bit_in r)) r.place
 
 abbrev pub BitTestTrail : Known → WaitBit → BitTest → Type 0
 BitTestTrail k r test.First = Unit {0}
 BitTestTrail k r test.Load = EndsWith k (step.Unlock (head_of (bit_in r)) false ∷ [])
-BitTestTrail k r (test.Again failed) = BitFinishTrail k r failed
+BitTestTrail k r (test.Again true) = BitAgainTrail r.asked k r
+BitTestTrail k r (test.Again false) = Unit {0}
 BitTestTrail k r test.Worn = FoundWorn k (head_of (bit_in r)) r.place []
 
 abbrev pub call_in : WaitBit → Call
@@ -111,7 +129,7 @@ call_in r = calls.WaitBit r.word r.bit r.state
 
 abbrev pub bit_frame : FrameTable WaitBit BitTest BitOutcome
 bit_frame = record {
-  plan_of = λ r. call_plan (call_in r);
+  plan_of = λ r. with_asked r.asked (call_plan (call_in r));
   Fits = IsRunning;
   worn_at = λ r p. record r { place = p };
   test_point = test_point;
@@ -134,7 +152,7 @@ bit_frame = record {
   SleepTrail = λ k r. EndsWith k (loads_set r []) × (bit_at r.seen r.bit ≡ true);
   LookTrail = λ k r. (w : ℕ) × EndsWith k (loads_set r (step.Sleep w ∷ [])) × (bit_at r.seen r.bit ≡ true);
   FinishTrail = BitFinishTrail;
-  TrailEnd = λ k r o. IsCause k r.word r.bit r.state (end_in r o);
+  TrailEnd = BitCauseIn;
   Keeps = KeepsAll;
 }
 
@@ -146,3 +164,4 @@ pub record IsFresh (r : WaitBit) (w b : ℕ) (st : SleepState) : Type 0 where
   pub word : r.word ≡ w
   pub bit : r.bit ≡ b
   pub state : r.state ≡ st
+  pub unasked : r.asked ≡ false

@@ -3,8 +3,10 @@ pub mod Tries
 pub mod Words
 pub mod BitTables
 pub mod BitEnds
+pub mod BitLeaves
 pub mod Clears
 pub mod LockStays
 pub mod LockTables
+pub mod LockLeaves
 pub mod LockEnds
 pub mod LosesNone

@@ -46,6 +46,11 @@ pub record WasInterrupted (k : Known) (w b : ℕ) (st : SleepState) (seen : ℕ)
   pub last : EndsWith k (step.Consume (watch.Bit w b) 1 seen ∷ [])
   pub set : bit_at seen b ≡ true
 
+-- The last step of a wait that was asked to leave: the test-and-set found `seen`, with the bit set.
+pub record WasLeft (k : Known) (w b : ℕ) (seen : ℕ) : Type 0 where
+  pub last : EndsWith k (step.Consume (watch.Bit w b) 1 seen ∷ [])
+  pub set : bit_at seen b ≡ true
+
 -- The last steps of a wait that found no place: its hold noted it, and gave the head back; then the test-and-set found
 -- the bit set.
 pub record FoundNoPlace (k : Known) (w b h place : ℕ) : Type 0 where

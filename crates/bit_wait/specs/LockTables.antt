@@ -33,7 +33,8 @@ use Rattle.wait_class.specs.declared.stages.Turn.TheVariants as turn
 use Rattle.wait_class.specs.Frames.{FrameTable, framed}
 use Rattle.wait_class.specs.Tables.{has_sleep}
 use Rattle.wait_class.specs.Tables.{CallTable, call_plan}
-use Rattle.bit_wait.specs.LockEnds.{ComesBehindWorn, IsCause, end_in}
+use Rattle.bit_wait.specs.LockEnds.{ComesBehindWorn, FoundNoPlace, WasInterrupted, WasLeft, end_in}
+use Rattle.wait_leave.specs.Leaves.{with_asked}
 use Rattle.bit_wait.specs.LockStays.{LockKeeps}
 use Rattle.bit_wait.specs.declared.lock_runs.LockBit.{LockBit}
 use Rattle.bit_wait.specs.declared.lock_runs.LockOutcome.{LockOutcome}
@@ -132,19 +133,34 @@ pub record HasTaken (k : Known) (c : Watch) : Type 0 where
 abbrev pub tries_bit : LockBit → List Step
 tries_bit r = step.Consume (bit_in r) 1 r.seen ∷ []
 
+-- why it failed: it was asked to leave, or found a signal
+abbrev pub FailTrail : Bool → Known → LockBit → Type 0
+FailTrail true k r = Unit {0}
+FailTrail false k r = FoundSignal k r.state
+
 abbrev pub TestTrail : Known → LockBit → LockTest → Type 0
 TestTrail k r test.Worn = FoundWorn k (head_in r) r.place [] × (r.worn ≡ true)
-TestTrail k r test.Last = FoundSignal k r.state
+TestTrail k r test.Last = FailTrail r.asked k r
 TestTrail k r _ = Unit {0}
 
 abbrev pub FinishTrail : Known → LockBit → Bool → Type 0
-FinishTrail k r true = FoundSignal k r.state
+FinishTrail k r true = FailTrail r.asked k r
 FinishTrail k r false = HasTaken k (bit_in r) × (r.worn ≡ false)
+
+-- the cause of an end: a wait that failed was asked to leave, or a signal ended it
+abbrev pub WhyFailed : Bool → Known → LockBit → Type 0
+WhyFailed true k r = WasLeft k r.word r.bit r.seen
+WhyFailed false k r = WasInterrupted k r.word r.bit r.state r.seen
+
+abbrev pub CauseIn : Known → LockBit → LockOutcome → Type 0
+CauseIn k r outcome.Over = Unit {0}
+CauseIn k r outcome.Interrupted = WhyFailed r.asked k r
+CauseIn k r outcome.Worn = FoundNoPlace k r.word r.bit (head_in r) r.place
 
 -- The answer has its cause, and comes behind a hold that found no place where the run says so; the task keeps the bit
 -- where it took it, and is not to try it.
 pub record EndTrail (k : Known) (r : LockBit) (o : LockOutcome) : Type 0 where
-  pub cause : IsCause k r.word r.bit r.state (end_in r o)
+  pub cause : CauseIn k r o
   pub behind : ComesBehindWorn k r.word r.bit (end_in r o) r.worn
   pub keeps : is_over o ≡ true → KeepsBitOf k (bit_in r)
   pub tries : (told_of k).bits.pending (bit_in r) ≡ false
@@ -154,7 +170,7 @@ call_in r = calls.LockBit r.word r.bit r.state
 
 abbrev pub lock_frame : FrameTable LockBit LockTest LockOutcome
 lock_frame = record {
-  plan_of = λ r. call_plan (call_in r);
+  plan_of = λ r. with_asked r.asked (call_plan (call_in r));
   Fits = IsRunning;
   worn_at = λ r p. record r { place = p; worn = true };
   test_point = test_point;

@@ -1,6 +1,6 @@
 //! Waits to take a bit, as whole calls; `stretch` and `woke` go on with one for who may not wait.
 
-ghost use Rattle.std.specs.Prelude.{◌≡◌, ◌<◌, MatchBool};
+ghost use Rattle.std.specs.Prelude.{◌≡◌, ◌<◌, MatchBool, false};
 ghost use Rattle.wait_model.specs.declared.layout.TheConstants.{BIT_WORDS, WORD_BITS};
 ghost use Rattle.wait_model.specs.declared.watches.Watch.TheVariants as watch;
 ghost use Rattle.wait_rule.specs.Queues.{IsIdle, IsTold};
@@ -40,6 +40,7 @@ pub fn begin_lock(task: &Task, word: u8, bit: u8, state: SleepState) -> LockRun
     requires out { IsOut task.now }
     ensures at { IsAt lock_table task.now result (stage.Test test.First) }
     ensures fresh { IsFresh result.of.wait word bit state }
+    ensures unasked { result.of.wait.asked ≡ false }
     ensures told { IsTold task.now }
     ensures under { IsClean task.now
         → IsUnderWay lock_table (lock_table.plan_of result.of) task.now result (turn.Again (stage.Test test.First)) }
@@ -55,6 +56,7 @@ pub fn begin_lock(task: &Task, word: u8, bit: u8, state: SleepState) -> LockRun
             place: 0,
             seen: 0,
             worn: false,
+            asked: false,
         },
     })
 }
@@ -148,7 +150,7 @@ pub fn end_lock(
     ensures holder { (c : _) → IsUnderWay lock_table c task.old wait.now (turn.Done outcome)
         → MatchBool (has_taken result) (IsHolder task.new c.watch) (IsClean task.new) }
     ensures ends { (start : _) → (f : _) → (word : _) → (bit : _) → (state : _) → IsFresh f.of.wait word bit state
-        → Advances lock_table start task.old f wait.now (stage.Test test.First) (turn.Done outcome)
+        → f.of.wait.asked ≡ false → Advances lock_table start task.old f wait.now (stage.Test test.First) (turn.Done outcome)
         → EndsBitLock start task.new word bit state result }
 {
     rest(domain, task, wait.of.wait.worn);

@@ -66,6 +66,8 @@ pub fn begin_bit(task: &Task, word: u8, bit: u8, state: SleepState) -> BitRun
             state,
             place: 0,
             seen: 0,
+            last: 0,
+            asked: false,
         },
     })
 }
@@ -102,7 +104,7 @@ pub fn wait_on_bit<R: Wait>(
 
 /// Whether a wait ended since no place was left for its entry.
 #[inline(always)]
-fn is_worn(outcome: BitOutcome) -> bool
+pub fn is_worn(outcome: BitOutcome) -> bool
     ensures { result ≡ is_worn outcome }
 {
     matches!(outcome, BitOutcome::Worn)

@@ -44,6 +44,10 @@ pub struct WaitBit {
     pub place: u64,
     /// What the load before the last sleep found in the bit's word, or the load after a hold that left no place.
     pub seen: u64,
+    /// What the last load behind a sleep, or behind a question to leave, found in it.
+    pub last: u64,
+    /// Its task was asked to leave it.
+    pub asked: bool,
 }
 
 pub type BitStage = Stage<BitTest>;
@@ -109,7 +113,7 @@ impl Waiting for WaitBit {
     fn note(&mut self, test: BitTest, value: u64) {
         match test {
             BitTest::First => (),
-            BitTest::Again(_) => (),
+            BitTest::Again(_) => self.last = value,
             _ => self.seen = value,
         }
     }

@@ -13,6 +13,6 @@ returns-clause-holder c p i = subst (λ (x : Result (Unit {0}) BitEnd). MatchBoo
     (under_clean p c.args.task.now c.rest.new.task c.args.wait.now c.args.outcome i c.rest.ensures)
 
 pub returns-clause-ends : goal.returns-clause-ends
-returns-clause-ends c start f word bit state fresh a = subst (EndsBitLock start c.rest.new.task word bit state)
+returns-clause-ends c start f word bit state fresh unasked a = subst (EndsBitLock start c.rest.new.task word bit state)
     (sym c.end_of.ensures) (ends_wait start c.args.task.now c.rest.new.task f c.args.wait.now word bit state fresh
-    c.args.outcome a c.rest.ensures)
+    c.args.outcome a c.rest.ensures unasked)

@@ -5,7 +5,7 @@ use Rattle.bit_wait.proofs.BitLaws.{ends_clean, ends_wait}
 use Rattle.bit_wait.proofs.wait_calls.end_bit.Goals as goal
 
 pub returns-clause-clean : goal.returns-clause-clean
-returns-clause-clean c p i = ends_clean i.old c.args.task.now i.began c.args.wait.now i.start c.args.outcome i.came
+returns-clause-clean c p i = ends_clean i.old c.args.task.now c.args.wait.now c.args.outcome i.came.went.keeps i.came.lands
     c.rest.new.task (subst (HasRested c.args.task.now c.rest.new.task) c.is_worn.ensures c.rest.ensures) i.clean
 
 pub returns-clause-ends : goal.returns-clause-ends

@@ -6,5 +6,6 @@ pub mod PageFlags
 pub mod PageQueues
 pub mod PageEndings
 pub mod PageWords
+pub mod PageLeaving
 pub mod LookedSteps
 pub mod Heeding

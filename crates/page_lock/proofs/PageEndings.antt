@@ -19,7 +19,7 @@ use Rattle.wait_rule.proofs.KnownLaws.AskedPages.{asks_no_page}
 use Rattle.wait_class.specs.Posts.{IsOut, own_of}
 use Rattle.wait_class.specs.declared.stages.Run.{Run}
 use Rattle.wait_class.specs.declared.stages.Turn.TheVariants as turn
-use Rattle.wait_class.specs.Tables.{Advances, IsAt, Plan, call_plan}
+use Rattle.wait_class.specs.Tables.{Advances, IsAt, IsEnded, Plan, call_plan}
 use Rattle.wait_class.specs.UnderWay.{IsUnderWay}
 use Rattle.wait_class.proofs.Wholes.{begins, ended_runs, none_of}
 use Rattle.bit_wait.specs.BitEnds.{answer_of}
@@ -28,7 +28,18 @@ use Rattle.bit_wait.specs.declared.wait_calls.BitEnd.{BitEnd}
 use Rattle.bit_wait.proofs.Holders.{none_taken}
 use Rattle.page_lock.specs.PageStays.{PageKeeps, TakesPage}
 use Rattle.page_lock.specs.PageEnds.{EndsPageLock, IsCause, end_in, has_taken as given}
-use Rattle.page_lock.specs.PageTables.{IsFresh, IsRunning, answer_in, is_over, page_in, page_table, page_took}
+use Rattle.wait_leave.specs.Leaves.{with_asked}
+use Rattle.page_lock.specs.PageTables.{
+  IsFresh,
+  IsRunning,
+  PageCauseIn,
+  WhyPageFailed,
+  answer_in,
+  is_over,
+  page_in,
+  page_table,
+  page_took,
+}
 use Rattle.page_lock.specs.declared.waits.LockPage.{LockPage}
 use Rattle.page_lock.specs.declared.waits.PageOutcome.{PageOutcome}
 use Rattle.page_lock.specs.declared.waits.PageOutcome.TheVariants as outcome
@@ -103,68 +114,78 @@ answer_is e outcome.Over = refl
 answer_is e outcome.Interrupted = refl
 answer_is e outcome.Worn = refl
 
-taken_is : (e : LockPage) (o : PageOutcome) → is_over o ≡ given (end_in e o)
+pub taken_is : (e : LockPage) (o : PageOutcome) → is_over o ≡ given (end_in e o)
 taken_is e outcome.Over = refl
 taken_is e outcome.Interrupted = refl
 taken_is e outcome.Worn = refl
 
--- a call that ended, from a stage at which it had not taken the page
-module _ (old new : Known) (r q : Run LockPage) (p : ℕ) (st : SleepState) (fresh : IsFresh r.of p st) (s : PageStage)
-    (nothing : page_took s ≡ false) (o : PageOutcome) (a : Advances page_table old new r q s (turn.Done o)) where
-  out_by : IsOut new
-  out_by = none_of (page_in q.of) ((told_of new).bits.stored (own_of new)) a.lands.stands.home
+-- a wait that was not asked to leave
+cause_is : (k : Known) (e : LockPage) (o : PageOutcome) → e.asked ≡ false → PageCauseIn k e o
+    → IsCause k e.page e.state (end_in e o)
+cause_is k e outcome.Over none x = tt
+cause_is k e outcome.Interrupted none x = subst (λ (b : Bool). WhyPageFailed b k e) none x
+cause_is k e outcome.Worn none x = x
+
+-- A call that ended; it was asked to leave on its way or not.
+module _ (old new : Known) (r q : Run LockPage) (s : PageStage) (o : PageOutcome)
+    (same : page_in q.of ≡ page_in r.of) (ended : IsEnded page_table new q o)
+    (keeps : PageKeeps (own_of old) (page_in r.of) (page_took s) (is_over o) old new) where
+  pub out_by : IsOut new
+  out_by = none_of (page_in q.of) ((told_of new).bits.stored (own_of new)) ended.stands.home
 
   -- it is idle again
-  idle_by : (told_of old).mark ≡ None → IsIdle new
+  pub idle_by : (told_of old).mark ≡ None → IsIdle new
   idle_by unmarked = record {
-    running = a.lands.stands.state;
-    free = record { head = a.lands.stands.head; ticket = a.lands.stands.ticket };
-    unmarked = a.went.keeps.mark ∙ unmarked;
+    running = ended.stands.state;
+    free = record { head = ended.stands.head; ticket = ended.stands.ticket };
+    unmarked = keeps.mark ∙ unmarked;
   }
 
-  began : page_table.plan_of r.of ≡ call_plan (calls.LockPage p st)
-  began i = call_plan (calls.LockPage (fresh.page i) (fresh.state i))
+  -- and keeps the page or not that had not taken it
+  pub takes_by : page_took s ≡ false → (p : ℕ) → page_in r.of ≡ page p → (g : Bool) → is_over o ≡ g → IsUp old → IsIdle old → IsOut old
+      → (told_of old).hold.head ≡ None → TakesPage old new p g
+  takes_by nothing p begun g is up idle out held = takes_page old new p g
+      (subst (λ (h : Bool). PageKeeps (own_of old) (page p) false h old new) is
+      (subst (λ (c : Watch). PageKeeps (own_of old) c false (is_over o) old new) begun
+      (subst (λ (had : Bool). PageKeeps (own_of old) (page_in r.of) had (is_over o) old new) nothing keeps)))
+      up idle out held ended.up (idle_by idle.unmarked) ended.stands.told
+      (ap (λ (n : ℕ). (told_of new).bits.stored (index n 0)) (sym keeps.number) ∙ out_by) ended.trail.asks
+      (λ yes. ap (told_of new).bits.keeps (sym (same ∙ begun)) ∙ ended.trail.keeps (is ∙ yes))
 
-  page_is : page_in q.of ≡ page p
-  page_is = ap (λ (x : Plan). x.watch) (a.same ∙ began)
-
-  kept_to : PageKeeps (own_of old) (page p) false (given (end_in q.of o)) old new
-  kept_to = subst (λ (g : Bool). PageKeeps (own_of old) (page p) false g old new) (taken_is q.of o)
-      (subst (λ (c : Watch). PageKeeps (own_of old) c false (is_over o) old new) (ap (λ (x : Plan). x.watch) began)
-      (subst (λ (had : Bool). PageKeeps (own_of old) (page_in r.of) had (is_over o) old new) nothing a.went.keeps))
-
-  takes_by : IsUp old → IsIdle old → IsOut old → (told_of old).hold.head ≡ None
-      → TakesPage old new p (given (end_in q.of o))
-  takes_by up idle out held = takes_page old new p (given (end_in q.of o)) kept_to up idle out held a.lands.up
-      (idle_by idle.unmarked) a.lands.stands.told
-      (ap (λ (n : ℕ). (told_of new).bits.stored (index n 0)) (sym a.went.keeps.number) ∙ out_by) a.lands.trail.asks
-      (λ is. ap (told_of new).bits.keeps (sym page_is) ∙ a.lands.trail.keeps (taken_is q.of o ∙ is))
+pub page_is : (r : LockPage) (p : ℕ) → r.page ≡ p → page_in r ≡ page p
+page_is r p is = ap page is
 
 -- from its first stage
 module _ (old new : Known) (r q : Run LockPage) (p : ℕ) (st : SleepState) (fresh : IsFresh r.of p st) (o : PageOutcome)
     (a : Advances page_table old new r q stage.First (turn.Done o)) where
+  same_page : page_in q.of ≡ page_in r.of
+  same_page = ap (λ (x : Plan). x.watch) a.same
+
   pub ends_up : IsUp new
   ends_up = a.lands.up
 
   pub ends_out : IsOut new
-  ends_out = out_by old new r q p st fresh stage.First refl o a
+  ends_out = out_by old new r q stage.First o same_page a.lands a.went.keeps
 
   pub ends_idle : (told_of old).mark ≡ None → IsIdle new
-  ends_idle = idle_by old new r q p st fresh stage.First refl o a
+  ends_idle = idle_by old new r q stage.First o same_page a.lands a.went.keeps
 
   pub ends_takes : IsUp old → IsIdle old → IsOut old → (told_of old).hold.head ≡ None
       → TakesPage old new p (given (end_in q.of o))
-  ends_takes = takes_by old new r q p st fresh stage.First refl o a
+  ends_takes = takes_by old new r q stage.First o same_page a.lands a.went.keeps refl p (page_is r.of p fresh.page)
+      (given (end_in q.of o)) (taken_is q.of o)
+
+  began : page_table.plan_of r.of ≡ call_plan (calls.LockPage p st)
+  began i = with_asked (fresh.unasked i) (call_plan (calls.LockPage (fresh.page i) (fresh.state i)))
 
   -- what it says at its end
   pub ends_wait : EndsPageLock old new p st (end_in q.of o)
-  ends_wait =
-      let is = began old new r q p st fresh stage.First refl o a in
-      record {
-        runs = ended_runs page_table old new r q stage.First o a (call_plan (calls.LockPage p st)) is
-            (answer_of (end_in q.of o)) (answer_is q.of o);
-        cause = subst (λ (x : Plan). CauseOf new x.watch x.state (end_in q.of o)) (a.same ∙ is) a.lands.trail.cause;
-      }
+  ends_wait = record {
+    runs = ended_runs page_table old new r q stage.First o a (call_plan (calls.LockPage p st)) began
+        (answer_of (end_in q.of o)) (answer_is q.of o);
+    cause = subst (λ (x : Plan). CauseOf new x.watch x.state (end_in q.of o)) (a.same ∙ began)
+        (cause_is new q.of o (ap (λ (x : Plan). x.asked) (a.same ∙ began)) a.lands.trail.cause);
+  }
 
 -- who owed nothing
 pub locks_clean : (old new : Known) (p : ℕ) → IsClean old → IsUp new → IsIdle new → (g : Bool)
@@ -189,7 +210,7 @@ pub under_clean : (c : Plan) (k : Known) (q : Run LockPage) (o : PageOutcome)
 under_clean c k q o i =
     let r = i.began in
     let p = r.of.page in
-    let fresh : IsFresh r.of p r.of.state = record { page = refl; state = refl } in
+    let same = ap (λ (x : Plan). x.watch) i.came.same in
     let was : IsIdle i.old = record {
       running = i.clean.running;
       free = i.clean.free;
@@ -199,6 +220,6 @@ under_clean c k q o i =
     subst (λ (w : Watch). MatchBool (given (end_in q.of o)) (IsHolder k w) (IsClean k))
     (ap (λ (x : Plan). x.watch) i.plan)
     (locks_clean i.old k p i.clean i.came.lands.up
-    (idle_by i.old k r q p r.of.state fresh i.start i.nothing o i.came was.unmarked) (given (end_in q.of o))
-    (takes_by i.old k r q p r.of.state fresh i.start i.nothing o i.came i.clean.up was out
-    (i.told.head ∙ i.clean.free.head)))
+    (idle_by i.old k r q i.start o same i.came.lands i.came.went.keeps was.unmarked) (given (end_in q.of o))
+    (takes_by i.old k r q i.start o same i.came.lands i.came.went.keeps i.nothing p refl (given (end_in q.of o))
+    (taken_is q.of o) i.clean.up was out (i.told.head ∙ i.clean.free.head)))

@@ -38,6 +38,7 @@ use Rattle.wait_rule.proofs.KnownLaws.Transitions.{only_none}
 use Rattle.wait_class.specs.Posts.{own_of}
 use Rattle.wait_class.specs.Findings.{nothing}
 use Rattle.wait_class.proofs.Ground.Keeping.{keeps_of}
+use Rattle.wait_class.proofs.Histories.{ends_more}
 use Rattle.wait_class.specs.declared.stages.Run.{Run}
 use Rattle.wait_class.specs.declared.stages.Turn.TheVariants as turn
 use Rattle.wait_class.specs.Tables.{IsAt, Turned, falls, post_of}
@@ -52,10 +53,13 @@ use Rattle.page_lock.specs.PageTables.{
   IsQuiet,
   IsUnasked,
   PageTurn,
+  WhyOut,
+  WhyPageFailed,
   flagged_to,
   page_call,
   page_in,
   page_table,
+  tries_page,
   with_flag,
 }
 use Rattle.page_lock.specs.declared.waits.LockPage.{LockPage}
@@ -63,7 +67,7 @@ use Rattle.page_lock.specs.declared.waits.PageOutcome.TheVariants as outcome
 use Rattle.page_lock.specs.declared.waits.PageStage.{PageStage}
 use Rattle.page_lock.specs.declared.waits.PageStage.TheVariants as stage
 use Rattle.page_lock.proofs.PageGround.{page_keeps_noted, page_keeps_of}
-use Rattle.page_lock.proofs.PageTrails.{over_end, signal_on, waiting_on}
+use Rattle.page_lock.proofs.PageTrails.{over_end, set_on, signal_on, waiting_on, why_out}
 use Rattle.page_lock.proofs.PageTries.{either_event}
 
 same_number : (n : ℕ) → (n == n) ≡ true
@@ -81,7 +85,7 @@ step_keeps old new c carries = page_keeps_of (own_of old) c false old new (keeps
 
 -- the flag is cleared
 pub may_clear : (old : Known) (r : Run LockPage) → IsAt page_table old r stage.Unflag → MayClear old 0
-may_clear old r a = inl a.trail
+may_clear old r a = inl a.trail.0
 
 or_right : (a b : Bool) → b ≡ true → (a || b) ≡ true
 or_right true b is = refl
@@ -108,9 +112,16 @@ module _ (old : Known) (run : Run LockPage) where
       (stands_same old (step.Unflag (own_of old) None) (post_of page_table run.of stage.Unflag)
       (turn_post page_table run.of (turn.Again stage.QueueLock)) a.stands refl refl refl refl a.stands.state
       a.stands.home) (
-        asked_added old (item.Made (step.Unflag (own_of old) None))
-            ∙ ap (ask_step (step.Unflag (own_of old) None)) a.trail,
-        clear_quiet (none_of (page_in run.of) ((told_of old).bits.stored (own_of old)) a.stands.home),
+        (
+          asked_added old (item.Made (step.Unflag (own_of old) None))
+              ∙ ap (ask_step (step.Unflag (own_of old) None)) a.trail.0,
+          clear_quiet (none_of (page_in run.of) ((told_of old).bits.stored (own_of old)) a.stands.home),
+        ),
+        record {
+          tried = ends_more old cleared (tries_page run.of) (step.Unflag (own_of old) None ∷ []) a.trail.1.tried
+              (history_after old cleared (step.Unflag (own_of old) None) refl);
+          set = a.trail.1.set;
+        },
       )
 
 pub clear_advances : (old new : Known) (r : Run LockPage)
@@ -183,7 +194,7 @@ module _ (old : Known) (run : Run LockPage) (w : ℕ) where
           (stands_same old e (post_of page_table r stage.Flag) (turn_post page_table r (turn.Again stage.FinishState))
           a.stands refl refl refl refl a.stands.state a.stands.home) (
             waiting_on old loaded r (e ∷ []) refl flag_history refl refl a.trail,
-            inl (flag_told a.trail.quiet set),
+            why_out loaded r (inl (flag_told a.trail.quiet set)) r.asked,
           )
       turn_from false set true is = own_goes page_table old old loaded r r stage.Flag (turn.Again stage.Look) e
           (with_flag (flag_of w)) (only_none old) (only_none loaded) (λ x did. tt) kept
@@ -222,11 +233,46 @@ module _ (old : Known) (run : Run LockPage) (w : ℕ) where
         | inr asks ↦ asks
       ]
 
-      signal : flag_of w ≡ false → FoundSignal old r
-      signal set = elim a.trail.1 [
+      signal : WhyOut false old r → flag_of w ≡ false → FoundSignal old r
+      signal why set = elim why [
         | inl told ↦ not_both (is_told (own_of old) (history_of old)) told (none (is_unasked set)).0
         | inr found ↦ found
       ]
+
+      -- why it failed: it was asked to leave, or a signal ended it
+      failed : flag_of w ≡ false → (b : Bool) → WhyOut b old r → WhyPageFailed b loaded r
+      failed set true why =
+          let f = set_on old loaded r (e ∷ []) refl flag_history refl a.trail.0.found in
+          inr (record {
+            before = f.before;
+            entry = f.entry;
+            more = f.more;
+            tried = f.ends;
+            set = f.set;
+            calm = f.calm;
+            flag = w;
+            last = (history_of old, flag_history);
+            unset = set;
+          })
+      failed set false why =
+          let t = signal_on old loaded r (e ∷ []) refl flag_history refl refl (signal why set) in
+          record {
+            before = t.found.before;
+            entry = t.found.entry;
+            more = t.found.more;
+            tried = t.found.ends;
+            set = t.found.set;
+            calm = t.found.calm;
+            front = t.front;
+            look = t.look;
+            later = t.later;
+            looked = t.looked;
+            pends = t.pends;
+            awake = t.awake;
+            flag = w;
+            last = (history_of old, flag_history);
+            unset = set;
+          }
 
       last_made : IsMadeFor old (Some (index old.view.number 0)) (given_for (page_call r) (at.Page paging.Last))
           (if flag_of w then go (event.Flag true) (at.Page paging.Clear) else ends_with (event.Flag false) interrupted).event
@@ -244,32 +290,14 @@ module _ (old : Known) (run : Run LockPage) (w : ℕ) where
           (stands_same old e (post_of page_table r stage.Last) (turn_post page_table r (turn.Again stage.Clear))
           a.stands refl refl refl refl a.stands.state a.stands.home)
           (flag_asks ∙ is_given set)
-      last_from false set =
-          let t = signal_on old loaded r (e ∷ []) refl flag_history refl refl (signal set) in
-          own_goes page_table old old loaded r r stage.Last (turn.Done outcome.Interrupted) e
+      last_from false set = own_goes page_table old old loaded r r stage.Last (turn.Done outcome.Interrupted) e
           (with_flag (flag_of w)) (only_none old) (only_none loaded) (λ x did. tt) kept
           (ap (λ (c : Bool). (if c then go (event.Flag true) (at.Page paging.Clear)
           else ends_with (event.Flag false) interrupted).next) set) last_made (refl, tt, tt) a.up
           (stands_same old e (post_of page_table r stage.Last) (turn_post page_table r (turn.Done outcome.Interrupted))
           a.stands refl refl refl refl a.stands.state a.stands.home)
           (record {
-            cause = record {
-              before = t.found.before;
-              entry = t.found.entry;
-              more = t.found.more;
-              tried = t.found.ends;
-              set = t.found.set;
-              calm = t.found.calm;
-              front = t.front;
-              look = t.look;
-              later = t.later;
-              looked = t.looked;
-              pends = t.pends;
-              awake = t.awake;
-              flag = w;
-              last = (history_of old, flag_history);
-              unset = set;
-            };
+            cause = failed set r.asked a.trail.1;
             keeps = λ is. absurd (cc);
             asks = flag_asks ∙ is_unasked set;
           })

@@ -43,6 +43,7 @@ use Rattle.page_lock.proofs.PageTrails.{
   signalled,
   still_by,
   waits_calm,
+  why_out,
 }
 
 module _ (r : LockPage) where
@@ -56,7 +57,7 @@ module _ (r : LockPage) where
     same = refl;
     took = refl;
     depth = refl;
-    trail = λ k u. u;
+    trail = λ k u. u.0;
   }
 
   lock_queue : LockLaw page_table r stage.QueueTurn
@@ -145,7 +146,7 @@ module _ (r : LockPage) where
       (λ w me is. ap (λ (c : Bool). next.Go (at.Page (if c then paging.Finish finishing.State else paging.Sleep))) is)
       (λ w me k. tt) (λ w me k. (refl, tt, tt)) (λ old new w is c u. (
         waits_calm old new r (step.Look w ∷ []) c refl (λ k. refl) u,
-        inr (signalled old new r w c u is),
+        why_out new r (inr (signalled old new r w c u is)) r.asked,
       ))
   look_law false = look_by page_table r stage.Look refl false
       (way page_table r stage.Look r (turn.Again stage.Sleep) refl refl refl refl refl (λ σ s. s) (λ o h. h))

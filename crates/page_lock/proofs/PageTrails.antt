@@ -25,7 +25,7 @@ use Rattle.wait_class.specs.Tables.{has_sleep}
 use Rattle.wait_class.specs.Laws.{Calm, Unmoved}
 use Rattle.wait_class.proofs.Histories.{awake_more, found_still}
 use Rattle.page_lock.specs.PageEnds.{are_calm, is_calm}
-use Rattle.page_lock.specs.PageTables.{PageEndTrail, FoundSet, FoundSignal, HasLeft, IsOff, IsQuiet, IsUnasked, IsWaiting, TrailAt, head_in, page_in}
+use Rattle.page_lock.specs.PageTables.{PageEndTrail, FoundFirst, FoundSet, FoundSignal, HasLeft, IsOff, IsQuiet, IsUnasked, IsWaiting, TrailAt, WhyOut, head_in, page_in}
 use Rattle.page_lock.specs.declared.waits.LockPage.{LockPage}
 use Rattle.page_lock.specs.declared.waits.PageOutcome.TheVariants as outcome
 use Rattle.page_lock.specs.declared.waits.PageStage.{PageStage}
@@ -58,6 +58,11 @@ pub asks_more : (old new : Known) (es : List Step) → history_of new ≡ histor
 asks_more old new es more = asked_by nothing_asked new.view.items ∙ (ap (asked_steps nothing_asked) more
     ∙ (asked_on nothing_asked (history_of old) es
     ∙ ap (λ (k : Asked). asked_steps k es) (sym (asked_by nothing_asked old.view.items))))
+
+-- why it waits no more that was told, or found a signal
+pub why_out : (k : Known) (r : LockPage) → WhyOut false k r → (b : Bool) → WhyOut b k r
+why_out k r h true = tt
+why_out k r h false = h
 
 -- what a look at the own entry tells of the page that is waited for
 looked_off : (x p : ℕ) (o : Option Entry) → is_some o ≡ false → given_if (is_off o) x (waits_for x p) ≡ was_given x p
@@ -150,13 +155,17 @@ module _ (old new : Known) (r : LockPage) (es : List Step) (number : new.view.nu
     awake = awake_more f.later es f.awake awake;
   }
 
-  pub left_on : has_sleep es ≡ false → HasLeft old r → HasLeft new r
-  left_on awake (inl told) = inl ((λ i. is_told (index (number i) 0) (more i))
+  out_on : has_sleep es ≡ false → (b : Bool) → WhyOut b old r → WhyOut b new r
+  out_on awake true h = tt
+  out_on awake false (inl told) = inl ((λ i. is_told (index (number i) 0) (more i))
       ∙ (told_more (own_of old) (history_of old) es
       ∙ (ap (λ (b : Bool). told_from (own_of old) (view_of (history_of old))
       (is_quiet (own_of old) (history_of old)) b es) told
       ∙ calm_told (own_of old) (view_of (history_of old)) (is_quiet (own_of old) (history_of old)) es calm)))
-  left_on awake (inr f) = inr (signal_on awake f)
+  out_on awake false (inr f) = inr (signal_on awake f)
+
+  pub left_on : has_sleep es ≡ false → HasLeft old r → HasLeft new r
+  left_on awake h = out_on awake r.asked h
 
   -- that ask for nothing else
   pub waiting_on : asked_steps (waits_for (own_of old) r.page) es ≡ waits_for (own_of old) r.page → IsWaiting old r
@@ -295,13 +304,27 @@ module _ (old new : Known) (r : LockPage) (still : Unmoved old new) where
   kept_still : KeepsBitOf old (page_in r) → KeepsBitOf new (page_in r)
   kept_still keeps = ap (λ (v : View). v.bits.keeps (page_in r)) told ∙ keeps
 
+  first_still : FoundFirst old r [] → FoundFirst new r []
+  first_still f = record { tried = (f.tried.0, still.history ∙ f.tried.1); set = f.set }
+
+  cleared_still : FoundFirst old r (step.Unflag (own_of old) None ∷ [])
+      → FoundFirst new r (step.Unflag (own_of new) None ∷ [])
+  cleared_still f = record {
+    tried = (
+      f.tried.0,
+      still.history ∙ (f.tried.1 ∙ ap (λ (n : ℕ). f.tried.0 ++ step.Consume (page_in r) 1 r.seen
+          ∷ step.Unflag (index n 0) None ∷ []) (sym still.number)),
+    );
+    set = f.set;
+  }
+
   asked_still : asks_for old ≡ waits_for (own_of old) r.page → asks_for new ≡ waits_for (own_of new) r.page
   asked_still asks = asks_still ∙ (asks ∙ ap (λ (n : ℕ). waits_for (index n 0) r.page) (sym still.number))
 
   pub still_by : (s : PageStage) → TrailAt old r s → TrailAt new r s
   still_by stage.First u = asks_still ∙ u
-  still_by stage.Unflag u = asks_still ∙ u
-  still_by stage.QueueLock u = (asks_still ∙ u.0, quiet_still u.1)
+  still_by stage.Unflag u = (asks_still ∙ u.0, first_still u.1)
+  still_by stage.QueueLock u = ((asks_still ∙ u.0.0, quiet_still u.0.1), cleared_still u.1)
   still_by stage.QueueTurn u = (asks_still ∙ u.0, quiet_still u.1)
   still_by stage.Queue u = (asks_still ∙ u.0, quiet_still u.1)
   still_by stage.Try u = record {

@@ -116,7 +116,7 @@ module _ (old : Known) (run : Run LockPage) (v : ℕ) where
         a.up
         (stands_same old e (post_of page_table r stage.First) (turn_post page_table q (turn.Again stage.Unflag)) a.stands
         refl refl refl refl a.stands.state a.stands.home)
-        (asks ∙ a.trail)
+        (asks ∙ a.trail, record { tried = (history_of old, history); set = set })
     try_from stage.First own a false set = own_goes page_table old old new r q stage.First (turn.Done outcome.Over) e
         (with_value v) (only_none old) (only_none new) (λ x did. tt) (kept false set)
         (ap (λ (c : Bool). (if c then unflags else over).next) set)

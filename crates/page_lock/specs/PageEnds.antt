@@ -1,6 +1,6 @@
 -- To be believed.
 -- What whole waits for a page say.
-use Rattle.std.specs.Prelude.{ℕ, ◌≡◌, ◌&&◌, Bool, true, false, Result, Ok, Err, List, [], ◌∷◌, ◌++◌}
+use Rattle.std.specs.Prelude.{ℕ, ◌≡◌, ◌⊎◌, ◌&&◌, Bool, true, false, None, Result, Ok, Err, List, [], ◌∷◌, ◌++◌}
 use Rattle.wait_model.specs.declared.calls.Call.TheVariants as calls
 use Rattle.wait_model.specs.declared.tasks.SleepState.{SleepState}
 use Rattle.wait_model.specs.declared.points.PagePoint.TheVariants as paging
@@ -61,6 +61,30 @@ pub record WasInterrupted (k : Known) (p : ℕ) (st : SleepState) (seen : ℕ) :
   pub flag : ℕ
   pub last : EndsWith k (step.Flag (own_in k) flag ∷ [])
   pub unset : flag_of flag ≡ false
+
+-- The last steps of a wait that was asked to leave before its entry was queued: the test-and-set found `seen`, with the
+-- page set, and behind it the task did no more than clear its flag.
+pub record LeftUnqueued (k : Known) (p seen : ℕ) : Type 0 where
+  pub more : List Step
+  pub tried : EndsWith k (step.Consume (page p) 1 seen ∷ more)
+  pub clears : (more ≡ []) ⊎ (more ≡ step.Unflag (own_in k) None ∷ [])
+  pub set : bit_at seen 0 ≡ true
+
+-- And of one that was asked behind that. As soon as its entry was queued, in the same hold, the test-and-set found
+-- `seen`, with the page set, and the task made no further one. Last of all its flag read no.
+pub record LeftQueued (k : Known) (p seen : ℕ) : Type 0 where
+  pub before : List Step
+  pub entry : Entry
+  pub more : List Step
+  pub tried : history_of k ≡ before ++ (step.Queue (own_in k) entry ∷ step.Consume (page p) 1 seen ∷ more)
+  pub set : bit_at seen 0 ≡ true
+  pub calm : are_calm more ≡ true
+  pub flag : ℕ
+  pub last : EndsWith k (step.Flag (own_in k) flag ∷ [])
+  pub unset : flag_of flag ≡ false
+
+abbrev pub WasPageLeft : Known → ℕ → ℕ → Type 0
+WasPageLeft k p seen = LeftUnqueued k p seen ⊎ LeftQueued k p seen
 
 -- The last steps of a wait that found no place: its hold noted it, and gave the head back; then the test-and-set found
 -- the page set.

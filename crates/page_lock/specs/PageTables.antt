@@ -36,7 +36,8 @@ use Rattle.wait_class.specs.declared.stages.Doing.{Doing}
 use Rattle.wait_class.specs.declared.stages.Doing.TheVariants as doing
 use Rattle.wait_class.specs.declared.stages.Turn.{Turn}
 use Rattle.wait_class.specs.declared.stages.Turn.TheVariants as turn
-use Rattle.page_lock.specs.PageEnds.{IsCause, are_calm, end_in}
+use Rattle.wait_leave.specs.Leaves.{with_asked}
+use Rattle.page_lock.specs.PageEnds.{FoundNoPlace, WasInterrupted, WasPageLeft, are_calm}
 use Rattle.page_lock.specs.PageStays.{PageKeeps}
 use Rattle.page_lock.specs.declared.waits.LockPage.{LockPage}
 use Rattle.page_lock.specs.declared.waits.PageOutcome.{PageOutcome}
@@ -188,6 +189,7 @@ IsRunning r = r.page < BIT_WORDS
 pub record IsFresh (r : LockPage) (p : ℕ) (st : SleepState) : Type 0 where
   pub page : r.page ≡ p
   pub state : r.state ≡ st
+  pub unasked : r.asked ≡ false
 
 -- The wait has ended: the task is RUNNING, holds no head, and its entry is off.
 abbrev pub end_post : LockPage → PageOutcome → Post
@@ -207,6 +209,11 @@ with_flag hit = record nothing { flag = hit }
 -- what a test-and-set of the page adds, as the last one found it
 abbrev pub tries_page : LockPage → List Step
 tries_page r = step.Consume (page_in r) 1 r.seen ∷ []
+
+-- its first test-and-set found the page set, and it made these steps behind it
+pub record FoundFirst (k : Known) (r : LockPage) (es : List Step) : Type 0 where
+  pub tried : EndsWith k (step.Consume (page_in r) 1 r.seen ∷ es)
+  pub set : bit_at r.seen 0 ≡ true
 
 -- The test-and-set that was made as soon as the entry was queued, in the same hold, found the page set. The task has
 -- tried it no more since.
@@ -260,9 +267,13 @@ pub record IsWaiting (k : Known) (r : LockPage) : Type 0 where
   pub quiet : IsQuiet k
   pub found : FoundSet k r
 
--- it waits no more: its flag told of the page, or it found a signal
+-- it waits no more: it was asked to leave; or its flag told of the page, or it found a signal
+abbrev pub WhyOut : Bool → Known → LockPage → Type 0
+WhyOut true k r = Unit {0}
+WhyOut false k r = (is_told (own_of k) (history_of k) ≡ true) ⊎ FoundSignal k r
+
 abbrev pub HasLeft : Known → LockPage → Type 0
-HasLeft k r = (is_told (own_of k) (history_of k) ≡ true) ⊎ FoundSignal k r
+HasLeft k r = WhyOut r.asked k r
 
 -- its entry is off: it found it off, and has been given the page, or it took it off itself
 pub record IsOff (k : Known) (r : LockPage) : Type 0 where
@@ -273,8 +284,8 @@ pub record IsOff (k : Known) (r : LockPage) : Type 0 where
 -- what a stage says of what the task asks for, and of the last steps
 abbrev pub TrailAt : Known → LockPage → PageStage → Type 0
 TrailAt k r stage.First = IsUnasked k
-TrailAt k r stage.Unflag = IsUnasked k
-TrailAt k r stage.QueueLock = IsUnasked k × IsQuiet k
+TrailAt k r stage.Unflag = IsUnasked k × FoundFirst k r []
+TrailAt k r stage.QueueLock = (IsUnasked k × IsQuiet k) × FoundFirst k r (step.Unflag (own_of k) None ∷ [])
 TrailAt k r stage.QueueTurn = IsUnasked k × IsQuiet k
 TrailAt k r stage.Queue = IsUnasked k × IsQuiet k
 TrailAt k r stage.Try = HasJoinedPage k r
@@ -291,15 +302,25 @@ TrailAt k r stage.Last = IsOff k r × HasLeft k r
 TrailAt k r stage.Clear = IsGiven k r
 TrailAt k r _ = IsWaiting k r × HasLeft k r
 
+-- the cause of an end: a wait that failed was asked to leave, or a signal ended it
+abbrev pub WhyPageFailed : Bool → Known → LockPage → Type 0
+WhyPageFailed true k r = WasPageLeft k r.page r.seen
+WhyPageFailed false k r = WasInterrupted k r.page r.state r.seen
+
+abbrev pub PageCauseIn : Known → LockPage → PageOutcome → Type 0
+PageCauseIn k r outcome.Over = Unit {0}
+PageCauseIn k r outcome.Interrupted = WhyPageFailed r.asked k r
+PageCauseIn k r outcome.Worn = FoundNoPlace k r.page (head_in r) r.place
+
 -- The answer has its cause; the task keeps the page where it took it, and asks for none any more.
 pub record PageEndTrail (k : Known) (r : LockPage) (o : PageOutcome) : Type 0 where
-  pub cause : IsCause k r.page r.state (end_in r o)
+  pub cause : PageCauseIn k r o
   pub keeps : is_over o ≡ true → KeepsBitOf k (page_in r)
   pub asks : IsUnasked k
 
 abbrev pub page_table : CallTable LockPage PageStage PageOutcome
 page_table = record {
-  plan_of = λ r. call_plan (page_call r);
+  plan_of = λ r. with_asked r.asked (call_plan (page_call r));
   Fits = IsRunning;
   worn_at = λ r p. record r { place = p };
   joined_at = λ r s. r;

@@ -4,12 +4,14 @@
 #![tactic(auto)]
 
 pub mod laws;
+pub mod leaves;
 pub mod tallies;
 pub mod tries;
 pub mod unlocks;
 pub mod wait_calls;
 pub mod waits;
 
+pub use leaves::lock_page_until;
 pub use tallies::add_tally;
 pub use tries::try_lock_page;
 pub use unlocks::unlock_page;

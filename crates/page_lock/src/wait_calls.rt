@@ -46,6 +46,7 @@ pub fn begin_page(task: &Task, page: u8, state: SleepState) -> PageRun
         state,
         place: 0,
         seen: 0,
+        asked: false,
     })
 }
 

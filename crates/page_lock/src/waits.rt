@@ -74,6 +74,8 @@ pub struct LockPage {
     pub place: u64,
     /// What the last test-and-set found in the page's word.
     pub seen: u64,
+    /// Its task was asked to leave it.
+    pub asked: bool,
 }
 
 pub type PageTurn = Turn<PageStage, PageOutcome>;

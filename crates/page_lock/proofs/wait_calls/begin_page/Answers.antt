@@ -16,6 +16,7 @@ pub returns-clause-fresh : goal.returns-clause-fresh
 returns-clause-fresh c = record {
   page = ap (λ (r : LockPage). r.page) c.new.ensures;
   state = ap (λ (r : LockPage). r.state) c.new.ensures;
+  unasked = ap (λ (r : LockPage). r.asked) c.new.ensures;
 }
 
 pub returns-clause-under : goal.returns-clause-under

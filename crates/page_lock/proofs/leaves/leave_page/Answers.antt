@@ -1,0 +1,39 @@
+use Rattle.std.proofs.Common.{subst, sym}
+use Rattle.std.specs.Prelude.{Result}
+use Rattle.wait_rule.specs.Queues.{index}
+use Rattle.wait_leave.specs.declared.exits.Until.{Until}
+use Rattle.bit_wait.specs.declared.wait_calls.BitEnd.{BitEnd}
+use Rattle.page_lock.specs.PageLeaves.{LeavesPage, takes_page_until}
+use Rattle.page_lock.specs.PageStays.{PageKeeps}
+use Rattle.page_lock.specs.PageTables.{page_in, page_table}
+use Rattle.page_lock.proofs.PageLeaving.{leaves_page, left_asks, left_idle, left_kept, left_out, left_up}
+use Rattle.page_lock.proofs.leaves.leave_page.Goals as goal
+
+pub returns-clause-leaves : goal.returns-clause-leaves
+returns-clause-leaves g c = subst (LeavesPage (Unit {0}) c.args.task.now c.leave-outcome.new.task c.args.call.now
+    c.args.stage) (sym c.until_of.ensures)
+    (leaves_page (Unit {0}) c.args.task.now c.leave-outcome.new.task c.args.call.now c.leave-outcome.new.call
+    c.args.stage c.leave-outcome.result c.leave-outcome.ensures)
+
+pub returns-clause-up : goal.returns-clause-up
+returns-clause-up g c = left_up (Unit {0}) c.args.task.now c.leave-outcome.new.task c.args.call.now
+    c.leave-outcome.new.call c.args.stage c.leave-outcome.result c.leave-outcome.ensures
+
+pub returns-clause-out : goal.returns-clause-out
+returns-clause-out g c = left_out (Unit {0}) c.args.task.now c.leave-outcome.new.task c.args.call.now
+    c.leave-outcome.new.call c.args.stage c.leave-outcome.result c.leave-outcome.ensures
+
+pub returns-clause-idle : goal.returns-clause-idle
+returns-clause-idle g c = left_idle (Unit {0}) c.args.task.now c.leave-outcome.new.task c.args.call.now
+    c.leave-outcome.new.call c.args.stage c.leave-outcome.result c.leave-outcome.ensures
+
+pub returns-clause-asks : goal.returns-clause-asks
+returns-clause-asks g c = left_asks (Unit {0}) c.args.task.now c.leave-outcome.new.task c.args.call.now
+    c.leave-outcome.new.call c.args.stage c.leave-outcome.result c.leave-outcome.ensures
+
+pub returns-clause-keeps : goal.returns-clause-keeps
+returns-clause-keeps g c = subst (λ (x : Until (Result (Unit {0}) BitEnd)). PageKeeps
+    (index c.args.task.now.view.number 0) (page_in c.args.call.now.of) (page_table.took c.args.stage)
+    (takes_page_until x) c.args.task.now c.leave-outcome.new.task) (sym c.until_of.ensures)
+    (left_kept (Unit {0}) c.args.task.now c.leave-outcome.new.task c.args.call.now c.leave-outcome.new.call
+    c.args.stage c.leave-outcome.result c.leave-outcome.ensures)

@@ -1,0 +1,392 @@
+-- The table of a `down` keeps its laws.
+use Rattle.std.proofs.Common.{◌∙◌, ap, sym, refl, inr, arith, append_assoc}
+use Rattle.std.specs.Prelude.{ℕ, ◌≡◌, ◌≤◌, ◌||◌, Bool, true, false, if◌then◌else◌, None, [], ◌∷◌, ◌++◌}
+use Rattle.wait_model.specs.declared.points.FinishPoint.TheVariants as finishing
+use Rattle.wait_model.specs.declared.points.Next.TheVariants as next
+use Rattle.wait_model.specs.declared.points.Point.TheVariants as at
+use Rattle.wait_model.specs.declared.points.PreparePoint.TheVariants as preparing
+use Rattle.wait_model.specs.declared.steps.Step.TheVariants as step
+use Rattle.wait_model.specs.Runs.{own}
+use Rattle.wait_model.specs.Tasks.{state_mask}
+use Rattle.wait_rule.specs.Known.{Known}
+use Rattle.wait_rule.specs.Queues.{index, walk_of_hold}
+use Rattle.wait_rule.specs.Says.{history_of}
+use Rattle.wait_rule.specs.Stays.{with_left_entry}
+use Rattle.wait_rule.specs.Transitions.{OnlyLooks, StepOrLook, Transition}
+use Rattle.wait_rule.proofs.KnownLaws.Transitions.{only_looked}
+use Rattle.wait_class.specs.Posts.{own_of}
+use Rattle.wait_class.specs.Laws.{Calm, DrawLaw, HasJoined, IsLawfulTable, LawOf, LockLaw, LookLaw, PareLaw, QueueLaw, SleepLaw, StateLaw, UnlockLaw}
+use Rattle.wait_class.specs.declared.stages.Turn.TheVariants as turn
+use Rattle.wait_class.proofs.Histories.{stored_history, unmoved_by}
+use Rattle.wait_class.proofs.Ground.Standing.{owner_own}
+use Rattle.wait_class.proofs.Stays.{stays_but}
+use Rattle.wait_class.proofs.Turns.{may_by}
+use Rattle.wait_class.proofs.Ways.{look_by, sleep_by, way}
+use Rattle.wait_event.specs.Waits.{is_queue, queues}
+use Rattle.wait_event.proofs.Tellings.{or_none, queues_append, quiet_queues}
+use Rattle.completion_cell.specs.HeldPermits.{Knows}
+use Rattle.completion_cell.proofs.AwaitTrails.{
+  first_begun,
+  knows_by,
+  knows_look,
+  knows_looks,
+  knows_none,
+  knows_off,
+  knows_saw,
+  knows_state,
+  knows_stayed,
+}
+use Rattle.completion_cell.proofs.Ground.{count_after_step, head_there, looked_count}
+use Rattle.completion_cell.proofs.WaitFronts.{waits_may_end}
+use Rattle.count_sem.specs.Downs.{DownTells, GaveBack, down_depth, down_doing, down_head, down_table}
+use Rattle.count_sem.specs.declared.downs.DownCall.{DownCall}
+use Rattle.count_sem.specs.declared.downs.DownStage.{DownStage}
+use Rattle.count_sem.specs.declared.downs.DownStage.TheVariants as stage
+use Rattle.count_sem.proofs.DownTrails.{gave_back, left_given, left_none, left_taken, lock_walk, still_down, zero_on}
+
+-- what the run tells
+pub told_by : (r q : DownCall) (x : Transition) → q.cell ≡ r.cell → q.state ≡ r.state → q.queued ≡ r.queued
+    → is_queue x.did ≡ false → DownTells r q (x ∷ [])
+told_by r q x cell state queued none = record {
+  cell = cell;
+  state = state;
+  queued = queued ∙ sym (ap (λ (b : Bool). r.queued || (b || false)) none ∙ or_none r.queued);
+}
+
+or_yes : (b : Bool) → (b || (true || false)) ≡ true
+or_yes true = refl
+or_yes false = refl
+
+-- the own entry is queued, where the count is known to be 0
+joined_knows : (r : DownCall) (old mid new : Known) → OnlyLooks old mid → HasJoined down_table r stage.Queue mid new
+    → Knows old r.cell 0 → Knows new r.cell 0
+joined_knows r old mid new looks x u =
+    let s = knows_looks r.cell mid x.seen 0
+    (only_looked mid x.seen x.looks.items x.looks.same x.looks.looks x.looks.is) (knows_looks r.cell old mid 0 looks u) in
+    let same : index mid.view.number 0 ≡ own x.seen.view.number =
+    ap (λ (k : Known). index k.view.number 0) (sym x.looks.is) ∙ omega arith in
+    knows_by r.cell x.seen new 0 (step.Queue (index mid.view.number 0) x.entry ∷ [])
+    (stored_history x.seen new (step.Queue (index mid.view.number 0) x.entry) x.is)
+    (ap (λ (k : Known). k.view.number) x.is) (λ k. ((same, refl), (refl, refl))) refl s
+
+module _ (r : DownCall) where
+  -- the locks
+  draw_first : DrawLaw down_table r stage.First
+  draw_first = record {
+    free = refl;
+    fresh = refl;
+    head = refl;
+    drawn = refl;
+    locks = refl;
+    same = refl;
+    took = refl;
+    depth = refl;
+    trail = λ k u. u;
+  }
+
+  draw_again : DrawLaw down_table r stage.Again
+  draw_again = record {
+    free = refl;
+    fresh = refl;
+    head = refl;
+    drawn = refl;
+    locks = refl;
+    same = refl;
+    took = refl;
+    depth = refl;
+    trail = λ k u. u;
+  }
+
+  lock_first : LockLaw down_table r stage.FirstTurn
+  lock_first = record {
+    free = refl;
+    head = refl;
+    drawn = refl;
+    moves = record {
+      plain = refl;
+      falls = refl;
+      took = refl;
+      goes = λ me. refl;
+      is = λ me k x ok. (refl, refl);
+      finds = λ me k x ok. (tt, tt, tt);
+    };
+    leaves = record { head = refl; ticket = refl };
+    state = λ σ s. s;
+    home = λ o h. h;
+    trail = λ old new x c u. (first_begun r.cell old new (walk_of_hold (down_head r) None) x c u.0, u.1);
+  }
+
+  lock_again : LockLaw down_table r stage.AgainTurn
+  lock_again = record {
+    free = refl;
+    head = refl;
+    drawn = refl;
+    moves = record {
+      plain = refl;
+      falls = refl;
+      took = refl;
+      goes = λ me. refl;
+      is = λ me k x ok. (refl, refl);
+      finds = λ me k x ok. (tt, tt, tt);
+    };
+    leaves = record { head = refl; ticket = refl };
+    state = λ σ s. s;
+    home = λ o h. h;
+    trail = λ old new x c u. (
+      (walk_of_hold (down_head r) None, x, (history_of old, c.history)),
+      lock_walk old new r.cell x c,
+    );
+  }
+
+  -- a hold that found 0
+  look_law : (hit : Bool) → LookLaw down_table r stage.Look hit
+  look_law true = look_by down_table r stage.Look refl true
+      (way down_table r stage.Look r (turn.Again stage.LeaveQueue) refl refl refl refl refl (λ σ s. s) (λ o h. h))
+      (λ w me is. ap (λ (c : Bool). next.Go (if c then at.Finish finishing.Queue true else at.Prepare preparing.Queue)) is)
+      (λ w me k. tt) (λ w me k. (refl, tt, tt)) (λ old new w is c u. (
+        knows_look r.cell old new 0 w c u.0,
+        record { look = w; pends = is; zero = zero_on old new r [] (step.Look w ∷ []) c u.1 },
+      ))
+  look_law false = look_by down_table r stage.Look refl false
+      (way down_table r stage.Look r (turn.Again stage.Queue) refl refl refl refl refl (λ σ s. s) (λ o h. h))
+      (λ w me is. ap (λ (c : Bool). next.Go (if c then at.Finish finishing.Queue true else at.Prepare preparing.Queue)) is)
+      (λ w me k. tt) (λ w me k. (refl, tt, tt)) (λ old new w is c u. knows_look r.cell old new 0 w c u.0)
+
+  queue_law : QueueLaw down_table r stage.Queue
+  queue_law = record {
+    held = record { holds = refl; head = refl };
+    opens = record { fresh = refl; zone = refl };
+    stays = λ e. record {
+      plain = refl;
+      falls = refl;
+      took = refl;
+      goes = λ me. refl;
+      is = λ me k x ok. refl;
+      finds = λ me k x ok. (tt, (ok, λ none. absurd (cc)), tt);
+    };
+    stays_leaves = record { head = refl; ticket = refl };
+    stays_state = inr refl;
+    stays_home = λ o h. h;
+    stays_may = λ k s. may_by false (state_mask r.state) k s;
+    stays_trail = λ old new w c queued u. knows_stayed r.cell old new 0 (own_of old) w (state_mask r.state) c u;
+    joins = record {
+      plain = refl;
+      falls = refl;
+      took = refl;
+      goes = λ me. refl;
+      is = λ me k e ok. (refl, sym ok.at, ok.whole, ok.placed);
+      finds = λ me k e ok. (tt, (ok.shows, λ none. (ok.whole, sym ok.left)), tt);
+    };
+    joins_same = refl;
+    joins_fits = λ f. f;
+    joins_leaves = record { head = refl; ticket = refl };
+    joins_state = λ σ s. s;
+    joins_home = λ e h. h;
+    joins_tells = λ x i e did. record {
+      cell = refl;
+      state = refl;
+      queued = sym (ap (λ (d : StepOrLook). r.queued || (is_queue d || false)) did ∙ or_yes r.queued);
+    };
+    joins_trail = joined_knows r;
+    wears = record {
+      plain = tt;
+      falls = refl;
+      took = refl;
+      goes = λ me. refl;
+      is = λ me k x ok. (ok.at, refl);
+      finds = λ me k x ok. (tt, (ok.shows, λ none. (ok.whole, sym ok.worn)), tt);
+    };
+    wears_leaves = λ p. record { head = refl; ticket = refl };
+    wears_state = λ p σ s. s;
+    wears_home = λ p. tt;
+    wears_permits = λ old last fits looks at u. knows_none r.cell last at (knows_looks r.cell old last 0 looks u);
+    wears_trail = λ old last new p looks noted is u. (
+      (history_of last, is),
+      record {
+        noted = noted;
+        zero = count_after_step r.cell last new (step.Unlock (down_head r) false) is
+            ∙ (looked_count r.cell old last looks ∙ u.counts.0);
+      },
+    );
+  }
+
+  state_law : StateLaw down_table r stage.State
+  state_law = record {
+    fresh = refl;
+    moves = record {
+      plain = refl;
+      falls = refl;
+      took = refl;
+      goes = λ me. refl;
+      is = λ me k x ok. refl;
+      finds = λ me k x ok. (tt, tt, tt);
+    };
+    leaves = record { head = refl; ticket = refl };
+    state = inr refl;
+    home = λ o h. h;
+    may = λ k s. may_by false (state_mask r.state) k s;
+    sort = inr refl;
+    trail = λ old new c u. knows_state r.cell old new 0 (state_mask r.state) c u;
+  }
+
+  unlock_law : UnlockLaw down_table r stage.Unlock
+  unlock_law = record {
+    held = record { holds = refl; head = refl };
+    fresh = refl;
+    moves = record {
+      plain = refl;
+      falls = refl;
+      took = refl;
+      goes = λ me. refl;
+      is = λ me k x ok. (ok, refl);
+      finds = λ me k x ok. (tt, tt, tt);
+    };
+    leaves = record { head = refl; ticket = refl };
+    state = λ σ s. s;
+    home = λ o h. h;
+    trail = λ old new c u. tt;
+    permits = λ k fits at u. knows_none r.cell k at u;
+  }
+
+  sleep_law : SleepLaw down_table r stage.Sleep stage.Again
+  sleep_law = sleep_by down_table r stage.Sleep refl stage.Again refl refl refl refl refl refl (λ o h. h)
+      (λ w me. refl) (λ w me k. tt) (λ w me k. (refl, tt, tt)) (λ old new w c u. tt)
+
+  -- a hold that found a signal
+  pare_leave : PareLaw down_table r stage.LeaveQueue
+  pare_leave = record {
+    held = record { holds = refl; head = refl };
+    opens = record { fresh = refl; zone = refl };
+    takes = λ e. record {
+      plain = refl;
+      falls = refl;
+      took = refl;
+      goes = λ me. refl;
+      is = λ me k x ok. owner_own me;
+      finds = λ me k x ok. (tt, ok, refl);
+    };
+    takes_leaves = record { head = refl; ticket = refl };
+    takes_state = λ σ s. s;
+    takes_home = tt;
+    takes_trail = λ old new w c queued u. (knows_off r.cell old new 0 w c u.0, left_taken old new r w u.1 c queued);
+    gives = record {
+      moves = record {
+        plain = tt;
+        falls = refl;
+        took = refl;
+        goes = λ me. refl;
+        is = λ me k x ok. (ok.0, refl);
+        finds = λ me k x ok. (tt, ok.1, tt);
+      };
+      leaves = record { head = refl; ticket = refl };
+      state = λ σ s. s;
+      home = tt;
+      permits = λ old mid w c fits at u. knows_none r.cell mid at (knows_saw r.cell old mid 0 (own_of old) w c u.0);
+      trail = λ old new w c none u. (
+        ends_with_unlock old new w c,
+        left_none old new r w u.1 c none,
+      );
+    };
+  }
+    where
+      ends_with_unlock : (old new : Known) (w : ℕ)
+          → Calm (step.Saw (own_of old) w ∷ step.Unlock (down_head r) false ∷ []) old new → GaveBack new r
+      ends_with_unlock old new w c = (
+        history_of old ++ step.Saw (own_of old) w ∷ [],
+        c.history ∙ sym (append_assoc (history_of old) (step.Saw (own_of old) w ∷ [])
+            (step.Unlock (down_head r) false ∷ [])),
+      )
+
+  unlock_leave : UnlockLaw down_table r stage.LeaveUnlock
+  unlock_leave = record {
+    held = record { holds = refl; head = refl };
+    fresh = refl;
+    moves = record {
+      plain = tt;
+      falls = refl;
+      took = refl;
+      goes = λ me. refl;
+      is = λ me k x ok. (ok, refl);
+      finds = λ me k x ok. (tt, tt, tt);
+    };
+    leaves = record { head = refl; ticket = refl };
+    state = λ σ s. s;
+    home = λ o h. h;
+    trail = λ old new c u. (gave_back old new r c, left_given old new r c u.1);
+    permits = λ k fits at u. knows_none r.cell k at u.0;
+  }
+
+  -- a hold that took a permit, or was given one
+  unlock_take : UnlockLaw down_table r stage.TakeUnlock
+  unlock_take = record {
+    held = record { holds = refl; head = refl };
+    fresh = refl;
+    moves = record {
+      plain = tt;
+      falls = refl;
+      took = refl;
+      goes = λ me. refl;
+      is = λ me k x ok. (ok, refl);
+      finds = λ me k x ok. (tt, tt, tt);
+    };
+    leaves = record { head = refl; ticket = refl };
+    state = λ σ s. s;
+    home = λ o h. h;
+    trail = λ old new c u. gave_back old new r c;
+    permits = λ k fits at u. waits_may_end r.cell k u.0 at u.1;
+  }
+
+  laws_at : (s : DownStage) → LawOf (down_doing s) down_table r s
+  laws_at stage.First = draw_first
+  laws_at stage.FirstTurn = lock_first
+  laws_at stage.FirstLoad = tt
+  laws_at stage.Again = draw_again
+  laws_at stage.AgainTurn = lock_again
+  laws_at stage.AgainLoad = tt
+  laws_at stage.Look = λ hit. look_law hit
+  laws_at stage.Queue = queue_law
+  laws_at stage.State = state_law
+  laws_at stage.Unlock = unlock_law
+  laws_at stage.Sleep = sleep_law
+  laws_at stage.LeaveQueue = pare_leave
+  laws_at stage.LeaveUnlock = unlock_leave
+  laws_at stage.TakeQueue = tt
+  laws_at stage.TakeStore = tt
+  laws_at stage.TakeUnlock = unlock_take
+
+depth_most : (s : DownStage) → down_depth s ≤ 6
+depth_most stage.FirstLoad = omega arith
+depth_most stage.AgainLoad = omega arith
+depth_most stage.Look = omega arith
+depth_most stage.Queue = omega arith
+depth_most stage.State = omega arith
+depth_most stage.Unlock = omega arith
+depth_most stage.LeaveQueue = omega arith
+depth_most stage.LeaveUnlock = omega arith
+depth_most stage.TakeQueue = omega arith
+depth_most stage.TakeStore = omega arith
+depth_most stage.TakeUnlock = omega arith
+depth_most s = omega arith
+
+pub down_lawful : IsLawfulTable down_table
+down_lawful = record {
+  keeps = stays_but with_left_entry;
+  tells = record {
+    none = λ r. record { cell = refl; state = refl; queued = sym (or_none r.queued) };
+    on = λ r q w ts us a b. record {
+      cell = b.cell ∙ a.cell;
+      state = b.state ∙ a.state;
+      queued = b.queued ∙ (ap (λ (c : Bool). c || queues us) a.queued ∙ queues_append r.queued ts us);
+    };
+    quiet = λ r x quiet. told_by r r x refl refl refl (quiet_queues x.did quiet);
+  };
+  worn_tells = λ r p x quiet. told_by r (record r { place = p }) x refl refl refl (quiet_queues x.did quiet);
+  at = laws_at;
+  still = λ old new r s c u. still_down old new (unmoved_by old new c) r s u;
+  rises = λ old new r s place still u. still_down old new still r s u;
+  worn = λ r p. refl;
+  worn_fits = λ r p fits. fits;
+  there = λ r s fits. fits;
+  few = λ r s fits. head_there r.cell fits;
+  depth = depth_most;
+}

@@ -1,0 +1,13 @@
+pub mod FirstWaiters
+pub mod SemBooks
+pub mod Raising
+pub mod TakingPermits
+pub mod DownTrails
+pub mod DownLaws
+pub mod DownCounts
+pub mod DownTakes
+pub mod DownAdds
+pub mod DownEndings
+pub mod PassedHolds
+pub mod HandingOn
+pub mod DownPasses

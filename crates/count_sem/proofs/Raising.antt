@@ -1,0 +1,409 @@
+-- A permit is given back: to the first who waits, or to the count.
+use Rattle.std.proofs.Common.{◌∙◌, ap, sym, refl, subst, arith, inl, inr, eq-eqb, append_assoc}
+use Rattle.std.proofs.lemmas.Bool.Decides.{nat_tests}
+use Rattle.std.specs.Prelude.{ℕ, ◌≡◌, ◌<◌, ◌≤◌, ◌+◌, ◌-◌, ◌⊎◌, if◌then◌else◌, Bool, true, false, Option, Some, None, Err, Ok, [], ◌∷◌, ◌++◌}
+use Rattle.wait_model.specs.declared.layout.TheConstants.{FIRST_SIMPLE_HEAD}
+use Rattle.wait_model.specs.declared.calls.Call.TheVariants as calls
+use Rattle.wait_model.specs.declared.points.CountPoint.{CountPoint}
+use Rattle.wait_model.specs.declared.points.CountPoint.TheVariants as counting
+use Rattle.wait_model.specs.declared.points.Next.TheVariants as next
+use Rattle.wait_model.specs.declared.points.Point.TheVariants as at
+use Rattle.wait_model.specs.declared.points.Seen.{Seen}
+use Rattle.wait_model.specs.declared.points.SelectPoint.TheVariants as selecting
+use Rattle.wait_model.specs.declared.queues.CalledEntry.{CalledEntry}
+use Rattle.wait_model.specs.declared.steps.Step.TheVariants as step
+use Rattle.wait_model.specs.declared.watches.Mode.TheVariants as mode
+use Rattle.wait_model.specs.declared.watches.Watch.{Watch}
+use Rattle.wait_model.specs.declared.watches.Watch.TheVariants as watch
+use Rattle.wait_model.specs.Permits.{done_head}
+use Rattle.wait_model.specs.Programs.{zero_answer}
+use Rattle.wait_model.specs.Runs.{called_by, set_step}
+use Rattle.wait_rule.specs.declared.journal.Item.TheVariants as item
+use Rattle.wait_rule.specs.Counts.{FindsCount, StoresCount}
+use Rattle.wait_rule.specs.HandedPermits.{OwesNoPermit, StaysOff}
+use Rattle.wait_rule.specs.HeldValues.{count_in}
+use Rattle.wait_rule.specs.Known.{Known}
+use Rattle.wait_rule.specs.LeftEntries.{LeftOff}
+use Rattle.wait_rule.specs.Queues.{IsTold, IsWholeBook, index, simple_watch, walk_of_hold}
+use Rattle.wait_rule.specs.Says.{Excuse, IsFree, IsUp, Owes, added, history_of, told_of, unlocked_with}
+use Rattle.wait_rule.specs.Shown.{shown_entry}
+use Rattle.wait_rule.specs.Stays.{Carries, Stays, StaysOwing, lock_change, no_entries, only_looks, publish_change, unchanged, unlock_change, with_wakes}
+use Rattle.wait_rule.specs.Transitions.{OnlyLooks, Program, by_step}
+use Rattle.wait_rule.proofs.KnownLaws.CarriedCounts.{as_publish}
+use Rattle.wait_rule.proofs.KnownLaws.CarriedTasks.{unchanged_none}
+use Rattle.wait_rule.proofs.KnownLaws.HeldPermits.{owed}
+use Rattle.wait_rule.proofs.KnownLaws.StayingParts.{stays_same}
+use Rattle.wait_rule.proofs.KnownLaws.TaskHistories.{history_after}
+use Rattle.wait_rule.proofs.KnownLaws.Transitions.{only_none}
+use Rattle.wait_rule.proofs.KnownLaws.Turns.{serve_looks}
+use Rattle.wq_head.specs.Holds.{HasLocked, IsHolding}
+use Rattle.wq_head.specs.LockTurns.{TookLock}
+use Rattle.wq_head.specs.Selects.{HasSelected, IsSimpleHold, KeepsHold, ShowsNoEntry, simple_aim}
+use Rattle.wq_head.proofs.CarriedHolds.{unlock_carried}
+use Rattle.wq_head.proofs.FirstEntries.{no_entry}
+use Rattle.wq_head.proofs.KeptHolds.{hold_carried, hold_holds}
+use Rattle.wq_head.proofs.LockWaits.{turn_of}
+use Rattle.wq_head.proofs.LookingHold.{looks_only}
+use Rattle.wq_head.proofs.SelectedRuns.{lock_goes}
+use Rattle.wq_head.proofs.SimpleHolds.{own_done, simple_ended}
+use Rattle.wait_event.specs.Conds.{set_change}
+use Rattle.wait_class.specs.Findings.{nothing, with_value}
+use Rattle.wait_class.specs.Posts.{Runs}
+use Rattle.wait_class.specs.Tables.{plan_program}
+use Rattle.wait_class.proofs.Ground.Going.{runs_looks, runs_on, runs_one}
+use Rattle.wait_class.proofs.Histories.{unlocked_history}
+use Rattle.completion_cell.specs.Asks.{Counted}
+use Rattle.completion_cell.proofs.Asking.{none_held}
+use Rattle.completion_cell.proofs.Completing.{done_simple, stored_agreed}
+use Rattle.completion_cell.proofs.Ground.{count_after_step, quiet_store, step_behind}
+use Rattle.completion_cell.proofs.Permits.{
+  MayEndHold,
+  ends_off,
+  ends_owing_none,
+  hold_made,
+  inside_join,
+  inside_step,
+  nobody,
+  selection_inside,
+  store_inside,
+}
+use Rattle.count_sem.specs.declared.ups.TheConstants.{FULL}
+use Rattle.count_sem.specs.SemPrograms.{full_answer, gives_to, is_full, sem_head, up_next, up_plan}
+use Rattle.count_sem.specs.Ups.{FoundNobody, HasRaised}
+use Rattle.count_sem.proofs.FirstWaiters.{gives_runs}
+use Rattle.count_sem.proofs.SemBooks.{SameBook, book_load, book_on, book_store, nobody_on, simple_loaded, simple_stored, whole_on}
+
+-- what an `up` carries on: the lock, looks, what is counted, and the unlock
+module _ (d : ℕ) (old a m b new : Known) (spent : Bool) (free : IsFree old) (told : IsTold old)
+    (one : Carries (lock_change (sem_head d)) old a) (two : Carries only_looks a m)
+    (three : Carries (publish_change (watch.Done d)) m b) (four : Carries unlock_change b new)
+    (hold : IsSimpleHold b) (at_d : b.at ≡ sem_head d)
+    (over : (spent ≡ true) ⊎ ((IsWholeBook b) × (ShowsNoEntry b))) (is : new ≡ unlocked_with b b.at spent) where
+  ends_owed : (x : Excuse) → Owes (with_wakes (watch.Done d) mode.Normal x) b → Owes x new
+  ends_owed x o = (simple_ended b b new spent (stays_same b) (λ c σ. refl) refl hold over is).settled x
+      (subst (λ (c : Watch). Owes (with_wakes c mode.Normal x) b) (sym (ap simple_watch at_d ∙ own_done d)) o)
+
+  pub up_carried : Carries (set_change (watch.Done d) mode.Normal new.at) old new
+  up_carried = record {
+    domain = four.domain ∙ (three.domain ∙ (two.domain ∙ one.domain));
+    number = four.number ∙ (three.number ∙ (two.number ∙ one.number));
+    awake = four.awake ∙ (three.awake ∙ (two.awake ∙ one.awake));
+    state = four.state ∙ (three.state ∙ (two.state ∙ one.state));
+    head = four.head ∙ sym free.head;
+    ticket = four.ticket ∙ sym free.ticket;
+    hold = four.hold ∙ sym (told.head ∙ free.head);
+    at = refl;
+    mark = four.mark ∙ (three.mark ∙ (two.mark ∙ one.mark));
+    fewer = λ w σ p is. four.fewer w σ refl (three.fewer w σ p (two.fewer w σ refl (one.fewer w σ refl is)));
+    stored = λ x none away. absurd (cc);
+    out = λ x away none. four.out x refl (three.out x refl (two.out x refl (one.out x refl none)));
+    stands = λ slot few away e own kind.
+        let by_a = one.stands slot few refl e own kind in
+        let by_m = two.stands slot few refl e
+        (subst (λ (i : ℕ). (told_of a).bits.stored (index i slot) ≡ Some e) (sym one.number) by_a) kind in
+        let by_b = three.stands slot few refl e
+        (subst (λ (i : ℕ). (told_of m).bits.stored (index i slot) ≡ Some e) (sym two.number) by_m) kind in
+        subst (λ (i : ℕ). (told_of new).bits.stored (index i slot) ≡ Some e)
+        (three.number ∙ (two.number ∙ one.number))
+        (four.stands slot few refl e
+        (subst (λ (i : ℕ). (told_of b).bits.stored (index i slot) ≡ Some e) (sym three.number) by_b) kind);
+    keeps = λ w p. four.keeps w refl ∙ (three.keeps w p ∙ (two.keeps w refl ∙ one.keeps w refl));
+    owes = λ x o. ends_owed x (three.owes x (two.owes x (one.owes x o)));
+  }
+
+-- the program's lock, and its unlocks
+module _ (me d : ℕ) where
+  abbrev pub up_program : Program
+  up_program = plan_program me 0 (up_plan d)
+
+  up_locks : (old a : Known) → HasLocked old a (sem_head d) (walk_of_hold (sem_head d) None)
+      → Runs up_program old a (next.Go (at.Select selecting.Lock)) (next.Go (at.Select (selecting.Next 0)))
+  up_locks old a l =
+      let g = lock_goes me 0 (calls.Complete d) old a (sem_head d) l (done_simple d) (own_done d) refl refl in record {
+        transitions = record {
+          seen = nothing;
+          knew = turn_of old a (sem_head d) (walk_of_hold (sem_head d) None) l;
+          did = by_step (step.Lock (sem_head d) (walk_of_hold (sem_head d) None) l.found);
+        } ∷ [];
+        goes = (record { looks = g.0.looks; is = g.0.is; finds = g.0.finds }, (g.1.0, refl));
+      }
+
+  up_gives : (old new : Known) → HasSelected old new 1 1
+      → Runs up_program old new (next.Go (at.Select (selecting.Next 0))) (next.Go (at.Select selecting.Store))
+  up_gives old new s = gives_runs up_program (at.Select selecting.Store) (λ c seen is. by c seen seen.called is)
+      (λ who seen. refl) refl old new s
+    where
+      by : (c : CalledEntry) (seen : Seen) (o : Option CalledEntry) → o ≡ Some c → up_next d o seen ≡ gives_to c seen
+      by c seen o is = ap (λ (p : Option CalledEntry). up_next d p seen) is
+
+  up_spends : (m new : Known) → m.at ≡ sem_head d → new ≡ unlocked_with m m.at true
+      → Runs up_program m new (next.Go (at.Select selecting.Store)) (next.Ends zero_answer)
+  up_spends m new here is = runs_one up_program (at.Select selecting.Store) m m new nothing
+      (by_step (step.Unlock m.at true)) (only_none m) (here, refl) (tt, tt, tt)
+      (subst (OnlyLooks (added m (item.Made (step.Unlock m.at true)))) (sym is) (serve_looks m m.at true))
+
+  up_unlocks : (m new : Known) → m.at ≡ sem_head d → new ≡ unlocked_with m m.at false
+      → Runs up_program m new (next.Go (at.Count (counting.Unlock true))) (next.Ends zero_answer)
+  up_unlocks m new here is = runs_one up_program (at.Count (counting.Unlock true)) m m new nothing
+      (by_step (step.Unlock m.at false)) (only_none m) (here, refl) (tt, tt, tt)
+      (subst (OnlyLooks (added m (item.Made (step.Unlock m.at false)))) (sym is) (serve_looks m m.at false))
+
+  up_refuses : (m new : Known) → m.at ≡ sem_head d → new ≡ unlocked_with m m.at false
+      → Runs up_program m new (next.Go (at.Count (counting.Unlock false))) (next.Ends full_answer)
+  up_refuses m new here is = runs_one up_program (at.Count (counting.Unlock false)) m m new nothing
+      (by_step (step.Unlock m.at false)) (only_none m) (here, refl) (tt, tt, tt)
+      (subst (OnlyLooks (added m (item.Made (step.Unlock m.at false)))) (sym is) (serve_looks m m.at false))
+
+  -- nobody is queued, and the count is loaded
+  up_loads : (m b : Known) (v : ℕ) → IsWholeBook m → ShowsNoEntry m
+      → b ≡ added m (item.Made (step.Load (watch.Done d) v))
+      → Runs up_program m b (next.Go (at.Select (selecting.Next 0)))
+      (next.Go (at.Count (if is_full v then counting.Unlock false else counting.Store)))
+  up_loads m b v whole none is = runs_one up_program (at.Select (selecting.Next 0)) m m b (with_value v)
+      (by_step (step.Load (watch.Done d) v)) (only_none m) refl
+      (refl, (whole, sym (ap (called_by (shown_entry m)) (no_entry m none))), tt)
+      (step_behind m b (step.Load (watch.Done d) v) is)
+
+-- with somebody queued
+module _ (d : ℕ) (old a m new : Known) (took : TookLock old a (sem_head d)) (free : IsFree old) (told : IsTold old)
+    (s : HasSelected a m 1 1) (k : KeepsHold a m) where
+  given_at : m.at ≡ sem_head d
+  given_at = k.at ∙ ap (λ (x : Known). x.at) took.locked.is
+
+  given_may : MayEndHold d old m
+  given_may = hold_made d old a m (sem_head d) refl took.locked (λ n. n - 1) (selection_inside d a m 1 1 s) given_at
+      ((hold_carried a m k).number ∙ took.carries.number) (none_held old told free) (inl refl)
+
+  pub given_owes : LeftOff d old → OwesNoPermit m
+  given_owes left = ends_owing_none d old m given_may left
+
+  module _ (is : new ≡ unlocked_with m m.at true) where
+    pub given_off : StaysOff old new
+    given_off = ends_off d old m new true given_may is
+
+    pub given_carried : (IsSimpleHold a → IsSimpleHold m)
+        → Carries (set_change (watch.Done d) mode.Normal new.at) old new
+    given_carried simple = up_carried d old a m m new true free told took.carries (hold_carried a m k)
+        (as_publish (watch.Done d) m m (unchanged_none m)) (unlock_carried m new true is)
+        (simple (took.simple (done_simple d))) given_at (inl refl) is
+
+    pub has_given : HasRaised old new d (Ok tt)
+    has_given =
+        let me = old.view.number in
+        let f = up_program me d in
+        let over = next.Ends zero_answer in record {
+          runs = runs_on f old a new (next.Go (at.Select selecting.Lock)) (next.Go (at.Select (selecting.Next 0))) over
+              (up_locks me d old a took.locked)
+              (runs_on f a m new (next.Go (at.Select (selecting.Next 0))) (next.Go (at.Select selecting.Store)) over
+              (up_gives me d a m s) (up_spends me d m new given_at is));
+          cause = tt;
+        }
+
+-- with nobody queued
+module _ (d : ℕ) (old m : Known) (f : FoundNobody old m d) where
+  look : Carries only_looks f.locked m
+  look = hold_carried f.locked m f.keeps
+
+  pub found_holds : IsHolding m
+  found_holds = hold_holds f.locked m f.keeps f.took.held
+
+  at_m : m.at ≡ sem_head d
+  at_m = f.keeps.at ∙ ap (λ (x : Known). x.at) f.took.locked.is
+
+  module _ (b : Known) (v : ℕ) (is : b ≡ added m (item.Made (step.Load (watch.Done d) v))) (finds : FindsCount m d v)
+      (loaded : Carries unchanged m b) where
+    pub found_counted : Counted b d v
+    found_counted = record {
+      held = loaded.head ∙ (found_holds.locked ∙ ap Some at_m);
+      loaded = count_after_step d m b (step.Load (watch.Done d) v) (history_after m b _ is)
+          ∙ ap (λ (z : Bool). if z then Some v else count_in d (history_of m)) (eq-eqb d d refl);
+      small = finds.0;
+    }
+
+    at_b : b.at ≡ sem_head d
+    at_b = loaded.at ∙ at_m
+
+    pub loaded_holds : IsHolding b
+    loaded_holds = record {
+      locked = loaded.head ∙ (found_holds.locked ∙ ap Some (sym loaded.at));
+      agreed = ap (λ (k : Known). k.book.differs) is ∙ found_holds.agreed;
+      told = loaded.hold ∙ (found_holds.told ∙ ap Some (sym loaded.at));
+    }
+
+    starts : (n : CountPoint) → (if is_full v then counting.Unlock false else counting.Store) ≡ n
+        → Runs (up_program old.view.number d) old b (next.Go (at.Select selecting.Lock)) (next.Go (at.Count n))
+    starts n by =
+        let me = old.view.number in
+        let g = up_program me d in
+        subst (λ (p : CountPoint). Runs g old b (next.Go (at.Select selecting.Lock)) (next.Go (at.Count p))) by
+        (runs_on g old f.locked b (next.Go (at.Select selecting.Lock)) (next.Go (at.Select (selecting.Next 0))) _
+        (up_locks me d old f.locked f.took.locked)
+        (runs_on g f.locked m b (next.Go (at.Select (selecting.Next 0))) (next.Go (at.Select (selecting.Next 0))) _
+        (runs_looks g f.locked m (next.Go (at.Select (selecting.Next 0)))
+        (subst (OnlyLooks f.locked) (sym f.looked.selects)
+        (looks_only (simple_aim f.locked.at) f.locked f.looked.seen f.looked.looks)))
+        (up_loads me d m b v f.whole f.nobody is)))
+
+    -- it is full
+    module _ (many : FULL ≤ v) where
+      full_may : MayEndHold d old b
+      full_may = hold_made d old f.locked b (sem_head d) refl f.took.locked
+          (λ n. owed d (step.Load (watch.Done d) v) (n - 0))
+          (inside_join d f.locked m b (λ n. n - 0) (owed d (step.Load (watch.Done d) v))
+          (selection_inside d f.locked m 1 0 f.looked) (inside_step d m b (step.Load (watch.Done d) v) tt is)) at_b
+          (loaded.number ∙ (look.number ∙ f.took.carries.number)) (none_held old f.told f.free)
+          (inr (nobody (done_head d) b (whole_on m b (book_load m b d v is) f.whole)
+          (nobody_on m b (book_load m b d v is) f.nobody)))
+
+      pub full_owes : OwesNoPermit b
+      full_owes = ends_owing_none d old b full_may f.left
+
+      module _ (new : Known) (gave : new ≡ unlocked_with b b.at false) where
+        pub full_off : StaysOff old new
+        full_off = ends_off d old b new false full_may gave
+
+        pub full_carried : Carries (set_change (watch.Done d) mode.Normal new.at) old new
+        full_carried = up_carried d old f.locked m b new false f.free f.told f.took.carries look
+            (as_publish (watch.Done d) m b loaded) (unlock_carried b new false gave) (simple_loaded m b d v is f.simple)
+            at_b (inr (whole_on m b (book_load m b d v is) f.whole, nobody_on m b (book_load m b d v is) f.nobody)) gave
+
+        pub has_refused : HasRaised old new d (Err (record { count = v }))
+        has_refused =
+            let full : is_full v ≡ true = grind (arith, nat_tests, many) in
+            let g = up_program old.view.number d in record {
+              runs = runs_on g old b new (next.Go (at.Select selecting.Lock)) (next.Go (at.Count (counting.Unlock false)))
+                  (next.Ends full_answer)
+                  (starts (counting.Unlock false) (ap (λ (z : Bool). if z then counting.Unlock false else counting.Store)
+                  full)) (up_refuses old.view.number d b new at_b gave);
+              cause = record {
+                many = many;
+                ends = (
+                  history_of m,
+                  unlocked_history b new gave
+                      ∙ (ap (λ (h : ℕ). history_of b ++ step.Unlock h false ∷ []) at_b
+                      ∙ (ap (λ (es : _). es ++ step.Unlock (sem_head d) false ∷ []) (history_after m b _ is)
+                      ∙ append_assoc (history_of m) (step.Load (watch.Done d) v ∷ [])
+                      (step.Unlock (sem_head d) false ∷ []))),
+                );
+              };
+            }
+
+    -- it is raised
+    module _ (below : v < FULL) (c : Known) (made : StoresCount b c d (v + 1)) where
+      abbrev kept : SameBook m c
+      kept = book_on m b c (book_load m b d v is) (book_store b c d (v + 1) made.found made.is)
+
+      at_c : c.at ≡ sem_head d
+      at_c = made.publishes.at ∙ at_b
+
+      pub raised_holds : IsHolding c
+      raised_holds = record {
+        locked = made.publishes.head ∙ (loaded_holds.locked ∙ ap Some (sym made.publishes.at));
+        agreed = stored_agreed b c d (v + 1) made.found made.is ∙ loaded_holds.agreed;
+        told = made.publishes.hold ∙ (loaded_holds.told ∙ ap Some (sym made.publishes.at));
+      }
+
+      raised_may : MayEndHold d old c
+      raised_may = hold_made d old f.locked c (sem_head d) refl f.took.locked
+          (λ n. owed d (set_step (watch.Done d) (v + 1) made.found) (owed d (step.Load (watch.Done d) v) (n - 0)))
+          (inside_join d f.locked b c (λ n. owed d (step.Load (watch.Done d) v) (n - 0))
+          (owed d (set_step (watch.Done d) (v + 1) made.found))
+          (inside_join d f.locked m b (λ n. n - 0) (owed d (step.Load (watch.Done d) v))
+          (selection_inside d f.locked m 1 0 f.looked) (inside_step d m b (step.Load (watch.Done d) v) tt is))
+          (inside_step d b c (set_step (watch.Done d) (v + 1) made.found) (store_inside d (v + 1) made.found) made.is))
+          at_c (made.publishes.number ∙ (loaded.number ∙ (look.number ∙ f.took.carries.number)))
+          (none_held old f.told f.free)
+          (inr (nobody (done_head d) c (whole_on m c kept f.whole) (nobody_on m c kept f.nobody)))
+
+      pub raised_owes : OwesNoPermit c
+      raised_owes = ends_owing_none d old c raised_may f.left
+
+      store_runs : Runs (up_program old.view.number d) b c (next.Go (at.Count counting.Store))
+          (next.Go (at.Count (counting.Unlock true)))
+      store_runs = (quiet_store (up_program old.view.number d) (at.Count counting.Store) b c (with_value v) d (v + 1)
+          made.found _ (v + 1) _ refl refl refl refl (sym (made.finds.1 found_counted.held v found_counted.loaded)) tt tt
+          tt b (only_none b) made.is).0
+
+      published : Carries (publish_change (watch.Done d)) m c
+      published = load_then m b c loaded made.publishes
+        where
+          load_then : (x y z : Known) → Carries unchanged x y → Carries (publish_change (watch.Done d)) y z
+              → Carries (publish_change (watch.Done d)) x z
+          load_then x y z one two = record {
+            domain = two.domain ∙ one.domain;
+            number = two.number ∙ one.number;
+            awake = two.awake ∙ one.awake;
+            state = two.state ∙ one.state;
+            head = two.head ∙ one.head;
+            ticket = two.ticket ∙ one.ticket;
+            hold = two.hold ∙ one.hold;
+            at = two.at ∙ one.at;
+            mark = two.mark ∙ one.mark;
+            fewer = λ w σ p is. two.fewer w σ p (one.fewer w σ refl is);
+            stored = λ i none away. two.stored i none away ∙ one.stored i none away;
+            out = λ i away is. two.out i away (one.out i away is);
+            stands = λ slot few away e is own. subst (λ (n : ℕ). (told_of z).bits.stored (index n slot) ≡ Some e)
+                one.number (two.stands slot few refl e
+                (subst (λ (n : ℕ). (told_of y).bits.stored (index n slot) ≡ Some e) (sym one.number)
+                (one.stands slot few refl e is own)) own);
+            owes = λ i o. two.owes i (one.owes i o);
+            keeps = λ w p. two.keeps w p ∙ one.keeps w refl;
+          }
+
+      module _ (new : Known) (gave : new ≡ unlocked_with c c.at false) where
+        pub raised_off : StaysOff old new
+        raised_off = ends_off d old c new false raised_may gave
+
+        pub raised_carried : Carries (set_change (watch.Done d) mode.Normal new.at) old new
+        raised_carried = up_carried d old f.locked m c new false f.free f.told f.took.carries look published
+            (unlock_carried c new false gave)
+            (simple_stored b c d (v + 1) made.found made.is (simple_loaded m b d v is f.simple)) at_c
+            (inr (whole_on m c kept f.whole, nobody_on m c kept f.nobody)) gave
+
+        pub has_raised : HasRaised old new d (Ok tt)
+        has_raised =
+            let full : is_full v ≡ false = grind (arith, nat_tests, below) in
+            let g = up_program old.view.number d in record {
+              runs = runs_on g old b new (next.Go (at.Select selecting.Lock)) (next.Go (at.Count counting.Store))
+                  (next.Ends zero_answer)
+                  (starts counting.Store (ap (λ (z : Bool). if z then counting.Unlock false else counting.Store) full))
+                  (runs_on g b c new (next.Go (at.Count counting.Store)) (next.Go (at.Count (counting.Unlock true)))
+                  (next.Ends zero_answer) store_runs (up_unlocks old.view.number d c new at_c gave));
+              cause = tt;
+            }
+
+-- for the code: a lock that was taken, and a selection that found nobody
+pub took_of : (d h : ℕ) (old a : Known) → h ≡ sem_head d → IsUp a → HasLocked old a h (walk_of_hold h None)
+    → IsHolding a → Stays no_entries old a → StaysOwing old a → Carries (lock_change h) old a
+    → (FIRST_SIMPLE_HEAD ≤ h → IsSimpleHold a) → TookLock old a (sem_head d)
+took_of d h old a same up locked held stays settled carries simple = subst (λ (i : ℕ). TookLock old a i) same (record {
+  locked = locked;
+  up = up;
+  held = held;
+  stays = stays;
+  settled = settled;
+  carries = carries;
+  simple = simple;
+})
+
+pub found_nobody : (d n : ℕ) (old a m : Known) → IsFree old → IsTold old → LeftOff d old → IsUp old
+    → TookLock old a (sem_head d) → HasSelected a m 1 n → (n ≡ 1 → ⊥) → KeepsHold a m
+    → (IsSimpleHold a → IsSimpleHold m) → FoundNobody old m d
+found_nobody d n old a m free told left up took s other k simple = elim s.ends [
+  | inl all ↦ absurd (other all.1)
+  | inr none ↦
+      let few : n < 1 = none.1 (λ z. absurd (cc)) in
+      let zero : n ≡ 0 = omega (arith, few) in record {
+        free = free;
+        told = told;
+        left = left;
+        up = up;
+        locked = a;
+        took = took;
+        looked = subst (λ (i : ℕ). HasSelected a m 1 i) zero s;
+        keeps = k;
+        simple = simple (took.simple (done_simple d));
+        whole = s.whole;
+        nobody = none.0;
+      }
+]

@@ -1,0 +1,28 @@
+use Rattle.std.proofs.Common.{ap, refl}
+use Rattle.wait_class.proofs.Turns.{advances_none}
+use Rattle.wait_class.proofs.UnderWay.{begun_here}
+use Rattle.count_sem.specs.Downs.{down_table}
+use Rattle.count_sem.specs.declared.downs.DownStage.TheVariants as stage
+use Rattle.count_sem.proofs.DownLaws.{down_lawful}
+use Rattle.count_sem.specs.declared.downs.DownCall.{DownCall}
+use Rattle.count_sem.proofs.DownEndings.{begins_at}
+use Rattle.count_sem.proofs.down_calls.begin_down.Goals as goal
+
+pub returns-clause-fresh : goal.returns-clause-fresh
+returns-clause-fresh c = record {
+  cell = ap (λ (r : DownCall). r.cell) c.new.ensures;
+  state_is = ap (λ (r : DownCall). r.state) c.new.ensures;
+  queued = ap (λ (r : DownCall). r.queued) c.new.ensures;
+}
+
+pub returns-clause-at : goal.returns-clause-at
+returns-clause-at c = begins_at c.args.task.now c.new.result c.args.cell c.args.state (returns-clause-fresh c)
+    c.requires.cell c.requires.left c.told.ensures c.requires.up c.requires.idle c.requires.out
+
+pub returns-clause-under : goal.returns-clause-under
+returns-clause-under c clean = begun_here down_table down_lawful (down_table.plan_of c.new.result.of) c.args.task.now
+    c.new.result stage.First clean c.told.ensures refl refl (returns-clause-at c)
+
+pub returns-clause-came : goal.returns-clause-came
+returns-clause-came c = advances_none down_table down_lawful c.args.task.now c.new.result stage.First
+    (returns-clause-at c)

@@ -1,0 +1,69 @@
+use Rattle.std.proofs.Common.{◌∙◌, subst, sym}
+use Rattle.count_sem.specs.DownEnds.{EndsDown}
+use Rattle.count_sem.specs.declared.downs.DownStage.TheVariants as stage
+use Rattle.count_sem.proofs.DownEndings.{ends_carried, ends_down, ends_idle, ends_off, ends_out, ends_up, plain_end}
+use Rattle.count_sem.proofs.DownPasses.{
+  passed_carried,
+  passed_down,
+  passed_idle,
+  passed_off,
+  passed_out,
+  passed_up,
+}
+use Rattle.count_sem.proofs.down_calls.down.Goals as goal
+
+pub returns-in-Passing-clause-downed : goal.returns-in-Passing-clause-downed
+returns-in-Passing-clause-downed g c = passed_down c.args.task.now c.run-outcome.new.task c.pass.new.task c.begin_down-wait.result
+    c.run-outcome.new.run c.args.cell c.args.state c.begin_down-wait.ensures.fresh c.in-Passing.ensures c.pass.ensures
+
+pub returns-in-Passing-clause-up : goal.returns-in-Passing-clause-up
+returns-in-Passing-clause-up g c = passed_up c.args.task.now c.run-outcome.new.task c.pass.new.task c.begin_down-wait.result
+    c.run-outcome.new.run stage.First c.in-Passing.ensures c.pass.ensures
+
+pub returns-in-Passing-clause-idle : goal.returns-in-Passing-clause-idle
+returns-in-Passing-clause-idle g c = passed_idle c.args.task.now c.run-outcome.new.task c.pass.new.task c.begin_down-wait.result
+    c.run-outcome.new.run stage.First c.in-Passing.ensures c.pass.ensures c.requires.idle.unmarked
+
+pub returns-in-Passing-clause-out : goal.returns-in-Passing-clause-out
+returns-in-Passing-clause-out g c = passed_out c.args.task.now c.run-outcome.new.task c.pass.new.task c.begin_down-wait.result
+    c.run-outcome.new.run stage.First c.in-Passing.ensures c.pass.ensures
+
+pub returns-in-Passing-clause-carries : goal.returns-in-Passing-clause-carries
+returns-in-Passing-clause-carries g c = passed_carried c.args.task.now c.run-outcome.new.task c.pass.new.task c.begin_down-wait.result
+    c.run-outcome.new.run stage.First c.in-Passing.ensures c.pass.ensures c.requires.up
+    c.requires.idle (c.begin_down-wait.ensures.told.head ∙ c.requires.idle.free.head)
+
+pub returns-in-Passing-clause-off : goal.returns-in-Passing-clause-off
+returns-in-Passing-clause-off g c = passed_off c.args.task.now c.run-outcome.new.task c.pass.new.task c.begin_down-wait.result
+    c.run-outcome.new.run stage.First c.in-Passing.ensures c.pass.ensures
+    (c.begin_down-wait.ensures.told.head ∙ c.requires.idle.free.head)
+
+pub returns-in_default-clause-downed : goal.returns-in_default-clause-downed
+returns-in_default-clause-downed g c = subst (EndsDown c.args.task.now c.run-outcome.new.task c.args.cell c.args.state)
+    (sym c.end_of.ensures) (ends_down c.args.task.now c.run-outcome.new.task c.begin_down-wait.result c.run-outcome.new.run
+    c.args.cell c.args.state c.begin_down-wait.ensures.fresh c.run-outcome.result (plain_end c.run-outcome.result c.in_default.not-Passing)
+    c.run-outcome.ensures)
+
+pub returns-in_default-clause-up : goal.returns-in_default-clause-up
+returns-in_default-clause-up g c = ends_up c.args.task.now c.run-outcome.new.task c.begin_down-wait.result
+    c.run-outcome.new.run stage.First c.run-outcome.result c.run-outcome.ensures
+
+pub returns-in_default-clause-idle : goal.returns-in_default-clause-idle
+returns-in_default-clause-idle g c = ends_idle c.args.task.now c.run-outcome.new.task c.begin_down-wait.result
+    c.run-outcome.new.run stage.First c.run-outcome.result c.run-outcome.ensures
+    (plain_end c.run-outcome.result c.in_default.not-Passing) c.requires.idle.unmarked
+
+pub returns-in_default-clause-out : goal.returns-in_default-clause-out
+returns-in_default-clause-out g c = ends_out c.args.task.now c.run-outcome.new.task c.begin_down-wait.result
+    c.run-outcome.new.run stage.First c.run-outcome.result c.run-outcome.ensures
+    (plain_end c.run-outcome.result c.in_default.not-Passing)
+
+pub returns-in_default-clause-carries : goal.returns-in_default-clause-carries
+returns-in_default-clause-carries g c = ends_carried c.args.task.now c.run-outcome.new.task c.begin_down-wait.result
+    c.run-outcome.new.run stage.First c.run-outcome.result c.run-outcome.ensures
+    (plain_end c.run-outcome.result c.in_default.not-Passing) c.requires.up c.requires.idle (c.begin_down-wait.ensures.told.head ∙ c.requires.idle.free.head)
+
+pub returns-in_default-clause-off : goal.returns-in_default-clause-off
+returns-in_default-clause-off g c = ends_off c.args.task.now c.run-outcome.new.task c.begin_down-wait.result
+    c.run-outcome.new.run stage.First c.run-outcome.result c.run-outcome.ensures
+    (plain_end c.run-outcome.result c.in_default.not-Passing) (c.begin_down-wait.ensures.told.head ∙ c.requires.idle.free.head)

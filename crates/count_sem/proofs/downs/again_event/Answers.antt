@@ -1,0 +1,22 @@
+use Rattle.wait_class.proofs.Handed.{given_on, given_seen, given_step}
+use Rattle.wait_model.specs.declared.layout.TheConstants.{HEADS}
+use Rattle.wait_model.specs.declared.steps.Step.TheVariants as step
+use Rattle.wait_model.specs.declared.watches.Watch.TheVariants as watch
+use Rattle.count_sem.proofs.DownCounts.{again_agreed, again_turned}
+use Rattle.count_sem.proofs.downs.again_event.Goals as goal
+
+pub done_load-run-requires-clause-agreed : goal.done_load-run-requires-clause-agreed
+done_load-run-requires-clause-agreed c = again_agreed c.args.task.now c.own_entry-entry.new.task c.args.run.now
+    c.own_entry-entry.result c.own_entry-entry.ensures c.requires.at
+
+pub returns-clause-turned : goal.returns-clause-turned
+returns-clause-turned c = again_turned c.args.task.now c.own_entry-entry.new.task c.args.run.now
+    c.own_entry-entry.result c.own_entry-entry.ensures c.requires.at c.done_load-run.new.task c.done_load-run.result
+    c.done_load-run.ensures.step c.done_load-run.ensures.finds c.done_load-run.ensures.carries c.is_some.result
+    c.is_some.ensures c.again_to.result c.again_to.ensures
+
+pub returns-clause-given : goal.returns-clause-given
+returns-clause-given c = given_on c.args.task.now c.own_entry-entry.new.task c.done_load-run.new.task HEADS
+    (given_seen c.args.task.now c.own_entry-entry.new.task c.own_entry-entry.result c.own_entry-entry.ensures)
+    (given_step c.own_entry-entry.new.task c.done_load-run.new.task
+    (step.Load (watch.Done c.args.run.now.of.cell) c.done_load-run.result) c.done_load-run.ensures.step)

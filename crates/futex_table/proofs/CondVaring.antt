@@ -1,0 +1,180 @@
+-- What calls on condition variables leave of a task.
+use Rattle.std.proofs.Common.{◌∙◌, ap, refl, sym, subst}
+use Rattle.std.specs.Prelude.{ℕ, ◌≡◌, ◌==◌, ◌||◌, Bool, false, Some, None, Result, Ok, Err, IfOk}
+use Rattle.wait_model.specs.declared.steps.Step.TheVariants as step
+use Rattle.wait_model.specs.declared.watches.Mode.TheVariants as mode
+use Rattle.wait_model.specs.declared.watches.Watch.{Watch}
+use Rattle.wait_model.specs.declared.watches.Watch.TheVariants as watch
+use Rattle.wait_rule.specs.declared.journal.Item.TheVariants as item
+use Rattle.wait_rule.specs.Known.{Known}
+use Rattle.wait_rule.specs.Queues.{IsAgreedHold, IsIdle, index}
+use Rattle.wait_rule.specs.Says.{added, told_of}
+use Rattle.wait_rule.specs.Stays.{Carries, unchanged}
+use Rattle.wq_head.specs.declared.adds.Worn.{Worn}
+use Rattle.wait_class.specs.Posts.{IsOut}
+use Rattle.wait_event.specs.Conds.{set_change}
+use Rattle.wait_event.specs.Ends.{wait_change}
+use Rattle.futex_table.specs.declared.cond_vars.CondEnd.{CondEnd}
+use Rattle.futex_table.specs.declared.futexes.FutexEnd.{FutexEnd}
+use Rattle.futex_table.specs.declared.futexes.FutexEnd.TheVariants as futex_end
+use Rattle.futex_table.specs.CondVars.{cond_answer, cond_change, is_held}
+use Rattle.futex_table.specs.Holding.{HoldsMutex, StayHeld, holds_mutex}
+use Rattle.futex_table.specs.Mutexes.{is_locked}
+use Rattle.futex_table.proofs.Mutexing.{one_holds}
+
+-- a task that holds no head may load
+pub idle_agreed : (k : Known) → IsIdle k → IsAgreedHold k
+idle_agreed k idle h held = absurd (let none : Some h ≡ None = sym held ∙ idle.free.head in cc)
+
+pub load_held : (c v : ℕ) (old new : Known) → new ≡ added old (item.Made (step.Load (watch.Plain c) v))
+    → StayHeld old new
+load_held c v old new is m = one_holds m old new (step.Load (watch.Plain c) v) is
+
+-- what changes nothing, and then a wake
+pub still_sets : (c : Watch) (x y z : Known) → Carries unchanged x y → Carries (set_change c mode.Normal z.at) y z
+    → Carries (set_change c mode.Normal z.at) x z
+still_sets c x y z a b = record {
+  domain = b.domain ∙ a.domain;
+  number = b.number ∙ a.number;
+  awake = b.awake ∙ a.awake;
+  state = b.state ∙ a.state;
+  head = b.head ∙ a.head;
+  ticket = b.ticket ∙ a.ticket;
+  hold = b.hold ∙ a.hold;
+  at = refl;
+  mark = b.mark ∙ a.mark;
+  fewer = λ w σ p is. b.fewer w σ p (a.fewer w σ refl is);
+  stored = λ j blind p. absurd (cc);
+  out = λ j p is. b.out j p (a.out j p is);
+  stands = λ slot few p e is own.
+      subst (λ (m : ℕ). (told_of z).bits.stored (index m slot) ≡ Some e) a.number
+      (b.stands slot few refl e
+      (subst (λ (m : ℕ). (told_of y).bits.stored (index m slot) ≡ Some e) (sym a.number)
+      (a.stands slot few p e is own)) own);
+  keeps = λ d p. b.keeps d p ∙ a.keeps d refl;
+  owes = λ f o. b.owes f (a.owes f o);
+}
+
+-- over the wake that gives the mutex back
+pub sets_out : (c : Watch) (old new : Known) → Carries (set_change c mode.Normal new.at) old new → IsOut old → IsOut new
+sets_out c old new a out = subst (λ (n : ℕ). (told_of new).bits.stored (index n 0) ≡ None) (sym a.number)
+    (a.out (index old.view.number 0) refl out)
+
+module _ (m i : ℕ) (old new : Known) where
+  of_unchanged : Carries unchanged old new → Carries (cond_change m i new.at) old new
+  of_unchanged c = record {
+    domain = c.domain;
+    number = c.number;
+    awake = c.awake;
+    state = c.state;
+    head = c.head;
+    ticket = c.ticket;
+    hold = c.hold;
+    at = refl;
+    mark = c.mark;
+    fewer = λ w σ p is. c.fewer w σ refl is;
+    stored = λ x blind p. absurd (cc);
+    out = λ x p none. c.out x refl none;
+    stands = λ slot few p e is own. c.stands slot few refl e is own;
+    keeps = λ d p. c.keeps d refl;
+    owes = c.owes;
+  }
+
+  of_set : Carries (set_change (watch.Plain m) mode.Normal new.at) old new → Carries (cond_change m i new.at) old new
+  of_set c = record {
+    domain = c.domain;
+    number = c.number;
+    awake = c.awake;
+    state = c.state;
+    head = c.head;
+    ticket = c.ticket;
+    hold = c.hold;
+    at = refl;
+    mark = c.mark;
+    fewer = λ w σ p is. c.fewer w σ p is;
+    stored = λ x blind p. absurd (cc);
+    out = λ x p none. c.out x refl none;
+    stands = λ slot few p e is own. c.stands slot few refl e is own;
+    keeps = λ d p. c.keeps d p;
+    owes = c.owes;
+  }
+
+  of_wait : Carries (wait_change i new.at) old new → Carries (cond_change m i new.at) old new
+  of_wait c = record {
+    domain = c.domain;
+    number = c.number;
+    awake = c.awake;
+    state = c.state;
+    head = c.head;
+    ticket = c.ticket;
+    hold = c.hold;
+    at = refl;
+    mark = c.mark;
+    fewer = λ w σ p is. c.fewer w σ refl is;
+    stored = λ x blind p. absurd (cc);
+    out = λ x p none. c.out x p none;
+    stands = λ slot few p e is own. c.stands slot few p e is own;
+    keeps = λ d p. c.keeps d refl;
+    owes = c.owes;
+  }
+
+cond_on : (m i : ℕ) (x y z : Known) → Carries (cond_change m i y.at) x y → Carries (cond_change m i z.at) y z
+    → Carries (cond_change m i z.at) x z
+cond_on m i x y z a b = record {
+  domain = b.domain ∙ a.domain;
+  number = b.number ∙ a.number;
+  awake = b.awake ∙ a.awake;
+  state = b.state ∙ a.state;
+  head = b.head ∙ a.head;
+  ticket = b.ticket ∙ a.ticket;
+  hold = b.hold ∙ a.hold;
+  at = refl;
+  mark = b.mark ∙ a.mark;
+  fewer = λ w σ p is. b.fewer w σ p (a.fewer w σ p is);
+  stored = λ j blind p. absurd (cc);
+  out = λ j p is. b.out j p (a.out j p is);
+  stands = λ slot few p e is own.
+      subst (λ (n : ℕ). (told_of z).bits.stored (index n slot) ≡ Some e) a.number
+      (b.stands slot few (ap (λ (n : ℕ). index n slot == i) a.number ∙ p) e
+      (subst (λ (n : ℕ). (told_of y).bits.stored (index n slot) ≡ Some e) (sym a.number)
+      (a.stands slot few p e is own)) own);
+  keeps = λ d p. b.keeps d p ∙ a.keeps d p;
+  owes = λ f o. b.owes f (a.owes f o);
+}
+
+-- the four parts of a wait, one behind the other
+pub cond_carries : (m : ℕ) (old loaded unlocked waited new : Known) → Carries unchanged old loaded
+    → Carries (set_change (watch.Plain m) mode.Normal unlocked.at) loaded unlocked
+    → Carries (wait_change (index unlocked.view.number 0) waited.at) unlocked waited
+    → Carries (wait_change (index waited.view.number 0) new.at) waited new
+    → Carries (cond_change m (index old.view.number 0) new.at) old new
+cond_carries m old loaded unlocked waited new a b c d =
+    let i = index old.view.number 0 in
+    let third = subst (λ (n : ℕ). Carries (wait_change (index n 0) waited.at) unlocked waited)
+    (b.number ∙ a.number) c in
+    let fourth = subst (λ (n : ℕ). Carries (wait_change (index n 0) new.at) waited new)
+    (c.number ∙ (b.number ∙ a.number)) d in
+    cond_on m i old waited new
+    (cond_on m i old unlocked waited
+    (cond_on m i old loaded unlocked (of_unchanged m i old loaded a) (of_set m i loaded unlocked b))
+    (of_wait m i unlocked waited third)) (of_wait m i waited new fourth)
+
+-- whether the mutex is held
+answer_held : (end : Result (Unit {0}) FutexEnd) (lock : Result (Unit {0}) Worn)
+    → is_held (cond_answer end lock) ≡ is_locked lock
+answer_held (Err (futex_end.Worn h p)) lock = refl
+answer_held (Err (futex_end.Again seen)) (Err w) = refl
+answer_held (Err (futex_end.Again seen)) (Ok u) = refl
+answer_held (Err futex_end.Interrupted) (Err w) = refl
+answer_held (Err futex_end.Interrupted) (Ok u) = refl
+answer_held (Ok v) (Err w) = refl
+answer_held (Ok v) (Ok u) = refl
+
+pub cond_held : (b : Bool) (end : Result (Unit {0}) FutexEnd) (lock : Result (Unit {0}) Worn) (k : Known) (m : ℕ)
+    → b ≡ false → holds_mutex k m ≡ (b || is_locked lock) → holds_mutex k m ≡ is_held (cond_answer end lock)
+cond_held b end lock k m free is = is ∙ (ap (λ (c : Bool). c || is_locked lock) free ∙ sym (answer_held end lock))
+
+pub answered_holds : (k : Known) (m : ℕ) (o : Result (Unit {0}) CondEnd) → holds_mutex k m ≡ is_held o
+    → IfOk o (λ _. HoldsMutex k m)
+answered_holds k m (Ok u) is = is
+answered_holds k m (Err e) is = tt

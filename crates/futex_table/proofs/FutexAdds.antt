@@ -1,0 +1,83 @@
+-- The add of a wait's entry.
+use Rattle.std.proofs.Common.{◌∙◌, ap, sym, refl, subst, inl, inr, lt-ltb}
+use Rattle.std.specs.Prelude.{ℕ, ◌≡◌, ◌<◌, Bool, if◌then◌else◌, Result, Ok, Err, IfOk, IfErr}
+use Rattle.wait_model.specs.declared.layout.TheConstants.{FIRST_SIMPLE}
+use Rattle.wait_model.specs.declared.queues.Form.TheVariants as forms
+use Rattle.wait_model.specs.declared.watches.Kind.{Kind}
+use Rattle.wait_model.specs.declared.watches.Kind.TheVariants as kind
+use Rattle.wait_model.specs.declared.watches.Watch.{Watch}
+use Rattle.wait_model.specs.Watches.{kind_for}
+use Rattle.wait_rule.specs.Ends.{WasWorn}
+use Rattle.wait_rule.specs.Known.{Known}
+use Rattle.wait_rule.specs.Queues.{index}
+use Rattle.wq_head.specs.declared.adds.Worn.{Worn}
+use Rattle.wq_head.specs.Adds.{HasAdded}
+use Rattle.wq_head.specs.Holds.{IsHolding}
+use Rattle.wait_class.specs.declared.stages.Doing.TheVariants as doing
+use Rattle.wait_class.specs.Laws.{AddsOwn, HasJoined, IsWornFor}
+use Rattle.wait_class.specs.Queueing.{IsForBy, IsFormPlace, IsFormWorn, form_entry}
+use Rattle.wait_class.proofs.FormPlaces.{form_is, form_left, form_worn}
+use Rattle.wait_class.proofs.Ground.Keeping.{keeps_queued}
+use Rattle.futex_table.specs.FutexTables.{futex_doing, futex_table, word_of}
+use Rattle.futex_table.specs.declared.waits.FutexStage.{FutexStage}
+use Rattle.futex_table.specs.declared.waits.FutexStage.TheVariants as stage
+use Rattle.futex_table.specs.declared.waits.FutexWait.{FutexWait}
+
+queue_only : (s : FutexStage) → futex_doing s ≡ doing.Queue → s ≡ stage.Queue
+queue_only stage.Queue here = refl
+queue_only s here = absurd (cc)
+
+-- the kind of its entry
+kind_is : (f : ℕ) → f < FIRST_SIMPLE → kind_for (word_of f) ≡ kind.Autoremove
+kind_is f few = ap (λ (b : Bool). if b then kind.Autoremove else kind.Simple) (lt-ltb f FIRST_SIMPLE few)
+
+pub futex_for : (f : ℕ) → f < FIRST_SIMPLE → (w : Watch) → w ≡ word_of f → (k : Kind) → k ≡ kind_for w
+    → IsForBy forms.Tail w k
+futex_for f few w is k its = inl (f, is, few, inr (inl (its ∙ (ap kind_for is ∙ kind_is f few))))
+
+pub never_woken : {A : Type 0} (f : ℕ) → f < FIRST_SIMPLE → (w : Watch) → w ≡ word_of f → (k : Kind)
+    → k ≡ kind_for w → k ≡ kind.Woken → A
+never_woken f few w is k its woken = absurd (let no : kind.Woken ≡ kind.Autoremove = sym woken
+    ∙ (its ∙ (ap kind_for is ∙ kind_is f few)) in cc)
+
+module _ (r : FutexWait) (old new : Known) where
+  joined : HasAdded (IsFormPlace forms.Tail) old new 0 (form_entry forms.Tail (word_of r.futex)
+      (kind_for (word_of r.futex))) → HasJoined futex_table r stage.Queue old new
+  joined x = record {
+    seen = x.seen;
+    entry = form_entry forms.Tail (word_of r.futex) (kind_for (word_of r.futex)) x.place;
+    looks = x.looks;
+    whole = x.whole;
+    is_off = x.is_off;
+    placed = ap (form_entry forms.Tail (word_of r.futex) (kind_for (word_of r.futex)))
+        (sym (form_is x.seen x.low forms.Tail x.place x.sort));
+    left = form_left x.seen x.low forms.Tail x.place x.sort;
+    is = x.is;
+    queued = x.queued;
+    home = (refl, refl);
+    keeps = keeps_queued (index old.view.number 0) old new x.carries;
+  }
+
+  -- with the numbers that the code names
+  module _ (s : FutexStage) (here : futex_doing s ≡ doing.Queue) (c : Watch) (same : c ≡ word_of r.futex) (k : Kind)
+      (its : k ≡ kind_for c) where
+    add_joins : HasAdded (IsFormPlace forms.Tail) old new 0 (form_entry forms.Tail c k)
+        → HasJoined futex_table r s old new
+    add_joins x = subst (λ (q : FutexStage). HasJoined futex_table r q old new) (sym (queue_only s here))
+        (joined (subst (λ (d : Watch). HasAdded (IsFormPlace forms.Tail) old new 0
+        (form_entry forms.Tail d (kind_for d))) same
+        (subst (λ (l : Kind). HasAdded (IsFormPlace forms.Tail) old new 0 (form_entry forms.Tail c l)) its x)))
+
+    add_wears : (w : Worn) → IsFormWorn forms.Tail old new w → WasWorn new.view.number new.view.items w.head w.place
+        → IsWornFor futex_table r old new w
+    add_wears w worn noted =
+        let x = form_worn forms.Tail old new w worn in
+        record { looks = x.looks; whole = x.whole; head = x.head; worn = x.worn; noted = noted }
+
+    pub adds_own : (o : Result (Unit {0}) Worn)
+        → IfOk o (λ _. HasAdded (IsFormPlace forms.Tail) old new 0 (form_entry forms.Tail c k))
+        → IfErr o (λ w. IsFormWorn forms.Tail old new w)
+        → IfErr o (λ w. WasWorn new.view.number new.view.items w.head w.place) → IsHolding new → new.at ≡ old.at
+        → AddsOwn futex_table r s old new o
+    adds_own (Ok u) queued worn noted held at = record { held = held; at = at; by = add_joins queued }
+    adds_own (Err w) queued worn noted held at = record { held = held; at = at; by = add_wears w worn noted }

@@ -1,0 +1,12 @@
+pub mod FutexHeads
+pub mod FutexTrails
+pub mod FutexLaws
+pub mod FutexAdds
+pub mod WordLoads
+pub mod FutexEndings
+pub mod WordSteps
+pub mod Mutexing
+pub mod CondVaring
+pub mod Holders
+pub mod Sleeping
+pub mod Staling

@@ -1,0 +1,71 @@
+-- Who sleeps on a futex queued its entry in a hold in which it had loaded the expected value.
+use Rattle.std.proofs.Common.{◌∙◌, ap, append_assoc, refl, subst, sym}
+use Rattle.std.specs.Prelude.{◌≡◌, true, false, List, [], ◌∷◌, ◌++◌}
+use Rattle.wait_model.specs.declared.steps.Step.{Step}
+use Rattle.wait_model.specs.declared.steps.Step.TheVariants as step
+use Rattle.wait_model.specs.Histories.{Lacks, turns_lock}
+use Rattle.wait_model.specs.Tasks.{state_mask}
+use Rattle.wait_model.proofs.HistoryLaws.Stretches.{lacks_append}
+use Rattle.wait_rule.specs.Items.{steps_of}
+use Rattle.wait_rule.specs.Known.{Known}
+use Rattle.wait_rule.specs.Queues.{index}
+use Rattle.wait_class.proofs.Ground.Standing.{owner_own}
+use Rattle.futex_table.specs.FutexTables.{AreSaws, FutexTrail, SleptByValue, futex_head, is_behind_sleep, word_of}
+use Rattle.futex_table.specs.StaleSleepers.{SleepersSleepFor}
+use Rattle.futex_table.specs.Sleepers.{
+  RuleQueuedByValue,
+  SleepersQueuedByValue,
+  SleepsByValue,
+  StretchesQueuedByValue,
+}
+use Rattle.futex_table.specs.declared.waits.FutexStage.{FutexStage}
+use Rattle.futex_table.specs.declared.waits.FutexStage.TheVariants as stage
+use Rattle.futex_table.specs.declared.waits.FutexWait.{FutexWait}
+
+slept_there : (k : Known) (r : FutexWait) (s : FutexStage) → is_behind_sleep s ≡ true → FutexTrail k r s
+    → SleptByValue k r
+slept_there k r stage.Queued is u = u
+slept_there k r s is u = absurd (cc)
+
+pub sleepers_queued : SleepersQueuedByValue
+sleepers_queued k r s a =
+    let u = slept_there k r.of s a.place a.trail in record { found = u.found; queued = u.queued }
+
+pub rule_queued : RuleQueuedByValue
+rule_queued k r s a t items ruled own = subst (λ (es : List Step). SleepsByValue es (index k.view.number 0) r.of)
+    (sym (ruled.histories k.view.number ∙ ap steps_of own)) (sleepers_queued k r s a)
+
+pub stretches_queued : StretchesQueuedByValue
+stretches_queued old new r q s place a = sleepers_queued new q place a.lands
+
+-- such a task is one that a walk behind a change of the word wakes
+saws_turn : (es : List Step) → AreSaws es → Lacks turns_lock es
+saws_turn [] l = tt
+saws_turn (step.Saw x w ∷ es) l = (refl, saws_turn es l)
+saws_turn (e ∷ es) l = absurd l
+
+pub sleepers_sleep_for : SleepersSleepFor
+sleepers_sleep_for k r s a u items ruled own e stands of sort down =
+    let z = rule_queued k r s a u items ruled own in
+    let q = z.queued in
+    let stored = step.Queue (index k.view.number 0) q.entry ∷ step.State (state_mask r.of.state) ∷ [] in
+    let behind = step.Unlock (futex_head r.of.futex) false ∷ step.Sleep z.found ∷ [] in
+    record {
+      front = q.before;
+      aim = q.aim;
+      word = q.word;
+      inside = q.looks ++ stored;
+      head = futex_head r.of.futex;
+      spent = false;
+      rest = step.Sleep z.found ∷ [];
+      history = q.is ∙ ap (λ (l : List Step). q.before ++ step.Lock (futex_head r.of.futex) q.aim q.word
+          ∷ step.Load (word_of r.of.futex) r.of.expected ∷ l) (sym (append_assoc q.looks stored behind));
+      within = lacks_append turns_lock q.looks stored (saws_turn q.looks q.saws) (refl, (refl, tt));
+      steady = (refl, tt);
+      own = owner_own k.view.number;
+      stands = stands;
+      watch = of;
+      kind = sort;
+      state = refl;
+      down = down;
+    }

@@ -1,0 +1,5 @@
+use Rattle.std.proofs.Common.{◌∙◌, sym}
+use Rattle.futex_table.proofs.cond_vars.cond_signal.Goals as goal
+
+pub returns-clause-held : goal.returns-clause-held
+returns-clause-held g c = c.change_and_wake.ensures.others c.args.lock (λ q. c.requires.apart (sym q)) ∙ c.requires.held

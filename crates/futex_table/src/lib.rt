@@ -1,0 +1,14 @@
+//! Futexes on real threads (kernel/futex/core.c, `futex_wait`, `futex_wake`): a task sleeps on a word only if that has
+//! the value which it expects, and is woken by whoever changed it; and mutexes and condition variables of them.
+#![tactic(auto)]
+
+pub mod cond_vars;
+pub mod futexes;
+pub mod laws;
+pub mod mutexes;
+mod stores;
+pub mod waits;
+
+pub use cond_vars::{CondEnd, cond_broadcast, cond_signal, cond_wait};
+pub use futexes::{FutexEnd, begin_futex, end_futex, futex_store, futex_wait, futex_wake};
+pub use mutexes::{mutex_lock, mutex_open, mutex_try, mutex_unlock};

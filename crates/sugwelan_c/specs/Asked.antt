@@ -19,7 +19,7 @@ use Rattle.sugwelan_c.specs.declared.kinds.TheConstants.{UNLOCK_PAGE, SWAKE_UP_O
 use Rattle.sugwelan_c.specs.declared.kinds.TheConstants.{COMPLETE, COMPLETE_ALL, REINIT_COMPLETION}
 use Rattle.sugwelan_c.specs.declared.kinds.TheConstants.{TRY_WAIT_FOR_COMPLETION, COMPLETION_DONE, TRYLOCK_BIT}
 use Rattle.sugwelan_c.specs.declared.kinds.TheConstants.{TRYLOCK_PAGE, ADD_TALLY, TAKE_CONDITION, NUMBER, RAISE_SIGNAL}
-use Rattle.sugwelan_c.specs.declared.kinds.TheConstants.{TAKE_SIGNAL}
+use Rattle.sugwelan_c.specs.declared.kinds.TheConstants.{LEAVE, TAKE_SIGNAL, WAKE_UP_PROCESS}
 
 -- numbers that stand for something else
 abbrev pub byte_in : ℕ → Option ℕ
@@ -96,19 +96,21 @@ asks_cell n c =
     if c.kind == TRY_WAIT_FOR_COMPLETION then Some (call.Cell cell_call.TryWait n) else (
     if c.kind == COMPLETION_DONE then Some (call.Cell cell_call.IsDone n) else None)))))
 
--- a signal for a task
-abbrev pub asks_signal : ℕ → Call → Option TaskCall
-asks_signal n c =
-    if c.kind == RAISE_SIGNAL then and_then (flag_in c.b) (λ fatal. Some (call.Signal n fatal)) else None
+-- about a task: a signal, or a wake of it alone
+abbrev pub asks_task : ℕ → Call → Option TaskCall
+asks_task n c =
+    if c.kind == RAISE_SIGNAL then and_then (flag_in c.b) (λ fatal. Some (call.Signal n fatal)) else (
+    if c.kind == WAKE_UP_PROCESS then Some (call.Kick n) else None)
 
 abbrev pub asks_begin : ℕ → Call → Option TaskCall
 asks_begin n c = either (either (asks_cond n c) (asks_var n c)) (either (either (asks_bit n c) (asks_page n c))
-    (either (asks_cell n c) (asks_signal n c)))
+    (either (asks_cell n c) (asks_task n c)))
 
 -- What a call asks for, or none where it is no call.
 abbrev pub asks : Call → Option Wanted
 asks c =
     if c.kind == ADVANCE then Some wanted.Advance else (
+    if c.kind == LEAVE then Some wanted.Leave else (
     if c.kind == NUMBER then Some wanted.Number else (
     if c.kind == TAKE_SIGNAL then Some (wanted.Begin call.Accept) else
-    and_then (byte_in c.a) (λ n. and_then (asks_begin n c) (λ q. Some (wanted.Begin q)))))
+    and_then (byte_in c.a) (λ n. and_then (asks_begin n c) (λ q. Some (wanted.Begin q))))))

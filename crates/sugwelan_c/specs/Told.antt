@@ -22,7 +22,8 @@ use Rattle.wq_checked.specs.declared.reasons.Refused.TheVariants as reason
 use Rattle.sugwelan_c.specs.declared.replies.Reply.{Reply}
 use Rattle.sugwelan_c.specs.declared.replies.Reply.TheVariants as reply
 use Rattle.sugwelan_c.specs.declared.replies.Told.{Told}
-use Rattle.sugwelan_c.specs.declared.replies.TheConstants.{AGAIN, DONE, EBUSY, EDEADLK, EINTR, EINVAL, ENOENT, ENOSPC}
+use Rattle.sugwelan_c.specs.declared.replies.TheConstants.{AGAIN, DONE, EBUSY, ECANCELED, EDEADLK, EINTR}
+use Rattle.sugwelan_c.specs.declared.replies.TheConstants.{EINVAL, ENOENT, ENOSPC}
 use Rattle.sugwelan_c.specs.declared.replies.TheConstants.{ENOTRECOVERABLE, EOPNOTSUPP, EPERM}
 use Rattle.sugwelan_c.specs.declared.replies.TheConstants.{LOCKED, PARK, ROOM}
 
@@ -51,6 +52,7 @@ answer_code (answer.Changed (Ok v)) = DONE
 answer_code (answer.Changed (Err e)) = wait_code e
 answer_code (answer.Bit (Ok x)) = DONE
 answer_code (answer.Bit (Err e)) = bit_code e
+answer_code (answer.Left seen selected) = ECANCELED
 answer_code _ = DONE
 
 abbrev pub progress_code : Progress → ℤ
@@ -78,9 +80,11 @@ taken_number taken.Fatal = 2
 
 abbrev pub value_of : Reply → ℕ
 value_of (reply.On (progress.Done (answer.Changed (Ok v)))) = v
+value_of (reply.On (progress.Done (answer.Left seen selected))) = seen
 value_of (reply.On (progress.Done (answer.Cell b))) = truth b
 value_of (reply.On (progress.Done (answer.Tried b))) = truth b
 value_of (reply.On (progress.Done (answer.Value v))) = v
+value_of (reply.On (progress.Done (answer.Kicked woke rouse))) = truth woke
 value_of (reply.On (progress.Done (answer.Accepted t))) = taken_number t
 value_of (reply.Value v) = v
 value_of _ = 0
@@ -102,9 +106,10 @@ abbrev pub head_number : Option ℕ → ℕ
 head_number (Some h) = h
 head_number None = HEADS
 
--- whom to rouse: those whom an advance names, or the one whom a signal woke
+-- whom to rouse: those whom an advance names, or the one whom a signal or a kick woke
 abbrev pub roused_by : Reply → List ℕ → List ℕ
 roused_by (reply.On (progress.Done (answer.Raised (Some who)))) ws = who ∷ []
+roused_by (reply.On (progress.Done (answer.Kicked woke (Some who)))) ws = who ∷ []
 roused_by _ ws = ws
 
 abbrev pub end_number : End → ℕ

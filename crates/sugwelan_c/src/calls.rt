@@ -3,14 +3,14 @@
 ghost use Rattle.std.specs.Prelude.{◌≡◌, Some};
 ghost use Rattle.wq_checked.specs.declared.calls.Call.TheVariants as task_call;
 ghost use Rattle.sugwelan_c.specs.Asked.{asks, asks_begin, asks_bit, asks_cell, asks_cond, asks_page, asks_var};
-ghost use Rattle.sugwelan_c.specs.Asked.{asks_signal, byte_in, either, flag_in, mode_in, state_in};
+ghost use Rattle.sugwelan_c.specs.Asked.{asks_task, byte_in, either, flag_in, mode_in, state_in};
 
 use crate::kinds::{
-    ADD_TALLY, ADVANCE, CLEAR_AND_WAKE_UP_BIT, COMPLETE, COMPLETE_ALL, COMPLETION_DONE, LOCK_PAGE,
-    NUMBER, PUBLISH_VAR_AND_WAKE, RAISE_SIGNAL, REINIT_COMPLETION, SET_AND_SWAKE, SET_AND_WAKE,
-    SWAIT_EVENT, SWAKE_UP_ALL, SWAKE_UP_ONE, TAKE_CONDITION, TAKE_SIGNAL, TRY_WAIT_FOR_COMPLETION,
-    TRYLOCK_BIT, TRYLOCK_PAGE, UNLOCK_PAGE, WAIT_EVENT, WAIT_FOR_COMPLETION, WAIT_ON_BIT,
-    WAIT_ON_BIT_LOCK, WAIT_VAR_EVENT, WAKE_UP,
+    ADD_TALLY, ADVANCE, CLEAR_AND_WAKE_UP_BIT, COMPLETE, COMPLETE_ALL, COMPLETION_DONE, LEAVE,
+    LOCK_PAGE, NUMBER, PUBLISH_VAR_AND_WAKE, RAISE_SIGNAL, REINIT_COMPLETION, SET_AND_SWAKE,
+    SET_AND_WAKE, SWAIT_EVENT, SWAKE_UP_ALL, SWAKE_UP_ONE, TAKE_CONDITION, TAKE_SIGNAL,
+    TRY_WAIT_FOR_COMPLETION, TRYLOCK_BIT, TRYLOCK_PAGE, UNLOCK_PAGE, WAIT_EVENT,
+    WAIT_FOR_COMPLETION, WAIT_ON_BIT, WAIT_ON_BIT_LOCK, WAIT_VAR_EVENT, WAKE_UP, WAKE_UP_PROCESS,
 };
 use completion_cell::cell_turns::CellCall;
 use wait_model::tasks::{How, SleepState};
@@ -28,10 +28,12 @@ pub struct Call {
     pub value: u64,
 }
 
-/// What a call asks for: to go on with the call that is under way, the task's number, or a call that begins.
+/// What a call asks for: to go on with the call that is under way, or to go on with it and leave it where it is a wait,
+/// the task's number, or a call that begins.
 #[derive(Clone, Copy)]
 pub enum Wanted {
     Advance,
+    Leave,
     Number,
     Begin(TaskCall),
 }
@@ -202,15 +204,16 @@ fn cell_call(cell: u8, call: &Call) -> Option<TaskCall>
     }
 }
 
-/// A signal that is raised.
-fn signal_call(who: u8, call: &Call) -> Option<TaskCall>
-    ensures { result ≡ asks_signal who call.now }
+/// A call about a task: a signal that is raised, or a wake of it alone.
+fn call_for_task(who: u8, call: &Call) -> Option<TaskCall>
+    ensures { result ≡ asks_task who call.now }
 {
     match call.kind {
         RAISE_SIGNAL => {
             let fatal = flag_of(call.b)?;
             Some(TaskCall::Signal { who, fatal })
         }
+        WAKE_UP_PROCESS => Some(TaskCall::Kick { who }),
         _ => None,
     }
 }
@@ -221,7 +224,7 @@ fn begun_by(a: u8, call: &Call) -> Option<TaskCall>
 {
     let shared = either(cond_call(a, call), var_call(a, call));
     let kept = either(bit_call(a, call), page_call(a, call));
-    let counted = either(cell_call(a, call), signal_call(a, call));
+    let counted = either(cell_call(a, call), call_for_task(a, call));
     either(shared, either(kept, counted))
 }
 
@@ -231,6 +234,7 @@ pub fn wanted_of(call: &Call) -> Option<Wanted>
 {
     match call.kind {
         ADVANCE => Some(Wanted::Advance),
+        LEAVE => Some(Wanted::Leave),
         NUMBER => Some(Wanted::Number),
         TAKE_SIGNAL => Some(Wanted::Begin(TaskCall::Accept)),
         _ => {

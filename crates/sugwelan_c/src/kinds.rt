@@ -62,3 +62,8 @@ pub const NUMBER: u32 = 34;
 pub const RAISE_SIGNAL: u32 = 35;
 
 pub const TAKE_SIGNAL: u32 = 36;
+
+pub const WAKE_UP_PROCESS: u32 = 37;
+
+// To go on with the call that is under way, and to leave it where it is a wait.
+pub const LEAVE: u32 = 38;

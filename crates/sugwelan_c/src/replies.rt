@@ -43,6 +43,8 @@ pub const EDEADLK: i32 = -35;
 pub const ENOTEMPTY: i32 = -39;
 /// A wait in a simple queue would be killable.
 pub const EOPNOTSUPP: i32 = -95;
+/// The task left the wait: it is over, and what it waited for was not there.
+pub const ECANCELED: i32 = -125;
 /// The task makes no more calls.
 pub const ENOTRECOVERABLE: i32 = -131;
 
@@ -119,6 +121,7 @@ fn answer_code(answer: Answer) -> i32
         Answer::Changed(Err(end)) => wait_code(end),
         Answer::Bit(Ok(())) => DONE,
         Answer::Bit(Err(end)) => bit_code(end),
+        Answer::Left { .. } => ECANCELED,
         _ => DONE,
     }
 }
@@ -163,16 +166,20 @@ fn taken_number(taken: Taken) -> u64
     }
 }
 
-/// The value of a call that is over: of a wait for a variable, what its last load found; of a call about a completion,
-/// whether it was done; of a try, whether it took the bit; the value, or the signals, that a call at once answers.
+/// The value of a call that is over: of a wait for a variable, what its last load found; of a wait that was left, what
+/// its last look at the condition, the variable, the word of the bit or the count found; of a call about a completion,
+/// whether it was done; of a try, whether it took the bit; of a kick, whether the task was in the state of a sleep; the
+/// value, or the signals, that a call at once answers.
 fn value_of(reply: Reply) -> u64
     ensures { result ≡ value_of reply }
 {
     match reply {
         Reply::On(Progress::Done(Answer::Changed(Ok(seen)))) => seen,
+        Reply::On(Progress::Done(Answer::Left { seen, .. })) => seen,
         Reply::On(Progress::Done(Answer::Cell(done))) => truth(done),
         Reply::On(Progress::Done(Answer::Tried(clear))) => truth(clear),
         Reply::On(Progress::Done(Answer::Value(value))) => value,
+        Reply::On(Progress::Done(Answer::Kicked { woke, .. })) => truth(woke),
         Reply::On(Progress::Done(Answer::Accepted(taken))) => taken_number(taken),
         Reply::Value(value) => value,
         _ => 0,
@@ -271,6 +278,14 @@ pub fn tell(reply: Reply, passed: Option<u16>, rousing: &Rousing, told: &mut Tol
         Reply::On(Progress::Done(Answer::Raised(Some(who)))) => {
             tell_with(reply, passed, &[who], told)
         }
+        Reply::On(
+            Progress::Done(
+                Answer::Kicked {
+                    rouse: Some(who),
+                    ..
+                },
+            ),
+        ) => tell_with(reply, passed, &[who], told),
         _ => tell_with(reply, passed, rousing.tasks(), told),
     }
 }

@@ -2,7 +2,7 @@
 
 ghost use Rattle.std.specs.Prelude.{◌≡◌, true, Some, []};
 ghost use Rattle.wq_head.specs.Roused.{tasks_in};
-ghost use Rattle.sugwelan_c.specs.Served.{Further, GivesLock, Names, Replies, Serves};
+ghost use Rattle.sugwelan_c.specs.Served.{Further, GivesLock, Names, Replies, Serves, goes_by, leaves};
 ghost use Rattle.wq_checked.specs.declared.calls.Progress.TheVariants as progress;
 ghost use Rattle.sugwelan_c.specs.declared.calls.Wanted.TheVariants as wanted;
 ghost use Rattle.sugwelan_c.specs.declared.replies.Reply.TheVariants as answered;
@@ -17,7 +17,7 @@ use wq_head::Rousing;
 const FURTHER: u8 = 16;
 
 /// One stretch of the call that is under way.
-fn go_on(task: &mut CheckedTask, rousing: &mut Rousing, passed: &mut Option<u16>) -> Reply
+fn advance(task: &mut CheckedTask, rousing: &mut Rousing, passed: &mut Option<u16>) -> Reply
     ensures replies { Replies (Some wanted.Advance) task.old task.new result }
     ensures names { Names (Some wanted.Advance) task.old task.new result rousing.new }
     ensures gives { GivesLock (Some wanted.Advance) task.old result passed.old passed.new }
@@ -25,6 +25,36 @@ fn go_on(task: &mut CheckedTask, rousing: &mut Rousing, passed: &mut Option<u16>
     match task.advance(rousing, passed) {
         Ok(told) => Reply::On(told),
         Err(reason) => Reply::Refused(reason),
+    }
+}
+
+/// One stretch of the call that is under way, which is left where it is a wait.
+fn leave(task: &mut CheckedTask, rousing: &mut Rousing, passed: &mut Option<u16>) -> Reply
+    ensures replies { Replies (Some wanted.Leave) task.old task.new result }
+    ensures names { Names (Some wanted.Leave) task.old task.new result rousing.new }
+    ensures gives { GivesLock (Some wanted.Leave) task.old result passed.old passed.new }
+{
+    match task.leave(rousing, passed) {
+        Ok(told) => Reply::On(told),
+        Err(reason) => Reply::Refused(reason),
+    }
+}
+
+/// One stretch of the call that is under way, which leaves it or does not.
+fn go_on(
+    task: &mut CheckedTask,
+    leaves: bool,
+    rousing: &mut Rousing,
+    passed: &mut Option<u16>,
+) -> Reply
+    ensures replies { Replies (Some (goes_by leaves)) task.old task.new result }
+    ensures names { Names (Some (goes_by leaves)) task.old task.new result rousing.new }
+    ensures gives { GivesLock (Some (goes_by leaves)) task.old result passed.old passed.new }
+{
+    if leaves {
+        leave(task, rousing, passed)
+    } else {
+        advance(task, rousing, passed)
     }
 }
 
@@ -38,7 +68,8 @@ fn begin(task: &mut CheckedTask, call: TaskCall) -> Reply
     }
 }
 
-/// What is done with a call. An advance names the tasks that are to be roused, and tells the lock that it gave back.
+/// What is done with a call. One that goes on with the call under way names the tasks that
+/// are to be roused, and tells the lock that it gave back.
 fn reply_to(
     task: &mut CheckedTask,
     want: Option<Wanted>,
@@ -51,7 +82,8 @@ fn reply_to(
 {
     match want {
         None => Reply::Refused(Refused::OutOfRange),
-        Some(Wanted::Advance) => go_on(task, rousing, passed),
+        Some(Wanted::Advance) => advance(task, rousing, passed),
+        Some(Wanted::Leave) => leave(task, rousing, passed),
         Some(Wanted::Number) => Reply::Value(u64::from(task.number())),
         Some(Wanted::Begin(call)) => begin(task, call),
     }
@@ -67,14 +99,16 @@ fn may_go_on(reply: Reply, rousing: &Rousing) -> bool
     }
 }
 
-/// Goes on with a call, so long as it does so at once and names nobody: by `FURTHER` stretches at most.
+/// Goes on with a call, so long as it does so at once and names nobody: by `FURTHER` stretches at most, each of which
+/// leaves it or does not.
 fn go_further(
     task: &mut CheckedTask,
+    leaves: bool,
     first: Reply,
     rousing: &mut Rousing,
     passed: &mut Option<u16>,
 ) -> Reply
-    ensures { Further task.old first (tasks_in rousing.old) passed.old
+    ensures { Further (goes_by leaves) task.old first (tasks_in rousing.old) passed.old
         task.new result (tasks_in rousing.new) passed.new }
 {
     let mut reply = first;
@@ -82,9 +116,19 @@ fn go_further(
         if !may_go_on(reply, rousing) {
             return reply;
         }
-        reply = go_on(task, rousing, passed);
+        reply = go_on(task, leaves, rousing, passed);
     }
     reply
+}
+
+/// Whether a call asks to leave.
+fn leaves(want: Option<Wanted>) -> bool
+    ensures { result ≡ leaves want }
+{
+    match want {
+        Some(Wanted::Leave) => true,
+        _ => false,
+    }
 }
 
 /// Serves a call of a task: the answer is a code, and `told` says the rest.
@@ -95,7 +139,7 @@ pub fn serve(task: &mut CheckedTask, call: &Call, told: &mut Told) -> i32
     let mut rousing = Rousing::new();
     let mut passed = None;
     let first = reply_to(task, want, &mut rousing, &mut passed);
-    let reply = go_further(task, first, &mut rousing, &mut passed);
+    let reply = go_further(task, leaves(want), first, &mut rousing, &mut passed);
     tell(reply, passed, &rousing, told);
     // The caller rouses those that `told` names.
     rousing.hand_on();

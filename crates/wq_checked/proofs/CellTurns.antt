@@ -29,14 +29,14 @@ use Rattle.wq_checked.proofs.Publishing.{bits_hold, no_bit}
 use Rattle.wq_checked.proofs.WakeTurns.{owes_wider}
 
 -- where it stands, by where it began
-at_from : (start : Known) (first : Running) (k : Known) (run : CellRun) (s : CellStage)
-    → CameFrom start first k (running.Cell run s) → IsAt start k run s
-at_from start (running.Cell f from) k run s came = came.at
-at_from start first k run s came = absurd came
+at_from : (may : Bool) (start : Known) (first : Running) (k : Known) (run : CellRun) (s : CellStage)
+    → CameFrom may start first k (running.Cell run s) → IsAt start k run s
+at_from may start (running.Cell f from) k run s came = came.at
+at_from may start first k run s came = absurd came
 
 pub cell_at : (ks : KeptBits) (k : Known) (run : CellRun) (s : CellStage) → IsSound (running.Cell run s) ks k
     → (start : Known) × IsAt start k run s
-cell_at ks k run s u = (u.start, at_from u.start u.first k run s u.came)
+cell_at ks k run s u = (u.start, at_from true u.start u.first k run s u.came)
 
 -- what is over leaves a ready task: one that sets the completion, and one that does not
 module _ (ks : KeptBits) (start new : Known) (d : ℕ) (r : IsReady ks start) (up : IsUp new) (free : IsFree new)
@@ -88,11 +88,11 @@ module _ (start old new : Known) (f run q : CellRun) (s : CellStage) (came : Cel
   come_on : HasTurned start new run q turn.Locked → CellCame start new f q stage.Turn
   come_on h = record { at = h.turns; call = h.fresh.call_is ∙ came.call; cell = h.fresh.cell ∙ came.cell }
 
-  tells : (from : CellStage) (t : CellTurn) → HasTurned start new run q t
-      → WentOn start (running.Cell f from) new (cell_left q t) (cell_shown q t)
-  tells from turn.Locked h = (come_on h, refl)
-  tells from (turn.Done hit) h = (refl, over_as hit h)
-  tells from (turn.Starved n) h = refl
+  tells : (may : Bool) (from : CellStage) (t : CellTurn) → HasTurned start new run q t
+      → WentOn may start (running.Cell f from) new (cell_left q t) (cell_shown q t)
+  tells may from turn.Locked h = (come_on h, refl)
+  tells may from (turn.Done hit) h = (refl, over_as hit h)
+  tells may from (turn.Starved n) h = refl
 
   left_sound : (ks : KeptBits) → IsReady ks start → (from : CellStage) (t : CellTurn) → HasTurned start new run q t
       → IsSound (cell_left q t) ks new
@@ -106,16 +106,16 @@ module _ (start old new : Known) (f run q : CellRun) (s : CellStage) (came : Cel
   left_sound ks r from (turn.Done hit) h = over_ready ks start new f.call f.cell hit r (over_as hit h)
   left_sound ks r from (turn.Starved n) h = tt
 
-pub cell_goes : (start : Known) (first : Running) (old new : Known) (run q : CellRun) (s : CellStage) (t : CellTurn)
-    → CameFrom start first old (running.Cell run s)
+pub cell_goes : (may now : Bool) (start : Known) (first : Running) (old new : Known) (run q : CellRun) (s : CellStage) (t : CellTurn)
+    → CameFrom may start first old (running.Cell run s)
     → ((start : Known) → IsAt start old run s → HasTurned start new run q t)
-    → WentOn start first new (cell_left q t) (cell_shown q t)
-cell_goes start (running.Cell f from) old new run q s t came turned = tells start old new f run q s came from t
+    → WentOn now start first new (cell_left q t) (cell_shown q t)
+cell_goes may now start (running.Cell f from) old new run q s t came turned = tells start old new f run q s came now from t
     (turned start came.at)
-cell_goes start first old new run q s t came turned = absurd came
+cell_goes may now start first old new run q s t came turned = absurd came
 
 sound_from : (ks : KeptBits) (start : Known) (first : Running) (old new : Known) (run q : CellRun) (s : CellStage)
-    (t : CellTurn) → Began ks start first → CameFrom start first old (running.Cell run s)
+    (t : CellTurn) → Began ks start first → CameFrom true start first old (running.Cell run s)
     → ((start : Known) → IsAt start old run s → HasTurned start new run q t) → IsSound (cell_left q t) ks new
 sound_from ks start (running.Cell f from) old new run q s t began came turned =
     left_sound start old new f run q s came ks began from t (turned start came.at)

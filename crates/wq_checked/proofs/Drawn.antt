@@ -1,6 +1,6 @@
 -- A call that tells of a lock has its ticket out.
 use Rattle.std.proofs.Common.{◌≡◌, ◌∙◌, refl, subst, sym, ap}
-use Rattle.std.specs.Prelude.{ℕ, if◌then◌else◌, Option, Some, None}
+use Rattle.std.specs.Prelude.{ℕ, Bool, true, if◌then◌else◌, Option, Some, None}
 use Rattle.wait_rule.specs.Known.{Known}
 use Rattle.wait_rule.specs.Tickets.{drawn, taken}
 use Rattle.wait_class.specs.Posts.{ticket_out}
@@ -10,18 +10,33 @@ use Rattle.wait_class.specs.declared.stages.Doing.TheVariants as doing
 use Rattle.wait_class.specs.declared.stages.Run.{Run}
 use Rattle.wait_class.specs.declared.stages.Turn.{Turn}
 use Rattle.wait_class.specs.declared.stages.Turn.TheVariants as turn
-use Rattle.wait_class.specs.Tables.{Advances, IsAt, CallTable, head_in, stage_watch}
+use Rattle.wait_class.specs.Tables.{IsAt, CallTable, Lands, head_in, stage_watch}
 use Rattle.wait_class.proofs.Framing.{framed_lawful}
 use Rattle.wait_event.specs.Waits as events
+use Rattle.wait_event.specs.WaitLeaves.{wait_exits}
+use Rattle.wait_event.specs.declared.waits.WaitStage.TheVariants as event_stage
 use Rattle.wait_event.proofs.WaitLaws.{wait_lawful}
+use Rattle.wait_event.proofs.WaitLeaving.{wait_may_leave}
 use Rattle.bit_wait.specs.BitTables as bits
+use Rattle.bit_wait.specs.BitLeaves.{bit_exits}
 use Rattle.bit_wait.proofs.BitLaws.{bit_lawful}
+use Rattle.bit_wait.proofs.BitLeaving.{bit_may_leave}
 use Rattle.bit_wait.specs.LockTables as takes
+use Rattle.bit_wait.specs.LockLeaves.{lock_exits}
 use Rattle.bit_wait.proofs.LockLaws.{lock_lawful}
+use Rattle.bit_wait.proofs.LockLeaving.{lock_may_leave}
 use Rattle.page_lock.specs.PageTables as pages
+use Rattle.page_lock.specs.PageLeaves.{page_exits}
+use Rattle.page_lock.specs.declared.waits.PageStage.TheVariants as page_stage
 use Rattle.page_lock.proofs.PageLaws.{page_lawful}
+use Rattle.page_lock.proofs.PageLeaving.{page_may_leave}
 use Rattle.completion_cell.specs.Awaits as awaits
+use Rattle.completion_cell.specs.AwaitLeaves.{await_exits}
+use Rattle.completion_cell.specs.declared.awaits.AwaitStage.TheVariants as await_stage
 use Rattle.completion_cell.proofs.AwaitLaws.{await_lawful}
+use Rattle.completion_cell.proofs.AwaitLeaving.{await_may_leave}
+use Rattle.wq_checked.specs.Stages.{bit_first, lock_first}
+use Rattle.wq_checked.proofs.WayTurns.{come_lands}
 use Rattle.completion_cell.specs.CellTurns as cells
 use Rattle.completion_cell.specs.declared.cell_turns.CellRun.{CellRun}
 use Rattle.completion_cell.specs.declared.cell_turns.CellStage.{CellStage}
@@ -106,14 +121,14 @@ told_by : (k : Known) (p q : Progress) → p ≡ q → IsDrawn k q → IsDrawn k
 told_by k p q is out = subst (IsDrawn k) (sym is) out
 
 -- a wait of the ground that tells the lock at which its last stretch was refused
-ground_drawn : {C S O : Type 0} (t : CallTable C S O) → IsLawfulTable t → (start k : Known) (f r : Run C) (first : S)
+ground_drawn : {C S O : Type 0} (t : CallTable C S O) → IsLawfulTable t → (k : Known) (r : Run C)
     (now : Turn S O → Running) → ((s : S) → awaited_in (now (turn.Locked s)) ≡ lock_at t r s) → (u : Turn S O)
-    (p : Progress) → Advances t start k f r first u → p ≡ turn_told (now u) u → IsDrawn k p
-ground_drawn t law start k f r first now here (turn.Locked s) p a is = told_by k p _ is
-    (refused_drawn k _ (subst (IsOut k) (sym (here s)) (ground_out t law k r s a.lands)))
-ground_drawn t law start k f r first now here (turn.Again s) p a is = told_by k p _ is tt
-ground_drawn t law start k f r first now here (turn.Asleep s) p a is = told_by k p _ is tt
-ground_drawn t law start k f r first now here (turn.Done o) p a is = told_by k p _ is tt
+    (p : Progress) → Lands t k r u → p ≡ turn_told (now u) u → IsDrawn k p
+ground_drawn t law k r now here (turn.Locked s) p a is = told_by k p _ is
+    (refused_drawn k _ (subst (IsOut k) (sym (here s)) (ground_out t law k r s a)))
+ground_drawn t law k r now here (turn.Again s) p a is = told_by k p _ is tt
+ground_drawn t law k r now here (turn.Asleep s) p a is = told_by k p _ is tt
+ground_drawn t law k r now here (turn.Done o) p a is = told_by k p _ is tt
 
 swake_drawn : (start k : Known) (r : SwakeRun) (s : SwakeStage) (p : Progress) → swakes.IsAt start k r s
     → Fits (running.Swake r s) p → IsDrawn k p
@@ -143,50 +158,58 @@ wake_drawn start k r s (progress.Done a) at fits = tt
 wake_drawn start k r s progress.Starved at fits = tt
 
 -- what an advance tells is drawn
-came_drawn : (start : Known) (first : Running) (k : Known) (now : Running) (p : Progress) → CameFrom start first k now
-    → Fits now p → IsDrawn k p
-came_drawn start (running.Event f from) k (running.Event r t) p came fits = ground_drawn events.wait_table wait_lawful start k f r _
-    (running.Event r) (λ s. refl) t p came fits
-came_drawn start (running.Bit f from) k (running.Bit r t) p came fits = ground_drawn bits.bit_table (framed_lawful bits.bit_frame bit_lawful) start k f r _
-    (running.Bit r) (λ s. refl) t p came fits
-came_drawn start (running.Lock f from) k (running.Lock r t) p came fits = ground_drawn takes.lock_table (framed_lawful takes.lock_frame lock_lawful) start k f r _
-    (running.Lock r) (λ s. refl) t p came fits
-came_drawn start (running.Page f from) k (running.Page r t) p came fits = ground_drawn pages.page_table page_lawful start k f r _
-    (running.Page r) (λ s. refl) t p came fits
-came_drawn start (running.Await f from) k (running.Await r t) p came fits = ground_drawn awaits.await_table await_lawful start k f r _
-    (running.Await r) (λ s. refl) t p came.went fits
-came_drawn start (running.Wake f from) k (running.Wake r s) p came fits = wake_drawn start k r s p came.0 fits
-came_drawn start (running.Swake f from) k (running.Swake r s) p came fits = swake_drawn start k r s p came.at fits
-came_drawn start (running.Cell f from) k (running.Cell r s) p came fits = cell_drawn start k r s p came.at fits
-came_drawn start first k now p came fits = absurd came
+came_drawn : (may : Bool) (start : Known) (first : Running) (k : Known) (now : Running) (p : Progress)
+    → CameFrom may start first k now → Fits now p → IsDrawn k p
+came_drawn may start (running.Event f from) k (running.Event r t) p came fits = ground_drawn events.wait_table wait_lawful k
+    r (running.Event r) (λ s. refl) t p
+    (come_lands events.wait_table wait_exits wait_may_leave wait_lawful may start k f r event_stage.First t came.came) fits
+came_drawn may start (running.Bit f from) k (running.Bit r t) p came fits = ground_drawn bits.bit_table
+    (framed_lawful bits.bit_frame bit_lawful) k r (running.Bit r) (λ s. refl) t p
+    (come_lands bits.bit_table bit_exits bit_may_leave (framed_lawful bits.bit_frame bit_lawful) may start k f r bit_first t
+    came) fits
+came_drawn may start (running.Lock f from) k (running.Lock r t) p came fits = ground_drawn takes.lock_table
+    (framed_lawful takes.lock_frame lock_lawful) k r (running.Lock r) (λ s. refl) t p
+    (come_lands takes.lock_table lock_exits lock_may_leave (framed_lawful takes.lock_frame lock_lawful) may start k f r
+    lock_first t came) fits
+came_drawn may start (running.Page f from) k (running.Page r t) p came fits = ground_drawn pages.page_table page_lawful k r
+    (running.Page r) (λ s. refl) t p
+    (come_lands pages.page_table page_exits page_may_leave page_lawful may start k f r page_stage.First t came) fits
+came_drawn may start (running.Await f from) k (running.Await r t) p came fits = ground_drawn awaits.await_table await_lawful
+    k r (running.Await r) (λ s. refl) t p
+    (come_lands awaits.await_table await_exits await_may_leave await_lawful may start k f r await_stage.First t came.came)
+    fits
+came_drawn may start (running.Wake f from) k (running.Wake r s) p came fits = wake_drawn start k r s p came.0 fits
+came_drawn may start (running.Swake f from) k (running.Swake r s) p came fits = swake_drawn start k r s p came.at fits
+came_drawn may start (running.Cell f from) k (running.Cell r s) p came fits = cell_drawn start k r s p came.at fits
+came_drawn may start first k now p came fits = absurd came
 
-went_drawn : (start : Known) (first : Running) (k : Known) (now : Running) (p : Progress) → WentOn start first k now p
+went_drawn : (may : Bool) (start : Known) (first : Running) (k : Known) (now : Running) (p : Progress) → WentOn may start first k now p
     → IsDrawn k p
-went_drawn start first k now progress.Again went = tt
-went_drawn start first k now (progress.Locked a) went = came_drawn start first k now (progress.Locked a) went.0 went.1
-went_drawn start first k now progress.Park went = tt
-went_drawn start first k now (progress.Done a) went = tt
-went_drawn start first k now progress.Starved went = tt
+went_drawn may start first k now progress.Again went = tt
+went_drawn may start first k now (progress.Locked a) went = came_drawn may start first k now (progress.Locked a) went.0 went.1
+went_drawn may start first k now progress.Park went = tt
+went_drawn may start first k now (progress.Done a) went = tt
+went_drawn may start first k now progress.Starved went = tt
 
 -- of a call that is under way
-pub goes_drawn : (ks : KeptBits) (old : Known) (running : Running) (k : Known) (now : Running) (p : Progress)
+pub goes_drawn : (may : Bool) (ks : KeptBits) (old : Known) (running : Running) (k : Known) (now : Running) (p : Progress)
     → stopped_reason running ≡ None → IsSound running ks old
-    → ((start : Known) (first : Running) → CameFrom start first old running → WentOn start first k now p) → IsDrawn k p
-goes_drawn ks old running.Idle k now p under sound goes = absurd (cc)
-goes_drawn ks old running.Starved k now p under sound goes = absurd (cc)
-goes_drawn ks old (running.Event r t) k now p under sound goes =
-    went_drawn sound.start sound.first k now p (goes sound.start sound.first sound.came)
-goes_drawn ks old (running.Bit r t) k now p under sound goes =
-    went_drawn sound.start sound.first k now p (goes sound.start sound.first sound.came)
-goes_drawn ks old (running.Lock r t) k now p under sound goes =
-    went_drawn sound.start sound.first k now p (goes sound.start sound.first sound.came)
-goes_drawn ks old (running.Page r t) k now p under sound goes =
-    went_drawn sound.start sound.first k now p (goes sound.start sound.first sound.came)
-goes_drawn ks old (running.Await r t) k now p under sound goes =
-    went_drawn sound.start sound.first k now p (goes sound.start sound.first sound.came)
-goes_drawn ks old (running.Wake r s) k now p under sound goes =
-    went_drawn sound.start sound.first k now p (goes sound.start sound.first sound.came)
-goes_drawn ks old (running.Swake r s) k now p under sound goes =
-    went_drawn sound.start sound.first k now p (goes sound.start sound.first sound.came)
-goes_drawn ks old (running.Cell r s) k now p under sound goes =
-    went_drawn sound.start sound.first k now p (goes sound.start sound.first sound.came)
+    → ((start : Known) (first : Running) → CameFrom true start first old running → WentOn may start first k now p) → IsDrawn k p
+goes_drawn may ks old running.Idle k now p under sound goes = absurd (cc)
+goes_drawn may ks old running.Starved k now p under sound goes = absurd (cc)
+goes_drawn may ks old (running.Event r t) k now p under sound goes =
+    went_drawn may sound.start sound.first k now p (goes sound.start sound.first sound.came)
+goes_drawn may ks old (running.Bit r t) k now p under sound goes =
+    went_drawn may sound.start sound.first k now p (goes sound.start sound.first sound.came)
+goes_drawn may ks old (running.Lock r t) k now p under sound goes =
+    went_drawn may sound.start sound.first k now p (goes sound.start sound.first sound.came)
+goes_drawn may ks old (running.Page r t) k now p under sound goes =
+    went_drawn may sound.start sound.first k now p (goes sound.start sound.first sound.came)
+goes_drawn may ks old (running.Await r t) k now p under sound goes =
+    went_drawn may sound.start sound.first k now p (goes sound.start sound.first sound.came)
+goes_drawn may ks old (running.Wake r s) k now p under sound goes =
+    went_drawn may sound.start sound.first k now p (goes sound.start sound.first sound.came)
+goes_drawn may ks old (running.Swake r s) k now p under sound goes =
+    went_drawn may sound.start sound.first k now p (goes sound.start sound.first sound.came)
+goes_drawn may ks old (running.Cell r s) k now p under sound goes =
+    went_drawn may sound.start sound.first k now p (goes sound.start sound.first sound.came)

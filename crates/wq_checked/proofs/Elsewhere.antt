@@ -29,7 +29,7 @@ use Rattle.wait_rule.proofs.KnownLaws.TaskHistories.{history_after}
 use Rattle.wait_rule.proofs.TableSteps.ItemLists.{steps_append}
 use Rattle.wait_class.specs.Posts.{Runs}
 use Rattle.wait_event.specs.Waits.{IsRunning}
-use Rattle.wait_event.specs.WaitPlans.{IsWaitFor, call_for}
+use Rattle.wait_event.specs.WaitPlans.{IsWaitFor}
 use Rattle.wait_event.specs.declared.waits.WaitCall.{WaitCall}
 use Rattle.wait_class.specs.Wholes.{HasRested}
 use Rattle.wq_head.specs.Scanned.{HasScanned}
@@ -58,19 +58,15 @@ pub calls_off : (call : Call) (old new : Known) (from to : Next) → head_of (ca
 calls_off call old new from to low free runs = others_stay_off (call_program old.view.number 0 call) old new from to
     runs.transitions (inr (λ p. low)) free runs.goes
 
-event_low : (r : WaitCall) → IsRunning r → head_of (call_watch (call_for r.watch r.how)) < FIRST_DONE_HEAD
+-- the head of a wait for a condition or a variable
+pub event_low : (r : WaitCall) → IsRunning r → head_of r.watch < FIRST_DONE_HEAD
 event_low r runs = by r.watch runs.there runs.suits
   where
-    by : (c : Watch) → IsThere c → IsWaitFor c r.how → head_of (call_watch (call_for c r.how)) < FIRST_DONE_HEAD
+    by : (c : Watch) → IsThere c → IsWaitFor c r.how → head_of c < FIRST_DONE_HEAD
     by (watch.Plain c) there suits = plain_low c there
     by (watch.Var v o) there suits = var_low v o
     by (watch.Bit w b) there suits = absurd suits
     by (watch.Done d) there suits = absurd suits
-
-pub waits_off : (r : WaitCall) (old new : Known) (from to : Next) → IsRunning r → (told_of old).hold.head ≡ None
-    → Runs (call_program old.view.number 0 (call_for r.watch r.how)) old new from to → StaysOff old new
-waits_off r old new from to runs free went = calls_off (call_for r.watch r.how) old new from to (event_low r runs) free
-    went
 
 -- a wake queues nothing
 pub wakes_off : (a : Aim) (start new : Known) (w : Walked) → (told_of start).hold.head ≡ None → IsOver a start new w

@@ -13,16 +13,16 @@ use Rattle.wq_checked.specs.declared.calls.Progress.{Progress}
 use Rattle.wq_checked.specs.declared.calls.Running.{Running}
 use Rattle.wq_checked.specs.declared.kept_bits.KeptBits.{KeptBits}
 
-pub went_as : (start : Known) (first : Running) (new : Known) (r s : Running) (p u : Progress) → r ≡ s → p ≡ u
-    → WentOn start first new s u → WentOn start first new r p
-went_as start first new r s p u a b w = subst (λ (x : Running). WentOn start first new x p) (sym a)
-    (subst (WentOn start first new s) (sym b) w)
+pub went_as : (may : Bool) (start : Known) (first : Running) (new : Known) (r s : Running) (p u : Progress) → r ≡ s → p ≡ u
+    → WentOn may start first new s u → WentOn may start first new r p
+went_as may start first new r s p u a b w = subst (λ (x : Running). WentOn may start first new x p) (sym a)
+    (subst (WentOn may start first new s) (sym b) w)
 
 -- a stretch that was refused its lock
-pub went_refused : (start : Known) (first : Running) (new : Known) (now : Running) (o : Option Awaited)
-    → CameFrom start first new now → Fits now (refused_with o) → WentOn start first new now (refused_with o)
-went_refused start first new now (Some a) came fits = (came, fits)
-went_refused start first new now None came fits = (came, fits)
+pub went_refused : (may : Bool) (start : Known) (first : Running) (new : Known) (now : Running) (o : Option Awaited)
+    → CameFrom may start first new now → Fits now (refused_with o) → WentOn may start first new now (refused_with o)
+went_refused may start first new now (Some a) came fits = (came, fits)
+went_refused may start first new now None came fits = (came, fits)
 
 -- the bits that are noted, by an equation
 pub noted : (ks more : KeptBits) (w b : ℕ) (g h : Bool) → g ≡ h

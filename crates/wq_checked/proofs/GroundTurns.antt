@@ -1,6 +1,4 @@
--- A stretch of a wait for a bit or a page: the call has come on from where it began.
-use Rattle.std.proofs.Common.{sym, subst}
-use Rattle.std.specs.Prelude.{◌≡◌}
+-- A stretch of a wait that goes straight by its program: it has come on from where it began.
 use Rattle.wait_rule.specs.Known.{Known}
 use Rattle.wait_class.specs.declared.stages.Run.{Run}
 use Rattle.wait_class.specs.declared.stages.Turn.{Turn}
@@ -8,7 +6,13 @@ use Rattle.wait_class.specs.declared.stages.Turn.TheVariants as turn
 use Rattle.wait_class.specs.Laws.{IsLawfulTable}
 use Rattle.wait_class.specs.Tables.{Advances, CallTable}
 use Rattle.wait_class.proofs.Turns.{advances_on}
-use Rattle.wq_checked.specs.Stages.{GoesFrom, StandsBy}
+use Rattle.wq_checked.specs.Stages.{StandsBy}
+
+abbrev pub GoesFrom : {C S O : Type 0} → CallTable C S O → Known → Known → Run C → Run C → Turn S O → Turn S O → Type 0
+GoesFrom t old new r q (turn.Again s) u = Advances t old new r q s u
+GoesFrom t old new r q (turn.Asleep s) u = Advances t old new r q s u
+GoesFrom t old new r q (turn.Locked s) u = Advances t old new r q s u
+GoesFrom t old new r q (turn.Done o) u = ⊥
 
 -- one stretch more
 pub joined : {C S O : Type 0} (t : CallTable C S O) → IsLawfulTable t → (start old new : Known) (f run q : Run C) (first : S)
@@ -21,8 +25,3 @@ joined t law start old new f run q first (turn.Asleep s) u stands a b = advances
 joined t law start old new f run q first (turn.Locked s) u stands a b = advances_on t law start old new f run q first s u
     a.same (record { runs = a.went.runs; tells = a.went.tells; keeps = a.went.keeps }) b
 joined t law start old new f run q first (turn.Done o) u stands a b = absurd stands
-
--- where it does not rest it stands as before
-pub stayed : {C S O : Type 0} (t : CallTable C S O) (start mid new : Known) (f q : Run C) (first : S) (u : Turn S O)
-    → new ≡ mid → Advances t start mid f q first u → Advances t start new f q first u
-stayed t start mid new f q first u is a = subst (λ (k : Known). Advances t start k f q first u) (sym is) a

@@ -7,6 +7,8 @@ pub mod Once
 pub mod Elsewhere
 pub mod EventTurns
 pub mod GroundTurns
+pub mod WayTurns
+pub mod LowWays
 pub mod BitTurns
 pub mod LockTurns
 pub mod PageTurns
@@ -18,3 +20,4 @@ pub mod Drawn
 pub mod Publishing
 pub mod OneHolds
 pub mod Within
+pub mod Silent

@@ -1,6 +1,6 @@
 -- A ready task that takes a condition, tries a bit, or makes a single step that is about no head is ready after it.
-use Rattle.std.proofs.Common.{sym, subst}
-use Rattle.std.specs.Prelude.{ℕ, ◌≡◌, ◌<◌, ◌||◌, Bool}
+use Rattle.std.proofs.Common.{refl, sym, subst}
+use Rattle.std.specs.Prelude.{ℕ, ◌≡◌, ◌<◌, ◌||◌, Bool, true, false, Option}
 use Rattle.wait_model.specs.declared.calls.Answer.TheVariants as answer
 use Rattle.wait_model.specs.declared.calls.Call.TheVariants as calls
 use Rattle.wait_model.specs.declared.layout.TheConstants.{PLAIN_CONDITIONS}
@@ -22,6 +22,10 @@ use Rattle.wait_rule.proofs.KnownLaws.AsideCalls.{items_stay_off}
 use Rattle.wait_event.specs.Conds.{HasTaken}
 use Rattle.bit_wait.specs.Tries.{HasTriedBit, tried_answer}
 use Rattle.wq_checked.specs.Kept.{IsReady, keeps_in}
+use Rattle.wq_checked.specs.Begins.{Does}
+use Rattle.wq_checked.specs.Signals.{Woke, who_if}
+use Rattle.wq_checked.specs.declared.calls.Answer.TheVariants as told
+use Rattle.wq_checked.specs.declared.calls.Call.TheVariants as call
 use Rattle.wq_checked.specs.declared.kept_bits.KeptBits.{KeptBits}
 use Rattle.wq_checked.proofs.Elsewhere.{bit_low, calls_off, plain_low}
 use Rattle.wq_checked.proofs.Readiness.{ready_carried, ready_sets}
@@ -51,3 +55,13 @@ pub raised_ready : (ks : KeptBits) (old mid new : Known) (who mask found met : �
 raised_ready ks old mid new who mask found met fatal sent still woke carries r =
     item_ready ks mid new (item.Made (step.Wake who mask met)) tt woke carries
     (item_ready ks old mid (item.Made (step.Signal who fatal found)) tt sent still r)
+
+-- what it tells, by whether its thread is to be roused
+pub raised_as : (old new : Known) (who : ℕ) (fatal : Bool) (ks : KeptBits) (b : Bool) (o : Option ℕ) → o ≡ who_if who b
+    → Woke old new who fatal b → Does (call.Signal who fatal) old new ks (told.Raised o)
+raised_as old new who fatal ks b o is w =
+    subst (λ (x : Option ℕ). Does (call.Signal who fatal) old new ks (told.Raised x)) (sym is) (by b w)
+  where
+    by : (b : Bool) → Woke old new who fatal b → Does (call.Signal who fatal) old new ks (told.Raised (who_if who b))
+    by true w = (refl, w)
+    by false w = w

@@ -1,6 +1,6 @@
 -- Calls of one hold that begin.
 use Rattle.std.proofs.Common.{◌∙◌, sym, refl, subst}
-use Rattle.std.specs.Prelude.{ℕ, ◌≡◌, ◌<◌, Bool}
+use Rattle.std.specs.Prelude.{ℕ, ◌≡◌, ◌<◌, Bool, true}
 use Rattle.wait_model.specs.declared.layout.TheConstants.{COMPLETIONS}
 use Rattle.wait_model.specs.declared.steps.Step.TheVariants as step
 use Rattle.wait_model.specs.declared.watches.Mode.TheVariants as mode
@@ -77,8 +77,8 @@ set_swaking ks old mid cond value found r is p = record {
 
 module _ (ks : KeptBits) (k : Known) (r : SwakeRun) (cond : ℕ) (all : Bool) (w : Swaking ks k cond)
     (fresh : swakes.IsFresh r cond all) (simple : IsSimpleCond cond) where
-  pub swake_came : CameFrom k (running.Swake r swake_stage.First) k (running.Swake r swake_stage.First)
-  swake_came = record {
+  pub swake_came : (may : Bool) → CameFrom may k (running.Swake r swake_stage.First) k (running.Swake r swake_stage.First)
+  swake_came may = record {
     at = record { up = w.up; idle = w.idle; simple = subst IsSimpleCond (sym fresh.cond) simple; stands = refl };
     cond = refl;
     all = refl;
@@ -86,4 +86,4 @@ module _ (ks : KeptBits) (k : Known) (r : SwakeRun) (cond : ℕ) (all : Bool) (w
 
   pub swake_sound : IsUnderWay ks k (running.Swake r swake_stage.First)
   swake_sound = under ks k (running.Swake r swake_stage.First) (subst (IsSwaking ks k) (sym fresh.cond) w.may) tt
-      swake_came
+      (swake_came true)

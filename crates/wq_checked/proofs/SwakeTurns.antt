@@ -1,6 +1,6 @@
 -- A stretch of a wake of a simple queue: it has come on from where it began, or it is over, and its task ready.
 use Rattle.std.proofs.Common.{◌∙◌, refl, subst}
-use Rattle.std.specs.Prelude.{ℕ, ◌≡◌, ◌<◌, Bool}
+use Rattle.std.specs.Prelude.{ℕ, ◌≡◌, ◌<◌, Bool, true}
 use Rattle.wait_model.specs.declared.calls.Call.TheVariants as calls
 use Rattle.wait_model.specs.declared.layout.TheConstants.{PLAIN_CONDITIONS}
 use Rattle.wait_rule.specs.Known.{Known}
@@ -19,14 +19,14 @@ use Rattle.wq_checked.specs.declared.kept_bits.KeptBits.{KeptBits}
 use Rattle.wq_checked.proofs.Elsewhere.{calls_off, plain_low}
 
 -- where it stands, by where it began
-at_from : (start : Known) (first : Running) (k : Known) (run : SwakeRun) (s : SwakeStage)
-    → CameFrom start first k (running.Swake run s) → IsAt start k run s
-at_from start (running.Swake f from) k run s came = came.at
-at_from start first k run s came = absurd came
+at_from : (may : Bool) (start : Known) (first : Running) (k : Known) (run : SwakeRun) (s : SwakeStage)
+    → CameFrom may start first k (running.Swake run s) → IsAt start k run s
+at_from may start (running.Swake f from) k run s came = came.at
+at_from may start first k run s came = absurd came
 
 pub swake_at : (ks : KeptBits) (k : Known) (run : SwakeRun) (s : SwakeStage) → IsSound (running.Swake run s) ks k
     → (start : Known) × IsAt start k run s
-swake_at ks k run s u = (u.start, at_from u.start u.first k run s u.came)
+swake_at ks k run s u = (u.start, at_from true u.start u.first k run s u.came)
 
 -- a stretch from where it has come to
 module _ (start old new : Known) (f run q : SwakeRun) (s : SwakeStage) (came : SwakeCame start old f run s) where
@@ -40,11 +40,11 @@ module _ (start old new : Known) (f run q : SwakeRun) (s : SwakeStage) (came : S
   come_on : HasTurned start new run q turn.Locked → SwakeCame start new f q stage.Turn
   come_on h = record { at = h.turns; cond = h.fresh.cond ∙ came.cond; all = h.fresh.all_is ∙ came.all }
 
-  tells : (from : SwakeStage) (t : SwakeTurn) → HasTurned start new run q t
-      → WentOn start (running.Swake f from) new (swake_left q t) (swake_shown q t)
-  tells from turn.Locked h = (come_on h, refl)
-  tells from (turn.Done n) h = (refl, over_as n h)
-  tells from (turn.Starved n) h = refl
+  tells : (may : Bool) (from : SwakeStage) (t : SwakeTurn) → HasTurned start new run q t
+      → WentOn may start (running.Swake f from) new (swake_left q t) (swake_shown q t)
+  tells may from turn.Locked h = (come_on h, refl)
+  tells may from (turn.Done n) h = (refl, over_as n h)
+  tells may from (turn.Starved n) h = refl
 
   module _ (ks : KeptBits) (b : IsSwaking ks start f.cond) where
     over_ready : (n : ℕ) → IsOver start new f.cond f.all n → IsReady ks new
@@ -70,16 +70,16 @@ module _ (start old new : Known) (f run q : SwakeRun) (s : SwakeStage) (came : S
     left_sound from (turn.Done n) h = over_ready n (over_as n h)
     left_sound from (turn.Starved n) h = tt
 
-pub swake_goes : (start : Known) (first : Running) (old new : Known) (run q : SwakeRun) (s : SwakeStage)
-    (t : SwakeTurn) → CameFrom start first old (running.Swake run s)
+pub swake_goes : (may now : Bool) (start : Known) (first : Running) (old new : Known) (run q : SwakeRun) (s : SwakeStage)
+    (t : SwakeTurn) → CameFrom may start first old (running.Swake run s)
     → ((start : Known) → IsAt start old run s → HasTurned start new run q t)
-    → WentOn start first new (swake_left q t) (swake_shown q t)
-swake_goes start (running.Swake f from) old new run q s t came turned = tells start old new f run q s came from t
+    → WentOn now start first new (swake_left q t) (swake_shown q t)
+swake_goes may now start (running.Swake f from) old new run q s t came turned = tells start old new f run q s came now from t
     (turned start came.at)
-swake_goes start first old new run q s t came turned = absurd came
+swake_goes may now start first old new run q s t came turned = absurd came
 
 sound_from : (ks : KeptBits) (start : Known) (first : Running) (old new : Known) (run q : SwakeRun) (s : SwakeStage)
-    (t : SwakeTurn) → Began ks start first → CameFrom start first old (running.Swake run s)
+    (t : SwakeTurn) → Began ks start first → CameFrom true start first old (running.Swake run s)
     → ((start : Known) → IsAt start old run s → HasTurned start new run q t) → IsSound (swake_left q t) ks new
 sound_from ks start (running.Swake f from) old new run q s t began came turned =
     left_sound start old new f run q s came ks began from t (turned start came.at)

@@ -38,36 +38,36 @@ use Rattle.wq_checked.specs.declared.calls.Running.TheVariants as running
 use Rattle.wq_checked.specs.declared.kept_bits.KeptBits.{KeptBits}
 
 -- where it stands, by where it began
-at_from : (ks : KeptBits) (start : Known) (first : Running) (k : Known) (run : WakeRun) (s : WakeStage)
-    → CameFrom start first k (running.Wake run s) → IsAt start k run s
-at_from ks start (running.Wake f from) k run s came = came.0
-at_from ks start first k run s came = absurd came
+at_from : (ks : KeptBits) (may : Bool) (start : Known) (first : Running) (k : Known) (run : WakeRun) (s : WakeStage)
+    → CameFrom may start first k (running.Wake run s) → IsAt start k run s
+at_from ks may start (running.Wake f from) k run s came = came.0
+at_from ks may start first k run s came = absurd came
 
 pub wake_at : (ks : KeptBits) (k : Known) (run : WakeRun) (s : WakeStage) → IsSound (running.Wake run s) ks k
     → (start : Known) × IsAt start k run s
-wake_at ks k run s u = (u.start, at_from ks u.start u.first k run s u.came)
+wake_at ks k run s u = (u.start, at_from ks true u.start u.first k run s u.came)
 
 -- what a turn tells
-tells : (start new : Known) (f : WakeRun) (from : WakeStage) (run q : WakeRun) (t : WakeTurn) → run.aim ≡ f.aim
-    → HasTurned start new run q t → WentOn start (running.Wake f from) new (wake_left q t) (wake_shown q t)
-tells start new f from run q (turn.Locked stage.First) is h = ((h.turns, h.aim ∙ is), tt)
-tells start new f from run q (turn.Locked stage.FirstTurn) is h = ((h.turns, h.aim ∙ is), refl)
-tells start new f from run q (turn.Locked stage.Next) is h = ((h.turns, h.aim ∙ is), tt)
-tells start new f from run q (turn.Locked stage.NextTurn) is h = ((h.turns, h.aim ∙ is), refl)
-tells start new f from run q turn.Broken is h = ((h.turns, h.aim ∙ is), tt)
-tells start new f from run q (turn.Done w) is h = (
+tells : (may : Bool) (start new : Known) (f : WakeRun) (from : WakeStage) (run q : WakeRun) (t : WakeTurn) → run.aim ≡ f.aim
+    → HasTurned start new run q t → WentOn may start (running.Wake f from) new (wake_left q t) (wake_shown q t)
+tells may start new f from run q (turn.Locked stage.First) is h = ((h.turns, h.aim ∙ is), tt)
+tells may start new f from run q (turn.Locked stage.FirstTurn) is h = ((h.turns, h.aim ∙ is), refl)
+tells may start new f from run q (turn.Locked stage.Next) is h = ((h.turns, h.aim ∙ is), tt)
+tells may start new f from run q (turn.Locked stage.NextTurn) is h = ((h.turns, h.aim ∙ is), refl)
+tells may start new f from run q turn.Broken is h = ((h.turns, h.aim ∙ is), tt)
+tells may start new f from run q (turn.Done w) is h = (
   refl,
   subst (λ (a : Aim). IsOver a start new w) (h.aim ∙ is) h.turns,
 )
-tells start new f from run q (turn.Starved n) is h = refl
+tells may start new f from run q (turn.Starved n) is h = refl
 
-pub wake_goes : (start : Known) (first : Running) (old new : Known) (run q : WakeRun) (s : WakeStage) (t : WakeTurn)
-    → CameFrom start first old (running.Wake run s)
+pub wake_goes : (may now : Bool) (start : Known) (first : Running) (old new : Known) (run q : WakeRun) (s : WakeStage) (t : WakeTurn)
+    → CameFrom may start first old (running.Wake run s)
     → ((start : Known) → IsAt start old run s → HasTurned start new run q t)
-    → WentOn start first new (wake_left q t) (wake_shown q t)
-wake_goes start (running.Wake f from) old new run q s t came turned = tells start new f from run q t came.1
+    → WentOn now start first new (wake_left q t) (wake_shown q t)
+wake_goes may now start (running.Wake f from) old new run q s t came turned = tells now start new f from run q t came.1
     (turned start came.0)
-wake_goes start first old new run q s t came turned = absurd came
+wake_goes may now start first old new run q s t came turned = absurd came
 
 -- what is kept of the task then
 over_ready : (ks : KeptBits) (start new : Known) (f : WakeRun) (w : Walked) → IsWaking ks start f
@@ -102,7 +102,7 @@ left_sound ks start new f from run q (turn.Done w) b is h = over_ready ks start 
 left_sound ks start new f from run q (turn.Starved n) b is h = tt
 
 sound_from : (ks : KeptBits) (start : Known) (first : Running) (old new : Known) (run q : WakeRun) (s : WakeStage)
-    (t : WakeTurn) → Began ks start first → CameFrom start first old (running.Wake run s)
+    (t : WakeTurn) → Began ks start first → CameFrom true start first old (running.Wake run s)
     → ((start : Known) → IsAt start old run s → HasTurned start new run q t) → IsSound (wake_left q t) ks new
 sound_from ks start (running.Wake f from) old new run q s t began came turned = left_sound ks start new f from run q t
     began came.1 (turned start came.0)
@@ -127,7 +127,7 @@ module _ (ks : KeptBits) (k : Known) (aim : Aim) (now : Running) (m : Waking ks 
   pub first_begins : (c : Call) → WakesAs c aim → HasJustBegun c k now
   first_begins c is_first = record {
     first = subst (BeginsAs c) (sym w.is) (is_first w.run w.aim_is);
-    came = subst (λ (r : Running). CameFrom k r k r) (sym w.is) (first_at, refl);
+    came = subst (λ (r : Running). CameFrom false k r k r) (sym w.is) (first_at, refl);
   }
 
   pub first_sound : IsSound now ks k

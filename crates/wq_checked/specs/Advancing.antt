@@ -11,15 +11,16 @@ use Rattle.wait_rule.specs.Says.{IsUp, Owes, told_of}
 use Rattle.wait_rule.specs.Stays.{with_wakes}
 use Rattle.wq_head.specs.Walks.{IsFull}
 use Rattle.bit_wait.specs.BitTables.{is_worn}
-use Rattle.bit_wait.specs.BitEnds as bit_ends
-use Rattle.bit_wait.specs.LockEnds as lock_ends
-use Rattle.page_lock.specs.PageEnds as page_ends
+use Rattle.bit_wait.specs.BitLeaves.{bit_until_in}
+use Rattle.bit_wait.specs.LockLeaves.{until_in}
+use Rattle.page_lock.specs.PageLeaves.{page_until}
 use Rattle.wait_class.specs.declared.stages.Turn.TheVariants as turn
 use Rattle.bit_wait.specs.declared.lock_runs.LockOutcome.{LockOutcome}
 use Rattle.bit_wait.specs.declared.lock_runs.LockOutcome.TheVariants as lock_outcome
 use Rattle.page_lock.specs.declared.waits.PageOutcome.{PageOutcome}
 use Rattle.page_lock.specs.declared.waits.PageOutcome.TheVariants as page_outcome
-use Rattle.completion_cell.specs.AwaitEnds as await_ends
+use Rattle.completion_cell.specs.AwaitLeaves.{await_until}
+use Rattle.wait_event.specs.WaitLeaves.{wait_until_in}
 use Rattle.completion_cell.specs.Awaits.{AwaitTurn}
 use Rattle.completion_cell.specs.declared.cell_turns.CellRun.{CellRun}
 use Rattle.completion_cell.specs.declared.cell_turns.CellStage.TheVariants as cell_stage
@@ -37,7 +38,7 @@ use Rattle.wq_checked.specs.Begins.{BeginsAs}
 use Rattle.wq_checked.specs.Kept.{but_kept, keeps_in}
 use Rattle.wq_checked.specs.declared.calls.Call.{Call}
 use Rattle.wq_checked.specs.declared.kept_bits.KeptBits.{KeptBits}
-use Rattle.wq_checked.specs.Calls.{event_answer, turn_told}
+use Rattle.wq_checked.specs.Calls.{await_answer, bit_answer, event_answer, turn_told}
 use Rattle.wq_checked.specs.Locks.{refusal_told}
 use Rattle.wq_checked.specs.Stages.{AwaitRun, BitRun, BitTurn, LockRun, LockTurn, PageRun, PageTurn, WaitRun, WaitTurn}
 use Rattle.wq_checked.specs.declared.calls.Answer.TheVariants as answer
@@ -51,7 +52,7 @@ event_left r (turn.Done o) = running.Idle
 event_left r t = running.Event r t
 
 abbrev pub event_shown : WaitRun → WaitTurn → Progress
-event_shown r (turn.Done o) = progress.Done (event_answer r.of o)
+event_shown r (turn.Done o) = progress.Done (event_answer r.of.watch r.of.seen (wait_until_in r.of o))
 event_shown r t = turn_told (running.Event r t) t
 
 abbrev pub bit_left : BitRun → BitTurn → Running
@@ -59,7 +60,7 @@ bit_left r (turn.Done o) = running.Idle
 bit_left r t = running.Bit r t
 
 abbrev pub bit_shown : BitRun → BitTurn → Progress
-bit_shown r (turn.Done o) = progress.Done (answer.Bit (bit_ends.end_in r.of.wait o))
+bit_shown r (turn.Done o) = progress.Done (bit_answer (bit_until_in r.of.wait o))
 bit_shown r t = turn_told (running.Bit r t) t
 
 abbrev pub lock_left : LockRun → LockTurn → Running
@@ -67,7 +68,7 @@ lock_left r (turn.Done o) = running.Idle
 lock_left r t = running.Lock r t
 
 abbrev pub lock_shown : LockRun → LockTurn → Progress
-lock_shown r (turn.Done o) = progress.Done (answer.Bit (lock_ends.end_in r.of.wait o))
+lock_shown r (turn.Done o) = progress.Done (bit_answer (until_in r.of.wait o))
 lock_shown r t = turn_told (running.Lock r t) t
 
 abbrev pub page_left : PageRun → PageTurn → Running
@@ -75,7 +76,7 @@ page_left r (turn.Done o) = running.Idle
 page_left r t = running.Page r t
 
 abbrev pub page_shown : PageRun → PageTurn → Progress
-page_shown r (turn.Done o) = progress.Done (answer.Bit (page_ends.end_in r.of o))
+page_shown r (turn.Done o) = progress.Done (bit_answer (page_until r.of o))
 page_shown r t = turn_told (running.Page r t) t
 
 abbrev pub wake_left : WakeRun → WakeTurn → Running
@@ -95,7 +96,7 @@ await_left r (turn.Done o) = running.Idle
 await_left r t = running.Await r t
 
 abbrev pub await_shown : AwaitRun → AwaitTurn → Progress
-await_shown r (turn.Done o) = progress.Done (answer.Waited (await_ends.end_in r.of o))
+await_shown r (turn.Done o) = progress.Done (await_answer (await_until r.of o))
 await_shown r t = turn_told (running.Await r t) t
 
 abbrev pub swake_left : SwakeRun → SwakeTurn → Running

@@ -41,7 +41,7 @@ use Rattle.wq_checked.specs.Calls.{CameFrom}
 use Rattle.wq_checked.specs.Checked.{Checked}
 use Rattle.wq_checked.specs.Kept.{keeps_in}
 use Rattle.wq_checked.specs.Reasons.{busy_reason}
-use Rattle.wq_checked.specs.Signals.{Sends, Woke}
+use Rattle.wq_checked.specs.Signals.{HasKicked, Sends, Woke}
 use Rattle.wq_checked.specs.declared.calls.Answer.{Answer}
 use Rattle.wq_checked.specs.declared.calls.Answer.TheVariants as answer
 use Rattle.wq_checked.specs.declared.calls.Call.{Call}
@@ -79,6 +79,7 @@ modelled (call.TryBit w b) = model.TryBit w b
 modelled (call.AddTally p n) = model.ClearBit p 0
 modelled (call.Take c) = model.Take c
 modelled (call.Signal who fatal) = model.Signal who fatal
+modelled (call.Kick who) = model.Kick who
 modelled call.Accept = model.Accept
 
 -- a variable is published from `CLAIMS` on: those below belong to pipes
@@ -151,7 +152,7 @@ BeginsAs _ _ = ⊥
 -- A call is under way that has just begun with this task.
 pub record HasJustBegun (c : Call) (k : Known) (now : Running) : Type 0 where
   pub first : BeginsAs c now
-  pub came : CameFrom k now k now
+  pub came : CameFrom false k now k now
 
 -- A watch was published with this value.
 pub record WasPublished (w : Watch) (value : ℕ) (old new : Known) : Type 0 where
@@ -183,14 +184,16 @@ Does (call.AddTally p n) old new ks (answer.Value v) = (new ≡ added old (item.
 Does (call.Take c) old new ks (answer.Value v) = HasTaken old new c v
 Does (call.Signal who fatal) old new ks (answer.Raised None) = Woke old new who fatal false
 Does (call.Signal who fatal) old new ks (answer.Raised (Some w)) = (w ≡ who) × Woke old new who fatal true
+Does (call.Kick who) old new ks (answer.Kicked woke rouse) = HasKicked old new who woke rouse
 Does call.Accept old new ks (answer.Accepted t) =
     AddsOf old new (λ found. step.Accept found) (λ found. t ≡ taken_of (task_of found))
 Does _ old new ks a = ⊥
 
--- It is over; or a signal was raised, and its wake was starved.
+-- It is over; or its wake was starved, behind the signal that was raised, where it is one.
 abbrev pub IsDone : Call → Known → Known → KeptBits → Progress → Running → Type 0
 IsDone c old new ks (progress.Done a) now = Does c old new ks a × (now ≡ running.Idle)
 IsDone (call.Signal who fatal) old new ks progress.Starved now = Sends old new who fatal × (now ≡ running.Starved)
+IsDone (call.Kick who) old new ks progress.Starved now = (new ≡ old) × (now ≡ running.Starved)
 IsDone _ old new ks told now = ⊥
 
 -- What a call begins: it publishes first, or is over at once, or the task is as it was, and the call is under way.
@@ -205,6 +208,7 @@ Begins (call.TryBit w b) old new ks told now = IsDone (call.TryBit w b) old new 
 Begins (call.AddTally p n) old new ks told now = IsDone (call.AddTally p n) old new ks told now
 Begins (call.Take c) old new ks told now = IsDone (call.Take c) old new ks told now
 Begins (call.Signal who fatal) old new ks told now = IsDone (call.Signal who fatal) old new ks told now
+Begins (call.Kick who) old new ks told now = IsDone (call.Kick who) old new ks told now
 Begins call.Accept old new ks told now = IsDone call.Accept old new ks told now
 Begins c old new ks told now = (told ≡ progress.Again) × (new ≡ old) × HasJustBegun c new now
 
@@ -221,5 +225,6 @@ is_short (call.TryBit w b) = true
 is_short (call.AddTally p n) = true
 is_short (call.Take c) = true
 is_short (call.Signal who fatal) = true
+is_short (call.Kick who) = true
 is_short call.Accept = true
 is_short _ = false

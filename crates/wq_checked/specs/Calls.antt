@@ -15,32 +15,30 @@ use Rattle.wait_rule.specs.declared.journal.Item.TheVariants as item
 use Rattle.wait_rule.specs.Says.{Owes, added, told_of}
 use Rattle.wait_rule.specs.Stays.{with_wakes}
 use Rattle.wait_event.specs.Waits as events
-use Rattle.wait_event.specs.Ends as event_ends
+use Rattle.wait_event.specs.WaitLeaves as event_leaves
 use Rattle.wait_event.specs.declared.wait_events.WaitEnd.{WaitEnd}
 use Rattle.wait_event.specs.declared.waits.WaitCall.{WaitCall}
 use Rattle.wait_event.specs.declared.waits.WaitStage.TheVariants as event_stage
-use Rattle.wait_event.specs.declared.waits.WaitOutcome.{WaitOutcome}
+use Rattle.wait_event.specs.declared.wait_leaves.WaitUntil.{WaitUntil}
+use Rattle.wait_event.specs.declared.wait_leaves.WaitUntil.TheVariants as wait_until
 use Rattle.var_wait.specs.VarWaits.{with_loaded}
-use Rattle.wait_class.specs.Tables.{Advances}
-use Rattle.wait_class.specs.Wholes.{HasRested}
 use Rattle.wait_class.specs.declared.stages.Turn.{Turn}
 use Rattle.wait_class.specs.declared.stages.Turn.TheVariants as turn
 use Rattle.bit_wait.specs.BitTables as bits
-use Rattle.bit_wait.specs.BitEnds as bit_ends
-use Rattle.bit_wait.specs.declared.waits.BitOutcome.{BitOutcome}
+use Rattle.bit_wait.specs.BitLeaves as bit_leaves
 use Rattle.bit_wait.specs.LockTables as locks
-use Rattle.bit_wait.specs.LockEnds as lock_ends
-use Rattle.bit_wait.specs.declared.lock_runs.LockOutcome.{LockOutcome}
+use Rattle.bit_wait.specs.LockLeaves as lock_leaves
+use Rattle.bit_wait.specs.declared.wait_calls.BitEnd.{BitEnd}
 use Rattle.page_lock.specs.PageTables as pages
-use Rattle.page_lock.specs.PageEnds as page_ends
+use Rattle.page_lock.specs.PageLeaves as page_leaves
 use Rattle.page_lock.specs.declared.waits.PageStage.TheVariants as page_stage
-use Rattle.page_lock.specs.declared.waits.PageOutcome.{PageOutcome}
+use Rattle.wait_leave.specs.declared.exits.Until.{Until}
+use Rattle.wait_leave.specs.declared.exits.Until.TheVariants as until
 use Rattle.completion_cell.specs.Awaits as awaits
 use Rattle.completion_cell.specs.Awaits.{AwaitTurn}
-use Rattle.completion_cell.specs.AwaitEnds as await_ends
+use Rattle.completion_cell.specs.AwaitLeaves as await_leaves
 use Rattle.completion_cell.specs.CellTurns as cells
 use Rattle.completion_cell.specs.declared.awaits.AwaitStage.TheVariants as await_stage
-use Rattle.completion_cell.specs.declared.awaits.AwaitOutcome.{AwaitOutcome}
 use Rattle.completion_cell.specs.declared.cell_turns.CellCall.{CellCall}
 use Rattle.completion_cell.specs.declared.cell_turns.CellRun.{CellRun}
 use Rattle.completion_cell.specs.declared.cell_turns.CellStage.{CellStage}
@@ -61,10 +59,12 @@ use Rattle.wq_checked.specs.Locks.{awaited_in, refusal_told}
 use Rattle.wq_checked.specs.Stages.{
   AwaitRun,
   BitRun,
+  HasCome,
   LockRun,
   PageRun,
   StandsBy,
   WaitRun,
+  WaitTurn,
   bit_first,
   lock_first,
 }
@@ -76,9 +76,18 @@ use Rattle.wq_checked.specs.declared.calls.Running.{Running}
 use Rattle.wq_checked.specs.declared.calls.Running.TheVariants as running
 use Rattle.wq_checked.specs.declared.kept_bits.KeptBits.{KeptBits}
 
+-- A wait that has not begun.
+abbrev pub IsFreshEvent : WaitCall → Type 0
+IsFreshEvent r = (w : Watch) × (how : How) × events.IsFresh r w how
+
+-- One for a plain condition or a variable has come to here.
+pub record EventCame (may : Bool) (start k : Known) (first run : WaitRun) (last : WaitTurn) : Type 0 where
+  pub came : HasCome may events.wait_table event_leaves.wait_exits start k first run event_stage.First last
+  pub fresh : IsFreshEvent first.of
+
 -- A wait for a completion has come to here, and began with no head held.
-pub record AwaitCame (start k : Known) (first run : AwaitRun) (last : AwaitTurn) : Type 0 where
-  pub went : Advances awaits.await_table start k first run await_stage.First last
+pub record AwaitCame (may : Bool) (start k : Known) (first run : AwaitRun) (last : AwaitTurn) : Type 0 where
+  pub came : HasCome may awaits.await_table await_leaves.await_exits start k first run await_stage.First last
   pub held : (told_of start).hold.head ≡ None
 
 -- the same call about a completion, and the same wake of a simple queue
@@ -93,76 +102,86 @@ pub record SwakeCame (start k : Known) (first run : SwakeRun) (s : SwakeStage) :
   pub all : run.all ≡ first.all
 
 -- A call that began with a task as `start`, and as `first`, has come to here: by turns of its kind from its first stage
--- on, with the same numbers.
-abbrev pub CameFrom : Known → Running → Known → Running → Type 0
-CameFrom start (running.Event first from) k (running.Event run last) =
-    Advances events.wait_table start k first run event_stage.First last
-CameFrom start (running.Bit first from) k (running.Bit run last) =
-    Advances bits.bit_table start k first run bit_first last
-CameFrom start (running.Lock first from) k (running.Lock run last) =
-    Advances locks.lock_table start k first run lock_first last
-CameFrom start (running.Page first from) k (running.Page run last) =
-    Advances pages.page_table start k first run page_stage.First last
-CameFrom start (running.Await first from) k (running.Await run last) = AwaitCame start k first run last
-CameFrom start (running.Wake first from) k (running.Wake run last) = wakes.IsAt start k run last × (run.aim ≡ first.aim)
-CameFrom start (running.Swake first from) k (running.Swake run last) = SwakeCame start k first run last
-CameFrom start (running.Cell first from) k (running.Cell run last) = CellCame start k first run last
-CameFrom _ _ _ _ = ⊥
+-- on, with the same numbers. A wait may have been asked to leave on its way, where that is said.
+abbrev pub CameFrom : Bool → Known → Running → Known → Running → Type 0
+CameFrom may start (running.Event first from) k (running.Event run last) =
+    EventCame may start k first run last
+CameFrom may start (running.Bit first from) k (running.Bit run last) =
+    HasCome may bits.bit_table bit_leaves.bit_exits start k first run bit_first last
+CameFrom may start (running.Lock first from) k (running.Lock run last) =
+    HasCome may locks.lock_table lock_leaves.lock_exits start k first run lock_first last
+CameFrom may start (running.Page first from) k (running.Page run last) =
+    HasCome may pages.page_table page_leaves.page_exits start k first run page_stage.First last
+CameFrom may start (running.Await first from) k (running.Await run last) = AwaitCame may start k first run last
+CameFrom may start (running.Wake first from) k (running.Wake run last) =
+    wakes.IsAt start k run last × (run.aim ≡ first.aim)
+CameFrom may start (running.Swake first from) k (running.Swake run last) = SwakeCame start k first run last
+CameFrom may start (running.Cell first from) k (running.Cell run last) = CellCame start k first run last
+CameFrom _ _ _ _ _ = ⊥
 
--- the answer of a wait for a plain condition, or for a variable
+-- the answer of a wait for a plain condition, or for a variable, which may have been left
 abbrev pub waited : Watch → ℕ → Result (Unit {0}) WaitEnd → Answer
 waited (watch.Var v old) seen r = answer.Changed (with_loaded seen r)
 waited _ seen r = answer.Waited r
 
-abbrev pub event_answer : WaitCall → WaitOutcome → Answer
-event_answer q o = waited q.watch q.seen (event_ends.end_in q o)
+abbrev pub event_answer : Watch → ℕ → WaitUntil (Result (Unit {0}) WaitEnd) → Answer
+event_answer w loaded (wait_until.Over r) = waited w loaded r
+event_answer w loaded (wait_until.Left seen selected) = answer.Left seen selected
 
--- how each kind of call ended, with its answer: by such a turn, after which a wait for a bit may have stored RUNNING
-pub record EventEnded (start new : Known) (first : WaitRun) (a : Answer) : Type 0 where
-  pub run : WaitRun
-  pub outcome : WaitOutcome
-  pub went : Advances events.wait_table start new first run event_stage.First (turn.Done outcome)
-  pub answers : a ≡ event_answer run.of outcome
+-- of one for a bit, or to take a bit or a page, and of one for a completion
+abbrev pub bit_answer : Until (Result (Unit {0}) BitEnd) → Answer
+bit_answer (until.Over r) = answer.Bit r
+bit_answer (until.Left seen) = answer.Left seen false
 
-pub record BitEnded (start new : Known) (first : BitRun) (a : Answer) : Type 0 where
-  pub run : BitRun
-  pub outcome : BitOutcome
-  pub last : Known
-  pub went : Advances bits.bit_table start last first run bit_first (turn.Done outcome)
-  pub rested : HasRested last new (bits.is_worn outcome)
-  pub answers : a ≡ answer.Bit (bit_ends.end_in run.of.wait outcome)
+abbrev pub await_answer : Until (Result (Unit {0}) WaitEnd) → Answer
+await_answer (until.Over r) = answer.Waited r
+await_answer (until.Left seen) = answer.Left seen false
 
-pub record LockEnded (start new : Known) (first : LockRun) (a : Answer) : Type 0 where
-  pub run : LockRun
-  pub outcome : LockOutcome
-  pub last : Known
-  pub went : Advances locks.lock_table start last first run lock_first (turn.Done outcome)
-  pub rested : HasRested last new run.of.wait.worn
-  pub answers : a ≡ answer.Bit (lock_ends.end_in run.of.wait outcome)
+-- How each kind of call ended, with its answer, which has its cause. A wait was left only where it may have been asked to
+-- leave. That of a bit may have stored RUNNING at last.
+pub record EventEnded (may : Bool) (start new : Known) (first : WaitRun) (a : Answer) : Type 0 where
+  pub watch : Watch
+  pub how : How
+  pub fresh : events.IsFresh first.of watch how
+  pub result : WaitUntil (Result (Unit {0}) WaitEnd)
+  pub ended : event_leaves.EndsWaitUntil (may ≡ true) start new watch how result
+  pub answers : a ≡ event_answer watch ended.leaves.at.of.seen result
 
-pub record PageEnded (start new : Known) (first : PageRun) (a : Answer) : Type 0 where
-  pub run : PageRun
-  pub outcome : PageOutcome
-  pub went : Advances pages.page_table start new first run page_stage.First (turn.Done outcome)
-  pub answers : a ≡ answer.Bit (page_ends.end_in run.of outcome)
+pub record BitEnded (may : Bool) (start new : Known) (first : BitRun) (a : Answer) : Type 0 where
+  pub result : Until (Result (Unit {0}) BitEnd)
+  pub leaves : bit_leaves.LeavesBitWait (may ≡ true) start new first bit_first result
+  pub asked : lock_leaves.IsAskedFor (may ≡ true) result
+  pub answers : a ≡ bit_answer result
 
-pub record AwaitEnded (start new : Known) (first : AwaitRun) (a : Answer) : Type 0 where
-  pub run : AwaitRun
-  pub outcome : AwaitOutcome
-  pub went : Advances awaits.await_table start new first run await_stage.First (turn.Done outcome)
+pub record LockEnded (may : Bool) (start new : Known) (first : LockRun) (a : Answer) : Type 0 where
+  pub result : Until (Result (Unit {0}) BitEnd)
+  pub leaves : lock_leaves.LeavesBitLock (may ≡ true) start new first lock_first result
+  pub asked : lock_leaves.IsAskedFor (may ≡ true) result
+  pub answers : a ≡ bit_answer result
+
+pub record PageEnded (may : Bool) (start new : Known) (first : PageRun) (a : Answer) : Type 0 where
+  pub result : Until (Result (Unit {0}) BitEnd)
+  pub leaves : page_leaves.LeavesPage (may ≡ true) start new first page_stage.First result
+  pub asked : page_leaves.IsLeftFor (may ≡ true) result
+  pub answers : a ≡ bit_answer result
+
+pub record AwaitEnded (may : Bool) (start new : Known) (first : AwaitRun) (a : Answer) : Type 0 where
+  pub result : Until (Result (Unit {0}) WaitEnd)
+  pub leaves : await_leaves.LeavesAwait (may ≡ true) start new first await_stage.First result
+  pub asked : await_leaves.IsAwaitLeftFor (may ≡ true) result
   pub off : StaysOff start new
-  pub answers : a ≡ answer.Waited (await_ends.end_in run.of outcome)
+  pub answers : a ≡ await_answer result
 
-abbrev pub Ended : Known → Running → Known → Answer → Type 0
-Ended start (running.Event first from) new a = EventEnded start new first a
-Ended start (running.Bit first from) new a = BitEnded start new first a
-Ended start (running.Lock first from) new a = LockEnded start new first a
-Ended start (running.Page first from) new a = PageEnded start new first a
-Ended start (running.Await first from) new a = AwaitEnded start new first a
-Ended start (running.Wake first from) new (answer.Walked w) = wakes.IsOver first.aim start new w
-Ended start (running.Swake first from) new (answer.Selected n) = swakes.IsOver start new first.cond first.all n
-Ended start (running.Cell first from) new (answer.Cell hit) = cells.IsOver first.call first.cell hit start new
-Ended _ _ _ _ = ⊥
+abbrev pub Ended : Bool → Known → Running → Known → Answer → Type 0
+Ended may start (running.Event first from) new a = EventEnded may start new first a
+Ended may start (running.Bit first from) new a = BitEnded may start new first a
+Ended may start (running.Lock first from) new a = LockEnded may start new first a
+Ended may start (running.Page first from) new a = PageEnded may start new first a
+Ended may start (running.Await first from) new a = AwaitEnded may start new first a
+Ended may start (running.Wake first from) new (answer.Walked w) = wakes.IsOver first.aim start new w
+Ended may start (running.Swake first from) new (answer.Selected n) = swakes.IsOver start new first.cond first.all n
+Ended may start (running.Cell first from) new (answer.Cell hit) = cells.IsOver first.call first.cell hit start new
+Ended _ _ _ _ _ = ⊥
 
 -- what a stretch tells of a call that is not over
 abbrev pub turn_told : {S O : Type 0} → Running → Turn S O → Progress
@@ -186,14 +205,10 @@ Fits _ _ = ⊥
 
 -- An advance of the call: it is over, with this answer, and no call is under way; or a wake was starved; or it has come
 -- on, and tells how.
-abbrev pub WentOn : Known → Running → Known → Running → Progress → Type 0
-WentOn start first new now (progress.Done a) = (now ≡ running.Idle) × Ended start first new a
-WentOn start first new now progress.Starved = now ≡ running.Starved
-WentOn start first new now p = CameFrom start first new now × Fits now p
-
--- A wait that has not begun.
-abbrev pub IsFreshEvent : WaitCall → Type 0
-IsFreshEvent r = (w : Watch) × (how : How) × events.IsFresh r w how
+abbrev pub WentOn : Bool → Known → Running → Known → Running → Progress → Type 0
+WentOn may start first new now (progress.Done a) = (now ≡ running.Idle) × Ended may start first new a
+WentOn may start first new now progress.Starved = now ≡ running.Starved
+WentOn may start first new now p = CameFrom may start first new now × Fits now p
 
 -- What held when a call began: the task was ready; but for a wake, which may owe wakes of its watch, as a publish left
 -- it.
@@ -238,7 +253,7 @@ pub record IsUnderWay (ks : KeptBits) (k : Known) (r : Running) : Type 0 where
   pub start : Known
   pub first : Running
   pub began : Began ks start first
-  pub came : CameFrom start first k r
+  pub came : CameFrom true start first k r
   pub stands : StandsOn k r
 
 -- What is kept of the task is so: between two calls, and while one is under way.

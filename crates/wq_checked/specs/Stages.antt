@@ -1,5 +1,6 @@
 -- To be believed.
 -- Where a call stands between two of its stretches: it goes on there, or was put asleep and goes on there.
+use Rattle.std.specs.Prelude.{◌≡◌, Bool, true, false}
 use Rattle.wait_rule.specs.Known.{Known}
 use Rattle.wait_event.specs.declared.waits.WaitCall.{WaitCall}
 use Rattle.wait_event.specs.declared.waits.WaitOutcome.{WaitOutcome}
@@ -23,6 +24,8 @@ use Rattle.bit_wait.specs.declared.lock_runs.LockTest.TheVariants as lock_test
 use Rattle.page_lock.specs.declared.waits.LockPage.{LockPage}
 use Rattle.page_lock.specs.declared.waits.PageOutcome.{PageOutcome}
 use Rattle.page_lock.specs.declared.waits.PageStage.{PageStage}
+use Rattle.wait_leave.specs.Leaves.{Exits}
+use Rattle.wait_leave.specs.OnTheWay.{OnTheWay}
 
 -- the runs of waits, what a stretch of them did, and where those for bits begin
 abbrev pub WaitRun : Type 0
@@ -58,15 +61,25 @@ PageTurn = Turn PageStage PageOutcome
 abbrev pub AwaitRun : Type 0
 AwaitRun = Run AwaitCall
 
--- a wait of the ground, by what its last stretch did; and one stretch more
+-- a wait of the ground, by what its last stretch did
 abbrev pub StandsBy : {C S O : Type 0} → CallTable C S O → Known → Run C → Turn S O → Type 0
 StandsBy t k r (turn.Again s) = IsAt t k r s
 StandsBy t k r (turn.Asleep s) = IsAsleepAt t k r s
 StandsBy t k r (turn.Locked s) = IsAt t k r s
 StandsBy t k r (turn.Done o) = ⊥
 
-abbrev pub GoesFrom : {C S O : Type 0} → CallTable C S O → Known → Known → Run C → Run C → Turn S O → Turn S O → Type 0
-GoesFrom t old new r q (turn.Again s) u = Advances t old new r q s u
-GoesFrom t old new r q (turn.Asleep s) u = Advances t old new r q s u
-GoesFrom t old new r q (turn.Locked s) u = Advances t old new r q s u
-GoesFrom t old new r q (turn.Done o) u = ⊥
+-- One stretch more of a wait that its task may leave, and was asked to leave where `asks` says so; one that was put asleep
+-- was not.
+abbrev pub StretchesOn : {C S O : Type 0} → Bool → CallTable C S O → Exits C S O → Known → Known → Run C → Run C → Turn S O
+    → Turn S O → Type 0
+StretchesOn asks t x old new r q (turn.Again s) u = OnTheWay (asks ≡ true) t x old r s new q u
+StretchesOn asks t x old new r q (turn.Asleep s) u = Advances t old new r q s u
+StretchesOn asks t x old new r q (turn.Locked s) u = OnTheWay (asks ≡ true) t x old r s new q u
+StretchesOn asks t x old new r q (turn.Done o) u = ⊥
+
+-- A call that began unasked, at this stage, has come to here: it went straight by its program, or, where it `may` have
+-- been asked to leave, was on its way to stages at which it was, and went out there.
+pub record HasCome {C S O : Type 0} (may : Bool) (t : CallTable C S O) (x : Exits C S O) (start k : Known)
+    (first run : Run C) (s : S) (last : Turn S O) : Type 0 where
+  pub unasked : (t.plan_of first.of).asked ≡ false
+  pub way : OnTheWay (may ≡ true) t x start first s k run last

@@ -53,6 +53,7 @@ fn modelled(call: Call) -> Modelled
         Call::AddTally { page, .. } => Modelled::ClearBit { word: page, bit: 0 },
         Call::Take { cond } => Modelled::Take { cond },
         Call::Signal { who, fatal } => Modelled::Signal { who, fatal },
+        Call::Kick { who } => Modelled::Kick { who },
         Call::Accept => Modelled::Accept,
     }
 }

@@ -1,6 +1,6 @@
 //! An advance of each kind of call that is under way: one stretch, what it leaves under way, and what it tells.
 
-ghost use Rattle.std.specs.Prelude.{◌≡◌, ◌<◌, ◌||◌, [], true, None};
+ghost use Rattle.std.specs.Prelude.{◌≡◌, ◌<◌, ◌||◌, [], Bool, true, None};
 ghost use Rattle.wait_rule.specs.Known.{Known};
 ghost use Rattle.wait_rule.specs.PassedLocks.{PassesNone};
 ghost use Rattle.wait_rule.specs.Says.{IsUp};
@@ -10,7 +10,8 @@ ghost use Rattle.wait_model.specs.declared.watches.Watch.{Watch};
 ghost use Rattle.wait_model.specs.declared.watches.Watch.TheVariants as watch;
 ghost use Rattle.wait_rule.specs.Bits.{taken_bits};
 ghost use Rattle.wq_checked.specs.Kept.{keeps_in};
-ghost use Rattle.wq_checked.specs.Calls.{CameFrom, IsSound, Rouses, WentOn, event_answer};
+ghost use Rattle.wait_event.specs.WaitLeaves.{wait_until_in};
+ghost use Rattle.wq_checked.specs.Calls.{CameFrom, IsSound, Rouses, WentOn, bit_answer, event_answer, waited};
 ghost use Rattle.wq_checked.specs.Advancing.{event_left, event_shown, bit_left, bit_shown, lock_left, lock_shown};
 ghost use Rattle.wq_checked.specs.Advancing.{wake_left, wake_shown};
 ghost use Rattle.wq_checked.specs.Advancing.{page_left, page_shown, bit_worn, lock_worn, lock_took, page_took};
@@ -25,29 +26,58 @@ use crate::kept_bits::KeptBits;
 use crate::locks::refused;
 use crate::simple_wakes::swake_on;
 use crate::stretches::ground_turn;
+use bit_wait::BitEnd;
+use bit_wait::lock_leaves::until_of as lock_until;
 use bit_wait::lock_waits::{LockOutcome, LockRun, LockTurn};
+use bit_wait::wait_leaves::until_of as bit_until;
 use bit_wait::waits::{BitOutcome, BitRun, BitTurn};
-use bit_wait::{lock_calls, wait_calls};
-use page_lock::wait_calls as page_calls;
+use page_lock::leaves::until_of as page_until;
 use page_lock::waits::{PageOutcome, PageRun, PageTurn};
-use var_wait::end_of_var;
 use wait_class::runs::rest;
 use wait_class::stages::Turn;
-use wait_event::wait_events::end_of;
+use wait_event::wait_events::WaitEnd;
+use wait_event::wait_leaves::{WaitUntil, until_of};
 use wait_event::waits::{WaitCall, WaitOutcome, WaitRun, WaitTurn};
+use wait_leave::Until;
 use wait_model::watches::Watch;
 use wait_rule::queues::Passing;
 use wait_rule::{Domain, Task};
 use wq_head::wakes::{WakeRun, WakeStage, WakeTurn, wake_stretch};
 use wq_head::{Members, Rousing};
 
+/// The answer of a wait for a plain condition or a variable that was not left.
+fn waited(watch: Watch, loaded: u64, end: Result<(), WaitEnd>) -> Answer
+    ensures { result ≡ waited watch loaded end }
+{
+    match watch {
+        Watch::Var { .. } => match end {
+            Ok(()) => Answer::Changed(Ok(loaded)),
+            Err(end) => Answer::Changed(Err(end)),
+        },
+        _ => Answer::Waited(end),
+    }
+}
+
 /// The answer of a wait for a plain condition or a variable.
 fn answer_of(wait: WaitCall, outcome: WaitOutcome) -> Answer
-    ensures { result ≡ event_answer wait outcome }
+    ensures { result ≡ event_answer wait.watch wait.seen (wait_until_in wait outcome) }
 {
-    match wait.watch {
-        Watch::Var { .. } => Answer::Changed(end_of_var(wait, outcome)),
-        _ => Answer::Waited(end_of(wait, outcome)),
+    match until_of(wait, outcome) {
+        WaitUntil::Over(end) => waited(wait.watch, wait.seen, end),
+        WaitUntil::Left { seen, selected } => Answer::Left { seen, selected },
+    }
+}
+
+/// The answer of a wait for a bit, or to take a bit or a page.
+fn bit_answer(end: Until<Result<(), BitEnd>>) -> Answer
+    ensures { result ≡ bit_answer end }
+{
+    match end {
+        Until::Over(end) => Answer::Bit(end),
+        Until::Left { seen } => Answer::Left {
+            seen,
+            selected: false,
+        },
     }
 }
 
@@ -70,6 +100,7 @@ pub(crate) fn event_on(
     kept: &KeptBits,
     run: WaitRun,
     last: WaitTurn,
+    asks: bool,
     passing: &mut Passing,
 ) -> (Running, Progress)
     requires of { task.old.domain ≡ domain.now }
@@ -77,12 +108,13 @@ pub(crate) fn event_on(
     requires sound { IsSound (running.Event run last) kept.now task.old }
     ensures of { task.new.domain ≡ domain.now }
     ensures sound { IsSound result.0 kept.now task.new }
-    ensures goes { (start : Known) (first : TheRunning) → CameFrom start first task.old (running.Event run last)
-        → WentOn start first task.new result.0 result.1 }
+    ensures goes { (may : Bool) (start : Known) (first : TheRunning)
+        → CameFrom may start first task.old (running.Event run last)
+        → WentOn (asks || may) start first task.new result.0 result.1 }
 {
     let _ = kept;
     let mut run = run;
-    let turn = ground_turn(domain, task, &mut run, last, passing);
+    let turn = ground_turn(domain, task, &mut run, last, asks, passing);
     event_leaves(run, turn)
 }
 
@@ -108,7 +140,7 @@ fn bit_leaves(run: BitRun, turn: BitTurn) -> (Running, Progress)
         Turn::Locked(_) => refused(Running::Bit(run, turn)),
         Turn::Asleep(_) => (Running::Bit(run, turn), Progress::Park),
         Turn::Done(outcome) => {
-            let answer = Answer::Bit(wait_calls::end_of(run.of.wait, outcome));
+            let answer = bit_answer(bit_until(run.of.wait, outcome));
             (Running::Idle, Progress::Done(answer))
         }
     }
@@ -121,6 +153,7 @@ pub(crate) fn bit_on(
     kept: &KeptBits,
     run: BitRun,
     last: BitTurn,
+    asks: bool,
     passing: &mut Passing,
 ) -> (Running, Progress)
     requires of { task.old.domain ≡ domain.now }
@@ -128,12 +161,13 @@ pub(crate) fn bit_on(
     requires sound { IsSound (running.Bit run last) kept.now task.old }
     ensures of { task.new.domain ≡ domain.now }
     ensures sound { IsSound result.0 kept.now task.new }
-    ensures goes { (start : Known) (first : TheRunning) → CameFrom start first task.old (running.Bit run last)
-        → WentOn start first task.new result.0 result.1 }
+    ensures goes { (may : Bool) (start : Known) (first : TheRunning)
+        → CameFrom may start first task.old (running.Bit run last)
+        → WentOn (asks || may) start first task.new result.0 result.1 }
 {
     let _ = kept;
     let mut run = run;
-    let turn = ground_turn(domain, task, &mut run, last, passing);
+    let turn = ground_turn(domain, task, &mut run, last, asks, passing);
     rest(domain, task, found_worn(turn));
     bit_leaves(run, turn)
 }
@@ -195,7 +229,7 @@ fn lock_leaves(run: LockRun, turn: LockTurn) -> (Running, Progress)
         Turn::Locked(_) => refused(Running::Lock(run, turn)),
         Turn::Asleep(_) => (Running::Lock(run, turn), Progress::Park),
         Turn::Done(outcome) => {
-            let answer = Answer::Bit(lock_calls::end_of(run.of.wait, outcome));
+            let answer = bit_answer(lock_until(run.of.wait, outcome));
             (Running::Idle, Progress::Done(answer))
         }
     }
@@ -208,6 +242,7 @@ pub(crate) fn lock_on(
     kept: &mut KeptBits,
     run: LockRun,
     last: LockTurn,
+    asks: bool,
     passing: &mut Passing,
 ) -> (Running, Progress)
     requires of { task.old.domain ≡ domain.now }
@@ -215,12 +250,13 @@ pub(crate) fn lock_on(
     requires sound { IsSound (running.Lock run last) kept.old task.old }
     ensures of { task.new.domain ≡ domain.now }
     ensures sound { IsSound result.0 kept.new task.new }
-    ensures goes { (start : Known) (first : TheRunning) → CameFrom start first task.old (running.Lock run last)
-        → WentOn start first task.new result.0 result.1 }
+    ensures goes { (may : Bool) (start : Known) (first : TheRunning)
+        → CameFrom may start first task.old (running.Lock run last)
+        → WentOn (asks || may) start first task.new result.0 result.1 }
 {
     let (word, bit) = (run.of.wait.word, run.of.wait.bit);
     let mut run = run;
-    let turn = ground_turn(domain, task, &mut run, last, passing);
+    let turn = ground_turn(domain, task, &mut run, last, asks, passing);
     rest(domain, task, may_stir(run, turn));
     note(kept, word, bit, has_bit(turn));
     lock_leaves(run, turn)
@@ -235,7 +271,7 @@ fn page_leaves(run: PageRun, turn: PageTurn) -> (Running, Progress)
         Turn::Locked(_) => refused(Running::Page(run, turn)),
         Turn::Asleep(_) => (Running::Page(run, turn), Progress::Park),
         Turn::Done(outcome) => {
-            let answer = Answer::Bit(page_calls::end_of(run.of, outcome));
+            let answer = bit_answer(page_until(run.of, outcome));
             (Running::Idle, Progress::Done(answer))
         }
     }
@@ -248,6 +284,7 @@ pub(crate) fn page_on(
     kept: &mut KeptBits,
     run: PageRun,
     last: PageTurn,
+    asks: bool,
     passing: &mut Passing,
 ) -> (Running, Progress)
     requires of { task.old.domain ≡ domain.now }
@@ -255,12 +292,13 @@ pub(crate) fn page_on(
     requires sound { IsSound (running.Page run last) kept.old task.old }
     ensures of { task.new.domain ≡ domain.now }
     ensures sound { IsSound result.0 kept.new task.new }
-    ensures goes { (start : Known) (first : TheRunning) → CameFrom start first task.old (running.Page run last)
-        → WentOn start first task.new result.0 result.1 }
+    ensures goes { (may : Bool) (start : Known) (first : TheRunning)
+        → CameFrom may start first task.old (running.Page run last)
+        → WentOn (asks || may) start first task.new result.0 result.1 }
 {
     let page = run.of.page;
     let mut run = run;
-    let turn = ground_turn(domain, task, &mut run, last, passing);
+    let turn = ground_turn(domain, task, &mut run, last, asks, passing);
     note(kept, page, 0, has_page(turn));
     page_leaves(run, turn)
 }
@@ -293,8 +331,9 @@ pub(crate) fn wake_on(
     requires sound { IsSound (running.Wake run stage) kept.now task.old }
     ensures of { task.new.domain ≡ domain.now }
     ensures sound { IsSound result.0 kept.now task.new }
-    ensures goes { (start : Known) (first : TheRunning) → CameFrom start first task.old (running.Wake run stage)
-        → WentOn start first task.new result.0 result.1 }
+    ensures goes { (may now : Bool) (start : Known) (first : TheRunning)
+        → CameFrom may start first task.old (running.Wake run stage)
+        → WentOn now start first task.new result.0 result.1 }
     ensures rouses { IsRousing task.old task.new rousing.new }
 {
     let _ = kept;
@@ -304,12 +343,14 @@ pub(crate) fn wake_on(
     wake_leaves(run, turn)
 }
 
-/// The call that is under way, by one stretch.
+/// The call that is under way, by one stretch, which is asked to leave a wait or is not. What is no wait goes on
+/// as it was.
 pub(crate) fn go_on(
     domain: &Domain,
     task: &mut Task,
     kept: &mut KeptBits,
     running: Running,
+    asks: bool,
     rousing: &mut Rousing,
     passing: &mut Passing,
 ) -> (Running, Progress)
@@ -320,16 +361,16 @@ pub(crate) fn go_on(
     requires sound { IsSound running kept.old task.old }
     ensures of { task.new.domain ≡ domain.now }
     ensures sound { IsSound result.0 kept.new task.new }
-    ensures goes { (start : Known) (first : TheRunning) → CameFrom start first task.old running
-        → WentOn start first task.new result.0 result.1 }
+    ensures goes { (may : Bool) (start : Known) (first : TheRunning) → CameFrom may start first task.old running
+        → WentOn (asks || may) start first task.new result.0 result.1 }
     ensures rouses { Rouses running task.old task.new rousing.new }
 {
     match running {
-        Running::Event(run, last) => event_on(domain, task, kept, run, last, passing),
-        Running::Bit(run, last) => bit_on(domain, task, kept, run, last, passing),
-        Running::Lock(run, last) => lock_on(domain, task, kept, run, last, passing),
-        Running::Page(run, last) => page_on(domain, task, kept, run, last, passing),
-        Running::Await(run, last) => await_on(domain, task, kept, run, last, passing),
+        Running::Event(run, last) => event_on(domain, task, kept, run, last, asks, passing),
+        Running::Bit(run, last) => bit_on(domain, task, kept, run, last, asks, passing),
+        Running::Lock(run, last) => lock_on(domain, task, kept, run, last, asks, passing),
+        Running::Page(run, last) => page_on(domain, task, kept, run, last, asks, passing),
+        Running::Await(run, last) => await_on(domain, task, kept, run, last, asks, passing),
         Running::Wake(run, stage) => wake_on(domain, task, kept, run, stage, rousing, passing),
         Running::Swake(run, stage) => swake_on(domain, task, kept, run, stage, rousing, passing),
         Running::Cell(run, stage) => cell_on(domain, task, kept, run, stage, rousing, passing),

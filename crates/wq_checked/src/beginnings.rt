@@ -84,6 +84,19 @@ fn first_of(task: &Task, kept: &KeptBits, call: Call) -> Running
     }
 }
 
+/// A call that publishes nothing and is not over at once: it is under way, and nothing of the task has changed.
+fn begin_silently(task: &Task, kept: &KeptBits, call: Call) -> (Running, Progress)
+    requires ready { IsReady kept.now task.now }
+    requires within { numbers_fit call ≡ true }
+    requires listed { is_unlisted call ≡ false }
+    requires silent { publishes_first call ≡ false }
+    requires long { is_short call ≡ false }
+    ensures sound { IsSound result.0 kept.now task.now }
+    ensures begun { Begins call task.now task.now kept.now result.1 result.0 }
+{
+    (first_of(task, kept, call), Progress::Again)
+}
+
 /// A call that may begin: it publishes what it is to publish, and is under way, or is over.
 fn begin_call(
     domain: &Domain,
@@ -127,8 +140,9 @@ fn begin_call(
         | Call::AddTally { .. }
         | Call::Take { .. }
         | Call::Signal { .. }
+        | Call::Kick { .. }
         | Call::Accept => do_at_once(domain, task, kept, call),
-        _ => (first_of(task, kept, call), Progress::Again),
+        _ => begin_silently(task, kept, call),
     }
 }
 
@@ -141,7 +155,7 @@ impl CheckedTask {
     }
 
     /// Begins a call, or refuses it by the first reason that holds. Again: it is under way, and goes on by `advance`.
-    /// Done: it is over already. Starved: a signal was raised, and all tries of its wake failed, as in no run.
+    /// Done: it is over already. Starved: all tries of the wake of a signal or a kick failed, as in no run.
     pub fn begin(&mut self, call: Call) -> Result<Progress, Refused>
         ensures refused { IfErr result (λ e. refusal_to call self.old ≡ Some e) }
         ensures same { IfErr result (λ _. self.new ≡ self.old) }

@@ -126,6 +126,11 @@ pub enum Call {
         who: u8,
         fatal: bool,
     },
+    /// Task `who` is woken where its state is that of a sleep, whether it sleeps or is about to (`wake_up_process`), and
+    /// goes on as after any wake: it looks again at what it waits for. It answers `Answer::Kicked`.
+    Kick {
+        who: u8,
+    },
     /// The task's own pending signals are taken (`flush_signals`), which answers `Answer::Accepted`.
     Accept,
 }
@@ -148,21 +153,26 @@ pub enum Running {
 }
 
 /// What a call answered: a wait for a plain condition or a completion; a wait for a variable, with the value that its
-/// last load found; a wait for a bit, or to take a bit or a page; a wake; a wake of a simple queue, with the number of
+/// last load found; a wait for a bit, or to take a bit or a page; a wait that its task left (`CheckedTask::leave`), whose
+/// entry is off, and whose last look found `seen`, in which what it waited for was not set, and, of a wait for a condition
+/// or a variable, whether a wake had chosen its entry (else `selected` is false); a wake; a wake of a simple queue, with the number of
 /// entries that it took off; a call about a completion, which is true but where one that asks found it not done; whether
-/// a bit was taken; a value; a signal that was raised, with the task whose thread is to be roused, if any is; and the
-/// signals that were taken: Fatal where a fatal one was pending, else Plain where one was, else Nothing.
+/// a bit was taken; a value; a signal that was raised, with the task whose thread is to be roused, if any is; whether a
+/// task was kicked out of the state of a sleep, and the task whose thread is to be roused, which is so where it slept; and
+/// the signals that were taken: Fatal where a fatal one was pending, else Plain where one was, else Nothing.
 #[derive(Clone, Copy)]
 pub enum Answer {
     Waited(Result<(), WaitEnd>),
     Changed(Result<u64, WaitEnd>),
     Bit(Result<(), BitEnd>),
+    Left { seen: u64, selected: bool },
     Walked(Walked),
     Selected(u32),
     Cell(bool),
     Tried(bool),
     Value(u64),
     Raised(Option<u8>),
+    Kicked { woke: bool, rouse: Option<u8> },
     Accepted(Taken),
 }
 

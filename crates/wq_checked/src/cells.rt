@@ -1,7 +1,7 @@
 //! The calls that make, take, clear or ask for the counts of completions: one stretch, what it leaves under way, and
 //! what it tells.
 
-ghost use Rattle.std.specs.Prelude.{◌≡◌, []};
+ghost use Rattle.std.specs.Prelude.{◌≡◌, [], Bool};
 ghost use Rattle.wait_rule.specs.Known.{Known};
 ghost use Rattle.wait_rule.specs.PassedLocks.{PassesNone};
 ghost use Rattle.wq_head.specs.Roused.{IsRousing, tasks_in};
@@ -45,8 +45,9 @@ pub(crate) fn cell_on(
     requires sound { IsSound (running.Cell run stage) kept.now task.old }
     ensures of { task.new.domain ≡ domain.now }
     ensures sound { IsSound result.0 kept.now task.new }
-    ensures goes { (start : Known) (first : TheRunning) → CameFrom start first task.old (running.Cell run stage)
-        → WentOn start first task.new result.0 result.1 }
+    ensures goes { (may now : Bool) (start : Known) (first : TheRunning)
+        → CameFrom may start first task.old (running.Cell run stage)
+        → WentOn now start first task.new result.0 result.1 }
     ensures rouses { IsRousing task.old task.new rousing.new }
 {
     let _ = kept;

@@ -1,6 +1,6 @@
 //! Wakes of simple queues: one stretch, what it leaves under way, and what it tells.
 
-ghost use Rattle.std.specs.Prelude.{◌≡◌, []};
+ghost use Rattle.std.specs.Prelude.{◌≡◌, [], Bool};
 ghost use Rattle.wait_rule.specs.Known.{Known};
 ghost use Rattle.wait_rule.specs.PassedLocks.{PassesNone};
 ghost use Rattle.wq_head.specs.Roused.{IsRousing, tasks_in};
@@ -44,8 +44,9 @@ pub(crate) fn swake_on(
     requires sound { IsSound (running.Swake run stage) kept.now task.old }
     ensures of { task.new.domain ≡ domain.now }
     ensures sound { IsSound result.0 kept.now task.new }
-    ensures goes { (start : Known) (first : TheRunning) → CameFrom start first task.old (running.Swake run stage)
-        → WentOn start first task.new result.0 result.1 }
+    ensures goes { (may now : Bool) (start : Known) (first : TheRunning)
+        → CameFrom may start first task.old (running.Swake run stage)
+        → WentOn now start first task.new result.0 result.1 }
     ensures rouses { IsRousing task.old task.new rousing.new }
 {
     let _ = kept;

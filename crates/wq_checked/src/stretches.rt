@@ -1,31 +1,57 @@
-//! One stretch of each kind of call: it goes on, or looks whether the task that was put asleep was woken.
+//! One stretch of each kind of wait: it goes on, or looks whether the task that was put asleep was woken.
 
-ghost use Rattle.std.specs.Prelude.{◌≡◌};
+ghost use Rattle.std.specs.Prelude.{◌≡◌, true};
+ghost use Rattle.wait_class.specs.Tables.{IsAt};
+ghost use Rattle.wait_leave.specs.OnTheWay.{OnTheWay};
 ghost use Rattle.wait_rule.specs.PassedLocks.{PassesNone};
-ghost use Rattle.wq_checked.specs.Stages.{GoesFrom, StandsBy};
+ghost use Rattle.wq_checked.specs.Stages.{StandsBy, StretchesOn};
 
-use wait_class::machines::Machine;
 use wait_class::runs;
 use wait_class::stages::{Run, Turn};
+use wait_leave::{Leavable, stretch_out};
 use wait_rule::queues::Passing;
 use wait_rule::{Domain, Task};
 
-/// A wait for a condition, a variable, a bit or a page, or to take a bit.
-pub(crate) fn ground_turn<C: Machine>(
+/// Goes on by one stretch, which is asked to leave at each stage that has an exit, or is not asked.
+fn stretch_on<C: Leavable>(
+    domain: &Domain,
+    task: &mut Task,
+    run: &mut Run<C>,
+    stage: C::Stage,
+    asks: bool,
+    passing: &mut Passing,
+) -> Turn<C::Stage, C::Outcome>
+    requires of { task.old.domain ≡ domain.now }
+    requires passes { PassesNone passing.old }
+    requires at { IsAt C.table task.old run.old stage }
+    ensures of { task.new.domain ≡ domain.now }
+    ensures goes { OnTheWay (asks ≡ true) C.table C.exits task.old run.old stage task.new run.new result }
+{
+    if asks {
+        stretch_out(domain, task, run, stage, passing)
+    } else {
+        runs::stretch(domain, task, run, stage, passing)
+    }
+}
+
+/// A wait. One that was put asleep is not asked: it makes no event until its task was woken.
+pub(crate) fn ground_turn<C: Leavable>(
     domain: &Domain,
     task: &mut Task,
     run: &mut Run<C>,
     last: Turn<C::Stage, C::Outcome>,
+    asks: bool,
     passing: &mut Passing,
 ) -> Turn<C::Stage, C::Outcome>
     requires of { task.old.domain ≡ domain.now }
     requires passes { PassesNone passing.old }
     requires stands { StandsBy C.table task.old run.old last }
-    ensures { GoesFrom C.table task.old task.new run.old run.new last result }
+    ensures of { task.new.domain ≡ domain.now }
+    ensures goes { StretchesOn asks C.table C.exits task.old task.new run.old run.new last result }
 {
     match last {
-        Turn::Again(stage) => runs::stretch(domain, task, run, stage, passing),
-        Turn::Locked(stage) => runs::stretch(domain, task, run, stage, passing),
+        Turn::Again(stage) => stretch_on(domain, task, run, stage, asks, passing),
+        Turn::Locked(stage) => stretch_on(domain, task, run, stage, asks, passing),
         Turn::Asleep(stage) => {
             if runs::woke(domain, task, run, stage) {
                 Turn::Again(stage)

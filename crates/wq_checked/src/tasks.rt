@@ -1,6 +1,6 @@
 //! A task whose calls are tested when they are made.
 
-ghost use Rattle.std.specs.Prelude.{◌≡◌, ◌<◌, ◌≤◌, ◌+◌, ◌-◌, [], false, IfErr, IfOk, None, Some};
+ghost use Rattle.std.specs.Prelude.{◌≡◌, ◌<◌, ◌≤◌, ◌+◌, ◌-◌, ◌||◌, [], Bool, true, false, IfErr, IfOk, None, Some};
 ghost use Rattle.wait_model.specs.declared.layout.TheConstants.{BIT_WORDS, TASKS, WORD_BITS};
 ghost use Rattle.wait_model.specs.declared.watches.Watch.{Watch};
 ghost use Rattle.wait_model.specs.declared.watches.Watch.TheVariants as watch;
@@ -170,9 +170,58 @@ impl CheckedTask {
         ensures refused { IfErr result (λ e. stopped_reason self.old.running ≡ Some e) }
         ensures same { IfErr result (λ _. self.new ≡ self.old) }
         ensures under { IfOk result (λ _. stopped_reason self.old.running ≡ None) }
-        ensures goes { IfOk result (λ told. (start : Known) (first : TheRunning)
-            → CameFrom start first self.old.task self.old.running
-            → WentOn start first self.new.task self.new.running told) }
+        ensures goes { IfOk result (λ told. (may : Bool) (start : Known) (first : TheRunning)
+            → CameFrom may start first self.old.task self.old.running
+            → WentOn may start first self.new.task self.new.running told) }
+        ensures rouses { IfOk result (λ _. Rouses self.old.running self.old.task self.new.task rousing.new) }
+        ensures awaits { IfOk result (λ told. IsDrawn self.new.task told) }
+        ensures passes { IfOk result (λ told. Passes (awaited_in self.old.running) told passed.old passed.new) }
+        ensures none { IfErr result (λ _. tasks_in rousing.new ≡ []) }
+        ensures passes_none { IfErr result (λ _. passed.new ≡ passed.old) }
+    {
+        self.go(false, rousing, passed)
+    }
+
+    /// Goes on with the call that is under way by one stretch, as `advance` does, and leaves it where it is a wait: it is
+    /// asked to leave at each stage of the stretch that has an exit, and goes out there. Who wants out calls `leave` until
+    /// the call is over, also after Locked. It ends as the wait does where it got what it waited for, or as
+    /// `Answer::Left`: its entry is off, and its last look found it not there. A task that is asleep is not left, and
+    /// answers Park as before: another task wakes it first, by `Call::Kick` or for another reason. A call that is no
+    /// wait goes on as by `advance`: a wake and a call about a completion end by themselves.
+    /// `rousing`, `passed` and refusals are as those of `advance`.
+    pub fn leave(
+        &mut self,
+        rousing: &mut Rousing,
+        passed: &mut Option<u16>,
+    ) -> Result<Progress, Refused>
+        ensures refused { IfErr result (λ e. stopped_reason self.old.running ≡ Some e) }
+        ensures same { IfErr result (λ _. self.new ≡ self.old) }
+        ensures under { IfOk result (λ _. stopped_reason self.old.running ≡ None) }
+        ensures goes { IfOk result (λ told. (may : Bool) (start : Known) (first : TheRunning)
+            → CameFrom may start first self.old.task self.old.running
+            → WentOn true start first self.new.task self.new.running told) }
+        ensures rouses { IfOk result (λ _. Rouses self.old.running self.old.task self.new.task rousing.new) }
+        ensures awaits { IfOk result (λ told. IsDrawn self.new.task told) }
+        ensures passes { IfOk result (λ told. Passes (awaited_in self.old.running) told passed.old passed.new) }
+        ensures none { IfErr result (λ _. tasks_in rousing.new ≡ []) }
+        ensures passes_none { IfErr result (λ _. passed.new ≡ passed.old) }
+    {
+        self.go(true, rousing, passed)
+    }
+
+    /// Goes on with the call that is under way by one stretch, which is asked to leave a wait or is not.
+    fn go(
+        &mut self,
+        asks: bool,
+        rousing: &mut Rousing,
+        passed: &mut Option<u16>,
+    ) -> Result<Progress, Refused>
+        ensures refused { IfErr result (λ e. stopped_reason self.old.running ≡ Some e) }
+        ensures same { IfErr result (λ _. self.new ≡ self.old) }
+        ensures under { IfOk result (λ _. stopped_reason self.old.running ≡ None) }
+        ensures goes { IfOk result (λ told. (may : Bool) (start : Known) (first : TheRunning)
+            → CameFrom may start first self.old.task self.old.running
+            → WentOn (asks || may) start first self.new.task self.new.running told) }
         ensures rouses { IfOk result (λ _. Rouses self.old.running self.old.task self.new.task rousing.new) }
         ensures awaits { IfOk result (λ told. IsDrawn self.new.task told) }
         ensures passes { IfOk result (λ told. Passes (awaited_in self.old.running) told passed.old passed.new) }
@@ -191,6 +240,7 @@ impl CheckedTask {
                     &mut self.task,
                     &mut self.kept,
                     running,
+                    asks,
                     rousing,
                     &mut passing,
                 );

@@ -8,5 +8,5 @@ loop-stretch-init c = stays
 
 pub loop-stretch-preserved : goal.loop-stretch-preserved
 loop-stretch-preserved c =
-    one_more _ _ _ _ _ _ _ _ _ _ _ _ c.loop-stretch.invariant (c.may_go_on.ensures (search rules)) c.go_on-reply.ensures.replies
+    one_more _ _ _ _ _ _ _ _ _ _ _ _ _ c.loop-stretch.invariant (c.may_go_on.ensures (search rules)) c.go_on-reply.ensures.replies
     c.go_on-reply.ensures.names c.go_on-reply.ensures.gives

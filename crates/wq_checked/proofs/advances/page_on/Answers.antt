@@ -1,4 +1,5 @@
 use Rattle.std.proofs.Common.{subst, sym}
+use Rattle.std.specs.Prelude.{◌||◌}
 use Rattle.wq_checked.specs.Calls.{IsSound}
 use Rattle.wq_checked.specs.Advancing.{page_left, page_shown, page_took}
 use Rattle.wq_checked.specs.declared.calls.Running.{Running}
@@ -10,14 +11,14 @@ pub returns-clause-sound : goal.returns-clause-sound
 returns-clause-sound c =
     let t = c.ground_turn-turn in
     subst (λ (r : Running). IsSound r c.note.new.kept t.new.task) (sym c.page_leaves.ensures.left)
-    (page_sound c.args.kept.now c.note.new.kept c.args.task.now t.new.task c.args.run t.new.run
+    (page_sound c.args.kept.now c.note.new.kept c.args.asks c.args.task.now t.new.task c.args.run t.new.run
     c.args.last t.result (noted c.args.kept.now c.note.new.kept c.args.run.of.page 0 c.has_page.result
-    (page_took t.result) c.has_page.ensures c.note.ensures) c.requires.sound t.ensures)
+    (page_took t.result) c.has_page.ensures c.note.ensures) c.requires.sound t.ensures.goes)
 
 pub returns-clause-goes : goal.returns-clause-goes
-returns-clause-goes c start first came =
+returns-clause-goes c may start first came =
     let t = c.ground_turn-turn in
-    went_as start first t.new.task c.page_leaves.result.0 (page_left t.new.run t.result) c.page_leaves.result.1
+    went_as (c.args.asks || may) start first t.new.task c.page_leaves.result.0 (page_left t.new.run t.result) c.page_leaves.result.1
     (page_shown t.new.run t.result) c.page_leaves.ensures.left c.page_leaves.ensures.shown
-    (page_goes start first c.args.task.now t.new.task c.args.run t.new.run c.args.last t.result
-    c.requires.sound.stands came t.ensures)
+    (page_goes c.args.asks may start first c.args.task.now t.new.task c.args.run t.new.run c.args.last t.result
+    c.requires.sound.stands came t.ensures.goes)

@@ -18,9 +18,9 @@ returns-clause-sound c =
     c.requires.sound t.ensures.turned)
 
 pub returns-clause-goes : goal.returns-clause-goes
-returns-clause-goes c start first came =
+returns-clause-goes c may now start first came =
     let t = c.wake_stretch-turn in
-    went_as start first t.new.task c.wake_leaves.result.0 (wake_left t.new.run t.result) c.wake_leaves.result.1
+    went_as now start first t.new.task c.wake_leaves.result.0 (wake_left t.new.run t.result) c.wake_leaves.result.1
     (wake_shown t.new.run t.result) c.wake_leaves.ensures.left c.wake_leaves.ensures.shown
-    (wake_goes start first c.args.task.now t.new.task c.args.run t.new.run c.args.stage t.result came
+    (wake_goes may now start first c.args.task.now t.new.task c.args.run t.new.run c.args.stage t.result came
     t.ensures.turned)

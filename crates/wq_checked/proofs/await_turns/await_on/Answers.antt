@@ -1,4 +1,5 @@
 use Rattle.std.proofs.Common.{subst, sym}
+use Rattle.std.specs.Prelude.{◌||◌}
 use Rattle.wq_checked.specs.Calls.{IsSound}
 use Rattle.wq_checked.specs.Advancing.{await_left, await_shown}
 use Rattle.wq_checked.specs.declared.calls.Running.{Running}
@@ -10,13 +11,13 @@ pub returns-clause-sound : goal.returns-clause-sound
 returns-clause-sound c =
     let t = c.ground_turn-turn in
     subst (λ (r : Running). IsSound r c.args.kept.now t.new.task) (sym c.await_leaves.ensures.left)
-    (await_sound c.args.kept.now c.args.task.now t.new.task c.args.run t.new.run c.args.last t.result c.requires.sound
-    t.ensures)
+    (await_sound c.args.kept.now c.args.asks c.args.task.now t.new.task c.args.run t.new.run c.args.last t.result c.requires.sound
+    t.ensures.goes)
 
 pub returns-clause-goes : goal.returns-clause-goes
-returns-clause-goes c start first came =
+returns-clause-goes c may start first came =
     let t = c.ground_turn-turn in
-    went_as start first t.new.task c.await_leaves.result.0 (await_left t.new.run t.result) c.await_leaves.result.1
+    went_as (c.args.asks || may) start first t.new.task c.await_leaves.result.0 (await_left t.new.run t.result) c.await_leaves.result.1
     (await_shown t.new.run t.result) c.await_leaves.ensures.left c.await_leaves.ensures.shown
-    (await_goes start first c.args.task.now t.new.task c.args.run t.new.run c.args.last t.result
-    c.requires.sound.stands came t.ensures)
+    (await_goes c.args.asks may start first c.args.task.now t.new.task c.args.run t.new.run c.args.last t.result
+    c.requires.sound.stands came t.ensures.goes)

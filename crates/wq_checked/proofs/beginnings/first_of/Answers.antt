@@ -1,5 +1,5 @@
 use Rattle.std.proofs.Common.{subst}
-use Rattle.std.specs.Prelude.{◌≡◌, true}
+use Rattle.std.specs.Prelude.{◌≡◌, true, false}
 use Rattle.wait_model.specs.declared.watches.Aim.{Aim}
 use Rattle.wait_model.specs.declared.watches.Watch.TheVariants as watch
 use Rattle.var_wait.specs.VarWaits.{shared_in}
@@ -7,7 +7,8 @@ use Rattle.swait_queue.specs.SimpleWaits.{tail_in}
 use Rattle.wq_checked.specs.Begins.{numbers_fit}
 use Rattle.wq_checked.specs.declared.calls.Call.{Call}
 use Rattle.wq_checked.specs.declared.calls.Call.TheVariants as call
-use Rattle.wq_checked.proofs.Begun.{await_came, await_sound, bit_sound, event_came, event_sound, lock_sound, page_sound}
+use Rattle.wq_checked.proofs.Begun.{await_came, await_sound, bit_came, bit_sound, event_came, event_sound, lock_came}
+use Rattle.wq_checked.proofs.Begun.{lock_sound, page_came, page_sound}
 use Rattle.wq_checked.proofs.OneHolds.{cell_sound, ready_swaking, swake_sound}
 use Rattle.wq_checked.proofs.Publishing.{ready_waking}
 use Rattle.wq_checked.proofs.Readiness.{ready_asks, ready_out}
@@ -62,24 +63,46 @@ returns-in-WaitVar-clause-sound c =
 
 pub returns-in-WaitBit-clause-sound : goal.returns-in-WaitBit-clause-sound
 returns-in-WaitBit-clause-sound c = bit_sound c.args.kept.now c.args.task.now c.begin_bit-run.result c.requires.ready
-    c.begin_bit-run.ensures.at
+    c.begin_bit-run.ensures.fresh.unasked c.begin_bit-run.ensures.at
+
+pub returns-in-WaitBit-clause-begun : goal.returns-in-WaitBit-clause-begun
+returns-in-WaitBit-clause-begun c = record {
+  first = rw c.in-WaitBit.is c.begin_bit-run.ensures.fresh;
+  came = bit_came false c.args.task.now c.begin_bit-run.result c.begin_bit-run.ensures.fresh.unasked
+      c.begin_bit-run.ensures.at;
+}
 
 pub returns-in-LockBit-clause-sound : goal.returns-in-LockBit-clause-sound
 returns-in-LockBit-clause-sound c = lock_sound c.args.kept.now c.args.task.now c.begin_lock-run.result c.requires.ready
-    c.begin_lock-run.ensures.at
+    c.begin_lock-run.ensures.unasked c.begin_lock-run.ensures.at
+
+pub returns-in-LockBit-clause-begun : goal.returns-in-LockBit-clause-begun
+returns-in-LockBit-clause-begun c = record {
+  first = rw c.in-LockBit.is c.begin_lock-run.ensures.fresh;
+  came = lock_came false c.args.task.now c.begin_lock-run.result c.begin_lock-run.ensures.unasked
+      c.begin_lock-run.ensures.at;
+}
 
 pub returns-in-LockPage-clause-sound : goal.returns-in-LockPage-clause-sound
 returns-in-LockPage-clause-sound c = page_sound c.args.kept.now c.args.task.now c.begin_page-run.result
-    c.requires.ready c.begin_page-run.ensures.at
+    c.requires.ready c.begin_page-run.ensures.fresh.unasked c.begin_page-run.ensures.at
+
+pub returns-in-LockPage-clause-begun : goal.returns-in-LockPage-clause-begun
+returns-in-LockPage-clause-begun c = record {
+  first = rw c.in-LockPage.is c.begin_page-run.ensures.fresh;
+  came = page_came false c.args.task.now c.begin_page-run.result c.begin_page-run.ensures.fresh.unasked
+      c.begin_page-run.ensures.at;
+}
 
 pub returns-in-WaitFor-clause-sound : goal.returns-in-WaitFor-clause-sound
 returns-in-WaitFor-clause-sound c = await_sound c.args.kept.now c.args.task.now c.begin_await-run.result
-    c.requires.ready c.begin_await-run.ensures.at
+    c.requires.ready c.begin_await-run.ensures.fresh.unasked c.begin_await-run.ensures.at
 
 pub returns-in-WaitFor-clause-begun : goal.returns-in-WaitFor-clause-begun
 returns-in-WaitFor-clause-begun c = record {
   first = rw c.in-WaitFor.is c.begin_await-run.ensures.fresh;
-  came = await_came c.args.task.now c.begin_await-run.result c.requires.ready.told c.begin_await-run.ensures.at;
+  came = await_came false c.args.task.now c.begin_await-run.result c.requires.ready.told
+      c.begin_await-run.ensures.fresh.unasked c.begin_await-run.ensures.at;
 }
 
 pub returns-in-Cell-clause-sound : goal.returns-in-Cell-clause-sound
@@ -109,17 +132,20 @@ returns-in-Wake-clause-sound c =
 pub returns-in-Wait-clause-begun : goal.returns-in-Wait-clause-begun
 returns-in-Wait-clause-begun c = record {
   first = rw c.in-Wait.is c.begin_wait-run.ensures.fresh;
-  came = event_came c.args.task.now c.begin_wait-run.result c.begin_wait-run.ensures.at;
+  came = event_came false c.args.task.now c.begin_wait-run.result _ _ c.begin_wait-run.ensures.fresh
+      c.begin_wait-run.ensures.at;
 }
 
 pub returns-in-SimpleWait-clause-begun : goal.returns-in-SimpleWait-clause-begun
 returns-in-SimpleWait-clause-begun c = record {
   first = rw c.in-SimpleWait.is c.begin_swait-run.ensures.fresh;
-  came = event_came c.args.task.now c.begin_swait-run.result c.begin_swait-run.ensures.at;
+  came = event_came false c.args.task.now c.begin_swait-run.result _ _ c.begin_swait-run.ensures.fresh
+      c.begin_swait-run.ensures.at;
 }
 
 pub returns-in-WaitVar-clause-begun : goal.returns-in-WaitVar-clause-begun
 returns-in-WaitVar-clause-begun c = record {
   first = rw c.in-WaitVar.is c.begin_var-run.ensures.fresh;
-  came = event_came c.args.task.now c.begin_var-run.result c.begin_var-run.ensures.at;
+  came = event_came false c.args.task.now c.begin_var-run.result _ _ c.begin_var-run.ensures.fresh
+      c.begin_var-run.ensures.at;
 }

@@ -18,9 +18,9 @@ returns-clause-sound c =
     c.requires.sound t.ensures.turned)
 
 pub returns-clause-goes : goal.returns-clause-goes
-returns-clause-goes c start first came =
+returns-clause-goes c may now start first came =
     let t = c.swake_stretch-turn in
-    went_as start first t.new.task c.swake_leaves.result.0 (swake_left t.new.run t.result) c.swake_leaves.result.1
+    went_as now start first t.new.task c.swake_leaves.result.0 (swake_left t.new.run t.result) c.swake_leaves.result.1
     (swake_shown t.new.run t.result) c.swake_leaves.ensures.left c.swake_leaves.ensures.shown
-    (swake_goes start first c.args.task.now t.new.task c.args.run t.new.run c.args.stage t.result came
+    (swake_goes may now start first c.args.task.now t.new.task c.args.run t.new.run c.args.stage t.result came
     t.ensures.turned)

@@ -13,6 +13,7 @@
 #include <stdlib.h>
 #include <string.h>
 #include <sys/syscall.h>
+#include <time.h>
 #include <unistd.h>
 
 /* How often a bell is looked at before its thread parks. */
@@ -39,7 +40,7 @@
 #define SUGWELAN_SLOW 0
 #endif
 
-enum { CACHE_LINE = 64 };
+enum { CACHE_LINE = 64, SECOND = 1000000000 };
 
 /* What a bell says. */
 enum { QUIET, RUNG, PARKED };
@@ -68,14 +69,22 @@ enum {
     TIES = SIGNAL_TIES + SUGWELAN_TASKS
 };
 
-/* A call that waits for the lock of a queue. Whoever passes the lock on goes on with it, so that nobody waits for a
- * thread that does not run. */
+/* A call that is under way. */
+struct course {
+    struct sugwelan_domain *domain;
+    void *handle;
+    uint32_t number;              /* of the task */
+    const struct timespec *until; /* when it is left: null for never */
+    bool leaves;                  /* that time has come */
+    struct sugwelan_told *told;
+};
+
+/* One that waits for the lock of a queue. Whoever passes the lock on goes on with it, so that nobody waits for a thread
+ * that does not run. */
 struct waiter {
     struct waiter *next;
     uint64_t ticket;
-    void *handle;
-    struct sugwelan_told *told;
-    uint32_t number;  /* of the task */
+    struct course *course;
     int32_t answer;   /* of the stretch that has got the lock, ... */
     bool goes_on;     /* ... and whether its thread is to go on with those behind it, ... */
     atomic_bool over; /* ... once this is so */
@@ -172,15 +181,15 @@ static bool sees(uint32_t kind, const struct sugwelan_told *told)
     return !publishes(kind) && (!tries || told->value);
 }
 
-static void enter(struct sugwelan_domain *domain, uint32_t number, const struct sugwelan_call *call)
+static void tell_begin(struct sugwelan_domain *domain, uint32_t number, const struct sugwelan_call *call)
 {
     int tie = tie_of(call, number);
     if (tie >= 0 && publishes(call->kind))
         __tsan_release(&domain->ties[tie]);
 }
 
-static void leave(struct sugwelan_domain *domain, uint32_t number, const struct sugwelan_call *call, int32_t answer,
-                  const struct sugwelan_told *told)
+static void tell_end(struct sugwelan_domain *domain, uint32_t number, const struct sugwelan_call *call, int32_t answer,
+                     const struct sugwelan_told *told)
 {
     int tie = tie_of(call, number);
     if (answer == -EINTR)
@@ -189,13 +198,13 @@ static void leave(struct sugwelan_domain *domain, uint32_t number, const struct 
         __tsan_acquire(&domain->ties[tie]);
 }
 #else
-static void enter(struct sugwelan_domain *domain, uint32_t number, const struct sugwelan_call *call)
+static void tell_begin(struct sugwelan_domain *domain, uint32_t number, const struct sugwelan_call *call)
 {
     (void)domain, (void)number, (void)call;
 }
 
-static void leave(struct sugwelan_domain *domain, uint32_t number, const struct sugwelan_call *call, int32_t answer,
-                  const struct sugwelan_told *told)
+static void tell_end(struct sugwelan_domain *domain, uint32_t number, const struct sugwelan_call *call, int32_t answer,
+                     const struct sugwelan_told *told)
 {
     (void)domain, (void)number, (void)call, (void)answer, (void)told;
 }
@@ -216,16 +225,39 @@ static void ring(struct bell *bell)
         syscall(SYS_futex, &bell->word, FUTEX_WAKE_PRIVATE, 1, NULL, NULL, 0);
 }
 
-/* Returns once the bell was rung, and makes it quiet. */
-static void park(struct bell *bell)
+/* A time from now on. No count is too high: the last one is some 584 years. */
+static struct timespec after(uint64_t nanoseconds)
+{
+    struct timespec time;
+    clock_gettime(CLOCK_MONOTONIC, &time);
+    uint64_t rest = (uint64_t)time.tv_nsec + nanoseconds % SECOND;
+    time.tv_sec += (time_t)(nanoseconds / SECOND + rest / SECOND);
+    time.tv_nsec = (long)(rest % SECOND);
+    return time;
+}
+
+/* Whether a time has come: null never does. */
+static bool is_past(const struct timespec *time)
+{
+    struct timespec now;
+    if (!time)
+        return false;
+    clock_gettime(CLOCK_MONOTONIC, &now);
+    return now.tv_sec != time->tv_sec ? now.tv_sec > time->tv_sec : now.tv_nsec >= time->tv_nsec;
+}
+
+/* Returns once the bell was rung, and makes it quiet: false where the time came first. */
+static bool park(struct bell *bell, const struct timespec *until)
 {
     uint32_t quiet = QUIET;
+    if (is_past(until))
+        return false;
     for (int look = 0; look < SUGWELAN_LOOKS && atomic_load(&bell->word) == QUIET; look++)
         relax();
     if (atomic_compare_exchange_strong(&bell->word, &quiet, PARKED))
-        while (atomic_load(&bell->word) == PARKED)
-            syscall(SYS_futex, &bell->word, FUTEX_WAIT_PRIVATE, PARKED, NULL, NULL, 0);
-    atomic_store(&bell->word, QUIET);
+        while (atomic_load(&bell->word) == PARKED && !is_past(until))
+            syscall(SYS_futex, &bell->word, FUTEX_WAIT_BITSET_PRIVATE, PARKED, until, NULL, FUTEX_BITSET_MATCH_ANY);
+    return atomic_exchange(&bell->word, QUIET) == RUNG;
 }
 
 static void rouse(struct sugwelan_domain *domain, const struct sugwelan_told *told)
@@ -234,7 +266,12 @@ static void rouse(struct sugwelan_domain *domain, const struct sugwelan_told *to
         ring(&domain->bells[told->rouse[i]]);
 }
 
-static const struct sugwelan_call ADVANCE = {.kind = SUGWELAN_ADVANCE};
+/* The call that goes on with another one: it leaves that once its time has come. */
+static const struct sugwelan_call *next_of(const struct course *course)
+{
+    static const struct sugwelan_call ADVANCE = {.kind = SUGWELAN_ADVANCE}, LEAVE = {.kind = SUGWELAN_LEAVE};
+    return course->leaves ? &LEAVE : &ADVANCE;
+}
 
 static void put(struct gate *gate, struct waiter *waiter)
 {
@@ -258,9 +295,10 @@ static void take(struct gate *gate, struct waiter *waiter)
 /* One look whether the ticket is served of a call that waits for a lock: true where it went on by that. */
 static bool look(struct waiter *waiter)
 {
-    waiter->told->rouse_count = 0;
-    waiter->answer = sugwelan_call(waiter->handle, &ADVANCE, waiter->told);
-    return waiter->answer != SUGWELAN_LOCKED || waiter->told->ticket != waiter->ticket;
+    struct course *course = waiter->course;
+    course->told->rouse_count = 0;
+    waiter->answer = sugwelan_call(course->handle, next_of(course), course->told);
+    return waiter->answer != SUGWELAN_LOCKED || course->told->ticket != waiter->ticket;
 }
 
 /* Goes on with the first call that waits for a lock: true where the lock was its and is passed on once more, and that is
@@ -276,14 +314,17 @@ static bool serve_first(struct sugwelan_domain *domain, struct gate *gate, bool 
     }
     for (int slow = 0; slow < SUGWELAN_SLOW; slow++)
         relax();
-    uint32_t number = first->number;
+    struct course *course = first->course;
+    uint32_t number = course->number;
     int32_t answer = first->answer;
-    told.rouse_count = first->told->rouse_count;
-    memcpy(told.rouse, first->told->rouse, told.rouse_count);
-    first->told->rouse_count = 0;
+    /* Who sleeps and is to leave does not stay asleep: its thread has to see to that. */
+    bool sleeps = answer == SUGWELAN_PARK && !course->leaves;
+    told.rouse_count = course->told->rouse_count;
+    memcpy(told.rouse, course->told->rouse, told.rouse_count);
+    course->told->rouse_count = 0;
     take(gate, first);
     if (answer == SUGWELAN_LOCKED) {
-        first->ticket = first->told->ticket;
+        first->ticket = course->told->ticket;
         put(gate, first);
         hands_on = false;
     } else {
@@ -292,7 +333,7 @@ static bool serve_first(struct sugwelan_domain *domain, struct gate *gate, bool 
     }
     pthread_mutex_unlock(&gate->lock);
     rouse(domain, &told);
-    if (hands_on || (answer != SUGWELAN_LOCKED && answer != SUGWELAN_PARK))
+    if (hands_on || (answer != SUGWELAN_LOCKED && !sleeps))
         ring(&domain->bells[number]);
     return !hands_on;
 }
@@ -313,26 +354,29 @@ static void follow(struct sugwelan_domain *domain, const struct sugwelan_told *t
 }
 
 /* Waits until the call has gone on that waits for a lock, and answers what its stretch did. It is among those that wait
- * before its last look, so whoever passes the lock on behind that look finds it there. */
-static int32_t await_lock(struct sugwelan_domain *domain, void *handle, uint32_t number, struct sugwelan_told *told)
+ * before its last look, so whoever passes the lock on behind that look finds it there. Where its time comes meanwhile,
+ * it waits on, and whoever goes on with it leaves it: another's stretch may have put it asleep, or may yet. */
+static int32_t await_lock(struct course *course)
 {
-    struct gate *gate = &domain->gates[told->head];
-    struct waiter me = {.ticket = told->ticket, .handle = handle, .told = told, .number = number};
+    struct sugwelan_domain *domain = course->domain;
+    struct gate *gate = &domain->gates[course->told->head];
+    struct waiter me = {.ticket = course->told->ticket, .course = course};
     pthread_mutex_lock(&gate->lock);
     put(gate, &me);
     if (look(&me)) {
         take(gate, &me);
         pthread_mutex_unlock(&gate->lock);
-        follow(domain, told);
+        follow(domain, course->told);
         return me.answer;
     }
     pthread_mutex_unlock(&gate->lock);
     for (int watch = 0; watch < SUGWELAN_WATCHES && !atomic_load(&me.over); watch++)
         relax();
     while (!atomic_load(&me.over)) {
-        park(&domain->bells[number]);
+        bool rung = park(&domain->bells[course->number], course->leaves ? NULL : course->until);
         /* The ring may be of who woke the task behind a stretch that has put it asleep and is not told yet. */
         pthread_mutex_lock(&gate->lock);
+        course->leaves = course->leaves || !rung;
         pthread_mutex_unlock(&gate->lock);
     }
     if (me.goes_on)
@@ -342,54 +386,66 @@ static int32_t await_lock(struct sugwelan_domain *domain, void *handle, uint32_t
 }
 
 /* Makes a stretch of a call. */
-static int32_t stretch(struct sugwelan_domain *domain, void *handle, const struct sugwelan_call *call,
-                       struct sugwelan_told *told)
+static int32_t stretch(struct course *course, const struct sugwelan_call *call)
 {
-    told->rouse_count = 0;
-    int32_t answer = sugwelan_call(handle, call, told);
-    follow(domain, told);
+    course->told->rouse_count = 0;
+    int32_t answer = sugwelan_call(course->handle, call, course->told);
+    follow(course->domain, course->told);
     return answer;
 }
 
 /* Goes on with a call that waits for a lock: looks some times whether its ticket is served, and then waits. */
-static int32_t pass_lock(struct sugwelan_domain *domain, void *handle, uint32_t number, struct sugwelan_told *told)
+static int32_t pass_lock(struct course *course)
 {
-    uint64_t ticket = told->ticket;
+    uint64_t ticket = course->told->ticket;
     for (int look = 0; look < SUGWELAN_TRIES; look++) {
         relax();
-        int32_t answer = stretch(domain, handle, &ADVANCE, told);
-        if (answer != SUGWELAN_LOCKED || told->ticket != ticket)
+        int32_t answer = stretch(course, next_of(course));
+        if (answer != SUGWELAN_LOCKED || course->told->ticket != ticket)
             return answer;
     }
-    return await_lock(domain, handle, number, told);
+    return await_lock(course);
+}
+
+static int wake_up_at_home(struct sugwelan_domain *domain, uint32_t number);
+
+/* Parks the thread of a task that sleeps. Once its time has come it parks no more: a task that sleeps makes no step, so
+ * the Domain's own one wakes it first, and it leaves its wait then. */
+static void sleep_on(struct course *course)
+{
+    struct bell *bell = &course->domain->bells[course->number];
+    course->leaves = course->leaves || !park(bell, course->until);
+    /* That fails where the Domain's task makes no more calls; then there is no way out but to be woken by others. */
+    if (course->leaves && wake_up_at_home(course->domain, course->number))
+        park(bell, NULL);
 }
 
 /* Makes a call to its end. */
-static int32_t run(struct sugwelan_domain *domain, void *handle, uint32_t number, const struct sugwelan_call *call,
-                   struct sugwelan_told *told)
+static int32_t run(struct course *course, const struct sugwelan_call *call)
 {
-    int32_t answer = stretch(domain, handle, call, told);
+    int32_t answer = stretch(course, call);
     for (;;) {
         if (answer == SUGWELAN_LOCKED) {
-            answer = pass_lock(domain, handle, number, told);
+            answer = pass_lock(course);
             continue;
         }
         if (answer == SUGWELAN_PARK)
-            park(&domain->bells[number]);
+            sleep_on(course);
         else if (answer != SUGWELAN_AGAIN)
             return answer;
-        answer = stretch(domain, handle, &ADVANCE, told);
+        answer = stretch(course, next_of(course));
     }
 }
 
-/* Makes a call: 0 or a negative errno. */
-static int32_t served(struct sugwelan_domain *domain, void *handle, uint32_t number, const struct sugwelan_call *call,
-                      struct sugwelan_told *told)
+/* Makes a call of a task: 0 or a negative errno. A wait is left once a time has come, if one is given. */
+static int served(struct sugwelan_domain *domain, void *handle, uint32_t number, const struct timespec *until,
+                  const struct sugwelan_call *call, struct sugwelan_told *told)
 {
-    enter(domain, number, call);
-    int32_t answer = run(domain, handle, number, call, told);
-    leave(domain, number, call, answer, told);
-    return answer;
+    struct course course = {.domain = domain, .handle = handle, .number = number, .until = until, .told = told};
+    tell_begin(domain, number, call);
+    int32_t answer = run(&course, call);
+    tell_end(domain, number, call, answer, told);
+    return answer == -ECANCELED ? -ETIMEDOUT : answer;
 }
 
 /* Counts what the task has taken or given back by a call that is over. */
@@ -418,20 +474,27 @@ static void end(struct sugwelan_task *task)
     atomic_store_explicit(&task->busy, false, memory_order_release);
 }
 
-/* Who makes a call: a task, or where it is null a Domain. */
+/* Who makes a call: a task, or where it is null a Domain; and when a wait is left, if it is limited. */
 struct caller {
     struct sugwelan_task *task;
     struct sugwelan_domain *domain;
+    bool limited;
+    struct timespec until;
 };
 
 static struct caller by_task(struct sugwelan_task *task)
 {
-    return (struct caller){task, NULL};
+    return (struct caller){.task = task};
+}
+
+static struct caller by_task_within(struct sugwelan_task *task, uint64_t nanoseconds)
+{
+    return (struct caller){.task = task, .limited = true, .until = after(nanoseconds)};
 }
 
 static struct caller by_domain(struct sugwelan_domain *domain)
 {
-    return (struct caller){NULL, domain};
+    return (struct caller){.domain = domain};
 }
 
 /* Makes a call by the Domain's own task. Its number is 0, and no wait is among those calls. */
@@ -440,9 +503,17 @@ static int made_at_home(struct sugwelan_domain *domain, const struct sugwelan_ca
     if (!domain)
         return -EBADF;
     pthread_mutex_lock(&domain->lock);
-    int answer = served(domain, domain->home, 0, call, told);
+    int answer = served(domain, domain->home, 0, NULL, call, told);
     pthread_mutex_unlock(&domain->lock);
     return answer;
+}
+
+/* Wakes a task where it sleeps: 0 or a negative errno. */
+static int wake_up_at_home(struct sugwelan_domain *domain, uint32_t number)
+{
+    struct sugwelan_told told;
+    struct sugwelan_call call = {.kind = SUGWELAN_WAKE_UP_PROCESS, .a = number};
+    return made_at_home(domain, &call, &told);
 }
 
 /* Makes a call: 0 or a negative errno. `told` is as the last stretch left it. */
@@ -454,7 +525,7 @@ static int made(struct caller who, struct sugwelan_call call, struct sugwelan_to
     int answer = begin(task);
     if (answer)
         return answer;
-    answer = served(task->domain, task->handle, task->number, &call, told);
+    answer = served(task->domain, task->handle, task->number, who.limited ? &who.until : NULL, &call, told);
     if (!answer)
         count_kept(task, call.kind, told);
     end(task);
@@ -674,14 +745,35 @@ int sugwelan_wait_event(struct sugwelan_task *task, uint32_t condition, enum sug
     return waits(by_task(task), (struct sugwelan_call){SUGWELAN_WAIT_EVENT, condition, state, false, 0});
 }
 
+int sugwelan_wait_event_timeout(struct sugwelan_task *task, uint32_t condition, enum sugwelan_state state,
+                                uint64_t nanoseconds)
+{
+    return waits(by_task_within(task, nanoseconds),
+                 (struct sugwelan_call){SUGWELAN_WAIT_EVENT, condition, state, false, 0});
+}
+
 int sugwelan_wait_event_exclusive(struct sugwelan_task *task, uint32_t condition, enum sugwelan_state state)
 {
     return waits(by_task(task), (struct sugwelan_call){SUGWELAN_WAIT_EVENT, condition, state, true, 0});
 }
 
+int sugwelan_wait_event_exclusive_timeout(struct sugwelan_task *task, uint32_t condition, enum sugwelan_state state,
+                                          uint64_t nanoseconds)
+{
+    return waits(by_task_within(task, nanoseconds),
+                 (struct sugwelan_call){SUGWELAN_WAIT_EVENT, condition, state, true, 0});
+}
+
 int sugwelan_swait_event(struct sugwelan_task *task, uint32_t condition, enum sugwelan_state state)
 {
     return waits(by_task(task), (struct sugwelan_call){SUGWELAN_SWAIT_EVENT, condition, state, 0, 0});
+}
+
+int sugwelan_swait_event_timeout(struct sugwelan_task *task, uint32_t condition, enum sugwelan_state state,
+                                 uint64_t nanoseconds)
+{
+    return waits(by_task_within(task, nanoseconds),
+                 (struct sugwelan_call){SUGWELAN_SWAIT_EVENT, condition, state, 0, 0});
 }
 
 int sugwelan_wake_up(struct sugwelan_task *task, uint32_t condition, enum sugwelan_mode mode, uint32_t count,
@@ -727,6 +819,13 @@ int sugwelan_wait_var_event(struct sugwelan_task *task, uint32_t variable, uint6
     return finds(by_task(task), (struct sugwelan_call){SUGWELAN_WAIT_VAR_EVENT, variable, state, 0, old}, found);
 }
 
+int sugwelan_wait_var_event_timeout(struct sugwelan_task *task, uint32_t variable, uint64_t old,
+                                    enum sugwelan_state state, uint64_t nanoseconds, uint64_t *found)
+{
+    return finds(by_task_within(task, nanoseconds),
+                 (struct sugwelan_call){SUGWELAN_WAIT_VAR_EVENT, variable, state, 0, old}, found);
+}
+
 int sugwelan_publish_var_and_wake(struct sugwelan_task *task, uint32_t variable, uint64_t value,
                                   struct sugwelan_walked *walked)
 {
@@ -738,9 +837,23 @@ int sugwelan_wait_on_bit(struct sugwelan_task *task, uint32_t word, uint32_t bit
     return waits(by_task(task), (struct sugwelan_call){SUGWELAN_WAIT_ON_BIT, word, bit, state, 0});
 }
 
+int sugwelan_wait_on_bit_timeout(struct sugwelan_task *task, uint32_t word, uint32_t bit, enum sugwelan_state state,
+                                 uint64_t nanoseconds)
+{
+    return waits(by_task_within(task, nanoseconds),
+                 (struct sugwelan_call){SUGWELAN_WAIT_ON_BIT, word, bit, state, 0});
+}
+
 int sugwelan_wait_on_bit_lock(struct sugwelan_task *task, uint32_t word, uint32_t bit, enum sugwelan_state state)
 {
     return waits(by_task(task), (struct sugwelan_call){SUGWELAN_WAIT_ON_BIT_LOCK, word, bit, state, 0});
+}
+
+int sugwelan_wait_on_bit_lock_timeout(struct sugwelan_task *task, uint32_t word, uint32_t bit,
+                                      enum sugwelan_state state, uint64_t nanoseconds)
+{
+    return waits(by_task_within(task, nanoseconds),
+                 (struct sugwelan_call){SUGWELAN_WAIT_ON_BIT_LOCK, word, bit, state, 0});
 }
 
 int sugwelan_trylock_bit(struct sugwelan_task *task, uint32_t word, uint32_t bit)
@@ -757,6 +870,12 @@ int sugwelan_clear_and_wake_up_bit(struct sugwelan_task *task, uint32_t word, ui
 int sugwelan_lock_page(struct sugwelan_task *task, uint32_t page, enum sugwelan_state state)
 {
     return waits(by_task(task), (struct sugwelan_call){SUGWELAN_LOCK_PAGE, page, state, 0, 0});
+}
+
+int sugwelan_lock_page_timeout(struct sugwelan_task *task, uint32_t page, enum sugwelan_state state,
+                               uint64_t nanoseconds)
+{
+    return waits(by_task_within(task, nanoseconds), (struct sugwelan_call){SUGWELAN_LOCK_PAGE, page, state, 0, 0});
 }
 
 int sugwelan_trylock_page(struct sugwelan_task *task, uint32_t page)
@@ -777,6 +896,13 @@ int sugwelan_add_tally(struct sugwelan_task *task, uint32_t page, uint64_t amoun
 int sugwelan_wait_for_completion(struct sugwelan_task *task, uint32_t completion, enum sugwelan_state state)
 {
     return waits(by_task(task), (struct sugwelan_call){SUGWELAN_WAIT_FOR_COMPLETION, completion, state, 0, 0});
+}
+
+int sugwelan_wait_for_completion_timeout(struct sugwelan_task *task, uint32_t completion, enum sugwelan_state state,
+                                         uint64_t nanoseconds)
+{
+    return waits(by_task_within(task, nanoseconds),
+                 (struct sugwelan_call){SUGWELAN_WAIT_FOR_COMPLETION, completion, state, 0, 0});
 }
 
 int sugwelan_complete(struct sugwelan_task *task, uint32_t completion)
@@ -809,6 +935,11 @@ int sugwelan_raise_signal(struct sugwelan_task *task, uint32_t number, int fatal
     return waits(by_task(task), (struct sugwelan_call){SUGWELAN_RAISE_SIGNAL, number, fatal != 0, 0, 0});
 }
 
+int sugwelan_wake_up_process(struct sugwelan_task *task, uint32_t number)
+{
+    return tells(by_task(task), (struct sugwelan_call){SUGWELAN_WAKE_UP_PROCESS, number, 0, 0, 0});
+}
+
 int sugwelan_take_signal(struct sugwelan_task *task)
 {
     return tells(by_task(task), (struct sugwelan_call){SUGWELAN_TAKE_SIGNAL, 0, 0, 0, 0});
@@ -822,11 +953,11 @@ int sugwelan_signal_pending(struct sugwelan_task *task)
     int answer = begin(task);
     if (answer)
         return answer;
-    answer = served(task->domain, task->handle, task->number, &call, &told);
+    answer = served(task->domain, task->handle, task->number, NULL, &call, &told);
     uint64_t signal = answer ? 0 : told.value;
     if (signal) {
         call = (struct sugwelan_call){SUGWELAN_RAISE_SIGNAL, task->number, signal == 2, 0, 0};
-        answer = served(task->domain, task->handle, task->number, &call, &told);
+        answer = served(task->domain, task->handle, task->number, NULL, &call, &told);
     }
     end(task);
     return answer ? answer : (int)signal;
@@ -835,6 +966,11 @@ int sugwelan_signal_pending(struct sugwelan_task *task)
 int sugwelan_domain_raise_signal(struct sugwelan_domain *domain, uint32_t number, int fatal)
 {
     return waits(by_domain(domain), (struct sugwelan_call){SUGWELAN_RAISE_SIGNAL, number, fatal != 0, 0, 0});
+}
+
+int sugwelan_domain_wake_up_process(struct sugwelan_domain *domain, uint32_t number)
+{
+    return tells(by_domain(domain), (struct sugwelan_call){SUGWELAN_WAKE_UP_PROCESS, number, 0, 0, 0});
 }
 
 int sugwelan_domain_wake_up(struct sugwelan_domain *domain, uint32_t condition, enum sugwelan_mode mode, uint32_t count,

@@ -11,7 +11,9 @@
  *   - no thread is in a call on a task when it is freed;
  *   - no call is made from a signal handler: it may wait for the very thread that it interrupted;
  *   - a thread whose cancel type is asynchronous makes no call. With the usual type `pthread_cancel` stops no thread
- *     within a call: one that is parked goes on once it is woken, and is cancelled at its next cancellation point;
+ *     within a call, and no wait is a cancellation point, since each caller would have to clean up what he keeps: one
+ *     that is parked goes on once it is woken or its limit has come, and is cancelled at its next cancellation point. So
+ *     who is to be cancelled waits with a limit, and calls pthread_testcancel before he waits on;
  *   - after fork(2) the child's copy of a Domain is a world of its own, where no wake comes from the parent. It is
  *     whole where no other thread was in a call; so make Domains behind the fork.
  *
@@ -24,17 +26,26 @@
  *   -EALREADY         another thread is in a call on the task, or the Domain was freed before
  *   -EBADF            the task or the Domain is null
  *   -EINTR            a signal ended the wait: one of sugwelan_raise_signal, since those of the system end none
+ *   -ETIMEDOUT        the limit of a wait came first, and it was left
  *   -ENOSPC           no place is left in the queue, as after 2^37 waits at it; the wait is over
  *   -EAGAIN           no number is spare for a further task
  *   -ENOMEM           there is no memory; the number of a further task may be used up
  *   -ENOTRECOVERABLE  a wake of the task came to no end, as none does, and it makes no more calls
  *
- * After all but -EINTR, -ENOSPC and -ENOMEM nothing has changed. What is not listed with each call: -EBADF and
- * -ENOTRECOVERABLE, and of those that take a task -EALREADY.
+ * After all but -EINTR, -ETIMEDOUT, -ENOSPC and -ENOMEM nothing has changed. What is not listed with each call: -EBADF
+ * and -ENOTRECOVERABLE, and of those that take a task -EALREADY.
  *
  * The rule for wakers: change the condition, then wake. The rule for waiters: the end of a wait says that the
  * condition was set, and not that it still is; who takes it tests what it has got. A signal ends no call that need not
  * sleep: who works on without sleeping asks sugwelan_signal_pending.
+ *
+ * A wait with a limit, `.._timeout`, is as the one before it, and lasts so many nanoseconds of CLOCK_MONOTONIC at most:
+ * any number, of which the last is some 584 years; with 0 it looks whether it has to wait, and goes on at once. Who
+ * waits without a limit takes the call without one. Where the limit has come the wait is left: its entry goes off the
+ * queue, and it looks once more. What it has got meanwhile it has, and answers 0; else it answers -ETIMEDOUT, keeps
+ * nothing, and takes nothing from those who wait on. It ends later than its limit by what the thread waits for a
+ * processor and for the lock of the queue, which others keep for short. Time is of this library alone: no law of the
+ * archive speaks of it.
  *
  * The headers are C99 or C++; `sugwelan.c` is C11. */
 #ifndef SUGWELAN_H
@@ -99,11 +110,24 @@ int sugwelan_task_number(struct sugwelan_task *task);
 /* Waits until a condition below SUGWELAN_FIRST_SIMPLE is set. -EINVAL, -EINTR, -ENOSPC */
 int sugwelan_wait_event(struct sugwelan_task *task, uint32_t condition, enum sugwelan_state state);
 
-/* The same, as one of those of whom a wake with a count selects only so many. -EINVAL, -EINTR, -ENOSPC */
+/* The same with a limit. -EINVAL, -EINTR, -ETIMEDOUT, -ENOSPC */
+int sugwelan_wait_event_timeout(struct sugwelan_task *task, uint32_t condition, enum sugwelan_state state,
+                                uint64_t nanoseconds);
+
+/* Waits as one of those of whom a wake with a count selects only so many. -EINVAL, -EINTR, -ENOSPC */
 int sugwelan_wait_event_exclusive(struct sugwelan_task *task, uint32_t condition, enum sugwelan_state state);
+
+/* The same with a limit: where a wake has selected it, it answers 0, or has found that others took the condition.
+ * -EINVAL, -EINTR, -ETIMEDOUT, -ENOSPC */
+int sugwelan_wait_event_exclusive_timeout(struct sugwelan_task *task, uint32_t condition, enum sugwelan_state state,
+                                          uint64_t nanoseconds);
 
 /* Waits in the simple queue of a condition from SUGWELAN_FIRST_SIMPLE on. -EINVAL, -EOPNOTSUPP, -EINTR, -ENOSPC */
 int sugwelan_swait_event(struct sugwelan_task *task, uint32_t condition, enum sugwelan_state state);
+
+/* The same with a limit. -EINVAL, -EOPNOTSUPP, -EINTR, -ETIMEDOUT, -ENOSPC */
+int sugwelan_swait_event_timeout(struct sugwelan_task *task, uint32_t condition, enum sugwelan_state state,
+                                 uint64_t nanoseconds);
 
 /* Wakes who waits for a condition: all of them where the count is 0, else all that are not exclusive before the last
  * of `count` exclusive ones. `walked` may be null, here and below. -EINVAL */
@@ -137,6 +161,10 @@ int sugwelan_swake_up_all(struct sugwelan_task *task, uint32_t condition, uint32
 int sugwelan_wait_var_event(struct sugwelan_task *task, uint32_t variable, uint64_t old, enum sugwelan_state state,
                             uint64_t *found);
 
+/* The same with a limit. -EINVAL, -EINTR, -ETIMEDOUT, -ENOSPC */
+int sugwelan_wait_var_event_timeout(struct sugwelan_task *task, uint32_t variable, uint64_t old,
+                                    enum sugwelan_state state, uint64_t nanoseconds, uint64_t *found);
+
 /* Changes a variable from SUGWELAN_FIRST_VARIABLE on, and wakes who waits for it. -EINVAL */
 int sugwelan_publish_var_and_wake(struct sugwelan_task *task, uint32_t variable, uint64_t value,
                                   struct sugwelan_walked *walked);
@@ -147,8 +175,16 @@ int sugwelan_publish_var_and_wake(struct sugwelan_task *task, uint32_t variable,
 /* Waits until a bit is clear, and does not take it. -EINVAL, -EDEADLK, -EINTR, -ENOSPC */
 int sugwelan_wait_on_bit(struct sugwelan_task *task, uint32_t word, uint32_t bit, enum sugwelan_state state);
 
+/* The same with a limit. -EINVAL, -EDEADLK, -EINTR, -ETIMEDOUT, -ENOSPC */
+int sugwelan_wait_on_bit_timeout(struct sugwelan_task *task, uint32_t word, uint32_t bit, enum sugwelan_state state,
+                                 uint64_t nanoseconds);
+
 /* Waits until it has taken a bit. -EINVAL, -EDEADLK, -EINTR, -ENOSPC */
 int sugwelan_wait_on_bit_lock(struct sugwelan_task *task, uint32_t word, uint32_t bit, enum sugwelan_state state);
+
+/* The same with a limit. -EINVAL, -EDEADLK, -EINTR, -ETIMEDOUT, -ENOSPC */
+int sugwelan_wait_on_bit_lock_timeout(struct sugwelan_task *task, uint32_t word, uint32_t bit,
+                                      enum sugwelan_state state, uint64_t nanoseconds);
 
 /* Takes a bit where it is clear: 1 where it was, else 0. So its answer is that of the kernel's test_and_set_bit turned
  * round. -EINVAL */
@@ -162,6 +198,10 @@ int sugwelan_clear_and_wake_up_bit(struct sugwelan_task *task, uint32_t word, ui
 
 /* Waits until it has got a page. -EINVAL, -EDEADLK, -EINTR, -ENOSPC */
 int sugwelan_lock_page(struct sugwelan_task *task, uint32_t page, enum sugwelan_state state);
+
+/* The same with a limit. -EINVAL, -EDEADLK, -EINTR, -ETIMEDOUT, -ENOSPC */
+int sugwelan_lock_page_timeout(struct sugwelan_task *task, uint32_t page, enum sugwelan_state state,
+                               uint64_t nanoseconds);
 
 /* Takes a page that nobody keeps: 1 where it has got it, else 0. -EINVAL */
 int sugwelan_trylock_page(struct sugwelan_task *task, uint32_t page);
@@ -177,6 +217,10 @@ int sugwelan_add_tally(struct sugwelan_task *task, uint32_t page, uint64_t amoun
 
 /* Waits until a completion has a permit, and takes it. -EINVAL, -EINTR, -ENOSPC */
 int sugwelan_wait_for_completion(struct sugwelan_task *task, uint32_t completion, enum sugwelan_state state);
+
+/* The same with a limit. -EINVAL, -EINTR, -ETIMEDOUT, -ENOSPC */
+int sugwelan_wait_for_completion_timeout(struct sugwelan_task *task, uint32_t completion, enum sugwelan_state state,
+                                         uint64_t nanoseconds);
 
 /* Gives a completion one permit more, and wakes the first who waits for one. -EINVAL */
 int sugwelan_complete(struct sugwelan_task *task, uint32_t completion);
@@ -199,6 +243,11 @@ int sugwelan_completion_done(struct sugwelan_task *task, uint32_t completion);
  * no task has is good, too. -EINVAL */
 int sugwelan_raise_signal(struct sugwelan_task *task, uint32_t number, int fatal);
 
+/* Wakes a task, by its number, with no signal: 1 where it slept or was about to, else 0. What it waits for it looks at
+ * again, and it sleeps again where that is not so: for who has changed something that the task looks at itself. A number
+ * that no task has is good, too. -EINVAL */
+int sugwelan_wake_up_process(struct sugwelan_task *task, uint32_t number);
+
 /* Takes the signals of the own task: 0 where there was none, 1 for a plain one, 2 for a fatal one. */
 int sugwelan_take_signal(struct sugwelan_task *task);
 
@@ -209,6 +258,7 @@ int sugwelan_signal_pending(struct sugwelan_task *task);
  * codes. The Domain makes them by a task of its own under a lock, one at a time. */
 
 int sugwelan_domain_raise_signal(struct sugwelan_domain *domain, uint32_t number, int fatal);
+int sugwelan_domain_wake_up_process(struct sugwelan_domain *domain, uint32_t number);
 int sugwelan_domain_wake_up(struct sugwelan_domain *domain, uint32_t condition, enum sugwelan_mode mode, uint32_t count,
                             struct sugwelan_walked *walked);
 int sugwelan_domain_set_and_wake(struct sugwelan_domain *domain, uint32_t condition, uint64_t value, uint32_t count,

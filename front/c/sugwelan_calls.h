@@ -48,7 +48,8 @@ enum sugwelan_end {
     SUGWELAN_STOPPED = 2 /* an entry stopped it: its bit was set again, or its page taken */
 };
 
-/* What a call answers. Another answer is a negative errno, after which nothing has changed but with -EINTR and -ENOSPC:
+/* What a call answers. Another answer is a negative errno, after which nothing has changed but with -EINTR, -ECANCELED
+ * and -ENOSPC:
  *   -EINVAL           a number is out of its range, or the kind is none
  *   -EOPNOTSUPP       a wait in a simple queue would be killable
  *   -EBUSY            another call of the task is under way
@@ -56,6 +57,7 @@ enum sugwelan_end {
  *   -EPERM            the task does not keep the bit or page that it would give back, or to whose tally it would add
  *   -EDEADLK          the task keeps the bit or page itself for which it would wait
  *   -EINTR            a signal ended the wait
+ *   -ECANCELED        the wait was left: it has taken nothing, and `told` has the value that its last look found
  *   -ENOSPC           no place is left in the queue, and the wait is over
  *   -ENOTRECOVERABLE  a wake of the task came to no end, as none does, and it makes no more calls */
 enum sugwelan_answer {
@@ -95,7 +97,11 @@ enum sugwelan_kind {
     SUGWELAN_TAKE_CONDITION = 33,          /* condition; tells its value */
     SUGWELAN_NUMBER = 34,                  /* tells the task's number, also while a call is under way */
     SUGWELAN_RAISE_SIGNAL = 35,            /* task, 1 for a fatal signal */
-    SUGWELAN_TAKE_SIGNAL = 36              /* tells 0 for none, 1 for a plain one, 2 for a fatal one */
+    SUGWELAN_TAKE_SIGNAL = 36,             /* tells 0 for none, 1 for a plain one, 2 for a fatal one */
+    SUGWELAN_WAKE_UP_PROCESS = 37,         /* task; tells 1 where it slept, or was about to */
+    SUGWELAN_LEAVE = 38                    /* goes on with the call that is under way, as SUGWELAN_ADVANCE does, and
+                                            * leaves it where it is a wait. It ends as ever where it has got what it
+                                            * waited for. A task that is asleep is woken first, by another one */
 };
 
 /* A call. */

@@ -1,12 +1,14 @@
 /* Threads are cancelled in calls that many make at once: the others go on, and so does the task of each that was
- * cancelled. A thread that is parked is cancelled once it was woken. The number of cancels may be given (300). */
+ * cancelled. A thread that is parked is cancelled once it was woken or its limit has come. The number of cancels may be
+ * given (300). */
 #include "../sugwelan.h"
 #include "expect.h"
 #include <pthread.h>
 #include <stdbool.h>
 #include <time.h>
 
-enum { WORKERS = 8, CANCELS = 300, CELL = 3, GATE = 4, BIT_WORD = 5, NAP = 200000 };
+enum { WORKERS = 8, CANCELS = 300, CELL = 3, GATE = 4, OTHER_GATE = 6, BIT_WORD = 5, NAP = 200000 };
+enum { TICK = 1000000 };
 
 /* A thread with its task, and how often it went round. */
 struct worker {
@@ -100,6 +102,33 @@ static void cancel_parked(void)
     EXPECT(sugwelan_task_free(task), 0);
 }
 
+/* Waits with a limit, again and again, and is cancelled in between. */
+static void *ticks(void *task)
+{
+    while (sugwelan_wait_event_timeout(task, OTHER_GATE, SUGWELAN_UNINTERRUPTIBLE, TICK) == -ETIMEDOUT)
+        pthread_testcancel();
+    EXPECT(0, 1);
+    return NULL;
+}
+
+/* Nobody wakes it, and nothing of its wait is left. */
+static void cancel_between_limits(void)
+{
+    pthread_t thread;
+    struct sugwelan_walked walked;
+    struct sugwelan_task *task;
+    void *end = NULL;
+    EXPECT(sugwelan_domain_task(domain, &task), 0);
+    EXPECT(pthread_create(&thread, NULL, ticks, task), 0);
+    nap();
+    EXPECT(pthread_cancel(thread), 0);
+    EXPECT(pthread_join(thread, &end), 0);
+    EXPECT(end == PTHREAD_CANCELED, 1);
+    EXPECT(sugwelan_domain_set_and_wake(domain, OTHER_GATE, 1, 0, &walked), 0);
+    EXPECT(walked.woken, 0);
+    EXPECT(sugwelan_task_free(task), 0);
+}
+
 int main(int count, char **words)
 {
     alarm(PATIENCE);
@@ -119,6 +148,7 @@ int main(int count, char **words)
         EXPECT(sugwelan_task_free(workers[i].task), 0);
     }
     cancel_parked();
+    cancel_between_limits();
     EXPECT(sugwelan_domain_free(domain), 0);
     return finish("cancel");
 }

@@ -3,6 +3,7 @@
 #include "../sugwelan.h"
 #include "expect.h"
 #include <pthread.h>
+#include <sched.h>
 
 enum { ROUNDS = 1000, EACH = 25, THREADS = 4 };
 enum { PLAIN = 1, SIMPLE = 50, VARIABLE = 20, CELL = 2, WORD = 3, BIT = 4, PAGE = 5, VALUE = 7 };
@@ -70,6 +71,31 @@ static void wakes(void)
     }
 }
 
+static void *waits_for_condition(void *self)
+{
+    EXPECT(sugwelan_wait_event(self, PLAIN, SUGWELAN_UNINTERRUPTIBLE), 0);
+    return NULL;
+}
+
+/* Who is woken and finds the condition clear sleeps again. */
+static void woken_for_nothing(void)
+{
+    pthread_t thread;
+    uint64_t value = 0;
+    uint32_t number = (uint32_t)sugwelan_task_number(task);
+    EXPECT(sugwelan_domain_wake_up_process(domain, number), 0);
+    for (long round = 0; round < rounds; round++) {
+        EXPECT(pthread_create(&thread, NULL, waits_for_condition, task), 0);
+        for (int i = 0; i < 3; i++)
+            while (sugwelan_domain_wake_up_process(domain, number) == 0)
+                sched_yield();
+        EXPECT(sugwelan_domain_set_and_wake(domain, PLAIN, VALUE, 0, NULL), 0);
+        EXPECT(pthread_join(thread, NULL), 0);
+        EXPECT(sugwelan_take_condition(task, PLAIN, &value), 0);
+        EXPECT(value, VALUE);
+    }
+}
+
 /* Tasks one after the other, each of which takes a lock and gives it back. */
 static void *takes_tasks(void *unused)
 {
@@ -132,6 +158,7 @@ int main(int count, char **words)
     EXPECT(sugwelan_domain_task(domain, &task), 0);
     calls();
     wakes();
+    woken_for_nothing();
     numbers_used_again();
     two_domains();
     EXPECT(sugwelan_domain_free(domain), 0);

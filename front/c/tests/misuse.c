@@ -102,6 +102,7 @@ static void completions_out_of_range(void)
     REFUSED(sugwelan_try_wait_for_completion(task, SUGWELAN_COMPLETIONS), -EINVAL);
     REFUSED(sugwelan_completion_done(task, SUGWELAN_COMPLETIONS), -EINVAL);
     REFUSED(sugwelan_raise_signal(task, 256, 0), -EINVAL);
+    REFUSED(sugwelan_wake_up_process(task, 256), -EINVAL);
 }
 
 static void bits_of_others(void)
@@ -152,6 +153,7 @@ static void no_task(void)
     EXPECT(sugwelan_try_wait_for_completion(NULL, CELL), -EBADF);
     EXPECT(sugwelan_completion_done(NULL, CELL), -EBADF);
     EXPECT(sugwelan_raise_signal(NULL, 0, 0), -EBADF);
+    EXPECT(sugwelan_wake_up_process(NULL, 0), -EBADF);
     EXPECT(sugwelan_take_signal(NULL), -EBADF);
     EXPECT(sugwelan_signal_pending(NULL), -EBADF);
 }
@@ -160,6 +162,7 @@ static void no_domain(void)
 {
     EXPECT(sugwelan_domain_free(NULL), -EBADF);
     EXPECT(sugwelan_domain_raise_signal(NULL, 0, 0), -EBADF);
+    EXPECT(sugwelan_domain_wake_up_process(NULL, 0), -EBADF);
     EXPECT(sugwelan_domain_wake_up(NULL, SET, SUGWELAN_WAKE_NORMAL, 0, NULL), -EBADF);
     EXPECT(sugwelan_domain_set_and_wake(NULL, SET, 1, 0, NULL), -EBADF);
     EXPECT(sugwelan_domain_set_and_swake_one(NULL, SIMPLE, 1, NULL), -EBADF);
@@ -186,6 +189,7 @@ static void domain_out_of_range(void)
 {
     struct sugwelan_domain *domain = sugwelan_task_domain(task);
     REFUSED(sugwelan_domain_raise_signal(domain, 256, 0), -EINVAL);
+    REFUSED(sugwelan_domain_wake_up_process(domain, 256), -EINVAL);
     REFUSED(sugwelan_domain_wake_up(domain, SUGWELAN_FIRST_SIMPLE, SUGWELAN_WAKE_NORMAL, 0, NULL), -EINVAL);
     REFUSED(sugwelan_domain_wake_up(domain, SET, (enum sugwelan_mode)NO_MODE, 0, NULL), -EINVAL);
     REFUSED(sugwelan_domain_set_and_wake(domain, CLEAR + 256, 1, 0, NULL), -EINVAL);
@@ -304,6 +308,7 @@ static const struct sugwelan_call beginnings[] = {
     {SUGWELAN_TAKE_CONDITION, CLEAR, 0, 0, 0},
     {SUGWELAN_RAISE_SIGNAL, 0, 0, 0, 0},
     {SUGWELAN_TAKE_SIGNAL, 0, 0, 0, 0},
+    {SUGWELAN_WAKE_UP_PROCESS, 0, 0, 0, 0},
 };
 
 /* While a call is under way no other one begins, and the task is not given up. */

@@ -6,7 +6,8 @@
 #include <stdbool.h>
 #include <time.h>
 
-enum { WORKERS = 12, CALLS = 1000, KINDS = 11, PLACES = 4, FIRST_PAGE = 8, FIRST_VARIABLE = 20, NAP = 100000 };
+enum { WORKERS = 12, CALLS = 1000, KINDS = 12, PLACES = 4, FIRST_PAGE = 8, FIRST_VARIABLE = 20, NAP = 100000 };
+enum { LONGEST = 50000 };
 
 /* A thread with its task and its own row of random numbers. */
 struct worker {
@@ -92,6 +93,37 @@ static void wait_simply(struct worker *me, uint32_t condition)
     EXPECT(sugwelan_take_condition(me->task, condition, NULL), 0);
 }
 
+/* Whether a wait with a limit got what it waited for. */
+static bool got(struct worker *me, int answer)
+{
+    if (answer != -ETIMEDOUT)
+        may_be_signalled(me, answer);
+    return !answer;
+}
+
+/* Waits for so long at most, and gives back what it has got. */
+static void wait_briefly(struct worker *me, uint32_t word, uint32_t bit)
+{
+    uint64_t limit = any(me, LONGEST);
+    switch (any(me, 4)) {
+    case 0:
+        if (got(me, sugwelan_wait_on_bit_lock_timeout(me->task, word, bit, SUGWELAN_INTERRUPTIBLE, limit)))
+            give_bit(me, word, bit);
+        break;
+    case 1:
+        if (got(me, sugwelan_lock_page_timeout(me->task, FIRST_PAGE + word, SUGWELAN_INTERRUPTIBLE, limit)))
+            give_page(me, word);
+        break;
+    case 2:
+        if (got(me, sugwelan_wait_for_completion_timeout(me->task, word, SUGWELAN_INTERRUPTIBLE, limit)))
+            EXPECT(sugwelan_complete(me->task, word), 0);
+        break;
+    default:
+        if (got(me, sugwelan_wait_event_exclusive_timeout(me->task, word, SUGWELAN_INTERRUPTIBLE, limit)))
+            EXPECT(sugwelan_wake_up(me->task, word, SUGWELAN_WAKE_NORMAL, 1, NULL), 0);
+    }
+}
+
 /* One call, or two, of any kind. */
 static void call(struct worker *me)
 {
@@ -130,6 +162,9 @@ static void call(struct worker *me)
         break;
     case 9:
         wait_simply(me, SUGWELAN_FIRST_SIMPLE + word);
+        break;
+    case 10:
+        wait_briefly(me, word, bit);
         break;
     default:
         wait_and_take(me, word);

@@ -39,8 +39,8 @@ impl Sleeper {
 struct Bell {
     rung: AtomicBool,
     sleeper: Mutex<Option<Sleeper>>,
-    /// The worst signal of the task that its user has raised and it has not taken. Signals by which this crate ends a
-    /// wait are not among them. It is locked while a signal of the task is raised or taken.
+    /// The worst signal of the task that was raised and that it has not taken. It is locked while a signal of the task
+    /// is raised or taken.
     raised: Mutex<Option<Signal>>,
 }
 
@@ -100,7 +100,7 @@ impl Bells {
         drop(self.at(number).exchange(None));
     }
 
-    /// The signal of a task that its user has raised, under its lock.
+    /// The signal of a task that was raised, under its lock.
     pub fn raised(&self, number: u8) -> MutexGuard<'_, Option<Signal>> {
         lock(&self.at(number).raised)
     }

@@ -2,8 +2,9 @@
 
 use crate::lent::{Lends, Lent};
 use crate::raw::{Call, Kind, BITS, WORDS};
-use crate::states::{Left, State};
+use crate::states::State;
 use crate::{Domain, Error, Task};
+use std::time::Duration;
 
 /// One of the 64 bits of one of the 128 words of a Domain.
 #[derive(Clone, Copy, Debug, PartialEq, Eq)]
@@ -64,8 +65,20 @@ impl BitLock {
         Ok(self.guard(task))
     }
 
-    /// The same for an executor. Errors: as before.
-    pub async fn lock_later<'t>(&self, task: &'t mut impl Lends, state: impl Left) -> Result<BitGuard<'t>, Error> {
+    /// The same for so long at most. Errors: as before, and [`Error::TimedOut`].
+    pub fn lock_timeout<'t>(
+        &self,
+        task: &'t mut impl Lends,
+        state: impl State,
+        limit: Duration,
+    ) -> Result<BitGuard<'t>, Error> {
+        let task = self.own(task)?;
+        task.wait_on_bit_lock(self.bit, state).timeout(limit)?;
+        Ok(self.guard(task))
+    }
+
+    /// As [`BitLock::lock`], for an executor. Errors: as there.
+    pub async fn lock_later<'t>(&self, task: &'t mut impl Lends, state: impl State) -> Result<BitGuard<'t>, Error> {
         let task = self.own(task)?;
         task.wait_on_bit_lock(self.bit, state).await?;
         Ok(self.guard(task))

@@ -71,6 +71,11 @@ impl Domain {
         self.shared.raise(number, signal)
     }
 
+    /// As [`Task::wake_up_process`].
+    pub fn wake_up_process(&self, number: u8) -> Result<bool, Error> {
+        self.shared.kick(number)
+    }
+
     /// As [`Task::wake_up`]. Errors: [`Error::Invalid`].
     pub fn wake_up(&self, condition: u8, mode: Mode, count: u32) -> Result<Walked, Error> {
         let call = Call::new(Kind::WakeUp).at(condition).and(mode as u32).with(count);

@@ -2,9 +2,9 @@
 
 use std::fmt;
 
-/// Why a call was refused, or ended otherwise than it should. After all but [`Error::Signal`], [`Error::Full`] and
-/// [`Error::Memory`] nothing has changed. Each call lists those that it may give; [`Error::Starved`] and
-/// [`Error::Other`] are of each.
+/// Why a call was refused, or ended otherwise than it should. After all but [`Error::Signal`], [`Error::TimedOut`],
+/// [`Error::Full`] and [`Error::Memory`] nothing has changed. Each call lists those that it may give;
+/// [`Error::TimedOut`] is of each wait with a limit, [`Error::Starved`] and [`Error::Other`] are of each call.
 #[derive(Clone, Copy, Debug, PartialEq, Eq)]
 pub enum Error {
     /// A number is out of its range.
@@ -17,6 +17,8 @@ pub enum Error {
     Keeps,
     /// A signal ended the wait, which has taken nothing.
     Signal,
+    /// The limit of a wait came first, and it was left: it has taken nothing.
+    TimedOut,
     /// No place is left in the queue, as after 2^37 waits at it, and the wait is over.
     Full,
     /// No number is spare for a further task: 255 of the Domain are in use.
@@ -34,7 +36,7 @@ pub enum Error {
 }
 
 /// The codes of the archive, of which each says one thing.
-const CODES: [(i32, Error); 9] = [
+const CODES: [(i32, Error); 10] = [
     (-1, Error::NotHeld),
     (-2, Error::Over),
     (-4, Error::Signal),
@@ -43,6 +45,7 @@ const CODES: [(i32, Error); 9] = [
     (-22, Error::Invalid),
     (-28, Error::Full),
     (-35, Error::Held),
+    (-125, Error::TimedOut),
     (-131, Error::Starved),
 ];
 
@@ -62,6 +65,7 @@ impl fmt::Display for Error {
             Error::NotHeld => out.write_str("the task does not keep the bit"),
             Error::Keeps => out.write_str("the task keeps a bit or a page"),
             Error::Signal => out.write_str("a signal ended the wait"),
+            Error::TimedOut => out.write_str("the limit of the wait came first"),
             Error::Full => out.write_str("no place is left in the queue"),
             Error::NoNumber => out.write_str("no number is spare for a further task"),
             Error::Memory => out.write_str("out of memory"),

@@ -22,7 +22,9 @@ pub struct Seat {
     answer: AtomicI32,
     /// ... once this is so: it waits at no gate any more.
     over: AtomicBool,
-    /// Whether a thread is parked for it, or about to be; ...
+    /// Whether the call is a wait that is left; ...
+    leaves: AtomicBool,
+    /// ... whether a thread is parked for it, or about to be; ...
     blocks: AtomicBool,
     /// ... and whether that is to go on with those behind it.
     goes_on: AtomicBool,
@@ -42,6 +44,7 @@ impl Seat {
             told: UnsafeCell::new(Told::new()),
             answer: AtomicI32::new(raw::DONE),
             over: AtomicBool::new(false),
+            leaves: AtomicBool::new(false),
             blocks: AtomicBool::new(false),
             goes_on: AtomicBool::new(false),
         }
@@ -73,6 +76,19 @@ impl Seat {
         unsafe { &*self.told.get() }
     }
 
+    /// Whether the call is one that is left. It is said while the seat waits at no gate.
+    pub fn set_leaves(&self, leaves: bool) {
+        self.leaves.store(leaves, SeqCst);
+    }
+
+    /// The call that goes on with the one that is under way.
+    pub fn next(&self) -> Call {
+        Call::new(match self.leaves.load(SeqCst) {
+            true => Kind::Leave,
+            false => Kind::Advance,
+        })
+    }
+
     /// Whether another thread has gone on with it.
     pub fn is_over(&self) -> bool {
         self.over.load(SeqCst)
@@ -92,7 +108,7 @@ impl Waiter {
     /// The waiter's gate is locked.
     unsafe fn look(&self) -> Option<i32> {
         // SAFETY: as the caller keeps to.
-        let (code, ticket) = unsafe { (self.seat.stretch(&Call::new(Kind::Advance)), self.seat.told().ticket) };
+        let (code, ticket) = unsafe { (self.seat.stretch(&self.seat.next()), self.seat.told().ticket) };
         (code != raw::LOCKED || ticket != self.ticket).then_some(code)
     }
 }
@@ -130,7 +146,9 @@ impl Gate {
         let told = unsafe { seat.told() };
         let (ticket, mut roused) = (told.ticket, told.roused().to_vec());
         let hands_on = hands_on && code != raw::LOCKED && seat.blocks.load(SeqCst);
-        if hands_on || (code != raw::LOCKED && code != raw::PARK) {
+        // Who sleeps and is left does not stay asleep: who leaves it has to see to that.
+        let sleeps = code == raw::PARK && !seat.leaves.load(SeqCst);
+        if hands_on || (code != raw::LOCKED && !sleeps) {
             roused.push(seat.number);
         }
         if code == raw::LOCKED {

@@ -101,9 +101,13 @@ impl Handle {
     /// Begins a call or goes on with one, until it is over, or it waits: None. It waits asleep, or for the lock of a
     /// queue, which others pass on to it and take from it: whoever gives that lock back goes on with it, so nobody waits
     /// for who is not there. It goes on once its task was roused. After each stretch those are handed to `rouse` whom it
-    /// woke.
+    /// woke. A wait that is left once goes on so to its end.
     pub fn drive(&mut self, gates: &Gates, call: Call, rouse: &mut dyn FnMut(&[u8])) -> Option<Result<(), Error>> {
-        let mut code = match self.take_back(gates, rouse) {
+        let back = self.take_back(gates, rouse);
+        if call.kind != Kind::Advance {
+            self.seat.set_leaves(call.kind == Kind::Leave);
+        }
+        let mut code = match back {
             Some(code) => code,
             None => self.stretch(gates, &call, rouse),
         };
@@ -111,7 +115,7 @@ impl Handle {
             code = match code {
                 raw::DONE => return Some(Ok(())),
                 raw::PARK => return None,
-                raw::AGAIN => self.stretch(gates, &Call::new(Kind::Advance), rouse),
+                raw::AGAIN => self.stretch(gates, &self.seat.next(), rouse),
                 raw::LOCKED => self.pass_lock(gates, rouse)?,
                 code => return Some(Err(Error::of(code))),
             };
@@ -135,7 +139,7 @@ impl Handle {
         let (ticket, head) = (self.told().ticket, self.told().head);
         for _ in 0..TRIES {
             std::hint::spin_loop();
-            let code = self.stretch(gates, &Call::new(Kind::Advance), rouse);
+            let code = self.stretch(gates, &self.seat.next(), rouse);
             if code != raw::LOCKED || self.told().ticket != ticket {
                 return Some(code);
             }
@@ -224,13 +228,19 @@ impl Shared {
         answer
     }
 
+    /// Wakes a task by the first one: whether it slept or was about to.
+    pub fn kick(&self, number: u8) -> Result<bool, Error> {
+        self.by_home(Call::new(Kind::WakeUpProcess).at(number), |told| told.value != 0)
+    }
+
     /// Raises a signal of a task, for its user.
     pub fn raise(&self, number: u8, signal: Signal) -> Result<(), Error> {
         let mut roused = Vec::new();
         let answer = {
             let mut raised = self.bells.raised(number);
             *raised = (*raised).max(Some(signal));
-            let call = signal_call(number, signal);
+            let fatal = signal == Signal::Fatal;
+            let call = Call::new(Kind::RaiseSignal).at(number).and(fatal.into());
             self.bells.ties.begin(&call);
             self.drive_to_end(&mut lock(&self.home), call, &mut |numbers| {
                 roused.extend_from_slice(numbers)
@@ -240,18 +250,11 @@ impl Shared {
         answer
     }
 
-    /// Raises a signal that is to end a wait of a task which nobody goes on with meanwhile.
-    pub fn raise_to_leave(&self, number: u8, signal: Signal) -> Result<(), Error> {
-        let _raised = self.bells.raised(number);
-        self.drive_to_end(&mut lock(&self.home), signal_call(number, signal), &mut |_| ())
+    /// Wakes a task whose wait is left by the thread that calls: so nobody is to be roused.
+    pub fn kick_to_leave(&self, number: u8) -> Result<(), Error> {
+        let call = Call::new(Kind::WakeUpProcess).at(number);
+        self.drive_to_end(&mut lock(&self.home), call, &mut |_| ())
     }
-}
-
-/// The call that raises a signal of a task.
-pub fn signal_call(number: u8, signal: Signal) -> Call {
-    Call::new(Kind::RaiseSignal)
-        .at(number)
-        .and((signal == Signal::Fatal).into())
 }
 
 /// Goes on with a waker's panic, but where the thread is in one already.

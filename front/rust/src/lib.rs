@@ -23,14 +23,18 @@
 //!
 //! # A future that is dropped in mid-wait
 //!
-//! It is left: a signal of the crate's own ends the wait, which takes its entry off the queue. Where it has got a bit,
-//! a page or a permit meanwhile, that is given back, and where a wake had selected it, the next one is woken. So who
-//! gives a wait up, as `select!`, a timeout or an abort do, takes nothing from anybody else, and the task makes further
-//! calls. Signals that others have raised of the task stay. The drop may wait for a queue's lock, and parks for nobody.
+//! It is left, in each state: its entry goes off the queue. Where it has got a bit, a page or a permit meanwhile, that
+//! is given back, and where a wake had selected it, the next one is woken. So who gives a wait up, as `select!`, a
+//! timeout or an abort do, takes nothing from anybody else, and the task makes further calls. No signal is raised for
+//! that. The drop may wait for a queue's lock, and parks for nobody.
 //!
-//! Only a wait that a signal ends can be left, so futures are [`Interruptible`] or [`Killable`]; one in the state
-//! [`Uninterruptible`] has [`Wait::block`] alone. A future that is forgotten ([`std::mem::forget`]) is left with the
-//! next call of its task, or with the task; until then its entry stands in its queue, and may be selected.
+//! A future that is forgotten ([`std::mem::forget`]) is left with the next call of its task, or with the task; until
+//! then its entry stands in its queue, and may be selected.
+//!
+//! # A wait with a limit
+//!
+//! [`Wait::timeout`] parks the thread so long at most, and leaves the wait then. Time is of this crate alone: no law of
+//! the archive speaks of it.
 //!
 //! # Wakers that panic
 //!
@@ -66,6 +70,6 @@ pub use error::Error;
 pub use lent::{Lends, Lent};
 pub use mutex::{Mutex, MutexGuard};
 pub use page::{Page, PageGuard, PageLock};
-pub use states::{Interruptible, Killable, Left, Signal, Simple, State, Uninterruptible};
+pub use states::{Interruptible, Killable, Signal, Simple, State, Uninterruptible};
 pub use task::{End, Mode, Task, Walked};
 pub use wait::Wait;

@@ -1,11 +1,12 @@
 //! A value under a lock that is a bit or a page.
 
 use crate::lent::{Lends, Lent};
-use crate::states::{Left, State};
+use crate::states::State;
 use crate::{BitGuard, BitLock, Error, PageGuard, PageLock};
 use std::cell::UnsafeCell;
 use std::fmt;
 use std::ops::{Deref, DerefMut};
+use std::time::Duration;
 
 /// A bit or a page, as a lock.
 #[derive(Clone, Debug)]
@@ -95,11 +96,25 @@ impl<T: ?Sized> Mutex<T> {
         Ok(MutexGuard { mutex: self, held })
     }
 
-    /// The same for an executor. Errors: as before.
+    /// The same for so long at most. Errors: as before, and [`Error::TimedOut`].
+    pub fn lock_timeout<'m, 't>(
+        &'m self,
+        task: &'t mut impl Lends,
+        state: impl State,
+        limit: Duration,
+    ) -> Result<MutexGuard<'m, 't, T>, Error> {
+        let held = match &self.lock {
+            Lock::Bit(lock) => Held::Bit(lock.lock_timeout(task, state, limit)?),
+            Lock::Page(lock) => Held::Page(lock.lock_timeout(task, state, limit)?),
+        };
+        Ok(MutexGuard { mutex: self, held })
+    }
+
+    /// As [`Mutex::lock`], for an executor. Errors: as there.
     pub async fn lock_later<'m, 't>(
         &'m self,
         task: &'t mut impl Lends,
-        state: impl Left,
+        state: impl State,
     ) -> Result<MutexGuard<'m, 't, T>, Error> {
         let held = match &self.lock {
             Lock::Bit(lock) => Held::Bit(lock.lock_later(task, state).await?),

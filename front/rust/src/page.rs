@@ -2,8 +2,9 @@
 
 use crate::lent::{Lends, Lent};
 use crate::raw::{Call, Kind, PAGES};
-use crate::states::{Left, State};
+use crate::states::State;
 use crate::{Bit, Domain, Error, Task};
+use std::time::Duration;
 
 /// One of the 128 pages of a Domain. It is bit 0 of the word of its number.
 #[derive(Clone, Copy, Debug, PartialEq, Eq)]
@@ -68,8 +69,20 @@ impl PageLock {
         Ok(self.guard(task))
     }
 
-    /// The same for an executor. Errors: as before.
-    pub async fn lock_later<'t>(&self, task: &'t mut impl Lends, state: impl Left) -> Result<PageGuard<'t>, Error> {
+    /// The same for so long at most. Errors: as before, and [`Error::TimedOut`].
+    pub fn lock_timeout<'t>(
+        &self,
+        task: &'t mut impl Lends,
+        state: impl State,
+        limit: Duration,
+    ) -> Result<PageGuard<'t>, Error> {
+        let task = self.own(task)?;
+        task.lock_page(self.page, state).timeout(limit)?;
+        Ok(self.guard(task))
+    }
+
+    /// As [`PageLock::lock`], for an executor. Errors: as there.
+    pub async fn lock_later<'t>(&self, task: &'t mut impl Lends, state: impl State) -> Result<PageGuard<'t>, Error> {
         let task = self.own(task)?;
         task.lock_page(self.page, state).await?;
         Ok(self.guard(task))

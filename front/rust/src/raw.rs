@@ -61,6 +61,8 @@ pub enum Kind {
     Number = 34,
     RaiseSignal = 35,
     TakeSignal = 36,
+    WakeUpProcess = 37,
+    Leave = 38,
 }
 
 /// A call: its kind and its numbers.

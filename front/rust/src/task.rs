@@ -1,7 +1,7 @@
 //! Tasks, and their calls.
 
 use crate::bells::{Panic, Sleeper};
-use crate::handle::{rethrow, signal_call, Handle, Shared};
+use crate::handle::{rethrow, Handle, Shared};
 use crate::raw::{Call, Kind, Told};
 use crate::states::{Simple, State};
 use crate::{Bit, Domain, Error, Page, Signal, Wait};
@@ -61,12 +61,6 @@ impl Walked {
     }
 }
 
-/// A wait that is under way, and the least signal that ends it.
-struct UnderWay {
-    call: Call,
-    ended_by: Option<Signal>,
-}
-
 /// A task of a [`Domain`]. It may be sent to another thread; one thread at a time makes its calls, as `&mut self`
 /// says. When it is dropped, it goes back to its Domain, for who wants a task next; one that keeps a bit or a page does
 /// not, and stays with the memory of its Domain: [`Task::close`] says so.
@@ -77,7 +71,7 @@ pub struct Task {
     kept: u32,
     /// The wait that is under way. It is left where its future is dropped, and where that was forgotten, with the next
     /// call.
-    under_way: Option<UnderWay>,
+    under_way: Option<Call>,
     /// What a waker panicked with during a call that was to come to its end first.
     panic: Option<Panic>,
     /// It makes no more calls.
@@ -205,9 +199,9 @@ impl Task {
 // Waits, for `Wait`.
 impl Task {
     /// Begins a wait, and goes on until it is over, or the task asleep: None.
-    pub(crate) fn begin_wait(&mut self, call: Call, ended_by: Option<Signal>) -> Option<Result<(), Error>> {
+    pub(crate) fn begin_wait(&mut self, call: Call) -> Option<Result<(), Error>> {
         self.leave();
-        self.under_way = Some(UnderWay { call, ended_by });
+        self.under_way = Some(call);
         self.advance(call)
     }
 
@@ -219,48 +213,35 @@ impl Task {
     fn advance(&mut self, call: Call) -> Option<Result<(), Error>> {
         let end = self.drive(call)?;
         match (self.under_way.take(), end) {
-            (Some(wait), Ok(())) => self.count(&wait.call),
+            (Some(wait), Ok(())) => self.count(&wait),
             (_, Err(Error::Signal)) => self.shared.bells.ties.signalled(self.number()),
             _ => {}
         }
         Some(end)
     }
 
-    /// Leaves the wait that is under way, where its state is one that a signal ends: a signal is raised that ends it,
-    /// and what it got is handed on. The signals of the task are as they would be without that.
+    /// Leaves the wait that is under way, of which nobody will be told, and hands on what it got.
     pub(crate) fn leave(&mut self) {
-        let Some(UnderWay {
-            call,
-            ended_by: Some(signal),
-        }) = self.under_way
-        else {
-            return;
-        };
+        let Some(call) = self.under_way else { return };
         self.forget();
-        if self.shared.raise_to_leave(self.number(), signal).is_err() {
-            return;
-        }
-        let end = loop {
-            match self.go_on() {
-                Some(end) => break end,
-                None if self.handle.is_at_gate() => self.doze(),
-                None => thread::yield_now(),
-            }
-        };
-        self.take_own_signal();
-        if end.is_ok() {
+        if self.leave_to_end().is_ok() {
             self.hand_on(&call);
         }
     }
 
-    /// Takes the signals of the task, and raises once more what its user has raised of it.
-    fn take_own_signal(&mut self) {
-        let (number, shared) = (self.number(), self.shared.clone());
-        let raised = shared.bells.raised(number);
-        // Neither waits for a lock, and errors there are none.
-        let _ = self.drive_to_end(Call::new(Kind::TakeSignal));
-        if let Some(signal) = *raised {
-            let _ = self.drive_to_end(signal_call(number, signal));
+    /// Leaves the wait that is under way: what it got meanwhile it has, else [`Error::TimedOut`]. A task that sleeps
+    /// makes no step, so the first task of the Domain wakes it. It may be asleep once more then, where others went on
+    /// with it before it was left.
+    pub(crate) fn leave_to_end(&mut self) -> Result<(), Error> {
+        loop {
+            if let Some(end) = self.advance(Call::new(Kind::Leave)) {
+                return end;
+            }
+            if self.handle.is_at_gate() {
+                self.doze();
+            } else {
+                self.shared.kick_to_leave(self.number())?;
+            }
         }
     }
 
@@ -368,6 +349,12 @@ impl Task {
     /// that no task has is good, too.
     pub fn raise_signal(&self, number: u8, signal: Signal) -> Result<(), Error> {
         self.shared.raise(number, signal)
+    }
+
+    /// Wakes a task, by its number, with no signal: true where it slept or was about to. What it waits for it looks at
+    /// again, and it sleeps again where that is not so. A number that no task has is good, too.
+    pub fn wake_up_process(&self, number: u8) -> Result<bool, Error> {
+        self.shared.kick(number)
     }
 
     /// Takes the signals of the task: which was the worst.

@@ -2,13 +2,14 @@
 
 use crate::bells::Sleeper;
 use crate::raw::Call;
-use crate::states::{Left, State};
+use crate::states::State;
 use crate::{Error, Task};
 use std::future::Future;
 use std::marker::PhantomData;
 use std::pin::Pin;
 use std::task::{Context, Poll};
 use std::thread;
+use std::time::{Duration, Instant};
 
 /// How far a wait has come.
 #[derive(Clone, Copy, PartialEq, Eq)]
@@ -18,16 +19,10 @@ enum Stage {
     Over,
 }
 
-/// A call that may wait. It is begun by [`Wait::block`], or when it is polled first. One that is dropped before it is
-/// over is left: its entry is taken off the queue, and what it got meanwhile is handed on, so that nobody else loses a
-/// wake. So it is a future only where its state is one that a signal ends:
-///
-/// ```compile_fail
-/// # async fn waits(task: &mut sugwelan::Task) {
-/// task.wait_event(0, sugwelan::Uninterruptible).await;
-/// # }
-/// ```
-#[must_use = "a wait is begun by block or await"]
+/// A call that may wait. It is begun by [`Wait::block`] or [`Wait::timeout`], or when it is polled first. One that is
+/// dropped before it is over is left, in each state: its entry is taken off the queue, and what it got meanwhile is
+/// handed on, so that nobody else loses a wake.
+#[must_use = "a wait is begun by block, timeout or await"]
 pub struct Wait<'t, T, S: State> {
     task: &'t mut Task,
     call: Call,
@@ -63,21 +58,68 @@ impl<'t, T, S: State> Wait<'t, T, S> {
         }
     }
 
+    /// Parks the thread until the call is over, and so long at most: then the wait is left. What it got meanwhile it
+    /// has; else the error is [`Error::TimedOut`], and it keeps nothing and takes nothing from those who wait on. With
+    /// a limit of 0 it looks whether it has to wait, and goes on at once. It ends later than its limit by what the
+    /// thread waits for a processor and for the lock of the queue.
+    ///
+    /// ```
+    /// use std::time::Duration;
+    /// use sugwelan::{Domain, Error, Uninterruptible};
+    ///
+    /// let mut task = Domain::new()?.task()?;
+    /// let limit = Duration::from_millis(1);
+    /// assert_eq!(task.wait_event(0, Uninterruptible).timeout(limit), Err(Error::TimedOut));
+    /// # Ok::<(), Error>(())
+    /// ```
+    ///
+    /// Where it woke tasks whose wakers panic, it panics at its end, and has handed on what it got.
+    pub fn timeout(mut self, limit: Duration) -> Result<T, Error> {
+        let Some(until) = Instant::now().checked_add(limit) else {
+            return self.block();
+        };
+        loop {
+            if let Some(end) = self.go_on() {
+                return end;
+            }
+            let left = until.saturating_duration_since(Instant::now());
+            if left.is_zero() {
+                return self.leave();
+            }
+            if self.task.listen(Sleeper::Thread(thread::current())) {
+                thread::park_timeout(left);
+            }
+        }
+    }
+
     /// Goes on until the call is over, or its task asleep: None.
     fn go_on(&mut self) -> Option<Result<T, Error>> {
         let end = match self.stage {
-            Stage::New => self.task.begin_wait(self.call, S::ENDED_BY),
+            Stage::New => self.task.begin_wait(self.call),
             Stage::UnderWay => self.task.go_on(),
             Stage::Over => Some(Err(Error::Over)),
         };
-        self.stage = if end.is_none() { Stage::UnderWay } else { Stage::Over };
-        let end = end?.map(|()| (self.give)(self.task.value()));
+        self.stage = Stage::UnderWay;
+        end.map(|end| self.end(end))
+    }
+
+    /// Leaves the call, which is under way.
+    fn leave(&mut self) -> Result<T, Error> {
+        self.task.forget();
+        let end = self.task.leave_to_end();
+        self.end(end)
+    }
+
+    /// The call is over.
+    fn end(&mut self, end: Result<(), Error>) -> Result<T, Error> {
+        self.stage = Stage::Over;
+        let end = end.map(|()| (self.give)(self.task.value()));
         self.task.rethrow_at_end(&self.call, end.is_ok());
-        Some(end)
+        end
     }
 }
 
-impl<T, S: Left> Future for Wait<'_, T, S> {
+impl<T, S: State> Future for Wait<'_, T, S> {
     type Output = Result<T, Error>;
 
     /// Never waits for another future: it goes on until the task is asleep in its queue, or waits for the lock of one, and

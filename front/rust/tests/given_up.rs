@@ -2,6 +2,7 @@
 
 mod common;
 mod rounds;
+mod tokens;
 
 use common::{panics, poll_once, Broken, Counting, Executor};
 use rounds::rounds;
@@ -12,26 +13,10 @@ use std::sync::{mpsc, Arc};
 use std::task::{Context, Poll, Waker};
 use std::thread;
 use std::time::Duration;
-use sugwelan::{Bit, Completion, Domain, Error, Interruptible, Killable, Left, Page, Signal, Task, Wait};
+use sugwelan::{Domain, Error, Interruptible, Killable, Signal, State, Task, Uninterruptible, Wait};
+use tokens::{block, get, of_wait, put, put_first, take_first, Kind, Sleep, BIT, KINDS, PLAIN, SLEEPS};
 
-const BIT: Bit = Bit::new(3, 4);
-const PAGE: Page = Page::new(5);
-const PERMIT: Completion = Completion::new(6);
-const PLAIN: u8 = 7;
-const SIMPLE: u8 = 50;
 const PATIENCE: Duration = Duration::from_secs(60);
-
-/// Where a token is.
-#[derive(Clone, Copy, Debug, PartialEq, Eq)]
-enum Kind {
-    Bit,
-    Page,
-    Permit,
-    Exclusive,
-    Simple,
-}
-
-const KINDS: [Kind; 5] = [Kind::Bit, Kind::Page, Kind::Permit, Kind::Exclusive, Kind::Simple];
 
 /// How a wait is given up.
 #[derive(Clone, Copy, Debug, PartialEq, Eq)]
@@ -61,85 +46,25 @@ enum Then {
 
 const THENS: [Then; 3] = [Then::Idle, Then::Calls, Then::Dropped];
 
-/// Waits once, in either state that can be left.
-async fn wait(kind: Kind, task: &mut Task, killable: bool) -> Result<(), Error> {
-    match (kind, killable) {
-        (Kind::Bit, false) => task.wait_on_bit_lock(BIT, Interruptible).await,
-        (Kind::Bit, true) => task.wait_on_bit_lock(BIT, Killable).await,
-        (Kind::Page, false) => task.lock_page(PAGE, Interruptible).await,
-        (Kind::Page, true) => task.lock_page(PAGE, Killable).await,
-        (Kind::Permit, false) => PERMIT.wait(task, Interruptible).await,
-        (Kind::Permit, true) => PERMIT.wait(task, Killable).await,
-        (Kind::Exclusive, false) => task.wait_event_exclusive(PLAIN, Interruptible).await,
-        (Kind::Exclusive, true) => task.wait_event_exclusive(PLAIN, Killable).await,
-        (Kind::Simple, _) => task.swait_event(SIMPLE, Interruptible).await,
-    }
-}
-
-/// Waits until it has the token.
-async fn get(kind: Kind, task: &mut Task, killable: bool) {
-    loop {
-        wait(kind, task, killable).await.unwrap();
-        let got = match kind {
-            Kind::Exclusive => task.take_condition(PLAIN).unwrap() != 0,
-            Kind::Simple => task.take_condition(SIMPLE).unwrap() != 0,
-            _ => true,
-        };
-        if got {
-            return;
-        }
-    }
-}
-
-/// Takes the token that a new Domain has.
-fn take_first(kind: Kind, task: &mut Task) {
-    match kind {
-        Kind::Bit => assert_eq!(task.trylock_bit(BIT), Ok(true)),
-        Kind::Page => assert_eq!(task.trylock_page(PAGE), Ok(true)),
-        _ => {}
-    }
-}
-
-/// Gives the token back.
-fn put(kind: Kind, task: &mut Task) {
-    match kind {
-        Kind::Bit => drop(task.clear_and_wake_up_bit(BIT).unwrap()),
-        Kind::Page => drop(task.unlock_page(PAGE).unwrap()),
-        Kind::Permit => PERMIT.complete(task).unwrap(),
-        Kind::Exclusive => drop(task.set_and_wake(PLAIN, 1, 1).unwrap()),
-        Kind::Simple => drop(task.set_and_swake_one(SIMPLE, 1).unwrap()),
-    }
-}
-
 /// Polls a wait once, and forgets it where it is under way: whether it is over.
-fn forget<T, S: Left>(mut wait: Wait<'_, T, S>) -> bool {
+fn forget<T, S: State>(mut wait: Wait<'_, T, S>) -> bool {
     let over = poll_once(Pin::new(&mut wait)).is_ready();
     std::mem::forget(wait);
     over
 }
 
 /// The same of a wait for the token.
-fn forgotten(kind: Kind, task: &mut Task, killable: bool) -> bool {
-    match (kind, killable) {
-        (Kind::Bit, false) => forget(task.wait_on_bit_lock(BIT, Interruptible)),
-        (Kind::Bit, true) => forget(task.wait_on_bit_lock(BIT, Killable)),
-        (Kind::Page, false) => forget(task.lock_page(PAGE, Interruptible)),
-        (Kind::Page, true) => forget(task.lock_page(PAGE, Killable)),
-        (Kind::Permit, false) => forget(PERMIT.wait(task, Interruptible)),
-        (Kind::Permit, true) => forget(PERMIT.wait(task, Killable)),
-        (Kind::Exclusive, false) => forget(task.wait_event_exclusive(PLAIN, Interruptible)),
-        (Kind::Exclusive, true) => forget(task.wait_event_exclusive(PLAIN, Killable)),
-        (Kind::Simple, _) => forget(task.swait_event(SIMPLE, Interruptible)),
-    }
+fn forgotten(kind: Kind, task: &mut Task, sleep: Sleep) -> bool {
+    of_wait!(kind, task, sleep, wait => forget(wait))
 }
 
 /// Begins to wait for the token, of which one is given back meanwhile, and gives up in some way.
-fn give_up(kind: Kind, how: How, killable: bool, lost: &mut Task, put: impl FnOnce()) {
+fn give_up(kind: Kind, how: How, sleep: Sleep, lost: &mut Task, put: impl FnOnce()) {
     if how == How::Forgotten {
-        assert!(!forgotten(kind, lost, killable));
+        assert!(!forgotten(kind, lost, sleep));
         return put();
     }
-    let mut wait = Box::pin(get(kind, lost, killable));
+    let mut wait = Box::pin(get(kind, lost, sleep));
     let waker = match how {
         How::WakerPanics => Waker::from(Arc::new(Broken)),
         _ => Waker::noop().clone(),
@@ -165,11 +90,12 @@ fn give_up(kind: Kind, how: How, killable: bool, lost: &mut Task, put: impl FnOn
 }
 
 /// For each kind, each state and each way.
-fn each(case: impl Fn(Kind, How, bool)) {
+fn each(case: impl Fn(Kind, How, Sleep)) {
     for kind in KINDS {
         for how in HOWS {
-            case(kind, how, false);
-            case(kind, how, true);
+            for sleep in SLEEPS {
+                case(kind, how, sleep);
+            }
         }
     }
 }
@@ -177,7 +103,7 @@ fn each(case: impl Fn(Kind, How, bool)) {
 /// The next one is a future, which waits already when the first is given up.
 #[test]
 fn the_next_future_gets_it() {
-    each(|kind, how, killable| {
+    each(|kind, how, sleep| {
         for then in THENS {
             if then == Then::Idle && how == How::Forgotten {
                 continue;
@@ -186,10 +112,10 @@ fn the_next_future_gets_it() {
             let (mut keeper, mut lost, mut next) =
                 (domain.task().unwrap(), domain.task().unwrap(), domain.task().unwrap());
             take_first(kind, &mut keeper);
-            let mut second = Box::pin(get(kind, &mut next, killable));
+            let mut second = Box::pin(get(kind, &mut next, sleep));
             let counting = Arc::new(Counting::default());
             let waker = Waker::from(counting.clone());
-            give_up(kind, how, killable, &mut lost, || {
+            give_up(kind, how, sleep, &mut lost, || {
                 // It waits behind the first: so where that was asleep, that is selected.
                 assert!(second.as_mut().poll(&mut Context::from_waker(&waker)).is_pending());
                 put(kind, &mut keeper);
@@ -213,12 +139,12 @@ fn the_next_future_gets_it() {
 /// The next one is a thread, which parks.
 #[test]
 fn the_next_thread_gets_it() {
-    each(|kind, how, killable| {
+    each(|kind, how, sleep| {
         let domain = Domain::new().unwrap();
         let (mut keeper, mut lost, mut next) = (domain.task().unwrap(), domain.task().unwrap(), domain.task().unwrap());
         take_first(kind, &mut keeper);
         let (says, hears) = mpsc::channel();
-        give_up(kind, how, killable, &mut lost, || {
+        give_up(kind, how, sleep, &mut lost, || {
             thread::spawn(move || {
                 block(kind, &mut next);
                 put(kind, &mut next);
@@ -233,30 +159,6 @@ fn the_next_thread_gets_it() {
             .recv_timeout(PATIENCE)
             .unwrap_or_else(|_| panic!("{kind:?} {how:?}: hangs"));
     });
-}
-
-/// Parks until the task has the token.
-fn block(kind: Kind, task: &mut Task) {
-    use sugwelan::Uninterruptible;
-    loop {
-        match kind {
-            Kind::Bit => return task.wait_on_bit_lock(BIT, Uninterruptible).block().unwrap(),
-            Kind::Page => return task.lock_page(PAGE, Uninterruptible).block().unwrap(),
-            Kind::Permit => return PERMIT.wait(task, Uninterruptible).block().unwrap(),
-            Kind::Exclusive => {
-                task.wait_event_exclusive(PLAIN, Uninterruptible).block().unwrap();
-                if task.take_condition(PLAIN).unwrap() != 0 {
-                    return;
-                }
-            }
-            Kind::Simple => {
-                task.swait_event(SIMPLE, Uninterruptible).block().unwrap();
-                if task.take_condition(SIMPLE).unwrap() != 0 {
-                    return;
-                }
-            }
-        }
-    }
 }
 
 /// Gives up after so many polls.
@@ -288,7 +190,7 @@ fn an_executor_drops_futures() {
             executor.spawn(async move {
                 for round in 0..rounds() {
                     let polls = (worker + round) % 4;
-                    if for_polls(polls, pin!(get(kind, &mut task, round % 2 == 0)))
+                    if for_polls(polls, pin!(get(kind, &mut task, SLEEPS[round as usize % 3])))
                         .await
                         .is_some()
                     {
@@ -302,15 +204,13 @@ fn an_executor_drops_futures() {
             let mut task = domain.task().unwrap();
             executor.spawn(async move {
                 for _ in 0..rounds() {
-                    get(kind, &mut task, false).await;
+                    get(kind, &mut task, Sleep::Interruptible).await;
                     put(kind, &mut task);
                 }
             });
         }
         let mut task = domain.task().unwrap();
-        if !matches!(kind, Kind::Bit | Kind::Page) {
-            put(kind, &mut task);
-        }
+        put_first(kind, &mut task);
         thread::scope(|scope| {
             scope.spawn(|| executor.run(2));
             for _ in 0..rounds() {
@@ -327,9 +227,7 @@ fn tasks_are_dropped_in_mid_wait() {
     for kind in KINDS {
         let domain = Domain::new().unwrap();
         let mut first = domain.task().unwrap();
-        if !matches!(kind, Kind::Bit | Kind::Page) {
-            put(kind, &mut first);
-        }
+        put_first(kind, &mut first);
         thread::scope(|scope| {
             for worker in 0..3 {
                 let domain = &domain;
@@ -342,13 +240,13 @@ fn tasks_are_dropped_in_mid_wait() {
                                 put(kind, &mut task);
                             }
                             1 => {
-                                let over = forgotten(kind, &mut task, true);
+                                let over = forgotten(kind, &mut task, Sleep::Uninterruptible);
                                 if over && matches!(kind, Kind::Bit | Kind::Page | Kind::Permit) {
                                     put(kind, &mut task);
                                 }
                             }
                             _ => {
-                                let got = poll_once(pin!(get(kind, &mut task, false))).is_ready();
+                                let got = poll_once(pin!(get(kind, &mut task, Sleep::Interruptible))).is_ready();
                                 if got {
                                     put(kind, &mut task);
                                 }
@@ -366,19 +264,24 @@ fn tasks_are_dropped_in_mid_wait() {
 /// A wait for a variable, for a clear bit, or for all: nothing is to be handed on, and the entry is gone.
 #[test]
 fn other_waits_are_left() {
-    let domain = Domain::new().unwrap();
-    let (mut task, mut setter) = (domain.task().unwrap(), domain.task().unwrap());
-    assert_eq!(setter.trylock_bit(BIT), Ok(true));
-    assert!(poll_once(pin!(task.wait_var_event(20, 0, Killable))).is_pending());
-    assert!(poll_once(pin!(task.wait_on_bit(BIT, Killable))).is_pending());
-    assert!(poll_once(pin!(task.wait_event(PLAIN, Interruptible))).is_pending());
-    assert_eq!(setter.publish_var_and_wake(20, 1).unwrap().woken, 0);
-    assert_eq!(setter.clear_and_wake_up_bit(BIT).unwrap().woken, 0);
-    assert_eq!(setter.set_and_wake(PLAIN, 1, 0).unwrap().woken, 0);
-    assert!(task.close().is_ok());
+    fn in_state(state: impl State) {
+        let domain = Domain::new().unwrap();
+        let (mut task, mut setter) = (domain.task().unwrap(), domain.task().unwrap());
+        assert_eq!(setter.trylock_bit(BIT), Ok(true));
+        assert!(poll_once(pin!(task.wait_var_event(20, 0, state))).is_pending());
+        assert!(poll_once(pin!(task.wait_on_bit(BIT, state))).is_pending());
+        assert!(poll_once(pin!(task.wait_event(PLAIN, state))).is_pending());
+        assert_eq!(setter.publish_var_and_wake(20, 1).unwrap().woken, 0);
+        assert_eq!(setter.clear_and_wake_up_bit(BIT).unwrap().woken, 0);
+        assert_eq!(setter.set_and_wake(PLAIN, 1, 0).unwrap().woken, 0);
+        assert!(task.close().is_ok());
+    }
+    in_state(Uninterruptible);
+    in_state(Interruptible);
+    in_state(Killable);
 }
 
-/// The signal that ends a wait which is left is not seen, and those of others are not lost with it.
+/// No signal ends a wait that is left, and those of others are not lost with it.
 #[test]
 fn signals_of_others_stay() {
     let domain = Domain::new().unwrap();

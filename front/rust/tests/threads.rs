@@ -186,6 +186,28 @@ fn simple_queues_wake_all() {
 }
 
 #[test]
+fn a_task_that_is_woken_for_nothing_sleeps_again() {
+    let (domain, mut tasks) = tasks(1);
+    let number = tasks[0].number();
+    assert_eq!(domain.wake_up_process(number), Ok(false));
+    for _ in 0..rounds() {
+        thread::scope(|scope| {
+            let waiter = scope.spawn(|| {
+                tasks[0].wait_event(0, PLAIN).block().unwrap();
+                tasks[0].take_condition(0)
+            });
+            for _ in 0..3 {
+                while !domain.wake_up_process(number).unwrap() {
+                    thread::yield_now();
+                }
+            }
+            assert_eq!(domain.set_and_wake(0, 7, 0).map(|_| ()), Ok(()));
+            assert_eq!(waiter.join().unwrap(), Ok(7));
+        });
+    }
+}
+
+#[test]
 fn signals_end_waits() {
     let (domain, mut tasks) = tasks(WAITERS);
     let numbers: Vec<u8> = tasks.iter().map(Task::number).collect();

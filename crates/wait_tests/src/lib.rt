@@ -11,6 +11,8 @@ mod events;
 #[cfg(test)]
 mod in_order;
 #[cfg(test)]
+mod leaves;
+#[cfg(test)]
 mod meetings;
 #[cfg(test)]
 mod orders;

@@ -16,6 +16,7 @@ use wait_model::layout::HEADS;
 use wait_model::positions::{next_at, serving_at};
 
 /// Draws a ticket of head `head`, below `HEADS`: its number, modulo 2^64. The task has it out from then on.
+#[inline(always)]
 pub fn draw(domain: &Domain, task: &mut Task, head: u16) -> u64
     requires of { task.old.domain ≡ domain.now }
     requires up { IsUp task.old }
@@ -31,6 +32,7 @@ pub fn draw(domain: &Domain, task: &mut Task, head: u16) -> u64
 /// The number of head `head`, below `HEADS`, that is served, modulo 2^64. Where it is the one that the task drew of
 /// this head, the task knows from then on that its ticket is served. It counts the locks of the head that were given
 /// back, but for one whose serve is still to come: a task that has joined all others finds them in its histories.
+#[inline(always)]
 pub fn serving_load(domain: &Domain, task: &mut Task, head: u16) -> u64
     requires of { task.old.domain ≡ domain.now }
     requires up { IsUp task.old }

@@ -1,22 +1,25 @@
 use Rattle.std.proofs.Common.{◌∙◌, ap}
 use Rattle.wait_rule.specs.Known.{Known}
-use Rattle.wq_head.proofs.LockWaits.{waited_more, turn_more, if_true, if_false}
+use Rattle.wait_rule.specs.Tickets.{drawn}
+use Rattle.wq_head.proofs.LockWaits.{waited_none, waited_more, waited_ticket, turn_more, turn_on}
 use Rattle.wq_head.proofs.locks.await_turn.Goals as goal
 
-pub returns-then-look_often : goal.returns-then-look_often
-returns-then-look_often g c = if_true _ _ c.look_often.result c.if-look_often.true c.look_often.ensures
+pub returns-then-serving_load-ticket : goal.returns-then-serving_load-ticket
+returns-then-serving_load-ticket g c = turn_more c.args.task.now c.args.task.now c.serving_load.new.task c.args.head
+    c.args.ticket c.serving_load.result (waited_none c.args.task.now) c.serving_load.ensures.step
+    c.if-serving_load-ticket.true
 
-pub loop-init : goal.loop-init
-loop-init g c = if_false _ _ c.look_often.result c.if-look_often.false c.look_often.ensures
+pub await_others-requires-clause-up : goal.await_others-requires-clause-up
+await_others-requires-clause-up g c = ap (λ (k : Known). k.book.awake) c.serving_load.ensures.step ∙ c.requires.up
 
-pub loop-preserved : goal.loop-preserved
-loop-preserved g c = waited_more c.args.task.now c.loop.task c.serving_load-found.new.task c.args.head c.args.ticket
-    c.serving_load-found.result c.requires.drawn c.loop.invariant c.serving_load-found.ensures.step
-    c.if-found-ticket.false
+pub await_others-requires-clause-drawn : goal.await_others-requires-clause-drawn
+await_others-requires-clause-drawn g c = waited_ticket c.args.task.now c.serving_load.new.task
+    (drawn c.args.head c.args.ticket) c.requires.drawn (waited_more c.args.task.now c.args.task.now
+    c.serving_load.new.task c.args.head c.args.ticket c.serving_load.result c.requires.drawn
+    (waited_none c.args.task.now) c.serving_load.ensures.step c.if-serving_load-ticket.false)
 
-pub returns-then-found-ticket : goal.returns-then-found-ticket
-returns-then-found-ticket g c = turn_more c.args.task.now c.loop.task c.serving_load-found.new.task c.args.head
-    c.args.ticket c.serving_load-found.result c.loop.invariant c.serving_load-found.ensures.step c.if-found-ticket.true
-
-pub serving_load-found-requires-clause-up : goal.serving_load-found-requires-clause-up
-serving_load-found-requires-clause-up g c = ap (λ (k : Known). k.book.awake) c.loop.invariant.is ∙ c.requires.up
+pub returns : goal.returns
+returns g c = turn_on c.args.task.now c.serving_load.new.task c.await_others.new.task c.args.head c.args.ticket
+    (waited_more c.args.task.now c.args.task.now c.serving_load.new.task c.args.head c.args.ticket
+    c.serving_load.result c.requires.drawn (waited_none c.args.task.now) c.serving_load.ensures.step
+    c.if-serving_load-ticket.false) c.await_others.ensures

@@ -13,6 +13,7 @@ pub mod Entries
 pub mod Queues
 pub mod Falling
 pub mod Handed
+pub mod AwakeSteps
 pub mod Framing
 pub mod Histories
 pub mod CallPlans

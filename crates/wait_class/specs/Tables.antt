@@ -269,3 +269,9 @@ is_sleep _ = false
 abbrev pub has_sleep : List Step → Bool
 has_sleep [] = false
 has_sleep (e ∷ es) = is_sleep e || has_sleep es
+
+-- the task made these steps, and did not sleep, nor try to
+pub record SleepsNot (old new : Known) : Type 0 where
+  pub steps : List Step
+  pub history : history_of new ≡ history_of old ++ steps
+  pub awake : has_sleep steps ≡ false

@@ -7,7 +7,7 @@ ghost use Rattle.wait_rule.specs.Says.{history_of};
 ghost use Rattle.wait_class.specs.declared.stages.Doing.TheVariants as doing;
 ghost use Rattle.wait_class.specs.declared.stages.Turn.TheVariants as turn;
 ghost use Rattle.wait_class.specs.Handing.{LastGiven};
-ghost use Rattle.wait_class.specs.Tables.{Advances, IsAt, IsStop, Turned, falls, head_in};
+ghost use Rattle.wait_class.specs.Tables.{Advances, IsAt, IsStop, SleepsNot, Turned, falls, head_in};
 
 use crate::machines::Machine;
 use crate::queueing::own_entry;
@@ -36,6 +36,7 @@ fn load_event<C: Machine>(
     ensures turned { Turned C.table task.old task.new run.old run.new stage result }
     ensures falls { falls C.table stage result ≡ true }
     ensures given { LastGiven task.old task.new HEADS }
+    ensures awake { SleepsNot task.old task.new }
 {
     C::lawful();
     let value = cond_load(domain, task, run.of.watch(stage));
@@ -84,6 +85,7 @@ fn lock_event<C: Machine>(
     ensures turned { Turned C.table task.old task.new run.old run.new stage result }
     ensures falls { falls C.table stage result ≡ true }
     ensures given { LastGiven task.old task.new HEADS }
+    ensures awake { SleepsNot task.old task.new }
 {
     C::lawful();
     let found = serving_load(domain, task, head);
@@ -112,6 +114,7 @@ fn unlock_event<C: Machine>(
     ensures passes { PassesNone passing.new ⊎ IsStop C.table result }
     ensures falls { falls C.table stage result ≡ true }
     ensures given { LastGiven task.old task.new passing.new.head }
+    ensures awake { SleepsNot task.old task.new }
 {
     C::lawful();
     passing.put(give_back(domain, task, false));
@@ -132,6 +135,7 @@ fn state_event<C: Machine>(
     ensures turned { Turned C.table task.old task.new run.old run.new stage result }
     ensures falls { falls C.table stage result ≡ true }
     ensures given { LastGiven task.old task.new HEADS }
+    ensures awake { SleepsNot task.old task.new }
 {
     C::lawful();
     set_state(domain, task, run.of.state_at(stage));
@@ -152,6 +156,7 @@ fn look_event<C: Machine>(
     ensures turned { Turned C.table task.old task.new run.old run.new stage result }
     ensures falls { falls C.table stage result ≡ true }
     ensures given { LastGiven task.old task.new HEADS }
+    ensures awake { SleepsNot task.old task.new }
 {
     C::lawful();
     let own = load_own(domain, task);
@@ -198,6 +203,7 @@ fn peek_event<C: Machine>(
     ensures turned { Turned C.table task.old task.new run.old run.new stage result }
     ensures falls { falls C.table stage result ≡ true }
     ensures given { LastGiven task.old task.new HEADS }
+    ensures awake { SleepsNot task.old task.new }
 {
     C::lawful();
     let entry = own_entry(domain, task);
@@ -221,6 +227,7 @@ fn pare_event<C: Machine>(
     ensures passes { PassesNone passing.new ⊎ IsStop C.table result }
     ensures falls { falls C.table stage result ≡ true }
     ensures given { LastGiven task.old task.new passing.new.head }
+    ensures awake { SleepsNot task.old task.new }
 {
     C::lawful();
     let me = task.number();
@@ -250,6 +257,7 @@ fn heed_event<C: Machine>(
     ensures passes { PassesNone passing.new ⊎ IsStop C.table result }
     ensures falls { falls C.table stage result ≡ true }
     ensures given { LastGiven task.old task.new passing.new.head }
+    ensures awake { SleepsNot task.old task.new }
 {
     C::lawful();
     let entry = own_entry(domain, task);
@@ -280,6 +288,7 @@ fn queue_event<C: Machine>(
     ensures passes { PassesNone passing.new ⊎ IsStop C.table result }
     ensures falls { falls C.table stage result ≡ true }
     ensures given { LastGiven task.old task.new passing.new.head }
+    ensures awake { SleepsNot task.old task.new }
 {
     C::lawful();
     let entry = own_entry(domain, task);
@@ -305,7 +314,8 @@ fn queue_event<C: Machine>(
 
 /// Makes the event of a wait at a stage, or none where another number of the head is served or where the word of an
 /// exchange changed meanwhile. It waits for nobody, and by single tries it needs no runtime value. It answers as
-/// `stretch` does, but at the stages of a hold the head is still held.
+/// `stretch` does, but at the stages of a hold the head is still held. It sleeps where its stage is a sleep, and at no
+/// other.
 #[inline(always)]
 pub fn advance<C: Machine>(
     domain: &Domain,
@@ -321,6 +331,7 @@ pub fn advance<C: Machine>(
     ensures passes { PassesNone passing.new ⊎ IsStop C.table result }
     ensures falls { falls C.table stage result ≡ true }
     ensures given { LastGiven task.old task.new passing.new.head }
+    ensures awake { C.table.doing stage ≡ doing.Sleep ⊎ SleepsNot task.old task.new }
 {
     C::lawful();
     match C::doing(stage) {

@@ -8,7 +8,7 @@ ghost use Rattle.wait_class.specs.FrameLaws.{IsLawfulFrame};
 ghost use Rattle.wait_class.specs.Frames.{FrameTable, framed};
 ghost use Rattle.wait_class.specs.Handing.{LastGiven};
 ghost use Rattle.wait_class.specs.Laws.{AddsOwn, MayAdd};
-ghost use Rattle.wait_class.specs.Tables.{IsAt, Turned, falls};
+ghost use Rattle.wait_class.specs.Tables.{IsAt, SleepsNot, Turned, falls};
 
 use crate::frame_stages::{Framed, Stage};
 use crate::machines::Machine;
@@ -78,7 +78,7 @@ pub trait Waiting: Copy {
 
 /// Such a class, with the events of its tests.
 pub trait Frame: Waiting {
-    /// Makes the event of a test: `load_test`, or one of the call's own.
+    /// Makes the event of a test, which is no sleep: `load_test`, or one of the call's own.
     fn test(
         domain: &Domain,
         task: &mut Task,
@@ -89,7 +89,8 @@ pub trait Frame: Waiting {
         requires at { IsAt (framed Self.frame) task.old run.old (stage.Test test) }
         ensures turned { Turned (framed Self.frame) task.old task.new run.old run.new (stage.Test test) result }
         ensures falls { falls (framed Self.frame) (stage.Test test) result ≡ true }
-        ensures given { LastGiven task.old task.new HEADS };
+        ensures given { LastGiven task.old task.new HEADS }
+        ensures awake { SleepsNot task.old task.new };
 }
 
 /// The event of a test that loads the condition.
@@ -106,6 +107,7 @@ pub fn load_test<F: Waiting>(
     ensures turned { Turned (framed F.frame) task.old task.new run.old run.new (stage.Test test) result }
     ensures falls { falls (framed F.frame) (stage.Test test) result ≡ true }
     ensures given { LastGiven task.old task.new HEADS }
+    ensures awake { SleepsNot task.old task.new }
 {
     F::lawful();
     let value = cond_load(domain, task, run.of.wait.watch());

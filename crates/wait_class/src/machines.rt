@@ -9,7 +9,7 @@ ghost use Rattle.wait_class.specs.declared.stages.Added.TheVariants as adds;
 ghost use Rattle.wait_class.specs.declared.stages.Doing.TheVariants as doing;
 ghost use Rattle.wait_class.specs.Handing.{LastGiven};
 ghost use Rattle.wait_class.specs.Laws.{AddsOwn, IsLawfulTable, MayAdd};
-ghost use Rattle.wait_class.specs.Tables.{IsAt, IsStop, CallTable, Turned, falls, stage_watch};
+ghost use Rattle.wait_class.specs.Tables.{IsAt, IsStop, CallTable, SleepsNot, Turned, falls, stage_watch};
 
 use crate::stages::{Added, Doing, Run, Turn};
 use wait_model::tasks::SleepState;
@@ -91,7 +91,7 @@ pub trait Machine: Copy {
         requires may { MayAdd table self stage task.old }
         ensures { table.doing stage ≡ doing.Queue → AddsOwn table self stage task.old task.new result };
 
-    /// Makes an event of the call's own. `passing` has the lock that it gave back, or none.
+    /// Makes an event of the call's own, which is no sleep. `passing` has the lock that it gave back, or none.
     fn own(
         domain: &Domain,
         task: &mut Task,
@@ -106,7 +106,8 @@ pub trait Machine: Copy {
         ensures turned { Turned table task.old task.new run.old run.new stage result }
         ensures passes { PassesNone passing.new ⊎ IsStop table result }
         ensures falls { falls table stage result ≡ true }
-        ensures given { LastGiven task.old task.new passing.new.head };
+        ensures given { LastGiven task.old task.new passing.new.head }
+        ensures awake { SleepsNot task.old task.new };
 
     /// The table keeps the laws.
     fn lawful()

@@ -1,4 +1,4 @@
-use Rattle.std.proofs.Common.{◌∙◌, ◌≡◌, ap, inl, subst, sym}
+use Rattle.std.proofs.Common.{◌∙◌, ◌≡◌, ap, inl, subst, sym, inr}
 use Rattle.wait_class.specs.declared.stages.Turn.TheVariants as turn
 use Rattle.wait_model.specs.Watches.{head_of}
 use Rattle.wait_class.specs.Tables.{Went, head_in}
@@ -6,6 +6,7 @@ use Rattle.wait_class.proofs.Falling.{shown_behind}
 use Rattle.wait_class.proofs.Turns.{advances_on, falls_same, same_domain}
 use Rattle.wait_model.specs.declared.layout.TheConstants.{HEADS}
 use Rattle.wait_class.proofs.Handed.{given_as, given_on, given_still}
+use Rattle.wait_class.proofs.AwakeSteps.{awake_still, sleeps_not_on}
 use Rattle.wait_class.proofs.events.advance.Goals as goal
 
 pub lock_event-requires-clause-of : goal.lock_event-requires-clause-of
@@ -92,3 +93,40 @@ pub returns-in-Draw-clause-given : goal.returns-in-Draw-clause-given
 returns-in-Draw-clause-given g c = given_as c.args.task.now c.lock_event.new.task HEADS c.args.passing.now.head
     c.requires.passes (given_on c.args.task.now c.draw_event-head.new.task c.lock_event.new.task HEADS
     (given_still c.args.task.now c.draw_event-head.new.task c.draw_event-head.ensures.still) c.lock_event.ensures.given)
+
+pub returns-in-Own-clause-awake : goal.returns-in-Own-clause-awake
+returns-in-Own-clause-awake g c = inr c.own.ensures.awake
+
+pub returns-in-Load-clause-awake : goal.returns-in-Load-clause-awake
+returns-in-Load-clause-awake g c = inr c.load_event.ensures.awake
+
+pub returns-in-Unlock-clause-awake : goal.returns-in-Unlock-clause-awake
+returns-in-Unlock-clause-awake g c = inr c.unlock_event.ensures.awake
+
+pub returns-in-State-clause-awake : goal.returns-in-State-clause-awake
+returns-in-State-clause-awake g c = inr c.state_event.ensures.awake
+
+pub returns-in-Look-clause-awake : goal.returns-in-Look-clause-awake
+returns-in-Look-clause-awake g c = inr c.look_event.ensures.awake
+
+pub returns-in-Peek-clause-awake : goal.returns-in-Peek-clause-awake
+returns-in-Peek-clause-awake g c = inr c.peek_event.ensures.awake
+
+pub returns-in-Pare-clause-awake : goal.returns-in-Pare-clause-awake
+returns-in-Pare-clause-awake g c = inr c.pare_event.ensures.awake
+
+pub returns-in-Heed-clause-awake : goal.returns-in-Heed-clause-awake
+returns-in-Heed-clause-awake g c = inr c.heed_event.ensures.awake
+
+pub returns-in-Queue-clause-awake : goal.returns-in-Queue-clause-awake
+returns-in-Queue-clause-awake g c = inr c.queue_event.ensures.awake
+
+pub returns-in-Lock-clause-awake : goal.returns-in-Lock-clause-awake
+returns-in-Lock-clause-awake g c = inr c.lock_event-in-Lock.ensures.awake
+
+pub returns-in-Draw-clause-awake : goal.returns-in-Draw-clause-awake
+returns-in-Draw-clause-awake g c = inr (sleeps_not_on c.args.task.now c.draw_event-head.new.task c.lock_event.new.task
+    (awake_still c.args.task.now c.draw_event-head.new.task c.draw_event-head.ensures.still) c.lock_event.ensures.awake)
+
+pub returns-in-Sleep-clause-awake : goal.returns-in-Sleep-clause-awake
+returns-in-Sleep-clause-awake g c = inl (sym c.doing.ensures ∙ c.in-Sleep.is)

@@ -1,9 +1,10 @@
-use Rattle.std.proofs.Common.{false, ◌∙◌, ℕ, ap, inl, inr}
+use Rattle.std.proofs.Common.{false, ◌∙◌, ℕ, ap, inl, inr, refl}
 use Rattle.wait_model.specs.Tasks.{pending, state_mask, task_of}
 use Rattle.wait_model.specs.declared.layout.TheConstants.{HEADS}
 use Rattle.wait_class.proofs.Entries.{heed_holds, heed_owes, heed_stops, heeds_advances, heeds_falls, off_advances, off_falls}
 use Rattle.wait_model.specs.declared.steps.Step.TheVariants as step
 use Rattle.wait_class.proofs.Handed.{given_as, given_on, given_seen, given_step, given_unlocked}
+use Rattle.wait_class.proofs.AwakeSteps.{awake_seen, awake_step, awake_unlocked, sleeps_not_on}
 use Rattle.wait_class.proofs.events.heed_event.Goals as goal
 
 pub returns-then-is_some-clause-turned : goal.returns-then-is_some-clause-turned
@@ -63,3 +64,13 @@ returns-clause-given g c = given_as c.args.task.now c.give_back.new.task c.own_e
     (given_seen c.args.task.now c.own_entry-entry.new.task c.own_entry-entry.result c.own_entry-entry.ensures)
     (given_unlocked c.own_entry-entry.new.task c.give_back.new.task c.own_entry-entry.new.task.at false
     c.give_back.ensures.given))
+
+pub returns-then-is_some-clause-awake : goal.returns-then-is_some-clause-awake
+returns-then-is_some-clause-awake g c = sleeps_not_on c.args.task.now c.own_entry-entry.new.task c.load_own-own.new.task
+    (awake_seen c.args.task.now c.own_entry-entry.new.task c.own_entry-entry.result c.own_entry-entry.ensures)
+    (awake_step c.own_entry-entry.new.task c.load_own-own.new.task (step.Look c.load_own-own.result.0) c.load_own-own.ensures.step refl)
+
+pub returns-clause-awake : goal.returns-clause-awake
+returns-clause-awake g c = sleeps_not_on c.args.task.now c.own_entry-entry.new.task c.give_back.new.task
+    (awake_seen c.args.task.now c.own_entry-entry.new.task c.own_entry-entry.result c.own_entry-entry.ensures)
+    (awake_unlocked c.own_entry-entry.new.task c.give_back.new.task c.give_back.ensures.given)

@@ -1,4 +1,4 @@
-use Rattle.std.proofs.Common.{false, ◌∙◌, sym, inl, inr}
+use Rattle.std.proofs.Common.{false, ◌∙◌, sym, inl, inr, refl}
 use Rattle.wait_model.specs.declared.layout.TheConstants.{HEADS}
 use Rattle.wait_class.proofs.Entries.{
   gives_advances,
@@ -13,6 +13,7 @@ use Rattle.wait_class.proofs.Entries.{
 use Rattle.wait_model.specs.declared.steps.Step.TheVariants as step
 use Rattle.wait_rule.specs.Queues.{index}
 use Rattle.wait_class.proofs.Handed.{given_as, given_on, given_seen, given_stored, given_unlocked}
+use Rattle.wait_class.proofs.AwakeSteps.{awake_seen, awake_stored, awake_unlocked, sleeps_not_on}
 use Rattle.wait_class.proofs.events.pare_event.Goals as goal
 
 pub remove-requires-clause-held : goal.remove-requires-clause-held
@@ -83,3 +84,13 @@ returns-clause-given g c = given_as c.args.task.now c.give_back.new.task c.own_e
     (given_seen c.args.task.now c.own_entry-entry.new.task c.own_entry-entry.result c.own_entry-entry.ensures)
     (given_unlocked c.own_entry-entry.new.task c.give_back.new.task c.own_entry-entry.new.task.at false
     c.give_back.ensures.given))
+
+pub returns-then-is_some-clause-awake : goal.returns-then-is_some-clause-awake
+returns-then-is_some-clause-awake g c = sleeps_not_on c.args.task.now c.own_entry-entry.new.task c.remove.new.task
+    (awake_seen c.args.task.now c.own_entry-entry.new.task c.own_entry-entry.result c.own_entry-entry.ensures)
+    (awake_stored c.own_entry-entry.new.task c.remove.new.task (step.Unqueue (index c.number-me.result 0)) c.remove.ensures.removed.is refl)
+
+pub returns-clause-awake : goal.returns-clause-awake
+returns-clause-awake g c = sleeps_not_on c.args.task.now c.own_entry-entry.new.task c.give_back.new.task
+    (awake_seen c.args.task.now c.own_entry-entry.new.task c.own_entry-entry.result c.own_entry-entry.ensures)
+    (awake_unlocked c.own_entry-entry.new.task c.give_back.new.task c.give_back.ensures.given)

@@ -1,4 +1,4 @@
-use Rattle.std.proofs.Common.{false, ◌∙◌, ap, inl, inr}
+use Rattle.std.proofs.Common.{false, ◌∙◌, ap, inl, inr, refl}
 use Rattle.wait_model.specs.Tasks.{state_mask}
 use Rattle.wait_model.specs.declared.layout.TheConstants.{HEADS}
 use Rattle.wait_class.proofs.Queues.{
@@ -18,6 +18,7 @@ use Rattle.wait_class.proofs.Queues.{
 }
 use Rattle.wait_model.specs.declared.steps.Step.TheVariants as step
 use Rattle.wait_class.proofs.Handed.{given_as, given_joined, given_on, given_seen, given_member_looks, given_step, given_unlocked}
+use Rattle.wait_class.proofs.AwakeSteps.{awake_joined, awake_looked, awake_seen, awake_step, awake_unlocked, sleeps_not_on}
 use Rattle.wait_class.proofs.events.queue_event.Goals as goal
 
 pub set_state-requires-clause-may : goal.set_state-requires-clause-may
@@ -112,3 +113,22 @@ returns-in-Err-clause-given g c = given_as c.args.task.now c.give_back.new.task 
     (given_seen c.add.new.task c.own_entry.new.task c.own_entry.result c.own_entry.ensures)
     (given_unlocked c.own_entry.new.task c.give_back.new.task c.own_entry.new.task.at false
     c.give_back.ensures.given))))
+
+pub returns-then-is_some-clause-awake : goal.returns-then-is_some-clause-awake
+returns-then-is_some-clause-awake g c = sleeps_not_on c.args.task.now c.own_entry-entry.new.task c.set_state.new.task
+    (awake_seen c.args.task.now c.own_entry-entry.new.task c.own_entry-entry.result c.own_entry-entry.ensures)
+    (awake_step c.own_entry-entry.new.task c.set_state.new.task (step.State c.mask.result) c.set_state.ensures.step refl)
+
+pub returns-in-Ok-clause-awake : goal.returns-in-Ok-clause-awake
+returns-in-Ok-clause-awake g c = sleeps_not_on c.args.task.now c.own_entry-entry.new.task c.add.new.task
+    (awake_seen c.args.task.now c.own_entry-entry.new.task c.own_entry-entry.result c.own_entry-entry.ensures)
+    (awake_joined g.C.Machine.table c.own_entry-entry.new.task c.add.new.task c.args.run.now.of c.args.stage (c.in-Ok.ensures c.requires.here).by)
+
+pub returns-in-Err-clause-awake : goal.returns-in-Err-clause-awake
+returns-in-Err-clause-awake g c = sleeps_not_on c.args.task.now c.own_entry-entry.new.task c.give_back.new.task
+    (awake_seen c.args.task.now c.own_entry-entry.new.task c.own_entry-entry.result c.own_entry-entry.ensures)
+    (sleeps_not_on c.own_entry-entry.new.task c.add.new.task c.give_back.new.task
+    (awake_looked c.own_entry-entry.new.task c.add.new.task (c.in-Err.ensures c.requires.here).by.looks)
+    (sleeps_not_on c.add.new.task c.own_entry.new.task c.give_back.new.task
+    (awake_seen c.add.new.task c.own_entry.new.task c.own_entry.result c.own_entry.ensures)
+    (awake_unlocked c.own_entry.new.task c.give_back.new.task c.give_back.ensures.given)))

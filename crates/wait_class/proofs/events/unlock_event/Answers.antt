@@ -1,6 +1,7 @@
 use Rattle.std.proofs.Common.{◌∙◌, false, inr}
 use Rattle.wait_class.proofs.Locks.{unlock_advances, unlock_agreed, unlock_falls, unlock_locked, unlock_owes, unlock_stops}
 use Rattle.wait_class.proofs.Handed.{given_as, given_unlocked}
+use Rattle.wait_class.proofs.AwakeSteps.{awake_unlocked}
 use Rattle.wait_class.proofs.events.unlock_event.Goals as goal
 
 pub give_back-requires-clause-held : goal.give_back-requires-clause-held
@@ -31,3 +32,6 @@ pub returns-clause-given : goal.returns-clause-given
 returns-clause-given g c = given_as c.args.task.now c.give_back.new.task c.args.task.now.at c.put.new.self.head
     (c.put.ensures ∙ c.give_back.ensures.head)
     (given_unlocked c.args.task.now c.give_back.new.task c.args.task.now.at false c.give_back.ensures.given)
+
+pub returns-clause-awake : goal.returns-clause-awake
+returns-clause-awake g c = awake_unlocked c.args.task.now c.give_back.new.task c.give_back.ensures.given

@@ -1,6 +1,7 @@
 -- A program that sleeps no more.
-use Rattle.std.proofs.Common.{◌∙◌, ap, append_assoc, append-nil, refl, sym}
-use Rattle.std.specs.Prelude.{ℕ, ◌≡◌, ◌||◌, Bool, true, false, Option, List, [], ◌∷◌, ◌++◌}
+use Rattle.std.proofs.Common.{◌∙◌, ap, append_assoc, inl, inr, refl, sym}
+use Rattle.std.proofs.lemmas.List.{append_cancel_left}
+use Rattle.std.specs.Prelude.{ℕ, ◌≡◌, ◌||◌, ◌⊎◌, Bool, true, false, Option, None, List, [], ◌∷◌, ◌++◌}
 use Rattle.wait_model.specs.declared.calls.Event.{Event}
 use Rattle.wait_model.specs.declared.calls.Event.TheVariants as event
 use Rattle.wait_model.specs.declared.points.Given.{Given}
@@ -16,12 +17,10 @@ use Rattle.wait_rule.specs.Items.{steps_of}
 use Rattle.wait_rule.specs.Known.{Known}
 use Rattle.wait_rule.specs.Says.{added, history_of}
 use Rattle.wait_rule.specs.Transitions.{
-  AreLooks,
   AreScansOf,
   Goes,
   IsMadeFor,
   IsStepFor,
-  OnlyLooks,
   Program,
   StepOrLook,
   Transition,
@@ -33,49 +32,17 @@ use Rattle.wait_rule.specs.Transitions.{
 }
 use Rattle.wait_rule.proofs.KnownLaws.TaskHistories.{history_after}
 use Rattle.wait_rule.proofs.TableSteps.ItemLists.{steps_append}
-use Rattle.wait_class.specs.Tables.{has_sleep, is_sleep}
+use Rattle.wait_class.specs.declared.stages.Doing.TheVariants as doing
+use Rattle.wait_class.specs.declared.stages.Run.{Run}
+use Rattle.wait_class.specs.declared.stages.Turn.{Turn}
+use Rattle.wait_class.specs.declared.stages.Turn.TheVariants as turn
+use Rattle.wait_class.specs.Laws.{IsPlain}
+use Rattle.wait_class.specs.Tables.{CallTable, Shows, SleepsNot, SleptLast, has_sleep, is_sleep}
 use Rattle.wait_class.specs.Wholes.{HasRested}
-use Rattle.wait_class.proofs.Histories.{awake_more}
-use Rattle.wait_class.proofs.Turns.{looks_history}
-use Rattle.wait_leave.specs.ExitLaws.{AwakeOn, is_awake, is_sleeping}
-use Rattle.wait_leave.specs.Leaves.{SleepsNot}
-
-pub sleeps_not_same : (old new : Known) → new ≡ old → SleepsNot old new
-sleeps_not_same old new is = record {
-  steps = [];
-  history = ap history_of is ∙ sym (append-nil (history_of old));
-  awake = refl;
-}
-
-pub sleeps_not_on : (old mid new : Known) → SleepsNot old mid → SleepsNot mid new → SleepsNot old new
-sleeps_not_on old mid new a b = record {
-  steps = a.steps ++ b.steps;
-  history = b.history ∙ (ap (λ (l : List Step). l ++ b.steps) a.history
-      ∙ append_assoc (history_of old) a.steps b.steps);
-  awake = awake_more a.steps b.steps a.awake b.awake;
-}
-
--- looks make no sleep
-looks_awake : (xs : List Item) → AreLooks xs → has_sleep (steps_of xs) ≡ false
-looks_awake [] l = refl
-looks_awake (item.Made (step.Saw y w) ∷ xs) l = looks_awake xs l.1
-looks_awake (item.Made e ∷ xs) l = absurd l.0
-looks_awake (item.Awake w ∷ xs) l = looks_awake xs l.1
-looks_awake (item.Bookmark t w ∷ xs) l = looks_awake xs l.1
-looks_awake (item.Member ∷ xs) l = looks_awake xs l.1
-looks_awake (item.Word w ∷ xs) l = looks_awake xs l.1
-looks_awake (item.Drawn i w ∷ xs) l = looks_awake xs l.1
-looks_awake (item.Serving i w ∷ xs) l = looks_awake xs l.1
-looks_awake (item.Served ∷ xs) l = looks_awake xs l.1
-looks_awake (item.Tally i n w ∷ xs) l = absurd l.0
-looks_awake (item.Piped i a w ∷ xs) l = absurd l.0
-
-pub only_awake : (old new : Known) → OnlyLooks old new → SleepsNot old new
-only_awake old new l = record {
-  steps = steps_of l.items;
-  history = looks_history old new l;
-  awake = looks_awake l.items l.looks;
-}
+use Rattle.wait_class.proofs.AwakeSteps.{only_awake, sleeps_not_on, sleeps_not_same}
+use Rattle.wait_class.proofs.Histories.{or_right, sleeps_more}
+use Rattle.wait_leave.specs.ExitLaws.{AreLawfulExits, AwakeOn, is_awake, is_sleeping}
+use Rattle.wait_leave.specs.Leaves.{Exits, StaysUp}
 
 scans_awake : (h : ℕ) (xs : List Item) → AreScansOf h xs → has_sleep (steps_of xs) ≡ false
 scans_awake h [] l = refl
@@ -136,3 +103,31 @@ rest_awake old new true is = record {
   history = history_after old new (step.State 0) is;
   awake = refl;
 }
+
+-- a turn at a stage that has no exit
+pub awake_turn : {C S O : Type 0} (t : CallTable C S O) (x : Exits C S O) → AreLawfulExits t x → (old new : Known) (r : C)
+    (s : S) → x.exit r s ≡ None → (t.doing s ≡ doing.Sleep) ⊎ SleepsNot old new → SleepsNot old new
+awake_turn t x law old new r s none (inl here) = absurd (law.sleeps r s here none)
+awake_turn t x law old new r s none (inr awake) = awake
+
+not_slept : (old new : Known) → SleepsNot old new → SleptLast old new → ⊥
+not_slept old new a l =
+    let slept = step.Sleep l.found ∷ [] in
+    let same : a.steps ≡ l.before ++ slept = append_cancel_left (history_of old) a.steps (l.before ++ slept)
+    (sym a.history ∙ (l.is ∙ append_assoc (history_of old) l.before slept)) in
+    let no : true ≡ false = or_right (has_sleep l.before) (has_sleep slept)
+    (sym (sleeps_more l.before slept) ∙ (sym (ap has_sleep same) ∙ a.awake)) in
+    cc
+
+pub up_turn : {C S O : Type 0} (t : CallTable C S O) (old new : Known) (r q : Run C) (u : Turn S O) → Shows t old new r q u
+    → SleepsNot old new → StaysUp u
+up_turn t old new r q (turn.Again s) shows a = tt
+up_turn t old new r q (turn.Asleep s) shows a = not_slept old new a shows
+up_turn t old new r q (turn.Locked s) shows a = tt
+up_turn t old new r q (turn.Done o) shows a = tt
+
+pub up_plain : {C S O : Type 0} (t : CallTable C S O) (u : Turn S O) → IsPlain t u → StaysUp u
+up_plain t (turn.Again s) plain = tt
+up_plain t (turn.Asleep s) plain = plain
+up_plain t (turn.Locked s) plain = tt
+up_plain t (turn.Done o) plain = tt

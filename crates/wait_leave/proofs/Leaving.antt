@@ -12,16 +12,17 @@ use Rattle.wait_class.specs.declared.stages.Run.{Run}
 use Rattle.wait_class.specs.declared.stages.Turn.{Turn}
 use Rattle.wait_class.specs.declared.stages.Turn.TheVariants as turn
 use Rattle.wait_class.specs.Laws.{Calm, IsLawfulTable, IsPlain, turn_post}
-use Rattle.wait_class.specs.Tables.{Advances, CallTable, IsAt, IsEnded, Lands, next_in, plan_program, post_of, watch_in}
+use Rattle.wait_class.specs.Tables.{Advances, CallTable, IsAt, IsEnded, Lands, SleepsNot, next_in, plan_program, post_of, watch_in}
 use Rattle.wait_class.specs.Wholes.{HasRested}
+use Rattle.wait_class.proofs.AwakeSteps.{sleeps_not_on, sleeps_not_same}
 use Rattle.wait_class.proofs.CalmSteps.{calm_step}
 use Rattle.wait_class.proofs.Ground.Standing.{state_stands, state_up}
 use Rattle.wait_class.proofs.Turns.{LandsOn, advances_none, advances_on, again, lands_plain, stands_plain, zero_for}
 use Rattle.wait_class.proofs.UnderWay.{woke_on}
 use Rattle.wait_leave.specs.declared.exits.Exit.{Exit}
 use Rattle.wait_leave.specs.ExitLaws.{AreLawfulExits, ExitLaw, rest_steps}
-use Rattle.wait_leave.specs.Leaves.{Exits, GoesOut, Leaves, SleepsNot, asked_run, stays_awake}
-use Rattle.wait_leave.proofs.Awake.{goes_awake, rest_awake, sleeps_not_on, sleeps_not_same}
+use Rattle.wait_leave.specs.Leaves.{Exits, GoesOut, Leaves, asked_run, stays_awake}
+use Rattle.wait_leave.proofs.Awake.{goes_awake, rest_awake}
 
 pub calm_none : (k : Known) → Calm [] k k
 calm_none k = record {

@@ -10,7 +10,7 @@ use Rattle.wait_class.specs.declared.stages.Run.{Run}
 use Rattle.wait_class.specs.declared.stages.Turn.{Turn}
 use Rattle.wait_class.specs.declared.stages.Turn.TheVariants as turn
 use Rattle.wait_class.specs.Laws.{IsLawfulTable}
-use Rattle.wait_class.specs.Tables.{Advances, CallTable, IsAt, Lands, Plan, took_in, watch_in}
+use Rattle.wait_class.specs.Tables.{Advances, CallTable, IsAt, Lands, Plan, SleepsNot, took_in, watch_in}
 use Rattle.wait_class.specs.UnderWay.{IsUnderWay, going}
 use Rattle.wait_class.proofs.Turns.{advances_none, advances_on, again}
 use Rattle.wait_class.proofs.UnderWay.{woke_on}
@@ -143,6 +143,7 @@ pub record IsOutStretch {C S O : Type 0} (t : CallTable C S O) (x : Exits C S O)
     (turns : ℕ) : Type 0 where
   pub way : OnTheWay (Unit {0}) t x old r s new q (turn.Again n)
   pub given : LastGiven old new HEADS
+  pub awake : SleepsNot old new
   pub low : t.depth n + turns ≤ 6
 
 -- a way that is left whatever the cause

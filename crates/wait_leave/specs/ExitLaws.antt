@@ -1,6 +1,6 @@
 -- For proofs alone.
 -- What exits have to keep.
-use Rattle.std.specs.Prelude.{ℕ, ◌≡◌, Bool, true, false, if◌then◌else◌, Some, List, [], ◌∷◌}
+use Rattle.std.specs.Prelude.{ℕ, ◌≡◌, Bool, true, false, if◌then◌else◌, Some, None, List, [], ◌∷◌}
 use Rattle.wait_model.specs.declared.calls.Event.{Event}
 use Rattle.wait_model.specs.declared.calls.Event.TheVariants as event
 use Rattle.wait_model.specs.declared.points.Next.{Next}
@@ -12,6 +12,7 @@ use Rattle.wait_model.specs.declared.steps.Step.{Step}
 use Rattle.wait_model.specs.declared.steps.Step.TheVariants as step
 use Rattle.wait_model.specs.PointFacts.{holds}
 use Rattle.wait_rule.specs.Known.{Known}
+use Rattle.wait_class.specs.declared.stages.Doing.TheVariants as doing
 use Rattle.wait_class.specs.Laws.{Calm, HomeGoes, IsPlain, StateGoes, TurnTrail, turn_post}
 use Rattle.wait_class.specs.Tables.{CallTable, falls, post_of, took_in}
 use Rattle.wait_leave.specs.Leaves.{Exits, with_asked}
@@ -51,7 +52,9 @@ is_awake f (next.Ends a) = true
 abbrev pub AwakeOn : (Point → Bool) → Planned → Type 0
 AwakeOn f p = (is_sleeping p.event ≡ false) × (is_awake f p.next ≡ true)
 
+-- A stage that sleeps has an exit.
 pub record AreLawfulExits {C S O : Type 0} (t : CallTable C S O) (x : Exits C S O) : Type 0 where
   pub at : (r : C) (s : S) (e : Exit S O) → x.exit r s ≡ Some e → ExitLaw t x r s e
+  pub sleeps : (r : C) (s : S) → t.doing s ≡ doing.Sleep → x.exit r s ≡ None → ⊥
   pub awake : (r : C) (me : ℕ) (p : Point) (seen : Seen) → x.awake p ≡ true
       → AwakeOn x.awake ((t.plan_of r).makes me p seen)

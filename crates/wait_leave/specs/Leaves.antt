@@ -1,15 +1,13 @@
 -- To be believed.
 -- A wait that is left: the exits of its stages, and what a task does that was asked to leave at one.
-use Rattle.std.specs.Prelude.{◌≡◌, Bool, true, false, Option, Some, List, ◌++◌}
+use Rattle.std.specs.Prelude.{◌≡◌, Bool, true, false, Option, Some}
 use Rattle.wait_model.specs.declared.points.Point.{Point}
-use Rattle.wait_model.specs.declared.steps.Step.{Step}
 use Rattle.wait_rule.specs.Known.{Known}
 use Rattle.wait_rule.specs.Queues.{index}
-use Rattle.wait_rule.specs.Says.{history_of}
 use Rattle.wait_class.specs.declared.stages.Run.{Run}
 use Rattle.wait_class.specs.declared.stages.Turn.{Turn}
 use Rattle.wait_class.specs.declared.stages.Turn.TheVariants as turn
-use Rattle.wait_class.specs.Tables.{Advances, CallTable, IsEnded, Plan, has_sleep, watch_in}
+use Rattle.wait_class.specs.Tables.{Advances, CallTable, IsEnded, Plan, SleepsNot, watch_in}
 use Rattle.wait_class.specs.Wholes.{HasRested}
 use Rattle.wait_leave.specs.declared.exits.Exit.{Exit}
 
@@ -34,11 +32,10 @@ stays_awake t x (turn.Asleep s) = false
 stays_awake t x (turn.Locked s) = x.awake (t.point_of s)
 stays_awake t x (turn.Done o) = true
 
--- the task made these steps, and did not sleep, nor try to
-pub record SleepsNot (old new : Known) : Type 0 where
-  pub steps : List Step
-  pub history : history_of new ≡ history_of old ++ steps
-  pub awake : has_sleep steps ≡ false
+-- a turn that put nobody asleep
+abbrev pub StaysUp : {S O : Type 0} → Turn S O → Type 0
+StaysUp (turn.Asleep s) = ⊥
+StaysUp _ = Unit {0}
 
 -- a wait that was over does nothing more
 pub record StaysOver {C S O : Type 0} (t : CallTable C S O) (old new : Known) (r q : Run C) (o : O) (u : Turn S O) :

@@ -7,9 +7,9 @@ use Rattle.wait_rule.specs.Says.{IsClean}
 use Rattle.wait_class.specs.declared.stages.Run.{Run}
 use Rattle.wait_class.specs.declared.stages.Turn.{Turn}
 use Rattle.wait_class.specs.declared.stages.Turn.TheVariants as turn
-use Rattle.wait_class.specs.Tables.{Advances, CallTable, Plan}
+use Rattle.wait_class.specs.Tables.{Advances, CallTable, Plan, SleepsNot}
 use Rattle.wait_class.specs.UnderWay.{going}
-use Rattle.wait_leave.specs.Leaves.{Exits, Leaves, SleepsNot}
+use Rattle.wait_leave.specs.Leaves.{Exits, Leaves}
 
 -- It went straight by its program; or it was on its way to a stage, was asked to leave there, for this cause, and went
 -- out.

@@ -4,9 +4,9 @@ ghost use Rattle.std.specs.Prelude.{◌≡◌, ◌⊎◌, Some, true};
 ghost use Rattle.wait_model.specs.declared.layout.TheConstants.{HEADS};
 ghost use Rattle.wait_rule.specs.PassedLocks.{PassesNone};
 ghost use Rattle.wait_class.specs.Handing.{LastGiven};
-ghost use Rattle.wait_class.specs.Tables.{Advances, IsAsleepAt, IsAt, IsStop, Lands, falls};
+ghost use Rattle.wait_class.specs.Tables.{Advances, IsAsleepAt, IsAt, IsStop, Lands, SleepsNot, falls};
 ghost use Rattle.wait_class.specs.declared.stages.Turn.TheVariants as turn;
-ghost use Rattle.wait_leave.specs.Leaves.{Leaves};
+ghost use Rattle.wait_leave.specs.Leaves.{Leaves, StaysUp};
 ghost use Rattle.wait_leave.specs.OnTheWay.{IsAsked, IsOnWay, OnTheWay};
 
 use crate::exits::Exit;
@@ -38,6 +38,7 @@ fn go_out<C: Leavable>(
     ensures leaves { Leaves C.table C.exits task.old task.new call.old call.new stage exit.to }
     ensures given { LastGiven task.old task.new HEADS }
     ensures falls { falls C.table stage exit.to ≡ true }
+    ensures awake { SleepsNot task.old task.new }
 {
     C::lawful();
     C::may_leave();
@@ -49,7 +50,7 @@ fn go_out<C: Leavable>(
 
 /// Asks a wait at a stage to leave, between two stretches. With an answer it goes on there, by the next stretch, or it is
 /// over. Without one it goes on as it was, since its ticket is drawn or it goes to its end anyhow; it is asked again
-/// behind the next stretch. It makes no event, and takes no time.
+/// behind the next stretch. It makes no event, never sleeps, and takes no time.
 pub fn ask<C: Leavable>(
     domain: &Domain,
     task: &mut Task,
@@ -58,7 +59,8 @@ pub fn ask<C: Leavable>(
 ) -> Option<Turn<C::Stage, C::Outcome>>
     requires of { task.old.domain ≡ domain.now }
     requires at { IsAt C.table task.old call.old stage }
-    ensures { IsAsked C.table C.exits task.old task.new call.old call.new stage result }
+    ensures asked { IsAsked C.table C.exits task.old task.new call.old call.new stage result }
+    ensures awake { SleepsNot task.old task.new }
 {
     match call.of.exit(stage) {
         Some(exit) => {
@@ -70,7 +72,7 @@ pub fn ask<C: Leavable>(
 }
 
 /// Makes a turn of a wait that is asked to leave: it goes out of a stage that has an exit, and makes its event at
-/// another.
+/// another, which is no sleep.
 #[inline(always)]
 fn turn_out<C: Leavable>(
     domain: &Domain,
@@ -88,10 +90,13 @@ fn turn_out<C: Leavable>(
     ensures passes { PassesNone passing.new ⊎ IsStop C.table result }
     ensures falls { falls C.table stage result ≡ true }
     ensures given { LastGiven task.old task.new passing.new.head }
+    ensures up { StaysUp result }
+    ensures awake { SleepsNot task.old task.new }
 {
     C::lawful();
     C::may_leave();
-    match call.of.exit(stage) {
+    let found = call.of.exit(stage);
+    match found {
         Some(exit) => {
             go_out(domain, task, call, stage, exit);
             exit.to
@@ -101,7 +106,7 @@ fn turn_out<C: Leavable>(
 }
 
 /// Goes on by one stretch with a wait that is asked to leave, as `stretch` does with another: out of each stage that has
-/// an exit, also in a hold.
+/// an exit, also in a hold. It never sleeps.
 pub fn stretch_out<C: Leavable>(
     domain: &Domain,
     task: &mut Task,
@@ -116,6 +121,7 @@ pub fn stretch_out<C: Leavable>(
     ensures lands { Lands C.table task.new call.new result }
     ensures stops { IsStop C.table result }
     ensures given { LastGiven task.old task.new passing.new.head }
+    ensures awake { SleepsNot task.old task.new }
     ensures way { OnTheWay (Unit {0}) C.table C.exits task.old call.old stage task.new call.new result }
     ensures under { (c : _) → IsOnWay (Unit {0}) C.table C.exits c task.old call.old (turn.Again stage)
         → IsOnWay (Unit {0}) C.table C.exits c task.new call.new result }
@@ -152,6 +158,8 @@ fn event_out<C: Leavable>(
     ensures of { task.new.domain ≡ domain.now }
     ensures lands { Lands C.table task.new call.new result }
     ensures way { OnTheWay (Unit {0}) C.table C.exits task.old call.old stage task.new call.new result }
+    ensures up { StaysUp result }
+    ensures awake { SleepsNot task.old task.new }
 {
     let mut passing = Passing::none();
     let turn = turn_out(domain, task, call, stage, &mut passing);
@@ -181,8 +189,7 @@ fn rise<R: Wait, C: Leavable>(
 }
 
 /// Leaves a wait, from a stage at which its task is awake: goes on to the first stage that has an exit, and out of it, to
-/// the end of the wait. It waits for locks alone: behind its last exit it does not sleep, where the program sleeps no
-/// more from there on.
+/// the end of the wait. It waits for locks alone, and never sleeps.
 pub fn leave<R: Wait, C: Leavable>(
     rt: &R,
     domain: &Domain,
@@ -192,7 +199,8 @@ pub fn leave<R: Wait, C: Leavable>(
 ) -> C::Outcome
     requires of { task.old.domain ≡ domain.now }
     requires at { IsAt C.table task.old call.old stage }
-    ensures { OnTheWay (Unit {0}) C.table C.exits task.old call.old stage task.new call.new (turn.Done result) }
+    ensures way { OnTheWay (Unit {0}) C.table C.exits task.old call.old stage task.new call.new (turn.Done result) }
+    ensures awake { SleepsNot task.old task.new }
 {
     C::lawful();
     C::may_leave();
@@ -204,10 +212,7 @@ pub fn leave<R: Wait, C: Leavable>(
                 looks = 0;
                 at = next;
             }
-            Turn::Asleep(next) => {
-                rise(rt, domain, task, call, next);
-                at = next;
-            }
+            Turn::Asleep(_) => unreachable!(),
             Turn::Locked(next) => {
                 looks = pause(rt, domain, call, next, looks);
                 at = next;

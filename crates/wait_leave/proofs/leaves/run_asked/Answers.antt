@@ -33,7 +33,7 @@ returns-then-asked g c = way_then (g.Q.Fn.post c.args.asks tt true) g.C.Machine.
     (turn.Done c.leave.result) (straight c.loop.task c.loop.call (turn.Again c.loop.at) c.loop.invariant)
     (way_for (g.Q.Fn.post c.args.asks tt true) (subst (g.Q.Fn.post c.args.asks tt) c.if-asked.true c.asks-asked.ensures)
     g.C.Machine.table g.C.Leavable.exits c.loop.task c.loop.call c.loop.at c.leave.new.task c.leave.new.call
-    (turn.Done c.leave.result) c.leave.ensures)
+    (turn.Done c.leave.result) c.leave.ensures.way)
 
 pub loop-preserved-in-Again : goal.loop-preserved-in-Again
 loop-preserved-in-Again g c =

@@ -6,6 +6,7 @@ use Rattle.wait_class.proofs.Falling.{falls_by, falls_still, held_yes, unheld}
 use Rattle.wait_class.proofs.Handed.{given_as, given_on, given_still}
 use Rattle.wq_head.proofs.PassedOn.{none_yet}
 use Rattle.wait_leave.proofs.Ways.{on_way_then, way_domain, way_lands, way_none, way_then}
+use Rattle.wait_class.proofs.AwakeSteps.{sleeps_not_on, sleeps_not_same}
 use Rattle.wait_leave.proofs.leaves.stretch_out.Goals as goal
 
 pub loop-turn-init : goal.loop-turn-init
@@ -14,6 +15,7 @@ loop-turn-init g c = (
     way = way_none (Unit {0}) g.C.Machine.table g.C.Leavable.exits c.may_leave.ensures c.lawful.ensures
         c.args.task.now c.args.call.now c.args.stage c.requires.at;
     given = given_still c.args.task.now c.args.task.now refl;
+    awake = sleeps_not_same c.args.task.now c.args.task.now refl;
     low = let d = c.lawful.ensures.depth c.args.stage in omega (arith, d);
   },
   c.requires.passes,
@@ -44,6 +46,7 @@ loop-turn-preserved g c =
             c.args.task.now c.args.call.now c.args.stage c.loop-turn.task c.turn_out.new.task c.loop-turn.call c.turn_out.new.call c.loop-turn.at (turn.Again next) i.way e.way;
         given = given_on c.args.task.now c.loop-turn.task c.turn_out.new.task HEADS i.given
             (given_as c.loop-turn.task c.turn_out.new.task c.turn_out.new.passing.head HEADS (sym none) e.given);
+        awake = sleeps_not_on c.args.task.now c.loop-turn.task c.turn_out.new.task i.awake e.awake;
         low = omega (arith, less, i.low);
       },
       none,
@@ -115,3 +118,19 @@ returns-in-Done-clause-given g c = given_on c.args.task.now c.loop-turn.task c.t
 pub returns-in-Done-clause-under : goal.returns-in-Done-clause-under
 returns-in-Done-clause-under g c p i = on_way_then (Unit {0}) g.C.Machine.table g.C.Leavable.exits c.may_leave.ensures c.lawful.ensures
     p c.args.task.now c.turn_out.new.task c.args.call.now c.turn_out.new.call c.args.stage (turn.Done c.in-Done.outcome) i (returns-in-Done-clause-way g c)
+
+pub returns-then-is_free-clause-awake : goal.returns-then-is_free-clause-awake
+returns-then-is_free-clause-awake g c = sleeps_not_on c.args.task.now c.loop-turn.task c.turn_out.new.task c.loop-turn.invariant.0.awake
+    c.in-Again.ensures.awake
+
+pub returns-in-Asleep-clause-awake : goal.returns-in-Asleep-clause-awake
+returns-in-Asleep-clause-awake g c = sleeps_not_on c.args.task.now c.loop-turn.task c.turn_out.new.task c.loop-turn.invariant.0.awake
+    c.in-Asleep.ensures.awake
+
+pub returns-in-Locked-clause-awake : goal.returns-in-Locked-clause-awake
+returns-in-Locked-clause-awake g c = sleeps_not_on c.args.task.now c.loop-turn.task c.turn_out.new.task c.loop-turn.invariant.0.awake
+    c.in-Locked.ensures.awake
+
+pub returns-in-Done-clause-awake : goal.returns-in-Done-clause-awake
+returns-in-Done-clause-awake g c = sleeps_not_on c.args.task.now c.loop-turn.task c.turn_out.new.task c.loop-turn.invariant.0.awake
+    c.in-Done.ensures.awake

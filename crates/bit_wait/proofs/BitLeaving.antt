@@ -19,6 +19,7 @@ use Rattle.wait_rule.specs.Says.{IsClean, IsUp, told_of}
 use Rattle.wait_rule.specs.Stays.{Carries}
 use Rattle.wait_rule.specs.Tickets.{no_ticket}
 use Rattle.wait_class.specs.Posts.{IsOut, Keeps}
+use Rattle.wait_class.specs.declared.stages.Doing.TheVariants as doing
 use Rattle.wait_class.specs.declared.frame_stages.Framed.{Framed}
 use Rattle.wait_class.specs.declared.frame_stages.Stage.{Stage}
 use Rattle.wait_class.specs.declared.frame_stages.Stage.TheVariants as stage
@@ -170,8 +171,12 @@ awake_on r me (at.Finish finishing.Unlock false) seen is = (refl, refl)
 awake_on r me (at.Bit (biting.Again true)) seen is = (refl, loads_awake (call_fails (call_in r.wait) seen))
 awake_on r me p seen is = absurd (cc)
 
+sleeps_out : (r : Framed WaitBit) (s : Stage BitTest) → bit_table.doing s ≡ doing.Sleep → bit_exit s ≡ None → ⊥
+sleeps_out r stage.Sleep here none = absurd (cc)
+sleeps_out r s here none = absurd (cc)
+
 pub bit_may_leave : AreLawfulExits bit_table bit_exits
-bit_may_leave = record { at = exit_law; awake = awake_on }
+bit_may_leave = record { at = exit_law; sleeps = sleeps_out; awake = awake_on }
 
 -- the answer and its cause
 abbrev CauseOf : Known → WaitBit → BitOutcome → Until (Result (Unit {0}) BitEnd) → Type 0

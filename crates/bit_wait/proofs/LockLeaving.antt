@@ -17,6 +17,7 @@ use Rattle.wait_rule.specs.Queues.{IsIdle, index}
 use Rattle.wait_rule.specs.Says.{IsClean, IsUp, told_of}
 use Rattle.wait_rule.specs.Tickets.{no_ticket}
 use Rattle.wait_class.specs.Posts.{IsOut, own_of}
+use Rattle.wait_class.specs.declared.stages.Doing.TheVariants as doing
 use Rattle.wait_class.specs.declared.frame_stages.Framed.{Framed}
 use Rattle.wait_class.specs.declared.frame_stages.Stage.{Stage}
 use Rattle.wait_class.specs.declared.frame_stages.Stage.TheVariants as stage
@@ -167,8 +168,12 @@ awake_on r me (at.Finish finishing.Unlock false) seen is = (refl, refl)
 awake_on r me (at.Bit biting.Last) seen is = (refl, refl)
 awake_on r me p seen is = absurd (cc)
 
+sleeps_out : (r : Framed LockBit) (s : Stage LockTest) → lock_table.doing s ≡ doing.Sleep → lock_exit s ≡ None → ⊥
+sleeps_out r stage.Sleep here none = absurd (cc)
+sleeps_out r s here none = absurd (cc)
+
 pub lock_may_leave : AreLawfulExits lock_table lock_exits
-lock_may_leave = record { at = exit_law; awake = awake_on }
+lock_may_leave = record { at = exit_law; sleeps = sleeps_out; awake = awake_on }
 
 -- the answer and its cause
 caused : (k : Known) (e : LockBit) (b : Bool) → WhyFailed b k e → IsUntilCause k e.word e.bit e.state (failed_in b e)

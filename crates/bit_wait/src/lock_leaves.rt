@@ -6,7 +6,7 @@ ghost use Rattle.wait_model.specs.declared.watches.Watch.TheVariants as watch;
 ghost use Rattle.wait_rule.specs.Queues.{IsIdle, index};
 ghost use Rattle.wait_rule.specs.Says.{IsClean, IsUp, told_of};
 ghost use Rattle.wait_class.specs.Posts.{IsOut};
-ghost use Rattle.wait_class.specs.Tables.{IsAt};
+ghost use Rattle.wait_class.specs.Tables.{IsAt, SleepsNot};
 ghost use Rattle.wait_class.specs.declared.stages.Turn.TheVariants as turn;
 ghost use Rattle.wait_leave.specs.OnTheWay.{IsOnWay, OnTheWay};
 ghost use Rattle.bit_wait.specs.Holders.{IsHolder};
@@ -68,9 +68,9 @@ impl Parting for LockBit {
 }
 
 /// Leaves a wait to take a bit that goes on by stretches, at a stage at which its task is awake: to its end, and answers.
-/// It waits for the lock of the head alone, and does not sleep once it has gone out. Left: its last test-and-set found
-/// the bit set in `seen`. Over: the wait took the bit, or had ended before it was left, as `wait_on_bit_lock` says. Its
-/// entry is off then, and it does not try the bit any more.
+/// It waits for the lock of the head alone, and never sleeps. Left: its last test-and-set found the bit set in `seen`.
+/// Over: the wait took the bit, or had ended before it was left, as `wait_on_bit_lock` says. Its entry is off then, and
+/// it does not try the bit any more.
 pub fn leave_lock<R: Wait>(
     rt: &R,
     domain: &Domain,
@@ -81,6 +81,7 @@ pub fn leave_lock<R: Wait>(
     requires of { task.old.domain ≡ domain.now }
     requires at { IsAt lock_table task.old call.old stage }
     ensures leaves { LeavesBitLock (Unit {0}) task.old task.new call.old stage result }
+    ensures awake { SleepsNot task.old task.new }
     ensures up { IsUp task.new }
     ensures out { IsOut task.new }
     ensures idle { (told_of task.old).mark ≡ None → IsIdle task.new }

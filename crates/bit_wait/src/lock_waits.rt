@@ -8,7 +8,7 @@ ghost use Rattle.wait_model.specs.declared.layout.TheConstants.{HEADS};
 ghost use Rattle.wait_class.specs.Handing.{LastGiven};
 ghost use Rattle.wait_class.specs.declared.frame_stages.Stage.TheVariants as stage;
 ghost use Rattle.wait_class.specs.Laws.{AddsOwn, MayAdd};
-ghost use Rattle.wait_class.specs.Tables.{IsAt, Turned, falls};
+ghost use Rattle.wait_class.specs.Tables.{IsAt, SleepsNot, Turned, falls};
 ghost use Rattle.bit_wait.specs.LockTables.{lock_frame, lock_table};
 
 pub use crate::lock_runs::{LockBit, LockOutcome, LockTest};
@@ -74,6 +74,7 @@ fn try_test(domain: &Domain, task: &mut Task, run: &mut LockRun, test: LockTest)
     ensures turned { Turned lock_table task.old task.new run.old run.new (stage.Test test) result }
     ensures falls { falls lock_table (stage.Test test) result ≡ true }
     ensures given { LastGiven task.old task.new HEADS }
+    ensures awake { SleepsNot task.old task.new }
 {
     let value = bit_set(domain, task, run.of.wait.word, run.of.wait.bit);
     run.of.wait.seen = value;

@@ -6,7 +6,7 @@ ghost use Rattle.wait_rule.specs.Queues.{IsIdle, index};
 ghost use Rattle.wait_rule.specs.Says.{IsClean, IsUp, told_of};
 ghost use Rattle.wait_rule.specs.Stays.{Carries};
 ghost use Rattle.wait_class.specs.Posts.{IsOut, Keeps};
-ghost use Rattle.wait_class.specs.Tables.{IsAt};
+ghost use Rattle.wait_class.specs.Tables.{IsAt, SleepsNot};
 ghost use Rattle.wait_class.specs.declared.stages.Turn.TheVariants as turn;
 ghost use Rattle.wait_event.specs.Ends.{wait_change};
 ghost use Rattle.wait_leave.specs.OnTheWay.{IsOnWay, OnTheWay};
@@ -67,10 +67,9 @@ impl Parting for WaitBit {
 }
 
 /// Leaves a wait until a bit is clear that goes on by stretches, at a stage at which its task is awake: to its end, and
-/// answers. It waits for the lock of the head alone, and does not sleep once it has gone out: it loads the bit once more,
-/// and takes its entry off. Left: that load found the bit set in `seen`. Over: it found it clear (Ok), or the wait had
-/// ended before it was left, as `wait_on_bit` says. Its entry is off then. Who owed nothing when the wait began owes
-/// nothing.
+/// answers. It waits for the lock of the head alone, and never sleeps: it loads the bit once more, and takes its entry
+/// off. Left: that load found the bit set in `seen`. Over: it found it clear (Ok), or the wait had ended before it was
+/// left, as `wait_on_bit` says. Its entry is off then. Who owed nothing when the wait began owes nothing.
 pub fn leave_bit<R: Wait>(
     rt: &R,
     domain: &Domain,
@@ -81,6 +80,7 @@ pub fn leave_bit<R: Wait>(
     requires of { task.old.domain ≡ domain.now }
     requires at { IsAt bit_table task.old call.old stage }
     ensures leaves { LeavesBitWait (Unit {0}) task.old task.new call.old stage result }
+    ensures awake { SleepsNot task.old task.new }
     ensures up { IsUp task.new }
     ensures out { IsOut task.new }
     ensures idle { (told_of task.old).mark ≡ None → IsIdle task.new }

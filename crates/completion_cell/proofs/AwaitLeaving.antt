@@ -22,6 +22,7 @@ use Rattle.wait_rule.specs.Stays.{Carries}
 use Rattle.wait_rule.proofs.KnownLaws.OtherCalls.{Adding}
 use Rattle.wait_rule.proofs.KnownLaws.TaskHistories.{history_after}
 use Rattle.wait_class.specs.Posts.{IsOut, own_of}
+use Rattle.wait_class.specs.declared.stages.Doing.TheVariants as doing
 use Rattle.wait_class.specs.declared.stages.Run.{Run}
 use Rattle.wait_class.specs.declared.stages.Turn.{Turn}
 use Rattle.wait_class.specs.declared.stages.Turn.TheVariants as turn
@@ -170,8 +171,12 @@ awake_on r me (at.Await (awaiting.Last false)) seen is = either_awake (is_at_end
 awake_on r me (at.Await awaiting.Unlock) seen is = (refl, refl)
 awake_on r me p seen is = absurd (cc)
 
+sleeps_out : (r : AwaitCall) (s : AwaitStage) → await_table.doing s ≡ doing.Sleep → await_exit s ≡ None → ⊥
+sleeps_out r stage.Sleep here none = absurd (cc)
+sleeps_out r s here none = absurd (cc)
+
 pub await_may_leave : AreLawfulExits await_table await_exits
-await_may_leave = record { at = exit_law; awake = awake_on }
+await_may_leave = record { at = exit_law; sleeps = sleeps_out; awake = awake_on }
 
 -- the answer and its cause
 stopped_cause : (k : Known) (e : AwaitCall) (found b : Bool) → WhyStopped b k e found

@@ -58,13 +58,14 @@ use Rattle.wait_rule.specs.Transitions.{FindsValue, IsMadeFor, IsSeenAs, OnlyLoo
 use Rattle.wait_rule.proofs.KnownLaws.MemberBits.{bit_looks}
 use Rattle.wait_rule.proofs.KnownLaws.TaskHistories.{history_after}
 use Rattle.wait_class.specs.Handing.{LastGiven, given_back_by}
+use Rattle.wait_class.proofs.AwakeSteps.{awake_step}
 use Rattle.wait_class.proofs.Handed.{given_as, given_step}
 use Rattle.wait_rule.proofs.KnownLaws.Transitions.{only_none}
 use Rattle.wq_head.specs.Adds.{HasRemoved}
 use Rattle.wq_head.specs.Holds.{IsHolding}
 use Rattle.wait_class.specs.Findings.{nothing, with_value}
 use Rattle.wait_class.specs.Posts.{HasSeenOwn, Post, Stands, own_of}
-use Rattle.wait_class.specs.Tables.{IsAt, Turned, falls, post_of, run_post}
+use Rattle.wait_class.specs.Tables.{IsAt, SleepsNot, Turned, falls, is_sleep, post_of, run_post}
 use Rattle.wait_class.specs.Laws.{Calm, IsPlain, is_quiet, turn_post}
 use Rattle.wait_class.specs.declared.stages.Run.{Run}
 use Rattle.wait_class.specs.declared.stages.Turn.TheVariants as turn
@@ -595,3 +596,14 @@ pub stays_count : (old new : Known) (d n : ℕ) (took : Bool) → took ≡ false
     → MatchBool took (StoresCount old new d n) (new ≡ old) → new ≡ old
 stays_count old new d n true is s = absurd (cc)
 stays_count old new d n false is s = s
+
+set_awake : (b : Bool) (w : Watch) (n found : ℕ)
+    → is_sleep (if b then step.Publish w n found else step.Consume w n found) ≡ false
+set_awake true w n found = refl
+set_awake false w n found = refl
+
+pub stored_awake : (old new : Known) (d n : ℕ) (took : Bool) → took ≡ true
+    → MatchBool took (StoresCount old new d n) (new ≡ old) → SleepsNot old new
+stored_awake old new d n true is s = awake_step old new (set_step (watch.Done d) n s.found) s.is
+    (set_awake _ (watch.Done d) n s.found)
+stored_awake old new d n false is s = absurd (cc)

@@ -9,7 +9,7 @@ ghost use Rattle.wait_rule.specs.Says.{IsUp};
 ghost use Rattle.wait_class.specs.declared.stages.Doing.TheVariants as doing;
 ghost use Rattle.wait_class.specs.Handing.{LastGiven};
 ghost use Rattle.wait_class.specs.Laws.{AddsOwn, MayAdd};
-ghost use Rattle.wait_class.specs.Tables.{IsAt, IsStop, Turned, falls};
+ghost use Rattle.wait_class.specs.Tables.{IsAt, IsStop, SleepsNot, Turned, falls};
 ghost use Rattle.completion_cell.specs.declared.awaits.AwaitStage.TheVariants as stage;
 ghost use Rattle.completion_cell.specs.Awaits.{Pares, QuitsFrom, TakesFrom, await_table, counted_to};
 ghost use Rattle.completion_cell.specs.Awaits.{off_stage, quit_stage, take_stage};
@@ -107,6 +107,7 @@ fn first_event(domain: &Domain, task: &mut Task, run: &mut AwaitRun) -> AwaitTur
     ensures turned { Turned await_table task.old task.new run.old run.new stage.FirstLoad result }
     ensures falls { falls await_table stage.FirstLoad result ≡ true }
     ensures given { LastGiven task.old task.new HEADS }
+    ensures awake { SleepsNot task.old task.new }
 {
     run.of.count = done_load(domain, task, run.of.cell);
     counted_to(run.of, false)
@@ -121,6 +122,7 @@ fn again_event(domain: &Domain, task: &mut Task, run: &mut AwaitRun) -> AwaitTur
     ensures turned { Turned await_table task.old task.new run.old run.new stage.AgainLoad result }
     ensures falls { falls await_table stage.AgainLoad result ≡ true }
     ensures given { LastGiven task.old task.new HEADS }
+    ensures awake { SleepsNot task.old task.new }
 {
     own_entry(domain, task);
     run.of.count = done_load(domain, task, run.of.cell);
@@ -134,6 +136,7 @@ fn pare(domain: &Domain, task: &mut Task, run: &AwaitRun, stopped: bool) -> bool
     requires at { IsAt await_table task.old run.now (off_stage stopped) }
     ensures pares { Pares task.old task.new run.now stopped result }
     ensures given { LastGiven task.old task.new HEADS }
+    ensures awake { SleepsNot task.old task.new }
 {
     let _ = (*run, stopped);
     let me = task.number();
@@ -163,6 +166,7 @@ fn take_event(
     ensures passes { PassesNone passing.new ⊎ IsStop await_table result }
     ensures falls { falls await_table (take_stage found) result ≡ true }
     ensures given { LastGiven task.old task.new passing.new.head }
+    ensures awake { SleepsNot task.old task.new }
 {
     let _ = found;
     if take_one(domain, task, run.of.cell, run.of.count) {
@@ -189,6 +193,7 @@ fn quit_event(
     ensures passes { PassesNone passing.new ⊎ IsStop await_table result }
     ensures falls { falls await_table (quit_stage found) result ≡ true }
     ensures given { LastGiven task.old task.new passing.new.head }
+    ensures awake { SleepsNot task.old task.new }
 {
     let _ = *run;
     passing.put(give_back(domain, task, false));
@@ -211,6 +216,7 @@ fn off_event(
     ensures passes { PassesNone passing.new ⊎ IsStop await_table result }
     ensures falls { falls await_table (off_stage stopped) result ≡ true }
     ensures given { LastGiven task.old task.new passing.new.head }
+    ensures awake { SleepsNot task.old task.new }
 {
     let found = pare(domain, task, run, stopped);
     match (stopped, found) {

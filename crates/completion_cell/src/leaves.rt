@@ -8,7 +8,7 @@ ghost use Rattle.wait_rule.specs.Queues.{IsIdle, index};
 ghost use Rattle.wait_rule.specs.Says.{IsClean, IsUp, told_of};
 ghost use Rattle.wait_rule.specs.Stays.{Carries};
 ghost use Rattle.wait_class.specs.Posts.{IsOut};
-ghost use Rattle.wait_class.specs.Tables.{IsAt};
+ghost use Rattle.wait_class.specs.Tables.{IsAt, SleepsNot};
 ghost use Rattle.wait_class.specs.declared.stages.Turn.TheVariants as turn;
 ghost use Rattle.wait_event.specs.Ends.{wait_change};
 ghost use Rattle.wait_leave.specs.OnTheWay.{IsOnWay, OnTheWay};
@@ -59,9 +59,9 @@ impl Leavable for AwaitCall {
 }
 
 /// Leaves a wait for a completion that goes on by stretches, at a stage at which its task is awake: to its end, and
-/// answers. It goes through one more hold, and waits for the lock of the head alone. Left: that hold loaded the count as
-/// 0 (`seen`), and its own entry is off. Over: it took one of the count, so also one that was handed to it; or the wait
-/// had ended before it was left, as `wait_for` says.
+/// answers. It goes through one more hold, waits for the lock of the head alone, and never sleeps. Left: that hold loaded
+/// the count as 0 (`seen`), and its own entry is off. Over: it took one of the count, so also one that was handed to it;
+/// or the wait had ended before it was left, as `wait_for` says.
 pub fn leave_await<R: Wait>(
     rt: &R,
     domain: &Domain,
@@ -72,6 +72,7 @@ pub fn leave_await<R: Wait>(
     requires of { task.old.domain ≡ domain.now }
     requires at { IsAt await_table task.old call.old stage }
     ensures leaves { LeavesAwait (Unit {0}) task.old task.new call.old stage result }
+    ensures awake { SleepsNot task.old task.new }
     ensures up { IsUp task.new }
     ensures out { IsOut task.new }
     ensures idle { (told_of task.old).mark ≡ None → IsIdle task.new }

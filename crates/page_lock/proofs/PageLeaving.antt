@@ -17,6 +17,7 @@ use Rattle.wait_rule.specs.Queues.{IsIdle}
 use Rattle.wait_rule.specs.Says.{AsksNoPage, IsClean, IsUp, told_of}
 use Rattle.wait_rule.specs.Tickets.{no_ticket}
 use Rattle.wait_class.specs.Posts.{IsOut, own_of}
+use Rattle.wait_class.specs.declared.stages.Doing.TheVariants as doing
 use Rattle.wait_class.specs.declared.stages.Run.{Run}
 use Rattle.wait_class.specs.declared.stages.Turn.TheVariants as turn
 use Rattle.wait_class.specs.Laws.{HomeGoes, StateGoes}
@@ -220,8 +221,12 @@ awake_on r me (at.Page paging.Last) seen is = either_awake seen.flag _ _ (refl, 
 awake_on r me (at.Page paging.Clear) seen is = (refl, refl)
 awake_on r me p seen is = absurd (cc)
 
+sleeps_out : (r : LockPage) (s : PageStage) → page_table.doing s ≡ doing.Sleep → page_exit s ≡ None → ⊥
+sleeps_out r stage.Sleep here none = absurd (cc)
+sleeps_out r s here none = absurd (cc)
+
 pub page_may_leave : AreLawfulExits page_table page_exits
-page_may_leave = record { at = exit_law; awake = awake_on }
+page_may_leave = record { at = exit_law; sleeps = sleeps_out; awake = awake_on }
 
 -- the answer and its cause
 caused : (k : Known) (e : LockPage) (b : Bool) → WhyPageFailed b k e → IsPageUntil k e.page e.state (page_failed b e)

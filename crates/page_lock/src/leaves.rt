@@ -6,7 +6,7 @@ ghost use Rattle.wait_model.specs.Watches as model;
 ghost use Rattle.wait_rule.specs.Queues.{IsIdle, index};
 ghost use Rattle.wait_rule.specs.Says.{AsksNoPage, IsClean, IsUp, told_of};
 ghost use Rattle.wait_class.specs.Posts.{IsOut};
-ghost use Rattle.wait_class.specs.Tables.{IsAt};
+ghost use Rattle.wait_class.specs.Tables.{IsAt, SleepsNot};
 ghost use Rattle.wait_class.specs.declared.stages.Turn.TheVariants as turn;
 ghost use Rattle.wait_leave.specs.OnTheWay.{IsOnWay, OnTheWay};
 ghost use Rattle.bit_wait.specs.Holders.{IsHolder};
@@ -58,9 +58,9 @@ impl Leavable for LockPage {
 }
 
 /// Leaves a wait for a page that goes on by stretches, at a stage at which its task is awake: to its end, and answers. It
-/// waits for the lock of the head alone, and does not sleep once it has gone out. Left: its entry is off, the page was
-/// not handed to it, and its last test-and-set found the page set in `seen`. Over: the wait took the page, or it was
-/// handed to it, also behind the asking; or the wait had ended before it was left, as `lock_page` says.
+/// waits for the lock of the head alone, and never sleeps. Left: its entry is off, the page was not handed to it, and its
+/// last test-and-set found the page set in `seen`. Over: the wait took the page, or it was handed to it, also behind the
+/// asking; or the wait had ended before it was left, as `lock_page` says.
 pub fn leave_page<R: Wait>(
     rt: &R,
     domain: &Domain,
@@ -71,6 +71,7 @@ pub fn leave_page<R: Wait>(
     requires of { task.old.domain ≡ domain.now }
     requires at { IsAt page_table task.old call.old stage }
     ensures leaves { LeavesPage (Unit {0}) task.old task.new call.old stage result }
+    ensures awake { SleepsNot task.old task.new }
     ensures up { IsUp task.new }
     ensures out { IsOut task.new }
     ensures idle { (told_of task.old).mark ≡ None → IsIdle task.new }

@@ -8,7 +8,7 @@ ghost use Rattle.wait_rule.specs.Says.{IsUp};
 ghost use Rattle.wait_class.specs.declared.stages.Doing.TheVariants as doing;
 ghost use Rattle.wait_class.specs.Handing.{LastGiven};
 ghost use Rattle.wait_class.specs.Laws.{AddsOwn, MayAdd};
-ghost use Rattle.wait_class.specs.Tables.{IsAt, IsStop, Turned, falls};
+ghost use Rattle.wait_class.specs.Tables.{IsAt, IsStop, SleepsNot, Turned, falls};
 ghost use Rattle.page_lock.specs.declared.waits.PageStage.TheVariants as stage;
 ghost use Rattle.page_lock.specs.PageTables.{TriesAt, FlagsAt, flagged_to, page_in, page_table, page_tried_to};
 
@@ -146,6 +146,7 @@ fn try_event(domain: &Domain, task: &mut Task, run: &mut PageRun, stage: PageSta
     ensures turned { Turned page_table task.old task.new run.old run.new stage result }
     ensures falls { falls page_table stage result ≡ true }
     ensures given { LastGiven task.old task.new HEADS }
+    ensures awake { SleepsNot task.old task.new }
 {
     let value = bit_set(domain, task, run.of.page, 0);
     run.of.seen = value;
@@ -160,6 +161,7 @@ fn unflag_event(domain: &Domain, task: &mut Task, run: &mut PageRun) -> PageTurn
     ensures turned { Turned page_table task.old task.new run.old run.new stage.Unflag result }
     ensures falls { falls page_table stage.Unflag result ≡ true }
     ensures given { LastGiven task.old task.new HEADS }
+    ensures awake { SleepsNot task.old task.new }
 {
     let _ = *run;
     woken_clear(domain, task, 0);
@@ -181,6 +183,7 @@ fn queue_event(
     ensures passes { PassesNone passing.new ⊎ IsStop page_table result }
     ensures falls { falls page_table stage.Queue result ≡ true }
     ensures given { LastGiven task.old task.new passing.new.head }
+    ensures awake { SleepsNot task.old task.new }
 {
     match add_for_page(domain, task, run.of.page) {
         Ok(()) => Turn::Again(PageStage::Try),
@@ -200,6 +203,7 @@ fn off_event(domain: &Domain, task: &mut Task, run: &mut PageRun) -> PageTurn
     ensures turned { Turned page_table task.old task.new run.old run.new stage.Off result }
     ensures falls { falls page_table stage.Off result ≡ true }
     ensures given { LastGiven task.old task.new HEADS }
+    ensures awake { SleepsNot task.old task.new }
 {
     let _ = *run;
     let me = task.number();
@@ -216,6 +220,7 @@ fn flag_event(domain: &Domain, task: &mut Task, run: &mut PageRun, stage: PageSt
     ensures turned { Turned page_table task.old task.new run.old run.new stage result }
     ensures falls { falls page_table stage result ≡ true }
     ensures given { LastGiven task.old task.new HEADS }
+    ensures awake { SleepsNot task.old task.new }
 {
     let word = flag_load(domain, task, 0);
     flagged_to(run.of, stage, flag_of(word))
@@ -229,6 +234,7 @@ fn note_event(domain: &Domain, task: &mut Task, run: &mut PageRun) -> PageTurn
     ensures turned { Turned page_table task.old task.new run.old run.new stage.Clear result }
     ensures falls { falls page_table stage.Clear result ≡ true }
     ensures given { LastGiven task.old task.new HEADS }
+    ensures awake { SleepsNot task.old task.new }
 {
     page_note(domain, task, 0, run.of.page);
     Turn::Done(PageOutcome::Over)

@@ -15,6 +15,7 @@ use Rattle.wait_rule.specs.Queues.{IsIdle, IsTold, index}
 use Rattle.wait_rule.specs.Says.{IsClean, IsUp, told_of}
 use Rattle.wait_rule.specs.Stays.{Carries}
 use Rattle.wait_class.specs.Posts.{IsOut, Keeps}
+use Rattle.wait_class.specs.declared.stages.Doing.TheVariants as doing
 use Rattle.wait_class.specs.declared.stages.Run.{Run}
 use Rattle.wait_class.specs.declared.stages.Turn.{Turn}
 use Rattle.wait_class.specs.declared.stages.Turn.TheVariants as turn
@@ -158,8 +159,12 @@ awake_on r me (at.Finish finishing.Queue false) seen is =
 awake_on r me (at.Finish finishing.Unlock false) seen is = (refl, refl)
 awake_on r me p seen is = absurd (cc)
 
+sleeps_out : (r : WaitCall) (s : WaitStage) → wait_table.doing s ≡ doing.Sleep → wait_exit s ≡ None → ⊥
+sleeps_out r stage.Sleep here none = absurd (cc)
+sleeps_out r s here none = absurd (cc)
+
 pub wait_may_leave : AreLawfulExits wait_table wait_exits
-wait_may_leave = record { at = exit_law; awake = awake_on }
+wait_may_leave = record { at = exit_law; sleeps = sleeps_out; awake = awake_on }
 
 -- the cause of an answer
 parted : (k : Known) (e : WaitCall) (found : Bool) (b : Bool) → LeftSo b k e found (last_load e) → IsUnset e.watch e.seen

@@ -13,8 +13,9 @@ use Rattle.wait_class.specs.Posts.{EndsWith, own_of}
 use Rattle.wait_class.specs.declared.stages.Run.{Run}
 use Rattle.wait_class.specs.declared.stages.Turn.{Turn}
 use Rattle.wait_class.specs.declared.stages.Turn.TheVariants as turn
+use Rattle.wait_class.specs.Tables.{SleepsNot}
 use Rattle.wait_leave.specs.declared.exits.Exit.{Exit}
-use Rattle.wait_leave.specs.Leaves.{Exits, GoesOut, SleepsNot}
+use Rattle.wait_leave.specs.Leaves.{Exits, GoesOut}
 use Rattle.wait_leave.specs.OnTheWay.{OnTheWay, left_at, straight}
 use Rattle.wait_event.specs.Ends.{IsEndCause, end_in}
 use Rattle.wait_event.specs.Waits.{IsFresh, IsUnset, SameCall, off_by, queues, wait_table}

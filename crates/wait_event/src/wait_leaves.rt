@@ -7,7 +7,7 @@ ghost use Rattle.wait_rule.specs.Queues.{IsIdle, index};
 ghost use Rattle.wait_rule.specs.Says.{IsClean, IsUp, told_of};
 ghost use Rattle.wait_rule.specs.Stays.{Carries};
 ghost use Rattle.wait_class.specs.Posts.{IsOut, Keeps};
-ghost use Rattle.wait_class.specs.Tables.{IsAt};
+ghost use Rattle.wait_class.specs.Tables.{IsAt, SleepsNot};
 ghost use Rattle.wait_class.specs.declared.stages.Turn.TheVariants as turn;
 ghost use Rattle.wait_leave.specs.OnTheWay.{IsOnWay, OnTheWay};
 ghost use Rattle.wait_event.specs.Ends.{wait_change};
@@ -74,9 +74,8 @@ fn goes_out(stage: WaitStage, rests: bool) -> Option<Exit<WaitStage, WaitOutcome
 }
 
 /// Leaves a wait that goes on by stretches, at a stage at which its task is awake: to its end, and answers. It waits for
-/// the lock of the head alone, and does not sleep once its hold has left the queue. Left: it was in time to leave, and
-/// the condition was not set. Over: its condition was set, or the wait had ended before it was left. Its entry is off
-/// then; what the task owed it owes.
+/// the lock of the head alone, and never sleeps. Left: it was in time to leave, and the condition was not set. Over: its
+/// condition was set, or the wait had ended before it was left. Its entry is off then; what the task owed it owes.
 pub fn leave_wait<R: Wait>(
     rt: &R,
     domain: &Domain,
@@ -87,6 +86,7 @@ pub fn leave_wait<R: Wait>(
     requires of { task.old.domain ≡ domain.now }
     requires at { IsAt wait_table task.old wait.old stage }
     ensures leaves { LeavesWait (Unit {0}) task.old task.new wait.old stage result }
+    ensures awake { SleepsNot task.old task.new }
     ensures up { IsUp task.new }
     ensures out { IsOut task.new }
     ensures idle { (told_of task.old).mark ≡ None → IsIdle task.new }

@@ -1,6 +1,7 @@
 use Rattle.completion_cell.proofs.AwaitTakes.{quit_off, take_off}
 use Rattle.wait_model.specs.declared.layout.TheConstants.{HEADS}
 use Rattle.wait_class.proofs.Handed.{given_as, given_on}
+use Rattle.wait_class.proofs.AwakeSteps.{sleeps_not_on}
 use Rattle.completion_cell.proofs.awaits.off_event.Goals as goal
 
 pub returns-in-true-false-clause-turned : goal.returns-in-true-false-clause-turned
@@ -28,3 +29,11 @@ returns-in-true-false-clause-given c = given_on c.args.task.now c.pare-found.new
 pub returns-in-false-false-clause-given : goal.returns-in-false-false-clause-given
 returns-in-false-false-clause-given c = given_on c.args.task.now c.pare-found.new.task c.take_event.new.task
     c.take_event.new.passing.head c.pare-found.ensures.given c.take_event.ensures.given
+
+pub returns-in-true-false-clause-awake : goal.returns-in-true-false-clause-awake
+returns-in-true-false-clause-awake c = sleeps_not_on c.args.task.now c.pare-found.new.task c.quit_event.new.task
+    c.pare-found.ensures.awake c.quit_event.ensures.awake
+
+pub returns-in-false-false-clause-awake : goal.returns-in-false-false-clause-awake
+returns-in-false-false-clause-awake c = sleeps_not_on c.args.task.now c.pare-found.new.task c.take_event.new.task
+    c.pare-found.ensures.awake c.take_event.ensures.awake

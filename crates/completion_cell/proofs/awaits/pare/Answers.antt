@@ -1,9 +1,10 @@
-use Rattle.std.proofs.Common.{◌∙◌, sym}
+use Rattle.std.proofs.Common.{◌∙◌, sym, refl}
 use Rattle.completion_cell.proofs.AwaitTakes.{off_holds, off_may, pares_none, pares_some}
 use Rattle.wait_model.specs.declared.layout.TheConstants.{HEADS}
 use Rattle.wait_model.specs.declared.steps.Step.TheVariants as step
 use Rattle.wait_rule.specs.Queues.{index}
 use Rattle.wait_class.proofs.Handed.{given_on, given_seen, given_stored}
+use Rattle.wait_class.proofs.AwakeSteps.{awake_seen, awake_stored, sleeps_not_on}
 use Rattle.completion_cell.proofs.awaits.pare.Goals as goal
 
 pub remove-requires-clause-held : goal.remove-requires-clause-held
@@ -33,4 +34,14 @@ returns-then-is_some-clause-given c = given_on c.args.task.now c.own_entry-entry
 
 pub returns-clause-given : goal.returns-clause-given
 returns-clause-given c = given_seen c.args.task.now c.own_entry-entry.new.task c.own_entry-entry.result
+    c.own_entry-entry.ensures
+
+pub returns-then-is_some-clause-awake : goal.returns-then-is_some-clause-awake
+returns-then-is_some-clause-awake c = sleeps_not_on c.args.task.now c.own_entry-entry.new.task c.remove.new.task
+    (awake_seen c.args.task.now c.own_entry-entry.new.task c.own_entry-entry.result c.own_entry-entry.ensures)
+    (awake_stored c.own_entry-entry.new.task c.remove.new.task (step.Unqueue (index c.number-me.result 0))
+    c.remove.ensures.removed.is refl)
+
+pub returns-clause-awake : goal.returns-clause-awake
+returns-clause-awake c = awake_seen c.args.task.now c.own_entry-entry.new.task c.own_entry-entry.result
     c.own_entry-entry.ensures

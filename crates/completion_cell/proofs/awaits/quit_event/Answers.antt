@@ -2,6 +2,7 @@ use Rattle.std.proofs.Common.{inr}
 use Rattle.completion_cell.proofs.AwaitTakes.{off_agreed, off_locked, quit_falls, quit_owes, quit_turned}
 use Rattle.std.proofs.Common.{◌∙◌, false}
 use Rattle.wait_class.proofs.Handed.{given_as, given_unlocked}
+use Rattle.wait_class.proofs.AwakeSteps.{awake_unlocked}
 use Rattle.completion_cell.proofs.awaits.quit_event.Goals as goal
 
 pub give_back-requires-clause-held : goal.give_back-requires-clause-held
@@ -30,3 +31,6 @@ pub returns-clause-given : goal.returns-clause-given
 returns-clause-given c = given_as c.args.task.now c.give_back.new.task c.args.task.now.at c.put.new.self.head
     (c.put.ensures ∙ c.give_back.ensures.head)
     (given_unlocked c.args.task.now c.give_back.new.task c.args.task.now.at false c.give_back.ensures.given)
+
+pub returns-clause-awake : goal.returns-clause-awake
+returns-clause-awake c = awake_unlocked c.args.task.now c.give_back.new.task c.give_back.ensures.given

@@ -16,8 +16,10 @@ use Rattle.std.proofs.Common.{◌∙◌, ◌-◌, false, subst}
 use Rattle.wait_model.specs.declared.layout.TheConstants.{HEADS}
 use Rattle.wait_rule.specs.Known.{Known}
 use Rattle.wait_class.specs.Handing.{LastGiven}
-use Rattle.completion_cell.proofs.AwaitTakes.{stored_count, stays_count}
+use Rattle.wait_class.specs.Tables.{SleepsNot}
+use Rattle.completion_cell.proofs.AwaitTakes.{stored_awake, stored_count, stays_count}
 use Rattle.wait_class.proofs.Handed.{given_as, given_unlocked}
+use Rattle.wait_class.proofs.AwakeSteps.{awake_unlocked}
 use Rattle.completion_cell.proofs.awaits.take_event.Goals as goal
 
 pub take_one-requires-clause-counted : goal.take_one-requires-clause-counted
@@ -79,3 +81,13 @@ returns-clause-given c = given_as c.args.task.now c.give_back.new.task c.take_on
     (stays_count c.args.task.now c.take_one.new.task c.args.run.now.of.cell (c.args.run.now.of.count - 1) c.take_one.result c.if-take_one.false c.take_one.ensures.stores)
     (given_unlocked c.take_one.new.task c.give_back.new.task c.take_one.new.task.at false
     c.give_back.ensures.given))
+
+pub returns-then-take_one-clause-awake : goal.returns-then-take_one-clause-awake
+returns-then-take_one-clause-awake c = stored_awake c.args.task.now c.take_one.new.task c.args.run.now.of.cell
+    (c.args.run.now.of.count - 1) c.take_one.result c.if-take_one.true c.take_one.ensures.stores
+
+pub returns-clause-awake : goal.returns-clause-awake
+returns-clause-awake c = subst (λ (k : Known). SleepsNot k c.give_back.new.task)
+    (stays_count c.args.task.now c.take_one.new.task c.args.run.now.of.cell (c.args.run.now.of.count - 1)
+    c.take_one.result c.if-take_one.false c.take_one.ensures.stores)
+    (awake_unlocked c.take_one.new.task c.give_back.new.task c.give_back.ensures.given)

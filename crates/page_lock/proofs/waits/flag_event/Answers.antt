@@ -1,10 +1,11 @@
-use Rattle.std.proofs.Common.{◌∙◌, ap}
+use Rattle.std.proofs.Common.{◌∙◌, ap, refl}
 use Rattle.wait_class.specs.Tables.{falls}
 use Rattle.page_lock.specs.PageTables.{page_table}
 use Rattle.page_lock.proofs.PageFlags.{flag_advances, flags_fall}
 use Rattle.wait_model.specs.declared.steps.Step.TheVariants as step
 use Rattle.wait_rule.specs.Queues.{index}
 use Rattle.wait_class.proofs.Handed.{given_step}
+use Rattle.wait_class.proofs.AwakeSteps.{awake_step}
 use Rattle.page_lock.proofs.waits.flag_event.Goals as goal
 
 pub returns-clause-turned : goal.returns-clause-turned
@@ -20,3 +21,7 @@ returns-clause-falls c = ap (falls page_table c.args.stage) c.flagged_to.ensures
 pub returns-clause-given : goal.returns-clause-given
 returns-clause-given c = given_step c.args.task.now c.flag_load-word.new.task
     (step.Flag (index c.args.task.now.view.number 0) c.flag_load-word.result) c.flag_load-word.ensures.step
+
+pub returns-clause-awake : goal.returns-clause-awake
+returns-clause-awake c = awake_step c.args.task.now c.flag_load-word.new.task
+    (step.Flag (index c.args.task.now.view.number 0) c.flag_load-word.result) c.flag_load-word.ensures.step refl

@@ -1,8 +1,10 @@
+use Rattle.std.proofs.Common.{refl}
 use Rattle.page_lock.proofs.PageFlags.{note_advances, note_given, note_off}
 use Rattle.std.specs.Prelude.{Some}
 use Rattle.wait_model.specs.declared.steps.Step.TheVariants as step
 use Rattle.wait_rule.specs.Queues.{index}
 use Rattle.wait_class.proofs.Handed.{given_step}
+use Rattle.wait_class.proofs.AwakeSteps.{awake_step}
 use Rattle.page_lock.proofs.waits.note_event.Goals as goal
 
 pub page_note-requires-clause-given : goal.page_note-requires-clause-given
@@ -18,3 +20,7 @@ returns-clause-turned c = note_advances c.args.task.now c.page_note.new.task c.a
 pub returns-clause-given : goal.returns-clause-given
 returns-clause-given c = given_step c.args.task.now c.page_note.new.task
     (step.Unflag (index c.args.task.now.view.number 0) (Some c.args.run.now.of.page)) c.page_note.ensures.step
+
+pub returns-clause-awake : goal.returns-clause-awake
+returns-clause-awake c = awake_step c.args.task.now c.page_note.new.task
+    (step.Unflag (index c.args.task.now.view.number 0) (Some c.args.run.now.of.page)) c.page_note.ensures.step refl

@@ -3,6 +3,7 @@ use Rattle.page_lock.proofs.PageQueues.{join_advances, queue_asks, queue_holds, 
 use Rattle.std.proofs.Common.{◌∙◌, false}
 use Rattle.wait_model.specs.declared.layout.TheConstants.{HEADS}
 use Rattle.wait_class.proofs.Handed.{given_added, given_as, given_member_looks, given_on, given_unlocked}
+use Rattle.wait_class.proofs.AwakeSteps.{awake_looked, awake_stored, awake_unlocked, sleeps_not_on}
 use Rattle.page_lock.proofs.waits.queue_event.Goals as goal
 
 pub add_for_page-requires-clause-held : goal.add_for_page-requires-clause-held
@@ -52,3 +53,14 @@ returns-in-Err-clause-given c = given_as c.args.task.now c.give_back.new.task c.
     (given_member_looks c.args.task.now c.add_for_page.new.task c.in-Err.ensures.worn.0)
     (given_unlocked c.add_for_page.new.task c.give_back.new.task c.add_for_page.new.task.at false
     c.give_back.ensures.given))
+
+pub returns-in-Ok-clause-awake : goal.returns-in-Ok-clause-awake
+returns-in-Ok-clause-awake c =
+    let a = c.in-Ok.ensures.queued in
+    sleeps_not_on c.args.task.now a.seen c.add_for_page.new.task (awake_looked c.args.task.now a.seen a.looks)
+    (awake_stored a.seen c.add_for_page.new.task _ a.is refl)
+
+pub returns-in-Err-clause-awake : goal.returns-in-Err-clause-awake
+returns-in-Err-clause-awake c = sleeps_not_on c.args.task.now c.add_for_page.new.task c.give_back.new.task
+    (awake_looked c.args.task.now c.add_for_page.new.task c.in-Err.ensures.worn.0)
+    (awake_unlocked c.add_for_page.new.task c.give_back.new.task c.give_back.ensures.given)

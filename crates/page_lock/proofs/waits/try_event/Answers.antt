@@ -1,10 +1,11 @@
-use Rattle.std.proofs.Common.{◌∙◌, ap}
+use Rattle.std.proofs.Common.{◌∙◌, ap, refl}
 use Rattle.wait_class.specs.Tables.{falls}
 use Rattle.page_lock.specs.PageTables.{page_table}
 use Rattle.page_lock.proofs.PageTries.{may_try, tries_fall, try_advances}
 use Rattle.wait_model.specs.declared.steps.Step.TheVariants as step
 use Rattle.wait_model.specs.declared.watches.Watch.TheVariants as watch
 use Rattle.wait_class.proofs.Handed.{given_step}
+use Rattle.wait_class.proofs.AwakeSteps.{awake_step}
 use Rattle.page_lock.proofs.waits.try_event.Goals as goal
 
 pub bit_set-value-requires-clause-agreed : goal.bit_set-value-requires-clause-agreed
@@ -22,3 +23,7 @@ returns-clause-falls c = ap (falls page_table c.args.stage) c.tried_to.ensures
 pub returns-clause-given : goal.returns-clause-given
 returns-clause-given c = given_step c.args.task.now c.bit_set-value.new.task
     (step.Consume (watch.Bit c.args.run.now.of.page 0) 1 c.bit_set-value.result) c.bit_set-value.ensures.step
+
+pub returns-clause-awake : goal.returns-clause-awake
+returns-clause-awake c = awake_step c.args.task.now c.bit_set-value.new.task
+    (step.Consume (watch.Bit c.args.run.now.of.page 0) 1 c.bit_set-value.result) c.bit_set-value.ensures.step refl

@@ -1,8 +1,10 @@
+use Rattle.std.proofs.Common.{refl}
 use Rattle.page_lock.proofs.PageFlags.{clear_advances, may_clear}
 use Rattle.std.specs.Prelude.{None}
 use Rattle.wait_model.specs.declared.steps.Step.TheVariants as step
 use Rattle.wait_rule.specs.Queues.{index}
 use Rattle.wait_class.proofs.Handed.{given_step}
+use Rattle.wait_class.proofs.AwakeSteps.{awake_step}
 use Rattle.page_lock.proofs.waits.unflag_event.Goals as goal
 
 pub woken_clear-requires-clause-may : goal.woken_clear-requires-clause-may
@@ -15,3 +17,7 @@ returns-clause-turned c = clear_advances c.args.task.now c.woken_clear.new.task 
 pub returns-clause-given : goal.returns-clause-given
 returns-clause-given c = given_step c.args.task.now c.woken_clear.new.task
     (step.Unflag (index c.args.task.now.view.number 0) None) c.woken_clear.ensures.step
+
+pub returns-clause-awake : goal.returns-clause-awake
+returns-clause-awake c = awake_step c.args.task.now c.woken_clear.new.task
+    (step.Unflag (index c.args.task.now.view.number 0) None) c.woken_clear.ensures.step refl

@@ -1,10 +1,11 @@
-use Rattle.std.proofs.Common.{inl}
+use Rattle.std.proofs.Common.{inl, refl}
 use Rattle.wait_class.proofs.States.{load_agreed}
 use Rattle.wait_event.specs.Waits.{wait_table}
 use Rattle.wait_event.proofs.FirstLoads.{first_advances, first_falls}
 use Rattle.wait_event.proofs.WaitLaws.{wait_lawful}
 use Rattle.wait_model.specs.declared.layout.TheConstants.{HEADS}
 use Rattle.wait_model.specs.declared.steps.Step.TheVariants as step
+use Rattle.wait_class.proofs.AwakeSteps.{awake_step}
 use Rattle.wait_class.proofs.Handed.{given_as, given_step}
 use Rattle.wait_event.proofs.waits.WaitCallMachine.own.Goals as goal
 
@@ -32,3 +33,7 @@ pub returns-clause-given : goal.returns-clause-given
 returns-clause-given c = given_as c.args.task.now c.cond_load-value.new.task HEADS c.args.passing.now.head
     c.requires.passes (given_step c.args.task.now c.cond_load-value.new.task
     (step.Load c.args.run.now.of.watch c.cond_load-value.result) c.cond_load-value.ensures.step)
+
+pub returns-clause-awake : goal.returns-clause-awake
+returns-clause-awake c = awake_step c.args.task.now c.cond_load-value.new.task
+    (step.Load c.args.run.now.of.watch c.cond_load-value.result) c.cond_load-value.ensures.step refl

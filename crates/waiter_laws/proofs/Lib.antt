@@ -9,8 +9,6 @@ pub mod LastSleeps
 pub mod BitSleeps
 pub mod Stretches
 pub mod HistoryRuns
-pub mod QueuedOrders
 pub mod QueuedWaits
-pub mod RousedTasks
 pub mod Settled
 pub mod WorkedWaits

@@ -81,11 +81,12 @@ use Rattle.wait_rule.specs.Transitions.{
   call_program,
 }
 use Rattle.wait_rule.proofs.TableSteps.MemberMoves.{own_index}
+use Rattle.order_laws.specs.TakenOff.{IsGripped, IsLeftQueued, frees, is_mild}
+use Rattle.order_laws.proofs.QueuedOrders.{still_queued}
 use Rattle.waiter_laws.specs.Asleep.{EndsAsleep, sleep_point}
 use Rattle.waiter_laws.specs.Queued.{SleepersAreQueued}
 use Rattle.waiter_laws.proofs.HistoryRuns.{AtNext, IsLed, Leads, only_still, run, step_history}
 use Rattle.waiter_laws.proofs.PointRuns.{is_active}
-use Rattle.waiter_laws.proofs.QueuedOrders.{IsGripped, IsLeftQueued, frees, is_mild, still_queued}
 use Rattle.waiter_laws.proofs.Sleepers.{has_slept, kept_by, sleep_by}
 
 -- in a hold of this head; with its entry there; and behind that hold

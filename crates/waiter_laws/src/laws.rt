@@ -7,7 +7,7 @@ ghost use Rattle.page_lock.specs.PageTables.{page_table};
 ghost use Rattle.wait_event.specs.Waits.{wait_table};
 ghost use Rattle.waiter_laws.specs.Asleep.{SleepersAreKept};
 ghost use Rattle.waiter_laws.specs.Listening.{HearingsAreOne, ListenersAreKept, StretchesEndListening};
-ghost use Rattle.waiter_laws.specs.Queued.{SleepersAreQueued, StepsTakeOffWoken};
+ghost use Rattle.waiter_laws.specs.Queued.{SleepersAreQueued};
 ghost use Rattle.waiter_laws.specs.Settled.{CellsSettle, SettledWakeAll, SwakesSettle, WakesSettle};
 ghost use Rattle.waiter_laws.specs.Stretches.{AwaitersAreKept, BitLockersAreKept, BitWaitersAreKept};
 ghost use Rattle.waiter_laws.specs.Stretches.{PageWaitersAreKept, SleepIsLastOfAll, StretchesAreOne, WaitersAreKept};
@@ -22,13 +22,11 @@ pub fn no_waiter_lost()
     ensures { SleepersAreKept }
 {}
 
-/// Where entries of others are taken off only in holds that have left their tasks RUNNING, the entry of such a task
-/// stands, so of all these calls but `lock_page` no task that was put asleep, and was not woken, is without its entry
-/// (`queued`). The step that takes off another task's entry, at a head that is no simple one and not for a page, asks
-/// for a hold that has done so (`steps`).
+/// Where entries of others are taken off only in holds that have left their tasks RUNNING
+/// (`order_laws::laws::taken_off_woken`), the entry of such a task stands, so of all these calls but `lock_page` no task
+/// that was put asleep, and was not woken, is without its entry.
 pub fn sleepers_are_queued()
     ensures queued { SleepersAreQueued }
-    ensures steps { StepsTakeOffWoken }
 {}
 
 /// Whoever waits for a flag is not lost either. A task whose last event is the sleep of a `wait_woken`, which before

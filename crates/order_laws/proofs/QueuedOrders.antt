@@ -42,7 +42,17 @@ use Rattle.wait_model.proofs.StepLaws.UnlockSteps.{unlock_hold}
 use Rattle.wait_model.proofs.WaitLaws.OutsideStages.{either}
 use Rattle.wait_rule.specs.Interleavings.{AreAllowed, TaskStep, table_of}
 use Rattle.wait_rule.proofs.KnownLaws.Moments.{kept_of, views_of}
-use Rattle.waiter_laws.specs.Queued.{AllTakeOffWoken, TakesOffWoken, leaves_running}
+use Rattle.order_laws.specs.TakenOff.{
+  AllTakeOffWoken,
+  Grips,
+  IsGripped,
+  IsLeftQueued,
+  LeftEntriesStand,
+  TakesOffWoken,
+  frees,
+  is_mild,
+  leaves_running,
+}
 
 -- the last step of a list that is split
 tail_is : (x y : Step) (xs ys : List Step) → x ∷ xs ≡ y ∷ ys → xs ≡ ys
@@ -55,11 +65,11 @@ none_split : {A : Type 0} (b : List Step) (p : Step) (l : List Step) → [] ≡ 
 none_split [] p l is = absurd (cc)
 none_split (x ∷ b) p l is = absurd (cc)
 
-abbrev LastOf : (h : List Step) (y : Step) (b : List Step) (p : Step) (l : List Step) → Type 0
+abbrev pub LastOf : (h : List Step) (y : Step) (b : List Step) (p : Step) (l : List Step) → Type 0
 LastOf h y b p l = ((h ≡ b) × (y ≡ p) × (l ≡ []))
     ⊎ ((more : List Step) × (h ≡ b ++ p ∷ more) × (l ≡ more ++ y ∷ []))
 
-last_of : (h : List Step) (y : Step) (b : List Step) (p : Step) (l : List Step) → h ++ y ∷ [] ≡ b ++ p ∷ l
+pub last_of : (h : List Step) (y : Step) (b : List Step) (p : Step) (l : List Step) → h ++ y ∷ [] ≡ b ++ p ∷ l
     → LastOf h y b p l
 last_of [] y [] p l is = inl (refl, head_is y p [] l is, sym (tail_is y p [] l is))
 last_of [] y (x ∷ b) p l is = none_split b p l (tail_is y x [] (b ++ p ∷ l) is)
@@ -144,45 +154,6 @@ left_running s a t (step.Wake who mask w) may leaves = by (who == t) refl leaves
         (λ ne. absurd (ne (let q : t ≡ who = grind (arith, nat_tests) in q)))
     by false is h = absurd (cc)
 left_running s a t e may leaves = absurd (cc)
-
--- what frees entry x, or begins another hold or ends this one
-abbrev pub frees : ℕ → Step → Bool
-frees x (step.Queue y e) = x == y
-frees x (step.Unqueue y) = x == y
-frees x e = turns_lock e
-
--- a step that changes no state, no entry and no lock
-abbrev pub is_mild : Step → Bool
-is_mild (step.Saw y w) = true
-is_mild (step.Load c r) = true
-is_mild (step.Sleep w) = true
-is_mild _ = false
-
--- the task queues its entry in a hold of this head, or stores a state in a hold that has seen it queued
-abbrev pub Grips : Step → ℕ → ℕ → Entry → View → Type 0
-Grips (step.Queue y f) x h e v = (y ≡ x) × (f ≡ e) × (head_of e.watch ≡ h)
-Grips (step.State σ) x h e v = v.hold.book x ≡ shown e
-Grips _ x h e v = ⊥
-
--- and has not freed it since, in that hold
-pub record IsGripped (es : List Step) (x h : ℕ) (e : Entry) : Type 0 where
-  pub front : List Step
-  pub grip : Step
-  pub inside : List Step
-  pub split : es ≡ front ++ grip ∷ inside
-  pub held : (view_of front).hold.head ≡ Some h
-  pub grips : Grips grip x h e (view_of front)
-  pub kept : Lacks (frees x) inside
-
--- then it gave the lock back, and made mild steps alone
-pub record IsLeftQueued (es : List Step) (x h : ℕ) (e : Entry) : Type 0 where
-  pub hold : List Step
-  pub head : ℕ
-  pub spent : Bool
-  pub later : List Step
-  pub split : es ≡ hold ++ step.Unlock head spent ∷ later
-  pub gripped : IsGripped hold x h e
-  pub mild : Lacks (λ f. not (is_mild f)) later
 
 module _ (t x h : ℕ) (e : Entry) (mine : owner x ≡ t) where
   -- in the hold
@@ -454,3 +425,6 @@ module _ (t x h : ℕ) (e : Entry) (mine : owner x ≡ t) where
       by : Behind (table_of xs) → (table_of xs).entry x ≡ Some e
       by (inl low) = absurd (down low)
       by (inr q) = q.0
+
+pub left_entries_stand : LeftEntriesStand
+left_entries_stand xs may takes x h e left down = still_queued (owner x) x h e refl xs may takes left down

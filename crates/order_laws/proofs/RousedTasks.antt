@@ -12,7 +12,7 @@ use Rattle.wait_model.proofs.HistoryLaws.Stretches.{IsSetBy, Seen, kept_so, seen
 use Rattle.wait_model.proofs.StepLaws.UnlockSteps.{unlock_hold}
 use Rattle.wait_rule.specs.Queues.{MayTakeOff}
 use Rattle.wait_rule.specs.Says.{history_of}
-use Rattle.waiter_laws.specs.Queued.{StepsTakeOffWoken, leaves_running}
+use Rattle.order_laws.specs.TakenOff.{StepsTakeOffWoken, leaves_running}
 
 roused : ℕ → View → Bool
 roused u v = v.hold.roused u

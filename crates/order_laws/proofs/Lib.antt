@@ -1,0 +1,3 @@
+-- The proofs.
+pub mod QueuedOrders
+pub mod RousedTasks

@@ -52,7 +52,7 @@ module _ (r : DownCall) (old new : Known) (m : MayAdd down_table r stage.Queue o
   add_permits = inr (
     refl,
     subst (λ (d : ℕ). count_in d (history_of old) ≡ Some 0) (sym (cell_is old.at r.cell (sym m.head)))
-        (saw_count r.cell m.trail.0 old None m.trail.1 ∙ m.trail.2.counts.0),
+        (saw_count r.cell m.trail.0 old None m.trail.1 ∙ m.trail.2.0.counts.0),
   )
 
   joins : HasAddedForCell old new 0 (tail_entry false (down_watch r) kind.Simple)

@@ -169,17 +169,20 @@ module _ (old new : Known) (run : Run DownCall) (v : ℕ) (a : IsAt down_table o
   abbrev fq : DownCall
   fq = record fr { count = v; again = false }
 
+  first_zero : (v == 0) ≡ true → FoundZero new fq []
+  first_zero none = record {
+    word = 0;
+    ends = (history_of old, ends_zero fr old new v a.trail.0 is finds carries none);
+    stood = a.trail.1;
+  }
+
   first_trail : (zero admits ends : Bool) → (v == 0) ≡ zero → (v == ALL_DONE) ≡ ends
       → TurnTrail down_table new fq (turn.Again (first_by zero admits ends))
-  first_trail true true ends none end = (
+  first_trail true true ends none end = (knows_zero fr old new v a.trail.0 is finds carries none, first_zero none)
+  first_trail true false ends none end = (
     knows_zero fr old new v a.trail.0 is finds carries none,
-    record {
-      word = 0;
-      ends = (history_of old, ends_zero fr old new v a.trail.0 is finds carries none);
-      stood = a.trail.1;
-    },
+    record { look = None; zero = first_zero none },
   )
-  first_trail true false ends none end = knows_zero fr old new v a.trail.0 is finds carries none
   first_trail false admits true some end = (Some v, owes_end fr old new v a.trail.0 is finds carries end)
   first_trail false admits false some end = (
     record { knows = knows fr old new v a.trail.0 is finds carries; some = some },
@@ -310,7 +313,10 @@ module _ (old mid : Known) (run : Run DownCall) (o : Option Entry) (h : HasSeenO
       knows_zero r mid new v begun is finds carries none,
       found_zero_is none on,
     )
-    trail true true false ends on none end = knows_zero r mid new v begun is finds carries none
+    trail true true false ends on none end = (
+      knows_zero r mid new v begun is finds carries none,
+      record { look = None; zero = found_zero_is none on },
+    )
     trail true false admits ends on some end = (has_count some, sees o refl on)
     trail false true admits ends off none end = (Some v, owes_none r mid new v begun is finds carries none)
     trail false false admits true off some end = (Some v, owes_end r mid new v begun is finds carries end)

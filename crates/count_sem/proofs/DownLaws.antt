@@ -1,6 +1,6 @@
 -- The table of a `down` keeps its laws.
 use Rattle.std.proofs.Common.{◌∙◌, ap, sym, refl, inr, arith, append_assoc}
-use Rattle.std.specs.Prelude.{ℕ, ◌≡◌, ◌≤◌, ◌||◌, Bool, true, false, if◌then◌else◌, None, [], ◌∷◌, ◌++◌}
+use Rattle.std.specs.Prelude.{ℕ, ◌≡◌, ◌≤◌, ◌||◌, Bool, true, false, if◌then◌else◌, Some, None, [], ◌∷◌, ◌++◌}
 use Rattle.wait_model.specs.declared.points.FinishPoint.TheVariants as finishing
 use Rattle.wait_model.specs.declared.points.Next.TheVariants as next
 use Rattle.wait_model.specs.declared.points.Point.TheVariants as at
@@ -42,7 +42,7 @@ use Rattle.count_sem.specs.Downs.{DownTells, GaveBack, down_depth, down_doing, d
 use Rattle.count_sem.specs.declared.downs.DownCall.{DownCall}
 use Rattle.count_sem.specs.declared.downs.DownStage.{DownStage}
 use Rattle.count_sem.specs.declared.downs.DownStage.TheVariants as stage
-use Rattle.count_sem.proofs.DownTrails.{gave_back, left_given, left_none, left_taken, lock_walk, still_down, zero_on}
+use Rattle.count_sem.proofs.DownTrails.{gave_back, left_given, left_none, left_taken, lock_walk, out_signal, still_down, zero_on}
 
 -- what the run tells
 pub told_by : (r q : DownCall) (x : Transition) → q.cell ≡ r.cell → q.state ≡ r.state → q.queued ≡ r.queued
@@ -145,12 +145,15 @@ module _ (r : DownCall) where
       (λ w me is. ap (λ (c : Bool). next.Go (if c then at.Finish finishing.Queue true else at.Prepare preparing.Queue)) is)
       (λ w me k. tt) (λ w me k. (refl, tt, tt)) (λ old new w is c u. (
         knows_look r.cell old new 0 w c u.0,
-        record { look = w; pends = is; zero = zero_on old new r [] (step.Look w ∷ []) c u.1 },
+        out_signal r.asked new r w is (zero_on old new r [] (step.Look w ∷ []) c u.1),
       ))
   look_law false = look_by down_table r stage.Look refl false
       (way down_table r stage.Look r (turn.Again stage.Queue) refl refl refl refl refl (λ σ s. s) (λ o h. h))
       (λ w me is. ap (λ (c : Bool). next.Go (if c then at.Finish finishing.Queue true else at.Prepare preparing.Queue)) is)
-      (λ w me k. tt) (λ w me k. (refl, tt, tt)) (λ old new w is c u. knows_look r.cell old new 0 w c u.0)
+      (λ w me k. tt) (λ w me k. (refl, tt, tt)) (λ old new w is c u. (
+        knows_look r.cell old new 0 w c u.0,
+        record { look = Some w; zero = zero_on old new r [] (step.Look w ∷ []) c u.1 },
+      ))
 
   queue_law : QueueLaw down_table r stage.Queue
   queue_law = record {
@@ -168,7 +171,7 @@ module _ (r : DownCall) where
     stays_state = inr refl;
     stays_home = λ o h. h;
     stays_may = λ k s. may_by false (state_mask r.state) k s;
-    stays_trail = λ old new w c queued u. knows_stayed r.cell old new 0 (own_of old) w (state_mask r.state) c u;
+    stays_trail = λ old new w c queued u. knows_stayed r.cell old new 0 (own_of old) w (state_mask r.state) c u.0;
     joins = record {
       plain = refl;
       falls = refl;
@@ -187,7 +190,7 @@ module _ (r : DownCall) where
       state = refl;
       queued = sym (ap (λ (d : StepOrLook). r.queued || (is_queue d || false)) did ∙ or_yes r.queued);
     };
-    joins_trail = joined_knows r;
+    joins_trail = λ old mid new looks x u. joined_knows r old mid new looks x u.0;
     wears = record {
       plain = tt;
       falls = refl;
@@ -199,13 +202,13 @@ module _ (r : DownCall) where
     wears_leaves = λ p. record { head = refl; ticket = refl };
     wears_state = λ p σ s. s;
     wears_home = λ p. tt;
-    wears_permits = λ old last fits looks at u. knows_none r.cell last at (knows_looks r.cell old last 0 looks u);
+    wears_permits = λ old last fits looks at u. knows_none r.cell last at (knows_looks r.cell old last 0 looks u.0);
     wears_trail = λ old last new p looks noted is u. (
       (history_of last, is),
       record {
         noted = noted;
         zero = count_after_step r.cell last new (step.Unlock (down_head r) false) is
-            ∙ (looked_count r.cell old last looks ∙ u.counts.0);
+            ∙ (looked_count r.cell old last looks ∙ u.0.counts.0);
       },
     );
   }
@@ -252,7 +255,7 @@ module _ (r : DownCall) where
   sleep_law = sleep_by down_table r stage.Sleep refl stage.Again refl refl refl refl refl refl (λ o h. h)
       (λ w me. refl) (λ w me k. tt) (λ w me k. (refl, tt, tt)) (λ old new w c u. tt)
 
-  -- a hold that found a signal
+  -- a hold that found a signal, or that it was asked to leave
   pare_leave : PareLaw down_table r stage.LeaveQueue
   pare_leave = record {
     held = record { holds = refl; head = refl };

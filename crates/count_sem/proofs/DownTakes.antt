@@ -30,13 +30,14 @@ use Rattle.wq_head.specs.Holds.{IsHolding}
 use Rattle.wait_class.specs.Findings.{nothing, with_value}
 use Rattle.wait_class.specs.Handing.{LastGiven, given_back_by}
 use Rattle.wait_class.specs.Posts.{Post, Stands, own_of}
-use Rattle.wait_class.specs.Tables.{IsAt, Turned, falls, next_in, post_of}
+use Rattle.wait_class.specs.Tables.{IsAt, SleepsNot, Turned, falls, is_sleep, next_in, post_of}
 use Rattle.wait_class.specs.Laws.{Calm, IsPlain, TurnTrail, turn_post}
 use Rattle.wait_class.specs.declared.stages.Run.{Run}
 use Rattle.wait_class.specs.declared.stages.Turn.TheVariants as turn
 use Rattle.wait_class.proofs.CalmSteps.{calm_removed}
 use Rattle.wait_class.proofs.Ground.Keeping.{keeps_of, keeps_taken}
 use Rattle.wait_class.proofs.Ground.Standing.{carried_stands, owner_own}
+use Rattle.wait_class.proofs.AwakeSteps.{awake_step}
 use Rattle.wait_class.proofs.Handed.{given_as, given_step}
 use Rattle.wait_class.proofs.OwnSteps.{own_goes}
 use Rattle.wait_class.proofs.Turns.{GoesOn, advance_by}
@@ -237,3 +238,12 @@ set_gives false w m found = refl
 pub store_gives : (old new : Known) (d m : ℕ) → StoresCount old new d m → LastGiven old new HEADS
 store_gives old new d m s = given_as old new _ HEADS (sym (set_gives _ (watch.Done d) m s.found))
     (given_step old new (set_step (watch.Done d) m s.found) s.is)
+
+set_awake : (b : Bool) (w : Watch) (m found : ℕ)
+    → is_sleep (if b then step.Publish w m found else step.Consume w m found) ≡ false
+set_awake true w m found = refl
+set_awake false w m found = refl
+
+pub store_awake : (old new : Known) (d m : ℕ) → StoresCount old new d m → SleepsNot old new
+store_awake old new d m s = awake_step old new (set_step (watch.Done d) m s.found) s.is
+    (set_awake _ (watch.Done d) m s.found)

@@ -5,6 +5,7 @@ use Rattle.wait_model.specs.declared.steps.Step.{Step}
 use Rattle.wait_model.specs.declared.steps.Step.TheVariants as step
 use Rattle.wait_model.specs.declared.watches.Aim.{Aim}
 use Rattle.wait_model.specs.Fold.{after, begun, view_of}
+use Rattle.wait_model.specs.Tasks.{pending, state_mask, task_of}
 use Rattle.wait_model.specs.Views.{View, Walk, blank}
 use Rattle.wait_model.specs.Watches.{mask_of, same}
 use Rattle.wait_model.specs.Words.{entry_of}
@@ -25,7 +26,22 @@ use Rattle.completion_cell.proofs.Completing.{done_simple}
 use Rattle.completion_cell.proofs.HeldSteps.{held_by}
 use Rattle.completion_cell.proofs.WaitFronts.{waits_on}
 use Rattle.count_sem.specs.SemPrograms.{sem_head}
-use Rattle.count_sem.specs.Downs.{DownTrail, FoundSignal, FoundZero, GaveBack, HasCount, HasLeft, HasWalk, SeesOwn, WasInterrupted, down_head, found_zero}
+use Rattle.count_sem.specs.Downs.{
+  DownTrail,
+  FoundSignal,
+  FoundZero,
+  GaveBack,
+  HasCount,
+  HasFoundZero,
+  HasLeft,
+  HasWalk,
+  OutFor,
+  SeesOwn,
+  WentOutOfDown,
+  down_head,
+  found_zero,
+  looked_by,
+}
 use Rattle.count_sem.specs.declared.downs.DownCall.{DownCall}
 use Rattle.count_sem.specs.declared.downs.DownStage.{DownStage}
 use Rattle.count_sem.specs.declared.downs.DownStage.TheVariants as stage
@@ -49,7 +65,7 @@ zero_on old new r es fs c u = record {
   stood = u.stood;
 }
 
-pub signal_on : (old new : Known) (r : DownCall) (es fs : List Step) → Calm fs old new → FoundSignal old r es
+signal_on : (old new : Known) (r : DownCall) (es fs : List Step) → Calm fs old new → FoundSignal old r es
     → FoundSignal new r (es ++ fs)
 signal_on old new r es fs c u = record {
   look = u.look;
@@ -57,43 +73,63 @@ signal_on old new r es fs c u = record {
   zero = zero_on old new r (step.Look u.look ∷ es) fs c u.zero;
 }
 
-signal_as : (k : Known) (r : DownCall) (es fs : List Step) → es ≡ fs → FoundSignal k r es → FoundSignal k r fs
-signal_as k r es fs is u = subst (FoundSignal k r) is u
+pub found_on : (old new : Known) (r : DownCall) (es fs : List Step) → Calm fs old new → HasFoundZero old r es
+    → HasFoundZero new r (es ++ fs)
+found_on old new r es fs c u = by u.look u.zero
+  where
+    by : (o : Option ℕ) → FoundZero old r (looked_by o es) → HasFoundZero new r (es ++ fs)
+    by None z = record { look = None; zero = zero_on old new r es fs c z }
+    by (Some w) z = record { look = Some w; zero = zero_on old new r (step.Look w ∷ es) fs c z }
 
--- the own entry was found queued in a hold that found a signal, and taken off; or found off, and the head given back
-module _ (old new : Known) (r : DownCall) (w : ℕ) (u : FoundSignal old r []) where
+-- it goes out, by what asks for it
+out_on : (b : Bool) (old new : Known) (r : DownCall) (es fs : List Step) → Calm fs old new → OutFor b old r es
+    → OutFor b new r (es ++ fs)
+out_on true old new r es fs c u = found_on old new r es fs c u
+out_on false old new r es fs c u = signal_on old new r es fs c u
+
+out_as : (b : Bool) (k : Known) (r : DownCall) (es fs : List Step) → es ≡ fs → OutFor b k r es → OutFor b k r fs
+out_as b k r es fs is u = subst (OutFor b k r) is u
+
+-- a look that showed a signal
+pub out_signal : (b : Bool) (k : Known) (r : DownCall) (w : ℕ) → pending (state_mask r.state) (task_of w) ≡ true
+    → FoundZero k r (step.Look w ∷ []) → OutFor b k r []
+out_signal true k r w is z = record { look = Some w; zero = z }
+out_signal false k r w is z = record { look = w; pends = is; zero = z }
+
+-- the own entry was found queued in a hold that it goes out of, and taken off; or found off, and the head given back
+module _ (old new : Known) (r : DownCall) (w : ℕ) (u : OutFor r.asked old r []) where
   pub left_taken : Calm (step.Saw (own_of old) w ∷ step.Unqueue (own_of old) ∷ []) old new
       → is_some (entry_of w) ≡ true → HasLeft new r
   left_taken c some = record {
     entry = w;
     queued = some;
-    signal = signal_as new r _ _ (ap (λ (x : ℕ). step.Saw x w ∷ step.Unqueue x ∷ []) (sym (own_same old new c.number)))
-        (signal_on old new r [] (step.Saw (own_of old) w ∷ step.Unqueue (own_of old) ∷ []) c u);
+    why = out_as r.asked new r _ _ (ap (λ (x : ℕ). step.Saw x w ∷ step.Unqueue x ∷ []) (sym (own_same old new c.number)))
+        (out_on r.asked old new r [] (step.Saw (own_of old) w ∷ step.Unqueue (own_of old) ∷ []) c u);
   }
 
   pub left_none : Calm (step.Saw (own_of old) w ∷ step.Unlock (sem_head r.cell) false ∷ []) old new
-      → is_some (entry_of w) ≡ false → WasInterrupted new r
+      → is_some (entry_of w) ≡ false → WentOutOfDown new r
   left_none c none = record {
     entry = w;
-    signal = signal_as new r _ _ (ap (λ (b : Bool). step.Saw (own_of new) w
+    why = out_as r.asked new r _ _ (ap (λ (b : Bool). step.Saw (own_of new) w
         ∷ (if b then step.Unqueue (own_of new) ∷ step.Unlock (sem_head r.cell) false ∷ []
         else step.Unlock (sem_head r.cell) false ∷ [])) (sym none))
-        (signal_as new r _ _ (ap (λ (x : ℕ). step.Saw x w ∷ step.Unlock (sem_head r.cell) false ∷ [])
+        (out_as r.asked new r _ _ (ap (λ (x : ℕ). step.Saw x w ∷ step.Unlock (sem_head r.cell) false ∷ [])
         (sym (own_same old new c.number)))
-        (signal_on old new r [] (step.Saw (own_of old) w ∷ step.Unlock (sem_head r.cell) false ∷ []) c u));
+        (out_on r.asked old new r [] (step.Saw (own_of old) w ∷ step.Unlock (sem_head r.cell) false ∷ []) c u));
   }
 
 -- and then the head is given back
 pub left_given : (old new : Known) (r : DownCall) → Calm (step.Unlock (sem_head r.cell) false ∷ []) old new
-    → HasLeft old r → WasInterrupted new r
+    → HasLeft old r → WentOutOfDown new r
 left_given old new r c u = record {
   entry = u.entry;
-  signal = signal_as new r _ _ (ap (λ (b : Bool). step.Saw (own_of new) u.entry
+  why = out_as r.asked new r _ _ (ap (λ (b : Bool). step.Saw (own_of new) u.entry
       ∷ (if b then step.Unqueue (own_of new) ∷ step.Unlock (sem_head r.cell) false ∷ []
       else step.Unlock (sem_head r.cell) false ∷ [])) (sym u.queued))
-      (signal_as new r _ _ (ap (λ (x : ℕ). step.Saw x u.entry ∷ step.Unqueue x ∷ step.Unlock (sem_head r.cell) false ∷ [])
+      (out_as r.asked new r _ _ (ap (λ (x : ℕ). step.Saw x u.entry ∷ step.Unqueue x ∷ step.Unlock (sem_head r.cell) false ∷ [])
       (sym (own_same old new c.number)))
-      (signal_on old new r _ (step.Unlock (sem_head r.cell) false ∷ []) c u.signal));
+      (out_on r.asked old new r _ (step.Unlock (sem_head r.cell) false ∷ []) c u.why));
 }
 
 pub gave_back : (old new : Known) (r : DownCall) → Calm (step.Unlock (down_head r) false ∷ []) old new → GaveBack new r
@@ -187,8 +223,12 @@ module _ (old new : Known) (still : Unmoved old new) where
     stood = u.stood;
   }
 
-  signal_still : (r : DownCall) (es : List Step) → FoundSignal old r es → FoundSignal new r es
-  signal_still r es u = record {
+  found_still : (r : DownCall) (es : List Step) → HasFoundZero old r es → HasFoundZero new r es
+  found_still r es u = record { look = u.look; zero = zero_still r (looked_by u.look es) u.zero }
+
+  out_still : (b : Bool) (r : DownCall) (es : List Step) → OutFor b old r es → OutFor b new r es
+  out_still true r es u = found_still r es u
+  out_still false r es u = record {
     look = u.look;
     pends = u.pends;
     zero = zero_still r (step.Look u.look ∷ es) u.zero;
@@ -221,17 +261,17 @@ module _ (old new : Known) (still : Unmoved old new) where
     walk_on old new r.cell (ap (λ (v : View). v.walk) told_is) u.1,
   )
   still_down r stage.Look u = (knows_still r.cell 0 u.0, zero_still r [] u.1)
-  still_down r stage.Queue u = knows_still r.cell 0 u
+  still_down r stage.Queue u = (knows_still r.cell 0 u.0, found_still r [] u.1)
   still_down r stage.State u = knows_still r.cell 0 u
   still_down r stage.Unlock u = knows_still r.cell 0 u
-  still_down r stage.LeaveQueue u = (knows_still r.cell 0 u.0, signal_still r [] u.1)
+  still_down r stage.LeaveQueue u = (knows_still r.cell 0 u.0, out_still r.asked r [] u.1)
   still_down r stage.LeaveUnlock u = (
     knows_still r.cell 0 u.0,
     record {
       entry = u.1.entry;
       queued = u.1.queued;
-      signal = signal_as new r _ _ (ap (λ (x : ℕ). step.Saw x u.1.entry ∷ step.Unqueue x ∷ [])
-          (sym (own_same old new number_is))) (signal_still r _ u.1.signal);
+      why = out_as r.asked new r _ _ (ap (λ (x : ℕ). step.Saw x u.1.entry ∷ step.Unqueue x ∷ [])
+          (sym (own_same old new number_is))) (out_still r.asked r _ u.1.why);
     },
   )
   still_down r stage.TakeQueue u = (count_still r u.0, sees_still u.1)

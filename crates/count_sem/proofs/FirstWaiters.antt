@@ -38,12 +38,12 @@ use Rattle.wq_head.proofs.ShownQueue.{queue_in_order, queue_has}
 use Rattle.wait_class.specs.Posts.{Runs}
 use Rattle.count_sem.specs.SemPrograms.{gives_to}
 
-module _ (f : Program) (behind_it : Point)
+module _ (f : Program) (from : ℕ) (behind_it : Point)
     (wakes : (c : CalledEntry) (seen : Seen) → seen.called ≡ Some c
-    → f.plan (at.Select (selecting.Next 0)) seen ≡ gives_to c seen)
+    → f.plan (at.Select (selecting.Next from)) seen ≡ gives_to c seen)
     (offs : (who : ℕ) (seen : Seen)
     → f.plan (at.Select (selecting.Off 1 who)) seen ≡ go (event.Unqueue who) behind_it)
-    (mask : (f.given (at.Select (selecting.Next 0))).mask ≡ mask_of mode.Normal) where
+    (mask : (f.given (at.Select (selecting.Next from))).mask ≡ mask_of mode.Normal) where
   module _ (old new : Known) (s : SelectsFirst old new) where
     abbrev x : ℕ
     x = s.member.at
@@ -62,7 +62,7 @@ module _ (f : Program) (behind_it : Point)
     abbrev finds_it : Seen
     finds_it = record (blank_seen (task_of s.found)) { called = Some c }
 
-    planned : f.plan (at.Select (selecting.Next 0)) finds_it ≡ gives_to c finds_it
+    planned : f.plan (at.Select (selecting.Next from)) finds_it ≡ gives_to c finds_it
     planned = wakes c finds_it refl
 
     abbrev woke : Known
@@ -75,10 +75,10 @@ module _ (f : Program) (behind_it : Point)
       did = by_step (step.Wake (owner x) (mask_of mode.Normal) s.found);
     }
 
-    wake_is : IsTransition f (at.Select (selecting.Next 0)) old wake_transition
+    wake_is : IsTransition f (at.Select (selecting.Next from)) old wake_transition
     wake_is = record {
       looks = looks_only (simple_aim old.at) old s.seen s.looks;
-      is = subst (λ (p : Planned). IsMadeFor s.seen f.own (f.given (at.Select (selecting.Next 0))) p.event
+      is = subst (λ (p : Planned). IsMadeFor s.seen f.own (f.given (at.Select (selecting.Next from))) p.event
           (by_step (step.Wake (owner x) (mask_of mode.Normal) s.found))) (sym planned) (refl, sym mask);
       finds = (
         refl,
@@ -110,7 +110,7 @@ module _ (f : Program) (behind_it : Point)
     behind : OnlyLooks (added woke (item.Made (step.Unqueue x))) new
     behind = subst (OnlyLooks (added woke (item.Made (step.Unqueue x)))) (sym s.is) (bit_looks woke (step.Unqueue x))
 
-    pub first_runs : Runs f old new (next.Go (at.Select (selecting.Next 0))) (next.Go behind_it)
+    pub first_runs : Runs f old new (next.Go (at.Select (selecting.Next from))) (next.Go behind_it)
     first_runs = record {
       transitions = wake_transition ∷ off_transition ∷ [];
       goes = (
@@ -123,12 +123,12 @@ module _ (f : Program) (behind_it : Point)
 
   -- a selection of one
   pub gives_runs : (old new : Known) → HasSelected old new 1 1
-      → Runs f old new (next.Go (at.Select (selecting.Next 0))) (next.Go behind_it)
+      → Runs f old new (next.Go (at.Select (selecting.Next from))) (next.Go behind_it)
   gives_runs old new s =
       let one = first_runs s.selects.0 new s.selects.2 in
       let seen = subst (λ (k : Known). OnlyLooks old k) (sym s.selects.1)
       (looks_only (simple_aim old.at) old s.seen s.looks) in record {
         transitions = one.transitions;
-        goes = looks_first f old s.selects.0 new (next.Go (at.Select (selecting.Next 0))) (next.Go behind_it)
+        goes = looks_first f old s.selects.0 new (next.Go (at.Select (selecting.Next from))) (next.Go behind_it)
             one.transitions seen one.goes;
       }

@@ -1,9 +1,8 @@
 -- A `down` hands a permit on: its transitions, and what it carries on.
 use Rattle.std.proofs.Common.{◌∙◌, ap, sym, refl, subst, arith, inl, inr}
 use Rattle.std.proofs.lemmas.Bool.Decides.{nat_tests}
-use Rattle.std.specs.Prelude.{ℕ, zero, suc, ◌≡◌, ◌<◌, ◌≤◌, ◌-◌, if◌then◌else◌, Bool, true, false, Option, Some, None, [], ◌∷◌, ◌++◌}
-use Rattle.wait_model.specs.declared.layout.TheConstants.{ENTRIES, FIRST_SIMPLE_HEAD}
-use Rattle.wait_model.specs.declared.points.CountPoint.TheVariants as counting
+use Rattle.std.specs.Prelude.{ℕ, ◌≡◌, ◌≢◌, ◌<◌, ◌≤◌, ◌-◌, ◌⊎◌, true, false, Option, Some, [], ◌∷◌, ◌++◌}
+use Rattle.wait_model.specs.declared.layout.TheConstants.{FIRST_SIMPLE_HEAD}
 use Rattle.wait_model.specs.declared.points.Next.TheVariants as next
 use Rattle.wait_model.specs.declared.points.Planned.{Planned}
 use Rattle.wait_model.specs.declared.points.Point.TheVariants as at
@@ -11,123 +10,85 @@ use Rattle.wait_model.specs.declared.points.Seen.{Seen}
 use Rattle.wait_model.specs.declared.points.SelectPoint.TheVariants as selecting
 use Rattle.wait_model.specs.declared.queues.CalledEntry.{CalledEntry}
 use Rattle.wait_model.specs.declared.steps.Step.TheVariants as step
-use Rattle.wait_model.specs.declared.watches.Entry.{Entry}
-use Rattle.wait_model.specs.declared.watches.Mode.TheVariants as mode
 use Rattle.wait_model.specs.declared.watches.Watch.TheVariants as watch
 use Rattle.wait_model.specs.Permits.{done_head, is_seen, shows_at}
 use Rattle.wait_model.specs.Programs.{zero_answer}
 use Rattle.wait_model.specs.Runs.{called_by, own, set_step}
-use Rattle.wait_model.specs.Views.{View as Told}
-use Rattle.wait_model.specs.Watches.{mask_of, owner}
+use Rattle.wait_model.specs.Views.{Look}
 use Rattle.wait_rule.specs.declared.journal.Item.TheVariants as item
 use Rattle.wait_rule.specs.Counts.{StoresCount}
 use Rattle.wait_rule.specs.HandedPermits.{OwesNoPermit}
-use Rattle.wait_rule.specs.HeldValues.{count_in}
 use Rattle.wait_rule.specs.Known.{Known}
 use Rattle.wait_rule.specs.LeftEntries.{OrderOf}
-use Rattle.wait_rule.specs.Notes.{Notes}
-use Rattle.wait_rule.specs.Queues.{MayRise, index}
-use Rattle.wait_rule.specs.Says.{IsUp, added, history_of, noted, told_of, unlocked_with}
-use Rattle.wait_rule.specs.Shown.{shown_entry}
+use Rattle.wait_rule.specs.Queues.{IsWholeBook, MayRise, index}
+use Rattle.wait_rule.specs.Says.{IsUp, added, history_of, told_of, unlocked_with}
+use Rattle.wait_rule.specs.Shown.{look_entry, shown_entry}
 use Rattle.wait_rule.specs.Stays.{Carries, only_looks, unchanged, unlock_change}
 use Rattle.wait_rule.specs.Transitions.{OnlyLooks, by_step}
-use Rattle.wait_rule.proofs.KnownLaws.AfterSteps.{noted_added, told_added}
 use Rattle.wait_rule.proofs.KnownLaws.CarriedTasks.{unchanged_none}
 use Rattle.wait_rule.proofs.KnownLaws.HeldPermits.{owed}
-use Rattle.wait_rule.proofs.KnownLaws.TaskHistories.{history_after}
 use Rattle.wait_rule.proofs.KnownLaws.Transitions.{only_none}
 use Rattle.wait_rule.proofs.KnownLaws.Turns.{serve_looks}
 use Rattle.wq_head.specs.Holds.{IsHolding}
-use Rattle.wq_head.specs.Selects.{HasSelected, IsSimpleHold, KeepsHold, Selects, SelectsFirst, simple_aim}
+use Rattle.wq_head.specs.Looks.{Looks}
+use Rattle.wq_head.specs.Selects.{HasSelected, IsSimpleHold, KeepsHold, Selects, ShowsNoEntry, simple_aim}
 use Rattle.wq_head.specs.Walking.{IsUnder}
 use Rattle.wq_head.proofs.CarriedHolds.{unlock_carried}
 use Rattle.wq_head.proofs.FirstEntries.{no_entry}
-use Rattle.wq_head.proofs.KeptHolds.{hold_carried, hold_holds}
+use Rattle.wq_head.proofs.KeptHolds.{hold_carried, hold_holds, hold_looks, hold_same, hold_simple}
 use Rattle.wq_head.proofs.LookingHold.{looks_only}
+use Rattle.wq_head.proofs.MemberStands.{look_is_shown}
 use Rattle.wait_class.specs.Findings.{nothing, with_value}
 use Rattle.wait_class.specs.Posts.{own_of}
 use Rattle.wait_class.specs.Tables.{IsEnded}
 use Rattle.wait_class.specs.declared.stages.Run.{Run}
 use Rattle.wait_class.proofs.Ground.Going.{runs_looks, runs_on, runs_one}
-use Rattle.wait_class.proofs.Histories.{stored_history, two_more}
 use Rattle.completion_cell.specs.Asks.{Counted}
 use Rattle.completion_cell.proofs.Completing.{done_simple, stored_agreed}
-use Rattle.completion_cell.proofs.Ground.{looked_count, quiet_store, value_append}
-use Rattle.completion_cell.proofs.Permits.{inside_join, inside_step, lowers, nobody, selection_inside, store_inside, store_owes, unlocked_steps}
-use Rattle.count_sem.specs.SemPrograms.{down_program, gives_to, joined, pass_next, pass_point, sem_head}
+use Rattle.completion_cell.proofs.Ground.{looked_count, quiet_store}
+use Rattle.completion_cell.proofs.Permits.{inside_join, inside_looks, inside_step, nobody, selection_inside, store_inside, store_owes, unlocked_steps}
+use Rattle.count_sem.specs.SemPrograms.{down_program, gives_to, joined, pass_gives, pass_point, sem_head}
 use Rattle.count_sem.specs.Downs.{down_table}
-use Rattle.count_sem.specs.Passes.{HasPassed, pass_change}
+use Rattle.count_sem.specs.Passes.{HasPassed, HasWaiter, pass_change}
 use Rattle.count_sem.specs.declared.downs.DownCall.{DownCall}
 use Rattle.count_sem.specs.declared.downs.DownOutcome.TheVariants as outcome
-use Rattle.count_sem.proofs.DownTakes.{lowers_none}
+use Rattle.count_sem.proofs.DownTakes.{lowers_none, takes_owed}
 use Rattle.count_sem.proofs.FirstWaiters.{gives_runs}
+use Rattle.count_sem.proofs.FoundWaiters.{first_waits}
 use Rattle.count_sem.proofs.PassedHolds.{Passes, passes_owing_none}
+use Rattle.count_sem.proofs.SemBooks.{book_store, simple_stored}
 
 -- an event of a part of a program, in the whole of it
 abbrev plan_joined : Planned → Planned
 plan_joined p = record { event = p.event; next = joined p.next }
 
--- a selection says nothing of the count
-first_count : (d : ℕ) (old new : Known) → SelectsFirst old new
-    → count_in d (history_of new) ≡ count_in d (history_of old)
-first_count d old new s =
-    let wake = step.Wake (owner s.member.at) (mask_of mode.Normal) s.found in
-    let woke = added s.seen (item.Made wake) in
-    ap (count_in d) (two_more s.seen woke new wake (step.Unqueue s.member.at) (history_after s.seen woke wake refl)
-    (stored_history woke new (step.Unqueue s.member.at) s.is))
-    ∙ (value_append (watch.Done d) None (history_of s.seen) (wake ∷ step.Unqueue s.member.at ∷ [])
-    ∙ looked_count d old s.seen (looks_only (simple_aim old.at) old s.seen s.looks))
-
-selects_count : (d : ℕ) (old : Known) (n : ℕ) (new : Known) → Selects old n new
-    → count_in d (history_of new) ≡ count_in d (history_of old)
-selects_count d old zero new s = ap (λ (k : Known). count_in d (history_of k)) s
-selects_count d old (suc n) new s = first_count d s.0 new s.2 ∙ selects_count d old n s.0 s.1
-
--- a store that makes no permit lets the spent count rise as before
-rises_on : (m b : Known) (d n r : ℕ) → b ≡ added m (item.Made (step.Consume (watch.Done d) n r)) → MayRise m true
-    → MayRise b true
-rises_on m b d n r is rise = record {
-  used = λ yes_it. ap (λ (k : Known). (noted k).used) is
-      ∙ (ap (λ (k : Notes). k.used) (noted_added m (item.Made (step.Consume (watch.Done d) n r))) ∙ rise.used yes_it);
-  counts = λ w at spent. elim (rise.counts w (sym walk ∙ at) spent) [
-    | inl c ↦ inl c
-    | inr p ↦ inr (p.0, picked ∙ p.1)
-  ];
-}
-  where
-    walk : (told_of b).walk ≡ (told_of m).walk
-    walk = ap (λ (k : Known). (told_of k).walk) is
-        ∙ ap (λ (u : Told). u.walk) (told_added m (item.Made (step.Consume (watch.Done d) n r)))
-
-    picked : (told_of b).hold.picked ≡ (told_of m).hold.picked
-    picked = ap (λ (k : Known). (told_of k).hold.picked) is
-        ∙ ap (λ (u : Told). u.hold.picked) (told_added m (item.Made (step.Consume (watch.Done d) n r)))
-
--- looks, a store that makes no permit, and the unlock
-passed_carried : (old m b new : Known) → Carries only_looks old m → Carries unchanged m b → Carries unlock_change b new
-    → Carries pass_change old new
-passed_carried old m b new one two three = record {
-  domain = three.domain ∙ (two.domain ∙ one.domain);
-  number = three.number ∙ (two.number ∙ one.number);
-  awake = three.awake ∙ (two.awake ∙ one.awake);
-  state = three.state ∙ (two.state ∙ one.state);
-  head = three.head;
-  ticket = three.ticket;
-  hold = three.hold;
-  at = three.at ∙ (two.at ∙ one.at);
-  mark = three.mark ∙ (two.mark ∙ one.mark);
-  fewer = λ w σ p is. three.fewer w σ refl (two.fewer w σ refl (one.fewer w σ refl is));
+-- looks, a store that makes no permit, a selection, and the unlock
+passed_carried : (old l b m new : Known) → Carries only_looks old l → Carries unchanged l b → Carries only_looks b m
+    → Carries unlock_change m new → Carries pass_change old new
+passed_carried old l b m new one two three four = record {
+  domain = four.domain ∙ (three.domain ∙ (two.domain ∙ one.domain));
+  number = four.number ∙ (three.number ∙ (two.number ∙ one.number));
+  awake = four.awake ∙ (three.awake ∙ (two.awake ∙ one.awake));
+  state = four.state ∙ (three.state ∙ (two.state ∙ one.state));
+  head = four.head;
+  ticket = four.ticket;
+  hold = four.hold;
+  at = four.at ∙ (three.at ∙ (two.at ∙ one.at));
+  mark = four.mark ∙ (three.mark ∙ (two.mark ∙ one.mark));
+  fewer = λ w σ p is. four.fewer w σ refl (three.fewer w σ refl (two.fewer w σ refl (one.fewer w σ refl is)));
   stored = λ x none away. absurd (cc);
-  out = λ x away none. three.out x refl (two.out x refl (one.out x refl none));
+  out = λ x away none. four.out x refl (three.out x refl (two.out x refl (one.out x refl none)));
   stands = λ slot few away e is kind.
-      let by_m = one.stands slot few refl e is kind in
+      let by_l = one.stands slot few refl e is kind in
       let by_b = two.stands slot few refl e
-      (subst (λ (i : ℕ). (told_of m).bits.stored (index i slot) ≡ Some e) (sym one.number) by_m) kind in
-      subst (λ (i : ℕ). (told_of new).bits.stored (index i slot) ≡ Some e) (two.number ∙ one.number)
-      (three.stands slot few refl e
-      (subst (λ (i : ℕ). (told_of b).bits.stored (index i slot) ≡ Some e) (sym two.number) by_b) kind);
-  keeps = λ w p. three.keeps w refl ∙ (two.keeps w refl ∙ one.keeps w refl);
-  owes = λ x o. three.owes x (two.owes x (one.owes x o));
+      (subst (λ (i : ℕ). (told_of l).bits.stored (index i slot) ≡ Some e) (sym one.number) by_l) kind in
+      let by_m = three.stands slot few refl e
+      (subst (λ (i : ℕ). (told_of b).bits.stored (index i slot) ≡ Some e) (sym two.number) by_b) kind in
+      subst (λ (i : ℕ). (told_of new).bits.stored (index i slot) ≡ Some e) (three.number ∙ (two.number ∙ one.number))
+      (four.stands slot few refl e
+      (subst (λ (i : ℕ). (told_of m).bits.stored (index i slot) ≡ Some e) (sym three.number) by_m) kind);
+  keeps = λ w p. four.keeps w refl ∙ (three.keeps w refl ∙ (two.keeps w refl ∙ one.keeps w refl));
+  owes = λ x o. four.owes x (three.owes x (two.owes x (one.owes x o)));
 }
 
 module _ (old : Known) (run : Run DownCall) (a : IsEnded down_table old run outcome.Passing) where
@@ -177,131 +138,164 @@ module _ (old : Known) (run : Run DownCall) (a : IsEnded down_table old run outc
         debt = w.debt;
       }
 
-  module _ (m : Known) (n : ℕ) (s : HasSelected old m 1 n) (k : KeepsHold old m) where
-    look : Carries only_looks old m
-    look = hold_carried old m k
+  -- the look for who waits
+  module _ (l : Known) (sees : Looks old l) where
+    k_l : KeepsHold old l
+    k_l = hold_looks old l sees
 
-    at_m : m.at ≡ h
-    at_m = k.at ∙ at_old
+    look : Carries only_looks old l
+    look = hold_carried old l k_l
 
-    pub passing_holds : IsHolding m
-    passing_holds = hold_holds old m k pass_holds
+    looked : OnlyLooks old l
+    looked = looks_only (simple_aim old.at) old l sees
 
-    pub passing_up : IsUp m
-    passing_up = look.awake ∙ a.up
+    at_l : l.at ≡ h
+    at_l = k_l.at ∙ at_old
 
-    -- somebody was queued
-    module _ (one : n ≡ 1) where
-      pub passing_counted : Counted m d r.count
-      passing_counted = record {
-        held = passing_holds.locked ∙ ap Some at_m;
-        loaded = selects_count d s.seen n m s.selects
-            ∙ (looked_count d old s.seen (looks_only (simple_aim old.at) old s.seen s.looks)
-            ∙ a.trail.count.knows.counts.0);
+    pub looking_holds : IsHolding l
+    looking_holds = hold_holds old l k_l pass_holds
+
+    pub looking_up : IsUp l
+    looking_up = look.awake ∙ a.up
+
+    -- somebody waits: one is taken of the count
+    module _ (whole : IsWholeBook l) (waits : HasWaiter l) where
+      pub looking_counted : Counted l d r.count
+      looking_counted = record {
+        held = looking_holds.locked ∙ ap Some at_l;
+        loaded = looked_count d old l looked ∙ a.trail.count.knows.counts.0;
         small = a.trail.count.knows.counts.1;
       }
 
-      pub passing_some : 0 < r.count
-      passing_some = let z = a.trail.count.some in grind (arith, nat_tests, z)
+      pub looking_some : 0 < r.count
+      looking_some = let z = a.trail.count.some in grind (arith, nat_tests, z)
 
-      module _ (b : Known) (made : StoresCount m b d (r.count - 1)) where
+      module _ (b : Known) (made : StoresCount l b d (r.count - 1)) where
         same : made.found ≡ r.count
-        same = made.finds.1 passing_counted.held r.count passing_counted.loaded
+        same = made.finds.1 looking_counted.held r.count looking_counted.loaded
 
-        stored : Carries unchanged m b
-        stored = made.consumes (lowers_none d r.count made.found a.trail.count.some passing_counted.small same)
+        stored : Carries unchanged l b
+        stored = made.consumes (lowers_none d r.count made.found a.trail.count.some looking_counted.small same)
 
         at_b : b.at ≡ h
-        at_b = stored.at ∙ at_m
+        at_b = stored.at ∙ at_l
 
-        pub passed_holds : IsHolding b
-        passed_holds = record {
-          locked = stored.head ∙ (passing_holds.locked ∙ ap Some (sym stored.at));
-          agreed = stored_agreed m b d (r.count - 1) made.found made.is ∙ passing_holds.agreed;
-          told = stored.hold ∙ (passing_holds.told ∙ ap Some (sym stored.at));
+        pub lowered_up : IsUp b
+        lowered_up = stored.awake ∙ looking_up
+
+        pub lowered_holds : IsHolding b
+        lowered_holds = record {
+          locked = stored.head ∙ (looking_holds.locked ∙ ap Some (sym stored.at));
+          agreed = stored_agreed l b d (r.count - 1) made.found made.is ∙ looking_holds.agreed;
+          told = stored.hold ∙ (looking_holds.told ∙ ap Some (sym stored.at));
         }
 
-        pub passed_rises : (0 < n → IsSimpleHold old → MayRise m true) → MayRise b true
-        passed_rises rise = rises_on m b d (r.count - 1) made.found (made.is ∙ ap (λ (c : Bool). added m
-            (item.Made (if c then step.Publish (watch.Done d) (r.count - 1) made.found
-            else step.Consume (watch.Done d) (r.count - 1) made.found)))
-            (lowers_none d r.count made.found a.trail.count.some passing_counted.small same))
-            (rise (omega (arith, one)) pass_simple)
+        pub lowered_simple : IsSimpleHold b
+        lowered_simple = simple_stored l b d (r.count - 1) made.found made.is (hold_simple old l k_l pass_simple)
 
-        few : owing - n ≡ 0
-        few = let f = a.trail.count.knows.loaded.settled.0 in omega (arith, f, one)
+        pub lowered_head : (i : ℕ) → i ≡ h → i ≡ b.at
+        lowered_head i same_head = same_head ∙ sym at_b
 
-        pub passed_owes : OwesNoPermit b
-        passed_owes = passes_owing_none d owing old b
-            (λ j. owed d (set_step (watch.Done d) (r.count - 1) made.found) (j - n))
-            (inside_join d old m b (λ j. j - n) (owed d (set_step (watch.Done d) (r.count - 1) made.found))
-            (selection_inside d old m 1 n s)
-            (inside_step d m b (set_step (watch.Done d) (r.count - 1) made.found) (store_inside d (r.count - 1) made.found)
-            made.is)) at_b (stored.number ∙ look.number) starts
-            (inl (ap (owed d (set_step (watch.Done d) (r.count - 1) made.found)) few
-            ∙ (store_owes d (r.count - 1) made.found 0 ∙ lowers (r.count - 1) made.found (omega (arith, same)))))
-
-        module _ (new : Known) (gave : new ≡ unlocked_with b b.at true) where
-          pub passed_on : HasPassed old new r
-          passed_on =
-              let f = down_program old.view.number d r.state in
-              let over = next.Ends zero_answer in record {
-                runs = runs_on f old m new (next.Go pass_point) (next.Go (at.Count counting.Store)) over
-                    (gives_runs f (at.Count counting.Store) (λ c seen is. by c seen seen.called is) (λ who seen. refl) refl
-                    old m (subst (λ (j : ℕ). HasSelected old m 1 j) one s))
-                    (runs_on f m b new (next.Go (at.Count counting.Store)) (next.Go (at.Select selecting.Store)) over
-                    (quiet_store f (at.Count counting.Store) m b (with_value r.count) d (r.count - 1) made.found _
-                    (r.count - 1) _ refl refl refl refl (sym same) tt tt tt m (only_none m) made.is).0
-                    (runs_one f (at.Select selecting.Store) b b new nothing (by_step (step.Unlock b.at true))
-                    (only_none b) (at_b, refl) (tt, tt, tt)
-                    (subst (OnlyLooks (added b (item.Made (step.Unlock b.at true)))) (sym gave)
-                    (serve_looks b b.at true))));
-                carries = passed_carried old m b new look stored (unlock_carried b new true gave);
-                spent = true;
-                back = (
-                  history_of b,
-                  unlocked_steps b new true gave
-                      ∙ ap (λ (i : ℕ). history_of b ++ step.Unlock i true ∷ []) at_b,
-                );
-              }
+        -- and the first is given it
+        module _ (m : Known) (n : ℕ) (s : HasSelected b m 1 n) (k : KeepsHold b m) where
+          still_shows : (shown_entry m waits.0 ≡ Some waits.1) ⊎ (n ≡ 1)
+          still_shows = elim s.ends [ inl all ↦ inr all.1 | inr few ↦ inl (kept few.1) ]
             where
-              by : (c : CalledEntry) (seen : Seen) (o : Option CalledEntry) → o ≡ Some c
-                  → plan_joined (pass_next d o seen) ≡ gives_to c seen
-              by c seen o is = ap (λ (p : Option CalledEntry). plan_joined (pass_next d p seen)) is
+              kept : (◌≢◌ {A = ℕ} 1 0 → n < 1) → shown_entry m waits.0 ≡ Some waits.1
+              kept few =
+                  let none : n ≡ 0 = let l = few (λ z. absurd (cc)) in omega (arith, l) in
+                  let seen : m ≡ s.seen = subst (λ (j : ℕ). Selects s.seen j m) none s.selects in
+                  let shows = s.looks.from.shows waits.0 waits.1
+                  (ap (λ (f : ℕ → Look). f waits.0) (book_store l b d (r.count - 1) made.found made.is).book
+                  ∙ look_is_shown ((told_of l).hold.book waits.0) waits.1 waits.3) in
+                  ap (λ (x : Known). shown_entry x waits.0) seen ∙ ap look_entry shows
 
-    -- nobody was
-    module _ (other : n ≡ 1 → ⊥) where
-      none : n ≡ 0
-      none = elim s.ends [
-        | inl all ↦ absurd (other all.1)
-        | inr few ↦ let l : n < 1 = few.1 (λ z. absurd (cc)) in omega (arith, l)
-      ]
+          pub given_one : n ≡ 1
+          given_one = elim s.ends [
+            | inl all ↦ all.1
+            | inr few ↦ elim still_shows [
+              | inl shows ↦ absurd (few.0 waits.0 waits.1 waits.2 shows)
+              | inr one ↦ one
+            ]
+          ]
 
-      shows_none : (x : ℕ) (e : Entry) → x < ENTRIES → shown_entry m x ≡ Some e → ⊥
-      shows_none = elim s.ends [ inl all ↦ absurd (other all.1) | inr few ↦ few.0 ]
+          pub given_holds : IsHolding m
+          given_holds = hold_holds b m k lowered_holds
 
-      pub alone_owes : OwesNoPermit m
-      alone_owes = passes_owing_none d owing old m (λ j. j - n) (selection_inside d old m 1 n s) at_m look.number starts
-          (inr (nobody (done_head d) m s.whole shows_none))
+          pub given_rises : (0 < n → IsSimpleHold b → MayRise m true) → MayRise m true
+          given_rises rise = rise (let one = given_one in omega (arith, one)) lowered_simple
 
-      module _ (new : Known) (gave : new ≡ unlocked_with m m.at false) where
-        looked : OnlyLooks old m
-        looked = subst (OnlyLooks old) (sym (subst (λ (j : ℕ). Selects s.seen j m) none s.selects))
-            (looks_only (simple_aim old.at) old s.seen s.looks)
+          at_m : m.at ≡ h
+          at_m = k.at ∙ at_b
 
+          select : Carries only_looks b m
+          select = hold_carried b m k
+
+          lowered_owes : owed d (set_step (watch.Done d) (r.count - 1) made.found) owing ≡ 0
+          lowered_owes = store_owes d (r.count - 1) made.found owing
+              ∙ takes_owed r.count made.found owing same a.trail.count.knows.loaded.settled.0
+
+          pub given_owes : OwesNoPermit m
+          given_owes = passes_owing_none d owing old m
+              (λ j. owed d (set_step (watch.Done d) (r.count - 1) made.found) j - n)
+              (inside_join d old b m (owed d (set_step (watch.Done d) (r.count - 1) made.found)) (λ j. j - n)
+              (inside_join d old l b (λ j. j) (owed d (set_step (watch.Done d) (r.count - 1) made.found))
+              (inside_looks d old l sees)
+              (inside_step d l b (set_step (watch.Done d) (r.count - 1) made.found) (store_inside d (r.count - 1) made.found)
+              made.is)) (selection_inside d b m 1 n s)) at_m (select.number ∙ (stored.number ∙ look.number)) starts
+              (inl (ap (λ (j : ℕ). j - n) lowered_owes ∙ omega arith))
+
+          module _ (new : Known) (gave : new ≡ unlocked_with m m.at true) where
+            pub passed_on : HasPassed old new r
+            passed_on =
+                let f = down_program old.view.number d r.state in
+                let over = next.Ends zero_answer in
+                let first = first_waits l waits in record {
+                  runs = runs_on f old b new (next.Go pass_point) (next.Go (at.Select (selecting.Next 1))) over
+                      (quiet_store f pass_point l b (record (with_value r.count) { called = Some first.0 }) d
+                      (r.count - 1) made.found _ (r.count - 1) _ refl refl refl refl (sym same) (whole, sym first.1) tt tt
+                      old looked made.is).0
+                      (runs_on f b m new (next.Go (at.Select (selecting.Next 1))) (next.Go (at.Select selecting.Store)) over
+                      (gives_runs f 1 (at.Select selecting.Store) (λ c seen is. by c seen seen.called is)
+                      (λ who seen. refl) refl b m (subst (λ (j : ℕ). HasSelected b m 1 j) given_one s))
+                      (runs_one f (at.Select selecting.Store) m m new nothing (by_step (step.Unlock m.at true))
+                      (only_none m) (at_m, refl) (tt, tt, tt)
+                      (subst (OnlyLooks (added m (item.Made (step.Unlock m.at true)))) (sym gave)
+                      (serve_looks m m.at true))));
+                  carries = passed_carried old l b m new look stored select (unlock_carried m new true gave);
+                  spent = true;
+                  back = (
+                    history_of m,
+                    unlocked_steps m new true gave
+                        ∙ ap (λ (i : ℕ). history_of m ++ step.Unlock i true ∷ []) at_m,
+                  );
+                }
+              where
+                by : (c : CalledEntry) (seen : Seen) (o : Option CalledEntry) → o ≡ Some c
+                    → plan_joined (pass_gives d o seen) ≡ gives_to c seen
+                by c seen o is = ap (λ (p : Option CalledEntry). plan_joined (pass_gives d p seen)) is
+
+    -- nobody does
+    module _ (whole : IsWholeBook l) (none : ShowsNoEntry l) where
+      pub alone_owes : OwesNoPermit l
+      alone_owes = passes_owing_none d owing old l (λ j. j) (inside_looks d old l sees) at_l look.number starts
+          (inr (nobody (done_head d) l whole none))
+
+      module _ (new : Known) (gave : new ≡ unlocked_with l l.at false) where
         pub kept_alone : HasPassed old new r
         kept_alone =
             let f = down_program old.view.number d r.state in record {
-              runs = runs_on f old m new (next.Go pass_point) (next.Go pass_point) (next.Ends zero_answer)
-                  (runs_looks f old m (next.Go pass_point) looked)
-                  (runs_one f pass_point m m new nothing (by_step (step.Unlock m.at false)) (only_none m) (at_m, refl)
-                  (tt, (s.whole, sym (ap (called_by (shown_entry m)) (no_entry m shows_none))), tt)
-                  (subst (OnlyLooks (added m (item.Made (step.Unlock m.at false)))) (sym gave)
-                  (serve_looks m m.at false)));
-              carries = passed_carried old m m new look (unchanged_none m) (unlock_carried m new false gave);
+              runs = runs_on f old l new (next.Go pass_point) (next.Go pass_point) (next.Ends zero_answer)
+                  (runs_looks f old l (next.Go pass_point) looked)
+                  (runs_one f pass_point l l new nothing (by_step (step.Unlock l.at false)) (only_none l) (at_l, refl)
+                  (tt, (whole, sym (ap (called_by (shown_entry l)) (no_entry l none))), tt)
+                  (subst (OnlyLooks (added l (item.Made (step.Unlock l.at false)))) (sym gave)
+                  (serve_looks l l.at false)));
+              carries = passed_carried old l l l new look (unchanged_none l) (hold_carried l l (hold_same l))
+                  (unlock_carried l new false gave);
               spent = false;
               back = (
-                history_of m,
-                unlocked_steps m new false gave ∙ ap (λ (i : ℕ). history_of m ++ step.Unlock i false ∷ []) at_m,
+                history_of l,
+                unlocked_steps l new false gave ∙ ap (λ (i : ℕ). history_of l ++ step.Unlock i false ∷ []) at_l,
               );
             }

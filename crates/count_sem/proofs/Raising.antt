@@ -130,7 +130,7 @@ module _ (me d : ℕ) where
 
   up_gives : (old new : Known) → HasSelected old new 1 1
       → Runs up_program old new (next.Go (at.Select (selecting.Next 0))) (next.Go (at.Select selecting.Store))
-  up_gives old new s = gives_runs up_program (at.Select selecting.Store) (λ c seen is. by c seen seen.called is)
+  up_gives old new s = gives_runs up_program 0 (at.Select selecting.Store) (λ c seen is. by c seen seen.called is)
       (λ who seen. refl) refl old new s
     where
       by : (c : CalledEntry) (seen : Seen) (o : Option CalledEntry) → o ≡ Some c → up_next d o seen ≡ gives_to c seen

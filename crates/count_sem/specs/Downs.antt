@@ -42,6 +42,7 @@ use Rattle.wait_class.specs.declared.stages.Doing.TheVariants as doing
 use Rattle.wait_class.specs.declared.stages.Turn.{Turn}
 use Rattle.wait_class.specs.declared.stages.Turn.TheVariants as turn
 use Rattle.wait_event.specs.Waits.{queues}
+use Rattle.wait_leave.specs.Leaves.{with_asked}
 use Rattle.completion_cell.specs.HeldPermits.{HasBegun, Knows, WaitsIn}
 use Rattle.count_sem.specs.SemPrograms.{down_plan, sem_head}
 use Rattle.count_sem.specs.declared.downs.DownCall.{DownCall}
@@ -189,6 +190,7 @@ pub record IsFreshDown (r : DownCall) (d : ℕ) (st : SleepState) : Type 0 where
   pub cell : r.cell ≡ d
   pub state_is : r.state ≡ st
   pub queued : r.queued ≡ false
+  pub unasked : r.asked ≡ false
 
 -- It is over: the task is awake, RUNNING, and its entry is off; one that hands on holds the head still.
 abbrev pub down_post : DownCall → DownOutcome → Post
@@ -241,21 +243,35 @@ pub record FoundSignal (k : Known) (r : DownCall) (more : List Step) : Type 0 wh
   pub pends : pending (state_mask r.state) (task_of look) ≡ true
   pub zero : FoundZero k r (step.Look look ∷ more)
 
+-- and then it looked at its own word, or did not
+abbrev pub looked_by : Option ℕ → List Step → List Step
+looked_by None more = more
+looked_by (Some w) more = step.Look w ∷ more
+
+pub record HasFoundZero (k : Known) (r : DownCall) (more : List Step) : Type 0 where
+  pub look : Option ℕ
+  pub zero : FoundZero k r (looked_by look more)
+
+-- It goes out of such a hold, and has made these steps since: it was asked to leave, or found a signal.
+abbrev pub OutFor : Bool → Known → DownCall → List Step → Type 0
+OutFor true k r more = HasFoundZero k r more
+OutFor false k r more = FoundSignal k r more
+
 -- and then its entry was taken off where it was queued, and the head given back
 abbrev pub left_queue : ℕ → ℕ → ℕ → List Step
 left_queue x d word = step.Saw x word
     ∷ (if is_some (entry_of word) then step.Unqueue x ∷ step.Unlock (sem_head d) false ∷ []
     else step.Unlock (sem_head d) false ∷ [])
 
-pub record WasInterrupted (k : Known) (r : DownCall) : Type 0 where
+pub record WentOutOfDown (k : Known) (r : DownCall) : Type 0 where
   pub entry : ℕ
-  pub signal : FoundSignal k r (left_queue (own_of k) r.cell entry)
+  pub why : OutFor r.asked k r (left_queue (own_of k) r.cell entry)
 
 -- so far
 pub record HasLeft (k : Known) (r : DownCall) : Type 0 where
   pub entry : ℕ
   pub queued : is_some (entry_of entry) ≡ true
-  pub signal : FoundSignal k r (step.Saw (own_of k) entry ∷ step.Unqueue (own_of k) ∷ [])
+  pub why : OutFor r.asked k r (step.Saw (own_of k) entry ∷ step.Unqueue (own_of k) ∷ [])
 
 -- The last hold of a `down` that found no place noted it, and had loaded 0.
 pub record FoundNoSeat (k : Known) (r : DownCall) : Type 0 where
@@ -292,10 +308,10 @@ DownTrail k r stage.FirstTurn = LeftOff r.cell k × (r.queued ≡ false)
 DownTrail k r stage.FirstLoad = HasBegun r.cell k × (r.queued ≡ false)
 DownTrail k r stage.AgainLoad = JustLocked k r.cell × HasWalk k r.cell
 DownTrail k r stage.Look = Knows k r.cell 0 × FoundZero k r []
-DownTrail k r stage.Queue = Knows k r.cell 0
+DownTrail k r stage.Queue = Knows k r.cell 0 × HasFoundZero k r []
 DownTrail k r stage.State = Knows k r.cell 0
 DownTrail k r stage.Unlock = Knows k r.cell 0
-DownTrail k r stage.LeaveQueue = Knows k r.cell 0 × FoundSignal k r []
+DownTrail k r stage.LeaveQueue = Knows k r.cell 0 × OutFor r.asked k r []
 DownTrail k r stage.LeaveUnlock = Knows k r.cell 0 × HasLeft k r
 DownTrail k r stage.TakeQueue = HasCount k r × SeesOwn k
 DownTrail k r stage.TakeStore = HasCount k r × ((r.count == ALL_DONE) ≡ false)
@@ -306,7 +322,7 @@ DownTrail k r _ = Unit {0}
 abbrev pub DownTrailEnd : Known → DownCall → DownOutcome → Type 0
 DownTrailEnd k r outcome.Over = GaveBack k r
 DownTrailEnd k r outcome.Passing = MayPass k r
-DownTrailEnd k r outcome.Interrupted = GaveBack k r × WasInterrupted k r
+DownTrailEnd k r outcome.Interrupted = GaveBack k r × WentOutOfDown k r
 DownTrailEnd k r outcome.Worn = GaveBack k r × FoundNoSeat k r
 
 -- what stays of the task meanwhile, but that it may leave its entry at the semaphore
@@ -315,7 +331,7 @@ DownKeeps i old new = KeepsBut with_left_entry i old new
 
 abbrev pub down_table : CallTable DownCall DownStage DownOutcome
 down_table = record {
-  plan_of = λ r. down_plan r.cell r.state;
+  plan_of = λ r. with_asked r.asked (down_plan r.cell r.state);
   Fits = DownFits;
   worn_at = λ r p. record r { place = p };
   joined_at = λ r s. record r { queued = true };

@@ -3,3 +3,8 @@ pub mod Ups
 pub mod Downs
 pub mod DownEnds
 pub mod Passes
+pub mod DownLeaves
+pub mod SemPermits
+pub mod WorkedSemaphores
+pub mod SemUses
+pub mod SemAnswers

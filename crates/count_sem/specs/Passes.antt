@@ -1,16 +1,23 @@
 -- To be believed.
 -- What a `down` says that hands a permit on in its last hold.
-use Rattle.std.specs.Prelude.{Bool, None, ◌∷◌, []}
+use Rattle.std.specs.Prelude.{ℕ, ◌≡◌, ◌<◌, Bool, Some, None, ◌∷◌, []}
+use Rattle.wait_model.specs.declared.layout.TheConstants.{ENTRIES}
 use Rattle.wait_model.specs.declared.points.Next.TheVariants as next
 use Rattle.wait_model.specs.declared.steps.Step.TheVariants as step
+use Rattle.wait_model.specs.declared.watches.Entry.{Entry}
 use Rattle.wait_model.specs.Programs.{zero_answer}
 use Rattle.wait_rule.specs.Known.{Known}
+use Rattle.wait_rule.specs.Shown.{shown_entry}
 use Rattle.wait_rule.specs.Stays.{Carries, Change, only_looks}
 use Rattle.wait_rule.specs.Tickets.{no_ticket}
 use Rattle.wait_class.specs.Posts.{EndsWith, Runs}
 use Rattle.count_sem.specs.SemPrograms.{down_program, pass_point}
 use Rattle.count_sem.specs.Downs.{down_head}
 use Rattle.count_sem.specs.declared.downs.DownCall.{DownCall}
+
+-- the hold shows an entry of its head
+abbrev pub HasWaiter : Known → Type 0
+HasWaiter k = (x : ℕ) × (e : Entry) × (x < ENTRIES) × (shown_entry k x ≡ Some e)
 
 -- it looks at entries, and gives the head back
 abbrev pub pass_change : Change

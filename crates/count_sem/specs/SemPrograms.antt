@@ -3,6 +3,8 @@
 -- and its count the done count; a count at its end stands for permits without end.
 use Rattle.std.specs.Prelude.{
   ℕ,
+  zero,
+  suc,
   ◌+◌,
   ◌-◌,
   ◌==◌,
@@ -138,15 +140,20 @@ abbrev pub leave_queue : ℕ → ℕ → Bool → Planned
 leave_queue me d queued = if queued then go (event.Unqueue me) (at.Finish finishing.Unlock true)
     else ends_with (sem_unlock d false) signalled
 
--- With a permit that was given to it, and more that are counted: where an entry is queued the first is given one, which
--- is taken of the count.
+-- With a permit that was given to it, and more that are counted: where an entry is queued, one is taken of the count, and
+-- then given to the first.
 abbrev pub pass_next : ℕ → Option CalledEntry → Seen → Planned
 pass_next d None seen = ends_with (sem_unlock d false) zero_answer
-pass_next d (Some c) seen = gives_to c seen
+pass_next d (Some c) seen = go (sem_set d (seen.value - 1)) (at.Select (selecting.Next 1))
+
+abbrev pub pass_gives : ℕ → Option CalledEntry → Seen → Planned
+pass_gives d None seen = ends_with (sem_unlock d false) zero_answer
+pass_gives d (Some c) seen = gives_to c seen
 
 abbrev pub pass_event : ℕ → SelectPoint → Seen → Planned
-pass_event d (selecting.Next n) seen = pass_next d seen.called seen
-pass_event d (selecting.Off n who) seen = go (event.Unqueue who) (at.Count counting.Store)
+pass_event d (selecting.Next zero) seen = pass_next d seen.called seen
+pass_event d (selecting.Next (suc n)) seen = pass_gives d seen.called seen
+pass_event d (selecting.Off n who) seen = go (event.Unqueue who) (at.Select selecting.Store)
 pass_event d p seen = ends_with (sem_unlock d true) zero_answer
 
 abbrev pub down_part : ℕ → ℕ → SleepState → Point → Seen → Planned
@@ -166,7 +173,6 @@ down_part me d st (at.Finish finishing.Unlock failed) seen = ends_with (sem_unlo
 down_part me d st (at.Await (awaiting.Off stopped)) seen = go (event.Unqueue me) (down_takes seen.value)
 down_part me d st (at.Await (awaiting.Last stopped)) seen = go (sem_set d (seen.value - 1)) (at.Await awaiting.Unlock)
 down_part me d st (at.Select p) seen = pass_event d p seen
-down_part me d st (at.Count counting.Store) seen = go (sem_set d (seen.value - 1)) (at.Select selecting.Store)
 down_part me d st p seen = ends_with (sem_unlock d false) zero_answer
 
 -- A `down` up to where it hands on a permit in the hold that goes on; and all of it.

@@ -59,6 +59,7 @@ pub fn begin_down(task: &Task, cell: u8, state: SleepState) -> DownRun
         place: 0,
         queued: false,
         again: false,
+        asked: false,
     })
 }
 

@@ -7,7 +7,7 @@ ghost use Rattle.wait_rule.specs.Says.{IsUp};
 ghost use Rattle.wait_class.specs.declared.stages.Doing.TheVariants as doing;
 ghost use Rattle.wait_class.specs.Handing.{LastGiven};
 ghost use Rattle.wait_class.specs.Laws.{AddsOwn, MayAdd};
-ghost use Rattle.wait_class.specs.Tables.{IsAt, IsStop, Turned, falls};
+ghost use Rattle.wait_class.specs.Tables.{IsAt, IsStop, SleepsNot, Turned, falls};
 ghost use Rattle.count_sem.specs.declared.downs.DownStage.TheVariants as stage;
 ghost use Rattle.count_sem.specs.Downs.{again_to, down_table, first_to, takes_to, waits_to};
 
@@ -25,8 +25,8 @@ use wq_head::{Worn, add_tail, remove};
 
 /// A stage of a `down`: where it stands in its program. The first hold, and the further ones, each with its lock and its
 /// load; then, where that found 0, a look for a signal, the add, the state and the unlock, and the sleep; the end of one
-/// that found a signal; and that of one that takes a permit, or was given one. At `FirstTurn` and `AgainTurn` the ticket
-/// of the lock is drawn, at `First` and `Again` it is not.
+/// that found a signal, or is left; and that of one that takes a permit, or was given one. At `FirstTurn` and `AgainTurn`
+/// the ticket of the lock is drawn, at `First` and `Again` it is not.
 #[derive(Clone, Copy)]
 pub enum DownStage {
     First,
@@ -48,7 +48,7 @@ pub enum DownStage {
 }
 
 /// How a `down` ended: it took a permit, or was given one; it was given one and found that more are counted, and holds
-/// the head still, in which `hand_on` follows; a signal ended it; or no place was left for its entry.
+/// the head still, in which `hand_on` follows; a signal ended it, or its task left it; or no place was left for its entry.
 #[derive(Clone, Copy)]
 pub enum DownOutcome {
     Over,
@@ -70,6 +70,8 @@ pub struct DownCall {
     pub queued: bool,
     /// Whether the last load was behind a sleep.
     pub again: bool,
+    /// Its task was asked to leave it.
+    pub asked: bool,
 }
 
 pub type DownTurn = Turn<DownStage, DownOutcome>;
@@ -138,6 +140,7 @@ fn first_event(domain: &Domain, task: &mut Task, run: &mut DownRun) -> DownTurn
     ensures turned { Turned down_table task.old task.new run.old run.new stage.FirstLoad result }
     ensures falls { falls down_table stage.FirstLoad result ≡ true }
     ensures given { LastGiven task.old task.new HEADS }
+    ensures awake { SleepsNot task.old task.new }
 {
     run.of.count = done_load(domain, task, run.of.cell);
     run.of.again = false;
@@ -152,6 +155,7 @@ fn again_event(domain: &Domain, task: &mut Task, run: &mut DownRun) -> DownTurn
     ensures turned { Turned down_table task.old task.new run.old run.new stage.AgainLoad result }
     ensures falls { falls down_table stage.AgainLoad result ≡ true }
     ensures given { LastGiven task.old task.new HEADS }
+    ensures awake { SleepsNot task.old task.new }
 {
     let entry = own_entry(domain, task);
     run.of.count = done_load(domain, task, run.of.cell);
@@ -167,6 +171,7 @@ fn off_event(domain: &Domain, task: &mut Task, run: &DownRun) -> DownTurn
     ensures turned { Turned down_table task.old task.new run.now run.now stage.TakeQueue result }
     ensures falls { falls down_table stage.TakeQueue result ≡ true }
     ensures given { LastGiven task.old task.new HEADS }
+    ensures awake { SleepsNot task.old task.new }
 {
     let me = task.number();
     remove(domain, task, me, 0);
@@ -181,6 +186,7 @@ fn take_event(domain: &Domain, task: &mut Task, run: &DownRun) -> DownTurn
     ensures turned { Turned down_table task.old task.new run.now run.now stage.TakeStore result }
     ensures falls { falls down_table stage.TakeStore result ≡ true }
     ensures given { LastGiven task.old task.new HEADS }
+    ensures awake { SleepsNot task.old task.new }
 {
     lower_one(domain, task, run.of.cell, run.of.count);
     Turn::Again(DownStage::TakeUnlock)

@@ -5,8 +5,11 @@
 
 pub mod down_calls;
 pub mod downs;
+pub mod laws;
+pub mod leaves;
 pub mod passes;
 pub mod ups;
 
-pub use down_calls::{begin_down, down};
-pub use ups::{try_down, up};
+pub use down_calls::{SemEnd, begin_down, down};
+pub use leaves::{down_until, leave_down};
+pub use ups::{SemFull, try_down, up};

@@ -13,6 +13,7 @@ returns-clause-fresh c = record {
   cell = ap (λ (r : DownCall). r.cell) c.new.ensures;
   state_is = ap (λ (r : DownCall). r.state) c.new.ensures;
   queued = ap (λ (r : DownCall). r.queued) c.new.ensures;
+  unasked = ap (λ (r : DownCall). r.asked) c.new.ensures;
 }
 
 pub returns-clause-at : goal.returns-clause-at

@@ -1,7 +1,9 @@
+use Rattle.std.proofs.Common.{refl}
 use Rattle.wait_class.proofs.Handed.{given_step}
 use Rattle.wait_model.specs.declared.steps.Step.TheVariants as step
 use Rattle.wait_model.specs.declared.watches.Watch.TheVariants as watch
 use Rattle.count_sem.proofs.DownCounts.{first_agreed, first_turned}
+use Rattle.wait_class.proofs.AwakeSteps.{awake_step}
 use Rattle.count_sem.proofs.downs.first_event.Goals as goal
 
 pub done_load-run-requires-clause-agreed : goal.done_load-run-requires-clause-agreed
@@ -15,3 +17,7 @@ returns-clause-turned c = first_turned c.args.task.now c.done_load-run.new.task 
 pub returns-clause-given : goal.returns-clause-given
 returns-clause-given c = given_step c.args.task.now c.done_load-run.new.task
     (step.Load (watch.Done c.args.run.now.of.cell) c.done_load-run.result) c.done_load-run.ensures.step
+
+pub returns-clause-awake : goal.returns-clause-awake
+returns-clause-awake c = awake_step c.args.task.now c.done_load-run.new.task
+    (step.Load (watch.Done c.args.run.now.of.cell) c.done_load-run.result) c.done_load-run.ensures.step refl

@@ -1,7 +1,9 @@
+use Rattle.std.proofs.Common.{refl}
 use Rattle.wait_class.proofs.Handed.{given_stored}
 use Rattle.wait_model.specs.declared.steps.Step.TheVariants as step
 use Rattle.wait_rule.specs.Queues.{index}
 use Rattle.count_sem.proofs.DownTakes.{off_holds, off_may, off_turned}
+use Rattle.wait_class.proofs.AwakeSteps.{awake_stored}
 use Rattle.count_sem.proofs.downs.off_event.Goals as goal
 
 pub remove-requires-clause-held : goal.remove-requires-clause-held
@@ -18,3 +20,7 @@ returns-clause-turned c = off_turned c.args.task.now c.args.run.now c.requires.a
 pub returns-clause-given : goal.returns-clause-given
 returns-clause-given c = given_stored c.args.task.now c.remove.new.task (step.Unqueue (index c.number-me.result 0))
     c.remove.ensures.removed.is
+
+pub returns-clause-awake : goal.returns-clause-awake
+returns-clause-awake c = awake_stored c.args.task.now c.remove.new.task (step.Unqueue (index c.number-me.result 0))
+    c.remove.ensures.removed.is refl

@@ -1,5 +1,5 @@
 use Rattle.std.proofs.Common.{◌-◌}
-use Rattle.count_sem.proofs.DownTakes.{store_gives, take_counted, take_some, take_turned}
+use Rattle.count_sem.proofs.DownTakes.{store_awake, store_gives, take_counted, take_some, take_turned}
 use Rattle.count_sem.proofs.downs.take_event.Goals as goal
 
 pub lower_one-requires-clause-counted : goal.lower_one-requires-clause-counted
@@ -14,4 +14,8 @@ returns-clause-turned c = take_turned c.args.task.now c.args.run.now c.requires.
 
 pub returns-clause-given : goal.returns-clause-given
 returns-clause-given c = store_gives c.args.task.now c.lower_one.new.task c.args.run.now.of.cell
+    (c.args.run.now.of.count - 1) c.lower_one.ensures
+
+pub returns-clause-awake : goal.returns-clause-awake
+returns-clause-awake c = store_awake c.args.task.now c.lower_one.new.task c.args.run.now.of.cell
     (c.args.run.now.of.count - 1) c.lower_one.ensures

@@ -1,117 +1,193 @@
 use Rattle.std.proofs.Common.{◌∙◌, ◌-◌, true, false, subst, sym}
 use Rattle.wq_head.specs.Roused.{RousesNone}
-use Rattle.wq_head.proofs.RousedTasks.{none_unlocked, rousing_on}
+use Rattle.wq_head.proofs.RousedTasks.{none_looked, none_unlocked, rousing_from, rousing_none, rousing_on}
 use Rattle.completion_cell.proofs.CellRousing.{none_set}
 use Rattle.completion_cell.proofs.Completing.{rise_none}
-use Rattle.count_sem.proofs.DownPasses.{passed_clean, passed_down}
-use Rattle.count_sem.proofs.HandingOn.{alone_owes, kept_alone, pass_head, pass_high, pass_holds, passed_holds, passed_on, passed_owes, passed_rises, passing_counted, passing_some, passing_up}
+use Rattle.wait_class.specs.declared.stages.Turn.TheVariants as turn
+use Rattle.wait_leave.proofs.Ways.{under_way_is}
+use Rattle.count_sem.specs.DownLeaves.{down_exits}
+use Rattle.count_sem.specs.Downs.{down_table}
+use Rattle.count_sem.specs.declared.downs.DownOutcome.TheVariants as outcome
+use Rattle.count_sem.proofs.DownLeaving.{ends_until, on_way_clean}
+use Rattle.count_sem.proofs.DownPasses.{passed_down}
+use Rattle.count_sem.proofs.FoundWaiters.{nobody_in, waiter_in}
+use Rattle.count_sem.proofs.HandingOn.{
+  alone_owes,
+  given_holds,
+  given_owes,
+  given_rises,
+  kept_alone,
+  looking_counted,
+  looking_holds,
+  looking_some,
+  looking_up,
+  lowered_head,
+  lowered_holds,
+  lowered_up,
+  pass_head,
+  pass_high,
+  pass_holds,
+  passed_on,
+}
 use Rattle.count_sem.proofs.passes.hand_on.Goals as goal
 
-pub select_tries-requires-clause-up : goal.select_tries-requires-clause-up
-select_tries-requires-clause-up c = c.requires.ended.up
+pub finds_waiter-requires-clause-up : goal.finds_waiter-requires-clause-up
+finds_waiter-requires-clause-up c = c.requires.ended.up
 
-pub select_tries-requires-clause-held : goal.select_tries-requires-clause-held
-select_tries-requires-clause-held c = pass_holds c.args.task.now c.args.wait.now c.requires.ended
+pub finds_waiter-requires-clause-held : goal.finds_waiter-requires-clause-held
+finds_waiter-requires-clause-held c = pass_holds c.args.task.now c.args.wait.now c.requires.ended
 
-pub select_tries-requires-clause-head : goal.select_tries-requires-clause-head
-select_tries-requires-clause-head c = pass_head c.args.task.now c.args.wait.now c.requires.ended c.head_of.result
-    c.head_of.ensures
+pub finds_waiter-requires-clause-head : goal.finds_waiter-requires-clause-head
+finds_waiter-requires-clause-head c = pass_head c.args.task.now c.args.wait.now c.requires.ended c.head_of-head.result
+    c.head_of-head.ensures
 
-pub select_tries-requires-clause-simple : goal.select_tries-requires-clause-simple
-select_tries-requires-clause-simple c = pass_high c.args.task.now c.args.wait.now c.requires.ended c.head_of.result
-    c.head_of.ensures
+pub finds_waiter-requires-clause-simple : goal.finds_waiter-requires-clause-simple
+finds_waiter-requires-clause-simple c = pass_high c.args.task.now c.args.wait.now c.requires.ended c.head_of-head.result
+    c.head_of-head.ensures
 
 pub lower_one-requires-clause-up : goal.lower_one-requires-clause-up
-lower_one-requires-clause-up c = passing_up c.args.task.now c.args.wait.now c.requires.ended c.select_tries.new.task
-    c.in_ok-selected.selected c.in_ok-selected.ensures.selected c.select_tries.ensures.hold
+lower_one-requires-clause-up c = looking_up c.args.task.now c.args.wait.now c.requires.ended c.finds_waiter.new.task c.finds_waiter.ensures.looks
 
 pub lower_one-requires-clause-cell : goal.lower_one-requires-clause-cell
 lower_one-requires-clause-cell c = c.requires.ended.trail.there
 
 pub lower_one-requires-clause-counted : goal.lower_one-requires-clause-counted
-lower_one-requires-clause-counted c = passing_counted c.args.task.now c.args.wait.now c.requires.ended
-    c.select_tries.new.task c.in_ok-selected.selected c.in_ok-selected.ensures.selected c.select_tries.ensures.hold
-    c.if-selected-eq1.true
+lower_one-requires-clause-counted c = looking_counted c.args.task.now c.args.wait.now c.requires.ended c.finds_waiter.new.task c.finds_waiter.ensures.looks c.finds_waiter.ensures.whole
+    (waiter_in c.finds_waiter.new.task c.finds_waiter.result c.if-finds_waiter.true c.finds_waiter.ensures.tells)
 
 pub lower_one-requires-clause-some : goal.lower_one-requires-clause-some
-lower_one-requires-clause-some c = passing_some c.args.task.now c.args.wait.now c.requires.ended
-    c.select_tries.new.task c.in_ok-selected.selected c.in_ok-selected.ensures.selected c.select_tries.ensures.hold
-    c.if-selected-eq1.true
+lower_one-requires-clause-some c = looking_some c.args.task.now c.args.wait.now c.requires.ended c.finds_waiter.new.task c.finds_waiter.ensures.looks c.finds_waiter.ensures.whole
+    (waiter_in c.finds_waiter.new.task c.finds_waiter.result c.if-finds_waiter.true c.finds_waiter.ensures.tells)
+
+pub select_tries-requires-clause-up : goal.select_tries-requires-clause-up
+select_tries-requires-clause-up c = lowered_up c.args.task.now c.args.wait.now c.requires.ended c.finds_waiter.new.task c.finds_waiter.ensures.looks c.finds_waiter.ensures.whole
+    (waiter_in c.finds_waiter.new.task c.finds_waiter.result c.if-finds_waiter.true c.finds_waiter.ensures.tells) c.lower_one.new.task c.lower_one.ensures
+
+pub select_tries-requires-clause-held : goal.select_tries-requires-clause-held
+select_tries-requires-clause-held c = lowered_holds c.args.task.now c.args.wait.now c.requires.ended c.finds_waiter.new.task c.finds_waiter.ensures.looks c.finds_waiter.ensures.whole
+    (waiter_in c.finds_waiter.new.task c.finds_waiter.result c.if-finds_waiter.true c.finds_waiter.ensures.tells) c.lower_one.new.task c.lower_one.ensures
+
+pub select_tries-requires-clause-head : goal.select_tries-requires-clause-head
+select_tries-requires-clause-head c = lowered_head c.args.task.now c.args.wait.now c.requires.ended c.finds_waiter.new.task c.finds_waiter.ensures.looks c.finds_waiter.ensures.whole
+    (waiter_in c.finds_waiter.new.task c.finds_waiter.result c.if-finds_waiter.true c.finds_waiter.ensures.tells) c.lower_one.new.task c.lower_one.ensures
+    c.head_of-head.result c.head_of-head.ensures
+
+pub select_tries-requires-clause-simple : goal.select_tries-requires-clause-simple
+select_tries-requires-clause-simple c = pass_high c.args.task.now c.args.wait.now c.requires.ended c.head_of-head.result
+    c.head_of-head.ensures
 
 pub give_back-requires-clause-held : goal.give_back-requires-clause-held
-give_back-requires-clause-held c = (passed_holds c.args.task.now c.args.wait.now c.requires.ended
-    c.select_tries.new.task c.in_ok-selected.selected c.in_ok-selected.ensures.selected c.select_tries.ensures.hold
-    c.if-selected-eq1.true c.lower_one.new.task c.lower_one.ensures).locked
+give_back-requires-clause-held c = (given_holds c.args.task.now c.args.wait.now c.requires.ended c.finds_waiter.new.task c.finds_waiter.ensures.looks c.finds_waiter.ensures.whole
+    (waiter_in c.finds_waiter.new.task c.finds_waiter.result c.if-finds_waiter.true c.finds_waiter.ensures.tells) c.lower_one.new.task c.lower_one.ensures
+    c.select_tries.new.task
+    c.in_ok-select_tries.field-0 c.in_ok-select_tries.ensures.selected c.select_tries.ensures.hold).locked
 
 pub give_back-requires-clause-agreed : goal.give_back-requires-clause-agreed
-give_back-requires-clause-agreed c = (passed_holds c.args.task.now c.args.wait.now c.requires.ended
-    c.select_tries.new.task c.in_ok-selected.selected c.in_ok-selected.ensures.selected c.select_tries.ensures.hold
-    c.if-selected-eq1.true c.lower_one.new.task c.lower_one.ensures).agreed
+give_back-requires-clause-agreed c = (given_holds c.args.task.now c.args.wait.now c.requires.ended c.finds_waiter.new.task c.finds_waiter.ensures.looks c.finds_waiter.ensures.whole
+    (waiter_in c.finds_waiter.new.task c.finds_waiter.result c.if-finds_waiter.true c.finds_waiter.ensures.tells) c.lower_one.new.task c.lower_one.ensures
+    c.select_tries.new.task
+    c.in_ok-select_tries.field-0 c.in_ok-select_tries.ensures.selected c.select_tries.ensures.hold).agreed
 
 pub give_back-requires-clause-rise : goal.give_back-requires-clause-rise
-give_back-requires-clause-rise c = passed_rises c.args.task.now c.args.wait.now c.requires.ended
-    c.select_tries.new.task c.in_ok-selected.selected c.in_ok-selected.ensures.selected c.select_tries.ensures.hold
-    c.if-selected-eq1.true c.lower_one.new.task c.lower_one.ensures c.in_ok-selected.ensures.rises
+give_back-requires-clause-rise c = given_rises c.args.task.now c.args.wait.now c.requires.ended c.finds_waiter.new.task c.finds_waiter.ensures.looks c.finds_waiter.ensures.whole
+    (waiter_in c.finds_waiter.new.task c.finds_waiter.result c.if-finds_waiter.true c.finds_waiter.ensures.tells) c.lower_one.new.task c.lower_one.ensures
+    c.select_tries.new.task
+    c.in_ok-select_tries.field-0 c.in_ok-select_tries.ensures.selected c.select_tries.ensures.hold
+    c.in_ok-select_tries.ensures.rises
 
 pub give_back-requires-clause-permits : goal.give_back-requires-clause-permits
-give_back-requires-clause-permits c = passed_owes c.args.task.now c.args.wait.now c.requires.ended
-    c.select_tries.new.task c.in_ok-selected.selected c.in_ok-selected.ensures.selected c.select_tries.ensures.hold
-    c.if-selected-eq1.true c.lower_one.new.task c.lower_one.ensures
+give_back-requires-clause-permits c = given_owes c.args.task.now c.args.wait.now c.requires.ended c.finds_waiter.new.task c.finds_waiter.ensures.looks c.finds_waiter.ensures.whole
+    (waiter_in c.finds_waiter.new.task c.finds_waiter.result c.if-finds_waiter.true c.finds_waiter.ensures.tells) c.lower_one.new.task c.lower_one.ensures
+    c.select_tries.new.task
+    c.in_ok-select_tries.field-0 c.in_ok-select_tries.ensures.selected c.select_tries.ensures.hold
 
-pub returns-then-selected-eq1-clause-passed : goal.returns-then-selected-eq1-clause-passed
-returns-then-selected-eq1-clause-passed c = passed_on c.args.task.now c.args.wait.now c.requires.ended
-    c.select_tries.new.task c.in_ok-selected.selected c.in_ok-selected.ensures.selected c.select_tries.ensures.hold
-    c.if-selected-eq1.true c.lower_one.new.task c.lower_one.ensures c.give_back.new.task c.give_back.ensures.given
+passed_then : goal.returns-then-finds_waiter-clause-passed
+passed_then c = passed_on c.args.task.now c.args.wait.now c.requires.ended c.finds_waiter.new.task c.finds_waiter.ensures.looks c.finds_waiter.ensures.whole
+    (waiter_in c.finds_waiter.new.task c.finds_waiter.result c.if-finds_waiter.true c.finds_waiter.ensures.tells) c.lower_one.new.task c.lower_one.ensures
+    c.select_tries.new.task
+    c.in_ok-select_tries.field-0 c.in_ok-select_tries.ensures.selected c.select_tries.ensures.hold
+    c.give_back.new.task c.give_back.ensures.given
 
-pub returns-then-selected-eq1-clause-rouses : goal.returns-then-selected-eq1-clause-rouses
-returns-then-selected-eq1-clause-rouses c = rousing_on c.args.task.now c.select_tries.new.task c.give_back.new.task
+pub returns-then-finds_waiter-clause-passed : goal.returns-then-finds_waiter-clause-passed
+returns-then-finds_waiter-clause-passed c = passed_then c
+
+pub returns-then-finds_waiter-clause-rouses : goal.returns-then-finds_waiter-clause-rouses
+returns-then-finds_waiter-clause-rouses c = rousing_from c.args.task.now c.lower_one.new.task c.give_back.new.task
     c.select_tries.new.rousing
-    (subst (RousesNone c.lower_one.new.task) (sym c.give_back.ensures.given)
-    (none_unlocked c.lower_one.new.task c.lower_one.new.task.at true)
-    ∙ none_set c.args.wait.now.of.cell (c.args.wait.now.of.count - 1) c.select_tries.new.task c.lower_one.new.task
-    c.lower_one.ensures) c.select_tries.ensures.rouses
+    (none_set c.args.wait.now.of.cell (c.args.wait.now.of.count - 1) c.finds_waiter.new.task c.lower_one.new.task
+    c.lower_one.ensures ∙ none_looked c.args.task.now c.finds_waiter.new.task c.finds_waiter.ensures.looks)
+    (rousing_on c.lower_one.new.task c.select_tries.new.task c.give_back.new.task c.select_tries.new.rousing
+    (subst (RousesNone c.select_tries.new.task) (sym c.give_back.ensures.given)
+    (none_unlocked c.select_tries.new.task c.select_tries.new.task.at true)) c.select_tries.ensures.rouses)
+
+pub returns-in_err-select_tries-clause-rouses : goal.returns-in_err-select_tries-clause-rouses
+returns-in_err-select_tries-clause-rouses c = rousing_from c.args.task.now c.lower_one.new.task c.select_tries.new.task
+    c.select_tries.new.rousing
+    (none_set c.args.wait.now.of.cell (c.args.wait.now.of.count - 1) c.finds_waiter.new.task c.lower_one.new.task
+    c.lower_one.ensures ∙ none_looked c.args.task.now c.finds_waiter.new.task c.finds_waiter.ensures.looks)
+    c.select_tries.ensures.rouses
+
+pub returns-then-finds_waiter-clause-clean : goal.returns-then-finds_waiter-clause-clean
+returns-then-finds_waiter-clause-clean c = λ p i. on_way_clean (Unit {0}) p c.args.task.now c.give_back.new.task
+    c.args.wait.now outcome.Passing
+    (under_way_is (Unit {0}) down_table down_exits p c.args.task.now c.args.wait.now (turn.Done outcome.Passing) i)
+    (passed_then c)
+
+pub returns-then-finds_waiter-clause-ends : goal.returns-then-finds_waiter-clause-ends
+returns-then-finds_waiter-clause-ends c = λ start f cell state fresh a. passed_down start c.args.task.now
+    c.give_back.new.task f c.args.wait.now cell state fresh a (passed_then c)
+
+pub returns-then-finds_waiter-clause-clean_out : goal.returns-then-finds_waiter-clause-clean_out
+returns-then-finds_waiter-clause-clean_out c = λ p i. on_way_clean (Unit {0}) p c.args.task.now c.give_back.new.task
+    c.args.wait.now outcome.Passing i (passed_then c)
+
+pub returns-then-finds_waiter-clause-ends_out : goal.returns-then-finds_waiter-clause-ends_out
+returns-then-finds_waiter-clause-ends_out c = λ start f cell state fresh w. ends_until (Unit {0}) start c.args.task.now
+    c.give_back.new.task f c.args.wait.now cell state fresh outcome.Passing w (passed_then c)
+
+-- nobody was queued
+pub give_back-requires-2-clause-held : goal.give_back-requires-2-clause-held
+give_back-requires-2-clause-held c = (looking_holds c.args.task.now c.args.wait.now c.requires.ended c.finds_waiter.new.task c.finds_waiter.ensures.looks).locked
+
+pub give_back-requires-2-clause-agreed : goal.give_back-requires-2-clause-agreed
+give_back-requires-2-clause-agreed c = (looking_holds c.args.task.now c.args.wait.now c.requires.ended c.finds_waiter.new.task c.finds_waiter.ensures.looks).agreed
 
 pub give_back-requires-2-clause-rise : goal.give_back-requires-2-clause-rise
-give_back-requires-2-clause-rise c = rise_none c.select_tries.new.task
+give_back-requires-2-clause-rise c = rise_none c.finds_waiter.new.task
 
 pub give_back-requires-2-clause-permits : goal.give_back-requires-2-clause-permits
-give_back-requires-2-clause-permits c = alone_owes c.args.task.now c.args.wait.now c.requires.ended
-    c.select_tries.new.task c.in_ok-selected.selected c.in_ok-selected.ensures.selected c.select_tries.ensures.hold
-    c.if-selected-eq1.false
+give_back-requires-2-clause-permits c = alone_owes c.args.task.now c.args.wait.now c.requires.ended c.finds_waiter.new.task c.finds_waiter.ensures.looks c.finds_waiter.ensures.whole
+    (nobody_in c.finds_waiter.new.task c.finds_waiter.result c.if-finds_waiter.false c.finds_waiter.ensures.tells)
+
+alone : goal.returns-clause-passed
+alone c = kept_alone c.args.task.now c.args.wait.now c.requires.ended c.finds_waiter.new.task c.finds_waiter.ensures.looks c.finds_waiter.ensures.whole
+    (nobody_in c.finds_waiter.new.task c.finds_waiter.result c.if-finds_waiter.false c.finds_waiter.ensures.tells)
+    c.give_back-2.new.task c.give_back-2.ensures.given
 
 pub returns-clause-passed : goal.returns-clause-passed
-returns-clause-passed c = kept_alone c.args.task.now c.args.wait.now c.requires.ended
-    c.select_tries.new.task c.in_ok-selected.selected c.in_ok-selected.ensures.selected c.select_tries.ensures.hold
-    c.if-selected-eq1.false c.give_back-2.new.task c.give_back-2.ensures.given
+returns-clause-passed c = alone c
 
 pub returns-clause-rouses : goal.returns-clause-rouses
-returns-clause-rouses c = rousing_on c.args.task.now c.select_tries.new.task c.give_back-2.new.task
-    c.select_tries.new.rousing
-    (subst (RousesNone c.select_tries.new.task) (sym c.give_back-2.ensures.given)
-    (none_unlocked c.select_tries.new.task c.select_tries.new.task.at false)) c.select_tries.ensures.rouses
-
-pub returns-then-selected-eq1-clause-clean : goal.returns-then-selected-eq1-clause-clean
-returns-then-selected-eq1-clause-clean c = λ p i. passed_clean i.old c.args.task.now c.give_back.new.task i.began c.args.wait.now i.start i.came
-    (passed_on c.args.task.now c.args.wait.now c.requires.ended c.select_tries.new.task
-    c.in_ok-selected.selected c.in_ok-selected.ensures.selected c.select_tries.ensures.hold c.if-selected-eq1.true
-    c.lower_one.new.task c.lower_one.ensures c.give_back.new.task c.give_back.ensures.given) i.clean i.told
-
-pub returns-then-selected-eq1-clause-ends : goal.returns-then-selected-eq1-clause-ends
-returns-then-selected-eq1-clause-ends c = λ start f cell state fresh a. passed_down start c.args.task.now c.give_back.new.task f c.args.wait.now cell state
-    fresh a
-    (passed_on c.args.task.now c.args.wait.now c.requires.ended c.select_tries.new.task
-    c.in_ok-selected.selected c.in_ok-selected.ensures.selected c.select_tries.ensures.hold c.if-selected-eq1.true
-    c.lower_one.new.task c.lower_one.ensures c.give_back.new.task c.give_back.ensures.given)
+returns-clause-rouses c = rousing_on c.args.task.now c.args.task.now c.give_back-2.new.task c.args.rousing.now
+    (subst (RousesNone c.finds_waiter.new.task) (sym c.give_back-2.ensures.given)
+    (none_unlocked c.finds_waiter.new.task c.finds_waiter.new.task.at false)
+    ∙ none_looked c.args.task.now c.finds_waiter.new.task c.finds_waiter.ensures.looks)
+    (rousing_none c.args.task.now c.args.rousing.now c.requires.none)
 
 pub returns-clause-clean : goal.returns-clause-clean
-returns-clause-clean c = λ p i. passed_clean i.old c.args.task.now c.give_back-2.new.task i.began c.args.wait.now i.start i.came
-    (kept_alone c.args.task.now c.args.wait.now c.requires.ended c.select_tries.new.task
-    c.in_ok-selected.selected c.in_ok-selected.ensures.selected c.select_tries.ensures.hold c.if-selected-eq1.false
-    c.give_back-2.new.task c.give_back-2.ensures.given) i.clean i.told
+returns-clause-clean c = λ p i. on_way_clean (Unit {0}) p c.args.task.now c.give_back-2.new.task
+    c.args.wait.now outcome.Passing
+    (under_way_is (Unit {0}) down_table down_exits p c.args.task.now c.args.wait.now (turn.Done outcome.Passing) i)
+    (alone c)
 
 pub returns-clause-ends : goal.returns-clause-ends
-returns-clause-ends c = λ start f cell state fresh a. passed_down start c.args.task.now c.give_back-2.new.task f c.args.wait.now cell state
-    fresh a
-    (kept_alone c.args.task.now c.args.wait.now c.requires.ended c.select_tries.new.task
-    c.in_ok-selected.selected c.in_ok-selected.ensures.selected c.select_tries.ensures.hold c.if-selected-eq1.false
-    c.give_back-2.new.task c.give_back-2.ensures.given)
+returns-clause-ends c = λ start f cell state fresh a. passed_down start c.args.task.now c.give_back-2.new.task f
+    c.args.wait.now cell state fresh a (alone c)
+
+pub returns-clause-clean_out : goal.returns-clause-clean_out
+returns-clause-clean_out c = λ p i. on_way_clean (Unit {0}) p c.args.task.now c.give_back-2.new.task
+    c.args.wait.now outcome.Passing i (alone c)
+
+pub returns-clause-ends_out : goal.returns-clause-ends_out
+returns-clause-ends_out c = λ start f cell state fresh w. ends_until (Unit {0}) start c.args.task.now
+    c.give_back-2.new.task f c.args.wait.now cell state fresh outcome.Passing w (alone c)

@@ -1,0 +1,9 @@
+use Rattle.count_sem.proofs.AnsweredTries.{tries_counted}
+use Rattle.count_sem.proofs.AnsweredUps.{ups_counted}
+use Rattle.count_sem.proofs.laws.answers_count_permits.Goals as goal
+
+pub returns-clause-ups : goal.returns-clause-ups
+returns-clause-ups c = ups_counted
+
+pub returns-clause-tries : goal.returns-clause-tries
+returns-clause-tries c = tries_counted

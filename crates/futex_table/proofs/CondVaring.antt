@@ -17,7 +17,7 @@ use Rattle.wait_event.specs.Ends.{wait_change}
 use Rattle.futex_table.specs.declared.cond_vars.CondEnd.{CondEnd}
 use Rattle.futex_table.specs.declared.futexes.FutexEnd.{FutexEnd}
 use Rattle.futex_table.specs.declared.futexes.FutexEnd.TheVariants as futex_end
-use Rattle.futex_table.specs.CondVars.{cond_answer, cond_change, is_held}
+use Rattle.futex_table.specs.CondVars.{cond_answer, cond_change, is_mutex_held}
 use Rattle.futex_table.specs.Holding.{HoldsMutex, StayHeld, holds_mutex}
 use Rattle.futex_table.specs.Mutexes.{is_locked}
 use Rattle.futex_table.proofs.Mutexing.{one_holds}
@@ -160,8 +160,8 @@ cond_carries m old loaded unlocked waited new a b c d =
     (of_wait m i unlocked waited third)) (of_wait m i waited new fourth)
 
 -- whether the mutex is held
-answer_held : (end : Result (Unit {0}) FutexEnd) (lock : Result (Unit {0}) Worn)
-    → is_held (cond_answer end lock) ≡ is_locked lock
+pub answer_held : (end : Result (Unit {0}) FutexEnd) (lock : Result (Unit {0}) Worn)
+    → is_mutex_held (cond_answer end lock) ≡ is_locked lock
 answer_held (Err (futex_end.Worn h p)) lock = refl
 answer_held (Err (futex_end.Again seen)) (Err w) = refl
 answer_held (Err (futex_end.Again seen)) (Ok u) = refl
@@ -171,10 +171,10 @@ answer_held (Ok v) (Err w) = refl
 answer_held (Ok v) (Ok u) = refl
 
 pub cond_held : (b : Bool) (end : Result (Unit {0}) FutexEnd) (lock : Result (Unit {0}) Worn) (k : Known) (m : ℕ)
-    → b ≡ false → holds_mutex k m ≡ (b || is_locked lock) → holds_mutex k m ≡ is_held (cond_answer end lock)
+    → b ≡ false → holds_mutex k m ≡ (b || is_locked lock) → holds_mutex k m ≡ is_mutex_held (cond_answer end lock)
 cond_held b end lock k m free is = is ∙ (ap (λ (c : Bool). c || is_locked lock) free ∙ sym (answer_held end lock))
 
-pub answered_holds : (k : Known) (m : ℕ) (o : Result (Unit {0}) CondEnd) → holds_mutex k m ≡ is_held o
+pub answered_holds : (k : Known) (m : ℕ) (o : Result (Unit {0}) CondEnd) → holds_mutex k m ≡ is_mutex_held o
     → IfOk o (λ _. HoldsMutex k m)
 answered_holds k m (Ok u) is = is
 answered_holds k m (Err e) is = tt

@@ -18,7 +18,7 @@ use Rattle.wait_class.specs.Laws.{AddsOwn, HasJoined, IsWornFor}
 use Rattle.wait_class.specs.Queueing.{IsForBy, IsFormPlace, IsFormWorn, form_entry}
 use Rattle.wait_class.proofs.FormPlaces.{form_is, form_left, form_worn}
 use Rattle.wait_class.proofs.Ground.Keeping.{keeps_queued}
-use Rattle.futex_table.specs.FutexTables.{futex_doing, futex_table, word_of}
+use Rattle.futex_table.specs.FutexTables.{futex_doing, futex_table, futex_word}
 use Rattle.futex_table.specs.declared.waits.FutexStage.{FutexStage}
 use Rattle.futex_table.specs.declared.waits.FutexStage.TheVariants as stage
 use Rattle.futex_table.specs.declared.waits.FutexWait.{FutexWait}
@@ -28,28 +28,28 @@ queue_only stage.Queue here = refl
 queue_only s here = absurd (cc)
 
 -- the kind of its entry
-kind_is : (f : ℕ) → f < FIRST_SIMPLE → kind_for (word_of f) ≡ kind.Autoremove
+pub kind_is : (f : ℕ) → f < FIRST_SIMPLE → kind_for (futex_word f) ≡ kind.Autoremove
 kind_is f few = ap (λ (b : Bool). if b then kind.Autoremove else kind.Simple) (lt-ltb f FIRST_SIMPLE few)
 
-pub futex_for : (f : ℕ) → f < FIRST_SIMPLE → (w : Watch) → w ≡ word_of f → (k : Kind) → k ≡ kind_for w
+pub futex_for : (f : ℕ) → f < FIRST_SIMPLE → (w : Watch) → w ≡ futex_word f → (k : Kind) → k ≡ kind_for w
     → IsForBy forms.Tail w k
 futex_for f few w is k its = inl (f, is, few, inr (inl (its ∙ (ap kind_for is ∙ kind_is f few))))
 
-pub never_woken : {A : Type 0} (f : ℕ) → f < FIRST_SIMPLE → (w : Watch) → w ≡ word_of f → (k : Kind)
+pub never_woken : {A : Type 0} (f : ℕ) → f < FIRST_SIMPLE → (w : Watch) → w ≡ futex_word f → (k : Kind)
     → k ≡ kind_for w → k ≡ kind.Woken → A
 never_woken f few w is k its woken = absurd (let no : kind.Woken ≡ kind.Autoremove = sym woken
     ∙ (its ∙ (ap kind_for is ∙ kind_is f few)) in cc)
 
 module _ (r : FutexWait) (old new : Known) where
-  joined : HasAdded (IsFormPlace forms.Tail) old new 0 (form_entry forms.Tail (word_of r.futex)
-      (kind_for (word_of r.futex))) → HasJoined futex_table r stage.Queue old new
+  joined : HasAdded (IsFormPlace forms.Tail) old new 0 (form_entry forms.Tail (futex_word r.futex)
+      (kind_for (futex_word r.futex))) → HasJoined futex_table r stage.Queue old new
   joined x = record {
     seen = x.seen;
-    entry = form_entry forms.Tail (word_of r.futex) (kind_for (word_of r.futex)) x.place;
+    entry = form_entry forms.Tail (futex_word r.futex) (kind_for (futex_word r.futex)) x.place;
     looks = x.looks;
     whole = x.whole;
     is_off = x.is_off;
-    placed = ap (form_entry forms.Tail (word_of r.futex) (kind_for (word_of r.futex)))
+    placed = ap (form_entry forms.Tail (futex_word r.futex) (kind_for (futex_word r.futex)))
         (sym (form_is x.seen x.low forms.Tail x.place x.sort));
     left = form_left x.seen x.low forms.Tail x.place x.sort;
     is = x.is;
@@ -59,7 +59,7 @@ module _ (r : FutexWait) (old new : Known) where
   }
 
   -- with the numbers that the code names
-  module _ (s : FutexStage) (here : futex_doing s ≡ doing.Queue) (c : Watch) (same : c ≡ word_of r.futex) (k : Kind)
+  module _ (s : FutexStage) (here : futex_doing s ≡ doing.Queue) (c : Watch) (same : c ≡ futex_word r.futex) (k : Kind)
       (its : k ≡ kind_for c) where
     add_joins : HasAdded (IsFormPlace forms.Tail) old new 0 (form_entry forms.Tail c k)
         → HasJoined futex_table r s old new

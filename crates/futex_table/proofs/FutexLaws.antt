@@ -1,5 +1,5 @@
 -- The table of a wait on a futex keeps the laws.
-use Rattle.std.proofs.Common.{ap, sym, refl, inr, subst, arith}
+use Rattle.std.proofs.Common.{ap, sym, refl, inl, inr, subst, arith}
 use Rattle.std.proofs.lemmas.Bool.Decides.{nat_tests}
 use Rattle.std.specs.Prelude.{ℕ, ◌≡◌, ◌≤◌, ◌==◌, Bool, true, false, if◌then◌else◌, is_some, Option, Some, None, [], ◌∷◌}
 use Rattle.wait_model.specs.declared.points.FinishPoint.TheVariants as finishing
@@ -49,27 +49,13 @@ use Rattle.wait_class.proofs.Ground.Standing.{home_waits, owner_own}
 use Rattle.wait_class.proofs.Stays.{wait_stays}
 use Rattle.wait_class.proofs.Turns.{may_by}
 use Rattle.wait_class.proofs.Ways.{go_if, load_fork, sleep_by, way}
-use Rattle.futex_table.specs.FutexTables.{FutexTrail, IsFutex, futex_depth, futex_doing, futex_head, futex_loaded, futex_table, leaves_first, word_of}
+use Rattle.futex_table.specs.FutexTables.{FutexTrail, FutexTrailEnd, IsFutex, StandsByValue, futex_depth, futex_doing, futex_head, futex_loaded, futex_table, futex_word, leaves_first, slept_steps}
+use Rattle.futex_table.specs.declared.waits.FutexOutcome.TheVariants as outcome
 use Rattle.futex_table.specs.declared.waits.FutexStage.{FutexStage}
 use Rattle.futex_table.specs.declared.waits.FutexStage.TheVariants as stage
 use Rattle.futex_table.specs.declared.waits.FutexWait.{FutexWait}
 use Rattle.futex_table.proofs.FutexHeads.{futex_low}
-use Rattle.futex_table.proofs.FutexTrails.{
-  ends_snoc,
-  futex_rises,
-  futex_still,
-  held_off,
-  joins,
-  left_more,
-  loaded_more,
-  loads,
-  never_stays,
-  out_calm,
-  peeked_off,
-  queued_more,
-  taken_out,
-  takes_entry,
-}
+use Rattle.futex_table.proofs.FutexTrails.{ends_snoc, futex_rises, futex_still, gives_at_once, held_off, joins, leaves_entry, left_by_more, left_more, loaded_more, loads, never_stays, off_at_once, out_calm, peeked_off, queued_more, stands_from, stands_more, taken_out, takes_at_once, takes_entry}
 
 same_value : (v w : ℕ) → (v == w) ≡ true → v ≡ w
 same_value v w is = grind (arith, nat_tests)
@@ -120,18 +106,18 @@ module _ (r : FutexWait) where
 
   pub load_law : (v : ℕ) → LoadLaw futex_table r stage.Load v (record r { seen = v }) (futex_loaded r stage.Load v)
   load_law v =
-      let e : Event = event.Load (number_of (word_of r.futex)) v in
+      let e : Event = event.Load (number_of (futex_word r.futex)) v in
       let q : FutexWait = record r { seen = v } in
       load_fork futex_table r stage.Load refl v q (v == r.expected) (turn.Again stage.Queue) (turn.Again stage.Again)
       (go e (at.Prepare preparing.Queue)) (go e (at.Leave leaving.Unlock)) e refl (λ f. f) (λ x is. tt)
       (λ me. go_if (v == r.expected) e (at.Prepare preparing.Queue) (at.Leave leaving.Unlock)) (refl, refl)
       (refl, refl) (λ k me. refl) (λ me k. (refl, tt, tt))
       (way futex_table r stage.Load q (turn.Again stage.Queue) refl refl refl refl refl (λ σ s. s)
-      (home_waits (word_of r.futex)))
+      (home_waits (futex_word r.futex)))
       (way futex_table r stage.Load q (turn.Again stage.Again) refl refl refl refl refl (λ σ s. s) (λ o h. h))
       (λ old new is calm u. (
         out_calm old new _ calm refl u.0,
-        loads old new r.futex r.expected (subst (λ (n : ℕ). Calm (step.Load (word_of r.futex) n ∷ []) old new)
+        loads old new r.futex r.expected (subst (λ (n : ℕ). Calm (step.Load (futex_word r.futex) n ∷ []) old new)
             (same_value v r.expected is) calm) u.1,
       ))
       (λ old new is calm u. (loads old new r.futex v calm u.1, is))
@@ -264,7 +250,8 @@ module _ (r : FutexWait) where
     leaves = record { head = refl; ticket = refl };
     state = λ σ s. s;
     home = λ h. h;
-    trail = λ old new w calm shows u. tt;
+    trail = λ old new w calm shows u. stands_from old new r (slept_steps r u.found) _ calm
+        (refl, (refl, (refl, (refl, tt)))) u.queued;
   }
   peek_law None = record {
     free = refl;
@@ -321,14 +308,14 @@ module _ (r : FutexWait) where
   state_off true σ s = s
   state_off false σ s = s
 
-  home_off : (b : Bool) (o : Option Entry) → IsHome (post_of futex_table r stage.OffTurn).zone (word_of r.futex) o
+  home_off : (b : Bool) (o : Option Entry) → IsHome (post_of futex_table r stage.OffTurn).zone (futex_word r.futex) o
       → IsHome (turn_post futex_table r (leaves_first b)).zone (turn_post futex_table r (leaves_first b)).watch o
   home_off true o h = h
   home_off false o h = h
 
-  trail_off : (b : Bool) (k : Known) → TurnTrail futex_table k r (leaves_first b)
-  trail_off true k = tt
-  trail_off false k = tt
+  trail_off : (b : Bool) (k : Known) → StandsByValue k r → TurnTrail futex_table k r (leaves_first b)
+  trail_off true k u = u
+  trail_off false k u = u
 
   lock_off : LockLaw futex_table r stage.OffTurn
   lock_off =
@@ -348,7 +335,7 @@ module _ (r : FutexWait) where
         leaves = record { head = head_off looks; ticket = ticket_off looks };
         state = state_off looks;
         home = home_off looks;
-        trail = λ old new x calm u. trail_off looks new;
+        trail = λ old new x calm u. trail_off looks new (stands_more old new r _ calm (refl, tt) u);
       }
 
   gives_at : GiveLaw futex_table r stage.OffLook
@@ -396,7 +383,7 @@ module _ (r : FutexWait) where
         is,
         ends_snoc old new (step.Saw (index old.view.number 0) v) (step.Look w) calm.history,
       )
-      heeded false old new v w is calm u = tt
+      heeded false old new v w is calm u = stands_more old new r _ calm (refl, (refl, tt)) u
 
   pare_law : (hit : Bool) → PareLaw futex_table r (stage.Off hit)
   pare_law hit = record {
@@ -473,6 +460,89 @@ module _ (r : FutexWait) where
     permits = λ k fits at u. low k fits at;
   }
 
+  -- a wait that is left
+  leave_gives : (fresh : Bool) → GiveLaw futex_table r (stage.Leave fresh)
+  leave_gives true = record {
+    moves = record {
+      plain = tt;
+      falls = refl;
+      took = refl;
+      goes = λ me. refl;
+      is = λ me k x ok. (ok.0, refl);
+      finds = λ me k x ok. (tt, ok.1, tt);
+    };
+    leaves = record { head = refl; ticket = refl };
+    state = λ σ s. s;
+    home = tt;
+    permits = λ old mid w calm fits at u. low mid fits at;
+    trail = λ old new w calm shows u. (u.0, inl (off_at_once old new r.futex r.expected w calm shows u.1));
+  }
+  leave_gives false = record {
+    moves = record {
+      plain = tt;
+      falls = refl;
+      took = refl;
+      goes = λ me. refl;
+      is = λ me k x ok. (ok.0, refl);
+      finds = λ me k x ok. (tt, ok.1, tt);
+    };
+    leaves = record { head = refl; ticket = refl };
+    state = λ σ s. s;
+    home = tt;
+    permits = λ old mid w calm fits at u. low mid fits at;
+    trail = λ old new w calm shows u. held_off old new r.futex w calm shows;
+  }
+
+  leave_law : (b : Bool) → PareLaw futex_table r (stage.Leave b)
+  leave_law b = record {
+    held = record { holds = refl; head = refl };
+    opens = record { fresh = refl; zone = refl };
+    takes = λ e. record {
+      plain = refl;
+      falls = refl;
+      took = refl;
+      goes = λ me. refl;
+      is = λ me k x ok. owner_own me;
+      finds = λ me k x ok. (tt, ok, refl);
+    };
+    takes_leaves = record { head = refl; ticket = refl };
+    takes_state = λ σ s. s;
+    takes_home = tt;
+    takes_trail = left_at b;
+    gives = leave_gives b;
+  }
+    where
+      left_at : (fresh : Bool) (old new : Known) (w : ℕ)
+          → Calm (step.Saw (index old.view.number 0) w ∷ step.Unqueue (index old.view.number 0) ∷ []) old new
+          → is_some (entry_of w) ≡ true → FutexTrail old r (stage.Leave fresh)
+          → FutexTrail new r (stage.LeaveUnlock fresh)
+      left_at true old new w calm shows u = (u.0, takes_at_once old new r.futex r.expected w calm shows u.1)
+      left_at false old new w calm shows u = (u.0, leaves_entry old new r w calm shows u.1)
+
+  leave_unlock : (b : Bool) → UnlockLaw futex_table r (stage.LeaveUnlock b)
+  leave_unlock b = record {
+    held = record { holds = refl; head = refl };
+    fresh = refl;
+    moves = record {
+      plain = tt;
+      falls = refl;
+      took = refl;
+      goes = λ me. refl;
+      is = λ me k x ok. (ok, refl);
+      finds = λ me k x ok. (tt, tt, tt);
+    };
+    leaves = record { head = refl; ticket = refl };
+    state = λ σ s. s;
+    home = λ o h. h;
+    trail = left_behind b;
+    permits = λ k fits at u. low k fits at;
+  }
+    where
+      left_behind : (fresh : Bool) (old new : Known) → Calm (step.Unlock (futex_head r.futex) false ∷ []) old new
+          → FutexTrail old r (stage.LeaveUnlock fresh) → FutexTrailEnd new r (outcome.Left false)
+      left_behind true old new calm u = (u.0, inl (gives_at_once old new r.futex r.expected calm u.1))
+      left_behind false old new calm u = (u.0, inr (left_by_more old new r [] _ calm u.1))
+
   laws_at : (s : FutexStage) → LawOf (futex_doing s) futex_table r s
   laws_at stage.First = draw_first
   laws_at stage.Turn = lock_first
@@ -488,6 +558,8 @@ module _ (r : FutexWait) where
   laws_at stage.OffLook = heed_law
   laws_at (stage.Off hit) = pare_law hit
   laws_at (stage.OffUnlock hit) = unlock_off hit
+  laws_at (stage.Leave fresh) = leave_law fresh
+  laws_at (stage.LeaveUnlock fresh) = leave_unlock fresh
 
 depth_most : (s : FutexStage) → futex_depth s ≤ 6
 depth_most stage.Load = omega arith
@@ -498,6 +570,8 @@ depth_most stage.Unlock = omega arith
 depth_most stage.OffLook = omega arith
 depth_most (stage.Off hit) = omega arith
 depth_most (stage.OffUnlock hit) = omega arith
+depth_most (stage.Leave fresh) = omega arith
+depth_most (stage.LeaveUnlock fresh) = omega arith
 depth_most s = omega arith
 
 pub futex_lawful : IsLawfulTable futex_table

@@ -7,10 +7,12 @@ use Rattle.wait_model.specs.declared.watches.Aim.{Aim}
 use Rattle.wait_model.specs.declared.watches.Entry.{Entry}
 use Rattle.wait_model.specs.Fold.{after, is_off, view_of}
 use Rattle.wait_model.specs.Functions.{put}
+use Rattle.wait_model.specs.Histories.{Lacks}
 use Rattle.wait_model.specs.Views.{View, blank}
 use Rattle.wait_model.specs.Words.{entry_of}
 use Rattle.wait_model.proofs.Functions.{put_same}
 use Rattle.wait_model.proofs.HistoryLaws.HoldLooks.{after_snoc}
+use Rattle.wait_model.proofs.HistoryLaws.Stretches.{lacks_append}
 use Rattle.wait_rule.specs.declared.journal.Item.{Item}
 use Rattle.wait_rule.specs.declared.journal.Item.TheVariants as item
 use Rattle.wait_rule.specs.Items.{steps_of}
@@ -24,7 +26,7 @@ use Rattle.wait_class.proofs.Histories.{ends_calm, ends_still, stored_history, u
 use Rattle.wait_class.proofs.Turns.{looks_history}
 use Rattle.wait_rule.proofs.TableSteps.ItemLists.{steps_append}
 use Rattle.wq_head.specs.Looks.{Looks}
-use Rattle.futex_table.specs.FutexTables.{AreSaws, FoundOff, FutexTrail, HasLoaded, HasQueuedBy, LeftForSignal, ShowsSignal, futex_head, futex_table, is_behind_sleep, word_of}
+use Rattle.futex_table.specs.FutexTables.{AreSaws, FoundOff, FutexTrail, HasLoadedWord, HasQueuedBy, LeftAtOnce, LeftByValue, LeftForSignal, ShowsSignal, StandsByValue, TakenAtOnce, futex_head, futex_table, futex_word, is_behind_futex_sleep, is_word_load}
 use Rattle.futex_table.specs.declared.waits.FutexStage.{FutexStage}
 use Rattle.futex_table.specs.declared.waits.FutexStage.TheVariants as stage
 use Rattle.futex_table.specs.declared.waits.FutexWait.{FutexWait}
@@ -72,20 +74,28 @@ never_stays old new w σ calm out queued =
     let no : false ≡ true = sym (ap (λ (o : Option Entry). is_some o) none) ∙ queued in absurd (cc)
 
 -- the load behind the lock
-pub loads : (old new : Known) (f v : ℕ) → Calm (step.Load (word_of f) v ∷ []) old new
-    → ((aim : Option Aim) × (w : ℕ) × EndsWith old (step.Lock (futex_head f) aim w ∷ [])) → HasLoaded new f v []
+pub loads : (old new : Known) (f v : ℕ) → Calm (step.Load (futex_word f) v ∷ []) old new
+    → ((aim : Option Aim) × (w : ℕ) × EndsWith old (step.Lock (futex_head f) aim w ∷ [])) → HasLoadedWord new f v []
 loads old new f v calm u = record {
   aim = u.0;
   word = u.1;
-  ends = ends_calm old new (step.Lock (futex_head f) u.0 u.1 ∷ []) (step.Load (word_of f) v ∷ []) calm u.2;
+  ends = ends_calm old new (step.Lock (futex_head f) u.0 u.1 ∷ []) (step.Load (futex_word f) v ∷ []) calm u.2;
 }
 
-pub loaded_more : (old new : Known) (f v : ℕ) (es : List Step) → Calm es old new → HasLoaded old f v []
-    → HasLoaded new f v es
+pub loaded_on : (old new : Known) (f v : ℕ) (more es : List Step) → Calm es old new → HasLoadedWord old f v more
+    → HasLoadedWord new f v (more ++ es)
+loaded_on old new f v more es calm u = record {
+  aim = u.aim;
+  word = u.word;
+  ends = ends_calm old new (step.Lock (futex_head f) u.aim u.word ∷ step.Load (futex_word f) v ∷ more) es calm u.ends;
+}
+
+pub loaded_more : (old new : Known) (f v : ℕ) (es : List Step) → Calm es old new → HasLoadedWord old f v []
+    → HasLoadedWord new f v es
 loaded_more old new f v es calm u = record {
   aim = u.aim;
   word = u.word;
-  ends = ends_calm old new (step.Lock (futex_head f) u.aim u.word ∷ step.Load (word_of f) v ∷ []) es calm u.ends;
+  ends = ends_calm old new (step.Lock (futex_head f) u.aim u.word ∷ step.Load (futex_word f) v ∷ []) es calm u.ends;
 }
 
 -- looks in a hold
@@ -113,11 +123,11 @@ looked_history old new l = ap history_of l.is ∙ steps_append old.view.items l.
 
 -- the entry is queued behind the load, and looks
 pub joins : (old mid new : Known) (r : FutexWait) → OnlyLooks old mid
-    → HasJoined futex_table r stage.Queue mid new → HasLoaded old r.futex r.expected [] → HasQueuedBy new r []
+    → HasJoined futex_table r stage.Queue mid new → HasLoadedWord old r.futex r.expected [] → HasQueuedBy new r []
 joins old mid new r looks x u =
     let q = step.Queue (index mid.view.number 0) x.entry in
     let one = step.Lock (futex_head r.futex) u.aim u.word in
-    let two = step.Load (word_of r.futex) r.expected in
+    let two = step.Load (futex_word r.futex) r.expected in
     let a = steps_of looks.items in
     let b = steps_of x.looks.items in
     let is : history_of new ≡ ((history_of old ++ a) ++ b) ++ q ∷ [] =
@@ -139,6 +149,8 @@ joins old mid new r looks x u =
       looks = a ++ b;
       entry = x.entry;
       saws = saws_on a b (saws_of looks.items looks.looks) (saws_of x.looks.items x.looks.looks);
+      watch = x.home.0;
+      kind = x.home.1;
       is = is ∙ (front ∙ (whole ∙ ap (λ (i : ℕ). u.ends.0 ++ one ∷ two ∷ ((a ++ b) ++ step.Queue i x.entry ∷ []))
           (own_same mid new number)));
     }
@@ -149,7 +161,7 @@ pub queued_more : (old new : Known) (r : FutexWait) (more es : List Step) → Ca
     → HasQueuedBy new r (more ++ es)
 queued_more old new r more es calm u =
     let one = step.Lock (futex_head r.futex) u.aim u.word in
-    let two = step.Load (word_of r.futex) r.expected in
+    let two = step.Load (futex_word r.futex) r.expected in
     let q = step.Queue (own_of old) u.entry in
     record {
       before = u.before;
@@ -158,6 +170,8 @@ queued_more old new r more es calm u =
       looks = u.looks;
       entry = u.entry;
       saws = u.saws;
+      watch = u.watch;
+      kind = u.kind;
       is = calm.history ∙ (ap (λ (l : List Step). l ++ es) u.is
           ∙ (append_assoc u.before (one ∷ two ∷ (u.looks ++ q ∷ more)) es
           ∙ (ap (λ (l : List Step). u.before ++ one ∷ two ∷ l) (append_assoc u.looks (q ∷ more) es)
@@ -169,7 +183,7 @@ queued_unmoved : (old new : Known) (r : FutexWait) (more : List Step) → Unmove
     → HasQueuedBy new r more
 queued_unmoved old new r more still u =
     let one = step.Lock (futex_head r.futex) u.aim u.word in
-    let two = step.Load (word_of r.futex) r.expected in
+    let two = step.Load (futex_word r.futex) r.expected in
     record {
       before = u.before;
       aim = u.aim;
@@ -177,6 +191,8 @@ queued_unmoved old new r more still u =
       looks = u.looks;
       entry = u.entry;
       saws = u.saws;
+      watch = u.watch;
+      kind = u.kind;
       is = still.history ∙ (u.is
           ∙ ap (λ (i : ℕ). u.before ++ one ∷ two ∷ (u.looks ++ step.Queue i u.entry ∷ more))
           (own_same old new still.number));
@@ -235,16 +251,106 @@ held_off old new f w calm off = record {
   );
 }
 
+-- its entry stands since, over more steps that load nothing
+pub stands_more : (old new : Known) (r : FutexWait) (es : List Step) → Calm es old new → Lacks is_word_load es
+    → StandsByValue old r → StandsByValue new r
+stands_more old new r es calm none u = record {
+  since = u.since ++ es;
+  queued = queued_more old new r u.since es calm u.queued;
+  unloaded = lacks_append is_word_load u.since es u.unloaded none;
+}
+
+pub stands_from : (old new : Known) (r : FutexWait) (more es : List Step) → Calm es old new
+    → Lacks is_word_load (more ++ es) → HasQueuedBy old r more → StandsByValue new r
+stands_from old new r more es calm none u = record {
+  since = more ++ es;
+  queued = queued_more old new r more es calm u;
+  unloaded = none;
+}
+
+-- a wait that is left takes its entry off, and gives the head back
+pub leaves_entry : (old new : Known) (r : FutexWait) (w : ℕ)
+    → Calm (step.Saw (own_of old) w ∷ step.Unqueue (own_of old) ∷ []) old new → is_some (entry_of w) ≡ true
+    → StandsByValue old r → LeftByValue new r.futex r.expected []
+leaves_entry old new r w calm shows u = record {
+  since = u.since;
+  unloaded = u.unloaded;
+  entry = w;
+  stood = shows;
+  queued = subst (λ (x : ℕ). HasQueuedBy new r (u.since ++ step.Saw x w ∷ step.Unqueue x ∷ []))
+      (own_same old new calm.number)
+      (queued_more old new r u.since (step.Saw (own_of old) w ∷ step.Unqueue (own_of old) ∷ []) calm u.queued);
+}
+
+pub left_by_more : (old new : Known) (r : FutexWait) (more es : List Step) → Calm es old new
+    → LeftByValue old r.futex r.expected more → LeftByValue new r.futex r.expected (more ++ es)
+left_by_more old new r more es calm u =
+    let last = step.Saw (own_of old) u.entry ∷ step.Unqueue (own_of old) ∷ more in
+    record {
+      since = u.since;
+      unloaded = u.unloaded;
+      entry = u.entry;
+      stood = u.stood;
+      queued = subst (λ (x : ℕ). HasQueuedBy new r (u.since ++ step.Saw x u.entry ∷ step.Unqueue x ∷ (more ++ es)))
+          (own_same old new calm.number)
+          (subst (λ (l : List Step). HasQueuedBy new r l) (append_assoc u.since last es)
+          (queued_more old new r (u.since ++ last) es calm u.queued));
+    }
+
+-- so does one that has queued none, where it had queued one before
+pub takes_at_once : (old new : Known) (f v w : ℕ)
+    → Calm (step.Saw (own_of old) w ∷ step.Unqueue (own_of old) ∷ []) old new → is_some (entry_of w) ≡ true
+    → HasLoadedWord old f v [] → TakenAtOnce new f v
+takes_at_once old new f v w calm shows u = record {
+  entry = w;
+  stood = shows;
+  loaded = subst (λ (x : ℕ). HasLoadedWord new f v (step.Saw x w ∷ step.Unqueue x ∷ [])) (own_same old new calm.number)
+      (loaded_on old new f v [] _ calm u);
+}
+
+pub taken_more : (old new : Known) (f v : ℕ) → Calm [] old new → TakenAtOnce old f v → TakenAtOnce new f v
+taken_more old new f v calm u = record {
+  entry = u.entry;
+  stood = u.stood;
+  loaded = subst (λ (x : ℕ). HasLoadedWord new f v (step.Saw x u.entry ∷ step.Unqueue x ∷ []))
+      (own_same old new calm.number)
+      (loaded_on old new f v (step.Saw (own_of old) u.entry ∷ step.Unqueue (own_of old) ∷ []) [] calm u.loaded);
+}
+
+off_steps : ℕ → ℕ → ℕ → Bool → List Step
+off_steps x h e b = step.Saw x e ∷ (if b then step.Unqueue x ∷ step.Unlock h false ∷ [] else step.Unlock h false ∷ [])
+
+pub gives_at_once : (old new : Known) (f v : ℕ) → Calm (step.Unlock (futex_head f) false ∷ []) old new
+    → TakenAtOnce old f v → LeftAtOnce new f v
+unfolding off_steps
+gives_at_once old new f v calm u = record {
+  entry = u.entry;
+  loaded = subst (λ (b : Bool). HasLoadedWord new f v (off_steps (own_of new) (futex_head f) u.entry b)) (sym u.stood)
+      (subst (λ (x : ℕ). HasLoadedWord new f v (off_steps x (futex_head f) u.entry true)) (own_same old new calm.number)
+      (loaded_on old new f v (step.Saw (own_of old) u.entry ∷ step.Unqueue (own_of old) ∷ []) _ calm u.loaded));
+}
+
+pub off_at_once : (old new : Known) (f v w : ℕ)
+    → Calm (step.Saw (own_of old) w ∷ step.Unlock (futex_head f) false ∷ []) old new → is_some (entry_of w) ≡ false
+    → HasLoadedWord old f v [] → LeftAtOnce new f v
+unfolding off_steps
+off_at_once old new f v w calm off u = record {
+  entry = w;
+  loaded = subst (λ (b : Bool). HasLoadedWord new f v (off_steps (own_of new) (futex_head f) w b)) (sym off)
+      (subst (λ (x : ℕ). HasLoadedWord new f v (off_steps x (futex_head f) w false)) (own_same old new calm.number)
+      (loaded_on old new f v [] _ calm u));
+}
+
 -- what stays where nothing was made
 module _ (old new : Known) (r : FutexWait) (calm : Calm [] old new) where
   abbrev still : Unmoved old new
   still = unmoved_by old new calm
 
-  loaded_still : (v : ℕ) → HasLoaded old r.futex v [] → HasLoaded new r.futex v []
+  loaded_still : (v : ℕ) → HasLoadedWord old r.futex v [] → HasLoadedWord new r.futex v []
   loaded_still v u = record {
     aim = u.aim;
     word = u.word;
-    ends = ends_still old new (step.Lock (futex_head r.futex) u.aim u.word ∷ step.Load (word_of r.futex) v ∷ []) still
+    ends = ends_still old new (step.Lock (futex_head r.futex) u.aim u.word ∷ step.Load (futex_word r.futex) v ∷ []) still
         u.ends;
   }
 
@@ -271,12 +377,16 @@ module _ (old new : Known) (r : FutexWait) (calm : Calm [] old new) where
   futex_still (stage.Off true) u = (u.0, u.1, ends_still old new (step.Look u.0 ∷ []) still u.2)
   futex_still (stage.OffUnlock true) u = left_more old new r [] calm u
   futex_still (stage.OffUnlock false) u = out_still u
-  futex_still stage.OffLock u = u
-  futex_still stage.OffTurn u = u
-  futex_still stage.OffLook u = u
-  futex_still (stage.Off false) u = u
+  futex_still stage.OffLock u = stands_more old new r [] calm tt u
+  futex_still stage.OffTurn u = stands_more old new r [] calm tt u
+  futex_still stage.OffLook u = stands_more old new r [] calm tt u
+  futex_still (stage.Off false) u = stands_more old new r [] calm tt u
+  futex_still (stage.Leave false) u = (u.0, stands_more old new r [] calm tt u.1)
+  futex_still (stage.Leave true) u = (u.0, loaded_still r.expected u.1)
+  futex_still (stage.LeaveUnlock false) u = (u.0, left_by_more old new r [] [] calm u.1)
+  futex_still (stage.LeaveUnlock true) u = (u.0, taken_more old new r.futex r.expected calm u.1)
 
-pub futex_rises : (old new : Known) (r : FutexWait) (s : FutexStage) → is_behind_sleep s ≡ true → Unmoved old new
+pub futex_rises : (old new : Known) (r : FutexWait) (s : FutexStage) → is_behind_futex_sleep s ≡ true → Unmoved old new
     → FutexTrail old r s → FutexTrail new r s
 futex_rises old new r stage.Queued slept still u = record {
   found = u.found;

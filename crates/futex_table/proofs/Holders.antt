@@ -168,9 +168,9 @@ module _ (s : Table) (a m : ℕ) where
   one_more e lt may mutex one = still e lt refl refl one
 
 -- before it is opened the word is 0, and nobody holds it
-record IsShut (s : Table) (m : ℕ) : Type 0 where
-  word : s.words.plains m ≡ 0
-  free : (t : ℕ) → holds_in m (s.history t) ≡ false
+pub record IsShut (s : Table) (m : ℕ) : Type 0 where
+  pub word : s.words.plains m ≡ 0
+  pub free : (t : ℕ) → holds_in m (s.history t) ≡ false
 
 module _ (m : ℕ) where
   more_free : (s : Table) (a : ℕ) (e : Step) → ((t : ℕ) → holds_in m (s.history t) ≡ false)
@@ -239,24 +239,31 @@ module _ (m : ℕ) where
   }
   stays_shut s a e may un shut = record { word = shut.word; free = more_free s a e shut.free (λ b off. off) }
 
-  shut : (xs : List TaskStep) → AreAllowed xs → AreUnopened m xs → IsShut (table_of xs) m
+  pub shut : (xs : List TaskStep) → AreAllowed xs → AreUnopened m xs → IsShut (table_of xs) m
   shut [] may un = record { word = refl; free = λ t. refl }
   shut (x ∷ xs) may un = stays_shut (table_of xs) x.task x.made may.1 un.0 (shut xs may.2 un.1)
 
   -- the opening
+  stored_off : (c b : Bool) → b ≡ false → (if c then false else b) ≡ false
+  stored_off true b off = refl
+  stored_off false b off = off
+
+  opened_free : (s : Table) (a r : ℕ) → IsShut s m → (t : ℕ)
+      → holds_in m ((next s a (step.Publish (watch.Plain m) 1 r)).history t) ≡ false
+  opened_free s a r z = more_free s a (step.Publish (watch.Plain m) 1 r) z.free (λ b off. stored_off (m == m) b off)
+
   opened : (s : Table) (a r : ℕ) → IsShut s m → HasOneHolder (next s a (step.Publish (watch.Plain m) 1 r)) m
   opened s a r z =
       let word : (next s a (step.Publish (watch.Plain m) 1 r)).words.plains m ≡ 1 = put_same s.words.plains m 1 in
-      let none = nobody m (next s a (step.Publish (watch.Plain m) 1 r)).history
-      (more_free s a (step.Publish (watch.Plain m) 1 r) z.free
-      (λ b off. stored_off (m == m) b off)) TASKS in
+      let none = nobody m (next s a (step.Publish (watch.Plain m) 1 r)).history (opened_free s a r z) TASKS in
       omega (arith, word, none)
-    where
-      stored_off : (c b : Bool) → b ≡ false → (if c then false else b) ≡ false
-      stored_off true b off = refl
-      stored_off false b off = off
 
-  held : (later before : List TaskStep) (a r : ℕ) → AreUnopened m before
+  pub nobody_holds : (before : List TaskStep) (a r : ℕ) → AreUnopened m before
+      → AreAllowed (step_by a (step.Publish (watch.Plain m) 1 r) ∷ before) → (t : ℕ)
+      → holds_in m ((table_of (step_by a (step.Publish (watch.Plain m) 1 r) ∷ before)).history t) ≡ false
+  nobody_holds before a r un may = opened_free (table_of before) a r (shut before may.2 un)
+
+  pub held : (later before : List TaskStep) (a r : ℕ) → AreUnopened m before
       → AreAllowed (later ++ step_by a (step.Publish (watch.Plain m) 1 r) ∷ before)
       → AreMutexSteps m later (step_by a (step.Publish (watch.Plain m) 1 r) ∷ before)
       → HasOneHolder (table_of (later ++ step_by a (step.Publish (watch.Plain m) 1 r) ∷ before)) m

@@ -4,9 +4,15 @@ pub mod FutexLaws
 pub mod FutexAdds
 pub mod WordLoads
 pub mod FutexEndings
+pub mod FutexLeaving
 pub mod WordSteps
 pub mod Mutexing
 pub mod CondVaring
+pub mod LockLeaving
 pub mod Holders
+pub mod GuardedWords
+pub mod GuardedTallies
+pub mod Tallying
 pub mod Sleeping
 pub mod Staling
+pub mod NobodyStale

@@ -27,7 +27,7 @@ use Rattle.wait_event.proofs.Setting.{takes}
 use Rattle.futex_table.specs.declared.futexes.FutexEnd.{FutexEnd}
 use Rattle.futex_table.specs.FutexEnds.{EndsFutexWait}
 use Rattle.futex_table.specs.Holding.{HoldsMutex, OthersStayHeld, StayHeld, holds_after, holds_in, holds_mutex}
-use Rattle.futex_table.specs.Mutexes.{HasTried, HasWaited, LocksMutex, WaitsRound, worn_in}
+use Rattle.futex_table.specs.Mutexes.{HasTriedMutex, HasWaitedRounds, LocksMutex, WaitsRound, worn_in}
 use Rattle.futex_table.proofs.WordSteps.{holds_on, walk_holds}
 
 -- one step more
@@ -89,7 +89,7 @@ module _ (c r : ℕ) (old new : Known) (is : new ≡ added old (item.Made (step.
   took_others m ne = one_holds m old new (step.Consume (watch.Plain c) 0 r) is
       ∙ took_else c m r (holds_mutex old m) ne
 
-  pub took_tried : (hit : Bool) → hit ≡ not (r == 0) → HasTried old new c hit
+  pub took_tried : (hit : Bool) → hit ≡ not (r == 0) → HasTriedMutex old new c hit
   took_tried hit tells = record { found = r; took = takes old new c r is; tells = tells }
 
 -- over a call that changes nothing
@@ -149,9 +149,78 @@ waits_on i x y z a b = record {
   owes = λ f o. b.owes f (a.owes f o);
 }
 
+-- What a task is between the rounds of a lock: as it began.
+pub record IsBetween (old now : Known) : Type 0 where
+  pub up : IsUp now
+  pub idle : IsIdle now
+  pub out : IsOut now
+  pub carries : Carries (wait_change (index old.view.number 0) now.at) old now
+  pub held : StayHeld old now
+
+pub between_none : (k : Known) → IsUp k → IsIdle k → IsOut k → IsBetween k k
+between_none k up idle out = record {
+  up = up;
+  idle = idle;
+  out = out;
+  carries = still_waits k k (unchanged_none k) (index k.view.number 0);
+  held = λ n. refl;
+}
+
+-- a try behind the rounds
+module _ (old now tried : Known) (m : ℕ) (b : IsBetween old now) (still : Carries unchanged now tried) where
+  pub try_carries : Carries (wait_change (index old.view.number 0) tried.at) old tried
+  try_carries = waits_on (index old.view.number 0) old now tried b.carries
+      (still_waits now tried still (index old.view.number 0))
+
+  pub try_out : IsOut tried
+  try_out = out_still now tried still b.out
+
+  pub try_held : (hit : Bool) → holds_mutex tried m ≡ (holds_mutex now m || hit)
+      → holds_mutex tried m ≡ (holds_mutex old m || hit)
+  try_held hit is = is ∙ ap (λ (c : Bool). c || hit) (b.held m)
+
+  pub try_others : OthersStayHeld m now tried → OthersStayHeld m old tried
+  try_others others n ne = others n ne ∙ b.held n
+
+  or_false : (c : Bool) → (c || false) ≡ c
+  or_false true = refl
+  or_false false = refl
+
+  either_held : (hit : Bool) → hit ≡ false → holds_mutex tried m ≡ (holds_mutex now m || hit)
+      → OthersStayHeld m now tried → StayHeld now tried
+  either_held hit none is others n = elim (eqb_tells n m) [
+    | inl q ↦ subst (λ (j : ℕ). holds_mutex tried j ≡ holds_mutex now j) (sym q.1)
+        (is ∙ (ap (λ (c : Bool). holds_mutex now m || c) none ∙ or_false (holds_mutex now m)))
+    | inr q ↦ others n q.1
+  ]
+
+  -- and a wait behind that
+  module _ (hit : Bool) (none : hit ≡ false) (is : holds_mutex tried m ≡ (holds_mutex now m || hit))
+      (others : OthersStayHeld m now tried) (new : Known) (stays : StayHeld tried new)
+      (carries : Carries (wait_change (index tried.view.number 0) new.at) tried new) where
+    pub again_carries : Carries (wait_change (index old.view.number 0) new.at) old new
+    again_carries = waits_on (index old.view.number 0) old tried new try_carries
+        (subst (λ (n : ℕ). Carries (wait_change (index n 0) new.at) tried new)
+        (still.number ∙ b.carries.number) carries)
+
+    pub again_held : StayHeld old new
+    again_held n = stays n ∙ (either_held hit none is others n ∙ b.held n)
+
+    pub again_unlocked : holds_mutex new m ≡ (holds_mutex old m || false)
+    again_unlocked = again_held m ∙ sym (or_false (holds_mutex old m))
+
+    pub again_between : IsUp new → IsIdle new → IsOut new → IsBetween old new
+    again_between up idle out = record {
+      up = up;
+      idle = idle;
+      out = out;
+      carries = again_carries;
+      held = again_held;
+    }
+
 -- What a task is while it waits for a mutex: as it began, and it has made rounds.
 pub record IsWaiting (old now : Known) (m : ℕ) : Type 0 where
-  pub waited : HasWaited m old now
+  pub waited : HasWaitedRounds m old now
   pub up : IsUp now
   pub idle : IsIdle now
   pub out : IsOut now
@@ -168,36 +237,24 @@ waits_none k m up idle out = record {
   held = λ n. refl;
 }
 
--- a try behind the rounds
 module _ (old now tried : Known) (m : ℕ) (w : IsWaiting old now m) (still : Carries unchanged now tried) where
+  between : IsBetween old now
+  between = record { up = w.up; idle = w.idle; out = w.out; carries = w.carries; held = w.held }
+
   pub tried_carries : Carries (wait_change (index old.view.number 0) tried.at) old tried
-  tried_carries = waits_on (index old.view.number 0) old now tried w.carries
-      (still_waits now tried still (index old.view.number 0))
+  tried_carries = try_carries old now tried m between still
 
   pub tried_out : IsOut tried
-  tried_out = out_still now tried still w.out
+  tried_out = try_out old now tried m between still
 
   pub tried_held : (hit : Bool) → holds_mutex tried m ≡ (holds_mutex now m || hit)
       → holds_mutex tried m ≡ (holds_mutex old m || hit)
-  tried_held hit is = is ∙ ap (λ (b : Bool). b || hit) (w.held m)
+  tried_held = try_held old now tried m between still
 
   pub tried_others : OthersStayHeld m now tried → OthersStayHeld m old tried
-  tried_others others n ne = others n ne ∙ w.held n
+  tried_others = try_others old now tried m between still
 
-  or_false : (b : Bool) → (b || false) ≡ b
-  or_false true = refl
-  or_false false = refl
-
-  either_held : (hit : Bool) → hit ≡ false → holds_mutex tried m ≡ (holds_mutex now m || hit)
-      → OthersStayHeld m now tried → StayHeld now tried
-  either_held hit none is others n = elim (eqb_tells n m) [
-    | inl q ↦ subst (λ (j : ℕ). holds_mutex tried j ≡ holds_mutex now j) (sym q.1)
-        (is ∙ (ap (λ (b : Bool). holds_mutex now m || b) none ∙ or_false (holds_mutex now m)))
-    | inr q ↦ others n q.1
-  ]
-
-  -- and a wait behind that
-  module _ (hit : Bool) (none : hit ≡ false) (found : HasTried now tried m hit)
+  module _ (hit : Bool) (none : hit ≡ false) (found : HasTriedMutex now tried m hit)
       (is : holds_mutex tried m ≡ (holds_mutex now m || hit)) (others : OthersStayHeld m now tried) (new : Known)
       (end : Result (Unit {0}) FutexEnd) (ends : EndsFutexWait tried new m 0 states.Uninterruptible end)
       (stays : StayHeld tried new)
@@ -205,17 +262,15 @@ module _ (old now tried : Known) (m : ℕ) (w : IsWaiting old now m) (still : Ca
     pub round : WaitsRound m now new end
     round = record {
       tried = tried;
-      found = subst (HasTried now tried m) none found;
+      found = subst (HasTriedMutex now tried m) none found;
       waited = ends;
     }
 
     pub round_carries : Carries (wait_change (index old.view.number 0) new.at) old new
-    round_carries = waits_on (index old.view.number 0) old tried new tried_carries
-        (subst (λ (n : ℕ). Carries (wait_change (index n 0) new.at) tried new)
-        (still.number ∙ w.carries.number) carries)
+    round_carries = again_carries old now tried m between still hit none is others new stays carries
 
     pub round_held : StayHeld old new
-    round_held n = stays n ∙ (either_held hit none is others n ∙ w.held n)
+    round_held = again_held old now tried m between still hit none is others new stays carries
 
     pub round_more : IsUp new → IsIdle new → IsOut new → worn_in end ≡ None → IsWaiting old new m
     round_more up idle out on = record {
@@ -231,7 +286,7 @@ module _ (old now tried : Known) (m : ℕ) (w : IsWaiting old now m) (still : Ca
     round_worn v is_worn = (now, end, w.waited, round, is_worn)
 
     pub round_unlocked : holds_mutex new m ≡ (holds_mutex old m || false)
-    round_unlocked = round_held m ∙ sym (or_false (holds_mutex old m))
+    round_unlocked = again_unlocked old now tried m between still hit none is others new stays carries
 
 -- so a try that took the mutex holds it
 or_true : (b : Bool) → (b || true) ≡ true

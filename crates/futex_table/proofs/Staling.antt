@@ -29,9 +29,9 @@ use Rattle.wait_rule.specs.Interleavings.{AreAllowed, TaskStep, table_of}
 use Rattle.wait_rule.specs.Setters.{step_by}
 use Rattle.wait_rule.proofs.KnownLaws.Moments.{kept_of, views_of}
 use Rattle.wait_rule.proofs.KnownLaws.SetterSteps.{anew_before}
-use Rattle.futex_table.specs.FutexTables.{futex_head, word_of}
+use Rattle.futex_table.specs.FutexTables.{futex_head, futex_word}
 use Rattle.futex_table.specs.StaleSleepers.{
-  HasWalked,
+  HasPassedEntries,
   IsOther,
   RuleLeavesNoStale,
   SleepsFor,
@@ -80,7 +80,7 @@ heads_stay : (es : List Step) (v : View) → Lacks turns_lock es → (after_all 
 heads_stay [] v l = refl
 heads_stay (e ∷ es) v l = heads_stay es (after e v) l.1 ∙ head_stays e v l.0
 
-in_hold : (front more : List Step) (v : View) (h : ℕ) (aim : Option Aim) (w : ℕ) (c : Watch) (r : ℕ)
+pub in_hold : (front more : List Step) (v : View) (h : ℕ) (aim : Option Aim) (w : ℕ) (c : Watch) (r : ℕ)
     → Lacks turns_lock more
     → (after_all v (front ++ step.Lock h aim w ∷ step.Load c r ∷ more)).hold.head ≡ Some h
 in_hold [] more v h aim w c r l = heads_stay more (after (step.Load c r) (after (step.Lock h aim w) v)) l
@@ -92,7 +92,7 @@ pub record IsPlainWalk (f : ℕ) (d : Watch) : Type 0 where
   pub head : head_of d ≡ futex_head f
   pub page : (p : ℕ) → same (page p) d ≡ false
 
-plain_walk : (f : ℕ) (d : Watch) → same (word_of f) d ≡ true → IsPlainWalk f d
+plain_walk : (f : ℕ) (d : Watch) → same (futex_word f) d ≡ true → IsPlainWalk f d
 plain_walk f (watch.Plain g) is = record {
   bit = refl;
   head = ap futex_head (let q : g ≡ f = grind (arith, nat_tests) in q);
@@ -171,7 +171,7 @@ steady_queue ev h = refl
 
 -- The sleeper, and the walker.
 module _ (me t x f v σ : ℕ) (e : Entry) (front : List Step) (aim : Option Aim) (word : ℕ) (apart : t ≢ me)
-    (mine : owner x ≡ t) (watches : e.watch ≡ word_of f) (sort : e.kind ≡ kinds.Autoremove) (down : σ ≢ 0) where
+    (mine : owner x ≡ t) (watches : e.watch ≡ futex_word f) (sort : e.kind ≡ kinds.Autoremove) (down : σ ≢ 0) where
   abbrev hd : ℕ
   hd = futex_head f
 
@@ -179,7 +179,7 @@ module _ (me t x f v σ : ℕ) (e : Entry) (front : List Step) (aim : Option Aim
   one = step.Lock hd aim word
 
   abbrev two : Step
-  two = step.Load (word_of f) v
+  two = step.Load (futex_word f) v
 
   abbrev hist : List TaskStep → List Step
   hist ys = (table_of ys).history t
@@ -325,16 +325,16 @@ module _ (me t x f v σ : ℕ) (e : Entry) (front : List Step) (aim : Option Aim
 
   kept_at : (ys : List TaskStep) → Has ys → Kept_at (table_of ys)
   kept_at ys (inl z) = inl (ap (λ (u : View). u.hold.head) (views_of ys t ∙ ap view_of z.is)
-      ∙ in_hold front z.more blank hd aim word (word_of f) v z.within)
+      ∙ in_hold front z.more blank hd aim word (futex_word f) v z.within)
   kept_at ys (inr z) = inr z.stands
 
   -- the walk has not called the entry in its hold, and goes on before it
   abbrev Ahead : View → Type 0
-  Ahead u = (w : Walk) → u.walk ≡ Some w → concerns w (word_of f) σ ≡ true
+  Ahead u = (w : Walk) → u.walk ≡ Some w → concerns w (futex_word f) σ ≡ true
       → (w.from ≤ e.place) × (u.hold.head ≡ Some hd → (u.hold.called (owner x) || u.hold.moot) ≡ false)
 
-  plain_of : (w : Walk) → concerns w (word_of f) σ ≡ true → IsPlainWalk f w.watch
-  plain_of w con = plain_walk f w.watch (both_left (same (word_of f) w.watch) (meets w.mask σ) con)
+  plain_of : (w : Walk) → concerns w (futex_word f) σ ≡ true → IsPlainWalk f w.watch
+  plain_of w con = plain_walk f w.watch (both_left (same (futex_word f) w.watch) (meets w.mask σ) con)
 
   gone_is : (u : View) → gone u x e ≡ (u.hold.called (owner x) || u.hold.moot)
   gone_is u = ap (λ (k : Kind). if is_woken k then u.hold.rung x else if is_page k then u.hold.moot
@@ -349,7 +349,7 @@ module _ (me t x f v σ : ℕ) (e : Entry) (front : List Step) (aim : Option Aim
   from_le a b le = grind (arith, nat_tests)
 
   not_passed : (s : Table) (w : Walk) (stop : ℕ → Bool) → Facts s → Stands s → (s.view me).hold.head ≡ Some hd
-      → (s.view me).walk ≡ Some w → concerns w (word_of f) σ ≡ true → Ahead (s.view me) → stop e.place ≡ false
+      → (s.view me).walk ≡ Some w → concerns w (futex_word f) σ ≡ true → Ahead (s.view me) → stop e.place ≡ false
       → all_passed (s.view me) w stop ≡ false
   not_passed s w stop k z held is con ahead off_stop =
       let a = ahead w is con in
@@ -357,13 +357,13 @@ module _ (me t x f v σ : ℕ) (e : Entry) (front : List Step) (aim : Option Aim
       let from : nat_le w.from e.place ≡ true = from_le w.from e.place a.0 in
       let un : gone (s.view me) x e ≡ false = gone_is (s.view me) ∙ a.1 held in
       not_whole s me hd w x e stop k held is z.entry
-      (ap (λ (d : Watch). same d w.watch) watches ∙ both_left (same (word_of f) w.watch) (meets w.mask σ) con)
+      (ap (λ (d : Watch). same d w.watch) watches ∙ both_left (same (futex_word f) w.watch) (meets w.mask σ) con)
       (rw (simple, from, off_stop, un) refl)
 
   -- a step of the walker
   begun_from : (o : Option Walk) (a : Option Aim) (w : Walk) → begun o a ≡ Some w
-      → ((g : Walk) → o ≡ Some g → concerns g (word_of f) σ ≡ true → g.from ≤ e.place)
-      → concerns w (word_of f) σ ≡ true → w.from ≤ e.place
+      → ((g : Walk) → o ≡ Some g → concerns g (futex_word f) σ ≡ true → g.from ≤ e.place)
+      → concerns w (futex_word f) σ ≡ true → w.from ≤ e.place
   begun_from o None w is old con = absurd (cc)
   begun_from None (Some a) w is old con =
       subst (λ (g : Walk). g.from ≤ e.place)
@@ -378,8 +378,8 @@ module _ (me t x f v σ : ℕ) (e : Entry) (front : List Step) (aim : Option Aim
           (let r : record { watch = a.watch; mask = mask_of a.mode; from = 0 } ≡ w = cc in r) (omega arith)
 
   paused_from : (u : View) (g : Walk) (mark : Option ℕ) (w : Walk) → paused u g mark ≡ Some w
-      → (concerns g (word_of f) σ ≡ true → (q : ℕ) → all_passed u g (λ i. nat_le q i) ≡ true → q ≤ e.place)
-      → concerns w (word_of f) σ ≡ true → w.from ≤ e.place
+      → (concerns g (futex_word f) σ ≡ true → (q : ℕ) → all_passed u g (λ i. nat_le q i) ≡ true → q ≤ e.place)
+      → concerns w (futex_word f) σ ≡ true → w.from ≤ e.place
   paused_from u g None w is stops con = absurd (cc)
   paused_from u g (Some q) w is stops con = by (all_passed u g (λ i. nat_le q i)) refl is
     where
@@ -389,7 +389,7 @@ module _ (me t x f v σ : ℕ) (e : Entry) (front : List Step) (aim : Option Aim
       by true h r =
           let at : record g { from = q } ≡ w = cc in
           subst (λ (k : Walk). k.from ≤ e.place) at
-          (stops (subst (λ (k : Walk). concerns k (word_of f) σ ≡ true) (sym at) con) q h)
+          (stops (subst (λ (k : Walk). concerns k (futex_word f) σ ≡ true) (sym at) con) q h)
 
   module _ (s : Table) (k : Kept s) (was : Kept_at s) (ahead : Ahead (s.view me)) where
     unlocks : (i : ℕ) (sp : Bool) → Allowed s me (step.Unlock i sp) → Ahead (after (step.Unlock i sp) (s.view me))
@@ -399,7 +399,7 @@ module _ (me t x f v σ : ℕ) (e : Entry) (front : List Step) (aim : Option Aim
           sym (ap (λ (h : Hold). h.head) (unlock_hold (s.view me) (s.view me).walk sp)) ∙ held in cc),
     )
       where
-        stops : (g : Walk) → (s.view me).walk ≡ Some g → concerns g (word_of f) σ ≡ true → (q : ℕ)
+        stops : (g : Walk) → (s.view me).walk ≡ Some g → concerns g (futex_word f) σ ≡ true → (q : ℕ)
             → all_passed (s.view me) g (λ j. nat_le q j) ≡ true → q ≤ e.place
         stops g at cg q all = at_place (nat_le q e.place) refl
           where
@@ -429,7 +429,7 @@ module _ (me t x f v σ : ℕ) (e : Entry) (front : List Step) (aim : Option Aim
 
     -- a wake leaves the task in its state, so it is none of the walk
     wakes : (who mask r : ℕ) → Stands (next s me (step.Wake who mask r)) → (w : Walk) → (s.view me).walk ≡ Some w
-        → concerns w (word_of f) σ ≡ true → (hits (s.view me).walk mask && (owner x == who)) ≡ false
+        → concerns w (futex_word f) σ ≡ true → (hits (s.view me).walk mask && (owner x == who)) ≡ false
     wakes who mask r z w is con = by (owner x == who) (mask == w.mask) refl refl
       where
         by : (a b : Bool) → (owner x == who) ≡ a → (mask == w.mask) ≡ b
@@ -447,7 +447,7 @@ module _ (me t x f v σ : ℕ) (e : Entry) (front : List Step) (aim : Option Aim
             let unmet : meets mask σ ≡ false = ap (meets mask) (sym z.state ∙ state.0) ∙ state.1 who_is in
             let mask_is : mask ≡ w.mask = grind (arith, nat_tests) in
             let met : meets mask σ ≡ true = ap (λ (m : ℕ). meets m σ) mask_is
-            ∙ both_right (same (word_of f) w.watch) (meets w.mask σ) con in
+            ∙ both_right (same (futex_word f) w.watch) (meets w.mask σ) con in
             absurd (let c : true ≡ false = sym met ∙ unmet in cc)
 
     own_step : (ev : Step) → Allowed s me ev → Kept_at (next s me ev) → Facts (next s me ev)
@@ -505,7 +505,7 @@ module _ (me t x f v σ : ℕ) (e : Entry) (front : List Step) (aim : Option Aim
       by (inr q) = subst Ahead (sym (put_other (table_of ys).view y.task (after y.made ((table_of ys).view y.task)) me
           q.1)) ahead
 
-  published : (u : View) (p : Step) → publishes p (word_of f) ≡ true → Ahead (after p u)
+  published : (u : View) (p : Step) → publishes p (futex_word f) ≡ true → Ahead (after p u)
   published u (step.Publish d n r) is w at con = (anew_before u.walk e.place w at, λ held. refl)
   published u p is w at con = absurd (cc)
 
@@ -513,7 +513,7 @@ module _ (me t x f v σ : ℕ) (e : Entry) (front : List Step) (aim : Option Aim
   last_other [] base o = o
   last_other (z ∷ zs) base o = o.0
 
-  ahead_at : (zs base : List TaskStep) (p : Step) → publishes p (word_of f) ≡ true
+  ahead_at : (zs base : List TaskStep) (p : Step) → publishes p (futex_word f) ≡ true
       → AreAllowed (zs ++ step_by me p ∷ base) → StaysOther zs (step_by me p ∷ base) f v
       → Has (zs ++ step_by me p ∷ base) → Ahead ((table_of (zs ++ step_by me p ∷ base)).view me)
   ahead_at [] base p is may other has = subst Ahead
@@ -532,11 +532,11 @@ module _ (me t x f v σ : ℕ) (e : Entry) (front : List Step) (aim : Option Aim
   allowed_behind [] ys may = may
   allowed_behind (z ∷ zs) ys may = allowed_behind zs ys may.2
 
-  none_left : (later between before : List TaskStep) (p : Step) → publishes p (word_of f) ≡ true
+  none_left : (later between before : List TaskStep) (p : Step) → publishes p (futex_word f) ≡ true
       → AreAllowed (later ++ step_by me (step.Unlock hd false) ∷ (between ++ step_by me p ∷ before))
       → StaysOther between (step_by me p ∷ before) f v
       → StaysOther later (step_by me (step.Unlock hd false) ∷ (between ++ step_by me p ∷ before)) f v
-      → HasWalked ((table_of (between ++ step_by me p ∷ before)).view me) f σ
+      → HasPassedEntries ((table_of (between ++ step_by me p ∷ before)).view me) f σ
       → Has (later ++ step_by me (step.Unlock hd false) ∷ (between ++ step_by me p ∷ before)) → ⊥
   none_left later between before p is may until since walked has =
       let ys = between ++ step_by me p ∷ before in

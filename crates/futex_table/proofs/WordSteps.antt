@@ -81,7 +81,7 @@ step_holds m k own g v (step.Publish l n r) w made b = absurd made
 step_holds m k own g v (step.Consume l n r) w made b = absurd made
 step_holds m k own g v e w made b = refl
 
-no_look : {A : Type 0} (k : Known) (own : Option ℕ) (g : Given) (v : Event) (xs : List Item) → IsWordless v
+pub no_look : {A : Type 0} (k : Known) (own : Option ℕ) (g : Given) (v : Event) (xs : List Item) → IsWordless v
     → IsMadeFor k own g v (by_look xs) → A
 no_look k own g (event.Active h hit) xs w made = absurd w
 no_look k own g v xs w made = absurd made
@@ -133,7 +133,7 @@ module _ (f : Program) (wordless : (p : Point) (seen : Seen) → IsWordless (f.p
   goes_hold (t ∷ ts) (next.Ends a) q old new g m = absurd g
 
 -- a wait on a futex
-futex_wordless : (f v : ℕ) (st : SleepState) (me : ℕ) (p : Point) (seen : Seen)
+pub futex_wordless : (f v : ℕ) (st : SleepState) (me : ℕ) (p : Point) (seen : Seen)
     → IsWordless (futex_makes f v st me p seen).event
 futex_wordless f v st me (at.Prepare preparing.Queue) seen = either (is_some seen.entry) _ _ tt
     (either seen.worn _ _ tt tt)
@@ -182,7 +182,7 @@ module _ (aim : Aim) (seen : Seen) where
   hands_wordless staging.Wake w c = tt
   hands_wordless staging.Off w c = tt
 
-  walk_wordless : (p : WalkPoint) → IsWordless (walk_event aim p seen).event
+  pub walk_wordless : (p : WalkPoint) → IsWordless (walk_event aim p seen).event
   walk_wordless walking.Lock = tt
   walk_wordless (walking.Call w) = either seen.breaks _ _ tt (next_wordless _ seen.called _)
   walk_wordless (walking.Bit w c) = tt

@@ -18,7 +18,7 @@ use Rattle.futex_table.specs.declared.cond_vars.CondEnd.TheVariants as cond_end
 use Rattle.futex_table.specs.declared.futexes.FutexEnd.{FutexEnd}
 use Rattle.futex_table.specs.declared.futexes.FutexEnd.TheVariants as futex_end
 use Rattle.futex_table.specs.FutexEnds.{EndsFutexWait}
-use Rattle.futex_table.specs.Mutexes.{HasReleased, LocksMutex, is_locked}
+use Rattle.futex_table.specs.Mutexes.{HasFreedMutex, LocksMutex, is_locked}
 
 -- The answer, by those of its wait and of the lock behind that: where the wait was worn it keeps the head and the place
 -- of the wait, and tells whether the mutex was taken; else those of the lock where that was worn; else the signal of the
@@ -33,9 +33,9 @@ cond_answer (Err futex_end.Interrupted) (Ok u) = Err cond_end.Interrupted
 cond_answer _ (Ok u) = Ok tt
 
 -- whether the mutex is held behind the call: so it is but where the lock found no place
-abbrev pub is_held : Result (Unit {0}) CondEnd → Bool
-is_held (Err (cond_end.Worn h place held)) = held
-is_held _ = true
+abbrev pub is_mutex_held : Result (Unit {0}) CondEnd → Bool
+is_mutex_held (Err (cond_end.Worn h place held)) = held
+is_mutex_held _ = true
 
 -- The task loaded the condition's word, gave the mutex back, waited while the word has the value that it loaded, and
 -- locked the mutex.
@@ -45,7 +45,7 @@ pub record WaitsForCond (old new : Known) (c m : ℕ) (st : SleepState) (result 
     pub loaded : Known
     pub loads : loaded ≡ added old (item.Made (step.Load (watch.Plain c) seen))
     pub unlocked : Known
-    pub gives : HasReleased loaded unlocked m
+    pub gives : HasFreedMutex loaded unlocked m
     pub waited : Known
     pub end : Result (Unit {0}) FutexEnd
     pub waits : EndsFutexWait unlocked waited c seen st end

@@ -43,11 +43,12 @@ use Rattle.wait_model.specs.declared.watches.Aim.{Aim}
 use Rattle.wait_model.specs.declared.watches.Entry.{Entry}
 use Rattle.wait_model.specs.declared.watches.Watch.{Watch}
 use Rattle.wait_model.specs.declared.watches.Watch.TheVariants as watch
+use Rattle.wait_model.specs.Histories.{Lacks}
 use Rattle.wait_model.specs.PointFacts.{absent}
 use Rattle.wait_model.specs.Points.{given_at}
 use Rattle.wait_model.specs.Programs.{ends_with, go, signalled, sleep_event, zero_answer}
 use Rattle.wait_model.specs.Tasks.{looks_in, pending, state_mask, task_of}
-use Rattle.wait_model.specs.Watches.{head_of, number_of}
+use Rattle.wait_model.specs.Watches.{head_of, kind_for, number_of}
 use Rattle.wait_model.specs.Words.{entry_of}
 use Rattle.wait_rule.specs.Known.{Known}
 use Rattle.wait_rule.specs.Says.{history_of}
@@ -61,6 +62,8 @@ use Rattle.wait_class.specs.declared.stages.Turn.TheVariants as turn
 use Rattle.wait_class.specs.Frames.{KeepsAll}
 use Rattle.wait_class.specs.Posts.{EndsWith, FoundWorn, IsOut, Post, own_of}
 use Rattle.wait_class.specs.Tables.{CallTable, Plan}
+use Rattle.wait_event.specs.Waits.{off_by}
+use Rattle.wait_leave.specs.Leaves.{with_asked}
 use Rattle.futex_table.specs.declared.waits.TheConstants.{AGAIN}
 use Rattle.futex_table.specs.declared.waits.FutexOutcome.{FutexOutcome}
 use Rattle.futex_table.specs.declared.waits.FutexOutcome.TheVariants as outcome
@@ -69,11 +72,11 @@ use Rattle.futex_table.specs.declared.waits.FutexStage.TheVariants as stage
 use Rattle.futex_table.specs.declared.waits.FutexWait.{FutexWait}
 
 -- The word of a futex, and its head.
-abbrev pub word_of : ℕ → Watch
-word_of f = watch.Plain f
+abbrev pub futex_word : ℕ → Watch
+futex_word f = watch.Plain f
 
 abbrev pub futex_head : ℕ → ℕ
-futex_head f = head_of (word_of f)
+futex_head f = head_of (futex_word f)
 
 -- `-EAGAIN`
 abbrev pub other_value : Answer
@@ -89,10 +92,11 @@ left_next hit = if hit then next.Ends signalled else next.Go (at.Add adding.Lock
 -- The program. In one hold of the head the word is loaded and compared, and where it has the expected value the own
 -- entry is queued at the tail and the state stored; then the task sleeps. Behind the sleep it looks whether its entry
 -- is off: whoever woke it took that off. Where it is queued still, it is taken off in a hold, after a look for a signal;
--- a wait that found none begins anew. The names of the points are those of the model for the same events.
+-- a wait that found none begins anew. One that is left goes the way of one that found a signal. The names of the points
+-- are those of the model for the same events.
 abbrev pub futex_makes : ℕ → ℕ → SleepState → ℕ → Point → Seen → Planned
 futex_makes f v st me (at.Add adding.Lock) seen = go (event.Lock (futex_head f)) (at.Await (awaiting.Load false))
-futex_makes f v st me (at.Await (awaiting.Load false)) seen = go (event.Load (number_of (word_of f)) seen.value)
+futex_makes f v st me (at.Await (awaiting.Load false)) seen = go (event.Load (number_of (futex_word f)) seen.value)
     (if seen.value == v then at.Prepare preparing.Queue else at.Leave leaving.Unlock)
 futex_makes f v st me (at.Leave leaving.Unlock) seen = gives_head f (next.Ends other_value)
 futex_makes f v st me (at.Prepare preparing.Queue) seen =
@@ -133,12 +137,12 @@ abbrev pub futex_plan : ℕ → ℕ → SleepState → Plan
 futex_plan f v st = record {
   makes = λ me p seen. futex_makes f v st me p seen;
   given = given_at (calls.Wait f (record { state = st; exclusive = true }));
-  watch = word_of f;
+  watch = futex_word f;
   state = st;
   form = forms.Tail;
   numbers = v ∷ [];
   asked = false;
-  watches = λ p. word_of f;
+  watches = λ p. futex_word f;
   head = λ p. futex_head f;
   stirs = futex_stirs;
 }
@@ -159,6 +163,8 @@ futex_point stage.OffTurn = at.Finish finishing.Lock false
 futex_point stage.OffLook = at.Leave leaving.Queue
 futex_point (stage.Off hit) = at.Finish finishing.Queue hit
 futex_point (stage.OffUnlock hit) = at.Finish finishing.Unlock hit
+futex_point (stage.Leave fresh) = at.Finish finishing.Queue true
+futex_point (stage.LeaveUnlock fresh) = at.Finish finishing.Unlock true
 
 abbrev pub futex_turn : FutexStage → Bool
 futex_turn stage.Turn = true
@@ -180,8 +186,11 @@ futex_doing stage.OffTurn = doing.Lock
 futex_doing stage.OffLook = doing.Heed
 futex_doing (stage.Off hit) = doing.Pare
 futex_doing (stage.OffUnlock hit) = doing.Unlock
+futex_doing (stage.Leave fresh) = doing.Pare
+futex_doing (stage.LeaveUnlock fresh) = doing.Unlock
 
--- how many events are left at most until no head is held
+-- How many events are left at most until no head is held; one fewer is told of a wait that is left, since it goes there
+-- from the stage at which it takes its entry off.
 abbrev pub futex_depth : FutexStage → ℕ
 futex_depth stage.Load = 4
 futex_depth stage.Again = 1
@@ -191,6 +200,8 @@ futex_depth stage.Unlock = 1
 futex_depth stage.OffLook = 3
 futex_depth (stage.Off hit) = 2
 futex_depth (stage.OffUnlock hit) = 1
+futex_depth (stage.Leave fresh) = 1
+futex_depth (stage.LeaveUnlock fresh) = 0
 futex_depth _ = 5
 
 abbrev pub futex_drawn : FutexStage → FutexStage
@@ -211,6 +222,7 @@ futex_next r stage.Unlock = turn.Again stage.Sleep
 futex_next r stage.OffTurn = leaves_first (looks_in r.state)
 futex_next r (stage.OffUnlock true) = turn.Done outcome.Interrupted
 futex_next r (stage.OffUnlock false) = turn.Again stage.First
+futex_next r (stage.LeaveUnlock fresh) = turn.Done (outcome.Left false)
 futex_next r s = turn.Again s
 
 abbrev pub compared_to : Bool → Turn FutexStage FutexOutcome
@@ -223,6 +235,8 @@ abbrev pub futex_found : FutexStage → Bool → Turn FutexStage FutexOutcome
 futex_found stage.Queued found = if found then turn.Again stage.OffLock else turn.Done outcome.Over
 futex_found (stage.Off hit) found = if found then turn.Again (stage.OffUnlock hit) else turn.Done outcome.Over
 futex_found stage.OffLook found = if found then turn.Again stage.OffLook else turn.Done outcome.Over
+futex_found (stage.Leave fresh) found = if found then turn.Again (stage.LeaveUnlock fresh)
+    else if fresh then turn.Done (outcome.Left true) else turn.Done outcome.Over
 futex_found s found = turn.Again s
 
 abbrev pub futex_added : Added → Turn FutexStage FutexOutcome
@@ -235,15 +249,16 @@ futex_state r stage.State = state_mask r.state
 futex_state r _ = 0
 
 -- where a wait goes on that was put asleep
-abbrev pub is_behind_sleep : FutexStage → Bool
-is_behind_sleep stage.Queued = true
-is_behind_sleep _ = false
+abbrev pub is_behind_futex_sleep : FutexStage → Bool
+is_behind_futex_sleep stage.Queued = true
+is_behind_futex_sleep _ = false
 
 -- a wait that has not begun
-pub record IsFresh (r : FutexWait) (f v : ℕ) (st : SleepState) : Type 0 where
+pub record IsFreshFutexWait (r : FutexWait) (f v : ℕ) (st : SleepState) : Type 0 where
   pub futex : r.futex ≡ f
   pub expected : r.expected ≡ v
   pub state : r.state ≡ st
+  pub unasked : r.asked ≡ false
 
 -- futexes are the plain conditions with full heads
 abbrev pub IsFutex : FutexWait → Type 0
@@ -251,10 +266,10 @@ IsFutex r = r.futex < FIRST_SIMPLE
 
 -- The history ends with a lock of the futex's head, a load of its word in that hold, which found this value, and these
 -- steps.
-pub record HasLoaded (k : Known) (f v : ℕ) (more : List Step) : Type 0 where
+pub record HasLoadedWord (k : Known) (f v : ℕ) (more : List Step) : Type 0 where
   pub aim : Option Aim
   pub word : ℕ
-  pub ends : EndsWith k (step.Lock (futex_head f) aim word ∷ step.Load (word_of f) v ∷ more)
+  pub ends : EndsWith k (step.Lock (futex_head f) aim word ∷ step.Load (futex_word f) v ∷ more)
 
 -- looks at entries alone
 abbrev pub AreSaws : List Step → Type 0
@@ -262,8 +277,8 @@ AreSaws [] = Unit {0}
 AreSaws (step.Saw x w ∷ es) = AreSaws es
 AreSaws (e ∷ es) = ⊥
 
--- Entry x was queued in a hold of the futex's head in which the word had been loaded, and this value found; in between
--- entries were looked at alone, and these steps came behind.
+-- Entry x was queued for the futex in a hold of its head in which the word had been loaded, and this value found; in
+-- between entries were looked at alone, and these steps came behind.
 pub record QueuedByValue (es : List Step) (x f v : ℕ) (more : List Step) : Type 0 where
   pub before : List Step
   pub aim : Option Aim
@@ -271,7 +286,9 @@ pub record QueuedByValue (es : List Step) (x f v : ℕ) (more : List Step) : Typ
   pub looks : List Step
   pub entry : Entry
   pub saws : AreSaws looks
-  pub is : es ≡ before ++ step.Lock (futex_head f) aim word ∷ step.Load (word_of f) v ∷ (looks
+  pub watch : entry.watch ≡ futex_word f
+  pub kind : entry.kind ≡ kind_for (futex_word f)
+  pub is : es ≡ before ++ step.Lock (futex_head f) aim word ∷ step.Load (futex_word f) v ∷ (looks
       ++ step.Queue x entry ∷ more)
 
 -- and behind it the state was stored, the head given back, and the task slept
@@ -305,30 +322,75 @@ pub record FoundOff (k : Known) (f : ℕ) : Type 0 where
   pub ends : EndsWith k (step.Peek (own_of k) entry ∷ [])
       ⊎ EndsWith k (step.Saw (own_of k) entry ∷ step.Unlock (futex_head f) false ∷ [])
 
+-- a load
+abbrev pub is_word_load : Step → Bool
+is_word_load (step.Load w v) = true
+is_word_load _ = false
+
+-- The entry was queued in a hold in which the word had been loaded, with the expected value; the task has loaded nothing
+-- since.
+pub record StandsByValue (k : Known) (r : FutexWait) : Type 0 where
+  pub since : List Step
+  pub queued : HasQueuedBy k r since
+  pub unloaded : Lacks is_word_load since
+
+-- The last steps of a wait that was left where it had queued its entry so: that was queued still, and was taken off.
+pub record LeftByValue (k : Known) (f v : ℕ) (more : List Step) : Type 0 where
+  pub since : List Step
+  pub unloaded : Lacks is_word_load since
+  pub entry : ℕ
+  pub stood : is_some (entry_of entry) ≡ true
+  pub queued : QueuedByValue (history_of k) (own_of k) f v (since
+      ++ step.Saw (own_of k) entry ∷ step.Unqueue (own_of k) ∷ more)
+
+-- Where it had queued none: one hold loaded the word, with the expected value, and looked at the entry, which was off or
+-- was taken off.
+pub record LeftAtOnce (k : Known) (f v : ℕ) : Type 0 where
+  pub entry : ℕ
+  pub loaded : HasLoadedWord k f v (off_by (own_of k) (futex_head f) entry)
+
+pub record TakenAtOnce (k : Known) (f v : ℕ) : Type 0 where
+  pub entry : ℕ
+  pub stood : is_some (entry_of entry) ≡ true
+  pub loaded : HasLoadedWord k f v (step.Saw (own_of k) entry ∷ step.Unqueue (own_of k) ∷ [])
+
+-- So either way the load of its last hold in which it meant to sleep found the expected value, and it took its entry off
+-- by itself.
+abbrev pub HasLeftFutex : Known → ℕ → ℕ → Type 0
+HasLeftFutex k f v = LeftAtOnce k f v ⊎ LeftByValue k f v (step.Unlock (futex_head f) false ∷ [])
+
 -- what a stage and an outcome say of the last steps
 abbrev pub FutexTrail : Known → FutexWait → FutexStage → Type 0
 FutexTrail k r stage.First = IsOut k
 FutexTrail k r stage.Turn = IsOut k
 FutexTrail k r stage.Load = IsOut k × ((aim : Option Aim) × (w : ℕ)
     × EndsWith k (step.Lock (futex_head r.futex) aim w ∷ []))
-FutexTrail k r stage.Again = HasLoaded k r.futex r.seen [] × ((r.seen == r.expected) ≡ false)
-FutexTrail k r stage.Queue = IsOut k × HasLoaded k r.futex r.expected []
+FutexTrail k r stage.Again = HasLoadedWord k r.futex r.seen [] × ((r.seen == r.expected) ≡ false)
+FutexTrail k r stage.Queue = IsOut k × HasLoadedWord k r.futex r.expected []
 FutexTrail k r stage.State = HasQueuedBy k r []
 FutexTrail k r stage.Unlock = HasQueuedBy k r (step.State (state_mask r.state) ∷ [])
 FutexTrail k r stage.Sleep = HasQueuedBy k r (step.State (state_mask r.state)
     ∷ step.Unlock (futex_head r.futex) false ∷ [])
 FutexTrail k r stage.Queued = SleptByValue k r
+FutexTrail k r stage.OffLock = StandsByValue k r
+FutexTrail k r stage.OffTurn = StandsByValue k r
+FutexTrail k r stage.OffLook = StandsByValue k r
+FutexTrail k r (stage.Off false) = StandsByValue k r
 FutexTrail k r (stage.Off true) = (w : ℕ) × ShowsSignal r w × EndsWith k (step.Look w ∷ [])
 FutexTrail k r (stage.OffUnlock true) = LeftForSignal k r []
 FutexTrail k r (stage.OffUnlock false) = IsOut k
-FutexTrail k r _ = Unit {0}
+FutexTrail k r (stage.Leave false) = (r.asked ≡ true) × StandsByValue k r
+FutexTrail k r (stage.Leave true) = (r.asked ≡ true) × HasLoadedWord k r.futex r.expected []
+FutexTrail k r (stage.LeaveUnlock false) = (r.asked ≡ true) × LeftByValue k r.futex r.expected []
+FutexTrail k r (stage.LeaveUnlock true) = (r.asked ≡ true) × TakenAtOnce k r.futex r.expected
 
 abbrev pub FutexTrailEnd : Known → FutexWait → FutexOutcome → Type 0
 FutexTrailEnd k r outcome.Over = FoundOff k r.futex
-FutexTrailEnd k r outcome.Again = HasLoaded k r.futex r.seen (step.Unlock (futex_head r.futex) false ∷ [])
+FutexTrailEnd k r outcome.Again = HasLoadedWord k r.futex r.seen (step.Unlock (futex_head r.futex) false ∷ [])
     × ((r.seen == r.expected) ≡ false)
 FutexTrailEnd k r outcome.Interrupted = LeftForSignal k r (step.Unlock (futex_head r.futex) false ∷ [])
 FutexTrailEnd k r outcome.Worn = FoundWorn k (futex_head r.futex) r.place []
+FutexTrailEnd k r (outcome.Left off) = (r.asked ≡ true) × HasLeftFutex k r.futex r.expected
 
 -- the wait has ended: the task is awake, RUNNING, holds no head, and its entry is off
 abbrev pub futex_end : FutexWait → FutexOutcome → Post
@@ -338,7 +400,7 @@ futex_end r o = record {
   stirs = false;
   state = 0;
   zone = absent;
-  watch = word_of r.futex;
+  watch = futex_word r.futex;
 }
 
 abbrev pub futex_answer : FutexOutcome → Answer
@@ -346,10 +408,12 @@ futex_answer outcome.Over = zero_answer
 futex_answer outcome.Again = other_value
 futex_answer outcome.Interrupted = signalled
 futex_answer outcome.Worn = answer.Worn
+futex_answer (outcome.Left false) = signalled
+futex_answer (outcome.Left true) = zero_answer
 
 abbrev pub futex_table : CallTable FutexWait FutexStage FutexOutcome
 futex_table = record {
-  plan_of = λ r. futex_plan r.futex r.expected r.state;
+  plan_of = λ r. with_asked r.asked (futex_plan r.futex r.expected r.state);
   Fits = IsFutex;
   worn_at = λ r p. record r { place = p };
   joined_at = λ r s. r;
@@ -365,7 +429,7 @@ futex_table = record {
   found_to = λ r s found. futex_found s found;
   heeded_to = λ r s hit. turn.Again (stage.Off hit);
   slept_to = λ r s. stage.Queued;
-  asleep_at = is_behind_sleep;
+  asleep_at = is_behind_futex_sleep;
   added_to = λ r s a. futex_added a;
   state_at = futex_state;
   answer_of = futex_answer;

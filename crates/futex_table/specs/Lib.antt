@@ -1,8 +1,13 @@
 pub mod FutexTables
 pub mod FutexEnds
+pub mod FutexLeaves
 pub mod Holding
 pub mod Mutexes
 pub mod CondVars
+pub mod LockLeaves
 pub mod OneHolder
+pub mod GuardedWords
+pub mod GuardedTallies
+pub mod TallyUses
 pub mod Sleepers
 pub mod StaleSleepers

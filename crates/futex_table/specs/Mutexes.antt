@@ -12,12 +12,12 @@ use Rattle.futex_table.specs.declared.futexes.FutexEnd.TheVariants as futex_end
 use Rattle.futex_table.specs.FutexEnds.{EndsFutexWait}
 
 -- The task published 1 in the word, and walked over its queue with NORMAL and a count of one.
-pub record HasReleased (old new : Known) (m : ℕ) : Type 0 where
+pub record HasFreedMutex (old new : Known) (m : ℕ) : Type 0 where
   pub walked : Walked
   pub set : HasSet old new m 1 mode.Normal 1 walked
 
 -- One take, which found a value or 0.
-pub record HasTried (old new : Known) (m : ℕ) (hit : Bool) : Type 0 where
+pub record HasTriedMutex (old new : Known) (m : ℕ) (hit : Bool) : Type 0 where
   pub found : ℕ
   pub took : HasTaken old new m found
   pub tells : hit ≡ not (found == 0)
@@ -30,7 +30,7 @@ worn_in _ = None
 -- A round of a lock: a take that found 0, and a wait for 0.
 pub record WaitsRound (m : ℕ) (old new : Known) (end : Result (Unit {0}) FutexEnd) : Type 0 where
   pub tried : Known
-  pub found : HasTried old tried m false
+  pub found : HasTriedMutex old tried m false
   pub waited : EndsFutexWait tried new m 0 states.Uninterruptible end
 
 -- so many rounds, none of which was worn
@@ -39,14 +39,14 @@ WaitsRounds zero m old new = new ≡ old
 WaitsRounds (suc n) m old new = (mid : Known) × (end : Result (Unit {0}) FutexEnd) × WaitsRounds n m old mid
     × WaitsRound m mid new end × (worn_in end ≡ None)
 
-pub record HasWaited (m : ℕ) (old new : Known) : Type 0 where
+pub record HasWaitedRounds (m : ℕ) (old new : Known) : Type 0 where
   pub count : ℕ
   pub rounds : WaitsRounds count m old new
 
 -- The task made rounds, and then a take that found a value; or the wait of a last round was worn.
 abbrev pub LocksMutex : Known → Known → ℕ → Result (Unit {0}) Worn → Type 0
-LocksMutex old new m (Ok u) = (mid : Known) × HasWaited m old mid × HasTried mid new m true
-LocksMutex old new m (Err w) = (mid : Known) × (end : Result (Unit {0}) FutexEnd) × HasWaited m old mid
+LocksMutex old new m (Ok u) = (mid : Known) × HasWaitedRounds m old mid × HasTriedMutex mid new m true
+LocksMutex old new m (Err w) = (mid : Known) × (end : Result (Unit {0}) FutexEnd) × HasWaitedRounds m old mid
     × WaitsRound m mid new end × (worn_in end ≡ Some w)
 
 abbrev pub is_locked : Result (Unit {0}) Worn → Bool

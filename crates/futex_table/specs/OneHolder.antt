@@ -40,7 +40,7 @@ AreUnopened m (x ∷ xs) = (stores_word m x.made ≡ false) × AreUnopened m xs
 
 -- A task opened the mutex by a store of 1, the first in its word; since then the steps of calls on mutexes alone have
 -- changed the word.
-pub record IsOpened (xs : List TaskStep) (m : ℕ) : Type 0 where
+pub record IsMutexOpened (xs : List TaskStep) (m : ℕ) : Type 0 where
   pub before : List TaskStep
   pub opener : ℕ
   pub found : ℕ
@@ -56,11 +56,11 @@ HasOneHolder s m = s.words.plains m + holders TASKS m s.history ≡ 1
 -- So it is after each step of each order of steps that are allowed, and in each table that meets the rule of a Domain,
 -- by the order of steps that leads to it.
 abbrev pub StepsHaveOneHolder : Type 0
-StepsHaveOneHolder = (xs : List TaskStep) → AreAllowed xs → (m : ℕ) → IsOpened xs m → HasOneHolder (table_of xs) m
+StepsHaveOneHolder = (xs : List TaskStep) → AreAllowed xs → (m : ℕ) → IsMutexOpened xs m → HasOneHolder (table_of xs) m
 
 abbrev pub RuleHasOneHolder : Type 0
 RuleHasOneHolder = (s : Table) (items : ℕ → List Item) (ruled : IsRuled s items) (m : ℕ)
-    → IsOpened ruled.whole.interleaved.steps m → HasOneHolder s m
+    → IsMutexOpened ruled.whole.interleaved.steps m → HasOneHolder s m
 
 -- Two tasks of such a table that hold the mutex are one.
 abbrev pub HoldersAreOne : Type 0

@@ -6,19 +6,23 @@ use Rattle.wait_model.specs.declared.steps.Step.TheVariants as step
 use Rattle.wait_model.specs.declared.watches.Aim.{Aim}
 use Rattle.wait_model.specs.declared.watches.Entry.{Entry}
 use Rattle.wait_model.specs.declared.watches.Kind.TheVariants as kind
+use Rattle.wait_model.specs.declared.watches.Mode.TheVariants as mode
 use Rattle.wait_model.specs.Histories.{Lacks, publishes, turns_lock}
 use Rattle.wait_model.specs.Tables.{Table}
+use Rattle.wait_model.specs.Tasks.{meets}
 use Rattle.wait_model.specs.Views.{View, Walk, all_passed, concerns}
-use Rattle.wait_model.specs.Watches.{owner}
+use Rattle.wait_model.specs.Watches.{mask_of, owner}
 use Rattle.wait_rule.specs.declared.journal.Item.{Item}
 use Rattle.wait_rule.specs.Interleavings.{AreAllowed, TaskStep, table_of}
 use Rattle.wait_rule.specs.Known.{Known}
 use Rattle.wait_rule.specs.Queues.{index}
 use Rattle.wait_rule.specs.Rule.{IsRuled}
+use Rattle.wait_rule.specs.Says.{history_of}
 use Rattle.wait_rule.specs.Setters.{step_by}
+use Rattle.order_laws.specs.TakenOff.{AllTakeOffWoken}
 use Rattle.wait_class.specs.declared.stages.Run.{Run}
 use Rattle.wait_class.specs.Tables.{IsAsleepAt}
-use Rattle.futex_table.specs.FutexTables.{futex_head, futex_table, word_of}
+use Rattle.futex_table.specs.FutexTables.{futex_head, futex_table, futex_word}
 use Rattle.futex_table.specs.declared.waits.FutexStage.{FutexStage}
 use Rattle.futex_table.specs.declared.waits.FutexWait.{FutexWait}
 
@@ -31,10 +35,10 @@ StaysOther [] before f v = IsOther before f v
 StaysOther (x ∷ xs) before f v = IsOther (x ∷ xs ++ before) f v × StaysOther xs before f v
 
 -- The task's walk of the futex, for tasks of this state, has passed all entries: so its unlock ends it.
-pub record HasWalked (v : View) (f σ : ℕ) : Type 0 where
+pub record HasPassedEntries (v : View) (f σ : ℕ) : Type 0 where
   pub walk : Walk
   pub is : v.walk ≡ Some walk
-  pub concerns : concerns walk (word_of f) σ ≡ true
+  pub concerns : concerns walk (futex_word f) σ ≡ true
   pub passed : all_passed v walk (λ _. false) ≡ true
 
 -- In this order of steps a task stored in the word, and a later step of it ended a walk of the futex for tasks of this
@@ -46,8 +50,8 @@ pub record HasWokenStale (xs : List TaskStep) (waker f v σ : ℕ) : Type 0 wher
   pub later : List TaskStep
   pub split : xs ≡ later ++ step_by waker (step.Unlock (futex_head f) false) ∷ (between
       ++ step_by waker publish ∷ before)
-  pub is_publish : publishes publish (word_of f) ≡ true
-  pub walked : HasWalked ((table_of (between ++ step_by waker publish ∷ before)).view waker) f σ
+  pub is_publish : publishes publish (futex_word f) ≡ true
+  pub walked : HasPassedEntries ((table_of (between ++ step_by waker publish ∷ before)).view waker) f σ
   pub until : StaysOther between (step_by waker publish ∷ before) f v
   pub since : StaysOther later (step_by waker (step.Unlock (futex_head f) false) ∷ (between
       ++ step_by waker publish ∷ before)) f v
@@ -68,13 +72,13 @@ pub record SleepsFor (s : Table) (t x : ℕ) (e : Entry) (f v σ : ℕ) : Type 0
   pub head : ℕ
   pub spent : Bool
   pub rest : List Step
-  pub history : s.history t ≡ front ++ step.Lock (futex_head f) aim word ∷ step.Load (word_of f) v ∷ (inside
+  pub history : s.history t ≡ front ++ step.Lock (futex_head f) aim word ∷ step.Load (futex_word f) v ∷ (inside
       ++ step.Unlock head spent ∷ rest)
   pub within : Lacks turns_lock inside
   pub steady : Lacks is_unsteady rest
   pub own : owner x ≡ t
   pub stands : s.entry x ≡ Some e
-  pub watch : e.watch ≡ word_of f
+  pub watch : e.watch ≡ futex_word f
   pub kind : e.kind ≡ kind.Autoremove
   pub state : (s.task t).state ≡ σ
   pub down : σ ≢ 0
@@ -94,6 +98,25 @@ RuleLeavesNoStale = (s : Table) (items : ℕ → List Item) (ruled : IsRuled s i
 abbrev pub SleepersSleepFor : Type 0
 SleepersSleepFor = (k : Known) (r : Run FutexWait) (s : FutexStage) → IsAsleepAt futex_table k r s → (u : Table)
     (items : ℕ → List Item) → IsRuled u items → items k.view.number ≡ k.view.items → (e : Entry)
-    → u.entry (index k.view.number 0) ≡ Some e → e.watch ≡ word_of r.of.futex → e.kind ≡ kind.Autoremove
+    → u.entry (index k.view.number 0) ≡ Some e → e.watch ≡ futex_word r.of.futex → e.kind ≡ kind.Autoremove
     → (u.task k.view.number).state ≢ 0
     → SleepsFor u k.view.number (index k.view.number 0) e r.of.futex r.of.expected (u.task k.view.number).state
+
+-- A walk for each state that a wake with NORMAL meets, as `futex_wake` makes it.
+abbrev pub HasWokenEach : List TaskStep → ℕ → ℕ → ℕ → Type 0
+HasWokenEach xs waker f v = (σ : ℕ) → meets (mask_of mode.Normal) σ ≡ true → HasWokenStale xs waker f v σ
+
+-- Where others take off entries of woken tasks alone, nobody is asleep in a `futex_wait` on it then: no task that a wait
+-- for that value has put asleep, by the history that it has, and that was not woken.
+abbrev pub StepsLeaveNobody : Type 0
+StepsLeaveNobody = (xs : List TaskStep) → AreAllowed xs → AllTakeOffWoken xs → (waker : ℕ) (k : Known)
+    (r : Run FutexWait) (s : FutexStage) → IsAsleepAt futex_table k r s
+    → HasWokenEach xs waker r.of.futex r.of.expected → (table_of xs).history k.view.number ≡ history_of k
+    → meets (mask_of mode.Normal) ((table_of xs).task k.view.number).state ≡ true → ⊥
+
+-- and so in each table that meets the rule of a Domain, with the task's list
+abbrev pub RuleLeavesNobody : Type 0
+RuleLeavesNobody = (u : Table) (items : ℕ → List Item) (ruled : IsRuled u items)
+    → AllTakeOffWoken ruled.whole.interleaved.steps → (waker : ℕ) (k : Known) (r : Run FutexWait) (s : FutexStage)
+    → IsAsleepAt futex_table k r s
+    → HasWokenEach ruled.whole.interleaved.steps waker r.of.futex r.of.expected → items k.view.number ≡ k.view.items → (u.task k.view.number).state ≢ 0 → ⊥

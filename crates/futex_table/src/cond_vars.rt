@@ -9,8 +9,9 @@ ghost use Rattle.wait_rule.specs.Says.{IsUp};
 ghost use Rattle.wait_rule.specs.Stays.{Carries};
 ghost use Rattle.wait_class.specs.Posts.{IsOut};
 ghost use Rattle.wait_event.specs.Conds.{set_change};
-ghost use Rattle.futex_table.specs.CondVars.{SignalsCond, WaitsForCond, cond_answer, cond_change, is_held};
+ghost use Rattle.futex_table.specs.CondVars.{SignalsCond, WaitsForCond, cond_answer, cond_change, is_mutex_held};
 ghost use Rattle.futex_table.specs.Holding.{HoldsMutex, OthersStayHeld, holds_mutex};
+ghost use Rattle.futex_table.specs.TallyUses.{AddsToTally, LeavesTallies};
 
 use crate::futexes::{FutexEnd, futex_wait};
 use crate::mutexes::{mutex_lock, mutex_unlock};
@@ -61,9 +62,10 @@ pub fn cond_wait<R: Wait>(
     ensures idle { IsIdle task.new }
     ensures out { IsOut task.new }
     ensures carries { Carries (cond_change lock (index task.old.view.number 0) task.new.at) task.old task.new }
-    ensures held { holds_mutex task.new lock ≡ is_held result }
+    ensures held { holds_mutex task.new lock ≡ is_mutex_held result }
     ensures holds { IfOk result (λ _. HoldsMutex task.new lock) }
     ensures others { OthersStayHeld lock task.old task.new }
+    ensures tallies { LeavesTallies lock task.old task.new }
 {
     task.told();
     let seen = cond_load(domain, task, Watch::Plain { cond });
@@ -74,7 +76,7 @@ pub fn cond_wait<R: Wait>(
 }
 
 /// The answer of a wait, by those of the wait for the futex and of the lock behind it.
-fn cond_answer(end: Result<(), FutexEnd>, locked: Result<(), Worn>) -> Result<(), CondEnd>
+pub fn cond_answer(end: Result<(), FutexEnd>, locked: Result<(), Worn>) -> Result<(), CondEnd>
     ensures { result ≡ cond_answer end locked }
 {
     if let Err(FutexEnd::Worn { head, place }) = end {
@@ -114,6 +116,7 @@ pub fn cond_signal<R: Wait>(rt: &R, domain: &Domain, task: &mut Task, cond: u8, 
     ensures carries { Carries (set_change (watch.Plain cond) mode.Normal task.new.at) task.old task.new }
     ensures held { HoldsMutex task.new lock }
     ensures others { OthersStayHeld cond task.old task.new }
+    ensures adds { AddsToTally task.old task.new lock cond 1 }
 {
     let _ = lock;
     change_and_wake(rt, domain, task, cond, 1)
@@ -134,6 +137,7 @@ pub fn cond_broadcast<R: Wait>(rt: &R, domain: &Domain, task: &mut Task, cond: u
     ensures carries { Carries (set_change (watch.Plain cond) mode.Normal task.new.at) task.old task.new }
     ensures held { HoldsMutex task.new lock }
     ensures others { OthersStayHeld cond task.old task.new }
+    ensures adds { AddsToTally task.old task.new lock cond 1 }
 {
     let _ = lock;
     change_and_wake(rt, domain, task, cond, 0)
@@ -150,6 +154,7 @@ fn change_and_wake<R: Wait>(rt: &R, domain: &Domain, task: &mut Task, cond: u8, 
     ensures idle { IsIdle task.new }
     ensures carries { Carries (set_change (watch.Plain cond) mode.Normal task.new.at) task.old task.new }
     ensures others { OthersStayHeld cond task.old task.new }
+    ensures adds { (m : _) → m ≢ cond → HoldsMutex task.old m → AddsToTally task.old task.new m cond 1 }
 {
     let watch = Watch::Plain { cond };
     let seen = cond_load(domain, task, watch);

@@ -13,7 +13,7 @@ ghost use Rattle.wait_class.specs.Tables.{Advances, IsAt};
 ghost use Rattle.wait_class.specs.UnderWay.{IsUnderWay};
 ghost use Rattle.wait_event.specs.Ends.{wait_change};
 ghost use Rattle.futex_table.specs.declared.waits.FutexStage.TheVariants as stage;
-ghost use Rattle.futex_table.specs.FutexTables.{IsFresh, futex_table};
+ghost use Rattle.futex_table.specs.FutexTables.{IsFreshFutexWait, futex_table};
 ghost use Rattle.futex_table.specs.FutexEnds.{EndsFutexWait, HasStored, HasWokenFutex, futex_end_in};
 ghost use Rattle.futex_table.specs.Holding.{OthersStayHeld, StayHeld, holds_mutex};
 
@@ -50,7 +50,7 @@ pub fn begin_futex(task: &Task, futex: u8, expected: u64, state: SleepState) -> 
     requires futex { futex < FIRST_SIMPLE }
     requires out { IsOut task.now }
     ensures at { IsAt futex_table task.now result stage.First }
-    ensures fresh { IsFresh result.of futex expected state }
+    ensures fresh { IsFreshFutexWait result.of futex expected state }
     ensures told { IsTold task.now }
     ensures under { IsClean task.now
         → IsUnderWay futex_table (futex_table.plan_of result.of) task.now result (turn.Again stage.First) }
@@ -63,6 +63,7 @@ pub fn begin_futex(task: &Task, futex: u8, expected: u64, state: SleepState) -> 
         state,
         place: 0,
         seen: 0,
+        asked: false,
     })
 }
 
@@ -97,7 +98,7 @@ pub fn futex_wait<R: Wait>(
     end_of_futex(wait.of, outcome)
 }
 
-/// The answer of a wait that has ended.
+/// The answer of a wait that has ended. One that its task left has another, by `futex_until_of`.
 pub fn end_of_futex(wait: FutexWait, outcome: FutexOutcome) -> Result<(), FutexEnd>
     ensures { result ≡ futex_end_in wait outcome }
 {
@@ -109,6 +110,7 @@ pub fn end_of_futex(wait: FutexWait, outcome: FutexOutcome) -> Result<(), FutexE
             head: head_of(Watch::Plain { cond: wait.futex }),
             place: wait.place,
         }),
+        FutexOutcome::Left(_) => Err(FutexEnd::Interrupted),
     }
 }
 
@@ -118,7 +120,7 @@ pub fn end_futex(task: &Task, wait: &FutexRun, outcome: FutexOutcome) -> Result<
     ensures is { result ≡ futex_end_in wait.now.of outcome }
     ensures clean { (c : _) → IsUnderWay futex_table c task.now wait.now (turn.Done outcome) → IsClean task.now }
     ensures ends { (start : _) → (f : _) → (futex : _) → (expected : _) → (state : _)
-        → IsAt futex_table start f stage.First → IsFresh f.of futex expected state
+        → IsAt futex_table start f stage.First → IsFreshFutexWait f.of futex expected state
         → Advances futex_table start task.now f wait.now stage.First (turn.Done outcome)
         → EndsFutexWait start task.now futex expected state result }
 {

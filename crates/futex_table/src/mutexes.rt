@@ -11,7 +11,8 @@ ghost use Rattle.wait_class.specs.Posts.{IsOut};
 ghost use Rattle.wait_event.specs.Conds.{set_change};
 ghost use Rattle.wait_event.specs.Ends.{wait_change};
 ghost use Rattle.futex_table.specs.Holding.{HoldsMutex, OthersStayHeld, holds_mutex};
-ghost use Rattle.futex_table.specs.Mutexes.{HasReleased, HasTried, LocksMutex, is_locked, worn_in};
+ghost use Rattle.futex_table.specs.Mutexes.{HasFreedMutex, HasTriedMutex, LocksMutex, is_locked, worn_in};
+ghost use Rattle.futex_table.specs.TallyUses.{LeavesTallies, OpensTallies};
 
 use crate::futexes::{FutexEnd, futex_wait};
 use crate::stores::store_and_wake;
@@ -28,12 +29,13 @@ pub fn mutex_open<R: Wait>(rt: &R, domain: &Domain, task: &mut Task, lock: u8)
     requires up { IsUp task.old }
     requires idle { IsIdle task.old }
     requires lock { lock < FIRST_SIMPLE }
-    ensures opened { HasReleased task.old task.new lock }
+    ensures opened { HasFreedMutex task.old task.new lock }
     ensures up { IsUp task.new }
     ensures idle { IsIdle task.new }
     ensures carries { Carries (set_change (watch.Plain lock) mode.Normal task.new.at) task.old task.new }
     ensures free { holds_mutex task.new lock ≡ false }
     ensures others { OthersStayHeld lock task.old task.new }
+    ensures opens { OpensTallies lock task.old task.new }
 {
     store_and_wake(rt, domain, task, lock, 1, 1);
 }
@@ -45,13 +47,14 @@ pub fn mutex_try(domain: &Domain, task: &mut Task, lock: u8) -> bool
     requires up { IsUp task.old }
     requires idle { IsIdle task.old }
     requires lock { lock < FIRST_SIMPLE }
-    ensures tried { HasTried task.old task.new lock result }
+    ensures tried { HasTriedMutex task.old task.new lock result }
     ensures up { IsUp task.new }
     ensures idle { IsIdle task.new }
     ensures carries { Carries unchanged task.old task.new }
     ensures held { holds_mutex task.new lock ≡ (holds_mutex task.old lock || result) }
     ensures holds { result ≡ true → HoldsMutex task.new lock }
     ensures others { OthersStayHeld lock task.old task.new }
+    ensures tallies { LeavesTallies lock task.old task.new }
 {
     consume(domain, task, lock) != 0
 }
@@ -74,6 +77,7 @@ pub fn mutex_lock<R: Wait>(rt: &R, domain: &Domain, task: &mut Task, lock: u8) -
     ensures held { holds_mutex task.new lock ≡ (holds_mutex task.old lock || is_locked result) }
     ensures holds { IfOk result (λ _. HoldsMutex task.new lock) }
     ensures others { OthersStayHeld lock task.old task.new }
+    ensures tallies { LeavesTallies lock task.old task.new }
 {
     for _ in rt.forever() {
         if mutex_try(domain, task, lock) {
@@ -88,7 +92,7 @@ pub fn mutex_lock<R: Wait>(rt: &R, domain: &Domain, task: &mut Task, lock: u8) -
 }
 
 /// That no place was left for a wait.
-fn worn_in(end: Result<(), FutexEnd>) -> Option<Worn>
+pub fn worn_in(end: Result<(), FutexEnd>) -> Option<Worn>
     ensures { result ≡ worn_in end }
 {
     match end {
@@ -105,12 +109,13 @@ pub fn mutex_unlock<R: Wait>(rt: &R, domain: &Domain, task: &mut Task, lock: u8)
     requires idle { IsIdle task.old }
     requires lock { lock < FIRST_SIMPLE }
     requires held { HoldsMutex task.old lock }
-    ensures unlocked { HasReleased task.old task.new lock }
+    ensures unlocked { HasFreedMutex task.old task.new lock }
     ensures up { IsUp task.new }
     ensures idle { IsIdle task.new }
     ensures carries { Carries (set_change (watch.Plain lock) mode.Normal task.new.at) task.old task.new }
     ensures free { holds_mutex task.new lock ≡ false }
     ensures others { OthersStayHeld lock task.old task.new }
+    ensures tallies { LeavesTallies lock task.old task.new }
 {
     let _walked = store_and_wake(rt, domain, task, lock, 1, 1);
 }

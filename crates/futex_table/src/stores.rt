@@ -9,6 +9,7 @@ ghost use Rattle.wait_rule.specs.Says.{IsUp};
 ghost use Rattle.wait_rule.specs.Stays.{Carries};
 ghost use Rattle.wait_event.specs.Conds.{HasSet, set_change};
 ghost use Rattle.futex_table.specs.Holding.{OthersStayHeld, holds_mutex};
+ghost use Rattle.futex_table.specs.TallyUses.{StoresWord};
 
 use std::sync::Wait;
 use wait_model::queues::Walked;
@@ -37,6 +38,7 @@ pub fn store_and_wake<R: Wait>(
     ensures carries { Carries (set_change (watch.Plain word) mode.Normal task.new.at) task.old task.new }
     ensures free { holds_mutex task.new word ≡ false }
     ensures others { OthersStayHeld word task.old task.new }
+    ensures stores { StoresWord task.old task.new word value }
 {
     task.told();
     let watch = Watch::Plain { cond: word };

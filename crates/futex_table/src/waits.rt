@@ -23,7 +23,8 @@ pub const AGAIN: i32 = -11;
 /// A stage of a wait: where it stands in its program. In the hold that `First` draws a ticket for and `Turn` takes, the
 /// word is loaded, and given back at `Again` where it has another value; else the entry is queued and the state stored.
 /// `Queued` is the look at the own entry behind the sleep. In the hold of `OffLock` and `OffTurn` the entry is taken off,
-/// behind a look for a signal at `OffLook`; true: it found one.
+/// behind a look for a signal at `OffLook`; true: it found one. In such a hold, or in that of its load, a wait that its
+/// task leaves takes its entry off at `Leave`; true: it has queued none.
 #[derive(Clone, Copy)]
 pub enum FutexStage {
     First,
@@ -40,16 +41,19 @@ pub enum FutexStage {
     OffLook,
     Off(bool),
     OffUnlock(bool),
+    Leave(bool),
+    LeaveUnlock(bool),
 }
 
 /// How a wait ended: its task was woken, or the word had another value, or a signal was found, or no place was left for
-/// its entry.
+/// its entry, or its task left it (true: in the hold of its load, which found its entry off).
 #[derive(Clone, Copy)]
 pub enum FutexOutcome {
     Over,
     Again,
     Interrupted,
     Worn,
+    Left(bool),
 }
 
 /// The numbers of a wait.
@@ -64,6 +68,8 @@ pub struct FutexWait {
     pub place: u64,
     /// What the last load of the word found.
     pub seen: u64,
+    /// Whether its task was asked to leave it.
+    pub asked: bool,
 }
 
 pub type FutexTurn = Turn<FutexStage, FutexOutcome>;
@@ -105,6 +111,8 @@ impl Machine for FutexWait {
             FutexStage::OffLook => Doing::Heed,
             FutexStage::Off(_) => Doing::Pare,
             FutexStage::OffUnlock(_) => Doing::Unlock,
+            FutexStage::Leave(_) => Doing::Pare,
+            FutexStage::LeaveUnlock(_) => Doing::Unlock,
         }
     }
 
@@ -119,6 +127,8 @@ impl Machine for FutexWait {
             FutexStage::OffLook => false,
             FutexStage::Off(_) => false,
             FutexStage::OffUnlock(_) => false,
+            FutexStage::Leave(_) => false,
+            FutexStage::LeaveUnlock(_) => false,
             _ => true,
         }
     }
@@ -148,6 +158,7 @@ impl Machine for FutexWait {
             }
             FutexStage::OffUnlock(true) => Turn::Done(FutexOutcome::Interrupted),
             FutexStage::OffUnlock(false) => Turn::Again(FutexStage::First),
+            FutexStage::LeaveUnlock(_) => Turn::Done(FutexOutcome::Left(false)),
             _ => Turn::Again(stage),
         }
     }
@@ -188,6 +199,15 @@ impl Machine for FutexWait {
             FutexStage::OffLook => {
                 if found {
                     Turn::Again(FutexStage::OffLook)
+                } else {
+                    Turn::Done(FutexOutcome::Over)
+                }
+            }
+            FutexStage::Leave(fresh) => {
+                if found {
+                    Turn::Again(FutexStage::LeaveUnlock(fresh))
+                } else if fresh {
+                    Turn::Done(FutexOutcome::Left(true))
                 } else {
                     Turn::Done(FutexOutcome::Over)
                 }

@@ -3,3 +3,6 @@ use Rattle.futex_table.proofs.cond_vars.cond_signal.Goals as goal
 
 pub returns-clause-held : goal.returns-clause-held
 returns-clause-held g c = c.change_and_wake.ensures.others c.args.lock (λ q. c.requires.apart (sym q)) ∙ c.requires.held
+
+pub returns-clause-adds : goal.returns-clause-adds
+returns-clause-adds g c = c.change_and_wake.ensures.adds c.args.lock (λ q. c.requires.apart (sym q)) c.requires.held

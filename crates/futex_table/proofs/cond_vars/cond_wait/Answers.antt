@@ -2,10 +2,11 @@ use Rattle.std.proofs.Common.{◌∙◌, subst, sym}
 use Rattle.std.specs.Prelude.{◌≡◌, Result}
 use Rattle.wait_model.specs.declared.watches.Watch.TheVariants as watch
 use Rattle.futex_table.specs.declared.cond_vars.CondEnd.{CondEnd}
-use Rattle.futex_table.specs.CondVars.{is_held}
+use Rattle.futex_table.specs.CondVars.{is_mutex_held}
 use Rattle.futex_table.specs.Holding.{holds_mutex}
 use Rattle.futex_table.proofs.CondVaring.{answered_holds, cond_carries, cond_held, idle_agreed, load_held, sets_out}
 use Rattle.futex_table.proofs.Mutexing.{idle_still, out_still}
+use Rattle.futex_table.proofs.Tallying.{leaves_on, load_leaves, waited_leaves}
 use Rattle.futex_table.proofs.cond_vars.cond_wait.Goals as goal
 
 pub cond_load-seen-requires-clause-agreed : goal.cond_load-seen-requires-clause-agreed
@@ -46,7 +47,7 @@ returns-clause-carries g c = cond_carries c.args.lock c.args.task.now c.cond_loa
 
 pub returns-clause-held : goal.returns-clause-held
 returns-clause-held g c = subst
-    (λ (r : Result (Unit {0}) CondEnd). holds_mutex c.mutex_lock-locked.new.task c.args.lock ≡ is_held r)
+    (λ (r : Result (Unit {0}) CondEnd). holds_mutex c.mutex_lock-locked.new.task c.args.lock ≡ is_mutex_held r)
     (sym c.cond_answer.ensures)
     (cond_held _ c.futex_wait-end.result c.mutex_lock-locked.result c.mutex_lock-locked.new.task c.args.lock
     (c.futex_wait-end.ensures.held c.args.lock ∙ c.mutex_unlock.ensures.free) c.mutex_lock-locked.ensures.held)
@@ -61,3 +62,14 @@ returns-clause-others g c m ne = c.mutex_lock-locked.ensures.others m ne
 pub returns-clause-holds : goal.returns-clause-holds
 returns-clause-holds g c = answered_holds c.mutex_lock-locked.new.task c.args.lock c.cond_answer.result
     (returns-clause-held g c)
+
+pub returns-clause-tallies : goal.returns-clause-tallies
+returns-clause-tallies g c = leaves_on c.args.lock c.args.task.now c.cond_load-seen.new.task
+    c.mutex_lock-locked.new.task
+    (load_leaves c.args.lock c.args.cond c.cond_load-seen.result c.args.task.now c.cond_load-seen.new.task
+    c.cond_load-seen.ensures.step)
+    (leaves_on c.args.lock c.cond_load-seen.new.task c.mutex_unlock.new.task c.mutex_lock-locked.new.task
+    c.mutex_unlock.ensures.tallies
+    (leaves_on c.args.lock c.mutex_unlock.new.task c.futex_wait-end.new.task c.mutex_lock-locked.new.task
+    (waited_leaves c.args.lock c.mutex_unlock.new.task c.futex_wait-end.new.task c.futex_wait-end.ensures.waited)
+    c.mutex_lock-locked.ensures.tallies))

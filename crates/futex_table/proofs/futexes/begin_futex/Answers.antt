@@ -1,7 +1,7 @@
 use Rattle.std.proofs.Common.{refl, subst, sym}
 use Rattle.wait_class.proofs.Turns.{advances_none}
 use Rattle.wait_class.proofs.UnderWay.{begun_here}
-use Rattle.futex_table.specs.FutexTables.{IsFresh, IsFutex, futex_table}
+use Rattle.futex_table.specs.FutexTables.{IsFreshFutexWait, IsFutex, futex_table}
 use Rattle.futex_table.specs.declared.waits.FutexStage.TheVariants as stage
 use Rattle.futex_table.specs.declared.waits.FutexWait.{FutexWait}
 use Rattle.futex_table.proofs.FutexLaws.{futex_lawful}
@@ -9,8 +9,8 @@ use Rattle.futex_table.proofs.FutexEndings.{begins_at}
 use Rattle.futex_table.proofs.futexes.begin_futex.Goals as goal
 
 pub returns-clause-fresh : goal.returns-clause-fresh
-returns-clause-fresh c = subst (λ (w : FutexWait). IsFresh w c.args.futex c.args.expected c.args.state)
-    (sym c.new.ensures) (record { futex = refl; expected = refl; state = refl })
+returns-clause-fresh c = subst (λ (w : FutexWait). IsFreshFutexWait w c.args.futex c.args.expected c.args.state)
+    (sym c.new.ensures) (record { futex = refl; expected = refl; state = refl; unasked = refl })
 
 pub returns-clause-at : goal.returns-clause-at
 returns-clause-at c = begins_at c.args.task.now c.new.result (subst IsFutex (sym c.new.ensures) c.requires.futex)

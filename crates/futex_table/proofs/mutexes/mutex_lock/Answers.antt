@@ -1,11 +1,13 @@
 use Rattle.std.proofs.Common.{◌∙◌, sym}
 use Rattle.futex_table.proofs.Mutexing.{round_carries, round_more, waits_none}
+use Rattle.futex_table.proofs.Tallying.{leaves_none, leaves_on, waited_leaves}
 use Rattle.futex_table.proofs.mutexes.mutex_lock.Goals as goal
 
 pub loop-init : goal.loop-init
 loop-init g c = (
   waits_none c.args.task.now c.args.lock c.requires.up c.requires.idle c.requires.out,
   c.requires.of,
+  leaves_none c.args.lock c.args.task.now,
 )
 
 pub loop-preserved : goal.loop-preserved
@@ -19,4 +21,17 @@ loop-preserved g c =
       (round_carries c.args.task.now c.loop.task c.mutex_try.new.task c.args.lock w t.carries c.mutex_try.result
           c.if-mutex_try.false t.tried t.held t.others c.futex_wait-end.new.task c.futex_wait-end.result e.waited e.held
           e.carries).domain ∙ c.requires.of,
+      leaves_on c.args.lock c.args.task.now c.loop.task c.futex_wait-end.new.task c.loop.invariant.2
+          (leaves_on c.args.lock c.loop.task c.mutex_try.new.task c.futex_wait-end.new.task t.tallies
+          (waited_leaves c.args.lock c.mutex_try.new.task c.futex_wait-end.new.task e.waited)),
     )
+
+pub returns-then-mutex_try-clause-tallies : goal.returns-then-mutex_try-clause-tallies
+returns-then-mutex_try-clause-tallies g c = leaves_on c.args.lock c.args.task.now c.loop.task c.mutex_try.new.task
+    c.loop.invariant.2 c.mutex_try.ensures.tallies
+
+pub returns-in-Some-worn_in-clause-tallies : goal.returns-in-Some-worn_in-clause-tallies
+returns-in-Some-worn_in-clause-tallies g c = leaves_on c.args.lock c.args.task.now c.loop.task
+    c.futex_wait-end.new.task c.loop.invariant.2
+    (leaves_on c.args.lock c.loop.task c.mutex_try.new.task c.futex_wait-end.new.task c.mutex_try.ensures.tallies
+    (waited_leaves c.args.lock c.mutex_try.new.task c.futex_wait-end.new.task c.futex_wait-end.ensures.waited))

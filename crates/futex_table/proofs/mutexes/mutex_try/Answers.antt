@@ -1,5 +1,6 @@
 use Rattle.std.proofs.Common.{refl}
 use Rattle.futex_table.proofs.Mutexing.{idle_still, took_holds, took_others, took_tried, tried_holds}
+use Rattle.futex_table.proofs.Tallying.{took_leaves}
 use Rattle.futex_table.proofs.mutexes.mutex_try.Goals as goal
 
 pub returns-clause-tried : goal.returns-clause-tried
@@ -19,3 +20,7 @@ returns-clause-others c = took_others c.args.lock c.consume.result c.args.task.n
 
 pub returns-clause-holds : goal.returns-clause-holds
 returns-clause-holds c sure = tried_holds _ _ c.consume.new.task c.args.lock (returns-clause-held c) sure
+
+pub returns-clause-tallies : goal.returns-clause-tallies
+returns-clause-tallies c = took_leaves c.args.lock c.consume.result c.args.task.now c.consume.new.task
+    c.consume.ensures.step

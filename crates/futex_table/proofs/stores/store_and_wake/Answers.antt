@@ -3,6 +3,7 @@ use Rattle.wait_model.specs.declared.watches.Mode.TheVariants as mode
 use Rattle.wait_model.specs.declared.watches.Watch.TheVariants as watch
 use Rattle.wait_event.proofs.Setting.{has_set, set_carries, set_idle}
 use Rattle.futex_table.proofs.Mutexing.{set_frees, set_others}
+use Rattle.futex_table.proofs.Tallying.{woken_adds}
 use Rattle.futex_table.proofs.stores.store_and_wake.Goals as goal
 
 pub wake-requires-clause-idle : goal.wake-requires-clause-idle
@@ -31,3 +32,12 @@ returns-clause-others g c =
     let s = c.publish.ensures.step in
     set_others c.args.word c.args.value s.0 c.args.task.now c.publish.new.task c.wake.new.task _ c.wake.result s.1
     c.wake.ensures.woken
+
+pub returns-clause-stores : goal.returns-clause-stores
+returns-clause-stores g c =
+    let s = c.publish.ensures.step in record {
+      found = s.0;
+      stored = c.publish.new.task;
+      is = s.1;
+      behind = woken_adds c.publish.new.task c.wake.new.task _ c.wake.result c.wake.ensures.woken;
+    }

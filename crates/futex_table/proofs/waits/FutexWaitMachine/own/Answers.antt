@@ -1,4 +1,4 @@
-use Rattle.std.proofs.Common.{inl, subst, sym}
+use Rattle.std.proofs.Common.{inl, subst, sym, refl}
 use Rattle.wait_model.specs.Watches.{IsThere}
 use Rattle.wait_model.specs.declared.layout.TheConstants.{HEADS}
 use Rattle.wait_model.specs.declared.steps.Step.TheVariants as step
@@ -7,6 +7,7 @@ use Rattle.wait_class.proofs.States.{load_agreed}
 use Rattle.futex_table.specs.FutexTables.{futex_table}
 use Rattle.futex_table.proofs.FutexLaws.{futex_lawful}
 use Rattle.futex_table.proofs.WordLoads.{word_advances, word_falls}
+use Rattle.wait_class.proofs.AwakeSteps.{awake_step}
 use Rattle.futex_table.proofs.waits.FutexWaitMachine.own.Goals as goal
 
 pub cond_load-value-requires-clause-there : goal.cond_load-value-requires-clause-there
@@ -34,3 +35,7 @@ pub returns-clause-given : goal.returns-clause-given
 returns-clause-given c = given_as c.args.task.now c.cond_load-value.new.task HEADS c.args.passing.now.head
     c.requires.passes (given_step c.args.task.now c.cond_load-value.new.task
     (step.Load c.watch.result c.cond_load-value.result) c.cond_load-value.ensures.step)
+
+pub returns-clause-awake : goal.returns-clause-awake
+returns-clause-awake c = awake_step c.args.task.now c.cond_load-value.new.task
+    (step.Load c.watch.result c.cond_load-value.result) c.cond_load-value.ensures.step refl

@@ -1,0 +1,28 @@
+use Rattle.std.proofs.Common.{◌∙◌, sym}
+use Rattle.std.specs.Prelude.{true}
+use Rattle.wait_model.specs.declared.tasks.SleepState.TheVariants as states
+use Rattle.futex_table.proofs.FutexLeaving.{until_as}
+use Rattle.futex_table.proofs.LockLeaving.{asks_carries, asks_more, asks_none}
+use Rattle.futex_table.proofs.lock_leaves.mutex_lock_until.Goals as goal
+
+pub loop-init : goal.loop-init
+loop-init g c = (
+  asks_none (g.Q.Fn.post c.args.asks tt true) c.args.task.now c.args.lock c.requires.up c.requires.idle c.requires.out,
+  c.requires.of,
+)
+
+pub loop-preserved : goal.loop-preserved
+loop-preserved g c =
+    let A = g.Q.Fn.post c.args.asks tt true in
+    let w = c.loop.invariant.0 in
+    let t = c.mutex_try.ensures in
+    let e = c.futex_wait_until-end.ensures in
+    let new = c.futex_wait_until-end.new.task in
+    let end = c.futex_wait_until-end.result in
+    let waited = until_as (λ p. p) c.mutex_try.new.task new c.args.lock 0 states.Uninterruptible end e.waited in (
+      asks_more A c.args.task.now c.loop.task c.mutex_try.new.task c.args.lock w t.carries c.mutex_try.result
+          c.if-mutex_try.false t.tried t.held t.others new end waited e.held e.carries e.up e.idle e.out
+          (sym c.round_end.ensures ∙ c.in_default.is),
+      (asks_carries A c.args.task.now c.loop.task c.mutex_try.new.task c.args.lock w t.carries c.mutex_try.result
+          c.if-mutex_try.false t.tried t.held t.others new end waited e.held e.carries).domain ∙ c.requires.of,
+    )

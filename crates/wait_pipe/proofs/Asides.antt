@@ -136,7 +136,7 @@ pub scanned_quiet : (old new : Known) (h : ℕ) (hit : Bool) → HasScanned old 
 scanned_quiet old new h hit s = subst (LeavesAside old) (sym s.is) (scans_quiet old h s.items s.loads)
 
 -- a wake, and a wait for a variable, whose head is none of a completion
-var_low : (v o : ℕ) → head_of (watch.Var v o) < FIRST_DONE_HEAD
+pub var_low : (v o : ℕ) → head_of (watch.Var v o) < FIRST_DONE_HEAD
 unfolding head_of
 var_low v o = let low = hashed_low (BIT_WORDS + v) in omega (arith, low)
 

@@ -3,7 +3,9 @@ pub mod Asides
 pub mod PieceChanges
 pub mod Rousing
 pub mod Looking
+pub mod LeftWaits
 pub mod Fills
 pub mod Turns
+pub mod UntilTurns
 pub mod PipeWords
 pub mod LosesNone

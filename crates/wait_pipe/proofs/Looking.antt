@@ -63,7 +63,7 @@ use Rattle.wait_rule.proofs.KnownLaws.PipeWords.{test_off, test_on}
 use Rattle.wait_rule.proofs.KnownLaws.PipeItems.{end_append, other_r, other_w}
 use Rattle.wait_rule.proofs.KnownLaws.CarriedEnds.{programs_keep_ends}
 use Rattle.wait_class.specs.Posts.{IsOut}
-use Rattle.wait_event.specs.Ends.{WasSignalled, wait_change}
+use Rattle.wait_event.specs.Ends.{IsEndCause, WasSignalled, wait_change}
 use Rattle.wait_event.specs.Waits.{queues}
 use Rattle.wait_event.specs.declared.wait_events.WaitEnd.{WaitEnd}
 use Rattle.wait_event.specs.declared.wait_events.WaitEnd.TheVariants as wait_end
@@ -192,17 +192,22 @@ interrupted k v word seen selected queued w =
     subst (λ (o : ℕ). WasSignalled k (watch.Var v o) (shared_in state.Interruptible) seen selected queued)
     (sym w.unset) w
 
+pub end_cause : (k : ℕ) (new : Known) (word : ℕ) (queued : Bool) (e : WaitEnd)
+    → IsEndCause new (watch.Var (other_end k) word) (shared_in state.Interruptible) queued e
+    → ShowsNoCell k (end_at k new) word → IfErr (end_of_wait (Err e)) (IsReadCause k new)
+end_cause k new word queued (wait_end.Signal seen selected) c none = record {
+  selected = selected;
+  queued = queued;
+  ends = interrupted new (other_end k) word seen selected queued c;
+  none = subst (ShowsNoCell k (end_at k new)) (sym c.unset) none;
+}
+end_cause k new word queued (wait_end.Worn head place) c none = record { before = word; ends = c; none = none }
+
 cause_at : (k : ℕ) (new : Known) (word : ℕ) (ts : List Transition) (result : Result ℕ WaitEnd)
     → IsVarCause new (other_end k) word state.Interruptible ts result → ShowsNoCell k (end_at k new) word
     → IfErr (end_of_wait result) (IsReadCause k new)
 cause_at k new word ts (Ok value) c none = tt
-cause_at k new word ts (Err (wait_end.Signal seen selected)) c none = record {
-  selected = selected;
-  queued = queues ts;
-  ends = interrupted new (other_end k) word seen selected (queues ts) c;
-  none = subst (ShowsNoCell k (end_at k new)) (sym c.unset) none;
-}
-cause_at k new word ts (Err (wait_end.Worn head place)) c none = record { before = word; ends = c; none = none }
+cause_at k new word ts (Err e) c none = end_cause k new word (queues ts) e c none
 
 -- what its word showed, it shows beside the end as the wait left it
 pub none_kept : (k w : ℕ) (e f : End) → KeepsEnd e f → ShowsNoCell k e w → ShowsNoCell k f w

@@ -5,8 +5,10 @@
 mod cells;
 pub mod ends;
 pub mod laws;
+pub mod leaves;
 mod looks;
 pub mod pieces;
 
 pub use ends::{close_read, close_write, open_read, open_write};
+pub use leaves::{read_piece_until, write_piece_until};
 pub use pieces::{PipeEnd, read_piece, write_piece};

@@ -1,21 +1,24 @@
 //! Looks from one end of a pipe at the other, and waits for it.
 
 ghost use Rattle.std.specs.Prelude.{◌≡◌, ◌<◌, ◌+◌, ◌-◌, ◌*◌, ◌%◌};
-ghost use Rattle.std.specs.Prelude.{IfErr};
+ghost use Rattle.std.specs.Prelude.{IfErr, true};
 ghost use Rattle.wait_model.specs.declared.layout.TheConstants.{CLAIMS, PIPES, PIPE_ENDS};
 ghost use Rattle.wait_rule.specs.Pipes.{other_end, word_counts, write_end};
 ghost use Rattle.wait_rule.specs.PipeSays.{IsOpen, end_at, writing};
 ghost use Rattle.wait_rule.specs.Queues.{IsIdle};
 ghost use Rattle.wait_rule.specs.Says.{IsUp};
 ghost use Rattle.wait_class.specs.Posts.{IsOut};
+ghost use Rattle.wait_pipe.specs.PieceLeaves.{AwaitsUntil, IsPieceUntil, end_of_until};
 ghost use Rattle.wait_pipe.specs.Pieces.{HasSeen, IsReadCause, ShowsNoCell, Waits, end_of_wait};
 ghost use Rattle.wait_pipe.specs.Trails.{AwaitsOther, LoadsOther};
 
 use crate::ends::WRITE;
 use crate::pieces::PipeEnd;
 use std::sync::Wait;
-use var_wait::wait_var;
+use var_wait::{wait_var, wait_var_until};
 use wait_event::wait_events::WaitEnd;
+use wait_event::wait_leaves::WaitUntil;
+use wait_leave::Until;
 use wait_model::layout::{PIPE_CELLS, PIPE_ENDS};
 use wait_model::tasks::SleepState;
 use wait_model::watches::Watch;
@@ -125,5 +128,42 @@ fn answer_of(waited: Result<u64, WaitEnd>) -> Result<(), PipeEnd>
         Ok(_) => Ok(()),
         Err(WaitEnd::Signal { seen, .. }) => Err(PipeEnd::Interrupted { seen }),
         Err(WaitEnd::Worn { head, place }) => Err(PipeEnd::Worn { head, place }),
+    }
+}
+
+/// Waits as `wait_for` does, but leaves the wait once `asks` has answered true.
+pub(crate) fn wait_for_until<R: Wait, Q: Fn() -> bool>(
+    rt: &R,
+    domain: &Domain,
+    task: &mut Task,
+    own: u8,
+    word: u64,
+    asks: Q,
+) -> Until<Result<(), PipeEnd>>
+    requires of { task.old.domain ≡ domain.now }
+    requires up { IsUp task.old }
+    requires idle { IsIdle task.old }
+    requires out { IsOut task.old }
+    requires own { own < CLAIMS }
+    requires none { ShowsNoCell own (end_at own task.old) word }
+    requires asks { Q.IsAlwaysCallable asks }
+    ensures waits { Waits own task.old task.new }
+    ensures cause { IsPieceUntil (Q.post asks true) own task.new result }
+    ensures awaits { AwaitsUntil (Q.post asks true) own word task.old task.new result }
+{
+    task.told();
+    let var = other_of(own);
+    let state = SleepState::Interruptible;
+    let waited = wait_var_until(rt, domain, task, var, word, state, asks);
+    until_of(waited)
+}
+
+/// The answer of a wait for the other end that may have been left.
+fn until_of(waited: WaitUntil<Result<u64, WaitEnd>>) -> Until<Result<(), PipeEnd>>
+    ensures { result ≡ end_of_until waited }
+{
+    match waited {
+        WaitUntil::Over(end) => Until::Over(answer_of(end)),
+        WaitUntil::Left { seen, selected: _ } => Until::Left { seen },
     }
 }

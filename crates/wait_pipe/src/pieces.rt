@@ -1,7 +1,7 @@
 //! Pieces of bytes that go into a pipe and come out of it.
 
 ghost use Rattle.std.specs.Prelude.{◌≡◌, ◌<◌, ◌≤◌, ◌+◌, ◌/◌, ◌%◌, take, length};
-ghost use Rattle.std.specs.Prelude.{MatchOption, MatchResult, Ok};
+ghost use Rattle.std.specs.Prelude.{IfOk, MatchOption, MatchResult, Ok};
 ghost use Rattle.wait_model.specs.declared.layout.TheConstants.{PIPES, PIPE_CELLS};
 ghost use Rattle.wait_rule.specs.Pipes.{read_end, word_counts, write_end};
 ghost use Rattle.wait_rule.specs.PipeSays.{reading, writing};
@@ -9,7 +9,19 @@ ghost use Rattle.wait_rule.specs.Queues.{IsIdle};
 ghost use Rattle.wait_rule.specs.Says.{IsUp};
 ghost use Rattle.wait_class.specs.Posts.{IsOut};
 ghost use Rattle.wait_pipe.specs.Pieces.{Got, GotNone, IsSettled, Moved, Put, PutNone, Rests, Waits};
-ghost use Rattle.wait_pipe.specs.Trails.{LoadsCells, ReadEnds, ReadsPiece, StoresCells, WaitingTurn, WriteEnds, WritesPiece};
+ghost use Rattle.wait_pipe.specs.PieceLeaves.{SeesNoCell};
+ghost use Rattle.wait_pipe.specs.Trails.{
+  FillsCells,
+  LoadsCells,
+  ReadEnds,
+  ReadsPiece,
+  SeesClosed,
+  StoresCells,
+  WaitingTurn,
+  WriteEnds,
+  WritesPiece,
+};
+ghost use Rattle.wait_pipe.specs.declared.pieces.PipeEnd.TheVariants as end;
 
 use crate::cells::{pack, unpack};
 use crate::ends::{READ, WRITE, rouse};
@@ -89,18 +101,48 @@ fn write_turn<R: Wait>(
     ensures goes { MatchOption result (WaitingTurn (write_end pipe) task.old task.new (Ok tt))
         (WriteEnds (write_end pipe) task.old task.new bytes.now) }
 {
+    match write_now(rt, domain, task, pipe, bytes) {
+        Ok(Some(put)) => Some(Ok(put)),
+        Ok(None) => Some(Err(PipeEnd::Broken)),
+        Err(word) => match wait_for(rt, domain, task, PIPE_ENDS as u8 * pipe, word) {
+            Ok(()) => None,
+            Err(end) => Some(Err(end)),
+        },
+    }
+}
+
+/// Writes a piece without waiting: a look at the reader's word, and then the free cells are filled. None: that end is
+/// closed. Err: no cell is free, and its word is this.
+pub(crate) fn write_now<R: Wait>(
+    rt: &R,
+    domain: &Domain,
+    task: &mut Task,
+    pipe: u8,
+    bytes: &[u8],
+) -> Result<Option<usize>, u64>
+    requires of { task.old.domain ≡ domain.now }
+    requires up { IsUp task.old }
+    requires idle { IsIdle task.old }
+    requires out { IsOut task.old }
+    requires pipe { pipe < PIPES }
+    requires settled { IsSettled (writing pipe task.old) }
+    requires bytes { 0 < length bytes.now }
+    ensures look { MatchResult result
+        (λ o. MatchOption o (PutNone pipe task.old task.new end.Broken) (Put pipe task.old task.new bytes.now))
+        (SeesNoCell (write_end pipe) task.old task.new) }
+    ensures rests { Rests (write_end pipe) task.old task.new }
+    ensures goes { IfOk result (λ o. MatchOption o (SeesClosed (write_end pipe) task.old task.new)
+        (FillsCells (write_end pipe) task.old task.new bytes.now)) }
+{
     let look = look_to_write(domain, task, pipe);
     if look.closed {
-        return Some(Err(PipeEnd::Broken));
+        return Ok(None);
     }
     let used = between(look.other, look.own);
     if used < PIPE_CELLS {
-        return Some(Ok(fill(rt, domain, task, pipe, look.own, PIPE_CELLS - used, bytes)));
+        return Ok(Some(fill(rt, domain, task, pipe, look.own, PIPE_CELLS - used, bytes)));
     }
-    match wait_for(rt, domain, task, PIPE_ENDS as u8 * pipe, look.word) {
-        Ok(()) => None,
-        Err(end) => Some(Err(end)),
-    }
+    Err(look.word)
 }
 
 /// Fills free cells with as many of the bytes as fit, passes them on and wakes the reader. `count` is the number of
@@ -211,18 +253,46 @@ fn read_turn<R: Wait>(
     ensures goes { MatchOption result (WaitingTurn (read_end pipe) task.old task.new (Ok tt))
         (ReadEnds (read_end pipe) task.old task.new buf.new) }
 {
+    match read_now(rt, domain, task, pipe, buf) {
+        Ok(got) => Some(Ok(got)),
+        Err(word) => match wait_for(rt, domain, task, PIPE_ENDS as u8 * pipe + READ, word) {
+            Ok(()) => None,
+            Err(end) => Some(Err(end)),
+        },
+    }
+}
+
+/// Reads a piece without waiting: a look at the writer's word, and then cells are taken; 0 where that end is closed and
+/// no cell is left. Err: no cell is there, and its word is this.
+pub(crate) fn read_now<R: Wait>(
+    rt: &R,
+    domain: &Domain,
+    task: &mut Task,
+    pipe: u8,
+    buf: &mut [u8],
+) -> Result<usize, u64>
+    requires of { task.old.domain ≡ domain.now }
+    requires up { IsUp task.old }
+    requires idle { IsIdle task.old }
+    requires out { IsOut task.old }
+    requires pipe { pipe < PIPES }
+    requires settled { IsSettled (reading pipe task.old) }
+    requires buf { 7 ≤ length buf.old }
+    ensures same { length buf.new ≡ length buf.old }
+    ensures look { MatchResult result (Got pipe task.old task.new buf.new)
+        (SeesNoCell (read_end pipe) task.old task.new) }
+    ensures rests { Rests (read_end pipe) task.old task.new }
+    ensures goes { IfOk result (λ n. ReadEnds (read_end pipe) task.old task.new buf.new (Ok n)) }
+{
     let look = look_over(domain, task, pipe, READ);
     let there = between(look.own, look.other);
     if there > 0 {
-        return Some(Ok(drain(rt, domain, task, pipe, look.own, there, buf)));
+        return Ok(drain(rt, domain, task, pipe, look.own, there, buf));
     }
     if look.closed {
-        return Some(Ok(0));
+        return Ok(0);
     }
-    match wait_for(rt, domain, task, PIPE_ENDS as u8 * pipe + READ, look.word) {
-        Ok(()) => None,
-        Err(end) => Some(Err(end)),
-    }
+    Err(look.word)
 }
 
 /// Takes cells as long as the buffer has room for a whole one, gives them back and wakes the writer. `count` is the

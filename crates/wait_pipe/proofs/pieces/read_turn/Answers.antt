@@ -1,167 +1,54 @@
 use Rattle.std.proofs.Common.{◌∙◌, arith}
 use Rattle.std.specs.Prelude.{Ok, Err}
 use Rattle.wait_rule.specs.Pipes.{read_end}
-use Rattle.wait_pipe.proofs.Fills.{
-  at_end,
-  count_place,
-  look_shows,
-  none_there,
-  there_is,
-  other_below,
-  own_below,
-  waited_settled,
-  word_ended,
-}
 use Rattle.wait_pipe.proofs.PieceChanges.{waits_on}
-use Rattle.wait_pipe.proofs.Turns.{
-  got_drained,
-  got_end,
-  got_stopped,
-  read_none,
-  read_some,
-  saw_closed,
-  then_rests,
-  turn_of,
-}
+use Rattle.wait_pipe.proofs.Turns.{got_stopped, turn_of}
 use Rattle.wait_pipe.proofs.pieces.read_turn.Goals as goal
 
-pub look_over-look-requires-clause-of : goal.look_over-look-requires-clause-of
-look_over-look-requires-clause-of g c = c.requires.of
-
-pub look_over-look-requires-clause-up : goal.look_over-look-requires-clause-up
-look_over-look-requires-clause-up g c = c.requires.up
-
-pub look_over-look-requires-clause-idle : goal.look_over-look-requires-clause-idle
-look_over-look-requires-clause-idle g c = c.requires.idle
-
-pub look_over-look-requires-clause-out : goal.look_over-look-requires-clause-out
-look_over-look-requires-clause-out g c = c.requires.out
-
-pub look_over-look-requires-clause-still : goal.look_over-look-requires-clause-still
-look_over-look-requires-clause-still g c = c.requires.settled.still
-
-pub between-there-requires-clause-from : goal.between-there-requires-clause-from
-between-there-requires-clause-from g c = own_below c.args.pipe c.look_over-look.new.task
-    c.look_over-look.result (read_end c.args.pipe) c.look_over-look.ensures.seen
-
-pub between-there-requires-clause-to : goal.between-there-requires-clause-to
-between-there-requires-clause-to g c = other_below c.args.pipe c.look_over-look.new.task
-    c.look_over-look.result (read_end c.args.pipe) c.look_over-look.ensures.seen
-
-pub drain-requires-clause-of : goal.drain-requires-clause-of
-drain-requires-clause-of g c = c.look_over-look.ensures.waits.rests.carries.domain ∙ c.requires.of
-
-pub drain-requires-clause-up : goal.drain-requires-clause-up
-drain-requires-clause-up g c = c.look_over-look.ensures.waits.rests.up
-
-pub drain-requires-clause-idle : goal.drain-requires-clause-idle
-drain-requires-clause-idle g c = c.look_over-look.ensures.waits.rests.idle
-
-pub drain-requires-clause-out : goal.drain-requires-clause-out
-drain-requires-clause-out g c = c.look_over-look.ensures.waits.rests.out
-
-pub drain-requires-clause-settled : goal.drain-requires-clause-settled
-drain-requires-clause-settled g c = waited_settled (read_end c.args.pipe) c.args.task.now c.look_over-look.new.task
-    c.look_over-look.ensures.waits c.requires.settled
-
-pub drain-requires-clause-count : goal.drain-requires-clause-count
-unfolding drain-requires-clause-settled
-drain-requires-clause-count g c = count_place c.args.pipe c.look_over-look.new.task c.look_over-look.result
-    (read_end c.args.pipe) c.look_over-look.ensures.seen (drain-requires-clause-settled g c)
-
-pub drain-requires-clause-there : goal.drain-requires-clause-there
-unfolding drain-requires-clause-settled
-drain-requires-clause-there g c = there_is c.args.pipe c.look_over-look.new.task c.look_over-look.result
-    c.look_over-look.ensures.seen (drain-requires-clause-settled g c) c.between-there.result
-    c.between-there.ensures
-
-pub drain-requires-clause-some_cell : goal.drain-requires-clause-some_cell
-drain-requires-clause-some_cell g c = c.if-there-gt0.true
-
-pub returns-then-there-gt0-clause-turn : goal.returns-then-there-gt0-clause-turn
-returns-then-there-gt0-clause-turn g c = got_drained c.args.pipe c.args.task.now c.look_over-look.new.task
-    c.look_over-look.ensures.waits c.requires.settled c.drain.new.task c.drain.new.buf c.drain.result
-    c.drain.ensures.some c.drain.ensures.most c.drain.ensures.moved c.drain.ensures.all
-
-pub returns-then-there-gt0-clause-rests : goal.returns-then-there-gt0-clause-rests
-returns-then-there-gt0-clause-rests g c = then_rests (read_end c.args.pipe) c.args.task.now
-    c.look_over-look.new.task c.drain.new.task c.look_over-look.ensures.waits c.drain.ensures.rests
-
-pub returns-then-look-clause-turn : goal.returns-then-look-clause-turn
-returns-then-look-clause-turn g c = got_end c.args.pipe c.args.task.now c.look_over-look.new.task
-    c.look_over-look.ensures.waits c.requires.settled c.look_over-look.result c.args.buf.now c.between-there.result
-    c.look_over-look.ensures.seen c.between-there.ensures (let none = c.if-there-gt0.false in omega arith)
-    (let shut = c.if-look.true in cc)
-
-pub returns-then-look-clause-rests : goal.returns-then-look-clause-rests
-returns-then-look-clause-rests g c = c.look_over-look.ensures.waits.rests
-
 pub wait_for-requires-clause-of : goal.wait_for-requires-clause-of
-wait_for-requires-clause-of g c = c.look_over-look.ensures.waits.rests.carries.domain ∙ c.requires.of
+wait_for-requires-clause-of g c = c.read_now.ensures.rests.carries.domain ∙ c.requires.of
 
 pub wait_for-requires-clause-up : goal.wait_for-requires-clause-up
-wait_for-requires-clause-up g c = c.look_over-look.ensures.waits.rests.up
+wait_for-requires-clause-up g c = c.read_now.ensures.rests.up
 
 pub wait_for-requires-clause-idle : goal.wait_for-requires-clause-idle
-wait_for-requires-clause-idle g c = c.look_over-look.ensures.waits.rests.idle
+wait_for-requires-clause-idle g c = c.read_now.ensures.rests.idle
 
 pub wait_for-requires-clause-out : goal.wait_for-requires-clause-out
-wait_for-requires-clause-out g c = c.look_over-look.ensures.waits.rests.out
+wait_for-requires-clause-out g c = c.read_now.ensures.rests.out
 
 pub wait_for-requires-clause-own : goal.wait_for-requires-clause-own
 wait_for-requires-clause-own g c = let few = c.requires.pipe in omega arith
 
 pub wait_for-requires-clause-none : goal.wait_for-requires-clause-none
-wait_for-requires-clause-none g c = none_there c.args.pipe c.look_over-look.new.task c.look_over-look.result
-    c.look_over-look.ensures.seen (waited_settled (read_end c.args.pipe) c.args.task.now
-    c.look_over-look.new.task c.look_over-look.ensures.waits c.requires.settled) c.between-there.result
-    c.between-there.ensures (let none = c.if-there-gt0.false in omega arith) c.if-look.false
+wait_for-requires-clause-none g c = c.in-Err.ensures.look.none
 
-pub returns-in-Ok-clause-turn : goal.returns-in-Ok-clause-turn
-returns-in-Ok-clause-turn g c = waits_on (read_end c.args.pipe) c.args.task.now
-    c.look_over-look.new.task c.wait_for.new.task c.look_over-look.ensures.waits c.wait_for.ensures.waits
+pub returns-in-Ok-wait_for-clause-turn : goal.returns-in-Ok-wait_for-clause-turn
+returns-in-Ok-wait_for-clause-turn g c = waits_on (read_end c.args.pipe) c.args.task.now c.read_now.new.task
+    c.wait_for.new.task c.in-Err.ensures.look.waits
+    c.wait_for.ensures.waits
 
-pub returns-in-Ok-clause-rests : goal.returns-in-Ok-clause-rests
-returns-in-Ok-clause-rests g c = (waits_on (read_end c.args.pipe) c.args.task.now
-    c.look_over-look.new.task c.wait_for.new.task c.look_over-look.ensures.waits c.wait_for.ensures.waits).rests
+pub returns-in-Ok-wait_for-clause-rests : goal.returns-in-Ok-wait_for-clause-rests
+returns-in-Ok-wait_for-clause-rests g c = (waits_on (read_end c.args.pipe) c.args.task.now c.read_now.new.task
+    c.wait_for.new.task c.in-Err.ensures.look.waits
+    c.wait_for.ensures.waits).rests
 
-pub returns-in-Err-clause-turn : goal.returns-in-Err-clause-turn
-returns-in-Err-clause-turn g c = got_stopped c.args.pipe c.args.task.now c.look_over-look.new.task
-    c.look_over-look.ensures.waits c.requires.settled c.wait_for.new.task c.in-Err.end c.wait_for.ensures.waits
-    c.in-Err.ensures.cause
+pub returns-in-Ok-wait_for-clause-goes : goal.returns-in-Ok-wait_for-clause-goes
+returns-in-Ok-wait_for-clause-goes g c = turn_of (read_end c.args.pipe) c.in-Err.word c.args.task.now
+    c.read_now.new.task
+    c.wait_for.new.task (Ok tt) c.in-Err.ensures.look.loads c.in-Ok-wait_for.ensures.awaits
 
-pub returns-in-Err-clause-rests : goal.returns-in-Err-clause-rests
-returns-in-Err-clause-rests g c = (waits_on (read_end c.args.pipe) c.args.task.now
-    c.look_over-look.new.task c.wait_for.new.task c.look_over-look.ensures.waits c.wait_for.ensures.waits).rests
+pub returns-in-Err-wait_for-clause-turn : goal.returns-in-Err-wait_for-clause-turn
+returns-in-Err-wait_for-clause-turn g c = got_stopped c.args.pipe c.args.task.now c.read_now.new.task
+    c.in-Err.ensures.look.waits c.requires.settled c.wait_for.new.task c.in-Err-wait_for.end c.wait_for.ensures.waits
+    c.in-Err-wait_for.ensures.cause
 
-pub returns-then-there-gt0-clause-goes : goal.returns-then-there-gt0-clause-goes
-returns-then-there-gt0-clause-goes g c = read_some (read_end c.args.pipe) c.drain.result c.args.task.now
-    c.look_over-look.new.task c.drain.new.task c.drain.new.buf
-    (look_shows c.args.pipe c.look_over-look.new.task c.look_over-look.result (read_end c.args.pipe)
-    c.args.task.now c.look_over-look.ensures.seen c.look_over-look.ensures.loads) c.drain.ensures.some
-    c.drain.ensures.loads
+pub returns-in-Err-wait_for-clause-rests : goal.returns-in-Err-wait_for-clause-rests
+returns-in-Err-wait_for-clause-rests g c = (waits_on (read_end c.args.pipe) c.args.task.now c.read_now.new.task
+    c.wait_for.new.task c.in-Err.ensures.look.waits
+    c.wait_for.ensures.waits).rests
 
-pub returns-then-look-clause-goes : goal.returns-then-look-clause-goes
-returns-then-look-clause-goes g c =
-    let shut = c.if-look.true in
-    let seen = c.look_over-look.ensures.seen in
-    let end = at_end c.args.pipe c.look_over-look.new.task c.look_over-look.result seen
-    (waited_settled (read_end c.args.pipe) c.args.task.now c.look_over-look.new.task c.look_over-look.ensures.waits
-    c.requires.settled) c.between-there.result c.between-there.ensures
-    (let none = c.if-there-gt0.false in omega arith) (let is = shut in cc) in
-    read_none (read_end c.args.pipe) c.args.task.now c.look_over-look.new.task c.args.buf.now
-    (saw_closed (read_end c.args.pipe) c.args.task.now c.look_over-look.new.task
-    (look_shows c.args.pipe c.look_over-look.new.task c.look_over-look.result (read_end c.args.pipe)
-    c.args.task.now seen c.look_over-look.ensures.loads)
-    (word_ended c.args.pipe c.look_over-look.new.task c.look_over-look.result (read_end c.args.pipe) seen
-    (let is = shut in cc))) end.all
-
-pub returns-in-Ok-clause-goes : goal.returns-in-Ok-clause-goes
-returns-in-Ok-clause-goes g c = turn_of (read_end c.args.pipe) c.look_over-look.result.word c.args.task.now
-    c.look_over-look.new.task c.wait_for.new.task (Ok tt) c.look_over-look.ensures.loads
-    c.in-Ok.ensures.awaits
-
-pub returns-in-Err-clause-goes : goal.returns-in-Err-clause-goes
-returns-in-Err-clause-goes g c = turn_of (read_end c.args.pipe) c.look_over-look.result.word c.args.task.now
-    c.look_over-look.new.task c.wait_for.new.task (Err c.in-Err.end) c.look_over-look.ensures.loads
-    c.in-Err.ensures.awaits
+pub returns-in-Err-wait_for-clause-goes : goal.returns-in-Err-wait_for-clause-goes
+returns-in-Err-wait_for-clause-goes g c = turn_of (read_end c.args.pipe) c.in-Err.word c.args.task.now
+    c.read_now.new.task
+    c.wait_for.new.task (Err c.in-Err-wait_for.end) c.in-Err.ensures.look.loads c.in-Err-wait_for.ensures.awaits

@@ -1,161 +1,67 @@
 use Rattle.std.proofs.Common.{◌∙◌, arith}
 use Rattle.std.specs.Prelude.{Ok, Err}
 use Rattle.wait_rule.specs.Pipes.{write_end}
-use Rattle.wait_pipe.proofs.Fills.{
-  count_place,
-  free_is,
-  look_shows,
-  none_free,
-  other_below,
-  own_below,
-  waited_settled,
-  word_ended,
-  word_open,
-}
 use Rattle.wait_pipe.proofs.PieceChanges.{waits_on}
-use Rattle.wait_pipe.proofs.Turns.{
-  put_broken,
-  put_filled,
-  put_stopped,
-  saw_closed,
-  then_rests,
-  turn_of,
-  write_stops,
-  wrote_some,
-}
+use Rattle.wait_pipe.proofs.Turns.{put_stopped, turn_of, write_stops}
 use Rattle.wait_pipe.proofs.pieces.write_turn.Goals as goal
 
-pub look_to_write-look-requires-clause-of : goal.look_to_write-look-requires-clause-of
-look_to_write-look-requires-clause-of g c = c.requires.of
-
-pub look_to_write-look-requires-clause-up : goal.look_to_write-look-requires-clause-up
-look_to_write-look-requires-clause-up g c = c.requires.up
-
-pub look_to_write-look-requires-clause-idle : goal.look_to_write-look-requires-clause-idle
-look_to_write-look-requires-clause-idle g c = c.requires.idle
-
-pub look_to_write-look-requires-clause-out : goal.look_to_write-look-requires-clause-out
-look_to_write-look-requires-clause-out g c = c.requires.out
-
-pub look_to_write-look-requires-clause-still : goal.look_to_write-look-requires-clause-still
-look_to_write-look-requires-clause-still g c = c.requires.settled.still
-
-pub returns-then-look-clause-turn : goal.returns-then-look-clause-turn
-returns-then-look-clause-turn g c = put_broken c.args.pipe c.args.task.now c.look_to_write-look.new.task
-    c.look_to_write-look.ensures.waits c.requires.settled (c.look_to_write-look.ensures.seen.ended ∙ c.if-look.true)
-
-pub returns-then-look-clause-rests : goal.returns-then-look-clause-rests
-returns-then-look-clause-rests g c = c.look_to_write-look.ensures.waits.rests
-
-pub between-used-requires-clause-from : goal.between-used-requires-clause-from
-between-used-requires-clause-from g c = other_below c.args.pipe c.look_to_write-look.new.task
-    c.look_to_write-look.result (write_end c.args.pipe) c.look_to_write-look.ensures.seen
-
-pub between-used-requires-clause-to : goal.between-used-requires-clause-to
-between-used-requires-clause-to g c = own_below c.args.pipe c.look_to_write-look.new.task
-    c.look_to_write-look.result (write_end c.args.pipe) c.look_to_write-look.ensures.seen
-
-pub fill-requires-clause-of : goal.fill-requires-clause-of
-fill-requires-clause-of g c = c.look_to_write-look.ensures.waits.rests.carries.domain ∙ c.requires.of
-
-pub fill-requires-clause-up : goal.fill-requires-clause-up
-fill-requires-clause-up g c = c.look_to_write-look.ensures.waits.rests.up
-
-pub fill-requires-clause-idle : goal.fill-requires-clause-idle
-fill-requires-clause-idle g c = c.look_to_write-look.ensures.waits.rests.idle
-
-pub fill-requires-clause-out : goal.fill-requires-clause-out
-fill-requires-clause-out g c = c.look_to_write-look.ensures.waits.rests.out
-
-pub fill-requires-clause-settled : goal.fill-requires-clause-settled
-fill-requires-clause-settled g c = waited_settled (write_end c.args.pipe) c.args.task.now c.look_to_write-look.new.task
-    c.look_to_write-look.ensures.waits c.requires.settled
-
-pub fill-requires-clause-count : goal.fill-requires-clause-count
-unfolding fill-requires-clause-settled
-fill-requires-clause-count g c = count_place c.args.pipe c.look_to_write-look.new.task c.look_to_write-look.result
-    (write_end c.args.pipe) c.look_to_write-look.ensures.seen (fill-requires-clause-settled g c)
-
-pub fill-requires-clause-free : goal.fill-requires-clause-free
-unfolding fill-requires-clause-settled
-fill-requires-clause-free g c = free_is c.args.pipe c.look_to_write-look.new.task c.look_to_write-look.result
-    c.look_to_write-look.ensures.seen (fill-requires-clause-settled g c) c.between-used.result
-    c.between-used.ensures
-
-pub fill-requires-clause-room : goal.fill-requires-clause-room
-fill-requires-clause-room g c = let few = c.if-used-lt-PIPE_CELLS.true in omega arith
-
-pub returns-then-used-lt-PIPE_CELLS-clause-turn : goal.returns-then-used-lt-PIPE_CELLS-clause-turn
-returns-then-used-lt-PIPE_CELLS-clause-turn g c = put_filled c.args.pipe c.args.task.now c.look_to_write-look.new.task
-    c.look_to_write-look.ensures.waits c.requires.settled c.fill.new.task c.args.bytes.now c.fill.result
-    c.fill.ensures.some c.fill.ensures.most c.fill.ensures.moved c.fill.ensures.ended
-    (c.look_to_write-look.ensures.seen.ended ∙ c.if-look.false) c.fill.ensures.cells c.fill.ensures.full
-
-pub returns-then-used-lt-PIPE_CELLS-clause-rests : goal.returns-then-used-lt-PIPE_CELLS-clause-rests
-returns-then-used-lt-PIPE_CELLS-clause-rests g c = then_rests (write_end c.args.pipe) c.args.task.now
-    c.look_to_write-look.new.task c.fill.new.task c.look_to_write-look.ensures.waits c.fill.ensures.rests
-
 pub wait_for-requires-clause-of : goal.wait_for-requires-clause-of
-wait_for-requires-clause-of g c = c.look_to_write-look.ensures.waits.rests.carries.domain ∙ c.requires.of
+wait_for-requires-clause-of g c = c.write_now.ensures.rests.carries.domain ∙ c.requires.of
 
 pub wait_for-requires-clause-up : goal.wait_for-requires-clause-up
-wait_for-requires-clause-up g c = c.look_to_write-look.ensures.waits.rests.up
+wait_for-requires-clause-up g c = c.write_now.ensures.rests.up
 
 pub wait_for-requires-clause-idle : goal.wait_for-requires-clause-idle
-wait_for-requires-clause-idle g c = c.look_to_write-look.ensures.waits.rests.idle
+wait_for-requires-clause-idle g c = c.write_now.ensures.rests.idle
 
 pub wait_for-requires-clause-out : goal.wait_for-requires-clause-out
-wait_for-requires-clause-out g c = c.look_to_write-look.ensures.waits.rests.out
+wait_for-requires-clause-out g c = c.write_now.ensures.rests.out
 
 pub wait_for-requires-clause-own : goal.wait_for-requires-clause-own
 wait_for-requires-clause-own g c = let few = c.requires.pipe in omega arith
 
 pub wait_for-requires-clause-none : goal.wait_for-requires-clause-none
-wait_for-requires-clause-none g c = none_free c.args.pipe c.look_to_write-look.new.task c.look_to_write-look.result
-    c.look_to_write-look.ensures.seen (waited_settled (write_end c.args.pipe) c.args.task.now
-    c.look_to_write-look.new.task c.look_to_write-look.ensures.waits c.requires.settled) c.between-used.result
-    c.between-used.ensures (let full = c.if-used-lt-PIPE_CELLS.false in omega arith) search
+wait_for-requires-clause-none g c = c.in-Err.ensures.look.none
+
+pub returns-in-Ok-Some-clause-turn : goal.returns-in-Ok-Some-clause-turn
+returns-in-Ok-Some-clause-turn g c = rw c.in-Ok-Some.field-0-is at c.in-Ok-Some.ensures.look
+
+pub returns-in-Ok-None-clause-turn : goal.returns-in-Ok-None-clause-turn
+returns-in-Ok-None-clause-turn g c = rw c.in-Ok-None.field-0-is at c.in-Ok-None.ensures.look
+
+pub returns-in-Ok-Some-clause-goes : goal.returns-in-Ok-Some-clause-goes
+returns-in-Ok-Some-clause-goes g c = rw c.in-Ok-Some.field-0-is at c.in-Ok-Some.ensures.goes
+
+pub returns-in-Ok-None-clause-goes : goal.returns-in-Ok-None-clause-goes
+returns-in-Ok-None-clause-goes g c = rw c.in-Ok-None.field-0-is at c.in-Ok-None.ensures.goes
 
 pub returns-in-Ok-clause-turn : goal.returns-in-Ok-clause-turn
-returns-in-Ok-clause-turn g c = waits_on (write_end c.args.pipe) c.args.task.now
-    c.look_to_write-look.new.task c.wait_for.new.task c.look_to_write-look.ensures.waits c.wait_for.ensures.waits
+returns-in-Ok-clause-turn g c = waits_on (write_end c.args.pipe) c.args.task.now c.write_now.new.task
+    c.wait_for.new.task c.in-Err.ensures.look.waits
+    c.wait_for.ensures.waits
 
 pub returns-in-Ok-clause-rests : goal.returns-in-Ok-clause-rests
-returns-in-Ok-clause-rests g c = (waits_on (write_end c.args.pipe) c.args.task.now
-    c.look_to_write-look.new.task c.wait_for.new.task c.look_to_write-look.ensures.waits c.wait_for.ensures.waits).rests
-
-pub returns-in-Err-clause-turn : goal.returns-in-Err-clause-turn
-returns-in-Err-clause-turn g c = put_stopped c.args.pipe c.args.task.now c.look_to_write-look.new.task
-    c.look_to_write-look.ensures.waits c.requires.settled c.wait_for.new.task c.in-Err.end c.wait_for.ensures.waits
-    c.in-Err.ensures.cause
-
-pub returns-in-Err-clause-rests : goal.returns-in-Err-clause-rests
-returns-in-Err-clause-rests g c = (waits_on (write_end c.args.pipe) c.args.task.now
-    c.look_to_write-look.new.task c.wait_for.new.task c.look_to_write-look.ensures.waits c.wait_for.ensures.waits).rests
-
-pub returns-then-look-clause-goes : goal.returns-then-look-clause-goes
-returns-then-look-clause-goes g c = saw_closed (write_end c.args.pipe) c.args.task.now c.look_to_write-look.new.task
-    (look_shows c.args.pipe c.look_to_write-look.new.task c.look_to_write-look.result (write_end c.args.pipe)
-    c.args.task.now c.look_to_write-look.ensures.seen c.look_to_write-look.ensures.loads)
-    (word_ended c.args.pipe c.look_to_write-look.new.task c.look_to_write-look.result (write_end c.args.pipe)
-    c.look_to_write-look.ensures.seen c.if-look.true)
-
-pub returns-then-used-lt-PIPE_CELLS-clause-goes : goal.returns-then-used-lt-PIPE_CELLS-clause-goes
-returns-then-used-lt-PIPE_CELLS-clause-goes g c = wrote_some (write_end c.args.pipe) c.fill.result c.args.task.now
-    c.look_to_write-look.new.task c.fill.new.task c.args.bytes.now
-    (look_shows c.args.pipe c.look_to_write-look.new.task c.look_to_write-look.result (write_end c.args.pipe)
-    c.args.task.now c.look_to_write-look.ensures.seen c.look_to_write-look.ensures.loads)
-    (word_open c.args.pipe c.look_to_write-look.new.task c.look_to_write-look.result (write_end c.args.pipe)
-    c.look_to_write-look.ensures.seen c.if-look.false) c.fill.ensures.stores
+returns-in-Ok-clause-rests g c = (waits_on (write_end c.args.pipe) c.args.task.now c.write_now.new.task
+    c.wait_for.new.task c.in-Err.ensures.look.waits
+    c.wait_for.ensures.waits).rests
 
 pub returns-in-Ok-clause-goes : goal.returns-in-Ok-clause-goes
-returns-in-Ok-clause-goes g c = turn_of (write_end c.args.pipe) c.look_to_write-look.result.word c.args.task.now
-    c.look_to_write-look.new.task c.wait_for.new.task (Ok tt) c.look_to_write-look.ensures.loads
-    c.in-Ok.ensures.awaits
+returns-in-Ok-clause-goes g c = turn_of (write_end c.args.pipe) c.in-Err.word c.args.task.now c.write_now.new.task
+    c.wait_for.new.task (Ok tt) c.in-Err.ensures.look.loads c.in-Ok.ensures.awaits
 
-pub returns-in-Err-clause-goes : goal.returns-in-Err-clause-goes
-returns-in-Err-clause-goes g c = write_stops (write_end c.args.pipe) c.args.task.now c.wait_for.new.task
-    c.args.bytes.now c.in-Err.end c.in-Err.ensures.cause
-    (turn_of (write_end c.args.pipe) c.look_to_write-look.result.word c.args.task.now
-    c.look_to_write-look.new.task c.wait_for.new.task (Err c.in-Err.end) c.look_to_write-look.ensures.loads
-    c.in-Err.ensures.awaits)
+pub returns-in-Err-wait_for-clause-turn : goal.returns-in-Err-wait_for-clause-turn
+returns-in-Err-wait_for-clause-turn g c = put_stopped c.args.pipe c.args.task.now c.write_now.new.task
+    c.in-Err.ensures.look.waits c.requires.settled c.wait_for.new.task c.in-Err-wait_for.end c.wait_for.ensures.waits
+    c.in-Err-wait_for.ensures.cause
+
+pub returns-in-Err-wait_for-clause-rests : goal.returns-in-Err-wait_for-clause-rests
+returns-in-Err-wait_for-clause-rests g c = (waits_on (write_end c.args.pipe) c.args.task.now c.write_now.new.task
+    c.wait_for.new.task c.in-Err.ensures.look.waits
+    c.wait_for.ensures.waits).rests
+
+pub returns-in-Err-wait_for-clause-goes : goal.returns-in-Err-wait_for-clause-goes
+returns-in-Err-wait_for-clause-goes g c = write_stops (write_end c.args.pipe) c.args.task.now c.wait_for.new.task
+    c.args.bytes.now
+    c.in-Err-wait_for.end c.in-Err-wait_for.ensures.cause
+    (turn_of (write_end c.args.pipe) c.in-Err.word c.args.task.now c.write_now.new.task
+    c.wait_for.new.task (Err c.in-Err-wait_for.end) c.in-Err.ensures.look.loads c.in-Err-wait_for.ensures.awaits)

@@ -8,6 +8,7 @@ use Rattle.wq_checked.specs.Begins.{Begins, refusal_to}
 use Rattle.wq_checked.specs.Calls.{CameFrom, Rouses, WentOn}
 use Rattle.wq_checked.specs.Checked.{Checked}
 use Rattle.wq_checked.specs.Locks.{IsDrawn, Passes, awaited_in}
+use Rattle.wq_checked.specs.Outs.{WentOut}
 use Rattle.wq_checked.specs.Reasons.{stopped_reason}
 use Rattle.wq_checked.specs.declared.calls.Progress.{Progress}
 use Rattle.wq_checked.specs.declared.calls.Progress.TheVariants as progress
@@ -27,10 +28,11 @@ abbrev pub GoesOn : Checked → Checked → Progress → Type 0
 GoesOn k m p = (may : Bool) (start : Known) (first : Running) → CameFrom may start first k.task k.running
     → WentOn may start first m.task m.running p
 
--- The same, and it was asked to leave where it is a wait.
-abbrev pub IsLeftOn : Checked → Checked → Progress → Type 0
-IsLeftOn k m p = (may : Bool) (start : Known) (first : Running) → CameFrom may start first k.task k.running
-    → WentOn true start first m.task m.running p
+-- The same, and it was asked to leave where it is a wait: it went out of the stage where it stood, if that has an exit.
+pub record IsLeftOn (k m : Checked) (p : Progress) : Type 0 where
+  pub goes : (may : Bool) (start : Known) (first : Running) → CameFrom may start first k.task k.running
+      → WentOn true start first m.task m.running p
+  pub asks : WentOut k.task k.running m.task m.running p
 
 -- What is replied to what was asked. Where it is refused, nothing has changed.
 abbrev pub Replies : Option Wanted → Checked → Checked → Reply → Type 0

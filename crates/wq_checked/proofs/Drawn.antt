@@ -1,6 +1,6 @@
 -- A call that tells of a lock has its ticket out.
 use Rattle.std.proofs.Common.{◌≡◌, ◌∙◌, refl, subst, sym, ap}
-use Rattle.std.specs.Prelude.{ℕ, Bool, true, if◌then◌else◌, Option, Some, None}
+use Rattle.std.specs.Prelude.{Bool, true, if◌then◌else◌, Option, Some, None}
 use Rattle.wait_rule.specs.Known.{Known}
 use Rattle.wait_rule.specs.Tickets.{drawn, taken}
 use Rattle.wait_class.specs.Posts.{ticket_out}

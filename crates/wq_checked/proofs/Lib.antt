@@ -8,6 +8,7 @@ pub mod Elsewhere
 pub mod EventTurns
 pub mod GroundTurns
 pub mod WayTurns
+pub mod Outs
 pub mod LowWays
 pub mod BitTurns
 pub mod LockTurns

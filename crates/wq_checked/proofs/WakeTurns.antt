@@ -1,16 +1,14 @@
 -- A turn of a wake: it has come on from where it began, or it is over, and its task ready.
 use Rattle.std.proofs.Common.{◌∙◌, sym, refl, subst}
-use Rattle.std.specs.Prelude.{◌≡◌, ◌||◌, ◌&&◌, Bool, true, false, None}
+use Rattle.std.specs.Prelude.{◌≡◌, ◌||◌, ◌&&◌, Bool, true, false}
 use Rattle.wait_model.specs.declared.queues.Walked.{Walked}
 use Rattle.wait_model.specs.declared.watches.Aim.{Aim}
 use Rattle.wait_model.specs.declared.watches.Mode.{Mode}
 use Rattle.wait_model.specs.declared.watches.Watch.{Watch}
 use Rattle.wait_model.specs.Tasks.{meets}
 use Rattle.wait_model.specs.Watches.{mask_of, same}
-use Rattle.wait_rule.specs.LeftEntries.{HasLeftNone}
 use Rattle.wait_rule.specs.Known.{Known}
-use Rattle.wait_rule.specs.Queues.{IsIdle}
-use Rattle.wait_rule.specs.Says.{Excuse, IsUp, Owes, told_of}
+use Rattle.wait_rule.specs.Says.{Excuse, Owes}
 use Rattle.wait_rule.specs.Stays.{with_wakes}
 use Rattle.wait_rule.proofs.KnownLaws.CarriedTasks.{owes_more}
 use Rattle.wq_head.specs.Turns.{HasTurned, IsAt, IsOver}
@@ -20,7 +18,7 @@ use Rattle.wq_head.specs.declared.wakes.WakeStage.{WakeStage}
 use Rattle.wq_head.specs.declared.wakes.WakeStage.TheVariants as stage
 use Rattle.wq_head.specs.declared.wakes.WakeTurn.{WakeTurn}
 use Rattle.wq_head.specs.declared.wakes.WakeTurn.TheVariants as turn
-use Rattle.wq_checked.specs.Kept.{IsReady, but_kept, keeps_in}
+use Rattle.wq_checked.specs.Kept.{IsReady, but_kept}
 use Rattle.wq_checked.specs.Begins.{HasJustBegun, BeginsAs}
 use Rattle.wq_checked.specs.declared.calls.Call.{Call}
 use Rattle.wq_checked.specs.Calls.{

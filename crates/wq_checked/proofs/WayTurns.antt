@@ -7,11 +7,12 @@ use Rattle.wait_class.specs.declared.stages.Run.{Run}
 use Rattle.wait_class.specs.declared.stages.Turn.{Turn}
 use Rattle.wait_class.specs.declared.stages.Turn.TheVariants as turn
 use Rattle.wait_class.specs.Laws.{IsLawfulTable}
-use Rattle.wait_class.specs.Tables.{Advances, CallTable, IsAt, Lands, next_in, plan_program}
+use Rattle.wait_class.specs.Tables.{Advances, CallTable, IsAt, Lands, SleepsNot, next_in, plan_program}
 use Rattle.wait_leave.specs.ExitLaws.{AreLawfulExits}
-use Rattle.wait_leave.specs.Leaves.{Exits, GoesOut, Leaves, SleepsNot, asked_run, stays_awake}
+use Rattle.wait_leave.specs.Leaves.{Exits, GoesOut, Leaves, asked_run, stays_awake}
 use Rattle.wait_leave.specs.OnTheWay.{OnTheWay, left_at, straight}
-use Rattle.wait_leave.proofs.Awake.{goes_awake, rest_awake, sleeps_not_on, sleeps_not_same}
+use Rattle.wait_leave.proofs.Awake.{goes_awake, rest_awake}
+use Rattle.wait_class.proofs.AwakeSteps.{sleeps_not_on, sleeps_not_same}
 use Rattle.wait_leave.proofs.Ways.{way_again, way_lands, way_none, way_then}
 use Rattle.wq_checked.specs.Stages.{HasCome, StandsBy, StretchesOn}
 use Rattle.wq_checked.proofs.GroundTurns.{joined}

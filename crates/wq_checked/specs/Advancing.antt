@@ -1,6 +1,6 @@
 -- For proofs alone.
 -- What a stretch of a call leaves under way and tells, and what holds where a wake begins.
-use Rattle.std.specs.Prelude.{ℕ, ◌≡◌, Bool, true, false, None}
+use Rattle.std.specs.Prelude.{◌≡◌, Bool, true, false, None}
 use Rattle.wait_model.specs.declared.watches.Aim.{Aim}
 use Rattle.wait_model.specs.declared.watches.Mode.TheVariants as mode
 use Rattle.wait_model.specs.declared.watches.Watch.{Watch}

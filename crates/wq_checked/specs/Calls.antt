@@ -2,17 +2,13 @@
 -- A call that is under way, from its beginning to its answer.
 use Rattle.std.specs.Prelude.{ℕ, ◌≡◌, ◌<◌, ◌^◌, Bool, true, false, None, Some, Result, []}
 use Rattle.wait_model.specs.declared.tasks.How.{How}
-use Rattle.wait_model.specs.declared.tasks.SleepState.{SleepState}
-use Rattle.wait_model.specs.declared.steps.Step.TheVariants as step
 use Rattle.wait_model.specs.declared.watches.Aim.{Aim}
 use Rattle.wait_model.specs.declared.watches.Watch.{Watch}
 use Rattle.wait_model.specs.declared.watches.Watch.TheVariants as watch
-use Rattle.wait_model.specs.Watches as model
 use Rattle.wait_rule.specs.HandedPermits.{StaysOff}
 use Rattle.wait_rule.specs.LeftEntries.{HasLeftNone}
 use Rattle.wait_rule.specs.Known.{Known}
-use Rattle.wait_rule.specs.declared.journal.Item.TheVariants as item
-use Rattle.wait_rule.specs.Says.{Owes, added, told_of}
+use Rattle.wait_rule.specs.Says.{Owes, told_of}
 use Rattle.wait_rule.specs.Stays.{with_wakes}
 use Rattle.wait_event.specs.Waits as events
 use Rattle.wait_event.specs.WaitLeaves as event_leaves
@@ -39,18 +35,14 @@ use Rattle.completion_cell.specs.Awaits.{AwaitTurn}
 use Rattle.completion_cell.specs.AwaitLeaves as await_leaves
 use Rattle.completion_cell.specs.CellTurns as cells
 use Rattle.completion_cell.specs.declared.awaits.AwaitStage.TheVariants as await_stage
-use Rattle.completion_cell.specs.declared.cell_turns.CellCall.{CellCall}
 use Rattle.completion_cell.specs.declared.cell_turns.CellRun.{CellRun}
 use Rattle.completion_cell.specs.declared.cell_turns.CellStage.{CellStage}
-use Rattle.completion_cell.specs.declared.cell_turns.CellStage.TheVariants as cell_stage
 use Rattle.swait_queue.specs.SwakeTurns as swakes
 use Rattle.swait_queue.specs.declared.swake_turns.SwakeRun.{SwakeRun}
 use Rattle.swait_queue.specs.declared.swake_turns.SwakeStage.{SwakeStage}
-use Rattle.swait_queue.specs.declared.swake_turns.SwakeStage.TheVariants as swake_stage
 use Rattle.wait_model.specs.declared.watches.Mode.TheVariants as mode
 use Rattle.wq_head.specs.Roused.{IsRousing, tasks_in}
 use Rattle.wq_head.specs.Turns as wakes
-use Rattle.wq_head.specs.Scanned.{HasScanned, unmade}
 use Rattle.wq_head.specs.declared.rousing.Rousing.{Rousing}
 use Rattle.wq_head.specs.declared.wakes.WakeRun.{WakeRun}
 use Rattle.wq_head.specs.declared.wakes.WakeStage.TheVariants as wake_stage

@@ -1,6 +1,6 @@
 -- To be believed.
 -- What is kept of a task between two of its calls.
-use Rattle.std.specs.Prelude.{ℕ, ◌≡◌, ◌&&◌, Bool, true, false, nat_lt, None, slice_index}
+use Rattle.std.specs.Prelude.{◌≡◌, ◌&&◌, Bool, false, nat_lt, None, slice_index}
 use Rattle.wait_model.specs.declared.layout.TheConstants.{WORD_BITS}
 use Rattle.wait_model.specs.declared.watches.Watch.{Watch}
 use Rattle.wait_model.specs.declared.watches.Watch.TheVariants as watch

@@ -7,3 +7,4 @@ pub mod Reasons
 pub mod Signals
 pub mod Begins
 pub mod Advancing
+pub mod Outs

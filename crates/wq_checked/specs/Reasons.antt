@@ -1,6 +1,6 @@
 -- To be believed.
 -- When a call is refused, by the call that is under way, the bits that the task keeps, and the numbers of the call.
-use Rattle.std.specs.Prelude.{ℕ, ◌≡◌, ◌<◌, ◌≤◌, ◌+◌, Bool, true, false, Option, Some, None}
+use Rattle.std.specs.Prelude.{ℕ, ◌≡◌, ◌<◌, ◌≤◌, ◌+◌, Option, Some, None}
 use Rattle.wq_checked.specs.Checked.{Checked}
 use Rattle.wq_checked.specs.declared.calls.Running.{Running}
 use Rattle.wq_checked.specs.declared.calls.Running.TheVariants as running

@@ -15,6 +15,7 @@ ghost use Rattle.wq_checked.specs.Calls.{CameFrom, IsSound, Rouses, WentOn, bit_
 ghost use Rattle.wq_checked.specs.Advancing.{event_left, event_shown, bit_left, bit_shown, lock_left, lock_shown};
 ghost use Rattle.wq_checked.specs.Advancing.{wake_left, wake_shown};
 ghost use Rattle.wq_checked.specs.Advancing.{page_left, page_shown, bit_worn, lock_worn, lock_took, page_took};
+ghost use Rattle.wq_checked.specs.Outs.{WentOut};
 ghost use Rattle.wq_checked.specs.Reasons.{stopped_reason};
 ghost use Rattle.wq_checked.specs.declared.calls.Running.{Running as TheRunning};
 ghost use Rattle.wq_checked.specs.declared.calls.Running.TheVariants as running;
@@ -111,6 +112,7 @@ pub(crate) fn event_on(
     ensures goes { (may : Bool) (start : Known) (first : TheRunning)
         → CameFrom may start first task.old (running.Event run last)
         → WentOn (asks || may) start first task.new result.0 result.1 }
+    ensures asks { asks ≡ true → WentOut task.old (running.Event run last) task.new result.0 result.1 }
 {
     let _ = kept;
     let mut run = run;
@@ -164,6 +166,7 @@ pub(crate) fn bit_on(
     ensures goes { (may : Bool) (start : Known) (first : TheRunning)
         → CameFrom may start first task.old (running.Bit run last)
         → WentOn (asks || may) start first task.new result.0 result.1 }
+    ensures asks { asks ≡ true → WentOut task.old (running.Bit run last) task.new result.0 result.1 }
 {
     let _ = kept;
     let mut run = run;
@@ -253,6 +256,7 @@ pub(crate) fn lock_on(
     ensures goes { (may : Bool) (start : Known) (first : TheRunning)
         → CameFrom may start first task.old (running.Lock run last)
         → WentOn (asks || may) start first task.new result.0 result.1 }
+    ensures asks { asks ≡ true → WentOut task.old (running.Lock run last) task.new result.0 result.1 }
 {
     let (word, bit) = (run.of.wait.word, run.of.wait.bit);
     let mut run = run;
@@ -295,6 +299,7 @@ pub(crate) fn page_on(
     ensures goes { (may : Bool) (start : Known) (first : TheRunning)
         → CameFrom may start first task.old (running.Page run last)
         → WentOn (asks || may) start first task.new result.0 result.1 }
+    ensures asks { asks ≡ true → WentOut task.old (running.Page run last) task.new result.0 result.1 }
 {
     let page = run.of.page;
     let mut run = run;
@@ -363,6 +368,7 @@ pub(crate) fn go_on(
     ensures sound { IsSound result.0 kept.new task.new }
     ensures goes { (may : Bool) (start : Known) (first : TheRunning) → CameFrom may start first task.old running
         → WentOn (asks || may) start first task.new result.0 result.1 }
+    ensures asks { asks ≡ true → WentOut task.old running task.new result.0 result.1 }
     ensures rouses { Rouses running task.old task.new rousing.new }
 {
     match running {

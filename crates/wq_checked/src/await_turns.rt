@@ -1,10 +1,11 @@
 //! Waits for completions: one stretch, what it leaves under way, and what it tells.
 
-ghost use Rattle.std.specs.Prelude.{◌≡◌, ◌||◌, Bool};
+ghost use Rattle.std.specs.Prelude.{◌≡◌, ◌||◌, Bool, true};
 ghost use Rattle.wait_rule.specs.Known.{Known};
 ghost use Rattle.wait_rule.specs.PassedLocks.{PassesNone};
 ghost use Rattle.wq_checked.specs.Advancing.{await_left, await_shown};
 ghost use Rattle.wq_checked.specs.Calls.{CameFrom, IsSound, WentOn, await_answer};
+ghost use Rattle.wq_checked.specs.Outs.{WentOut};
 ghost use Rattle.wq_checked.specs.declared.calls.Running.{Running as TheRunning};
 ghost use Rattle.wq_checked.specs.declared.calls.Running.TheVariants as running;
 
@@ -66,6 +67,7 @@ pub(crate) fn await_on(
     ensures goes { (may : Bool) (start : Known) (first : TheRunning)
         → CameFrom may start first task.old (running.Await run last)
         → WentOn (asks || may) start first task.new result.0 result.1 }
+    ensures asks { asks ≡ true → WentOut task.old (running.Await run last) task.new result.0 result.1 }
 {
     let _ = kept;
     let mut run = run;

@@ -11,6 +11,7 @@ ghost use Rattle.wq_checked.specs.Calls.{CameFrom, Rouses, WentOn};
 ghost use Rattle.wq_checked.specs.Checked.{shared_by};
 ghost use Rattle.wq_checked.specs.Kept.{IsReady, keeps_in};
 ghost use Rattle.wq_checked.specs.Locks.{IsDrawn, Passes, awaited_in};
+ghost use Rattle.wq_checked.specs.Outs.{WentOut};
 ghost use Rattle.wq_checked.specs.Reasons.{IsNoFork, busy_reason, stopped_reason};
 ghost use Rattle.wq_checked.specs.declared.calls.Running.{Running as TheRunning};
 ghost use Rattle.wq_checked.specs.declared.calls.Running.TheVariants as running;
@@ -200,6 +201,7 @@ impl CheckedTask {
         ensures goes { IfOk result (λ told. (may : Bool) (start : Known) (first : TheRunning)
             → CameFrom may start first self.old.task self.old.running
             → WentOn true start first self.new.task self.new.running told) }
+        ensures asks { IfOk result (WentOut self.old.task self.old.running self.new.task self.new.running) }
         ensures rouses { IfOk result (λ _. Rouses self.old.running self.old.task self.new.task rousing.new) }
         ensures awaits { IfOk result (λ told. IsDrawn self.new.task told) }
         ensures passes { IfOk result (λ told. Passes (awaited_in self.old.running) told passed.old passed.new) }
@@ -222,6 +224,8 @@ impl CheckedTask {
         ensures goes { IfOk result (λ told. (may : Bool) (start : Known) (first : TheRunning)
             → CameFrom may start first self.old.task self.old.running
             → WentOn (asks || may) start first self.new.task self.new.running told) }
+        ensures asks { IfOk result (λ told. asks ≡ true
+            → WentOut self.old.task self.old.running self.new.task self.new.running told) }
         ensures rouses { IfOk result (λ _. Rouses self.old.running self.old.task self.new.task rousing.new) }
         ensures awaits { IfOk result (λ told. IsDrawn self.new.task told) }
         ensures passes { IfOk result (λ told. Passes (awaited_in self.old.running) told passed.old passed.new) }

@@ -24,3 +24,14 @@ returns-clause-goes c may start first came =
     (bit_goes c.args.asks may start first c.args.task.now t.new.task c.rest.new.task c.args.run t.new.run c.args.last
     t.result c.requires.sound.stands came t.ensures.goes
     (subst (λ (b : Bool). HasRested t.new.task c.rest.new.task b) c.found_worn.ensures c.rest.ensures))
+
+pub returns-clause-asks : goal.returns-clause-asks
+returns-clause-asks c asked = record {
+  ended = c.ground_turn-turn.new.task;
+  run = c.ground_turn-turn.new.run;
+  to = c.ground_turn-turn.result;
+  out = c.ground_turn-turn.ensures.asks asked;
+  rests = subst (λ (b : Bool). HasRested c.ground_turn-turn.new.task c.rest.new.task b) c.found_worn.ensures c.rest.ensures;
+  is = c.bit_leaves.ensures.left;
+  tells = c.bit_leaves.ensures.shown;
+}

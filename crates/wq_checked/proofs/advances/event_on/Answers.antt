@@ -1,4 +1,4 @@
-use Rattle.std.proofs.Common.{subst, sym}
+use Rattle.std.proofs.Common.{refl, subst, sym}
 use Rattle.std.specs.Prelude.{◌||◌}
 use Rattle.wq_checked.specs.Calls.{IsSound}
 use Rattle.wq_checked.specs.Advancing.{event_left, event_shown}
@@ -21,3 +21,14 @@ returns-clause-goes c may start first came =
     (event_shown t.new.run t.result) c.event_leaves.ensures.left c.event_leaves.ensures.shown
     (event_goes c.args.asks may start first c.args.task.now t.new.task c.args.run t.new.run c.args.last t.result
     c.requires.sound.stands came t.ensures.goes)
+
+pub returns-clause-asks : goal.returns-clause-asks
+returns-clause-asks c asked = record {
+  ended = c.ground_turn-turn.new.task;
+  run = c.ground_turn-turn.new.run;
+  to = c.ground_turn-turn.result;
+  out = c.ground_turn-turn.ensures.asks asked;
+  rests = refl;
+  is = c.event_leaves.ensures.left;
+  tells = c.event_leaves.ensures.shown;
+}

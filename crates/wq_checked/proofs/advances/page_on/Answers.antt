@@ -1,4 +1,4 @@
-use Rattle.std.proofs.Common.{subst, sym}
+use Rattle.std.proofs.Common.{refl, subst, sym}
 use Rattle.std.specs.Prelude.{◌||◌}
 use Rattle.wq_checked.specs.Calls.{IsSound}
 use Rattle.wq_checked.specs.Advancing.{page_left, page_shown, page_took}
@@ -22,3 +22,14 @@ returns-clause-goes c may start first came =
     (page_shown t.new.run t.result) c.page_leaves.ensures.left c.page_leaves.ensures.shown
     (page_goes c.args.asks may start first c.args.task.now t.new.task c.args.run t.new.run c.args.last t.result
     c.requires.sound.stands came t.ensures.goes)
+
+pub returns-clause-asks : goal.returns-clause-asks
+returns-clause-asks c asked = record {
+  ended = c.ground_turn-turn.new.task;
+  run = c.ground_turn-turn.new.run;
+  to = c.ground_turn-turn.result;
+  out = c.ground_turn-turn.ensures.asks asked;
+  rests = refl;
+  is = c.page_leaves.ensures.left;
+  tells = c.page_leaves.ensures.shown;
+}

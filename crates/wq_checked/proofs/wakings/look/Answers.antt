@@ -1,9 +1,9 @@
-use Rattle.std.proofs.Common.{◌∙◌, ℕ, ◌<◌, refl, subst, sym}
+use Rattle.std.proofs.Common.{ℕ, ◌<◌, refl, subst, sym}
 use Rattle.wait_model.specs.declared.layout.TheConstants.{HEADS}
 use Rattle.wq_head.specs.Scanned.{HasEndedAt, HasScanned}
 use Rattle.wait_class.proofs.WatchHeads.{watch_fits}
 use Rattle.wq_checked.specs.Advancing.{normal_wake}
-use Rattle.wq_checked.proofs.Publishing.{full_there, looked_waking, looks_hit, looks_none, silent_ready}
+use Rattle.wq_checked.proofs.Publishing.{full_there, looked_waking, looks_hit, silent_ready}
 use Rattle.wq_checked.proofs.WakeTurns.{first_sound}
 use Rattle.wq_checked.proofs.wakings.look.Goals as goal
 

@@ -1,4 +1,3 @@
-use Rattle.std.proofs.Common.{refl}
 use Rattle.wq_checked.proofs.Masks.{no_masks}
 use Rattle.wq_checked.proofs.kept_bits.KeptBits.none.Goals as goal
 

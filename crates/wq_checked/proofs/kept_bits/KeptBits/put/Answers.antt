@@ -1,5 +1,5 @@
 use Rattle.std.proofs.Common.{ap, arith, length, subst}
-use Rattle.std.specs.Prelude.{ℕ, ◌≡◌, ◌<◌, ◌+◌, ◌^◌, if◌then◌else◌, List, set, slice_index}
+use Rattle.std.specs.Prelude.{ℕ, ◌≡◌, ◌<◌, ◌+◌, ◌^◌, if◌then◌else◌, set, slice_index}
 use Rattle.wait_model.specs.Words.{bit_at}
 use Rattle.wq_checked.proofs.Masks.{put_masks}
 use Rattle.wq_checked.proofs.kept_bits.KeptBits.put.Goals as goal

@@ -17,6 +17,7 @@ returns-in_default c =
       same = tt;
       under = search rules;
       goes = search rules;
+      asks = search rules;
       rouses = search rules;
       awaits = goes_drawn (c.args.asks || true) t.kept t.task t.running g.new.task g.result.0 g.result.1 under c.self.invariant.1
           (g.ensures.goes true);

@@ -9,7 +9,6 @@ pub mod holds;
 pub mod kept;
 pub mod pages;
 pub mod parts;
-pub mod semaphores;
 pub mod simple;
 pub mod stretched;
 pub mod stretched_bits;

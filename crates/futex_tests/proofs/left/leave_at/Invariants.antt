@@ -1,0 +1,7 @@
+use Rattle.std.proofs.Common.{◌≡◌}
+use Rattle.wait_class.specs.Tables.{Lands}
+use Rattle.futex_table.specs.FutexTables.{futex_table}
+use Rattle.futex_tests.proofs.left.leave_at.Given as goal
+
+abbrev pub invariant-loop : goal.invariant-loop
+invariant-loop g l = record { of : l.task.domain ≡ l.fn.domain; waiting : Lands futex_table l.task l.run l.at }

@@ -1,0 +1,110 @@
+//! The calls that the tests by threads make, each by a task that owes nothing, before it and after it. The mutex of the
+//! tests is futex 6, their condition variable futex 7, and futex 5 one that tasks sleep on.
+
+ghost use Rattle.std.specs.Prelude.{◌≡◌, true};
+ghost use Rattle.wait_rule.specs.Says.{IsClean};
+ghost use Rattle.futex_table.specs.Holding.{HoldsMutex};
+
+use futex_table::{cond_broadcast, cond_wait, futex_wake, mutex_lock, mutex_open, mutex_unlock};
+use std::sync::Wait;
+use std::thread;
+use wait_model::tasks::SleepState;
+use wait_rule::{Domain, Task};
+
+/// The futex.
+const FUTEX: u8 = 5;
+
+/// The mutex.
+const LOCK: u8 = 6;
+
+/// The condition variable.
+const COND: u8 = 7;
+
+/// Opens the mutex.
+pub(crate) fn open<R: Wait>(rt: &R, domain: &Domain, task: &mut Task)
+    requires of { task.old.domain ≡ domain.now }
+    requires clean { IsClean task.old }
+    ensures of { task.new.domain ≡ domain.now }
+    ensures clean { IsClean task.new }
+{
+    mutex_open(rt, domain, task, LOCK);
+}
+
+/// Takes the mutex: whether it has it.
+pub(crate) fn lock<R: Wait>(rt: &R, domain: &Domain, task: &mut Task) -> bool
+    requires of { task.old.domain ≡ domain.now }
+    requires clean { IsClean task.old }
+    ensures of { task.new.domain ≡ domain.now }
+    ensures clean { IsClean task.new }
+    ensures holds { result ≡ true → HoldsMutex task.new 6 }
+{
+    match mutex_lock(rt, domain, task, LOCK) {
+        Ok(()) => true,
+        Err(_worn) => false,
+    }
+}
+
+/// Gives it back.
+pub(crate) fn unlock<R: Wait>(rt: &R, domain: &Domain, task: &mut Task)
+    requires of { task.old.domain ≡ domain.now }
+    requires clean { IsClean task.old }
+    requires holds { HoldsMutex task.old 6 }
+    ensures of { task.new.domain ≡ domain.now }
+    ensures clean { IsClean task.new }
+{
+    mutex_unlock(rt, domain, task, LOCK);
+}
+
+/// Waits for the condition variable: whether it has the mutex behind the wait.
+pub(crate) fn wait<R: Wait>(rt: &R, domain: &Domain, task: &mut Task) -> bool
+    requires of { task.old.domain ≡ domain.now }
+    requires clean { IsClean task.old }
+    requires holds { HoldsMutex task.old 6 }
+    ensures of { task.new.domain ≡ domain.now }
+    ensures clean { IsClean task.new }
+    ensures holds { result ≡ true → HoldsMutex task.new 6 }
+{
+    let state = SleepState::Uninterruptible;
+    match cond_wait(rt, domain, task, COND, LOCK, state) {
+        Ok(()) => true,
+        Err(_end) => false,
+    }
+}
+
+/// Wakes all who wait for the condition variable.
+pub(crate) fn broadcast<R: Wait>(rt: &R, domain: &Domain, task: &mut Task)
+    requires of { task.old.domain ≡ domain.now }
+    requires clean { IsClean task.old }
+    requires holds { HoldsMutex task.old 6 }
+    ensures of { task.new.domain ≡ domain.now }
+    ensures clean { IsClean task.new }
+    ensures holds { HoldsMutex task.new 6 }
+{
+    cond_broadcast(rt, domain, task, COND, LOCK);
+}
+
+/// Wakes one who sleeps on the futex: whether one did.
+fn wake_one<R: Wait>(rt: &R, domain: &Domain, task: &mut Task) -> bool
+    requires of { task.old.domain ≡ domain.now }
+    requires clean { IsClean task.old }
+    ensures of { task.new.domain ≡ domain.now }
+    ensures clean { IsClean task.new }
+{
+    futex_wake(rt, domain, task, FUTEX, 1) == 1
+}
+
+/// Wakes one, as soon as one sleeps.
+pub(crate) fn wake_soon<R: Wait>(rt: &R, domain: &Domain, task: &mut Task) -> bool
+    requires of { task.old.domain ≡ domain.now }
+    requires clean { IsClean task.old }
+    ensures of { task.new.domain ≡ domain.now }
+    ensures clean { IsClean task.new }
+{
+    for _ in rt.forever() {
+        if wake_one(rt, domain, task) {
+            return true;
+        }
+        thread::yield_now();
+    }
+    unreachable!()
+}

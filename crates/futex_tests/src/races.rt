@@ -1,0 +1,127 @@
+//! A signal that races with a wake, in threads of their own, again and again, in Domains whose tasks park at once when
+//! they are put asleep.
+
+ghost use Rattle.std.specs.Prelude.{◌≡◌};
+ghost use Rattle.wait_rule.specs.Says.{IsClean};
+
+use crate::calls::wake_soon;
+use crate::wants::{all_so, another};
+use futex_table::{futex_wait, futex_wake};
+use std::sync::Wait;
+use std::sync::atomic::{AtomicU64, Ordering};
+use std::test::Fail;
+use std::thread;
+use test_tasks::meetings::{Part, meet_four};
+use wait_model::tasks::SleepState;
+use wait_rule::{Domain, Task, send_signal};
+
+/// How many rounds the test makes.
+const ROUNDS: u32 = 300;
+
+/// The futex, whose word is 0 throughout.
+const FUTEX: u8 = 5;
+
+/// What a task does in a round.
+#[derive(Clone, Copy)]
+enum Racing<'a> {
+    /// It wakes one who sleeps on the futex, as soon as somebody does.
+    Wakes,
+    /// It sends a signal to the task of this number, after so many yields.
+    Signals { who: u8, late: u32 },
+    /// It sleeps until a wake or a signal comes, and counts the wakes: a wake that it got it passes on.
+    Passes(&'a AtomicU64),
+    /// It sleeps until a wake comes.
+    Sleeps(&'a AtomicU64),
+}
+
+impl Part for Racing<'_> {
+    fn play<R: Wait>(self, rt: &R, domain: &Domain, task: &mut Task) -> bool {
+        match self {
+            Racing::Wakes => wake_soon(rt, domain, task),
+            Racing::Signals { who, late } => signal_late(rt, domain, task, who, late),
+            Racing::Passes(wakes) => pass_on(rt, domain, task, wakes),
+            Racing::Sleeps(wakes) => sleep(rt, domain, task, SleepState::Uninterruptible, wakes),
+        }
+    }
+}
+
+/// Yields so often, and sends a plain signal.
+fn signal_late<R: Wait>(rt: &R, domain: &Domain, task: &mut Task, who: u8, late: u32) -> bool
+    requires of { task.old.domain ≡ domain.now }
+    requires clean { IsClean task.old }
+    ensures of { task.new.domain ≡ domain.now }
+    ensures clean { IsClean task.new }
+{
+    for _ in 0..late {
+        thread::yield_now();
+    }
+    send_signal(rt, domain, task, who, false);
+    true
+}
+
+/// Sleeps on the futex: true where a wake ended it, which is counted.
+fn sleep<R: Wait>(
+    rt: &R,
+    domain: &Domain,
+    task: &mut Task,
+    state: SleepState,
+    wakes: &AtomicU64,
+) -> bool
+    requires of { task.old.domain ≡ domain.now }
+    requires clean { IsClean task.old }
+    ensures of { task.new.domain ≡ domain.now }
+    ensures clean { IsClean task.new }
+{
+    match futex_wait(rt, domain, task, FUTEX, 0, state) {
+        Ok(()) => {
+            wakes.fetch_add(1, Ordering::SeqCst);
+            true
+        }
+        Err(_end) => false,
+    }
+}
+
+/// Sleeps until a wake or a signal comes, and passes a wake on.
+fn pass_on<R: Wait>(rt: &R, domain: &Domain, task: &mut Task, wakes: &AtomicU64) -> bool
+    requires of { task.old.domain ≡ domain.now }
+    requires clean { IsClean task.old }
+    ensures of { task.new.domain ≡ domain.now }
+    ensures clean { IsClean task.new }
+{
+    if sleep(rt, domain, task, SleepState::Interruptible, wakes) {
+        return wake_soon(rt, domain, task);
+    }
+    true
+}
+
+/// Whichever comes first, the wake ends one of the two sleeps: where the signal ended the first, it is the second; and
+/// where it was the first, that passes it on. Nobody sleeps then.
+#[test]
+fn signal_races_with_a_wake(rt: HostRuntime) -> Result<(), Fail> {
+    for round in 0..ROUNDS {
+        let (domain, mut task) = Domain::with_looks(rt.alloc(), 0)?;
+        let wakes = AtomicU64::new(0);
+        let one = another(&rt, &domain, &mut task);
+        let two = another(&rt, &domain, &mut task);
+        let three = another(&rt, &domain, &mut task);
+        let passes = Racing::Passes(&wakes);
+        let sleeps = Racing::Sleeps(&wakes);
+        let signals = Racing::Signals {
+            who: one.number(),
+            late: round % 30,
+        };
+        let ((first, one), (two, three)) = meet_four(
+            &rt,
+            &domain,
+            (task, one),
+            (two, three),
+            (Racing::Wakes, passes),
+            (sleeps, signals),
+        );
+        let mut task = first.0;
+        let nobody = futex_wake(&rt, &domain, &mut task, FUTEX, 8) == 0;
+        let some = wakes.load(Ordering::SeqCst) >= 1;
+        all_so(&rt, &[first.1, one.1, two.1, three.1, nobody, some]);
+    }
+    Ok(())
+}

@@ -1,0 +1,90 @@
+//! Four tasks that add to a plain tally under one mutex, in threads of their own, again and again, in Domains whose tasks
+//! park at once when they are put asleep.
+
+ghost use Rattle.std.specs.Prelude.{◌≡◌};
+ghost use Rattle.wait_rule.specs.Says.{IsClean};
+
+use crate::calls::{lock, open, unlock};
+use crate::wants::{all_so, another};
+use std::sync::Wait;
+use std::sync::atomic::{AtomicU64, Ordering};
+use std::test::Fail;
+use std::thread;
+use test_tasks::meetings::{Part, meet_four};
+use wait_rule::{Domain, Task};
+
+/// How many rounds the test makes, and how often each task adds in a round.
+const ROUNDS: u32 = 300;
+
+const ADDS: u32 = 25;
+
+/// Adds to the tally so often.
+#[derive(Clone, Copy)]
+struct Counts<'a>(&'a AtomicU64);
+
+impl Part for Counts<'_> {
+    fn play<R: Wait>(self, rt: &R, domain: &Domain, task: &mut Task) -> bool {
+        count_often(rt, domain, task, self.0)
+    }
+}
+
+/// Adds 1 to the tally by a load and a store: an add of another task between the two would be lost.
+fn add_plainly(tally: &AtomicU64) {
+    let now = tally.load(Ordering::SeqCst);
+    thread::yield_now();
+    tally.store(now.wrapping_add(1), Ordering::SeqCst);
+}
+
+/// The same with the mutex: whether it had it.
+fn count_once<R: Wait>(rt: &R, domain: &Domain, task: &mut Task, tally: &AtomicU64) -> bool
+    requires of { task.old.domain ≡ domain.now }
+    requires clean { IsClean task.old }
+    ensures of { task.new.domain ≡ domain.now }
+    ensures clean { IsClean task.new }
+{
+    if lock(rt, domain, task) {
+        add_plainly(tally);
+        unlock(rt, domain, task);
+        return true;
+    }
+    false
+}
+
+/// The same again and again: whether it had the mutex each time.
+fn count_often<R: Wait>(rt: &R, domain: &Domain, task: &mut Task, tally: &AtomicU64) -> bool
+    requires of { task.old.domain ≡ domain.now }
+    requires clean { IsClean task.old }
+    ensures of { task.new.domain ≡ domain.now }
+    ensures clean { IsClean task.new }
+{
+    let mut well = true;
+    for _ in 0..ADDS {
+        well = count_once(rt, domain, task, tally) && well;
+    }
+    well
+}
+
+/// Whatever the order of the steps, no add is lost.
+#[test]
+fn tally_of_four(rt: HostRuntime) -> Result<(), Fail> {
+    for _round in 0..ROUNDS {
+        let (domain, mut task) = Domain::with_looks(rt.alloc(), 0)?;
+        let tally = AtomicU64::new(0);
+        open(&rt, &domain, &mut task);
+        let one = another(&rt, &domain, &mut task);
+        let two = another(&rt, &domain, &mut task);
+        let three = another(&rt, &domain, &mut task);
+        let counts = Counts(&tally);
+        let ((first, one), (two, three)) = meet_four(
+            &rt,
+            &domain,
+            (task, one),
+            (two, three),
+            (counts, counts),
+            (counts, counts),
+        );
+        let exact = tally.load(Ordering::SeqCst) == 100;
+        all_so(&rt, &[first.1, one.1, two.1, three.1, exact]);
+    }
+    Ok(())
+}

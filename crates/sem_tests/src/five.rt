@@ -1,0 +1,79 @@
+//! Five tasks in threads of their own, again and again, in Domains whose tasks park at once when they are put asleep.
+
+ghost use Rattle.std.specs.Prelude.{◌≡◌};
+ghost use Rattle.wait_rule.specs.Says.{IsClean};
+
+use crate::calls::{gives, tries};
+use crate::rounds::Plays;
+use crate::wants::{all_so, another};
+use std::process::Abort;
+use std::sync::Wait;
+use std::test::Fail;
+use std::thread;
+use std::thread::Threads;
+use test_tasks::meetings::meet_four;
+use wait_rule::{Domain, Task};
+
+/// How many rounds the test makes.
+const ROUNDS: u32 = 300;
+
+/// The semaphore of the tests.
+pub(crate) const CELL: u8 = 5;
+
+/// Gives four permits back: whether each was given or counted.
+fn give_four<R: Wait>(rt: &R, domain: &Domain, task: Task) -> (Task, bool)
+    requires of { task.domain ≡ domain.now }
+    requires clean { IsClean task }
+    ensures of { result.0.domain ≡ domain.now }
+    ensures clean { IsClean result.0 }
+{
+    let mut task = task;
+    let one = gives(rt, domain, &mut task, CELL).is_ok();
+    let two = gives(rt, domain, &mut task, CELL).is_ok();
+    let three = gives(rt, domain, &mut task, CELL).is_ok();
+    let four = gives(rt, domain, &mut task, CELL).is_ok();
+    (task, one && two && three && four)
+}
+
+/// The first task gives four permits back, while four others take one each: the first.
+fn four_take<R: Abort + Threads + Wait + Sync>(rt: &R, domain: &Domain, mut task: Task) -> Task
+    requires of { task.domain ≡ domain.now }
+    requires clean { IsClean task }
+    ensures of { result.domain ≡ domain.now }
+    ensures clean { IsClean result }
+{
+    let one = another(rt, domain, &mut task);
+    let two = another(rt, domain, &mut task);
+    let three = another(rt, domain, &mut task);
+    let four = another(rt, domain, &mut task);
+    let takes = (Plays::Takes, Plays::Takes);
+    let ((task, gave), ((one, two), (three, four))) = thread::join(
+        rt,
+        move || -> (Task, bool)
+            requires { (task.domain ≡ domain.now) × IsClean task }
+            ensures { (result.0.domain ≡ domain.entry.now) × IsClean result.0 }
+        { give_four(rt, domain, task) },
+        move || -> (((Task, bool), (Task, bool)), ((Task, bool), (Task, bool)))
+            requires { ((one.domain ≡ domain.now) × ((two.domain ≡ domain.now)
+                × ((three.domain ≡ domain.now) × (four.domain ≡ domain.now))))
+                × (IsClean one × (IsClean two × (IsClean three × IsClean four))) }
+            ensures { (((result.0.0.0.domain ≡ domain.entry.now) × (result.0.1.0.domain ≡ domain.entry.now))
+                × ((result.1.0.0.domain ≡ domain.entry.now) × (result.1.1.0.domain ≡ domain.entry.now)))
+                × ((IsClean result.0.0.0 × IsClean result.0.1.0)
+                × (IsClean result.1.0.0 × IsClean result.1.1.0)) }
+        { meet_four(rt, domain, (one, two), (three, four), takes, takes) },
+    );
+    all_so(rt, &[gave, one.1, two.1, three.1, four.1]);
+    task
+}
+
+/// Four permits are given back, four are taken, and none is left.
+#[test]
+fn four_permits(rt: HostRuntime) -> Result<(), Fail> {
+    for _round in 0..ROUNDS {
+        let (domain, task) = Domain::with_looks(rt.alloc(), 0)?;
+        let mut task = four_take(&rt, &domain, task);
+        all_so(&rt, &[!tries(&rt, &domain, &mut task, CELL)]);
+    }
+    Ok(())
+}

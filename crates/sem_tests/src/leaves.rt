@@ -1,0 +1,123 @@
+//! A `down` by stretches on one thread, which its task leaves once it was woken.
+
+ghost use Rattle.std.specs.Prelude.{◌≡◌};
+ghost use Rattle.wait_rule.specs.Says.{IsClean};
+ghost use Rattle.wait_class.specs.Tables.{IsAsleepAt, IsAt, Lands};
+ghost use Rattle.count_sem.specs.Downs.{down_table};
+ghost use Rattle.count_sem.specs.declared.downs.DownStage.TheVariants as stage;
+
+use crate::calls::{gives, tries};
+use crate::wants::{all_so, another};
+use count_sem::downs::{DownRun, DownStage, DownTurn};
+use count_sem::{begin_down, leave_down, up};
+use std::process::Abort;
+use std::sync::Wait;
+use std::test::Fail;
+use wait_class::runs::{stretch, woke};
+use wait_class::stages::Turn;
+use wait_leave::Until;
+use wait_model::tasks::SleepState;
+use wait_model::watches::Mode;
+use wait_rule::queues::Passing;
+use wait_rule::{Domain, Task, wake_task};
+
+/// The semaphore of the tests.
+const CELL: u8 = 6;
+
+/// Goes on by one stretch.
+fn go_on(domain: &Domain, task: &mut Task, call: &mut DownRun, stage: DownStage) -> DownTurn
+    requires of { task.old.domain ≡ domain.now }
+    requires at { IsAt down_table task.old call.old stage }
+    ensures of { task.new.domain ≡ domain.now }
+    ensures lands { Lands down_table task.new call.new result }
+{
+    let mut passing = Passing::none();
+    let turn = stretch(domain, task, call, stage, &mut passing);
+    passing.wake(domain);
+    passing.end();
+    turn
+}
+
+/// A `down` that nobody keeps waiting falls asleep by two stretches: at which stage it goes on once it was woken.
+fn fall_asleep<R: Abort>(rt: &R, domain: &Domain, task: &mut Task, call: &mut DownRun) -> DownStage
+    requires of { task.old.domain ≡ domain.now }
+    requires at { IsAt down_table task.old call.old stage.First }
+    ensures of { task.new.domain ≡ domain.now }
+    ensures asleep { IsAsleepAt down_table task.new call.new result }
+{
+    let Turn::Again(queued) = go_on(domain, task, call, DownStage::First) else {
+        panic!(rt; "its entry is queued")
+    };
+    let Turn::Asleep(next) = go_on(domain, task, call, queued) else {
+        panic!(rt; "it is put asleep")
+    };
+    next
+}
+
+/// It was given a permit, and is left then: whether it took that.
+fn left_with_a_permit<R: Abort + Wait>(
+    rt: &R,
+    domain: &Domain,
+    task: &mut Task,
+    waiter: &mut Task,
+) -> bool
+    requires of { (task.old.domain ≡ domain.now) × (waiter.old.domain ≡ domain.now) }
+    requires clean { IsClean task.old × IsClean waiter.old }
+    ensures of { task.new.domain ≡ domain.now }
+    ensures clean { IsClean task.new }
+{
+    let mut call = begin_down(waiter, CELL, SleepState::Uninterruptible);
+    let next = fall_asleep(rt, domain, waiter, &mut call);
+    let gave = up(rt, domain, task, CELL).is_ok();
+    if !woke(domain, waiter, &call, next) {
+        panic!(rt; "it was woken")
+    }
+    let end = leave_down(rt, domain, waiter, &mut call, next);
+    gave && matches!(end, Until::Over(Ok(())))
+}
+
+/// It was woken with no permit, and is left then: whether it was left with the count found 0.
+fn left_with_none<R: Abort + Wait>(
+    rt: &R,
+    domain: &Domain,
+    task: &mut Task,
+    waiter: &mut Task,
+) -> bool
+    requires of { (task.old.domain ≡ domain.now) × (waiter.old.domain ≡ domain.now) }
+    requires clean { IsClean task.old × IsClean waiter.old }
+    ensures of { task.new.domain ≡ domain.now }
+    ensures clean { IsClean task.new }
+{
+    let mut call = begin_down(waiter, CELL, SleepState::Uninterruptible);
+    let next = fall_asleep(rt, domain, waiter, &mut call);
+    let woken = wake_task(rt, domain, task, waiter.number(), Mode::Normal);
+    if !woke(domain, waiter, &call, next) {
+        panic!(rt; "it was woken")
+    }
+    let end = leave_down(rt, domain, waiter, &mut call, next);
+    woken && matches!(end, Until::Left { seen: 0 })
+}
+
+/// A `down` that is left takes the permit that it was given, and none is counted then.
+#[test]
+fn left_down_takes_the_permit_that_it_was_given(rt: HostRuntime) -> Result<(), Fail> {
+    let (domain, mut task) = Domain::new(rt.alloc())?;
+    let mut waiter = another(&rt, &domain, &mut task);
+    let took = left_with_a_permit(&rt, &domain, &mut task, &mut waiter);
+    let none = !tries(&rt, &domain, &mut task, CELL);
+    all_so(&rt, &[took, none]);
+    Ok(())
+}
+
+/// A `down` that is left has taken its entry off: what is given back behind it is counted.
+#[test]
+fn left_down_has_taken_its_entry_off(rt: HostRuntime) -> Result<(), Fail> {
+    let (domain, mut task) = Domain::new(rt.alloc())?;
+    let mut waiter = another(&rt, &domain, &mut task);
+    let left = left_with_none(&rt, &domain, &mut task, &mut waiter);
+    let gave = gives(&rt, &domain, &mut task, CELL).is_ok();
+    let one = tries(&rt, &domain, &mut task, CELL);
+    let two = tries(&rt, &domain, &mut task, CELL);
+    all_so(&rt, &[left, gave, one, !two]);
+    Ok(())
+}

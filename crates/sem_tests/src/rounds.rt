@@ -1,0 +1,321 @@
+//! Tasks that take permits and give them back in threads of their own, again and again, in Domains whose tasks park at
+//! once when they are put asleep; a `down` that a signal ends, or that its task leaves, at each moment.
+
+ghost use Rattle.std.specs.Prelude.{◌≡◌, ◌<◌};
+ghost use Rattle.wait_model.specs.declared.layout.TheConstants.{COMPLETIONS};
+ghost use Rattle.wait_rule.specs.Says.{IsClean};
+
+use crate::calls::tries;
+use crate::wants::{all_so, another};
+use count_sem::{SemEnd, down, down_until, up};
+use std::sync::Wait;
+use std::sync::atomic::{AtomicU64, Ordering};
+use std::test::Fail;
+use std::thread;
+use test_tasks::meetings::{Part, meet_four};
+use wait_leave::Until;
+use wait_model::tasks::SleepState;
+use wait_model::watches::Mode;
+use wait_rule::{Domain, Task, send_signal, wake_task};
+
+/// How many rounds each test makes.
+const ROUNDS: u32 = 400;
+
+/// The semaphore of the tests.
+const CELL: u8 = 5;
+
+/// What a task does in a round. All share how many permits were taken.
+#[derive(Clone, Copy)]
+pub(crate) enum Plays<'a> {
+    /// It takes a permit.
+    Takes,
+    /// It takes one, unless a signal ends that.
+    TakesUnlessSignalled {
+        took: &'a AtomicU64,
+    },
+    /// It takes one, unless it is asked to leave; where it took one it asks the other task to leave, and wakes it.
+    TakesAndAsks {
+        flag: &'a AtomicU64,
+        took: &'a AtomicU64,
+        other: &'a AtomicU64,
+        who: u8,
+    },
+    /// It takes one, unless it is asked to leave.
+    TakesUnlessAsked {
+        flag: &'a AtomicU64,
+        took: &'a AtomicU64,
+    },
+    /// It gives one back.
+    Gives {
+        late: u32,
+    },
+    /// It sends a plain signal.
+    Signals {
+        who: u8,
+        late: u32,
+    },
+    /// It asks the task of this number to leave, and wakes it.
+    Asks {
+        flag: &'a AtomicU64,
+        who: u8,
+        late: u32,
+    },
+}
+
+impl Part for Plays<'_> {
+    fn play<R: Wait>(self, rt: &R, domain: &Domain, task: &mut Task) -> bool {
+        match self {
+            Plays::Takes => take(rt, domain, task),
+            Plays::TakesUnlessSignalled { took } => take_unless_signalled(rt, domain, task, took),
+            Plays::TakesAndAsks {
+                flag,
+                took,
+                other,
+                who,
+            } => take_and_ask(rt, domain, task, flag, took, other, who),
+            Plays::TakesUnlessAsked { flag, took } => {
+                take_unless_asked(rt, domain, task, flag, took)
+            }
+            Plays::Gives { late } => give_late(rt, domain, task, late),
+            Plays::Signals { who, late } => signal_late(rt, domain, task, who, late),
+            Plays::Asks { flag, who, late } => {
+                yields(late);
+                ask(rt, domain, task, flag, who)
+            }
+        }
+    }
+}
+
+/// Yields so often.
+fn yields(late: u32) {
+    for _ in 0..late {
+        thread::yield_now();
+    }
+}
+
+/// Takes a permit.
+fn take<R: Wait>(rt: &R, domain: &Domain, task: &mut Task) -> bool
+    requires of { task.old.domain ≡ domain.now }
+    requires clean { IsClean task.old }
+    ensures of { task.new.domain ≡ domain.now }
+    ensures clean { IsClean task.new }
+{
+    down(rt, domain, task, CELL, SleepState::Uninterruptible).is_ok()
+}
+
+/// Yields so often, and gives one back.
+fn give_late<R: Wait>(rt: &R, domain: &Domain, task: &mut Task, late: u32) -> bool
+    requires of { task.old.domain ≡ domain.now }
+    requires clean { IsClean task.old }
+    ensures of { task.new.domain ≡ domain.now }
+    ensures clean { IsClean task.new }
+{
+    yields(late);
+    up(rt, domain, task, CELL).is_ok()
+}
+
+/// Yields so often, and sends the signal.
+fn signal_late<R: Wait>(rt: &R, domain: &Domain, task: &mut Task, who: u8, late: u32) -> bool
+    requires of { task.old.domain ≡ domain.now }
+    requires clean { IsClean task.old }
+    ensures of { task.new.domain ≡ domain.now }
+    ensures clean { IsClean task.new }
+{
+    yields(late);
+    send_signal(rt, domain, task, who, false);
+    true
+}
+
+/// Takes a permit, unless a signal ends that.
+fn take_unless_signalled<R: Wait>(
+    rt: &R,
+    domain: &Domain,
+    task: &mut Task,
+    took: &AtomicU64,
+) -> bool
+    requires of { task.old.domain ≡ domain.now }
+    requires clean { IsClean task.old }
+    ensures of { task.new.domain ≡ domain.now }
+    ensures clean { IsClean task.new }
+{
+    match down(rt, domain, task, CELL, SleepState::Interruptible) {
+        Ok(()) => {
+            took.fetch_add(1, Ordering::SeqCst);
+            true
+        }
+        Err(SemEnd::Interrupted) => true,
+        Err(SemEnd::Worn { .. }) => false,
+    }
+}
+
+/// Asks the task to leave, and wakes it.
+fn ask<R: Wait>(rt: &R, domain: &Domain, task: &mut Task, flag: &AtomicU64, who: u8) -> bool
+    requires of { task.old.domain ≡ domain.now }
+    requires clean { IsClean task.old }
+    ensures of { task.new.domain ≡ domain.now }
+    ensures clean { IsClean task.new }
+{
+    flag.store(1, Ordering::SeqCst);
+    wake_task(rt, domain, task, who, Mode::Normal);
+    true
+}
+
+/// Takes a permit, or leaves once it is asked: whether it took one.
+fn take_until<R: Wait>(
+    rt: &R,
+    domain: &Domain,
+    task: &mut Task,
+    flag: &AtomicU64,
+    took: &AtomicU64,
+) -> bool
+    requires of { task.old.domain ≡ domain.now }
+    requires clean { IsClean task.old }
+    ensures of { task.new.domain ≡ domain.now }
+    ensures clean { IsClean task.new }
+{
+    let asks = || flag.load(Ordering::SeqCst) != 0;
+    match down_until(rt, domain, task, CELL, SleepState::Uninterruptible, asks) {
+        Until::Over(Ok(())) => {
+            took.fetch_add(1, Ordering::SeqCst);
+            true
+        }
+        _ => false,
+    }
+}
+
+/// Takes one, or leaves; where it took one it asks the other task to leave.
+fn take_and_ask<R: Wait>(
+    rt: &R,
+    domain: &Domain,
+    task: &mut Task,
+    flag: &AtomicU64,
+    took: &AtomicU64,
+    other: &AtomicU64,
+    who: u8,
+) -> bool
+    requires of { task.old.domain ≡ domain.now }
+    requires clean { IsClean task.old }
+    ensures of { task.new.domain ≡ domain.now }
+    ensures clean { IsClean task.new }
+{
+    if take_until(rt, domain, task, flag, took) {
+        ask(rt, domain, task, other, who)
+    } else {
+        true
+    }
+}
+
+/// Takes one, or leaves.
+fn take_unless_asked<R: Wait>(
+    rt: &R,
+    domain: &Domain,
+    task: &mut Task,
+    flag: &AtomicU64,
+    took: &AtomicU64,
+) -> bool
+    requires of { task.old.domain ≡ domain.now }
+    requires clean { IsClean task.old }
+    ensures of { task.new.domain ≡ domain.now }
+    ensures clean { IsClean task.new }
+{
+    take_until(rt, domain, task, flag, took);
+    true
+}
+
+/// How many permits are counted, of two at most.
+fn rest<R: Wait>(rt: &R, domain: &Domain, task: &mut Task) -> u64
+    requires of { task.old.domain ≡ domain.now }
+    requires clean { IsClean task.old }
+    ensures of { task.new.domain ≡ domain.now }
+    ensures clean { IsClean task.new }
+{
+    let one = tries(rt, domain, task, CELL);
+    let two = tries(rt, domain, task, CELL);
+    u64::from(one) + u64::from(two)
+}
+
+/// Whenever the signal comes, each of the two permits that were given back is taken or counted, and no third: one `down`
+/// that a signal may end, another that takes one, and two `up`.
+#[test]
+fn signal_beside_an_up_loses_and_doubles_no_permit(rt: HostRuntime) -> Result<(), Fail> {
+    for round in 0..ROUNDS {
+        let (domain, mut task) = Domain::with_looks(rt.alloc(), 0)?;
+        let took = AtomicU64::new(0);
+        let one = another(&rt, &domain, &mut task);
+        let two = another(&rt, &domain, &mut task);
+        let three = another(&rt, &domain, &mut task);
+        let signals = Plays::Signals {
+            who: two.number(),
+            late: round % 7,
+        };
+        let gives = Plays::Gives {
+            late: (round / 7) % 7,
+        };
+        let downs = Plays::TakesUnlessSignalled { took: &took };
+        let ((first, one), (two, three)) = meet_four(
+            &rt,
+            &domain,
+            (task, one),
+            (two, three),
+            (signals, gives),
+            (downs, gives),
+        );
+        let mut task = first.0;
+        let left = rest(&rt, &domain, &mut task);
+        let taken = took.load(Ordering::SeqCst);
+        let balanced = taken <= 1 && left <= 2 && taken + left == 2;
+        all_so(&rt, &[first.1, one.1, two.1, three.1, balanced]);
+    }
+    Ok(())
+}
+
+/// Whenever the first `down` is asked to leave, one of the two gets the permit, never both and never nobody: the second
+/// is asked to leave only where the first one has it. Nothing is left.
+#[test]
+fn left_down_beside_an_up_and_a_second_one_gets_it_or_leaves_it(
+    rt: HostRuntime,
+) -> Result<(), Fail> {
+    let mut first_took = 0u64;
+    for round in 0..ROUNDS {
+        let (domain, mut task) = Domain::with_looks(rt.alloc(), 0)?;
+        let flag = AtomicU64::new(0);
+        let other = AtomicU64::new(0);
+        let took = AtomicU64::new(0);
+        let one = another(&rt, &domain, &mut task);
+        let two = another(&rt, &domain, &mut task);
+        let three = another(&rt, &domain, &mut task);
+        let asks = Plays::Asks {
+            flag: &flag,
+            who: two.number(),
+            late: round % 7,
+        };
+        let gives = Plays::Gives {
+            late: (round / 7) % 7,
+        };
+        let leaves = Plays::TakesAndAsks {
+            flag: &flag,
+            took: &took,
+            other: &other,
+            who: three.number(),
+        };
+        let second = Plays::TakesUnlessAsked {
+            flag: &other,
+            took: &took,
+        };
+        let ((first, one), (two, three)) = meet_four(
+            &rt,
+            &domain,
+            (task, one),
+            (two, three),
+            (asks, gives),
+            (leaves, second),
+        );
+        let mut task = first.0;
+        let left = rest(&rt, &domain, &mut task);
+        let one_took = took.load(Ordering::SeqCst) == 1;
+        first_took = first_took.wrapping_add(other.load(Ordering::SeqCst));
+        all_so(&rt, &[first.1, one.1, two.1, three.1, one_took, left == 0]);
+    }
+    all_so(&rt, &[first_took < u64::from(ROUNDS)]);
+    Ok(())
+}

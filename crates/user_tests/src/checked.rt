@@ -1,6 +1,7 @@
 //! Two tasks on one thread, which go on with one of them at a time; and calls that are refused.
 
 mod completions;
+mod leave_orders;
 mod leaves;
 mod limits;
 mod signals;

@@ -4,4 +4,6 @@
 mod alone;
 mod calls;
 mod full_pieces;
+mod left_calls;
+mod left_streams;
 mod streams;

@@ -1,3 +1,8 @@
-//! Waits that their tasks leave, beside a waker of one and a second waiter, by threads.
+//! Waits that their tasks leave: by stretches, beside a waker of one and a second waiter by threads, and a pool that is shut
+//! down so.
 
+pub(crate) mod asking;
+mod holders;
+mod pool;
+mod stretches;
 mod threads;

@@ -9,15 +9,15 @@ use wq_checked::tasks::CheckedTask;
 use wq_head::Rousing;
 
 /// More stretches than a wait has before its task is asleep.
-const MOMENTS: u32 = 8;
+pub(super) const MOMENTS: u32 = 8;
 
 /// How many kinds of waits there are.
-const KINDS: u8 = 8;
+pub(super) const KINDS: u8 = 8;
 
 const STATE: SleepState = SleepState::Uninterruptible;
 
 /// A wait of each kind: of conditions, exclusive, simple, for a variable, a bit, to take it, a page, and a completion.
-fn wait_of(kind: u8) -> Call {
+pub(super) fn wait_of(kind: u8) -> Call {
     match kind {
         0 => Call::Wait {
             cond: 3,
@@ -64,7 +64,7 @@ fn wait_of(kind: u8) -> Call {
 }
 
 /// What makes so that a wait of each kind has what it waits for.
-fn wake_of(kind: u8) -> Call {
+pub(super) fn wake_of(kind: u8) -> Call {
     match kind {
         0 => Call::SetAndWake {
             cond: 3,
@@ -93,7 +93,11 @@ fn wake_of(kind: u8) -> Call {
 }
 
 /// Goes on with a call by so many stretches, until its task is asleep, or to its end.
-fn go_on(task: &mut CheckedTask, stretches: u32, rousing: &mut Rousing) -> Option<Answer> {
+pub(super) fn go_on(
+    task: &mut CheckedTask,
+    stretches: u32,
+    rousing: &mut Rousing,
+) -> Option<Answer> {
     let mut passed = None;
     for _ in 0..stretches {
         match task.advance(rousing, &mut passed) {
@@ -106,7 +110,7 @@ fn go_on(task: &mut CheckedTask, stretches: u32, rousing: &mut Rousing) -> Optio
 }
 
 /// Makes a call to its end, if it is not over at once.
-fn make(task: &mut CheckedTask, call: Call, rousing: &mut Rousing) -> Option<Answer> {
+pub(super) fn make(task: &mut CheckedTask, call: Call, rousing: &mut Rousing) -> Option<Answer> {
     match task.begin(call) {
         Ok(Progress::Done(answer)) => Some(answer),
         Ok(_) => go_on(task, MOST, rousing),
@@ -140,7 +144,7 @@ fn is_left(answer: Option<Answer>) -> bool {
 }
 
 /// Whether a wait got what it waited for.
-fn has_got(answer: Option<Answer>) -> bool {
+pub(super) fn has_got(answer: Option<Answer>) -> bool {
     matches!(
         answer,
         Some(Answer::Waited(Ok(())) | Answer::Changed(Ok(_)) | Answer::Bit(Ok(())))
@@ -170,7 +174,7 @@ fn leave_unset(keeper: &mut CheckedTask, waiter: &mut CheckedTask, kind: u8, aft
 }
 
 /// Whether what was made for a wait of each kind is still there, and is taken by the keeper then.
-fn takes_back(keeper: &mut CheckedTask, kind: u8, rousing: &mut Rousing) -> bool {
+pub(super) fn takes_back(keeper: &mut CheckedTask, kind: u8, rousing: &mut Rousing) -> bool {
     match kind {
         0 => make(keeper, Call::Take { cond: 3 }, rousing).is_some(),
         1 => make(keeper, Call::Take { cond: 4 }, rousing).is_some(),

@@ -1,12 +1,14 @@
 //! The calls of tests: for tasks that owe nothing, and for those that owe nothing but that their end is closed.
 
-ghost use Rattle.std.specs.Prelude.{◌≡◌, ◌<◌, ◌≤◌, MatchBool, IfOk, length};
+ghost use Rattle.std.specs.Prelude.{◌≡◌, ◌<◌, ◌≤◌, MatchBool, IfOk, length, true};
 ghost use Rattle.wait_model.specs.declared.layout.TheConstants.{PIPES};
 ghost use Rattle.wait_rule.specs.Says.{IsClean};
-ghost use Rattle.user_tests.specs.PipeTasks.{IsReader, IsWriter};
+ghost use Rattle.user_tests.specs.PipeTasks.{IsAtMost, IsReader, IsWriter};
 
 use std::sync::Wait;
+use wait_leave::Until;
 use wait_pipe::ends::{close_read, close_write, open_read, open_write};
+use wait_pipe::leaves::{read_piece_until, write_piece_until};
 use wait_pipe::pieces::{PipeEnd, read_piece, write_piece};
 use wait_rule::{Domain, Task};
 
@@ -69,6 +71,49 @@ pub(crate) fn get<R: Wait>(
     ensures most { IfOk result (λ n. n ≤ length buf.new) }
 {
     read_piece(rt, domain, task, pipe, buf)
+}
+
+/// Puts a piece in, unless it is asked to leave while no cell is free.
+pub(crate) fn put_until<R: Wait, Q: Fn() -> bool + Copy>(
+    rt: &R,
+    domain: &Domain,
+    task: &mut Task,
+    pipe: u8,
+    bytes: &[u8],
+    asks: Q,
+) -> Until<Result<usize, PipeEnd>>
+    requires of { task.old.domain ≡ domain.now }
+    requires writer { IsWriter pipe task.old }
+    requires pipe { pipe < PIPES }
+    requires bytes { 0 < length bytes.now }
+    requires asks { Q.IsAlwaysCallable asks }
+    ensures of { task.new.domain ≡ domain.now }
+    ensures writer { IsWriter pipe task.new }
+    ensures most { IsAtMost (length bytes.now) result }
+{
+    write_piece_until(rt, domain, task, pipe, bytes, asks)
+}
+
+/// Takes a piece out, unless it is asked to leave while no cell is there.
+pub(crate) fn get_until<R: Wait, Q: Fn() -> bool + Copy>(
+    rt: &R,
+    domain: &Domain,
+    task: &mut Task,
+    pipe: u8,
+    buf: &mut [u8],
+    asks: Q,
+) -> Until<Result<usize, PipeEnd>>
+    requires of { task.old.domain ≡ domain.now }
+    requires reader { IsReader pipe task.old }
+    requires pipe { pipe < PIPES }
+    requires buf { 7 ≤ length buf.old }
+    requires asks { Q.IsAlwaysCallable asks }
+    ensures of { task.new.domain ≡ domain.now }
+    ensures reader { IsReader pipe task.new }
+    ensures same { length buf.new ≡ length buf.old }
+    ensures most { IsAtMost (length buf.new) result }
+{
+    read_piece_until(rt, domain, task, pipe, buf, asks)
 }
 
 /// Closes the write end.

@@ -5,6 +5,7 @@ ghost use Rattle.std.specs.Prelude.{◌≡◌};
 ghost use Rattle.wait_rule.specs.Says.{IsClean};
 
 use crate::completions::calls::{complete, try_wait, wait_for};
+use crate::leaves::asking::ask_late;
 use crate::wants::{all_so, another};
 use completion_cell::leaves::wait_for_until;
 use std::sync::Wait;
@@ -14,8 +15,7 @@ use std::thread;
 use test_tasks::meetings::{Part, meet_four};
 use wait_leave::Until;
 use wait_model::tasks::SleepState;
-use wait_model::watches::Mode;
-use wait_rule::{Domain, Task, wake_task};
+use wait_rule::{Domain, Task};
 
 /// How many rounds a test makes.
 const ROUNDS: u32 = 300;
@@ -94,28 +94,6 @@ fn take_until<R: Wait>(
         Until::Over(Err(_)) => false,
         Until::Left { seen } => seen == 0,
     }
-}
-
-/// Yields so often, asks the task to leave, and wakes it.
-fn ask_late<R: Wait>(
-    rt: &R,
-    domain: &Domain,
-    task: &mut Task,
-    flag: &AtomicU64,
-    who: u8,
-    late: u32,
-) -> bool
-    requires of { task.old.domain ≡ domain.now }
-    requires clean { IsClean task.old }
-    ensures of { task.new.domain ≡ domain.now }
-    ensures clean { IsClean task.new }
-{
-    for _ in 0..late {
-        thread::yield_now();
-    }
-    flag.store(1, Ordering::SeqCst);
-    wake_task(rt, domain, task, who, Mode::Normal);
-    true
 }
 
 /// Whenever the wait is asked to leave, the other one takes what was completed once: a permit that was handed to the one

@@ -4,6 +4,7 @@
 ghost use Rattle.std.specs.Prelude.{◌≡◌};
 ghost use Rattle.wait_rule.specs.Says.{IsClean};
 
+use crate::leaves::asking::ask_late;
 use crate::wants::{all_so, another};
 use std::sync::Wait;
 use std::sync::atomic::{AtomicU64, Ordering};
@@ -16,7 +17,7 @@ use wait_event::{WaitEnd, WaitUntil, set_and_wake, take_cond, wait_event, wait_e
 use wait_model::layout::{CLAIMS, FIRST_SIMPLE};
 use wait_model::tasks::{How, SleepState};
 use wait_model::watches::Mode;
-use wait_rule::{Domain, Task, wake_task};
+use wait_rule::{Domain, Task};
 
 /// How many rounds each test makes.
 const ROUNDS: u32 = 300;
@@ -96,28 +97,6 @@ fn set_late<R: Wait>(rt: &R, domain: &Domain, task: &mut Task, late: u32) -> boo
         thread::yield_now();
     }
     set_one(rt, domain, task);
-    true
-}
-
-/// Yields so often, asks the task to leave, and wakes it.
-fn ask_late<R: Wait>(
-    rt: &R,
-    domain: &Domain,
-    task: &mut Task,
-    flag: &AtomicU64,
-    who: u8,
-    late: u32,
-) -> bool
-    requires of { task.old.domain ≡ domain.now }
-    requires clean { IsClean task.old }
-    ensures of { task.new.domain ≡ domain.now }
-    ensures clean { IsClean task.new }
-{
-    for _ in 0..late {
-        thread::yield_now();
-    }
-    flag.store(1, Ordering::SeqCst);
-    wake_task(rt, domain, task, who, Mode::Normal);
     true
 }
 

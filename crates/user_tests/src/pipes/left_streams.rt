@@ -1,0 +1,293 @@
+//! Calls on pipes that are asked to leave in threads of their own, again and again, in Domains whose tasks park at once
+//! when they are put asleep.
+
+ghost use Rattle.std.specs.Prelude.{◌≡◌};
+ghost use Rattle.wait_rule.specs.Says.{IsClean};
+
+use crate::pipes::calls::{
+    are_from, end_read, end_write, fill_from, get, get_until, put, put_until, take_read, take_write,
+};
+use crate::wants::{all_so, another};
+use std::sync::Wait;
+use std::sync::atomic::{AtomicU64, Ordering};
+use std::test::Fail;
+use std::thread;
+use test_tasks::meetings::{Part, meet_four};
+use wait_leave::Until;
+use wait_model::watches::Mode;
+use wait_rule::{Domain, Task, wake_task};
+
+/// How many rounds each test makes.
+const ROUNDS: u32 = 300;
+
+/// How many bytes a round sends: more than a pipe holds.
+const SENT: u32 = 9_000;
+
+/// How many bytes a piece has at most.
+const PIECE: usize = 64;
+
+/// How often a round asks.
+const ASKS: u32 = 40;
+
+/// How many bytes a pipe takes in whole cells.
+const FULL: usize = 7 * 1_024;
+
+/// The pipe of the streams, one that is empty, and one that is full.
+const PIPE: u8 = 5;
+
+const EMPTY: u8 = 6;
+
+const FILLED: u8 = 7;
+
+/// What a task does in a round. All share the count of the asks.
+#[derive(Clone, Copy)]
+enum Leaving<'a> {
+    Rests,
+    /// It sends the bytes of a stream: a call that is asked since it began is left, and made again.
+    Sends {
+        asked: &'a AtomicU64,
+        round: u32,
+    },
+    /// It takes them so.
+    Receives {
+        asked: &'a AtomicU64,
+        round: u32,
+    },
+    /// It asks the tasks of these numbers to leave, and wakes them.
+    Asks {
+        asked: &'a AtomicU64,
+        whom: (u8, u8),
+        late: u32,
+        times: u32,
+    },
+    /// It reads from a pipe with no writer, until it is asked.
+    LeavesEmpty(&'a AtomicU64),
+    /// It fills a pipe with no reader, and writes more until it is asked.
+    LeavesFull(&'a AtomicU64),
+}
+
+impl Part for Leaving<'_> {
+    fn play<R: Wait>(self, rt: &R, domain: &Domain, task: &mut Task) -> bool {
+        match self {
+            Leaving::Rests => true,
+            Leaving::Sends { asked, round } => send(rt, domain, task, asked, round),
+            Leaving::Receives { asked, round } => receive(rt, domain, task, asked, round),
+            Leaving::Asks {
+                asked,
+                whom,
+                late,
+                times,
+            } => ask(rt, domain, task, asked, whom, late, times),
+            Leaving::LeavesEmpty(asked) => leave_empty(rt, domain, task, asked),
+            Leaving::LeavesFull(asked) => leave_full(rt, domain, task, asked),
+        }
+    }
+}
+
+/// Sends the bytes of a stream in pieces of several lengths, and closes the end: whether all went in.
+fn send<R: Wait>(rt: &R, domain: &Domain, task: &mut Task, asked: &AtomicU64, round: u32) -> bool
+    requires of { task.old.domain ≡ domain.now }
+    requires clean { IsClean task.old }
+    ensures of { task.new.domain ≡ domain.now }
+    ensures clean { IsClean task.new }
+{
+    if !take_write(domain, task, PIPE) {
+        return false;
+    }
+    let mut sent = 0u32;
+    for turn in 0..SENT + ASKS {
+        if sent >= SENT {
+            break;
+        }
+        let most = 1 + round.wrapping_add(11 * turn) % PIECE as u32;
+        let length = most.min(SENT - sent) as usize;
+        let mut bytes = [0u8; PIECE];
+        fill_from(sent, &mut bytes);
+        let before = asked.load(Ordering::SeqCst);
+        let asks = || asked.load(Ordering::SeqCst) != before;
+        match put_until(rt, domain, task, PIPE, &bytes[..length], asks) {
+            Until::Over(Ok(n)) => sent += n as u32,
+            Until::Over(Err(_)) => break,
+            Until::Left { seen: _ } => {}
+        }
+    }
+    end_write(rt, domain, task, PIPE);
+    sent == SENT
+}
+
+/// Takes bytes until the end, in buffers of several lengths, and closes the end: whether they are those of the stream,
+/// and as many.
+fn receive<R: Wait>(rt: &R, domain: &Domain, task: &mut Task, asked: &AtomicU64, round: u32) -> bool
+    requires of { task.old.domain ≡ domain.now }
+    requires clean { IsClean task.old }
+    ensures of { task.new.domain ≡ domain.now }
+    ensures clean { IsClean task.new }
+{
+    if !take_read(domain, task, PIPE) {
+        return false;
+    }
+    let mut got = 0u32;
+    let mut right = true;
+    for turn in 0..SENT + ASKS + PIECE as u32 {
+        let length = 7 + (round.wrapping_add(5 * turn) % (PIECE as u32 - 6)) as usize;
+        let mut buf = [0u8; PIECE];
+        let before = asked.load(Ordering::SeqCst);
+        let asks = || asked.load(Ordering::SeqCst) != before;
+        match get_until(rt, domain, task, PIPE, &mut buf[..length], asks) {
+            Until::Over(Ok(0)) => break,
+            Until::Over(Ok(n)) => {
+                right = right && are_from(got, &buf[..n]);
+                got = got.wrapping_add(n as u32);
+            }
+            Until::Over(Err(_)) => right = false,
+            Until::Left { seen: _ } => {}
+        }
+    }
+    end_read(rt, domain, task, PIPE);
+    right && got == SENT
+}
+
+/// Asks so many times, each after some yields, and wakes both tasks.
+fn ask<R: Wait>(
+    rt: &R,
+    domain: &Domain,
+    task: &mut Task,
+    asked: &AtomicU64,
+    whom: (u8, u8),
+    late: u32,
+    times: u32,
+) -> bool
+    requires of { task.old.domain ≡ domain.now }
+    requires clean { IsClean task.old }
+    ensures of { task.new.domain ≡ domain.now }
+    ensures clean { IsClean task.new }
+{
+    for time in 0..times {
+        for _ in 0..late.wrapping_add(time) % 9 {
+            thread::yield_now();
+        }
+        asked.fetch_add(1, Ordering::SeqCst);
+        wake_task(rt, domain, task, whom.0, Mode::Normal);
+        wake_task(rt, domain, task, whom.1, Mode::Normal);
+    }
+    true
+}
+
+/// Reads from a pipe whose other end nobody has, until it is asked: whether it was left, with nothing there.
+fn leave_empty<R: Wait>(rt: &R, domain: &Domain, task: &mut Task, asked: &AtomicU64) -> bool
+    requires of { task.old.domain ≡ domain.now }
+    requires clean { IsClean task.old }
+    ensures of { task.new.domain ≡ domain.now }
+    ensures clean { IsClean task.new }
+{
+    if !take_read(domain, task, EMPTY) {
+        return false;
+    }
+    let mut buf = [0u8; 7];
+    let asks = || asked.load(Ordering::SeqCst) != 0;
+    let left = get_until(rt, domain, task, EMPTY, &mut buf, asks);
+    end_read(rt, domain, task, EMPTY);
+    matches!(left, Until::Left { seen: 0 })
+}
+
+/// Fills a pipe whose other end nobody has, and writes on until it is asked: whether it was left, with no cell free.
+fn leave_full<R: Wait>(rt: &R, domain: &Domain, task: &mut Task, asked: &AtomicU64) -> bool
+    requires of { task.old.domain ≡ domain.now }
+    requires clean { IsClean task.old }
+    ensures of { task.new.domain ≡ domain.now }
+    ensures clean { IsClean task.new }
+{
+    if !take_write(domain, task, FILLED) {
+        return false;
+    }
+    let mut bytes = [0u8; FULL];
+    fill_from(0, &mut bytes);
+    let first = put(rt, domain, task, FILLED, &bytes);
+    let asks = || asked.load(Ordering::SeqCst) != 0;
+    let left = put_until(rt, domain, task, FILLED, &bytes, asks);
+    end_write(rt, domain, task, FILLED);
+    matches!(first, Ok(FULL)) && matches!(left, Until::Left { seen: 0 })
+}
+
+/// Whenever a writer and a reader are asked to leave their calls, the bytes come out as they went in, each once.
+#[test]
+fn left_calls_lose_no_byte(rt: HostRuntime) -> Result<(), Fail> {
+    for round in 0..ROUNDS {
+        let (domain, mut task) = Domain::with_looks(rt.alloc(), 0)?;
+        let asked = AtomicU64::new(0);
+        let one = another(&rt, &domain, &mut task);
+        let two = another(&rt, &domain, &mut task);
+        let three = another(&rt, &domain, &mut task);
+        let asks = Leaving::Asks {
+            asked: &asked,
+            whom: (task.number(), one.number()),
+            late: round % 7,
+            times: ASKS,
+        };
+        let sends = Leaving::Sends {
+            asked: &asked,
+            round,
+        };
+        let receives = Leaving::Receives {
+            asked: &asked,
+            round,
+        };
+        let ((first, one), (two, three)) = meet_four(
+            &rt,
+            &domain,
+            (task, one),
+            (two, three),
+            (sends, receives),
+            (asks, Leaving::Rests),
+        );
+        all_so(&rt, &[first.1, one.1, two.1, three.1]);
+    }
+    Ok(())
+}
+
+/// Calls that nobody ends are left once they are asked, from their sleep too; what was put before comes out.
+#[test]
+fn calls_are_left_from_their_sleep(rt: HostRuntime) -> Result<(), Fail> {
+    for round in 0..ROUNDS {
+        let (domain, mut task) = Domain::with_looks(rt.alloc(), 0)?;
+        let asked = AtomicU64::new(0);
+        let one = another(&rt, &domain, &mut task);
+        let two = another(&rt, &domain, &mut task);
+        let three = another(&rt, &domain, &mut task);
+        let asks = Leaving::Asks {
+            asked: &asked,
+            whom: (two.number(), three.number()),
+            late: round % 9,
+            times: 1,
+        };
+        let leaves = (Leaving::LeavesEmpty(&asked), Leaving::LeavesFull(&asked));
+        let ((first, one), (two, three)) = meet_four(
+            &rt,
+            &domain,
+            (task, one),
+            (two, three),
+            (asks, Leaving::Rests),
+            leaves,
+        );
+        let mut task = first.0;
+        let opened = take_read(&domain, &mut task, FILLED);
+        if !opened {
+            panic!(rt; "the end is free")
+        }
+        let mut buf = [0u8; FULL];
+        let all = get(&rt, &domain, &mut task, FILLED, &mut buf);
+        let in_order = are_from(0, &buf);
+        let last = get(&rt, &domain, &mut task, FILLED, &mut buf);
+        let seen = [
+            first.1,
+            one.1,
+            two.1,
+            three.1,
+            matches!(all, Ok(FULL)),
+            in_order,
+            matches!(last, Ok(0)),
+        ];
+        all_so(&rt, &seen);
+    }
+    Ok(())
+}

@@ -3,9 +3,9 @@
 //! a set and a wait of one thread that meets no other.
 
 mod alone;
-mod calls;
+pub(crate) mod calls;
 mod crowds;
-mod trips;
+pub(crate) mod trips;
 
 use crate::events::alone::time_alone;
 use crate::events::calls::Means;

@@ -6,6 +6,7 @@ ghost use Rattle.wait_rule.specs.Says.{IsClean};
 
 use completion_cell::await_calls;
 use completion_cell::completes::complete;
+use count_sem::{down, up};
 use std::sync::Wait;
 use wait_event::conds::{set_and_wake, take_cond};
 use wait_event::wait_events::wait_event;
@@ -74,6 +75,28 @@ fn await_one<R: Wait>(rt: &R, domain: &Domain, task: &mut Task, cell: u8) -> boo
     await_calls::wait_for(rt, domain, task, cell, SleepState::Uninterruptible).is_ok()
 }
 
+/// Gives a permit of semaphore `cell` back.
+fn give_one<R: Wait>(rt: &R, domain: &Domain, task: &mut Task, cell: u8)
+    requires of { task.old.domain ≡ domain.now }
+    requires clean { IsClean task.old }
+    requires cell { cell < COMPLETIONS }
+    ensures of { task.new.domain ≡ domain.now }
+    ensures clean { IsClean task.new }
+{
+    let _ = up(rt, domain, task, cell);
+}
+
+/// Takes one, and waits for it: false where it took none.
+fn take_one<R: Wait>(rt: &R, domain: &Domain, task: &mut Task, cell: u8) -> bool
+    requires of { task.old.domain ≡ domain.now }
+    requires clean { IsClean task.old }
+    requires cell { cell < COMPLETIONS }
+    ensures of { task.new.domain ≡ domain.now }
+    ensures clean { IsClean task.new }
+{
+    down(rt, domain, task, cell, SleepState::Uninterruptible).is_ok()
+}
+
 /// By which calls one thread tells another that it may go on.
 #[derive(Clone, Copy)]
 pub(crate) enum Means {
@@ -81,9 +104,11 @@ pub(crate) enum Means {
     Condition,
     /// A completion that is completed, and waited for.
     Completion,
+    /// A semaphore of which a permit is given back, and taken.
+    Semaphore,
 }
 
-/// Tells whoever waits for condition or completion `number` to go on.
+/// Tells whoever waits for condition, completion or semaphore `number` to go on.
 pub(crate) fn tell<R: Wait>(rt: &R, domain: &Domain, task: &mut Task, means: Means, number: u8)
     requires of { task.old.domain ≡ domain.now }
     requires clean { IsClean task.old }
@@ -97,10 +122,11 @@ pub(crate) fn tell<R: Wait>(rt: &R, domain: &Domain, task: &mut Task, means: Mea
             set(rt, domain, task, number);
         }
         Means::Completion => complete_one(rt, domain, task, number),
+        Means::Semaphore => give_one(rt, domain, task, number),
     }
 }
 
-/// Waits until it is told by condition or completion `number`: false where the wait ended for another reason.
+/// Waits until it is told by condition, completion or semaphore `number`: false where the wait ended for another reason.
 pub(crate) fn hear<R: Wait>(
     rt: &R,
     domain: &Domain,
@@ -118,5 +144,6 @@ pub(crate) fn hear<R: Wait>(
     match means {
         Means::Condition => receive(rt, domain, task, number),
         Means::Completion => await_one(rt, domain, task, number),
+        Means::Semaphore => take_one(rt, domain, task, number),
     }
 }

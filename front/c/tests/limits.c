@@ -11,6 +11,10 @@ enum { STATES = 3, ROUNDS = 1000, CROWD = 8, LIMITED = 3, PATIENT = 2, LONGEST =
 
 static const uint64_t NEVER = UINT64_MAX, MILLISECOND = 1000000, SECOND = 1000000000;
 
+enum { LIMITS = 4 };
+
+static const uint64_t limits[LIMITS] = {0, 1000000, 1000000000, UINT64_MAX};
+
 /* What is waited for. Of those from FIRST_TOKEN on one waiter at a time has it. */
 enum kind { EVENT, CHANGE, CLEAR, EXCLUSIVE, SELECTED, LOCK, LOCKED_PAGE, PERMIT, KINDS, FIRST_TOKEN = EXCLUSIVE };
 
@@ -121,15 +125,18 @@ static void ends_at(enum kind kind, struct sugwelan_task *task, enum sugwelan_st
     EXPECT(now() - begun >= limit, true);
 }
 
-/* In each state, at limits of 0 and 1 ms: the task is off the queue then, and the next wait is as ever. */
+/* In each state, at limits of 0 and 1 ms: the task is off the queue then, and the next wait is as ever. What is there is
+ * got whatever the limit is. */
 static void short_limits(enum kind kind, struct sugwelan_task *task)
 {
     for (int state = 0; state < STATES; state++) {
         ends_at(kind, task, (enum sugwelan_state)state, 0);
         ends_at(kind, task, (enum sugwelan_state)state, MILLISECOND);
-        EXPECT(put(kind, keeper), 0);
-        EXPECT(wait_within(kind, task, (enum sugwelan_state)state, state ? NEVER : 0), 0);
-        take_again(kind, task);
+        for (int i = 0; i < LIMITS; i++) {
+            EXPECT(put(kind, keeper), 0);
+            EXPECT(wait_within(kind, task, (enum sugwelan_state)state, limits[i]), 0);
+            take_again(kind, task);
+        }
     }
 }
 
@@ -169,7 +176,7 @@ static long join_and_end(struct part *part)
 static void *waits_a_second(void *self)
 {
     struct part *me = self;
-    ends_at(me->kind, me->task, (enum sugwelan_state)(me->kind % STATES), SECOND);
+    ends_at(me->kind, me->task, (enum sugwelan_state)me->random, SECOND);
     return NULL;
 }
 
@@ -182,15 +189,15 @@ static void *is_woken(void *self)
     return NULL;
 }
 
-/* All kinds at once, at a limit of 1 s; and at one that does not come, since they are woken. */
+/* All kinds in each state at once, at a limit of 1 s; and at one that does not come, since they are woken. */
 static void long_limits(void)
 {
-    struct part parts[KINDS];
+    struct part parts[KINDS * STATES];
     struct timespec nap = {.tv_nsec = 50000000};
-    for (int kind = 0; kind < KINDS; kind++)
-        start(&parts[kind], (enum kind)kind, waits_a_second, 0);
-    for (int kind = 0; kind < KINDS; kind++)
-        join_and_end(&parts[kind]);
+    for (int i = 0; i < KINDS * STATES; i++)
+        start(&parts[i], (enum kind)(i / STATES), waits_a_second, (uint64_t)(i % STATES));
+    for (int i = 0; i < KINDS * STATES; i++)
+        join_and_end(&parts[i]);
     for (int kind = 0; kind < KINDS; kind++) {
         start(&parts[kind], (enum kind)kind, is_woken, 0);
         nanosleep(&nap, NULL);
@@ -311,7 +318,15 @@ static void crowd(enum kind kind)
     take_again(kind, keeper);
 }
 
-/* What is refused is so with a limit too, and a signal ends a wait with a limit. */
+/* A signal that is pending ends the wait whatever its limit is, and not as the limit does. */
+static void is_signalled(enum kind kind, struct sugwelan_task *task, enum sugwelan_state state)
+{
+    for (int i = 0; i < LIMITS; i++)
+        EXPECT(wait_within(kind, task, state, limits[i]), -EINTR);
+}
+
+/* What is refused is so with a limit too, and a signal ends a wait with a limit; one that its state does not admit stays
+ * pending where the limit comes. */
 static void other_ends(struct sugwelan_task *task)
 {
     uint32_t number = (uint32_t)sugwelan_task_number(task);
@@ -322,9 +337,14 @@ static void other_ends(struct sugwelan_task *task)
     EXPECT(sugwelan_wait_on_bit_lock_timeout(keeper, WORD, BIT, SUGWELAN_KILLABLE, NEVER), -EDEADLK);
     for (int kind = 0; kind < KINDS; kind++) {
         EXPECT(sugwelan_raise_signal(keeper, number, false), 0);
-        EXPECT(wait_within((enum kind)kind, task, SUGWELAN_INTERRUPTIBLE, NEVER), -EINTR);
+        is_signalled((enum kind)kind, task, SUGWELAN_INTERRUPTIBLE);
         ends_at((enum kind)kind, task, SUGWELAN_UNINTERRUPTIBLE, MILLISECOND);
+        ends_at((enum kind)kind, task, SUGWELAN_KILLABLE, 0);
         EXPECT(sugwelan_take_signal(task), 1);
+        EXPECT(sugwelan_raise_signal(keeper, number, true), 0);
+        is_signalled((enum kind)kind, task, kind == SELECTED ? SUGWELAN_INTERRUPTIBLE : SUGWELAN_KILLABLE);
+        ends_at((enum kind)kind, task, SUGWELAN_UNINTERRUPTIBLE, 0);
+        EXPECT(sugwelan_take_signal(task), 2);
     }
 }
 

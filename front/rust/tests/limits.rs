@@ -95,6 +95,33 @@ fn a_second_is_a_second() {
     });
 }
 
+/// So it is of the others, in each state.
+#[test]
+fn a_second_is_a_second_of_other_waits() {
+    fn in_state(state: impl State) {
+        let bit = Bit::new(1, 1);
+        let domain = Domain::new().unwrap();
+        let (mut keeper, mut one) = (domain.task().unwrap(), domain.task().unwrap());
+        let (mut two, mut three) = (domain.task().unwrap(), domain.task().unwrap());
+        assert_eq!(keeper.trylock_bit(bit), Ok(true));
+        thread::scope(|scope| {
+            scope.spawn(|| {
+                ends_at(SECOND, |limit| {
+                    one.wait_var_event(20, 0, state).timeout(limit).map(drop)
+                });
+            });
+            scope.spawn(|| ends_at(SECOND, |limit| two.wait_on_bit(bit, state).timeout(limit)));
+            scope.spawn(|| ends_at(SECOND, |limit| three.wait_event(3, state).timeout(limit)));
+        });
+        assert!(keeper.clear_and_wake_up_bit(bit).is_ok());
+    }
+    thread::scope(|scope| {
+        scope.spawn(|| in_state(Uninterruptible));
+        scope.spawn(|| in_state(Interruptible));
+        scope.spawn(|| in_state(Killable));
+    });
+}
+
 /// One that is woken ends then, and not at its limit.
 #[test]
 fn a_wake_comes_first() {
@@ -213,6 +240,38 @@ fn signals_end_waits_with_limits() {
     assert_eq!(task.wait_event(3, Killable).timeout(MILLISECOND), Err(Error::TimedOut));
     assert_eq!(task.take_signal(), Ok(Some(Signal::Plain)));
     assert_eq!(task.wait_event(99, Killable).timeout(MILLISECOND), Err(Error::Invalid));
+}
+
+/// A pending signal ends each wait that admits it, whatever its limit is, and is not told as the limit; where the wait
+/// does not admit it, the limit comes, and it stays.
+#[test]
+fn signals_are_not_told_as_limits() {
+    for kind in KINDS {
+        for sleep in SLEEPS {
+            let domain = Domain::new().unwrap();
+            let (mut keeper, mut task) = (domain.task().unwrap(), domain.task().unwrap());
+            take_first(kind, &mut keeper);
+            let admits = sleep == Sleep::Interruptible || (kind == Kind::Simple && sleep == Sleep::Killable);
+            domain.raise_signal(task.number(), Signal::Plain).unwrap();
+            for limit in [Duration::ZERO, MILLISECOND] {
+                let wanted = if admits { Error::Signal } else { Error::TimedOut };
+                let end = of_wait!(kind, &mut task, sleep, wait => wait.timeout(limit));
+                assert_eq!(end, Err(wanted), "{kind:?} {sleep:?}");
+            }
+            assert_eq!(task.take_signal(), Ok(Some(Signal::Plain)));
+            domain.raise_signal(task.number(), Signal::Fatal).unwrap();
+            for limit in [Duration::ZERO, MILLISECOND] {
+                let wanted = if sleep == Sleep::Uninterruptible {
+                    Error::TimedOut
+                } else {
+                    Error::Signal
+                };
+                let end = of_wait!(kind, &mut task, sleep, wait => wait.timeout(limit));
+                assert_eq!(end, Err(wanted), "{kind:?} {sleep:?}");
+            }
+            put(kind, &mut keeper);
+        }
+    }
 }
 
 /// A pool of threads that is shut down while jobs come: each job that was given was done, or is there yet.

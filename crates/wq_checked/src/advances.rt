@@ -44,7 +44,7 @@ use wait_model::watches::Watch;
 use wait_rule::queues::Passing;
 use wait_rule::{Domain, Task};
 use wq_head::wakes::{WakeRun, WakeStage, WakeTurn, wake_stretch};
-use wq_head::{Members, Rousing};
+use wq_head::Rousing;
 
 /// The answer of a wait for a plain condition or a variable that was not left.
 fn waited(watch: Watch, loaded: u64, end: Result<(), WaitEnd>) -> Answer
@@ -343,8 +343,7 @@ pub(crate) fn wake_on(
 {
     let _ = kept;
     let mut run = run;
-    let mut list = Members::new();
-    let turn = wake_stretch(domain, task, &mut run, stage, &mut list, rousing, passing);
+    let turn = wake_stretch(domain, task, &mut run, stage, rousing, passing);
     wake_leaves(run, turn)
 }
 

@@ -9,6 +9,7 @@ use Rattle.wait_rule.specs.Queues.{place_by}
 use Rattle.wait_rule.specs.LookCounts.{Looked}
 use Rattle.wq_head.specs.Looks.{Looks, is_seen, AreSeen, IsEmpty, HasMember}
 use Rattle.wq_head.specs.Looking.{IsClear, IsSet, IsByBit, AreNone}
+use Rattle.wq_head.specs.Members.{AreStanding}
 use Rattle.wq_head.proofs.FirstAndLast.{below_or}
 use Rattle.wq_head.proofs.OneMoreLook.{looks_none, looks_on, whole_of}
 use Rattle.wq_head.proofs.BitLooks.{AreBitLooks, clear_on, set_on}
@@ -85,3 +86,9 @@ found_tells old now false s = (
   whole_of now (λ m few. s.seen m (omega arith)),
   λ m p few is. let gone : place_by now m ≡ None = (s.told m (omega arith) (omega arith)).none in absurd (cc),
 )
+
+-- where none is found, whom the hold shows stand as they should, since it shows none
+pub found_standing : (old now : Known) (found : Bool) → HasFound old now MEMBER_WORDS found → found ≡ false
+    → AreStanding now MEMBERS
+found_standing old now true s is = absurd (cc)
+found_standing old now false s is = λ m few. (s.told m (omega arith) (omega arith)).stands

@@ -12,7 +12,7 @@ ghost use Rattle.wq_head.specs.Selects.{HasSelected, IsSimpleHold, KeepsHold};
 ghost use Rattle.wq_head.specs.Selecting.{HasTaken, IsFirstEntry};
 
 use crate::lists::Members;
-use crate::looks::members;
+use crate::looks::{has_members, members};
 use crate::rousing::{Rousing, wake_later};
 use std::hint::spin_loop;
 use std::sync::Wait;
@@ -86,6 +86,10 @@ pub fn select_tries(
     ensures rouses { IsRousing task.old task.new rousing.new }
     ensures starved { IfErr result (λ failed. IsStarved failed) }
 {
+    // A list is filled with zeros before it is used, which costs more than a hold that finds nobody.
+    if !has_members(domain, task, head) {
+        return Ok(0);
+    }
     let mut list = Members::new();
     members(domain, task, head, &mut list);
     let mut selected = 0;

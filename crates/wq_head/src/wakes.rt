@@ -13,7 +13,6 @@ ghost use Rattle.wq_head.specs.Walks.{IsFull, MayWake, HasWoken, HasEnded};
 ghost use Rattle.wq_head.specs.Turns.{InWalk, IsAt, IsServed, IsTurnStage, HasTurned, Rests, first_counts};
 ghost use Rattle.wq_head.specs.Turns.{IsRefused, drawn_by};
 
-use crate::lists::Members;
 use crate::locks::{give_back, pause};
 use crate::rousing::Rousing;
 use crate::walks::{Hold, break_off, walk_hold, walked};
@@ -123,7 +122,6 @@ pub fn wake<R: Wait>(
     ensures owing { StaysOwing task.old task.new }
 {
     let head = head_of(watch);
-    let mut list = Members::new();
     let mut rousing = Rousing::new();
     let mut passing = Passing::none();
     let mut run = WakeRun::new(watch, mode, count);
@@ -135,7 +133,6 @@ pub fn wake<R: Wait>(
             task,
             &mut run,
             stage,
-            &mut list,
             &mut rousing,
             &mut passing,
         );
@@ -173,15 +170,13 @@ pub fn wake<R: Wait>(
 /// answered once another number of the head is served. Broken: the hold has called more than `BREAK` entries, and its
 /// bookmark is out; the wake goes on at `Next`, at once. Done: the wake is over, with the answer of `wake`. In between
 /// the task makes nothing else. Starved: the word of one task changed before each of 2^64 - 1 tries to wake it, as the
-/// count says, which no run comes to; the head is held then, and the wake does not end. `list` is room for the members
-/// of a head. `passing`, in which no lock is left before, has the one that was given back, for the caller to wake the
-/// threads that park for it.
+/// count says, which no run comes to; the head is held then, and the wake does not end. `passing`, in which no lock is
+/// left before, has the one that was given back, for the caller to wake the threads that park for it.
 pub fn wake_stretch(
     domain: &Domain,
     task: &mut Task,
     run: &mut WakeRun,
     stage: WakeStage,
-    list: &mut Members,
     rousing: &mut Rousing,
     passing: &mut Passing,
 ) -> WakeTurn
@@ -203,7 +198,7 @@ pub fn wake_stretch(
         return WakeTurn::Locked(at);
     }
     begin_hold(domain, task, run, at, head);
-    hold(domain, task, run, list, rousing, passing)
+    hold(domain, task, run, rousing, passing)
 }
 
 /// Draws the ticket of the next hold's lock, unless it is drawn, and answers the stage at which it is.
@@ -272,7 +267,6 @@ fn hold(
     domain: &Domain,
     task: &mut Task,
     run: &mut WakeRun,
-    list: &mut Members,
     rousing: &mut Rousing,
     passing: &mut Passing,
 ) -> WakeTurn
@@ -288,7 +282,7 @@ fn hold(
     ensures refused { (k : Known) (s : WakeStage) → IsRefused k task.new run.new s result }
     ensures rouses { IsRousing task.old task.new rousing.new }
 {
-    match walk_hold(domain, task, run.aim, run.walk, list, rousing) {
+    match walk_hold(domain, task, run.aim, run.walk, rousing) {
         Hold::Passed(walk) => {
             passing.put(give_back(domain, task, false));
             WakeTurn::Done(walked(walk, End::End))

@@ -17,7 +17,6 @@ use wait_model::watches::{Kind, Mode, Watch};
 use wait_rule::queues::Passing;
 use wait_rule::tasks::sleep_exchange;
 use wait_rule::{Domain, Task};
-use wq_head::lists::Members;
 use wq_head::lock_turns::{draw_lock, lock_turn};
 use wq_head::locks::{give_back, lock, unlock};
 use wq_head::rousing::Rousing;
@@ -48,7 +47,6 @@ fn locked_until_it_is_given_back(rt: HostRuntime) -> Result<(), Fail> {
     let (domain, mut task) = Domain::new(rt.alloc())?;
     let mut other = another(&rt, &domain, &mut task);
     lock(&rt, &domain, &mut other, FIRST_PLAIN_HEAD);
-    let mut list = Members::new();
     let mut rousing = Rousing::new();
     let mut passing = Passing::none();
     let mut run = WakeRun::new(Watch::Plain { cond: 0 }, Mode::Normal, 1);
@@ -57,7 +55,6 @@ fn locked_until_it_is_given_back(rt: HostRuntime) -> Result<(), Fail> {
         &mut task,
         &mut run,
         WakeStage::First,
-        &mut list,
         &mut rousing,
         &mut passing,
     );
@@ -72,7 +69,6 @@ fn locked_until_it_is_given_back(rt: HostRuntime) -> Result<(), Fail> {
         &mut task,
         &mut run,
         stage,
-        &mut list,
         &mut rousing,
         &mut passing,
     );
@@ -95,7 +91,6 @@ fn wake_over_66<R: Abort + Wait>(rt: &R, domain: &Domain, mut task: Task)
     requires ready { IsReady task }
 {
     assert!(rt; queue_many(rt, domain, &mut task, 66));
-    let mut list = Members::new();
     let mut rousing = Rousing::new();
     let mut passing = Passing::none();
     let mut run = WakeRun::new(Watch::Plain { cond: 0 }, Mode::Normal, 1);
@@ -105,7 +100,6 @@ fn wake_over_66<R: Abort + Wait>(rt: &R, domain: &Domain, mut task: Task)
         &mut task,
         &mut run,
         begins,
-        &mut list,
         &mut rousing,
         &mut passing,
     );
@@ -120,7 +114,6 @@ fn wake_over_66<R: Abort + Wait>(rt: &R, domain: &Domain, mut task: Task)
         &mut task,
         &mut run,
         goes_on,
-        &mut list,
         &mut rousing,
         &mut passing,
     );
@@ -166,7 +159,6 @@ fn wake_sleeper<R: Abort + Wait>(rt: &R, domain: &Domain, mut task: Task)
         matches!(sleep_exchange(rt, domain, &mut sleeper), Sleep::Asleep),
     ];
     all_so(rt, &seen);
-    let mut list = Members::new();
     let mut rousing = Rousing::new();
     let mut passing = Passing::none();
     let mut run = WakeRun::new(Watch::Plain { cond: 0 }, Mode::Normal, 0);
@@ -176,7 +168,6 @@ fn wake_sleeper<R: Abort + Wait>(rt: &R, domain: &Domain, mut task: Task)
         &mut task,
         &mut run,
         begins,
-        &mut list,
         &mut rousing,
         &mut passing,
     );

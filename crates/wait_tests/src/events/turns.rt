@@ -18,7 +18,7 @@ use wait_model::watches::{Mode, Watch};
 use wait_rule::queues::{Passing, publish};
 use wait_rule::{Domain, Task};
 use wq_head::wakes::{WakeRun, WakeStage, WakeTurn, wake_stretch};
-use wq_head::{Members, Rousing};
+use wq_head::Rousing;
 
 /// How many orders are tried.
 const ORDERS: u32 = 400;
@@ -50,7 +50,6 @@ fn wake_on(
     waker: &mut Task,
     run: &mut WakeRun,
     last: WakeTurn,
-    list: &mut Members,
 ) -> WakeTurn
     requires of { waker.old.domain ≡ domain.now }
     requires waking { Rests waker.old run.old last }
@@ -64,7 +63,7 @@ fn wake_on(
         WakeTurn::Starved(failed) => return WakeTurn::Starved(failed),
     };
     let (mut rousing, mut passing) = (Rousing::new(), Passing::none());
-    let turn = wake_stretch(domain, waker, run, stage, list, &mut rousing, &mut passing);
+    let turn = wake_stretch(domain, waker, run, stage, &mut rousing, &mut passing);
     end_both(domain, rousing, passing);
     turn
 }
@@ -75,7 +74,6 @@ fn wake_if(
     waker: &mut Task,
     run: &mut WakeRun,
     last: WakeTurn,
-    list: &mut Members,
     its_turn: bool,
 ) -> WakeTurn
     requires of { waker.old.domain ≡ domain.now }
@@ -84,7 +82,7 @@ fn wake_if(
     ensures waking { Rests waker.new run.new result }
 {
     if its_turn {
-        wake_on(domain, waker, run, last, list)
+        wake_on(domain, waker, run, last)
     } else {
         last
     }
@@ -132,14 +130,13 @@ fn play(domain: &Domain, waker: &mut Task, first: &mut Task, second: &mut Task, 
         one_at = wait_if(domain, first, &mut one, one_at, seed % 2 == 0);
         two_at = wait_if(domain, second, &mut two, two_at, seed % 2 == 1);
     }
-    let mut list = Members::new();
     let mut wake = begin_wake(domain, waker);
     let mut wake_at = WakeTurn::Locked(WakeStage::First);
     for turn in 0..TURNS {
         seed = next_number(seed ^ turn);
         one_at = wait_if(domain, first, &mut one, one_at, seed % 5 < 2);
         two_at = wait_if(domain, second, &mut two, two_at, seed % 5 > 2);
-        wake_at = wake_if(domain, waker, &mut wake, wake_at, &mut list, seed % 5 == 2);
+        wake_at = wake_if(domain, waker, &mut wake, wake_at, seed % 5 == 2);
     }
     is_over(one_at) && is_over(two_at) && matches!(wake_at, WakeTurn::Done(_))
 }

@@ -1,5 +1,5 @@
 use Rattle.std.proofs.Common.{◌∙◌, ◌≡◌, ◌+◌, ◌<◌, ◌≤◌, ℕ, ap, sym, subst, inl, inr, length, List, arith}
-use Rattle.std.proofs.Common.{slice_index_or}
+use Rattle.std.proofs.Common.{slice_index_or, Bool, false, MatchBool}
 use Rattle.std.proofs.lemmas.List.{length-map}
 use Rattle.wait_model.specs.declared.layout.TheConstants.{FIRST_SIMPLE_HEAD}
 use Rattle.wait_model.specs.declared.queues.Member.{Member}
@@ -8,9 +8,12 @@ use Rattle.wait_rule.specs.Shown.{shown_queue}
 use Rattle.wq_head.specs.declared.rousing.Rousing.{Rousing}
 use Rattle.wq_head.specs.Members.{member_of}
 use Rattle.wq_head.specs.Lists.{members_in, stand_in}
+use Rattle.wq_head.specs.Looks.{HasMember, IsEmpty}
 use Rattle.wq_head.specs.Roused.{IsRousing, tasks_in}
 use Rattle.wq_head.proofs.KeptHolds.{hold_carried, hold_holds, hold_on, hold_simple}
+use Rattle.wq_head.proofs.OneMoreLook.{looks_on}
 use Rattle.wq_head.proofs.RousedTasks.{none_looked, rousing_none, rousing_on}
+use Rattle.wq_head.proofs.ShownQueue.{queue_empty}
 use Rattle.wq_head.proofs.SelectingHold.{
   InSelection,
   selection_starts,
@@ -28,17 +31,42 @@ use Rattle.wq_head.proofs.selects.select_tries.Goals.{
   else-stand-lt-ENTRIES,
 }
 
+-- where nobody is queued
+pub returns-then-not-has_members : goal.returns-then-not-has_members
+returns-then-not-has_members c =
+    let m = c.has_members.ensures in
+    let old = c.args.task.now in
+    let new = c.has_members.new.task in
+    let none : c.has_members.result ≡ false = c.if-not-has_members.true in
+    let empty = subst (λ (b : Bool). MatchBool b (HasMember new) (IsEmpty new)) none m.tells in
+    let start = selection_starts old new c.requires.held
+    (subst (λ (h : ℕ). FIRST_SIMPLE_HEAD ≤ h) c.requires.head c.requires.simple) m.looks m.whole (m.stands none) in
+    record {
+      selected = selection_is old new new 0 0 start c.args.most
+          (inr (none_left old new new 0 0 start (queue_empty new empty), λ some. omega arith));
+      held = m.held;
+      hold = start.keeps;
+      keeps = hold_simple old new start.keeps;
+      rises = λ some. absurd (omega arith);
+      carries = m.carries;
+      rouses = rousing_on old old new c.args.rousing.now (none_looked old new m.looks)
+          (rousing_none old c.args.rousing.now c.requires.none);
+      starved = tt;
+    }
+
 pub loop-i-init : goal.loop-i-init
 loop-i-init c =
-    let l = c.members.ensures in (
-      c.members.new.task,
+    let l = c.members.ensures in
+    let old = c.args.task.now in
+    let new = c.members.new.task in
+    let looks = looks_on old c.has_members.new.task new c.has_members.ensures.looks l.looks in (
+      new,
       l.queue,
-      selection_starts c.args.task.now c.members.new.task c.requires.held
-          (subst (λ (h : ℕ). FIRST_SIMPLE_HEAD ≤ h) c.requires.head c.requires.simple) l.looks l.whole l.stands,
+      selection_starts old new c.requires.held
+          (subst (λ (h : ℕ). FIRST_SIMPLE_HEAD ≤ h) c.requires.head c.requires.simple) looks l.whole l.stands,
       λ some. omega arith,
-      rousing_on c.args.task.now c.args.task.now c.members.new.task c.args.rousing.now
-          (none_looked c.args.task.now c.members.new.task l.looks)
-          (rousing_none c.args.task.now c.args.rousing.now c.requires.none),
+      rousing_on old old new c.args.rousing.now (none_looked old new looks)
+          (rousing_none old c.args.rousing.now c.requires.none),
       (let none = ap length c.requires.none in omega (arith, none)),
     )
 

@@ -43,8 +43,8 @@ use wait_leave::Until;
 use wait_model::watches::Watch;
 use wait_rule::queues::Passing;
 use wait_rule::{Domain, Task};
-use wq_head::wakes::{WakeRun, WakeStage, WakeTurn, wake_stretch};
 use wq_head::Rousing;
+use wq_head::wakes::{WakeRun, WakeStage, WakeTurn, wake_stretch};
 
 /// The answer of a wait for a plain condition or a variable that was not left.
 fn waited(watch: Watch, loaded: u64, end: Result<(), WaitEnd>) -> Answer

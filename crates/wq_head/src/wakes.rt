@@ -128,14 +128,7 @@ pub fn wake<R: Wait>(
     let mut stage = WakeStage::First;
     let mut looks = 0;
     for _ in rt.forever() {
-        let turn = wake_stretch(
-            domain,
-            task,
-            &mut run,
-            stage,
-            &mut rousing,
-            &mut passing,
-        );
+        let turn = wake_stretch(domain, task, &mut run, stage, &mut rousing, &mut passing);
         passing.wake(domain);
         rousing.rouse_all(domain);
         match turn {

@@ -17,8 +17,8 @@ use wait_model::tasks::{How, SleepState};
 use wait_model::watches::{Mode, Watch};
 use wait_rule::queues::{Passing, publish};
 use wait_rule::{Domain, Task};
-use wq_head::wakes::{WakeRun, WakeStage, WakeTurn, wake_stretch};
 use wq_head::Rousing;
+use wq_head::wakes::{WakeRun, WakeStage, WakeTurn, wake_stretch};
 
 /// How many orders are tried.
 const ORDERS: u32 = 400;
@@ -45,12 +45,7 @@ fn begin_wake(domain: &Domain, waker: &mut Task) -> WakeRun
 }
 
 /// Goes on with the wake by one turn. No thread is parked in this test, so that none is to be roused.
-fn wake_on(
-    domain: &Domain,
-    waker: &mut Task,
-    run: &mut WakeRun,
-    last: WakeTurn,
-) -> WakeTurn
+fn wake_on(domain: &Domain, waker: &mut Task, run: &mut WakeRun, last: WakeTurn) -> WakeTurn
     requires of { waker.old.domain ≡ domain.now }
     requires waking { Rests waker.old run.old last }
     ensures of { waker.new.domain ≡ domain.now }

@@ -113,6 +113,7 @@ fn write_turn<R: Wait>(
 
 /// Writes a piece without waiting: a look at the reader's word, and then the free cells are filled. None: that end is
 /// closed. Err: no cell is free, and its word is this.
+#[inline(always)]
 pub(crate) fn write_now<R: Wait>(
     rt: &R,
     domain: &Domain,
@@ -264,6 +265,7 @@ fn read_turn<R: Wait>(
 
 /// Reads a piece without waiting: a look at the writer's word, and then cells are taken; 0 where that end is closed and
 /// no cell is left. Err: no cell is there, and its word is this.
+#[inline(always)]
 pub(crate) fn read_now<R: Wait>(
     rt: &R,
     domain: &Domain,

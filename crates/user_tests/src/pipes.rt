@@ -6,4 +6,5 @@ mod calls;
 mod full_pieces;
 mod left_calls;
 mod left_streams;
+mod looks;
 mod streams;

@@ -74,7 +74,7 @@ use Rattle.wait_pipe.specs.Pieces.{
 use Rattle.wait_pipe.specs.Trails.{LoadsCells, LoadsOther, LooksOver, PassesCells, StoresCells, WakesAfter, cell_items}
 use Rattle.wait_pipe.specs.declared.looks.Look.{Look}
 use Rattle.wait_pipe.proofs.Asides.{none_more, quiet_cell, quiet_none, quiet_on}
-use Rattle.wait_pipe.proofs.PieceChanges.{others_becomes, others_on}
+use Rattle.wait_pipe.proofs.PieceChanges.{others_becomes, others_on, settled_still}
 
 -- all the bytes of an end that has nothing outstanding
 all_bytes : (e : End) → e.count ≡ length e.cells → moved_bytes e ≡ bytes_in e.cells
@@ -415,12 +415,6 @@ drain_all p old now next last size buf at left done f step same none =
     omega arith
 
 -- A task that only looked and waited has its end as it was, and passed on nothing.
-settled_still : (e f : End) → KeepsEnd e f → IsSettled e → IsSettled f
-settled_still e f k s = record {
-  still = record { mine = k.mine ∙ s.still.mine; unshut = k.shut ∙ s.still.unshut };
-  passed = k.count ∙ (s.passed ∙ sym (ap length k.cells));
-}
-
 bytes_still : (e f : End) → KeepsEnd e f → moved_bytes f ≡ moved_bytes e
 bytes_still e f k = (λ i. bytes_in (take (k.count i) (k.cells i)))
 

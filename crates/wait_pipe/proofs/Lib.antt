@@ -5,6 +5,7 @@ pub mod Rousing
 pub mod Looking
 pub mod LeftWaits
 pub mod Fills
+pub mod Peeked
 pub mod Turns
 pub mod UntilTurns
 pub mod PipeWords

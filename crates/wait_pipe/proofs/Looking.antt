@@ -56,7 +56,7 @@ use Rattle.wait_rule.specs.Pipes.{
 }
 use Rattle.wait_rule.specs.PipeSays.{IsOpen, IsSoundEnd, KeepsEnd, end_at}
 use Rattle.wait_rule.specs.Queues.{IsAgreedHold, IsIdle, index}
-use Rattle.wait_rule.specs.Says.{IsUp, added, told_of}
+use Rattle.wait_rule.specs.Says.{IsFree, IsUp, added, told_of}
 use Rattle.wait_rule.specs.Stays.{Carries, unchanged}
 use Rattle.wait_rule.specs.Transitions.{call_program}
 use Rattle.wait_rule.proofs.KnownLaws.PipeWords.{test_off, test_on}
@@ -70,15 +70,16 @@ use Rattle.wait_event.specs.declared.wait_events.WaitEnd.TheVariants as wait_end
 use Rattle.var_wait.specs.VarWaits.{EndsVarWait, IsVarCause, answer_of, shared_in}
 use Rattle.wait_rule.specs.Transitions.{Transition}
 use Rattle.wait_pipe.specs.Pieces.{HasSeen, IsReadCause, OthersStay, LeavesAside, ShowsNoCell, Waits, end_of_wait}
+use Rattle.wait_pipe.specs.PipeStates.{OnlyLooked}
 use Rattle.wait_pipe.specs.Trails.{AwaitsOther, LoadsOther}
 use Rattle.wait_pipe.specs.declared.pieces.PipeEnd.{PipeEnd}
 use Rattle.wait_pipe.specs.declared.looks.Look.{Look}
 use Rattle.wait_pipe.proofs.Asides.{quiet_load, waited_quiet}
-use Rattle.wait_pipe.proofs.PieceChanges.{of_wait, rests_still}
+use Rattle.wait_pipe.proofs.PieceChanges.{free_still, idle_still, of_wait, out_still, rests_still, settled_still}
 
 -- a task that holds nothing agrees
-pub idle_agreed : (k : Known) → IsIdle k → IsAgreedHold k
-idle_agreed k idle h held = absurd (let z : None ≡ Some h = sym idle.free.head ∙ held in cc)
+pub free_agreed : (k : Known) → IsFree k → IsAgreedHold k
+free_agreed k free h held = absurd (let z : None ≡ Some h = sym free.head ∙ held in cc)
 
 -- the number of the other end of end e of pipe p
 pub other_is : (p e : ℕ) → e < PIPE_ENDS → PIPE_ENDS * p + (1 - e) ≡ other_end (PIPE_ENDS * p + e)
@@ -135,14 +136,22 @@ module _ (k v r : ℕ) (old new : Known) (other : v ≡ other_end k) (pipe : v /
       ∙ ap (λ (b : Bool). if b then if_unclosed (after_look r) (end_at j old) else end_at j old)
       (test_off v (other_end j) (λ q. ne (sym (sym pipe ∙ (ap (λ (i : ℕ). i / PIPE_ENDS) q ∙ other_pipe j)))))
 
-  pub look_waits : IsOpen (end_at k old) → IsUp old → IsIdle old → IsOut old → Carries unchanged old new
-      → Waits k old new
-  look_waits still up idle out carries = record {
-    others = loaded_others;
-    keeps = subst (KeepsEnd (end_at k old)) (sym (loaded_own still))
-        (record { mine = refl; shut = refl; count = refl; before = refl; cells = refl });
-    rests = rests_still k old new carries (subst (LeavesAside old) (sym is) (quiet_load old v 0 r)) up idle out;
-  }
+  pub look_only : IsOpen (end_at k old) → IsUp old → IsFree old → Carries unchanged old new → OnlyLooked k old new
+  look_only still up free carries =
+      let kept : KeepsEnd (end_at k old) (end_at k new) = subst (KeepsEnd (end_at k old)) (sym (loaded_own still))
+      (record { mine = refl; shut = refl; count = refl; before = refl; cells = refl }) in
+      let quiet = subst (LeavesAside old) (sym is) (quiet_load old v 0 r) in record {
+        up = carries.awake ∙ up;
+        free = free_still k old new carries free;
+        idle = idle_still k old new carries;
+        out = out_still k old new carries;
+        others = loaded_others;
+        keeps = kept;
+        settled = settled_still (end_at k old) (end_at k new) kept;
+        carries = carries;
+        aside = quiet.aside;
+        off = quiet.off;
+      }
 
   pub look_seen : IsOpen (end_at k old) → (l : Look) (own : ℕ) → own ≡ end_word (end_at k new).count (end_at k new).shut
       → IsSoundEnd k (end_at k new) → l.own ≡ own / 2 → l.other ≡ r / 2 % word_counts → l.word ≡ r
@@ -163,6 +172,14 @@ module _ (k v r : ℕ) (old new : Known) (other : v ≡ other_end k) (pipe : v /
   pub look_loads : (w : ℕ) → w ≡ r → LoadsOther k w old new
   look_loads w word_is = is ∙ (ap (λ (u : ℕ). added old (item.Made (step.Load (watch.Var u 0) r))) other
       ∙ ap (λ (s : ℕ). added old (item.Made (step.Load (watch.Var (other_end k) 0) s))) (sym word_is))
+
+-- and as the turn of a call, by an idle task with no entry queued
+pub only_waits : (k : ℕ) (old new : Known) → OnlyLooked k old new → IsUp old → IsIdle old → IsOut old → Waits k old new
+only_waits k old new l up idle out = record {
+  others = l.others;
+  keeps = l.keeps;
+  rests = rests_still k old new l.carries (record { aside = l.aside; off = l.off }) up idle out;
+}
 
 -- a wait for the other end's word
 pub wait_waits : (k v word : ℕ) (st : SleepState) (old new : Known) (result : Result ℕ WaitEnd) → v ≢ k

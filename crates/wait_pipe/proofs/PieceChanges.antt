@@ -1,6 +1,6 @@
 -- What calls on ends leave of a task, one after the other.
 use Rattle.std.proofs.Common.{refl, sym, ◌∙◌, ap, subst}
-use Rattle.std.specs.Prelude.{ℕ, ◌≡◌, ◌/◌, ◌==◌, if◌then◌else◌, Bool, true, Some, None}
+use Rattle.std.specs.Prelude.{ℕ, ◌≡◌, ◌/◌, ◌==◌, if◌then◌else◌, Bool, true, Some, None, length}
 use Rattle.wait_model.specs.declared.layout.TheConstants.{PIPE_ENDS}
 use Rattle.wait_model.specs.declared.watches.Mode.TheVariants as mode
 use Rattle.wait_model.specs.declared.watches.Watch.{Watch}
@@ -9,12 +9,12 @@ use Rattle.wait_rule.specs.Known.{Known}
 use Rattle.wait_rule.specs.Pipes.{End, new_end}
 use Rattle.wait_rule.specs.PipeSays.{EndBecomes, KeepsEnd, end_at}
 use Rattle.wait_rule.specs.Queues.{IsIdle, index}
-use Rattle.wait_rule.specs.Says.{Excuse, IsUp, told_of}
+use Rattle.wait_rule.specs.Says.{Excuse, IsFree, IsUp, told_of}
 use Rattle.wait_rule.specs.Stays.{Carries, Change, publish_change, unchanged, wake_all_change}
 use Rattle.wait_rule.proofs.KnownLaws.CarriedTasks.{unchanged_none}
 use Rattle.wait_class.specs.Posts.{IsOut}
 use Rattle.wait_event.specs.Ends.{wait_change}
-use Rattle.wait_pipe.specs.Pieces.{IsOpened, Leaves, OthersStay, LeavesAside, Rests, Waits, piece_change}
+use Rattle.wait_pipe.specs.Pieces.{IsOpened, IsSettled, Leaves, OthersStay, LeavesAside, Rests, Waits, piece_change}
 use Rattle.wait_pipe.proofs.Asides.{quiet_none, quiet_on}
 
 module _ (k i : ℕ) (old new : Known) where
@@ -97,10 +97,13 @@ rests_on k x y z a b =
 
 -- over a call that changes nothing
 module _ (k : ℕ) (old new : Known) (c : Carries unchanged old new) where
+  pub free_still : IsFree old → IsFree new
+  free_still free = record { head = c.head ∙ free.head; ticket = c.ticket ∙ free.ticket }
+
   pub idle_still : IsIdle old → IsIdle new
   idle_still idle = record {
     running = c.state ∙ idle.running;
-    free = record { head = c.head ∙ idle.free.head; ticket = c.ticket ∙ idle.free.ticket };
+    free = free_still idle.free;
     unmarked = c.mark ∙ idle.unmarked;
   }
 
@@ -182,6 +185,12 @@ keeps_on e f g one two = record {
   count = two.count ∙ one.count;
   before = two.before ∙ one.before;
   cells = two.cells ∙ one.cells;
+}
+
+pub settled_still : (e f : End) → KeepsEnd e f → IsSettled e → IsSettled f
+settled_still e f k s = record {
+  still = record { mine = k.mine ∙ s.still.mine; unshut = k.shut ∙ s.still.unshut };
+  passed = k.count ∙ (s.passed ∙ sym (ap length k.cells));
 }
 
 pub others_becomes : (k : ℕ) (old new : Known) (e : End) → EndBecomes k old new e → OthersStay k old new

@@ -8,6 +8,7 @@ use Rattle.std.specs.Prelude.{
   ◌<◌,
   ◌≤◌,
   ◌+◌,
+  ◌/◌,
   ◌%◌,
   ◌==◌,
   ◌&&◌,
@@ -75,6 +76,7 @@ use Rattle.wait_pipe.specs.PipeWords.{
   Deed,
   LastReads,
   LastWrites,
+  PeeksFollow,
   ReadsFollow,
   TurnPasses,
   TurnWaits,
@@ -387,6 +389,19 @@ reads_follow k old new buf r law w =
       ends = last_reads new law old.view.number k (end_at k old) w.last buf r w.ends
           (turns_keep k old w.turns w.last w.waits) (number_on old w.last waited);
       is = refl;
+    }
+
+-- the count of cells that a look told is one behind the own count, which stays
+pub peeks_follow : PeeksFollow
+peeks_follow k old new s e =
+    let kept = (looked_keeps k e.looks.word old new e.looks.loads).count in
+    let cells = e.cells in
+    let count : (end_at k new).seen ≡ (end_at k old).count + s.cells = omega arith in record {
+      shown = ap (λ (w : ℕ). w / 2 % word_counts) e.word
+          ∙ (e.looks.shown ∙ ap (λ (n : ℕ). n % word_counts) count);
+      room = e.room;
+      closed = e.closed ∙ ap (λ (w : ℕ). w % 2 == 1) (sym e.word);
+      is = ap (λ (w : ℕ). loads_other k w ∷ []) (sym e.word);
     }
 
 pub closes_follow : ClosesFollow

@@ -14,6 +14,7 @@ use Rattle.std.specs.Prelude.{
   ◌++◌,
   true,
   false,
+  ◌==◌,
   Result,
   Ok,
   Err,
@@ -43,7 +44,9 @@ use Rattle.wait_rule.specs.Says.{MeetsLaw}
 use Rattle.wait_event.specs.Words.{call_says}
 use Rattle.wait_pipe.specs.declared.pieces.PipeEnd.{PipeEnd}
 use Rattle.wait_pipe.specs.declared.pieces.PipeEnd.TheVariants as pipe_end
+use Rattle.wait_pipe.specs.declared.peeks.PipeState.{PipeState}
 use Rattle.wait_pipe.specs.Pieces.{ShowsNoCell}
+use Rattle.wait_pipe.specs.PipeStates.{PeeksRead}
 use Rattle.wait_pipe.specs.Trails.{
   ClosesEnd,
   ReadEnds,
@@ -131,6 +134,14 @@ pub record SaysClosed (k seen : ℕ) (said : List Deed) : Type 0 where
   pub ended : word % 2 ≡ 1
   pub is : said ≡ loads_other k word ∷ []
 
+-- A look that takes nothing: a load of the other end's word, which shows this many cells, at most a pipe full, beyond
+-- those that the own end has passed on, and whether that end is closed.
+pub record SaysState (k : ℕ) (own : End) (s : PipeState) (said : List Deed) : Type 0 where
+  pub shown : s.word / 2 % word_counts ≡ (own.count + s.cells) % word_counts
+  pub room : s.cells ≤ PIPE_CELLS
+  pub closed : s.closed ≡ (s.word % 2 == 1)
+  pub is : said ≡ loads_other k s.word ∷ []
+
 abbrev pub LastWrites : ℕ → ℕ → End → List ℕ → Result ℕ PipeEnd → List Deed → Type 0
 LastWrites me k own text (Ok n) said = TurnFills me k own text n said
 LastWrites me k own text (Err pipe_end.Broken) said = (seen : ℕ) × SaysClosed k seen said
@@ -193,6 +204,9 @@ abbrev pub reads_said : (k : ℕ) (old new : Known) (buf : List ℕ) (r : Result
     → ReadsPiece k old new buf r → List Deed
 reads_said k old new buf r w = in_order (turns_said k old w.turns w.last w.waits) ++ read_said k w.last new buf r w.ends
 
+abbrev pub peek_said : (k : ℕ) (old new : Known) (s : PipeState) → PeeksRead k old new s → List Deed
+peek_said k old new s e = loads_other k e.looks.word ∷ []
+
 -- A write and a read of a piece, whatever they answer; a load of the base word after the call (`Task::witness`) shows
 -- the table that is asked for.
 abbrev pub WritesFollow : Type 0
@@ -206,6 +220,11 @@ ReadsFollow = (k : ℕ) (old new : Known) (buf : List ℕ) (r : Result ℕ PipeE
     → (w : ReadsPiece k old new buf r)
     → SaysPiece old.view.number k (end_at k old) (LastReads old.view.number k (end_at k old) buf r)
     (reads_said k old new buf r w)
+
+-- A look that takes nothing, in any table.
+abbrev pub PeeksFollow : Type 0
+PeeksFollow = (k : ℕ) (old new : Known) (s : PipeState) (e : PeeksRead k old new s)
+    → SaysState k (end_at k old) s (peek_said k old new s e)
 
 -- A close: a store of the own word, which counts what was passed on and shows the end closed, with a wake as above.
 abbrev pub ClosesFollow : Type 0

@@ -1,14 +1,15 @@
 //! What whole calls on pipes make, as sentences over those of the model, and whom they leave asleep.
 
 ghost use Rattle.wait_pipe.specs.LosesNone.{ClosesLoseNone, PassesLoseNone, PipesLoseNone};
-ghost use Rattle.wait_pipe.specs.PipeWords.{ClosesFollow, ReadsFollow, TurnsHeed, WritesFollow};
+ghost use Rattle.wait_pipe.specs.PipeWords.{ClosesFollow, PeeksFollow, ReadsFollow, TurnsHeed, WritesFollow};
 
-/// What a `write_piece`, a `read_piece`, a `close_write` and a `close_read` have made, as one list of events of the model
-/// and of cells, follows their sentences, and their answers are those that the sentences give: by the table that a load
-/// of the base word shows after the call (`Task::witness`).
+/// What a `write_piece`, a `read_piece`, a `peek_read`, a `close_write` and a `close_read` have made, as one list of events
+/// of the model and of cells, follows their sentences, and their answers are those that the sentences give: by the table
+/// that a load of the base word shows after the call (`Task::witness`), and of a `peek_read` by any.
 pub fn calls_follow_sentences()
     ensures writes { WritesFollow }
     ensures reads { ReadsFollow }
+    ensures peeks { PeeksFollow }
     ensures closes { ClosesFollow }
 {}
 

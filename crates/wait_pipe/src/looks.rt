@@ -6,10 +6,11 @@ ghost use Rattle.wait_model.specs.declared.layout.TheConstants.{CLAIMS, PIPES, P
 ghost use Rattle.wait_rule.specs.Pipes.{other_end, word_counts, write_end};
 ghost use Rattle.wait_rule.specs.PipeSays.{IsOpen, end_at, writing};
 ghost use Rattle.wait_rule.specs.Queues.{IsIdle};
-ghost use Rattle.wait_rule.specs.Says.{IsUp};
+ghost use Rattle.wait_rule.specs.Says.{IsFree, IsUp};
 ghost use Rattle.wait_class.specs.Posts.{IsOut};
 ghost use Rattle.wait_pipe.specs.PieceLeaves.{AwaitsUntil, IsPieceUntil, end_of_until};
 ghost use Rattle.wait_pipe.specs.Pieces.{HasSeen, IsReadCause, ShowsNoCell, Waits, end_of_wait};
+ghost use Rattle.wait_pipe.specs.PipeStates.{OnlyLooked};
 ghost use Rattle.wait_pipe.specs.Trails.{AwaitsOther, LoadsOther};
 
 use crate::ends::WRITE;
@@ -39,16 +40,17 @@ pub struct Look {
     pub closed: bool,
 }
 
-/// A look from end `end`, 0 write and 1 read, of pipe `pipe` at the other end, and at the own word.
-pub fn look_over(domain: &Domain, task: &mut Task, pipe: u8, end: u8) -> Look
+/// A look from end `end`, 0 write and 1 read, of pipe `pipe`, below `PIPES`, at the other end, and at the own word. It
+/// changes nothing but what the task knows. The task holds no head; it has the end and has not closed it.
+#[inline(always)]
+pub fn load_over(domain: &Domain, task: &mut Task, pipe: u8, end: u8) -> Look
     requires of { task.old.domain ≡ domain.now }
     requires up { IsUp task.old }
-    requires idle { IsIdle task.old }
-    requires out { IsOut task.old }
+    requires free { IsFree task.old }
     requires pipe { pipe < PIPES }
     requires end { end < PIPE_ENDS }
     requires still { IsOpen (end_at (PIPE_ENDS * pipe + end) task.old) }
-    ensures waits { Waits (PIPE_ENDS * pipe + end) task.old task.new }
+    ensures looked { OnlyLooked (PIPE_ENDS * pipe + end) task.old task.new }
     ensures seen { HasSeen (PIPE_ENDS * pipe + end) task.new result }
     ensures loads { LoadsOther (PIPE_ENDS * pipe + end) result.word task.old task.new }
 {
@@ -61,6 +63,23 @@ pub fn look_over(domain: &Domain, task: &mut Task, pipe: u8, end: u8) -> Look
         word,
         closed: word % 2 == 1,
     }
+}
+
+/// The same of an idle task with no entry queued, as a turn of a call begins.
+#[inline(always)]
+pub fn look_over(domain: &Domain, task: &mut Task, pipe: u8, end: u8) -> Look
+    requires of { task.old.domain ≡ domain.now }
+    requires up { IsUp task.old }
+    requires idle { IsIdle task.old }
+    requires out { IsOut task.old }
+    requires pipe { pipe < PIPES }
+    requires end { end < PIPE_ENDS }
+    requires still { IsOpen (end_at (PIPE_ENDS * pipe + end) task.old) }
+    ensures waits { Waits (PIPE_ENDS * pipe + end) task.old task.new }
+    ensures seen { HasSeen (PIPE_ENDS * pipe + end) task.new result }
+    ensures loads { LoadsOther (PIPE_ENDS * pipe + end) result.word task.old task.new }
+{
+    load_over(domain, task, pipe, end)
 }
 
 /// A look from the write end of pipe `pipe`.

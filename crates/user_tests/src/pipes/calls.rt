@@ -9,6 +9,7 @@ use std::sync::Wait;
 use wait_leave::Until;
 use wait_pipe::ends::{close_read, close_write, open_read, open_write};
 use wait_pipe::leaves::{read_piece_until, write_piece_until};
+use wait_pipe::peeks::{PipeState, peek_read};
 use wait_pipe::pieces::{PipeEnd, read_piece, write_piece};
 use wait_rule::{Domain, Task};
 
@@ -71,6 +72,17 @@ pub(crate) fn get<R: Wait>(
     ensures most { IfOk result (λ n. n ≤ length buf.new) }
 {
     read_piece(rt, domain, task, pipe, buf)
+}
+
+/// Looks what there is to be taken, and takes nothing.
+pub(crate) fn look(domain: &Domain, task: &mut Task, pipe: u8) -> PipeState
+    requires of { task.old.domain ≡ domain.now }
+    requires reader { IsReader pipe task.old }
+    requires pipe { pipe < PIPES }
+    ensures of { task.new.domain ≡ domain.now }
+    ensures reader { IsReader pipe task.new }
+{
+    peek_read(domain, task, pipe)
 }
 
 /// Puts a piece in, unless it is asked to leave while no cell is free.

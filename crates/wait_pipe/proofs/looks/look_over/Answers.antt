@@ -1,61 +1,11 @@
-use Rattle.std.proofs.Common.{◌∙◌, ap, refl, subst, sym}
-use Rattle.std.specs.Prelude.{ℕ, ◌≡◌, ◌+◌, ◌-◌, ◌*◌, ◌/◌, ◌%◌, ◌==◌}
+use Rattle.std.specs.Prelude.{◌+◌, ◌*◌}
 use Rattle.wait_model.specs.declared.layout.TheConstants.{PIPE_ENDS}
-use Rattle.wait_rule.specs.Known.{Known}
-use Rattle.wait_rule.specs.Pipes.{End, word_counts}
-use Rattle.wait_pipe.specs.Pieces.{HasSeen, Waits}
-use Rattle.wait_pipe.specs.declared.looks.Look.{Look}
-use Rattle.wait_pipe.proofs.Looking.{
-  idle_agreed,
-  loaded_own,
-  look_loads,
-  look_seen,
-  look_waits,
-  other_is,
-  pipe_is,
-}
+use Rattle.wait_pipe.proofs.Looking.{only_waits}
 use Rattle.wait_pipe.proofs.looks.look_over.Goals as goal
 
-pub cond_load-word-requires-clause-agreed : goal.cond_load-word-requires-clause-agreed
-cond_load-word-requires-clause-agreed c = idle_agreed c.args.task.now c.requires.idle
-
-pub own_load-own-requires-clause-mine : goal.own_load-own-requires-clause-mine
-own_load-own-requires-clause-mine c = ap (λ (e : End). e.mine)
-    (loaded_own (PIPE_ENDS * c.args.pipe + c.args.end) (PIPE_ENDS * c.args.pipe + (1 - c.args.end))
-    c.cond_load-word.result c.args.task.now c.cond_load-word.new.task
-    (other_is c.args.pipe c.args.end c.requires.end) (pipe_is c.args.pipe c.args.end c.requires.end)
-    c.cond_load-word.ensures.step c.requires.still) ∙ c.requires.still.mine
+pub load_over-requires-clause-free : goal.load_over-requires-clause-free
+load_over-requires-clause-free c = c.requires.idle.free
 
 pub returns-clause-waits : goal.returns-clause-waits
-returns-clause-waits c = subst (Waits (PIPE_ENDS * c.args.pipe + c.args.end) c.args.task.now)
-    (sym c.own_load-own.ensures.same)
-    (look_waits (PIPE_ENDS * c.args.pipe + c.args.end) (PIPE_ENDS * c.args.pipe + (1 - c.args.end))
-    c.cond_load-word.result c.args.task.now c.cond_load-word.new.task
-    (other_is c.args.pipe c.args.end c.requires.end) (pipe_is c.args.pipe c.args.end c.requires.end)
-    c.cond_load-word.ensures.step c.requires.still c.requires.up c.requires.idle c.requires.out
-    c.cond_load-word.ensures.carries)
-
-pub returns-clause-seen : goal.returns-clause-seen
-returns-clause-seen c =
-    let counts = c.from.ensures in
-    let l : Look = record {
-      own = c.own_load-own.result / 2;
-      other = c.cond_load-word.result / 2 % c.from.result;
-      word = c.cond_load-word.result;
-      closed = c.cond_load-word.result % 2 == 1;
-    } in
-    let other : l.other ≡ c.cond_load-word.result / 2 % word_counts =
-    ap (λ (n : ℕ). c.cond_load-word.result / 2 % n) counts in
-    subst (λ (k : Known). HasSeen (PIPE_ENDS * c.args.pipe + c.args.end) k l) (sym c.own_load-own.ensures.same)
-    (look_seen (PIPE_ENDS * c.args.pipe + c.args.end) (PIPE_ENDS * c.args.pipe + (1 - c.args.end))
-    c.cond_load-word.result c.args.task.now c.cond_load-word.new.task
-    (other_is c.args.pipe c.args.end c.requires.end) (pipe_is c.args.pipe c.args.end c.requires.end)
-    c.cond_load-word.ensures.step c.requires.still l c.own_load-own.result c.own_load-own.ensures.word
-    c.own_load-own.ensures.sound refl other refl refl)
-
-pub returns-clause-loads : goal.returns-clause-loads
-returns-clause-loads c = c.own_load-own.ensures.same
-    ∙ look_loads (PIPE_ENDS * c.args.pipe + c.args.end) (PIPE_ENDS * c.args.pipe + (1 - c.args.end))
-    c.cond_load-word.result c.args.task.now c.cond_load-word.new.task
-    (other_is c.args.pipe c.args.end c.requires.end) (pipe_is c.args.pipe c.args.end c.requires.end)
-    c.cond_load-word.ensures.step c.cond_load-word.result refl
+returns-clause-waits c = only_waits (PIPE_ENDS * c.args.pipe + c.args.end) c.args.task.now c.load_over.new.task
+    c.load_over.ensures.looked c.requires.up c.requires.idle c.requires.out

@@ -1,0 +1,46 @@
+-- What a look at a pipe from its read end tells, with nothing taken.
+use Rattle.std.proofs.Common.{arith, refl, sym}
+use Rattle.std.specs.Prelude.{ℕ, ◌≡◌, ◌≤◌, ◌+◌, ◌-◌, ◌%◌}
+use Rattle.wait_model.specs.declared.layout.TheConstants.{PIPE_CELLS}
+use Rattle.wait_rule.specs.Known.{Known}
+use Rattle.wait_rule.specs.Pipes.{read_end, word_counts}
+use Rattle.wait_rule.specs.PipeSays.{reading}
+use Rattle.wait_pipe.specs.declared.looks.Look.{Look}
+use Rattle.wait_pipe.specs.declared.peeks.PipeState.{PipeState}
+use Rattle.wait_pipe.specs.Pieces.{HasSeen, IsSettled}
+use Rattle.wait_pipe.specs.PipeStates.{PeeksRead, TellsOfPipe}
+use Rattle.wait_pipe.specs.Trails.{LoadsOther}
+use Rattle.wait_pipe.proofs.Fills.{at_end, look_shows, none_there, there_is}
+
+module _ (p : ℕ) (old new : Known) (l : Look) (seen : HasSeen (read_end p) new l) (settled : IsSettled (reading p new))
+    (there : ℕ) (is : there ≡ (l.other + word_counts - l.own) % word_counts) where
+  abbrev state : PipeState
+  state = record { word = l.word; cells = there; closed = l.closed }
+
+  counted : there + (reading p new).count ≡ (reading p new).seen
+  counted = let all = there_is p new l seen settled there is in let passed = settled.passed in omega arith
+
+  fits : there ≤ PIPE_CELLS
+  fits =
+      let sound = seen.sound.read (omega arith) in
+      let room = sound.room in
+      let all = counted in
+      omega arith
+
+  pub tells_so : TellsOfPipe p new state
+  tells_so = record {
+    cells = counted;
+    room = fits;
+    closed = sym seen.ended;
+    at_end = at_end p new l seen settled there is;
+    none = none_there p new l seen settled there is;
+  }
+
+  pub peeks_so : LoadsOther (read_end p) l.word old new → PeeksRead (read_end p) old new state
+  peeks_so loads = record {
+    looks = look_shows p new l (read_end p) old seen loads;
+    word = refl;
+    cells = counted;
+    room = fits;
+    closed = seen.closes;
+  }

@@ -13,6 +13,9 @@ pub mod Holders
 pub mod GuardedWords
 pub mod GuardedTallies
 pub mod Tallying
+pub mod TalliedTasks
+pub mod TalliedCalls
+pub mod LeftTallies
 pub mod Sleeping
 pub mod Staling
 pub mod NobodyStale

@@ -1,5 +1,5 @@
 -- Calls use a tally under a mutex as they should.
-use Rattle.std.proofs.Common.{◌∙◌, ap, refl, sym, subst, arith}
+use Rattle.std.proofs.Common.{◌∙◌, ap, append-nil, append_assoc, refl, sym, subst, arith}
 use Rattle.std.proofs.lemmas.Bool.Decides.{nat_tests}
 use Rattle.std.specs.Prelude.{ℕ, ◌+◌, ◌%◌, ◌^◌, ◌≡◌, ◌≢◌, ◌==◌, ◌&&◌, ◌||◌, not, Bool, true, false, if◌then◌else◌, Option, Some, None, Result, List, [], ◌∷◌, ◌++◌}
 use Rattle.wait_model.specs.declared.calls.Answer.TheVariants as answer
@@ -23,7 +23,10 @@ use Rattle.wait_model.specs.Totals.{total}
 use Rattle.wait_model.specs.Words.{flag}
 use Rattle.wait_rule.specs.declared.journal.Item.{Item}
 use Rattle.wait_rule.specs.declared.journal.Item.TheVariants as item
+use Rattle.wait_rule.specs.declared.journal.Journal.{Journal}
+use Rattle.wait_rule.specs.Aside.{Grows}
 use Rattle.wait_rule.specs.Items.{steps_of}
+use Rattle.wait_rule.specs.Journals.{pushed}
 use Rattle.wait_rule.specs.Known.{Known}
 use Rattle.wait_rule.specs.Says.{added, history_of}
 use Rattle.wait_rule.specs.Transitions.{
@@ -41,6 +44,7 @@ use Rattle.wait_rule.specs.Transitions.{
   by_step,
   walk_point,
   walk_program,
+  with_lock,
 }
 use Rattle.wait_rule.proofs.KnownLaws.TaskHistories.{history_after}
 use Rattle.wq_head.specs.Walks.{HasWoken}
@@ -54,7 +58,7 @@ use Rattle.futex_table.specs.GuardedTallies.{AreTallySteps, IsTallyStep, UsesTal
 use Rattle.futex_table.specs.GuardedWords.{read_after, read_from, read_in}
 use Rattle.futex_table.specs.Holding.{HoldsMutex, holds_after, holds_from, holds_in, holds_mutex}
 use Rattle.futex_table.specs.OneHolder.{stores_word}
-use Rattle.futex_table.specs.TallyUses.{AddsToTally, LeavesTallies, OpensTallies, StoresWord}
+use Rattle.futex_table.specs.TallyUses.{AddsToTally, LeavesApart, LeavesTallies, OpensTallies, StoresWord}
 use Rattle.futex_table.proofs.GuardedTallies.{opens_from}
 use Rattle.futex_table.proofs.GuardedWords.{read_on}
 use Rattle.futex_table.proofs.WordSteps.{IsWordless, futex_wordless, no_look, step_history, walk_wordless}
@@ -74,30 +78,73 @@ adds_append : (c : ℕ) (es fs : List Step)
 adds_append c [] fs = omega arith
 adds_append c (e ∷ es) fs = let ih = adds_append c es fs in omega (arith, ih)
 
+-- more items of the own list
+pushed_none : (v : Journal) → v ≡ pushed v []
+pushed_none v = ap (λ (xs : List Item). record {
+  lives = v.lives;
+  number = v.number;
+  next = v.next;
+  spare = v.spare;
+  items = xs;
+  joined = v.joined;
+}) (sym (append-nil v.items))
+
+pushed_on : (v : Journal) (xs ys : List Item) → pushed (pushed v xs) ys ≡ pushed v (xs ++ ys)
+pushed_on v xs ys = ap (λ (zs : List Item). record {
+  lives = v.lives;
+  number = v.number;
+  next = v.next;
+  spare = v.spare;
+  items = zs;
+  joined = v.joined;
+}) (append_assoc v.items xs ys)
+
+grows_none : (k : Known) → Grows k k
+grows_none k = record { items = []; view = pushed_none k.view }
+
+pub grows_on : (x y z : Known) → Grows x y → Grows y z → Grows x z
+grows_on x y z a b = record {
+  items = a.items ++ b.items;
+  view = b.view ∙ (ap (λ (v : Journal). pushed v b.items) a.view ∙ pushed_on x.view a.items b.items);
+}
+
+pub grows_one : (old new : Known) (x : Item) → new ≡ added old x → Grows old new
+grows_one old new x is = record { items = x ∷ []; view = ap (λ (k : Known). k.view) is }
+
+locked_view : (e : Step) (k : Known) → (with_lock e k).view ≡ k.view
+locked_view (step.Lock h aim w) k = refl
+locked_view e k = refl
+
 -- one part behind another
 pub adds_on : (m c n : ℕ) (x y z : Known) → AddsToTally x y m c 0 → AddsToTally y z m c n → AddsToTally x z m c n
 adds_on m c n x y z a b = record {
+  grows = grows_on x y z a.grows b.grows;
   uses = λ op u. b.uses op (a.uses op u);
   adds = (let p = a.adds in let q = b.adds in omega (arith, p, q));
 }
 
 pub adds_then : (m c n : ℕ) (x y z : Known) → AddsToTally x y m c n → AddsToTally y z m c 0 → AddsToTally x z m c n
 adds_then m c n x y z a b = record {
+  grows = grows_on x y z a.grows b.grows;
   uses = λ op u. b.uses op (a.uses op u);
   adds = (let p = a.adds in let q = b.adds in omega (arith, p, q));
 }
 
+pub adds_none : (m c : ℕ) (k : Known) → AddsToTally k k m c 0
+adds_none m c k = record { grows = grows_none k; uses = λ op u. u; adds = omega arith }
+
 pub leaves_none : (w : ℕ) (k : Known) → LeavesTallies w k k
-leaves_none w k m c ne = record { uses = λ op u. u; adds = omega arith }
+leaves_none w k m c ne = adds_none m c k
 
 pub leaves_on : (w : ℕ) (x y z : Known) → LeavesTallies w x y → LeavesTallies w y z → LeavesTallies w x z
 leaves_on w x y z a b m c ne = adds_on m c 0 x y z (a m c ne) (b m c ne)
 
 -- one step
-pub one_adds : (m c n : ℕ) (old new : Known) (e : Step) → history_of new ≡ history_of old ++ e ∷ []
+pub one_adds : (m c n : ℕ) (old new : Known) (e : Step) → Grows old new → history_of new ≡ history_of old ++ e ∷ []
     → ((op : Bool) → IsTallyStep m c (opens_from m (history_of old) op) (holds_mutex old m)
     (read_in m c (history_of old)) e) → tally_adds c e ≡ n → AddsToTally old new m c n
-one_adds m c n old new e is may counts = record {
+one_adds m c n old new e grows is may counts = record {
+  grows = grows;
   uses = λ op u. subst (UsesTally m c op) (sym is)
       (uses_append m c (history_of old) (e ∷ []) op false None u (may op, tt));
   adds = ap (total (tally_adds c)) is
@@ -142,6 +189,7 @@ looks_add c (item.Piped k a w ∷ xs) l = absurd l.0
 
 only_adds : (m c : ℕ) (old new : Known) → OnlyLooks old new → AddsToTally old new m c 0
 only_adds m c old new l = record {
+  grows = record { items = l.items; view = ap (λ (k : Known). k.view) l.is };
   uses = λ op u. subst (UsesTally m c op) (sym (looks_history old new l))
       (uses_append m c (history_of old) (steps_of l.items) op false None u
       (looks_are m c l.items (opens_from m (history_of old) op) (holds_in m (history_of old))
@@ -176,7 +224,8 @@ silent_adds c k own g v e is made = refl
 module _ (m c : ℕ) (f : Program) (wordless : (p : Point) (seen : Seen) → IsWordless (f.plan p seen).event) where
   made_adds : (p : Point) (seen : Seen) (k : Known) (s : StepOrLook)
       → IsMadeFor k f.own (f.given p) (f.plan p seen).event s → AddsToTally k (after_step_or_look s k) m c 0
-  made_adds p seen k (by_step e) made = one_adds m c 0 k (after_step_or_look (by_step e) k) e (step_history k e)
+  made_adds p seen k (by_step e) made = one_adds m c 0 k (after_step_or_look (by_step e) k) e
+      (record { items = item.Made e ∷ []; view = locked_view e (added k (item.Made e)) }) (step_history k e)
       (λ op. silent_step m c k f.own (f.given p) (f.plan p seen).event e (wordless p seen) made
       (opens_from m (history_of k) op) (holds_mutex k m) (read_in m c (history_of k)))
       (silent_adds c k f.own (f.given p) (f.plan p seen).event e (wordless p seen) made)
@@ -206,6 +255,7 @@ woken_adds old new aim w woken m c = goes_adds m c (walk_program aim)
 pub load_adds : (d v : ℕ) (old new : Known) → new ≡ added old (item.Made (step.Load (watch.Plain d) v)) → (m c : ℕ)
     → AddsToTally old new m c 0
 load_adds d v old new is m c = one_adds m c 0 old new (step.Load (watch.Plain d) v)
+    (grows_one old new (item.Made (step.Load (watch.Plain d) v)) is)
     (history_after old new (step.Load (watch.Plain d) v) is) (λ op. tt) refl
 
 apart : (w c : ℕ) → c ≢ w → (w == c) ≡ false
@@ -220,6 +270,7 @@ false_true q = absurd (cc)
 pub took_leaves : (w r : ℕ) (old new : Known) → new ≡ added old (item.Made (step.Consume (watch.Plain w) 0 r))
     → LeavesTallies w old new
 took_leaves w r old new is m c ne = one_adds m c 0 old new (step.Consume (watch.Plain w) 0 r)
+    (grows_one old new (item.Made (step.Consume (watch.Plain w) 0 r)) is)
     (history_after old new (step.Consume (watch.Plain w) 0 r) is) (λ op. apart w c ne) refl
 
 or_held : (h b : Bool) → h ≡ true → (h || b) ≡ true
@@ -236,6 +287,7 @@ flag_off w c r ne = ap (λ (b : Bool). flag b) (apart w c ne)
 pub freed_leaves : (w : ℕ) (old new : Known) → StoresWord old new w 1 → HoldsMutex old w → LeavesTallies w old new
 freed_leaves w old new s held m c ne = adds_then m c 0 old s.stored new
     (one_adds m c 0 old s.stored (step.Publish (watch.Plain w) 1 s.found)
+    (grows_one old s.stored (item.Made (step.Publish (watch.Plain w) 1 s.found)) s.is)
     (history_after old s.stored (step.Publish (watch.Plain w) 1 s.found) s.is)
     (λ op. (
       λ q. (
@@ -274,6 +326,17 @@ opened_tallies w old new s none c ne =
           let off = flag_off w c s.found ne in omega (arith, more, same, off)),
     )
 
+-- a load by a holder
+pub load_reads : (m c v : ℕ) (old mid : Known) → HoldsMutex old m → mid ≡ added old (item.Made (step.Load (watch.Plain c) v))
+    → read_in m c (history_of mid) ≡ Some v
+load_reads m c v old mid held is = ap (read_in m c) (history_after old mid (step.Load (watch.Plain c) v) is)
+    ∙ (read_on m c (history_of old) (step.Load (watch.Plain c) v) false None
+    ∙ (ap (λ (b : Bool). if b && (c == c) then Some v else read_in m c (history_of old)) held
+    ∙ ap (λ (b : Bool). if b then Some v else read_in m c (history_of old)) here))
+  where
+    here : (c == c) ≡ true
+    here = let same : (c == c) ≡ true = grind (arith, nat_tests) in same
+
 -- an add by a holder: a load, and a store of one more
 module _ (m c v : ℕ) (old mid new : Known) (apart_from : m ≢ c) (held : HoldsMutex old m)
     (is : mid ≡ added old (item.Made (step.Load (watch.Plain c) v)))
@@ -281,22 +344,28 @@ module _ (m c v : ℕ) (old mid new : Known) (apart_from : m ≢ c) (held : Hold
   here : (c == c) ≡ true
   here = let same : (c == c) ≡ true = grind (arith, nat_tests) in same
 
-  reads : read_in m c (history_of mid) ≡ Some v
-  reads = ap (read_in m c) (history_after old mid (step.Load (watch.Plain c) v) is)
-      ∙ (read_on m c (history_of old) (step.Load (watch.Plain c) v) false None
-      ∙ (ap (λ (b : Bool). if b && (c == c) then Some v else read_in m c (history_of old)) held
-      ∙ ap (λ (b : Bool). if b then Some v else read_in m c (history_of old)) here))
+  abbrev stores : Step
+  stores = step.Publish (watch.Plain c) ((v + 1) % 2 ^ 64) s.found
 
   pub holder_adds : AddsToTally old new m c 1
   holder_adds = adds_on m c 1 old mid new (load_adds c v old mid is m c)
       (adds_then m c 1 mid s.stored new
-      (one_adds m c 1 mid s.stored (step.Publish (watch.Plain c) ((v + 1) % 2 ^ 64) s.found)
-      (history_after mid s.stored (step.Publish (watch.Plain c) ((v + 1) % 2 ^ 64) s.found) s.is)
+      (one_adds m c 1 mid s.stored stores (grows_one mid s.stored (item.Made stores) s.is)
+      (history_after mid s.stored stores s.is)
       (λ op. (
         λ q. false_true (sym (apart c m apart_from) ∙ q),
-        λ q. (v, reads, refl),
+        λ q. (v, load_reads m c v old mid held is, refl),
       ))
       (ap (λ (b : Bool). flag b) here)) (s.behind m c))
+
+-- a store in a word that is neither
+pub stored_apart : (w value r : ℕ) (old new : Known) → new ≡ added old (item.Made (step.Publish (watch.Plain w) value r))
+    → LeavesApart w old new
+stored_apart w value r old new is m c not_m not_c = one_adds m c 0 old new (step.Publish (watch.Plain w) value r)
+    (grows_one old new (item.Made (step.Publish (watch.Plain w) value r)) is)
+    (history_after old new (step.Publish (watch.Plain w) value r) is)
+    (λ op. (λ q. false_true (sym (apart w m not_m) ∙ q), λ q. false_true (sym (apart w c not_c) ∙ q)))
+    (ap (λ (b : Bool). flag b) (apart w c not_c))
 
 -- a load and a wait are about no tally's word
 pub load_leaves : (w d v : ℕ) (old new : Known) → new ≡ added old (item.Made (step.Load (watch.Plain d) v))

@@ -9,5 +9,6 @@ pub mod OneHolder
 pub mod GuardedWords
 pub mod GuardedTallies
 pub mod TallyUses
+pub mod TalliedTasks
 pub mod Sleepers
 pub mod StaleSleepers

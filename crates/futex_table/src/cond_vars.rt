@@ -11,6 +11,7 @@ ghost use Rattle.wait_class.specs.Posts.{IsOut};
 ghost use Rattle.wait_event.specs.Conds.{set_change};
 ghost use Rattle.futex_table.specs.CondVars.{SignalsCond, WaitsForCond, cond_answer, cond_change, is_mutex_held};
 ghost use Rattle.futex_table.specs.Holding.{HoldsMutex, OthersStayHeld, holds_mutex};
+ghost use Rattle.futex_table.specs.TalliedTasks.{CountsAdd, StayTallied};
 ghost use Rattle.futex_table.specs.TallyUses.{AddsToTally, LeavesTallies};
 
 use crate::futexes::{FutexEnd, futex_wait};
@@ -66,6 +67,7 @@ pub fn cond_wait<R: Wait>(
     ensures holds { IfOk result (λ _. HoldsMutex task.new lock) }
     ensures others { OthersStayHeld lock task.old task.new }
     ensures tallies { LeavesTallies lock task.old task.new }
+    ensures tallied { StayTallied lock task.old task.new }
 {
     task.told();
     let seen = cond_load(domain, task, Watch::Plain { cond });
@@ -117,6 +119,7 @@ pub fn cond_signal<R: Wait>(rt: &R, domain: &Domain, task: &mut Task, cond: u8, 
     ensures held { HoldsMutex task.new lock }
     ensures others { OthersStayHeld cond task.old task.new }
     ensures adds { AddsToTally task.old task.new lock cond 1 }
+    ensures counted { CountsAdd lock cond task.old task.new }
 {
     let _ = lock;
     change_and_wake(rt, domain, task, cond, 1)
@@ -138,6 +141,7 @@ pub fn cond_broadcast<R: Wait>(rt: &R, domain: &Domain, task: &mut Task, cond: u
     ensures held { HoldsMutex task.new lock }
     ensures others { OthersStayHeld cond task.old task.new }
     ensures adds { AddsToTally task.old task.new lock cond 1 }
+    ensures counted { CountsAdd lock cond task.old task.new }
 {
     let _ = lock;
     change_and_wake(rt, domain, task, cond, 0)

@@ -16,6 +16,8 @@ ghost use Rattle.futex_table.specs.declared.waits.FutexStage.TheVariants as stag
 ghost use Rattle.futex_table.specs.FutexTables.{IsFreshFutexWait, futex_table};
 ghost use Rattle.futex_table.specs.FutexEnds.{EndsFutexWait, HasStored, HasWokenFutex, futex_end_in};
 ghost use Rattle.futex_table.specs.Holding.{OthersStayHeld, StayHeld, holds_mutex};
+ghost use Rattle.futex_table.specs.TalliedTasks.{StayTalliedApart};
+ghost use Rattle.futex_table.specs.TallyUses.{LeavesApart, StoresWord};
 
 use crate::waits::{FutexOutcome, FutexRun, FutexStage, FutexWait};
 use std::sync::Wait;
@@ -161,6 +163,9 @@ pub fn futex_store(domain: &Domain, task: &mut Task, futex: u8, value: u64)
     ensures carries { Carries (publish_change (watch.Plain futex)) task.old task.new }
     ensures free { holds_mutex task.new futex ≡ false }
     ensures held { OthersStayHeld futex task.old task.new }
+    ensures stores { StoresWord task.old task.new futex value }
+    ensures tallies { LeavesApart futex task.old task.new }
+    ensures tallied { StayTalliedApart futex task.old task.new }
 {
     publish(domain, task, Watch::Plain { cond: futex }, value);
 }

@@ -9,6 +9,7 @@ pub mod leaves;
 pub mod lock_leaves;
 pub mod mutexes;
 mod stores;
+pub mod tallies;
 pub mod waits;
 
 pub use cond_vars::{CondEnd, cond_broadcast, cond_signal, cond_wait};
@@ -16,3 +17,4 @@ pub use futexes::{FutexEnd, begin_futex, end_futex, futex_store, futex_wait, fut
 pub use leaves::{end_futex_wait_until, futex_wait_until, leave_futex_wait};
 pub use lock_leaves::{cond_wait_until, mutex_lock_until};
 pub use mutexes::{mutex_lock, mutex_open, mutex_try, mutex_unlock};
+pub use tallies::{tally_fork, tally_join, tally_read};

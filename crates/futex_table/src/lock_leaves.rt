@@ -17,6 +17,8 @@ ghost use Rattle.futex_table.specs.LockLeaves.{
   is_locked_until,
   round_end,
 };
+ghost use Rattle.futex_table.specs.TalliedTasks.{StayTallied};
+ghost use Rattle.futex_table.specs.TallyUses.{LeavesTallies};
 
 use crate::cond_vars::{CondEnd, cond_answer};
 use crate::futexes::FutexEnd;
@@ -57,6 +59,8 @@ pub fn mutex_lock_until<R: Wait, Q: Fn() -> bool>(
     ensures held { holds_mutex task.new lock ≡ (holds_mutex task.old lock || is_locked_until result) }
     ensures holds { is_locked_until result ≡ true → HoldsMutex task.new lock }
     ensures others { OthersStayHeld lock task.old task.new }
+    ensures tallies { LeavesTallies lock task.old task.new }
+    ensures tallied { StayTallied lock task.old task.new }
 {
     for _ in rt.forever() {
         if mutex_try(domain, task, lock) {
@@ -117,6 +121,8 @@ pub fn cond_wait_until<R: Wait, Q: Fn() -> bool>(
     ensures held { holds_mutex task.new lock ≡ is_held_until result }
     ensures holds { is_held_until result ≡ true → HoldsMutex task.new lock }
     ensures others { OthersStayHeld lock task.old task.new }
+    ensures tallies { LeavesTallies lock task.old task.new }
+    ensures tallied { StayTallied lock task.old task.new }
 {
     task.told();
     let seen = cond_load(domain, task, Watch::Plain { cond });

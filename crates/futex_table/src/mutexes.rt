@@ -12,6 +12,7 @@ ghost use Rattle.wait_event.specs.Conds.{set_change};
 ghost use Rattle.wait_event.specs.Ends.{wait_change};
 ghost use Rattle.futex_table.specs.Holding.{HoldsMutex, OthersStayHeld, holds_mutex};
 ghost use Rattle.futex_table.specs.Mutexes.{HasFreedMutex, HasTriedMutex, LocksMutex, is_locked, worn_in};
+ghost use Rattle.futex_table.specs.TalliedTasks.{StartsTallies, StayTallied};
 ghost use Rattle.futex_table.specs.TallyUses.{LeavesTallies, OpensTallies};
 
 use crate::futexes::{FutexEnd, futex_wait};
@@ -36,6 +37,7 @@ pub fn mutex_open<R: Wait>(rt: &R, domain: &Domain, task: &mut Task, lock: u8)
     ensures free { holds_mutex task.new lock ≡ false }
     ensures others { OthersStayHeld lock task.old task.new }
     ensures opens { OpensTallies lock task.old task.new }
+    ensures starts { StartsTallies lock task.old task.new }
 {
     store_and_wake(rt, domain, task, lock, 1, 1);
 }
@@ -55,6 +57,7 @@ pub fn mutex_try(domain: &Domain, task: &mut Task, lock: u8) -> bool
     ensures holds { result ≡ true → HoldsMutex task.new lock }
     ensures others { OthersStayHeld lock task.old task.new }
     ensures tallies { LeavesTallies lock task.old task.new }
+    ensures tallied { StayTallied lock task.old task.new }
 {
     consume(domain, task, lock) != 0
 }
@@ -78,6 +81,7 @@ pub fn mutex_lock<R: Wait>(rt: &R, domain: &Domain, task: &mut Task, lock: u8) -
     ensures holds { IfOk result (λ _. HoldsMutex task.new lock) }
     ensures others { OthersStayHeld lock task.old task.new }
     ensures tallies { LeavesTallies lock task.old task.new }
+    ensures tallied { StayTallied lock task.old task.new }
 {
     for _ in rt.forever() {
         if mutex_try(domain, task, lock) {
@@ -116,6 +120,7 @@ pub fn mutex_unlock<R: Wait>(rt: &R, domain: &Domain, task: &mut Task, lock: u8)
     ensures free { holds_mutex task.new lock ≡ false }
     ensures others { OthersStayHeld lock task.old task.new }
     ensures tallies { LeavesTallies lock task.old task.new }
+    ensures tallied { StayTallied lock task.old task.new }
 {
     let _walked = store_and_wake(rt, domain, task, lock, 1, 1);
 }

@@ -1,6 +1,7 @@
 //! Parts of users of semaphores and of mutexes, proved from the contracts of the calls alone: a task that works with a
-//! permit, and one with a critical section.
+//! permit, one with a critical section, and two threads that add to a tally in theirs.
 #![tactic(auto)]
 
 pub mod mutexes;
 pub mod semaphores;
+pub mod tallies;

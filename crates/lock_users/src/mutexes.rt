@@ -2,9 +2,10 @@
 //! change of it, or waits for one. By `futex_table::laws::one_holder` the mutex has one holder at most, and what that has
 //! loaded from the tally stands there until it stores one more, so no add is lost. It owes nothing between two calls.
 
-ghost use Rattle.std.specs.Prelude.{◌≡◌, true};
+ghost use Rattle.std.specs.Prelude.{◌≡◌, true, false};
 ghost use Rattle.wait_rule.specs.Says.{IsClean, IsUp};
 ghost use Rattle.futex_table.specs.Holding.{HoldsMutex};
+ghost use Rattle.futex_table.specs.TalliedTasks.{CountsAdd, StartsTallies, StayTallied};
 
 use futex_table::{cond_signal, cond_wait, mutex_lock, mutex_open, mutex_unlock};
 use std::sync::Wait;
@@ -12,10 +13,10 @@ use wait_model::tasks::SleepState;
 use wait_rule::{Domain, Task};
 
 /// The mutex.
-const LOCK: u8 = 6;
+pub(crate) const LOCK: u8 = 6;
 
 /// The tally.
-const TALLY: u8 = 7;
+pub(crate) const TALLY: u8 = 7;
 
 /// Opens the mutex, once.
 pub fn open_mutex<R: Wait>(rt: &R, domain: &Domain, task: &mut Task)
@@ -23,6 +24,7 @@ pub fn open_mutex<R: Wait>(rt: &R, domain: &Domain, task: &mut Task)
     requires clean { IsClean task.old }
     ensures of { task.new.domain ≡ domain.now }
     ensures clean { IsClean task.new }
+    ensures starts { StartsTallies 6 task.old task.new }
 {
     mutex_open(rt, domain, task, LOCK);
 }
@@ -34,6 +36,7 @@ pub fn take_mutex<R: Wait>(rt: &R, domain: &Domain, task: &mut Task) -> bool
     ensures of { task.new.domain ≡ domain.now }
     ensures clean { IsClean task.new }
     ensures holds { result ≡ true → HoldsMutex task.new 6 }
+    ensures tallied { StayTallied 6 task.old task.new }
 {
     match mutex_lock(rt, domain, task, LOCK) {
         Ok(()) => true,
@@ -49,6 +52,7 @@ pub fn add_one<R: Wait>(rt: &R, domain: &Domain, task: &mut Task)
     ensures of { task.new.domain ≡ domain.now }
     ensures clean { IsClean task.new }
     ensures holds { HoldsMutex task.new 6 }
+    ensures counted { CountsAdd 6 7 task.old task.new }
 {
     cond_signal(rt, domain, task, TALLY, LOCK);
 }
@@ -61,6 +65,7 @@ pub fn wait_for_add<R: Wait>(rt: &R, domain: &Domain, task: &mut Task) -> bool
     ensures of { task.new.domain ≡ domain.now }
     ensures clean { IsClean task.new }
     ensures holds { result ≡ true → HoldsMutex task.new 6 }
+    ensures tallied { StayTallied 6 task.old task.new }
 {
     let state = SleepState::Uninterruptible;
     match cond_wait(rt, domain, task, TALLY, LOCK, state) {
@@ -76,6 +81,7 @@ pub fn give_mutex<R: Wait>(rt: &R, domain: &Domain, task: &mut Task)
     requires holds { HoldsMutex task.old 6 }
     ensures of { task.new.domain ≡ domain.now }
     ensures clean { IsClean task.new }
+    ensures tallied { StayTallied 6 task.old task.new }
 {
     mutex_unlock(rt, domain, task, LOCK);
 }
@@ -86,6 +92,8 @@ pub fn add_under_mutex<R: Wait>(rt: &R, domain: &Domain, task: &mut Task) -> boo
     requires clean { IsClean task.old }
     ensures of { task.new.domain ≡ domain.now }
     ensures clean { IsClean task.new }
+    ensures added { result ≡ true → CountsAdd 6 7 task.old task.new }
+    ensures none { result ≡ false → StayTallied 6 task.old task.new }
 {
     if take_mutex(rt, domain, task) {
         add_one(rt, domain, task);

@@ -7,6 +7,7 @@ use Rattle.futex_table.specs.Holding.{holds_mutex}
 use Rattle.futex_table.proofs.CondVaring.{answered_holds, cond_carries, cond_held, idle_agreed, load_held, sets_out}
 use Rattle.futex_table.proofs.Mutexing.{idle_still, out_still}
 use Rattle.futex_table.proofs.Tallying.{leaves_on, load_leaves, waited_leaves}
+use Rattle.futex_table.proofs.TalliedCalls.{stay_tallied}
 use Rattle.futex_table.proofs.cond_vars.cond_wait.Goals as goal
 
 pub cond_load-seen-requires-clause-agreed : goal.cond_load-seen-requires-clause-agreed
@@ -73,3 +74,7 @@ returns-clause-tallies g c = leaves_on c.args.lock c.args.task.now c.cond_load-s
     (leaves_on c.args.lock c.mutex_unlock.new.task c.futex_wait-end.new.task c.mutex_lock-locked.new.task
     (waited_leaves c.args.lock c.mutex_unlock.new.task c.futex_wait-end.new.task c.futex_wait-end.ensures.waited)
     c.mutex_lock-locked.ensures.tallies))
+
+pub returns-clause-tallied : goal.returns-clause-tallied
+returns-clause-tallied g c = stay_tallied c.args.lock c.args.task.now c.mutex_lock-locked.new.task
+    (returns-clause-tallies g c)

@@ -1,6 +1,8 @@
 use Rattle.wait_model.specs.declared.watches.Watch.TheVariants as watch
 use Rattle.wait_event.proofs.Setting.{set_idle, sets}
 use Rattle.futex_table.proofs.Mutexing.{stored_frees, stored_others}
+use Rattle.futex_table.proofs.TalliedCalls.{stay_apart}
+use Rattle.futex_table.proofs.Tallying.{adds_none, stored_apart}
 use Rattle.futex_table.proofs.futexes.futex_store.Goals as goal
 
 pub returns-clause-stored : goal.returns-clause-stored
@@ -20,3 +22,20 @@ pub returns-clause-held : goal.returns-clause-held
 returns-clause-held c =
     let s = c.publish.ensures.step in
     stored_others c.args.futex c.args.value s.0 c.args.task.now c.publish.new.task s.1
+
+pub returns-clause-stores : goal.returns-clause-stores
+returns-clause-stores c =
+    let s = c.publish.ensures.step in record {
+      found = s.0;
+      stored = c.publish.new.task;
+      is = s.1;
+      behind = λ m d. adds_none m d c.publish.new.task;
+    }
+
+pub returns-clause-tallies : goal.returns-clause-tallies
+returns-clause-tallies c =
+    let s = c.publish.ensures.step in
+    stored_apart c.args.futex c.args.value s.0 c.args.task.now c.publish.new.task s.1
+
+pub returns-clause-tallied : goal.returns-clause-tallied
+returns-clause-tallied c = stay_apart c.args.futex c.args.task.now c.publish.new.task (returns-clause-tallies c)

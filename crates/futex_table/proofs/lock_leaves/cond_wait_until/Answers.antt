@@ -8,6 +8,9 @@ use Rattle.futex_table.specs.LockLeaves.{is_held_until}
 use Rattle.futex_table.proofs.CondVaring.{cond_carries, idle_agreed, load_held, sets_out}
 use Rattle.futex_table.proofs.LockLeaving.{cond_until_held}
 use Rattle.futex_table.proofs.Mutexing.{idle_still, out_still}
+use Rattle.futex_table.proofs.LeftTallies.{until_leaves}
+use Rattle.futex_table.proofs.TalliedCalls.{stay_tallied}
+use Rattle.futex_table.proofs.Tallying.{leaves_on, load_leaves}
 use Rattle.futex_table.proofs.lock_leaves.cond_wait_until.Goals as goal
 
 pub cond_load-seen-requires-clause-agreed : goal.cond_load-seen-requires-clause-agreed
@@ -62,3 +65,19 @@ returns-clause-others g c m ne = c.mutex_lock-locked.ensures.others m ne
 
 pub returns-clause-holds : goal.returns-clause-holds
 returns-clause-holds g c sure = returns-clause-held g c ∙ sure
+
+pub returns-clause-tallies : goal.returns-clause-tallies
+returns-clause-tallies g c = leaves_on c.args.lock c.args.task.now c.cond_load-seen.new.task
+    c.mutex_lock-locked.new.task
+    (load_leaves c.args.lock c.args.cond c.cond_load-seen.result c.args.task.now c.cond_load-seen.new.task
+    c.cond_load-seen.ensures.step)
+    (leaves_on c.args.lock c.cond_load-seen.new.task c.mutex_unlock.new.task c.mutex_lock-locked.new.task
+    c.mutex_unlock.ensures.tallies
+    (leaves_on c.args.lock c.mutex_unlock.new.task c.futex_wait_until-end.new.task c.mutex_lock-locked.new.task
+    (until_leaves c.args.lock c.mutex_unlock.new.task c.futex_wait_until-end.new.task
+    c.futex_wait_until-end.ensures.waited)
+    c.mutex_lock-locked.ensures.tallies))
+
+pub returns-clause-tallied : goal.returns-clause-tallied
+returns-clause-tallied g c = stay_tallied c.args.lock c.args.task.now c.mutex_lock-locked.new.task
+    (returns-clause-tallies g c)

@@ -2,13 +2,17 @@ use Rattle.std.proofs.Common.{◌∙◌, sym}
 use Rattle.std.specs.Prelude.{true}
 use Rattle.wait_model.specs.declared.tasks.SleepState.TheVariants as states
 use Rattle.futex_table.proofs.FutexLeaving.{until_as}
+use Rattle.futex_table.proofs.LeftTallies.{until_leaves}
 use Rattle.futex_table.proofs.LockLeaving.{asks_carries, asks_more, asks_none}
+use Rattle.futex_table.proofs.TalliedCalls.{stay_tallied}
+use Rattle.futex_table.proofs.Tallying.{leaves_none, leaves_on}
 use Rattle.futex_table.proofs.lock_leaves.mutex_lock_until.Goals as goal
 
 pub loop-init : goal.loop-init
 loop-init g c = (
   asks_none (g.Q.Fn.post c.args.asks tt true) c.args.task.now c.args.lock c.requires.up c.requires.idle c.requires.out,
   c.requires.of,
+  leaves_none c.args.lock c.args.task.now,
 )
 
 pub loop-preserved : goal.loop-preserved
@@ -25,4 +29,25 @@ loop-preserved g c =
           (sym c.round_end.ensures ∙ c.in_default.is),
       (asks_carries A c.args.task.now c.loop.task c.mutex_try.new.task c.args.lock w t.carries c.mutex_try.result
           c.if-mutex_try.false t.tried t.held t.others new end waited e.held e.carries).domain ∙ c.requires.of,
+      leaves_on c.args.lock c.args.task.now c.loop.task new c.loop.invariant.2
+          (leaves_on c.args.lock c.loop.task c.mutex_try.new.task new t.tallies
+          (until_leaves c.args.lock c.mutex_try.new.task new e.waited)),
     )
+
+pub returns-then-mutex_try-clause-tallies : goal.returns-then-mutex_try-clause-tallies
+returns-then-mutex_try-clause-tallies g c = leaves_on c.args.lock c.args.task.now c.loop.task c.mutex_try.new.task
+    c.loop.invariant.2 c.mutex_try.ensures.tallies
+
+pub returns-then-mutex_try-clause-tallied : goal.returns-then-mutex_try-clause-tallied
+returns-then-mutex_try-clause-tallied g c = stay_tallied c.args.lock c.args.task.now c.mutex_try.new.task
+    (returns-then-mutex_try-clause-tallies g c)
+
+pub returns-in-Some-round_end-clause-tallies : goal.returns-in-Some-round_end-clause-tallies
+returns-in-Some-round_end-clause-tallies g c = leaves_on c.args.lock c.args.task.now c.loop.task
+    c.futex_wait_until-end.new.task c.loop.invariant.2
+    (leaves_on c.args.lock c.loop.task c.mutex_try.new.task c.futex_wait_until-end.new.task c.mutex_try.ensures.tallies
+    (until_leaves c.args.lock c.mutex_try.new.task c.futex_wait_until-end.new.task c.futex_wait_until-end.ensures.waited))
+
+pub returns-in-Some-round_end-clause-tallied : goal.returns-in-Some-round_end-clause-tallied
+returns-in-Some-round_end-clause-tallied g c = stay_tallied c.args.lock c.args.task.now c.futex_wait_until-end.new.task
+    (returns-in-Some-round_end-clause-tallies g c)

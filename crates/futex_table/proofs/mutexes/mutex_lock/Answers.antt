@@ -1,6 +1,7 @@
 use Rattle.std.proofs.Common.{◌∙◌, sym}
 use Rattle.futex_table.proofs.Mutexing.{round_carries, round_more, waits_none}
 use Rattle.futex_table.proofs.Tallying.{leaves_none, leaves_on, waited_leaves}
+use Rattle.futex_table.proofs.TalliedCalls.{stay_tallied}
 use Rattle.futex_table.proofs.mutexes.mutex_lock.Goals as goal
 
 pub loop-init : goal.loop-init
@@ -35,3 +36,11 @@ returns-in-Some-worn_in-clause-tallies g c = leaves_on c.args.lock c.args.task.n
     c.futex_wait-end.new.task c.loop.invariant.2
     (leaves_on c.args.lock c.loop.task c.mutex_try.new.task c.futex_wait-end.new.task c.mutex_try.ensures.tallies
     (waited_leaves c.args.lock c.mutex_try.new.task c.futex_wait-end.new.task c.futex_wait-end.ensures.waited))
+
+pub returns-then-mutex_try-clause-tallied : goal.returns-then-mutex_try-clause-tallied
+returns-then-mutex_try-clause-tallied g c = stay_tallied c.args.lock c.args.task.now c.mutex_try.new.task
+    (returns-then-mutex_try-clause-tallies g c)
+
+pub returns-in-Some-worn_in-clause-tallied : goal.returns-in-Some-worn_in-clause-tallied
+returns-in-Some-worn_in-clause-tallied g c = stay_tallied c.args.lock c.args.task.now c.futex_wait-end.new.task
+    (returns-in-Some-worn_in-clause-tallies g c)

@@ -1,6 +1,7 @@
 use Rattle.std.proofs.Common.{refl}
 use Rattle.futex_table.proofs.Mutexing.{idle_still, took_holds, took_others, took_tried, tried_holds}
 use Rattle.futex_table.proofs.Tallying.{took_leaves}
+use Rattle.futex_table.proofs.TalliedCalls.{stay_tallied}
 use Rattle.futex_table.proofs.mutexes.mutex_try.Goals as goal
 
 pub returns-clause-tried : goal.returns-clause-tried
@@ -24,3 +25,6 @@ returns-clause-holds c sure = tried_holds _ _ c.consume.new.task c.args.lock (re
 pub returns-clause-tallies : goal.returns-clause-tallies
 returns-clause-tallies c = took_leaves c.args.lock c.consume.result c.args.task.now c.consume.new.task
     c.consume.ensures.step
+
+pub returns-clause-tallied : goal.returns-clause-tallied
+returns-clause-tallied c = stay_tallied c.args.lock c.args.task.now c.consume.new.task (returns-clause-tallies c)

@@ -1,5 +1,6 @@
 //! The tests of futexes, and of the mutexes and condition variables over them. They use the public calls of `futex_table`
-//! alone, so that this crate, which has no tests of its own, is proved once. There is nothing but tests here.
+//! alone, so that this crate, which has no tests of its own, is proved once; and one part of `lock_users`. There is
+//! nothing but tests here.
 #![tactic(auto)]
 
 #[cfg(test)]

@@ -6,6 +6,7 @@ ghost use Rattle.wait_rule.specs.Says.{IsClean};
 
 use crate::calls::{lock, open, unlock};
 use crate::wants::{all_so, another};
+use lock_users::tallies::add_in_two_threads;
 use std::sync::Wait;
 use std::sync::atomic::{AtomicU64, Ordering};
 use std::test::Fail;
@@ -17,6 +18,9 @@ use wait_rule::{Domain, Task};
 const ROUNDS: u32 = 300;
 
 const ADDS: u32 = 25;
+
+/// How often each of two tasks adds, in each of 20 Domains.
+const MORE_ADDS: u32 = 200;
 
 /// Adds to the tally so often.
 #[derive(Clone, Copy)]
@@ -85,6 +89,22 @@ fn tally_of_four(rt: HostRuntime) -> Result<(), Fail> {
         );
         let exact = tally.load(Ordering::SeqCst) == 100;
         all_so(&rt, &[first.1, one.1, two.1, three.1, exact]);
+    }
+    Ok(())
+}
+
+/// What the first of two reads is what both have added.
+#[test]
+fn tally_of_two(rt: HostRuntime) -> Result<(), Fail> {
+    for _round in 0..20 {
+        let (domain, task) = Domain::with_looks(rt.alloc(), 0)?;
+        let Some(tally) = add_in_two_threads(&rt, &domain, task, MORE_ADDS) else {
+            panic!(rt; "a number is spare, and places are left")
+        };
+        all_so(
+            &rt,
+            &[tally.first == 200, tally.second == 200, tally.read == 400],
+        );
     }
     Ok(())
 }

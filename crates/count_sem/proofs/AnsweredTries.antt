@@ -70,6 +70,7 @@ use Rattle.count_sem.proofs.AnsweredUps.{
   unleft_look,
   unlock_quiet,
 }
+use Rattle.count_sem.proofs.LoadedEnds.{HasLoadedEnd, found_end, loaded_on}
 use Rattle.count_sem.proofs.SemCalls.{low_of, some_of, taken_less}
 use Rattle.count_sem.proofs.SemPoints.{
   FoundLow,
@@ -81,24 +82,6 @@ use Rattle.count_sem.proofs.SemPoints.{
   low_on,
   lowers_one,
   saw_keeps,
-}
-
--- a load of the task's has found the count at its end
-pub record HasLoadedEnd (c : ℕ) (es : List Step) : Type 0 where
-  pub count : ℕ
-  pub many : (count < ALL_DONE) → ⊥
-  pub front : List Step
-  pub rest : List Step
-  pub is : es ≡ front ++ step.Load (watch.Done c) count ∷ rest
-
-loaded_on : (c : ℕ) (es : List Step) (e : Step) → HasLoadedEnd c es → HasLoadedEnd c (es ++ e ∷ [])
-loaded_on c es e l = record {
-  count = l.count;
-  many = l.many;
-  front = l.front;
-  rest = l.rest ++ e ∷ [];
-  is = ap (λ (xs : List Step). xs ++ e ∷ []) l.is
-      ∙ append_assoc l.front (step.Load (watch.Done c) l.count ∷ l.rest) (e ∷ []);
 }
 
 -- the points of a `try_down` of a task that has given g permits, and taken t, before
@@ -156,24 +139,6 @@ module _ (c me g t : ℕ) where
     abbrev given_here : Given
     given_here = trier.given (at.Count counting.Load)
 
-    at_end : (v : ℕ) → is_at_end v ≡ true → v < ALL_DONE → ⊥
-    at_end v is low =
-        let same : done_in v ≡ v = omega (arith, low) in
-        let q : done_in v ≡ ALL_DONE = grind (arith, nat_tests, is) in
-        omega (arith, same, q, low)
-
-    found_end : (e : Step) → is_at_end seen.value ≡ true
-        → IsStepFor k trier.own given_here (event.Load (number_of (watch.Done c)) seen.value) e → FindsStep e seen
-        → HasLoadedEnd c (here ++ e ∷ [])
-    found_end (step.Load l r) is made finds = record {
-      count = r;
-      many = λ low. at_end seen.value is (let z : seen.value < ALL_DONE = omega (arith, finds, low) in z);
-      front = here;
-      rest = [];
-      is = ap (λ (w : Watch). here ++ step.Load w r ∷ []) made;
-    }
-    found_end e is made finds = absurd made
-
     some_or : (z b : Bool) → (seen.value == 0) ≡ z → is_at_end seen.value ≡ b → (e : Step) → OrderStep me here e
         → IsStepFor k trier.own given_here (event.Load (number_of (watch.Done c)) seen.value) e → FindsStep e seen
         → Stands c me g t here g → IsIn c here
@@ -181,7 +146,7 @@ module _ (c me g t : ℕ) where
         (here ++ e ∷ [])
     some_or true b empty is e o made finds s held = quietly c me g t here e o
         (load_quiet k trier.own given_here (number_of (watch.Done c)) seen.value e made) g s
-    some_or false true empty is e o made finds s held = inr (found_end e is made finds)
+    some_or false true empty is e o made finds s held = inr (found_end c k trier.own given_here refl seen e is made finds)
     some_or false false empty is e o made finds s held = (
       quietly c me g t here e o (load_quiet k trier.own given_here (number_of (watch.Done c)) seen.value e made) g s,
       found_low c here e seen.value

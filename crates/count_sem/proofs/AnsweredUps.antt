@@ -236,10 +236,11 @@ module _ (c me g t : ℕ) where
     has = has_still c me es (step.Lock h aim w) g t has refl refl;
   }
 
-  -- the entry of another task is taken off
-  others : (es : List Step) (x : ℕ) → OrderStep me es (step.Unqueue x) → IsAwayAt c me es → IsIn c es
+  -- the entry of another task is taken off, where the own one is not queued
+  pub others : (es : List Step) (x : ℕ) (o : OrderStep me es (step.Unqueue x))
+      → stands_at ((table_of o.order.steps).entry (own me)) (done_head c) ≡ false → IsIn c es
       → gives_permit c (own me) (view_of es) (dealt c me es) (step.Unqueue x) ≡ true
-  others es x o away held = both (is_in c (view_of es)) (x == own me)
+  others es x o none held = both (is_in c (view_of es)) (x == own me)
       (ap (λ (i : Option ℕ). holding i (done_head c)) held ∙ eq-eqb (done_head c) (done_head c) refl)
       (ne (x == own me) refl)
     where
@@ -264,7 +265,7 @@ module _ (c me g t : ℕ) where
       ne : (b : Bool) → (x == own me) ≡ b → (x == own me) ≡ false
       ne false q = q
       ne true q = absurd (clash (stands_at (s.entry (own me)) (done_head c))
-          (stands (grind (arith, nat_tests, q)) o.allowed.0 o.allowed.1 o.allowed.2) (off_there c me es o.order away))
+          (stands (grind (arith, nat_tests, q)) o.allowed.0 o.allowed.1 o.allowed.2) none)
 
 -- its program
 module _ (c me g t : ℕ) where
@@ -325,7 +326,7 @@ module _ (c me g t : ℕ) where
         → IsStepFor k upper.own (upper.given (at.Select (selecting.Off n who))) (event.Unqueue who) e
         → Stands c me g t (here ++ e ∷ []) (g + 1)
     off_fits n who q (step.Unqueue x) o made = giving c me g t here (step.Unqueue x) o tt
-        (others c me g t here x o q.0.away q.1) refl q.0
+        (others c me g t here x o (off_there c me here o.order q.0.away) q.1) refl q.0
     off_fits n who q e o made = absurd made
 
     lock_fits : (h : ℕ) → h ≡ done_head c → ((dealt c me here).left ≡ false) × Has c me here g t → (e : Step)

@@ -23,5 +23,10 @@ pub mod SemCalls
 pub mod SemOthers
 pub mod AnswerRuns
 pub mod AnsweredUps
+pub mod LoadedEnds
 pub mod AnsweredTries
+pub mod DownHolds
+pub mod DownPermits
+pub mod DownEvents
+pub mod AnsweredDowns
 pub mod PassedAwake

@@ -1,15 +1,21 @@
 -- To be believed.
 -- What a call on a semaphore gives and takes, by its answer.
-use Rattle.std.specs.Prelude.{ℕ, ◌≡◌, ◌+◌, ◌<◌, Bool, Result, Ok, Err, List, ◌∷◌, ◌++◌}
+use Rattle.std.specs.Prelude.{ℕ, ◌≡◌, ◌+◌, ◌<◌, ◌≤◌, Bool, Result, Ok, Err, List, ◌∷◌, ◌++◌}
 use Rattle.wait_model.specs.declared.layout.TheConstants.{ALL_DONE}
 use Rattle.wait_model.specs.declared.steps.Step.{Step}
 use Rattle.wait_model.specs.declared.steps.Step.TheVariants as step
+use Rattle.wait_model.specs.declared.tasks.SleepState.{SleepState}
 use Rattle.wait_model.specs.declared.watches.Watch.TheVariants as watch
 use Rattle.wait_model.specs.Words.{flag}
 use Rattle.wait_rule.specs.Known.{Known}
 use Rattle.wait_rule.specs.LeftEntries.{LeftOff, OrderOf}
 use Rattle.wait_rule.specs.Says.{history_of}
+use Rattle.wait_leave.specs.declared.exits.Until.{Until}
+use Rattle.wait_leave.specs.declared.exits.Until.TheVariants as until
+use Rattle.count_sem.specs.declared.down_calls.SemEnd.{SemEnd}
 use Rattle.count_sem.specs.declared.ups.SemFull.{SemFull}
+use Rattle.count_sem.specs.DownEnds.{EndsDown}
+use Rattle.count_sem.specs.DownLeaves.{EndsDownUntil}
 use Rattle.count_sem.specs.SemPermits.{permits_given, permits_taken}
 use Rattle.count_sem.specs.Ups.{HasRaised, HasTakenPermit}
 
@@ -38,3 +44,23 @@ FindsNoEnd d es = (n : ℕ) (front rest : List Step) → es ≡ front ++ step.Lo
 abbrev pub TriesAreCounted : Type 0
 TriesAreCounted = (old new : Known) (d : ℕ) (hit : Bool) → OrderOf new → LeftOff d old
     → FindsNoEnd d (history_of new) → HasTakenPermit old new d hit → CountsMore old new d 0 (flag hit)
+
+-- A `down` that answers Ok has taken one permit more than it has given: it gives one where it was given its own, found
+-- more counted, and handed one on, which it took of the count. Else it has taken none, and given none.
+abbrev pub DownCounts : Known → Known → ℕ → Result (Unit {0}) SemEnd → Type 0
+DownCounts old new d (Ok u) = (p : ℕ) × (p ≤ 1) × CountsMore old new d p (p + 1)
+DownCounts old new d (Err end) = CountsMore old new d 0 0
+
+abbrev pub DownsAreCounted : Type 0
+DownsAreCounted = (old new : Known) (d : ℕ) (st : SleepState) (result : Result (Unit {0}) SemEnd) → OrderOf new
+    → LeftOff d old → FindsNoEnd d (history_of new) → EndsDown old new d st result → DownCounts old new d result
+
+-- One that was left has taken none, and given none; and one that its task may leave counts as it answers.
+abbrev pub UntilCounts : Known → Known → ℕ → Until (Result (Unit {0}) SemEnd) → Type 0
+UntilCounts old new d (until.Over x) = DownCounts old new d x
+UntilCounts old new d (until.Left seen) = CountsMore old new d 0 0
+
+abbrev pub LeftDownsAreCounted : Type 1
+LeftDownsAreCounted = (A : Type 0) (old new : Known) (d : ℕ) (st : SleepState)
+    (result : Until (Result (Unit {0}) SemEnd)) → OrderOf new → LeftOff d old → FindsNoEnd d (history_of new)
+    → EndsDownUntil A old new d st result → UntilCounts old new d result

@@ -1,6 +1,6 @@
 //! What holds of the permits of semaphores.
 
-ghost use Rattle.count_sem.specs.SemAnswers.{TriesAreCounted, UpsAreCounted};
+ghost use Rattle.count_sem.specs.SemAnswers.{DownsAreCounted, TriesAreCounted, UpsAreCounted};
 ghost use Rattle.count_sem.specs.SemPermits.{AllKeepPermits, RuleKeepsPermits, StepsKeepPermits};
 ghost use Rattle.count_sem.specs.SemUses.{DownsKeepUse, OthersKeepUse, StretchesKeepUse, TriesKeepUse, UpsKeepUse};
 ghost use Rattle.count_sem.specs.WorkedSemaphores.{WorkedSemaphores};
@@ -38,4 +38,5 @@ pub fn calls_keep_permits()
 pub fn answers_count_permits()
     ensures ups { UpsAreCounted }
     ensures tries { TriesAreCounted }
+    ensures downs { DownsAreCounted }
 {}

@@ -1,3 +1,4 @@
+use Rattle.count_sem.proofs.AnsweredDowns.{downs_counted}
 use Rattle.count_sem.proofs.AnsweredTries.{tries_counted}
 use Rattle.count_sem.proofs.AnsweredUps.{ups_counted}
 use Rattle.count_sem.proofs.laws.answers_count_permits.Goals as goal
@@ -7,3 +8,6 @@ returns-clause-ups c = ups_counted
 
 pub returns-clause-tries : goal.returns-clause-tries
 returns-clause-tries c = tries_counted
+
+pub returns-clause-downs : goal.returns-clause-downs
+returns-clause-downs c = downs_counted

@@ -1,6 +1,6 @@
 -- What a `down` takes, by its answer.
 use Rattle.std.proofs.Common.{refl, subst, arith, inl, inr}
-use Rattle.std.specs.Prelude.{ℕ, ◌≡◌, ◌+◌, false, Result, Ok, Err, List}
+use Rattle.std.specs.Prelude.{ℕ, false, Result, Ok, Err}
 use Rattle.wait_model.specs.declared.points.AwaitPoint.TheVariants as awaiting
 use Rattle.wait_model.specs.declared.points.Next.{Next}
 use Rattle.wait_model.specs.declared.points.Next.TheVariants as next
@@ -16,7 +16,7 @@ use Rattle.wait_class.specs.Posts.{Runs}
 use Rattle.count_sem.specs.declared.down_calls.SemEnd.{SemEnd}
 use Rattle.count_sem.specs.declared.down_calls.SemEnd.TheVariants as sem_end
 use Rattle.count_sem.specs.DownEnds.{end_answer}
-use Rattle.count_sem.specs.SemAnswers.{CountsMore, DownCounts, DownsAreCounted, FindsNoEnd}
+use Rattle.count_sem.specs.SemAnswers.{DownCounts, DownsAreCounted, FindsNoEnd}
 use Rattle.count_sem.specs.SemPermits.{permits_given, permits_taken}
 use Rattle.count_sem.specs.SemPrograms.{down_program}
 use Rattle.count_sem.proofs.AnswerRuns.{run_holds}

@@ -1,25 +1,6 @@
 -- What a `try_down` takes, by its answer.
-use Rattle.std.proofs.Common.{refl, ◌∙◌, ap, subst, arith, append_assoc, eq-eqb, inl, inr}
-use Rattle.std.proofs.lemmas.Bool.Decides.{nat_tests}
-use Rattle.std.specs.Prelude.{
-  ℕ,
-  suc,
-  ◌≡◌,
-  ◌+◌,
-  ◌-◌,
-  ◌<◌,
-  ◌==◌,
-  ◌⊎◌,
-  pos,
-  Bool,
-  true,
-  false,
-  if◌then◌else◌,
-  List,
-  [],
-  ◌∷◌,
-  ◌++◌,
-}
+use Rattle.std.proofs.Common.{refl, ◌∙◌, ap, subst, arith, eq-eqb, inl, inr}
+use Rattle.std.specs.Prelude.{ℕ, suc, ◌≡◌, ◌+◌, ◌-◌, ◌==◌, ◌⊎◌, pos, Bool, true, false, if◌then◌else◌, List, [], ◌∷◌, ◌++◌}
 use Rattle.wait_model.specs.declared.layout.TheConstants.{ALL_DONE}
 use Rattle.wait_model.specs.declared.calls.Answer.{Answer}
 use Rattle.wait_model.specs.declared.calls.Answer.TheVariants as answer

@@ -1,36 +1,9 @@
 -- The events of a `down`, and what each makes of the permits that its task has given and taken.
 use Rattle.std.proofs.Common.{refl, sym, ◌∙◌, ap, subst, arith, eq-eqb, inl, inr}
 use Rattle.std.proofs.lemmas.Bool.Decides.{nat_tests}
-use Rattle.std.specs.Prelude.{
-  ℕ,
-  zero,
-  suc,
-  ◌≡◌,
-  ◌+◌,
-  ◌-◌,
-  ◌<◌,
-  ◌≤◌,
-  ◌⊎◌,
-  ◌==◌,
-  ◌||◌,
-  pos,
-  Bool,
-  true,
-  false,
-  is_some,
-  if◌then◌else◌,
-  Option,
-  Some,
-  None,
-  List,
-  [],
-  ◌∷◌,
-  ◌++◌,
-}
+use Rattle.std.specs.Prelude.{ℕ, zero, suc, ◌≡◌, ◌+◌, ◌-◌, ◌<◌, ◌≤◌, ◌==◌, ◌||◌, Bool, true, false, is_some, if◌then◌else◌, Option, Some, None, List, [], ◌∷◌, ◌++◌}
 use Rattle.wait_model.specs.declared.layout.TheConstants.{ALL_DONE, ENTRIES}
-use Rattle.wait_model.specs.declared.calls.Answer.{Answer}
 use Rattle.wait_model.specs.declared.calls.Answer.TheVariants as answer
-use Rattle.wait_model.specs.declared.calls.Event.{Event}
 use Rattle.wait_model.specs.declared.calls.Event.TheVariants as event
 use Rattle.wait_model.specs.declared.points.AwaitPoint.TheVariants as awaiting
 use Rattle.wait_model.specs.declared.points.FinishPoint.TheVariants as finishing
@@ -56,11 +29,10 @@ use Rattle.wait_model.specs.declared.watches.Watch.{Watch}
 use Rattle.wait_model.specs.declared.watches.Watch.TheVariants as watch
 use Rattle.wait_model.specs.Facts.{Agrees}
 use Rattle.wait_model.specs.Fold.{view_of}
-use Rattle.wait_model.specs.Permits.{dealt, done_head, is_in, shows_at}
+use Rattle.wait_model.specs.Permits.{dealt, done_head, shows_at}
 use Rattle.wait_model.specs.Programs.{ends_with, go, is_at_end, signalled, zero_answer}
 use Rattle.wait_model.specs.Queues.{entry_from, is_entry}
 use Rattle.wait_model.specs.Runs.{called_as, called_by, own}
-use Rattle.wait_model.specs.Tables.{Table}
 use Rattle.wait_model.specs.Tasks.{looks_in, meets, pending, sleep_of, state_mask}
 use Rattle.wait_model.specs.Views.{Look, shown}
 use Rattle.wait_model.specs.Watches.{head_of, mask_of, number_of, owner}
@@ -84,89 +56,18 @@ use Rattle.wait_rule.specs.Transitions.{
   by_look,
   by_step,
 }
-use Rattle.wait_rule.proofs.KnownLaws.HandedSteps.{IsAwayAt, OrderStep, away_next}
+use Rattle.wait_rule.proofs.KnownLaws.HandedSteps.{OrderStep}
 use Rattle.wq_head.proofs.MemberStands.{look_is_shown}
 use Rattle.wq_head.proofs.ShownQueue.{queue_in_order}
 use Rattle.count_sem.specs.SemPermits.{IsRaise, IsSemStep, takes_permit}
-use Rattle.count_sem.specs.SemPrograms.{
-  again_next,
-  down_part,
-  down_program,
-  down_queue,
-  joined,
-  leave_queue,
-  pass_gives,
-  pass_next,
-  sem_head,
-  sem_lock,
-  sem_set,
-  sem_unlock,
-}
-use Rattle.count_sem.proofs.AnswerRuns.{LooksHold, PointsHold}
-use Rattle.count_sem.proofs.AnsweredUps.{Has, Stands, has_still, has_take, locked, unleft_look}
-use Rattle.count_sem.proofs.DownHolds.{
-  HasCome,
-  IsAsleep,
-  IsCalm,
-  IsGone,
-  IsPast,
-  IsSpent,
-  IsStill,
-  IsThere,
-  IsWaiting,
-  agrees_in,
-  asleep_on,
-  asleep_saw,
-  asleep_unlock,
-  come_lock,
-  come_saw,
-  gone_on,
-  gone_saw,
-  gone_spent,
-  has_left,
-  has_past,
-  has_saw,
-  left_more,
-  load_calm,
-  look_calm,
-  own_look,
-  past_saw,
-  past_unlock,
-  saw_shows,
-  shows_some,
-  sleep_calm,
-  some_shows,
-  spent_off,
-  spent_on,
-  spent_other,
-  spent_saw,
-  state_calm,
-  still_shows,
-  there_on,
-  there_queue,
-  there_saw,
-  there_spent,
-  waiting_on,
-  waiting_saw,
-  waiting_spent,
-  wake_calm,
-}
+use Rattle.count_sem.specs.SemPrograms.{again_next, down_part, joined, pass_gives, pass_next, sem_head, sem_lock, sem_set, sem_unlock}
+use Rattle.count_sem.proofs.AnswerRuns.{PointsHold}
+use Rattle.count_sem.proofs.AnsweredUps.{Has, has_still, has_take, locked}
+use Rattle.count_sem.proofs.DownHolds.{HasCome, IsAsleep, IsCalm, IsGone, IsPast, IsSpent, IsStill, IsThere, IsWaiting, agrees_in, asleep_on, asleep_unlock, come_lock, gone_on, gone_spent, load_calm, look_calm, own_look, past_unlock, shows_some, sleep_calm, some_shows, spent_off, spent_on, spent_other, state_calm, still_shows, there_on, there_queue, waiting_on, waiting_spent, wake_calm}
 use Rattle.count_sem.proofs.DownPermits.{DownHolds, DownPlace, downer}
 use Rattle.count_sem.proofs.LoadedEnds.{HasLoadedEnd, at_end, found_end, loaded_on}
 use Rattle.count_sem.proofs.SemCalls.{low_of, some_of}
-use Rattle.count_sem.proofs.SemPoints.{
-  FoundLow,
-  IsIn,
-  found_low,
-  in_on,
-  loads_it,
-  lock_in,
-  low_on,
-  lowers_one,
-  nobody_first,
-  off_keeps,
-  saw_keeps,
-}
+use Rattle.count_sem.proofs.SemPoints.{FoundLow, IsIn, found_low, loads_it, lock_in, low_on, lowers_one, nobody_first, off_keeps}
 
 -- no event of a `down` is a look for members
 abbrev NoScan : Planned → Type 0
@@ -289,8 +190,14 @@ module _ (c me g t : ℕ) (st : SleepState) (seen : Seen) (k : Known) where
       → Then (next.Go (at.Await (awaiting.Load false))) e
   first_lock q (step.Lock i aim w) made =
       let s = locked c me g t here i w aim q.0 q.1 in
-      inl ((s.away, lock_in c here k f.own (f.given (at.Await (awaiting.Lock false))) (done_head c) (step.Lock i aim w)
-      refl made), s.has)
+      inl (
+        (
+          s.away,
+          lock_in c here k f.own (f.given (at.Await (awaiting.Lock false))) (done_head c) (step.Lock i aim w)
+              refl made,
+        ),
+        s.has,
+      )
   first_lock q e made = absurd made
 
   again_lock : DownHolds c me g t st (at.Await (awaiting.Lock true)) here → (e : Step)
@@ -477,8 +384,12 @@ module _ (c me g t : ℕ) (st : SleepState) (seen : Seen) (k : Known) where
       let there = agrees_in c me here o.order q.0.held x.0 in
       inl (
         gone_on c me here e l.0 q.0,
-        (x.0, x.2, still_shows c me here e l.0 x.0 (shown_here x.0 ((table_of o.order.steps).entry x.0) x.1 (subst (λ (y : Look). Agrees (done_head c) y
-            ((table_of o.order.steps).entry x.0)) x.3 there) x.3)),
+        (
+          x.0,
+          x.2,
+          still_shows c me here e l.0 x.0 (shown_here x.0 ((table_of o.order.steps).entry x.0) x.1 (subst (λ (y : Look). Agrees (done_head c) y
+              ((table_of o.order.steps).entry x.0)) x.3 there) x.3),
+        ),
         l.1,
       )
     where

@@ -1,30 +1,8 @@
 -- What a task's history says of its own entry at a semaphore: whether it is queued in the hold, found off, or left there,
 -- and which looks take a permit.
-use Rattle.std.proofs.Common.{refl, sym, ◌∙◌, ap, subst, arith, eq-eqb, inl, inr}
-use Rattle.std.proofs.lemmas.Bool.Decides.{eqb_tells, nat_tests}
-use Rattle.std.specs.Prelude.{
-  ℕ,
-  ◌≡◌,
-  ◌≢◌,
-  ◌+◌,
-  ◌<◌,
-  ◌⊎◌,
-  ◌==◌,
-  ◌&&◌,
-  not,
-  Bool,
-  true,
-  false,
-  if◌then◌else◌,
-  Option,
-  Some,
-  None,
-  List,
-  [],
-  ◌∷◌,
-  ◌++◌,
-}
-use Rattle.wait_model.specs.declared.layout.TheConstants.{ENTRIES}
+use Rattle.std.proofs.Common.{refl, sym, ◌∙◌, ap, subst, eq-eqb, inl, inr}
+use Rattle.std.proofs.lemmas.Bool.Decides.{eqb_tells}
+use Rattle.std.specs.Prelude.{ℕ, ◌≡◌, ◌≢◌, ◌+◌, ◌⊎◌, ◌==◌, ◌&&◌, not, Bool, true, false, if◌then◌else◌, Option, Some, None, List, [], ◌∷◌, ◌++◌}
 use Rattle.wait_model.specs.declared.calls.Event.TheVariants as event
 use Rattle.wait_model.specs.declared.points.Given.{Given}
 use Rattle.wait_model.specs.declared.steps.Step.{Step}
@@ -60,7 +38,6 @@ use Rattle.wait_rule.specs.LeftEntries.{Order}
 use Rattle.wait_rule.specs.Transitions.{IsSeenAs, IsStepFor}
 use Rattle.wait_rule.proofs.KnownLaws.HandedSteps.{AddsLow, IsAwayAt, OrderStep, away_next, order_view}
 use Rattle.wait_rule.proofs.KnownLaws.Moments.{kept_of}
-use Rattle.count_sem.specs.SemPermits.{gives_permit, takes_permit}
 use Rattle.count_sem.proofs.AnsweredUps.{Has, IsQuiet, has_gift, has_still, has_take, others, unleft_look}
 use Rattle.count_sem.proofs.SemPoints.{IsIn, in_on, view_more}
 
@@ -384,14 +361,14 @@ module _ (c me : ℕ) where
       come_saw u = elim (eqb_tells y (own me)) [
         | inl q ↦ inr (at_own (stands_at (entry_of w) (done_head c)) refl q.0 q.1)
         | inr q ↦ inl (
-            record {
-              held = saw_in u.held;
-              left = saw_left ∙ u.left;
-              unseen = look_more es saw ∙ (put_other (view_of es).hold.book y
-                  (look_at (view_of es).hold.head (entry_of w)) (own me) (λ is. q.1 (sym is)) ∙ u.unseen);
-            },
-            has_still c me es saw g t has refl (takes_other (is_in c (view_of es)) (y == own me) _ q.0),
-          )
+          record {
+            held = saw_in u.held;
+            left = saw_left ∙ u.left;
+            unseen = look_more es saw ∙ (put_other (view_of es).hold.book y
+                (look_at (view_of es).hold.head (entry_of w)) (own me) (λ is. q.1 (sym is)) ∙ u.unseen);
+          },
+          has_still c me es saw g t has refl (takes_other (is_in c (view_of es)) (y == own me) _ q.0),
+        )
       ]
         where
           at_own : (b : Bool) → stands_at (entry_of w) (done_head c) ≡ b → (y == own me) ≡ true → y ≡ own me

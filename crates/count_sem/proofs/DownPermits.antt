@@ -1,169 +1,32 @@
 -- The points of a `down`: how many permits its task has given and taken there.
-use Rattle.std.proofs.Common.{refl, sym, ◌∙◌, ap, subst, arith, eq-eqb, inl, inr}
-use Rattle.std.specs.Prelude.{
-  ℕ,
-  zero,
-  suc,
-  ◌≡◌,
-  ◌+◌,
-  ◌-◌,
-  ◌<◌,
-  ◌≤◌,
-  ◌⊎◌,
-  ◌==◌,
-  ◌||◌,
-  pos,
-  Bool,
-  true,
-  false,
-  is_some,
-  if◌then◌else◌,
-  Option,
-  Some,
-  None,
-  List,
-  [],
-  ◌∷◌,
-  ◌++◌,
-}
-use Rattle.wait_model.specs.declared.layout.TheConstants.{ALL_DONE, ENTRIES}
+use Rattle.std.proofs.Common.{refl, ◌∙◌, inl, inr}
+use Rattle.std.specs.Prelude.{ℕ, zero, suc, ◌≡◌, ◌+◌, ◌<◌, ◌≤◌, ◌⊎◌, ◌==◌, pos, true, false, List}
+use Rattle.wait_model.specs.declared.layout.TheConstants.{ENTRIES}
 use Rattle.wait_model.specs.declared.calls.Answer.{Answer}
 use Rattle.wait_model.specs.declared.calls.Answer.TheVariants as answer
-use Rattle.wait_model.specs.declared.calls.Event.{Event}
-use Rattle.wait_model.specs.declared.calls.Event.TheVariants as event
 use Rattle.wait_model.specs.declared.points.AwaitPoint.TheVariants as awaiting
 use Rattle.wait_model.specs.declared.points.FinishPoint.TheVariants as finishing
-use Rattle.wait_model.specs.declared.points.Given.{Given}
 use Rattle.wait_model.specs.declared.points.LeavePoint.TheVariants as leaving
 use Rattle.wait_model.specs.declared.points.Next.{Next}
 use Rattle.wait_model.specs.declared.points.Next.TheVariants as next
-use Rattle.wait_model.specs.declared.points.Planned.{Planned}
 use Rattle.wait_model.specs.declared.points.Point.{Point}
 use Rattle.wait_model.specs.declared.points.Point.TheVariants as at
 use Rattle.wait_model.specs.declared.points.PreparePoint.TheVariants as preparing
-use Rattle.wait_model.specs.declared.points.Seen.{Seen}
 use Rattle.wait_model.specs.declared.points.SelectPoint.TheVariants as selecting
-use Rattle.wait_model.specs.declared.queues.CalledEntry.{CalledEntry}
-use Rattle.wait_model.specs.declared.queues.Form.TheVariants as forms
-use Rattle.wait_model.specs.declared.queues.Member.{Member}
 use Rattle.wait_model.specs.declared.steps.Step.{Step}
 use Rattle.wait_model.specs.declared.steps.Step.TheVariants as step
 use Rattle.wait_model.specs.declared.tasks.SleepState.{SleepState}
-use Rattle.wait_model.specs.declared.watches.Entry.{Entry}
-use Rattle.wait_model.specs.declared.watches.Mode.TheVariants as mode
-use Rattle.wait_model.specs.declared.watches.Watch.{Watch}
-use Rattle.wait_model.specs.declared.watches.Watch.TheVariants as watch
 use Rattle.wait_model.specs.Fold.{view_of}
-use Rattle.wait_model.specs.Permits.{dealt, done_head, is_in, shows_at}
-use Rattle.wait_model.specs.Programs.{ends_with, go, is_at_end, signalled, zero_answer}
-use Rattle.wait_model.specs.Queues.{entry_from, is_entry}
-use Rattle.wait_model.specs.Runs.{called_as, called_by, own}
-use Rattle.wait_model.specs.Tables.{Table}
-use Rattle.wait_model.specs.Tasks.{looks_in, meets, pending, sleep_of, state_mask}
-use Rattle.wait_model.specs.Views.{Look, shown}
-use Rattle.wait_model.specs.Watches.{head_of, mask_of, number_of, owner}
-use Rattle.wait_model.proofs.PermitLaws.OwnTurns.{clash, known_is}
-use Rattle.wait_model.proofs.QueueLaws.QueueOrder.{IsFirstFrom, first_is}
-use Rattle.wait_rule.specs.declared.journal.Item.{Item}
-use Rattle.wait_rule.specs.HeldValues.{count_in}
-use Rattle.wait_rule.specs.Interleavings.{table_of}
-use Rattle.wait_rule.specs.Known.{Known}
-use Rattle.wait_rule.specs.Queues.{index}
-use Rattle.wait_rule.specs.Says.{history_of, told_of}
-use Rattle.wait_rule.specs.Shown.{shown_entry, shown_queue}
-use Rattle.wait_rule.specs.Transitions.{
-  Finds,
-  FindsFirst,
-  FindsStep,
-  IsMadeFor,
-  IsSeenAs,
-  IsStepFor,
-  Program,
-  by_look,
-  by_step,
-}
-use Rattle.wait_rule.proofs.KnownLaws.HandedSteps.{IsAwayAt, OrderStep, away_next}
-use Rattle.wq_head.proofs.MemberStands.{look_is_shown}
-use Rattle.wq_head.proofs.ShownQueue.{queue_in_order}
-use Rattle.count_sem.specs.SemPermits.{IsRaise, IsSemStep, takes_permit}
-use Rattle.count_sem.specs.SemPrograms.{
-  again_next,
-  down_part,
-  down_program,
-  down_queue,
-  joined,
-  leave_queue,
-  pass_gives,
-  pass_next,
-  sem_head,
-  sem_lock,
-  sem_set,
-  sem_unlock,
-}
-use Rattle.count_sem.proofs.AnswerRuns.{LooksHold, PointsHold}
-use Rattle.count_sem.proofs.AnsweredUps.{Has, Stands, has_still, has_take, locked, unleft_look}
-use Rattle.count_sem.proofs.DownHolds.{
-  HasCome,
-  IsAsleep,
-  IsCalm,
-  IsGone,
-  IsPast,
-  IsSpent,
-  IsStill,
-  IsThere,
-  IsWaiting,
-  agrees_in,
-  asleep_on,
-  asleep_saw,
-  asleep_unlock,
-  come_lock,
-  come_saw,
-  gone_on,
-  gone_saw,
-  gone_spent,
-  has_left,
-  has_past,
-  has_saw,
-  left_more,
-  load_calm,
-  look_calm,
-  own_look,
-  past_saw,
-  past_unlock,
-  saw_shows,
-  shows_some,
-  sleep_calm,
-  some_shows,
-  spent_off,
-  spent_on,
-  spent_other,
-  spent_saw,
-  state_calm,
-  still_shows,
-  there_on,
-  there_queue,
-  there_saw,
-  there_spent,
-  waiting_on,
-  waiting_saw,
-  waiting_spent,
-  wake_calm,
-}
-use Rattle.count_sem.proofs.LoadedEnds.{HasLoadedEnd, at_end, found_end, loaded_on}
-use Rattle.count_sem.proofs.SemCalls.{low_of, some_of}
-use Rattle.count_sem.proofs.SemPoints.{
-  FoundLow,
-  IsIn,
-  found_low,
-  in_on,
-  loads_it,
-  lock_in,
-  low_on,
-  lowers_one,
-  nobody_first,
-  off_keeps,
-  saw_keeps,
-}
+use Rattle.wait_model.specs.Permits.{done_head, is_in, shows_at}
+use Rattle.wait_model.specs.Runs.{own}
+use Rattle.wait_rule.specs.Transitions.{Program}
+use Rattle.wait_rule.proofs.KnownLaws.HandedSteps.{IsAwayAt, away_next}
+use Rattle.count_sem.specs.SemPrograms.{down_program}
+use Rattle.count_sem.proofs.AnswerRuns.{LooksHold}
+use Rattle.count_sem.proofs.AnsweredUps.{Has, has_still, unleft_look}
+use Rattle.count_sem.proofs.DownHolds.{HasCome, IsAsleep, IsGone, IsPast, IsSpent, IsThere, IsWaiting, asleep_saw, come_saw, gone_saw, gone_spent, has_left, has_past, has_saw, left_more, past_saw, saw_shows, spent_saw, there_saw, there_spent, waiting_saw, waiting_spent}
+use Rattle.count_sem.proofs.LoadedEnds.{HasLoadedEnd, loaded_on}
+use Rattle.count_sem.proofs.SemPoints.{FoundLow, IsIn, in_on, low_on, saw_keeps}
 
 module _ (c me g t : ℕ) (st : SleepState) where
   abbrev pub downer : Program

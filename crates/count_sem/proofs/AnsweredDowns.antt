@@ -26,8 +26,8 @@ use Rattle.count_sem.proofs.DownPermits.{DownPlace, down_looks}
 -- what a run of the program makes of the account
 pub run_counts : (c me g t : ℕ) (st : SleepState) (old new : Known) (from to : Next)
     → Runs (down_program me c st) old new from to → Order me (history_of new)
-    → DownPlace c me g t st from (history_of old) → DownPlace c me g t st to (history_of new)
-run_counts c me g t st old new from to runs order q = run_holds me (down_program me c st) (DownPlace c me g t st)
+    → DownPlace c me g t from (history_of old) → DownPlace c me g t to (history_of new)
+run_counts c me g t st old new from to runs order q = run_holds me (down_program me c st) (DownPlace c me g t)
     (down_looks c me g t st) (down_points c me g t st) runs.transitions from to old new runs.goes order q
 
 -- the order before a run
@@ -37,7 +37,7 @@ order_before me f old new from to runs order =
     let grows = history_grows f old new from to runs.transitions runs.goes in
     order_front me (history_of old) grows.0 (subst (Order me) grows.1 order)
 
-module _ (old new : Known) (c : ℕ) (st : SleepState) (never : FindsNoEnd c (history_of new)) where
+module _ (old new : Known) (c : ℕ) (never : FindsNoEnd c (history_of new)) where
   abbrev me : ℕ
   me = old.view.number
 
@@ -47,7 +47,7 @@ module _ (old new : Known) (c : ℕ) (st : SleepState) (never : FindsNoEnd c (hi
   abbrev took : ℕ
   took = permits_taken c me (history_of old)
 
-  pub counts_by : (r : Result (Unit {0}) SemEnd) → DownPlace c me gave took st (next.Ends (end_answer r)) (history_of new)
+  pub counts_by : (r : Result (Unit {0}) SemEnd) → DownPlace c me gave took (next.Ends (end_answer r)) (history_of new)
       → DownCounts old new c r
   counts_by r (inr l) = absurd (l.many (never l.count l.front l.rest l.is))
   counts_by (Ok u) (inl q) = (q.0, q.1, record { gave = q.3.gave; took = q.3.took })
@@ -68,6 +68,6 @@ downs_counted old new c st result o left never ends =
     let to = next.Ends (end_answer result) in
     let number = number_stays f old new from to ends.runs.transitions ends.runs.goes in
     let order : Order me (history_of new) = subst (λ (n : ℕ). Order n (history_of new)) number o in
-    counts_by old new c st never result
+    counts_by old new c never result
     (run_counts c me (permits_given c me (history_of old)) (permits_taken c me (history_of old)) st old new from to ends.runs
     order (inl (left (order_before me f old new from to ends.runs order), record { gave = refl; took = refl })))

@@ -143,7 +143,7 @@ module _ (c me g t : ℕ) (st : SleepState) (seen : Seen) (k : Known) where
   f = downer c me g t st
 
   abbrev Then : Next → Step → Type 0
-  Then n e = DownPlace c me g t st (joined n) (here ++ e ∷ [])
+  Then n e = DownPlace c me g t (joined n) (here ++ e ∷ [])
 
   abbrev Makes : Point → Planned → Type 0
   Makes p x = (e : Step) → OrderStep me here e → IsStepFor k f.own (f.given p) x.event e
@@ -185,7 +185,7 @@ module _ (c me g t : ℕ) (st : SleepState) (seen : Seen) (k : Known) where
       inl (p, few, q.0, record { gave = q.1.gave ∙ one; took = q.1.took ∙ two })
 
   -- the locks
-  first_lock : DownHolds c me g t st (at.Await (awaiting.Lock false)) here → (e : Step)
+  first_lock : DownHolds c me g t (at.Await (awaiting.Lock false)) here → (e : Step)
       → IsStepFor k f.own (f.given (at.Await (awaiting.Lock false))) (sem_lock c) e
       → Then (next.Go (at.Await (awaiting.Load false))) e
   first_lock q (step.Lock i aim w) made =
@@ -200,7 +200,7 @@ module _ (c me g t : ℕ) (st : SleepState) (seen : Seen) (k : Known) where
       )
   first_lock q e made = absurd made
 
-  again_lock : DownHolds c me g t st (at.Await (awaiting.Lock true)) here → (e : Step)
+  again_lock : DownHolds c me g t (at.Await (awaiting.Lock true)) here → (e : Step)
       → IsStepFor k f.own (f.given (at.Await (awaiting.Lock true))) (sem_lock c) e
       → Then (next.Go (at.Leave leaving.Queue)) e
   again_lock q (step.Lock i aim w) made =
@@ -228,7 +228,7 @@ module _ (c me g t : ℕ) (st : SleepState) (seen : Seen) (k : Known) where
     ended is = found_end c k f.own (f.given p) refl seen e is made finds
 
     first_then : (z b : Bool) → (seen.value == 0) ≡ z → is_at_end seen.value ≡ b
-        → DownHolds c me g t st (at.Await (awaiting.Load false)) here
+        → DownHolds c me g t (at.Await (awaiting.Load false)) here
         → Then (next.Go (if z then at.Prepare (if looks_in st then preparing.Look else preparing.Queue)
         else at.Await (if b then awaiting.Unlock else awaiting.Last false))) e
     first_then true b none is q = waits_then (looks_in st) e
@@ -263,7 +263,7 @@ module _ (c me g t : ℕ) (st : SleepState) (seen : Seen) (k : Known) where
 
     -- behind a look at the own entry
     again_then : (queued : Bool) → is_some seen.entry ≡ queued → IsSeenAs (own_look c me here) seen.entry
-        → DownHolds c me g t st (at.Leave leaving.Queue) here → Then (again_next st queued seen.value) e
+        → DownHolds c me g t (at.Leave leaving.Queue) here → Then (again_next st queued seen.value) e
     again_then queued is own (inl q) = absurd (subst (λ (l : Look). IsSeenAs l seen.entry) q.0.unseen own)
     again_then true is own (inr (inl q)) = queued_then (seen.value == 0) (is_at_end seen.value) refl refl q
     again_then false is own (inr (inl q)) = absurd (shows_some (done_head c) (own_look c me here) seen.entry q.0.shows
@@ -288,7 +288,7 @@ module _ (c me g t : ℕ) (st : SleepState) (seen : Seen) (k : Known) where
   queued_there e o (inl q) some own = absurd (clash (shows_at (done_head c) (own_look c me here))
       (sees_there e o q.1 some own) q.0.away)
 
-  joins : DownHolds c me g t st (at.Prepare preparing.Queue) here → (e : Step)
+  joins : DownHolds c me g t (at.Prepare preparing.Queue) here → (e : Step)
       → IsStepFor k f.own (f.given (at.Prepare preparing.Queue)) (event.Queue (sem_head c) forms.Tail) e
       → Then (next.Go (at.Prepare preparing.State)) e
   joins q (step.Queue x y) made =
@@ -297,7 +297,7 @@ module _ (c me g t : ℕ) (st : SleepState) (seen : Seen) (k : Known) where
       (there_queue c me here g t q.1 y (in_waiting q.0) (ap (λ (i : Entry). head_of i.watch) made.3)))
   joins q e made = absurd made
 
-  queue_makes : (b w : Bool) → is_some seen.entry ≡ b → DownHolds c me g t st (at.Prepare preparing.Queue) here
+  queue_makes : (b w : Bool) → is_some seen.entry ≡ b → DownHolds c me g t (at.Prepare preparing.Queue) here
       → Makes (at.Prepare preparing.Queue)
       (if b then go (event.State (state_mask st)) (at.Prepare preparing.Unlock)
       else if w then ends_with (sem_unlock c false) answer.Worn
@@ -308,7 +308,7 @@ module _ (c me g t : ℕ) (st : SleepState) (seen : Seen) (k : Known) where
   queue_makes false true is q e o made finds = inl (unlocks (at.Prepare preparing.Queue) false g t q.1 e made)
   queue_makes false false is q e o made finds = joins q e made
 
-  sleeps : DownHolds c me g t st (at.Prepare preparing.Unlock) here → (e : Step)
+  sleeps : DownHolds c me g t (at.Prepare preparing.Unlock) here → (e : Step)
       → IsStepFor k f.own (f.given (at.Prepare preparing.Unlock)) (sem_unlock c false) e → Then (next.Go at.Sleep) e
   sleeps q (step.Unlock i s) made =
       inl (subst (λ (j : ℕ). IsAsleep c me (here ++ step.Unlock j s ∷ []) × Has c me (here ++ step.Unlock j s ∷ []) g t)
@@ -321,13 +321,13 @@ module _ (c me g t : ℕ) (st : SleepState) (seen : Seen) (k : Known) where
   own_off p gave took has held x is = subst (λ (i : ℕ). IsSpent c me (here ++ step.Unqueue i ∷ [])
       × Has c me (here ++ step.Unqueue i ∷ []) gave took) (own_is x is) (spent_off c me here gave took has held)
 
-  leave_off : (failed : Bool) → DownHolds c me g t st (at.Finish finishing.Queue failed) here
+  leave_off : (failed : Bool) → DownHolds c me g t (at.Finish finishing.Queue failed) here
       → Makes (at.Finish finishing.Queue failed) (go (event.Unqueue me) (at.Finish finishing.Unlock true))
   leave_off failed q (step.Unqueue x) o made finds =
       inl (own_off (at.Finish finishing.Queue failed) g t q.1 (in_waiting q.0) x finds.2)
   leave_off failed q e o made finds = absurd made
 
-  leave_makes : (b failed : Bool) → DownHolds c me g t st (at.Finish finishing.Queue failed) here
+  leave_makes : (b failed : Bool) → DownHolds c me g t (at.Finish finishing.Queue failed) here
       → Makes (at.Finish finishing.Queue failed) (if b then go (event.Unqueue me) (at.Finish finishing.Unlock true)
       else ends_with (sem_unlock c false) signalled)
   leave_makes true failed q = leave_off failed q
@@ -339,7 +339,7 @@ module _ (c me g t : ℕ) (st : SleepState) (seen : Seen) (k : Known) where
   off_then true is e few q found = absurd (at_end seen.value is few)
   off_then false is e few q found = inl (q.0, found, q.1)
 
-  off_makes : (stopped : Bool) → DownHolds c me g t st (at.Await (awaiting.Off stopped)) here
+  off_makes : (stopped : Bool) → DownHolds c me g t (at.Await (awaiting.Off stopped)) here
       → Makes (at.Await (awaiting.Off stopped)) (down_part me c st (at.Await (awaiting.Off stopped)) seen)
   off_makes stopped q (step.Unqueue x) o made finds =
       let p = at.Await (awaiting.Off stopped) in
@@ -374,7 +374,7 @@ module _ (c me g t : ℕ) (st : SleepState) (seen : Seen) (k : Known) where
   lowers p gave took q has e o made finds = absurd made
 
   -- it hands on
-  pass_makes : (y : Option CalledEntry) → seen.called ≡ y → DownHolds c me g t st (at.Select (selecting.Next zero)) here
+  pass_makes : (y : Option CalledEntry) → seen.called ≡ y → DownHolds c me g t (at.Select (selecting.Next zero)) here
       → Makes (at.Select (selecting.Next zero)) (pass_next c y seen)
   pass_makes None is q e o made finds = ends_zero 0 (omega arith) g (t + 1) (omega arith) (omega arith) e
       (unlocks (at.Select (selecting.Next zero)) false g (t + 1) q.2 e made)
@@ -399,7 +399,7 @@ module _ (c me g t : ℕ) (st : SleepState) (seen : Seen) (k : Known) where
           ∙ eq-eqb (head_of i.watch) (done_head c) there.1
 
   gives_makes : (n : ℕ) (y : Option CalledEntry) → seen.called ≡ y
-      → DownHolds c me g t st (at.Select (selecting.Next (suc n))) here
+      → DownHolds c me g t (at.Select (selecting.Next (suc n))) here
       → Makes (at.Select (selecting.Next (suc n))) (pass_gives c y seen)
   gives_makes n None is q e o made finds =
       absurd (clash (shows_at (done_head c) ((view_of here).hold.book q.1.0)) q.1.2
@@ -409,12 +409,12 @@ module _ (c me g t : ℕ) (st : SleepState) (seen : Seen) (k : Known) where
       (meets (mask_of mode.Normal) seen.other.state) e made in
       inl (gone_on c me here e calm.still q.0, calmly e calm g ((t + 1) + 1) q.2)
 
-  takes_off : (n who : ℕ) → DownHolds c me g t st (at.Select (selecting.Off n who)) here
+  takes_off : (n who : ℕ) → DownHolds c me g t (at.Select (selecting.Off n who)) here
       → Makes (at.Select (selecting.Off n who)) (go (event.Unqueue who) (at.Select selecting.Store))
   takes_off n who q (step.Unqueue x) o made finds = inl (spent_other c me here g ((t + 1) + 1) q.1 x o q.0)
   takes_off n who q e o made finds = absurd made
 
-  makes : (p : Point) → DownHolds c me g t st p here → Makes p (down_part me c st p seen)
+  makes : (p : Point) → DownHolds c me g t p here → Makes p (down_part me c st p seen)
   makes (at.Await (awaiting.Lock false)) q e o made finds = first_lock q e made
   makes (at.Await (awaiting.Lock true)) q e o made finds = again_lock q e made
   makes (at.Await (awaiting.Load waited)) q e o made finds = first_then (at.Await (awaiting.Load waited)) e o made
@@ -451,7 +451,7 @@ module _ (c me g t : ℕ) (st : SleepState) (seen : Seen) (k : Known) where
       (unlocks (at.Select selecting.Store) true (g + 1) ((t + 1) + 1) q.1 e made)
   makes p q e o made finds = absurd q
 
-pub down_points : (c me g t : ℕ) (st : SleepState) → PointsHold me (downer c me g t st) (DownPlace c me g t st)
+pub down_points : (c me g t : ℕ) (st : SleepState) → PointsHold me (downer c me g t st) (DownPlace c me g t)
 down_points c me g t st p seen k q = record {
   looks = λ xs made. no_scan me c st p seen k (downer c me g t st).own ((downer c me g t st).given p) xs made;
   steps = λ e o made finds. elim q [

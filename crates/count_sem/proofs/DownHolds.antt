@@ -131,12 +131,15 @@ pub record IsCalm (e : Step) : Type 0 where
   pub still : IsStill e
   pub quiet : IsQuiet e
 
+pub stores_calm : (v : ℕ) → IsCalm (step.State v)
+stores_calm v = record {
+  still = record { head = λ u. refl; book = λ u. refl; left = λ h x u b. refl; low = tt };
+  quiet = record { gives = λ d x u w. refl; takes = λ d x u w. refl; low = tt };
+}
+
 module _ (k : Known) (self : Option ℕ) (g : Given) where
   pub state_calm : (v : ℕ) (e : Step) → IsStepFor k self g (event.State v) e → IsCalm e
-  state_calm v (step.State s) made = record {
-    still = record { head = λ u. refl; book = λ u. refl; left = λ h x u b. refl; low = tt };
-    quiet = record { gives = λ d x u w. refl; takes = λ d x u w. refl; low = tt };
-  }
+  state_calm v (step.State s) made = stores_calm s
   state_calm v e made = absurd made
 
   pub sleep_calm : (b : Sleep) (e : Step) → IsStepFor k self g (event.Sleep b) e → IsCalm e

@@ -28,10 +28,7 @@ use Rattle.count_sem.proofs.DownHolds.{HasCome, IsAsleep, IsGone, IsPast, IsSpen
 use Rattle.count_sem.proofs.LoadedEnds.{HasLoadedEnd, loaded_on}
 use Rattle.count_sem.proofs.SemPoints.{FoundLow, IsIn, in_on, low_on, saw_keeps}
 
-module _ (c me g t : ℕ) (st : SleepState) where
-  abbrev pub downer : Program
-  downer = down_program me c st
-
+module _ (c me g t : ℕ) where
   -- the hold shows somebody queued
   abbrev pub Waiter : List Step → Type 0
   Waiter es = (x : ℕ) × (x < ENTRIES) × (shows_at (done_head c) ((view_of es).hold.book x) ≡ true)
@@ -72,7 +69,11 @@ module _ (c me g t : ℕ) (st : SleepState) where
   abbrev pub DownPlace : Next → List Step → Type 0
   DownPlace n es = DownIs n es ⊎ HasLoadedEnd c es
 
-  looks_are : LooksHold me downer DownIs
+module _ (c me g t : ℕ) (st : SleepState) where
+  abbrev pub downer : Program
+  downer = down_program me c st
+
+  looks_are : LooksHold me downer (DownIs c me g t)
   looks_are (next.Go (at.Await (awaiting.Lock false))) es y w o q = (
     left_more c me es (step.Saw y w) ∙ q.0,
     has_still c me es (step.Saw y w) g t q.1 refl
@@ -134,6 +135,6 @@ module _ (c me g t : ℕ) (st : SleepState) where
       (q.0, q.1, past_saw c me es y w o q.2, has_past c me es y w o (g + q.0) (t + (q.0 + 1)) q.3 q.2)
   looks_are (next.Ends a) es y w o q = (past_saw c me es y w o q.0, has_past c me es y w o g t q.1 q.0)
 
-  pub down_looks : LooksHold me downer DownPlace
+  pub down_looks : LooksHold me downer (DownPlace c me g t)
   down_looks n es y w o (inl q) = inl (looks_are n es y w o q)
   down_looks n es y w o (inr l) = inr (loaded_on c es (step.Saw y w) l)

@@ -29,4 +29,5 @@ pub mod DownHolds
 pub mod DownPermits
 pub mod DownEvents
 pub mod AnsweredDowns
+pub mod AnsweredLeaves
 pub mod PassedAwake

@@ -60,7 +60,7 @@ abbrev pub UntilCounts : Known → Known → ℕ → Until (Result (Unit {0}) Se
 UntilCounts old new d (until.Over x) = DownCounts old new d x
 UntilCounts old new d (until.Left seen) = CountsMore old new d 0 0
 
-abbrev pub LeftDownsAreCounted : Type 1
-LeftDownsAreCounted = (A : Type 0) (old new : Known) (d : ℕ) (st : SleepState)
-    (result : Until (Result (Unit {0}) SemEnd)) → OrderOf new → LeftOff d old → FindsNoEnd d (history_of new)
-    → EndsDownUntil A old new d st result → UntilCounts old new d result
+abbrev pub LeftDownsAreCounted : Type 0 → Type 0
+LeftDownsAreCounted A = (old new : Known) (d : ℕ) (st : SleepState) (result : Until (Result (Unit {0}) SemEnd))
+    → OrderOf new → LeftOff d old → FindsNoEnd d (history_of new) → EndsDownUntil A old new d st result
+    → UntilCounts old new d result

@@ -1,6 +1,7 @@
 //! What holds of the permits of semaphores.
 
-ghost use Rattle.count_sem.specs.SemAnswers.{DownsAreCounted, TriesAreCounted, UpsAreCounted};
+ghost use Rattle.std.specs.Prelude.{true};
+ghost use Rattle.count_sem.specs.SemAnswers.{DownsAreCounted, LeftDownsAreCounted, TriesAreCounted, UpsAreCounted};
 ghost use Rattle.count_sem.specs.SemPermits.{AllKeepPermits, RuleKeepsPermits, StepsKeepPermits};
 ghost use Rattle.count_sem.specs.SemUses.{DownsKeepUse, OthersKeepUse, StretchesKeepUse, TriesKeepUse, UpsKeepUse};
 ghost use Rattle.count_sem.specs.WorkedSemaphores.{WorkedSemaphores};
@@ -40,3 +41,13 @@ pub fn answers_count_permits()
     ensures tries { TriesAreCounted }
     ensures downs { DownsAreCounted }
 {}
+
+/// The same of a `down` that its task may leave, whatever `asks` it by (`asked`), as `down_until` does, or by a call of
+/// its own (`left`), as `leave_down` does. One that was left has taken none, and given none; one that was over has done
+/// as a `down` of that answer.
+pub fn left_answers_count_permits<Q: Fn() -> bool>(asks: &Q)
+    ensures asked { LeftDownsAreCounted (Q.post asks.now true) }
+    ensures left { LeftDownsAreCounted (Unit {0}) }
+{
+    let _ = asks;
+}

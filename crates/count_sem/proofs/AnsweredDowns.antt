@@ -16,8 +16,8 @@ use Rattle.wait_class.specs.Posts.{Runs}
 use Rattle.count_sem.specs.declared.down_calls.SemEnd.{SemEnd}
 use Rattle.count_sem.specs.declared.down_calls.SemEnd.TheVariants as sem_end
 use Rattle.count_sem.specs.DownEnds.{end_answer}
-use Rattle.count_sem.specs.SemAnswers.{DownCounts, DownsAreCounted, FindsNoEnd}
-use Rattle.count_sem.specs.SemPermits.{permits_given, permits_taken}
+use Rattle.count_sem.specs.SemAnswers.{DownCounts, DownsAreCounted}
+use Rattle.count_sem.specs.SemPermits.{FindsNoEnd, permits_given, permits_taken}
 use Rattle.count_sem.specs.SemPrograms.{down_program}
 use Rattle.count_sem.proofs.AnswerRuns.{run_holds}
 use Rattle.count_sem.proofs.DownEvents.{down_points}

@@ -38,8 +38,8 @@ use Rattle.count_sem.specs.declared.downs.DownStage.TheVariants as stage
 use Rattle.count_sem.specs.DownEnds.{end_in}
 use Rattle.count_sem.specs.DownLeaves.{ClosesDown, LeavesDown, down_exit, down_exits, end_until, stopped_until}
 use Rattle.count_sem.specs.Downs.{down_answer, down_table}
-use Rattle.count_sem.specs.SemAnswers.{FindsNoEnd, LeftDownsAreCounted, UntilCounts}
-use Rattle.count_sem.specs.SemPermits.{permits_given, permits_taken}
+use Rattle.count_sem.specs.SemAnswers.{LeftDownsAreCounted, UntilCounts}
+use Rattle.count_sem.specs.SemPermits.{FindsNoEnd, permits_given, permits_taken}
 use Rattle.count_sem.specs.SemPrograms.{down_program, joined, pass_point}
 use Rattle.count_sem.proofs.AnsweredDowns.{counts_by, order_before, run_counts}
 use Rattle.count_sem.proofs.AnsweredUps.{Has, has_still}

@@ -1,21 +1,24 @@
 -- The law on permits of semaphores, after each order of steps and on a Domain.
-use Rattle.std.proofs.Common.{refl, sym, ◌∙◌, ap, subst, arith, inl, inr}
-use Rattle.std.proofs.lemmas.Bool.Decides.{eqb_tells}
-use Rattle.std.specs.Prelude.{ℕ, zero, suc, ◌≡◌, ◌≢◌, ◌<◌, ◌+◌, Bool, true, false, ◌&&◌, Some, List, [], ◌∷◌, ◌++◌}
-use Rattle.wait_model.specs.declared.layout.TheConstants.{TASKS}
+use Rattle.std.proofs.Common.{refl, sym, ◌∙◌, ap, subst, arith, eq-eqb, inl, inr}
+use Rattle.std.proofs.lemmas.Bool.Decides.{eqb_tells, nat_tests}
+use Rattle.std.specs.Prelude.{ℕ, zero, suc, ◌≡◌, ◌≢◌, ◌<◌, ◌+◌, ◌==◌, Bool, true, false, ◌&&◌, Some, List, [], ◌∷◌, ◌++◌}
+use Rattle.wait_model.specs.declared.layout.TheConstants.{ALL_DONE, TASKS}
 use Rattle.wait_model.specs.declared.steps.Step.{Step}
+use Rattle.wait_model.specs.declared.steps.Step.TheVariants as step
+use Rattle.wait_model.specs.declared.watches.Watch.TheVariants as watch
 use Rattle.wait_model.specs.Facts.{Kept}
 use Rattle.wait_model.specs.Fold.{view_of}
 use Rattle.wait_model.specs.Functions.{put}
 use Rattle.wait_model.specs.Permits.{done_head, is_handed, is_in, is_seen}
 use Rattle.wait_model.specs.PermitFacts.{IsExact, dealt_in}
+use Rattle.wait_model.specs.Rows.{Allowed}
 use Rattle.wait_model.specs.Runs.{own}
 use Rattle.wait_model.specs.Tables.{Table, start}
 use Rattle.wait_model.specs.Totals.{sum_below}
 use Rattle.wait_model.specs.Views.{View, blank}
 use Rattle.wait_model.specs.Watches.{stands_at}
 use Rattle.wait_model.specs.Words.{flag}
-use Rattle.wait_model.proofs.Functions.{put_other, put_same}
+use Rattle.wait_model.proofs.Functions.{put_case, put_other, put_same}
 use Rattle.wait_model.proofs.HistoryLaws.StepTotals.{sum_same, sum_zero}
 use Rattle.wait_model.proofs.PermitLaws.OwnTurns.{clash, in_is}
 use Rattle.wait_model.proofs.PermitLaws.PermitTurns.{due}
@@ -25,6 +28,7 @@ use Rattle.wait_rule.proofs.KnownLaws.Moments.{kept_of}
 use Rattle.count_sem.specs.SemPermits.{
   AllKeepPermits,
   AllUseAsSemaphore,
+  FindsNoEnd,
   IsSemStep,
   KeepsPermits,
   RuleKeepsPermits,
@@ -76,8 +80,49 @@ paid_of (x ∷ xs) may on d all =
     (subst (λ (v : View). IsSemStep d v x.made) (sym (acc.views x.task))
     (used_last d (table_of xs) x.task x.made may.0 all))
 
+-- each load of the count found it below its end
+abbrev IsLowLoad : ℕ → Step → Type 0
+IsLowLoad d (step.Load (watch.Done c) n) = (c == d) ≡ true → n < ALL_DONE
+IsLowLoad d e = Unit {0}
+
+abbrev AreLowLoads : ℕ → List Step → Type 0
+AreLowLoads d [] = Unit {0}
+AreLowLoads d (e ∷ es) = IsLowLoad d e × AreLowLoads d es
+
+low_more : (d : ℕ) (es : List Step) (e : Step) → AreLowLoads d es → IsLowLoad d e → AreLowLoads d (es ++ e ∷ [])
+low_more d [] e are is = (is, tt)
+low_more d (f ∷ es) e are is = (are.0, low_more d es e are.1 is)
+
+low_at : (d n : ℕ) (front rest : List Step) → AreLowLoads d (front ++ step.Load (watch.Done d) n ∷ rest) → n < ALL_DONE
+low_at d n [] rest are = are.0 (eq-eqb d d refl)
+low_at d n (f ∷ front) rest are = low_at d n front rest are.1
+
+low_step : (s : Table) (d a : ℕ) (e : Step) → s.words.dones d < ALL_DONE → Allowed s a e → IsLowLoad d e
+low_step s d a (step.Load (watch.Done c) n) below may = λ same.
+    let q : c ≡ d = grind (arith, nat_tests) in
+    let found : n ≡ s.words.dones d = may ∙ ap s.words.dones q in
+    omega (arith, found, below)
+low_step s d a e below may = tt
+
+low_loads : (xs : List TaskStep) → AreAllowed xs → AreHanded xs → (d : ℕ) → AllUseAsSemaphore d (table_of xs).history
+    → (a : ℕ) → AreLowLoads d ((table_of xs).history a)
+low_loads [] may on d all a = tt
+low_loads (x ∷ xs) may on d all a =
+    let h = (table_of xs).history in
+    let before = used_before d (table_of xs) x.task x.made may.0 all in
+    let low = (paid_of xs may.2 on.1 d before).below in
+    elim (put_case h x.task (h x.task ++ x.made ∷ []) a) [
+      | inl q ↦ subst (AreLowLoads d) (sym q.1) (low_more d (h x.task) x.made (low_loads xs may.2 on.1 d before x.task)
+          (low_step (table_of xs) d x.task x.made (omega (arith, low)) may.1))
+      | inr q ↦ subst (AreLowLoads d) (sym q.1) (low_loads xs may.2 on.1 d before a)
+    ]
+
+finds_of : (d : ℕ) (es : List Step) → AreLowLoads d es → FindsNoEnd d es
+finds_of d es are n front rest is = low_at d n front rest (subst (AreLowLoads d) is are)
+
 -- what the account says
-module _ (s : Table) (d : ℕ) (k : Kept s) (x : IsExact s d) (p : IsPaid s d) where
+module _ (s : Table) (d : ℕ) (k : Kept s) (x : IsExact s d) (p : IsPaid s d) (low : (a : ℕ) → AreLowLoads d (s.history a))
+    where
   none_queued : (b : Bool) (a n y : ℕ) → stands_at (s.entry y) (done_head d) ≡ b → (dealt_in s d a).count ≡ Some n
       → n ≢ 0 → stands_at (s.entry y) (done_head d) ≡ false
   none_queued false a n y is known some = is
@@ -104,11 +149,12 @@ module _ (s : Table) (d : ℕ) (k : Kept s) (x : IsExact s d) (p : IsPaid s d) w
         (due_of s d) (λ a _. due_handed free a) in
         omega (arith, t, parts, same);
     below = let b = p.below in omega (arith, b);
+    found = λ a. finds_of d (s.history a) (low a);
   }
 
 pub steps_keep : StepsKeepPermits
 steps_keep xs may on d all = keeps (table_of xs) d (kept_of xs may) ((accounted_of xs may on).exact d)
-    (paid_of xs may on d all)
+    (paid_of xs may on d all) (low_loads xs may on d all)
 
 pub rule_keeps : RuleKeepsPermits
 rule_keeps s items ruled d all =

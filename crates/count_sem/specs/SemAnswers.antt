@@ -1,11 +1,7 @@
 -- To be believed.
 -- What a call on a semaphore gives and takes, by its answer.
-use Rattle.std.specs.Prelude.{ℕ, ◌≡◌, ◌+◌, ◌<◌, ◌≤◌, Bool, Result, Ok, Err, List, ◌∷◌, ◌++◌}
-use Rattle.wait_model.specs.declared.layout.TheConstants.{ALL_DONE}
-use Rattle.wait_model.specs.declared.steps.Step.{Step}
-use Rattle.wait_model.specs.declared.steps.Step.TheVariants as step
+use Rattle.std.specs.Prelude.{ℕ, ◌≡◌, ◌+◌, ◌≤◌, Bool, Result, Ok, Err}
 use Rattle.wait_model.specs.declared.tasks.SleepState.{SleepState}
-use Rattle.wait_model.specs.declared.watches.Watch.TheVariants as watch
 use Rattle.wait_model.specs.Words.{flag}
 use Rattle.wait_rule.specs.Known.{Known}
 use Rattle.wait_rule.specs.LeftEntries.{LeftOff, OrderOf}
@@ -16,7 +12,7 @@ use Rattle.count_sem.specs.declared.down_calls.SemEnd.{SemEnd}
 use Rattle.count_sem.specs.declared.ups.SemFull.{SemFull}
 use Rattle.count_sem.specs.DownEnds.{EndsDown}
 use Rattle.count_sem.specs.DownLeaves.{EndsDownUntil}
-use Rattle.count_sem.specs.SemPermits.{permits_given, permits_taken}
+use Rattle.count_sem.specs.SemPermits.{FindsNoEnd, permits_given, permits_taken}
 use Rattle.count_sem.specs.Ups.{HasRaised, HasTakenPermit}
 
 -- the task has given and taken so many permits of semaphore d more
@@ -35,18 +31,14 @@ abbrev pub UpsAreCounted : Type 0
 UpsAreCounted = (old new : Known) (d : ℕ) (result : Result (Unit {0}) SemFull) → OrderOf new → LeftOff d old
     → HasRaised old new d result → CountsMore old new d (up_gives result) 0
 
--- No load of these steps found the count at its end. The law on permits says that it never is, where all tasks use the
--- cell as a semaphore.
-abbrev pub FindsNoEnd : ℕ → List Step → Type 0
-FindsNoEnd d es = (n : ℕ) (front rest : List Step) → es ≡ front ++ step.Load (watch.Done d) n ∷ rest → n < ALL_DONE
-
--- A `try_down` that answers true has taken one, and else none; it gives none.
+-- A `try_down` that answers true has taken one, and else none; it gives none. No load of the task's found the count at
+-- its end, as the law on permits says where all tasks use the cell as a semaphore.
 abbrev pub TriesAreCounted : Type 0
 TriesAreCounted = (old new : Known) (d : ℕ) (hit : Bool) → OrderOf new → LeftOff d old
     → FindsNoEnd d (history_of new) → HasTakenPermit old new d hit → CountsMore old new d 0 (flag hit)
 
--- A `down` that answers Ok has taken one permit more than it has given: it gives one where it was given its own, found
--- more counted, and handed one on, which it took of the count. Else it has taken none, and given none.
+-- A `down` that answers Ok has taken one permit more than it has given: none, or one that it took of the count and handed
+-- on. Else it has taken none, and given none.
 abbrev pub DownCounts : Known → Known → ℕ → Result (Unit {0}) SemEnd → Type 0
 DownCounts old new d (Ok u) = (p : ℕ) × (p ≤ 1) × CountsMore old new d p (p + 1)
 DownCounts old new d (Err end) = CountsMore old new d 0 0
@@ -55,7 +47,8 @@ abbrev pub DownsAreCounted : Type 0
 DownsAreCounted = (old new : Known) (d : ℕ) (st : SleepState) (result : Result (Unit {0}) SemEnd) → OrderOf new
     → LeftOff d old → FindsNoEnd d (history_of new) → EndsDown old new d st result → DownCounts old new d result
 
--- One that was left has taken none, and given none; and one that its task may leave counts as it answers.
+-- One that was left has taken none, and given none; and one that was over counts as a `down` of its answer. A is what its
+-- task is to have been asked by.
 abbrev pub UntilCounts : Known → Known → ℕ → Until (Result (Unit {0}) SemEnd) → Type 0
 UntilCounts old new d (until.Over x) = DownCounts old new d x
 UntilCounts old new d (until.Left seen) = CountsMore old new d 0 0

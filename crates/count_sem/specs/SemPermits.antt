@@ -16,6 +16,7 @@ use Rattle.std.specs.Prelude.{
   List,
   [],
   ◌∷◌,
+  ◌++◌,
 }
 use Rattle.wait_model.specs.declared.layout.TheConstants.{ALL_DONE, TASKS}
 use Rattle.wait_model.specs.declared.steps.Step.{Step}
@@ -101,10 +102,14 @@ UsesAsSemaphore d es = AreSemSteps d blank es
 abbrev pub AllUseAsSemaphore : ℕ → (ℕ → List Step) → Type 0
 AllUseAsSemaphore d history = (t : ℕ) → t < TASKS → UsesAsSemaphore d (history t)
 
+-- no load of these steps found the count at its end
+abbrev pub FindsNoEnd : ℕ → List Step → Type 0
+FindsNoEnd d es = (n : ℕ) (front rest : List Step) → es ≡ front ++ step.Load (watch.Done d) n ∷ rest → n < ALL_DONE
+
 -- The law. While a task is queued at the semaphore no permit is counted; so a hold that knows the count, and that it
 -- is not 0, finds nobody queued, and a `down` hands none on. While the head is free the permits that were given are in
 -- number those that were taken, the tasks that have still to come for the one that was given to them, and those that
--- are counted. The count never comes to its end.
+-- are counted. The count never comes to its end, so no task has found it there.
 pub record KeepsPermits (s : Table) (d : ℕ) : Type 0 where
   pub none : (x : ℕ) → stands_at (s.entry x) (done_head d) ≡ true → s.words.dones d ≡ 0
   pub alone : (a n x : ℕ) → (dealt d a (s.history a)).count ≡ Some n → n ≢ 0
@@ -112,6 +117,7 @@ pub record KeepsPermits (s : Table) (d : ℕ) : Type 0 where
   pub sums : s.holder (done_head d) ≡ false
       → given_by_all d s.history ≡ taken_by_all d s.history + handed_to s d + s.words.dones d
   pub below : s.words.dones d < ALL_DONE
+  pub found : (a : ℕ) → FindsNoEnd d (s.history a)
 
 -- It holds where all tasks change the count by such steps alone: after each step of each order of steps that are
 -- allowed and meet the conditions on permits of completions, in each table that meets the rule of a Domain, and in the

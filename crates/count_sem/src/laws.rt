@@ -10,9 +10,10 @@ ghost use Rattle.count_sem.specs.WorkedSemaphores.{WorkedSemaphores};
 /// not beyond `FULL`, and lowered by one alone, no permit is counted while a task is queued; so no `down` finds one
 /// to hand on. While its head is free the permits that were given are in number those that were taken, the tasks that
 /// have still to come for the one that was given to them, and those that are counted; and the count is not at its
-/// end. So it is after each step of each order of allowed steps that meet the conditions on permits of completions
-/// (`steps`), in each table that meets the rule of a Domain (`rule`), and in the table that a task sees that has
-/// joined all others, by the histories that it has (`all`). `worked` are small histories, computed.
+/// end, nor has a load of any task's found it there. So it is after each step of each order of allowed steps that meet
+/// the conditions on permits of completions (`steps`), in each table that meets the rule of a Domain (`rule`), and in
+/// the table that a task sees that has joined all others, by the histories that it has (`all`). `worked` are small
+/// histories, computed.
 pub fn permits()
     ensures steps { StepsKeepPermits }
     ensures rule { RuleKeepsPermits }
@@ -35,16 +36,18 @@ pub fn calls_keep_permits()
 /// The answers of calls are the permits that `permits` counts, where the task's last hold of that head left its own
 /// entry off. An `up` that answers Ok has given exactly one, and one that answers `SemFull` none; it takes none
 /// (`ups`). A `try_down` that answers true has taken exactly one, and one that answers false none; it gives none
-/// (`tries`), where no load of the task's found the count at its end, which by `permits` it never is.
+/// (`tries`). A `down` that answers Ok has taken exactly one more than it has given, and it has given none, or one that
+/// it handed on; one that answers Interrupted or Worn has taken none, and given none (`downs`). In `tries` and `downs`
+/// no load of the task's found the count at its end, as by `permits` none does.
 pub fn answers_count_permits()
     ensures ups { UpsAreCounted }
     ensures tries { TriesAreCounted }
     ensures downs { DownsAreCounted }
 {}
 
-/// The same of a `down` that its task may leave, whatever `asks` it by (`asked`), as `down_until` does, or by a call of
-/// its own (`left`), as `leave_down` does. One that was left has taken none, and given none; one that was over has done
-/// as a `down` of that answer.
+/// So it is of a `down` that its task may leave, by `asks` at each event (`asked`), as `down_until` is, or by a call of
+/// its own (`left`), as `leave_down` is. One that was left has taken none, and given none; and one that was over has
+/// done as a `down` of that answer.
 pub fn left_answers_count_permits<Q: Fn() -> bool>(asks: &Q)
     ensures asked { LeftDownsAreCounted (Q.post asks.now true) }
     ensures left { LeftDownsAreCounted (Unit {0}) }

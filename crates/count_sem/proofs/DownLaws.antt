@@ -15,7 +15,20 @@ use Rattle.wait_rule.specs.Stays.{with_left_entry}
 use Rattle.wait_rule.specs.Transitions.{OnlyLooks, StepOrLook, Transition}
 use Rattle.wait_rule.proofs.KnownLaws.Transitions.{only_looked}
 use Rattle.wait_class.specs.Posts.{own_of}
-use Rattle.wait_class.specs.Laws.{Calm, DrawLaw, HasJoined, IsLawfulTable, LawOf, LockLaw, LookLaw, PareLaw, QueueLaw, SleepLaw, StateLaw, UnlockLaw}
+use Rattle.wait_class.specs.Laws.{
+  Calm,
+  DrawLaw,
+  HasJoined,
+  IsLawfulTable,
+  LawOf,
+  LockLaw,
+  LookLaw,
+  PareLaw,
+  QueueLaw,
+  SleepLaw,
+  StateLaw,
+  UnlockLaw,
+}
 use Rattle.wait_class.specs.declared.stages.Turn.TheVariants as turn
 use Rattle.wait_class.proofs.Histories.{stored_history, unmoved_by}
 use Rattle.wait_class.proofs.Ground.Standing.{owner_own}
@@ -42,7 +55,16 @@ use Rattle.count_sem.specs.Downs.{DownTells, GaveBack, down_depth, down_doing, d
 use Rattle.count_sem.specs.declared.downs.DownCall.{DownCall}
 use Rattle.count_sem.specs.declared.downs.DownStage.{DownStage}
 use Rattle.count_sem.specs.declared.downs.DownStage.TheVariants as stage
-use Rattle.count_sem.proofs.DownTrails.{gave_back, left_given, left_none, left_taken, lock_walk, out_signal, still_down, zero_on}
+use Rattle.count_sem.proofs.DownTrails.{
+  gave_back,
+  left_given,
+  left_none,
+  left_taken,
+  lock_walk,
+  out_signal,
+  still_down,
+  zero_on,
+}
 
 -- what the run tells
 pub told_by : (r q : DownCall) (x : Transition) → q.cell ≡ r.cell → q.state ≡ r.state → q.queued ≡ r.queued

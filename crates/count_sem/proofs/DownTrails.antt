@@ -1,6 +1,23 @@
 -- What the stages of a `down` say of its last steps, over one event and the next.
 use Rattle.std.proofs.Common.{◌∙◌, ap, sym, refl, subst, append-nil, eqb-true}
-use Rattle.std.specs.Prelude.{ℕ, ◌≡◌, ◌==◌, ◌&&◌, if◌then◌else◌, Bool, true, false, is_some, Option, Some, None, List, [], ◌∷◌, ◌++◌}
+use Rattle.std.specs.Prelude.{
+  ℕ,
+  ◌≡◌,
+  ◌==◌,
+  ◌&&◌,
+  if◌then◌else◌,
+  Bool,
+  true,
+  false,
+  is_some,
+  Option,
+  Some,
+  None,
+  List,
+  [],
+  ◌∷◌,
+  ◌++◌,
+}
 use Rattle.wait_model.specs.declared.steps.Step.{Step}
 use Rattle.wait_model.specs.declared.steps.Step.TheVariants as step
 use Rattle.wait_model.specs.declared.watches.Aim.{Aim}

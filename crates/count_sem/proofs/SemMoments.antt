@@ -1,7 +1,25 @@
 -- The law on permits of semaphores, after each order of steps and on a Domain.
 use Rattle.std.proofs.Common.{refl, sym, ◌∙◌, ap, subst, arith, eq-eqb, inl, inr}
 use Rattle.std.proofs.lemmas.Bool.Decides.{eqb_tells, nat_tests}
-use Rattle.std.specs.Prelude.{ℕ, zero, suc, ◌≡◌, ◌≢◌, ◌<◌, ◌+◌, ◌==◌, Bool, true, false, ◌&&◌, Some, List, [], ◌∷◌, ◌++◌}
+use Rattle.std.specs.Prelude.{
+  ℕ,
+  zero,
+  suc,
+  ◌≡◌,
+  ◌≢◌,
+  ◌<◌,
+  ◌+◌,
+  ◌==◌,
+  Bool,
+  true,
+  false,
+  ◌&&◌,
+  Some,
+  List,
+  [],
+  ◌∷◌,
+  ◌++◌,
+}
 use Rattle.wait_model.specs.declared.layout.TheConstants.{ALL_DONE, TASKS}
 use Rattle.wait_model.specs.declared.steps.Step.{Step}
 use Rattle.wait_model.specs.declared.steps.Step.TheVariants as step
@@ -122,35 +140,35 @@ finds_of d es are n front rest is = low_at d n front rest (subst (AreLowLoads d)
 
 -- what the account says
 module _ (s : Table) (d : ℕ) (k : Kept s) (x : IsExact s d) (p : IsPaid s d) (low : (a : ℕ) → AreLowLoads d (s.history a))
-    where
-  none_queued : (b : Bool) (a n y : ℕ) → stands_at (s.entry y) (done_head d) ≡ b → (dealt_in s d a).count ≡ Some n
-      → n ≢ 0 → stands_at (s.entry y) (done_head d) ≡ false
-  none_queued false a n y is known some = is
-  none_queued true a n y is known some = absurd (some (sym (x.known a n known) ∙ p.none y is))
+  where
+    none_queued : (b : Bool) (a n y : ℕ) → stands_at (s.entry y) (done_head d) ≡ b → (dealt_in s d a).count ≡ Some n
+        → n ≢ 0 → stands_at (s.entry y) (done_head d) ≡ false
+    none_queued false a n y is known some = is
+    none_queued true a n y is known some = absurd (some (sym (x.known a n known) ∙ p.none y is))
 
-  away : s.holder (done_head d) ≡ false → (a : ℕ) → (t : Bool) → is_in d (s.view a) ≡ t → is_in d (s.view a) ≡ false
-  away free a false q = q
-  away free a true q = absurd (clash (s.holder (done_head d))
-      ((k.facts.views a).hold.held (done_head d) (in_is (s.view a).hold.head (done_head d) q)) free)
+    away : s.holder (done_head d) ≡ false → (a : ℕ) → (t : Bool) → is_in d (s.view a) ≡ t → is_in d (s.view a) ≡ false
+    away free a false q = q
+    away free a true q = absurd (clash (s.holder (done_head d))
+        ((k.facts.views a).hold.held (done_head d) (in_is (s.view a).hold.head (done_head d) q)) free)
 
-  due_handed : s.holder (done_head d) ≡ false → (a : ℕ)
-      → due_of s d a ≡ flag (is_handed (dealt_in s d a) (stands_at (s.entry (own a)) (done_head d)))
-  due_handed free a = ap (λ (b : Bool). due (dealt_in s d a).left (b && is_seen ((s.view a).hold.book (own a)))
-      (stands_at (s.entry (own a)) (done_head d))) (away free a (is_in d (s.view a)) refl)
+    due_handed : s.holder (done_head d) ≡ false → (a : ℕ)
+        → due_of s d a ≡ flag (is_handed (dealt_in s d a) (stands_at (s.entry (own a)) (done_head d)))
+    due_handed free a = ap (λ (b : Bool). due (dealt_in s d a).left (b && is_seen ((s.view a).hold.book (own a)))
+        (stands_at (s.entry (own a)) (done_head d))) (away free a (is_in d (s.view a)) refl)
 
-  keeps : KeepsPermits s d
-  keeps = record {
-    none = p.none;
-    alone = λ a n y known some. none_queued (stands_at (s.entry y) (done_head d)) a n y refl known some;
-    sums = λ free.
-        let t = p.total in
-        let parts = sum_both TASKS (λ a. permits_taken d a (s.history a)) (due_of s d) in
-        let same = sum_same TASKS (λ a. flag (is_handed (dealt_in s d a) (stands_at (s.entry (own a)) (done_head d))))
-        (due_of s d) (λ a _. due_handed free a) in
-        omega (arith, t, parts, same);
-    below = let b = p.below in omega (arith, b);
-    found = λ a. finds_of d (s.history a) (low a);
-  }
+    keeps : KeepsPermits s d
+    keeps = record {
+      none = p.none;
+      alone = λ a n y known some. none_queued (stands_at (s.entry y) (done_head d)) a n y refl known some;
+      sums = λ free.
+          let t = p.total in
+          let parts = sum_both TASKS (λ a. permits_taken d a (s.history a)) (due_of s d) in
+          let same = sum_same TASKS (λ a. flag (is_handed (dealt_in s d a) (stands_at (s.entry (own a)) (done_head d))))
+          (due_of s d) (λ a _. due_handed free a) in
+          omega (arith, t, parts, same);
+      below = let b = p.below in omega (arith, b);
+      found = λ a. finds_of d (s.history a) (low a);
+    }
 
 pub steps_keep : StepsKeepPermits
 steps_keep xs may on d all = keeps (table_of xs) d (kept_of xs may) ((accounted_of xs may on).exact d)

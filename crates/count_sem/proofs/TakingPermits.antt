@@ -1,6 +1,23 @@
 -- A permit is taken where one is there, in one hold.
 use Rattle.std.proofs.Common.{◌∙◌, ap, sym, refl, subst, eq-eqb, append_assoc}
-use Rattle.std.specs.Prelude.{ℕ, ◌≡◌, ◌-◌, ◌==◌, not, Bool, true, false, if◌then◌else◌, Some, None, List, [], ◌∷◌, ◌++◌, MatchBool}
+use Rattle.std.specs.Prelude.{
+  ℕ,
+  ◌≡◌,
+  ◌-◌,
+  ◌==◌,
+  not,
+  Bool,
+  true,
+  false,
+  if◌then◌else◌,
+  Some,
+  None,
+  List,
+  [],
+  ◌∷◌,
+  ◌++◌,
+  MatchBool,
+}
 use Rattle.wait_model.specs.declared.calls.Call.TheVariants as calls
 use Rattle.wait_model.specs.declared.points.CountPoint.TheVariants as counting
 use Rattle.wait_model.specs.declared.points.Next.TheVariants as next

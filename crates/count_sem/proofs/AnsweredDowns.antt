@@ -69,5 +69,6 @@ downs_counted old new c st result o left never ends =
     let number = number_stays f old new from to ends.runs.transitions ends.runs.goes in
     let order : Order me (history_of new) = subst (λ (n : ℕ). Order n (history_of new)) number o in
     counts_by old new c never result
-    (run_counts c me (permits_given c me (history_of old)) (permits_taken c me (history_of old)) st old new from to ends.runs
+    (run_counts c me (permits_given c me (history_of old)) (permits_taken c me (history_of old)) st old new from to
+    ends.runs
     order (inl (left (order_before me f old new from to ends.runs order), record { gave = refl; took = refl })))

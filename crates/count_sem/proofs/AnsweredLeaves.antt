@@ -131,7 +131,8 @@ module _ (c me g t : ℕ) where
 
     slept_on : (e : Step) → IsCalm e → At (turn.Again stage.Sleep) k → history_of rested ≡ history_of k ++ e ∷ []
         → At (turn.Again stage.Again) rested
-    slept_on e calm (inl q) is = subst (λ (es : List Step). DownPlace c me g t (next.Go (at.Await (awaiting.Lock true))) es)
+    slept_on e calm (inl q) is = subst (λ (es : List Step). DownPlace c me g t (next.Go (at.Await (awaiting.Lock true)))
+        es)
         (sym is)
         (inl (
           asleep_on c me (history_of k) e calm.still q.0,
@@ -139,7 +140,8 @@ module _ (c me g t : ℕ) where
               (calm.quiet.gives c (own me) (view_of (history_of k)) (dealt c me (history_of k)))
               (calm.quiet.takes c (own me) (view_of (history_of k)) (dealt c me (history_of k))),
         ))
-    slept_on e calm (inr l) is = subst (λ (es : List Step). DownPlace c me g t (next.Go (at.Await (awaiting.Lock true))) es)
+    slept_on e calm (inr l) is = subst (λ (es : List Step). DownPlace c me g t (next.Go (at.Await (awaiting.Lock true)))
+        es)
         (sym is) (inr (loaded_on c (history_of k) e l))
 
     sleep_out : HasRested k rested true → Exited k rested m stage.Sleep goes_again

@@ -144,7 +144,8 @@ module _ (c me g t : ℕ) where
         (here ++ e ∷ [])
     some_or true b empty is e o made finds s held = quietly c me g t here e o
         (load_quiet k trier.own given_here (number_of (watch.Done c)) seen.value e made) g s
-    some_or false true empty is e o made finds s held = inr (found_end c k trier.own given_here refl seen e is made finds)
+    some_or false true empty is e o made finds s held = inr (found_end c k trier.own given_here refl seen e is made
+        finds)
     some_or false false empty is e o made finds s held = (
       quietly c me g t here e o (load_quiet k trier.own given_here (number_of (watch.Done c)) seen.value e made) g s,
       found_low c here e seen.value

@@ -228,12 +228,14 @@ module _ (old new : Known) (run : Run DownCall) (v : ℕ) (a : IsAt down_table o
     end,
   )
 
-  first_stood : (zero admits ends : Bool) → Stands new (turn_post down_table fq (turn.Again (first_by zero admits ends)))
+  first_stood : (zero admits ends : Bool) → Stands new (turn_post down_table fq
+      (turn.Again (first_by zero admits ends)))
   first_stood true true ends = moved fr old new v a.trail.0 is finds carries _ _ a.stands refl refl refl refl
       (home_waits (watch.Done fr.cell))
   first_stood true false ends = moved fr old new v a.trail.0 is finds carries _ _ a.stands refl refl refl refl
       (home_waits (watch.Done fr.cell))
-  first_stood false admits true = moved fr old new v a.trail.0 is finds carries _ _ a.stands refl refl refl refl (λ o h. h)
+  first_stood false admits true = moved fr old new v a.trail.0 is finds carries _ _ a.stands refl refl refl refl
+      (λ o h. h)
   first_stood false admits false = moved fr old new v a.trail.0 is finds carries _ _ a.stands refl refl refl refl
       (λ o h. h)
 

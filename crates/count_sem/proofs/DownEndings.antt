@@ -212,7 +212,8 @@ module _ (old new : Known) (r q : Run DownCall) (d : ℕ) (st : SleepState) (fre
         (joined (next.Ends (down_answer o))))
         (λ i. down_program old.view.number (fresh.cell i) (fresh.state_is i))
         (joined_goes (plan_program old.view.number 0 (down_plan r.of.cell r.of.state)) old
-        (next.Go (at.Await (awaiting.Lock false))) a.went.runs.transitions new (next.Ends (down_answer o)) a.went.runs.goes);
+        (next.Go (at.Await (awaiting.Lock false))) a.went.runs.transitions new (next.Ends (down_answer o))
+        a.went.runs.goes);
   }
 
   queued_is : q.of.queued ≡ queues a.went.runs.transitions
@@ -259,6 +260,7 @@ ends_down old new r q d st fresh outcome.Worn plain a =
       cause = record {
         head = ap sem_head (cell_is old new r q d st fresh outcome.Worn a);
         noted = t.noted;
-        zero = ap (λ (c : ℕ). count_in c (history_of new)) (sym (cell_is old new r q d st fresh outcome.Worn a)) ∙ t.zero;
+        zero = ap (λ (c : ℕ). count_in c (history_of new)) (sym (cell_is old new r q d st fresh outcome.Worn a)) ∙
+            t.zero;
       };
     }

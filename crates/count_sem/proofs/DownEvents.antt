@@ -168,7 +168,8 @@ no_scan me c st (at.Await (awaiting.Load waited)) seen = λ k self g xs made. ab
 no_scan me c st (at.Await (awaiting.Off stopped)) seen = λ k self g xs made. absurd made
 no_scan me c st (at.Await (awaiting.Last stopped)) seen = λ k self g xs made. absurd made
 no_scan me c st (at.Prepare preparing.Look) seen = λ k self g xs made. absurd made
-no_scan me c st (at.Prepare preparing.Queue) seen = either_scan (is_some seen.entry) _ _ (λ k self g xs made. absurd made)
+no_scan me c st (at.Prepare preparing.Queue) seen = either_scan (is_some seen.entry) _ _
+    (λ k self g xs made. absurd made)
     (either_scan seen.worn _ _ (λ k self g xs made. absurd made) (λ k self g xs made. absurd made))
 no_scan me c st (at.Prepare preparing.State) seen = λ k self g xs made. absurd made
 no_scan me c st (at.Prepare preparing.Unlock) seen = λ k self g xs made. absurd made
@@ -463,7 +464,8 @@ module _ (c me g t : ℕ) (st : SleepState) (seen : Seen) (k : Known) where
         (
           x.0,
           x.2,
-          still_shows c me here e l.0 x.0 (shown_here x.0 ((table_of o.order.steps).entry x.0) x.1 (subst (λ (y : Look). Agrees (done_head c) y
+          still_shows c me here e l.0 x.0 (shown_here x.0 ((table_of o.order.steps).entry x.0) x.1
+              (subst (λ (y : Look). Agrees (done_head c) y
               ((table_of o.order.steps).entry x.0)) x.3 there) x.3),
         ),
         l.1,

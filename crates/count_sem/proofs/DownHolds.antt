@@ -1,5 +1,5 @@
--- What a task's history says of its own entry at a semaphore: whether it is queued in the hold, found off, or left there,
--- and which looks take a permit.
+-- What a task's history says of its own entry at a semaphore: whether it is queued in the hold, found off, or left
+-- there, and which looks take a permit.
 use Rattle.std.proofs.Common.{refl, sym, ◌∙◌, ap, subst, eq-eqb, inl, inr}
 use Rattle.std.proofs.lemmas.Bool.Decides.{eqb_tells}
 use Rattle.std.specs.Prelude.{
@@ -380,7 +380,8 @@ module _ (c me : ℕ) where
 
       -- of one that has come back: its first look at its own entry finds it there, or takes a permit
       pub come_saw : HasCome es
-          → (HasCome more × Has c me more g t) ⊎ ((IsThere more × Has c me more g t) ⊎ (IsGone more × Has c me more g (t + 1)))
+          → (HasCome more × Has c me more g t) ⊎ ((IsThere more × Has c me more g t) ⊎
+          (IsGone more × Has c me more g (t + 1)))
       come_saw u = elim (eqb_tells y (own me)) [
         | inl q ↦ inr (at_own (stands_at (entry_of w) (done_head c)) refl q.0 q.1)
         | inr q ↦ inl (
@@ -443,7 +444,8 @@ module _ (c me : ℕ) where
         )
 
     pub asleep_unlock : (spent : Bool) → IsThere es
-        → IsAsleep (es ++ step.Unlock (done_head c) spent ∷ []) × Has c me (es ++ step.Unlock (done_head c) spent ∷ []) g t
+        → IsAsleep (es ++ step.Unlock (done_head c) spent ∷ []) × Has c me (es ++ step.Unlock (done_head c) spent ∷ [])
+        g t
     asleep_unlock spent there =
         let e = step.Unlock (done_head c) spent in (
           record {
@@ -463,7 +465,8 @@ module _ (c me : ℕ) where
           record {
             held = in_on c es e refl held;
             shows = subst (λ (v : View). shows_at (done_head c) (v.hold.book (own me)) ≡ true) (sym (view_more es e))
-                (put_at (λ (l : Look). shows_at (done_head c) l ≡ true) (view_of es).hold.book (own me) (shown f) (own me)
+                (put_at (λ (l : Look). shows_at (done_head c) l ≡ true) (view_of es).hold.book (own me) (shown f)
+                (own me)
                 (λ _. eq-eqb (head_of f.watch) (done_head c) at_head) (λ other. absurd (other refl)));
           },
           has_still c me es e g t has refl refl,
@@ -488,7 +491,8 @@ module _ (c me : ℕ) where
             held = in_on c es e refl held;
             spent = inr (off_seen (own me) (λ other. absurd (other refl)));
           },
-          has_still c me es e g t has (own_off (is_in c (view_of es)) (own me == own me) (eq-eqb (own me) (own me) refl))
+          has_still c me es e g t has (own_off (is_in c (view_of es)) (own me == own me)
+              (eq-eqb (own me) (own me) refl))
               refl,
         )
 

@@ -84,7 +84,8 @@ joined_knows : (r : DownCall) (old mid new : Known) → OnlyLooks old mid → Ha
     → Knows old r.cell 0 → Knows new r.cell 0
 joined_knows r old mid new looks x u =
     let s = knows_looks r.cell mid x.seen 0
-    (only_looked mid x.seen x.looks.items x.looks.same x.looks.looks x.looks.is) (knows_looks r.cell old mid 0 looks u) in
+    (only_looked mid x.seen x.looks.items x.looks.same x.looks.looks x.looks.is) (knows_looks r.cell old mid 0 looks u)
+    in
     let same : index mid.view.number 0 ≡ own x.seen.view.number =
     ap (λ (k : Known). index k.view.number 0) (sym x.looks.is) ∙ omega arith in
     knows_by r.cell x.seen new 0 (step.Queue (index mid.view.number 0) x.entry ∷ [])
@@ -164,14 +165,16 @@ module _ (r : DownCall) where
   look_law : (hit : Bool) → LookLaw down_table r stage.Look hit
   look_law true = look_by down_table r stage.Look refl true
       (way down_table r stage.Look r (turn.Again stage.LeaveQueue) refl refl refl refl refl (λ σ s. s) (λ o h. h))
-      (λ w me is. ap (λ (c : Bool). next.Go (if c then at.Finish finishing.Queue true else at.Prepare preparing.Queue)) is)
+      (λ w me is. ap (λ (c : Bool). next.Go (if c then at.Finish finishing.Queue true else at.Prepare preparing.Queue))
+      is)
       (λ w me k. tt) (λ w me k. (refl, tt, tt)) (λ old new w is c u. (
         knows_look r.cell old new 0 w c u.0,
         out_signal r.asked new r w is (zero_on old new r [] (step.Look w ∷ []) c u.1),
       ))
   look_law false = look_by down_table r stage.Look refl false
       (way down_table r stage.Look r (turn.Again stage.Queue) refl refl refl refl refl (λ σ s. s) (λ o h. h))
-      (λ w me is. ap (λ (c : Bool). next.Go (if c then at.Finish finishing.Queue true else at.Prepare preparing.Queue)) is)
+      (λ w me is. ap (λ (c : Bool). next.Go (if c then at.Finish finishing.Queue true else at.Prepare preparing.Queue))
+      is)
       (λ w me k. tt) (λ w me k. (refl, tt, tt)) (λ old new w is c u. (
         knows_look r.cell old new 0 w c u.0,
         record { look = Some w; zero = zero_on old new r [] (step.Look w ∷ []) c u.1 },

@@ -193,7 +193,8 @@ either_awake false x y a b = b
 
 awake_on : (r : DownCall) (me : ℕ) (p : Point) (seen : Seen) → out_awake p ≡ true
     → AwakeOn out_awake ((down_table.plan_of r).makes me p seen)
-awake_on r me (at.Finish finishing.Queue failed) seen is = either_awake (is_some seen.entry) _ _ (refl, refl) (refl, refl)
+awake_on r me (at.Finish finishing.Queue failed) seen is = either_awake (is_some seen.entry) _ _ (refl, refl)
+    (refl, refl)
 awake_on r me (at.Finish p failed) seen is = (refl, refl)
 awake_on r me p seen is = absurd (cc)
 

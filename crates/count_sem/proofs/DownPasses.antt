@@ -88,7 +88,8 @@ module _ (d a : ℕ) (sp : Bool) (front : List Step) (o : Order a (front ++ step
       by (shown e) is = absurd (let no : None ≡ Some e = sym was ∙ stood e is in cc)
 
 -- who has given the head back, and knows its own entry to be off
-pub given_by : (new : Known) (d : ℕ) (sp : Bool) → EndsWith new (step.Unlock (sem_head d) sp ∷ []) → IsOut new → LeftOff d new
+pub given_by : (new : Known) (d : ℕ) (sp : Bool) → EndsWith new (step.Unlock (sem_head d) sp ∷ []) → IsOut new → LeftOff
+    d new
 given_by new d sp back none order =
     let a = new.view.number in
     let here : index a 0 ≡ own a = omega arith in

@@ -145,13 +145,17 @@ module _ (old : Known) (run : Run DownCall) (a : IsAt down_table old run stage.T
         (subst (OnlyLooks (added old (item.Made (step.Unqueue x)))) (sym removed) (bit_looks old (step.Unqueue x)))
         (λ y did. told_by c c y refl refl refl (ap is_queue did)) (keeps_taken x old new taken)
         (ap (λ (b : Bool). next.Go (at.Await (if b then awaiting.Unlock else awaiting.Last false)))
-        (at_end c.count a.trail.0.knows.counts.1) ∙ takes_next (c.count == ALL_DONE)) (owner_own old.view.number)
-        (tt, (subst (λ (l : Look). IsSeenAs l (Some a.trail.1.0)) (sym a.trail.1.1) refl, a.trail.0.knows.counts.0), refl)
+        (at_end c.count a.trail.0.knows.counts.1) ∙ takes_next (c.count == ALL_DONE)) (owner_own old.view.number) (
+          tt,
+          (subst (λ (l : Look). IsSeenAs l (Some a.trail.1.0)) (sym a.trail.1.1) refl, a.trail.0.knows.counts.0),
+          refl,
+        )
         (taken.awake ∙ a.up) (stood (c.count == ALL_DONE)) (trail (c.count == ALL_DONE) refl)
 
     pub off_turned : (u : DownStage) → u ≡ takes_to c
         → Turned down_table old new run run stage.TakeQueue (turn.Again u)
-    off_turned u to = subst (λ (s : DownStage). Turned down_table old new run run stage.TakeQueue (turn.Again s)) (sym to)
+    off_turned u to = subst (λ (s : DownStage). Turned down_table old new run run stage.TakeQueue (turn.Again s))
+        (sym to)
         (advance_by down_table old new run run stage.TakeQueue (turn.Again (takes_to c)) refl a.fits
         (takes_plain (c.count == ALL_DONE)) goes)
 
@@ -222,7 +226,8 @@ module _ (old : Known) (run : Run DownCall) (a : IsAt down_table old run stage.T
         (keeps_of (own_of old) unchanged old new carries (λ w. refl) (λ i away. refl)
         (λ i. carries.owes (with_entry (own_of old) (with_left_entry i)))) refl (refl, refl, lower)
         (sym same, known.counts.0, tt) (carries.awake ∙ a.up)
-        (still_stands_at old new carries (stored_agreed old new d (n - 1) made.found made.is) p _ a.stands refl refl refl
+        (still_stands_at old new carries (stored_agreed old new d (n - 1) made.found made.is) p _ a.stands refl refl
+        refl
         refl (λ o h. h)) (Some (n - 1), waits_new)
 
     pub take_turned : Turned down_table old new run run stage.TakeStore (turn.Again stage.TakeUnlock)

@@ -120,7 +120,8 @@ module _ (old new : Known) (r : DownCall) (w : ℕ) (u : OutFor r.asked old r []
   left_taken c some = record {
     entry = w;
     queued = some;
-    why = out_as r.asked new r _ _ (ap (λ (x : ℕ). step.Saw x w ∷ step.Unqueue x ∷ []) (sym (own_same old new c.number)))
+    why = out_as r.asked new r _ _ (ap (λ (x : ℕ). step.Saw x w ∷ step.Unqueue x ∷ [])
+        (sym (own_same old new c.number)))
         (out_on r.asked old new r [] (step.Saw (own_of old) w ∷ step.Unqueue (own_of old) ∷ []) c u);
   }
 
@@ -144,7 +145,8 @@ left_given old new r c u = record {
   why = out_as r.asked new r _ _ (ap (λ (b : Bool). step.Saw (own_of new) u.entry
       ∷ (if b then step.Unqueue (own_of new) ∷ step.Unlock (sem_head r.cell) false ∷ []
       else step.Unlock (sem_head r.cell) false ∷ [])) (sym u.queued))
-      (out_as r.asked new r _ _ (ap (λ (x : ℕ). step.Saw x u.entry ∷ step.Unqueue x ∷ step.Unlock (sem_head r.cell) false ∷ [])
+      (out_as r.asked new r _ _ (ap (λ (x : ℕ). step.Saw x u.entry ∷ step.Unqueue x ∷ step.Unlock (sem_head r.cell)
+      false ∷ [])
       (sym (own_same old new c.number)))
       (out_on r.asked old new r _ (step.Unlock (sem_head r.cell) false ∷ []) c u.why));
 }
@@ -196,7 +198,8 @@ begun_under a v (Some w) is = by (same a.watch w.watch && (w.mask == mask_of a.m
       },
     )
 
-told_step : (old new : Known) (e : Step) → history_of new ≡ history_of old ++ e ∷ [] → told_of new ≡ after e (told_of old)
+told_step : (old new : Known) (e : Step) → history_of new ≡ history_of old ++ e ∷ [] → told_of new ≡ after e
+    (told_of old)
 told_step old new e is = ap view_of is ∙ after_snoc blank (history_of old) e
 
 pub lock_walk : (old new : Known) (d x : ℕ)

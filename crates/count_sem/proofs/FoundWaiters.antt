@@ -103,13 +103,15 @@ module _ (old k : Known) (list : Members) (queue : map stand_in (members_in list
 
     pub entry_found : (stand_in m).at < ENTRIES → HasWaiter k
     entry_found low =
-        let f = first_here old k k i 0 s (record { member = (stand_in m).at; place = (stand_in m).place }) in_queue is_there
+        let f = first_here old k k i 0 s (record { member = (stand_in m).at; place = (stand_in m).place }) in_queue
+        is_there
         low in
         let e = entry_shown k (stand_in m).at f.place low f.stands in
         ((stand_in m).at, e.0, low, e.1)
 
     pub mark_passed : ENTRIES ≤ (stand_in m).at → InSelection old k k (i + 1) 0
-    mark_passed far = passes_mark old k k i 0 s (record { member = (stand_in m).at; place = (stand_in m).place }) in_queue
+    mark_passed far = passes_mark old k k i 0 s (record { member = (stand_in m).at; place = (stand_in m).place })
+        in_queue
         is_there far
 
   pub nobody_left : length (members_in list) ≤ i → ShowsNoEntry k

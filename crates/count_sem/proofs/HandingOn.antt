@@ -250,7 +250,8 @@ module _ (old : Known) (run : Run DownCall) (a : IsEnded down_table old run outc
               (inside_join d old b m (owed d (set_step (watch.Done d) (r.count - 1) made.found)) (λ j. j - n)
               (inside_join d old l b (λ j. j) (owed d (set_step (watch.Done d) (r.count - 1) made.found))
               (inside_looks d old l sees)
-              (inside_step d l b (set_step (watch.Done d) (r.count - 1) made.found) (store_inside d (r.count - 1) made.found)
+              (inside_step d l b (set_step (watch.Done d) (r.count - 1) made.found)
+              (store_inside d (r.count - 1) made.found)
               made.is)) (selection_inside d b m 1 n s)) at_m (select.number ∙ (stored.number ∙ look.number)) starts
               (inl (ap (λ (j : ℕ). j - n) lowered_owes ∙ omega arith))
 
@@ -262,9 +263,11 @@ module _ (old : Known) (run : Run DownCall) (a : IsEnded down_table old run outc
                 let first = first_waits l waits in record {
                   runs = runs_on f old b new (next.Go pass_point) (next.Go (at.Select (selecting.Next 1))) over
                       (quiet_store f pass_point l b (record (with_value r.count) { called = Some first.0 }) d
-                      (r.count - 1) made.found _ (r.count - 1) _ refl refl refl refl (sym same) (whole, sym first.1) tt tt
+                      (r.count - 1) made.found _ (r.count - 1) _ refl refl refl refl (sym same) (whole, sym first.1) tt
+                      tt
                       old looked made.is).0
-                      (runs_on f b m new (next.Go (at.Select (selecting.Next 1))) (next.Go (at.Select selecting.Store)) over
+                      (runs_on f b m new (next.Go (at.Select (selecting.Next 1))) (next.Go (at.Select selecting.Store))
+                      over
                       (gives_runs f 1 (at.Select selecting.Store) (λ c seen is. by c seen seen.called is)
                       (λ who seen. refl) refl b m (subst (λ (j : ℕ). HasSelected b m 1 j) given_one s))
                       (runs_one f (at.Select selecting.Store) m m new nothing (by_step (step.Unlock m.at true))

@@ -135,7 +135,8 @@ book_away d x v (step.Unlock i sp) is sees away = absurd is
 book_away d x v (step.Queue y e) is sees away = absurd is
 book_away d x v (step.Saw y f) is sees away = put_at (λ (l : Look). shows_at (done_head d) l ≡ false) v.hold.book y
     (look_at v.hold.head (entry_of f)) x (λ q. look_away (done_head d) v.hold.head (entry_of f) (sees q)) (λ _. away)
-book_away d x v (step.Unqueue y) is sees away = put_at (λ (l : Look). shows_at (done_head d) l ≡ false) v.hold.book y off
+book_away d x v (step.Unqueue y) is sees away = put_at (λ (l : Look). shows_at (done_head d) l ≡ false) v.hold.book y
+    off
     x (λ _. refl) (λ _. away)
 book_away d x v e is sees away = away
 
@@ -187,7 +188,8 @@ takes_others d a n front (step.Unqueue y) o w = elim (eqb_tells y (own a)) [
       let there : Some (head_of o.allowed.0.watch) ≡ Some (done_head d) =
       sym o.allowed.2 ∙ (ap (λ (v : View). v.hold.head) (order_view a front o.order) ∙ w.head) in
       let at : head_of o.allowed.0.watch ≡ done_head d = cc in
-      let stands : stands_at (Some o.allowed.0) (done_head d) ≡ true = same_head (head_of o.allowed.0.watch) (done_head d)
+      let stands : stands_at (Some o.allowed.0) (done_head d) ≡ true = same_head (head_of o.allowed.0.watch)
+      (done_head d)
       at in
       clash (stands_at (s.entry (own a)) (done_head d))
       (ap (λ (z : Option Entry). stands_at z (done_head d)) (ap s.entry (sym q.1) ∙ o.allowed.1) ∙ stands)

@@ -311,9 +311,11 @@ module _ (d : ℕ) (old m : Known) (f : FoundNobody old m d) where
         has_refused =
             let full : is_full v ≡ true = grind (arith, nat_tests, many) in
             let g = up_program old.view.number d in record {
-              runs = runs_on g old b new (next.Go (at.Select selecting.Lock)) (next.Go (at.Count (counting.Unlock false)))
+              runs = runs_on g old b new (next.Go (at.Select selecting.Lock))
+                  (next.Go (at.Count (counting.Unlock false)))
                   (next.Ends full_answer)
-                  (starts (counting.Unlock false) (ap (λ (z : Bool). if z then counting.Unlock false else counting.Store)
+                  (starts (counting.Unlock false) (ap (λ (z : Bool). if z then counting.Unlock false else
+                  counting.Store)
                   full)) (up_refuses old.view.number d b new at_b gave);
               cause = record {
                 many = many;
@@ -361,7 +363,8 @@ module _ (d : ℕ) (old m : Known) (f : FoundNobody old m d) where
       store_runs : Runs (up_program old.view.number d) b c (next.Go (at.Count counting.Store))
           (next.Go (at.Count (counting.Unlock true)))
       store_runs = (quiet_store (up_program old.view.number d) (at.Count counting.Store) b c (with_value v) d (v + 1)
-          made.found _ (v + 1) _ refl refl refl refl (sym (made.finds.1 found_counted.held v found_counted.loaded)) tt tt
+          made.found _ (v + 1) _ refl refl refl refl (sym (made.finds.1 found_counted.held v found_counted.loaded)) tt
+          tt
           tt b (only_none b) made.is).0
 
       published : Carries (publish_change (watch.Done d)) m c

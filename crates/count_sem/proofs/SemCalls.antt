@@ -160,12 +160,14 @@ module _ (d me c : ℕ) where
         (up_next c (Some called) seen) tt (λ e made finds. tt)
     up_next_fine n None is held = plainly d me up (UpAt c) k (at.Select (selecting.Next n)) seen
         (up_next c None seen) tt (λ e made finds. full_or (is_full seen.value) refl e
-        (loads_it c (history_of k) k up.own (up.given (at.Select (selecting.Next n))) (number_of (watch.Done c)) seen.value seen.value e seen refl
+        (loads_it c (history_of k) k up.own (up.given (at.Select (selecting.Next n))) (number_of (watch.Done c))
+        seen.value seen.value e seen refl
         refl made finds.0) held (nobody_first k seen finds.1 is))
 
     up_fine : (p : Point) → UpAt c p (history_of k) → UpFine k p seen (up.plan p seen)
     up_fine (at.Select selecting.Lock) q = plainly d me up (UpAt c) k (at.Select selecting.Lock) seen _ tt
-        (λ e made finds. lock_in c (history_of k) k up.own (up.given (at.Select selecting.Lock)) (done_head c) e refl made)
+        (λ e made finds. lock_in c (history_of k) k up.own (up.given (at.Select selecting.Lock)) (done_head c) e refl
+        made)
     up_fine (at.Select (selecting.Next n)) q = up_next_fine n seen.called refl q
     up_fine (at.Select (selecting.Off n who)) q =
         plainly d me up (UpAt c) k (at.Select (selecting.Off n who)) seen _ tt
@@ -175,7 +177,8 @@ module _ (d me c : ℕ) where
     up_fine (at.Count counting.Store) q = record {
       looks = λ xs made. absurd made;
       steps = λ e o made finds. (
-        raises_one d me c k up.own (up.given (at.Count counting.Store)) refl q.count q.known q.below q.nobody (number_of (watch.Done c)) e seen o
+        raises_one d me c k up.own (up.given (at.Count counting.Store)) refl q.count q.known q.below q.nobody
+            (number_of (watch.Done c)) e seen o
             made finds.0,
         tt,
       );
@@ -222,16 +225,19 @@ module _ (d me c : ℕ) where
 
     try_fine : (p : Point) → TryAt c p (history_of k) → Fine d me try (TryAt c) k p seen (try.plan p seen)
     try_fine (at.Count counting.Lock) q = plainly d me try (TryAt c) k (at.Count counting.Lock) seen _ tt
-        (λ e made finds. lock_in c (history_of k) k try.own (try.given (at.Count counting.Lock)) (done_head c) e refl made)
+        (λ e made finds. lock_in c (history_of k) k try.own (try.given (at.Count counting.Lock)) (done_head c) e refl
+        made)
     try_fine (at.Count counting.Load) q = plainly d me try (TryAt c) k (at.Count counting.Load) seen _ tt
         (λ e made finds. some_or (seen.value == 0) (is_at_end seen.value) refl refl e
-        (loads_it c (history_of k) k try.own (try.given (at.Count counting.Load)) (number_of (watch.Done c)) seen.value seen.value e seen refl
+        (loads_it c (history_of k) k try.own (try.given (at.Count counting.Load)) (number_of (watch.Done c)) seen.value
+        seen.value e seen refl
         refl made finds.0) q)
     try_fine (at.Count counting.Store) q = record {
       looks = λ xs made. absurd made;
       steps = λ e o made finds. (
         lowers_one d me c k try.own (try.given (at.Count counting.Store)) refl q.found.count q.found.known q.found.some
-            q.low (number_of (watch.Done c)) (taken_done (done_in seen.value)) e seen (taken_less seen.value) o made finds.0,
+            q.low (number_of (watch.Done c)) (taken_done (done_in seen.value)) e seen (taken_less seen.value) o made
+            finds.0,
         tt,
       );
     }
@@ -353,7 +359,8 @@ module _ (d me c : ℕ) (st : SleepState) where
     gives_fine : (n : ℕ) (o : Option CalledEntry)
         → DownFine k (at.Select (selecting.Next (suc n))) seen (joins_one (pass_gives c o seen))
     gives_fine n None = quite (at.Select (selecting.Next (suc n))) (pass_gives c None seen) tt (λ e. tt)
-    gives_fine n (Some called) = quite (at.Select (selecting.Next (suc n))) (pass_gives c (Some called) seen) tt (λ e. tt)
+    gives_fine n (Some called) = quite (at.Select (selecting.Next (suc n))) (pass_gives c (Some called) seen) tt
+        (λ e. tt)
 
     off_then : (b : Bool) → is_at_end seen.value ≡ b → (e : Step) (found : Found c (history_of k ++ e ∷ []))
         → seen.value ≡ found.count
@@ -365,7 +372,8 @@ module _ (d me c : ℕ) (st : SleepState) where
     down_fine : (p : Point) → DownAt c p (history_of k) → DownFine k p seen (down.plan p seen)
     down_fine (at.Await (awaiting.Lock false)) q =
         plainly d me down (DownAt c) k (at.Await (awaiting.Lock false)) seen _
-        tt (λ e made finds. lock_in c (history_of k) k down.own (down.given (at.Await (awaiting.Lock false))) (done_head c) e refl made)
+        tt (λ e made finds. lock_in c (history_of k) k down.own (down.given (at.Await (awaiting.Lock false)))
+        (done_head c) e refl made)
     down_fine (at.Await (awaiting.Load waited)) q =
         plainly d me down (DownAt c) k (at.Await (awaiting.Load waited)) seen
         _ tt (λ e made finds. first_then (at.Await (awaiting.Load waited)) e
@@ -382,13 +390,15 @@ module _ (d me c : ℕ) (st : SleepState) where
     down_fine at.Sleep q = quite at.Sleep (down_part me c st at.Sleep seen) tt (λ e. tt)
     down_fine (at.Await (awaiting.Lock true)) q =
         plainly d me down (DownAt c) k (at.Await (awaiting.Lock true)) seen _ tt
-        (λ e made finds. lock_in c (history_of k) k down.own (down.given (at.Await (awaiting.Lock true))) (done_head c) e refl made)
+        (λ e made finds. lock_in c (history_of k) k down.own (down.given (at.Await (awaiting.Lock true))) (done_head c)
+        e refl made)
     down_fine (at.Leave leaving.Queue) q = plainly d me down (DownAt c) k (at.Leave leaving.Queue) seen _ tt
         (λ e made finds. again_then (at.Leave leaving.Queue) e (loaded (at.Leave leaving.Queue) e refl made finds.0) q
         (is_some seen.entry))
     down_fine (at.Finish finishing.Queue failed) q = leave_fine (at.Finish finishing.Queue failed)
     down_fine (at.Finish finishing.Unlock failed) q =
-        quite (at.Finish finishing.Unlock failed) (down_part me c st (at.Finish finishing.Unlock failed) seen) tt (λ e. tt)
+        quite (at.Finish finishing.Unlock failed) (down_part me c st (at.Finish finishing.Unlock failed) seen) tt
+        (λ e. tt)
     down_fine (at.Await (awaiting.Off stopped)) q =
         plainly d me down (DownAt c) k (at.Await (awaiting.Off stopped)) seen
         _ tt (λ e made finds. off_then (is_at_end seen.value) refl e (found_on c (history_of k) e
@@ -412,7 +422,8 @@ module _ (d me c : ℕ) (st : SleepState) where
 
 -- whole programs, and parts from their beginnings
 uses_on : (f : ℕ → Program) (Q : Point → List Step → Type 0) (p : Point) → ((es : List Step) → Q p es)
-    → ((d me : ℕ) → LooksStay d me (f me) Q) → ((d me : ℕ) → PointsAreFine d me (f me) Q) → (old new : Known) (to : Next)
+    → ((d me : ℕ) → LooksStay d me (f me) Q) → ((d me : ℕ) → PointsAreFine d me (f me) Q) → (old new : Known)
+    (to : Next)
     → Runs (f old.view.number) old new (next.Go p) to → KeepsUse old new
 uses_on f Q p first stays fine old new to runs d o used =
     let number = number_stays (f old.view.number) old new (next.Go p) to runs.transitions runs.goes in

@@ -139,7 +139,8 @@ finds_of : (d : ℕ) (es : List Step) → AreLowLoads d es → FindsNoEnd d es
 finds_of d es are n front rest is = low_at d n front rest (subst (AreLowLoads d) is are)
 
 -- what the account says
-module _ (s : Table) (d : ℕ) (k : Kept s) (x : IsExact s d) (p : IsPaid s d) (low : (a : ℕ) → AreLowLoads d (s.history a))
+module _ (s : Table) (d : ℕ) (k : Kept s) (x : IsExact s d) (p : IsPaid s d)
+    (low : (a : ℕ) → AreLowLoads d (s.history a))
   where
     none_queued : (b : Bool) (a n y : ℕ) → stands_at (s.entry y) (done_head d) ≡ b → (dealt_in s d a).count ≡ Some n
         → n ≢ 0 → stands_at (s.entry y) (done_head d) ≡ false

@@ -1,5 +1,5 @@
--- What a task has made of a program that changes a count as the law on permits asks for, by what holds of its history at
--- each point.
+-- What a task has made of a program that changes a count as the law on permits asks for, by what holds of its history
+-- at each point.
 use Rattle.std.proofs.Common.{sym, subst, append_assoc, append-nil}
 use Rattle.std.specs.Prelude.{ℕ, Option, List, [], ◌∷◌, ◌++◌}
 use Rattle.wait_model.specs.declared.calls.Event.{Event}

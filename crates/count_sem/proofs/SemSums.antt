@@ -27,7 +27,8 @@ use Rattle.count_sem.specs.SemPermits.{
   takes_permit,
 }
 
-pub counted_snoc : (test : ℕ → ℕ → View → Dealt → Step → Bool) (d x : ℕ) (v : View) (w : Dealt) (es : List Step) (e : Step)
+pub counted_snoc : (test : ℕ → ℕ → View → Dealt → Step → Bool) (d x : ℕ) (v : View) (w : Dealt) (es : List Step)
+    (e : Step)
     → counted_from test d x v w (es ++ e ∷ []) ≡ counted_from test d x v w es
     + flag (test d x (after_all v es) (deals_all d x v w es) e)
 counted_snoc test d x v w [] e = omega arith
@@ -114,7 +115,8 @@ module _ (s : Table) (a : ℕ) (e : Step) (d : ℕ) (told : AreViewsTold s) wher
 
   -- another's, whose entry is taken off
   pub owed_moved : (b : ℕ) → b ≢ a → owed_to (next s a e) d b ≡ permits_taken d b (s.history b)
-      + due (dealt_in s d b).left (is_settled d (own b) (s.view b)) (stands_at ((next s a e).entry (own b)) (done_head d))
+      + due (dealt_in s d b).left (is_settled d (own b) (s.view b)) (stands_at ((next s a e).entry (own b))
+      (done_head d))
   owed_moved b ne =
       let one = counted_other takes_permit b ne in
       let two = other_due b ne in omega (arith, one, two)

@@ -295,7 +295,8 @@ module _ (s : Table) (a : ℕ) (d : ℕ) (told : AreViewsTold s) (lt : a < TASKS
     saw_paid = by (is_in d v) refl (eqb_tells y (own a))
       where
         by : (t : Bool) → is_in d v ≡ t
-            → (((y == own a) ≡ true) × (y ≡ own a)) ⊎ (((y == own a) ≡ false) × (y ≢ own a)) → IsPaid (next s a looked) d
+            → (((y == own a) ≡ true) × (y ≡ own a)) ⊎ (((y == own a) ≡ false) × (y ≢ own a)) → IsPaid (next s a looked)
+            d
         by true q (inl r) = here_look q r.1 r.0
         by true q (inr r) = away_look (rw (q, r.0) refl) (ap (λ (l : Look). is_in d v && is_seen l)
             (put_other v.hold.book y (look_at v.hold.head (entry_of f)) (own a) (λ z. r.1 (sym z))))

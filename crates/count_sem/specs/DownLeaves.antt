@@ -24,8 +24,8 @@ use Rattle.count_sem.specs.declared.downs.DownStage.{DownStage}
 use Rattle.count_sem.specs.declared.downs.DownStage.TheVariants as stage
 
 -- It goes out in its hold alone, where that has loaded 0 and has found its entry queued, if it was before: so who was
--- given a permit takes it. Before its sleep it stores RUNNING, and goes on to the next hold. One that has not begun, that
--- has drawn a ticket, that takes a permit or stops for a signal, goes on.
+-- given a permit takes it. Before its sleep it stores RUNNING, and goes on to the next hold. One that has not begun,
+-- that has drawn a ticket, that takes a permit or stops for a signal, goes on.
 abbrev pub down_exit : DownStage → Option (Exit DownStage DownOutcome)
 down_exit stage.Look = Some (record { to = turn.Again stage.LeaveQueue; rests = false })
 down_exit stage.Queue = Some (record { to = turn.Again stage.LeaveQueue; rests = false })
@@ -55,9 +55,9 @@ end_until r outcome.Passing = until.Over (end_in r outcome.Passing)
 end_until r outcome.Interrupted = stopped_until r.asked r
 end_until r outcome.Worn = until.Over (end_in r outcome.Worn)
 
--- Its cause. Left: its last hold loaded the count as 0, which is `seen`; where the call had queued its entry before, the
--- hold had found it queued before that load; and the entry was taken off where it was queued. So who was given a permit
--- is never left without it.
+-- Its cause. Left: its last hold loaded the count as 0, which is `seen`; where the call had queued its entry before,
+-- the hold had found it queued before that load; and the entry was taken off where it was queued. So who was given a
+-- permit is never left without it.
 pub record LeftDown (k : Known) (d seen : ℕ) (queued : Bool) : Type 0 where
   pub again : Bool
   pub word : ℕ

@@ -122,8 +122,8 @@ down_depth stage.TakeStore = 2
 down_depth stage.TakeUnlock = 1
 down_depth _ = 6
 
--- where it goes on behind a draw, a lock, an unlock and a store of a state; by its count, its entry and a signal; and by
--- what came of its add
+-- where it goes on behind a draw, a lock, an unlock and a store of a state; by its count, its entry and a signal; and
+-- by what came of its add
 abbrev pub DownTurn : Type 0
 DownTurn = Turn DownStage DownOutcome
 
@@ -239,8 +239,8 @@ pub record HasCount (k : Known) (r : DownCall) : Type 0 where
   pub knows : Knows k r.cell r.count
   pub some : (r.count == 0) ≡ false
 
--- A hold that loaded 0: where the call had slept before, the hold had found its own entry queued before the load; else it
--- had queued none. These steps came behind.
+-- A hold that loaded 0: where the call had slept before, the hold had found its own entry queued before the load; else
+-- it had queued none. These steps came behind.
 abbrev pub found_zero : Bool → ℕ → ℕ → ℕ → List Step → List Step
 found_zero true d x word more = step.Saw x word ∷ step.Load (watch.Done d) 0 ∷ more
 found_zero false d x word more = step.Load (watch.Done d) 0 ∷ more

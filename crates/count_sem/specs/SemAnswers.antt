@@ -37,8 +37,8 @@ abbrev pub TriesAreCounted : Type 0
 TriesAreCounted = (old new : Known) (d : ℕ) (hit : Bool) → OrderOf new → LeftOff d old
     → FindsNoEnd d (history_of new) → HasTakenPermit old new d hit → CountsMore old new d 0 (flag hit)
 
--- A `down` that answers Ok has taken one permit more than it has given: none, or one that it took of the count and handed
--- on. Else it has taken none, and given none.
+-- A `down` that answers Ok has taken one permit more than it has given: none, or one that it took of the count and
+-- handed on. Else it has taken none, and given none.
 abbrev pub DownCounts : Known → Known → ℕ → Result (Unit {0}) SemEnd → Type 0
 DownCounts old new d (Ok u) = (p : ℕ) × (p ≤ 1) × CountsMore old new d p (p + 1)
 DownCounts old new d (Err end) = CountsMore old new d 0 0
@@ -47,8 +47,8 @@ abbrev pub DownsAreCounted : Type 0
 DownsAreCounted = (old new : Known) (d : ℕ) (st : SleepState) (result : Result (Unit {0}) SemEnd) → OrderOf new
     → LeftOff d old → FindsNoEnd d (history_of new) → EndsDown old new d st result → DownCounts old new d result
 
--- One that was left has taken none, and given none; and one that was over counts as a `down` of its answer. A is what its
--- task is to have been asked by.
+-- One that was left has taken none, and given none; and one that was over counts as a `down` of its answer. A is what
+-- its task is to have been asked by.
 abbrev pub UntilCounts : Known → Known → ℕ → Until (Result (Unit {0}) SemEnd) → Type 0
 UntilCounts old new d (until.Over x) = DownCounts old new d x
 UntilCounts old new d (until.Left seen) = CountsMore old new d 0 0

@@ -140,8 +140,8 @@ abbrev pub leave_queue : ℕ → ℕ → Bool → Planned
 leave_queue me d queued = if queued then go (event.Unqueue me) (at.Finish finishing.Unlock true)
     else ends_with (sem_unlock d false) signalled
 
--- With a permit that was given to it, and more that are counted: where an entry is queued, one is taken of the count, and
--- then given to the first.
+-- With a permit that was given to it, and more that are counted: where an entry is queued, one is taken of the count,
+-- and then given to the first.
 abbrev pub pass_next : ℕ → Option CalledEntry → Seen → Planned
 pass_next d None seen = ends_with (sem_unlock d false) zero_answer
 pass_next d (Some c) seen = go (sem_set d (seen.value - 1)) (at.Select (selecting.Next 1))

@@ -23,10 +23,10 @@ use wait_rule::queues::Passing;
 use wait_rule::{Domain, Task};
 use wq_head::{Worn, add_tail, remove};
 
-/// A stage of a `down`: where it stands in its program. The first hold, and the further ones, each with its lock and its
-/// load; then, where that found 0, a look for a signal, the add, the state and the unlock, and the sleep; the end of one
-/// that found a signal, or is left; and that of one that takes a permit, or was given one. At `FirstTurn` and `AgainTurn`
-/// the ticket of the lock is drawn, at `First` and `Again` it is not.
+/// A stage of a `down`: where it stands in its program. The first hold, and the further ones, each with its lock and
+/// its load; then, where that found 0, a look for a signal, the add, the state and the unlock, and the sleep; the end
+/// of one that found a signal, or is left; and that of one that takes a permit, or was given one. At `FirstTurn` and
+/// `AgainTurn` the ticket of the lock is drawn, at `First` and `Again` it is not.
 #[derive(Clone, Copy)]
 pub enum DownStage {
     First,
@@ -48,7 +48,8 @@ pub enum DownStage {
 }
 
 /// How a `down` ended: it took a permit, or was given one; it was given one and found that more are counted, and holds
-/// the head still, in which `hand_on` follows; a signal ended it, or its task left it; or no place was left for its entry.
+/// the head still, in which `hand_on` follows; a signal ended it, or its task left it; or no place was left for its
+/// entry.
 #[derive(Clone, Copy)]
 pub enum DownOutcome {
     Over,

@@ -100,7 +100,8 @@ pub fn until_of(call: DownCall, outcome: DownOutcome) -> Until<Result<(), SemEnd
 /// Leaves a `down` that goes on by stretches, at a stage at which its task is awake: to its end, and answers. It goes
 /// through one more hold, waits for the lock of the head alone, and never sleeps (`awake`). Left: that hold loaded the
 /// count as 0 (`seen`), had found the own entry queued before where the call had queued it, so nobody had given it a
-/// permit, and the entry is off. Over: it took a permit, so also one that it was given; or the call had ended before it was left, as `down` says.
+/// permit, and the entry is off. Over: it took a permit, so also one that it was given; or the call had ended before it
+/// was left, as `down` says.
 pub fn leave_down<R: Wait>(
     rt: &R,
     domain: &Domain,
@@ -123,8 +124,8 @@ pub fn leave_down<R: Wait>(
 }
 
 /// The answer of a `down` that went on by stretches, may have been asked to leave between two of them or in one
-/// (`wait_leave::ask`, `wait_leave::stretch_out`), and has ended, but not as `Passing`: then `hand_on` follows, and it is
-/// over. Who owed nothing when it began owes nothing, and the answer of one that began at `start` is as that of
+/// (`wait_leave::ask`, `wait_leave::stretch_out`), and has ended, but not as `Passing`: then `hand_on` follows, and it
+/// is over. Who owed nothing when it began owes nothing, and the answer of one that began at `start` is as that of
 /// `down_until`.
 pub fn end_down_until(
     task: &Task,
@@ -143,11 +144,11 @@ pub fn end_down_until(
     until_of(wait.of, outcome)
 }
 
-/// Takes a permit as `down` does, but leaves the call once `asks` has answered true: it is asked before each event while
-/// its task is awake, so before it goes asleep and once it was woken. Who stores what `asks` reads and then wakes the task
-/// (`wake_task`) is heard. Left: asked so, its last hold loaded the count as 0 (`seen`), had found the own entry queued
-/// before where the call had queued it, and left it off. Over: as `down` answers, so also Ok where an `up` gave it a
-/// permit behind the asking. The task owes what it owed.
+/// Takes a permit as `down` does, but leaves the call once `asks` has answered true: it is asked before each event
+/// while its task is awake, so before it goes asleep and once it was woken. Who stores what `asks` reads and then wakes
+/// the task (`wake_task`) is heard. Left: asked so, its last hold loaded the count as 0 (`seen`), had found the own
+/// entry queued before where the call had queued it, and left it off. Over: as `down` answers, so also Ok where an `up`
+/// gave it a permit behind the asking. The task owes what it owed.
 pub fn down_until<R: Wait, Q: Fn() -> bool>(
     rt: &R,
     domain: &Domain,

@@ -57,11 +57,11 @@ fn finds_waiter(domain: &Domain, task: &mut Task, head: u16) -> bool
 
 /// Goes on with a `down` that has ended as `Passing`, to the end of its hold, for who may not wait: where an entry is
 /// queued, one permit is taken of the count, and then given to the first, which is woken and taken off; then the head
-/// is given back. While a semaphore is used by these calls alone nobody is queued then. `rousing`, in which none is left
-/// before, names the task that was put asleep and that this call has woken, for the caller to rouse; `passing` has the
-/// lock that was given back. Err: its word changed before each of `TRIES` tries to wake it, which no run comes to; the
-/// head is held then, and the call does not end. Who owed nothing when its `down` began owes nothing, and the answer is
-/// Ok of that call, also where it was asked to leave.
+/// is given back. While a semaphore is used by these calls alone nobody is queued then. `rousing`, in which none is
+/// left before, names the task that was put asleep and that this call has woken, for the caller to rouse; `passing` has
+/// the lock that was given back. Err: its word changed before each of `TRIES` tries to wake it, which no run comes to;
+/// the head is held then, and the call does not end. Who owed nothing when its `down` began owes nothing, and the
+/// answer is Ok of that call, also where it was asked to leave.
 pub fn hand_on(
     domain: &Domain,
     task: &mut Task,

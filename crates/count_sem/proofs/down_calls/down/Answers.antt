@@ -10,7 +10,8 @@ use Rattle.count_sem.proofs.DownPasses.{passed_down}
 use Rattle.count_sem.proofs.down_calls.down.Goals as goal
 
 pub returns-in-Passing-clause-downed : goal.returns-in-Passing-clause-downed
-returns-in-Passing-clause-downed g c = passed_down c.args.task.now c.run-outcome.new.task c.pass.new.task c.begin_down-wait.result
+returns-in-Passing-clause-downed g c = passed_down c.args.task.now c.run-outcome.new.task c.pass.new.task
+    c.begin_down-wait.result
     c.run-outcome.new.run c.args.cell c.args.state c.begin_down-wait.ensures.fresh c.in-Passing.ensures c.pass.ensures
 
 pub returns-in-Passing-clause-up : goal.returns-in-Passing-clause-up
@@ -47,8 +48,10 @@ returns-in-Passing-clause-off g c = way_off (Unit {0}) c.args.task.now c.run-out
 
 pub returns-in_default-clause-downed : goal.returns-in_default-clause-downed
 returns-in_default-clause-downed g c = subst (EndsDown c.args.task.now c.run-outcome.new.task c.args.cell c.args.state)
-    (sym c.end_of.ensures) (ends_down c.args.task.now c.run-outcome.new.task c.begin_down-wait.result c.run-outcome.new.run
-    c.args.cell c.args.state c.begin_down-wait.ensures.fresh c.run-outcome.result (plain_end c.run-outcome.result c.in_default.not-Passing)
+    (sym c.end_of.ensures) (ends_down c.args.task.now c.run-outcome.new.task c.begin_down-wait.result
+    c.run-outcome.new.run
+    c.args.cell c.args.state c.begin_down-wait.ensures.fresh c.run-outcome.result
+    (plain_end c.run-outcome.result c.in_default.not-Passing)
     c.run-outcome.ensures)
 
 pub returns-in_default-clause-up : goal.returns-in_default-clause-up
@@ -61,7 +64,8 @@ pub returns-in_default-clause-idle : goal.returns-in_default-clause-idle
 returns-in_default-clause-idle g c = way_idle (Unit {0}) c.args.task.now c.run-outcome.new.task c.run-outcome.new.task
     c.begin_down-wait.result c.run-outcome.new.run stage.First c.run-outcome.result
     (straight c.run-outcome.new.task c.run-outcome.new.run (turn.Done c.run-outcome.result) c.run-outcome.ensures)
-    (plain_closes c.run-outcome.new.task c.run-outcome.new.run.of c.run-outcome.result c.in_default.not-Passing) c.requires.idle.unmarked
+    (plain_closes c.run-outcome.new.task c.run-outcome.new.run.of c.run-outcome.result c.in_default.not-Passing)
+    c.requires.idle.unmarked
 
 pub returns-in_default-clause-out : goal.returns-in_default-clause-out
 returns-in_default-clause-out g c = way_out_of (Unit {0}) c.args.task.now c.run-outcome.new.task c.run-outcome.new.task
@@ -70,10 +74,12 @@ returns-in_default-clause-out g c = way_out_of (Unit {0}) c.args.task.now c.run-
     (plain_closes c.run-outcome.new.task c.run-outcome.new.run.of c.run-outcome.result c.in_default.not-Passing)
 
 pub returns-in_default-clause-carries : goal.returns-in_default-clause-carries
-returns-in_default-clause-carries g c = way_carried (Unit {0}) c.args.task.now c.run-outcome.new.task c.run-outcome.new.task
+returns-in_default-clause-carries g c = way_carried (Unit {0}) c.args.task.now c.run-outcome.new.task
+    c.run-outcome.new.task
     c.begin_down-wait.result c.run-outcome.new.run stage.First c.run-outcome.result
     (straight c.run-outcome.new.task c.run-outcome.new.run (turn.Done c.run-outcome.result) c.run-outcome.ensures)
-    (plain_closes c.run-outcome.new.task c.run-outcome.new.run.of c.run-outcome.result c.in_default.not-Passing) c.requires.up c.requires.idle
+    (plain_closes c.run-outcome.new.task c.run-outcome.new.run.of c.run-outcome.result c.in_default.not-Passing)
+    c.requires.up c.requires.idle
     (c.begin_down-wait.ensures.told.head ∙ c.requires.idle.free.head)
 
 pub returns-in_default-clause-off : goal.returns-in_default-clause-off

@@ -10,40 +10,47 @@ use Rattle.count_sem.proofs.DownLeaving.{down_may_leave, ends_until, way_carried
 use Rattle.count_sem.proofs.leaves.down_until.Goals as goal
 
 pub close-requires-clause-ended : goal.close-requires-clause-ended
-close-requires-clause-ended g c = way_lands (g.Q.Fn.post c.args.asks tt true) down_table down_exits down_may_leave down_lawful
+close-requires-clause-ended g c = way_lands (g.Q.Fn.post c.args.asks tt true) down_table down_exits down_may_leave
+    down_lawful
     c.args.task.now c.begin_down-wait.result stage.First c.run_asked-outcome.new.task c.run_asked-outcome.new.call
     (turn.Done c.run_asked-outcome.result) c.run_asked-outcome.ensures
 
 pub returns-clause-downed : goal.returns-clause-downed
-returns-clause-downed g c = subst (EndsDownUntil (g.Q.Fn.post c.args.asks tt true) c.args.task.now c.close.new.task c.args.cell
+returns-clause-downed g c = subst (EndsDownUntil (g.Q.Fn.post c.args.asks tt true) c.args.task.now c.close.new.task
+    c.args.cell
     c.args.state) (sym c.close.ensures.answer)
     (ends_until (g.Q.Fn.post c.args.asks tt true) c.args.task.now c.run_asked-outcome.new.task c.close.new.task
     c.begin_down-wait.result c.run_asked-outcome.new.call c.args.cell c.args.state c.begin_down-wait.ensures.fresh
     c.run_asked-outcome.result c.run_asked-outcome.ensures c.close.ensures.closes)
 
 pub returns-clause-up : goal.returns-clause-up
-returns-clause-up g c = way_up (g.Q.Fn.post c.args.asks tt true) c.args.task.now c.run_asked-outcome.new.task c.close.new.task
+returns-clause-up g c = way_up (g.Q.Fn.post c.args.asks tt true) c.args.task.now c.run_asked-outcome.new.task
+    c.close.new.task
     c.begin_down-wait.result c.run_asked-outcome.new.call stage.First c.run_asked-outcome.result
     c.run_asked-outcome.ensures c.close.ensures.closes
 
 pub returns-clause-idle : goal.returns-clause-idle
-returns-clause-idle g c = way_idle (g.Q.Fn.post c.args.asks tt true) c.args.task.now c.run_asked-outcome.new.task c.close.new.task
+returns-clause-idle g c = way_idle (g.Q.Fn.post c.args.asks tt true) c.args.task.now c.run_asked-outcome.new.task
+    c.close.new.task
     c.begin_down-wait.result c.run_asked-outcome.new.call stage.First c.run_asked-outcome.result
     c.run_asked-outcome.ensures c.close.ensures.closes c.requires.idle.unmarked
 
 pub returns-clause-out : goal.returns-clause-out
-returns-clause-out g c = way_out_of (g.Q.Fn.post c.args.asks tt true) c.args.task.now c.run_asked-outcome.new.task c.close.new.task
+returns-clause-out g c = way_out_of (g.Q.Fn.post c.args.asks tt true) c.args.task.now c.run_asked-outcome.new.task
+    c.close.new.task
     c.begin_down-wait.result c.run_asked-outcome.new.call stage.First c.run_asked-outcome.result
     c.run_asked-outcome.ensures c.close.ensures.closes
 
 pub returns-clause-carries : goal.returns-clause-carries
-returns-clause-carries g c = way_carried (g.Q.Fn.post c.args.asks tt true) c.args.task.now c.run_asked-outcome.new.task c.close.new.task
+returns-clause-carries g c = way_carried (g.Q.Fn.post c.args.asks tt true) c.args.task.now c.run_asked-outcome.new.task
+    c.close.new.task
     c.begin_down-wait.result c.run_asked-outcome.new.call stage.First c.run_asked-outcome.result
     c.run_asked-outcome.ensures c.close.ensures.closes c.requires.up c.requires.idle
     (c.begin_down-wait.ensures.told.head ∙ c.requires.idle.free.head)
 
 pub returns-clause-off : goal.returns-clause-off
-returns-clause-off g c = way_off (g.Q.Fn.post c.args.asks tt true) c.args.task.now c.run_asked-outcome.new.task c.close.new.task
+returns-clause-off g c = way_off (g.Q.Fn.post c.args.asks tt true) c.args.task.now c.run_asked-outcome.new.task
+    c.close.new.task
     c.begin_down-wait.result c.run_asked-outcome.new.call stage.First c.run_asked-outcome.result
     c.run_asked-outcome.ensures c.close.ensures.closes
     (c.begin_down-wait.ensures.told.head ∙ c.requires.idle.free.head)

@@ -23,7 +23,8 @@ returns-in-Entry-clause-tells c =
 
 pub loop-i-preserved : goal.loop-i-preserved
 loop-i-preserved c =
-    mark_passed c.args.task.now c.members-count.new.task c.members-count.new.into c.members-count.ensures.queue c.loop-i.i
+    mark_passed c.args.task.now c.members-count.new.task c.members-count.new.into c.members-count.ensures.queue
+    c.loop-i.i
     c.loop-i.invariant (omega (arith, c.loop-i-test.true, c.members-count.ensures.count, c.loop-i.auto.i-end))
     (member.Mark c.in_default.field-0 c.in_default.field-1) c.in_default.ensures (omega arith)
 

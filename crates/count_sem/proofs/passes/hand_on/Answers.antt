@@ -46,30 +46,39 @@ finds_waiter-requires-clause-simple c = pass_high c.args.task.now c.args.wait.no
     c.head_of-head.ensures
 
 pub lower_one-requires-clause-up : goal.lower_one-requires-clause-up
-lower_one-requires-clause-up c = looking_up c.args.task.now c.args.wait.now c.requires.ended c.finds_waiter.new.task c.finds_waiter.ensures.looks
+lower_one-requires-clause-up c = looking_up c.args.task.now c.args.wait.now c.requires.ended c.finds_waiter.new.task
+    c.finds_waiter.ensures.looks
 
 pub lower_one-requires-clause-cell : goal.lower_one-requires-clause-cell
 lower_one-requires-clause-cell c = c.requires.ended.trail.there
 
 pub lower_one-requires-clause-counted : goal.lower_one-requires-clause-counted
-lower_one-requires-clause-counted c = looking_counted c.args.task.now c.args.wait.now c.requires.ended c.finds_waiter.new.task c.finds_waiter.ensures.looks c.finds_waiter.ensures.whole
+lower_one-requires-clause-counted c = looking_counted c.args.task.now c.args.wait.now c.requires.ended
+    c.finds_waiter.new.task c.finds_waiter.ensures.looks c.finds_waiter.ensures.whole
     (waiter_in c.finds_waiter.new.task c.finds_waiter.result c.if-finds_waiter.true c.finds_waiter.ensures.tells)
 
 pub lower_one-requires-clause-some : goal.lower_one-requires-clause-some
-lower_one-requires-clause-some c = looking_some c.args.task.now c.args.wait.now c.requires.ended c.finds_waiter.new.task c.finds_waiter.ensures.looks c.finds_waiter.ensures.whole
+lower_one-requires-clause-some c = looking_some c.args.task.now c.args.wait.now c.requires.ended c.finds_waiter.new.task
+    c.finds_waiter.ensures.looks c.finds_waiter.ensures.whole
     (waiter_in c.finds_waiter.new.task c.finds_waiter.result c.if-finds_waiter.true c.finds_waiter.ensures.tells)
 
 pub select_tries-requires-clause-up : goal.select_tries-requires-clause-up
-select_tries-requires-clause-up c = lowered_up c.args.task.now c.args.wait.now c.requires.ended c.finds_waiter.new.task c.finds_waiter.ensures.looks c.finds_waiter.ensures.whole
-    (waiter_in c.finds_waiter.new.task c.finds_waiter.result c.if-finds_waiter.true c.finds_waiter.ensures.tells) c.lower_one.new.task c.lower_one.ensures
+select_tries-requires-clause-up c = lowered_up c.args.task.now c.args.wait.now c.requires.ended c.finds_waiter.new.task
+    c.finds_waiter.ensures.looks c.finds_waiter.ensures.whole
+    (waiter_in c.finds_waiter.new.task c.finds_waiter.result c.if-finds_waiter.true c.finds_waiter.ensures.tells)
+    c.lower_one.new.task c.lower_one.ensures
 
 pub select_tries-requires-clause-held : goal.select_tries-requires-clause-held
-select_tries-requires-clause-held c = lowered_holds c.args.task.now c.args.wait.now c.requires.ended c.finds_waiter.new.task c.finds_waiter.ensures.looks c.finds_waiter.ensures.whole
-    (waiter_in c.finds_waiter.new.task c.finds_waiter.result c.if-finds_waiter.true c.finds_waiter.ensures.tells) c.lower_one.new.task c.lower_one.ensures
+select_tries-requires-clause-held c = lowered_holds c.args.task.now c.args.wait.now c.requires.ended
+    c.finds_waiter.new.task c.finds_waiter.ensures.looks c.finds_waiter.ensures.whole
+    (waiter_in c.finds_waiter.new.task c.finds_waiter.result c.if-finds_waiter.true c.finds_waiter.ensures.tells)
+    c.lower_one.new.task c.lower_one.ensures
 
 pub select_tries-requires-clause-head : goal.select_tries-requires-clause-head
-select_tries-requires-clause-head c = lowered_head c.args.task.now c.args.wait.now c.requires.ended c.finds_waiter.new.task c.finds_waiter.ensures.looks c.finds_waiter.ensures.whole
-    (waiter_in c.finds_waiter.new.task c.finds_waiter.result c.if-finds_waiter.true c.finds_waiter.ensures.tells) c.lower_one.new.task c.lower_one.ensures
+select_tries-requires-clause-head c = lowered_head c.args.task.now c.args.wait.now c.requires.ended
+    c.finds_waiter.new.task c.finds_waiter.ensures.looks c.finds_waiter.ensures.whole
+    (waiter_in c.finds_waiter.new.task c.finds_waiter.result c.if-finds_waiter.true c.finds_waiter.ensures.tells)
+    c.lower_one.new.task c.lower_one.ensures
     c.head_of-head.result c.head_of-head.ensures
 
 pub select_tries-requires-clause-simple : goal.select_tries-requires-clause-simple
@@ -77,33 +86,43 @@ select_tries-requires-clause-simple c = pass_high c.args.task.now c.args.wait.no
     c.head_of-head.ensures
 
 pub give_back-requires-clause-held : goal.give_back-requires-clause-held
-give_back-requires-clause-held c = (given_holds c.args.task.now c.args.wait.now c.requires.ended c.finds_waiter.new.task c.finds_waiter.ensures.looks c.finds_waiter.ensures.whole
-    (waiter_in c.finds_waiter.new.task c.finds_waiter.result c.if-finds_waiter.true c.finds_waiter.ensures.tells) c.lower_one.new.task c.lower_one.ensures
+give_back-requires-clause-held c = (given_holds c.args.task.now c.args.wait.now c.requires.ended c.finds_waiter.new.task
+    c.finds_waiter.ensures.looks c.finds_waiter.ensures.whole
+    (waiter_in c.finds_waiter.new.task c.finds_waiter.result c.if-finds_waiter.true c.finds_waiter.ensures.tells)
+    c.lower_one.new.task c.lower_one.ensures
     c.select_tries.new.task
     c.in_ok-select_tries.field-0 c.in_ok-select_tries.ensures.selected c.select_tries.ensures.hold).locked
 
 pub give_back-requires-clause-agreed : goal.give_back-requires-clause-agreed
-give_back-requires-clause-agreed c = (given_holds c.args.task.now c.args.wait.now c.requires.ended c.finds_waiter.new.task c.finds_waiter.ensures.looks c.finds_waiter.ensures.whole
-    (waiter_in c.finds_waiter.new.task c.finds_waiter.result c.if-finds_waiter.true c.finds_waiter.ensures.tells) c.lower_one.new.task c.lower_one.ensures
+give_back-requires-clause-agreed c = (given_holds c.args.task.now c.args.wait.now c.requires.ended
+    c.finds_waiter.new.task c.finds_waiter.ensures.looks c.finds_waiter.ensures.whole
+    (waiter_in c.finds_waiter.new.task c.finds_waiter.result c.if-finds_waiter.true c.finds_waiter.ensures.tells)
+    c.lower_one.new.task c.lower_one.ensures
     c.select_tries.new.task
     c.in_ok-select_tries.field-0 c.in_ok-select_tries.ensures.selected c.select_tries.ensures.hold).agreed
 
 pub give_back-requires-clause-rise : goal.give_back-requires-clause-rise
-give_back-requires-clause-rise c = given_rises c.args.task.now c.args.wait.now c.requires.ended c.finds_waiter.new.task c.finds_waiter.ensures.looks c.finds_waiter.ensures.whole
-    (waiter_in c.finds_waiter.new.task c.finds_waiter.result c.if-finds_waiter.true c.finds_waiter.ensures.tells) c.lower_one.new.task c.lower_one.ensures
+give_back-requires-clause-rise c = given_rises c.args.task.now c.args.wait.now c.requires.ended c.finds_waiter.new.task
+    c.finds_waiter.ensures.looks c.finds_waiter.ensures.whole
+    (waiter_in c.finds_waiter.new.task c.finds_waiter.result c.if-finds_waiter.true c.finds_waiter.ensures.tells)
+    c.lower_one.new.task c.lower_one.ensures
     c.select_tries.new.task
     c.in_ok-select_tries.field-0 c.in_ok-select_tries.ensures.selected c.select_tries.ensures.hold
     c.in_ok-select_tries.ensures.rises
 
 pub give_back-requires-clause-permits : goal.give_back-requires-clause-permits
-give_back-requires-clause-permits c = given_owes c.args.task.now c.args.wait.now c.requires.ended c.finds_waiter.new.task c.finds_waiter.ensures.looks c.finds_waiter.ensures.whole
-    (waiter_in c.finds_waiter.new.task c.finds_waiter.result c.if-finds_waiter.true c.finds_waiter.ensures.tells) c.lower_one.new.task c.lower_one.ensures
+give_back-requires-clause-permits c = given_owes c.args.task.now c.args.wait.now c.requires.ended
+    c.finds_waiter.new.task c.finds_waiter.ensures.looks c.finds_waiter.ensures.whole
+    (waiter_in c.finds_waiter.new.task c.finds_waiter.result c.if-finds_waiter.true c.finds_waiter.ensures.tells)
+    c.lower_one.new.task c.lower_one.ensures
     c.select_tries.new.task
     c.in_ok-select_tries.field-0 c.in_ok-select_tries.ensures.selected c.select_tries.ensures.hold
 
 passed_then : goal.returns-then-finds_waiter-clause-passed
-passed_then c = passed_on c.args.task.now c.args.wait.now c.requires.ended c.finds_waiter.new.task c.finds_waiter.ensures.looks c.finds_waiter.ensures.whole
-    (waiter_in c.finds_waiter.new.task c.finds_waiter.result c.if-finds_waiter.true c.finds_waiter.ensures.tells) c.lower_one.new.task c.lower_one.ensures
+passed_then c = passed_on c.args.task.now c.args.wait.now c.requires.ended c.finds_waiter.new.task
+    c.finds_waiter.ensures.looks c.finds_waiter.ensures.whole
+    (waiter_in c.finds_waiter.new.task c.finds_waiter.result c.if-finds_waiter.true c.finds_waiter.ensures.tells)
+    c.lower_one.new.task c.lower_one.ensures
     c.select_tries.new.task
     c.in_ok-select_tries.field-0 c.in_ok-select_tries.ensures.selected c.select_tries.ensures.hold
     c.give_back.new.task c.give_back.ensures.given
@@ -147,20 +166,24 @@ returns-then-finds_waiter-clause-ends_out c = λ start f cell state fresh w. end
 
 -- nobody was queued
 pub give_back-requires-2-clause-held : goal.give_back-requires-2-clause-held
-give_back-requires-2-clause-held c = (looking_holds c.args.task.now c.args.wait.now c.requires.ended c.finds_waiter.new.task c.finds_waiter.ensures.looks).locked
+give_back-requires-2-clause-held c = (looking_holds c.args.task.now c.args.wait.now c.requires.ended
+    c.finds_waiter.new.task c.finds_waiter.ensures.looks).locked
 
 pub give_back-requires-2-clause-agreed : goal.give_back-requires-2-clause-agreed
-give_back-requires-2-clause-agreed c = (looking_holds c.args.task.now c.args.wait.now c.requires.ended c.finds_waiter.new.task c.finds_waiter.ensures.looks).agreed
+give_back-requires-2-clause-agreed c = (looking_holds c.args.task.now c.args.wait.now c.requires.ended
+    c.finds_waiter.new.task c.finds_waiter.ensures.looks).agreed
 
 pub give_back-requires-2-clause-rise : goal.give_back-requires-2-clause-rise
 give_back-requires-2-clause-rise c = rise_none c.finds_waiter.new.task
 
 pub give_back-requires-2-clause-permits : goal.give_back-requires-2-clause-permits
-give_back-requires-2-clause-permits c = alone_owes c.args.task.now c.args.wait.now c.requires.ended c.finds_waiter.new.task c.finds_waiter.ensures.looks c.finds_waiter.ensures.whole
+give_back-requires-2-clause-permits c = alone_owes c.args.task.now c.args.wait.now c.requires.ended
+    c.finds_waiter.new.task c.finds_waiter.ensures.looks c.finds_waiter.ensures.whole
     (nobody_in c.finds_waiter.new.task c.finds_waiter.result c.if-finds_waiter.false c.finds_waiter.ensures.tells)
 
 alone : goal.returns-clause-passed
-alone c = kept_alone c.args.task.now c.args.wait.now c.requires.ended c.finds_waiter.new.task c.finds_waiter.ensures.looks c.finds_waiter.ensures.whole
+alone c = kept_alone c.args.task.now c.args.wait.now c.requires.ended c.finds_waiter.new.task
+    c.finds_waiter.ensures.looks c.finds_waiter.ensures.whole
     (nobody_in c.finds_waiter.new.task c.finds_waiter.result c.if-finds_waiter.false c.finds_waiter.ensures.tells)
     c.give_back-2.new.task c.give_back-2.ensures.given
 

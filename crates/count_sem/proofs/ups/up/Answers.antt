@@ -24,7 +24,8 @@ unlock-requires-clause-permits g c =
     let k = c.lock.ensures in
     given_owes c.args.cell c.args.task.now c.lock.new.task c.select.new.task c.select.new.task
     (took_of c.args.cell c.head_of-head.result c.args.task.now c.lock.new.task c.head_of-head.ensures
-    (k.carries.awake ∙ c.requires.up) k.locked k.held k.stays k.settled k.carries k.simple) c.requires.free c.told.ensures
+    (k.carries.awake ∙ c.requires.up) k.locked k.held k.stays k.settled k.carries k.simple) c.requires.free
+    c.told.ensures
     (subst (λ (n : ℕ). HasSelected c.lock.new.task c.select.new.task 1 n) c.if-select-eq1.true
     c.select.ensures.selected) c.select.ensures.hold c.requires.left
 
@@ -33,7 +34,8 @@ returns-then-select-eq1-clause-raised g c =
     let k = c.lock.ensures in
     has_given c.args.cell c.args.task.now c.lock.new.task c.select.new.task c.unlock.new.task
     (took_of c.args.cell c.head_of-head.result c.args.task.now c.lock.new.task c.head_of-head.ensures
-    (k.carries.awake ∙ c.requires.up) k.locked k.held k.stays k.settled k.carries k.simple) c.requires.free c.told.ensures
+    (k.carries.awake ∙ c.requires.up) k.locked k.held k.stays k.settled k.carries k.simple) c.requires.free
+    c.told.ensures
     (subst (λ (n : ℕ). HasSelected c.lock.new.task c.select.new.task 1 n) c.if-select-eq1.true
     c.select.ensures.selected) c.select.ensures.hold c.unlock.ensures.unlocked.is
 
@@ -42,7 +44,8 @@ returns-then-select-eq1-clause-carries g c =
     let k = c.lock.ensures in
     given_carried c.args.cell c.args.task.now c.lock.new.task c.select.new.task c.unlock.new.task
     (took_of c.args.cell c.head_of-head.result c.args.task.now c.lock.new.task c.head_of-head.ensures
-    (k.carries.awake ∙ c.requires.up) k.locked k.held k.stays k.settled k.carries k.simple) c.requires.free c.told.ensures
+    (k.carries.awake ∙ c.requires.up) k.locked k.held k.stays k.settled k.carries k.simple) c.requires.free
+    c.told.ensures
     (subst (λ (n : ℕ). HasSelected c.lock.new.task c.select.new.task 1 n) c.if-select-eq1.true
     c.select.ensures.selected) c.select.ensures.hold c.unlock.ensures.unlocked.is c.select.ensures.keeps
 
@@ -51,7 +54,8 @@ returns-then-select-eq1-clause-off g c =
     let k = c.lock.ensures in
     given_off c.args.cell c.args.task.now c.lock.new.task c.select.new.task c.unlock.new.task
     (took_of c.args.cell c.head_of-head.result c.args.task.now c.lock.new.task c.head_of-head.ensures
-    (k.carries.awake ∙ c.requires.up) k.locked k.held k.stays k.settled k.carries k.simple) c.requires.free c.told.ensures
+    (k.carries.awake ∙ c.requires.up) k.locked k.held k.stays k.settled k.carries k.simple) c.requires.free
+    c.told.ensures
     (subst (λ (n : ℕ). HasSelected c.lock.new.task c.select.new.task 1 n) c.if-select-eq1.true
     c.select.ensures.selected) c.select.ensures.hold c.unlock.ensures.unlocked.is
 

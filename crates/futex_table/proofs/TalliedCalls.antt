@@ -130,8 +130,10 @@ module _ (old other new : Known) (is : new ≡ seen_with old (joined_with old.vi
 
   pub joins_tallied : JoinsTallied old other new
   unfolding HasTallied
-  joins_tallied m c o a b h g one two = subst (λ (v : Journal). TallyHad v m c o (a + b) (h + g)) (sym whole)
-      (joined_had old.view other.view two.lives shown.sole m c o a b h g one two)
+  joins_tallied m c o a b h g n k one two adds numbers = subst (λ (v : Journal). TallyHad v m c o n k) (sym whole)
+      (subst (λ (i : ℕ). TallyHad (joined_with old.view other.view) m c o i k) (sym adds)
+      (subst (λ (i : ℕ). TallyHad (joined_with old.view other.view) m c o (a + b) i) (sym numbers)
+      (joined_had old.view other.view two.lives shown.sole m c o a b h g one two)))
 
   pub reads_all : ReadsAllAdds old other
   unfolding HasTallied HasReadTally

@@ -55,8 +55,8 @@ LeftTallied g old new = (m c o n h : ℕ) → HasTallied old m c o n h → HasTa
 
 -- A task takes another in: it has what both had.
 abbrev pub JoinsTallied : Known → Known → Known → Type 0
-JoinsTallied old other new = (m c o a b h g : ℕ) → HasTallied old m c o a h → HasTallied other m c o b g
-    → HasTallied new m c o (a + b) (h + g)
+JoinsTallied old other new = (m c o a b h g n k : ℕ) → HasTallied old m c o a h → HasTallied other m c o b g
+    → n ≡ a + b → k ≡ h + g → HasTallied new m c o n k
 
 -- Where both had all numbers between them, what the first one had read in the tally under the mutex is the number of
 -- adds of all tasks, modulo 2^64.

@@ -7,7 +7,7 @@ ghost use Rattle.wait_rule.specs.Journals.{fresh};
 ghost use Rattle.wait_rule.specs.Says.{IsClean};
 ghost use Rattle.futex_table.specs.TalliedTasks.{HasTallied};
 
-use crate::mutexes::{LOCK, TALLY, add_under_mutex, open_mutex, take_mutex};
+use crate::mutexes::{LOCK, TALLY, add_under_mutex, give_mutex, open_mutex, take_mutex};
 use futex_table::tallies::{tally_fork, tally_join, tally_read};
 use std::sync::Wait;
 use std::thread;
@@ -21,9 +21,10 @@ pub struct Adder {
     pub adds: u64,
 }
 
-/// What the tally was in the end, and how often each of the two added to it.
-#[derive(Clone, Copy, Drop)]
+/// What the first one read in the end, how often each of the two added, and the first one, with all histories.
+#[derive(Drop)]
 pub struct Tallied {
+    pub task: Task,
     pub read: u64,
     pub first: u64,
     pub second: u64,
@@ -103,14 +104,18 @@ fn add_side_by_side<R: Threads + Wait + Sync>(
     )
 }
 
-/// The first one takes the mutex, reads the tally, and takes in the history of the second: None where no place was left
-/// for a wait for the mutex.
+/// The first one takes the mutex, reads the tally, takes in the history of the second, and gives the mutex back: None
+/// where no place was left for a wait for the mutex.
 fn read_both<R: Wait>(rt: &R, domain: &Domain, first: Adder, second: Adder) -> Option<Tallied>
     requires of { (first.task.domain ≡ domain.now) × (second.task.domain ≡ domain.now) }
     requires clean { IsClean first.task × IsClean second.task }
     requires first { HasTallied first.task 6 7 0 first.adds (TASKS - 1) }
     requires second { HasTallied second.task 6 7 0 second.adds 1 }
-    ensures adds { IfSome result (λ t. (t.first ≡ first.adds) × (t.second ≡ second.adds)) }
+    ensures of { IfSome result (λ t. t.task.domain ≡ domain.now) }
+    ensures clean { IfSome result (λ t. IsClean t.task) }
+    ensures first { IfSome result (λ t. t.first ≡ first.adds) }
+    ensures second { IfSome result (λ t. t.second ≡ second.adds) }
+    ensures tallied { IfSome result (λ t. HasTallied t.task 6 7 0 (first.adds + second.adds) TASKS) }
     ensures read { IfSome result (λ t. t.read ≡ (first.adds + second.adds) % 2 ^ 64) }
 {
     let mut task = first.task;
@@ -119,7 +124,9 @@ fn read_both<R: Wait>(rt: &R, domain: &Domain, first: Adder, second: Adder) -> O
     }
     let read = tally_read(domain, &mut task, TALLY, LOCK);
     tally_join(domain, &mut task, second.task);
+    give_mutex(rt, domain, &mut task);
     Some(Tallied {
+        task,
         read,
         first: first.adds,
         second: second.adds,
@@ -127,9 +134,9 @@ fn read_both<R: Wait>(rt: &R, domain: &Domain, first: Adder, second: Adder) -> O
 }
 
 /// Two threads add to the tally under the mutex, up to `times` times each, in a Domain whose first task this is, before
-/// its first step. Then what the first one reads under the mutex is exactly the number of adds of both. Each has added
-/// `times` times but where no place was left for a wait for the mutex; None comes only where that was so at the last
-/// take, or no number was spare for the second task.
+/// its first step. Then what the first one reads under the mutex is exactly the number of adds of both, which are all
+/// that stand in the histories of all tasks. Each has added `times` times but where no place was left for a wait for the
+/// mutex; None comes only where that was so at the last take, or no number was spare for the second task.
 pub fn add_in_two_threads<R: Threads + Wait + Sync>(
     rt: &R,
     domain: &Domain,
@@ -139,7 +146,10 @@ pub fn add_in_two_threads<R: Threads + Wait + Sync>(
     requires of { task.domain ≡ domain.now }
     requires clean { IsClean task }
     requires first { task.view ≡ fresh 0 1 (TASKS - 1) }
+    ensures of { IfSome result (λ t. t.task.domain ≡ domain.now) }
+    ensures clean { IfSome result (λ t. IsClean t.task) }
     ensures most { IfSome result (λ t. (t.first ≤ times) × (t.second ≤ times)) }
+    ensures tallied { IfSome result (λ t. HasTallied t.task 6 7 0 (t.first + t.second) TASKS) }
     ensures exact { IfSome result (λ t. t.read ≡ t.first + t.second) }
 {
     open_tally(rt, domain, &mut task);

@@ -348,7 +348,7 @@ has_public() {
 is_public() {
     local crate=${1%%::*} rest=${1#*::} name=${1##*::} module
     if [ "$crate" = laws ]; then
-        grep -qE "^pub fn $name\(" crates/*/src/laws.rt
+        grep -qE "^pub fn $name[(<]" crates/*/src/laws.rt
         return
     fi
     module=${rest%"$name"}

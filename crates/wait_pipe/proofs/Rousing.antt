@@ -1,6 +1,6 @@
 -- What a look at a variable's head, and the wake behind it, leave of a task.
 use Rattle.std.proofs.Common.{refl, sym, ◌∙◌, ap, subst}
-use Rattle.std.specs.Prelude.{ℕ, ◌≡◌, Bool, Some}
+use Rattle.std.specs.Prelude.{ℕ, ◌≡◌, Bool, true, false, Some, None}
 use Rattle.wait_model.specs.declared.points.Point.TheVariants as at
 use Rattle.wait_model.specs.declared.points.Next.TheVariants as next
 use Rattle.wait_model.specs.declared.points.WalkPoint.TheVariants as walking
@@ -8,19 +8,25 @@ use Rattle.wait_model.specs.declared.calls.Answer.TheVariants as answer
 use Rattle.wait_model.specs.declared.queues.Walked.{Walked}
 use Rattle.wait_model.specs.declared.watches.Mode.TheVariants as mode
 use Rattle.wait_model.specs.declared.watches.Watch.{Watch}
+use Rattle.wait_model.specs.declared.watches.Watch.TheVariants as watch
+use Rattle.wait_model.specs.Watches.{head_of}
 use Rattle.wait_rule.specs.Known.{Known}
 use Rattle.wait_rule.specs.Pipes.{no_end}
 use Rattle.wait_rule.specs.PipeSays.{end_at}
-use Rattle.wait_rule.specs.Queues.{index}
-use Rattle.wait_rule.specs.Says.{told_of}
+use Rattle.wait_rule.specs.Queues.{IsIdle, index}
+use Rattle.wait_rule.specs.Says.{IsUp, told_of}
 use Rattle.wait_rule.specs.Stays.{Carries, unchanged, wake_all_change, with_wakes}
 use Rattle.wait_rule.specs.Transitions.{walk_program}
 use Rattle.wait_rule.proofs.KnownLaws.PipeItems.{end_append}
 use Rattle.wait_rule.proofs.KnownLaws.CarriedEnds.{programs_keep_ends, scans_ends, walks_keep_ends}
-use Rattle.wq_head.specs.Scanned.{HasScanned}
-use Rattle.wq_head.specs.Walks.{HasWoken}
+use Rattle.wq_head.specs.Scanned.{HasEndedAt, HasScanned, unmade}
+use Rattle.wq_head.specs.Walks.{HasEnded, HasWoken}
 use Rattle.var_wait.specs.VarPublishes.{aim_of}
+use Rattle.var_wait.proofs.Publishing.{silent, silent_carries, still_idle, walked_on}
+use Rattle.wait_pipe.specs.PassedOn.{WokeWaiters}
 use Rattle.wait_pipe.specs.Pieces.{OthersStay}
+use Rattle.wait_pipe.proofs.Asides.{quiet_on, scanned_quiet, woken_quiet}
+use Rattle.wait_pipe.proofs.PieceChanges.{others_on}
 
 pub scanned_ends : (old new : Known) (h : ℕ) (hit : Bool) → HasScanned old new h hit → (k : ℕ)
     → end_at k new ≡ end_at k old
@@ -60,3 +66,41 @@ still_wakes c x y z a b = record {
   keeps = λ d p. b.keeps d p ∙ a.keeps d refl;
   owes = λ f o. b.owes f (a.owes (with_wakes c mode.Normal f) o);
 }
+
+-- a look for who waits for variable v, behind its publish
+module _ (v : ℕ) (old mid : Known) (h : ℕ) (hit : Bool) (is : h ≡ head_of (watch.Var v 0)) (idle : IsIdle old)
+    (held : (told_of old).hold.head ≡ None) (s : HasScanned old mid h hit) (still : Carries unchanged old mid) where
+  scanned_var : HasScanned old mid (head_of (watch.Var v 0)) hit
+  scanned_var = subst (λ (n : ℕ). HasScanned old mid n hit) is s
+
+  -- that found nobody
+  pub roused_none : hit ≡ false → IsUp mid → HasEndedAt old mid h → WokeWaiters v old mid
+  roused_none none up ended =
+      let over = subst (HasEndedAt old mid) is ended in record {
+        others = λ j ne. scanned_ends old mid h hit s j;
+        own = scanned_ends old mid h hit s v;
+        up = up;
+        idle = still_idle (watch.Var v 0) old mid over still idle;
+        carries = silent_carries (watch.Var v 0) old mid over still idle held;
+        quiet = scanned_quiet old mid h hit s;
+        walked = unmade;
+        wakes = λ before value found made.
+            silent before old mid v value found made hit scanned_var none over unmade refl;
+      }
+
+  -- that found some, and the wake
+  pub roused_some : hit ≡ true → (new : Known) (walked : Walked) → HasWoken mid new (aim_of v) walked
+      → HasEnded mid new (aim_of v) → IsUp new → IsIdle new
+      → Carries (wake_all_change (watch.Var v 0) mode.Normal new.at) mid new → WokeWaiters v old new
+  roused_some some new walked woken ended up behind wakes = record {
+    others = others_on v old mid new (λ j ne. scanned_ends old mid h hit s j) (woken_others v mid new walked woken);
+    own = woken_own v mid new walked woken ∙ scanned_ends old mid h hit s v;
+    up = up;
+    idle = behind;
+    carries = still_wakes (watch.Var v 0) old mid new still wakes;
+    quiet = quiet_on old mid new (scanned_quiet old mid h hit s)
+        (woken_quiet v mid new walked (still.hold ∙ held) woken);
+    walked = walked;
+    wakes = λ before value found made.
+        walked_on before old mid v value found made hit scanned_var new some walked woken ended;
+  }

@@ -31,6 +31,7 @@ use Rattle.wait_rule.specs.PipeSays.{end_at, reading, writing}
 use Rattle.wait_pipe.specs.declared.looks.Look.{Look}
 use Rattle.wait_pipe.specs.declared.pieces.PipeEnd.{PipeEnd}
 use Rattle.wait_pipe.specs.declared.pieces.PipeEnd.TheVariants as pipe_end
+use Rattle.wait_pipe.specs.PassedOn.{Drained, Filled}
 use Rattle.wait_pipe.specs.Pieces.{
   Got,
   GotNone,
@@ -73,17 +74,15 @@ module _ (p : ℕ) (old now : Known) (w : Waits (write_end p) old now) (s : IsSe
   pub put_broken : (writing p now).ended ≡ true → PutNone p old now pipe_end.Broken
   put_broken ended = record { moved = waited_none (write_end p) old now w s; cause = ended }
 
-  pub put_filled : (new : Known) (text : List ℕ) (n : ℕ) → 0 < n → n ≤ length text
-      → Moved (write_end p) now new (take n text) → (writing p new).ended ≡ (writing p now).ended
-      → (writing p now).ended ≡ false → (writing p new).count ≡ (writing p now).count + (n + 6) / 7
-      → (n < length text → (writing p new).count ≡ (writing p new).seen + PIPE_CELLS) → Put p old new text n
-  put_filled new text n some most moved kept unended cells full = record {
+  pub put_filled : (new : Known) (text : List ℕ) (n : ℕ) → 0 < n → n ≤ length text → Filled p now new text n
+      → (writing p now).ended ≡ false → Put p old new text n
+  put_filled new text n some most f unended = record {
     some = some;
     most = most;
-    moved = waited_then (write_end p) old now w s new (take n text) moved;
-    unended = kept ∙ unended;
-    cells = cells ∙ ap (λ m. m + (n + 6) / 7) w.keeps.count;
-    full = full;
+    moved = waited_then (write_end p) old now w s new (take n text) f.moved;
+    unended = f.ended ∙ unended;
+    cells = f.cells ∙ ap (λ m. m + (n + 6) / 7) w.keeps.count;
+    full = f.full;
   }
 
   pub put_stopped : (new : Known) (e : PipeEnd) → Waits (write_end p) now new → IsReadCause (write_end p) new e
@@ -110,15 +109,14 @@ module _ (p : ℕ) (old now : Known) (w : Waits (write_end p) old now) (s : IsSe
 
 -- A task that reads, over such turns.
 module _ (p : ℕ) (old now : Known) (w : Waits (read_end p) old now) (s : IsSettled (reading p old)) where
-  pub got_drained : (new : Known) (buf : List ℕ) (n : ℕ) → 0 < n → n ≤ length buf
-      → Moved (read_end p) now new (take n buf)
-      → (n + 7 ≤ length buf → (reading p new).count ≡ (reading p new).seen) → Got p old new buf n
-  got_drained new buf n some most moved all = record {
+  pub got_drained : (new : Known) (buf : List ℕ) (n : ℕ) → 0 < n → n ≤ length buf → Drained p now new buf n
+      → Got p old new buf n
+  got_drained new buf n some most d = record {
     most = most;
-    moved = waited_then (read_end p) old now w s new (take n buf) moved;
+    moved = waited_then (read_end p) old now w s new (take n buf) d.moved;
     some = λ there. some;
     none = λ none. absurd (omega arith);
-    all = all;
+    all = d.all;
   }
 
   pub got_end : (l : Look) (buf : List ℕ) (there : ℕ) → HasSeen (read_end p) now l
@@ -223,3 +221,30 @@ read_some k (suc n) old looked new buf l some loads = record { looked = looked; 
 pub read_none : (k : ℕ) (old looked : Known) (buf : List ℕ) → SeesClosed k old looked
     → (end_at k looked).count ≡ (end_at k looked).seen → ReadEnds k old looked buf (Ok 0)
 read_none k old looked buf closed all = record { closed = closed; all = all }
+
+-- a call whose first turn ends it, and one whose first turn waits
+pub wrote_first : (k : ℕ) (old new : Known) (text : List ℕ) (r : Result ℕ PipeEnd) → WriteEnds k old new text r
+    → WritesPiece k old new text r
+wrote_first k old new text r ends = record { turns = []; last = old; waits = refl; ends = ends }
+
+pub wrote_later : (k : ℕ) (old now new : Known) (text : List ℕ) (r : Result ℕ PipeEnd) → WaitingTurn k old now (Ok tt)
+    → WritesPiece k now new text r → WritesPiece k old new text r
+wrote_later k old now new text r turn w = record {
+  turns = now ∷ w.turns;
+  last = w.last;
+  waits = (turn, w.waits);
+  ends = w.ends;
+}
+
+pub got_first : (k : ℕ) (old new : Known) (buf : List ℕ) (r : Result ℕ PipeEnd) → ReadEnds k old new buf r
+    → ReadsPiece k old new buf r
+got_first k old new buf r ends = record { turns = []; last = old; waits = refl; ends = ends }
+
+pub got_later : (k : ℕ) (old now new : Known) (buf : List ℕ) (r : Result ℕ PipeEnd) → WaitingTurn k old now (Ok tt)
+    → ReadsPiece k now new buf r → ReadsPiece k old new buf r
+got_later k old now new buf r turn w = record {
+  turns = now ∷ w.turns;
+  last = w.last;
+  waits = (turn, w.waits);
+  ends = w.ends;
+}

@@ -8,21 +8,19 @@ ghost use Rattle.wait_rule.specs.Pipes.{closed, new_end, read_end, write_end};
 ghost use Rattle.wait_rule.specs.PipeSays.{EndBecomes, IsOpen, end_at, reading, writing};
 ghost use Rattle.wait_rule.specs.Queues.{IsIdle};
 ghost use Rattle.wait_rule.specs.Says.{IsUp, added};
-ghost use Rattle.wait_rule.specs.Stays.{Carries, claim_change, wake_all_change};
-ghost use Rattle.wait_model.specs.declared.watches.Mode.TheVariants as mode;
-ghost use Rattle.wait_model.specs.declared.watches.Watch.TheVariants as watch;
+ghost use Rattle.wait_rule.specs.Stays.{Carries, claim_change};
 ghost use Rattle.wait_class.specs.Posts.{IsOut};
-ghost use Rattle.wait_pipe.specs.Pieces.{Ends, IsOpened, OthersStay, LeavesAside};
-ghost use Rattle.wait_pipe.specs.Trails.{ClosesEnd, WakesAfter};
+ghost use Rattle.wait_pipe.specs.PassedOn.{WokeWaiters};
+ghost use Rattle.wait_pipe.specs.Pieces.{Ends, IsOpened, OthersStay};
+ghost use Rattle.wait_pipe.specs.Trails.{ClosesEnd};
 
 use std::sync::Wait;
 use wait_model::heads::head_of;
 use wait_model::layout::PIPE_ENDS;
-use wait_model::queues::Walked;
 use wait_model::watches::{Mode, Watch};
 use wait_rule::pipes::{claim, close};
 use wait_rule::{Domain, Task};
-use wq_head::{active, no_walk, wake};
+use wq_head::{active, wake};
 
 /// The number of the write end.
 pub(crate) const WRITE: u8 = 0;
@@ -65,25 +63,17 @@ pub fn open_read(domain: &Domain, task: &mut Task, pipe: u8) -> bool
 /// Wakes those who wait for variable `var`, below `CLAIMS`, which is the word of an end that its task has published: a
 /// look without the lock whether the variable's head has members, and where it has any a walk over its queue with
 /// NORMAL: with the publish, what `publish_var_and_wake` makes. The task is idle, and so it is afterwards.
-pub(crate) fn rouse<R: Wait>(rt: &R, domain: &Domain, task: &mut Task, var: u8) -> Walked
+fn rouse<R: Wait>(rt: &R, domain: &Domain, task: &mut Task, var: u8)
     requires of { task.old.domain ≡ domain.now }
     requires up { IsUp task.old }
     requires idle { IsIdle task.old }
     requires var { var < CLAIMS }
-    ensures others { OthersStay var task.old task.new }
-    ensures own { end_at var task.new ≡ end_at var task.old }
-    ensures up { IsUp task.new }
-    ensures idle { IsIdle task.new }
-    ensures carries { Carries (wake_all_change (watch.Var var 0) mode.Normal task.new.at) task.old task.new }
-    ensures quiet { LeavesAside task.old task.new }
-    ensures wakes { WakesAfter var task.old task.new result }
+    ensures roused { WokeWaiters var task.old task.new }
 {
     task.told();
     let watch = Watch::Var { var, old: 0 };
     if active(domain, task, head_of(watch)) {
-        wake(rt, domain, task, watch, Mode::Normal, 1)
-    } else {
-        no_walk()
+        wake(rt, domain, task, watch, Mode::Normal, 1);
     }
 }
 

@@ -1,22 +1,22 @@
 //! Pieces of bytes that go into a pipe and come out of it.
 
-ghost use Rattle.std.specs.Prelude.{◌≡◌, ◌<◌, ◌≤◌, ◌+◌, ◌/◌, ◌%◌, take, length};
+ghost use Rattle.std.specs.Prelude.{◌≡◌, ◌<◌, ◌≤◌, ◌+◌, ◌%◌, length};
 ghost use Rattle.std.specs.Prelude.{IfOk, MatchOption, MatchResult, Ok};
 ghost use Rattle.wait_model.specs.declared.layout.TheConstants.{PIPES, PIPE_CELLS};
 ghost use Rattle.wait_rule.specs.Pipes.{read_end, word_counts, write_end};
 ghost use Rattle.wait_rule.specs.PipeSays.{reading, writing};
+ghost use Rattle.wait_rule.specs.Known.{Known};
 ghost use Rattle.wait_rule.specs.Queues.{IsIdle};
 ghost use Rattle.wait_rule.specs.Says.{IsUp};
 ghost use Rattle.wait_class.specs.Posts.{IsOut};
-ghost use Rattle.wait_pipe.specs.Pieces.{Got, GotNone, IsSettled, Moved, Put, PutNone, Rests, Waits};
+ghost use Rattle.wait_pipe.specs.PassedOn.{Drained, Filled, WokeWaiters};
+ghost use Rattle.wait_pipe.specs.Pieces.{Got, GotNone, IsSettled, Put, PutNone, Rests, Waits};
 ghost use Rattle.wait_pipe.specs.PieceLeaves.{SeesNoCell};
 ghost use Rattle.wait_pipe.specs.Trails.{
   FillsCells,
-  LoadsCells,
   ReadEnds,
   ReadsPiece,
   SeesClosed,
-  StoresCells,
   WaitingTurn,
   WriteEnds,
   WritesPiece,
@@ -24,13 +24,16 @@ ghost use Rattle.wait_pipe.specs.Trails.{
 ghost use Rattle.wait_pipe.specs.declared.pieces.PipeEnd.TheVariants as end;
 
 use crate::cells::{pack, unpack};
-use crate::ends::{READ, WRITE, rouse};
+use crate::ends::{READ, WRITE};
 use crate::looks::{COUNTS, between, look_over, look_to_write, wait_for};
 use std::sync::Wait;
 use thiserror::Error;
+use wait_model::heads::head_of;
 use wait_model::layout::{PIPE_CELLS, PIPE_ENDS};
+use wait_model::watches::{Mode, Watch};
 use wait_rule::pipes::{advance, cell_load, cell_store};
 use wait_rule::{Domain, Task};
+use wq_head::{active, wake};
 
 /// Why no bytes went into a pipe, or came out of it. Broken: the read end was seen closed, so nothing can be sent any
 /// more; only a write answers this. Interrupted: a signal ended the wait for the other end, and the load after it found
@@ -70,6 +73,35 @@ pub fn write_piece<R: Wait>(
     ensures rests { Rests (write_end pipe) task.old task.new }
     ensures goes { WritesPiece (write_end pipe) task.old task.new bytes.now result }
 {
+    match write_now(rt, domain, task, pipe, bytes) {
+        Ok(Some(put)) => Ok(put),
+        Ok(None) => Err(PipeEnd::Broken),
+        Err(found) => match wait_for(rt, domain, task, PIPE_ENDS as u8 * pipe, found) {
+            Ok(()) => write_on(rt, domain, task, pipe, bytes),
+            Err(end) => Err(end),
+        },
+    }
+}
+
+/// The turns of a task that writes a piece, behind one that has waited.
+fn write_on<R: Wait>(
+    rt: &R,
+    domain: &Domain,
+    task: &mut Task,
+    pipe: u8,
+    bytes: &[u8],
+) -> Result<usize, PipeEnd>
+    requires of { task.old.domain ≡ domain.now }
+    requires up { IsUp task.old }
+    requires idle { IsIdle task.old }
+    requires out { IsOut task.old }
+    requires pipe { pipe < PIPES }
+    requires settled { IsSettled (writing pipe task.old) }
+    requires bytes { 0 < length bytes.now }
+    ensures piece { MatchResult result (Put pipe task.old task.new bytes.now) (PutNone pipe task.old task.new) }
+    ensures rests { Rests (write_end pipe) task.old task.new }
+    ensures goes { WritesPiece (write_end pipe) task.old task.new bytes.now result }
+{
     for _ in rt.forever() {
         match write_turn(rt, domain, task, pipe, bytes) {
             None => {}
@@ -79,8 +111,8 @@ pub fn write_piece<R: Wait>(
     unreachable!()
 }
 
-/// One turn of a task that writes a piece: a look at the reader's word, and then the free cells are filled, or the task
-/// waits for that word to change. None: it has waited, and goes on.
+/// A further turn of a task that writes a piece: a look at the reader's word, and then the free cells are filled, or the
+/// task waits for that word to change. None: it has waited, and goes on.
 fn write_turn<R: Wait>(
     rt: &R,
     domain: &Domain,
@@ -111,8 +143,8 @@ fn write_turn<R: Wait>(
     }
 }
 
-/// Writes a piece without waiting: a look at the reader's word, and then the free cells are filled. None: that end is
-/// closed. Err: no cell is free, and its word is this.
+/// Writes a piece without waiting: a look at the reader's word, and then the free cells are filled, and the reader is
+/// woken where it waits. None: that end is closed. Err: no cell is free, and its word is this.
 #[inline(always)]
 pub(crate) fn write_now<R: Wait>(
     rt: &R,
@@ -140,23 +172,29 @@ pub(crate) fn write_now<R: Wait>(
         return Ok(None);
     }
     let used = between(look.other, look.own);
-    if used < PIPE_CELLS {
-        return Ok(Some(fill(rt, domain, task, pipe, look.own, PIPE_CELLS - used, bytes)));
+    if used >= PIPE_CELLS {
+        return Err(look.word);
     }
-    Err(look.word)
+    let put = fill(domain, task, pipe, look.own, PIPE_CELLS - used, bytes);
+    task.told();
+    let var = PIPE_ENDS as u8 * pipe;
+    if active(domain, task, head_of(Watch::Var { var, old: 0 })) {
+        wake(
+            rt,
+            domain,
+            task,
+            Watch::Var { var, old: 0 },
+            Mode::Normal,
+            1,
+        );
+        return Ok(Some(put));
+    }
+    Ok(Some(put))
 }
 
-/// Fills free cells with as many of the bytes as fit, passes them on and wakes the reader. `count` is the number of
-/// cells that the task has stored, modulo `COUNTS`, and `free` that of the free ones.
-fn fill<R: Wait>(
-    rt: &R,
-    domain: &Domain,
-    task: &mut Task,
-    pipe: u8,
-    count: u16,
-    free: u16,
-    bytes: &[u8],
-) -> usize
+/// Fills free cells with as many of the bytes as fit, and passes them on; who waits for them is not woken yet. `count` is
+/// the number of cells that the task has stored, modulo `COUNTS`, and `free` that of the free ones.
+fn fill(domain: &Domain, task: &mut Task, pipe: u8, count: u16, free: u16, bytes: &[u8]) -> usize
     requires of { task.old.domain ≡ domain.now }
     requires up { IsUp task.old }
     requires idle { IsIdle task.old }
@@ -169,13 +207,11 @@ fn fill<R: Wait>(
     requires bytes { 0 < length bytes.now }
     ensures some { 0 < result }
     ensures most { result ≤ length bytes.now }
-    ensures moved { Moved (write_end pipe) task.old task.new (take result bytes.now) }
-    ensures ended { (writing pipe task.new).ended ≡ (writing pipe task.old).ended }
-    ensures cells { (writing pipe task.new).count ≡ (writing pipe task.old).count + (result + 6) / 7 }
-    ensures full { result < length bytes.now
-        → (writing pipe task.new).count ≡ (writing pipe task.new).seen + PIPE_CELLS }
-    ensures rests { Rests (write_end pipe) task.old task.new }
-    ensures stores { StoresCells (write_end pipe) task.old task.new bytes.now result }
+    ensures domain { task.new.domain ≡ task.old.domain }
+    ensures up { IsUp task.new }
+    ensures idle { IsIdle task.new }
+    ensures filled { (last : Known) → WokeWaiters (write_end pipe) task.new last
+        → Filled pipe task.old last bytes.now result }
 {
     task.told();
     let mut at = count;
@@ -193,7 +229,6 @@ fn fill<R: Wait>(
         left -= 1;
     }
     advance(domain, task, pipe, WRITE, at);
-    rouse(rt, domain, task, PIPE_ENDS as u8 * pipe);
     done
 }
 
@@ -222,6 +257,35 @@ pub fn read_piece<R: Wait>(
     ensures rests { Rests (read_end pipe) task.old task.new }
     ensures goes { ReadsPiece (read_end pipe) task.old task.new buf.new result }
 {
+    match read_now(rt, domain, task, pipe, buf) {
+        Ok(got) => Ok(got),
+        Err(found) => match wait_for(rt, domain, task, PIPE_ENDS as u8 * pipe + READ, found) {
+            Ok(()) => read_on(rt, domain, task, pipe, buf),
+            Err(end) => Err(end),
+        },
+    }
+}
+
+/// The turns of a task that reads a piece, behind one that has waited.
+fn read_on<R: Wait>(
+    rt: &R,
+    domain: &Domain,
+    task: &mut Task,
+    pipe: u8,
+    buf: &mut [u8],
+) -> Result<usize, PipeEnd>
+    requires of { task.old.domain ≡ domain.now }
+    requires up { IsUp task.old }
+    requires idle { IsIdle task.old }
+    requires out { IsOut task.old }
+    requires pipe { pipe < PIPES }
+    requires settled { IsSettled (reading pipe task.old) }
+    requires buf { 7 ≤ length buf.old }
+    ensures same { length buf.new ≡ length buf.old }
+    ensures piece { MatchResult result (Got pipe task.old task.new buf.new) (GotNone pipe task.old task.new) }
+    ensures rests { Rests (read_end pipe) task.old task.new }
+    ensures goes { ReadsPiece (read_end pipe) task.old task.new buf.new result }
+{
     for _ in rt.forever() {
         match read_turn(rt, domain, task, pipe, buf) {
             None => {}
@@ -231,8 +295,8 @@ pub fn read_piece<R: Wait>(
     unreachable!()
 }
 
-/// One turn of a task that reads a piece: a look at the writer's word, and then cells are taken, or the task waits for
-/// that word to change. None: it has waited, and goes on.
+/// A further turn of a task that reads a piece: a look at the writer's word, and then cells are taken, or the task waits
+/// for that word to change. None: it has waited, and goes on.
 fn read_turn<R: Wait>(
     rt: &R,
     domain: &Domain,
@@ -263,8 +327,8 @@ fn read_turn<R: Wait>(
     }
 }
 
-/// Reads a piece without waiting: a look at the writer's word, and then cells are taken; 0 where that end is closed and
-/// no cell is left. Err: no cell is there, and its word is this.
+/// Reads a piece without waiting: a look at the writer's word, and then cells are taken, and the writer is woken where it
+/// waits; 0 where that end is closed and no cell is left. Err: no cell is there, and its word is this.
 #[inline(always)]
 pub(crate) fn read_now<R: Wait>(
     rt: &R,
@@ -288,19 +352,33 @@ pub(crate) fn read_now<R: Wait>(
 {
     let look = look_over(domain, task, pipe, READ);
     let there = between(look.own, look.other);
-    if there > 0 {
-        return Ok(drain(rt, domain, task, pipe, look.own, there, buf));
+    if there == 0 {
+        if look.closed {
+            return Ok(0);
+        }
+        return Err(look.word);
     }
-    if look.closed {
-        return Ok(0);
+    let got = drain(domain, task, pipe, look.own, there, buf);
+    task.told();
+    let var = PIPE_ENDS as u8 * pipe + READ;
+    if active(domain, task, head_of(Watch::Var { var, old: 0 })) {
+        wake(
+            rt,
+            domain,
+            task,
+            Watch::Var { var, old: 0 },
+            Mode::Normal,
+            1,
+        );
+        return Ok(got);
     }
-    Err(look.word)
+    Ok(got)
 }
 
-/// Takes cells as long as the buffer has room for a whole one, gives them back and wakes the writer. `count` is the
-/// number of cells that the task has loaded, modulo `COUNTS`, and `there` that of those that were passed on.
-fn drain<R: Wait>(
-    rt: &R,
+/// Takes cells as long as the buffer has room for a whole one, and gives them back; who waits for them is not woken yet.
+/// `count` is the number of cells that the task has loaded, modulo `COUNTS`, and `there` that of those that were passed
+/// on.
+fn drain(
     domain: &Domain,
     task: &mut Task,
     pipe: u8,
@@ -321,10 +399,11 @@ fn drain<R: Wait>(
     ensures same { length buf.new ≡ length buf.old }
     ensures some { 0 < result }
     ensures most { result ≤ length buf.new }
-    ensures moved { Moved (read_end pipe) task.old task.new (take result buf.new) }
-    ensures all { result + 7 ≤ length buf.new → (reading pipe task.new).count ≡ (reading pipe task.new).seen }
-    ensures rests { Rests (read_end pipe) task.old task.new }
-    ensures loads { LoadsCells (read_end pipe) task.old task.new buf.new result }
+    ensures domain { task.new.domain ≡ task.old.domain }
+    ensures up { IsUp task.new }
+    ensures idle { IsIdle task.new }
+    ensures drained { (last : Known) → WokeWaiters (read_end pipe) task.new last
+        → Drained pipe task.old last buf.new result }
 {
     task.told();
     let mut at = count;
@@ -337,6 +416,5 @@ fn drain<R: Wait>(
         left -= 1;
     }
     advance(domain, task, pipe, READ, at);
-    rouse(rt, domain, task, PIPE_ENDS as u8 * pipe + READ);
     done
 }

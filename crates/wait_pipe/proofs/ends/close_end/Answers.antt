@@ -12,23 +12,23 @@ rouse-requires-clause-idle g c = made_idle (with_end (PIPE_ENDS * c.args.pipe + 
     (PIPE_ENDS * c.args.pipe + c.args.end) c.args.task.now c.close.new.task c.requires.idle c.close.ensures.carries
 
 pub returns-clause-own : goal.returns-clause-own
-returns-clause-own g c = c.rouse.ensures.own ∙ c.close.ensures.becomes.own
+returns-clause-own g c = c.rouse.ensures.roused.own ∙ c.close.ensures.becomes.own
 
 pub returns-clause-others : goal.returns-clause-others
 returns-clause-others g c = others_on (PIPE_ENDS * c.args.pipe + c.args.end) c.args.task.now c.close.new.task
     c.rouse.new.task (others_becomes (PIPE_ENDS * c.args.pipe + c.args.end) c.args.task.now c.close.new.task _
-    c.close.ensures.becomes) c.rouse.ensures.others
+    c.close.ensures.becomes) c.rouse.ensures.roused.others
 
 pub returns-clause-ends : goal.returns-clause-ends
 returns-clause-ends g c =
     let made = c.close.ensures.step in
     leaves_made (with_end (PIPE_ENDS * c.args.pipe + c.args.end)) (PIPE_ENDS * c.args.pipe + c.args.end)
-    c.args.task.now c.close.new.task c.rouse.new.task c.rouse.ensures.up c.requires.idle c.rouse.ensures.idle
-    c.requires.out (c.told.ensures.head ∙ c.requires.idle.free.head) c.close.ensures.carries c.rouse.ensures.carries
+    c.args.task.now c.close.new.task c.rouse.new.task c.rouse.ensures.roused.up c.requires.idle c.rouse.ensures.roused.idle
+    c.requires.out (c.told.ensures.head ∙ c.requires.idle.free.head) c.close.ensures.carries c.rouse.ensures.roused.carries
     (quiet_on c.args.task.now c.close.new.task c.rouse.new.task (subst (LeavesAside c.args.task.now) (sym made.1)
-    (quiet_publish c.args.task.now (PIPE_ENDS * c.args.pipe + c.args.end) 0 _ made.0)) c.rouse.ensures.quiet)
+    (quiet_publish c.args.task.now (PIPE_ENDS * c.args.pipe + c.args.end) 0 _ made.0)) c.rouse.ensures.roused.quiet)
 
 pub returns-clause-closes : goal.returns-clause-closes
 returns-clause-closes g c =
     let made = c.close.ensures.step in
-    (c.rouse.result, c.rouse.ensures.wakes c.args.task.now _ made.0 made.1)
+    (c.rouse.ensures.roused.walked, c.rouse.ensures.roused.wakes c.args.task.now _ made.0 made.1)

@@ -28,11 +28,11 @@ use Rattle.wait_pipe.proofs.pieces.fill.Goals.{
 use Rattle.wait_pipe.proofs.pieces.fill.Goals as goal
 
 pub loop-left-init : goal.loop-left-init
-loop-left-init g c = fill_begins c.args.pipe c.args.task.now c.args.bytes.now c.args.count c.args.free
+loop-left-init c = fill_begins c.args.pipe c.args.task.now c.args.bytes.now c.args.count c.args.free
     c.requires.settled c.requires.count c.requires.free c.requires.room
 
 pub loop-left-preserved : goal.loop-left-preserved
-loop-left-preserved g c =
+loop-left-preserved c =
     let done_few = c.if-done-bytes.true in
     let low : c.loop-left.done < c.if-bytes-done-lt7.end = elim c.if-bytes-done-lt7.branch [
       | then-bytes-done-lt7 w ↦ let e = w.end-is in omega arith
@@ -57,67 +57,26 @@ loop-left-preserved g c =
     c.cell_store.ensures.becomes c.cell_store.ensures.carries
 
 pub advance-requires-clause-idle : goal.advance-requires-clause-idle
-advance-requires-clause-idle g c = idle_still (write_end c.args.pipe) c.args.task.now c.loop-left.task
+advance-requires-clause-idle c = idle_still (write_end c.args.pipe) c.args.task.now c.loop-left.task
     c.loop-left.invariant.same c.requires.idle
 
 pub advance-requires-clause-still : goal.advance-requires-clause-still
-advance-requires-clause-still g c = subst (λ (k : ℕ). IsOpen (end_at k c.loop-left.task))
+advance-requires-clause-still c = subst (λ (k : ℕ). IsOpen (end_at k c.loop-left.task))
     (sym (add-zero (PIPE_ENDS * c.args.pipe))) c.loop-left.invariant.midway.still
 
 pub advance-requires-clause-count : goal.advance-requires-clause-count
-advance-requires-clause-count g c = subst (λ (k : ℕ). c.loop-left.at ≡ length (end_at k c.loop-left.task).cells
+advance-requires-clause-count c = subst (λ (k : ℕ). c.loop-left.at ≡ length (end_at k c.loop-left.task).cells
     % word_counts) (sym (add-zero (PIPE_ENDS * c.args.pipe))) c.loop-left.invariant.place
 
-pub rouse-requires-clause-idle : goal.rouse-requires-clause-idle
-rouse-requires-clause-idle g c = set_idle (watch.Var (PIPE_ENDS * c.args.pipe + 0) 0) c.loop-left.task
+pub returns-clause-idle : goal.returns-clause-idle
+returns-clause-idle c = set_idle (watch.Var (PIPE_ENDS * c.args.pipe + 0) 0) c.loop-left.task
     c.advance.new.task (idle_still (write_end c.args.pipe) c.args.task.now c.loop-left.task
     c.loop-left.invariant.same c.requires.idle) c.advance.ensures.carries
 
-pub returns-clause-moved : goal.returns-clause-moved
-returns-clause-moved g c = fill_ends c.args.pipe c.args.task.now c.loop-left.task c.advance.new.task
-    c.rouse.new.task c.args.bytes.now c.loop-left.at c.loop-left.left c.loop-left.done c.requires.settled
-    c.loop-left.invariant
-    (advanced_write c.args.pipe c.loop-left.task c.advance.new.task c.advance.ensures.becomes)
-    c.rouse.ensures.others c.rouse.ensures.own
-
-pub returns-clause-ended : goal.returns-clause-ended
-returns-clause-ended g c = fill_ended c.args.pipe c.args.task.now c.loop-left.task c.advance.new.task
-    c.rouse.new.task c.args.bytes.now c.loop-left.at c.loop-left.left c.loop-left.done c.loop-left.invariant
-    (advanced_write c.args.pipe c.loop-left.task c.advance.new.task c.advance.ensures.becomes) c.rouse.ensures.own
-
-pub returns-clause-cells : goal.returns-clause-cells
-returns-clause-cells g c = fill_cells c.args.pipe c.args.task.now c.loop-left.task c.advance.new.task
-    c.rouse.new.task c.args.bytes.now c.loop-left.at c.loop-left.left c.loop-left.done c.requires.settled
-    c.loop-left.invariant
-    (advanced_write c.args.pipe c.loop-left.task c.advance.new.task c.advance.ensures.becomes) c.rouse.ensures.own
-
-pub returns-clause-full : goal.returns-clause-full
-returns-clause-full g c = λ few.
-    let none : c.loop-left.left ≡ 0 = elim c.loop-left-test.branch [
-      | then-loop-left-test+else-done-bytes w ↦ let all = w.if-done-bytes in absurd (omega arith)
-      | else-loop-left-test w ↦ let none = w.loop-left-test in omega arith
-    ] in
-    fill_full c.args.pipe c.args.task.now c.loop-left.task c.advance.new.task
-    c.rouse.new.task c.args.bytes.now c.loop-left.at c.loop-left.left c.loop-left.done c.loop-left.invariant
-    (advanced_write c.args.pipe c.loop-left.task c.advance.new.task c.advance.ensures.becomes) c.rouse.ensures.own none
-
-pub returns-clause-rests : goal.returns-clause-rests
-returns-clause-rests g c =
+pub returns-clause-filled : goal.returns-clause-filled
+returns-clause-filled c = λ last r.
     let made = c.advance.ensures.step in
-    let passes = subst (LeavesAside c.loop-left.task) (sym made.1)
-    (quiet_publish c.loop-left.task (PIPE_ENDS * c.args.pipe + 0) 0 (2 * c.loop-left.at) made.0) in
-    leaves_made (λ x. x) (write_end c.args.pipe) c.args.task.now c.advance.new.task c.rouse.new.task
-    c.rouse.ensures.up c.requires.idle c.rouse.ensures.idle c.requires.out
-    (c.told.ensures.head ∙ c.requires.idle.free.head)
-    (still_publishes (watch.Var (write_end c.args.pipe) 0) c.args.task.now c.loop-left.task c.advance.new.task
-    c.loop-left.invariant.same (subst (λ (k : ℕ). Carries (publish_change (watch.Var k 0)) c.loop-left.task
-    c.advance.new.task) (add-zero (PIPE_ENDS * c.args.pipe)) c.advance.ensures.carries)) c.rouse.ensures.carries
-    (quiet_on c.args.task.now c.loop-left.task c.rouse.new.task c.loop-left.invariant.quiet
-    (quiet_on c.loop-left.task c.advance.new.task c.rouse.new.task passes c.rouse.ensures.quiet))
-
-pub returns-clause-stores : goal.returns-clause-stores
-returns-clause-stores g c =
-    let made = c.advance.ensures.step in
+    let step = advanced_write c.args.pipe c.loop-left.task c.advance.new.task c.advance.ensures.becomes in
     let none : c.loop-left.done < length c.args.bytes.now → c.loop-left.left ≡ 0 = λ few.
     elim c.loop-left-test.branch [
       | then-loop-left-test+else-done-bytes w ↦ let all = w.if-done-bytes in absurd (omega arith)
@@ -129,7 +88,25 @@ returns-clause-stores g c =
       | then-loop-left-test+else-done-bytes w ↦ let all = w.if-done-bytes in omega arith
       | else-loop-left-test w ↦ let none_left = w.loop-left-test in omega arith
     ] in
-    fill_stores c.args.pipe (PIPE_ENDS * c.args.pipe + 0) c.args.task.now c.loop-left.task
-    c.advance.new.task c.rouse.new.task c.args.bytes.now c.loop-left.at c.loop-left.left c.loop-left.done made.0
-    c.rouse.result c.requires.settled c.loop-left.invariant made.1 (add-zero (PIPE_ENDS * c.args.pipe)) some none
-    c.rouse.ensures.wakes
+    let passes = subst (LeavesAside c.loop-left.task) (sym made.1)
+    (quiet_publish c.loop-left.task (PIPE_ENDS * c.args.pipe + 0) 0 (2 * c.loop-left.at) made.0) in record {
+      moved = fill_ends c.args.pipe c.args.task.now c.loop-left.task c.advance.new.task last c.args.bytes.now
+          c.loop-left.at c.loop-left.left c.loop-left.done c.requires.settled c.loop-left.invariant step r.others r.own;
+      ended = fill_ended c.args.pipe c.args.task.now c.loop-left.task c.advance.new.task last c.args.bytes.now
+          c.loop-left.at c.loop-left.left c.loop-left.done c.loop-left.invariant step r.own;
+      cells = fill_cells c.args.pipe c.args.task.now c.loop-left.task c.advance.new.task last c.args.bytes.now
+          c.loop-left.at c.loop-left.left c.loop-left.done c.requires.settled c.loop-left.invariant step r.own;
+      full = λ few. fill_full c.args.pipe c.args.task.now c.loop-left.task c.advance.new.task last c.args.bytes.now
+          c.loop-left.at c.loop-left.left c.loop-left.done c.loop-left.invariant step r.own (none few);
+      rests = leaves_made (λ x. x) (write_end c.args.pipe) c.args.task.now c.advance.new.task last
+          r.up c.requires.idle r.idle c.requires.out (c.told.ensures.head ∙ c.requires.idle.free.head)
+          (still_publishes (watch.Var (write_end c.args.pipe) 0) c.args.task.now c.loop-left.task c.advance.new.task
+          c.loop-left.invariant.same (subst (λ (k : ℕ). Carries (publish_change (watch.Var k 0)) c.loop-left.task
+          c.advance.new.task) (add-zero (PIPE_ENDS * c.args.pipe)) c.advance.ensures.carries)) r.carries
+          (quiet_on c.args.task.now c.loop-left.task last c.loop-left.invariant.quiet
+          (quiet_on c.loop-left.task c.advance.new.task last passes r.quiet));
+      stores = fill_stores c.args.pipe (PIPE_ENDS * c.args.pipe + 0) c.args.task.now c.loop-left.task
+          c.advance.new.task last c.args.bytes.now c.loop-left.at c.loop-left.left c.loop-left.done made.0
+          r.walked c.requires.settled c.loop-left.invariant made.1 (add-zero (PIPE_ENDS * c.args.pipe)) some none
+          r.wakes;
+    }

@@ -1,5 +1,9 @@
-use Rattle.std.proofs.Common.{◌∙◌, arith}
+use Rattle.std.proofs.Common.{◌∙◌, arith, subst, sym}
+use Rattle.std.specs.Prelude.{ℕ, ◌<◌}
+use Rattle.wait_model.specs.declared.layout.TheConstants.{HEADS}
+use Rattle.wait_model.specs.declared.watches.Watch.TheVariants as watch
 use Rattle.wait_rule.specs.Pipes.{read_end}
+use Rattle.wait_class.proofs.WatchHeads.{watch_fits}
 use Rattle.wait_pipe.proofs.Fills.{
   at_end,
   count_place,
@@ -11,6 +15,8 @@ use Rattle.wait_pipe.proofs.Fills.{
   waited_settled,
   word_ended,
 }
+use Rattle.wait_pipe.proofs.PieceChanges.{idle_still}
+use Rattle.wait_pipe.proofs.Rousing.{roused_none, roused_some}
 use Rattle.wait_pipe.proofs.Turns.{
   got_drained,
   got_end,
@@ -44,60 +50,105 @@ pub between-there-requires-clause-to : goal.between-there-requires-clause-to
 between-there-requires-clause-to g c = other_below c.args.pipe c.look_over-look.new.task
     c.look_over-look.result (read_end c.args.pipe) c.look_over-look.ensures.seen
 
-pub drain-requires-clause-of : goal.drain-requires-clause-of
-drain-requires-clause-of g c = c.look_over-look.ensures.waits.rests.carries.domain ∙ c.requires.of
+pub drain-got-requires-clause-of : goal.drain-got-requires-clause-of
+drain-got-requires-clause-of g c = c.look_over-look.ensures.waits.rests.carries.domain ∙ c.requires.of
 
-pub drain-requires-clause-up : goal.drain-requires-clause-up
-drain-requires-clause-up g c = c.look_over-look.ensures.waits.rests.up
+pub drain-got-requires-clause-up : goal.drain-got-requires-clause-up
+drain-got-requires-clause-up g c = c.look_over-look.ensures.waits.rests.up
 
-pub drain-requires-clause-idle : goal.drain-requires-clause-idle
-drain-requires-clause-idle g c = c.look_over-look.ensures.waits.rests.idle
+pub drain-got-requires-clause-idle : goal.drain-got-requires-clause-idle
+drain-got-requires-clause-idle g c = c.look_over-look.ensures.waits.rests.idle
 
-pub drain-requires-clause-out : goal.drain-requires-clause-out
-drain-requires-clause-out g c = c.look_over-look.ensures.waits.rests.out
+pub drain-got-requires-clause-out : goal.drain-got-requires-clause-out
+drain-got-requires-clause-out g c = c.look_over-look.ensures.waits.rests.out
 
-pub drain-requires-clause-settled : goal.drain-requires-clause-settled
-drain-requires-clause-settled g c = waited_settled (read_end c.args.pipe) c.args.task.now c.look_over-look.new.task
+pub drain-got-requires-clause-settled : goal.drain-got-requires-clause-settled
+drain-got-requires-clause-settled g c = waited_settled (read_end c.args.pipe) c.args.task.now c.look_over-look.new.task
     c.look_over-look.ensures.waits c.requires.settled
 
-pub drain-requires-clause-count : goal.drain-requires-clause-count
-unfolding drain-requires-clause-settled
-drain-requires-clause-count g c = count_place c.args.pipe c.look_over-look.new.task c.look_over-look.result
-    (read_end c.args.pipe) c.look_over-look.ensures.seen (drain-requires-clause-settled g c)
+pub drain-got-requires-clause-count : goal.drain-got-requires-clause-count
+unfolding drain-got-requires-clause-settled
+drain-got-requires-clause-count g c = count_place c.args.pipe c.look_over-look.new.task c.look_over-look.result
+    (read_end c.args.pipe) c.look_over-look.ensures.seen (drain-got-requires-clause-settled g c)
 
-pub drain-requires-clause-there : goal.drain-requires-clause-there
-unfolding drain-requires-clause-settled
-drain-requires-clause-there g c = there_is c.args.pipe c.look_over-look.new.task c.look_over-look.result
-    c.look_over-look.ensures.seen (drain-requires-clause-settled g c) c.between-there.result
+pub drain-got-requires-clause-there : goal.drain-got-requires-clause-there
+unfolding drain-got-requires-clause-settled
+drain-got-requires-clause-there g c = there_is c.args.pipe c.look_over-look.new.task c.look_over-look.result
+    c.look_over-look.ensures.seen (drain-got-requires-clause-settled g c) c.between-there.result
     c.between-there.ensures
 
-pub drain-requires-clause-some_cell : goal.drain-requires-clause-some_cell
-drain-requires-clause-some_cell g c = c.if-there-gt0.true
+pub drain-got-requires-clause-some_cell : goal.drain-got-requires-clause-some_cell
+drain-got-requires-clause-some_cell g c = let some = c.if-there-eq0.false in omega arith
 
-pub returns-then-there-gt0-clause-look : goal.returns-then-there-gt0-clause-look
-returns-then-there-gt0-clause-look g c = got_drained c.args.pipe c.args.task.now c.look_over-look.new.task
-    c.look_over-look.ensures.waits c.requires.settled c.drain.new.task c.drain.new.buf c.drain.result
-    c.drain.ensures.some c.drain.ensures.most c.drain.ensures.moved c.drain.ensures.all
+pub active-requires-clause-of : goal.active-requires-clause-of
+active-requires-clause-of g c = c.drain-got.ensures.domain ∙ (c.look_over-look.ensures.waits.rests.carries.domain ∙ c.requires.of)
 
-pub returns-then-there-gt0-clause-rests : goal.returns-then-there-gt0-clause-rests
-returns-then-there-gt0-clause-rests g c = then_rests (read_end c.args.pipe) c.args.task.now
-    c.look_over-look.new.task c.drain.new.task c.look_over-look.ensures.waits c.drain.ensures.rests
+pub active-requires-clause-head : goal.active-requires-clause-head
+active-requires-clause-head g c =
+    let few = c.requires.pipe in
+    subst (λ (n : ℕ). n < HEADS) (sym c.head_of.ensures)
+    (watch_fits (watch.Var (read_end c.args.pipe) 0) (omega arith))
+
+pub wake-requires-clause-of : goal.wake-requires-clause-of
+wake-requires-clause-of g c = c.active.ensures.carries.domain
+    ∙ (c.drain-got.ensures.domain ∙ (c.look_over-look.ensures.waits.rests.carries.domain ∙ c.requires.of))
+
+pub wake-requires-clause-up : goal.wake-requires-clause-up
+wake-requires-clause-up g c = c.active.ensures.carries.awake ∙ c.drain-got.ensures.up
+
+pub wake-requires-clause-idle : goal.wake-requires-clause-idle
+wake-requires-clause-idle g c = idle_still (read_end c.args.pipe) c.drain-got.new.task c.active.new.task
+    c.active.ensures.carries c.drain-got.ensures.idle
+
+pub wake-requires-clause-full : goal.wake-requires-clause-full
+wake-requires-clause-full g c =
+    let few = c.requires.pipe in
+    omega arith
+
+pub returns-then-active : goal.returns-then-active
+returns-then-active g c =
+    let d = c.drain-got.ensures.drained c.wake.new.task (roused_some (read_end c.args.pipe) c.drain-got.new.task c.active.new.task c.head_of.result c.active.result
+    c.head_of.ensures c.drain-got.ensures.idle (c.told.ensures.head ∙ c.drain-got.ensures.idle.free.head)
+    c.active.ensures.scanned c.active.ensures.carries c.if-active.true c.wake.new.task c.wake.result
+    c.wake.ensures.woken c.wake.ensures.ended c.wake.ensures.up c.wake.ensures.idle c.wake.ensures.carries) in record {
+      same = c.drain-got.ensures.same;
+      look = got_drained c.args.pipe c.args.task.now c.look_over-look.new.task c.look_over-look.ensures.waits
+          c.requires.settled c.wake.new.task c.drain-got.new.buf c.drain-got.result c.drain-got.ensures.some
+          c.drain-got.ensures.most d;
+      rests = then_rests (read_end c.args.pipe) c.args.task.now c.look_over-look.new.task c.wake.new.task
+          c.look_over-look.ensures.waits d.rests;
+      goes = read_some (read_end c.args.pipe) c.drain-got.result c.args.task.now c.look_over-look.new.task
+          c.wake.new.task c.drain-got.new.buf
+          (look_shows c.args.pipe c.look_over-look.new.task c.look_over-look.result (read_end c.args.pipe)
+          c.args.task.now c.look_over-look.ensures.seen c.look_over-look.ensures.loads) c.drain-got.ensures.some d.loads;
+    }
+
+pub returns : goal.returns
+returns g c =
+    let d = c.drain-got.ensures.drained c.active.new.task (roused_none (read_end c.args.pipe) c.drain-got.new.task c.active.new.task c.head_of.result c.active.result
+    c.head_of.ensures c.drain-got.ensures.idle (c.told.ensures.head ∙ c.drain-got.ensures.idle.free.head)
+    c.active.ensures.scanned c.active.ensures.carries c.if-active.false
+    (c.active.ensures.carries.awake ∙ c.drain-got.ensures.up) (c.active.ensures.ended c.if-active.false)) in record {
+      same = c.drain-got.ensures.same;
+      look = got_drained c.args.pipe c.args.task.now c.look_over-look.new.task c.look_over-look.ensures.waits
+          c.requires.settled c.active.new.task c.drain-got.new.buf c.drain-got.result c.drain-got.ensures.some
+          c.drain-got.ensures.most d;
+      rests = then_rests (read_end c.args.pipe) c.args.task.now c.look_over-look.new.task c.active.new.task
+          c.look_over-look.ensures.waits d.rests;
+      goes = read_some (read_end c.args.pipe) c.drain-got.result c.args.task.now c.look_over-look.new.task
+          c.active.new.task c.drain-got.new.buf
+          (look_shows c.args.pipe c.look_over-look.new.task c.look_over-look.result (read_end c.args.pipe)
+          c.args.task.now c.look_over-look.ensures.seen c.look_over-look.ensures.loads) c.drain-got.ensures.some d.loads;
+    }
 
 pub returns-then-look-clause-look : goal.returns-then-look-clause-look
 returns-then-look-clause-look g c = got_end c.args.pipe c.args.task.now c.look_over-look.new.task
     c.look_over-look.ensures.waits c.requires.settled c.look_over-look.result c.args.buf.now c.between-there.result
-    c.look_over-look.ensures.seen c.between-there.ensures (let none = c.if-there-gt0.false in omega arith)
+    c.look_over-look.ensures.seen c.between-there.ensures (let none = c.if-there-eq0.true in omega arith)
     (let shut = c.if-look.true in cc)
 
 pub returns-then-look-clause-rests : goal.returns-then-look-clause-rests
 returns-then-look-clause-rests g c = c.look_over-look.ensures.waits.rests
-
-pub returns-then-there-gt0-clause-goes : goal.returns-then-there-gt0-clause-goes
-returns-then-there-gt0-clause-goes g c = read_some (read_end c.args.pipe) c.drain.result c.args.task.now
-    c.look_over-look.new.task c.drain.new.task c.drain.new.buf
-    (look_shows c.args.pipe c.look_over-look.new.task c.look_over-look.result (read_end c.args.pipe)
-    c.args.task.now c.look_over-look.ensures.seen c.look_over-look.ensures.loads) c.drain.ensures.some
-    c.drain.ensures.loads
 
 pub returns-then-look-clause-goes : goal.returns-then-look-clause-goes
 returns-then-look-clause-goes g c =
@@ -106,7 +157,7 @@ returns-then-look-clause-goes g c =
     let end = at_end c.args.pipe c.look_over-look.new.task c.look_over-look.result seen
     (waited_settled (read_end c.args.pipe) c.args.task.now c.look_over-look.new.task c.look_over-look.ensures.waits
     c.requires.settled) c.between-there.result c.between-there.ensures
-    (let none = c.if-there-gt0.false in omega arith) (let is = shut in cc) in
+    (let none = c.if-there-eq0.true in omega arith) (let is = shut in cc) in
     read_none (read_end c.args.pipe) c.args.task.now c.look_over-look.new.task c.args.buf.now
     (saw_closed (read_end c.args.pipe) c.args.task.now c.look_over-look.new.task
     (look_shows c.args.pipe c.look_over-look.new.task c.look_over-look.result (read_end c.args.pipe)
@@ -114,15 +165,15 @@ returns-then-look-clause-goes g c =
     (word_ended c.args.pipe c.look_over-look.new.task c.look_over-look.result (read_end c.args.pipe) seen
     (let is = shut in cc))) end.all
 
-pub returns-clause-look : goal.returns-clause-look
-returns-clause-look g c = record {
+pub returns-then-there-eq0-clause-look : goal.returns-then-there-eq0-clause-look
+returns-then-there-eq0-clause-look g c = record {
   waits = c.look_over-look.ensures.waits;
   none = none_there c.args.pipe c.look_over-look.new.task c.look_over-look.result c.look_over-look.ensures.seen
       (waited_settled (read_end c.args.pipe) c.args.task.now c.look_over-look.new.task
       c.look_over-look.ensures.waits c.requires.settled) c.between-there.result c.between-there.ensures
-      (let none = c.if-there-gt0.false in omega arith) c.if-look.false;
+      (let none = c.if-there-eq0.true in omega arith) c.if-look.false;
   loads = c.look_over-look.ensures.loads;
 }
 
-pub returns-clause-rests : goal.returns-clause-rests
-returns-clause-rests g c = c.look_over-look.ensures.waits.rests
+pub returns-then-there-eq0-clause-rests : goal.returns-then-there-eq0-clause-rests
+returns-then-there-eq0-clause-rests g c = c.look_over-look.ensures.waits.rests

@@ -1,5 +1,9 @@
-use Rattle.std.proofs.Common.{◌∙◌, arith}
+use Rattle.std.proofs.Common.{◌∙◌, arith, subst, sym}
+use Rattle.std.specs.Prelude.{ℕ, ◌<◌}
+use Rattle.wait_model.specs.declared.layout.TheConstants.{HEADS}
+use Rattle.wait_model.specs.declared.watches.Watch.TheVariants as watch
 use Rattle.wait_rule.specs.Pipes.{write_end}
+use Rattle.wait_class.proofs.WatchHeads.{watch_fits}
 use Rattle.wait_pipe.proofs.Fills.{
   count_place,
   free_is,
@@ -11,6 +15,8 @@ use Rattle.wait_pipe.proofs.Fills.{
   word_ended,
   word_open,
 }
+use Rattle.wait_pipe.proofs.PieceChanges.{idle_still}
+use Rattle.wait_pipe.proofs.Rousing.{roused_none, roused_some}
 use Rattle.wait_pipe.proofs.Turns.{
   put_broken,
   put_filled,
@@ -50,45 +56,98 @@ pub between-used-requires-clause-to : goal.between-used-requires-clause-to
 between-used-requires-clause-to g c = own_below c.args.pipe c.look_to_write-look.new.task
     c.look_to_write-look.result (write_end c.args.pipe) c.look_to_write-look.ensures.seen
 
-pub fill-requires-clause-of : goal.fill-requires-clause-of
-fill-requires-clause-of g c = c.look_to_write-look.ensures.waits.rests.carries.domain ∙ c.requires.of
+pub fill-put-requires-clause-of : goal.fill-put-requires-clause-of
+fill-put-requires-clause-of g c = c.look_to_write-look.ensures.waits.rests.carries.domain ∙ c.requires.of
 
-pub fill-requires-clause-up : goal.fill-requires-clause-up
-fill-requires-clause-up g c = c.look_to_write-look.ensures.waits.rests.up
+pub fill-put-requires-clause-up : goal.fill-put-requires-clause-up
+fill-put-requires-clause-up g c = c.look_to_write-look.ensures.waits.rests.up
 
-pub fill-requires-clause-idle : goal.fill-requires-clause-idle
-fill-requires-clause-idle g c = c.look_to_write-look.ensures.waits.rests.idle
+pub fill-put-requires-clause-idle : goal.fill-put-requires-clause-idle
+fill-put-requires-clause-idle g c = c.look_to_write-look.ensures.waits.rests.idle
 
-pub fill-requires-clause-out : goal.fill-requires-clause-out
-fill-requires-clause-out g c = c.look_to_write-look.ensures.waits.rests.out
+pub fill-put-requires-clause-out : goal.fill-put-requires-clause-out
+fill-put-requires-clause-out g c = c.look_to_write-look.ensures.waits.rests.out
 
-pub fill-requires-clause-settled : goal.fill-requires-clause-settled
-fill-requires-clause-settled g c = waited_settled (write_end c.args.pipe) c.args.task.now c.look_to_write-look.new.task
+pub fill-put-requires-clause-settled : goal.fill-put-requires-clause-settled
+fill-put-requires-clause-settled g c = waited_settled (write_end c.args.pipe) c.args.task.now c.look_to_write-look.new.task
     c.look_to_write-look.ensures.waits c.requires.settled
 
-pub fill-requires-clause-count : goal.fill-requires-clause-count
-unfolding fill-requires-clause-settled
-fill-requires-clause-count g c = count_place c.args.pipe c.look_to_write-look.new.task c.look_to_write-look.result
-    (write_end c.args.pipe) c.look_to_write-look.ensures.seen (fill-requires-clause-settled g c)
+pub fill-put-requires-clause-count : goal.fill-put-requires-clause-count
+unfolding fill-put-requires-clause-settled
+fill-put-requires-clause-count g c = count_place c.args.pipe c.look_to_write-look.new.task c.look_to_write-look.result
+    (write_end c.args.pipe) c.look_to_write-look.ensures.seen (fill-put-requires-clause-settled g c)
 
-pub fill-requires-clause-free : goal.fill-requires-clause-free
-unfolding fill-requires-clause-settled
-fill-requires-clause-free g c = free_is c.args.pipe c.look_to_write-look.new.task c.look_to_write-look.result
-    c.look_to_write-look.ensures.seen (fill-requires-clause-settled g c) c.between-used.result
+pub fill-put-requires-clause-free : goal.fill-put-requires-clause-free
+unfolding fill-put-requires-clause-settled
+fill-put-requires-clause-free g c = free_is c.args.pipe c.look_to_write-look.new.task c.look_to_write-look.result
+    c.look_to_write-look.ensures.seen (fill-put-requires-clause-settled g c) c.between-used.result
     c.between-used.ensures
 
-pub fill-requires-clause-room : goal.fill-requires-clause-room
-fill-requires-clause-room g c = let few = c.if-used-lt-PIPE_CELLS.true in omega arith
+pub fill-put-requires-clause-room : goal.fill-put-requires-clause-room
+fill-put-requires-clause-room g c = let few = c.if-used-ge-PIPE_CELLS.false in omega arith
 
-pub returns-then-used-lt-PIPE_CELLS-clause-look : goal.returns-then-used-lt-PIPE_CELLS-clause-look
-returns-then-used-lt-PIPE_CELLS-clause-look g c = put_filled c.args.pipe c.args.task.now c.look_to_write-look.new.task
-    c.look_to_write-look.ensures.waits c.requires.settled c.fill.new.task c.args.bytes.now c.fill.result
-    c.fill.ensures.some c.fill.ensures.most c.fill.ensures.moved c.fill.ensures.ended
-    (c.look_to_write-look.ensures.seen.ended ∙ c.if-look.false) c.fill.ensures.cells c.fill.ensures.full
+pub active-requires-clause-of : goal.active-requires-clause-of
+active-requires-clause-of g c = c.fill-put.ensures.domain ∙ (c.look_to_write-look.ensures.waits.rests.carries.domain ∙ c.requires.of)
 
-pub returns-then-used-lt-PIPE_CELLS-clause-rests : goal.returns-then-used-lt-PIPE_CELLS-clause-rests
-returns-then-used-lt-PIPE_CELLS-clause-rests g c = then_rests (write_end c.args.pipe) c.args.task.now
-    c.look_to_write-look.new.task c.fill.new.task c.look_to_write-look.ensures.waits c.fill.ensures.rests
+pub active-requires-clause-head : goal.active-requires-clause-head
+active-requires-clause-head g c =
+    let few = c.requires.pipe in
+    subst (λ (n : ℕ). n < HEADS) (sym c.head_of.ensures)
+    (watch_fits (watch.Var (write_end c.args.pipe) 0) (omega arith))
+
+pub wake-requires-clause-of : goal.wake-requires-clause-of
+wake-requires-clause-of g c = c.active.ensures.carries.domain
+    ∙ (c.fill-put.ensures.domain ∙ (c.look_to_write-look.ensures.waits.rests.carries.domain ∙ c.requires.of))
+
+pub wake-requires-clause-up : goal.wake-requires-clause-up
+wake-requires-clause-up g c = c.active.ensures.carries.awake ∙ c.fill-put.ensures.up
+
+pub wake-requires-clause-idle : goal.wake-requires-clause-idle
+wake-requires-clause-idle g c = idle_still (write_end c.args.pipe) c.fill-put.new.task c.active.new.task
+    c.active.ensures.carries c.fill-put.ensures.idle
+
+pub wake-requires-clause-full : goal.wake-requires-clause-full
+wake-requires-clause-full g c =
+    let few = c.requires.pipe in
+    omega arith
+
+pub returns-then-active : goal.returns-then-active
+returns-then-active g c =
+    let f = c.fill-put.ensures.filled c.wake.new.task (roused_some (write_end c.args.pipe) c.fill-put.new.task c.active.new.task c.head_of.result c.active.result
+    c.head_of.ensures c.fill-put.ensures.idle (c.told.ensures.head ∙ c.fill-put.ensures.idle.free.head)
+    c.active.ensures.scanned c.active.ensures.carries c.if-active.true c.wake.new.task c.wake.result
+    c.wake.ensures.woken c.wake.ensures.ended c.wake.ensures.up c.wake.ensures.idle c.wake.ensures.carries) in record {
+      look = put_filled c.args.pipe c.args.task.now c.look_to_write-look.new.task c.look_to_write-look.ensures.waits
+          c.requires.settled c.wake.new.task c.args.bytes.now c.fill-put.result c.fill-put.ensures.some
+          c.fill-put.ensures.most f (c.look_to_write-look.ensures.seen.ended ∙ c.if-look.false);
+      rests = then_rests (write_end c.args.pipe) c.args.task.now c.look_to_write-look.new.task c.wake.new.task
+          c.look_to_write-look.ensures.waits f.rests;
+      goes = wrote_some (write_end c.args.pipe) c.fill-put.result c.args.task.now c.look_to_write-look.new.task
+          c.wake.new.task c.args.bytes.now
+          (look_shows c.args.pipe c.look_to_write-look.new.task c.look_to_write-look.result (write_end c.args.pipe)
+          c.args.task.now c.look_to_write-look.ensures.seen c.look_to_write-look.ensures.loads)
+          (word_open c.args.pipe c.look_to_write-look.new.task c.look_to_write-look.result (write_end c.args.pipe)
+          c.look_to_write-look.ensures.seen c.if-look.false) f.stores;
+    }
+
+pub returns : goal.returns
+returns g c =
+    let f = c.fill-put.ensures.filled c.active.new.task (roused_none (write_end c.args.pipe) c.fill-put.new.task c.active.new.task c.head_of.result c.active.result
+    c.head_of.ensures c.fill-put.ensures.idle (c.told.ensures.head ∙ c.fill-put.ensures.idle.free.head)
+    c.active.ensures.scanned c.active.ensures.carries c.if-active.false
+    (c.active.ensures.carries.awake ∙ c.fill-put.ensures.up) (c.active.ensures.ended c.if-active.false)) in record {
+      look = put_filled c.args.pipe c.args.task.now c.look_to_write-look.new.task c.look_to_write-look.ensures.waits
+          c.requires.settled c.active.new.task c.args.bytes.now c.fill-put.result c.fill-put.ensures.some
+          c.fill-put.ensures.most f (c.look_to_write-look.ensures.seen.ended ∙ c.if-look.false);
+      rests = then_rests (write_end c.args.pipe) c.args.task.now c.look_to_write-look.new.task c.active.new.task
+          c.look_to_write-look.ensures.waits f.rests;
+      goes = wrote_some (write_end c.args.pipe) c.fill-put.result c.args.task.now c.look_to_write-look.new.task
+          c.active.new.task c.args.bytes.now
+          (look_shows c.args.pipe c.look_to_write-look.new.task c.look_to_write-look.result (write_end c.args.pipe)
+          c.args.task.now c.look_to_write-look.ensures.seen c.look_to_write-look.ensures.loads)
+          (word_open c.args.pipe c.look_to_write-look.new.task c.look_to_write-look.result (write_end c.args.pipe)
+          c.look_to_write-look.ensures.seen c.if-look.false) f.stores;
+    }
 
 pub returns-then-look-clause-goes : goal.returns-then-look-clause-goes
 returns-then-look-clause-goes g c = saw_closed (write_end c.args.pipe) c.args.task.now c.look_to_write-look.new.task
@@ -97,23 +156,15 @@ returns-then-look-clause-goes g c = saw_closed (write_end c.args.pipe) c.args.ta
     (word_ended c.args.pipe c.look_to_write-look.new.task c.look_to_write-look.result (write_end c.args.pipe)
     c.look_to_write-look.ensures.seen c.if-look.true)
 
-pub returns-then-used-lt-PIPE_CELLS-clause-goes : goal.returns-then-used-lt-PIPE_CELLS-clause-goes
-returns-then-used-lt-PIPE_CELLS-clause-goes g c = wrote_some (write_end c.args.pipe) c.fill.result c.args.task.now
-    c.look_to_write-look.new.task c.fill.new.task c.args.bytes.now
-    (look_shows c.args.pipe c.look_to_write-look.new.task c.look_to_write-look.result (write_end c.args.pipe)
-    c.args.task.now c.look_to_write-look.ensures.seen c.look_to_write-look.ensures.loads)
-    (word_open c.args.pipe c.look_to_write-look.new.task c.look_to_write-look.result (write_end c.args.pipe)
-    c.look_to_write-look.ensures.seen c.if-look.false) c.fill.ensures.stores
-
-pub returns-clause-look : goal.returns-clause-look
-returns-clause-look g c = record {
+pub returns-then-used-ge-PIPE_CELLS-clause-look : goal.returns-then-used-ge-PIPE_CELLS-clause-look
+returns-then-used-ge-PIPE_CELLS-clause-look g c = record {
   waits = c.look_to_write-look.ensures.waits;
   none = none_free c.args.pipe c.look_to_write-look.new.task c.look_to_write-look.result
       c.look_to_write-look.ensures.seen (waited_settled (write_end c.args.pipe) c.args.task.now
       c.look_to_write-look.new.task c.look_to_write-look.ensures.waits c.requires.settled) c.between-used.result
-      c.between-used.ensures (let full = c.if-used-lt-PIPE_CELLS.false in omega arith) search;
+      c.between-used.ensures (let full = c.if-used-ge-PIPE_CELLS.true in omega arith) search;
   loads = c.look_to_write-look.ensures.loads;
 }
 
-pub returns-clause-rests : goal.returns-clause-rests
-returns-clause-rests g c = c.look_to_write-look.ensures.waits.rests
+pub returns-then-used-ge-PIPE_CELLS-clause-rests : goal.returns-then-used-ge-PIPE_CELLS-clause-rests
+returns-then-used-ge-PIPE_CELLS-clause-rests g c = c.look_to_write-look.ensures.waits.rests

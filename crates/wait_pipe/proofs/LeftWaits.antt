@@ -1,7 +1,6 @@
 -- Waits for the other end of a pipe that their task leaves: what stays of the task, whatever way it went.
 use Rattle.std.proofs.Common.{refl, sym, ◌∙◌, ap, subst, append-nil, append_assoc}
 use Rattle.std.specs.Prelude.{ℕ, ◌≡◌, ◌≢◌, ◌<◌, ◌/◌, ◌++◌, Bool, true, false, None, Result, Ok, Err, List, [], ◌∷◌}
-use Rattle.std.specs.Prelude.{IfErr}
 use Rattle.wait_model.specs.declared.layout.TheConstants.{FIRST_DONE_HEAD, PIPE_ENDS}
 use Rattle.wait_model.specs.declared.calls.Event.{Event}
 use Rattle.wait_model.specs.declared.calls.Event.TheVariants as event
@@ -43,7 +42,6 @@ use Rattle.wait_class.specs.declared.stages.Turn.{Turn}
 use Rattle.wait_class.specs.declared.stages.Turn.TheVariants as turn
 use Rattle.wait_leave.specs.Leaves.{GoesOut, asked_run}
 use Rattle.wait_leave.specs.OnTheWay.{OnTheWay, left_at, straight}
-use Rattle.wait_leave.specs.declared.exits.Until.TheVariants as until
 use Rattle.wait_event.specs.Ends.{wait_change}
 use Rattle.wait_event.specs.WaitLeaves.{FoundUnset, IsAskedWait, IsWaitCause, wait_exits}
 use Rattle.wait_event.specs.WaitPlans.{IsWaitFor, call_for}
@@ -58,7 +56,6 @@ use Rattle.wait_event.specs.declared.waits.WaitStage.TheVariants as stage
 use Rattle.wait_event.proofs.Plans.{program_is}
 use Rattle.var_wait.specs.VarLeaves.{EndsVarUntil, until_loaded}
 use Rattle.var_wait.specs.VarWaits.{shared_in}
-use Rattle.wait_pipe.specs.declared.pieces.PipeEnd.{PipeEnd}
 use Rattle.wait_pipe.specs.PieceLeaves.{AwaitsUntil, IsPieceUntil, end_of_until}
 use Rattle.wait_pipe.specs.Pieces.{ShowsNoCell, Waits}
 use Rattle.wait_pipe.proofs.Asides.{quiet_none, var_low}

@@ -1,6 +1,6 @@
 -- The turns of a task that writes a piece or reads one, and may leave its wait.
 use Rattle.std.proofs.Common.{refl, subst}
-use Rattle.std.specs.Prelude.{ℕ, ◌≡◌, ◌++◌, Result, Ok, Err, List, [], ◌∷◌}
+use Rattle.std.specs.Prelude.{ℕ, ◌++◌, Result, Err, List, [], ◌∷◌}
 use Rattle.wait_rule.specs.Known.{Known}
 use Rattle.wait_rule.specs.Pipes.{read_end, write_end}
 use Rattle.wait_rule.specs.PipeSays.{end_at, reading, writing}

@@ -111,8 +111,8 @@ fn write_on<R: Wait>(
     unreachable!()
 }
 
-/// A further turn of a task that writes a piece: a look at the reader's word, and then the free cells are filled, or the
-/// task waits for that word to change. None: it has waited, and goes on.
+/// A further turn of a task that writes a piece: a look at the reader's word, and then the free cells are filled, or it
+/// waits for that word to change. None: it has waited, and goes on.
 fn write_turn<R: Wait>(
     rt: &R,
     domain: &Domain,
@@ -192,8 +192,8 @@ pub(crate) fn write_now<R: Wait>(
     Ok(Some(put))
 }
 
-/// Fills free cells with as many of the bytes as fit, and passes them on; who waits for them is not woken yet. `count` is
-/// the number of cells that the task has stored, modulo `COUNTS`, and `free` that of the free ones.
+/// Fills free cells with as many of the bytes as fit, and passes them on; who waits for them is not woken yet. `count`
+/// is the number of cells that the task has stored, modulo `COUNTS`, and `free` that of the free ones.
 fn fill(domain: &Domain, task: &mut Task, pipe: u8, count: u16, free: u16, bytes: &[u8]) -> usize
     requires of { task.old.domain ≡ domain.now }
     requires up { IsUp task.old }
@@ -295,8 +295,8 @@ fn read_on<R: Wait>(
     unreachable!()
 }
 
-/// A further turn of a task that reads a piece: a look at the writer's word, and then cells are taken, or the task waits
-/// for that word to change. None: it has waited, and goes on.
+/// A further turn of a task that reads a piece: a look at the writer's word, and then cells are taken, or it waits for
+/// that word to change. None: it has waited, and goes on.
 fn read_turn<R: Wait>(
     rt: &R,
     domain: &Domain,
@@ -327,8 +327,8 @@ fn read_turn<R: Wait>(
     }
 }
 
-/// Reads a piece without waiting: a look at the writer's word, and then cells are taken, and the writer is woken where it
-/// waits; 0 where that end is closed and no cell is left. Err: no cell is there, and its word is this.
+/// Reads a piece without waiting: a look at the writer's word, and then cells are taken, and the writer is woken where
+/// it waits; 0 where that end is closed and no cell is left. Err: no cell is there, and its word is this.
 #[inline(always)]
 pub(crate) fn read_now<R: Wait>(
     rt: &R,
@@ -375,9 +375,9 @@ pub(crate) fn read_now<R: Wait>(
     Ok(got)
 }
 
-/// Takes cells as long as the buffer has room for a whole one, and gives them back; who waits for them is not woken yet.
-/// `count` is the number of cells that the task has loaded, modulo `COUNTS`, and `there` that of those that were passed
-/// on.
+/// Takes cells as long as the buffer has room for a whole one, and gives them back; who waits for that is not woken
+/// yet. `count` is the number of cells that the task has loaded, modulo `COUNTS`, and `there` that of those that were
+/// passed on.
 fn drain(
     domain: &Domain,
     task: &mut Task,

@@ -20,7 +20,8 @@ wake-requires-clause-full g c =
 pub returns-then-active : goal.returns-then-active
 returns-then-active g c = record {
   roused = roused_some c.args.var c.args.task.now c.active.new.task c.head_of.result c.active.result c.head_of.ensures
-      c.requires.idle (c.told.ensures.head ∙ c.requires.idle.free.head) c.active.ensures.scanned c.active.ensures.carries
+      c.requires.idle (c.told.ensures.head ∙ c.requires.idle.free.head) c.active.ensures.scanned
+      c.active.ensures.carries
       c.if-active.true c.wake.new.task c.wake.result c.wake.ensures.woken c.wake.ensures.ended c.wake.ensures.up
       c.wake.ensures.idle c.wake.ensures.carries;
 }
@@ -28,6 +29,7 @@ returns-then-active g c = record {
 pub returns-else-active : goal.returns-else-active
 returns-else-active g c = record {
   roused = roused_none c.args.var c.args.task.now c.active.new.task c.head_of.result c.active.result c.head_of.ensures
-      c.requires.idle (c.told.ensures.head ∙ c.requires.idle.free.head) c.active.ensures.scanned c.active.ensures.carries
+      c.requires.idle (c.told.ensures.head ∙ c.requires.idle.free.head) c.active.ensures.scanned
+      c.active.ensures.carries
       c.if-active.false (c.active.ensures.carries.awake ∙ c.requires.up) (c.active.ensures.ended c.if-active.false);
 }

@@ -81,7 +81,8 @@ pub drain-got-requires-clause-some_cell : goal.drain-got-requires-clause-some_ce
 drain-got-requires-clause-some_cell g c = let some = c.if-there-eq0.false in omega arith
 
 pub active-requires-clause-of : goal.active-requires-clause-of
-active-requires-clause-of g c = c.drain-got.ensures.domain ∙ (c.look_over-look.ensures.waits.rests.carries.domain ∙ c.requires.of)
+active-requires-clause-of g c = c.drain-got.ensures.domain ∙ (c.look_over-look.ensures.waits.rests.carries.domain
+    ∙ c.requires.of)
 
 pub active-requires-clause-head : goal.active-requires-clause-head
 active-requires-clause-head g c =
@@ -107,8 +108,9 @@ wake-requires-clause-full g c =
 
 pub returns-then-active : goal.returns-then-active
 returns-then-active g c =
-    let d = c.drain-got.ensures.drained c.wake.new.task (roused_some (read_end c.args.pipe) c.drain-got.new.task c.active.new.task c.head_of.result c.active.result
-    c.head_of.ensures c.drain-got.ensures.idle (c.told.ensures.head ∙ c.drain-got.ensures.idle.free.head)
+    let d = c.drain-got.ensures.drained c.wake.new.task (roused_some (read_end c.args.pipe) c.drain-got.new.task
+    c.active.new.task c.head_of.result c.active.result c.head_of.ensures c.drain-got.ensures.idle
+    (c.told.ensures.head ∙ c.drain-got.ensures.idle.free.head)
     c.active.ensures.scanned c.active.ensures.carries c.if-active.true c.wake.new.task c.wake.result
     c.wake.ensures.woken c.wake.ensures.ended c.wake.ensures.up c.wake.ensures.idle c.wake.ensures.carries) in record {
       same = c.drain-got.ensures.same;
@@ -120,13 +122,15 @@ returns-then-active g c =
       goes = read_some (read_end c.args.pipe) c.drain-got.result c.args.task.now c.look_over-look.new.task
           c.wake.new.task c.drain-got.new.buf
           (look_shows c.args.pipe c.look_over-look.new.task c.look_over-look.result (read_end c.args.pipe)
-          c.args.task.now c.look_over-look.ensures.seen c.look_over-look.ensures.loads) c.drain-got.ensures.some d.loads;
+          c.args.task.now c.look_over-look.ensures.seen c.look_over-look.ensures.loads) c.drain-got.ensures.some
+          d.loads;
     }
 
 pub returns : goal.returns
 returns g c =
-    let d = c.drain-got.ensures.drained c.active.new.task (roused_none (read_end c.args.pipe) c.drain-got.new.task c.active.new.task c.head_of.result c.active.result
-    c.head_of.ensures c.drain-got.ensures.idle (c.told.ensures.head ∙ c.drain-got.ensures.idle.free.head)
+    let d = c.drain-got.ensures.drained c.active.new.task (roused_none (read_end c.args.pipe) c.drain-got.new.task
+    c.active.new.task c.head_of.result c.active.result c.head_of.ensures c.drain-got.ensures.idle
+    (c.told.ensures.head ∙ c.drain-got.ensures.idle.free.head)
     c.active.ensures.scanned c.active.ensures.carries c.if-active.false
     (c.active.ensures.carries.awake ∙ c.drain-got.ensures.up) (c.active.ensures.ended c.if-active.false)) in record {
       same = c.drain-got.ensures.same;
@@ -138,7 +142,8 @@ returns g c =
       goes = read_some (read_end c.args.pipe) c.drain-got.result c.args.task.now c.look_over-look.new.task
           c.active.new.task c.drain-got.new.buf
           (look_shows c.args.pipe c.look_over-look.new.task c.look_over-look.result (read_end c.args.pipe)
-          c.args.task.now c.look_over-look.ensures.seen c.look_over-look.ensures.loads) c.drain-got.ensures.some d.loads;
+          c.args.task.now c.look_over-look.ensures.seen c.look_over-look.ensures.loads) c.drain-got.ensures.some
+          d.loads;
     }
 
 pub returns-then-look-clause-look : goal.returns-then-look-clause-look

@@ -31,7 +31,8 @@ loop-preserved g c = turning_on (read_end c.args.pipe) c.args.task.now c.loop.ta
 
 pub returns-in-Some-read_turn-clause-piece : goal.returns-in-Some-read_turn-clause-piece
 returns-in-Some-read_turn-clause-piece g c = got_then c.args.pipe c.args.task.now c.loop.task
-    c.loop.invariant.waits c.requires.settled c.read_turn.new.task _ c.in-Some-read_turn.end c.in-Some-read_turn.ensures.turn
+    c.loop.invariant.waits c.requires.settled c.read_turn.new.task _ c.in-Some-read_turn.end
+    c.in-Some-read_turn.ensures.turn
 
 pub returns-in-Some-read_turn-clause-rests : goal.returns-in-Some-read_turn-clause-rests
 returns-in-Some-read_turn-clause-rests g c = then_rests (read_end c.args.pipe) c.args.task.now c.loop.task

@@ -69,8 +69,8 @@ pub fill-put-requires-clause-out : goal.fill-put-requires-clause-out
 fill-put-requires-clause-out g c = c.look_to_write-look.ensures.waits.rests.out
 
 pub fill-put-requires-clause-settled : goal.fill-put-requires-clause-settled
-fill-put-requires-clause-settled g c = waited_settled (write_end c.args.pipe) c.args.task.now c.look_to_write-look.new.task
-    c.look_to_write-look.ensures.waits c.requires.settled
+fill-put-requires-clause-settled g c = waited_settled (write_end c.args.pipe) c.args.task.now
+    c.look_to_write-look.new.task c.look_to_write-look.ensures.waits c.requires.settled
 
 pub fill-put-requires-clause-count : goal.fill-put-requires-clause-count
 unfolding fill-put-requires-clause-settled
@@ -87,7 +87,8 @@ pub fill-put-requires-clause-room : goal.fill-put-requires-clause-room
 fill-put-requires-clause-room g c = let few = c.if-used-ge-PIPE_CELLS.false in omega arith
 
 pub active-requires-clause-of : goal.active-requires-clause-of
-active-requires-clause-of g c = c.fill-put.ensures.domain ∙ (c.look_to_write-look.ensures.waits.rests.carries.domain ∙ c.requires.of)
+active-requires-clause-of g c = c.fill-put.ensures.domain ∙ (c.look_to_write-look.ensures.waits.rests.carries.domain
+    ∙ c.requires.of)
 
 pub active-requires-clause-head : goal.active-requires-clause-head
 active-requires-clause-head g c =
@@ -113,8 +114,9 @@ wake-requires-clause-full g c =
 
 pub returns-then-active : goal.returns-then-active
 returns-then-active g c =
-    let f = c.fill-put.ensures.filled c.wake.new.task (roused_some (write_end c.args.pipe) c.fill-put.new.task c.active.new.task c.head_of.result c.active.result
-    c.head_of.ensures c.fill-put.ensures.idle (c.told.ensures.head ∙ c.fill-put.ensures.idle.free.head)
+    let f = c.fill-put.ensures.filled c.wake.new.task (roused_some (write_end c.args.pipe) c.fill-put.new.task
+    c.active.new.task c.head_of.result c.active.result c.head_of.ensures c.fill-put.ensures.idle
+    (c.told.ensures.head ∙ c.fill-put.ensures.idle.free.head)
     c.active.ensures.scanned c.active.ensures.carries c.if-active.true c.wake.new.task c.wake.result
     c.wake.ensures.woken c.wake.ensures.ended c.wake.ensures.up c.wake.ensures.idle c.wake.ensures.carries) in record {
       look = put_filled c.args.pipe c.args.task.now c.look_to_write-look.new.task c.look_to_write-look.ensures.waits
@@ -132,8 +134,9 @@ returns-then-active g c =
 
 pub returns : goal.returns
 returns g c =
-    let f = c.fill-put.ensures.filled c.active.new.task (roused_none (write_end c.args.pipe) c.fill-put.new.task c.active.new.task c.head_of.result c.active.result
-    c.head_of.ensures c.fill-put.ensures.idle (c.told.ensures.head ∙ c.fill-put.ensures.idle.free.head)
+    let f = c.fill-put.ensures.filled c.active.new.task (roused_none (write_end c.args.pipe) c.fill-put.new.task
+    c.active.new.task c.head_of.result c.active.result c.head_of.ensures c.fill-put.ensures.idle
+    (c.told.ensures.head ∙ c.fill-put.ensures.idle.free.head)
     c.active.ensures.scanned c.active.ensures.carries c.if-active.false
     (c.active.ensures.carries.awake ∙ c.fill-put.ensures.up) (c.active.ensures.ended c.if-active.false)) in record {
       look = put_filled c.args.pipe c.args.task.now c.look_to_write-look.new.task c.look_to_write-look.ensures.waits

@@ -26,12 +26,13 @@ write_turn-requires-clause-settled g c = waited_settled (write_end c.args.pipe) 
     c.loop.invariant.waits c.requires.settled
 
 pub loop-preserved : goal.loop-preserved
-loop-preserved g c = turning_on (write_end c.args.pipe) c.args.task.now c.loop.task c.write_turn.new.task c.loop.invariant
-    c.in-None-write_turn.ensures.turn c.in-None-write_turn.ensures.goes
+loop-preserved g c = turning_on (write_end c.args.pipe) c.args.task.now c.loop.task c.write_turn.new.task
+    c.loop.invariant c.in-None-write_turn.ensures.turn c.in-None-write_turn.ensures.goes
 
 pub returns-in-Some-write_turn-clause-piece : goal.returns-in-Some-write_turn-clause-piece
 returns-in-Some-write_turn-clause-piece g c = put_then c.args.pipe c.args.task.now c.loop.task
-    c.loop.invariant.waits c.requires.settled c.write_turn.new.task _ c.in-Some-write_turn.end c.in-Some-write_turn.ensures.turn
+    c.loop.invariant.waits c.requires.settled c.write_turn.new.task _ c.in-Some-write_turn.end
+    c.in-Some-write_turn.ensures.turn
 
 pub returns-in-Some-write_turn-clause-rests : goal.returns-in-Some-write_turn-clause-rests
 returns-in-Some-write_turn-clause-rests g c = then_rests (write_end c.args.pipe) c.args.task.now c.loop.task

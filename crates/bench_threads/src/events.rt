@@ -11,7 +11,7 @@ use crate::events::alone::time_alone;
 use crate::events::calls::Means;
 use crate::events::crowds::time_wake;
 use crate::events::trips::time_trips;
-use crate::report::report;
+use crate::report::report_found;
 use std::alloc::Global;
 use std::io;
 use std::sync::Wait;
@@ -47,20 +47,6 @@ const FEW: (u32, Plan) = (
     },
 );
 
-/// Writes a line of a measurement, where there is one and it was asked for.
-fn report_found<R: Print>(
-    rt: &R,
-    plan: Plan,
-    name: &str,
-    n: u64,
-    time: Option<Duration>,
-) -> io::Result<()> {
-    match time {
-        None => Ok(()),
-        Some(time) => report(rt, plan.writes, name, n, time),
-    }
-}
-
 /// Round trips by conditions whose tasks park at once, and such whose tasks look first; and by completions whose tasks
 /// park at once.
 fn round_of_trips<R: Clock + Print + Threads + Wait + Sync>(
@@ -70,11 +56,11 @@ fn round_of_trips<R: Clock + Print + Threads + Wait + Sync>(
 ) -> io::Result<()> {
     let n = plan.trips;
     let parked = time_trips(rt, alloc, 0, Means::Condition, n)?;
-    report_found(rt, plan, "trip_parked", n, parked)?;
+    report_found(rt, plan.writes, "trip_parked", n, parked)?;
     let looked = time_trips(rt, alloc, LOOKS, Means::Condition, n)?;
-    report_found(rt, plan, "trip_looked", n, looked)?;
+    report_found(rt, plan.writes, "trip_looked", n, looked)?;
     let permits = time_trips(rt, alloc, 0, Means::Completion, n)?;
-    report_found(rt, plan, "permit_parked", n, permits)
+    report_found(rt, plan.writes, "permit_parked", n, permits)
 }
 
 /// A wake of 8 sleepers, and one of 64.
@@ -84,19 +70,19 @@ fn round_of_wakes<R: Clock + Print + Threads + Wait + Sync>(
     plan: Plan,
 ) -> io::Result<()> {
     let few = time_wake(rt, alloc, 8)?;
-    report_found(rt, plan, "wake_8", 1, few.map(|times| times.call))?;
-    report_found(rt, plan, "last_8", 1, few.map(|times| times.last))?;
+    report_found(rt, plan.writes, "wake_8", 1, few.map(|times| times.call))?;
+    report_found(rt, plan.writes, "last_8", 1, few.map(|times| times.last))?;
     let many = time_wake(rt, alloc, 64)?;
-    report_found(rt, plan, "wake_64", 1, many.map(|times| times.call))?;
-    report_found(rt, plan, "last_64", 1, many.map(|times| times.last))
+    report_found(rt, plan.writes, "wake_64", 1, many.map(|times| times.call))?;
+    report_found(rt, plan.writes, "last_64", 1, many.map(|times| times.last))
 }
 
 /// Calls of one thread.
 fn round_alone<R: Clock + Print + Wait>(rt: &R, alloc: Global, plan: Plan) -> io::Result<()> {
     let n = plan.calls;
     let alone = time_alone(rt, alloc, n)?;
-    report_found(rt, plan, "set", n, alone.map(|times| times.set))?;
-    report_found(rt, plan, "wait", n, alone.map(|times| times.wait))
+    report_found(rt, plan.writes, "set", n, alone.map(|times| times.set))?;
+    report_found(rt, plan.writes, "wait", n, alone.map(|times| times.wait))
 }
 
 /// One round of a few calls where no times are asked for, and rounds of many otherwise; of round trips alone, or of all.

@@ -3,11 +3,12 @@
 //! which nobody sleeps.
 
 mod monitors;
-mod mutexes;
+pub(crate) mod mutexes;
 
 use crate::futexes::monitors::time_hands;
-use crate::futexes::mutexes::{time_locks, time_wakes};
-use crate::report::report;
+use crate::futexes::mutexes::time_wakes;
+use crate::report::{report, report_found};
+use crate::turns::{Lock, time_turns};
 use std::alloc::Global;
 use std::io;
 use std::sync::Wait;
@@ -50,32 +51,18 @@ const FEW: (u32, Plan) = (
     },
 );
 
-/// Writes a line of a measurement, where there is one and it was asked for.
-fn report_found<R: Print>(
-    rt: &R,
-    plan: Plan,
-    name: &str,
-    n: u64,
-    time: Option<Duration>,
-) -> io::Result<()> {
-    match time {
-        None => Ok(()),
-        Some(time) => report(rt, plan.writes, name, n, time),
-    }
-}
-
 /// Locks of one, two and four threads.
 fn round_of_locks<R: Clock + Print + Threads + Wait + Sync>(
     rt: &R,
     alloc: Global,
     plan: Plan,
 ) -> io::Result<()> {
-    let one = time_locks(rt, alloc, 1, plan.locks)?;
-    report_found(rt, plan, "lock", plan.locks, one)?;
-    let two = time_locks(rt, alloc, 2, plan.shared)?;
-    report_found(rt, plan, "two", plan.shared.saturating_mul(2), two)?;
-    let four = time_locks(rt, alloc, 4, plan.shared)?;
-    report_found(rt, plan, "four", plan.shared.saturating_mul(4), four)
+    let one = time_turns(rt, alloc, 1, Lock::Mutex, plan.locks)?;
+    report_found(rt, plan.writes, "lock", plan.locks, one)?;
+    let two = time_turns(rt, alloc, 2, Lock::Mutex, plan.shared)?;
+    report_found(rt, plan.writes, "two", plan.shared.saturating_mul(2), two)?;
+    let four = time_turns(rt, alloc, 4, Lock::Mutex, plan.shared)?;
+    report_found(rt, plan.writes, "four", plan.shared.saturating_mul(4), four)
 }
 
 /// A number that two threads hand on.
@@ -85,9 +72,9 @@ fn round_of_hands<R: Clock + Print + Threads + Wait + Sync>(
     plan: Plan,
 ) -> io::Result<()> {
     let parked = time_hands(rt, alloc, 0, plan.hands)?;
-    report_found(rt, plan, "hand_parked", plan.hands, parked)?;
+    report_found(rt, plan.writes, "hand_parked", plan.hands, parked)?;
     let looked = time_hands(rt, alloc, LOOKS, plan.hands)?;
-    report_found(rt, plan, "hand_looked", plan.hands, looked)
+    report_found(rt, plan.writes, "hand_looked", plan.hands, looked)
 }
 
 /// One round of a few calls where no times are asked for, and rounds of many otherwise.

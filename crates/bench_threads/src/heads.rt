@@ -3,16 +3,18 @@
 mod idle;
 
 ghost use Rattle.std.specs.Prelude.{◌≡◌};
-ghost use Rattle.wait_rule.specs.Says.{IsUp, IsFree};
+ghost use Rattle.wait_rule.specs.Says.{IsClean, IsUp, IsFree};
 ghost use Rattle.wq_head.specs.Readied.{IsAtRest, IsReady};
 
 use crate::heads::idle::wait_a_second;
 use crate::report::report;
+use crate::tasks::another;
 use std::alloc::Global;
+use std::io;
 use std::sync::Wait;
 use std::thread::Threads;
 use std::time::{Clock, Duration, Instant};
-use std::{io, thread};
+use test_tasks::meetings::{Part, meet_four, meet_two};
 use wait_model::layout::FIRST_PLAIN_HEAD;
 use wait_model::watches::{Kind, Mode, Watch};
 use wait_rule::{Domain, Task};
@@ -24,11 +26,9 @@ const HEAD: u16 = FIRST_PLAIN_HEAD;
 /// Holds in which nothing is done.
 fn holds<R: Wait>(rt: &R, domain: &Domain, task: &mut Task, n: u64)
     requires of { task.old.domain ≡ domain.now }
-    requires up { IsUp task.old }
-    requires free { IsFree task.old }
+    requires clean { IsClean task.old }
     ensures of { task.new.domain ≡ domain.now }
-    ensures up { IsUp task.new }
-    ensures free { IsFree task.new }
+    ensures clean { IsClean task.new }
 {
     for _ in 0..n {
         lock(rt, domain, task, HEAD);
@@ -114,60 +114,17 @@ fn wakes<R: Wait>(rt: &R, domain: &Domain, task: &mut Task, n: u64) -> u32
     woken
 }
 
-/// The holds of a thread that has its own task.
-fn turns<R: Wait>(rt: &R, domain: &Domain, mut task: Task, n: u64)
-    requires of { task.domain ≡ domain.now }
-    requires up { IsUp task }
-    requires free { IsFree task }
-{
-    holds(rt, domain, &mut task, n);
-}
-
-/// Two threads that take one head in turn.
-fn two_threads<R: Threads + Wait + Sync>(rt: &R, domain: &Domain, one: Task, two: Task, n: u64)
-    requires of { (one.domain ≡ domain.now) × (two.domain ≡ domain.now) }
-    requires up { IsUp one × IsUp two }
-    requires free { IsFree one × IsFree two }
-{
-    thread::join(
-        rt,
-        move ||
-            requires { (one.domain ≡ domain.now) × IsUp one × IsFree one }
-        { turns(rt, domain, one, n) },
-        move ||
-            requires { (two.domain ≡ domain.now) × IsUp two × IsFree two }
-        { turns(rt, domain, two, n) },
-    );
-}
-
-/// Four threads that take one head in turn.
-fn four_threads<R: Threads + Wait + Sync>(
-    rt: &R,
-    domain: &Domain,
-    ones: (Task, Task),
-    twos: (Task, Task),
+/// A task that makes holds in a thread of its own.
+#[derive(Clone, Copy)]
+struct Holder {
     n: u64,
-)
-    requires of_ones { (ones.0.domain ≡ domain.now) × (ones.1.domain ≡ domain.now) }
-    requires of_twos { (twos.0.domain ≡ domain.now) × (twos.1.domain ≡ domain.now) }
-    requires up { IsUp ones.0 × IsUp ones.1 × IsUp twos.0 × IsUp twos.1 }
-    requires free { IsFree ones.0 × IsFree ones.1 × IsFree twos.0 × IsFree twos.1 }
-{
-    let (one, two) = ones;
-    let (three, four) = twos;
-    thread::join(
-        rt,
-        move ||
-            requires of { (one.domain ≡ domain.now) × (two.domain ≡ domain.now) }
-            requires up { IsUp one × IsUp two }
-            requires free { IsFree one × IsFree two }
-        { two_threads(rt, domain, one, two, n) },
-        move ||
-            requires of { (three.domain ≡ domain.now) × (four.domain ≡ domain.now) }
-            requires up { IsUp three × IsUp four }
-            requires free { IsFree three × IsFree four }
-        { two_threads(rt, domain, three, four, n) },
-    );
+}
+
+impl Part for Holder {
+    fn play<R: Wait>(self, rt: &R, domain: &Domain, task: &mut Task) -> bool {
+        holds(rt, domain, task, self.n);
+        true
+    }
 }
 
 /// How long `n` holds by one thread take.
@@ -211,11 +168,10 @@ fn time_two<R: Clock + Threads + Wait + Sync>(
     n: u64,
 ) -> io::Result<Duration> {
     let (domain, mut one) = Domain::new(alloc)?;
-    let Ok(two) = one.fork(&domain, 0) else {
-        unreachable!()
-    };
+    let two = another(&domain, &mut one);
+    let part = Holder { n };
     let start = Instant::now(rt)?;
-    two_threads(rt, &domain, one, two, n);
+    meet_two(rt, &domain, one, two, (part, part));
     start.elapsed(rt)
 }
 
@@ -226,26 +182,20 @@ fn time_four<R: Clock + Threads + Wait + Sync>(
     n: u64,
 ) -> io::Result<Duration> {
     let (domain, mut one) = Domain::new(alloc)?;
-    let Ok(two) = one.fork(&domain, 0) else {
-        unreachable!()
-    };
-    let Ok(three) = one.fork(&domain, 0) else {
-        unreachable!()
-    };
-    let Ok(four) = one.fork(&domain, 0) else {
-        unreachable!()
-    };
+    let two = another(&domain, &mut one);
+    let three = another(&domain, &mut one);
+    let four = another(&domain, &mut one);
+    let parts = (Holder { n }, Holder { n });
     let start = Instant::now(rt)?;
-    four_threads(rt, &domain, (one, two), (three, four), n);
+    meet_four(rt, &domain, (one, two), (three, four), parts, parts);
     start.elapsed(rt)
 }
 
 /// Two tasks wait for a second.
 pub(crate) fn wait_idly<R: Clock + Threads + Wait + Sync>(rt: &R, alloc: Global) -> io::Result<()> {
     let (domain, mut task) = Domain::new(alloc)?;
-    let (Ok(sleeper), Ok(asker)) = (task.fork(&domain, 0), task.fork(&domain, 0)) else {
-        unreachable!()
-    };
+    let sleeper = another(&domain, &mut task);
+    let asker = another(&domain, &mut task);
     wait_a_second(rt, &domain, task, sleeper, asker);
     Ok(())
 }

@@ -1,4 +1,4 @@
-//! How fast the calls of threads are: five programs, of which the first word chooses one.
+//! How fast the calls of threads are: six programs, of which the first word chooses one.
 //!
 //! | Word | What is timed |
 //! |---|---|
@@ -21,6 +21,7 @@ mod report;
 mod sems;
 mod steps;
 mod tasks;
+mod turns;
 
 use crate::events::time_events;
 use crate::futexes::time_futexes;

@@ -2,9 +2,10 @@
 //! one further round, how many were made before it and when its thread came for the page, in nanoseconds since the round
 //! began, as `came NAME BEFORE AT`.
 
-mod locks;
+pub(crate) mod locks;
 
-use crate::pages::locks::{Came, came_for, time_locks};
+use crate::pages::locks::{Came, came_for};
+use crate::turns::{Lock, time_turns};
 use std::alloc::Global;
 use std::io;
 use std::sync::Wait;
@@ -27,7 +28,7 @@ fn report_times<R: Clock + Print + Threads + Wait + Sync>(
     n: u64,
 ) -> io::Result<()> {
     for _ in 0..REPEATS {
-        let Some(time) = time_locks(rt, alloc, threads, n)? else {
+        let Some(time) = time_turns(rt, alloc, threads, Lock::Page, n)? else {
             return Ok(());
         };
         report(rt, threads, n, time)?;
@@ -82,7 +83,7 @@ pub(crate) fn time_pages<R: Clock + Print + Threads + Wait + Sync>(
 
 /// A few locks, of which nothing is written.
 pub(crate) fn few_pages<R: Clock + Threads + Wait + Sync>(rt: &R, alloc: Global) -> io::Result<()> {
-    time_locks(rt, alloc, 2, FEW)?;
+    time_turns(rt, alloc, 2, Lock::Page, FEW)?;
     came_for(rt, alloc, 2, FEW)?;
     Ok(())
 }

@@ -16,3 +16,17 @@ pub(crate) fn report<R: Print>(
     }
     Ok(())
 }
+
+/// The same of a measurement, where there is one.
+pub(crate) fn report_found<R: Print>(
+    rt: &R,
+    asked: bool,
+    name: &str,
+    n: u64,
+    time: Option<Duration>,
+) -> io::Result<()> {
+    match time {
+        None => Ok(()),
+        Some(time) => report(rt, asked, name, n, time),
+    }
+}

@@ -6,7 +6,7 @@ ghost use Rattle.wait_rule.specs.Says.{IsClean};
 
 use crate::events::calls::{Means, hear, tell};
 use crate::events::trips::time_trips;
-use crate::report::report;
+use crate::report::report_found;
 use std::alloc::Global;
 use std::io;
 use std::sync::Wait;
@@ -61,13 +61,10 @@ fn round<R: Clock + Print + Threads + Wait + Sync>(
     trips: u64,
     writes: bool,
 ) -> io::Result<()> {
-    if let Some(time) = time_pairs(rt, alloc, pairs)? {
-        report(rt, writes, "sem_pair", pairs, time)?;
-    }
-    if let Some(time) = time_trips(rt, alloc, 0, Means::Semaphore, trips)? {
-        report(rt, writes, "sem_parked", trips, time)?;
-    }
-    Ok(())
+    let alone = time_pairs(rt, alloc, pairs)?;
+    report_found(rt, writes, "sem_pair", pairs, alone)?;
+    let parked = time_trips(rt, alloc, 0, Means::Semaphore, trips)?;
+    report_found(rt, writes, "sem_parked", trips, parked)
 }
 
 /// One round of a few where no times are asked for, and rounds of many otherwise.

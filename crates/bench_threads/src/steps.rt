@@ -4,12 +4,13 @@ ghost use Rattle.std.specs.Prelude.{◌≡◌};
 ghost use Rattle.wait_rule.specs.Says.{IsClean, IsUp};
 
 use crate::report::report;
-use crate::tasks::{Retry, wake_up};
+use crate::tasks::{Retry, another, wake_up};
 use std::alloc::Global;
+use std::io;
 use std::sync::Wait;
 use std::thread::Threads;
 use std::time::{Clock, Duration, Instant};
-use std::{io, thread};
+use test_tasks::meetings::{Part, meet_two};
 use wait_model::layout::{FATAL, NORMAL, UNINTERRUPTIBLE};
 use wait_rule::running::LOOKS;
 use wait_rule::tasks::{load_own, set_state, wake_exchange};
@@ -52,53 +53,38 @@ fn doze<R: Wait>(rt: &R, domain: &Domain, task: &mut Task)
     schedule(rt, domain, task);
 }
 
-/// One side of `n` round trips.
-fn side<R: Wait>(
-    rt: &R,
-    domain: &Domain,
-    mut task: Task,
+/// One side of `n` round trips: it wakes the other one and sleeps, or first sleeps.
+#[derive(Clone, Copy)]
+struct Side {
     other: u8,
     first: bool,
     n: u64,
     retry: Retry,
-)
-    requires of { task.domain ≡ domain.now }
-    requires clean { IsClean task }
-{
-    for _ in 0..n {
-        if first {
-            wake_up(rt, domain, &mut task, other, retry);
-        }
-        doze(rt, domain, &mut task);
-        if !first {
-            wake_up(rt, domain, &mut task, other, retry);
-        }
+}
+
+impl Part for Side {
+    fn play<R: Wait>(self, rt: &R, domain: &Domain, task: &mut Task) -> bool {
+        take_turns(rt, domain, task, self);
+        true
     }
 }
 
-/// Two threads that wake each other in turn.
-fn round_trips<R: Threads + Wait + Sync>(
-    rt: &R,
-    domain: &Domain,
-    one: Task,
-    two: Task,
-    n: u64,
-    retry: Retry,
-)
-    requires of { (one.domain ≡ domain.now) × (two.domain ≡ domain.now) }
-    requires clean { IsClean one × IsClean two }
+/// What a side does.
+fn take_turns<R: Wait>(rt: &R, domain: &Domain, task: &mut Task, side: Side)
+    requires of { task.old.domain ≡ domain.now }
+    requires clean { IsClean task.old }
+    ensures of { task.new.domain ≡ domain.now }
+    ensures clean { IsClean task.new }
 {
-    let a = one.number();
-    let b = two.number();
-    thread::join(
-        rt,
-        move ||
-            requires { (one.domain ≡ domain.now) × IsClean one }
-        { side(rt, domain, one, b, true, n, retry) },
-        move ||
-            requires { (two.domain ≡ domain.now) × IsClean two }
-        { side(rt, domain, two, a, false, n, retry) },
-    );
+    for _ in 0..side.n {
+        if side.first {
+            wake_up(rt, domain, task, side.other, side.retry);
+        }
+        doze(rt, domain, task);
+        if !side.first {
+            wake_up(rt, domain, task, side.other, side.retry);
+        }
+    }
 }
 
 /// How long `n` round trips take in a Domain whose tasks look so often before they park.
@@ -110,11 +96,21 @@ fn time_trips<R: Clock + Threads + Wait + Sync>(
     retry: Retry,
 ) -> io::Result<Duration> {
     let (domain, mut task) = Domain::with_looks(alloc, looks)?;
-    let Ok(other) = task.fork(&domain, 0) else {
-        unreachable!()
+    let other = another(&domain, &mut task);
+    let own = Side {
+        other: other.number(),
+        first: true,
+        n,
+        retry,
+    };
+    let its = Side {
+        other: task.number(),
+        first: false,
+        n,
+        retry,
     };
     let start = Instant::now(rt)?;
-    round_trips(rt, &domain, task, other, n, retry);
+    meet_two(rt, &domain, task, other, (own, its));
     start.elapsed(rt)
 }
 

@@ -1,6 +1,6 @@
 //! What several of the programs do with tasks: new ones, and a wake of one that is about to sleep.
 
-ghost use Rattle.std.specs.Prelude.{◌≡◌, All, IfOk};
+ghost use Rattle.std.specs.Prelude.{◌≡◌, ◌<◌, ◌+◌, All, IfOk};
 ghost use Rattle.wait_rule.specs.Says.{IsClean};
 
 use std::alloc::{AllocError, Global};
@@ -9,6 +9,23 @@ use std::sync::Wait;
 use std::thread;
 use wait_model::watches::Mode;
 use wait_rule::{Domain, Task, wake_task};
+
+/// A new task, of a task that has a number to give.
+pub(crate) fn another(domain: &Domain, task: &mut Task) -> Task
+    requires of { task.old.domain ≡ domain.now }
+    requires clean { IsClean task.old }
+    requires spare { 0 < task.old.view.spare }
+    ensures of { task.new.domain ≡ domain.now }
+    ensures clean { IsClean task.new }
+    ensures spare { task.new.view.spare + 1 ≡ task.old.view.spare }
+    ensures of_other { result.domain ≡ domain.now }
+    ensures clean_other { IsClean result }
+{
+    let Ok(other) = task.fork(domain, 0) else {
+        unreachable!()
+    };
+    other
+}
 
 /// New tasks: fewer than `count` where no number is left.
 pub(crate) fn crowd(

@@ -4,11 +4,13 @@ ghost use Rattle.std.specs.Prelude.{◌≡◌};
 ghost use Rattle.wait_rule.specs.Says.{IsClean};
 
 use crate::events::calls::{Means, hear, tell};
+use crate::tasks::another;
 use std::alloc::Global;
+use std::io;
 use std::sync::Wait;
 use std::thread::Threads;
 use std::time::{Clock, Duration, Instant};
-use std::{io, thread};
+use test_tasks::meetings::{Part, meet_two};
 use wait_rule::{Domain, Task};
 
 /// The condition or completion by which the side tells that begins, and the one of the other side.
@@ -16,15 +18,35 @@ const THERE: u8 = 0;
 
 const BACK: u8 = 1;
 
+/// A side of `n` round trips: the one that begins, or the one that answers.
+#[derive(Clone, Copy)]
+struct Side {
+    means: Means,
+    begins: bool,
+    n: u64,
+}
+
+impl Part for Side {
+    fn play<R: Wait>(self, rt: &R, domain: &Domain, task: &mut Task) -> bool {
+        if self.begins {
+            begin(rt, domain, task, self.means, self.n)
+        } else {
+            answer(rt, domain, task, self.means, self.n)
+        }
+    }
+}
+
 /// The side that begins, in `n` round trips: true where each of its waits ended since it was told.
-fn begin<R: Wait>(rt: &R, domain: &Domain, mut task: Task, means: Means, n: u64) -> bool
-    requires of { task.domain ≡ domain.now }
-    requires clean { IsClean task }
+fn begin<R: Wait>(rt: &R, domain: &Domain, task: &mut Task, means: Means, n: u64) -> bool
+    requires of { task.old.domain ≡ domain.now }
+    requires clean { IsClean task.old }
+    ensures of { task.new.domain ≡ domain.now }
+    ensures clean { IsClean task.new }
 {
     let mut all = true;
     for _ in 0..n {
-        tell(rt, domain, &mut task, means, THERE);
-        if !hear(rt, domain, &mut task, means, BACK) {
+        tell(rt, domain, task, means, THERE);
+        if !hear(rt, domain, task, means, BACK) {
             all = false;
         }
     }
@@ -32,42 +54,20 @@ fn begin<R: Wait>(rt: &R, domain: &Domain, mut task: Task, means: Means, n: u64)
 }
 
 /// The side that answers, in `n` round trips: true where each of its waits ended since it was told.
-fn answer<R: Wait>(rt: &R, domain: &Domain, mut task: Task, means: Means, n: u64) -> bool
-    requires of { task.domain ≡ domain.now }
-    requires clean { IsClean task }
+fn answer<R: Wait>(rt: &R, domain: &Domain, task: &mut Task, means: Means, n: u64) -> bool
+    requires of { task.old.domain ≡ domain.now }
+    requires clean { IsClean task.old }
+    ensures of { task.new.domain ≡ domain.now }
+    ensures clean { IsClean task.new }
 {
     let mut all = true;
     for _ in 0..n {
-        if !hear(rt, domain, &mut task, means, THERE) {
+        if !hear(rt, domain, task, means, THERE) {
             all = false;
         }
-        tell(rt, domain, &mut task, means, BACK);
+        tell(rt, domain, task, means, BACK);
     }
     all
-}
-
-/// `n` round trips of two threads: true where each wait ended since its side was told.
-fn round_trips<R: Threads + Wait + Sync>(
-    rt: &R,
-    domain: &Domain,
-    one: Task,
-    two: Task,
-    means: Means,
-    n: u64,
-) -> bool
-    requires of { (one.domain ≡ domain.now) × (two.domain ≡ domain.now) }
-    requires clean { IsClean one × IsClean two }
-{
-    let (began, answered) = thread::join(
-        rt,
-        move || -> bool
-            requires { (one.domain ≡ domain.now) × IsClean one }
-        { begin(rt, domain, one, means, n) },
-        move || -> bool
-            requires { (two.domain ≡ domain.now) × IsClean two }
-        { answer(rt, domain, two, means, n) },
-    );
-    began && answered
 }
 
 /// How long `n` round trips take in a Domain whose tasks look so often before they park: None where a wait ended for
@@ -80,12 +80,22 @@ pub(crate) fn time_trips<R: Clock + Threads + Wait + Sync>(
     n: u64,
 ) -> io::Result<Option<Duration>> {
     let (domain, mut task) = Domain::with_looks(alloc, looks)?;
-    let Ok(other) = task.fork(&domain, 0) else {
-        return Ok(None);
+    let other = another(&domain, &mut task);
+    let begins = Side {
+        means,
+        begins: true,
+        n,
+    };
+    let answers = Side {
+        means,
+        begins: false,
+        n,
     };
     let start = Instant::now(rt)?;
-    if !round_trips(rt, &domain, task, other, means, n) {
-        return Ok(None);
+    let (one, two) = meet_two(rt, &domain, task, other, (begins, answers));
+    if one.1 && two.1 {
+        Ok(Some(start.elapsed(rt)?))
+    } else {
+        Ok(None)
     }
-    Ok(Some(start.elapsed(rt)?))
 }

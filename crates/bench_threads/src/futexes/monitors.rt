@@ -6,13 +6,15 @@ ghost use Rattle.wait_rule.specs.Says.{IsClean};
 ghost use Rattle.futex_table.specs.Holding.{HoldsMutex};
 
 use crate::futexes::mutexes::{lock, open, unlock};
+use crate::tasks::another;
 use futex_table::{cond_broadcast, cond_wait};
 use std::alloc::Global;
+use std::io;
 use std::sync::Wait;
 use std::sync::atomic::{AtomicU64, Ordering};
 use std::thread::Threads;
 use std::time::{Clock, Duration, Instant};
-use std::{io, thread};
+use test_tasks::meetings::{Part, meet_two};
 use wait_model::tasks::SleepState;
 use wait_rule::{Domain, Task};
 
@@ -109,38 +111,20 @@ fn hand_on<R: Wait>(
 }
 
 /// One side.
-fn play<R: Wait>(rt: &R, domain: &Domain, mut task: Task, monitor: Monitor<'_>, own: u64) -> bool
-    requires of { task.domain ≡ domain.now }
-    requires clean { IsClean task }
-{
-    if lock(rt, domain, &mut task) {
-        hand_on(rt, domain, &mut task, monitor, own)
-    } else {
-        false
-    }
+#[derive(Clone, Copy)]
+struct Side<'a> {
+    monitor: Monitor<'a>,
+    own: u64,
 }
 
-/// Both sides: whether both came so far.
-fn play_both<R: Threads + Wait + Sync>(
-    rt: &R,
-    domain: &Domain,
-    one: Task,
-    two: Task,
-    monitor: Monitor<'_>,
-) -> bool
-    requires of { (one.domain ≡ domain.now) × (two.domain ≡ domain.now) }
-    requires clean { IsClean one × IsClean two }
-{
-    let (first, second) = thread::join(
-        rt,
-        move || -> bool
-            requires { (one.domain ≡ domain.now) × IsClean one }
-        { play(rt, domain, one, monitor, 0) },
-        move || -> bool
-            requires { (two.domain ≡ domain.now) × IsClean two }
-        { play(rt, domain, two, monitor, 1) },
-    );
-    first && second
+impl Part for Side<'_> {
+    fn play<R: Wait>(self, rt: &R, domain: &Domain, task: &mut Task) -> bool {
+        if lock(rt, domain, task) {
+            hand_on(rt, domain, task, self.monitor, self.own)
+        } else {
+            false
+        }
+    }
 }
 
 /// How long it takes to hand the number on `n` times in a Domain whose tasks look so often before they park: None where
@@ -152,9 +136,7 @@ pub(crate) fn time_hands<R: Clock + Threads + Wait + Sync>(
     n: u64,
 ) -> io::Result<Option<Duration>> {
     let (domain, mut task) = Domain::with_looks(alloc, looks)?;
-    let Ok(other) = task.fork(&domain, 0) else {
-        return Ok(None);
-    };
+    let other = another(&domain, &mut task);
     let number = AtomicU64::new(0);
     open(rt, &domain, &mut task);
     let start = Instant::now(rt)?;
@@ -162,8 +144,11 @@ pub(crate) fn time_hands<R: Clock + Threads + Wait + Sync>(
         number: &number,
         last: n,
     };
-    if !play_both(rt, &domain, task, other, monitor) {
-        return Ok(None);
+    let sides = (Side { monitor, own: 0 }, Side { monitor, own: 1 });
+    let (one, two) = meet_two(rt, &domain, task, other, sides);
+    if one.1 && two.1 {
+        Ok(Some(start.elapsed(rt)?))
+    } else {
+        Ok(None)
     }
-    Ok(Some(start.elapsed(rt)?))
 }

@@ -1,16 +1,14 @@
 //! A mutex that threads take in turn and give back, and wakes that find nobody.
 
-ghost use Rattle.std.specs.Prelude.{◌≡◌, All, true};
+ghost use Rattle.std.specs.Prelude.{◌≡◌, true};
 ghost use Rattle.wait_rule.specs.Says.{IsClean};
 ghost use Rattle.futex_table.specs.Holding.{HoldsMutex};
 
-use crate::tasks::crowd;
 use futex_table::{futex_wake, mutex_lock, mutex_open, mutex_unlock};
 use std::alloc::Global;
+use std::io;
 use std::sync::Wait;
-use std::thread::Threads;
 use std::time::{Clock, Duration, Instant};
-use std::{io, thread};
 use wait_rule::{Domain, Task};
 
 /// The mutex.
@@ -69,7 +67,7 @@ fn lock_once<R: Wait>(rt: &R, domain: &Domain, task: &mut Task) -> bool
 }
 
 /// The same `n` times: whether it had it each time.
-fn lock_often<R: Wait>(rt: &R, domain: &Domain, mut task: Task, n: u64) -> bool
+pub(crate) fn lock_often<R: Wait>(rt: &R, domain: &Domain, mut task: Task, n: u64) -> bool
     requires of { task.domain ≡ domain.now }
     requires clean { IsClean task }
 {
@@ -80,37 +78,6 @@ fn lock_often<R: Wait>(rt: &R, domain: &Domain, mut task: Task, n: u64) -> bool
         }
     }
     all
-}
-
-/// Tasks of threads of their own: whether each had the mutex each time.
-fn lock_all<R: Threads + Wait + Sync>(rt: &R, domain: &Domain, tasks: Vec<Task>, n: u64) -> bool
-    requires clean { All (λ t. (t.domain ≡ domain.now) × IsClean t) tasks.items }
-{
-    let all = thread::map_vec(
-        rt,
-        tasks,
-        &|task: Task| -> bool
-            requires { (task.domain ≡ domain.now) × IsClean task }
-        { lock_often(rt, domain, task, n) },
-    );
-    all.is_ok_and(|all| all.iter().all(|one| *one))
-}
-
-/// How long `threads` threads take that lock the mutex `n` times each: None where one of them did not get it.
-pub(crate) fn time_locks<R: Clock + Threads + Wait + Sync>(
-    rt: &R,
-    alloc: Global,
-    threads: u8,
-    n: u64,
-) -> io::Result<Option<Duration>> {
-    let (domain, mut task) = Domain::new(alloc)?;
-    open(rt, &domain, &mut task);
-    let tasks = crowd(alloc, &domain, &mut task, threads)?;
-    let start = Instant::now(rt)?;
-    if !lock_all(rt, &domain, tasks, n) {
-        return Ok(None);
-    }
-    Ok(Some(start.elapsed(rt)?))
 }
 
 /// Wakes one who sleeps on the futex, where one does.

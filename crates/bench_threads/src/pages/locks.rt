@@ -39,7 +39,7 @@ fn add_one<R: Wait>(rt: &R, domain: &Domain, task: &mut Task) -> Option<u64>
 }
 
 /// The same `n` times: true where each got the page.
-fn add_often<R: Wait>(rt: &R, domain: &Domain, mut task: Task, n: u64) -> bool
+pub(crate) fn add_often<R: Wait>(rt: &R, domain: &Domain, mut task: Task, n: u64) -> bool
     requires of { task.domain ≡ domain.now }
     requires clean { IsClean task }
 {
@@ -72,37 +72,6 @@ fn come_often<R: Clock + Wait>(
         all.push(Came { before, at }).ok()?;
     }
     Some(all)
-}
-
-/// Tasks of threads of their own: true where each got the page each time.
-fn add_all<R: Threads + Wait + Sync>(rt: &R, domain: &Domain, tasks: Vec<Task>, n: u64) -> bool
-    requires clean { All (λ t. (t.domain ≡ domain.now) × IsClean t) tasks.items }
-{
-    let all = thread::map_vec(
-        rt,
-        tasks,
-        &|task: Task| -> bool
-            requires { (task.domain ≡ domain.now) × IsClean task }
-        { add_often(rt, domain, task, n) },
-    );
-    all.is_ok_and(|all| all.iter().all(|one| *one))
-}
-
-/// How long `threads` threads take that lock the page `n` times each, and park at once where they have to wait: None
-/// where one of them did not get it.
-pub(crate) fn time_locks<R: Clock + Threads + Wait + Sync>(
-    rt: &R,
-    alloc: Global,
-    threads: u8,
-    n: u64,
-) -> io::Result<Option<Duration>> {
-    let (domain, mut task) = Domain::new(alloc)?;
-    let tasks = crowd(alloc, &domain, &mut task, threads)?;
-    let start = Instant::now(rt)?;
-    if !add_all(rt, &domain, tasks, n) {
-        return Ok(None);
-    }
-    Ok(Some(start.elapsed(rt)?))
 }
 
 /// Tasks of threads of their own: when each came for its locks. None where one of them did not get the page.

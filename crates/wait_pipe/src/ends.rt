@@ -8,8 +8,12 @@ ghost use Rattle.wait_rule.specs.Pipes.{closed, new_end, read_end, write_end};
 ghost use Rattle.wait_rule.specs.PipeSays.{EndBecomes, IsOpen, end_at, reading, writing};
 ghost use Rattle.wait_rule.specs.Queues.{IsIdle};
 ghost use Rattle.wait_rule.specs.Says.{IsUp, added};
-ghost use Rattle.wait_rule.specs.Stays.{Carries, claim_change};
+ghost use Rattle.wait_rule.specs.Stays.{Carries, claim_change, wake_all_change};
+ghost use Rattle.wait_model.specs.declared.watches.Mode.TheVariants as mode;
+ghost use Rattle.wait_model.specs.declared.watches.Watch.TheVariants as watch;
 ghost use Rattle.wait_class.specs.Posts.{IsOut};
+ghost use Rattle.wq_head.specs.Walks.{HasEnded, HasWoken};
+ghost use Rattle.var_wait.specs.VarPublishes.{aim_of};
 ghost use Rattle.wait_pipe.specs.PassedOn.{WokeWaiters};
 ghost use Rattle.wait_pipe.specs.Pieces.{Ends, IsOpened, OthersStay};
 ghost use Rattle.wait_pipe.specs.Trails.{ClosesEnd};
@@ -17,6 +21,7 @@ ghost use Rattle.wait_pipe.specs.Trails.{ClosesEnd};
 use std::sync::Wait;
 use wait_model::heads::head_of;
 use wait_model::layout::PIPE_ENDS;
+use wait_model::queues::Walked;
 use wait_model::watches::{Mode, Watch};
 use wait_rule::pipes::{claim, close};
 use wait_rule::{Domain, Task};
@@ -71,10 +76,31 @@ fn rouse<R: Wait>(rt: &R, domain: &Domain, task: &mut Task, var: u8)
     ensures roused { WokeWaiters var task.old task.new }
 {
     task.told();
-    let watch = Watch::Var { var, old: 0 };
-    if active(domain, task, head_of(watch)) {
-        wake(rt, domain, task, watch, Mode::Normal, 1);
+    if active(domain, task, head_of(Watch::Var { var, old: 0 })) {
+        wake_end(rt, domain, task, var);
     }
+}
+
+/// Wakes those who wait for variable `var`, below `CLAIMS`, by a walk over the queue of its head with NORMAL.
+pub(crate) fn wake_end<R: Wait>(rt: &R, domain: &Domain, task: &mut Task, var: u8) -> Walked
+    requires of { task.old.domain ≡ domain.now }
+    requires up { IsUp task.old }
+    requires idle { IsIdle task.old }
+    requires var { var < CLAIMS }
+    ensures woken { HasWoken task.old task.new (aim_of var) result }
+    ensures ended { HasEnded task.old task.new (aim_of var) }
+    ensures up { IsUp task.new }
+    ensures idle { IsIdle task.new }
+    ensures carries { Carries (wake_all_change (watch.Var var 0) mode.Normal task.new.at) task.old task.new }
+{
+    wake(
+        rt,
+        domain,
+        task,
+        Watch::Var { var, old: 0 },
+        Mode::Normal,
+        1,
+    )
 }
 
 /// Closes the write end of pipe `pipe`, below `PIPES`, and wakes the reader. The task has the end and has not closed

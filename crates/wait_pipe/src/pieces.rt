@@ -24,16 +24,16 @@ ghost use Rattle.wait_pipe.specs.Trails.{
 ghost use Rattle.wait_pipe.specs.declared.pieces.PipeEnd.TheVariants as end;
 
 use crate::cells::{pack, unpack};
-use crate::ends::{READ, WRITE};
+use crate::ends::{READ, WRITE, wake_end};
 use crate::looks::{COUNTS, between, look_over, look_to_write, wait_for};
 use std::sync::Wait;
 use thiserror::Error;
 use wait_model::heads::head_of;
 use wait_model::layout::{PIPE_CELLS, PIPE_ENDS};
-use wait_model::watches::{Mode, Watch};
+use wait_model::watches::Watch;
 use wait_rule::pipes::{advance, cell_load, cell_store};
 use wait_rule::{Domain, Task};
-use wq_head::{active, wake};
+use wq_head::active;
 
 /// Why no bytes went into a pipe, or came out of it. Broken: the read end was seen closed, so nothing can be sent any
 /// more; only a write answers this. Interrupted: a signal ended the wait for the other end, and the load after it found
@@ -179,14 +179,7 @@ pub(crate) fn write_now<R: Wait>(
     task.told();
     let var = PIPE_ENDS as u8 * pipe;
     if active(domain, task, head_of(Watch::Var { var, old: 0 })) {
-        wake(
-            rt,
-            domain,
-            task,
-            Watch::Var { var, old: 0 },
-            Mode::Normal,
-            1,
-        );
+        wake_end(rt, domain, task, var);
         return Ok(Some(put));
     }
     Ok(Some(put))
@@ -362,14 +355,7 @@ pub(crate) fn read_now<R: Wait>(
     task.told();
     let var = PIPE_ENDS as u8 * pipe + READ;
     if active(domain, task, head_of(Watch::Var { var, old: 0 })) {
-        wake(
-            rt,
-            domain,
-            task,
-            Watch::Var { var, old: 0 },
-            Mode::Normal,
-            1,
-        );
+        wake_end(rt, domain, task, var);
         return Ok(got);
     }
     Ok(got)

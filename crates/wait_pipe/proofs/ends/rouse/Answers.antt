@@ -12,18 +12,13 @@ active-requires-clause-head g c =
     subst (λ (n : ℕ). n < HEADS) (sym c.head_of.ensures)
     (watch_fits (watch.Var c.args.var 0) (omega arith))
 
-pub wake-requires-clause-full : goal.wake-requires-clause-full
-wake-requires-clause-full g c =
-    let few = c.requires.var in
-    omega arith
-
 pub returns-then-active : goal.returns-then-active
 returns-then-active g c = record {
   roused = roused_some c.args.var c.args.task.now c.active.new.task c.head_of.result c.active.result c.head_of.ensures
       c.requires.idle (c.told.ensures.head ∙ c.requires.idle.free.head) c.active.ensures.scanned
       c.active.ensures.carries
-      c.if-active.true c.wake.new.task c.wake.result c.wake.ensures.woken c.wake.ensures.ended c.wake.ensures.up
-      c.wake.ensures.idle c.wake.ensures.carries;
+      c.if-active.true c.wake_end.new.task c.wake_end.result c.wake_end.ensures.woken c.wake_end.ensures.ended
+      c.wake_end.ensures.up c.wake_end.ensures.idle c.wake_end.ensures.carries;
 }
 
 pub returns-else-active : goal.returns-else-active

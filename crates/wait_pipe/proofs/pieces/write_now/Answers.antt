@@ -96,36 +96,37 @@ active-requires-clause-head g c =
     subst (λ (n : ℕ). n < HEADS) (sym c.head_of.ensures)
     (watch_fits (watch.Var (write_end c.args.pipe) 0) (omega arith))
 
-pub wake-requires-clause-of : goal.wake-requires-clause-of
-wake-requires-clause-of g c = c.active.ensures.carries.domain
+pub wake_end-requires-clause-of : goal.wake_end-requires-clause-of
+wake_end-requires-clause-of g c = c.active.ensures.carries.domain
     ∙ (c.fill-put.ensures.domain ∙ (c.look_to_write-look.ensures.waits.rests.carries.domain ∙ c.requires.of))
 
-pub wake-requires-clause-up : goal.wake-requires-clause-up
-wake-requires-clause-up g c = c.active.ensures.carries.awake ∙ c.fill-put.ensures.up
+pub wake_end-requires-clause-up : goal.wake_end-requires-clause-up
+wake_end-requires-clause-up g c = c.active.ensures.carries.awake ∙ c.fill-put.ensures.up
 
-pub wake-requires-clause-idle : goal.wake-requires-clause-idle
-wake-requires-clause-idle g c = idle_still (write_end c.args.pipe) c.fill-put.new.task c.active.new.task
+pub wake_end-requires-clause-idle : goal.wake_end-requires-clause-idle
+wake_end-requires-clause-idle g c = idle_still (write_end c.args.pipe) c.fill-put.new.task c.active.new.task
     c.active.ensures.carries c.fill-put.ensures.idle
 
-pub wake-requires-clause-full : goal.wake-requires-clause-full
-wake-requires-clause-full g c =
+pub wake_end-requires-clause-var : goal.wake_end-requires-clause-var
+wake_end-requires-clause-var g c =
     let few = c.requires.pipe in
     omega arith
 
 pub returns-then-active : goal.returns-then-active
 returns-then-active g c =
-    let f = c.fill-put.ensures.filled c.wake.new.task (roused_some (write_end c.args.pipe) c.fill-put.new.task
+    let f = c.fill-put.ensures.filled c.wake_end.new.task (roused_some (write_end c.args.pipe) c.fill-put.new.task
     c.active.new.task c.head_of.result c.active.result c.head_of.ensures c.fill-put.ensures.idle
     (c.told.ensures.head ∙ c.fill-put.ensures.idle.free.head)
-    c.active.ensures.scanned c.active.ensures.carries c.if-active.true c.wake.new.task c.wake.result
-    c.wake.ensures.woken c.wake.ensures.ended c.wake.ensures.up c.wake.ensures.idle c.wake.ensures.carries) in record {
+    c.active.ensures.scanned c.active.ensures.carries c.if-active.true c.wake_end.new.task c.wake_end.result
+    c.wake_end.ensures.woken c.wake_end.ensures.ended c.wake_end.ensures.up c.wake_end.ensures.idle
+    c.wake_end.ensures.carries) in record {
       look = put_filled c.args.pipe c.args.task.now c.look_to_write-look.new.task c.look_to_write-look.ensures.waits
-          c.requires.settled c.wake.new.task c.args.bytes.now c.fill-put.result c.fill-put.ensures.some
+          c.requires.settled c.wake_end.new.task c.args.bytes.now c.fill-put.result c.fill-put.ensures.some
           c.fill-put.ensures.most f (c.look_to_write-look.ensures.seen.ended ∙ c.if-look.false);
-      rests = then_rests (write_end c.args.pipe) c.args.task.now c.look_to_write-look.new.task c.wake.new.task
+      rests = then_rests (write_end c.args.pipe) c.args.task.now c.look_to_write-look.new.task c.wake_end.new.task
           c.look_to_write-look.ensures.waits f.rests;
       goes = wrote_some (write_end c.args.pipe) c.fill-put.result c.args.task.now c.look_to_write-look.new.task
-          c.wake.new.task c.args.bytes.now
+          c.wake_end.new.task c.args.bytes.now
           (look_shows c.args.pipe c.look_to_write-look.new.task c.look_to_write-look.result (write_end c.args.pipe)
           c.args.task.now c.look_to_write-look.ensures.seen c.look_to_write-look.ensures.loads)
           (word_open c.args.pipe c.look_to_write-look.new.task c.look_to_write-look.result (write_end c.args.pipe)

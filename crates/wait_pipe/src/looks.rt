@@ -116,6 +116,7 @@ fn other_of(own: u8) -> u8
 
 /// Waits until the word of the other end of end `own`, below `CLAIMS`, is not `word` any more, which shows that end open
 /// and no cell for this one.
+#[inline(never)]
 pub fn wait_for<R: Wait>(
     rt: &R,
     domain: &Domain,

@@ -29,14 +29,23 @@ struct Seen {
     number: u64,
 }
 
-/// The files of the system. `source` is the file that was opened last.
+/// The files of the system. `source` is the file that was opened last, and `other` the one before it, where a source was
+/// open still when that was opened.
 #[derive(Drop)]
 pub struct Disk<'r> {
     rt: &'r HostRuntime,
     source: Seen,
+    other: Option<Seen>,
     read_faults: u64,
     write_faults: u64,
     opened: u64,
+}
+
+impl Seen {
+    /// Whether it is the same file, by whatever name.
+    fn is_same(self, file: Seen) -> bool {
+        self.device == file.device && self.number == file.number
+    }
 }
 
 /// A file that is written beside the one whose name it gets in the end. One that is dropped before that is removed.
@@ -121,6 +130,7 @@ impl<'r> Disk<'r> {
                 device: 0,
                 number: 0,
             },
+            other: None,
             read_faults: 0,
             write_faults: 0,
             opened: 0,
@@ -147,17 +157,29 @@ impl<'r> Disk<'r> {
         }
     }
 
+    /// Whether a file is a source.
+    fn is_source(&self, file: Seen) -> bool {
+        self.source.is_same(file) || self.other.is_some_and(|other| other.is_same(file))
+    }
+
+    /// The rights for a new file: those that all sources have.
+    fn source_rights(&self) -> u32 {
+        match self.other {
+            Some(other) => self.source.rights & other.rights,
+            None => self.source.rights,
+        }
+    }
+
     /// The rights for a new file of that name: those of the file that has it, which has to be an ordinary one that can
-    /// be written, and not the source itself; or else those of the source.
+    /// be written, and no source itself; or else those of the sources.
     fn rights_for(&self, name: &str) -> io::Result<u32> {
         let metadata = match fs::metadata(self.rt, name) {
             Ok(metadata) => metadata,
-            Err(error) if error.kind() == ErrorKind::NotFound => return Ok(self.source.rights),
+            Err(error) if error.kind() == ErrorKind::NotFound => return Ok(self.source_rights()),
             Err(error) => return Err(error),
         };
         let old = look_at(&metadata);
-        let is_source = old.device == self.source.device && old.number == self.source.number;
-        if is_source || !metadata.is_file() {
+        if self.is_source(old) || !metadata.is_file() {
             return Err(io::Error::from(ErrorKind::InvalidInput));
         }
         File::options().write(true).open(self.rt, name)?;
@@ -236,6 +258,11 @@ impl<'r> Folder for Disk<'r> {
                 let Some(opened) = self.opened.checked_add(1) else {
                     return Err(OpenFault::OutOfMemory);
                 };
+                self.other = if self.opened > 0 {
+                    Some(self.source)
+                } else {
+                    None
+                };
                 self.opened = opened;
                 self.source = source;
                 return Ok(Reading::new(file));
@@ -252,8 +279,9 @@ impl<'r> Folder for Disk<'r> {
         }
     }
 
-    /// Makes a file beside the one of that name, with its rights, or with those of the file that was opened last. What
-    /// has the name must be an ordinary file that can be written and is not that one, or a link to such a file.
+    /// Makes a file beside the one of that name, with its rights, or with those that the sources have: the file that was
+    /// opened last, and the one before it, if that was open still. What has the name must be an ordinary file that can be
+    /// written and is none of them, or a link to such a file.
     fn create(&mut self, alloc: Global, name: &str) -> Result<Part<'r>, OpenFault> {
         let error = match self.make_part(alloc, name) {
             Ok(part) => return Ok(part),

@@ -62,6 +62,7 @@ fn shared_in(state: SleepState) -> How
 /// after it found `seen`, which is `old`; `selected` is that this hold found the entry off that the call had queued.
 /// Worn: no place was left for its entry at its head, and the load after it found `old`. The task is idle and has no
 /// entry queued, and so it is afterwards; it owes what it owed.
+#[inline(always)]
 pub fn wait_var<R: Wait>(
     rt: &R,
     domain: &Domain,

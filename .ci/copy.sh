@@ -8,91 +8,9 @@
 # status is 1 where one failed or a program isn't there. Some cases are tried as the user nobody where this is root.
 set -u
 
-root=$(dirname -- "$(dirname -- "$(readlink -f -- "${BASH_SOURCE[0]}")")")
-work=$(mktemp -d)
-end() {
-    ! mountpoint -q -- "$work/here/disk" || umount -l -- "$work/here/disk"
-    rm -rf -- "$work"
-}
-trap end EXIT
-chmod 755 -- "$work"
-passed=0
-failed=0
-usage='waitq: usage: '
-unread='waitq: read failed'
-unwritten='waitq: write failed'
 killed='waitq: killed'
-as=()
-
-pass() {
-    passed=$((passed + 1))
-}
-
-fail() {
-    failed=$((failed + 1))
-    printf 'FAILED: %s\n' "$*"
-}
-
-# Counts a case: a command that is to succeed, and what is said where it does not.
-holds() {
-    local what=$1
-    shift
-    if "$@"; then
-        pass
-    else
-        fail "$what"
-    fi
-}
-
-# Runs the program with words, as whom `as` says, and leaves its status and its streams.
-run() {
-    timeout 60 "${as[@]}" ./waitq "$@" >"$work/out" 2>"$work/said"
-    status=$?
-}
-
-# Compares the last run with a status and the line that it said. With status 0 it says nothing; with any other it
-# writes nothing.
-expect() {
-    local what=$1 wanted=$2 line=${3:-}
-    if [ "$status" != "$wanted" ]; then
-        fail "$what: status $status: $(head -c 200 -- "$work/said")"
-    elif [ "$status" = 0 ] && [ -s "$work/said" ]; then
-        fail "$what: status 0 says $(head -c 200 -- "$work/said")"
-    elif [ "$status" != 0 ] && [[ $(cat -- "$work/said") != "$line"* || -s $work/out ]]; then
-        fail "$what: says $(head -c 200 -- "$work/said"), writes $(head -c 200 -- "$work/out")"
-    else
-        pass
-    fi
-}
-
-# Whether a file is another one's copy, and no part is left.
-same() {
-    if ! cmp -s -- "$2" "$3"; then
-        fail "$1: the files differ"
-    else
-        whole "$1"
-    fi
-}
-
-# Whether a file is a front of another one.
-is_front() {
-    [ "$(stat -c %s -- "$1")" -le "$(stat -c %s -- "$2")" ] && cmp -s -n "$(stat -c %s -- "$1")" -- "$1" "$2"
-}
-
-# Whether a file is one of two others.
-is_either() {
-    cmp -s -- "$1" "$2" || cmp -s -- "$1" "$3"
-}
-
-# Whether no part is left.
-whole() {
-    if [ -n "$(find . -name '*.part*' -print -quit)" ]; then
-        fail "$1: there is $(find . -name '*.part*' -print -quit)"
-        find . -name '*.part*' -delete
-    else
-        pass
-    fi
-}
+# shellcheck source=.ci/cases.sh
+. "$(dirname -- "$(readlink -f -- "${BASH_SOURCE[0]}")")/cases.sh"
 
 # Copies with words that are to be refused, or to fail, while `old` is the second file: it stays, and no part is left.
 refused() {
@@ -158,22 +76,7 @@ refusals() {
 
 # What the system refuses to a user who is not root.
 forbidden() {
-    mkdir -p mine
-    printf 'closed\n' >mine/closed
-    chmod 000 mine/closed
-    printf 'before\n' >mine/old
-    chmod 444 mine/old
-    mkdir -p mine/shut
-    chmod 555 mine/shut
-    if [ "$(id -u)" = 0 ]; then
-        chown -R nobody mine
-        as=(setpriv --reuid nobody --regid nogroup --clear-groups --)
-    fi
-    if ! "${as[@]}" test -x waitq; then
-        printf 'not tried: as another user\n'
-        as=()
-        return
-    fi
+    become_another || return
     refused "a file that can't be read" 4 "$unread" mine/closed mine/new
     holds "a file that can't be read: the second was made" [ ! -e mine/new ]
     refused "the second in a folder that can't be written" 5 "$unwritten" a mine/shut/b
@@ -289,11 +192,7 @@ streams() {
 
 # A disk of 64 KiB, where one can be mounted.
 small_disk() {
-    mkdir -p disk
-    if ! mount -t tmpfs -o size=64k tmpfs disk 2>"$work/said"; then
-        printf 'not tried: a full disk\n'
-        return
-    fi
+    mount_small || return
     printf 'before\n' >disk/old
     run copy sample disk/old
     expect "a full disk" 5 "$unwritten"
@@ -406,24 +305,8 @@ planned() {
     done
 }
 
-# Each allocation, and each start of a thread, failing in turn.
-allocations() {
-    "$root/bench/fail_each_copy.sh" "$PWD/waitq" >"$work/out" 2>"$work/said"
-    case $? in
-    0) pass ;;
-    77) printf 'not tried: failing allocations, since there is no C compiler\n' ;;
-    *) fail "$(head -n 1 -- "$work/said")" ;;
-    esac
-}
-
-# Tries all cases on a program, in a folder of its own.
+# Tries all cases on the program in this folder.
 check() {
-    rm -rf -- "$work/here"
-    mkdir -m 755 -- "$work/here"
-    cd -- "$work/here" || exit 1
-    cp -- "$1" waitq
-    chmod 755 waitq
-    seq 1 200000 | head -c 1048576 >sample
     sizes
     head -c 20000 sample >a
     head -c 100 sample >short_sample
@@ -439,24 +322,8 @@ check() {
     at_once
     synced
     planned
-    allocations
-    cd -- "$root" || exit 1
+    # each allocation, and each start of a thread, failing in turn
+    fail_each "$PWD/waitq"
 }
 
-if [ $# = 0 ]; then
-    set -- "$root/crates/waitq/out/waitq"
-    [ ! -e "$1.by-rattle" ] || set -- "$1" "$1.by-rattle"
-fi
-programs=()
-for program; do
-    if [ -x "$program" ]; then
-        programs+=("$(readlink -f -- "$program")")
-    else
-        fail "$program is not built"
-    fi
-done
-for program in "${programs[@]}"; do
-    check "$program"
-done
-printf '%d passed, %d failed\n' "$passed" "$failed"
-[ "$failed" = 0 ]
+try_all "$@"

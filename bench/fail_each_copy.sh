@@ -1,16 +1,19 @@
 #!/usr/bin/env bash
-# Copies a file of 20,000 bytes with each allocation of the program, and each start of a thread, failing in turn, until
-# a copy had none left to fail: to a new name, and over an old file.
+# Copies a file of 20,000 bytes, or merges it with another one, with each allocation of the program, and each start of a
+# thread, failing in turn, until a copy had none left to fail: to a new name, and over an old file.
 #
-# usage: bench/fail_each_copy.sh [PROGRAM]        (what `rt run` built in crates/waitq if none is given)
+# usage: bench/fail_each_copy.sh [--merge] [PROGRAM]        (what `rt run` built in crates/waitq if none is given)
 #
-# A copy may end with status 7, out of memory, and then what was under the second name is there; or with status 0 and
-# its text, where what failed was not needed, and then the file of that name has just the bytes of the first one.
-# Anything else fails, and so does a copy that takes more than 20 seconds, and a file that is left beside the two. It
-# needs a C compiler, for a library that is loaded before C's; status 77 says that there is none.
+# A copy may end with status 7, out of memory, and then what was under the last name is there; or with status 0 and its
+# text, where what failed was not needed, and then the file of that name has just the bytes of the first one, or of the
+# two, those of each in their order. Anything else fails, and so does a copy that takes more than 20 seconds, and a file
+# that is left beside these. It needs a C compiler, for a library that is loaded before C's; status 77 says that there is
+# none.
 set -u
 
 root=$(cd "$(dirname "$(readlink -f "${BASH_SOURCE[0]}")")/.." && pwd)
+what=copy
+[ "${1:-}" != --merge ] || { what=merge && shift; }
 program=$(readlink -f "${1:-$root/crates/waitq/out/waitq}")
 work=$(mktemp -d)
 trap 'rm -rf "$work"' EXIT
@@ -69,7 +72,14 @@ mkdir "$work/files"
 for _ in $(seq 250); do
     printf 'a line of bytes that is eighty long with its end, and of which there are 250 ..\n'
 done >"$work/files/a"
-printf 'copied 20000 bytes\nmoved 60000\nwatch 0 20000\nwatch 1 250\nsignals 0\n' >"$work/expected"
+head -c 20000 /dev/zero | tr '\0' '#' >"$work/files/c"
+sources=("$work/files/a")
+if [ "$what" = merge ]; then
+    sources+=("$work/files/c")
+    printf 'merged 40000 bytes\nmoved 120000\n' >"$work/expected"
+else
+    printf 'copied 20000 bytes\nmoved 60000\nwatch 0 20000\nwatch 1 250\nsignals 0\n' >"$work/expected"
+fi
 printf 'waitq: out of memory\n' >"$work/line"
 
 printf 'before\n' >"$work/before"
@@ -89,12 +99,18 @@ is_as_before() {
     fi
 }
 
+# Whether the file b has the bytes of the sources, those of each in their order.
+is_whole() {
+    tr -d '#' <"$work/files/b" | cmp -s - "$work/files/a" || return
+    [ "$what" = copy ] || tr -dc '#' <"$work/files/b" | cmp -s - "$work/files/c"
+}
+
 # Copies with the call of this number failing, and looks at what the copy wrote, said and left.
 copy() {
     rm -f "$work/files/b" "$work/failed"
     [ "$over" = "a new name" ] || cp "$work/before" "$work/files/b"
     timeout 20 env FAILING="$number" FAILED="$work/failed" LD_PRELOAD="$work/failing.so" \
-        "$program" copy "$work/files/a" "$work/files/b" >"$work/text" 2>"$work/said"
+        "$program" "$what" "${sources[@]}" "$work/files/b" >"$work/text" 2>"$work/said"
     status=$?
     [ "$status" != 124 ] || fail "the copy did not end in 20 seconds"
     [ -z "$(find "$work/files" -name '*.part*')" ] || fail "a file is left beside b"
@@ -107,7 +123,7 @@ copy() {
         ;;
     0)
         cmp -s "$work/text" "$work/expected" || fail "status 0, and the text isn't that of the copy"
-        cmp -s "$work/files/a" "$work/files/b" || fail "status 0, and b isn't a"
+        is_whole || fail "status 0, and b has other bytes"
         ;;
     *) fail "status $status" ;;
     esac

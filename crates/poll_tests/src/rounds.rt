@@ -1,0 +1,185 @@
+//! A task that waits for two conditions, and others that set one each, in threads of their own, again and again, in
+//! Domains whose tasks park at once when they are put asleep.
+
+ghost use Rattle.std.specs.Prelude.{◌≡◌, ◌<◌};
+ghost use Rattle.wait_rule.specs.Says.{IsClean};
+
+use crate::calls::{polls, sets, signals, stores};
+use crate::wants::{all_so, another};
+use poll_wait::{PollEnd, Ready};
+use std::sync::Wait;
+use std::test::Fail;
+use std::thread;
+use test_tasks::meetings::{Part, meet_four};
+use wait_model::tasks::SleepState;
+use wait_model::watches::Watch;
+use wait_rule::{Domain, Task};
+
+/// How many rounds each test makes.
+const ROUNDS: u32 = 300;
+
+/// The condition and the variable of the tests.
+const COND: u8 = 3;
+
+const VAR: u8 = 20;
+
+/// What a task does in a round.
+#[derive(Clone, Copy)]
+pub(crate) enum Plays {
+    /// It waits for the condition or the variable, and then for the other one.
+    SeesBoth,
+    /// It waits for either, unless a signal ends that.
+    SeesUnlessSignalled,
+    /// It sets the condition.
+    Sets { late: u32 },
+    /// It stores the variable.
+    Stores { late: u32 },
+    /// It sends a plain signal.
+    Signals { who: u8, late: u32 },
+    /// It waits for the condition and another variable, at the heads of which the others wait too.
+    Stranger,
+}
+
+impl Part for Plays {
+    fn play<R: Wait>(self, rt: &R, domain: &Domain, task: &mut Task) -> bool {
+        match self {
+            Plays::SeesBoth => see_both(rt, domain, task),
+            Plays::SeesUnlessSignalled => see_unless_signalled(rt, domain, task),
+            Plays::Sets { late } => {
+                yields(late);
+                sets(rt, domain, task, COND, 7);
+                true
+            }
+            Plays::Stores { late } => {
+                yields(late);
+                stores(rt, domain, task, VAR, 5);
+                true
+            }
+            Plays::Signals { who, late } => {
+                yields(late);
+                signals(rt, domain, task, who, false);
+                true
+            }
+            Plays::Stranger => stranger(rt, domain, task),
+        }
+    }
+}
+
+/// Yields so often.
+fn yields(late: u32) {
+    for _ in 0..late {
+        thread::yield_now();
+    }
+}
+
+/// Waits for either, and then for the other one beside a variable that nobody stores.
+fn see_both<R: Wait>(rt: &R, domain: &Domain, task: &mut Task) -> bool
+    requires of { task.old.domain ≡ domain.now }
+    requires clean { IsClean task.old }
+    ensures of { task.new.domain ≡ domain.now }
+    ensures clean { IsClean task.new }
+{
+    let cond = Watch::Plain { cond: COND };
+    let var = Watch::Var { var: VAR, old: 0 };
+    let idle = Watch::Var { var: 30, old: 0 };
+    let state = SleepState::Uninterruptible;
+    match polls(rt, domain, task, cond, var, state) {
+        Ok(Ready::First { value: 7 }) => matches!(
+            polls(rt, domain, task, idle, var, state),
+            Ok(Ready::Second { value: 5 })
+        ),
+        Ok(Ready::Second { value: 5 }) => matches!(
+            polls(rt, domain, task, cond, idle, state),
+            Ok(Ready::First { value: 7 })
+        ),
+        _ => false,
+    }
+}
+
+/// Waits for either, unless a signal ends that.
+fn see_unless_signalled<R: Wait>(rt: &R, domain: &Domain, task: &mut Task) -> bool
+    requires of { task.old.domain ≡ domain.now }
+    requires clean { IsClean task.old }
+    ensures of { task.new.domain ≡ domain.now }
+    ensures clean { IsClean task.new }
+{
+    let cond = Watch::Plain { cond: COND };
+    let var = Watch::Var { var: VAR, old: 0 };
+    match polls(rt, domain, task, var, cond, SleepState::Interruptible) {
+        Ok(Ready::First { value }) => value == 5,
+        Ok(Ready::Second { value }) => value == 7,
+        Err(PollEnd::Signal { first, second }) => first == 0 && second == 0,
+        Err(PollEnd::Worn { .. }) => false,
+    }
+}
+
+/// Waits for the condition beside another variable of the same table.
+fn stranger<R: Wait>(rt: &R, domain: &Domain, task: &mut Task) -> bool
+    requires of { task.old.domain ≡ domain.now }
+    requires clean { IsClean task.old }
+    ensures of { task.new.domain ≡ domain.now }
+    ensures clean { IsClean task.new }
+{
+    let cond = Watch::Plain { cond: COND };
+    let other = Watch::Plain { cond: 4 };
+    matches!(
+        polls(rt, domain, task, other, cond, SleepState::Killable),
+        Ok(Ready::Second { value: 7 })
+    )
+}
+
+/// Each of the two sets is seen, whenever it comes, and a stranger at one of the heads sees it too.
+#[test]
+fn each_set_is_seen(rt: HostRuntime) -> Result<(), Fail> {
+    for round in 0..ROUNDS {
+        let (domain, mut task) = Domain::with_looks(rt.alloc(), 0)?;
+        let one = another(&rt, &domain, &mut task);
+        let two = another(&rt, &domain, &mut task);
+        let three = another(&rt, &domain, &mut task);
+        let sets = Plays::Sets { late: round % 7 };
+        let stores = Plays::Stores {
+            late: (round / 7) % 7,
+        };
+        let ((first, one), (two, three)) = meet_four(
+            &rt,
+            &domain,
+            (task, one),
+            (two, three),
+            (sets, stores),
+            (Plays::SeesBoth, Plays::Stranger),
+        );
+        all_so(&rt, &[first.1, one.1, two.1, three.1]);
+    }
+    Ok(())
+}
+
+/// A signal at each moment beside two sets ends the poll only where it finds neither.
+#[test]
+fn signal_ends_it_only_where_neither_is_set(rt: HostRuntime) -> Result<(), Fail> {
+    for round in 0..ROUNDS {
+        let (domain, mut task) = Domain::with_looks(rt.alloc(), 0)?;
+        let one = another(&rt, &domain, &mut task);
+        let two = another(&rt, &domain, &mut task);
+        let three = another(&rt, &domain, &mut task);
+        let signals = Plays::Signals {
+            who: two.number(),
+            late: round % 5,
+        };
+        let sets = Plays::Sets {
+            late: (round / 5) % 5,
+        };
+        let stores = Plays::Stores {
+            late: (round / 25) % 5,
+        };
+        let ((first, one), (two, three)) = meet_four(
+            &rt,
+            &domain,
+            (task, one),
+            (two, three),
+            (signals, sets),
+            (Plays::SeesUnlessSignalled, stores),
+        );
+        all_so(&rt, &[first.1, one.1, two.1, three.1]);
+    }
+    Ok(())
+}

@@ -1,0 +1,4 @@
+pub mod Seconds
+pub mod SecondSteps
+pub mod Polls
+pub mod TurnSteps

@@ -53,7 +53,7 @@ fn join_held(domain: &Domain, task: &mut Task, watch: Watch) -> Result<(), Worn>
         return Ok(());
     }
     let bare = watch.bare();
-    match add_front(domain, task, 1, bare.kind(), bare) {
+    match add_front(domain, task, 1, watch.kind(), bare) {
         Ok(()) => Ok(()),
         Err(worn) => {
             second_entry(domain, task);

@@ -1,0 +1,87 @@
+-- What calls carry on, one after the other.
+use Rattle.std.proofs.Common.{◌∙◌, ap, sym, refl, subst}
+use Rattle.std.specs.Prelude.{ℕ, ◌≡◌, ◌==◌, ◌||◌, Bool, true, false, Option, Some}
+use Rattle.wait_model.specs.declared.watches.Entry.{Entry}
+use Rattle.wait_rule.specs.Known.{Known}
+use Rattle.wait_rule.specs.Queues.{index}
+use Rattle.wait_rule.specs.Says.{Excuse, IsOutBut, Owes, told_of}
+use Rattle.wait_rule.specs.Stays.{Carries, Change, unchanged, with_entry}
+use Rattle.wait_rule.proofs.KnownLaws.Debts.{entries_debts}
+
+-- a change of what it owes, of some entries, of the state and of the head that was locked last, with looks at others
+abbrev pub changes : (from to : Excuse → Excuse) (but : ℕ → Bool) (state at : ℕ → ℕ) → Change
+changes from to but state at = record unchanged {
+  from = from;
+  to = to;
+  but = but;
+  looks = true;
+  state = state;
+  at = at;
+}
+
+-- said of more entries, and for another excuse
+pub carries_more : (f g : Excuse → Excuse) (less : ℕ → Bool) (looks : Bool) (s at : ℕ → ℕ) (from to : Excuse → Excuse)
+    (but : ℕ → Bool) (a b : Known)
+    → Carries (record unchanged { from = f; to = g; but = less; looks = looks; state = s; at = at }) a b
+    → ((x : ℕ) → but x ≡ false → less x ≡ false) → ((x : Excuse) → Owes (from x) a → Owes (to x) b)
+    → Carries (changes from to but s (λ _. b.at)) a b
+carries_more f g less looks s at from to but a b c away owes = record {
+  domain = c.domain;
+  number = c.number;
+  awake = c.awake;
+  state = c.state;
+  head = c.head;
+  ticket = c.ticket;
+  hold = c.hold;
+  at = refl;
+  mark = c.mark;
+  fewer = c.fewer;
+  stored = λ x none is. absurd (cc);
+  out = λ x other is. c.out x (away x other) is;
+  stands = λ slot few other e is own. c.stands slot few (away (index a.view.number slot) other) e is own;
+  keeps = c.keeps;
+  owes = owes;
+}
+
+pub carries_on : (f g e : Excuse → Excuse) (but : ℕ → Bool) (s t p q : ℕ → ℕ) (a b c : Known)
+    → Carries (changes f g but s p) a b → Carries (changes g e but t q) b c
+    → Carries (changes f e but (λ σ. t (s σ)) (λ h. q (p h))) a c
+carries_on f g e but s t p q a b c one two = record {
+  domain = two.domain ∙ one.domain;
+  number = two.number ∙ one.number;
+  awake = two.awake ∙ one.awake;
+  state = two.state ∙ ap t one.state;
+  head = two.head ∙ one.head;
+  ticket = two.ticket ∙ one.ticket;
+  hold = two.hold ∙ one.hold;
+  at = two.at ∙ ap q one.at;
+  mark = two.mark ∙ one.mark;
+  fewer = λ w σ none is. two.fewer w σ refl (one.fewer w σ refl is);
+  stored = λ x none is. absurd (cc);
+  out = λ x other is. two.out x other (one.out x other is);
+  stands = λ slot few other d is own. subst (λ (n : ℕ). (told_of c).bits.stored (index n slot) ≡ Some d) one.number
+      (two.stands slot few (ap (λ (n : ℕ). but (index n slot)) one.number ∙ other) d
+      (subst (λ (n : ℕ). (told_of b).bits.stored (index n slot) ≡ Some d) (sym one.number)
+      (one.stands slot few other d is own)) own);
+  keeps = λ d none. two.keeps d refl ∙ one.keeps d refl;
+  owes = λ x o. two.owes x (one.owes x o);
+}
+
+-- two entries of which it is excused, in either order
+out_swap : (a b c : Bool) (s : Option Entry) → IsOutBut (a || (b || c)) s → IsOutBut (b || (a || c)) s
+out_swap true true c s o = tt
+out_swap true false c s o = tt
+out_swap false true c s o = tt
+out_swap false false c s o = o
+
+pub owes_swap : (i j : ℕ) (x : Excuse) (k : Known) → Owes (with_entry i (with_entry j x)) k
+    → Owes (with_entry j (with_entry i x)) k
+unfolding with_entry
+owes_swap i j x k o = record {
+  unmarked = o.unmarked;
+  debts = entries_debts (with_entry i (with_entry j x)) (with_entry j (with_entry i x)) k refl refl refl refl o.debts;
+  unqueued = λ y. out_swap (y == i) (y == j) (x.entries y) ((told_of k).bits.stored y) (o.unqueued y);
+  holds = o.holds;
+  tries = o.tries;
+  tries_none = o.tries_none;
+}

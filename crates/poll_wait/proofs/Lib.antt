@@ -1,0 +1,10 @@
+-- The proofs.
+pub mod Near
+pub mod Beside
+pub mod Carrying
+pub mod Programs
+pub mod SecondLooks
+pub mod Joining
+pub mod Leaving
+pub mod Polled
+pub mod Pairing

@@ -10,6 +10,7 @@ use Rattle.wait_model.specs.declared.points.PreparePoint.TheVariants as preparin
 use Rattle.wait_model.specs.declared.queues.Form.TheVariants as forms
 use Rattle.wait_model.specs.declared.steps.Step.TheVariants as step
 use Rattle.wait_model.specs.declared.watches.Entry.{Entry}
+use Rattle.wait_model.specs.declared.watches.Kind.{Kind}
 use Rattle.wait_model.specs.declared.watches.Watch.{Watch}
 use Rattle.wait_model.specs.Programs.{zero_answer}
 use Rattle.wait_model.specs.Views.{Look}
@@ -120,10 +121,11 @@ module _ (w : Watch) (old mid : Known) (o : Option Entry) (own : HasSeenSecond o
     same = ap (λ (n : ℕ). index n 1) own.carries.number
 
     -- it is queued
-    pub adds_joined : (c : Watch) → c ≡ bare w → (new : Known)
-        → HasAdded IsFrontPlace mid new 1 (front_entry c (kind_for w)) → JoinsHeld w old new (Ok tt)
-    adds_joined c is new x = subst (λ (d : Watch). HasAdded IsFrontPlace mid new 1 (front_entry d (kind_for w))
-        → HasJoined w old new) (sym is) by x
+    pub adds_joined : (k : Kind) → k ≡ kind_for w → (c : Watch) → c ≡ bare w → (new : Known)
+        → HasAdded IsFrontPlace mid new 1 (front_entry c k) → JoinsHeld w old new (Ok tt)
+    adds_joined k kind c is new x = by
+        (subst (λ (d : Watch). HasAdded IsFrontPlace mid new 1 (front_entry d (kind_for w))) is
+        (subst (λ (d : Kind). HasAdded IsFrontPlace mid new 1 (front_entry c d)) kind x))
       where
         by : HasAdded IsFrontPlace mid new 1 (front_entry (bare w) (kind_for w)) → HasJoined w old new
         by y =
@@ -206,8 +208,24 @@ module _ (w : Watch) (old mid : Known) (o : Option Entry) (own : HasSeenSecond o
             noted = note_on;
           }
 
+-- the head that is held stays
+pub held_at : (w : Watch) (a b : Known) (r : Result (Unit {0}) Worn) → JoinsHeld w a b r → b.at ≡ a.at
+held_at w a b (Ok u) x = x.carries.at
+held_at w a b (Err v) x = x.carries.at
+
+-- in the hold
+module _ (w : Watch) (old a : Known) where
+  pub joins_home : MayJoin old w → Carries (lock_change (head_of w)) old a
+      → IsPart w (kind_for w) ((told_of a).bits.stored (second_of a))
+  joins_home may one = subst (IsPart w (kind_for w))
+      (sym (ap (λ (n : ℕ). (told_of a).bits.stored (index n 1)) one.number ∙ one.stored (second_of old) refl refl)) may.home
+
+  pub joins_low : Carries (lock_change (head_of w)) old a → head_of w < FIRST_DONE_HEAD → (c : Known) → c.at ≡ a.at
+      → OwesNoPermit c
+  joins_low one low c same = owes_low c (head_of w) (same ∙ one.at) low
+
 -- the whole add: the lock, what the hold does, and the unlock
-module _ (w : Watch) (old a b new : Known) (may : MayJoin old w) (told : IsTold old) (low : head_of w < FIRST_DONE_HEAD)
+module _ (w : Watch) (old a b new : Known) (may : MayJoin old w) (told : IsTold old)
     (l : HasLocked old a (head_of w) (walk_of_hold (head_of w) None)) (one : Carries (lock_change (head_of w)) old a)
     where
   abbrev h : ℕ
@@ -215,13 +233,6 @@ module _ (w : Watch) (old a b new : Known) (may : MayJoin old w) (told : IsTold 
 
   abbrev g : Program
   g = join_program old.view.number w
-
-  pub joins_home : IsPart w (kind_for w) ((told_of a).bits.stored (second_of a))
-  joins_home = subst (IsPart w (kind_for w))
-      (sym (ap (λ (n : ℕ). (told_of a).bits.stored (index n 1)) one.number ∙ one.stored (second_of old) refl refl)) may.home
-
-  pub joins_low : (c : Known) → c.at ≡ a.at → OwesNoPermit c
-  joins_low c same = owes_low c h (same ∙ one.at) low
 
   abbrev turn : Known
   turn = turn_of old a h (walk_of_hold h None) l

@@ -8,3 +8,5 @@ pub mod Joining
 pub mod Leaving
 pub mod Polled
 pub mod Pairing
+pub mod Queueing
+pub mod Sleeping

@@ -1,6 +1,6 @@
 -- What steps of a poll leave alone: tallies, signals, ends of pipes and completions.
-use Rattle.std.proofs.Common.{refl, sym, ◌∙◌, ap, subst, append-nil, append_assoc}
-use Rattle.std.specs.Prelude.{ℕ, ◌≡◌, ◌<◌, ◌&&◌, ◌==◌, not, if◌then◌else◌, Bool, true, false, Option, Some, None}
+use Rattle.std.proofs.Common.{refl, sym, ◌∙◌, ap, subst, append_assoc}
+use Rattle.std.specs.Prelude.{ℕ, ◌≡◌, ◌<◌, ◌&&◌, ◌==◌, not, if◌then◌else◌, Bool, true, false, Option}
 use Rattle.std.specs.Prelude.{List, [], ◌∷◌, ◌++◌}
 use Rattle.wait_model.specs.declared.layout.TheConstants.{FIRST_DONE_HEAD}
 use Rattle.wait_model.specs.declared.calls.Call.TheVariants as calls
@@ -16,7 +16,7 @@ use Rattle.wait_rule.specs.declared.journal.Item.TheVariants as item
 use Rattle.wait_rule.specs.Aside.{GrowsAside, raised_by}
 use Rattle.wait_rule.specs.Items.{steps_of}
 use Rattle.wait_rule.specs.Known.{Known}
-use Rattle.wait_rule.specs.Pipes.{End, after_look, end_from, end_step, if_unclosed, no_end, other_end}
+use Rattle.wait_rule.specs.Pipes.{End, after_look, end_step, if_unclosed, no_end, other_end}
 use Rattle.wait_rule.specs.PipeSays.{KeepsEnd, end_at}
 use Rattle.wait_rule.specs.Says.{added, history_of}
 use Rattle.wait_rule.specs.Transitions.{AreLooks, OnlyLooks, after_step_or_look, by_step, with_lock}

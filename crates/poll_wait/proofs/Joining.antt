@@ -1,7 +1,7 @@
 -- The second entry is queued, in its hold and as a whole.
 use Rattle.std.proofs.Common.{◌∙◌, ap, sym, refl, subst}
-use Rattle.std.specs.Prelude.{ℕ, ◌≡◌, ◌<◌, ◌==◌, Bool, true, false, is_some, Option, Some, None, Result, Ok, Err, [], ◌∷◌}
-use Rattle.wait_model.specs.declared.layout.TheConstants.{FIRST_DONE_HEAD, FIRST_SIMPLE}
+use Rattle.std.specs.Prelude.{ℕ, ◌≡◌, ◌<◌, Bool, true, false, is_some, Option, Some, None, Result, Ok, Err, [], ◌∷◌}
+use Rattle.wait_model.specs.declared.layout.TheConstants.{FIRST_DONE_HEAD}
 use Rattle.wait_model.specs.declared.calls.Answer.TheVariants as answer
 use Rattle.wait_model.specs.declared.points.Next.{Next}
 use Rattle.wait_model.specs.declared.points.Next.TheVariants as next
@@ -21,9 +21,9 @@ use Rattle.wait_rule.specs.Ends.{WasWorn}
 use Rattle.wait_rule.specs.HandedPermits.{OwesNoPermit}
 use Rattle.wait_rule.specs.Known.{Known}
 use Rattle.wait_rule.specs.Queues.{IsFrontPlace, IsTold, at_head, index, saw, walk_of_hold}
-use Rattle.wait_rule.specs.Says.{Excuse, IsFree, IsUp, Owes, added, stored_with, told_of}
-use Rattle.wait_rule.specs.Stays.{Carries, lock_change, no_entries, only, only_looks, queue_change, unlock_change}
-use Rattle.wait_rule.specs.Stays.{unchanged, with_entry}
+use Rattle.wait_rule.specs.Says.{added, stored_with, told_of}
+use Rattle.wait_rule.specs.Stays.{Carries, lock_change, no_entries, only, queue_change, unlock_change}
+use Rattle.wait_rule.specs.Stays.{with_entry}
 use Rattle.wait_rule.specs.Transitions.{Goes, IsSeenAs, OnlyLooks, Program, by_step, is_worn}
 use Rattle.wait_rule.proofs.KnownLaws.MemberBits.{bit_looks}
 use Rattle.wait_rule.proofs.KnownLaws.Transitions.{only_looked, only_none, only_on}
@@ -48,7 +48,7 @@ use Rattle.wait_event.specs.Prepares.{IsPart}
 use Rattle.wait_event.proofs.Entering.{hold_carried, note_unlocked, runs_lock, unlock_looks}
 use Rattle.wait_event.proofs.PartSteps.{part_of}
 use Rattle.poll_wait.specs.Seconds.{EndsJoin, MayJoin, join_change, join_program, second_of}
-use Rattle.poll_wait.specs.SecondSteps.{HasJoined, HasNoPlace, HasSeenSecond, JoinsHeld, SecondCarries, joined_at}
+use Rattle.poll_wait.specs.SecondSteps.{HasJoined, HasSeenSecond, JoinsHeld, SecondCarries, joined_at}
 use Rattle.poll_wait.proofs.Carrying.{carries_on}
 use Rattle.poll_wait.proofs.SecondLooks.{finds_second, hold_looks, second_is, second_looks, second_stored}
 
@@ -227,106 +227,106 @@ module _ (w : Watch) (old a : Known) where
 -- the whole add: the lock, what the hold does, and the unlock
 module _ (w : Watch) (old a b new : Known) (may : MayJoin old w) (told : IsTold old)
     (l : HasLocked old a (head_of w) (walk_of_hold (head_of w) None)) (one : Carries (lock_change (head_of w)) old a)
-    where
-  abbrev h : ℕ
-  h = head_of w
+  where
+    abbrev h : ℕ
+    h = head_of w
 
-  abbrev g : Program
-  g = join_program old.view.number w
+    abbrev g : Program
+    g = join_program old.view.number w
 
-  abbrev turn : Known
-  turn = turn_of old a h (walk_of_hold h None) l
+    abbrev turn : Known
+    turn = turn_of old a h (walk_of_hold h None) l
 
-  abbrev locked : Known
-  locked = at_head h (added turn (item.Made (step.Lock h (walk_of_hold h None) l.found)))
+    abbrev locked : Known
+    locked = at_head h (added turn (item.Made (step.Lock h (walk_of_hold h None) l.found)))
 
-  locks : Runs g old a (next.Go (at.Prepare preparing.Lock)) (next.Go (at.Prepare preparing.Queue))
-  locks = runs_lock g (next.Go (at.Prepare preparing.Lock)) (next.Go (at.Prepare preparing.Queue)) old a h l
-      (runs_one g (at.Prepare preparing.Lock) old turn locked nothing
-      (by_step (step.Lock h (walk_of_hold h None) l.found)) (turn_looks old a h (walk_of_hold h None) l) (refl, refl)
-      (tt, tt, tt) (only_none locked))
+    locks : Runs g old a (next.Go (at.Prepare preparing.Lock)) (next.Go (at.Prepare preparing.Queue))
+    locks = runs_lock g (next.Go (at.Prepare preparing.Lock)) (next.Go (at.Prepare preparing.Queue)) old a h l
+        (runs_one g (at.Prepare preparing.Lock) old turn locked nothing
+        (by_step (step.Lock h (walk_of_hold h None) l.found)) (turn_looks old a h (walk_of_hold h None) l) (refl, refl)
+        (tt, tt, tt) (only_none locked))
 
-  module _ (u : HasUnlocked b new false) (three : Carries unlock_change b new) where
-    for_number : (from to : Next) → Runs (join_program a.view.number w) a b from to → Runs g a b from to
-    for_number from to r = record {
-      transitions = r.transitions;
-      goes = subst (λ (n : ℕ). Goes (join_program n w) a from r.transitions b to) one.number r.goes;
-    }
+    module _ (u : HasUnlocked b new false) (three : Carries unlock_change b new) where
+      for_number : (from to : Next) → Runs (join_program a.view.number w) a b from to → Runs g a b from to
+      for_number from to r = record {
+        transitions = r.transitions;
+        goes = subst (λ (n : ℕ). Goes (join_program n w) a from r.transitions b to) one.number r.goes;
+      }
 
-    second_same : second_of a ≡ second_of old
-    second_same = ap (λ (n : ℕ). index n 1) one.number
+      second_same : second_of a ≡ second_of old
+      second_same = ap (λ (n : ℕ). index n 1) one.number
 
-    at_lock : (b.at ≡ a.at) → b.at ≡ h
-    at_lock same = same ∙ one.at
+      at_lock : (b.at ≡ a.at) → b.at ≡ h
+      at_lock same = same ∙ one.at
 
-    unlocks : (x : HasJoined w a b) → Runs g b new (next.Go (joined_at x.still)) (next.Ends zero_answer)
-    unlocks x = by x.still refl
-      where
-        by : (s : Bool) → x.still ≡ s → Runs g b new (next.Go (joined_at s)) (next.Ends zero_answer)
-        by true is = runs_one g (at.Prepare preparing.Queue) b b new (finds (Some x.entry))
-            (by_step (step.Unlock b.at false)) (only_none b) (at_lock x.carries.at, refl) (
+      unlocks : (x : HasJoined w a b) → Runs g b new (next.Go (joined_at x.still)) (next.Ends zero_answer)
+      unlocks x = by x.still refl
+        where
+          by : (s : Bool) → x.still ≡ s → Runs g b new (next.Go (joined_at s)) (next.Ends zero_answer)
+          by true is = runs_one g (at.Prepare preparing.Queue) b b new (finds (Some x.entry))
+              (by_step (step.Unlock b.at false)) (only_none b) (at_lock x.carries.at, refl) (
+                tt,
+                (
+                  subst (λ (n : ℕ). IsSeenAs ((told_of b).hold.book n) (Some x.entry)) second_same (x.shows is),
+                  λ never. absurd (cc),
+                ),
+                tt,
+              ) (unlock_looks b new u.is)
+          by false is = runs_one g (at.Prepare preparing.Unlock) b b new nothing (by_step (step.Unlock b.at false))
+              (only_none b) (at_lock x.carries.at, refl) (tt, tt, tt) (unlock_looks b new u.is)
+
+      held_none : (told_of old).hold.head ≡ None
+      held_none = told.head ∙ may.free.head
+
+      join_carried : SecondCarries a b → Carries (join_change (second_of old) new.at) old new
+      join_carried two =
+          let i = second_of old in
+          hold_carried (with_entry i) (with_entry i) (only i) true old a b new may.free held_none h one
+          (subst (λ (n : ℕ). Carries (part_change n (λ σ. σ)) a b) second_same two) three
+
+      stored_on : (o : Option Entry) → SecondCarries a b → (told_of b).bits.stored (second_of a) ≡ o
+          → (told_of new).bits.stored (second_of new) ≡ o
+      stored_on o two is = ap (λ (n : ℕ). (told_of new).bits.stored (index n 1)) (three.number ∙ two.number)
+          ∙ (three.stored (second_of a) refl refl ∙ is)
+
+      pub join_ends : (r : Result (Unit {0}) Worn) → JoinsHeld w a b r → EndsJoin old new w r
+      join_ends (Ok v) x = (
+        runs_on g old a new (next.Go (at.Prepare preparing.Lock)) (next.Go (at.Prepare preparing.Queue))
+            (next.Ends zero_answer) locks
+            (runs_on g a b new (next.Go (at.Prepare preparing.Queue)) (next.Go (joined_at x.still)) (next.Ends zero_answer)
+            (for_number (next.Go (at.Prepare preparing.Queue)) (next.Go (joined_at x.still)) x.runs) (unlocks x)),
+        ap is_some (stored_on (Some x.entry) x.carries x.queued),
+      )
+      join_ends (Err v) x = (
+        runs_on g old a new (next.Go (at.Prepare preparing.Lock)) (next.Go (at.Prepare preparing.Queue))
+            (next.Ends answer.Worn) locks
+            (runs_one g (at.Prepare preparing.Queue) a b new (with_worn true) (by_step (step.Unlock b.at false)) x.looks
+            (at_lock x.carries.at, refl) (
               tt,
               (
-                subst (λ (n : ℕ). IsSeenAs ((told_of b).hold.book n) (Some x.entry)) second_same (x.shows is),
-                λ never. absurd (cc),
+                subst (λ (n : ℕ). IsSeenAs ((told_of b).hold.book n) None) second_same x.shows,
+                λ _. (x.whole, sym x.worn),
               ),
               tt,
-            ) (unlock_looks b new u.is)
-        by false is = runs_one g (at.Prepare preparing.Unlock) b b new nothing (by_step (step.Unlock b.at false))
-            (only_none b) (at_lock x.carries.at, refl) (tt, tt, tt) (unlock_looks b new u.is)
+            ) (unlock_looks b new u.is)),
+        stored_on None x.carries x.out,
+        x.head ∙ one.at,
+        note_unlocked b new v u.is x.noted,
+      )
 
-    held_none : (told_of old).hold.head ≡ None
-    held_none = told.head ∙ may.free.head
+      pub join_may : (r : Result (Unit {0}) Worn) → JoinsHeld w a b r → MayJoin new w
+      join_may (Ok v) x = record {
+        up = three.awake ∙ (x.carries.awake ∙ (one.awake ∙ may.up));
+        free = u.free;
+        home = subst (IsPart w (kind_for w)) (sym (stored_on (Some x.entry) x.carries x.queued)) x.home;
+      }
+      join_may (Err v) x = record {
+        up = three.awake ∙ (x.carries.awake ∙ (one.awake ∙ may.up));
+        free = u.free;
+        home = subst (IsPart w (kind_for w)) (sym (stored_on None x.carries x.out)) tt;
+      }
 
-    join_carried : SecondCarries a b → Carries (join_change (second_of old) new.at) old new
-    join_carried two =
-        let i = second_of old in
-        hold_carried (with_entry i) (with_entry i) (only i) true old a b new may.free held_none h one
-        (subst (λ (n : ℕ). Carries (part_change n (λ σ. σ)) a b) second_same two) three
-
-    stored_on : (o : Option Entry) → SecondCarries a b → (told_of b).bits.stored (second_of a) ≡ o
-        → (told_of new).bits.stored (second_of new) ≡ o
-    stored_on o two is = ap (λ (n : ℕ). (told_of new).bits.stored (index n 1)) (three.number ∙ two.number)
-        ∙ (three.stored (second_of a) refl refl ∙ is)
-
-    pub join_ends : (r : Result (Unit {0}) Worn) → JoinsHeld w a b r → EndsJoin old new w r
-    join_ends (Ok v) x = (
-      runs_on g old a new (next.Go (at.Prepare preparing.Lock)) (next.Go (at.Prepare preparing.Queue))
-          (next.Ends zero_answer) locks
-          (runs_on g a b new (next.Go (at.Prepare preparing.Queue)) (next.Go (joined_at x.still)) (next.Ends zero_answer)
-          (for_number (next.Go (at.Prepare preparing.Queue)) (next.Go (joined_at x.still)) x.runs) (unlocks x)),
-      ap is_some (stored_on (Some x.entry) x.carries x.queued),
-    )
-    join_ends (Err v) x = (
-      runs_on g old a new (next.Go (at.Prepare preparing.Lock)) (next.Go (at.Prepare preparing.Queue))
-          (next.Ends answer.Worn) locks
-          (runs_one g (at.Prepare preparing.Queue) a b new (with_worn true) (by_step (step.Unlock b.at false)) x.looks
-          (at_lock x.carries.at, refl) (
-            tt,
-            (
-              subst (λ (n : ℕ). IsSeenAs ((told_of b).hold.book n) None) second_same x.shows,
-              λ _. (x.whole, sym x.worn),
-            ),
-            tt,
-          ) (unlock_looks b new u.is)),
-      stored_on None x.carries x.out,
-      x.head ∙ one.at,
-      note_unlocked b new v u.is x.noted,
-    )
-
-    pub join_may : (r : Result (Unit {0}) Worn) → JoinsHeld w a b r → MayJoin new w
-    join_may (Ok v) x = record {
-      up = three.awake ∙ (x.carries.awake ∙ (one.awake ∙ may.up));
-      free = u.free;
-      home = subst (IsPart w (kind_for w)) (sym (stored_on (Some x.entry) x.carries x.queued)) x.home;
-    }
-    join_may (Err v) x = record {
-      up = three.awake ∙ (x.carries.awake ∙ (one.awake ∙ may.up));
-      free = u.free;
-      home = subst (IsPart w (kind_for w)) (sym (stored_on None x.carries x.out)) tt;
-    }
-
-    pub join_carries : (r : Result (Unit {0}) Worn) → JoinsHeld w a b r
-        → Carries (join_change (second_of old) new.at) old new
-    join_carries (Ok v) x = join_carried x.carries
-    join_carries (Err v) x = join_carried x.carries
+      pub join_carries : (r : Result (Unit {0}) Worn) → JoinsHeld w a b r
+          → Carries (join_change (second_of old) new.at) old new
+      join_carries (Ok v) x = join_carried x.carries
+      join_carries (Err v) x = join_carried x.carries

@@ -36,15 +36,7 @@ use Rattle.poll_wait.specs.Seconds.{HasLeftSecond, MayLeave, leave_program, seco
 use Rattle.poll_wait.specs.SecondSteps.{HasSeenSecond, IsSecondAtHead, ParesSecond, SecondCarries}
 use Rattle.poll_wait.proofs.Carrying.{carries_more, carries_on}
 use Rattle.poll_wait.proofs.Joining.{none_found, own_second, seconds_on}
-use Rattle.poll_wait.proofs.SecondLooks.{
-  finds_second,
-  hold_looks,
-  owner_second,
-  second_is,
-  second_looks,
-  second_shows,
-  second_stored,
-}
+use Rattle.poll_wait.proofs.SecondLooks.{finds_second, owner_second, second_is, second_looks, second_shows, second_stored}
 
 take_second : (a b : Known) → Carries (take_off_change (second_of a)) a b → SecondCarries a b
 take_second a b c = part_of (with_entry (second_of a)) (λ x. x) (only (second_of a)) false (λ σ. σ) (second_of a) a b c

@@ -10,3 +10,5 @@ pub mod Polled
 pub mod Pairing
 pub mod Queueing
 pub mod Sleeping
+pub mod Turning
+pub mod Sides

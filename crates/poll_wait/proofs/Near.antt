@@ -1,6 +1,6 @@
 -- Programs that lock, look at own entries, queue one, take it off and store states, and nothing more.
 use Rattle.std.proofs.Common.{refl, sym, ◌∙◌, ap, subst, append-nil, append_assoc}
-use Rattle.std.specs.Prelude.{ℕ, ◌≡◌, ◌≢◌, ◌<◌, ◌&&◌, ◌==◌, not, if◌then◌else◌, Bool, true, false, Option, Some, None}
+use Rattle.std.specs.Prelude.{ℕ, ◌≡◌, ◌≢◌, ◌<◌, if◌then◌else◌, Bool, true, false, Option, Some, None}
 use Rattle.std.specs.Prelude.{List, [], ◌∷◌, ◌++◌}
 use Rattle.wait_model.specs.declared.layout.TheConstants.{FIRST_DONE_HEAD}
 use Rattle.wait_model.specs.declared.calls.Event.{Event}
@@ -24,16 +24,10 @@ use Rattle.wait_model.proofs.Functions.{put_at}
 use Rattle.wait_model.proofs.StepLaws.UnlockSteps.{unlock_bits}
 use Rattle.wait_rule.specs.declared.journal.Item.{Item}
 use Rattle.wait_rule.specs.declared.journal.Item.TheVariants as item
-use Rattle.wait_rule.specs.declared.journal.Journal.{Journal}
-use Rattle.wait_rule.specs.Aside.{signals_of}
-use Rattle.wait_rule.specs.HandedPermits.{StaysOff}
-use Rattle.wait_rule.specs.Items.{AddsNone, steps_of}
-use Rattle.wait_rule.specs.Journals.{pushed}
+use Rattle.wait_rule.specs.Items.{steps_of}
 use Rattle.wait_rule.specs.Known.{Known}
 use Rattle.wait_rule.specs.Notes.{tell}
-use Rattle.wait_rule.specs.Pipes.{End, after_look, end_from, end_step, if_unclosed, other_end}
-use Rattle.wait_rule.specs.PipeSays.{KeepsEnd}
-use Rattle.wait_rule.specs.Says.{added, history_of, told_of}
+use Rattle.wait_rule.specs.Says.{added, told_of}
 use Rattle.wait_rule.specs.Transitions.{
   AreLooks,
   Goes,
@@ -51,9 +45,6 @@ use Rattle.wait_rule.specs.Transitions.{
   with_lock,
 }
 use Rattle.wait_rule.proofs.KnownLaws.AfterSteps.{told_after}
-use Rattle.wait_rule.proofs.KnownLaws.CarriedEnds.{looks_ends}
-use Rattle.wait_rule.proofs.KnownLaws.CountedTallies.{looks_add}
-use Rattle.wait_rule.proofs.KnownLaws.HandedSteps.{AddsLow, AllAddLow}
 
 -- the events of such a program, where each is given this; it queues at no completion
 abbrev pub IsNear : Given → Event → Type 0

@@ -6,7 +6,7 @@ use Rattle.wait_model.specs.declared.tasks.SleepState.{SleepState}
 use Rattle.wait_model.specs.Tasks.{state_mask}
 use Rattle.wait_rule.specs.Known.{Known}
 use Rattle.wait_rule.specs.Queues.{index}
-use Rattle.wait_rule.specs.Says.{Excuse, Owes, told_of}
+use Rattle.wait_rule.specs.Says.{Excuse, told_of}
 use Rattle.wait_rule.specs.Stays.{Carries, no_entries, only, unchanged, with_entry}
 use Rattle.wait_rule.proofs.KnownLaws.StayingParts.{owes_also}
 use Rattle.wait_class.specs.Posts.{IsOut, own_of}
@@ -15,9 +15,9 @@ use Rattle.wq_head.specs.declared.adds.Worn.{Worn}
 use Rattle.poll_wait.specs.declared.turns.Poll.{Poll}
 use Rattle.poll_wait.specs.declared.turns.PollEnd.{PollEnd}
 use Rattle.poll_wait.specs.declared.turns.Ready.{Ready}
-use Rattle.poll_wait.specs.Polls.{MayTurn, either, pair_change, with_both}
-use Rattle.poll_wait.specs.Seconds.{IsSecondOut, join_change, second_of}
-use Rattle.poll_wait.specs.TurnSteps.{EndsSo, GoesAgain, HasDone, PairCarries, TurnCarries}
+use Rattle.poll_wait.specs.Polls.{either, pair_change, with_both}
+use Rattle.poll_wait.specs.Seconds.{join_change, second_of}
+use Rattle.poll_wait.specs.TurnSteps.{EndsSo, HasDone, PairCarries, TurnCarries}
 use Rattle.poll_wait.proofs.Carrying.{carries_more, carries_on, owes_swap}
 
 neither : (a b : Bool) → (a || b) ≡ false → (a ≡ false) × (b ≡ false)

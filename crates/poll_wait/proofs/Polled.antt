@@ -1,7 +1,7 @@
 -- What a poll may wait for, and where its two entries are over the parts of it.
 use Rattle.std.proofs.Common.{◌∙◌, ap, sym, refl, subst, arith}
 use Rattle.std.proofs.lemmas.Bool.Decides.{nat_tests}
-use Rattle.std.specs.Prelude.{ℕ, ◌≡◌, ◌<◌, ◌==◌, nat_lt, Bool, true, false, if◌then◌else◌, Option, Some, None, Result, Ok, Err}
+use Rattle.std.specs.Prelude.{ℕ, ◌≡◌, ◌<◌, nat_lt, Bool, true, false, if◌then◌else◌, Option, Some, None, Result, Ok, Err}
 use Rattle.wait_model.specs.declared.layout.TheConstants.{FIRST_DONE_HEAD, FIRST_SIMPLE}
 use Rattle.wait_model.specs.declared.calls.Answer.{Answer}
 use Rattle.wait_model.specs.declared.points.FinishPoint.TheVariants as finishing
@@ -27,7 +27,7 @@ use Rattle.wait_event.proofs.Conditions.{suits_low}
 use Rattle.wq_head.specs.declared.adds.Worn.{Worn}
 use Rattle.poll_wait.specs.declared.turns.Poll.{Poll}
 use Rattle.poll_wait.specs.Polls.{HasBoth, IsPoll, front_in}
-use Rattle.poll_wait.specs.Seconds.{EndsJoin, HasLeftSecond, IsPolled, JoinsSecond, MayJoin, second_of}
+use Rattle.poll_wait.specs.Seconds.{EndsJoin, IsPolled, JoinsSecond, MayJoin, second_of}
 use Rattle.poll_wait.proofs.Near.{Keeps, entry_kept}
 use Rattle.poll_wait.proofs.Programs.{OnFinish, OnPrepare, finish_near, join_near, prepare_near}
 

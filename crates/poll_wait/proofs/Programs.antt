@@ -5,7 +5,6 @@ use Rattle.wait_model.specs.declared.layout.TheConstants.{FIRST_DONE_HEAD}
 use Rattle.wait_model.specs.declared.calls.Answer.TheVariants as answer
 use Rattle.wait_model.specs.declared.calls.Event.TheVariants as event
 use Rattle.wait_model.specs.declared.points.FinishPoint.TheVariants as finishing
-use Rattle.wait_model.specs.declared.points.Given.{Given}
 use Rattle.wait_model.specs.declared.points.Next.{Next}
 use Rattle.wait_model.specs.declared.points.Next.TheVariants as next
 use Rattle.wait_model.specs.declared.points.Planned.{Planned}
@@ -19,10 +18,10 @@ use Rattle.wait_model.specs.declared.watches.Kind.{Kind}
 use Rattle.wait_model.specs.declared.watches.Watch.{Watch}
 use Rattle.wait_model.specs.Programs.{ends_with, go, zero_answer}
 use Rattle.wait_model.specs.Tasks.{state_mask}
-use Rattle.wait_model.specs.Watches.{head_of, kind_for}
+use Rattle.wait_model.specs.Watches.{head_of}
 use Rattle.wait_rule.specs.Transitions.{Program}
 use Rattle.wait_class.specs.Queueing.{wait_form}
-use Rattle.wait_event.specs.Prepares.{any_how, finish_program, prepare_program}
+use Rattle.wait_event.specs.Prepares.{finish_program, prepare_program}
 use Rattle.wait_event.specs.WaitPlans.{gives_back, prepares_alone}
 use Rattle.poll_wait.specs.Seconds.{join_program, leave_program}
 use Rattle.poll_wait.proofs.Near.{IsNear}

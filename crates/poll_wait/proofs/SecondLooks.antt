@@ -1,17 +1,17 @@
 -- A look at the own entry of slot 1.
 use Rattle.std.proofs.Common.{◌∙◌, ap, sym, refl, subst, arith, eq-eqb}
-use Rattle.std.specs.Prelude.{ℕ, ◌≡◌, Bool, if◌then◌else◌, is_some, true, false, Option, Some, None, [], ◌∷◌}
+use Rattle.std.specs.Prelude.{ℕ, ◌≡◌, Bool, if◌then◌else◌, Option, Some, None, [], ◌∷◌}
 use Rattle.wait_model.specs.declared.steps.Step.TheVariants as step
 use Rattle.wait_model.specs.declared.watches.Entry.{Entry}
 use Rattle.wait_model.specs.Fold.{forgotten}
-use Rattle.wait_model.specs.Views.{View as Told, Look, look_at, off, elsewhere, shown}
+use Rattle.wait_model.specs.Views.{View as Told, Look, look_at, elsewhere, shown}
 use Rattle.wait_model.specs.Watches.{head_of, owner}
 use Rattle.wait_model.specs.Words.{entry_of}
 use Rattle.wait_model.proofs.Functions.{put_same}
 use Rattle.wait_rule.specs.declared.journal.Item.TheVariants as item
 use Rattle.wait_rule.specs.Items.{book_from}
 use Rattle.wait_rule.specs.Known.{Known}
-use Rattle.wait_rule.specs.Queues.{MayUnqueue, index, saw}
+use Rattle.wait_rule.specs.Queues.{index, saw}
 use Rattle.wait_rule.specs.Says.{added, told_of}
 use Rattle.wait_rule.specs.Transitions.{AreLooks, IsSeenAs, OnlyLooks}
 use Rattle.wait_rule.proofs.KnownLaws.AfterSteps.{told_added}

@@ -1,6 +1,6 @@
 -- What a turn did, by its answer.
-use Rattle.std.proofs.Common.{◌∙◌, ap, sym, refl, subst}
-use Rattle.std.specs.Prelude.{ℕ, ◌≡◌, true, false, Option, Some, None, Result, Ok, Err}
+use Rattle.std.proofs.Common.{subst}
+use Rattle.std.specs.Prelude.{◌≡◌, true, false, Option, Some, None, Ok, Err}
 use Rattle.wait_model.specs.declared.tasks.Sleep.{Sleep}
 use Rattle.wait_rule.specs.Known.{Known}
 use Rattle.wait_rule.specs.Says.{HasSlept, IsUp}

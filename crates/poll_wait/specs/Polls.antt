@@ -6,7 +6,6 @@ use Rattle.wait_model.specs.declared.steps.Step.TheVariants as step
 use Rattle.wait_model.specs.declared.tasks.How.{How}
 use Rattle.wait_model.specs.declared.tasks.Sleep.{Sleep}
 use Rattle.wait_model.specs.declared.tasks.SleepState.{SleepState}
-use Rattle.wait_model.specs.declared.watches.Watch.{Watch}
 use Rattle.wait_model.specs.Tasks.{looks_in, pending, state_mask, task_of}
 use Rattle.wait_model.specs.Watches.{kind_for, misses}
 use Rattle.wait_rule.specs.declared.journal.Item.TheVariants as item

@@ -1,6 +1,6 @@
 -- To be believed.
 -- The second entry of a task, of slot 1: what queueing it says, and taking it off.
-use Rattle.std.specs.Prelude.{ℕ, ◌≡◌, ◌<◌, true, false, if◌then◌else◌, is_some, Option, Some, None, Result, Ok, Err}
+use Rattle.std.specs.Prelude.{ℕ, ◌≡◌, ◌<◌, true, false, if◌then◌else◌, is_some, Some, None, Result, Ok, Err}
 use Rattle.wait_model.specs.declared.layout.TheConstants.{FIRST_SIMPLE, VARIABLES}
 use Rattle.wait_model.specs.declared.calls.Answer.{Answer}
 use Rattle.wait_model.specs.declared.calls.Answer.TheVariants as answer

@@ -1,6 +1,6 @@
 -- For proofs alone.
 -- What turns of a poll leave a task with.
-use Rattle.std.specs.Prelude.{ℕ, ◌≡◌, Option, Some, None, Result, Ok, Err}
+use Rattle.std.specs.Prelude.{ℕ, Option, Some, None, Result, Ok, Err}
 use Rattle.wait_rule.specs.Known.{Known}
 use Rattle.wait_rule.specs.Says.{IsUp}
 use Rattle.wait_rule.specs.Stays.{Carries}

@@ -68,6 +68,7 @@ pub fn poll_two<R: Wait>(
     ensures carries { Carries (poll_change task.old.view.number task.new.at) task.old task.new }
     ensures beside { StaysBeside task.old task.new }
 {
+    task.told();
     let poll = Poll {
         first,
         second,

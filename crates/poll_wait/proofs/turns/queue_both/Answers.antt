@@ -1,8 +1,6 @@
 use Rattle.std.proofs.Common.{Err, Ok}
-use Rattle.wait_event.specs.Prepares.{EndsPrepare}
 use Rattle.wait_event.specs.declared.prepares.Prepared.TheVariants as prepared
-use Rattle.wait_model.specs.Watches.{kind_for}
-use Rattle.poll_wait.specs.Polls.{HasBoth, front_in}
+use Rattle.poll_wait.specs.Polls.{front_in}
 use Rattle.poll_wait.proofs.Pairing.{join_pair, prepare_pair, queue_pair}
 use Rattle.poll_wait.proofs.Polled.{join_has, prepare_has}
 use Rattle.poll_wait.proofs.Queueing.{ends_kind, may_join, queue_ends}

@@ -295,7 +295,7 @@ module _ (w : Watch) (old a b new : Known) (may : MayJoin old w) (told : IsTold 
             (next.Ends zero_answer) locks
             (runs_on g a b new (next.Go (at.Prepare preparing.Queue)) (next.Go (joined_at x.still)) (next.Ends zero_answer)
             (for_number (next.Go (at.Prepare preparing.Queue)) (next.Go (joined_at x.still)) x.runs) (unlocks x)),
-        ap is_some (stored_on (Some x.entry) x.carries x.queued),
+        record { entry = x.entry; stored = stored_on (Some x.entry) x.carries x.queued; part = x.home },
       )
       join_ends (Err v) x = (
         runs_on g old a new (next.Go (at.Prepare preparing.Lock)) (next.Go (at.Prepare preparing.Queue))

@@ -12,3 +12,4 @@ pub mod Queueing
 pub mod Sleeping
 pub mod Turning
 pub mod Sides
+pub mod Waiting

@@ -174,6 +174,12 @@ module _ (y : ℕ) where
       by : (e : Step) (z : ℕ) (f : Entry) → e ≡ step.Queue z f → IsNearStep own e → y ≢ z
       by e z f is near at = other ((subst (IsNearStep own) is near).0 ∙ ap Some (sym at))
 
+  -- a step that queues no such entry
+  pub added_keep : (k : Known) (e : Step) → ((z : ℕ) (f : Entry) → e ≡ step.Queue z f → y ≢ z)
+      → Keeps k (added k (item.Made e))
+  added_keep k e other = λ g is. after_was e (told_of k) other g
+      (sym (ap (λ (v : View). v.bits.stored y) (told_after k.view.items (item.Made e))) ∙ is)
+
   keeps_join : (a b c : Known) → Keeps a b → Keeps b c → Keeps a c
   keeps_join a b c one two = λ e is. one e (two e is)
 

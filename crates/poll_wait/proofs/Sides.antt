@@ -48,7 +48,7 @@ prepares_beside old new w k how a low x = goes_near _ OnPrepare (prepare_near ol
     beside_join looks_beside (near_steps _) x.runs.transitions old (next.Go (at.Prepare preparing.Lock)) new (next.Ends a)
     tt x.runs.goes
 
-joins_beside : (old new : Known) (w : Watch) (a : Answer) → head_of w < FIRST_DONE_HEAD → JoinsSecond old new w a
+pub joins_beside : (old new : Known) (w : Watch) (a : Answer) → head_of w < FIRST_DONE_HEAD → JoinsSecond old new w a
     → Beside old new
 joins_beside old new w a low x = goes_near _ OnPrepare (join_near old.view.number w low) Beside beside_join looks_beside
     (near_steps _) x.transitions old (next.Go (at.Prepare preparing.Lock)) new (next.Ends a) tt x.goes

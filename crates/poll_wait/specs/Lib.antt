@@ -2,3 +2,4 @@ pub mod Seconds
 pub mod SecondSteps
 pub mod Polls
 pub mod TurnSteps
+pub mod Waiting

@@ -75,10 +75,14 @@ pub record MayJoin (k : Known) (w : Watch) : Type 0 where
 abbrev pub JoinsSecond : Known → Known → Watch → Answer → Type 0
 JoinsSecond old new w a = Runs (join_program old.view.number w) old new (next.Go (at.Prepare preparing.Lock)) (next.Ends a)
 
--- it has stored the entry, or no place was left for it
+-- it has stored an entry for this watch, or no place was left for it
+pub record HasSecond (k : Known) (w : Watch) : Type 0 where
+  pub entry : Entry
+  pub stored : (told_of k).bits.stored (second_of k) ≡ Some entry
+  pub part : IsPart w (kind_for w) (Some entry)
+
 abbrev pub EndsJoin : Known → Known → Watch → Result (Unit {0}) Worn → Type 0
-EndsJoin old new w (Ok u) = JoinsSecond old new w zero_answer
-    × (is_some ((told_of new).bits.stored (second_of new)) ≡ true)
+EndsJoin old new w (Ok u) = JoinsSecond old new w zero_answer × HasSecond new w
 EndsJoin old new w (Err e) = JoinsSecond old new w answer.Worn × IsSecondOut new × (e.head ≡ head_of w)
     × WasWorn new.view.number new.view.items e.head e.place
 

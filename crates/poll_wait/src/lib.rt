@@ -1,6 +1,7 @@
 //! Waits for two conditions at once, with an entry queued for each.
 #![tactic(auto)]
 
+pub mod laws;
 pub mod polls;
 pub mod seconds;
 pub mod turns;

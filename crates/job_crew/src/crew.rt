@@ -1,18 +1,18 @@
-//! Four jobs at once, each in a thread of its own, or none of them.
+//! Four or five jobs at once, each in a thread of its own, or none of them.
 //!
 //! A job is begun only once all have their threads: each thread first waits for one word, which says whether all are
 //! there. The word is said once, so all hear the same.
 
-ghost use Rattle.std.specs.Prelude.{◌≡◌, ◌+◌, ◌<◌, true, false, Ok, Err, IfErr, IfOk, MatchResult};
+ghost use Rattle.std.specs.Prelude.{◌≡◌, ◌+◌, ◌<◌, true, false, Ok, Err, None, Some, IfErr, IfOk, IfSome};
 ghost use Rattle.std.specs.Result.{ForErr, ForOk};
-ghost use Rattle.job_crew.specs.Crews.{Comes};
+ghost use Rattle.job_crew.specs.Crews.{Comes, DidSome};
 
 use std::marker::Brand;
 use std::snapshot::Snapshot;
 use std::sync::ledger::{Blank, Book, Ledger, Share, Total};
 use std::sync::{OnceLock, OnceToken, Wait};
 use std::thread;
-use std::thread::{Promise, PromisedHandle, Scope, SpawnError, Threads};
+use std::thread::{Promise, PromisedHandle, Scope, Threads};
 
 /// A part of the work that is done once.
 pub trait Job: Send + Drop {
@@ -27,6 +27,22 @@ pub trait Job: Send + Drop {
     fn run(self) -> Self::Done
         requires { asks self }
         ensures { did self result };
+}
+
+/// A job that may not be there: then nothing is done.
+impl<J: Job> Job for Option<J> {
+    type Done = Option<J::Done>;
+
+    ghost asks = { λ job. IfSome job J.asks };
+
+    ghost did = { λ job done. DidSome J J.Done J.did job done };
+
+    fn run(self) -> Option<J::Done> {
+        match self {
+            Some(job) => Some(job.run()),
+            None => None,
+        }
+    }
 }
 
 /// The word that all wait for. It says that the jobs are to be begun only where the sum of the ledger is one, which who
@@ -59,10 +75,12 @@ impl<'a, L: Ledger, J: Job> Promise<Reply<'a, L, J::Done, J>> for Asked<'a, L, J
     ghost kept_by = { λ p r. (r.word.of ≡ p.lock.now.id) × Comes J J.Done J.did p.job.value r.outcome };
 }
 
-/// What a thread was asked for: its hand, or, where none could be had, what it was to do.
+/// What a thread was asked for: its hand, or what it was to do, where none could be had or none was wanted; and whether
+/// all that was wanted is there.
 struct Begun<T, P: Promise<T>, F: FnOnce() -> T> {
-    hand: Result<PromisedHandle<T, P>, SpawnError<F>>,
+    hand: Result<PromisedHandle<T, P>, F>,
     asked: Snapshot<P>,
+    there: bool,
 }
 
 fn ask<'a, L: Ledger, J: Job>(lock: &'a OnceLock<Word<L>>, job: &J) -> Asked<'a, L, J>
@@ -148,46 +166,58 @@ fn begins<L: Ledger>(word: &Word<L>, share: &mut Share<L>) -> bool
     word.begins
 }
 
-/// Asks for a thread.
+/// Asks for a thread, if one is wanted.
 fn begin<'s, E, T: Send + Drop + 's, P: Promise<T> + Drop, F: FnOnce() -> T + Send + 's>(
     scope: &Scope<'s, E>,
+    wanted: bool,
     promise: P,
     does: F,
 ) -> Begun<T, P, F>
     requires callable { F.pre does }
     requires keeps { (r : T) → F.post does r → P.kept_by promise r }
-    ensures asked { result.asked.value ≡ promise }
     ensures same { IfOk result.hand (λ handle. handle.promise ≡ result.asked.value) }
-    ensures callable { IfErr result.hand (λ refused. F.pre refused.value) }
-    ensures keeps { IfErr result.hand
-        (λ refused. (r : T) → F.post refused.value r → P.kept_by result.asked.value r) }
+    ensures asked { result.asked.value ≡ promise }
+    ensures callable { IfErr result.hand F.pre }
+    ensures keeps { IfErr result.hand (λ does. (r : T) → F.post does r → P.kept_by result.asked.value r) }
 {
     let asked = Snapshot::of(&promise);
-    let hand = scope.spawn_with(promise, does);
-    Begun { hand, asked }
+    if !wanted {
+        return Begun {
+            hand: Err(does),
+            asked,
+            there: true,
+        };
+    }
+    match scope.spawn_with(promise, does) {
+        Ok(handle) => Begun {
+            hand: Ok(handle),
+            asked,
+            there: true,
+        },
+        Err(refused) => Begun {
+            hand: Err(refused.value),
+            asked,
+            there: false,
+        },
+    }
 }
 
-/// Waits for the end of a thread; where there is none, what it was to do is done here, and the word was that nothing
-/// begins.
-fn settle<R: Threads, T, P: Promise<T>, F: FnOnce() -> T>(
-    rt: &R,
-    begins: bool,
-    begun: Begun<T, P, F>,
-) -> T
-    requires idle { IfErr begun.hand (λ _. begins ≡ false) }
+/// Waits for the end of a thread; where there is none, what it was to do is done here: that is to hand its job back, or
+/// to do nothing.
+fn settle<R: Threads, T, P: Promise<T>, F: FnOnce() -> T>(rt: &R, begun: Begun<T, P, F>) -> T
     requires same { IfOk begun.hand (λ handle. handle.promise ≡ begun.asked.value) }
-    requires callable { IfErr begun.hand (λ refused. F.pre refused.value) }
-    requires keeps { IfErr begun.hand
-        (λ refused. (r : T) → F.post refused.value r → P.kept_by begun.asked.value r) }
+    requires callable { IfErr begun.hand F.pre }
+    requires keeps { IfErr begun.hand (λ does. (r : T) → F.post does r → P.kept_by begun.asked.value r) }
     ensures kept { P.kept_by begun.asked.value result }
 {
-    let Begun { hand, asked: _ } = begun;
+    let Begun {
+        hand,
+        asked: _,
+        there: _,
+    } = begun;
     match hand {
         Ok(handle) => handle.join(rt),
-        Err(refused) => {
-            prove!(!begins);
-            (refused.value)()
-        }
+        Err(does) => does(),
     }
 }
 
@@ -248,25 +278,27 @@ fn decide<'a, R: Wait, L: Ledger>(
     (said, begins)
 }
 
-/// What all four made, where the word was to begin; else the jobs themselves.
-fn gathered<'a, L: Ledger, A: Job, B: Job, C: Job, D: Job>(
+/// What all five made, where the word was to begin; else the jobs themselves.
+fn gathered<'a, L: Ledger, A: Job, B: Job, C: Job, D: Job, E: Job>(
     said: &(OnceToken<'a, Word<L>>, bool),
     first: Reply<'a, L, A::Done, A>,
     second: Reply<'a, L, B::Done, B>,
     third: Reply<'a, L, C::Done, C>,
-    last: Reply<'a, L, D::Done, D>,
-) -> Result<(A::Done, B::Done, C::Done, D::Done), (A, B, C, D)>
+    fourth: Reply<'a, L, D::Done, D>,
+    last: Reply<'a, L, E::Done, E>,
+) -> Result<(A::Done, B::Done, C::Done, D::Done, E::Done), (A, B, C, D, E)>
     requires word { said.now.1 ≡ said.now.0.value.begins }
     requires first { first.word.of ≡ said.now.0.of }
     requires second { second.word.of ≡ said.now.0.of }
     requires third { third.word.of ≡ said.now.0.of }
+    requires fourth { fourth.word.of ≡ said.now.0.of }
     requires last { last.word.of ≡ said.now.0.of }
     ensures done { IfOk result (λ done. (first.entry.outcome ≡ Ok done.0)
-        × ((second.entry.outcome ≡ Ok done.1)
-        × ((third.entry.outcome ≡ Ok done.2) × (last.entry.outcome ≡ Ok done.3)))) }
+        × ((second.entry.outcome ≡ Ok done.1) × ((third.entry.outcome ≡ Ok done.2)
+        × ((fourth.entry.outcome ≡ Ok done.3) × (last.entry.outcome ≡ Ok done.4))))) }
     ensures back { IfErr result (λ back. (first.entry.outcome ≡ Err back.0)
-        × ((second.entry.outcome ≡ Err back.1)
-        × ((third.entry.outcome ≡ Err back.2) × (last.entry.outcome ≡ Err back.3)))) }
+        × ((second.entry.outcome ≡ Err back.1) × ((third.entry.outcome ≡ Err back.2)
+        × ((fourth.entry.outcome ≡ Err back.3) × (last.entry.outcome ≡ Err back.4))))) }
 {
     let (word, begins) = said;
     if *begins {
@@ -274,6 +306,7 @@ fn gathered<'a, L: Ledger, A: Job, B: Job, C: Job, D: Job>(
             made(word, first),
             made(word, second),
             made(word, third),
+            made(word, fourth),
             made(word, last),
         ))
     } else {
@@ -281,41 +314,42 @@ fn gathered<'a, L: Ledger, A: Job, B: Job, C: Job, D: Job>(
             back(word, first),
             back(word, second),
             back(word, third),
+            back(word, fourth),
             back(word, last),
         ))
     }
 }
 
-/// Starts three threads, says the word, and waits for all.
+/// Starts a thread for each of the first three, and for the fourth if it is there, says the word, and waits for all.
 fn begin_in<
     's,
-    E,
+    Env,
     L: Ledger + Send + Sync + 's,
     R: Threads + Wait + Sync + 's,
     A: Job + 's,
     B: Job + 's,
     C: Job + 's,
-    D: Job,
+    D: Job + 's,
+    E: Job,
 >(
-    scope: &Scope<'s, E>,
+    scope: &Scope<'s, Env>,
     rt: &'s R,
     lock: &'s OnceLock<Word<L>>,
     book: Book<L>,
     share: Share<L>,
-    one: A,
-    two: B,
-    three: C,
-    four: D,
-) -> Result<(A::Done, B::Done, C::Done, D::Done), (A, B, C, D)>
+    jobs: (A, B, C, Option<D>, E),
+) -> Result<(A::Done, B::Done, C::Done, Option<D::Done>, E::Done), (A, B, C, Option<D>, E)>
     requires book { book.total ≡ 0 }
     requires share { (L.parts ≡ 1) × ((share.parts ≡ 1) × (share.amount ≡ 0)) }
-    requires asks { A.asks one × (B.asks two × (C.asks three × D.asks four)) }
-    ensures did { IfOk result (λ done. A.did one done.0
-        × (B.did two done.1 × (C.did three done.2 × D.did four done.3))) }
-    ensures same { IfErr result (λ back. (back.0 ≡ one) × ((back.1 ≡ two) × ((back.2 ≡ three) × (back.3 ≡ four)))) }
+    requires asks { A.asks jobs.0 × (B.asks jobs.1 × (C.asks jobs.2 × (IfSome jobs.3 D.asks × E.asks jobs.4))) }
+    ensures did { IfOk result (λ done. A.did jobs.0 done.0 × (B.did jobs.1 done.1 × (C.did jobs.2 done.2
+        × (DidSome D D.Done D.did jobs.3 done.3 × E.did jobs.4 done.4)))) }
+    ensures same { IfErr result (λ back. back ≡ jobs) }
 {
+    let (one, two, three, four, five) = jobs;
     let first = begin(
         scope,
+        true,
         ask(lock, &one),
         move ||
             requires { A.asks one }
@@ -323,6 +357,7 @@ fn begin_in<
     );
     let second = begin(
         scope,
+        true,
         ask(lock, &two),
         move ||
             requires { B.asks two }
@@ -330,72 +365,95 @@ fn begin_in<
     );
     let third = begin(
         scope,
+        true,
         ask(lock, &three),
         move ||
             requires { C.asks three }
         { stand_by(rt, lock, three) },
     );
-    let all = first.hand.is_ok() && second.hand.is_ok() && third.hand.is_ok();
+    let fourth = begin(
+        scope,
+        four.is_some(),
+        ask(lock, &four),
+        move ||
+            requires { IfSome four D.asks }
+        { stand_by(rt, lock, four) },
+    );
+    let all = first.there && second.there && third.there && fourth.there;
     let said = decide(rt, lock, book, share, all);
-    let last = stand_by(rt, lock, four);
-    let first = settle(rt, said.1, first);
-    let second = settle(rt, said.1, second);
-    let third = settle(rt, said.1, third);
-    gathered(&said, first, second, third, last)
+    let last = stand_by(rt, lock, five);
+    let first = settle(rt, first);
+    let second = settle(rt, second);
+    let third = settle(rt, third);
+    let fourth = settle(rt, fourth);
+    gathered(&said, first, second, third, fourth, last)
 }
 
 /// The same, from a scope of its own.
-fn begin_all<L: Ledger + Send + Sync, R: Threads + Wait + Sync, A: Job, B: Job, C: Job, D: Job>(
+fn begin_all<
+    L: Ledger + Send + Sync,
+    R: Threads + Wait + Sync,
+    A: Job,
+    B: Job,
+    C: Job,
+    D: Job,
+    E: Job,
+>(
     rt: &R,
     lock: &OnceLock<Word<L>>,
     book: Book<L>,
     share: Share<L>,
-    one: A,
-    two: B,
-    three: C,
-    four: D,
-) -> Result<(A::Done, B::Done, C::Done, D::Done), (A, B, C, D)>
+    jobs: (A, B, C, Option<D>, E),
+) -> Result<(A::Done, B::Done, C::Done, Option<D::Done>, E::Done), (A, B, C, Option<D>, E)>
     requires book { book.total ≡ 0 }
     requires share { (L.parts ≡ 1) × ((share.parts ≡ 1) × (share.amount ≡ 0)) }
-    requires asks { A.asks one × (B.asks two × (C.asks three × D.asks four)) }
-    ensures did { IfOk result (λ done. A.did one done.0
-        × (B.did two done.1 × (C.did three done.2 × D.did four done.3))) }
-    ensures same { IfErr result (λ back. (back.0 ≡ one) × ((back.1 ≡ two) × ((back.2 ≡ three) × (back.3 ≡ four)))) }
+    requires asks { A.asks jobs.0 × (B.asks jobs.1 × (C.asks jobs.2 × (IfSome jobs.3 D.asks × E.asks jobs.4))) }
+    ensures did { IfOk result (λ done. A.did jobs.0 done.0 × (B.did jobs.1 done.1 × (C.did jobs.2 done.2
+        × (DidSome D D.Done D.did jobs.3 done.3 × E.did jobs.4 done.4)))) }
+    ensures same { IfErr result (λ back. back ≡ jobs) }
 {
     thread::scope(
         thread::scope_env(),
         rt,
-        move |scope| -> Result<(A::Done, B::Done, C::Done, D::Done), (A, B, C, D)>
+        move |scope| -> Result<
+            (A::Done, B::Done, C::Done, Option<D::Done>, E::Done),
+            (A, B, C, Option<D>, E),
+        >
             requires book { book.total ≡ 0 }
             requires share { (L.parts ≡ 1) × ((share.parts ≡ 1) × (share.amount ≡ 0)) }
-            requires asks { A.asks one × (B.asks two × (C.asks three × D.asks four)) }
-            ensures did { IfOk result (λ done. A.did one done.0
-                × (B.did two done.1 × (C.did three done.2 × D.did four done.3))) }
-            ensures same { IfErr result
-                (λ back. (back.0 ≡ one) × ((back.1 ≡ two) × ((back.2 ≡ three) × (back.3 ≡ four)))) }
-        { begin_in(scope, rt, lock, book, share, one, two, three, four) },
+            requires asks { A.asks jobs.0
+                × (B.asks jobs.1 × (C.asks jobs.2 × (IfSome jobs.3 D.asks × E.asks jobs.4))) }
+            ensures did { IfOk result (λ done. A.did jobs.0 done.0 × (B.did jobs.1 done.1 × (C.did jobs.2 done.2
+                × (DidSome D D.Done D.did jobs.3 done.3 × E.did jobs.4 done.4)))) }
+            ensures same { IfErr result (λ back. back ≡ jobs) }
+        { begin_in(scope, rt, lock, book, share, jobs) },
     )
 }
 
 /// The same over a ledger of one part.
-fn with_ledger<L: Ledger + Send + Sync, R: Threads + Wait + Sync, A: Job, B: Job, C: Job, D: Job>(
+fn with_ledger<
+    L: Ledger + Send + Sync,
+    R: Threads + Wait + Sync,
+    A: Job,
+    B: Job,
+    C: Job,
+    D: Job,
+    E: Job,
+>(
     rt: &R,
     blank: Blank,
-    one: A,
-    two: B,
-    three: C,
-    four: D,
-) -> Result<(A::Done, B::Done, C::Done, D::Done), (A, B, C, D)>
+    jobs: (A, B, C, Option<D>, E),
+) -> Result<(A::Done, B::Done, C::Done, Option<D::Done>, E::Done), (A, B, C, Option<D>, E)>
     requires name { blank.name ≡ L.name }
     requires parts { (blank.parts ≡ L.parts) × (L.parts ≡ 1) }
-    requires asks { A.asks one × (B.asks two × (C.asks three × D.asks four)) }
-    ensures did { IfOk result (λ done. A.did one done.0
-        × (B.did two done.1 × (C.did three done.2 × D.did four done.3))) }
-    ensures same { IfErr result (λ back. (back.0 ≡ one) × ((back.1 ≡ two) × ((back.2 ≡ three) × (back.3 ≡ four)))) }
+    requires asks { A.asks jobs.0 × (B.asks jobs.1 × (C.asks jobs.2 × (IfSome jobs.3 D.asks × E.asks jobs.4))) }
+    ensures did { IfOk result (λ done. A.did jobs.0 done.0 × (B.did jobs.1 done.1 × (C.did jobs.2 done.2
+        × (DidSome D D.Done D.did jobs.3 done.3 × E.did jobs.4 done.4)))) }
+    ensures same { IfErr result (λ back. back ≡ jobs) }
 {
     let (book, share) = blank.open::<L>();
     let lock = OnceLock::new();
-    begin_all(rt, &lock, book, share, one, two, three, four)
+    begin_all(rt, &lock, book, share, jobs)
 }
 
 /// Does four jobs at once, the first three in threads of their own and the last in this one. Where one of these threads
@@ -412,5 +470,40 @@ pub fn all_at_once<R: Threads + Wait + Sync, A: Job, B: Job, C: Job, D: Job>(
         × (B.did two done.1 × (C.did three done.2 × D.did four done.3))) }
     ensures same { IfErr result (λ back. (back.0 ≡ one) × ((back.1 ≡ two) × ((back.2 ≡ three) × (back.3 ≡ four)))) }
 {
-    with_ledger::<Brand, R, A, B, C, D>(rt, Blank::new(1), one, two, three, four)
+    let none: Option<A> = None;
+    match with_ledger::<Brand, R, A, B, C, A, D>(rt, Blank::new(1), (one, two, three, none, four)) {
+        Ok((one, two, three, _, four)) => Ok((one, two, three, four)),
+        Err((one, two, three, _, four)) => Err((one, two, three, four)),
+    }
+}
+
+/// The same of five jobs, the first four in threads of their own.
+pub fn five_at_once<R: Threads + Wait + Sync, A: Job, B: Job, C: Job, D: Job, E: Job>(
+    rt: &R,
+    one: A,
+    two: B,
+    three: C,
+    four: D,
+    five: E,
+) -> Result<(A::Done, B::Done, C::Done, D::Done, E::Done), (A, B, C, D, E)>
+    requires asks { A.asks one × (B.asks two × (C.asks three × (D.asks four × E.asks five))) }
+    ensures did { IfOk result (λ done. A.did one done.0
+        × (B.did two done.1 × (C.did three done.2 × (D.did four done.3 × E.did five done.4)))) }
+    ensures same { IfErr result (λ back. (back.0 ≡ one)
+        × ((back.1 ≡ two) × ((back.2 ≡ three) × ((back.3 ≡ four) × (back.4 ≡ five))))) }
+{
+    match with_ledger::<Brand, R, A, B, C, D, E>(
+        rt,
+        Blank::new(1),
+        (one, two, three, Some(four), five),
+    ) {
+        Ok((one, two, three, four, five)) => match four {
+            Some(four) => Ok((one, two, three, four, five)),
+            None => unreachable!(),
+        },
+        Err((one, two, three, four, five)) => match four {
+            Some(four) => Err((one, two, three, four, five)),
+            None => unreachable!(),
+        },
+    }
 }

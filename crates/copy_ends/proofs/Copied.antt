@@ -16,8 +16,8 @@ use Rattle.wait_rule.specs.Known.{Known}
 use Rattle.wait_rule.specs.Pipes.{Delivers, End, end_of, moved_bytes, read_end, was_refused, write_end}
 use Rattle.wait_rule.specs.PipeSays.{end_at, reading, writing}
 use Rattle.wait_rule.specs.Says.{IsShown, history_of, newcomer}
+use Rattle.wait_rule.specs.TableLaws.{HasAll}
 use Rattle.wait_rule.specs.Tallies.{amounts_of}
-use Rattle.wait_rule.proofs.KnownLaws.FoundPipes.{joined_deliver, joined_refuse}
 use Rattle.wait_pipe.specs.Pieces.{IsAtEnd}
 use Rattle.edge_io.specs.Faults.{HasRisen}
 use Rattle.func_head.specs.Walks.{EntryState}
@@ -35,7 +35,8 @@ use Rattle.copy_plan.specs.Stops.{IfFinished, IfTaken}
 use Rattle.copy_turns.specs.Turns.{IsReaderStop, IsRelayStop, IsWriterStop}
 use Rattle.copy_turns.specs.Watched.{Shows}
 use Rattle.copy_turns.specs.Work.{TookKill}
-use Rattle.copy_ends.proofs.JoinedFour.{four, four_has_all, has_one, has_two, has_three, of_each}
+use Rattle.copy_ends.proofs.Crews.{delivers, nobody, of_each}
+use Rattle.copy_ends.proofs.JoinedFour.{four, four_has_all, has_one, has_two, has_three}
 use Rattle.copy_ends.proofs.RaisedNone.{RaisedNone, none_raised, took_none}
 use Rattle.copy_ends.proofs.Rows.{gave_all, in_row, no_rest}
 use Rattle.copy_plan.proofs.DueTimes.{due_at_kills}
@@ -77,40 +78,22 @@ stop_is s (broken e) n k b = absurd (b e)
 stop_is s (killed e) n k b = absurd (k e)
 stop_is s (taken e) n k b = absurd (subst IsNotTaken e n)
 
--- the laws on the four lists
-nobody : (k : ℕ) → k < CLAIMS → (a b c d : List Item) → IsShown (four a b c d) → (end_of k a).mine ≡ false
-    → (end_of k b).mine ≡ false → (end_of k c).mine ≡ false → (end_of k d).mine ≡ false → (t : ℕ) → t < TASKS
-    → was_refused k (has_of t (four a b c d)) ≡ true → ⊥
-nobody k few a b c d shown one two three fourth t small refused =
-    let r = joined_refuse (four a b c d) shown (four_has_all a b c d) k t few small refused in
-    false≢true (sym (of_each (λ xs. (end_of k xs).mine ≡ false) a b c d refl one two three fourth r.0) ∙ r.1.1)
-
-delivers : (a b c d : List Item) → IsShown (four a b c d) → (p t u : ℕ) → p < PIPES → t < TASKS → u < TASKS
-    → (xs ys : List Item) → has_of t (four a b c d) ≡ xs → has_of u (four a b c d) ≡ ys
-    → (end_of (write_end p) xs).mine ≡ true → (end_of (read_end p) ys).mine ≡ true
-    → Delivers (end_of (write_end p) xs) (end_of (read_end p) ys)
-delivers a b c d shown p t u few small low xs ys is_xs is_ys writes reads =
-    let all = four_has_all a b c d in
-    let law = joined_deliver (four a b c d) shown p t u few (all t small) (all u low)
-    (subst (λ (l : List Item). (end_of (write_end p) l).mine ≡ true) (sym is_xs) writes)
-    (subst (λ (l : List Item). (end_of (read_end p) l).mine ≡ true) (sym is_ys) reads) in
-    subst (λ (l : List Item). Delivers (end_of (write_end p) l) (end_of (read_end p) ys)) is_xs
-    (subst (λ (l : List Item). Delivers (end_of (write_end p) (has_of t (four a b c d))) (end_of (read_end p) l)) is_ys
-    law)
-
 -- what each of the four did
 module _ (domain : TableId) (one two three fourth : Known) (left_old left_new : Option (List ℕ))
     (reads_old reads_new : ℕ) (held_old held_new : Option (List ℕ)) (writes_old writes_new wants_old wants_new : ℕ)
     (seen_old seen_new : List EntryState) (plan : List Planned)
     (reader : ReaderEnd) (relay writer : WorkerEnd)
-    (reads : ReaderWorked (newcomer domain 1 2 0) one left_old left_new reads_old reads_new worker_numbers
+    (reads : ReaderWorked SOURCE_PIPE (newcomer domain 1 2 0) one left_old left_new reads_old reads_new worker_numbers
     plan reader)
     (relays : RelayWorked (newcomer domain 2 3 0) two relay)
-    (writes : WriterWorked (newcomer domain 3 4 0) three held_old held_new writes_old writes_new wants_old wants_new
+    (writes : WriterWorked SINK_PIPE (newcomer domain 3 4 0) three held_old held_new writes_old writes_new wants_old wants_new
     seen_old seen_new writer)
     (controls : Controlled (newcomer domain 4 5 0) fourth) where
   abbrev all_lists : Journal
   all_lists = four one.view.items two.view.items three.view.items fourth.view.items
+
+  has_each : HasAll all_lists
+  has_each = four_has_all one.view.items two.view.items three.view.items fourth.view.items
 
   controller_lacks : (k : ℕ) → (end_at k fourth).mine ≡ false
   controller_lacks k = ap (λ (e : End). e.mine) (controls.ends k)
@@ -124,8 +107,8 @@ module _ (domain : TableId) (one two three fourth : Known) (left_old left_new : 
     where
       nobody_has : (k : ℕ) → k < CLAIMS → (end_at k one).mine ≡ false → (end_at k two).mine ≡ false
           → (end_at k three).mine ≡ false → (t : ℕ) → t < TASKS → was_refused k (has_of t all_lists) ≡ true → ⊥
-      nobody_has k few a b c t small refused = nobody k few one.view.items two.view.items three.view.items
-          fourth.view.items shown a b c (controller_lacks k) t small refused
+      nobody_has k few a b c t small refused = nobody all_lists has_each shown k few
+          (of_each (λ xs. (end_of k xs).mine ≡ false) _ refl (a, (b, (c, (controller_lacks k, tt))))) t small refused
 
       refused_at : (k : ℕ) (xs ys : List Item) → ys ≡ xs → was_refused k xs ≡ true → was_refused k ys ≡ true
       refused_at k xs ys e r = ap (was_refused k) e ∙ r
@@ -163,14 +146,14 @@ module _ (domain : TableId) (one two three fourth : Known) (left_old left_new : 
     free = none_taken shown
 
     source_flow : Delivers (writing SOURCE_PIPE one) (reading SOURCE_PIPE two)
-    source_flow = delivers one.view.items two.view.items three.view.items fourth.view.items shown SOURCE_PIPE 1 2
+    source_flow = delivers all_lists has_each shown SOURCE_PIPE 1 2
         (omega arith) (omega arith) (omega arith) one.view.items two.view.items
         (has_one one.view.items two.view.items three.view.items fourth.view.items)
         (has_two one.view.items two.view.items three.view.items fourth.view.items)
         (else_of reader.stop _ _ free.0 reads.taken) (else_of relay.stop _ _ free.1 relays.taken).0
 
     sink_flow : Delivers (writing SINK_PIPE two) (reading SINK_PIPE three)
-    sink_flow = delivers one.view.items two.view.items three.view.items fourth.view.items shown SINK_PIPE 2 3
+    sink_flow = delivers all_lists has_each shown SINK_PIPE 2 3
         (omega arith) (omega arith) (omega arith) two.view.items three.view.items
         (has_two one.view.items two.view.items three.view.items fourth.view.items)
         (has_three one.view.items two.view.items three.view.items fourth.view.items)
@@ -213,9 +196,16 @@ module _ (domain : TableId) (one two three fourth : Known) (left_old left_new : 
           ∙ (sym (ap (λ (ps : List Planned). length (fatal_of ps)) due) ∙ (sym reads.kills ∙ none))))
 
       took : (t : ℕ) → t < TASKS → total takes_fatal (steps_of (has_of t all_lists)) ≡ 0
-      took = took_none one.view.items two.view.items three.view.items fourth.view.items shown reader_raised
-          (none_raised two.view.items relays.signals) (none_raised three.view.items writes.signals)
-          (none_raised fourth.view.items controls.signals)
+      took = took_none all_lists has_each shown (of_each RaisedNone _ refl (
+        reader_raised,
+        (
+          none_raised two.view.items relays.signals,
+          (
+            none_raised three.view.items writes.signals,
+            (none_raised fourth.view.items controls.signals, tt),
+          ),
+        ),
+      ))
 
       not_killed : (t : ℕ) → t < TASKS → (k old : Known) → history_of old ≡ [] → has_of t all_lists ≡ k.view.items
           → TookKill old k → ⊥
@@ -233,13 +223,13 @@ module _ (domain : TableId) (one two three fourth : Known) (left_old left_new : 
             stop_is writer.stop (named_none writer.stop writer_named) free.2
             (λ e. not_killed 3 (omega arith) three (newcomer domain 3 4 0) refl
             (has_three one.view.items two.view.items three.view.items fourth.view.items)
-            (subst (λ (s : Stop). IsWriterStop (newcomer domain 3 4 0) three (HasRisen writes_old writes_new)
+            (subst (λ (s : Stop). IsWriterStop SINK_PIPE (newcomer domain 3 4 0) three (HasRisen writes_old writes_new)
             (HasRisen wants_old wants_new) s) e cause))
-            (λ e. subst (λ (s : Stop). IsWriterStop (newcomer domain 3 4 0) three (HasRisen writes_old writes_new)
+            (λ e. subst (λ (s : Stop). IsWriterStop SINK_PIPE (newcomer domain 3 4 0) three (HasRisen writes_old writes_new)
             (HasRisen wants_old wants_new) s) e cause)
 
         sink_end : IsAtEnd (reading SINK_PIPE three)
-        sink_end = subst (λ (s : Stop). IsWriterStop (newcomer domain 3 4 0) three (HasRisen writes_old writes_new)
+        sink_end = subst (λ (s : Stop). IsWriterStop SINK_PIPE (newcomer domain 3 4 0) three (HasRisen writes_old writes_new)
             (HasRisen wants_old wants_new) s) writer_finished (else_of writer.stop _ _ free.2 writes.cause)
 
         relay_finished : relay.stop ≡ stop.Finished
@@ -248,12 +238,12 @@ module _ (domain : TableId) (one two three fourth : Known) (left_old left_new : 
             stop_is relay.stop (named_none relay.stop relay_named) free.1
             (λ e. not_killed 2 (omega arith) two (newcomer domain 2 3 0) refl
             (has_two one.view.items two.view.items three.view.items fourth.view.items)
-            (subst (λ (s : Stop). IsRelayStop (newcomer domain 2 3 0) two s) e cause))
-            (λ e. sink_flow.one (subst (λ (s : Stop). IsRelayStop (newcomer domain 2 3 0) two s) e cause)
+            (subst (λ (s : Stop). IsRelayStop SOURCE_PIPE SINK_PIPE (newcomer domain 2 3 0) two s) e cause))
+            (λ e. sink_flow.one (subst (λ (s : Stop). IsRelayStop SOURCE_PIPE SINK_PIPE (newcomer domain 2 3 0) two s) e cause)
             sink_end.ended)
 
         source_end : IsAtEnd (reading SOURCE_PIPE two)
-        source_end = subst (λ (s : Stop). IsRelayStop (newcomer domain 2 3 0) two s) relay_finished
+        source_end = subst (λ (s : Stop). IsRelayStop SOURCE_PIPE SINK_PIPE (newcomer domain 2 3 0) two s) relay_finished
             (else_of relay.stop _ _ free.1 relays.cause)
 
         reader_finished : reader.stop ≡ stop.Finished
@@ -262,9 +252,9 @@ module _ (domain : TableId) (one two three fourth : Known) (left_old left_new : 
             stop_is reader.stop (named_none reader.stop read_named) free.0
             (λ e. not_killed 1 (omega arith) one (newcomer domain 1 2 0) refl
             (has_one one.view.items two.view.items three.view.items fourth.view.items)
-            (subst (λ (s : Stop). IsReaderStop (newcomer domain 1 2 0) one (HasRisen reads_old reads_new) s) e cause))
+            (subst (λ (s : Stop). IsReaderStop SOURCE_PIPE (newcomer domain 1 2 0) one (HasRisen reads_old reads_new) s) e cause))
             (λ e. source_flow.one
-            (subst (λ (s : Stop). IsReaderStop (newcomer domain 1 2 0) one (HasRisen reads_old reads_new) s) e cause)
+            (subst (λ (s : Stop). IsReaderStop SOURCE_PIPE (newcomer domain 1 2 0) one (HasRisen reads_old reads_new) s) e cause)
             source_end.ended)
 
         pub all_finished : AllFinished reader relay writer

@@ -137,12 +137,11 @@ pub waits_more : (n m : ℕ) (a b c : Known) → m ≡ n + 1 → WaitsTimes n a 
 waits_more n zero a b c e one two = absurd (omega (arith, e))
 waits_more n (suc m) a b c e one two = (b, subst (λ (k : ℕ). WaitsTimes k a b) (omega (arith, e)) one, two)
 
-pub control_ends : (n : ℕ) (a b c : Known) (total : Result ℕ BitEnd) → n ≡ 3 → WaitsTimes n a b
-    → MatchResult total (ReadTally b c) (IsControlEnd c) → ControlEnds a c total
-control_ends n a b c (Ok total) e one two =
-    record { waited = b; waits = subst (λ (k : ℕ). WaitsTimes k a b) e one; reads = two }
-control_ends n a b c (Err (bit_end.Worn h p)) e one two = two
-control_ends n a b c (Err (bit_end.Interrupted seen)) e one two = two
+pub control_ends : (n : ℕ) (a b c : Known) (total : Result ℕ BitEnd) → WaitsTimes n a b
+    → MatchResult total (ReadTally b c) (IsControlEnd c) → ControlEnds n a c total
+control_ends n a b c (Ok total) one two = record { waited = b; waits = one; reads = two }
+control_ends n a b c (Err (bit_end.Worn h p)) one two = two
+control_ends n a b c (Err (bit_end.Interrupted seen)) one two = two
 
 -- a task that has made no step
 pub newcomer_idles : (domain : TableId) (number next spare : ℕ) → IsIdler (newcomer domain number next spare)

@@ -1,4 +1,5 @@
 pub mod Copied
+pub mod Crews
 pub mod Ends
 pub mod Idlers
 pub mod JoinedFour

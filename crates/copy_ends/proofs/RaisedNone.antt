@@ -11,12 +11,13 @@ use Rattle.wait_model.proofs.HistoryLaws.StepTotals.{sum_zero}
 use Rattle.wait_rule.specs.declared.journal.Item.{Item}
 use Rattle.wait_rule.specs.declared.journal.Item.TheVariants as item
 use Rattle.wait_rule.specs.Aside.{Raised, raised_by, signals_of}
+use Rattle.wait_rule.specs.declared.journal.Journal.{Journal}
 use Rattle.wait_rule.specs.Items.{steps_of}
 use Rattle.wait_rule.specs.Journals.{has_of}
 use Rattle.wait_rule.specs.Says.{IsShown}
+use Rattle.wait_rule.specs.TableLaws.{HasAll}
 use Rattle.wait_rule.proofs.KnownLaws.TableLaws.{all_took_raised}
 use Rattle.copy_turns.specs.Raises.{kills_in}
-use Rattle.copy_ends.proofs.JoinedFour.{four, four_has_all, of_each}
 
 -- what a list raises at a task is among its fatal signals
 abbrev fatal_at : ℕ → List Item → ℕ
@@ -55,14 +56,12 @@ RaisedNone xs = fatal_in xs ≡ 0
 pub none_raised : (xs : List Item) → signals_of xs ≡ [] → RaisedNone xs
 none_raised xs e = ap (λ (rs : List Raised). length (kills_in rs)) e
 
-pub took_none : (a b c d : List Item) → IsShown (four a b c d) → RaisedNone a → RaisedNone b → RaisedNone c
-    → RaisedNone d → (t : ℕ) → t < TASKS → total takes_fatal (steps_of (has_of t (four a b c d))) ≡ 0
-took_none a b c d shown one two three fourth t few =
-    let took = (all_took_raised (four a b c d) shown (four_has_all a b c d) t few).fatal in
-    let each : (u : ℕ) → fatal_at t (has_of u (four a b c d)) ≡ 0 =
-    of_each (λ xs. fatal_at t xs ≡ 0) a b c d refl (none a one) (none b two) (none c three) (none d fourth) in
-    let sum = sum_zero TASKS (λ u. fatal_at t (has_of u (four a b c d))) (λ u small. each u) in
+pub took_none : (v : Journal) → HasAll v → IsShown v → ((u : ℕ) → RaisedNone (has_of u v)) → (t : ℕ) → t < TASKS
+    → total takes_fatal (steps_of (has_of t v)) ≡ 0
+took_none v all shown none t few =
+    let took = (all_took_raised v shown all t few).fatal in
+    let sum = sum_zero TASKS (λ u. fatal_at t (has_of u v)) (λ u small. none_at (has_of u v) (none u)) in
     omega arith
   where
-    none : (xs : List Item) → RaisedNone xs → fatal_at t xs ≡ 0
-    none xs e = let low = raised_fatal t xs in omega arith
+    none_at : (xs : List Item) → RaisedNone xs → fatal_at t xs ≡ 0
+    none_at xs e = let low = raised_fatal t xs in omega arith

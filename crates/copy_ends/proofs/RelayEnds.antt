@@ -40,7 +40,7 @@ pen = write_end SINK_PIPE
 -- why it stopped, told later
 module _ (a b c : Known) (g : Grows b c) (at_end : IsAtEnd (end_at tap b) → IsAtEnd (end_at tap c))
     (ended : (end_at pen b).ended ≡ true → (end_at pen c).ended ≡ true) where
-  relay_later : (how : Stop) → IsRelayStop a b how → IsRelayStop a c how
+  relay_later : (how : Stop) → IsRelayStop SOURCE_PIPE SINK_PIPE a b how → IsRelayStop SOURCE_PIPE SINK_PIPE a c how
   relay_later stop.Finished is = at_end is
   relay_later stop.Broken is = ended is
   relay_later stop.Killed is = took_later a b c is g
@@ -51,12 +51,12 @@ module _ (a b c : Known) (g : Grows b c) (at_end : IsAtEnd (end_at tap b) → Is
   relay_later stop.Long is = absurd is
   relay_later (stop.Worn h p) is = worn_later b c h p g is
 
-not_taken : (a b : Known) (how : Stop) → IsRelayStop a b how → how ≢ stop.Taken
-not_taken a b how is e = subst (IsRelayStop a b) e is
+not_taken : (a b : Known) (how : Stop) → IsRelayStop SOURCE_PIPE SINK_PIPE a b how → how ≢ stop.Taken
+not_taken a b how is e = subst (IsRelayStop SOURCE_PIPE SINK_PIPE a b) e is
 
 -- both ends were opened, turns of it went up to a stop, and both ends were closed
 module _ (a b c d e f : Known) (o : Opens tap a b) (p : Opens pen b c) (m : ℕ) (how : Stop)
-    (t : Relaying c d 0 m (Some how)) (q : Closes tap d e) (s : Closes pen e f) (idler : IsIdler a) where
+    (t : Relaying SOURCE_PIPE SINK_PIPE c d 0 m (Some how)) (q : Closes tap d e) (s : Closes pen e f) (idler : IsIdler a) where
   before : Leaves a c
   before = leaves_then a b c o.leaves p.leaves
 
@@ -93,11 +93,11 @@ module _ (a b c d e f : Known) (o : Opens tap a b) (p : Opens pen b c) (m : ℕ)
   pen_moved : moved_bytes (end_at pen f) ≡ t.front
   pen_moved = ap moved_bytes pen_is ∙ (t.sent ∙ ap (λ l. l ++ t.front) pen_new)
 
-  whole_cause : IsRelayStop a f how
+  whole_cause : IsRelayStop SOURCE_PIPE SINK_PIPE a f how
   whole_cause = relay_later a d f behind.grows
       (λ is. subst IsAtEnd (sym tap_is) (end_closed (end_at tap d) is))
       (λ is. ap (λ (x : End). x.ended) pen_is ∙ is) how
-      (relay_before a c d before.grows how t.cause)
+      (relay_before SOURCE_PIPE SINK_PIPE (λ e. omega (arith, e)) a c d before.grows how t.cause)
 
   pub relay_did : RelayWorked a f (record { stop = how; moved = m })
   relay_did = record {
@@ -118,7 +118,7 @@ module _ (a b c d e f : Known) (o : Opens tap a b) (p : Opens pen b c) (m : ℕ)
         (λ i. i ∙ sym (ap length tap_moved)) t.counts;
     moved = t.sum ∙ ap (λ (k : ℕ). k % 2 ^ 64) (zero-add t.n);
     signals = behind.signals ∙ (t.signals ∙ before.signals);
-    cause = untaken how (Unit {0}) (IsRelayStop a f how) (λ i. tt) whole_cause;
+    cause = untaken how (Unit {0}) (IsRelayStop SOURCE_PIPE SINK_PIPE a f how) (λ i. tt) whole_cause;
   }
 
 -- An end was not to be had.
@@ -210,7 +210,7 @@ module _ (a b c : Known) (w : WorkerEnd) (r : RelayWorked a b w) (k : Finishes b
         (λ i. i ∙ sym (ap (λ (e : End). length (moved_bytes e)) (k.ends tap))) r.counts;
     moved = r.moved;
     signals = k.leaves.signals ∙ r.signals;
-    cause = taken_map w.stop (Unit {0}) (IsRelayStop a b w.stop) (Unit {0}) (IsRelayStop a c w.stop) (λ x. x)
+    cause = taken_map w.stop (Unit {0}) (IsRelayStop SOURCE_PIPE SINK_PIPE a b w.stop) (Unit {0}) (IsRelayStop SOURCE_PIPE SINK_PIPE a c w.stop) (λ x. x)
         (relay_later a b c k.leaves.grows (subst IsAtEnd (sym (k.ends tap)))
         (λ is. ap (λ (e : End). e.ended) (k.ends pen) ∙ is) w.stop) r.cause;
   }

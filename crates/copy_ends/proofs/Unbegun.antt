@@ -9,10 +9,11 @@ use Rattle.wait_rule.specs.Known.{Known}
 use Rattle.wait_rule.specs.Says.{IsClean, newcomer, seen_with}
 use Rattle.copy_ends.specs.Copied.{HasNoSteps, joined_four}
 use Rattle.copy_ends.proofs.Idlers.{joined_clean}
-use Rattle.copy_ends.proofs.JoinedFour.{four, of_each}
+use Rattle.copy_ends.proofs.Crews.{of_each}
+use Rattle.copy_ends.proofs.JoinedFour.{four}
 
 none_of : (number : ℕ) → has_of number (four [] [] [] []) ≡ []
-none_of number = of_each (λ (xs : List Item). xs ≡ []) [] [] [] [] refl refl refl refl refl number
+none_of number = of_each (λ (xs : List Item). xs ≡ []) _ refl (refl, (refl, (refl, (refl, tt)))) number
 
 module _ (domain : TableId) (old one two three fourth new : Known) (rest : old ≡ newcomer domain 0 5 (TASKS - 5))
     (e1 : one ≡ newcomer domain 1 2 0) (e2 : two ≡ newcomer domain 2 3 0) (e3 : three ≡ newcomer domain 3 4 0)

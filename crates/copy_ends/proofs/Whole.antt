@@ -1,5 +1,5 @@
 -- What a copy ensures, from what stands when its task has joined the four and read the tally.
-use Rattle.std.proofs.Common.{sym, ap, ◌∙◌, subst, arith}
+use Rattle.std.proofs.Common.{refl, sym, ap, ◌∙◌, subst, arith}
 use Rattle.std.specs.Prelude.{ℕ, ◌≡◌, ◌<◌, ◌-◌, ◌%◌, ◌^◌, List, [], ◌∷◌, Option, Result}
 use Rattle.atomic_table.specs.Seated.{TableId}
 use Rattle.bit_wait.specs.declared.wait_calls.BitEnd.{BitEnd}
@@ -14,7 +14,7 @@ use Rattle.wait_rule.specs.Known.{Known}
 use Rattle.wait_rule.specs.Says.{IsShown, newcomer, seen_with}
 use Rattle.wait_rule.specs.TallyLaws.{tally_in}
 use Rattle.func_head.specs.Walks.{EntryState}
-use Rattle.copy_plan.specs.declared.TheConstants.{COUNTED_PAGE}
+use Rattle.copy_plan.specs.declared.TheConstants.{COUNTED_PAGE, SINK_PIPE, SOURCE_PIPE}
 use Rattle.copy_plan.specs.declared.plan.Planned.{Planned}
 use Rattle.copy_plan.specs.declared.stop.ReaderEnd.{ReaderEnd}
 use Rattle.copy_plan.specs.declared.stop.Stop.{Stop}
@@ -24,8 +24,9 @@ use Rattle.copy_ends.specs.Copied.{ControlEnds, Controlled, Copied, HoldsAll, Ho
 use Rattle.copy_plan.specs.Kinds.{copy_stop}
 use Rattle.copy_ends.specs.Did.{ReaderDid, RelayDid, WriterDid}
 use Rattle.copy_ends.proofs.Copied as copied
-use Rattle.copy_ends.proofs.JoinedFour.{four, four_has_all, grown_view, has_four, has_one, has_three, has_two}
-use Rattle.copy_ends.proofs.JoinedSums.{found_tally, last_lists, last_tally}
+use Rattle.copy_ends.proofs.Crews.{grown_view}
+use Rattle.copy_ends.proofs.JoinedFour.{four, four_has_all, has_four, has_one, has_three, has_two}
+use Rattle.copy_ends.proofs.JoinedSums.{found_tally, four_counts, last_list, last_tally}
 use Rattle.copy_plan.proofs.StopKinds.{finished_names_none}
 
 -- the four tasks did their work, their lists were joined, and the tally was read
@@ -33,13 +34,13 @@ pub record Ended (domain : TableId) (one two three fourth old new : Known) (left
     (reads_old reads_new : ℕ) (held_old held_new : Option (List ℕ)) (writes_old writes_new wants_old wants_new : ℕ)
     (seen_old seen_new : List EntryState) (plan : List Planned) (reader : ReaderEnd) (relay writer : WorkerEnd)
     (answer : Result ℕ BitEnd) (tally : ℕ) : Type 0 where
-  pub reads : ReaderDid (newcomer domain 1 2 0) one left_old left_new reads_old reads_new
+  pub reads : ReaderDid SOURCE_PIPE (newcomer domain 1 2 0) one left_old left_new reads_old reads_new
       worker_numbers plan reader
   pub relays : RelayDid (newcomer domain 2 3 0) two relay
-  pub writes : WriterDid (newcomer domain 3 4 0) three held_old held_new writes_old writes_new wants_old wants_new
+  pub writes : WriterDid SINK_PIPE (newcomer domain 3 4 0) three held_old held_new writes_old writes_new wants_old wants_new
       seen_old seen_new writer
   pub controls : Controlled (newcomer domain 4 5 0) fourth
-  pub ends : ControlEnds (newcomer domain 4 5 0) fourth answer
+  pub ends : ControlEnds 3 (newcomer domain 4 5 0) fourth answer
   pub joined : old.view ≡ joined_four (fresh 0 5 (TASKS - 5)) one.view two.view three.view fourth.view
   pub shown : IsShown old.view
   pub found : ReadTally old new tally
@@ -52,10 +53,10 @@ pub ended_of : (domain : TableId) (t1 t2 t3 t4 one two three fourth start old ne
     (reader : ReaderEnd) (relay writer : WorkerEnd) (answer : Result ℕ BitEnd) (tally : ℕ) (targets : List ℕ)
     → targets ≡ worker_numbers → t1 ≡ newcomer domain 1 2 0 → t2 ≡ newcomer domain 2 3 0 → t3 ≡ newcomer domain 3 4 0 → t4 ≡ newcomer domain 4 5 0
     → start ≡ newcomer domain 0 5 (TASKS - 5)
-    → ReaderDid t1 one left_old left_new reads_old reads_new targets plan reader → RelayDid t2 two relay
-    → WriterDid t3 three held_old held_new writes_old writes_new wants_old wants_new seen_old seen_new writer
+    → ReaderDid SOURCE_PIPE t1 one left_old left_new reads_old reads_new targets plan reader → RelayDid t2 two relay
+    → WriterDid SINK_PIPE t3 three held_old held_new writes_old writes_new wants_old wants_new seen_old seen_new writer
     → Controlled t4 fourth
-    → ControlEnds t4 fourth answer
+    → ControlEnds 3 t4 fourth answer
     → old ≡ seen_with start (joined_four start.view one.view two.view three.view fourth.view) → IsShown old.view
     → ReadTally old new tally → GrowsAside old new
     → Ended domain one two three fourth old new left_old left_new reads_old reads_new held_old held_new writes_old
@@ -63,15 +64,15 @@ pub ended_of : (domain : TableId) (t1 t2 t3 t4 one two three fourth start old ne
 ended_of domain t1 t2 t3 t4 one two three fourth start old new left_old left_new reads_old reads_new held_old held_new
     writes_old writes_new wants_old wants_new seen_old seen_new plan reader relay writer answer tally targets
     numbers e1 e2 e3 e4 begins reads relays writes controls ends joined shown found aside = record {
-      reads = subst (λ (k : Known). ReaderDid k one left_old left_new reads_old reads_new worker_numbers plan reader) e1
-          (subst (λ (ns : List ℕ). ReaderDid t1 one left_old left_new reads_old reads_new ns plan reader) numbers
+      reads = subst (λ (k : Known). ReaderDid SOURCE_PIPE k one left_old left_new reads_old reads_new worker_numbers plan reader) e1
+          (subst (λ (ns : List ℕ). ReaderDid SOURCE_PIPE t1 one left_old left_new reads_old reads_new ns plan reader) numbers
           reads);
       relays = subst (λ (k : Known). RelayDid k two relay) e2 relays;
       writes = subst
-          (λ (k : Known). WriterDid k three held_old held_new writes_old writes_new wants_old wants_new seen_old
+          (λ (k : Known). WriterDid SINK_PIPE k three held_old held_new writes_old writes_new wants_old wants_new seen_old
           seen_new writer) e3 writes;
       controls = subst (λ (k : Known). Controlled k fourth) e4 controls;
-      ends = subst (λ (k : Known). ControlEnds k fourth answer) e4 ends;
+      ends = subst (λ (k : Known). ControlEnds 3 k fourth answer) e4 ends;
       joined = ap (λ (k : Known). k.view) joined
           ∙ ap (λ (k : Known). joined_four k.view one.view two.view three.view fourth.view) begins;
       shown = shown;
@@ -116,9 +117,15 @@ module _ (domain : TableId) (one two three fourth old new : Known) (left_old lef
   pub has_lists : (has_of 1 new.view ≡ one.view.items) × (has_of 2 new.view ≡ two.view.items)
       × (has_of 3 new.view ≡ three.view.items) × (has_of 4 new.view ≡ fourth.view.items)
   has_lists =
-      let lists = last_lists one.view.items two.view.items three.view.items fourth.view.items old new joined_is
-      e.aside in
-      (lists.one, lists.two, lists.three, lists.four)
+      let a = one.view.items in
+      let b = two.view.items in
+      let c = three.view.items in
+      let d = fourth.view.items in (
+        last_list (four a b c d) old new joined_is e.aside 1 refl ∙ has_one a b c d,
+        last_list (four a b c d) old new joined_is e.aside 2 refl ∙ has_two a b c d,
+        last_list (four a b c d) old new joined_is e.aside 3 refl ∙ has_three a b c d,
+        last_list (four a b c d) old new joined_is e.aside 4 refl ∙ has_four a b c d,
+      )
 
   -- a note in one of the lists is one in the table that showed them
   note_late : (t : ℕ) → t < TASKS → (list : List Item) → has_of t new.view ≡ list
@@ -178,30 +185,35 @@ module _ (domain : TableId) (one two three fourth old new : Known) (left_old lef
       e.relays.worked e.writes.worked e.controls shown_four
 
   pub counts_moved : tally ≡ tally_in COUNTED_PAGE new.view % 2 ^ 64
-  counts_moved = found_tally one.view.items two.view.items three.view.items fourth.view.items old new tally joined_is
-      e.found e.aside
+  counts_moved =
+      let a = one.view.items in
+      let b = two.view.items in
+      let c = three.view.items in
+      let d = fourth.view.items in
+      found_tally (four a b c d) (four_has_all a b c d) old new tally joined_is e.found e.aside
 
   pub holds_whole : (how : Stop)
       → how ≡ copy_stop (reader.stop ∷ relay.stop ∷ writer.stop ∷ control_stop answer ∷ []) reader.kills
       → how ≡ stop.Finished → HoldsAll left_old held_old held_new seen_old seen_new reader relay writer tally
   holds_whole how stops done =
-      let names = finished_names_none reader.stop relay.stop writer.stop (control_stop answer) reader.kills
+      let names = finished_names_none (reader.stop ∷ relay.stop ∷ writer.stop ∷ control_stop answer ∷ []) reader.kills
       (sym stops ∙ done) in
       let counted = copied.counted_all domain one two three fourth left_old left_new reads_old reads_new held_old
       held_new writes_old writes_new wants_old wants_new seen_old seen_new plan reader relay writer e.reads.worked
-      e.relays.worked e.writes.worked e.controls shown_four names.kills names.one names.two names.three in
-      let sums = last_tally COUNTED_PAGE one.view.items two.view.items three.view.items fourth.view.items old new
-      joined_is e.aside in
+      e.relays.worked e.writes.worked e.controls shown_four names.kills names.each.0 names.each.1.0 names.each.1.1.0 in
+      let sums = last_tally COUNTED_PAGE (four one.view.items two.view.items three.view.items fourth.view.items) old new
+      joined_is e.aside
+      ∙ four_counts COUNTED_PAGE one.view.items two.view.items three.view.items fourth.view.items in
       record {
         all = copied.all_finished domain one two three fourth left_old left_new reads_old reads_new held_old held_new
             writes_old writes_new wants_old wants_new seen_old seen_new plan reader relay writer e.reads.worked
-            e.relays.worked e.writes.worked e.controls shown_four names.kills names.one names.two names.three;
+            e.relays.worked e.writes.worked e.controls shown_four names.kills names.each.0 names.each.1.0 names.each.1.1.0;
         bytes = copied.holds_all domain one two three fourth left_old left_new reads_old reads_new held_old held_new
             writes_old writes_new wants_old wants_new seen_old seen_new plan reader relay writer e.reads.worked
-            e.relays.worked e.writes.worked e.controls shown_four names.kills names.one names.two names.three;
+            e.relays.worked e.writes.worked e.controls shown_four names.kills names.each.0 names.each.1.0 names.each.1.1.0;
         shows = copied.shows_all domain one two three fourth left_old left_new reads_old reads_new held_old held_new
             writes_old writes_new wants_old wants_new seen_old seen_new plan reader relay writer e.reads.worked
-            e.relays.worked e.writes.worked e.controls shown_four names.kills names.one names.two names.three;
+            e.relays.worked e.writes.worked e.controls shown_four names.kills names.each.0 names.each.1.0 names.each.1.1.0;
         moved = counts_moved ∙ ap (λ (n : ℕ). n % 2 ^ 64) (sums ∙ counted);
       }
 
@@ -227,10 +239,10 @@ pub ensured : (domain : TableId) (t1 t2 t3 t4 one two three fourth start old new
     (targets : List ℕ) → targets ≡ worker_numbers → t1 ≡ newcomer domain 1 2 0
     → t2 ≡ newcomer domain 2 3 0 → t3 ≡ newcomer domain 3 4 0 → t4 ≡ newcomer domain 4 5 0
     → start ≡ newcomer domain 0 5 (TASKS - 5)
-    → ReaderDid t1 one left_old left_new reads_old reads_new targets plan reader → RelayDid t2 two relay
-    → WriterDid t3 three held_old held_new writes_old writes_new wants_old wants_new seen_old seen_new writer
+    → ReaderDid SOURCE_PIPE t1 one left_old left_new reads_old reads_new targets plan reader → RelayDid t2 two relay
+    → WriterDid SINK_PIPE t3 three held_old held_new writes_old writes_new wants_old wants_new seen_old seen_new writer
     → Controlled t4 fourth
-    → ControlEnds t4 fourth answer
+    → ControlEnds 3 t4 fourth answer
     → old ≡ seen_with start (joined_four start.view one.view two.view three.view fourth.view) → IsShown old.view
     → ReadTally old new tally → GrowsAside old new
     → how ≡ copy_stop (reader.stop ∷ relay.stop ∷ writer.stop ∷ control_stop answer ∷ []) reader.kills

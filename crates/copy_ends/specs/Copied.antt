@@ -18,7 +18,7 @@ use Rattle.wait_rule.specs.Says.{FindsTally, IsShown, newcomer}
 use Rattle.completion_cell.specs.AwaitEnds.{EndsAwait}
 use Rattle.edge_io.specs.Text.{HoldsPrefix}
 use Rattle.func_head.specs.Walks.{EntryState}
-use Rattle.copy_plan.specs.declared.TheConstants.{COUNTED_PAGE, ENDED_CELL}
+use Rattle.copy_plan.specs.declared.TheConstants.{COUNTED_PAGE, ENDED_CELL, SINK_PIPE, SOURCE_PIPE}
 use Rattle.copy_plan.specs.declared.plan.Planned.{Planned}
 use Rattle.copy_plan.specs.declared.stop.ReaderEnd.{ReaderEnd}
 use Rattle.copy_plan.specs.declared.stop.Stop.{Stop}
@@ -58,24 +58,28 @@ abbrev pub WaitsTimes : ℕ → Known → Known → Type 0
 WaitsTimes zero old new = new ≡ old
 WaitsTimes (suc n) old new = (mid : Known) × WaitsTimes n old mid × AwaitsWorker mid new
 
--- It waited once for each of the three workers, and read the tally then.
-pub record CountsWorkers (old new : Known) (total : ℕ) : Type 0 where
+-- It waited once for each of n workers, and read the tally then.
+pub record CountsWorkers (n : ℕ) (old new : Known) (total : ℕ) : Type 0 where
   pub waited : Known
-  pub waits : WaitsTimes 3 old waited
+  pub waits : WaitsTimes n old waited
   pub reads : ReadTally waited new total
 
-abbrev pub ControlEnds : Known → Known → Result ℕ BitEnd → Type 0
-ControlEnds old new (Ok total) = CountsWorkers old new total
-ControlEnds old new (Err e) = IsControlEnd new e
+abbrev pub ControlEnds : ℕ → Known → Known → Result ℕ BitEnd → Type 0
+ControlEnds n old new (Ok total) = CountsWorkers n old new total
+ControlEnds n old new (Err e) = IsControlEnd new e
 
 -- the stop of a controller, as that of a worker
 abbrev pub control_stop : Result ℕ BitEnd → Stop
 control_stop (Err (bit_end.Worn h p)) = stop.Worn h p
 control_stop _ = stop.Finished
 
--- the journal of a task that joined four others
+-- the journal of a task that joined others, one after another, and of one that joined four
+abbrev pub joined_all : Journal → List Journal → Journal
+joined_all v [] = v
+joined_all v (w ∷ ws) = joined_all (joined_with v w) ws
+
 abbrev pub joined_four : Journal → Journal → Journal → Journal → Journal → Journal
-joined_four v a b c d = joined_with (joined_with (joined_with (joined_with v a) b) c) d
+joined_four v a b c d = joined_all v (a ∷ b ∷ c ∷ d ∷ [])
 
 -- the numbers of the reader's, the relay's and the writer's task
 abbrev pub worker_numbers : List ℕ
@@ -104,15 +108,15 @@ pub record Copied (domain : TableId) (new : Known) (left_old left_new : Option (
   pub two : Known
   pub three : Known
   pub four : Known
-  pub reads : ReaderDid (newcomer domain 1 2 0) one left_old left_new reads_old reads_new
+  pub reads : ReaderDid SOURCE_PIPE (newcomer domain 1 2 0) one left_old left_new reads_old reads_new
       worker_numbers plan reader
   pub relays : RelayDid (newcomer domain 2 3 0) two relay
-  pub writes : WriterDid (newcomer domain 3 4 0) three held_old held_new writes_old writes_new wants_old wants_new
+  pub writes : WriterDid SINK_PIPE (newcomer domain 3 4 0) three held_old held_new writes_old writes_new wants_old wants_new
       seen_old seen_new writer
   pub controls : Controlled (newcomer domain 4 5 0) four
   pub lists : (has_of 1 new.view ≡ one.view.items) × (has_of 2 new.view ≡ two.view.items)
       × (has_of 3 new.view ≡ three.view.items) × (has_of 4 new.view ≡ four.view.items)
-  pub ends : ControlEnds (newcomer domain 4 5 0) four total
+  pub ends : ControlEnds 3 (newcomer domain 4 5 0) four total
   pub stops : how ≡ copy_stop (reader.stop ∷ relay.stop ∷ writer.stop ∷ control_stop total ∷ []) reader.kills
   pub late : WearsLate new
 

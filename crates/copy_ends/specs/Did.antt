@@ -43,21 +43,21 @@ pub record Refused (k : ℕ) (old new : Known) : Type 0 where
   pub refused : was_refused k new.view.items ≡ true
   pub mine : (end_at k new).mine ≡ (end_at k old).mine
 
--- A reader. The source gave some bytes, `read` of them, and a front went into the first pipe: all of them, up to the
+-- A reader that writes into pipe p. The source gave some bytes, `read` of them, and a front went into the pipe: all of them, up to the
 -- source's end, and each counted, where it finished. It sent the planned signals that were due, as they became due: those
 -- up to 0 at its beginning, and those up to `read` in all.
-pub record ReaderWorked (old new : Known) (left_old left_new : Option (List ℕ)) (faults_old faults_new : ℕ)
+pub record ReaderWorked (p : ℕ) (old new : Known) (left_old left_new : Option (List ℕ)) (faults_old faults_new : ℕ)
     (targets : List ℕ) (plan : List Planned) (ended : ReaderEnd) : Type 0 where
   pub served : Served old new
-  pub claims : (k : ℕ) → k ≢ write_end SOURCE_PIPE → (end_at k new).mine ≡ (end_at k old).mine
-  pub taken : IfTaken ended.stop (Refused (write_end SOURCE_PIPE) old new) ((writing SOURCE_PIPE new).mine ≡ true)
+  pub claims : (k : ℕ) → k ≢ write_end p → (end_at k new).mine ≡ (end_at k old).mine
+  pub taken : IfTaken ended.stop (Refused (write_end p) old new) ((writing p new).mine ≡ true)
   pub given : List ℕ
   pub front : List ℕ
   pub rest : List ℕ
   pub left : left_old ≡ prepend_known given left_new
   pub read : ended.read ≡ length given
   pub parts : given ≡ front ++ rest
-  pub sent : IfTaken ended.stop (front ≡ []) (moved_bytes (writing SOURCE_PIPE new) ≡ front)
+  pub sent : IfTaken ended.stop (front ≡ []) (moved_bytes (writing p new) ≡ front)
   pub all : IfFinished ended.stop (rest ≡ [])
   pub whole : IfFinished ended.stop (IfSome left_new (λ bytes. bytes ≡ []))
   pub n : ℕ
@@ -70,7 +70,7 @@ pub record ReaderWorked (old new : Known) (left_old left_new : Option (List ℕ)
   pub kills : ended.kills ≡ length (fatal_of due)
   pub long : IsLong (Some ended.stop) ended.read
   pub later : faults_old ≤ faults_new
-  pub cause : IfTaken ended.stop (Unit {0}) (IsReaderStop old new (HasRisen faults_old faults_new) ended.stop)
+  pub cause : IfTaken ended.stop (Unit {0}) (IsReaderStop p old new (HasRisen faults_old faults_new) ended.stop)
 
 -- A relay. A front of what it got from the first pipe went into the second: all of it, up to the first pipe's end, and
 -- each byte counted, where it finished.
@@ -89,20 +89,20 @@ pub record RelayWorked (old new : Known) (ended : WorkerEnd) : Type 0 where
   pub counts : IfFinished ended.stop (n ≡ length (moved_bytes (reading SOURCE_PIPE new)))
   pub moved : ended.moved ≡ n % 2 ^ 64
   pub signals : SignalsStay old new
-  pub cause : IfTaken ended.stop (Unit {0}) (IsRelayStop old new ended.stop)
+  pub cause : IfTaken ended.stop (Unit {0}) (IsRelayStop SOURCE_PIPE SINK_PIPE old new ended.stop)
 
--- A writer. A front of what it got from the second pipe went into the sink, and was shown piece by piece: all of it, up
--- to the second pipe's end, and each byte counted, where it finished.
-pub record WriterWorked (old new : Known) (held_old held_new : Option (List ℕ)) (faults_old faults_new : ℕ)
+-- A writer that reads pipe p. A front of what it got from the pipe went into the sink, and was shown piece by piece: all
+-- of it, up to the pipe's end, and each byte counted, where it finished.
+pub record WriterWorked (p : ℕ) (old new : Known) (held_old held_new : Option (List ℕ)) (faults_old faults_new : ℕ)
     (wants_old wants_new : ℕ) (seen_old seen_new : List EntryState) (ended : WorkerEnd) : Type 0 where
   pub served : Served old new
-  pub claims : (k : ℕ) → k ≢ read_end SINK_PIPE → (end_at k new).mine ≡ (end_at k old).mine
-  pub taken : IfTaken ended.stop (Refused (read_end SINK_PIPE) old new) ((reading SINK_PIPE new).mine ≡ true)
+  pub claims : (k : ℕ) → k ≢ read_end p → (end_at k new).mine ≡ (end_at k old).mine
+  pub taken : IfTaken ended.stop (Refused (read_end p) old new) ((reading p new).mine ≡ true)
   pub front : List ℕ
   pub rest : List ℕ
   pub held : held_new ≡ append_known held_old front
   pub shows : Shows seen_old seen_new front (Some ended.stop)
-  pub got : IfTaken ended.stop (front ≡ []) (moved_bytes (reading SINK_PIPE new) ≡ front ++ rest)
+  pub got : IfTaken ended.stop (front ≡ []) (moved_bytes (reading p new) ≡ front ++ rest)
   pub all : IfFinished ended.stop (rest ≡ [])
   pub n : ℕ
   pub counted : Counted n old new
@@ -112,19 +112,19 @@ pub record WriterWorked (old new : Known) (held_old held_new : Option (List ℕ)
   pub later : faults_old ≤ faults_new
   pub rises : SinkRises faults_old faults_new wants_old wants_new (Some ended.stop)
   pub cause : IfTaken ended.stop (Unit {0})
-      (IsWriterStop old new (HasRisen faults_old faults_new) (HasRisen wants_old wants_new) ended.stop)
+      (IsWriterStop p old new (HasRisen faults_old faults_new) (HasRisen wants_old wants_new) ended.stop)
 
 -- And each of them completed the completion of the copy at its end, however it ended.
-pub record ReaderDid (old new : Known) (left_old left_new : Option (List ℕ)) (faults_old faults_new : ℕ)
+pub record ReaderDid (p : ℕ) (old new : Known) (left_old left_new : Option (List ℕ)) (faults_old faults_new : ℕ)
     (targets : List ℕ) (plan : List Planned) (ended : ReaderEnd) : Type 0 where
-  pub worked : ReaderWorked old new left_old left_new faults_old faults_new targets plan ended
+  pub worked : ReaderWorked p old new left_old left_new faults_old faults_new targets plan ended
   pub completes : Completes old new
 
 pub record RelayDid (old new : Known) (ended : WorkerEnd) : Type 0 where
   pub worked : RelayWorked old new ended
   pub completes : Completes old new
 
-pub record WriterDid (old new : Known) (held_old held_new : Option (List ℕ)) (faults_old faults_new : ℕ)
+pub record WriterDid (p : ℕ) (old new : Known) (held_old held_new : Option (List ℕ)) (faults_old faults_new : ℕ)
     (wants_old wants_new : ℕ) (seen_old seen_new : List EntryState) (ended : WorkerEnd) : Type 0 where
-  pub worked : WriterWorked old new held_old held_new faults_old faults_new wants_old wants_new seen_old seen_new ended
+  pub worked : WriterWorked p old new held_old held_new faults_old faults_new wants_old wants_new seen_old seen_new ended
   pub completes : Completes old new

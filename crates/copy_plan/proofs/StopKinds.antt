@@ -44,17 +44,24 @@ pub record IsNamedNone (s : Stop) : Type 0 where
   pub write_fault : is_of kind.WriteFault s ≡ false
   pub long : is_of kind.Long s ≡ false
 
-pub record AllNamedNone (a b c d : Stop) (n : ℕ) : Type 0 where
-  pub one : IsNamedNone a
-  pub two : IsNamedNone b
-  pub three : IsNamedNone c
-  pub four : IsNamedNone d
-  pub kills : n ≡ 0
+abbrev pub EachNamedNone : List Stop → Type 0
+EachNamedNone [] = Unit {0}
+EachNamedNone (s ∷ ss) = IsNamedNone s × EachNamedNone ss
 
-pub finished_names_none : (one two three four : Stop) (kills : ℕ)
-    → copy_stop (one ∷ two ∷ three ∷ four ∷ []) kills ≡ stop.Finished → AllNamedNone one two three four kills
-finished_names_none one two three four kills e =
-    let ss : List Stop = one ∷ two ∷ three ∷ four ∷ [] in
+each_named_none : (ss : List Stop) → NoneOf kind.Memory ss → NoneOf kind.Worn ss → NoneOf kind.ReadFault ss
+    → NoneOf kind.WriteFault ss → NoneOf kind.Long ss → EachNamedNone ss
+each_named_none [] m w r f l = tt
+each_named_none (s ∷ ss) m w r f l = (
+  record { memory = m.0; worn = w.0; read_fault = r.0; write_fault = f.0; long = l.0 },
+  each_named_none ss m.1 w.1 r.1 f.1 l.1,
+)
+
+pub record NamesNone (stops : List Stop) (kills : ℕ) : Type 0 where
+  pub each : EachNamedNone stops
+  pub kills : kills ≡ 0
+
+pub finished_names_none : (ss : List Stop) (kills : ℕ) → copy_stop ss kills ≡ stop.Finished → NamesNone ss kills
+finished_names_none ss kills e =
     let none : Stop = if kills == 0 then stop.Finished else stop.Killed in
     let long : Stop = first_or kind.Long ss none in
     let unwritten : Stop = first_or kind.WriteFault ss long in
@@ -66,22 +73,7 @@ finished_names_none one two three four kills e =
     let f = first_is kind.WriteFault ss long r.1 in
     let l = first_is kind.Long ss none f.1 in
     record {
-      one = record { memory = m.0.0; worn = w.0.0; read_fault = r.0.0; write_fault = f.0.0; long = l.0.0 };
-      two = record { memory = m.0.1.0; worn = w.0.1.0; read_fault = r.0.1.0; write_fault = f.0.1.0; long = l.0.1.0 };
-      three = record {
-        memory = m.0.1.1.0;
-        worn = w.0.1.1.0;
-        read_fault = r.0.1.1.0;
-        write_fault = f.0.1.1.0;
-        long = l.0.1.1.0;
-      };
-      four = record {
-        memory = m.0.1.1.1.0;
-        worn = w.0.1.1.1.0;
-        read_fault = r.0.1.1.1.0;
-        write_fault = f.0.1.1.1.0;
-        long = l.0.1.1.1.0;
-      };
+      each = each_named_none ss m.0 w.0 r.0 f.0 l.0;
       kills = no_kills kills (kills == 0) refl l.1;
     }
 

@@ -29,10 +29,10 @@ pub fn is_of(kind: Kind, stop: Stop) -> bool
 }
 
 /// The first of the stops that is of a kind, or else another.
-pub fn first_or(kind: Kind, stops: [Stop; 4], other: Stop) -> Stop
-    ensures { result ≡ first_or kind stops other }
+pub fn first_or(kind: Kind, stops: &[Stop], other: Stop) -> Stop
+    ensures { result ≡ first_or kind stops.now other }
 {
-    for stop in &stops {
+    for stop in stops {
         if is_of(kind, *stop) {
             return *stop;
         }
@@ -41,8 +41,8 @@ pub fn first_or(kind: Kind, stops: [Stop; 4], other: Stop) -> Stop
 }
 
 /// How a copy ended, by how its tasks did, and how many kills were sent.
-pub fn copy_stop(stops: [Stop; 4], kills: u8) -> Stop
-    ensures { result ≡ copy_stop stops kills }
+pub fn copy_stop(stops: &[Stop], kills: u8) -> Stop
+    ensures { result ≡ copy_stop stops.now kills }
 {
     let none = if kills == 0 {
         Stop::Finished

@@ -12,7 +12,7 @@ use Rattle.wait_rule.specs.PipeSays.{EndsStay, end_at, reading, writing}
 use Rattle.edge_io.specs.Faults.{HasCounted, HasRisen}
 use Rattle.func_head.specs.Walks.{EntryState}
 use Rattle.wait_pipe.specs.Pieces.{IsAtEnd, IsSettled, Moved}
-use Rattle.copy_plan.specs.declared.TheConstants.{LONGEST, SINK_PIPE, SOURCE_PIPE}
+use Rattle.copy_plan.specs.declared.TheConstants.{LONGEST}
 use Rattle.copy_plan.specs.declared.plan.Planned.{Planned}
 use Rattle.copy_plan.specs.declared.stop.Halt.{Halt}
 use Rattle.copy_plan.specs.declared.stop.Stop.{Stop}
@@ -72,15 +72,15 @@ abbrev pub IsLong : Option Stop → ℕ → Type 0
 IsLong (Some stop.Long) n = LONGEST < n
 IsLong _ n = n ≤ LONGEST
 
--- Why a reader stops before the end of its source.
-abbrev pub IsReaderStop : Known → Known → Type 0 → Stop → Type 0
-IsReaderStop old new risen stop.Finished = Unit {0}
-IsReaderStop old new risen stop.Broken = (writing SOURCE_PIPE new).ended ≡ true
-IsReaderStop old new risen stop.Killed = TookKill old new
-IsReaderStop old new risen stop.ReadFault = risen
-IsReaderStop old new risen stop.Long = Unit {0}
-IsReaderStop old new risen (stop.Worn h p) = WasWorn new.view.number new.view.items h p
-IsReaderStop old new risen _ = ⊥
+-- Why a reader that writes into pipe p stops before the end of its source.
+abbrev pub IsReaderStop : ℕ → Known → Known → Type 0 → Stop → Type 0
+IsReaderStop p old new risen stop.Finished = Unit {0}
+IsReaderStop p old new risen stop.Broken = (writing p new).ended ≡ true
+IsReaderStop p old new risen stop.Killed = TookKill old new
+IsReaderStop p old new risen stop.ReadFault = risen
+IsReaderStop p old new risen stop.Long = Unit {0}
+IsReaderStop p old new risen (stop.Worn h at) = WasWorn new.view.number new.view.items h at
+IsReaderStop p old new risen _ = ⊥
 
 -- The signals of a plan that became due while the source gave bytes, from one number of them to another: at numbers that
 -- rose, those that were due then were raised, in the order of the plan, each at the task of its worker, and no other.
@@ -89,9 +89,9 @@ pub record RaisedFor (old new : Known) (targets : List ℕ) (from to : ℕ) (pla
   pub rise : Rises from times to
   pub all : signals_of new.view.items ≡ signals_of old.view.items ++ sent_to targets (due_at from times plan)
 
--- Turns of a reader. The source gave some bytes, of which a front went into the pipe, and n were counted; the signals
+-- Turns of a reader that writes into pipe p. The source gave some bytes, of which a front went into the pipe, and n were counted; the signals
 -- that became due were sent.
-pub record Reading (old new : Known) (left_old left_new : Option (List ℕ)) (faults_old faults_new : ℕ)
+pub record Reading (p : ℕ) (old new : Known) (left_old left_new : Option (List ℕ)) (faults_old faults_new : ℕ)
     (read_old read_new : ℕ) (targets : List ℕ) (plan : List Planned) (how : Option Stop) : Type 0 where
   pub works : Works old new
   pub given : List ℕ
@@ -100,7 +100,7 @@ pub record Reading (old new : Known) (left_old left_new : Option (List ℕ)) (fa
   pub left : left_old ≡ prepend_known given left_new
   pub read : read_new ≡ read_old + length given
   pub parts : given ≡ front ++ rest
-  pub moved : Moved (write_end SOURCE_PIPE) old new front
+  pub moved : Moved (write_end p) old new front
   pub all : IfWhole how (rest ≡ [])
   pub whole : IfEnded how (IfSome left_new (λ bytes. bytes ≡ []))
   pub n : ℕ
@@ -109,45 +109,46 @@ pub record Reading (old new : Known) (left_old left_new : Option (List ℕ)) (fa
   pub signals : RaisedFor old new targets (read_old + 1) read_new plan
   pub long : IsLong how read_new
   pub later : faults_old ≤ faults_new
-  pub cause : IfStopped how (IsReaderStop old new (HasRisen faults_old faults_new))
+  pub cause : IfStopped how (IsReaderStop p old new (HasRisen faults_old faults_new))
 
--- Why a relay stops before the end of the first pipe.
-abbrev pub IsRelayStop : Known → Known → Stop → Type 0
-IsRelayStop old new stop.Finished = IsAtEnd (reading SOURCE_PIPE new)
-IsRelayStop old new stop.Broken = (writing SINK_PIPE new).ended ≡ true
-IsRelayStop old new stop.Killed = TookKill old new
-IsRelayStop old new (stop.Worn h p) = WasWorn new.view.number new.view.items h p
-IsRelayStop old new _ = ⊥
+-- Why a relay that passes on from pipe p into pipe q stops before the end of the first.
+abbrev pub IsRelayStop : ℕ → ℕ → Known → Known → Stop → Type 0
+IsRelayStop p q old new stop.Finished = IsAtEnd (reading p new)
+IsRelayStop p q old new stop.Broken = (writing q new).ended ≡ true
+IsRelayStop p q old new stop.Killed = TookKill old new
+IsRelayStop p q old new (stop.Worn h at) = WasWorn new.view.number new.view.items h at
+IsRelayStop p q old new _ = ⊥
 
--- Turns of a relay. It got some bytes from the first pipe, of which a front went into the second, and n were counted.
-pub record Relaying (old new : Known) (moved_old moved_new : ℕ) (how : Option Stop) : Type 0 where
+-- Turns of such a relay. It got some bytes from the first pipe, of which a front went into the second, and n were
+-- counted.
+pub record Relaying (p q : ℕ) (old new : Known) (moved_old moved_new : ℕ) (how : Option Stop) : Type 0 where
   pub works : Works old new
   pub got : List ℕ
   pub front : List ℕ
   pub rest : List ℕ
-  pub taken : moved_bytes (reading SOURCE_PIPE new) ≡ moved_bytes (reading SOURCE_PIPE old) ++ got
-  pub sent : moved_bytes (writing SINK_PIPE new) ≡ moved_bytes (writing SINK_PIPE old) ++ front
+  pub taken : moved_bytes (reading p new) ≡ moved_bytes (reading p old) ++ got
+  pub sent : moved_bytes (writing q new) ≡ moved_bytes (writing q old) ++ front
   pub parts : got ≡ front ++ rest
-  pub tap : IsSettled (reading SOURCE_PIPE new)
-  pub pen : IsSettled (writing SINK_PIPE new)
-  pub others : (j : ℕ) → j / PIPE_ENDS ≢ SOURCE_PIPE → j / PIPE_ENDS ≢ SINK_PIPE → end_at j new ≡ end_at j old
+  pub tap : IsSettled (reading p new)
+  pub pen : IsSettled (writing q new)
+  pub others : (j : ℕ) → j / PIPE_ENDS ≢ p → j / PIPE_ENDS ≢ q → end_at j new ≡ end_at j old
   pub all : IfWhole how (rest ≡ [])
   pub n : ℕ
   pub counted : Counted n old new
   pub counts : IfWhole how (n ≡ length got)
   pub sum : moved_new ≡ (moved_old + n) % 2 ^ 64
   pub signals : SignalsStay old new
-  pub cause : IfStopped how (IsRelayStop old new)
+  pub cause : IfStopped how (IsRelayStop p q old new)
 
--- Why a writer stops before the end of the second pipe. The sink's counts of faults and of wants have risen in the
+-- Why a writer that reads pipe p stops before the end of it. The sink's counts of faults and of wants have risen in the
 -- call.
-abbrev pub IsWriterStop : Known → Known → Type 0 → Type 0 → Stop → Type 0
-IsWriterStop old new failed wanted stop.Finished = IsAtEnd (reading SINK_PIPE new)
-IsWriterStop old new failed wanted stop.Killed = TookKill old new
-IsWriterStop old new failed wanted stop.WriteFault = failed
-IsWriterStop old new failed wanted stop.Memory = wanted
-IsWriterStop old new failed wanted (stop.Worn h p) = WasWorn new.view.number new.view.items h p
-IsWriterStop old new failed wanted _ = ⊥
+abbrev pub IsWriterStop : ℕ → Known → Known → Type 0 → Type 0 → Stop → Type 0
+IsWriterStop p old new failed wanted stop.Finished = IsAtEnd (reading p new)
+IsWriterStop p old new failed wanted stop.Killed = TookKill old new
+IsWriterStop p old new failed wanted stop.WriteFault = failed
+IsWriterStop p old new failed wanted stop.Memory = wanted
+IsWriterStop p old new failed wanted (stop.Worn h at) = WasWorn new.view.number new.view.items h at
+IsWriterStop p old new failed wanted _ = ⊥
 
 -- The sink's counts of faults and of wants are as they were, but for the one of the fault that stopped the writer.
 abbrev pub SinkRises : ℕ → ℕ → ℕ → ℕ → Option Stop → Type 0
@@ -157,16 +158,16 @@ SinkRises faults_old faults_new wants_old wants_new (Some stop.Memory) = (faults
     × HasCounted wants_old wants_new
 SinkRises faults_old faults_new wants_old wants_new _ = (faults_new ≡ faults_old) × (wants_new ≡ wants_old)
 
--- Turns of a writer. It got some bytes from the second pipe, of which a front went into the sink and was shown, and n
+-- Turns of a writer that reads pipe p. It got some bytes from the pipe, of which a front went into the sink and was shown, and n
 -- were counted.
-pub record Writing (old new : Known) (held_old held_new : Option (List ℕ)) (faults_old faults_new : ℕ)
+pub record Writing (p : ℕ) (old new : Known) (held_old held_new : Option (List ℕ)) (faults_old faults_new : ℕ)
     (wants_old wants_new : ℕ) (seen_old seen_new : List EntryState) (moved_old moved_new : ℕ) (how : Option Stop)
     : Type 0 where
   pub works : Works old new
   pub got : List ℕ
   pub front : List ℕ
   pub rest : List ℕ
-  pub taken : Moved (read_end SINK_PIPE) old new got
+  pub taken : Moved (read_end p) old new got
   pub held : held_new ≡ append_known held_old front
   pub shows : Shows seen_old seen_new front how
   pub parts : got ≡ front ++ rest
@@ -178,4 +179,4 @@ pub record Writing (old new : Known) (held_old held_new : Option (List ℕ)) (fa
   pub signals : SignalsStay old new
   pub later : faults_old ≤ faults_new
   pub rises : SinkRises faults_old faults_new wants_old wants_new how
-  pub cause : IfStopped how (IsWriterStop old new (HasRisen faults_old faults_new) (HasRisen wants_old wants_new))
+  pub cause : IfStopped how (IsWriterStop p old new (HasRisen faults_old faults_new) (HasRisen wants_old wants_new))

@@ -71,7 +71,7 @@ use Rattle.copy_turns.specs.Work.{TookNoKill, TookOwn}
 use Rattle.copy_turns.proofs.Frames.{item_spared, own_spares, sent_spared}
 use Rattle.copy_turns.proofs.PartLaws.{total_append}
 use Rattle.flow_copy.specs.PageWaits.{InterruptedWait, LastWaits, PageWaits}
-use Rattle.flow_copy.specs.Workers.{AddsLocked, ByTurns, CountsBytes, GetterTurn, HandsBytes, ReaderTurn, ReaderWorks, RelaysPiece, RelayWorks, SinksPiece, WriterWorks, a_turn, get_halted, getter_killed, got_piece, no_turn, pipe_ended, put_all, put_halted, reader_hands, reader_killed, reader_refused, reader_works, relay_refused, relay_refused_sink, relay_works, sink_failed, sink_took, sink_wanted, source_ended, source_failed, source_long, stops_by, writer_refused, writer_works}
+use Rattle.flow_copy.specs.Workers.{AddsLocked, ByTurns, CountsBytes, GetsAnd, GetterTurn, HandsBytes, ReaderTurn, ReaderWorks, RelaysPiece, RelayWorks, SinksPiece, WriterWorks, a_turn, get_halted, getter_gets, getter_killed, got_piece, no_turn, pipe_ended, put_all, put_halted, reader_hands, reader_killed, reader_refused, reader_works, relay_refused, relay_refused_sink, relay_works, sink_failed, sink_took, sink_wanted, source_ended, source_failed, source_long, stops_by, writer_refused, writer_works}
 use Rattle.flow_copy.specs.KilledWorkers.{ClosesBoth, HeedsKills, ReadersHeed, RelaysHeed, WritersHeed}
 use Rattle.flow_copy.proofs.SparingCalls.{GoesBeside, TakesNone, goes_beside, program_spared}
 
@@ -325,8 +325,8 @@ turn_behind how a b c one two = spared_then a b c one two
 own_killed : (a b : Known) → TookOwn a b true → TakesKill a b
 own_killed a b own = record { before = a; spared = refl; own = own }
 
-reader_spared : {targets : List ℕ} {plan : List Planned} {read : ℕ} {a b : Known} {piece : List ℕ} {how : Option Stop}
-    → ReaderTurn targets plan read a b piece how → SparesTurn how a b
+reader_spared : {q : ℕ} {targets : List ℕ} {plan : List Planned} {read : ℕ} {a b : Known} {piece : List ℕ} {how : Option Stop}
+    → ReaderTurn q targets plan read a b piece how → SparesTurn how a b
 reader_spared {a = a} {b = b} (reader_killed own) = own_killed a b own
 reader_spared {a = a} {b = b} (source_ended own) = own_spares a b own
 reader_spared {a = a} {b = b} (source_failed own) = own_spares a b own
@@ -339,20 +339,21 @@ reader_spared {a = a} {b = b} (reader_hands mid sent piece r own some fits sends
 
 module _ (k : ℕ) (Passes : List ℕ → Known → Known → Option Stop → Type 0)
     (passing : (piece : List ℕ) (a b : Known) (how : Option Stop) → Passes piece a b how → SparesTurn how a b) where
+  gets_spared : {a b : Known} {piece : List ℕ} {how : Option Stop} → GetsAnd k Passes a b piece how
+      → SparesTurn how a b
+  gets_spared {a} {b} (get_halted buf h gets) = by_part (Err h) a b (gets_halted k a b buf h gets)
+  gets_spared {a} {b} (pipe_ended buf gets) = gets_some k a b buf 0 gets
+  gets_spared {a} {b} (got_piece got buf n how long some gets passes) =
+      turn_behind how a got b (gets_some k a got buf n gets) (passing _ got b how passes)
+
   getter_spared : {a b : Known} {piece : List ℕ} {how : Option Stop} → GetterTurn k Passes a b piece how
       → SparesTurn how a b
   getter_spared {a} {b} (getter_killed own) = own_killed a b own
-  getter_spared {a} {b} (get_halted mid buf h own gets) =
-      turn_behind (stops_by (Err h)) a mid b (own_spares a mid own)
-      (by_part (Err h) mid b (gets_halted k mid b buf h gets))
-  getter_spared {a} {b} (pipe_ended mid buf own gets) =
-      spared_then a mid b (own_spares a mid own) (gets_some k mid b buf 0 gets)
-  getter_spared {a} {b} (got_piece mid got buf n how own long some gets passes) =
-      turn_behind how a got b (spared_then a mid got (own_spares a mid own) (gets_some k mid got buf n gets))
-      (passing _ got b how passes)
+  getter_spared {a} {b} (getter_gets mid piece how own gets) =
+      turn_behind how a mid b (own_spares a mid own) (gets_spared gets)
 
-relays_spared : (piece : List ℕ) (a b : Known) (how : Option Stop) → RelaysPiece piece a b how → SparesTurn how a b
-relays_spared piece a b how p = subst (λ (h : Option Stop). SparesTurn h a b) (sym p.2)
+relays_spared : (q : ℕ) (piece : List ℕ) (a b : Known) (how : Option Stop) → RelaysPiece q piece a b how → SparesTurn how a b
+relays_spared q piece a b how p = subst (λ (h : Option Stop). SparesTurn h a b) (sym p.2)
     (by_part p.0 a b (hands_spared p.1))
 
 sinks_spared : (piece : List ℕ) (a b : Known) (how : Option Stop) → SinksPiece piece a b how → SparesTurn how a b
@@ -395,21 +396,21 @@ module _ (Closes : Known → Known → Type 0) where
   ends_heeding how a b c d e one two closes spared completes = spared_then a b e one (spared_then b c e two
       (spared_then c d e spared (completes_spared d e completes)))
 
-reader_heeds : (targets : List ℕ) (plan : List Planned) (a b c : Known) {bytes : List ℕ} {how : Stop}
-    → ReaderWorks targets plan a b bytes how → HasCompleted b c ENDED_CELL
-    → HeedsKills (ClosesEnd (write_end SOURCE_PIPE)) a c how
-reader_heeds targets plan a b c (reader_refused claim) done =
-    spared_then a b c (claim_spared (write_end SOURCE_PIPE) a b claim.0 claim.1) (completes_spared b c done)
-reader_heeds targets plan a b c (reader_works opened sent last bytes how claim sends turns closes) done =
-    ends_heeding (ClosesEnd (write_end SOURCE_PIPE)) how a sent last b c
-    (spared_then a opened sent (claim_spared (write_end SOURCE_PIPE) a opened claim.0 claim.1)
+reader_heeds : (q : ℕ) (targets : List ℕ) (plan : List Planned) (a b c : Known) {bytes : List ℕ} {how : Stop}
+    → ReaderWorks q targets plan a b bytes how → HasCompleted b c ENDED_CELL
+    → HeedsKills (ClosesEnd (write_end q)) a c how
+reader_heeds q targets plan a b c (reader_refused claim) done =
+    spared_then a b c (claim_spared (write_end q) a b claim.0 claim.1) (completes_spared b c done)
+reader_heeds q targets plan a b c (reader_works opened sent last bytes how claim sends turns closes) done =
+    ends_heeding (ClosesEnd (write_end q)) how a sent last b c
+    (spared_then a opened sent (claim_spared (write_end q) a opened claim.0 claim.1)
     (sends_spared _ opened sent sends))
-    (by_turns_spared (λ read piece x y h. ReaderTurn targets plan read x y piece h)
+    (by_turns_spared (λ read piece x y h. ReaderTurn q targets plan read x y piece h)
     (λ read piece x y h turn. reader_spared turn) 0 turns) closes
-    (closes_spared (write_end SOURCE_PIPE) last b closes) done
+    (closes_spared (write_end q) last b closes) done
 
 pub readers_heed : ReadersHeed
-readers_heed targets plan old new bytes how goes = reader_heeds targets plan old goes.0 new goes.1 goes.2
+readers_heed q targets plan old new bytes how goes = reader_heeds q targets plan old goes.0 new goes.1 goes.2
 
 relay_heeds : (a b c : Known) {how : Stop} → RelayWorks a b how → HasCompleted b c ENDED_CELL
     → HeedsKills ClosesBoth a c how
@@ -423,8 +424,8 @@ relay_heeds a b c (relay_works opened both last closed bytes how one two turns f
     ends_heeding ClosesBoth how a both last b c
     (spared_then a opened both (claim_spared (read_end SOURCE_PIPE) a opened one.0 one.1)
     (claim_spared (write_end SINK_PIPE) opened both two.0 two.1))
-    (by_turns_spared (λ read piece x y h. GetterTurn (read_end SOURCE_PIPE) RelaysPiece x y piece h)
-    (λ read piece x y h turn. getter_spared (read_end SOURCE_PIPE) RelaysPiece relays_spared turn) 0 turns)
+    (by_turns_spared (λ read piece x y h. GetterTurn (read_end SOURCE_PIPE) (RelaysPiece SINK_PIPE) x y piece h)
+    (λ read piece x y h turn. getter_spared (read_end SOURCE_PIPE) (RelaysPiece SINK_PIPE) (relays_spared SINK_PIPE) turn) 0 turns)
     (closed, first, second)
     (spared_then last closed b (closes_spared (read_end SOURCE_PIPE) last closed first)
     (closes_spared (write_end SINK_PIPE) closed b second)) done
@@ -432,17 +433,17 @@ relay_heeds a b c (relay_works opened both last closed bytes how one two turns f
 pub relays_heed : RelaysHeed
 relays_heed old new how goes = relay_heeds old goes.0 new goes.1 goes.2
 
-writer_heeds : (a b c : Known) {how : Stop} → WriterWorks a b how → HasCompleted b c ENDED_CELL
-    → HeedsKills (ClosesEnd (read_end SINK_PIPE)) a c how
-writer_heeds a b c (writer_refused claim) done =
-    spared_then a b c (claim_spared (read_end SINK_PIPE) a b claim.0 claim.1) (completes_spared b c done)
-writer_heeds a b c (writer_works opened last bytes how claim turns closes) done =
-    ends_heeding (ClosesEnd (read_end SINK_PIPE)) how a opened last b c
-    (claim_spared (read_end SINK_PIPE) a opened claim.0 claim.1)
+writer_heeds : (q : ℕ) (a b c : Known) {how : Stop} → WriterWorks q a b how → HasCompleted b c ENDED_CELL
+    → HeedsKills (ClosesEnd (read_end q)) a c how
+writer_heeds q a b c (writer_refused claim) done =
+    spared_then a b c (claim_spared (read_end q) a b claim.0 claim.1) (completes_spared b c done)
+writer_heeds q a b c (writer_works opened last bytes how claim turns closes) done =
+    ends_heeding (ClosesEnd (read_end q)) how a opened last b c
+    (claim_spared (read_end q) a opened claim.0 claim.1)
     (by_turns_spared
-    (λ read piece x y h. GetterTurn (read_end SINK_PIPE) (λ p s t w. SinksPiece p s t w) x y piece h)
-    (λ read piece x y h turn. getter_spared (read_end SINK_PIPE) (λ p s t w. SinksPiece p s t w) sinks_spared turn) 0
-    turns) closes (closes_spared (read_end SINK_PIPE) last b closes) done
+    (λ read piece x y h. GetterTurn (read_end q) (λ p s t w. SinksPiece p s t w) x y piece h)
+    (λ read piece x y h turn. getter_spared (read_end q) (λ p s t w. SinksPiece p s t w) sinks_spared turn) 0
+    turns) closes (closes_spared (read_end q) last b closes) done
 
 pub writers_heed : WritersHeed
-writers_heed old new how goes = writer_heeds old goes.0 new goes.1 goes.2
+writers_heed q old new how goes = writer_heeds q old goes.0 new goes.1 goes.2

@@ -37,7 +37,7 @@ use Rattle.bit_wait.specs.declared.wait_calls.BitEnd.{BitEnd}
 use Rattle.bit_wait.specs.declared.wait_calls.BitEnd.TheVariants as bit_end
 use Rattle.page_lock.specs.PageEnds.{EndsPageLock}
 use Rattle.wait_model.specs.declared.tasks.SleepState.TheVariants as state
-use Rattle.copy_plan.specs.declared.TheConstants.{COUNTED_PAGE, LONGEST, SOURCE_PIPE}
+use Rattle.copy_plan.specs.declared.TheConstants.{COUNTED_PAGE, LONGEST, SINK_PIPE, SOURCE_PIPE}
 use Rattle.copy_plan.specs.declared.plan.Planned.{Planned}
 use Rattle.copy_plan.specs.declared.stop.Halt.{Halt}
 use Rattle.copy_plan.specs.declared.stop.ReaderEnd.{ReaderEnd}
@@ -60,7 +60,7 @@ use Rattle.flow_copy.specs.Workers.{
   CountsBytes,
   FollowsPrograms,
   FromSource,
-  GetterTurn,
+  GetsAnd,
   IsPiece,
   HandsBytes,
   ReaderGoes,
@@ -102,16 +102,14 @@ pub counts_length : (n : ℕ) (buf : List ℕ) (a b : Known) (r : Result (Unit {
     → CountsBytes n a b r → CountsBytes (length (take n buf)) a b r
 counts_length n buf a b r size = subst (λ (m : ℕ). CountsBytes m a b r) size
 
--- turns of a worker that gets pieces
-module _ (k : ℕ) (Passes : List ℕ → Known → Known → Option Stop → Type 0) (a b c : Known) (buf : List ℕ)
-    (own : TookOwn a b false) where
+-- a worker that gets pieces
+module _ (k : ℕ) (Passes : List ℕ → Known → Known → Option Stop → Type 0) (b c : Known) (buf : List ℕ) where
   pub get_halts : (h : Halt) (how : Stop) → GetsPiece k b c buf (Err h) → how ≡ stop_of h
-      → GetterTurn k Passes a c [] (Some how)
-  get_halts h how gets is = subst (λ (s : Stop). GetterTurn k Passes a c [] (Some s)) (sym is)
-      (get_halted b buf h own gets)
+      → GetsAnd k Passes b c [] (Some how)
+  get_halts h how gets is = subst (λ (s : Stop). GetsAnd k Passes b c [] (Some s)) (sym is) (get_halted buf h gets)
 
-  pub get_ends : (n : ℕ) → GetsPiece k b c buf (Ok n) → n ≡ 0 → GetterTurn k Passes a c [] (Some stop.Finished)
-  get_ends n gets none = pipe_ended b buf own (subst (λ (m : ℕ). GetsPiece k b c buf (Ok m)) none gets)
+  pub get_ends : (n : ℕ) → GetsPiece k b c buf (Ok n) → n ≡ 0 → GetsAnd k Passes b c [] (Some stop.Finished)
+  get_ends n gets none = pipe_ended buf (subst (λ (m : ℕ). GetsPiece k b c buf (Ok m)) none gets)
 
 pub sinks_halted : (piece : List ℕ) (a b : Known) (h : Halt) (how : Stop) → CountsBytes (length piece) a b (Err h)
     → how ≡ stop_of h → SinksPiece piece a b (Some how)
@@ -130,7 +128,7 @@ pub gave_nothing : (l0 l1 : Option (List ℕ)) (read : ℕ) (Made : List ℕ →
     → FromSource l0 l1 read read Made
 gave_nothing l0 l1 read Made left made = record { bytes = []; left = left; read = omega arith; made = made }
 
-module _ (targets : List ℕ) (plan : List Planned) (read n : ℕ) (buf : List ℕ) (l0 l1 : Option (List ℕ))
+module _ (q : ℕ) (targets : List ℕ) (plan : List Planned) (read n : ℕ) (buf : List ℕ) (l0 l1 : Option (List ℕ))
     (a b c : Known) (own : TookOwn a b false) (same : read + n ≡ read + length (take n buf))
     (left : l0 ≡ prepend_known (take n buf) l1) (some : IsPiece (take n buf))
     (sends : SendsEach (sent_to targets (due_in (read + 1) (read + n) plan)) b c) where
@@ -138,7 +136,7 @@ module _ (targets : List ℕ) (plan : List Planned) (read n : ℕ) (buf : List �
   sends_due = subst (λ (m : ℕ). SendsEach (sent_to targets (due_in (read + 1) m plan)) b c) same sends
 
   pub gave_long : LONGEST < read + n
-      → FromSource l0 l1 read (read + n) (λ piece. ReaderTurn targets plan read a c piece (Some stop.Long))
+      → FromSource l0 l1 read (read + n) (λ piece. ReaderTurn q targets plan read a c piece (Some stop.Long))
   gave_long long = record {
     bytes = take n buf;
     left = left;
@@ -147,8 +145,8 @@ module _ (targets : List ℕ) (plan : List Planned) (read n : ℕ) (buf : List �
   }
 
   pub gave_piece : read + n ≤ LONGEST → (d : Known) (r : Result (Unit {0}) Halt)
-      → HandsBytes (write_end SOURCE_PIPE) c d (take n buf) r
-      → FromSource l0 l1 read (read + n) (λ piece. ReaderTurn targets plan read a d piece (stops_by r))
+      → HandsBytes (write_end q) c d (take n buf) r
+      → FromSource l0 l1 read (read + n) (λ piece. ReaderTurn q targets plan read a d piece (stops_by r))
   gave_piece fits d r hands = record {
     bytes = take n buf;
     left = left;
@@ -157,32 +155,32 @@ module _ (targets : List ℕ) (plan : List Planned) (read n : ℕ) (buf : List �
   }
 
   pub gave_halted : read + n ≤ LONGEST → (d : Known) (h : Halt) (how : Stop)
-      → HandsBytes (write_end SOURCE_PIPE) c d (take n buf) (Err h) → how ≡ stop_of h → FromSource l0 l1 read (read + n) (λ piece. ReaderTurn targets plan read a d piece (Some how))
+      → HandsBytes (write_end q) c d (take n buf) (Err h) → how ≡ stop_of h → FromSource l0 l1 read (read + n) (λ piece. ReaderTurn q targets plan read a d piece (Some how))
   gave_halted fits d h how hands is = subst
-      (λ (s : Stop). FromSource l0 l1 read (read + n) (λ piece. ReaderTurn targets plan read a d piece (Some s)))
+      (λ (s : Stop). FromSource l0 l1 read (read + n) (λ piece. ReaderTurn q targets plan read a d piece (Some s)))
       (sym is) (gave_piece fits d (Err h) hands)
 
 -- a turn behind others
-module _ (targets : List ℕ) (plan : List Planned) (r0 r1 r2 : ℕ) (l0 l1 l2 : Option (List ℕ)) (a b c : Known)
+module _ (q : ℕ) (targets : List ℕ) (plan : List Planned) (r0 r1 r2 : ℕ) (l0 l1 l2 : Option (List ℕ)) (a b c : Known)
     (how : Option Stop) where
-  pub gave_more : FromSource l0 l1 r0 r1 (λ bytes. ReaderTurns targets plan r0 a bytes b None)
-      → FromSource l1 l2 r1 r2 (λ piece. ReaderTurn targets plan r1 b c piece how)
-      → FromSource l0 l2 r0 r2 (λ bytes. ReaderTurns targets plan r0 a bytes c how)
+  pub gave_more : FromSource l0 l1 r0 r1 (λ bytes. ReaderTurns q targets plan r0 a bytes b None)
+      → FromSource l1 l2 r1 r2 (λ piece. ReaderTurn q targets plan r1 b c piece how)
+      → FromSource l0 l2 r0 r2 (λ bytes. ReaderTurns q targets plan r0 a bytes c how)
   gave_more one two = record {
     bytes = one.bytes ++ two.bytes;
     left = one.left ∙ (ap (prepend_known one.bytes) two.left ∙ prepend_twice one.bytes two.bytes l2);
     read = let e = one.read in let f = two.read in let g = length-append one.bytes two.bytes in omega arith;
     made = a_turn one.bytes two.bytes b c how one.made
-        (subst (λ (r : ℕ). ReaderTurn targets plan r b c two.bytes how) one.read two.made);
+        (subst (λ (r : ℕ). ReaderTurn q targets plan r b c two.bytes how) one.read two.made);
   }
 
 pub relay_more : (a b c : Known) (how : Option Stop) → (one : (bytes : List ℕ) × RelayTurns a bytes b None)
     → (two : (piece : List ℕ) × RelayTurn piece b c how) → (bytes : List ℕ) × RelayTurns a bytes c how
 relay_more a b c how one two = (one.0 ++ two.0, a_turn one.0 two.0 b c how one.1 two.1)
 
-pub writer_more : (a b c : Known) (how : Option Stop) → (one : (bytes : List ℕ) × WriterTurns a bytes b None)
-    → (two : (piece : List ℕ) × WriterTurn piece b c how) → (bytes : List ℕ) × WriterTurns a bytes c how
-writer_more a b c how one two = (one.0 ++ two.0, a_turn one.0 two.0 b c how one.1 two.1)
+pub writer_more : (q : ℕ) (a b c : Known) (how : Option Stop) → (one : (bytes : List ℕ) × WriterTurns q a bytes b None)
+    → (two : (piece : List ℕ) × WriterTurn q piece b c how) → (bytes : List ℕ) × WriterTurns q a bytes c how
+writer_more q a b c how one two = (one.0 ++ two.0, a_turn one.0 two.0 b c how one.1 two.1)
 
 -- a claim of an end, by what it found
 pub claims : (k found : ℕ) (got has : Bool) (a b : Known) → b ≡ added a (item.Piped k act.Claim found)
@@ -195,19 +193,19 @@ pub gave_map : (l0 l1 : Option (List ℕ)) (r0 r1 : ℕ) (P Q : List ℕ → Typ
 gave_map l0 l1 r0 r1 P Q f one =
     record { bytes = one.bytes; left = one.left; read = one.read; made = f one.bytes one.made }
 
-pub reader_went : (targets : List ℕ) (plan : List Planned) (a b c d e : Known) (how : Stop) (bytes : List ℕ)
-    → ClaimsEnd (write_end SOURCE_PIPE) a b true → SendsEach (sent_to targets (due_in 0 0 plan)) b c
-    → ClosesEnd (write_end SOURCE_PIPE) d e → ReaderTurns targets plan 0 c bytes d (Some how)
-    → ReaderWorks targets plan a e bytes how
-reader_went targets plan a b c d e how bytes claim sends close turns = reader_works b c d bytes how claim sends turns close
+pub reader_went : (q : ℕ) (targets : List ℕ) (plan : List Planned) (a b c d e : Known) (how : Stop) (bytes : List ℕ)
+    → ClaimsEnd (write_end q) a b true → SendsEach (sent_to targets (due_in 0 0 plan)) b c
+    → ClosesEnd (write_end q) d e → ReaderTurns q targets plan 0 c bytes d (Some how)
+    → ReaderWorks q targets plan a e bytes how
+reader_went q targets plan a b c d e how bytes claim sends close turns = reader_works b c d bytes how claim sends turns close
 
 -- the four tasks, which have these numbers
 pub follows : (domain : TableId) (t1 t2 t3 t4 one two three four new : Known) (l0 l1 : Option (List ℕ))
     (plan : List Planned) (reader : ReaderEnd) (relay writer : WorkerEnd) (total : Result ℕ BitEnd) (targets : List ℕ)
     → targets ≡ worker_numbers → t1 ≡ newcomer domain 1 2 0 → t2 ≡ newcomer domain 2 3 0 → t3 ≡ newcomer domain 3 4 0
     → t4 ≡ newcomer domain 4 5 0
-    → FromSource l0 l1 0 reader.read (λ bytes. ReaderGoes targets plan t1 one bytes reader.stop)
-    → RelayGoes t2 two relay.stop → WriterGoes t3 three writer.stop → ControllerGoes t4 four total
+    → FromSource l0 l1 0 reader.read (λ bytes. ReaderGoes SOURCE_PIPE targets plan t1 one bytes reader.stop)
+    → RelayGoes t2 two relay.stop → WriterGoes SINK_PIPE t3 three writer.stop → ControllerGoes 3 t4 four total
     → (has_of 1 new.view ≡ one.view.items) × (has_of 2 new.view ≡ two.view.items)
     × (has_of 3 new.view ≡ three.view.items) × (has_of 4 new.view ≡ four.view.items)
     → FollowsPrograms domain new l0 l1 plan reader relay writer total
@@ -218,13 +216,13 @@ follows domain t1 t2 t3 t4 one two three four new l0 l1 plan reader relay writer
       three = three;
       four = four;
       reads = subst
-          (λ (k : Known). FromSource l0 l1 0 reader.read (λ bytes. ReaderGoes worker_numbers plan k one bytes
+          (λ (k : Known). FromSource l0 l1 0 reader.read (λ bytes. ReaderGoes SOURCE_PIPE worker_numbers plan k one bytes
           reader.stop)) e1 (subst
-          (λ (ns : List ℕ). FromSource l0 l1 0 reader.read (λ bytes. ReaderGoes ns plan t1 one bytes reader.stop))
+          (λ (ns : List ℕ). FromSource l0 l1 0 reader.read (λ bytes. ReaderGoes SOURCE_PIPE ns plan t1 one bytes reader.stop))
           numbers reads);
       relays = subst (λ (k : Known). RelayGoes k two relay.stop) e2 relays;
-      writes = subst (λ (k : Known). WriterGoes k three writer.stop) e3 writes;
-      controls = subst (λ (k : Known). ControllerGoes k four total) e4 controls;
+      writes = subst (λ (k : Known). WriterGoes SINK_PIPE k three writer.stop) e3 writes;
+      controls = subst (λ (k : Known). ControllerGoes 3 k four total) e4 controls;
       lists = lists;
     }
 

@@ -32,8 +32,8 @@ abbrev pub HeedsKills : (Known → Known → Type 0) → Known → Known → Sto
 HeedsKills Closes old new how = IfKilled how (DiesOfSignal Closes old new) (TookNoKill old new)
 
 abbrev pub ReadersHeed : Type 0
-ReadersHeed = (targets : List ℕ) (plan : List Planned) (old new : Known) (bytes : List ℕ) (how : Stop)
-    → ReaderGoes targets plan old new bytes how → HeedsKills (ClosesEnd (write_end SOURCE_PIPE)) old new how
+ReadersHeed = (p : ℕ) (targets : List ℕ) (plan : List Planned) (old new : Known) (bytes : List ℕ) (how : Stop)
+    → ReaderGoes p targets plan old new bytes how → HeedsKills (ClosesEnd (write_end p)) old new how
 
 abbrev pub ClosesBoth : Known → Known → Type 0
 ClosesBoth old new = (mid : Known) × ClosesEnd (read_end SOURCE_PIPE) old mid × ClosesEnd (write_end SINK_PIPE) mid new
@@ -42,5 +42,5 @@ abbrev pub RelaysHeed : Type 0
 RelaysHeed = (old new : Known) (how : Stop) → RelayGoes old new how → HeedsKills ClosesBoth old new how
 
 abbrev pub WritersHeed : Type 0
-WritersHeed = (old new : Known) (how : Stop) → WriterGoes old new how
-    → HeedsKills (ClosesEnd (read_end SINK_PIPE)) old new how
+WritersHeed = (p : ℕ) (old new : Known) (how : Stop) → WriterGoes p old new how
+    → HeedsKills (ClosesEnd (read_end p)) old new how

@@ -14,20 +14,22 @@ use wait_event::wait_events::WaitEnd;
 use wait_model::tasks::SleepState;
 use wait_rule::{Domain, Task};
 
-/// How many workers a copy has.
-const WORKERS: u8 = 3;
-
-/// Waits, uninterruptibly, until each of the three workers has completed `ENDED_CELL`, and then reads the tally of page
+/// Waits, uninterruptibly, until each of `workers` workers has completed `ENDED_CELL`, and then reads the tally of page
 /// `COUNTED_PAGE` while it keeps the page: it answers what it found there. Worn: a wait found no place; Interrupted
 /// never comes. The task owes nothing, and so it is afterwards.
-pub fn controller_task<R: Wait>(rt: &R, domain: &Domain, task: &mut Task) -> Result<u64, BitEnd>
+pub fn controller_task<R: Wait>(
+    rt: &R,
+    domain: &Domain,
+    task: &mut Task,
+    workers: u8,
+) -> Result<u64, BitEnd>
     requires of { task.old.domain ≡ domain.now }
     requires idler { IsIdler task.old }
     ensures controlled { Controlled task.old task.new }
-    ensures ends { ControlEnds task.old task.new result }
-    ensures goes { ControllerGoes task.old task.new result }
+    ensures ends { ControlEnds workers task.old task.new result }
+    ensures goes { ControllerGoes workers task.old task.new result }
 {
-    for ended in 0..WORKERS {
+    for ended in 0..workers {
         let _ = ended;
         await_one(rt, domain, task)?;
     }

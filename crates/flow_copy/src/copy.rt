@@ -49,9 +49,9 @@ pub struct Unstarted<S, K, W> {
     pub watch: W,
 }
 
-/// Reads the tally of the page of the copy, once its workers are joined. Nobody keeps the page then, so the first
-/// test-and-set takes it.
-fn read_moved<R: Wait>(rt: &R, domain: &Domain, task: &mut Task) -> u64
+/// Reads the tally of page `COUNTED_PAGE`, modulo 2^64, as a copy does once its workers are joined. Nobody keeps the page
+/// then, so the first test-and-set takes it. The task owes nothing, and so it is afterwards; it counts nothing.
+pub fn read_moved<R: Wait>(rt: &R, domain: &Domain, task: &mut Task) -> u64
     requires of { task.old.domain ≡ domain.now }
     requires clean { IsClean task.old }
     ensures clean { IsClean task.new }
@@ -162,10 +162,8 @@ pub fn copy_all<
     let ((one, source, reader), (two, relay), (three, sink, watch, writer), (four, total)) = made;
     join_four(domain, task, one, two, three, four);
     let moved = read_moved(rt, domain, task);
-    let stop = copy_stop(
-        [reader.stop, relay.stop, writer.stop, control_stop(&total)],
-        reader.kills,
-    );
+    let stops = [reader.stop, relay.stop, writer.stop, control_stop(&total)];
+    let stop = copy_stop(&stops, reader.kills);
     Ok(CopyEnd {
         source,
         sink,

@@ -5,6 +5,7 @@
 
 pub mod controller;
 pub mod copy;
+pub mod jobs;
 pub mod laws;
 pub mod parts;
 pub mod reader;

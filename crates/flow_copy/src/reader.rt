@@ -2,11 +2,12 @@
 
 ghost use Rattle.std.specs.Prelude.{◌≡◌, ◌≤◌, ◌<◌, Some, [], length, take, IfOk, IfSome, OnErr};
 ghost use Rattle.std.specs.Io.KnownBytes.{prepend_known};
+ghost use Rattle.wait_model.specs.declared.layout.TheConstants.{PIPES};
 ghost use Rattle.wait_rule.specs.PipeSays.{writing};
 ghost use Rattle.wait_pipe.specs.Pieces.{IsSettled};
 ghost use Rattle.edge_io.specs.Faults.{HasRisen};
 ghost use Rattle.copy_plan.specs.declared.gate.Who.TheVariants as who;
-ghost use Rattle.copy_plan.specs.declared.TheConstants.{LONGEST, PIECE, SIGNALS, SOURCE_PIPE};
+ghost use Rattle.copy_plan.specs.declared.TheConstants.{LONGEST, PIECE, SIGNALS};
 ghost use Rattle.copy_ends.specs.Did.{IsIdler, ReaderDid, ReaderWorked};
 ghost use Rattle.copy_turns.specs.Turns.{Reading};
 ghost use Rattle.copy_turns.specs.Work.{IsAtWork};
@@ -17,19 +18,20 @@ use completion_cell::completes::complete;
 use copy_plan::gate::{Gate, GatePass, Who, pass_gate};
 use copy_plan::plan::count_due;
 use copy_plan::stop::{NOT_READ, ReaderEnd, Stop, stop_of};
-use copy_plan::{ENDED_CELL, LONGEST, PIECE, Planned, SOURCE_PIPE};
+use copy_plan::{ENDED_CELL, LONGEST, PIECE, Planned};
 use copy_turns::{is_killed, send_due};
 use edge_io::{Failed, Source};
 use std::sync::Wait;
 use wait_pipe::{close_write, open_write};
 use wait_rule::{Domain, Task};
 
-/// A turn: takes the own signals, reads a piece, sends the signals that are due then, and puts the piece into the first
+/// A turn: takes the own signals, reads a piece, sends the signals that are due then, and puts the piece into the
 /// pipe. `read` is how many bytes the source has given. None where the reader goes on.
 fn read_turn<R: Wait, S: Source>(
     rt: &R,
     domain: &Domain,
     task: &mut Task,
+    pipe: u8,
     pass: GatePass,
     source: &mut S,
     plan: &[Planned],
@@ -38,13 +40,14 @@ fn read_turn<R: Wait, S: Source>(
 ) -> Option<Stop>
     requires of { task.old.domain ≡ domain.now }
     requires work { IsAtWork task.old }
+    requires pipe { pipe < PIPES }
     requires own { pass.who ≡ who.Reader }
-    requires settled { IsSettled (writing SOURCE_PIPE task.old) }
+    requires settled { IsSettled (writing pipe task.old) }
     requires short { read.old ≤ LONGEST }
-    ensures turn { Reading task.old task.new (S.left source.old) (S.left source.new) (S.faults source.old)
+    ensures turn { Reading pipe task.old task.new (S.left source.old) (S.left source.new) (S.faults source.old)
         (S.faults source.new) read.old read.new targets plan.now result }
     ensures goes { FromSource (S.left source.old) (S.left source.new) read.old read.new
-        (λ piece. ReaderTurn targets plan.now read.old task.old task.new piece result) }
+        (λ piece. ReaderTurn pipe targets plan.now read.old task.old task.new piece result) }
 {
     pass.spend();
     if is_killed(domain, task) {
@@ -64,7 +67,7 @@ fn read_turn<R: Wait, S: Source>(
     if *read > LONGEST {
         return Some(Stop::Long);
     }
-    match hand_on(rt, domain, task, SOURCE_PIPE, &buf[..taken]) {
+    match hand_on(rt, domain, task, pipe, &buf[..taken]) {
         Ok(()) => None,
         Err(halt) => Some(stop_of(halt)),
     }
@@ -89,6 +92,7 @@ fn read_on<R: Wait, S: Source, G: Gate>(
     rt: &R,
     domain: &Domain,
     task: &mut Task,
+    pipe: u8,
     source: &mut S,
     plan: &[Planned],
     targets: [u8; 3],
@@ -97,18 +101,19 @@ fn read_on<R: Wait, S: Source, G: Gate>(
 ) -> Stop
     requires of { task.old.domain ≡ domain.now }
     requires work { IsAtWork task.old }
-    requires settled { IsSettled (writing SOURCE_PIPE task.old) }
+    requires pipe { pipe < PIPES }
+    requires settled { IsSettled (writing pipe task.old) }
     requires short { read.old ≤ LONGEST }
-    ensures turns { Reading task.old task.new (S.left source.old) (S.left source.new) (S.faults source.old)
+    ensures turns { Reading pipe task.old task.new (S.left source.old) (S.left source.new) (S.faults source.old)
         (S.faults source.new) read.old read.new targets plan.now (Some result) }
     ensures goes { FromSource (S.left source.old) (S.left source.new) read.old read.new
-        (λ bytes. ReaderTurns targets plan.now read.old task.old bytes task.new (Some result)) }
+        (λ bytes. ReaderTurns pipe targets plan.now read.old task.old bytes task.new (Some result)) }
 {
     let mut turn: u64 = 0;
     for _ in rt.forever() {
         turn = turn.saturating_add(1);
         let pass = pass_gate(gate, Who::Reader, turn);
-        match read_turn(rt, domain, task, pass, source, plan, targets, read) {
+        match read_turn(rt, domain, task, pipe, pass, source, plan, targets, read) {
             None => {}
             Some(stop) => return stop,
         }
@@ -116,7 +121,7 @@ fn read_on<R: Wait, S: Source, G: Gate>(
     unreachable!()
 }
 
-/// Reads a source to its end, and puts its bytes into pipe `SOURCE_PIPE`, a piece of at most `PIECE` bytes a turn.
+/// Reads a source to its end, and puts its bytes into pipe `pipe`, below `PIPES`, a piece of at most `PIECE` bytes a turn.
 ///
 /// The task owes nothing, and so it is afterwards. It opens the write end of the pipe, and stops as Taken exactly where
 /// it was opened before. At the beginning of each turn it passes the gate and takes its own signals: it stops as Killed
@@ -132,6 +137,7 @@ pub fn reader_task<R: Wait, S: Source, G: Gate>(
     rt: &R,
     domain: &Domain,
     task: &mut Task,
+    pipe: u8,
     source: &mut S,
     plan: &[Planned],
     targets: [u8; 3],
@@ -139,13 +145,14 @@ pub fn reader_task<R: Wait, S: Source, G: Gate>(
 ) -> ReaderEnd
     requires of { task.old.domain ≡ domain.now }
     requires idler { IsIdler task.old }
+    requires pipe { pipe < PIPES }
     requires few { length plan.now ≤ SIGNALS }
-    ensures did { ReaderDid task.old task.new (S.left source.old) (S.left source.new) (S.faults source.old)
+    ensures did { ReaderDid pipe task.old task.new (S.left source.old) (S.left source.new) (S.faults source.old)
         (S.faults source.new) targets plan.now result }
     ensures goes { FromSource (S.left source.old) (S.left source.new) 0 result.read
-        (λ bytes. ReaderGoes targets plan.now task.old task.new bytes result.stop) }
+        (λ bytes. ReaderGoes pipe targets plan.now task.old task.new bytes result.stop) }
 {
-    let ended = reader_through(rt, domain, task, source, plan, targets, gate);
+    let ended = reader_through(rt, domain, task, pipe, source, plan, targets, gate);
     complete(rt, domain, task, ENDED_CELL);
     ended
 }
@@ -155,6 +162,7 @@ fn reader_through<R: Wait, S: Source, G: Gate>(
     rt: &R,
     domain: &Domain,
     task: &mut Task,
+    pipe: u8,
     source: &mut S,
     plan: &[Planned],
     targets: [u8; 3],
@@ -162,19 +170,22 @@ fn reader_through<R: Wait, S: Source, G: Gate>(
 ) -> ReaderEnd
     requires of { task.old.domain ≡ domain.now }
     requires idler { IsIdler task.old }
+    requires pipe { pipe < PIPES }
     requires few { length plan.now ≤ SIGNALS }
-    ensures did { ReaderWorked task.old task.new (S.left source.old) (S.left source.new) (S.faults source.old)
+    ensures did { ReaderWorked pipe task.old task.new (S.left source.old) (S.left source.new) (S.faults source.old)
         (S.faults source.new) targets plan.now result }
     ensures goes { FromSource (S.left source.old) (S.left source.new) 0 result.read
-        (λ bytes. ReaderWorks targets plan.now task.old task.new bytes result.stop) }
+        (λ bytes. ReaderWorks pipe targets plan.now task.old task.new bytes result.stop) }
 {
-    if !open_write(domain, task, SOURCE_PIPE) {
+    if !open_write(domain, task, pipe) {
         return NOT_READ;
     }
     send_due(rt, domain, task, plan, targets, 0, 0);
     let mut read = 0;
-    let stop = read_on(rt, domain, task, source, plan, targets, gate, &mut read);
-    close_write(rt, domain, task, SOURCE_PIPE);
+    let stop = read_on(
+        rt, domain, task, pipe, source, plan, targets, gate, &mut read,
+    );
+    close_write(rt, domain, task, pipe);
     let (sent, kills) = count_due(plan, read);
     ReaderEnd {
         stop,

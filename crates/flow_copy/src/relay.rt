@@ -1,6 +1,8 @@
 //! The worker between the two pipes.
 
-ghost use Rattle.std.specs.Prelude.{◌≡◌, Some};
+ghost use Rattle.std.specs.Prelude.{◌≡◌, ◌≢◌, ◌<◌, Some};
+ghost use Rattle.wait_model.specs.declared.layout.TheConstants.{PIPES};
+ghost use Rattle.wait_rule.specs.Pipes.{read_end};
 ghost use Rattle.wait_rule.specs.PipeSays.{reading, writing};
 ghost use Rattle.wait_pipe.specs.Pieces.{IsSettled};
 ghost use Rattle.copy_plan.specs.declared.gate.Who.TheVariants as who;
@@ -8,7 +10,7 @@ ghost use Rattle.copy_plan.specs.declared.TheConstants.{SINK_PIPE, SOURCE_PIPE};
 ghost use Rattle.copy_ends.specs.Did.{IsIdler, RelayDid, RelayWorked};
 ghost use Rattle.copy_turns.specs.Turns.{Relaying};
 ghost use Rattle.copy_turns.specs.Work.{IsAtWork};
-ghost use Rattle.flow_copy.specs.Workers.{RelayGoes, RelayTurn, RelayTurns, RelayWorks};
+ghost use Rattle.flow_copy.specs.Workers.{GetsAnd, RelayGoes, RelayTurn, RelayTurns, RelayWorks, RelaysPiece};
 
 use crate::parts::hand_on;
 use completion_cell::completes::complete;
@@ -19,6 +21,44 @@ use copy_turns::{get, is_killed};
 use std::sync::Wait;
 use wait_pipe::{close_read, close_write, open_read, open_write};
 use wait_rule::{Domain, Task};
+
+/// Takes a piece out of pipe `from`, and puts it into pipe `to`, both below `PIPES` and not the same; `moved` is what the
+/// worker has counted, modulo 2^64. None where it goes on; Finished: the first pipe is at its end.
+pub fn pass_piece<R: Wait>(
+    rt: &R,
+    domain: &Domain,
+    task: &mut Task,
+    from: u8,
+    to: u8,
+    moved: &mut u64,
+) -> Option<Stop>
+    requires of { task.old.domain ≡ domain.now }
+    requires work { IsAtWork task.old }
+    requires from { from < PIPES }
+    requires to { to < PIPES }
+    requires apart { from ≢ to }
+    requires tap { IsSettled (reading from task.old) }
+    requires pen { IsSettled (writing to task.old) }
+    ensures turn { Relaying from to task.old task.new moved.old moved.new result }
+    ensures goes { (piece : _) × GetsAnd (read_end from) (RelaysPiece to) task.old task.new piece result }
+{
+    let counted = *moved;
+    let mut buf = [0; PIECE];
+    let taken = match get(rt, domain, task, from, &mut buf) {
+        Ok(taken) => taken,
+        Err(halt) => return Some(stop_of(halt)),
+    };
+    if taken == 0 {
+        return Some(Stop::Finished);
+    }
+    match hand_on(rt, domain, task, to, &buf[..taken]) {
+        Ok(()) => {
+            *moved = counted.wrapping_add(taken as u64);
+            None
+        }
+        Err(halt) => Some(stop_of(halt)),
+    }
+}
 
 /// A turn: takes the own signals, takes a piece out of the first pipe, and puts it into the second. `moved` is what the
 /// relay has counted, modulo 2^64. None where it goes on.
@@ -34,29 +74,14 @@ fn relay_turn<R: Wait>(
     requires own { pass.who ≡ who.Relay }
     requires tap { IsSettled (reading SOURCE_PIPE task.old) }
     requires pen { IsSettled (writing SINK_PIPE task.old) }
-    ensures turn { Relaying task.old task.new moved.old moved.new result }
+    ensures turn { Relaying SOURCE_PIPE SINK_PIPE task.old task.new moved.old moved.new result }
     ensures goes { (piece : _) × RelayTurn piece task.old task.new result }
 {
-    let counted = *moved;
     pass.spend();
     if is_killed(domain, task) {
         return Some(Stop::Killed);
     }
-    let mut buf = [0; PIECE];
-    let taken = match get(rt, domain, task, SOURCE_PIPE, &mut buf) {
-        Ok(taken) => taken,
-        Err(halt) => return Some(stop_of(halt)),
-    };
-    if taken == 0 {
-        return Some(Stop::Finished);
-    }
-    match hand_on(rt, domain, task, SINK_PIPE, &buf[..taken]) {
-        Ok(()) => {
-            *moved = counted.wrapping_add(taken as u64);
-            None
-        }
-        Err(halt) => Some(stop_of(halt)),
-    }
+    pass_piece(rt, domain, task, SOURCE_PIPE, SINK_PIPE, moved)
 }
 
 /// Turns up to a stop.
@@ -65,7 +90,7 @@ fn relay_on<R: Wait, G: Gate>(rt: &R, domain: &Domain, task: &mut Task, gate: &G
     requires work { IsAtWork task.old }
     requires tap { IsSettled (reading SOURCE_PIPE task.old) }
     requires pen { IsSettled (writing SINK_PIPE task.old) }
-    ensures turns { Relaying task.old task.new 0 result.moved (Some result.stop) }
+    ensures turns { Relaying SOURCE_PIPE SINK_PIPE task.old task.new 0 result.moved (Some result.stop) }
     ensures goes { (bytes : _) × RelayTurns task.old bytes task.new (Some result.stop) }
 {
     let mut moved = 0;

@@ -1,10 +1,10 @@
 //! The worker that writes the sink.
 
-ghost use Rattle.std.specs.Prelude.{◌≡◌, Some};
+ghost use Rattle.std.specs.Prelude.{◌≡◌, ◌<◌, Some};
+ghost use Rattle.wait_model.specs.declared.layout.TheConstants.{PIPES};
 ghost use Rattle.wait_rule.specs.PipeSays.{reading};
 ghost use Rattle.wait_pipe.specs.Pieces.{IsSettled};
 ghost use Rattle.copy_plan.specs.declared.gate.Who.TheVariants as who;
-ghost use Rattle.copy_plan.specs.declared.TheConstants.{SINK_PIPE};
 ghost use Rattle.copy_ends.specs.Did.{IsIdler, WriterDid, WriterWorked};
 ghost use Rattle.copy_turns.specs.Turns.{Writing};
 ghost use Rattle.copy_turns.specs.Work.{IsAtWork};
@@ -14,7 +14,7 @@ use crate::parts::count;
 use completion_cell::completes::complete;
 use copy_plan::gate::{Gate, GatePass, Who, pass_gate};
 use copy_plan::stop::{NOT_TAKEN, Stop, WorkerEnd, stop_of};
-use copy_plan::{ENDED_CELL, PIECE, SINK_PIPE};
+use copy_plan::{ENDED_CELL, PIECE};
 use copy_turns::{get, is_killed};
 use edge_io::{Sink, SinkFault, write_all};
 use func_head::Watchers;
@@ -22,12 +22,13 @@ use std::sync::Wait;
 use wait_pipe::{close_read, open_read};
 use wait_rule::{Domain, Task};
 
-/// A turn: takes the own signals, takes a piece out of the second pipe, writes it into the sink, and shows it to the
+/// A turn: takes the own signals, takes a piece out of the pipe, writes it into the sink, and shows it to the
 /// watchers. `moved` is what the writer has counted, modulo 2^64. None where it goes on.
 fn write_turn<R: Wait, K: Sink, W: Watchers>(
     rt: &R,
     domain: &Domain,
     task: &mut Task,
+    pipe: u8,
     pass: GatePass,
     sink: &mut K,
     watch: &mut W,
@@ -35,11 +36,12 @@ fn write_turn<R: Wait, K: Sink, W: Watchers>(
 ) -> Option<Stop>
     requires of { task.old.domain ≡ domain.now }
     requires work { IsAtWork task.old }
+    requires pipe { pipe < PIPES }
     requires own { pass.who ≡ who.Writer }
-    requires settled { IsSettled (reading SINK_PIPE task.old) }
-    ensures turn { Writing task.old task.new (K.held sink.old) (K.held sink.new) (K.faults sink.old) (K.faults sink.new)
+    requires settled { IsSettled (reading pipe task.old) }
+    ensures turn { Writing pipe task.old task.new (K.held sink.old) (K.held sink.new) (K.faults sink.old) (K.faults sink.new)
         (K.wants sink.old) (K.wants sink.new) (W.entries watch.old) (W.entries watch.new) moved.old moved.new result }
-    ensures goes { (piece : _) × WriterTurn piece task.old task.new result }
+    ensures goes { (piece : _) × WriterTurn pipe piece task.old task.new result }
 {
     let counted = *moved;
     pass.spend();
@@ -47,7 +49,7 @@ fn write_turn<R: Wait, K: Sink, W: Watchers>(
         return Some(Stop::Killed);
     }
     let mut buf = [0; PIECE];
-    let taken = match get(rt, domain, task, SINK_PIPE, &mut buf) {
+    let taken = match get(rt, domain, task, pipe, &mut buf) {
         Ok(taken) => taken,
         Err(halt) => return Some(stop_of(halt)),
     };
@@ -74,31 +76,33 @@ fn write_on<R: Wait, K: Sink, W: Watchers, G: Gate>(
     rt: &R,
     domain: &Domain,
     task: &mut Task,
+    pipe: u8,
     sink: &mut K,
     watch: &mut W,
     gate: &G,
 ) -> WorkerEnd
     requires of { task.old.domain ≡ domain.now }
     requires work { IsAtWork task.old }
-    requires settled { IsSettled (reading SINK_PIPE task.old) }
-    ensures turns { Writing task.old task.new (K.held sink.old) (K.held sink.new) (K.faults sink.old)
+    requires pipe { pipe < PIPES }
+    requires settled { IsSettled (reading pipe task.old) }
+    ensures turns { Writing pipe task.old task.new (K.held sink.old) (K.held sink.new) (K.faults sink.old)
         (K.faults sink.new) (K.wants sink.old) (K.wants sink.new) (W.entries watch.old) (W.entries watch.new) 0
         result.moved (Some result.stop) }
-    ensures goes { (bytes : _) × WriterTurns task.old bytes task.new (Some result.stop) }
+    ensures goes { (bytes : _) × WriterTurns pipe task.old bytes task.new (Some result.stop) }
 {
     let mut moved = 0;
     let mut turn: u64 = 0;
     for _ in rt.forever() {
         turn = turn.saturating_add(1);
         let pass = pass_gate(gate, Who::Writer, turn);
-        if let Some(stop) = write_turn(rt, domain, task, pass, sink, watch, &mut moved) {
+        if let Some(stop) = write_turn(rt, domain, task, pipe, pass, sink, watch, &mut moved) {
             return WorkerEnd { stop, moved };
         }
     }
     unreachable!()
 }
 
-/// Writes what comes out of pipe `SINK_PIPE` into a sink, a piece of at most `PIECE` bytes a turn.
+/// Writes what comes out of pipe `pipe`, below `PIPES`, into a sink, a piece of at most `PIECE` bytes a turn.
 ///
 /// The task owes nothing, and so it is afterwards. It opens the read end of the pipe, and stops as Taken exactly where
 /// it was opened before. Gate, signals, the tally of page `COUNTED_PAGE`, Killed and Worn are as of `reader_task`; a
@@ -110,17 +114,19 @@ pub fn writer_task<R: Wait, K: Sink, W: Watchers, G: Gate>(
     rt: &R,
     domain: &Domain,
     task: &mut Task,
+    pipe: u8,
     sink: &mut K,
     watch: &mut W,
     gate: &G,
 ) -> WorkerEnd
     requires of { task.old.domain ≡ domain.now }
     requires idler { IsIdler task.old }
-    ensures did { WriterDid task.old task.new (K.held sink.old) (K.held sink.new) (K.faults sink.old)
+    requires pipe { pipe < PIPES }
+    ensures did { WriterDid pipe task.old task.new (K.held sink.old) (K.held sink.new) (K.faults sink.old)
         (K.faults sink.new) (K.wants sink.old) (K.wants sink.new) (W.entries watch.old) (W.entries watch.new) result }
-    ensures goes { WriterGoes task.old task.new result.stop }
+    ensures goes { WriterGoes pipe task.old task.new result.stop }
 {
-    let ended = write_through(rt, domain, task, sink, watch, gate);
+    let ended = write_through(rt, domain, task, pipe, sink, watch, gate);
     complete(rt, domain, task, ENDED_CELL);
     ended
 }
@@ -130,20 +136,22 @@ fn write_through<R: Wait, K: Sink, W: Watchers, G: Gate>(
     rt: &R,
     domain: &Domain,
     task: &mut Task,
+    pipe: u8,
     sink: &mut K,
     watch: &mut W,
     gate: &G,
 ) -> WorkerEnd
     requires of { task.old.domain ≡ domain.now }
     requires idler { IsIdler task.old }
-    ensures did { WriterWorked task.old task.new (K.held sink.old) (K.held sink.new) (K.faults sink.old)
+    requires pipe { pipe < PIPES }
+    ensures did { WriterWorked pipe task.old task.new (K.held sink.old) (K.held sink.new) (K.faults sink.old)
         (K.faults sink.new) (K.wants sink.old) (K.wants sink.new) (W.entries watch.old) (W.entries watch.new) result }
-    ensures goes { WriterWorks task.old task.new result.stop }
+    ensures goes { WriterWorks pipe task.old task.new result.stop }
 {
-    if !open_read(domain, task, SINK_PIPE) {
+    if !open_read(domain, task, pipe) {
         return NOT_TAKEN;
     }
-    let ended = write_on(rt, domain, task, sink, watch, gate);
-    close_read(rt, domain, task, SINK_PIPE);
+    let ended = write_on(rt, domain, task, pipe, sink, watch, gate);
+    close_read(rt, domain, task, pipe);
     ended
 }

@@ -216,17 +216,17 @@ module _ (domain : TableId) (task : Known) (left_old left_new : Option (List ℕ
       (sym c.stops ∙ e)
 
   reader_stop : (s : Stop) → reader.stop ≡ s
-      → IfTaken s (Unit {0}) (IsReaderStop (newcomer domain 1 2 0) c.one (HasRisen 0 reads_new) s)
+      → IfTaken s (Unit {0}) (IsReaderStop SOURCE_PIPE (newcomer domain 1 2 0) c.one (HasRisen 0 reads_new) s)
   reader_stop s e = subst (λ (x : Stop). IfTaken x (Unit {0})
-      (IsReaderStop (newcomer domain 1 2 0) c.one (HasRisen 0 reads_new) x)) e c.reads.worked.cause
+      (IsReaderStop SOURCE_PIPE (newcomer domain 1 2 0) c.one (HasRisen 0 reads_new) x)) e c.reads.worked.cause
 
-  relay_stop : (s : Stop) → relay.stop ≡ s → IfTaken s (Unit {0}) (IsRelayStop (newcomer domain 2 3 0) c.two s)
-  relay_stop s e = subst (λ (x : Stop). IfTaken x (Unit {0}) (IsRelayStop (newcomer domain 2 3 0) c.two x)) e
+  relay_stop : (s : Stop) → relay.stop ≡ s → IfTaken s (Unit {0}) (IsRelayStop SOURCE_PIPE SINK_PIPE (newcomer domain 2 3 0) c.two s)
+  relay_stop s e = subst (λ (x : Stop). IfTaken x (Unit {0}) (IsRelayStop SOURCE_PIPE SINK_PIPE (newcomer domain 2 3 0) c.two x)) e
       c.relays.worked.cause
 
   writer_stop : (s : Stop) → writer.stop ≡ s → IfTaken s (Unit {0})
-      (IsWriterStop (newcomer domain 3 4 0) c.three (HasRisen 0 writes_new) (HasRisen wants_old wants_new) s)
-  writer_stop s e = subst (λ (x : Stop). IfTaken x (Unit {0}) (IsWriterStop (newcomer domain 3 4 0) c.three
+      (IsWriterStop SINK_PIPE (newcomer domain 3 4 0) c.three (HasRisen 0 writes_new) (HasRisen wants_old wants_new) s)
+  writer_stop s e = subst (λ (x : Stop). IfTaken x (Unit {0}) (IsWriterStop SINK_PIPE (newcomer domain 3 4 0) c.three
       (HasRisen 0 writes_new) (HasRisen wants_old wants_new) x)) e c.writes.worked.cause
 
   no_control : (s : Stop) → (s ≡ stop.Finished → ⊥) → ((h p : ℕ) → s ≡ stop.Worn h p → ⊥) → control_stop total ≡ s → ⊥
@@ -272,7 +272,7 @@ module _ (domain : TableId) (task : Known) (left_old left_new : Option (List ℕ
       counted : (h2 p2 : ℕ) → total ≡ Err (bit_end.Worn h2 p2) → stop.Worn h p ≡ stop.Worn h2 p2 → WasFull task p
       counted h2 p2 t s =
           let w : WasWorn c.four.view.number c.four.view.items h2 p2 =
-          subst (λ (r : Result ℕ BitEnd). ControlEnds (newcomer domain 4 5 0) c.four r) t c.ends in
+          subst (λ (r : Result ℕ BitEnd). ControlEnds 3 (newcomer domain 4 5 0) c.four r) t c.ends in
           let same_head : h2 ≡ h = cc s in
           let same_place : p2 ≡ p = cc s in
           full_at task c.four domain 4 5 h p c.controls.served.grows c.lists.3 c.late c.late.controller

@@ -32,19 +32,22 @@ returns-clause-controlled g c =
     c.read_tally.ensures.controlled
 
 pub returns-clause-ends : goal.returns-clause-ends
-returns-clause-ends g c = control_ends c.loop-ended.ended c.args.task.now c.loop-ended.task c.read_tally.new.task
-    c.read_tally.result (omega arith) c.loop-ended.invariant.waits c.read_tally.ensures.ends
+returns-clause-ends g c =
+    let all : c.loop-ended.ended ≡ c.args.workers = omega arith in
+    control_ends c.args.workers c.args.task.now c.loop-ended.task c.read_tally.new.task c.read_tally.result
+    (subst (λ (n : ℕ). WaitsTimes n c.args.task.now c.loop-ended.task) all c.loop-ended.invariant.waits)
+    c.read_tally.ensures.ends
 
 pub returns-in_err-await_one-clause-goes : goal.returns-in_err-await_one-clause-goes
 returns-in_err-await_one-clause-goes g c =
-    let lost : ControllerGoes c.args.task.now c.await_one.new.task (Err c.in_err-await_one.field-0.0)
+    let lost : ControllerGoes c.args.workers c.args.task.now c.await_one.new.task (Err c.in_err-await_one.field-0.0)
     = lost_wait c.loop-ended.ended c.loop-ended.task c.in_err-await_one.field-0.0 (omega arith)
     c.loop-ended.invariant.waits c.in_err-await_one.ensures.loses in
     search rules
 
 pub returns-clause-goes : goal.returns-clause-goes
 returns-clause-goes g c =
-    let all : c.loop-ended.ended ≡ 3 = omega arith in
+    let all : c.loop-ended.ended ≡ c.args.workers = omega arith in
     saw_all c.loop-ended.task c.read_tally.result
     (subst (λ (n : ℕ). WaitsTimes n c.args.task.now c.loop-ended.task) all c.loop-ended.invariant.waits)
     c.read_tally.ensures.goes

@@ -19,25 +19,25 @@ use Rattle.flow_copy.proofs.reader.read_turn.Goals as goal
 
 pub returns-then-is_killed : goal.returns-then-is_killed
 returns-then-is_killed g c = record {
-  turn = read_nothing c.args.task.now c.is_killed.new.task (g.S.Source.left c.args.source.now)
+  turn = read_nothing c.args.pipe c.args.task.now c.is_killed.new.task (g.S.Source.left c.args.source.now)
       (g.S.Source.left c.args.source.now) (g.S.Source.faults c.args.source.now) (g.S.Source.faults c.args.source.now)
       c.args.read.now c.args.targets c.args.plan.now c.requires.settled c.is_killed.ensures.apart
       (prepend_none (g.S.Source.left c.args.source.now)) (omega arith) stop.Killed c.requires.short tt
       c.if-is_killed.ensures.killed;
   goes = gave_none (g.S.Source.left c.args.source.now) c.args.read.now
-      (λ piece. ReaderTurn c.args.targets c.args.plan.now c.args.read.now c.args.task.now c.is_killed.new.task piece
+      (λ piece. ReaderTurn c.args.pipe c.args.targets c.args.plan.now c.args.read.now c.args.task.now c.is_killed.new.task piece
       (Some stop.Killed)) (reader_killed c.if-is_killed.ensures.own);
 }
 
 pub returns-in-Err : goal.returns-in-Err
 returns-in-Err g c = record {
-  turn = read_nothing c.args.task.now c.is_killed.new.task (g.S.Source.left c.args.source.now)
+  turn = read_nothing c.args.pipe c.args.task.now c.is_killed.new.task (g.S.Source.left c.args.source.now)
       (g.S.Source.left c.take_in.new.source) (g.S.Source.faults c.args.source.now) (g.S.Source.faults c.take_in.new.source)
       c.args.read.now c.args.targets c.args.plan.now c.requires.settled c.is_killed.ensures.apart
       (sym c.in-Err.ensures.nothing ∙ prepend_none (g.S.Source.left c.take_in.new.source)) c.take_in.ensures.later
       stop.ReadFault c.requires.short tt c.in-Err.ensures.cause;
   goes = gave_nothing (g.S.Source.left c.args.source.now) (g.S.Source.left c.take_in.new.source) c.args.read.now
-      (λ piece. ReaderTurn c.args.targets c.args.plan.now c.args.read.now c.args.task.now c.is_killed.new.task piece
+      (λ piece. ReaderTurn c.args.pipe c.args.targets c.args.plan.now c.args.read.now c.args.task.now c.is_killed.new.task piece
       (Some stop.ReadFault)) (sym c.in-Err.ensures.nothing ∙ prepend_none (g.S.Source.left c.take_in.new.source))
       (source_failed c.if-is_killed.ensures.own);
 }
@@ -47,13 +47,13 @@ returns-then-taken-eq0 g c =
     let left = given_none (g.S.Source.left c.args.source.now) (g.S.Source.left c.take_in.new.source) c.take_in.new.buf
     c.in-Ok.taken c.in-Ok.ensures.bytes c.if-taken-eq0.true in
     record {
-      turn = read_nothing c.args.task.now c.is_killed.new.task (g.S.Source.left c.args.source.now)
+      turn = read_nothing c.args.pipe c.args.task.now c.is_killed.new.task (g.S.Source.left c.args.source.now)
           (g.S.Source.left c.take_in.new.source) (g.S.Source.faults c.args.source.now) (g.S.Source.faults c.take_in.new.source)
           c.args.read.now c.args.targets c.args.plan.now c.requires.settled c.is_killed.ensures.apart left c.take_in.ensures.later
           stop.Finished c.requires.short (source_ended (g.S.Source.left c.args.source.now)
           (g.S.Source.left c.take_in.new.source) left (c.in-Ok.ensures.end c.if-taken-eq0.true (omega arith))) tt;
       goes = gave_nothing (g.S.Source.left c.args.source.now) (g.S.Source.left c.take_in.new.source) c.args.read.now
-          (λ piece. ReaderTurn c.args.targets c.args.plan.now c.args.read.now c.args.task.now c.is_killed.new.task piece
+          (λ piece. ReaderTurn c.args.pipe c.args.targets c.args.plan.now c.args.read.now c.args.task.now c.is_killed.new.task piece
           (Some stop.Finished)) left (ended c.if-is_killed.ensures.own);
     }
 
@@ -65,14 +65,14 @@ returns-then-read-gt-LONGEST g c =
     let s = c.send_due.ensures in
     let given = given_length c.take_in.new.buf c.in-Ok.taken c.args.read.now (omega arith) in
     record {
-      turn = read_long c.args.task.now c.is_killed.new.task c.send_due.new.task (g.S.Source.left c.args.source.now)
+      turn = read_long c.args.pipe c.args.task.now c.is_killed.new.task c.send_due.new.task (g.S.Source.left c.args.source.now)
           (g.S.Source.left c.take_in.new.source) (g.S.Source.faults c.args.source.now) (g.S.Source.faults c.take_in.new.source)
           c.args.read.now _ c.args.targets c.args.plan.now (take c.in-Ok.taken c.take_in.new.buf) c.requires.settled
           c.is_killed.ensures.apart c.in-Ok.ensures.bytes c.take_in.ensures.later
           (given_length c.take_in.new.buf c.in-Ok.taken c.args.read.now (omega arith)) (omega (arith, some))
           (record { works = s.works; ends = s.ends; sums = s.sums; spared = s.spared; signals = s.signals; each = s.goes })
           c.if-read-gt-LONGEST.true;
-      goes = gave_long c.args.targets c.args.plan.now c.args.read.now c.in-Ok.taken c.take_in.new.buf
+      goes = gave_long c.args.pipe c.args.targets c.args.plan.now c.args.read.now c.in-Ok.taken c.take_in.new.buf
           (g.S.Source.left c.args.source.now) (g.S.Source.left c.take_in.new.source) c.args.task.now
           c.is_killed.new.task c.send_due.new.task c.if-is_killed.ensures.own
           (given_length c.take_in.new.buf c.in-Ok.taken c.args.read.now (omega arith)) c.in-Ok.ensures.bytes
@@ -87,14 +87,14 @@ returns-in-Ok-hand_on g c =
     let s = c.send_due.ensures in
     let given = given_length c.take_in.new.buf c.in-Ok.taken c.args.read.now (omega arith) in
     record {
-      turn = read_on c.args.task.now c.is_killed.new.task c.send_due.new.task (g.S.Source.left c.args.source.now)
+      turn = read_on c.args.pipe c.args.task.now c.is_killed.new.task c.send_due.new.task (g.S.Source.left c.args.source.now)
           (g.S.Source.left c.take_in.new.source) (g.S.Source.faults c.args.source.now) (g.S.Source.faults c.take_in.new.source)
           c.args.read.now _ c.args.targets c.args.plan.now (take c.in-Ok.taken c.take_in.new.buf) c.requires.settled
           c.is_killed.ensures.apart c.in-Ok.ensures.bytes c.take_in.ensures.later
           (given_length c.take_in.new.buf c.in-Ok.taken c.args.read.now (omega arith)) (omega (arith, some))
           (record { works = s.works; ends = s.ends; sums = s.sums; spared = s.spared; signals = s.signals; each = s.goes })
           c.hand_on.new.task c.if-read-gt-LONGEST.false c.in-Ok-hand_on.ensures.handed;
-      goes = gave_piece c.args.targets c.args.plan.now c.args.read.now c.in-Ok.taken c.take_in.new.buf
+      goes = gave_piece c.args.pipe c.args.targets c.args.plan.now c.args.read.now c.in-Ok.taken c.take_in.new.buf
           (g.S.Source.left c.args.source.now) (g.S.Source.left c.take_in.new.source) c.args.task.now
           c.is_killed.new.task c.send_due.new.task c.if-is_killed.ensures.own
           (given_length c.take_in.new.buf c.in-Ok.taken c.args.read.now (omega arith)) c.in-Ok.ensures.bytes
@@ -110,16 +110,16 @@ returns-in-Err-hand_on g c =
     let s = c.send_due.ensures in
     let given = given_length c.take_in.new.buf c.in-Ok.taken c.args.read.now (omega arith) in
     record {
-      turn = subst (λ (how : Stop). Reading c.args.task.now c.hand_on.new.task (g.S.Source.left c.args.source.now)
+      turn = subst (λ (how : Stop). Reading c.args.pipe c.args.task.now c.hand_on.new.task (g.S.Source.left c.args.source.now)
           (g.S.Source.left c.take_in.new.source) (g.S.Source.faults c.args.source.now) (g.S.Source.faults c.take_in.new.source)
           c.args.read.now (c.args.read.now + c.in-Ok.taken) c.args.targets c.args.plan.now (Some how)) (sym c.stop_of.ensures)
-          (read_halted c.args.task.now c.is_killed.new.task c.send_due.new.task
+          (read_halted c.args.pipe c.args.task.now c.is_killed.new.task c.send_due.new.task
           (g.S.Source.left c.args.source.now) (g.S.Source.left c.take_in.new.source) (g.S.Source.faults c.args.source.now)
           (g.S.Source.faults c.take_in.new.source) c.args.read.now (c.args.read.now + c.in-Ok.taken) c.args.targets
           c.args.plan.now (take c.in-Ok.taken c.take_in.new.buf) c.requires.settled c.is_killed.ensures.apart c.in-Ok.ensures.bytes c.take_in.ensures.later (given_length c.take_in.new.buf c.in-Ok.taken c.args.read.now (omega arith)) (omega (arith, some))
           (record { works = s.works; ends = s.ends; sums = s.sums; spared = s.spared; signals = s.signals; each = s.goes })
           c.hand_on.new.task c.if-read-gt-LONGEST.false c.in-Err-hand_on.halt c.in-Err-hand_on.ensures.handed);
-      goes = gave_halted c.args.targets c.args.plan.now c.args.read.now c.in-Ok.taken c.take_in.new.buf
+      goes = gave_halted c.args.pipe c.args.targets c.args.plan.now c.args.read.now c.in-Ok.taken c.take_in.new.buf
           (g.S.Source.left c.args.source.now) (g.S.Source.left c.take_in.new.source) c.args.task.now
           c.is_killed.new.task c.send_due.new.task c.if-is_killed.ensures.own
           (given_length c.take_in.new.buf c.in-Ok.taken c.args.read.now (omega arith)) c.in-Ok.ensures.bytes

@@ -1,78 +1,26 @@
-use Rattle.std.proofs.Common.{refl, sym, ap, subst, arith}
-use Rattle.std.specs.Prelude.{ℕ, ◌+◌, ◌%◌, ◌^◌, Some, [], take}
-use Rattle.std.proofs.lemmas.List.{length-take-le}
-use Rattle.copy_plan.specs.declared.stop.Stop.{Stop}
-use Rattle.copy_turns.specs.Turns.{Relaying}
-use Rattle.copy_turns.proofs.Relays.{relay_ended, relay_goes_on, relay_halted, relay_killed, relay_stopped}
-use Rattle.std.specs.Prelude.{None, Ok, Err}
-use Rattle.wait_rule.specs.Pipes.{read_end}
-use Rattle.copy_plan.specs.declared.TheConstants.{SOURCE_PIPE}
-use Rattle.flow_copy.specs.Workers.{RelaysPiece, getter_killed, got_piece}
-use Rattle.flow_copy.proofs.Words.{get_ends, get_halts}
+use Rattle.std.proofs.Common.{arith}
+use Rattle.std.specs.Prelude.{[]}
+use Rattle.copy_plan.specs.declared.TheConstants.{SINK_PIPE, SOURCE_PIPE}
+use Rattle.copy_turns.proofs.Relays.{relay_killed, relaying_behind}
+use Rattle.flow_copy.specs.Workers.{getter_gets, getter_killed}
 use Rattle.flow_copy.proofs.relay.relay_turn.Goals as goal
 
 pub returns-then-is_killed : goal.returns-then-is_killed
 returns-then-is_killed g c = record {
-  turn = relay_killed c.args.task.now c.is_killed.new.task c.args.moved.now
-      (omega arith) c.requires.tap c.requires.pen c.is_killed.ensures.apart
+  turn = relay_killed SOURCE_PIPE SINK_PIPE (λ e. omega (arith, e)) c.args.task.now c.is_killed.new.task
+      c.args.moved.now (omega arith) c.requires.tap c.requires.pen c.is_killed.ensures.apart
       c.if-is_killed.ensures.killed;
   goes = ([], getter_killed c.if-is_killed.ensures.own);
 }
 
-pub returns-in-Err : goal.returns-in-Err
-returns-in-Err g c = record {
-  turn = subst (λ (s : Stop). Relaying c.args.task.now c.get.new.task c.args.moved.now
-      c.args.moved.now (Some s)) (sym c.stop_of.ensures) (relay_halted c.args.task.now c.is_killed.new.task
-      c.get.new.task
-      c.args.moved.now (omega arith) c.requires.pen c.is_killed.ensures.apart [] c.in-Err.ensures.got c.in-Err.halt refl
-      c.in-Err.ensures.cause);
+pub returns : goal.returns
+returns g c = record {
+  turn = relaying_behind SOURCE_PIPE SINK_PIPE (λ e. omega (arith, e)) c.args.task.now c.is_killed.new.task
+      c.pass_piece.new.task c.args.moved.now c.pass_piece.new.moved c.pass_piece.result c.is_killed.ensures.apart
+      c.pass_piece.ensures.turn;
   goes = (
-    [],
-    get_halts (read_end SOURCE_PIPE) RelaysPiece c.args.task.now c.is_killed.new.task c.get.new.task
-        c.get.new.buf c.if-is_killed.ensures.own c.in-Err.halt c.stop_of.result c.in-Err.ensures.goes c.stop_of.ensures,
-  );
-}
-
-pub returns-then-taken-eq0 : goal.returns-then-taken-eq0
-returns-then-taken-eq0 g c = record {
-  turn = relay_ended c.args.task.now c.is_killed.new.task c.get.new.task
-      c.args.moved.now (omega arith) c.requires.pen c.is_killed.ensures.apart (take c.in-Ok.taken c.get.new.buf)
-      c.in-Ok.ensures.got (ap (λ (n : ℕ). take n c.get.new.buf) c.if-taken-eq0.true)
-      (c.in-Ok.ensures.end c.if-taken-eq0.true);
-  goes = (
-    [],
-    get_ends (read_end SOURCE_PIPE) RelaysPiece c.args.task.now c.is_killed.new.task c.get.new.task
-        c.get.new.buf c.if-is_killed.ensures.own c.in-Ok.taken c.in-Ok.ensures.goes c.if-taken-eq0.true,
-  );
-}
-
-pub returns-in-Ok-hand_on : goal.returns-in-Ok-hand_on
-returns-in-Ok-hand_on g c = record {
-  turn = relay_goes_on c.args.task.now c.is_killed.new.task c.get.new.task
-      c.args.moved.now (omega arith) c.requires.pen c.is_killed.ensures.apart (take c.in-Ok.taken c.get.new.buf)
-      c.in-Ok.ensures.got c.hand_on.new.task ((c.args.moved.now + c.in-Ok.taken) % 2 ^ 64)
-      c.in-Ok-hand_on.ensures.handed
-      (ap (λ (n : ℕ). (c.args.moved.now + n) % 2 ^ 64)
-      (sym (length-take-le c.in-Ok.taken c.get.new.buf c.in-Ok.ensures.most)));
-  goes = (
-    take c.in-Ok.taken c.get.new.buf,
-    got_piece c.is_killed.new.task c.get.new.task c.get.new.buf c.in-Ok.taken None c.if-is_killed.ensures.own
-        c.get.ensures.same (let some = c.if-taken-eq0.false in omega (arith, some)) c.in-Ok.ensures.goes
-        (Ok tt, c.in-Ok-hand_on.ensures.goes, refl),
-  );
-}
-
-pub returns-in-Err-hand_on : goal.returns-in-Err-hand_on
-returns-in-Err-hand_on g c = record {
-  turn = subst (λ (s : Stop). Relaying c.args.task.now c.hand_on.new.task
-      c.args.moved.now c.args.moved.now (Some s)) (sym c.stop_of-in-Err-hand_on.ensures) (relay_stopped c.args.task.now
-      c.is_killed.new.task c.get.new.task c.args.moved.now (omega arith) c.requires.pen c.is_killed.ensures.apart
-      (take c.in-Ok.taken c.get.new.buf) c.in-Ok.ensures.got c.hand_on.new.task c.in-Err-hand_on.halt
-      c.in-Err-hand_on.ensures.handed);
-  goes = (
-    take c.in-Ok.taken c.get.new.buf,
-    got_piece c.is_killed.new.task c.get.new.task c.get.new.buf c.in-Ok.taken (Some c.stop_of-in-Err-hand_on.result)
-        c.if-is_killed.ensures.own c.get.ensures.same (let some = c.if-taken-eq0.false in omega (arith, some)) c.in-Ok.ensures.goes
-        (Err c.in-Err-hand_on.halt, c.in-Err-hand_on.ensures.goes, ap Some c.stop_of-in-Err-hand_on.ensures),
+    c.pass_piece.ensures.goes.0,
+    getter_gets c.is_killed.new.task c.pass_piece.ensures.goes.0 c.pass_piece.result c.if-is_killed.ensures.own
+        c.pass_piece.ensures.goes.1,
   );
 }

@@ -4,7 +4,7 @@ use Rattle.flow_copy.proofs.writer.writer_task.Goals as goal
 
 pub returns : goal.returns
 returns g c = record {
-  did = writer_completes c.args.task.now c.write_through-ended.new.task c.complete.new.task
+  did = writer_completes c.args.pipe c.args.task.now c.write_through-ended.new.task c.complete.new.task
       (g.K.Sink.held c.args.sink.now) (g.K.Sink.held c.write_through-ended.new.sink) (g.K.Sink.faults c.args.sink.now)
       (g.K.Sink.faults c.write_through-ended.new.sink) (g.K.Sink.wants c.args.sink.now)
       (g.K.Sink.wants c.write_through-ended.new.sink) (g.W.Watchers.entries c.args.watch.now)

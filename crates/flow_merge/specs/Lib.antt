@@ -1,0 +1,4 @@
+pub mod Passed
+pub mod Mergers
+pub mod MergerWords
+pub mod Merged

@@ -1,7 +1,7 @@
 -- The whole copy, from what each of its four tasks did and the laws of the lists that were joined.
 use Rattle.std.proofs.Common.{refl, sym, ap, ◌∙◌, subst, arith, inl, inr}
 use Rattle.std.proofs.lemmas.Bool.{false≢true}
-use Rattle.std.specs.Prelude.{ℕ, ◌≡◌, ◌+◌, ◌*◌, ◌<◌, ◌⊎◌, ◌++◌, true, false, List, [], length}
+use Rattle.std.specs.Prelude.{ℕ, ◌≡◌, ◌+◌, ◌*◌, ◌<◌, ◌⊎◌, ◌++◌, true, false, List, [], ◌∷◌, length}
 use Rattle.std.specs.Prelude.{Option, Some, IfSome}
 use Rattle.std.specs.Io.KnownBytes.{append_known}
 use Rattle.atomic_table.specs.Seated.{TableId}
@@ -66,13 +66,13 @@ else_of stop.Memory X Y n y = y
 else_of stop.Long X Y n y = y
 else_of (stop.Worn h p) X Y n y = y
 
-taken_of : (s : Stop) (X Y : Type 0) → s ≡ stop.Taken → IfTaken s X Y → X
+pub taken_of : (s : Stop) (X Y : Type 0) → s ≡ stop.Taken → IfTaken s X Y → X
 taken_of s X Y e x = subst (λ (how : Stop). IfTaken how X Y) e x
 
 pub finished_of : (s : Stop) (X : Type 0) → s ≡ stop.Finished → IfFinished s X → X
 finished_of s X e x = subst (λ (how : Stop). IfFinished how X) e x
 
-stop_is : (s : Stop) → Plain s → IsNotTaken s → (s ≡ stop.Killed → ⊥) → (s ≡ stop.Broken → ⊥) → s ≡ stop.Finished
+pub stop_is : (s : Stop) → Plain s → IsNotTaken s → (s ≡ stop.Killed → ⊥) → (s ≡ stop.Broken → ⊥) → s ≡ stop.Finished
 stop_is s (finished e) n k b = e
 stop_is s (broken e) n k b = absurd (b e)
 stop_is s (killed e) n k b = absurd (k e)
@@ -92,6 +92,9 @@ module _ (domain : TableId) (one two three fourth : Known) (left_old left_new : 
   abbrev all_lists : Journal
   all_lists = four one.view.items two.view.items three.view.items fourth.view.items
 
+  abbrev each_list : List (List Item)
+  each_list = one.view.items ∷ two.view.items ∷ three.view.items ∷ fourth.view.items ∷ []
+
   has_each : HasAll all_lists
   has_each = four_has_all one.view.items two.view.items three.view.items fourth.view.items
 
@@ -108,7 +111,7 @@ module _ (domain : TableId) (one two three fourth : Known) (left_old left_new : 
       nobody_has : (k : ℕ) → k < CLAIMS → (end_at k one).mine ≡ false → (end_at k two).mine ≡ false
           → (end_at k three).mine ≡ false → (t : ℕ) → t < TASKS → was_refused k (has_of t all_lists) ≡ true → ⊥
       nobody_has k few a b c t small refused = nobody all_lists has_each shown k few
-          (of_each (λ xs. (end_of k xs).mine ≡ false) _ refl (a, (b, (c, (controller_lacks k, tt))))) t small refused
+          (of_each (λ xs. (end_of k xs).mine ≡ false) each_list refl (a, (b, (c, (controller_lacks k, tt))))) t small refused
 
       refused_at : (k : ℕ) (xs ys : List Item) → ys ≡ xs → was_refused k xs ≡ true → was_refused k ys ≡ true
       refused_at k xs ys e r = ap (was_refused k) e ∙ r
@@ -196,7 +199,7 @@ module _ (domain : TableId) (one two three fourth : Known) (left_old left_new : 
           ∙ (sym (ap (λ (ps : List Planned). length (fatal_of ps)) due) ∙ (sym reads.kills ∙ none))))
 
       took : (t : ℕ) → t < TASKS → total takes_fatal (steps_of (has_of t all_lists)) ≡ 0
-      took = took_none all_lists has_each shown (of_each RaisedNone _ refl (
+      took = took_none all_lists has_each shown (of_each RaisedNone each_list refl (
         reader_raised,
         (
           none_raised two.view.items relays.signals,

@@ -1,7 +1,7 @@
 -- What the journal of a task has that joined others, which have the numbers from 1 on.
 use Rattle.std.proofs.Common.{refl, sym, ap, ◌∙◌, subst, arith, append-nil}
 use Rattle.std.proofs.lemmas.Bool.{eqb-false, eqb-true, false≢true, le-leb, leb-false, leb-true, lt-ltb}
-use Rattle.std.specs.Prelude.{ℕ, ◌≡◌, ◌+◌, ◌-◌, ◌<◌, ◌≤◌, Bool, true, false, cond, eqb, leb, ltb, ◌&&◌, List, [], ◌∷◌, ◌++◌, length}
+use Rattle.std.specs.Prelude.{ℕ, ◌≡◌, ◌≢◌, ◌+◌, ◌-◌, ◌<◌, ◌≤◌, Bool, true, false, cond, eqb, leb, ltb, ◌&&◌, List, [], ◌∷◌, ◌++◌, length}
 use Rattle.atomic_table.specs.Seated.{TableId}
 use Rattle.wait_model.specs.declared.layout.TheConstants.{CLAIMS, PIPES, TASKS}
 use Rattle.wait_model.specs.Words.{flag}
@@ -45,23 +45,25 @@ Each P (xs ∷ xss) = P xs × Each P xss
 -- a number below all of theirs
 items_below : (t n : ℕ) (xss : List (List Item)) → t < n → items_in t (parts_from n xss) ≡ []
 items_below t n [] low = refl
-items_below t n (xs ∷ xss) low = by (eqb n t) refl
+items_below t n (xs ∷ xss) low = by (eqb n t) refl (items_below t (n + 1) xss (omega (arith, low)))
   where
-    by : (b : Bool) → eqb n t ≡ b → cond b xs [] ++ items_in t (parts_from (n + 1) xss) ≡ []
-    by true e = absurd (let f = eqb-true n t e in omega (arith, f, low))
-    by false e = items_below t (n + 1) xss (omega (arith, low))
+    by : (b : Bool) → eqb n t ≡ b → items_in t (parts_from (n + 1) xss) ≡ []
+        → cond b xs [] ++ items_in t (parts_from (n + 1) xss) ≡ []
+    by true e rest = absurd (let f = eqb-true n t e in omega (arith, f, low))
+    by false e rest = rest
 
 items_each : (P : List Item → Type 0) (t n : ℕ) (xss : List (List Item)) → P [] → Each P xss
     → P (items_in t (parts_from n xss))
 items_each P t n [] none each = none
-items_each P t n (xs ∷ xss) none each = by (eqb n t) refl
+items_each P t n (xs ∷ xss) none each = by (eqb n t) refl (items_each P t (n + 1) xss none each.1)
   where
-    by : (b : Bool) → eqb n t ≡ b → P (cond b xs [] ++ items_in t (parts_from (n + 1) xss))
-    by true e =
+    by : (b : Bool) → eqb n t ≡ b → P (items_in t (parts_from (n + 1) xss))
+        → P (cond b xs [] ++ items_in t (parts_from (n + 1) xss))
+    by true e behind =
         let f = eqb-true n t e in
         let rest : items_in t (parts_from (n + 1) xss) ≡ [] = items_below t (n + 1) xss (omega (arith, f)) in
         subst P (sym (ap (λ (l : List Item). xs ++ l) rest ∙ append-nil xs)) each.0
-    by false e = items_each P t (n + 1) xss none each.1
+    by false e behind = behind
 
 -- what holds of no list and of each of them holds of each list that the journal has
 pub of_each : (P : List Item → Type 0) (xss : List (List Item)) → P [] → Each P xss
@@ -84,14 +86,12 @@ within a b t low high = by (leb a t) (ltb t b) (le-leb a t low) (lt-ltb t b high
 times_from : (t n : ℕ) (xss : List (List Item)) → n ≤ t → t < n + length xss → 1 ≤ times_in t (parts_from n xss)
 times_from t n [] low high = absurd (omega (arith, low, high))
 times_from t n (xs ∷ xss) low high = by (eqb n t) refl
+    (λ some. times_from t (n + 1) xss (omega (arith, low, some)) (omega (arith, high)))
   where
-    by : (b : Bool) → eqb n t ≡ b
+    by : (b : Bool) → eqb n t ≡ b → (n ≢ t → 1 ≤ times_in t (parts_from (n + 1) xss))
         → 1 ≤ flag b + (one_within (n + 1) (n + 1 + 0) t + times_in t (parts_from (n + 1) xss))
-    by true e = omega arith
-    by false e =
-        let f = eqb-false n t e in
-        let rest = times_from t (n + 1) xss (omega (arith, low, f)) (omega (arith, high)) in
-        omega (arith, rest)
+    by true e behind = omega arith
+    by false e behind = let rest = behind (eqb-false n t e) in omega (arith, rest)
 
 -- one of three counts is enough
 first_counts : (x y z : ℕ) → x ≡ 1 → 1 ≤ x + (y + z)

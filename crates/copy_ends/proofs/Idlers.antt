@@ -2,15 +2,14 @@
 -- pipe.
 use Rattle.std.proofs.Common.{refl, sym, ◌∙◌, subst, arith}
 use Rattle.std.proofs.lemmas.Bool.{eqb-false, eqb-true}
-use Rattle.std.specs.Prelude.{ℕ, zero, suc, ◌≡◌, ◌+◌, ◌-◌, ◌&&◌, eqb, not, Bool, true, false}
+use Rattle.std.specs.Prelude.{ℕ, zero, suc, ◌≡◌, ◌+◌, ◌-◌, ◌&&◌, eqb, not, Bool, true, false, List, []}
 use Rattle.std.specs.Prelude.{Result, Ok, Err, MatchResult}
 use Rattle.atomic_table.specs.Seated.{TableId}
 use Rattle.bit_wait.specs.declared.wait_calls.BitEnd.{BitEnd}
 use Rattle.bit_wait.specs.declared.wait_calls.BitEnd.TheVariants as bit_end
-use Rattle.wait_model.specs.declared.layout.TheConstants.{TASKS}
 use Rattle.wait_rule.specs.declared.journal.Journal.{Journal}
+use Rattle.wait_rule.specs.declared.journal.Part.{Part}
 use Rattle.wait_rule.specs.Aside.{Grows}
-use Rattle.wait_rule.specs.Journals.{fresh}
 use Rattle.wait_rule.specs.Known.{Known}
 use Rattle.wait_rule.specs.Says.{
   Duty,
@@ -36,7 +35,6 @@ use Rattle.copy_ends.specs.Copied.{
   IsControlEnd,
   ReadTally,
   WaitsTimes,
-  joined_four,
 }
 use Rattle.copy_ends.specs.Did.{IsIdler}
 use Rattle.copy_turns.specs.Turns.{CountedAll}
@@ -168,9 +166,19 @@ newcomer_idles domain number next spare = record {
     by (end_unclosed e) = refl
 
 -- and one that has made none but has joined others
-pub joined_clean : (domain : TableId) (a b c d : Journal)
-    → IsClean (seen_with (newcomer domain 0 5 (TASKS - 5)) (joined_four (fresh 0 5 (TASKS - 5)) a b c d))
-joined_clean domain a b c d = record {
+abbrev joined_parts : ℕ → ℕ → List Part → Journal
+joined_parts next spare ps = record {
+  lives = true;
+  number = 0;
+  next = next;
+  spare = spare;
+  items = [];
+  joined = ps;
+}
+
+pub joined_clean : (domain : TableId) (next spare : ℕ) (ps : List Part)
+    → IsClean (seen_with (newcomer domain 0 next spare) (joined_parts next spare ps))
+joined_clean domain next spare ps = record {
   up = refl;
   running = refl;
   free = record { head = refl; ticket = refl };
@@ -184,8 +192,7 @@ joined_clean domain a b c d = record {
   };
 }
   where
-    by : (u : Duty) → (has_duty (seen_with (newcomer domain 0 5 (TASKS - 5)) (joined_four (fresh 0 5
-        (TASKS - 5)) a b c d)) u
+    by : (u : Duty) → (has_duty (seen_with (newcomer domain 0 next spare) (joined_parts next spare ps)) u
         && not (excuses no_excuse u)) ≡ false
     by (wake_of w σ) = refl
     by page_asked = refl

@@ -18,7 +18,7 @@ use Rattle.copy_ends.specs.Copied.{ReadTally, joined_all}
 use Rattle.copy_ends.proofs.JoinedFour.{four}
 
 -- the four lists' sums
-one_counts : (number next spare p : ℕ) (xs : List Item) → number < TASKS
+pub one_counts : (number next spare p : ℕ) (xs : List Item) → number < TASKS
     → tally_in p (pushed (fresh number next spare) xs) ≡ amounts_of p xs
 one_counts number next spare p xs few =
     let adds = adds_count (fresh number next spare) p xs refl few in

@@ -1,6 +1,6 @@
 -- A task that joined four others that have made no step.
 use Rattle.std.proofs.Common.{refl, sym, ap, ◌∙◌, subst}
-use Rattle.std.specs.Prelude.{ℕ, ◌≡◌, ◌-◌, List, []}
+use Rattle.std.specs.Prelude.{ℕ, ◌≡◌, ◌-◌, List, [], ◌∷◌}
 use Rattle.atomic_table.specs.Seated.{TableId}
 use Rattle.wait_model.specs.declared.layout.TheConstants.{TASKS}
 use Rattle.wait_rule.specs.declared.journal.Item.{Item}
@@ -9,11 +9,11 @@ use Rattle.wait_rule.specs.Known.{Known}
 use Rattle.wait_rule.specs.Says.{IsClean, newcomer, seen_with}
 use Rattle.copy_ends.specs.Copied.{HasNoSteps, joined_four}
 use Rattle.copy_ends.proofs.Idlers.{joined_clean}
-use Rattle.copy_ends.proofs.Crews.{of_each}
+use Rattle.copy_ends.proofs.Crews.{of_each, parts_from}
 use Rattle.copy_ends.proofs.JoinedFour.{four}
 
 none_of : (number : ℕ) → has_of number (four [] [] [] []) ≡ []
-none_of number = of_each (λ (xs : List Item). xs ≡ []) _ refl (refl, (refl, (refl, (refl, tt)))) number
+none_of number = of_each (λ (xs : List Item). xs ≡ []) ([] ∷ [] ∷ [] ∷ [] ∷ []) refl (refl, (refl, (refl, (refl, tt)))) number
 
 module _ (domain : TableId) (old one two three fourth new : Known) (rest : old ≡ newcomer domain 0 5 (TASKS - 5))
     (e1 : one ≡ newcomer domain 1 2 0) (e2 : two ≡ newcomer domain 2 3 0) (e3 : three ≡ newcomer domain 3 4 0)
@@ -39,4 +39,4 @@ module _ (domain : TableId) (old one two three fourth new : Known) (rest : old �
 
   pub still_clean : IsClean new
   still_clean = subst IsClean (sym whole)
-      (joined_clean domain (fresh 1 2 0) (fresh 2 3 0) (fresh 3 4 0) (fresh 4 5 0))
+      (joined_clean domain 5 (TASKS - 5) (parts_from 1 ([] ∷ [] ∷ [] ∷ [] ∷ [])))

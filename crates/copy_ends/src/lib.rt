@@ -4,4 +4,4 @@
 
 pub mod tasks;
 
-pub use tasks::{control_stop, fork_four, join_four};
+pub use tasks::{control_stop, fork_five, fork_four, join_five, join_four};

@@ -56,9 +56,9 @@ each_named_none (s ∷ ss) m w r f l = (
   each_named_none ss m.1 w.1 r.1 f.1 l.1,
 )
 
-pub record NamesNone (stops : List Stop) (kills : ℕ) : Type 0 where
+pub record NamesNone (stops : List Stop) (sent : ℕ) : Type 0 where
   pub each : EachNamedNone stops
-  pub kills : kills ≡ 0
+  pub kills : sent ≡ 0
 
 pub finished_names_none : (ss : List Stop) (kills : ℕ) → copy_stop ss kills ≡ stop.Finished → NamesNone ss kills
 finished_names_none ss kills e =

@@ -77,6 +77,7 @@ fn relay_turn<R: Wait>(
     ensures turn { Relaying SOURCE_PIPE SINK_PIPE task.old task.new moved.old moved.new result }
     ensures goes { (piece : _) × RelayTurn piece task.old task.new result }
 {
+    let _counted = *moved;
     pass.spend();
     if is_killed(domain, task) {
         return Some(Stop::Killed);

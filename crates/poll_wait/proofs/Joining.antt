@@ -47,8 +47,8 @@ use Rattle.wait_event.specs.PartSteps.{part_change}
 use Rattle.wait_event.specs.Prepares.{IsPart}
 use Rattle.wait_event.proofs.Entering.{hold_carried, note_unlocked, runs_lock, unlock_looks}
 use Rattle.wait_event.proofs.PartSteps.{part_of}
-use Rattle.poll_wait.specs.Seconds.{EndsJoin, MayJoin, join_change, join_program, second_of}
-use Rattle.poll_wait.specs.SecondSteps.{HasJoined, HasSeenSecond, JoinsHeld, SecondCarries, joined_at}
+use Rattle.poll_wait.specs.Seconds.{EndsJoin, MayJoinSecond, join_change, join_program, second_of}
+use Rattle.poll_wait.specs.SecondSteps.{HasJoinedHeld, HasSeenSecond, JoinsHeld, SecondCarries, joined_at}
 use Rattle.poll_wait.proofs.Carrying.{carries_on}
 use Rattle.poll_wait.proofs.SecondLooks.{finds_second, hold_looks, second_is, second_looks, second_stored}
 
@@ -96,7 +96,7 @@ module _ (w : Watch) (old mid : Known) (o : Option Entry) (own : HasSeenSecond o
   pub stays_joined : (b : Bool) → b ≡ is_some o → b ≡ true → JoinsHeld w old mid (Ok tt)
   stays_joined b tells hit_is = by o refl (sym tells ∙ hit_is)
     where
-      by : (g : Option Entry) → o ≡ g → is_some g ≡ true → HasJoined w old mid
+      by : (g : Option Entry) → o ≡ g → is_some g ≡ true → HasJoinedHeld w old mid
       by None at some = absurd (cc)
       by (Some e) some hit = record {
         still = true;
@@ -127,7 +127,7 @@ module _ (w : Watch) (old mid : Known) (o : Option Entry) (own : HasSeenSecond o
         (subst (λ (d : Watch). HasAdded IsFrontPlace mid new 1 (front_entry d (kind_for w))) is
         (subst (λ (d : Kind). HasAdded IsFrontPlace mid new 1 (front_entry c d)) kind x))
       where
-        by : HasAdded IsFrontPlace mid new 1 (front_entry (bare w) (kind_for w)) → HasJoined w old new
+        by : HasAdded IsFrontPlace mid new 1 (front_entry (bare w) (kind_for w)) → HasJoinedHeld w old new
         by y =
             let e : Entry = front_entry (bare w) (kind_for w) y.place in record {
               still = false;
@@ -215,7 +215,7 @@ held_at w a b (Err v) x = x.carries.at
 
 -- in the hold
 module _ (w : Watch) (old a : Known) where
-  pub joins_home : MayJoin old w → Carries (lock_change (head_of w)) old a
+  pub joins_home : MayJoinSecond old w → Carries (lock_change (head_of w)) old a
       → IsPart w (kind_for w) ((told_of a).bits.stored (second_of a))
   joins_home may one = subst (IsPart w (kind_for w))
       (sym (ap (λ (n : ℕ). (told_of a).bits.stored (index n 1)) one.number ∙ one.stored (second_of old) refl refl)) may.home
@@ -225,7 +225,7 @@ module _ (w : Watch) (old a : Known) where
   joins_low one low c same = owes_low c (head_of w) (same ∙ one.at) low
 
 -- the whole add: the lock, what the hold does, and the unlock
-module _ (w : Watch) (old a b new : Known) (may : MayJoin old w) (told : IsTold old)
+module _ (w : Watch) (old a b new : Known) (may : MayJoinSecond old w) (told : IsTold old)
     (l : HasLocked old a (head_of w) (walk_of_hold (head_of w) None)) (one : Carries (lock_change (head_of w)) old a)
   where
     abbrev h : ℕ
@@ -259,7 +259,7 @@ module _ (w : Watch) (old a b new : Known) (may : MayJoin old w) (told : IsTold 
       at_lock : (b.at ≡ a.at) → b.at ≡ h
       at_lock same = same ∙ one.at
 
-      unlocks : (x : HasJoined w a b) → Runs g b new (next.Go (joined_at x.still)) (next.Ends zero_answer)
+      unlocks : (x : HasJoinedHeld w a b) → Runs g b new (next.Go (joined_at x.still)) (next.Ends zero_answer)
       unlocks x = by x.still refl
         where
           by : (s : Bool) → x.still ≡ s → Runs g b new (next.Go (joined_at s)) (next.Ends zero_answer)
@@ -314,7 +314,7 @@ module _ (w : Watch) (old a b new : Known) (may : MayJoin old w) (told : IsTold 
         note_unlocked b new v u.is x.noted,
       )
 
-      pub join_may : (r : Result (Unit {0}) Worn) → JoinsHeld w a b r → MayJoin new w
+      pub join_may : (r : Result (Unit {0}) Worn) → JoinsHeld w a b r → MayJoinSecond new w
       join_may (Ok v) x = record {
         up = three.awake ∙ (x.carries.awake ∙ (one.awake ∙ may.up));
         free = u.free;

@@ -13,3 +13,4 @@ pub mod Sleeping
 pub mod Turning
 pub mod Sides
 pub mod Waiting
+pub mod WorkedPolls

@@ -15,7 +15,7 @@ use Rattle.wq_head.specs.declared.adds.Worn.{Worn}
 use Rattle.poll_wait.specs.declared.turns.Poll.{Poll}
 use Rattle.poll_wait.specs.declared.turns.PollEnd.{PollEnd}
 use Rattle.poll_wait.specs.declared.turns.Ready.{Ready}
-use Rattle.poll_wait.specs.Polls.{either, pair_change, with_both}
+use Rattle.poll_wait.specs.Polls.{is_either, pair_change, with_both}
 use Rattle.poll_wait.specs.Seconds.{join_change, second_of}
 use Rattle.poll_wait.specs.TurnSteps.{EndsSo, HasDone, PairCarries, TurnCarries}
 use Rattle.poll_wait.proofs.Carrying.{carries_more, carries_on, owes_swap}
@@ -24,17 +24,17 @@ neither : (a b : Bool) → (a || b) ≡ false → (a ≡ false) × (b ≡ false)
 neither true b is = absurd (cc)
 neither false b is = (refl, is)
 
-first_away : (me x : ℕ) → either me x ≡ false → only (index me 0) x ≡ false
+first_away : (me x : ℕ) → is_either me x ≡ false → only (index me 0) x ≡ false
 first_away me x is = (neither (only (index me 0) x) (only (index me 1) x) is).0
 
-second_away : (me x : ℕ) → either me x ≡ false → only (index me 1) x ≡ false
+second_away : (me x : ℕ) → is_either me x ≡ false → only (index me 1) x ≡ false
 second_away me x is = (neither (only (index me 0) x) (only (index me 1) x) is).1
 
 -- one after the other
 module _ (from by to : Excuse → Excuse) (s t : ℕ → ℕ) (me : ℕ) (a b c : Known) where
   pub both_on : Carries (pair_change me from by s b.at) a b → Carries (pair_change me by to t c.at) b c
       → Carries (pair_change me from to (λ σ. t (s σ)) c.at) a c
-  both_on = carries_on from by to (either me) s t (λ _. b.at) (λ _. c.at) a b c
+  both_on = carries_on from by to (is_either me) s t (λ _. b.at) (λ _. c.at) a b c
 
 pub pairs_on : (s t : ℕ → ℕ) (a b c : Known) → PairCarries s a b → PairCarries t b c → PairCarries (λ σ. t (s σ)) a c
 pairs_on s t a b c one two =
@@ -66,7 +66,7 @@ state_as f g me s t a b is c = record {
 -- steps that are about no entry
 pub still_pair : (s : ℕ → ℕ) (a b : Known) → Carries (record unchanged { state = s }) a b → PairCarries s a b
 still_pair s a b c = carries_more (λ x. x) (λ x. x) no_entries false s (λ h. h) (with_both a.view.number)
-    (with_both a.view.number) (either a.view.number) a b c (λ x other. refl) (λ x. c.owes (with_both a.view.number x))
+    (with_both a.view.number) (is_either a.view.number) a b c (λ x other. refl) (λ x. c.owes (with_both a.view.number x))
 
 -- a prepare of the first entry, and an add of the second
 pub prepare_pair : (old new : Known) (st : SleepState) (r : Result (Unit {0}) Worn)
@@ -75,7 +75,7 @@ prepare_pair old new st (Ok u) c =
     let me = old.view.number in record {
       state = state_mask st;
       carries = carries_more (with_entry (index me 0)) (with_entry (index me 0)) (only (index me 0)) true
-          (λ _. state_mask st) (λ _. new.at) (with_both me) (with_both me) (either me) old new c (first_away me)
+          (λ _. state_mask st) (λ _. new.at) (with_both me) (with_both me) (is_either me) old new c (first_away me)
           (λ x. c.owes (with_entry (index me 1) x));
     }
 prepare_pair old new st (Err v) c =
@@ -83,7 +83,7 @@ prepare_pair old new st (Err v) c =
       state = old.book.state;
       carries = state_as (with_both me) (with_both me) me (λ σ. σ) (λ _. old.book.state) old new refl
           (carries_more (with_entry (index me 0)) (λ x. x) (only (index me 0)) true (λ σ. σ) (λ _. new.at) (with_both me)
-          (with_both me) (either me) old new c (first_away me)
+          (with_both me) (is_either me) old new c (first_away me)
           (λ x o. owes_also (index me 0) (with_entry (index me 1) x) new (c.owes (with_entry (index me 1) x) o)));
     }
 
@@ -93,7 +93,7 @@ join_pair old new c =
     let i = index me 0 in
     let j = index me 1 in
     carries_more (with_entry j) (with_entry j) (only j) true (λ σ. σ) (λ _. new.at) (with_both me) (with_both me)
-    (either me) old new c (second_away me)
+    (is_either me) old new c (second_away me)
     (λ x o. owes_swap j i x new (c.owes (with_entry i x) (owes_swap i j x old o)))
 
 pub queue_pair : (old mid new : Known) → TurnCarries old mid → PairCarries (λ σ. σ) mid new → TurnCarries old new
@@ -113,9 +113,9 @@ leave_pair old mid new one two =
     let last : Carries (leave_change j new.at) mid new =
     subst (λ (n : ℕ). Carries (leave_change (index n 1) new.at) mid new) one.number two in
     both_on (with_both me) (with_entry j) (λ x. x) (λ _. 0) (λ σ. σ) me old mid new
-    (carries_more (with_entry i) (λ x. x) (only i) true (λ _. 0) (λ _. mid.at) (with_both me) (with_entry j) (either me)
+    (carries_more (with_entry i) (λ x. x) (only i) true (λ _. 0) (λ _. mid.at) (with_both me) (with_entry j) (is_either me)
     old mid one (first_away me) (λ x. one.owes (with_entry j x)))
-    (carries_more (with_entry j) (λ x. x) (only j) true (λ σ. σ) (λ _. new.at) (with_entry j) (λ x. x) (either me) mid new
+    (carries_more (with_entry j) (λ x. x) (only j) true (λ σ. σ) (λ _. new.at) (with_entry j) (λ x. x) (is_either me) mid new
     last (second_away me) (λ x. last.owes x))
 
 -- the first one stays off over that of the second

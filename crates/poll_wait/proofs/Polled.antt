@@ -27,7 +27,7 @@ use Rattle.wait_event.proofs.Conditions.{suits_low}
 use Rattle.wq_head.specs.declared.adds.Worn.{Worn}
 use Rattle.poll_wait.specs.declared.turns.Poll.{Poll}
 use Rattle.poll_wait.specs.Polls.{HasBoth, IsPoll, front_in}
-use Rattle.poll_wait.specs.Seconds.{EndsJoin, IsPolled, JoinsSecond, MayJoin, second_of}
+use Rattle.poll_wait.specs.Seconds.{EndsJoin, IsPolled, JoinsSecond, MayJoinSecond, second_of}
 use Rattle.poll_wait.proofs.Near.{Keeps, entry_kept}
 use Rattle.poll_wait.proofs.Programs.{OnFinish, OnPrepare, finish_near, join_near, prepare_near}
 
@@ -102,7 +102,7 @@ module _ (p : Poll) (is : IsPoll p) where
   prepare_has old new (Ok u) number has x = prepared_has old new _ number has x.0
   prepare_has old new (Err v) number has x = prepared_has old new _ number has x.0
 
-  joined_has : (old new : Known) (a : Answer) → new.view.number ≡ old.view.number → HasBoth p old → MayJoin new p.second
+  joined_has : (old new : Known) (a : Answer) → new.view.number ≡ old.view.number → HasBoth p old → MayJoinSecond new p.second
       → JoinsSecond old new p.second a → HasBoth p new
   joined_has old new a number has may x = record {
     up = may.up;
@@ -115,7 +115,7 @@ module _ (p : Poll) (is : IsPoll p) where
   }
 
   pub join_has : (old new : Known) (r : Result (Unit {0}) Worn) → new.view.number ≡ old.view.number → HasBoth p old
-      → MayJoin new p.second → EndsJoin old new p.second r → HasBoth p new
+      → MayJoinSecond new p.second → EndsJoin old new p.second r → HasBoth p new
   join_has old new (Ok u) number has may x = joined_has old new _ number has may x.0
   join_has old new (Err v) number has may x = joined_has old new _ number has may x.0
 

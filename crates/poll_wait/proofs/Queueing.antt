@@ -14,7 +14,7 @@ use Rattle.wait_event.specs.declared.prepares.Prepared.TheVariants as prepared
 use Rattle.wq_head.specs.declared.adds.Worn.{Worn}
 use Rattle.poll_wait.specs.declared.turns.Poll.{Poll}
 use Rattle.poll_wait.specs.Polls.{EndsQueueing, HasBoth, IsPoll, front_in}
-use Rattle.poll_wait.specs.Seconds.{EndsJoin, MayJoin, MayLeave, second_of}
+use Rattle.poll_wait.specs.Seconds.{EndsJoin, MayJoinSecond, MayLeave, second_of}
 use Rattle.poll_wait.proofs.Polled.{finish_keeps, part_kept, part_low, polled_low}
 
 -- by the kind that the code names
@@ -22,7 +22,7 @@ pub ends_kind : (old new : Known) (w : Watch) (k : Kind) (how : How) (r : Result
     → EndsPrepare old new w k how false r → EndsPrepare old new w (kind_for w) how false r
 ends_kind old new w k how r is x = subst (λ (d : Kind). EndsPrepare old new w d how false r) is x
 
-pub may_join : (p : Poll) (k : Known) → HasBoth p k → MayJoin k p.second
+pub may_join : (p : Poll) (k : Known) → HasBoth p k → MayJoinSecond k p.second
 may_join p k has = record { up = has.up; free = has.free; home = has.second }
 
 pub queue_ends : (p : Poll) (old mid new : Known) (r : Result (Unit {0}) Worn)

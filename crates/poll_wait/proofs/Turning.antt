@@ -13,7 +13,7 @@ use Rattle.poll_wait.specs.declared.turns.Loads.{Loads}
 use Rattle.poll_wait.specs.declared.turns.Poll.{Poll}
 use Rattle.poll_wait.specs.declared.turns.PollEnd.{PollEnd}
 use Rattle.poll_wait.specs.declared.turns.Ready.{Ready}
-use Rattle.poll_wait.specs.Polls.{EndsLast, EndsPoll, EndsTurns, GoesOn, IsPoll, MayTurn, SleepsTurn, SleepsTurns, either, loaded, poll_change, ready_of, with_both}
+use Rattle.poll_wait.specs.Polls.{EndsLast, EndsPoll, EndsTurns, GoesOn, IsPoll, MayTurn, SleepsTurn, SleepsTurns, is_either, loaded, poll_change, ready_of, with_both}
 use Rattle.poll_wait.specs.Seconds.{IsSecondOut, second_of}
 use Rattle.poll_wait.specs.TurnSteps.{GoesAgain, HasDone, PairCarries}
 use Rattle.poll_wait.proofs.Carrying.{carries_more}
@@ -119,7 +119,7 @@ module _ (p : Poll) (is : IsPoll p) (old mid : Known) (c : Carries unchanged old
 
   pub loads_carried : Carries (poll_change old.view.number mid.at) old mid
   loads_carried = carries_more (λ x. x) (λ x. x) no_entries false (λ σ. σ) (λ h. h) (λ x. x) (λ x. x)
-      (either old.view.number) old mid c (λ x other. refl) (λ x. c.owes x)
+      (is_either old.view.number) old mid c (λ x other. refl) (λ x. c.owes x)
 
   -- and over turns
   module _ (new : Known) (done : HasDone mid new) where
@@ -140,6 +140,6 @@ module _ (p : Poll) (is : IsPoll p) (old mid : Known) (c : Carries unchanged old
         let i = index me 0 in
         let j = index me 1 in
         state_as (λ x. x) (λ x. x) me (λ _. 0) (λ σ. σ) old new idle.running
-        (carries_more (with_both me) (λ x. x) (either me) true (λ _. 0) (λ _. new.at) (λ x. x) (λ x. x) (either me) old new
+        (carries_more (with_both me) (λ x. x) (is_either me) true (λ _. 0) (λ _. new.at) (λ x. x) (λ x. x) (is_either me) old new
         all.carries (λ x other. other)
         (λ x o. all.carries.owes x (owes_also i (with_entry j x) old (owes_also j x old o))))

@@ -319,14 +319,16 @@ module _ (p : Poll) (is : IsPoll p) (k : Known) (x : IsInTurn p k) where
       (keeps (index t.queued.view.number 1))
       (subst (IsPart p.second (kind_for p.second)) (sym t.queues.second.1.stored) t.queues.second.1.part))
 
+  pub second_of_turn : FailedLoad (history_of k) (index k.view.number 1) p.second
+  second_of_turn = second_failed (history_of k) (history_of t.queued) rest p.first p.second t.loads.first t.loads.second
+      history rest_idle (index k.view.number 1) (fails_own p.second t.loads.second is.second unset.1)
+
   both : IsKeptByBoth p k
   both = record {
     first = kept_by 0 (omega arith) p.first is.first k first_part
         (first_failed (history_of k) (history_of t.queued) rest p.first p.second t.loads.first t.loads.second history
         rest_idle (index k.view.number 0) (fails_own p.first t.loads.first is.first unset.0));
-    second = kept_by 1 (omega arith) p.second is.second k second_part
-        (second_failed (history_of k) (history_of t.queued) rest p.first p.second t.loads.first t.loads.second history
-        rest_idle (index k.view.number 1) (fails_own p.second t.loads.second is.second unset.1));
+    second = kept_by 1 (omega arith) p.second is.second k second_part second_of_turn;
   }
 
 pub pollers_are_kept : PollersAreKept

@@ -3,3 +3,4 @@ pub mod SecondSteps
 pub mod Polls
 pub mod TurnSteps
 pub mod Waiting
+pub mod WorkedPolls

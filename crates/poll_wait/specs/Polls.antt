@@ -108,7 +108,7 @@ pub record EndsReady (p : Poll) (old new : Known) (r : Ready) : Type 0 where
   pub leaves : LeavesBoth (loaded p loads queued) new
 
 -- Signal: the loads behind both entries found neither set, and the look behind them showed a signal.
-pub record EndsSignalled (p : Poll) (old new : Known) (loads : Loads) : Type 0 where
+pub record EndsForSignal (p : Poll) (old new : Known) (loads : Loads) : Type 0 where
   pub queued : Known
   pub queues : QueuesBoth p old queued
   pub unset : ready_of p loads ≡ None
@@ -127,7 +127,7 @@ pub record EndsWorn (p : Poll) (old new : Known) (e : Worn) : Type 0 where
 abbrev pub EndsLast : Poll → Known → Known → Result Ready PollEnd → Type 0
 EndsLast p old new (Ok r) = EndsReady p old new r
 EndsLast p old new (Err (poll_end.Signal first second)) =
-    EndsSignalled p old new (record { first = first; second = second })
+    EndsForSignal p old new (record { first = first; second = second })
 EndsLast p old new (Err (poll_end.Worn head place)) = EndsWorn p old new (record { head = head; place = place })
 
 -- what a turn did: the task slept, and goes on, or it was the last
@@ -167,14 +167,14 @@ pub record MayTurn (p : Poll) (k : Known) : Type 0 where
 abbrev pub with_both : ℕ → Excuse → Excuse
 with_both me x = with_entry (index me 0) (with_entry (index me 1) x)
 
-abbrev pub either : ℕ → ℕ → Bool
-either me y = only (index me 0) y || only (index me 1) y
+abbrev pub is_either : ℕ → ℕ → Bool
+is_either me y = only (index me 0) y || only (index me 1) y
 
 abbrev pub pair_change : ℕ → (Excuse → Excuse) → (Excuse → Excuse) → (ℕ → ℕ) → ℕ → Change
 pair_change me from to state h = record unchanged {
   from = from;
   to = to;
-  but = either me;
+  but = is_either me;
   looks = true;
   state = state;
   at = λ _. h;

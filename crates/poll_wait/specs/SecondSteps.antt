@@ -60,7 +60,7 @@ abbrev pub joined_at : Bool → Point
 joined_at true = at.Prepare preparing.Queue
 joined_at false = at.Prepare preparing.Unlock
 
-pub record HasJoined (w : Watch) (old new : Known) : Type 0 where
+pub record HasJoinedHeld (w : Watch) (old new : Known) : Type 0 where
   pub still : Bool
   pub runs : Runs (join_program old.view.number w) old new (next.Go (at.Prepare preparing.Queue))
       (next.Go (joined_at still))
@@ -82,5 +82,5 @@ pub record HasNoPlace (w : Watch) (old new : Known) (e : Worn) : Type 0 where
   pub noted : WasWorn new.view.number new.view.items e.head e.place
 
 abbrev pub JoinsHeld : Watch → Known → Known → Result (Unit {0}) Worn → Type 0
-JoinsHeld w old new (Ok u) = HasJoined w old new
+JoinsHeld w old new (Ok u) = HasJoinedHeld w old new
 JoinsHeld w old new (Err e) = HasNoPlace w old new e

@@ -45,18 +45,18 @@ IsSecondOut k = (told_of k).bits.stored (second_of k) ≡ None
 
 -- The program of the add, point by point: one hold of the watch's head, in which the entry is queued at the front, unless
 -- it is, and no state is stored.
-abbrev pub joins : Watch → Point → Seen → Planned
-joins w (at.Prepare preparing.Lock) seen = go (event.Lock (head_of w)) (at.Prepare preparing.Queue)
-joins w (at.Prepare preparing.Queue) seen =
+abbrev pub join_points : Watch → Point → Seen → Planned
+join_points w (at.Prepare preparing.Lock) seen = go (event.Lock (head_of w)) (at.Prepare preparing.Queue)
+join_points w (at.Prepare preparing.Queue) seen =
     if is_some seen.entry
     then gives_back w (next.Ends zero_answer)
     else if seen.worn
     then gives_back w (next.Ends answer.Worn)
     else go (event.Queue (head_of w) forms.Front) (at.Prepare preparing.Unlock)
-joins w p seen = gives_back w (next.Ends zero_answer)
+join_points w p seen = gives_back w (next.Ends zero_answer)
 
 abbrev pub join_plan : Watch → Plan
-join_plan w = record (part_plan true w (kind_for w) any_how) { makes = λ me. joins w }
+join_plan w = record (part_plan true w (kind_for w) any_how) { makes = λ me. join_points w }
 
 abbrev pub join_program : ℕ → Watch → Program
 join_program me w = plan_program me 1 (join_plan w)
@@ -66,7 +66,7 @@ abbrev pub leave_program : ℕ → Watch → Program
 leave_program me w = plan_program me 1 (part_plan true w (kind_for w) any_how)
 
 -- the task is awake and holds no lock, and its entry of slot 1 is off, or one for this watch; its state is any
-pub record MayJoin (k : Known) (w : Watch) : Type 0 where
+pub record MayJoinSecond (k : Known) (w : Watch) : Type 0 where
   pub up : IsUp k
   pub free : IsFree k
   pub home : IsPart w (kind_for w) ((told_of k).bits.stored (second_of k))

@@ -11,7 +11,7 @@ ghost use Rattle.poll_wait.specs.Seconds.{
   EndsJoin,
   HasLeftSecond,
   IsPolled,
-  MayJoin,
+  MayJoinSecond,
   MayLeave,
   join_change,
   second_of,
@@ -73,10 +73,10 @@ pub fn join_second<R: Wait>(
     watch: Watch,
 ) -> Result<(), Worn>
     requires of { task.old.domain ≡ domain.now }
-    requires may { MayJoin task.old watch }
+    requires may { MayJoinSecond task.old watch }
     requires polled { IsPolled watch }
     ensures ends { EndsJoin task.old task.new watch result }
-    ensures may { MayJoin task.new watch }
+    ensures may { MayJoinSecond task.new watch }
     ensures carries { Carries (join_change (second_of task.old) task.new.at) task.old task.new }
 {
     task.told();

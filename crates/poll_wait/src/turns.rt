@@ -202,9 +202,9 @@ fn leave_worn<R: Wait>(
     ensures goes { (old : _) → EndsQueueing poll old task.old (Err worn) → EndsLast poll old task.new result }
     ensures ends { EndsSo poll task.old task.new (Some result) }
 {
-    let loads = load_both(domain, task, poll);
+    let seen = load_both(domain, task, poll);
     leave_both(rt, domain, task, poll);
-    worn_end(poll, loads, worn)
+    worn_end(poll, seen, worn)
 }
 
 /// One turn: it queues both entries unless they are, loads both conditions, and sleeps where neither is set. None: it

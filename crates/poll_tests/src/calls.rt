@@ -1,7 +1,7 @@
 //! The calls of the tests, each by a task that owes nothing, before it and after it.
 
 ghost use Rattle.std.specs.Prelude.{◌≡◌, ◌<◌, ◌≤◌};
-ghost use Rattle.wait_model.specs.declared.layout.TheConstants.{CLAIMS, FIRST_SIMPLE, PLAIN_CONDITIONS, VARIABLES};
+ghost use Rattle.wait_model.specs.declared.layout.TheConstants.{CLAIMS, FIRST_SIMPLE, VARIABLES};
 ghost use Rattle.wait_rule.specs.Says.{IsClean};
 ghost use Rattle.poll_wait.specs.Seconds.{IsPolled};
 
@@ -36,7 +36,7 @@ pub fn polls<R: Wait>(
 pub fn sets<R: Wait>(rt: &R, domain: &Domain, task: &mut Task, cond: u8, value: u64)
     requires of { task.old.domain ≡ domain.now }
     requires clean { IsClean task.old }
-    requires cond { cond < PLAIN_CONDITIONS }
+    requires cond { cond < FIRST_SIMPLE }
     ensures of { task.new.domain ≡ domain.now }
     ensures clean { IsClean task.new }
 {

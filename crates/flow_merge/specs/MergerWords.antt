@@ -5,7 +5,6 @@ use Rattle.wait_model.specs.declared.tasks.SleepState.TheVariants as state
 use Rattle.wait_model.specs.declared.watches.Watch.TheVariants as watch
 use Rattle.wait_rule.specs.Known.{Known}
 use Rattle.wait_rule.specs.Pipes.{read_end, write_end}
-use Rattle.completion_cell.specs.Completes.{HasCompleted}
 use Rattle.wait_pipe.specs.declared.peeks.PipeState.{PipeState}
 use Rattle.wait_pipe.specs.PipeStates.{PeeksRead}
 use Rattle.wait_pipe.specs.Trails.{ClosesEnd}
@@ -14,12 +13,12 @@ use Rattle.poll_wait.specs.declared.turns.PollEnd.{PollEnd}
 use Rattle.poll_wait.specs.declared.turns.PollEnd.TheVariants as poll_end
 use Rattle.poll_wait.specs.declared.turns.Ready.{Ready}
 use Rattle.poll_wait.specs.Polls.{EndsPoll}
-use Rattle.copy_plan.specs.declared.TheConstants.{ENDED_CELL}
 use Rattle.copy_plan.specs.declared.stop.Stop.{Stop}
 use Rattle.copy_plan.specs.declared.stop.Stop.TheVariants as stop
 use Rattle.copy_turns.specs.Work.{TookOwn}
 use Rattle.flow_copy.specs.Workers.{ClaimsEnd, GetsAnd, RelaysPiece, ThenCompletes}
 use Rattle.flow_merge.specs.declared.TheConstants.{LEFT_PIPE, MERGED_PIPE, RIGHT_PIPE}
+use Rattle.flow_merge.specs.declared.merger.Has.{Has}
 use Rattle.flow_merge.specs.declared.sides.Found.{Found}
 use Rattle.flow_merge.specs.declared.sides.Found.TheVariants as found
 use Rattle.flow_merge.specs.declared.sides.Side.{Side}
@@ -54,10 +53,16 @@ abbrev pub poll_stop : Result Ready PollEnd → Option Stop
 poll_stop (Err (poll_end.Worn h p)) = Some (stop.Worn h p)
 poll_stop _ = None
 
--- where a piece was asked for that is not there, the next turn looks again
+-- A piece is passed on from a side; where none is there after all, the next turn looks again.
 abbrev pub passes_on : Option Stop → Option Stop
 passes_on (Some stop.Finished) = None
 passes_on how = how
+
+pub record PassesFrom (s : Side) (old new : Known) (how : Option Stop) : Type 0 where
+  pub piece : List ℕ
+  pub ended : Option Stop
+  pub gets : GetsAnd (read_end (side_pipe s)) (RelaysPiece MERGED_PIPE) old new piece ended
+  pub on : how ≡ passes_on ended
 
 -- A turn: the own signals are taken, and where no fatal one was among them both sides are looked at; then a piece is
 -- passed on from a side that has cells, or both sides are at their ends, or it waits for one of them.
@@ -65,10 +70,8 @@ pub data MergerTurn (old new : Known) : Option Stop → Type 0 where
   merger_killed : TookOwn old new true → MergerTurn old new (Some stop.Killed)
   sides_ended : (own : Known) → TookOwn old own false → LooksBoth own new found.Ended
       → MergerTurn old new (Some stop.Finished)
-  side_passes : (own looked : Known) (s : Side) (piece : List ℕ) (how : Option Stop) → TookOwn old own false
-      → LooksBoth own looked (found.Cells s)
-      → GetsAnd (read_end (side_pipe s)) (RelaysPiece MERGED_PIPE) looked new piece how
-      → MergerTurn old new (passes_on how)
+  side_passes : (own looked : Known) (s : Side) (how : Option Stop) → TookOwn old own false
+      → LooksBoth own looked (found.Cells s) → PassesFrom s looked new how → MergerTurn old new how
   sides_wait : (own looked : Known) (left right : ℕ) (result : Result Ready PollEnd) → TookOwn old own false
       → LooksBoth own looked (found.Nothing left right) → EndsPoll (both_words left right) looked new result
       → MergerTurn old new (poll_stop result)
@@ -79,34 +82,40 @@ pub data MergerTurns (old : Known) : Known → Option Stop → Type 0 where
   a_turn : (mid new : Known) (how : Option Stop) → MergerTurns old mid None → MergerTurn mid new how
       → MergerTurns old new how
 
--- it closed an end that it has
+-- It claims its three ends, one after another, and has those that `has` says.
+pub record ClaimsEnds (old new : Known) (has : Has) : Type 0 where
+  pub one : Known
+  pub two : Known
+  pub left : ClaimsEnd (read_end LEFT_PIPE) old one has.left
+  pub right : ClaimsEnd (read_end RIGHT_PIPE) one two has.right
+  pub pen : ClaimsEnd (write_end MERGED_PIPE) two new has.pen
+
+-- and closes those that it has
 abbrev pub ClosesIf : ℕ → Bool → Known → Known → Type 0
 ClosesIf k false old new = new ≡ old
 ClosesIf k true old new = ClosesEnd k old new
+
+pub record ClosesEnds (old new : Known) (has : Has) : Type 0 where
+  pub one : Known
+  pub two : Known
+  pub pen : ClosesIf (write_end MERGED_PIPE) has.pen old one
+  pub right : ClosesIf (read_end RIGHT_PIPE) has.right one two
+  pub left : ClosesIf (read_end LEFT_PIPE) has.left two new
 
 -- turns where it has all its ends, and none where it lacks one
 abbrev pub TurnsIf : Bool → Known → Known → Stop → Type 0
 TurnsIf false old new how = (new ≡ old) × (how ≡ stop.Taken)
 TurnsIf true old new how = MergerTurns old new (Some how)
 
--- The work: it claims its three ends, goes through its turns where it has them all, and closes those that it has.
+-- The work, from the claims of its ends to their closing.
 pub record MergerWorks (old new : Known) (how : Stop) : Type 0 where
-  pub left : Bool
-  pub right : Bool
-  pub pen : Bool
-  pub one : Known
-  pub two : Known
-  pub three : Known
+  pub has : Has
+  pub claimed : Known
   pub last : Known
-  pub shut_left : Known
-  pub shut_right : Known
-  pub claims_left : ClaimsEnd (read_end LEFT_PIPE) old one left
-  pub claims_right : ClaimsEnd (read_end RIGHT_PIPE) one two right
-  pub claims_pen : ClaimsEnd (write_end MERGED_PIPE) two three pen
-  pub turns : TurnsIf (left && (right && pen)) three last how
-  pub closes_left : ClosesIf (read_end LEFT_PIPE) left last shut_left
-  pub closes_right : ClosesIf (read_end RIGHT_PIPE) right shut_left shut_right
-  pub closes_pen : ClosesIf (write_end MERGED_PIPE) pen shut_right new
+  pub claims : ClaimsEnds old claimed has
+  pub turns : TurnsIf (has.left && (has.right && has.pen)) claimed last how
+  pub closes : ClosesEnds last new has
 
+-- And the last thing that it does is to complete the completion of the merge.
 abbrev pub MergerGoes : Known → Known → Stop → Type 0
 MergerGoes old new how = ThenCompletes (λ a b. MergerWorks a b how) old new

@@ -19,10 +19,14 @@ ghost use Rattle.flow_merge.specs.Merged.{
   filled,
 };
 
+use crate::workers::{Parts, merge_at_once};
 use bit_wait::BitEnd;
+use copy_ends::{control_stop, fork_five, join_five};
 use copy_plan::gate::Gate;
+use copy_plan::kinds::copy_stop;
 use copy_plan::stop::{ReaderEnd, Stop, WorkerEnd};
 use edge_io::{Sink, Source};
+use flow_copy::copy::read_moved;
 use std::sync::Wait;
 use std::thread::Threads;
 use wait_rule::{Domain, Task};
@@ -52,6 +56,34 @@ pub struct Unmerged<S, K> {
     pub sink: K,
 }
 
+/// Takes in the five tasks of a merge that was not begun, and gives back the rest.
+fn take_back<S, K>(domain: &Domain, task: &mut Task, parts: Parts<S, K>) -> Unmerged<S, K>
+    requires rest { task.old ≡ newcomer domain.now 0 6 (TASKS - 6) }
+    requires one { parts.tasks.0 ≡ newcomer domain.now 1 2 0 }
+    requires two { parts.tasks.1 ≡ newcomer domain.now 2 3 0 }
+    requires three { parts.tasks.2 ≡ newcomer domain.now 3 4 0 }
+    requires four { parts.tasks.3 ≡ newcomer domain.now 4 5 0 }
+    requires five { parts.tasks.4 ≡ newcomer domain.now 5 6 0 }
+    ensures first { result.first ≡ parts.first }
+    ensures second { result.second ≡ parts.second }
+    ensures sink { result.sink ≡ parts.sink }
+    ensures idle { HasNoSteps domain.now task.new }
+    ensures clean { IsClean task.new }
+{
+    let Parts {
+        tasks: (one, two, three, four, five),
+        first,
+        second,
+        sink,
+    } = parts;
+    join_five(domain, task, one, two, three, four, five);
+    Unmerged {
+        first,
+        second,
+        sink,
+    }
+}
+
 /// Merges two sources into one sink, whichever has bytes first, through three pipes, by two readers, a merger and a
 /// writer in threads of their own, and a controller that waits for them (`flow_copy::reader_task`, `merger_task`,
 /// `flow_copy::writer_task`, `flow_copy::controller_task`). The merger waits for both readers at once, as a task does
@@ -59,8 +91,8 @@ pub struct Unmerged<S, K> {
 ///
 /// The task is the first of its Domain, has made no step and given no number out. Afterwards it owes nothing, and has
 /// the histories of the five. There is a list of pieces that the merger passed on, each from the first source or from
-/// the second, of at most `PIECE` bytes: the pieces of each are, in their order, a front of what that source gave, and
-/// the sink holds a front of all of them in the order of the list, and then perhaps of a first part of one further piece.
+/// the second: the pieces of each are, in their order, a front of what that source gave, and the sink holds a front of
+/// all of them in the order of the list, and then perhaps of a first part of one further piece.
 /// `moved` is the sum of all that was counted. `stop` is the first of Memory, Worn, ReadFault, WriteFault, Long that is
 /// the stop of a worker, or, of Worn, that of the controller; else Finished. It is never Killed, Broken or Taken. Where
 /// it is Finished all four workers have finished, the pieces are all the bytes of both sources, and the sink holds them
@@ -111,5 +143,38 @@ pub fn merge_all<
     ensures idle { OnErr result (HasNoSteps domain.now task.new) }
     ensures clean { IsClean task.new }
 {
-    todo!()
+    let parts = Parts {
+        tasks: fork_five(domain, task),
+        first,
+        second,
+        sink,
+    };
+    let made = match merge_at_once(rt, domain, parts, gate) {
+        Ok(made) => made,
+        Err(parts) => return Err(take_back(domain, task, parts)),
+    };
+    let ((one, first, left), (two, second, right), (three, merger), four, (five, total)) = made;
+    let (four, sink, _, writer) = four;
+    join_five(domain, task, one, two, three, four, five);
+    let moved = read_moved(rt, domain, task);
+    let stops = [
+        left.stop,
+        right.stop,
+        merger.stop,
+        writer.stop,
+        control_stop(&total),
+    ];
+    let stop = copy_stop(&stops, 0);
+    Ok(MergeEnd {
+        first,
+        second,
+        sink,
+        left,
+        right,
+        merger,
+        writer,
+        total,
+        moved,
+        stop,
+    })
 }

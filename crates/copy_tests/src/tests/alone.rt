@@ -3,7 +3,7 @@
 ghost use Rattle.std.specs.Prelude.{◌≡◌};
 ghost use Rattle.copy_ends.specs.Did.{IsIdler};
 
-use copy_plan::{OpenGate, ReaderEnd, Stop, WorkerEnd};
+use copy_plan::{OpenGate, ReaderEnd, SINK_PIPE, SOURCE_PIPE, Stop, WorkerEnd};
 use edge_io::{MemSink, MemSource};
 use flow_copy::{controller_task, reader_task, relay_task, writer_task};
 use func_head::NoWatchers;
@@ -24,9 +24,9 @@ fn work_alone<R: Wait>(
     ensures of { task.new.domain ≡ domain.now }
     ensures idler { IsIdler task.new }
 {
-    let reader = reader_task(rt, domain, task, source, &[], [0, 0, 0], &OpenGate);
+    let reader = reader_task(rt, domain, task, SOURCE_PIPE, source, &[], [0, 0, 0], &OpenGate);
     let relay = relay_task(rt, domain, task, &OpenGate);
-    let writer = writer_task(rt, domain, task, sink, &mut NoWatchers, &OpenGate);
+    let writer = writer_task(rt, domain, task, SINK_PIPE, sink, &mut NoWatchers, &OpenGate);
     (reader, relay, writer)
 }
 
@@ -37,7 +37,7 @@ fn one_task_does_all(rt: HostRuntime) -> Result<(), Fail> {
     let mut source = MemSource::new(rt.alloc(), b"ten bytes.", &[])?;
     let mut sink = MemSink::new(rt.alloc(), &[])?;
     let ends = work_alone(&rt, &domain, &mut task, &mut source, &mut sink);
-    let total = controller_task(&rt, &domain, &mut task);
+    let total = controller_task(&rt, &domain, &mut task, 3);
     let ten = WorkerEnd {
         stop: Stop::Finished,
         moved: 10,

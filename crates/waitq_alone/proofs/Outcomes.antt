@@ -49,7 +49,7 @@ use Rattle.waitq_alone.specs.Outcome.{
   IsLong,
   IsNoCopyEnd,
 }
-use Rattle.waitq_alone.specs.Commands.{Request, Replay, Drill, Copy, may_end_with}
+use Rattle.waitq_alone.specs.Commands.{Request, Replay, Drill, Copy, Merge, may_end_with}
 use Rattle.waitq_alone.specs.Alone.{exit_status, is_quiet}
 use Rattle.waitq_alone.specs.declared.fault.Fault.{Fault}
 use Rattle.waitq_alone.specs.declared.fault.Fault.TheVariants as fault
@@ -158,6 +158,7 @@ usage_of (Some r) status h e = absurd (false≢true (sym (no_two r) ∙ (sym (ap
     no_two Replay = refl
     no_two (Drill seed count) = refl
     no_two (Copy src dst plan) = refl
+    no_two (Merge a b dst) = refl
 
 pub refused_of : (o : Option Request) (status : ℕ) → may_end_with o status ≡ true → o ≡ None
     → (status ≡ 2) ⊎ (status ≡ 7)

@@ -69,7 +69,7 @@ use Rattle.clap.specs.declared.error.kind.ErrorKind.TheVariants.{UnknownArgument
 use Rattle.clap.specs.declared.parser.matches.ValueSource.TheVariants.{CommandLine}
 use Rattle.clap.proofs.OnLiterals.{clap_on_literals}
 use Rattle.waitq_alone.specs.Commands.{is_name}
-use Rattle.waitq_alone.specs.Parsed.{are_names, waitq_app, replay_app, drill_app, copy_app}
+use Rattle.waitq_alone.specs.Parsed.{are_names, waitq_app, replay_app, drill_app, copy_app, merge_app}
 
 -- a subcommand as it is built
 abbrev pub leaf_of : App → Shape
@@ -183,6 +183,11 @@ copy_entered rest = rw (gathered [] names (codes "copy") [] rest) refl
 abbrev pub leaf_fault : App → List Text → Kinds
 leaf_fault a words = level_fault (leaf_of a) [] nothing_held words false []
 
+pub merge_entered : (rest : List Text)
+    → subcommand_of waitq_app (codes "merge" ∷ rest) ≡ Some (rows_at (leaf_of merge_app) rest)
+unfolding clap_on_literals
+merge_entered rest = rw (gathered [] names (codes "merge") [] rest) refl
+
 pub replay_faults : (rest : List Text)
     → fault_of waitq_app (codes "replay" ∷ rest) ≡ or_else (leaf_fault replay_app rest) []
 unfolding clap_on_literals
@@ -201,12 +206,19 @@ unfolding clap_on_literals
 copy_faults rest =
     rw (gathered [] names (codes "copy") [] rest, quiet (built waitq_app).top names (codes "copy") [] rest) refl
 
+pub merge_faults : (rest : List Text)
+    → fault_of waitq_app (codes "merge" ∷ rest) ≡ or_else (leaf_fault merge_app rest) []
+unfolding clap_on_literals
+merge_faults rest =
+    rw (gathered [] names (codes "merge") [] rest, quiet (built waitq_app).top names (codes "merge") [] rest) refl
+
 -- a first word that is no subcommand
 pub unknown : (w : Text) (rest : List Text) → is_name w ≡ true → bytes_eq (codes "replay") w ≡ false
-    → bytes_eq (codes "drill") w ≡ false → bytes_eq (codes "copy") w ≡ false → fault_of waitq_app (w ∷ rest) ≡ [] → ⊥
+    → bytes_eq (codes "drill") w ≡ false → bytes_eq (codes "copy") w ≡ false → bytes_eq (codes "merge") w ≡ false
+    → fault_of waitq_app (w ∷ rest) ≡ [] → ⊥
 unfolding walk_fault
-unknown w rest e r d c =
-    let none : subcommand_met names idle w ≡ None = rw (r, d, c) refl in
+unknown w rest e r d c m =
+    let none : subcommand_met names idle w ≡ None = rw (r, d, c, m) refl in
     let stray = turned (built waitq_app).top names 1 nothing_held w e none in
     rw stray (λ x. cc)
 
@@ -384,4 +396,66 @@ copy_passes_told a b x xs e f g most = rw (
   told_walk a b x xs e f g,
   few_kinds (length (x ∷ xs)) (omega arith) most,
   no_kinds (x ∷ xs),
+) refl
+
+-- merge
+abbrev merge_rules : List Rule
+merge_rules = (leaf_of merge_app).rules
+
+abbrev held_one : Text → Held
+held_one a = held_with [] (codes "a") (a ∷ [])
+
+abbrev held_two : Text → Text → Held
+held_two a b = held_with (given (codes "a") (a ∷ []) ∷ []) (codes "b") (b ∷ [])
+
+abbrev pub source_rows : Text → Text → List Row
+source_rows a b = given (codes "a") (a ∷ []) ∷ given (codes "b") (b ∷ []) ∷ []
+
+abbrev held_three : Text → Text → Text → Held
+held_three a b d = held_with (source_rows a b) (codes "dst") (d ∷ [])
+
+one_went : (a : Text) → is_name a ≡ true → walked merge_rules [] (walk_from nothing_held) a ≡ at idle 2 (held_one a)
+one_went a e = went merge_rules 1 nothing_held a e
+
+two_went : (a b : Text) → is_name b ≡ true
+    → walked merge_rules [] (at idle 2 (held_one a)) b ≡ at idle 3 (held_two a b)
+two_went a b e = went merge_rules 2 (held_one a) b e
+
+three_went : (a b d : Text) → is_name d ≡ true
+    → walked merge_rules [] (at idle 3 (held_two a b)) d ≡ at idle 4 (held_three a b d)
+three_went a b d e = went merge_rules 3 (held_two a b) d e
+
+pub merge_row : (a : Text) → is_name a ≡ true
+    → rows_after merge_rules [] (a ∷ []) ≡ given (codes "a") (a ∷ []) ∷ []
+merge_row a e = rw (one_went a e) refl
+
+pub merge_two_rows : (a b : Text) → is_name a ≡ true → is_name b ≡ true
+    → rows_after merge_rules [] (a ∷ b ∷ []) ≡ source_rows a b
+merge_two_rows a b e f = rw (one_went a e, two_went a b f) refl
+
+pub merge_rows : (a b d : Text) → is_name a ≡ true → is_name b ≡ true → is_name d ≡ true
+    → rows_after merge_rules [] (a ∷ b ∷ d ∷ [])
+    ≡ given (codes "a") (a ∷ []) ∷ given (codes "b") (b ∷ []) ∷ given (codes "dst") (d ∷ []) ∷ []
+merge_rows a b d e f g = rw (one_went a e, two_went a b f, three_went a b d g) refl
+
+pub merge_passes : (a b d : Text) → is_name a ≡ true → is_name b ≡ true → is_name d ≡ true
+    → leaf_fault merge_app (a ∷ b ∷ d ∷ []) ≡ []
+unfolding defaults_fault
+merge_passes a b d e f g = rw (
+  walk_on (leaf_of merge_app) 1 nothing_held a (b ∷ d ∷ []) e,
+  walk_on (leaf_of merge_app) 2 (held_one a) b (d ∷ []) f,
+  walk_on (leaf_of merge_app) 3 (held_two a b) d [] g,
+  walk_ended (leaf_of merge_app) (at idle 4 (held_three a b d)),
+  one_went a e,
+  two_went a b f,
+  three_went a b d g,
+) refl
+
+pub merge_more : (a b d x : Text) (rest : List Text) → is_name a ≡ true → is_name b ≡ true → is_name d ≡ true
+    → is_name x ≡ true → leaf_fault merge_app (a ∷ b ∷ d ∷ x ∷ rest) ≡ UnknownArgument ∷ []
+merge_more a b d x rest e f g h = rw (
+  walk_on (leaf_of merge_app) 1 nothing_held a (b ∷ d ∷ x ∷ rest) e,
+  walk_on (leaf_of merge_app) 2 (held_one a) b (d ∷ x ∷ rest) f,
+  walk_on (leaf_of merge_app) 3 (held_two a b) d (x ∷ rest) g,
+  walk_on (leaf_of merge_app) 4 (held_three a b d) x rest h,
 ) refl

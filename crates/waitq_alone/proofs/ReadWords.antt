@@ -38,7 +38,7 @@ use Rattle.clap.specs.declared.error.kind.ErrorKind.TheVariants.{OutOfMemory}
 use Rattle.clap.specs.Kinds.{or_else}
 use Rattle.copy_plan.specs.declared.plan.Planned.{Planned}
 use Rattle.wait_script.specs.Number.{numeral_value}
-use Rattle.waitq_alone.specs.Commands.{Request, command_of, copy_at, drill_at, drill_of, is_name}
+use Rattle.waitq_alone.specs.Commands.{Request, command_of, copy_at, drill_at, drill_of, is_name, merge_at, merge_of}
 use Rattle.waitq_alone.specs.Events.{event_of, events_of, before, plan_of}
 use Rattle.waitq_alone.specs.Parsed.{are_names, asked_of, asks_help, waitq_app, found_text, found_texts}
 use Rattle.waitq_alone.proofs.PlainWords.{
@@ -61,6 +61,13 @@ use Rattle.waitq_alone.proofs.PlainWords.{
   copy_rows_told,
   copy_passes,
   copy_passes_told,
+  merge_entered,
+  merge_faults,
+  merge_row,
+  merge_two_rows,
+  merge_rows,
+  merge_passes,
+  merge_more,
   first_name,
   more_names,
 }
@@ -125,6 +132,31 @@ copy_right (a ∷ b ∷ x ∷ xs) e f =
       copy_rows_told a b x xs (first_name a (b ∷ x ∷ xs) e) (first_name b (x ∷ xs) e₁) (more_names b (x ∷ xs) e₁),
     ) refl
 
+merge_right : (rest : List Text) → are_names rest ≡ true → IsRight (codes "merge" ∷ rest)
+unfolding found_text found_texts
+merge_right [] e f = rw (merge_entered []) refl
+merge_right (a ∷ []) e f = rw (merge_entered (a ∷ []), merge_row a (first_name a [] e)) refl
+merge_right (a ∷ b ∷ []) e f =
+    rw (
+      merge_entered (a ∷ b ∷ []),
+      merge_two_rows a b (first_name a (b ∷ []) e) (first_name b [] (more_names a (b ∷ []) e)),
+    ) refl
+merge_right (a ∷ b ∷ d ∷ []) e f =
+    let e₁ = more_names a (b ∷ d ∷ []) e in
+    rw (
+      merge_entered (a ∷ b ∷ d ∷ []),
+      merge_rows a b d (first_name a (b ∷ d ∷ []) e) (first_name b (d ∷ []) e₁)
+          (first_name d [] (more_names b (d ∷ []) e₁)),
+    ) refl
+merge_right (a ∷ b ∷ d ∷ x ∷ rest) e f =
+    let e₁ = more_names a (b ∷ d ∷ x ∷ rest) e in
+    let e₂ = more_names b (d ∷ x ∷ rest) e₁ in
+    let e₃ = more_names d (x ∷ rest) e₂ in
+    let bad = sym f ∙ merge_faults (a ∷ b ∷ d ∷ x ∷ rest) ∙ ap (λ k. or_else k [])
+    (merge_more a b d x rest (first_name a (b ∷ d ∷ x ∷ rest) e) (first_name b (d ∷ x ∷ rest) e₁)
+    (first_name d (x ∷ rest) e₂) (first_name x rest e₃)) in
+    cc
+
 pub right : (words : List Text) → are_names words ≡ true → IsRight words
 right [] e f = ap asked_of nobody
 right (w ∷ rest) e f = by_replay (compared w (codes "replay"))
@@ -136,10 +168,16 @@ right (w ∷ rest) e f = by_replay (compared w (codes "replay"))
         → asked_of (subcommand_of waitq_app (w ∷ rest)) ≡ command_of (w ∷ rest)
     at k is h = subst (λ v. IsRight (v ∷ rest)) (sym is) (h more) f
 
+    by_merge : bytes_eq (codes "replay") w ≡ false → bytes_eq (codes "drill") w ≡ false
+        → bytes_eq (codes "copy") w ≡ false → Same w (codes "merge")
+        → asked_of (subcommand_of waitq_app (w ∷ rest)) ≡ command_of (w ∷ rest)
+    by_merge r d c (same is) = at (codes "merge") is (merge_right rest)
+    by_merge r d c (apart m′ m) = absurd (unknown w rest (first_name w rest e) r d c m f)
+
     by_copy : bytes_eq (codes "replay") w ≡ false → bytes_eq (codes "drill") w ≡ false → Same w (codes "copy")
         → asked_of (subcommand_of waitq_app (w ∷ rest)) ≡ command_of (w ∷ rest)
     by_copy r d (same is) = at (codes "copy") is (copy_right rest)
-    by_copy r d (apart c′ c) = absurd (unknown w rest (first_name w rest e) r d c f)
+    by_copy r d (apart c′ c) = by_merge r d c (compared w (codes "merge"))
 
     by_drill : bytes_eq (codes "replay") w ≡ false → Same w (codes "drill")
         → asked_of (subcommand_of waitq_app (w ∷ rest)) ≡ command_of (w ∷ rest)
@@ -189,11 +227,22 @@ copy_none (a ∷ b ∷ x ∷ xs) e n = go (nat_le (length (x ∷ xs)) 16) refl
         (grind (arith, nat_tests)))))
     go false many = unplanned a b (x ∷ xs) (rw many refl)
 
+merge_none : (rest : List Text) → are_names rest ≡ true → IsNone (codes "merge" ∷ rest)
+merge_none [] e n = refl
+merge_none (a ∷ []) e n = refl
+merge_none (a ∷ b ∷ []) e n = refl
+merge_none (a ∷ b ∷ d ∷ []) e n =
+    let e₁ = more_names a (b ∷ d ∷ []) e in
+    absurd (n (merge_faults (a ∷ b ∷ d ∷ []) ∙ ap (λ k. or_else k [])
+    (merge_passes a b d (first_name a (b ∷ d ∷ []) e) (first_name b (d ∷ []) e₁)
+    (first_name d [] (more_names b (d ∷ []) e₁)))))
+merge_none (a ∷ b ∷ d ∷ x ∷ rest) e n = refl
+
 unknown_none : (w : Text) (rest : List Text) → bytes_eq w (codes "replay") ≡ false → bytes_eq w (codes "drill") ≡ false
-    → bytes_eq w (codes "copy") ≡ false → command_of (w ∷ rest) ≡ None
-unknown_none w [] r d c = rw r refl
-unknown_none w (x ∷ []) r d c = refl
-unknown_none w (x ∷ y ∷ more) r d c = rw (d, c) refl
+    → bytes_eq w (codes "copy") ≡ false → bytes_eq w (codes "merge") ≡ false → command_of (w ∷ rest) ≡ None
+unknown_none w [] r d c m = rw r refl
+unknown_none w (x ∷ []) r d c m = refl
+unknown_none w (x ∷ y ∷ more) r d c m = rw (d, c, m) refl
 
 pub none : (words : List Text) → are_names words ≡ true → IsNone words
 none [] e n = refl
@@ -202,10 +251,15 @@ none (w ∷ rest) e n = by_replay (compared w (codes "replay"))
     at : (k : Text) → w ≡ k → IsNone (k ∷ rest) → command_of (w ∷ rest) ≡ None
     at k is h = subst (λ v. IsNone (v ∷ rest)) (sym is) h n
 
+    by_merge : bytes_eq w (codes "replay") ≡ false → bytes_eq w (codes "drill") ≡ false
+        → bytes_eq w (codes "copy") ≡ false → Same w (codes "merge") → command_of (w ∷ rest) ≡ None
+    by_merge r d c (same is) = at (codes "merge") is (merge_none rest (more_names w rest e))
+    by_merge r d c (apart m m′) = unknown_none w rest r d c m
+
     by_copy : bytes_eq w (codes "replay") ≡ false → bytes_eq w (codes "drill") ≡ false → Same w (codes "copy")
         → command_of (w ∷ rest) ≡ None
     by_copy r d (same is) = at (codes "copy") is (copy_none rest (more_names w rest e))
-    by_copy r d (apart c c′) = unknown_none w rest r d c
+    by_copy r d (apart c c′) = by_merge r d c (compared w (codes "merge"))
 
     by_drill : bytes_eq w (codes "replay") ≡ false → Same w (codes "drill") → command_of (w ∷ rest) ≡ None
     by_drill r (same is) = at (codes "drill") is (drill_none rest (more_names w rest e))
@@ -289,11 +343,24 @@ no_copy a b more e = go (is_name a) (is_name b) refl refl e
     go true false f g h = rw (f, g) refl
     go true true f g h = unplanned a b more (no_plan more h)
 
-three : (x y : Bool) (d c : Option Request) → d ≡ None → c ≡ None
-    → (if x then d else (if y then c else None)) ≡ None
-three true y d c e f = e
-three false true d c e f = f
-three false false d c e f = refl
+merge_unnamed : (p q r s t u : Bool) (x : Option Request) → (p && (q && (r && true))) ≡ false
+    → (if p && q && r && s && t && u then x else None) ≡ None
+merge_unnamed false q r s t u x e = refl
+merge_unnamed true false r s t u x e = refl
+merge_unnamed true true false s t u x e = refl
+merge_unnamed true true true s t u x e = cc
+
+no_merge : (a b : Text) (more : List Text) → are_names (a ∷ b ∷ more) ≡ false → merge_of a b more ≡ None
+no_merge a b [] e = refl
+no_merge a b (d ∷ []) e = merge_unnamed (is_name a) (is_name b) (is_name d) _ _ _ _ e
+no_merge a b (d ∷ x ∷ more) e = refl
+
+four : (x y z : Bool) (d c m : Option Request) → d ≡ None → c ≡ None → m ≡ None
+    → (if x then d else (if y then c else (if z then m else None))) ≡ None
+four true y z d c m e f g = e
+four false true z d c m e f g = f
+four false false true d c m e f g = g
+four false false false d c m e f g = refl
 
 pub unnamed : (words : List Text) → are_names words ≡ false → command_of words ≡ None
 unnamed [] e = refl
@@ -302,8 +369,8 @@ unnamed (w ∷ rest) e = go (is_name w) refl e
     long : (more : List Text) → are_names more ≡ false → command_of (w ∷ more) ≡ None
     long [] g = cc
     long (x ∷ []) g = refl
-    long (x ∷ y ∷ more) g = three (bytes_eq w (codes "drill")) (bytes_eq w (codes "copy")) _ _
-        (no_numbers x y more g) (no_copy x y more g)
+    long (x ∷ y ∷ more) g = four (bytes_eq w (codes "drill")) (bytes_eq w (codes "copy")) (bytes_eq w (codes "merge"))
+        _ _ _ (no_numbers x y more g) (no_copy x y more g) (no_merge x y more g)
 
     go : (b : Bool) → is_name w ≡ b → (b && are_names rest) ≡ false → command_of (w ∷ rest) ≡ None
     go true f g = long rest g

@@ -37,12 +37,14 @@ pub data Request : Type 0 where
   Replay : Request
   Drill : ℕ → ℕ → Request
   Copy : List ℕ → List ℕ → List Planned → Request
+  Merge : List ℕ → List ℕ → List ℕ → Request
 
 -- what a command is asked
 abbrev pub asked_by : Command → Request
 asked_by command.Replay = Replay
 asked_by (command.Drill seed count) = Drill seed count
 asked_by (command.Copy src dst plan) = Copy src.now dst.now plan.items
+asked_by (command.Merge first second dst) = Merge first.now second.now dst.now
 
 -- `drill SEED COUNT`, by its numbers
 abbrev pub drill_at : Option ℕ → Option ℕ → Option Request
@@ -68,11 +70,22 @@ abbrev pub copy_at : List ℕ → List ℕ → List (List ℕ) → Option Reques
 copy_at src dst events =
     if is_name src && is_name dst && not (bytes_eq src dst) then copy_with src dst (plan_of events) else None
 
+-- `merge A B DST`: three names, no two of which are the same
+abbrev pub merge_at : List ℕ → List ℕ → List ℕ → Option Request
+merge_at a b dst =
+    if is_name a && is_name b && is_name dst && not (bytes_eq a b) && not (bytes_eq a dst) && not (bytes_eq b dst)
+    then Some (Merge a b dst) else None
+
+abbrev pub merge_of : List ℕ → List ℕ → List (List ℕ) → Option Request
+merge_of a b (dst ∷ []) = merge_at a b dst
+merge_of a b words = None
+
 abbrev pub command_of : List (List ℕ) → Option Request
 command_of (name ∷ []) = if bytes_eq name (codes "replay") then Some Replay else None
 command_of (name ∷ first ∷ second ∷ more) =
     if bytes_eq name (codes "drill") then drill_of first second more
     else if bytes_eq name (codes "copy") then copy_at first second more
+    else if bytes_eq name (codes "merge") then merge_of first second more
     else None
 command_of words = None
 
@@ -81,22 +94,26 @@ abbrev pub IsFitRequest : Request → Type 0
 IsFitRequest Replay = Unit {0}
 IsFitRequest (Drill seed count) = count ≤ MOST_CALLS
 IsFitRequest (Copy src dst plan) = length plan ≤ SIGNALS
+IsFitRequest (Merge a b dst) = Unit {0}
 
--- whether words ask for a copy
-abbrev pub is_copy : Option Request → Bool
-is_copy (Some (Copy src dst plan)) = true
-is_copy (Some Replay) = false
-is_copy (Some (Drill seed count)) = false
-is_copy None = false
+-- whether words ask for work on files: for a copy, or for a merge
+abbrev pub takes_files : Option Request → Bool
+takes_files (Some (Copy src dst plan)) = true
+takes_files (Some (Merge a b dst)) = true
+takes_files (Some Replay) = false
+takes_files (Some (Drill seed count)) = false
+takes_files None = false
 
 -- whether a command reads its input, and none reads where the words are no command
 abbrev pub reads_input : Option Request → Bool
 reads_input (Some Replay) = true
 reads_input (Some (Drill seed count)) = false
 reads_input (Some (Copy src dst plan)) = false
+reads_input (Some (Merge a b dst)) = false
 reads_input None = false
 
--- what becomes of a command, where its input is known or is not read; of a copy other definitions speak
+-- what becomes of a command, where its input is known or is not read; of a copy and of a merge other
+-- definitions speak
 abbrev pub replay_verdict : Option (List ℕ) → Option Verdict
 replay_verdict (Some bytes) = Some (verdict_of bytes)
 replay_verdict None = None
@@ -105,6 +122,7 @@ abbrev pub verdict_at : Option Request → Option (List ℕ) → Option Verdict
 verdict_at (Some Replay) input = replay_verdict input
 verdict_at (Some (Drill seed count)) input = Some (Text (drill_text seed count))
 verdict_at (Some (Copy src dst plan)) input = None
+verdict_at (Some (Merge a b dst)) input = None
 verdict_at None input = None
 
 -- the statuses of each command, and of words that are none: memory may run out before they are known to be none
@@ -114,4 +132,6 @@ may_end_with (Some Replay) status =
 may_end_with (Some (Drill seed count)) status = status == 0 || status == 5 || status == 7
 may_end_with (Some (Copy src dst plan)) status =
     status == 0 || status == 4 || status == 5 || status == 6 || status == 7 || status == 8 || status == 9
+may_end_with (Some (Merge a b dst)) status =
+    status == 0 || status == 4 || status == 5 || status == 7 || status == 8 || status == 9
 may_end_with None status = status == 2 || status == 7

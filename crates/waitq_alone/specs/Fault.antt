@@ -37,7 +37,8 @@ why_text reason.BadCondition = codes "bad condition"
 
 abbrev pub fault_text : Fault → List ℕ
 fault_text Usage =
-    codes "waitq: usage: waitq replay | waitq copy SRC DST [EVENT]... | waitq drill SEED COUNT\n"
+    codes "waitq: usage: waitq replay | waitq copy SRC DST [EVENT]... | waitq drill SEED COUNT"
+    ++ codes " | waitq merge A B DST\n"
 fault_text (Script line why) = codes "waitq: line " ++ decimal line ++ codes ": " ++ why_text why
     ++ codes "\n"
 fault_text Read = codes "waitq: read failed\n"

@@ -1,5 +1,5 @@
 -- For proofs alone.
--- The words that the program takes, as a parse of them sees it: three subcommands, each with its positionals; and what
+-- The words that the program takes, as a parse of them sees it: four subcommands, each with its positionals; and what
 -- is read of the matches.
 use Rattle.std.specs.Prelude.{List, [], ◌∷◌, Option, Some, None, Bool, true, false, unwrap_or, if◌then◌else◌, codes}
 use Rattle.std.specs.List.{list_all}
@@ -22,7 +22,7 @@ use Rattle.clap.specs.Words.{
 use Rattle.clap.specs.declared.parser.matches.ArgMatches.{ArgMatches}
 use Rattle.copy_plan.specs.declared.TheConstants.{SIGNALS}
 use Rattle.wait_script.specs.Number.{numeral_value}
-use Rattle.waitq_alone.specs.Commands.{Request, Replay, copy_at, drill_at, is_name}
+use Rattle.waitq_alone.specs.Commands.{Request, Replay, copy_at, drill_at, is_name, merge_at}
 
 -- a parse is shown no other words
 abbrev pub are_names : List Text → Bool
@@ -50,6 +50,11 @@ abbrev pub copy_app : App
 copy_app =
     with_rule (with_rule (with_rule (new_app (codes "copy")) (needed (codes "src"))) (needed (codes "dst"))) events_rule
 
+abbrev pub merge_app : App
+merge_app =
+    with_rule (with_rule (with_rule (new_app (codes "merge")) (needed (codes "a"))) (needed (codes "b")))
+    (needed (codes "dst"))
+
 abbrev pub bare : Shape → Shape
 bare s = record s { no_binary_name = true; disable_help_flag = true; disable_help_subcommand = true }
 
@@ -57,7 +62,9 @@ abbrev pub bare_app : App
 bare_app = on_top bare (new_app (codes "waitq"))
 
 abbrev pub waitq_app : App
-waitq_app = with_subcommand (with_subcommand (with_subcommand bare_app replay_app.top) drill_app.top) copy_app.top
+waitq_app =
+    with_subcommand (with_subcommand (with_subcommand (with_subcommand bare_app replay_app.top) drill_app.top)
+    copy_app.top) merge_app.top
 
 -- what is read of the matches: the first text of an id, all of them, and the subcommand with its rows
 unfoldable pub found_text : Text → List Row → Option Text
@@ -89,6 +96,17 @@ copy_in rows =
     copy_from (found_text (codes "src") rows) (found_text (codes "dst") rows)
     (unwrap_or (found_texts (codes "event") rows) [])
 
+-- of `merge`
+abbrev pub merge_from : Option Text → Option Text → Option Text → Option Request
+merge_from (Some a) (Some b) (Some dst) = merge_at a b dst
+merge_from (Some a) (Some b) None = None
+merge_from (Some a) None dst = None
+merge_from None b dst = None
+
+abbrev pub merge_in : List Row → Option Request
+merge_in rows =
+    merge_from (found_text (codes "a") rows) (found_text (codes "b") rows) (found_text (codes "dst") rows)
+
 -- and of all words
 abbrev pub asked_of : Option (Text × List Row) → Option Request
 asked_of None = None
@@ -96,4 +114,5 @@ asked_of (Some found) =
     if bytes_eq found.0 (codes "replay") then Some Replay
     else if bytes_eq found.0 (codes "drill") then drill_in found.1
     else if bytes_eq found.0 (codes "copy") then copy_in found.1
+    else if bytes_eq found.0 (codes "merge") then merge_in found.1
     else None

@@ -1,9 +1,9 @@
-//! What the program does with a command that is no copy, and with the fault of any.
+//! What the program does with a command that takes no files, and with the fault of any.
 
 ghost use Rattle.std.specs.Prelude.{◌≡◌, [], IfSome, IsErrOf, OnOk, IsTrue, IsFalse};
 ghost use Rattle.edge_io.specs.Faults.{HasRisen, HasStayed};
 ghost use Rattle.waitq_alone.specs.Alone.{Finishes, Reports, exit_status, is_quiet};
-ghost use Rattle.waitq_alone.specs.Commands.{IsFitRequest, asked_by, is_copy, may_end_with, reads_input, verdict_at};
+ghost use Rattle.waitq_alone.specs.Commands.{IsFitRequest, asked_by, may_end_with, reads_input, takes_files, verdict_at};
 ghost use Rattle.waitq_alone.specs.Outcome.{Answers, Writes, IsBad, IsLong, IsNoCopyEnd, LeavesUnwritten};
 
 use crate::command::Command;
@@ -14,14 +14,14 @@ use crate::report::report;
 use edge_io::{Sink, Source};
 use std::alloc::Global;
 
-/// Does what a command says that is no copy, or answers why not.
+/// Does what a command says that is neither a copy nor a merge, or answers why not.
 fn answer<I: Source, O: Sink>(
     alloc: Global,
     command: Command<'_>,
     input: &mut I,
     out: &mut O,
 ) -> Result<(), Fault<'static>>
-    requires no_copy { IsFalse (is_copy (Some (asked_by command))) }
+    requires no_files { IsFalse (takes_files (Some (asked_by command))) }
     requires fit { IsFitRequest (asked_by command) }
     ensures statuses { IsTrue (may_end_with (Some (asked_by command.entry)) (exit_status result)) }
     ensures drained { OnOk result (IsTrue (reads_input (Some (asked_by command.entry)))
@@ -37,7 +37,7 @@ fn answer<I: Source, O: Sink>(
     match command {
         Command::Replay => replay(alloc, input, out),
         Command::Drill { seed, count } => drill(alloc, seed, count, out),
-        Command::Copy { .. } => unreachable!(),
+        Command::Copy { .. } | Command::Merge { .. } => unreachable!(),
     }
 }
 
@@ -56,7 +56,7 @@ pub fn finish<E: Sink>(err: &mut E, answer: Result<(), Fault>) -> u8
     }
 }
 
-/// Does what a command says that is no copy, with `input`, `out` and `err` for the standard streams, and answers the
+/// Does what a command says that is neither a copy nor a merge, with `input`, `out` and `err` for the standard streams, and answers the
 /// status.
 ///
 /// The command `replay` reads a script of `input`, plays it in a fresh core, and writes its text to `out`. The command
@@ -72,7 +72,7 @@ pub fn run_alone<I: Source, O: Sink, E: Sink>(
     out: &mut O,
     err: &mut E,
 ) -> u8
-    requires no_copy { IsFalse (is_copy (Some (asked_by command))) }
+    requires no_files { IsFalse (takes_files (Some (asked_by command))) }
     requires fit { IsFitRequest (asked_by command) }
 
     // The command decides which statuses there may be.

@@ -7,9 +7,9 @@ ghost use Rattle.clap.specs.Words.{app_of, fault_of, found_of, kind_of, new_app,
 ghost use Rattle.clap.specs.Words.{with_rule, with_subcommand};
 ghost use Rattle.clap.specs.declared.builder.command.Command.TheViews.{out-Command};
 ghost use Rattle.wait_script.specs.Number.{numeral_value};
-ghost use Rattle.waitq_alone.specs.Commands.{drill_at, copy_at, is_name, command_of, asked_by, IsFitRequest};
+ghost use Rattle.waitq_alone.specs.Commands.{drill_at, copy_at, is_name, command_of, asked_by, merge_at, IsFitRequest};
 ghost use Rattle.waitq_alone.specs.Parsed.{asked_of, asks_help, bare_app, copy_app, copy_in, drill_app, drill_in};
-ghost use Rattle.waitq_alone.specs.Parsed.{entry_of, events_rule, found_text, found_texts, needed, replay_app, waitq_app};
+ghost use Rattle.waitq_alone.specs.Parsed.{entry_of, events_rule, found_text, found_texts, merge_app, merge_in, needed, replay_app, waitq_app};
 
 use crate::events::{Plan, read_plan};
 use crate::fault::Fault;
@@ -35,6 +35,12 @@ pub enum Command<'a> {
         src: &'a str,
         dst: &'a str,
         plan: Plan,
+    },
+    /// `merge A B DST`: two files are merged into a third, piece by piece, whichever has bytes first.
+    Merge {
+        first: &'a str,
+        second: &'a str,
+        dst: &'a str,
     },
 }
 
@@ -73,6 +79,20 @@ fn read_copy<'a>(src: &'a str, dst: &'a str, events: &[&'a str]) -> Option<Comma
     }
     let plan = read_plan(events)?;
     Some(Command::Copy { src, dst, plan })
+}
+
+/// `merge A B DST`, by the words after the first.
+fn read_merge<'a>(first: &'a str, second: &'a str, dst: &'a str) -> Option<Command<'a>>
+    ensures command { option_map asked_by result ≡ merge_at first.entry.now second.entry.now dst.entry.now }
+    ensures fits { IfSome result (λ c. IsFitRequest (asked_by c)) }
+{
+    if !is_name(first.as_bytes()) || !is_name(second.as_bytes()) || !is_name(dst.as_bytes()) {
+        return None;
+    }
+    if first == second || first == dst || second == dst {
+        return None;
+    }
+    Some(Command::Merge { first, second, dst })
 }
 
 /// A subcommand with two words that it needs.
@@ -115,6 +135,14 @@ fn copy_words<'a>(alloc: Global) -> Result<clap::Command<'a>, AllocError>
     two_words(alloc, "copy", "src", "dst")?.arg(event_words(alloc))
 }
 
+/// The words of `merge`.
+fn merge_words<'a>(alloc: Global) -> Result<clap::Command<'a>, AllocError>
+    ensures app { IfOk result (λ c. app_of c ≡ merge_app) }
+    ensures local { IfOk result (λ c. (out-Command c).has_globals ≡ false) }
+{
+    two_words(alloc, "merge", "a", "b")?.arg(Arg::new(alloc, "dst").required(true))
+}
+
 /// The program without its subcommands, where nobody is helped and the first word is no name of the program.
 fn bare_words<'a>(alloc: Global) -> clap::Command<'a>
     ensures { app_of result ≡ bare_app }
@@ -141,12 +169,21 @@ fn with_drill<'a>(alloc: Global) -> Result<clap::Command<'a>, AllocError>
     with_replay(alloc)?.subcommand(drill)
 }
 
-/// The words that the program takes: one of three subcommands, with its own.
-fn all_words<'a>(alloc: Global) -> Result<clap::Command<'a>, AllocError>
-    ensures { IfOk result (λ c. app_of c ≡ waitq_app) }
+/// The program with the subcommands `replay`, `drill` and `copy`.
+fn with_copy<'a>(alloc: Global) -> Result<clap::Command<'a>, AllocError>
+    ensures { IfOk result (λ c. app_of c
+        ≡ with_subcommand (with_subcommand (with_subcommand bare_app replay_app.top) drill_app.top) copy_app.top) }
 {
     let copy = copy_words(alloc)?;
     with_drill(alloc)?.subcommand(copy)
+}
+
+/// The words that the program takes: one of four subcommands, with its own.
+fn all_words<'a>(alloc: Global) -> Result<clap::Command<'a>, AllocError>
+    ensures { IfOk result (λ c. app_of c ≡ waitq_app) }
+{
+    let merge = merge_words(alloc)?;
+    with_copy(alloc)?.subcommand(merge)
 }
 
 /// The fault that an error of a parse is: every one is `Usage` but want of memory.
@@ -220,6 +257,17 @@ fn copy_of<'a>(given: &ArgMatches<'a>) -> Option<Command<'a>>
     }
 }
 
+/// `merge`, by what was found.
+fn merge_of<'a>(given: &ArgMatches<'a>) -> Option<Command<'a>>
+    ensures command { option_map asked_by result ≡ merge_in (rows_of (found_of given.now)) }
+    ensures fits { IfSome result (λ c. IsFitRequest (asked_by c)) }
+{
+    let first = text_of(given, "a")?;
+    let second = text_of(given, "b")?;
+    let dst = text_of(given, "dst")?;
+    read_merge(first, second, dst)
+}
+
 /// The command, by what was found.
 fn asked<'a>(given: &ArgMatches<'a>) -> Option<Command<'a>>
     ensures command { option_map asked_by result ≡ asked_of (entry_of given.now) }
@@ -234,6 +282,9 @@ fn asked<'a>(given: &ArgMatches<'a>) -> Option<Command<'a>>
     }
     if name == "copy" {
         return copy_of(found);
+    }
+    if name == "merge" {
+        return merge_of(found);
     }
     None
 }

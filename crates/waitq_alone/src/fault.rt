@@ -15,9 +15,9 @@ pub enum Fault<'a> {
     Usage,
     /// The input is no script, with its first bad line and its first reason: status 3.
     Script { line: u32, why: Reason },
-    /// The input, or the file that is copied, can't be read: status 4.
+    /// The input, or a file that is copied or merged, can't be read: status 4.
     Read,
-    /// There is no file of the name that is to be copied: status 4.
+    /// There is no file of a name that is to be copied or merged: status 4.
     NoFile { name: &'a str },
     /// The output, or the file that is written, can't be written: status 5.
     Write,
@@ -25,10 +25,10 @@ pub enum Fault<'a> {
     Killed,
     /// Memory ran out: status 7.
     Memory,
-    /// The input has more than `INPUT_BYTES` bytes, or asks for more than `EVENTS` events, or the file that is copied
-    /// gave more than `LONGEST` bytes: status 8.
+    /// The input has more than `INPUT_BYTES` bytes, or asks for more than `EVENTS` events, or a file that is
+    /// copied or merged gave more than `LONGEST` bytes: status 8.
     Long,
-    /// A worker of a copy found no place in a queue, where an entry stands at `place`: status 9.
+    /// A worker of a copy or of a merge found no place in a queue, where an entry stands at `place`: status 9.
     Worn { place: u64 },
 }
 

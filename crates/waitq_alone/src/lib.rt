@@ -1,5 +1,5 @@
 //! What the program `waitq` does without a handle: its words, its statuses with their lines, and the commands `replay` and
-//! `drill`. It knows nothing of threads, and of a copy only the words.
+//! `drill`. It knows nothing of threads, and of a copy and a merge only the words.
 #![tactic(auto)]
 
 pub mod alone;

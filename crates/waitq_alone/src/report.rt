@@ -95,7 +95,8 @@ pub fn report<E: Sink>(err: &mut E, fault: &Fault) -> Result<(), SinkFault>
     match *fault {
         Fault::Usage => write_all(
             err,
-            b"waitq: usage: waitq replay | waitq copy SRC DST [EVENT]... | waitq drill SEED COUNT\n",
+            b"waitq: usage: waitq replay | waitq copy SRC DST [EVENT]... | waitq drill SEED COUNT \
+              | waitq merge A B DST\n",
         ),
         Fault::Script { line, why } => report_bad(err, line, why),
         Fault::Read => write_all(err, b"waitq: read failed\n"),

@@ -12,7 +12,7 @@ use Rattle.copy_plan.specs.declared.plan.Planned.{Planned}
 use Rattle.copy_plan.specs.declared.stop.Stop.{Stop}
 use Rattle.copy_plan.specs.declared.stop.Stop.TheVariants as stop
 use Rattle.copy_plan.specs.Plans.{fatal_of}
-use Rattle.waitq_alone.specs.Commands.{Request, Replay, Drill, Copy, is_copy, may_end_with}
+use Rattle.waitq_alone.specs.Commands.{Request, Replay, Drill, Copy, Merge, may_end_with, takes_files}
 use Rattle.waitq_copy.specs.Copying.{Concludes, CopyLeft, HasFile, IsMakeFault, IsOpenFault, IsStartFault}
 use Rattle.waitq_copy.specs.Copying.{Outside, WritesTold, fault_after}
 use Rattle.waitq_alone.specs.Alone.{exit_status, is_quiet}
@@ -25,8 +25,9 @@ pub if_copy : (o : Option Request) (src dst : List ℕ) (plan : List Planned)
     (P : List ℕ → List ℕ → List Planned → Type 0) → Some (Copy src dst plan) ≡ o → P src dst plan → IfCopy o P
 if_copy o src dst plan P e h = subst (λ (x : Option Request). IfCopy x P) e h
 
-pub no_copy : (o : Option Request) (P : List ℕ → List ℕ → List Planned → Type 0) → is_copy o ≡ false → IfCopy o P
+pub no_copy : (o : Option Request) (P : List ℕ → List ℕ → List Planned → Type 0) → takes_files o ≡ false → IfCopy o P
 no_copy (Some (Copy src dst plan)) P e = absurd (false≢true (sym e))
+no_copy (Some (Merge a b dst)) P e = tt
 no_copy (Some Replay) P e = tt
 no_copy (Some (Drill seed count)) P e = tt
 no_copy None P e = tt
@@ -61,17 +62,17 @@ IsCopyFault fault.Usage = ⊥
 IsCopyFault (fault.Script line why) = ⊥
 IsCopyFault _ = Unit {0}
 
-abbrev IsCopyCause : Option Fault → Type 0
+abbrev pub IsCopyCause : Option Fault → Type 0
 IsCopyCause (Some why) = IsCopyFault why
 IsCopyCause None = Unit {0}
 
-after : (how : Stop) (stored : Result (Unit {0}) SinkFault) → IsCopyCause (fault_after how stored)
+pub after : (how : Stop) (stored : Result (Unit {0}) SinkFault) → IsCopyCause (fault_after how stored)
 after stop.Memory stored = tt
 after how (Ok x) = tt
 after how (Err sink.Failed) = tt
 after how (Err sink.OutOfMemory) = tt
 
-start_fault : (files : Option Files) (reads_old reads_new writes_old writes_new : ℕ) (src : List ℕ) (why : Fault)
+pub start_fault : (files : Option Files) (reads_old reads_new writes_old writes_new : ℕ) (src : List ℕ) (why : Fault)
     → IsStartFault files reads_old reads_new writes_old writes_new src why → IsCopyFault why
 start_fault files ro rn wo wn src why s = by why s.cause
   where
@@ -89,7 +90,7 @@ told_fault text old new fo fn fault.Usage h = h
 told_fault text old new fo fn (fault.Script line reason) h = h
 told_fault text old new fo fn why h = tt
 
-concluded : (o : Option Fault) (text : List ℕ) (old new : Option (List ℕ)) (faults_old faults_new : ℕ)
+pub concluded : (o : Option Fault) (text : List ℕ) (old new : Option (List ℕ)) (faults_old faults_new : ℕ)
     (answer : Result (Unit {0}) Fault) (why : Fault) → IsCopyCause o
     → Concludes o text old new faults_old faults_new answer → answer ≡ Err why → IsCopyFault why
 concluded (Some w) text old new fo fn answer why n c e =
@@ -100,7 +101,7 @@ concluded None text old new fo fn answer why n c e =
     (subst (λ (r : Result (Unit {0}) Fault). WritesTold text old new fo fn r) e c)
 
 -- a text that was not written, where the status says so
-silent : (o : Option Fault) (text : List ℕ) (old new : Option (List ℕ)) (faults_old faults_new : ℕ)
+pub silent : (o : Option Fault) (text : List ℕ) (old new : Option (List ℕ)) (faults_old faults_new : ℕ)
     (answer : Result (Unit {0}) Fault) → Concludes o text old new faults_old faults_new answer
     → is_quiet (exit_status answer) ≡ true → new ≡ old
 silent (Some w) text old new fo fn answer c q = c.1

@@ -1,5 +1,5 @@
 -- What a copy that went well delivers.
-use Rattle.std.proofs.Common.{◌≡◌, ℕ, List, [], true, inl, inr, refl, sym, ap, ◌∙◌, subst}
+use Rattle.std.proofs.Common.{◌≡◌, ℕ, List, [], true, inl, inr, refl, sym, ◌∙◌, subst}
 use Rattle.std.specs.Prelude.{Option, Some, None, Result, Ok, IfSome, is_some}
 use Rattle.std.proofs.lemmas.Bool.{false≢true}
 use Rattle.std.specs.Io.KnownBytes.{append_known}
@@ -12,11 +12,8 @@ use Rattle.copy_plan.specs.declared.plan.Planned.{Planned}
 use Rattle.waitq_copy.specs.Copying.{CopyLeft, IsStored, Outside}
 use Rattle.waitq_copy.specs.Run.{Delivers}
 use Rattle.waitq_alone.specs.declared.fault.Fault.{Fault}
-use Rattle.waitq_copy.proofs.CopyCauses.{stored_whole}
-
-now_holds : (old held_new : Option (List ℕ)) (bytes : List ℕ) → old ≡ Some []
-    → held_new ≡ append_known old bytes → held_new ≡ Some bytes
-now_holds old held_new bytes e h = h ∙ ap (λ (o : Option (List ℕ)). append_known o bytes) e
+use Rattle.waitq_copy.proofs.Answered.{stored_whole}
+use Rattle.waitq_copy.proofs.Fronts.{holds}
 
 module _ (old : Files) (files_new : Option Files) (src dst : List ℕ) (held_old held_new : Option (List ℕ)) where
   to : (bytes : List ℕ) → old src ≡ Some bytes → held_new ≡ Some bytes → Stores (Some old) files_new dst held_new
@@ -34,7 +31,7 @@ module _ (old : Files) (files_new : Option Files) (src dst : List ℕ) (held_old
       → Delivers src dst (Some old) files_new
   by None has some empty all stores = absurd (false≢true some)
   by (Some bytes) has some empty all stores =
-      to bytes has (now_holds held_old held_new bytes empty all) stores
+      to bytes has (holds held_old held_new bytes empty all) stores
 
 deliver : (files_old files_new : Option Files) (src dst : List ℕ) (left_old held_old held_new : Option (List ℕ))
     → HasBytes files_old src left_old → HoldsNothing files_old held_old → Stores files_old files_new dst held_new
@@ -52,7 +49,7 @@ delivered domain task_old task_new old new src dst plan watchers answer (inl n) 
     absurd (cc (sym n.answered ∙ e))
 delivered domain task_old task_new old new src dst plan watchers answer (inr r) e =
     let t = r.through in
-    let done = r.causes.finished e in
+    let done = r.causes.run.finished e in
     deliver old.files new.files src dst t.left_old t.held_old t.held_new t.found t.empty
     (subst (λ (s : Result (Unit {0}) SinkFault). IsStored s old.files new.files dst t.held_new)
     (stored_whole r.how r.stored _ _ _ _ _ answer r.told e) t.stores) (t.whole done).bytes

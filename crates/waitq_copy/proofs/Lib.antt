@@ -1,3 +1,4 @@
+pub mod Answered
 pub mod Asked
 pub mod CopyCauses
 pub mod Delivered
@@ -6,5 +7,6 @@ pub mod Passed
 pub mod Refusals
 pub mod Sent
 pub mod StopCauses
+pub mod Stops
 pub mod Telling
 pub mod Unbegun

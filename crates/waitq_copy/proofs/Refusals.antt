@@ -1,15 +1,14 @@
 -- What words leave that are refused before a command is known.
 use Rattle.std.proofs.Common.{◌≡◌, ℕ, ◌⊎◌, List, Option, Some, None, Err, true, IfSome, refl, sym, ap, ◌∙◌, subst, inl, inr, arith}
 use Rattle.atomic_table.specs.Seated.{TableId}
-use Rattle.edge_io.specs.Folders.{Files}
 use Rattle.wait_rule.specs.Known.{Known}
 use Rattle.func_head.specs.Walks.{EntryState}
 use Rattle.copy_plan.specs.declared.plan.Planned.{Planned}
-use Rattle.waitq_alone.specs.Commands.{Request, Replay, Drill, Copy, may_end_with, verdict_at}
+use Rattle.waitq_alone.specs.Commands.{Request, Replay, Drill, Copy, Merge, may_end_with, verdict_at}
 use Rattle.waitq_copy.specs.Copying.{CopyLeft, Outside}
 use Rattle.waitq_alone.specs.Fault.{status_of}
 use Rattle.waitq_alone.specs.Outcome.{Verdict, TooLong, BadLine, Text, Answers}
-use Rattle.waitq_copy.specs.Run.{IfCopy, Spares}
+use Rattle.waitq_copy.specs.Run.{IfCopy}
 use Rattle.waitq_alone.specs.declared.fault.Fault.{Fault}
 use Rattle.waitq_alone.specs.declared.fault.Fault.TheVariants as fault
 use Rattle.edge_io.proofs.Prefix.{nothing}
@@ -23,6 +22,7 @@ by_memory None = refl
 by_memory (Some Replay) = refl
 by_memory (Some (Drill seed count)) = refl
 by_memory (Some (Copy src dst plan)) = refl
+by_memory (Some (Merge a b dst)) = refl
 
 pub refusal_fits : (o : Option Request) (f : Fault) → IsRefusal o f → may_end_with o (status_of f) ≡ true
 refusal_fits o f (inl m) = subst (λ (g : Fault). may_end_with o (status_of g) ≡ true) (sym m) (by_memory o)
@@ -53,6 +53,7 @@ pub of_copies : (o : Option Request) (f : Fault) (p : List ℕ → List ℕ → 
 of_copies None f p r h = tt
 of_copies (Some Replay) f p r h = tt
 of_copies (Some (Drill seed count)) f p r h = tt
+of_copies (Some (Merge a b dst)) f p r h = tt
 of_copies (Some (Copy src dst plan)) f p (inl m) h = h m src dst plan
 of_copies (Some (Copy src dst plan)) f p (inr u) h = absurd (cc u.1)
 
@@ -68,10 +69,6 @@ left_by_want domain task o src dst plan watchers f m = inl (record {
   faults = refl;
   cause = record { cause = inl tt };
 })
-
-pub spared : (files : Option Files) (src dst : List ℕ) → Spares src dst files files
-spared None src dst = tt
-spared (Some files) src dst = (files, refl, record { others = λ other e. refl; front = inl refl })
 
 pub not_killed : (f : Fault) (n : ℕ) → f ≡ fault.Memory → n ≡ status_of f → n ≡ 6 → ⊥
 not_killed f n m e six =

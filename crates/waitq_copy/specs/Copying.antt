@@ -73,8 +73,8 @@ abbrev pub LeavesTask : Known → Known → Fault → Type 0
 LeavesTask old new fault.Memory = (number : ℕ) → has_of number new.view ≡ has_of number old.view
 LeavesTask old new _ = new ≡ old
 
--- It did not begin: no file was changed, nothing was written, and no task made a step.
-pub record NotBegun (task_old task_new : Known) (old new : Outside) (src : List ℕ)
+-- It did not begin: no file was changed, nothing was written, and no task made a step. The fault has its cause.
+pub record NotBegun (task_old task_new : Known) (old new : Outside) (HasCause : Fault → Type 0)
     (answer : Result (Unit {0}) Fault) : Type 0 where
   pub why : Fault
   pub answered : answer ≡ Err why
@@ -82,7 +82,7 @@ pub record NotBegun (task_old task_new : Known) (old new : Outside) (src : List 
   pub files : new.files ≡ old.files
   pub held : new.held ≡ old.held
   pub faults : new.faults ≡ old.faults
-  pub cause : IsStartFault old.files old.reads new.reads old.writes new.writes src why
+  pub cause : HasCause why
 
 -- the lines of the watchers, by what each tells, from a place on
 abbrev pub watch_line : ℕ → ℕ → List ℕ
@@ -142,15 +142,19 @@ pub record WasFull (task : Known) (place : ℕ) : Type 0 where
   pub law : IsShown shown
   pub late : worn_adds ≤ queued_at head law.table.history
 
--- The cause of each answer of a copy that ran.
-pub record Causes (task : Known) (old new : Outside) (reader : ReaderEnd) (how : Stop) (moved : ℕ)
-    (answer : Result (Unit {0}) Fault) : Type 0 where
+-- The cause of each answer of a copy, or of a merge, that ran.
+pub record RunCauses (task : Known) (old new : Outside) (how : Stop) (answer : Result (Unit {0}) Fault) : Type 0 where
   pub read : answer ≡ Err fault.Read → HasRisen old.reads new.reads
   pub write : answer ≡ Err fault.Write → HasRisen old.writes new.writes ⊎ HasRisen old.faults new.faults
   pub worn : (place : ℕ) → answer ≡ Err (fault.Worn place) → WasFull task place
+  pub finished : answer ≡ Ok tt → how ≡ stop.Finished
+
+-- And of a copy.
+pub record Causes (task : Known) (old new : Outside) (reader : ReaderEnd) (how : Stop) (moved : ℕ)
+    (answer : Result (Unit {0}) Fault) : Type 0 where
+  pub run : RunCauses task old new how answer
   pub long : answer ≡ Err fault.Long → LONGEST < reader.read
   pub killed : answer ≡ Err fault.Killed → 0 < reader.kills
-  pub finished : answer ≡ Ok tt → how ≡ stop.Finished
   pub spared : answer ≡ Ok tt → reader.kills ≡ 0
   pub short : answer ≡ Ok tt → reader.read ≤ LONGEST
   pub counted : answer ≡ Ok tt → moved ≡ 3 * reader.read
@@ -208,4 +212,5 @@ pub record Ran (domain : TableId) (task : Known) (old new : Outside) (src dst : 
 abbrev pub CopyLeft : TableId → Known → Known → Outside → Outside → List ℕ → List ℕ → List Planned
     → List EntryState → Result (Unit {0}) Fault → Type 0
 CopyLeft domain task_old task_new old new src dst plan watchers answer =
-    NotBegun task_old task_new old new src answer ⊎ Ran domain task_new old new src dst plan watchers answer
+    NotBegun task_old task_new old new (IsStartFault old.files old.reads new.reads old.writes new.writes src) answer
+    ⊎ Ran domain task_new old new src dst plan watchers answer

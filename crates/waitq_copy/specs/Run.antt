@@ -6,7 +6,7 @@ use Rattle.edge_io.specs.Folders.{Files}
 use Rattle.wait_rule.specs.Known.{Known}
 use Rattle.func_head.specs.Walks.{EntryState}
 use Rattle.copy_plan.specs.declared.plan.Planned.{Planned}
-use Rattle.waitq_alone.specs.Commands.{Request, Replay, Drill, Copy}
+use Rattle.waitq_alone.specs.Commands.{Request, Replay, Drill, Copy, Merge}
 use Rattle.waitq_copy.specs.Copying.{CopyLeft, Outside}
 use Rattle.waitq_alone.specs.Alone.{Reports, exit_status}
 use Rattle.waitq_alone.specs.declared.fault.Fault.{Fault}
@@ -26,6 +26,7 @@ abbrev pub IfCopy : Option Request → (List ℕ → List ℕ → List Planned �
 IfCopy (Some (Copy src dst plan)) p = p src dst plan
 IfCopy (Some Replay) p = Unit {0}
 IfCopy (Some (Drill seed count)) p = Unit {0}
+IfCopy (Some (Merge a b dst)) p = Unit {0}
 IfCopy None p = Unit {0}
 
 -- Where the files are told, the file of the second name has just the bytes that the file of the first name had.
@@ -40,13 +41,16 @@ IsFrontOf (Some bytes) (Some all) = (rest : List ℕ) × (all ≡ bytes ++ rest)
 IsFrontOf (Some bytes) None = ⊥
 IsFrontOf None all = ⊥
 
--- Every file but the one of the second name is as it was. That one is as it was too, or it has a front of the bytes
--- that the file of the first name had.
-pub record Spared (src dst : List ℕ) (old new : Files) : Type 0 where
+-- Every file but the one of this name is as it was. That one is as it was too, or it has what it may get.
+pub record Spared (dst : List ℕ) (old new : Files) (MayGet : Option (List ℕ) → Type 0) : Type 0 where
   pub others : (other : List ℕ) → bytes_eq dst other ≡ false → new other ≡ old other
-  pub front : (new dst ≡ old dst) ⊎ IsFrontOf (new dst) (old src)
+  pub front : (new dst ≡ old dst) ⊎ MayGet (new dst)
 
--- so it is where the files are told
+-- So it is where the files are told: what that file may get is said by the files as they were.
+abbrev pub SparesBut : List ℕ → (Files → Option (List ℕ) → Type 0) → Option Files → Option Files → Type 0
+SparesBut dst MayGet (Some old) new = (files : Files) × (new ≡ Some files) × Spared dst old files (MayGet old)
+SparesBut dst MayGet None new = Unit {0}
+
+-- The file of the second name may get a front of the bytes that the file of the first name had.
 abbrev pub Spares : List ℕ → List ℕ → Option Files → Option Files → Type 0
-Spares src dst (Some old) new = (files : Files) × (new ≡ Some files) × Spared src dst old files
-Spares src dst None new = Unit {0}
+Spares src dst old new = SparesBut dst (λ files bytes. IsFrontOf bytes (files src)) old new

@@ -16,7 +16,7 @@ pub struct Begun<S, K> {
 }
 
 /// Opens the source.
-fn open_source<'a, F: Folder>(
+pub fn open_source<'a, F: Folder>(
     alloc: Global,
     folder: &mut F,
     src: &'a str,

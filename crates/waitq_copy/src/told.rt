@@ -12,7 +12,7 @@ use edge_io::{Sink, SinkFault, write_all};
 use wait_script::{LineText, push_number, push_text};
 
 /// Writes a line of a name, a number and what stands behind it.
-fn write_number<O: Sink>(
+pub fn write_number<O: Sink>(
     out: &mut O,
     name: &[u8],
     number: u64,

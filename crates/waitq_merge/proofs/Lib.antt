@@ -1,0 +1,6 @@
+pub mod Joined
+pub mod MergeAnswers
+pub mod MergeAsked
+pub mod MergeFronts
+pub mod MergePassed
+pub mod MergeStops

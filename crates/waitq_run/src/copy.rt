@@ -41,8 +41,8 @@ struct Left<W> {
     stored: Result<(), SinkFault>,
 }
 
-/// Closes the source of a copy that ended, and stores its sink.
-fn close_and_store<F: Folder>(
+/// Closes a source of a copy or a merge that ended, and stores its sink.
+pub fn close_and_store<F: Folder>(
     alloc: Global,
     folder: &mut F,
     source: F::In,
@@ -52,6 +52,7 @@ fn close_and_store<F: Folder>(
     ensures closes { F.opened folder.new ≡ F.opened folder.old - 1 }
     ensures stored { IsStored result (F.files folder.old) (F.files folder.new) dst.now (F.Out.held sink) }
     ensures reads { 0 < F.In.faults source → HasRisen (F.read_faults folder.old) (F.read_faults folder.new) }
+    ensures later { F.read_faults folder.old ≤ F.read_faults folder.new }
     ensures writes { 0 < F.Out.faults sink → HasRisen (F.write_faults folder.old) (F.write_faults folder.new) }
     ensures refused { IsErrOf result SinkFault.Failed
         → HasRisen (F.write_faults folder.old) (F.write_faults folder.new) }

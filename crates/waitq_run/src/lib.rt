@@ -1,5 +1,6 @@
-//! What the program `waitq` does with its words: it replays scripts, drills, and copies files.
+//! What the program `waitq` does with its words: it replays scripts, drills, copies files, and merges two.
 #![tactic(auto)]
 
 mod copy;
+mod merge;
 pub mod run;

@@ -1,5 +1,8 @@
+use Rattle.std.proofs.Common.{refl}
 use Rattle.std.specs.Prelude.{Err}
-use Rattle.waitq_copy.proofs.Refusals.{left_by_want, not_killed, of_copies, refusal_answers, refusal_fits, spared}
+use Rattle.waitq_copy.proofs.Refusals.{left_by_want, not_killed, of_copies, refusal_answers, refusal_fits}
+use Rattle.waitq_copy.proofs.Fronts.{kept}
+use Rattle.waitq_merge.proofs.MergeAsked as merges
 use Rattle.waitq_run.proofs.run.run.Goals as goal
 
 pub returns-in-Err-clause-statuses : goal.returns-in-Err-clause-statuses
@@ -22,8 +25,20 @@ returns-in-Err-clause-copies g c = of_copies _ _ _ c.in-Err.ensures.refused (λ 
 })
 
 pub returns-in-Err-clause-spares : goal.returns-in-Err-clause-spares
-returns-in-Err-clause-spares g c = of_copies _ _ _ c.in-Err.ensures.refused (λ m src dst plan. spared _ src dst)
+returns-in-Err-clause-spares g c = of_copies _ _ _ c.in-Err.ensures.refused (λ m src dst plan. kept _ _ dst _ refl)
 
 pub returns-in-Err-clause-plain : goal.returns-in-Err-clause-plain
 returns-in-Err-clause-plain g c = of_copies _ _ _ c.in-Err.ensures.refused
     (λ m src dst plan none six. not_killed c.in-Err.fault _ m c.finish.ensures.number six)
+
+pub returns-in-Err-clause-merges : goal.returns-in-Err-clause-merges
+returns-in-Err-clause-merges g c = merges.of_merges _ _ _ c.in-Err.ensures.refused (λ m first second dst. record {
+  answer = Err c.in-Err.fault;
+  number = c.finish.ensures.number;
+  left = merges.left_by_want _ _ _ first second dst _ m;
+  line = c.finish.ensures.line;
+})
+
+pub returns-in-Err-clause-merge_spares : goal.returns-in-Err-clause-merge_spares
+returns-in-Err-clause-merge_spares g c = merges.of_merges _ _ _ c.in-Err.ensures.refused
+    (λ m first second dst. kept _ _ dst _ refl)

@@ -18,11 +18,11 @@ const TEXT: &str = "copied 20000 bytes\nmoved 60000\nwatch 0 20000\nwatch 1 200\
 /// What fails in a copy, by the numbers of the calls.
 #[derive(Clone, Copy)]
 pub(crate) struct Fails<'a> {
-    reads: &'a [u64],
-    writes: &'a [u64],
-    calls: &'a [u64],
-    outs: &'a [u64],
-    errs: &'a [u64],
+    pub(crate) reads: &'a [u64],
+    pub(crate) writes: &'a [u64],
+    pub(crate) calls: &'a [u64],
+    pub(crate) outs: &'a [u64],
+    pub(crate) errs: &'a [u64],
 }
 
 pub(crate) const NONE: Fails<'static> = Fails {
@@ -39,7 +39,7 @@ pub(crate) struct Left {
     pub(crate) status: u8,
     pub(crate) text: String,
     pub(crate) line: String,
-    folder: MemFolder,
+    pub(crate) folder: MemFolder,
 }
 
 /// Bytes of which each 100th is a newline, from the 100th on.
@@ -122,7 +122,11 @@ fn copy_words<'a>(alloc: Global, events: &[&'a str]) -> Result<Vec<&'a str>, All
 }
 
 /// A folder with the file `a`.
-fn folder_of(alloc: Global, bytes: &[u8], fails: Fails) -> Result<MemFolder, AllocError> {
+pub(crate) fn folder_of(
+    alloc: Global,
+    bytes: &[u8],
+    fails: Fails,
+) -> Result<MemFolder, AllocError> {
     let mut folder = MemFolder::new(alloc);
     folder.add("a", bytes, fails.reads)?;
     folder.fail_writes(fails.writes)?;
@@ -139,8 +143,20 @@ pub(crate) fn run_under<R: Threads + Wait + Sync>(
     fails: Fails,
     watch: FuncHead,
 ) -> Result<Left, Fail> {
+    let folder = folder_of(alloc, bytes, fails)?;
+    run_over(rt, alloc, words, folder, fails, watch)
+}
+
+/// Runs words over a folder, with these watchers.
+fn run_over<R: Threads + Wait + Sync>(
+    rt: &R,
+    alloc: Global,
+    words: &[&str],
+    mut folder: MemFolder,
+    fails: Fails,
+    watch: FuncHead,
+) -> Result<Left, Fail> {
     let list = list_of(alloc, words)?;
-    let mut folder = folder_of(alloc, bytes, fails)?;
     let mut input = MemSource::new(alloc, b"", &[])?;
     let mut out = MemSink::new(alloc, fails.outs)?;
     let mut err = MemSink::new(alloc, fails.errs)?;
@@ -176,6 +192,18 @@ pub(crate) fn run_on<R: Threads + Wait + Sync>(
     run_under(rt, alloc, words, bytes, fails, watch)
 }
 
+/// Runs words over a folder, with the watchers of the program.
+pub(crate) fn run_in<R: Threads + Wait + Sync>(
+    rt: &R,
+    alloc: Global,
+    words: &[&str],
+    folder: MemFolder,
+    fails: Fails,
+) -> Result<Left, Fail> {
+    let watch = watchers_of(alloc)?;
+    run_over(rt, alloc, words, folder, fails, watch)
+}
+
 /// How many bytes the file of that name has, where they are a front of these.
 pub(crate) fn front(left: &Left, name: &str, bytes: &[u8]) -> Option<usize> {
     let found = left.folder.bytes_of(name)?;
@@ -187,14 +215,14 @@ pub(crate) fn front(left: &Left, name: &str, bytes: &[u8]) -> Option<usize> {
 }
 
 /// Compares what a run gave with a status, a text and a line.
-fn gave(rt: &impl Abort, left: &Left, status: u8, text: &str, line: &str) {
+pub(crate) fn gave(rt: &impl Abort, left: &Left, status: u8, text: &str, line: &str) {
     assert_eq!(rt; left.status, status);
     assert_eq!(rt; left.text.as_str(), text);
     assert_eq!(rt; left.line.as_str(), line);
 }
 
 /// Compares how many of these bytes a file has with what it is to have.
-fn has(rt: &impl Abort, left: &Left, name: &str, bytes: &[u8], wanted: Option<usize>) {
+pub(crate) fn has(rt: &impl Abort, left: &Left, name: &str, bytes: &[u8], wanted: Option<usize>) {
     assert_eq!(rt; front(left, name, bytes), wanted);
 }
 

@@ -1,11 +1,13 @@
-//! Worked scripts, refusals, faults and copies through `run` of `waitq_run`: tests alone, so that no proof of the program
-//! is made twice.
+//! Worked scripts, refusals, faults, copies and merges through `run` of `waitq_run`: tests alone, so that no proof of the
+//! program is made twice.
 #![tactic(auto)]
 
 #[cfg(test)]
 mod copy_rows;
 #[cfg(test)]
 mod event_rows;
+#[cfg(test)]
+mod merge_rows;
 #[cfg(test)]
 mod page_rows;
 #[cfg(test)]

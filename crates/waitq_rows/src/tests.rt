@@ -137,7 +137,8 @@ fn bad_scripts_have_their_lines(rt: HostRuntime) -> Result<(), Fail> {
 #[test]
 fn other_words_are_refused_with_the_usage(rt: HostRuntime) -> Result<(), Fail> {
     let usage =
-        "waitq: usage: waitq replay | waitq copy SRC DST [EVENT]... | waitq drill SEED COUNT\n";
+        "waitq: usage: waitq replay | waitq copy SRC DST [EVENT]... | waitq drill SEED COUNT \
+        | waitq merge A B DST\n";
     let script = NOTHING.script.as_bytes();
     for words in [
         &[] as &[&str],

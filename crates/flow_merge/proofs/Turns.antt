@@ -10,7 +10,15 @@ use Rattle.copy_plan.specs.declared.stop.Stop.{Stop}
 use Rattle.copy_plan.specs.declared.stop.Stop.TheVariants as stop
 use Rattle.copy_turns.specs.Turns.{IfStopped, IfWhole, IsRelayStop, Relaying}
 use Rattle.copy_turns.specs.Work.{IsAtWork}
-use Rattle.copy_turns.proofs.PartLaws.{counted_none, counted_same, counted_then, sums_counted, took_before, works_same, works_then}
+use Rattle.copy_turns.proofs.PartLaws.{
+  counted_none,
+  counted_same,
+  counted_then,
+  sums_counted,
+  took_before,
+  works_same,
+  works_then,
+}
 use Rattle.copy_turns.proofs.Stopping.{finished, stopped_map, whole_map}
 use Rattle.copy_turns.proofs.Sums.{sum_none, sum_then}
 use Rattle.flow_merge.specs.declared.TheConstants.{LEFT_PIPE, MERGED_PIPE, RIGHT_PIPE}
@@ -247,7 +255,8 @@ module _ (t : Side) (a b : Known) (m n : ℕ) (taps : (s : Side) → IsSettled (
       → ((X : Type 0) → IfWhole (Some how) X) → IsMergerStop a b how → Merging a b m n (Some how)
   stopped_piece how r unfinished cause =
       let piece : Piece = record { side = t; bytes = r.got } in
-      let passed : Passed = record { pieces = no_pieces; part = piece; front = r.front; rest = r.rest; parts = r.parts } in
+      let passed : Passed
+      = record { pieces = no_pieces; part = piece; front = r.front; rest = r.rest; parts = r.parts } in
       record {
         works = r.works;
         passed = passed;

@@ -156,8 +156,9 @@ pub record AllFinished (ends : Ends) : Type 0 where
   pub merger : ends.merger.stop ≡ stop.Finished
   pub writer : ends.writer.stop ≡ stop.Finished
 
--- Where the merge finished, so did all workers: the pieces of the left side, in order, are the bytes of the first source,
--- those of the right one the second's, and the sink holds all of them in order; and each byte was counted three times.
+-- Where the merge finished, so did all workers: the pieces of the left side, in order, are the bytes of the first
+-- source, those of the right one the second's, and the sink holds all of them in order; and each byte was counted three
+-- times.
 pub record MergesAll (first second : Drawn) (into : Filled) (ends : Ends) (tally : ℕ) : Type 0 where
   pub all : AllFinished ends
   pub pieces : List Piece

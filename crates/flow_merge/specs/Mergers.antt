@@ -50,7 +50,8 @@ pub record HasEnds (new : Known) : Type 0 where
 
 abbrev pub LacksEnd : Known → Known → Type 0
 LacksEnd old new =
-    Refused (read_end LEFT_PIPE) old new ⊎ (Refused (read_end RIGHT_PIPE) old new ⊎ Refused (write_end MERGED_PIPE) old new)
+    Refused (read_end LEFT_PIPE) old new
+    ⊎ (Refused (read_end RIGHT_PIPE) old new ⊎ Refused (write_end MERGED_PIPE) old new)
 
 -- A merger from its first step to its last. Where it finished it passed on all that it read, up to the ends of both
 -- pipes, and counted each byte.

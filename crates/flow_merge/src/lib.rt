@@ -1,6 +1,6 @@
-//! Two sources merged into one sink, whichever has bytes first, by tasks in threads of their own: a reader for each source,
-//! a merger that waits for both of their pipes at once, a writer, and a controller that waits for these four. The
-//! readers, the writer and the controller are those of a copy (`flow_copy`).
+//! Two sources merged into one sink, whichever has bytes first, by tasks in threads of their own: a reader for each
+//! source, a merger that waits for both of their pipes at once, a writer, and a controller that waits for these four.
+//! The readers, the writer and the controller are those of a copy (`flow_copy`).
 #![tactic(auto)]
 
 pub mod merge;

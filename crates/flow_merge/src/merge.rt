@@ -31,8 +31,8 @@ use std::sync::Wait;
 use std::thread::Threads;
 use wait_rule::{Domain, Task};
 
-/// What a merge left: the two sources and the sink, how each worker ended, what the controller answered, the sum of what
-/// the workers counted, modulo 2^64, and how the merge ended.
+/// What a merge left: the two sources and the sink, how each worker ended, what the controller answered, the sum of
+/// what the workers counted, modulo 2^64, and how the merge ended.
 #[derive(Drop)]
 pub struct MergeEnd<S, K> {
     pub first: S,
@@ -47,8 +47,8 @@ pub struct MergeEnd<S, K> {
     pub stop: Stop,
 }
 
-/// What a merge was to be made of that was not begun, since there was no thread for one of its tasks: the sources and the
-/// sink, as they were passed in.
+/// What a merge was to be made of that was not begun, since there was no thread for one of its tasks: the sources and
+/// the sink, as they were passed in.
 #[derive(Drop)]
 pub struct Unmerged<S, K> {
     pub first: S,
@@ -92,12 +92,11 @@ fn take_back<S, K>(domain: &Domain, task: &mut Task, parts: Parts<S, K>) -> Unme
 /// The task is the first of its Domain, has made no step and given no number out. Afterwards it owes nothing, and has
 /// the histories of the five. There is a list of pieces that the merger passed on, each from the first source or from
 /// the second: the pieces of each are, in their order, a front of what that source gave, and the sink holds a front of
-/// all of them in the order of the list, and then perhaps of a first part of one further piece.
-/// `moved` is the sum of all that was counted. `stop` is the first of Memory, Worn, ReadFault, WriteFault, Long that is
-/// the stop of a worker, or, of Worn, that of the controller; else Finished. It is never Killed, Broken or Taken. Where
-/// it is Finished all four workers have finished, the pieces are all the bytes of both sources, and the sink holds them
-/// all; each byte was counted three times. What each of the five made, from its first step to its last, is a word of its
-/// program (`goes`).
+/// all of them in the order of the list, and then perhaps of a first part of one further piece. `moved` is the sum of
+/// all that was counted. `stop` is the first of Memory, Worn, ReadFault, WriteFault, Long that is the stop of a worker,
+/// or, of Worn, that of the controller; else Finished. It is never Killed, Broken or Taken. Where it is Finished all
+/// four workers have finished, the pieces are all the bytes of both sources, and the sink holds them all; each byte was
+/// counted three times. What each of the five made, from its first step to its last, is a word of its program (`goes`).
 ///
 /// Unmerged: there was no memory for the thread of one of the four. None of them has begun then: both sources and the
 /// sink come back as they were passed in, and no task has made a step.
@@ -128,7 +127,8 @@ pub fn merge_all<
     ensures front { IfOk result (λ end. HoldsMerged
         (drawn (S.left first) (S.left end.first) (S.faults first) (S.faults end.first))
         (drawn (S.left second) (S.left end.second) (S.faults second) (S.faults end.second))
-        (filled (K.held sink) (K.held end.sink) (K.faults sink) (K.faults end.sink) (K.wants sink) (K.wants end.sink))) }
+        (filled (K.held sink) (K.held end.sink) (K.faults sink) (K.faults end.sink) (K.wants sink)
+        (K.wants end.sink))) }
     ensures whole { IfOk result (λ end. end.stop ≡ stop.Finished → MergesAll
         (drawn (S.left first) (S.left end.first) (S.faults first) (S.faults end.first))
         (drawn (S.left second) (S.left end.second) (S.faults second) (S.faults end.second))

@@ -67,8 +67,8 @@ fn passes_on(how: Option<Stop>) -> Option<Stop>
     }
 }
 
-/// A turn: takes the own signals, looks at both sides, and passes a piece on from one that has cells, the left one first;
-/// or waits for either of them. `moved` is what the merger has counted, modulo 2^64. None where it goes on.
+/// A turn: takes the own signals, looks at both sides, and passes a piece on from one that has cells, the left one
+/// first; or waits for either of them. `moved` is what the merger has counted, modulo 2^64. None where it goes on.
 fn merge_turn<R: Wait>(
     rt: &R,
     domain: &Domain,
@@ -117,8 +117,8 @@ fn merge_on<R: Wait, G: Gate>(rt: &R, domain: &Domain, task: &mut Task, gate: &G
     unreachable!()
 }
 
-/// Passes on what comes out of the pipes `LEFT_PIPE` and `RIGHT_PIPE` into pipe `MERGED_PIPE`, a piece of at most `PIECE`
-/// bytes a turn, from the left one where both have cells.
+/// Passes on what comes out of the pipes `LEFT_PIPE` and `RIGHT_PIPE` into pipe `MERGED_PIPE`, a piece of at most
+/// `PIECE` bytes a turn, from the left one where both have cells.
 ///
 /// The task owes nothing, and so it is afterwards. It opens the two read ends and the write end, and stops as Taken
 /// exactly where one of them was opened before. Gate, signals, the tally of page `COUNTED_PAGE`, Killed and Worn are as

@@ -70,8 +70,8 @@ impl<'a, R: Wait + Sync, G: Gate + Sync> Job for Merges<'a, R, G> {
     }
 }
 
-/// All five at once, the controller in this thread. Where one of the others can't have a thread none of them begins, and
-/// all is handed back as it was.
+/// All five at once, the controller in this thread. Where one of the others can't have a thread none of them begins,
+/// and all is handed back as it was.
 pub(crate) fn merge_at_once<
     R: Threads + Wait + Sync,
     S: Source + Send + Drop,

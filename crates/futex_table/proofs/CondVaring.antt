@@ -61,7 +61,7 @@ sets_out c old new a out = subst (λ (n : ℕ). (told_of new).bits.stored (index
     (a.out (index old.view.number 0) refl out)
 
 module _ (m i : ℕ) (old new : Known) where
-  of_unchanged : Carries unchanged old new → Carries (cond_change m i new.at) old new
+  pub of_unchanged : Carries unchanged old new → Carries (cond_change m i new.at) old new
   of_unchanged c = record {
     domain = c.domain;
     number = c.number;
@@ -80,7 +80,7 @@ module _ (m i : ℕ) (old new : Known) where
     owes = c.owes;
   }
 
-  of_set : Carries (set_change (watch.Plain m) mode.Normal new.at) old new → Carries (cond_change m i new.at) old new
+  pub of_set : Carries (set_change (watch.Plain m) mode.Normal new.at) old new → Carries (cond_change m i new.at) old new
   of_set c = record {
     domain = c.domain;
     number = c.number;
@@ -99,7 +99,7 @@ module _ (m i : ℕ) (old new : Known) where
     owes = c.owes;
   }
 
-  of_wait : Carries (wait_change i new.at) old new → Carries (cond_change m i new.at) old new
+  pub of_wait : Carries (wait_change i new.at) old new → Carries (cond_change m i new.at) old new
   of_wait c = record {
     domain = c.domain;
     number = c.number;
@@ -118,7 +118,7 @@ module _ (m i : ℕ) (old new : Known) where
     owes = c.owes;
   }
 
-cond_on : (m i : ℕ) (x y z : Known) → Carries (cond_change m i y.at) x y → Carries (cond_change m i z.at) y z
+pub cond_on : (m i : ℕ) (x y z : Known) → Carries (cond_change m i y.at) x y → Carries (cond_change m i z.at) y z
     → Carries (cond_change m i z.at) x z
 cond_on m i x y z a b = record {
   domain = b.domain ∙ a.domain;

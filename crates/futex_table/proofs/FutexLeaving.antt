@@ -205,7 +205,7 @@ way_awake _ _ _ (left_at mid m n new q u why w l) = λ fresh to.
     l.awake (ap (stays_awake futex_table futex_exits) to)
 
 -- for another cause, which comes of this one
-way_as : {A B : Type 0} → (A → B) → (old : Known) (r : Run FutexWait) (s : FutexStage) (new : Known) (q : Run FutexWait)
+pub way_as : {A B : Type 0} → (A → B) → (old : Known) (r : Run FutexWait) (s : FutexStage) (new : Known) (q : Run FutexWait)
     (u : Turn FutexStage FutexOutcome) → OnTheWay A futex_table futex_exits old r s new q u
     → OnTheWay B futex_table futex_exits old r s new q u
 way_as f old r s _ _ _ (straight new q u a) = straight new q u a

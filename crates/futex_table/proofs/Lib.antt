@@ -9,6 +9,8 @@ pub mod WordSteps
 pub mod Mutexing
 pub mod CondVaring
 pub mod LockLeaving
+pub mod LockStretching
+pub mod CondStretching
 pub mod Holders
 pub mod GuardedWords
 pub mod GuardedTallies

@@ -51,7 +51,7 @@ round_unlocks (until.Over end) x is = never_none (worn_in end) x is
 round_unlocks (until.Left seen) x is =
     let same : until.Left seen ≡ x = cc in ap is_locked_until (sym same)
 
-locks_by : (A : Type 0) (old new : Known) (m : ℕ) (mid : Known) (end : Until (Result (Unit {0}) FutexEnd))
+pub locks_by : (A : Type 0) (old new : Known) (m : ℕ) (mid : Known) (end : Until (Result (Unit {0}) FutexEnd))
     → HasAskedRounds A m old mid → AsksRound A m mid new end → (x : Until (Result (Unit {0}) Worn))
     → round_end end ≡ Some x → is_locked_until x ≡ false → LocksMutexUntil A old new m x
 locks_by A old new m mid end rounds last (until.Over (Ok u)) is unlocked = absurd (cc)

@@ -125,7 +125,7 @@ module _ (old new : Known) (c : Carries unchanged old new) where
   }
 
 -- one part behind another
-waits_on : (i : ℕ) (x y z : Known) → Carries (wait_change i y.at) x y → Carries (wait_change i z.at) y z
+pub waits_on : (i : ℕ) (x y z : Known) → Carries (wait_change i y.at) x y → Carries (wait_change i z.at) y z
     → Carries (wait_change i z.at) x z
 waits_on i x y z a b = record {
   domain = b.domain ∙ a.domain;

@@ -5,6 +5,8 @@ pub mod Holding
 pub mod Mutexes
 pub mod CondVars
 pub mod LockLeaves
+pub mod LockStretches
+pub mod CondStretches
 pub mod OneHolder
 pub mod GuardedWords
 pub mod GuardedTallies

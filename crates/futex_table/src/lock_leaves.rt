@@ -35,9 +35,8 @@ use wq_head::Worn;
 /// Takes mutex `lock` as `mutex_lock` does, but leaves it once `asks` has answered true: it is asked before each event
 /// of a wait between two tries, so not before the first try (as pthread_mutex_timedlock). Left: asked so, its last load
 /// found the mutex taken (`seen`, 0), and it has not taken the mutex; no wake selected its last wait, since its entry
-/// was off by itself. Over: as `mutex_lock` answers. A task that goes on by stretches makes the rounds itself:
-/// `mutex_try`, and where that is false a wait from `begin_futex(task, lock, 0, ..)`, by `wait_class`'s `stretch` or
-/// left by `leave_futex_wait`, to `end_futex_wait_until`; then it tries again but where that was left or worn.
+/// was off by itself. Over: as `mutex_lock` answers. By stretches it is `stretch_mutex_lock` and, asked to leave,
+/// `stretch_mutex_lock_out`.
 pub fn mutex_lock_until<R: Wait, Q: Fn() -> bool>(
     rt: &R,
     domain: &Domain,
@@ -76,7 +75,7 @@ pub fn mutex_lock_until<R: Wait, Q: Fn() -> bool>(
 }
 
 /// The answer of a lock that ends with a wait: one that was left, or for which no place was left.
-fn round_end(end: Until<Result<(), FutexEnd>>) -> Option<Until<Result<(), Worn>>>
+pub(crate) fn round_end(end: Until<Result<(), FutexEnd>>) -> Option<Until<Result<(), Worn>>>
     ensures { result ≡ round_end end }
 {
     match end {
@@ -92,9 +91,8 @@ fn round_end(end: Until<Result<(), FutexEnd>>) -> Option<Until<Result<(), Worn>>
 /// asked before each event while its task is awake and waits. Left: asked so, its last load found the condition's word
 /// as it was when the call began (`seen`), no wake selected it, and the mutex is held again (as pthread_cond_timedwait
 /// with ETIMEDOUT): the lock behind the wait is not left. Over: as `cond_wait` answers, so also a Worn where the lock
-/// behind a wait that was left found no place. A task that goes on by stretches makes the parts itself: the load,
-/// `mutex_unlock`, a wait from `begin_futex(task, cond, seen, ..)` to `end_futex_wait_until`, and the rounds of
-/// `mutex_lock_until`.
+/// behind a wait that was left found no place. By stretches it is `stretch_cond_wait` and, asked to leave,
+/// `stretch_cond_wait_out`.
 pub fn cond_wait_until<R: Wait, Q: Fn() -> bool>(
     rt: &R,
     domain: &Domain,
@@ -133,7 +131,7 @@ pub fn cond_wait_until<R: Wait, Q: Fn() -> bool>(
 }
 
 /// The answer of a wait that may have been left, by those of the wait for the futex and of the lock behind it.
-fn cond_until_answer(
+pub(crate) fn cond_until_answer(
     end: Until<Result<(), FutexEnd>>,
     locked: Result<(), Worn>,
 ) -> Until<Result<(), CondEnd>>

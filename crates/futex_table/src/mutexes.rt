@@ -5,7 +5,9 @@ ghost use Rattle.wait_model.specs.declared.layout.TheConstants.{FIRST_SIMPLE};
 ghost use Rattle.wait_model.specs.declared.watches.Mode.TheVariants as mode;
 ghost use Rattle.wait_model.specs.declared.watches.Watch.TheVariants as watch;
 ghost use Rattle.wait_rule.specs.Queues.{IsIdle, index};
-ghost use Rattle.wait_rule.specs.Says.{IsUp};
+ghost use Rattle.wait_model.specs.declared.steps.Step.TheVariants as step;
+ghost use Rattle.wait_rule.specs.declared.journal.Item.TheVariants as item;
+ghost use Rattle.wait_rule.specs.Says.{IsUp, added};
 ghost use Rattle.wait_rule.specs.Stays.{Carries, unchanged};
 ghost use Rattle.wait_class.specs.Posts.{IsOut};
 ghost use Rattle.wait_event.specs.Conds.{set_change};
@@ -50,6 +52,7 @@ pub fn mutex_try(domain: &Domain, task: &mut Task, lock: u8) -> bool
     requires idle { IsIdle task.old }
     requires lock { lock < FIRST_SIMPLE }
     ensures tried { HasTriedMutex task.old task.new lock result }
+    ensures step { (found : _) × (task.new ≡ added task.old (item.Made (step.Consume (watch.Plain lock) 0 found))) }
     ensures up { IsUp task.new }
     ensures idle { IsIdle task.new }
     ensures carries { Carries unchanged task.old task.new }

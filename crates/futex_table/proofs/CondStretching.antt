@@ -1,0 +1,368 @@
+-- Waits for condition variables that go on by stretches: what a stretch comes to, and what such a wait says at its end.
+use Rattle.std.proofs.Common.{◌∙◌, refl, sym, subst}
+use Rattle.std.specs.Prelude.{ℕ, ◌≡◌, ◌<◌, ◌^◌, Bool, true, false, MatchBool, Result}
+use Rattle.wait_model.specs.declared.layout.TheConstants.{FIRST_SIMPLE}
+use Rattle.wait_model.specs.declared.queues.Walked.{Walked}
+use Rattle.wait_model.specs.declared.steps.Step.TheVariants as step
+use Rattle.wait_model.specs.declared.tasks.SleepState.{SleepState}
+use Rattle.wait_model.specs.declared.watches.Aim.{Aim}
+use Rattle.wait_model.specs.declared.watches.Mode.TheVariants as mode
+use Rattle.wait_model.specs.declared.watches.Watch.TheVariants as watch
+use Rattle.wait_rule.specs.declared.journal.Item.TheVariants as item
+use Rattle.wait_rule.specs.Known.{Known}
+use Rattle.wait_rule.specs.Queues.{IsIdle, index}
+use Rattle.wait_rule.specs.Says.{IsUp, added}
+use Rattle.wait_rule.specs.Stays.{Carries, unchanged}
+use Rattle.wait_rule.proofs.KnownLaws.CarriedTasks.{unchanged_none}
+use Rattle.wq_head.specs.declared.adds.Worn.{Worn}
+use Rattle.wq_head.specs.declared.wakes.WakeRun.{WakeRun}
+use Rattle.wq_head.specs.declared.wakes.WakeStage.{WakeStage}
+use Rattle.wq_head.specs.declared.wakes.WakeStage.TheVariants as wakes
+use Rattle.wq_head.specs.Turns.{IsAt, IsOver}
+use Rattle.wq_head.specs.Walks.{IsFull, MayWake}
+use Rattle.wait_class.specs.Posts.{IsOut}
+use Rattle.wait_class.specs.Tables.{Advances, Lands, SleepsNot}
+use Rattle.wait_class.specs.declared.stages.Run.{Run}
+use Rattle.wait_class.specs.declared.stages.Turn.TheVariants as turn
+use Rattle.wait_event.specs.Conds.{set_change}
+use Rattle.wait_event.specs.Ends.{wait_change}
+use Rattle.wait_event.proofs.Setting.{has_set, set_carries}
+use Rattle.wait_leave.specs.declared.exits.Until.{Until}
+use Rattle.wait_leave.specs.declared.exits.Until.TheVariants as until
+use Rattle.wait_leave.specs.OnTheWay.{OnTheWay}
+use Rattle.wait_leave.proofs.Ways.{way_again, way_lands, way_risen, way_then}
+use Rattle.futex_table.specs.declared.cond_stretches.CondStage.{CondStage}
+use Rattle.futex_table.specs.declared.cond_stretches.CondWait.{CondWait}
+use Rattle.futex_table.specs.declared.cond_vars.CondEnd.{CondEnd}
+use Rattle.futex_table.specs.declared.futexes.FutexEnd.{FutexEnd}
+use Rattle.futex_table.specs.declared.lock_stretches.LockStage.{LockStage}
+use Rattle.futex_table.specs.declared.waits.FutexOutcome.{FutexOutcome}
+use Rattle.futex_table.specs.declared.waits.FutexStage.{FutexStage}
+use Rattle.futex_table.specs.declared.waits.FutexStage.TheVariants as stage
+use Rattle.futex_table.specs.declared.waits.FutexWait.{FutexWait}
+use Rattle.futex_table.specs.CondStretches.{
+  EndsCond,
+  IsAwaiting,
+  IsCondAsleep,
+  IsCondAt,
+  IsCondUnderWay,
+  IsForCond,
+  IsGivingBack,
+  IsRelocking,
+  LeavesCond,
+  awaited_to,
+}
+use Rattle.futex_table.specs.CondVars.{WaitsForCond, cond_answer}
+use Rattle.futex_table.specs.FutexEnds.{futex_aim}
+use Rattle.futex_table.specs.FutexLeaves.{EndsFutexUntil, futex_exits, futex_until_in}
+use Rattle.futex_table.specs.FutexTables.{futex_table}
+use Rattle.futex_table.specs.Holding.{StayHeld, holds_mutex}
+use Rattle.futex_table.specs.LockLeaves.{WaitsForCondUntil, cond_until_answer}
+use Rattle.futex_table.specs.LockStretches.{
+  AskedIf,
+  IsLockAsleep,
+  IsLockAt,
+  IsLocking,
+  LeavesLock,
+  LockTurn,
+  WaitTurn,
+}
+use Rattle.futex_table.specs.Mutexes.{HasFreedMutex, LocksMutex, is_locked}
+use Rattle.futex_table.specs.TallyUses.{LeavesTallies, StoresWord}
+use Rattle.futex_table.proofs.CondVaring.{cond_on, load_held, of_set, of_unchanged, of_wait, sets_out}
+use Rattle.futex_table.proofs.FutexLaws.{futex_lawful}
+use Rattle.futex_table.proofs.FutexLeaving.{
+  ends_until,
+  futex_may_leave,
+  left_carried,
+  left_held,
+  left_idle,
+  left_out,
+  left_up,
+  way_as,
+}
+use Rattle.futex_table.proofs.LeftTallies.{until_leaves}
+use Rattle.futex_table.proofs.LockLeaving.{cond_until_held}
+use Rattle.futex_table.proofs.LockStretching.{lock_begins, plain_wait, way_dozed}
+use Rattle.futex_table.proofs.Mutexing.{idle_still, out_still, set_frees, set_others}
+use Rattle.futex_table.proofs.Tallying.{freed_leaves, leaves_on, load_leaves, woken_adds}
+
+-- behind the load of the condition's word
+pub cond_loaded : (c v m : ℕ) (old now loaded : Known) → LeavesCond m old now true
+    → loaded ≡ added now (item.Made (step.Load (watch.Plain c) v)) → Carries unchanged now loaded
+    → LeavesCond m old loaded true
+cond_loaded c v m old now loaded l is still =
+    let i = index old.view.number 0 in record {
+      up = still.awake ∙ l.up;
+      idle = idle_still now loaded still l.idle;
+      out = out_still now loaded still l.out;
+      carries = cond_on m i old now loaded l.carries (of_unchanged m i now loaded still);
+      held = load_held c v now loaded is m ∙ l.held;
+      others = λ n ne. load_held c v now loaded is n ∙ l.others n ne;
+      tallies = leaves_on m old now loaded l.tallies (load_leaves m c v now loaded is);
+    }
+
+-- a wake of the mutex that begins
+pub give_begins : (m : ℕ) (k : Known) (r : WakeRun) → r.aim ≡ futex_aim m 1 → r.aim.count < 2 ^ 32 → m < FIRST_SIMPLE
+    → IsUp k → IsIdle k → IsAt k k r wakes.First
+give_begins m k r aim small low up idle = record {
+  up = up;
+  idle = idle;
+  full = subst (λ (a : Aim). IsFull a.watch) (sym aim) low;
+  tries = subst (λ (a : Aim). MayWake a.watch k) (sym aim) (λ is. absurd (cc));
+  small = small;
+  stands = refl;
+}
+
+-- in the wake that gives the mutex back
+module _ (w : CondWait) (old now new : Known) (seen : ℕ) (r p : WakeRun) (s : WakeStage)
+    (x : IsGivingBack w old now seen r s) (aim : p.aim ≡ r.aim) where
+  pub gives_on : (n : WakeStage) → IsAt x.stored new p n → IsGivingBack w old new seen p n
+  gives_on n walks = record {
+    loaded = x.loaded;
+    loads = x.loads;
+    left = x.left;
+    told = x.told;
+    found = x.found;
+    stored = x.stored;
+    stores = x.stores;
+    owes = x.owes;
+    aim = aim ∙ x.aim;
+    walks = walks;
+  }
+
+  -- and behind it
+  module _ (walked : Walked) (ended : IsOver p.aim x.stored new walked) where
+    over : IsOver (futex_aim w.lock 1) x.stored new walked
+    over = subst (λ (a : Aim). IsOver a x.stored new walked) (aim ∙ x.aim) ended
+
+    pub given_freed : HasFreedMutex x.loaded new w.lock
+    given_freed = record {
+      walked = walked;
+      set = has_set x.loaded x.stored new w.lock 1 x.found mode.Normal 1 walked x.stores over.woken over.ended;
+    }
+
+    given_carries : Carries (set_change (watch.Plain w.lock) mode.Normal new.at) x.loaded new
+    given_carries = set_carries (watch.Plain w.lock) mode.Normal x.loaded x.stored new x.left.idle over.idle
+        (x.told.head ∙ x.left.idle.free.head) x.owes over.carries
+
+    given_stores : StoresWord x.loaded new w.lock 1
+    given_stores = record {
+      found = x.found;
+      stored = x.stored;
+      is = x.stores;
+      behind = woken_adds x.stored new (futex_aim w.lock 1) walked over.woken;
+    }
+
+    pub given_left : LeavesCond w.lock old new false
+    given_left =
+        let i = index old.view.number 0 in record {
+          up = over.up;
+          idle = over.idle;
+          out = sets_out (watch.Plain w.lock) x.loaded new given_carries x.left.out;
+          carries = cond_on w.lock i old x.loaded new x.left.carries (of_set w.lock i x.loaded new given_carries);
+          held = set_frees w.lock 1 x.found x.loaded x.stored new (futex_aim w.lock 1) walked x.stores over.woken;
+          others = λ n ne. set_others w.lock 1 x.found x.loaded x.stored new (futex_aim w.lock 1) walked x.stores
+              over.woken n ne ∙ x.left.others n ne;
+          tallies = leaves_on w.lock old x.loaded new x.left.tallies
+              (freed_leaves w.lock x.loaded new given_stores x.left.held);
+        }
+
+-- a wait behind that, which takes nothing
+cond_waited : (m : ℕ) (old mid new : Known) → LeavesCond m old mid false
+    → Carries (wait_change (index mid.view.number 0) new.at) mid new → StayHeld mid new → LeavesTallies m mid new
+    → IsUp new → IsIdle new → IsOut new → LeavesCond m old new false
+cond_waited m old mid new l carries stays tallies up idle out =
+    let i = index old.view.number 0 in record {
+      up = up;
+      idle = idle;
+      out = out;
+      carries = cond_on m i old mid new l.carries
+          (of_wait m i mid new (subst (λ (n : ℕ). Carries (wait_change (index n 0) new.at) mid new) l.carries.number
+          carries));
+      held = stays m ∙ l.held;
+      others = λ n ne. stays n ∙ l.others n ne;
+      tallies = leaves_on m old mid new l.tallies tallies;
+    }
+
+module _ (b : Bool) (w : CondWait) (old new : Known) (q : Run FutexWait) (o : FutexOutcome)
+    (x : IsForCond (AskedIf b) w old new q (turn.Done o)) where
+  abbrev end : Until (Result (Unit {0}) FutexEnd)
+  end = futex_until_in q.of o
+
+  waited : EndsFutexUntil (AskedIf b) x.unlocked new w.cond x.seen w.state end
+  waited = ends_until (AskedIf b) x.unlocked new x.first q w.cond x.seen w.state x.fresh o x.came
+
+  over_left : LeavesCond w.lock old new false
+  over_left = cond_waited w.lock old x.unlocked new x.left
+      (left_carried (AskedIf b) x.unlocked new x.first q stage.First o x.came x.left.up x.left.idle
+      (x.told.head ∙ x.left.idle.free.head)) (left_held (AskedIf b) x.unlocked new x.first q stage.First o x.came)
+      (until_leaves w.lock x.unlocked new waited) (left_up (AskedIf b) x.unlocked new x.first q stage.First o x.came)
+      (left_idle (AskedIf b) x.unlocked new x.first q stage.First o x.came x.left.idle.unmarked)
+      (left_out (AskedIf b) x.unlocked new x.first q stage.First o x.came)
+
+  cond_over : IsAwaiting b w old new (awaited_to q (turn.Done o))
+  cond_over = record {
+    seen = x.seen;
+    loaded = x.loaded;
+    loads = x.loads;
+    unlocked = x.unlocked;
+    gives = x.gives;
+    waited = new;
+    waits = waited;
+    left = over_left;
+    locks = record {
+      rounds = record { count = 0; rounds = refl };
+      left = lock_begins w.lock new over_left.up over_left.idle over_left.out (unchanged_none new);
+    };
+  }
+
+-- a wait that went on to here
+with_way : (b : Bool) (w : CondWait) (old mid new : Known) (q p : Run FutexWait) (u v : WaitTurn)
+    (x : IsForCond (AskedIf b) w old mid q u)
+    → OnTheWay (AskedIf b) futex_table futex_exits x.unlocked x.first stage.First new p v
+    → IsForCond (AskedIf b) w old new p v
+with_way b w old mid new q p u v x came = record {
+  seen = x.seen;
+  loaded = x.loaded;
+  loads = x.loads;
+  unlocked = x.unlocked;
+  gives = x.gives;
+  left = x.left;
+  told = x.told;
+  first = x.first;
+  fresh = x.fresh;
+  came = came;
+}
+
+in_wait : (b : Bool) (w : CondWait) (old new : Known) (q : Run FutexWait) (u : WaitTurn)
+    → IsForCond (AskedIf b) w old new q u → IsAwaiting b w old new (awaited_to q u)
+in_wait b w old new q (turn.Again s) x = x
+in_wait b w old new q (turn.Asleep s) x = x
+in_wait b w old new q (turn.Locked s) x = with_way b w old new new q q (turn.Locked s) (turn.Again s) x
+    (way_again (AskedIf b) futex_table futex_exits futex_may_leave futex_lawful x.unlocked x.first stage.First new q s
+    x.came)
+in_wait b w old new q (turn.Done o) x = cond_over b w old new q o x
+
+module _ (b : Bool) (w : CondWait) (old mid new : Known) (q : Run FutexWait) (s : FutexStage) where
+  pub wait_on : (p : Run FutexWait) (u : WaitTurn) → IsForCond (AskedIf b) w old mid q (turn.Again s)
+      → OnTheWay (AskedIf b) futex_table futex_exits mid q s new p u → IsAwaiting b w old new (awaited_to p u)
+  wait_on p u x v = in_wait b w old new p u (with_way b w old mid new q p (turn.Again s) u x
+      (way_then (AskedIf b) futex_table futex_exits futex_may_leave futex_lawful x.unlocked x.first stage.First mid new
+      q p s u x.came v))
+
+  pub wait_woke : SleepsNot mid new → (c : Bool) → MatchBool c (Advances futex_table mid new q q s (turn.Again s))
+      (Advances futex_table mid new q q s (turn.Asleep s)) → IsForCond (AskedIf b) w old mid q (turn.Asleep s)
+      → MatchBool c (IsForCond (AskedIf b) w old new q (turn.Again s))
+      (IsForCond (AskedIf b) w old new q (turn.Asleep s))
+  wait_woke calm true a x = with_way b w old mid new q q (turn.Asleep s) (turn.Again s) x
+      (way_risen (AskedIf b) futex_table futex_exits futex_may_leave futex_lawful x.unlocked x.first stage.First mid new
+      q s x.came a)
+  wait_woke calm false a x = with_way b w old mid new q q (turn.Asleep s) (turn.Asleep s) x
+      (way_dozed (AskedIf b) x.unlocked x.first stage.First mid new q s calm x.came a)
+
+pub wait_lands : (b : Bool) (w : CondWait) (old k : Known) (q : Run FutexWait) (u : WaitTurn)
+    → IsForCond (AskedIf b) w old k q u → Lands futex_table k q u
+wait_lands b w old k q u x = way_lands (AskedIf b) futex_table futex_exits futex_may_leave futex_lawful x.unlocked
+    x.first stage.First k q u x.came
+
+pub cond_may_be_asked : (b : Bool) (w : CondWait) (old new : Known) (q : Run FutexWait) (u : WaitTurn)
+    → IsForCond (AskedIf b) w old new q u → IsForCond (Unit {0}) w old new q u
+cond_may_be_asked b w old new q u x = record {
+  seen = x.seen;
+  loaded = x.loaded;
+  loads = x.loads;
+  unlocked = x.unlocked;
+  gives = x.gives;
+  left = x.left;
+  told = x.told;
+  first = x.first;
+  fresh = x.fresh;
+  came = way_as (λ a. tt) x.unlocked x.first stage.First new q u x.came;
+}
+
+pub either_awaits : (c b : Bool) (w : CondWait) (old k : Known) (s : CondStage)
+    → MatchBool c (IsCondAt (AskedIf b) w old k s) (IsCondAsleep (AskedIf b) w old k s)
+    → MatchBool c (IsCondUnderWay w k (turn.Again s)) (IsCondUnderWay w k (turn.Asleep s))
+either_awaits true b w old k s x = (b, old, x)
+either_awaits false b w old k s x = (b, old, x)
+
+-- in the lock behind it
+module _ (A : Type 0) (w : CondWait) (old mid new : Known) (end : Until (Result (Unit {0}) FutexEnd)) where
+  pub relock_on : (s n : LockTurn) (x : IsRelocking A w old mid end s) → IsLocking false w.lock x.waited new n
+      → IsRelocking A w old new end n
+  relock_on s n x locks = record {
+    seen = x.seen;
+    loaded = x.loaded;
+    loads = x.loads;
+    unlocked = x.unlocked;
+    gives = x.gives;
+    waited = x.waited;
+    waits = x.waits;
+    left = x.left;
+    locks = locks;
+  }
+
+  pub relock_woke : (c : Bool) (s : LockStage) (x : IsRelocking A w old mid end (turn.Asleep s))
+      → MatchBool c (IsLockAt ⊥ w.lock x.waited new s) (IsLockAsleep ⊥ w.lock x.waited new s)
+      → MatchBool c (IsRelocking A w old new end (turn.Again s)) (IsRelocking A w old new end (turn.Asleep s))
+  relock_woke true s x locks = relock_on (turn.Asleep s) (turn.Again s) x locks
+  relock_woke false s x locks = relock_on (turn.Asleep s) (turn.Asleep s) x locks
+
+  pub relock_ends : (s : LockTurn) (x : IsRelocking A w old mid end s) (locked : Result (Unit {0}) Worn)
+      → LocksMutex x.waited new w.lock locked → LeavesLock w.lock x.waited new (is_locked locked)
+      → EndsCond A w old new (cond_until_answer end locked)
+  relock_ends s x locked locks l =
+      let i = index old.view.number 0 in record {
+        waited = record {
+          seen = x.seen;
+          loaded = x.loaded;
+          loads = x.loads;
+          unlocked = x.unlocked;
+          gives = x.gives;
+          waited = x.waited;
+          end = end;
+          waits = x.waits;
+          lock = locked;
+          locks = locks;
+          answers = refl;
+        };
+        left = record {
+          up = l.up;
+          idle = l.idle;
+          out = l.out;
+          carries = cond_on w.lock i old x.waited new x.left.carries
+              (of_wait w.lock i x.waited new (subst (λ (n : ℕ). Carries (wait_change (index n 0) new.at) x.waited new)
+              x.left.carries.number l.carries));
+          held = cond_until_held (holds_mutex x.waited w.lock) end locked new w.lock x.left.held l.held;
+          others = λ n ne. l.others n ne ∙ x.left.others n ne;
+          tallies = leaves_on w.lock old x.waited new x.left.tallies l.tallies;
+        };
+      }
+
+-- A wait that nobody asked to leave says at its end what one says that can't be left.
+over_same : (a b : Result (Unit {0}) CondEnd) → until.Over a ≡ until.Over b → a ≡ b
+over_same a b is = cc
+
+plain_end : (old new : Known) (c m : ℕ) (st : SleepState) (r : Result (Unit {0}) CondEnd)
+    (x : WaitsForCondUntil ⊥ old new c m st (until.Over r)) (end : Until (Result (Unit {0}) FutexEnd))
+    → EndsFutexUntil ⊥ x.unlocked x.waited c x.seen st end → until.Over r ≡ cond_until_answer end x.lock
+    → WaitsForCond old new c m st r
+plain_end old new c m st r x (until.Over e) waits answers = record {
+  seen = x.seen;
+  loaded = x.loaded;
+  loads = x.loads;
+  unlocked = x.unlocked;
+  gives = x.gives;
+  waited = x.waited;
+  end = e;
+  waits = plain_wait x.unlocked x.waited c x.seen st e waits;
+  lock = x.lock;
+  locks = x.locks;
+  answers = over_same r (cond_answer e x.lock) answers;
+}
+plain_end old new c m st r x (until.Left seen) waits answers = absurd waits.asked
+
+pub plain_cond : (old new : Known) (c m : ℕ) (st : SleepState) (r : Result (Unit {0}) CondEnd)
+    → WaitsForCondUntil ⊥ old new c m st (until.Over r) → WaitsForCond old new c m st r
+plain_cond old new c m st r x = plain_end old new c m st r x x.end x.waits x.answers

@@ -1,0 +1,5 @@
+use Rattle.futex_table.proofs.TalliedCalls.{stay_tallied}
+use Rattle.futex_table.proofs.cond_stretches.end_cond_wait_until.Goals as goal
+
+pub returns-clause-tallied : goal.returns-clause-tallied
+returns-clause-tallied c start x = stay_tallied c.args.wait.lock start c.args.task.now x.left.tallies

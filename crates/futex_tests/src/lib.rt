@@ -12,6 +12,8 @@ mod left;
 #[cfg(test)]
 mod left_locks;
 #[cfg(test)]
+mod lock_turns;
+#[cfg(test)]
 mod monitors;
 #[cfg(test)]
 mod races;

@@ -1,0 +1,312 @@
+//! Locks of a mutex that take turns on one thread, by stretches, in an order that a number draws: what an executor does;
+//! and locks that are left by stretches, at each moment.
+
+ghost use Rattle.std.specs.Prelude.{◌≡◌};
+ghost use Rattle.wait_rule.specs.Queues.{IsIdle};
+ghost use Rattle.wait_rule.specs.Says.{IsClean, IsUp};
+ghost use Rattle.wait_class.specs.Posts.{IsOut};
+ghost use Rattle.wait_class.specs.declared.stages.Turn.TheVariants as turn;
+ghost use Rattle.futex_table.specs.Holding.{HoldsMutex};
+ghost use Rattle.futex_table.specs.LockLeaves.{is_locked_until};
+ghost use Rattle.futex_table.specs.LockStretches.{IsLockUnderWay};
+
+use crate::calls::open;
+use crate::wants::{all_so, another};
+use futex_table::futexes::futex_wake;
+use futex_table::lock_stretches::{
+    LockStage, LockTurn, begin_mutex_lock, end_mutex_lock_until, stretch_mutex_lock,
+    stretch_mutex_lock_out, woke_mutex_lock,
+};
+use futex_table::mutexes::{mutex_try, mutex_unlock};
+use futex_table::waits::FutexStage;
+use std::sync::Wait;
+use std::test::Fail;
+use wait_class::stages::Turn;
+use wait_leave::Until;
+use wait_model::watches::Mode;
+use wait_rule::queues::Passing;
+use wait_rule::{Domain, Task, wake_task};
+use wq_head::Worn;
+
+/// The mutex of `calls`.
+const LOCK: u8 = 6;
+
+/// How many orders are played, and how many turns each has.
+const ORDERS: u32 = 120;
+
+const TURNS: u32 = 400;
+
+/// What the tasks of one order did: whether one is in its critical section, whether two ever were, and how often each
+/// has come out of it.
+#[derive(Clone, Copy)]
+struct Sections {
+    inside: bool,
+    met: bool,
+    adds: (u32, u32),
+}
+
+/// Whether a lock took the mutex.
+fn has_locked(end: Until<Result<(), Worn>>) -> bool
+    ensures { result ≡ is_locked_until end }
+{
+    matches!(end, Until::Over(Ok(())))
+}
+
+/// Whether a lock has taken the mutex there.
+fn is_inside(at: LockTurn) -> bool {
+    matches!(at, Turn::Done(Until::Over(Ok(()))))
+}
+
+/// Whether a lock has drawn no ticket there, so that another task of the thread can wait for the lock of the head.
+fn is_free(at: LockTurn) -> bool {
+    match at {
+        Turn::Again(LockStage::Wait(_, stage)) => is_free_at(stage),
+        Turn::Locked(LockStage::Wait(_, stage)) => is_free_at(stage),
+        _ => true,
+    }
+}
+
+fn is_free_at(stage: FutexStage) -> bool {
+    !matches!(stage, FutexStage::Turn | FutexStage::OffTurn)
+}
+
+/// Goes on with a lock by one stretch, or looks whether it was woken. Who parks for a lock that it passed on is woken.
+fn go_on(domain: &Domain, task: &mut Task, last: LockTurn) -> LockTurn
+    requires of { task.old.domain ≡ domain.now }
+    requires waiting { IsLockUnderWay 6 task.old last }
+    ensures of { task.new.domain ≡ domain.now }
+    ensures waiting { IsLockUnderWay 6 task.new result }
+{
+    let mut passing = Passing::none();
+    let next = match last {
+        Turn::Again(stage) => stretch_mutex_lock(domain, task, LOCK, stage, &mut passing),
+        Turn::Locked(stage) => stretch_mutex_lock(domain, task, LOCK, stage, &mut passing),
+        Turn::Asleep(stage) => {
+            if woke_mutex_lock(domain, task, LOCK, stage) {
+                Turn::Again(stage)
+            } else {
+                Turn::Asleep(stage)
+            }
+        }
+        Turn::Done(answer) => Turn::Done(answer),
+    };
+    passing.wake(domain);
+    passing.end();
+    next
+}
+
+/// Gives the mutex back where the lock took it, and begins anew.
+fn come_out<R: Wait>(
+    rt: &R,
+    domain: &Domain,
+    task: &mut Task,
+    answer: Until<Result<(), Worn>>,
+) -> LockTurn
+    requires of { task.old.domain ≡ domain.now }
+    requires over { IsLockUnderWay 6 task.old (turn.Done answer) }
+    ensures of { task.new.domain ≡ domain.now }
+    ensures waiting { IsLockUnderWay 6 task.new result }
+{
+    if has_locked(end_mutex_lock_until(task, LOCK, answer)) {
+        mutex_unlock(rt, domain, task, LOCK);
+    }
+    Turn::Again(begin_mutex_lock(task, LOCK))
+}
+
+/// One turn of a task: it goes on with its lock, or comes out of its critical section where it `may`.
+fn take_turn<R: Wait>(rt: &R, domain: &Domain, task: &mut Task, at: LockTurn, may: bool) -> LockTurn
+    requires of { task.old.domain ≡ domain.now }
+    requires waiting { IsLockUnderWay 6 task.old at }
+    ensures of { task.new.domain ≡ domain.now }
+    ensures waiting { IsLockUnderWay 6 task.new result }
+{
+    match at {
+        Turn::Done(answer) => {
+            if may {
+                come_out(rt, domain, task, answer)
+            } else {
+                at
+            }
+        }
+        _ => go_on(domain, task, at),
+    }
+}
+
+/// The next number of a small generator, by which the order of the turns is drawn.
+fn next_number(seed: u32) -> u32 {
+    let mixed = seed ^ seed.wrapping_shl(13);
+    let mixed = mixed ^ mixed.wrapping_shr(17);
+    mixed ^ mixed.wrapping_shl(5)
+}
+
+/// What a turn from here to there does to the sections: one more is in its own, or one came out.
+fn count_turn(sections: Sections, from: LockTurn, to: LockTurn) -> Sections {
+    let (was, is) = (is_inside(from), is_inside(to));
+    Sections {
+        inside: if was == is { sections.inside } else { is },
+        met: sections.met || (is && !was && sections.inside),
+        adds: sections.adds,
+    }
+}
+
+/// One more for a task that came out.
+fn came_out(adds: u32, from: LockTurn, to: LockTurn) -> u32 {
+    if is_inside(from) && !is_inside(to) {
+        adds.wrapping_add(1)
+    } else {
+        adds
+    }
+}
+
+/// Plays one order of two tasks that take the mutex again and again.
+fn play_two<R: Wait>(
+    rt: &R,
+    domain: &Domain,
+    first: &mut Task,
+    second: &mut Task,
+    seed: u32,
+) -> Sections
+    requires of { (first.old.domain ≡ domain.now) × (second.old.domain ≡ domain.now) }
+    requires clean { IsClean first.old × IsClean second.old }
+{
+    let mut one = Turn::Again(begin_mutex_lock(first, LOCK));
+    let mut two = Turn::Again(begin_mutex_lock(second, LOCK));
+    let mut seed = seed;
+    let mut sections = Sections {
+        inside: false,
+        met: false,
+        adds: (0, 0),
+    };
+    for _ in 0..TURNS {
+        seed = next_number(seed);
+        let may = seed % 7 < 3;
+        if seed % 2 == 0 {
+            let next = take_turn(rt, domain, first, one, may && is_free(two));
+            sections = count_turn(sections, one, next);
+            sections.adds.0 = came_out(sections.adds.0, one, next);
+            one = next;
+        } else {
+            let next = take_turn(rt, domain, second, two, may && is_free(one));
+            sections = count_turn(sections, two, next);
+            sections.adds.1 = came_out(sections.adds.1, two, next);
+            two = next;
+        }
+    }
+    sections
+}
+
+/// In whatever order two tasks go on by stretches, at most one is in its critical section, and both come out of it
+/// again and again.
+#[test]
+fn two_locks_take_turns(rt: HostRuntime) -> Result<(), Fail> {
+    for order in 1..ORDERS {
+        let (domain, mut task) = Domain::new(rt.alloc())?;
+        open(&rt, &domain, &mut task);
+        let mut other = another(&rt, &domain, &mut task);
+        let sections = play_two(&rt, &domain, &mut task, &mut other, order * 7919);
+        let (one, two) = sections.adds;
+        all_so(&rt, &[!sections.met, one > 3, two > 3]);
+    }
+    Ok(())
+}
+
+/// Goes on with a lock by one stretch that is asked to leave, or looks whether it was woken.
+fn go_out(domain: &Domain, task: &mut Task, last: LockTurn) -> LockTurn
+    requires of { task.old.domain ≡ domain.now }
+    requires waiting { IsLockUnderWay 6 task.old last }
+    ensures of { task.new.domain ≡ domain.now }
+    ensures waiting { IsLockUnderWay 6 task.new result }
+{
+    let mut passing = Passing::none();
+    let next = match last {
+        Turn::Again(stage) => stretch_mutex_lock_out(domain, task, LOCK, stage, &mut passing),
+        Turn::Locked(stage) => stretch_mutex_lock_out(domain, task, LOCK, stage, &mut passing),
+        Turn::Asleep(stage) => {
+            if woke_mutex_lock(domain, task, LOCK, stage) {
+                Turn::Again(stage)
+            } else {
+                Turn::Asleep(stage)
+            }
+        }
+        Turn::Done(answer) => Turn::Done(answer),
+    };
+    passing.wake(domain);
+    passing.end();
+    next
+}
+
+/// Leaves a lock where it stands, by stretches to its end. One that sleeps was woken.
+fn leave_at<R: Wait>(
+    rt: &R,
+    domain: &Domain,
+    task: &mut Task,
+    last: LockTurn,
+) -> Until<Result<(), Worn>>
+    requires of { task.old.domain ≡ domain.now }
+    requires waiting { IsLockUnderWay 6 task.old last }
+{
+    let mut at = last;
+    for _ in rt.forever() {
+        match at {
+            Turn::Done(answer) => return end_mutex_lock_until(task, LOCK, answer),
+            _ => at = go_out(domain, task, at),
+        }
+    }
+    unreachable!()
+}
+
+/// Whether a lock was left that had found the mutex taken.
+fn is_left(end: Until<Result<(), Worn>>) -> bool {
+    matches!(end, Until::Left { seen: 0 })
+}
+
+/// A lock goes on by so many stretches, roused again and again, while the other task has the mutex; and then that gives
+/// it back, or does not, and the lock is left. Whether it took the mutex only where that was given back, was left
+/// otherwise, and the mutex is free exactly where it was given back and not taken; and nobody sleeps then.
+fn leave_after<R: Wait>(
+    rt: &R,
+    domain: &Domain,
+    task: &mut Task,
+    other: &mut Task,
+    stretches: u32,
+    gives: bool,
+) -> bool
+    requires of { (task.old.domain ≡ domain.now) × (other.old.domain ≡ domain.now) }
+    requires clean { IsClean task.old × IsClean other.old }
+    requires holds { HoldsMutex other.old 6 }
+{
+    let who = task.number();
+    let mut at = Turn::Again(begin_mutex_lock(task, LOCK));
+    for _ in 0..stretches {
+        at = go_on(domain, task, at);
+        wake_task(rt, domain, other, who, Mode::Normal);
+    }
+    let gave = gives && is_free(at);
+    if gave {
+        mutex_unlock(rt, domain, other, LOCK);
+    }
+    let end = leave_at(rt, domain, task, at);
+    let took = has_locked(end);
+    let nobody = futex_wake(rt, domain, other, LOCK, 8) == 0;
+    let free = mutex_try(domain, other, LOCK);
+    nobody && (took || is_left(end)) && (gave || !took) && free == (gave && !took)
+}
+
+/// At each moment of a lock: one that is left has not taken the mutex, and one that took it was not left.
+#[test]
+fn lock_is_left_at_each_moment(rt: HostRuntime) -> Result<(), Fail> {
+    for stretches in 0..20 {
+        for gives in [false, true] {
+            let (domain, mut task) = Domain::new(rt.alloc())?;
+            let mut other = another(&rt, &domain, &mut task);
+            open(&rt, &domain, &mut other);
+            let has = mutex_try(&domain, &mut other, LOCK);
+            if !has {
+                panic!(rt; "the mutex is open")
+            }
+            let so = leave_after(&rt, &domain, &mut task, &mut other, stretches, gives);
+            all_so(&rt, &[so]);
+        }
+    }
+    Ok(())
+}

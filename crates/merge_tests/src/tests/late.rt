@@ -1,0 +1,105 @@
+//! A source that gives nothing until the bytes of the other have arrived.
+
+ghost use Rattle.std.specs.Prelude.{Some};
+
+use crate::tests::merges::{SECOND, bytes_of, parts_of};
+use copy_plan::{OpenGate, Stop};
+use edge_io::{Failed, MemSink, MemSource, Sink, SinkFault, Source};
+use flow_merge::merge_all;
+use std::sync::atomic::{AtomicU64, Ordering};
+use std::test::Fail;
+use wait_rule::Domain;
+
+/// How often a late source looks whether the other's bytes have arrived.
+const LOOKS: u32 = 1_000_000_000;
+
+const SIZE: usize = 20_000;
+
+/// How many bytes have arrived in a sink, and how many late sources gave up.
+#[derive(Drop)]
+struct Arrived {
+    bytes: AtomicU64,
+    gave_up: AtomicU64,
+}
+
+/// A source that gives its first byte once so many have arrived in the sink.
+#[derive(Drop)]
+struct Late<'a> {
+    source: MemSource,
+    arrived: &'a Arrived,
+    after: u64,
+}
+
+impl Source for Late<'_> {
+    ghost left = { λ late. Some late.source.left };
+
+    ghost faults = { λ late. late.source.reads.faults };
+
+    fn read(&mut self, buf: &mut [u8]) -> Result<usize, Failed> {
+        for _ in 0..LOOKS {
+            if self.arrived.bytes.load(Ordering::SeqCst) >= self.after {
+                return self.source.read(buf);
+            }
+        }
+        self.arrived.gave_up.fetch_add(1, Ordering::SeqCst);
+        self.source.read(buf)
+    }
+}
+
+/// A sink that counts what it takes.
+#[derive(Drop)]
+struct Counting<'a> {
+    sink: MemSink,
+    arrived: &'a Arrived,
+}
+
+impl Sink for Counting<'_> {
+    ghost held = { λ s. Some s.sink.held };
+
+    ghost faults = { λ s. s.sink.writes.faults };
+
+    ghost wants = { λ s. s.sink.wants };
+
+    fn write(&mut self, piece: &[u8]) -> Result<usize, SinkFault> {
+        let written = self.sink.write(piece)?;
+        self.arrived
+            .bytes
+            .fetch_add(written as u64, Ordering::SeqCst);
+        Ok(written)
+    }
+}
+
+/// All of one source arrives while the other gives nothing, whichever it is: so none is waited for alone.
+#[test]
+fn whichever_has_bytes_first(rt: HostRuntime) -> Result<(), Fail> {
+    for (first_after, second_after) in [(0u64, SIZE as u64), (SIZE as u64, 0)] {
+        let arrived = Arrived {
+            bytes: AtomicU64::new(0),
+            gave_up: AtomicU64::new(0),
+        };
+        let (domain, mut task) = Domain::with_looks(rt.alloc(), 0)?;
+        let first = bytes_of(rt.alloc(), SIZE, 0)?;
+        let second = bytes_of(rt.alloc(), SIZE, SECOND)?;
+        let first = Late {
+            source: MemSource::new(rt.alloc(), &first, &[])?,
+            arrived: &arrived,
+            after: first_after,
+        };
+        let second = Late {
+            source: MemSource::new(rt.alloc(), &second, &[])?,
+            arrived: &arrived,
+            after: second_after,
+        };
+        let sink = Counting {
+            sink: MemSink::new(rt.alloc(), &[])?,
+            arrived: &arrived,
+        };
+        let Ok(end) = merge_all(&rt, &domain, &mut task, first, second, sink, &OpenGate) else {
+            panic!(rt; "the merge has no threads")
+        };
+        assert_eq!(rt; (end.stop, end.moved), (Stop::Finished, 120_000));
+        assert_eq!(rt; parts_of(end.sink.sink.bytes()), Some((SIZE, SIZE)));
+        assert_eq!(rt; arrived.gave_up.load(Ordering::SeqCst), 0);
+    }
+    Ok(())
+}

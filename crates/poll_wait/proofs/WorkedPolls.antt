@@ -1,31 +1,15 @@
 -- The worked lists of polls.
-use Rattle.std.proofs.Common.{refl, sym, ◌∙◌, ap, subst}
+use Rattle.std.proofs.Common.{refl, subst}
 use Rattle.std.specs.Prelude.{ℕ, ◌≡◌, Some, None, List, [], ◌∷◌, ◌++◌}
 use Rattle.wait_model.specs.declared.steps.Step.{Step}
 use Rattle.wait_model.specs.declared.steps.Step.TheVariants as step
 use Rattle.wait_model.specs.declared.watches.Watch.{Watch}
 use Rattle.wait_model.specs.Fold.{view_of}
 use Rattle.wait_model.specs.Readings.{FailedLoad}
-use Rattle.wait_model.specs.Watches.{hashed, head_of}
+use Rattle.wait_model.specs.Watches.{head_of}
 use Rattle.wait_model.proofs.HistoryLaws.PlainReadings.{failed_told}
-use Rattle.wait_rule.specs.Known.{Known}
 use Rattle.wait_rule.specs.Queues.{index}
-use Rattle.wait_rule.specs.Says.{history_of}
-use Rattle.poll_wait.specs.declared.turns.Poll.{Poll}
-use Rattle.poll_wait.specs.Polls.{IsPoll}
-use Rattle.poll_wait.specs.Waiting.{IsInTurn}
-use Rattle.poll_wait.specs.WorkedPolls.{
-  WorkedPolls,
-  loaded_early,
-  loads_both,
-  queued_one,
-  queue_first,
-  queue_second,
-  the_sleep,
-  the_first,
-  the_second,
-  turned,
-}
+use Rattle.poll_wait.specs.WorkedPolls.{WorkedPolls, loaded_early, queue_first, queue_second, the_sleep, the_first, the_second}
 use Rattle.poll_wait.proofs.Waiting.{second_of_turn}
 
 not_failed : FailedLoad loaded_early 1 the_second → ⊥

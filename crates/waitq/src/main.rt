@@ -1,4 +1,4 @@
-//! The program that replays scripts, drills, and copies files.
+//! The program that replays scripts, drills, copies files, and merges two.
 #![tactic(auto)]
 
 use copy_plan::OpenGate;

@@ -1,5 +1,7 @@
 //! Merges through `run`, over a folder in memory.
 
+ghost use Rattle.std.specs.Prelude.{◌≤◌};
+
 use crate::copy_rows::{Fails, Left, NONE, folder_of, gave, has, run_in};
 use std::alloc::{AllocError, Global};
 use std::process::Abort;
@@ -10,8 +12,10 @@ use std::thread::Threads;
 /// The words of a merge of `a` and `b` into `c`.
 const MERGE: [&str; 4] = ["merge", "a", "b", "c"];
 
-/// Bytes between two letters, which come again and again in their order.
-fn letters(alloc: Global, first: u8, size: usize) -> Result<Vec<u8>, AllocError> {
+/// The letter `first` and the 22 after it, which come again and again in their order.
+fn letters(alloc: Global, first: u8, size: usize) -> Result<Vec<u8>, AllocError>
+    requires { first ≤ 200 }
+{
     let mut bytes = Vec::new(alloc);
     for at in 0..size {
         bytes.push(first + (at % 23) as u8)?;

@@ -24,9 +24,26 @@ fn work_alone<R: Wait>(
     ensures of { task.new.domain ≡ domain.now }
     ensures idler { IsIdler task.new }
 {
-    let reader = reader_task(rt, domain, task, SOURCE_PIPE, source, &[], [0, 0, 0], &OpenGate);
+    let reader = reader_task(
+        rt,
+        domain,
+        task,
+        SOURCE_PIPE,
+        source,
+        &[],
+        [0, 0, 0],
+        &OpenGate,
+    );
     let relay = relay_task(rt, domain, task, &OpenGate);
-    let writer = writer_task(rt, domain, task, SINK_PIPE, sink, &mut NoWatchers, &OpenGate);
+    let writer = writer_task(
+        rt,
+        domain,
+        task,
+        SINK_PIPE,
+        sink,
+        &mut NoWatchers,
+        &OpenGate,
+    );
     (reader, relay, writer)
 }
 

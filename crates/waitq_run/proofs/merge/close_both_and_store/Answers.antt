@@ -14,9 +14,9 @@ pub returns-clause-reads : goal.returns-clause-reads
 returns-clause-reads g c = λ h lt.
     elim h [
       | inl a ↦ rose_first _ (g.F.Folder.read_faults c.args.folder.now) (g.F.Folder.read_faults c.close.new.self)
-        (g.F.Folder.read_faults c.close_and_store.new.folder) c.close_and_store.ensures.later
-        (c.close.ensures.risen a) lt
+          (g.F.Folder.read_faults c.close_and_store.new.folder) c.close_and_store.ensures.later
+          (c.close.ensures.risen a) lt
       | inr b ↦ rose_second _ (g.F.Folder.read_faults c.args.folder.now) (g.F.Folder.read_faults c.close.new.self)
-        (g.F.Folder.read_faults c.close_and_store.new.folder) c.close.ensures.later
-        (c.close_and_store.ensures.reads b) lt
+          (g.F.Folder.read_faults c.close_and_store.new.folder) c.close.ensures.later
+          (c.close_and_store.ensures.reads b) lt
     ]

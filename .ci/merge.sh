@@ -175,9 +175,8 @@ names() {
     printf 'ab_' >"b*"
     run merge "1%s" "b*" c
     expect "from odd names" 0
-    merged "from odd names" "1%s" "b*" c
     rm -f ./.part
-    whole "names"
+    merged "from odd names" "1%s" "b*" c
 }
 
 # The rights of a new file: those that both sources have, but for the umask's; and those of an old one.
